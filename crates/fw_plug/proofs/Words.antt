@@ -1,0 +1,16 @@
+-- The fields of an output plug's register are those that it was made of.
+use Rattle.std.proofs.Common.{◌≡◌, ℕ, ◌<◌, ◌≤◌, eqb, refl, arith}
+use Rattle.std.proofs.lemmas.Bool.Decides.{nat_tests}
+use Rattle.fw_words.specs.Quadlet.{field}
+use Rattle.fw_plug.specs.Words.{OutFields, flag, out_word, out_fields, FitsRegister}
+
+pub fields_of_word : (f : OutFields) → f.counter < 64 → FitsRegister f.settings → out_fields (out_word f) ≡ f
+fields_of_word f most r =
+    let below : flag f.broadcast ≤ 1 = grind arith in
+    let b : field (out_word f) 1 1 ≡ flag f.broadcast = omega arith in
+    let counter : field (out_word f) 2 7 ≡ f.counter = omega arith in
+    let channel : field (out_word f) 10 15 ≡ f.settings.channel = omega arith in
+    let rate : field (out_word f) 16 17 ≡ f.settings.rate = omega arith in
+    let overhead : field (out_word f) 18 21 ≡ f.settings.overhead = omega arith in
+    let broadcast : eqb (field (out_word f) 1 1) 1 ≡ f.broadcast = grind (arith, nat_tests, b) in
+    λ i. record { broadcast = broadcast i; counter = counter i; settings = record { channel = channel i; rate = rate i; overhead = overhead i } }
