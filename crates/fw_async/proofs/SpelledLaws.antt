@@ -1,0 +1,214 @@
+-- A spelling shows no fault, and is as long as it needs.
+use Rattle.std.proofs.Common.{◌≡◌, ℕ, zero, suc, ◌+◌, ◌-◌, ◌/◌, ◌%◌, ◌^◌, ◌≤◌, ◌<◌, List, [], ◌∷◌, ◌++◌, get_or, length, drop, replicate, nat_lt, Bool, true, false, IsTrue, Option, Some, None, arith, refl, ap, sym, subst, ◌∙◌, ◌==◌, ◌||◌, if◌then◌else◌, length-append, add_assoc, add-zero}
+use Rattle.std.proofs.lemmas.Bool.Decides.{nat_tests}
+use Rattle.std.proofs.lemmas.List.{get_or-append-add, get_or-replicate, length-replicate, nil_from_length}
+use Rattle.std.proofs.lemmas.Nat.{from_be_bytes-to_be_bytes_4}
+use Rattle.std.specs.Int.{to_be_bytes, w32}
+use Rattle.std.specs.Option.{option_map}
+use Rattle.fw_words.specs.Quadlet.{field, quadlet_at, first_set}
+use Rattle.fw_words.specs.Layout.{packed}
+use Rattle.fw_words.proofs.FirstSet.{first_set_zero}
+use Rattle.fw_async.specs.Async.{HeadFits, Fits, spelling, head_fields, size, padding, padded, is_lock_size, is_reply_size}
+use Rattle.fw_async.specs.Reading.{fault_0, fault_1, fault_2, fault_3, fault_in_padding, fault_of, need, tcode_of, has_bytes, has_fourth, or_else, end_of_bytes, is_response, is_block, is_lock}
+use Rattle.fw_async.specs.declared.PacketFault.{PacketFault}
+use Rattle.fw_async.specs.declared.PacketFault.TheVariants.{Reserved, TooLong, BadLength}
+use Rattle.fw_async.specs.declared.packet.Head.{Head}
+use Rattle.fw_async.specs.declared.packet.Packet.{Packet}
+use Rattle.fw_async.specs.declared.packet.Packet.TheVariants.{WriteQuadlet, WriteBlock, WriteReply, ReadQuadlet, ReadBlock, ReadQuadletReply, ReadBlockReply, CycleStart, Lock, LockReply}
+use Rattle.fw_async.proofs.ReadingLaws.{padding_next}
+use Rattle.fw_async.proofs.NeedLaws.{need_by, need_done}
+
+pub back : (a : ℕ) (rest : List ℕ) → a < 2 ^ 32 → quadlet_at (to_be_bytes w32 a ++ rest) 0 ≡ a
+back a rest h = from_be_bytes-to_be_bytes_4 a h
+
+-- quadlet 0 has its tcode, and fits
+pub first_fits : (tcode : ℕ) (h : Head) → tcode < 16 → HeadFits h → packed (head_fields tcode h) 0 < 2 ^ 32
+first_fits tcode h t f = omega (arith, f)
+
+first_tcode : (tcode : ℕ) (h : Head) → tcode < 16 → HeadFits h → field (packed (head_fields tcode h) 0) 24 27 ≡ tcode
+first_tcode tcode h t f = omega (arith, f)
+
+pub spelled_tcode : (tcode : ℕ) (h : Head) (rest : List ℕ) → tcode < 16 → HeadFits h → tcode_of (to_be_bytes w32 (packed (head_fields tcode h) 0) ++ rest) ≡ tcode
+spelled_tcode tcode h rest t f = ap (λ q. field q 24 27) (back (packed (head_fields tcode h) 0) rest (first_fits tcode h t f)) ∙ first_tcode tcode h t f
+
+-- no quadlet shows a fault, nor does the padding
+clear_by : (n : ℕ) (w x y z p : Option PacketFault) (b : Bool) → w ≡ None → x ≡ None → y ≡ None → z ≡ None → (IsTrue b → p ≡ None)
+    → (if nat_lt n 4 then None else or_else w (if nat_lt n 8 then None else or_else x (if nat_lt n 12 then None else or_else y (if nat_lt n 16 then None else or_else z (if b then p else None))))) ≡ None
+clear_by n w x y z p true e f g h i = rw (e, f, g, h, i refl) (grind (arith, nat_tests))
+clear_by n w x y z p false e f g h i = rw (e, f, g, h) (grind (arith, nat_tests))
+
+clear : (bytes : List ℕ) (t : ℕ) → tcode_of bytes ≡ t → fault_0 t ≡ None → fault_1 t (quadlet_at bytes 4) ≡ None → fault_2 t (quadlet_at bytes 8) ≡ None → fault_3 t (quadlet_at bytes 12) ≡ None
+    → (IsTrue (has_bytes t) → fault_in_padding bytes (end_of_bytes bytes) (length bytes - end_of_bytes bytes) ≡ None) → fault_of bytes ≡ None
+clear bytes t e w x y z p =
+    let P : ℕ → Type 0 = λ k. (if nat_lt (length bytes) 4 then None else or_else (fault_0 k) (if nat_lt (length bytes) 8 then None else or_else (fault_1 k (quadlet_at bytes 4)) (if nat_lt (length bytes) 12 then None else or_else (fault_2 k (quadlet_at bytes 8)) (if nat_lt (length bytes) 16 then None else or_else (fault_3 k (quadlet_at bytes 12)) (if has_bytes k then fault_in_padding bytes (end_of_bytes bytes) (length bytes - end_of_bytes bytes) else None))))) ≡ None in
+    subst P (sym e) (clear_by (length bytes) (fault_0 t) (fault_1 t (quadlet_at bytes 4)) (fault_2 t (quadlet_at bytes 8)) (fault_3 t (quadlet_at bytes 12)) (fault_in_padding bytes (end_of_bytes bytes) (length bytes - end_of_bytes bytes)) (has_bytes t) w x y z p)
+
+none_map : (before : ℕ) (x : Option ℕ) → x ≡ None → option_map (λ bit. Reserved (before + bit)) x ≡ None
+none_map before x e = rw e refl
+
+response_second : (t source rcode : ℕ) (rest : List ℕ) → source < 2 ^ 16 → rcode < 2 ^ 4 → fault_1 t (quadlet_at (to_be_bytes w32 (packed ((16, source) ∷ (4, rcode) ∷ (12, 0) ∷ []) 0) ++ rest) 0) ≡ None
+unfolding fault_1
+response_second t source rcode rest s r =
+    let q = packed ((16, source) ∷ (4, rcode) ∷ (12, 0) ∷ []) 0 in
+    let small : packed ((16, source) ∷ (4, rcode) ∷ (12, 0) ∷ []) 0 < 2 ^ 32 = omega arith in
+    let low : packed ((16, source) ∷ (4, rcode) ∷ (12, 0) ∷ []) 0 % 2 ^ 12 ≡ 0 = omega arith in
+    let none = none_map 32 (first_set (packed ((16, source) ∷ (4, rcode) ∷ (12, 0) ∷ []) 0) 20 12) (first_set_zero (packed ((16, source) ∷ (4, rcode) ∷ (12, 0) ∷ []) 0) 20 12 refl low) in
+    rw (back (packed ((16, source) ∷ (4, rcode) ∷ (12, 0) ∷ []) 0) rest small) (both (is_response t) _ none)
+  where
+    both : (b : Bool) (x : Option PacketFault) → x ≡ None → (if b then x else None) ≡ None
+    both true x e = e
+    both false x e = refl
+
+response_third : (t : ℕ) (rest : List ℕ) → fault_2 t (quadlet_at (to_be_bytes w32 0 ++ rest) 0) ≡ None
+unfolding fault_2
+response_third t rest =
+    let none = none_map 64 (first_set 0 0 32) (first_set_zero 0 0 32 refl refl) in
+    rw (back 0 rest (omega arith)) (both (is_response t) _ none)
+  where
+    both : (b : Bool) (x : Option PacketFault) → x ≡ None → (if b then x else None) ≡ None
+    both true x e = e
+    both false x e = refl
+
+-- the quadlet of a size
+pub size_of : (len low : ℕ) (rest : List ℕ) → len < 2 ^ 16 → low < 2 ^ 16 → quadlet_at (to_be_bytes w32 (size len low) ++ rest) 0 ≡ size len low
+size_of len low rest l s = back (size len low) rest (omega arith)
+
+pub size_len : (len low : ℕ) → len < 2 ^ 16 → low < 2 ^ 16 → field (size len low) 0 15 ≡ len
+size_len len low l s = omega arith
+
+pub size_low : (len low : ℕ) → len < 2 ^ 16 → low < 2 ^ 16 → field (size len low) 16 31 ≡ low
+size_low len low l s = omega arith
+
+block_size : (t q len : ℕ) → IsTrue (is_block t) → field q 16 31 ≡ 0 → field q 0 15 ≡ len → len ≤ 512 → fault_3 t q ≡ None
+unfolding fault_3
+block_size t q len b low l few = rw (low, l) (block (is_block t) len _ b few)
+  where
+    block : (b : Bool) (len : ℕ) (x : Option PacketFault) → IsTrue b → len ≤ 512 → (if b then (if nat_lt 512 len then Some (TooLong len) else None) else x) ≡ None
+    block b len x h few = grind (arith, nat_tests)
+
+lock_size : (t q len low : ℕ) → is_block t ≡ false → field q 16 31 ≡ low → field q 0 15 ≡ len → 0 < low → low < 8 → IsTrue (if t == 9 then is_lock_size low len else is_reply_size len) → fault_3 t q ≡ None
+unfolding fault_3
+lock_size t q len low b e l some few fits = rw (b, e, l) (lock (is_lock t) len low (if t == 9 then is_lock_size low len else is_reply_size len) some few fits)
+  where
+    lock : (b : Bool) (len low : ℕ) (c : Bool) → 0 < low → low < 8 → IsTrue c → (if b then (if (low == 0) || nat_lt 7 low then Some (Reserved 112) else if c then None else Some (BadLength len)) else None) ≡ None
+    lock b len low c some few h = grind (arith, nat_tests)
+
+-- zeros show no fault
+zeros_clear : (bytes : List ℕ) (at n : ℕ) → ((i : ℕ) → i < n → get_or bytes (at + i) 0 ≡ 0) → fault_in_padding bytes at n ≡ None
+unfolding fault_in_padding
+zeros_clear bytes at zero h = refl
+zeros_clear bytes at (suc n) h =
+    let here : get_or bytes at 0 ≡ 0 = ap (λ (k : ℕ). get_or bytes k 0) (sym (add-zero at)) ∙ h 0 (omega arith) in
+    let less : suc n - 1 ≡ n = omega arith in
+    padding_next bytes at (suc n) (omega arith) here ∙ ap (fault_in_padding bytes (at + 1)) less ∙ zeros_clear bytes (at + 1) n (λ i in_rest. subst (λ (k : ℕ). get_or bytes k 0 ≡ 0) (sym (add_assoc at 1 i)) (h (1 + i) (omega arith)))
+
+after_zeros : (front : List ℕ) (k at i n : ℕ) → at ≡ length front → n ≡ length (front ++ replicate k 0) - at → i < n → get_or (front ++ replicate k 0) (at + i) 0 ≡ 0
+after_zeros front k at i n e m less =
+    let inside : i < k = omega (arith, length-append front (replicate k 0), length-replicate {A = ℕ} k 0) in
+    ap (λ (j : ℕ). get_or (front ++ replicate k 0) (j + i) 0) e ∙ get_or-append-add front (replicate k 0) i 0 ∙ get_or-replicate k i 0 0 inside
+
+-- what stands behind the bytes of a packet with data shows no fault
+padding_clear : (front : List ℕ) (k at : ℕ) → at ≡ length front → fault_in_padding (front ++ replicate k 0) at (length (front ++ replicate k 0) - at) ≡ None
+padding_clear front k at e = zeros_clear (front ++ replicate k 0) at (length (front ++ replicate k 0) - at) (λ i less. after_zeros front k at i (length (front ++ replicate k 0) - at) e refl less)
+
+-- four quadlets, bytes and their padding
+abbrev with_data : ℕ → ℕ → ℕ → ℕ → List ℕ → List ℕ
+with_data a b c d bytes = to_be_bytes w32 a ++ (to_be_bytes w32 b ++ (to_be_bytes w32 c ++ (to_be_bytes w32 d ++ padded bytes)))
+
+data_clear : (a b c low : ℕ) (bytes : List ℕ) → length bytes < 2 ^ 16 → low < 2 ^ 16
+    → let all = with_data a b c (size (length bytes) low) bytes in fault_in_padding all (end_of_bytes all) (length all - end_of_bytes all) ≡ None
+data_clear a b c low bytes few small =
+    let all = with_data a b c (size (length bytes) low) bytes in
+    let len : field (quadlet_at (to_be_bytes w32 (size (length bytes) low) ++ padded bytes) 0) 0 15 ≡ length bytes = ap (λ q. field q 0 15) (size_of (length bytes) low (padded bytes) few small) ∙ size_len (length bytes) low few small in
+    rw len (padding_clear (to_be_bytes w32 a ++ (to_be_bytes w32 b ++ (to_be_bytes w32 c ++ (to_be_bytes w32 (size (length bytes) low) ++ bytes)))) (padding (length bytes)) (16 + length bytes) (omega arith))
+
+pub lock_few : (f len : ℕ) → IsTrue (is_lock_size f len) → len < 2 ^ 16
+lock_few f len h = grind (arith, nat_tests)
+
+pub reply_few : (len : ℕ) → IsTrue (is_reply_size len) → len < 2 ^ 16
+reply_few len h = grind (arith, nat_tests)
+
+pub spelled_none : (p : Packet) → Fits p → fault_of (spelling p) ≡ None
+unfolding fault_0 fault_1 fault_2 fault_3
+spelled_none (WriteQuadlet h o v) fits =
+    clear (spelling (WriteQuadlet h o v)) 0 (spelled_tcode 0 h (drop 4 (spelling (WriteQuadlet h o v))) (omega arith) fits.0) refl refl refl refl (λ b. cc)
+spelled_none (WriteBlock h o bytes) fits =
+    let few : length bytes < 2 ^ 16 = omega (arith, fits.2) in
+    let small : 0 < 2 ^ 16 = omega arith in
+    let q = size_of (length bytes) (0) (drop 16 (spelling (WriteBlock h o bytes))) few small in
+    let low : field (quadlet_at (spelling (WriteBlock h o bytes)) 12) 16 31 ≡ 0 = ap (λ q. field q 16 31) q ∙ size_low (length bytes) (0) few small in
+    let len : field (quadlet_at (spelling (WriteBlock h o bytes)) 12) 0 15 ≡ length bytes = ap (λ q. field q 0 15) q ∙ size_len (length bytes) (0) few small in
+    clear (spelling (WriteBlock h o bytes)) 1 (spelled_tcode 1 h (drop 4 (spelling (WriteBlock h o bytes))) (omega arith) fits.0) refl refl refl (block_size 1 (quadlet_at (spelling (WriteBlock h o bytes)) 12) (length bytes) refl low len fits.2) (λ b. data_clear _ _ _ 0 bytes few small)
+spelled_none (WriteReply h rcode) fits =
+    clear (spelling (WriteReply h rcode)) 2 (spelled_tcode 2 h (drop 4 (spelling (WriteReply h rcode))) (omega arith) fits.0) refl (response_second 2 h.source rcode (drop 8 (spelling (WriteReply h rcode))) fits.0.4 fits.1) (response_third 2 (drop 12 (spelling (WriteReply h rcode)))) refl (λ b. cc)
+spelled_none (ReadQuadlet h o) fits =
+    clear (spelling (ReadQuadlet h o)) 4 (spelled_tcode 4 h (drop 4 (spelling (ReadQuadlet h o))) (omega arith) fits.0) refl refl refl refl (λ b. cc)
+spelled_none (ReadBlock h o len) fits =
+    let few : len < 2 ^ 16 = omega (arith, fits.2) in
+    let small : 0 < 2 ^ 16 = omega arith in
+    let q = size_of (len) (0) (drop 16 (spelling (ReadBlock h o len))) few small in
+    let low : field (quadlet_at (spelling (ReadBlock h o len)) 12) 16 31 ≡ 0 = ap (λ q. field q 16 31) q ∙ size_low (len) (0) few small in
+    let same : field (quadlet_at (spelling (ReadBlock h o len)) 12) 0 15 ≡ len = ap (λ q. field q 0 15) q ∙ size_len (len) (0) few small in
+    clear (spelling (ReadBlock h o len)) 5 (spelled_tcode 5 h (drop 4 (spelling (ReadBlock h o len))) (omega arith) fits.0) refl refl refl (block_size 5 (quadlet_at (spelling (ReadBlock h o len)) 12) (len) refl low same fits.2) (λ b. cc)
+spelled_none (ReadQuadletReply h rcode v) fits =
+    clear (spelling (ReadQuadletReply h rcode v)) 6 (spelled_tcode 6 h (drop 4 (spelling (ReadQuadletReply h rcode v))) (omega arith) fits.0) refl (response_second 6 h.source rcode (drop 8 (spelling (ReadQuadletReply h rcode v))) fits.0.4 fits.1) (response_third 6 (drop 12 (spelling (ReadQuadletReply h rcode v)))) refl (λ b. cc)
+spelled_none (ReadBlockReply h rcode bytes) fits =
+    let few : length bytes < 2 ^ 16 = omega (arith, fits.2) in
+    let small : 0 < 2 ^ 16 = omega arith in
+    let q = size_of (length bytes) (0) (drop 16 (spelling (ReadBlockReply h rcode bytes))) few small in
+    let low : field (quadlet_at (spelling (ReadBlockReply h rcode bytes)) 12) 16 31 ≡ 0 = ap (λ q. field q 16 31) q ∙ size_low (length bytes) (0) few small in
+    let len : field (quadlet_at (spelling (ReadBlockReply h rcode bytes)) 12) 0 15 ≡ length bytes = ap (λ q. field q 0 15) q ∙ size_len (length bytes) (0) few small in
+    clear (spelling (ReadBlockReply h rcode bytes)) 7 (spelled_tcode 7 h (drop 4 (spelling (ReadBlockReply h rcode bytes))) (omega arith) fits.0) refl (response_second 7 h.source rcode (drop 8 (spelling (ReadBlockReply h rcode bytes))) fits.0.4 fits.1) (response_third 7 (drop 12 (spelling (ReadBlockReply h rcode bytes)))) (block_size 7 (quadlet_at (spelling (ReadBlockReply h rcode bytes)) 12) (length bytes) refl low len fits.2) (λ b. data_clear _ _ 0 0 bytes few small)
+spelled_none (CycleStart h o time) fits =
+    clear (spelling (CycleStart h o time)) 8 (spelled_tcode 8 h (drop 4 (spelling (CycleStart h o time))) (omega arith) fits.0) refl refl refl refl (λ b. cc)
+spelled_none (Lock h o f bytes) fits =
+    let few : length bytes < 2 ^ 16 = lock_few f (length bytes) fits.4 in
+    let small : f < 2 ^ 16 = omega arith in
+    let q = size_of (length bytes) (f) (drop 16 (spelling (Lock h o f bytes))) few small in
+    let low : field (quadlet_at (spelling (Lock h o f bytes)) 12) 16 31 ≡ f = ap (λ q. field q 16 31) q ∙ size_low (length bytes) (f) few small in
+    let len : field (quadlet_at (spelling (Lock h o f bytes)) 12) 0 15 ≡ length bytes = ap (λ q. field q 0 15) q ∙ size_len (length bytes) (f) few small in
+    clear (spelling (Lock h o f bytes)) 9 (spelled_tcode 9 h (drop 4 (spelling (Lock h o f bytes))) (omega arith) fits.0) refl refl refl (lock_size 9 (quadlet_at (spelling (Lock h o f bytes)) 12) (length bytes) f refl low len fits.2 fits.3 fits.4) (λ b. data_clear _ _ _ f bytes few small)
+spelled_none (LockReply h rcode f bytes) fits =
+    let few : length bytes < 2 ^ 16 = reply_few (length bytes) fits.4 in
+    let small : f < 2 ^ 16 = omega arith in
+    let q = size_of (length bytes) (f) (drop 16 (spelling (LockReply h rcode f bytes))) few small in
+    let low : field (quadlet_at (spelling (LockReply h rcode f bytes)) 12) 16 31 ≡ f = ap (λ q. field q 16 31) q ∙ size_low (length bytes) (f) few small in
+    let len : field (quadlet_at (spelling (LockReply h rcode f bytes)) 12) 0 15 ≡ length bytes = ap (λ q. field q 0 15) q ∙ size_len (length bytes) (f) few small in
+    clear (spelling (LockReply h rcode f bytes)) 11 (spelled_tcode 11 h (drop 4 (spelling (LockReply h rcode f bytes))) (omega arith) fits.0) refl (response_second 11 h.source rcode (drop 8 (spelling (LockReply h rcode f bytes))) fits.0.4 fits.1) (response_third 11 (drop 12 (spelling (LockReply h rcode f bytes)))) (lock_size 11 (quadlet_at (spelling (LockReply h rcode f bytes)) 12) (length bytes) f refl low len fits.2 fits.3 fits.4) (λ b. data_clear _ _ 0 f bytes few small)
+
+-- A spelling is as long as it needs.
+need_at : (bytes : List ℕ) (t : ℕ) → tcode_of bytes ≡ t → need bytes ≡ need_by (length bytes) (has_fourth t) (has_bytes t) (field (quadlet_at bytes 12) 0 15)
+need_at bytes t e = ap (λ k. need_by (length bytes) (has_fourth k) (has_bytes k) (field (quadlet_at bytes 12) 0 15)) e
+
+data_need : (n len : ℕ) → n ≡ 16 + len + padding len → need_by n true true len ≡ n
+data_need n len e = grind (arith, nat_tests)
+
+data_length : (a b c d : ℕ) (bytes : List ℕ) → length (with_data a b c d bytes) ≡ 16 + length bytes + padding (length bytes)
+data_length a b c d bytes = omega (arith, length-append bytes (replicate (padding (length bytes)) 0), length-replicate {A = ℕ} (padding (length bytes)) 0)
+
+need_data : (a b c low : ℕ) (bytes : List ℕ) → length bytes < 2 ^ 16 → low < 2 ^ 16 → need_by (length (with_data a b c (size (length bytes) low) bytes)) true true (field (quadlet_at (with_data a b c (size (length bytes) low) bytes) 12) 0 15) ≡ length (with_data a b c (size (length bytes) low) bytes)
+need_data a b c low bytes few small =
+    let len : field (quadlet_at (to_be_bytes w32 (size (length bytes) low) ++ padded bytes) 0) 0 15 ≡ length bytes = ap (λ q. field q 0 15) (size_of (length bytes) low (padded bytes) few small) ∙ size_len (length bytes) low few small in
+    rw len (data_need (length (with_data a b c (size (length bytes) low) bytes)) (length bytes) (data_length a b c (size (length bytes) low) bytes))
+
+pub spelled_need : (p : Packet) → Fits p → need (spelling p) ≡ length (spelling p)
+spelled_need (WriteQuadlet h o v) fits = need_at (spelling (WriteQuadlet h o v)) 0 (spelled_tcode 0 h (drop 4 (spelling (WriteQuadlet h o v))) (omega arith) fits.0) ∙ refl
+spelled_need (WriteBlock h o bytes) fits = need_at (spelling (WriteBlock h o bytes)) 1 (spelled_tcode 1 h (drop 4 (spelling (WriteBlock h o bytes))) (omega arith) fits.0) ∙ need_data (packed (head_fields 1 h) 0) (packed ((16, h.source) ∷ (16, o / 2 ^ 32) ∷ []) 0) (o % 2 ^ 32) 0 bytes (omega (arith, fits.2)) (omega arith)
+spelled_need (WriteReply h rcode) fits = need_at (spelling (WriteReply h rcode)) 2 (spelled_tcode 2 h (drop 4 (spelling (WriteReply h rcode))) (omega arith) fits.0) ∙ refl
+spelled_need (ReadQuadlet h o) fits = need_at (spelling (ReadQuadlet h o)) 4 (spelled_tcode 4 h (drop 4 (spelling (ReadQuadlet h o))) (omega arith) fits.0) ∙ refl
+spelled_need (ReadBlock h o len) fits = need_at (spelling (ReadBlock h o len)) 5 (spelled_tcode 5 h (drop 4 (spelling (ReadBlock h o len))) (omega arith) fits.0) ∙ refl
+spelled_need (ReadQuadletReply h rcode v) fits = need_at (spelling (ReadQuadletReply h rcode v)) 6 (spelled_tcode 6 h (drop 4 (spelling (ReadQuadletReply h rcode v))) (omega arith) fits.0) ∙ refl
+spelled_need (ReadBlockReply h rcode bytes) fits = need_at (spelling (ReadBlockReply h rcode bytes)) 7 (spelled_tcode 7 h (drop 4 (spelling (ReadBlockReply h rcode bytes))) (omega arith) fits.0) ∙ need_data (packed (head_fields 7 h) 0) (packed ((16, h.source) ∷ (4, rcode) ∷ (12, 0) ∷ []) 0) 0 0 bytes (omega (arith, fits.2)) (omega arith)
+spelled_need (CycleStart h o time) fits = need_at (spelling (CycleStart h o time)) 8 (spelled_tcode 8 h (drop 4 (spelling (CycleStart h o time))) (omega arith) fits.0) ∙ refl
+spelled_need (Lock h o f bytes) fits = need_at (spelling (Lock h o f bytes)) 9 (spelled_tcode 9 h (drop 4 (spelling (Lock h o f bytes))) (omega arith) fits.0) ∙ need_data (packed (head_fields 9 h) 0) (packed ((16, h.source) ∷ (16, o / 2 ^ 32) ∷ []) 0) (o % 2 ^ 32) f bytes (lock_few f (length bytes) fits.4) (omega arith)
+spelled_need (LockReply h rcode f bytes) fits = need_at (spelling (LockReply h rcode f bytes)) 11 (spelled_tcode 11 h (drop 4 (spelling (LockReply h rcode f bytes))) (omega arith) fits.0) ∙ need_data (packed (head_fields 11 h) 0) (packed ((16, h.source) ∷ (4, rcode) ∷ (12, 0) ∷ []) 0) 0 f bytes (reply_few (length bytes) fits.4) (omega arith)
+
+no_more : (n : ℕ) (more : List ℕ) → n + length more ≡ n → more ≡ []
+no_more n more e = nil_from_length more (omega arith)
+
+-- No spelling is a proper front of another.
+pub no_proper_front : (p q : Packet) (more : List ℕ) → Fits p → Fits q → spelling q ≡ spelling p ++ more → more ≡ []
+no_proper_front p q more f g e =
+    let done : need (spelling p ++ more) ≡ length (spelling p) = need_done (spelling p) more (sym (spelled_need p f)) in
+    let all : need (spelling p ++ more) ≡ length (spelling p ++ more) = let P : List ℕ → Type 0 = λ s. need s ≡ length s in subst P e (spelled_need q g) in
+    no_more (length (spelling p)) more (sym (length-append (spelling p) more) ∙ sym all ∙ done)

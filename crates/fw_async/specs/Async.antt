@@ -1,0 +1,84 @@
+-- Asynchronous packets: their spelling, and the faults of bytes that spell none.
+use Rattle.std.specs.Prelude.{ℕ, ◌*◌, ◌/◌, ◌%◌, ◌^◌, ◌≤◌, ◌<◌, ◌==◌, ◌||◌, List, [], ◌∷◌, ◌++◌, Bool, length, slice_index, replicate, if◌then◌else◌, flat_map, IsTrue}
+use Rattle.std.specs.Int.{to_be_bytes, w32}
+use Rattle.fw_words.specs.Layout.{packed}
+use Rattle.fw_async.specs.declared.packet.Head.{Head}
+use Rattle.fw_async.specs.declared.packet.Packet.{Packet}
+use Rattle.fw_async.specs.declared.packet.Packet.TheVariants.{WriteQuadlet, WriteBlock, WriteReply, ReadQuadlet, ReadBlock, ReadQuadletReply, ReadBlockReply, CycleStart, Lock, LockReply}
+
+-- the fields of quadlet 0
+abbrev pub head_fields : ℕ → Head → List (ℕ × ℕ)
+head_fields tcode h = (16, h.destination) ∷ (6, h.tl) ∷ (2, h.rt) ∷ (4, tcode) ∷ (4, h.pri) ∷ []
+
+-- the quadlets of a packet, and the bytes after them
+pub record Parts : Type 0 where
+  pub quadlets : List ℕ
+  pub bytes : List ℕ
+
+-- a request has an offset, a response an rcode
+abbrev pub request : ℕ → Head → ℕ → List ℕ → List ℕ → Parts
+request tcode h offset more bytes =
+    record { quadlets = packed (head_fields tcode h) 0 ∷ packed ((16, h.source) ∷ (16, offset / 2 ^ 32) ∷ []) 0 ∷ offset % 2 ^ 32 ∷ more; bytes = bytes }
+
+abbrev pub response : ℕ → Head → ℕ → List ℕ → List ℕ → Parts
+response tcode h rcode more bytes =
+    record { quadlets = packed (head_fields tcode h) 0 ∷ packed ((16, h.source) ∷ (4, rcode) ∷ (12, 0) ∷ []) 0 ∷ 0 ∷ more; bytes = bytes }
+
+-- data_length, and zeros or an extended_tcode
+abbrev pub size : ℕ → ℕ → ℕ
+size len low = packed ((16, len) ∷ (16, low) ∷ []) 0
+
+abbrev pub parts : Packet → Parts
+parts (WriteQuadlet h offset value) = request 0 h offset (value ∷ []) []
+parts (WriteBlock h offset bytes) = request 1 h offset (size (length bytes) 0 ∷ []) bytes
+parts (WriteReply h rcode) = response 2 h rcode [] []
+parts (ReadQuadlet h offset) = request 4 h offset [] []
+parts (ReadBlock h offset len) = request 5 h offset (size len 0 ∷ []) []
+parts (ReadQuadletReply h rcode value) = response 6 h rcode (value ∷ []) []
+parts (ReadBlockReply h rcode bytes) = response 7 h rcode (size (length bytes) 0 ∷ []) bytes
+parts (CycleStart h offset time) = request 8 h offset (time ∷ []) []
+parts (Lock h offset function bytes) = request 9 h offset (size (length bytes) function ∷ []) bytes
+parts (LockReply h rcode function bytes) = response 11 h rcode (size (length bytes) function ∷ []) bytes
+
+-- how many zeros fill the last quadlet
+abbrev pub padding : ℕ → ℕ
+padding len = 3 * len % 4
+
+abbrev pub padded : List ℕ → List ℕ
+padded bytes = bytes ++ replicate (padding (length bytes)) 0
+
+abbrev pub bytes_of : Parts → List ℕ
+bytes_of p = flat_map (to_be_bytes w32) p.quadlets ++ padded p.bytes
+
+-- the one list of bytes that the packet is
+abbrev pub spelling : Packet → List ℕ
+spelling p = bytes_of (parts p)
+
+-- which numbers of bytes a lock request of this function has
+abbrev pub is_lock_size : ℕ → ℕ → Bool
+is_lock_size function len =
+    if (function == 3) || (function == 4) then (len == 4) || (len == 8)
+    else if function == 7 then (len == 4) || (len == 8) || (len == 16)
+    else (len == 8) || (len == 16)
+
+abbrev pub is_reply_size : ℕ → Bool
+is_reply_size len = (len == 0) || (len == 4) || (len == 8)
+
+abbrev pub AreBytes : List ℕ → Type 0
+AreBytes bytes = (i : ℕ) → slice_index bytes i < 256
+
+-- The packet has a spelling: its numbers fit their fields, and its bytes are as many as its kind may have.
+abbrev pub HeadFits : Head → Type 0
+HeadFits h = (h.destination < 2 ^ 16) × (h.tl < 2 ^ 6) × (h.rt < 2 ^ 2) × (h.pri < 2 ^ 4) × (h.source < 2 ^ 16)
+
+abbrev pub Fits : Packet → Type 0
+Fits (WriteQuadlet h offset value) = HeadFits h × (offset < 2 ^ 48) × (value < 2 ^ 32)
+Fits (WriteBlock h offset bytes) = HeadFits h × (offset < 2 ^ 48) × (length bytes ≤ 512) × AreBytes bytes
+Fits (WriteReply h rcode) = HeadFits h × (rcode < 2 ^ 4)
+Fits (ReadQuadlet h offset) = HeadFits h × (offset < 2 ^ 48)
+Fits (ReadBlock h offset len) = HeadFits h × (offset < 2 ^ 48) × (len ≤ 512)
+Fits (ReadQuadletReply h rcode value) = HeadFits h × (rcode < 2 ^ 4) × (value < 2 ^ 32)
+Fits (ReadBlockReply h rcode bytes) = HeadFits h × (rcode < 2 ^ 4) × (length bytes ≤ 512) × AreBytes bytes
+Fits (CycleStart h offset time) = HeadFits h × (offset < 2 ^ 48) × (time < 2 ^ 32)
+Fits (Lock h offset function bytes) = HeadFits h × (offset < 2 ^ 48) × (0 < function) × (function < 8) × IsTrue (is_lock_size function (length bytes)) × AreBytes bytes
+Fits (LockReply h rcode function bytes) = HeadFits h × (rcode < 2 ^ 4) × (0 < function) × (function < 8) × IsTrue (is_reply_size (length bytes)) × AreBytes bytes

@@ -1,0 +1,5 @@
+use Rattle.fw_log.proofs.BodyLaws.{as_kind}
+use Rattle.fw_log.proofs.read_body.entry_of.Goals as goal
+
+pub returns-in-Err : goal.returns-in-Err
+returns-in-Err c = as_kind c.args.kind c.args.body.now c.in-Err.fault c.in-2.is c.in-Err.ensures

@@ -1,0 +1,161 @@
+-- What the bytes of a log show before an entry is whole: a fault, or how many bytes the entry takes.
+use Rattle.std.specs.Prelude.{◌≡◌, ℕ, ◌+◌, ◌*◌, ◌≤◌, ◌<◌, ◌==◌, ◌||◌, ◌&&◌, not, nat_le, nat_lt, List, [], ◌++◌, Bool, true, Option, Some, None, length, slice_index, take, drop, if◌then◌else◌, ◌⊎◌, flat_map, Result, Ok, Err}
+use Rattle.std.specs.Int.{from_be_bytes, w64}
+use Rattle.fw_words.specs.Quadlet.{quadlet_at}
+use Rattle.std.specs.List.{All}
+use Rattle.fw_phy.specs.Phy.{phy_fault, Fits as PhyFits, spelling as phy_spelling}
+use Rattle.fw_phy.specs.declared.packet.PhyPacket.{PhyPacket}
+use Rattle.fw_phy.specs.declared.PhyFault.{PhyFault}
+use Rattle.fw_async.specs.Reading as Async
+use Rattle.fw_log.specs.Log.{header_bytes, entry_bytes, Fits, TimedFits, kind_of, body}
+use Rattle.fw_log.specs.declared.entry.Entry.{Entry}
+use Rattle.fw_log.specs.declared.entry.Timed.{Timed}
+use Rattle.fw_async.specs.declared.PacketFault.{PacketFault}
+use Rattle.fw_log.specs.declared.BodyFault.{BodyFault}
+use Rattle.fw_log.specs.declared.BodyFault.TheVariants.{Phy, Packet, Fields}
+use Rattle.fw_log.specs.declared.LogWhy.{LogWhy}
+use Rattle.fw_log.specs.declared.LogWhy.TheVariants.{AfterEnd, BadHeader, BadKind, BadLength, TimeBack, BadBody, NotBuilt}
+use Rattle.fw_log.specs.declared.LogFault.{LogFault}
+
+abbrev pub fault_at : ℕ → LogWhy → LogFault
+fault_at place why = record { place = place; why = why }
+
+-- A part is judged when its last byte was taken. Then come the parts behind it.
+abbrev pub tested : ℕ → ℕ → Bool → LogFault → Option LogFault → Option LogFault
+tested n end ok f rest = if nat_lt n end then None else if ok then rest else Some f
+
+-- the number of quadlets of a body, and the cycle
+abbrev pub length_of : List ℕ → ℕ
+length_of e = 256 * slice_index e 2 + slice_index e 3
+
+abbrev pub cycle_of : List ℕ → ℕ
+cycle_of e = from_be_bytes w64 (take 8 (drop 4 e))
+
+abbrev pub is_built : ℕ → Bool
+is_built kind = not ((kind == 1) || (kind == 3))
+
+abbrev pub is_kind : ℕ → ℕ → Bool
+is_kind kind low = nat_le 1 kind && nat_le kind 7 && (low == 0)
+
+-- which numbers of quadlets a body of this kind has
+abbrev pub is_length : ℕ → ℕ → Bool
+is_length kind len =
+    if kind == 1 then nat_le 5 len && nat_le len 569
+    else if kind == 2 then nat_le 3 len && nat_le len 132
+    else if kind == 3 then (len == 3) || (len == 123)
+    else if kind == 4 then (len == 1) || (len == 2)
+    else if kind == 7 then len == 0
+    else len == 2
+
+abbrev pub entry_fault : ℕ → ℕ → List ℕ → Option LogFault
+entry_fault place last e =
+    tested (length e) 2 (is_built (slice_index e 0)) (fault_at place NotBuilt)
+    (tested (length e) 2 (is_kind (slice_index e 0) (slice_index e 1)) (fault_at place BadKind)
+    (tested (length e) 4 (is_length (slice_index e 0) (length_of e)) (fault_at (place + 2) BadLength)
+    (tested (length e) 12 (nat_le last (cycle_of e)) (fault_at (place + 4) TimeBack) None)))
+
+abbrev pub header_fault : List ℕ → Option LogFault → Option LogFault
+header_fault bytes rest =
+    tested (length bytes) 4 (quadlet_at bytes 0 == 825440564) (fault_at 0 BadHeader)
+    (tested (length bytes) 8 (quadlet_at bytes 4 == 1) (fault_at 4 BadHeader)
+    (tested (length bytes) 12 (quadlet_at bytes 8 == 0) (fault_at 8 BadHeader)
+    (tested (length bytes) 16 (quadlet_at bytes 12 == 0) (fault_at 12 BadHeader) rest)))
+
+-- The bytes since the last entry: the first of them stand behind the header.
+abbrev pub skip : ℕ → ℕ
+skip start = if start == 0 then 16 else 0
+
+-- where the reader stands: the place of the first byte, the cycle of the last entry, and whether that was the end
+pub record Stand : Type 0 where
+  pub start : ℕ
+  pub last : ℕ
+  pub ended : Bool
+
+-- the first fault that parts before the body show
+abbrev pub head_fault : Stand → List ℕ → Option LogFault
+head_fault s bytes =
+    if s.ended then (if length bytes == 0 then None else Some (fault_at s.start AfterEnd))
+    else if s.start == 0 then header_fault bytes (entry_fault 16 s.last (drop 16 bytes))
+    else entry_fault s.start s.last bytes
+
+abbrev pub entry_need : List ℕ → ℕ
+entry_need e = if nat_lt (length e) 4 then 12 else 12 + 4 * length_of e
+
+-- how many bytes the header and the entry take at least
+abbrev pub need : Stand → List ℕ → ℕ
+need s bytes = skip s.start + entry_need (drop (skip s.start) bytes)
+
+pub record IsPending (s : Stand) (bytes : List ℕ) : Type 0 where
+  pub no_fault : head_fault s bytes ≡ None
+  pub not_whole : length bytes < need s bytes
+
+-- the bytes are the entry, behind the header where it is the first
+abbrev pub header_at : ℕ → List ℕ
+header_at start = if start == 0 then header_bytes else []
+
+pub record Spells (s : Stand) (t : Timed) (bytes : List ℕ) : Type 0 where
+  pub fits : TimedFits t
+  pub later : s.last ≤ t.cycle
+  pub same : header_at s.start ++ entry_bytes t ≡ bytes
+
+-- the body of an entry
+pub record IsBody (k : ℕ) (bytes : List ℕ) (e : Entry) : Type 0 where
+  pub fits : Fits e
+  pub kind : kind_of e ≡ k
+  pub same : body e ≡ bytes
+
+-- the reader of packets refuses the body at one of its bytes
+pub record PacketRefuses (bytes : List ℕ) (f : PacketFault) : Type 0 where
+  pub at : ℕ
+  pub within : at < length bytes
+  pub before : Async.IsPending (take at bytes)
+  pub here : Async.fault_of (take (at + 1) bytes) ≡ Some f
+
+-- A lower fault where a lower reader refuses, and Fields where none does and the body is of no entry of its kind.
+abbrev pub BodyRefused : ℕ → List ℕ → BodyFault → Type 0
+BodyRefused kind bytes (Phy f) = ⊥
+BodyRefused kind bytes (Packet f) = (kind ≡ 2) × PacketRefuses bytes f
+BodyRefused kind bytes Fields = ((e : Entry) → IsBody kind bytes e → ⊥) × ((f : PacketFault) → kind ≡ 2 → PacketRefuses bytes f → ⊥)
+
+-- what an entry's head without a fault has
+pub record HeadFits (last : ℕ) (e : List ℕ) : Type 0 where
+  pub built : is_built (slice_index e 0) ≡ true
+  pub kind : is_kind (slice_index e 0) (slice_index e 1) ≡ true
+  pub size : is_length (slice_index e 0) (length_of e) ≡ true
+  pub later : nat_le last (cycle_of e) ≡ true
+
+-- what stands before a whole entry, and the entry
+pub record WholeHead (s : Stand) (bytes : List ℕ) : Type 0 where
+  pub head : HeadFits s.last (drop (skip s.start) bytes)
+  pub before : header_at s.start ++ drop (skip s.start) bytes ≡ bytes
+  pub size : length (drop (skip s.start) bytes) ≡ 12 + 4 * length_of (drop (skip s.start) bytes)
+
+-- the whole entry, whose head has no fault
+pub record WrongBody (s : Stand) (bytes : List ℕ) (f : LogFault) : Type 0 where
+  pub why : BodyFault
+  pub is : f ≡ fault_at (s.start + (skip s.start + 12)) (BadBody why)
+  pub refused : BodyRefused (slice_index (drop (skip s.start) bytes) 0) (drop 12 (drop (skip s.start) bytes)) why
+
+pub record BodyFaulty (s : Stand) (bytes : List ℕ) (f : LogFault) : Type 0 where
+  pub no_fault : head_fault s bytes ≡ None
+  pub whole : length bytes ≡ need s bytes
+  pub wrong : WrongBody s bytes f
+
+abbrev pub Faulty : Stand → List ℕ → LogFault → Type 0
+Faulty s bytes f = (head_fault s bytes ≡ Some f) ⊎ BodyFaulty s bytes f
+
+-- the packets of self-identification, eight bytes each
+pub record AreIds (ids : List PhyPacket) (bytes : List ℕ) : Type 0 where
+  pub fits : All PhyFits ids
+  pub same : flat_map phy_spelling ids ≡ bytes
+
+-- The reader of PHY packets refuses the eight bytes from a place on, and none before.
+pub record IdsRefused (bytes : List ℕ) (f : PhyFault) : Type 0 where
+  pub before : List PhyPacket
+  pub read : AreIds before (take (8 * length before) bytes)
+  pub within : 8 * length before < length bytes
+  pub here : phy_fault (drop (8 * length before) bytes) ≡ Some f
+
+abbrev pub IdsJudges : List ℕ → Result (List PhyPacket) PhyFault → Type 0
+IdsJudges bytes (Ok ids) = AreIds ids bytes
+IdsJudges bytes (Err f) = IdsRefused bytes f

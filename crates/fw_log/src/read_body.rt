@@ -1,0 +1,175 @@
+//! The bodies of entries, from bytes.
+
+ghost use Rattle.std.specs.Prelude.{ℕ, ◌≡◌, ◌≤◌, ◌<◌, ◌+◌, ◌-◌, ◌*◌, ◌/◌, ◌%◌, ◌^◌, ◌++◌, ◌∷◌, [], length, take, drop, IsTrue, IfSome, IfNone, ◌==◌, ◌||◌, if◌then◌else◌, true};
+ghost use Rattle.fw_log.specs.declared.entry.EventEntry.{EventEntry};
+ghost use Rattle.fw_log.specs.declared.entry.OutcomeEntry.{OutcomeEntry};
+ghost use Rattle.fw_log.specs.declared.entry.ShownEntry.{ShownEntry};
+ghost use Rattle.fw_log.specs.Log.{quads, event_quads, outcome_quads, shown_quads, is_event, is_outcome, EventFits, OutcomeFits, ShownFits};
+ghost use Rattle.fw_log.specs.Reading.{is_built, is_kind, is_length, IdsJudges};
+ghost use Rattle.fw_log.specs.Reader.{PacketJudges, BodyJudges};
+
+use crate::read_head::rest;
+use crate::{BodyFault, Entry, EventEntry, OutcomeEntry, ShownEntry};
+use fw_async::{Fed, Packet, PacketReader};
+use fw_phy::{PhyFault, SelfIds, read_phy};
+use fw_words::quadlet_at;
+
+fn outcome_of(body: &[u8]) -> Option<OutcomeEntry>
+    requires { length body.now ≡ 8 }
+    ensures found { IfSome result (λ o. OutcomeFits o × (quads (outcome_quads o) ≡ body.now)) }
+    ensures only { (o : OutcomeEntry) → OutcomeFits o → quads (outcome_quads o) ≡ body.now → result ≡ Some o }
+{
+    let first = quadlet_at(body, 0);
+    let code = first.field(0, 7);
+    let value = quadlet_at(body, 4).0;
+    if first.field(24, 31) != 0 || !is_outcome(code, value) {
+        return None;
+    }
+    Some(OutcomeEntry {
+        code: code as u8,
+        device: first.field(8, 15) as u8,
+        slot: first.field(16, 23) as u8,
+        value,
+    })
+}
+
+// An outcome of this code may have this value.
+fn is_outcome(code: u32, value: u32) -> bool
+    ensures { result ≡ is_outcome code value }
+{
+    1 <= code && code <= 12 && (value == 0 || (code != 2 && code != 9))
+}
+
+fn shown_of(body: &[u8]) -> Option<ShownEntry>
+    requires { length body.now ≡ 8 }
+    ensures found { IfSome result (λ o. ShownFits o × (quads (shown_quads o) ≡ body.now)) }
+    ensures only { (o : ShownEntry) → ShownFits o → quads (shown_quads o) ≡ body.now → result ≡ Some o }
+{
+    let first = quadlet_at(body, 0);
+    if first.field(8, 15) != 0 || first.field(16, 31) >= 0x1000 {
+        return None;
+    }
+    Some(ShownEntry {
+        device: first.field(0, 7) as u8,
+        offset: first.field(16, 31) as u16,
+        word: quadlet_at(body, 4).0,
+    })
+}
+
+// The event may have this device.
+fn is_event_of(code: u32, device: u32) -> bool
+    ensures { result ≡ is_event code device 0 (if code == 4 then 525 else 0) }
+{
+    1 <= code && code <= 6 && (device == 255 || (code != 1 && code != 6))
+}
+
+fn is_system(system: u32) -> bool
+    ensures { result ≡ ((system == 525) || (system == 625)) }
+{
+    system == 525 || system == 625
+}
+
+fn event_of(body: &[u8]) -> Option<EventEntry>
+    requires { IsTrue ((length body.now == 4) || (length body.now == 8)) }
+    ensures found { IfSome result (λ o. EventFits o × (quads (event_quads o) ≡ body.now)) }
+    ensures only { (o : EventEntry) → EventFits o → quads (event_quads o) ≡ body.now → result ≡ Some o }
+{
+    let first = quadlet_at(body, 0);
+    let code = first.field(0, 7);
+    let device = first.field(8, 15);
+    if first.field(16, 31) != 0 || !is_event_of(code, device) {
+        return None;
+    }
+    if code != 4 {
+        if body.len() != 4 {
+            return None;
+        }
+        return Some(EventEntry {
+            code: code as u8,
+            device: device as u8,
+            tape: 0,
+            system: 0,
+        });
+    }
+    if body.len() != 8 {
+        return None;
+    }
+    let second = quadlet_at(body, 4);
+    let system = second.field(16, 31);
+    if !is_system(system) {
+        return None;
+    }
+    Some(EventEntry {
+        code: code as u8,
+        device: device as u8,
+        tape: second.field(0, 15) as u16,
+        system: system as u16,
+    })
+}
+
+// The packets that the bytes spell, or the first refusal.
+fn ids_of(bytes: &[u8]) -> Result<SelfIds, PhyFault>
+    requires { length bytes.now ≤ 2016 }
+    ensures { IdsJudges bytes.now result }
+{
+    let mut ids = SelfIds::new();
+    let mut at = 0;
+    while at < bytes.len() {
+        match read_phy(rest(bytes, at)) {
+            Ok(packet) => ids.push(packet),
+            Err(fault) => return Err(fault),
+        }
+        at += 8;
+    }
+    Ok(ids)
+}
+
+fn async_of(body: &[u8]) -> Result<Packet, BodyFault>
+    ensures { PacketJudges body.now result }
+{
+    let mut reader = PacketReader::new();
+    match reader.feed(body) {
+        Ok(fed) => {
+            let Fed { used, packet } = fed;
+            match packet {
+                Some(packet) => {
+                    if used == body.len() {
+                        Ok(packet)
+                    } else {
+                        Err(BodyFault::Fields)
+                    }
+                }
+                None => Err(BodyFault::Fields),
+            }
+        }
+        Err(fault) => Err(BodyFault::Packet(fault)),
+    }
+}
+
+// The entry that the body is, or why it is none.
+pub(crate) fn entry_of(kind: u8, body: &[u8]) -> Result<Entry, BodyFault>
+    requires built { is_built kind ≡ true }
+    requires kind { is_kind kind 0 ≡ true }
+    requires size { (n : ℕ) × (length body.now ≡ 4 * n) × (is_length kind n ≡ true) }
+    ensures { BodyJudges kind body.now result }
+{
+    match kind {
+        2 => match async_of(body) {
+            Ok(packet) => Ok(Entry::Async(packet)),
+            Err(fault) => Err(fault),
+        },
+        4 => match event_of(body) {
+            Some(event) => Ok(Entry::Event(event)),
+            None => Err(BodyFault::Fields),
+        },
+        5 => match outcome_of(body) {
+            Some(outcome) => Ok(Entry::Outcome(outcome)),
+            None => Err(BodyFault::Fields),
+        },
+        6 => match shown_of(body) {
+            Some(shown) => Ok(Entry::Shown(shown)),
+            None => Err(BodyFault::Fields),
+        },
+        _ => Ok(Entry::End),
+    }
+}

@@ -1,0 +1,49 @@
+ghost use Rattle.std.specs.Prelude.{◌≡◌, ◌<◌, ◌≤◌, ◌++◌, [], ◌∷◌, length};
+
+use crate::PhyPacket;
+use arrayvec::ArrayVec;
+use std::marker::Model;
+
+/// At most 252 PHY packets, in order: room for the self-ID packets of 63 nodes.
+#[derive(Debug, PartialEq, Eq, Drop)]
+pub struct SelfIds {
+    packets: ArrayVec<PhyPacket, 252>,
+}
+
+impl Model for SelfIds {
+    ghost use Rattle.std.specs.Prelude.{List};
+    ghost use Rattle.fw_phy.specs.declared.packet.PhyPacket.{PhyPacket};
+
+    ghost Value = { List PhyPacket };
+
+    ghost view = { λ s. s.packets.items };
+
+    ghost inverse = { λ xs. record { packets = record { items = xs } } };
+}
+
+impl SelfIds {
+    /// No packets.
+    pub fn new() -> Self
+        ensures { result ≡ [] }
+    {
+        SelfIds {
+            packets: ArrayVec::new(),
+        }
+    }
+
+    /// Appends a packet.
+    pub fn push(&mut self, p: PhyPacket)
+        requires { length self.old < 252 }
+        ensures { self.new ≡ self.old ++ p ∷ [] }
+    {
+        self.packets.push(p);
+    }
+
+    /// All packets.
+    pub fn as_slice(&self) -> &[PhyPacket]
+        ensures value { result.now ≡ self.now }
+        ensures fits { length self.now ≤ 252 }
+    {
+        self.packets.as_slice()
+    }
+}
