@@ -1,0 +1,9 @@
+pub mod Decisions
+pub mod Connections
+pub mod Steps
+pub mod Joins
+pub mod HalfSteps
+pub mod Others
+pub mod Slots
+pub mod Distances
+pub mod Elsewhere

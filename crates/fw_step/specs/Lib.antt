@@ -1,0 +1,4 @@
+pub mod Moves
+pub mod InStep
+pub mod Slots
+pub mod Distance
