@@ -1,62 +1,15 @@
--- Laws of the words of specs/Phy.antt.
-use Rattle.std.proofs.Common.{◌≡◌, ◌≢◌, ℕ, zero, suc, ◌+◌, ◌-◌, ◌*◌, ◌/◌, ◌%◌, ◌^◌, ◌≤◌, ◌<◌, Bool, Result, Ok, Err, IfOk, take, take-add, ◌++◌, Some, None, arith, refl, ap, sym, ◌∙◌, length, get_or, drop, drop-cons, add-one, List, [], ◌∷◌, ◌==◌, if◌then◌else◌}
+-- One quadlet is of one packet.
+use Rattle.std.proofs.Common.{◌≡◌, ◌≢◌, ℕ, zero, suc, ◌+◌, ◌-◌, ◌/◌, ◌%◌, ◌^◌, ◌<◌, Bool, take, arith, refl, ap, sym, ◌∙◌, length, get_or, drop, drop-cons, add-one, List, [], ◌∷◌}
 use Rattle.std.proofs.lemmas.List.{drop_all}
-use Rattle.std.proofs.lemmas.Nat.{mod-pow-add, pow_pos}
-use Rattle.std.proofs.lemmas.Bool.Decides.{nat_tests}
-use Rattle.std.specs.Option.{option_map}
-use Rattle.std.specs.Result.{result_err}
-use Rattle.fw_words.specs.Quadlet.{field, first_set, quadlet_at}
-use Rattle.fw_words.proofs.FirstSet.{low_zero, first_set_zero}
+use Rattle.fw_words.specs.Quadlet.{field}
 use Rattle.fw_words.specs.Layout.{values}
 use Rattle.fw_words.proofs.LayoutLaws.{packed-same}
 use Rattle.fw_phy.specs.declared.packet.SelfId.{SelfId as Self}
 use Rattle.fw_phy.specs.declared.packet.SelfIdMore.{SelfIdMore as More}
-use Rattle.fw_phy.specs.declared.PhyFault.{PhyFault}
-use Rattle.fw_phy.specs.declared.PhyFault.TheVariants.{Reserved}
 use Rattle.fw_phy.specs.declared.packet.PhyPacket.{PhyPacket}
 use Rattle.fw_phy.specs.declared.packet.PhyPacket.TheVariants.{SelfId, SelfIdMore, Config, LinkOn}
-use Rattle.fw_phy.specs.Phy.{reserved_bit, Fits, quadlet_of, layout, bit, twice, spelling, phy_fault}
-
-pub low_16 : (q : ℕ) → first_set q 16 16 ≡ None → q % 65536 ≡ 0
-low_16 q h = low_zero q 16 16 refl h
-
-pub low_24 : (q : ℕ) → first_set q 8 24 ≡ None → q % 16777216 ≡ 0
-low_24 q h = low_zero q 8 24 refl h
-
--- what stands where the kinds of packet differ
-tag_self : (s : Self) → Fits (SelfId s) → (field (quadlet_of (SelfId s)) 0 1 ≡ 2) × (field (quadlet_of (SelfId s)) 8 8 ≡ 0)
-tag_self s fits = (omega (arith, fits.fields), omega (arith, fits.fields))
-
-tag_more : (s : More) → Fits (SelfIdMore s) → (field (quadlet_of (SelfIdMore s)) 0 1 ≡ 2) × (field (quadlet_of (SelfIdMore s)) 8 8 ≡ 1)
-tag_more s fits = (omega (arith, fits.fields), omega (arith, fits.fields))
-
-zeros_more : (s : More) → Fits (SelfIdMore s) → let q = quadlet_of (SelfIdMore s) in (field q 9 11 ≤ 2) × (field q 12 12 ≡ 0) × (field q 13 13 ≡ 0) × (field q 30 30 ≡ 0)
-zeros_more s fits = (omega (arith, fits.fields, fits.shape), omega (arith, fits.fields), omega (arith, fits.fields), omega (arith, fits.fields))
-
-tag_config : (root gap : ℕ) (r t : Bool) → Fits (Config root r t gap) → (field (quadlet_of (Config root r t gap)) 0 1 ≡ 0) × (quadlet_of (Config root r t gap) % 2 ^ 16 ≡ 0)
-tag_config root gap r t fits = (omega (arith, fits.fields), omega (arith, fits.fields))
-
-tag_link_on : (phy : ℕ) → Fits (LinkOn phy) → (field (quadlet_of (LinkOn phy)) 0 1 ≡ 1) × (quadlet_of (LinkOn phy) % 2 ^ 24 ≡ 0)
-tag_link_on phy fits = (omega (arith, fits.fields), omega (arith, fits.fields))
-
--- a quadlet with these fields is a packet
-self_goes_on : (q : ℕ) → field q 0 1 ≡ 2 → field q 8 8 ≡ 0 → reserved_bit q ≡ None
-self_goes_on q kind clear = grind (arith, nat_tests)
-
-more_goes_on : (q : ℕ) → field q 0 1 ≡ 2 → field q 8 8 ≡ 1 → field q 9 11 ≤ 2 → field q 12 12 ≡ 0 → field q 13 13 ≡ 0 → field q 30 30 ≡ 0 → reserved_bit q ≡ None
-more_goes_on q kind one number a b c = grind (arith, nat_tests)
-
-config_goes_on : (q : ℕ) → field q 0 1 ≡ 0 → first_set q 16 16 ≡ None → reserved_bit q ≡ None
-config_goes_on q kind none = grind (arith, nat_tests)
-
-link_on_goes_on : (q : ℕ) → field q 0 1 ≡ 1 → first_set q 8 24 ≡ None → reserved_bit q ≡ None
-link_on_goes_on q kind none = grind (arith, nat_tests)
-
-pub spelled_none : (p : PhyPacket) → Fits p → reserved_bit (quadlet_of p) ≡ None
-spelled_none (SelfId s) fits = let t = tag_self s fits in self_goes_on _ t.0 t.1
-spelled_none (SelfIdMore s) fits = let t = tag_more s fits in let z = zeros_more s fits in more_goes_on _ t.0 t.1 z.0 z.1 z.2 z.3
-spelled_none (Config root r t gap) fits = let k = tag_config root gap r t fits in config_goes_on _ k.0 (first_set_zero _ 16 16 refl k.1)
-spelled_none (LinkOn phy) fits = let k = tag_link_on phy fits in link_on_goes_on _ k.0 (first_set_zero _ 8 24 refl k.1)
+use Rattle.fw_phy.specs.Phy.{Fits, quadlet_of, layout, bit, twice}
+use Rattle.fw_phy.proofs.TagLaws.{tag_self, tag_more, tag_config, tag_link_on}
 
 -- the items from a place on
 abbrev reads : List ℕ → ℕ → ℕ → List ℕ
@@ -152,7 +105,7 @@ same_packet (LinkOn x) (SelfId t) f g e = apart _ _ 0 1 1 2 (tag_link_on x f).0 
 same_packet (LinkOn x) (SelfIdMore t) f g e = apart _ _ 0 1 1 2 (tag_link_on x f).0 (tag_more t g).0 (λ z. cc) e
 same_packet (LinkOn x) (Config a' b' c' d') f g e = apart _ _ 0 1 1 0 (tag_link_on x f).0 (tag_config a' d' b' c' g).0 (λ z. cc) e
 
-same_twice : (q r : ℕ) → q < 2 ^ 32 → r < 2 ^ 32 → twice q ≡ twice r → q ≡ r
+pub same_twice : (q r : ℕ) → q < 2 ^ 32 → r < 2 ^ 32 → twice q ≡ twice r → q ≡ r
 same_twice q r a b e =
     let at = λ (i : ℕ). ap (λ bs. get_or bs i 0) e in
     let b0 : q / 16777216 % 256 ≡ r / 16777216 % 256 = at 0 in
@@ -161,27 +114,8 @@ same_twice q r a b e =
     let b3 : q % 256 ≡ r % 256 = at 3 in
     omega arith
 
-below : (p : PhyPacket) → Fits p → quadlet_of p < 2 ^ 32
+pub below : (p : PhyPacket) → Fits p → quadlet_of p < 2 ^ 32
 below (SelfId s) f = omega (arith, f.fields)
 below (SelfIdMore s) f = omega (arith, f.fields)
 below (Config a b c d) f = omega (arith, f.fields)
 below (LinkOn x) f = omega (arith, f.fields)
-
-pub eight : (b f s : List ℕ) → f ≡ take 4 b → s ≡ take 4 (drop 4 b) → take 8 b ≡ f ++ s
-eight b f s e g = take-add 4 4 b ∙ ap (λ t. t ++ take 4 (drop 4 b)) (sym e) ∙ ap (λ t. f ++ t) (sym g)
-
-pub fault_of : (b : List ℕ) (q r : ℕ) → 8 ≤ length b → q ≡ quadlet_at b 0 → r ≡ quadlet_at b 4 → r ≡ 2 ^ 32 - 1 - q → phy_fault b ≡ option_map Reserved (reserved_bit q)
-fault_of b q r enough first second inverse = grind (arith, nat_tests)
-
-pub found_of : (r : Result PhyPacket PhyFault) (q : ℕ) (bytes : List ℕ) → bytes ≡ twice q → IfOk r (λ p. Fits p × (quadlet_of p ≡ q)) → IfOk r (λ p. Fits p × (bytes ≡ spelling p))
-found_of (Ok p) q bytes e h = (h.0, e ∙ ap twice (sym h.1))
-found_of (Err f) q bytes e h = tt
-
-pub only_of : (r : Result PhyPacket PhyFault) (q : ℕ) (bytes : List ℕ) → q < 2 ^ 32 → bytes ≡ twice q → result_err r ≡ option_map Reserved (reserved_bit q) → IfOk r (λ p. Fits p × (quadlet_of p ≡ q)) → (p : PhyPacket) → Fits p → bytes ≡ spelling p → r ≡ Ok p
-only_of (Ok p') q bytes small e fault found p fits spelled =
-    let same : q ≡ quadlet_of p = same_twice q (quadlet_of p) small (below p fits) (sym e ∙ spelled) in
-    ap Ok (same_packet p' p found.0 fits (found.1 ∙ same))
-only_of (Err f) q bytes small e fault found p fits spelled =
-    let same : q ≡ quadlet_of p = same_twice q (quadlet_of p) small (below p fits) (sym e ∙ spelled) in
-    let none : option_map Reserved (reserved_bit q) ≡ None = ap (λ n. option_map Reserved (reserved_bit n)) same ∙ ap (option_map Reserved) (spelled_none p fits) in
-    cc (fault ∙ none)
