@@ -48,7 +48,7 @@ feeds_entry s old piece i r new t more same h =
     let P : List ℕ → Type 0 = Spells s t in
     let Q : Stand → Type 0 = λ x. Spells x t (r.taken ++ get_or piece i 0 ∷ []) in
     let le : i + 1 ≤ length piece = omega arith in
-    (le, h.0 ∙ ap (λ (x : Stand). after x (r.taken ++ get_or piece i 0 ∷ []) t) d ∙ ap (λ (x : List ℕ). after s x t) e, subst P e (subst Q d h.1))
+    (record { within = le; spells = subst P e (subst Q d h.1) }, h.0 ∙ ap (λ (x : Stand). after x (r.taken ++ get_or piece i 0 ∷ []) t) d ∙ ap (λ (x : List ℕ). after s x t) e)
 
 pub feeds_fault : (s : Stand) (old piece : List ℕ) (i : ℕ) (r new : State) (f : LogFault) → i < length piece → r ≡ with_bytes s (old ++ take i piece) → IsPending s (old ++ take i piece) → TakesByte r.stand r.taken (get_or piece i 0) (Err f) new
     → Feeds s old piece (Err f) new
@@ -57,7 +57,7 @@ feeds_fault s old piece i r new f more same pending h =
     let d = stand_of s (old ++ take i piece) r same in
     let P : List ℕ → Type 0 = λ x. Faulty s x f in
     let Q : Stand → Type 0 = λ x. Faulty x (r.taken ++ get_or piece i 0 ∷ []) f in
-    (h.0, (i, more, pending, subst P e (subst Q d h.1)))
+    ((i, record { within = more; before = pending; shown = subst P e (subst Q d h.1) }), h.0)
 
 pub if_none_by : {A : Type 0} (o : Option A) (P : Type 0) → P → IfNone o P
 if_none_by None P h = h

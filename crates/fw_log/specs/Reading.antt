@@ -1,5 +1,5 @@
 -- What the bytes of a log show before an entry is whole: a fault, or how many bytes the entry takes.
-use Rattle.std.specs.Prelude.{◌≡◌, ℕ, ◌+◌, ◌*◌, ◌≤◌, ◌<◌, ◌==◌, ◌||◌, ◌&&◌, not, nat_le, nat_lt, List, [], ◌++◌, Bool, true, Option, Some, None, length, slice_index, take, drop, if◌then◌else◌, ◌⊎◌}
+use Rattle.std.specs.Prelude.{◌≡◌, ℕ, ◌+◌, ◌*◌, ◌≤◌, ◌<◌, ◌==◌, ◌||◌, ◌&&◌, not, nat_le, nat_lt, List, [], ◌++◌, Bool, true, false, Option, Some, None, length, slice_index, take, drop, if◌then◌else◌, ◌⊎◌}
 use Rattle.std.specs.Int.{from_be_bytes, w64}
 use Rattle.fw_words.specs.Quadlet.{quadlet_at}
 use Rattle.fw_log.specs.Log.{header_bytes, entry_bytes, TimedFits}
@@ -87,6 +87,7 @@ abbrev pub header_at : ℕ → List ℕ
 header_at start = if start == 0 then header_bytes else []
 
 pub record Spells (s : Stand) (t : Timed) (bytes : List ℕ) : Type 0 where
+  pub going_on : s.ended ≡ false
   pub fits : TimedFits t
   pub later : s.last ≤ t.cycle
   pub same : header_at s.start ++ entry_bytes t ≡ bytes
@@ -100,6 +101,7 @@ pub record HeadFits (last : ℕ) (e : List ℕ) : Type 0 where
 
 -- what stands before a whole entry, and the entry
 pub record WholeHead (s : Stand) (bytes : List ℕ) : Type 0 where
+  pub going_on : s.ended ≡ false
   pub head : HeadFits s.last (drop (skip s.start) bytes)
   pub before : header_at s.start ++ drop (skip s.start) bytes ≡ bytes
   pub size : length (drop (skip s.start) bytes) ≡ 12 + 4 * length_of (drop (skip s.start) bytes)

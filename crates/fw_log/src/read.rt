@@ -1,10 +1,13 @@
 //! A reader of logs.
 
-ghost use Rattle.std.specs.Prelude.{ℕ, ◌≡◌, ◌≤◌, ◌<◌, ◌+◌, ◌-◌, ◌*◌, ◌^◌, ◌++◌, ◌∷◌, [], length, take, drop, IfSome, IfNone, IfOk, None, true, false};
+ghost use Rattle.std.specs.Prelude.{ℕ, ◌≡◌, ◌≤◌, ◌<◌, ◌+◌, ◌-◌, ◌*◌, ◌^◌, ◌++◌, ◌∷◌, [], length, take, drop, IfSome, IfNone, IfOk, Some, None, Ok, Err, List};
 ghost use Rattle.std.specs.Result.{result_err};
-ghost use Rattle.fw_log.specs.Log.{is_end};
+ghost use Rattle.fw_log.specs.Log.{is_end, LogOpens};
 ghost use Rattle.fw_log.specs.Reading.{need, Stand, WholeHead};
-ghost use Rattle.fw_log.specs.Reader.{State, with_bytes, WholeJudges, Judges, TakesByte, Feeds, finish_of};
+ghost use Rattle.fw_log.specs.Reader.{State, with_bytes, WholeJudges, Judges, TakesByte, EndsEntry, EndsNothing, ShowsFault, Feeds, finish_of};
+ghost use Rattle.fw_log.specs.Whole.{stand_after, HasRead, ReadsOn, GivesNext, Finishes};
+ghost use Rattle.fw_log.specs.declared.LogFault.{LogFault};
+ghost use Rattle.fw_log.specs.declared.entry.Timed.{Timed};
 
 use crate::read_body::entry_of;
 use crate::read_head::{cycle_of, head_fault, need, rest, skip};
@@ -86,7 +89,8 @@ impl Model for LogReader {
 impl LogReader {
     /// No byte was taken. It makes the room for a header and the longest entry.
     pub fn new(alloc: Global) -> Result<Self, AllocError>
-        ensures { IfOk result (λ r. r ≡ with_bytes (record { start = 0; last = 0; ended = false }) []) }
+        ensures stand { IfOk result (λ r. r ≡ with_bytes (stand_after []) []) }
+        ensures begins { IfOk result (HasRead [] []) }
     {
         Ok(LogReader {
             taken: Vec::with_capacity(alloc, 2304)?,
@@ -152,6 +156,16 @@ impl LogReader {
         requires { self.old.stand.start + length self.old.taken + length piece.now < 2 ^ 64 }
         ensures kept { IfSome self.old.fault (λ f. (result ≡ Err f) × (self.new ≡ self.old)) }
         ensures fresh { IfNone self.old.fault (Feeds self.old.stand self.old.taken piece.now result self.new) }
+
+        // An entry, none and a fault come exactly where the bytes since the last entry make them.
+        ensures entry { IfNone self.old.fault ((k : ℕ) → (t : Timed) → EndsEntry self.old.stand self.old.taken piece.now k t → result ≡ Ok (record { used = k; entry = Some t })) }
+        ensures none { IfNone self.old.fault (EndsNothing self.old.stand self.old.taken piece.now → result ≡ Ok (record { used = length piece.now; entry = None })) }
+        ensures fault { IfNone self.old.fault ((k : ℕ) → (f : LogFault) → ShowsFault self.old.stand self.old.taken piece.now k f → result ≡ Err f) }
+
+        // All that was fed since the reader began is the entries that were given and a part of one more; a fault comes
+        // only where no log goes on, and of a log each entry that is given is the next.
+        ensures history { (entries : List Timed) → (bytes : List ℕ) → HasRead entries bytes self.old → ReadsOn entries bytes piece.now result self.new }
+        ensures log { (entries all : List Timed) → (bytes more : List ℕ) → HasRead entries bytes self.old → LogOpens all (bytes ++ (piece.now ++ more)) → GivesNext all entries result }
     {
         match self.fault {
             Some(fault) => Err(fault),
@@ -159,28 +173,35 @@ impl LogReader {
         }
     }
 
-    /// What the input's end makes of it.
+    // The fault that the input's end is, where it is one.
+    fn end_fault(&self) -> Option<LogFault>
+        requires { self.now.stand.start + length self.now.taken < 2 ^ 64 }
+        ensures { result ≡ finish_of self.now }
+    {
+        if self.fault.is_some() || self.ended {
+            return self.fault;
+        }
+        let why = if self.taken.len() == skip(self.start) {
+            LogWhy::NoEnd
+        } else {
+            LogWhy::Cut
+        };
+        Some(LogFault {
+            place: self.start + self.taken.len() as u64,
+            why,
+        })
+    }
+
+    /// Whether the log is whole, at the input's end. `Cut` comes where the input ended inside the header or an entry,
+    /// `NoEnd` where it ended after one of them and the last entry was not the end; a fault of `feed` is answered again.
     pub fn finish(&self) -> Result<(), LogFault>
         requires { self.now.stand.start + length self.now.taken < 2 ^ 64 }
-        ensures { result_err result ≡ finish_of self.now }
+        ensures fault { result_err result ≡ finish_of self.now }
+        ensures log { (entries : List Timed) → (bytes : List ℕ) → HasRead entries bytes self.now → Finishes entries bytes result }
     {
-        if let Some(fault) = self.fault {
-            return Err(fault);
-        }
-        if self.ended {
-            return Ok(());
-        }
-        let place = self.start + self.taken.len() as u64;
-        if self.taken.len() == skip(self.start) {
-            Err(LogFault {
-                place,
-                why: LogWhy::NoEnd,
-            })
-        } else {
-            Err(LogFault {
-                place,
-                why: LogWhy::Cut,
-            })
+        match self.end_fault() {
+            Some(fault) => Err(fault),
+            None => Ok(()),
         }
     }
 }
