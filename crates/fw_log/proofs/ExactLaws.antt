@@ -1,5 +1,5 @@
 -- What a reader makes of a piece is the only thing that it can be.
-use Rattle.std.proofs.Common.{◌≡◌, inl, inr, ℕ, ◌+◌, ◌-◌, ◌≤◌, List, ◌++◌, flat_map, length, take, drop, Option, Some, None, Result, Ok, Err, arith, refl, ap, sym, subst, ◌∙◌, append_assoc, length-append, take-add}
+use Rattle.std.proofs.Common.{◌≡◌, inl, inr, ℕ, ◌+◌, ◌-◌, ◌≤◌, List, ◌++◌, flat_map, length, take, drop, Option, Some, None, Result, Ok, Err, arith, refl, ap, sym, subst, ◌∙◌, length-append}
 use Rattle.std.proofs.lemmas.Bool.{cases_lt}
 use Rattle.std.proofs.lemmas.List.{take_all, take-take, length-take-le, take-append-drop}
 use Rattle.fw_async.proofs.NeedLaws.{fault_stays}
@@ -10,7 +10,8 @@ use Rattle.fw_async.specs.declared.packet.Packet.{Packet as AsyncPacket}
 use Rattle.fw_async.specs.declared.PacketFault.{PacketFault}
 use Rattle.fw_phy.specs.Phy.{spelling}
 use Rattle.fw_log.specs.Bodies.{IsBody, BodyRefused, PacketRefuses, refusal}
-use Rattle.fw_log.specs.Reading.{Stand, IsPending, Spells, Faulty, WrongBody, head_fault, need, skip, fault_at}
+use Rattle.fw_log.specs.Reading.{IsPending, Spells, Faulty, WrongBody, need, skip, fault_at}
+use Rattle.fw_log.specs.declared.stand.Stand.{Stand}
 use Rattle.fw_log.specs.Reader.{State, Feeds, FeedsTo, EndsEntry, ShowsFault, EndsNothing}
 use Rattle.fw_log.specs.declared.entry.Entry.{Entry}
 use Rattle.fw_log.specs.declared.entry.Timed.{Timed}
@@ -22,7 +23,8 @@ use Rattle.fw_log.specs.declared.LogWhy.TheVariants.{BadBody}
 use Rattle.fw_log.proofs.BodyLaws.{packet_in}
 use Rattle.fw_log.proofs.IdsLaws.{ids_clear}
 use Rattle.fw_log.proofs.ResetLaws.{reset_in, body_has, shape_of}
-use Rattle.fw_log.proofs.StayLaws.{head_stays, need_done, no_whole_front}
+use Rattle.fw_log.proofs.FeedLaws.{further, stays}
+use Rattle.fw_log.proofs.StayLaws.{need_done, no_whole_front}
 use Rattle.fw_log.proofs.SameLaws.{spelled_clear, spelled_whole, same_spelled, spelled_body}
 
 -- a packet is refused at one byte, and for one reason
@@ -82,20 +84,10 @@ pub not_faulty : {A : Type 0} (s : Stand) (t : Timed) (bytes : List ℕ) (f : Lo
 not_faulty s t bytes f h (inl a) = cc (a, spelled_clear s t bytes h)
 not_faulty s t bytes f h (inr b) = absurd (not_refused _ _ t.what b.wrong.why (spelled_body s t bytes h) b.wrong.refused)
 
--- what lies between two places of a piece
-between : List ℕ → ℕ → ℕ → List ℕ
-between piece i k = take (k - i) (drop i piece)
-
-further : (old piece : List ℕ) (i k : ℕ) → i ≤ k → old ++ take k piece ≡ (old ++ take i piece) ++ between piece i k
-unfolding between
-further old piece i k le =
-    let e : k ≡ i + (k - i) = omega arith in
-    ap (λ (n : ℕ). old ++ take n piece) e ∙ ap (λ t. old ++ t) (take-add i (k - i) piece) ∙ sym (append_assoc old (take i piece) (take (k - i) (drop i piece)))
-
 -- a whole entry has no front that is whole, pending bytes have none, and a fault stays
 whole_once : (s : Stand) (old piece : List ℕ) (i k : ℕ) → i ≤ k → k ≤ length piece → length (old ++ take i piece) ≡ need s (old ++ take i piece) → length (old ++ take k piece) ≡ need s (old ++ take k piece) → i ≡ k
 whole_once s old piece i k le within a b =
-    let done : need s (old ++ take k piece) ≡ length (old ++ take i piece) = ap (need s) (further old piece i k le) ∙ need_done s (old ++ take i piece) (between piece i k) a in
+    let done : need s (old ++ take k piece) ≡ length (old ++ take i piece) = ap (need s) (further old piece i k le) ∙ need_done s (old ++ take i piece) (take (k - i) (drop i piece)) a in
     let same : length (old ++ take k piece) ≡ length (old ++ take i piece) = b ∙ done in
     let x : length (take i piece) ≡ i = length-take-le i piece (omega arith) in
     let y : length (take k piece) ≡ k = length-take-le k piece within in
@@ -104,10 +96,7 @@ whole_once s old piece i k le within a b =
 pub never_whole : {A : Type 0} (s : Stand) (old piece : List ℕ) (i k : ℕ) → i ≤ k → length (old ++ take i piece) ≡ need s (old ++ take i piece) → IsPending s (old ++ take k piece) → A
 never_whole s old piece i k le a pending =
     let P : List ℕ → Type 0 = IsPending s in
-    no_whole_front s (old ++ take i piece) (between piece i k) (subst P (further old piece i k le) pending) a
-
-stays : (s : Stand) (old piece : List ℕ) (i k : ℕ) (f : LogFault) → i ≤ k → head_fault s (old ++ take i piece) ≡ Some f → head_fault s (old ++ take k piece) ≡ Some f
-stays s old piece i k f le h = ap (head_fault s) (further old piece i k le) ∙ head_stays s (old ++ take i piece) (between piece i k) f h
+    no_whole_front s (old ++ take i piece) (take (k - i) (drop i piece)) (subst P (further old piece i k le) pending) a
 
 -- no part is refused in front of pending bytes, nor in front of an entry's
 never_faulty : {A : Type 0} (s : Stand) (old piece : List ℕ) (i k : ℕ) (f : LogFault) → i ≤ k → Faulty s (old ++ take i piece) f → IsPending s (old ++ take k piece) → A

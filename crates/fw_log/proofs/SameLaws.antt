@@ -9,7 +9,8 @@ use Rattle.fw_words.specs.Quadlet.{quadlet_at}
 use Rattle.fw_async.proofs.SameLaws.{same_packet}
 use Rattle.fw_log.specs.Log.{header_bytes, quads, event_quads, outcome_quads, shown_quads, is_event, EventFits, OutcomeFits, ShownFits, is_outcome, Fits, TimedFits, kind_of, body, entry_bytes}
 use Rattle.fw_log.specs.Bodies.{IsBody}
-use Rattle.fw_log.specs.Reading.{Stand, tested, fault_at, length_of, cycle_of, is_built, is_kind, is_length, entry_fault, header_fault, head_fault, skip, header_at, entry_need, need, Spells}
+use Rattle.fw_log.specs.Reading.{tested, fault_at, length_of, cycle_of, is_built, is_kind, is_length, entry_fault, header_fault, head_fault, skip, header_at, entry_need, need, Spells}
+use Rattle.fw_log.specs.declared.stand.Stand.{Stand}
 use Rattle.fw_log.specs.declared.entry.Entry.{Entry}
 use Rattle.fw_log.specs.declared.entry.Entry.TheVariants.{Reset, Async, Event, Outcome, Shown, End}
 use Rattle.fw_log.specs.declared.entry.EventEntry.{EventEntry}

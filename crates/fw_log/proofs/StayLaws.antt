@@ -6,7 +6,8 @@ use Rattle.std.proofs.lemmas.List.{get_or_append_left, take-append-le, drop-appe
 use Rattle.std.specs.Int.{from_be_bytes, w64}
 use Rattle.fw_words.specs.Quadlet.{quadlet_at}
 use Rattle.fw_async.proofs.NeedLaws.{quadlet_at-append}
-use Rattle.fw_log.specs.Reading.{Stand, tested, fault_at, length_of, cycle_of, is_built, is_kind, is_length, entry_fault, header_fault, head_fault, skip, entry_need, need, IsPending}
+use Rattle.fw_log.specs.Reading.{tested, fault_at, length_of, cycle_of, is_built, is_kind, is_length, entry_fault, header_fault, head_fault, skip, entry_need, need, IsPending}
+use Rattle.fw_log.specs.declared.stand.Stand.{Stand}
 use Rattle.fw_log.specs.declared.LogFault.{LogFault}
 use Rattle.fw_log.specs.declared.LogWhy.TheVariants.{AfterEnd}
 
@@ -89,6 +90,27 @@ need_done s front more whole =
     let done : entry_need (drop (skip s.start) front ++ more) ≡ length (drop (skip s.start) front) =
     done_by (length (drop (skip s.start) front)) (length (drop (skip s.start) front ++ more)) (length_of (drop (skip s.start) front)) (length_of (drop (skip s.start) front ++ more)) size le (length_of-append (drop (skip s.start) front) more) in
     ap (λ e. skip s.start + entry_need e) cut ∙ omega (arith, done, length-drop (skip s.start) front)
+
+-- One byte more never makes an entry shorter.
+grows_by : (n m l k : ℕ) → n ≤ m → (4 ≤ n → k ≡ l) → (if nat_lt n 4 then 12 else 12 + 4 * l) ≤ (if nat_lt m 4 then 12 else 12 + 4 * k)
+grows_by n m l k le same = grind (arith, nat_tests, same)
+
+no_entry_yet : (e : List ℕ) → length e ≡ 0 → entry_need e ≡ 12
+no_entry_yet e none = by (length e) (length_of e) none
+  where
+    by : (n l : ℕ) → n ≡ 0 → (if nat_lt n 4 then 12 else 12 + 4 * l) ≡ 12
+    by n l e = grind (arith, nat_tests)
+
+pub need_grows : (s : Stand) (bytes more : List ℕ) → need s bytes ≤ need s (bytes ++ more)
+need_grows s bytes more =
+    elim (cases_lt (length bytes) (skip s.start)) [
+      | inl short ↦ let low = need_least s (bytes ++ more) in omega (arith, low, no_entry_yet (drop (skip s.start) bytes) (omega (arith, length-drop (skip s.start) bytes)))
+      | inr long ↦
+          let le : length (drop (skip s.start) bytes) ≤ length (drop (skip s.start) bytes ++ more) = omega (arith, length-append (drop (skip s.start) bytes) more) in
+          let grows : entry_need (drop (skip s.start) bytes) ≤ entry_need (drop (skip s.start) bytes ++ more) =
+          grows_by (length (drop (skip s.start) bytes)) (length (drop (skip s.start) bytes ++ more)) (length_of (drop (skip s.start) bytes)) (length_of (drop (skip s.start) bytes ++ more)) le (length_of-append (drop (skip s.start) bytes) more) in
+          rw (drop-append-le (skip s.start) bytes more long) (omega (arith, grows))
+    ]
 
 -- bytes that are pending have no front that is whole
 pub no_whole_front : {A : Type 0} (s : Stand) (front more : List ℕ) → IsPending s (front ++ more) → length front ≡ need s front → A

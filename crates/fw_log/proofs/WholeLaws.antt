@@ -6,7 +6,8 @@ use Rattle.std.proofs.lemmas.Grind.{flat_map-append}
 use Rattle.std.proofs.lemmas.List.{append-nil, append_cancel_left, take_at, drop_at, take-append-drop, take-append-le, take-take, length-take-le, nil_from_length}
 use Rattle.std.specs.Result.{result_err}
 use Rattle.fw_log.specs.Log.{header_bytes, entry_bytes, is_end, EndsAt, InOrder, HasEnd, TimedFits, LogOpens, LogSpells}
-use Rattle.fw_log.specs.Reading.{Stand, IsPending, Spells, Faulty, length_of, header_fault, entry_fault, head_fault, skip, header_at, fault_at}
+use Rattle.fw_log.specs.Reading.{IsPending, Spells, Faulty, length_of, header_fault, entry_fault, head_fault, skip, header_at, fault_at}
+use Rattle.fw_log.specs.declared.stand.Stand.{Stand}
 use Rattle.fw_log.specs.Reader.{State, Feeds, FeedsTo, EndsEntry, ShowsFault, after, with_bytes, finish_of, finish_by}
 use Rattle.fw_log.specs.Whole.{bytes_of, last_cycle, ended_by, stand_after, HasRead, BeginsNoLog, ReadsTo, ReadsOn, IsNext, GivesNext, Finishes}
 use Rattle.fw_log.specs.declared.entry.Entry.{Entry}
