@@ -11,6 +11,7 @@ mod read;
 mod read_body;
 mod read_head;
 mod read_reset;
+mod stand;
 mod write;
 mod write_body;
 
