@@ -9,3 +9,5 @@ pub mod Tests
 pub mod Decode
 pub mod Decoded
 pub mod Fold
+pub mod Places
+pub mod Accesses
