@@ -11,3 +11,7 @@ pub mod Decoded
 pub mod Fold
 pub mod Places
 pub mod Accesses
+pub mod Example
+pub mod Listing
+pub mod Refused
+pub mod Resets
