@@ -18,7 +18,8 @@ use Rattle.fw_ledger.specs.Packets.{asked, ended, is_reply_to, is_swapped, moved
 use Rattle.fw_ledger.specs.Fold.{next_account, next_of, account_of}
 use Rattle.fw_ledger.specs.Sound.{IsSound}
 use Rattle.fw_ledger.proofs.Decoded.{move_found}
-use Rattle.fw_ledger.proofs.Fold.{device_below, account_from-append}
+use Rattle.fw_ledger.proofs.Packets.{device_below}
+use Rattle.fw_ledger.proofs.Fold.{account_from-append}
 
 -- argument and new value of a quadlet compare_swap
 abbrev pub swap_bytes : ℕ → ℕ → List ℕ

@@ -1,13 +1,16 @@
 pub mod Network
 pub mod Connections
+pub mod Allocations
 pub mod Moves
 pub mod Events
+pub mod Deaths
 pub mod Shared
 pub mod Reclaims
 pub mod Words
 pub mod Tests
 pub mod Decode
 pub mod Decoded
+pub mod Packets
 pub mod Fold
 pub mod Places
 pub mod Accesses

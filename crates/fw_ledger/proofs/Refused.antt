@@ -21,7 +21,7 @@ use Rattle.fw_ledger.specs.Refused.{IsRequestRefused, NoNode, Overlap, Ends, IsR
 use Rattle.fw_ledger.specs.Sound.{IsSound}
 use Rattle.fw_ledger.proofs.Network.{not_both}
 use Rattle.fw_ledger.proofs.Decoded.{move_at_is, move_found}
-use Rattle.fw_ledger.proofs.Fold.{device_below}
+use Rattle.fw_ledger.proofs.Packets.{device_below}
 
 some_is : {A : Type 0} (v : A) → Some v ≡ None → ⊥
 some_is v e = cc
