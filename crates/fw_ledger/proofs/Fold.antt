@@ -21,6 +21,7 @@ use Rattle.fw_base.proofs.Tables.{sum_to_zero}
 use Rattle.fw_ledger.proofs.Network.{not_both}
 use Rattle.fw_ledger.proofs.Events.{reset_keeps, second_ends}
 use Rattle.fw_ledger.proofs.Deaths.{death_keeps}
+pub use Rattle.fw_ledger.proofs.Packets.{asked_keeps, ended_keeps, device_below}
 use Rattle.fw_ledger.proofs.Packets.{packet_keeps, unchanged}
 
 -- ---- entries

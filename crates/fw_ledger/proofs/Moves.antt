@@ -13,7 +13,8 @@ use Rattle.std.proofs.lemmas.Bool.{false≢true}
 use Rattle.fw_ledger.specs.Network.{is_input}
 use Rattle.fw_ledger.proofs.Network.{not_both, no_inputs}
 use Rattle.fw_ledger.proofs.Connections.{has_connection_added, room_after, had_connection, fewer_connections, NoneBeyond, none_beyond_added, none_beyond_dropped}
-use Rattle.fw_ledger.proofs.Allocations.{total_changed, allocate_channel, allocate_units, release_channel, release_units}
+pub use Rattle.fw_ledger.proofs.Allocations.{total_changed}
+use Rattle.fw_ledger.proofs.Allocations.{allocate_channel, allocate_units, release_channel, release_units}
 
 -- other connections at a plug that had some, and has some
 with_other_connections : (p : PlugAt) (new : Connections) (l : Account) → IsSound l → has_connection (l.outputs p) ≡ true → has_connection new ≡ true → counter new ≤ 63 → NoneBeyond new → IsSound (with_outputs p new l)
