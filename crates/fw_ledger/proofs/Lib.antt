@@ -18,3 +18,4 @@ pub mod Example
 pub mod Listing
 pub mod Refused
 pub mod Resets
+pub mod Transactions

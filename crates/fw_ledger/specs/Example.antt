@@ -8,7 +8,7 @@ use Rattle.fw_log.specs.declared.entry.Entry.TheVariants.{Reset, Async, Event, O
 use Rattle.std.specs.Prelude.{ℕ, true, false, Option, Some, option_map, List, [], ◌∷◌, ◌++◌}
 use Rattle.std.specs.Int.{to_be_bytes, w32}
 use Rattle.fw_ledger.specs.Account.{Account}
-use Rattle.fw_ledger.specs.Words.{BandwidthAvailable, ChannelsAvailable, OutputPlug, word_of}
+use Rattle.fw_ledger.specs.Words.{BandwidthAvailable, ChannelsAvailable, OutputPlug, InputPlug, word_of}
 use Rattle.fw_ledger.specs.Fold.{account_of}
 
 abbrev pub head : Head
@@ -61,3 +61,18 @@ registers_after es = option_map registers_of (account_of es)
 -- in the reclaim second of the second reset, a channel that no flow had
 abbrev pub other_channel : List Entry
 other_channel = first_path ++ reset 2 ∷ (read 0xffff_f000_0904 0x803f007a ++ swap 0xffff_f000_0228 0xffffffff 0xfffffffd)
+
+-- a connection of the output plug with no channel and units for it
+abbrev pub not_allocated : List Entry
+not_allocated = reset 1 ∷ swap 0xffff_f000_0904 0x803f007a 0xc03f007a
+
+-- the deck also listens, on channel 63
+abbrev pub listening : List Entry
+listening = first_path ++ read 0xffff_f000_0984 0x803f0000 ++ swap 0xffff_f000_0984 0x803f0000 0xc03f0000
+
+abbrev pub input_after : List Entry → Option ℕ
+input_after es = option_map (λ l. word_of l (InputPlug (record { device = 0; plug = 0 }))) (account_of es)
+
+-- what the deck's controller took stays when it dies, up to the next reset
+abbrev pub died : List Entry
+died = first_path ++ Event (record { code = 2; device = 0; tape = 0; system = 0 }) ∷ []

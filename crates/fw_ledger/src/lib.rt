@@ -21,7 +21,7 @@ ghost use Rattle.fw_ledger.specs.Fold.{next_account, account_of};
 ghost use Rattle.fw_ledger.specs.Refused.{IsRefused};
 ghost use Rattle.fw_ledger.specs.Sound.{IsSound, IsConflictFree};
 ghost use Rattle.fw_ledger.specs.Listing.{resources, listed_units, lists_channel, IsAllocatedForFlows};
-ghost use Rattle.fw_ledger.specs.Example.{first_path, restored, other_channel, second_over, reset, registers_after};
+ghost use Rattle.fw_ledger.specs.Example.{first_path, restored, other_channel, not_allocated, listening, died, second_over, reset, registers_after, input_after};
 
 /// Each move and each event keeps the account sound, and so does each entry in the grammar of the log: at every prefix of a
 /// list of entries that has an account, there is one, and it is sound. In a sound account no channel has two talkers, and
@@ -70,5 +70,8 @@ pub fn example_has_account()
     ensures connected { registers_after first_path ≡ Some (2403 ∷ 0xfffffffe ∷ 0xc03f007a ∷ []) }
     ensures restored { registers_after restored ≡ Some (2403 ∷ 0xfffffffe ∷ 0xc03f007a ∷ []) }
     ensures other_channel { account_of other_channel ≡ None }
+    ensures not_allocated { account_of not_allocated ≡ None }
+    ensures listening { input_after listening ≡ Some 0xc03f0000 }
+    ensures died { registers_after died ≡ Some (2403 ∷ 0xfffffffe ∷ 0xc03f007a ∷ []) }
     ensures no_second { account_of (reset 1 ∷ second_over ∷ []) ≡ None }
 {}
