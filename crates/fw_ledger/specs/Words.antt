@@ -6,7 +6,7 @@ use Rattle.std.specs.Prelude.{ℕ, ◌+◌, ◌-◌, ◌*◌, ◌/◌, ◌%◌, 
 use Rattle.std.specs.Option.{option_or}
 use Rattle.fw_base.specs.Tables.{sum_to, at_plug}
 use Rattle.fw_ledger.specs.Account.{Account, is_free, is_there, counter, remainder}
-use Rattle.fw_ledger.specs.Network.{first_id, row_of_id}
+use Rattle.fw_ledger.specs.Network.{first_id, row_of_id, node_of_device}
 use Rattle.fw_plug.specs.Words.{OutFields, out_word, InFields, in_word, flag}
 
 -- the resource manager's registers, where base is the first channel of CHANNELS_AVAILABLE_HI, 0, or LO, 32; and the
@@ -75,6 +75,11 @@ abbrev pub is_node : ℕ → Option ℕ → Bool
 is_node n None = false
 is_node n (Some m) = m == n
 
+-- the node that a device is
+abbrev pub node_of : Option ResetEntry → ℕ → ℕ
+node_of None d = 0
+node_of (Some r) d = node_of_device r.nodes d
+
 -- the register of the account that stands at an offset of node n
 abbrev pub register_at : Option ResetEntry → ℕ → ℕ → Option Register
 register_at None n offset = None
@@ -83,6 +88,10 @@ register_at (Some r) n offset = option_or (if is_node n r.manager then manager_r
 -- its word
 abbrev pub word_at : Account → ℕ → ℕ → Option ℕ
 word_at l n offset = option_map (word_of l) (register_at l.latest n offset)
+
+-- the word that stands at an offset of a device
+abbrev pub word_of_device : Account → ℕ → ℕ → Option ℕ
+word_of_device l d offset = word_at l (node_of l.latest d) offset
 
 -- ---- by node ID and address
 
