@@ -27,7 +27,8 @@ use Rattle.fw_ledger.specs.Packets.{asked, ended, addressed_after}
 use Rattle.fw_ledger.specs.Fold.{no_account, next_account}
 use Rattle.fw_ledger.specs.Sound.{IsSound}
 use Rattle.fw_ledger.proofs.Events.{reset_keeps}
-use Rattle.fw_ledger.proofs.Fold.{asked_keeps, ended_keeps, starts_sound}
+use Rattle.fw_ledger.proofs.Fold.{starts_sound}
+use Rattle.fw_ledger.proofs.Packets.{asked_keeps, ended_keeps}
 use Rattle.fw_ledger.proofs.Tests.{no_pending_found}
 use Rattle.fw_step.specs.InStep.{IsInStep, HoldsPending, answer, tried, connections_of, job_connections}
 use Rattle.fw_step.specs.Moves.{try_of}

@@ -16,7 +16,10 @@ use Rattle.fw_cmp.specs.declared.stage.Stage.TheVariants.{ReadOutput}
 use Rattle.fw_cmp.specs.declared.request.Request.{Request}
 use Rattle.fw_cmp.specs.declared.request.Swap.{Swap}
 use Rattle.fw_cmp.specs.Stages.{request_of, register_of, swap_of, is_over}
-use Rattle.fw_ledger.specs.Account.{Account, Allocation, Holder, Pending, Connected, Orphaned, Request as OutstandingRequest}
+use Rattle.fw_ledger.specs.Account.{Account, Allocation, Holder, Pending, Connected, Orphaned, is_pending, is_pending_of, Request as OutstandingRequest}
+use Rattle.fw_ledger.specs.Moves.{HasNoPending}
+use Rattle.fw_ledger.specs.Listing.{IsAllocatedForFlows}
+use Rattle.fw_ledger.proofs.Listing.{flows_alone}
 use Rattle.fw_ledger.specs.Network.{device_of_id}
 use Rattle.fw_ledger.specs.Words.{Register as AccountRegister, register_of as account_register_of, word_of}
 use Rattle.fw_ledger.specs.Fold.{account_from, account_of, next_account, no_account}
@@ -34,8 +37,8 @@ use Rattle.fw_bus.specs.Packets.{request_by, request_record, response_by, respon
 use Rattle.fw_bus.specs.Turning.{asked_or_ended}
 use Rattle.fw_bus.specs.State.{State, first_state, half_says, half_after, half_says_by, answered_with}
 use Rattle.fw_bus.specs.Run.{Action, Declare, Begin, HalfStep, EndSteps, Finish, Step, Steps}
-use Rattle.fw_bus.specs.Good.{IsGood, IsAtStage, InStep, asked_of, outstanding_of}
-use Rattle.fw_bus.specs.Headline.{entries_of, IsSettled, HasOnlyFlows, IsFlow, IsSoundAt, IsSoundThroughout, IsAnswered, IsShownWord, shown_in}
+use Rattle.fw_bus.specs.Good.{IsGood, IsAtRest, IsAtStage, InStep, asked_of, outstanding_of}
+use Rattle.fw_bus.specs.Headline.{entries_of, IsSettled, IsSoundAt, IsSoundThroughout, IsAnswered, IsShownWord, shown_in}
 use Rattle.fw_bus.proofs.Accounts.{own_register, quadlet_first, word_below}
 use Rattle.fw_bus.proofs.Halves.{asks_own}
 use Rattle.fw_bus.proofs.Goods.{NextIs, half_leads, declare_leads, network_is, not_idle, step_good, steps_good, first_good}
@@ -149,20 +152,33 @@ along_front l m (e ∷ front) rest t f = let x = along_front f.1 m front rest t 
 
 -- ---- the flows of a settled state
 
-only_flows : (s : State) → IsGood s → IsSettled s → HasOnlyFlows s.account
-only_flows s g settled ch x e = go x.holder (e ∙ refl)
+settled_flows : (s : State) → IsGood s → IsSettled s → IsAllocatedForFlows s.account
+settled_flows s g settled = (flows_alone s.account g.sound).0 (λ c. of (cases_eq c 0))
   where
-    go : (h : Holder) → s.account.allocations ch ≡ Some (record { holder = h; units = x.units }) → IsFlow s.account h
-    go (Connected p) is = (g.sound.connected ch p x.units is).0
-    go (Orphaned p) is = tt
-    go (Pending c p) is = own (cases_eq c 0)
+    rest : IsAtRest s.account s.others
+    rest = subst (λ k. InStep s.account k s.others) settled.idle g.step
+
+    -- an allocation is not one of a device that addressed nothing
+    other : (c ch : ℕ) → c ≢ 0 → (o : Option Allocation) → s.account.allocations ch ≡ o → is_pending c o ≡ false
+    other c ch ne None e = refl
+    other c ch ne (Some x) e = go x.holder e
       where
-        own : (c ≡ 0) ⊎ (c ≢ 0) → ⊥
-        own (inr ne) = let no : None ≡ Some p = sym (g.alone c ne) ∙ g.sound.for_addressed c ch p x.units is in cc
-        own (inl zero_) =
-            let rest = subst (λ k. InStep s.account k s.others) settled.idle g.step in
-            let pending = rest.no_pending ch in
-            grind (arith, nat_tests, is, pending, zero_)
+        pending_ : (d : ℕ) (p : PlugAt) → s.account.allocations ch ≡ Some (record { holder = Pending d p; units = x.units }) → (b : Bool) → eqb c d ≡ b → b ≡ false
+        pending_ d p is false e = refl
+        pending_ d p is true e =
+            let same : c ≡ d = grind (arith, nat_tests) in
+            let no : None ≡ Some p = sym (g.alone c ne) ∙ ap s.account.addressed same ∙ g.sound.for_addressed d ch p x.units is in
+            let bad : ⊥ = cc in
+            absurd bad
+
+        go : (h : Holder) → s.account.allocations ch ≡ Some (record { holder = h; units = x.units }) → is_pending_of c h ≡ false
+        go (Pending d p) is = pending_ d p is (eqb c d) refl
+        go (Connected p) is = refl
+        go (Orphaned p) is = refl
+
+    of : {c : ℕ} → (c ≡ 0) ⊎ (c ≢ 0) → HasNoPending c s.account.allocations
+    of {c} (inl zero_) = subst (λ k. HasNoPending k s.account.allocations) (sym zero_) rest.no_pending
+    of {c} (inr ne) = λ ch. other c ch ne (s.account.allocations ch) refl
 
 sound_at : (xs : List Action) (front : List Timed) (s : State) → Steps first_state xs front s → IsSoundAt front s
 sound_at xs front s f =
@@ -172,7 +188,7 @@ sound_at xs front s f =
       sound = g.sound;
       free = is_conflict_free s.account g.sound;
       step = g.step;
-      settled = only_flows s g;
+      settled = settled_flows s g;
     }
 
 -- ---- fronts

@@ -7,7 +7,8 @@ use Rattle.fw_async.specs.declared.packet.Packet.TheVariants.{WriteQuadlet, Writ
 use Rattle.fw_log.specs.declared.entry.Entry.{Entry}
 use Rattle.fw_log.specs.declared.entry.Entry.TheVariants.{Reset, Async, Event, Outcome, Shown, End}
 use Rattle.fw_log.specs.declared.entry.Timed.{Timed}
-use Rattle.fw_ledger.specs.Account.{Account, Allocation, Holder, Pending, Connected, Orphaned, Request, has_connection}
+use Rattle.fw_ledger.specs.Account.{Account, Request}
+use Rattle.fw_ledger.specs.Listing.{IsAllocatedForFlows}
 use Rattle.fw_ledger.specs.Network.{device_of_id}
 use Rattle.fw_ledger.specs.Words.{Register, register_of, word_of}
 use Rattle.fw_ledger.specs.Fold.{account_of}
@@ -26,22 +27,13 @@ pub record IsSettled (s : State) : Type 0 where
   pub no_second : IsFalse s.account.reclaiming
   pub idle : s.controller ≡ Idle
 
-abbrev pub IsFlow : Account → Holder → Type 0
-IsFlow l (Pending c p) = ⊥
-IsFlow l (Connected p) = IsTrue (has_connection (l.outputs p))
-IsFlow l (Orphaned p) = ⊤
-
--- what is allocated is that of the connected output plugs, and what controllers that died since the reset left
-abbrev pub HasOnlyFlows : Account → Type 0
-HasOnlyFlows l = (ch : ℕ) (x : Allocation) → l.allocations ch ≡ Some x → IsFlow l x.holder
-
 -- a state to which these entries lead
 pub record IsSoundAt (log : List Timed) (s : State) : Type 0 where
   pub account : account_of (entries_of log) ≡ Some s.account
   pub sound : IsSound s.account
   pub free : IsConflictFree s.account
   pub step : InStep s.account s.controller s.others
-  pub settled : IsSettled s → HasOnlyFlows s.account
+  pub settled : IsSettled s → IsAllocatedForFlows s.account
 
 -- ---- answers
 

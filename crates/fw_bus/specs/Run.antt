@@ -45,13 +45,31 @@ actions_of (Broadcast name plug overhead) = Begin overhead ∷ []
 actions_of (StepCommand name count) = times count HalfStep ++ EndSteps ∷ []
 actions_of End = Finish ∷ []
 
--- The command is the line that comes next in a script of four lines that name one deck of one port at 100 Mbit/s.
+-- ---- the four lines of a script that names one deck of one port at 100 Mbit/s
+
+abbrev pub IsDevice : Command → Type 0
+IsDevice (Device n kind ports speed) = (kind ≡ 1) × (ports ≡ 1) × (speed ≡ 0)
+IsDevice _ = ⊥
+
+abbrev pub IsBroadcast : List ℕ → Command → Type 0
+IsBroadcast name (Broadcast n plug overhead) = (n ≡ name) × (plug ≡ (name, 0)) × (overhead < 16)
+IsBroadcast name _ = ⊥
+
+abbrev pub IsStep : List ℕ → Command → Type 0
+IsStep name (StepCommand n count) = (n ≡ name) × (1 ≤ count) × (count ≤ 10000)
+IsStep name _ = ⊥
+
+abbrev pub IsEnd : Command → Type 0
+IsEnd End = ⊤
+IsEnd _ = ⊥
+
+-- the command is the line that comes next
 abbrev pub IsNext : Expected → List ℕ → Command → Type 0
-IsNext DeviceLine name (Device n kind ports speed) = (kind ≡ 1) × (ports ≡ 1) × (speed ≡ 0)
-IsNext BroadcastLine name (Broadcast n plug overhead) = (n ≡ name) × (plug ≡ (name, 0)) × (overhead < 16)
-IsNext StepLine name (StepCommand n count) = (n ≡ name) × (1 ≤ count) × (count ≤ 10000)
-IsNext EndLine name End = ⊤
-IsNext _ name _ = ⊥
+IsNext DeviceLine name = IsDevice
+IsNext BroadcastLine name = IsBroadcast name
+IsNext StepLine name = IsStep name
+IsNext EndLine name = IsEnd
+IsNext NoLine name = λ c. ⊥
 
 -- a run: commands, one after another, all that they write, and the state that they lead to
 pub data Run : List Command → List Timed → State → Type 0 where

@@ -1,8 +1,8 @@
-ghost use Rattle.std.specs.Prelude.{◌≡◌, List, IfOk, IsFalse, IsTrue, OnErr};
+ghost use Rattle.std.specs.Prelude.{◌≡◌, ◌≤◌, List, length, IfOk, IsFalse, IsTrue, OnErr};
 ghost use Rattle.fw_outside.specs.Outside.{HasCause};
 
 use crate::first::first_machine;
-use crate::{BusFault, Command, Machine};
+use crate::{BusFault, Command, Expected, Machine};
 use fw_outside::{Failed, Sink};
 use std::alloc::{AllocError, Global};
 use std::marker::Model;
@@ -28,7 +28,6 @@ impl Model for Bus {
 impl Bus {
     ghost use Rattle.fw_log.specs.declared.entry.Timed.{Timed as TimedEntry};
     ghost use Rattle.fw_bus.specs.declared.command.Command.{Command as Line};
-    ghost use Rattle.fw_bus.specs.First.{first_machine};
     ghost use Rattle.fw_bus.specs.State.{State, first_state};
     ghost use Rattle.fw_bus.specs.Run.{Run, IsNext};
     ghost use Rattle.fw_bus.specs.Stands.{StandsFor};
@@ -37,7 +36,6 @@ impl Bus {
     /// A bus without a device, at cycle 0.
     pub fn new(_alloc: Global) -> Result<Bus, AllocError>
         ensures stands { IfOk result (λ b. StandsFor b.machine first_state) }
-        ensures machine { IfOk result (λ b. b.machine ≡ first_machine) }
         ensures spent { IfOk result (λ b. IsFalse b.spent) }
     {
         Ok(Bus {
@@ -51,6 +49,21 @@ impl Bus {
         ensures { result ≡ self.now.spent }
     {
         self.spent
+    }
+
+    /// The line that comes next.
+    pub fn expected(&self) -> Expected
+        ensures { result ≡ self.now.machine.expected }
+    {
+        self.machine.expected
+    }
+
+    /// The deck's name, empty before it is declared.
+    pub fn name(&self) -> &[u8]
+        ensures value { result.now ≡ self.now.machine.name }
+        ensures fits { length result.now ≤ 16 }
+    {
+        self.machine.name.as_slice()
     }
 
     /// Carries out a command, and writes what happens. The command has to be the line that comes next. Where the sink
