@@ -52,11 +52,11 @@ reached_more {m = m} c r next d =
     let x = d.shown r.state (run_good r.run) r.stands in
     record { commands = r.commands ++ c ∷ []; log = r.log ++ x.0; state = x.1; run = and_then r.run c x.0 x.1 (next_of m r.state c r.stands next) x.2; stands = x.3 }
 
-pub goes : {T E : Type 0} {m now : Machine} {a b : Option (List ℕ)} {k l : ℕ} {u : T} (c : Command) (spent : Bool) → IsFalse spent → IsNext m.expected m.name c → Does {T = T} {E = E} (actions_of c) m now a b k l (Ok u) → (commands : List Command) (log : List Timed) (s : State) → Run commands log s → StandsFor m s → Goes commands log c (record { machine = now; spent = spent }) a b
+pub goes : {T E : Type 0} {m now : Machine} {a b : Option (List ℕ)} {k l : ℕ} {u : T} (c : Command) (spent : Bool) → IsFalse spent → IsNext m.expected m.name c → Does {T = T} {E = E} (actions_of c) m now a b k l (Ok u) → (commands : List Command) (log : List Timed) (s : State) → Run commands log s → StandsFor m s → Goes commands log s c (record { machine = now; spent = spent }) a b
 goes {m = m} c spent un next d commands log s r st =
     let x = d.shown s (run_good r) st in
     let more = and_then r c x.0 x.1 (next_of m s c st next) x.2 in
-    record { out = x.0; state = x.1; run = more; stands = x.3; grew = x.4; sound = sound_throughout (all_actions (commands ++ c ∷ [])) (log ++ x.0) x.1 (run_steps more); fresh = un }
+    record { out = x.0; state = x.1; steps = x.2; run = more; stands = x.3; grew = x.4; sound = sound_throughout (all_actions (commands ++ c ∷ [])) (log ++ x.0) x.1 (run_steps more); fresh = un }
 
 pub stops : {T E : Type 0} {m now mid : Machine} {a b : Option (List ℕ)} {k l : ℕ} {e : E} (c : Command) (spent : Bool) → IsTrue spent → Does {T = T} {E = E} (actions_of c) m mid a b k l (Err e) → (commands : List Command) (log : List Timed) (s : State) → Run commands log s → StandsFor m s → Stops commands log s c (record { machine = now; spent = spent }) a b
 stops c spent is d commands log s r st =

@@ -7,7 +7,7 @@ use Rattle.fw_bus.specs.declared.command.Command.{Command}
 use Rattle.fw_bus.specs.declared.machine.Machine.{Machine}
 use Rattle.fw_bus.specs.Giving.{log_bytes}
 use Rattle.fw_bus.specs.State.{State}
-use Rattle.fw_bus.specs.Run.{Run, actions_of}
+use Rattle.fw_bus.specs.Run.{Run, Steps, actions_of}
 use Rattle.fw_bus.specs.Stands.{StandsFor, Cut}
 use Rattle.fw_bus.specs.Headline.{IsSoundThroughout, all_actions}
 
@@ -24,10 +24,11 @@ pub record IsReached (m : Machine) : Type 0 where
   pub run : Run commands log state
   pub stands : StandsFor m state
 
--- the run goes on with this command, and the bus stands for its state
-pub record Goes (commands : List Command) (log : List Timed) (c : Command) (now : Standing) (held after : Option (List ℕ)) : Type 0 where
+-- the run goes on with this command from its state, and the bus stands for the state that the command leads to
+pub record Goes (commands : List Command) (log : List Timed) (s : State) (c : Command) (now : Standing) (held after : Option (List ℕ)) : Type 0 where
   pub out : List Timed
   pub state : State
+  pub steps : Steps s (actions_of c) out state
   pub run : Run (commands ++ c ∷ []) (log ++ out) state
   pub stands : StandsFor now.machine state
   pub grew : Grows held after (log_bytes out)
@@ -41,5 +42,5 @@ pub record Stops (commands : List Command) (log : List Timed) (s : State) (c : C
   pub spent : IsTrue now.spent
 
 abbrev pub Applies : {T E : Type 0} → List Command → List Timed → State → Command → Standing → Option (List ℕ) → Option (List ℕ) → Result T E → Type 0
-Applies commands log s c now held after (Ok _) = Goes commands log c now held after
+Applies commands log s c now held after (Ok _) = Goes commands log s c now held after
 Applies commands log s c now held after (Err _) = Stops commands log s c now held after
