@@ -1,5 +1,5 @@
 -- The numbers of self-identification.
-use Rattle.std.specs.Prelude.{◌≡◌, ℕ, zero, suc, ◌+◌, ◌&&◌, List, [], ◌∷◌, ◌++◌, Option, Some, None, Bool, true, false, slice_index_or, if◌then◌else◌}
+use Rattle.std.specs.Prelude.{◌≡◌, ℕ, zero, suc, ◌+◌, ◌<◌, ◌&&◌, List, [], ◌∷◌, ◌++◌, Option, Some, None, Bool, true, false, slice_index_or, if◌then◌else◌}
 use Rattle.fw_tree.specs.declared.facts.End.{End}
 use Rattle.fw_tree.specs.declared.rounds.Parent.{Parent}
 use Rattle.fw_tree.specs.Cables.{Peers, peer, Walk}
@@ -33,6 +33,12 @@ pub record AreNumbers (g : Peers) (root : ℕ) (number : List (Option ℕ)) : Ty
   pub lead : (d : ℕ) → Walk g 0 d → LeadsDown g root (paths d) d
   pub places : (d : ℕ) → Walk g 0 d → number_at number d ≡ Some (counted (λ e. has_number number e && comes_before (paths e) (paths d)) 63)
   pub off : (d : ℕ) → (Walk g 0 d → ⊥) → number_at number d ≡ None
+
+-- each number below the count is of exactly one device, and no other number is given
+pub record AreNodes (number : List (Option ℕ)) (count : ℕ) : Type 0 where
+  pub below : (d n : ℕ) → number_at number d ≡ Some n → n < count
+  pub taken : (n : ℕ) → n < count → (d : ℕ) × (number_at number d ≡ Some n)
+  pub one : (d e n : ℕ) → number_at number d ≡ Some n → number_at number e ≡ Some n → d ≡ e
 
 -- the device hangs on the other at the port
 pub record IsChild (g : Peers) (parents : List (Option Parent)) (d p c : ℕ) : Type 0 where

@@ -57,4 +57,3 @@ facts_at devices d = slice_index_or devices d (record { ports = 0; speed = 0; li
 pub data ArePackets (devices : List PhyFacts) (g : Peers) (number parents : List (Option ℕ)) (initiator : ℕ) : ℕ → List PhyPacket → Type 0 where
   no_node : ArePackets devices g number parents initiator 0 []
   node : {n : ℕ} {ps qs : List PhyPacket} → ArePackets devices g number parents initiator n ps → (d : ℕ) → number_at number d ≡ Some n → qs ≡ ps ++ node_packets (facts_at devices d) (slice_index_or g d []) (number_at parents d) n (d == initiator) → ArePackets devices g number parents initiator (suc n) qs
-  no_device : {n : ℕ} {ps : List PhyPacket} → ArePackets devices g number parents initiator n ps → ((d : ℕ) → d < 63 → number_at number d ≡ Some n → ⊥) → ArePackets devices g number parents initiator (suc n) ps

@@ -44,7 +44,7 @@ fn is_there(number: &Option<u8>) -> bool
 }
 
 // How many devices have a number.
-#[tactic(auto, using(crate::proofs::TreeLaws::counted_none, crate::proofs::TreeLaws::counted_yes, crate::proofs::TreeLaws::counted_else))]
+#[tactic(auto, using(crate::proofs::CountLaws::counted_none, crate::proofs::CountLaws::counted_yes, crate::proofs::CountLaws::counted_else))]
 pub fn numbered(number: &[Option<u8>; 63]) -> u8
     ensures count { result ≡ counted (has_number number.now) 63 }
     ensures most { result ≤ 63 }

@@ -1,8 +1,7 @@
-ghost use Rattle.std.specs.Prelude.{◌≡◌, ◌<◌, ◌≤◌, ◌+◌, ◌++◌, ℕ, length, IfSome, IfNone};
-ghost use Rattle.fw_tree.specs.Numbers.{number_at};
-ghost use Rattle.fw_tree.specs.SelfIds.{port_code, first_packet, more_packet, further_packet, node_packets, ArePackets};
+ghost use Rattle.std.specs.Prelude.{◌≡◌, ◌<◌, ◌≤◌, ◌+◌, ◌++◌, length};
+ghost use Rattle.fw_tree.specs.SelfIds.{port_code, first_packet, more_packet, further_packet, node_packets};
 
-use crate::{End, Numbering, PhyFacts};
+use crate::{End, PhyFacts};
 use fw_phy::{PhyPacket, SelfId, SelfIdMore, SelfIds};
 
 fn port_code(ports: u8, row: &[Option<End>; 27], parent: &Option<u8>, p: u8) -> u8
@@ -96,7 +95,7 @@ fn push_further(
 }
 
 // Appends the packets of one node.
-fn push_node(
+pub fn push_node(
     facts: &PhyFacts,
     row: &[Option<End>; 27],
     parent: &Option<u8>,
@@ -112,45 +111,4 @@ fn push_node(
     push_further(facts, row, parent, phy, 0, 3, out);
     push_further(facts, row, parent, phy, 1, 11, out);
     push_further(facts, row, parent, phy, 2, 19, out);
-}
-
-// The device that has a number.
-fn device_with(number: &[Option<u8>; 63], n: u8) -> Option<u8>
-    ensures some { IfSome result (λ d. (d < 63) × (number_at number.now d ≡ Some n)) }
-    ensures none { IfNone result ((d : ℕ) → d < 63 → number_at number.now d ≡ Some n → ⊥) }
-{
-    for d in 0..63 {
-        if let Some(m) = number[d] {
-            if m == n {
-                return Some(d as u8);
-            }
-        }
-    }
-    None
-}
-
-// Appends the packets of the node with a number, where a device has it.
-pub fn push_numbered(
-    facts: &[PhyFacts; 63],
-    g: &[[Option<End>; 27]; 63],
-    numbering: &Numbering,
-    n: u8,
-    initiator: u8,
-    out: &mut SelfIds,
-)
-    requires { length out.old ≤ 248 }
-    ensures packets { (ArePackets facts.now g.now numbering.now.number numbering.now.parent_port initiator n out.old → ArePackets facts.now g.now numbering.now.number numbering.now.parent_port initiator (n + 1) out.new) }
-    ensures size { length out.new ≤ length out.old + 4 }
-{
-    match device_with(&numbering.number, n) {
-        Some(d) => push_node(
-            &facts[d as usize],
-            &g[d as usize],
-            &numbering.parent_port[d as usize],
-            n,
-            d == initiator,
-            out,
-        ),
-        None => {}
-    }
 }
