@@ -11,7 +11,7 @@ use Rattle.fw_tree.specs.declared.facts.PhyFacts.{PhyFacts}
 use Rattle.fw_tree.specs.Cables.{Peers}
 use Rattle.fw_tree.specs.Numbers.{number_at}
 use Rattle.fw_tree.specs.Topology.{AreDevices}
-use Rattle.fw_tree.specs.SelfIds.{cable_code, port_code, first_packet, more_packet, further_packet, node_packets, facts_at, ArePackets, no_node, node}
+use Rattle.fw_tree.specs.SelfIds.{cable_code, port_code, first_port, first_packet, more_packet, further_packet, node_packets, facts_at, ArePackets, no_node, node}
 
 pub speed_low : (fs : List PhyFacts) (d : ℕ) → AreDevices fs → (facts_at fs d).speed ≤ 2
 speed_low [] d a = omega arith
@@ -27,8 +27,8 @@ cable_low (Some e) (Some q) p = of_test (p == q)
     of_test true = omega arith
     of_test false = omega arith
 
-code_low : (ports : ℕ) (row : List (Option End)) (parent : Option ℕ) (p : ℕ) → port_code ports row parent p < 4
-code_low ports row parent p = of_test (nat_lt p ports) (cable_code (slice_index_or row p None) parent p) (cable_low (slice_index_or row p None) parent p)
+code_low : (ports : ℕ) (cables : List (Option End)) (parent : Option ℕ) (p : ℕ) → port_code ports cables parent p < 4
+code_low ports cables parent p = of_test (nat_lt p ports) (cable_code (slice_index_or cables p None) parent p) (cable_low (slice_index_or cables p None) parent p)
   where
     of_test : (b : Bool) (n : ℕ) → n < 4 → (if b then n else 0) < 4
     of_test true n h = h
@@ -46,25 +46,26 @@ one_or_none : (b : Bool) (p : PhyPacket) → Fits p → All Fits (if b then p �
 one_or_none true p h = All-push Fits [] p (All-nil Fits) h
 one_or_none false p h = All-nil Fits
 
-further_fits : (f : PhyFacts) (row : List (Option End)) (parent : Option ℕ) (phy number at : ℕ) → phy < 64 → number ≤ 2 → All Fits (further_packet f row parent phy number at)
-further_fits f row parent phy number at low few =
-    let code = code_low f.ports row parent in
-    one_or_none (nat_lt at f.ports) (more_packet f row parent phy number at)
-    (more_fits phy number (port_code f.ports row parent at) (port_code f.ports row parent (at + 1)) (port_code f.ports row parent (at + 2)) (port_code f.ports row parent (at + 3))
-    (port_code f.ports row parent (at + 4)) (port_code f.ports row parent (at + 5)) (port_code f.ports row parent (at + 6)) (port_code f.ports row parent (at + 7))
+further_fits : (f : PhyFacts) (cables : List (Option End)) (parent : Option ℕ) (phy number : ℕ) → phy < 64 → number ≤ 2 → All Fits (further_packet f cables parent phy number)
+further_fits f cables parent phy number low few =
+    let at = first_port number in
+    let code = code_low f.ports cables parent in
+    one_or_none (nat_lt at f.ports) (more_packet f cables parent phy number)
+    (more_fits phy number (port_code f.ports cables parent at) (port_code f.ports cables parent (at + 1)) (port_code f.ports cables parent (at + 2)) (port_code f.ports cables parent (at + 3))
+    (port_code f.ports cables parent (at + 4)) (port_code f.ports cables parent (at + 5)) (port_code f.ports cables parent (at + 6)) (port_code f.ports cables parent (at + 7))
     (nat_lt (at + 8) f.ports) low few (code at) (code (at + 1)) (code (at + 2)) (code (at + 3)) (code (at + 4)) (code (at + 5)) (code (at + 6)) (code (at + 7)))
 
-node_fits : (f : PhyFacts) (row : List (Option End)) (parent : Option ℕ) (phy : ℕ) (initiator : Bool) → phy < 64 → f.speed ≤ 2 → All Fits (node_packets f row parent phy initiator)
-node_fits f row parent phy initiator low speed =
-    let code = code_low f.ports row parent in
-    let first : All Fits (first_packet f row parent phy initiator ∷ []) = All-push Fits [] (first_packet f row parent phy initiator) (All-nil Fits)
-    (self_fits phy f.speed (port_code f.ports row parent 0) (port_code f.ports row parent 1) (port_code f.ports row parent 2) f.link f.contender initiator (nat_lt 3 f.ports) low speed (code 0) (code 1) (code 2)) in
-    let a = further_packet f row parent phy 0 3 in
-    let b = further_packet f row parent phy 1 11 in
-    let c = further_packet f row parent phy 2 19 in
-    All-append Fits (first_packet f row parent phy initiator ∷ [] ++ a ++ b) c
-    (All-append Fits (first_packet f row parent phy initiator ∷ [] ++ a) b (All-append Fits (first_packet f row parent phy initiator ∷ []) a first (further_fits f row parent phy 0 3 low (omega arith))) (further_fits f row parent phy 1 11 low (omega arith)))
-    (further_fits f row parent phy 2 19 low (omega arith))
+node_fits : (f : PhyFacts) (cables : List (Option End)) (parent : Option ℕ) (phy : ℕ) (initiator : Bool) → phy < 64 → f.speed ≤ 2 → All Fits (node_packets f cables parent phy initiator)
+node_fits f cables parent phy initiator low speed =
+    let code = code_low f.ports cables parent in
+    let first : All Fits (first_packet f cables parent phy initiator ∷ []) = All-push Fits [] (first_packet f cables parent phy initiator) (All-nil Fits)
+    (self_fits phy f.speed (port_code f.ports cables parent 0) (port_code f.ports cables parent 1) (port_code f.ports cables parent 2) f.link f.contender initiator (nat_lt 3 f.ports) low speed (code 0) (code 1) (code 2)) in
+    let a = further_packet f cables parent phy 0 in
+    let b = further_packet f cables parent phy 1 in
+    let c = further_packet f cables parent phy 2 in
+    All-append Fits (first_packet f cables parent phy initiator ∷ [] ++ a ++ b) c
+    (All-append Fits (first_packet f cables parent phy initiator ∷ [] ++ a) b (All-append Fits (first_packet f cables parent phy initiator ∷ []) a first (further_fits f cables parent phy 0 low (omega arith))) (further_fits f cables parent phy 1 low (omega arith)))
+    (further_fits f cables parent phy 2 low (omega arith))
 
 pub packets_fit : (fs : List PhyFacts) (g : Peers) (number parents : List (Option ℕ)) (i n : ℕ) (ps : List PhyPacket) → AreDevices fs → n ≤ 63 → ArePackets fs g number parents i n ps → All Fits ps
 packets_fit fs g number parents i n ps devices few no_node = All-nil Fits

@@ -1,16 +1,17 @@
 -- What a numbering says of its devices.
-use Rattle.std.proofs.Common.{add-one, ◌≡◌, ◌⊎◌, inl, inr, ℕ, ◌<◌, ◌≤◌, ◌+◌, ◌&&◌, List, length, Option, Some, None, Bool, true, false, take, arith, refl, sym, ap, ◌∙◌, slice_index_or}
+use Rattle.std.proofs.Common.{add-one, ◌≡◌, ◌⊎◌, inl, inr, ℕ, ◌<◌, ◌≤◌, ◌+◌, ◌&&◌, List, length, Option, Some, None, Bool, true, false, take, arith, refl, sym, ap, subst, ◌↔◌, ◌∙◌, slice_index_or}
 use Rattle.std.proofs.lemmas.Bool.{cases_eq, cases_lt}
 use Rattle.std.proofs.lemmas.List.{get_or-take, get_or_past}
 use Rattle.fw_tree.specs.declared.facts.PhyFacts.{PhyFacts}
 use Rattle.fw_tree.specs.declared.numbering.Numbering.{Numbering}
+use Rattle.fw_tree.specs.Cables.{Peers, IsOnBus}
 use Rattle.fw_tree.specs.Numbers.{AreNodes, number_at, has_number, counted}
 use Rattle.fw_tree.specs.SelfIds.{facts_at}
 use Rattle.fw_tree.specs.Topology.{Topology, IsSound}
 use Rattle.fw_tree.specs.Numbering.{IsNumbering, Contends, IsGreatest, IsManager}
 use Rattle.fw_tree.proofs.ForestLaws.{both, first_of, second_of}
 use Rattle.fw_tree.proofs.CountLaws.{counted_most, there}
-use Rattle.fw_tree.proofs.ReachLaws.{bus_of}
+use Rattle.fw_tree.proofs.SelfIdLaws.{shorter_than}
 use Rattle.fw_tree.proofs.TreeLaws.{placed_of}
 
 pub count_most : (p : Topology) (n : Numbering) → IsNumbering p n → n.count ≤ 63
@@ -18,7 +19,18 @@ count_most p n h = let m = counted_most (has_number n.number) 63 in let e = h.co
 
 -- a device that has a number is one of the devices
 pub placed : (p : Topology) (n : Numbering) → IsSound p → IsNumbering p n → (d : ℕ) → has_number n.number d ≡ true → d < length p.devices
-placed p n s h d has = let bus = bus_of p.cables s.range in placed_of p.devices p.cables n.root bus.on n.number s h.some bus.is_on h.numbers d has
+placed p n s h d has = placed_of p.devices p.cables n.root n.number s h.some h.numbers d has
+
+-- a device has a number exactly where it is on the bus
+pub has_on_bus : (p : Topology) (n : Numbering) → IsNumbering p n → (d : ℕ) → (has_number n.number d ≡ true) ↔ IsOnBus p.cables d
+has_on_bus p n h d = (λ e. h.numbers.only d e, λ w. there (number_at n.number d) _ (h.numbers.places d w))
+
+-- a device that has a number is one of the first, those that are there
+pub low_of : (fs : List PhyFacts) (m : ℕ) (g : Peers) (p : Topology) (n : Numbering) → record { devices = take m fs; cables = g } ≡ p → IsSound (record { devices = take m fs; cables = g }) → IsNumbering p n → (d : ℕ) → has_number n.number d ≡ true → d < m
+low_of fs m g p n same sound h d has =
+    let P : Topology → Type 0 = IsSound in
+    let Q : Topology → Type 0 = λ q. d < length q.devices in
+    shorter_than fs m d (subst Q (sym same) (placed p n (subst P same sound) h d has))
 
 -- the greatest of those below the next number
 pub greatest_first : (fs : List PhyFacts) (number : List (Option ℕ)) → IsGreatest fs number 0 None

@@ -9,13 +9,13 @@ use Rattle.fw_tree.specs.declared.facts.PhyFacts.{PhyFacts}
 use Rattle.fw_tree.specs.Cables.{Peers}
 use Rattle.fw_tree.specs.Numbers.{number_at, is_there, has_number}
 use Rattle.fw_tree.proofs.CountLaws.{there}
-use Rattle.fw_tree.specs.SelfIds.{more_packet, further_packet, node_packets, facts_at, ArePackets, no_node, node}
+use Rattle.fw_tree.specs.SelfIds.{first_port, more_packet, further_packet, node_packets, facts_at, ArePackets, no_node, node}
 
 is_below : (a b : ℕ) → a < b → nat_lt a b ≡ true
 is_below a b h = grind (arith, nat_tests)
 
-pub further_is : (f : PhyFacts) (row : List (Option End)) (parent : Option ℕ) (phy number at : ℕ) → at < f.ports → further_packet f row parent phy number at ≡ more_packet f row parent phy number at ∷ []
-further_is f row parent phy number at h = rw (is_below at f.ports h) refl
+pub further_is : (f : PhyFacts) (cables : List (Option End)) (parent : Option ℕ) (phy number : ℕ) → first_port number < f.ports → further_packet f cables parent phy number ≡ more_packet f cables parent phy number ∷ []
+further_is f cables parent phy number h = rw (is_below (first_port number) f.ports h) refl
 
 pub four : (out a b c d x y z w : List PhyPacket) → x ≡ out ++ a → y ≡ x ++ b → z ≡ y ++ c → w ≡ z ++ d → w ≡ out ++ (a ++ b ++ c ++ d)
 four out a b c d x y z w e f g h = h ∙ rw (g, f, e) (simp append_assoc)

@@ -222,10 +222,6 @@ tree_of g par root r on range cables none bus settled parents top =
       alone = λ d i h. top.alone d (bus.walk d i) h;
     }
 
-none_there : (o : Option ℕ) → is_there o ≡ false → o ≡ None
-none_there None h = refl
-none_there (Some n) h = absurd (let z : ⊥ = cc in z)
-
 no_left : (v k : List ℕ) → k ≡ [] → is_left v k ≡ false
 no_left [] k e = refl
 no_left (x ∷ v) k e = rw e refl
@@ -238,13 +234,9 @@ all_done : (a b : Bool) → b ≡ true → (a && b) ≡ a
 all_done true b h = h
 all_done false b h = refl
 
-off_bus : (b : Bool) → (b ≡ true → ⊥) → b ≡ false
-off_bus true h = absurd (h refl)
-off_bus false h = refl
-
-hidden : (b : Bool) (o : Option Parent) → (b ≡ true → ⊥) → shown b o ≡ None
-hidden true o h = absurd (h refl)
-hidden false o h = refl
+is_shown : (b : Bool) (o : Option Parent) (p : ℕ) → shown b o ≡ Some p → b ≡ true
+is_shown true o p h = refl
+is_shown false o p h = cc
 
 parent_port : (g : Peers) (d : ℕ) (o : Option Parent) → IsParent g d o → IsParentPort g d (shown true o)
 parent_port g d None w = w
@@ -275,7 +267,7 @@ numbers_of g par root on old now t bus top blank branch = given (λ d. (choose g
             paths = paths;
             lead = λ d w. lead d (bus.has d w);
             places = λ d w. end.place d (bus.has d w) (all_upto (paths d) (paths root) empty) ∙ ap (λ n. Some n) (counted_same (λ e. is_seen on e && comes_before (paths e) (paths d)) (λ e. has_number now e && comes_before (paths e) (paths d)) 63 (λ k l. ap (λ b. b && comes_before (paths k) (paths d)) (sym (all k))));
-            off = λ d out. none_there (number_at now d) (all d ∙ off_bus (is_seen on d) (λ h. out (bus.walk d h)));
+            only = λ d h. bus.walk d (sym (all d) ∙ h);
           };
           nodes = end.nodes;
         }
@@ -287,9 +279,9 @@ parents_of g par on ports bus within parents is size = record {
       let low = within d i in
       let P : Option ℕ → Type 0 = IsParentPort g d in
       subst P (sym (is d low ∙ ap (λ b. shown b (parent_at par d)) i)) (parent_port g d (parent_at par d) (parents d low));
-  off = λ d out. elim (cases_lt d 63) [
-    | inl low ↦ is d low ∙ hidden (is_seen on d) (parent_at par d) (λ h. out (bus.walk d h))
-    | inr high ↦ get_or_past ports d None (omega (arith, size))
+  only = λ d p h. elim (cases_lt d 63) [
+    | inl low ↦ bus.walk d (is_shown (is_seen on d) (parent_at par d) p (sym (is d low) ∙ h))
+    | inr high ↦ absurd (let e = get_or_past ports d None (omega (arith, size)) in let z : ⊥ = cc in z)
   ];
 }
 
@@ -309,8 +301,5 @@ on_declared fs g s some d (along {b = b} w j) =
     let back = s.cables.back b j.port (record { device = d; port = k.0 }) k.1 in
     (ports_within fs d k.0 s.devices (s.placed d k.0 (record { device = b; port = j.port }) back)).0
 
-pub placed_of : (fs : List PhyFacts) (g : Peers) (root : ℕ) (on : List Bool) (number : List (Option ℕ)) → IsSound (record { devices = fs; cables = g }) → 0 < length fs → IsOn g on → AreNumbers g root number → (d : ℕ) → has_number number d ≡ true → d < length fs
-placed_of fs g root on number s some bus numbers d h = elim (truth (is_seen on d)) [
-  | inl i ↦ on_declared fs g s some d (bus.walk d i)
-  | inr out ↦ absurd (let e = numbers.off d (λ w. let i = bus.has d w in let z : ⊥ = cc in z) in let x = ap is_there e in let y : ⊥ = cc in y)
-]
+pub placed_of : (fs : List PhyFacts) (g : Peers) (root : ℕ) (number : List (Option ℕ)) → IsSound (record { devices = fs; cables = g }) → 0 < length fs → AreNumbers g root number → (d : ℕ) → has_number number d ≡ true → d < length fs
+placed_of fs g root number s some numbers d h = on_declared fs g s some d (numbers.only d h)

@@ -24,6 +24,10 @@ pub data Walk (g : Peers) (a : ℕ) : ℕ → Type 0 where
   here : Walk g a a
   along : {b c : ℕ} → Walk g a b → AreJoined g b c → Walk g a c
 
+-- the bus is the part that is connected with device 0 (own)
+abbrev pub IsOnBus : Peers → ℕ → Type 0
+IsOnBus g d = Walk g 0 d
+
 -- which devices were seen
 abbrev pub is_seen : List Bool → ℕ → Bool
 is_seen seen d = slice_index_or seen d false

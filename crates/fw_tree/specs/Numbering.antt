@@ -2,7 +2,7 @@
 use Rattle.std.specs.Prelude.{◌≡◌, ℕ, ◌<◌, ◌≤◌, length, List, Option, Some, None, true}
 use Rattle.fw_tree.specs.declared.facts.PhyFacts.{PhyFacts}
 use Rattle.fw_tree.specs.declared.numbering.Numbering.{Numbering}
-use Rattle.fw_tree.specs.Cables.{Peers, Walk}
+use Rattle.fw_tree.specs.Cables.{Peers}
 use Rattle.fw_tree.specs.Rounds.{stays}
 use Rattle.fw_tree.specs.Parents.{IsTheRoot}
 use Rattle.fw_tree.specs.Numbers.{AreNumbers, AreParents, AreNodes, counted, has_number, number_at}

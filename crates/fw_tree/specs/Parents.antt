@@ -1,7 +1,7 @@
 -- What the rounds find: each device's parent, or that it is root.
 use Rattle.std.specs.Prelude.{◌≡◌, ℕ, suc, ◌+◌, ◌<◌, List, [], ◌∷◌, Option, Some, None, Bool, true, false, slice_index_or}
 use Rattle.fw_tree.specs.declared.rounds.Parent.{Parent}
-use Rattle.fw_tree.specs.Cables.{Peers, is_seen, Walk}
+use Rattle.fw_tree.specs.Cables.{Peers, is_seen, IsOnBus}
 use Rattle.fw_tree.specs.Rounds.{stays, LeavesBy, WinsTie, HasParent, IsRoot}
 
 -- what one round notes of a device that leaves in it
@@ -34,11 +34,11 @@ Settled g r = (d : ℕ) → d < 63 → stays g (suc r) d ≡ stays g r d
 
 -- the devices that were seen are those of the bus
 pub record IsOn (g : Peers) (on : List Bool) : Type 0 where
-  pub walk : (d : ℕ) → is_seen on d ≡ true → Walk g 0 d
-  pub has : (d : ℕ) → Walk g 0 d → is_seen on d ≡ true
+  pub walk : (d : ℕ) → is_seen on d ≡ true → IsOnBus g d
+  pub has : (d : ℕ) → IsOnBus g d → is_seen on d ≡ true
 
 -- the one root of the bus
 pub record IsTheRoot (g : Peers) (root : ℕ) : Type 0 where
-  pub is_on : Walk g 0 root
+  pub is_on : IsOnBus g root
   pub is_root : IsRoot g root
-  pub alone : (d : ℕ) → Walk g 0 d → IsRoot g d → d ≡ root
+  pub alone : (d : ℕ) → IsOnBus g d → IsRoot g d → d ≡ root

@@ -1,7 +1,7 @@
 ghost use Rattle.std.specs.Prelude.{◌≡◌, ◌<◌, ◌≤◌, [], ℕ, length, None, IfErr, IfOk};
 ghost use Rattle.std.specs.List.{All};
 ghost use Rattle.fw_phy.specs.Phy.{Fits};
-ghost use Rattle.fw_tree.specs.Cables.{peer, Walk};
+ghost use Rattle.fw_tree.specs.Cables.{peer, IsOnBus};
 ghost use Rattle.fw_tree.specs.Numbering.{IsNumbering, IsManager};
 ghost use Rattle.fw_tree.specs.SelfIds.{ArePackets};
 ghost use Rattle.fw_tree.specs.Topology.{IsExtended, IsFault, IsJoined, Made};
@@ -138,7 +138,7 @@ impl Cabling {
     /// ports. `n` is this cabling's numbering, and the initiator, the device that began the bus reset, is on the bus.
     pub fn self_ids(&self, n: &Numbering, initiator: u8, out: &mut SelfIds)
         requires numbering { IsNumbering self.now n.now }
-        requires initiator { Walk self.now.cables 0 initiator }
+        requires initiator { IsOnBus self.now.cables initiator }
         ensures packets { ArePackets self.now.devices self.now.cables n.now.number n.now.parent_port initiator n.now.count out.new }
         ensures fit { All Fits out.new }
     {
@@ -148,7 +148,7 @@ impl Cabling {
             push_node(
                 &self.facts[device as usize],
                 &self.cables[device as usize],
-                &n.parent_port[device as usize],
+                n.parent_port[device as usize],
                 node,
                 device == initiator,
                 out,

@@ -2,7 +2,7 @@ use Rattle.std.proofs.Common.{◌≡◌, ◌<◌, ◌+◌, ◌∙◌, ℕ, Optio
 use Rattle.fw_tree.specs.Topology.{Topology, IsSound}
 use Rattle.fw_tree.specs.Numbers.{has_number}
 use Rattle.fw_tree.specs.Numbering.{IsManager, IsGreatest}
-use Rattle.fw_tree.proofs.NumberingLaws.{placed, greatest_first, greatest_yes, greatest_no, manager_of}
+use Rattle.fw_tree.proofs.NumberingLaws.{low_of, greatest_first, greatest_yes, greatest_no, manager_of}
 use Rattle.fw_tree.proofs.SelfIdLaws.{shorter_than}
 use Rattle.fw_tree.proofs.cabling.Cabling.manager.Goals as goal
 use Rattle.fw_tree.proofs.cabling.Cabling.manager.Goals.{then-contends, else-contends}
@@ -28,9 +28,7 @@ loop-node-preserved c =
 pub returns : goal.returns
 returns c =
     let all : c.loop-node.node ≡ c.args.n.now.count = omega arith in
-    let size = λ (p : Topology). length p.devices in
-    let sound = let P : Topology → Type 0 = IsSound in subst P c.self.view_is c.self.invariant.sound in
-    let low : (d : ℕ) → has_number c.args.n.now.number d ≡ true → d < c.self.inside.count = λ d h. shorter_than c.self.inside.facts c.self.inside.count d (rw (sym (ap size c.self.view_is)) at (placed c.args.self.now c.args.n.now sound c.requires d h)) in
+    let low : (d : ℕ) → has_number c.args.n.now.number d ≡ true → d < c.self.inside.count = λ d h. low_of c.self.inside.facts c.self.inside.count c.self.inside.cables c.args.self.now c.args.n.now c.self.view_is c.self.invariant.sound c.requires d h in
     let P : ℕ → Type 0 = λ n. IsGreatest c.self.inside.facts c.args.n.now.number n c.loop-node.manager in
     let Q : Topology → Type 0 = λ p. IsManager p.devices c.args.n.now.number c.loop-node.manager in
     subst Q c.self.view_is (manager_of c.self.inside.facts c.args.n.now.number c.self.inside.count c.args.n.now.count c.loop-node.manager low c.requires.nodes (subst P all c.loop-node.invariant))

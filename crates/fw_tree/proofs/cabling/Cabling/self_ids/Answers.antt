@@ -7,16 +7,9 @@ use Rattle.fw_tree.specs.Topology.{Topology, IsSound}
 use Rattle.fw_tree.proofs.FitLaws.{packets_fit}
 use Rattle.fw_tree.specs.Numbers.{has_number}
 use Rattle.fw_tree.specs.SelfIds.{ArePackets, no_node}
-use Rattle.fw_tree.proofs.NumberingLaws.{placed, count_most}
+use Rattle.fw_tree.proofs.NumberingLaws.{low_of, count_most}
 use Rattle.fw_tree.proofs.SelfIdLaws.{one_more, of_first, shorter_than}
 use Rattle.fw_tree.proofs.cabling.Cabling.self_ids.Goals as goal
-
--- a device that has a number is one of the first
-low_of : (fs : List PhyFacts) (m : ℕ) (g : Peers) (p : Topology) (n : Numbering) → record { devices = take m fs; cables = g } ≡ p → IsSound (record { devices = take m fs; cables = g }) → IsNumbering p n → (d : ℕ) → has_number n.number d ≡ true → d < m
-low_of fs m g p n same sound h d has =
-    let P : Topology → Type 0 = IsSound in
-    let Q : Topology → Type 0 = λ q. d < length q.devices in
-    shorter_than fs m d (subst Q (sym same) (placed p n (subst P same sound) h d has))
 
 pub loop-node-init : goal.loop-node-init
 loop-node-init c = rw c.new.ensures (record { packets = no_node; size = omega arith })
