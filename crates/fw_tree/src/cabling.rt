@@ -6,6 +6,7 @@ ghost use Rattle.fw_tree.specs.Numbering.{IsNumbering, IsManager};
 ghost use Rattle.fw_tree.specs.SelfIds.{ArePackets};
 ghost use Rattle.fw_tree.specs.Topology.{IsExtended, IsFault, IsJoined, Made};
 
+use crate::facts::AllCables;
 use crate::numbering::{contends, device_with};
 use crate::numbers::{number_branch, numbered, parent_ports};
 use crate::ports::{are_used, have_ports, plug};
@@ -22,7 +23,7 @@ use std::marker::Model;
 pub struct Cabling {
     facts: [PhyFacts; 63],
     count: u8,
-    cables: [[Option<End>; 27]; 63],
+    cables: AllCables,
 }
 
 impl Model for Cabling {

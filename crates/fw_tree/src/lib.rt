@@ -40,3 +40,6 @@ pub enum TreeFault {
     #[error("Loop")]
     Loop,
 }
+
+#[cfg(test)]
+mod tests;

@@ -5,16 +5,11 @@ ghost use Rattle.fw_tree.specs.Parents.{IsParent, parent_at};
 ghost use Rattle.fw_tree.specs.Numbers.{IsChild, counted, has_number, is_there, number_at, shown};
 ghost use Rattle.fw_tree.specs.Branch.{Branch};
 
-use crate::End;
+use crate::facts::AllCables;
 use crate::rounds::Parent;
 
 // The device that hangs on another at a port.
-fn child_at(
-    g: &[[Option<End>; 27]; 63],
-    parents: &[Option<Parent>; 63],
-    d: u8,
-    p: usize,
-) -> Option<u8>
+fn child_at(g: &AllCables, parents: &[Option<Parent>; 63], d: u8, p: usize) -> Option<u8>
     requires range { InRange g.now }
     requires device { d < 63 }
     requires port { p < 27 }
@@ -60,7 +55,7 @@ pub fn numbered(number: &[Option<u8>; 63]) -> u8
 
 // Numbers the branch that hangs on a device, and then the device.
 pub fn number_branch(
-    g: &[[Option<End>; 27]; 63],
+    g: &AllCables,
     parents: &[Option<Parent>; 63],
     d: u8,
     number: &mut [Option<u8>; 63],

@@ -1,11 +1,12 @@
 ghost use Rattle.std.specs.Prelude.{◌≡◌, ◌<◌, ◌≤◌, ◌+◌, ◌++◌, length};
 ghost use Rattle.fw_tree.specs.SelfIds.{port_code, first_packet, first_port, more_packet, further_packet, node_packets};
 
+use crate::facts::DeviceCables;
 use crate::{End, PhyFacts};
 use fw_phy::{PhyPacket, SelfId, SelfIdMore, SelfIds};
 
 // 3 to a child, 2 to the parent, 1 where no cable is, 0 where the device has no such port.
-fn port_code(ports: u8, cables: &[Option<End>; 27], parent: Option<u8>, p: u8) -> u8
+fn port_code(ports: u8, cables: &DeviceCables, parent: Option<u8>, p: u8) -> u8
     requires { p < 27 }
     ensures { result ≡ port_code ports cables.now parent p }
 {
@@ -23,7 +24,7 @@ fn port_code(ports: u8, cables: &[Option<End>; 27], parent: Option<u8>, p: u8) -
 
 fn first_packet(
     facts: &PhyFacts,
-    cables: &[Option<End>; 27],
+    cables: &DeviceCables,
     parent: Option<u8>,
     phy: u8,
     initiator: bool,
@@ -58,7 +59,7 @@ fn first_port(number: u8) -> u8
 
 fn more_packet(
     facts: &PhyFacts,
-    cables: &[Option<End>; 27],
+    cables: &DeviceCables,
     parent: Option<u8>,
     phy: u8,
     number: u8,
@@ -87,7 +88,7 @@ fn more_packet(
 // Appends an extended packet, where the device has the port at which it begins.
 fn push_further(
     facts: &PhyFacts,
-    cables: &[Option<End>; 27],
+    cables: &DeviceCables,
     parent: Option<u8>,
     phy: u8,
     number: u8,
@@ -106,7 +107,7 @@ fn push_further(
 /// Appends the packets of one node: the fewest that hold its ports.
 pub fn push_node(
     facts: &PhyFacts,
-    cables: &[Option<End>; 27],
+    cables: &DeviceCables,
     parent: Option<u8>,
     phy: u8,
     initiator: bool,
