@@ -8,7 +8,7 @@ ghost use Rattle.fw_tree.specs.Topology.{IsExtended, IsFault, IsJoined, Made};
 
 use crate::facts::AllCables;
 use crate::numbering::{contends, device_with};
-use crate::numbers::{number_branch, numbered, parent_ports};
+use crate::numbers::{numbered, numbers_from, parent_ports};
 use crate::ports::{are_used, have_ports, plug};
 use crate::root::find_root;
 use crate::rounds::parents;
@@ -109,8 +109,7 @@ impl Cabling {
         let on = bus_of(&self.cables);
         let parents = parents(&self.cables);
         let root = find_root(&self.cables, &on, &parents);
-        let mut number = [None; 63];
-        number_branch(&self.cables, &parents, root, &mut number);
+        let number = numbers_from(&self.cables, &parents, root);
         Numbering {
             root,
             count: numbered(&number),

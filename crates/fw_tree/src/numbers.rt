@@ -1,4 +1,4 @@
-ghost use Rattle.std.specs.Prelude.{◌≡◌, ◌<◌, ◌≤◌, ℕ, Bool, List, length, IfSome, IfNone};
+ghost use Rattle.std.specs.Prelude.{◌≡◌, ◌<◌, ◌≤◌, ℕ, Bool, List, length, IfSome, IfNone, None, replicate};
 ghost use Rattle.fw_tree.specs.Cables.{InRange, is_seen};
 ghost use Rattle.fw_tree.specs.Forest.{AreCables};
 ghost use Rattle.fw_tree.specs.Parents.{IsParent, parent_at};
@@ -17,18 +17,12 @@ fn child_at(g: &AllCables, parents: &[Option<Parent>; 63], d: u8, p: usize) -> O
     ensures child { IfSome result (λ c. IsChild g.now parents.now d p c) }
     ensures none { IfNone result ((c : ℕ) → IsChild g.now parents.now d p c → ⊥) }
 {
-    match g[d as usize][p] {
-        Some(end) => match parents[end.device as usize] {
-            Some(parent) => {
-                if parent.port == end.port {
-                    Some(end.device)
-                } else {
-                    None
-                }
-            }
-            None => None,
-        },
-        None => None,
+    let end = g[d as usize][p]?;
+    let parent = parents[end.device as usize]?;
+    if parent.port == end.port {
+        Some(end.device)
+    } else {
+        None
     }
 }
 
@@ -54,7 +48,7 @@ pub fn numbered(number: &[Option<u8>; 63]) -> u8
 }
 
 // Numbers the branch that hangs on a device, and then the device.
-pub fn number_branch(
+fn number_branch(
     g: &AllCables,
     parents: &[Option<Parent>; 63],
     d: u8,
@@ -73,6 +67,19 @@ pub fn number_branch(
         }
     }
     number[d as usize] = Some(numbered(number));
+}
+
+/// The numbers of all devices that hang together with the root.
+pub fn numbers_from(g: &AllCables, parents: &[Option<Parent>; 63], root: u8) -> [Option<u8>; 63]
+    requires range { InRange g.now }
+    requires cables { AreCables g.now }
+    requires parents { (k : ℕ) → k < 63 → IsParent g.now k (parent_at parents.now k) }
+    requires device { root < 63 }
+    ensures { (on : ℕ → Bool) (paths : ℕ → List ℕ) → Branch g.now parents.now root on paths root (replicate 63 None) result }
+{
+    let mut number = [None; 63];
+    number_branch(g, parents, root, &mut number);
+    number
 }
 
 fn shown(on: bool, parent: &Option<Parent>) -> Option<u8>

@@ -1,4 +1,4 @@
-ghost use Rattle.std.specs.Prelude.{◌≡◌, ◌<◌, ◌==◌, ◌&&◌, not, ℕ, true, false, None, IfSome, IfNone, count_by, slice_index_or, slice_set};
+ghost use Rattle.std.specs.Prelude.{◌≡◌, ◌<◌, ◌==◌, ◌&&◌, not, ℕ, true, false, None, IfSome, IfNone, count_by, nat_lt, slice_index_or, slice_set};
 ghost use Rattle.fw_tree.specs.Cables.{InRange, is_seen};
 ghost use Rattle.fw_tree.specs.Rounds.{is_open, open_count, WinsTie, LeavesBy};
 ghost use Rattle.fw_tree.specs.Forest.{AreCables};
@@ -73,6 +73,15 @@ fn leaves(ports: &DeviceCables, d: usize, stays: &[bool; 63]) -> bool
     stays[d] && open_count(ports, stays) == 1
 }
 
+// The other device leaves too, and it was declared before this one.
+fn wins_over(ports: &DeviceCables, other: usize, d: usize, stays: &[bool; 63]) -> bool
+    requires device { other < 63 }
+    requires ends { (p : ℕ) → IfSome (slice_index_or ports.now p None) (λ e. e.device < 63) }
+    ensures { result ≡ (is_seen stays.now other && (count_by (is_open (is_seen stays.now)) ports.now == 1) && nat_lt other d) }
+{
+    leaves(ports, other, stays) && other < d
+}
+
 // The port of the parent of a device that leaves: none for the later one of two that leave towards each other.
 fn parent_port(g: &AllCables, d: usize, stays: &[bool; 63]) -> Option<u8>
     requires range { InRange g.now }
@@ -88,7 +97,7 @@ fn parent_port(g: &AllCables, d: usize, stays: &[bool; 63]) -> Option<u8>
     match open_cable(&g[d], stays) {
         Some(cable) => {
             let other = cable.end.device as usize;
-            if leaves(&g[other], other, stays) && other < d {
+            if wins_over(&g[other], other, d, stays) {
                 None
             } else {
                 Some(cable.port)
@@ -106,10 +115,8 @@ fn note(g: &AllCables, d: usize, round: u8, stays: &[bool; 63]) -> Option<Parent
     requires one { open_count g.now (is_seen stays.now) d ≡ 1 }
     ensures { Notes g.now (is_seen stays.now) round d result }
 {
-    match parent_port(g, d, stays) {
-        Some(port) => Some(Parent { port, round }),
-        None => None,
-    }
+    let port = parent_port(g, d, stays)?;
+    Some(Parent { port, round })
 }
 
 // Lets a device leave where it has one open cable, and says whether it left.

@@ -16,10 +16,10 @@ returns-clause-numbering c =
     let root = c.find_root-root.ensures.root in
     let n = ended c.self.inside.cables c.bus_of-on.result e.settled.0 s.range s.cables s.none c.bus_of-on.ensures e.settled.1 in
     let t = tree_of c.self.inside.cables c.parents-parents.result c.find_root-root.result e.settled.0 c.bus_of-on.result s.range s.cables s.none c.bus_of-on.ensures e.settled.1 e.parents root in
-    let w = numbers_of c.self.inside.cables c.parents-parents.result c.find_root-root.result c.bus_of-on.result _ c.number_branch.new.number t c.bus_of-on.ensures root.is_on blank_number (λ paths. c.number_branch.ensures c.find_root-root.result (is_seen c.bus_of-on.result) paths) in
+    let w = numbers_of c.self.inside.cables c.parents-parents.result c.find_root-root.result c.bus_of-on.result _ c.numbers_from-number.result t c.bus_of-on.ensures root.is_on blank_number (λ paths. c.numbers_from-number.ensures (is_seen c.bus_of-on.result) paths) in
     let count = c.numbered.ensures.count in
-    let N : ℕ → Type 0 = AreNodes c.number_branch.new.number in
-    let result : Numbering = record { root = c.find_root-root.result; count = c.numbered.result; number = c.number_branch.new.number; parent_port = c.parent_ports.result } in
+    let N : ℕ → Type 0 = AreNodes c.numbers_from-number.result in
+    let result : Numbering = record { root = c.find_root-root.result; count = c.numbered.result; number = c.numbers_from-number.result; parent_port = c.parent_ports.result } in
     let P : Topology → Type 0 = λ p. IsNumbering p result in
     subst P c.self.view_is (record {
       some = rw (sym (ap size c.self.view_is)) at c.requires;
