@@ -1,6 +1,7 @@
 pub mod CountLaws
 pub mod FitLaws
 pub mod ForestLaws
+pub mod OneNumberingLaws
 pub mod OneRootLaws
 pub mod ReachLaws
 pub mod RootLaws

@@ -6,6 +6,7 @@ use Rattle.fw_tree.specs.declared.facts.End.{End}
 abbrev pub Peers : Type 0
 Peers = List (List (Option End))
 
+-- the far end of the cable at a port of a device
 abbrev pub peer : Peers → ℕ → ℕ → Option End
 peer g device port = slice_index_or (slice_index_or g device []) port None
 

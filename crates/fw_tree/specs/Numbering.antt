@@ -18,6 +18,13 @@ pub record IsNumbering (p : Topology) (n : Numbering) : Type 0 where
   pub count : n.count ≡ counted (has_number n.number) 63
   pub nodes : AreNodes n.number n.count
 
+-- the two say the same of each device
+pub record IsSame (m n : Numbering) : Type 0 where
+  pub root : m.root ≡ n.root
+  pub count : m.count ≡ n.count
+  pub number : (d : ℕ) → number_at m.number d ≡ number_at n.number d
+  pub parent_port : (d : ℕ) → number_at m.parent_port d ≡ number_at n.parent_port d
+
 -- the device has the number, a link, and contends
 pub record Contends (devices : List PhyFacts) (number : List (Option ℕ)) (d n : ℕ) : Type 0 where
   pub numbered : number_at number d ≡ Some n

@@ -17,13 +17,16 @@ unfoldable pub counted : (ℕ → Bool) → ℕ → ℕ
 counted f zero = 0
 counted f (suc n) = counted f n + (if f n then 1 else 0)
 
+-- what a list by device says of a device
 abbrev pub number_at : List (Option ℕ) → ℕ → Option ℕ
 number_at number d = slice_index_or number d None
 
+-- a number is there
 abbrev pub is_there : Option ℕ → Bool
 is_there None = false
 is_there (Some n) = true
 
+-- the device has a number
 abbrev pub has_number : List (Option ℕ) → ℕ → Bool
 has_number number d = is_there (number_at number d)
 

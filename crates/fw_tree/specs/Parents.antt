@@ -19,6 +19,7 @@ abbrev pub IsParent : Peers → ℕ → Option Parent → Type 0
 IsParent g d None = IsRoot g d
 IsParent g d (Some p) = (p.round < 63) × (p.port < 27) × HasParent g d p.port p.round
 
+-- what is noted of a device
 abbrev pub parent_at : List (Option Parent) → ℕ → Option Parent
 parent_at parents d = slice_index_or parents d None
 

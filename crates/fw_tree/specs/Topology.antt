@@ -18,9 +18,11 @@ ports_of [] d = 0
 ports_of (f ∷ fs) zero = f.ports
 ports_of (f ∷ fs) (suc d) = ports_of fs d
 
+-- the device has the port
 abbrev pub has_port : Topology → End → Bool
 has_port p e = nat_lt e.port (ports_of p.devices e.device)
 
+-- a cable is there
 abbrev pub has_cable : Option End → Bool
 has_cable None = false
 has_cable (Some e) = true
@@ -33,6 +35,7 @@ are_used g a b = has_cable (peer g a.device a.port) || has_cable (peer g b.devic
 abbrev pub put : Peers → End → Option End → Peers
 put g e o = slice_set g e.device (slice_set (slice_index_or g e.device []) e.port o)
 
+-- the cables, with one more between the two ports
 abbrev pub with_cable : Peers → End → End → Peers
 with_cable g a b = put (put g a (Some b)) b (Some a)
 

@@ -1,8 +1,9 @@
 ghost use Rattle.std.specs.Prelude.{◌≡◌, ◌<◌, ◌≤◌, [], ℕ, length, None, IfErr, IfOk};
 ghost use Rattle.std.specs.List.{All};
 ghost use Rattle.fw_phy.specs.Phy.{Fits};
+ghost use Rattle.fw_tree.specs.declared.numbering.Numbering.{Numbering};
 ghost use Rattle.fw_tree.specs.Cables.{peer, IsOnBus};
-ghost use Rattle.fw_tree.specs.Numbering.{IsNumbering, IsManager};
+ghost use Rattle.fw_tree.specs.Numbering.{IsNumbering, IsSame, IsManager};
 ghost use Rattle.fw_tree.specs.SelfIds.{ArePackets};
 ghost use Rattle.fw_tree.specs.Topology.{IsExtended, IsFault, IsJoined, Made};
 
@@ -104,6 +105,7 @@ impl Cabling {
     pub fn identify(&self) -> Numbering
         requires { 0 < length self.now.devices }
         ensures numbering { IsNumbering self.now result }
+        ensures only { (n : Numbering) → IsNumbering self.now n → IsSame result n }
         ensures made { Made self.now }
     {
         let on = bus_of(&self.cables);

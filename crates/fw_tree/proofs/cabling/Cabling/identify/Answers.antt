@@ -1,15 +1,16 @@
 use Rattle.std.proofs.Common.{◌≡◌, ◌<◌, ℕ, ap, subst, sym, take, length}
 use Rattle.fw_tree.specs.declared.numbering.Numbering.{Numbering}
 use Rattle.fw_tree.specs.Cables.{is_seen}
-use Rattle.fw_tree.specs.Topology.{Topology}
+use Rattle.fw_tree.specs.Topology.{Topology, IsSound, Made}
 use Rattle.fw_tree.specs.Numbering.{IsNumbering}
 use Rattle.fw_tree.specs.Numbers.{AreNodes}
+use Rattle.fw_tree.proofs.OneNumberingLaws.{one_numbering}
 use Rattle.fw_tree.proofs.RootLaws.{ended}
 use Rattle.fw_tree.proofs.TreeLaws.{tree_of, numbers_of, parents_of, blank_number}
 use Rattle.fw_tree.proofs.cabling.Cabling.identify.Goals as goal
 
-pub returns-clause-numbering : goal.returns-clause-numbering
-returns-clause-numbering c =
+pub returns : goal.returns
+returns c =
     let size = λ (p : Topology). length p.devices in
     let s = c.self.invariant.sound in
     let e = c.parents-parents.ensures in
@@ -21,11 +22,13 @@ returns-clause-numbering c =
     let N : ℕ → Type 0 = AreNodes c.numbers_from-number.result in
     let result : Numbering = record { root = c.find_root-root.result; count = c.numbered.result; number = c.numbers_from-number.result; parent_port = c.parent_ports.result } in
     let P : Topology → Type 0 = λ p. IsNumbering p result in
-    subst P c.self.view_is (record {
+    let numbering = subst P c.self.view_is (record {
       some = rw (sym (ap size c.self.view_is)) at c.requires;
       root = root;
       numbers = w.numbers;
       parents = parents_of c.self.inside.cables c.parents-parents.result c.bus_of-on.result c.parent_ports.result c.bus_of-on.ensures n.within e.parents c.parent_ports.ensures.ports c.parent_ports.ensures.size;
       count = count;
       nodes = subst N (sym count) w.nodes;
-    })
+    }) in
+    let Q : Topology → Type 0 = IsSound in
+    record { numbering = numbering; only = λ n h. one_numbering c.args.self.now result n (subst Q c.self.view_is s) numbering h; made = let R : Topology → Type 0 = Made in subst R c.self.view_is c.self.invariant.made }
