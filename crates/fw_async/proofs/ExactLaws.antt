@@ -1,8 +1,8 @@
 -- What a reader makes of a piece is the only thing that it can be.
-use Rattle.std.proofs.Common.{◌≡◌, inl, inr, ℕ, ◌+◌, ◌-◌, ◌≤◌, ◌<◌, List, ◌++◌, length, take, drop, Option, Some, None, Result, Ok, Err, OnErr, arith, refl, ap, sym, subst, ◌∙◌, append_assoc, length-append, take-add}
+use Rattle.std.proofs.Common.{◌≡◌, inl, inr, ℕ, ◌+◌, ◌-◌, ◌≤◌, ◌<◌, List, [], ◌++◌, length, take, drop, Option, Some, None, Result, Ok, Err, OnErr, arith, refl, ap, sym, subst, ◌∙◌, append_assoc, append-nil, length-append, take-add}
 use Rattle.std.proofs.lemmas.Bool.{cases_lt}
 use Rattle.std.proofs.lemmas.List.{take_all, length-take-le}
-use Rattle.fw_async.specs.Async.{spelling}
+use Rattle.fw_async.specs.Async.{spelling, Fits}
 use Rattle.fw_async.specs.Reading.{IsPending, fault_of, need}
 use Rattle.fw_async.specs.Reader.{State, Feeds, FeedsTo, Spells, EndsPacket, ShowsFault, EndsNothing, BeginsNone}
 use Rattle.fw_async.specs.declared.PacketFault.{PacketFault}
@@ -10,7 +10,7 @@ use Rattle.fw_async.specs.declared.packet.Packet.{Packet}
 use Rattle.fw_async.specs.declared.reader.Fed.{Fed}
 use Rattle.fw_async.proofs.NeedLaws.{need_done, no_whole_front, fault_stays}
 use Rattle.fw_async.proofs.FeedLaws.{further, stays}
-use Rattle.fw_async.proofs.SpelledLaws.{spelled_none, spelled_need}
+use Rattle.fw_async.proofs.SpelledLaws.{spelled_none, spelled_need, no_proper_front}
 use Rattle.fw_async.proofs.SameLaws.{same_packet}
 
 pub whole_from_spells : (p : Packet) (bytes : List ℕ) → Spells p bytes → length bytes ≡ need bytes
@@ -103,3 +103,9 @@ gives_hopeless old piece (Err f) new h =
     let shown : fault_of (old ++ take (length piece) piece) ≡ Some f = stays old piece (h.0.0 + 1) (length piece) f (omega (arith, h.0.1.within)) h.0.1.shown in
     let all : fault_of (old ++ piece) ≡ Some f = ap (λ t. fault_of (old ++ t)) (sym (take_all (length piece) piece (omega arith))) ∙ shown in
     record { none = λ p more s. cc (fault_stays (old ++ piece) more f all, clear_from_spells p ((old ++ piece) ++ more) s) }
+
+-- no packet's spelling begins with another's
+pub spelled_alone : (p q : Packet) (more : List ℕ) → Fits p → Fits q → spelling q ≡ spelling p ++ more → (q ≡ p) × (more ≡ [])
+spelled_alone p q more f g e =
+    let none : more ≡ [] = no_proper_front p q more f g e in
+    (same_packet q p g f (e ∙ ap (λ t. spelling p ++ t) none ∙ append-nil (spelling p)), none)

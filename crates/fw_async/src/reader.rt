@@ -7,13 +7,13 @@ ghost use Rattle.fw_async.specs.declared.packet.Packet.{Packet};
 
 use crate::PacketFault;
 use crate::buffer::append;
-use crate::cycle_start::get_cycle_start;
+use crate::cycle_start::cycle_start_at;
 use crate::faults::{outlook, tcode_at};
-use crate::lock::{get_lock, get_lock_reply};
+use crate::lock::{lock_at, lock_reply_at};
 use crate::packet::Packet;
-use crate::read::{get_read_block, get_read_block_reply, get_read_quadlet, get_read_quadlet_reply};
+use crate::read::{read_block_at, read_block_reply_at, read_quadlet_at, read_quadlet_reply_at};
 use crate::tcode::Tcode;
-use crate::write::{get_write_block, get_write_quadlet, get_write_reply};
+use crate::write::{write_block_at, write_quadlet_at, write_reply_at};
 use arrayvec::ArrayVec;
 use std::marker::Model;
 
@@ -29,16 +29,16 @@ fn packet_of_kind(tcode: Tcode, bytes: &[u8]) -> Packet
     ensures { ReadsAs (code_of tcode) bytes.now result }
 {
     match tcode {
-        Tcode::WriteQuadlet => get_write_quadlet(bytes),
-        Tcode::WriteBlock => get_write_block(bytes),
-        Tcode::WriteReply => get_write_reply(bytes),
-        Tcode::ReadQuadlet => get_read_quadlet(bytes),
-        Tcode::ReadBlock => get_read_block(bytes),
-        Tcode::ReadQuadletReply => get_read_quadlet_reply(bytes),
-        Tcode::ReadBlockReply => get_read_block_reply(bytes),
-        Tcode::CycleStart => get_cycle_start(bytes),
-        Tcode::Lock => get_lock(bytes),
-        Tcode::LockReply => get_lock_reply(bytes),
+        Tcode::WriteQuadlet => write_quadlet_at(bytes),
+        Tcode::WriteBlock => write_block_at(bytes),
+        Tcode::WriteReply => write_reply_at(bytes),
+        Tcode::ReadQuadlet => read_quadlet_at(bytes),
+        Tcode::ReadBlock => read_block_at(bytes),
+        Tcode::ReadQuadletReply => read_quadlet_reply_at(bytes),
+        Tcode::ReadBlockReply => read_block_reply_at(bytes),
+        Tcode::CycleStart => cycle_start_at(bytes),
+        Tcode::Lock => lock_at(bytes),
+        Tcode::LockReply => lock_reply_at(bytes),
     }
 }
 

@@ -2,7 +2,7 @@ use Rattle.std.proofs.Common.{rules, ◌≡◌, ℕ, ◌<◌, [], ◌∷◌, sli
 use Rattle.fw_words.specs.Quadlet.{quadlet_at}
 use Rattle.fw_async.specs.Async.{size}
 use Rattle.fw_async.proofs.KindLaws.{request_at}
-use Rattle.fw_async.proofs.cycle_start.get_cycle_start.Goals as goal
+use Rattle.fw_async.proofs.cycle_start.cycle_start_at.Goals as goal
 
 pub returns : goal.returns
 returns c =
