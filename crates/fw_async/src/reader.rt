@@ -1,7 +1,7 @@
 ghost use Rattle.std.specs.Prelude.{ℕ, ◌≡◌, ◌≤◌, ◌<◌, ◌+◌, ◌-◌, ◌++◌, [], length, take, IsTrue, ◌↔◌, IfSome, IfNone, OnErr};
 ghost use Rattle.fw_async.specs.Tcode.{code_of};
 ghost use Rattle.fw_async.specs.Reading.{IsWhole, ReadsAs, IsPending, fault_of, need};
-ghost use Rattle.fw_async.specs.Reader.{Spells, TakesPart, Feeds, EndsPacket, EndsNothing, ShowsFault, BeginsNone};
+ghost use Rattle.fw_async.specs.Reader.{Spells, TakesPart, Feeds, EndsNothing, BeginsNone};
 ghost use Rattle.fw_async.specs.declared.PacketFault.{PacketFault};
 ghost use Rattle.fw_async.specs.declared.packet.Packet.{Packet};
 
@@ -146,9 +146,9 @@ impl PacketReader {
     pub fn feed(&mut self, piece: &[u8]) -> Result<Fed, PacketFault>
         ensures kept { IfSome self.old.fault (λ f. (result ≡ Err f) × (self.new ≡ self.old)) }
         ensures fresh { IfNone self.old.fault (Feeds self.old.taken piece.now result self.new) }
-        ensures packet { IfNone self.old.fault ((k : ℕ) → (p : Packet) → EndsPacket self.old.taken piece.now k p → result ≡ Ok (record { used = k; packet = Some p })) }
+        ensures packet { IfNone self.old.fault ((k : ℕ) → (p : Packet) → k ≤ length piece.now → Spells p (self.old.taken ++ take k piece.now) → result ≡ Ok (record { used = k; packet = Some p })) }
         ensures none { IfNone self.old.fault (EndsNothing self.old.taken piece.now → result ≡ Ok (record { used = length piece.now; packet = None })) }
-        ensures fault { IfNone self.old.fault ((k : ℕ) → (f : PacketFault) → ShowsFault self.old.taken piece.now k f → result ≡ Err f) }
+        ensures fault { IfNone self.old.fault ((k : ℕ) → (f : PacketFault) → k < length piece.now → IsPending (self.old.taken ++ take k piece.now) → fault_of (self.old.taken ++ take (k + 1) piece.now) ≡ Some f → result ≡ Err f) }
         ensures hopeless { IfNone self.old.fault (OnErr result (BeginsNone (self.old.taken ++ piece.now))) }
     {
         match self.fault {
