@@ -1,6 +1,5 @@
-use Rattle.std.proofs.Common.{rules, ◌≡◌, ℕ, ◌<◌, [], ◌∷◌, slice_index, length, arith, refl, ap, sym, ◌∙◌}
+use Rattle.std.proofs.Common.{rules, ℕ, ◌<◌, [], ◌∷◌, slice_index, arith, ap, ◌∙◌}
 use Rattle.fw_words.specs.Quadlet.{quadlet_at}
-use Rattle.fw_async.specs.Async.{size}
 use Rattle.fw_async.proofs.KindLaws.{request_at}
 use Rattle.fw_async.proofs.cycle_start.cycle_start_at.Goals as goal
 

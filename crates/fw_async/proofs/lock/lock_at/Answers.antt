@@ -1,4 +1,4 @@
-use Rattle.std.proofs.Common.{rules, ◌≡◌, ℕ, ◌<◌, [], ◌∷◌, slice_index, length, arith, refl, ap, sym, ◌∙◌}
+use Rattle.std.proofs.Common.{rules, ℕ, ◌<◌, [], ◌∷◌, slice_index, length, arith, ap, ◌∙◌}
 use Rattle.fw_words.specs.Quadlet.{quadlet_at}
 use Rattle.fw_async.specs.Async.{size}
 use Rattle.fw_async.proofs.KindLaws.{request_at, size_at}
