@@ -17,10 +17,12 @@ use crate::write::{write_block_at, write_quadlet_at, write_reply_at};
 use arrayvec::ArrayVec;
 use std::marker::Model;
 
-/// What a piece gave: how many of its bytes were taken, and the packet that ended with them.
+/// What a piece gave.
 #[derive(Debug, PartialEq, Eq, Drop)]
 pub struct Fed {
+    /// How many of its bytes were taken: those up to the packet's end, or all.
     pub used: usize,
+    /// The packet that ended with them.
     pub packet: Option<Packet>,
 }
 
@@ -54,7 +56,8 @@ fn packet_at(bytes: &[u8]) -> Packet
     }
 }
 
-/// Reads packets from bytes that come in any pieces.
+/// Reads packets from bytes that come in any pieces. It keeps the bytes since the last packet and the fault that it
+/// answered, and takes no memory besides.
 #[derive(Debug, Drop)]
 pub struct PacketReader {
     taken: ArrayVec<u8, 528>,
@@ -84,7 +87,7 @@ impl PacketReader {
         }
     }
 
-    /// No byte of a packet was taken.
+    /// No byte of a packet was taken since the last packet. After a fault it is false.
     pub fn is_between(&self) -> bool
         ensures { IsTrue result ↔ (self.now.taken ≡ []) }
     {
@@ -140,9 +143,9 @@ impl PacketReader {
         Ok(Fed { used, packet: None })
     }
 
-    /// Takes bytes up to the end of one packet, or all of the piece where no packet ends in it. A fault comes in
-    /// the call in which the byte is taken that completes the quadlet, or is the padding byte, which shows it;
-    /// no packet begins with the bytes up to there. After a fault each call answers that fault.
+    /// Takes bytes up to the end of one packet, or all of the piece where no packet ends in it and no fault shows.
+    /// A fault is answered by the call that takes the last byte of the quadlet, or the padding byte, which shows it:
+    /// no packet begins with the bytes up to there. After it each call answers the same fault and changes nothing.
     pub fn feed(&mut self, piece: &[u8]) -> Result<Fed, PacketFault>
         ensures kept { IfSome self.old.fault (λ f. (result ≡ Err f) × (self.new ≡ self.old)) }
         ensures fresh { IfNone self.old.fault (Feeds self.old.taken piece.now result self.new) }
