@@ -1,7 +1,7 @@
 -- What a reader makes of a piece is the only thing that it can be.
-use Rattle.std.proofs.Common.{◌≡◌, inl, inr, ℕ, ◌+◌, ◌-◌, ◌≤◌, List, ◌++◌, flat_map, length, take, drop, Option, Some, None, Result, Ok, Err, arith, refl, ap, sym, subst, ◌∙◌, length-append}
+use Rattle.std.proofs.Common.{◌≡◌, inl, inr, ℕ, ◌+◌, ◌-◌, ◌≤◌, ◌<◌, List, ◌++◌, flat_map, length, take, drop, Option, Some, None, Result, Ok, Err, arith, refl, ap, sym, subst, ◌∙◌, length-append}
 use Rattle.std.proofs.lemmas.Bool.{cases_lt}
-use Rattle.std.proofs.lemmas.List.{take_all, take-take, length-take-le, take-append-drop}
+use Rattle.std.proofs.lemmas.List.{append-nil, take_all, take-take, length-take-le, take-append-drop}
 use Rattle.fw_async.proofs.NeedLaws.{fault_stays}
 use Rattle.fw_async.proofs.ExactLaws.{clear_from_spells}
 use Rattle.fw_async.specs.Reading as Packets
@@ -12,7 +12,7 @@ use Rattle.fw_phy.specs.Phy.{spelling}
 use Rattle.fw_log.specs.Bodies.{IsBody, BodyRefused, PacketRefuses, refusal}
 use Rattle.fw_log.specs.Reading.{IsPending, Spells, Faulty, WrongBody, need, skip, fault_at}
 use Rattle.fw_log.specs.declared.stand.Stand.{Stand}
-use Rattle.fw_log.specs.Reader.{State, Feeds, FeedsTo, EndsEntry, ShowsFault, EndsNothing}
+use Rattle.fw_log.specs.Reader.{State, Feeds, FeedsTo, Counts, total, EndsEntry, ShowsFault, EndsNothing}
 use Rattle.fw_log.specs.declared.entry.Entry.{Entry}
 use Rattle.fw_log.specs.declared.entry.Timed.{Timed}
 use Rattle.fw_log.specs.declared.read.LogFed.{LogFed}
@@ -174,3 +174,23 @@ gives_none s old piece (Ok fed) new h e =
     let g = none_to s old piece fed.used fed.entry new h e in
     ap (λ (n : ℕ). let r : Result LogFed LogFault = Ok (record { used = n; entry = fed.entry }) in r) g.count ∙ ap (λ (o : Option Timed). let r : Result LogFed LogFault = Ok (record { used = length piece; entry = o }) in r) g.none
 gives_none s old piece (Err f) new h e = absurd (e.no_fault (h.0.0 + 1) f (omega (arith, h.0.1.within)) h.0.1.shown)
+
+counts_to : (old : State) (piece : List ℕ) (used : ℕ) (entry : Option Timed) (new : State) → FeedsTo old.stand old.taken piece used entry new → IsPending old.stand old.taken → (total new ≡ total old + used) × (used ≤ length piece) × (0 < length piece → 0 < used)
+counts_to old piece used None new h pending =
+    (omega (arith, ap (λ (r : State). total r) h.1, length-append old.taken piece, h.0), omega (arith, h.0), λ some. omega (arith, h.0, some))
+counts_to old piece used (Some t) new h pending =
+    let size : length (take used piece) ≡ used = length-take-le used piece h.0.within in (
+      omega (arith, ap (λ (r : State). total r) h.1, length-append old.taken (take used piece), size),
+      h.0.within,
+      λ some. elim (cases_lt 0 used) [
+        | inl more ↦ more
+        | inr none ↦
+            let P : List ℕ → Type 0 = IsPending old.stand in
+            let same : old.taken ≡ old.taken ++ take 0 piece = sym (append-nil old.taken) in
+            never_whole old.stand old.taken piece used 0 none (spelled_whole old.stand t (old.taken ++ take used piece) h.0.spells) (subst P same pending)
+      ],
+    )
+
+pub counts : (old : State) (piece : List ℕ) (r : Result LogFed LogFault) (new : State) → Feeds old.stand old.taken piece r new → IsPending old.stand old.taken → Counts old piece r new
+counts old piece (Ok fed) new h pending = counts_to old piece fed.used fed.entry new h pending
+counts old piece (Err f) new h pending = tt

@@ -70,6 +70,11 @@ abbrev pub Feeds : Stand → List ℕ → List ℕ → Result LogFed LogFault �
 Feeds s old piece (Ok fed) new = FeedsTo s old piece fed.used fed.entry new
 Feeds s old piece (Err f) new = ((k : ℕ) × ShowsFault s old piece k f) × (new.fault ≡ Some f)
 
+-- the bytes that were taken are counted, and some are where there are any
+abbrev pub Counts : State → List ℕ → Result LogFed LogFault → State → Type 0
+Counts old piece (Ok fed) new = (total new ≡ total old + fed.used) × (fed.used ≤ length piece) × (0 < length piece → 0 < fed.used)
+Counts old piece (Err f) new = Unit {0}
+
 -- what the input's end makes of it
 abbrev pub finish_by : Option LogFault → Stand → List ℕ → Option LogFault
 finish_by (Some f) s taken = Some f

@@ -4,7 +4,7 @@ ghost use Rattle.std.specs.Prelude.{ℕ, ◌≡◌, ◌≤◌, ◌<◌, ◌+◌,
 ghost use Rattle.std.specs.Result.{result_err};
 ghost use Rattle.fw_log.specs.Log.{is_end, LogOpens};
 ghost use Rattle.fw_log.specs.Reading.{need, WholeHead, IsPending};
-ghost use Rattle.fw_log.specs.Reader.{State, total, with_bytes, WholeJudges, Judges, TakesPart, EndsEntry, EndsNothing, ShowsFault, Feeds, finish_of};
+ghost use Rattle.fw_log.specs.Reader.{State, total, with_bytes, WholeJudges, Judges, TakesPart, EndsEntry, EndsNothing, ShowsFault, Feeds, Counts, finish_of};
 ghost use Rattle.fw_log.specs.Whole.{stand_after, HasRead, ReadsOn, GivesNext, Finishes};
 ghost use Rattle.fw_log.specs.declared.LogFault.{LogFault};
 ghost use Rattle.fw_log.specs.declared.entry.Timed.{Timed};
@@ -155,6 +155,8 @@ impl LogReader {
         requires { total self.old + length piece.now < 2 ^ 64 }
         ensures kept { IfSome self.old.fault (λ f. (result ≡ Err f) × (self.new ≡ self.old)) }
         ensures fresh { IfNone self.old.fault (Feeds self.old.stand self.old.taken piece.now result self.new) }
+
+        ensures counts { Counts self.old piece.now result self.new }
 
         // An entry, none and a fault come exactly where the bytes since the last entry make them.
         ensures entry { IfNone self.old.fault ((k : ℕ) → (t : Timed) → EndsEntry self.old.stand self.old.taken piece.now k t → result ≡ Ok (record { used = k; entry = Some t })) }
