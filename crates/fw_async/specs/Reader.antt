@@ -1,5 +1,5 @@
 -- What a reader of packets keeps, and what it makes of the bytes that come.
-use Rattle.std.specs.Prelude.{◌≡◌, ◌≢◌, ℕ, ◌+◌, ◌≤◌, ◌<◌, List, [], ◌∷◌, ◌++◌, length, take, Option, Some, None, Result, Ok, Err}
+use Rattle.std.specs.Prelude.{◌≡◌, ◌≢◌, ℕ, ◌+◌, ◌≤◌, ◌<◌, List, [], ◌++◌, length, take, Option, Some, None, Result, Ok, Err}
 use Rattle.fw_async.specs.Async.{spelling, Fits}
 use Rattle.fw_async.specs.Reading.{fault_of, need, IsPending}
 use Rattle.fw_async.specs.declared.PacketFault.{PacketFault}

@@ -1,5 +1,4 @@
-use Rattle.std.proofs.Common.{◌≡◌, ℕ, ◌<◌, ◌≤◌, length, slice_index, arith, sym, subst}
-use Rattle.fw_async.specs.Tcode.{code_of}
+use Rattle.std.proofs.Common.{ℕ, ◌≤◌, length, arith, sym, subst}
 use Rattle.fw_async.specs.Reading.{tcode_of, IsWhole, ReadsAs}
 use Rattle.fw_async.proofs.ReadingLaws.{no_fault}
 use Rattle.fw_async.proofs.NeedLaws.{need_least}

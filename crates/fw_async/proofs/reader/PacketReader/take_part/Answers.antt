@@ -1,4 +1,4 @@
-use Rattle.std.proofs.Common.{◌≡◌, ◌++◌, ◌+◌, ◌<◌, ◌≤◌, ℕ, List, length, None, ap, sym, subst, ◌∙◌}
+use Rattle.std.proofs.Common.{◌≡◌, ◌++◌, ◌+◌, ◌≤◌, ℕ, List, length, None, ap, sym, subst, ◌∙◌}
 use Rattle.fw_async.specs.Reading.{fault_of, need, IsPending}
 use Rattle.fw_async.specs.Reader.{Spells}
 use Rattle.fw_async.proofs.NeedLaws.{meet}

@@ -1,8 +1,8 @@
-use Rattle.std.proofs.Common.{rules, ◌≡◌, ℕ, ◌<◌, [], ◌∷◌, slice_index, length, arith, refl, ap, sym, ◌∙◌}
+use Rattle.std.proofs.Common.{rules, ℕ, ◌<◌, [], ◌∷◌, slice_index, arith, refl, ap, sym, ◌∙◌}
 use Rattle.fw_words.specs.Quadlet.{quadlet_at}
 use Rattle.fw_async.specs.Async.{size}
 use Rattle.fw_async.proofs.KindLaws.{request_at, size_at}
-use Rattle.fw_async.proofs.read.get_read_block.Goals as goal
+use Rattle.fw_async.proofs.read.read_block_at.Goals as goal
 
 pub returns : goal.returns
 returns c =

@@ -1,7 +1,6 @@
-use Rattle.std.proofs.Common.{rules, ◌≡◌, ℕ, ◌<◌, [], ◌∷◌, slice_index, arith, refl}
-use Rattle.fw_words.specs.Quadlet.{quadlet_at}
+use Rattle.std.proofs.Common.{rules, ℕ, ◌<◌, [], slice_index, arith, refl}
 use Rattle.fw_async.proofs.KindLaws.{response_at}
-use Rattle.fw_async.proofs.write.get_write_reply.Goals as goal
+use Rattle.fw_async.proofs.write.write_reply_at.Goals as goal
 
 pub returns : goal.returns
 returns c =

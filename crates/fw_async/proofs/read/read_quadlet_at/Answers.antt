@@ -1,7 +1,6 @@
-use Rattle.std.proofs.Common.{rules, ◌≡◌, ℕ, ◌<◌, [], ◌∷◌, slice_index, arith, refl}
-use Rattle.fw_words.specs.Quadlet.{quadlet_at}
+use Rattle.std.proofs.Common.{rules, ℕ, ◌<◌, [], slice_index, arith}
 use Rattle.fw_async.proofs.KindLaws.{request_at}
-use Rattle.fw_async.proofs.read.get_read_quadlet.Goals as goal
+use Rattle.fw_async.proofs.read.read_quadlet_at.Goals as goal
 
 pub returns : goal.returns
 returns c =
