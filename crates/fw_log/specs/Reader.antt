@@ -30,9 +30,9 @@ abbrev pub after : Stand → List ℕ → Timed → State
 after s taken t = record { stand = record { start = s.start + length taken; last = t.cycle; ended = is_end t.what }; taken = []; fault = None }
 
 -- a whole entry: it, or why its body is none
-abbrev pub WholeJudges : Stand → List ℕ → Result Timed LogFault → Type 0
-WholeJudges s bytes (Ok t) = Spells s t bytes
-WholeJudges s bytes (Err f) = WrongBody s bytes f
+abbrev pub EntryJudges : Stand → List ℕ → Result Timed LogFault → Type 0
+EntryJudges s bytes (Ok t) = Spells s t bytes
+EntryJudges s bytes (Err f) = WrongBody s bytes f
 
 abbrev pub Judges : Stand → List ℕ → Result (Option Timed) LogFault → Type 0
 Judges s bytes (Ok None) = IsPending s bytes

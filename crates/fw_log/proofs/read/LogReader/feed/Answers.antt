@@ -3,7 +3,7 @@ use Rattle.fw_log.specs.Reading.{IsPending}
 use Rattle.fw_log.specs.Reader.{State}
 use Rattle.fw_log.proofs.FeedLaws.{if_none_by, pending_of}
 use Rattle.fw_log.proofs.ExactLaws.{counts, gives_entry, gives_none, gives_fault}
-use Rattle.fw_log.proofs.WholeLaws.{reads_on, gives_next}
+use Rattle.fw_log.proofs.HistoryLaws.{reads_on, gives_next}
 use Rattle.fw_log.proofs.read.LogReader.feed.Goals as goal
 
 pub returns-in-None-clause-entry : goal.returns-in-None-clause-entry
