@@ -1,8 +1,7 @@
 -- Counts of devices, and numbers that are each of one device.
 use Rattle.std.proofs.Common.{add-one, add-zero, ◌≡◌, ◌⊎◌, inl, inr, ℕ, zero, suc, ◌<◌, ◌≤◌, ◌+◌, List, length, Option, Some, None, Bool, true, false, slice_set, if◌then◌else◌, arith, refl, sym, ap, ◌∙◌, get_or-set_same, get_or-set_other}
-use Rattle.std.proofs.lemmas.Bool.{cases_eq, cases_lt}
+use Rattle.std.proofs.lemmas.Bool.{cases_eq}
 use Rattle.fw_tree.specs.Numbers.{counted, number_at, is_there, has_number, AreNodes}
-use Rattle.fw_tree.proofs.ForestLaws.{truth}
 
 pub counted_none : (f : ℕ → Bool) → counted f 0 ≡ 0
 unfolding counted

@@ -1,6 +1,5 @@
 -- The numbers of each self-ID packet fit their fields.
-use Rattle.std.proofs.Common.{rules, ◌≡◌, ℕ, zero, suc, ◌<◌, ◌≤◌, ◌+◌, nat_lt, List, [], ◌∷◌, ◌++◌, Option, Some, None, Bool, true, false, slice_index_or, if◌then◌else◌, arith, refl, sym, subst, ◌==◌}
-use Rattle.std.proofs.lemmas.Bool.Decides.{nat_tests}
+use Rattle.std.proofs.Common.{rules, ℕ, zero, suc, ◌<◌, ◌≤◌, ◌+◌, nat_lt, List, [], ◌∷◌, ◌++◌, Option, Some, None, Bool, true, false, slice_index_or, if◌then◌else◌, arith, refl, sym, subst, ◌==◌}
 use Rattle.std.proofs.lemmas.List.Elements.{All-nil, All-append, All-push}
 use Rattle.std.specs.List.{All}
 use Rattle.fw_phy.specs.declared.packet.PhyPacket.{PhyPacket}

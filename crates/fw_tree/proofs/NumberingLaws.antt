@@ -1,11 +1,11 @@
 -- What a numbering says of its devices.
-use Rattle.std.proofs.Common.{add-one, ◌≡◌, ◌⊎◌, inl, inr, ℕ, ◌<◌, ◌≤◌, ◌+◌, ◌&&◌, List, length, Option, Some, None, Bool, true, false, take, arith, refl, sym, ap, subst, ◌↔◌, ◌∙◌, slice_index_or}
-use Rattle.std.proofs.lemmas.Bool.{cases_eq, cases_lt}
-use Rattle.std.proofs.lemmas.List.{get_or-take, get_or_past}
+use Rattle.std.proofs.Common.{◌≡◌, inl, inr, ℕ, ◌<◌, ◌≤◌, ◌+◌, ◌&&◌, List, length, Option, Some, None, Bool, true, false, take, arith, sym, ap, subst, ◌↔◌, ◌∙◌}
+use Rattle.std.proofs.lemmas.Bool.{cases_eq}
+use Rattle.std.proofs.lemmas.List.{get_or-take}
 use Rattle.fw_tree.specs.declared.facts.PhyFacts.{PhyFacts}
 use Rattle.fw_tree.specs.declared.numbering.Numbering.{Numbering}
 use Rattle.fw_tree.specs.Cables.{Peers, IsOnBus}
-use Rattle.fw_tree.specs.Numbers.{AreNodes, number_at, has_number, counted}
+use Rattle.fw_tree.specs.Numbers.{AreNodes, number_at, has_number}
 use Rattle.fw_tree.specs.SelfIds.{facts_at}
 use Rattle.fw_tree.specs.Topology.{Topology, IsSound}
 use Rattle.fw_tree.specs.Numbering.{IsNumbering, Contends, IsGreatest, IsManager}

@@ -1,11 +1,11 @@
 -- A topology has one numbering.
-use Rattle.std.proofs.Common.{◌≡◌, inl, inr, ℕ, ◌<◌, ◌&&◌, List, Option, Some, None, Bool, true, false, refl, sym, ap, subst, ◌∙◌}
+use Rattle.std.proofs.Common.{◌≡◌, inl, inr, ℕ, ◌&&◌, List, Option, Some, None, Bool, true, false, refl, sym, ap, subst, ◌∙◌}
 use Rattle.fw_tree.specs.declared.numbering.Numbering.{Numbering}
 use Rattle.fw_tree.specs.Cables.{Peers, IsOnBus}
 use Rattle.fw_tree.specs.Rounds.{IsRoot}
 use Rattle.fw_tree.specs.Forest.{AreCables}
 use Rattle.fw_tree.specs.Paths.{comes_before}
-use Rattle.fw_tree.specs.Numbers.{AreNumbers, AreParents, IsParentPort, LeadsDown, counted, number_at, has_number, is_there}
+use Rattle.fw_tree.specs.Numbers.{AreNumbers, AreParents, IsParentPort, number_at, has_number, is_there}
 use Rattle.fw_tree.specs.Topology.{Topology, IsSound}
 use Rattle.fw_tree.specs.Numbering.{IsNumbering, IsSame}
 use Rattle.fw_tree.proofs.ForestLaws.{truth}

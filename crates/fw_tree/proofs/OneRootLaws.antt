@@ -1,12 +1,12 @@
 -- The rounds of each topology that can be made end with one root.
-use Rattle.std.proofs.Common.{◌≡◌, ◌⊎◌, inl, inr, ℕ, zero, suc, ◌<◌, ◌≤◌, ◌+◌, Bool, true, false, not, ◌&&◌, List, [], length, arith, refl, sym, ◌∙◌}
-use Rattle.fw_tree.specs.Cables.{Peers, InRange, is_seen}
-use Rattle.fw_tree.specs.Rounds.{stays, open_count}
+use Rattle.std.proofs.Common.{◌≡◌, ◌⊎◌, inl, inr, ℕ, zero, suc, ◌<◌, ◌≤◌, ◌+◌, Bool, true, false, not, ◌&&◌, arith, refl, sym}
+use Rattle.fw_tree.specs.Cables.{Peers, is_seen}
+use Rattle.fw_tree.specs.Rounds.{stays}
 use Rattle.fw_tree.specs.Numbers.{counted}
-use Rattle.fw_tree.specs.Parents.{Settled, IsTheRoot}
+use Rattle.fw_tree.specs.Parents.{Settled}
 use Rattle.fw_tree.specs.Topology.{Topology, Made}
 use Rattle.fw_tree.specs.Numbering.{EndsWithOneRoot}
-use Rattle.fw_tree.proofs.ForestLaws.{truth, first_of, second_of, not_false}
+use Rattle.fw_tree.proofs.ForestLaws.{first_of, second_of, not_false}
 use Rattle.fw_tree.proofs.CountLaws.{counted_most, counted_less}
 use Rattle.fw_tree.proofs.RoundLaws.{stayed, same_from}
 use Rattle.fw_tree.proofs.RootLaws.{ended, one_root, some_root, some_below}

@@ -7,7 +7,7 @@ use Rattle.fw_phy.specs.declared.packet.PhyPacket.{PhyPacket}
 use Rattle.fw_tree.specs.declared.facts.End.{End}
 use Rattle.fw_tree.specs.declared.facts.PhyFacts.{PhyFacts}
 use Rattle.fw_tree.specs.Cables.{Peers}
-use Rattle.fw_tree.specs.Numbers.{number_at, is_there, has_number}
+use Rattle.fw_tree.specs.Numbers.{number_at, has_number}
 use Rattle.fw_tree.proofs.CountLaws.{there}
 use Rattle.fw_tree.specs.SelfIds.{first_port, more_packet, further_packet, node_packets, facts_at, ArePackets, no_node, node}
 

@@ -1,5 +1,5 @@
 -- The packets of self-identification (IEEE 1394-1995, self-ID packets).
-use Rattle.std.specs.Prelude.{◌≡◌, ℕ, suc, ◌<◌, ◌+◌, ◌*◌, ◌==◌, nat_lt, List, [], ◌∷◌, ◌++◌, Option, Some, None, Bool, false, slice_index_or, if◌then◌else◌}
+use Rattle.std.specs.Prelude.{◌≡◌, ℕ, suc, ◌+◌, ◌*◌, ◌==◌, nat_lt, List, [], ◌∷◌, ◌++◌, Option, Some, None, Bool, false, slice_index_or, if◌then◌else◌}
 use Rattle.fw_phy.specs.declared.packet.PhyPacket.{PhyPacket}
 use Rattle.fw_phy.specs.declared.packet.PhyPacket.TheVariants.{SelfId, SelfIdMore}
 use Rattle.fw_tree.specs.declared.facts.End.{End}

@@ -100,8 +100,13 @@ impl Cabling {
         Ok(())
     }
 
-    /// Identifies the tree and numbers the devices of the bus, the part that is connected with device 0. A device
+    /// Identifies the tree and numbers the nodes of the bus, the part that is connected with device 0 (own). A device
     /// is there.
+    ///
+    /// In a round each device that has exactly one cable to a device that has not left leaves, and that neighbour is
+    /// its parent; the one that never leaves is root. Of two that leave towards each other in one round the one
+    /// declared later is root (own). A device's children have their numbers in order of their ports, each with its
+    /// whole branch, before the device itself (IEEE 1394-1995, tree identification and self-identification).
     pub fn identify(&self) -> Numbering
         requires { 0 < length self.now.devices }
         ensures numbering { IsNumbering self.now result }

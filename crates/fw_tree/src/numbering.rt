@@ -1,4 +1,4 @@
-ghost use Rattle.std.specs.Prelude.{◌≡◌, ◌<◌, ◌&&◌, ℕ, Some, IsTrue, ◌↔◌};
+ghost use Rattle.std.specs.Prelude.{◌≡◌, ◌<◌, ◌&&◌, ℕ, Some};
 ghost use Rattle.fw_tree.specs.Numbers.{number_at};
 
 use crate::PhyFacts;
@@ -23,17 +23,11 @@ pub fn device_with(number: &[Option<u8>; 63], n: u8) -> u8
     ensures number { number_at number.now result ≡ Some n }
 {
     for d in 0..63 {
-        if has(&number[d], n) {
+        if number[d] == Some(n) {
             return d as u8;
         }
     }
     unreachable!()
-}
-
-fn has(number: &Option<u8>, n: u8) -> bool
-    ensures { IsTrue result ↔ (number.now ≡ Some n) }
-{
-    *number == Some(n)
 }
 
 /// The device may become manager: it has a link and contends.

@@ -2,7 +2,7 @@ ghost use Rattle.std.specs.Prelude.{◌≡◌, ◌<◌, ◌≤◌, ℕ, Bool, Li
 ghost use Rattle.fw_tree.specs.Cables.{InRange, is_seen};
 ghost use Rattle.fw_tree.specs.Forest.{AreCables};
 ghost use Rattle.fw_tree.specs.Parents.{IsParent, parent_at};
-ghost use Rattle.fw_tree.specs.Numbers.{IsChild, counted, has_number, is_there, number_at, shown};
+ghost use Rattle.fw_tree.specs.Numbers.{IsChild, counted, has_number, number_at, shown};
 ghost use Rattle.fw_tree.specs.Branch.{Branch};
 
 use crate::facts::AllCables;
@@ -26,13 +26,7 @@ fn child_at(g: &AllCables, parents: &[Option<Parent>; 63], d: u8, p: usize) -> O
     }
 }
 
-fn is_there(number: &Option<u8>) -> bool
-    ensures { result ≡ is_there number.now }
-{
-    number.is_some()
-}
-
-// How many devices have a number.
+/// How many devices have a number.
 #[tactic(auto, using(crate::proofs::CountLaws::counted_none, crate::proofs::CountLaws::counted_yes, crate::proofs::CountLaws::counted_else))]
 pub fn numbered(number: &[Option<u8>; 63]) -> u8
     ensures count { result ≡ counted (has_number number.now) 63 }
@@ -40,7 +34,7 @@ pub fn numbered(number: &[Option<u8>; 63]) -> u8
 {
     let mut count = 0;
     for d in 0..63 {
-        if is_there(&number[d]) {
+        if number[d].is_some() {
             count += 1;
         }
     }
@@ -82,6 +76,7 @@ pub fn numbers_from(g: &AllCables, parents: &[Option<Parent>; 63], root: u8) -> 
     number
 }
 
+// The port at which the parent is, where the device is on the bus.
 fn shown(on: bool, parent: &Option<Parent>) -> Option<u8>
     ensures { result ≡ shown on parent.now }
 {
@@ -91,7 +86,7 @@ fn shown(on: bool, parent: &Option<Parent>) -> Option<u8>
     }
 }
 
-// The parents' ports of the devices of the bus.
+/// The parents' ports of the devices of the bus.
 pub fn parent_ports(on: &[bool; 63], parents: &[Option<Parent>; 63]) -> [Option<u8>; 63]
     ensures ports { (d : ℕ) → d < 63 → number_at result d ≡ shown (is_seen on.now d) (parent_at parents.now d) }
     ensures size { length result ≡ 63 }

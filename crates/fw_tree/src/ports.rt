@@ -20,6 +20,7 @@ fn ports_at(facts: &[PhyFacts; 63], count: u8, device: u8) -> u8
     }
 }
 
+/// Both ends are ports of devices.
 pub fn have_ports(facts: &[PhyFacts; 63], count: u8, a: End, b: End) -> bool
     requires count { count ≤ 63 }
     requires devices { AreDevices (take count facts.now) }
@@ -41,6 +42,7 @@ fn cable_at(g: &AllCables, e: End) -> Option<End>
     g[e.device as usize][e.port as usize]
 }
 
+/// One of the ports has a cable, or both ends are one port.
 pub fn are_used(g: &AllCables, a: End, b: End) -> bool
     requires a_device { a.device < 63 }
     requires a_port { a.port < 27 }
@@ -53,6 +55,7 @@ pub fn are_used(g: &AllCables, a: End, b: End) -> bool
         || (a.device == b.device && a.port == b.port)
 }
 
+/// Puts a cable between two ports.
 pub fn plug(g: &mut AllCables, a: End, b: End)
     requires a_device { a.device < 63 }
     requires a_port { a.port < 27 }

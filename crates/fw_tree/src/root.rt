@@ -18,10 +18,10 @@ fn root_of(on: &[bool; 63], parents: &[Option<Parent>; 63]) -> u8
             return d as u8;
         }
     }
-    0
+    unreachable!()
 }
 
-// The root of the bus.
+/// The root of the bus.
 pub fn find_root(g: &AllCables, on: &[bool; 63], parents: &[Option<Parent>; 63]) -> u8
     requires range { InRange g.now }
     requires cables { AreCables g.now }

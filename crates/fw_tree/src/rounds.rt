@@ -107,6 +107,7 @@ fn parent_port(g: &AllCables, d: usize, stays: &[bool; 63]) -> Option<u8>
     }
 }
 
+// What is noted of a device that leaves in a round.
 fn note(g: &AllCables, d: usize, round: u8, stays: &[bool; 63]) -> Option<Parent>
     requires range { InRange g.now }
     requires cables { AreCables g.now }
@@ -146,7 +147,7 @@ fn leave_one(
     left
 }
 
-// One round.
+// One round: all devices that leave in it leave at once. Says whether any left.
 fn leave(
     g: &AllCables,
     round: u8,
@@ -170,7 +171,7 @@ fn leave(
     changed
 }
 
-// The parent of each device, after all rounds.
+/// The parent of each device, after all rounds.
 pub fn parents(g: &AllCables) -> [Option<Parent>; 63]
     requires range { InRange g.now }
     requires cables { AreCables g.now }

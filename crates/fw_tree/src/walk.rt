@@ -90,7 +90,7 @@ fn only(a: u8) -> [bool; 63]
     seen
 }
 
-// The devices to which walks of cables lead.
+/// The devices to which walks of cables lead.
 pub fn reach(g: &AllCables, a: u8) -> [bool; 63]
     requires range { InRange g.now }
     requires a { a < 63 }
@@ -114,7 +114,7 @@ pub fn are_connected(g: &AllCables, a: u8, b: u8) -> bool
     reach(g, a)[b as usize]
 }
 
-// The devices of the bus.
+/// The devices of the bus.
 pub fn bus_of(g: &AllCables) -> [bool; 63]
     requires { InRange g.now }
     ensures { IsOn g.now result }

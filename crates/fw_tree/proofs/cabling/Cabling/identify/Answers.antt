@@ -1,4 +1,4 @@
-use Rattle.std.proofs.Common.{◌≡◌, ◌<◌, ℕ, ap, subst, sym, take, length}
+use Rattle.std.proofs.Common.{ℕ, ap, subst, sym, length}
 use Rattle.fw_tree.specs.declared.numbering.Numbering.{Numbering}
 use Rattle.fw_tree.specs.Cables.{is_seen}
 use Rattle.fw_tree.specs.Topology.{Topology, IsSound, Made}

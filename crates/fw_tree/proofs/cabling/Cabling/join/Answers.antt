@@ -1,4 +1,4 @@
-use Rattle.std.proofs.Common.{take, ◌≡◌, ◌&&◌, ◌∙◌, sym, refl, List, ℕ, true, false}
+use Rattle.std.proofs.Common.{take, ◌≡◌, ◌&&◌, ◌∙◌, sym, refl, List, true, false}
 use Rattle.fw_tree.specs.declared.facts.End.{End}
 use Rattle.fw_tree.specs.declared.facts.PhyFacts.{PhyFacts}
 use Rattle.fw_tree.specs.Cables.{Peers, Walk}

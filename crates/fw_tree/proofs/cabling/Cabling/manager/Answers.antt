@@ -1,9 +1,8 @@
-use Rattle.std.proofs.Common.{◌≡◌, ◌<◌, ◌+◌, ◌∙◌, ℕ, Option, ap, subst, sym, arith, length, true}
-use Rattle.fw_tree.specs.Topology.{Topology, IsSound}
+use Rattle.std.proofs.Common.{◌≡◌, ◌<◌, ◌+◌, ◌∙◌, ℕ, Option, subst, sym, arith, true}
+use Rattle.fw_tree.specs.Topology.{Topology}
 use Rattle.fw_tree.specs.Numbers.{has_number}
 use Rattle.fw_tree.specs.Numbering.{IsManager, IsGreatest}
 use Rattle.fw_tree.proofs.NumberingLaws.{low_of, greatest_first, greatest_yes, greatest_no, manager_of}
-use Rattle.fw_tree.proofs.SelfIdLaws.{shorter_than}
 use Rattle.fw_tree.proofs.cabling.Cabling.manager.Goals as goal
 use Rattle.fw_tree.proofs.cabling.Cabling.manager.Goals.{then-contends, else-contends}
 

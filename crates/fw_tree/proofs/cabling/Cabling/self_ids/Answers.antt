@@ -1,14 +1,10 @@
-use Rattle.std.proofs.Common.{◌≡◌, ◌<◌, ℕ, List, take, subst, sym, arith, length, true}
-use Rattle.fw_tree.specs.declared.facts.PhyFacts.{PhyFacts}
-use Rattle.fw_tree.specs.declared.numbering.Numbering.{Numbering}
-use Rattle.fw_tree.specs.Cables.{Peers}
-use Rattle.fw_tree.specs.Numbering.{IsNumbering}
-use Rattle.fw_tree.specs.Topology.{Topology, IsSound}
+use Rattle.std.proofs.Common.{◌≡◌, ◌<◌, ℕ, take, subst, arith, true}
+use Rattle.fw_tree.specs.Topology.{Topology}
 use Rattle.fw_tree.proofs.FitLaws.{packets_fit}
 use Rattle.fw_tree.specs.Numbers.{has_number}
 use Rattle.fw_tree.specs.SelfIds.{ArePackets, no_node}
 use Rattle.fw_tree.proofs.NumberingLaws.{low_of, count_most}
-use Rattle.fw_tree.proofs.SelfIdLaws.{one_more, of_first, shorter_than}
+use Rattle.fw_tree.proofs.SelfIdLaws.{one_more, of_first}
 use Rattle.fw_tree.proofs.cabling.Cabling.self_ids.Goals as goal
 
 pub loop-node-init : goal.loop-node-init
