@@ -4,7 +4,7 @@ use Rattle.std.proofs.lemmas.Bool.{cases_lt}
 use Rattle.std.proofs.lemmas.List.{take_all, length-take-le}
 use Rattle.fw_async.specs.Async.{spelling, Fits}
 use Rattle.fw_async.specs.Reading.{IsPending, fault_of, need}
-use Rattle.fw_async.specs.Reader.{State, Feeds, FeedsTo, Spells, EndsPacket, ShowsFault, EndsNothing, BeginsNone}
+use Rattle.fw_async.specs.Reader.{State, Feeds, FeedsTo, Spells, EndsPacket, ShowsFault, EndsNothing, BeginsNoPacket}
 use Rattle.fw_async.specs.declared.PacketFault.{PacketFault}
 use Rattle.fw_async.specs.declared.packet.Packet.{Packet}
 use Rattle.fw_async.specs.declared.reader.Fed.{Fed}
@@ -97,9 +97,9 @@ gives_none old piece (Err f) new h n =
     cc (h.0.1.shown)
 
 -- where a fault is answered, no packet begins with what came
-pub gives_hopeless : (old piece : List ℕ) (r : Result Fed PacketFault) (new : State) → Feeds old piece r new → OnErr r (BeginsNone (old ++ piece))
-gives_hopeless old piece (Ok fed) new h = tt
-gives_hopeless old piece (Err f) new h =
+pub gives_no_packet : (old piece : List ℕ) (r : Result Fed PacketFault) (new : State) → Feeds old piece r new → OnErr r (BeginsNoPacket (old ++ piece))
+gives_no_packet old piece (Ok fed) new h = tt
+gives_no_packet old piece (Err f) new h =
     let shown : fault_of (old ++ take (length piece) piece) ≡ Some f = stays old piece (h.0.0 + 1) (length piece) f (omega (arith, h.0.1.within)) h.0.1.shown in
     let all : fault_of (old ++ piece) ≡ Some f = ap (λ t. fault_of (old ++ t)) (sym (take_all (length piece) piece (omega arith))) ∙ shown in
     record { none = λ p more s. cc (fault_stays (old ++ piece) more f all, clear_from_spells p ((old ++ piece) ++ more) s) }

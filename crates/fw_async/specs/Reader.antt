@@ -44,7 +44,7 @@ pub record EndsNothing (old piece : List ℕ) : Type 0 where
   pub no_packet : (k : ℕ) (p : Packet) → k ≤ length piece → Spells p (old ++ take k piece) → ⊥
 
 -- no packet begins with these bytes
-pub record BeginsNone (bytes : List ℕ) : Type 0 where
+pub record BeginsNoPacket (bytes : List ℕ) : Type 0 where
   pub none : (p : Packet) (more : List ℕ) → Spells p (bytes ++ more) → ⊥
 
 -- all bytes of a piece without a packet's end, or those up to it

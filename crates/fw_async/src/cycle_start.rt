@@ -1,14 +1,14 @@
 //! Cycle starts, read from whole packets.
 
 ghost use Rattle.std.specs.Prelude.{◌≡◌};
-ghost use Rattle.fw_async.specs.Reading.{IsWhole, ReadsAs};
+ghost use Rattle.fw_async.specs.Reading.{IsComplete, ReadsAs};
 
 use crate::header::{head_at, offset_at};
 use crate::packet::Packet;
 use fw_words::quadlet_at;
 
 pub fn cycle_start_at(bytes: &[u8]) -> Packet
-    requires { IsWhole 8 bytes.now }
+    requires { IsComplete 8 bytes.now }
     ensures { ReadsAs 8 bytes.now result }
 {
     Packet::CycleStart {

@@ -162,7 +162,7 @@ fn need(tcode: Tcode, bytes: &[u8]) -> usize
 
 /// The first fault that the bytes show, or how many bytes the packet takes at least, by what is there of it.
 #[tactic(auto, unfolding(crate::specs::Reading::fault_in_quadlet_0))]
-pub fn outlook(bytes: &[u8]) -> Result<usize, PacketFault>
+pub fn least_length(bytes: &[u8]) -> Result<usize, PacketFault>
     requires { length bytes.now < 2 ^ 32 }
     ensures fault { result_err result ≡ fault_of bytes.now }
     ensures need { IfOk result (λ n. n ≡ need bytes.now) }

@@ -2,7 +2,7 @@
 
 ghost use Rattle.std.specs.Prelude.{◌≡◌};
 ghost use Rattle.fw_async.specs.Async.{is_lock_size, is_reply_size};
-ghost use Rattle.fw_async.specs.Reading.{IsWhole, ReadsAs};
+ghost use Rattle.fw_async.specs.Reading.{IsComplete, ReadsAs};
 
 use crate::data::{data_at, function_at};
 use crate::header::{head_at, offset_at, rcode_at};
@@ -28,7 +28,7 @@ pub fn is_reply_size(len: u32) -> bool
 }
 
 pub fn lock_at(bytes: &[u8]) -> Packet
-    requires { IsWhole 9 bytes.now }
+    requires { IsComplete 9 bytes.now }
     ensures { ReadsAs 9 bytes.now result }
 {
     Packet::Lock {
@@ -40,7 +40,7 @@ pub fn lock_at(bytes: &[u8]) -> Packet
 }
 
 pub fn lock_reply_at(bytes: &[u8]) -> Packet
-    requires { IsWhole 11 bytes.now }
+    requires { IsComplete 11 bytes.now }
     ensures { ReadsAs 11 bytes.now result }
 {
     Packet::LockReply {

@@ -1,7 +1,7 @@
 //! Read requests and their responses, read from whole packets.
 
 ghost use Rattle.std.specs.Prelude.{◌≡◌};
-ghost use Rattle.fw_async.specs.Reading.{IsWhole, ReadsAs};
+ghost use Rattle.fw_async.specs.Reading.{IsComplete, ReadsAs};
 
 use crate::data::{data_at, length_at};
 use crate::header::{head_at, offset_at, rcode_at};
@@ -9,7 +9,7 @@ use crate::packet::Packet;
 use fw_words::quadlet_at;
 
 pub fn read_quadlet_at(bytes: &[u8]) -> Packet
-    requires { IsWhole 4 bytes.now }
+    requires { IsComplete 4 bytes.now }
     ensures { ReadsAs 4 bytes.now result }
 {
     Packet::ReadQuadlet {
@@ -19,7 +19,7 @@ pub fn read_quadlet_at(bytes: &[u8]) -> Packet
 }
 
 pub fn read_block_at(bytes: &[u8]) -> Packet
-    requires { IsWhole 5 bytes.now }
+    requires { IsComplete 5 bytes.now }
     ensures { ReadsAs 5 bytes.now result }
 {
     Packet::ReadBlock {
@@ -30,7 +30,7 @@ pub fn read_block_at(bytes: &[u8]) -> Packet
 }
 
 pub fn read_quadlet_reply_at(bytes: &[u8]) -> Packet
-    requires { IsWhole 6 bytes.now }
+    requires { IsComplete 6 bytes.now }
     ensures { ReadsAs 6 bytes.now result }
 {
     Packet::ReadQuadletReply {
@@ -41,7 +41,7 @@ pub fn read_quadlet_reply_at(bytes: &[u8]) -> Packet
 }
 
 pub fn read_block_reply_at(bytes: &[u8]) -> Packet
-    requires { IsWhole 7 bytes.now }
+    requires { IsComplete 7 bytes.now }
     ensures { ReadsAs 7 bytes.now result }
 {
     Packet::ReadBlockReply {

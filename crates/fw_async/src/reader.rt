@@ -1,14 +1,14 @@
 ghost use Rattle.std.specs.Prelude.{ℕ, ◌≡◌, ◌≤◌, ◌<◌, ◌+◌, ◌-◌, ◌++◌, [], length, take, IsTrue, ◌↔◌, IfSome, IfNone, OnErr};
 ghost use Rattle.fw_async.specs.Tcode.{code_of};
-ghost use Rattle.fw_async.specs.Reading.{IsWhole, ReadsAs, IsPending, fault_of, need};
-ghost use Rattle.fw_async.specs.Reader.{Spells, TakesPart, Feeds, EndsNothing, BeginsNone};
+ghost use Rattle.fw_async.specs.Reading.{IsComplete, ReadsAs, IsPending, fault_of, need};
+ghost use Rattle.fw_async.specs.Reader.{Spells, TakesPart, Feeds, EndsNothing, BeginsNoPacket};
 ghost use Rattle.fw_async.specs.declared.PacketFault.{PacketFault};
 ghost use Rattle.fw_async.specs.declared.packet.Packet.{Packet};
 
 use crate::PacketFault;
 use crate::buffer::append;
 use crate::cycle_start::cycle_start_at;
-use crate::faults::{outlook, tcode_at};
+use crate::faults::{least_length, tcode_at};
 use crate::lock::{lock_at, lock_reply_at};
 use crate::packet::Packet;
 use crate::read::{read_block_at, read_block_reply_at, read_quadlet_at, read_quadlet_reply_at};
@@ -27,7 +27,7 @@ pub struct Fed {
 }
 
 fn packet_of_kind(tcode: Tcode, bytes: &[u8]) -> Packet
-    requires { IsWhole (code_of tcode) bytes.now }
+    requires { IsComplete (code_of tcode) bytes.now }
     ensures { ReadsAs (code_of tcode) bytes.now result }
 {
     match tcode {
@@ -47,7 +47,7 @@ fn packet_of_kind(tcode: Tcode, bytes: &[u8]) -> Packet
 // The packet whose bytes are all there and show no fault.
 fn packet_at(bytes: &[u8]) -> Packet
     requires clear { fault_of bytes.now ≡ None }
-    requires whole { length bytes.now ≡ need bytes.now }
+    requires complete { length bytes.now ≡ need bytes.now }
     ensures { Spells result bytes.now }
 {
     match tcode_at(bytes) {
@@ -101,7 +101,7 @@ impl PacketReader {
         ensures { TakesPart self.old.taken part.now result self.new }
     {
         append(&mut self.taken, part);
-        match outlook(self.taken.as_slice()) {
+        match least_length(self.taken.as_slice()) {
             Err(fault) => {
                 self.fault = Some(fault);
                 Err(fault)
@@ -152,7 +152,7 @@ impl PacketReader {
         ensures packet { IfNone self.old.fault ((k : ℕ) → (p : Packet) → k ≤ length piece.now → Spells p (self.old.taken ++ take k piece.now) → result ≡ Ok (record { used = k; packet = Some p })) }
         ensures none { IfNone self.old.fault (EndsNothing self.old.taken piece.now → result ≡ Ok (record { used = length piece.now; packet = None })) }
         ensures fault { IfNone self.old.fault ((k : ℕ) → (f : PacketFault) → k < length piece.now → IsPending (self.old.taken ++ take k piece.now) → fault_of (self.old.taken ++ take (k + 1) piece.now) ≡ Some f → result ≡ Err f) }
-        ensures hopeless { IfNone self.old.fault (OnErr result (BeginsNone (self.old.taken ++ piece.now))) }
+        ensures no_packet_begins { IfNone self.old.fault (OnErr result (BeginsNoPacket (self.old.taken ++ piece.now))) }
     {
         match self.fault {
             Some(fault) => Err(fault),

@@ -1,7 +1,7 @@
 //! Write requests and their response, read from whole packets.
 
 ghost use Rattle.std.specs.Prelude.{◌≡◌};
-ghost use Rattle.fw_async.specs.Reading.{IsWhole, ReadsAs};
+ghost use Rattle.fw_async.specs.Reading.{IsComplete, ReadsAs};
 
 use crate::data::data_at;
 use crate::header::{head_at, offset_at, rcode_at};
@@ -9,7 +9,7 @@ use crate::packet::Packet;
 use fw_words::quadlet_at;
 
 pub fn write_quadlet_at(bytes: &[u8]) -> Packet
-    requires { IsWhole 0 bytes.now }
+    requires { IsComplete 0 bytes.now }
     ensures { ReadsAs 0 bytes.now result }
 {
     Packet::WriteQuadlet {
@@ -20,7 +20,7 @@ pub fn write_quadlet_at(bytes: &[u8]) -> Packet
 }
 
 pub fn write_block_at(bytes: &[u8]) -> Packet
-    requires { IsWhole 1 bytes.now }
+    requires { IsComplete 1 bytes.now }
     ensures { ReadsAs 1 bytes.now result }
 {
     Packet::WriteBlock {
@@ -31,7 +31,7 @@ pub fn write_block_at(bytes: &[u8]) -> Packet
 }
 
 pub fn write_reply_at(bytes: &[u8]) -> Packet
-    requires { IsWhole 2 bytes.now }
+    requires { IsComplete 2 bytes.now }
     ensures { ReadsAs 2 bytes.now result }
 {
     Packet::WriteReply {

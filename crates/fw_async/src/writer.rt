@@ -67,7 +67,7 @@ fn push_rest(p: &Packet, out: &mut ArrayVec<u8, 528>)
 pub fn write_packet(p: &Packet, out: &mut ArrayVec<u8, 528>)
     requires { Fits p.now }
     ensures spelled { out.new.items ≡ spelling p.now }
-    ensures alone { (q : Packet) → (more : List ℕ) → Fits q → spelling q ≡ out.new.items ++ more → (q ≡ p.now) × (more ≡ []) }
+    ensures begins_no_other { (q : Packet) → (more : List ℕ) → Fits q → spelling q ≡ out.new.items ++ more → (q ≡ p.now) × (more ≡ []) }
 {
     begin_packet(p, out);
     push_rest(p, out);
