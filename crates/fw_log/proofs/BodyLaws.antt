@@ -1,7 +1,8 @@
 -- Bodies that are packets.
-use Rattle.std.proofs.Common.{◌≡◌, ℕ, List, [], length, take, Some, None, IfNone, Result, Ok, Err, arith, ap, sym, subst}
+use Rattle.std.proofs.Common.{◌≡◌, ℕ, ◌++◌, ◌<◌, ◌≤◌, ◌+◌, List, [], length, take, Some, None, IfNone, Result, Ok, Err, arith, ap, sym, subst}
 use Rattle.std.proofs.lemmas.List.{take_all}
-use Rattle.fw_async.specs.Reader.{State, Spells, EndsPacket, ShowsFault}
+use Rattle.fw_async.specs.Reading as Packets
+use Rattle.fw_async.specs.Reader.{State, Spells}
 use Rattle.fw_async.specs.declared.packet.Packet.{Packet}
 use Rattle.fw_async.specs.declared.PacketFault.{PacketFault}
 use Rattle.fw_async.specs.declared.reader.Fed.{Fed}
@@ -21,10 +22,10 @@ packet_in bytes End b f = cc b.kind
 
 -- what a fresh reader gives at a packet and at a fault
 abbrev pub GivesPacket : State → List ℕ → Result Fed PacketFault → Type 0
-GivesPacket s bytes r = IfNone s.fault ((k : ℕ) → (p : Packet) → EndsPacket s.taken bytes k p → r ≡ Ok (record { used = k; packet = Some p }))
+GivesPacket s bytes r = IfNone s.fault ((k : ℕ) → (p : Packet) → k ≤ length bytes → Spells p (s.taken ++ take k bytes) → r ≡ Ok (record { used = k; packet = Some p }))
 
 abbrev pub GivesFault : State → List ℕ → Result Fed PacketFault → Type 0
-GivesFault s bytes r = IfNone s.fault ((k : ℕ) → (f : PacketFault) → ShowsFault s.taken bytes k f → r ≡ Err f)
+GivesFault s bytes r = IfNone s.fault ((k : ℕ) → (f : PacketFault) → k < length bytes → Packets.IsPending (s.taken ++ take k bytes) → Packets.fault_of (s.taken ++ take (k + 1) bytes) ≡ Some f → r ≡ Err f)
 
 differ : (fed : Fed) (k : ℕ) (p : Packet) (r : Result Fed PacketFault) → r ≡ Ok fed → r ≡ Ok (record { used = k; packet = Some p }) → (fed.used ≡ k) × (fed.packet ≡ Some p)
 differ fed k p r e g = let h : fed ≡ record { used = k; packet = Some p } = cc in (ap (λ f. f.used) h, ap (λ f. f.packet) h)
@@ -45,9 +46,9 @@ none_given bytes s r fed e give shows is never =
     let S : List ℕ → Packet → Type 0 = λ t p. Spells p t in (
       (λ x b. packet_in bytes x b (λ p spelled.
           let all : Spells p (take (length bytes) bytes) = let P : List ℕ → Type 0 = Spells p in subst P (sym (take_all (length bytes) bytes (omega arith))) spelled in
-          let d = differ fed (length bytes) p r is (packet (length bytes) p (record { within = omega arith; spells = all })) in
+          let d = differ fed (length bytes) p r is (packet (length bytes) p (omega arith) all) in
           never p d.0 d.1)),
-      refuses_none bytes (λ f h. cc (is, fault h.at f h.shown)),
+      refuses_none bytes (λ f h. cc (is, fault h.at f h.shown.within h.shown.before h.shown.shown)),
     )
 
 pub as_kind : (kind k : ℕ) (bytes : List ℕ) (f : BodyFault) → kind ≡ k → BodyRefused k bytes f → BodyRefused kind bytes f

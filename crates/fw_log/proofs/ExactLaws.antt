@@ -1,7 +1,7 @@
 -- What a reader makes of a piece is the only thing that it can be.
-use Rattle.std.proofs.Common.{◌≡◌, inl, inr, ℕ, ◌+◌, ◌-◌, ◌≤◌, List, ◌++◌, flat_map, length, take, drop, Option, Some, None, Result, Ok, Err, arith, refl, ap, sym, subst, ◌∙◌, length-append}
+use Rattle.std.proofs.Common.{◌≡◌, inl, inr, ℕ, ◌+◌, ◌-◌, ◌≤◌, ◌<◌, List, ◌++◌, flat_map, length, take, drop, Option, Some, None, Result, Ok, Err, arith, refl, ap, sym, subst, ◌∙◌, length-append}
 use Rattle.std.proofs.lemmas.Bool.{cases_lt}
-use Rattle.std.proofs.lemmas.List.{take_all, take-take, length-take-le, take-append-drop}
+use Rattle.std.proofs.lemmas.List.{append-nil, take_all, take-take, length-take-le, take-append-drop}
 use Rattle.fw_async.proofs.NeedLaws.{fault_stays}
 use Rattle.fw_async.proofs.ExactLaws.{clear_from_spells}
 use Rattle.fw_async.specs.Reading as Packets
@@ -12,7 +12,7 @@ use Rattle.fw_phy.specs.Phy.{spelling}
 use Rattle.fw_log.specs.Bodies.{IsBody, BodyRefused, PacketRefuses, refusal}
 use Rattle.fw_log.specs.Reading.{IsPending, Spells, Faulty, WrongBody, need, skip, fault_at}
 use Rattle.fw_log.specs.declared.stand.Stand.{Stand}
-use Rattle.fw_log.specs.Reader.{State, Feeds, FeedsTo, EndsEntry, ShowsFault, EndsNothing}
+use Rattle.fw_log.specs.Reader.{State, Feeds, FeedsTo, Counts, total, EndsEntry, ShowsFault, EndsNothing}
 use Rattle.fw_log.specs.declared.entry.Entry.{Entry}
 use Rattle.fw_log.specs.declared.entry.Timed.{Timed}
 use Rattle.fw_log.specs.declared.read.LogFed.{LogFed}
@@ -24,8 +24,8 @@ use Rattle.fw_log.proofs.BodyLaws.{packet_in}
 use Rattle.fw_log.proofs.IdsLaws.{ids_clear}
 use Rattle.fw_log.proofs.ResetLaws.{reset_in, body_has, shape_of}
 use Rattle.fw_log.proofs.FeedLaws.{further, stays}
-use Rattle.fw_log.proofs.StayLaws.{need_done, no_whole_front}
-use Rattle.fw_log.proofs.SameLaws.{spelled_clear, spelled_whole, same_spelled, spelled_body}
+use Rattle.fw_log.proofs.StayLaws.{need_done, no_complete_front}
+use Rattle.fw_log.proofs.SameLaws.{spelled_clear, spelled_complete, same_spelled, spelled_body}
 
 -- a packet is refused at one byte, and for one reason
 front_of : (k : ℕ) (bytes : List ℕ) → bytes ≡ take k bytes ++ drop k bytes
@@ -85,28 +85,28 @@ not_faulty s t bytes f h (inl a) = cc (a, spelled_clear s t bytes h)
 not_faulty s t bytes f h (inr b) = absurd (not_refused _ _ t.what b.wrong.why (spelled_body s t bytes h) b.wrong.refused)
 
 -- a whole entry has no front that is whole, pending bytes have none, and a fault stays
-whole_once : (s : Stand) (old piece : List ℕ) (i k : ℕ) → i ≤ k → k ≤ length piece → length (old ++ take i piece) ≡ need s (old ++ take i piece) → length (old ++ take k piece) ≡ need s (old ++ take k piece) → i ≡ k
-whole_once s old piece i k le within a b =
+complete_once : (s : Stand) (old piece : List ℕ) (i k : ℕ) → i ≤ k → k ≤ length piece → length (old ++ take i piece) ≡ need s (old ++ take i piece) → length (old ++ take k piece) ≡ need s (old ++ take k piece) → i ≡ k
+complete_once s old piece i k le within a b =
     let done : need s (old ++ take k piece) ≡ length (old ++ take i piece) = ap (need s) (further old piece i k le) ∙ need_done s (old ++ take i piece) (take (k - i) (drop i piece)) a in
     let same : length (old ++ take k piece) ≡ length (old ++ take i piece) = b ∙ done in
     let x : length (take i piece) ≡ i = length-take-le i piece (omega arith) in
     let y : length (take k piece) ≡ k = length-take-le k piece within in
     omega (arith, length-append old (take i piece), length-append old (take k piece))
 
-pub never_whole : {A : Type 0} (s : Stand) (old piece : List ℕ) (i k : ℕ) → i ≤ k → length (old ++ take i piece) ≡ need s (old ++ take i piece) → IsPending s (old ++ take k piece) → A
-never_whole s old piece i k le a pending =
+pub never_complete : {A : Type 0} (s : Stand) (old piece : List ℕ) (i k : ℕ) → i ≤ k → length (old ++ take i piece) ≡ need s (old ++ take i piece) → IsPending s (old ++ take k piece) → A
+never_complete s old piece i k le a pending =
     let P : List ℕ → Type 0 = IsPending s in
-    no_whole_front s (old ++ take i piece) (take (k - i) (drop i piece)) (subst P (further old piece i k le) pending) a
+    no_complete_front s (old ++ take i piece) (take (k - i) (drop i piece)) (subst P (further old piece i k le) pending) a
 
 -- no part is refused in front of pending bytes, nor in front of an entry's
 never_faulty : {A : Type 0} (s : Stand) (old piece : List ℕ) (i k : ℕ) (f : LogFault) → i ≤ k → Faulty s (old ++ take i piece) f → IsPending s (old ++ take k piece) → A
 never_faulty s old piece i k f le (inl a) pending = cc (stays s old piece i k f le a, pending.no_fault)
-never_faulty s old piece i k f le (inr b) pending = never_whole s old piece i k le b.whole pending
+never_faulty s old piece i k f le (inr b) pending = never_complete s old piece i k le b.complete pending
 
 pub entry_faulty : {A : Type 0} (s : Stand) (old piece : List ℕ) (i k : ℕ) (f : LogFault) (t : Timed) → i ≤ k → k ≤ length piece → Faulty s (old ++ take i piece) f → Spells s t (old ++ take k piece) → A
 entry_faulty s old piece i k f t le within (inl a) h = cc (stays s old piece i k f le a, spelled_clear s t (old ++ take k piece) h)
 entry_faulty s old piece i k f t le within (inr b) h =
-    let e : k ≡ i = sym (whole_once s old piece i k le within b.whole (spelled_whole s t (old ++ take k piece) h)) in
+    let e : k ≡ i = sym (complete_once s old piece i k le within b.complete (spelled_complete s t (old ++ take k piece) h)) in
     let P : ℕ → Type 0 = λ n. Spells s t (old ++ take n piece) in
     not_faulty s t (old ++ take i piece) f (subst P e h) (inr b)
 
@@ -118,11 +118,11 @@ record Gave (used k : ℕ) (entry : Option Timed) (t : Timed) : Type 0 where
   pub this : entry ≡ Some t
 
 gave_to : (s : Stand) (old piece : List ℕ) (used : ℕ) (entry : Option Timed) (new : State) (k : ℕ) (t : Timed) → FeedsTo s old piece used entry new → EndsEntry s old piece k t → Gave used k entry t
-gave_to s old piece used None new k t h e = never_whole s old piece k (length piece) e.within (spelled_whole s t _ e.spells) (all_of s old piece (length piece) refl h.2)
+gave_to s old piece used None new k t h e = never_complete s old piece k (length piece) e.within (spelled_complete s t _ e.spells) (all_of s old piece (length piece) refl h.2)
 gave_to s old piece used (Some u) new k t h e =
-    let a = spelled_whole s u (old ++ take used piece) h.0.spells in
-    let b = spelled_whole s t (old ++ take k piece) e.spells in
-    let count : used ≡ k = elim (cases_lt used k) [ inl less ↦ whole_once s old piece used k (omega arith) e.within a b | inr more ↦ sym (whole_once s old piece k used more h.0.within b a) ] in
+    let a = spelled_complete s u (old ++ take used piece) h.0.spells in
+    let b = spelled_complete s t (old ++ take k piece) e.spells in
+    let count : used ≡ k = elim (cases_lt used k) [ inl less ↦ complete_once s old piece used k (omega arith) e.within a b | inr more ↦ sym (complete_once s old piece k used more h.0.within b a) ] in
     let P : ℕ → Type 0 = λ n. Spells s u (old ++ take n piece) in
     record { count = count; this = ap Some (same_spelled s u t (old ++ take k piece) (subst P count h.0.spells) e.spells) }
 
@@ -134,7 +134,7 @@ gives_entry s old piece (Ok fed) new h k t e =
 gives_entry s old piece (Err f) new h k t e =
     elim (cases_lt h.0.0 k) [
       | inl less ↦ entry_faulty s old piece (h.0.0 + 1) k f t (omega arith) e.within h.0.1.shown e.spells
-      | inr more ↦ never_whole s old piece k h.0.0 more (spelled_whole s t (old ++ take k piece) e.spells) h.0.1.before
+      | inr more ↦ never_complete s old piece k h.0.0 more (spelled_complete s t (old ++ take k piece) e.spells) h.0.1.before
     ]
 
 fault_to : {A : Type 0} (s : Stand) (old piece : List ℕ) (used : ℕ) (entry : Option Timed) (new : State) (k : ℕ) (f : LogFault) → FeedsTo s old piece used entry new → ShowsFault s old piece k f → A
@@ -142,7 +142,7 @@ fault_to s old piece used None new k f h e = never_faulty s old piece (k + 1) (l
 fault_to s old piece used (Some u) new k f h e =
     elim (cases_lt k used) [
       | inl less ↦ entry_faulty s old piece (k + 1) used f u (omega arith) h.0.within e.shown h.0.spells
-      | inr more ↦ never_whole s old piece used k more (spelled_whole s u (old ++ take used piece) h.0.spells) e.before
+      | inr more ↦ never_complete s old piece used k more (spelled_complete s u (old ++ take used piece) h.0.spells) e.before
     ]
 
 -- where a byte of the piece completes a part that is refused, that refusal is answered
@@ -174,3 +174,23 @@ gives_none s old piece (Ok fed) new h e =
     let g = none_to s old piece fed.used fed.entry new h e in
     ap (λ (n : ℕ). let r : Result LogFed LogFault = Ok (record { used = n; entry = fed.entry }) in r) g.count ∙ ap (λ (o : Option Timed). let r : Result LogFed LogFault = Ok (record { used = length piece; entry = o }) in r) g.none
 gives_none s old piece (Err f) new h e = absurd (e.no_fault (h.0.0 + 1) f (omega (arith, h.0.1.within)) h.0.1.shown)
+
+counts_to : (old : State) (piece : List ℕ) (used : ℕ) (entry : Option Timed) (new : State) → FeedsTo old.stand old.taken piece used entry new → IsPending old.stand old.taken → (total new ≡ total old + used) × (used ≤ length piece) × (0 < length piece → 0 < used)
+counts_to old piece used None new h pending =
+    (omega (arith, ap (λ (r : State). total r) h.1, length-append old.taken piece, h.0), omega (arith, h.0), λ some. omega (arith, h.0, some))
+counts_to old piece used (Some t) new h pending =
+    let size : length (take used piece) ≡ used = length-take-le used piece h.0.within in (
+      omega (arith, ap (λ (r : State). total r) h.1, length-append old.taken (take used piece), size),
+      h.0.within,
+      λ some. elim (cases_lt 0 used) [
+        | inl more ↦ more
+        | inr none ↦
+            let P : List ℕ → Type 0 = IsPending old.stand in
+            let same : old.taken ≡ old.taken ++ take 0 piece = sym (append-nil old.taken) in
+            never_complete old.stand old.taken piece used 0 none (spelled_complete old.stand t (old.taken ++ take used piece) h.0.spells) (subst P same pending)
+      ],
+    )
+
+pub counts : (old : State) (piece : List ℕ) (r : Result LogFed LogFault) (new : State) → Feeds old.stand old.taken piece r new → IsPending old.stand old.taken → Counts old piece r new
+counts old piece (Ok fed) new h pending = counts_to old piece fed.used fed.entry new h pending
+counts old piece (Err f) new h pending = tt

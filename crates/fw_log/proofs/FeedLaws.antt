@@ -48,7 +48,7 @@ pending_on : (s : Stand) (old piece : List ℕ) (i k : ℕ) → IsPending s (old
 pending_on s old piece i k pending le within few clear =
     let grows = need_grows s (old ++ take i piece) (take (k - i) (drop i piece)) in
     let same : need s (old ++ take k piece) ≡ need s ((old ++ take i piece) ++ take (k - i) (drop i piece)) = ap (need s) (further old piece i k le) in
-    record { no_fault = clear; not_whole = less (length (old ++ take k piece)) (length old) k _ _ _ (length-append old (take k piece) ∙ ap (λ n. length old + n) (length-take-le k piece within)) few grows same }
+    record { no_fault = clear; not_complete = less (length (old ++ take k piece)) (length old) k _ _ _ (length-append old (take k piece) ∙ ap (λ n. length old + n) (length-take-le k piece within)) few grows same }
   where
     less : (n a k x y z : ℕ) → n ≡ a + k → a + k < x → x ≤ y → z ≡ y → n < z
     less n a k x y z e p q r = omega arith
@@ -74,7 +74,7 @@ first_shown s old piece i zero f pending within few h =
   where
     not_both : (s : Stand) (bytes : List ℕ) (f : LogFault) → Faulty s bytes f → IsPending s bytes → ⊥
     not_both s bytes f (inl a) p = cc (a, p.no_fault)
-    not_both s bytes f (inr b) p = omega (arith, b.whole, p.not_whole)
+    not_both s bytes f (inr b) p = omega (arith, b.complete, p.not_complete)
 first_shown s old piece i (suc n) f pending within few h =
     shown_by s old piece i n f (head_fault s (old ++ take (i + n) piece)) refl pending within few h (λ e. first_shown s old piece i n f pending (omega arith) (omega arith) (inl e))
 
@@ -119,7 +119,7 @@ pub room_of : (s : Stand) (old piece : List ℕ) (i m n len : ℕ) (r : State) �
 room_of s old piece i m n len r within same pending count least few =
     sum_by (length old) i m n len (length r.taken) (need r.stand r.taken) (need s (old ++ take i piece)) count
     (ap (λ (t : State). length t.taken) same ∙ length-append old (take i piece) ∙ ap (λ k. length old + k) (length-take-le i piece within)) least (ap (λ (t : State). need t.stand t.taken) same) few
-    (omega (arith, pending.not_whole, ap (λ (t : State). length t.taken) same, ap (λ (t : State). need t.stand t.taken) same))
+    (omega (arith, pending.not_complete, ap (λ (t : State). length t.taken) same, ap (λ (t : State). need t.stand t.taken) same))
   where
     sum_by : (a i m n len k x y : ℕ) → len ≡ k → k ≡ a + i → n ≡ x → x ≡ y → m ≤ n - len → k < x → a + (i + m) ≤ y
     sum_by a i m n len k x y e f g h few less = omega arith

@@ -219,8 +219,8 @@ size_by : (first : Bool) (e bytes : List ℕ) → (if first then header_bytes el
 size_by true e bytes h = ap length (sym h) ∙ length-append header_bytes e
 size_by false e bytes h = omega (arith, ap length h)
 
-pub spelled_whole : (s : Stand) (t : Timed) (bytes : List ℕ) → Spells s t bytes → length bytes ≡ need s bytes
-spelled_whole s t bytes h =
+pub spelled_complete : (s : Stand) (t : Timed) (bytes : List ℕ) → Spells s t bytes → length bytes ≡ need s bytes
+spelled_complete s t bytes h =
     let size = size_by (s.start == 0) (entry_bytes t) bytes h.same in
     size ∙ ap (λ n. skip s.start + n) (by (length (entry_bytes t)) (length_of (entry_bytes t)) (length-entry t h.fits ∙ ap (λ n. 12 + 4 * n) (sym (length_back t h.fits))) ∙ ap entry_need (sym (spelled_tail s t bytes h)))
   where

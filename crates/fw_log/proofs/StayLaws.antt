@@ -5,7 +5,7 @@ use Rattle.std.proofs.lemmas.Bool.Decides.{nat_tests}
 use Rattle.std.proofs.lemmas.List.{get_or_append_left, take-append-le, drop-append-le}
 use Rattle.std.specs.Int.{from_be_bytes, w64}
 use Rattle.fw_words.specs.Quadlet.{quadlet_at}
-use Rattle.fw_async.proofs.NeedLaws.{quadlet_at-append}
+use Rattle.fw_log.proofs.ByteLaws.{quadlet_at-append}
 use Rattle.fw_log.specs.Reading.{tested, fault_at, length_of, cycle_of, is_built, is_kind, is_length, entry_fault, header_fault, head_fault, skip, entry_need, need, IsPending}
 use Rattle.fw_log.specs.declared.stand.Stand.{Stand}
 use Rattle.fw_log.specs.declared.LogFault.{LogFault}
@@ -72,7 +72,7 @@ head_stays s bytes more g h = stays_by s.ended (s.start == 0) s.start s.last byt
 
 -- what is whole
 done_by : (n m l k : ℕ) → n ≡ (if nat_lt n 4 then 12 else 12 + 4 * l) → n ≤ m → (4 ≤ n → k ≡ l) → (if nat_lt m 4 then 12 else 12 + 4 * k) ≡ n
-done_by n m l k whole le same = grind (arith, nat_tests, same)
+done_by n m l k complete le same = grind (arith, nat_tests, same)
 
 least : (n m : ℕ) → 12 ≤ (if nat_lt n 4 then 12 else 12 + 4 * m)
 least n m = grind (arith, nat_tests)
@@ -81,7 +81,7 @@ pub need_least : (s : Stand) (bytes : List ℕ) → skip s.start + 12 ≤ need s
 need_least s bytes = let low = least (length (drop (skip s.start) bytes)) (length_of (drop (skip s.start) bytes)) in omega arith
 
 pub need_done : (s : Stand) (front more : List ℕ) → length front ≡ need s front → need s (front ++ more) ≡ length front
-need_done s front more whole =
+need_done s front more complete =
     let low = least (length (drop (skip s.start) front)) (length_of (drop (skip s.start) front)) in
     let within : skip s.start ≤ length front = omega arith in
     let size : length (drop (skip s.start) front) ≡ entry_need (drop (skip s.start) front) = omega (arith, length-drop (skip s.start) front) in
@@ -113,7 +113,7 @@ need_grows s bytes more =
     ]
 
 -- bytes that are pending have no front that is whole
-pub no_whole_front : {A : Type 0} (s : Stand) (front more : List ℕ) → IsPending s (front ++ more) → length front ≡ need s front → A
-no_whole_front s front more pending whole =
-    let done = need_done s front more whole in
-    absurd (omega (arith, pending.not_whole, done, length-append front more))
+pub no_complete_front : {A : Type 0} (s : Stand) (front more : List ℕ) → IsPending s (front ++ more) → length front ≡ need s front → A
+no_complete_front s front more pending complete =
+    let done = need_done s front more complete in
+    absurd (omega (arith, pending.not_complete, done, length-append front more))

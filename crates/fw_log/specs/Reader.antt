@@ -30,9 +30,9 @@ abbrev pub after : Stand → List ℕ → Timed → State
 after s taken t = record { stand = record { start = s.start + length taken; last = t.cycle; ended = is_end t.what }; taken = []; fault = None }
 
 -- a whole entry: it, or why its body is none
-abbrev pub WholeJudges : Stand → List ℕ → Result Timed LogFault → Type 0
-WholeJudges s bytes (Ok t) = Spells s t bytes
-WholeJudges s bytes (Err f) = WrongBody s bytes f
+abbrev pub EntryJudges : Stand → List ℕ → Result Timed LogFault → Type 0
+EntryJudges s bytes (Ok t) = Spells s t bytes
+EntryJudges s bytes (Err f) = WrongBody s bytes f
 
 abbrev pub Judges : Stand → List ℕ → Result (Option Timed) LogFault → Type 0
 Judges s bytes (Ok None) = IsPending s bytes
@@ -69,6 +69,11 @@ FeedsTo s old piece used (Some t) new = EndsEntry s old piece used t × (new ≡
 abbrev pub Feeds : Stand → List ℕ → List ℕ → Result LogFed LogFault → State → Type 0
 Feeds s old piece (Ok fed) new = FeedsTo s old piece fed.used fed.entry new
 Feeds s old piece (Err f) new = ((k : ℕ) × ShowsFault s old piece k f) × (new.fault ≡ Some f)
+
+-- the bytes that were taken are counted, and some are where there are any
+abbrev pub Counts : State → List ℕ → Result LogFed LogFault → State → Type 0
+Counts old piece (Ok fed) new = (total new ≡ total old + fed.used) × (fed.used ≤ length piece) × (0 < length piece → 0 < fed.used)
+Counts old piece (Err f) new = Unit {0}
 
 -- what the input's end makes of it
 abbrev pub finish_by : Option LogFault → Stand → List ℕ → Option LogFault

@@ -90,7 +90,7 @@ need s bytes = skip s.start + entry_need (drop (skip s.start) bytes)
 -- no part that was taken whole is refused, and the bytes end no entry
 pub record IsPending (s : Stand) (bytes : List ℕ) : Type 0 where
   pub no_fault : head_fault s bytes ≡ None
-  pub not_whole : length bytes < need s bytes
+  pub not_complete : length bytes < need s bytes
 
 -- the bytes are the entry, behind the header where it is the first
 abbrev pub header_at : ℕ → List ℕ
@@ -110,7 +110,7 @@ pub record HeadFits (last : ℕ) (e : List ℕ) : Type 0 where
   pub later : nat_le last (cycle_of e) ≡ true
 
 -- what stands before a whole entry, and the entry
-pub record WholeHead (s : Stand) (bytes : List ℕ) : Type 0 where
+pub record IsComplete (s : Stand) (bytes : List ℕ) : Type 0 where
   pub going_on : s.ended ≡ false
   pub head : HeadFits s.last (drop (skip s.start) bytes)
   pub before : header_at s.start ++ drop (skip s.start) bytes ≡ bytes
@@ -124,7 +124,7 @@ pub record WrongBody (s : Stand) (bytes : List ℕ) (f : LogFault) : Type 0 wher
 
 pub record BodyFaulty (s : Stand) (bytes : List ℕ) (f : LogFault) : Type 0 where
   pub no_fault : head_fault s bytes ≡ None
-  pub whole : length bytes ≡ need s bytes
+  pub complete : length bytes ≡ need s bytes
   pub wrong : WrongBody s bytes f
 
 abbrev pub Faulty : Stand → List ℕ → LogFault → Type 0

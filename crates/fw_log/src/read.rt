@@ -3,9 +3,9 @@
 ghost use Rattle.std.specs.Prelude.{ℕ, ◌≡◌, ◌≤◌, ◌<◌, ◌+◌, ◌-◌, ◌*◌, ◌^◌, ◌++◌, ◌∷◌, [], length, take, drop, IfSome, IfNone, IfOk, Some, None, Ok, Err, List};
 ghost use Rattle.std.specs.Result.{result_err};
 ghost use Rattle.fw_log.specs.Log.{is_end, LogOpens};
-ghost use Rattle.fw_log.specs.Reading.{need, WholeHead, IsPending};
-ghost use Rattle.fw_log.specs.Reader.{State, total, with_bytes, WholeJudges, Judges, TakesPart, EndsEntry, EndsNothing, ShowsFault, Feeds, finish_of};
-ghost use Rattle.fw_log.specs.Whole.{stand_after, HasRead, ReadsOn, GivesNext, Finishes};
+ghost use Rattle.fw_log.specs.Reading.{need, IsComplete, IsPending};
+ghost use Rattle.fw_log.specs.Reader.{State, total, with_bytes, EntryJudges, Judges, TakesPart, EndsEntry, EndsNothing, ShowsFault, Feeds, Counts, finish_of};
+ghost use Rattle.fw_log.specs.History.{stand_after, HasRead, ReadsOn, GivesNext, Finishes};
 ghost use Rattle.fw_log.specs.declared.LogFault.{LogFault};
 ghost use Rattle.fw_log.specs.declared.entry.Timed.{Timed};
 
@@ -25,10 +25,10 @@ pub struct LogFed {
 }
 
 // The entry that the bytes are, or why its body is none.
-fn whole_entry(stand: Stand, bytes: &[u8]) -> Result<Timed, LogFault>
+fn complete_entry(stand: Stand, bytes: &[u8]) -> Result<Timed, LogFault>
     requires room { stand.start + length bytes.now < 2 ^ 64 }
-    requires head { WholeHead stand bytes.now }
-    ensures { WholeJudges stand bytes.now result }
+    requires head { IsComplete stand bytes.now }
+    ensures { EntryJudges stand bytes.now result }
 {
     let at = skip(stand.start);
     let entry = rest(bytes, at);
@@ -54,7 +54,7 @@ fn judge(stand: Stand, bytes: &[u8]) -> Result<Option<Timed>, LogFault>
     if bytes.len() < need(stand, bytes) {
         return Ok(None);
     }
-    match whole_entry(stand, bytes) {
+    match complete_entry(stand, bytes) {
         Ok(entry) => Ok(Some(entry)),
         Err(fault) => Err(fault),
     }
@@ -155,6 +155,8 @@ impl LogReader {
         requires { total self.old + length piece.now < 2 ^ 64 }
         ensures kept { IfSome self.old.fault (λ f. (result ≡ Err f) × (self.new ≡ self.old)) }
         ensures fresh { IfNone self.old.fault (Feeds self.old.stand self.old.taken piece.now result self.new) }
+
+        ensures counts { Counts self.old piece.now result self.new }
 
         // An entry, none and a fault come exactly where the bytes since the last entry make them.
         ensures entry { IfNone self.old.fault ((k : ℕ) → (t : Timed) → EndsEntry self.old.stand self.old.taken piece.now k t → result ≡ Ok (record { used = k; entry = Some t })) }

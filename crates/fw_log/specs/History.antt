@@ -61,7 +61,7 @@ GivesNext all entries (Err f) = ⊥
 
 -- The input has ended: the entries are those of the log that the bytes are, where they are one, whole or without its end.
 pub record Finishes (entries : List Timed) (bytes : List ℕ) (result : Result (Unit {0}) LogFault) : Type 0 where
-  pub whole : OnOk result (LogSpells entries bytes)
+  pub complete : OnOk result (LogSpells entries bytes)
   pub only : (all : List Timed) → LogOpens all bytes → all ≡ entries
   pub spelled : LogSpells entries bytes → result ≡ Ok tt
   pub place : IfErr result (λ f. f.place ≡ length bytes)

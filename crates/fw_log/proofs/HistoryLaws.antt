@@ -9,16 +9,16 @@ use Rattle.fw_log.specs.Log.{header_bytes, entry_bytes, is_end, EndsAt, InOrder,
 use Rattle.fw_log.specs.Reading.{IsPending, Spells, Faulty, length_of, header_fault, entry_fault, head_fault, skip, header_at, fault_at}
 use Rattle.fw_log.specs.declared.stand.Stand.{Stand}
 use Rattle.fw_log.specs.Reader.{State, Feeds, FeedsTo, EndsEntry, ShowsFault, after, with_bytes, finish_of, finish_by}
-use Rattle.fw_log.specs.Whole.{bytes_of, last_cycle, ended_by, stand_after, HasRead, BeginsNoLog, ReadsTo, ReadsOn, IsNext, GivesNext, Finishes}
+use Rattle.fw_log.specs.History.{bytes_of, last_cycle, ended_by, stand_after, HasRead, BeginsNoLog, ReadsTo, ReadsOn, IsNext, GivesNext, Finishes}
 use Rattle.fw_log.specs.declared.entry.Entry.{Entry}
 use Rattle.fw_log.specs.declared.entry.Entry.TheVariants.{Reset, Async, Event, Outcome, Shown, End}
 use Rattle.fw_log.specs.declared.entry.Timed.{Timed}
 use Rattle.fw_log.specs.declared.read.LogFed.{LogFed}
 use Rattle.fw_log.specs.declared.LogFault.{LogFault}
 use Rattle.fw_log.specs.declared.LogWhy.TheVariants.{AfterEnd, Cut, NoEnd}
-use Rattle.fw_log.proofs.StayLaws.{no_whole_front, need_least, head_stays}
-use Rattle.fw_log.proofs.SameLaws.{same_timed, length-entry, length_back, spelled_whole, header_alone}
-use Rattle.fw_log.proofs.ExactLaws.{never_whole, entry_faulty}
+use Rattle.fw_log.proofs.StayLaws.{no_complete_front, need_least, head_stays}
+use Rattle.fw_log.proofs.SameLaws.{same_timed, length-entry, length_back, spelled_complete, header_alone}
+use Rattle.fw_log.proofs.ExactLaws.{never_complete, entry_faulty}
 
 ends_at : (e : Entry) (more : List Timed) → EndsAt e more → is_end e ≡ true → more ≡ []
 ends_at (Reset r) more h e = cc e
@@ -112,7 +112,7 @@ dead_front : {A : Type 0} (s : Stand) (line : List ℕ) (n m : ℕ) (f : LogFaul
 dead_front s line n m f t pending shown within h =
     elim (cases_lt n m) [
       | inl less ↦ entry_faulty s [] line (n + 1) m f t (omega arith) within shown h
-      | inr more ↦ never_whole s [] line m n more (spelled_whole s t (take m line) h) pending
+      | inr more ↦ never_complete s [] line m n more (spelled_complete s t (take m line) h) pending
     ]
 
 ended_begun : (entries : List Timed) → ended_by false entries ≡ true → header_at (length (bytes_of entries)) ≡ []
@@ -139,7 +139,7 @@ last_clear : (entries : List Timed) (unit more : List ℕ) (f : LogFault) → Fa
 last_clear entries unit more f (inr b) same =
     let size = size_of_header (length (bytes_of entries)) in
     let low = need_least (stand_after entries) unit in
-    omega (arith, b.whole, low, size, ap length same, length-append unit more, length-append (header_at (length (bytes_of entries))) [])
+    omega (arith, b.complete, low, size, ap length same, length-append unit more, length-append (header_at (length (bytes_of entries))) [])
 last_clear entries unit more f (inl h) same = by (ended_by false entries) refl
   where
     line : unit ++ more ≡ header_at (length (bytes_of entries))
@@ -182,12 +182,12 @@ dead entries bytes piece r k f h shows all more o =
     let some : k + 1 ≤ length piece = omega (arith, shows.within) in
     let size : length (take (k + 1) piece) ≡ k + 1 = length-take-le (k + 1) piece some in
     let n = length r.taken + k in
-    let whole : r.taken ++ take (k + 1) piece ≡ take (length r.taken + k + 1) ((r.taken ++ take (k + 1) piece) ++ more) =
+    let complete : r.taken ++ take (k + 1) piece ≡ take (length r.taken + k + 1) ((r.taken ++ take (k + 1) piece) ++ more) =
     sym (take_at (r.taken ++ take (k + 1) piece) more (length r.taken + k + 1) (omega (arith, length-append r.taken (take (k + 1) piece), size))) in
     let shorter : take (length r.taken + k) ((r.taken ++ take (k + 1) piece) ++ more) ≡ r.taken ++ take k piece =
     taken_at r.taken (take (k + 1) piece) more k (omega (arith, size)) ∙ ap (λ t. r.taken ++ t) (take-take k (k + 1) piece (omega arith)) in
     let P : List ℕ → Type 0 = IsPending (stand_after entries) in
-    dead_by entries b.rest (r.taken ++ take (k + 1) piece) more (length r.taken + k) f whole (subst P (sym shorter) before) shown b.order b.ends b.same
+    dead_by entries b.rest (r.taken ++ take (k + 1) piece) more (length r.taken + k) f complete (subst P (sym shorter) before) shown b.order b.ends b.same
 
 -- one entry more
 order_push : (last : ℕ) (b : Bool) (ts : List Timed) (t : Timed) → InOrder last ts → last_cycle last ts ≤ t.cycle → TimedFits t → ended_by b ts ≡ false → InOrder last (ts ++ t ∷ [])
@@ -213,7 +213,7 @@ same_stand : (a b a' b' : ℕ) (c c' : Bool) → a ≡ a' → b ≡ b' → c ≡
 same_stand a b a' b' c c' e f g = cc
 
 nothing_pending : (s : Stand) → IsPending s []
-nothing_pending s = record { no_fault = nothing_shown s; not_whole = let low = need_least s [] in omega arith }
+nothing_pending s = record { no_fault = nothing_shown s; not_complete = let low = need_least s [] in omega arith }
 
 pub read_begins : HasRead [] [] (with_bytes (record { start = 0; last = 0; ended = false }) [])
 read_begins = record { order = tt; same = refl; stand = refl; no_fault = refl; pending = nothing_pending (record { start = 0; last = 0; ended = false }) }
@@ -296,8 +296,8 @@ header_too : (entries : List Timed) → 1 ≤ length entries → bytes_of entrie
 header_too [] some = absurd (omega (arith, some))
 header_too (t ∷ ts) some = refl
 
-whole_log : (entries : List Timed) (bytes : List ℕ) (r : State) → HasRead entries bytes r → r.stand.ended ≡ true → LogSpells entries bytes
-whole_log entries bytes r h e =
+log_spelled : (entries : List Timed) (bytes : List ℕ) (r : State) → HasRead entries bytes r → r.stand.ended ≡ true → LogSpells entries bytes
+log_spelled entries bytes r h e =
     let ended : ended_by false entries ≡ true = sym (ap (λ (s : Stand). s.ended) h.stand) ∙ e in
     let some = some_entry entries ended in
     let none = nothing_more r.stand r.taken h.pending e in
@@ -312,7 +312,7 @@ only_by entries (t ∷ rest) taken pending order ends same =
     let s = next_spells entries rest t order ends in
     let line : taken ≡ (header_at (length (bytes_of entries)) ++ entry_bytes t) ++ flat_map entry_bytes rest = sym same ∙ sym (append_assoc (header_at (length (bytes_of entries))) (entry_bytes t) (flat_map entry_bytes rest)) in
     let P : List ℕ → Type 0 = IsPending (stand_after entries) in
-    no_whole_front (stand_after entries) (header_at (length (bytes_of entries)) ++ entry_bytes t) (flat_map entry_bytes rest) (subst P line pending) (spelled_whole (stand_after entries) t _ s)
+    no_complete_front (stand_after entries) (header_at (length (bytes_of entries)) ++ entry_bytes t) (flat_map entry_bytes rest) (subst P line pending) (spelled_complete (stand_after entries) t _ s)
 
 only_log : (entries all : List Timed) (bytes : List ℕ) (r : State) → HasRead entries bytes r → LogOpens all bytes → all ≡ entries
 only_log entries all bytes r h o =
@@ -351,7 +351,7 @@ ended_none false x f e h = cc e
 -- what the end of the input makes of what was read
 pub finishes : (entries : List Timed) (bytes : List ℕ) (r : State) (result : Result (Unit {0}) LogFault) → HasRead entries bytes r → result_err result ≡ finish_of r → Finishes entries bytes result
 finishes entries bytes r (Ok x) h e = record {
-  whole = whole_log entries bytes r h (ended_from r.stand.ended (r.stand.start + length r.taken) (length r.taken) (skip r.stand.start) (finish_clear r None h.no_fault e));
+  complete = log_spelled entries bytes r h (ended_from r.stand.ended (r.stand.start + length r.taken) (length r.taken) (skip r.stand.start) (finish_clear r None h.no_fault e));
   only = λ all o. only_log entries all bytes r h o;
   spelled = λ s. refl;
   place = tt;
@@ -359,7 +359,7 @@ finishes entries bytes r (Ok x) h e = record {
 finishes entries bytes r (Err f) h e =
     let is = finish_clear r (Some f) h.no_fault e in
     record {
-      whole = tt;
+      complete = tt;
       only = λ all o. only_log entries all bytes r h o;
       spelled = λ s. absurd (ended_none r.stand.ended _ f (ap (λ (s : Stand). s.ended) h.stand ∙ has_end false entries s.ends) is);
       place = place_by r.stand.ended (r.stand.start + length r.taken) (length r.taken) (skip r.stand.start) f is ∙ omega (arith, ap (λ (s : Stand). s.start) h.stand, ap length h.same, length-append (bytes_of entries) r.taken);
