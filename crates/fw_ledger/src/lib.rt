@@ -2,7 +2,7 @@
 //! their laws. The functions do nothing: their contracts are the laws.
 #![tactic(auto)]
 
-ghost use Rattle.std.specs.Prelude.{◌≡◌, ◌<◌, ◌+◌, ◌++◌, ◌↔◌, [], ◌∷◌, ℕ, List, Some, None, if◌then◌else◌, IsTrue};
+ghost use Rattle.std.specs.Prelude.{◌≡◌, ◌<◌, ◌+◌, ◌^◌, ◌++◌, ◌↔◌, [], ◌∷◌, ℕ, List, Some, None, if◌then◌else◌, IsTrue};
 ghost use Rattle.std.specs.List.{All};
 ghost use Rattle.fw_base.specs.declared.plug.PlugAt.{PlugAt};
 ghost use Rattle.fw_log.specs.declared.entry.ResetEntry.{ResetEntry};
@@ -15,7 +15,7 @@ ghost use Rattle.fw_words.specs.Quadlet.{field};
 ghost use Rattle.fw_ledger.specs.Network.{is_output, is_input};
 ghost use Rattle.fw_ledger.specs.Moves.{Move, Can, after, HasNoPending};
 ghost use Rattle.fw_ledger.specs.Events.{after_reset, after_second, after_death};
-ghost use Rattle.fw_ledger.specs.Words.{Register, BandwidthAvailable, ChannelsAvailable, OutputPlug, InputPlug, word_of, fields_at, input_fields_at};
+ghost use Rattle.fw_ledger.specs.Words.{Register, BandwidthAvailable, ChannelsAvailable, OutputPlug, InputPlug, word_of, word_at, fields_at, input_fields_at};
 ghost use Rattle.fw_ledger.specs.Decode.{IsMove, move_at};
 ghost use Rattle.fw_ledger.specs.Fold.{next_account, account_of};
 ghost use Rattle.fw_ledger.specs.Refused.{IsRefused};
@@ -49,9 +49,10 @@ pub fn entries_are_refused()
     ensures { (l : Account) (e : Entry) → IsSound l → (next_account l e ≡ None) ↔ IsRefused e l }
 {}
 
-/// What the registers of a sound account say: the units that are left beside those of the list of all that is allocated, a
+/// What the registers of a sound account say, each in 32 bits: the units that are left beside those of the list of all that is allocated, a
 /// bit that is 1 exactly for a channel that the list does not name, and the fields of the plug registers.
 pub fn registers_tell()
+    ensures below { (l : Account) (n offset word : ℕ) → IsSound l → word_at l n offset ≡ Some word → word < 2 ^ 32 }
     ensures units { (l : Account) → IsSound l → listed_units (resources l) + word_of l BandwidthAvailable ≡ 4915 }
     ensures channels { (l : Account) (base i : ℕ) → i < 32 → base + i < 64 → field (word_of l (ChannelsAvailable base)) i i ≡ (if lists_channel (base + i) (resources l) then 0 else 1) }
     ensures outputs { (l : Account) (p : PlugAt) → IsSound l → IsTrue (is_output l.latest p) → out_fields (word_of l (OutputPlug p)) ≡ fields_at l p }
