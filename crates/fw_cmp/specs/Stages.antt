@@ -172,6 +172,19 @@ StageFits j (ReadChannelsToRelease next ch) = ch < 64
 StageFits j (RestoreChannel next ch arg) = ch < 64
 StageFits j _ = ⊤
 
+-- the words that a stage keeps are quadlets
+abbrev pub WordsFit : Stage → Type 0
+WordsFit (ReadChannels base w) = w < 2 ^ 32
+WordsFit (SwapChannels ch arg w) = (arg < 2 ^ 32) × (w < 2 ^ 32)
+WordsFit (ReadBandwidth ch w) = w < 2 ^ 32
+WordsFit (SwapBandwidth ch u arg w) = (arg < 2 ^ 32) × (w < 2 ^ 32)
+WordsFit (ConnectOutput ch u arg) = arg < 2 ^ 32
+WordsFit (OverlayOutput arg) = arg < 2 ^ 32
+WordsFit (LeaveOutput next arg) = arg < 2 ^ 32
+WordsFit (RaiseBandwidth next ch u arg) = arg < 2 ^ 32
+WordsFit (RestoreChannel next ch arg) = arg < 2 ^ 32
+WordsFit _ = ⊤
+
 -- what is held is of a channel
 abbrev pub HeldFits : Option Held → Type 0
 HeldFits None = ⊤

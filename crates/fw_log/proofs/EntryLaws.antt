@@ -10,8 +10,11 @@ use Rattle.fw_async.specs.Async.{AreBytes}
 use Rattle.fw_async.proofs.ReadingLaws.{are_bytes_part}
 use Rattle.fw_async.proofs.WholeLaws.{peel}
 use Rattle.fw_log.specs.Log.{header_bytes, entry_head, entry_bytes, body}
-use Rattle.fw_log.specs.Reading.{tested, header_fault, entry_fault, head_fault, fault_at, Stand, skip, header_at, need, entry_need, length_of, cycle_of, is_built, is_kind, is_length, HeadFits, WholeHead, Spells, IsBody, WrongBody, BodyRefused}
+use Rattle.fw_log.specs.Reading.{tested, header_fault, entry_fault, head_fault, fault_at, skip, header_at, need, entry_need, length_of, cycle_of, is_built, is_kind, is_length, HeadFits, WholeHead, Spells, WrongBody}
+use Rattle.fw_log.specs.declared.stand.Stand.{Stand}
+use Rattle.fw_log.specs.Bodies.{IsBody, BodyRefused}
 use Rattle.fw_log.specs.declared.LogFault.{LogFault}
+use Rattle.fw_log.proofs.StayLaws.{need_least}
 use Rattle.fw_log.specs.declared.LogWhy.TheVariants.{AfterEnd, BadHeader, BadKind, BadLength, TimeBack, BadBody, NotBuilt}
 use Rattle.fw_log.specs.declared.entry.Timed.{Timed}
 use Rattle.fw_log.specs.declared.BodyFault.{BodyFault}
@@ -106,12 +109,6 @@ entry_back e fit size zero =
 need_whole : (n m : ℕ) → n ≡ (if nat_lt n 4 then 12 else 12 + 4 * m) → n ≡ 12 + 4 * m
 need_whole n m h = grind (arith, nat_tests)
 
-pub need_least : (s : Stand) (bytes : List ℕ) → skip s.start + 12 ≤ need s bytes
-need_least s bytes = least (skip s.start) (length (drop (skip s.start) bytes)) (length_of (drop (skip s.start) bytes))
-  where
-    least : (k n m : ℕ) → k + 12 ≤ k + (if nat_lt n 4 then 12 else 12 + 4 * m)
-    least k n m = grind (arith, nat_tests)
-
 still_open : (s : Stand) (bytes : List ℕ) → 0 < length bytes → head_fault s bytes ≡ None → s.ended ≡ false
 still_open s bytes some h = by s.ended (length bytes) some _ (fault_at s.start AfterEnd) h
   where
@@ -156,8 +153,9 @@ whole_head s bytes fit h whole =
     let least = need_least s bytes in
     let more : 0 < length bytes = omega arith in
     let enough : skip s.start + 12 ≤ length bytes = omega arith in
-    let w = whole_by s.start s.last bytes (s.start == 0) fit (opened s bytes (still_open s bytes more h) h) whole enough in
-    record { head = w.head; before = w.before_is; size = w.size }
+    let going_on = still_open s bytes more h in
+    let w = whole_by s.start s.last bytes (s.start == 0) fit (opened s bytes going_on h) whole enough in
+    record { going_on = going_on; head = w.head; before = w.before_is; size = w.size }
 
 pub meet : (n m r : ℕ) → r ≡ m → r ≤ n → n ≤ m → n ≡ m
 meet n m r e below above = omega arith
@@ -179,6 +177,7 @@ spelled_by s bytes e t fit is w c b =
     ∙ ap (λ x. entry_head (get_or e 0 0) (length (drop 12 e) / 4) x ++ drop 12 e) c
     ∙ back in
     record {
+      going_on = w.going_on;
       fits = record { cycle = rw c (below e fit); entry = b.fits };
       later = rw c (later s.last (cycle_of e) h.later);
       same = ap (λ x. header_at s.start ++ x) (mine ∙ is) ∙ w.before;

@@ -10,6 +10,8 @@ mod nodes;
 mod read;
 mod read_body;
 mod read_head;
+mod read_reset;
+mod stand;
 mod write;
 mod write_body;
 

@@ -12,6 +12,7 @@ use Rattle.fw_base.specs.Tables.{same_plug, update_plug}
 use Rattle.fw_ledger.specs.Account.{Connected, Account, has_connection}
 use Rattle.fw_plug.specs.Words.{Settings, units_of}
 use Rattle.fw_ledger.specs.Moves.{ConnectFirst, ConnectOverlaid, DisconnectOutput, Can, after, HasConnection, HasRoom}
+use Rattle.fw_ledger.specs.Network.{is_output}
 use Rattle.fw_ledger.specs.Sound.{IsSound}
 use Rattle.fw_plug.specs.Words.{OutFields, out_fields, out_word}
 use Rattle.fw_ledger.specs.Words.{fields_at}
@@ -38,7 +39,7 @@ connections_join l c j s t others i room stood sat kind q = rw sat (go (same_plu
     go true e = let p : q ≡ j.plug = same_plug-true q j.plug e in omega (arith, was, seats_added c j.kind kind (l.outputs j.plug) room, ap (λ x. connections_of c kind (l.outputs x)) p)
     go false e = was
 
-pub arg_is : (l : Account) (j : Job) (arg : ℕ) → IsSound l → IsTrue (l.has_plug j.plug) → arg ≡ word_at l j.plug OutputPlug → out_fields arg ≡ fields_at l j.plug
+pub arg_is : (l : Account) (j : Job) (arg : ℕ) → IsSound l → IsTrue (is_output l.latest j.plug) → arg ≡ word_at l j.plug OutputPlug → out_fields arg ≡ fields_at l j.plug
 arg_is l j arg s there e = rw e (word_is l j s there)
 
 pub can_join_new : (l : Account) (c : ℕ) (j : Job) (ch u arg : ℕ) (others : ConnectionKind → PlugAt → ℕ) → IsSound l → IsJob j → IsInStep l c j (ConnectOutput ch u arg) others → arg ≡ word_at l j.plug (register_of (ConnectOutput ch u arg)) → Can c j.plug (ConnectFirst j.kind ch j.overhead) l

@@ -11,7 +11,8 @@ use Rattle.std.proofs.lemmas.Bool.{cases_eq}
 use Rattle.fw_base.specs.Tables.{same_plug, update, update_plug}
 use Rattle.fw_ledger.specs.Account.{Pending, Connected, Allocation, Connections, Account, has_connection, is_pending}
 use Rattle.fw_plug.specs.Words.{units_of}
-use Rattle.fw_ledger.specs.Moves.{Move, AllocateChannel, AllocateUnits, ConnectFirst, ConnectOverlaid, DisconnectOutput, ReleaseUnits, ReleaseChannel, Can, after, with_allocation, HasConnection, HasRoom}
+use Rattle.fw_ledger.specs.Moves.{Move, ConnectInput, DisconnectInput, AllocateChannel, AllocateUnits, ConnectFirst, ConnectOverlaid, DisconnectOutput, ReleaseUnits, ReleaseChannel, Can, after, with_allocation, HasConnection, HasRoom}
+use Rattle.fw_ledger.specs.Network.{is_output}
 use Rattle.fw_ledger.specs.Sound.{IsSound}
 use Rattle.fw_cmp.specs.Stages.{pending_of}
 use Rattle.fw_step.specs.InStep.{IsInStep, HoldsPending, connections_of}
@@ -60,7 +61,7 @@ pub record Spares (d : ℕ) (l m : Account) : Type 0 where
   pub rate : (q : PlugAt) → (m.settings q).rate ≡ (l.settings q).rate
   pub reclaiming : m.reclaiming ≡ l.reclaiming
   pub reclaimable : (ch : ℕ) → m.reclaimable ch ≡ l.reclaimable ch
-  pub has_plug : (q : PlugAt) → m.has_plug q ≡ l.has_plug q
+  pub latest : m.latest ≡ l.latest
 
 pub spared : (l m : Account) (d : ℕ) (j : Job) (s : Stage) (others : ConnectionKind → PlugAt → ℕ) → Spares d l m → IsInStep l d j s others → IsInStep m d j s others
 spared l m d j s others a i = record {
@@ -70,11 +71,11 @@ spared l m d j s others a i = record {
   knows = rw (a.rate j.plug) i.knows;
   reclaims = λ r e. let m' = i.reclaims (sym a.reclaiming ∙ r) e in (m'.0, m'.1, rw (a.rate j.plug) (a.reclaimable m'.0 ∙ m'.2));
   channel = i.channel;
-  there = a.has_plug j.plug ∙ i.there;
+  there = ap (λ o. is_output o j.plug) a.latest ∙ i.there;
 }
 
 charge_spares : (l : Account) (d ch : ℕ) (x : Option Allocation) → is_pending d (l.allocations ch) ≡ false → is_pending d x ≡ false → Spares d l (with_allocation ch x l)
-charge_spares l d ch x old new = record { addressed = refl; pending = λ q h. hand_stays l d q h ch x old new; connections = λ kind q. refl; rate = λ q. refl; reclaiming = refl; reclaimable = λ k. refl; has_plug = λ q. refl }
+charge_spares l d ch x old new = record { addressed = refl; pending = λ q h. hand_stays l d q h ch x old new; connections = λ kind q. refl; rate = λ q. refl; reclaiming = refl; reclaimable = λ k. refl; latest = refl }
 
 pub move_spares : (c d : ℕ) (p : PlugAt) (m : Move) (l : Account) → c < 63 → d ≢ c → IsSound l → Can c p m l → Spares d l (after c p m l)
 move_spares c d p (AllocateChannel ch) l lt ne s h = charge_spares l d ch _ (rw h.free refl) (grind (arith, nat_tests))
@@ -88,7 +89,7 @@ move_spares c d p (ConnectFirst kind ch overhead) l lt ne s h = record {
   rate = λ q. grind (arith, update_plug_at l.settings p (record { channel = ch; rate = (l.settings p).rate; overhead = overhead }) q);
   reclaiming = refl;
   reclaimable = λ k. refl;
-  has_plug = λ q. refl;
+  latest = refl;
 }
 move_spares c d p (ConnectOverlaid kind) l lt ne s h = record {
   addressed = refl;
@@ -97,8 +98,10 @@ move_spares c d p (ConnectOverlaid kind) l lt ne s h = record {
   rate = λ q. refl;
   reclaiming = refl;
   reclaimable = λ k. refl;
-  has_plug = λ q. refl;
+  latest = refl;
 }
+move_spares c d p (ConnectInput kind ch) l lt ne s h = record { addressed = refl; pending = λ q o x. x; connections = λ k q. refl; rate = λ q. refl; reclaiming = refl; reclaimable = λ k. refl; latest = refl }
+move_spares c d p (DisconnectInput kind) l lt ne s h = record { addressed = refl; pending = λ q o x. x; connections = λ k q. refl; rate = λ q. refl; reclaiming = refl; reclaimable = λ k. refl; latest = refl }
 move_spares c d p (DisconnectOutput kind) l lt ne s h = record {
   addressed = refl;
   pending = λ q o. go (has_connection (drop_connection c kind (l.outputs p))) q o;
@@ -106,7 +109,7 @@ move_spares c d p (DisconnectOutput kind) l lt ne s h = record {
   rate = λ q. refl;
   reclaiming = refl;
   reclaimable = λ k. refl;
-  has_plug = λ q. refl;
+  latest = refl;
 }
   where
     own : l.allocations (l.settings p).channel ≡ Some (record { holder = Connected p; units = units_of (l.settings p) })
