@@ -42,6 +42,16 @@ listed_units xs = sum_by units_in xs
 abbrev pub lists_channel : ℕ → List Resource → Bool
 lists_channel ch xs = list_any (is_channel ch) xs
 
+-- a channel whose holder passes
+abbrev pub is_channel_of : (Holder → Bool) → Resource → Bool
+is_channel_of test (Channel ch holder) = test holder
+is_channel_of test (Units u holder) = false
+
+-- units whose holder passes
+abbrev pub is_units_of : (Holder → Bool) → Resource → Bool
+is_units_of test (Channel ch holder) = false
+is_units_of test (Units u holder) = test holder
+
 -- Allocated is exactly what flows take: each connected plug has its channel and units, and each allocation is that of such a
 -- plug, or one that a controller left that died since the reset.
 pub record IsAllocatedForFlows (l : Account) : Type 0 where
