@@ -19,3 +19,4 @@ pub mod Listing
 pub mod Refused
 pub mod Resets
 pub mod Transactions
+pub mod Bounds

@@ -1,6 +1,6 @@
 -- The list of what is allocated has the units and channels of the registers; and with nothing pending, all is for flows.
 use Rattle.fw_base.specs.declared.plug.PlugAt.{PlugAt}
-use Rattle.std.proofs.Common.{◌≡◌, ◌⊎◌, inl, inr, ℕ, zero, suc, ◌+◌, ◌<◌, ◌≤◌, ◌==◌, ◌||◌, ◌↔◌, nat_lt, not, Bool, true, false, Option, Some, None, [], ◌∷◌, refl, sym, ◌∙◌, true≢false, arith, cond}
+use Rattle.std.proofs.Common.{◌≡◌, ◌⊎◌, inl, inr, ℕ, zero, suc, ◌+◌, ◌<◌, ◌≤◌, ◌==◌, ◌||◌, ◌↔◌, nat_lt, not, Bool, true, false, Option, Some, None, [], ◌∷◌, count_by, refl, sym, ◌∙◌, true≢false, arith, cond}
 use Rattle.std.proofs.lemmas.Bool.Decides.{nat_tests}
 use Rattle.std.proofs.lemmas.Bool.{cases_lt}
 use Rattle.std.proofs.lemmas.List.Folds.{list_any-append}
@@ -11,7 +11,7 @@ use Rattle.fw_plug.specs.Words.{flag, units_of}
 use Rattle.fw_ledger.specs.Account.{Holder, Pending, Connected, Orphaned, Allocation, Account, total, allocated, is_free, is_pending, has_connection}
 use Rattle.fw_ledger.specs.Moves.{HasNoPending}
 use Rattle.fw_ledger.specs.Words.{word_of, BandwidthAvailable, ChannelsAvailable}
-use Rattle.fw_ledger.specs.Listing.{Channel, Units, resources_at, resources_below, resources, units_in, is_channel, listed_units, lists_channel, IsAllocatedForFlows}
+use Rattle.fw_ledger.specs.Listing.{Channel, Units, resources_at, resources_below, resources, units_in, is_channel, is_channel_of, is_units_of, listed_units, lists_channel, IsAllocatedForFlows}
 use Rattle.fw_ledger.specs.Sound.{IsSound}
 use Rattle.fw_ledger.proofs.Words.{free_bit}
 
@@ -65,6 +65,55 @@ channel_listed l base i lt within =
     let t : nat_lt (base + i) 64 ≡ true = grind (arith, nat_tests) in
     let e : lists_channel (base + i) (resources l) ≡ not (is_free (l.allocations (base + i))) = channel_listed_below (base + i) 64 l.allocations ∙ rw t refl in
     free_bit (λ k. is_free (l.allocations (base + k))) i lt ∙ rw e (flag_not (is_free (l.allocations (base + i))))
+
+-- ---- each channel once, and units only with a channel of their holder
+
+once_at : (ch n : ℕ) (o : Option Allocation) → count_by (is_channel ch) (resources_at n o) ≤ cond {A = ℕ} (n == ch) 1 0
+once_at ch n None = omega arith
+once_at ch n (Some x) = go (x.units == 0)
+  where
+    go : (b : Bool) → count_by (is_channel ch) (Channel n x.holder ∷ cond b [] (Units x.units x.holder ∷ [])) ≤ cond {A = ℕ} (n == ch) 1 0
+    go true = omega arith
+    go false = omega arith
+
+once_below : (ch n : ℕ) (f : ℕ → Option Allocation) → count_by (is_channel ch) (resources_below n f) ≤ cond {A = ℕ} (nat_lt ch n) 1 0
+unfolding resources_below
+once_below ch zero f = omega arith
+once_below ch (suc n) f =
+    let e = sum_by-append (λ r. cond {A = ℕ} (is_channel ch r) 1 0) (resources_below n f) (resources_at n (f n)) in
+    rw e (go (cases_lt ch n) (once_below ch n f) (once_at ch n (f n)))
+  where
+    go : (ch < n) ⊎ (n ≤ ch) → count_by (is_channel ch) (resources_below n f) ≤ cond {A = ℕ} (nat_lt ch n) 1 0 → count_by (is_channel ch) (resources_at n (f n)) ≤ cond {A = ℕ} (n == ch) 1 0 → count_by (is_channel ch) (resources_below n f) + count_by (is_channel ch) (resources_at n (f n)) ≤ cond {A = ℕ} (nat_lt ch (suc n)) 1 0
+    go (inl lt) a b = grind (arith, nat_tests)
+    go (inr le) a b = grind (arith, nat_tests)
+
+pub channel_once : (l : Account) (ch : ℕ) → count_by (is_channel ch) (resources l) ≤ 1
+channel_once l ch = let h = once_below ch 64 l.allocations in go (nat_lt ch 64) h
+  where
+    go : (b : Bool) → count_by (is_channel ch) (resources l) ≤ cond {A = ℕ} b 1 0 → count_by (is_channel ch) (resources l) ≤ 1
+    go true h = h
+    go false h = omega arith
+
+paired_at : (test : Holder → Bool) (n : ℕ) (o : Option Allocation) → count_by (is_units_of test) (resources_at n o) ≤ count_by (is_channel_of test) (resources_at n o)
+paired_at test n None = omega arith
+paired_at test n (Some x) = go (x.units == 0)
+  where
+    go : (b : Bool) → count_by (is_units_of test) (Channel n x.holder ∷ cond b [] (Units x.units x.holder ∷ [])) ≤ count_by (is_channel_of test) (Channel n x.holder ∷ cond b [] (Units x.units x.holder ∷ []))
+    go true = omega arith
+    go false = omega arith
+
+paired_below : (test : Holder → Bool) (n : ℕ) (f : ℕ → Option Allocation) → count_by (is_units_of test) (resources_below n f) ≤ count_by (is_channel_of test) (resources_below n f)
+unfolding resources_below
+paired_below test zero f = omega arith
+paired_below test (suc n) f =
+    let a = sum_by-append (λ r. cond {A = ℕ} (is_units_of test r) 1 0) (resources_below n f) (resources_at n (f n)) in
+    let b = sum_by-append (λ r. cond {A = ℕ} (is_channel_of test r) 1 0) (resources_below n f) (resources_at n (f n)) in
+    let h = paired_below test n f in
+    let k = paired_at test n (f n) in
+    omega arith
+
+pub units_with_channel : (l : Account) (test : Holder → Bool) → count_by (is_units_of test) (resources l) ≤ count_by (is_channel_of test) (resources l)
+units_with_channel l test = paired_below test 64 l.allocations
 
 -- ---- flows
 

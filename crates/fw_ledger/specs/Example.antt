@@ -11,6 +11,7 @@ use Rattle.fw_ledger.specs.Account.{Account}
 use Rattle.fw_ledger.specs.Words.{BandwidthAvailable, ChannelsAvailable, OutputPlug, InputPlug, word_of}
 use Rattle.fw_ledger.specs.Fold.{account_of}
 
+-- from node 0 to itself, with label 0
 abbrev pub head : Head
 head = record { destination = 0xffc0; tl = 0; rt = 1; pri = 0; source = 0xffc0 }
 
@@ -18,9 +19,11 @@ head = record { destination = 0xffc0; tl = 0; rt = 1; pri = 0; source = 0xffc0 }
 abbrev pub swap : ℕ → ℕ → ℕ → List Entry
 swap address arg new = Async (Lock head address 2 (to_be_bytes w32 arg ++ to_be_bytes w32 new)) ∷ Async (LockReply head 0 2 (to_be_bytes w32 arg)) ∷ []
 
+-- a quadlet read of an address that shows this word
 abbrev pub read : ℕ → ℕ → List Entry
 read address word = Async (ReadQuadlet head address) ∷ Async (ReadQuadletReply head 0 word) ∷ []
 
+-- a bus of one deck at 100 Mbit/s, which is node 0
 abbrev pub reset : ℕ → Entry
 reset epoch = Reset (record {
   epoch = epoch;
@@ -39,15 +42,19 @@ connected =
     ++ (read 0xffff_f000_0220 0x1333 ++ (swap 0xffff_f000_0220 0x1333 0x963
     ++ swap 0xffff_f000_0904 0x803f007a 0xc03f007a))))
 
+-- how the procedure ended: 1 connected, 3 restored
 abbrev pub outcome : ℕ → Entry
 outcome code = Outcome (record { code = code; device = 0; slot = 0; value = 63 })
 
+-- the reclaim second is over
 abbrev pub second_over : Entry
 second_over = Event (record { code = 1; device = 255; tape = 0; system = 0 })
 
+-- the first connection
 abbrev pub first_path : List Entry
 first_path = reset 1 ∷ (connected ++ outcome 1 ∷ [])
 
+-- and the connection again after a reset
 abbrev pub restored : List Entry
 restored = first_path ++ reset 2 ∷ (connected ++ outcome 3 ∷ second_over ∷ [])
 
@@ -55,6 +62,7 @@ restored = first_path ++ reset 2 ∷ (connected ++ outcome 3 ∷ second_over ∷
 abbrev pub registers_of : Account → List ℕ
 registers_of l = word_of l BandwidthAvailable ∷ word_of l (ChannelsAvailable 32) ∷ word_of l (OutputPlug (record { device = 0; plug = 0 })) ∷ []
 
+-- those registers after the entries
 abbrev pub registers_after : List Entry → Option (List ℕ)
 registers_after es = option_map registers_of (account_of es)
 
@@ -70,6 +78,7 @@ not_allocated = reset 1 ∷ swap 0xffff_f000_0904 0x803f007a 0xc03f007a
 abbrev pub listening : List Entry
 listening = first_path ++ read 0xffff_f000_0984 0x803f0000 ++ swap 0xffff_f000_0984 0x803f0000 0xc03f0000
 
+-- the deck's iPCR after the entries
 abbrev pub input_after : List Entry → Option ℕ
 input_after es = option_map (λ l. word_of l (InputPlug (record { device = 0; plug = 0 }))) (account_of es)
 

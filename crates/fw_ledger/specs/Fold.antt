@@ -40,6 +40,7 @@ next_account l (Outcome o) = Some l
 next_account l (Shown s) = Some l
 next_account l End = Some l
 
+-- the account after one entry more, where there was one
 abbrev pub next_of : Option Account → Entry → Option Account
 next_of None e = None
 next_of (Some l) e = next_account l e

@@ -15,6 +15,7 @@ abbrev pub resources_at : ℕ → Option Allocation → List Resource
 resources_at ch None = []
 resources_at ch (Some x) = Channel ch x.holder ∷ (if x.units == 0 then [] else Units x.units x.holder ∷ [])
 
+-- what the table has at the channels below n
 unfoldable pub resources_below : ℕ → (ℕ → Option Allocation) → List Resource
 resources_below zero allocations = []
 resources_below (suc n) allocations = resources_below n allocations ++ resources_at n (allocations n)
@@ -23,10 +24,12 @@ resources_below (suc n) allocations = resources_below n allocations ++ resources
 abbrev pub resources : Account → List Resource
 resources l = resources_below 64 l.allocations
 
+-- the units of one thing that is allocated
 abbrev pub units_in : Resource → ℕ
 units_in (Channel ch holder) = 0
 units_in (Units u holder) = u
 
+-- whether it is this channel
 abbrev pub is_channel : ℕ → Resource → Bool
 is_channel ch (Channel k holder) = k == ch
 is_channel ch (Units u holder) = false
@@ -35,8 +38,19 @@ is_channel ch (Units u holder) = false
 abbrev pub listed_units : List Resource → ℕ
 listed_units xs = sum_by units_in xs
 
+-- whether the list names a channel
 abbrev pub lists_channel : ℕ → List Resource → Bool
 lists_channel ch xs = list_any (is_channel ch) xs
+
+-- a channel whose holder passes
+abbrev pub is_channel_of : (Holder → Bool) → Resource → Bool
+is_channel_of test (Channel ch holder) = test holder
+is_channel_of test (Units u holder) = false
+
+-- units whose holder passes
+abbrev pub is_units_of : (Holder → Bool) → Resource → Bool
+is_units_of test (Channel ch holder) = false
+is_units_of test (Units u holder) = test holder
 
 -- Allocated is exactly what flows take: each connected plug has its channel and units, and each allocation is that of such a
 -- plug, or one that a controller left that died since the reset.

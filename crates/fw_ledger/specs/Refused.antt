@@ -51,6 +51,7 @@ pub data IsLockRefused (h : Head) (rcode function : ℕ) (old : List ℕ) (l : A
   OtherFunction : (c : ℕ) (request : Request) (asked : ℕ) (bytes : List ℕ) → Ends h c request l → request.operation ≡ Locks asked bytes → asked ≢ function → IsLockRefused h rcode function old l
   NoMove : (c address : ℕ) (bytes : List ℕ) (register : Register) → function ≡ 2 → IsSwap h rcode old c address bytes register l → ((p : PlugAt) (m : Move) → IsMove c p m register (quadlet_at bytes 0) (quadlet_at bytes 4) l → ⊥) → IsLockRefused h rcode function old l
 
+-- the packet is such a request or response
 abbrev pub IsPacketRefused : Packet → Account → Type 0
 IsPacketRefused (WriteQuadlet h offset value) l = ⊥
 IsPacketRefused (WriteBlock h offset bytes) l = ⊥

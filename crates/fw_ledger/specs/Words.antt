@@ -19,9 +19,11 @@ pub data Register : Type 0 where
 
 -- ---- what a register holds
 
+-- the fields of an output plug's register (IEC 61883-1, oPCR)
 abbrev pub fields_at : Account → PlugAt → OutFields
 fields_at l p = record { broadcast = is_there (l.outputs p).broadcast; counter = counter (l.outputs p); settings = l.settings p }
 
+-- the fields of an input plug's register (IEC 61883-1, iPCR)
 abbrev pub input_fields_at : Account → PlugAt → InFields
 input_fields_at l p = record { broadcast = is_there (l.inputs p).broadcast; counter = counter (l.inputs p); channel = l.input_channel p }
 
@@ -34,6 +36,7 @@ bits_word free = sum_to 32 (λ i. flag (free (31 - i)) * 2 ^ i)
 abbrev pub channel_word : Account → ℕ → ℕ
 channel_word l base = bits_word (λ i. is_free (l.allocations (base + i)))
 
+-- the word of a register
 abbrev pub word_of : Account → Register → ℕ
 word_of l BandwidthAvailable = remainder l
 word_of l (ChannelsAvailable base) = channel_word l base
@@ -46,12 +49,15 @@ word_of l (InputPlug p) = in_word (input_fields_at l p)
 abbrev pub plug_number : ℕ → ℕ → Option ℕ
 plug_number first offset = if nat_le first offset && nat_lt offset (first + 124) && ((offset - first) % 4 == 0) then Some ((offset - first) / 4) else None
 
+-- the offset of oPCR[0]
 abbrev pub first_output : ℕ
 first_output = 0x904
 
+-- the offset of iPCR[0]
 abbrev pub first_input : ℕ
 first_input = 0x984
 
+-- the resource manager's register at an offset
 abbrev pub manager_register : ℕ → Option Register
 manager_register offset =
     if offset == 0x220 then Some BandwidthAvailable
@@ -59,18 +65,22 @@ manager_register offset =
     else if offset == 0x228 then Some (ChannelsAvailable 32)
     else None
 
+-- the register of output plug k, where the node has it
 abbrev pub output_register : NodeRow → Option ℕ → Option Register
 output_register row None = None
 output_register row (Some k) = if nat_lt k row.outs then Some (OutputPlug (at_plug row.device k)) else None
 
+-- the register of input plug k, where the node has it
 abbrev pub input_register : NodeRow → Option ℕ → Option Register
 input_register row None = None
 input_register row (Some k) = if nat_lt k row.ins then Some (InputPlug (at_plug row.device k)) else None
 
+-- the plug register that stands at an offset of a node
 abbrev pub plug_register : Option NodeRow → ℕ → Option Register
 plug_register None offset = None
 plug_register (Some row) offset = option_or (output_register row (plug_number first_output offset)) (input_register row (plug_number first_input offset))
 
+-- node n is the one
 abbrev pub is_node : ℕ → Option ℕ → Bool
 is_node n None = false
 is_node n (Some m) = m == n
@@ -99,10 +109,12 @@ word_of_device l d offset = word_at l (node_of l.latest d) offset
 abbrev pub first_address : ℕ
 first_address = 0xffff_f000_0000
 
+-- the register that a node ID and an address name
 abbrev pub register_of : Option ResetEntry → ℕ → ℕ → Option Register
 register_of latest id address =
     if nat_le first_id id && nat_le first_address address then register_at latest (id - first_id) (address - first_address) else None
 
+-- the output plug whose offset this is, at a node
 abbrev pub output_of : Option NodeRow → ℕ → Option PlugAt
 output_of None offset = None
 output_of (Some row) offset = option_map (at_plug row.device) (plug_number first_output offset)

@@ -1,4 +1,5 @@
 -- Each clause is a lemma.
+use Rattle.fw_ledger.proofs.Bounds.{word_at_below}
 use Rattle.fw_ledger.proofs.Decoded.{output_of_word, input_of_word}
 use Rattle.fw_ledger.proofs.Listing.{units_listed, channel_listed}
 use Rattle.fw_ledger.proofs.registers_tell.Goals as goal
@@ -14,3 +15,6 @@ returns-clause-outputs c = output_of_word
 
 pub returns-clause-inputs : goal.returns-clause-inputs
 returns-clause-inputs c = input_of_word
+
+pub returns-clause-below : goal.returns-clause-below
+returns-clause-below c = word_at_below
