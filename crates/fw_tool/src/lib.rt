@@ -9,7 +9,8 @@ mod run;
 mod script;
 mod text;
 mod top;
-
+#[cfg(test)]
+mod tests;
 
 pub use top::fire;
 

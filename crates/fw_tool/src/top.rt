@@ -35,6 +35,11 @@ pub fn fire<S: Source, K: Sink, N: Sink>(
         × Logged (S.left source.old) (S.left source.new) (K.held sink.old) (K.held sink.new) (Some r)
         × Grows (N.held notes.old) (N.held notes.new) (note_of (Ending.Refused r)) }
 
+    // 2, 5 and 8: the notes hold what the ending is called.
+    ensures told { ((result ≡ 2) → Grows (N.held notes.old) (N.held notes.new) (note_of Ending.Usage))
+        × ((result ≡ 5) → Grows (N.held notes.old) (N.held notes.new) (note_of Ending.ReadFault))
+        × ((result ≡ 8) → Grows (N.held notes.old) (N.held notes.new) (note_of Ending.NoMemory)) }
+
     // 5 and 6: only where a count rose.
     ensures read_fault { result ≡ 5 → Rose (S.faults source.old) (S.faults source.new) }
     ensures write_fault { result ≡ 6 → Rose (K.faults sink.old) (K.faults sink.new) ⊎ Rose (N.faults notes.old) (N.faults notes.new) }
