@@ -103,7 +103,7 @@ decide_leave j next v = if shows_connection j.kind (out_fields v) then LeaveOutp
 abbrev pub decide_raise : Then → ℕ → ℕ → ℕ → Stage
 decide_raise next ch u v = if nat_le (u + v) 4915 then RaiseBandwidth next ch u v else ReadChannelsToRelease next ch
 
--- what follows where the connection was left: the last one leaves the plug's allocations in the pending
+-- what follows where the connection was left: where it was the last, the plug's allocation is pending again
 abbrev pub after_leave : Job → Then → OutFields → Stage
 after_leave j next f = if is_connected (one_less j.kind f) then give_back None next else ReadBandwidthToRelease next f.settings.channel (units_of f.settings)
 

@@ -142,7 +142,7 @@ units_released l c j next ch u arg others i =
 pub can_release_channel : (l : Account) (c : ℕ) (j : Job) (next : Then) (ch arg : ℕ) (others : ConnectionKind → PlugAt → ℕ) → IsInStep l c j (RestoreChannel next ch arg) others → Can c j.plug (ReleaseChannel ch) l
 can_release_channel l c j next ch arg others i = record { within = i.pending.0; held = i.pending.1 }
 
--- a pending that orphaned its one allocation
+-- the one pending allocation was orphaned
 pub pending_gone : (l : Account) (c : ℕ) (p : PlugAt) (ch : ℕ) (x : Option Allocation) {u : ℕ} → IsSound l → (ℕ → is_pending c x ≡ false) → l.allocations ch ≡ Some (record { holder = Pending c p; units = u }) → (k : ℕ) → is_pending c (update l.allocations ch x k) ≡ false
 pending_gone l c p ch x s gone held k = go (is_pending c (l.allocations k)) refl (cases_eq k ch)
   where

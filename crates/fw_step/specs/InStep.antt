@@ -27,7 +27,7 @@ word_at l p OutputPlug = out_word (fields_at l p)
 word_at l p (Channels base) = channel_word l base
 word_at l p BandwidthAvailable = remainder l
 
--- controller c has exactly these allocations in its pending
+-- the pending allocations of controller c are exactly these
 abbrev pub HoldsPending : ℕ → PlugAt → Option Held → (ℕ → Option Allocation) → Type 0
 HoldsPending c p None allocations = HasNoPending c allocations
 HoldsPending c p (Some h) allocations = (h.channel < 64) × (allocations h.channel ≡ Some (record { holder = Pending c p; units = h.units }))
