@@ -42,4 +42,6 @@ pub enum TreeFault {
 }
 
 #[cfg(test)]
+mod fixtures;
+#[cfg(test)]
 mod tests;
