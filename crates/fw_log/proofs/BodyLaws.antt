@@ -50,6 +50,3 @@ none_given bytes s r fed e give shows is never =
           never p d.0 d.1)),
       refuses_none bytes (λ f h. cc (is, fault h.at f h.shown.within h.shown.before h.shown.shown)),
     )
-
-pub as_kind : (kind k : ℕ) (bytes : List ℕ) (f : BodyFault) → kind ≡ k → BodyRefused k bytes f → BodyRefused kind bytes f
-as_kind kind k bytes f e h = let P : ℕ → Type 0 = λ k. BodyRefused k bytes f in subst P (sym e) h

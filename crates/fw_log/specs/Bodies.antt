@@ -26,10 +26,11 @@ pub record PacketRefuses (bytes : List ℕ) (f : PacketFault) : Type 0 where
   pub at : ℕ
   pub shown : Packets.ShowsFault [] bytes at f
 
--- how many nodes the body of a reset names, and where its self-ID packets begin
+-- how many nodes the body of a reset names
 abbrev pub count_of : List ℕ → ℕ
 count_of bytes = field (quadlet_at bytes 4) 24 31
 
+-- where the self-ID packets begin in the body of a reset
 abbrev pub ids_at : List ℕ → ℕ
 ids_at bytes = 8 + 4 * count_of bytes
 

@@ -1,4 +1,4 @@
--- The log: a header, and entries, each with one spelling.
+-- The log (own): a header, and entries, each with one spelling.
 use Rattle.std.specs.Prelude.{◌≡◌, ℕ, ◌+◌, ◌/◌, ◌^◌, ◌≤◌, ◌<◌, ◌==◌, ◌||◌, ◌&&◌, nat_le, List, [], ◌∷◌, ◌++◌, Bool, true, false, slice_index, IfSome, length, Option, Some, None, if◌then◌else◌, flat_map, map, IsTrue}
 use Rattle.std.specs.Int.{to_be_bytes, w16, w32, w64}
 use Rattle.fw_words.specs.Layout.{packed}
@@ -24,6 +24,7 @@ quads qs = flat_map (to_be_bytes w32) qs
 abbrev pub header_bytes : List ℕ
 header_bytes = quads (825440564 ∷ 1 ∷ 0 ∷ 0 ∷ [])
 
+-- the quadlet of a node: device, output plugs, input plugs and kind code, 8 bits each
 abbrev pub node_quad : NodeRow → ℕ
 node_quad r = packed ((8, r.device) ∷ (8, r.outs) ∷ (8, r.ins) ∷ (8, r.kind) ∷ []) 0
 
@@ -32,6 +33,7 @@ abbrev pub manager_byte : Option ℕ → ℕ
 manager_byte None = 255
 manager_byte (Some m) = m
 
+-- the quadlets of a reset before its self-ID packets: epoch, then root, manager, initiator and the number of nodes, then the nodes
 abbrev pub reset_quads : ResetEntry → List ℕ
 reset_quads r = r.epoch ∷ packed ((8, r.root) ∷ (8, manager_byte r.manager) ∷ (8, r.initiator) ∷ (8, length r.nodes) ∷ []) 0 ∷ map node_quad r.nodes
 
@@ -39,12 +41,15 @@ reset_quads r = r.epoch ∷ packed ((8, r.root) ∷ (8, manager_byte r.manager) 
 abbrev pub event_quads : EventEntry → List ℕ
 event_quads e = packed ((8, e.code) ∷ (8, e.device) ∷ (16, 0) ∷ []) 0 ∷ (if e.code == 4 then packed ((16, e.tape) ∷ (16, e.system) ∷ []) 0 ∷ [] else [])
 
+-- code, device, slot and zero, then the value
 abbrev pub outcome_quads : OutcomeEntry → List ℕ
 outcome_quads o = packed ((8, o.code) ∷ (8, o.device) ∷ (8, o.slot) ∷ (8, 0) ∷ []) 0 ∷ o.value ∷ []
 
+-- device, zeros and offset, then the word
 abbrev pub shown_quads : ShownEntry → List ℕ
 shown_quads s = packed ((8, s.device) ∷ (8, 0) ∷ (16, s.offset) ∷ []) 0 ∷ s.word ∷ []
 
+-- the kind of an entry
 abbrev pub kind_of : Entry → ℕ
 kind_of (Reset r) = 1
 kind_of (AsyncEntry p) = 2
@@ -53,6 +58,7 @@ kind_of (Outcome o) = 5
 kind_of (Shown s) = 6
 kind_of End = 7
 
+-- the body of an entry
 abbrev pub body : Entry → List ℕ
 body (Reset r) = quads (reset_quads r) ++ flat_map Phy.spelling r.ids
 body (AsyncEntry p) = Async.spelling p
@@ -76,6 +82,7 @@ is_event code device tape system =
     && (if (code == 1) || (code == 6) then device == 255 else true)
     && (if code == 4 then (system == 525) || (system == 625) else (tape == 0) && (system == 0))
 
+-- The event may be written: codes 1 and 6 have no device, and code 4 has a tape of one of two systems.
 pub record EventFits (e : EventEntry) : Type 0 where
   pub device : e.device < 2 ^ 8
   pub tape : e.tape < 2 ^ 16
@@ -85,17 +92,20 @@ pub record EventFits (e : EventEntry) : Type 0 where
 abbrev pub is_outcome : ℕ → ℕ → Bool
 is_outcome code value = nat_le 1 code && nat_le code 12 && (if (code == 2) || (code == 9) then value == 0 else true)
 
+-- The outcome may be written.
 pub record OutcomeFits (o : OutcomeEntry) : Type 0 where
   pub device : o.device < 2 ^ 8
   pub slot : o.slot < 2 ^ 8
   pub value : o.value < 2 ^ 32
   pub shape : IsTrue (is_outcome o.code o.value)
 
+-- The shown word may be written: its offset is below hexadecimal 1000.
 pub record ShownFits (s : ShownEntry) : Type 0 where
   pub device : s.device < 2 ^ 8
   pub offset : s.offset < 2 ^ 12
   pub word : s.word < 2 ^ 32
 
+-- The node may be written.
 pub record RowFits (r : NodeRow) : Type 0 where
   pub device : r.device < 63
   pub outs : r.outs ≤ 31
@@ -116,6 +126,7 @@ are_ids k (Some next) (SelfIdMore m ∷ ps) n = (m.phy == k) && (m.number == nex
 are_ids k (Some next) (Config a b c d ∷ ps) n = false
 are_ids k (Some next) (LinkOn a ∷ ps) n = false
 
+-- the devices of the nodes
 abbrev pub devices : List NodeRow → List ℕ
 devices rows = map (λ r. r.device) rows
 
@@ -123,6 +134,7 @@ devices rows = map (λ r. r.device) rows
 abbrev pub AreApart : List NodeRow → Type 0
 AreApart rows = (i j : ℕ) → i < j → j < length rows → slice_index (devices rows) i ≡ slice_index (devices rows) j → ⊥
 
+-- The reset may be written: its numbers are those of nodes, its devices are distinct, and its packets are those of its nodes.
 pub record ResetFits (r : ResetEntry) : Type 0 where
   pub epoch : r.epoch < 2 ^ 32
   pub some : 1 ≤ length r.nodes
@@ -145,11 +157,12 @@ Fits (Outcome o) = OutcomeFits o
 Fits (Shown s) = ShownFits s
 Fits End = Unit {0}
 
+-- The entry may be written, with its cycle.
 pub record TimedFits (t : Timed) : Type 0 where
   pub cycle : t.cycle < 2 ^ 64
   pub entry : Fits t.what
 
--- Cycles never fall, and nothing follows the end.
+-- nothing follows the end
 abbrev pub EndsAt : Entry → List Timed → Type 0
 EndsAt (Reset r) more = Unit {0}
 EndsAt (AsyncEntry p) more = Unit {0}
@@ -158,14 +171,16 @@ EndsAt (Outcome o) more = Unit {0}
 EndsAt (Shown s) more = Unit {0}
 EndsAt End more = more ≡ []
 
+-- Each entry may be written, from this cycle on cycles never fall, and nothing follows the end.
 abbrev pub InOrder : ℕ → List Timed → Type 0
 InOrder last [] = Unit {0}
 InOrder last (t ∷ ts) = (last ≤ t.cycle) × TimedFits t × EndsAt t.what ts × InOrder t.cycle ts
 
--- the last entry is the end
+-- the entry is the end
 abbrev pub is_end : Entry → Bool
 is_end e = kind_of e == 7
 
+-- the last entry is the end
 abbrev pub HasEnd : List Timed → Type 0
 HasEnd [] = ⊥
 HasEnd (t ∷ []) = IsTrue (is_end t.what)

@@ -18,14 +18,16 @@ pub record State : Type 0 where
 abbrev pub total : State → ℕ
 total r = r.stand.start + length r.taken
 
+-- A reader that has answered no fault holds a part of an entry.
 abbrev pub HoldsPending : Stand → List ℕ → Option LogFault → Type 0
 HoldsPending s taken None = IsPending s taken
 HoldsPending s taken (Some f) = Unit {0}
 
--- the state with these bytes, and the one after an entry that they are
+-- the state with these bytes and no fault
 abbrev pub with_bytes : Stand → List ℕ → State
 with_bytes s taken = record { stand = s; taken = taken; fault = None }
 
+-- the state after an entry that the bytes are
 abbrev pub after : Stand → List ℕ → Timed → State
 after s taken t = record { stand = record { start = s.start + length taken; last = t.cycle; ended = is_end t.what }; taken = []; fault = None }
 
@@ -34,11 +36,13 @@ abbrev pub EntryJudges : Stand → List ℕ → Result Timed LogFault → Type 0
 EntryJudges s bytes (Ok t) = Spells s t bytes
 EntryJudges s bytes (Err f) = WrongBody s bytes f
 
+-- what bytes that do not go past their entry are: a part of it, it, or a fault
 abbrev pub Judges : Stand → List ℕ → Result (Option Timed) LogFault → Type 0
 Judges s bytes (Ok None) = IsPending s bytes
 Judges s bytes (Ok (Some t)) = Spells s t bytes
 Judges s bytes (Err f) = Faulty s bytes f
 
+-- a part that does not go past the entry: nothing yet, the entry, or a fault
 abbrev pub TakesPart : Stand → List ℕ → List ℕ → Result (Option Timed) LogFault → State → Type 0
 TakesPart s old part (Ok None) new = (new ≡ with_bytes s (old ++ part)) × IsPending s (old ++ part)
 TakesPart s old part (Ok (Some t)) new = (new ≡ after s (old ++ part) t) × Spells s t (old ++ part)
@@ -83,5 +87,6 @@ finish_by None s taken =
     else if length taken == skip s.start then Some (fault_at (s.start + length taken) NoEnd)
     else Some (fault_at (s.start + length taken) Cut)
 
+-- what the input's end makes of a state
 abbrev pub finish_of : State → Option LogFault
 finish_of r = finish_by r.fault r.stand r.taken

@@ -11,6 +11,7 @@ use Rattle.fw_log.specs.declared.LogWhy.TheVariants.{AfterEnd, BadHeader, BadKin
 use Rattle.fw_log.specs.declared.LogFault.{LogFault}
 use Rattle.fw_log.specs.declared.stand.Stand.{Stand}
 
+-- a fault and its place
 abbrev pub fault_at : ℕ → LogWhy → LogFault
 fault_at place why = record { place = place; why = why }
 
@@ -32,16 +33,19 @@ header_size = 16
 abbrev pub tested : ℕ → ℕ → Bool → LogFault → Option LogFault → Option LogFault
 tested n end ok f rest = if nat_lt n end then None else if ok then rest else Some f
 
--- the number of quadlets of a body, and the cycle
+-- the number of quadlets of a body
 abbrev pub length_of : List ℕ → ℕ
 length_of e = 256 * slice_index e length_at + slice_index e (length_at + 1)
 
+-- the cycle of an entry
 abbrev pub cycle_of : List ℕ → ℕ
 cycle_of e = from_be_bytes w64 (take 8 (drop cycle_at e))
 
+-- kinds that a reader takes: isochronous packets, kind 3, come later
 abbrev pub is_built : ℕ → Bool
 is_built kind = not (kind == 3)
 
+-- a kind, and the zero byte behind it
 abbrev pub is_kind : ℕ → ℕ → Bool
 is_kind kind low = nat_le 1 kind && nat_le kind 7 && (low == 0)
 
@@ -55,6 +59,7 @@ is_length kind len =
     else if kind == 7 then len == 0
     else len == 2
 
+-- the first part of an entry before its body that is there and is refused
 abbrev pub entry_fault : ℕ → ℕ → List ℕ → Option LogFault
 entry_fault place last e =
     tested (length e) length_at (is_built (slice_index e 0)) (fault_at place NotBuilt)
@@ -62,6 +67,7 @@ entry_fault place last e =
     (tested (length e) cycle_at (is_length (slice_index e 0) (length_of e)) (fault_at (place + length_at) BadLength)
     (tested (length e) body_at (nat_le last (cycle_of e)) (fault_at (place + cycle_at) TimeBack) None)))
 
+-- the first quadlet of the header that is there and is refused, or what follows
 abbrev pub header_fault : List ℕ → Option LogFault → Option LogFault
 header_fault bytes rest =
     tested (length bytes) 4 (quadlet_at bytes 0 == 825440564) (fault_at 0 BadHeader)
@@ -80,6 +86,7 @@ head_fault s bytes =
     else if s.start == 0 then header_fault bytes (entry_fault header_size s.last (drop header_size bytes))
     else entry_fault s.start s.last bytes
 
+-- how many bytes an entry takes at least, by what is there of it
 abbrev pub entry_need : List ℕ → ℕ
 entry_need e = if nat_lt (length e) cycle_at then body_at else body_at + 4 * length_of e
 
@@ -92,10 +99,11 @@ pub record IsPending (s : Stand) (bytes : List ℕ) : Type 0 where
   pub no_fault : head_fault s bytes ≡ None
   pub not_complete : length bytes < need s bytes
 
--- the bytes are the entry, behind the header where it is the first
+-- the header, before the first entry
 abbrev pub header_at : ℕ → List ℕ
 header_at start = if start == 0 then header_bytes else []
 
+-- The bytes are the entry, behind the header where it is the first, and it may stand there.
 pub record Spells (s : Stand) (t : Timed) (bytes : List ℕ) : Type 0 where
   pub going_on : s.ended ≡ false
   pub fits : TimedFits t
@@ -109,23 +117,25 @@ pub record HeadFits (last : ℕ) (e : List ℕ) : Type 0 where
   pub size : is_length (slice_index e 0) (length_of e) ≡ true
   pub later : nat_le last (cycle_of e) ≡ true
 
--- what stands before a whole entry, and the entry
+-- The parts before the body are right, and the bytes are as many as the entry takes.
 pub record IsComplete (s : Stand) (bytes : List ℕ) : Type 0 where
   pub going_on : s.ended ≡ false
   pub head : HeadFits s.last (drop (skip s.start) bytes)
   pub before : header_at s.start ++ drop (skip s.start) bytes ≡ bytes
   pub size : length (drop (skip s.start) bytes) ≡ body_at + 4 * length_of (drop (skip s.start) bytes)
 
--- the whole entry, whose head has no fault
+-- The body is refused, with its reason and place.
 pub record WrongBody (s : Stand) (bytes : List ℕ) (f : LogFault) : Type 0 where
   pub why : BodyFault
   pub is : f ≡ fault_at (s.start + (skip s.start + body_at)) (BadBody why)
   pub refused : BodyRefused (slice_index (drop (skip s.start) bytes) 0) (drop body_at (drop (skip s.start) bytes)) why
 
+-- The parts before the body are right, the body is there, and it is refused.
 pub record BodyFaulty (s : Stand) (bytes : List ℕ) (f : LogFault) : Type 0 where
   pub no_fault : head_fault s bytes ≡ None
   pub complete : length bytes ≡ need s bytes
   pub wrong : WrongBody s bytes f
 
+-- A part is refused: one before the body, or the body.
 abbrev pub Faulty : Stand → List ℕ → LogFault → Type 0
 Faulty s bytes f = (head_fault s bytes ≡ Some f) ⊎ BodyFaulty s bytes f

@@ -17,10 +17,12 @@ use fw_words::Bytes;
 use std::alloc::{AllocError, Global};
 use std::marker::Model;
 
-/// An entry, or none yet, and how many bytes of the piece were taken.
+/// What a piece gave.
 #[derive(Debug, PartialEq, Eq, Drop)]
 pub struct LogFed {
+    /// How many of its bytes were taken.
     pub used: usize,
+    /// The entry that ended with them, if one did.
     pub entry: Option<Timed>,
 }
 
@@ -149,8 +151,10 @@ impl LogReader {
         Ok(LogFed { used, entry: None })
     }
 
-    /// Takes bytes up to the end of one entry, or all of the piece where no entry ends in it. After a fault it
-    /// answers that fault at each call.
+    /// Takes bytes up to the end of one entry, or all of the piece where no entry ends in it. The parts of a log are
+    /// each quadlet of its header, and of an entry its kind with the zero behind it, its length, its cycle and its
+    /// body, and a byte behind the end. A fault comes in the call in which the last byte of a refused part is taken;
+    /// no log begins with the bytes up to there. After a fault each call answers that fault.
     pub fn feed(&mut self, piece: &[u8]) -> Result<LogFed, LogFault>
         requires { total self.old + length piece.now < 2 ^ 64 }
         ensures kept { IfSome self.old.fault (λ f. (result ≡ Err f) × (self.new ≡ self.old)) }

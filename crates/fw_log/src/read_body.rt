@@ -136,14 +136,8 @@ pub(crate) fn entry_of(kind: u8, body: &[u8]) -> Result<Entry, BodyFault>
     ensures { BodyJudges kind body.now result }
 {
     match kind {
-        1 => match reset_of(body) {
-            Ok(reset) => Ok(Entry::Reset(reset)),
-            Err(fault) => Err(fault),
-        },
-        2 => match async_of(body) {
-            Ok(packet) => Ok(Entry::Async(packet)),
-            Err(fault) => Err(fault),
-        },
+        1 => Ok(Entry::Reset(reset_of(body)?)),
+        2 => Ok(Entry::Async(async_of(body)?)),
         4 => match event_of(body) {
             Some(event) => Ok(Entry::Event(event)),
             None => Err(BodyFault::Fields),
