@@ -2,7 +2,7 @@
 use Rattle.std.specs.Prelude.{ℕ, ◌==◌, Option, Some, None, if◌then◌else◌}
 use Rattle.fw_csr.specs.Requests.{swap_in, quadlet_swap}
 use Rattle.fw_csr.specs.declared.request.Request.{Request}
-use Rattle.fw_csr.specs.declared.request.Request.TheVariants.{Read, ReadBlock, Write, WriteBlock, Lock}
+use Rattle.fw_csr.specs.declared.request.Request.TheVariants.{Read, Write, WriteBlock, Lock}
 use Rattle.fw_csr.specs.declared.request.Swap.{Swap}
 use Rattle.fw_csr.specs.declared.reply.Reply.{Reply}
 use Rattle.fw_csr.specs.declared.register.Register.{Register}

@@ -1,5 +1,5 @@
 -- What a request is at, and the two quadlets of a quadlet compare_swap (IEEE 1394-1995, lock functions).
-use Rattle.std.specs.Prelude.{ℕ, List, Bool, ◌==◌, ◌&&◌, length, Option, Some, None, if◌then◌else◌}
+use Rattle.std.specs.Prelude.{ℕ, List, ◌==◌, ◌&&◌, length, Option, Some, None, if◌then◌else◌}
 use Rattle.fw_words.specs.Quadlet.{quadlet_at}
 use Rattle.fw_csr.specs.declared.request.Request.{Request}
 use Rattle.fw_csr.specs.declared.request.Request.TheVariants.{Read, ReadBlock, Write, WriteBlock, Lock}

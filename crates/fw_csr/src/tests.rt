@@ -17,8 +17,8 @@ enum Ask {
     FetchAdd(u32),
 }
 
-fn request(offset: u64, ask: Ask) -> Request {
-    let offset = REGISTER_SPACE + offset;
+fn request(offset: u16, ask: Ask) -> Request {
+    let offset = REGISTER_SPACE + u64::from(offset);
     let mut bytes = Bytes::new();
     match ask {
         Ask::Read => return Request::Read { offset },

@@ -22,7 +22,9 @@ impl Model for Word {
 }
 
 impl Default for Word {
-    fn default() -> Self {
+    fn default() -> Self
+        ensures { result ≡ 0 }
+    {
         Word { value: 0 }
     }
 }

@@ -1,5 +1,5 @@
 -- The fields of an output plug's register are those that it was made of.
-use Rattle.std.proofs.Common.{◌≡◌, ℕ, ◌<◌, ◌≤◌, eqb, refl, arith}
+use Rattle.std.proofs.Common.{◌≡◌, ◌<◌, ◌≤◌, eqb, arith}
 use Rattle.std.proofs.lemmas.Bool.Decides.{nat_tests}
 use Rattle.fw_words.specs.Quadlet.{field}
 use Rattle.fw_plug.specs.Words.{OutFields, flag, out_word, out_fields, FitsRegister}

@@ -1,5 +1,5 @@
 -- Plug control registers: their fields, and the units that a flow takes.
-use Rattle.std.specs.Prelude.{ℕ, ◌+◌, ◌-◌, ◌*◌, ◌^◌, ◌==◌, ◌<◌, Bool, if◌then◌else◌}
+use Rattle.std.specs.Prelude.{ℕ, ◌+◌, ◌-◌, ◌*◌, ◌^◌, ◌==◌, ◌||◌, not, ◌<◌, Bool, if◌then◌else◌}
 use Rattle.fw_words.specs.Quadlet.{field}
 
 -- what an output plug keeps
@@ -36,3 +36,7 @@ out_fields w = record {
   counter = field w 2 7;
   settings = record { channel = field w 10 15; rate = field w 16 17; overhead = field w 18 21 };
 }
+
+-- a connection stands at the plug of this register: its broadcast connection bit or its point-to-point connection counter is not 0
+abbrev pub is_connected : ℕ → Bool
+is_connected w = (field w 1 1 == 1) || not (field w 2 7 == 0)
