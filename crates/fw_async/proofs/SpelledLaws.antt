@@ -9,14 +9,15 @@ use Rattle.fw_words.specs.Quadlet.{field, quadlet_at, first_set}
 use Rattle.fw_words.specs.Layout.{packed}
 use Rattle.fw_words.proofs.FirstSet.{first_set_zero}
 use Rattle.fw_async.specs.Async.{HeadFits, Fits, spelling, head_fields, size, padding, padded, is_lock_size, is_reply_size}
-use Rattle.fw_async.specs.Reading.{fault_0, fault_1, fault_2, fault_3, fault_in_padding, fault_of, need, tcode_of, has_bytes, has_fourth, or_else, end_of_bytes, is_response, is_block, is_lock}
+use Rattle.fw_async.specs.Tcode.{has_data, has_quadlet_3, is_response, is_block, is_lock}
+use Rattle.fw_async.specs.Reading.{fault_in_quadlet_0, fault_in_quadlet_1, fault_in_quadlet_2, fault_in_quadlet_3, fault_in_padding, fault_of, need, tcode_of, or_else, end_of_data}
 use Rattle.fw_async.specs.declared.PacketFault.{PacketFault}
 use Rattle.fw_async.specs.declared.PacketFault.TheVariants.{Reserved, TooLong, BadLength}
 use Rattle.fw_async.specs.declared.packet.Head.{Head}
 use Rattle.fw_async.specs.declared.packet.Packet.{Packet}
 use Rattle.fw_async.specs.declared.packet.Packet.TheVariants.{WriteQuadlet, WriteBlock, WriteReply, ReadQuadlet, ReadBlock, ReadQuadletReply, ReadBlockReply, CycleStart, Lock, LockReply}
 use Rattle.fw_async.proofs.ReadingLaws.{padding_next}
-use Rattle.fw_async.proofs.NeedLaws.{need_by, need_done}
+use Rattle.fw_async.proofs.NeedLaws.{need_of, need_done}
 
 pub back : (a : ℕ) (rest : List ℕ) → a < 2 ^ 32 → quadlet_at (to_be_bytes w32 a ++ rest) 0 ≡ a
 back a rest h = from_be_bytes-to_be_bytes_4 a h
@@ -37,17 +38,17 @@ clear_by : (n : ℕ) (w x y z p : Option PacketFault) (b : Bool) → w ≡ None 
 clear_by n w x y z p true e f g h i = rw (e, f, g, h, i refl) (grind (arith, nat_tests))
 clear_by n w x y z p false e f g h i = rw (e, f, g, h) (grind (arith, nat_tests))
 
-clear : (bytes : List ℕ) (t : ℕ) → tcode_of bytes ≡ t → fault_0 t ≡ None → fault_1 t (quadlet_at bytes 4) ≡ None → fault_2 t (quadlet_at bytes 8) ≡ None → fault_3 t (quadlet_at bytes 12) ≡ None
-    → (IsTrue (has_bytes t) → fault_in_padding bytes (end_of_bytes bytes) (length bytes - end_of_bytes bytes) ≡ None) → fault_of bytes ≡ None
+clear : (bytes : List ℕ) (t : ℕ) → tcode_of bytes ≡ t → fault_in_quadlet_0 t ≡ None → fault_in_quadlet_1 t (quadlet_at bytes 4) ≡ None → fault_in_quadlet_2 t (quadlet_at bytes 8) ≡ None → fault_in_quadlet_3 t (quadlet_at bytes 12) ≡ None
+    → (IsTrue (has_data t) → fault_in_padding bytes (end_of_data bytes) (length bytes - end_of_data bytes) ≡ None) → fault_of bytes ≡ None
 clear bytes t e w x y z p =
-    let P : ℕ → Type 0 = λ k. (if nat_lt (length bytes) 4 then None else or_else (fault_0 k) (if nat_lt (length bytes) 8 then None else or_else (fault_1 k (quadlet_at bytes 4)) (if nat_lt (length bytes) 12 then None else or_else (fault_2 k (quadlet_at bytes 8)) (if nat_lt (length bytes) 16 then None else or_else (fault_3 k (quadlet_at bytes 12)) (if has_bytes k then fault_in_padding bytes (end_of_bytes bytes) (length bytes - end_of_bytes bytes) else None))))) ≡ None in
-    subst P (sym e) (clear_by (length bytes) (fault_0 t) (fault_1 t (quadlet_at bytes 4)) (fault_2 t (quadlet_at bytes 8)) (fault_3 t (quadlet_at bytes 12)) (fault_in_padding bytes (end_of_bytes bytes) (length bytes - end_of_bytes bytes)) (has_bytes t) w x y z p)
+    let P : ℕ → Type 0 = λ k. (if nat_lt (length bytes) 4 then None else or_else (fault_in_quadlet_0 k) (if nat_lt (length bytes) 8 then None else or_else (fault_in_quadlet_1 k (quadlet_at bytes 4)) (if nat_lt (length bytes) 12 then None else or_else (fault_in_quadlet_2 k (quadlet_at bytes 8)) (if nat_lt (length bytes) 16 then None else or_else (fault_in_quadlet_3 k (quadlet_at bytes 12)) (if has_data k then fault_in_padding bytes (end_of_data bytes) (length bytes - end_of_data bytes) else None))))) ≡ None in
+    subst P (sym e) (clear_by (length bytes) (fault_in_quadlet_0 t) (fault_in_quadlet_1 t (quadlet_at bytes 4)) (fault_in_quadlet_2 t (quadlet_at bytes 8)) (fault_in_quadlet_3 t (quadlet_at bytes 12)) (fault_in_padding bytes (end_of_data bytes) (length bytes - end_of_data bytes)) (has_data t) w x y z p)
 
 none_map : (before : ℕ) (x : Option ℕ) → x ≡ None → option_map (λ bit. Reserved (before + bit)) x ≡ None
 none_map before x e = rw e refl
 
-response_second : (t source rcode : ℕ) (rest : List ℕ) → source < 2 ^ 16 → rcode < 2 ^ 4 → fault_1 t (quadlet_at (to_be_bytes w32 (packed ((16, source) ∷ (4, rcode) ∷ (12, 0) ∷ []) 0) ++ rest) 0) ≡ None
-unfolding fault_1
+response_second : (t source rcode : ℕ) (rest : List ℕ) → source < 2 ^ 16 → rcode < 2 ^ 4 → fault_in_quadlet_1 t (quadlet_at (to_be_bytes w32 (packed ((16, source) ∷ (4, rcode) ∷ (12, 0) ∷ []) 0) ++ rest) 0) ≡ None
+unfolding fault_in_quadlet_1
 response_second t source rcode rest s r =
     let q = packed ((16, source) ∷ (4, rcode) ∷ (12, 0) ∷ []) 0 in
     let small : packed ((16, source) ∷ (4, rcode) ∷ (12, 0) ∷ []) 0 < 2 ^ 32 = omega arith in
@@ -59,8 +60,8 @@ response_second t source rcode rest s r =
     both true x e = e
     both false x e = refl
 
-response_third : (t : ℕ) (rest : List ℕ) → fault_2 t (quadlet_at (to_be_bytes w32 0 ++ rest) 0) ≡ None
-unfolding fault_2
+response_third : (t : ℕ) (rest : List ℕ) → fault_in_quadlet_2 t (quadlet_at (to_be_bytes w32 0 ++ rest) 0) ≡ None
+unfolding fault_in_quadlet_2
 response_third t rest =
     let none = none_map 64 (first_set 0 0 32) (first_set_zero 0 0 32 refl refl) in
     rw (back 0 rest (omega arith)) (both (is_response t) _ none)
@@ -79,15 +80,15 @@ size_len len low l s = omega arith
 pub size_low : (len low : ℕ) → len < 2 ^ 16 → low < 2 ^ 16 → field (size len low) 16 31 ≡ low
 size_low len low l s = omega arith
 
-block_size : (t q len : ℕ) → IsTrue (is_block t) → field q 16 31 ≡ 0 → field q 0 15 ≡ len → len ≤ 512 → fault_3 t q ≡ None
-unfolding fault_3
+block_size : (t q len : ℕ) → IsTrue (is_block t) → field q 16 31 ≡ 0 → field q 0 15 ≡ len → len ≤ 512 → fault_in_quadlet_3 t q ≡ None
+unfolding fault_in_quadlet_3
 block_size t q len b low l few = rw (low, l) (block (is_block t) len _ b few)
   where
     block : (b : Bool) (len : ℕ) (x : Option PacketFault) → IsTrue b → len ≤ 512 → (if b then (if nat_lt 512 len then Some (TooLong len) else None) else x) ≡ None
     block b len x h few = grind (arith, nat_tests)
 
-lock_size : (t q len low : ℕ) → is_block t ≡ false → field q 16 31 ≡ low → field q 0 15 ≡ len → 0 < low → low < 8 → IsTrue (if t == 9 then is_lock_size low len else is_reply_size len) → fault_3 t q ≡ None
-unfolding fault_3
+lock_size : (t q len low : ℕ) → is_block t ≡ false → field q 16 31 ≡ low → field q 0 15 ≡ len → 0 < low → low < 8 → IsTrue (if t == 9 then is_lock_size low len else is_reply_size len) → fault_in_quadlet_3 t q ≡ None
+unfolding fault_in_quadlet_3
 lock_size t q len low b e l some few fits = rw (b, e, l) (lock (is_lock t) len low (if t == 9 then is_lock_size low len else is_reply_size len) some few fits)
   where
     lock : (b : Bool) (len low : ℕ) (c : Bool) → 0 < low → low < 8 → IsTrue c → (if b then (if (low == 0) || nat_lt 7 low then Some (Reserved 112) else if c then None else Some (BadLength len)) else None) ≡ None
@@ -116,7 +117,7 @@ abbrev with_data : ℕ → ℕ → ℕ → ℕ → List ℕ → List ℕ
 with_data a b c d bytes = to_be_bytes w32 a ++ (to_be_bytes w32 b ++ (to_be_bytes w32 c ++ (to_be_bytes w32 d ++ padded bytes)))
 
 data_clear : (a b c low : ℕ) (bytes : List ℕ) → length bytes < 2 ^ 16 → low < 2 ^ 16
-    → let all = with_data a b c (size (length bytes) low) bytes in fault_in_padding all (end_of_bytes all) (length all - end_of_bytes all) ≡ None
+    → let all = with_data a b c (size (length bytes) low) bytes in fault_in_padding all (end_of_data all) (length all - end_of_data all) ≡ None
 data_clear a b c low bytes few small =
     let all = with_data a b c (size (length bytes) low) bytes in
     let len : field (quadlet_at (to_be_bytes w32 (size (length bytes) low) ++ padded bytes) 0) 0 15 ≡ length bytes = ap (λ q. field q 0 15) (size_of (length bytes) low (padded bytes) few small) ∙ size_len (length bytes) low few small in
@@ -129,7 +130,7 @@ pub reply_few : (len : ℕ) → IsTrue (is_reply_size len) → len < 2 ^ 16
 reply_few len h = grind (arith, nat_tests)
 
 pub spelled_none : (p : Packet) → Fits p → fault_of (spelling p) ≡ None
-unfolding fault_0 fault_1 fault_2 fault_3
+unfolding fault_in_quadlet_0 fault_in_quadlet_1 fault_in_quadlet_2 fault_in_quadlet_3
 spelled_none (WriteQuadlet h o v) fits =
     clear (spelling (WriteQuadlet h o v)) 0 (spelled_tcode 0 h (drop 4 (spelling (WriteQuadlet h o v))) (omega arith) fits.0) refl refl refl refl (λ b. cc)
 spelled_none (WriteBlock h o bytes) fits =
@@ -177,16 +178,16 @@ spelled_none (LockReply h rcode f bytes) fits =
     clear (spelling (LockReply h rcode f bytes)) 11 (spelled_tcode 11 h (drop 4 (spelling (LockReply h rcode f bytes))) (omega arith) fits.0) refl (response_second 11 h.source rcode (drop 8 (spelling (LockReply h rcode f bytes))) fits.0.4 fits.1) (response_third 11 (drop 12 (spelling (LockReply h rcode f bytes)))) (lock_size 11 (quadlet_at (spelling (LockReply h rcode f bytes)) 12) (length bytes) f refl low len fits.2 fits.3 fits.4) (λ b. data_clear _ _ 0 f bytes few small)
 
 -- A spelling is as long as it needs.
-need_at : (bytes : List ℕ) (t : ℕ) → tcode_of bytes ≡ t → need bytes ≡ need_by (length bytes) (has_fourth t) (has_bytes t) (field (quadlet_at bytes 12) 0 15)
-need_at bytes t e = ap (λ k. need_by (length bytes) (has_fourth k) (has_bytes k) (field (quadlet_at bytes 12) 0 15)) e
+need_at : (bytes : List ℕ) (t : ℕ) → tcode_of bytes ≡ t → need bytes ≡ need_of (length bytes) (has_quadlet_3 t) (has_data t) (field (quadlet_at bytes 12) 0 15)
+need_at bytes t e = ap (λ k. need_of (length bytes) (has_quadlet_3 k) (has_data k) (field (quadlet_at bytes 12) 0 15)) e
 
-data_need : (n len : ℕ) → n ≡ 16 + len + padding len → need_by n true true len ≡ n
+data_need : (n len : ℕ) → n ≡ 16 + len + padding len → need_of n true true len ≡ n
 data_need n len e = grind (arith, nat_tests)
 
 data_length : (a b c d : ℕ) (bytes : List ℕ) → length (with_data a b c d bytes) ≡ 16 + length bytes + padding (length bytes)
 data_length a b c d bytes = omega (arith, length-append bytes (replicate (padding (length bytes)) 0), length-replicate {A = ℕ} (padding (length bytes)) 0)
 
-need_data : (a b c low : ℕ) (bytes : List ℕ) → length bytes < 2 ^ 16 → low < 2 ^ 16 → need_by (length (with_data a b c (size (length bytes) low) bytes)) true true (field (quadlet_at (with_data a b c (size (length bytes) low) bytes) 12) 0 15) ≡ length (with_data a b c (size (length bytes) low) bytes)
+need_data : (a b c low : ℕ) (bytes : List ℕ) → length bytes < 2 ^ 16 → low < 2 ^ 16 → need_of (length (with_data a b c (size (length bytes) low) bytes)) true true (field (quadlet_at (with_data a b c (size (length bytes) low) bytes) 12) 0 15) ≡ length (with_data a b c (size (length bytes) low) bytes)
 need_data a b c low bytes few small =
     let len : field (quadlet_at (to_be_bytes w32 (size (length bytes) low) ++ padded bytes) 0) 0 15 ≡ length bytes = ap (λ q. field q 0 15) (size_of (length bytes) low (padded bytes) few small) ∙ size_len (length bytes) low few small in
     rw len (data_need (length (with_data a b c (size (length bytes) low) bytes)) (length bytes) (data_length a b c (size (length bytes) low) bytes))

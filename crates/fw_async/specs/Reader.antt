@@ -1,44 +1,58 @@
 -- What a reader of packets keeps, and what it makes of the bytes that come.
-use Rattle.std.specs.Prelude.{◌≡◌, ℕ, ◌+◌, ◌≤◌, ◌<◌, List, [], ◌∷◌, ◌++◌, length, take, Option, Some, None, Result, Ok, Err}
+use Rattle.std.specs.Prelude.{◌≡◌, ◌≢◌, ℕ, ◌+◌, ◌≤◌, ◌<◌, List, [], ◌∷◌, ◌++◌, length, take, Option, Some, None, Result, Ok, Err}
 use Rattle.fw_async.specs.Async.{spelling, Fits}
-use Rattle.fw_async.specs.Reading.{fault_of, IsPending}
+use Rattle.fw_async.specs.Reading.{fault_of, need, IsPending}
 use Rattle.fw_async.specs.declared.PacketFault.{PacketFault}
 use Rattle.fw_async.specs.declared.packet.Packet.{Packet}
-use Rattle.fw_async.specs.declared.Fed.{Fed}
+use Rattle.fw_async.specs.declared.reader.Fed.{Fed}
 
 -- the bytes since the last packet, and the fault that was answered
 pub record State : Type 0 where
   pub taken : List ℕ
   pub fault : Option PacketFault
 
--- without a fault the bytes are less than a packet
-abbrev pub HoldsPending : List ℕ → Option PacketFault → Type 0
-HoldsPending taken None = IsPending taken
-HoldsPending taken (Some f) = Unit {0}
+-- without a fault the bytes are less than a packet, and n is how many it takes at least; else they show the fault
+abbrev pub HoldsPending : List ℕ → ℕ → Option PacketFault → Type 0
+HoldsPending taken n None = IsPending taken × (n ≡ need taken)
+HoldsPending taken n (Some f) = fault_of taken ≡ Some f
 
 -- the bytes are the packet
 pub record Spells (p : Packet) (bytes : List ℕ) : Type 0 where
   pub fits : Fits p
   pub same : spelling p ≡ bytes
 
--- what the bytes are: less than a packet, a packet, or a fault
-abbrev pub Judges : List ℕ → Result (Option Packet) PacketFault → Type 0
-Judges bytes (Ok None) = IsPending bytes
-Judges bytes (Ok (Some p)) = Spells p bytes
-Judges bytes (Err f) = fault_of bytes ≡ Some f
+-- a part that does not go past the packet's end: nothing yet, the packet, or a fault
+abbrev pub TakesPart : List ℕ → List ℕ → Result (Option Packet) PacketFault → State → Type 0
+TakesPart old part (Ok None) new = (new ≡ record { taken = old ++ part; fault = None }) × IsPending (old ++ part)
+TakesPart old part (Ok (Some p)) new = (new ≡ record { taken = []; fault = None }) × Spells p (old ++ part)
+TakesPart old part (Err f) new = (new ≡ record { taken = old ++ part; fault = Some f }) × (fault_of (old ++ part) ≡ Some f)
 
--- one byte more: nothing yet, a packet, or a fault
-abbrev pub TakesByte : List ℕ → ℕ → Result (Option Packet) PacketFault → State → Type 0
-TakesByte old b (Ok None) new = (new ≡ record { taken = old ++ b ∷ []; fault = None }) × IsPending (old ++ b ∷ [])
-TakesByte old b (Ok (Some p)) new = (new ≡ record { taken = []; fault = None }) × Spells p (old ++ b ∷ [])
-TakesByte old b (Err f) new = (new.fault ≡ Some f) × (fault_of (old ++ b ∷ []) ≡ Some f)
+-- the first k bytes of a piece end a packet
+pub record EndsPacket (old piece : List ℕ) (k : ℕ) (p : Packet) : Type 0 where
+  pub within : k ≤ length piece
+  pub spells : Spells p (old ++ take k piece)
+
+-- a byte of a piece, that at index k, shows a fault of a packet that has not ended before
+pub record ShowsFault (old piece : List ℕ) (k : ℕ) (f : PacketFault) : Type 0 where
+  pub within : k < length piece
+  pub before : IsPending (old ++ take k piece)
+  pub shown : fault_of (old ++ take (k + 1) piece) ≡ Some f
+
+-- no byte of a piece ends a packet or shows a fault
+pub record EndsNothing (old piece : List ℕ) : Type 0 where
+  pub no_fault : (k : ℕ) → k ≤ length piece → fault_of (old ++ take k piece) ≡ None
+  pub no_packet : (k : ℕ) (p : Packet) → k ≤ length piece → Spells p (old ++ take k piece) → ⊥
+
+-- no packet begins with these bytes
+pub record BeginsNone (bytes : List ℕ) : Type 0 where
+  pub none : (p : Packet) (more : List ℕ) → Spells p (bytes ++ more) → ⊥
 
 -- all bytes of a piece without a packet's end, or those up to it
 abbrev pub FeedsTo : List ℕ → List ℕ → ℕ → Option Packet → State → Type 0
 FeedsTo old piece used None new = (used ≡ length piece) × (new ≡ record { taken = old ++ piece; fault = None }) × IsPending (old ++ piece)
-FeedsTo old piece used (Some p) new = (used ≤ length piece) × (new ≡ record { taken = []; fault = None }) × Spells p (old ++ take used piece)
+FeedsTo old piece used (Some p) new = EndsPacket old piece used p × (new ≡ record { taken = []; fault = None })
 
--- A piece: the bytes up to a packet's end, all of them, or up to the one that shows a fault.
+-- A piece: the bytes up to a packet's end, all of them, or up to one that shows a fault.
 abbrev pub Feeds : List ℕ → List ℕ → Result Fed PacketFault → State → Type 0
 Feeds old piece (Ok fed) new = FeedsTo old piece fed.used fed.packet new
-Feeds old piece (Err f) new = (new.fault ≡ Some f) × ((k : ℕ) × (k < length piece) × IsPending (old ++ take k piece) × (fault_of (old ++ take (k + 1) piece) ≡ Some f))
+Feeds old piece (Err f) new = ((k : ℕ) × ShowsFault old piece k f) × (new.fault ≡ Some f) × (new.taken ≢ [])

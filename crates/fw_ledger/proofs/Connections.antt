@@ -28,3 +28,15 @@ had_connection c Broadcast s lt has = grind (arith, nat_tests)
 pub fewer_connections : (c : ℕ) (kind : ConnectionKind) (s : Connections) → c < 63 → counter (drop_connection c kind s) ≤ counter s
 fewer_connections c PointToPoint s lt = grind (arith, nat_tests, counter_changed c (s.counts c - 1) s lt)
 fewer_connections c Broadcast s lt = omega arith
+
+-- no connection is of a device from 63 on
+abbrev pub NoneBeyond : Connections → Type 0
+NoneBeyond s = (d : ℕ) → 63 ≤ d → s.counts d ≡ 0
+
+pub none_beyond_added : (c : ℕ) (kind : ConnectionKind) (s : Connections) → c < 63 → NoneBeyond s → NoneBeyond (add_connection c kind s)
+none_beyond_added c PointToPoint s lt none = λ d le. grind (arith, nat_tests, none d le)
+none_beyond_added c Broadcast s lt none = none
+
+pub none_beyond_dropped : (c : ℕ) (kind : ConnectionKind) (s : Connections) → c < 63 → NoneBeyond s → NoneBeyond (drop_connection c kind s)
+none_beyond_dropped c PointToPoint s lt none = λ d le. grind (arith, nat_tests, none d le)
+none_beyond_dropped c Broadcast s lt none = none

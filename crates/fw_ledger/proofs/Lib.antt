@@ -1,7 +1,11 @@
+pub mod Network
 pub mod Connections
 pub mod Moves
 pub mod Events
 pub mod Shared
-pub mod Words
-pub mod Entries
 pub mod Reclaims
+pub mod Words
+pub mod Tests
+pub mod Decode
+pub mod Decoded
+pub mod Fold

@@ -1,15 +1,18 @@
 -- Each move keeps the account sound.
 use Rattle.fw_base.specs.declared.plug.PlugAt.{PlugAt}
 use Rattle.fw_base.specs.declared.plug.ConnectionKind.{ConnectionKind}
-use Rattle.std.proofs.Common.{◌≡◌, ℕ, ◌+◌, ◌<◌, ◌≤◌, Bool, true, false, Option, Some, None, refl, arith}
+use Rattle.std.proofs.Common.{◌≡◌, ℕ, ◌+◌, ◌<◌, ◌≤◌, Bool, true, false, Option, Some, None, refl, sym, ◌∙◌, arith}
 use Rattle.std.proofs.lemmas.Bool.Decides.{nat_tests}
 use Rattle.fw_base.specs.Tables.{update, update_plug}
 use Rattle.fw_ledger.specs.Account.{Pending, Connected, Allocation, Connections, Account, total, counter, has_connection, allocated}
 use Rattle.fw_plug.specs.Words.{Settings}
-use Rattle.fw_ledger.specs.Moves.{Move, AllocateChannel, AllocateUnits, ConnectFirst, ConnectOverlaid, DisconnectOutput, ReleaseUnits, ReleaseChannel, Can, after, CanAllocateChannel, CanAllocateUnits, CanConnectFirst, CanConnectOverlaid, CanDisconnect, CanReleaseUnits, CanReleaseChannel, HasNoPending, add_connection, drop_connection, made_pending, with_outputs}
+use Rattle.fw_ledger.specs.Moves.{Move, AllocateChannel, AllocateUnits, ConnectFirst, ConnectOverlaid, ConnectInput, DisconnectInput, DisconnectOutput, ReleaseUnits, ReleaseChannel, Can, after, CanAllocateChannel, CanAllocateUnits, CanConnectFirst, CanConnectOverlaid, CanConnectInput, CanDisconnectInput, CanDisconnectOutput, CanReleaseUnits, CanReleaseChannel, HasNoPending, add_connection, drop_connection, made_pending, with_outputs}
 use Rattle.fw_ledger.specs.Sound.{IsSound}
 use Rattle.fw_base.proofs.Tables.{sum_to_changed, update_plug_at}
-use Rattle.fw_ledger.proofs.Connections.{has_connection_added, room_after, had_connection, fewer_connections}
+use Rattle.std.proofs.lemmas.Bool.{false≢true}
+use Rattle.fw_ledger.specs.Network.{is_input}
+use Rattle.fw_ledger.proofs.Network.{not_both, no_inputs}
+use Rattle.fw_ledger.proofs.Connections.{has_connection_added, room_after, had_connection, fewer_connections, NoneBeyond, none_beyond_added, none_beyond_dropped}
 
 -- the units that are allocated, after a change at one channel
 pub total_changed : (allocations : ℕ → Option Allocation) (ch : ℕ) (x : Option Allocation) → ch < 64 → total (update allocations ch x) + allocated (allocations ch) ≡ total allocations + allocated x
@@ -24,12 +27,9 @@ allocate_channel c p ch l s h = record {
       omega (arith, s.load);
   bounded = λ d x e. grind (arith, nat_tests, s.bounded d x);
   allocated = λ q t. grind (arith, nat_tests, s.allocated q t);
-  made_connected = λ d q u e. grind (arith, nat_tests, s.made_connected d q u);
+  connected = λ d q u e. grind (arith, nat_tests, s.connected d q u);
   one_pending = λ d a b x y. grind (arith, nat_tests, s.one_pending d a b, h.no_pending a, h.no_pending b);
   for_addressed = λ d a q u e. grind (arith, nat_tests, s.for_addressed d a q u);
-  in_range = s.in_range;
-  settings_fit = s.settings_fit;
-  begins = s.begins;
   reclaimable_load = s.reclaimable_load;
   reclaimable_bounded = s.reclaimable_bounded;
   reclaimable_once = s.reclaimable_once;
@@ -38,6 +38,12 @@ allocate_channel c p ch l s h = record {
   continuing = s.continuing;
   reclaimed = λ t d x e. grind (arith, nat_tests, s.reclaimed t d x);
   counts = s.counts;
+  controllers = s.controllers;
+  range = s.range;
+  settings_fit = s.settings_fit;
+  channels_fit = s.channels_fit;
+  begins = λ e. absurd (not_both _ p ((s.begins e).addressed c) h.addressed);
+  inputs_there = s.inputs_there;
 }
 
 pub allocate_units : (c : ℕ) (p : PlugAt) (ch u : ℕ) (l : Account) → IsSound l → CanAllocateUnits c p ch u l → IsSound (after c p (AllocateUnits ch u) l)
@@ -48,12 +54,9 @@ allocate_units c p ch u l s h = record {
       omega (arith, s.load);
   bounded = λ d x e. grind (arith, nat_tests, s.bounded d x);
   allocated = λ q t. grind (arith, nat_tests, s.allocated q t);
-  made_connected = λ d q v e. grind (arith, nat_tests, s.made_connected d q v);
+  connected = λ d q v e. grind (arith, nat_tests, s.connected d q v);
   one_pending = λ d a b x y. grind (arith, nat_tests, s.one_pending d a b);
   for_addressed = λ d a q v e. grind (arith, nat_tests, s.for_addressed d a q v);
-  in_range = s.in_range;
-  settings_fit = s.settings_fit;
-  begins = s.begins;
   reclaimable_load = s.reclaimable_load;
   reclaimable_bounded = s.reclaimable_bounded;
   reclaimable_once = s.reclaimable_once;
@@ -62,6 +65,12 @@ allocate_units c p ch u l s h = record {
   continuing = s.continuing;
   reclaimed = λ t d x e. grind (arith, nat_tests, s.reclaimed t d x);
   counts = s.counts;
+  controllers = s.controllers;
+  range = s.range;
+  settings_fit = s.settings_fit;
+  channels_fit = s.channels_fit;
+  begins = λ e. absurd (not_both _ p ((s.begins e).addressed c) h.addressed);
+  inputs_there = s.inputs_there;
 }
 
 pub release_channel : (c : ℕ) (p : PlugAt) (ch : ℕ) (l : Account) → IsSound l → CanReleaseChannel c p ch l → IsSound (after c p (ReleaseChannel ch) l)
@@ -71,12 +80,9 @@ release_channel c p ch l s h = record {
       omega (arith, s.load);
   bounded = λ d x e. grind (arith, nat_tests, s.bounded d x);
   allocated = λ q t. grind (arith, nat_tests, s.allocated q t);
-  made_connected = λ d q v e. grind (arith, nat_tests, s.made_connected d q v);
+  connected = λ d q v e. grind (arith, nat_tests, s.connected d q v);
   one_pending = λ d a b x y. grind (arith, nat_tests, s.one_pending d a b);
   for_addressed = λ d a q v e. grind (arith, nat_tests, s.for_addressed d a q v);
-  in_range = s.in_range;
-  settings_fit = s.settings_fit;
-  begins = s.begins;
   reclaimable_load = s.reclaimable_load;
   reclaimable_bounded = s.reclaimable_bounded;
   reclaimable_once = s.reclaimable_once;
@@ -85,6 +91,12 @@ release_channel c p ch l s h = record {
   continuing = s.continuing;
   reclaimed = λ t d x e. grind (arith, nat_tests, s.reclaimed t d x);
   counts = s.counts;
+  controllers = s.controllers;
+  range = s.range;
+  settings_fit = s.settings_fit;
+  channels_fit = s.channels_fit;
+  begins = λ e. absurd (not_both _ _ ((s.begins e).allocations ch) h.held);
+  inputs_there = s.inputs_there;
 }
 
 pub release_units : (c : ℕ) (p : PlugAt) (ch u : ℕ) (l : Account) → IsSound l → CanReleaseUnits c p ch u l → IsSound (after c p (ReleaseUnits ch u) l)
@@ -94,12 +106,9 @@ release_units c p ch u l s h = record {
       omega (arith, s.load);
   bounded = λ d x e. grind (arith, nat_tests, s.bounded d x);
   allocated = λ q t. grind (arith, nat_tests, s.allocated q t);
-  made_connected = λ d q v e. grind (arith, nat_tests, s.made_connected d q v);
+  connected = λ d q v e. grind (arith, nat_tests, s.connected d q v);
   one_pending = λ d a b x y. grind (arith, nat_tests, s.one_pending d a b);
   for_addressed = λ d a q v e. grind (arith, nat_tests, s.for_addressed d a q v);
-  in_range = s.in_range;
-  settings_fit = s.settings_fit;
-  begins = s.begins;
   reclaimable_load = s.reclaimable_load;
   reclaimable_bounded = s.reclaimable_bounded;
   reclaimable_once = s.reclaimable_once;
@@ -108,20 +117,23 @@ release_units c p ch u l s h = record {
   continuing = s.continuing;
   reclaimed = λ t d x e. grind (arith, nat_tests, s.reclaimed t d x);
   counts = s.counts;
+  controllers = s.controllers;
+  range = s.range;
+  settings_fit = s.settings_fit;
+  channels_fit = s.channels_fit;
+  begins = λ e. absurd (not_both _ _ ((s.begins e).allocations ch) h.held);
+  inputs_there = s.inputs_there;
 }
 
 -- other connections at a plug that had some, and has some
-with_other_connections : (p : PlugAt) (new : Connections) (l : Account) → IsSound l → has_connection (l.outputs p) ≡ true → has_connection new ≡ true → counter new ≤ 63 → IsSound (with_outputs p new l)
-with_other_connections p new l s had has most = record {
+with_other_connections : (p : PlugAt) (new : Connections) (l : Account) → IsSound l → has_connection (l.outputs p) ≡ true → has_connection new ≡ true → counter new ≤ 63 → NoneBeyond new → IsSound (with_outputs p new l)
+with_other_connections p new l s had has most beyond = record {
   load = s.load;
   bounded = s.bounded;
   allocated = λ q t. grind (arith, update_plug_at l.outputs p new q, s.allocated q);
-  made_connected = λ d q v e. grind (arith, update_plug_at l.outputs p new q, s.made_connected d q v);
+  connected = λ d q v e. grind (arith, update_plug_at l.outputs p new q, s.connected d q v);
   one_pending = s.one_pending;
   for_addressed = s.for_addressed;
-  in_range = s.in_range;
-  settings_fit = s.settings_fit;
-  begins = s.begins;
   reclaimable_load = s.reclaimable_load;
   reclaimable_bounded = s.reclaimable_bounded;
   reclaimable_once = s.reclaimable_once;
@@ -130,10 +142,16 @@ with_other_connections p new l s had has most = record {
   continuing = λ q t. grind (arith, update_plug_at l.outputs p new q, s.continuing q);
   reclaimed = s.reclaimed;
   counts = λ q. grind (arith, update_plug_at l.outputs p new q, s.counts q);
+  controllers = λ q d le. grind (arith, update_plug_at l.outputs p new q, s.controllers q d le, beyond d le);
+  range = s.range;
+  settings_fit = s.settings_fit;
+  channels_fit = s.channels_fit;
+  begins = λ e. absurd (false≢true (sym ((s.begins e).outputs p) ∙ had));
+  inputs_there = s.inputs_there;
 }
 
 pub connect_overlaid : (c : ℕ) (p : PlugAt) (kind : ConnectionKind) (l : Account) → c < 63 → IsSound l → CanConnectOverlaid c p kind l → IsSound (after c p (ConnectOverlaid kind) l)
-connect_overlaid c p kind l lt s h = with_other_connections p (add_connection c kind (l.outputs p)) l s h.connected (has_connection_added c kind (l.outputs p) lt) (room_after c kind (l.outputs p) lt (s.counts p).0 h.room)
+connect_overlaid c p kind l lt s h = with_other_connections p (add_connection c kind (l.outputs p)) l s h.connected (has_connection_added c kind (l.outputs p) lt) (room_after c kind (l.outputs p) lt (s.counts p).0 h.room) (none_beyond_added c kind (l.outputs p) lt (λ d le. (s.controllers p d le).0))
 
 pub connect_first : (c : ℕ) (p : PlugAt) (kind : ConnectionKind) (ch overhead : ℕ) (l : Account) → c < 63 → IsSound l → CanConnectFirst c p kind ch overhead l → IsSound (after c p (ConnectFirst kind ch overhead) l)
 connect_first c p kind ch overhead l lt s h =
@@ -149,12 +167,9 @@ connect_first c p kind ch overhead l lt s h =
           omega (arith, s.load);
       bounded = λ d x e. grind (arith, nat_tests, s.bounded d x);
       allocated = λ q t. grind (arith, nat_tests, at q, keeps q, s.allocated q);
-      made_connected = λ d q v e. grind (arith, nat_tests, at q, keeps q, s.made_connected d q v);
+      connected = λ d q v e. grind (arith, nat_tests, at q, keeps q, s.connected d q v);
       one_pending = λ d a b x y. grind (arith, nat_tests, s.one_pending d a b);
       for_addressed = λ d a q v e. grind (arith, nat_tests, s.for_addressed d a q v);
-      in_range = s.in_range;
-      settings_fit = λ q t. grind (arith, keeps q, s.settings_fit q t, s.settings_fit p h.is_plug);
-      begins = s.begins;
       reclaimable_load = s.reclaimable_load;
       reclaimable_bounded = s.reclaimable_bounded;
       reclaimable_once = s.reclaimable_once;
@@ -163,11 +178,17 @@ connect_first c p kind ch overhead l lt s h =
       continuing = λ q t. grind (arith, at q, keeps q, still q, s.continuing q);
       reclaimed = λ t d x e. grind (arith, nat_tests, s.reclaimed t d x);
       counts = λ q. grind (arith, at q, s.counts q, s.counts p, room_after c kind (l.outputs p) lt (s.counts p).0);
+      controllers = λ q d le. grind (arith, at q, s.controllers q d le, none_beyond_added c kind (l.outputs p) lt (λ k kl. (s.controllers p k kl).0) d le);
+      range = s.range;
+      settings_fit = λ q t. grind (arith, keeps q, s.settings_fit q t, s.settings_fit p h.is_plug);
+      channels_fit = s.channels_fit;
+      begins = λ e. absurd (not_both _ _ ((s.begins e).allocations ch) h.held);
+      inputs_there = s.inputs_there;
     }
 
 -- the last connection of a plug is left
-disconnect_last : (c : ℕ) (p : PlugAt) (new : Connections) (l : Account) → IsSound l → has_connection (l.outputs p) ≡ true → has_connection new ≡ false → counter new ≤ 63 → HasNoPending c l.allocations → l.addressed c ≡ Some p → IsSound (record l { allocations = made_pending c p (l.settings p).channel l; outputs = update_plug l.outputs p new })
-disconnect_last c p new l s had gone most none addressed =
+disconnect_last : (c : ℕ) (p : PlugAt) (new : Connections) (l : Account) → IsSound l → has_connection (l.outputs p) ≡ true → has_connection new ≡ false → counter new ≤ 63 → NoneBeyond new → HasNoPending c l.allocations → l.addressed c ≡ Some p → IsSound (record l { allocations = made_pending c p (l.settings p).channel l; outputs = update_plug l.outputs p new })
+disconnect_last c p new l s had gone most beyond none addressed =
     let at = λ (q : PlugAt). update_plug_at l.outputs p new q in
     let own = s.allocated p had in
     record {
@@ -176,12 +197,9 @@ disconnect_last c p new l s had gone most none addressed =
           omega (arith, s.load);
       bounded = λ d x e. grind (arith, nat_tests, s.bounded d x);
       allocated = λ q t. grind (arith, nat_tests, at q, s.allocated q);
-      made_connected = λ d q v e. grind (arith, nat_tests, at q, s.made_connected d q v);
+      connected = λ d q v e. grind (arith, nat_tests, at q, s.connected d q v);
       one_pending = λ d a b x y. grind (arith, nat_tests, s.one_pending d a b, none a, none b);
       for_addressed = λ d a q v e. grind (arith, nat_tests, s.for_addressed d a q v);
-      in_range = s.in_range;
-      settings_fit = s.settings_fit;
-      begins = s.begins;
       reclaimable_load = s.reclaimable_load;
       reclaimable_bounded = s.reclaimable_bounded;
       reclaimable_once = s.reclaimable_once;
@@ -190,9 +208,15 @@ disconnect_last c p new l s had gone most none addressed =
       continuing = λ q t. grind (arith, at q, s.continuing q);
       reclaimed = λ t d x e. grind (arith, nat_tests, s.reclaimed t d x);
       counts = λ q. grind (arith, at q, s.counts q);
+      controllers = λ q d le. grind (arith, at q, s.controllers q d le, beyond d le);
+      range = s.range;
+      settings_fit = s.settings_fit;
+      channels_fit = s.channels_fit;
+      begins = λ e. absurd (false≢true (sym ((s.begins e).outputs p) ∙ had));
+      inputs_there = s.inputs_there;
     }
 
-pub disconnect_output : (c : ℕ) (p : PlugAt) (kind : ConnectionKind) (l : Account) → c < 63 → IsSound l → CanDisconnect c p kind l → IsSound (after c p (DisconnectOutput kind) l)
+pub disconnect_output : (c : ℕ) (p : PlugAt) (kind : ConnectionKind) (l : Account) → c < 63 → IsSound l → CanDisconnectOutput c p kind l → IsSound (after c p (DisconnectOutput kind) l)
 disconnect_output c p kind l lt s h = go (has_connection (drop_connection c kind (l.outputs p))) refl
   where
     had : has_connection (l.outputs p) ≡ true
@@ -201,9 +225,49 @@ disconnect_output c p kind l lt s h = go (has_connection (drop_connection c kind
     most : counter (drop_connection c kind (l.outputs p)) ≤ 63
     most = omega (arith, fewer_connections c kind (l.outputs p) lt, (s.counts p).0)
 
+    beyond : NoneBeyond (drop_connection c kind (l.outputs p))
+    beyond = none_beyond_dropped c kind (l.outputs p) lt (λ d le. (s.controllers p d le).0)
+
     go : (b : Bool) → has_connection (drop_connection c kind (l.outputs p)) ≡ b → IsSound (after c p (DisconnectOutput kind) l)
-    go true e = rw e (with_other_connections p (drop_connection c kind (l.outputs p)) l s had e most)
-    go false e = rw e (disconnect_last c p (drop_connection c kind (l.outputs p)) l s had e most (h.last e).0 (h.last e).1)
+    go true e = rw e (with_other_connections p (drop_connection c kind (l.outputs p)) l s had e most beyond)
+    go false e = rw e (disconnect_last c p (drop_connection c kind (l.outputs p)) l s had e most beyond (h.last e).0 (h.last e).1)
+
+-- ---- inputs
+
+-- other connections and another channel at an input plug
+with_input : (p : PlugAt) (new : Connections) (channels : PlugAt → ℕ) (l : Account) → IsSound l → is_input l.latest p ≡ true → counter new ≤ 63 → NoneBeyond new → ((q : PlugAt) → is_input l.latest q ≡ true → channels q < 64) → IsSound (record l { inputs = update_plug l.inputs p new; input_channel = channels })
+with_input p new channels l s is most beyond fit =
+    let at = λ (q : PlugAt). update_plug_at l.inputs p new q in
+    record {
+      load = s.load;
+      bounded = s.bounded;
+      allocated = s.allocated;
+      connected = s.connected;
+      one_pending = s.one_pending;
+      for_addressed = s.for_addressed;
+      reclaimable_once = s.reclaimable_once;
+      reclaimable_load = s.reclaimable_load;
+      reclaimable_bounded = s.reclaimable_bounded;
+      reclaimable_ends = s.reclaimable_ends;
+      begins = λ e. absurd (no_inputs l.latest p e is);
+      there = s.there;
+      inputs_there = λ q t. grind (arith, at q, s.inputs_there q);
+      continuing = s.continuing;
+      reclaimed = s.reclaimed;
+      counts = λ q. grind (arith, at q, s.counts q);
+      controllers = λ q d le. grind (arith, at q, s.controllers q d le, beyond d le);
+      range = s.range;
+      settings_fit = s.settings_fit;
+      channels_fit = fit;
+    }
+
+connect_input : (c : ℕ) (p : PlugAt) (kind : ConnectionKind) (ch : ℕ) (l : Account) → c < 63 → IsSound l → CanConnectInput c p kind ch l → IsSound (after c p (ConnectInput kind ch) l)
+connect_input c p kind ch l lt s h =
+    with_input p (add_connection c kind (l.inputs p)) (update_plug l.input_channel p ch) l s h.is_plug (room_after c kind (l.inputs p) lt (s.counts p).1 h.room) (none_beyond_added c kind (l.inputs p) lt (λ d le. (s.controllers p d le).1)) (λ q t. grind (arith, update_plug_at l.input_channel p ch q, s.channels_fit q t, h.within))
+
+disconnect_input : (c : ℕ) (p : PlugAt) (kind : ConnectionKind) (l : Account) → c < 63 → IsSound l → CanDisconnectInput c p kind l → IsSound (after c p (DisconnectInput kind) l)
+disconnect_input c p kind l lt s h =
+    with_input p (drop_connection c kind (l.inputs p)) l.input_channel l s (s.inputs_there p (had_connection c kind (l.inputs p) lt h.has)) (omega (arith, fewer_connections c kind (l.inputs p) lt, (s.counts p).1)) (none_beyond_dropped c kind (l.inputs p) lt (λ d le. (s.controllers p d le).1)) s.channels_fit
 
 -- each move keeps the account sound
 pub moves_keep : (c : ℕ) (p : PlugAt) (m : Move) (l : Account) → c < 63 → IsSound l → Can c p m l → IsSound (after c p m l)
@@ -211,6 +275,8 @@ moves_keep c p (AllocateChannel ch) l lt s h = allocate_channel c p ch l s h
 moves_keep c p (AllocateUnits ch u) l lt s h = allocate_units c p ch u l s h
 moves_keep c p (ConnectFirst kind ch overhead) l lt s h = connect_first c p kind ch overhead l lt s h
 moves_keep c p (ConnectOverlaid kind) l lt s h = connect_overlaid c p kind l lt s h
+moves_keep c p (ConnectInput kind ch) l lt s h = connect_input c p kind ch l lt s h
+moves_keep c p (DisconnectInput kind) l lt s h = disconnect_input c p kind l lt s h
 moves_keep c p (DisconnectOutput kind) l lt s h = disconnect_output c p kind l lt s h
 moves_keep c p (ReleaseUnits ch u) l lt s h = release_units c p ch u l s h
 moves_keep c p (ReleaseChannel ch) l lt s h = release_channel c p ch l s h

@@ -1,15 +1,13 @@
 -- The fields of a register are those that it was made of.
-use Rattle.std.proofs.Common.{◌≡◌, ◌≢◌, ℕ, zero, suc, ◌+◌, ◌-◌, ◌*◌, ◌%◌, ◌^◌, ◌<◌, ◌≤◌, Bool, true, false, eqb, refl, ap, arith, pow-suc, ◌⊎◌, inl, inr, ◌∙◌}
-use Rattle.std.proofs.lemmas.Bool.Decides.{nat_tests}
+use Rattle.std.proofs.Common.{◌≡◌, ◌≢◌, ℕ, zero, suc, ◌+◌, ◌-◌, ◌*◌, ◌%◌, ◌^◌, ◌<◌, ◌≤◌, Bool, true, false, refl, ap, arith, pow-suc, ◌⊎◌, inl, inr, ◌∙◌}
 use Rattle.std.proofs.lemmas.Bool.{cases_lt}
 use Rattle.std.specs.Int.{bit_at}
 use Rattle.std.proofs.lemmas.Nat.Bits.{bit_at_cat_low, bit_at_cat_high}
 use Rattle.fw_base.specs.Tables.{sum_to}
 use Rattle.fw_base.proofs.Tables.{sum_to_changed_below}
 use Rattle.fw_words.specs.Quadlet.{field}
-use Rattle.fw_plug.specs.Words.{OutFields, flag, out_word, out_fields}
+use Rattle.fw_plug.specs.Words.{flag}
 use Rattle.fw_ledger.specs.Words.{bits_word}
-use Rattle.fw_plug.specs.Words.{FitsRegister}
 
 -- ---- channel words
 

@@ -1,6 +1,9 @@
 pub mod Account
+pub mod Network
 pub mod Moves
 pub mod Events
-pub mod Sound
 pub mod Words
-pub mod Entries
+pub mod Decode
+pub mod Packets
+pub mod Fold
+pub mod Sound

@@ -1,10 +1,11 @@
--- What a compare_swap may do to the account: what each row asks, and its effect.
+-- The moves: what a controller's compare_swap may do to the account. For each move, what it asks, and its effect.
 use Rattle.fw_base.specs.declared.plug.PlugAt.{PlugAt}
 use Rattle.fw_base.specs.declared.plug.ConnectionKind.{ConnectionKind}
 use Rattle.fw_base.specs.declared.plug.ConnectionKind.TheVariants.{PointToPoint, Broadcast}
 use Rattle.std.specs.Prelude.{◌≡◌, ◌<◌, ◌≤◌, ℕ, ◌+◌, ◌-◌, false, if◌then◌else◌, Option, Some, None, IsTrue, IsFalse}
 use Rattle.fw_base.specs.Tables.{update, update_plug}
 use Rattle.fw_ledger.specs.Account.{Pending, Connected, Allocation, Of, Connections, Account, remainder, counter, has_connection, is_pending, allocated}
+use Rattle.fw_ledger.specs.Network.{is_output, is_input}
 use Rattle.fw_plug.specs.Words.{units_of}
 
 -- ---- connections
@@ -33,29 +34,32 @@ HasConnection c Broadcast s = s.broadcast ≡ Some (Of c)
 abbrev pub HasNoPending : ℕ → (ℕ → Option Allocation) → Type 0
 HasNoPending c allocations = (ch : ℕ) → is_pending c (allocations ch) ≡ false
 
--- the plug's Connected allocation becomes c's, or the other way round
+-- the plug's allocation becomes a Pending one of controller c, or the other way round
 abbrev pub made_pending : ℕ → PlugAt → ℕ → Account → ℕ → Option Allocation
 made_pending c p ch l = update l.allocations ch (Some (record { holder = Pending c p; units = allocated (l.allocations ch) }))
 
 abbrev pub made_connected : PlugAt → ℕ → Account → ℕ → Option Allocation
 made_connected p ch l = update l.allocations ch (Some (record { holder = Connected p; units = allocated (l.allocations ch) }))
 
--- while a second runs, the flow is one that talked before
+-- while a reclaim second runs, the flow is one that talked before the reset
 abbrev pub MayAllocate : PlugAt → ℕ → ℕ → Account → Type 0
 MayAllocate p ch u l = IsTrue l.reclaiming → l.reclaimable ch ≡ Some (record { plug = p; units = u })
 
--- ---- the rows
+-- ---- the moves, and what each asks of controller c and plug p
 
+-- p is the output plug that c last addressed, or for the moves at plug registers the plug of the register
 pub data Move : Type 0 where
   AllocateChannel : (ch : ℕ) → Move
   AllocateUnits : (ch : ℕ) → (u : ℕ) → Move
   ConnectFirst : (kind : ConnectionKind) → (ch : ℕ) → (overhead : ℕ) → Move
   ConnectOverlaid : (kind : ConnectionKind) → Move
+  ConnectInput : (kind : ConnectionKind) → (ch : ℕ) → Move
+  DisconnectInput : (kind : ConnectionKind) → Move
   DisconnectOutput : (kind : ConnectionKind) → Move
   ReleaseUnits : (ch : ℕ) → (u : ℕ) → Move
   ReleaseChannel : (ch : ℕ) → Move
 
--- what a row asks, of controller c and the plug p that it last addressed
+-- the channel is free, and c has no allocation that waits for its connection
 pub record CanAllocateChannel (c : ℕ) (p : PlugAt) (ch : ℕ) (l : Account) : Type 0 where
   pub addressed : l.addressed c ≡ Some p
   pub within : ch < 64
@@ -63,6 +67,7 @@ pub record CanAllocateChannel (c : ℕ) (p : PlugAt) (ch : ℕ) (l : Account) : 
   pub no_pending : HasNoPending c l.allocations
   pub reclaims : IsTrue l.reclaiming → (u : ℕ) × (l.reclaimable ch ≡ Some (record { plug = p; units = u }))
 
+-- c holds the channel, with no units yet
 pub record CanAllocateUnits (c : ℕ) (p : PlugAt) (ch : ℕ) (u : ℕ) (l : Account) : Type 0 where
   pub addressed : l.addressed c ≡ Some p
   pub within : ch < 64
@@ -71,37 +76,54 @@ pub record CanAllocateUnits (c : ℕ) (p : PlugAt) (ch : ℕ) (u : ℕ) (l : Acc
   pub channel : l.allocations ch ≡ Some (record { holder = Pending c p; units = 0 })
   pub reclaims : MayAllocate p ch u l
 
--- the first connection of the plug, by the allocations that c holds
+-- the first connection of the output plug, with the channel and units that c holds for it
 pub record CanConnectFirst (c : ℕ) (p : PlugAt) (kind : ConnectionKind) (ch : ℕ) (overhead : ℕ) (l : Account) : Type 0 where
-  pub is_plug : IsTrue (l.has_plug p)
+  pub is_plug : IsTrue (is_output l.latest p)
   pub empty : IsFalse (has_connection (l.outputs p))
   pub within : ch < 64
   pub small : overhead < 16
   pub held : l.allocations ch ≡ Some (record { holder = Pending c p; units = units_of (record { channel = ch; rate = (l.settings p).rate; overhead = overhead }) })
 
+-- one connection more of a connected output plug; its channel, data rate and overhead_ID stay
 pub record CanConnectOverlaid (c : ℕ) (p : PlugAt) (kind : ConnectionKind) (l : Account) : Type 0 where
   pub connected : IsTrue (has_connection (l.outputs p))
   pub room : HasRoom kind (l.outputs p)
 
-pub record CanDisconnect (c : ℕ) (p : PlugAt) (kind : ConnectionKind) (l : Account) : Type 0 where
+-- one connection more of an input plug; a connected one keeps its channel
+pub record CanConnectInput (c : ℕ) (p : PlugAt) (kind : ConnectionKind) (ch : ℕ) (l : Account) : Type 0 where
+  pub is_plug : IsTrue (is_input l.latest p)
+  pub within : ch < 64
+  pub room : HasRoom kind (l.inputs p)
+  pub stays : IsTrue (has_connection (l.inputs p)) → ch ≡ l.input_channel p
+
+pub record CanDisconnectInput (c : ℕ) (p : PlugAt) (kind : ConnectionKind) (l : Account) : Type 0 where
+  pub has : HasConnection c kind (l.inputs p)
+
+-- Where it is the plug's last connection, c gets the plug's channel and units back, to release them.
+pub record CanDisconnectOutput (c : ℕ) (p : PlugAt) (kind : ConnectionKind) (l : Account) : Type 0 where
   pub has : HasConnection c kind (l.outputs p)
   pub last : IsFalse (has_connection (drop_connection c kind (l.outputs p))) → HasNoPending c l.allocations × (l.addressed c ≡ Some p)
 
 pub record CanReleaseUnits (c : ℕ) (p : PlugAt) (ch : ℕ) (u : ℕ) (l : Account) : Type 0 where
+  pub addressed : l.addressed c ≡ Some p
   pub within : ch < 64
   pub some : 0 < u
   pub held : l.allocations ch ≡ Some (record { holder = Pending c p; units = u })
 
+-- c holds the channel, with no units
 pub record CanReleaseChannel (c : ℕ) (p : PlugAt) (ch : ℕ) (l : Account) : Type 0 where
   pub within : ch < 64
   pub held : l.allocations ch ≡ Some (record { holder = Pending c p; units = 0 })
 
+-- controller c may make the move at plug p
 abbrev pub Can : ℕ → PlugAt → Move → Account → Type 0
 Can c p (AllocateChannel ch) l = CanAllocateChannel c p ch l
 Can c p (AllocateUnits ch u) l = CanAllocateUnits c p ch u l
 Can c p (ConnectFirst kind ch overhead) l = CanConnectFirst c p kind ch overhead l
 Can c p (ConnectOverlaid kind) l = CanConnectOverlaid c p kind l
-Can c p (DisconnectOutput kind) l = CanDisconnect c p kind l
+Can c p (ConnectInput kind ch) l = CanConnectInput c p kind ch l
+Can c p (DisconnectInput kind) l = CanDisconnectInput c p kind l
+Can c p (DisconnectOutput kind) l = CanDisconnectOutput c p kind l
 Can c p (ReleaseUnits ch u) l = CanReleaseUnits c p ch u l
 Can c p (ReleaseChannel ch) l = CanReleaseChannel c p ch l
 
@@ -111,7 +133,7 @@ with_allocation ch x l = record l { allocations = update l.allocations ch x }
 abbrev pub with_outputs : PlugAt → Connections → Account → Account
 with_outputs p s l = record l { outputs = update_plug l.outputs p s }
 
--- its effect
+-- the account after the move
 abbrev pub after : ℕ → PlugAt → Move → Account → Account
 after c p (AllocateChannel ch) l = with_allocation ch (Some (record { holder = Pending c p; units = 0 })) l
 after c p (AllocateUnits ch u) l = with_allocation ch (Some (record { holder = Pending c p; units = u })) l
@@ -122,6 +144,11 @@ after c p (ConnectFirst kind ch overhead) l = record l {
   continues = update_plug l.continues p false;
 }
 after c p (ConnectOverlaid kind) l = with_outputs p (add_connection c kind (l.outputs p)) l
+after c p (ConnectInput kind ch) l = record l {
+  inputs = update_plug l.inputs p (add_connection c kind (l.inputs p));
+  input_channel = update_plug l.input_channel p ch;
+}
+after c p (DisconnectInput kind) l = record l { inputs = update_plug l.inputs p (drop_connection c kind (l.inputs p)) }
 after c p (DisconnectOutput kind) l = record l {
   allocations = (if has_connection (drop_connection c kind (l.outputs p)) then l.allocations else made_pending c p (l.settings p).channel l);
   outputs = update_plug l.outputs p (drop_connection c kind (l.outputs p));

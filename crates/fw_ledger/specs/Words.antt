@@ -1,17 +1,103 @@
--- The registers of an account.
+-- The registers of an account, and where they stand.
 use Rattle.fw_base.specs.declared.plug.PlugAt.{PlugAt}
-use Rattle.std.specs.Prelude.{ℕ, ◌+◌, ◌-◌, ◌*◌, ◌/◌, ◌%◌, ◌^◌, ◌==◌, Bool, if◌then◌else◌}
-use Rattle.fw_base.specs.Tables.{sum_to}
-use Rattle.fw_ledger.specs.Account.{Account, is_free, is_there, counter}
-use Rattle.fw_plug.specs.Words.{OutFields, flag}
+use Rattle.fw_log.specs.declared.entry.ResetEntry.{ResetEntry}
+use Rattle.fw_log.specs.declared.nodes.NodeRow.{NodeRow}
+use Rattle.std.specs.Prelude.{ℕ, ◌+◌, ◌-◌, ◌*◌, ◌/◌, ◌%◌, ◌^◌, ◌==◌, nat_le, nat_lt, Bool, false, ◌&&◌, if◌then◌else◌, Option, Some, None, slice_get, option_map}
+use Rattle.std.specs.Option.{option_or}
+use Rattle.fw_base.specs.Tables.{sum_to, at_plug}
+use Rattle.fw_ledger.specs.Account.{Account, is_free, is_there, counter, remainder}
+use Rattle.fw_ledger.specs.Network.{first_id, row_of_id}
+use Rattle.fw_plug.specs.Words.{OutFields, out_word, InFields, in_word, flag}
 
--- the register of an output plug
+-- the resource manager's registers, where base is the first channel of CHANNELS_AVAILABLE_HI, 0, or LO, 32; and the
+-- plug control registers
+pub data Register : Type 0 where
+  BandwidthAvailable : Register
+  ChannelsAvailable : (base : ℕ) → Register
+  OutputPlug : (plug : PlugAt) → Register
+  InputPlug : (plug : PlugAt) → Register
+
+-- ---- what a register holds
+
 abbrev pub fields_at : Account → PlugAt → OutFields
 fields_at l p = record { broadcast = is_there (l.outputs p).broadcast; counter = counter (l.outputs p); settings = l.settings p }
 
--- CHANNELS_AVAILABLE: bit i, of the half that begins with this channel, is 1 exactly where the channel is free. (Summed from the lowest bit.)
+abbrev pub input_fields_at : Account → PlugAt → InFields
+input_fields_at l p = record { broadcast = is_there (l.inputs p).broadcast; counter = counter (l.inputs p); channel = l.input_channel p }
+
+-- the word whose bit i is 1 exactly where free i (summed from the lowest bit on)
 abbrev pub bits_word : (ℕ → Bool) → ℕ
 bits_word free = sum_to 32 (λ i. flag (free (31 - i)) * 2 ^ i)
 
+-- CHANNELS_AVAILABLE: bit i, of the half that begins with this channel, is 1 exactly where channel base + i is free
+-- (IEEE 1394-1995, CHANNELS_AVAILABLE)
 abbrev pub channel_word : Account → ℕ → ℕ
 channel_word l base = bits_word (λ i. is_free (l.allocations (base + i)))
+
+abbrev pub word_of : Account → Register → ℕ
+word_of l BandwidthAvailable = remainder l
+word_of l (ChannelsAvailable base) = channel_word l base
+word_of l (OutputPlug p) = out_word (fields_at l p)
+word_of l (InputPlug p) = in_word (input_fields_at l p)
+
+-- ---- where it stands
+
+-- the number of the plug whose register stands at an offset, where the first of the 31 stands at another
+abbrev pub plug_number : ℕ → ℕ → Option ℕ
+plug_number first offset = if nat_le first offset && nat_lt offset (first + 124) && ((offset - first) % 4 == 0) then Some ((offset - first) / 4) else None
+
+abbrev pub first_output : ℕ
+first_output = 0x904
+
+abbrev pub first_input : ℕ
+first_input = 0x984
+
+abbrev pub manager_register : ℕ → Option Register
+manager_register offset =
+    if offset == 0x220 then Some BandwidthAvailable
+    else if offset == 0x224 then Some (ChannelsAvailable 0)
+    else if offset == 0x228 then Some (ChannelsAvailable 32)
+    else None
+
+abbrev pub output_register : NodeRow → Option ℕ → Option Register
+output_register row None = None
+output_register row (Some k) = if nat_lt k row.outs then Some (OutputPlug (at_plug row.device k)) else None
+
+abbrev pub input_register : NodeRow → Option ℕ → Option Register
+input_register row None = None
+input_register row (Some k) = if nat_lt k row.ins then Some (InputPlug (at_plug row.device k)) else None
+
+abbrev pub plug_register : Option NodeRow → ℕ → Option Register
+plug_register None offset = None
+plug_register (Some row) offset = option_or (output_register row (plug_number first_output offset)) (input_register row (plug_number first_input offset))
+
+abbrev pub is_node : ℕ → Option ℕ → Bool
+is_node n None = false
+is_node n (Some m) = m == n
+
+-- the register of the account that stands at an offset of node n
+abbrev pub register_at : Option ResetEntry → ℕ → ℕ → Option Register
+register_at None n offset = None
+register_at (Some r) n offset = option_or (if is_node n r.manager then manager_register offset else None) (plug_register (slice_get r.nodes n) offset)
+
+-- its word
+abbrev pub word_at : Account → ℕ → ℕ → Option ℕ
+word_at l n offset = option_map (word_of l) (register_at l.latest n offset)
+
+-- ---- by node ID and address
+
+-- offsets count from FFFF F000 0000 (IEEE 1394-1995, initial register space)
+abbrev pub first_address : ℕ
+first_address = 0xffff_f000_0000
+
+abbrev pub register_of : Option ResetEntry → ℕ → ℕ → Option Register
+register_of latest id address =
+    if nat_le first_id id && nat_le first_address address then register_at latest (id - first_id) (address - first_address) else None
+
+abbrev pub output_of : Option NodeRow → ℕ → Option PlugAt
+output_of None offset = None
+output_of (Some row) offset = option_map (at_plug row.device) (plug_number first_output offset)
+
+-- the output plug whose offset is addressed, at a node of the reset entry, also where the node has no such plug
+abbrev pub output_addressed : Option ResetEntry → ℕ → ℕ → Option PlugAt
+output_addressed latest id address = if nat_le first_address address then output_of (row_of_id latest id) (address - first_address) else None

@@ -6,11 +6,11 @@ use Rattle.fw_async.specs.Reader.{State, Spells}
 use Rattle.fw_async.specs.declared.packet.Packet.{Packet}
 use Rattle.fw_async.specs.declared.PacketFault.{PacketFault}
 use Rattle.fw_async.specs.declared.Fed.{Fed}
-use Rattle.fw_log.specs.Reading.{IsBody, BodyRefused}
+use Rattle.fw_log.specs.Bodies.{IsBody, PacketRefuses, Refuses, BodyRefused}
 use Rattle.fw_log.specs.declared.entry.Entry.{Entry}
 use Rattle.fw_log.specs.declared.entry.Entry.TheVariants.{Reset, Async as AsyncEntry, Event, Outcome, Shown, End}
 use Rattle.fw_log.specs.declared.BodyFault.{BodyFault}
-use Rattle.fw_log.specs.declared.BodyFault.TheVariants.{Fields}
+use Rattle.fw_log.specs.declared.BodyFault.TheVariants.{Phy, Packet as PacketFails, Fields}
 
 pub packet_in : {A : Type 0} (bytes : List ℕ) (e : Entry) → IsBody 2 bytes e → ((p : Packet) → Spells p bytes → A) → A
 packet_in bytes (Reset r) b f = cc b.kind
@@ -30,6 +30,11 @@ GivesFault s bytes r = IfNone s.fault ((k : ℕ) → (f : PacketFault) → k < l
 differ : (fed : Fed) (k : ℕ) (p : Packet) (r : Result Fed PacketFault) → r ≡ Ok fed → r ≡ Ok (record { used = k; packet = Some p }) → (fed.used ≡ k) × (fed.packet ≡ Some p)
 differ fed k p r e g = let h : fed ≡ record { used = k; packet = Some p } = cc in (ap (λ f. f.used) h, ap (λ f. f.packet) h)
 
+refuses_none : (bytes : List ℕ) → ((f : PacketFault) → PacketRefuses bytes f → ⊥) → (g : BodyFault) → Refuses 2 bytes g → ⊥
+refuses_none bytes n (Phy f) h = cc h.0
+refuses_none bytes n (PacketFails f) h = n f h.1
+refuses_none bytes n Fields h = h
+
 -- no packet and no fault: the body is of no packet
 pub none_given : (bytes : List ℕ) (s : State) (r : Result Fed PacketFault) (fed : Fed) → s ≡ record { taken = []; fault = None } → GivesPacket s bytes r → GivesFault s bytes r → r ≡ Ok fed
     → ((p : Packet) → fed.used ≡ length bytes → fed.packet ≡ Some p → ⊥) → BodyRefused 2 bytes Fields
@@ -43,8 +48,8 @@ none_given bytes s r fed e give shows is never =
           let all : Spells p (take (length bytes) bytes) = let P : List ℕ → Type 0 = Spells p in subst P (sym (take_all (length bytes) bytes (omega arith))) spelled in
           let d = differ fed (length bytes) p r is (packet (length bytes) p (omega arith) all) in
           never p d.0 d.1)),
-      (λ f k h. cc (is, fault h.at f h.within h.before h.here)),
+      refuses_none bytes (λ f h. cc (is, fault h.at f h.within h.before h.here)),
     )
 
-pub as_kind : (kind : ℕ) (bytes : List ℕ) (f : BodyFault) → kind ≡ 2 → BodyRefused 2 bytes f → BodyRefused kind bytes f
-as_kind kind bytes f e h = let P : ℕ → Type 0 = λ k. BodyRefused k bytes f in subst P (sym e) h
+pub as_kind : (kind k : ℕ) (bytes : List ℕ) (f : BodyFault) → kind ≡ k → BodyRefused k bytes f → BodyRefused kind bytes f
+as_kind kind k bytes f e h = let P : ℕ → Type 0 = λ k. BodyRefused k bytes f in subst P (sym e) h

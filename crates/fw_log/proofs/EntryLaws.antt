@@ -10,7 +10,8 @@ use Rattle.fw_async.specs.Async.{AreBytes}
 use Rattle.fw_async.proofs.ReadingLaws.{are_bytes_part}
 use Rattle.fw_async.proofs.WholeLaws.{peel}
 use Rattle.fw_log.specs.Log.{header_bytes, entry_head, entry_bytes, body}
-use Rattle.fw_log.specs.Reading.{tested, header_fault, entry_fault, head_fault, fault_at, Stand, skip, header_at, need, entry_need, length_of, cycle_of, is_built, is_kind, is_length, HeadFits, WholeHead, Spells, IsBody, WrongBody, BodyRefused}
+use Rattle.fw_log.specs.Reading.{tested, header_fault, entry_fault, head_fault, fault_at, Stand, skip, header_at, need, entry_need, length_of, cycle_of, is_built, is_kind, is_length, HeadFits, WholeHead, Spells, WrongBody}
+use Rattle.fw_log.specs.Bodies.{IsBody, BodyRefused}
 use Rattle.fw_log.specs.declared.LogFault.{LogFault}
 use Rattle.fw_log.specs.declared.LogWhy.TheVariants.{AfterEnd, BadHeader, BadKind, BadLength, TimeBack, BadBody, NotBuilt}
 use Rattle.fw_log.specs.declared.entry.Timed.{Timed}

@@ -119,6 +119,10 @@ are_ids k (Some next) (LinkOn a ∷ ps) n = false
 abbrev pub devices : List NodeRow → List ℕ
 devices rows = map (λ r. r.device) rows
 
+-- no two nodes are one device
+abbrev pub AreApart : List NodeRow → Type 0
+AreApart rows = (i j : ℕ) → i < j → j < length rows → slice_index (devices rows) i ≡ slice_index (devices rows) j → ⊥
+
 pub record ResetFits (r : ResetEntry) : Type 0 where
   pub epoch : r.epoch < 2 ^ 32
   pub some : 1 ≤ length r.nodes
@@ -127,7 +131,7 @@ pub record ResetFits (r : ResetEntry) : Type 0 where
   pub manager : IfSome r.manager (λ m. m < length r.nodes)
   pub initiator : r.initiator < length r.nodes
   pub rows : All RowFits r.nodes
-  pub apart : (i j : ℕ) → i < j → j < length r.nodes → slice_index (devices r.nodes) i ≡ slice_index (devices r.nodes) j → ⊥
+  pub apart : AreApart r.nodes
   pub packets : All Phy.Fits r.ids
   pub few_packets : length r.ids ≤ 252
   pub ids : IsTrue (are_ids 0 None r.ids (length r.nodes))

@@ -1,12 +1,8 @@
 -- What a reader of logs keeps, and what it makes of the bytes that come.
 use Rattle.std.specs.Prelude.{◌≡◌, ℕ, ◌+◌, ◌==◌, ◌≤◌, ◌<◌, List, [], ◌∷◌, ◌++◌, length, take, Option, Some, None, Result, Ok, Err, if◌then◌else◌}
 use Rattle.fw_log.specs.Log.{is_end}
-use Rattle.fw_log.specs.Reading.{Stand, IsPending, Spells, Faulty, WrongBody, IsBody, BodyRefused, skip, fault_at}
-use Rattle.fw_async.specs.Reader as Packets
-use Rattle.fw_async.specs.declared.packet.Packet.{Packet}
-use Rattle.fw_log.specs.declared.entry.Entry.{Entry}
+use Rattle.fw_log.specs.Reading.{Stand, IsPending, Spells, Faulty, WrongBody, skip, fault_at}
 use Rattle.fw_log.specs.declared.entry.Timed.{Timed}
-use Rattle.fw_log.specs.declared.BodyFault.{BodyFault}
 use Rattle.fw_log.specs.declared.LogFault.{LogFault}
 use Rattle.fw_log.specs.declared.LogWhy.TheVariants.{Cut, NoEnd}
 use Rattle.fw_log.specs.declared.read.LogFed.{LogFed}
@@ -27,16 +23,6 @@ with_bytes s taken = record { stand = s; taken = taken; fault = None }
 
 abbrev pub after : Stand → List ℕ → Timed → State
 after s taken t = record { stand = record { start = s.start + length taken; last = t.cycle; ended = is_end t.what }; taken = []; fault = None }
-
--- a packet that the body is, or why it is none
-abbrev pub PacketJudges : List ℕ → Result Packet BodyFault → Type 0
-PacketJudges bytes (Ok p) = Packets.Spells p bytes
-PacketJudges bytes (Err g) = BodyRefused 2 bytes g
-
--- an entry that the body is, or why it is none
-abbrev pub BodyJudges : ℕ → List ℕ → Result Entry BodyFault → Type 0
-BodyJudges kind bytes (Ok e) = IsBody kind bytes e
-BodyJudges kind bytes (Err g) = BodyRefused kind bytes g
 
 -- a whole entry: it, or why its body is none
 abbrev pub WholeJudges : Stand → List ℕ → Result Timed LogFault → Type 0

@@ -1,18 +1,11 @@
 -- What the bytes of a log show before an entry is whole: a fault, or how many bytes the entry takes.
-use Rattle.std.specs.Prelude.{◌≡◌, ℕ, ◌+◌, ◌*◌, ◌≤◌, ◌<◌, ◌==◌, ◌||◌, ◌&&◌, not, nat_le, nat_lt, List, [], ◌++◌, Bool, true, Option, Some, None, length, slice_index, take, drop, if◌then◌else◌, ◌⊎◌, flat_map, Result, Ok, Err}
+use Rattle.std.specs.Prelude.{◌≡◌, ℕ, ◌+◌, ◌*◌, ◌≤◌, ◌<◌, ◌==◌, ◌||◌, ◌&&◌, not, nat_le, nat_lt, List, [], ◌++◌, Bool, true, Option, Some, None, length, slice_index, take, drop, if◌then◌else◌, ◌⊎◌}
 use Rattle.std.specs.Int.{from_be_bytes, w64}
 use Rattle.fw_words.specs.Quadlet.{quadlet_at}
-use Rattle.std.specs.List.{All}
-use Rattle.fw_phy.specs.Phy.{phy_fault, Fits as PhyFits, spelling as phy_spelling}
-use Rattle.fw_phy.specs.declared.packet.PhyPacket.{PhyPacket}
-use Rattle.fw_phy.specs.declared.PhyFault.{PhyFault}
-use Rattle.fw_async.specs.Reading as Async
-use Rattle.fw_log.specs.Log.{header_bytes, entry_bytes, Fits, TimedFits, kind_of, body}
-use Rattle.fw_log.specs.declared.entry.Entry.{Entry}
+use Rattle.fw_log.specs.Log.{header_bytes, entry_bytes, TimedFits}
 use Rattle.fw_log.specs.declared.entry.Timed.{Timed}
-use Rattle.fw_async.specs.declared.PacketFault.{PacketFault}
 use Rattle.fw_log.specs.declared.BodyFault.{BodyFault}
-use Rattle.fw_log.specs.declared.BodyFault.TheVariants.{Phy, Packet, Fields}
+use Rattle.fw_log.specs.Bodies.{BodyRefused}
 use Rattle.fw_log.specs.declared.LogWhy.{LogWhy}
 use Rattle.fw_log.specs.declared.LogWhy.TheVariants.{AfterEnd, BadHeader, BadKind, BadLength, TimeBack, BadBody, NotBuilt}
 use Rattle.fw_log.specs.declared.LogFault.{LogFault}
@@ -32,7 +25,7 @@ abbrev pub cycle_of : List ℕ → ℕ
 cycle_of e = from_be_bytes w64 (take 8 (drop 4 e))
 
 abbrev pub is_built : ℕ → Bool
-is_built kind = not ((kind == 1) || (kind == 3))
+is_built kind = not (kind == 3)
 
 abbrev pub is_kind : ℕ → ℕ → Bool
 is_kind kind low = nat_le 1 kind && nat_le kind 7 && (low == 0)
@@ -98,25 +91,6 @@ pub record Spells (s : Stand) (t : Timed) (bytes : List ℕ) : Type 0 where
   pub later : s.last ≤ t.cycle
   pub same : header_at s.start ++ entry_bytes t ≡ bytes
 
--- the body of an entry
-pub record IsBody (k : ℕ) (bytes : List ℕ) (e : Entry) : Type 0 where
-  pub fits : Fits e
-  pub kind : kind_of e ≡ k
-  pub same : body e ≡ bytes
-
--- the reader of packets refuses the body at one of its bytes
-pub record PacketRefuses (bytes : List ℕ) (f : PacketFault) : Type 0 where
-  pub at : ℕ
-  pub within : at < length bytes
-  pub before : Async.IsPending (take at bytes)
-  pub here : Async.fault_of (take (at + 1) bytes) ≡ Some f
-
--- A lower fault where a lower reader refuses, and Fields where none does and the body is of no entry of its kind.
-abbrev pub BodyRefused : ℕ → List ℕ → BodyFault → Type 0
-BodyRefused kind bytes (Phy f) = ⊥
-BodyRefused kind bytes (Packet f) = (kind ≡ 2) × PacketRefuses bytes f
-BodyRefused kind bytes Fields = ((e : Entry) → IsBody kind bytes e → ⊥) × ((f : PacketFault) → kind ≡ 2 → PacketRefuses bytes f → ⊥)
-
 -- what an entry's head without a fault has
 pub record HeadFits (last : ℕ) (e : List ℕ) : Type 0 where
   pub built : is_built (slice_index e 0) ≡ true
@@ -143,19 +117,3 @@ pub record BodyFaulty (s : Stand) (bytes : List ℕ) (f : LogFault) : Type 0 whe
 
 abbrev pub Faulty : Stand → List ℕ → LogFault → Type 0
 Faulty s bytes f = (head_fault s bytes ≡ Some f) ⊎ BodyFaulty s bytes f
-
--- the packets of self-identification, eight bytes each
-pub record AreIds (ids : List PhyPacket) (bytes : List ℕ) : Type 0 where
-  pub fits : All PhyFits ids
-  pub same : flat_map phy_spelling ids ≡ bytes
-
--- The reader of PHY packets refuses the eight bytes from a place on, and none before.
-pub record IdsRefused (bytes : List ℕ) (f : PhyFault) : Type 0 where
-  pub before : List PhyPacket
-  pub read : AreIds before (take (8 * length before) bytes)
-  pub within : 8 * length before < length bytes
-  pub here : phy_fault (drop (8 * length before) bytes) ≡ Some f
-
-abbrev pub IdsJudges : List ℕ → Result (List PhyPacket) PhyFault → Type 0
-IdsJudges bytes (Ok ids) = AreIds ids bytes
-IdsJudges bytes (Err f) = IdsRefused bytes f

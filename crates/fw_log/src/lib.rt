@@ -10,6 +10,7 @@ mod nodes;
 mod read;
 mod read_body;
 mod read_head;
+mod read_reset;
 mod write;
 mod write_body;
 

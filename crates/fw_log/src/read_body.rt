@@ -5,13 +5,12 @@ ghost use Rattle.fw_log.specs.declared.entry.EventEntry.{EventEntry};
 ghost use Rattle.fw_log.specs.declared.entry.OutcomeEntry.{OutcomeEntry};
 ghost use Rattle.fw_log.specs.declared.entry.ShownEntry.{ShownEntry};
 ghost use Rattle.fw_log.specs.Log.{quads, event_quads, outcome_quads, shown_quads, is_event, is_outcome, EventFits, OutcomeFits, ShownFits};
-ghost use Rattle.fw_log.specs.Reading.{is_built, is_kind, is_length, IdsJudges};
-ghost use Rattle.fw_log.specs.Reader.{PacketJudges, BodyJudges};
+ghost use Rattle.fw_log.specs.Reading.{is_built, is_kind, is_length};
+ghost use Rattle.fw_log.specs.Bodies.{PacketJudges, BodyJudges};
 
-use crate::read_head::rest;
+use crate::read_reset::reset_of;
 use crate::{BodyFault, Entry, EventEntry, OutcomeEntry, ShownEntry};
 use fw_async::{Fed, Packet, PacketReader};
-use fw_phy::{PhyFault, SelfIds, read_phy};
 use fw_words::quadlet_at;
 
 fn outcome_of(body: &[u8]) -> Option<OutcomeEntry>
@@ -107,23 +106,6 @@ fn event_of(body: &[u8]) -> Option<EventEntry>
     })
 }
 
-// The packets that the bytes spell, or the first refusal.
-fn ids_of(bytes: &[u8]) -> Result<SelfIds, PhyFault>
-    requires { length bytes.now ≤ 2016 }
-    ensures { IdsJudges bytes.now result }
-{
-    let mut ids = SelfIds::new();
-    let mut at = 0;
-    while at < bytes.len() {
-        match read_phy(rest(bytes, at)) {
-            Ok(packet) => ids.push(packet),
-            Err(fault) => return Err(fault),
-        }
-        at += 8;
-    }
-    Ok(ids)
-}
-
 fn async_of(body: &[u8]) -> Result<Packet, BodyFault>
     ensures { PacketJudges body.now result }
 {
@@ -154,6 +136,10 @@ pub(crate) fn entry_of(kind: u8, body: &[u8]) -> Result<Entry, BodyFault>
     ensures { BodyJudges kind body.now result }
 {
     match kind {
+        1 => match reset_of(body) {
+            Ok(reset) => Ok(Entry::Reset(reset)),
+            Err(fault) => Err(fault),
+        },
         2 => match async_of(body) {
             Ok(packet) => Ok(Entry::Async(packet)),
             Err(fault) => Err(fault),

@@ -50,7 +50,7 @@ fn entry_fault(place: u64, last: u64, e: &[u8]) -> Option<LogFault>
         return None;
     }
     let kind = e[0];
-    if kind == 1 || kind == 3 {
+    if kind == 3 {
         return Some(LogFault {
             place,
             why: LogWhy::NotBuilt,

@@ -1,5 +1,5 @@
--- PHY packets: one quadlet, and its logical inverse.
-use Rattle.std.specs.Prelude.{◌≡◌, ℕ, zero, suc, ◌+◌, ◌-◌, ◌^◌, ◌≤◌, ◌==◌, nat_le, nat_lt, List, [], ◌∷◌, ◌++◌, Bool, Option, Some, None, length, slice_index, take, drop, if◌then◌else◌}
+-- PHY packets (IEEE 1394-1995, PHY packets): one quadlet, and its logical inverse.
+use Rattle.std.specs.Prelude.{◌≡◌, ℕ, zero, suc, ◌+◌, ◌-◌, ◌/◌, ◌^◌, ◌≤◌, ◌<◌, ◌==◌, nat_le, nat_lt, List, [], ◌∷◌, ◌++◌, Bool, Option, Some, None, length, slice_index, take, drop, if◌then◌else◌}
 use Rattle.std.specs.Int.{to_be_bytes, from_be_bytes, w32}
 use Rattle.std.specs.Option.{option_map}
 use Rattle.fw_words.specs.Quadlet.{field, first_set, quadlet_at}
@@ -9,6 +9,7 @@ use Rattle.fw_phy.specs.declared.PhyFault.TheVariants.{Short, NotInverse, Reserv
 use Rattle.fw_phy.specs.declared.packet.PhyPacket.{PhyPacket}
 use Rattle.fw_phy.specs.declared.packet.PhyPacket.TheVariants.{SelfId, SelfIdMore, Config, LinkOn}
 
+-- a flag as a field of one bit
 abbrev pub bit : Bool → ℕ
 bit b = if b then 1 else 0
 
@@ -34,6 +35,7 @@ pub record Fits (p : PhyPacket) : Type 0 where
   pub fields : FitWidths (layout p)
   pub shape : HasShape p
 
+-- the quadlet of a packet
 abbrev pub quadlet_of : PhyPacket → ℕ
 quadlet_of p = packed (layout p) 0
 
@@ -41,6 +43,7 @@ quadlet_of p = packed (layout p) 0
 abbrev pub twice : ℕ → List ℕ
 twice q = to_be_bytes w32 q ++ to_be_bytes w32 (2 ^ 32 - 1 - q)
 
+-- the eight bytes of a packet
 abbrev pub spelling : PhyPacket → List ℕ
 spelling p = twice (quadlet_of p)
 
@@ -57,6 +60,27 @@ reserved_bit q =
     else if field q 13 13 == 1 then Some 13
     else if field q 30 30 == 1 then Some 30
     else None
+
+-- the first n bits of a quadlet
+abbrev pub front : ℕ → ℕ → ℕ
+front q n = q / 2 ^ (32 - n)
+
+-- some packet's quadlet begins with the first n bits of this one
+pub record GoesOn (q n : ℕ) : Type 0 where
+  pub packet : PhyPacket
+  pub fits : Fits packet
+  pub alike : front (quadlet_of packet) n ≡ front q n
+
+-- some packet begins with the bits before this one, and none with this one too
+pub record StopsAt (q at : ℕ) : Type 0 where
+  pub within : at < 32
+  pub before : GoesOn q at
+  pub stops : GoesOn q (at + 1) → ⊥
+
+-- eight bytes are there, and the second quadlet is the inverse of the first
+pub record IsTwice (bytes : List ℕ) : Type 0 where
+  pub enough : 8 ≤ length bytes
+  pub inverse : quadlet_at bytes 4 ≡ 2 ^ 32 - 1 - quadlet_at bytes 0
 
 -- the first fault that holds of the bytes
 abbrev pub phy_fault : List ℕ → Option PhyFault

@@ -1,10 +1,10 @@
-ghost use Rattle.std.specs.Prelude.{◌≡◌, ◌≤◌, ◌++◌, length, take, IfOk, IfSome, IsSome, ◌↔◌};
+ghost use Rattle.std.specs.Prelude.{ℕ, ◌≡◌, ◌≤◌, ◌++◌, length, take, IfOk, IfSome, IsSome, ◌↔◌};
 ghost use Rattle.std.specs.Int.{to_be_bytes, w32};
 ghost use Rattle.std.specs.Result.{result_err};
 ghost use Rattle.std.specs.Option.{option_map};
 ghost use Rattle.fw_words.specs.Quadlet.{field, quadlet_at};
 ghost use Rattle.fw_phy.specs.declared.packet.PhyPacket.{PhyPacket};
-ghost use Rattle.fw_phy.specs.Phy.{Fits, quadlet_of, spelling, reserved_bit, phy_fault};
+ghost use Rattle.fw_phy.specs.Phy.{Fits, quadlet_of, spelling, reserved_bit, phy_fault, IsTwice, StopsAt};
 
 use crate::{PhyFault, PhyPacket, SelfId, SelfIdMore};
 use fw_words::{Quadlet, first_set, get_quadlet};
@@ -134,11 +134,15 @@ fn quadlets_of(b: &[u8]) -> Option<(Quadlet, Quadlet)>
     Some((get_quadlet(*first), get_quadlet(*second)))
 }
 
-/// The packet that the first eight bytes spell, or the first fault that holds of the bytes.
+/// The packet that the first eight bytes spell; bytes after them are not read.
+///
+/// The first fault that holds is answered: `Short` where fewer than eight bytes are there, `NotInverse` where the
+/// second quadlet is not the inverse of the first, and `Reserved` at the first bit at which no packet goes on.
 pub fn read_phy(b: &[u8]) -> Result<PhyPacket, PhyFault>
     ensures fault { result_err result ≡ phy_fault b.now }
     ensures found { IfOk result (λ p. Fits p × (take 8 b.now ≡ spelling p)) }
     ensures only { (p : PhyPacket) → Fits p → take 8 b.now ≡ spelling p → result ≡ Ok p }
+    ensures reserved { (bit : ℕ) → (result ≡ Err (PhyFault.Reserved bit)) ↔ (IsTwice b.now × StopsAt (quadlet_at b.now 0) bit) }
 {
     let Some((q, inverse)) = quadlets_of(b) else {
         return Err(PhyFault::Short);

@@ -48,7 +48,8 @@ fn config_quadlet(root: u8, force_root: bool, set_gap: bool, gap: u8) -> u32
     requires { Fits (PhyPacket.Config root force_root set_gap gap) }
     ensures { result ≡ quadlet_of (PhyPacket.Config root force_root set_gap gap) }
 {
-    let q = with_field(u32::from(root), 1, u32::from(force_root));
+    let q = with_field(0, 6, u32::from(root));
+    let q = with_field(q, 1, u32::from(force_root));
     let q = with_field(q, 1, u32::from(set_gap));
     let q = with_field(q, 6, u32::from(gap));
     with_field(q, 16, 0)

@@ -37,6 +37,18 @@ out_fields w = record {
   settings = record { channel = field w 10 15; rate = field w 16 17; overhead = field w 18 21 };
 }
 
+-- the fields of an input plug's register that are not fixed
+pub record InFields : Type 0 where
+  pub broadcast : Bool
+  pub counter : ℕ
+  pub channel : ℕ
+
+abbrev pub in_word : InFields → ℕ
+in_word f = 2 ^ 31 + flag f.broadcast * 2 ^ 30 + f.counter * 2 ^ 24 + f.channel * 2 ^ 16
+
+abbrev pub in_fields : ℕ → InFields
+in_fields w = record { broadcast = field w 1 1 == 1; counter = field w 2 7; channel = field w 10 15 }
+
 -- a connection stands at the plug of this register: its broadcast connection bit or its point-to-point connection counter is not 0
 abbrev pub is_connected : ℕ → Bool
 is_connected w = (field w 1 1 == 1) || not (field w 2 7 == 0)

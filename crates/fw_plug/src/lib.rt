@@ -9,7 +9,7 @@ mod row;
 mod word;
 
 pub use bandwidth::units;
-pub use laws::output_plugs_are_their_fields;
+pub use laws::{input_words_are_their_fields, output_words_are_their_fields};
 pub use plugs::{IMPR, IPCR, OMPR, OPCR, Plugs};
 pub use word::{InWord, OutWord};
 

@@ -2,8 +2,7 @@
 use Rattle.fw_ledger.proofs.Moves.{moves_keep}
 use Rattle.fw_ledger.proofs.Events.{reset_keeps, second_ends, death_keeps}
 use Rattle.fw_ledger.proofs.Shared.{is_conflict_free}
-use Rattle.fw_ledger.proofs.Entries.{leads_keeps, prefix_sound, starts_sound}
-use Rattle.fw_ledger.specs.Entries.{no_account}
+use Rattle.fw_ledger.proofs.Fold.{next_keeps, prefix_sound}
 use Rattle.fw_ledger.proofs.account_stays_sound.Goals as goal
 
 pub returns-clause-moves : goal.returns-clause-moves
@@ -18,11 +17,11 @@ returns-clause-second c = second_ends
 pub returns-clause-death : goal.returns-clause-death
 returns-clause-death c = death_keeps
 
-pub returns-clause-shared : goal.returns-clause-shared
-returns-clause-shared c = is_conflict_free
-
 pub returns-clause-entries : goal.returns-clause-entries
-returns-clause-entries c = leads_keeps
+returns-clause-entries c = next_keeps
 
 pub returns-clause-prefixes : goal.returns-clause-prefixes
-returns-clause-prefixes c = λ m before later a. prefix_sound no_account m before later starts_sound a
+returns-clause-prefixes c = prefix_sound
+
+pub returns-clause-shared : goal.returns-clause-shared
+returns-clause-shared c = is_conflict_free

@@ -1,5 +1,4 @@
-use Rattle.std.proofs.Common.{◌≡◌, ◌++◌, ap, ◌∙◌}
-use Rattle.std.specs.Int.{to_be_bytes, w32}
+use Rattle.std.proofs.Common.{◌∙◌}
 use Rattle.fw_log.specs.Log.{header_bytes}
 use Rattle.fw_log.proofs.WriteLaws.{writes_same, one_more}
 use Rattle.fw_log.proofs.write.write_header.Goals as goal

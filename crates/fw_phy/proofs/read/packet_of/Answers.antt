@@ -1,5 +1,5 @@
 use Rattle.std.proofs.Common.{arith, sym}
-use Rattle.fw_phy.proofs.PhyLaws.{low_16, low_24}
+use Rattle.fw_phy.proofs.TagLaws.{low_16, low_24}
 use Rattle.fw_phy.proofs.read.packet_of.Goals as goal
 
 pub config_of-requires-clause-zeros : goal.config_of-requires-clause-zeros

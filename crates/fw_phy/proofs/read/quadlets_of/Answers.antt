@@ -1,6 +1,6 @@
 use Rattle.std.proofs.Common.{◌∙◌, ap, take}
 use Rattle.std.specs.Int.{to_be_bytes, w32}
-use Rattle.fw_phy.proofs.PhyLaws.{eight}
+use Rattle.fw_phy.proofs.ReadLaws.{eight}
 use Rattle.fw_phy.proofs.read.quadlets_of.Goals as goal
 
 pub returns-clause-bytes : goal.returns-clause-bytes

@@ -1,0 +1,84 @@
+//! Quadlets 0 to 2.
+
+ghost use Rattle.std.specs.Prelude.{◌≡◌, ◌≤◌, ◌<◌, ◌+◌, ◌/◌, ◌%◌, ◌^◌, [], length};
+ghost use Rattle.fw_words.specs.Quadlet.{field, quadlet_at};
+ghost use Rattle.fw_words.specs.Layout.{packed};
+ghost use Rattle.fw_async.specs.Async.{bytes_of, request, response, head_fields, HeadFits};
+ghost use Rattle.fw_async.specs.Tcode.{code_of};
+ghost use Rattle.fw_async.specs.Reading.{tcode_of};
+
+use crate::buffer::push_quadlet;
+use crate::packet::Head;
+use crate::tcode::Tcode;
+use arrayvec::ArrayVec;
+use fw_words::{quadlet_at, with_field};
+
+fn first_quadlet(tcode: Tcode, h: &Head) -> u32
+    requires { HeadFits h.now }
+    ensures { result ≡ packed (head_fields (code_of tcode) h.now) 0 }
+{
+    let q = with_field(h.destination as u32, 6, h.tl as u32);
+    let q = with_field(q, 2, h.rt as u32);
+    let q = with_field(q, 4, tcode.code());
+    with_field(q, 4, h.pri as u32)
+}
+
+/// The first three quadlets of a request, in place of what `out` held.
+pub fn begin_request(tcode: Tcode, h: &Head, offset: u64, out: &mut ArrayVec<u8, 528>)
+    requires head { HeadFits h.now }
+    requires offset { offset < 2 ^ 48 }
+    ensures { out.new.items ≡ bytes_of (request (code_of tcode) h.now offset [] []) }
+{
+    out.clear();
+    push_quadlet(out, first_quadlet(tcode, h));
+    push_quadlet(out, with_field(h.source as u32, 16, (offset >> 32) as u32));
+    push_quadlet(out, (offset & 0xffff_ffff) as u32);
+}
+
+/// The first three quadlets of a response, in place of what `out` held.
+pub fn begin_response(tcode: Tcode, h: &Head, rcode: u8, out: &mut ArrayVec<u8, 528>)
+    requires head { HeadFits h.now }
+    requires rcode { rcode < 2 ^ 4 }
+    ensures { out.new.items ≡ bytes_of (response (code_of tcode) h.now rcode [] []) }
+{
+    out.clear();
+    push_quadlet(out, first_quadlet(tcode, h));
+    let q = with_field(h.source as u32, 4, rcode as u32);
+    push_quadlet(out, with_field(q, 12, 0));
+    push_quadlet(out, 0);
+}
+
+/// The head of a packet.
+pub fn head_at(bytes: &[u8]) -> Head
+    requires { 8 ≤ length bytes.now }
+    ensures fits { HeadFits result }
+    ensures first { packed (head_fields (tcode_of bytes.now) result) 0 ≡ quadlet_at bytes.now 0 }
+    ensures source { result.source ≡ field (quadlet_at bytes.now 4) 0 15 }
+{
+    let first = quadlet_at(bytes, 0);
+    Head {
+        destination: first.field(0, 15) as u16,
+        tl: first.field(16, 21) as u8,
+        rt: first.field(22, 23) as u8,
+        pri: first.field(28, 31) as u8,
+        source: quadlet_at(bytes, 4).field(0, 15) as u16,
+    }
+}
+
+/// The destination_offset of a request.
+pub fn offset_at(bytes: &[u8]) -> u64
+    requires { 12 ≤ length bytes.now }
+    ensures small { result < 2 ^ 48 }
+    ensures high { result / 2 ^ 32 ≡ field (quadlet_at bytes.now 4) 16 31 }
+    ensures low { result % 2 ^ 32 ≡ quadlet_at bytes.now 8 }
+{
+    ((quadlet_at(bytes, 4).field(16, 31) as u64) << 32) + quadlet_at(bytes, 8).0 as u64
+}
+
+/// The response code of a response.
+pub fn rcode_at(bytes: &[u8]) -> u8
+    requires { 8 ≤ length bytes.now }
+    ensures { result ≡ field (quadlet_at bytes.now 4) 16 19 }
+{
+    quadlet_at(bytes, 4).field(16, 19) as u8
+}

@@ -1,0 +1,53 @@
+-- The account of a list of entries of a log.
+use Rattle.fw_log.specs.declared.entry.EventEntry.{EventEntry}
+use Rattle.fw_log.specs.declared.entry.Entry.{Entry}
+use Rattle.fw_log.specs.declared.entry.Entry.TheVariants.{Reset, Async, Event, Outcome, Shown, End}
+use Rattle.std.specs.Prelude.{◌==◌, false, if◌then◌else◌, Option, Some, None, List, [], ◌∷◌}
+use Rattle.fw_ledger.specs.Account.{Account}
+use Rattle.fw_ledger.specs.Events.{no_connections, after_reset, after_second, after_death}
+use Rattle.fw_ledger.specs.Packets.{after_packet}
+
+-- the account of no entries
+abbrev pub no_account : Account
+no_account = record {
+  latest = None;
+  reclaiming = false;
+  allocations = λ ch. None;
+  outputs = λ p. no_connections;
+  inputs = λ p. no_connections;
+  settings = λ p. record { channel = 63; rate = 0; overhead = 0 };
+  input_channel = λ p. 63;
+  continues = λ p. false;
+  reclaimable = λ ch. None;
+  addressed = λ c. None;
+  outstanding = λ c. None;
+}
+
+-- second over, where one runs, and the death of a controller; any other event changes nothing
+abbrev pub after_event : EventEntry → Account → Option Account
+after_event e l =
+    if e.code == 1 then (if l.reclaiming then Some (after_second l) else None)
+    else if e.code == 2 then Some (after_death e.device l)
+    else Some l
+
+-- the account after one entry more, where there is one
+abbrev pub next_account : Account → Entry → Option Account
+next_account l (Reset r) = Some (after_reset r l)
+next_account l (Async p) = after_packet p l
+next_account l (Event e) = after_event e l
+next_account l (Outcome o) = Some l
+next_account l (Shown s) = Some l
+next_account l End = Some l
+
+abbrev pub next_of : Option Account → Entry → Option Account
+next_of None e = None
+next_of (Some l) e = next_account l e
+
+-- the account after entries more
+abbrev pub account_from : Option Account → List Entry → Option Account
+account_from o [] = o
+account_from o (e ∷ es) = account_from (next_of o e) es
+
+-- the account of a list of entries
+abbrev pub account_of : List Entry → Option Account
+account_of es = account_from (Some no_account) es

@@ -1,0 +1,6 @@
+use Rattle.std.proofs.Common.{◌≡◌, None, drop}
+use Rattle.fw_log.specs.Log.{are_ids}
+use Rattle.fw_log.proofs.read_reset.are_ids.Given as goal
+
+abbrev pub invariant-loop-packet : goal.invariant-loop-packet
+invariant-loop-packet l = are_ids l.node l.next (drop l.packet-index l.ids) l.count ≡ are_ids 0 None l.ids l.count

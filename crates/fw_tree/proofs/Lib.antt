@@ -1,0 +1,10 @@
+pub mod ForestLaws
+pub mod RootLaws
+pub mod RoundLaws
+pub mod SeenLaws
+pub mod SelfIdLaws
+pub mod PathLaws
+pub mod ParentLaws
+pub mod TopologyLaws
+pub mod TreeLaws
+pub mod StepLaws

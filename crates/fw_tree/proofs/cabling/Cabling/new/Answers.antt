@@ -1,0 +1,9 @@
+use Rattle.std.proofs.Common.{arith, refl}
+use Rattle.fw_tree.proofs.TopologyLaws.{sound_new, blank_at}
+use Rattle.fw_tree.proofs.cabling.Cabling.new.Goals as goal
+
+pub invariant_of-result : goal.invariant_of-result
+invariant_of-result c = record { size = refl; most = omega arith; sound = sound_new }
+
+pub returns-clause-cables : goal.returns-clause-cables
+returns-clause-cables c = blank_at

@@ -1,0 +1,9 @@
+pub mod Branch
+pub mod Cables
+pub mod Forest
+pub mod Numbers
+pub mod Parents
+pub mod Paths
+pub mod Topology
+pub mod Rounds
+pub mod SelfIds

@@ -1,0 +1,65 @@
+-- The numbers of self-identification.
+use Rattle.std.specs.Prelude.{◌≡◌, ℕ, zero, suc, ◌+◌, ◌&&◌, List, [], ◌∷◌, ◌++◌, Option, Some, None, Bool, true, false, slice_index_or, if◌then◌else◌}
+use Rattle.fw_tree.specs.declared.facts.End.{End}
+use Rattle.fw_tree.specs.declared.rounds.Parent.{Parent}
+use Rattle.fw_tree.specs.Cables.{Peers, peer, Walk}
+use Rattle.fw_tree.specs.Rounds.{HasParent, IsRoot}
+use Rattle.fw_tree.specs.Parents.{parent_at}
+use Rattle.fw_tree.specs.Paths.{comes_before}
+
+-- the path of ports leads down from the root to the device
+pub data LeadsDown (g : Peers) (root : ℕ) : List ℕ → ℕ → Type 0 where
+  at_root : LeadsDown g root [] root
+  down_to : {k v : List ℕ} {d e : ℕ} → LeadsDown g root k d → (p q round : ℕ) → peer g d p ≡ Some (record { device = e; port = q }) → HasParent g e q round → v ≡ k ++ p ∷ [] → LeadsDown g root v e
+
+-- how many numbers below n pass
+unfoldable pub counted : (ℕ → Bool) → ℕ → ℕ
+counted f zero = 0
+counted f (suc n) = counted f n + (if f n then 1 else 0)
+
+abbrev pub number_at : List (Option ℕ) → ℕ → Option ℕ
+number_at number d = slice_index_or number d None
+
+abbrev pub is_there : Option ℕ → Bool
+is_there None = false
+is_there (Some n) = true
+
+abbrev pub has_number : List (Option ℕ) → ℕ → Bool
+has_number number d = is_there (number_at number d)
+
+-- each device of the bus has the count of the devices of the bus that come before it by the paths, and no other has a number
+pub record AreNumbers (g : Peers) (root : ℕ) (number : List (Option ℕ)) : Type 0 where
+  pub paths : ℕ → List ℕ
+  pub lead : (d : ℕ) → Walk g 0 d → LeadsDown g root (paths d) d
+  pub places : (d : ℕ) → Walk g 0 d → number_at number d ≡ Some (counted (λ e. has_number number e && comes_before (paths e) (paths d)) 63)
+  pub off : (d : ℕ) → (Walk g 0 d → ⊥) → number_at number d ≡ None
+
+-- the device hangs on the other at the port
+pub record IsChild (g : Peers) (parents : List (Option Parent)) (d p c : ℕ) : Type 0 where
+  pub end : End
+  pub parent : Parent
+  pub is : peer g d p ≡ Some end
+  pub device : end.device ≡ c
+  pub noted : parent_at parents c ≡ Some parent
+  pub port : parent.port ≡ end.port
+
+-- how late a device leaves, the root last
+abbrev pub rank : Option Parent → ℕ
+rank None = 63
+rank (Some p) = p.round
+
+-- the port at which the parent is, or none for the root
+abbrev pub IsParentPort : Peers → ℕ → Option ℕ → Type 0
+IsParentPort g d None = IsRoot g d
+IsParentPort g d (Some p) = (round : ℕ) × HasParent g d p round
+
+-- the parents' ports of the devices of the bus
+pub record AreParents (g : Peers) (ports : List (Option ℕ)) : Type 0 where
+  pub on : (d : ℕ) → Walk g 0 d → IsParentPort g d (number_at ports d)
+  pub off : (d : ℕ) → (Walk g 0 d → ⊥) → number_at ports d ≡ None
+
+-- the port, where the device is on the bus
+abbrev pub shown : Bool → Option Parent → Option ℕ
+shown false o = None
+shown true None = None
+shown true (Some p) = Some p.port

@@ -1,0 +1,102 @@
+ghost use Rattle.std.specs.Prelude.{◌≡◌, ◌<◌, ◌≤◌, ℕ, Bool, List, length, IfSome, IfNone};
+ghost use Rattle.fw_tree.specs.Cables.{InRange, is_seen};
+ghost use Rattle.fw_tree.specs.Forest.{AreCables};
+ghost use Rattle.fw_tree.specs.Parents.{IsParent, parent_at};
+ghost use Rattle.fw_tree.specs.Numbers.{IsChild, counted, has_number, is_there, number_at, shown};
+ghost use Rattle.fw_tree.specs.Branch.{Branch};
+
+use crate::End;
+use crate::rounds::Parent;
+
+// The device that hangs on another at a port.
+fn child_at(
+    g: &[[Option<End>; 27]; 63],
+    parents: &[Option<Parent>; 63],
+    d: u8,
+    p: usize,
+) -> Option<u8>
+    requires range { InRange g.now }
+    requires device { d < 63 }
+    requires port { p < 27 }
+    ensures within { IfSome result (λ c. c < 63) }
+    ensures child { IfSome result (λ c. IsChild g.now parents.now d p c) }
+    ensures none { IfNone result ((c : ℕ) → IsChild g.now parents.now d p c → ⊥) }
+{
+    match g[d as usize][p] {
+        Some(end) => match parents[end.device as usize] {
+            Some(parent) => {
+                if parent.port == end.port {
+                    Some(end.device)
+                } else {
+                    None
+                }
+            }
+            None => None,
+        },
+        None => None,
+    }
+}
+
+fn is_there(number: &Option<u8>) -> bool
+    ensures { result ≡ is_there number.now }
+{
+    number.is_some()
+}
+
+// How many devices have a number.
+#[tactic(auto, using(crate::proofs::TreeLaws::counted_none, crate::proofs::TreeLaws::counted_yes, crate::proofs::TreeLaws::counted_else))]
+pub fn numbered(number: &[Option<u8>; 63]) -> u8
+    ensures count { result ≡ counted (has_number number.now) 63 }
+    ensures most { result ≤ 63 }
+{
+    let mut count = 0;
+    for d in 0..63 {
+        if is_there(&number[d]) {
+            count += 1;
+        }
+    }
+    count
+}
+
+// Numbers the branch that hangs on a device, and then the device.
+pub fn number_branch(
+    g: &[[Option<End>; 27]; 63],
+    parents: &[Option<Parent>; 63],
+    d: u8,
+    number: &mut [Option<u8>; 63],
+)
+    requires range { InRange g.now }
+    requires cables { AreCables g.now }
+    requires parents { (k : ℕ) → k < 63 → IsParent g.now k (parent_at parents.now k) }
+    requires device { d < 63 }
+    ensures { (root : ℕ) (on : ℕ → Bool) (paths : ℕ → List ℕ) → Branch g.now parents.now root on paths d number.old number.new }
+{
+    for p in 0..27 {
+        match child_at(g, parents, d, p) {
+            Some(child) => number_branch(g, parents, child, number),
+            None => {}
+        }
+    }
+    number[d as usize] = Some(numbered(number));
+}
+
+fn shown(on: bool, parent: &Option<Parent>) -> Option<u8>
+    ensures { result ≡ shown on parent.now }
+{
+    match parent {
+        Some(parent) => if on { Some(parent.port) } else { None },
+        None => None,
+    }
+}
+
+// The parents' ports of the devices of the bus.
+pub fn parent_ports(on: &[bool; 63], parents: &[Option<Parent>; 63]) -> [Option<u8>; 63]
+    ensures ports { (d : ℕ) → d < 63 → number_at result d ≡ shown (is_seen on.now d) (parent_at parents.now d) }
+    ensures size { length result ≡ 63 }
+{
+    let mut ports = [None; 63];
+    for d in 0..63 {
+        ports[d] = shown(on[d], &parents[d]);
+    }
+    ports
+}

@@ -1,0 +1,64 @@
+ghost use Rattle.std.specs.Prelude.{◌≡◌, ◌<◌, ◌≤◌, ◌&&◌, nat_lt, true, take};
+ghost use Rattle.fw_tree.specs.Cables.{peer};
+ghost use Rattle.fw_tree.specs.Topology.{AreDevices, ports_of, are_used, with_cable};
+
+use crate::{End, PhyFacts};
+
+// How many ports a device has: none where there is no such device.
+fn ports_at(facts: &[PhyFacts; 63], count: u8, device: u8) -> u8
+    requires count { count ≤ 63 }
+    requires devices { AreDevices (take count facts.now) }
+    ensures ports { result ≡ ports_of (take count facts.now) device }
+    ensures most { result ≤ 27 }
+    ensures device { 0 < result → device < 63 }
+{
+    if device < count {
+        facts[device as usize].ports
+    } else {
+        0
+    }
+}
+
+pub fn have_ports(facts: &[PhyFacts; 63], count: u8, a: End, b: End) -> bool
+    requires count { count ≤ 63 }
+    requires devices { AreDevices (take count facts.now) }
+    ensures a_device { result ≡ true → a.device < 63 }
+    ensures a_port { result ≡ true → a.port < 27 }
+    ensures b_device { result ≡ true → b.device < 63 }
+    ensures b_port { result ≡ true → b.port < 27 }
+    ensures has { result ≡ (nat_lt a.port (ports_of (take count facts.now) a.device) && nat_lt b.port (ports_of (take count facts.now) b.device)) }
+{
+    a.port < ports_at(facts, count, a.device) && b.port < ports_at(facts, count, b.device)
+}
+
+// Which cable is at a port.
+fn cable_at(g: &[[Option<End>; 27]; 63], e: End) -> Option<End>
+    requires device { e.device < 63 }
+    requires port { e.port < 27 }
+    ensures { result ≡ peer g.now e.device e.port }
+{
+    g[e.device as usize][e.port as usize]
+}
+
+pub fn are_used(g: &[[Option<End>; 27]; 63], a: End, b: End) -> bool
+    requires a_device { a.device < 63 }
+    requires a_port { a.port < 27 }
+    requires b_device { b.device < 63 }
+    requires b_port { b.port < 27 }
+    ensures { result ≡ are_used g.now a b }
+{
+    cable_at(g, a).is_some()
+        || cable_at(g, b).is_some()
+        || (a.device == b.device && a.port == b.port)
+}
+
+pub fn plug(g: &mut [[Option<End>; 27]; 63], a: End, b: End)
+    requires a_device { a.device < 63 }
+    requires a_port { a.port < 27 }
+    requires b_device { b.device < 63 }
+    requires b_port { b.port < 27 }
+    ensures { g.new ≡ with_cable g.old a b }
+{
+    g[a.device as usize][a.port as usize] = Some(b);
+    g[b.device as usize][b.port as usize] = Some(a);
+}

@@ -1,0 +1,179 @@
+ghost use Rattle.std.specs.Prelude.{◌≡◌, ◌<◌, ◌==◌, ◌&&◌, not, ℕ, true, false, None, IfSome, IfNone, count_by, slice_index_or, slice_set};
+ghost use Rattle.fw_tree.specs.Cables.{InRange, is_seen};
+ghost use Rattle.fw_tree.specs.Rounds.{is_open, open_count, WinsTie, LeavesBy};
+ghost use Rattle.fw_tree.specs.Forest.{AreCables};
+ghost use Rattle.fw_tree.specs.Parents.{Notes, IsParent, Settled, parent_at, staying};
+
+use crate::End;
+
+/// A cable of a device.
+#[derive(Clone, Copy, Debug)]
+struct Cable {
+    port: u8,
+    end: End,
+}
+
+// The port at which a device's parent is, and the round in which the device left.
+#[derive(Clone, Copy, Debug)]
+pub struct Parent {
+    pub port: u8,
+    pub round: u8,
+}
+
+// A cable at the port leads to a device that stays.
+fn is_open(port: &Option<End>, stays: &[bool; 63]) -> bool
+    requires { IfSome port.now (λ e. e.device < 63) }
+    ensures { result ≡ is_open (is_seen stays.now) port.now }
+{
+    match port {
+        Some(end) => stays[end.device as usize],
+        None => false,
+    }
+}
+
+// How many cables of a device lead to devices that stay.
+fn open_count(ports: &[Option<End>; 27], stays: &[bool; 63]) -> usize
+    requires { (p : ℕ) → IfSome (slice_index_or ports.now p None) (λ e. e.device < 63) }
+    ensures { result ≡ count_by (is_open (is_seen stays.now)) ports.now }
+{
+    let mut count: usize = 0;
+    for port in ports {
+        if is_open(port, stays) {
+            count += 1;
+        }
+    }
+    count
+}
+
+// The first cable that leads to a device that stays.
+fn open_cable(ports: &[Option<End>; 27], stays: &[bool; 63]) -> Option<Cable>
+    requires { (p : ℕ) → IfSome (slice_index_or ports.now p None) (λ e. e.device < 63) }
+    ensures none { IfNone result ((p : ℕ) → p < 27 → is_open (is_seen stays.now) (slice_index_or ports.now p None) ≡ false) }
+    ensures port { IfSome result (λ c. c.port < 27) }
+    ensures end { IfSome result (λ c. slice_index_or ports.now c.port None ≡ Some c.end) }
+    ensures stays { IfSome result (λ c. is_seen stays.now c.end.device ≡ true) }
+{
+    for p in 0..27 {
+        if let Some(end) = ports[p] {
+            if stays[end.device as usize] {
+                return Some(Cable { port: p as u8, end });
+            }
+        }
+    }
+    None
+}
+
+// The device leaves in a round at whose start these stay.
+fn leaves(ports: &[Option<End>; 27], d: usize, stays: &[bool; 63]) -> bool
+    requires device { d < 63 }
+    requires ends { (p : ℕ) → IfSome (slice_index_or ports.now p None) (λ e. e.device < 63) }
+    ensures { result ≡ (is_seen stays.now d && (count_by (is_open (is_seen stays.now)) ports.now == 1)) }
+{
+    stays[d] && open_count(ports, stays) == 1
+}
+
+// The port of the parent of a device that leaves: none for the later one of two that leave towards each other.
+fn parent_port(g: &[[Option<End>; 27]; 63], d: usize, stays: &[bool; 63]) -> Option<u8>
+    requires range { InRange g.now }
+    requires cables { AreCables g.now }
+    requires device { d < 63 }
+    requires still { is_seen stays.now d ≡ true }
+    requires one { open_count g.now (is_seen stays.now) d ≡ 1 }
+    ensures root { IfNone result (WinsTie g.now (is_seen stays.now) d) }
+    ensures port { IfSome result (λ p. p < 27) }
+    ensures leaves { IfSome result (λ p. LeavesBy g.now (is_seen stays.now) d p) }
+    ensures below { IfSome result (λ p. WinsTie g.now (is_seen stays.now) d → ⊥) }
+{
+    match open_cable(&g[d], stays) {
+        Some(cable) => {
+            let other = cable.end.device as usize;
+            if leaves(&g[other], other, stays) && other < d {
+                None
+            } else {
+                Some(cable.port)
+            }
+        }
+        None => None,
+    }
+}
+
+fn note(g: &[[Option<End>; 27]; 63], d: usize, round: u8, stays: &[bool; 63]) -> Option<Parent>
+    requires range { InRange g.now }
+    requires cables { AreCables g.now }
+    requires device { d < 63 }
+    requires still { is_seen stays.now d ≡ true }
+    requires one { open_count g.now (is_seen stays.now) d ≡ 1 }
+    ensures { Notes g.now (is_seen stays.now) round d result }
+{
+    match parent_port(g, d, stays) {
+        Some(port) => Some(Parent { port, round }),
+        None => None,
+    }
+}
+
+// Lets a device leave where it has one open cable, and says whether it left.
+fn leave_one(
+    g: &[[Option<End>; 27]; 63],
+    d: usize,
+    round: u8,
+    before: &[bool; 63],
+    stays: &mut [bool; 63],
+    parents: &mut [Option<Parent>; 63],
+) -> bool
+    requires range { InRange g.now }
+    requires cables { AreCables g.now }
+    requires device { d < 63 }
+    ensures left { result ≡ (is_seen before.now d && (open_count g.now (is_seen before.now) d == 1)) }
+    ensures gone { result ≡ true → stays.new ≡ slice_set stays.old d false }
+    ensures notes { result ≡ true → Notes g.now (is_seen before.now) round d (parent_at parents.new d) }
+    ensures others { (k : ℕ) → (k ≡ d → ⊥) → parent_at parents.new k ≡ parent_at parents.old k }
+    ensures same { result ≡ false → stays.new ≡ stays.old }
+    ensures same_parents { result ≡ false → parents.new ≡ parents.old }
+{
+    let left = leaves(&g[d], d, before);
+    if left {
+        parents[d] = note(g, d, round, before);
+        stays[d] = false;
+    }
+    left
+}
+
+// One round.
+fn leave(
+    g: &[[Option<End>; 27]; 63],
+    round: u8,
+    stays: &mut [bool; 63],
+    parents: &mut [Option<Parent>; 63],
+) -> bool
+    requires range { InRange g.now }
+    requires cables { AreCables g.now }
+    ensures after { (d : ℕ) → d < 63 → is_seen stays.new d ≡ (is_seen stays.old d && not (open_count g.now (is_seen stays.old) d == 1)) }
+    ensures notes { (d : ℕ) → d < 63 → is_seen stays.old d ≡ true → is_seen stays.new d ≡ false → Notes g.now (is_seen stays.old) round d (parent_at parents.new d) }
+    ensures others { (d : ℕ) → d < 63 → is_seen stays.new d ≡ is_seen stays.old d → parent_at parents.new d ≡ parent_at parents.old d }
+    ensures same { result ≡ false → stays.new ≡ stays.old }
+    ensures fewer { result ≡ true → staying stays.new < staying stays.old }
+{
+    let before = *stays;
+    let mut changed = false;
+    for d in 0..63 {
+        let left = leave_one(g, d, round, &before, stays, parents);
+        changed |= left;
+    }
+    changed
+}
+
+// The parent of each device, after all rounds.
+pub fn parents(g: &[[Option<End>; 27]; 63]) -> [Option<Parent>; 63]
+    requires range { InRange g.now }
+    requires cables { AreCables g.now }
+    ensures parents { (d : ℕ) → d < 63 → IsParent g.now d (parent_at result d) }
+    ensures settled { (r : ℕ) × Settled g.now r }
+{
+    let mut stays = [true; 63];
+    let mut parents = [None; 63];
+    let mut round = 0;
+    while leave(g, round, &mut stays, &mut parents) {
+        round += 1;
+    }
+    parents
+}
