@@ -1,16 +1,16 @@
 -- What a reader makes of a piece is the only thing that it can be.
-use Rattle.std.proofs.Common.{◌≡◌, inl, inr, ℕ, ◌+◌, ◌-◌, ◌≤◌, ◌<◌, List, ◌++◌, length, take, drop, Option, Some, None, Result, Ok, Err, OnErr, arith, refl, ap, sym, subst, ◌∙◌, append_assoc, length-append, take-add}
+use Rattle.std.proofs.Common.{◌≡◌, inl, inr, ℕ, ◌+◌, ◌-◌, ◌≤◌, ◌<◌, List, [], ◌++◌, length, take, drop, Option, Some, None, Result, Ok, Err, OnErr, arith, refl, ap, sym, subst, ◌∙◌, append-nil, length-append}
 use Rattle.std.proofs.lemmas.Bool.{cases_lt}
 use Rattle.std.proofs.lemmas.List.{take_all, length-take-le}
-use Rattle.fw_async.specs.Async.{spelling}
+use Rattle.fw_async.specs.Async.{spelling, Fits}
 use Rattle.fw_async.specs.Reading.{IsPending, fault_of, need}
-use Rattle.fw_async.specs.Reader.{State, Feeds, FeedsTo, Spells, EndsPacket, ShowsFault, EndsNothing, BeginsNone}
+use Rattle.fw_async.specs.Reader.{State, Feeds, FeedsTo, Spells, EndsPacket, ShowsFault, EndsNothing, BeginsNoPacket}
 use Rattle.fw_async.specs.declared.PacketFault.{PacketFault}
 use Rattle.fw_async.specs.declared.packet.Packet.{Packet}
 use Rattle.fw_async.specs.declared.reader.Fed.{Fed}
 use Rattle.fw_async.proofs.NeedLaws.{need_done, no_whole_front, fault_stays}
 use Rattle.fw_async.proofs.FeedLaws.{further, stays}
-use Rattle.fw_async.proofs.SpelledLaws.{spelled_none, spelled_need}
+use Rattle.fw_async.proofs.SpelledLaws.{spelled_none, spelled_need, no_proper_front}
 use Rattle.fw_async.proofs.SameLaws.{same_packet}
 
 pub whole_from_spells : (p : Packet) (bytes : List ℕ) → Spells p bytes → length bytes ≡ need bytes
@@ -53,14 +53,14 @@ gave_to old piece used (Some q) new k p h e =
     record { count = count; this = ap Some (same_packet q p h.0.spells.fits e.spells.fits same) }
 
 -- where a front of the piece ends a packet, that packet is given
-pub gives_packet : (old piece : List ℕ) (r : Result Fed PacketFault) (new : State) → Feeds old piece r new → (k : ℕ) (p : Packet) → EndsPacket old piece k p → r ≡ Ok (record { used = k; packet = Some p })
-gives_packet old piece (Ok fed) new h k p e =
-    let g = gave_to old piece fed.used fed.packet new k p h e in
+pub gives_packet : (old piece : List ℕ) (r : Result Fed PacketFault) (new : State) → Feeds old piece r new → (k : ℕ) (p : Packet) → k ≤ length piece → Spells p (old ++ take k piece) → r ≡ Ok (record { used = k; packet = Some p })
+gives_packet old piece (Ok fed) new h k p within s =
+    let g = gave_to old piece fed.used fed.packet new k p h (record { within = within; spells = s }) in
     ap (λ (n : ℕ). let r : Result Fed PacketFault = Ok (record { used = n; packet = fed.packet }) in r) g.count ∙ ap (λ (o : Option Packet). let r : Result Fed PacketFault = Ok (record { used = k; packet = o }) in r) g.this
-gives_packet old piece (Err f) new h k p e =
+gives_packet old piece (Err f) new h k p within s =
     elim (cases_lt h.0.0 k) [
-      | inl less ↦ cc (stays old piece (h.0.0 + 1) k f (omega arith) h.0.1.shown, clear_from_spells p (old ++ take k piece) e.spells)
-      | inr more ↦ never_whole old piece k h.0.0 more (whole_from_spells p (old ++ take k piece) e.spells) h.0.1.before
+      | inl less ↦ cc (stays old piece (h.0.0 + 1) k f (omega arith) h.0.1.shown, clear_from_spells p (old ++ take k piece) s)
+      | inr more ↦ never_whole old piece k h.0.0 more (whole_from_spells p (old ++ take k piece) s) h.0.1.before
     ]
 
 fault_to : {A : Type 0} (old piece : List ℕ) (used : ℕ) (packet : Option Packet) (new : State) (k : ℕ) (f : PacketFault) → FeedsTo old piece used packet new → ShowsFault old piece k f → A
@@ -72,14 +72,14 @@ fault_to old piece used (Some q) new k f h s =
     ]
 
 -- where a byte of the piece shows a fault, that fault is answered
-pub gives_fault : (old piece : List ℕ) (r : Result Fed PacketFault) (new : State) → Feeds old piece r new → (k : ℕ) (f : PacketFault) → ShowsFault old piece k f → r ≡ Err f
-gives_fault old piece (Ok fed) new h k f s = fault_to old piece fed.used fed.packet new k f h s
-gives_fault old piece (Err g) new h k f s =
+pub gives_fault : (old piece : List ℕ) (r : Result Fed PacketFault) (new : State) → Feeds old piece r new → (k : ℕ) (f : PacketFault) → k < length piece → IsPending (old ++ take k piece) → fault_of (old ++ take (k + 1) piece) ≡ Some f → r ≡ Err f
+gives_fault old piece (Ok fed) new h k f within before shown = fault_to old piece fed.used fed.packet new k f h (record { within = within; before = before; shown = shown })
+gives_fault old piece (Err g) new h k f within before shown =
     elim (cases_lt k h.0.0) [
-      | inl less ↦ cc (stays old piece (k + 1) h.0.0 f (omega arith) s.shown, h.0.1.before.no_fault)
+      | inl less ↦ cc (stays old piece (k + 1) h.0.0 f (omega arith) shown, h.0.1.before.no_fault)
       | inr more ↦ elim (cases_lt h.0.0 k) [
-        | inl less ↦ cc (stays old piece (h.0.0 + 1) k g (omega arith) h.0.1.shown, s.before.no_fault)
-        | inr same ↦ let e : h.0.0 ≡ k = omega arith in cc (h.0.1.shown, s.shown, ap (λ (n : ℕ). fault_of (old ++ take (n + 1) piece)) e)
+        | inl less ↦ cc (stays old piece (h.0.0 + 1) k g (omega arith) h.0.1.shown, before.no_fault)
+        | inr same ↦ let e : h.0.0 ≡ k = omega arith in cc (h.0.1.shown, shown, ap (λ (n : ℕ). fault_of (old ++ take (n + 1) piece)) e)
       ]
     ]
 
@@ -97,9 +97,15 @@ gives_none old piece (Err f) new h n =
     cc (h.0.1.shown)
 
 -- where a fault is answered, no packet begins with what came
-pub gives_hopeless : (old piece : List ℕ) (r : Result Fed PacketFault) (new : State) → Feeds old piece r new → OnErr r (BeginsNone (old ++ piece))
-gives_hopeless old piece (Ok fed) new h = tt
-gives_hopeless old piece (Err f) new h =
+pub gives_no_packet : (old piece : List ℕ) (r : Result Fed PacketFault) (new : State) → Feeds old piece r new → OnErr r (BeginsNoPacket (old ++ piece))
+gives_no_packet old piece (Ok fed) new h = tt
+gives_no_packet old piece (Err f) new h =
     let shown : fault_of (old ++ take (length piece) piece) ≡ Some f = stays old piece (h.0.0 + 1) (length piece) f (omega (arith, h.0.1.within)) h.0.1.shown in
     let all : fault_of (old ++ piece) ≡ Some f = ap (λ t. fault_of (old ++ t)) (sym (take_all (length piece) piece (omega arith))) ∙ shown in
     record { none = λ p more s. cc (fault_stays (old ++ piece) more f all, clear_from_spells p ((old ++ piece) ++ more) s) }
+
+-- no packet's spelling begins with another's
+pub spelled_alone : (p q : Packet) (more : List ℕ) → Fits p → Fits q → spelling q ≡ spelling p ++ more → (q ≡ p) × (more ≡ [])
+spelled_alone p q more f g e =
+    let none : more ≡ [] = no_proper_front p q more f g e in
+    (same_packet q p g f (e ∙ ap (λ t. spelling p ++ t) none ∙ append-nil (spelling p)), none)

@@ -1,8 +1,8 @@
 -- One part more of a piece.
-use Rattle.std.proofs.Common.{◌≡◌, ◌≢◌, ℕ, zero, suc, ◌+◌, ◌-◌, ◌≤◌, ◌<◌, List, [], ◌∷◌, ◌++◌, length, take, drop, slice_range, Option, Some, None, IfNone, Ok, Err, Result, arith, refl, ap, sym, subst, ◌∙◌, append_assoc, append-nil, length-append, take-add, add-one}
+use Rattle.std.proofs.Common.{◌≡◌, ℕ, zero, suc, ◌+◌, ◌-◌, ◌≤◌, ◌<◌, List, [], ◌++◌, length, take, drop, Option, Some, None, IfNone, Ok, Err, arith, refl, ap, sym, subst, ◌∙◌, append_assoc, append-nil, length-append, take-add}
 use Rattle.std.proofs.lemmas.List.{take_all, length-take-le}
 use Rattle.fw_async.specs.Reading.{IsPending, fault_of, need}
-use Rattle.fw_async.specs.Reader.{State, HoldsPending, TakesPart, Feeds, FeedsTo, Spells, EndsPacket, ShowsFault}
+use Rattle.fw_async.specs.Reader.{State, HoldsPending, TakesPart, Feeds, FeedsTo, Spells, ShowsFault}
 use Rattle.fw_async.specs.declared.PacketFault.{PacketFault}
 use Rattle.fw_async.specs.declared.packet.Packet.{Packet}
 use Rattle.fw_async.proofs.NeedLaws.{need_grows, need_most, fault_stays}

@@ -1,5 +1,5 @@
 -- The quadlets of a packet whose fields were read from them.
-use Rattle.std.proofs.Common.{◌≡◌, ℕ, ◌+◌, ◌*◌, ◌/◌, ◌%◌, ◌^◌, ◌<◌, List, [], ◌∷◌, arith, ap, sym, ◌∙◌}
+use Rattle.std.proofs.Common.{◌≡◌, ℕ, ◌/◌, ◌%◌, ◌^◌, ◌<◌, List, [], ◌∷◌, arith, ap, sym, ◌∙◌}
 use Rattle.fw_words.specs.Quadlet.{field, quadlet_at}
 use Rattle.fw_words.specs.Layout.{packed}
 use Rattle.fw_async.specs.Async.{head_fields, size, AreBytes}

@@ -4,12 +4,12 @@ use Rattle.std.proofs.Math.Seq.{take-append_seam}
 use Rattle.std.specs.Int.{to_be_bytes, w32}
 use Rattle.fw_words.specs.Quadlet.{field, quadlet_at}
 use Rattle.fw_words.specs.Layout.{packed}
-use Rattle.fw_async.specs.Async.{HeadFits, Fits, spelling, head_fields, size, padding}
+use Rattle.fw_async.specs.Async.{HeadFits, Fits, spelling, head_fields, size, padding, padded}
 use Rattle.fw_async.specs.Reading.{tcode_of}
 use Rattle.fw_async.specs.declared.packet.Head.{Head}
 use Rattle.fw_async.specs.declared.packet.Packet.{Packet}
 use Rattle.fw_async.specs.declared.packet.Packet.TheVariants.{WriteQuadlet, WriteBlock, WriteReply, ReadQuadlet, ReadBlock, ReadQuadletReply, ReadBlockReply, CycleStart, Lock, LockReply}
-use Rattle.fw_async.proofs.SpelledLaws.{back, first_fits, spelled_tcode, size_of, size_len, size_low, lock_few, reply_few}
+use Rattle.fw_async.proofs.SpelledLaws.{back, first_fits, spelled_tcode, size_in, lock_few, reply_few}
 
 -- the head that stands in quadlets 0 and 1
 head_with : ℕ → ℕ → ℕ → ℕ → ℕ → Head
@@ -25,7 +25,20 @@ head_at a b = head_with (field a 0 15) (field a 16 21) (field a 22 23) (field a 
 abbrev offset_at : ℕ → ℕ → ℕ
 offset_at b c = field b 16 31 * 2 ^ 32 + c
 
-abbrev packet_by : ℕ → Head → ℕ → ℕ → ℕ → ℕ → ℕ → List ℕ → Packet
+abbrev rcode_at : List ℕ → ℕ
+rcode_at bytes = field (quadlet_at bytes 4) 16 19
+
+abbrev length_at : List ℕ → ℕ
+length_at bytes = field (quadlet_at bytes 12) 0 15
+
+abbrev function_at : List ℕ → ℕ
+function_at bytes = field (quadlet_at bytes 12) 16 31
+
+abbrev data_at : List ℕ → List ℕ
+data_at bytes = take (length_at bytes) (drop 16 bytes)
+
+-- the packet of a tcode with these fields
+packet_by : ℕ → Head → ℕ → ℕ → ℕ → ℕ → ℕ → List ℕ → Packet
 packet_by t h o r v len low bytes =
     if t == 0 then WriteQuadlet h o v
     else if t == 1 then WriteBlock h o bytes
@@ -40,7 +53,9 @@ packet_by t h o r v len low bytes =
 
 -- the packet that the bytes are, where they are one
 abbrev packet_at : List ℕ → Packet
-packet_at bytes = packet_by (tcode_of bytes) (head_at (quadlet_at bytes 0) (quadlet_at bytes 4)) (offset_at (quadlet_at bytes 4) (quadlet_at bytes 8)) (field (quadlet_at bytes 4) 16 19) (quadlet_at bytes 12) (field (quadlet_at bytes 12) 0 15) (field (quadlet_at bytes 12) 16 31) (take (field (quadlet_at bytes 12) 0 15) (drop 16 bytes))
+packet_at bytes =
+    packet_by (tcode_of bytes) (head_at (quadlet_at bytes 0) (quadlet_at bytes 4)) (offset_at (quadlet_at bytes 4) (quadlet_at bytes 8))
+    (rcode_at bytes) (quadlet_at bytes 12) (length_at bytes) (function_at bytes) (data_at bytes)
 
 head_back : (t : ℕ) (h : Head) (a b : ℕ) → t < 16 → HeadFits h → a ≡ packed (head_fields t h) 0 → field b 0 15 ≡ h.source → head_at a b ≡ h
 head_back t h a b small f e s =
@@ -73,103 +88,114 @@ offset_back offset high low e f = omega arith
 bytes_back : (n : ℕ) (bytes zeros : List ℕ) → n ≡ length bytes → take n (bytes ++ zeros) ≡ bytes
 bytes_back n bytes zeros e = rw e (take-append_seam bytes zeros)
 
+-- what the first three quadlets of a spelled request have
+record HasRequest (t : ℕ) (h : Head) (offset : ℕ) (bytes : List ℕ) : Type 0 where
+  pub kind : tcode_of bytes ≡ t
+  pub head : head_at (quadlet_at bytes 0) (quadlet_at bytes 4) ≡ h
+  pub place : offset_at (quadlet_at bytes 4) (quadlet_at bytes 8) ≡ offset
+
+request_of : (t : ℕ) (h : Head) (offset : ℕ) (rest : List ℕ) → t < 16 → HeadFits h → offset < 2 ^ 48
+    → HasRequest t h offset (to_be_bytes w32 (packed (head_fields t h) 0) ++ (to_be_bytes w32 (packed ((16, h.source) ∷ (16, offset / 2 ^ 32) ∷ []) 0) ++ (to_be_bytes w32 (offset % 2 ^ 32) ++ rest)))
+request_of t h offset rest small f o =
+    let third = to_be_bytes w32 (offset % 2 ^ 32) ++ rest in
+    let second = to_be_bytes w32 (packed ((16, h.source) ∷ (16, offset / 2 ^ 32) ∷ []) 0) ++ third in
+    let q = request_fields h.source offset third f.4 o in
+    record {
+      kind = spelled_tcode t h second small f;
+      head = head_back t h (quadlet_at (to_be_bytes w32 (packed (head_fields t h) 0) ++ second) 0) (quadlet_at second 0) small f (back (packed (head_fields t h) 0) second (first_fits t h small f)) q.0;
+      place = offset_back offset (field (quadlet_at second 0) 16 31) (quadlet_at third 0) q.1 (back (offset % 2 ^ 32) rest (omega arith));
+    }
+
+-- what those of a spelled response have
+record HasResponse (t : ℕ) (h : Head) (rcode : ℕ) (bytes : List ℕ) : Type 0 where
+  pub kind : tcode_of bytes ≡ t
+  pub head : head_at (quadlet_at bytes 0) (quadlet_at bytes 4) ≡ h
+  pub code : field (quadlet_at bytes 4) 16 19 ≡ rcode
+
+response_of : (t : ℕ) (h : Head) (rcode : ℕ) (rest : List ℕ) → t < 16 → HeadFits h → rcode < 2 ^ 4
+    → HasResponse t h rcode (to_be_bytes w32 (packed (head_fields t h) 0) ++ (to_be_bytes w32 (packed ((16, h.source) ∷ (4, rcode) ∷ (12, 0) ∷ []) 0) ++ rest))
+response_of t h rcode rest small f r =
+    let second = to_be_bytes w32 (packed ((16, h.source) ∷ (4, rcode) ∷ (12, 0) ∷ []) 0) ++ rest in
+    let q = response_fields h.source rcode rest f.4 r in
+    record {
+      kind = spelled_tcode t h second small f;
+      head = head_back t h (quadlet_at (to_be_bytes w32 (packed (head_fields t h) 0) ++ second) 0) (quadlet_at second 0) small f (back (packed (head_fields t h) 0) second (first_fits t h small f)) q.0;
+      code = q.1;
+    }
+
+-- what quadlet 3 and the data behind it have
+record HasData (len low : ℕ) (bytes more : List ℕ) : Type 0 where
+  pub count : field (quadlet_at more 0) 0 15 ≡ len
+  pub function : field (quadlet_at more 0) 16 31 ≡ low
+  pub same : len ≡ length bytes → take (field (quadlet_at more 0) 0 15) (drop 4 more) ≡ bytes
+
+data_of : (len low : ℕ) (bytes zeros : List ℕ) → len < 2 ^ 16 → low < 2 ^ 16 → HasData len low bytes (to_be_bytes w32 (size len low) ++ (bytes ++ zeros))
+data_of len low bytes zeros few small =
+    let s = size_in len low (bytes ++ zeros) few small in
+    record {
+      count = s.count;
+      function = s.function;
+      same = λ e. bytes_back (field (quadlet_at (to_be_bytes w32 (size len low) ++ (bytes ++ zeros)) 0) 0 15) bytes zeros (s.count ∙ e);
+    }
+
+-- the packet of bytes whose fields are these
+fields_of : (bytes : List ℕ) (t : ℕ) (h : Head) (o r v len low : ℕ) (d : List ℕ) → tcode_of bytes ≡ t → head_at (quadlet_at bytes 0) (quadlet_at bytes 4) ≡ h
+    → offset_at (quadlet_at bytes 4) (quadlet_at bytes 8) ≡ o → rcode_at bytes ≡ r → quadlet_at bytes 12 ≡ v → length_at bytes ≡ len → function_at bytes ≡ low → data_at bytes ≡ d
+    → packet_at bytes ≡ packet_by t h o r v len low d
+fields_of bytes t h o r v len low d a b c e f g i j = same _ t _ h _ o _ r _ v _ len _ low _ d a b c e f g i j
+  where
+    same : (t t2 : ℕ) (h h2 : Head) (o o2 r r2 v v2 len len2 low low2 : ℕ) (d d2 : List ℕ) → t ≡ t2 → h ≡ h2 → o ≡ o2 → r ≡ r2 → v ≡ v2 → len ≡ len2 → low ≡ low2 → d ≡ d2
+        → packet_by t h o r v len low d ≡ packet_by t2 h2 o2 r2 v2 len2 low2 d2
+    same t t2 h h2 o o2 r r2 v v2 len len2 low low2 d d2 a b c e f g i j = cc
+
 -- The bytes of a packet give it back.
 spelled_back : (p : Packet) → Fits p → packet_at (spelling p) ≡ p
+unfolding packet_by
 spelled_back (WriteQuadlet h o v) fits =
-    let t : tcode_of (spelling (WriteQuadlet h o v)) ≡ 0 = spelled_tcode 0 h (drop 4 (spelling (WriteQuadlet h o v))) (omega arith) fits.0 in
-    let first : quadlet_at (spelling (WriteQuadlet h o v)) 0 ≡ packed (head_fields 0 h) 0 = back (packed (head_fields 0 h) 0) (drop 4 (spelling (WriteQuadlet h o v))) (first_fits 0 h (omega arith) fits.0) in
-    let second = request_fields h.source o (drop 8 (spelling (WriteQuadlet h o v))) fits.0.4 fits.1 in
-    let offset : offset_at (quadlet_at (spelling (WriteQuadlet h o v)) 4) (quadlet_at (spelling (WriteQuadlet h o v)) 8) ≡ o = offset_back o (field (quadlet_at (spelling (WriteQuadlet h o v)) 4) 16 31) (quadlet_at (spelling (WriteQuadlet h o v)) 8) second.1 (back (o % 2 ^ 32) (drop 12 (spelling (WriteQuadlet h o v))) (omega arith)) in
-    let head : head_at (quadlet_at (spelling (WriteQuadlet h o v)) 0) (quadlet_at (spelling (WriteQuadlet h o v)) 4) ≡ h = head_back 0 h (quadlet_at (spelling (WriteQuadlet h o v)) 0) (quadlet_at (spelling (WriteQuadlet h o v)) 4) (omega arith) fits.0 first second.0 in
-    let value : quadlet_at (spelling (WriteQuadlet h o v)) 12 ≡ v = back v (drop 16 (spelling (WriteQuadlet h o v))) fits.2 in
-    ap (λ (k : ℕ). packet_by k (head_at (quadlet_at (spelling (WriteQuadlet h o v)) 0) (quadlet_at (spelling (WriteQuadlet h o v)) 4)) (offset_at (quadlet_at (spelling (WriteQuadlet h o v)) 4) (quadlet_at (spelling (WriteQuadlet h o v)) 8)) (field (quadlet_at (spelling (WriteQuadlet h o v)) 4) 16 19) (quadlet_at (spelling (WriteQuadlet h o v)) 12) (field (quadlet_at (spelling (WriteQuadlet h o v)) 12) 0 15) (field (quadlet_at (spelling (WriteQuadlet h o v)) 12) 16 31) (take (field (quadlet_at (spelling (WriteQuadlet h o v)) 12) 0 15) (drop 16 (spelling (WriteQuadlet h o v))))) t ∙ ap (λ (x : Head). WriteQuadlet x (offset_at (quadlet_at (spelling (WriteQuadlet h o v)) 4) (quadlet_at (spelling (WriteQuadlet h o v)) 8)) (quadlet_at (spelling (WriteQuadlet h o v)) 12)) head ∙ ap (λ (x : ℕ). WriteQuadlet h x (quadlet_at (spelling (WriteQuadlet h o v)) 12)) offset ∙ ap (λ (x : ℕ). WriteQuadlet h o x) value
+    let all = spelling (WriteQuadlet h o v) in
+    let s = request_of 0 h o (to_be_bytes w32 v ++ []) (omega arith) fits.0 fits.1 in
+    fields_of all 0 h o (rcode_at all) v (length_at all) (function_at all) (data_at all) s.kind s.head s.place refl (back v [] fits.2) refl refl refl
 spelled_back (WriteBlock h o bytes) fits =
-    let t : tcode_of (spelling (WriteBlock h o bytes)) ≡ 1 = spelled_tcode 1 h (drop 4 (spelling (WriteBlock h o bytes))) (omega arith) fits.0 in
-    let first : quadlet_at (spelling (WriteBlock h o bytes)) 0 ≡ packed (head_fields 1 h) 0 = back (packed (head_fields 1 h) 0) (drop 4 (spelling (WriteBlock h o bytes))) (first_fits 1 h (omega arith) fits.0) in
-    let second = request_fields h.source o (drop 8 (spelling (WriteBlock h o bytes))) fits.0.4 fits.1 in
-    let offset : offset_at (quadlet_at (spelling (WriteBlock h o bytes)) 4) (quadlet_at (spelling (WriteBlock h o bytes)) 8) ≡ o = offset_back o (field (quadlet_at (spelling (WriteBlock h o bytes)) 4) 16 31) (quadlet_at (spelling (WriteBlock h o bytes)) 8) second.1 (back (o % 2 ^ 32) (drop 12 (spelling (WriteBlock h o bytes))) (omega arith)) in
-    let head : head_at (quadlet_at (spelling (WriteBlock h o bytes)) 0) (quadlet_at (spelling (WriteBlock h o bytes)) 4) ≡ h = head_back 1 h (quadlet_at (spelling (WriteBlock h o bytes)) 0) (quadlet_at (spelling (WriteBlock h o bytes)) 4) (omega arith) fits.0 first second.0 in
-    let few : length bytes < 2 ^ 16 = omega (arith, fits.2) in
-    let small : 0 < 2 ^ 16 = omega arith in
-    let fourth : quadlet_at (spelling (WriteBlock h o bytes)) 12 ≡ size (length bytes) 0 = size_of (length bytes) 0 (drop 16 (spelling (WriteBlock h o bytes))) few small in
-    let count : field (quadlet_at (spelling (WriteBlock h o bytes)) 12) 0 15 ≡ length bytes = ap (λ q. field q 0 15) fourth ∙ size_len (length bytes) 0 few small in
-    let same : take (field (quadlet_at (spelling (WriteBlock h o bytes)) 12) 0 15) (drop 16 (spelling (WriteBlock h o bytes))) ≡ bytes = bytes_back (field (quadlet_at (spelling (WriteBlock h o bytes)) 12) 0 15) bytes (replicate (padding (length bytes)) 0) count in
-    ap (λ (k : ℕ). packet_by k (head_at (quadlet_at (spelling (WriteBlock h o bytes)) 0) (quadlet_at (spelling (WriteBlock h o bytes)) 4)) (offset_at (quadlet_at (spelling (WriteBlock h o bytes)) 4) (quadlet_at (spelling (WriteBlock h o bytes)) 8)) (field (quadlet_at (spelling (WriteBlock h o bytes)) 4) 16 19) (quadlet_at (spelling (WriteBlock h o bytes)) 12) (field (quadlet_at (spelling (WriteBlock h o bytes)) 12) 0 15) (field (quadlet_at (spelling (WriteBlock h o bytes)) 12) 16 31) (take (field (quadlet_at (spelling (WriteBlock h o bytes)) 12) 0 15) (drop 16 (spelling (WriteBlock h o bytes))))) t ∙ ap (λ (x : Head). WriteBlock x (offset_at (quadlet_at (spelling (WriteBlock h o bytes)) 4) (quadlet_at (spelling (WriteBlock h o bytes)) 8)) (take (field (quadlet_at (spelling (WriteBlock h o bytes)) 12) 0 15) (drop 16 (spelling (WriteBlock h o bytes))))) head ∙ ap (λ (x : ℕ). WriteBlock h x (take (field (quadlet_at (spelling (WriteBlock h o bytes)) 12) 0 15) (drop 16 (spelling (WriteBlock h o bytes))))) offset ∙ ap (λ (x : List ℕ). WriteBlock h o x) same
-spelled_back (WriteReply h rcode) fits =
-    let t : tcode_of (spelling (WriteReply h rcode)) ≡ 2 = spelled_tcode 2 h (drop 4 (spelling (WriteReply h rcode))) (omega arith) fits.0 in
-    let first : quadlet_at (spelling (WriteReply h rcode)) 0 ≡ packed (head_fields 2 h) 0 = back (packed (head_fields 2 h) 0) (drop 4 (spelling (WriteReply h rcode))) (first_fits 2 h (omega arith) fits.0) in
-    let second = response_fields h.source rcode (drop 8 (spelling (WriteReply h rcode))) fits.0.4 fits.1 in
-    let head : head_at (quadlet_at (spelling (WriteReply h rcode)) 0) (quadlet_at (spelling (WriteReply h rcode)) 4) ≡ h = head_back 2 h (quadlet_at (spelling (WriteReply h rcode)) 0) (quadlet_at (spelling (WriteReply h rcode)) 4) (omega arith) fits.0 first second.0 in
-    ap (λ (k : ℕ). packet_by k (head_at (quadlet_at (spelling (WriteReply h rcode)) 0) (quadlet_at (spelling (WriteReply h rcode)) 4)) (offset_at (quadlet_at (spelling (WriteReply h rcode)) 4) (quadlet_at (spelling (WriteReply h rcode)) 8)) (field (quadlet_at (spelling (WriteReply h rcode)) 4) 16 19) (quadlet_at (spelling (WriteReply h rcode)) 12) (field (quadlet_at (spelling (WriteReply h rcode)) 12) 0 15) (field (quadlet_at (spelling (WriteReply h rcode)) 12) 16 31) (take (field (quadlet_at (spelling (WriteReply h rcode)) 12) 0 15) (drop 16 (spelling (WriteReply h rcode))))) t ∙ ap (λ (x : Head). WriteReply x (field (quadlet_at (spelling (WriteReply h rcode)) 4) 16 19)) head ∙ ap (λ (x : ℕ). WriteReply h x) second.1
+    let all = spelling (WriteBlock h o bytes) in
+    let s = request_of 1 h o (to_be_bytes w32 (size (length bytes) 0) ++ padded bytes) (omega arith) fits.0 fits.1 in
+    let d = data_of (length bytes) 0 bytes (replicate (padding (length bytes)) 0) (omega (arith, fits.2)) (omega arith) in
+    fields_of all 1 h o (rcode_at all) (quadlet_at all 12) (length bytes) 0 bytes s.kind s.head s.place refl refl d.count d.function (d.same refl)
+spelled_back (WriteReply h r) fits =
+    let all = spelling (WriteReply h r) in
+    let s = response_of 2 h r (to_be_bytes w32 0 ++ []) (omega arith) fits.0 fits.1 in
+    fields_of all 2 h (offset_at (quadlet_at all 4) (quadlet_at all 8)) r (quadlet_at all 12) (length_at all) (function_at all) (data_at all) s.kind s.head refl s.code refl refl refl refl
 spelled_back (ReadQuadlet h o) fits =
-    let t : tcode_of (spelling (ReadQuadlet h o)) ≡ 4 = spelled_tcode 4 h (drop 4 (spelling (ReadQuadlet h o))) (omega arith) fits.0 in
-    let first : quadlet_at (spelling (ReadQuadlet h o)) 0 ≡ packed (head_fields 4 h) 0 = back (packed (head_fields 4 h) 0) (drop 4 (spelling (ReadQuadlet h o))) (first_fits 4 h (omega arith) fits.0) in
-    let second = request_fields h.source o (drop 8 (spelling (ReadQuadlet h o))) fits.0.4 fits.1 in
-    let offset : offset_at (quadlet_at (spelling (ReadQuadlet h o)) 4) (quadlet_at (spelling (ReadQuadlet h o)) 8) ≡ o = offset_back o (field (quadlet_at (spelling (ReadQuadlet h o)) 4) 16 31) (quadlet_at (spelling (ReadQuadlet h o)) 8) second.1 (back (o % 2 ^ 32) (drop 12 (spelling (ReadQuadlet h o))) (omega arith)) in
-    let head : head_at (quadlet_at (spelling (ReadQuadlet h o)) 0) (quadlet_at (spelling (ReadQuadlet h o)) 4) ≡ h = head_back 4 h (quadlet_at (spelling (ReadQuadlet h o)) 0) (quadlet_at (spelling (ReadQuadlet h o)) 4) (omega arith) fits.0 first second.0 in
-    ap (λ (k : ℕ). packet_by k (head_at (quadlet_at (spelling (ReadQuadlet h o)) 0) (quadlet_at (spelling (ReadQuadlet h o)) 4)) (offset_at (quadlet_at (spelling (ReadQuadlet h o)) 4) (quadlet_at (spelling (ReadQuadlet h o)) 8)) (field (quadlet_at (spelling (ReadQuadlet h o)) 4) 16 19) (quadlet_at (spelling (ReadQuadlet h o)) 12) (field (quadlet_at (spelling (ReadQuadlet h o)) 12) 0 15) (field (quadlet_at (spelling (ReadQuadlet h o)) 12) 16 31) (take (field (quadlet_at (spelling (ReadQuadlet h o)) 12) 0 15) (drop 16 (spelling (ReadQuadlet h o))))) t ∙ ap (λ (x : Head). ReadQuadlet x (offset_at (quadlet_at (spelling (ReadQuadlet h o)) 4) (quadlet_at (spelling (ReadQuadlet h o)) 8))) head ∙ ap (λ (x : ℕ). ReadQuadlet h x) offset
+    let all = spelling (ReadQuadlet h o) in
+    let s = request_of 4 h o [] (omega arith) fits.0 fits.1 in
+    fields_of all 4 h o (rcode_at all) (quadlet_at all 12) (length_at all) (function_at all) (data_at all) s.kind s.head s.place refl refl refl refl refl
 spelled_back (ReadBlock h o len) fits =
-    let t : tcode_of (spelling (ReadBlock h o len)) ≡ 5 = spelled_tcode 5 h (drop 4 (spelling (ReadBlock h o len))) (omega arith) fits.0 in
-    let first : quadlet_at (spelling (ReadBlock h o len)) 0 ≡ packed (head_fields 5 h) 0 = back (packed (head_fields 5 h) 0) (drop 4 (spelling (ReadBlock h o len))) (first_fits 5 h (omega arith) fits.0) in
-    let second = request_fields h.source o (drop 8 (spelling (ReadBlock h o len))) fits.0.4 fits.1 in
-    let offset : offset_at (quadlet_at (spelling (ReadBlock h o len)) 4) (quadlet_at (spelling (ReadBlock h o len)) 8) ≡ o = offset_back o (field (quadlet_at (spelling (ReadBlock h o len)) 4) 16 31) (quadlet_at (spelling (ReadBlock h o len)) 8) second.1 (back (o % 2 ^ 32) (drop 12 (spelling (ReadBlock h o len))) (omega arith)) in
-    let head : head_at (quadlet_at (spelling (ReadBlock h o len)) 0) (quadlet_at (spelling (ReadBlock h o len)) 4) ≡ h = head_back 5 h (quadlet_at (spelling (ReadBlock h o len)) 0) (quadlet_at (spelling (ReadBlock h o len)) 4) (omega arith) fits.0 first second.0 in
-    let few : len < 2 ^ 16 = omega (arith, fits.2) in
-    let small : 0 < 2 ^ 16 = omega arith in
-    let fourth : quadlet_at (spelling (ReadBlock h o len)) 12 ≡ size (len) 0 = size_of (len) 0 (drop 16 (spelling (ReadBlock h o len))) few small in
-    let count : field (quadlet_at (spelling (ReadBlock h o len)) 12) 0 15 ≡ len = ap (λ q. field q 0 15) fourth ∙ size_len (len) 0 few small in
-    ap (λ (k : ℕ). packet_by k (head_at (quadlet_at (spelling (ReadBlock h o len)) 0) (quadlet_at (spelling (ReadBlock h o len)) 4)) (offset_at (quadlet_at (spelling (ReadBlock h o len)) 4) (quadlet_at (spelling (ReadBlock h o len)) 8)) (field (quadlet_at (spelling (ReadBlock h o len)) 4) 16 19) (quadlet_at (spelling (ReadBlock h o len)) 12) (field (quadlet_at (spelling (ReadBlock h o len)) 12) 0 15) (field (quadlet_at (spelling (ReadBlock h o len)) 12) 16 31) (take (field (quadlet_at (spelling (ReadBlock h o len)) 12) 0 15) (drop 16 (spelling (ReadBlock h o len))))) t ∙ ap (λ (x : Head). ReadBlock x (offset_at (quadlet_at (spelling (ReadBlock h o len)) 4) (quadlet_at (spelling (ReadBlock h o len)) 8)) (field (quadlet_at (spelling (ReadBlock h o len)) 12) 0 15)) head ∙ ap (λ (x : ℕ). ReadBlock h x (field (quadlet_at (spelling (ReadBlock h o len)) 12) 0 15)) offset ∙ ap (λ (x : ℕ). ReadBlock h o x) count
-spelled_back (ReadQuadletReply h rcode v) fits =
-    let t : tcode_of (spelling (ReadQuadletReply h rcode v)) ≡ 6 = spelled_tcode 6 h (drop 4 (spelling (ReadQuadletReply h rcode v))) (omega arith) fits.0 in
-    let first : quadlet_at (spelling (ReadQuadletReply h rcode v)) 0 ≡ packed (head_fields 6 h) 0 = back (packed (head_fields 6 h) 0) (drop 4 (spelling (ReadQuadletReply h rcode v))) (first_fits 6 h (omega arith) fits.0) in
-    let second = response_fields h.source rcode (drop 8 (spelling (ReadQuadletReply h rcode v))) fits.0.4 fits.1 in
-    let head : head_at (quadlet_at (spelling (ReadQuadletReply h rcode v)) 0) (quadlet_at (spelling (ReadQuadletReply h rcode v)) 4) ≡ h = head_back 6 h (quadlet_at (spelling (ReadQuadletReply h rcode v)) 0) (quadlet_at (spelling (ReadQuadletReply h rcode v)) 4) (omega arith) fits.0 first second.0 in
-    let value : quadlet_at (spelling (ReadQuadletReply h rcode v)) 12 ≡ v = back v (drop 16 (spelling (ReadQuadletReply h rcode v))) fits.2 in
-    ap (λ (k : ℕ). packet_by k (head_at (quadlet_at (spelling (ReadQuadletReply h rcode v)) 0) (quadlet_at (spelling (ReadQuadletReply h rcode v)) 4)) (offset_at (quadlet_at (spelling (ReadQuadletReply h rcode v)) 4) (quadlet_at (spelling (ReadQuadletReply h rcode v)) 8)) (field (quadlet_at (spelling (ReadQuadletReply h rcode v)) 4) 16 19) (quadlet_at (spelling (ReadQuadletReply h rcode v)) 12) (field (quadlet_at (spelling (ReadQuadletReply h rcode v)) 12) 0 15) (field (quadlet_at (spelling (ReadQuadletReply h rcode v)) 12) 16 31) (take (field (quadlet_at (spelling (ReadQuadletReply h rcode v)) 12) 0 15) (drop 16 (spelling (ReadQuadletReply h rcode v))))) t ∙ ap (λ (x : Head). ReadQuadletReply x (field (quadlet_at (spelling (ReadQuadletReply h rcode v)) 4) 16 19) (quadlet_at (spelling (ReadQuadletReply h rcode v)) 12)) head ∙ ap (λ (x : ℕ). ReadQuadletReply h x (quadlet_at (spelling (ReadQuadletReply h rcode v)) 12)) second.1 ∙ ap (λ (x : ℕ). ReadQuadletReply h rcode x) value
-spelled_back (ReadBlockReply h rcode bytes) fits =
-    let t : tcode_of (spelling (ReadBlockReply h rcode bytes)) ≡ 7 = spelled_tcode 7 h (drop 4 (spelling (ReadBlockReply h rcode bytes))) (omega arith) fits.0 in
-    let first : quadlet_at (spelling (ReadBlockReply h rcode bytes)) 0 ≡ packed (head_fields 7 h) 0 = back (packed (head_fields 7 h) 0) (drop 4 (spelling (ReadBlockReply h rcode bytes))) (first_fits 7 h (omega arith) fits.0) in
-    let second = response_fields h.source rcode (drop 8 (spelling (ReadBlockReply h rcode bytes))) fits.0.4 fits.1 in
-    let head : head_at (quadlet_at (spelling (ReadBlockReply h rcode bytes)) 0) (quadlet_at (spelling (ReadBlockReply h rcode bytes)) 4) ≡ h = head_back 7 h (quadlet_at (spelling (ReadBlockReply h rcode bytes)) 0) (quadlet_at (spelling (ReadBlockReply h rcode bytes)) 4) (omega arith) fits.0 first second.0 in
-    let few : length bytes < 2 ^ 16 = omega (arith, fits.2) in
-    let small : 0 < 2 ^ 16 = omega arith in
-    let fourth : quadlet_at (spelling (ReadBlockReply h rcode bytes)) 12 ≡ size (length bytes) 0 = size_of (length bytes) 0 (drop 16 (spelling (ReadBlockReply h rcode bytes))) few small in
-    let count : field (quadlet_at (spelling (ReadBlockReply h rcode bytes)) 12) 0 15 ≡ length bytes = ap (λ q. field q 0 15) fourth ∙ size_len (length bytes) 0 few small in
-    let same : take (field (quadlet_at (spelling (ReadBlockReply h rcode bytes)) 12) 0 15) (drop 16 (spelling (ReadBlockReply h rcode bytes))) ≡ bytes = bytes_back (field (quadlet_at (spelling (ReadBlockReply h rcode bytes)) 12) 0 15) bytes (replicate (padding (length bytes)) 0) count in
-    ap (λ (k : ℕ). packet_by k (head_at (quadlet_at (spelling (ReadBlockReply h rcode bytes)) 0) (quadlet_at (spelling (ReadBlockReply h rcode bytes)) 4)) (offset_at (quadlet_at (spelling (ReadBlockReply h rcode bytes)) 4) (quadlet_at (spelling (ReadBlockReply h rcode bytes)) 8)) (field (quadlet_at (spelling (ReadBlockReply h rcode bytes)) 4) 16 19) (quadlet_at (spelling (ReadBlockReply h rcode bytes)) 12) (field (quadlet_at (spelling (ReadBlockReply h rcode bytes)) 12) 0 15) (field (quadlet_at (spelling (ReadBlockReply h rcode bytes)) 12) 16 31) (take (field (quadlet_at (spelling (ReadBlockReply h rcode bytes)) 12) 0 15) (drop 16 (spelling (ReadBlockReply h rcode bytes))))) t ∙ ap (λ (x : Head). ReadBlockReply x (field (quadlet_at (spelling (ReadBlockReply h rcode bytes)) 4) 16 19) (take (field (quadlet_at (spelling (ReadBlockReply h rcode bytes)) 12) 0 15) (drop 16 (spelling (ReadBlockReply h rcode bytes))))) head ∙ ap (λ (x : ℕ). ReadBlockReply h x (take (field (quadlet_at (spelling (ReadBlockReply h rcode bytes)) 12) 0 15) (drop 16 (spelling (ReadBlockReply h rcode bytes))))) second.1 ∙ ap (λ (x : List ℕ). ReadBlockReply h rcode x) same
-spelled_back (CycleStart h o time) fits =
-    let t : tcode_of (spelling (CycleStart h o time)) ≡ 8 = spelled_tcode 8 h (drop 4 (spelling (CycleStart h o time))) (omega arith) fits.0 in
-    let first : quadlet_at (spelling (CycleStart h o time)) 0 ≡ packed (head_fields 8 h) 0 = back (packed (head_fields 8 h) 0) (drop 4 (spelling (CycleStart h o time))) (first_fits 8 h (omega arith) fits.0) in
-    let second = request_fields h.source o (drop 8 (spelling (CycleStart h o time))) fits.0.4 fits.1 in
-    let offset : offset_at (quadlet_at (spelling (CycleStart h o time)) 4) (quadlet_at (spelling (CycleStart h o time)) 8) ≡ o = offset_back o (field (quadlet_at (spelling (CycleStart h o time)) 4) 16 31) (quadlet_at (spelling (CycleStart h o time)) 8) second.1 (back (o % 2 ^ 32) (drop 12 (spelling (CycleStart h o time))) (omega arith)) in
-    let head : head_at (quadlet_at (spelling (CycleStart h o time)) 0) (quadlet_at (spelling (CycleStart h o time)) 4) ≡ h = head_back 8 h (quadlet_at (spelling (CycleStart h o time)) 0) (quadlet_at (spelling (CycleStart h o time)) 4) (omega arith) fits.0 first second.0 in
-    let value : quadlet_at (spelling (CycleStart h o time)) 12 ≡ time = back time (drop 16 (spelling (CycleStart h o time))) fits.2 in
-    ap (λ (k : ℕ). packet_by k (head_at (quadlet_at (spelling (CycleStart h o time)) 0) (quadlet_at (spelling (CycleStart h o time)) 4)) (offset_at (quadlet_at (spelling (CycleStart h o time)) 4) (quadlet_at (spelling (CycleStart h o time)) 8)) (field (quadlet_at (spelling (CycleStart h o time)) 4) 16 19) (quadlet_at (spelling (CycleStart h o time)) 12) (field (quadlet_at (spelling (CycleStart h o time)) 12) 0 15) (field (quadlet_at (spelling (CycleStart h o time)) 12) 16 31) (take (field (quadlet_at (spelling (CycleStart h o time)) 12) 0 15) (drop 16 (spelling (CycleStart h o time))))) t ∙ ap (λ (x : Head). CycleStart x (offset_at (quadlet_at (spelling (CycleStart h o time)) 4) (quadlet_at (spelling (CycleStart h o time)) 8)) (quadlet_at (spelling (CycleStart h o time)) 12)) head ∙ ap (λ (x : ℕ). CycleStart h x (quadlet_at (spelling (CycleStart h o time)) 12)) offset ∙ ap (λ (x : ℕ). CycleStart h o x) value
+    let all = spelling (ReadBlock h o len) in
+    let s = request_of 5 h o (to_be_bytes w32 (size len 0) ++ []) (omega arith) fits.0 fits.1 in
+    let d = data_of len 0 [] [] (omega (arith, fits.2)) (omega arith) in
+    fields_of all 5 h o (rcode_at all) (quadlet_at all 12) len 0 (data_at all) s.kind s.head s.place refl refl d.count d.function refl
+spelled_back (ReadQuadletReply h r v) fits =
+    let all = spelling (ReadQuadletReply h r v) in
+    let s = response_of 6 h r (to_be_bytes w32 0 ++ (to_be_bytes w32 v ++ [])) (omega arith) fits.0 fits.1 in
+    fields_of all 6 h (offset_at (quadlet_at all 4) (quadlet_at all 8)) r v (length_at all) (function_at all) (data_at all) s.kind s.head refl s.code (back v [] fits.2) refl refl refl
+spelled_back (ReadBlockReply h r bytes) fits =
+    let all = spelling (ReadBlockReply h r bytes) in
+    let s = response_of 7 h r (to_be_bytes w32 0 ++ (to_be_bytes w32 (size (length bytes) 0) ++ padded bytes)) (omega arith) fits.0 fits.1 in
+    let d = data_of (length bytes) 0 bytes (replicate (padding (length bytes)) 0) (omega (arith, fits.2)) (omega arith) in
+    fields_of all 7 h (offset_at (quadlet_at all 4) (quadlet_at all 8)) r (quadlet_at all 12) (length bytes) 0 bytes s.kind s.head refl s.code refl d.count d.function (d.same refl)
+spelled_back (CycleStart h o v) fits =
+    let all = spelling (CycleStart h o v) in
+    let s = request_of 8 h o (to_be_bytes w32 v ++ []) (omega arith) fits.0 fits.1 in
+    fields_of all 8 h o (rcode_at all) v (length_at all) (function_at all) (data_at all) s.kind s.head s.place refl (back v [] fits.2) refl refl refl
 spelled_back (Lock h o f bytes) fits =
-    let t : tcode_of (spelling (Lock h o f bytes)) ≡ 9 = spelled_tcode 9 h (drop 4 (spelling (Lock h o f bytes))) (omega arith) fits.0 in
-    let first : quadlet_at (spelling (Lock h o f bytes)) 0 ≡ packed (head_fields 9 h) 0 = back (packed (head_fields 9 h) 0) (drop 4 (spelling (Lock h o f bytes))) (first_fits 9 h (omega arith) fits.0) in
-    let second = request_fields h.source o (drop 8 (spelling (Lock h o f bytes))) fits.0.4 fits.1 in
-    let offset : offset_at (quadlet_at (spelling (Lock h o f bytes)) 4) (quadlet_at (spelling (Lock h o f bytes)) 8) ≡ o = offset_back o (field (quadlet_at (spelling (Lock h o f bytes)) 4) 16 31) (quadlet_at (spelling (Lock h o f bytes)) 8) second.1 (back (o % 2 ^ 32) (drop 12 (spelling (Lock h o f bytes))) (omega arith)) in
-    let head : head_at (quadlet_at (spelling (Lock h o f bytes)) 0) (quadlet_at (spelling (Lock h o f bytes)) 4) ≡ h = head_back 9 h (quadlet_at (spelling (Lock h o f bytes)) 0) (quadlet_at (spelling (Lock h o f bytes)) 4) (omega arith) fits.0 first second.0 in
-    let few : length bytes < 2 ^ 16 = lock_few f (length bytes) fits.4 in
-    let small : f < 2 ^ 16 = omega arith in
-    let fourth : quadlet_at (spelling (Lock h o f bytes)) 12 ≡ size (length bytes) f = size_of (length bytes) f (drop 16 (spelling (Lock h o f bytes))) few small in
-    let count : field (quadlet_at (spelling (Lock h o f bytes)) 12) 0 15 ≡ length bytes = ap (λ q. field q 0 15) fourth ∙ size_len (length bytes) f few small in
-    let function : field (quadlet_at (spelling (Lock h o f bytes)) 12) 16 31 ≡ f = ap (λ q. field q 16 31) fourth ∙ size_low (length bytes) f few small in
-    let same : take (field (quadlet_at (spelling (Lock h o f bytes)) 12) 0 15) (drop 16 (spelling (Lock h o f bytes))) ≡ bytes = bytes_back (field (quadlet_at (spelling (Lock h o f bytes)) 12) 0 15) bytes (replicate (padding (length bytes)) 0) count in
-    ap (λ (k : ℕ). packet_by k (head_at (quadlet_at (spelling (Lock h o f bytes)) 0) (quadlet_at (spelling (Lock h o f bytes)) 4)) (offset_at (quadlet_at (spelling (Lock h o f bytes)) 4) (quadlet_at (spelling (Lock h o f bytes)) 8)) (field (quadlet_at (spelling (Lock h o f bytes)) 4) 16 19) (quadlet_at (spelling (Lock h o f bytes)) 12) (field (quadlet_at (spelling (Lock h o f bytes)) 12) 0 15) (field (quadlet_at (spelling (Lock h o f bytes)) 12) 16 31) (take (field (quadlet_at (spelling (Lock h o f bytes)) 12) 0 15) (drop 16 (spelling (Lock h o f bytes))))) t ∙ ap (λ (x : Head). Lock x (offset_at (quadlet_at (spelling (Lock h o f bytes)) 4) (quadlet_at (spelling (Lock h o f bytes)) 8)) (field (quadlet_at (spelling (Lock h o f bytes)) 12) 16 31) (take (field (quadlet_at (spelling (Lock h o f bytes)) 12) 0 15) (drop 16 (spelling (Lock h o f bytes))))) head ∙ ap (λ (x : ℕ). Lock h x (field (quadlet_at (spelling (Lock h o f bytes)) 12) 16 31) (take (field (quadlet_at (spelling (Lock h o f bytes)) 12) 0 15) (drop 16 (spelling (Lock h o f bytes))))) offset ∙ ap (λ (x : ℕ). Lock h o x (take (field (quadlet_at (spelling (Lock h o f bytes)) 12) 0 15) (drop 16 (spelling (Lock h o f bytes))))) function ∙ ap (λ (x : List ℕ). Lock h o f x) same
-spelled_back (LockReply h rcode f bytes) fits =
-    let t : tcode_of (spelling (LockReply h rcode f bytes)) ≡ 11 = spelled_tcode 11 h (drop 4 (spelling (LockReply h rcode f bytes))) (omega arith) fits.0 in
-    let first : quadlet_at (spelling (LockReply h rcode f bytes)) 0 ≡ packed (head_fields 11 h) 0 = back (packed (head_fields 11 h) 0) (drop 4 (spelling (LockReply h rcode f bytes))) (first_fits 11 h (omega arith) fits.0) in
-    let second = response_fields h.source rcode (drop 8 (spelling (LockReply h rcode f bytes))) fits.0.4 fits.1 in
-    let head : head_at (quadlet_at (spelling (LockReply h rcode f bytes)) 0) (quadlet_at (spelling (LockReply h rcode f bytes)) 4) ≡ h = head_back 11 h (quadlet_at (spelling (LockReply h rcode f bytes)) 0) (quadlet_at (spelling (LockReply h rcode f bytes)) 4) (omega arith) fits.0 first second.0 in
-    let few : length bytes < 2 ^ 16 = reply_few (length bytes) fits.4 in
-    let small : f < 2 ^ 16 = omega arith in
-    let fourth : quadlet_at (spelling (LockReply h rcode f bytes)) 12 ≡ size (length bytes) f = size_of (length bytes) f (drop 16 (spelling (LockReply h rcode f bytes))) few small in
-    let count : field (quadlet_at (spelling (LockReply h rcode f bytes)) 12) 0 15 ≡ length bytes = ap (λ q. field q 0 15) fourth ∙ size_len (length bytes) f few small in
-    let function : field (quadlet_at (spelling (LockReply h rcode f bytes)) 12) 16 31 ≡ f = ap (λ q. field q 16 31) fourth ∙ size_low (length bytes) f few small in
-    let same : take (field (quadlet_at (spelling (LockReply h rcode f bytes)) 12) 0 15) (drop 16 (spelling (LockReply h rcode f bytes))) ≡ bytes = bytes_back (field (quadlet_at (spelling (LockReply h rcode f bytes)) 12) 0 15) bytes (replicate (padding (length bytes)) 0) count in
-    ap (λ (k : ℕ). packet_by k (head_at (quadlet_at (spelling (LockReply h rcode f bytes)) 0) (quadlet_at (spelling (LockReply h rcode f bytes)) 4)) (offset_at (quadlet_at (spelling (LockReply h rcode f bytes)) 4) (quadlet_at (spelling (LockReply h rcode f bytes)) 8)) (field (quadlet_at (spelling (LockReply h rcode f bytes)) 4) 16 19) (quadlet_at (spelling (LockReply h rcode f bytes)) 12) (field (quadlet_at (spelling (LockReply h rcode f bytes)) 12) 0 15) (field (quadlet_at (spelling (LockReply h rcode f bytes)) 12) 16 31) (take (field (quadlet_at (spelling (LockReply h rcode f bytes)) 12) 0 15) (drop 16 (spelling (LockReply h rcode f bytes))))) t ∙ ap (λ (x : Head). LockReply x (field (quadlet_at (spelling (LockReply h rcode f bytes)) 4) 16 19) (field (quadlet_at (spelling (LockReply h rcode f bytes)) 12) 16 31) (take (field (quadlet_at (spelling (LockReply h rcode f bytes)) 12) 0 15) (drop 16 (spelling (LockReply h rcode f bytes))))) head ∙ ap (λ (x : ℕ). LockReply h x (field (quadlet_at (spelling (LockReply h rcode f bytes)) 12) 16 31) (take (field (quadlet_at (spelling (LockReply h rcode f bytes)) 12) 0 15) (drop 16 (spelling (LockReply h rcode f bytes))))) second.1 ∙ ap (λ (x : ℕ). LockReply h rcode x (take (field (quadlet_at (spelling (LockReply h rcode f bytes)) 12) 0 15) (drop 16 (spelling (LockReply h rcode f bytes))))) function ∙ ap (λ (x : List ℕ). LockReply h rcode f x) same
+    let all = spelling (Lock h o f bytes) in
+    let s = request_of 9 h o (to_be_bytes w32 (size (length bytes) f) ++ padded bytes) (omega arith) fits.0 fits.1 in
+    let d = data_of (length bytes) f bytes (replicate (padding (length bytes)) 0) (lock_few f (length bytes) fits.4) (omega (arith, fits.3)) in
+    fields_of all 9 h o (rcode_at all) (quadlet_at all 12) (length bytes) f bytes s.kind s.head s.place refl refl d.count d.function (d.same refl)
+spelled_back (LockReply h r f bytes) fits =
+    let all = spelling (LockReply h r f bytes) in
+    let s = response_of 11 h r (to_be_bytes w32 0 ++ (to_be_bytes w32 (size (length bytes) f) ++ padded bytes)) (omega arith) fits.0 fits.1 in
+    let d = data_of (length bytes) f bytes (replicate (padding (length bytes)) 0) (reply_few (length bytes) fits.4) (omega (arith, fits.3)) in
+    fields_of all 11 h (offset_at (quadlet_at all 4) (quadlet_at all 8)) r (quadlet_at all 12) (length bytes) f bytes s.kind s.head refl s.code refl d.count d.function (d.same refl)
 
 pub same_packet : (p q : Packet) → Fits p → Fits q → spelling p ≡ spelling q → p ≡ q
 same_packet p q f g e = sym (spelled_back p f) ∙ ap packet_at e ∙ spelled_back q g

@@ -80,6 +80,16 @@ size_len len low l s = omega arith
 pub size_low : (len low : ℕ) → len < 2 ^ 16 → low < 2 ^ 16 → field (size len low) 16 31 ≡ low
 size_low len low l s = omega arith
 
+-- what a spelled quadlet 3 has
+pub record HasSize (len low : ℕ) (rest : List ℕ) : Type 0 where
+  pub count : field (quadlet_at (to_be_bytes w32 (size len low) ++ rest) 0) 0 15 ≡ len
+  pub function : field (quadlet_at (to_be_bytes w32 (size len low) ++ rest) 0) 16 31 ≡ low
+
+pub size_in : (len low : ℕ) (rest : List ℕ) → len < 2 ^ 16 → low < 2 ^ 16 → HasSize len low rest
+size_in len low rest few small =
+    let q = size_of len low rest few small in
+    record { count = ap (λ q. field q 0 15) q ∙ size_len len low few small; function = ap (λ q. field q 16 31) q ∙ size_low len low few small }
+
 block_size : (t q len : ℕ) → IsTrue (is_block t) → field q 16 31 ≡ 0 → field q 0 15 ≡ len → len ≤ 512 → fault_in_quadlet_3 t q ≡ None
 unfolding fault_in_quadlet_3
 block_size t q len b low l few = rw (low, l) (block (is_block t) len _ b few)
@@ -132,50 +142,45 @@ reply_few len h = grind (arith, nat_tests)
 pub spelled_none : (p : Packet) → Fits p → fault_of (spelling p) ≡ None
 unfolding fault_in_quadlet_0 fault_in_quadlet_1 fault_in_quadlet_2 fault_in_quadlet_3
 spelled_none (WriteQuadlet h o v) fits =
-    clear (spelling (WriteQuadlet h o v)) 0 (spelled_tcode 0 h (drop 4 (spelling (WriteQuadlet h o v))) (omega arith) fits.0) refl refl refl refl (λ b. cc)
+    let all = spelling (WriteQuadlet h o v) in
+    clear all 0 (spelled_tcode 0 h (drop 4 all) (omega arith) fits.0) refl refl refl refl (λ b. cc)
 spelled_none (WriteBlock h o bytes) fits =
-    let few : length bytes < 2 ^ 16 = omega (arith, fits.2) in
-    let small : 0 < 2 ^ 16 = omega arith in
-    let q = size_of (length bytes) (0) (drop 16 (spelling (WriteBlock h o bytes))) few small in
-    let low : field (quadlet_at (spelling (WriteBlock h o bytes)) 12) 16 31 ≡ 0 = ap (λ q. field q 16 31) q ∙ size_low (length bytes) (0) few small in
-    let len : field (quadlet_at (spelling (WriteBlock h o bytes)) 12) 0 15 ≡ length bytes = ap (λ q. field q 0 15) q ∙ size_len (length bytes) (0) few small in
-    clear (spelling (WriteBlock h o bytes)) 1 (spelled_tcode 1 h (drop 4 (spelling (WriteBlock h o bytes))) (omega arith) fits.0) refl refl refl (block_size 1 (quadlet_at (spelling (WriteBlock h o bytes)) 12) (length bytes) refl low len fits.2) (λ b. data_clear _ _ _ 0 bytes few small)
-spelled_none (WriteReply h rcode) fits =
-    clear (spelling (WriteReply h rcode)) 2 (spelled_tcode 2 h (drop 4 (spelling (WriteReply h rcode))) (omega arith) fits.0) refl (response_second 2 h.source rcode (drop 8 (spelling (WriteReply h rcode))) fits.0.4 fits.1) (response_third 2 (drop 12 (spelling (WriteReply h rcode)))) refl (λ b. cc)
+    let all = spelling (WriteBlock h o bytes) in
+    let s = size_in (length bytes) 0 (padded bytes) (omega (arith, fits.2)) (omega arith) in
+    clear all 1 (spelled_tcode 1 h (drop 4 all) (omega arith) fits.0) refl refl refl
+    (block_size 1 (quadlet_at all 12) (length bytes) refl s.function s.count fits.2) (λ b. data_clear _ _ _ 0 bytes (omega (arith, fits.2)) (omega arith))
+spelled_none (WriteReply h r) fits =
+    let all = spelling (WriteReply h r) in
+    clear all 2 (spelled_tcode 2 h (drop 4 all) (omega arith) fits.0) refl (response_second 2 h.source r (drop 8 all) fits.0.4 fits.1) (response_third 2 (drop 12 all)) refl (λ b. cc)
 spelled_none (ReadQuadlet h o) fits =
-    clear (spelling (ReadQuadlet h o)) 4 (spelled_tcode 4 h (drop 4 (spelling (ReadQuadlet h o))) (omega arith) fits.0) refl refl refl refl (λ b. cc)
+    let all = spelling (ReadQuadlet h o) in
+    clear all 4 (spelled_tcode 4 h (drop 4 all) (omega arith) fits.0) refl refl refl refl (λ b. cc)
 spelled_none (ReadBlock h o len) fits =
-    let few : len < 2 ^ 16 = omega (arith, fits.2) in
-    let small : 0 < 2 ^ 16 = omega arith in
-    let q = size_of (len) (0) (drop 16 (spelling (ReadBlock h o len))) few small in
-    let low : field (quadlet_at (spelling (ReadBlock h o len)) 12) 16 31 ≡ 0 = ap (λ q. field q 16 31) q ∙ size_low (len) (0) few small in
-    let same : field (quadlet_at (spelling (ReadBlock h o len)) 12) 0 15 ≡ len = ap (λ q. field q 0 15) q ∙ size_len (len) (0) few small in
-    clear (spelling (ReadBlock h o len)) 5 (spelled_tcode 5 h (drop 4 (spelling (ReadBlock h o len))) (omega arith) fits.0) refl refl refl (block_size 5 (quadlet_at (spelling (ReadBlock h o len)) 12) (len) refl low same fits.2) (λ b. cc)
-spelled_none (ReadQuadletReply h rcode v) fits =
-    clear (spelling (ReadQuadletReply h rcode v)) 6 (spelled_tcode 6 h (drop 4 (spelling (ReadQuadletReply h rcode v))) (omega arith) fits.0) refl (response_second 6 h.source rcode (drop 8 (spelling (ReadQuadletReply h rcode v))) fits.0.4 fits.1) (response_third 6 (drop 12 (spelling (ReadQuadletReply h rcode v)))) refl (λ b. cc)
-spelled_none (ReadBlockReply h rcode bytes) fits =
-    let few : length bytes < 2 ^ 16 = omega (arith, fits.2) in
-    let small : 0 < 2 ^ 16 = omega arith in
-    let q = size_of (length bytes) (0) (drop 16 (spelling (ReadBlockReply h rcode bytes))) few small in
-    let low : field (quadlet_at (spelling (ReadBlockReply h rcode bytes)) 12) 16 31 ≡ 0 = ap (λ q. field q 16 31) q ∙ size_low (length bytes) (0) few small in
-    let len : field (quadlet_at (spelling (ReadBlockReply h rcode bytes)) 12) 0 15 ≡ length bytes = ap (λ q. field q 0 15) q ∙ size_len (length bytes) (0) few small in
-    clear (spelling (ReadBlockReply h rcode bytes)) 7 (spelled_tcode 7 h (drop 4 (spelling (ReadBlockReply h rcode bytes))) (omega arith) fits.0) refl (response_second 7 h.source rcode (drop 8 (spelling (ReadBlockReply h rcode bytes))) fits.0.4 fits.1) (response_third 7 (drop 12 (spelling (ReadBlockReply h rcode bytes)))) (block_size 7 (quadlet_at (spelling (ReadBlockReply h rcode bytes)) 12) (length bytes) refl low len fits.2) (λ b. data_clear _ _ 0 0 bytes few small)
+    let all = spelling (ReadBlock h o len) in
+    let s = size_in len 0 [] (omega (arith, fits.2)) (omega arith) in
+    clear all 5 (spelled_tcode 5 h (drop 4 all) (omega arith) fits.0) refl refl refl
+    (block_size 5 (quadlet_at all 12) len refl s.function s.count fits.2) (λ b. cc)
+spelled_none (ReadQuadletReply h r v) fits =
+    let all = spelling (ReadQuadletReply h r v) in
+    clear all 6 (spelled_tcode 6 h (drop 4 all) (omega arith) fits.0) refl (response_second 6 h.source r (drop 8 all) fits.0.4 fits.1) (response_third 6 (drop 12 all)) refl (λ b. cc)
+spelled_none (ReadBlockReply h r bytes) fits =
+    let all = spelling (ReadBlockReply h r bytes) in
+    let s = size_in (length bytes) 0 (padded bytes) (omega (arith, fits.2)) (omega arith) in
+    clear all 7 (spelled_tcode 7 h (drop 4 all) (omega arith) fits.0) refl (response_second 7 h.source r (drop 8 all) fits.0.4 fits.1) (response_third 7 (drop 12 all))
+    (block_size 7 (quadlet_at all 12) (length bytes) refl s.function s.count fits.2) (λ b. data_clear _ _ 0 0 bytes (omega (arith, fits.2)) (omega arith))
 spelled_none (CycleStart h o time) fits =
-    clear (spelling (CycleStart h o time)) 8 (spelled_tcode 8 h (drop 4 (spelling (CycleStart h o time))) (omega arith) fits.0) refl refl refl refl (λ b. cc)
+    let all = spelling (CycleStart h o time) in
+    clear all 8 (spelled_tcode 8 h (drop 4 all) (omega arith) fits.0) refl refl refl refl (λ b. cc)
 spelled_none (Lock h o f bytes) fits =
-    let few : length bytes < 2 ^ 16 = lock_few f (length bytes) fits.4 in
-    let small : f < 2 ^ 16 = omega arith in
-    let q = size_of (length bytes) (f) (drop 16 (spelling (Lock h o f bytes))) few small in
-    let low : field (quadlet_at (spelling (Lock h o f bytes)) 12) 16 31 ≡ f = ap (λ q. field q 16 31) q ∙ size_low (length bytes) (f) few small in
-    let len : field (quadlet_at (spelling (Lock h o f bytes)) 12) 0 15 ≡ length bytes = ap (λ q. field q 0 15) q ∙ size_len (length bytes) (f) few small in
-    clear (spelling (Lock h o f bytes)) 9 (spelled_tcode 9 h (drop 4 (spelling (Lock h o f bytes))) (omega arith) fits.0) refl refl refl (lock_size 9 (quadlet_at (spelling (Lock h o f bytes)) 12) (length bytes) f refl low len fits.2 fits.3 fits.4) (λ b. data_clear _ _ _ f bytes few small)
-spelled_none (LockReply h rcode f bytes) fits =
-    let few : length bytes < 2 ^ 16 = reply_few (length bytes) fits.4 in
-    let small : f < 2 ^ 16 = omega arith in
-    let q = size_of (length bytes) (f) (drop 16 (spelling (LockReply h rcode f bytes))) few small in
-    let low : field (quadlet_at (spelling (LockReply h rcode f bytes)) 12) 16 31 ≡ f = ap (λ q. field q 16 31) q ∙ size_low (length bytes) (f) few small in
-    let len : field (quadlet_at (spelling (LockReply h rcode f bytes)) 12) 0 15 ≡ length bytes = ap (λ q. field q 0 15) q ∙ size_len (length bytes) (f) few small in
-    clear (spelling (LockReply h rcode f bytes)) 11 (spelled_tcode 11 h (drop 4 (spelling (LockReply h rcode f bytes))) (omega arith) fits.0) refl (response_second 11 h.source rcode (drop 8 (spelling (LockReply h rcode f bytes))) fits.0.4 fits.1) (response_third 11 (drop 12 (spelling (LockReply h rcode f bytes)))) (lock_size 11 (quadlet_at (spelling (LockReply h rcode f bytes)) 12) (length bytes) f refl low len fits.2 fits.3 fits.4) (λ b. data_clear _ _ 0 f bytes few small)
+    let all = spelling (Lock h o f bytes) in
+    let s = size_in (length bytes) f (padded bytes) (lock_few f (length bytes) fits.4) (omega (arith, fits.3)) in
+    clear all 9 (spelled_tcode 9 h (drop 4 all) (omega arith) fits.0) refl refl refl
+    (lock_size 9 (quadlet_at all 12) (length bytes) f refl s.function s.count fits.2 fits.3 fits.4) (λ b. data_clear _ _ _ f bytes (lock_few f (length bytes) fits.4) (omega (arith, fits.3)))
+spelled_none (LockReply h r f bytes) fits =
+    let all = spelling (LockReply h r f bytes) in
+    let s = size_in (length bytes) f (padded bytes) (reply_few (length bytes) fits.4) (omega (arith, fits.3)) in
+    clear all 11 (spelled_tcode 11 h (drop 4 all) (omega arith) fits.0) refl (response_second 11 h.source r (drop 8 all) fits.0.4 fits.1) (response_third 11 (drop 12 all))
+    (lock_size 11 (quadlet_at all 12) (length bytes) f refl s.function s.count fits.2 fits.3 fits.4) (λ b. data_clear _ _ 0 f bytes (reply_few (length bytes) fits.4) (omega (arith, fits.3)))
 
 -- A spelling is as long as it needs.
 need_at : (bytes : List ℕ) (t : ℕ) → tcode_of bytes ≡ t → need bytes ≡ need_of (length bytes) (has_quadlet_3 t) (has_data t) (field (quadlet_at bytes 12) 0 15)
@@ -193,16 +198,40 @@ need_data a b c low bytes few small =
     rw len (data_need (length (with_data a b c (size (length bytes) low) bytes)) (length bytes) (data_length a b c (size (length bytes) low) bytes))
 
 pub spelled_need : (p : Packet) → Fits p → need (spelling p) ≡ length (spelling p)
-spelled_need (WriteQuadlet h o v) fits = need_at (spelling (WriteQuadlet h o v)) 0 (spelled_tcode 0 h (drop 4 (spelling (WriteQuadlet h o v))) (omega arith) fits.0) ∙ refl
-spelled_need (WriteBlock h o bytes) fits = need_at (spelling (WriteBlock h o bytes)) 1 (spelled_tcode 1 h (drop 4 (spelling (WriteBlock h o bytes))) (omega arith) fits.0) ∙ need_data (packed (head_fields 1 h) 0) (packed ((16, h.source) ∷ (16, o / 2 ^ 32) ∷ []) 0) (o % 2 ^ 32) 0 bytes (omega (arith, fits.2)) (omega arith)
-spelled_need (WriteReply h rcode) fits = need_at (spelling (WriteReply h rcode)) 2 (spelled_tcode 2 h (drop 4 (spelling (WriteReply h rcode))) (omega arith) fits.0) ∙ refl
-spelled_need (ReadQuadlet h o) fits = need_at (spelling (ReadQuadlet h o)) 4 (spelled_tcode 4 h (drop 4 (spelling (ReadQuadlet h o))) (omega arith) fits.0) ∙ refl
-spelled_need (ReadBlock h o len) fits = need_at (spelling (ReadBlock h o len)) 5 (spelled_tcode 5 h (drop 4 (spelling (ReadBlock h o len))) (omega arith) fits.0) ∙ refl
-spelled_need (ReadQuadletReply h rcode v) fits = need_at (spelling (ReadQuadletReply h rcode v)) 6 (spelled_tcode 6 h (drop 4 (spelling (ReadQuadletReply h rcode v))) (omega arith) fits.0) ∙ refl
-spelled_need (ReadBlockReply h rcode bytes) fits = need_at (spelling (ReadBlockReply h rcode bytes)) 7 (spelled_tcode 7 h (drop 4 (spelling (ReadBlockReply h rcode bytes))) (omega arith) fits.0) ∙ need_data (packed (head_fields 7 h) 0) (packed ((16, h.source) ∷ (4, rcode) ∷ (12, 0) ∷ []) 0) 0 0 bytes (omega (arith, fits.2)) (omega arith)
-spelled_need (CycleStart h o time) fits = need_at (spelling (CycleStart h o time)) 8 (spelled_tcode 8 h (drop 4 (spelling (CycleStart h o time))) (omega arith) fits.0) ∙ refl
-spelled_need (Lock h o f bytes) fits = need_at (spelling (Lock h o f bytes)) 9 (spelled_tcode 9 h (drop 4 (spelling (Lock h o f bytes))) (omega arith) fits.0) ∙ need_data (packed (head_fields 9 h) 0) (packed ((16, h.source) ∷ (16, o / 2 ^ 32) ∷ []) 0) (o % 2 ^ 32) f bytes (lock_few f (length bytes) fits.4) (omega arith)
-spelled_need (LockReply h rcode f bytes) fits = need_at (spelling (LockReply h rcode f bytes)) 11 (spelled_tcode 11 h (drop 4 (spelling (LockReply h rcode f bytes))) (omega arith) fits.0) ∙ need_data (packed (head_fields 11 h) 0) (packed ((16, h.source) ∷ (4, rcode) ∷ (12, 0) ∷ []) 0) 0 f bytes (reply_few (length bytes) fits.4) (omega arith)
+spelled_need (WriteQuadlet h o v) fits =
+    let all = spelling (WriteQuadlet h o v) in
+    need_at all 0 (spelled_tcode 0 h (drop 4 all) (omega arith) fits.0) ∙ refl
+spelled_need (WriteBlock h o bytes) fits =
+    let all = spelling (WriteBlock h o bytes) in
+    need_at all 1 (spelled_tcode 1 h (drop 4 all) (omega arith) fits.0)
+    ∙ need_data (packed (head_fields 1 h) 0) (packed ((16, h.source) ∷ (16, o / 2 ^ 32) ∷ []) 0) (o % 2 ^ 32) 0 bytes (omega (arith, fits.2)) (omega arith)
+spelled_need (WriteReply h r) fits =
+    let all = spelling (WriteReply h r) in
+    need_at all 2 (spelled_tcode 2 h (drop 4 all) (omega arith) fits.0) ∙ refl
+spelled_need (ReadQuadlet h o) fits =
+    let all = spelling (ReadQuadlet h o) in
+    need_at all 4 (spelled_tcode 4 h (drop 4 all) (omega arith) fits.0) ∙ refl
+spelled_need (ReadBlock h o len) fits =
+    let all = spelling (ReadBlock h o len) in
+    need_at all 5 (spelled_tcode 5 h (drop 4 all) (omega arith) fits.0) ∙ refl
+spelled_need (ReadQuadletReply h r v) fits =
+    let all = spelling (ReadQuadletReply h r v) in
+    need_at all 6 (spelled_tcode 6 h (drop 4 all) (omega arith) fits.0) ∙ refl
+spelled_need (ReadBlockReply h r bytes) fits =
+    let all = spelling (ReadBlockReply h r bytes) in
+    need_at all 7 (spelled_tcode 7 h (drop 4 all) (omega arith) fits.0)
+    ∙ need_data (packed (head_fields 7 h) 0) (packed ((16, h.source) ∷ (4, r) ∷ (12, 0) ∷ []) 0) 0 0 bytes (omega (arith, fits.2)) (omega arith)
+spelled_need (CycleStart h o time) fits =
+    let all = spelling (CycleStart h o time) in
+    need_at all 8 (spelled_tcode 8 h (drop 4 all) (omega arith) fits.0) ∙ refl
+spelled_need (Lock h o f bytes) fits =
+    let all = spelling (Lock h o f bytes) in
+    need_at all 9 (spelled_tcode 9 h (drop 4 all) (omega arith) fits.0)
+    ∙ need_data (packed (head_fields 9 h) 0) (packed ((16, h.source) ∷ (16, o / 2 ^ 32) ∷ []) 0) (o % 2 ^ 32) f bytes (lock_few f (length bytes) fits.4) (omega (arith, fits.3))
+spelled_need (LockReply h r f bytes) fits =
+    let all = spelling (LockReply h r f bytes) in
+    need_at all 11 (spelled_tcode 11 h (drop 4 all) (omega arith) fits.0)
+    ∙ need_data (packed (head_fields 11 h) 0) (packed ((16, h.source) ∷ (4, r) ∷ (12, 0) ∷ []) 0) 0 f bytes (reply_few (length bytes) fits.4) (omega (arith, fits.3))
 
 no_more : (n : ℕ) (more : List ℕ) → n + length more ≡ n → more ≡ []
 no_more n more e = nil_from_length more (omega arith)

@@ -1,4 +1,4 @@
--- Asynchronous packets: their spelling, and the faults of bytes that spell none.
+-- Asynchronous packets and the bytes that they are (IEEE 1394-1995, clause 6.2, without the CRCs).
 use Rattle.std.specs.Prelude.{ℕ, ◌*◌, ◌/◌, ◌%◌, ◌^◌, ◌≤◌, ◌<◌, ◌==◌, ◌||◌, List, [], ◌∷◌, ◌++◌, Bool, length, slice_index, replicate, if◌then◌else◌, flat_map, IsTrue}
 use Rattle.std.specs.Int.{to_be_bytes, w32}
 use Rattle.fw_words.specs.Layout.{packed}
@@ -6,7 +6,7 @@ use Rattle.fw_async.specs.declared.packet.Head.{Head}
 use Rattle.fw_async.specs.declared.packet.Packet.{Packet}
 use Rattle.fw_async.specs.declared.packet.Packet.TheVariants.{WriteQuadlet, WriteBlock, WriteReply, ReadQuadlet, ReadBlock, ReadQuadletReply, ReadBlockReply, CycleStart, Lock, LockReply}
 
--- the fields of quadlet 0
+-- quadlet 0: destination_ID 16, tl 6, rt 2, tcode 4, pri 4
 abbrev pub head_fields : ℕ → Head → List (ℕ × ℕ)
 head_fields tcode h = (16, h.destination) ∷ (6, h.tl) ∷ (2, h.rt) ∷ (4, tcode) ∷ (4, h.pri) ∷ []
 
@@ -15,7 +15,8 @@ pub record Parts : Type 0 where
   pub quadlets : List ℕ
   pub bytes : List ℕ
 
--- a request has an offset, a response an rcode
+-- A request has source_ID 16 and destination_offset 48 in quadlets 1 and 2; a response has source_ID 16, rcode 4
+-- and 44 zeros there.
 abbrev pub request : ℕ → Head → ℕ → List ℕ → List ℕ → Parts
 request tcode h offset more bytes =
     record { quadlets = packed (head_fields tcode h) 0 ∷ packed ((16, h.source) ∷ (16, offset / 2 ^ 32) ∷ []) 0 ∷ offset % 2 ^ 32 ∷ more; bytes = bytes }
@@ -24,10 +25,11 @@ abbrev pub response : ℕ → Head → ℕ → List ℕ → List ℕ → Parts
 response tcode h rcode more bytes =
     record { quadlets = packed (head_fields tcode h) 0 ∷ packed ((16, h.source) ∷ (4, rcode) ∷ (12, 0) ∷ []) 0 ∷ 0 ∷ more; bytes = bytes }
 
--- data_length, and zeros or an extended_tcode
+-- quadlet 3 of blocks and locks: data_length 16, then 16 zeros or extended_tcode 16
 abbrev pub size : ℕ → ℕ → ℕ
 size len low = packed ((16, len) ∷ (16, low) ∷ []) 0
 
+-- each packet by its transaction code: its quadlets, and its data
 abbrev pub parts : Packet → Parts
 parts (WriteQuadlet h offset value) = request 0 h offset (value ∷ []) []
 parts (WriteBlock h offset bytes) = request 1 h offset (size (length bytes) 0 ∷ []) bytes
@@ -40,13 +42,15 @@ parts (CycleStart h offset time) = request 8 h offset (time ∷ []) []
 parts (Lock h offset function bytes) = request 9 h offset (size (length bytes) function ∷ []) bytes
 parts (LockReply h rcode function bytes) = response 11 h rcode (size (length bytes) function ∷ []) bytes
 
--- how many zeros fill the last quadlet
+-- how many zero bytes fill the last quadlet of data
 abbrev pub padding : ℕ → ℕ
 padding len = 3 * len % 4
 
+-- data and its padding
 abbrev pub padded : List ℕ → List ℕ
 padded bytes = bytes ++ replicate (padding (length bytes)) 0
 
+-- quadlets are big-endian, and the data stands behind them
 abbrev pub bytes_of : Parts → List ℕ
 bytes_of p = flat_map (to_be_bytes w32) p.quadlets ++ padded p.bytes
 
@@ -54,23 +58,28 @@ bytes_of p = flat_map (to_be_bytes w32) p.quadlets ++ padded p.bytes
 abbrev pub spelling : Packet → List ℕ
 spelling p = bytes_of (parts p)
 
--- which numbers of bytes a lock request of this function has
+-- How many bytes of data a lock request of this extended_tcode has: argument and data value of 4 or 8 bytes each;
+-- fetch_add (3) and little_add (4) have no argument; the sizes of a vendor-dependent lock (7) are own.
 abbrev pub is_lock_size : ℕ → ℕ → Bool
 is_lock_size function len =
     if (function == 3) || (function == 4) then (len == 4) || (len == 8)
     else if function == 7 then (len == 4) || (len == 8) || (len == 16)
     else (len == 8) || (len == 16)
 
+-- how many bytes of old value a lock response has
 abbrev pub is_reply_size : ℕ → Bool
 is_reply_size len = (len == 0) || (len == 4) || (len == 8)
 
+-- each element is a byte
 abbrev pub AreBytes : List ℕ → Type 0
 AreBytes bytes = (i : ℕ) → slice_index bytes i < 256
 
--- The packet has a spelling: its numbers fit their fields, and its bytes are as many as its kind may have.
+-- the numbers of a head fit their fields
 abbrev pub HeadFits : Head → Type 0
 HeadFits h = (h.destination < 2 ^ 16) × (h.tl < 2 ^ 6) × (h.rt < 2 ^ 2) × (h.pri < 2 ^ 4) × (h.source < 2 ^ 16)
 
+-- The packet has a spelling: its numbers fit their fields, and its data is as long as its kind may have. That a block
+-- has at most 512 bytes is own.
 abbrev pub Fits : Packet → Type 0
 Fits (WriteQuadlet h offset value) = HeadFits h × (offset < 2 ^ 48) × (value < 2 ^ 32)
 Fits (WriteBlock h offset bytes) = HeadFits h × (offset < 2 ^ 48) × (length bytes ≤ 512) × AreBytes bytes

@@ -1,5 +1,5 @@
 -- What a reader of packets keeps, and what it makes of the bytes that come.
-use Rattle.std.specs.Prelude.{◌≡◌, ◌≢◌, ℕ, ◌+◌, ◌≤◌, ◌<◌, List, [], ◌∷◌, ◌++◌, length, take, Option, Some, None, Result, Ok, Err}
+use Rattle.std.specs.Prelude.{◌≡◌, ◌≢◌, ℕ, ◌+◌, ◌≤◌, ◌<◌, List, [], ◌++◌, length, take, Option, Some, None, Result, Ok, Err}
 use Rattle.fw_async.specs.Async.{spelling, Fits}
 use Rattle.fw_async.specs.Reading.{fault_of, need, IsPending}
 use Rattle.fw_async.specs.declared.PacketFault.{PacketFault}
@@ -44,7 +44,7 @@ pub record EndsNothing (old piece : List ℕ) : Type 0 where
   pub no_packet : (k : ℕ) (p : Packet) → k ≤ length piece → Spells p (old ++ take k piece) → ⊥
 
 -- no packet begins with these bytes
-pub record BeginsNone (bytes : List ℕ) : Type 0 where
+pub record BeginsNoPacket (bytes : List ℕ) : Type 0 where
   pub none : (p : Packet) (more : List ℕ) → Spells p (bytes ++ more) → ⊥
 
 -- all bytes of a piece without a packet's end, or those up to it

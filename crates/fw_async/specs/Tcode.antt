@@ -1,5 +1,5 @@
 -- Transaction codes: bits 24 to 27 of quadlet 0 (IEEE 1394-1995, primary packets).
-use Rattle.std.specs.Prelude.{ℕ, ◌≤◌, ◌==◌, ◌||◌, ◌&&◌, not, nat_le, Bool}
+use Rattle.std.specs.Prelude.{ℕ, ◌==◌, ◌||◌, ◌&&◌, not, nat_le, Bool}
 use Rattle.fw_async.specs.declared.tcode.Tcode.{Tcode}
 use Rattle.fw_async.specs.declared.tcode.Tcode.TheVariants.{WriteQuadlet, WriteBlock, WriteReply, ReadQuadlet, ReadBlock, ReadQuadletReply, ReadBlockReply, CycleStart, Lock, LockReply}
 

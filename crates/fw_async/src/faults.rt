@@ -33,6 +33,7 @@ fn reserved(before: u32, q: Quadlet, first: u8) -> Option<PacketFault>
     first_set(q, first, 31).map(|bit| PacketFault::Reserved(before + bit as u32))
 }
 
+// The 12 zeros behind a response's rcode.
 #[tactic(auto, unfolding(crate::specs::Reading::fault_in_quadlet_1))]
 fn fault_in_quadlet_1(tcode: Tcode, q: Quadlet) -> Option<PacketFault>
     ensures { result ≡ fault_in_quadlet_1 (code_of tcode) q.0 }
@@ -44,6 +45,7 @@ fn fault_in_quadlet_1(tcode: Tcode, q: Quadlet) -> Option<PacketFault>
     }
 }
 
+// The 32 zeros that a response has in place of an offset.
 #[tactic(auto, unfolding(crate::specs::Reading::fault_in_quadlet_2))]
 fn fault_in_quadlet_2(tcode: Tcode, q: Quadlet) -> Option<PacketFault>
     ensures { result ≡ fault_in_quadlet_2 (code_of tcode) q.0 }
@@ -55,6 +57,7 @@ fn fault_in_quadlet_2(tcode: Tcode, q: Quadlet) -> Option<PacketFault>
     }
 }
 
+// data_length, and 16 zeros, which are looked at first.
 fn fault_in_block_size(q: Quadlet) -> Option<PacketFault>
     ensures { result ≡ fault_in_block_size q.0 }
 {
@@ -68,6 +71,7 @@ fn fault_in_block_size(q: Quadlet) -> Option<PacketFault>
     }
 }
 
+// data_length, and the extended_tcode, which is looked at first; `fits` says whether they go together.
 fn fault_in_lock_size(q: Quadlet, fits: bool) -> Option<PacketFault>
     ensures { result ≡ fault_in_lock_size q.0 fits }
 {
@@ -158,7 +162,7 @@ fn need(tcode: Tcode, bytes: &[u8]) -> usize
 
 /// The first fault that the bytes show, or how many bytes the packet takes at least, by what is there of it.
 #[tactic(auto, unfolding(crate::specs::Reading::fault_in_quadlet_0))]
-pub fn outlook(bytes: &[u8]) -> Result<usize, PacketFault>
+pub fn least_length(bytes: &[u8]) -> Result<usize, PacketFault>
     requires { length bytes.now < 2 ^ 32 }
     ensures fault { result_err result ≡ fault_of bytes.now }
     ensures need { IfOk result (λ n. n ≡ need bytes.now) }

@@ -17,6 +17,8 @@ mod packet;
 mod read;
 mod reader;
 mod tcode;
+#[cfg(test)]
+mod tests;
 mod write;
 mod writer;
 

@@ -1,15 +1,12 @@
-//! Lock requests and their response.
+//! The sizes of locks; lock requests and their response, read from whole packets.
 
 ghost use Rattle.std.specs.Prelude.{◌≡◌};
-ghost use Rattle.fw_async.specs.Async.{spelling, Fits, is_lock_size, is_reply_size};
-ghost use Rattle.fw_async.specs.Reading.{IsWhole, ReadsAs};
+ghost use Rattle.fw_async.specs.Async.{is_lock_size, is_reply_size};
+ghost use Rattle.fw_async.specs.Reading.{IsComplete, ReadsAs};
 
-use crate::data::{data_at, function_at, push_data};
-use crate::header::{begin_request, begin_response, head_at, offset_at, rcode_at};
-use crate::packet::{Head, Packet};
-use crate::tcode::Tcode;
-use arrayvec::ArrayVec;
-use fw_words::{Bytes8, Bytes16};
+use crate::data::{data_at, function_at};
+use crate::header::{head_at, offset_at, rcode_at};
+use crate::packet::Packet;
 
 /// A lock request of this function (extended_tcode) may have so many bytes: an argument and a data value, of four
 /// or of eight bytes each. fetch_add (3) and little_add (4) have no argument; 7 is vendor-dependent.
@@ -30,22 +27,8 @@ pub fn is_reply_size(len: u32) -> bool
     len == 0 || len == 4 || len == 8
 }
 
-pub fn put_lock(
-    head: &Head,
-    offset: u64,
-    function: u8,
-    bytes: &Bytes16,
-    out: &mut ArrayVec<u8, 528>,
-)
-    requires { Fits (Packet.Lock head.now offset function bytes.now) }
-    ensures { out.new.items ≡ spelling (Packet.Lock head.now offset function bytes.now) }
-{
-    begin_request(Tcode::Lock, head, offset, out);
-    push_data(bytes.as_slice(), u16::from(function), out);
-}
-
-pub fn get_lock(bytes: &[u8]) -> Packet
-    requires { IsWhole 9 bytes.now }
+pub fn lock_at(bytes: &[u8]) -> Packet
+    requires { IsComplete 9 bytes.now }
     ensures { ReadsAs 9 bytes.now result }
 {
     Packet::Lock {
@@ -56,22 +39,8 @@ pub fn get_lock(bytes: &[u8]) -> Packet
     }
 }
 
-pub fn put_lock_reply(
-    head: &Head,
-    rcode: u8,
-    function: u8,
-    bytes: &Bytes8,
-    out: &mut ArrayVec<u8, 528>,
-)
-    requires { Fits (Packet.LockReply head.now rcode function bytes.now) }
-    ensures { out.new.items ≡ spelling (Packet.LockReply head.now rcode function bytes.now) }
-{
-    begin_response(Tcode::LockReply, head, rcode, out);
-    push_data(bytes.as_slice(), u16::from(function), out);
-}
-
-pub fn get_lock_reply(bytes: &[u8]) -> Packet
-    requires { IsWhole 11 bytes.now }
+pub fn lock_reply_at(bytes: &[u8]) -> Packet
+    requires { IsComplete 11 bytes.now }
     ensures { ReadsAs 11 bytes.now result }
 {
     Packet::LockReply {

@@ -1,51 +1,53 @@
 ghost use Rattle.std.specs.Prelude.{ℕ, ◌≡◌, ◌≤◌, ◌<◌, ◌+◌, ◌-◌, ◌++◌, [], length, take, IsTrue, ◌↔◌, IfSome, IfNone, OnErr};
 ghost use Rattle.fw_async.specs.Tcode.{code_of};
-ghost use Rattle.fw_async.specs.Reading.{IsWhole, ReadsAs, IsPending, fault_of, need};
-ghost use Rattle.fw_async.specs.Reader.{Spells, TakesPart, Feeds, EndsPacket, EndsNothing, ShowsFault, BeginsNone};
+ghost use Rattle.fw_async.specs.Reading.{IsComplete, ReadsAs, IsPending, fault_of, need};
+ghost use Rattle.fw_async.specs.Reader.{Spells, TakesPart, Feeds, EndsNothing, BeginsNoPacket};
 ghost use Rattle.fw_async.specs.declared.PacketFault.{PacketFault};
 ghost use Rattle.fw_async.specs.declared.packet.Packet.{Packet};
 
 use crate::PacketFault;
 use crate::buffer::append;
-use crate::cycle_start::get_cycle_start;
-use crate::faults::{outlook, tcode_at};
-use crate::lock::{get_lock, get_lock_reply};
+use crate::cycle_start::cycle_start_at;
+use crate::faults::{least_length, tcode_at};
+use crate::lock::{lock_at, lock_reply_at};
 use crate::packet::Packet;
-use crate::read::{get_read_block, get_read_block_reply, get_read_quadlet, get_read_quadlet_reply};
+use crate::read::{read_block_at, read_block_reply_at, read_quadlet_at, read_quadlet_reply_at};
 use crate::tcode::Tcode;
-use crate::write::{get_write_block, get_write_quadlet, get_write_reply};
+use crate::write::{write_block_at, write_quadlet_at, write_reply_at};
 use arrayvec::ArrayVec;
 use std::marker::Model;
 
-/// What a piece gave: how many of its bytes were taken, and the packet that ended with them.
+/// What a piece gave.
 #[derive(Debug, PartialEq, Eq, Drop)]
 pub struct Fed {
+    /// How many of its bytes were taken: those up to the packet's end, or all.
     pub used: usize,
+    /// The packet that ended with them.
     pub packet: Option<Packet>,
 }
 
 fn packet_of_kind(tcode: Tcode, bytes: &[u8]) -> Packet
-    requires { IsWhole (code_of tcode) bytes.now }
+    requires { IsComplete (code_of tcode) bytes.now }
     ensures { ReadsAs (code_of tcode) bytes.now result }
 {
     match tcode {
-        Tcode::WriteQuadlet => get_write_quadlet(bytes),
-        Tcode::WriteBlock => get_write_block(bytes),
-        Tcode::WriteReply => get_write_reply(bytes),
-        Tcode::ReadQuadlet => get_read_quadlet(bytes),
-        Tcode::ReadBlock => get_read_block(bytes),
-        Tcode::ReadQuadletReply => get_read_quadlet_reply(bytes),
-        Tcode::ReadBlockReply => get_read_block_reply(bytes),
-        Tcode::CycleStart => get_cycle_start(bytes),
-        Tcode::Lock => get_lock(bytes),
-        Tcode::LockReply => get_lock_reply(bytes),
+        Tcode::WriteQuadlet => write_quadlet_at(bytes),
+        Tcode::WriteBlock => write_block_at(bytes),
+        Tcode::WriteReply => write_reply_at(bytes),
+        Tcode::ReadQuadlet => read_quadlet_at(bytes),
+        Tcode::ReadBlock => read_block_at(bytes),
+        Tcode::ReadQuadletReply => read_quadlet_reply_at(bytes),
+        Tcode::ReadBlockReply => read_block_reply_at(bytes),
+        Tcode::CycleStart => cycle_start_at(bytes),
+        Tcode::Lock => lock_at(bytes),
+        Tcode::LockReply => lock_reply_at(bytes),
     }
 }
 
 // The packet whose bytes are all there and show no fault.
 fn packet_at(bytes: &[u8]) -> Packet
     requires clear { fault_of bytes.now ≡ None }
-    requires whole { length bytes.now ≡ need bytes.now }
+    requires complete { length bytes.now ≡ need bytes.now }
     ensures { Spells result bytes.now }
 {
     match tcode_at(bytes) {
@@ -54,7 +56,8 @@ fn packet_at(bytes: &[u8]) -> Packet
     }
 }
 
-/// Reads packets from bytes that come in any pieces.
+/// Reads packets from bytes that come in any pieces. It keeps the bytes since the last packet and the fault that it
+/// answered, and takes no memory besides.
 #[derive(Debug, Drop)]
 pub struct PacketReader {
     taken: ArrayVec<u8, 528>,
@@ -84,7 +87,7 @@ impl PacketReader {
         }
     }
 
-    /// No byte of a packet was taken.
+    /// No byte of a packet was taken since the last packet. After a fault it is false.
     pub fn is_between(&self) -> bool
         ensures { IsTrue result ↔ (self.now.taken ≡ []) }
     {
@@ -98,7 +101,7 @@ impl PacketReader {
         ensures { TakesPart self.old.taken part.now result self.new }
     {
         append(&mut self.taken, part);
-        match outlook(self.taken.as_slice()) {
+        match least_length(self.taken.as_slice()) {
             Err(fault) => {
                 self.fault = Some(fault);
                 Err(fault)
@@ -140,16 +143,16 @@ impl PacketReader {
         Ok(Fed { used, packet: None })
     }
 
-    /// Takes bytes up to the end of one packet, or all of the piece where no packet ends in it. A fault comes in
-    /// the call in which the byte is taken that completes the quadlet, or is the padding byte, which shows it;
-    /// no packet begins with the bytes up to there. After a fault each call answers that fault.
+    /// Takes bytes up to the end of one packet, or all of the piece where no packet ends in it and no fault shows.
+    /// A fault is answered by the call that takes the last byte of the quadlet, or the padding byte, which shows it:
+    /// no packet begins with the bytes up to there. After it each call answers the same fault and changes nothing.
     pub fn feed(&mut self, piece: &[u8]) -> Result<Fed, PacketFault>
         ensures kept { IfSome self.old.fault (λ f. (result ≡ Err f) × (self.new ≡ self.old)) }
         ensures fresh { IfNone self.old.fault (Feeds self.old.taken piece.now result self.new) }
-        ensures packet { IfNone self.old.fault ((k : ℕ) → (p : Packet) → EndsPacket self.old.taken piece.now k p → result ≡ Ok (record { used = k; packet = Some p })) }
+        ensures packet { IfNone self.old.fault ((k : ℕ) → (p : Packet) → k ≤ length piece.now → Spells p (self.old.taken ++ take k piece.now) → result ≡ Ok (record { used = k; packet = Some p })) }
         ensures none { IfNone self.old.fault (EndsNothing self.old.taken piece.now → result ≡ Ok (record { used = length piece.now; packet = None })) }
-        ensures fault { IfNone self.old.fault ((k : ℕ) → (f : PacketFault) → ShowsFault self.old.taken piece.now k f → result ≡ Err f) }
-        ensures hopeless { IfNone self.old.fault (OnErr result (BeginsNone (self.old.taken ++ piece.now))) }
+        ensures fault { IfNone self.old.fault ((k : ℕ) → (f : PacketFault) → k < length piece.now → IsPending (self.old.taken ++ take k piece.now) → fault_of (self.old.taken ++ take (k + 1) piece.now) ≡ Some f → result ≡ Err f) }
+        ensures no_packet_begins { IfNone self.old.fault (OnErr result (BeginsNoPacket (self.old.taken ++ piece.now))) }
     {
         match self.fault {
             Some(fault) => Err(fault),

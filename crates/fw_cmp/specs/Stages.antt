@@ -103,7 +103,7 @@ decide_leave j next v = if shows_connection j.kind (out_fields v) then LeaveOutp
 abbrev pub decide_raise : Then → ℕ → ℕ → ℕ → Stage
 decide_raise next ch u v = if nat_le (u + v) 4915 then RaiseBandwidth next ch u v else ReadChannelsToRelease next ch
 
--- what follows where the connection was left: the last one leaves the plug's allocations in the pending
+-- what follows where the connection was left: where it was the last, the plug's allocation is pending again
 abbrev pub after_leave : Job → Then → OutFields → Stage
 after_leave j next f = if is_connected (one_less j.kind f) then give_back None next else ReadBandwidthToRelease next f.settings.channel (units_of f.settings)
 
@@ -171,6 +171,19 @@ StageFits j (RaiseBandwidth next ch u arg) = (ch < 64) × (u + arg ≤ 4915)
 StageFits j (ReadChannelsToRelease next ch) = ch < 64
 StageFits j (RestoreChannel next ch arg) = ch < 64
 StageFits j _ = ⊤
+
+-- the words that a stage keeps are quadlets
+abbrev pub WordsFit : Stage → Type 0
+WordsFit (ReadChannels base w) = w < 2 ^ 32
+WordsFit (SwapChannels ch arg w) = (arg < 2 ^ 32) × (w < 2 ^ 32)
+WordsFit (ReadBandwidth ch w) = w < 2 ^ 32
+WordsFit (SwapBandwidth ch u arg w) = (arg < 2 ^ 32) × (w < 2 ^ 32)
+WordsFit (ConnectOutput ch u arg) = arg < 2 ^ 32
+WordsFit (OverlayOutput arg) = arg < 2 ^ 32
+WordsFit (LeaveOutput next arg) = arg < 2 ^ 32
+WordsFit (RaiseBandwidth next ch u arg) = arg < 2 ^ 32
+WordsFit (RestoreChannel next ch arg) = arg < 2 ^ 32
+WordsFit _ = ⊤
 
 -- what is held is of a channel
 abbrev pub HeldFits : Option Held → Type 0

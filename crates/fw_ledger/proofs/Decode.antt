@@ -15,7 +15,7 @@ use Rattle.fw_ledger.specs.Words.{bits_word}
 use Rattle.fw_ledger.specs.Decode.{changed_bit, units_move, kind_of, is_more}
 use Rattle.fw_ledger.specs.Sound.{IsSound}
 use Rattle.fw_ledger.proofs.Connections.{counter_changed}
-use Rattle.fw_ledger.proofs.Moves.{total_changed}
+use Rattle.fw_ledger.proofs.Allocations.{total_changed}
 use Rattle.fw_ledger.proofs.Words.{free_bit}
 
 -- ---- units

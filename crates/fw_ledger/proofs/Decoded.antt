@@ -46,10 +46,10 @@ channel_released l c p ch base i h lt at =
 
 -- ---- plug registers
 
-output_of_word : (l : Account) (p : PlugAt) → IsSound l → is_output l.latest p ≡ true → out_fields (out_word (fields_at l p)) ≡ fields_at l p
+pub output_of_word : (l : Account) (p : PlugAt) → IsSound l → is_output l.latest p ≡ true → out_fields (out_word (fields_at l p)) ≡ fields_at l p
 output_of_word l p s is = fields_of_word (fields_at l p) (let m = s.counts p in omega arith) (s.settings_fit p is)
 
-input_of_word : (l : Account) (p : PlugAt) → IsSound l → is_input l.latest p ≡ true → in_fields (in_word (input_fields_at l p)) ≡ input_fields_at l p
+pub input_of_word : (l : Account) (p : PlugAt) → IsSound l → is_input l.latest p ≡ true → in_fields (in_word (input_fields_at l p)) ≡ input_fields_at l p
 input_of_word l p s is = in_fields_of_word (input_fields_at l p) (let m = s.counts p in omega arith) (s.channels_fit p is)
 
 output_moves : (f g f' g' : OutFields) (b : Bool) (m : Move) → f ≡ f' → g ≡ g' → output_move f' g' b ≡ m → output_move f g b ≡ m

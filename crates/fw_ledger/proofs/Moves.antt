@@ -1,129 +1,20 @@
--- Each move keeps the account sound.
+-- The moves at plug registers keep the account sound, and so does each move.
 use Rattle.fw_base.specs.declared.plug.PlugAt.{PlugAt}
 use Rattle.fw_base.specs.declared.plug.ConnectionKind.{ConnectionKind}
-use Rattle.std.proofs.Common.{◌≡◌, ℕ, ◌+◌, ◌<◌, ◌≤◌, Bool, true, false, Option, Some, None, refl, sym, ◌∙◌, arith}
+use Rattle.std.proofs.Common.{◌≡◌, ℕ, ◌<◌, ◌≤◌, Bool, true, false, Some, refl, sym, ◌∙◌, arith}
 use Rattle.std.proofs.lemmas.Bool.Decides.{nat_tests}
-use Rattle.fw_base.specs.Tables.{update, update_plug}
-use Rattle.fw_ledger.specs.Account.{Pending, Connected, Allocation, Connections, Account, total, counter, has_connection, allocated}
+use Rattle.fw_base.specs.Tables.{update_plug}
+use Rattle.fw_ledger.specs.Account.{Pending, Connected, Connections, Account, counter, has_connection, allocated}
 use Rattle.fw_plug.specs.Words.{Settings}
-use Rattle.fw_ledger.specs.Moves.{Move, AllocateChannel, AllocateUnits, ConnectFirst, ConnectOverlaid, ConnectInput, DisconnectInput, DisconnectOutput, ReleaseUnits, ReleaseChannel, Can, after, CanAllocateChannel, CanAllocateUnits, CanConnectFirst, CanConnectOverlaid, CanConnectInput, CanDisconnectInput, CanDisconnectOutput, CanReleaseUnits, CanReleaseChannel, HasNoPending, add_connection, drop_connection, made_pending, with_outputs}
+use Rattle.fw_ledger.specs.Moves.{Move, AllocateChannel, AllocateUnits, ConnectFirst, ConnectOverlaid, ConnectInput, DisconnectInput, DisconnectOutput, ReleaseUnits, ReleaseChannel, Can, after, CanConnectFirst, CanConnectOverlaid, CanConnectInput, CanDisconnectInput, CanDisconnectOutput, HasNoPending, add_connection, drop_connection, made_pending, with_outputs}
 use Rattle.fw_ledger.specs.Sound.{IsSound}
-use Rattle.fw_base.proofs.Tables.{sum_to_changed, update_plug_at}
+use Rattle.fw_base.proofs.Tables.{update_plug_at}
 use Rattle.std.proofs.lemmas.Bool.{false≢true}
 use Rattle.fw_ledger.specs.Network.{is_input}
 use Rattle.fw_ledger.proofs.Network.{not_both, no_inputs}
 use Rattle.fw_ledger.proofs.Connections.{has_connection_added, room_after, had_connection, fewer_connections, NoneBeyond, none_beyond_added, none_beyond_dropped}
-
--- the units that are allocated, after a change at one channel
-pub total_changed : (allocations : ℕ → Option Allocation) (ch : ℕ) (x : Option Allocation) → ch < 64 → total (update allocations ch x) + allocated (allocations ch) ≡ total allocations + allocated x
-total_changed allocations ch x lt =
-    let e = sum_to_changed 64 ch (λ j. allocated (update allocations ch x j)) (λ j. allocated (allocations j)) lt (λ j ne. grind (arith, nat_tests)) in
-    grind (arith, nat_tests)
-
-pub allocate_channel : (c : ℕ) (p : PlugAt) (ch : ℕ) (l : Account) → IsSound l → CanAllocateChannel c p ch l → IsSound (after c p (AllocateChannel ch) l)
-allocate_channel c p ch l s h = record {
-  load =
-      let e = total_changed l.allocations ch (Some (record { holder = Pending c p; units = 0 })) h.within in
-      omega (arith, s.load);
-  bounded = λ d x e. grind (arith, nat_tests, s.bounded d x);
-  allocated = λ q t. grind (arith, nat_tests, s.allocated q t);
-  connected = λ d q u e. grind (arith, nat_tests, s.connected d q u);
-  one_pending = λ d a b x y. grind (arith, nat_tests, s.one_pending d a b, h.no_pending a, h.no_pending b);
-  for_addressed = λ d a q u e. grind (arith, nat_tests, s.for_addressed d a q u);
-  reclaimable_load = s.reclaimable_load;
-  reclaimable_bounded = s.reclaimable_bounded;
-  reclaimable_once = s.reclaimable_once;
-  reclaimable_ends = s.reclaimable_ends;
-  there = s.there;
-  continuing = s.continuing;
-  reclaimed = λ t d x e. grind (arith, nat_tests, s.reclaimed t d x);
-  counts = s.counts;
-  controllers = s.controllers;
-  range = s.range;
-  settings_fit = s.settings_fit;
-  channels_fit = s.channels_fit;
-  begins = λ e. absurd (not_both _ p ((s.begins e).addressed c) h.addressed);
-  inputs_there = s.inputs_there;
-}
-
-pub allocate_units : (c : ℕ) (p : PlugAt) (ch u : ℕ) (l : Account) → IsSound l → CanAllocateUnits c p ch u l → IsSound (after c p (AllocateUnits ch u) l)
-allocate_units c p ch u l s h = record {
-  load =
-      let e = total_changed l.allocations ch (Some (record { holder = Pending c p; units = u })) h.within in
-      let f = h.fits in
-      omega (arith, s.load);
-  bounded = λ d x e. grind (arith, nat_tests, s.bounded d x);
-  allocated = λ q t. grind (arith, nat_tests, s.allocated q t);
-  connected = λ d q v e. grind (arith, nat_tests, s.connected d q v);
-  one_pending = λ d a b x y. grind (arith, nat_tests, s.one_pending d a b);
-  for_addressed = λ d a q v e. grind (arith, nat_tests, s.for_addressed d a q v);
-  reclaimable_load = s.reclaimable_load;
-  reclaimable_bounded = s.reclaimable_bounded;
-  reclaimable_once = s.reclaimable_once;
-  reclaimable_ends = s.reclaimable_ends;
-  there = s.there;
-  continuing = s.continuing;
-  reclaimed = λ t d x e. grind (arith, nat_tests, s.reclaimed t d x);
-  counts = s.counts;
-  controllers = s.controllers;
-  range = s.range;
-  settings_fit = s.settings_fit;
-  channels_fit = s.channels_fit;
-  begins = λ e. absurd (not_both _ p ((s.begins e).addressed c) h.addressed);
-  inputs_there = s.inputs_there;
-}
-
-pub release_channel : (c : ℕ) (p : PlugAt) (ch : ℕ) (l : Account) → IsSound l → CanReleaseChannel c p ch l → IsSound (after c p (ReleaseChannel ch) l)
-release_channel c p ch l s h = record {
-  load =
-      let e = total_changed l.allocations ch None h.within in
-      omega (arith, s.load);
-  bounded = λ d x e. grind (arith, nat_tests, s.bounded d x);
-  allocated = λ q t. grind (arith, nat_tests, s.allocated q t);
-  connected = λ d q v e. grind (arith, nat_tests, s.connected d q v);
-  one_pending = λ d a b x y. grind (arith, nat_tests, s.one_pending d a b);
-  for_addressed = λ d a q v e. grind (arith, nat_tests, s.for_addressed d a q v);
-  reclaimable_load = s.reclaimable_load;
-  reclaimable_bounded = s.reclaimable_bounded;
-  reclaimable_once = s.reclaimable_once;
-  reclaimable_ends = s.reclaimable_ends;
-  there = s.there;
-  continuing = s.continuing;
-  reclaimed = λ t d x e. grind (arith, nat_tests, s.reclaimed t d x);
-  counts = s.counts;
-  controllers = s.controllers;
-  range = s.range;
-  settings_fit = s.settings_fit;
-  channels_fit = s.channels_fit;
-  begins = λ e. absurd (not_both _ _ ((s.begins e).allocations ch) h.held);
-  inputs_there = s.inputs_there;
-}
-
-pub release_units : (c : ℕ) (p : PlugAt) (ch u : ℕ) (l : Account) → IsSound l → CanReleaseUnits c p ch u l → IsSound (after c p (ReleaseUnits ch u) l)
-release_units c p ch u l s h = record {
-  load =
-      let e = total_changed l.allocations ch (Some (record { holder = Pending c p; units = 0 })) h.within in
-      omega (arith, s.load);
-  bounded = λ d x e. grind (arith, nat_tests, s.bounded d x);
-  allocated = λ q t. grind (arith, nat_tests, s.allocated q t);
-  connected = λ d q v e. grind (arith, nat_tests, s.connected d q v);
-  one_pending = λ d a b x y. grind (arith, nat_tests, s.one_pending d a b);
-  for_addressed = λ d a q v e. grind (arith, nat_tests, s.for_addressed d a q v);
-  reclaimable_load = s.reclaimable_load;
-  reclaimable_bounded = s.reclaimable_bounded;
-  reclaimable_once = s.reclaimable_once;
-  reclaimable_ends = s.reclaimable_ends;
-  there = s.there;
-  continuing = s.continuing;
-  reclaimed = λ t d x e. grind (arith, nat_tests, s.reclaimed t d x);
-  counts = s.counts;
-  controllers = s.controllers;
-  range = s.range;
-  settings_fit = s.settings_fit;
-  channels_fit = s.channels_fit;
-  begins = λ e. absurd (not_both _ _ ((s.begins e).allocations ch) h.held);
-  inputs_there = s.inputs_there;
-}
+pub use Rattle.fw_ledger.proofs.Allocations.{total_changed}
+use Rattle.fw_ledger.proofs.Allocations.{allocate_channel, allocate_units, release_channel, release_units}
 
 -- other connections at a plug that had some, and has some
 with_other_connections : (p : PlugAt) (new : Connections) (l : Account) → IsSound l → has_connection (l.outputs p) ≡ true → has_connection new ≡ true → counter new ≤ 63 → NoneBeyond new → IsSound (with_outputs p new l)

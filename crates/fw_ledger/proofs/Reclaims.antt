@@ -8,7 +8,7 @@ use Rattle.fw_ledger.specs.Account.{Account, Allocation, Pending, Connected, plu
 use Rattle.fw_plug.specs.Words.{units_of}
 use Rattle.fw_ledger.specs.Sound.{IsSound}
 use Rattle.fw_base.proofs.Tables.{sum_to_le}
-use Rattle.fw_ledger.proofs.Moves.{total_changed}
+use Rattle.fw_ledger.proofs.Allocations.{total_changed}
 
 -- the units fit beside all that is allocated
 pub units_fit : (l : Account) (c : ℕ) (p : PlugAt) (ch u : ℕ) → IsSound l → l.reclaiming ≡ true → l.allocations ch ≡ Some (record { holder = Pending c p; units = 0 }) → l.reclaimable ch ≡ Some (record { plug = p; units = u }) → u ≤ remainder l

@@ -12,7 +12,7 @@ use Rattle.fw_ledger.specs.Words.{bits_word}
 -- ---- channel words
 
 -- a number by its bits below n
-bits_below : (n : ℕ) (f : ℕ → Bool) → sum_to n (λ i. flag (f i) * 2 ^ i) < 2 ^ n
+pub bits_below : (n : ℕ) (f : ℕ → Bool) → sum_to n (λ i. flag (f i) * 2 ^ i) < 2 ^ n
 unfolding sum_to
 bits_below zero f = omega arith
 bits_below (suc n) f = go (f n) (bits_below n f)
@@ -21,7 +21,7 @@ bits_below (suc n) f = go (f n) (bits_below n f)
     go true h = omega (arith, pow-suc 2 n)
     go false h = omega (arith, pow-suc 2 n)
 
-bit_is : (n k : ℕ) (f : ℕ → Bool) → k < n → bit_at (sum_to n (λ i. flag (f i) * 2 ^ i)) k ≡ flag (f k)
+pub bit_is : (n k : ℕ) (f : ℕ → Bool) → k < n → bit_at (sum_to n (λ i. flag (f i) * 2 ^ i)) k ≡ flag (f k)
 unfolding sum_to
 bit_is zero k f lt = absurd (omega arith)
 bit_is (suc n) k f lt = go (cases_lt k n) (bit_is n k f)

@@ -64,6 +64,7 @@ abbrev pub allocated : Option Allocation → ℕ
 allocated None = 0
 allocated (Some x) = x.units
 
+-- the units of a flow, 0 where there is none
 abbrev pub flow_units : Option Flow → ℕ
 flow_units None = 0
 flow_units (Some f) = f.units
@@ -72,6 +73,7 @@ flow_units (Some f) = f.units
 abbrev pub total : (ℕ → Option Allocation) → ℕ
 total allocations = sum_to 64 (λ ch. allocated (allocations ch))
 
+-- the units of all flows that may be allocated again
 abbrev pub reclaimable_total : (ℕ → Option Flow) → ℕ
 reclaimable_total reclaimable = sum_to 64 (λ ch. flow_units (reclaimable ch))
 
@@ -79,6 +81,7 @@ reclaimable_total reclaimable = sum_to 64 (λ ch. flow_units (reclaimable ch))
 abbrev pub remainder : Account → ℕ
 remainder l = 4915 - total l.allocations
 
+-- whether a channel with this allocation is free
 abbrev pub is_free : Option Allocation → Bool
 is_free None = true
 is_free (Some x) = false
@@ -87,6 +90,7 @@ is_free (Some x) = false
 abbrev pub counter : Connections → ℕ
 counter s = s.orphaned + sum_to 63 s.counts
 
+-- whether there is a broadcast connection
 abbrev pub is_there : Option Owner → Bool
 is_there None = false
 is_there (Some o) = true
@@ -99,6 +103,7 @@ has_connection s = nat_lt 0 (counter s) || is_there s.broadcast
 abbrev pub talks : Account → PlugAt → Bool
 talks l p = has_connection (l.outputs p) || l.continues p
 
+-- whether the holder is controller c with a Pending allocation
 abbrev pub is_pending_of : ℕ → Holder → Bool
 is_pending_of c (Pending d p) = c == d
 is_pending_of c (Connected p) = false
@@ -109,13 +114,15 @@ abbrev pub is_pending : ℕ → Option Allocation → Bool
 is_pending c None = false
 is_pending c (Some x) = is_pending_of c x.holder
 
--- whether controller c has a Pending allocation, and the first channel of one
+-- the first channel of which controller c has a Pending allocation
 abbrev pub pending_channel : ℕ → (ℕ → Option Allocation) → Option ℕ
 pending_channel c allocations = find_to 64 (λ ch. is_pending c (allocations ch))
 
+-- whether controller c has a Pending allocation
 abbrev pub has_pending : ℕ → (ℕ → Option Allocation) → Bool
 has_pending c allocations = is_some (pending_channel c allocations)
 
+-- the output plug for which a holder has its channel
 abbrev pub plug_of : Holder → PlugAt
 plug_of (Pending d p) = p
 plug_of (Connected p) = p

@@ -7,9 +7,11 @@ use Rattle.fw_ledger.specs.Account.{Holder, Pending, Connected, Orphaned, Alloca
 use Rattle.fw_ledger.specs.Network.{is_output, is_input, declared}
 use Rattle.fw_plug.specs.Words.{Settings, units_of}
 
+-- a plug with no connection
 abbrev pub no_connections : Connections
 no_connections = record { counts = λ c. 0; orphaned = 0; broadcast = None }
 
+-- the flow of the plug that was found, with the units that its settings take
 abbrev pub flow_of : (PlugAt → Settings) → Option PlugAt → Option Flow
 flow_of settings None = None
 flow_of settings (Some p) = Some (record { plug = p; units = units_of (settings p) })
@@ -42,20 +44,24 @@ after_second l = record l { reclaiming = false; continues = λ p. false; reclaim
 
 -- ---- controller c died
 
+-- the holder after the death of controller c
 abbrev pub orphaned_holder : ℕ → Holder → Holder
 orphaned_holder c (Pending d p) = if c == d then Orphaned p else Pending d p
 orphaned_holder c (Connected p) = Connected p
 orphaned_holder c (Orphaned p) = Orphaned p
 
+-- the allocation after the death
 abbrev pub orphaned_allocation : ℕ → Option Allocation → Option Allocation
 orphaned_allocation c None = None
 orphaned_allocation c (Some x) = Some (record { holder = orphaned_holder c x.holder; units = x.units })
 
+-- the broadcast connection after the death
 abbrev pub orphaned_owner : ℕ → Option Owner → Option Owner
 orphaned_owner c None = None
 orphaned_owner c (Some (Of d)) = Some (if c == d then Dead else Of d)
 orphaned_owner c (Some Dead) = Some Dead
 
+-- a plug's connections after the death
 abbrev pub orphaned_connections : ℕ → Connections → Connections
 orphaned_connections c s = record { counts = update s.counts c 0; orphaned = s.orphaned + s.counts c; broadcast = orphaned_owner c s.broadcast }
 

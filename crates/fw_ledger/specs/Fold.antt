@@ -1,8 +1,9 @@
 -- The account of a list of entries of a log.
 use Rattle.fw_log.specs.declared.entry.EventEntry.{EventEntry}
 use Rattle.fw_log.specs.declared.entry.Entry.{Entry}
+use Rattle.fw_log.specs.declared.entry.Timed.{Timed}
 use Rattle.fw_log.specs.declared.entry.Entry.TheVariants.{Reset, Async, Event, Outcome, Shown, End}
-use Rattle.std.specs.Prelude.{◌==◌, false, if◌then◌else◌, Option, Some, None, List, [], ◌∷◌}
+use Rattle.std.specs.Prelude.{◌==◌, false, if◌then◌else◌, Option, Some, None, List, [], ◌∷◌, map}
 use Rattle.fw_ledger.specs.Account.{Account}
 use Rattle.fw_ledger.specs.Events.{no_connections, after_reset, after_second, after_death}
 use Rattle.fw_ledger.specs.Packets.{after_packet}
@@ -39,6 +40,7 @@ next_account l (Outcome o) = Some l
 next_account l (Shown s) = Some l
 next_account l End = Some l
 
+-- the account after one entry more, where there was one
 abbrev pub next_of : Option Account → Entry → Option Account
 next_of None e = None
 next_of (Some l) e = next_account l e
@@ -51,3 +53,7 @@ account_from o (e ∷ es) = account_from (next_of o e) es
 -- the account of a list of entries
 abbrev pub account_of : List Entry → Option Account
 account_of es = account_from (Some no_account) es
+
+-- the entries of a log, without their cycles
+abbrev pub entries_of : List Timed → List Entry
+entries_of ts = map (λ (t : Timed). t.what) ts

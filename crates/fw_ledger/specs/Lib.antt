@@ -6,4 +6,7 @@ pub mod Words
 pub mod Decode
 pub mod Packets
 pub mod Fold
+pub mod Refused
 pub mod Sound
+pub mod Listing
+pub mod Example

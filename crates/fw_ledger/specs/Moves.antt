@@ -10,10 +10,12 @@ use Rattle.fw_plug.specs.Words.{units_of}
 
 -- ---- connections
 
+-- one connection of controller c more
 abbrev pub add_connection : ℕ → ConnectionKind → Connections → Connections
 add_connection c PointToPoint s = record s { counts = update s.counts c (s.counts c + 1) }
 add_connection c Broadcast s = record s { broadcast = Some (Of c) }
 
+-- one connection of controller c less
 abbrev pub drop_connection : ℕ → ConnectionKind → Connections → Connections
 drop_connection c PointToPoint s = record s { counts = update s.counts c (s.counts c - 1) }
 drop_connection c Broadcast s = record s { broadcast = None }
@@ -34,10 +36,11 @@ HasConnection c Broadcast s = s.broadcast ≡ Some (Of c)
 abbrev pub HasNoPending : ℕ → (ℕ → Option Allocation) → Type 0
 HasNoPending c allocations = (ch : ℕ) → is_pending c (allocations ch) ≡ false
 
--- the plug's allocation becomes a Pending one of controller c, or the other way round
+-- the allocation of the channel becomes a Pending one of controller c for the plug
 abbrev pub made_pending : ℕ → PlugAt → ℕ → Account → ℕ → Option Allocation
 made_pending c p ch l = update l.allocations ch (Some (record { holder = Pending c p; units = allocated (l.allocations ch) }))
 
+-- the allocation of the channel becomes that of the connected plug
 abbrev pub made_connected : PlugAt → ℕ → Account → ℕ → Option Allocation
 made_connected p ch l = update l.allocations ch (Some (record { holder = Connected p; units = allocated (l.allocations ch) }))
 
@@ -96,6 +99,7 @@ pub record CanConnectInput (c : ℕ) (p : PlugAt) (kind : ConnectionKind) (ch : 
   pub room : HasRoom kind (l.inputs p)
   pub stays : IsTrue (has_connection (l.inputs p)) → ch ≡ l.input_channel p
 
+-- c has the connection of the input plug that it breaks
 pub record CanDisconnectInput (c : ℕ) (p : PlugAt) (kind : ConnectionKind) (l : Account) : Type 0 where
   pub has : HasConnection c kind (l.inputs p)
 
@@ -104,6 +108,7 @@ pub record CanDisconnectOutput (c : ℕ) (p : PlugAt) (kind : ConnectionKind) (l
   pub has : HasConnection c kind (l.outputs p)
   pub last : IsFalse (has_connection (drop_connection c kind (l.outputs p))) → HasNoPending c l.allocations × (l.addressed c ≡ Some p)
 
+-- c holds the units with their channel
 pub record CanReleaseUnits (c : ℕ) (p : PlugAt) (ch : ℕ) (u : ℕ) (l : Account) : Type 0 where
   pub addressed : l.addressed c ≡ Some p
   pub within : ch < 64
@@ -127,9 +132,11 @@ Can c p (DisconnectOutput kind) l = CanDisconnectOutput c p kind l
 Can c p (ReleaseUnits ch u) l = CanReleaseUnits c p ch u l
 Can c p (ReleaseChannel ch) l = CanReleaseChannel c p ch l
 
+-- the account with another allocation of one channel
 abbrev pub with_allocation : ℕ → Option Allocation → Account → Account
 with_allocation ch x l = record l { allocations = update l.allocations ch x }
 
+-- the account with other connections of one output plug
 abbrev pub with_outputs : PlugAt → Connections → Account → Account
 with_outputs p s l = record l { outputs = update_plug l.outputs p s }
 

@@ -21,20 +21,24 @@ row_of_node (Some r) n = slice_get r.nodes n
 abbrev pub row_of_id : Option ResetEntry → ℕ → Option NodeRow
 row_of_id latest id = if nat_le first_id id then row_of_node latest (id - first_id) else None
 
+-- the device that has this node ID
 abbrev pub device_of_id : Option ResetEntry → ℕ → Option ℕ
 device_of_id latest id = option_map (λ (row : NodeRow). row.device) (row_of_id latest id)
 
+-- p is an output plug of the row
 abbrev pub is_output_of : PlugAt → NodeRow → Bool
 is_output_of p row = (row.device == p.device) && nat_lt p.plug row.outs
 
+-- p is an input plug of the row
 abbrev pub is_input_of : PlugAt → NodeRow → Bool
 is_input_of p row = (row.device == p.device) && nat_lt p.plug row.ins
 
--- the output plugs of a reset entry, and its input plugs
+-- the output plugs of a reset entry
 abbrev pub is_output : Option ResetEntry → PlugAt → Bool
 is_output None p = false
 is_output (Some r) p = list_any (is_output_of p) r.nodes
 
+-- the input plugs of a reset entry
 abbrev pub is_input : Option ResetEntry → PlugAt → Bool
 is_input None p = false
 is_input (Some r) p = list_any (is_input_of p) r.nodes
@@ -47,6 +51,7 @@ speed_of n (SelfIdMore s ∷ ps) = speed_of n ps
 speed_of n (Config root force_root set_gap gap ∷ ps) = speed_of n ps
 speed_of n (LinkOn phy ∷ ps) = speed_of n ps
 
+-- the number of the node that a device is, or how many nodes there are
 abbrev pub node_of_device : List NodeRow → ℕ → ℕ
 node_of_device rows d = position_or_len (λ (row : NodeRow). row.device == d) rows
 

@@ -14,6 +14,7 @@ use Rattle.fw_ledger.specs.Decode.{move_at}
 
 -- ---- requests
 
+-- which plug each controller last addressed, after a request of c at this output plug or another place
 abbrev pub addressed_after : ℕ → Option PlugAt → Account → ℕ → Option PlugAt
 addressed_after c None l = l.addressed
 addressed_after c (Some p) l = if has_pending c l.allocations then l.addressed else update l.addressed c (Some p)
@@ -64,6 +65,7 @@ abbrev pub swapped : ℕ → Option Register → ℕ → ℕ → Account → Opt
 swapped c None arg new l = Some (ended c l)
 swapped c (Some register) arg new l = moved c (move_at l c register arg new) l
 
+-- what a response to this request makes
 abbrev pub replied : ℕ → Request → Operation → Reply → Account → Option Account
 replied c request Reads reply l = Some (ended c l)
 replied c request (Locks function bytes) Read l = Some (ended c l)
@@ -75,18 +77,22 @@ abbrev pub replied_to : ℕ → Option Request → ℕ → Reply → Account →
 replied_to c None source reply l = None
 replied_to c (Some request) source reply l = if (request.target == source) && is_reply_to request.operation reply then replied c request request.operation reply l else None
 
+-- a response to the node with this device
 abbrev pub answered : Option ℕ → ℕ → Reply → Account → Option Account
 answered None source reply l = None
 answered (Some c) source reply l = replied_to c (l.outstanding c) source reply l
 
 -- ---- packets
 
+-- the account after a request
 abbrev pub after_request : Head → ℕ → Operation → Account → Option Account
 after_request h address operation l = if h.tl == 0 then asked_by (device_of_id l.latest h.source) (record { target = h.destination; address = address; operation = operation }) l else Some l
 
+-- the account after a response
 abbrev pub after_reply : Head → Reply → Account → Option Account
 after_reply h reply l = if h.tl == 0 then answered (device_of_id l.latest h.destination) h.source reply l else Some l
 
+-- the account after a packet
 abbrev pub after_packet : Packet → Account → Option Account
 after_packet (WriteQuadlet h offset value) l = Some l
 after_packet (WriteBlock h offset bytes) l = Some l

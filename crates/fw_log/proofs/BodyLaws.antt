@@ -1,11 +1,11 @@
 -- Bodies that are packets.
-use Rattle.std.proofs.Common.{◌≡◌, ℕ, ◌+◌, ◌≤◌, ◌<◌, List, [], ◌++◌, length, take, Some, None, IfNone, Result, Ok, Err, arith, ap, sym, subst}
+use Rattle.std.proofs.Common.{◌≡◌, ℕ, ◌++◌, ◌<◌, ◌≤◌, ◌+◌, List, [], length, take, Some, None, IfNone, Result, Ok, Err, arith, ap, sym, subst}
 use Rattle.std.proofs.lemmas.List.{take_all}
 use Rattle.fw_async.specs.Reading as Packets
 use Rattle.fw_async.specs.Reader.{State, Spells}
 use Rattle.fw_async.specs.declared.packet.Packet.{Packet}
 use Rattle.fw_async.specs.declared.PacketFault.{PacketFault}
-use Rattle.fw_async.specs.declared.Fed.{Fed}
+use Rattle.fw_async.specs.declared.reader.Fed.{Fed}
 use Rattle.fw_log.specs.Bodies.{IsBody, PacketRefuses, Refuses, BodyRefused}
 use Rattle.fw_log.specs.declared.entry.Entry.{Entry}
 use Rattle.fw_log.specs.declared.entry.Entry.TheVariants.{Reset, Async as AsyncEntry, Event, Outcome, Shown, End}
@@ -48,7 +48,7 @@ none_given bytes s r fed e give shows is never =
           let all : Spells p (take (length bytes) bytes) = let P : List ℕ → Type 0 = Spells p in subst P (sym (take_all (length bytes) bytes (omega arith))) spelled in
           let d = differ fed (length bytes) p r is (packet (length bytes) p (omega arith) all) in
           never p d.0 d.1)),
-      refuses_none bytes (λ f h. cc (is, fault h.at f h.within h.before h.here)),
+      refuses_none bytes (λ f h. cc (is, fault h.at f h.shown.within h.shown.before h.shown.shown)),
     )
 
 pub as_kind : (kind k : ℕ) (bytes : List ℕ) (f : BodyFault) → kind ≡ k → BodyRefused k bytes f → BodyRefused kind bytes f

@@ -7,12 +7,13 @@ use Rattle.std.proofs.lemmas.Nat.{be_bytes_8}
 use Rattle.std.specs.Int.{to_be_bytes, w16, w32, w64}
 use Rattle.fw_words.specs.Quadlet.{quadlet_at}
 use Rattle.fw_async.specs.Async.{AreBytes}
-use Rattle.fw_async.proofs.ReadingLaws.{are_bytes_part}
-use Rattle.fw_async.proofs.WholeLaws.{peel}
+use Rattle.fw_log.proofs.ByteLaws.{are_bytes_part, peel}
 use Rattle.fw_log.specs.Log.{header_bytes, entry_head, entry_bytes, body}
-use Rattle.fw_log.specs.Reading.{tested, header_fault, entry_fault, head_fault, fault_at, Stand, skip, header_at, need, entry_need, length_of, cycle_of, is_built, is_kind, is_length, HeadFits, WholeHead, Spells, WrongBody}
+use Rattle.fw_log.specs.Reading.{tested, header_fault, entry_fault, head_fault, fault_at, skip, header_at, need, entry_need, length_of, cycle_of, is_built, is_kind, is_length, HeadFits, IsComplete, Spells, WrongBody}
+use Rattle.fw_log.specs.declared.stand.Stand.{Stand}
 use Rattle.fw_log.specs.Bodies.{IsBody, BodyRefused}
 use Rattle.fw_log.specs.declared.LogFault.{LogFault}
+use Rattle.fw_log.proofs.StayLaws.{need_least}
 use Rattle.fw_log.specs.declared.LogWhy.TheVariants.{AfterEnd, BadHeader, BadKind, BadLength, TimeBack, BadBody, NotBuilt}
 use Rattle.fw_log.specs.declared.entry.Timed.{Timed}
 use Rattle.fw_log.specs.declared.BodyFault.{BodyFault}
@@ -104,14 +105,8 @@ entry_back e fit size zero =
         none h = omega arith
     four (a ∷ b ∷ c ∷ d ∷ rest) h = refl
 
-need_whole : (n m : ℕ) → n ≡ (if nat_lt n 4 then 12 else 12 + 4 * m) → n ≡ 12 + 4 * m
-need_whole n m h = grind (arith, nat_tests)
-
-pub need_least : (s : Stand) (bytes : List ℕ) → skip s.start + 12 ≤ need s bytes
-need_least s bytes = least (skip s.start) (length (drop (skip s.start) bytes)) (length_of (drop (skip s.start) bytes))
-  where
-    least : (k n m : ℕ) → k + 12 ≤ k + (if nat_lt n 4 then 12 else 12 + 4 * m)
-    least k n m = grind (arith, nat_tests)
+need_complete : (n m : ℕ) → n ≡ (if nat_lt n 4 then 12 else 12 + 4 * m) → n ≡ 12 + 4 * m
+need_complete n m h = grind (arith, nat_tests)
 
 still_open : (s : Stand) (bytes : List ℕ) → 0 < length bytes → head_fault s bytes ≡ None → s.ended ≡ false
 still_open s bytes some h = by s.ended (length bytes) some _ (fault_at s.start AfterEnd) h
@@ -123,17 +118,17 @@ still_open s bytes some h = by s.ended (length bytes) some _ (fault_at s.start A
 opened : (s : Stand) (bytes : List ℕ) → s.ended ≡ false → head_fault s bytes ≡ None → (if s.start == 0 then header_fault bytes (entry_fault 16 s.last (drop 16 bytes)) else entry_fault s.start s.last bytes) ≡ None
 opened s bytes e h = rw e at h
 
-record WholeBy (last : ℕ) (before e bytes : List ℕ) : Type 0 where
+record CompleteBy (last : ℕ) (before e bytes : List ℕ) : Type 0 where
   pub head : HeadFits last e
   pub before_is : before ++ e ≡ bytes
   pub size : length e ≡ 12 + 4 * length_of e
 
-whole_by : (start last : ℕ) (bytes : List ℕ) (z : Bool) → AreBytes bytes
+complete_by : (start last : ℕ) (bytes : List ℕ) (z : Bool) → AreBytes bytes
     → (if z then header_fault bytes (entry_fault 16 last (drop 16 bytes)) else entry_fault start last bytes) ≡ None
     → length bytes ≡ (if z then 16 else 0) + entry_need (drop (if z then 16 else 0) bytes)
     → (if z then 16 else 0) + 12 ≤ length bytes
-    → WholeBy last (if z then header_bytes else []) (drop (if z then 16 else 0) bytes) bytes
-whole_by start last bytes true fit h whole enough =
+    → CompleteBy last (if z then header_bytes else []) (drop (if z then 16 else 0) bytes) bytes
+complete_by start last bytes true fit h complete enough =
     let long : 16 ≤ length bytes = omega arith in
     let size : length (drop 16 bytes) ≡ entry_need (drop 16 bytes) = omega (arith, length-drop 16 bytes) in
     let more : 12 ≤ length (drop 16 bytes) = omega (arith, length-drop 16 bytes) in
@@ -141,24 +136,25 @@ whole_by start last bytes true fit h whole enough =
     record {
       head = head_fits 16 last (drop 16 bytes) more i.others;
       before_is = header_back bytes (entry_fault 16 last (drop 16 bytes)) fit long h;
-      size = need_whole (length (drop 16 bytes)) (length_of (drop 16 bytes)) size;
+      size = need_complete (length (drop 16 bytes)) (length_of (drop 16 bytes)) size;
     }
-whole_by start last bytes false fit h whole enough =
+complete_by start last bytes false fit h complete enough =
     let size : length bytes ≡ entry_need bytes = omega arith in
     let more : 12 ≤ length bytes = omega arith in
     record {
       head = head_fits start last bytes more h;
       before_is = refl;
-      size = need_whole (length bytes) (length_of bytes) size;
+      size = need_complete (length bytes) (length_of bytes) size;
     }
 
-pub whole_head : (s : Stand) (bytes : List ℕ) → AreBytes bytes → head_fault s bytes ≡ None → length bytes ≡ need s bytes → WholeHead s bytes
-whole_head s bytes fit h whole =
+pub complete_head : (s : Stand) (bytes : List ℕ) → AreBytes bytes → head_fault s bytes ≡ None → length bytes ≡ need s bytes → IsComplete s bytes
+complete_head s bytes fit h complete =
     let least = need_least s bytes in
     let more : 0 < length bytes = omega arith in
     let enough : skip s.start + 12 ≤ length bytes = omega arith in
-    let w = whole_by s.start s.last bytes (s.start == 0) fit (opened s bytes (still_open s bytes more h) h) whole enough in
-    record { head = w.head; before = w.before_is; size = w.size }
+    let going_on = still_open s bytes more h in
+    let w = complete_by s.start s.last bytes (s.start == 0) fit (opened s bytes going_on h) complete enough in
+    record { going_on = going_on; head = w.head; before = w.before_is; size = w.size }
 
 pub meet : (n m r : ℕ) → r ≡ m → r ≤ n → n ≤ m → n ≡ m
 meet n m r e below above = omega arith
@@ -167,7 +163,7 @@ kind_alone : (k low : ℕ) → is_kind k low ≡ true → (is_kind k 0 ≡ true)
 kind_alone k low h = (grind (arith, nat_tests), grind (arith, nat_tests))
 
 -- a body that is an entry's, and its cycle, spell the bytes
-pub spelled_by : (s : Stand) (bytes e : List ℕ) (t : Timed) → AreBytes e → e ≡ drop (skip s.start) bytes → WholeHead s bytes → t.cycle ≡ cycle_of e → IsBody (get_or e 0 0) (drop 12 e) t.what → Spells s t bytes
+pub spelled_by : (s : Stand) (bytes e : List ℕ) (t : Timed) → AreBytes e → e ≡ drop (skip s.start) bytes → IsComplete s bytes → t.cycle ≡ cycle_of e → IsBody (get_or e 0 0) (drop 12 e) t.what → Spells s t bytes
 spelled_by s bytes e t fit is w c b =
     let P : List ℕ → Type 0 = HeadFits s.last in
     let h = subst P (sym is) w.head in
@@ -180,6 +176,7 @@ spelled_by s bytes e t fit is w c b =
     ∙ ap (λ x. entry_head (get_or e 0 0) (length (drop 12 e) / 4) x ++ drop 12 e) c
     ∙ back in
     record {
+      going_on = w.going_on;
       fits = record { cycle = rw c (below e fit); entry = b.fits };
       later = rw c (later s.last (cycle_of e) h.later);
       same = ap (λ x. header_at s.start ++ x) (mine ∙ is) ∙ w.before;
@@ -198,25 +195,25 @@ bytes_drop bytes k fit i = rw (get_or-drop k bytes i 0) (fit (k + i))
 pub entry_is : (start at : ℕ) (bytes e : List ℕ) → at ≡ skip start → e ≡ drop at bytes → e ≡ drop (skip start) bytes
 entry_is start at bytes e a b = b ∙ ap (λ k. drop k bytes) a
 
-pub kind_of_whole : (s : Stand) (bytes e : List ℕ) → e ≡ drop (skip s.start) bytes → WholeHead s bytes → is_kind (get_or e 0 0) 0 ≡ true
-kind_of_whole s bytes e is w = rw is (kind_alone (get_or (drop (skip s.start) bytes) 0 0) (get_or (drop (skip s.start) bytes) 1 0) w.head.kind).0
+pub kind_of_complete : (s : Stand) (bytes e : List ℕ) → e ≡ drop (skip s.start) bytes → IsComplete s bytes → is_kind (get_or e 0 0) 0 ≡ true
+kind_of_complete s bytes e is w = rw is (kind_alone (get_or (drop (skip s.start) bytes) 0 0) (get_or (drop (skip s.start) bytes) 1 0) w.head.kind).0
 
-pub size_of_whole : (s : Stand) (bytes e more : List ℕ) → e ≡ drop (skip s.start) bytes → more ≡ drop 12 e → WholeHead s bytes → (n : ℕ) × (length more ≡ 4 * n) × (is_length (get_or e 0 0) n ≡ true)
-size_of_whole s bytes e more is after w =
+pub size_of_complete : (s : Stand) (bytes e more : List ℕ) → e ≡ drop (skip s.start) bytes → more ≡ drop 12 e → IsComplete s bytes → (n : ℕ) × (length more ≡ 4 * n) × (is_length (get_or e 0 0) n ≡ true)
+size_of_complete s bytes e more is after w =
     let size : length e ≡ 12 + 4 * length_of e = let Q : List ℕ → Type 0 = λ x. length x ≡ 12 + 4 * length_of x in subst Q (sym is) w.size in
     (length_of e, ap length after ∙ omega (arith, length-drop 12 e), rw is w.head.size)
 
-pub long_of_whole : (s : Stand) (bytes e : List ℕ) → e ≡ drop (skip s.start) bytes → WholeHead s bytes → 12 ≤ length e
-long_of_whole s bytes e is w = rw is (omega (arith, w.size))
+pub long_of_complete : (s : Stand) (bytes e : List ℕ) → e ≡ drop (skip s.start) bytes → IsComplete s bytes → 12 ≤ length e
+long_of_complete s bytes e is w = rw is (omega (arith, w.size))
 
-pub whole_ok : (s : Stand) (bytes e more : List ℕ) (t : Timed) → AreBytes bytes → e ≡ drop (skip s.start) bytes → more ≡ drop 12 e → WholeHead s bytes → t.cycle ≡ cycle_of e → IsBody (get_or e 0 0) more t.what → Spells s t bytes
-whole_ok s bytes e more t fit is after w c b =
+pub complete_ok : (s : Stand) (bytes e more : List ℕ) (t : Timed) → AreBytes bytes → e ≡ drop (skip s.start) bytes → more ≡ drop 12 e → IsComplete s bytes → t.cycle ≡ cycle_of e → IsBody (get_or e 0 0) more t.what → Spells s t bytes
+complete_ok s bytes e more t fit is after w c b =
     let A : List ℕ → Type 0 = AreBytes in
     let B : List ℕ → Type 0 = λ x. IsBody (get_or e 0 0) x t.what in
     spelled_by s bytes e t (subst A (sym is) (bytes_drop bytes (skip s.start) fit)) is w c (subst B after b)
 
-pub whole_err : (s : Stand) (at : ℕ) (bytes e more : List ℕ) (g : BodyFault) → at ≡ skip s.start → e ≡ drop (skip s.start) bytes → more ≡ drop 12 e → BodyRefused (get_or e 0 0) more g → WrongBody s bytes (fault_at (s.start + (at + 12)) (BadBody g))
-whole_err s at bytes e more g here is after b =
+pub complete_err : (s : Stand) (at : ℕ) (bytes e more : List ℕ) (g : BodyFault) → at ≡ skip s.start → e ≡ drop (skip s.start) bytes → more ≡ drop 12 e → BodyRefused (get_or e 0 0) more g → WrongBody s bytes (fault_at (s.start + (at + 12)) (BadBody g))
+complete_err s at bytes e more g here is after b =
     let B : List ℕ → Type 0 = λ x. BodyRefused (get_or e 0 0) x g in
     let C : List ℕ → Type 0 = λ x. BodyRefused (get_or x 0 0) (drop 12 x) g in
     record { why = g; is = ap (λ n. fault_at (s.start + (n + 12)) (BadBody g)) here; refused = subst C is (subst B after b) }

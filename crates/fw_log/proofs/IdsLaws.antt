@@ -11,9 +11,9 @@ use Rattle.std.specs.Option.{option_map}
 use Rattle.std.proofs.lemmas.Nat.{from_be_bytes-to_be_bytes_4}
 use Rattle.fw_words.specs.Quadlet.{quadlet_at}
 use Rattle.fw_phy.specs.Phy.{Fits, spelling, quadlet_of, reserved_bit, phy_fault}
-use Rattle.fw_phy.proofs.PhyLaws.{spelled_none, same_packet}
+use Rattle.fw_phy.proofs.TagLaws.{spelled_none}
+use Rattle.fw_phy.proofs.SameLaws.{same_packet, below}
 use Rattle.fw_phy.specs.declared.packet.PhyPacket.{PhyPacket}
-use Rattle.fw_phy.specs.declared.packet.PhyPacket.TheVariants.{SelfId, SelfIdMore, Config, LinkOn}
 use Rattle.fw_phy.specs.declared.PhyFault.TheVariants.{Short, NotInverse, Reserved}
 use Rattle.fw_phy.specs.declared.PhyFault.{PhyFault}
 use Rattle.fw_log.specs.Bodies.{AreIds, refusal, or_else}
@@ -96,12 +96,6 @@ ids_refused ids bytes rest at f i more r h =
 pub back : (a : ℕ) (rest : List ℕ) → a < 2 ^ 32 → quadlet_at (to_be_bytes w32 a ++ rest) 0 ≡ a
 back a rest h = from_be_bytes-to_be_bytes_4 a h
 
-phy_below : (p : PhyPacket) → Fits p → quadlet_of p < 2 ^ 32
-phy_below (SelfId s) f = omega (arith, f.fields)
-phy_below (SelfIdMore s) f = omega (arith, f.fields)
-phy_below (Config a b c d) f = omega (arith, f.fields)
-phy_below (LinkOn x) f = omega (arith, f.fields)
-
 cons_both : (p q : PhyPacket) (ps qs : List PhyPacket) → p ≡ q → ps ≡ qs → p ∷ ps ≡ q ∷ qs
 cons_both p q ps qs e f = cc
 
@@ -113,7 +107,7 @@ same_ids (p ∷ ps) [] f g e = cc e
 same_ids (p ∷ ps) (q ∷ qs) f g e =
     let here : Fits p = All-head Fits p ps f in
     let there : Fits q = All-head Fits q qs g in
-    let first : quadlet_of p ≡ quadlet_of q = sym (back (quadlet_of p) (drop 4 (flat_map spelling (p ∷ ps))) (phy_below p here)) ∙ ap (λ t. quadlet_at t 0) e ∙ back (quadlet_of q) (drop 4 (flat_map spelling (q ∷ qs))) (phy_below q there) in
+    let first : quadlet_of p ≡ quadlet_of q = sym (back (quadlet_of p) (drop 4 (flat_map spelling (p ∷ ps))) (below p here)) ∙ ap (λ t. quadlet_at t 0) e ∙ back (quadlet_of q) (drop 4 (flat_map spelling (q ∷ qs))) (below q there) in
     let rest : flat_map spelling ps ≡ flat_map spelling qs = ap (drop 8) e in
     cons_both p q ps qs (same_packet p q here there first) (same_ids ps qs (All-tail Fits p ps f) (All-tail Fits q qs g) rest)
 
@@ -156,7 +150,7 @@ not_refused n q r k enough e f none =
 
 spelled_clear : (p : PhyPacket) (rest : List ℕ) → Fits p → phy_fault (spelling p ++ rest) ≡ None
 spelled_clear p rest fits =
-    let small : quadlet_of p < 2 ^ 32 = phy_below p fits in
+    let small : quadlet_of p < 2 ^ 32 = below p fits in
     not_refused (length (spelling p ++ rest)) (quadlet_at (spelling p ++ rest) 0) (quadlet_at (spelling p ++ rest) 4) (quadlet_of p) (omega (arith, length-append (spelling p) rest, eight p))
     (back (quadlet_of p) (drop 4 (spelling p ++ rest)) small) (back (2 ^ 32 - 1 - quadlet_of p) rest (omega arith)) (spelled_none p fits)
 

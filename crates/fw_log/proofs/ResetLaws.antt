@@ -66,9 +66,9 @@ device_new rows i d within here fresh before j k less low same =
     ]
 
 -- a packet after which nothing goes on
-pub ids_stop : (ids : List PhyPacket) (i node n : ℕ) (next : Option ℕ) (p : PhyPacket) (whole : Bool) → i < length ids → p ≡ get_or ids i p → are_ids node next (p ∷ drop (i + 1) ids) n ≡ false
-    → are_ids node next (drop i ids) n ≡ whole → false ≡ whole
-ids_stop ids i node n next p whole more is stop h =
+pub ids_stop : (ids : List PhyPacket) (i node n : ℕ) (next : Option ℕ) (p : PhyPacket) (complete : Bool) → i < length ids → p ≡ get_or ids i p → are_ids node next (p ∷ drop (i + 1) ids) n ≡ false
+    → are_ids node next (drop i ids) n ≡ complete → false ≡ complete
+ids_stop ids i node n next p complete more is stop h =
     sym stop ∙ ap (λ x. are_ids node next (x ∷ drop (i + 1) ids) n) is ∙ sym (ap (λ t. are_ids node next t n) (drop_more ids i p more)) ∙ h
 
 -- a node is its quadlet

@@ -1,11 +1,10 @@
 -- What a body is: an entry of its kind, or why it is none.
-use Rattle.std.specs.Prelude.{◌≡◌, ℕ, zero, suc, ◌+◌, ◌*◌, ◌≤◌, ◌<◌, ◌==◌, ◌&&◌, nat_le, List, Bool, Option, Some, None, Result, Ok, Err, length, take, drop, if◌then◌else◌, flat_map, IsTrue}
+use Rattle.std.specs.Prelude.{◌≡◌, ℕ, zero, suc, ◌+◌, ◌*◌, ◌≤◌, ◌==◌, ◌&&◌, nat_le, List, [], Bool, Option, Some, None, Result, Ok, Err, length, drop, if◌then◌else◌, flat_map, IsTrue}
 use Rattle.std.specs.List.{All}
 use Rattle.fw_words.specs.Quadlet.{field, quadlet_at}
 use Rattle.fw_phy.specs.Phy.{phy_fault, Fits as PhyFits, spelling as phy_spelling}
 use Rattle.fw_phy.specs.declared.packet.PhyPacket.{PhyPacket}
 use Rattle.fw_phy.specs.declared.PhyFault.{PhyFault}
-use Rattle.fw_async.specs.Reading as Async
 use Rattle.fw_async.specs.Reader as Packets
 use Rattle.fw_async.specs.declared.PacketFault.{PacketFault}
 use Rattle.fw_async.specs.declared.packet.Packet.{Packet as AsyncPacket}
@@ -25,9 +24,7 @@ pub record IsBody (k : ℕ) (bytes : List ℕ) (e : Entry) : Type 0 where
 -- The reader of packets refuses the body at one of its bytes.
 pub record PacketRefuses (bytes : List ℕ) (f : PacketFault) : Type 0 where
   pub at : ℕ
-  pub within : at < length bytes
-  pub before : Async.IsPending (take at bytes)
-  pub here : Async.fault_of (take (at + 1) bytes) ≡ Some f
+  pub shown : Packets.ShowsFault [] bytes at f
 
 -- how many nodes the body of a reset names, and where its self-ID packets begin
 abbrev pub count_of : List ℕ → ℕ

@@ -1,10 +1,11 @@
 -- What a reader of logs keeps, and what it makes of the bytes that come.
-use Rattle.std.specs.Prelude.{◌≡◌, ℕ, ◌+◌, ◌==◌, ◌≤◌, ◌<◌, List, [], ◌∷◌, ◌++◌, length, take, Option, Some, None, Result, Ok, Err, if◌then◌else◌}
+use Rattle.std.specs.Prelude.{◌≡◌, ℕ, ◌+◌, ◌==◌, ◌≤◌, ◌<◌, List, [], ◌++◌, length, take, Option, Some, None, Result, Ok, Err, if◌then◌else◌}
 use Rattle.fw_log.specs.Log.{is_end}
-use Rattle.fw_log.specs.Reading.{Stand, IsPending, Spells, Faulty, WrongBody, skip, fault_at}
+use Rattle.fw_log.specs.Reading.{IsPending, Spells, Faulty, WrongBody, skip, fault_at}
 use Rattle.fw_log.specs.declared.entry.Timed.{Timed}
 use Rattle.fw_log.specs.declared.LogFault.{LogFault}
 use Rattle.fw_log.specs.declared.LogWhy.TheVariants.{Cut, NoEnd}
+use Rattle.fw_log.specs.declared.stand.Stand.{Stand}
 use Rattle.fw_log.specs.declared.read.LogFed.{LogFed}
 
 -- where the reader stands, the bytes since the last entry, and the fault that was answered
@@ -12,6 +13,10 @@ pub record State : Type 0 where
   pub stand : Stand
   pub taken : List ℕ
   pub fault : Option LogFault
+
+-- how many bytes were taken since the reader began
+abbrev pub total : State → ℕ
+total r = r.stand.start + length r.taken
 
 abbrev pub HoldsPending : Stand → List ℕ → Option LogFault → Type 0
 HoldsPending s taken None = IsPending s taken
@@ -25,28 +30,50 @@ abbrev pub after : Stand → List ℕ → Timed → State
 after s taken t = record { stand = record { start = s.start + length taken; last = t.cycle; ended = is_end t.what }; taken = []; fault = None }
 
 -- a whole entry: it, or why its body is none
-abbrev pub WholeJudges : Stand → List ℕ → Result Timed LogFault → Type 0
-WholeJudges s bytes (Ok t) = Spells s t bytes
-WholeJudges s bytes (Err f) = WrongBody s bytes f
+abbrev pub EntryJudges : Stand → List ℕ → Result Timed LogFault → Type 0
+EntryJudges s bytes (Ok t) = Spells s t bytes
+EntryJudges s bytes (Err f) = WrongBody s bytes f
 
 abbrev pub Judges : Stand → List ℕ → Result (Option Timed) LogFault → Type 0
 Judges s bytes (Ok None) = IsPending s bytes
 Judges s bytes (Ok (Some t)) = Spells s t bytes
 Judges s bytes (Err f) = Faulty s bytes f
 
-abbrev pub TakesByte : Stand → List ℕ → ℕ → Result (Option Timed) LogFault → State → Type 0
-TakesByte s old b (Ok None) new = (new ≡ with_bytes s (old ++ b ∷ [])) × IsPending s (old ++ b ∷ [])
-TakesByte s old b (Ok (Some t)) new = (new ≡ after s (old ++ b ∷ []) t) × Spells s t (old ++ b ∷ [])
-TakesByte s old b (Err f) new = (new.fault ≡ Some f) × Faulty s (old ++ b ∷ []) f
+abbrev pub TakesPart : Stand → List ℕ → List ℕ → Result (Option Timed) LogFault → State → Type 0
+TakesPart s old part (Ok None) new = (new ≡ with_bytes s (old ++ part)) × IsPending s (old ++ part)
+TakesPart s old part (Ok (Some t)) new = (new ≡ after s (old ++ part) t) × Spells s t (old ++ part)
+TakesPart s old part (Err f) new = (new.fault ≡ Some f) × Faulty s (old ++ part) f
 
+-- the first k bytes of a piece end an entry
+pub record EndsEntry (s : Stand) (old piece : List ℕ) (k : ℕ) (t : Timed) : Type 0 where
+  pub within : k ≤ length piece
+  pub spells : Spells s t (old ++ take k piece)
+
+-- A byte of a piece, that at index k, is the last of a part that is refused, and none is refused before.
+pub record ShowsFault (s : Stand) (old piece : List ℕ) (k : ℕ) (f : LogFault) : Type 0 where
+  pub within : k < length piece
+  pub before : IsPending s (old ++ take k piece)
+  pub shown : Faulty s (old ++ take (k + 1) piece) f
+
+-- no part that was taken whole is refused, and the bytes end no entry
+pub record EndsNothing (s : Stand) (old piece : List ℕ) : Type 0 where
+  pub no_fault : (k : ℕ) (f : LogFault) → k ≤ length piece → Faulty s (old ++ take k piece) f → ⊥
+  pub no_entry : (k : ℕ) (t : Timed) → k ≤ length piece → Spells s t (old ++ take k piece) → ⊥
+
+-- all bytes of a piece without an entry's end, or those up to it
 abbrev pub FeedsTo : Stand → List ℕ → List ℕ → ℕ → Option Timed → State → Type 0
 FeedsTo s old piece used None new = (used ≡ length piece) × (new ≡ with_bytes s (old ++ piece)) × IsPending s (old ++ piece)
-FeedsTo s old piece used (Some t) new = (used ≤ length piece) × (new ≡ after s (old ++ take used piece) t) × Spells s t (old ++ take used piece)
+FeedsTo s old piece used (Some t) new = EndsEntry s old piece used t × (new ≡ after s (old ++ take used piece) t)
 
--- A piece: the bytes up to an entry's end, all of them, or up to the one at which a part is refused.
+-- A piece: the bytes up to an entry's end, all of them, or up to the one that completes a refused part.
 abbrev pub Feeds : Stand → List ℕ → List ℕ → Result LogFed LogFault → State → Type 0
 Feeds s old piece (Ok fed) new = FeedsTo s old piece fed.used fed.entry new
-Feeds s old piece (Err f) new = (new.fault ≡ Some f) × ((k : ℕ) × (k < length piece) × IsPending s (old ++ take k piece) × Faulty s (old ++ take (k + 1) piece) f)
+Feeds s old piece (Err f) new = ((k : ℕ) × ShowsFault s old piece k f) × (new.fault ≡ Some f)
+
+-- the bytes that were taken are counted, and some are where there are any
+abbrev pub Counts : State → List ℕ → Result LogFed LogFault → State → Type 0
+Counts old piece (Ok fed) new = (total new ≡ total old + fed.used) × (fed.used ≤ length piece) × (0 < length piece → 0 < fed.used)
+Counts old piece (Err f) new = Unit {0}
 
 -- what the input's end makes of it
 abbrev pub finish_by : Option LogFault → Stand → List ℕ → Option LogFault

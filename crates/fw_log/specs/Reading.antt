@@ -1,5 +1,5 @@
 -- What the bytes of a log show before an entry is whole: a fault, or how many bytes the entry takes.
-use Rattle.std.specs.Prelude.{◌≡◌, ℕ, ◌+◌, ◌*◌, ◌≤◌, ◌<◌, ◌==◌, ◌||◌, ◌&&◌, not, nat_le, nat_lt, List, [], ◌++◌, Bool, true, Option, Some, None, length, slice_index, take, drop, if◌then◌else◌, ◌⊎◌}
+use Rattle.std.specs.Prelude.{◌≡◌, ℕ, ◌+◌, ◌*◌, ◌≤◌, ◌<◌, ◌==◌, ◌||◌, ◌&&◌, not, nat_le, nat_lt, List, [], ◌++◌, Bool, true, false, Option, Some, None, length, slice_index, take, drop, if◌then◌else◌, ◌⊎◌}
 use Rattle.std.specs.Int.{from_be_bytes, w64}
 use Rattle.fw_words.specs.Quadlet.{quadlet_at}
 use Rattle.fw_log.specs.Log.{header_bytes, entry_bytes, TimedFits}
@@ -9,9 +9,24 @@ use Rattle.fw_log.specs.Bodies.{BodyRefused}
 use Rattle.fw_log.specs.declared.LogWhy.{LogWhy}
 use Rattle.fw_log.specs.declared.LogWhy.TheVariants.{AfterEnd, BadHeader, BadKind, BadLength, TimeBack, BadBody, NotBuilt}
 use Rattle.fw_log.specs.declared.LogFault.{LogFault}
+use Rattle.fw_log.specs.declared.stand.Stand.{Stand}
 
 abbrev pub fault_at : ℕ → LogWhy → LogFault
 fault_at place why = record { place = place; why = why }
+
+-- Where the parts of an entry stand: each ends where the next begins.
+abbrev pub length_at : ℕ
+length_at = 2
+
+abbrev pub cycle_at : ℕ
+cycle_at = 4
+
+abbrev pub body_at : ℕ
+body_at = 12
+
+-- how many bytes the header has
+abbrev pub header_size : ℕ
+header_size = 16
 
 -- A part is judged when its last byte was taken. Then come the parts behind it.
 abbrev pub tested : ℕ → ℕ → Bool → LogFault → Option LogFault → Option LogFault
@@ -19,10 +34,10 @@ tested n end ok f rest = if nat_lt n end then None else if ok then rest else Som
 
 -- the number of quadlets of a body, and the cycle
 abbrev pub length_of : List ℕ → ℕ
-length_of e = 256 * slice_index e 2 + slice_index e 3
+length_of e = 256 * slice_index e length_at + slice_index e (length_at + 1)
 
 abbrev pub cycle_of : List ℕ → ℕ
-cycle_of e = from_be_bytes w64 (take 8 (drop 4 e))
+cycle_of e = from_be_bytes w64 (take 8 (drop cycle_at e))
 
 abbrev pub is_built : ℕ → Bool
 is_built kind = not (kind == 3)
@@ -42,10 +57,10 @@ is_length kind len =
 
 abbrev pub entry_fault : ℕ → ℕ → List ℕ → Option LogFault
 entry_fault place last e =
-    tested (length e) 2 (is_built (slice_index e 0)) (fault_at place NotBuilt)
-    (tested (length e) 2 (is_kind (slice_index e 0) (slice_index e 1)) (fault_at place BadKind)
-    (tested (length e) 4 (is_length (slice_index e 0) (length_of e)) (fault_at (place + 2) BadLength)
-    (tested (length e) 12 (nat_le last (cycle_of e)) (fault_at (place + 4) TimeBack) None)))
+    tested (length e) length_at (is_built (slice_index e 0)) (fault_at place NotBuilt)
+    (tested (length e) length_at (is_kind (slice_index e 0) (slice_index e 1)) (fault_at place BadKind)
+    (tested (length e) cycle_at (is_length (slice_index e 0) (length_of e)) (fault_at (place + length_at) BadLength)
+    (tested (length e) body_at (nat_le last (cycle_of e)) (fault_at (place + cycle_at) TimeBack) None)))
 
 abbrev pub header_fault : List ℕ → Option LogFault → Option LogFault
 header_fault bytes rest =
@@ -56,37 +71,33 @@ header_fault bytes rest =
 
 -- The bytes since the last entry: the first of them stand behind the header.
 abbrev pub skip : ℕ → ℕ
-skip start = if start == 0 then 16 else 0
-
--- where the reader stands: the place of the first byte, the cycle of the last entry, and whether that was the end
-pub record Stand : Type 0 where
-  pub start : ℕ
-  pub last : ℕ
-  pub ended : Bool
+skip start = if start == 0 then header_size else 0
 
 -- the first fault that parts before the body show
 abbrev pub head_fault : Stand → List ℕ → Option LogFault
 head_fault s bytes =
     if s.ended then (if length bytes == 0 then None else Some (fault_at s.start AfterEnd))
-    else if s.start == 0 then header_fault bytes (entry_fault 16 s.last (drop 16 bytes))
+    else if s.start == 0 then header_fault bytes (entry_fault header_size s.last (drop header_size bytes))
     else entry_fault s.start s.last bytes
 
 abbrev pub entry_need : List ℕ → ℕ
-entry_need e = if nat_lt (length e) 4 then 12 else 12 + 4 * length_of e
+entry_need e = if nat_lt (length e) cycle_at then body_at else body_at + 4 * length_of e
 
 -- how many bytes the header and the entry take at least
 abbrev pub need : Stand → List ℕ → ℕ
 need s bytes = skip s.start + entry_need (drop (skip s.start) bytes)
 
+-- no part that was taken whole is refused, and the bytes end no entry
 pub record IsPending (s : Stand) (bytes : List ℕ) : Type 0 where
   pub no_fault : head_fault s bytes ≡ None
-  pub not_whole : length bytes < need s bytes
+  pub not_complete : length bytes < need s bytes
 
 -- the bytes are the entry, behind the header where it is the first
 abbrev pub header_at : ℕ → List ℕ
 header_at start = if start == 0 then header_bytes else []
 
 pub record Spells (s : Stand) (t : Timed) (bytes : List ℕ) : Type 0 where
+  pub going_on : s.ended ≡ false
   pub fits : TimedFits t
   pub later : s.last ≤ t.cycle
   pub same : header_at s.start ++ entry_bytes t ≡ bytes
@@ -99,20 +110,21 @@ pub record HeadFits (last : ℕ) (e : List ℕ) : Type 0 where
   pub later : nat_le last (cycle_of e) ≡ true
 
 -- what stands before a whole entry, and the entry
-pub record WholeHead (s : Stand) (bytes : List ℕ) : Type 0 where
+pub record IsComplete (s : Stand) (bytes : List ℕ) : Type 0 where
+  pub going_on : s.ended ≡ false
   pub head : HeadFits s.last (drop (skip s.start) bytes)
   pub before : header_at s.start ++ drop (skip s.start) bytes ≡ bytes
-  pub size : length (drop (skip s.start) bytes) ≡ 12 + 4 * length_of (drop (skip s.start) bytes)
+  pub size : length (drop (skip s.start) bytes) ≡ body_at + 4 * length_of (drop (skip s.start) bytes)
 
 -- the whole entry, whose head has no fault
 pub record WrongBody (s : Stand) (bytes : List ℕ) (f : LogFault) : Type 0 where
   pub why : BodyFault
-  pub is : f ≡ fault_at (s.start + (skip s.start + 12)) (BadBody why)
-  pub refused : BodyRefused (slice_index (drop (skip s.start) bytes) 0) (drop 12 (drop (skip s.start) bytes)) why
+  pub is : f ≡ fault_at (s.start + (skip s.start + body_at)) (BadBody why)
+  pub refused : BodyRefused (slice_index (drop (skip s.start) bytes) 0) (drop body_at (drop (skip s.start) bytes)) why
 
 pub record BodyFaulty (s : Stand) (bytes : List ℕ) (f : LogFault) : Type 0 where
   pub no_fault : head_fault s bytes ≡ None
-  pub whole : length bytes ≡ need s bytes
+  pub complete : length bytes ≡ need s bytes
   pub wrong : WrongBody s bytes f
 
 abbrev pub Faulty : Stand → List ℕ → LogFault → Type 0

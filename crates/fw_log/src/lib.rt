@@ -11,6 +11,9 @@ mod read;
 mod read_body;
 mod read_head;
 mod read_reset;
+mod stand;
+#[cfg(test)]
+mod tests;
 mod write;
 mod write_body;
 

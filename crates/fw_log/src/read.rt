@@ -1,14 +1,19 @@
 //! A reader of logs.
 
-ghost use Rattle.std.specs.Prelude.{ℕ, ◌≡◌, ◌≤◌, ◌<◌, ◌+◌, ◌-◌, ◌*◌, ◌^◌, ◌++◌, ◌∷◌, [], length, take, drop, IfSome, IfNone, IfOk, None, true, false};
+ghost use Rattle.std.specs.Prelude.{ℕ, ◌≡◌, ◌≤◌, ◌<◌, ◌+◌, ◌-◌, ◌*◌, ◌^◌, ◌++◌, ◌∷◌, [], length, take, drop, IfSome, IfNone, IfOk, Some, None, Ok, Err, List};
 ghost use Rattle.std.specs.Result.{result_err};
-ghost use Rattle.fw_log.specs.Log.{is_end};
-ghost use Rattle.fw_log.specs.Reading.{need, Stand, WholeHead};
-ghost use Rattle.fw_log.specs.Reader.{State, with_bytes, WholeJudges, Judges, TakesByte, Feeds, finish_of};
+ghost use Rattle.fw_log.specs.Log.{is_end, LogOpens};
+ghost use Rattle.fw_log.specs.Reading.{need, IsComplete, IsPending};
+ghost use Rattle.fw_log.specs.Reader.{State, total, with_bytes, EntryJudges, Judges, TakesPart, EndsEntry, EndsNothing, ShowsFault, Feeds, Counts, finish_of};
+ghost use Rattle.fw_log.specs.History.{stand_after, HasRead, ReadsOn, GivesNext, Finishes};
+ghost use Rattle.fw_log.specs.declared.LogFault.{LogFault};
+ghost use Rattle.fw_log.specs.declared.entry.Timed.{Timed};
 
 use crate::read_body::entry_of;
-use crate::read_head::{cycle_of, head_fault, need, rest, skip};
+use crate::read_head::head_fault;
+use crate::stand::{BODY_AT, Stand, cycle_of, need, rest, skip};
 use crate::{Entry, LogFault, LogWhy, Timed};
+use fw_words::Bytes;
 use std::alloc::{AllocError, Global};
 use std::marker::Model;
 
@@ -20,36 +25,36 @@ pub struct LogFed {
 }
 
 // The entry that the bytes are, or why its body is none.
-fn whole_entry(start: u64, last: u64, ended: bool, bytes: &[u8]) -> Result<Timed, LogFault>
-    requires room { start + length bytes.now < 2 ^ 64 }
-    requires head { WholeHead (record { start = start; last = last; ended = ended }) bytes.now }
-    ensures { WholeJudges (record { start = start; last = last; ended = ended }) bytes.now result }
+fn complete_entry(stand: Stand, bytes: &[u8]) -> Result<Timed, LogFault>
+    requires room { stand.start + length bytes.now < 2 ^ 64 }
+    requires head { IsComplete stand bytes.now }
+    ensures { EntryJudges stand bytes.now result }
 {
-    let at = skip(start);
+    let at = skip(stand.start);
     let entry = rest(bytes, at);
     let cycle = cycle_of(entry);
-    match entry_of(entry[0], rest(entry, 12)) {
+    match entry_of(entry[0], rest(entry, BODY_AT)) {
         Ok(what) => Ok(Timed { cycle, what }),
         Err(why) => Err(LogFault {
-            place: start + (at + 12) as u64,
+            place: stand.start + (at + BODY_AT) as u64,
             why: LogWhy::BadBody(why),
         }),
     }
 }
 
 // What bytes that are no longer than their entry are: it, a part of it, or a fault.
-fn judge(start: u64, last: u64, ended: bool, bytes: &[u8]) -> Result<Option<Timed>, LogFault>
-    requires room { start + length bytes.now < 2 ^ 64 }
-    requires part { length bytes.now ≤ need (record { start = start; last = last; ended = ended }) bytes.now }
-    ensures { Judges (record { start = start; last = last; ended = ended }) bytes.now result }
+fn judge(stand: Stand, bytes: &[u8]) -> Result<Option<Timed>, LogFault>
+    requires room { stand.start + length bytes.now < 2 ^ 64 }
+    requires part { length bytes.now ≤ need stand bytes.now }
+    ensures { Judges stand bytes.now result }
 {
-    if let Some(fault) = head_fault(start, last, ended, bytes) {
+    if let Some(fault) = head_fault(stand, bytes) {
         return Err(fault);
     }
-    if bytes.len() < need(start, bytes) {
+    if bytes.len() < need(stand, bytes) {
         return Ok(None);
     }
-    match whole_entry(start, last, ended, bytes) {
+    match complete_entry(stand, bytes) {
         Ok(entry) => Ok(Some(entry)),
         Err(fault) => Err(fault),
     }
@@ -64,57 +69,54 @@ fn is_end(what: &Entry) -> bool
 /// Reads the entries of a log from bytes that come in any pieces.
 #[derive(Debug, Drop)]
 pub struct LogReader {
-    taken: Vec<u8>,
-    start: u64,
-    last: u64,
-    ended: bool,
+    taken: Box<Bytes<2304>>,
+    stand: Stand,
     fault: Option<LogFault>,
 }
 
 impl Model for LogReader {
-    ghost use Rattle.std.specs.Prelude.{◌≤◌};
-    ghost use Rattle.std.specs.Vec.{vec_capacity};
     ghost use Rattle.fw_log.specs.Reader.{State, HoldsPending};
 
     ghost Value = { State };
 
-    ghost view = { λ r. record { stand = record { start = r.start; last = r.last; ended = r.ended }; taken = r.taken.items; fault = r.fault } };
+    ghost view = { λ r. record { stand = r.stand; taken = r.taken.value; fault = r.fault } };
 
-    ghost invariant = { λ r. (2304 ≤ vec_capacity r.taken) × HoldsPending (record { start = r.start; last = r.last; ended = r.ended }) r.taken.items r.fault };
+    ghost invariant = { λ r. HoldsPending r.stand r.taken.value r.fault };
 }
 
 impl LogReader {
-    /// No byte was taken. It makes the room for a header and the longest entry.
+    /// No byte was taken. It makes the room for a header and the longest entry; no other call takes memory.
     pub fn new(alloc: Global) -> Result<Self, AllocError>
-        ensures { IfOk result (λ r. r ≡ with_bytes (record { start = 0; last = 0; ended = false }) []) }
+        ensures stand { IfOk result (λ r. r ≡ with_bytes (stand_after []) []) }
+        ensures begins { IfOk result (HasRead [] []) }
     {
         Ok(LogReader {
-            taken: Vec::with_capacity(alloc, 2304)?,
-            start: 0,
-            last: 0,
-            ended: false,
+            taken: Box::new(alloc, Bytes::new())?,
+            stand: Stand {
+                start: 0,
+                last: 0,
+                ended: false,
+            },
             fault: None,
         })
     }
 
-    // Takes one byte more.
-    fn take_byte(&mut self, b: u8) -> Result<Option<Timed>, LogFault>
+    // Takes bytes that do not go past the entry's end.
+    fn take_part(&mut self, part: &[u8]) -> Result<Option<Timed>, LogFault>
         requires fresh { self.old.fault ≡ None }
-        requires room { self.old.stand.start + length self.old.taken + 1 < 2 ^ 64 }
-        ensures { TakesByte self.old.stand self.old.taken b result self.new }
+        requires room { self.old.stand.start + length self.old.taken + length part.now < 2 ^ 64 }
+        requires within { length self.old.taken + length part.now ≤ need self.old.stand self.old.taken }
+        ensures { TakesPart self.old.stand self.old.taken part.now result self.new }
     {
-        match self.taken.push(b) {
-            Ok(()) => {}
-            Err(_) => unreachable!(),
-        }
-        let judged = judge(self.start, self.last, self.ended, self.taken.as_slice());
+        self.taken.append(part);
+        let judged = judge(self.stand, self.taken.as_slice());
         match &judged {
             Ok(None) => {}
             Ok(Some(entry)) => {
-                self.start += self.taken.len() as u64;
-                self.last = entry.cycle;
-                self.ended = is_end(&entry.what);
-                self.taken.clear();
+                self.stand.start += self.taken.as_slice().len() as u64;
+                self.stand.last = entry.cycle;
+                self.stand.ended = is_end(&entry.what);
+                *self.taken = Bytes::new();
             }
             Err(fault) => self.fault = Some(*fault),
         }
@@ -124,34 +126,47 @@ impl LogReader {
     // Takes bytes up to the end of one entry, where no fault was answered.
     fn feed_fresh(&mut self, piece: &[u8]) -> Result<LogFed, LogFault>
         requires fresh { self.old.fault ≡ None }
+        requires pending { IsPending self.old.stand self.old.taken }
         requires room { self.old.stand.start + length self.old.taken + length piece.now < 2 ^ 64 }
         ensures { Feeds self.old.stand self.old.taken piece.now result self.new }
     {
-        let _ = &self.taken;
-        for (i, b) in piece.iter().enumerate() {
-            match self.take_byte(*b) {
-                Ok(None) => {}
+        let mut used = 0;
+        while used < piece.len() {
+            let taken = self.taken.as_slice();
+            let wanted = need(self.stand, taken) - taken.len();
+            let end = used + wanted.min(piece.len() - used);
+            match self.take_part(&piece[used..end]) {
+                Ok(None) => used = end,
                 Ok(Some(entry)) => {
                     return Ok(LogFed {
-                        used: i + 1,
+                        used: end,
                         entry: Some(entry),
                     });
                 }
                 Err(fault) => return Err(fault),
             }
         }
-        Ok(LogFed {
-            used: piece.len(),
-            entry: None,
-        })
+        Ok(LogFed { used, entry: None })
     }
 
     /// Takes bytes up to the end of one entry, or all of the piece where no entry ends in it. After a fault it
     /// answers that fault at each call.
     pub fn feed(&mut self, piece: &[u8]) -> Result<LogFed, LogFault>
-        requires { self.old.stand.start + length self.old.taken + length piece.now < 2 ^ 64 }
+        requires { total self.old + length piece.now < 2 ^ 64 }
         ensures kept { IfSome self.old.fault (λ f. (result ≡ Err f) × (self.new ≡ self.old)) }
         ensures fresh { IfNone self.old.fault (Feeds self.old.stand self.old.taken piece.now result self.new) }
+
+        ensures counts { Counts self.old piece.now result self.new }
+
+        // An entry, none and a fault come exactly where the bytes since the last entry make them.
+        ensures entry { IfNone self.old.fault ((k : ℕ) → (t : Timed) → EndsEntry self.old.stand self.old.taken piece.now k t → result ≡ Ok (record { used = k; entry = Some t })) }
+        ensures none { IfNone self.old.fault (EndsNothing self.old.stand self.old.taken piece.now → result ≡ Ok (record { used = length piece.now; entry = None })) }
+        ensures fault { IfNone self.old.fault ((k : ℕ) → (f : LogFault) → ShowsFault self.old.stand self.old.taken piece.now k f → result ≡ Err f) }
+
+        // All that was fed since the reader began is the entries that were given and a part of one more; a fault comes
+        // only where no log goes on, and of a log each entry that is given is the next.
+        ensures history { (entries : List Timed) → (bytes : List ℕ) → HasRead entries bytes self.old → ReadsOn entries bytes piece.now result self.new }
+        ensures log { (entries all : List Timed) → (bytes more : List ℕ) → HasRead entries bytes self.old → LogOpens all (bytes ++ (piece.now ++ more)) → GivesNext all entries result }
     {
         match self.fault {
             Some(fault) => Err(fault),
@@ -159,28 +174,35 @@ impl LogReader {
         }
     }
 
-    /// What the input's end makes of it.
-    pub fn finish(&self) -> Result<(), LogFault>
-        requires { self.now.stand.start + length self.now.taken < 2 ^ 64 }
-        ensures { result_err result ≡ finish_of self.now }
+    // The fault that the input's end is, where it is one.
+    fn end_fault(&self) -> Option<LogFault>
+        requires { total self.now < 2 ^ 64 }
+        ensures { result ≡ finish_of self.now }
     {
-        if let Some(fault) = self.fault {
-            return Err(fault);
+        if self.fault.is_some() || self.stand.ended {
+            return self.fault;
         }
-        if self.ended {
-            return Ok(());
-        }
-        let place = self.start + self.taken.len() as u64;
-        if self.taken.len() == skip(self.start) {
-            Err(LogFault {
-                place,
-                why: LogWhy::NoEnd,
-            })
+        let why = if self.taken.as_slice().len() == skip(self.stand.start) {
+            LogWhy::NoEnd
         } else {
-            Err(LogFault {
-                place,
-                why: LogWhy::Cut,
-            })
+            LogWhy::Cut
+        };
+        Some(LogFault {
+            place: self.stand.start + self.taken.as_slice().len() as u64,
+            why,
+        })
+    }
+
+    /// Whether the log is whole, at the input's end. `Cut` comes where the input ended inside the header or an entry,
+    /// `NoEnd` where it ended after one of them and the last entry was not the end; a fault of `feed` is answered again.
+    pub fn finish(&self) -> Result<(), LogFault>
+        requires { total self.now < 2 ^ 64 }
+        ensures fault { result_err result ≡ finish_of self.now }
+        ensures log { (entries : List Timed) → (bytes : List ℕ) → HasRead entries bytes self.now → Finishes entries bytes result }
+    {
+        match self.end_fault() {
+            Some(fault) => Err(fault),
+            None => Ok(()),
         }
     }
 }

@@ -1,8 +1,9 @@
 //! What the bytes of an entry show before its body.
 
 ghost use Rattle.std.specs.Prelude.{ℕ, ◌≡◌, ◌≤◌, ◌<◌, ◌+◌, ◌-◌, ◌*◌, ◌/◌, ◌%◌, ◌^◌, ◌++◌, ◌∷◌, [], length, take, drop, None};
-ghost use Rattle.fw_log.specs.Reading.{length_of, cycle_of, is_kind, is_length, entry_fault, header_fault, head_fault, skip, entry_need, fault_at};
+ghost use Rattle.fw_log.specs.Reading.{length_of, cycle_of, is_kind, is_length, entry_fault, header_fault, head_fault, fault_at};
 
+use crate::stand::{BODY_AT, CYCLE_AT, HEADER_SIZE, LENGTH_AT, Stand, cycle_of, length_of, rest};
 use crate::{LogFault, LogWhy};
 use fw_words::quadlet_at;
 
@@ -25,28 +26,11 @@ fn is_length(kind: u8, len: usize) -> bool
     }
 }
 
-fn length_of(e: &[u8]) -> usize
-    requires { 4 ≤ length e.now }
-    ensures { result ≡ length_of e.now }
-{
-    256 * e[2] as usize + e[3] as usize
-}
-
-pub(crate) fn cycle_of(e: &[u8]) -> u64
-    requires { 12 ≤ length e.now }
-    ensures { result ≡ cycle_of e.now }
-{
-    match e[4..].first_chunk::<8>() {
-        Some(eight) => u64::from_be_bytes(*eight),
-        None => unreachable!(),
-    }
-}
-
 fn entry_fault(place: u64, last: u64, e: &[u8]) -> Option<LogFault>
     requires { place + length e.now < 2 ^ 64 }
     ensures { result ≡ entry_fault place last e.now }
 {
-    if e.len() < 2 {
+    if e.len() < LENGTH_AT {
         return None;
     }
     let kind = e[0];
@@ -62,21 +46,21 @@ fn entry_fault(place: u64, last: u64, e: &[u8]) -> Option<LogFault>
             why: LogWhy::BadKind,
         });
     }
-    if e.len() < 4 {
+    if e.len() < CYCLE_AT {
         return None;
     }
     if !is_length(kind, length_of(e)) {
         return Some(LogFault {
-            place: place + 2,
+            place: place + LENGTH_AT as u64,
             why: LogWhy::BadLength,
         });
     }
-    if e.len() < 12 {
+    if e.len() < BODY_AT {
         return None;
     }
     if cycle_of(e) < last {
         return Some(LogFault {
-            place: place + 4,
+            place: place + CYCLE_AT as u64,
             why: LogWhy::TimeBack,
         });
     }
@@ -123,56 +107,25 @@ fn header_fault(bytes: &[u8]) -> Option<LogFault>
     None
 }
 
-// How many bytes of a header stand before the entry.
-pub(crate) fn skip(start: u64) -> usize
-    ensures { result ≡ skip start }
-{
-    if start == 0 { 16 } else { 0 }
-}
-
-fn entry_need(e: &[u8]) -> usize
-    ensures { result ≡ entry_need e.now }
-{
-    if e.len() < 4 {
-        12
-    } else {
-        12 + 4 * length_of(e)
-    }
-}
-
-// The bytes from a place on, as far as there are any.
-pub(crate) fn rest(bytes: &[u8], at: usize) -> &[u8]
-    ensures { result.now ≡ drop at bytes.now }
-{
-    if at < bytes.len() { &bytes[at..] } else { &[] }
-}
-
-pub(crate) fn need(start: u64, bytes: &[u8]) -> usize
-    ensures { result ≡ skip start + entry_need (drop (skip start) bytes.now) }
-{
-    let at = skip(start);
-    at + entry_need(rest(bytes, at))
-}
-
 // The first fault that the parts before the body show.
-pub(crate) fn head_fault(start: u64, last: u64, ended: bool, bytes: &[u8]) -> Option<LogFault>
-    requires { start + length bytes.now < 2 ^ 64 }
-    ensures { result ≡ head_fault (record { start = start; last = last; ended = ended }) bytes.now }
+pub(crate) fn head_fault(stand: Stand, bytes: &[u8]) -> Option<LogFault>
+    requires { stand.start + length bytes.now < 2 ^ 64 }
+    ensures { result ≡ head_fault stand bytes.now }
 {
-    if ended {
+    if stand.ended {
         if bytes.is_empty() {
             return None;
         }
         return Some(LogFault {
-            place: start,
+            place: stand.start,
             why: LogWhy::AfterEnd,
         });
     }
-    if start > 0 {
-        return entry_fault(start, last, bytes);
+    if stand.start > 0 {
+        return entry_fault(stand.start, stand.last, bytes);
     }
     match header_fault(bytes) {
         Some(fault) => Some(fault),
-        None => entry_fault(16, last, rest(bytes, 16)),
+        None => entry_fault(HEADER_SIZE as u64, stand.last, rest(bytes, HEADER_SIZE)),
     }
 }

@@ -1,5 +1,5 @@
 -- One quadlet is of one packet.
-use Rattle.std.proofs.Common.{◌≡◌, ◌≢◌, ℕ, zero, suc, ◌+◌, ◌-◌, ◌/◌, ◌%◌, ◌^◌, ◌<◌, Bool, take, arith, refl, ap, sym, ◌∙◌, length, get_or, drop, drop-cons, add-one, List, [], ◌∷◌}
+use Rattle.std.proofs.Common.{◌≡◌, ◌≢◌, ℕ, zero, suc, ◌+◌, ◌/◌, ◌%◌, ◌^◌, ◌<◌, Bool, take, arith, refl, ap, sym, ◌∙◌, length, get_or, drop, drop-cons, add-one, List, [], ◌∷◌}
 use Rattle.std.proofs.lemmas.List.{drop_all}
 use Rattle.fw_words.specs.Quadlet.{field}
 use Rattle.fw_words.specs.Layout.{values}

@@ -1,5 +1,5 @@
 -- What stands at the front of each kind of packet.
-use Rattle.std.proofs.Common.{◌≡◌, ℕ, ◌+◌, ◌-◌, ◌/◌, ◌%◌, ◌^◌, ◌≤◌, Bool, None, arith, refl}
+use Rattle.std.proofs.Common.{◌≡◌, ℕ, ◌%◌, ◌^◌, ◌≤◌, Bool, None, arith, refl}
 use Rattle.std.proofs.lemmas.Bool.Decides.{nat_tests}
 use Rattle.fw_words.specs.Quadlet.{field, first_set}
 use Rattle.fw_words.proofs.FirstSet.{low_zero, first_set_zero}

@@ -1,6 +1,6 @@
 -- PHY packets (IEEE 1394-1995, PHY packets): one quadlet, and its logical inverse.
-use Rattle.std.specs.Prelude.{◌≡◌, ℕ, zero, suc, ◌+◌, ◌-◌, ◌/◌, ◌^◌, ◌≤◌, ◌<◌, ◌==◌, nat_le, nat_lt, List, [], ◌∷◌, ◌++◌, Bool, Option, Some, None, length, slice_index, take, drop, if◌then◌else◌}
-use Rattle.std.specs.Int.{to_be_bytes, from_be_bytes, w32}
+use Rattle.std.specs.Prelude.{◌≡◌, ℕ, ◌+◌, ◌-◌, ◌/◌, ◌^◌, ◌≤◌, ◌<◌, ◌==◌, nat_le, nat_lt, List, [], ◌∷◌, ◌++◌, Bool, Option, Some, None, length, slice_index, if◌then◌else◌}
+use Rattle.std.specs.Int.{to_be_bytes, w32}
 use Rattle.std.specs.Option.{option_map}
 use Rattle.fw_words.specs.Quadlet.{field, first_set, quadlet_at}
 use Rattle.fw_words.specs.Layout.{packed, FitWidths}

@@ -1,3 +1,5 @@
+ghost use Rattle.std.specs.Prelude.{◌≡◌};
+
 /// A self-ID packet zero, the first of a node.
 #[derive(Clone, Copy, Debug, PartialEq, Eq)]
 pub struct SelfId {
@@ -61,8 +63,11 @@ pub enum PhyPacket {
     },
 }
 
+/// What fills the free places of a list; it has no meaning of its own.
 impl Default for PhyPacket {
-    fn default() -> Self {
+    fn default() -> Self
+        ensures { result ≡ PhyPacket.LinkOn 0 }
+    {
         PhyPacket::LinkOn { phy: 0 }
     }
 }

@@ -84,6 +84,33 @@ fn link_on_of(q: Quadlet) -> PhyPacket
     }
 }
 
+// The self-ID packet that the quadlet is, or the fault at the first bit where none goes on.
+fn self_id_packet_of(q: Quadlet) -> Result<PhyPacket, PhyFault>
+    requires { field q.0 0 1 ≡ 2 }
+    ensures fault { result_err result ≡ option_map PhyFault.Reserved (reserved_bit q.0) }
+    ensures found { IfOk result (λ p. Fits p × (quadlet_of p ≡ q.0)) }
+{
+    if q.field(8, 8) == 0 {
+        return Ok(PhyPacket::SelfId(self_id_of(q)));
+    }
+    if q.field(9, 11) >= 4 {
+        return Err(PhyFault::Reserved(9));
+    }
+    if q.field(9, 11) == 3 {
+        return Err(PhyFault::Reserved(11));
+    }
+    if q.field(12, 12) == 1 {
+        return Err(PhyFault::Reserved(12));
+    }
+    if q.field(13, 13) == 1 {
+        return Err(PhyFault::Reserved(13));
+    }
+    if q.field(30, 30) == 1 {
+        return Err(PhyFault::Reserved(30));
+    }
+    Ok(PhyPacket::SelfIdMore(self_id_more_of(q)))
+}
+
 // The packet that the quadlet is, or the fault at the first bit where no packet goes on.
 fn packet_of(q: Quadlet) -> Result<PhyPacket, PhyFault>
     ensures fault { result_err result ≡ option_map PhyFault.Reserved (reserved_bit q.0) }
@@ -98,27 +125,7 @@ fn packet_of(q: Quadlet) -> Result<PhyPacket, PhyFault>
             Some(bit) => Err(PhyFault::Reserved(bit)),
             None => Ok(link_on_of(q)),
         },
-        2 => {
-            if q.field(8, 8) == 0 {
-                return Ok(PhyPacket::SelfId(self_id_of(q)));
-            }
-            if q.field(9, 11) >= 4 {
-                return Err(PhyFault::Reserved(9));
-            }
-            if q.field(9, 11) == 3 {
-                return Err(PhyFault::Reserved(11));
-            }
-            if q.field(12, 12) == 1 {
-                return Err(PhyFault::Reserved(12));
-            }
-            if q.field(13, 13) == 1 {
-                return Err(PhyFault::Reserved(13));
-            }
-            if q.field(30, 30) == 1 {
-                return Err(PhyFault::Reserved(30));
-            }
-            Ok(PhyPacket::SelfIdMore(self_id_more_of(q)))
-        }
+        2 => self_id_packet_of(q),
         _ => Err(PhyFault::Reserved(1)),
     }
 }

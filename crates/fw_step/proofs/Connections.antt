@@ -24,22 +24,22 @@ pub shown_dropped : (c : ℕ) (kind : ConnectionKind) (s : Connections) (k : Set
 shown_dropped c PointToPoint s k lt has = let e : counter (drop_connection c PointToPoint s) ≡ counter s - 1 = omega (arith, counter_changed c (s.counts c - 1) s lt, has) in λ i. record { broadcast = is_there s.broadcast; counter = e i; settings = k }
 shown_dropped c Broadcast s k lt has = refl
 
-pub seats_added : (c : ℕ) (own kind : ConnectionKind) (s : Connections) → HasRoom own s → connections_of c kind (add_connection c own s) ≡ connections_of c kind s + cond (same_kind kind own) 1 0
-seats_added c PointToPoint PointToPoint s room = grind (arith, nat_tests)
-seats_added c PointToPoint Broadcast s room = omega arith
-seats_added c Broadcast PointToPoint s room = omega arith
-seats_added c Broadcast Broadcast s room = grind (arith, nat_tests, room)
+pub connection_added : (c : ℕ) (own kind : ConnectionKind) (s : Connections) → HasRoom own s → connections_of c kind (add_connection c own s) ≡ connections_of c kind s + cond (same_kind kind own) 1 0
+connection_added c PointToPoint PointToPoint s room = grind (arith, nat_tests)
+connection_added c PointToPoint Broadcast s room = omega arith
+connection_added c Broadcast PointToPoint s room = omega arith
+connection_added c Broadcast Broadcast s room = grind (arith, nat_tests, room)
 
-pub seats_dropped : (c : ℕ) (own kind : ConnectionKind) (s : Connections) → HasConnection c own s → connections_of c kind s ≡ connections_of c kind (drop_connection c own s) + cond (same_kind kind own) 1 0
-seats_dropped c PointToPoint PointToPoint s has = grind (arith, nat_tests)
-seats_dropped c PointToPoint Broadcast s has = omega arith
-seats_dropped c Broadcast PointToPoint s has = omega arith
-seats_dropped c Broadcast Broadcast s has = grind (arith, nat_tests, has)
+pub connection_dropped : (c : ℕ) (own kind : ConnectionKind) (s : Connections) → HasConnection c own s → connections_of c kind s ≡ connections_of c kind (drop_connection c own s) + cond (same_kind kind own) 1 0
+connection_dropped c PointToPoint PointToPoint s has = grind (arith, nat_tests)
+connection_dropped c PointToPoint Broadcast s has = omega arith
+connection_dropped c Broadcast PointToPoint s has = omega arith
+connection_dropped c Broadcast Broadcast s has = grind (arith, nat_tests, has)
 
 -- who has a connection by count has one
-pub seat_is : (c : ℕ) (kind : ConnectionKind) (s : Connections) → 0 < connections_of c kind s → HasConnection c kind s
-seat_is c PointToPoint s h = h
-seat_is c Broadcast s h = go s.broadcast h
+pub connection_is : (c : ℕ) (kind : ConnectionKind) (s : Connections) → 0 < connections_of c kind s → HasConnection c kind s
+connection_is c PointToPoint s h = h
+connection_is c Broadcast s h = go s.broadcast h
   where
     go : (o : Option Owner) → 0 < cond (is_of c o) 1 0 → o ≡ Some (Of c)
     go None h = grind arith
@@ -62,6 +62,6 @@ room_of_empty Broadcast s e = go s.broadcast (grind (arith, nat_tests))
     go None e = refl
     go (Some x) e = grind arith
 
-pub seat_shows : (c : ℕ) (kind : ConnectionKind) (s : Connections) (k : Settings) → c < 63 → HasConnection c kind s → shows_connection kind (shown s k) ≡ true
-seat_shows c PointToPoint s k lt has = grind (arith, nat_tests, sum_to_at 63 c s.counts lt)
-seat_shows c Broadcast s k lt has = rw has refl
+pub connection_shows : (c : ℕ) (kind : ConnectionKind) (s : Connections) (k : Settings) → c < 63 → HasConnection c kind s → shows_connection kind (shown s k) ≡ true
+connection_shows c PointToPoint s k lt has = grind (arith, nat_tests, sum_to_at 63 c s.counts lt)
+connection_shows c Broadcast s k lt has = rw has refl

@@ -17,7 +17,7 @@ use Rattle.fw_base.proofs.Tables.{find_to_is, IsFirst}
 use Rattle.fw_cmp.specs.Stages.{pending_of, is_joined, is_connected, is_full, is_bit, half_of, is_other, wanted, give_back, decide_free, decide_connected, decide_out, decide_any, decide_channel, decide_units, needs, first_half}
 use Rattle.fw_step.specs.InStep.{IsFirstWord, Knows, allocates, again}
 
--- a stage with this pending, that is_joined or not, and allocates only where it may
+-- a stage with this pending allocation, joined or not, that allocates only where it may
 pub record IsNext (l : Account) (j : Job) (h : Option Held) (b may : Bool) (t : Stage) : Type 0 where
   pub pending : pending_of t ≡ h
   pub is_joined : is_joined t ≡ b
@@ -71,7 +71,7 @@ out_next l j w is = go (is_full j.kind (out_fields w)) refl (is_connected (out_f
     go false e true f = connected_next l j w f e
     go false e false f = record { pending = refl; is_joined = refl; knows = (first_is j.asked, first_of j.asked, (f, ap (λ (x : OutFields). x.settings.rate) is)); allocates = λ x. refl; channel = λ ch x. grind arith }
 
--- with allocations in the pending
+-- with a pending allocation
 pub held_next : (l : Account) (j : Job) (h : Held) (w : ℕ) → IsWord l j w → h.units ≡ units_of (record { channel = h.channel; rate = (l.settings j.plug).rate; overhead = j.overhead }) → IsNext l j (Some h) false true (decide_out j (Some h) w)
 held_next l j h w is u = go (is_full j.kind (out_fields w)) (is_connected (out_fields w)) refl (j.restores && is_other j.asked (out_fields w).settings.channel)
   where

@@ -7,7 +7,7 @@ use Rattle.std.proofs.lemmas.Bool.{cases_eq}
 use Rattle.fw_base.specs.Tables.{update, update_plug}
 use Rattle.fw_ledger.specs.Account.{Connected, Allocation, Connections, Account, has_connection, is_free}
 use Rattle.fw_plug.specs.Words.{units_of}
-use Rattle.fw_ledger.specs.Moves.{Move, AllocateChannel, AllocateUnits, ConnectFirst, ConnectOverlaid, DisconnectOutput, ReleaseUnits, ReleaseChannel, Can, after}
+use Rattle.fw_ledger.specs.Moves.{Move, ConnectInput, DisconnectInput, AllocateChannel, AllocateUnits, ConnectFirst, ConnectOverlaid, DisconnectOutput, ReleaseUnits, ReleaseChannel, Can, after}
 use Rattle.fw_ledger.specs.Sound.{IsSound}
 use Rattle.fw_plug.specs.Words.{out_word}
 use Rattle.fw_ledger.specs.Words.{fields_at, channel_word}
@@ -35,7 +35,7 @@ half_same l ch x base e = bits_same (λ i. is_free (update l.allocations ch x (b
     go i (inl same) = grind (arith, nat_tests)
     go i (inr ne) = grind (arith, nat_tests)
 
-other_half : (l : Account) (ch : ℕ) (x : Option Allocation) (base : ℕ) → ch < 64 → (base ≡ 0) ⊎ (base ≡ 32) → Channels (half_of ch) ≢ Channels base → bits_word (λ i. is_free (update l.allocations ch x (base + i))) ≡ channel_word l base
+other_half : (l : Account) (ch : ℕ) (x : Option Allocation) (base : ℕ) → ch < 64 → (base ≡ 0) ⊎ (base ≡ 32) → Some (Channels (half_of ch)) ≢ Some (Channels base) → bits_word (λ i. is_free (update l.allocations ch x (base + i))) ≡ channel_word l base
 other_half l ch x base lt half ne = bits_same (λ i. is_free (update l.allocations ch x (base + i))) (λ i. is_free (l.allocations (base + i))) (λ i il. grind (arith, nat_tests, apart i il))
   where
     at : (i : ℕ) → i < 32 → base + i ≡ ch → (base ≡ 0) ⊎ (base ≡ 32) → half_of ch ≡ base
@@ -43,7 +43,7 @@ other_half l ch x base lt half ne = bits_same (λ i. is_free (update l.allocatio
     at i il e (inr z) = grind (arith, nat_tests)
 
     apart : (i : ℕ) → i < 32 → base + i ≢ ch
-    apart i il e = ne (ap Channels (at i il e half))
+    apart i il e = ne (ap (λ k. Some (Channels k)) (at i il e half))
 
 rest_same : (l : Account) (ch : ℕ) (x : Option Allocation) → ch < 64 → allocated x ≡ allocated (l.allocations ch) → total (update l.allocations ch x) ≡ total l.allocations
 rest_same l ch x lt e = let t = total_changed l.allocations ch x lt in omega arith
@@ -51,7 +51,7 @@ rest_same l ch x lt e = let t = total_changed l.allocations ch x lt in omega ari
 not_at : {A : Type 0} (f : PlugAt → A) (p : PlugAt) (v : A) (q : PlugAt) → q ≢ p → update_plug f p v q ≡ f q
 not_at f p v q ne = grind (arith, update_plug_at f p v q)
 
-elsewhere : (l : Account) (p : PlugAt) (new : Connections) (q : PlugAt) → (OutputPlug ≢ OutputPlug) ⊎ (q ≢ p) → out_word (shown (update_plug l.outputs p new q) (l.settings q)) ≡ out_word (fields_at l q)
+elsewhere : (l : Account) (p : PlugAt) (new : Connections) (q : PlugAt) → (Some OutputPlug ≢ Some OutputPlug) ⊎ (q ≢ p) → out_word (shown (update_plug l.outputs p new q) (l.settings q)) ≡ out_word (fields_at l q)
 elsewhere l p new q (inl no_) = absurd (no_ refl)
 elsewhere l p new q (inr ne) = ap out_word (ap (λ x. shown x (l.settings q)) (not_at l.outputs p new q ne))
 
@@ -87,9 +87,11 @@ move_elsewhere c p (ConnectFirst kind ch overhead) l lt s h = record {
   outputs = λ q ne. go q ne;
 }
   where
-    go : (q : PlugAt) → (OutputPlug ≢ OutputPlug) ⊎ (q ≢ p) → out_word (fields_at (after c p (ConnectFirst kind ch overhead) l) q) ≡ out_word (fields_at l q)
+    go : (q : PlugAt) → (Some OutputPlug ≢ Some OutputPlug) ⊎ (q ≢ p) → out_word (fields_at (after c p (ConnectFirst kind ch overhead) l) q) ≡ out_word (fields_at l q)
     go q (inl no_) = absurd (no_ refl)
     go q (inr ne) = ap out_word (ap₂ shown (not_at l.outputs p (add_connection c kind (l.outputs p)) q ne) (not_at l.settings p _ q ne))
+move_elsewhere c p (ConnectInput kind ch) l lt s h = record { remainder = λ ne. refl; halves = λ base half ne. refl; outputs = λ q ne. refl }
+move_elsewhere c p (DisconnectInput kind) l lt s h = record { remainder = λ ne. refl; halves = λ base half ne. refl; outputs = λ q ne. refl }
 move_elsewhere c p (DisconnectOutput kind) l lt s h = record {
   remainder = λ ne. ap (λ x. 4915 - x) (rest still);
   halves = λ base half ne. halves_ still base;

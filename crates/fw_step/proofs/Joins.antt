@@ -12,6 +12,7 @@ use Rattle.fw_base.specs.Tables.{same_plug, update_plug}
 use Rattle.fw_ledger.specs.Account.{Connected, Account, has_connection}
 use Rattle.fw_plug.specs.Words.{Settings, units_of}
 use Rattle.fw_ledger.specs.Moves.{ConnectFirst, ConnectOverlaid, DisconnectOutput, Can, after, HasConnection, HasRoom}
+use Rattle.fw_ledger.specs.Network.{is_output}
 use Rattle.fw_ledger.specs.Sound.{IsSound}
 use Rattle.fw_plug.specs.Words.{OutFields, out_fields, out_word}
 use Rattle.fw_ledger.specs.Words.{fields_at}
@@ -25,7 +26,7 @@ use Rattle.fw_ledger.specs.Moves.{add_connection, drop_connection, made_pending}
 use Rattle.fw_cmp.specs.Stages.{first_word, one_more, one_less, after_leave}
 use Rattle.fw_step.specs.InStep.{same_kind}
 use Rattle.fw_step.proofs.Steps.{word_is, pending_gone, stays}
-use Rattle.fw_step.proofs.Connections.{shown, shown_added, shown_dropped, seats_added, seats_dropped, seat_is, room_is, room_of_empty, seat_shows}
+use Rattle.fw_step.proofs.Connections.{shown, shown_added, shown_dropped, connection_added, connection_dropped, connection_is, room_is, room_of_empty, connection_shows}
 
 -- the connections of a controller where the job's plug gets one more of the job's kind
 connections_join : (l : Account) (c : ℕ) (j : Job) (s t : Stage) (others : ConnectionKind → PlugAt → ℕ) → IsInStep l c j s others → HasRoom j.kind (l.outputs j.plug) → is_joined s ≡ false → is_joined t ≡ true → (kind : ConnectionKind) (q : PlugAt) → connections_of c kind (update_plug l.outputs j.plug (add_connection c j.kind (l.outputs j.plug)) q) ≡ others kind q + job_connections j t kind q
@@ -35,10 +36,10 @@ connections_join l c j s t others i room stood sat kind q = rw sat (go (same_plu
     was = rw stood at (i.connections kind q)
 
     go : (b : Bool) → same_plug q j.plug ≡ b → connections_of c kind (cond b (add_connection c j.kind (l.outputs j.plug)) (l.outputs q)) ≡ others kind q + cond (b && same_kind kind j.kind) 1 0
-    go true e = let p : q ≡ j.plug = same_plug-true q j.plug e in omega (arith, was, seats_added c j.kind kind (l.outputs j.plug) room, ap (λ x. connections_of c kind (l.outputs x)) p)
+    go true e = let p : q ≡ j.plug = same_plug-true q j.plug e in omega (arith, was, connection_added c j.kind kind (l.outputs j.plug) room, ap (λ x. connections_of c kind (l.outputs x)) p)
     go false e = was
 
-pub arg_is : (l : Account) (j : Job) (arg : ℕ) → IsSound l → IsTrue (l.has_plug j.plug) → arg ≡ word_at l j.plug OutputPlug → out_fields arg ≡ fields_at l j.plug
+pub arg_is : (l : Account) (j : Job) (arg : ℕ) → IsSound l → IsTrue (is_output l.latest j.plug) → arg ≡ word_at l j.plug OutputPlug → out_fields arg ≡ fields_at l j.plug
 arg_is l j arg s there e = rw e (word_is l j s there)
 
 pub can_join_new : (l : Account) (c : ℕ) (j : Job) (ch u arg : ℕ) (others : ConnectionKind → PlugAt → ℕ) → IsSound l → IsJob j → IsInStep l c j (ConnectOutput ch u arg) others → arg ≡ word_at l j.plug (register_of (ConnectOutput ch u arg)) → Can c j.plug (ConnectFirst j.kind ch j.overhead) l
@@ -98,26 +99,26 @@ same_kind_self Broadcast = refl
 
 -- the job's connection is there
 has_own : (l : Account) (c : ℕ) (j : Job) (s : Stage) (others : ConnectionKind → PlugAt → ℕ) → IsInStep l c j s others → is_joined s ≡ true → HasConnection c j.kind (l.outputs j.plug)
-has_own l c j s others i sat = seat_is c j.kind (l.outputs j.plug) (rw (i.connections j.kind j.plug) (rw sat (grind (arith, same_plug_self j.plug, same_kind_self j.kind))))
+has_own l c j s others i sat = connection_is c j.kind (l.outputs j.plug) (rw (i.connections j.kind j.plug) (rw sat (grind (arith, same_plug_self j.plug, same_kind_self j.kind))))
 
 pub read_leave : (l : Account) (c : ℕ) (j : Job) (next : Then) (others : ConnectionKind → PlugAt → ℕ) → c < 63 → IsSound l → IsInStep l c j (ReadOutputToLeave next) others → IsInStep l c j (hear j (ReadOutputToLeave next) (word_at l j.plug OutputPlug)) others
 read_leave l c j next others lt s i = rw shows (stays l c j (ReadOutputToLeave next) (LeaveOutput next (word_at l j.plug OutputPlug)) others i (record { pending = refl; is_joined = refl; knows = shows; allocates = λ e. e; channel = λ k x. grind arith }))
   where
     shows : shows_connection j.kind (out_fields (word_at l j.plug OutputPlug)) ≡ true
-    shows = ap (shows_connection j.kind) (word_is l j s i.there) ∙ seat_shows c j.kind (l.outputs j.plug) (l.settings j.plug) lt (has_own l c j (ReadOutputToLeave next) others i refl)
+    shows = ap (shows_connection j.kind) (word_is l j s i.there) ∙ connection_shows c j.kind (l.outputs j.plug) (l.settings j.plug) lt (has_own l c j (ReadOutputToLeave next) others i refl)
 
 pub can_leave : (l : Account) (c : ℕ) (j : Job) (next : Then) (arg : ℕ) (others : ConnectionKind → PlugAt → ℕ) → IsInStep l c j (LeaveOutput next arg) others → Can c j.plug (DisconnectOutput j.kind) l
 can_leave l c j next arg others i = record { has = has_own l c j (LeaveOutput next arg) others i refl; last = λ e. (i.pending, i.addressed) }
 
 -- the connections of a controller where the job's plug has one less of the job's kind
-seats_leave : (l : Account) (c : ℕ) (j : Job) (s t : Stage) (others : ConnectionKind → PlugAt → ℕ) → IsInStep l c j s others → HasConnection c j.kind (l.outputs j.plug) → is_joined s ≡ true → is_joined t ≡ false → (kind : ConnectionKind) (q : PlugAt) → connections_of c kind (update_plug l.outputs j.plug (drop_connection c j.kind (l.outputs j.plug)) q) ≡ others kind q + job_connections j t kind q
-seats_leave l c j s t others i has sat stood kind q = rw stood (go (same_plug q j.plug) refl)
+connections_leave : (l : Account) (c : ℕ) (j : Job) (s t : Stage) (others : ConnectionKind → PlugAt → ℕ) → IsInStep l c j s others → HasConnection c j.kind (l.outputs j.plug) → is_joined s ≡ true → is_joined t ≡ false → (kind : ConnectionKind) (q : PlugAt) → connections_of c kind (update_plug l.outputs j.plug (drop_connection c j.kind (l.outputs j.plug)) q) ≡ others kind q + job_connections j t kind q
+connections_leave l c j s t others i has sat stood kind q = rw stood (go (same_plug q j.plug) refl)
   where
     was : connections_of c kind (l.outputs q) ≡ others kind q + cond (same_plug q j.plug && same_kind kind j.kind) 1 0
     was = rw sat at (i.connections kind q)
 
     go : (b : Bool) → same_plug q j.plug ≡ b → connections_of c kind (cond b (drop_connection c j.kind (l.outputs j.plug)) (l.outputs q)) ≡ others kind q + 0
-    go true e = let p : q ≡ j.plug = same_plug-true q j.plug e in let w = rw e at was in omega (arith, w, seats_dropped c j.kind kind (l.outputs j.plug) has, ap (λ x. connections_of c kind (l.outputs x)) p)
+    go true e = let p : q ≡ j.plug = same_plug-true q j.plug e in let w = rw e at was in omega (arith, w, connection_dropped c j.kind kind (l.outputs j.plug) has, ap (λ x. connections_of c kind (l.outputs x)) p)
     go false e = rw e at was
 
 pub left : (l : Account) (c : ℕ) (j : Job) (next : Then) (arg : ℕ) (others : ConnectionKind → PlugAt → ℕ) → c < 63 → IsSound l → IsInStep l c j (LeaveOutput next arg) others → arg ≡ word_at l j.plug OutputPlug → IsInStep (after c j.plug (DisconnectOutput j.kind) l) c j (after_leave j next (out_fields arg)) others
@@ -133,7 +134,7 @@ left l c j next arg others lt s i e = subst (λ f. IsInStep (after c j.plug (Dis
     go true true b = let n = back_next l j None next (again next) (λ x. x) in record {
       addressed = i.addressed;
       pending = rw n.pending i.pending;
-      connections = seats_leave l c j (LeaveOutput next arg) (give_back None next) others i has refl n.is_joined;
+      connections = connections_leave l c j (LeaveOutput next arg) (give_back None next) others i has refl n.is_joined;
       knows = n.knows;
       reclaims = λ r x. i.reclaims r (n.allocates x);
       channel = n.channel;
@@ -142,7 +143,7 @@ left l c j next arg others lt s i e = subst (λ f. IsInStep (after c j.plug (Dis
     go false false b = record {
       addressed = i.addressed;
       pending = (s.bounded _ _ own, grind (arith, nat_tests));
-      connections = seats_leave l c j (LeaveOutput next arg) (ReadBandwidthToRelease next (l.settings j.plug).channel (units_of (l.settings j.plug))) others i has refl refl;
+      connections = connections_leave l c j (LeaveOutput next arg) (ReadBandwidthToRelease next (l.settings j.plug).channel (units_of (l.settings j.plug))) others i has refl refl;
       knows = some_units (l.settings j.plug);
       reclaims = λ r x. i.reclaims r x;
       channel = λ k x. grind arith;
@@ -161,4 +162,4 @@ pub leave_again : (l : Account) (c : ℕ) (j : Job) (next : Then) (arg : ℕ) (o
 leave_again l c j next arg others lt s i = rw shows (stays l c j (LeaveOutput next arg) (LeaveOutput next (word_at l j.plug OutputPlug)) others i (record { pending = refl; is_joined = refl; knows = shows; allocates = λ e. e; channel = λ k x. grind arith }))
   where
     shows : shows_connection j.kind (out_fields (word_at l j.plug OutputPlug)) ≡ true
-    shows = ap (shows_connection j.kind) (word_is l j s i.there) ∙ seat_shows c j.kind (l.outputs j.plug) (l.settings j.plug) lt (has_own l c j (LeaveOutput next arg) others i refl)
+    shows = ap (shows_connection j.kind) (word_is l j s i.there) ∙ connection_shows c j.kind (l.outputs j.plug) (l.settings j.plug) lt (has_own l c j (LeaveOutput next arg) others i refl)

@@ -4,6 +4,6 @@ pub mod Steps
 pub mod Joins
 pub mod HalfSteps
 pub mod Others
-pub mod Slots
-pub mod Distances
 pub mod Elsewhere
+pub mod Tries
+pub mod StageFits

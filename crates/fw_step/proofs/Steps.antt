@@ -12,6 +12,7 @@ use Rattle.fw_base.specs.Tables.{update}
 use Rattle.fw_ledger.specs.Account.{Pending, Allocation, Account, remainder, is_free, is_pending}
 use Rattle.fw_plug.specs.Words.{units_of}
 use Rattle.fw_ledger.specs.Moves.{AllocateChannel, AllocateUnits, ReleaseUnits, ReleaseChannel, Can, after, with_allocation}
+use Rattle.fw_ledger.specs.Network.{is_output}
 use Rattle.fw_ledger.specs.Sound.{IsSound}
 use Rattle.fw_plug.specs.Words.{out_fields}
 use Rattle.fw_ledger.specs.Words.{fields_at, channel_word}
@@ -36,7 +37,7 @@ stays l c j s t others i n = record {
 }
 
 -- what is read at the plug
-pub word_is : (l : Account) (j : Job) → IsSound l → IsTrue (l.has_plug j.plug) → IsWord l j (word_at l j.plug (register_of ReadOutput))
+pub word_is : (l : Account) (j : Job) → IsSound l → IsTrue (is_output l.latest j.plug) → IsWord l j (word_at l j.plug (register_of ReadOutput))
 word_is l j s there = fields_of_word (fields_at l j.plug) (omega (arith, (s.counts j.plug).0)) (s.settings_fit j.plug there)
 
 -- ---- the stages that read
@@ -132,7 +133,7 @@ units_allocated l c j ch u arg w others s i e =
     allocation_moved l c j (SwapBandwidth ch u arg w) (ConnectOutput ch u w) others ch (Some (record { holder = Pending c j.plug; units = u })) i (i.pending.0, grind (arith, nat_tests)) refl (i.knows.2.0, i.knows.1 ∙ ap (λ r. units_of (record { channel = ch; rate = r; overhead = j.overhead })) i.knows.2.1) (λ e. refl) (λ k e. grind arith)
 
 pub can_release_units : (l : Account) (c : ℕ) (j : Job) (next : Then) (ch u arg : ℕ) (others : ConnectionKind → PlugAt → ℕ) → IsInStep l c j (RaiseBandwidth next ch u arg) others → Can c j.plug (ReleaseUnits ch u) l
-can_release_units l c j next ch u arg others i = record { within = i.pending.0; some = i.knows.0; held = i.pending.1 }
+can_release_units l c j next ch u arg others i = record { addressed = i.addressed; within = i.pending.0; some = i.knows.0; held = i.pending.1 }
 
 pub units_released : (l : Account) (c : ℕ) (j : Job) (next : Then) (ch u arg : ℕ) (others : ConnectionKind → PlugAt → ℕ) → IsInStep l c j (RaiseBandwidth next ch u arg) others → IsInStep (after c j.plug (ReleaseUnits ch u) l) c j (ReadChannelsToRelease next ch) others
 units_released l c j next ch u arg others i =
@@ -141,7 +142,7 @@ units_released l c j next ch u arg others i =
 pub can_release_channel : (l : Account) (c : ℕ) (j : Job) (next : Then) (ch arg : ℕ) (others : ConnectionKind → PlugAt → ℕ) → IsInStep l c j (RestoreChannel next ch arg) others → Can c j.plug (ReleaseChannel ch) l
 can_release_channel l c j next ch arg others i = record { within = i.pending.0; held = i.pending.1 }
 
--- a pending that orphaned its one allocation
+-- the one pending allocation was orphaned
 pub pending_gone : (l : Account) (c : ℕ) (p : PlugAt) (ch : ℕ) (x : Option Allocation) {u : ℕ} → IsSound l → (ℕ → is_pending c x ≡ false) → l.allocations ch ≡ Some (record { holder = Pending c p; units = u }) → (k : ℕ) → is_pending c (update l.allocations ch x k) ≡ false
 pending_gone l c p ch x s gone held k = go (is_pending c (l.allocations k)) refl (cases_eq k ch)
   where

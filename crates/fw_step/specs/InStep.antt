@@ -12,9 +12,10 @@ use Rattle.std.specs.Prelude.{ℕ, ◌+◌, ◌-◌, ◌==◌, ◌≡◌, ◌<�
 use Rattle.fw_base.specs.Tables.{same_plug}
 use Rattle.fw_ledger.specs.Account.{Pending, Allocation, Owner, Of, Dead, Connections, Account, remainder}
 use Rattle.fw_plug.specs.Words.{units_of}
-use Rattle.fw_ledger.specs.Moves.{Move, AllocateChannel, AllocateUnits, ConnectFirst, ConnectOverlaid, DisconnectOutput, ReleaseUnits, ReleaseChannel, HasNoPending, Can, after}
+use Rattle.fw_ledger.specs.Moves.{Move, ConnectInput, DisconnectInput, AllocateChannel, AllocateUnits, ConnectFirst, ConnectOverlaid, DisconnectOutput, ReleaseUnits, ReleaseChannel, HasNoPending, Can, after}
 use Rattle.fw_plug.specs.Words.{out_fields, out_word}
 use Rattle.fw_ledger.specs.Words.{fields_at, channel_word}
+use Rattle.fw_ledger.specs.Network.{is_output}
 use Rattle.fw_cmp.specs.declared.request.Register.{Register}
 use Rattle.fw_cmp.specs.declared.request.Register.TheVariants.{OutputPlug, Channels, BandwidthAvailable}
 use Rattle.fw_cmp.specs.Stages.{register_of, pending_of, is_joined, hear, is_connected, is_full, shows_connection, is_bit, half_of, is_other, wanted}
@@ -26,7 +27,7 @@ word_at l p OutputPlug = out_word (fields_at l p)
 word_at l p (Channels base) = channel_word l base
 word_at l p BandwidthAvailable = remainder l
 
--- controller c has exactly these allocations in its pending
+-- the pending allocations of controller c are exactly these
 abbrev pub HoldsPending : ℕ → PlugAt → Option Held → (ℕ → Option Allocation) → Type 0
 HoldsPending c p None allocations = HasNoPending c allocations
 HoldsPending c p (Some h) allocations = (h.channel < 64) × (allocations h.channel ≡ Some (record { holder = Pending c p; units = h.units }))
@@ -107,7 +108,7 @@ pub record IsInStep (l : Account) (c : ℕ) (j : Job) (s : Stage) (others : Conn
   pub knows : Knows (l.settings j.plug).rate j s
   pub reclaims : IsTrue l.reclaiming → IsTrue (allocates s) → MayReclaim l j
   pub channel : (ch : ℕ) → wanted s ≡ Some ch → IsFalse (is_other j.asked ch)
-  pub there : IsTrue (l.has_plug j.plug)
+  pub there : IsTrue (is_output l.latest j.plug)
 
 -- ---- a half step that has a request carried out
 
@@ -130,17 +131,19 @@ pub record HalfStep (l : Account) (c : ℕ) (j : Job) (s : Stage) (others : Conn
   pub step : IsInStep (tried c j.plug (try_of j s) (answer l j s) l) c j (hear j s (answer l j s)) others
 
 -- the registers other than r of plug p are as they were
-pub record SameElsewhere (p : PlugAt) (r : Register) (l m : Account) : Type 0 where
-  pub remainder : r ≢ BandwidthAvailable → remainder m ≡ remainder l
-  pub halves : (base : ℕ) → (base ≡ 0) ⊎ (base ≡ 32) → r ≢ Channels base → channel_word m base ≡ channel_word l base
-  pub outputs : (q : PlugAt) → (r ≢ OutputPlug) ⊎ (q ≢ p) → out_word (fields_at m q) ≡ out_word (fields_at l q)
+pub record SameElsewhere (p : PlugAt) (r : Option Register) (l m : Account) : Type 0 where
+  pub remainder : r ≢ Some BandwidthAvailable → remainder m ≡ remainder l
+  pub halves : (base : ℕ) → (base ≡ 0) ⊎ (base ≡ 32) → r ≢ Some (Channels base) → channel_word m base ≡ channel_word l base
+  pub outputs : (q : PlugAt) → (r ≢ Some OutputPlug) ⊎ (q ≢ p) → out_word (fields_at m q) ≡ out_word (fields_at l q)
 
--- the register that a move changes
-abbrev pub moves_at : Move → Register
-moves_at (AllocateChannel ch) = Channels (half_of ch)
-moves_at (AllocateUnits ch u) = BandwidthAvailable
-moves_at (ConnectFirst kind ch overhead) = OutputPlug
-moves_at (ConnectOverlaid kind) = OutputPlug
-moves_at (DisconnectOutput kind) = OutputPlug
-moves_at (ReleaseUnits ch u) = BandwidthAvailable
-moves_at (ReleaseChannel ch) = Channels (half_of ch)
+-- the register that a move changes, but for those of input plugs
+abbrev pub moves_at : Move → Option Register
+moves_at (AllocateChannel ch) = Some (Channels (half_of ch))
+moves_at (AllocateUnits ch u) = Some BandwidthAvailable
+moves_at (ConnectFirst kind ch overhead) = Some OutputPlug
+moves_at (ConnectOverlaid kind) = Some OutputPlug
+moves_at (ConnectInput kind ch) = None
+moves_at (DisconnectInput kind) = None
+moves_at (DisconnectOutput kind) = Some OutputPlug
+moves_at (ReleaseUnits ch u) = Some BandwidthAvailable
+moves_at (ReleaseChannel ch) = Some (Channels (half_of ch))

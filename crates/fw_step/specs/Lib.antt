@@ -1,4 +1,2 @@
 pub mod Moves
 pub mod InStep
-pub mod Slots
-pub mod Distance

@@ -5,6 +5,11 @@ use Rattle.fw_cmp.specs.declared.stage.Stage.TheVariants.{ReadOutput, ReadChanne
 use Rattle.std.specs.Prelude.{ℕ, ◌+◌, ◌-◌, Option, Some, None}
 use Rattle.fw_plug.specs.Words.{out_fields, out_word}
 use Rattle.fw_cmp.specs.Stages.{one_more, one_less, first_word, half_of, with_bit, without_bit}
+use Rattle.fw_base.specs.declared.plug.PlugAt.{PlugAt}
+use Rattle.fw_cmp.specs.declared.request.Register.{Register}
+use Rattle.fw_cmp.specs.declared.request.Register.TheVariants.{OutputPlug, Channels, BandwidthAvailable}
+use Rattle.fw_cmp.specs.declared.request.Swap.{Swap}
+use Rattle.fw_ledger.specs.Words.{Register as AccountRegister, OutputPlug as OutputPlugRegister, ChannelsAvailable, BandwidthAvailable as BandwidthRegister}
 use Rattle.fw_ledger.specs.Moves.{Move, AllocateChannel, AllocateUnits, ConnectFirst, ConnectOverlaid, DisconnectOutput, ReleaseUnits, ReleaseChannel}
 
 -- the swap of a stage, and the move that it makes where it succeeds
@@ -29,3 +34,14 @@ try_of j (RaiseBandwidth next ch u arg) = Some (record { arg = arg; new = arg + 
 try_of j (ReadChannelsToRelease next ch) = None
 try_of j (RestoreChannel next ch arg) = Some (record { arg = arg; new = with_bit arg (ch - half_of ch); move = ReleaseChannel ch })
 try_of j (Ended o) = None
+
+-- the swap alone
+abbrev pub swap_in : Option Try → Option Swap
+swap_in None = None
+swap_in (Some t) = Some (record { arg = t.arg; new = t.new })
+
+-- the register of the account that a job at plug p asks for
+abbrev pub account_register : PlugAt → Register → AccountRegister
+account_register p OutputPlug = OutputPlugRegister p
+account_register p (Channels base) = ChannelsAvailable base
+account_register p BandwidthAvailable = BandwidthRegister

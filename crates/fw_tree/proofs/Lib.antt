@@ -1,9 +1,15 @@
+pub mod CountLaws
+pub mod FitLaws
 pub mod ForestLaws
+pub mod OneNumberingLaws
+pub mod OneRootLaws
+pub mod ReachLaws
 pub mod RootLaws
 pub mod RoundLaws
 pub mod SeenLaws
 pub mod SelfIdLaws
 pub mod PathLaws
+pub mod NumberingLaws
 pub mod ParentLaws
 pub mod TopologyLaws
 pub mod TreeLaws

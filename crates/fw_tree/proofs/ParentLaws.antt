@@ -1,5 +1,5 @@
 -- What the rounds note of a device.
-use Rattle.std.proofs.Common.{add-one, replicate, length-set, get_or-set_same, get_or-set_other, ◌≡◌, ◌⊎◌, inl, inr, ℕ, zero, suc, ◌<◌, ◌≤◌, ◌+◌, ◌==◌, ◌&&◌, ◌||◌, not, List, [], ◌∷◌, length, Option, Some, None, Bool, true, false, slice_index_or, slice_set, count_by, arith, refl, sym, ap, subst, ◌∙◌}
+use Rattle.std.proofs.Common.{add-one, replicate, length-set, get_or-set_same, get_or-set_other, ◌≡◌, ◌⊎◌, inl, inr, ℕ, zero, suc, ◌<◌, ◌≤◌, ◌+◌, ◌==◌, nat_lt, ◌&&◌, ◌||◌, not, List, [], ◌∷◌, length, Option, Some, None, Bool, true, false, slice_index_or, slice_set, count_by, arith, refl, sym, ap, subst, ◌∙◌}
 use Rattle.std.proofs.lemmas.Bool.{cases_eq}
 use Rattle.std.proofs.lemmas.List.{get_or-replicate}
 use Rattle.std.proofs.lemmas.Bool.Decides.{nat_tests}
@@ -51,16 +51,22 @@ not_shut s ports size h shut =
     let o = w.open_there in
     cc
 
-pub is_leaving : (b : Bool) (n : ℕ) → b ≡ true → n ≡ 1 → (b && (n == 1)) ≡ true
-is_leaving b n h k = grind (arith, nat_tests)
+-- the other leaves too and comes first
+pub won : (b : Bool) (n e d : ℕ) → (b && (n == 1) && nat_lt e d) ≡ true → (n ≡ 1) × (e < d)
+won b n e d h = (test_one b n (nat_lt e d) h, test_less (b && (n == 1)) e d h)
+  where
+    test_one : (b : Bool) (n : ℕ) (c : Bool) → (b && (n == 1) && c) ≡ true → n ≡ 1
+    test_one b n c h = grind (arith, nat_tests)
 
-pub has_left : (b : Bool) (n : ℕ) → (b && (n == 1)) ≡ true → n ≡ 1
-has_left b n h = grind (arith, nat_tests)
+    test_less : (c : Bool) (e d : ℕ) → (c && nat_lt e d) ≡ true → e < d
+    test_less c e d h = grind (arith, nat_tests)
 
--- where the later one does not leave, or the other does not, there is no tie to win
-pub no_win : (g : Peers) (s : ℕ → Bool) (d p : ℕ) (e : End) → LeavesBy g s d p → peer g d p ≡ Some e → ((s e.device && (open_count g s e.device == 1)) ≡ false) ⊎ (d ≤ e.device) → WinsTie g s d → ⊥
-no_win g s d p e l is (inl stays_on) w = let t = tie_with g s d p e l is w in let x = is_leaving (s e.device) (open_count g s e.device) t.1 t.2 in cc
-no_win g s d p e l is (inr low) w = let t = tie_with g s d p e l is w in omega (arith, t.0)
+pub is_leaving : (b : Bool) (n e d : ℕ) → b ≡ true → n ≡ 1 → e < d → (b && (n == 1) && nat_lt e d) ≡ true
+is_leaving b n e d h k l = grind (arith, nat_tests)
+
+-- where the other does not leave, or comes later, there is no tie to win
+pub no_win : (g : Peers) (s : ℕ → Bool) (d p : ℕ) (e : End) → LeavesBy g s d p → peer g d p ≡ Some e → (s e.device && (open_count g s e.device == 1) && nat_lt e.device d) ≡ false → WinsTie g s d → ⊥
+no_win g s d p e l is none w = let t = tie_with g s d p e l is w in let x = is_leaving (s e.device) (open_count g s e.device) e.device d t.1 t.2 t.0 in cc
 
 -- what the devices below i have done in a round
 pub record Leave (g : Peers) (round : ℕ) (old stays_now : List Bool) (was now : List (Option Parent)) (i : ℕ) : Type 0 where

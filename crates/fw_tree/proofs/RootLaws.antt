@@ -43,7 +43,7 @@ one_root g on r d e n i j (inr s) (inr t) = elim (cases_lt s.0 t.0) [
 ]
 
 -- some device below n passes, or none does
-some_below : (f : ℕ → Bool) (n : ℕ) → ((d : ℕ) × (d < n) × (f d ≡ true)) ⊎ ((d : ℕ) → d < n → f d ≡ true → ⊥)
+pub some_below : (f : ℕ → Bool) (n : ℕ) → ((d : ℕ) × (d < n) × (f d ≡ true)) ⊎ ((d : ℕ) → d < n → f d ≡ true → ⊥)
 some_below f zero = inr (λ d h t. omega arith)
 some_below f (suc n) = elim (truth (f n)) [
   | inl shown ↦ inl (n, omega arith, shown)

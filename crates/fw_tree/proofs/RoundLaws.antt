@@ -201,7 +201,7 @@ in_range g range d p e is = within (peer g d p) e is (range.ends d p)
 pub open_same : (g : Peers) (f h : ℕ → Bool) (d : ℕ) → InRange g → ((k : ℕ) → k < 63 → f k ≡ h k) → open_count g f d ≡ open_count g h d
 open_same g f h d range same = count_same f h (slice_index_or g d []) (λ p e is. same e.device (in_range g range d p e is))
 
-same_from : (g : Peers) (r t d : ℕ) → InRange g → Settled g r → r ≤ t → d < 63 → stays g t d ≡ stays g r d
+pub same_from : (g : Peers) (r t d : ℕ) → InRange g → Settled g r → r ≤ t → d < 63 → stays g t d ≡ stays g r d
 same_from g r zero d range settled h l = let e : r ≡ 0 = omega arith in rw e refl
 same_from g r (suc t) d range settled h l = elim (cases_eq r (suc t)) [
   | inl same ↦ rw same refl

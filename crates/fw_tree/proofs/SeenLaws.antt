@@ -1,5 +1,5 @@
 -- Laws of what was seen.
-use Rattle.std.proofs.Common.{get_or-set_same, ◌+◌, ◌≡◌, ◌⊎◌, inl, inr, ℕ, zero, suc, ◌<◌, List, [], ◌∷◌, length, Bool, true, false, IsTrue, slice_index_or, replicate, slice_set, Option, Some, None, IfSome, arith, refl, ap, sym, subst, ◌∙◌, get_or-set_other}
+use Rattle.std.proofs.Common.{◌≡◌, ◌⊎◌, inl, inr, ℕ, zero, suc, ◌<◌, List, [], ◌∷◌, length, Bool, true, false, IsTrue, slice_index_or, replicate, slice_set, Option, Some, None, IfSome, arith, refl, ap, sym, subst, ◌∙◌, get_or-set_other}
 use Rattle.std.proofs.lemmas.Grind.{common_steps}
 use Rattle.std.proofs.lemmas.Bool.{cases_eq}
 use Rattle.fw_tree.specs.declared.facts.End.{End}
@@ -53,10 +53,3 @@ only_from n e d h = elim (seen_from (replicate n false) e d h) [ inl none ↦ cc
 
 pub reached_first : (g : Peers) (a : ℕ) (seen : List Bool) → ((d : ℕ) → IsTrue (is_seen seen d) → d ≡ a) → AllReached g a seen
 reached_first g a seen others d h = let P : ℕ → Type 0 = Walk g a in subst P (sym (others d h)) here
-
--- one place more has its value
-pub set_more : (xs : List Bool) (f : ℕ → Bool) (d : ℕ) (b : Bool) → d < length xs → ((k : ℕ) → k < d → is_seen xs k ≡ f k) → b ≡ f d → (k : ℕ) → k < d + 1 → is_seen (slice_set xs d b) k ≡ f k
-set_more xs f d b within below this k h = elim (cases_eq k d) [
-  | inl same ↦ rw same (get_or-set_same xs d b false within ∙ this)
-  | inr differ ↦ get_or-set_other xs d k b false differ ∙ below k (omega arith)
-]

@@ -7,14 +7,15 @@ use Rattle.fw_phy.specs.declared.packet.PhyPacket.{PhyPacket}
 use Rattle.fw_tree.specs.declared.facts.End.{End}
 use Rattle.fw_tree.specs.declared.facts.PhyFacts.{PhyFacts}
 use Rattle.fw_tree.specs.Cables.{Peers}
-use Rattle.fw_tree.specs.Numbers.{number_at, is_there, has_number}
-use Rattle.fw_tree.specs.SelfIds.{more_packet, further_packet, node_packets, facts_at, ArePackets, no_node, node, no_device}
+use Rattle.fw_tree.specs.Numbers.{number_at, has_number}
+use Rattle.fw_tree.proofs.CountLaws.{there}
+use Rattle.fw_tree.specs.SelfIds.{first_port, more_packet, further_packet, node_packets, facts_at, ArePackets, no_node, node}
 
 is_below : (a b : ℕ) → a < b → nat_lt a b ≡ true
 is_below a b h = grind (arith, nat_tests)
 
-pub further_is : (f : PhyFacts) (row : List (Option End)) (parent : Option ℕ) (phy number at : ℕ) → at < f.ports → further_packet f row parent phy number at ≡ more_packet f row parent phy number at ∷ []
-further_is f row parent phy number at h = rw (is_below at f.ports h) refl
+pub further_is : (f : PhyFacts) (cables : List (Option End)) (parent : Option ℕ) (phy number : ℕ) → first_port number < f.ports → further_packet f cables parent phy number ≡ more_packet f cables parent phy number ∷ []
+further_is f cables parent phy number h = rw (is_below (first_port number) f.ports h) refl
 
 pub four : (out a b c d x y z w : List PhyPacket) → x ≡ out ++ a → y ≡ x ++ b → z ≡ y ++ c → w ≡ z ++ d → w ≡ out ++ (a ++ b ++ c ++ d)
 four out a b c d x y z w e f g h = h ∙ rw (g, f, e) (simp append_assoc)
@@ -22,19 +23,12 @@ four out a b c d x y z w e f g h = h ∙ rw (g, f, e) (simp append_assoc)
 pub one_more : (fs : List PhyFacts) (g : Peers) (number parents : List (Option ℕ)) (i n d : ℕ) (ps qs : List PhyPacket) → number_at number d ≡ Some n → qs ≡ ps ++ node_packets (facts_at fs d) (slice_index_or g d []) (number_at parents d) n (d == i) → ArePackets fs g number parents i n ps → ArePackets fs g number parents i (n + 1) qs
 one_more fs g number parents i n d ps qs h e a = rw add-one (node a d h e)
 
-pub no_more : (fs : List PhyFacts) (g : Peers) (number parents : List (Option ℕ)) (i n : ℕ) (ps : List PhyPacket) → ((d : ℕ) → d < 63 → number_at number d ≡ Some n → ⊥) → ArePackets fs g number parents i n ps → ArePackets fs g number parents i (n + 1) ps
-no_more fs g number parents i n ps h a = rw add-one (no_device a h)
-
-there : (o : Option ℕ) (n : ℕ) → o ≡ Some n → is_there o ≡ true
-there o n e = rw e refl
-
 -- the facts of devices that are there are those of the first ones
 pub of_first : (fs : List PhyFacts) (g : Peers) (number parents : List (Option ℕ)) (i m n : ℕ) (ps : List PhyPacket) → ((d : ℕ) → has_number number d ≡ true → d < m) → ArePackets fs g number parents i n ps → ArePackets (take m fs) g number parents i n ps
 of_first fs g number parents i m n ps low no_node = no_node
 of_first fs g number parents i m n ps low (node {n = k} {ps = qs} a d h e) =
     let same = get_or-take m fs d (record { ports = 0; speed = 0; link = false; contender = false }) (low d (there (number_at number d) k h)) in
     node (of_first fs g number parents i m k qs low a) d h (e ∙ ap (λ f. qs ++ node_packets f (slice_index_or g d []) (number_at parents d) k (d == i)) (sym same))
-of_first fs g number parents i m n ps low (no_device {n = k} a h) = no_device (of_first fs g number parents i m k ps low a) h
 
 pub shorter_than : (fs : List PhyFacts) (m d : ℕ) → d < length (take m fs) → d < m
 shorter_than fs m d h = grind (arith, common_steps)

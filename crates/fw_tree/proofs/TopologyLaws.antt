@@ -170,9 +170,6 @@ sound_join fs g a b s has free apart =
     }
 
 -- where no cable is
-abbrev pub no_row : List (Option End)
-no_row = replicate 27 None
-
 abbrev Ports : Type 0
 Ports = List (Option End)
 
@@ -212,9 +209,6 @@ sound_new = record {
 
 pub short : (fs : List PhyFacts) (n : ℕ) → n < 63 → length (take n fs) < 63
 short fs n h = grind (arith, common_steps)
-
-pub shorter : (fs : List PhyFacts) (n : ℕ) → n ≤ 63 → length (take n fs) ≤ 63
-shorter fs n h = grind (arith, common_steps)
 
 pub ports_most : (fs : List PhyFacts) (d : ℕ) → AreDevices fs → ports_of fs d ≤ 27
 ports_most [] d a = omega arith

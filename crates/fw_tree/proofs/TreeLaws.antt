@@ -1,5 +1,5 @@
 -- What the walk over the tree has numbered.
-use Rattle.std.proofs.Common.{replicate, add-one, add-zero, ◌≡◌, inl, inr, ℕ, zero, suc, ◌<◌, ◌≤◌, ◌+◌, ◌==◌, ◌&&◌, ◌||◌, nat_lt, List, [], ◌∷◌, ◌++◌, length, Option, Some, None, Bool, true, false, slice_index_or, slice_set, if◌then◌else◌, arith, refl, sym, ap, subst, ◌∙◌, get_or-set_same, get_or-set_other}
+use Rattle.std.proofs.Common.{replicate, ◌≡◌, inl, inr, ℕ, zero, suc, ◌<◌, ◌≤◌, ◌+◌, ◌==◌, ◌&&◌, ◌||◌, nat_lt, List, [], ◌∷◌, ◌++◌, length, Option, Some, None, Bool, true, false, slice_index_or, slice_set, if◌then◌else◌, arith, refl, sym, ap, subst, ◌∙◌}
 use Rattle.std.proofs.lemmas.Bool.{cases_eq, cases_lt}
 use Rattle.std.proofs.lemmas.List.{get_or_past}
 use Rattle.std.proofs.lemmas.Bool.Decides.{nat_tests}
@@ -10,7 +10,7 @@ use Rattle.fw_tree.specs.Rounds.{stays, HasParent}
 use Rattle.fw_tree.specs.Forest.{AreCables, HasNoLoop}
 use Rattle.fw_tree.specs.Parents.{IsOn, IsTheRoot, IsParent, Settled, parent_at}
 use Rattle.fw_tree.specs.Paths.{comes_before, is_left, is_front}
-use Rattle.fw_tree.specs.Numbers.{LeadsDown, at_root, down_to, IsChild, rank, counted, number_at, is_there, has_number, AreNumbers, AreParents, IsParentPort, shown}
+use Rattle.fw_tree.specs.Numbers.{LeadsDown, at_root, down_to, IsChild, rank, counted, number_at, is_there, has_number, AreNumbers, AreParents, IsParentPort, shown, AreNodes}
 use Rattle.fw_tree.specs.Branch.{Tree, ArePaths, Done, Branch, Ports}
 use Rattle.fw_tree.specs.declared.facts.PhyFacts.{PhyFacts}
 use Rattle.fw_tree.specs.Topology.{IsSound}
@@ -19,7 +19,8 @@ use Rattle.fw_tree.proofs.ForestLaws.{truth, both, open_to}
 use Rattle.fw_tree.proofs.RoundLaws.{in_range, bus_splits, led}
 use Rattle.fw_tree.proofs.RootLaws.{root_no_parent, ended}
 use Rattle.fw_tree.proofs.PathLaws.{one_parent, one_path, one_device, snoc_same, front_device, later}
-use Rattle.fw_tree.proofs.StepLaws.{PortsBelow, down, next, last}
+use Rattle.fw_tree.proofs.CountLaws.{counted_same, set_there, set_else, there, nodes_blank, nodes_set}
+use Rattle.fw_tree.proofs.StepLaws.{irreflexive, PortsBelow, down, next, last}
 
 further : (g : Peers) (root : ℕ) (d p r : ℕ) (e : End) (w : (v : List ℕ) × LeadsDown g root v e.device) → peer g e.device e.port ≡ Some (record { device = d; port = p }) → HasParent g d p r → (v : List ℕ) × LeadsDown g root v d
 further g root d p r e w back h = (w.0 ++ e.port ∷ [], down_to {k = w.0} w.1 e.port p r back h refl)
@@ -79,7 +80,7 @@ no_child g par root on paths d p t a i shut v j = elim (truth (is_front (paths d
 ]
 
 -- ports are below 27
-port_within : (ports : List (Option End)) (p : ℕ) (e : End) → slice_index_or ports p None ≡ Some e → p < length ports
+pub port_within : (ports : List (Option End)) (p : ℕ) (e : End) → slice_index_or ports p None ≡ Some e → p < length ports
 port_within [] p e h = absurd (let z : ⊥ = cc in z)
 port_within (o ∷ ports) zero e h = omega arith
 port_within (o ∷ ports) (suc p) e h = omega (arith, port_within ports p e h)
@@ -95,15 +96,11 @@ low_ports g root v d range cables (down_to {k = k} {d = b} u p q r is h split) =
     let low = port_within (slice_index_or g b []) p (record { device = d; port = q }) is in
     rw split (low_snoc k p (low_ports g root k b range cables u) (let e = range.ports b row in omega arith))
 
-counted_same : (f h : ℕ → Bool) (n : ℕ) → ((k : ℕ) → f k ≡ h k) → counted f n ≡ counted h n
-unfolding counted
-counted_same f h zero e = refl
-counted_same f h (suc n) e = rw (counted_same f h n e, e n) refl
-
 pub done_same : (on : ℕ → Bool) (paths : ℕ → List ℕ) (f h : ℕ → Bool) (number : List (Option ℕ)) → ((v : ℕ) → on v ≡ true → f v ≡ h v) → Done on paths f number → Done on paths h number
 done_same on paths f h number e l = record {
   has = λ v. l.has v ∙ same (on v) (f v) (h v) (e v);
   place = λ v i t. l.place v i (e v i ∙ t);
+  nodes = l.nodes;
 }
   where
     same : (a b c : Bool) → (a ≡ true → b ≡ c) → (a && b) ≡ (a && c)
@@ -151,15 +148,6 @@ upto_self k v e = rw e (or_true (is_left k k) (is_front k k) (front_self k))
     or_true true b h = refl
     or_true false b h = h
 
-set_there : (number : List (Option ℕ)) (d n : ℕ) → d < length number → number_at (slice_set number d (Some n)) d ≡ Some n
-set_there number d n h = get_or-set_same number d (Some n) None h
-
-set_else : (number : List (Option ℕ)) (d n v : ℕ) → (v ≡ d → ⊥) → number_at (slice_set number d (Some n)) v ≡ number_at number v
-set_else number d n v differ = get_or-set_other number d v (Some n) None differ
-
-there : (o : Option ℕ) (n : ℕ) → o ≡ Some n → is_there o ≡ true
-there o n e = rw e refl
-
 has_of : (on : ℕ → Bool) (paths : ℕ → List ℕ) (d n : ℕ) (number : List (Option ℕ)) → on d ≡ true → d < length number → (v : ℕ) → has_number number v ≡ (on v && comes_before (paths v) (paths d)) → (on v ≡ true → (v ≡ d → ⊥) → Upto (paths d) (paths v) ≡ comes_before (paths v) (paths d)) → has_number (slice_set number d (Some n)) v ≡ (on v && Upto (paths d) (paths v))
 has_of on paths d n number i size v l upto = elim (cases_eq v d) [
   | inl same ↦ rw same (there (number_at (slice_set number d (Some n)) d) n (set_there number d n size) ∙ sym (both (on d) (Upto (paths d) (paths d)) i (upto_self (paths d) (paths d) refl)))
@@ -176,29 +164,22 @@ place_of on paths d n number size count v l upto t = elim (cases_eq v d) [
   | inr differ ↦ set_else number d n v differ ∙ l (sym (upto differ) ∙ t)
 ]
 
+no_part : (a b : Bool) → b ≡ false → (a && b) ≡ false
+no_part true b h = h
+no_part false b h = refl
+
 -- the device itself
-pub done_number : (g : Peers) (root : ℕ) (on : ℕ → Bool) (paths : ℕ → List ℕ) (d n : ℕ) (number : List (Option ℕ)) → ArePaths g root on paths → on d ≡ true → d < length number → Done on paths (λ v. comes_before (paths v) (paths d)) number → n ≡ counted (has_number number) 63 → Done on paths (λ v. is_left (paths v) (paths d) || is_front (paths d) (paths v)) (slice_set number d (Some n))
-done_number g root on paths d n number a i size l e =
-    let count : n ≡ counted (λ e. on e && comes_before (paths e) (paths d)) 63 = e ∙ counted_same (has_number number) (λ e. on e && comes_before (paths e) (paths d)) 63 l.has in
+pub done_number : (g : Peers) (root : ℕ) (on : ℕ → Bool) (paths : ℕ → List ℕ) (d n : ℕ) (number : List (Option ℕ)) → ArePaths g root on paths → on d ≡ true → d < length number → d < 63 → Done on paths (λ v. comes_before (paths v) (paths d)) number → n ≡ counted (has_number number) 63 → Done on paths (λ v. is_left (paths v) (paths d) || is_front (paths d) (paths v)) (slice_set number d (Some n))
+done_number g root on paths d n number a i size low l e =
+    let count : n ≡ counted (λ e. on e && comes_before (paths e) (paths d)) 63 = e ∙ counted_same (has_number number) (λ e. on e && comes_before (paths e) (paths d)) 63 (λ k h. l.has k) in
     record {
       has = λ v. has_of on paths d n number i size v (l.has v) (λ j differ. upto v j differ);
       place = λ v j t. place_of on paths d n number size count v (λ s. l.place v j s) (λ differ. upto v j differ) t;
+      nodes = nodes_set number d n size low (l.has d ∙ no_part (on d) (comes_before (paths d) (paths d)) (irreflexive (paths d))) e l.nodes;
     }
   where
     upto : (v : ℕ) → on v ≡ true → (v ≡ d → ⊥) → Upto (paths d) (paths v) ≡ comes_before (paths v) (paths d)
     upto v j differ = left_or_front (paths v) (paths d) (λ s. differ (one_device g root (paths v) (paths d) v d (a.lead v j) (a.lead d i) s))
-
-pub counted_none : (f : ℕ → Bool) → counted f 0 ≡ 0
-unfolding counted
-counted_none f = refl
-
-pub counted_yes : (f : ℕ → Bool) (n : ℕ) → f n ≡ true → counted f (n + 1) ≡ counted f n + 1
-unfolding counted
-counted_yes f n h = rw (add-one, h) refl
-
-pub counted_else : (f : ℕ → Bool) (n : ℕ) → f n ≡ false → counted f (n + 1) ≡ counted f n
-unfolding counted
-counted_else f n h = rw (add-one, h) (add-zero (counted f n))
 
 -- the loop over the ports
 pub ports_first : (g : Peers) (par : List (Option Parent)) (root : ℕ) (on : ℕ → Bool) (paths : ℕ → List ℕ) (d : ℕ) (number : List (Option ℕ)) → Ports g par root on paths d 0 number number
@@ -214,7 +195,7 @@ pub ports_none : (g : Peers) (par : List (Option Parent)) (root : ℕ) (on : ℕ
 ports_none g par root on paths d p old now shut ports t a i l = done_none on paths (paths d) p now (no_child g par root on paths d p t a i shut) (ports t a i l)
 
 pub branch_of : (g : Peers) (par : List (Option Parent)) (root : ℕ) (on : ℕ → Bool) (paths : ℕ → List ℕ) (d n : ℕ) (old now : List (Option ℕ)) → d < length now → n ≡ counted (has_number now) 63 → Ports g par root on paths d 27 old now → Branch g par root on paths d old (slice_set now d (Some n))
-branch_of g par root on paths d n old now size e ports t a i l = done_number g root on paths d n now a i size (done_last g root on paths (paths d) now t.range t.cables a (ports t a i l)) e
+branch_of g par root on paths d n old now size e ports t a i l = done_number g root on paths d n now a i size (t.within d i) (done_last g root on paths (paths d) now t.range t.cables a (ports t a i l)) e
 
 -- a child leaves before its parent
 pub child_lower : (g : Peers) (par : List (Option Parent)) (d p c : ℕ) → AreCables g → ((k : ℕ) → k < 63 → IsParent g k (parent_at par k)) → d < 63 → c < 63 → IsChild g par d p c → rank (parent_at par c) < rank (parent_at par d)
@@ -241,10 +222,6 @@ tree_of g par root r on range cables none bus settled parents top =
       alone = λ d i h. top.alone d (bus.walk d i) h;
     }
 
-none_there : (o : Option ℕ) → is_there o ≡ false → o ≡ None
-none_there None h = refl
-none_there (Some n) h = absurd (let z : ⊥ = cc in z)
-
 no_left : (v k : List ℕ) → k ≡ [] → is_left v k ≡ false
 no_left [] k e = refl
 no_left (x ∷ v) k e = rw e refl
@@ -253,45 +230,46 @@ all_upto : (v k : List ℕ) → k ≡ [] → Upto k v ≡ true
 all_upto [] k e = rw e refl
 all_upto (x ∷ v) k e = rw e refl
 
-not_done : (a b : Bool) → b ≡ false → false ≡ (a && b)
-not_done true b h = sym h
-not_done false b h = refl
-
 all_done : (a b : Bool) → b ≡ true → (a && b) ≡ a
 all_done true b h = h
 all_done false b h = refl
 
-off_bus : (b : Bool) → (b ≡ true → ⊥) → b ≡ false
-off_bus true h = absurd (h refl)
-off_bus false h = refl
-
-hidden : (b : Bool) (o : Option Parent) → (b ≡ true → ⊥) → shown b o ≡ None
-hidden true o h = absurd (h refl)
-hidden false o h = refl
+is_shown : (b : Bool) (o : Option Parent) (p : ℕ) → shown b o ≡ Some p → b ≡ true
+is_shown true o p h = refl
+is_shown false o p h = cc
 
 parent_port : (g : Peers) (d : ℕ) (o : Option Parent) → IsParent g d o → IsParentPort g d (shown true o)
 parent_port g d None w = w
 parent_port g d (Some p) w = (p.round, w.2)
 
-pub numbers_of : (g : Peers) (par : List (Option Parent)) (root : ℕ) (on : List Bool) (old now : List (Option ℕ)) → Tree g par root (is_seen on) → IsOn g on → Walk g 0 root → ((d : ℕ) → number_at old d ≡ None) → ((paths : ℕ → List ℕ) → Branch g par root (is_seen on) paths root old now) → AreNumbers g root now
+-- what the walk from the root has numbered
+pub record Numbered (g : Peers) (root : ℕ) (number : List (Option ℕ)) : Type 0 where
+  pub numbers : AreNumbers g root number
+  pub nodes : AreNodes number (counted (has_number number) 63)
+
+pub numbers_of : (g : Peers) (par : List (Option Parent)) (root : ℕ) (on : List Bool) (old now : List (Option ℕ)) → Tree g par root (is_seen on) → IsOn g on → Walk g 0 root → ((d : ℕ) → number_at old d ≡ None) → ((paths : ℕ → List ℕ) → Branch g par root (is_seen on) paths root old now) → Numbered g root now
 numbers_of g par root on old now t bus top blank branch = given (λ d. (choose g par root (is_seen on) t d).0) (λ d h. (choose g par root (is_seen on) t d).1 h)
   where
-    given : (paths : ℕ → List ℕ) → ((d : ℕ) → is_seen on d ≡ true → LeadsDown g root (paths d) d) → AreNumbers g root now
+    given : (paths : ℕ → List ℕ) → ((d : ℕ) → is_seen on d ≡ true → LeadsDown g root (paths d) d) → Numbered g root now
     given paths lead =
         let a : ArePaths g root (is_seen on) paths = record { lead = lead } in
         let on_root : is_seen on root ≡ true = bus.has root top in
         let empty : paths root ≡ [] = one_path g root (paths root) [] root root t.cables t.top (lead root on_root) at_root refl in
         let start : Done (is_seen on) paths (λ v. is_left (paths v) (paths root)) old = record {
-          has = λ v. ap is_there (blank v) ∙ not_done (is_seen on v) (is_left (paths v) (paths root)) (no_left (paths v) (paths root) empty);
+          has = λ v. ap is_there (blank v) ∙ sym (no_part (is_seen on v) (is_left (paths v) (paths root)) (no_left (paths v) (paths root) empty));
           place = λ v i s. absurd (let e = no_left (paths v) (paths root) empty in let z : ⊥ = cc in z);
+          nodes = nodes_blank old blank;
         } in
         let end : Done (is_seen on) paths (λ v. is_left (paths v) (paths root) || is_front (paths root) (paths v)) now = branch paths t a on_root start in
         let all : (v : ℕ) → has_number now v ≡ is_seen on v = λ v. end.has v ∙ all_done (is_seen on v) (Upto (paths root) (paths v)) (all_upto (paths v) (paths root) empty) in
         record {
-          paths = paths;
-          lead = λ d w. lead d (bus.has d w);
-          places = λ d w. end.place d (bus.has d w) (all_upto (paths d) (paths root) empty) ∙ ap (λ n. Some n) (counted_same (λ e. is_seen on e && comes_before (paths e) (paths d)) (λ e. has_number now e && comes_before (paths e) (paths d)) 63 (λ k. ap (λ b. b && comes_before (paths k) (paths d)) (sym (all k))));
-          off = λ d out. none_there (number_at now d) (all d ∙ off_bus (is_seen on d) (λ h. out (bus.walk d h)));
+          numbers = record {
+            paths = paths;
+            lead = λ d w. lead d (bus.has d w);
+            places = λ d w. end.place d (bus.has d w) (all_upto (paths d) (paths root) empty) ∙ ap (λ n. Some n) (counted_same (λ e. is_seen on e && comes_before (paths e) (paths d)) (λ e. has_number now e && comes_before (paths e) (paths d)) 63 (λ k l. ap (λ b. b && comes_before (paths k) (paths d)) (sym (all k))));
+            only = λ d h. bus.walk d (sym (all d) ∙ h);
+          };
+          nodes = end.nodes;
         }
 
 pub parents_of : (g : Peers) (par : List (Option Parent)) (on : List Bool) (ports : List (Option ℕ)) → IsOn g on → ((d : ℕ) → is_seen on d ≡ true → d < 63) → ((k : ℕ) → k < 63 → IsParent g k (parent_at par k)) → ((d : ℕ) → d < 63 → number_at ports d ≡ shown (is_seen on d) (parent_at par d)) → length ports ≡ 63 → AreParents g ports
@@ -301,9 +279,9 @@ parents_of g par on ports bus within parents is size = record {
       let low = within d i in
       let P : Option ℕ → Type 0 = IsParentPort g d in
       subst P (sym (is d low ∙ ap (λ b. shown b (parent_at par d)) i)) (parent_port g d (parent_at par d) (parents d low));
-  off = λ d out. elim (cases_lt d 63) [
-    | inl low ↦ is d low ∙ hidden (is_seen on d) (parent_at par d) (λ h. out (bus.walk d h))
-    | inr high ↦ get_or_past ports d None (omega (arith, size))
+  only = λ d p h. elim (cases_lt d 63) [
+    | inl low ↦ bus.walk d (is_shown (is_seen on d) (parent_at par d) p (sym (is d low) ∙ h))
+    | inr high ↦ absurd (let e = get_or_past ports d None (omega (arith, size)) in let z : ⊥ = cc in z)
   ];
 }
 
@@ -323,8 +301,5 @@ on_declared fs g s some d (along {b = b} w j) =
     let back = s.cables.back b j.port (record { device = d; port = k.0 }) k.1 in
     (ports_within fs d k.0 s.devices (s.placed d k.0 (record { device = b; port = j.port }) back)).0
 
-pub placed_of : (fs : List PhyFacts) (g : Peers) (root : ℕ) (on : List Bool) (number : List (Option ℕ)) → IsSound (record { devices = fs; cables = g }) → 0 < length fs → IsOn g on → AreNumbers g root number → (d : ℕ) → has_number number d ≡ true → d < length fs
-placed_of fs g root on number s some bus numbers d h = elim (truth (is_seen on d)) [
-  | inl i ↦ on_declared fs g s some d (bus.walk d i)
-  | inr out ↦ absurd (let e = numbers.off d (λ w. let i = bus.has d w in let z : ⊥ = cc in z) in let x = ap is_there e in let y : ⊥ = cc in y)
-]
+pub placed_of : (fs : List PhyFacts) (g : Peers) (root : ℕ) (number : List (Option ℕ)) → IsSound (record { devices = fs; cables = g }) → 0 < length fs → AreNumbers g root number → (d : ℕ) → has_number number d ≡ true → d < length fs
+placed_of fs g root number s some numbers d h = on_declared fs g s some d (numbers.only d h)

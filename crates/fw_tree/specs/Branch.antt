@@ -6,7 +6,7 @@ use Rattle.fw_tree.specs.Rounds.{IsRoot}
 use Rattle.fw_tree.specs.Forest.{AreCables, Splits}
 use Rattle.fw_tree.specs.Parents.{IsParent, parent_at}
 use Rattle.fw_tree.specs.Paths.{comes_before, is_left, is_front}
-use Rattle.fw_tree.specs.Numbers.{LeadsDown, counted, number_at, has_number}
+use Rattle.fw_tree.specs.Numbers.{LeadsDown, AreNodes, counted, number_at, has_number}
 
 -- the tree of the bus
 pub record Tree (g : Peers) (par : List (Option Parent)) (root : ℕ) (on : ℕ → Bool) : Type 0 where
@@ -26,6 +26,7 @@ pub record ArePaths (g : Peers) (root : ℕ) (on : ℕ → Bool) (paths : ℕ �
 pub record Done (on : ℕ → Bool) (paths : ℕ → List ℕ) (f : ℕ → Bool) (number : List (Option ℕ)) : Type 0 where
   pub has : (v : ℕ) → has_number number v ≡ (on v && f v)
   pub place : (v : ℕ) → on v ≡ true → f v ≡ true → number_at number v ≡ Some (counted (λ e. on e && comes_before (paths e) (paths v)) 63)
+  pub nodes : AreNodes number (counted (has_number number) 63)
 
 -- where all left of the device had its number, the device and its branch have theirs too
 abbrev pub Branch : Peers → List (Option Parent) → ℕ → (ℕ → Bool) → (ℕ → List ℕ) → ℕ → List (Option ℕ) → List (Option ℕ) → Type 0

@@ -6,6 +6,7 @@ use Rattle.fw_tree.specs.declared.facts.End.{End}
 abbrev pub Peers : Type 0
 Peers = List (List (Option End))
 
+-- the far end of the cable at a port of a device
 abbrev pub peer : Peers → ℕ → ℕ → Option End
 peer g device port = slice_index_or (slice_index_or g device []) port None
 
@@ -23,6 +24,10 @@ pub record AreJoined (g : Peers) (a b : ℕ) : Type 0 where
 pub data Walk (g : Peers) (a : ℕ) : ℕ → Type 0 where
   here : Walk g a a
   along : {b c : ℕ} → Walk g a b → AreJoined g b c → Walk g a c
+
+-- the bus is the part that is connected with device 0 (own)
+abbrev pub IsOnBus : Peers → ℕ → Type 0
+IsOnBus g d = Walk g 0 d
 
 -- which devices were seen
 abbrev pub is_seen : List Bool → ℕ → Bool

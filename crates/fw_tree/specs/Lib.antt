@@ -1,9 +1,10 @@
 pub mod Branch
 pub mod Cables
 pub mod Forest
+pub mod Numbering
 pub mod Numbers
 pub mod Parents
 pub mod Paths
-pub mod Topology
 pub mod Rounds
 pub mod SelfIds
+pub mod Topology

@@ -1,7 +1,7 @@
 -- What the rounds find: each device's parent, or that it is root.
 use Rattle.std.specs.Prelude.{◌≡◌, ℕ, suc, ◌+◌, ◌<◌, List, [], ◌∷◌, Option, Some, None, Bool, true, false, slice_index_or}
 use Rattle.fw_tree.specs.declared.rounds.Parent.{Parent}
-use Rattle.fw_tree.specs.Cables.{Peers, is_seen, Walk}
+use Rattle.fw_tree.specs.Cables.{Peers, is_seen, IsOnBus}
 use Rattle.fw_tree.specs.Rounds.{stays, LeavesBy, WinsTie, HasParent, IsRoot}
 
 -- what one round notes of a device that leaves in it
@@ -19,6 +19,7 @@ abbrev pub IsParent : Peers → ℕ → Option Parent → Type 0
 IsParent g d None = IsRoot g d
 IsParent g d (Some p) = (p.round < 63) × (p.port < 27) × HasParent g d p.port p.round
 
+-- what is noted of a device
 abbrev pub parent_at : List (Option Parent) → ℕ → Option Parent
 parent_at parents d = slice_index_or parents d None
 
@@ -34,11 +35,11 @@ Settled g r = (d : ℕ) → d < 63 → stays g (suc r) d ≡ stays g r d
 
 -- the devices that were seen are those of the bus
 pub record IsOn (g : Peers) (on : List Bool) : Type 0 where
-  pub walk : (d : ℕ) → is_seen on d ≡ true → Walk g 0 d
-  pub has : (d : ℕ) → Walk g 0 d → is_seen on d ≡ true
+  pub walk : (d : ℕ) → is_seen on d ≡ true → IsOnBus g d
+  pub has : (d : ℕ) → IsOnBus g d → is_seen on d ≡ true
 
 -- the one root of the bus
 pub record IsTheRoot (g : Peers) (root : ℕ) : Type 0 where
-  pub is_on : Walk g 0 root
+  pub is_on : IsOnBus g root
   pub is_root : IsRoot g root
-  pub alone : (d : ℕ) → Walk g 0 d → IsRoot g d → d ≡ root
+  pub alone : (d : ℕ) → IsOnBus g d → IsRoot g d → d ≡ root

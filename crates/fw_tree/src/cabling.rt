@@ -1,15 +1,19 @@
-ghost use Rattle.std.specs.Prelude.{◌≡◌, ◌<◌, ◌≤◌, ◌++◌, ◌∷◌, [], ℕ, length, None, true, IfErr, IfOk};
-ghost use Rattle.fw_tree.specs.Cables.{peer};
-ghost use Rattle.fw_tree.specs.Numbers.{AreNumbers, AreParents, counted, has_number};
+ghost use Rattle.std.specs.Prelude.{◌≡◌, ◌<◌, ◌≤◌, [], ℕ, length, None, IfErr, IfOk};
+ghost use Rattle.std.specs.List.{All};
+ghost use Rattle.fw_phy.specs.Phy.{Fits};
+ghost use Rattle.fw_tree.specs.declared.numbering.Numbering.{Numbering};
+ghost use Rattle.fw_tree.specs.Cables.{peer, IsOnBus};
+ghost use Rattle.fw_tree.specs.Numbering.{IsNumbering, IsSame, IsManager};
 ghost use Rattle.fw_tree.specs.SelfIds.{ArePackets};
-ghost use Rattle.fw_tree.specs.Parents.{IsTheRoot};
-ghost use Rattle.fw_tree.specs.Topology.{IsFault, IsJoined};
+ghost use Rattle.fw_tree.specs.Topology.{IsExtended, IsFault, IsJoined, Made};
 
-use crate::numbers::{number_branch, numbered, parent_ports};
+use crate::facts::AllCables;
+use crate::numbering::{contends, device_with};
+use crate::numbers::{numbered, numbers_from, parent_ports};
 use crate::ports::{are_used, have_ports, plug};
 use crate::root::find_root;
 use crate::rounds::parents;
-use crate::self_ids::push_numbered;
+use crate::self_ids::push_node;
 use crate::walk::{are_connected, bus_of};
 use crate::{End, Numbering, PhyFacts, TreeFault};
 use fw_phy::SelfIds;
@@ -20,7 +24,7 @@ use std::marker::Model;
 pub struct Cabling {
     facts: [PhyFacts; 63],
     count: u8,
-    cables: [[Option<End>; 27]; 63],
+    cables: AllCables,
 }
 
 impl Model for Cabling {
@@ -39,6 +43,7 @@ impl Cabling {
     pub fn new() -> Self
         ensures devices { result.devices ≡ [] }
         ensures cables { (d p : ℕ) → peer result.cables d p ≡ None }
+        ensures made { Made result }
     {
         Cabling {
             facts: [PhyFacts {
@@ -52,13 +57,16 @@ impl Cabling {
         }
     }
 
-    /// Adds a device, and answers its number.
+    /// Adds a device, and answers its number. It has 1 to 27 ports and a speed of at most 2.
+    ///
+    /// `TooMany` comes exactly where 63 devices are there; then nothing changes.
     pub fn add(&mut self, facts: PhyFacts) -> Result<u8, TreeFault>
         requires some { 0 < facts.ports }
         requires most { facts.ports ≤ 27 }
         requires speed { facts.speed ≤ 2 }
         ensures refused { IfErr result (λ f. (f ≡ TreeFault.TooMany) × (length self.old.devices ≡ 63) × (self.new ≡ self.old)) }
-        ensures added { IfOk result (λ n. (n ≡ length self.old.devices) × (n < 63) × (self.new ≡ record { devices = self.old.devices ++ facts ∷ []; cables = self.old.cables })) }
+        ensures added { IfOk result (λ n. (n ≡ length self.old.devices) × IsExtended self.old self.new facts) }
+        ensures made { Made self.new }
     {
         if self.count >= 63 {
             return Err(TreeFault::TooMany);
@@ -70,9 +78,14 @@ impl Cabling {
     }
 
     /// Joins two ports by a cable.
+    ///
+    /// The first fault that holds is answered, and then nothing changes: `NoPort` where one of the devices has no
+    /// such port, `PortUsed` where one of the ports has a cable or both ends are one port, `Loop` where a walk of
+    /// cables leads from the one device to the other already, or they are one.
     pub fn join(&mut self, a: End, b: End) -> Result<(), TreeFault>
         ensures refused { IfErr result (λ f. IsFault self.old a b f × (self.new ≡ self.old)) }
         ensures joined { IfOk result (λ _. IsJoined self.old self.new a b) }
+        ensures made { Made self.new }
     {
         if !have_ports(&self.facts, self.count, a, b) {
             return Err(TreeFault::NoPort);
@@ -87,21 +100,23 @@ impl Cabling {
         Ok(())
     }
 
-    /// Numbers the devices of the bus, that of device 0.
+    /// Identifies the tree and numbers the nodes of the bus, the part that is connected with device 0 (own). A device
+    /// is there.
+    ///
+    /// In a round each device that has exactly one cable to a device that has not left leaves, and that neighbour is
+    /// its parent; the one that never leaves is root. Of two that leave towards each other in one round the one
+    /// declared later is root (own). A device's children have their numbers in order of their ports, each with its
+    /// whole branch, before the device itself (IEEE 1394-1995, tree identification and self-identification).
     pub fn identify(&self) -> Numbering
         requires { 0 < length self.now.devices }
-        ensures root { IsTheRoot self.now.cables result.root }
-        ensures numbers { AreNumbers self.now.cables result.root result.number }
-        ensures parents { AreParents self.now.cables result.parent_port }
-        ensures count { result.count ≡ counted (has_number result.number) 63 }
-        ensures most { result.count ≤ 63 }
-        ensures placed { (d : ℕ) → has_number result.number d ≡ true → d < length self.now.devices }
+        ensures numbering { IsNumbering self.now result }
+        ensures only { (n : Numbering) → IsNumbering self.now n → IsSame result n }
+        ensures made { Made self.now }
     {
         let on = bus_of(&self.cables);
         let parents = parents(&self.cables);
         let root = find_root(&self.cables, &on, &parents);
-        let mut number = [None; 63];
-        number_branch(&self.cables, &parents, root, &mut number);
+        let number = numbers_from(&self.cables, &parents, root);
         Numbering {
             root,
             count: numbered(&number),
@@ -110,15 +125,41 @@ impl Cabling {
         }
     }
 
-    /// Replaces `out` by the packets of self-identification.
+    /// The isochronous resource manager: the device with link and contender whose number is greatest, or None.
+    /// `n` is this cabling's numbering.
+    pub fn manager(&self, n: &Numbering) -> Option<u8>
+        requires { IsNumbering self.now n.now }
+        ensures { IsManager self.now.devices n.now.number result }
+    {
+        let mut manager = None;
+        for node in 0..n.count {
+            let device = device_with(&n.number, node);
+            if contends(&self.facts[device as usize]) {
+                manager = Some(device);
+            }
+        }
+        manager
+    }
+
+    /// Replaces `out` by the self-ID packets of all nodes, in order of node: for each the fewest that hold its
+    /// ports. `n` is this cabling's numbering, and the initiator, the device that began the bus reset, is on the bus.
     pub fn self_ids(&self, n: &Numbering, initiator: u8, out: &mut SelfIds)
-        requires count { n.now.count ≤ 63 }
-        requires placed { (d : ℕ) → has_number n.now.number d ≡ true → d < length self.now.devices }
-        ensures { ArePackets self.now.devices self.now.cables n.now.number n.now.parent_port initiator n.now.count out.new }
+        requires numbering { IsNumbering self.now n.now }
+        requires initiator { IsOnBus self.now.cables initiator }
+        ensures packets { ArePackets self.now.devices self.now.cables n.now.number n.now.parent_port initiator n.now.count out.new }
+        ensures fit { All Fits out.new }
     {
         *out = SelfIds::new();
         for node in 0..n.count {
-            push_numbered(&self.facts, &self.cables, n, node, initiator, out);
+            let device = device_with(&n.number, node);
+            push_node(
+                &self.facts[device as usize],
+                &self.cables[device as usize],
+                n.parent_port[device as usize],
+                node,
+                device == initiator,
+                out,
+            );
         }
     }
 }

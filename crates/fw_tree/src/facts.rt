@@ -19,3 +19,9 @@ pub struct End {
     /// The port, from 0.
     pub port: u8,
 }
+
+/// The far end of the cable at each port of a device; None where no cable is.
+pub type DeviceCables = [Option<End>; 27];
+
+/// The cables of each device.
+pub type AllCables = [DeviceCables; 63];

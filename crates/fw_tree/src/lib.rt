@@ -10,6 +10,7 @@ use thiserror::Error;
 
 mod cabling;
 mod facts;
+mod laws;
 mod numbering;
 mod numbers;
 mod ports;
@@ -20,6 +21,7 @@ mod walk;
 
 pub use cabling::Cabling;
 pub use facts::{End, PhyFacts};
+pub use laws::rounds_end_with_one_root;
 pub use numbering::Numbering;
 
 /// Why a device or a cable is refused, in the order of the tests.
@@ -38,3 +40,8 @@ pub enum TreeFault {
     #[error("Loop")]
     Loop,
 }
+
+#[cfg(test)]
+mod fixtures;
+#[cfg(test)]
+mod tests;

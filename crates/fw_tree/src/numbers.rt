@@ -1,20 +1,15 @@
-ghost use Rattle.std.specs.Prelude.{◌≡◌, ◌<◌, ◌≤◌, ℕ, Bool, List, length, IfSome, IfNone};
+ghost use Rattle.std.specs.Prelude.{◌≡◌, ◌<◌, ◌≤◌, ℕ, Bool, List, length, IfSome, IfNone, None, replicate};
 ghost use Rattle.fw_tree.specs.Cables.{InRange, is_seen};
 ghost use Rattle.fw_tree.specs.Forest.{AreCables};
 ghost use Rattle.fw_tree.specs.Parents.{IsParent, parent_at};
-ghost use Rattle.fw_tree.specs.Numbers.{IsChild, counted, has_number, is_there, number_at, shown};
+ghost use Rattle.fw_tree.specs.Numbers.{IsChild, counted, has_number, number_at, shown};
 ghost use Rattle.fw_tree.specs.Branch.{Branch};
 
-use crate::End;
+use crate::facts::AllCables;
 use crate::rounds::Parent;
 
 // The device that hangs on another at a port.
-fn child_at(
-    g: &[[Option<End>; 27]; 63],
-    parents: &[Option<Parent>; 63],
-    d: u8,
-    p: usize,
-) -> Option<u8>
+fn child_at(g: &AllCables, parents: &[Option<Parent>; 63], d: u8, p: usize) -> Option<u8>
     requires range { InRange g.now }
     requires device { d < 63 }
     requires port { p < 27 }
@@ -22,36 +17,24 @@ fn child_at(
     ensures child { IfSome result (λ c. IsChild g.now parents.now d p c) }
     ensures none { IfNone result ((c : ℕ) → IsChild g.now parents.now d p c → ⊥) }
 {
-    match g[d as usize][p] {
-        Some(end) => match parents[end.device as usize] {
-            Some(parent) => {
-                if parent.port == end.port {
-                    Some(end.device)
-                } else {
-                    None
-                }
-            }
-            None => None,
-        },
-        None => None,
+    let end = g[d as usize][p]?;
+    let parent = parents[end.device as usize]?;
+    if parent.port == end.port {
+        Some(end.device)
+    } else {
+        None
     }
 }
 
-fn is_there(number: &Option<u8>) -> bool
-    ensures { result ≡ is_there number.now }
-{
-    number.is_some()
-}
-
-// How many devices have a number.
-#[tactic(auto, using(crate::proofs::TreeLaws::counted_none, crate::proofs::TreeLaws::counted_yes, crate::proofs::TreeLaws::counted_else))]
+/// How many devices have a number.
+#[tactic(auto, using(crate::proofs::CountLaws::counted_none, crate::proofs::CountLaws::counted_yes, crate::proofs::CountLaws::counted_else))]
 pub fn numbered(number: &[Option<u8>; 63]) -> u8
     ensures count { result ≡ counted (has_number number.now) 63 }
     ensures most { result ≤ 63 }
 {
     let mut count = 0;
     for d in 0..63 {
-        if is_there(&number[d]) {
+        if number[d].is_some() {
             count += 1;
         }
     }
@@ -59,8 +42,8 @@ pub fn numbered(number: &[Option<u8>; 63]) -> u8
 }
 
 // Numbers the branch that hangs on a device, and then the device.
-pub fn number_branch(
-    g: &[[Option<End>; 27]; 63],
+fn number_branch(
+    g: &AllCables,
     parents: &[Option<Parent>; 63],
     d: u8,
     number: &mut [Option<u8>; 63],
@@ -80,6 +63,20 @@ pub fn number_branch(
     number[d as usize] = Some(numbered(number));
 }
 
+/// The numbers of all devices that hang together with the root.
+pub fn numbers_from(g: &AllCables, parents: &[Option<Parent>; 63], root: u8) -> [Option<u8>; 63]
+    requires range { InRange g.now }
+    requires cables { AreCables g.now }
+    requires parents { (k : ℕ) → k < 63 → IsParent g.now k (parent_at parents.now k) }
+    requires device { root < 63 }
+    ensures { (on : ℕ → Bool) (paths : ℕ → List ℕ) → Branch g.now parents.now root on paths root (replicate 63 None) result }
+{
+    let mut number = [None; 63];
+    number_branch(g, parents, root, &mut number);
+    number
+}
+
+// The port at which the parent is, where the device is on the bus.
 fn shown(on: bool, parent: &Option<Parent>) -> Option<u8>
     ensures { result ≡ shown on parent.now }
 {
@@ -89,7 +86,7 @@ fn shown(on: bool, parent: &Option<Parent>) -> Option<u8>
     }
 }
 
-// The parents' ports of the devices of the bus.
+/// The parents' ports of the devices of the bus.
 pub fn parent_ports(on: &[bool; 63], parents: &[Option<Parent>; 63]) -> [Option<u8>; 63]
     ensures ports { (d : ℕ) → d < 63 → number_at result d ≡ shown (is_seen on.now d) (parent_at parents.now d) }
     ensures size { length result ≡ 63 }

@@ -2,6 +2,7 @@ ghost use Rattle.std.specs.Prelude.{◌≡◌, ◌<◌, ◌≤◌, ◌&&◌, nat
 ghost use Rattle.fw_tree.specs.Cables.{peer};
 ghost use Rattle.fw_tree.specs.Topology.{AreDevices, ports_of, are_used, with_cable};
 
+use crate::facts::AllCables;
 use crate::{End, PhyFacts};
 
 // How many ports a device has: none where there is no such device.
@@ -19,6 +20,7 @@ fn ports_at(facts: &[PhyFacts; 63], count: u8, device: u8) -> u8
     }
 }
 
+/// Both ends are ports of devices.
 pub fn have_ports(facts: &[PhyFacts; 63], count: u8, a: End, b: End) -> bool
     requires count { count ≤ 63 }
     requires devices { AreDevices (take count facts.now) }
@@ -32,7 +34,7 @@ pub fn have_ports(facts: &[PhyFacts; 63], count: u8, a: End, b: End) -> bool
 }
 
 // Which cable is at a port.
-fn cable_at(g: &[[Option<End>; 27]; 63], e: End) -> Option<End>
+fn cable_at(g: &AllCables, e: End) -> Option<End>
     requires device { e.device < 63 }
     requires port { e.port < 27 }
     ensures { result ≡ peer g.now e.device e.port }
@@ -40,7 +42,8 @@ fn cable_at(g: &[[Option<End>; 27]; 63], e: End) -> Option<End>
     g[e.device as usize][e.port as usize]
 }
 
-pub fn are_used(g: &[[Option<End>; 27]; 63], a: End, b: End) -> bool
+/// One of the ports has a cable, or both ends are one port.
+pub fn are_used(g: &AllCables, a: End, b: End) -> bool
     requires a_device { a.device < 63 }
     requires a_port { a.port < 27 }
     requires b_device { b.device < 63 }
@@ -52,7 +55,8 @@ pub fn are_used(g: &[[Option<End>; 27]; 63], a: End, b: End) -> bool
         || (a.device == b.device && a.port == b.port)
 }
 
-pub fn plug(g: &mut [[Option<End>; 27]; 63], a: End, b: End)
+/// Puts a cable between two ports.
+pub fn plug(g: &mut AllCables, a: End, b: End)
     requires a_device { a.device < 63 }
     requires a_port { a.port < 27 }
     requires b_device { b.device < 63 }

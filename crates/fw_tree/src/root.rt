@@ -3,7 +3,7 @@ ghost use Rattle.fw_tree.specs.Cables.{InRange, is_seen};
 ghost use Rattle.fw_tree.specs.Forest.{AreCables, HasNoLoop};
 ghost use Rattle.fw_tree.specs.Parents.{IsOn, IsTheRoot, IsParent, Settled, parent_at};
 
-use crate::End;
+use crate::facts::AllCables;
 use crate::rounds::Parent;
 
 // The device of the bus that has no parent.
@@ -18,11 +18,11 @@ fn root_of(on: &[bool; 63], parents: &[Option<Parent>; 63]) -> u8
             return d as u8;
         }
     }
-    0
+    unreachable!()
 }
 
-// The root of the bus.
-pub fn find_root(g: &[[Option<End>; 27]; 63], on: &[bool; 63], parents: &[Option<Parent>; 63]) -> u8
+/// The root of the bus.
+pub fn find_root(g: &AllCables, on: &[bool; 63], parents: &[Option<Parent>; 63]) -> u8
     requires range { InRange g.now }
     requires cables { AreCables g.now }
     requires loops { HasNoLoop g.now }

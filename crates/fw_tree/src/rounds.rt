@@ -1,19 +1,20 @@
-ghost use Rattle.std.specs.Prelude.{◌≡◌, ◌<◌, ◌==◌, ◌&&◌, not, ℕ, true, false, None, IfSome, IfNone, count_by, slice_index_or, slice_set};
+ghost use Rattle.std.specs.Prelude.{◌≡◌, ◌<◌, ◌==◌, ◌&&◌, not, ℕ, true, false, None, IfSome, IfNone, count_by, nat_lt, slice_index_or, slice_set};
 ghost use Rattle.fw_tree.specs.Cables.{InRange, is_seen};
 ghost use Rattle.fw_tree.specs.Rounds.{is_open, open_count, WinsTie, LeavesBy};
 ghost use Rattle.fw_tree.specs.Forest.{AreCables};
 ghost use Rattle.fw_tree.specs.Parents.{Notes, IsParent, Settled, parent_at, staying};
 
 use crate::End;
+use crate::facts::{AllCables, DeviceCables};
 
-/// A cable of a device.
+// A cable of a device: its port, and the far end.
 #[derive(Clone, Copy, Debug)]
 struct Cable {
     port: u8,
     end: End,
 }
 
-// The port at which a device's parent is, and the round in which the device left.
+/// The port at which a device's parent is, and the round in which the device left.
 #[derive(Clone, Copy, Debug)]
 pub struct Parent {
     pub port: u8,
@@ -32,7 +33,7 @@ fn is_open(port: &Option<End>, stays: &[bool; 63]) -> bool
 }
 
 // How many cables of a device lead to devices that stay.
-fn open_count(ports: &[Option<End>; 27], stays: &[bool; 63]) -> usize
+fn open_count(ports: &DeviceCables, stays: &[bool; 63]) -> usize
     requires { (p : ℕ) → IfSome (slice_index_or ports.now p None) (λ e. e.device < 63) }
     ensures { result ≡ count_by (is_open (is_seen stays.now)) ports.now }
 {
@@ -46,7 +47,7 @@ fn open_count(ports: &[Option<End>; 27], stays: &[bool; 63]) -> usize
 }
 
 // The first cable that leads to a device that stays.
-fn open_cable(ports: &[Option<End>; 27], stays: &[bool; 63]) -> Option<Cable>
+fn open_cable(ports: &DeviceCables, stays: &[bool; 63]) -> Option<Cable>
     requires { (p : ℕ) → IfSome (slice_index_or ports.now p None) (λ e. e.device < 63) }
     ensures none { IfNone result ((p : ℕ) → p < 27 → is_open (is_seen stays.now) (slice_index_or ports.now p None) ≡ false) }
     ensures port { IfSome result (λ c. c.port < 27) }
@@ -64,7 +65,7 @@ fn open_cable(ports: &[Option<End>; 27], stays: &[bool; 63]) -> Option<Cable>
 }
 
 // The device leaves in a round at whose start these stay.
-fn leaves(ports: &[Option<End>; 27], d: usize, stays: &[bool; 63]) -> bool
+fn leaves(ports: &DeviceCables, d: usize, stays: &[bool; 63]) -> bool
     requires device { d < 63 }
     requires ends { (p : ℕ) → IfSome (slice_index_or ports.now p None) (λ e. e.device < 63) }
     ensures { result ≡ (is_seen stays.now d && (count_by (is_open (is_seen stays.now)) ports.now == 1)) }
@@ -72,8 +73,17 @@ fn leaves(ports: &[Option<End>; 27], d: usize, stays: &[bool; 63]) -> bool
     stays[d] && open_count(ports, stays) == 1
 }
 
+// The other device leaves too, and it was declared before this one.
+fn wins_over(ports: &DeviceCables, other: usize, d: usize, stays: &[bool; 63]) -> bool
+    requires device { other < 63 }
+    requires ends { (p : ℕ) → IfSome (slice_index_or ports.now p None) (λ e. e.device < 63) }
+    ensures { result ≡ (is_seen stays.now other && (count_by (is_open (is_seen stays.now)) ports.now == 1) && nat_lt other d) }
+{
+    leaves(ports, other, stays) && other < d
+}
+
 // The port of the parent of a device that leaves: none for the later one of two that leave towards each other.
-fn parent_port(g: &[[Option<End>; 27]; 63], d: usize, stays: &[bool; 63]) -> Option<u8>
+fn parent_port(g: &AllCables, d: usize, stays: &[bool; 63]) -> Option<u8>
     requires range { InRange g.now }
     requires cables { AreCables g.now }
     requires device { d < 63 }
@@ -87,7 +97,7 @@ fn parent_port(g: &[[Option<End>; 27]; 63], d: usize, stays: &[bool; 63]) -> Opt
     match open_cable(&g[d], stays) {
         Some(cable) => {
             let other = cable.end.device as usize;
-            if leaves(&g[other], other, stays) && other < d {
+            if wins_over(&g[other], other, d, stays) {
                 None
             } else {
                 Some(cable.port)
@@ -97,7 +107,8 @@ fn parent_port(g: &[[Option<End>; 27]; 63], d: usize, stays: &[bool; 63]) -> Opt
     }
 }
 
-fn note(g: &[[Option<End>; 27]; 63], d: usize, round: u8, stays: &[bool; 63]) -> Option<Parent>
+// What is noted of a device that leaves in a round.
+fn note(g: &AllCables, d: usize, round: u8, stays: &[bool; 63]) -> Option<Parent>
     requires range { InRange g.now }
     requires cables { AreCables g.now }
     requires device { d < 63 }
@@ -105,15 +116,13 @@ fn note(g: &[[Option<End>; 27]; 63], d: usize, round: u8, stays: &[bool; 63]) ->
     requires one { open_count g.now (is_seen stays.now) d ≡ 1 }
     ensures { Notes g.now (is_seen stays.now) round d result }
 {
-    match parent_port(g, d, stays) {
-        Some(port) => Some(Parent { port, round }),
-        None => None,
-    }
+    let port = parent_port(g, d, stays)?;
+    Some(Parent { port, round })
 }
 
 // Lets a device leave where it has one open cable, and says whether it left.
 fn leave_one(
-    g: &[[Option<End>; 27]; 63],
+    g: &AllCables,
     d: usize,
     round: u8,
     before: &[bool; 63],
@@ -138,9 +147,9 @@ fn leave_one(
     left
 }
 
-// One round.
+// One round: all devices that leave in it leave at once. Says whether any left.
 fn leave(
-    g: &[[Option<End>; 27]; 63],
+    g: &AllCables,
     round: u8,
     stays: &mut [bool; 63],
     parents: &mut [Option<Parent>; 63],
@@ -162,8 +171,8 @@ fn leave(
     changed
 }
 
-// The parent of each device, after all rounds.
-pub fn parents(g: &[[Option<End>; 27]; 63]) -> [Option<Parent>; 63]
+/// The parent of each device, after all rounds.
+pub fn parents(g: &AllCables) -> [Option<Parent>; 63]
     requires range { InRange g.now }
     requires cables { AreCables g.now }
     ensures parents { (d : ℕ) → d < 63 → IsParent g.now d (parent_at result d) }

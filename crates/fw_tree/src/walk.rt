@@ -4,6 +4,7 @@ ghost use Rattle.fw_tree.specs.Parents.{IsOn};
 ghost use Rattle.fw_tree.specs.Topology.{Separates};
 
 use crate::End;
+use crate::facts::{AllCables, DeviceCables};
 
 // Marks a device, and says whether it is new.
 fn mark(seen: &mut [bool; 63], device: u8) -> bool
@@ -32,7 +33,7 @@ fn mark_port(port: &Option<End>, seen: &mut [bool; 63]) -> bool
 }
 
 // Marks what is joined to a device by its ports, and says whether any of it is new.
-fn mark_peers(ports: &[Option<End>; 27], seen: &mut [bool; 63]) -> bool
+fn mark_peers(ports: &DeviceCables, seen: &mut [bool; 63]) -> bool
     requires { (p : ℕ) → IfSome (slice_index_or ports.now p None) (λ e. e.device < 63) }
     ensures marks { MarksPeers ports.now seen.old seen.new }
     ensures marked { AreMarked ports.now seen.new }
@@ -48,7 +49,7 @@ fn mark_peers(ports: &[Option<End>; 27], seen: &mut [bool; 63]) -> bool
 }
 
 // Marks what is joined to a device, where that was seen, and says whether any of it is new.
-fn spread_from(g: &[[Option<End>; 27]; 63], d: usize, seen: &mut [bool; 63]) -> bool
+fn spread_from(g: &AllCables, d: usize, seen: &mut [bool; 63]) -> bool
     requires range { InRange g.now }
     requires device { d < 63 }
     ensures marks { Spreads g.now seen.old seen.new }
@@ -64,7 +65,7 @@ fn spread_from(g: &[[Option<End>; 27]; 63], d: usize, seen: &mut [bool; 63]) -> 
 }
 
 // Marks what is joined to devices that were seen, and says whether any of it is new.
-fn spread(g: &[[Option<End>; 27]; 63], seen: &mut [bool; 63]) -> bool
+fn spread(g: &AllCables, seen: &mut [bool; 63]) -> bool
     requires { InRange g.now }
     ensures marks { Spreads g.now seen.old seen.new }
     ensures same { result ≡ false → (seen.new ≡ seen.old) × IsClosed g.now seen.new }
@@ -89,8 +90,8 @@ fn only(a: u8) -> [bool; 63]
     seen
 }
 
-// The devices to which walks of cables lead.
-pub fn reach(g: &[[Option<End>; 27]; 63], a: u8) -> [bool; 63]
+/// The devices to which walks of cables lead.
+pub fn reach(g: &AllCables, a: u8) -> [bool; 63]
     requires range { InRange g.now }
     requires a { a < 63 }
     ensures reached { AllReached g.now a result }
@@ -103,7 +104,7 @@ pub fn reach(g: &[[Option<End>; 27]; 63], a: u8) -> [bool; 63]
 }
 
 /// A walk of cables leads from the one device to the other.
-pub fn are_connected(g: &[[Option<End>; 27]; 63], a: u8, b: u8) -> bool
+pub fn are_connected(g: &AllCables, a: u8, b: u8) -> bool
     requires range { InRange g.now }
     requires a { a < 63 }
     requires b { b < 63 }
@@ -113,8 +114,8 @@ pub fn are_connected(g: &[[Option<End>; 27]; 63], a: u8, b: u8) -> bool
     reach(g, a)[b as usize]
 }
 
-// The devices of the bus.
-pub fn bus_of(g: &[[Option<End>; 27]; 63]) -> [bool; 63]
+/// The devices of the bus.
+pub fn bus_of(g: &AllCables) -> [bool; 63]
     requires { InRange g.now }
     ensures { IsOn g.now result }
 {

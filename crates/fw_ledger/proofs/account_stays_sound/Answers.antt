@@ -1,6 +1,7 @@
 -- Each clause is a lemma.
 use Rattle.fw_ledger.proofs.Moves.{moves_keep}
-use Rattle.fw_ledger.proofs.Events.{reset_keeps, second_ends, death_keeps}
+use Rattle.fw_ledger.proofs.Events.{reset_keeps, second_ends}
+use Rattle.fw_ledger.proofs.Deaths.{death_keeps}
 use Rattle.fw_ledger.proofs.Shared.{is_conflict_free}
 use Rattle.fw_ledger.proofs.Fold.{next_keeps, prefix_sound}
 use Rattle.fw_ledger.proofs.account_stays_sound.Goals as goal

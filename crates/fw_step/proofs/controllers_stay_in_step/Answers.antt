@@ -3,7 +3,6 @@ use Rattle.fw_ledger.specs.Moves.{after}
 use Rattle.fw_step.proofs.HalfSteps.{half_step}
 use Rattle.fw_step.proofs.Others.{move_spares, spared}
 use Rattle.fw_step.proofs.Elsewhere.{move_elsewhere}
-use Rattle.fw_step.proofs.Slots.{slots_reset}
 use Rattle.fw_step.proofs.controllers_stay_in_step.Goals as goal
 
 pub returns-clause-own : goal.returns-clause-own
@@ -15,5 +14,3 @@ returns-clause-others r = λ l c d p m j s others lt ne sound can i. spared l (a
 pub returns-clause-registers : goal.returns-clause-registers
 returns-clause-registers c = move_elsewhere
 
-pub returns-clause-slots : goal.returns-clause-slots
-returns-clause-slots c = slots_reset

@@ -1,5 +1,4 @@
-use Rattle.std.proofs.Common.{◌≡◌, ◌-◌, ◌%◌, ◌^◌, None, arith, sym, ◌∙◌}
-use Rattle.fw_words.specs.Quadlet.{first_set}
+use Rattle.std.proofs.Common.{sym, ◌∙◌}
 use Rattle.fw_async.proofs.ReadingLaws.{reserved_none}
 use Rattle.fw_async.proofs.faults.reserved.Goals as goal
 

@@ -7,8 +7,8 @@ use Rattle.fw_tree.proofs.self_ids.push_node.Goals as goal
 pub returns-clause-packets : goal.returns-clause-packets
 returns-clause-packets c =
     let f = c.args.facts.now in
-    let row = c.args.row.now in
-    let q = c.args.parent.now in
+    let cables = c.args.cables.now in
+    let q = c.args.parent in
     let put = λ (p : PhyPacket). c.args.out.now ++ p ∷ [] in
-    four c.args.out.now (first_packet f row q c.args.phy c.args.initiator ∷ []) (further_packet f row q c.args.phy 0 3) (further_packet f row q c.args.phy 1 11) (further_packet f row q c.args.phy 2 19) c.push.new.self c.push_further.new.out c.push_further-2.new.out c.push_further-3.new.out
+    four c.args.out.now (first_packet f cables q c.args.phy c.args.initiator ∷ []) (further_packet f cables q c.args.phy 0) (further_packet f cables q c.args.phy 1) (further_packet f cables q c.args.phy 2) c.push.new.self c.push_further.new.out c.push_further-2.new.out c.push_further-3.new.out
     (c.push.ensures ∙ ap put c.first_packet.ensures) c.push_further.ensures.packets c.push_further-2.ensures.packets c.push_further-3.ensures.packets

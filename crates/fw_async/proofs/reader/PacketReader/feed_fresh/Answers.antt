@@ -1,5 +1,4 @@
-use Rattle.std.proofs.Common.{◌≡◌, ◌++◌, ◌+◌, ◌-◌, ◌≤◌, ℕ, List, [], length, take, None, arith, ap, sym, subst, ◌∙◌}
-use Rattle.fw_async.specs.Reading.{need, IsPending}
+use Rattle.std.proofs.Common.{◌≡◌, ◌++◌, ◌+◌, length, take, None, arith, ap, ◌∙◌}
 use Rattle.fw_async.proofs.FeedLaws.{feeds_more, feeds_packet, feeds_fault, feeds_all, feeds_start, pending_of, room_of}
 use Rattle.fw_async.proofs.reader.PacketReader.feed_fresh.Goals as goal
 

@@ -1,4 +1,4 @@
-use Rattle.std.proofs.Common.{◌≡◌, ◌++◌, ◌+◌, ◌<◌, ◌≤◌, ℕ, List, length, None, ap, sym, subst, ◌∙◌}
+use Rattle.std.proofs.Common.{◌≡◌, ◌++◌, ◌+◌, ◌≤◌, ℕ, List, length, None, ap, sym, subst, ◌∙◌}
 use Rattle.fw_async.specs.Reading.{fault_of, need, IsPending}
 use Rattle.fw_async.specs.Reader.{Spells}
 use Rattle.fw_async.proofs.NeedLaws.{meet}
@@ -24,8 +24,8 @@ returns-then-len-need c =
     } in
     (same_state _ _ _ _ taken clear, pending)
 
-pub packet_at-packet-requires-clause-whole : goal.packet_at-packet-requires-clause-whole
-packet_at-packet-requires-clause-whole c =
+pub packet_at-packet-requires-clause-complete : goal.packet_at-packet-requires-clause-complete
+packet_at-packet-requires-clause-complete c =
     let taken : c.append.new.out.items ≡ c.args.self.now.taken ++ c.args.part.now = c.append.ensures ∙ ap (λ s. s.taken ++ c.args.part.now) c.self.view_is in
     let view : c.as_slice.result.now ≡ c.args.self.now.taken ++ c.args.part.now = c.as_slice.ensures.value ∙ taken in
     let P : List ℕ → Type 0 = λ t. length t ≡ need t in

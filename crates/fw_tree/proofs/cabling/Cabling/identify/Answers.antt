@@ -1,37 +1,34 @@
-use Rattle.std.proofs.Common.{◌≡◌, ◌<◌, ℕ, ap, subst, sym, take, length, true}
-use Rattle.fw_tree.specs.Cables.{Peers, is_seen}
-use Rattle.fw_tree.specs.Topology.{Topology}
-use Rattle.fw_tree.specs.Numbers.{AreNumbers, AreParents, has_number}
+use Rattle.std.proofs.Common.{ℕ, ap, subst, sym, length}
+use Rattle.fw_tree.specs.declared.numbering.Numbering.{Numbering}
+use Rattle.fw_tree.specs.Cables.{is_seen}
+use Rattle.fw_tree.specs.Topology.{Topology, IsSound, Made}
+use Rattle.fw_tree.specs.Numbering.{IsNumbering}
+use Rattle.fw_tree.specs.Numbers.{AreNodes}
+use Rattle.fw_tree.proofs.OneNumberingLaws.{one_numbering}
 use Rattle.fw_tree.proofs.RootLaws.{ended}
-use Rattle.fw_tree.proofs.TreeLaws.{tree_of, numbers_of, parents_of, placed_of, blank_number}
+use Rattle.fw_tree.proofs.TreeLaws.{tree_of, numbers_of, parents_of, blank_number}
 use Rattle.fw_tree.proofs.cabling.Cabling.identify.Goals as goal
 
-pub returns-clause-numbers : goal.returns-clause-numbers
-returns-clause-numbers c =
-    let cables = λ (p : Topology). p.cables in
-    let s = c.self.invariant.sound in
-    let e = c.parents-parents.ensures in
-    let root = c.find_root-root.ensures.root in
-    let P : Peers → Type 0 = λ g. AreNumbers g c.find_root-root.result c.number_branch.new.number in
-    let t = tree_of c.self.inside.cables c.parents-parents.result c.find_root-root.result e.settled.0 c.bus_of-on.result s.range s.cables s.none c.bus_of-on.ensures e.settled.1 e.parents root in
-    subst P (ap cables c.self.view_is) (numbers_of c.self.inside.cables c.parents-parents.result c.find_root-root.result c.bus_of-on.result _ c.number_branch.new.number t c.bus_of-on.ensures root.is_on blank_number (λ paths. c.number_branch.ensures c.find_root-root.result (is_seen c.bus_of-on.result) paths))
-
-pub returns-clause-parents : goal.returns-clause-parents
-returns-clause-parents c =
-    let cables = λ (p : Topology). p.cables in
-    let s = c.self.invariant.sound in
-    let e = c.parents-parents.ensures in
-    let P : Peers → Type 0 = λ g. AreParents g c.parent_ports.result in
-    let n = ended c.self.inside.cables c.bus_of-on.result e.settled.0 s.range s.cables s.none c.bus_of-on.ensures e.settled.1 in
-    subst P (ap cables c.self.view_is) (parents_of c.self.inside.cables c.parents-parents.result c.bus_of-on.result c.parent_ports.result c.bus_of-on.ensures n.within e.parents c.parent_ports.ensures.ports c.parent_ports.ensures.size)
-
-pub returns-clause-placed : goal.returns-clause-placed
-returns-clause-placed c =
+pub returns : goal.returns
+returns c =
     let size = λ (p : Topology). length p.devices in
     let s = c.self.invariant.sound in
     let e = c.parents-parents.ensures in
     let root = c.find_root-root.ensures.root in
+    let n = ended c.self.inside.cables c.bus_of-on.result e.settled.0 s.range s.cables s.none c.bus_of-on.ensures e.settled.1 in
     let t = tree_of c.self.inside.cables c.parents-parents.result c.find_root-root.result e.settled.0 c.bus_of-on.result s.range s.cables s.none c.bus_of-on.ensures e.settled.1 e.parents root in
-    let numbers = numbers_of c.self.inside.cables c.parents-parents.result c.find_root-root.result c.bus_of-on.result _ c.number_branch.new.number t c.bus_of-on.ensures root.is_on blank_number (λ paths. c.number_branch.ensures c.find_root-root.result (is_seen c.bus_of-on.result) paths) in
-    let Q : Topology → Type 0 = λ p. (d : ℕ) → has_number c.number_branch.new.number d ≡ true → d < length p.devices in
-    subst Q c.self.view_is (placed_of (take c.self.inside.count c.self.inside.facts) c.self.inside.cables c.find_root-root.result c.bus_of-on.result c.number_branch.new.number s (rw (sym (ap size c.self.view_is)) at c.requires) c.bus_of-on.ensures numbers)
+    let w = numbers_of c.self.inside.cables c.parents-parents.result c.find_root-root.result c.bus_of-on.result _ c.numbers_from-number.result t c.bus_of-on.ensures root.is_on blank_number (λ paths. c.numbers_from-number.ensures (is_seen c.bus_of-on.result) paths) in
+    let count = c.numbered.ensures.count in
+    let N : ℕ → Type 0 = AreNodes c.numbers_from-number.result in
+    let result : Numbering = record { root = c.find_root-root.result; count = c.numbered.result; number = c.numbers_from-number.result; parent_port = c.parent_ports.result } in
+    let P : Topology → Type 0 = λ p. IsNumbering p result in
+    let numbering = subst P c.self.view_is (record {
+      some = rw (sym (ap size c.self.view_is)) at c.requires;
+      root = root;
+      numbers = w.numbers;
+      parents = parents_of c.self.inside.cables c.parents-parents.result c.bus_of-on.result c.parent_ports.result c.bus_of-on.ensures n.within e.parents c.parent_ports.ensures.ports c.parent_ports.ensures.size;
+      count = count;
+      nodes = subst N (sym count) w.nodes;
+    }) in
+    let Q : Topology → Type 0 = IsSound in
+    record { numbering = numbering; only = λ n h. one_numbering c.args.self.now result n (subst Q c.self.view_is s) numbering h; made = let R : Topology → Type 0 = Made in subst R c.self.view_is c.self.invariant.made }

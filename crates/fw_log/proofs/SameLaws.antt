@@ -1,0 +1,236 @@
+-- One list of bytes is of one entry.
+use Rattle.std.proofs.Common.{◌≡◌, ℕ, ◌+◌, ◌*◌, ◌/◌, ◌^◌, ◌≤◌, ◌<◌, List, [], ◌∷◌, ◌++◌, ◌==◌, get_or, length, drop, nat_lt, nat_le, Bool, true, false, IsTrue, Option, None, arith, refl, ap, sym, subst, ◌∙◌, if◌then◌else◌, length-append}
+use Rattle.std.proofs.lemmas.Bool.Decides.{nat_tests}
+use Rattle.std.proofs.lemmas.List.{append_cancel_left}
+use Rattle.std.proofs.lemmas.Nat.{from_be_bytes-to_be_bytes_8}
+use Rattle.std.specs.Int.{to_be_bytes, w32}
+use Rattle.fw_words.specs.Layout.{packed}
+use Rattle.fw_words.specs.Quadlet.{quadlet_at}
+use Rattle.fw_async.proofs.SameLaws.{same_packet}
+use Rattle.fw_log.specs.Log.{header_bytes, quads, event_quads, outcome_quads, shown_quads, is_event, EventFits, OutcomeFits, ShownFits, is_outcome, Fits, TimedFits, kind_of, body, entry_bytes}
+use Rattle.fw_log.specs.Bodies.{IsBody}
+use Rattle.fw_log.specs.Reading.{tested, fault_at, length_of, cycle_of, is_built, is_kind, is_length, entry_fault, header_fault, head_fault, skip, header_at, entry_need, need, Spells}
+use Rattle.fw_log.specs.declared.stand.Stand.{Stand}
+use Rattle.fw_log.specs.declared.entry.Entry.{Entry}
+use Rattle.fw_log.specs.declared.entry.Entry.TheVariants.{Reset, Async, Event, Outcome, Shown, End}
+use Rattle.fw_log.specs.declared.entry.EventEntry.{EventEntry}
+use Rattle.fw_log.specs.declared.entry.OutcomeEntry.{OutcomeEntry}
+use Rattle.fw_log.specs.declared.entry.ShownEntry.{ShownEntry}
+use Rattle.fw_log.specs.declared.entry.Timed.{Timed}
+use Rattle.fw_log.specs.declared.LogFault.{LogFault}
+use Rattle.fw_log.specs.declared.LogWhy.TheVariants.{BadHeader}
+use Rattle.fw_log.proofs.IdsLaws.{back}
+use Rattle.fw_log.proofs.ResetLaws.{same_reset, shape_of}
+use Rattle.fw_log.proofs.SizeLaws.{has_length}
+
+-- events, outcomes and shown words are their quadlets
+event : ℕ → ℕ → ℕ → ℕ → EventEntry
+event a b c d = record { code = a; device = b; tape = c; system = d }
+
+event_is : (e : EventEntry) → e ≡ event e.code e.device e.tape e.system
+unfolding event
+event_is e = refl
+
+event_code : (code device tape system : ℕ) → IsTrue (is_event code device tape system) → code < 256
+event_code code device tape system h = grind (arith, nat_tests)
+
+no_tape : (code device tape system : ℕ) → IsTrue (is_event code device tape system) → (code == 4) ≡ false → (tape ≡ 0) × (system ≡ 0)
+no_tape code device tape system h e = (grind (arith, nat_tests), grind (arith, nat_tests))
+
+small_system : (code device tape system : ℕ) → IsTrue (is_event code device tape system) → system < 2 ^ 16
+small_system code device tape system h = grind (arith, nat_tests)
+
+halves : (a b c d : ℕ) → b < 2 ^ 16 → d < 2 ^ 16 → packed ((16, a) ∷ (16, b) ∷ []) 0 ≡ packed ((16, c) ∷ (16, d) ∷ []) 0 → (a ≡ c) × (b ≡ d)
+halves a b c d p q e = (omega arith, omega arith)
+
+first_two : (a b c d : ℕ) → a < 256 → b < 256 → c < 256 → d < 256 → packed ((8, a) ∷ (8, b) ∷ (16, 0) ∷ []) 0 ≡ packed ((8, c) ∷ (8, d) ∷ (16, 0) ∷ []) 0 → (a ≡ c) × (b ≡ d)
+first_two a b c d p q r s e = (omega arith, omega arith)
+
+front : (q r : ℕ) (xs ys : List ℕ) → q < 2 ^ 32 → r < 2 ^ 32 → to_be_bytes w32 q ++ xs ≡ to_be_bytes w32 r ++ ys → q ≡ r
+front q r xs ys a b e = sym (back q xs a) ∙ ap (λ t. quadlet_at t 0) e ∙ back r ys b
+
+-- the tape and the system, which are 0 where they do not stand
+tape_of : (x y : Bool) (a b c d : ℕ) → x ≡ y → a < 2 ^ 16 → b < 2 ^ 16 → c < 2 ^ 16 → d < 2 ^ 16 → (x ≡ false → (a ≡ 0) × (b ≡ 0)) → (y ≡ false → (c ≡ 0) × (d ≡ 0))
+    → quads (if x then packed ((16, a) ∷ (16, b) ∷ []) 0 ∷ [] else []) ≡ quads (if y then packed ((16, c) ∷ (16, d) ∷ []) 0 ∷ [] else []) → (a ≡ c) × (b ≡ d)
+tape_of true true a b c d e p q r s none never h = halves a b c d q s (front (packed ((16, a) ∷ (16, b) ∷ []) 0) (packed ((16, c) ∷ (16, d) ∷ []) 0) [] [] (omega arith) (omega arith) h)
+tape_of true false a b c d e p q r s none never h = cc e
+tape_of false true a b c d e p q r s none never h = cc e
+tape_of false false a b c d e p q r s none never h = let m = none refl in let n = never refl in (m.0 ∙ sym n.0, m.1 ∙ sym n.1)
+
+same_event : (e g : EventEntry) → EventFits e → EventFits g → quads (event_quads e) ≡ quads (event_quads g) → e ≡ g
+same_event e g f h same =
+    let a = event_code e.code e.device e.tape e.system f.shape in
+    let b = event_code g.code g.device g.tape g.system h.shape in
+    let first : packed ((8, e.code) ∷ (8, e.device) ∷ (16, 0) ∷ []) 0 ≡ packed ((8, g.code) ∷ (8, g.device) ∷ (16, 0) ∷ []) 0 =
+    front _ _ _ _ (omega (arith, a, f.device)) (omega (arith, b, h.device)) same in
+    let two = first_two e.code e.device g.code g.device a f.device b h.device first in
+    let code : e.code ≡ g.code = two.0 in
+    let device : e.device ≡ g.device = two.1 in
+    let others = tape_of (e.code == 4) (g.code == 4) e.tape e.system g.tape g.system (ap (λ n. n == 4) two.0) f.tape (small_system e.code e.device e.tape e.system f.shape) h.tape (small_system g.code g.device g.tape g.system h.shape)
+    (no_tape e.code e.device e.tape e.system f.shape) (no_tape g.code g.device g.tape g.system h.shape) (ap (drop 4) same) in
+    let tape : e.tape ≡ g.tape = others.0 in
+    let system : e.system ≡ g.system = others.1 in
+    cc (event_is e, event_is g)
+
+outcome : ℕ → ℕ → ℕ → ℕ → OutcomeEntry
+outcome a b c d = record { code = a; device = b; slot = c; value = d }
+
+outcome_is : (o : OutcomeEntry) → o ≡ outcome o.code o.device o.slot o.value
+unfolding outcome
+outcome_is o = refl
+
+outcome_code : (code value : ℕ) → IsTrue (is_outcome code value) → code < 256
+outcome_code code value h = grind (arith, nat_tests)
+
+three_fields : (a b c d e f : ℕ) → a < 256 → b < 256 → c < 256 → d < 256 → e < 256 → f < 256
+    → packed ((8, a) ∷ (8, b) ∷ (8, c) ∷ (8, 0) ∷ []) 0 ≡ packed ((8, d) ∷ (8, e) ∷ (8, f) ∷ (8, 0) ∷ []) 0 → (a ≡ d) × (b ≡ e) × (c ≡ f)
+three_fields a b c d e f p q r s t u h = (omega arith, omega arith, omega arith)
+
+same_outcome : (o p : OutcomeEntry) → OutcomeFits o → OutcomeFits p → quads (outcome_quads o) ≡ quads (outcome_quads p) → o ≡ p
+same_outcome o p f g same =
+    let a = outcome_code o.code o.value f.shape in
+    let b = outcome_code p.code p.value g.shape in
+    let first = front (packed ((8, o.code) ∷ (8, o.device) ∷ (8, o.slot) ∷ (8, 0) ∷ []) 0) (packed ((8, p.code) ∷ (8, p.device) ∷ (8, p.slot) ∷ (8, 0) ∷ []) 0) (quads (o.value ∷ [])) (quads (p.value ∷ [])) (omega (arith, a, f.device, f.slot)) (omega (arith, b, g.device, g.slot)) same in
+    let h = three_fields o.code o.device o.slot p.code p.device p.slot a f.device f.slot b g.device g.slot first in
+    let code : o.code ≡ p.code = h.0 in
+    let device : o.device ≡ p.device = h.1 in
+    let slot : o.slot ≡ p.slot = h.2 in
+    let value : o.value ≡ p.value = front o.value p.value [] [] f.value g.value (ap (drop 4) same) in
+    cc (outcome_is o, outcome_is p)
+
+shown : ℕ → ℕ → ℕ → ShownEntry
+shown a b c = record { device = a; offset = b; word = c }
+
+shown_is : (s : ShownEntry) → s ≡ shown s.device s.offset s.word
+unfolding shown
+shown_is s = refl
+
+shown_fields : (a b c d : ℕ) → a < 256 → b < 2 ^ 16 → c < 256 → d < 2 ^ 16 → packed ((8, a) ∷ (8, 0) ∷ (16, b) ∷ []) 0 ≡ packed ((8, c) ∷ (8, 0) ∷ (16, d) ∷ []) 0 → (a ≡ c) × (b ≡ d)
+shown_fields a b c d p q r s e = (omega arith, omega arith)
+
+same_shown : (s t : ShownEntry) → ShownFits s → ShownFits t → quads (shown_quads s) ≡ quads (shown_quads t) → s ≡ t
+same_shown s t f g same =
+    let first = front (packed ((8, s.device) ∷ (8, 0) ∷ (16, s.offset) ∷ []) 0) (packed ((8, t.device) ∷ (8, 0) ∷ (16, t.offset) ∷ []) 0) (quads (s.word ∷ [])) (quads (t.word ∷ [])) (omega (arith, f.device, f.offset)) (omega (arith, g.device, g.offset)) same in
+    let h = shown_fields s.device s.offset t.device t.offset f.device (omega (arith, f.offset)) g.device (omega (arith, g.offset)) first in
+    let device : s.device ≡ t.device = h.0 in
+    let offset : s.offset ≡ t.offset = h.1 in
+    let word : s.word ≡ t.word = front s.word t.word [] [] f.word g.word (ap (drop 4) same) in
+    cc (shown_is s, shown_is t)
+
+same_body : (e g : Entry) → Fits e → Fits g → kind_of e ≡ kind_of g → body e ≡ body g → e ≡ g
+same_body (Reset r) (Reset s) f h k same = ap Reset (same_reset r s (shape_of r f) (shape_of s h) same)
+same_body (Async p) (Async q) f h k same = ap Async (same_packet p q f h same)
+same_body (Event e) (Event g) f h k same = ap Event (same_event e g f h same)
+same_body (Outcome o) (Outcome p) f h k same = ap Outcome (same_outcome o p f h same)
+same_body (Shown s) (Shown t) f h k same = ap Shown (same_shown s t f h same)
+same_body End End f h k same = refl
+same_body e g f h k same = cc k
+
+timed : ℕ → Entry → Timed
+timed c e = record { cycle = c; what = e }
+
+timed_is : (t : Timed) → t ≡ timed t.cycle t.what
+unfolding timed
+timed_is t = refl
+
+pub same_timed : (t u : Timed) → TimedFits t → TimedFits u → entry_bytes t ≡ entry_bytes u → t ≡ u
+same_timed t u f g same =
+    let kind : kind_of t.what ≡ kind_of u.what = ap (λ e. get_or e 0 0) same in
+    let cycle : t.cycle ≡ u.cycle = sym (from_be_bytes-to_be_bytes_8 t.cycle f.cycle) ∙ ap cycle_of same ∙ from_be_bytes-to_be_bytes_8 u.cycle g.cycle in
+    let what : t.what ≡ u.what = same_body t.what u.what f.entry g.entry kind (ap (drop 12) same) in
+    cc (timed_is t, timed_is u)
+
+-- the head of an entry's bytes
+pub length_back : (t : Timed) → TimedFits t → length_of (entry_bytes t) ≡ length (body t.what) / 4
+length_back t f = let h = has_length t.what f.entry in let few = most (kind_of t.what) h.quadlets h.right in omega (arith, h.size, few)
+  where
+    most : (k n : ℕ) → is_length k n ≡ true → n ≤ 569
+    most k n h = grind (arith, nat_tests)
+
+pub cycle_back : (t : Timed) → TimedFits t → cycle_of (entry_bytes t) ≡ t.cycle
+cycle_back t f = from_be_bytes-to_be_bytes_8 t.cycle f.cycle
+
+pub length-entry : (t : Timed) → TimedFits t → length (entry_bytes t) ≡ 12 + 4 * (length (body t.what) / 4)
+length-entry t f = let h = has_length t.what f.entry in omega (arith, h.size)
+
+passes : (n end : ℕ) (ok : Bool) (f : LogFault) (x : Option LogFault) → ok ≡ true → x ≡ None → tested n end ok f x ≡ None
+passes n end ok f x e none = grind (arith, nat_tests)
+
+kind_right : (e : Entry) → (is_built (kind_of e) ≡ true) × (is_kind (kind_of e) 0 ≡ true)
+kind_right (Reset r) = (refl, refl)
+kind_right (Async p) = (refl, refl)
+kind_right (Event e) = (refl, refl)
+kind_right (Outcome o) = (refl, refl)
+kind_right (Shown s) = (refl, refl)
+kind_right End = (refl, refl)
+
+length_right : (t : Timed) → TimedFits t → is_length (kind_of t.what) (length_of (entry_bytes t)) ≡ true
+length_right t f =
+    let h = has_length t.what f.entry in
+    let e : length_of (entry_bytes t) ≡ h.quadlets = length_back t f ∙ omega (arith, h.size) in
+    ap (is_length (kind_of t.what)) e ∙ h.right
+
+later_right : (a b c : ℕ) → c ≡ b → a ≤ b → nat_le a c ≡ true
+later_right a b c e le = grind (arith, nat_tests)
+
+pub entry_clear : (place last : ℕ) (t : Timed) → TimedFits t → last ≤ t.cycle → entry_fault place last (entry_bytes t) ≡ None
+entry_clear place last t f later =
+    let k = kind_right t.what in
+    passes (length (entry_bytes t)) 2 (is_built (kind_of t.what)) _ _ k.0
+    (passes (length (entry_bytes t)) 2 (is_kind (kind_of t.what) 0) _ _ k.1
+    (passes (length (entry_bytes t)) 4 (is_length (kind_of t.what) (length_of (entry_bytes t))) _ _ (length_right t f)
+    (passes (length (entry_bytes t)) 12 (nat_le last (cycle_of (entry_bytes t))) _ None (later_right last t.cycle (cycle_of (entry_bytes t)) (cycle_back t f) later) refl)))
+
+header_clear : (rest : List ℕ) (x : Option LogFault) → x ≡ None → header_fault (header_bytes ++ rest) x ≡ None
+header_clear rest x none =
+    passes (length (header_bytes ++ rest)) 4 (quadlet_at (header_bytes ++ rest) 0 == 825440564) (fault_at 0 BadHeader) _ refl
+    (passes (length (header_bytes ++ rest)) 8 (quadlet_at (header_bytes ++ rest) 4 == 1) (fault_at 4 BadHeader) _ refl
+    (passes (length (header_bytes ++ rest)) 12 (quadlet_at (header_bytes ++ rest) 8 == 0) (fault_at 8 BadHeader) _ refl
+    (passes (length (header_bytes ++ rest)) 16 (quadlet_at (header_bytes ++ rest) 12 == 0) (fault_at 12 BadHeader) x refl none)))
+
+-- the header alone, and nothing, show no fault
+pub header_alone : (s : Stand) → s.ended ≡ false → head_fault s (header_at s.start) ≡ None
+header_alone s e = rw e (by (s.start == 0))
+  where
+    by : (first : Bool) → (if first then header_fault (if first then header_bytes else []) (entry_fault 16 s.last (drop 16 (if first then header_bytes else []))) else entry_fault s.start s.last (if first then header_bytes else [])) ≡ None
+    by true = header_clear [] (entry_fault 16 s.last []) refl
+    by false = refl
+
+-- the bytes of an entry, behind the header where it is the first, show no fault and are as many as it needs
+clear_by : (first : Bool) (start last : ℕ) (bytes : List ℕ) (t : Timed) → TimedFits t → last ≤ t.cycle → (if first then header_bytes else []) ++ entry_bytes t ≡ bytes
+    → (if first then header_fault bytes (entry_fault 16 last (drop 16 bytes)) else entry_fault start last bytes) ≡ None
+clear_by true start last bytes t f later e =
+    let P : List ℕ → Type 0 = λ b. header_fault b (entry_fault 16 last (drop 16 b)) ≡ None in
+    subst P e (header_clear (entry_bytes t) (entry_fault 16 last (entry_bytes t)) (entry_clear 16 last t f later))
+clear_by false start last bytes t f later e = ap (entry_fault start last) (sym e) ∙ entry_clear start last t f later
+
+pub spelled_clear : (s : Stand) (t : Timed) (bytes : List ℕ) → Spells s t bytes → head_fault s bytes ≡ None
+spelled_clear s t bytes h = rw h.going_on (clear_by (s.start == 0) s.start s.last bytes t h.fits h.later h.same)
+
+-- the entry behind the header
+tail_by : (first : Bool) (e bytes : List ℕ) → (if first then header_bytes else []) ++ e ≡ bytes → drop (if first then 16 else 0) bytes ≡ e
+tail_by true e bytes h = ap (drop 16) (sym h)
+tail_by false e bytes h = sym h
+
+pub spelled_tail : (s : Stand) (t : Timed) (bytes : List ℕ) → Spells s t bytes → drop (skip s.start) bytes ≡ entry_bytes t
+spelled_tail s t bytes h = tail_by (s.start == 0) (entry_bytes t) bytes h.same
+
+size_by : (first : Bool) (e bytes : List ℕ) → (if first then header_bytes else []) ++ e ≡ bytes → length bytes ≡ (if first then 16 else 0) + length e
+size_by true e bytes h = ap length (sym h) ∙ length-append header_bytes e
+size_by false e bytes h = omega (arith, ap length h)
+
+pub spelled_complete : (s : Stand) (t : Timed) (bytes : List ℕ) → Spells s t bytes → length bytes ≡ need s bytes
+spelled_complete s t bytes h =
+    let size = size_by (s.start == 0) (entry_bytes t) bytes h.same in
+    size ∙ ap (λ n. skip s.start + n) (by (length (entry_bytes t)) (length_of (entry_bytes t)) (length-entry t h.fits ∙ ap (λ n. 12 + 4 * n) (sym (length_back t h.fits))) ∙ ap entry_need (sym (spelled_tail s t bytes h)))
+  where
+    by : (n m : ℕ) → n ≡ 12 + 4 * m → n ≡ (if nat_lt n 4 then 12 else 12 + 4 * m)
+    by n m e = grind (arith, nat_tests)
+
+pub same_spelled : (s : Stand) (t u : Timed) (bytes : List ℕ) → Spells s t bytes → Spells s u bytes → t ≡ u
+same_spelled s t u bytes h g = same_timed t u h.fits g.fits (append_cancel_left (header_at s.start) (entry_bytes t) (entry_bytes u) (h.same ∙ sym g.same))
+
+pub spelled_body : (s : Stand) (t : Timed) (bytes : List ℕ) → Spells s t bytes → IsBody (get_or (drop (skip s.start) bytes) 0 0) (drop 12 (drop (skip s.start) bytes)) t.what
+spelled_body s t bytes h =
+    let P : List ℕ → Type 0 = λ e. IsBody (get_or e 0 0) (drop 12 e) t.what in
+    subst P (sym (spelled_tail s t bytes h)) (record { fits = h.fits.entry; kind = refl; same = refl })

@@ -1,0 +1,4 @@
+pub mod Fronts
+pub mod Readings
+pub mod Goings
+pub mod Endings

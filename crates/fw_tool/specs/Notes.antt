@@ -1,0 +1,43 @@
+-- The status and the note of each ending.
+use Rattle.std.specs.Prelude.{◌≡◌, ℕ, ◌+◌, ◌<◌, ◌⊎◌, List, [], ◌∷◌, ◌++◌, codes}
+use Rattle.std.specs.declared.option.Option.{Option}
+use Rattle.fw_outside.specs.Outside.{Grows, AppendsFront, Rose}
+use Rattle.fw_tool.specs.declared.ending.Ending.{Ending}
+use Rattle.fw_tool.specs.declared.ending.Ending.TheVariants.{Done, Usage, Refused, ReadFault, WriteFault, NoMemory}
+use Rattle.fw_tool.specs.declared.Refusal.{Refusal}
+use Rattle.fw_tool.specs.declared.Refusal.TheVariants.{NotBuilt, NoEnd}
+
+abbrev pub status_of : Ending → ℕ
+status_of Done = 0
+status_of Usage = 2
+status_of (Refused _) = 3
+status_of ReadFault = 5
+status_of WriteFault = 6
+status_of NoMemory = 8
+
+abbrev pub name_of : Refusal → List ℕ
+name_of NotBuilt = codes ": NotBuilt" ++ 10 ∷ []
+name_of NoEnd = codes ": NoEnd" ++ 10 ∷ []
+
+abbrev pub note_of : Ending → List ℕ
+note_of Done = []
+note_of Usage = codes "usage" ++ 10 ∷ []
+note_of (Refused r) = codes "line " ++ ((48 + r.line) ∷ []) ++ name_of r.why
+note_of ReadFault = codes "read fault" ++ 10 ∷ []
+note_of WriteFault = codes "write fault" ++ 10 ∷ []
+note_of NoMemory = codes "no memory" ++ 10 ∷ []
+
+-- a refused line has one digit
+abbrev pub IsShort : Ending → Type 0
+IsShort (Refused r) = r.line < 10
+IsShort _ = Unit {0}
+
+-- The note was written and the status is the ending's, or the note could not be written and the status is 6.
+abbrev pub IsNoted : {N : Type 0} → (N → Option (List ℕ)) → (N → ℕ) → N → N → Ending → ℕ → Type 0
+IsNoted held faults old new ending status =
+    ((status ≡ status_of ending) × Grows (held old) (held new) (note_of ending))
+    ⊎ ((status ≡ 6) × AppendsFront (held old) (held new) (note_of ending) × Rose (faults old) (faults new))
+
+abbrev pub IsTold : {N : Type 0} → (N → Option (List ℕ)) → (N → ℕ) → N → N → Ending → ℕ → Type 0
+IsTold held faults old new Done status = (status ≡ 0) × (new ≡ old)
+IsTold held faults old new ending status = IsNoted held faults old new ending status

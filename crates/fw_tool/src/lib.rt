@@ -1,0 +1,31 @@
+//! The program's top call: scripts in, logs and notes out.
+#![tactic(auto)]
+
+mod ending;
+mod lines;
+mod notes;
+mod read;
+mod run;
+mod script;
+mod text;
+mod top;
+#[cfg(test)]
+mod tests;
+
+pub use top::fire;
+
+/// Why a line of a script was refused.
+#[derive(Clone, Copy, Debug, PartialEq, Eq)]
+pub enum Refusal {
+    /// The line is not the form that stands in its place, or it follows the last line.
+    NotBuilt,
+    /// The input ended before the last line.
+    NoEnd,
+}
+
+/// A refused line, by its number from 1.
+#[derive(Clone, Copy, Debug, PartialEq, Eq)]
+pub struct Refused {
+    pub line: u32,
+    pub why: Refusal,
+}

@@ -1,0 +1,155 @@
+//! Scripts of four lines, run into memory, and calls that fail.
+//!
+//! The logs were made by an implementation of the same rules that shares no code with this one.
+
+use crate::fire;
+use fw_outside::{MemSink, MemSource};
+use std::alloc::{AllocError, Global};
+use std::test::Fail;
+
+// A deck makes a broadcast connection in thirteen half steps.
+const THIRTEEN: &str = "device d deck 1 100\nbroadcast d d.0 0\nstep d 13\nend\n";
+const THIRTEEN_LOG: &str =
+    "31333934000000010000000000000000010000050000000000000000000000010000000100010101807f08427f80f7bd020000030000000000000000ffc00140ffc0fffff0000904020000040000000000000000ffc00160ffc0000000000000803f007a020000030000000000000000ffc00140ffc0fffff0000228020000040000000000000000ffc00160ffc0000000000000ffffffff020000060000000000000000ffc00190ffc0fffff000022800080002fffffffffffffffe020000050000000000000000ffc001b0ffc000000000000000040002ffffffff020000030000000000000000ffc00140ffc0fffff0000220020000040000000000000000ffc00160ffc000000000000000001333020000060000000000000000ffc00190ffc0fffff0000220000800020000133300000963020000050000000000000000ffc001b0ffc00000000000000004000200001333020000060000000000000000ffc00190ffc0fffff000090400080002803f007ac03f007a020000050000000000000000ffc001b0ffc000000000000000040002803f007a050000020000000000000000010000000000003f070000000000000000000000";
+
+// It is cut off after five.
+const FIVE: &str = "device d deck 1 100\nbroadcast d d.0 0\nstep d 5\nend\n";
+const FIVE_LOG: &str =
+    "31333934000000010000000000000000010000050000000000000000000000010000000100010101807f08427f80f7bd020000030000000000000000ffc00140ffc0fffff0000904020000040000000000000000ffc00160ffc0000000000000803f007a020000030000000000000000ffc00140ffc0fffff0000228020000040000000000000000ffc00160ffc0000000000000ffffffff020000060000000000000000ffc00190ffc0fffff000022800080002fffffffffffffffe070000000000000000000000";
+
+// Where an entry of the first log begins, and its length.
+const BEGINS: [usize; 17] = [
+    0, 16, 48, 72, 100, 124, 152, 188, 220, 244, 272, 308, 340, 376, 408, 428, 440,
+];
+
+// How a call ended.
+#[derive(Drop)]
+struct Ended {
+    status: u8,
+    log: MemSink,
+    notes: MemSink,
+}
+
+// The numbers of the calls that fail.
+#[derive(Clone, Copy)]
+struct Failing<'a> {
+    read: &'a [u32],
+    log: &'a [u32],
+    notes: &'a [u32],
+}
+
+const NONE: Failing<'static> = Failing {
+    read: &[],
+    log: &[],
+    notes: &[],
+};
+
+fn call(alloc: Global, words: &[&str], script: &str, failing: Failing<'_>) -> Result<Ended, AllocError> {
+    let mut list = Vec::new(alloc);
+    for word in words {
+        list.push(word.to_string(alloc)?)?;
+    }
+    let mut source = MemSource::new(script.as_bytes().to_vec(alloc)?, failing.read.to_vec(alloc)?);
+    let mut log = MemSink::new(alloc, 500, failing.log.to_vec(alloc)?)?;
+    let mut notes = MemSink::new(alloc, 50, failing.notes.to_vec(alloc)?)?;
+    let status = fire(alloc, &list, &mut source, &mut log, &mut notes);
+    Ok(Ended { status, log, notes })
+}
+
+#[test]
+fn the_log_of_a_script(rt: HostRuntime) -> Result<(), Fail> {
+    let alloc = rt.alloc();
+    let cases = [
+        (THIRTEEN, THIRTEEN_LOG),
+        (FIVE, FIVE_LOG),
+        (THIRTEEN.trim_end(), THIRTEEN_LOG),
+        (
+            "device camera0123456789 deck 1 100\nbroadcast camera0123456789 camera0123456789.0 0\nstep camera0123456789 5\nend\n",
+            FIVE_LOG,
+        ),
+    ];
+    for (script, log) in cases {
+        let ended = call(alloc, &["run"], script, NONE)?;
+        let log = hex::decode(alloc, log)?;
+        assert_eq!(rt; ended.status, 0, "{script}");
+        assert_eq!(rt; ended.log.as_slice(), log.as_slice(), "{script}");
+        assert!(rt; ended.notes.as_slice().is_empty(), "{script}");
+    }
+    Ok(())
+}
+
+#[test]
+fn refused_lines(rt: HostRuntime) -> Result<(), Fail> {
+    let alloc = rt.alloc();
+    let whole = hex::decode(alloc, THIRTEEN_LOG)?;
+    let cases = [
+        ("", "line 1: NoEnd\n", 16),
+        ("\n", "line 1: NotBuilt\n", 16),
+        ("broadcast d d.0 0\n", "line 1: NotBuilt\n", 16),
+        ("device d camcorder 1 100\n", "line 1: NotBuilt\n", 16),
+        ("device d deck 1 100 \n", "line 1: NotBuilt\n", 16),
+        ("device 1d deck 1 100\n", "line 1: NotBuilt\n", 16),
+        ("device camera01234567890 deck 1 100\n", "line 1: NotBuilt\n", 16),
+        ("device manager deck 1 100\n", "line 1: NotBuilt\n", 16),
+        ("device any deck 1 100\n", "line 1: NotBuilt\n", 16),
+        ("device late deck 1 100\n", "line 1: NotBuilt\n", 16),
+        ("device d deck 1 100\n", "line 2: NoEnd\n", 48),
+        ("device d deck 1 100\nbroadcast e e.0 0\n", "line 2: NotBuilt\n", 48),
+        ("device d deck 1 100\nbroadcast d d.0 16\n", "line 2: NotBuilt\n", 48),
+        ("device d deck 1 100\nbroadcast d d.0 00\n", "line 2: NotBuilt\n", 48),
+        ("device d deck 1 100\nbroadcast d d.0 0\nstep d 0\n", "line 3: NotBuilt\n", 48),
+        ("device d deck 1 100\nbroadcast d d.0 0\nstep d 10001\n", "line 3: NotBuilt\n", 48),
+        ("device d deck 1 100\nbroadcast d d.0 0\nstep d 13\n", "line 4: NoEnd\n", 428),
+        ("device d deck 1 100\nbroadcast d d.0 0\nstep d 13\nend\nend\n", "line 5: NotBuilt\n", 440),
+        ("device d deck 1 100\nbroadcast d d.0 0\nstep d 13\nend\n\n", "line 5: NotBuilt\n", 440),
+    ];
+    for (script, note, length) in cases {
+        let ended = call(alloc, &["run"], script, NONE)?;
+        assert_eq!(rt; ended.status, 3, "{script}");
+        assert_eq!(rt; ended.notes.as_slice(), note.as_bytes(), "{script}");
+        assert_eq!(rt; ended.log.as_slice(), &whole[..length], "{script}");
+    }
+    Ok(())
+}
+
+#[test]
+fn faulty_words(rt: HostRuntime) -> Result<(), Fail> {
+    let alloc = rt.alloc();
+    let cases: [&[&str]; 4] = [&[], &["run", "x"], &["walk"], &["run "]];
+    for words in cases {
+        let ended = call(alloc, words, THIRTEEN, NONE)?;
+        assert_eq!(rt; ended.status, 2);
+        assert_eq!(rt; ended.notes.as_slice(), b"usage\n".as_slice());
+        assert!(rt; ended.log.as_slice().is_empty());
+        let notes = &[1];
+        let ended = call(alloc, words, THIRTEEN, Failing { notes, ..NONE })?;
+        assert_eq!(rt; ended.status, 6);
+    }
+    Ok(())
+}
+
+#[test]
+fn calls_that_fail(rt: HostRuntime) -> Result<(), Fail> {
+    let alloc = rt.alloc();
+    let whole = hex::decode(alloc, THIRTEEN_LOG)?;
+    for read in 1..3 {
+        let read = &[read];
+        let ended = call(alloc, &["run"], THIRTEEN, Failing { read, ..NONE })?;
+        assert_eq!(rt; ended.status, 5);
+        assert_eq!(rt; ended.notes.as_slice(), b"read fault\n".as_slice());
+        assert!(rt; ended.log.as_slice().is_empty());
+    }
+    for write in 1..17 {
+        let log = &[write];
+        let ended = call(alloc, &["run"], THIRTEEN, Failing { log, ..NONE })?;
+        let length = BEGINS[write as usize - 1];
+        assert_eq!(rt; ended.status, 6, "write {write}");
+        assert_eq!(rt; ended.notes.as_slice(), b"write fault\n".as_slice(), "write {write}");
+        assert_eq!(rt; ended.log.as_slice(), &whole[..length], "write {write}");
+    }
+    let notes = &[1];
+    let ended = call(alloc, &["run"], "end\n", Failing { notes, ..NONE })?;
+    assert_eq!(rt; ended.status, 6);
+    assert_eq!(rt; ended.log.as_slice(), &whole[..16]);
+    Ok(())
+}
