@@ -1,5 +1,5 @@
 -- Plug control registers: their fields, and the units that a flow takes.
-use Rattle.std.specs.Prelude.{ℕ, ◌+◌, ◌-◌, ◌*◌, ◌^◌, ◌==◌, ◌<◌, Bool, if◌then◌else◌}
+use Rattle.std.specs.Prelude.{ℕ, ◌+◌, ◌-◌, ◌*◌, ◌^◌, ◌==◌, ◌||◌, not, ◌<◌, Bool, if◌then◌else◌}
 use Rattle.fw_words.specs.Quadlet.{field}
 
 -- what an output plug keeps
@@ -48,3 +48,7 @@ in_word f = 2 ^ 31 + flag f.broadcast * 2 ^ 30 + f.counter * 2 ^ 24 + f.channel 
 
 abbrev pub in_fields : ℕ → InFields
 in_fields w = record { broadcast = field w 1 1 == 1; counter = field w 2 7; channel = field w 10 15 }
+
+-- a connection stands at the plug of this register: its broadcast connection bit or its point-to-point connection counter is not 0
+abbrev pub is_connected : ℕ → Bool
+is_connected w = (field w 1 1 == 1) || not (field w 2 7 == 0)

@@ -1,6 +1,17 @@
-//! Plug control registers (IEC 61883-1): their fields, and the units that a flow takes.
+//! Plug control registers (IEC 61883-1, 7): their fields, the units that a flow takes, and the plugs of a device with
+//! their registers.
 #![tactic(auto)]
 
+mod bandwidth;
+mod laws;
+mod plugs;
+mod row;
 mod word;
 
+pub use bandwidth::units;
+pub use laws::{input_words_are_their_fields, output_words_are_their_fields};
+pub use plugs::{IMPR, IPCR, OMPR, OPCR, Plugs};
 pub use word::{InWord, OutWord};
+
+#[cfg(test)]
+mod tests;

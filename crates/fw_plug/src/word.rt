@@ -1,5 +1,6 @@
 ghost use Rattle.std.specs.Prelude.{◌≡◌, ◌==◌};
 ghost use Rattle.fw_words.specs.Quadlet.{field};
+ghost use Rattle.fw_plug.specs.Words.{is_connected};
 
 use fw_words::Quadlet;
 
@@ -60,6 +61,13 @@ impl OutWord {
     {
         Quadlet(self.0).field(22, 31) as u16
     }
+
+    /// A connection stands here: the broadcast connection bit or the point-to-point connection counter is not 0.
+    pub fn is_connected(self) -> bool
+        ensures { result ≡ is_connected self.0 }
+    {
+        self.broadcast() || self.counter() != 0
+    }
 }
 
 impl InWord {
@@ -89,5 +97,12 @@ impl InWord {
         ensures { result ≡ field self.0 10 15 }
     {
         Quadlet(self.0).field(10, 15) as u8
+    }
+
+    /// A connection stands here: the broadcast connection bit or the point-to-point connection counter is not 0.
+    pub fn is_connected(self) -> bool
+        ensures { result ≡ is_connected self.0 }
+    {
+        self.broadcast() || self.counter() != 0
     }
 }

@@ -1,0 +1,39 @@
+-- The registers of the isochronous resource manager (IEEE 1394-1995, 8.3.2.3), by offset.
+use Rattle.std.specs.Prelude.{ℕ, ◌==◌, Option, Some, None, if◌then◌else◌}
+use Rattle.fw_csr.specs.Requests.{offset_of}
+use Rattle.fw_csr.specs.Replies.{word_after}
+use Rattle.fw_csr.specs.declared.request.Request.{Request}
+use Rattle.fw_csr.specs.declared.register.Register.{Register}
+use Rattle.fw_csr.specs.declared.register.Register.TheVariants.{ReadSwap}
+
+pub record ManagerWords : Type 0 where
+  pub bus_manager_id : ℕ
+  pub bandwidth_available : ℕ
+  pub channels_available_hi : ℕ
+  pub channels_available_lo : ℕ
+
+-- no bus manager, all units and all channels
+abbrev pub initial_words : ManagerWords
+initial_words = record { bus_manager_id = 0x3F; bandwidth_available = 4915; channels_available_hi = 0xFFFF_FFFF; channels_available_lo = 0xFFFF_FFFF }
+
+-- each can be read and swapped
+abbrev pub register_at : ManagerWords → ℕ → Option Register
+register_at m offset =
+    if offset == 0xFFFF_F000_021C then Some (ReadSwap m.bus_manager_id)
+    else if offset == 0xFFFF_F000_0220 then Some (ReadSwap m.bandwidth_available)
+    else if offset == 0xFFFF_F000_0224 then Some (ReadSwap m.channels_available_hi)
+    else if offset == 0xFFFF_F000_0228 then Some (ReadSwap m.channels_available_lo)
+    else None
+
+-- the word of the register at an offset, after a request there or elsewhere
+abbrev pub after_at : ℕ → Request → ℕ → ℕ
+after_at offset r word = if offset_of r == offset then word_after word r else word
+
+-- the four words after a request
+abbrev pub words_after : ManagerWords → Request → ManagerWords
+words_after m r = record {
+  bus_manager_id = after_at 0xFFFF_F000_021C r m.bus_manager_id;
+  bandwidth_available = after_at 0xFFFF_F000_0220 r m.bandwidth_available;
+  channels_available_hi = after_at 0xFFFF_F000_0224 r m.channels_available_hi;
+  channels_available_lo = after_at 0xFFFF_F000_0228 r m.channels_available_lo;
+}

@@ -1,0 +1,20 @@
+//! Control and status registers (IEEE 1394-1995, 8): requests at a register and their replies, a register that a
+//! compare_swap changes, and the four registers of the isochronous resource manager.
+#![tactic(auto)]
+
+mod manager;
+mod register;
+mod reply;
+mod request;
+mod word;
+
+pub use manager::{
+    BANDWIDTH_AVAILABLE, BUS_MANAGER_ID, CHANNELS_AVAILABLE_HI, CHANNELS_AVAILABLE_LO, Manager,
+};
+pub use register::{REGISTER_SPACE, Register};
+pub use reply::{Reply, ResponseCode};
+pub use request::{Request, Swap};
+pub use word::Word;
+
+#[cfg(test)]
+mod tests;

@@ -1,0 +1,100 @@
+ghost use Rattle.std.specs.Prelude.{◌≡◌, ◌∷◌, []};
+ghost use Rattle.fw_csr.specs.Replies.{reply};
+ghost use Rattle.fw_csr.specs.Requests.{offset_of};
+ghost use Rattle.fw_csr.specs.Manager.{initial_words, register_at, words_after};
+
+use crate::{REGISTER_SPACE, Reply, Request, Word};
+use std::marker::Model;
+
+/// BUS_MANAGER_ID's offset.
+pub const BUS_MANAGER_ID: u64 = REGISTER_SPACE + 0x21C;
+/// BANDWIDTH_AVAILABLE's offset.
+pub const BANDWIDTH_AVAILABLE: u64 = REGISTER_SPACE + 0x220;
+/// CHANNELS_AVAILABLE_HI's offset.
+pub const CHANNELS_AVAILABLE_HI: u64 = REGISTER_SPACE + 0x224;
+/// CHANNELS_AVAILABLE_LO's offset.
+pub const CHANNELS_AVAILABLE_LO: u64 = REGISTER_SPACE + 0x228;
+
+/// BUS_MANAGER_ID while there is no bus manager.
+const NO_BUS_MANAGER: u32 = 0x3F;
+/// The bandwidth allocation units that a bus reset makes available.
+const ALL_UNITS: u32 = 4915;
+/// Each bit is 1: each of 32 channels is free.
+const ALL_CHANNELS: u32 = 0xFFFF_FFFF;
+
+/// The registers of the isochronous resource manager (IEEE 1394-1995, 8.3.2.3).
+#[derive(Debug, PartialEq, Eq, Drop)]
+pub struct Manager {
+    bus_manager_id: Word,
+    bandwidth_available: Word,
+    channels_available_hi: Word,
+    channels_available_lo: Word,
+}
+
+impl Model for Manager {
+    ghost use Rattle.fw_csr.specs.Manager.{ManagerWords};
+
+    ghost Value = { ManagerWords };
+
+    ghost view = { λ m. record {
+      bus_manager_id = m.bus_manager_id;
+      bandwidth_available = m.bandwidth_available;
+      channels_available_hi = m.channels_available_hi;
+      channels_available_lo = m.channels_available_lo;
+    } };
+
+    ghost inverse = { λ w. record {
+      bus_manager_id = w.bus_manager_id;
+      bandwidth_available = w.bandwidth_available;
+      channels_available_hi = w.channels_available_hi;
+      channels_available_lo = w.channels_available_lo;
+    } };
+}
+
+impl Manager {
+    /// The registers with their initial values.
+    pub fn new() -> Manager
+        ensures { result ≡ initial_words }
+    {
+        Manager {
+            bus_manager_id: Word::new(NO_BUS_MANAGER),
+            bandwidth_available: Word::new(ALL_UNITS),
+            channels_available_hi: Word::new(ALL_CHANNELS),
+            channels_available_lo: Word::new(ALL_CHANNELS),
+        }
+    }
+
+    /// A bus reset: each register takes its initial value.
+    pub fn reset(&mut self)
+        ensures { self.new ≡ initial_words }
+    {
+        *self = Manager::new();
+    }
+
+    /// Carries a request out: address_error where it is at none of the four registers, type_error where it is no
+    /// quadlet read and no quadlet compare_swap, else complete.
+    pub fn answer(&mut self, r: &Request) -> Reply
+        ensures reply { result ≡ reply (register_at self.old (offset_of r.now)) r.now }
+        ensures words { self.new ≡ words_after self.old r.now }
+    {
+        match r.offset() {
+            BUS_MANAGER_ID => self.bus_manager_id.answer(r),
+            BANDWIDTH_AVAILABLE => self.bandwidth_available.answer(r),
+            CHANNELS_AVAILABLE_HI => self.channels_available_hi.answer(r),
+            CHANNELS_AVAILABLE_LO => self.channels_available_lo.answer(r),
+            _ => Reply::address_error(),
+        }
+    }
+
+    /// BUS_MANAGER_ID, BANDWIDTH_AVAILABLE, CHANNELS_AVAILABLE_HI and CHANNELS_AVAILABLE_LO.
+    pub fn registers(&self) -> [u32; 4]
+        ensures { result ≡ self.now.bus_manager_id ∷ self.now.bandwidth_available ∷ self.now.channels_available_hi ∷ self.now.channels_available_lo ∷ [] }
+    {
+        [
+            self.bus_manager_id.get(),
+            self.bandwidth_available.get(),
+            self.channels_available_hi.get(),
+            self.channels_available_lo.get(),
+        ]
+    }
+}

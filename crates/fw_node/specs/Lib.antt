@@ -1,0 +1,4 @@
+pub mod Contents
+pub mod Space
+pub mod Packets
+pub mod State

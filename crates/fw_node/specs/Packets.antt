@@ -1,0 +1,45 @@
+-- Request packets and the packets that answer them (IEEE 1394-1995, transactions; retry code 01 and priority 0 are own).
+use Rattle.std.specs.Prelude.{ℕ, ◌==◌, List, [], Option, Some, None, if◌then◌else◌}
+use Rattle.std.specs.Int.{to_be_bytes, w32}
+use Rattle.fw_async.specs.declared.packet.Head.{Head}
+use Rattle.fw_async.specs.declared.packet.Packet.{Packet}
+use Rattle.fw_async.specs.declared.packet.Packet.TheVariants.{WriteQuadlet, WriteBlock, WriteReply, ReadQuadlet, ReadBlock, ReadQuadletReply, ReadBlockReply, Lock, LockReply}
+use Rattle.fw_csr.specs.declared.request.Request.{Request}
+use Rattle.fw_csr.specs.declared.request.Request.TheVariants as Asks
+use Rattle.fw_csr.specs.declared.reply.Reply.{Reply}
+use Rattle.fw_node.specs.Contents.{node_id}
+use Rattle.fw_node.specs.Space.{Space, answer_of}
+
+-- what a request packet asks; other packets ask nothing
+abbrev pub request_in : Packet → Option Request
+request_in (WriteQuadlet h offset value) = Some (Asks.Write offset value)
+request_in (WriteBlock h offset bytes) = Some (Asks.WriteBlock offset bytes)
+request_in (ReadQuadlet h offset) = Some (Asks.Read offset)
+request_in (ReadBlock h offset len) = Some (Asks.ReadBlock offset len)
+request_in (Lock h offset function bytes) = Some (Asks.Lock offset function bytes)
+request_in _ = None
+
+-- from node n to the requester, under the request's transaction label
+abbrev pub response_head : ℕ → Head → Head
+response_head n h = record { destination = h.source; tl = h.tl; rt = 1; pri = 0; source = node_id n }
+
+-- a lock response has the old value where the lock was carried out, and no data else
+abbrev pub old_bytes : Reply → List ℕ
+old_bytes a = if a.rcode == 0 then to_be_bytes w32 a.value else []
+
+-- the packet by which node n answers a request packet with a reply
+abbrev pub response_to : ℕ → Packet → Reply → Option Packet
+response_to n (WriteQuadlet h offset value) a = Some (WriteReply (response_head n h) a.rcode)
+response_to n (WriteBlock h offset bytes) a = Some (WriteReply (response_head n h) a.rcode)
+response_to n (ReadQuadlet h offset) a = Some (ReadQuadletReply (response_head n h) a.rcode a.value)
+response_to n (ReadBlock h offset len) a = Some (ReadBlockReply (response_head n h) a.rcode [])
+response_to n (Lock h offset function bytes) a = Some (LockReply (response_head n h) a.rcode function (old_bytes a))
+response_to n _ a = None
+
+abbrev pub response_with : Space → Packet → Option Request → Option Packet
+response_with s p None = None
+response_with s p (Some r) = response_to s.number p (answer_of s r).reply
+
+-- the packet that answers a request packet to the node of this space
+abbrev pub response_of : Space → Packet → Option Packet
+response_of s p = response_with s p (request_in p)

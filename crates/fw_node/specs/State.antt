@@ -1,0 +1,55 @@
+-- What a node keeps, and what a bus reset and a request leave of it.
+use Rattle.std.specs.Prelude.{◌≡◌, ℕ, ◌<◌, Bool, length, slice_index, Option, Some, None, if◌then◌else◌}
+use Rattle.std.specs.Option.{option_map}
+use Rattle.fw_base.specs.declared.device.DeviceKind.{DeviceKind}
+use Rattle.fw_base.specs.Devices.{output_plugs_of, input_plugs_of}
+use Rattle.fw_csr.specs.declared.request.Request.{Request}
+use Rattle.fw_csr.specs.Manager.{ManagerWords, initial_words}
+use Rattle.fw_csr.specs.Manager
+use Rattle.fw_plug.specs.Plugs.{PlugWords, first_words, reset_words}
+use Rattle.fw_plug.specs.Plugs
+use Rattle.fw_node.specs.Space.{Space}
+
+pub record NodeState : Type 0 where
+  pub kind : DeviceKind
+  pub device : ℕ
+  -- the node's number since the latest bus reset; none came yet where there is none
+  pub number : Option ℕ
+  pub plugs : PlugWords
+  -- the manager's registers, where the latest bus reset named the node the isochronous resource manager
+  pub manager : Option ManagerWords
+
+abbrev pub first_state : DeviceKind → ℕ → ℕ → NodeState
+first_state kind device rate = record { kind = kind; device = device; number = None; plugs = first_words (output_plugs_of kind) (input_plugs_of kind) rate; manager = None }
+
+abbrev pub after_reset : ℕ → Bool → NodeState → NodeState
+after_reset number manager n = record n { number = Some number; plugs = reset_words n.plugs; manager = if manager then Some initial_words else None }
+
+abbrev pub after_request : Option Request → NodeState → NodeState
+after_request None n = n
+after_request (Some r) n = record n { plugs = Plugs.words_after n.plugs r; manager = option_map (λ m. Manager.words_after m r) n.manager }
+
+-- what node `number` keeps, as requests see it in a cycle
+abbrev pub space_of : ℕ → ℕ → NodeState → Space
+space_of number cycle n = record {
+  number = number;
+  kind = n.kind;
+  device = n.device;
+  rate = n.plugs.rate;
+  cycle = cycle;
+  output_word = slice_index n.plugs.outputs;
+  input_word = slice_index n.plugs.inputs;
+  manager = n.manager;
+}
+
+-- a node that keeps n has the registers of a space
+pub record HasSpace (n : NodeState) (s : Space) : Type 0 where
+  pub number : n.number ≡ Some s.number
+  pub kind : n.kind ≡ s.kind
+  pub device : n.device ≡ s.device
+  pub rate : n.plugs.rate ≡ s.rate
+  pub outputs : length n.plugs.outputs ≡ output_plugs_of s.kind
+  pub inputs : length n.plugs.inputs ≡ input_plugs_of s.kind
+  pub output_words : (k : ℕ) → k < output_plugs_of s.kind → slice_index n.plugs.outputs k ≡ s.output_word k
+  pub input_words : (k : ℕ) → k < input_plugs_of s.kind → slice_index n.plugs.inputs k ≡ s.input_word k
+  pub manager : n.manager ≡ s.manager

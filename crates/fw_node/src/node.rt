@@ -1,0 +1,155 @@
+ghost use Rattle.std.specs.Prelude.{◌≡◌, ◌≤◌, ℕ, Some, IsSome, IsTrue};
+ghost use Rattle.std.specs.Option.{option_map};
+ghost use Rattle.fw_async.specs.Async.{Fits};
+ghost use Rattle.fw_base.specs.Devices.{code_of, has_link};
+ghost use Rattle.fw_csr.specs.Requests.{offset_of};
+ghost use Rattle.fw_csr.specs.Replies.{reply};
+ghost use Rattle.fw_node.specs.Packets.{request_in, response_of};
+ghost use Rattle.fw_node.specs.Space.{register_at, core_register_at};
+ghost use Rattle.fw_node.specs.State.{first_state, after_reset, after_request, space_of};
+
+use crate::offset::*;
+use crate::response::{request_of, response};
+use fw_async::Packet;
+use fw_base::DeviceKind;
+use fw_csr::{BUS_MANAGER_ID, CHANNELS_AVAILABLE_LO, Manager, Register, Reply, Request};
+use fw_plug::{OMPR, Plugs};
+use std::marker::Model;
+
+/// A device as a node of the bus: the registers by which it answers request packets.
+#[derive(Debug, Drop)]
+pub struct Node {
+    kind: DeviceKind,
+    device: u8,
+    number: Option<u8>,
+    plugs: Plugs,
+    manager: Option<Manager>,
+}
+
+impl Model for Node {
+    ghost use Rattle.std.specs.Prelude.{◌≡◌, ◌≤◌, length};
+    ghost use Rattle.std.specs.Option.{ForSome};
+    ghost use Rattle.fw_base.specs.Devices.{output_plugs_of, input_plugs_of};
+    ghost use Rattle.fw_node.specs.State.{NodeState};
+
+    ghost Value = { NodeState };
+
+    ghost view = { λ n. record { kind = n.kind; device = n.device; number = n.number; plugs = n.plugs; manager = n.manager } };
+
+    ghost invariant = { λ n. ForSome n.number (λ number. number ≤ 62) × (length n.plugs.outputs ≡ output_plugs_of n.kind) × (length n.plugs.inputs ≡ input_plugs_of n.kind) };
+}
+
+impl Node {
+    /// Device `device`, 0 to 62 in order of declaration, of the kind with this code (`DeviceKind::code`), at data rate 0,
+    /// 1 or 2 for 100, 200 or 400 Mbit/s. It is no node of a bus until a bus reset.
+    pub fn new(kind: u8, device: u8, rate: u8) -> Node
+        requires kind { kind ≤ 3 }
+        requires device { device ≤ 62 }
+        requires rate { rate ≤ 2 }
+        ensures kind { code_of result.kind ≡ kind }
+        ensures state { result ≡ first_state result.kind device rate }
+    {
+        let kind = match DeviceKind::from_code(kind) {
+            Some(kind) => kind,
+            None => unreachable!(),
+        };
+        Node {
+            kind,
+            device,
+            number: None,
+            plugs: Plugs::new(kind.output_plugs(), kind.input_plugs(), rate),
+            manager: None,
+        }
+    }
+
+    /// A bus reset, at which the node gets its number, and where `manager` is true becomes the isochronous resource
+    /// manager with registers at their initial values.
+    pub fn reset(&mut self, number: u8, manager: bool)
+        requires { number ≤ 62 }
+        ensures { self.new ≡ after_reset number manager self.old }
+    {
+        self.number = Some(number);
+        self.plugs.reset();
+        self.manager = if manager { Some(Manager::new()) } else { None };
+    }
+
+    /// The second after a bus reset is over. No register changes.
+    pub fn second_over(&mut self)
+        ensures { self.new ≡ self.old }
+    {
+        self.plugs.second_over();
+    }
+
+    /// The plug registers that `answer` reads and swaps.
+    pub fn plugs(&self) -> &Plugs
+        ensures { result.now ≡ self.now.plugs }
+    {
+        &self.plugs
+    }
+
+    /// The manager's registers that `answer` reads and swaps. None exactly where the latest `reset` did not name this node
+    /// the manager, or no `reset` came since `new`.
+    pub fn manager(&self) -> Option<&Manager>
+        ensures { option_map (λ m. m.now) result ≡ self.now.manager }
+    {
+        self.manager.as_ref()
+    }
+
+    /// Carries a request packet to this node out in cycle `now`, and gives the response packet. A write to FCP_COMMAND is
+    /// answered, and nothing follows from it.
+    pub fn answer(&mut self, now: u64, p: &Packet) -> Packet
+        requires request { IsSome (request_in p.now) }
+        requires link { IsTrue (has_link self.old.kind) }
+        requires reset { IsSome self.old.number }
+        ensures response { (number : ℕ) → self.old.number ≡ Some number → response_of (space_of number now self.old) p.now ≡ Some result }
+        ensures registers { self.new ≡ after_request (request_in p.now) self.old }
+        ensures fits { Fits p.now → Fits result }
+    {
+        let number = match self.number {
+            Some(number) => number,
+            None => unreachable!(),
+        };
+        let reply = self.reply(number, now, &request_of(p));
+        response(number, p, reply)
+    }
+
+    /// Carries a request out at the register that it is at, if there is one.
+    fn reply(&mut self, number: u8, now: u64, r: &Request) -> Reply
+        requires { number ≤ 62 }
+        ensures reply { result ≡ reply (register_at (space_of number now self.old) (offset_of r.now)) r.now }
+        ensures registers { self.new ≡ after_request (Some r.now) self.old }
+        ensures code { result.rcode ≤ 7 }
+    {
+        match r.offset() {
+            BUS_MANAGER_ID..=CHANNELS_AVAILABLE_LO => match &mut self.manager {
+                Some(manager) => manager.answer(r),
+                None => Reply::address_error(),
+            },
+            OMPR..=LAST_PLUG_REGISTER => self.plugs.answer(r),
+            offset => match self.core_register(number, now, offset) {
+                Some(register) => register.reply(r),
+                None => Reply::address_error(),
+            },
+        }
+    }
+
+    /// The register at an offset, of those that each node has.
+    fn core_register(&self, number: u8, now: u64, offset: u64) -> Option<Register>
+        requires { number ≤ 62 }
+        ensures { result ≡ core_register_at (space_of number now self.now) offset }
+    {
+        match offset {
+            NODE_IDS => Some(Register::ReadOnly(node_ids(number))),
+            SPLIT_TIMEOUT_HI => Some(Register::ReadOnly(0)),
+            SPLIT_TIMEOUT_LO => Some(Register::ReadOnly(SPLIT_TIMEOUT)),
+            CYCLE_TIME => Some(Register::ReadOnly(cycle_time(now))),
+            BUS_NAME => Some(Register::ReadOnly(NAME_1394)),
+            CAPABILITIES => Some(Register::ReadOnly(capabilities(self.kind))),
+            EUI_64_HIGH => Some(Register::ReadOnly(COMPANY)),
+            EUI_64_LOW => Some(Register::ReadOnly(u32::from(self.device))),
+            FCP_COMMAND if self.kind.has_unit() => Some(Register::WriteOnly),
+            FCP_RESPONSE => Some(Register::WriteOnly),
+            _ => None,
+        }
+    }
+}

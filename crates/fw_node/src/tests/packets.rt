@@ -1,0 +1,106 @@
+//! Request packets and their responses, in quadlets.
+
+ghost use Rattle.std.specs.Prelude.{IfSome, IsSome, IsTrue};
+ghost use Rattle.fw_async.specs.Async.{Fits};
+ghost use Rattle.fw_base.specs.Devices.{has_link};
+
+use super::requests::{NOW, node_of};
+use crate::Node;
+use arrayvec::ArrayVec;
+use fw_async::{Packet, PacketReader, write_packet};
+use fw_base::DeviceKind;
+use fw_words::{Quadlet, put_quadlet};
+use std::process::Abort;
+
+/// The bytes of these quadlets.
+fn bytes_of(words: &[u32]) -> ArrayVec<u8, 528> {
+    let mut bytes = ArrayVec::new();
+    for &word in words {
+        let _ = bytes.try_extend_from_slice(&put_quadlet(Quadlet(word)));
+    }
+    bytes
+}
+
+/// The packet that these quadlets are.
+fn packet_of(words: &[u32]) -> Option<Packet>
+    ensures { IfSome result Fits }
+{
+    let mut reader = PacketReader::new();
+    match reader.feed(bytes_of(words).as_slice()) {
+        Ok(fed) => fed.packet,
+        Err(_) => None,
+    }
+}
+
+/// The node's response to a request packet is this one, both in quadlets.
+fn exchange(rt: &impl Abort, node: &mut Node, request: &[u32], response: &[u32])
+    requires number { IsSome node.old.number }
+    requires link { IsTrue (has_link node.old.kind) }
+    ensures number { IsSome node.new.number }
+    ensures link { IsTrue (has_link node.new.kind) }
+{
+    let p = match packet_of(request) {
+        Some(p) => p,
+        None => panic!(rt; "no packet"),
+    };
+    assert!(rt; matches!(p, Packet::ReadQuadlet { .. } | Packet::Lock { .. }));
+    let mut bytes = ArrayVec::new();
+    write_packet(&node.answer(NOW, &p), &mut bytes);
+    assert_eq!(rt; bytes.as_slice(), bytes_of(response).as_slice());
+}
+
+#[test]
+fn packets_in_quadlets(rt: HostRuntime) {
+    let mut node = node_of(DeviceKind::Deck);
+    // BANDWIDTH_AVAILABLE from 4915 to 2403; the same again finds 2403.
+    let swap = [
+        0xFFC1_0190,
+        0xFFC0_FFFF,
+        0xF000_0220,
+        0x0008_0002,
+        0x1333,
+        0x0963,
+    ];
+    let done = [0xFFC0_01B0, 0xFFC1_0000, 0x0000_0000, 0x0004_0002, 0x1333];
+    exchange(&rt, &mut node, &swap, &done);
+    let swap = [
+        0xFFC1_0190,
+        0xFFC0_FFFF,
+        0xF000_0220,
+        0x0008_0002,
+        0x1333,
+        0x0000,
+    ];
+    let failed = [0xFFC0_01B0, 0xFFC1_0000, 0x0000_0000, 0x0004_0002, 0x0963];
+    exchange(&rt, &mut node, &swap, &failed);
+    exchange(&rt, &mut node, &swap, &failed);
+    // A fetch_add is not allowed, and no register stands at 230.
+    let add = [0xFFC1_0190, 0xFFC0_FFFF, 0xF000_0220, 0x0004_0003, 0x0001];
+    exchange(
+        &rt,
+        &mut node,
+        &add,
+        &[0xFFC0_01B0, 0xFFC1_6000, 0, 0x0000_0003],
+    );
+    let read = [0xFFC1_0140, 0xFFC0_FFFF, 0xF000_0230];
+    exchange(&rt, &mut node, &read, &[0xFFC0_0160, 0xFFC1_7000, 0, 0]);
+    // BUS_MANAGER_ID from 3F to 0, under transaction label 1.
+    let swap = [
+        0xFFC1_0590,
+        0xFFC0_FFFF,
+        0xF000_021C,
+        0x0008_0002,
+        0x003F,
+        0x0000,
+    ];
+    exchange(
+        &rt,
+        &mut node,
+        &swap,
+        &[0xFFC0_05B0, 0xFFC1_0000, 0, 0x0004_0002, 0x003F],
+    );
+    let read = [0xFFC1_0540, 0xFFC0_FFFF, 0xF000_021C];
+    exchange(&rt, &mut node, &read, &[0xFFC0_0560, 0xFFC1_0000, 0, 0]);
+    let registers = node.manager().map(|m| m.registers());
+    assert_eq!(rt; registers, Some([0, 0x0963, 0xFFFF_FFFF, 0xFFFF_FFFF]));
+}

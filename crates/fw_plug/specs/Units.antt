@@ -1,0 +1,14 @@
+-- The units of a flow, from the word of its output plug's register (IEC 61883-1, bandwidth).
+use Rattle.std.specs.Prelude.{ℕ, ◌+◌, ◌-◌, ◌*◌, ◌^◌, ◌==◌, if◌then◌else◌}
+use Rattle.fw_words.specs.Quadlet.{field}
+
+-- the overhead that an overhead_ID stands for
+abbrev pub overhead_units : ℕ → ℕ
+overhead_units id = if id == 0 then 512 else 32 * id
+
+-- how many quadlets a payload field stands for
+abbrev pub payload_quadlets : ℕ → ℕ
+payload_quadlets payload = if payload == 0 then 1024 else payload
+
+abbrev pub units : ℕ → ℕ
+units w = overhead_units (field w 18 21) + (payload_quadlets (field w 22 31) + 3) * 2 ^ (4 - field w 16 17)

@@ -1,0 +1,118 @@
+ghost use Rattle.std.specs.Prelude.{◌≡◌, ◌<◌, ◌≤◌, length, slice_index};
+ghost use Rattle.fw_csr.specs.Requests.{offset_of};
+ghost use Rattle.fw_csr.specs.Replies.{reply};
+ghost use Rattle.fw_plug.specs.Plugs.{first_words, table_of, register_at, words_after, reset_words};
+ghost use Rattle.fw_plug.specs.Words.{is_connected};
+
+use crate::row::{answer_in, copies, disconnect, master};
+use crate::{InWord, OutWord};
+use arrayvec::ArrayVec;
+use fw_csr::{REGISTER_SPACE, Register, Reply, Request, Word};
+use std::marker::Model;
+
+/// The output master plug register's offset.
+pub const OMPR: u64 = REGISTER_SPACE + 0x900;
+/// The offset of the first output plug control register; the others follow it, a quadlet each.
+pub const OPCR: u64 = REGISTER_SPACE + 0x904;
+/// The input master plug register's offset.
+pub const IMPR: u64 = REGISTER_SPACE + 0x980;
+/// The offset of the first input plug control register; the others follow it, a quadlet each.
+pub const IPCR: u64 = REGISTER_SPACE + 0x984;
+
+/// The plugs of a device: at most 31 output plugs and at most 31 input plugs, with their registers (IEC 61883-1, 7).
+#[derive(Debug, Drop)]
+pub struct Plugs {
+    rate: u8,
+    outputs: ArrayVec<Word, 31>,
+    inputs: ArrayVec<Word, 31>,
+}
+
+impl Model for Plugs {
+    ghost use Rattle.std.specs.Prelude.{◌≤◌, length};
+    ghost use Rattle.fw_plug.specs.Plugs.{PlugWords};
+
+    ghost Value = { PlugWords };
+
+    ghost view = { λ p. record { rate = p.rate; outputs = p.outputs.items; inputs = p.inputs.items } };
+
+    ghost inverse = { λ p. record { rate = p.rate; outputs = record { items = p.outputs }; inputs = record { items = p.inputs } } };
+
+    ghost invariant = { λ p. (p.rate ≤ 2) × (length p.outputs.items ≤ 31) × (length p.inputs.items ≤ 31) };
+}
+
+impl Plugs {
+    /// So many output and input plugs of a device at this data rate, 0, 1 or 2 for 100, 200 or 400 Mbit/s: on-line, not
+    /// connected, on channel 63, and with a payload of 122 quadlets (own).
+    pub fn new(outs: u8, ins: u8, rate: u8) -> Plugs
+        requires outs { outs ≤ 31 }
+        requires ins { ins ≤ 31 }
+        requires rate { rate ≤ 2 }
+        ensures { result ≡ first_words outs ins rate }
+    {
+        let out_word = 0x803F_007A + (u32::from(rate) << 14);
+        Plugs {
+            rate,
+            outputs: copies(outs, out_word),
+            inputs: copies(ins, 0x803F_0000),
+        }
+    }
+
+    /// Carries a request out: address_error where it is at none of the registers, type_error where it is no quadlet read
+    /// and, at a plug control register, no quadlet compare_swap, else complete.
+    pub fn answer(&mut self, r: &Request) -> Reply
+        ensures reply { result ≡ reply (register_at (table_of self.old) (offset_of r.now)) r.now }
+        ensures words { self.new ≡ words_after self.old r.now }
+    {
+        match r.offset() {
+            OMPR => Register::ReadOnly(master(self.rate, 0x3F, self.outputs.len())).reply(r),
+            IMPR => Register::ReadOnly(master(self.rate, 0, self.inputs.len())).reply(r),
+            offset if offset < IMPR => answer_in(self.outputs.as_mut_slice(), OPCR, r),
+            _ => answer_in(self.inputs.as_mut_slice(), IPCR, r),
+        }
+    }
+
+    /// A bus reset: no plug is connected any more, and all other fields stay.
+    pub fn reset(&mut self)
+        ensures { self.new ≡ reset_words self.old }
+    {
+        disconnect(self.outputs.as_mut_slice());
+        disconnect(self.inputs.as_mut_slice());
+    }
+
+    /// The second after a bus reset is over. No register changes.
+    pub fn second_over(&mut self)
+        ensures { self.new ≡ self.old }
+    {}
+
+    /// Output plug `n` sends: it is connected.
+    pub fn talks(&self, n: u8) -> bool
+        requires { n < length self.now.outputs }
+        ensures { result ≡ is_connected (slice_index self.now.outputs n) }
+    {
+        self.out_word(n).is_connected()
+    }
+
+    /// Input plug `n` listens: it is connected.
+    pub fn hears(&self, n: u8) -> bool
+        requires { n < length self.now.inputs }
+        ensures { result ≡ is_connected (slice_index self.now.inputs n) }
+    {
+        self.in_word(n).is_connected()
+    }
+
+    /// The register of output plug `n`.
+    pub fn out_word(&self, n: u8) -> OutWord
+        requires { n < length self.now.outputs }
+        ensures { result.0 ≡ slice_index self.now.outputs n }
+    {
+        OutWord(self.outputs.as_slice()[usize::from(n)].get())
+    }
+
+    /// The register of input plug `n`.
+    pub fn in_word(&self, n: u8) -> InWord
+        requires { n < length self.now.inputs }
+        ensures { result.0 ≡ slice_index self.now.inputs n }
+    {
+        InWord(self.inputs.as_slice()[usize::from(n)].get())
+    }
+}

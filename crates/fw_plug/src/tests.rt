@@ -1,0 +1,98 @@
+//! Words of plug control registers with their fields and units, and the registers of a device.
+
+use super::*;
+use fw_csr::{REGISTER_SPACE, Reply, Request};
+use fw_words::{Bytes, Quadlet, put_quadlet};
+
+#[test]
+fn words_have_fields_and_units(rt: HostRuntime) {
+    // word; broadcast, counter, channel, rate, overhead, payload; units
+    let rows = [
+        (0x803F_007A, false, 0, 63, 0, 0, 122, 2512),
+        (0xC03F_007A, true, 0, 63, 0, 0, 122, 2512),
+        (0x8200_207A, false, 2, 0, 0, 8, 122, 2256),
+        (0xBF00_207A, false, 63, 0, 0, 8, 122, 2256),
+        (0x813F_807A, false, 1, 63, 2, 0, 122, 1012),
+        (0x8103_847A, false, 1, 3, 2, 1, 122, 532),
+        (0x803F_0000, false, 0, 63, 0, 0, 0, 16_944),
+    ];
+    for (word, broadcast, counter, channel, rate, overhead, payload, taken) in rows {
+        let out = OutWord(word);
+        assert!(rt; out.online(), "{word}");
+        assert_eq!(rt; (out.broadcast(), out.counter()), (broadcast, counter));
+        assert_eq!(rt; (out.channel(), out.rate()), (channel, rate));
+        assert_eq!(rt; (out.overhead(), out.payload()), (overhead, payload));
+        assert_eq!(rt; units(out), taken, "{word}");
+    }
+    let into = InWord(0xC23F_0000);
+    assert!(rt; into.online() && into.broadcast());
+    assert_eq!(rt; (into.counter(), into.channel()), (2, 63));
+}
+
+/// The reply to a read at an offset of register space.
+fn read(plugs: &mut Plugs, offset: u16) -> Reply {
+    let offset = REGISTER_SPACE + u64::from(offset);
+    plugs.answer(&Request::Read { offset })
+}
+
+/// The reply to a quadlet compare_swap.
+fn swap(plugs: &mut Plugs, offset: u16, argument: u32, new: u32) -> Reply {
+    let mut bytes = Bytes::new();
+    bytes.append(&put_quadlet(Quadlet(argument)));
+    bytes.append(&put_quadlet(Quadlet(new)));
+    plugs.answer(&Request::Lock {
+        offset: REGISTER_SPACE + u64::from(offset),
+        function: 2,
+        bytes,
+    })
+}
+
+#[test]
+fn the_plugs_answer(rt: HostRuntime) {
+    let mut plugs = Plugs::new(2, 4, 2);
+    let rows = [
+        (0x900, 0, 0xBFFF_FF02),
+        (0x904, 0, 0x803F_807A),
+        (0x908, 0, 0x803F_807A),
+        (0x906, 7, 0),
+        (0x90C, 7, 0),
+        (0x97C, 7, 0),
+        (0x980, 0, 0x80FF_FF04),
+        (0x984, 0, 0x803F_0000),
+        (0x990, 0, 0x803F_0000),
+        (0x994, 7, 0),
+        (0x9FC, 7, 0),
+    ];
+    for (offset, rcode, value) in rows {
+        assert_eq!(rt;
+            read(&mut plugs, offset),
+            Reply { rcode, value },
+            "at {offset}"
+        );
+    }
+    let rows = [
+        (0x908, 0x803F_807A, 0x8103_A07A, 0, 0x803F_807A),
+        (0x908, 0x803F_807A, 0x803F_807A, 0, 0x8103_A07A),
+        (0x990, 0x803F_0000, 0xC103_0000, 0, 0x803F_0000),
+        (0x900, 0xBFFF_FF02, 0, 6, 0),
+        (0x994, 0, 0, 7, 0),
+    ];
+    for (offset, argument, new, rcode, value) in rows {
+        let reply = swap(&mut plugs, offset, argument, new);
+        assert_eq!(rt; reply, Reply { rcode, value }, "at {offset}");
+    }
+}
+
+#[test]
+fn a_reset_clears_connections(rt: HostRuntime) {
+    let mut plugs = Plugs::new(1, 1, 0);
+    assert!(rt; !plugs.talks(0) && !plugs.hears(0));
+    let _ = swap(&mut plugs, 0x904, 0x803F_007A, 0x8203_207A);
+    let _ = swap(&mut plugs, 0x984, 0x803F_0000, 0xC103_0000);
+    assert_eq!(rt; read(&mut plugs, 0x904).value, 0x8203_207A);
+    plugs.reset();
+    assert_eq!(rt; read(&mut plugs, 0x904).value, 0x8003_207A);
+    assert_eq!(rt; read(&mut plugs, 0x984).value, 0x8003_0000);
+    plugs.second_over();
+    assert_eq!(rt; read(&mut plugs, 0x904).value, 0x8003_207A);
+}
