@@ -1,0 +1,4 @@
+pub mod Form
+pub mod Keyword
+pub mod Pieces
+pub mod Words
