@@ -1,3 +1,4 @@
 pub mod FormLaws
 pub mod NumberLaws
 pub mod PiecesLaws
+pub mod ReadingLaws

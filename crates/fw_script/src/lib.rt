@@ -11,8 +11,35 @@ mod cut;
 mod device_forms;
 mod form;
 mod hexadecimal;
+mod input;
 mod keyword;
+mod line;
+mod reader;
+mod stage;
 mod transaction_forms;
 mod words;
 
 pub use command::{Command, Name};
+pub use reader::ScriptReader;
+use thiserror::Error;
+
+/// Why a script is refused, or not read.
+#[derive(Clone, Copy, Debug, PartialEq, Eq, Error)]
+pub enum ScriptFault {
+    /// The line has none of the forms, or follows `end`.
+    #[error("BadLine")]
+    BadLine,
+    /// The line has more than 256 bytes, be it a skipped one. It is tested before `BadLine`.
+    #[error("LineTooLong")]
+    LineTooLong,
+    /// The input ended without `end`; the line is the one after the last.
+    #[error("NoEnd")]
+    NoEnd,
+    /// The source failed.
+    #[error("ReadFault")]
+    ReadFault,
+    /// The script has more than 1,048,576 bytes, and no line within them is refused. A line is within them where
+    /// its line feed is; one whose 257th byte is counts too.
+    #[error("TooLong")]
+    TooLong,
+}
