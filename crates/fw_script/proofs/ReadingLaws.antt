@@ -1,11 +1,11 @@
 -- What a line that was read gives.
-use Rattle.std.proofs.Common.{◌≡◌, ◌≢◌, ◌⊎◌, inl, inr, ℕ, zero, suc, [], ◌∷◌, ◌++◌, ◌+◌, ◌-◌, ◌<◌, ◌≤◌, List, length, take, drop, Bool, true, false, Option, Some, None, Result, Ok, Err, arith, refl, ap, sym, ◌∙◌, subst, length-drop}
+use Rattle.std.proofs.Common.{◌≡◌, ◌≢◌, ◌⊎◌, ◌↔◌, inl, inr, ℕ, zero, suc, [], ◌∷◌, ◌++◌, ◌+◌, ◌-◌, ◌<◌, ◌≤◌, List, length, take, drop, Bool, true, false, Option, Some, None, Result, Ok, Err, arith, refl, ap, sym, ◌∙◌, subst, length-drop}
 use Rattle.std.proofs.lemmas.List.{append-nil}
 use Rattle.fw_outside.specs.Outside.{Takes}
 use Rattle.fw_outside.proofs.Parts.{Takes-nothing}
 use Rattle.fw_script.specs.Line.{is_skipped}
 use Rattle.fw_script.specs.Form.{HasForm}
-use Rattle.fw_script.specs.Reading.{Reading, Gives, GoesOn, ReadsLine, IsLine, HoldsLine, IsOpen, IsFilled, IsAtEndOfInput, IsLongLine, PassesLimit, behind, at_stage, refused, with_taken, TakesMore, Advances, GivesNext, Fills}
+use Rattle.fw_script.specs.Reading.{Reading, Answer, Gives, GoesOn, ReadsLine, IsLine, HoldsLine, IsOpen, IsFilled, IsAtEndOfInput, IsLongLine, PassesLimit, behind, at_stage, refused, with_taken, TakesMore, Advances, GivesNext, Fills, IsStageAfter}
 use Rattle.fw_script.specs.Reading.Gives.{skipped, command, end_line, bad_line, long_line, too_long, end_of_input, no_end, read_fault}
 use Rattle.fw_script.specs.declared.command.Command.{Command}
 use Rattle.fw_script.specs.declared.command.Command.TheVariants.{End}
@@ -15,7 +15,7 @@ use Rattle.fw_script.specs.declared.stage.Stage.{Stage}
 use Rattle.fw_script.specs.declared.stage.Stage.TheVariants.{Commands, AfterEnd, Done, Failed}
 
 -- a reading that is the same
-pub gives_at : (p q new : Reading) (r : Result (Option Command) ScriptFault) → new ≡ q → Gives p r q → Gives p r new
+pub gives_at : (p q new : Reading) (r : Answer) → new ≡ q → Gives p r q → Gives p r new
 gives_at p q new r e g = subst (λ (z : Reading). Gives p r z) (sym e) g
 
 line_of : (p : Reading) (n size : ℕ) (text : List ℕ) → text ≡ take n p.rest → HoldsLine p n size → IsLine p text size
@@ -63,6 +63,40 @@ pub refused_stage : (p : Reading) (commands : Bool) (text : List ℕ) → (comma
 refused_stage p commands text after (inl e) = inl (after e)
 refused_stage p commands text after (inr h) = inr h
 
+-- how a reading stands after an answer
+abbrev AfterAnswer : Answer → Stage → Type 0
+AfterAnswer (Ok None) s = ⊥
+AfterAnswer (Ok (Some c)) s = (s ≢ Failed) × ((c ≡ End) ↔ (s ≡ Done))
+AfterAnswer (Err f) s = s ≡ Failed
+
+gives_stage : {p : Reading} {r : Answer} {q : Reading} → Gives p r q → AfterAnswer r q.stage
+gives_stage (skipped t n a k g) = gives_stage g
+gives_stage (command c t n a k i f o) = ((λ e. let x = i in cc), ((λ e. absurd (o e)), (λ e. let x = i in absurd cc)))
+gives_stage (end_line t n a k i f g) = gives_stage g
+gives_stage (bad_line t n a k w) = refl
+gives_stage (long_line a) = refl
+gives_stage (too_long a) = refl
+gives_stage (end_of_input a i) = ((λ e. cc), ((λ e. refl), (λ e. refl)))
+gives_stage (no_end a i) = refl
+gives_stage read_fault = refl
+
+open_not_done : (s : Stage) → IsOpen s → s ≢ Done
+open_not_done Commands o e = cc
+open_not_done AfterEnd o e = cc
+open_not_done Done o e = o
+open_not_done Failed o e = cc
+
+stage_of : (s z : Stage) (r : Answer) → IsOpen s → AfterAnswer r z → IsStageAfter s r z
+stage_of s z (Ok None) o h = absurd h
+stage_of s z (Ok (Some c)) o h = (open_not_done s o, h.0, h.1)
+stage_of s z (Err f) o h = (open_not_done s o, h)
+
+pub stage_after : (s : Stage) (p q : Reading) (r : Answer) → IsOpen s → Gives p r q → IsStageAfter s r q.stage
+stage_after s p q r o g = stage_of s q.stage r o (gives_stage g)
+
+pub stage_failed : (old new : Reading) (left left' : Option (List ℕ)) (f : ScriptFault) → IsOpen old.stage → Fills old left left' (Err f) new → IsStageAfter old.stage (Err f) new.stage
+stage_failed old new left left' f o h = (open_not_done old.stage o, ap (λ (p : Reading). p.stage) h.1.2)
+
 -- nothing was taken
 pub nothing_taken : (p : Reading) (left : Option (List ℕ)) → TakesMore p p left left
 nothing_taken p left =
@@ -84,7 +118,7 @@ gives_done Failed p e = absurd cc
 pub after_end : (p : Reading) (left : Option (List ℕ)) → p.stage ≡ Done → Advances p p left left (Ok None)
 after_end p left e = record { known = p; takes = nothing_taken p left; gives = gives_done p.stage p e }
 
-gives_open : (s : Stage) (p q : Reading) (r : Result (Option Command) ScriptFault) → IsOpen s → Gives p r q → GivesNext s p r q
+gives_open : (s : Stage) (p q : Reading) (r : Answer) → IsOpen s → Gives p r q → GivesNext s p r q
 gives_open Commands p q r o g = g
 gives_open AfterEnd p q r o g = g
 gives_open Done p q r o g = absurd o

@@ -1,5 +1,5 @@
 -- How a script is read, line by line.
-use Rattle.std.specs.Prelude.{◌≡◌, ◌≢◌, ◌⊎◌, ℕ, ◌+◌, ◌<◌, ◌≤◌, ◌-◌, List, [], ◌∷◌, ◌++◌, length, take, drop, Bool, true, false, Option, Some, None, Result, Ok, Err}
+use Rattle.std.specs.Prelude.{◌≡◌, ◌≢◌, ◌⊎◌, ◌↔◌, ℕ, ◌+◌, ◌<◌, ◌≤◌, ◌-◌, List, [], ◌∷◌, ◌++◌, length, take, drop, Bool, true, false, Option, Some, None, Result, Ok, Err}
 use Rattle.fw_outside.specs.Outside.{Takes, IsAtEnd}
 use Rattle.fw_script.specs.Pieces.{IsFree}
 use Rattle.fw_script.specs.Line.{is_skipped}
@@ -12,6 +12,10 @@ use Rattle.fw_script.specs.declared.line.Front.{Front}
 use Rattle.fw_script.specs.declared.line.Front.TheVariants.{Line, LongLine, Limit, Nothing}
 use Rattle.fw_script.specs.declared.stage.Stage.{Stage}
 use Rattle.fw_script.specs.declared.stage.Stage.TheVariants.{Commands, AfterEnd, Done, Failed}
+
+-- what a call answers
+abbrev pub Answer : Type 0
+Answer = Result (Option Command) ScriptFault
 
 -- where a reading stands: the bytes from the next line on, as far as they were taken from the source; whether its
 -- end was met behind them; how many bytes of the script stand before them; the number of the line last read or
@@ -63,6 +67,7 @@ pub record IsLongLine (p : Reading) : Type 0 where
 
 -- the script passes its limit, and the next line doesn't end within it, nor does its 257th byte lie within it
 pub record PassesLimit (p : Reading) : Type 0 where
+  pub start : p.before ≤ 1048576
   pub more : 1048576 < p.before + length p.rest
   pub free : IsFree 10 (take (1048576 - p.before) p.rest)
   pub short : 1048576 ≤ p.before + 256
@@ -72,16 +77,16 @@ abbrev pub IsAtEndOfInput : Reading → Type 0
 IsAtEndOfInput p = (p.rest ≡ []) × (p.whole ≡ true)
 
 -- what the lines from here on give first: a command or a fault, and where the reading stands then
-pub data Gives : Reading → Result (Option Command) ScriptFault → Reading → Type 0 where
+pub data Gives : Reading → Answer → Reading → Type 0 where
   -- an empty line or a comment
-  skipped : {p q : Reading} {r : Result (Option Command) ScriptFault} (text : List ℕ) (size : ℕ)
+  skipped : {p q : Reading} {r : Answer} (text : List ℕ) (size : ℕ)
       → IsLine p text size → is_skipped text ≡ true → Gives (behind p size) r q → Gives p r q
   -- a command
   command : {p : Reading} (c : Command) (text : List ℕ) (size : ℕ)
       → IsLine p text size → is_skipped text ≡ false → p.stage ≡ Commands → HasForm c text → c ≢ End
       → Gives p (Ok (Some c)) (behind p size)
   -- the line `end`: only skipped lines may follow
-  end_line : {p q : Reading} {r : Result (Option Command) ScriptFault} (text : List ℕ) (size : ℕ)
+  end_line : {p q : Reading} {r : Answer} (text : List ℕ) (size : ℕ)
       → IsLine p text size → is_skipped text ≡ false → p.stage ≡ Commands → HasForm End text
       → Gives (at_stage (behind p size) AfterEnd) r q → Gives p r q
   -- a line without a form, or one that follows `end`
@@ -99,7 +104,7 @@ pub data Gives : Reading → Result (Option Command) ScriptFault → Reading →
   read_fault : {p : Reading} → Gives p (Err ReadFault) (at_stage p Failed)
 
 -- nothing is given behind the end
-abbrev pub GivesNext : Stage → Reading → Result (Option Command) ScriptFault → Reading → Type 0
+abbrev pub GivesNext : Stage → Reading → Answer → Reading → Type 0
 GivesNext Commands p r q = Gives p r q
 GivesNext AfterEnd p r q = Gives p r q
 GivesNext Done p r q = (r ≡ Ok None) × (q ≡ p)
@@ -114,10 +119,16 @@ pub record TakesMore (old new : Reading) (left left' : Option (List ℕ)) : Type
   pub now : new ≡ with_taken old taken new.whole
 
 -- a call took some bytes, and gave what then comes first
-pub record Advances (old new : Reading) (left left' : Option (List ℕ)) (r : Result (Option Command) ScriptFault) : Type 0 where
+pub record Advances (old new : Reading) (left left' : Option (List ℕ)) (r : Answer) : Type 0 where
   pub known : Reading
   pub takes : TakesMore old known left left'
   pub gives : GivesNext old.stage known r new
+
+-- The end is given once and nothing after it, and a fault is the last answer.
+abbrev pub IsStageAfter : Stage → Answer → Stage → Type 0
+IsStageAfter old (Ok None) new = (old ≡ Done) × (new ≡ Done)
+IsStageAfter old (Ok (Some c)) new = (old ≢ Done) × (new ≢ Failed) × ((c ≡ End) ↔ (new ≡ Done))
+IsStageAfter old (Err f) new = (old ≢ Done) × (new ≡ Failed)
 
 -- lines are read
 abbrev pub IsOpen : Stage → Type 0
@@ -132,10 +143,10 @@ IsFilled p = (p.whole ≡ true) ⊎ (p.before + length p.rest ≡ 1048577)
 
 -- what follows from there on follows from here on
 abbrev pub GoesOn : Reading → Reading → Type 0
-GoesOn p q = (r : Result (Option Command) ScriptFault) (z : Reading) → Gives q r z → Gives p r z
+GoesOn p q = (r : Answer) (z : Reading) → Gives q r z → Gives p r z
 
 -- one line was read: it says nothing, and the reading goes on, or it gives a command or a fault
-abbrev pub ReadsLine : Reading → Result (Option Command) ScriptFault → Reading → Type 0
+abbrev pub ReadsLine : Reading → Answer → Reading → Type 0
 ReadsLine p (Ok None) q = GoesOn p q × IsOpen q.stage × IsFilled q × (length q.rest < length p.rest)
 ReadsLine p (Ok (Some c)) q = Gives p (Ok (Some c)) q
 ReadsLine p (Err f) q = Gives p (Err f) q

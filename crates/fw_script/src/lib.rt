@@ -13,6 +13,7 @@ mod form;
 mod hexadecimal;
 mod input;
 mod keyword;
+mod laws;
 mod line;
 mod reader;
 mod stage;
@@ -20,6 +21,7 @@ mod transaction_forms;
 mod words;
 
 pub use command::{Command, Name};
+pub use laws::{calls_give_the_script, scripts_say_one_thing};
 pub use reader::ScriptReader;
 use thiserror::Error;
 
@@ -43,3 +45,6 @@ pub enum ScriptFault {
     #[error("TooLong")]
     TooLong,
 }
+
+#[cfg(test)]
+mod tests;

@@ -3,7 +3,7 @@
 ghost use Rattle.std.specs.Prelude.{◌≡◌, ◌≢◌, ◌⊎◌, ◌≤◌, ◌<◌, ◌+◌, ℕ, [], List, length, take, true, false, IsTrue, ◌↔◌, IfOk, OnOk, OnErr, Ok, Err, None, MatchResult};
 ghost use Rattle.fw_outside.specs.Outside.{Rose, Takes, IsAtEnd};
 ghost use Rattle.fw_script.specs.Line.{IsFront};
-ghost use Rattle.fw_script.specs.Reading.{unread, with_taken, at_stage, refused, behind, Advances, IsOpen, IsFilled, ReadsLine, HoldsLine, IsAtEndOfInput, Gives, StandsNext, Fills};
+ghost use Rattle.fw_script.specs.Reading.{unread, with_taken, at_stage, refused, behind, Advances, IsStageAfter, IsOpen, IsFilled, ReadsLine, HoldsLine, IsAtEndOfInput, Gives, StandsNext, Fills};
 
 use crate::input::take_script;
 use crate::line::{Front, Meaning, SCRIPT_LIMIT, front_of, meaning_of};
@@ -257,6 +257,7 @@ impl ScriptReader {
     pub fn next<S: Source>(&mut self, source: &mut S) -> Result<Option<Command>, ScriptFault>
         requires { self.old.stage ≢ Stage.Failed }
         ensures gives { Advances self.old self.new (S.left source.old) (S.left source.new) result }
+        ensures stage { IsStageAfter self.old.stage result self.new.stage }
         ensures whole { self.old.whole ≡ true → source.new ≡ source.old }
         ensures later { S.faults source.old ≤ S.faults source.new }
         ensures cause { result ≡ Err ScriptFault.ReadFault → Rose (S.faults source.old) (S.faults source.new) }
