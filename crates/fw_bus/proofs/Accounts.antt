@@ -1,13 +1,12 @@
 -- What the entries of a half step do to the account.
-use Rattle.std.proofs.Common.{◌≡◌, ℕ, ◌+◌, ◌-◌, ◌*◌, ◌^◌, ◌<◌, ◌≤◌, Bool, true, false, List, [], ◌∷◌, ◌++◌, length, Option, Some, None, eqb, cond, refl, ap, sym, subst, ◌∙◌, arith, IsTrue, is_none, ◌&&◌, ◌⊎◌, inl, inr}
+use Rattle.std.proofs.Common.{◌≡◌, ℕ, ◌+◌, ◌-◌, ◌^◌, ◌<◌, ◌≤◌, Bool, true, false, List, [], ◌++◌, Option, Some, None, eqb, cond, refl, ap, sym, subst, ◌∙◌, arith, is_none, inl, inr}
 use Rattle.std.specs.Prelude.{⊤}
 use Rattle.std.specs.Int.{to_be_bytes, w32}
 use Rattle.std.proofs.lemmas.Bool.Decides.{nat_tests}
 use Rattle.std.proofs.lemmas.Nat.{from_be_bytes-to_be_bytes_4}
 use Rattle.fw_base.specs.declared.plug.PlugAt.{PlugAt}
 use Rattle.fw_words.specs.Quadlet.{quadlet_at}
-use Rattle.fw_plug.specs.Words.{flag, out_word}
-use Rattle.fw_log.specs.declared.entry.Entry.{Entry}
+use Rattle.fw_plug.specs.Words.{flag}
 use Rattle.fw_log.specs.declared.entry.Entry.TheVariants.{Async}
 use Rattle.fw_log.specs.declared.entry.ResetEntry.{ResetEntry}
 use Rattle.fw_cmp.specs.declared.request.Register.{Register}
@@ -15,12 +14,12 @@ use Rattle.fw_cmp.specs.declared.request.Register.TheVariants.{OutputPlug, Chann
 use Rattle.fw_cmp.specs.declared.request.Request.{Request}
 use Rattle.fw_cmp.specs.declared.request.Swap.{Swap}
 use Rattle.fw_cmp.specs.Stages.{IsHalf}
-use Rattle.fw_ledger.specs.Account.{Account, Reads, Locks, total, remainder, is_free, is_there, Request as OutstandingRequest}
+use Rattle.fw_ledger.specs.Account.{Account, Reads, Locks, is_free, is_there, Request as OutstandingRequest}
 use Rattle.fw_ledger.specs.Moves.{Move, after}
 use Rattle.fw_ledger.specs.Network.{device_of_id, is_output}
-use Rattle.fw_ledger.specs.Words.{Register as AccountRegister, register_of, output_addressed, fields_at, channel_word, bits_word}
+use Rattle.fw_ledger.specs.Words.{register_of}
 use Rattle.fw_ledger.specs.Decode.{move_at}
-use Rattle.fw_ledger.specs.Packets.{asked, ended, asked_by, answered, replied_to, replied, swapped, moved, is_swapped, Read, Locked}
+use Rattle.fw_ledger.specs.Packets.{asked, ended, asked_by, answered, replied_to, swapped, moved, is_swapped, Read, Locked}
 use Rattle.fw_ledger.specs.Fold.{next_account}
 use Rattle.fw_ledger.specs.Sound.{IsSound}
 use Rattle.fw_ledger.proofs.Words.{bits_below}

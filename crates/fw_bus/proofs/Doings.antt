@@ -8,10 +8,9 @@ use Rattle.fw_log.specs.declared.entry.Entry.{Entry}
 use Rattle.fw_log.specs.declared.entry.Timed.{Timed}
 use Rattle.fw_log.specs.Log.{entry_bytes}
 use Rattle.fw_bus.specs.declared.machine.Machine.{Machine}
-use Rattle.fw_bus.specs.Giving.{at_cycle, at_most, log_bytes, Gives}
+use Rattle.fw_bus.specs.Giving.{at_cycle, log_bytes, Gives}
 use Rattle.fw_bus.specs.State.{State}
-use Rattle.fw_bus.specs.Run.{Action, Step, Steps, times}
-use Rattle.fw_bus.specs.Good.{IsGood}
+use Rattle.fw_bus.specs.Run.{Action, Steps, times}
 use Rattle.fw_bus.specs.Stands.{IsReady, Turns, Does}
 use Rattle.fw_bus.proofs.Goods.{steps_good}
 

@@ -1,12 +1,12 @@
 -- Each state of a run is good, and its account is that of the entries.
-use Rattle.std.proofs.Common.{◌≡◌, ◌≢◌, ℕ, ◌+◌, ◌<◌, ◌≤◌, List, [], ◌∷◌, ◌++◌, Bool, true, false, Option, Some, None, cond, eqb, zero, suc, refl, ap, sym, subst, ◌∙◌, arith, ◌⊎◌, inl, inr, unwrap_or, IsTrue, is_some, ◌^◌}
-use Rattle.std.specs.Prelude.{slice_get, ⊤}
+use Rattle.std.proofs.Common.{◌≡◌, ◌≢◌, ℕ, ◌+◌, ◌<◌, ◌≤◌, List, [], ◌∷◌, Bool, true, false, Option, Some, None, cond, eqb, zero, suc, refl, ap, sym, subst, ◌∙◌, arith, ◌⊎◌, inl, inr, unwrap_or, is_some, ◌^◌}
+use Rattle.std.specs.Prelude.{slice_get}
 use Rattle.std.proofs.lemmas.Bool.Decides.{nat_tests}
 use Rattle.fw_base.specs.declared.plug.PlugAt.{PlugAt}
 use Rattle.fw_base.specs.declared.plug.ConnectionKind.{ConnectionKind}
 use Rattle.fw_base.specs.Tables.{update}
 use Rattle.fw_log.specs.declared.entry.Entry.{Entry}
-use Rattle.fw_log.specs.declared.entry.Entry.TheVariants.{Async, Outcome}
+use Rattle.fw_log.specs.declared.entry.Entry.TheVariants.{Async}
 use Rattle.fw_log.specs.declared.entry.ResetEntry.{ResetEntry}
 use Rattle.fw_log.specs.declared.entry.Timed.{Timed}
 use Rattle.fw_log.specs.declared.nodes.NodeRow.{NodeRow}
@@ -18,26 +18,23 @@ use Rattle.fw_cmp.specs.declared.request.Register.{Register}
 use Rattle.fw_cmp.specs.declared.request.Register.TheVariants.{OutputPlug, Channels, BandwidthAvailable}
 use Rattle.fw_cmp.specs.declared.request.Request.{Request}
 use Rattle.fw_cmp.specs.Stages.{request_of, register_of, swap_of, pending_of, is_over, hear, WordsFit}
-use Rattle.fw_ledger.specs.Account.{Account, has_pending, Request as OutstandingRequest}
+use Rattle.fw_ledger.specs.Account.{Account, has_pending}
 use Rattle.fw_ledger.specs.Moves.{HasNoPending}
-use Rattle.fw_ledger.specs.Network.{is_output, IsNetwork, speed_of}
+use Rattle.fw_ledger.specs.Network.{is_output, IsNetwork}
 use Rattle.fw_ledger.specs.Words.{output_addressed}
-use Rattle.fw_ledger.specs.Events.{after_reset}
 use Rattle.fw_ledger.specs.Packets.{asked, ended, addressed_after}
 use Rattle.fw_ledger.specs.Fold.{no_account, next_account}
-use Rattle.fw_ledger.specs.Sound.{IsSound}
 use Rattle.fw_ledger.proofs.Events.{reset_keeps}
 use Rattle.fw_ledger.proofs.Fold.{starts_sound}
 use Rattle.fw_ledger.proofs.Packets.{asked_keeps, ended_keeps}
 use Rattle.fw_ledger.proofs.Tests.{no_pending_found}
-use Rattle.fw_step.specs.InStep.{IsInStep, HoldsPending, answer, tried, connections_of, job_connections}
+use Rattle.fw_step.specs.InStep.{IsInStep, HoldsPending, answer, tried, connections_of}
 use Rattle.fw_step.specs.Moves.{try_of}
 use Rattle.fw_step.proofs.StageFits.{hear_words}
 use Rattle.fw_bus.specs.declared.controller.Controller.{Controller}
 use Rattle.fw_bus.specs.declared.controller.Controller.TheVariants.{Idle, Waiting, Asking, Hearing}
 use Rattle.fw_bus.specs.declared.machine.Expected.{Expected}
 use Rattle.fw_bus.specs.declared.machine.Expected.TheVariants.{DeviceLine, BroadcastLine, StepLine, EndLine, NoLine}
-use Rattle.fw_bus.specs.declared.registers.Registers.{Registers}
 use Rattle.fw_bus.specs.First.{own_plug, lone_deck, reset_entry, broadcast_job, first_registers}
 use Rattle.fw_bus.specs.Packets.{request_packet, request_record, response_packet, offset_of}
 use Rattle.fw_bus.specs.State.{State, first_state, entered, half_after_by, half_says_by, half_after, half_says, asks_after, hears_after, answered_with}
@@ -45,7 +42,7 @@ use Rattle.fw_bus.specs.Turning.{asked_or_ended}
 use Rattle.fw_bus.specs.Run.{Action, Declare, Begin, HalfStep, EndSteps, Finish, Step, Steps}
 use Rattle.fw_bus.specs.Good.{IsGood, IsAtRest, IsOwnJob, IsAtStage, InStep, HasNetwork, asked_of, outstanding_of}
 use Rattle.fw_bus.proofs.Accounts.{IsAsked, asked_next, word_below}
-use Rattle.fw_bus.proofs.Halves.{asks_own, hears, Hears, tried_alone}
+use Rattle.fw_bus.proofs.Halves.{asks_own, hears, tried_alone}
 
 -- what an entry, or none, makes of the account
 abbrev pub NextIs : Account → Option Entry → Account → Type 0

@@ -1,33 +1,26 @@
 -- A half step, for the account and for the registers.
-use Rattle.std.proofs.Common.{◌≡◌, ◌≢◌, ℕ, ◌+◌, ◌^◌, ◌<◌, Bool, true, false, Option, Some, None, eqb, cond, refl, ap, sym, subst, ◌∙◌, arith, ◌⊎◌, inl, inr, IsTrue, is_some}
-use Rattle.std.specs.Prelude.{⊤}
+use Rattle.std.proofs.Common.{◌≡◌, ℕ, ◌^◌, ◌<◌, Bool, true, false, Option, Some, None, eqb, cond, refl, ap, sym, subst, ◌∙◌, arith, inl, inr}
 use Rattle.std.proofs.lemmas.Bool.Decides.{nat_tests}
 use Rattle.fw_base.specs.declared.plug.PlugAt.{PlugAt}
 use Rattle.fw_base.specs.declared.plug.ConnectionKind.{ConnectionKind}
-use Rattle.fw_log.specs.declared.entry.Entry.{Entry}
 use Rattle.fw_log.specs.declared.entry.Entry.TheVariants.{Async}
-use Rattle.fw_log.specs.declared.entry.ResetEntry.{ResetEntry}
 use Rattle.fw_cmp.specs.declared.job.Job.{Job}
 use Rattle.fw_cmp.specs.declared.stage.Stage.{Stage}
 use Rattle.fw_cmp.specs.declared.stage.Stage.TheVariants.{ReadOutput, ReadChannels, SwapChannels, ReadBandwidth, SwapBandwidth, ConnectOutput, OverlayOutput, OutputConnected, ReadOutputToLeave, LeaveOutput, ReadBandwidthToRelease, RaiseBandwidth, ReadChannelsToRelease, RestoreChannel, Ended}
 use Rattle.fw_cmp.specs.declared.request.Register.{Register}
 use Rattle.fw_cmp.specs.declared.request.Register.TheVariants.{OutputPlug, Channels, BandwidthAvailable}
-use Rattle.fw_cmp.specs.declared.request.Request.{Request}
-use Rattle.fw_cmp.specs.declared.request.Swap.{Swap}
 use Rattle.fw_cmp.specs.Stages.{register_of, swap_of, hear, WordsFit}
-use Rattle.fw_plug.specs.Words.{out_word}
 use Rattle.fw_ledger.specs.Account.{Account}
 use Rattle.fw_ledger.specs.Moves.{Move, AllocateChannel, AllocateUnits, ConnectFirst, ConnectOverlaid, ConnectInput, DisconnectInput, DisconnectOutput, ReleaseUnits, ReleaseChannel, Can, after}
 use Rattle.fw_ledger.specs.Network.{is_output}
-use Rattle.fw_ledger.specs.Words.{fields_at}
 use Rattle.fw_ledger.specs.Decode.{move_at}
-use Rattle.fw_ledger.specs.Packets.{asked, ended}
+use Rattle.fw_ledger.specs.Packets.{ended}
 use Rattle.fw_ledger.specs.Fold.{next_account}
 use Rattle.fw_ledger.specs.Sound.{IsSound}
 use Rattle.fw_ledger.proofs.Moves.{moves_keep}
 use Rattle.fw_ledger.proofs.Decoded.{move_found}
 use Rattle.fw_step.specs.Moves.{Try, try_of, swap_in, account_register}
-use Rattle.fw_step.specs.InStep.{IsInStep, IsJob, HalfStep, IsMove, SameElsewhere, moves_at, answer, tried, word_at}
+use Rattle.fw_step.specs.InStep.{IsInStep, IsJob, HalfStep, IsMove, SameElsewhere, answer, tried, word_at}
 use Rattle.fw_step.proofs.Decisions.{half_is}
 use Rattle.fw_step.proofs.Elsewhere.{move_elsewhere}
 use Rattle.fw_step.proofs.HalfSteps.{half_step}

@@ -1,6 +1,5 @@
 -- Which line a command has to be.
-use Rattle.std.proofs.Common.{◌≡◌, ℕ, ◌<◌, List, refl, subst}
-use Rattle.fw_bus.specs.declared.command.Command.{Command}
+use Rattle.std.proofs.Common.{◌≡◌, ℕ, ◌<◌, List, refl}
 use Rattle.fw_bus.specs.declared.command.Command.TheVariants.{Device, Broadcast, Step, End}
 use Rattle.fw_bus.specs.declared.machine.Expected.{Expected}
 use Rattle.fw_bus.specs.declared.machine.Expected.TheVariants.{DeviceLine, BroadcastLine, StepLine, EndLine, NoLine}

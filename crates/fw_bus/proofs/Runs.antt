@@ -1,18 +1,18 @@
 -- Laws of whole runs.
-use Rattle.std.proofs.Common.{◌≡◌, ℕ, Bool, List, [], ◌∷◌, ◌++◌, Option, Some, None, refl, ap, sym, subst, ◌∙◌, append_assoc, append-nil}
+use Rattle.std.proofs.Common.{◌≡◌, ℕ, Bool, List, [], ◌∷◌, ◌++◌, Option, refl, ap, sym, subst, ◌∙◌, append_assoc, append-nil}
 use Rattle.std.specs.Prelude.{Ok, Err, IsTrue, IsFalse}
 use Rattle.fw_log.specs.declared.entry.Timed.{Timed}
 use Rattle.fw_bus.specs.declared.command.Command.{Command}
 use Rattle.fw_bus.specs.declared.machine.Machine.{Machine}
 use Rattle.fw_bus.specs.First.{first_machine, first_registers}
 use Rattle.fw_bus.specs.State.{State, first_state}
-use Rattle.fw_bus.specs.Run.{Action, Step, Steps, Run, begun, and_then, actions_of, IsNext}
+use Rattle.fw_bus.specs.Run.{Steps, Run, begun, and_then, actions_of, IsNext}
 use Rattle.fw_bus.specs.Good.{IsGood}
 use Rattle.fw_bus.specs.Stands.{StandsFor, HasWords, IsReady, Does}
 use Rattle.fw_base.specs.Tables.{sum_to}
 use Rattle.fw_ledger.specs.Fold.{no_account}
-use Rattle.fw_bus.specs.Buses.{Standing, IsReached, Goes, Stops}
-use Rattle.fw_bus.specs.Headline.{IsSoundThroughout, all_actions}
+use Rattle.fw_bus.specs.Buses.{IsReached, Goes, Stops}
+use Rattle.fw_bus.specs.Headline.{all_actions}
 use Rattle.fw_bus.proofs.Doings.{steps_then}
 use Rattle.fw_bus.proofs.Goods.{steps_good, first_good}
 use Rattle.fw_bus.proofs.Sounds.{sound_throughout}

@@ -1,14 +1,12 @@
 -- The account of the entries is defined, sound and in step in each state of a run, and each answer is the account's word.
-use Rattle.std.proofs.Common.{◌≡◌, ◌≢◌, ℕ, ◌^◌, ◌<◌, Bool, true, false, List, [], ◌∷◌, ◌++◌, Option, Some, None, cond, eqb, refl, ap, sym, subst, ◌∙◌, arith, append_assoc, append-nil, map, ◌⊎◌, inl, inr}
-use Rattle.std.specs.Prelude.{⊤}
+use Rattle.std.proofs.Common.{◌≡◌, ◌≢◌, ℕ, ◌^◌, ◌<◌, Bool, true, false, List, [], ◌∷◌, ◌++◌, Option, Some, None, cond, eqb, refl, ap, sym, subst, ◌∙◌, arith, ◌⊎◌, inl, inr}
 use Rattle.std.specs.Int.{to_be_bytes, w32}
 use Rattle.std.proofs.lemmas.Bool.Decides.{nat_tests}
 use Rattle.std.proofs.lemmas.Bool.{cases_eq}
 use Rattle.fw_base.specs.declared.plug.PlugAt.{PlugAt}
 use Rattle.fw_words.specs.Quadlet.{quadlet_at}
 use Rattle.fw_log.specs.declared.entry.Entry.{Entry}
-use Rattle.fw_log.specs.declared.entry.Entry.TheVariants.{Async, Outcome, End as EndEntry}
-use Rattle.fw_log.specs.declared.entry.ResetEntry.{ResetEntry}
+use Rattle.fw_log.specs.declared.entry.Entry.TheVariants.{Async, End as EndEntry}
 use Rattle.fw_log.specs.declared.entry.Timed.{Timed}
 use Rattle.fw_cmp.specs.declared.job.Job.{Job}
 use Rattle.fw_cmp.specs.declared.stage.Stage.{Stage}
@@ -16,15 +14,14 @@ use Rattle.fw_cmp.specs.declared.stage.Stage.TheVariants.{ReadOutput}
 use Rattle.fw_cmp.specs.declared.request.Request.{Request}
 use Rattle.fw_cmp.specs.declared.request.Swap.{Swap}
 use Rattle.fw_cmp.specs.Stages.{request_of, register_of, swap_of, is_over}
-use Rattle.fw_ledger.specs.Account.{Account, Allocation, Holder, Pending, Connected, Orphaned, is_pending, is_pending_of, Request as OutstandingRequest}
+use Rattle.fw_ledger.specs.Account.{Account, Allocation, Holder, Pending, Connected, Orphaned, is_pending, is_pending_of}
 use Rattle.fw_ledger.specs.Moves.{HasNoPending}
 use Rattle.fw_ledger.specs.Listing.{IsAllocatedForFlows}
 use Rattle.fw_ledger.proofs.Listing.{flows_alone}
 use Rattle.fw_ledger.specs.Network.{device_of_id}
-use Rattle.fw_ledger.specs.Words.{Register as AccountRegister, register_of as account_register_of, word_of}
-use Rattle.fw_ledger.specs.Fold.{account_from, account_of, next_account, no_account}
+use Rattle.fw_ledger.specs.Words.{register_of as account_register_of, word_of}
+use Rattle.fw_ledger.specs.Fold.{account_from, next_account, no_account}
 use Rattle.fw_ledger.specs.Sound.{IsSound}
-use Rattle.fw_ledger.proofs.Fold.{account_from-append}
 use Rattle.fw_ledger.proofs.Shared.{is_conflict_free}
 use Rattle.fw_step.specs.InStep.{answer, word_at}
 use Rattle.fw_step.specs.Moves.{account_register}
@@ -33,12 +30,12 @@ use Rattle.fw_bus.specs.declared.controller.Controller.{Controller}
 use Rattle.fw_bus.specs.declared.controller.Controller.TheVariants.{Idle, Waiting, Asking, Hearing}
 use Rattle.fw_bus.specs.First.{own_plug, lone_deck, reset_entry}
 use Rattle.fw_bus.specs.Giving.{at_most, at_cycle}
-use Rattle.fw_bus.specs.Packets.{request_by, request_record, response_by, response_packet, offset_of, swap_bytes}
+use Rattle.fw_bus.specs.Packets.{request_by, request_record, response_by, response_packet, offset_of}
 use Rattle.fw_bus.specs.Turning.{asked_or_ended}
-use Rattle.fw_bus.specs.State.{State, first_state, half_says, half_after, half_says_by, answered_with}
+use Rattle.fw_bus.specs.State.{State, first_state, half_says, half_says_by, answered_with}
 use Rattle.fw_bus.specs.Run.{Action, Declare, Begin, HalfStep, EndSteps, Finish, Step, Steps}
 use Rattle.fw_bus.specs.Good.{IsGood, IsAtRest, IsAtStage, InStep, asked_of, outstanding_of}
-use Rattle.fw_bus.specs.Headline.{entries_of, IsSettled, IsSoundAt, IsSoundThroughout, IsAnswered, IsShownWord, shown_in}
+use Rattle.fw_bus.specs.Headline.{entries_of, IsSettled, IsSoundAt, IsSoundThroughout, IsAnswered, IsShownWord}
 use Rattle.fw_bus.proofs.Accounts.{own_register, quadlet_first, word_below}
 use Rattle.fw_bus.proofs.Halves.{asks_own}
 use Rattle.fw_bus.proofs.Goods.{NextIs, half_leads, declare_leads, network_is, not_idle, step_good, steps_good, first_good}

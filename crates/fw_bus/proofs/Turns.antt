@@ -1,5 +1,5 @@
 -- One turn of the machine is one action of the run.
-use Rattle.std.proofs.Common.{◌≡◌, ℕ, ◌<◌, List, [], ◌∷◌, Bool, true, false, Option, Some, None, cond, refl, ap, sym, subst, ◌∙◌, arith}
+use Rattle.std.proofs.Common.{◌≡◌, ℕ, ◌<◌, List, [], ◌∷◌, Bool, true, false, Option, Some, None, cond, refl, ap, sym, subst, ◌∙◌}
 use Rattle.fw_log.specs.declared.entry.Entry.{Entry}
 use Rattle.fw_log.specs.declared.entry.Entry.TheVariants.{End as EndEntry}
 use Rattle.fw_cmp.specs.declared.job.Job.{Job}

@@ -1,5 +1,5 @@
 -- What a bus of one deck begins with.
-use Rattle.std.specs.Prelude.{ℕ, List, [], ◌∷◌, Some, None, true, false, codes}
+use Rattle.std.specs.Prelude.{ℕ, [], ◌∷◌, Some, true, false}
 use Rattle.fw_base.specs.declared.plug.PlugAt.{PlugAt}
 use Rattle.fw_base.specs.declared.plug.ConnectionKind.TheVariants.{Broadcast}
 use Rattle.fw_cmp.specs.declared.job.Job.{Job}

@@ -1,5 +1,5 @@
 -- What the code does in one half step, by its own fields.
-use Rattle.std.specs.Prelude.{ℕ, ◌^◌, ◌<◌, Option, Some, None, ⊤}
+use Rattle.std.specs.Prelude.{ℕ, Option, Some, None, ⊤}
 use Rattle.fw_log.specs.declared.entry.Entry.{Entry}
 use Rattle.fw_log.specs.declared.entry.Entry.TheVariants.{Async, Outcome}
 use Rattle.fw_cmp.specs.declared.job.Job.{Job}

@@ -1,5 +1,5 @@
-ghost use Rattle.std.specs.Prelude.{◌≡◌, ◌++◌, [], ◌∷◌};
-ghost use Rattle.fw_bus.specs.Run.{HalfStep, EndSteps, times, actions_of, IsNext};
+ghost use Rattle.std.specs.Prelude.{◌≡◌, [], ◌∷◌};
+ghost use Rattle.fw_bus.specs.Run.{HalfStep, times, actions_of, IsNext};
 ghost use Rattle.fw_bus.specs.Stands.{Does, IsReady};
 ghost use Rattle.fw_bus.specs.Turning.{ControllerFits};
 

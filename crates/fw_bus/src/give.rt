@@ -1,4 +1,4 @@
-ghost use Rattle.std.specs.Prelude.{◌<◌, ◌^◌, IfSome};
+ghost use Rattle.std.specs.Prelude.{◌<◌, IfSome};
 ghost use Rattle.fw_outside.specs.Outside.{HasCause};
 ghost use Rattle.fw_log.specs.Log.{Fits};
 ghost use Rattle.fw_bus.specs.Giving.{Gives};

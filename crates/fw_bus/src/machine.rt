@@ -1,4 +1,4 @@
-ghost use Rattle.std.specs.Prelude.{◌≡◌, ◌<◌, ◌^◌, IfSome};
+ghost use Rattle.std.specs.Prelude.{◌≡◌, ◌<◌, IfSome};
 ghost use Rattle.fw_log.specs.Log.{Fits, OutcomeFits};
 ghost use Rattle.fw_bus.specs.Outcomes.{outcome_entry, coded};
 

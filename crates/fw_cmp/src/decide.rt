@@ -1,6 +1,6 @@
-ghost use Rattle.std.specs.Prelude.{◌≡◌, ◌≤◌, ◌<◌, IfSome, IsFalse, IsTrue};
+ghost use Rattle.std.specs.Prelude.{◌≡◌, ◌<◌, IfSome, IsFalse, IsTrue};
 ghost use Rattle.fw_base.specs.Tables.{find_to};
-ghost use Rattle.fw_plug.specs.Words.{Settings, units_of, out_fields};
+ghost use Rattle.fw_plug.specs.Words.{units_of, out_fields};
 ghost use Rattle.fw_cmp.specs.Stages.{is_bit, is_connected, is_full, half_of, is_other, decide_free, decide_connected, decide_out, decide_channel, decide_units, AskedFits, JobFits, StageFits, HeldFits, IsHalf, IsUnconnected};
 
 use crate::release::give_back;

@@ -1,4 +1,4 @@
-ghost use Rattle.std.specs.Prelude.{◌≡◌, ◌<◌, ◌≤◌};
+ghost use Rattle.std.specs.Prelude.{◌≡◌, ◌<◌};
 ghost use Rattle.fw_plug.specs.Words.{out_fields};
 ghost use Rattle.fw_cmp.specs.Stages.{give_back, is_connected, one_less, after_leave, decide_leave, decide_raise, shows_connection, StageFits, HeldFits};
 ghost use Rattle.fw_cmp.specs.declared.job.Job.{Job};

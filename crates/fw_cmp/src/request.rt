@@ -1,6 +1,6 @@
-ghost use Rattle.std.specs.Prelude.{◌≡◌, ◌<◌, ◌-◌, ◌^◌, IfSome, IsFalse, IsTrue};
+ghost use Rattle.std.specs.Prelude.{◌≡◌, ◌<◌, ◌-◌, ◌^◌, IsFalse, IsTrue};
 ghost use Rattle.fw_plug.specs.Words.{out_fields, out_word};
-ghost use Rattle.fw_cmp.specs.Stages.{asks_register, swap_of, request_of, half_of, is_bit, with_bit, without_bit, first_word, one_more, one_less, is_full, shows_connection, JobFits, StageFits, IsUnconnected};
+ghost use Rattle.fw_cmp.specs.Stages.{asks_register, swap_of, request_of, half_of, with_bit, without_bit, first_word, one_more, one_less, is_full, shows_connection, JobFits, StageFits, IsUnconnected};
 
 use crate::decide::half_of;
 use crate::{Job, Stage};

@@ -8,12 +8,12 @@ use Rattle.fw_cmp.specs.declared.stage.Stage.{Stage}
 use Rattle.fw_cmp.specs.declared.stage.Stage.TheVariants.{ReadOutput, ReadChannels, SwapChannels, ReadBandwidth, SwapBandwidth, ConnectOutput, OverlayOutput, OutputConnected, ReadOutputToLeave, LeaveOutput, ReadBandwidthToRelease, RaiseBandwidth, ReadChannelsToRelease, RestoreChannel, Ended}
 use Rattle.fw_base.specs.declared.plug.PlugAt.{PlugAt}
 use Rattle.fw_base.specs.declared.plug.ConnectionKind.{ConnectionKind}
-use Rattle.std.proofs.Common.{◌≡◌, ℕ, ◌+◌, ◌-◌, ◌^◌, ◌<◌, ◌≤◌, Bool, true, false, Option, Some, None, IfSome, eqb, leb, cond, refl, subst, sym, arith, ◌⊎◌, inl, inr, IsTrue, ◌&&◌}
+use Rattle.std.proofs.Common.{◌≡◌, ℕ, ◌+◌, ◌-◌, ◌^◌, ◌<◌, Bool, true, false, Option, Some, None, IfSome, eqb, leb, cond, refl, arith, ◌&&◌}
 use Rattle.std.proofs.lemmas.Bool.Decides.{nat_tests}
 use Rattle.fw_base.specs.Tables.{find_to}
 use Rattle.fw_plug.specs.Words.{OutFields, out_fields, units_of}
 use Rattle.fw_ledger.specs.Account.{Account}
-use Rattle.fw_cmp.specs.Stages.{hear, give_back, decide_out, decide_connected, decide_free, decide_any, decide_channel, decide_units, decide_raise, decide_leave, after_leave, needs, is_bit, is_full, is_connected, is_other, shows_connection, one_less, first_half, half_of, AskedFits, JobFits, StageFits, WordsFit, IsHalf}
+use Rattle.fw_cmp.specs.Stages.{hear, give_back, decide_out, decide_connected, decide_free, decide_any, decide_channel, decide_units, decide_raise, decide_leave, after_leave, needs, is_bit, is_full, is_connected, is_other, shows_connection, one_less, half_of, AskedFits, JobFits, StageFits, WordsFit}
 use Rattle.fw_step.specs.InStep.{IsInStep, IsJob}
 use Rattle.fw_step.proofs.Steps.{asked_is}
 

@@ -5,7 +5,7 @@ use Rattle.fw_cmp.specs.declared.stage.Stage.TheVariants.{ReadOutput, ReadChanne
 use Rattle.fw_cmp.specs.declared.request.Register.{Register}
 use Rattle.fw_cmp.specs.declared.request.Register.TheVariants.{OutputPlug, Channels, BandwidthAvailable}
 use Rattle.fw_base.specs.declared.plug.PlugAt.{PlugAt}
-use Rattle.std.proofs.Common.{◌≡◌, ℕ, ◌^◌, ◌<◌, Option, Some, None, refl}
+use Rattle.std.proofs.Common.{◌≡◌, ◌^◌, ◌<◌, Option, Some, None, refl}
 use Rattle.std.specs.Prelude.{⊤}
 use Rattle.fw_ledger.specs.Account.{Account}
 use Rattle.fw_ledger.specs.Words.{word_of}

@@ -1,5 +1,5 @@
 -- What was logged, by the ending.
-use Rattle.std.proofs.Common.{◌≡◌, ℕ, List, [], ◌++◌, Option, Some, None, Ok, Err, Result, refl, ap, sym, ◌∙◌, subst, append_assoc, append-nil}
+use Rattle.std.proofs.Common.{ℕ, List, [], ◌++◌, Option, Some, None, refl, sym, append-nil}
 use Rattle.fw_outside.specs.Outside.{Takes, Grows, IsAtEnd, AppendsFront}
 use Rattle.fw_outside.proofs.Parts.{Grows-nothing, Grows-Grows, front_then, then_front}
 use Rattle.fw_log.specs.Log.{header_bytes}

@@ -1,7 +1,6 @@
 -- What is read of a script, line by line, and the line that comes next in a run.
 use Rattle.std.proofs.Common.{◌≡◌, ℕ, zero, suc, ◌+◌, ◌<◌, List, [], ◌∷◌, ◌++◌, length, Some, None, Ok, Err, Option, refl, sym, ap, ◌∙◌, arith}
 use Rattle.fw_log.specs.declared.entry.Timed.{Timed}
-use Rattle.fw_base.specs.declared.plug.PlugAt.{PlugAt}
 use Rattle.fw_cmp.specs.declared.job.Job.{Job}
 use Rattle.fw_cmp.specs.declared.stage.Stage.{Stage}
 use Rattle.fw_cmp.specs.declared.stage.Stage.TheVariants.{ReadOutput}

@@ -1,4 +1,4 @@
-ghost use Rattle.std.specs.Prelude.{◌≡◌, ◌≤◌, IfOk, IfSome, IsFalse};
+ghost use Rattle.std.specs.Prelude.{◌≤◌, IfOk, IfSome, IsFalse};
 ghost use Rattle.fw_outside.specs.Outside.{HasCause};
 ghost use Rattle.fw_bus.specs.State.{first_state};
 ghost use Rattle.fw_bus.specs.Stands.{StandsFor};

@@ -1,6 +1,5 @@
 ghost use Rattle.std.specs.Prelude.{◌≡◌, ◌+◌, ◌<◌, ◌≤◌, ◌++◌, length};
 ghost use Rattle.arrayvec.specs.ArrayVec.{array_vec_len};
-ghost use Rattle.fw_outside.specs.Outside.{HasCause, Writes};
 ghost use Rattle.fw_tool.specs.Notes.{status_of, note_of, IsShort, IsTold};
 
 use crate::ending::Ending;

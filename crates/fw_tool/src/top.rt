@@ -1,8 +1,7 @@
-ghost use Rattle.std.specs.Prelude.{◌≡◌, ◌⊎◌, ◌≤◌, List, ℕ, Some, None, IsTrue, ◌↔◌};
-ghost use Rattle.std.specs.declared.option.Option.{Option};
-ghost use Rattle.fw_outside.specs.Outside.{Rose, Takes, Grows, AppendsFront, IsAtEnd};
-ghost use Rattle.fw_tool.specs.Ending.{Runs, Logged, PartLogged};
-ghost use Rattle.fw_tool.specs.Notes.{IsTold, note_of};
+ghost use Rattle.std.specs.Prelude.{◌≡◌, ◌⊎◌, List, ℕ, Some, None, IsTrue, ◌↔◌};
+ghost use Rattle.fw_outside.specs.Outside.{Rose, Grows};
+ghost use Rattle.fw_tool.specs.Ending.{Logged, PartLogged};
+ghost use Rattle.fw_tool.specs.Notes.{note_of};
 ghost use Rattle.fw_tool.specs.Scripts.{script_in};
 ghost use Rattle.fw_tool.specs.Words.{IsRun};
 ghost use Rattle.fw_tool.specs.declared.Refused.{Refused as RefusedLine};

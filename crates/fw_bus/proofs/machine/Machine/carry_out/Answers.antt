@@ -1,4 +1,4 @@
-use Rattle.std.proofs.Common.{◌≡◌, ◌∙◌, subst, refl, sym}
+use Rattle.std.proofs.Common.{◌∙◌, subst, refl}
 use Rattle.std.specs.Prelude.{Ok, Err, [], ◌∷◌}
 use Rattle.fw_bus.specs.Run.{IsNext, EndSteps}
 use Rattle.fw_bus.proofs.Nexts.{next_device, next_broadcast, next_step, next_end}

@@ -1,5 +1,5 @@
 use Rattle.std.proofs.Common.{refl, ◌∙◌, rules}
-use Rattle.std.specs.Prelude.{Ok, Err}
+use Rattle.std.specs.Prelude.{Err}
 use Rattle.fw_bus.specs.Run.{HalfStep}
 use Rattle.fw_bus.proofs.Doings.{times_none, times_then, times_cut, times_all, ready_after}
 use Rattle.fw_bus.proofs.Turns.{ready_fits}

@@ -1,0 +1,160 @@
+-- What lines give is one only, and stays so where more bytes are known.
+use Rattle.std.proofs.Common.{◌≡◌, ◌≢◌, ◌⊎◌, inl, inr, ℕ, [], ◌∷◌, ◌++◌, ◌+◌, ◌<◌, ◌≤◌, List, length, drop, true, false, Bool, Option, Some, None, Result, Ok, Err, arith, refl, ap, sym, ◌∙◌, subst}
+use Rattle.fw_script.specs.Line.{is_skipped}
+use Rattle.fw_script.specs.Form.{HasForm}
+use Rattle.fw_script.specs.Reading.{Reading, Answer, Gives, IsLine, IsAtEndOfInput, IsLongLine, PassesLimit, behind, at_stage, refused, with_taken}
+use Rattle.fw_script.specs.Reading.Gives.{skipped, command, end_line, bad_line, long_line, too_long, end_of_input, no_end, read_fault}
+use Rattle.fw_script.specs.declared.command.Command.{Command}
+use Rattle.fw_script.specs.declared.command.Command.TheVariants.{End}
+use Rattle.fw_script.specs.declared.ScriptFault.{ScriptFault}
+use Rattle.fw_script.specs.declared.ScriptFault.TheVariants.{BadLine, LineTooLong, NoEnd, ReadFault, TooLong}
+use Rattle.fw_script.specs.declared.stage.Stage.{Stage}
+use Rattle.fw_script.specs.declared.stage.Stage.TheVariants.{Commands, AfterEnd, Done, Failed}
+use Rattle.fw_script.proofs.FormLaws.{one_form}
+use Rattle.fw_script.proofs.LineLaws.{line_once, line_not_long, line_not_limit, line_not_end, long_not_limit, long_not_end, limit_not_end, line_more, long_more, limit_more, end_more, behind_more}
+use Rattle.fw_script.proofs.ReadingLaws.{gives_at}
+
+-- why a line is refused
+abbrev Refuses : Stage → List ℕ → Type 0
+Refuses stage t = (stage ≡ AfterEnd) ⊎ ((c : Command) → HasForm c t → ⊥)
+
+-- what a line leads to
+data Leads (p : Reading) (t : List ℕ) (n : ℕ) : Answer → Reading → Type 0 where
+  on : {r : Answer} {q : Reading} → is_skipped t ≡ true → Gives (behind p n) r q → Leads p t n r q
+  said : (c : Command) → is_skipped t ≡ false → p.stage ≡ Commands → HasForm c t → c ≢ End → Leads p t n (Ok (Some c)) (behind p n)
+  ended : {r : Answer} {q : Reading} → is_skipped t ≡ false → p.stage ≡ Commands → HasForm End t → Gives (at_stage (behind p n) AfterEnd) r q → Leads p t n r q
+  bad : is_skipped t ≡ false → Refuses p.stage t → Leads p t n (Err BadLine) (at_stage (behind p n) Failed)
+
+leads_along : (p : Reading) (t u : List ℕ) (m n : ℕ) (r : Answer) (q : Reading) → IsLine p t m → IsLine p u n → Leads p u n r q → Leads p t m r q
+leads_along p t u m n r q a b h =
+    let e = line_once p u t n m b a in
+    subst (λ (k : ℕ). Leads p t k r q) e.1 (subst (λ (l : List ℕ). Leads p l n r q) e.0 h)
+
+at_line : (p : Reading) (t : List ℕ) (n : ℕ) → IsLine p t n → {r : Answer} {q : Reading} → r ≢ Err ReadFault → Gives p r q → Leads p t n r q
+at_line p t n a {r = r} {q = q} told (skipped u m b s g) = leads_along p t u n m r q a b (on s g)
+at_line p t n a told (command c u m b s i f k) = leads_along p t u n m (Ok (Some c)) (behind p m) a b (said c s i f k)
+at_line p t n a {r = r} {q = q} told (end_line u m b s i f g) = leads_along p t u n m r q a b (ended s i f g)
+at_line p t n a told (bad_line u m b s w) = leads_along p t u n m (Err BadLine) (at_stage (behind p m) Failed) a b (bad s w)
+at_line p t n a told (long_line b) = absurd (line_not_long p t n a b)
+at_line p t n a told (too_long b) = absurd (line_not_limit p t n a b)
+at_line p t n a told (end_of_input b s) = absurd (line_not_end p t n a b)
+at_line p t n a told (no_end b s) = absurd (line_not_end p t n a b)
+at_line p t n a told read_fault = absurd (told refl)
+
+at_long : (p : Reading) → IsLongLine p → {r : Answer} {q : Reading} → r ≢ Err ReadFault → Gives p r q → (Err LineTooLong ≡ r) × (refused p ≡ q)
+at_long p a told (skipped u m b s g) = absurd (line_not_long p u m b a)
+at_long p a told (command c u m b s i f k) = absurd (line_not_long p u m b a)
+at_long p a told (end_line u m b s i f g) = absurd (line_not_long p u m b a)
+at_long p a told (bad_line u m b s w) = absurd (line_not_long p u m b a)
+at_long p a told (long_line b) = (refl, refl)
+at_long p a told (too_long b) = absurd (long_not_limit p a b)
+at_long p a told (end_of_input b s) = absurd (long_not_end p a b)
+at_long p a told (no_end b s) = absurd (long_not_end p a b)
+at_long p a told read_fault = absurd (told refl)
+
+at_limit : (p : Reading) → PassesLimit p → {r : Answer} {q : Reading} → r ≢ Err ReadFault → Gives p r q → (Err TooLong ≡ r) × (at_stage p Failed ≡ q)
+at_limit p a told (skipped u m b s g) = absurd (line_not_limit p u m b a)
+at_limit p a told (command c u m b s i f k) = absurd (line_not_limit p u m b a)
+at_limit p a told (end_line u m b s i f g) = absurd (line_not_limit p u m b a)
+at_limit p a told (bad_line u m b s w) = absurd (line_not_limit p u m b a)
+at_limit p a told (long_line b) = absurd (long_not_limit p b a)
+at_limit p a told (too_long b) = (refl, refl)
+at_limit p a told (end_of_input b s) = absurd (limit_not_end p a b)
+at_limit p a told (no_end b s) = absurd (limit_not_end p a b)
+at_limit p a told read_fault = absurd (told refl)
+
+-- what the input's end leads to
+data EndLeads (p : Reading) : Answer → Reading → Type 0 where
+  gives_end : p.stage ≡ AfterEnd → EndLeads p (Ok (Some End)) (at_stage p Done)
+  lacks_end : p.stage ≡ Commands → EndLeads p (Err NoEnd) (refused p)
+
+at_end : (p : Reading) → IsAtEndOfInput p → {r : Answer} {q : Reading} → r ≢ Err ReadFault → Gives p r q → EndLeads p r q
+at_end p a told (skipped u m b s g) = absurd (line_not_end p u m b a)
+at_end p a told (command c u m b s i f k) = absurd (line_not_end p u m b a)
+at_end p a told (end_line u m b s i f g) = absurd (line_not_end p u m b a)
+at_end p a told (bad_line u m b s w) = absurd (line_not_end p u m b a)
+at_end p a told (long_line b) = absurd (long_not_end p b a)
+at_end p a told (too_long b) = absurd (limit_not_end p b a)
+at_end p a told (end_of_input b s) = gives_end s
+at_end p a told (no_end b s) = lacks_end s
+at_end p a told read_fault = absurd (told refl)
+
+-- both are one
+abbrev pub Same : Answer → Reading → Answer → Reading → Type 0
+Same r q s z = (r ≡ s) × (q ≡ z)
+
+after_skipped : {p : Reading} {t : List ℕ} {n : ℕ} {s : Answer} {z : Reading} (r : Answer) (q : Reading) → is_skipped t ≡ true → (Gives (behind p n) s z → Same r q s z) → Leads p t n s z → Same r q s z
+after_skipped r q k f (on h g) = f g
+after_skipped r q k f (said c h i j l) = absurd cc
+after_skipped r q k f (ended h i j g) = absurd cc
+after_skipped r q k f (bad h w) = absurd cc
+
+not_refused : (p : Reading) (t : List ℕ) (c : Command) {A : Type 0} → p.stage ≡ Commands → HasForm c t → Refuses p.stage t → A
+not_refused p t c i f (inl e) = absurd cc
+not_refused p t c i f (inr h) = absurd (h c f)
+
+after_command : {p : Reading} {t : List ℕ} {n : ℕ} {s : Answer} {z : Reading} (c : Command) → is_skipped t ≡ false → p.stage ≡ Commands → HasForm c t → c ≢ End → Leads p t n s z → Same (Ok (Some c)) (behind p n) s z
+after_command c k i f o (on h g) = absurd cc
+after_command {t = t} c k i f o (said d h j e l) = (ap (λ (a : Command). Ok (Some a)) (one_form c d t f e), refl)
+after_command {t = t} c k i f o (ended h j e g) = absurd (o (one_form c End t f e))
+after_command {p = p} {t = t} c k i f o (bad h w) = not_refused p t c i f w
+
+after_end_line : {p : Reading} {t : List ℕ} {n : ℕ} {s : Answer} {z : Reading} (r : Answer) (q : Reading) → is_skipped t ≡ false → p.stage ≡ Commands → HasForm End t → (Gives (at_stage (behind p n) AfterEnd) s z → Same r q s z) → Leads p t n s z → Same r q s z
+after_end_line r q k i f go (on h g) = absurd cc
+after_end_line {t = t} r q k i f go (said d h j e l) = absurd (l (one_form d End t e f))
+after_end_line r q k i f go (ended h j e g) = go g
+after_end_line {p = p} {t = t} r q k i f go (bad h w) = not_refused p t End i f w
+
+after_bad_line : {p : Reading} {t : List ℕ} {n : ℕ} {s : Answer} {z : Reading} → is_skipped t ≡ false → Refuses p.stage t → Leads p t n s z → Same (Err BadLine) (at_stage (behind p n) Failed) s z
+after_bad_line k w (on h g) = absurd cc
+after_bad_line {p = p} {t = t} k w (said d h j e l) = not_refused p t d j e w
+after_bad_line {p = p} {t = t} k w (ended h j e g) = not_refused p t End j e w
+after_bad_line k w (bad h v) = (refl, refl)
+
+after_input : {p : Reading} {s : Answer} {z : Reading} → p.stage ≡ AfterEnd → EndLeads p s z → Same (Ok (Some End)) (at_stage p Done) s z
+after_input i (gives_end j) = (refl, refl)
+after_input i (lacks_end j) = absurd cc
+
+after_no_end : {p : Reading} {s : Answer} {z : Reading} → p.stage ≡ Commands → EndLeads p s z → Same (Err NoEnd) (refused p) s z
+after_no_end i (gives_end j) = absurd cc
+after_no_end i (lacks_end j) = (refl, refl)
+
+pub gives_once : {p : Reading} {r s : Answer} {q z : Reading} → Gives p r q → Gives p s z → r ≢ Err ReadFault → s ≢ Err ReadFault → Same r q s z
+gives_once {p = p} {r = r} {q = q} (skipped t n a k g) h m o = after_skipped r q k (λ g2. gives_once g g2 m o) (at_line p t n a o h)
+gives_once {p = p} (command c t n a k i f e) h m o = after_command c k i f e (at_line p t n a o h)
+gives_once {p = p} {r = r} {q = q} (end_line t n a k i f g) h m o = after_end_line r q k i f (λ g2. gives_once g g2 m o) (at_line p t n a o h)
+gives_once {p = p} (bad_line t n a k w) h m o = after_bad_line k w (at_line p t n a o h)
+gives_once {p = p} (long_line a) h m o = at_long p a o h
+gives_once {p = p} (too_long a) h m o = at_limit p a o h
+gives_once {p = p} (end_of_input a i) h m o = after_input i (at_end p a o h)
+gives_once {p = p} (no_end a i) h m o = after_no_end i (at_end p a o h)
+gives_once read_fault h m o = absurd (m refl)
+
+-- more bytes behind leave what lines give as it is
+pub gives_more : {p : Reading} {r : Answer} {q : Reading} → (more : List ℕ) → (p.whole ≡ true → more ≡ []) → Gives p r q → Gives (with_taken p more true) r (with_taken q more true)
+gives_more {p = p} {r = r} {q = q} more none (skipped t n a k g) =
+    skipped t n (line_more p t more n none a) k (subst (λ (z : Reading). Gives z r (with_taken q more true)) (sym (behind_more p t more n a)) (gives_more more none g))
+gives_more {p = p} more none (command c t n a k i f o) =
+    gives_at (with_taken p more true) (behind (with_taken p more true) n) (with_taken (behind p n) more true) (Ok (Some c)) (sym (behind_more p t more n a)) (command c t n (line_more p t more n none a) k i f o)
+gives_more {p = p} {r = r} {q = q} more none (end_line t n a k i f g) =
+    end_line t n (line_more p t more n none a) k i f (subst (λ (z : Reading). Gives (at_stage z AfterEnd) r (with_taken q more true)) (sym (behind_more p t more n a)) (gives_more more none g))
+gives_more {p = p} more none (bad_line t n a k w) =
+    gives_at (with_taken p more true) (at_stage (behind (with_taken p more true) n) Failed) (at_stage (with_taken (behind p n) more true) Failed) (Err BadLine)
+    (ap (λ (z : Reading). at_stage z Failed) (sym (behind_more p t more n a))) (bad_line t n (line_more p t more n none a) k w)
+gives_more {p = p} more none (long_line a) = long_line (long_more p more a)
+gives_more {p = p} more none (too_long a) = too_long (limit_more p more a)
+gives_more {p = p} more none (end_of_input a i) = end_of_input (end_more p more none a) i
+gives_more {p = p} more none (no_end a i) = no_end (end_more p more none a) i
+gives_more more none read_fault = read_fault
+
+-- whether the end was met stays
+pub gives_whole : {p : Reading} {r : Answer} {q : Reading} → Gives p r q → q.whole ≡ p.whole
+gives_whole (skipped t n a k g) = gives_whole g
+gives_whole (command c t n a k i f o) = refl
+gives_whole (end_line t n a k i f g) = gives_whole g
+gives_whole (bad_line t n a k w) = refl
+gives_whole (long_line a) = refl
+gives_whole (too_long a) = refl
+gives_whole (end_of_input a i) = refl
+gives_whole (no_end a i) = refl
+gives_whole read_fault = refl

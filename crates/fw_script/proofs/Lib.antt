@@ -1,0 +1,7 @@
+pub mod FormLaws
+pub mod GivesLaws
+pub mod LineLaws
+pub mod NumberLaws
+pub mod PiecesLaws
+pub mod ReadingLaws
+pub mod ScriptLaws

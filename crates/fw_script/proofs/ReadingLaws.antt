@@ -1,0 +1,154 @@
+-- What a line that was read gives.
+use Rattle.std.proofs.Common.{◌≡◌, ◌≢◌, ◌⊎◌, ◌↔◌, inl, inr, ℕ, zero, suc, [], ◌∷◌, ◌++◌, ◌+◌, ◌-◌, ◌<◌, ◌≤◌, List, length, take, drop, Bool, true, false, Option, Some, None, Result, Ok, Err, arith, refl, ap, sym, ◌∙◌, subst, length-drop}
+use Rattle.std.proofs.lemmas.List.{append-nil}
+use Rattle.fw_outside.specs.Outside.{Takes}
+use Rattle.fw_outside.proofs.Parts.{Takes-nothing}
+use Rattle.fw_script.specs.Line.{is_skipped}
+use Rattle.fw_script.specs.Form.{HasForm}
+use Rattle.fw_script.specs.Reading.{Reading, Answer, Gives, GoesOn, ReadsLine, IsLine, HoldsLine, IsOpen, IsFilled, IsAtEndOfInput, IsLongLine, PassesLimit, behind, at_stage, refused, with_taken, TakesMore, Advances, GivesNext, Fills, IsStageAfter}
+use Rattle.fw_script.specs.Reading.Gives.{skipped, command, end_line, bad_line, long_line, too_long, end_of_input, no_end, read_fault}
+use Rattle.fw_script.specs.declared.command.Command.{Command}
+use Rattle.fw_script.specs.declared.command.Command.TheVariants.{End}
+use Rattle.fw_script.specs.declared.ScriptFault.{ScriptFault}
+use Rattle.fw_script.specs.declared.ScriptFault.TheVariants.{BadLine, LineTooLong, NoEnd, ReadFault, TooLong}
+use Rattle.fw_script.specs.declared.stage.Stage.{Stage}
+use Rattle.fw_script.specs.declared.stage.Stage.TheVariants.{Commands, AfterEnd, Done, Failed}
+
+-- a reading that is the same
+pub gives_at : (p q new : Reading) (r : Answer) → new ≡ q → Gives p r q → Gives p r new
+gives_at p q new r e g = subst (λ (z : Reading). Gives p r z) (sym e) g
+
+line_of : (p : Reading) (n size : ℕ) (text : List ℕ) → text ≡ take n p.rest → HoldsLine p n size → IsLine p text size
+line_of p n size text e h = subst (λ (t : List ℕ). IsLine p t size) (sym e) h.line
+
+filled_behind : (p : Reading) (n size : ℕ) → HoldsLine p n size → IsFilled p → IsFilled (behind p size)
+filled_behind p n size h (inl w) = inl w
+filled_behind p n size h (inr e) = inr (omega (arith, length-drop size p.rest, h.all))
+
+shorter : (p : Reading) (n size : ℕ) → HoldsLine p n size → length (drop size p.rest) < length p.rest
+shorter p n size h = omega (arith, length-drop size p.rest, h.all, h.some)
+
+pub reads_skipped : (p new : Reading) (n size : ℕ) (text : List ℕ) → text ≡ take n p.rest → HoldsLine p n size → new ≡ behind p size → IsOpen p.stage → IsFilled p → is_skipped text ≡ true → ReadsLine p (Ok None) new
+reads_skipped p new n size text e h is stage filled skip =
+    subst (λ (z : Reading). ReadsLine p (Ok None) z) (sym is)
+    ((λ r z g. skipped text size (line_of p n size text e h) skip g), stage, filled_behind p n size h filled, shorter p n size h)
+
+pub reads_command : (p new : Reading) (n size : ℕ) (text : List ℕ) (c : Command) → text ≡ take n p.rest → HoldsLine p n size → new ≡ behind p size → is_skipped text ≡ false → p.stage ≡ Commands → HasForm c text → c ≢ End → Gives p (Ok (Some c)) new
+reads_command p new n size text c e h is skip stage form other =
+    gives_at p (behind p size) new (Ok (Some c)) is (command c text size (line_of p n size text e h) skip stage form other)
+
+pub reads_end_line : (p mid new : Reading) (n size : ℕ) (text : List ℕ) → text ≡ take n p.rest → HoldsLine p n size → mid ≡ behind p size → new ≡ at_stage mid AfterEnd → IsFilled p → is_skipped text ≡ false → p.stage ≡ Commands → HasForm End text → ReadsLine p (Ok None) new
+reads_end_line p mid new n size text e h is then filled skip stage form =
+    subst (λ (z : Reading). ReadsLine p (Ok None) z) (sym (then ∙ ap (λ (m : Reading). at_stage m AfterEnd) is))
+    ((λ r z g. end_line text size (line_of p n size text e h) skip stage form g), tt, filled_behind p n size h filled, shorter p n size h)
+
+pub reads_bad_line : (p mid new : Reading) (n size : ℕ) (text : List ℕ) → text ≡ take n p.rest → HoldsLine p n size → mid ≡ behind p size → new ≡ at_stage mid Failed → is_skipped text ≡ false → (p.stage ≡ AfterEnd) ⊎ ((c : Command) → HasForm c text → ⊥) → Gives p (Err BadLine) new
+reads_bad_line p mid new n size text e h is then skip why =
+    gives_at p (at_stage (behind p size) Failed) new (Err BadLine) (then ∙ ap (λ (m : Reading). at_stage m Failed) is) (bad_line text size (line_of p n size text e h) skip why)
+
+pub reads_long_line : (p new : Reading) → IsLongLine p → new ≡ refused p → Gives p (Err LineTooLong) new
+reads_long_line p new h is = gives_at p (refused p) new (Err LineTooLong) is (long_line h)
+
+pub reads_limit : (p new : Reading) → PassesLimit p → new ≡ at_stage p Failed → Gives p (Err TooLong) new
+reads_limit p new h is = gives_at p (at_stage p Failed) new (Err TooLong) is (too_long h)
+
+pub reads_end : (p new : Reading) → IsAtEndOfInput p → p.stage ≡ AfterEnd → new ≡ at_stage p Done → Gives p (Ok (Some End)) new
+reads_end p new h stage is = gives_at p (at_stage p Done) new (Ok (Some End)) is (end_of_input h stage)
+
+pub reads_no_end : (p new : Reading) → IsAtEndOfInput p → p.stage ≡ Commands → new ≡ refused p → Gives p (Err NoEnd) new
+reads_no_end p new h stage is = gives_at p (refused p) new (Err NoEnd) is (no_end h stage)
+
+-- why a line is refused
+pub refused_stage : (p : Reading) (commands : Bool) (text : List ℕ) → (commands ≡ false → p.stage ≡ AfterEnd) → (commands ≡ false) ⊎ ((c : Command) → HasForm c text → ⊥) → (p.stage ≡ AfterEnd) ⊎ ((c : Command) → HasForm c text → ⊥)
+refused_stage p commands text after (inl e) = inl (after e)
+refused_stage p commands text after (inr h) = inr h
+
+-- how a reading stands after an answer
+abbrev AfterAnswer : Answer → Stage → Type 0
+AfterAnswer (Ok None) s = ⊥
+AfterAnswer (Ok (Some c)) s = (s ≢ Failed) × ((c ≡ End) ↔ (s ≡ Done))
+AfterAnswer (Err f) s = s ≡ Failed
+
+gives_stage : {p : Reading} {r : Answer} {q : Reading} → Gives p r q → AfterAnswer r q.stage
+gives_stage (skipped t n a k g) = gives_stage g
+gives_stage (command c t n a k i f o) = ((λ e. let x = i in cc), ((λ e. absurd (o e)), (λ e. let x = i in absurd cc)))
+gives_stage (end_line t n a k i f g) = gives_stage g
+gives_stage (bad_line t n a k w) = refl
+gives_stage (long_line a) = refl
+gives_stage (too_long a) = refl
+gives_stage (end_of_input a i) = ((λ e. cc), ((λ e. refl), (λ e. refl)))
+gives_stage (no_end a i) = refl
+gives_stage read_fault = refl
+
+open_not_done : (s : Stage) → IsOpen s → s ≢ Done
+open_not_done Commands o e = cc
+open_not_done AfterEnd o e = cc
+open_not_done Done o e = o
+open_not_done Failed o e = cc
+
+stage_of : (s z : Stage) (r : Answer) → IsOpen s → AfterAnswer r z → IsStageAfter s r z
+stage_of s z (Ok None) o h = absurd h
+stage_of s z (Ok (Some c)) o h = (open_not_done s o, h.0, h.1)
+stage_of s z (Err f) o h = (open_not_done s o, h)
+
+pub stage_after : (s : Stage) (p q : Reading) (r : Answer) → IsOpen s → Gives p r q → IsStageAfter s r q.stage
+stage_after s p q r o g = stage_of s q.stage r o (gives_stage g)
+
+pub stage_failed : (old new : Reading) (left left' : Option (List ℕ)) (f : ScriptFault) → IsOpen old.stage → Fills old left left' (Err f) new → IsStageAfter old.stage (Err f) new.stage
+stage_failed old new left left' f o h = (open_not_done old.stage o, ap (λ (p : Reading). p.stage) h.1.2)
+
+-- nothing was taken
+pub nothing_taken : (p : Reading) (left : Option (List ℕ)) → TakesMore p p left left
+nothing_taken p left =
+    record {
+      taken = [];
+      takes = Takes-nothing left;
+      kept = λ w. (refl, w);
+      met = λ w v. absurd cc;
+      now = ap (λ (xs : List ℕ). record { rest = xs; whole = p.whole; before = p.before; line = p.line; stage = p.stage }) (sym (append-nil p.rest));
+    }
+
+gives_done : (s : Stage) (p : Reading) → s ≡ Done → GivesNext s p (Ok None) p
+gives_done Commands p e = absurd cc
+gives_done AfterEnd p e = absurd cc
+gives_done Done p e = (refl, refl)
+gives_done Failed p e = absurd cc
+
+-- after the end
+pub after_end : (p : Reading) (left : Option (List ℕ)) → p.stage ≡ Done → Advances p p left left (Ok None)
+after_end p left e = record { known = p; takes = nothing_taken p left; gives = gives_done p.stage p e }
+
+gives_open : (s : Stage) (p q : Reading) (r : Answer) → IsOpen s → Gives p r q → GivesNext s p r q
+gives_open Commands p q r o g = g
+gives_open AfterEnd p q r o g = g
+gives_open Done p q r o g = absurd o
+gives_open Failed p q r o g = absurd o
+
+pub source_failed : (old new : Reading) (left left' : Option (List ℕ)) (f : ScriptFault) → IsOpen old.stage → Fills old left left' (Err f) new → Advances old new left left' (Err f)
+source_failed old new left left' f o h =
+    let g : Gives h.1.0 (Err ReadFault) new = gives_at h.1.0 (at_stage h.1.0 Failed) new (Err ReadFault) h.1.2 read_fault in
+    record { known = h.1.0; takes = h.1.1; gives = gives_open old.stage h.1.0 new (Err f) o (subst (λ (e : ScriptFault). Gives h.1.0 (Err e) new) (sym h.0) g) }
+
+-- what was taken before the source failed
+pub taken_before : (old : Reading) (xs bytes : List ℕ) (at line : ℕ) (whole : Bool) (stage : Stage) (left left' : Option (List ℕ))
+    → record { rest = drop at xs; whole = whole; before = at; line = line; stage = stage } ≡ old → (old.rest ≡ []) × (old.before ≡ 0) × (old.whole ≡ false) → Takes left left' bytes
+    → (known : Reading) × TakesMore old known left left' × (record { rest = drop at bytes; whole = whole; before = at; line = line; stage = Failed } ≡ at_stage known Failed)
+taken_before old xs bytes at line whole stage left left' e empty took = (
+  with_taken old bytes false,
+  record { taken = bytes; takes = took; kept = λ w. absurd cc; met = λ w v. absurd cc; now = refl },
+  same (ap (λ (p : Reading). p.before) e) (ap (λ (p : Reading). p.line) e) (ap (λ (p : Reading). p.whole) e),
+)
+  where
+    all : (n : ℕ) → n ≡ 0 → drop n bytes ≡ bytes
+    all zero e = refl
+    all (suc n) e = absurd (omega arith)
+
+    front : (ys : List ℕ) → ys ≡ [] → bytes ≡ ys ++ bytes
+    front [] e = refl
+    front (y ∷ ys) e = absurd cc
+
+    same : at ≡ old.before → line ≡ old.line → whole ≡ old.whole → record { rest = drop at bytes; whole = whole; before = at; line = line; stage = Failed } ≡ at_stage (with_taken old bytes false) Failed
+    same a l w =
+        let r : drop at bytes ≡ old.rest ++ bytes = all at (a ∙ empty.1) ∙ front old.rest empty.0 in
+        let v : whole ≡ false = w ∙ empty.2 in
+        rw (r, v, a, l) refl

@@ -1,0 +1,14 @@
+use Rattle.fw_script.proofs.ScriptLaws.{read_nothing, read_command, read_end, read_refused}
+use Rattle.fw_script.proofs.laws.calls_give_the_script.Goals as goal
+
+pub returns-clause-begins : goal.returns-clause-begins
+returns-clause-begins c = read_nothing
+
+pub returns-clause-command : goal.returns-clause-command
+returns-clause-command c = read_command
+
+pub returns-clause-end : goal.returns-clause-end
+returns-clause-end c = read_end
+
+pub returns-clause-fault : goal.returns-clause-fault
+returns-clause-fault c = read_refused

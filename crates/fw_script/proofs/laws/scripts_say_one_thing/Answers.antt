@@ -1,0 +1,16 @@
+use Rattle.fw_script.proofs.FormLaws.{one_form}
+use Rattle.fw_script.proofs.GivesLaws.{gives_once}
+use Rattle.fw_script.proofs.ScriptLaws.{says_once, script_limit}
+use Rattle.fw_script.proofs.laws.scripts_say_one_thing.Goals as goal
+
+pub returns-clause-line : goal.returns-clause-line
+returns-clause-line c = one_form
+
+pub returns-clause-answer : goal.returns-clause-answer
+returns-clause-answer c = λ p q z r s g h m o. gives_once g h m o
+
+pub returns-clause-script : goal.returns-clause-script
+returns-clause-script c = λ bytes cs ds r s m n. says_once m n
+
+pub returns-clause-limit : goal.returns-clause-limit
+returns-clause-limit c = script_limit

@@ -1,0 +1,47 @@
+-- What holds of every script.
+use Rattle.std.specs.Prelude.{◌≡◌, ◌≢◌, ℕ, List, [], ◌∷◌, ◌++◌, length, Option, Some, None, Ok, Err}
+use Rattle.fw_outside.specs.Outside.{Takes, IsAtEnd}
+use Rattle.fw_script.specs.Form.{HasForm}
+use Rattle.fw_script.specs.Reading.{Reading, Answer, Gives, Advances, unread}
+use Rattle.fw_script.specs.Script.{Refusal, IsScript, HasRead, Tells, FitsLimit}
+use Rattle.fw_script.specs.declared.command.Command.{Command}
+use Rattle.fw_script.specs.declared.command.Command.TheVariants.{End}
+use Rattle.fw_script.specs.declared.ScriptFault.{ScriptFault}
+use Rattle.fw_script.specs.declared.ScriptFault.TheVariants.{ReadFault}
+
+-- a line is one command at most
+abbrev pub LineIsOneCommand : Type 0
+LineIsOneCommand = (c d : Command) (line : List ℕ) → HasForm c line → HasForm d line → c ≡ d
+
+-- lines give one thing, unless the source fails
+abbrev pub LinesGiveOneAnswer : Type 0
+LinesGiveOneAnswer = (p q z : Reading) (r s : Answer) → Gives p r q → Gives p s z → r ≢ Err ReadFault → s ≢ Err ReadFault → (r ≡ s) × (q ≡ z)
+
+-- a script has one list of commands, and one first refused line or none
+abbrev pub ScriptSaysOneThing : Type 0
+ScriptSaysOneThing = (bytes : List ℕ) (cs ds : List Command) (r s : Option Refusal) → IsScript bytes cs r → IsScript bytes ds s → (cs ≡ ds) × (r ≡ s)
+
+-- a script of more bytes than the limit is refused, and no other is too long
+abbrev pub LimitDecides : Type 0
+LimitDecides = (bytes : List ℕ) (cs : List Command) (r : Option Refusal) → IsScript bytes cs r → FitsLimit (length bytes) r
+
+-- a new reader has read nothing
+abbrev pub ReadingBegins : Type 0
+ReadingBegins = (left : Option (List ℕ)) → HasRead left left [] unread
+
+-- a call that gives a command gives the next one of the script
+abbrev pub CommandIsNext : Type 0
+CommandIsNext = (left mid left' : Option (List ℕ)) (given : List Command) (old new : Reading) (c : Command)
+    → HasRead left mid given old → Advances old new mid left' (Ok (Some c)) → c ≢ End → HasRead left left' (given ++ c ∷ []) new
+
+-- where the end is given, the input was a script, and was read to its end
+abbrev pub EndIsLast : Type 0
+EndIsLast = (left mid left' : Option (List ℕ)) (given : List Command) (old new : Reading)
+    → HasRead left mid given old → Advances old new mid left' (Ok (Some End))
+    → (script : List ℕ) × Takes left left' script × IsAtEnd left' × IsScript script (given ++ End ∷ []) None
+
+-- where a fault is answered that is not the source's, it is the script's
+abbrev pub FaultIsTheScripts : Type 0
+FaultIsTheScripts = (left mid left' : Option (List ℕ)) (given : List Command) (old new : Reading) (f : ScriptFault)
+    → HasRead left mid given old → Advances old new mid left' (Err f) → f ≢ ReadFault
+    → (script : List ℕ) × Tells left script × IsScript script given (Some (record { fault = f; line = new.line }))

@@ -1,0 +1,175 @@
+-- How a script is read, line by line.
+use Rattle.std.specs.Prelude.{◌≡◌, ◌≢◌, ◌⊎◌, ◌↔◌, ℕ, ◌+◌, ◌<◌, ◌≤◌, ◌-◌, List, [], ◌∷◌, ◌++◌, length, take, drop, Bool, true, false, Option, Some, None, Result, Ok, Err}
+use Rattle.fw_outside.specs.Outside.{Takes, IsAtEnd}
+use Rattle.fw_script.specs.Pieces.{IsFree}
+use Rattle.fw_script.specs.Line.{is_skipped}
+use Rattle.fw_script.specs.Form.{HasForm}
+use Rattle.fw_script.specs.declared.command.Command.{Command}
+use Rattle.fw_script.specs.declared.command.Command.TheVariants.{End}
+use Rattle.fw_script.specs.declared.ScriptFault.{ScriptFault}
+use Rattle.fw_script.specs.declared.ScriptFault.TheVariants.{BadLine, LineTooLong, NoEnd, ReadFault, TooLong}
+use Rattle.fw_script.specs.declared.line.Front.{Front}
+use Rattle.fw_script.specs.declared.line.Front.TheVariants.{Line, LongLine, Limit, Nothing}
+use Rattle.fw_script.specs.declared.stage.Stage.{Stage}
+use Rattle.fw_script.specs.declared.stage.Stage.TheVariants.{Commands, AfterEnd, Done, Failed}
+
+-- what a call answers
+abbrev pub Answer : Type 0
+Answer = Result (Option Command) ScriptFault
+
+-- where a reading stands: the bytes from the next line on, as far as they were taken from the source; whether its
+-- end was met behind them; how many bytes of the script stand before them; the number of the line last read or
+-- refused; and what is read next
+pub record Reading : Type 0 where
+  pub rest : List ℕ
+  pub whole : Bool
+  pub before : ℕ
+  pub line : ℕ
+  pub stage : Stage
+
+-- nothing was taken yet
+abbrev pub unread : Reading
+unread = record { rest = []; whole = false; before = 0; line = 0; stage = Commands }
+
+-- more bytes were taken, and perhaps the source's end was met
+abbrev pub with_taken : Reading → List ℕ → Bool → Reading
+with_taken p taken whole = record { rest = p.rest ++ taken; whole = whole; before = p.before; line = p.line; stage = p.stage }
+
+abbrev pub at_stage : Reading → Stage → Reading
+at_stage p stage = record { rest = p.rest; whole = p.whole; before = p.before; line = p.line; stage = stage }
+
+-- the line after the last one is refused
+abbrev pub refused : Reading → Reading
+refused p = record { rest = p.rest; whole = p.whole; before = p.before; line = p.line + 1; stage = Failed }
+
+-- behind a line that takes so many bytes
+abbrev pub behind : Reading → ℕ → Reading
+behind p size = record { rest = drop size p.rest; whole = p.whole; before = p.before + size; line = p.line + 1; stage = p.stage }
+
+-- the next line is this text, and takes so many bytes with its line feed; only the last line may lack it
+abbrev pub EndsLine : Reading → List ℕ → ℕ → Type 0
+EndsLine p text size =
+    ((p.rest ≡ text ++ 10 ∷ drop size p.rest) × (size ≡ length text + 1))
+    ⊎ ((p.rest ≡ text) × (p.whole ≡ true) × (size ≡ length text) × (0 < size))
+
+-- the next line is this text, it has at most 256 bytes, and it ends within the script's limit
+pub record IsLine (p : Reading) (text : List ℕ) (size : ℕ) : Type 0 where
+  pub ends : EndsLine p text size
+  pub free : IsFree 10 text
+  pub short : length text ≤ 256
+  pub within : p.before + size ≤ 1048576
+
+-- the next line has more than 256 bytes, and its 257th byte lies within the script's limit
+pub record IsLongLine (p : Reading) : Type 0 where
+  pub long : 257 ≤ length p.rest
+  pub free : IsFree 10 (take 257 p.rest)
+  pub within : p.before + 257 ≤ 1048576
+
+-- the script passes its limit, and the next line doesn't end within it, nor does its 257th byte lie within it
+pub record PassesLimit (p : Reading) : Type 0 where
+  pub start : p.before ≤ 1048576
+  pub more : 1048576 < p.before + length p.rest
+  pub free : IsFree 10 (take (1048576 - p.before) p.rest)
+  pub short : 1048576 ≤ p.before + 256
+
+-- no line is left
+abbrev pub IsAtEndOfInput : Reading → Type 0
+IsAtEndOfInput p = (p.rest ≡ []) × (p.whole ≡ true)
+
+-- what the lines from here on give first: a command or a fault, and where the reading stands then
+pub data Gives : Reading → Answer → Reading → Type 0 where
+  -- an empty line or a comment
+  skipped : {p q : Reading} {r : Answer} (text : List ℕ) (size : ℕ)
+      → IsLine p text size → is_skipped text ≡ true → Gives (behind p size) r q → Gives p r q
+  -- a command
+  command : {p : Reading} (c : Command) (text : List ℕ) (size : ℕ)
+      → IsLine p text size → is_skipped text ≡ false → p.stage ≡ Commands → HasForm c text → c ≢ End
+      → Gives p (Ok (Some c)) (behind p size)
+  -- the line `end`: only skipped lines may follow
+  end_line : {p q : Reading} {r : Answer} (text : List ℕ) (size : ℕ)
+      → IsLine p text size → is_skipped text ≡ false → p.stage ≡ Commands → HasForm End text
+      → Gives (at_stage (behind p size) AfterEnd) r q → Gives p r q
+  -- a line without a form, or one that follows `end`
+  bad_line : {p : Reading} (text : List ℕ) (size : ℕ)
+      → IsLine p text size → is_skipped text ≡ false → (p.stage ≡ AfterEnd) ⊎ ((c : Command) → HasForm c text → ⊥)
+      → Gives p (Err BadLine) (at_stage (behind p size) Failed)
+  -- a line of more than 256 bytes
+  long_line : {p : Reading} → IsLongLine p → Gives p (Err LineTooLong) (refused p)
+  -- a line that ends behind the script's limit
+  too_long : {p : Reading} → PassesLimit p → Gives p (Err TooLong) (at_stage p Failed)
+  -- the input's end, behind `end` or without it
+  end_of_input : {p : Reading} → IsAtEndOfInput p → p.stage ≡ AfterEnd → Gives p (Ok (Some End)) (at_stage p Done)
+  no_end : {p : Reading} → IsAtEndOfInput p → p.stage ≡ Commands → Gives p (Err NoEnd) (refused p)
+  -- the source failed
+  read_fault : {p : Reading} → Gives p (Err ReadFault) (at_stage p Failed)
+
+-- nothing is given behind the end
+abbrev pub GivesNext : Stage → Reading → Answer → Reading → Type 0
+GivesNext Commands p r q = Gives p r q
+GivesNext AfterEnd p r q = Gives p r q
+GivesNext Done p r q = (r ≡ Ok None) × (q ≡ p)
+GivesNext Failed p r q = Gives p r q
+
+-- Some bytes were taken from the source, none once its end was met.
+pub record TakesMore (old new : Reading) (left left' : Option (List ℕ)) : Type 0 where
+  pub taken : List ℕ
+  pub takes : Takes left left' taken
+  pub kept : old.whole ≡ true → (taken ≡ []) × (new.whole ≡ true)
+  pub met : old.whole ≡ false → new.whole ≡ true → IsAtEnd left'
+  pub now : new ≡ with_taken old taken new.whole
+
+-- a call took some bytes, and gave what then comes first
+pub record Advances (old new : Reading) (left left' : Option (List ℕ)) (r : Answer) : Type 0 where
+  pub known : Reading
+  pub takes : TakesMore old known left left'
+  pub gives : GivesNext old.stage known r new
+
+-- The end is given once and nothing after it, and a fault is the last answer.
+abbrev pub IsStageAfter : Stage → Answer → Stage → Type 0
+IsStageAfter old (Ok None) new = (old ≡ Done) × (new ≡ Done)
+IsStageAfter old (Ok (Some c)) new = (old ≢ Done) × (new ≢ Failed) × ((c ≡ End) ↔ (new ≡ Done))
+IsStageAfter old (Err f) new = (old ≢ Done) × (new ≡ Failed)
+
+-- lines are read
+abbrev pub IsOpen : Stage → Type 0
+IsOpen Commands = Unit {0}
+IsOpen AfterEnd = Unit {0}
+IsOpen Done = ⊥
+IsOpen Failed = ⊥
+
+-- all bytes were taken, or one more than a script may have
+abbrev pub IsFilled : Reading → Type 0
+IsFilled p = (p.whole ≡ true) ⊎ (p.before + length p.rest ≡ 1048577)
+
+-- what follows from there on follows from here on
+abbrev pub GoesOn : Reading → Reading → Type 0
+GoesOn p q = (r : Answer) (z : Reading) → Gives q r z → Gives p r z
+
+-- one line was read: it says nothing, and the reading goes on, or it gives a command or a fault
+abbrev pub ReadsLine : Reading → Answer → Reading → Type 0
+ReadsLine p (Ok None) q = GoesOn p q × IsOpen q.stage × IsFilled q × (length q.rest < length p.rest)
+ReadsLine p (Ok (Some c)) q = Gives p (Ok (Some c)) q
+ReadsLine p (Err f) q = Gives p (Err f) q
+
+-- so much of the script was taken: all of it, nothing yet, or one byte more than it may have
+abbrev pub IsRead : Bool → ℕ → Type 0
+IsRead whole n = (whole ≡ true) ⊎ ((n ≡ 0) ⊎ (n ≡ 1048577))
+
+-- the bytes were taken, or the source failed
+abbrev pub Fills : Reading → Option (List ℕ) → Option (List ℕ) → Result Unit ScriptFault → Reading → Type 0
+Fills old left left' (Ok u) new = TakesMore old new left left' × IsFilled new
+Fills old left left' (Err f) new = (f ≡ ReadFault) × ((known : Reading) × TakesMore old known left left' × (new ≡ at_stage known Failed))
+
+-- the next line has n bytes, and takes so many with its line feed
+pub record HoldsLine (p : Reading) (n size : ℕ) : Type 0 where
+  pub line : IsLine p (take n p.rest) size
+  pub there : n ≤ length p.rest
+  pub some : 0 < size
+  pub all : size ≤ length p.rest
+
+-- what stands next
+abbrev pub StandsNext : Reading → Front → Type 0
+StandsNext p (Line n size) = HoldsLine p n size
+StandsNext p LongLine = IsLongLine p
+StandsNext p Limit = PassesLimit p
+StandsNext p Nothing = IsAtEndOfInput p

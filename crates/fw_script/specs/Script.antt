@@ -1,0 +1,47 @@
+-- Whole scripts.
+use Rattle.std.specs.Prelude.{◌≡◌, ◌≢◌, ◌⊎◌, ◌↔◌, ℕ, ◌≤◌, ◌<◌, List, [], ◌∷◌, ◌++◌, length, true, Option, Some, None, Ok, Err}
+use Rattle.fw_outside.specs.Outside.{Takes, IsAtEnd}
+use Rattle.fw_script.specs.Form.{HasForm}
+use Rattle.fw_script.specs.Reading.{Reading, Gives, with_taken}
+use Rattle.fw_script.specs.declared.command.Command.{Command}
+use Rattle.fw_script.specs.declared.command.Command.TheVariants.{End}
+use Rattle.fw_script.specs.declared.ScriptFault.{ScriptFault}
+use Rattle.fw_script.specs.declared.ScriptFault.TheVariants.{NoEnd, ReadFault, TooLong}
+use Rattle.fw_script.specs.declared.stage.Stage.TheVariants.{Commands}
+
+-- why a line is refused, and its number
+pub record Refusal : Type 0 where
+  pub fault : ScriptFault
+  pub line : ℕ
+
+-- the commands of the lines from here on, and the first refused line, if any
+pub data Says : Reading → List Command → Option Refusal → Type 0 where
+  ends : {p q : Reading} → Gives p (Ok (Some End)) q → Says p (End ∷ []) None
+  refuses : {p q : Reading} {f : ScriptFault} → Gives p (Err f) q → f ≢ ReadFault → Says p [] (Some (record { fault = f; line = q.line }))
+  goes_on : {p q : Reading} {c : Command} {cs : List Command} {r : Option Refusal}
+      → Gives p (Ok (Some c)) q → c ≢ End → Says q cs r → Says p (c ∷ cs) r
+
+-- the commands of a script, and its first refused line, if any
+abbrev pub IsScript : List ℕ → List Command → Option Refusal → Type 0
+IsScript bytes cs r = Says (record { rest = bytes; whole = true; before = 0; line = 0; stage = Commands }) cs r
+
+-- What calls have read of a script, from when the reader was new: the commands that they gave come first in the script,
+-- whatever more is left where the input's end was not met, and what follows from there on follows them.
+pub record HasRead (left left' : Option (List ℕ)) (given : List Command) (now : Reading) : Type 0 where
+  pub taken : List ℕ
+  pub takes : Takes left left' taken
+  pub met : now.whole ≡ true → IsAtEnd left'
+  pub first : (more : List ℕ) (cs : List Command) (r : Option Refusal) → (now.whole ≡ true → more ≡ [])
+      → Says (with_taken now more true) cs r → IsScript (taken ++ more) (given ++ cs) r
+  pub rest : (more : List ℕ) (ds : List Command) (r : Option Refusal) → (now.whole ≡ true → more ≡ [])
+      → IsScript (taken ++ more) ds r → (cs : List Command) × (ds ≡ given ++ cs) × Says (with_taken now more true) cs r
+
+-- a script that the source tells, where it tells
+abbrev pub Tells : Option (List ℕ) → List ℕ → Type 0
+Tells None script = Unit {0}
+Tells (Some xs) script = xs ≡ script
+
+-- A script of so many bytes is too long only where it passes the limit, and reaches its end only within it.
+abbrev pub FitsLimit : ℕ → Option Refusal → Type 0
+FitsLimit n None = n ≤ 1048576
+FitsLimit n (Some x) = (x.fault ≡ TooLong → 1048576 < n) × (x.fault ≡ NoEnd → n ≤ 1048576)

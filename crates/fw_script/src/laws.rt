@@ -1,0 +1,20 @@
+//! Laws of scripts, as the contracts of empty functions.
+
+ghost use Rattle.fw_script.specs.Laws.{LineIsOneCommand, LinesGiveOneAnswer, ScriptSaysOneThing, LimitDecides, ReadingBegins, CommandIsNext, EndIsLast, FaultIsTheScripts};
+
+/// A script says one thing: its commands in order, and its first refused line, if any. Which it is too long for
+/// is decided by its length.
+pub fn scripts_say_one_thing()
+    ensures line { LineIsOneCommand }
+    ensures answer { LinesGiveOneAnswer }
+    ensures script { ScriptSaysOneThing }
+    ensures limit { LimitDecides }
+{}
+
+/// The calls of a reader, one after the other, give what the script says.
+pub fn calls_give_the_script()
+    ensures begins { ReadingBegins }
+    ensures command { CommandIsNext }
+    ensures end { EndIsLast }
+    ensures fault { FaultIsTheScripts }
+{}

@@ -1,0 +1,99 @@
+//! The next line of a script, and what it means.
+
+ghost use Rattle.std.specs.Prelude.{ℕ, ◌≡◌, ◌≤◌, ◌<◌, length};
+ghost use Rattle.fw_script.specs.Line.{IsFront, IsMeaning, is_skipped, unfed_of};
+
+use crate::Command;
+use crate::cut::find;
+use crate::form::command_of;
+
+/// The most bytes of a line, without its line feed.
+pub(crate) const LINE_LIMIT: usize = 256;
+
+/// The most bytes of a script.
+pub(crate) const SCRIPT_LIMIT: usize = 1_048_576;
+
+/// What stands next.
+#[derive(Clone, Copy, Debug, PartialEq, Eq)]
+pub(crate) enum Front {
+    /// A line of `length` bytes, which takes `size` bytes with its line feed, if it has one.
+    Line { length: usize, size: usize },
+    /// A line that is too long.
+    LongLine,
+    /// A line that ends behind the script's limit.
+    Limit,
+    /// No byte.
+    Nothing,
+}
+
+/// What stands at the front of some bytes, of which the first `room` are within the script's limit.
+pub(crate) fn front_of(rest: &[u8], room: usize) -> Front
+    ensures { IsFront rest.now room result }
+{
+    let count = rest.len().min(room).min(LINE_LIMIT + 1);
+    match find(&rest[..count], b'\n') {
+        Some(length) => Front::Line {
+            length,
+            size: length + 1,
+        },
+        None => unfed(rest.len(), count),
+    }
+}
+
+/// What stands at the front of `total` bytes, where the first `count` have no line feed.
+fn unfed(total: usize, count: usize) -> Front
+    requires { count ≤ total }
+    ensures { result ≡ unfed_of total count }
+{
+    if count > LINE_LIMIT {
+        Front::LongLine
+    } else if count < total {
+        Front::Limit
+    } else if count == 0 {
+        Front::Nothing
+    } else {
+        Front::Line {
+            length: count,
+            size: count,
+        }
+    }
+}
+
+/// What a line means.
+#[derive(Debug, PartialEq, Eq, Drop)]
+pub(crate) enum Meaning {
+    /// Nothing: it is empty or a comment.
+    Skipped,
+    /// A command.
+    Command(Command),
+    /// The end.
+    End,
+    /// It has no form, or stands behind the end.
+    Refused,
+}
+
+fn is_skipped(text: &[u8]) -> bool
+    ensures { result ≡ is_skipped text.now }
+{
+    match text {
+        [] => true,
+        [b, ..] => *b == b'#',
+    }
+}
+
+/// What a line means, where commands may stand or only skipped lines.
+pub(crate) fn meaning_of(text: &[u8], commands: bool) -> Meaning
+    ensures { IsMeaning text.now commands result }
+{
+    if is_skipped(text) {
+        return Meaning::Skipped;
+    }
+    if !commands {
+        return Meaning::Refused;
+    }
+    match command_of(text) {
+        Some(Command::End) => Meaning::End,
+        Some(command) => Meaning::Command(command),
+        None => Meaning::Refused,
+    }
+}

@@ -1,0 +1,273 @@
+//! The reader of scripts.
+
+ghost use Rattle.std.specs.Prelude.{◌≡◌, ◌≢◌, ◌⊎◌, ◌≤◌, ◌<◌, ◌+◌, ℕ, [], List, length, take, true, false, IsTrue, ◌↔◌, IfOk, OnOk, OnErr, Ok, Err, None, MatchResult};
+ghost use Rattle.fw_outside.specs.Outside.{Rose, Takes, IsAtEnd};
+ghost use Rattle.fw_script.specs.Line.{IsFront};
+ghost use Rattle.fw_script.specs.Reading.{unread, with_taken, at_stage, refused, behind, Advances, IsStageAfter, IsOpen, IsFilled, ReadsLine, HoldsLine, IsAtEndOfInput, Gives, StandsNext, Fills};
+
+use crate::input::take_script;
+use crate::line::{Front, Meaning, SCRIPT_LIMIT, front_of, meaning_of};
+use crate::stage::Stage;
+use crate::{Command, ScriptFault};
+use fw_outside::Source;
+use std::alloc::{AllocError, Global};
+use std::marker::Model;
+
+/// Reads the commands of a script.
+#[derive(Debug, Drop)]
+pub struct ScriptReader {
+    bytes: Vec<u8>,
+    at: usize,
+    whole: bool,
+    line: u32,
+    stage: Stage,
+}
+
+impl Model for ScriptReader {
+    ghost use Rattle.std.specs.Prelude.{◌≤◌, ◌+◌, drop, vec_len, vec_capacity};
+    ghost use Rattle.fw_script.specs.Reading.{Reading, IsOpen, IsRead};
+
+    ghost Value = { Reading };
+
+    ghost view = { λ r. record { rest = drop r.at r.bytes.items; whole = r.whole; before = r.at; line = r.line; stage = r.stage } };
+
+    ghost invariant = { λ r. (r.at ≤ vec_len r.bytes) × (r.at ≤ 1048576) × (1048577 ≤ vec_capacity r.bytes)
+        × (r.line ≤ r.at + 1) × (IsOpen r.stage → (r.line ≤ r.at) × IsRead r.whole (vec_len r.bytes)) };
+}
+
+impl ScriptReader {
+    /// A reader that has read nothing. It makes the room for a whole script.
+    pub fn new(alloc: Global) -> Result<ScriptReader, AllocError>
+        ensures { IfOk result (λ r. r ≡ unread) }
+    {
+        Ok(ScriptReader {
+            bytes: Vec::with_capacity(alloc, SCRIPT_LIMIT + 1)?,
+            at: 0,
+            whole: false,
+            line: 0,
+            stage: Stage::Commands,
+        })
+    }
+
+    /// The number of the line last read or refused, from 1. The first is refused by the number of the line after
+    /// the last where the end is missing.
+    pub fn line(&self) -> u32
+        ensures { result ≡ self.now.line }
+    {
+        self.line
+    }
+
+    // Whether commands may come, or only skipped lines.
+    fn takes_commands(&self) -> bool
+        requires { IsOpen self.now.stage }
+        ensures yes { result ≡ true → self.now.stage ≡ Stage.Commands }
+        ensures no { result ≡ false → self.now.stage ≡ Stage.AfterEnd }
+    {
+        match self.stage {
+            Stage::Commands => true,
+            Stage::AfterEnd => false,
+            Stage::Done => unreachable!(),
+            Stage::Failed => unreachable!(),
+        }
+    }
+
+    // Whether the end was given.
+    fn is_done(&self) -> bool
+        requires { self.now.stage ≢ Stage.Failed }
+        ensures yes { result ≡ true → self.now.stage ≡ Stage.Done }
+        ensures no { result ≡ false → IsOpen self.now.stage }
+    {
+        match self.stage {
+            Stage::Commands => false,
+            Stage::AfterEnd => false,
+            Stage::Done => true,
+            Stage::Failed => unreachable!(),
+        }
+    }
+
+    // Whether the bytes were taken.
+    fn is_filled(&self) -> bool
+        requires { IsOpen self.now.stage }
+        ensures filled { result ≡ true → IsFilled self.now }
+        ensures empty { result ≡ false → (self.now.rest ≡ []) × (self.now.before ≡ 0) × (self.now.whole ≡ false) }
+    {
+        self.whole || !self.bytes.is_empty()
+    }
+
+    // What stands next.
+    fn front(&self) -> Front
+        requires { IsFilled self.now }
+        ensures { StandsNext self.now result }
+    {
+        front_of(&self.bytes[self.at..], SCRIPT_LIMIT - self.at)
+    }
+
+    // The first bytes from here on.
+    fn text(&self, count: usize) -> &[u8]
+        requires { count ≤ length self.now.rest }
+        ensures { result.now ≡ take count self.now.rest }
+    {
+        &self.bytes[self.at..self.at + count]
+    }
+
+    // Goes behind a line.
+    fn advance(&mut self, size: usize)
+        requires open { IsOpen self.old.stage }
+        requires some { 0 < size }
+        requires there { size ≤ length self.old.rest }
+        requires within { self.old.before + size ≤ 1048576 }
+        ensures { self.new ≡ behind self.old size }
+    {
+        self.at += size;
+        self.line += 1;
+    }
+
+    // Reads on from another stage.
+    fn enter(&mut self, stage: Stage)
+        requires { IsOpen self.old.stage }
+        ensures { self.new ≡ at_stage self.old stage }
+    {
+        self.stage = stage;
+    }
+
+    // Refuses the line after the last.
+    fn refuse(&mut self)
+        requires { IsOpen self.old.stage }
+        ensures { self.new ≡ refused self.old }
+    {
+        self.line += 1;
+        self.stage = Stage::Failed;
+    }
+
+    // Takes the bytes from the source.
+    fn take<S: Source>(&mut self, source: &mut S) -> Result<(), ScriptFault>
+        requires open { IsOpen self.old.stage }
+        requires empty { (self.old.rest ≡ []) × (self.old.before ≡ 0) × (self.old.whole ≡ false) }
+        ensures fills { Fills self.old (S.left source.old) (S.left source.new) result self.new }
+        ensures later { S.faults source.old ≤ S.faults source.new }
+        ensures cause { OnErr result (Rose (S.faults source.old) (S.faults source.new)) }
+    {
+        match take_script(source, &mut self.bytes) {
+            Ok(()) => {
+                self.whole = self.bytes.len() <= SCRIPT_LIMIT;
+                Ok(())
+            }
+            Err(_) => {
+                self.stage = Stage::Failed;
+                Err(ScriptFault::ReadFault)
+            }
+        }
+    }
+
+    // Takes the bytes from the source where that was not done.
+    fn fill<S: Source>(&mut self, source: &mut S) -> Result<(), ScriptFault>
+        requires { IsOpen self.old.stage }
+        ensures fills { Fills self.old (S.left source.old) (S.left source.new) result self.new }
+        ensures stage { OnOk result (self.new.stage ≡ self.old.stage) }
+        ensures same { self.old.whole ≡ true → source.new ≡ source.old }
+        ensures later { S.faults source.old ≤ S.faults source.new }
+        ensures cause { OnErr result (Rose (S.faults source.old) (S.faults source.new)) }
+    {
+        if self.is_filled() {
+            return Ok(());
+        }
+        self.take(source)
+    }
+
+    // Reads a line of so many bytes.
+    fn read_text(&mut self, count: usize, size: usize) -> Result<Option<Command>, ScriptFault>
+        requires open { IsOpen self.old.stage }
+        requires filled { IsFilled self.old }
+        requires line { HoldsLine self.old count size }
+        ensures reads { ReadsLine self.old result self.new }
+        ensures told { result ≢ Err ScriptFault.ReadFault }
+    {
+        let meaning = meaning_of(self.text(count), self.takes_commands());
+        self.advance(size);
+        match meaning {
+            Meaning::Skipped => Ok(None),
+            Meaning::Command(command) => Ok(Some(command)),
+            Meaning::End => {
+                self.enter(Stage::AfterEnd);
+                Ok(None)
+            }
+            Meaning::Refused => {
+                self.enter(Stage::Failed);
+                Err(ScriptFault::BadLine)
+            }
+        }
+    }
+
+    // Meets the input's end.
+    fn read_end(&mut self) -> Result<Option<Command>, ScriptFault>
+        requires open { IsOpen self.old.stage }
+        requires end { IsAtEndOfInput self.old }
+        ensures reads { ReadsLine self.old result self.new }
+        ensures told { result ≢ Err ScriptFault.ReadFault }
+    {
+        if self.takes_commands() {
+            self.refuse();
+            Err(ScriptFault::NoEnd)
+        } else {
+            self.enter(Stage::Done);
+            Ok(Some(Command::End))
+        }
+    }
+
+    // Reads the next line: it gives a command or a fault, or nothing where it is skipped or `end`.
+    fn read_line(&mut self) -> Result<Option<Command>, ScriptFault>
+        requires open { IsOpen self.old.stage }
+        requires filled { IsFilled self.old }
+        ensures reads { ReadsLine self.old result self.new }
+        ensures told { result ≢ Err ScriptFault.ReadFault }
+    {
+        match self.front() {
+            Front::Line { length, size } => self.read_text(length, size),
+            Front::LongLine => {
+                self.refuse();
+                Err(ScriptFault::LineTooLong)
+            }
+            Front::Limit => {
+                self.enter(Stage::Failed);
+                Err(ScriptFault::TooLong)
+            }
+            Front::Nothing => self.read_end(),
+        }
+    }
+
+    // Reads lines up to the next command.
+    fn read_lines(&mut self) -> Result<Option<Command>, ScriptFault>
+        requires open { IsOpen self.old.stage }
+        requires filled { IsFilled self.old }
+        ensures gives { Gives self.old result self.new }
+        ensures told { result ≢ Err ScriptFault.ReadFault }
+    {
+        loop {
+            match self.read_line() {
+                Ok(None) => {}
+                Ok(Some(command)) => return Ok(Some(command)),
+                Err(fault) => return Err(fault),
+            }
+        }
+    }
+
+    /// The next command. `End` is given when the input's end is reached, and after it none.
+    ///
+    /// It asks that no fault was answered before. Once the source's end was met, the source is not asked again.
+    pub fn next<S: Source>(&mut self, source: &mut S) -> Result<Option<Command>, ScriptFault>
+        requires { self.old.stage ≢ Stage.Failed }
+        ensures gives { Advances self.old self.new (S.left source.old) (S.left source.new) result }
+        ensures stage { IsStageAfter self.old.stage result self.new.stage }
+        ensures whole { self.old.whole ≡ true → source.new ≡ source.old }
+        ensures later { S.faults source.old ≤ S.faults source.new }
+        ensures cause { result ≡ Err ScriptFault.ReadFault → Rose (S.faults source.old) (S.faults source.new) }
+    {
+        if self.is_done() {
+            return Ok(None);
+        }
+        match self.fill(source) {
+            Ok(()) => self.read_lines(),
+            Err(fault) => Err(fault),
+        }
+    }
+}
