@@ -152,8 +152,7 @@ hears b l j s others latest out sound job plug words i = record {
     found t move at e =
         let m = move e in
         let can : Can 0 own_plug t.move l = subst (λ p. Can 0 p t.move l) plug m.0 in
-        let new : word_at (after 0 own_plug t.move l) own_plug (register_of s) ≡ t.new = subst (λ p. word_at (after 0 p t.move l) p (register_of s) ≡ t.new) plug m.1 in
-        (
+        let new : word_at (after 0 own_plug t.move l) own_plug (register_of s) ≡ t.new = subst (λ p. word_at (after 0 p t.move l) p (register_of s) ≡ t.new) plug m.1 in (
           new_below t m.0 m.1,
           move_found 0 own_plug t.move (account_register own_plug (register_of s)) t.arg t.new l (omega arith) sound (record {
             can = can;

@@ -71,10 +71,10 @@ shown_word s j stage latest out sound at = go (swap_of j stage)
         let target : 65472 ≡ request.target = cc in
         let address : offset_of (register_of stage) ≡ request.address = cc in
         let found : Some (account_register own_plug (register_of stage)) ≡ Some register =
-            sym (own_register s.account.latest (register_of stage) latest (asks_own s.account 0 j stage s.others at.step))
-            ∙ ap (λ t. account_register_of s.account.latest t (offset_of (register_of stage))) target
-            ∙ ap (λ a. account_register_of s.account.latest request.target a) address
-            ∙ at_register in
+        sym (own_register s.account.latest (register_of stage) latest (asks_own s.account 0 j stage s.others at.step))
+        ∙ ap (λ t. account_register_of s.account.latest t (offset_of (register_of stage))) target
+        ∙ ap (λ a. account_register_of s.account.latest request.target a) address
+        ∙ at_register in
         let place : account_register own_plug (register_of stage) ≡ register = cc in
         same ∙ (ap (λ p. word_at s.account p (register_of stage)) at.own.plug ∙ (sym (word_same s.account own_plug (register_of stage)) ∙ ap (λ r. word_of s.account r) place))
 

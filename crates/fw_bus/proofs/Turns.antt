@@ -139,8 +139,7 @@ pub declare_turns : (m : Machine) (name : List ℕ) → m.expected ≡ DeviceLin
 declare_turns m name is = record {
   shown = λ s g st.
       let first : s.expected ≡ DeviceLine = sym st.expected ∙ is in
-      let none : s.account ≡ no_account = (network_first s.expected s.account s.controller first g.network).0 in
-      (
+      let none : s.account ≡ no_account = (network_first s.expected s.account s.controller first g.network).0 in (
         record s { expected = BroadcastLine; name = name; account = entered s.account reset_entry },
         (first, ap (λ c. at_most c (Some reset_entry)) st.cycle, refl),
         record { expected = refl; name = refl; cycle = st.cycle; controller = st.controller; words = subst (λ a. HasWords m.registers a → HasWords m.registers (entered a reset_entry)) (sym none) (first_words m.registers) st.words },

@@ -99,8 +99,7 @@ pub command_leads : (s t : State) (c : Command) (out : List Timed) → Steps s (
 command_leads s t (Device n kind ports speed) out f = let x = steps_lead s t (actions_of (Device n kind ports speed)) out f in (sym x.1, sym x.0)
 command_leads s t (Broadcast n plug overhead) out f = let x = steps_lead s t (actions_of (Broadcast n plug overhead)) out f in (sym x.1, sym x.0)
 command_leads s t (StepCommand n count) out f =
-    let x = steps_lead s t (actions_of (StepCommand n count)) out f in
-    (
+    let x = steps_lead s t (actions_of (StepCommand n count)) out f in (
       sym (x.1 ∙ line_append (times count HalfStep) (EndSteps ∷ []) s.expected),
       sym (x.0 ∙ (name_append (times count HalfStep) (EndSteps ∷ []) s.name ∙ halves_name count s.name)),
     )

@@ -7,10 +7,10 @@ mod notes;
 mod read;
 mod run;
 mod script;
-mod text;
-mod top;
 #[cfg(test)]
 mod tests;
+mod text;
+mod top;
 
 pub use top::fire;
 

@@ -2,8 +2,8 @@ ghost use Rattle.std.specs.Prelude.{◌≡◌, ◌+◌, ◌<◌, ◌≤◌, ◌+
 ghost use Rattle.arrayvec.specs.ArrayVec.{array_vec_len};
 ghost use Rattle.fw_tool.specs.Notes.{status_of, note_of, IsShort, IsTold};
 
-use crate::ending::Ending;
 use crate::Refusal;
+use crate::ending::Ending;
 use arrayvec::ArrayVec;
 use fw_outside::Sink;
 

@@ -10,7 +10,9 @@ use fw_bus::{Command, Expected, Name};
 fn is_name(word: &[u8]) -> bool
     ensures { result ≡ is_a_name word.now }
 {
-    let reserved = is_exactly(word, b"manager") || is_exactly(word, b"any") || is_exactly(word, b"late");
+    let reserved = is_exactly(word, b"manager")
+        || is_exactly(word, b"any")
+        || is_exactly(word, b"late");
     !word.is_empty() && word.len() <= 16 && word[0] >= b'a' && !reserved
 }
 
@@ -104,7 +106,11 @@ fn command(expected: Expected, name: &[u8], line: &[u8]) -> Option<Command>
 
 /// The command of the next line, or why it is refused.
 #[tactic(auto, using(crate::proofs::Fronts::take_line))]
-pub(crate) fn next_command(expected: Expected, name: &[u8], bytes: &[u8]) -> Result<Command, Refusal>
+pub(crate) fn next_command(
+    expected: Expected,
+    name: &[u8],
+    bytes: &[u8],
+) -> Result<Command, Refusal>
     requires { length name.now ≤ 16 }
     ensures value { result ≡ next_in expected name.now bytes.now }
     ensures next { IfOk result (IsNext expected name.now) }

@@ -9,11 +9,13 @@ use std::test::Fail;
 
 // A deck makes a broadcast connection in thirteen half steps.
 const THIRTEEN: &str = "device d deck 1 100\nbroadcast d d.0 0\nstep d 13\nend\n";
+
 const THIRTEEN_LOG: &str =
     "31333934000000010000000000000000010000050000000000000000000000010000000100010101807f08427f80f7bd020000030000000000000000ffc00140ffc0fffff0000904020000040000000000000000ffc00160ffc0000000000000803f007a020000030000000000000000ffc00140ffc0fffff0000228020000040000000000000000ffc00160ffc0000000000000ffffffff020000060000000000000000ffc00190ffc0fffff000022800080002fffffffffffffffe020000050000000000000000ffc001b0ffc000000000000000040002ffffffff020000030000000000000000ffc00140ffc0fffff0000220020000040000000000000000ffc00160ffc000000000000000001333020000060000000000000000ffc00190ffc0fffff0000220000800020000133300000963020000050000000000000000ffc001b0ffc00000000000000004000200001333020000060000000000000000ffc00190ffc0fffff000090400080002803f007ac03f007a020000050000000000000000ffc001b0ffc000000000000000040002803f007a050000020000000000000000010000000000003f070000000000000000000000";
 
 // It is cut off after five.
 const FIVE: &str = "device d deck 1 100\nbroadcast d d.0 0\nstep d 5\nend\n";
+
 const FIVE_LOG: &str =
     "31333934000000010000000000000000010000050000000000000000000000010000000100010101807f08427f80f7bd020000030000000000000000ffc00140ffc0fffff0000904020000040000000000000000ffc00160ffc0000000000000803f007a020000030000000000000000ffc00140ffc0fffff0000228020000040000000000000000ffc00160ffc0000000000000ffffffff020000060000000000000000ffc00190ffc0fffff000022800080002fffffffffffffffe070000000000000000000000";
 
@@ -44,12 +46,20 @@ const NONE: Failing<'static> = Failing {
     notes: &[],
 };
 
-fn call(alloc: Global, words: &[&str], script: &str, failing: Failing<'_>) -> Result<Ended, AllocError> {
+fn call(
+    alloc: Global,
+    words: &[&str],
+    script: &str,
+    failing: Failing<'_>,
+) -> Result<Ended, AllocError> {
     let mut list = Vec::new(alloc);
     for word in words {
         list.push(word.to_string(alloc)?)?;
     }
-    let mut source = MemSource::new(script.as_bytes().to_vec(alloc)?, failing.read.to_vec(alloc)?);
+    let mut source = MemSource::new(
+        script.as_bytes().to_vec(alloc)?,
+        failing.read.to_vec(alloc)?,
+    );
     let mut log = MemSink::new(alloc, 500, failing.log.to_vec(alloc)?)?;
     let mut notes = MemSink::new(alloc, 50, failing.notes.to_vec(alloc)?)?;
     let status = fire(alloc, &list, &mut source, &mut log, &mut notes);
@@ -89,19 +99,55 @@ fn refused_lines(rt: HostRuntime) -> Result<(), Fail> {
         ("device d camcorder 1 100\n", "line 1: NotBuilt\n", 16),
         ("device d deck 1 100 \n", "line 1: NotBuilt\n", 16),
         ("device 1d deck 1 100\n", "line 1: NotBuilt\n", 16),
-        ("device camera01234567890 deck 1 100\n", "line 1: NotBuilt\n", 16),
+        (
+            "device camera01234567890 deck 1 100\n",
+            "line 1: NotBuilt\n",
+            16,
+        ),
         ("device manager deck 1 100\n", "line 1: NotBuilt\n", 16),
         ("device any deck 1 100\n", "line 1: NotBuilt\n", 16),
         ("device late deck 1 100\n", "line 1: NotBuilt\n", 16),
         ("device d deck 1 100\n", "line 2: NoEnd\n", 48),
-        ("device d deck 1 100\nbroadcast e e.0 0\n", "line 2: NotBuilt\n", 48),
-        ("device d deck 1 100\nbroadcast d d.0 16\n", "line 2: NotBuilt\n", 48),
-        ("device d deck 1 100\nbroadcast d d.0 00\n", "line 2: NotBuilt\n", 48),
-        ("device d deck 1 100\nbroadcast d d.0 0\nstep d 0\n", "line 3: NotBuilt\n", 48),
-        ("device d deck 1 100\nbroadcast d d.0 0\nstep d 10001\n", "line 3: NotBuilt\n", 48),
-        ("device d deck 1 100\nbroadcast d d.0 0\nstep d 13\n", "line 4: NoEnd\n", 428),
-        ("device d deck 1 100\nbroadcast d d.0 0\nstep d 13\nend\nend\n", "line 5: NotBuilt\n", 440),
-        ("device d deck 1 100\nbroadcast d d.0 0\nstep d 13\nend\n\n", "line 5: NotBuilt\n", 440),
+        (
+            "device d deck 1 100\nbroadcast e e.0 0\n",
+            "line 2: NotBuilt\n",
+            48,
+        ),
+        (
+            "device d deck 1 100\nbroadcast d d.0 16\n",
+            "line 2: NotBuilt\n",
+            48,
+        ),
+        (
+            "device d deck 1 100\nbroadcast d d.0 00\n",
+            "line 2: NotBuilt\n",
+            48,
+        ),
+        (
+            "device d deck 1 100\nbroadcast d d.0 0\nstep d 0\n",
+            "line 3: NotBuilt\n",
+            48,
+        ),
+        (
+            "device d deck 1 100\nbroadcast d d.0 0\nstep d 10001\n",
+            "line 3: NotBuilt\n",
+            48,
+        ),
+        (
+            "device d deck 1 100\nbroadcast d d.0 0\nstep d 13\n",
+            "line 4: NoEnd\n",
+            428,
+        ),
+        (
+            "device d deck 1 100\nbroadcast d d.0 0\nstep d 13\nend\nend\n",
+            "line 5: NotBuilt\n",
+            440,
+        ),
+        (
+            "device d deck 1 100\nbroadcast d d.0 0\nstep d 13\nend\n\n",
+            "line 5: NotBuilt\n",
+            440,
+        ),
     ];
     for (script, note, length) in cases {
         let ended = call(alloc, &["run"], script, NONE)?;
@@ -144,7 +190,11 @@ fn calls_that_fail(rt: HostRuntime) -> Result<(), Fail> {
         let ended = call(alloc, &["run"], THIRTEEN, Failing { log, ..NONE })?;
         let length = BEGINS[write as usize - 1];
         assert_eq!(rt; ended.status, 6, "write {write}");
-        assert_eq!(rt; ended.notes.as_slice(), b"write fault\n".as_slice(), "write {write}");
+        assert_eq!(rt;
+            ended.notes.as_slice(),
+            b"write fault\n".as_slice(),
+            "write {write}"
+        );
         assert_eq!(rt; ended.log.as_slice(), &whole[..length], "write {write}");
     }
     let notes = &[1];

@@ -13,4 +13,3 @@ returns-clause-others r = λ l c d p m j s others lt ne sound can i. spared l (a
 
 pub returns-clause-registers : goal.returns-clause-registers
 returns-clause-registers c = move_elsewhere
-
