@@ -27,7 +27,7 @@ pub record Reading : Type 0 where
   pub line : ℕ
   pub stage : Stage
 
--- nothing was taken yet
+-- the reading of a new reader
 abbrev pub unread : Reading
 unread = record { rest = []; whole = false; before = 0; line = 0; stage = Commands }
 
@@ -35,6 +35,7 @@ unread = record { rest = []; whole = false; before = 0; line = 0; stage = Comman
 abbrev pub with_taken : Reading → List ℕ → Bool → Reading
 with_taken p taken whole = record { rest = p.rest ++ taken; whole = whole; before = p.before; line = p.line; stage = p.stage }
 
+-- the same with another stage
 abbrev pub at_stage : Reading → Stage → Reading
 at_stage p stage = record { rest = p.rest; whole = p.whole; before = p.before; line = p.line; stage = stage }
 

@@ -258,7 +258,7 @@ impl ScriptReader {
         requires { self.old.stage ≢ Stage.Failed }
         ensures gives { Advances self.old self.new (S.left source.old) (S.left source.new) result }
         ensures stage { IsStageAfter self.old.stage result self.new.stage }
-        ensures whole { self.old.whole ≡ true → source.new ≡ source.old }
+        ensures unasked { self.old.whole ≡ true → source.new ≡ source.old }
         ensures later { S.faults source.old ≤ S.faults source.new }
         ensures cause { result ≡ Err ScriptFault.ReadFault → Rose (S.faults source.old) (S.faults source.new) }
     {
