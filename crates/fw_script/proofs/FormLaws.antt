@@ -1,5 +1,5 @@
 -- What is read of a keyword's words.
-use Rattle.std.proofs.Common.{◌≡◌, ℕ, List, [], ◌∷◌, Option, Some, true, false, Bool, inl, inr, refl, ap, sym, ◌∙◌, subst}
+use Rattle.std.proofs.Common.{◌≡◌, ℕ, List, Option, Some, true, false, inl, inr, sym, ◌∙◌, subst}
 use Rattle.fw_script.specs.Form.{HasArguments, HasForm, Words1, Words2, Words3, Words4, Words5}
 use Rattle.fw_script.specs.Words.{name_in, number_in, place_in, kind_in, speed_in, channel_in, system_in, shown_in, offset_in, word_in, frame_in, late_in}
 use Rattle.fw_script.specs.declared.keyword.Keyword.{Keyword}

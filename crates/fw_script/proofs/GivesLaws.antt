@@ -1,12 +1,11 @@
 -- What lines give is one only, and stays so where more bytes are known.
-use Rattle.std.proofs.Common.{◌≡◌, ◌≢◌, ◌⊎◌, inl, inr, ℕ, [], ◌∷◌, ◌++◌, ◌+◌, ◌<◌, ◌≤◌, List, length, drop, true, false, Bool, Option, Some, None, Result, Ok, Err, arith, refl, ap, sym, ◌∙◌, subst}
+use Rattle.std.proofs.Common.{◌≡◌, ◌≢◌, ◌⊎◌, inl, inr, ℕ, [], List, true, false, Some, Ok, Err, refl, ap, sym, subst}
 use Rattle.fw_script.specs.Line.{is_skipped}
 use Rattle.fw_script.specs.Form.{HasForm}
 use Rattle.fw_script.specs.Reading.{Reading, Answer, Gives, IsLine, IsAtEndOfInput, IsLongLine, PassesLimit, behind, at_stage, refused, with_taken}
 use Rattle.fw_script.specs.Reading.Gives.{skipped, command, end_line, bad_line, long_line, too_long, end_of_input, no_end, read_fault}
 use Rattle.fw_script.specs.declared.command.Command.{Command}
 use Rattle.fw_script.specs.declared.command.Command.TheVariants.{End}
-use Rattle.fw_script.specs.declared.ScriptFault.{ScriptFault}
 use Rattle.fw_script.specs.declared.ScriptFault.TheVariants.{BadLine, LineTooLong, NoEnd, ReadFault, TooLong}
 use Rattle.fw_script.specs.declared.stage.Stage.{Stage}
 use Rattle.fw_script.specs.declared.stage.Stage.TheVariants.{Commands, AfterEnd, Done, Failed}

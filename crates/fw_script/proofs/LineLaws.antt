@@ -1,6 +1,6 @@
 -- The next line is one only, and stays so where more bytes are known.
-use Rattle.std.proofs.Common.{◌≡◌, ◌≢◌, ◌⊎◌, inl, inr, ℕ, zero, suc, [], ◌∷◌, ◌++◌, ◌+◌, ◌-◌, ◌<◌, ◌≤◌, List, length, slice_index, take, drop, Bool, true, false, arith, refl, ap, sym, ◌∙◌, subst, length-drop, length-append, append_assoc}
-use Rattle.std.proofs.lemmas.List.{append-nil, take-append-le, drop-append-le, get_or-take, length-take-le}
+use Rattle.std.proofs.Common.{◌≡◌, inl, inr, ℕ, zero, suc, [], ◌∷◌, ◌++◌, ◌+◌, ◌-◌, ◌<◌, ◌≤◌, List, length, slice_index, take, drop, true, arith, refl, ap, sym, ◌∙◌, subst, length-drop, length-append, append_assoc}
+use Rattle.std.proofs.lemmas.List.{append-nil, take-append-le, drop-append-le, get_or-take}
 use Rattle.std.proofs.Math.Seq.{get_or-append_seam}
 use Rattle.fw_script.specs.Pieces.{IsFree}
 use Rattle.fw_script.specs.Reading.{Reading, EndsLine, IsLine, IsLongLine, PassesLimit, IsAtEndOfInput, behind, with_taken}

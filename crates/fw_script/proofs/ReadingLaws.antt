@@ -1,11 +1,12 @@
 -- What a line that was read gives.
-use Rattle.std.proofs.Common.{◌≡◌, ◌≢◌, ◌⊎◌, ◌↔◌, inl, inr, ℕ, zero, suc, [], ◌∷◌, ◌++◌, ◌+◌, ◌-◌, ◌<◌, ◌≤◌, List, length, take, drop, Bool, true, false, Option, Some, None, Result, Ok, Err, arith, refl, ap, sym, ◌∙◌, subst, length-drop}
+use Rattle.std.proofs.Common.{◌≡◌, ◌≢◌, ◌⊎◌, ◌↔◌, inl, inr, ℕ, zero, suc, [], ◌∷◌, ◌++◌, ◌<◌, List, length, take, drop, Bool, true, false, Option, Some, None, Ok, Err, arith, refl, ap, sym, ◌∙◌, subst, length-drop}
 use Rattle.std.proofs.lemmas.List.{append-nil}
 use Rattle.fw_outside.specs.Outside.{Takes}
 use Rattle.fw_outside.proofs.Parts.{Takes-nothing}
 use Rattle.fw_script.specs.Line.{is_skipped}
 use Rattle.fw_script.specs.Form.{HasForm}
-use Rattle.fw_script.specs.Reading.{Reading, Answer, Gives, GoesOn, ReadsLine, IsLine, HoldsLine, IsOpen, IsFilled, IsAtEndOfInput, IsLongLine, PassesLimit, behind, at_stage, refused, with_taken, TakesMore, Advances, GivesNext, Fills, IsStageAfter}
+use Rattle.fw_script.specs.Reader.{ReadsLine, HoldsLine, IsOpen, IsFilled, Fills}
+use Rattle.fw_script.specs.Reading.{Reading, Answer, Gives, IsLine, IsAtEndOfInput, IsLongLine, PassesLimit, behind, at_stage, refused, with_taken, TakesMore, Advances, GivesNext, IsStageAfter}
 use Rattle.fw_script.specs.Reading.Gives.{skipped, command, end_line, bad_line, long_line, too_long, end_of_input, no_end, read_fault}
 use Rattle.fw_script.specs.declared.command.Command.{Command}
 use Rattle.fw_script.specs.declared.command.Command.TheVariants.{End}

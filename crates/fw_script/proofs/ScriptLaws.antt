@@ -1,16 +1,16 @@
 -- Whole scripts, and calls one after the other.
-use Rattle.std.proofs.Common.{◌≡◌, ◌≢◌, ◌⊎◌, inl, inr, ℕ, [], ◌∷◌, ◌++◌, ◌+◌, ◌<◌, ◌≤◌, List, length, drop, true, false, Bool, Option, Some, None, Result, Ok, Err, arith, refl, ap, sym, ◌∙◌, subst, append_assoc, length-append, zero-add}
+use Rattle.std.proofs.Common.{◌≡◌, ◌≢◌, ℕ, [], ◌∷◌, ◌++◌, ◌+◌, ◌<◌, ◌≤◌, List, length, true, false, Bool, Option, Some, None, Ok, Err, arith, refl, ap, sym, ◌∙◌, subst, append_assoc, zero-add}
 use Rattle.std.proofs.lemmas.List.{append-nil}
 use Rattle.fw_outside.specs.Outside.{Takes, IsAtEnd}
 use Rattle.fw_outside.proofs.Parts.{Takes-Takes, Takes-nothing}
-use Rattle.fw_script.specs.Reading.{Reading, Answer, Gives, GivesNext, TakesMore, Advances, IsOpen, IsLine, behind, at_stage, refused, with_taken, unread}
+use Rattle.fw_script.specs.Reading.{Reading, Answer, Gives, GivesNext, Advances, behind, at_stage, with_taken, unread}
 use Rattle.fw_script.specs.Reading.Gives.{skipped, command, end_line, bad_line, long_line, too_long, end_of_input, no_end, read_fault}
 use Rattle.fw_script.specs.Script.{Refusal, Says, IsScript, HasRead, Tells, FitsLimit}
 use Rattle.fw_script.specs.Script.Says.{ends, refuses, goes_on}
 use Rattle.fw_script.specs.declared.command.Command.{Command}
 use Rattle.fw_script.specs.declared.command.Command.TheVariants.{End}
 use Rattle.fw_script.specs.declared.ScriptFault.{ScriptFault}
-use Rattle.fw_script.specs.declared.ScriptFault.TheVariants.{BadLine, LineTooLong, NoEnd, ReadFault, TooLong}
+use Rattle.fw_script.specs.declared.ScriptFault.TheVariants.{NoEnd, ReadFault, TooLong}
 use Rattle.fw_script.specs.declared.stage.Stage.{Stage}
 use Rattle.fw_script.specs.declared.stage.Stage.TheVariants.{Commands, AfterEnd, Done, Failed}
 use Rattle.fw_script.proofs.LineLaws.{behind_total}
@@ -184,6 +184,14 @@ told_rest None None xs whole t met = ([], tt, λ w. refl)
 told_rest None (Some ys) xs whole t met = absurd t
 told_rest (Some old) None xs whole t met = absurd t
 told_rest (Some old) (Some ys) xs whole t met = (ys, t, met)
+
+-- what was given comes first
+pub given_first : (script : List ℕ) (left' : Option (List ℕ)) (given ds : List Command) (now : Reading) (r : Option Refusal)
+    → HasRead (Some script) left' given now → IsScript script ds r → (cs : List Command) × (ds ≡ given ++ cs)
+given_first script left' given ds now r so h =
+    let m = told_rest (Some script) left' so.taken now.whole so.takes so.met in
+    let b = so.rest m.0 ds r m.2 (subst (λ (bytes : List ℕ). IsScript bytes ds r) m.1 h) in
+    (b.0, b.1)
 
 -- a call refused a line
 pub read_refused : (left mid left' : Option (List ℕ)) (given : List Command) (old new : Reading) (f : ScriptFault)

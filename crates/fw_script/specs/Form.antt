@@ -8,46 +8,50 @@ use Rattle.fw_script.specs.declared.keyword.Keyword.TheVariants.{Device, Cable, 
 use Rattle.fw_script.specs.declared.command.Command.{Command}
 use Rattle.fw_script.specs.declared.command.Command.TheVariants as Commands
 
--- there are just these words, each is read by its function, and what is read has the property
+-- there is one word, the function reads it, and what it reads has the property
 abbrev pub Words1 : {A : Type 0} → List (List ℕ) → (List ℕ → Option A) → (A → Type 0) → Type 0
 Words1 {A = A} ws f P = (u : List ℕ) × (a : A) × (ws ≡ u ∷ []) × (f u ≡ Some a) × P a
 
+-- there are two words, each function reads its own, and what they read has the property
 abbrev pub Words2 : {A B : Type 0} → List (List ℕ) → (List ℕ → Option A) → (List ℕ → Option B) → (A → B → Type 0) → Type 0
 Words2 {A = A} {B = B} ws f g P = (u v : List ℕ) × (a : A) × (b : B) × (ws ≡ u ∷ v ∷ []) × (f u ≡ Some a) × (g v ≡ Some b) × P a b
 
+-- there are three words, each function reads its own, and what they read has the property
 abbrev pub Words3 : {A B C : Type 0} → List (List ℕ) → (List ℕ → Option A) → (List ℕ → Option B) → (List ℕ → Option C) → (A → B → C → Type 0) → Type 0
 Words3 {A = A} {B = B} {C = C} ws f g h P = (u v w : List ℕ) × (a : A) × (b : B) × (c : C) × (ws ≡ u ∷ v ∷ w ∷ []) × (f u ≡ Some a) × (g v ≡ Some b) × (h w ≡ Some c) × P a b c
 
+-- there are four words, each function reads its own, and what they read has the property
 abbrev pub Words4 : {A B C D : Type 0} → List (List ℕ) → (List ℕ → Option A) → (List ℕ → Option B) → (List ℕ → Option C) → (List ℕ → Option D) → (A → B → C → D → Type 0) → Type 0
 Words4 {A = A} {B = B} {C = C} {D = D} ws f g h i P = (u v w x : List ℕ) × (a : A) × (b : B) × (c : C) × (d : D) × (ws ≡ u ∷ v ∷ w ∷ x ∷ []) × (f u ≡ Some a) × (g v ≡ Some b) × (h w ≡ Some c) × (i x ≡ Some d) × P a b c d
 
+-- there are five words, each function reads its own, and what they read has the property
 abbrev pub Words5 : {A B C D E : Type 0} → List (List ℕ) → (List ℕ → Option A) → (List ℕ → Option B) → (List ℕ → Option C) → (List ℕ → Option D) → (List ℕ → Option E) → (A → B → C → D → E → Type 0) → Type 0
 Words5 {A = A} {B = B} {C = C} {D = D} {E = E} ws f g h i j P = (u v w x y : List ℕ) × (a : A) × (b : B) × (c : C) × (d : D) × (e : E) × (ws ≡ u ∷ v ∷ w ∷ x ∷ y ∷ []) × (f u ≡ Some a) × (g v ≡ Some b) × (h w ≡ Some c) × (i x ≡ Some d) × (j y ≡ Some e) × P a b c d e
 
--- the words behind the keyword are those of the command
+-- the words behind the keyword are those of the command: a line for each form of 'KEYWORD WORD ..' (own)
 abbrev pub HasArguments : Keyword → List (List ℕ) → Command → Type 0
-HasArguments Device ws c = Words4 ws name_in kind_in (number_in 1 27) speed_in (λ n k p s. c ≡ Commands.Device n k p s)
-HasArguments Cable ws c = Words2 ws (place_in 26) (place_in 26) (λ a b. c ≡ Commands.Cable a b)
-HasArguments Reset ws c = Words1 ws name_in (λ n. c ≡ Commands.Reset n)
-HasArguments Connect ws c = Words5 ws name_in (place_in 30) (place_in 30) channel_in (number_in 0 15) (λ n a b ch o. c ≡ Commands.Connect n a b ch o)
-HasArguments Broadcast ws c = Words3 ws name_in (place_in 30) (number_in 0 15) (λ n a o. c ≡ Commands.Broadcast n a o)
-HasArguments Listen ws c = Words2 ws name_in (place_in 30) (λ n b. c ≡ Commands.Listen n b)
-HasArguments Break ws c = Words2 ws name_in (number_in 0 31) (λ n s. c ≡ Commands.Break n s)
-HasArguments Step ws c = Words2 ws name_in (number_in 1 10000) (λ n k. c ≡ Commands.Step n k)
-HasArguments Settle ws c = Words1 ws (number_in 1 200000) (λ k. c ≡ Commands.Settle k)
-HasArguments Wait ws c = Words1 ws (number_in 0 1000000000) (λ k. c ≡ Commands.Wait k)
-HasArguments Cycles ws c = Words1 ws (number_in 1 8000) (λ k. c ≡ Commands.Cycles k)
-HasArguments Die ws c = Words1 ws name_in (λ n. c ≡ Commands.Die n false) ⊎ Words2 ws name_in late_in (λ n late. c ≡ Commands.Die n true)
-HasArguments Start ws c = Words1 ws name_in (λ n. c ≡ Commands.Start n)
-HasArguments CommandWord ws c = Words3 ws name_in name_in frame_in (λ n m f. c ≡ Commands.Command n m f)
-HasArguments Read ws c = Words3 ws name_in name_in offset_in (λ n m o. c ≡ Commands.Read n m o)
-HasArguments Swap ws c = Words5 ws name_in name_in offset_in word_in word_in (λ n m o a w. c ≡ Commands.Swap n m o a w)
-HasArguments Insert ws c = Words3 ws name_in (number_in 0 65535) system_in (λ n t s. c ≡ Commands.Insert n t s)
-HasArguments Eject ws c = Words1 ws name_in (λ n. c ≡ Commands.Eject n)
-HasArguments Show ws c = Words2 ws shown_in offset_in (λ n o. c ≡ Commands.Show n o)
+HasArguments Device ws c = Words4 ws name_in kind_in (number_in 1 27) speed_in (λ name kind ports speed. c ≡ Commands.Device name kind ports speed)
+HasArguments Cable ws c = Words2 ws (place_in 26) (place_in 26) (λ one other. c ≡ Commands.Cable one other)
+HasArguments Reset ws c = Words1 ws name_in (λ name. c ≡ Commands.Reset name)
+HasArguments Connect ws c = Words5 ws name_in (place_in 30) (place_in 30) channel_in (number_in 0 15) (λ name output input channel overhead. c ≡ Commands.Connect name output input channel overhead)
+HasArguments Broadcast ws c = Words3 ws name_in (place_in 30) (number_in 0 15) (λ name output overhead. c ≡ Commands.Broadcast name output overhead)
+HasArguments Listen ws c = Words2 ws name_in (place_in 30) (λ name input. c ≡ Commands.Listen name input)
+HasArguments Break ws c = Words2 ws name_in (number_in 0 31) (λ name slot. c ≡ Commands.Break name slot)
+HasArguments Step ws c = Words2 ws name_in (number_in 1 10000) (λ name count. c ≡ Commands.Step name count)
+HasArguments Settle ws c = Words1 ws (number_in 1 200000) (λ rounds. c ≡ Commands.Settle rounds)
+HasArguments Wait ws c = Words1 ws (number_in 0 1000000000) (λ cycles. c ≡ Commands.Wait cycles)
+HasArguments Cycles ws c = Words1 ws (number_in 1 8000) (λ count. c ≡ Commands.Cycles count)
+HasArguments Die ws c = Words1 ws name_in (λ name. c ≡ Commands.Die name false) ⊎ Words2 ws name_in late_in (λ name late. c ≡ Commands.Die name true)
+HasArguments Start ws c = Words1 ws name_in (λ name. c ≡ Commands.Start name)
+HasArguments CommandWord ws c = Words3 ws name_in name_in frame_in (λ sender target frame. c ≡ Commands.Command sender target frame)
+HasArguments Read ws c = Words3 ws name_in name_in offset_in (λ sender target offset. c ≡ Commands.Read sender target offset)
+HasArguments Swap ws c = Words5 ws name_in name_in offset_in word_in word_in (λ sender target offset argument value. c ≡ Commands.Swap sender target offset argument value)
+HasArguments Insert ws c = Words3 ws name_in (number_in 0 65535) system_in (λ name tape system. c ≡ Commands.Insert name tape system)
+HasArguments Eject ws c = Words1 ws name_in (λ name. c ≡ Commands.Eject name)
+HasArguments Show ws c = Words2 ws shown_in offset_in (λ name offset. c ≡ Commands.Show name offset)
 HasArguments End ws c = (ws ≡ []) × (c ≡ Commands.End)
 
--- the line, whose words are parted by one space, is the command
+-- the line, whose words are parted by one space, is the command (own)
 pub record HasForm (c : Command) (line : List ℕ) : Type 0 where
   pub first : List ℕ
   pub others : List (List ℕ)

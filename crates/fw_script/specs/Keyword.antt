@@ -4,6 +4,7 @@ use Rattle.fw_script.specs.Words.{is}
 use Rattle.fw_script.specs.declared.keyword.Keyword.{Keyword}
 use Rattle.fw_script.specs.declared.keyword.Keyword.TheVariants.{Device, Cable, Reset, Connect, Broadcast, Listen, Break, Step, Settle, Wait, Cycles, Die, Start, Command, Read, Swap, Insert, Eject, Show, End}
 
+-- the keyword that the word is
 abbrev pub keyword_in : List ℕ → Option Keyword
 keyword_in w =
     if is (codes "device") w then Some Device

@@ -1,6 +1,7 @@
 -- What holds of every script.
 use Rattle.std.specs.Prelude.{◌≡◌, ◌≢◌, ℕ, List, [], ◌∷◌, ◌++◌, length, Option, Some, None, Ok, Err}
 use Rattle.fw_outside.specs.Outside.{Takes, IsAtEnd}
+use Rattle.fw_script.specs.Pieces.{pieces, parted, AreFree}
 use Rattle.fw_script.specs.Form.{HasForm}
 use Rattle.fw_script.specs.Reading.{Reading, Answer, Gives, Advances, unread}
 use Rattle.fw_script.specs.Script.{Refusal, IsScript, HasRead, Tells, FitsLimit}
@@ -8,6 +9,10 @@ use Rattle.fw_script.specs.declared.command.Command.{Command}
 use Rattle.fw_script.specs.declared.command.Command.TheVariants.{End}
 use Rattle.fw_script.specs.declared.ScriptFault.{ScriptFault}
 use Rattle.fw_script.specs.declared.ScriptFault.TheVariants.{ReadFault}
+
+-- the pieces of bytes are what stands between their separators
+abbrev pub PiecesPartTheBytes : Type 0
+PiecesPartTheBytes = (separator : ℕ) (bytes : List ℕ) → (parted separator (pieces separator bytes) ≡ bytes) × AreFree separator (pieces separator bytes)
 
 -- a line is one command at most
 abbrev pub LineIsOneCommand : Type 0
@@ -33,6 +38,11 @@ ReadingBegins = (left : Option (List ℕ)) → HasRead left left [] unread
 abbrev pub CommandIsNext : Type 0
 CommandIsNext = (left mid left' : Option (List ℕ)) (given : List Command) (old new : Reading) (c : Command)
     → HasRead left mid given old → Advances old new mid left' (Ok (Some c)) → c ≢ End → HasRead left left' (given ++ c ∷ []) new
+
+-- what was given comes first among the commands of the script that the source tells
+abbrev pub GivenComesFirst : Type 0
+GivenComesFirst = (script : List ℕ) (left' : Option (List ℕ)) (given ds : List Command) (now : Reading) (r : Option Refusal)
+    → HasRead (Some script) left' given now → IsScript script ds r → (cs : List Command) × (ds ≡ given ++ cs)
 
 -- where the end is given, the input was a script, and was read to its end
 abbrev pub EndIsLast : Type 0

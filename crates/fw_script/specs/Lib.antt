@@ -3,6 +3,7 @@ pub mod Keyword
 pub mod Laws
 pub mod Line
 pub mod Pieces
+pub mod Reader
 pub mod Reading
 pub mod Script
 pub mod Words

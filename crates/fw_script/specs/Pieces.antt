@@ -1,5 +1,5 @@
 -- Bytes parted by a separator.
-use Rattle.std.specs.Prelude.{◌≡◌, ◌≢◌, ℕ, ◌<◌, ◌==◌, List, [], ◌∷◌, length, slice_index, if◌then◌else◌}
+use Rattle.std.specs.Prelude.{◌≡◌, ◌≢◌, ℕ, ◌<◌, ◌==◌, List, [], ◌∷◌, ◌++◌, length, slice_index, if◌then◌else◌}
 
 -- no byte of the word is the separator
 abbrev pub IsFree : ℕ → List ℕ → Type 0
@@ -20,3 +20,14 @@ onto b (w ∷ ws) = (b ∷ w) ∷ ws
 abbrev pub pieces : ℕ → List ℕ → List (List ℕ)
 pieces separator [] = [] ∷ []
 pieces separator (b ∷ bs) = if b == separator then [] ∷ pieces separator bs else onto b (pieces separator bs)
+
+-- the pieces with one separator between each and the next
+abbrev pub parted : ℕ → List (List ℕ) → List ℕ
+parted separator [] = []
+parted separator (w ∷ []) = w
+parted separator (w ∷ v ∷ ws) = w ++ separator ∷ parted separator (v ∷ ws)
+
+-- no piece has a separator
+abbrev pub AreFree : ℕ → List (List ℕ) → Type 0
+AreFree separator [] = Unit {0}
+AreFree separator (w ∷ ws) = IsFree separator w × AreFree separator ws

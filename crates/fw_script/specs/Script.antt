@@ -1,7 +1,6 @@
 -- Whole scripts.
-use Rattle.std.specs.Prelude.{◌≡◌, ◌≢◌, ◌⊎◌, ◌↔◌, ℕ, ◌≤◌, ◌<◌, List, [], ◌∷◌, ◌++◌, length, true, Option, Some, None, Ok, Err}
+use Rattle.std.specs.Prelude.{◌≡◌, ◌≢◌, ℕ, ◌≤◌, ◌<◌, List, [], ◌∷◌, ◌++◌, true, Option, Some, None, Ok, Err}
 use Rattle.fw_outside.specs.Outside.{Takes, IsAtEnd}
-use Rattle.fw_script.specs.Form.{HasForm}
 use Rattle.fw_script.specs.Reading.{Reading, Gives, with_taken}
 use Rattle.fw_script.specs.declared.command.Command.{Command}
 use Rattle.fw_script.specs.declared.command.Command.TheVariants.{End}

@@ -1,5 +1,5 @@
--- The words of a script's lines.
-use Rattle.std.specs.Prelude.{◌≡◌, ℕ, ◌==◌, ◌&&◌, ◌||◌, not, nat_le, List, [], ◌∷◌, length, slice_index, Bool, true, false, codes, Option, Some, None, Result, Ok, Err, if◌then◌else◌}
+-- The words of a script's lines (own).
+use Rattle.std.specs.Prelude.{ℕ, ◌==◌, ◌&&◌, ◌||◌, not, nat_le, List, [], ◌∷◌, length, slice_index, Bool, true, codes, Option, Some, None, Result, Ok, Err, if◌then◌else◌}
 use Rattle.std.specs.List.{list_all}
 use Rattle.std.specs.Str.{bytes_eq}
 use Rattle.std.specs.Char.{is_ascii_digit, is_ascii_lowercase}
@@ -13,6 +13,7 @@ use Rattle.fw_script.specs.Pieces.{pieces}
 abbrev pub is : List ℕ → List ℕ → Bool
 is text w = bytes_eq w text
 
+-- the value, if the test holds
 abbrev pub only_if : {A : Type 0} → Bool → A → Option A
 only_if b x = if b then Some x else None
 
@@ -28,6 +29,7 @@ is_taken w = is (codes "manager") w || is (codes "any") w || is (codes "late") w
 abbrev pub is_name : List ℕ → Bool
 is_name w = nat_le 1 (length w) && nat_le (length w) 16 && is_ascii_lowercase (slice_index w 0) && list_all is_name_byte w && not (is_taken w)
 
+-- the name that the word is
 abbrev pub name_in : List ℕ → Option (List ℕ)
 name_in w = only_if (is_name w) w
 
@@ -64,11 +66,12 @@ system_in w = if is (codes "525") w then Some 525 else if is (codes "625") w the
 abbrev pub late_in : List ℕ → Option Bool
 late_in w = only_if (is (codes "late") w) true
 
--- CHANNEL: none for `any`
+-- the value is one of the possible ones
 abbrev pub some_in : {A : Type 0} → Option A → Option (Option A)
 some_in (Some x) = Some (Some x)
 some_in None = None
 
+-- CHANNEL: none for `any`
 abbrev pub channel_in : List ℕ → Option (Option ℕ)
 channel_in w = if is (codes "any") w then Some None else some_in (number_in 0 63 w)
 
@@ -76,21 +79,24 @@ channel_in w = if is (codes "any") w then Some None else some_in (number_in 0 63
 abbrev pub shown_in : List ℕ → Option (Option (List ℕ))
 shown_in w = if is (codes "manager") w then Some None else some_in (name_in w)
 
--- END and PLUG: a name and a number, parted by a full stop
+-- both values, where both are there
 abbrev pub both : Option (List ℕ) → Option ℕ → Option (List ℕ × ℕ)
 both (Some name) (Some n) = Some (name, n)
 both (Some name) None = None
 both None n = None
 
+-- a name and a number up to a limit
 abbrev pub place_by : ℕ → List (List ℕ) → Option (List ℕ × ℕ)
 place_by high [] = None
 place_by high (name ∷ []) = None
 place_by high (name ∷ number ∷ []) = both (name_in name) (number_in 0 high number)
 place_by high (name ∷ number ∷ w ∷ ws) = None
 
+-- END and PLUG: a name and a number, parted by a full stop
 abbrev pub place_in : ℕ → List ℕ → Option (List ℕ × ℕ)
 place_in high w = place_by high (pieces 46 w)
 
+-- what the bytes say, or none where the digits are not read
 abbrev pub or_none : {A : Type 0} → (List ℕ → A) → Result (List ℕ) FromHexError → Option A
 or_none f (Ok bytes) = Some (f bytes)
 or_none f (Err e) = None

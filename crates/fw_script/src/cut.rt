@@ -1,6 +1,6 @@
 //! Bytes cut at a separator.
 
-ghost use Rattle.std.specs.Prelude.{ℕ, ◌≡◌, ◌++◌, ◌∷◌, [], List, IfSome, IfNone, IsSomeAnd, IsTrue, ◌↔◌};
+ghost use Rattle.std.specs.Prelude.{ℕ, ◌≡◌, ◌++◌, ◌∷◌, [], List, IfSome, IfNone};
 ghost use Rattle.fw_script.specs.Pieces.{IsFirstAt, IsFree, pieces};
 
 use std::marker::Model;

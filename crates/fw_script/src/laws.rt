@@ -1,10 +1,11 @@
 //! Laws of scripts, as the contracts of empty functions.
 
-ghost use Rattle.fw_script.specs.Laws.{LineIsOneCommand, LinesGiveOneAnswer, ScriptSaysOneThing, LimitDecides, ReadingBegins, CommandIsNext, EndIsLast, FaultIsTheScripts};
+ghost use Rattle.fw_script.specs.Laws.{PiecesPartTheBytes, LineIsOneCommand, LinesGiveOneAnswer, ScriptSaysOneThing, LimitDecides, ReadingBegins, CommandIsNext, GivenComesFirst, EndIsLast, FaultIsTheScripts};
 
-/// A script says one thing: its commands in order, and its first refused line, if any. Which it is too long for
-/// is decided by its length.
+/// A script says one thing: its commands in order, and its first refused line, if any. Its length decides whether
+/// it can be too long.
 pub fn scripts_say_one_thing()
+    ensures pieces { PiecesPartTheBytes }
     ensures line { LineIsOneCommand }
     ensures answer { LinesGiveOneAnswer }
     ensures script { ScriptSaysOneThing }
@@ -15,6 +16,7 @@ pub fn scripts_say_one_thing()
 pub fn calls_give_the_script()
     ensures begins { ReadingBegins }
     ensures command { CommandIsNext }
+    ensures first { GivenComesFirst }
     ensures end { EndIsLast }
     ensures fault { FaultIsTheScripts }
 {}

@@ -11,7 +11,6 @@ mod cut;
 mod device_forms;
 mod form;
 mod hexadecimal;
-mod input;
 mod keyword;
 mod laws;
 mod line;

@@ -1,6 +1,6 @@
 //! The next line of a script, and what it means.
 
-ghost use Rattle.std.specs.Prelude.{ℕ, ◌≡◌, ◌≤◌, ◌<◌, length};
+ghost use Rattle.std.specs.Prelude.{◌≡◌, ◌≤◌};
 ghost use Rattle.fw_script.specs.Line.{IsFront, IsMeaning, is_skipped, unfed_of};
 
 use crate::Command;

@@ -1,17 +1,18 @@
 //! The reader of scripts.
 
-ghost use Rattle.std.specs.Prelude.{◌≡◌, ◌≢◌, ◌⊎◌, ◌≤◌, ◌<◌, ◌+◌, ℕ, [], List, length, take, true, false, IsTrue, ◌↔◌, IfOk, OnOk, OnErr, Ok, Err, None, MatchResult};
-ghost use Rattle.fw_outside.specs.Outside.{Rose, Takes, IsAtEnd};
-ghost use Rattle.fw_script.specs.Line.{IsFront};
-ghost use Rattle.fw_script.specs.Reading.{unread, with_taken, at_stage, refused, behind, Advances, IsStageAfter, IsOpen, IsFilled, ReadsLine, HoldsLine, IsAtEndOfInput, Gives, StandsNext, Fills};
+ghost use Rattle.std.specs.Prelude.{◌≡◌, ◌≢◌, ◌≤◌, ◌<◌, ◌+◌, [], length, take, true, false, IfOk};
+ghost use Rattle.fw_outside.specs.Outside.{Rose};
+ghost use Rattle.fw_script.specs.Reader.{IsOpen, IsFilled, ReadsLine, HoldsLine, StandsNext};
+ghost use Rattle.fw_script.specs.Reading.{unread, at_stage, refused, behind, Advances, IsStageAfter, IsAtEndOfInput, Gives};
 
-use crate::input::take_script;
 use crate::line::{Front, Meaning, SCRIPT_LIMIT, front_of, meaning_of};
 use crate::stage::Stage;
 use crate::{Command, ScriptFault};
 use fw_outside::Source;
 use std::alloc::{AllocError, Global};
 use std::marker::Model;
+
+mod input;
 
 /// Reads the commands of a script.
 #[derive(Debug, Drop)]
@@ -25,7 +26,8 @@ pub struct ScriptReader {
 
 impl Model for ScriptReader {
     ghost use Rattle.std.specs.Prelude.{◌≤◌, ◌+◌, drop, vec_len, vec_capacity};
-    ghost use Rattle.fw_script.specs.Reading.{Reading, IsOpen, IsRead};
+    ghost use Rattle.fw_script.specs.Reader.{IsOpen, IsRead};
+    ghost use Rattle.fw_script.specs.Reading.{Reading};
 
     ghost Value = { Reading };
 
@@ -49,8 +51,8 @@ impl ScriptReader {
         })
     }
 
-    /// The number of the line last read or refused, from 1. The first is refused by the number of the line after
-    /// the last where the end is missing.
+    /// The number of the line last read or refused, from 1, and 0 before the first. Where the end is missing it is
+    /// that of the line after the last.
     pub fn line(&self) -> u32
         ensures { result ≡ self.now.line }
     {
@@ -66,8 +68,7 @@ impl ScriptReader {
         match self.stage {
             Stage::Commands => true,
             Stage::AfterEnd => false,
-            Stage::Done => unreachable!(),
-            Stage::Failed => unreachable!(),
+            Stage::Done | Stage::Failed => unreachable!(),
         }
     }
 
@@ -78,8 +79,7 @@ impl ScriptReader {
         ensures no { result ≡ false → IsOpen self.now.stage }
     {
         match self.stage {
-            Stage::Commands => false,
-            Stage::AfterEnd => false,
+            Stage::Commands | Stage::AfterEnd => false,
             Stage::Done => true,
             Stage::Failed => unreachable!(),
         }
@@ -137,41 +137,6 @@ impl ScriptReader {
     {
         self.line += 1;
         self.stage = Stage::Failed;
-    }
-
-    // Takes the bytes from the source.
-    fn take<S: Source>(&mut self, source: &mut S) -> Result<(), ScriptFault>
-        requires open { IsOpen self.old.stage }
-        requires empty { (self.old.rest ≡ []) × (self.old.before ≡ 0) × (self.old.whole ≡ false) }
-        ensures fills { Fills self.old (S.left source.old) (S.left source.new) result self.new }
-        ensures later { S.faults source.old ≤ S.faults source.new }
-        ensures cause { OnErr result (Rose (S.faults source.old) (S.faults source.new)) }
-    {
-        match take_script(source, &mut self.bytes) {
-            Ok(()) => {
-                self.whole = self.bytes.len() <= SCRIPT_LIMIT;
-                Ok(())
-            }
-            Err(_) => {
-                self.stage = Stage::Failed;
-                Err(ScriptFault::ReadFault)
-            }
-        }
-    }
-
-    // Takes the bytes from the source where that was not done.
-    fn fill<S: Source>(&mut self, source: &mut S) -> Result<(), ScriptFault>
-        requires { IsOpen self.old.stage }
-        ensures fills { Fills self.old (S.left source.old) (S.left source.new) result self.new }
-        ensures stage { OnOk result (self.new.stage ≡ self.old.stage) }
-        ensures same { self.old.whole ≡ true → source.new ≡ source.old }
-        ensures later { S.faults source.old ≤ S.faults source.new }
-        ensures cause { OnErr result (Rose (S.faults source.old) (S.faults source.new)) }
-    {
-        if self.is_filled() {
-            return Ok(());
-        }
-        self.take(source)
     }
 
     // Reads a line of so many bytes.
@@ -258,7 +223,7 @@ impl ScriptReader {
         requires { self.old.stage ≢ Stage.Failed }
         ensures gives { Advances self.old self.new (S.left source.old) (S.left source.new) result }
         ensures stage { IsStageAfter self.old.stage result self.new.stage }
-        ensures whole { self.old.whole ≡ true → source.new ≡ source.old }
+        ensures unasked { self.old.whole ≡ true → source.new ≡ source.old }
         ensures later { S.faults source.old ≤ S.faults source.new }
         ensures cause { result ≡ Err ScriptFault.ReadFault → Rose (S.faults source.old) (S.faults source.new) }
     {

@@ -75,134 +75,28 @@ fn each_form_is_read(rt: HostRuntime) -> Result<(), Fail> {
 // Lines that are no command: another first word; a word missing, or one too many; a value out of its range; numbers and
 // places with more than their digits; names that are none; words that are not parted by one space.
 const NO_COMMANDS: &str = "\
-End
-end end
-ends
-a
-no a
-device
-device a
-device a deck
-device a deck 1
-device a deck 1 100 1
-device  a deck 1 100
-cable
-cable a.0
-cable a.0 a.1 a.2
-reset
-reset a a
-connect a a.0 a.0 any
-connect a a.0 any 0
-connect a a.0 a.0 any 0 0
-broadcast a a.0
-broadcast a 0
-broadcast a a.0 0 0
-listen a
-listen a a.0 a.0
-break a
-break a 0 0
-step a
-step 1
-step a 1 1
-settle
-settle 1 1
-wait
-wait 1 1
-cycles
-cycles 1 1
-die
-die a a
-die a late late
-die a a late
-start
-start a a
-command a a
-command a 00
-command a a 00 00
-read a a
-read a 904
-read a a 904 904
-swap a a 904 00000000
-swap a 904 00000000 00000000
-swap a a 904 00000000 00000000 00000000
-insert a 0
-insert a 525
-insert a 0 525 525
-eject
-eject a a
-show a
-show 904
-show a 904 904
-device a deck 0 100
-device a deck 28 100
-device a deck 1 300
-device a bridge 1 100
-cable a.27 a.0
-cable a.0 a.27
-connect a a.31 a.0 any 0
-connect a a.0 a.31 any 0
-connect a a.0 a.0 64 0
-connect a a.0 a.0 all 0
-connect a a.0 a.0 any 16
-broadcast a a.31 0
-broadcast a a.0 16
-listen a a.31
-break a 32
-step a 0
-step a 10001
-settle 0
-settle 200001
-wait 1000000001
-wait 4294967296
-wait 99999999999999999999
-cycles 0
-cycles 8001
-insert a 65536 525
-insert a 0 1125
-read a a 90
-read a a 0904
-read a a 90g
-swap a a 904 0000000 00000000
-swap a a 904 00000000 000000000
-swap a a 904 0000000g 00000000
-command a a 0
-command a a 000
-command a a 0g
-command a a 0x00
-device a deck 01 100
-device a deck +1 100
-device a deck 1. 100
-cable a.00 a.1
-cable a.01 a.1
-cable a. a.1
-cable .0 a.1
-cable a a.1
-cable a.0.0 a.1
-cable a.-1 a.1
-connect a a.0 a.0 00 0
-connect a a.0 a.0 any 00
-break a 00
-step a 01
-settle 01
-wait 00
-cycles 01
-insert a 00 525
-reset manager
-reset any
-reset late
-reset A
-reset 9a
-reset a-b
-reset a.0
-reset abcdefghijklmnopq
-show any 904
-cable any.0 a.0
-read manager a 904
-reset  a";
+    End|end end|ends|a|no a|device|device a|device a deck|device a deck 1|device a deck 1 100 1|\
+    device  a deck 1 100|cable|cable a.0|cable a.0 a.1 a.2|reset|reset a a|connect a a.0 a.0 any|\
+    connect a a.0 any 0|connect a a.0 a.0 any 0 0|broadcast a a.0|broadcast a 0|broadcast a a.0 0 0|listen a|\
+    listen a a.0 a.0|break a|break a 0 0|step a|step 1|step a 1 1|settle|settle 1 1|wait|wait 1 1|cycles|cycles 1 1|\
+    die|die a a|die a late late|die a a late|start|start a a|command a a|command a 00|command a a 00 00|read a a|\
+    read a 904|read a a 904 904|swap a a 904 00000000|swap a 904 00000000 00000000|\
+    swap a a 904 00000000 00000000 00000000|insert a 0|insert a 525|insert a 0 525 525|eject|eject a a|show a|\
+    show 904|show a 904 904|device a deck 0 100|device a deck 28 100|device a deck 1 300|device a bridge 1 100|\
+    cable a.27 a.0|cable a.0 a.27|connect a a.31 a.0 any 0|connect a a.0 a.31 any 0|connect a a.0 a.0 64 0|\
+    connect a a.0 a.0 all 0|connect a a.0 a.0 any 16|broadcast a a.31 0|broadcast a a.0 16|listen a a.31|break a 32|\
+    step a 0|step a 10001|settle 0|settle 200001|wait 1000000001|wait 4294967296|wait 99999999999999999999|cycles 0|\
+    cycles 8001|insert a 65536 525|insert a 0 1125|read a a 90|read a a 0904|read a a 90g|\
+    swap a a 904 0000000 00000000|swap a a 904 00000000 000000000|swap a a 904 0000000g 00000000|command a a 0|\
+    command a a 000|command a a 0g|command a a 0x00|device a deck 01 100|device a deck +1 100|device a deck 1. 100|\
+    cable a.00 a.1|cable a.01 a.1|cable a. a.1|cable .0 a.1|cable a a.1|cable a.0.0 a.1|cable a.-1 a.1|\
+    connect a a.0 a.0 00 0|connect a a.0 a.0 any 00|break a 00|step a 01|settle 01|wait 00|cycles 01|\
+    insert a 00 525|reset manager|reset any|reset late|reset A|reset 9a|reset a-b|reset a.0|reset abcdefghijklmnopq|\
+    show any 904|cable any.0 a.0|read manager a 904|reset  a";
 
 #[test]
 fn other_lines_have_no_form(rt: HostRuntime) -> Result<(), Fail> {
-    for line in NO_COMMANDS.split('\n') {
+    for line in NO_COMMANDS.split('|') {
         assert_eq!(rt; command_of(line.as_bytes()), None, "{line}");
     }
     let lines: [&[u8]; 15] = [
@@ -321,18 +215,27 @@ fn scripts_end_or_are_refused(rt: HostRuntime) -> Result<(), Fail> {
 #[test]
 fn lines_and_scripts_have_limits(rt: HostRuntime) -> Result<(), Fail> {
     let alloc = rt.alloc();
-    for (before, size, last, fault, line) in [
-        ("", 256, "\nend\n", None, 2),
-        ("", 257, "\nend\n", Some(ScriptFault::LineTooLong), 1),
-        ("", 256, "", Some(ScriptFault::NoEnd), 2),
-        ("", 257, "", Some(ScriptFault::LineTooLong), 1),
-        ("end\n", 256, "\n", None, 2),
-        ("end\n", 257, "\n", Some(ScriptFault::LineTooLong), 2),
-        ("a", 256, "\n", Some(ScriptFault::LineTooLong), 1),
+    for (before, filler, size, last, fault, line) in [
+        ("", b'#', 256, "\nend\n", None, 2),
+        ("", b'#', 257, "\nend\n", Some(ScriptFault::LineTooLong), 1),
+        ("", b'#', 256, "", Some(ScriptFault::NoEnd), 2),
+        ("", b'#', 257, "", Some(ScriptFault::LineTooLong), 1),
+        ("end\n", b'#', 256, "\n", None, 2),
+        ("end\n", b'#', 257, "\n", Some(ScriptFault::LineTooLong), 2),
+        ("", b'a', 257, "\n", Some(ScriptFault::LineTooLong), 1),
+        ("command a a ", b'0', 220, "\nend\n", None, 2),
+        (
+            "command a a ",
+            b'0',
+            222,
+            "\nend\n",
+            Some(ScriptFault::BadLine),
+            1,
+        ),
     ] {
         let mut script = before.as_bytes().to_vec(alloc)?;
         for _ in 0..size {
-            script.push(b'#')?;
+            script.push(filler)?;
         }
         script.extend_from_slice(last.as_bytes())?;
         let mut source = MemSource::new(script, Vec::new(alloc));

@@ -1,4 +1,4 @@
-use Rattle.fw_script.proofs.ScriptLaws.{read_nothing, read_command, read_end, read_refused}
+use Rattle.fw_script.proofs.ScriptLaws.{read_nothing, read_command, given_first, read_end, read_refused}
 use Rattle.fw_script.proofs.laws.calls_give_the_script.Goals as goal
 
 pub returns-clause-begins : goal.returns-clause-begins
@@ -12,3 +12,6 @@ returns-clause-end c = read_end
 
 pub returns-clause-fault : goal.returns-clause-fault
 returns-clause-fault c = read_refused
+
+pub returns-clause-first : goal.returns-clause-first
+returns-clause-first c = given_first

@@ -1,6 +1,7 @@
 use Rattle.fw_script.proofs.FormLaws.{one_form}
 use Rattle.fw_script.proofs.GivesLaws.{gives_once}
 use Rattle.fw_script.proofs.ScriptLaws.{says_once, script_limit}
+use Rattle.fw_script.proofs.PiecesLaws.{pieces_part}
 use Rattle.fw_script.proofs.laws.scripts_say_one_thing.Goals as goal
 
 pub returns-clause-line : goal.returns-clause-line
@@ -14,3 +15,6 @@ returns-clause-script c = λ bytes cs ds r s m n. says_once m n
 
 pub returns-clause-limit : goal.returns-clause-limit
 returns-clause-limit c = script_limit
+
+pub returns-clause-pieces : goal.returns-clause-pieces
+returns-clause-pieces c = pieces_part

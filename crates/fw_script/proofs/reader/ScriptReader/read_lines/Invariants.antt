@@ -1,5 +1,5 @@
 use Rattle.std.proofs.Common.{length}
-use Rattle.fw_script.specs.Reading.{GoesOn, IsOpen, IsFilled}
+use Rattle.fw_script.specs.Reader.{GoesOn, IsOpen, IsFilled}
 use Rattle.fw_script.proofs.reader.ScriptReader.read_lines.Given as goal
 
 abbrev pub invariant-loop-command : goal.invariant-loop-command

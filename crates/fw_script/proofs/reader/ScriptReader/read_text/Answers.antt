@@ -1,4 +1,3 @@
-use Rattle.std.proofs.Common.{◌⊎◌, inl, inr, sym, ◌∙◌}
 use Rattle.fw_script.proofs.ReadingLaws.{reads_skipped, reads_command, reads_end_line, reads_bad_line, refused_stage}
 use Rattle.fw_script.proofs.reader.ScriptReader.read_text.Goals as goal
 

@@ -1,6 +1,6 @@
 use Rattle.std.proofs.Common.{◌≤◌, ◌-◌, vec_len, vec_capacity}
 use Rattle.fw_outside.specs.Outside.{Takes}
-use Rattle.fw_script.proofs.input.take_script.Given as goal
+use Rattle.fw_script.proofs.reader.input.take_script.Given as goal
 
 abbrev pub invariant-loop-piece : goal.invariant-loop-piece
 invariant-loop-piece g l = record {
