@@ -4,5 +4,7 @@
 mod line;
 mod names;
 mod quadlets;
+#[cfg(test)]
+mod tests;
 
 pub use line::entry_text;
