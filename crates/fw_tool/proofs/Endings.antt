@@ -9,7 +9,7 @@ use Rattle.fw_bus.specs.Headline.{all_actions}
 use Rattle.fw_bus.proofs.Runs.{run_steps}
 use Rattle.fw_bus.proofs.Sounds.{sound_throughout}
 use Rattle.fw_tool.specs.declared.ending.Ending.{Ending}
-use Rattle.fw_tool.specs.declared.ending.Ending.TheVariants.{Done, Usage, Refused as RefusedAt, ReadFault, WriteFault, NoMemory}
+use Rattle.fw_tool.specs.declared.ending.Ending.TheVariants.{Done, Usage, Refused as RefusedAt, NoLog, ReadFault, WriteFault, TooLong, NoMemory}
 use Rattle.fw_tool.specs.declared.Refused.{Refused}
 use Rattle.fw_tool.specs.Ending.{Runs, Logged, PartLogged}
 use Rattle.fw_tool.specs.Lines.{RunsAll, RunsPart}
@@ -84,3 +84,5 @@ part_logged left left' held held' WriteFault runs = runs
 part_logged left left' held held' ReadFault runs = runs
 part_logged left left' held held' NoMemory runs = runs
 part_logged left left' held held' Usage runs = absurd runs
+part_logged left left' held held' (NoLog f) runs = absurd runs
+part_logged left left' held held' TooLong runs = absurd runs

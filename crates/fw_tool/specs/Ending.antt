@@ -8,7 +8,7 @@ use Rattle.fw_bus.specs.State.{State, first_state}
 use Rattle.fw_bus.specs.Run.{Action, Steps, Run}
 use Rattle.fw_bus.specs.Headline.{IsSoundThroughout, all_actions}
 use Rattle.fw_tool.specs.declared.ending.Ending.{Ending}
-use Rattle.fw_tool.specs.declared.ending.Ending.TheVariants.{Done, Usage, Refused, ReadFault, WriteFault, NoMemory}
+use Rattle.fw_tool.specs.declared.ending.Ending.TheVariants.{Done, Usage, Refused, NoLog, ReadFault, WriteFault, TooLong, NoMemory}
 use Rattle.fw_tool.specs.declared.Refused.{Refused as RefusedLine}
 use Rattle.fw_tool.specs.Scripts.{script_in}
 
@@ -46,3 +46,5 @@ Runs left left' held held' WriteFault = PartLogged left left' held held'
 Runs left left' held held' ReadFault = PartLogged left left' held held'
 Runs left left' held held' NoMemory = PartLogged left left' held held'
 Runs left left' held held' Usage = ⊥
+Runs left left' held held' (NoLog fault) = ⊥
+Runs left left' held held' TooLong = ⊥

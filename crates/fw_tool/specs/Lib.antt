@@ -5,3 +5,5 @@ pub mod Lines
 pub mod Ending
 pub mod Notes
 pub mod Words
+pub mod Decode
+pub mod Printing

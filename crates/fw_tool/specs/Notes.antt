@@ -1,9 +1,11 @@
 -- The status and the note of each ending.
-use Rattle.std.specs.Prelude.{◌≡◌, ℕ, ◌+◌, ◌<◌, ◌⊎◌, List, [], ◌∷◌, ◌++◌, codes}
+use Rattle.std.specs.Prelude.{◌≡◌, ℕ, ◌+◌, ◌<◌, ◌⊎◌, List, [], ◌∷◌, ◌++◌, codes, decimal}
 use Rattle.std.specs.declared.option.Option.{Option}
 use Rattle.fw_outside.specs.Outside.{Grows, AppendsFront, Rose}
+use Rattle.fw_log.specs.declared.LogWhy.{LogWhy}
+use Rattle.fw_log.specs.declared.LogWhy.TheVariants.{AfterEnd, BadHeader, BadKind, BadLength, TimeBack, BadBody, Cut, NoEnd as NoLogEnd, NotBuilt as NotBuiltKind}
 use Rattle.fw_tool.specs.declared.ending.Ending.{Ending}
-use Rattle.fw_tool.specs.declared.ending.Ending.TheVariants.{Done, Usage, Refused, ReadFault, WriteFault, NoMemory}
+use Rattle.fw_tool.specs.declared.ending.Ending.TheVariants.{Done, Usage, Refused, NoLog, ReadFault, WriteFault, TooLong, NoMemory}
 use Rattle.fw_tool.specs.declared.Refusal.{Refusal}
 use Rattle.fw_tool.specs.declared.Refusal.TheVariants.{NotBuilt, NoEnd}
 
@@ -11,20 +13,35 @@ abbrev pub status_of : Ending → ℕ
 status_of Done = 0
 status_of Usage = 2
 status_of (Refused _) = 3
+status_of (NoLog _) = 4
 status_of ReadFault = 5
 status_of WriteFault = 6
+status_of TooLong = 7
 status_of NoMemory = 8
 
 abbrev pub name_of : Refusal → List ℕ
 name_of NotBuilt = codes ": NotBuilt" ++ 10 ∷ []
 name_of NoEnd = codes ": NoEnd" ++ 10 ∷ []
 
+abbrev pub why_of : LogWhy → List ℕ
+why_of AfterEnd = codes ": AfterEnd" ++ 10 ∷ []
+why_of BadHeader = codes ": BadHeader" ++ 10 ∷ []
+why_of BadKind = codes ": BadKind" ++ 10 ∷ []
+why_of BadLength = codes ": BadLength" ++ 10 ∷ []
+why_of TimeBack = codes ": TimeBack" ++ 10 ∷ []
+why_of (BadBody _) = codes ": BadBody" ++ 10 ∷ []
+why_of Cut = codes ": Cut" ++ 10 ∷ []
+why_of NoLogEnd = codes ": NoEnd" ++ 10 ∷ []
+why_of NotBuiltKind = codes ": NotBuilt" ++ 10 ∷ []
+
 abbrev pub note_of : Ending → List ℕ
 note_of Done = []
 note_of Usage = codes "usage" ++ 10 ∷ []
 note_of (Refused r) = codes "line " ++ ((48 + r.line) ∷ []) ++ name_of r.why
+note_of (NoLog fault) = codes "byte " ++ decimal fault.place ++ why_of fault.why
 note_of ReadFault = codes "read fault" ++ 10 ∷ []
 note_of WriteFault = codes "write fault" ++ 10 ∷ []
+note_of TooLong = codes "too long" ++ 10 ∷ []
 note_of NoMemory = codes "no memory" ++ 10 ∷ []
 
 -- a refused line has one digit

@@ -1,4 +1,5 @@
 use crate::Refused;
+use fw_log::LogFault;
 
 /// How a call ends.
 #[derive(Clone, Copy, Debug, PartialEq, Eq)]
@@ -6,7 +7,9 @@ pub(crate) enum Ending {
     Done,
     Usage,
     Refused(Refused),
+    NoLog(LogFault),
     ReadFault,
     WriteFault,
+    TooLong,
     NoMemory,
 }

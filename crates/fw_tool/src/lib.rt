@@ -1,9 +1,13 @@
-//! The program's top call: scripts in, logs and notes out.
+//! The program's top call: scripts in, logs and notes out; logs in, text and notes out.
 #![tactic(auto)]
 
+mod decode;
+#[cfg(test)]
+mod decode_tests;
 mod ending;
 mod lines;
 mod notes;
+mod print;
 mod read;
 mod run;
 mod script;

@@ -1,22 +1,49 @@
 ghost use Rattle.std.specs.Prelude.{◌≡◌, ◌+◌, ◌<◌, ◌≤◌, ◌++◌, length};
 ghost use Rattle.arrayvec.specs.ArrayVec.{array_vec_len};
-ghost use Rattle.fw_tool.specs.Notes.{status_of, note_of, IsShort, IsTold};
+ghost use Rattle.fw_tool.specs.Notes.{status_of, name_of, why_of, note_of, IsShort, IsTold};
 
 use crate::Refusal;
 use crate::ending::Ending;
 use arrayvec::ArrayVec;
+use fw_log::LogWhy;
 use fw_outside::Sink;
+use itoa::Buffer;
 
-/// The longest note has 16 bytes.
-type Note = ArrayVec<u8, 32>;
+/// The longest note has 37 bytes: that of a place of twenty digits.
+type Note = ArrayVec<u8, 64>;
 
 /// Appends a text.
 fn put(note: &mut Note, text: &[u8])
-    requires { array_vec_len note.old + length text.now ≤ 32 }
+    requires { array_vec_len note.old + length text.now ≤ 64 }
     ensures bytes { note.new.items ≡ note.old.items ++ text.now }
     ensures len { array_vec_len note.new ≡ array_vec_len note.old + length text.now }
 {
     let _ = note.try_extend_from_slice(text);
+}
+
+fn refusal(why: Refusal) -> &'static [u8]
+    ensures { result.now ≡ name_of why }
+{
+    match why {
+        Refusal::NotBuilt => b": NotBuilt\n",
+        Refusal::NoEnd => b": NoEnd\n",
+    }
+}
+
+fn log_why(why: LogWhy) -> &'static [u8]
+    ensures { result.now ≡ why_of why }
+{
+    match why {
+        LogWhy::AfterEnd => b": AfterEnd\n",
+        LogWhy::BadHeader => b": BadHeader\n",
+        LogWhy::BadKind => b": BadKind\n",
+        LogWhy::BadLength => b": BadLength\n",
+        LogWhy::TimeBack => b": TimeBack\n",
+        LogWhy::BadBody(_) => b": BadBody\n",
+        LogWhy::Cut => b": Cut\n",
+        LogWhy::NoEnd => b": NoEnd\n",
+        LogWhy::NotBuilt => b": NotBuilt\n",
+    }
 }
 
 /// The note of an ending.
@@ -31,13 +58,16 @@ fn note(ending: Ending) -> Note
         Ending::Refused(refused) => {
             put(&mut note, b"line ");
             note.push(b'0' + refused.line as u8);
-            match refused.why {
-                Refusal::NotBuilt => put(&mut note, b": NotBuilt\n"),
-                Refusal::NoEnd => put(&mut note, b": NoEnd\n"),
-            }
+            put(&mut note, refusal(refused.why));
+        }
+        Ending::NoLog(fault) => {
+            put(&mut note, b"byte ");
+            put(&mut note, Buffer::new().format(fault.place).as_bytes());
+            put(&mut note, log_why(fault.why));
         }
         Ending::ReadFault => put(&mut note, b"read fault\n"),
         Ending::WriteFault => put(&mut note, b"write fault\n"),
+        Ending::TooLong => put(&mut note, b"too long\n"),
         Ending::NoMemory => put(&mut note, b"no memory\n"),
     }
     note
@@ -50,8 +80,10 @@ fn status(ending: Ending) -> u8
         Ending::Done => 0,
         Ending::Usage => 2,
         Ending::Refused(_) => 3,
+        Ending::NoLog(_) => 4,
         Ending::ReadFault => 5,
         Ending::WriteFault => 6,
+        Ending::TooLong => 7,
         Ending::NoMemory => 8,
     }
 }

@@ -10,7 +10,7 @@ use std::test::Fail;
 // A deck makes a broadcast connection in thirteen half steps.
 const THIRTEEN: &str = "device d deck 1 100\nbroadcast d d.0 0\nstep d 13\nend\n";
 
-const THIRTEEN_LOG: &str =
+pub(crate) const THIRTEEN_LOG: &str =
     "31333934000000010000000000000000010000050000000000000000000000010000000100010101807f08427f80f7bd020000030000000000000000ffc00140ffc0fffff0000904020000040000000000000000ffc00160ffc0000000000000803f007a020000030000000000000000ffc00140ffc0fffff0000228020000040000000000000000ffc00160ffc0000000000000ffffffff020000060000000000000000ffc00190ffc0fffff000022800080002fffffffffffffffe020000050000000000000000ffc001b0ffc000000000000000040002ffffffff020000030000000000000000ffc00140ffc0fffff0000220020000040000000000000000ffc00160ffc000000000000000001333020000060000000000000000ffc00190ffc0fffff0000220000800020000133300000963020000050000000000000000ffc001b0ffc00000000000000004000200001333020000060000000000000000ffc00190ffc0fffff000090400080002803f007ac03f007a020000050000000000000000ffc001b0ffc000000000000000040002803f007a050000020000000000000000010000000000003f070000000000000000000000";
 
 // It is cut off after five.
@@ -26,44 +26,46 @@ const BEGINS: [usize; 17] = [
 
 // How a call ended.
 #[derive(Drop)]
-struct Ended {
-    status: u8,
-    log: MemSink,
-    notes: MemSink,
+pub(crate) struct Ended {
+    pub(crate) status: u8,
+    pub(crate) log: MemSink,
+    pub(crate) notes: MemSink,
 }
 
 // The numbers of the calls that fail.
 #[derive(Clone, Copy)]
-struct Failing<'a> {
-    read: &'a [u32],
-    log: &'a [u32],
-    notes: &'a [u32],
+pub(crate) struct Failing<'a> {
+    pub(crate) read: &'a [u32],
+    pub(crate) log: &'a [u32],
+    pub(crate) notes: &'a [u32],
 }
 
-const NONE: Failing<'static> = Failing {
+pub(crate) const NONE: Failing<'static> = Failing {
     read: &[],
     log: &[],
     notes: &[],
 };
 
-fn call(
+pub(crate) fn call(
     alloc: Global,
     words: &[&str],
-    script: &str,
+    input: &[u8],
     failing: Failing<'_>,
 ) -> Result<Ended, AllocError> {
     let mut list = Vec::new(alloc);
     for word in words {
         list.push(word.to_string(alloc)?)?;
     }
-    let mut source = MemSource::new(
-        script.as_bytes().to_vec(alloc)?,
-        failing.read.to_vec(alloc)?,
-    );
-    let mut log = MemSink::new(alloc, 500, failing.log.to_vec(alloc)?)?;
+    let mut source = MemSource::new(input.to_vec(alloc)?, failing.read.to_vec(alloc)?);
+    let mut log = MemSink::new(alloc, 1000, failing.log.to_vec(alloc)?)?;
     let mut notes = MemSink::new(alloc, 50, failing.notes.to_vec(alloc)?)?;
     let status = fire(alloc, &list, &mut source, &mut log, &mut notes);
     Ok(Ended { status, log, notes })
+}
+
+// The first bytes, as many as there are up to a count.
+pub(crate) fn front(bytes: &[u8], count: usize) -> &[u8] {
+    &bytes[..count.min(bytes.len())]
 }
 
 #[test]
@@ -79,7 +81,7 @@ fn the_log_of_a_script(rt: HostRuntime) -> Result<(), Fail> {
         ),
     ];
     for (script, log) in cases {
-        let ended = call(alloc, &["run"], script, NONE)?;
+        let ended = call(alloc, &["run"], script.as_bytes(), NONE)?;
         let log = hex::decode(alloc, log)?;
         assert_eq!(rt; ended.status, 0, "{script}");
         assert_eq!(rt; ended.log.as_slice(), log.as_slice(), "{script}");
@@ -150,10 +152,10 @@ fn refused_lines(rt: HostRuntime) -> Result<(), Fail> {
         ),
     ];
     for (script, note, length) in cases {
-        let ended = call(alloc, &["run"], script, NONE)?;
+        let ended = call(alloc, &["run"], script.as_bytes(), NONE)?;
         assert_eq!(rt; ended.status, 3, "{script}");
         assert_eq!(rt; ended.notes.as_slice(), note.as_bytes(), "{script}");
-        assert_eq!(rt; ended.log.as_slice(), &whole[..length], "{script}");
+        assert_eq!(rt; ended.log.as_slice(), front(&whole, length), "{script}");
     }
     Ok(())
 }
@@ -161,14 +163,20 @@ fn refused_lines(rt: HostRuntime) -> Result<(), Fail> {
 #[test]
 fn faulty_words(rt: HostRuntime) -> Result<(), Fail> {
     let alloc = rt.alloc();
-    let cases: [&[&str]; 4] = [&[], &["run", "x"], &["walk"], &["run "]];
+    let cases: [&[&str]; 5] = [
+        &[],
+        &["run", "x"],
+        &["walk"],
+        &["run "],
+        &["decode", "decode"],
+    ];
     for words in cases {
-        let ended = call(alloc, words, THIRTEEN, NONE)?;
+        let ended = call(alloc, words, THIRTEEN.as_bytes(), NONE)?;
         assert_eq!(rt; ended.status, 2);
         assert_eq!(rt; ended.notes.as_slice(), b"usage\n".as_slice());
         assert!(rt; ended.log.as_slice().is_empty());
         let notes = &[1];
-        let ended = call(alloc, words, THIRTEEN, Failing { notes, ..NONE })?;
+        let ended = call(alloc, words, THIRTEEN.as_bytes(), Failing { notes, ..NONE })?;
         assert_eq!(rt; ended.status, 6);
     }
     Ok(())
@@ -180,14 +188,24 @@ fn calls_that_fail(rt: HostRuntime) -> Result<(), Fail> {
     let whole = hex::decode(alloc, THIRTEEN_LOG)?;
     for read in 1..3 {
         let read = &[read];
-        let ended = call(alloc, &["run"], THIRTEEN, Failing { read, ..NONE })?;
+        let ended = call(
+            alloc,
+            &["run"],
+            THIRTEEN.as_bytes(),
+            Failing { read, ..NONE },
+        )?;
         assert_eq!(rt; ended.status, 5);
         assert_eq!(rt; ended.notes.as_slice(), b"read fault\n".as_slice());
         assert!(rt; ended.log.as_slice().is_empty());
     }
     for write in 1..17 {
         let log = &[write];
-        let ended = call(alloc, &["run"], THIRTEEN, Failing { log, ..NONE })?;
+        let ended = call(
+            alloc,
+            &["run"],
+            THIRTEEN.as_bytes(),
+            Failing { log, ..NONE },
+        )?;
         let length = BEGINS[write as usize - 1];
         assert_eq!(rt; ended.status, 6, "write {write}");
         assert_eq!(rt;
@@ -195,11 +213,15 @@ fn calls_that_fail(rt: HostRuntime) -> Result<(), Fail> {
             b"write fault\n".as_slice(),
             "write {write}"
         );
-        assert_eq!(rt; ended.log.as_slice(), &whole[..length], "write {write}");
+        assert_eq!(rt;
+            ended.log.as_slice(),
+            front(&whole, length),
+            "write {write}"
+        );
     }
     let notes = &[1];
-    let ended = call(alloc, &["run"], "end\n", Failing { notes, ..NONE })?;
+    let ended = call(alloc, &["run"], b"end\n", Failing { notes, ..NONE })?;
     assert_eq!(rt; ended.status, 6);
-    assert_eq!(rt; ended.log.as_slice(), &whole[..16]);
+    assert_eq!(rt; ended.log.as_slice(), front(&whole, 16));
     Ok(())
 }
