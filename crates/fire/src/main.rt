@@ -1,4 +1,4 @@
-//! `fire`: runs a script on a simulated FireWire bus, and writes the log of it to standard output.
+//! `fire`: runs a script on a simulated FireWire bus and writes its log, or decodes a log.
 #![tactic(auto)]
 
 use fw_outside::{Failed, MemSink, Sink, StdSink, StdSource};
