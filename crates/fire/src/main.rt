@@ -1,4 +1,5 @@
-//! `fire`: runs a script on a simulated FireWire bus, and writes the log of it to standard output.
+//! `fire`: runs a script on a simulated FireWire bus, and writes the log of it to standard output; or reads a log, and
+//! writes its entries as lines of text.
 #![tactic(auto)]
 
 use fw_outside::{Failed, MemSink, Sink, StdSink, StdSource};
