@@ -1,6 +1,6 @@
 -- The line of text that an entry is (own): its cycle and what it records, the parts parted by one space.
-use Rattle.std.specs.Prelude.{ℕ, zero, suc, ◌-◌, ◌*◌, ◌/◌, ◌==◌, false, List, [], ◌∷◌, ◌++◌, length, replicate, flat_map, codes, decimal, Option, Some, None, if◌then◌else◌}
-use Rattle.std.specs.Fmt.{digits}
+use Rattle.std.specs.Prelude.{ℕ, zero, suc, ◌*◌, ◌/◌, ◌%◌, ◌==◌, false, List, [], ◌∷◌, ◌++◌, length, flat_map, codes, decimal, Option, Some, None, if◌then◌else◌}
+use Rattle.std.specs.Fmt.{digit_glyph}
 use Rattle.fw_words.specs.Quadlet.{quadlet_at}
 use Rattle.fw_phy.specs.Phy as Phy
 use Rattle.fw_phy.specs.declared.packet.PhyPacket.{PhyPacket}
@@ -15,9 +15,10 @@ use Rattle.fw_log.specs.declared.entry.Entry.TheVariants.{Reset, Async as AsyncE
 use Rattle.fw_log.specs.declared.entry.Timed.{Timed}
 use Rattle.fw_text.specs.Names.{packet_name, event_name, outcome_name}
 
--- a number in lower-case hexadecimal, with zeros before it up to a width
-abbrev pub hex : ℕ → ℕ → List ℕ
-hex width n = replicate (width - length (digits 16 false n)) 48 ++ digits 16 false n
+-- a number in so many lower-case hexadecimal digits
+unfoldable pub hex : ℕ → ℕ → List ℕ
+hex zero n = []
+hex (suc k) n = hex k (n / 16) ++ digit_glyph false (n % 16) ∷ []
 
 -- a quadlet: a space, and its eight digits
 abbrev pub quadlet_text : ℕ → List ℕ

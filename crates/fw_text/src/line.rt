@@ -1,8 +1,8 @@
 //! The line of an entry.
 
-ghost use Rattle.std.specs.Prelude.{◌≡◌, ◌++◌, IfOk, OnOk, string_bytes};
+ghost use Rattle.std.specs.Prelude.{◌≡◌, ◌^◌, ◌<◌, ◌++◌, IfOk, OnOk, string_bytes};
 ghost use Rattle.fw_async.specs.Async as Packets;
-ghost use Rattle.fw_log.specs.Log.{Fits, ResetFits, EventFits, OutcomeFits};
+ghost use Rattle.fw_log.specs.Log.{Fits, ResetFits, EventFits, OutcomeFits, ShownFits};
 ghost use Rattle.fw_text.specs.Line.{manager_text, reset_text, packet_text, event_text, outcome_text, offset_text, shown_text, what_text, entry_line};
 
 use crate::names::{event_name, outcome_name, packet_name};
@@ -65,14 +65,16 @@ fn put_outcome(text: &mut String, o: &OutcomeEntry) -> Result<(), AllocError>
     put_quadlet(text, Quadlet(o.value))
 }
 
-#[tactic(auto, using(crate::proofs::HexLaws::padded_is_hex))]
+#[tactic(auto, using(crate::proofs::HexLaws::offset_is_hex))]
 fn put_offset(text: &mut String, offset: u16) -> Result<(), AllocError>
+    requires { offset < 2 ^ 12 }
     ensures { OnOk result (string_bytes text.new ≡ string_bytes text.old ++ offset_text offset) }
 {
     write!(text, " {offset:03x}")
 }
 
 fn put_shown(text: &mut String, s: &ShownEntry) -> Result<(), AllocError>
+    requires { ShownFits s.now }
     ensures { OnOk result (string_bytes text.new ≡ string_bytes text.old ++ shown_text s.now) }
 {
     write!(text, "shown {}", s.device)?;
@@ -95,9 +97,7 @@ fn put_what(text: &mut String, what: &Entry) -> Result<(), AllocError>
     }
 }
 
-/// The line of an entry, with its line feed. Parts are parted by one space; quadlets, the values of outcomes and
-/// shown words are eight hexadecimal digits, the offset of a shown word is three, and other numbers are decimal.
-/// The error says that memory ran out.
+/// The line of an entry, with its line feed. An error says that memory ran out, and comes for nothing else.
 pub fn entry_text(alloc: Global, t: &Timed) -> Result<String, AllocError>
     requires { Fits t.now.what }
     ensures { IfOk result (λ s. string_bytes s ≡ entry_line t.now) }

@@ -10,7 +10,7 @@ use fw_words::{Quadlet, quadlet_at};
 use std::alloc::AllocError;
 
 // Appends a space and the quadlet.
-#[tactic(auto, using(crate::proofs::HexLaws::padded_is_hex))]
+#[tactic(auto, using(crate::proofs::HexLaws::quadlet_is_hex))]
 pub(crate) fn put_quadlet(text: &mut String, q: Quadlet) -> Result<(), AllocError>
     ensures { OnOk result (string_bytes text.new ≡ string_bytes text.old ++ quadlet_text q.0) }
 {
