@@ -9,7 +9,7 @@ use Rattle.fw_tool.specs.declared.ending.Ending.{Ending}
 use Rattle.fw_tool.specs.declared.ending.Ending.TheVariants.{Done, Usage, Refused, NoLog, ReadFault, WriteFault, TooLong, NoMemory}
 use Rattle.fw_tool.specs.Decode.{limit, Decodes}
 use Rattle.fw_tool.specs.Ending.{Runs}
-use Rattle.fw_tool.specs.Notes.{IsTold, IsNoted, note_of}
+use Rattle.fw_tool.specs.Notes.{IsTold, IsNoted, note_of, status_of, IsFaultTold}
 use Rattle.fw_tool.specs.Words.{IsRun, IsDecode}
 use Rattle.fw_tool.proofs.Decodings.{never_faulted, never_passed}
 
@@ -44,6 +44,22 @@ no_log_told held faults old new ReadFault status t four = other 5 status _ _ _ t
 no_log_told held faults old new WriteFault status t four = other 6 status _ _ _ t four (λ e. cc e)
 no_log_told held faults old new TooLong status t four = other 7 status _ _ _ t four (λ e. cc e)
 no_log_told held faults old new NoMemory status t four = other 8 status _ _ _ t four (λ e. cc e)
+
+unwritten : {N : Type 0} (held : N → Option (List ℕ)) (faults : N → ℕ) (old new : N) (e : Ending) (status : ℕ) → IsNoted held faults old new e status → status ≡ 6 → (status_of e ≡ 6 → ⊥) → IsFaultTold held faults old new
+unwritten held faults old new e status (inl a) six not = absurd (not (sym a.0 ∙ six))
+unwritten held faults old new e status (inr a) six not = inr (e, a.1, a.2)
+
+-- status 6 tells of a write that failed, or its note was not written
+pub fault_told : {N : Type 0} (held : N → Option (List ℕ)) (faults : N → ℕ) (old new : N) (e : Ending) (status : ℕ) → IsTold held faults old new e status → status ≡ 6 → IsFaultTold held faults old new
+fault_told held faults old new Done status t six = absurd (omega (arith, t.0, six))
+fault_told held faults old new WriteFault status (inl a) six = inl a.1
+fault_told held faults old new WriteFault status (inr a) six = inr (WriteFault, a.1, a.2)
+fault_told held faults old new Usage status t six = unwritten held faults old new Usage status t six (λ e. cc e)
+fault_told held faults old new (Refused r) status t six = unwritten held faults old new (Refused r) status t six (λ e. cc e)
+fault_told held faults old new (NoLog f) status t six = unwritten held faults old new (NoLog f) status t six (λ e. cc e)
+fault_told held faults old new ReadFault status t six = unwritten held faults old new ReadFault status t six (λ e. cc e)
+fault_told held faults old new TooLong status t six = unwritten held faults old new TooLong status t six (λ e. cc e)
+fault_told held faults old new NoMemory status t six = unwritten held faults old new NoMemory status t six (λ e. cc e)
 
 eight : (status : ℕ) (G F R : Type 0) → ((status ≡ 8) × G) ⊎ ((status ≡ 6) × F × R) → (R → ⊥) → (status ≡ 0) ⊎ (status ≡ 8)
 eight status G F R (inl a) n = inr a.0

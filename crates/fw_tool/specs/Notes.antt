@@ -58,3 +58,7 @@ IsNoted held faults old new ending status =
 abbrev pub IsTold : {N : Type 0} → (N → Option (List ℕ)) → (N → ℕ) → N → N → Ending → ℕ → Type 0
 IsTold held faults old new Done status = (status ≡ 0) × (new ≡ old)
 IsTold held faults old new ending status = IsNoted held faults old new ending status
+
+-- With status 6 the notes hold that a write failed, or a front of the note that was due, where the notes themselves failed.
+abbrev pub IsFaultTold : {N : Type 0} → (N → Option (List ℕ)) → (N → ℕ) → N → N → Type 0
+IsFaultTold held faults old new = Grows (held old) (held new) (note_of WriteFault) ⊎ ((due : Ending) × AppendsFront (held old) (held new) (note_of due) × Rose (faults old) (faults new))

@@ -5,7 +5,7 @@ ghost use Rattle.fw_log.specs.declared.entry.Timed.{Timed};
 ghost use Rattle.fw_outside.specs.Outside.{Rose, Grows};
 ghost use Rattle.fw_tool.specs.Decode.{limit, Decoded, Faulted, PassedLimit, PartDecoded};
 ghost use Rattle.fw_tool.specs.Ending.{Logged, PartLogged};
-ghost use Rattle.fw_tool.specs.Notes.{note_of};
+ghost use Rattle.fw_tool.specs.Notes.{note_of, IsFaultTold};
 ghost use Rattle.fw_tool.specs.Scripts.{script_in};
 ghost use Rattle.fw_tool.specs.Words.{IsRun, IsDecode};
 ghost use Rattle.fw_tool.specs.declared.Refused.{Refused as RefusedLine};
@@ -59,6 +59,9 @@ pub fn fire<S: Source, K: Sink, N: Sink>(
     ensures told { ((result ≡ 2) → Grows (N.held notes.old) (N.held notes.new) (note_of Ending.Usage))
         × ((result ≡ 5) → Grows (N.held notes.old) (N.held notes.new) (note_of Ending.ReadFault))
         × ((result ≡ 8) → Grows (N.held notes.old) (N.held notes.new) (note_of Ending.NoMemory)) }
+
+    // 6: the notes hold that a write failed, or a front of the note that was due.
+    ensures fault_told { result ≡ 6 → IsFaultTold N.held N.faults notes.old notes.new }
 
     // 5 and 6: only where a count rose.
     ensures read_fault { result ≡ 5 → Rose (S.faults source.old) (S.faults source.new) }

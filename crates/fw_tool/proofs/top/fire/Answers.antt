@@ -4,7 +4,7 @@ use Rattle.fw_tool.specs.Decode.{Decodes}
 use Rattle.fw_tool.specs.Notes.{IsTold}
 use Rattle.fw_tool.proofs.Decodings.{part_decoded}
 use Rattle.fw_tool.proofs.Endings.{part_logged}
-use Rattle.fw_tool.proofs.Tellings.{one_form, run_no_log, no_log_told, complete_by}
+use Rattle.fw_tool.proofs.Tellings.{one_form, run_no_log, no_log_told, fault_told, complete_by}
 use Rattle.fw_tool.proofs.top.fire.Goals as goal
 use Rattle.fw_tool.proofs.top.fire.Goals.{then-is_run, else-is_run+else-is_decode, else-is_run+then-is_decode}
 
@@ -46,3 +46,6 @@ returns-clause-complete_log g c entries bytes told log short form unread unwritt
           w.decode.ensures.decodes told log short w.decode.ensures.read_fault (rw w.source-is at unread) w.decode.ensures.write_fault (rw w.sink-is at unwritten) (subst T w.ending-is c.tell.ensures) untold
       | else-is_run+else-is_decode w ↦ absurd (cc (w.if-is_decode.ensures.1 form))
     ]
+
+pub returns-clause-fault_told : goal.returns-clause-fault_told
+returns-clause-fault_told g c six = fault_told g.N.Sink.held g.N.Sink.faults c.args.notes.now c.tell.new.notes c.if-is_run.ending c.tell.result c.tell.ensures six
