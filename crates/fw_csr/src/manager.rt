@@ -3,7 +3,7 @@ ghost use Rattle.fw_csr.specs.Replies.{reply};
 ghost use Rattle.fw_csr.specs.Requests.{offset_of};
 ghost use Rattle.fw_csr.specs.Manager.{initial_words, register_at, words_after};
 
-use crate::{REGISTER_SPACE, Reply, Request, Word};
+use crate::{REGISTER_SPACE, Register, Reply, Request, Word};
 use std::marker::Model;
 
 /// BUS_MANAGER_ID's offset.
@@ -84,6 +84,20 @@ impl Manager {
             CHANNELS_AVAILABLE_LO => self.channels_available_lo.answer(r),
             _ => Reply::address_error(),
         }
+    }
+
+    /// The register at an offset, where it is one of the four.
+    pub fn register(&self, offset: u64) -> Option<Register>
+        ensures { result ≡ register_at self.now offset }
+    {
+        let word = match offset {
+            BUS_MANAGER_ID => self.bus_manager_id,
+            BANDWIDTH_AVAILABLE => self.bandwidth_available,
+            CHANNELS_AVAILABLE_HI => self.channels_available_hi,
+            CHANNELS_AVAILABLE_LO => self.channels_available_lo,
+            _ => return None,
+        };
+        Some(Register::ReadSwap(word.get()))
     }
 
     /// BUS_MANAGER_ID, BANDWIDTH_AVAILABLE, CHANNELS_AVAILABLE_HI and CHANNELS_AVAILABLE_LO.

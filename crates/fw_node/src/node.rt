@@ -1,11 +1,11 @@
-ghost use Rattle.std.specs.Prelude.{◌≡◌, ◌≤◌, ℕ, Some, IsSome, IsTrue};
+ghost use Rattle.std.specs.Prelude.{◌≡◌, ◌≤◌, ℕ, Some, IsSome, IsTrue, IfSome};
 ghost use Rattle.std.specs.Option.{option_map};
 ghost use Rattle.fw_async.specs.Async.{Fits};
 ghost use Rattle.fw_base.specs.Devices.{code_of, has_link};
 ghost use Rattle.fw_csr.specs.Requests.{offset_of};
 ghost use Rattle.fw_csr.specs.Replies.{reply};
 ghost use Rattle.fw_node.specs.Packets.{request_in, response_of};
-ghost use Rattle.fw_node.specs.Space.{register_at, core_register_at};
+ghost use Rattle.fw_node.specs.Space.{answer_of, register_at, core_register_at};
 ghost use Rattle.fw_node.specs.State.{first_state, after_reset, after_request, space_of};
 
 use crate::offset::*;
@@ -80,6 +80,21 @@ impl Node {
         self.plugs.second_over();
     }
 
+    /// The device's kind.
+    pub fn kind(&self) -> DeviceKind
+        ensures { result ≡ self.now.kind }
+    {
+        self.kind
+    }
+
+    /// The node's number, 0 to 62, since the latest `reset`; None before the first.
+    pub fn number(&self) -> Option<u8>
+        ensures value { result ≡ self.now.number }
+        ensures range { IfSome result (λ number. number ≤ 62) }
+    {
+        self.number
+    }
+
     /// The plug registers that `answer` reads and swaps.
     pub fn plugs(&self) -> &Plugs
         ensures { result.now ≡ self.now.plugs }
@@ -111,6 +126,33 @@ impl Node {
         };
         let reply = self.reply(number, now, &request_of(p));
         response(number, p, reply)
+    }
+
+    /// What a quadlet read of the register at an offset would be answered in cycle `now`.
+    pub fn read(&self, now: u64, offset: u64) -> Reply
+        requires { IsSome self.now.number }
+        ensures { (number : ℕ) → self.now.number ≡ Some number → result ≡ (answer_of (space_of number now self.now) (Request.Read offset)).reply }
+    {
+        let number = match self.number {
+            Some(number) => number,
+            None => unreachable!(),
+        };
+        match self.register(number, now, offset) {
+            Some(register) => register.reply(&Request::Read { offset }),
+            None => Reply::address_error(),
+        }
+    }
+
+    /// The register at an offset, if there is one.
+    fn register(&self, number: u8, now: u64, offset: u64) -> Option<Register>
+        requires { number ≤ 62 }
+        ensures { result ≡ register_at (space_of number now self.now) offset }
+    {
+        match offset {
+            BUS_MANAGER_ID..=CHANNELS_AVAILABLE_LO => self.manager.as_ref()?.register(offset),
+            OMPR..=LAST_PLUG_REGISTER => self.plugs.register(offset),
+            _ => self.core_register(number, now, offset),
+        }
     }
 
     /// Carries a request out at the register that it is at, if there is one.

@@ -1,10 +1,10 @@
 ghost use Rattle.std.specs.Prelude.{◌≡◌, ◌<◌, ◌≤◌, length, slice_index};
 ghost use Rattle.fw_csr.specs.Requests.{offset_of};
 ghost use Rattle.fw_csr.specs.Replies.{reply};
-ghost use Rattle.fw_plug.specs.Plugs.{first_words, table_of, register_at, words_after, reset_words};
+ghost use Rattle.fw_plug.specs.Plugs.{first_words, table_of, register_at, output_master, input_master, words_after, reset_words};
 ghost use Rattle.fw_plug.specs.Words.{is_connected};
 
-use crate::row::{answer_in, copies, disconnect, master};
+use crate::row::{answer_in, copies, disconnect, master, register_in};
 use crate::{InWord, OutWord};
 use arrayvec::ArrayVec;
 use fw_csr::{REGISTER_SPACE, Register, Reply, Request, Word};
@@ -64,11 +64,35 @@ impl Plugs {
         ensures words { self.new ≡ words_after self.old r.now }
     {
         match r.offset() {
-            OMPR => Register::ReadOnly(master(self.rate, 0x3F, self.outputs.len())).reply(r),
-            IMPR => Register::ReadOnly(master(self.rate, 0, self.inputs.len())).reply(r),
+            OMPR => self.output_master().reply(r),
+            IMPR => self.input_master().reply(r),
             offset if offset < IMPR => answer_in(self.outputs.as_mut_slice(), OPCR, r),
             _ => answer_in(self.inputs.as_mut_slice(), IPCR, r),
         }
+    }
+
+    /// The register at an offset, if there is one.
+    pub fn register(&self, offset: u64) -> Option<Register>
+        ensures { result ≡ register_at (table_of self.now) offset }
+    {
+        match offset {
+            OMPR => Some(self.output_master()),
+            IMPR => Some(self.input_master()),
+            offset if offset < IMPR => register_in(self.outputs.as_slice(), OPCR, offset),
+            _ => register_in(self.inputs.as_slice(), IPCR, offset),
+        }
+    }
+
+    fn output_master(&self) -> Register
+        ensures { result ≡ Register.ReadOnly (output_master self.now.rate (length self.now.outputs)) }
+    {
+        Register::ReadOnly(master(self.rate, 0x3F, self.outputs.len()))
+    }
+
+    fn input_master(&self) -> Register
+        ensures { result ≡ Register.ReadOnly (input_master self.now.rate (length self.now.inputs)) }
+    {
+        Register::ReadOnly(master(self.rate, 0, self.inputs.len()))
     }
 
     /// A bus reset: no plug is connected any more, and all other fields stay.

@@ -7,7 +7,7 @@ ghost use Rattle.fw_csr.specs.Replies.{reply};
 ghost use Rattle.fw_plug.specs.Plugs.{after_at, disconnected, plug_at, plug_register};
 
 use arrayvec::ArrayVec;
-use fw_csr::{Reply, Request, Word};
+use fw_csr::{Register, Reply, Request, Word};
 use fw_words::{Quadlet, with_field};
 
 /// So many registers with one value.
@@ -33,6 +33,14 @@ fn plug_at(offset: u64, first: u64, plugs: usize) -> Option<usize>
     } else {
         None
     }
+}
+
+/// The register at `offset` in the row of registers that begins at `first`, if there is one.
+pub fn register_in(words: &[Word], first: u64, offset: u64) -> Option<Register>
+    ensures { result ≡ plug_register (slice_index words.now) (plug_at first (length words.now) offset) }
+{
+    let n = plug_at(offset, first, words.len())?;
+    Some(Register::ReadSwap(words[n].get()))
 }
 
 /// Carries a request out in the row of registers that begins at `first`.

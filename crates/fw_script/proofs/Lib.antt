@@ -1,3 +1,4 @@
+pub mod CommandLaws
 pub mod FormLaws
 pub mod GivesLaws
 pub mod LineLaws

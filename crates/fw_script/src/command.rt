@@ -1,12 +1,14 @@
 //! What the lines of a script say.
 
 ghost use Rattle.std.specs.Prelude.{◌≡◌, ◌≤◌, length};
+ghost use Rattle.fw_script.specs.Words.{name_in};
 
+use crate::words::name;
 use fw_words::Bytes;
 use std::marker::Model;
 
 /// A device's name: 1 to 16 of a to z and 0 to 9, the first a letter, and none of `manager`, `any` and `late`.
-#[derive(Clone, Debug, PartialEq, Eq, Drop)]
+#[derive(Debug, PartialEq, Eq, Drop)]
 pub struct Name {
     bytes: Bytes<16>,
 }
@@ -29,6 +31,22 @@ impl Name {
     {
         let mut bytes = Bytes::new();
         bytes.append(word);
+        Name { bytes }
+    }
+
+    /// The name that a word is. None exactly where it is no name.
+    pub fn from_word(word: &[u8]) -> Option<Name>
+        ensures { result ≡ name_in word.now }
+    {
+        name(word)
+    }
+
+    /// The same name once more. It takes no memory.
+    pub fn copied(&self) -> Name
+        ensures { result ≡ self.now }
+    {
+        let mut bytes = Bytes::new();
+        bytes.append(self.bytes.as_slice());
         Name { bytes }
     }
 

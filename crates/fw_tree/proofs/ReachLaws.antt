@@ -6,11 +6,13 @@ use Rattle.fw_tree.specs.declared.facts.End.{End}
 use Rattle.fw_tree.specs.declared.facts.PhyFacts.{PhyFacts}
 use Rattle.fw_tree.specs.Cables.{Peers, peer, LeadsTo, Walk, along, InRange, AllReached, IsClosed, is_seen, unseen}
 use Rattle.fw_tree.specs.Parents.{IsOn}
-use Rattle.fw_tree.specs.Topology.{Topology, Made, empty, device, cable, IsSound, Separates, with_cable}
+use Rattle.fw_tree.specs.declared.TreeFault.{TreeFault}
+use Rattle.fw_tree.specs.declared.TreeFault.TheVariants.{NoPort, PortUsed, Loop}
+use Rattle.fw_tree.specs.Topology.{Topology, Made, empty, device, cable, IsSound, IsFault, IsJoined, Separates, with_cable, has_port, are_used}
 use Rattle.fw_tree.proofs.ForestLaws.{truth, both, first_of, second_of}
 use Rattle.fw_tree.proofs.RoundLaws.{in_range}
 use Rattle.fw_tree.proofs.SeenLaws.{seen_same, seen_keeps, seen_from, unseen_set, only_from, reached_first, walked}
-use Rattle.fw_tree.proofs.TopologyLaws.{sound_new, sound_add, sound_join, ends_within}
+use Rattle.fw_tree.proofs.TopologyLaws.{Ends, sound_new, sound_add, sound_join, ends_within}
 use Rattle.fw_tree.proofs.TreeLaws.{port_within}
 
 -- a cable at the port leads to a device that was not seen
@@ -167,3 +169,24 @@ sound_made q (cable {p = p} m a b j) =
     let s = sound_made p m in
     let w = ends_within p.devices a b s.devices s.few j.ports in
     subst P (sym (topology_is q p.devices (with_cable p.cables a b) j.same j.added)) (sound_join p.devices p.cables a b s j.ports j.free (apart_of p.cables a.device b.device s.range w.a_device j.apart))
+
+-- what a cable between two ports makes of the topology
+pub record Joins (fs : List PhyFacts) (g : Peers) (a b : End) : Type 0 where
+  pub ends : Ends a b
+  pub is : IsJoined (record { devices = fs; cables = g }) (record { devices = fs; cables = with_cable g a b }) a b
+  pub sound : IsSound (record { devices = fs; cables = with_cable g a b })
+
+joins : (fs : List PhyFacts) (g : Peers) (a b : End) → IsSound (record { devices = fs; cables = g }) → IsJoined (record { devices = fs; cables = g }) (record { devices = fs; cables = with_cable g a b }) a b → Joins fs g a b
+joins fs g a b s j =
+    let w = ends_within fs a b s.devices s.few j.ports in
+    record { ends = w; is = j; sound = sound_join fs g a b s j.ports j.free (apart_of g a.device b.device s.range w.a_device j.apart) }
+
+-- where no fault holds
+pub joins_of : (fs : List PhyFacts) (g : Peers) (a b : End) → IsSound (record { devices = fs; cables = g }) → ((f : TreeFault) → IsFault (record { devices = fs; cables = g }) a b f → ⊥) → Joins fs g a b
+joins_of fs g a b s none = elim (truth (has_port (record { devices = fs; cables = g }) a && has_port (record { devices = fs; cables = g }) b)) [
+  | inr lacks ↦ absurd (none NoPort lacks)
+  | inl has ↦ elim (truth (are_used g a b)) [
+    | inl used ↦ absurd (none PortUsed (has, used))
+    | inr free ↦ joins fs g a b s (record { ports = has; free = free; apart = λ w. none Loop (has, free, w); same = refl; added = refl })
+  ]
+]

@@ -232,11 +232,11 @@ joined_back g b c cables j =
     to : (o : Option End) (b p : ℕ) → o ≡ Some (record { device = b; port = p }) → LeadsTo o b
     to o b p h = let P : Option End → Type 0 = λ x. LeadsTo x b in subst P (sym h) refl
 
-joins : (g : Peers) (a b c : ℕ) → Walk g a b → Walk g b c → Walk g a c
+pub joins : (g : Peers) (a b c : ℕ) → Walk g a b → Walk g b c → Walk g a c
 joins g a b b' w here = w
 joins g a b c w (along v j) = along (joins g a b _ w v) j
 
-walk_back : (g : Peers) (a b : ℕ) → AreCables g → Walk g a b → Walk g b a
+pub walk_back : (g : Peers) (a b : ℕ) → AreCables g → Walk g a b → Walk g b a
 walk_back g a a' cables here = here
 walk_back g a c cables (along {b = b} w j) = joins g c b a (along here (joined_back g b c cables j)) (walk_back g a b cables w)
 

@@ -1,11 +1,12 @@
-ghost use Rattle.std.specs.Prelude.{◌≡◌, ◌<◌, ◌≤◌, [], ℕ, length, None, IfErr, IfOk};
+ghost use Rattle.std.specs.Prelude.{◌≡◌, ◌<◌, ◌≤◌, [], length, IfErr, IfOk, OnOk};
 ghost use Rattle.std.specs.List.{All};
 ghost use Rattle.fw_phy.specs.Phy.{Fits};
+ghost use Rattle.fw_tree.specs.declared.TreeFault.{TreeFault};
 ghost use Rattle.fw_tree.specs.declared.numbering.Numbering.{Numbering};
-ghost use Rattle.fw_tree.specs.Cables.{peer, IsOnBus};
+ghost use Rattle.fw_tree.specs.Cables.{IsOnBus};
 ghost use Rattle.fw_tree.specs.Numbering.{IsNumbering, IsSame, IsManager};
 ghost use Rattle.fw_tree.specs.SelfIds.{ArePackets};
-ghost use Rattle.fw_tree.specs.Topology.{IsExtended, IsFault, IsJoined, Made};
+ghost use Rattle.fw_tree.specs.Topology.{IsExtended, IsFault, IsJoined, Made, no_cables};
 
 use crate::facts::AllCables;
 use crate::numbering::{contends, device_with};
@@ -41,8 +42,7 @@ impl Model for Cabling {
 impl Cabling {
     /// No device is there.
     pub fn new() -> Self
-        ensures devices { result.devices ≡ [] }
-        ensures cables { (d p : ℕ) → peer result.cables d p ≡ None }
+        ensures empty { result ≡ record { devices = []; cables = no_cables } }
         ensures made { Made result }
     {
         Cabling {
@@ -77,15 +77,14 @@ impl Cabling {
         Ok(number)
     }
 
-    /// Joins two ports by a cable.
+    /// What `join` would answer of these two ports.
     ///
-    /// The first fault that holds is answered, and then nothing changes: `NoPort` where one of the devices has no
-    /// such port, `PortUsed` where one of the ports has a cable or both ends are one port, `Loop` where a walk of
-    /// cables leads from the one device to the other already, or they are one.
-    pub fn join(&mut self, a: End, b: End) -> Result<(), TreeFault>
-        ensures refused { IfErr result (λ f. IsFault self.old a b f × (self.new ≡ self.old)) }
-        ensures joined { IfOk result (λ _. IsJoined self.old self.new a b) }
-        ensures made { Made self.new }
+    /// The first fault that holds is answered: `NoPort` where one of the devices has no such port, `PortUsed` where
+    /// one of the ports has a cable or both ends are one port, `Loop` where a walk of cables leads from the one device
+    /// to the other already, or they are one. `TooMany` is never answered.
+    pub fn check(&self, a: End, b: End) -> Result<(), TreeFault>
+        ensures refused { IfErr result (λ f. IsFault self.now a b f) }
+        ensures free { OnOk result ((f : TreeFault) → IsFault self.now a b f → ⊥) }
     {
         if !have_ports(&self.facts, self.count, a, b) {
             return Err(TreeFault::NoPort);
@@ -96,6 +95,16 @@ impl Cabling {
         if are_connected(&self.cables, a.device, b.device) {
             return Err(TreeFault::Loop);
         }
+        Ok(())
+    }
+
+    /// Joins two ports by a cable. Where `check` answers a fault of them, that is answered, and nothing changes.
+    pub fn join(&mut self, a: End, b: End) -> Result<(), TreeFault>
+        ensures refused { IfErr result (λ f. IsFault self.old a b f × (self.new ≡ self.old)) }
+        ensures joined { IfOk result (λ _. IsJoined self.old self.new a b) }
+        ensures made { Made self.new }
+    {
+        self.check(a, b)?;
         plug(&mut self.cables, a, b);
         Ok(())
     }

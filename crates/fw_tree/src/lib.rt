@@ -22,7 +22,7 @@ mod walk;
 pub use cabling::Cabling;
 pub use facts::{End, PhyFacts};
 pub use laws::rounds_end_with_one_root;
-pub use numbering::Numbering;
+pub use numbering::{Numbering, device_with};
 
 /// Why a device or a cable is refused, in the order of the tests.
 #[derive(Clone, Copy, Debug, PartialEq, Eq, Error)]

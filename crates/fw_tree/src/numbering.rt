@@ -16,7 +16,7 @@ pub struct Numbering {
     pub parent_port: [Option<u8>; 63],
 }
 
-/// The device that has a number.
+/// The device that has node number `n`, by the numbers of a numbering. It asks that one has it.
 pub fn device_with(number: &[Option<u8>; 63], n: u8) -> u8
     requires { (d : ℕ) × (number_at number.now d ≡ Some n) }
     ensures device { result < 63 }

@@ -1,0 +1,7 @@
+pub mod IdLaws
+pub mod RowLaws
+pub mod EntryLaws
+pub mod BusLaws
+pub mod NetworkLaws
+pub mod ResetLaws
+pub mod JoinLaws

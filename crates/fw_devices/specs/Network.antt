@@ -1,0 +1,82 @@
+-- The devices that are declared, their cabling, and the node that each is.
+use Rattle.std.specs.Prelude.{◌≡◌, ℕ, ◌<◌, ◌≤◌, ◌==◌, nat_lt, List, [], ◌∷◌, ◌++◌, Bool, true, false, ◌&&◌, Option, Some, None, is_some, length, map, slice_index_or, if◌then◌else◌}
+use Rattle.std.specs.List.{position_or_len}
+use Rattle.fw_base.specs.declared.device.DeviceKind.{DeviceKind}
+use Rattle.fw_base.specs.declared.device.DeviceKind.TheVariants.{Relay}
+use Rattle.fw_base.specs.Devices.{has_link, is_contender}
+use Rattle.fw_tree.specs.declared.facts.PhyFacts.{PhyFacts}
+use Rattle.fw_tree.specs.Topology.{Topology, Made, no_cables}
+use Rattle.fw_tree.specs.SelfIds.{facts_at}
+use Rattle.fw_node.specs.State.{NodeState, first_state}
+
+-- The lists are by device, in order of declaration.
+pub record Network : Type 0 where
+  pub topology : Topology
+  pub names : List (List ℕ)
+  pub nodes : List NodeState
+  pub epoch : ℕ  -- of the latest bus reset, 0 before the first
+  pub manager : Option ℕ  -- the device that is the isochronous resource manager since the latest bus reset
+
+abbrev pub no_devices : Network
+no_devices = record { topology = record { devices = []; cables = no_cables }; names = []; nodes = []; epoch = 0; manager = None }
+
+-- the kind of each device
+abbrev pub kinds_of : List NodeState → List DeviceKind
+kinds_of nodes = map (λ (n : NodeState). n.kind) nodes
+
+-- the kind of a device
+abbrev pub kind_at : List DeviceKind → ℕ → DeviceKind
+kind_at kinds d = slice_index_or kinds d Relay
+
+-- what the PHY of a device of this kind says
+abbrev pub facts_of : DeviceKind → ℕ → ℕ → PhyFacts
+facts_of kind ports speed = record { ports = ports; speed = speed; link = has_link kind; contender = is_contender kind }
+
+-- each device's PHY says what its kind has
+pub record AreKinds (devices : List PhyFacts) (kinds : List DeviceKind) : Type 0 where
+  pub size : length kinds ≡ length devices
+  pub link : (d : ℕ) → d < length devices → (facts_at devices d).link ≡ has_link (kind_at kinds d)
+  pub contender : (d : ℕ) → d < length devices → (facts_at devices d).contender ≡ is_contender (kind_at kinds d)
+
+-- the device with a name, the first of that name
+abbrev pub same_bytes : List ℕ → List ℕ → Bool
+same_bytes [] [] = true
+same_bytes [] (y ∷ ys) = false
+same_bytes (x ∷ xs) [] = false
+same_bytes (x ∷ xs) (y ∷ ys) = (x == y) && same_bytes xs ys
+
+-- the number of the device with a name, or none
+abbrev pub device_named : List (List ℕ) → List ℕ → Option ℕ
+device_named names name = let d = position_or_len (same_bytes name) names in if nat_lt d (length names) then Some d else None
+
+-- a device more, which has no cable and is no node yet
+abbrev pub with_device : Network → List ℕ → DeviceKind → ℕ → ℕ → Network
+with_device n name kind ports speed = record n {
+  topology = record { devices = n.topology.devices ++ facts_of kind ports speed ∷ []; cables = n.topology.cables };
+  names = n.names ++ name ∷ [];
+  nodes = n.nodes ++ first_state kind (length n.names) speed ∷ [];
+}
+
+-- what is kept of a device
+abbrev pub node_at : List NodeState → ℕ → NodeState
+node_at nodes d = slice_index_or nodes d (first_state Relay 0 0)
+
+-- what is true of each network: the lists are of the same devices
+pub record IsNetwork (n : Network) : Type 0 where
+  pub made : Made n.topology
+  pub names : length n.names ≡ length n.topology.devices
+  pub kinds : AreKinds n.topology.devices (kinds_of n.nodes)
+  pub numbers : (d : ℕ) → d < length n.nodes → (node_at n.nodes d).device ≡ d
+  pub rates : (d : ℕ) → d < length n.nodes → (node_at n.nodes d).plugs.rate ≡ (facts_at n.topology.devices d).speed
+
+-- the device is a node since the latest bus reset
+abbrev pub is_node : List NodeState → ℕ → Bool
+is_node nodes d = nat_lt d (length nodes) && is_some (node_at nodes d).number
+
+-- what is true of the fields of such a network, of which there is room for 63 devices
+pub record IsKept (n : Network) (names_capacity nodes_capacity : ℕ) : Type 0 where
+  pub network : IsNetwork n
+  pub few : length n.names ≤ 63
+  pub same : length n.nodes ≡ length n.names
+  pub names_room : 63 ≤ names_capacity
+  pub nodes_room : 63 ≤ nodes_capacity

@@ -1,0 +1,134 @@
+ghost use Rattle.std.specs.Prelude.{◌≡◌, ◌<◌, ◌≤◌, length, position, true, false, IfOk, IfSome, IfNone};
+ghost use Rattle.fw_devices.specs.Network.{IsNetwork, no_devices, device_named, node_at, is_node, same_bytes};
+
+use fw_base::DeviceKind;
+use fw_node::Node;
+use fw_script::Name;
+use fw_tree::Cabling;
+use std::alloc::{AllocError, Global};
+use std::marker::Model;
+
+mod declare;
+mod requests;
+mod resets;
+
+/// How many devices a bus may have.
+const MOST: usize = 63;
+
+/// Declared devices by name, their cabling, and the node that each is.
+///
+/// Devices are numbered in order of declaration from 0, 63 at most. A call that takes a device asks that it is declared.
+#[derive(Drop)]
+pub struct Devices {
+    cabling: Cabling,
+    names: Vec<Name>,
+    nodes: Vec<Node>,
+    epoch: u32,
+    manager: Option<u8>,
+}
+
+impl Model for Devices {
+    ghost use Rattle.std.specs.Prelude.{vec_capacity};
+    ghost use Rattle.fw_devices.specs.Network.{Network, IsKept};
+
+    ghost Value = { Network };
+
+    ghost view = { λ d. record { topology = d.cabling; names = d.names.items; nodes = d.nodes.items; epoch = d.epoch; manager = d.manager } };
+
+    ghost invariant = { λ d. IsKept (record { topology = d.cabling; names = d.names.items; nodes = d.nodes.items; epoch = d.epoch; manager = d.manager })
+        (vec_capacity d.names) (vec_capacity d.nodes) };
+}
+
+// The two names are the same.
+fn same_name(a: &Name, b: &Name) -> bool
+    ensures { result ≡ same_bytes a.now b.now }
+{
+    a.as_slice() == b.as_slice()
+}
+
+// The place of the first name that is the same.
+fn place_of(name: &Name, names: &[Name]) -> Option<usize>
+    ensures value { result ≡ position (same_bytes name.now) names.now }
+    ensures there { IfSome result (λ place. place < length names.now) }
+{
+    names.iter().position(|other| same_name(name, other))
+}
+
+impl Devices {
+    /// No devices. The memory for 63 is taken here, and no later call takes any.
+    pub fn new(alloc: Global) -> Result<Devices, AllocError>
+        ensures { IfOk result (λ d. d ≡ no_devices) }
+    {
+        Ok(Devices {
+            cabling: Cabling::new(),
+            names: Vec::with_capacity(alloc, MOST)?,
+            nodes: Vec::with_capacity(alloc, MOST)?,
+            epoch: 0,
+            manager: None,
+        })
+    }
+
+    /// How many devices are declared.
+    pub fn count(&self) -> u8
+        ensures value { result ≡ length self.now.names }
+        ensures nodes { result ≡ length self.now.nodes }
+        ensures most { result ≤ 63 }
+        ensures network { IsNetwork self.now }
+    {
+        self.nodes.len() as u8
+    }
+
+    /// The device with a name, the first of that name. None where no device has it.
+    pub fn find(&self, name: &Name) -> Option<u8>
+        ensures value { result ≡ device_named self.now.names name.now }
+        ensures there { IfSome result (λ d. d < length self.now.names) }
+    {
+        let device = place_of(name, &self.names)?;
+        Some(device as u8)
+    }
+
+    /// The device that the latest bus reset made isochronous resource manager. None where no device of the bus contends
+    /// with a link, and before the first bus reset.
+    pub fn manager(&self) -> Option<u8>
+        ensures { result ≡ self.now.manager }
+    {
+        self.manager
+    }
+
+    /// The number of the latest bus reset, from 1, and 0 before the first.
+    pub fn epoch(&self) -> u32
+        ensures { result ≡ self.now.epoch }
+    {
+        self.epoch
+    }
+
+    /// The kind of a device.
+    pub fn kind(&self, device: u8) -> DeviceKind
+        requires declared { device < length self.now.nodes }
+        ensures { result ≡ (node_at self.now.nodes device).kind }
+    {
+        self.nodes[usize::from(device)].kind()
+    }
+
+    /// The node number of a device, 0 to 62, since the latest bus reset that had it on the bus. None before that.
+    pub fn number(&self, device: u8) -> Option<u8>
+        requires declared { device < length self.now.nodes }
+        ensures value { result ≡ (node_at self.now.nodes device).number }
+        ensures range { IfSome result (λ number. number ≤ 62) }
+    {
+        self.nodes[usize::from(device)].number()
+    }
+
+    /// The node that a device is. None where there is no such device, or no bus reset had it on the bus.
+    pub fn node(&self, device: u8) -> Option<&Node>
+        ensures none { IfNone result (is_node self.now.nodes device ≡ false) }
+        ensures some { IfSome result (λ node. (node.now ≡ node_at self.now.nodes device) × (is_node self.now.nodes device ≡ true)) }
+    {
+        let node = self.nodes.get(usize::from(device))?;
+        if node.number().is_some() {
+            Some(node)
+        } else {
+            None
+        }
+    }
+}

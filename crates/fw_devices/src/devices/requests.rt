@@ -1,0 +1,48 @@
+//! Requests at the nodes that devices are.
+
+ghost use Rattle.std.specs.Prelude.{◌≡◌, ◌<◌, ℕ, Some, IsSome, IsTrue, length, slice_set};
+ghost use Rattle.fw_async.specs.Async.{Fits};
+ghost use Rattle.fw_base.specs.Devices.{has_link};
+ghost use Rattle.fw_csr.specs.declared.request.Request.TheVariants.{Read};
+ghost use Rattle.fw_node.specs.Packets.{request_in, response_of};
+ghost use Rattle.fw_node.specs.Space.{answer_of};
+ghost use Rattle.fw_node.specs.State.{after_request, space_of};
+ghost use Rattle.fw_devices.specs.Network.{node_at};
+
+use super::Devices;
+use fw_async::Packet;
+use fw_csr::Reply;
+
+impl Devices {
+    /// Carries a request packet to the node of a device out in cycle `now`, and gives the response packet
+    /// (`fw_node::Node::answer`).
+    pub fn answer(&mut self, device: u8, now: u64, packet: &Packet) -> Packet
+        requires request { IsSome (request_in packet.now) }
+        requires declared { device < length self.old.nodes }
+        requires number { IsSome (node_at self.old.nodes device).number }
+        requires link { IsTrue (has_link (node_at self.old.nodes device).kind) }
+        ensures response { (number : ℕ) → (node_at self.old.nodes device).number ≡ Some number → response_of (space_of number now (node_at self.old.nodes device)) packet.now ≡ Some result }
+        ensures registers { self.new ≡ record self.old { nodes = slice_set self.old.nodes device (after_request (request_in packet.now) (node_at self.old.nodes device)) } }
+        ensures fits { Fits packet.now → Fits result }
+    {
+        self.nodes[usize::from(device)].answer(now, packet)
+    }
+
+    /// What a quadlet read of the register at an offset of a device's node would be answered in cycle `now`.
+    pub fn read(&self, device: u8, now: u64, offset: u64) -> Reply
+        requires declared { device < length self.now.nodes }
+        requires number { IsSome (node_at self.now.nodes device).number }
+        ensures { (number : ℕ) → (node_at self.now.nodes device).number ≡ Some number → result ≡ (answer_of (space_of number now (node_at self.now.nodes device)) (Read offset)).reply }
+    {
+        self.nodes[usize::from(device)].read(now, offset)
+    }
+
+    /// The second after a bus reset is over, for each node. No register changes.
+    pub fn second_over(&mut self)
+        ensures { self.new ≡ self.old }
+    {
+        for node in self.nodes.iter_mut() {
+            node.second_over();
+        }
+    }
+}

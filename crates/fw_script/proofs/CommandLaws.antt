@@ -1,0 +1,133 @@
+-- The numbers of a command that some line of a script gives.
+use Rattle.std.proofs.Common.{◌≡◌, ℕ, ◌+◌, ◌-◌, ◌*◌, ◌<◌, ◌≤◌, ◌^◌, List, [], ◌∷◌, length, nat_le, ◌==◌, Bool, true, false, cond, ◌&&◌, Option, Some, None, IfSome, Ok, refl, inl, inr, sym, subst, arith}
+use Rattle.std.specs.Prelude.{⊤}
+use Rattle.std.specs.declared.result.Result.{Result}
+use Rattle.std.specs.Int.{from_be_bytes, w16}
+use Rattle.std.specs.Str.Parse.{digits_value}
+use Rattle.std.proofs.lemmas.Bool.{and_parts, eqb-true}
+use Rattle.std.proofs.lemmas.Bool.Decides.{nat_tests}
+use Rattle.std.proofs.lemmas.Option.{same_Some}
+use Rattle.hex.specs.Hex.{decode_pairs, decode_sized, digit_or_error, hex_digit_value, ◌>>=◌}
+use Rattle.hex.specs.declared.error.FromHexError.{FromHexError}
+use Rattle.fw_script.specs.Form.{HasArguments, HasForm}
+use Rattle.fw_script.specs.Words.{is_decimal, only_if, or_none, number_in, offset_in}
+use Rattle.fw_script.specs.declared.keyword.Keyword.{Keyword}
+use Rattle.fw_script.specs.declared.keyword.Keyword.TheVariants.{Device, Cable, Reset, Connect, Broadcast, Listen, Break, Step, Settle, Wait, Cycles, Die, Start, Command as CommandWord, Read, Swap, Insert, Eject, Show, End}
+use Rattle.fw_script.specs.declared.command.Command.{Command}
+use Rattle.fw_script.specs.declared.command.Command.TheVariants as Commands
+
+-- the numbers are in their ranges
+abbrev pub CommandFits : Command → Type 0
+CommandFits (Commands.Device name kind ports speed) = (kind ≤ 3) × (1 ≤ ports) × (ports ≤ 27) × (speed ≤ 2)
+CommandFits (Commands.Broadcast name plug overhead) = overhead < 16
+CommandFits (Commands.Step name count) = count ≤ 10000
+CommandFits (Commands.Read a b offset) = offset < 2 ^ 12
+CommandFits (Commands.Swap a b offset argument new) = offset < 2 ^ 12
+CommandFits (Commands.Show name offset) = offset < 2 ^ 12
+CommandFits _ = ⊤
+
+-- ---- words
+
+only_some : {A : Type 0} (b : Bool) (x y : A) → only_if b x ≡ Some y → (b ≡ true) × (x ≡ y)
+only_some true x y e = (refl, same_Some x y e)
+only_some false x y e = absurd (let z : ⊥ = cc in z)
+
+some_if : (b : Bool) (o : Option ℕ) (n : ℕ) → cond b o None ≡ Some n → (b ≡ true) × (o ≡ Some n)
+some_if true o n e = (refl, e)
+some_if false o n e = absurd (let z : ⊥ = cc in z)
+
+number_range : (low high : ℕ) (w : List ℕ) (n : ℕ) → number_in low high w ≡ Some n → (low ≤ n) × (n ≤ high)
+number_range low high w n e = go (digits_value 10 w) (only_some (is_decimal w && nat_le low (digits_value 10 w) && nat_le (digits_value 10 w) high) (digits_value 10 w) n e)
+  where
+    go : (v : ℕ) → (is_decimal w && nat_le low v && nat_le v high ≡ true) × (v ≡ n) → (low ≤ n) × (n ≤ high)
+    go v h =
+        let last = and_parts (is_decimal w && nat_le low v) (nat_le v high) h.0 in
+        let first = and_parts (is_decimal w) (nat_le low v) last.0 in
+        (grind (arith, nat_tests), grind (arith, nat_tests))
+
+kind_range : (a b c d : Bool) (n : ℕ) → cond a (Some 0) (cond b (Some 1) (cond c (Some 2) (cond d (Some 3) None))) ≡ Some n → n ≤ 3
+kind_range true b c d n e = let is = same_Some 0 n e in omega arith
+kind_range false true c d n e = let is = same_Some 1 n e in omega arith
+kind_range false false true d n e = let is = same_Some 2 n e in omega arith
+kind_range false false false true n e = let is = same_Some 3 n e in omega arith
+kind_range false false false false n e = absurd (let z : ⊥ = cc in z)
+
+speed_range : (a b c : Bool) (n : ℕ) → cond a (Some 0) (cond b (Some 1) (cond c (Some 2) None)) ≡ Some n → n ≤ 2
+speed_range true b c n e = let is = same_Some 0 n e in omega arith
+speed_range false true c n e = let is = same_Some 1 n e in omega arith
+speed_range false false true n e = let is = same_Some 2 n e in omega arith
+speed_range false false false n e = absurd (let z : ⊥ = cc in z)
+
+-- ---- offsets
+
+digit_range : (c v : ℕ) → hex_digit_value c ≡ Some v → v < 16
+digit_range c v e = go (nat_le 65 c && nat_le c 70) (nat_le 97 c && nat_le c 102) (nat_le 48 c && nat_le c 57) refl refl refl e
+  where
+    go : (x y z : Bool) → nat_le 65 c && nat_le c 70 ≡ x → nat_le 97 c && nat_le c 102 ≡ y → nat_le 48 c && nat_le c 57 ≡ z → cond x (Some (c - 55)) (cond y (Some (c - 87)) (cond z (Some (c - 48)) None)) ≡ Some v → v < 16
+    go true y z p q r e = let is = same_Some (c - 55) v e in let h = (and_parts (nat_le 65 c) (nat_le c 70) p).1 in grind (arith, nat_tests)
+    go false true z p q r e = let is = same_Some (c - 87) v e in let h = (and_parts (nat_le 97 c) (nat_le c 102) q).1 in grind (arith, nat_tests)
+    go false false true p q r e = let is = same_Some (c - 48) v e in let h = (and_parts (nat_le 48 c) (nat_le c 57) r).1 in grind (arith, nat_tests)
+    go false false false p q r e = absurd (let t : ⊥ = cc in t)
+
+digit_below : (c : ℕ) → IfSome (hex_digit_value c) (λ v. v < 16)
+digit_below c = go (hex_digit_value c) refl
+  where
+    go : (o : Option ℕ) → hex_digit_value c ≡ o → IfSome o (λ v. v < 16)
+    go None e = tt
+    go (Some v) e = digit_range c v e
+
+-- the two bytes of a zero and three digits
+abbrev decoded : ℕ → ℕ → ℕ → Option ℕ → Option ℕ → Option ℕ → Result (List ℕ) FromHexError
+decoded a b c x y z =
+    (digit_or_error a 1 x >>= (λ l. Ok (0 * 16 + l)))
+    >>= (λ first. ((digit_or_error b 2 y >>= (λ h. digit_or_error c 3 z >>= (λ l. Ok (h * 16 + l)))) >>= (λ last. Ok (last ∷ []))) >>= (λ bytes. Ok (first ∷ bytes)))
+
+decoded_small : (a b c n : ℕ) (x y z : Option ℕ) → IfSome x (λ v. v < 16) → IfSome y (λ v. v < 16) → IfSome z (λ v. v < 16) → or_none (from_be_bytes w16) (decoded a b c x y z) ≡ Some n → n < 2 ^ 12
+decoded_small a b c n (Some x) (Some y) (Some z) p q r e = let is = same_Some (from_be_bytes w16 ((0 * 16 + x) ∷ (y * 16 + z) ∷ [])) n e in omega arith
+decoded_small a b c n None y z p q r e = absurd (let t : ⊥ = cc in t)
+decoded_small a b c n (Some x) None z p q r e = absurd (let t : ⊥ = cc in t)
+decoded_small a b c n (Some x) (Some y) None p q r e = absurd (let t : ⊥ = cc in t)
+
+three_digits : (w : List ℕ) (n : ℕ) → length w ≡ 3 → or_none (from_be_bytes w16) (decode_sized (48 ∷ w) 2) ≡ Some n → n < 2 ^ 12
+unfolding decode_pairs
+three_digits [] n size e = absurd (omega arith)
+three_digits (a ∷ []) n size e = absurd (omega arith)
+three_digits (a ∷ b ∷ []) n size e = absurd (omega arith)
+three_digits (a ∷ b ∷ c ∷ []) n size e = decoded_small a b c n (hex_digit_value a) (hex_digit_value b) (hex_digit_value c) (digit_below a) (digit_below b) (digit_below c) e
+three_digits (a ∷ b ∷ c ∷ d ∷ w) n size e = absurd (omega arith)
+
+offset_range : (w : List ℕ) (n : ℕ) → offset_in w ≡ Some n → n < 2 ^ 12
+offset_range w n e = let h = some_if (length w == 3) (or_none (from_be_bytes w16) (decode_sized (48 ∷ w) 2)) n e in three_digits w n (eqb-true (length w) 3 h.0) h.1
+
+-- ---- commands
+
+fits_as : (c d : Command) → c ≡ d → CommandFits d → CommandFits c
+fits_as c d is = subst CommandFits (sym is)
+
+arguments_fit : (k : Keyword) (ws : List (List ℕ)) (c : Command) → HasArguments k ws c → CommandFits c
+arguments_fit Device ws c h =
+    let ports = number_range 1 27 h.2 h.6 h.11 in
+    fits_as c (Commands.Device h.4 h.5 h.6 h.7) h.13 (kind_range _ _ _ _ h.5 h.10, ports.0, ports.1, speed_range _ _ _ h.7 h.12)
+arguments_fit Broadcast ws c h = fits_as c (Commands.Broadcast h.3 h.4 h.5) h.10 (let range = number_range 0 15 h.2 h.5 h.9 in omega arith)
+arguments_fit Step ws c h = fits_as c (Commands.Step h.2 h.3) h.7 (number_range 1 10000 h.1 h.3 h.6).1
+arguments_fit Read ws c h = fits_as c (Commands.Read h.3 h.4 h.5) h.10 (offset_range h.2 h.5 h.9)
+arguments_fit Swap ws c h = fits_as c (Commands.Swap h.5 h.6 h.7 h.8 h.9) h.16 (offset_range h.2 h.7 h.13)
+arguments_fit Show ws c h = fits_as c (Commands.Show h.2 h.3) h.7 (offset_range h.1 h.3 h.6)
+arguments_fit Cable ws c h = fits_as c (Commands.Cable h.2 h.3) h.7 tt
+arguments_fit Reset ws c h = fits_as c (Commands.Reset h.1) h.4 tt
+arguments_fit Connect ws c h = fits_as c (Commands.Connect h.5 h.6 h.7 h.8 h.9) h.16 tt
+arguments_fit Listen ws c h = fits_as c (Commands.Listen h.2 h.3) h.7 tt
+arguments_fit Break ws c h = fits_as c (Commands.Break h.2 h.3) h.7 tt
+arguments_fit Settle ws c h = fits_as c (Commands.Settle h.1) h.4 tt
+arguments_fit Wait ws c h = fits_as c (Commands.Wait h.1) h.4 tt
+arguments_fit Cycles ws c h = fits_as c (Commands.Cycles h.1) h.4 tt
+arguments_fit Die ws c (inl h) = fits_as c (Commands.Die h.1 false) h.4 tt
+arguments_fit Die ws c (inr h) = fits_as c (Commands.Die h.2 true) h.7 tt
+arguments_fit Start ws c h = fits_as c (Commands.Start h.1) h.4 tt
+arguments_fit CommandWord ws c h = fits_as c (Commands.Command h.3 h.4 h.5) h.10 tt
+arguments_fit Insert ws c h = fits_as c (Commands.Insert h.3 h.4 h.5) h.10 tt
+arguments_fit Eject ws c h = fits_as c (Commands.Eject h.1) h.4 tt
+arguments_fit End ws c h = fits_as c Commands.End h.1 tt
+
+pub command_fits : (c : Command) (line : List ℕ) → HasForm c line → CommandFits c
+command_fits c line h = arguments_fit h.keyword h.others c h.arguments
