@@ -1,0 +1,9 @@
+use Rattle.fw_run.proofs.Runs.{run_steps}
+use Rattle.fw_run.proofs.Sounds.{sound_throughout}
+use Rattle.fw_run.proofs.laws.runs_are_sound.Goals as goal
+
+pub returns-clause-steps : goal.returns-clause-steps
+returns-clause-steps c = sound_throughout
+
+pub returns-clause-runs : goal.returns-clause-runs
+returns-clause-runs c = run_steps

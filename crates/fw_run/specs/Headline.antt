@@ -1,0 +1,90 @@
+-- What holds in each state of a run, and of each answer in its log.
+use Rattle.std.specs.Prelude.{ℕ, ◌≡◌, ◌<◌, ◌==◌, ◌&&◌, ◌↔◌, List, ◌∷◌, ◌++◌, Option, Some, None, length, if◌then◌else◌, IsTrue, IsFalse, ⊤}
+use Rattle.fw_words.specs.Quadlet.{quadlet_at}
+use Rattle.fw_async.specs.declared.packet.Packet.{Packet}
+use Rattle.fw_async.specs.declared.packet.Packet.TheVariants.{WriteQuadlet, WriteBlock, WriteReply, ReadQuadlet, ReadBlock, ReadQuadletReply, ReadBlockReply, CycleStart, Lock, LockReply}
+use Rattle.fw_log.specs.declared.entry.Entry.{Entry}
+use Rattle.fw_log.specs.declared.entry.Entry.TheVariants.{Reset, Async, Event, Outcome, Shown, End}
+use Rattle.fw_log.specs.declared.entry.ShownEntry.{ShownEntry}
+use Rattle.fw_log.specs.declared.entry.Timed.{Timed}
+use Rattle.fw_tree.specs.Cables.{IsOnBus}
+use Rattle.fw_ledger.specs.Account.{Account, Request}
+use Rattle.fw_ledger.specs.Listing.{IsAllocatedForFlows}
+use Rattle.fw_ledger.specs.Network.{device_of_id}
+use Rattle.fw_ledger.specs.Words.{Register, register_of, word_of, word_of_device}
+use Rattle.fw_ledger.specs.Fold.{account_of, entries_of}
+use Rattle.fw_ledger.specs.Sound.{IsSound, IsConflictFree}
+use Rattle.fw_run.specs.declared.controller.Controller.TheVariants.{Idle}
+use Rattle.fw_run.specs.State.{State, first_state, is_on}
+use Rattle.fw_run.specs.Run.{Action, Steps}
+use Rattle.fw_run.specs.Good.{InStep}
+
+-- no second runs, and the controller has no job
+pub record IsSettled (s : State) : Type 0 where
+  pub no_second : IsFalse s.account.reclaiming
+  pub idle : s.controller ≡ Idle
+
+-- a state to which these entries lead
+pub record IsSoundAt (log : List Timed) (s : State) : Type 0 where
+  pub account : account_of (entries_of log) ≡ Some s.account
+  pub sound : IsSound s.account
+  pub free : IsConflictFree s.account
+  pub step : InStep s.account s.controller s.others
+  pub settled : IsSettled s → IsAllocatedForFlows s.account
+  -- the nodes of the latest reset entry are the declared devices to which a walk of cables leads from device 0
+  pub bus : (d : ℕ) → d < length s.names → IsTrue (is_on s d) ↔ IsOnBus s.topology.cables d
+
+-- ---- answers to controllers
+
+-- a word that a complete response to a controller's request shows, and the node that it is sent to
+abbrev pub shown_in : Packet → Option (ℕ × ℕ)
+shown_in (ReadQuadletReply h rcode value) = if (h.tl == 0) && (rcode == 0) then Some (h.destination, value) else None
+shown_in (LockReply h rcode function bytes) = if (h.tl == 0) && (rcode == 0) && (length bytes == 4) then Some (h.destination, quadlet_at bytes 0) else None
+shown_in (WriteQuadlet h offset value) = None
+shown_in (WriteBlock h offset bytes) = None
+shown_in (WriteReply h rcode) = None
+shown_in (ReadQuadlet h offset) = None
+shown_in (ReadBlock h offset len) = None
+shown_in (ReadBlockReply h rcode bytes) = None
+shown_in (CycleStart h offset time) = None
+shown_in (Lock h offset function bytes) = None
+
+-- the word that is shown to a requester is that of the account, where its outstanding request is at a register of the account
+abbrev pub IsShownWord : Account → Option (ℕ × ℕ) → Type 0
+IsShownWord l None = ⊤
+IsShownWord l (Some shown) =
+    (c : ℕ) (request : Request) (register : Register) → device_of_id l.latest shown.0 ≡ Some c → l.outstanding c ≡ Some request
+    → register_of l.latest request.target request.address ≡ Some register → shown.1 ≡ word_of l register
+
+-- the word of an entry that shows one is that of the account, where the account has the register
+abbrev pub IsWordOf : Account → ShownEntry → Type 0
+IsWordOf l s = (word : ℕ) → word_of_device l s.device s.offset ≡ Some word → s.word ≡ word
+
+abbrev pub IsAnswered : Account → Entry → Type 0
+IsAnswered l (Async p) = IsShownWord l (shown_in p)
+IsAnswered l (Reset r) = ⊤
+IsAnswered l (Event e) = ⊤
+IsAnswered l (Outcome o) = ⊤
+IsAnswered l (Shown s) = IsWordOf l s
+IsAnswered l End = ⊤
+
+-- ---- answers to the script
+
+-- a complete response to a quadlet read of the script shows the account's word, where the account has the register
+abbrev pub IsReadBy : Account → Packet → Packet → Type 0
+IsReadBy l (ReadQuadlet h offset) (ReadQuadletReply k rcode value) = h.tl ≡ 1 → rcode ≡ 0 → (register : Register) → register_of l.latest h.destination offset ≡ Some register → value ≡ word_of l register
+IsReadBy l _ _ = ⊤
+
+-- two entries that follow each other
+abbrev pub IsReadIn : Account → Entry → Entry → Type 0
+IsReadIn l (Async p) (Async q) = IsReadBy l p q
+IsReadIn l _ _ = ⊤
+
+-- Actions from the first state on, and the log that they write: in each state on the way the account of the entries so far
+-- is defined, sound and in step with the controller, and no channel has two talkers; each front of the log is reached; and
+-- each complete answer, and each shown word, equals the account's word before it.
+pub record IsSoundThroughout (actions : List Action) (log : List Timed) : Type 0 where
+  pub states : (done later : List Action) (front : List Timed) (s : State) → actions ≡ done ++ later → Steps first_state done front s → IsSoundAt front s
+  pub fronts : (front rest : List Timed) → log ≡ front ++ rest → (done : List Action) × (later : List Action) × (s : State) × (actions ≡ done ++ later) × Steps first_state done front s
+  pub answers : (front rest : List Timed) (t : Timed) → log ≡ front ++ t ∷ rest → (l : Account) × (account_of (entries_of front) ≡ Some l) × IsAnswered l t.what
+  pub reads : (front rest : List Timed) (t u : Timed) → log ≡ front ++ t ∷ u ∷ rest → (l : Account) × (account_of (entries_of front) ≡ Some l) × IsReadIn l t.what u.what

@@ -1,0 +1,10 @@
+pub mod Packets
+pub mod Outcomes
+pub mod Giving
+pub mod State
+pub mod Spaces
+pub mod Halves
+pub mod Rules
+pub mod Run
+pub mod Good
+pub mod Headline

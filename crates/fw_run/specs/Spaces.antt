@@ -1,0 +1,92 @@
+-- The registers of the nodes, and what a packet is answered.
+use Rattle.std.specs.Prelude.{ℕ, ◌+◌, ◌++◌, Bool, false, Option, Some, None, if◌then◌else◌}
+use Rattle.std.specs.Int.{to_be_bytes, w32}
+use Rattle.fw_base.specs.Tables.{at_plug}
+use Rattle.fw_async.specs.declared.packet.Head.{Head}
+use Rattle.fw_async.specs.declared.packet.Packet.{Packet}
+use Rattle.fw_async.specs.declared.packet.Packet.TheVariants.{ReadQuadlet, Lock}
+use Rattle.fw_log.specs.declared.entry.ResetEntry.{ResetEntry}
+use Rattle.fw_csr.specs.declared.request.Request.{Request}
+use Rattle.fw_csr.specs.declared.request.Request.TheVariants as Asks
+use Rattle.fw_csr.specs.declared.reply.Reply.{Reply}
+use Rattle.fw_csr.specs.Manager.{ManagerWords, after_at}
+use Rattle.fw_tree.specs.SelfIds.{facts_at}
+use Rattle.fw_ledger.specs.Words.{BandwidthAvailable, ChannelsAvailable, OutputPlug, InputPlug, word_of, node_of, first_address}
+use Rattle.fw_node.specs.Contents.{node_id}
+use Rattle.fw_node.specs.Space.{Space, answer_of}
+use Rattle.fw_node.specs.Packets.{response_of}
+use Rattle.fw_devices.specs.Network.{kind_at}
+use Rattle.fw_devices.specs.Entries.{is_number}
+use Rattle.fw_run.specs.declared.order.Access.{Access}
+use Rattle.fw_run.specs.declared.order.Access.TheVariants.{Read, Swap}
+use Rattle.fw_run.specs.declared.order.Transaction.{Transaction}
+use Rattle.fw_run.specs.State.{State}
+
+-- the words of the manager's registers
+abbrev pub manager_words : State → ManagerWords
+manager_words s = record {
+  bus_manager_id = s.bus_manager_id;
+  bandwidth_available = word_of s.account BandwidthAvailable;
+  channels_available_hi = word_of s.account (ChannelsAvailable 0);
+  channels_available_lo = word_of s.account (ChannelsAvailable 32);
+}
+
+-- node n is the isochronous resource manager
+abbrev pub is_manager : Option ResetEntry → ℕ → Bool
+is_manager None n = false
+is_manager (Some e) n = is_number e.manager n
+
+-- The registers of a device that is node n: the plug words and the manager's words are those of the account, and
+-- BUS_MANAGER_ID is what raw swaps have stored since the bus reset.
+abbrev pub space_at : State → ℕ → ℕ → Space
+space_at s d n = record {
+  number = n;
+  kind = kind_at s.kinds d;
+  device = d;
+  rate = (facts_at s.topology.devices d).speed;
+  cycle = s.cycle;
+  output_word = λ k. word_of s.account (OutputPlug (at_plug d k));
+  input_word = λ k. word_of s.account (InputPlug (at_plug d k));
+  manager = if is_manager s.account.latest n then Some (manager_words s) else None;
+}
+
+-- the registers of a device on the bus
+abbrev pub space_of_device : State → ℕ → Space
+space_of_device s d = space_at s d (node_of s.account.latest d)
+
+-- the packet by which a device on the bus answers a request packet
+abbrev pub response_from : State → ℕ → Packet → Option Packet
+response_from s d p = response_of (space_of_device s d) p
+
+-- what a quadlet read of a register of a device is answered
+abbrev pub read_at : State → ℕ → ℕ → Reply
+read_at s d offset = (answer_of (space_of_device s d) (Asks.Read (first_address + offset))).reply
+
+-- ---- transactions of the script
+
+-- a packet of the script from one node to another: transaction label 1, retry code 01, priority 0 (own)
+abbrev pub script_head : ℕ → ℕ → Head
+script_head destination source = record { destination = node_id destination; tl = 1; rt = 1; pri = 0; source = node_id source }
+
+-- the offset in the initial register space, FFFF F000 0000 and on
+abbrev pub offset_in : Access → ℕ
+offset_in (Read offset) = offset
+offset_in (Swap offset argument new) = offset
+
+-- a quadlet read, or a quadlet compare_swap
+abbrev pub access_request : Access → Request
+access_request (Read offset) = Asks.Read (first_address + offset)
+access_request (Swap offset argument new) = Asks.Lock (first_address + offset) 2 (to_be_bytes w32 argument ++ to_be_bytes w32 new)
+
+abbrev pub access_packet : Head → Access → Packet
+access_packet h (Read offset) = ReadQuadlet h (first_address + offset)
+access_packet h (Swap offset argument new) = Lock h (first_address + offset) 2 (to_be_bytes w32 argument ++ to_be_bytes w32 new)
+
+-- the request packet of a transaction
+abbrev pub transaction_packet : State → Transaction → Packet
+transaction_packet s x = access_packet (script_head (node_of s.account.latest x.to) (node_of s.account.latest x.from)) x.access
+
+-- BUS_MANAGER_ID after a transaction
+abbrev pub bus_manager_id_after : State → Transaction → ℕ
+bus_manager_id_after s x =
+    if is_manager s.account.latest (node_of s.account.latest x.to) then after_at 0xFFFF_F000_021C (access_request x.access) s.bus_manager_id else s.bus_manager_id
