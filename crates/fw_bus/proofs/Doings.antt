@@ -5,22 +5,13 @@ use Rattle.std.specs.declared.result.Result.{Result}
 use Rattle.fw_outside.specs.Outside.{HasCause, Grows}
 use Rattle.fw_outside.proofs.Parts.{Grows-Grows, Grows-nothing}
 use Rattle.fw_log.specs.declared.entry.Entry.{Entry}
-use Rattle.fw_log.specs.declared.entry.Timed.{Timed}
 use Rattle.fw_log.specs.Log.{entry_bytes}
 use Rattle.fw_bus.specs.declared.machine.Machine.{Machine}
-use Rattle.fw_bus.specs.Giving.{at_cycle, log_bytes, Gives}
-use Rattle.fw_bus.specs.State.{State}
-use Rattle.fw_bus.specs.Run.{Action, Steps, times}
-use Rattle.fw_bus.specs.Stands.{IsReady, Turns, Does}
-use Rattle.fw_bus.proofs.Goods.{steps_good}
-
-pub steps_then : (s t u : State) (xs ys : List Action) (a b : List Timed) → Steps s xs a t → Steps t ys b u → Steps s (xs ++ ys) (a ++ b) u
-steps_then s t u [] ys a b f g = rw f.0 (rw f.1 at g)
-steps_then s t u (x ∷ xs) ys a b f g = (f.0, f.1 ++ b, f.2, f.3, ap (λ z. z ++ b) f.4 ∙ append_assoc f.0 f.1 b, steps_then f.2 t u xs ys f.1 b f.5 g)
-
-pub log_append : (xs ys : List Timed) → log_bytes (xs ++ ys) ≡ log_bytes xs ++ log_bytes ys
-log_append [] ys = refl
-log_append (x ∷ xs) ys = ap (λ z. entry_bytes x ++ z) (log_append xs ys) ∙ sym (append_assoc (entry_bytes x) (log_bytes xs) (log_bytes ys))
+use Rattle.fw_run.specs.Giving.{at_cycle, log_bytes, Gives}
+use Rattle.fw_run.specs.Run.{Action, Steps, times}
+use Rattle.fw_run.proofs.Runs.{steps_then, log_append}
+use Rattle.fw_run.proofs.Sounds.{steps_good}
+use Rattle.fw_bus.specs.Stands.{IsReady, Turns, Talks, Does}
 
 cause_then : {U F : Type 0} (k l m : ℕ) (r : Result U F) → k ≤ l → HasCause l m r → HasCause k m r
 cause_then k l m (Ok _) le c = record { later = omega (arith, le, c.later); failed = tt }
@@ -136,3 +127,56 @@ times_cut x i {m} {now = now} {a} {c = c} {k} {n = n} count q r lt was is d e =
 -- all turns were done
 pub times_all : {T E : Type 0} (x : Action) (i n : ℕ) {m now : Machine} {a b : Option (List ℕ)} {k l : ℕ} {u : T} → i ≡ n → Does {T = T} {E = E} (times i x) m now a b k l (Ok u) → Does {T = T} {E = E} (times n x) m now a b k l (Ok u)
 times_all {E = E} x i n {m = m} {now} {a} {b} {k} {l} {u} e d = subst (λ z. Does {E = E} (times z x) m now a b k l (Ok u)) e d
+
+-- ---- a transaction: its request and its response, before their entries are written
+
+-- both were written, or the one that was cut off
+pub does_asked : {T E U F : Type 0} {a b : Action} {m now : Machine} {held after : Option (List ℕ)} {k l n : ℕ} {u : T} (mid : Option (List ℕ)) (cycle : ℕ) (e f : Entry) (r : Result U F) → Talks a b m now cycle e f
+    → Gives {T = T} {E = E} held mid (Ok u) cycle (Some e) → HasCause {T = T} {E = E} k l (Ok u) → Gives mid after r cycle (Some f) → HasCause l n r → Does (a ∷ b ∷ []) m now held after k n r
+does_asked {held = held} {after} {k} {l} {n} mid cycle e f (Ok w) talk gives cause given caused = record {
+  cause = cause_then k l n (Ok w) cause.later caused;
+  shown = λ s g st. let x = talk.shown s g st in (
+    at_cycle cycle e ∷ at_cycle cycle f ∷ [],
+    x.1,
+    (at_cycle cycle e ∷ [], at_cycle cycle f ∷ [], x.0, x.2, refl, (at_cycle cycle f ∷ [], [], x.1, x.3, refl, (refl, refl))),
+    x.4,
+    subst (λ z. Grows held after (entry_bytes (at_cycle cycle e) ++ z)) (sym (append-nil (entry_bytes (at_cycle cycle f)))) (Grows-Grows held mid after (entry_bytes (at_cycle cycle e)) (entry_bytes (at_cycle cycle f)) gives given),
+  );
+}
+does_asked {a = a} {b} {held = held} {after} {k} {l} {n} mid cycle e f (Err w) talk gives cause given caused = record {
+  cause = cause_then k l n (Err w) cause.later caused;
+  shown = λ s g st. let x = talk.shown s g st in record {
+    done = a ∷ b ∷ [];
+    later = [];
+    actions_are = refl;
+    given = at_cycle cycle e ∷ [];
+    next = at_cycle cycle f;
+    state = x.1;
+    steps = (at_cycle cycle e ∷ [], at_cycle cycle f ∷ [], x.0, x.2, refl, (at_cycle cycle f ∷ [], [], x.1, x.3, refl, (refl, refl)));
+    front = given.front;
+    rest = given.rest;
+    parts = given.parts;
+    appended = subst (λ z. Grows held after (z ++ given.front)) (sym (append-nil (entry_bytes (at_cycle cycle e)))) (Grows-Grows held mid after (entry_bytes (at_cycle cycle e)) given.front gives given.appended);
+  };
+}
+
+-- the request was cut off
+pub does_unasked : {U F V G : Type 0} {a b : Action} {m now : Machine} {held after : Option (List ℕ)} {k l : ℕ} (cycle : ℕ) (e f : Entry) (q : Result U F) (r : Result V G) → Talks a b m now cycle e f → IsErr q → IsErr r → Gives held after q cycle (Some e) → HasCause k l q → Does (a ∷ b ∷ []) m now held after k l r
+does_unasked cycle e f (Ok u) r talk is was gives cause = let no : ⊥ = grind (arith, is) in absurd no
+does_unasked cycle e f (Err w) (Ok v) talk is was gives cause = let no : ⊥ = grind (arith, was) in absurd no
+does_unasked {a = a} {b} cycle e f (Err w) (Err v) talk is was gives cause = record {
+  cause = record { later = cause.later; failed = cause.failed };
+  shown = λ s g st. let x = talk.shown s g st in record {
+    done = a ∷ [];
+    later = b ∷ [];
+    actions_are = refl;
+    given = [];
+    next = at_cycle cycle e;
+    state = x.0;
+    steps = (at_cycle cycle e ∷ [], [], x.0, x.2, refl, (refl, refl));
+    front = gives.front;
+    rest = gives.rest;
+    parts = gives.parts;
+    appended = gives.appended;
+  };
+}

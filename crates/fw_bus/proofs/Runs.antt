@@ -1,64 +1,76 @@
--- Laws of whole runs.
-use Rattle.std.proofs.Common.{◌≡◌, ℕ, Bool, List, [], ◌∷◌, ◌++◌, Option, refl, ap, sym, subst, ◌∙◌, append_assoc, append-nil}
-use Rattle.std.specs.Prelude.{Ok, Err, IsTrue, IsFalse}
+-- What a call of the bus did, over the runs for whose states it stands.
+use Rattle.std.proofs.Common.{◌≡◌, ℕ, ◌+◌, Bool, List, [], ◌∷◌, ◌++◌, Option, refl, ap, subst, ◌∙◌, IsTrue, IsFalse}
+use Rattle.std.specs.Prelude.{Ok, Err}
+use Rattle.std.specs.declared.result.Result.{Result}
 use Rattle.fw_log.specs.declared.entry.Timed.{Timed}
-use Rattle.fw_bus.specs.declared.command.Command.{Command}
+use Rattle.fw_script.specs.declared.command.Command.{Command}
+use Rattle.fw_run.specs.declared.order.Order.{Order}
+use Rattle.fw_run.specs.declared.order.Order.TheVariants as Orders
+use Rattle.fw_run.specs.declared.rule.RuleFault.{RuleFault}
+use Rattle.fw_run.specs.State.{State, first_state, over_at}
+use Rattle.fw_run.specs.Rules.{DecidedBy, Decides}
+use Rattle.fw_run.specs.Run.{Action, Run, and_then, actions_of, passes}
+use Rattle.fw_run.proofs.Runs.{run_steps, steps_then}
+use Rattle.fw_run.proofs.Sounds.{sound_throughout}
 use Rattle.fw_bus.specs.declared.machine.Machine.{Machine}
-use Rattle.fw_bus.specs.First.{first_machine, first_registers}
-use Rattle.fw_bus.specs.State.{State, first_state}
-use Rattle.fw_bus.specs.Run.{Steps, Run, begun, and_then, actions_of, IsNext}
-use Rattle.fw_bus.specs.Good.{IsGood}
-use Rattle.fw_bus.specs.Stands.{StandsFor, HasWords, IsReady, Does}
-use Rattle.fw_base.specs.Tables.{sum_to}
-use Rattle.fw_ledger.specs.Fold.{no_account}
+use Rattle.fw_bus.specs.Stands.{StandsFor, Does, view_in, actions_in}
 use Rattle.fw_bus.specs.Buses.{IsReached, Goes, Stops}
-use Rattle.fw_bus.specs.Headline.{all_actions}
-use Rattle.fw_bus.proofs.Doings.{steps_then}
-use Rattle.fw_bus.proofs.Goods.{steps_good, first_good}
-use Rattle.fw_bus.proofs.Sounds.{sound_throughout}
+use Rattle.fw_bus.proofs.Reached.{run_good}
+use Rattle.fw_bus.proofs.Views.{decided_same}
 
-all_append : (cs : List Command) (c : Command) → all_actions (cs ++ c ∷ []) ≡ all_actions cs ++ actions_of c
-all_append [] c = append-nil (actions_of c)
-all_append (x ∷ cs) c = ap (λ z. actions_of x ++ z) (all_append cs c) ∙ sym (append_assoc (actions_of x) (all_actions cs) (actions_of c))
+-- the actions of an order are those of the run's state
+actions_same : (m : Machine) (s : State) (o : Order) → StandsFor m s → actions_in m o ≡ actions_of s o
+actions_same m s (Orders.Declare name kind ports speed) st = refl
+actions_same m s (Orders.Cable a b) st = refl
+actions_same m s (Orders.Reset d) st = refl
+actions_same m s (Orders.Broadcast overhead) st = refl
+actions_same m s (Orders.Step d count) st = refl
+actions_same m s (Orders.Wait n) st =
+    ap (λ b. passes b (m.reset_cycle + 8000) m.cycle n) st.reclaiming
+    ∙ (ap (λ r. passes s.account.reclaiming (r + 8000) m.cycle n) st.reset_cycle ∙ ap (λ c. passes s.account.reclaiming (over_at s) c n) st.cycle)
+actions_same m s (Orders.Transact x) st = refl
+actions_same m s (Orders.Show d offset word) st = refl
+actions_same m s Orders.End st = refl
 
--- a run is its actions, one after another
-pub run_steps : {commands : List Command} {log : List Timed} {s : State} → Run commands log s → Steps first_state (all_actions commands) log s
-run_steps begun = (refl, refl)
-run_steps (and_then {commands = commands} {log = log} {s = s} r c out t next f) = subst (λ z. Steps first_state z (log ++ out) t) (sym (all_append commands c)) (steps_then first_state s t (all_actions commands) (actions_of c) log out (run_steps r) f)
-
-pub run_good : {commands : List Command} {log : List Timed} {s : State} → Run commands log s → IsGood s
-run_good {commands} {log} {s} r = steps_good first_state s (all_actions commands) log first_good (run_steps r)
-
-pub ready_of : {m : Machine} → IsReached m → IsReady m
-ready_of r = record { state = r.state; good = run_good r.run; stands = r.stands }
-
-first_words : HasWords first_registers no_account
-unfolding sum_to
-first_words = record { bandwidth = refl; high = refl; low = refl; output = refl }
-
-pub first_stands : StandsFor first_machine first_state
-first_stands = record { expected = refl; name = refl; cycle = refl; controller = refl; words = first_words }
-
-pub reached_first : (m : Machine) → m ≡ first_machine → IsReached m
-reached_first m e = record { commands = []; log = []; state = first_state; run = begun; stands = subst (λ x. StandsFor x first_state) (sym e) first_stands }
-
--- the line that a machine takes is the one that comes next in the run
-next_of : (m : Machine) (s : State) (c : Command) → StandsFor m s → IsNext m.expected m.name c → IsNext s.expected s.name c
-next_of m s c st n = subst (λ e. IsNext e s.name c) st.expected (subst (λ x. IsNext m.expected x c) st.name n)
+done_same : {T E : Type 0} {m now : Machine} {a b : Option (List ℕ)} {k l : ℕ} {r : Result T E} (o : Order) (s : State) → StandsFor m s → Does (actions_in m o) m now a b k l r → Does (actions_of s o) m now a b k l r
+done_same {m = m} {now} {a} {b} {k} {l} {r} o s st d = subst (λ z. Does z m now a b k l r) (actions_same m s o st) d
 
 -- a command more
-pub reached_more : {T E : Type 0} {m now : Machine} {a b : Option (List ℕ)} {k l : ℕ} {u : T} (c : Command) → IsReached m → IsNext m.expected m.name c → Does {T = T} {E = E} (actions_of c) m now a b k l (Ok u) → IsReached now
-reached_more {m = m} c r next d =
-    let x = d.shown r.state (run_good r.run) r.stands in
-    record { commands = r.commands ++ c ∷ []; log = r.log ++ x.0; state = x.1; run = and_then r.run c x.0 x.1 (next_of m r.state c r.stands next) x.2; stands = x.3 }
+pub reached_more : {T E : Type 0} {m now : Machine} {a b : Option (List ℕ)} {k l : ℕ} {u : T} (c : Command) (o : Order) → IsReached m → DecidedBy m.devices.topology (view_in m) c (Ok o) → Does {T = T} {E = E} (actions_in m o) m now a b k l (Ok u) → IsReached now
+reached_more {T} {E} {m = m} {now} {a} {b} {k} {l} {u} c o r decided d =
+    let x = (done_same {T = T} {E = E} {m = m} {now = now} {a = a} {b = b} {k = k} {l = l} {r = Ok u} o r.state r.stands d).shown r.state (run_good r.run) r.stands in
+    record { commands = r.commands ++ c ∷ []; actions = r.actions ++ actions_of r.state o; log = r.log ++ x.0; state = x.1; run = and_then r.run c o x.0 x.1 (decided_same m r.state (run_good r.run) r.stands c (Ok o) decided) x.2; stands = x.3 }
 
-pub goes : {T E : Type 0} {m now : Machine} {a b : Option (List ℕ)} {k l : ℕ} {u : T} (c : Command) (spent : Bool) → IsFalse spent → IsNext m.expected m.name c → Does {T = T} {E = E} (actions_of c) m now a b k l (Ok u) → (commands : List Command) (log : List Timed) (s : State) → Run commands log s → StandsFor m s → Goes commands log s c (record { machine = now; spent = spent }) a b
-goes {m = m} c spent un next d commands log s r st =
-    let x = d.shown s (run_good r) st in
-    let more = and_then r c x.0 x.1 (next_of m s c st next) x.2 in
-    record { out = x.0; state = x.1; steps = x.2; run = more; stands = x.3; grew = x.4; sound = sound_throughout (all_actions (commands ++ c ∷ [])) (log ++ x.0) x.1 (run_steps more); fresh = un }
+pub goes : {T E : Type 0} {m now : Machine} {a b : Option (List ℕ)} {k l : ℕ} {u : T} (c : Command) (o : Order) (spent : Bool) → IsFalse spent → DecidedBy m.devices.topology (view_in m) c (Ok o) → Does {T = T} {E = E} (actions_in m o) m now a b k l (Ok u)
+    → (commands : List Command) (actions : List Action) (log : List Timed) (s : State) → Run commands actions log s → StandsFor m s → Goes commands actions log s c (record { machine = now; spent = spent }) a b
+goes {T} {E} {m = m} {now} {a} {b} {k} {l} {u} c o spent un decided d commands actions log s r st =
+    let x = (done_same {T = T} {E = E} {m = m} {now = now} {a = a} {b = b} {k = k} {l = l} {r = Ok u} o s st d).shown s (run_good r) st in
+    let is = decided_same m s (run_good r) st c (Ok o) decided in
+    let more = and_then r c o x.0 x.1 is x.2 in
+    record {
+      order = o;
+      decided = is;
+      out = x.0;
+      state = x.1;
+      steps = x.2;
+      run = more;
+      stands = x.3;
+      grew = x.4;
+      sound = sound_throughout (actions ++ actions_of s o) (log ++ x.0) x.1 (run_steps (commands ++ c ∷ []) (actions ++ actions_of s o) (log ++ x.0) x.1 more);
+      fresh = un;
+    }
 
-pub stops : {T E : Type 0} {m now mid : Machine} {a b : Option (List ℕ)} {k l : ℕ} {e : E} (c : Command) (spent : Bool) → IsTrue spent → Does {T = T} {E = E} (actions_of c) m mid a b k l (Err e) → (commands : List Command) (log : List Timed) (s : State) → Run commands log s → StandsFor m s → Stops commands log s c (record { machine = now; spent = spent }) a b
-stops c spent is d commands log s r st =
-    let x = d.shown s (run_good r) st in
-    record { cut = x; sound = sound_throughout (all_actions commands ++ x.done) (log ++ (x.given ++ x.next ∷ [])) x.state (steps_then first_state s x.state (all_actions commands) x.done log (x.given ++ x.next ∷ []) (run_steps r) x.steps); spent = is }
+pub stops : {T E : Type 0} {m now mid : Machine} {a b : Option (List ℕ)} {k l : ℕ} {e : E} (c : Command) (o : Order) (spent : Bool) → IsTrue spent → DecidedBy m.devices.topology (view_in m) c (Ok o) → Does {T = T} {E = E} (actions_in m o) m mid a b k l (Err e)
+    → (commands : List Command) (actions : List Action) (log : List Timed) (s : State) → Run commands actions log s → StandsFor m s → Stops commands actions log s c (record { machine = now; spent = spent }) a b
+stops {T} {E} {m = m} {now} {mid} {a} {b} {k} {l} {e} c o spent is decided d commands actions log s r st =
+    let x = (done_same {T = T} {E = E} {m = m} {now = mid} {a = a} {b = b} {k = k} {l = l} {r = Err e} o s st d).shown s (run_good r) st in
+    record {
+      order = o;
+      decided = decided_same m s (run_good r) st c (Ok o) decided;
+      cut = x;
+      sound = sound_throughout (actions ++ x.done) (log ++ (x.given ++ x.next ∷ [])) x.state (steps_then first_state s x.state actions x.done log (x.given ++ x.next ∷ []) (run_steps commands actions log s r) x.steps);
+      spent = is;
+    }
+
+pub refused : {m : Machine} (c : Command) (f : RuleFault) → DecidedBy m.devices.topology (view_in m) c (Err f) → (commands : List Command) (actions : List Action) (log : List Timed) (s : State) → Run commands actions log s → StandsFor m s → Decides s c (Err f)
+refused {m} c f decided commands actions log s r st = decided_same m s (run_good r) st c (Err f) decided

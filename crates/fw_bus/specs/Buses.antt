@@ -1,15 +1,21 @@
 -- What a bus stands for, and what a call of it did.
-use Rattle.std.specs.Prelude.{ℕ, List, [], ◌∷◌, ◌++◌, Bool, Option, Ok, Err, IsTrue, IsFalse}
+use Rattle.std.specs.Prelude.{ℕ, ◌≡◌, List, [], ◌∷◌, ◌++◌, Bool, Option, Some, None, Ok, Err, IsTrue, IsFalse, ⊤}
 use Rattle.std.specs.declared.result.Result.{Result}
 use Rattle.fw_outside.specs.Outside.{Grows}
 use Rattle.fw_log.specs.declared.entry.Timed.{Timed}
-use Rattle.fw_bus.specs.declared.command.Command.{Command}
+use Rattle.fw_node.specs.State.{NodeState, HasSpace}
+use Rattle.fw_script.specs.declared.command.Command.{Command}
 use Rattle.fw_bus.specs.declared.machine.Machine.{Machine}
-use Rattle.fw_bus.specs.Giving.{log_bytes}
-use Rattle.fw_bus.specs.State.{State}
-use Rattle.fw_bus.specs.Run.{Run, Steps, actions_of}
+use Rattle.fw_run.specs.declared.order.Order.{Order}
+use Rattle.fw_bus.specs.declared.BusFault.{BusFault}
+use Rattle.fw_bus.specs.declared.BusFault.TheVariants.{Refused, WriteFault}
+use Rattle.fw_run.specs.Giving.{log_bytes}
+use Rattle.fw_run.specs.State.{State, number_in}
+use Rattle.fw_run.specs.Spaces.{space_at}
+use Rattle.fw_run.specs.Rules.{Decides}
+use Rattle.fw_run.specs.Run.{Action, Run, Steps, actions_of}
 use Rattle.fw_bus.specs.Stands.{StandsFor, Cut}
-use Rattle.fw_bus.specs.Headline.{IsSoundThroughout, all_actions}
+use Rattle.fw_run.specs.Headline.{IsSoundThroughout}
 
 -- what a caller sees of a bus
 pub record Standing : Type 0 where
@@ -19,28 +25,52 @@ pub record Standing : Type 0 where
 -- there is a run for whose state the machine stands
 pub record IsReached (m : Machine) : Type 0 where
   pub commands : List Command
+  pub actions : List Action
   pub log : List Timed
   pub state : State
-  pub run : Run commands log state
+  pub run : Run commands actions log state
   pub stands : StandsFor m state
 
 -- the run goes on with this command from its state, and the bus stands for the state that the command leads to
-pub record Goes (commands : List Command) (log : List Timed) (s : State) (c : Command) (now : Standing) (held after : Option (List ℕ)) : Type 0 where
+pub record Goes (commands : List Command) (actions : List Action) (log : List Timed) (s : State) (c : Command) (now : Standing) (held after : Option (List ℕ)) : Type 0 where
+  pub order : Order
+  pub decided : Decides s c (Ok order)
   pub out : List Timed
   pub state : State
-  pub steps : Steps s (actions_of c) out state
-  pub run : Run (commands ++ c ∷ []) (log ++ out) state
+  pub steps : Steps s (actions_of s order) out state
+  pub run : Run (commands ++ c ∷ []) (actions ++ actions_of s order) (log ++ out) state
   pub stands : StandsFor now.machine state
   pub grew : Grows held after (log_bytes out)
-  pub sound : IsSoundThroughout (all_actions (commands ++ c ∷ [])) (log ++ out)
+  pub sound : IsSoundThroughout (actions ++ actions_of s order) (log ++ out)
   pub fresh : IsFalse now.spent
 
 -- it was cut off by the sink: the entries given so far, and a front of the next
-pub record Stops (commands : List Command) (log : List Timed) (s : State) (c : Command) (now : Standing) (held after : Option (List ℕ)) : Type 0 where
-  pub cut : Cut s (actions_of c) held after
-  pub sound : IsSoundThroughout (all_actions commands ++ cut.done) (log ++ (cut.given ++ cut.next ∷ []))
+pub record Stops (commands : List Command) (actions : List Action) (log : List Timed) (s : State) (c : Command) (now : Standing) (held after : Option (List ℕ)) : Type 0 where
+  pub order : Order
+  pub decided : Decides s c (Ok order)
+  pub cut : Cut s (actions_of s order) held after
+  pub sound : IsSoundThroughout (actions ++ cut.done) (log ++ (cut.given ++ cut.next ∷ []))
   pub spent : IsTrue now.spent
 
-abbrev pub Applies : {T E : Type 0} → List Command → List Timed → State → Command → Standing → Option (List ℕ) → Option (List ℕ) → Result T E → Type 0
-Applies commands log s c now held after (Ok _) = Goes commands log s c now held after
-Applies commands log s c now held after (Err _) = Stops commands log s c now held after
+abbrev pub Applies : {T : Type 0} → List Command → List Action → List Timed → State → Command → Standing → Option (List ℕ) → Option (List ℕ) → Result T BusFault → Type 0
+Applies commands actions log s c now held after (Ok _) = Goes commands actions log s c now held after
+Applies commands actions log s c now held after (Err (Refused fault)) = Decides s c (Err fault)
+Applies commands actions log s c now held after (Err WriteFault) = Stops commands actions log s c now held after
+
+-- the node that is lent for a device: one on the bus, with the registers of the account
+abbrev pub LendsAt : Option ℕ → State → ℕ → Option NodeState → Type 0
+LendsAt None s d o = o ≡ None
+LendsAt (Some number) s d None = ⊥
+LendsAt (Some number) s d (Some n) = HasSpace n (space_at s d number)
+
+abbrev pub Lends : State → ℕ → Option NodeState → Type 0
+Lends s d o = LendsAt (number_in s.account.latest d) s d o
+
+-- what holds after a refusal, and after a fault of the sink
+abbrev pub WhereRefused : BusFault → Type 0 → Type 0
+WhereRefused (Refused fault) holds = holds
+WhereRefused WriteFault holds = ⊤
+
+abbrev pub WhereFailed : BusFault → Type 0 → Type 0
+WhereFailed (Refused fault) holds = ⊤
+WhereFailed WriteFault holds = holds

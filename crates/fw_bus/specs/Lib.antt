@@ -1,12 +1,3 @@
-pub mod Words
-pub mod Packets
-pub mod Outcomes
 pub mod Turning
-pub mod First
-pub mod Giving
-pub mod State
-pub mod Run
-pub mod Good
 pub mod Stands
-pub mod Headline
 pub mod Buses

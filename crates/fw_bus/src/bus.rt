@@ -1,13 +1,15 @@
-ghost use Rattle.std.specs.Prelude.{◌≡◌, ◌≤◌, List, length, IfOk, IsFalse, IsTrue, OnErr};
-ghost use Rattle.fw_outside.specs.Outside.{HasCause};
+ghost use Rattle.std.specs.Prelude.{◌≡◌, ◌≤◌, List, IfOk, IfErr, IsFalse, IsTrue};
+ghost use Rattle.std.specs.Option.{option_map};
+ghost use Rattle.fw_outside.specs.Outside.{Rose};
 
-use crate::first::first_machine;
-use crate::{BusFault, Command, Expected, Machine};
+use crate::{BusFault, Machine};
+use fw_node::Node;
 use fw_outside::{Failed, Sink};
+use fw_script::Command;
 use std::alloc::{AllocError, Global};
 use std::marker::Model;
 
-/// A bus of one deck. There is always a run for whose state it stands, until a write fails.
+/// A simulated bus. There is always a run for whose state it stands, until a write fails.
 #[derive(Drop)]
 pub struct Bus {
     machine: Machine,
@@ -27,19 +29,20 @@ impl Model for Bus {
 
 impl Bus {
     ghost use Rattle.fw_log.specs.declared.entry.Timed.{Timed as TimedEntry};
-    ghost use Rattle.fw_bus.specs.declared.command.Command.{Command as Line};
-    ghost use Rattle.fw_bus.specs.State.{State, first_state};
-    ghost use Rattle.fw_bus.specs.Run.{Run, IsNext};
+    ghost use Rattle.fw_script.specs.declared.command.Command.{Command as Line};
+    ghost use Rattle.fw_run.specs.State.{State, first_state};
+    ghost use Rattle.fw_run.specs.Rules.{IsCommand};
+    ghost use Rattle.fw_run.specs.Run.{Run, Action};
     ghost use Rattle.fw_bus.specs.Stands.{StandsFor};
-    ghost use Rattle.fw_bus.specs.Buses.{Applies};
+    ghost use Rattle.fw_bus.specs.Buses.{Applies, Lends, WhereRefused, WhereFailed};
 
-    /// A bus without a device, at cycle 0.
-    pub fn new(_alloc: Global) -> Result<Bus, AllocError>
+    /// A bus without a device, at cycle 0. It takes all the memory that its calls need.
+    pub fn new(alloc: Global) -> Result<Bus, AllocError>
         ensures stands { IfOk result (λ b. StandsFor b.machine first_state) }
         ensures spent { IfOk result (λ b. IsFalse b.spent) }
     {
         Ok(Bus {
-            machine: first_machine(),
+            machine: Machine::new(alloc)?,
             spent: false,
         })
     }
@@ -51,32 +54,32 @@ impl Bus {
         self.spent
     }
 
-    /// The line that comes next.
-    pub fn expected(&self) -> Expected
-        ensures { result ≡ self.now.machine.expected }
+    /// The node of a device, by number in order of declaration: None exactly where it is not on the bus.
+    pub fn node(&self, device: u8) -> Option<&Node>
+        requires spent { IsFalse self.now.spent }
+        ensures lent { (commands : List Line) (actions : List Action) (log : List TimedEntry) (s : State) → Run commands actions log s → StandsFor self.now.machine s
+            → Lends s device (option_map (λ n. n.now) result) }
     {
-        self.machine.expected
+        self.machine.devices.node(device)
     }
 
-    /// The deck's name, empty before it is declared.
-    pub fn name(&self) -> &[u8]
-        ensures value { result.now ≡ self.now.machine.name }
-        ensures fits { length result.now ≤ 16 }
-    {
-        self.machine.name.as_slice()
-    }
-
-    /// Carries out a command, and writes what happens. The command has to be the line that comes next. Where the sink
-    /// fails, it holds the entries given so far and a front of the next, and the bus is spent.
+    /// Carries out a command, and writes what happens. `Refused` comes exactly where a rule holds of the command, with the
+    /// first; then nothing is changed or written. Where the sink fails, it holds the entries given so far and a front of the
+    /// next, and the bus is spent.
     pub fn apply<K: Sink>(&mut self, c: &Command, sink: &mut K) -> Result<(), BusFault>
         requires spent { IsFalse self.old.spent }
-        requires next { IsNext self.old.machine.expected self.old.machine.name c.now }
-        ensures run { (commands : List Line) (log : List TimedEntry) (s : State) → Run commands log s → StandsFor self.old.machine s
-            → Applies commands log s c.now self.new (K.held sink.old) (K.held sink.new) result }
-        ensures cause { HasCause (K.faults sink.old) (K.faults sink.new) result }
-        ensures failed { OnErr result (IsTrue self.new.spent) }
+        requires command { IsCommand c.now }
+        ensures run { (commands : List Line) (actions : List Action) (log : List TimedEntry) (s : State) → Run commands actions log s → StandsFor self.old.machine s
+            → Applies commands actions log s c.now self.new (K.held sink.old) (K.held sink.new) result }
+        ensures refused { IfErr result (λ e. WhereRefused e ((self.new ≡ self.old) × (sink.new ≡ sink.old))) }
+        ensures failed { IfErr result (λ e. WhereFailed e (IsTrue self.new.spent × Rose (K.faults sink.old) (K.faults sink.new))) }
+        ensures later { K.faults sink.old ≤ K.faults sink.new }
     {
-        match self.machine.carry_out(c, sink) {
+        let order = match self.machine.decide(c) {
+            Ok(order) => order,
+            Err(rule) => return Err(BusFault::Refused(rule)),
+        };
+        match self.machine.carry_out(&order, sink) {
             Ok(()) => Ok(()),
             Err(Failed) => {
                 self.spent = true;

@@ -1,7 +1,7 @@
 ghost use Rattle.std.specs.Prelude.{◌<◌, IfSome};
 ghost use Rattle.fw_outside.specs.Outside.{HasCause};
 ghost use Rattle.fw_log.specs.Log.{Fits};
-ghost use Rattle.fw_bus.specs.Giving.{Gives};
+ghost use Rattle.fw_run.specs.Giving.{Gives};
 
 use fw_log::{Entry, Timed, write_entry};
 use fw_outside::{Failed, Sink};

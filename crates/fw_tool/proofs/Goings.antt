@@ -1,121 +1,286 @@
--- Line after line of a script.
-use Rattle.std.proofs.Common.{◌≡◌, ℕ, suc, ◌+◌, ◌<◌, List, [], ◌∷◌, ◌++◌, length, Some, None, Ok, Err, Option, Result, refl, sym, ap, ◌∙◌, subst, append_assoc, append-nil}
+-- Call after call of the reader and of the bus.
+use Rattle.std.proofs.Common.{◌≡◌, ◌≢◌, ◌⊎◌, inl, inr, ℕ, ◌+◌, ◌-◌, ◌<◌, ◌≤◌, List, [], ◌∷◌, ◌++◌, Bool, true, false, Option, Some, None, Ok, Err, refl, ap, sym, ◌∙◌, subst, append_assoc, append-nil, arith}
 use Rattle.std.specs.Prelude.{IsFalse}
-use Rattle.fw_outside.proofs.Parts.{Grows-nothing, Grows-Grows}
-use Rattle.fw_log.specs.Log.{entry_bytes}
-use Rattle.fw_bus.specs.declared.command.Command.{Command}
-use Rattle.fw_bus.specs.declared.machine.Machine.{Machine}
-use Rattle.fw_bus.specs.declared.machine.Expected.{Expected}
-use Rattle.fw_bus.specs.Giving.{log_bytes}
-use Rattle.fw_bus.specs.State.{State, first_state}
-use Rattle.fw_bus.specs.Run.{Action, Run, begun, actions_of}
-use Rattle.fw_bus.specs.Stands.{StandsFor, Cut}
-use Rattle.fw_bus.specs.Buses.{Standing, Goes, Stops}
-use Rattle.fw_bus.specs.Headline.{IsSoundThroughout, all_actions}
-use Rattle.fw_bus.proofs.Doings.{log_append, steps_then}
-use Rattle.fw_bus.proofs.Sounds.{sound_throughout}
-use Rattle.fw_bus.proofs.Runs.{run_steps}
-use Rattle.fw_tool.specs.declared.Refused.{Refused}
-use Rattle.fw_tool.specs.declared.Refusal.{Refusal}
-use Rattle.fw_tool.specs.declared.Refusal.TheVariants.{NotBuilt}
-use Rattle.fw_tool.specs.Script.{next_in}
-use Rattle.fw_tool.specs.Scripts.{Reading, read_lines, script_in, expected_after, name_after}
-use Rattle.fw_tool.specs.Text.{after_line}
-use Rattle.fw_tool.specs.Lines.{RunsAll, RunsPart, Going, before}
-use Rattle.fw_tool.proofs.Readings.{command_leads, nothing_but, first_read, read_done, read_more, read_refused, read_next}
+use Rattle.fw_outside.specs.Outside.{Takes, Grows, IsAtEnd}
+use Rattle.fw_outside.proofs.Parts.{Takes-Takes, Takes-nothing, Grows-Grows}
+use Rattle.fw_log.specs.Log.{header_bytes}
+use Rattle.fw_log.specs.declared.entry.Timed.{Timed}
+use Rattle.fw_script.specs.Reading.{Reading, Answer, Gives, GivesNext, Advances, unread, with_taken}
+use Rattle.fw_script.specs.Script.{IsScript, Tells}
+use Rattle.fw_script.specs.Script.Says.{ends}
+use Rattle.fw_script.specs.declared.ScriptFault.{ScriptFault}
+use Rattle.fw_script.specs.declared.command.Command.{Command}
+use Rattle.fw_script.specs.declared.command.Command.TheVariants.{End}
+use Rattle.fw_script.specs.declared.stage.Stage.{Stage}
+use Rattle.fw_script.specs.declared.stage.Stage.TheVariants.{Commands, AfterEnd, Done, Failed}
+use Rattle.fw_script.proofs.ScriptLaws.{gave_all, before_none, met_end}
+use Rattle.fw_run.specs.Giving.{log_bytes}
+use Rattle.fw_run.specs.State.{State, first_state}
+use Rattle.fw_run.specs.Rules.{IsCommand}
+use Rattle.fw_run.specs.Run.{Action, Run, begun, actions_of}
+use Rattle.fw_run.proofs.Runs.{log_append}
+use Rattle.fw_bus.specs.Stands.{StandsFor}
+use Rattle.fw_bus.specs.Buses.{Standing, Goes}
+use Rattle.fw_tool.specs.Scripts.{Leads, start_of, BeginsWith, TakesFrom}
+use Rattle.fw_tool.specs.Scripts.Leads.{nothing, and_then}
+use Rattle.fw_tool.proofs.Answering.{says_something}
+use Rattle.fw_tool.proofs.Givings.{is_end, given_form, given_some, behind_command, over_end, says_from}
 
-pub going_first : {bus : Standing} (held : Option (List ℕ)) (script : List ℕ) → StandsFor bus.machine first_state → IsFalse bus.spent → Going held held script script 4 1 bus
-going_first held script stands fresh = record { commands = []; log = []; state = first_state; run = begun; stands = stands; fresh = fresh; grew = Grows-nothing held; read = refl }
+-- the answer is a command or a fault
+abbrev pub IsSomething : Answer → Type 0
+IsSomething r = r ≢ Ok None
 
--- the command of the next line was carried out
-pub going_more :
-    {held now after : Option (List ℕ)} {script rest : List ℕ} {left left' line : ℕ} {bus bus' : Standing} (c : Command) (g : Going held now script rest left' line bus)
-    → left' ≡ suc left → next_in g.state.expected g.state.name rest ≡ Ok c → Goes g.commands g.log g.state c bus' now after → Going held after script (after_line rest) left (line + 1) bus'
-going_more {held} {now} {after} {script} {rest} {left} {left'} {line} c g l is d =
-    let led = command_leads g.state d.state c d.out d.steps in
+-- ---- the reader
+
+-- So far these commands were given, whatever bytes are left.
+pub record HasGiven (left now : Option (List ℕ)) (given : List Command) (reader : Reading) : Type 0 where
+  pub taken : List ℕ
+  pub takes : Takes left now taken
+  pub met : reader.whole ≡ true → IsAtEnd now
+  pub leads : (more : List ℕ) → (reader.whole ≡ true → more ≡ []) → Leads (start_of (taken ++ more)) given (with_taken reader more true)
+  pub stage : reader.stage ≡ Commands
+  pub within : reader.before ≤ 1048576
+
+-- The end was given, and these commands are the script's.
+pub record HasEnded (left now : Option (List ℕ)) (given : List Command) (reader : Reading) : Type 0 where
+  pub script : List ℕ
+  pub takes : Takes left now script
+  pub end : IsAtEnd now
+  pub says : IsScript script given None
+  pub whole : reader.whole ≡ true
+
+-- before a call of the reader
+abbrev pub HasRead : Stage → Option (List ℕ) → Option (List ℕ) → List Command → Reading → Type 0
+HasRead Commands left now given reader = HasGiven left now given reader
+HasRead AfterEnd left now given reader = ⊥
+HasRead Done left now given reader = HasEnded left now given reader
+HasRead Failed left now given reader = ⊥
+
+pub not_failed : (s : Stage) (left now : Option (List ℕ)) (given : List Command) (reader : Reading) → HasRead s left now given reader → s ≢ Failed
+not_failed Commands left now given reader h e = cc
+not_failed AfterEnd left now given reader h e = h
+not_failed Done left now given reader h e = cc
+not_failed Failed left now given reader h e = h
+
+-- a command or a fault is given only before the end
+pub given_before : {left now : Option (List ℕ)} {given : List Command} {reader : Reading} (s : Stage) (known new : Reading) (r : Answer) → IsSomething r → HasRead s left now given reader → GivesNext s known r new → HasGiven left now given reader × Gives known r new
+given_before Commands known new r some h g = (h, g)
+given_before AfterEnd known new r some h g = absurd h
+given_before Done known new r some h g = absurd (some g.0)
+given_before Failed known new r some h g = absurd h
+
+-- nothing is given only behind the end
+pub ended_before : {left now : Option (List ℕ)} {given : List Command} {reader : Reading} (s : Stage) (known new : Reading) → HasRead s left now given reader → GivesNext s known (Ok None) new → HasEnded left now given reader
+ended_before Commands known new h g = absurd (given_some g refl)
+ended_before AfterEnd known new h g = absurd h
+ended_before Done known new h g = h
+ended_before Failed known new h g = absurd h
+
+given_at : {left now : Option (List ℕ)} {given : List Command} {reader : Reading} → HasGiven left now given reader → HasRead reader.stage left now given reader
+given_at {left} {now} {given} {reader} h = subst (λ (s : Stage). HasRead s left now given reader) (sym h.stage) h
+
+ended_at : {left now : Option (List ℕ)} {given : List Command} {reader : Reading} → reader.stage ≡ Done → HasEnded left now given reader → HasRead reader.stage left now given reader
+ended_at {left} {now} {given} {reader} e h = subst (λ (s : Stage). HasRead s left now given reader) (sym e) h
+
+pub given_nothing : (left : Option (List ℕ)) → HasGiven left left [] unread
+given_nothing left = record { taken = []; takes = Takes-nothing left; met = λ w. absurd cc; leads = λ more none. nothing; stage = refl; within = omega arith }
+
+-- what the source still tells
+pub told_behind : (left now : Option (List ℕ)) (xs : List ℕ) (whole : Bool) → Takes left now xs → (whole ≡ true → IsAtEnd now)
+    → (more : List ℕ) × Tells left (xs ++ more) × (whole ≡ true → more ≡ [])
+told_behind None None xs whole t met = ([], tt, λ w. refl)
+told_behind None (Some ys) xs whole t met = absurd t
+told_behind (Some old) None xs whole t met = absurd t
+told_behind (Some old) (Some ys) xs whole t met = (ys, t, met)
+
+-- nothing was taken of what the source tells
+pub takes_nothing : (left : Option (List ℕ)) → (script : List ℕ) × TakesFrom left left script
+takes_nothing left =
+    let m = told_behind left left [] false (Takes-nothing left) (λ w. absurd cc) in
+    (m.0, record { taken = []; behind = m.0; parts = refl; takes = Takes-nothing left; told = m.1 })
+
+-- the script says the commands first that were given
+pub begins : {script : List ℕ} {commands : List Command} {q : Reading} → Leads (start_of script) commands q → q.whole ≡ true → q.stage ≡ Commands → q.before ≤ 1048576 → BeginsWith script commands
+begins {q = q} l w s b = let x = says_something q w s b in record { later = x.0; end = x.1; says = says_from l x.0 x.1 x.2 }
+
+pub begins_nothing : (script : List ℕ) → BeginsWith script []
+begins_nothing script = begins nothing refl refl (omega arith)
+
+-- one call that gave a command or a fault, over all bytes that are left
+module _ (left mid left' : Option (List ℕ)) (given : List Command) (old new : Reading) (r : Answer) (some : IsSomething r) (so : HasGiven left mid given old) (a : Advances old new mid left' r) where
+  pub gave : Gives a.known r new
+  gave = subst (λ (s : Stage). GivesNext s a.known r new) so.stage a.gives
+
+  abbrev pub all : List ℕ
+  all = so.taken ++ a.takes.taken
+
+  pub all_taken : Takes left left' all
+  all_taken = Takes-Takes left mid left' so.taken a.takes.taken so.takes a.takes.takes
+
+  pub all_met : new.whole ≡ true → IsAtEnd left'
+  all_met = met_end old new mid left' r some a so.met
+
+  abbrev pub behind : (more : List ℕ) × Tells left (all ++ more) × (new.whole ≡ true → more ≡ [])
+  behind = told_behind left left' all new.whole all_taken all_met
+
+  -- the script
+  abbrev pub whole_script : List ℕ
+  whole_script = all ++ behind.0
+
+  pub whole_takes : TakesFrom left left' whole_script
+  whole_takes = record { taken = all; behind = behind.0; parts = refl; takes = all_taken; told = behind.1 }
+
+  -- what was given before, and what the call gave
+  pub lines : (more : List ℕ) → (new.whole ≡ true → more ≡ [])
+      → (q : Reading) × Leads (start_of (all ++ more)) given q × Gives q r (with_taken new more true) × (q.whole ≡ true) × (q.stage ≡ Commands) × (q.before ≤ 1048576)
+  lines more none = (
+    with_taken old (a.takes.taken ++ more) true,
+    subst (λ (bytes : List ℕ). Leads (start_of bytes) given (with_taken old (a.takes.taken ++ more) true)) (sym (append_assoc so.taken a.takes.taken more))
+        (so.leads (a.takes.taken ++ more) (before_none old new mid left' r some a more none)),
+    gave_all old new mid left' r some a more none,
+    refl,
+    so.stage,
+    so.within,
+  )
+
+  pub the_lines : (q : Reading) × Leads (start_of whole_script) given q × Gives q r (with_taken new behind.0 true) × (q.whole ≡ true) × (q.stage ≡ Commands) × (q.before ≤ 1048576)
+  the_lines = lines behind.0 behind.2
+
+pub some_command : (c : Command) → IsSomething (Ok (Some c))
+some_command c e = cc
+
+pub some_fault : (f : ScriptFault) → IsSomething (Err f)
+some_fault f e = cc
+
+-- the call gave one command more
+given_more : (left mid left' : Option (List ℕ)) (given : List Command) (old new : Reading) (c : Command) → HasGiven left mid given old → Advances old new mid left' (Ok (Some c)) → c ≢ End → HasGiven left left' (given ++ c ∷ []) new
+given_more left mid left' given old new c so a other =
+    let l = the_lines left mid left' given old new (Ok (Some c)) (some_command c) so a in
+    let b = behind_command l.2 c refl other in
     record {
-      commands = g.commands ++ c ∷ [];
-      log = g.log ++ d.out;
-      state = d.state;
-      run = d.run;
-      stands = d.stands;
-      fresh = d.fresh;
-      grew = rw (log_append g.log d.out) (Grows-Grows held now after (log_bytes g.log) (log_bytes d.out) g.grew d.grew);
-      read =
-          g.read
-          ∙ ap (λ k. before g.commands (read_lines k line g.state.expected g.state.name rest)) l
-          ∙ ap (λ r. before g.commands r) (read_next left line g.state.expected g.state.name rest c is)
-          ∙ ap (λ e. before g.commands (first_read c (read_lines left (line + 1) e (name_after c g.state.name) (after_line rest)))) led.0
-          ∙ ap (λ n. before g.commands (first_read c (read_lines left (line + 1) d.state.expected n (after_line rest)))) led.1
-          ∙ moved (read_lines left (line + 1) d.state.expected d.state.name (after_line rest));
+      taken = all left mid left' given old new (Ok (Some c)) (some_command c) so a;
+      takes = all_taken left mid left' given old new (Ok (Some c)) (some_command c) so a;
+      met = all_met left mid left' given old new (Ok (Some c)) (some_command c) so a;
+      leads = λ more none. let m = lines left mid left' given old new (Ok (Some c)) (some_command c) so a more none in and_then m.1 c other (with_taken new more true) m.2;
+      stage = b.stage;
+      within = b.within;
     }
-  where
-    moved : (r : Reading) → before g.commands (first_read c r) ≡ before (g.commands ++ c ∷ []) r
-    moved r = ap (λ (cs : List Command). record { commands = cs; refused = r.refused }) (sym (append_assoc g.commands (c ∷ []) r.commands))
 
--- nothing is left but a refusal, or not even that
-pub runs_all : {held now : Option (List ℕ)} {script rest : List ℕ} {left line : ℕ} {bus : Standing} (refused : Option Refused) (g : Going held now script rest left line bus) → read_lines left line g.state.expected g.state.name rest ≡ nothing_but refused → RunsAll held now script refused
-runs_all {script = script} refused g is = record {
-  log = g.log;
-  state = g.state;
-  run = subst (λ cs. Run cs g.log g.state) commands g.run;
-  sound = subst (λ cs. IsSoundThroughout (all_actions cs) g.log) commands (sound_throughout (all_actions g.commands) g.log g.state (run_steps g.run));
-  grew = g.grew;
-  refused_is = sym (ap (λ (r : Reading). r.refused) (g.read ∙ ap (λ r. before g.commands r) is));
+-- the call gave the end
+given_end : (left mid left' : Option (List ℕ)) (given : List Command) (old new : Reading) → HasGiven left mid given old → Advances old new mid left' (Ok (Some End)) → HasEnded left left' (given ++ End ∷ []) new × (new.stage ≡ Done)
+given_end left mid left' given old new so a =
+    let taken = all left mid left' given old new (Ok (Some End)) (some_command End) so a in
+    let l = lines left mid left' given old new (Ok (Some End)) (some_command End) so a [] (λ w. refl) in
+    let o = over_end (gave left mid left' given old new (Ok (Some End)) (some_command End) so a) refl in (
+      record {
+        script = taken;
+        takes = all_taken left mid left' given old new (Ok (Some End)) (some_command End) so a;
+        end = all_met left mid left' given old new (Ok (Some End)) (some_command End) so a o.whole;
+        says = subst (λ (bytes : List ℕ). IsScript bytes (given ++ End ∷ []) None) (append-nil taken) (says_from l.1 (End ∷ []) None (ends l.2));
+        whole = o.whole;
+      },
+      o.stage,
+    )
+
+-- what holds before the next call
+reads_on : (left mid left' : Option (List ℕ)) (given : List Command) (old new : Reading) (c : Command) → HasGiven left mid given old → Advances old new mid left' (Ok (Some c)) → HasRead new.stage left left' (given ++ c ∷ []) new
+reads_on left mid left' given old new c so a = by_end (is_end c)
+  where
+    by_end : (c ≡ End) ⊎ (c ≢ End) → HasRead new.stage left left' (given ++ c ∷ []) new
+    by_end (inl e) =
+        let h = given_end left mid left' given old new so (subst (λ (x : Command). Advances old new mid left' (Ok (Some x))) e a) in
+        subst (λ (x : Command). HasRead new.stage left left' (given ++ x ∷ []) new) (sym e) (ended_at h.1 h.0)
+    by_end (inr o) = given_at (given_more left mid left' given old new c so a o)
+
+-- behind the end nothing more was taken
+pub still_ended : (left mid left' : Option (List ℕ)) (given : List Command) (old new : Reading) (h : HasEnded left mid given old) → Advances old new mid left' (Ok None) → Takes left left' h.script × IsAtEnd left'
+still_ended left mid left' given old new h a =
+    let none : Takes mid left' [] = subst (λ (xs : List ℕ). Takes mid left' xs) (a.takes.kept h.whole).0 a.takes.takes in (
+      subst (λ (xs : List ℕ). Takes left left' xs) (append-nil h.script) (Takes-Takes left mid left' h.script [] h.takes none),
+      at_end mid left' none h.end,
+    )
+  where
+    at_end : (mid left' : Option (List ℕ)) → Takes mid left' [] → IsAtEnd mid → IsAtEnd left'
+    at_end None None t e = tt
+    at_end None (Some ys) t e = absurd t
+    at_end (Some xs) None t e = tt
+    at_end (Some xs) (Some ys) t e = sym t ∙ e
+
+-- how much a reader may still read
+abbrev pub open_of : Stage → ℕ
+open_of Commands = 1
+open_of AfterEnd = 1
+open_of Done = 0
+open_of Failed = 1
+
+-- ---- the bus
+
+-- Before a call of the reader: the commands so far were carried out.
+pub record Going (left now held after : Option (List ℕ)) (reader : Reading) (bus : Standing) : Type 0 where
+  pub commands : List Command
+  pub actions : List Action
+  pub log : List Timed
+  pub state : State
+  pub run : Run commands actions log state
+  pub stands : StandsFor bus.machine state
+  pub fresh : IsFalse bus.spent
+  pub grew : Grows held after (header_bytes ++ log_bytes log)
+  pub read : HasRead reader.stage left now commands reader
+
+pub going_first : (left held after : Option (List ℕ)) (reader : Reading) (bus : Standing) → reader ≡ unread → StandsFor bus.machine first_state → IsFalse bus.spent → Grows held after header_bytes → Going left left held after reader bus
+going_first left held after reader bus new stands fresh header = record {
+  commands = [];
+  actions = [];
+  log = [];
+  state = first_state;
+  run = begun;
+  stands = stands;
+  fresh = fresh;
+  grew = subst (λ (bytes : List ℕ). Grows held after bytes) (sym (append-nil header_bytes)) header;
+  read = subst (λ (p : Reading). HasRead p.stage left left [] p) (sym new) (given_nothing left);
 }
-  where
-    commands : g.commands ≡ (script_in script).commands
-    commands = sym (append-nil g.commands) ∙ sym (ap (λ (r : Reading). r.commands) (g.read ∙ ap (λ r. before g.commands r) is))
 
-pub runs_done : {held now : Option (List ℕ)} {script rest : List ℕ} {left line : ℕ} {bus : Standing} (g : Going held now script rest left line bus) → left ≡ 0 → length rest ≡ 0 → RunsAll held now script None
-runs_done {rest = rest} {left} {line} g l e = runs_all None g (read_done left line g.state.expected g.state.name rest l e)
-
-pub runs_more : {held now : Option (List ℕ)} {script rest : List ℕ} {left line : ℕ} {bus : Standing} (g : Going held now script rest left line bus) → left ≡ 0 → 0 < length rest → RunsAll held now script (Some (record { line = line; why = NotBuilt }))
-runs_more {rest = rest} {left} {line} g l e = runs_all (Some (record { line = line; why = NotBuilt })) g (read_more left line g.state.expected g.state.name rest l e)
-
-pub runs_refused : {held now : Option (List ℕ)} {script rest : List ℕ} {left line : ℕ} {bus : Standing} (why : Refusal) (g : Going held now script rest left line bus) → 0 < left → next_in g.state.expected g.state.name rest ≡ Err why → RunsAll held now script (Some (record { line = line; why = why }))
-runs_refused {rest = rest} {left} {line} why g l is = runs_all (Some (record { line = line; why = why })) g (read_refused left line g.state.expected g.state.name rest why l is)
-
-all_actions-append : (cs ds : List Command) → all_actions (cs ++ ds) ≡ all_actions cs ++ all_actions ds
-all_actions-append [] ds = refl
-all_actions-append (c ∷ cs) ds = ap (λ z. actions_of c ++ z) (all_actions-append cs ds) ∙ sym (append_assoc (actions_of c) (all_actions cs) (all_actions ds))
-
--- the command of the next line was cut off
-pub runs_part :
-    {held now after : Option (List ℕ)} {script rest : List ℕ} {left left' line : ℕ} {bus bus' : Standing} (c : Command) (g : Going held now script rest left' line bus)
-    → left' ≡ suc left → next_in g.state.expected g.state.name rest ≡ Ok c → Stops g.commands g.log g.state c bus' now after → RunsPart held after script
-runs_part {held} {now} {after} {script} {rest} {left} {left'} {line} c g l is d = record {
-  done = all_actions g.commands ++ x.done;
-  later = x.later ++ all_actions later.commands;
-  actions = ap (λ (r : Reading). all_actions r.commands) read ∙ (all_actions-append g.commands (c ∷ later.commands) ∙ (ap (λ z. all_actions g.commands ++ (z ++ all_actions later.commands)) x.actions_are ∙ parts_ (all_actions g.commands) x.done x.later (all_actions later.commands)));
-  log = g.log ++ (x.given ++ x.next ∷ []);
-  state = x.state;
-  steps = steps_then first_state g.state x.state (all_actions g.commands) x.done g.log (x.given ++ x.next ∷ []) (run_steps g.run) x.steps;
-  sound = d.sound;
-  grew = record {
-    front = log_bytes g.log ++ (log_bytes x.given ++ x.front);
-    rest = x.rest;
-    parts = log_append g.log (x.given ++ x.next ∷ []) ∙ (ap (λ z. log_bytes g.log ++ z) (log_append x.given (x.next ∷ []) ∙ ap (λ z. log_bytes x.given ++ z) (append-nil (entry_bytes x.next) ∙ x.parts)) ∙ bytes_ (log_bytes g.log) (log_bytes x.given) x.front x.rest);
-    appended = Grows-Grows held now after (log_bytes g.log) (log_bytes x.given ++ x.front) g.grew x.appended;
-  };
+-- a command was given and carried out
+pub going_more : {left mid held held1 : Option (List ℕ)} {old : Reading} {bus : Standing} (left' held2 : Option (List ℕ)) (new : Reading) (bus' : Standing) (c : Command) (g : Going left mid held held1 old bus)
+    → Advances old new mid left' (Ok (Some c)) → Goes g.commands g.actions g.log g.state c bus' held1 held2 → Going left left' held held2 new bus'
+going_more {left} {mid} {held} {held1} {old} {bus} left' held2 new bus' c g a d = record {
+  commands = g.commands ++ c ∷ [];
+  actions = g.actions ++ actions_of g.state d.order;
+  log = g.log ++ d.out;
+  state = d.state;
+  run = d.run;
+  stands = d.stands;
+  fresh = d.fresh;
+  grew = subst (λ (bytes : List ℕ). Grows held held2 bytes)
+      (append_assoc header_bytes (log_bytes g.log) (log_bytes d.out) ∙ ap (λ (bytes : List ℕ). header_bytes ++ bytes) (sym (log_append g.log d.out)))
+      (Grows-Grows held held1 held2 (header_bytes ++ log_bytes g.log) (log_bytes d.out) g.grew d.grew);
+  read = reads_on left mid left' g.commands old new c (given_before old.stage a.known new (Ok (Some c)) (some_command c) g.read a.gives).0 a;
 }
+
+-- a command that was given is that of a line
+pub going_form : {left mid held held1 : Option (List ℕ)} {old : Reading} {bus : Standing} (left' : Option (List ℕ)) (new : Reading) (c : Command) (g : Going left mid held held1 old bus) → Advances old new mid left' (Ok (Some c)) → IsCommand c
+going_form {old = old} left' new c g a = given_form (given_before old.stage a.known new (Ok (Some c)) (some_command c) g.read a.gives).1 c refl
+
+-- each call that gives a command leaves less to read
+pub going_shorter : {left mid held held1 : Option (List ℕ)} {old : Reading} {bus : Standing} (left' : Option (List ℕ)) (new : Reading) (c : Command) (g : Going left mid held held1 old bus) → Advances old new mid left' (Ok (Some c))
+    → (1048576 - new.before) + open_of new.stage < (1048576 - old.before) + open_of old.stage
+going_shorter {left = left} {mid = mid} {old = old} left' new c g a = by_end (is_end c)
   where
-    x : Cut g.state (actions_of c) now after
-    x = d.cut
+    h : HasGiven left mid g.commands old × Gives a.known (Ok (Some c)) new
+    h = given_before old.stage a.known new (Ok (Some c)) (some_command c) g.read a.gives
 
-    later : Reading
-    later = read_lines left (line + 1) (expected_after c) (name_after c g.state.name) (after_line rest)
+    same : a.known.before ≡ old.before
+    same = ap (λ (p : Reading). p.before) a.takes.now
 
-    read : script_in script ≡ before g.commands (first_read c later)
-    read = g.read ∙ ap (λ k. before g.commands (read_lines k line g.state.expected g.state.name rest)) l ∙ ap (λ r. before g.commands r) (read_next left line g.state.expected g.state.name rest c is)
+    one : open_of old.stage ≡ 1
+    one = ap (λ (s : Stage). open_of s) h.0.stage
 
-    parts_ : (a b c d : List Action) → a ++ ((b ++ c) ++ d) ≡ (a ++ b) ++ (c ++ d)
-    parts_ a b c d = ap (λ z. a ++ z) (append_assoc b c d) ∙ sym (append_assoc a b (c ++ d))
-
-    bytes_ : (a b c d : List ℕ) → a ++ (b ++ (c ++ d)) ≡ (a ++ (b ++ c)) ++ d
-    bytes_ a b c d = ap (λ z. a ++ z) (sym (append_assoc b c d)) ∙ sym (append_assoc a (b ++ c) d)
-
--- the line that was read is that of the state
-pub next_read : {m : Machine} {s : State} {e : Expected} {name : List ℕ} {result r : Result Command Refusal} (rest : List ℕ) → StandsFor m s → e ≡ m.expected → name ≡ m.name → result ≡ next_in e name rest → result ≡ r → next_in s.expected s.name rest ≡ r
-next_read {m = m} {s} {e} {name} rest st expected named value is =
-    sym (ap (λ x. next_in x name rest) (expected ∙ st.expected) ∙ ap (λ n. next_in s.expected n rest) (named ∙ st.name)) ∙ sym value ∙ is
+    by_end : (c ≡ End) ⊎ (c ≢ End) → (1048576 - new.before) + open_of new.stage < (1048576 - old.before) + open_of old.stage
+    by_end (inl e) =
+        let o = over_end (subst (λ (x : Command). Gives a.known (Ok (Some x)) new) e h.1) refl in
+        let none : open_of new.stage ≡ 0 = ap (λ (s : Stage). open_of s) o.stage in
+        omega (arith, same, one, o.further)
+    by_end (inr n) =
+        let b = behind_command h.1 c refl n in
+        let more : open_of new.stage ≡ 1 = ap (λ (s : Stage). open_of s) b.stage in
+        omega (arith, same, one, b.further, b.within)

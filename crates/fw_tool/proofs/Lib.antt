@@ -1,7 +1,9 @@
-pub mod Fronts
-pub mod Readings
+pub mod Deciding
+pub mod Givings
+pub mod Answering
 pub mod Goings
 pub mod Endings
 pub mod Printings
 pub mod Decodings
 pub mod Tellings
+pub mod Completions

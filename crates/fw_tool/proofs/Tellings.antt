@@ -45,6 +45,26 @@ no_log_told held faults old new WriteFault status t four = other 6 status _ _ _ 
 no_log_told held faults old new TooLong status t four = other 7 status _ _ _ t four (λ e. cc e)
 no_log_told held faults old new NoMemory status t four = other 8 status _ _ _ t four (λ e. cc e)
 
+too_long_noted : {N : Type 0} (held : N → Option (List ℕ)) (faults : N → ℕ) (old new : N) (status : ℕ) → IsNoted held faults old new TooLong status → status ≡ 7 → Grows (held old) (held new) (note_of TooLong)
+too_long_noted held faults old new status (inl a) seven = a.1
+too_long_noted held faults old new status (inr a) seven = absurd (omega (arith, a.0, seven))
+
+not_seven : {A : Type 0} (k status : ℕ) (G F R : Type 0) → ((status ≡ k) × G) ⊎ ((status ≡ 6) × F × R) → status ≡ 7 → (k ≡ 7 → ⊥) → A
+not_seven k status G F R (inl a) seven not = absurd (not (sym a.0 ∙ seven))
+not_seven k status G F R (inr a) seven not = absurd (omega (arith, a.0, seven))
+
+-- status 7 tells that the input passes its limit
+pub too_long_told : {N : Type 0} (held : N → Option (List ℕ)) (faults : N → ℕ) (old new : N) (e : Ending) (status : ℕ) → IsTold held faults old new e status → status ≡ 7
+    → (e ≡ TooLong) × Grows (held old) (held new) (note_of TooLong)
+too_long_told held faults old new Done status t seven = absurd (omega (arith, t.0, seven))
+too_long_told held faults old new TooLong status t seven = (refl, too_long_noted held faults old new status t seven)
+too_long_told held faults old new Usage status t seven = not_seven 2 status _ _ _ t seven (λ e. cc e)
+too_long_told held faults old new (Refused r) status t seven = not_seven 3 status _ _ _ t seven (λ e. cc e)
+too_long_told held faults old new (NoLog f) status t seven = not_seven 4 status _ _ _ t seven (λ e. cc e)
+too_long_told held faults old new ReadFault status t seven = not_seven 5 status _ _ _ t seven (λ e. cc e)
+too_long_told held faults old new WriteFault status t seven = not_seven 6 status _ _ _ t seven (λ e. cc e)
+too_long_told held faults old new NoMemory status t seven = not_seven 8 status _ _ _ t seven (λ e. cc e)
+
 unwritten : {N : Type 0} (held : N → Option (List ℕ)) (faults : N → ℕ) (old new : N) (e : Ending) (status : ℕ) → IsNoted held faults old new e status → status ≡ 6 → (status_of e ≡ 6 → ⊥) → IsFaultTold held faults old new
 unwritten held faults old new e status (inl a) six not = absurd (not (sym a.0 ∙ six))
 unwritten held faults old new e status (inr a) six not = inr (e, a.1, a.2)
@@ -61,7 +81,7 @@ fault_told held faults old new ReadFault status t six = unwritten held faults ol
 fault_told held faults old new TooLong status t six = unwritten held faults old new TooLong status t six (λ e. cc e)
 fault_told held faults old new NoMemory status t six = unwritten held faults old new NoMemory status t six (λ e. cc e)
 
-eight : (status : ℕ) (G F R : Type 0) → ((status ≡ 8) × G) ⊎ ((status ≡ 6) × F × R) → (R → ⊥) → (status ≡ 0) ⊎ (status ≡ 8)
+pub eight : (status : ℕ) (G F R : Type 0) → ((status ≡ 8) × G) ⊎ ((status ≡ 6) × F × R) → (R → ⊥) → (status ≡ 0) ⊎ (status ≡ 8)
 eight status G F R (inl a) n = inr a.0
 eight status G F R (inr a) n = absurd (n a.2)
 

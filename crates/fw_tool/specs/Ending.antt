@@ -1,50 +1,126 @@
 -- What each ending of a run says of the input and of the log.
-use Rattle.std.specs.Prelude.{◌≡◌, ℕ, List, ◌++◌, Option, Some, None}
+use Rattle.std.specs.Prelude.{◌≡◌, ℕ, ◌<◌, List, [], ◌∷◌, ◌++◌, length, Option, Some, None, Ok, Err}
 use Rattle.fw_outside.specs.Outside.{Takes, Grows, IsAtEnd, AppendsFront}
 use Rattle.fw_log.specs.Log.{header_bytes}
 use Rattle.fw_log.specs.declared.entry.Timed.{Timed}
-use Rattle.fw_bus.specs.Giving.{log_bytes}
-use Rattle.fw_bus.specs.State.{State, first_state}
-use Rattle.fw_bus.specs.Run.{Action, Steps, Run}
-use Rattle.fw_bus.specs.Headline.{IsSoundThroughout, all_actions}
+use Rattle.fw_script.specs.Script.{IsScript}
+use Rattle.fw_script.specs.declared.command.Command.{Command}
+use Rattle.fw_script.specs.declared.ScriptFault.{ScriptFault}
+use Rattle.fw_script.specs.declared.ScriptFault.TheVariants as Fault
+use Rattle.fw_run.specs.declared.order.Order.{Order}
+use Rattle.fw_run.specs.declared.rule.RuleFault.{RuleFault}
+use Rattle.fw_run.specs.Giving.{log_bytes}
+use Rattle.fw_run.specs.State.{State}
+use Rattle.fw_run.specs.Rules.{Decides}
+use Rattle.fw_run.specs.Run.{Action, Steps, Run, actions_of}
+use Rattle.fw_run.specs.Headline.{IsSoundThroughout}
 use Rattle.fw_tool.specs.declared.ending.Ending.{Ending}
 use Rattle.fw_tool.specs.declared.ending.Ending.TheVariants.{Done, Usage, Refused, NoLog, ReadFault, WriteFault, TooLong, NoMemory}
 use Rattle.fw_tool.specs.declared.Refused.{Refused as RefusedLine}
-use Rattle.fw_tool.specs.Scripts.{script_in}
+use Rattle.fw_tool.specs.declared.Refusal.{Refusal}
+use Rattle.fw_tool.specs.declared.Refusal.TheVariants.{BadLine, LineTooLong, NoEnd, Rule}
+use Rattle.fw_tool.specs.Scripts.{IsOnLine, BeginsWith, TakesFrom}
 
--- These bytes were taken, to the end of the input. The log is that of the run of their commands, up to the line that is
--- refused, if any; and it is sound throughout.
-pub record Logged (left left' held held' : Option (List ℕ)) (refused : Option RefusedLine) : Type 0 where
+-- The commands were carried out; the header and the log of their run were written, and it is sound throughout.
+pub record LogsRun (held held' : Option (List ℕ)) (commands : List Command) : Type 0 where
+  pub actions : List Action
+  pub log : List Timed
+  pub state : State
+  pub run : Run commands actions log state
+  pub sound : IsSoundThroughout actions log
+  pub grew : Grows held held' (header_bytes ++ log_bytes log)
+
+-- These bytes were taken, to the end of the input, and no line of them is refused. The log is that of their commands.
+pub record Logged (left left' held held' : Option (List ℕ)) : Type 0 where
   pub script : List ℕ
   pub taken : Takes left left' script
   pub end : IsAtEnd left'
-  pub log : List Timed
-  pub state : State
-  pub run : Run (script_in script).commands log state
-  pub sound : IsSoundThroughout (all_actions (script_in script).commands) log
-  pub grew : Grows held held' (header_bytes ++ log_bytes log)
-  pub refused_is : refused ≡ (script_in script).refused
+  pub commands : List Command
+  pub says : IsScript script commands None
+  pub logged : LogsRun held held' commands
 
--- Bytes were taken, and a front was written of the log of a front of the actions of their commands; and that log is sound
--- throughout.
+-- The script's first refused line has this fault and this number. The log is that of the commands before it.
+pub record RefusesLine (left left' held held' : Option (List ℕ)) (fault : ScriptFault) (line : ℕ) : Type 0 where
+  pub script : List ℕ
+  pub takes : TakesFrom left left' script
+  pub commands : List Command
+  pub says : IsScript script commands (Some (record { fault = fault; line = line }))
+  pub logged : LogsRun held held' commands
+
+-- The command on the line with this number is the first that breaks a rule, and this is the rule. The log is that of the
+-- commands before it.
+pub record RefusesCommand (left left' held held' : Option (List ℕ)) (rule : RuleFault) (line : ℕ) : Type 0 where
+  pub script : List ℕ
+  pub takes : TakesFrom left left' script
+  pub commands : List Command
+  pub command : Command
+  pub says : BeginsWith script (commands ++ command ∷ [])
+  pub on_line : IsOnLine script commands command line
+  pub logged : LogsRun held held' commands
+  pub decided : Decides logged.state command (Err rule)
+
+-- what each reason says of a line
+abbrev pub RefusesBy : Option (List ℕ) → Option (List ℕ) → Option (List ℕ) → Option (List ℕ) → Refusal → ℕ → Type 0
+RefusesBy left left' held held' BadLine line = RefusesLine left left' held held' Fault.BadLine line
+RefusesBy left left' held held' LineTooLong line = RefusesLine left left' held held' Fault.LineTooLong line
+RefusesBy left left' held held' NoEnd line = RefusesLine left left' held held' Fault.NoEnd line
+RefusesBy left left' held held' (Rule rule) line = RefusesCommand left left' held held' rule line
+
+-- this line is the first that is refused
+abbrev pub Refuses : Option (List ℕ) → Option (List ℕ) → Option (List ℕ) → Option (List ℕ) → RefusedLine → Type 0
+Refuses left left' held held' r = RefusesBy left left' held held' r.why r.line
+
+-- The script has more than 1,048,576 bytes, and no line within them is refused. The log is that of the commands within them.
+pub record PassesScriptLimit (left left' held held' : Option (List ℕ)) : Type 0 where
+  pub line : ℕ
+  pub refused : RefusesLine left left' held held' Fault.TooLong line
+  pub long : 1048576 < length refused.script
+
+-- of what a command orders these actions were carried out, or of no command none
+abbrev pub Began : Option Command → State → List Action → Type 0
+Began None s done = done ≡ []
+Began (Some c) s done = (order : Order) × (later : List Action) × Decides s c (Ok order) × (actions_of s order ≡ done ++ later)
+
+-- the commands that were carried out, and the one that was begun, if any
+abbrev pub with_begun : List Command → Option Command → List Command
+with_begun commands None = commands
+with_begun commands (Some c) = commands ++ c ∷ []
+
+-- Bytes were taken of a script that says these commands first, the last of them perhaps only begun. A front was written of
+-- the header and the log of their actions, as far as they were carried out; and that log is sound throughout.
 pub record PartLogged (left left' held held' : Option (List ℕ)) : Type 0 where
   pub script : List ℕ
-  pub taken : Takes left left' script
-  pub done : List Action
-  pub later : List Action
-  pub actions : all_actions (script_in script).commands ≡ done ++ later
+  pub takes : TakesFrom left left' script
+  pub commands : List Command
+  pub begun : Option Command
+  pub says : BeginsWith script (with_begun commands begun)
+  pub actions : List Action
   pub log : List Timed
   pub state : State
-  pub steps : Steps first_state done log state
-  pub sound : IsSoundThroughout done log
-  pub grew : AppendsFront held held' (header_bytes ++ log_bytes log)
+  pub run : Run commands actions log state
+  pub done : List Action
+  pub began : Began begun state done
+  pub out : List Timed
+  pub after : State
+  pub steps : Steps state done out after
+  pub sound : IsSoundThroughout (actions ++ done) (log ++ out)
+  pub grew : AppendsFront held held' (header_bytes ++ log_bytes (log ++ out))
 
+-- what each ending says
 abbrev pub Runs : Option (List ℕ) → Option (List ℕ) → Option (List ℕ) → Option (List ℕ) → Ending → Type 0
-Runs left left' held held' Done = Logged left left' held held' None
-Runs left left' held held' (Refused r) = Logged left left' held held' (Some r)
+Runs left left' held held' Done = Logged left left' held held'
+Runs left left' held held' (Refused r) = Refuses left left' held held' r
+Runs left left' held held' TooLong = PassesScriptLimit left left' held held'
 Runs left left' held held' WriteFault = PartLogged left left' held held'
 Runs left left' held held' ReadFault = PartLogged left left' held held'
 Runs left left' held held' NoMemory = PartLogged left left' held held'
 Runs left left' held held' Usage = ⊥
 Runs left left' held held' (NoLog fault) = ⊥
-Runs left left' held held' TooLong = ⊥
+
+-- the ending by a fault of the script at this line
+abbrev pub ending_by : ScriptFault → ℕ → Ending
+ending_by Fault.BadLine line = Refused (record { line = line; why = BadLine })
+ending_by Fault.LineTooLong line = Refused (record { line = line; why = LineTooLong })
+ending_by Fault.NoEnd line = Refused (record { line = line; why = NoEnd })
+ending_by Fault.ReadFault line = ReadFault
+ending_by Fault.TooLong line = TooLong

@@ -1,13 +1,15 @@
 -- The status and the note of each ending.
-use Rattle.std.specs.Prelude.{◌≡◌, ℕ, ◌+◌, ◌<◌, ◌⊎◌, List, [], ◌∷◌, ◌++◌, codes, decimal}
+use Rattle.std.specs.Prelude.{◌≡◌, ℕ, ◌⊎◌, List, [], ◌∷◌, ◌++◌, codes, decimal}
 use Rattle.std.specs.declared.option.Option.{Option}
 use Rattle.fw_outside.specs.Outside.{Grows, AppendsFront, Rose}
 use Rattle.fw_log.specs.declared.LogWhy.{LogWhy}
 use Rattle.fw_log.specs.declared.LogWhy.TheVariants.{AfterEnd, BadHeader, BadKind, BadLength, TimeBack, BadBody, Cut, NoEnd as NoLogEnd, NotBuilt as NotBuiltKind}
 use Rattle.fw_tool.specs.declared.ending.Ending.{Ending}
 use Rattle.fw_tool.specs.declared.ending.Ending.TheVariants.{Done, Usage, Refused, NoLog, ReadFault, WriteFault, TooLong, NoMemory}
+use Rattle.fw_run.specs.declared.rule.RuleFault.{RuleFault}
+use Rattle.fw_run.specs.declared.rule.RuleFault.TheVariants.{UnknownName, NameTaken, TooMany, NoPort, PortUsed, Loop, NotController, Guarded, NoRegister, Limit, OffBus, NotBuilt}
 use Rattle.fw_tool.specs.declared.Refusal.{Refusal}
-use Rattle.fw_tool.specs.declared.Refusal.TheVariants.{NotBuilt, NoEnd}
+use Rattle.fw_tool.specs.declared.Refusal.TheVariants.{BadLine, LineTooLong, NoEnd, Rule}
 
 abbrev pub status_of : Ending → ℕ
 status_of Done = 0
@@ -19,9 +21,25 @@ status_of WriteFault = 6
 status_of TooLong = 7
 status_of NoMemory = 8
 
+abbrev pub rule_of : RuleFault → List ℕ
+rule_of UnknownName = codes ": UnknownName" ++ 10 ∷ []
+rule_of NameTaken = codes ": NameTaken" ++ 10 ∷ []
+rule_of TooMany = codes ": TooMany" ++ 10 ∷ []
+rule_of NoPort = codes ": NoPort" ++ 10 ∷ []
+rule_of PortUsed = codes ": PortUsed" ++ 10 ∷ []
+rule_of Loop = codes ": Loop" ++ 10 ∷ []
+rule_of NotController = codes ": NotController" ++ 10 ∷ []
+rule_of Guarded = codes ": Guarded" ++ 10 ∷ []
+rule_of NoRegister = codes ": NoRegister" ++ 10 ∷ []
+rule_of Limit = codes ": Limit" ++ 10 ∷ []
+rule_of OffBus = codes ": OffBus" ++ 10 ∷ []
+rule_of NotBuilt = codes ": NotBuilt" ++ 10 ∷ []
+
 abbrev pub name_of : Refusal → List ℕ
-name_of NotBuilt = codes ": NotBuilt" ++ 10 ∷ []
+name_of BadLine = codes ": BadLine" ++ 10 ∷ []
+name_of LineTooLong = codes ": LineTooLong" ++ 10 ∷ []
 name_of NoEnd = codes ": NoEnd" ++ 10 ∷ []
+name_of (Rule fault) = rule_of fault
 
 abbrev pub why_of : LogWhy → List ℕ
 why_of AfterEnd = codes ": AfterEnd" ++ 10 ∷ []
@@ -37,17 +55,12 @@ why_of NotBuiltKind = codes ": NotBuilt" ++ 10 ∷ []
 abbrev pub note_of : Ending → List ℕ
 note_of Done = []
 note_of Usage = codes "usage" ++ 10 ∷ []
-note_of (Refused r) = codes "line " ++ ((48 + r.line) ∷ []) ++ name_of r.why
+note_of (Refused r) = codes "line " ++ decimal r.line ++ name_of r.why
 note_of (NoLog fault) = codes "byte " ++ decimal fault.place ++ why_of fault.why
 note_of ReadFault = codes "read fault" ++ 10 ∷ []
 note_of WriteFault = codes "write fault" ++ 10 ∷ []
 note_of TooLong = codes "too long" ++ 10 ∷ []
 note_of NoMemory = codes "no memory" ++ 10 ∷ []
-
--- a refused line has one digit
-abbrev pub IsShort : Ending → Type 0
-IsShort (Refused r) = r.line < 10
-IsShort _ = Unit {0}
 
 -- The note was written and the status is the ending's, or the note could not be written and the status is 6.
 abbrev pub IsNoted : {N : Type 0} → (N → Option (List ℕ)) → (N → ℕ) → N → N → Ending → ℕ → Type 0

@@ -1,45 +1,49 @@
--- The commands of a script of four lines, and the line that is refused, if any.
-use Rattle.std.specs.Prelude.{ℕ, zero, suc, ◌+◌, List, [], ◌∷◌, Option, Some, None, Ok, Err}
-use Rattle.std.specs.declared.result.Result.{Result}
-use Rattle.fw_bus.specs.declared.command.Command.{Command}
-use Rattle.fw_bus.specs.declared.command.Command.TheVariants.{Device, Broadcast, Step, End}
-use Rattle.fw_bus.specs.declared.machine.Expected.{Expected}
-use Rattle.fw_bus.specs.declared.machine.Expected.TheVariants.{DeviceLine, BroadcastLine, StepLine, EndLine, NoLine}
-use Rattle.fw_tool.specs.declared.Refusal.{Refusal}
-use Rattle.fw_tool.specs.declared.Refusal.TheVariants.{NotBuilt}
-use Rattle.fw_tool.specs.declared.Refused.{Refused}
-use Rattle.fw_tool.specs.Text.{after_line}
-use Rattle.fw_tool.specs.Script.{next_in}
+-- The commands of a script, one after another, and the numbers of their lines.
+use Rattle.std.specs.Prelude.{◌≡◌, ◌≢◌, ℕ, List, [], ◌∷◌, ◌++◌, true, Option, Some, None, Ok, Err}
+use Rattle.fw_outside.specs.Outside.{Takes}
+use Rattle.fw_log.specs.declared.entry.Timed.{Timed}
+use Rattle.fw_script.specs.Reading.{Reading, Gives}
+use Rattle.fw_script.specs.Script.{Refusal, IsScript, Tells}
+use Rattle.fw_script.specs.declared.command.Command.{Command}
+use Rattle.fw_script.specs.declared.command.Command.TheVariants.{End}
+use Rattle.fw_script.specs.declared.stage.Stage.TheVariants.{Commands}
+use Rattle.fw_run.specs.declared.rule.RuleFault.{RuleFault}
+use Rattle.fw_run.specs.State.{State}
+use Rattle.fw_run.specs.Rules.{Decides}
+use Rattle.fw_run.specs.Run.{Action, Run}
 
--- the commands of the lines, and the line that is refused
-pub record Reading : Type 0 where
+-- a script of which nothing is read yet
+abbrev pub start_of : List ℕ → Reading
+start_of script = record { rest = script; whole = true; before = 0; line = 0; stage = Commands }
+
+-- from one reading on the lines give these commands, one after another, and the other stands behind the last line
+pub data Leads (p : Reading) : List Command → Reading → Type 0 where
+  nothing : Leads p [] p
+  and_then : {commands : List Command} {q : Reading} → Leads p commands q → (c : Command) → c ≢ End → (next : Reading) → Gives q (Ok (Some c)) next → Leads p (commands ++ c ∷ []) next
+
+-- the command after these is on the line with this number
+pub record IsOnLine (script : List ℕ) (commands : List Command) (c : Command) (line : ℕ) : Type 0 where
+  pub behind : Reading
+  pub leads : Leads (start_of script) (commands ++ c ∷ []) behind
+  pub number : line ≡ behind.line
+
+-- the script says these commands first
+pub record BeginsWith (script : List ℕ) (commands : List Command) : Type 0 where
+  pub later : List Command
+  pub end : Option Refusal
+  pub says : IsScript script (commands ++ later) end
+
+-- Bytes of the script were taken, and others may be behind them. A source that tells what it has told the whole script.
+pub record TakesFrom (left left' : Option (List ℕ)) (script : List ℕ) : Type 0 where
+  pub taken : List ℕ
+  pub behind : List ℕ
+  pub parts : script ≡ taken ++ behind
+  pub takes : Takes left left' taken
+  pub told : Tells left script
+
+-- no line is refused, neither by its form nor by a rule
+pub record IsValid (script : List ℕ) : Type 0 where
   pub commands : List Command
-  pub refused : Option Refused
-
--- the line after a command's, and the name that its script has
-abbrev pub expected_after : Command → Expected
-expected_after (Device name kind ports speed) = BroadcastLine
-expected_after (Broadcast name plug overhead) = StepLine
-expected_after (Step name count) = EndLine
-expected_after End = NoLine
-
-abbrev pub name_after : Command → List ℕ → List ℕ
-name_after (Device n kind ports speed) name = n
-name_after (Broadcast n plug overhead) name = name
-name_after (Step n count) name = name
-name_after End name = name
-
-abbrev pub reading_of : Result Command Refusal → ℕ → (Command → Reading) → Reading
-reading_of (Err why) line later = record { commands = []; refused = Some (record { line = line; why = why }) }
-reading_of (Ok c) line later = record { commands = c ∷ (later c).commands; refused = (later c).refused }
-
--- so many lines, from this line number on: what follows them is refused
-unfoldable pub read_lines : ℕ → ℕ → Expected → List ℕ → List ℕ → Reading
-read_lines zero line expected name [] = record { commands = []; refused = None }
-read_lines zero line expected name (b ∷ bytes) = record { commands = []; refused = Some (record { line = line; why = NotBuilt }) }
-read_lines (suc left) line expected name bytes =
-    reading_of (next_in expected name bytes) line (λ c. read_lines left (line + 1) (expected_after c) (name_after c name) (after_line bytes))
-
--- the script of four lines
-abbrev pub script_in : List ℕ → Reading
-script_in bytes = read_lines 4 1 DeviceLine [] bytes
+  pub says : IsScript script commands None
+  pub allowed : (done later : List Command) (c : Command) (actions : List Action) (log : List Timed) (state : State) (f : RuleFault)
+      → commands ≡ done ++ c ∷ later → Run done actions log state → Decides state c (Err f) → ⊥

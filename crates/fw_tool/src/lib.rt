@@ -5,26 +5,29 @@ mod decode;
 #[cfg(test)]
 mod decode_tests;
 mod ending;
-mod lines;
+#[cfg(test)]
+mod node_tests;
 mod notes;
 mod print;
-mod read;
 mod run;
-mod script;
 #[cfg(test)]
 mod tests;
-mod text;
 mod top;
 
+use fw_run::RuleFault;
 pub use top::fire;
 
 /// Why a line of a script was refused.
 #[derive(Clone, Copy, Debug, PartialEq, Eq)]
 pub enum Refusal {
-    /// The line is not the form that stands in its place, or it follows the last line.
-    NotBuilt,
-    /// The input ended before the last line.
+    /// The line has none of the forms, or follows `end`.
+    BadLine,
+    /// The line has more than 256 bytes, be it a skipped one.
+    LineTooLong,
+    /// The input ended without `end`; the line is the one after the last.
     NoEnd,
+    /// The line's command breaks a rule of the bus.
+    Rule(RuleFault),
 }
 
 /// A refused line, by its number from 1.

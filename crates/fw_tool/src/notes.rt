@@ -1,12 +1,13 @@
 ghost use Rattle.std.specs.Prelude.{◌≡◌, ◌+◌, ◌<◌, ◌≤◌, ◌++◌, length};
 ghost use Rattle.arrayvec.specs.ArrayVec.{array_vec_len};
-ghost use Rattle.fw_tool.specs.Notes.{status_of, name_of, why_of, note_of, IsShort, IsTold};
+ghost use Rattle.fw_tool.specs.Notes.{status_of, rule_of, name_of, why_of, note_of, IsTold};
 
 use crate::Refusal;
 use crate::ending::Ending;
 use arrayvec::ArrayVec;
 use fw_log::LogWhy;
 use fw_outside::Sink;
+use fw_run::RuleFault;
 use itoa::Buffer;
 
 /// The longest note has 37 bytes: that of a place of twenty digits.
@@ -21,12 +22,35 @@ fn put(note: &mut Note, text: &[u8])
     let _ = note.try_extend_from_slice(text);
 }
 
+fn rule(fault: RuleFault) -> &'static [u8]
+    ensures name { result.now ≡ rule_of fault }
+    ensures short { length result.now ≤ 16 }
+{
+    match fault {
+        RuleFault::UnknownName => b": UnknownName\n",
+        RuleFault::NameTaken => b": NameTaken\n",
+        RuleFault::TooMany => b": TooMany\n",
+        RuleFault::NoPort => b": NoPort\n",
+        RuleFault::PortUsed => b": PortUsed\n",
+        RuleFault::Loop => b": Loop\n",
+        RuleFault::NotController => b": NotController\n",
+        RuleFault::Guarded => b": Guarded\n",
+        RuleFault::NoRegister => b": NoRegister\n",
+        RuleFault::Limit => b": Limit\n",
+        RuleFault::OffBus => b": OffBus\n",
+        RuleFault::NotBuilt => b": NotBuilt\n",
+    }
+}
+
 fn refusal(why: Refusal) -> &'static [u8]
-    ensures { result.now ≡ name_of why }
+    ensures name { result.now ≡ name_of why }
+    ensures short { length result.now ≤ 16 }
 {
     match why {
-        Refusal::NotBuilt => b": NotBuilt\n",
+        Refusal::BadLine => b": BadLine\n",
+        Refusal::LineTooLong => b": LineTooLong\n",
         Refusal::NoEnd => b": NoEnd\n",
+        Refusal::Rule(fault) => rule(fault),
     }
 }
 
@@ -48,7 +72,6 @@ fn log_why(why: LogWhy) -> &'static [u8]
 
 /// The note of an ending.
 fn note(ending: Ending) -> Note
-    requires { IsShort ending }
     ensures { result.items ≡ note_of ending }
 {
     let mut note = Note::new();
@@ -57,7 +80,7 @@ fn note(ending: Ending) -> Note
         Ending::Usage => put(&mut note, b"usage\n"),
         Ending::Refused(refused) => {
             put(&mut note, b"line ");
-            note.push(b'0' + refused.line as u8);
+            put(&mut note, Buffer::new().format(refused.line).as_bytes());
             put(&mut note, refusal(refused.why));
         }
         Ending::NoLog(fault) => {
@@ -91,7 +114,6 @@ fn status(ending: Ending) -> u8
 /// Writes the note of an ending, and answers its status, or 6 where the note was not written. An ending that is
 /// done has no note.
 pub(crate) fn tell<N: Sink>(ending: Ending, notes: &mut N) -> u8
-    requires { IsShort ending }
     ensures { IsTold N.held N.faults notes.old notes.new ending result }
 {
     if matches!(ending, Ending::Done) {

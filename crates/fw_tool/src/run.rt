@@ -1,38 +1,59 @@
-ghost use Rattle.std.specs.Prelude.{◌≡◌, ◌≤◌};
+ghost use Rattle.std.specs.Prelude.{◌≡◌};
 ghost use Rattle.fw_outside.specs.Outside.{Rose};
-ghost use Rattle.fw_tool.specs.Ending.{Runs};
-ghost use Rattle.fw_tool.specs.Notes.{IsShort};
+ghost use Rattle.fw_tool.specs.Ending.{Runs, ending_by};
 
 use crate::ending::Ending;
-use crate::lines::run_lines;
-use crate::read::{ReadError, read_all};
-use fw_bus::Bus;
+use crate::{Refusal, Refused};
+use fw_bus::{Bus, BusFault};
 use fw_log::write_header;
 use fw_outside::{Sink, Source};
+use fw_script::{ScriptFault, ScriptReader};
 use std::alloc::Global;
 
-/// Reads a script, and writes the log of it.
+fn refused(line: u32, why: Refusal) -> Ending
+    ensures { result ≡ Ending.Refused (record { line = line; why = why }) }
+{
+    Ending::Refused(Refused { line, why })
+}
+
+/// How a run ends whose script has this fault at this line.
+fn ending_of(fault: ScriptFault, line: u32) -> Ending
+    ensures { result ≡ ending_by fault line }
+{
+    match fault {
+        ScriptFault::BadLine => refused(line, Refusal::BadLine),
+        ScriptFault::LineTooLong => refused(line, Refusal::LineTooLong),
+        ScriptFault::NoEnd => refused(line, Refusal::NoEnd),
+        ScriptFault::ReadFault => Ending::ReadFault,
+        ScriptFault::TooLong => Ending::TooLong,
+    }
+}
+
+/// Reads a script, and carries out its commands on a new bus, each as it is read.
 pub(crate) fn run<S: Source, K: Sink>(alloc: Global, source: &mut S, sink: &mut K) -> Ending
     ensures runs { Runs (S.left source.old) (S.left source.new) (K.held sink.old) (K.held sink.new) result }
-    ensures short { IsShort result }
     ensures read_fault { result ≡ Ending.ReadFault → Rose (S.faults source.old) (S.faults source.new) }
     ensures write_fault { result ≡ Ending.WriteFault → Rose (K.faults sink.old) (K.faults sink.new) }
-    ensures sink_later { K.faults sink.old ≤ K.faults sink.new }
 {
-    let bytes = match read_all(alloc, source) {
-        Ok(bytes) => bytes,
-        Err(ReadError::Memory) => return Ending::NoMemory,
-        Err(ReadError::Failed) => return Ending::ReadFault,
-    };
     let Ok(mut bus) = Bus::new(alloc) else {
+        return Ending::NoMemory;
+    };
+    let Ok(mut reader) = ScriptReader::new(alloc) else {
         return Ending::NoMemory;
     };
     let Ok(()) = write_header(sink) else {
         return Ending::WriteFault;
     };
-    match run_lines(&mut bus, &bytes, sink) {
-        Ok(None) => Ending::Done,
-        Ok(Some(refused)) => Ending::Refused(refused),
-        Err(_) => Ending::WriteFault,
+    loop {
+        let command = match reader.next(source) {
+            Ok(Some(command)) => command,
+            Ok(None) => return Ending::Done,
+            Err(fault) => return ending_of(fault, reader.line()),
+        };
+        match bus.apply(&command, sink) {
+            Ok(()) => {}
+            Err(BusFault::Refused(rule)) => return refused(reader.line(), Refusal::Rule(rule)),
+            Err(BusFault::WriteFault) => return Ending::WriteFault,
+        }
     }
 }

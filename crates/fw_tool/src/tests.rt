@@ -1,4 +1,4 @@
-//! Scripts of four lines, run into memory, and calls that fail.
+//! Scripts that are run into memory, and calls that fail.
 //!
 //! The logs were made by an implementation of the same rules that shares no code with this one.
 
@@ -18,6 +18,17 @@ const FIVE: &str = "device d deck 1 100\nbroadcast d d.0 0\nstep d 5\nend\n";
 
 const FIVE_LOG: &str =
     "31333934000000010000000000000000010000050000000000000000000000010000000100010101807f08427f80f7bd020000030000000000000000ffc00140ffc0fffff0000904020000040000000000000000ffc00160ffc0000000000000803f007a020000030000000000000000ffc00140ffc0fffff0000228020000040000000000000000ffc00160ffc0000000000000ffffffff020000060000000000000000ffc00190ffc0fffff000022800080002fffffffffffffffe070000000000000000000000";
+
+// A deck alone, and nothing happens.
+const ALONE_LOG: &str =
+    "31333934000000010000000000000000010000050000000000000000000000010000000100010101807f08427f80f7bd070000000000000000000000";
+
+// Two decks on a cable: the first swaps BUS_MANAGER_ID at the second, reads it, and the manager's word is shown.
+const SWAP: &str =
+    "device a deck 1 100\ndevice b deck 1 100\ncable a.0 b.0\nwait 8000\nswap a b 21C 0000003F 00000000\nread a b 21C\nshow manager 21C\nend\n";
+
+const SWAP_LOG: &str =
+    "31333934000000010000000000000000010000050000000000000000000000010000000100010101807f08427f80f7bd01000008000000000000000000000002010100020001010101010101807f08827f80f77d817f08c07e80f73f040000010000000000001f4001ff0000020000060000000000001f40ffc10590ffc0fffff000021c000800020000003f00000000020000050000000000001f40ffc005b0ffc1000000000000000400020000003f020000030000000000001f40ffc10540ffc0fffff000021c020000040000000000001f40ffc00560ffc100000000000000000000060000020000000000001f400100021c00000000070000000000000000001f40";
 
 // Where an entry of the first log begins, and its length.
 const BEGINS: [usize; 17] = [
@@ -74,7 +85,8 @@ fn the_log_of_a_script(rt: HostRuntime) -> Result<(), Fail> {
     let cases = [
         (THIRTEEN, THIRTEEN_LOG),
         (FIVE, FIVE_LOG),
-        (THIRTEEN.trim_end(), THIRTEEN_LOG),
+        ("# x\n\ndevice d deck 1 100\nend", ALONE_LOG),
+        (SWAP, SWAP_LOG),
         (
             "device camera0123456789 deck 1 100\nbroadcast camera0123456789 camera0123456789.0 0\nstep camera0123456789 5\nend\n",
             FIVE_LOG,
@@ -90,72 +102,82 @@ fn the_log_of_a_script(rt: HostRuntime) -> Result<(), Fail> {
     Ok(())
 }
 
+// One deck.
+const DECK: &str = "device a deck 1 100\n";
+
+// Two decks, and a cable between them.
+const PAIR: &str = "device a deck 1 100\ndevice b deck 1 100\ncable a.0 b.0\n";
+
+// Three decks of three ports, and two cables.
+const CHAIN: &str =
+    "device p deck 3 100\ndevice q deck 3 100\ndevice r deck 3 100\ncable p.0 q.0\ncable q.1 r.0\n";
+
 #[test]
 fn refused_lines(rt: HostRuntime) -> Result<(), Fail> {
     let alloc = rt.alloc();
     let whole = hex::decode(alloc, THIRTEEN_LOG)?;
     let cases = [
-        ("", "line 1: NoEnd\n", 16),
-        ("\n", "line 1: NotBuilt\n", 16),
-        ("broadcast d d.0 0\n", "line 1: NotBuilt\n", 16),
-        ("device d camcorder 1 100\n", "line 1: NotBuilt\n", 16),
-        ("device d deck 1 100 \n", "line 1: NotBuilt\n", 16),
-        ("device 1d deck 1 100\n", "line 1: NotBuilt\n", 16),
-        (
-            "device camera01234567890 deck 1 100\n",
-            "line 1: NotBuilt\n",
-            16,
-        ),
-        ("device manager deck 1 100\n", "line 1: NotBuilt\n", 16),
-        ("device any deck 1 100\n", "line 1: NotBuilt\n", 16),
-        ("device late deck 1 100\n", "line 1: NotBuilt\n", 16),
-        ("device d deck 1 100\n", "line 2: NoEnd\n", 48),
-        (
-            "device d deck 1 100\nbroadcast e e.0 0\n",
-            "line 2: NotBuilt\n",
-            48,
-        ),
-        (
-            "device d deck 1 100\nbroadcast d d.0 16\n",
-            "line 2: NotBuilt\n",
-            48,
-        ),
-        (
-            "device d deck 1 100\nbroadcast d d.0 00\n",
-            "line 2: NotBuilt\n",
-            48,
-        ),
-        (
-            "device d deck 1 100\nbroadcast d d.0 0\nstep d 0\n",
-            "line 3: NotBuilt\n",
-            48,
-        ),
-        (
-            "device d deck 1 100\nbroadcast d d.0 0\nstep d 10001\n",
-            "line 3: NotBuilt\n",
-            48,
-        ),
-        (
-            "device d deck 1 100\nbroadcast d d.0 0\nstep d 13\n",
-            "line 4: NoEnd\n",
-            428,
-        ),
-        (
-            "device d deck 1 100\nbroadcast d d.0 0\nstep d 13\nend\nend\n",
-            "line 5: NotBuilt\n",
-            440,
-        ),
-        (
-            "device d deck 1 100\nbroadcast d d.0 0\nstep d 13\nend\n\n",
-            "line 5: NotBuilt\n",
-            440,
-        ),
+        ("", "", "line 1: NoEnd\n", 16),
+        ("# x\n\n", "end \n", "line 3: BadLine\n", 16),
+        ("", "show manager 220\n", "line 1: NoRegister\n", 16),
+        (DECK, "", "line 2: NoEnd\n", 48),
+        (DECK, DECK, "line 2: NameTaken\n", 48),
+        (DECK, "broadcast a b.0 0\n", "line 2: UnknownName\n", 48),
+        (THIRTEEN, "end\n", "line 5: BadLine\n", 428),
     ];
-    for (script, note, length) in cases {
+    for (first, last, note, length) in cases {
+        let mut script = first.to_string(alloc)?;
+        script.push_str(last)?;
         let ended = call(alloc, &["run"], script.as_bytes(), NONE)?;
         assert_eq!(rt; ended.status, 3, "{script}");
         assert_eq!(rt; ended.notes.as_slice(), note.as_bytes(), "{script}");
         assert_eq!(rt; ended.log.as_slice(), front(&whole, length), "{script}");
+    }
+    Ok(())
+}
+
+#[test]
+fn refused_commands(rt: HostRuntime) -> Result<(), Fail> {
+    let alloc = rt.alloc();
+    let swap = "wait 8000\nswap a b 220 00001333 00000000\n";
+    let read = "device s deck 1 100\nread p s 220\n";
+    let step = "device r relay 1 100\nstep r 1\n";
+    let cases = [
+        (PAIR, "cable a.0 b.0\n", "line 4: PortUsed\n"),
+        (PAIR, "cable a.1 b.0\n", "line 4: NoPort\n"),
+        (PAIR, swap, "line 5: Guarded\n"),
+        (CHAIN, "cable r.1 p.1\n", "line 6: Loop\n"),
+        (CHAIN, read, "line 7: OffBus\n"),
+        ("", step, "line 2: NotController\n"),
+    ];
+    for (first, last, note) in cases {
+        let mut script = first.to_string(alloc)?;
+        script.push_str(last)?;
+        let ended = call(alloc, &["run"], script.as_bytes(), NONE)?;
+        assert_eq!(rt; ended.status, 3, "{script}");
+        assert_eq!(rt; ended.notes.as_slice(), note.as_bytes(), "{script}");
+    }
+    Ok(())
+}
+
+#[test]
+fn lines_and_scripts_that_are_too_long(rt: HostRuntime) -> Result<(), Fail> {
+    let alloc = rt.alloc();
+    let header = hex::decode(alloc, ALONE_LOG)?;
+    let cases = [
+        ("a", 257, 3, "line 1: LineTooLong\n"),
+        ("#\n", 524_288, 3, "line 524289: NoEnd\n"),
+        ("#\n", 524_289, 7, "too long\n"),
+    ];
+    for (piece, count, status, note) in cases {
+        let mut script = String::new(alloc);
+        for _ in 0..count {
+            script.push_str(piece)?;
+        }
+        let ended = call(alloc, &["run"], script.as_bytes(), NONE)?;
+        assert_eq!(rt; ended.status, status, "{note}");
+        assert_eq!(rt; ended.notes.as_slice(), note.as_bytes());
+        assert_eq!(rt; ended.log.as_slice(), front(&header, 16), "{note}");
     }
     Ok(())
 }
@@ -196,7 +218,7 @@ fn calls_that_fail(rt: HostRuntime) -> Result<(), Fail> {
         )?;
         assert_eq!(rt; ended.status, 5);
         assert_eq!(rt; ended.notes.as_slice(), b"read fault\n".as_slice());
-        assert!(rt; ended.log.as_slice().is_empty());
+        assert_eq!(rt; ended.log.as_slice(), front(&whole, 16));
     }
     for write in 1..17 {
         let log = &[write];
@@ -220,7 +242,7 @@ fn calls_that_fail(rt: HostRuntime) -> Result<(), Fail> {
         );
     }
     let notes = &[1];
-    let ended = call(alloc, &["run"], b"end\n", Failing { notes, ..NONE })?;
+    let ended = call(alloc, &["run"], b"x\n", Failing { notes, ..NONE })?;
     assert_eq!(rt; ended.status, 6);
     assert_eq!(rt; ended.log.as_slice(), front(&whole, 16));
     Ok(())

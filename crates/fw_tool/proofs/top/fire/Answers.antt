@@ -1,10 +1,12 @@
-use Rattle.std.proofs.Common.{refl, subst, ◌∙◌, sym}
+use Rattle.std.proofs.Common.{refl, inl, inr, subst, ◌∙◌, sym}
 use Rattle.fw_tool.specs.declared.ending.Ending.{Ending}
 use Rattle.fw_tool.specs.Decode.{Decodes}
 use Rattle.fw_tool.specs.Notes.{IsTold}
 use Rattle.fw_tool.proofs.Decodings.{part_decoded}
 use Rattle.fw_tool.proofs.Endings.{part_logged}
-use Rattle.fw_tool.proofs.Tellings.{one_form, run_no_log, no_log_told, fault_told, complete_by}
+use Rattle.fw_tool.specs.Ending.{Runs}
+use Rattle.fw_tool.proofs.Completions.{complete_run}
+use Rattle.fw_tool.proofs.Tellings.{one_form, run_no_log, no_log_told, too_long_told, fault_told, complete_by}
 use Rattle.fw_tool.proofs.top.fire.Goals as goal
 use Rattle.fw_tool.proofs.top.fire.Goals.{then-is_run, else-is_run+else-is_decode, else-is_run+then-is_decode}
 
@@ -49,3 +51,28 @@ returns-clause-complete_log g c entries bytes told log short form unread unwritt
 
 pub returns-clause-fault_told : goal.returns-clause-fault_told
 returns-clause-fault_told g c six = fault_told g.N.Sink.held g.N.Sink.faults c.args.notes.now c.tell.new.notes c.if-is_run.ending c.tell.result c.tell.ensures six
+
+pub returns-clause-too_long : goal.returns-clause-too_long
+returns-clause-too_long g c seven =
+    let t = too_long_told g.N.Sink.held g.N.Sink.faults c.args.notes.now c.tell.new.notes c.if-is_run.ending c.tell.result c.tell.ensures seven in
+    elim c.if-is_run.branch [
+      | then-is_run w ↦
+          let R : Ending → Type 0 = Runs (g.S.Source.left c.args.source.now) (g.S.Source.left w.run-ending.new.source) (g.K.Sink.held c.args.sink.now) (g.K.Sink.held w.run-ending.new.sink) in
+          rw (w.source-is, w.sink-is) (inl (w.if-is_run.ensures.0 refl, subst R (sym w.ending-is ∙ t.0) w.run-ending.ensures.runs), t.1)
+      | else-is_run+then-is_decode w ↦
+          let D : Ending → Type 0 = Decodes (g.S.Source.left c.args.source.now) (g.S.Source.left w.decode.new.source) (g.K.Sink.held c.args.sink.now) (g.K.Sink.held w.decode.new.sink) in
+          rw (w.source-is, w.sink-is) (inr (w.if-is_decode.ensures.0 refl, subst D (sym w.ending-is ∙ t.0) w.decode.ensures.decodes), t.1)
+      | else-is_run+else-is_decode w ↦ absurd (cc (sym w.ending-is ∙ t.0))
+    ]
+
+pub returns-clause-complete : goal.returns-clause-complete
+returns-clause-complete g c script told valid form unread unwritten untold =
+    elim c.if-is_run.branch [
+      | then-is_run w ↦
+          let T : Ending → Type 0 = λ e. IsTold g.N.Sink.held g.N.Sink.faults c.args.notes.now c.tell.new.notes e c.tell.result in
+          complete_run g.N.Sink.held g.N.Sink.faults c.args.notes.now c.tell.new.notes c.tell.result script
+          (g.S.Source.left c.args.source.now) (g.S.Source.left w.run-ending.new.source) (g.K.Sink.held c.args.sink.now) (g.K.Sink.held w.run-ending.new.sink) _ _ w.run-ending.result
+          w.run-ending.ensures.runs told valid w.run-ending.ensures.read_fault (rw w.source-is at unread) w.run-ending.ensures.write_fault (rw w.sink-is at unwritten) (subst T w.ending-is c.tell.ensures) untold
+      | else-is_run+then-is_decode w ↦ absurd (cc (w.if-is_run.ensures.1 form))
+      | else-is_run+else-is_decode w ↦ absurd (cc (w.if-is_run.ensures.1 form))
+    ]

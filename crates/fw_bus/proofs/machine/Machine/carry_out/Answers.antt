@@ -1,30 +1,18 @@
-use Rattle.std.proofs.Common.{◌∙◌, subst, refl}
-use Rattle.std.specs.Prelude.{Ok, Err, [], ◌∷◌}
-use Rattle.fw_bus.specs.Run.{IsNext, EndSteps}
-use Rattle.fw_bus.proofs.Nexts.{next_device, next_broadcast, next_step, next_end}
-use Rattle.fw_bus.proofs.Turns.{declare_turns, begin_turns, end_steps_turns, finish_turns}
-use Rattle.fw_bus.proofs.Doings.{does_one, does_then, does_cut, does_silent}
+use Rattle.std.proofs.Common.{subst}
+use Rattle.fw_bus.specs.Stands.{MayCarry}
+use Rattle.fw_bus.proofs.Doings.{does_one, does_silent}
+use Rattle.fw_bus.proofs.TransactTurns.{begin_turns, show_turns, finish_turns}
 use Rattle.fw_bus.proofs.machine.Machine.carry_out.Goals as goal
-
-pub returns-in-Device : goal.returns-in-Device
-returns-in-Device g c =
-    let next = next_device _ _ _ _ _ _ (subst (λ x. IsNext c.args.self.now.expected c.args.self.now.name x) c.in-Device.is c.requires.next) in
-    record { does = rw c.in-Device.is (rw c.copy_of-self.ensures (does_one _ _ _ (declare_turns _ _ next) (rw c.first_reset.ensures.value at c.give.ensures.bytes) c.give.ensures.cause)) }
 
 pub returns-in-Broadcast : goal.returns-in-Broadcast
 returns-in-Broadcast g c =
-    let next = next_broadcast _ _ _ _ _ (subst (λ x. IsNext c.args.self.now.expected c.args.self.now.name x) c.in-Broadcast.is c.requires.next) in
-    record { does = rw c.in-Broadcast.is (rw c.broadcast_job.ensures (does_silent _ _ _ _ (begin_turns _ _ next.0 next.1))) }
+    let may = subst (λ o. MayCarry c.args.self.now o) c.in-Broadcast.is c.requires.may in
+    record { does = rw c.in-Broadcast.is (does_silent _ _ _ _ (begin_turns _ _ _ may.0 may.1 may.2 c.begin_broadcast.ensures)) }
 
-pub returns-in_err-steps-in-Step : goal.returns-in_err-steps-in-Step
-returns-in_err-steps-in-Step g c = record { does = rw c.in-Step.is (does_cut (EndSteps ∷ []) (Err _) _ refl c.from_residual.ensures.0 c.in_err-steps-in-Step.ensures.does) }
-
-pub returns-in_ok-steps-in-Step : goal.returns-in_ok-steps-in-Step
-returns-in_ok-steps-in-Step g c =
-    let next = next_step _ _ _ _ (subst (λ x. IsNext c.args.self.now.expected c.args.self.now.name x) c.in-Step.is c.requires.next) in
-    record { does = rw c.in-Step.is (does_then (Ok _) c.in_ok-steps-in-Step.ensures.does (does_silent _ _ _ _ (end_steps_turns _ (c.steps.ensures.expected ∙ next)))) }
+pub returns-in-Show : goal.returns-in-Show
+returns-in-Show g c =
+    let may = subst (λ o. MayCarry c.args.self.now o) c.in-Show.is c.requires.may in
+    record { does = rw c.in-Show.is (does_one _ _ _ (show_turns _ _ _ _ may.0 may.1 may.3) (rw c.shown_entry.ensures.value at c.give.ensures.bytes) c.give.ensures.cause) }
 
 pub returns-in-End : goal.returns-in-End
-returns-in-End g c =
-    let next = next_end _ _ (subst (λ x. IsNext c.args.self.now.expected c.args.self.now.name x) c.in-End.is c.requires.next) in
-    record { does = rw c.in-End.is (does_one _ _ _ (finish_turns _ next) c.give-in-End.ensures.bytes c.give-in-End.ensures.cause) }
+returns-in-End g c = record { does = rw c.in-End.is (does_one _ _ _ (finish_turns _) c.give-in-End.ensures.bytes c.give-in-End.ensures.cause) }

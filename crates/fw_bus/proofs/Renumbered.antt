@@ -1,0 +1,184 @@
+-- A bus reset keeps what nodes keep against the account.
+use Rattle.std.proofs.Common.{◌≡◌, ℕ, ◌<◌, ◌≤◌, List, [], ◌∷◌, length, map, get_or, slice_index, cond, Option, Some, None, is_some, refl, ap, sym, subst, ◌∙◌, arith, IsTrue}
+use Rattle.std.proofs.lemmas.Bool.{false≢true}
+use Rattle.std.proofs.lemmas.List.{get_or-replicate, get_or_append_left, length-map, length-replicate, ext_get_or}
+use Rattle.std.proofs.lemmas.List as Lists
+use Rattle.std.proofs.Math.ListN as Plain
+use Rattle.fw_base.specs.Tables.{at_plug}
+use Rattle.fw_base.specs.declared.device.DeviceKind.{DeviceKind}
+use Rattle.fw_base.specs.declared.device.DeviceKind.TheVariants.{Relay}
+use Rattle.fw_base.specs.Devices.{output_plugs_of, input_plugs_of}
+use Rattle.fw_log.specs.declared.entry.ResetEntry.{ResetEntry}
+use Rattle.fw_plug.specs.Plugs.{disconnected, first_out_word, first_in_word}
+use Rattle.fw_plug.specs.Words.{out_word, in_word}
+use Rattle.fw_csr.specs.Manager.{initial_words}
+use Rattle.fw_ledger.specs.Account.{Account}
+use Rattle.fw_ledger.specs.Events.{after_reset}
+use Rattle.fw_ledger.specs.Network.{declared, speed_of}
+use Rattle.fw_ledger.specs.Words.{OutputPlug, InputPlug, word_of, node_of}
+use Rattle.fw_ledger.proofs.Resets.{reset_remainder, reset_channels}
+use Rattle.fw_tree.specs.Cables.{IsOnBus}
+use Rattle.fw_tree.specs.SelfIds.{facts_at}
+use Rattle.fw_tree.specs.Topology.{Topology}
+use Rattle.fw_node.specs.State.{NodeState, HasSpace}
+use Rattle.fw_node.specs.State as Nodes
+use Rattle.fw_devices.specs.Network.{Network, kind_at, kinds_of, node_at}
+use Rattle.fw_devices.specs.Entries.{node_number, is_number}
+use Rattle.fw_devices.specs.Resets.{IsReset, Shows, numbered}
+use Rattle.fw_run.specs.State.{State, number_in, is_on, manager_in, with_device}
+use Rattle.fw_run.specs.Spaces.{space_at}
+use Rattle.fw_run.specs.Run.{after_reset_entry}
+use Rattle.fw_run.specs.Good.{IsGood, IsLatest}
+use Rattle.fw_bus.specs.Stands.{IsNodeAt, HasNodes}
+use Rattle.fw_bus.proofs.Latest.{on_declared, on_number, number_is}
+use Rattle.fw_bus.proofs.Resets.{first_fields, first_input_fields, first_out_cleared, first_in_cleared, output_there, input_there, output_not_there, input_not_there, output_kept, input_kept, output_declared, input_declared}
+
+-- the same account, and the kinds of the devices that were declared; there may be more devices and cables
+pub record Extends (s t : State) : Type 0 where
+  pub account : t.account ≡ s.account
+  pub kinds : (d : ℕ) → d < length s.names → kind_at t.kinds d ≡ kind_at s.kinds d
+
+pub extends_declared : (s : State) (name : List ℕ) (kind : DeviceKind) (ports speed : ℕ) → IsGood s → Extends s (with_device s name kind ports speed)
+extends_declared s name kind ports speed g = record { account = refl; kinds = λ d lt. get_or_append_left s.kinds (kind ∷ []) Relay d (let named = g.named in let same = g.kinds.size in omega arith) }
+
+pub extends_cabled : (s : State) (t : Topology) → Extends s (record s { topology = t })
+extends_cabled s t = record { account = refl; kinds = λ d lt. refl }
+
+-- ---- the manager
+
+-- its registers are as at first
+reset_manager : (s : State) (e : ResetEntry) (d k : ℕ) → cond (is_number e.manager k) (Some initial_words) None ≡ (space_at (after_reset_entry s e) d k).manager
+reset_manager s e d k =
+    let bandwidth = sym (reset_remainder e s.account) in
+    let high = sym (reset_channels e s.account 0) in
+    let low = sym (reset_channels e s.account 32) in
+    λ i. cond (is_number e.manager k) (Some (record { bus_manager_id = 0x3F; bandwidth_available = bandwidth i; channels_available_hi = high i; channels_available_lo = low i })) None
+
+-- ---- the words of a device that was a node
+
+kept_output : (s0 s : State) (e : ResetEntry) (d n k : ℕ) → IsGood s0 → Extends s0 s → number_in s.account.latest d ≡ Some n → k < output_plugs_of (kind_at s.kinds d)
+    → disconnected (word_of s.account (OutputPlug (at_plug d k))) ≡ word_of (after_reset e s.account) (OutputPlug (at_plug d k))
+kept_output s0 s e d n k g x at lt =
+    let before : number_in s0.account.latest d ≡ Some n = sym (ap (λ (l : Account). number_in l.latest d) x.account) ∙ at in
+    let kind : output_plugs_of (kind_at s.kinds d) ≡ output_plugs_of (kind_at s0.kinds d) = ap output_plugs_of (x.kinds d (on_declared s0 d n g before)) in
+    let was = output_there s0 d n k g before (omega arith) in
+    let P : Account → Type 0 = λ l. disconnected (word_of l (OutputPlug (at_plug d k))) ≡ word_of (after_reset e l) (OutputPlug (at_plug d k)) in
+    subst P (sym x.account) (output_kept s0.account e (at_plug d k) (g.sound.counts (at_plug d k)).0 (g.sound.settings_fit (at_plug d k) was) was)
+
+kept_input : (s0 s : State) (e : ResetEntry) (d n k : ℕ) → IsGood s0 → Extends s0 s → number_in s.account.latest d ≡ Some n → k < input_plugs_of (kind_at s.kinds d)
+    → disconnected (word_of s.account (InputPlug (at_plug d k))) ≡ word_of (after_reset e s.account) (InputPlug (at_plug d k))
+kept_input s0 s e d n k g x at lt =
+    let before : number_in s0.account.latest d ≡ Some n = sym (ap (λ (l : Account). number_in l.latest d) x.account) ∙ at in
+    let kind : input_plugs_of (kind_at s.kinds d) ≡ input_plugs_of (kind_at s0.kinds d) = ap input_plugs_of (x.kinds d (on_declared s0 d n g before)) in
+    let was = input_there s0 d n k g before (omega arith) in
+    let P : Account → Type 0 = λ l. disconnected (word_of l (InputPlug (at_plug d k))) ≡ word_of (after_reset e l) (InputPlug (at_plug d k)) in
+    subst P (sym x.account) (input_kept s0.account e (at_plug d k) (g.sound.counts (at_plug d k)).1 (g.sound.channels_fit (at_plug d k) was) was)
+
+-- ---- those of a new one
+
+new_output : (s0 s : State) (e : ResetEntry) (d n k : ℕ) → IsGood s0 → Extends s0 s → Shows s.topology s.kinds e → number_in s.account.latest d ≡ None → node_number e.nodes d ≡ Some n
+    → disconnected (first_out_word (facts_at s.topology.devices d).speed) ≡ word_of (after_reset e s.account) (OutputPlug (at_plug d k))
+new_output s0 s e d n k g x shows off at =
+    let before : number_in s0.account.latest d ≡ None = sym (ap (λ (l : Account). number_in l.latest d) x.account) ∙ off in
+    let not_there = output_not_there s0 d k g before in
+    let P : Account → Type 0 = λ l. word_of (after_reset e l) (OutputPlug (at_plug d k)) ≡ out_word (first_fields (declared e (at_plug d k)).rate) in
+    let now : word_of (after_reset e s.account) (OutputPlug (at_plug d k)) ≡ out_word (first_fields (declared e (at_plug d k)).rate) = subst P (sym x.account) (output_declared s0.account e (at_plug d k) not_there) in
+    let speed : (declared e (at_plug d k)).rate ≡ (facts_at s.topology.devices d).speed = ap (λ m. speed_of m e.ids) (number_is (Some e) d n at) ∙ shows.speeds d n at in
+    let low : (facts_at s.topology.devices d).speed < 4 = let w = shows.network.speeds n in let v = shows.speeds d n at in omega arith in
+    first_out_cleared (facts_at s.topology.devices d).speed low ∙ ap (λ rate. out_word (first_fields rate)) (sym speed) ∙ sym now
+
+new_input : (s0 s : State) (e : ResetEntry) (d k : ℕ) → IsGood s0 → Extends s0 s → number_in s.account.latest d ≡ None → disconnected first_in_word ≡ word_of (after_reset e s.account) (InputPlug (at_plug d k))
+new_input s0 s e d k g x off =
+    let before : number_in s0.account.latest d ≡ None = sym (ap (λ (l : Account). number_in l.latest d) x.account) ∙ off in
+    let P : Account → Type 0 = λ l. word_of (after_reset e l) (InputPlug (at_plug d k)) ≡ in_word first_input_fields in
+    first_in_cleared ∙ sym (subst P (sym x.account) (input_declared s0.account e (at_plug d k) (input_not_there s0 d k g before)))
+
+-- ---- one device
+
+cleared_at : (words : List ℕ) (k : ℕ) → k < length words → slice_index (map disconnected words) k ≡ disconnected (slice_index words k)
+cleared_at words k lt = Lists.get_or-map disconnected words k 0 0 lt
+
+-- the node that a device is by the entry
+renumbered : (s0 s : State) (e : ResetEntry) (d k : ℕ) (n : NodeState) (o : Option ℕ) → IsGood s0 → Extends s0 s → Shows s.topology s.kinds e → node_number e.nodes d ≡ Some k → number_in s.account.latest d ≡ o → IsNodeAt o s d n
+    → HasSpace (Nodes.after_reset k (is_number e.manager k) n) (space_at (after_reset_entry s e) d k)
+renumbered s0 s e d k n None g x shows at was is = let P : NodeState → Type 0 = λ n. HasSpace (Nodes.after_reset k (is_number e.manager k) n) (space_at (after_reset_entry s e) d k) in subst P (sym is) fresh
+  where
+    rate : ℕ
+    rate = (facts_at s.topology.devices d).speed
+
+    outs : ℕ
+    outs = output_plugs_of (kind_at s.kinds d)
+
+    ins : ℕ
+    ins = input_plugs_of (kind_at s.kinds d)
+
+    fresh : HasSpace (Nodes.after_reset k (is_number e.manager k) (Nodes.first_state (kind_at s.kinds d) d rate)) (space_at (after_reset_entry s e) d k)
+    fresh = record {
+      number = refl;
+      kind = refl;
+      device = refl;
+      rate = refl;
+      outputs = length-map _ disconnected ∙ length-replicate outs (first_out_word rate);
+      inputs = length-map _ disconnected ∙ length-replicate ins first_in_word;
+      output_words = λ j lt. cleared_at _ j (let size = length-replicate outs (first_out_word rate) in omega arith) ∙ ap disconnected (get_or-replicate outs j (first_out_word rate) 0 lt) ∙ new_output s0 s e d k j g x shows was at;
+      input_words = λ j lt. cleared_at _ j (let size = length-replicate ins first_in_word in omega arith) ∙ ap disconnected (get_or-replicate ins j first_in_word 0 lt) ∙ new_input s0 s e d j g x was;
+      manager = reset_manager s e d k;
+    }
+renumbered s0 s e d k n (Some m) g x shows at was is = record {
+  number = refl;
+  kind = is.kind;
+  device = is.device;
+  rate = is.rate;
+  outputs = length-map n.plugs.outputs disconnected ∙ is.outputs;
+  inputs = length-map n.plugs.inputs disconnected ∙ is.inputs;
+  output_words = λ j lt. cleared_at n.plugs.outputs j (let size = is.outputs in omega arith) ∙ ap disconnected (is.output_words j lt) ∙ kept_output s0 s e d m j g x was lt;
+  input_words = λ j lt. cleared_at n.plugs.inputs j (let size = is.inputs in omega arith) ∙ ap disconnected (is.input_words j lt) ∙ kept_input s0 s e d m j g x was lt;
+  manager = reset_manager s e d k;
+}
+
+-- ---- the whole
+
+-- a device that is on the bus stays on it where walks along the cables stay
+pub stays_on : (s : State) (t : Topology) (kinds : List DeviceKind) (e : ResetEntry) → IsGood s → Shows t kinds e → length s.topology.devices ≤ length t.devices → ((d : ℕ) → IsOnBus s.topology.cables d → IsOnBus t.cables d)
+    → (d : ℕ) → IsTrue (is_on s d) → IsTrue (is_some (node_number e.nodes d))
+stays_on s t kinds e g shows more walks d on = go s.account.latest g.latest on
+  where
+    low : d < length s.topology.devices
+    low = let declared = on_declared s d (node_of s.account.latest d) g (on_number s d on) in let named = g.named in omega arith
+
+    go : (o : Option ResetEntry) → IsLatest o s → IsTrue (is_some (number_in o d)) → IsTrue (is_some (node_number e.nodes d))
+    go None h on = absurd (false≢true on)
+    go (Some x) h on = (shows.nodes d (omega (arith, low))).1 (walks d ((h.1.nodes d low).0 on))
+
+-- Where each device that is on the bus is on it by the entry too, the nodes of its bus reset are those of the account after it.
+pub nodes_reset : (old new : Network) (s0 s : State) (initiator : ℕ) (e : ResetEntry) → IsGood s0 → Extends s0 s → HasNodes old.nodes s → IsReset old new initiator e → Shows s.topology s.kinds e
+    → ((d : ℕ) → IsTrue (is_on s d) → IsTrue (is_some (node_number e.nodes d))) → HasNodes new.nodes (after_reset_entry s e)
+nodes_reset old new s0 s initiator e g x h r shows stays = record {
+  size = r.size ∙ h.size;
+  each = λ d lt. let size = r.size in let low : d < length old.nodes = omega arith in
+      let P : NodeState → Type 0 = IsNodeAt (node_number e.nodes d) (after_reset_entry s e) d in subst P (sym (r.nodes d low)) (go d (node_number e.nodes d) refl (number_in s.account.latest d) refl (h.each d low));
+}
+  where
+    go : (d : ℕ) (now : Option ℕ) → node_number e.nodes d ≡ now → (was : Option ℕ) → number_in s.account.latest d ≡ was → IsNodeAt was s d (node_at old.nodes d)
+        → IsNodeAt now (after_reset_entry s e) d (numbered now e.manager (node_at old.nodes d))
+    go d None at None was is = is
+    go d None at (Some m) was is = absurd (false≢true (sym (ap is_some at) ∙ stays d (ap is_some was)))
+    go d (Some k) at o was is = renumbered s0 s e d k (node_at old.nodes d) o g x shows at was is
+
+-- the manager is the one that the entry shows
+pub manager_reset : (old new : Network) (initiator : ℕ) (e : ResetEntry) → IsReset old new initiator e → new.manager ≡ manager_in (Some e)
+manager_reset old new initiator e r = r.manager
+
+-- each device stays of its kind
+pub kinds_reset : (old new : Network) (initiator : ℕ) (e : ResetEntry) → IsReset old new initiator e → kinds_of new.nodes ≡ kinds_of old.nodes
+kinds_reset old new initiator e r = ext_get_or Relay (kinds_of new.nodes) (kinds_of old.nodes) (length-map new.nodes (λ (n : NodeState). n.kind) ∙ r.size ∙ sym (length-map old.nodes (λ (n : NodeState). n.kind))) each
+  where
+    stays : (o manager : Option ℕ) (n : NodeState) → (numbered o manager n).kind ≡ n.kind
+    stays None manager n = refl
+    stays (Some k) manager n = refl
+
+    each : (d : ℕ) → d < length (kinds_of new.nodes) → get_or (kinds_of new.nodes) d Relay ≡ get_or (kinds_of old.nodes) d Relay
+    each d lt =
+        let low : d < length old.nodes = omega (arith, r.size, length-map new.nodes (λ (n : NodeState). n.kind)) in
+        Plain.get_or-map (λ (n : NodeState). n.kind) new.nodes d (Nodes.first_state Relay 0 0) ∙ ap (λ (n : NodeState). n.kind) (r.nodes d low) ∙ stays (node_number e.nodes d) e.manager (node_at old.nodes d)
+        ∙ sym (Plain.get_or-map (λ (n : NodeState). n.kind) old.nodes d (Nodes.first_state Relay 0 0))
