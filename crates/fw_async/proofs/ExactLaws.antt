@@ -1,10 +1,10 @@
 -- What a reader makes of a piece is the only thing that it can be.
-use Rattle.std.proofs.Common.{◌≡◌, inl, inr, ℕ, ◌+◌, ◌-◌, ◌≤◌, ◌<◌, List, [], ◌++◌, length, take, drop, Option, Some, None, Result, Ok, Err, OnErr, arith, refl, ap, sym, subst, ◌∙◌, append-nil, length-append}
+use Rattle.std.proofs.Common.{◌≡◌, inl, inr, ℕ, ◌+◌, ◌-◌, ◌≤◌, ◌<◌, List, [], ◌++◌, length, take, drop, Option, Some, None, Result, Ok, Err, IfErr, arith, refl, ap, sym, subst, ◌∙◌, append-nil, length-append}
 use Rattle.std.proofs.lemmas.Bool.{cases_lt}
 use Rattle.std.proofs.lemmas.List.{take_all, length-take-le}
 use Rattle.fw_async.specs.Async.{spelling, Fits}
 use Rattle.fw_async.specs.Reading.{IsPending, fault_of, need}
-use Rattle.fw_async.specs.Reader.{State, Feeds, FeedsTo, Spells, EndsPacket, ShowsFault, EndsNothing, BeginsNoPacket}
+use Rattle.fw_async.specs.Reader.{State, Feeds, FeedsTo, Spells, EndsPacket, ShowsFault, EndsNothing, IsRefused}
 use Rattle.fw_async.specs.declared.PacketFault.{PacketFault}
 use Rattle.fw_async.specs.declared.packet.Packet.{Packet}
 use Rattle.fw_async.specs.declared.reader.Fed.{Fed}
@@ -96,13 +96,16 @@ gives_none old piece (Err f) new h n =
     let clear : fault_of (old ++ take (h.0.0 + 1) piece) ≡ None = n.no_fault (h.0.0 + 1) (omega (arith, h.0.1.within)) in
     cc (h.0.1.shown)
 
--- where a fault is answered, no packet begins with what came
-pub gives_no_packet : (old piece : List ℕ) (r : Result Fed PacketFault) (new : State) → Feeds old piece r new → OnErr r (BeginsNoPacket (old ++ piece))
+-- where a fault is answered, no packet begins with the bytes up to the one that shows it
+pub gives_no_packet : (old piece : List ℕ) (r : Result Fed PacketFault) (new : State) → Feeds old piece r new → IfErr r (IsRefused old piece)
 gives_no_packet old piece (Ok fed) new h = tt
-gives_no_packet old piece (Err f) new h =
-    let shown : fault_of (old ++ take (length piece) piece) ≡ Some f = stays old piece (h.0.0 + 1) (length piece) f (omega (arith, h.0.1.within)) h.0.1.shown in
-    let all : fault_of (old ++ piece) ≡ Some f = ap (λ t. fault_of (old ++ t)) (sym (take_all (length piece) piece (omega arith))) ∙ shown in
-    record { none = λ p more s. cc (fault_stays (old ++ piece) more f all, clear_from_spells p ((old ++ piece) ++ more) s) }
+gives_no_packet old piece (Err f) new h = record {
+  at = h.0.0;
+  shows = h.0.1;
+  no_packet_begins = record {
+    none = λ p more s. cc (fault_stays (old ++ take (h.0.0 + 1) piece) more f h.0.1.shown, clear_from_spells p ((old ++ take (h.0.0 + 1) piece) ++ more) s);
+  };
+}
 
 -- no packet's spelling begins with another's
 pub spelled_alone : (p q : Packet) (more : List ℕ) → Fits p → Fits q → spelling q ≡ spelling p ++ more → (q ≡ p) × (more ≡ [])

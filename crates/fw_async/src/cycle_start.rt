@@ -7,7 +7,7 @@ use crate::header::{head_at, offset_at};
 use crate::packet::Packet;
 use fw_words::quadlet_at;
 
-pub fn cycle_start_at(bytes: &[u8]) -> Packet
+pub fn cycle_start_at<'a>(bytes: &'a [u8]) -> Packet<'a>
     requires { IsComplete 8 bytes.now }
     ensures { ReadsAs 8 bytes.now result }
 {

@@ -1,17 +1,24 @@
-//! Quadlets 0 to 2.
+//! Quadlets 0 to 2, written in front of all others and read from there.
 
-ghost use Rattle.std.specs.Prelude.{◌≡◌, ◌≤◌, ◌<◌, ◌+◌, ◌/◌, ◌%◌, ◌^◌, [], length};
+ghost use Rattle.std.specs.Prelude.{◌≡◌, ◌≤◌, ◌<◌, ◌+◌, ◌/◌, ◌%◌, ◌^◌, ◌++◌, [], length, flat_map};
+ghost use Rattle.std.specs.Int.{to_be_bytes, w32};
 ghost use Rattle.fw_words.specs.Quadlet.{field, quadlet_at};
 ghost use Rattle.fw_words.specs.Layout.{packed};
-ghost use Rattle.fw_async.specs.Async.{bytes_of, request, response, head_fields, HeadFits};
+ghost use Rattle.fw_async.specs.Async.{request, response, head_fields, HeadFits};
 ghost use Rattle.fw_async.specs.Tcode.{code_of};
 ghost use Rattle.fw_async.specs.Reading.{tcode_of};
 
-use crate::buffer::push_quadlet;
 use crate::packet::Head;
 use crate::tcode::Tcode;
-use arrayvec::ArrayVec;
-use fw_words::{quadlet_at, with_field};
+use fw_words::{Bytes16, Quadlet, put_quadlet, quadlet_at, with_field};
+
+/// Appends a quadlet.
+pub fn push_quadlet(out: &mut Bytes16, q: u32)
+    requires { length out.old + 4 ≤ 16 }
+    ensures { out.new ≡ out.old ++ to_be_bytes w32 q }
+{
+    out.append(&put_quadlet(Quadlet(q)));
+}
 
 fn first_quadlet(tcode: Tcode, h: &Head) -> u32
     requires { HeadFits h.now }
@@ -24,10 +31,10 @@ fn first_quadlet(tcode: Tcode, h: &Head) -> u32
 }
 
 /// The first three quadlets of a request, in place of what `out` held.
-pub fn begin_request(tcode: Tcode, h: &Head, offset: u64, out: &mut ArrayVec<u8, 528>)
+pub fn begin_request(tcode: Tcode, h: &Head, offset: u64, out: &mut Bytes16)
     requires head { HeadFits h.now }
     requires offset { offset < 2 ^ 48 }
-    ensures { out.new.items ≡ bytes_of (request (code_of tcode) h.now offset [] []) }
+    ensures { out.new ≡ flat_map (to_be_bytes w32) (request (code_of tcode) h.now offset [] []).quadlets }
 {
     out.clear();
     push_quadlet(out, first_quadlet(tcode, h));
@@ -36,10 +43,10 @@ pub fn begin_request(tcode: Tcode, h: &Head, offset: u64, out: &mut ArrayVec<u8,
 }
 
 /// The first three quadlets of a response, in place of what `out` held.
-pub fn begin_response(tcode: Tcode, h: &Head, rcode: u8, out: &mut ArrayVec<u8, 528>)
+pub fn begin_response(tcode: Tcode, h: &Head, rcode: u8, out: &mut Bytes16)
     requires head { HeadFits h.now }
     requires rcode { rcode < 2 ^ 4 }
-    ensures { out.new.items ≡ bytes_of (response (code_of tcode) h.now rcode [] []) }
+    ensures { out.new ≡ flat_map (to_be_bytes w32) (response (code_of tcode) h.now rcode [] []).quadlets }
 {
     out.clear();
     push_quadlet(out, first_quadlet(tcode, h));

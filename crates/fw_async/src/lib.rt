@@ -7,13 +7,13 @@
 //! That a block has at most 512 bytes of data is this project's choice, as is the size of a vendor-dependent lock.
 #![tactic(auto)]
 
-mod buffer;
 mod cycle_start;
 mod data;
 mod faults;
 mod header;
 mod lock;
 mod packet;
+mod pieces;
 mod read;
 mod reader;
 mod tcode;
@@ -23,8 +23,9 @@ mod write;
 mod writer;
 
 pub use packet::{Head, Packet};
-pub use reader::{Fed, PacketReader};
-pub use writer::write_packet;
+pub use pieces::PacketReader;
+pub use reader::{Fed, read_packet};
+pub use writer::{append_packet, packet_length, write_packet};
 
 /// Why bytes are no packet. The variants that one quadlet can show are tested in this order, and each comes as
 /// soon as the quadlet that shows it has been read; `BadPadding` as soon as its byte has.

@@ -27,7 +27,7 @@ pub fn is_reply_size(len: u32) -> bool
     len == 0 || len == 4 || len == 8
 }
 
-pub fn lock_at(bytes: &[u8]) -> Packet
+pub fn lock_at<'a>(bytes: &'a [u8]) -> Packet<'a>
     requires { IsComplete 9 bytes.now }
     ensures { ReadsAs 9 bytes.now result }
 {
@@ -39,7 +39,7 @@ pub fn lock_at(bytes: &[u8]) -> Packet
     }
 }
 
-pub fn lock_reply_at(bytes: &[u8]) -> Packet
+pub fn lock_reply_at<'a>(bytes: &'a [u8]) -> Packet<'a>
     requires { IsComplete 11 bytes.now }
     ensures { ReadsAs 11 bytes.now result }
 {

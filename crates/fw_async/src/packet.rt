@@ -1,4 +1,4 @@
-use fw_words::{Bytes8, Bytes16, Bytes512};
+use fw_words::{Bytes8, Bytes16, Data};
 
 /// What each packet begins with.
 #[derive(Clone, Copy, Debug, PartialEq, Eq)]
@@ -16,9 +16,10 @@ pub struct Head {
 }
 
 /// A packet. An `offset` is a destination_offset of 48 bits, an `rcode` a response code of 4 bits. The `bytes` of
-/// a lock are its argument (where it has one) and then its data value; those of a lock response the old value.
+/// a lock are its argument (where it has one) and then its data value; those of a lock response the old value. The
+/// data of a block lies elsewhere, so that a packet is a few words, whatever it carries.
 #[derive(Debug, PartialEq, Eq, Drop)]
-pub enum Packet {
+pub enum Packet<'a> {
     /// Write request for data quadlet, tcode 0.
     WriteQuadlet {
         head: Head,
@@ -29,7 +30,7 @@ pub enum Packet {
     WriteBlock {
         head: Head,
         offset: u64,
-        bytes: Bytes512,
+        bytes: Data<'a>,
     },
     /// Write response, tcode 2.
     WriteReply {
@@ -57,7 +58,7 @@ pub enum Packet {
     ReadBlockReply {
         head: Head,
         rcode: u8,
-        bytes: Bytes512,
+        bytes: Data<'a>,
     },
     /// Cycle start, tcode 8: `time` is CYCLE_TIME.
     CycleStart {

@@ -3,12 +3,12 @@
 ghost use Rattle.std.specs.Prelude.{◌≡◌};
 ghost use Rattle.fw_async.specs.Reading.{IsComplete, ReadsAs};
 
-use crate::data::{data_at, length_at};
+use crate::data::{block_at, length_at};
 use crate::header::{head_at, offset_at, rcode_at};
 use crate::packet::Packet;
 use fw_words::quadlet_at;
 
-pub fn read_quadlet_at(bytes: &[u8]) -> Packet
+pub fn read_quadlet_at<'a>(bytes: &'a [u8]) -> Packet<'a>
     requires { IsComplete 4 bytes.now }
     ensures { ReadsAs 4 bytes.now result }
 {
@@ -18,7 +18,7 @@ pub fn read_quadlet_at(bytes: &[u8]) -> Packet
     }
 }
 
-pub fn read_block_at(bytes: &[u8]) -> Packet
+pub fn read_block_at<'a>(bytes: &'a [u8]) -> Packet<'a>
     requires { IsComplete 5 bytes.now }
     ensures { ReadsAs 5 bytes.now result }
 {
@@ -29,7 +29,7 @@ pub fn read_block_at(bytes: &[u8]) -> Packet
     }
 }
 
-pub fn read_quadlet_reply_at(bytes: &[u8]) -> Packet
+pub fn read_quadlet_reply_at<'a>(bytes: &'a [u8]) -> Packet<'a>
     requires { IsComplete 6 bytes.now }
     ensures { ReadsAs 6 bytes.now result }
 {
@@ -40,13 +40,13 @@ pub fn read_quadlet_reply_at(bytes: &[u8]) -> Packet
     }
 }
 
-pub fn read_block_reply_at(bytes: &[u8]) -> Packet
+pub fn read_block_reply_at<'a>(bytes: &'a [u8]) -> Packet<'a>
     requires { IsComplete 7 bytes.now }
     ensures { ReadsAs 7 bytes.now result }
 {
     Packet::ReadBlockReply {
         head: head_at(bytes),
         rcode: rcode_at(bytes),
-        bytes: data_at(bytes),
+        bytes: block_at(bytes),
     }
 }

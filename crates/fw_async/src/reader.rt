@@ -1,12 +1,11 @@
-ghost use Rattle.std.specs.Prelude.{ℕ, ◌≡◌, ◌≤◌, ◌<◌, ◌+◌, ◌-◌, ◌++◌, [], length, take, IsTrue, ◌↔◌, IfSome, IfNone, OnErr};
+ghost use Rattle.std.specs.Prelude.{ℕ, ◌≡◌, ◌≤◌, ◌<◌, ◌+◌, ◌-◌, length, take};
 ghost use Rattle.fw_async.specs.Tcode.{code_of};
 ghost use Rattle.fw_async.specs.Reading.{IsComplete, ReadsAs, IsPending, fault_of, need};
-ghost use Rattle.fw_async.specs.Reader.{Spells, TakesPart, Feeds, EndsNothing, BeginsNoPacket};
+ghost use Rattle.fw_async.specs.Reader.{Spells, Reads};
 ghost use Rattle.fw_async.specs.declared.PacketFault.{PacketFault};
 ghost use Rattle.fw_async.specs.declared.packet.Packet.{Packet};
 
 use crate::PacketFault;
-use crate::buffer::append;
 use crate::cycle_start::cycle_start_at;
 use crate::faults::{least_length, tcode_at};
 use crate::lock::{lock_at, lock_reply_at};
@@ -14,19 +13,17 @@ use crate::packet::Packet;
 use crate::read::{read_block_at, read_block_reply_at, read_quadlet_at, read_quadlet_reply_at};
 use crate::tcode::Tcode;
 use crate::write::{write_block_at, write_quadlet_at, write_reply_at};
-use arrayvec::ArrayVec;
-use std::marker::Model;
 
 /// What a piece gave.
 #[derive(Debug, PartialEq, Eq, Drop)]
-pub struct Fed {
+pub struct Fed<'a> {
     /// How many of its bytes were taken: those up to the packet's end, or all.
     pub used: usize,
     /// The packet that ended with them.
-    pub packet: Option<Packet>,
+    pub packet: Option<Packet<'a>>,
 }
 
-fn packet_of_kind(tcode: Tcode, bytes: &[u8]) -> Packet
+fn packet_of_kind<'a>(tcode: Tcode, bytes: &'a [u8]) -> Packet<'a>
     requires { IsComplete (code_of tcode) bytes.now }
     ensures { ReadsAs (code_of tcode) bytes.now result }
 {
@@ -45,7 +42,7 @@ fn packet_of_kind(tcode: Tcode, bytes: &[u8]) -> Packet
 }
 
 // The packet whose bytes are all there and show no fault.
-fn packet_at(bytes: &[u8]) -> Packet
+fn packet_at<'a>(bytes: &'a [u8]) -> Packet<'a>
     requires clear { fault_of bytes.now ≡ None }
     requires complete { length bytes.now ≡ need bytes.now }
     ensures { Spells result bytes.now }
@@ -56,107 +53,46 @@ fn packet_at(bytes: &[u8]) -> Packet
     }
 }
 
-/// Reads packets from bytes that come in any pieces. It keeps the bytes since the last packet and the fault that it
-/// answered, and takes no memory besides.
-#[derive(Debug, Drop)]
-pub struct PacketReader {
-    taken: ArrayVec<u8, 528>,
-    need: usize,
-    fault: Option<PacketFault>,
+fn at_most(count: usize, limit: usize) -> usize
+    ensures { result ≡ count - (count - limit) }
+{
+    if count < limit { count } else { limit }
 }
 
-impl Model for PacketReader {
-    ghost use Rattle.fw_async.specs.Reader.{State, HoldsPending};
-
-    ghost Value = { State };
-
-    ghost view = { λ r. record { taken = r.taken.items; fault = r.fault } };
-
-    ghost invariant = { λ r. HoldsPending r.taken.items r.need r.fault };
+// A packet that ends in the bytes, a part of one, or the first fault.
+fn read_front<'a>(bytes: &'a [u8]) -> Result<Fed<'a>, PacketFault>
+    ensures { Reads bytes.now result }
+{
+    let mut end = 0;
+    let mut need = 12;
+    while end < bytes.len() {
+        let next = at_most(need, bytes.len());
+        let front = &bytes[..next];
+        let least = match least_length(front) {
+            Ok(least) => least,
+            Err(fault) => return Err(fault),
+        };
+        if least <= next {
+            return Ok(Fed {
+                used: next,
+                packet: Some(packet_at(front)),
+            });
+        }
+        end = next;
+        need = least;
+    }
+    Ok(Fed {
+        used: end,
+        packet: None,
+    })
 }
 
-impl PacketReader {
-    /// No byte was taken.
-    pub fn new() -> Self
-        ensures { result ≡ record { taken = []; fault = None } }
-    {
-        PacketReader {
-            taken: ArrayVec::new(),
-            need: 12,
-            fault: None,
-        }
-    }
-
-    /// No byte of a packet was taken since the last packet. After a fault it is false.
-    pub fn is_between(&self) -> bool
-        ensures { IsTrue result ↔ (self.now.taken ≡ []) }
-    {
-        self.taken.is_empty()
-    }
-
-    // Takes bytes that do not go past the packet's end.
-    fn take_part(&mut self, part: &[u8]) -> Result<Option<Packet>, PacketFault>
-        requires fresh { self.old.fault ≡ None }
-        requires within { length self.old.taken + length part.now ≤ need self.old.taken }
-        ensures { TakesPart self.old.taken part.now result self.new }
-    {
-        append(&mut self.taken, part);
-        match least_length(self.taken.as_slice()) {
-            Err(fault) => {
-                self.fault = Some(fault);
-                Err(fault)
-            }
-            Ok(need) => {
-                if self.taken.len() < need {
-                    self.need = need;
-                    return Ok(None);
-                }
-                let packet = packet_at(self.taken.as_slice());
-                self.taken.clear();
-                self.need = 12;
-                Ok(Some(packet))
-            }
-        }
-    }
-
-    // Takes bytes up to the end of one packet, where no fault was answered.
-    fn feed_fresh(&mut self, piece: &[u8]) -> Result<Fed, PacketFault>
-        requires fresh { self.old.fault ≡ None }
-        requires pending { IsPending self.old.taken }
-        ensures { Feeds self.old.taken piece.now result self.new }
-    {
-        let mut used = 0;
-        while used < piece.len() {
-            let wanted = self.need - self.taken.len();
-            let end = used + wanted.min(piece.len() - used);
-            match self.take_part(&piece[used..end]) {
-                Ok(None) => used = end,
-                Ok(Some(packet)) => {
-                    return Ok(Fed {
-                        used: end,
-                        packet: Some(packet),
-                    });
-                }
-                Err(fault) => return Err(fault),
-            }
-        }
-        Ok(Fed { used, packet: None })
-    }
-
-    /// Takes bytes up to the end of one packet, or all of the piece where no packet ends in it and no fault shows.
-    /// A fault is answered by the call that takes the last byte of the quadlet, or the padding byte, which shows it:
-    /// no packet begins with the bytes up to there. After it each call answers the same fault and changes nothing.
-    pub fn feed(&mut self, piece: &[u8]) -> Result<Fed, PacketFault>
-        ensures kept { IfSome self.old.fault (λ f. (result ≡ Err f) × (self.new ≡ self.old)) }
-        ensures fresh { IfNone self.old.fault (Feeds self.old.taken piece.now result self.new) }
-        ensures packet { IfNone self.old.fault ((k : ℕ) → (p : Packet) → k ≤ length piece.now → Spells p (self.old.taken ++ take k piece.now) → result ≡ Ok (record { used = k; packet = Some p })) }
-        ensures none { IfNone self.old.fault (EndsNothing self.old.taken piece.now → result ≡ Ok (record { used = length piece.now; packet = None })) }
-        ensures fault { IfNone self.old.fault ((k : ℕ) → (f : PacketFault) → k < length piece.now → IsPending (self.old.taken ++ take k piece.now) → fault_of (self.old.taken ++ take (k + 1) piece.now) ≡ Some f → result ≡ Err f) }
-        ensures no_packet_begins { IfNone self.old.fault (OnErr result (BeginsNoPacket (self.old.taken ++ piece.now))) }
-    {
-        match self.fault {
-            Some(fault) => Err(fault),
-            None => self.feed_fresh(piece),
-        }
-    }
+/// Reads a packet from bytes that are at hand. It takes those up to the packet's end, or all where none ends in them
+/// and no fault shows. A fault is the one of the first byte that shows it: no packet begins with the bytes up to there.
+pub fn read_packet<'a>(bytes: &'a [u8]) -> Result<Fed<'a>, PacketFault>
+    ensures reads { Reads bytes.now result }
+    ensures packet { (k : ℕ) → (p : Packet) → k ≤ length bytes.now → Spells p (take k bytes.now) → result ≡ Ok (record { used = k; packet = Some p }) }
+    ensures fault { (k : ℕ) → (f : PacketFault) → k < length bytes.now → IsPending (take k bytes.now) → fault_of (take (k + 1) bytes.now) ≡ Some f → result ≡ Err f }
+{
+    read_front(bytes)
 }

@@ -1,10 +1,10 @@
-ghost use Rattle.std.specs.Prelude.{◌≡◌, ◌≤◌, ◌<◌, ◌*◌, length};
-ghost use Rattle.fw_async.specs.Async.{Fits};
+//! Packets in both directions, bytes that are none, and packets in pieces of any size.
 
-use crate::buffer::push_quadlet;
-use crate::{Head, Packet, PacketFault, PacketReader, write_packet};
+ghost use Rattle.std.specs.Prelude.{◌≤◌, length};
+
+use crate::{Head, Packet, PacketFault, PacketReader, read_packet, write_packet};
 use arrayvec::ArrayVec;
-use fw_words::{Bytes, Quadlet, put_quadlet};
+use fw_words::{Bytes, Data, Quadlet, put_quadlet};
 use std::process::Abort;
 
 fn bytes_of(words: &[u32]) -> ArrayVec<u8, 528>
@@ -19,7 +19,6 @@ fn bytes_of(words: &[u32]) -> ArrayVec<u8, 528>
 
 fn data<const N: usize>(bytes: &[u8]) -> Bytes<N>
     requires { length bytes.now ≤ N }
-    ensures { result ≡ bytes.now }
 {
     let mut data = Bytes::new();
     data.append(bytes);
@@ -38,21 +37,20 @@ const fn head(destination: u16, tl: u8, source: u16) -> Head {
 }
 
 // The words are read as the packet, and what is read is written as the words.
-fn both_ways(rt: &impl Abort, words: &[u32], packet: Packet)
+fn both_ways(rt: &impl Abort, words: &[u32], packet: &Packet)
     requires { length words.now ≤ 100 }
 {
     let bytes = bytes_of(words);
-    let mut reader = PacketReader::new();
-    let fed = reader.feed(bytes.as_slice()).expect(rt, "no fault");
+    let fed = read_packet(bytes.as_slice()).expect(rt, "no fault");
     assert_eq!(rt; fed.used, bytes.len());
     let read = fed.packet.expect(rt, "a packet");
-    assert_eq!(rt; read, packet);
+    assert!(rt; read == *packet);
     let mut out = ArrayVec::new();
     write_packet(&read, &mut out);
     assert_eq!(rt; out.as_slice(), bytes.as_slice());
 }
 
-// A lock of BANDWIDTH_AVAILABLE (4915 units, 2512 are asked for), its answers, and a fetch_add that is refused.
+// A lock of BANDWIDTH_AVAILABLE (4915 units, 2512 are asked for), its response, and that of a fetch_add that is refused.
 #[test]
 fn locks_both_ways(rt: HostRuntime) {
     both_ways(
@@ -60,7 +58,7 @@ fn locks_both_ways(rt: HostRuntime) {
         &[
             0xffc10190, 0xffc0ffff, 0xf0000220, 0x00080002, 0x00001333, 0x00000963,
         ],
-        Packet::Lock {
+        &Packet::Lock {
             head: head(0xffc1, 0, 0xffc0),
             offset: 0xffff_f000_0220,
             function: 2,
@@ -70,7 +68,7 @@ fn locks_both_ways(rt: HostRuntime) {
     both_ways(
         &rt,
         &[0xffc001b0, 0xffc10000, 0x00000000, 0x00040002, 0x00001333],
-        Packet::LockReply {
+        &Packet::LockReply {
             head: head(0xffc0, 0, 0xffc1),
             rcode: 0,
             function: 2,
@@ -80,7 +78,7 @@ fn locks_both_ways(rt: HostRuntime) {
     both_ways(
         &rt,
         &[0xffc001b0, 0xffc16000, 0x00000000, 0x00000003],
-        Packet::LockReply {
+        &Packet::LockReply {
             head: head(0xffc0, 0, 0xffc1),
             rcode: 6,
             function: 3,
@@ -89,115 +87,108 @@ fn locks_both_ways(rt: HostRuntime) {
     );
 }
 
-// An FCP command and its reply, each answered, and a cycle start.
+// An FCP command and its reply, each answered, a read of oPCR 0, one of an offset that names no register, a block read of
+// the bus name, and a cycle start.
 #[test]
-fn writes_both_ways(rt: HostRuntime) {
-    both_ways(
-        &rt,
-        &[0xffc00500, 0xffc1ffff, 0xf0000b00, 0x0020c375],
-        Packet::WriteQuadlet {
-            head: head(0xffc0, 1, 0xffc1),
-            offset: 0xffff_f000_0b00,
-            value: 0x0020_c375,
-        },
-    );
-    both_ways(
-        &rt,
-        &[0xffc10520, 0xffc00000, 0x00000000],
-        Packet::WriteReply {
-            head: head(0xffc1, 1, 0xffc0),
-            rcode: 0,
-        },
-    );
-    both_ways(
-        &rt,
-        &[
-            0xffc00510, 0xffc1ffff, 0xf0000b00, 0x00050000, 0x01ff30ff, 0x07000000,
-        ],
-        Packet::WriteBlock {
-            head: head(0xffc0, 1, 0xffc1),
-            offset: 0xffff_f000_0b00,
-            bytes: data(&[0x01, 0xff, 0x30, 0xff, 0x07]),
-        },
-    );
-    both_ways(
-        &rt,
-        &[0xffff008f, 0xffc3ffff, 0xf0000200, 0x02001000],
-        Packet::CycleStart {
-            head: Head {
-                destination: 0xffff,
-                tl: 0,
-                rt: 0,
-                pri: 15,
-                source: 0xffc3,
+fn packets_both_ways(rt: HostRuntime) {
+    let cases: [(&[u32], Packet); 8] = [
+        (
+            &[0xffc00500, 0xffc1ffff, 0xf0000b00, 0x0020c375],
+            Packet::WriteQuadlet {
+                head: head(0xffc0, 1, 0xffc1),
+                offset: 0xffff_f000_0b00,
+                value: 0x0020_c375,
             },
-            offset: 0xffff_f000_0200,
-            time: 0x0200_1000,
-        },
-    );
+        ),
+        (
+            &[0xffc10520, 0xffc00000, 0x00000000],
+            Packet::WriteReply {
+                head: head(0xffc1, 1, 0xffc0),
+                rcode: 0,
+            },
+        ),
+        (
+            &[
+                0xffc00510, 0xffc1ffff, 0xf0000b00, 0x00050000, 0x01ff30ff, 0x07000000,
+            ],
+            Packet::WriteBlock {
+                head: head(0xffc0, 1, 0xffc1),
+                offset: 0xffff_f000_0b00,
+                bytes: Data::new(&[0x01, 0xff, 0x30, 0xff, 0x07]),
+            },
+        ),
+        (
+            &[0xffff008f, 0xffc3ffff, 0xf0000200, 0x02001000],
+            Packet::CycleStart {
+                head: Head {
+                    destination: 0xffff,
+                    tl: 0,
+                    rt: 0,
+                    pri: 15,
+                    source: 0xffc3,
+                },
+                offset: 0xffff_f000_0200,
+                time: 0x0200_1000,
+            },
+        ),
+        (
+            &[0xffc00140, 0xffc0ffff, 0xf0000904],
+            Packet::ReadQuadlet {
+                head: head(0xffc0, 0, 0xffc0),
+                offset: 0xffff_f000_0904,
+            },
+        ),
+        (
+            &[0xffc00160, 0xffc17000, 0x00000000, 0x00000000],
+            Packet::ReadQuadletReply {
+                head: head(0xffc0, 0, 0xffc1),
+                rcode: 7,
+                value: 0,
+            },
+        ),
+        (
+            &[0xffc10150, 0xffc0ffff, 0xf0000404, 0x00060000],
+            Packet::ReadBlock {
+                head: head(0xffc1, 0, 0xffc0),
+                offset: 0xffff_f000_0404,
+                length: 6,
+            },
+        ),
+        (
+            &[
+                0xffc00170, 0xffc10000, 0x00000000, 0x00060000, 0x31333934, 0xe0000000,
+            ],
+            Packet::ReadBlockReply {
+                head: head(0xffc0, 0, 0xffc1),
+                rcode: 0,
+                bytes: Data::new(&[0x31, 0x33, 0x39, 0x34, 0xe0, 0]),
+            },
+        ),
+    ];
+    for (words, packet) in &cases {
+        assert!(rt; words.len() <= 100);
+        both_ways(&rt, words, packet);
+    }
 }
 
-// A read of oPCR 0, one of an offset that names no register, and a block read of the bus name.
-#[test]
-fn reads_both_ways(rt: HostRuntime) {
-    both_ways(
-        &rt,
-        &[0xffc00140, 0xffc0ffff, 0xf0000904],
-        Packet::ReadQuadlet {
-            head: head(0xffc0, 0, 0xffc0),
-            offset: 0xffff_f000_0904,
-        },
-    );
-    both_ways(
-        &rt,
-        &[0xffc00160, 0xffc17000, 0x00000000, 0x00000000],
-        Packet::ReadQuadletReply {
-            head: head(0xffc0, 0, 0xffc1),
-            rcode: 7,
-            value: 0,
-        },
-    );
-    both_ways(
-        &rt,
-        &[0xffc10150, 0xffc0ffff, 0xf0000404, 0x00060000],
-        Packet::ReadBlock {
-            head: head(0xffc1, 0, 0xffc0),
-            offset: 0xffff_f000_0404,
-            length: 6,
-        },
-    );
-    both_ways(
-        &rt,
-        &[
-            0xffc00170, 0xffc10000, 0x00000000, 0x00060000, 0x31333934, 0xe0000000,
-        ],
-        Packet::ReadBlockReply {
-            head: head(0xffc0, 0, 0xffc1),
-            rcode: 0,
-            bytes: data(&[0x31, 0x33, 0x39, 0x34, 0xe0, 0]),
-        },
-    );
-}
-
-// Fed one byte at a time, the words show the fault with the byte at this place and not before; fed whole, they
-// show the same; and after it the reader answers nothing else.
+// Fed one byte at a time, the words show the fault with the byte at this place and not before, and after it the reader
+// answers nothing else; at hand, they show the same.
 fn is_refused(rt: &impl Abort, words: &[u32], place: usize, fault: PacketFault)
     requires { length words.now ≤ 100 }
 {
     let bytes = bytes_of(words);
-    let mut single = PacketReader::new();
+    let mut reader = PacketReader::new();
+    let mut room = Bytes::new();
     for (at, byte) in bytes.as_slice().iter().enumerate() {
-        let fed = single.feed(&[*byte]);
+        let fed = reader.feed(&[*byte], &mut room);
         assert_eq!(rt;
             fed.err(),
             (at >= place).then_some(fault),
             "at byte {at} of {fault:?}"
         );
     }
-    let mut whole = PacketReader::new();
-    assert_eq!(rt; whole.feed(bytes.as_slice()), Err(fault));
-    assert_eq!(rt; whole.feed(&[]), Err(fault));
-    assert!(rt; !whole.is_between());
+    assert!(rt; !reader.is_between());
+    assert_eq!(rt; read_packet(bytes.as_slice()).err(), Some(fault));
 }
 
 #[test]
@@ -224,42 +215,39 @@ fn reserved_codes_and_bits_are_refused(rt: HostRuntime) {
     }
 }
 
+// Sizes, and padding behind a block of five bytes.
 #[test]
-fn sizes_are_refused(rt: HostRuntime) {
-    for (code, size, fault) in [
-        (1, 0x0005_8000, PacketFault::Reserved(112)),
-        (5, 0x0201_0001, PacketFault::Reserved(127)),
-        (1, 0x0201_0000, PacketFault::TooLong(513)),
-        (5, 0xffff_0000, PacketFault::TooLong(0xffff)),
-        (7, 0x0201_0000, PacketFault::TooLong(513)),
-        (9, 0x0009_0000, PacketFault::Reserved(112)),
-        (9, 0x0008_0008, PacketFault::Reserved(112)),
-        (9, 0x0004_0001, PacketFault::BadLength(4)),
-        (9, 0x000c_0002, PacketFault::BadLength(12)),
-        (9, 0x0010_0003, PacketFault::BadLength(16)),
-        (9, 0x0000_0004, PacketFault::BadLength(0)),
-        (9, 0x0004_0005, PacketFault::BadLength(4)),
-        (9, 0x0009_0006, PacketFault::BadLength(9)),
-        (9, 0x0018_0007, PacketFault::BadLength(24)),
-        (11, 0x0000_0100, PacketFault::Reserved(112)),
-        (11, 0x0010_0002, PacketFault::BadLength(16)),
+fn sizes_and_padding_are_refused(rt: HostRuntime) {
+    for (code, size, last, place, fault) in [
+        (1, 0x0005_8000, 0, 15, PacketFault::Reserved(112)),
+        (5, 0x0201_0001, 0, 15, PacketFault::Reserved(127)),
+        (1, 0x0201_0000, 0, 15, PacketFault::TooLong(513)),
+        (5, 0xffff_0000, 0, 15, PacketFault::TooLong(0xffff)),
+        (7, 0x0201_0000, 0, 15, PacketFault::TooLong(513)),
+        (9, 0x0009_0000, 0, 15, PacketFault::Reserved(112)),
+        (9, 0x0008_0008, 0, 15, PacketFault::Reserved(112)),
+        (9, 0x0004_0001, 0, 15, PacketFault::BadLength(4)),
+        (9, 0x000c_0002, 0, 15, PacketFault::BadLength(12)),
+        (9, 0x0010_0003, 0, 15, PacketFault::BadLength(16)),
+        (9, 0x0000_0004, 0, 15, PacketFault::BadLength(0)),
+        (9, 0x0004_0005, 0, 15, PacketFault::BadLength(4)),
+        (9, 0x0009_0006, 0, 15, PacketFault::BadLength(9)),
+        (9, 0x0018_0007, 0, 15, PacketFault::BadLength(24)),
+        (11, 0x0000_0100, 0, 15, PacketFault::Reserved(112)),
+        (11, 0x0010_0002, 0, 15, PacketFault::BadLength(16)),
+        (1, 0x0005_0000, 0x0701_0000, 21, PacketFault::BadPadding(21)),
+        (7, 0x0005_0000, 0x0700_0100, 22, PacketFault::BadPadding(22)),
+        (1, 0x0005_0000, 0x0700_0001, 23, PacketFault::BadPadding(23)),
     ] {
-        is_refused(
-            &rt,
-            &[0xffc00100 | code << 4, 0xffc1_0000, 0, size],
-            15,
-            fault,
-        );
-    }
-}
-
-#[test]
-fn padding_is_refused(rt: HostRuntime) {
-    for (last, place) in [(0x0701_0000, 21), (0x0700_0100, 22), (0x0700_0001, 23)] {
         let words = [
-            0xffc00510, 0xffc1ffff, 0xf0000b00, 0x00050000, 0x01ff30ff, last,
+            0xffc00100 | code << 4,
+            0xffc1_0000,
+            0,
+            size,
+            0x01ff_30ff,
+            last,
         ];
-        is_refused(&rt, &words, place, PacketFault::BadPadding(place as u32));
+        is_refused(&rt, &words, place, fault);
     }
 }
 
@@ -271,13 +259,14 @@ fn any_pieces_give_the_same_packets(rt: HostRuntime) {
         0xffc10000, 0, 0x00040002, 0x00001333, 0xffc00510, 0xffc1ffff, 0xf0000b00, 0x00050000,
         0x01ff30ff, 0x07000000,
     ]);
+    let mut room = Bytes::new();
     for size in [1, 7, 24, 68] {
         let mut reader = PacketReader::new();
         let mut written = ArrayVec::<u8, 528>::new();
         for piece in stream.as_slice().chunks(size) {
             let mut rest = piece;
             for _ in 0..4 {
-                let fed = reader.feed(rest).expect(&rt, "no fault");
+                let fed = reader.feed(rest, &mut room).expect(&rt, "no fault");
                 rest = rest.get(fed.used..).expect(&rt, "used bytes of the piece");
                 let Some(packet) = fed.packet else { break };
                 assert!(rt; reader.is_between());

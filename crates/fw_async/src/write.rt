@@ -3,12 +3,12 @@
 ghost use Rattle.std.specs.Prelude.{◌≡◌};
 ghost use Rattle.fw_async.specs.Reading.{IsComplete, ReadsAs};
 
-use crate::data::data_at;
+use crate::data::block_at;
 use crate::header::{head_at, offset_at, rcode_at};
 use crate::packet::Packet;
 use fw_words::quadlet_at;
 
-pub fn write_quadlet_at(bytes: &[u8]) -> Packet
+pub fn write_quadlet_at<'a>(bytes: &'a [u8]) -> Packet<'a>
     requires { IsComplete 0 bytes.now }
     ensures { ReadsAs 0 bytes.now result }
 {
@@ -19,18 +19,18 @@ pub fn write_quadlet_at(bytes: &[u8]) -> Packet
     }
 }
 
-pub fn write_block_at(bytes: &[u8]) -> Packet
+pub fn write_block_at<'a>(bytes: &'a [u8]) -> Packet<'a>
     requires { IsComplete 1 bytes.now }
     ensures { ReadsAs 1 bytes.now result }
 {
     Packet::WriteBlock {
         head: head_at(bytes),
         offset: offset_at(bytes),
-        bytes: data_at(bytes),
+        bytes: block_at(bytes),
     }
 }
 
-pub fn write_reply_at(bytes: &[u8]) -> Packet
+pub fn write_reply_at<'a>(bytes: &'a [u8]) -> Packet<'a>
     requires { IsComplete 2 bytes.now }
     ensures { ReadsAs 2 bytes.now result }
 {

@@ -1,18 +1,19 @@
-ghost use Rattle.std.specs.Prelude.{◌≡◌, ◌++◌, List, ℕ, [], length, take, drop};
-ghost use Rattle.fw_async.specs.Async.{spelling, Fits};
+//! Packets as bytes: the quadlets at the front, the data, and zeros up to a whole quadlet.
 
-use crate::buffer::push_quadlet;
-use crate::data::push_data;
-use crate::header::{begin_request, begin_response};
+ghost use Rattle.std.specs.Prelude.{◌≡◌, ◌≤◌, ◌+◌, ◌++◌, List, ℕ, [], length, take, drop, flat_map, replicate};
+ghost use Rattle.std.specs.Int.{to_be_bytes, w32};
+ghost use Rattle.fw_async.specs.Async.{parts, padding, size, spelling, Fits};
+
+use crate::header::{begin_request, begin_response, push_quadlet};
 use crate::packet::Packet;
 use crate::tcode::Tcode;
 use arrayvec::ArrayVec;
-use fw_words::with_field;
+use fw_words::{Bytes, Bytes16, with_field};
 
 // Quadlets 0 to 2, in place of what `out` held.
-fn begin_packet(p: &Packet, out: &mut ArrayVec<u8, 528>)
+fn begin_packet(p: &Packet, out: &mut Bytes16)
     requires { Fits p.now }
-    ensures { out.new.items ≡ take 12 (spelling p.now) }
+    ensures { out.new ≡ flat_map (to_be_bytes w32) (take 3 (parts p.now).quadlets) }
 {
     use Packet::*;
     match p {
@@ -33,33 +34,129 @@ fn begin_packet(p: &Packet, out: &mut ArrayVec<u8, 528>)
     }
 }
 
-// Quadlet 3 and the data behind it.
-fn push_rest(p: &Packet, out: &mut ArrayVec<u8, 528>)
+// data_length, and what stands beside it: an extended_tcode, or 0.
+fn size_of(bytes: &[u8], low: u8) -> u32
+    requires { length bytes.now ≤ 512 }
+    ensures { result ≡ size (length bytes.now) low }
+{
+    with_field(bytes.len() as u32, 16, u32::from(low))
+}
+
+// Quadlet 3, where the packet has one.
+fn push_quadlet_3(p: &Packet, out: &mut Bytes16)
     requires fits { Fits p.now }
-    requires begun { length out.old.items ≡ 12 }
-    ensures { out.new.items ≡ out.old.items ++ drop 12 (spelling p.now) }
+    requires begun { length out.old ≡ 12 }
+    ensures { out.new ≡ out.old ++ flat_map (to_be_bytes w32) (drop 3 (parts p.now).quadlets) }
 {
     use Packet::*;
     match p {
         WriteQuadlet { value, .. } => push_quadlet(out, *value),
-        WriteBlock { bytes, .. } => push_data(bytes.as_slice(), 0, out),
+        WriteBlock { bytes, .. } => push_quadlet(out, size_of(bytes.as_slice(), 0)),
         WriteReply { .. } => {}
         ReadQuadlet { .. } => {}
-        ReadBlock { length, .. } => push_quadlet(out, with_field(*length as u32, 16, 0)),
+        ReadBlock { length, .. } => push_quadlet(out, with_field(u32::from(*length), 16, 0)),
         ReadQuadletReply { value, .. } => push_quadlet(out, *value),
-        ReadBlockReply { bytes, .. } => push_data(bytes.as_slice(), 0, out),
+        ReadBlockReply { bytes, .. } => push_quadlet(out, size_of(bytes.as_slice(), 0)),
         CycleStart { time, .. } => push_quadlet(out, *time),
         Lock {
             function,
             bytes,
             ..
-        } => push_data(bytes.as_slice(), u16::from(*function), out),
+        } => push_quadlet(out, size_of(bytes.as_slice(), *function)),
         LockReply {
             function,
             bytes,
             ..
-        } => push_data(bytes.as_slice(), u16::from(*function), out),
+        } => push_quadlet(out, size_of(bytes.as_slice(), *function)),
     }
+}
+
+// The quadlets at the packet's front.
+fn front_of(p: &Packet) -> Bytes16
+    requires { Fits p.now }
+    ensures { result ≡ flat_map (to_be_bytes w32) (parts p.now).quadlets }
+{
+    let mut front = Bytes16::new();
+    begin_packet(p, &mut front);
+    push_quadlet_3(p, &mut front);
+    front
+}
+
+// The data behind the quadlets.
+fn data_of<'a>(p: &'a Packet) -> &'a [u8]
+    requires { Fits p.now }
+    ensures same { result.now ≡ (parts p.now).bytes }
+    ensures few { length result.now ≤ 512 }
+{
+    use Packet::*;
+    match p {
+        WriteBlock { bytes, .. } => bytes.as_slice(),
+        ReadBlockReply { bytes, .. } => bytes.as_slice(),
+        Lock { bytes, .. } => bytes.as_slice(),
+        LockReply { bytes, .. } => bytes.as_slice(),
+        WriteQuadlet { .. } => &[],
+        WriteReply { .. } => &[],
+        ReadQuadlet { .. } => &[],
+        ReadBlock { .. } => &[],
+        ReadQuadletReply { .. } => &[],
+        CycleStart { .. } => &[],
+    }
+}
+
+// The zeros behind so many bytes of data.
+fn padding_of(count: usize) -> &'static [u8]
+    requires { count ≤ 512 }
+    ensures { result.now ≡ replicate (padding count) 0 }
+{
+    &[0; 3][..3 * count % 4]
+}
+
+/// How many bytes the packet takes: 12 to 528, a multiple of four.
+pub fn packet_length(p: &Packet) -> usize
+    requires { Fits p.now }
+    ensures { result ≡ length (spelling p.now) }
+{
+    let data = data_of(p).len();
+    let front = match p {
+        Packet::WriteReply { .. } => 12,
+        Packet::ReadQuadlet { .. } => 12,
+        _ => 16,
+    };
+    front + data + 3 * data % 4
+}
+
+/// Appends a packet's bytes to those that `out` holds, where there is room for them: `packet_length` says how many they
+/// are. The packet's numbers fit their fields, and its data is as long as its kind may have.
+pub fn append_packet<const N: usize>(p: &Packet, out: &mut Bytes<N>)
+    requires fits { Fits p.now }
+    requires room { length out.old + length (spelling p.now) ≤ N }
+    ensures { out.new ≡ out.old ++ spelling p.now }
+{
+    let front = front_of(p);
+    let data = data_of(p);
+    out.append(front.as_slice());
+    out.append(data);
+    out.append(padding_of(data.len()));
+}
+
+fn extend(out: &mut ArrayVec<u8, 528>, more: &[u8])
+    requires { length out.old.items + length more.now ≤ 528 }
+    ensures { out.new.items ≡ out.old.items ++ more.now }
+{
+    let _ = out.try_extend_from_slice(more);
+}
+
+// The packet's bytes, in place of what `out` held.
+fn spell(p: &Packet, out: &mut ArrayVec<u8, 528>)
+    requires { Fits p.now }
+    ensures { out.new.items ≡ spelling p.now }
+{
+    let front = front_of(p);
+    let data = data_of(p);
+    out.clear();
+    extend(out, front.as_slice());
+    extend(out, data);
+    extend(out, padding_of(data.len()));
 }
 
 /// Writes a packet's bytes in place of what `out` held: 12 to 528 bytes, a multiple of four. The packet's numbers
@@ -69,6 +166,5 @@ pub fn write_packet(p: &Packet, out: &mut ArrayVec<u8, 528>)
     ensures spelled { out.new.items ≡ spelling p.now }
     ensures begins_no_other { (q : Packet) → (more : List ℕ) → Fits q → spelling q ≡ out.new.items ++ more → (q ≡ p.now) × (more ≡ []) }
 {
-    begin_packet(p, out);
-    push_rest(p, out);
+    spell(p, out);
 }

@@ -11,7 +11,7 @@ use Rattle.fw_async.specs.declared.packet.Head.{Head}
 use Rattle.fw_async.specs.declared.packet.Packet.{Packet}
 use Rattle.fw_csr.specs.declared.request.Request.{Request}
 use Rattle.fw_csr.specs.Manager.{ManagerWords, after_at, words_after}
-use Rattle.fw_log.specs.declared.entry.ResetEntry.{ResetEntry}
+use Rattle.fw_entry.specs.declared.entry.ResetEntry.{ResetEntry}
 use Rattle.fw_ledger.specs.Words.{node_of, first_address}
 use Rattle.fw_node.specs.Space.{space_after}
 use Rattle.fw_node.specs.Packets.{request_in, response_of}

@@ -2,10 +2,11 @@
 use Rattle.std.proofs.Common.{◌≡◌, ℕ, ◌+◌, ◌-◌, ◌<◌, ◌≤◌, List, [], ◌∷◌, ◌++◌, Option, Some, None, refl, ap, sym, subst, ◌∙◌, append_assoc, append-nil, arith, add-one, zero, suc}
 use Rattle.std.specs.Prelude.{Ok, Err, IsErr}
 use Rattle.std.specs.declared.result.Result.{Result}
-use Rattle.fw_outside.specs.Outside.{HasCause, Grows}
+use Rattle.fw_outside.specs.Outside.{Grows}
+use Rattle.fw_bus.specs.Faults.{CountsFaults}
 use Rattle.fw_outside.proofs.Parts.{Grows-Grows, Grows-nothing}
-use Rattle.fw_log.specs.declared.entry.Entry.{Entry}
-use Rattle.fw_log.specs.Log.{entry_bytes}
+use Rattle.fw_entry.specs.declared.entry.Entry.{Entry}
+use Rattle.fw_entry.specs.Log.{entry_bytes}
 use Rattle.fw_bus.specs.declared.machine.Machine.{Machine}
 use Rattle.fw_run.specs.Giving.{at_cycle, log_bytes, Gives}
 use Rattle.fw_run.specs.Run.{Action, Steps, times}
@@ -13,23 +14,23 @@ use Rattle.fw_run.proofs.Runs.{steps_then, log_append}
 use Rattle.fw_run.proofs.Sounds.{steps_good}
 use Rattle.fw_bus.specs.Stands.{IsReady, Turns, Talks, Does}
 
-cause_then : {U F : Type 0} (k l m : ℕ) (r : Result U F) → k ≤ l → HasCause l m r → HasCause k m r
-cause_then k l m (Ok _) le c = record { later = omega (arith, le, c.later); failed = tt }
-cause_then k l m (Err _) le c = record { later = omega (arith, le, c.later); failed = grind (arith, c.failed, le) }
+faults_then : {U F : Type 0} (k l m : ℕ) (r : Result U F) → l ≡ k → CountsFaults l m r → CountsFaults k m r
+faults_then k l m (Ok _) first c = record { cause = record { later = omega (arith, first, c.same); failed = tt }; same = c.same ∙ first }
+faults_then k l m (Err _) first c = record { cause = record { later = omega (arith, first, c.cause.later); failed = grind (arith, c.cause.failed, first) }; same = tt }
 
 pub does_none : {T E : Type 0} (m : Machine) (held : Option (List ℕ)) (k : ℕ) (u : T) → Does {T = T} {E = E} [] m m held held k k (Ok u)
-does_none m held k u = record { cause = record { later = omega arith; failed = tt }; shown = λ s g st. ([], s, (refl, refl), st, Grows-nothing held) }
+does_none m held k u = record { faults = record { cause = record { later = omega arith; failed = tt }; same = refl }; shown = λ s g st. ([], s, (refl, refl), st, Grows-nothing held) }
 
 -- an action whose entry was written, or cut off
-pub does_one : {T E : Type 0} {a : Action} {m now : Machine} {held after : Option (List ℕ)} {k l : ℕ} (cycle : ℕ) (e : Option Entry) (r : Result T E) → Turns a m now cycle e → Gives held after r cycle e → HasCause k l r → Does (a ∷ []) m now held after k l r
-does_one cycle None (Ok u) turn gives cause = record { cause = cause; shown = λ s g st. let x = turn.shown s g st in ([], x.0, ([], [], x.0, x.1, refl, (refl, refl)), x.2, gives) }
-does_one {held = held} {after} cycle (Some e) (Ok u) turn gives cause = record {
-  cause = cause;
+pub does_one : {T E : Type 0} {a : Action} {m now : Machine} {held after : Option (List ℕ)} {k l : ℕ} (cycle : ℕ) (e : Option Entry) (r : Result T E) → Turns a m now cycle e → Gives held after r cycle e → CountsFaults k l r → Does (a ∷ []) m now held after k l r
+does_one cycle None (Ok u) turn gives faults = record { faults = faults; shown = λ s g st. let x = turn.shown s g st in ([], x.0, ([], [], x.0, x.1, refl, (refl, refl)), x.2, gives) }
+does_one {held = held} {after} cycle (Some e) (Ok u) turn gives faults = record {
+  faults = faults;
   shown = λ s g st. let x = turn.shown s g st in (at_cycle cycle e ∷ [], x.0, (at_cycle cycle e ∷ [], [], x.0, x.1, refl, (refl, refl)), x.2, subst (Grows held after) (sym (append-nil (entry_bytes (at_cycle cycle e)))) gives);
 }
-does_one cycle None (Err u) turn gives cause = absurd gives
-does_one {a = a} cycle (Some e) (Err u) turn gives cause = record {
-  cause = cause;
+does_one cycle None (Err u) turn gives faults = absurd gives
+does_one {a = a} cycle (Some e) (Err u) turn gives faults = record {
+  faults = faults;
   shown = λ s g st. let x = turn.shown s g st in record {
     done = a ∷ [];
     later = [];
@@ -47,14 +48,14 @@ does_one {a = a} cycle (Some e) (Err u) turn gives cause = record {
 
 pub does_then : {T E U F : Type 0} {xs ys : List Action} {m mid now : Machine} {a b c : Option (List ℕ)} {k l n : ℕ} {u : T} (r : Result U F) → Does {T = T} {E = E} xs m mid a b k l (Ok u) → Does ys mid now b c l n r → Does (xs ++ ys) m now a c k n r
 does_then {xs = xs} {ys} {a = a} {b} {c} {k} {l} {n} (Ok w) f g = record {
-  cause = cause_then k l n (Ok w) f.cause.later g.cause;
+  faults = faults_then k l n (Ok w) f.faults.same g.faults;
   shown = λ s good st.
       let x = f.shown s good st in
       let y = g.shown x.1 (steps_good s x.1 xs x.0 good x.2) x.3 in
       (x.0 ++ y.0, y.1, steps_then s x.1 y.1 xs ys x.0 y.0 x.2 y.2, y.3, rw (log_append x.0 y.0) (Grows-Grows a b c (log_bytes x.0) (log_bytes y.0) x.4 y.4));
 }
 does_then {xs = xs} {ys} {a = a} {b} {c} {k} {l} {n} (Err w) f g = record {
-  cause = cause_then k l n (Err w) f.cause.later g.cause;
+  faults = faults_then k l n (Err w) f.faults.same g.faults;
   shown = λ s good st.
       let x = f.shown s good st in
       let y = g.shown x.1 (steps_good s x.1 xs x.0 good x.2) x.3 in
@@ -78,7 +79,7 @@ pub does_cut : {U F V G : Type 0} {xs : List Action} {m now last : Machine} {a b
 does_cut ys (Ok u) r is was f = let no : ⊥ = grind (arith, is) in absurd no
 does_cut ys (Err u) (Ok v) is was f = let no : ⊥ = grind (arith, was) in absurd no
 does_cut ys (Err u) (Err v) is was f = record {
-  cause = record { later = f.cause.later; failed = f.cause.failed };
+  faults = record { cause = record { later = f.faults.cause.later; failed = f.faults.cause.failed }; same = tt };
   shown = λ s good st. let y = f.shown s good st in record {
     done = y.done;
     later = y.later ++ ys;
@@ -100,7 +101,7 @@ ready_after {xs = xs} r f = let x = f.shown r.state r.good r.stands in record { 
 
 -- an action that writes nothing
 pub does_silent : {T E : Type 0} {a : Action} {m now : Machine} (held : Option (List ℕ)) (k cycle : ℕ) (u : T) → Turns a m now cycle None → Does {T = T} {E = E} (a ∷ []) m now held held k k (Ok u)
-does_silent held k cycle u turn = does_one cycle None (Ok u) turn (Grows-nothing held) (record { later = omega arith; failed = tt })
+does_silent held k cycle u turn = does_one cycle None (Ok u) turn (Grows-nothing held) (record { cause = record { later = omega arith; failed = tt }; same = refl })
 
 -- ---- so many times
 
@@ -132,9 +133,9 @@ times_all {E = E} x i n {m = m} {now} {a} {b} {k} {l} {u} e d = subst (λ z. Doe
 
 -- both were written, or the one that was cut off
 pub does_asked : {T E U F : Type 0} {a b : Action} {m now : Machine} {held after : Option (List ℕ)} {k l n : ℕ} {u : T} (mid : Option (List ℕ)) (cycle : ℕ) (e f : Entry) (r : Result U F) → Talks a b m now cycle e f
-    → Gives {T = T} {E = E} held mid (Ok u) cycle (Some e) → HasCause {T = T} {E = E} k l (Ok u) → Gives mid after r cycle (Some f) → HasCause l n r → Does (a ∷ b ∷ []) m now held after k n r
-does_asked {held = held} {after} {k} {l} {n} mid cycle e f (Ok w) talk gives cause given caused = record {
-  cause = cause_then k l n (Ok w) cause.later caused;
+    → Gives {T = T} {E = E} held mid (Ok u) cycle (Some e) → CountsFaults {T = T} {E = E} k l (Ok u) → Gives mid after r cycle (Some f) → CountsFaults l n r → Does (a ∷ b ∷ []) m now held after k n r
+does_asked {held = held} {after} {k} {l} {n} mid cycle e f (Ok w) talk gives faults given also = record {
+  faults = faults_then k l n (Ok w) faults.same also;
   shown = λ s g st. let x = talk.shown s g st in (
     at_cycle cycle e ∷ at_cycle cycle f ∷ [],
     x.1,
@@ -143,8 +144,8 @@ does_asked {held = held} {after} {k} {l} {n} mid cycle e f (Ok w) talk gives cau
     subst (λ z. Grows held after (entry_bytes (at_cycle cycle e) ++ z)) (sym (append-nil (entry_bytes (at_cycle cycle f)))) (Grows-Grows held mid after (entry_bytes (at_cycle cycle e)) (entry_bytes (at_cycle cycle f)) gives given),
   );
 }
-does_asked {a = a} {b} {held = held} {after} {k} {l} {n} mid cycle e f (Err w) talk gives cause given caused = record {
-  cause = cause_then k l n (Err w) cause.later caused;
+does_asked {a = a} {b} {held = held} {after} {k} {l} {n} mid cycle e f (Err w) talk gives faults given also = record {
+  faults = faults_then k l n (Err w) faults.same also;
   shown = λ s g st. let x = talk.shown s g st in record {
     done = a ∷ b ∷ [];
     later = [];
@@ -161,11 +162,11 @@ does_asked {a = a} {b} {held = held} {after} {k} {l} {n} mid cycle e f (Err w) t
 }
 
 -- the request was cut off
-pub does_unasked : {U F V G : Type 0} {a b : Action} {m now : Machine} {held after : Option (List ℕ)} {k l : ℕ} (cycle : ℕ) (e f : Entry) (q : Result U F) (r : Result V G) → Talks a b m now cycle e f → IsErr q → IsErr r → Gives held after q cycle (Some e) → HasCause k l q → Does (a ∷ b ∷ []) m now held after k l r
-does_unasked cycle e f (Ok u) r talk is was gives cause = let no : ⊥ = grind (arith, is) in absurd no
-does_unasked cycle e f (Err w) (Ok v) talk is was gives cause = let no : ⊥ = grind (arith, was) in absurd no
-does_unasked {a = a} {b} cycle e f (Err w) (Err v) talk is was gives cause = record {
-  cause = record { later = cause.later; failed = cause.failed };
+pub does_unasked : {U F V G : Type 0} {a b : Action} {m now : Machine} {held after : Option (List ℕ)} {k l : ℕ} (cycle : ℕ) (e f : Entry) (q : Result U F) (r : Result V G) → Talks a b m now cycle e f → IsErr q → IsErr r → Gives held after q cycle (Some e) → CountsFaults k l q → Does (a ∷ b ∷ []) m now held after k l r
+does_unasked cycle e f (Ok u) r talk is was gives faults = let no : ⊥ = grind (arith, is) in absurd no
+does_unasked cycle e f (Err w) (Ok v) talk is was gives faults = let no : ⊥ = grind (arith, was) in absurd no
+does_unasked {a = a} {b} cycle e f (Err w) (Err v) talk is was gives faults = record {
+  faults = record { cause = record { later = faults.cause.later; failed = faults.cause.failed }; same = tt };
   shown = λ s g st. let x = talk.shown s g st in record {
     done = a ∷ [];
     later = b ∷ [];

@@ -2,8 +2,8 @@
 use Rattle.std.proofs.Common.{◌≡◌, ◌≢◌, ℕ, ◌+◌, ◌<◌, ◌==◌, List, [], ◌∷◌, Bool, true, false, Option, Some, None, cond, eqb, refl, ap, sym, subst, ◌∙◌, arith, length, map, slice_set, IsTrue}
 use Rattle.std.proofs.lemmas.Bool.Decides.{nat_tests}
 use Rattle.fw_csr.specs.declared.request.Request.{Request as NodeRequest}
-use Rattle.fw_log.specs.declared.entry.Entry.{Entry}
-use Rattle.fw_log.specs.declared.entry.Entry.TheVariants.{Async}
+use Rattle.fw_entry.specs.declared.entry.Entry.{Entry}
+use Rattle.fw_entry.specs.declared.entry.Entry.TheVariants.{Async}
 use Rattle.fw_cmp.specs.declared.job.Job.{Job}
 use Rattle.fw_cmp.specs.declared.stage.Stage.{Stage}
 use Rattle.fw_cmp.specs.declared.stage.Stage.TheVariants.{ReadOutput}
@@ -33,7 +33,7 @@ use Rattle.fw_bus.specs.declared.machine.Machine.{Machine}
 use Rattle.fw_bus.specs.Turning.{Turned, TurnedBy, Rests, Asks, Hears, HearsBy, Begins, HasNode, ControllerFits, asking_or_idle, answered_by}
 use Rattle.std.specs.declared.result.Result.{Result}
 use Rattle.fw_base.specs.Devices.{has_link}
-use Rattle.fw_outside.specs.Outside.{HasCause}
+use Rattle.fw_bus.specs.Faults.{CountsFaults}
 use Rattle.fw_run.specs.Giving.{Gives}
 use Rattle.fw_bus.proofs.Doings.{does_one}
 use Rattle.fw_bus.specs.Stands.{StandsFor, HasNodes, IsNodeAt, IsReady, Turns, Does}
@@ -67,10 +67,10 @@ nodes_rest nodes s e g not h = record {
     go d (Some n) is = asks_space s e g not d n (node_at nodes d) is
 
 -- the deck is node 0, and no other device is a node
-lone_number : (o : Option Rattle.fw_log.specs.declared.entry.ResetEntry.ResetEntry) → IsLone o → number_in o 0 ≡ Some 0
+lone_number : (o : Option Rattle.fw_entry.specs.declared.entry.ResetEntry.ResetEntry) → IsLone o → number_in o 0 ≡ Some 0
 lone_number o l = ap (λ x. number_in x 0) l.2
 
-lone_others : (o : Option Rattle.fw_log.specs.declared.entry.ResetEntry.ResetEntry) (d : ℕ) → IsLone o → d ≢ 0 → number_in o d ≡ None
+lone_others : (o : Option Rattle.fw_entry.specs.declared.entry.ResetEntry.ResetEntry) (d : ℕ) → IsLone o → d ≢ 0 → number_in o d ≡ None
 lone_others o d l ne = ap (λ x. number_in x d) l.2 ∙ (let test : eqb 0 d ≡ false = grind (arith, nat_tests, ne) in rw test refl)
 
 -- a controller that hears: the deck's own node has answered
@@ -289,6 +289,6 @@ turned_steps m now e d t = (turned_keeps (bumped m) now e (d == 0) t).0
 
 -- the entry of a half step was written, or cut off
 pub half_does : {T E : Type 0} {held after : Option (List ℕ)} {k l : ℕ} (m now : Machine) (e : Option Entry) (d : ℕ) (r : Result T E) → m.half_steps < 4000000 → TurnedBy (d == 0) (bumped m) now e
-    → Gives held after r now.cycle e → HasCause k l r → Does (HalfStep d ∷ []) m now held after k l r
-half_does {held = held} {after} m now e d r few turned gives cause =
-    does_one m.cycle e r (half_turns m now e d few turned) (subst (λ c. Gives held after r c e) (turned_keeps (bumped m) now e (d == 0) turned).1 gives) cause
+    → Gives held after r now.cycle e → CountsFaults k l r → Does (HalfStep d ∷ []) m now held after k l r
+half_does {held = held} {after} m now e d r few turned gives faults =
+    does_one m.cycle e r (half_turns m now e d few turned) (subst (λ c. Gives held after r c e) (turned_keeps (bumped m) now e (d == 0) turned).1 gives) faults

@@ -14,7 +14,7 @@ use Rattle.fw_csr.specs.declared.request.Request.TheVariants as Asks
 use Rattle.fw_csr.specs.Requests.{offset_of}
 use Rattle.fw_csr.specs.Replies.{reply}
 use Rattle.fw_csr.specs.Manager.{ManagerWords}
-use Rattle.fw_log.specs.declared.entry.ResetEntry.{ResetEntry}
+use Rattle.fw_entry.specs.declared.entry.ResetEntry.{ResetEntry}
 use Rattle.fw_ledger.specs.Words.{Register, BandwidthAvailable, ChannelsAvailable, OutputPlug, InputPlug, word_of, node_of, first_address}
 use Rattle.fw_tree.specs.declared.facts.PhyFacts.{PhyFacts}
 use Rattle.fw_tree.specs.SelfIds.{facts_at}

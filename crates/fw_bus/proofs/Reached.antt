@@ -1,6 +1,6 @@
 -- The state of a run is good, so a machine that stands for one is ready.
 use Rattle.std.proofs.Common.{List}
-use Rattle.fw_log.specs.declared.entry.Timed.{Timed}
+use Rattle.fw_entry.specs.declared.entry.Timed.{Timed}
 use Rattle.fw_script.specs.declared.command.Command.{Command}
 use Rattle.fw_run.specs.State.{State, first_state}
 use Rattle.fw_run.specs.Run.{Action, Run}

@@ -8,13 +8,14 @@ use Rattle.fw_base.specs.Tables.{at_plug}
 use Rattle.fw_base.specs.declared.device.DeviceKind.{DeviceKind}
 use Rattle.fw_base.specs.declared.device.DeviceKind.TheVariants.{Relay}
 use Rattle.fw_base.specs.Devices.{output_plugs_of, input_plugs_of}
-use Rattle.fw_log.specs.declared.entry.ResetEntry.{ResetEntry}
+use Rattle.fw_entry.specs.declared.entry.ResetEntry.{ResetEntry}
 use Rattle.fw_plug.specs.Plugs.{disconnected, first_out_word, first_in_word}
 use Rattle.fw_plug.specs.Words.{out_word, in_word}
 use Rattle.fw_csr.specs.Manager.{initial_words}
 use Rattle.fw_ledger.specs.Account.{Account}
 use Rattle.fw_ledger.specs.Events.{after_reset}
-use Rattle.fw_ledger.specs.Network.{declared, speed_of}
+use Rattle.fw_entry.specs.Network.{speed_of}
+use Rattle.fw_ledger.specs.Network.{declared}
 use Rattle.fw_ledger.specs.Words.{OutputPlug, InputPlug, word_of, node_of}
 use Rattle.fw_ledger.proofs.Resets.{reset_remainder, reset_channels}
 use Rattle.fw_tree.specs.Cables.{IsOnBus}

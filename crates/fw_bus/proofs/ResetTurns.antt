@@ -4,9 +4,9 @@ use Rattle.std.proofs.lemmas.Bool.Decides.{nat_tests}
 use Rattle.std.proofs.lemmas.List.{length-append, map-append}
 use Rattle.std.specs.declared.result.Result.{Result}
 use Rattle.fw_base.specs.declared.device.DeviceKind.{DeviceKind}
-use Rattle.fw_log.specs.declared.entry.Entry.{Entry}
-use Rattle.fw_log.specs.declared.entry.ResetEntry.{ResetEntry}
-use Rattle.fw_log.specs.declared.entry.Timed.{Timed}
+use Rattle.fw_entry.specs.declared.entry.Entry.{Entry}
+use Rattle.fw_entry.specs.declared.entry.ResetEntry.{ResetEntry}
+use Rattle.fw_entry.specs.declared.entry.Timed.{Timed}
 use Rattle.fw_tree.specs.declared.facts.End.{End}
 use Rattle.fw_tree.specs.declared.facts.PhyFacts.{PhyFacts}
 use Rattle.fw_tree.specs.Cables.{Peers, peer, LeadsTo, Walk, here, along, IsOnBus}
@@ -277,19 +277,19 @@ ready_first {m} r none = r.stands.epoch ∙ go r.state.account.latest refl r.goo
 
 pub reset_does : {T E : Type 0} {held after : Option (List ℕ)} {k l : ℕ} (m now : Machine) (d : ℕ) (r : Result T E) → IsFalse m.began → IsTrue (is_node m.devices.nodes d) → m.devices.epoch < 10000 → GivesReset m now d held after k l r → Does (ResetBus d ∷ []) m now held after k l r
 reset_does {held = held} {after} m now d r quiet node few h =
-    does_one m.cycle (Some h.entry) r (reset_turns m now d h.entry quiet node few h.begins) (subst (λ c. Gives held after r c (Some h.entry)) (ap (λ (z : Machine). z.cycle) h.begins.after) h.gives) h.cause
+    does_one m.cycle (Some h.entry) r (reset_turns m now d h.entry quiet node few h.begins) (subst (λ c. Gives held after r c (Some h.entry)) (ap (λ (z : Machine). z.cycle) h.begins.after) h.gives) h.faults
 
 pub first_does : {T E : Type 0} {held after : Option (List ℕ)} {k l : ℕ} (m now : Machine) (name : List ℕ) (kind : DeviceKind) (ports speed : ℕ) (r : Result T E) → m.devices.names ≡ [] → 1 ≤ ports → ports ≤ 27 → speed ≤ 2 → m.devices.epoch < 10000
     → GivesReset (record m { devices = with_device m.devices name kind ports speed }) now 0 held after k l r → Does (AddDevice name kind ports speed ∷ []) m now held after k l r
 first_does {held = held} {after} m now name kind ports speed r none some most fast few h =
-    does_one m.cycle (Some h.entry) r (first_turns m now name kind ports speed h.entry none some most fast few h.begins) (subst (λ c. Gives held after r c (Some h.entry)) (ap (λ (z : Machine). z.cycle) h.begins.after) h.gives) h.cause
+    does_one m.cycle (Some h.entry) r (first_turns m now name kind ports speed h.entry none some most fast few h.begins) (subst (λ c. Gives held after r c (Some h.entry)) (ap (λ (z : Machine). z.cycle) h.begins.after) h.gives) h.faults
 
 pub join_does : {T E : Type 0} {held after : Option (List ℕ)} {k l : ℕ} (m now : Machine) (devices : Network) (a b : End) (x y : Bool) (i : ℕ) (r : Result T E) → IsFalse m.began → is_node m.devices.nodes a.device ≡ x → is_node m.devices.nodes b.device ≡ y
     → IsJoined m.devices.topology devices.topology a b → devices ≡ record m.devices { topology = devices.topology } → m.devices.epoch < 10000
     → ((s : State) (out : List Timed) (t : State) → Resets s i out t → Joins x y a.device b.device s out t) → IsTrue (is_node m.devices.nodes i)
     → GivesReset (record m { devices = devices }) now i held after k l r → Does (AddCable a b ∷ []) m now held after k l r
 join_does {held = held} {after} m now devices a b x y i r quiet on_a on_b j is few joins node h =
-    does_one m.cycle (Some h.entry) r (join_resets m now devices a b x y i h.entry quiet on_a on_b j is few joins node h.begins) (subst (λ c. Gives held after r c (Some h.entry)) (ap (λ (z : Machine). z.cycle) h.begins.after) h.gives) h.cause
+    does_one m.cycle (Some h.entry) r (join_resets m now devices a b x y i h.entry quiet on_a on_b j is few joins node h.begins) (subst (λ c. Gives held after r c (Some h.entry)) (ap (λ (z : Machine). z.cycle) h.begins.after) h.gives) h.faults
 
 -- fewer bus resets than there may be, where the cable begins one
 pub few_of : (on : ℕ → Bool) (a b : End) (epoch : ℕ) (x y : Bool) → on a.device ≡ x → on b.device ≡ y → cond x (not y) y ≡ true → IsFalse (is_joining on a b && nat_le 10000 epoch) → epoch < 10000

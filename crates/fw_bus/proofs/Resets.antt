@@ -8,8 +8,8 @@ use Rattle.fw_base.specs.Tables.{at_plug}
 use Rattle.fw_base.specs.declared.device.DeviceKind.{DeviceKind}
 use Rattle.fw_base.specs.declared.plug.PlugAt.{PlugAt}
 use Rattle.fw_base.specs.Devices.{output_plugs_of, input_plugs_of}
-use Rattle.fw_log.specs.declared.entry.ResetEntry.{ResetEntry}
-use Rattle.fw_log.specs.declared.nodes.NodeRow.{NodeRow}
+use Rattle.fw_entry.specs.declared.entry.ResetEntry.{ResetEntry}
+use Rattle.fw_entry.specs.declared.nodes.NodeRow.{NodeRow}
 use Rattle.fw_plug.specs.Words.{OutFields, out_word, InFields, in_word, FitsRegister, flag}
 use Rattle.fw_plug.specs.Plugs.{disconnected, first_out_word, first_in_word}
 use Rattle.fw_ledger.specs.Account.{Account}

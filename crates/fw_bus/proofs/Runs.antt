@@ -1,8 +1,8 @@
 -- What a call of the bus did, over the runs for whose states it stands.
-use Rattle.std.proofs.Common.{◌≡◌, ℕ, ◌+◌, Bool, List, [], ◌∷◌, ◌++◌, Option, refl, ap, subst, ◌∙◌, IsTrue, IsFalse}
+use Rattle.std.proofs.Common.{◌≡◌, ℕ, ◌+◌, Bool, List, [], ◌∷◌, ◌++◌, Option, refl, ap, sym, subst, ◌∙◌, append-nil, IsTrue, IsFalse}
 use Rattle.std.specs.Prelude.{Ok, Err}
 use Rattle.std.specs.declared.result.Result.{Result}
-use Rattle.fw_log.specs.declared.entry.Timed.{Timed}
+use Rattle.fw_entry.specs.declared.entry.Timed.{Timed}
 use Rattle.fw_script.specs.declared.command.Command.{Command}
 use Rattle.fw_run.specs.declared.order.Order.{Order}
 use Rattle.fw_run.specs.declared.order.Order.TheVariants as Orders
@@ -12,6 +12,7 @@ use Rattle.fw_run.specs.Rules.{DecidedBy, Decides}
 use Rattle.fw_run.specs.Run.{Action, Run, and_then, actions_of, passes}
 use Rattle.fw_run.proofs.Runs.{run_steps, steps_then}
 use Rattle.fw_run.proofs.Sounds.{sound_throughout}
+use Rattle.fw_run.proofs.Logs.{cut_opens, run_spells}
 use Rattle.fw_bus.specs.declared.machine.Machine.{Machine}
 use Rattle.fw_bus.specs.Stands.{StandsFor, Does, view_in, actions_in}
 use Rattle.fw_bus.specs.Buses.{IsReached, Goes, Stops}
@@ -57,6 +58,8 @@ goes {T} {E} {m = m} {now} {a} {b} {k} {l} {u} c o spent un decided d commands a
       stands = x.3;
       grew = x.4;
       sound = sound_throughout (actions ++ actions_of s o) (log ++ x.0) x.1 (run_steps (commands ++ c ∷ []) (actions ++ actions_of s o) (log ++ x.0) x.1 more);
+      opens = λ none. cut_opens commands actions (actions_of s o) [] log x.0 s x.1 o r none (sym (append-nil (actions_of s o))) x.2;
+      whole = λ none end. run_spells commands (actions ++ actions_of s o) (log ++ x.0) x.1 (subst (λ z. Run (commands ++ z ∷ []) (actions ++ actions_of s o) (log ++ x.0) x.1) end more) none;
       fresh = un;
     }
 
@@ -69,6 +72,7 @@ stops {T} {E} {m = m} {now} {mid} {a} {b} {k} {l} {e} c o spent is decided d com
       decided = decided_same m s (run_good r) st c (Ok o) decided;
       cut = x;
       sound = sound_throughout (actions ++ x.done) (log ++ (x.given ++ x.next ∷ [])) x.state (steps_then first_state s x.state actions x.done log (x.given ++ x.next ∷ []) (run_steps commands actions log s r) x.steps);
+      opens = λ none. cut_opens commands actions x.done x.later log (x.given ++ x.next ∷ []) s x.state o r none x.actions_are x.steps;
       spent = is;
     }
 

@@ -1,18 +1,26 @@
 -- Time and the end of the second, of the machine and of the run.
-use Rattle.std.proofs.Common.{◌≡◌, ℕ, ◌+◌, ◌-◌, ◌≤◌, ◌^◌, ◌&&◌, nat_le, List, [], ◌∷◌, true, false, Option, Some, None, cond, refl, ap, sym, subst, ◌∙◌, arith, IsFalse}
+use Rattle.std.proofs.Common.{◌≡◌, ℕ, zero, suc, ◌+◌, ◌-◌, ◌<◌, ◌≤◌, ◌^◌, ◌&&◌, nat_le, length, map, replicate, List, [], ◌∷◌, Bool, true, false, Option, Some, None, cond, refl, ap, sym, subst, ◌∙◌, arith, IsFalse}
 use Rattle.std.proofs.lemmas.Bool.Decides.{nat_tests}
 use Rattle.std.specs.declared.result.Result.{Result}
 use Rattle.std.specs.Prelude.{Ok, IsErr}
+use Rattle.fw_base.specs.declared.device.DeviceKind.{DeviceKind}
+use Rattle.fw_base.specs.Devices.{output_plugs_of, input_plugs_of}
+use Rattle.fw_plug.specs.Plugs.{first_words}
+use Rattle.fw_tree.specs.SelfIds.{facts_at}
+use Rattle.fw_node.specs.State.{NodeState}
+use Rattle.fw_node.specs.State as Nodes
+use Rattle.fw_devices.specs.Network.{kind_at, kinds_of, node_at}
 use Rattle.fw_ledger.specs.Account.{Account}
 use Rattle.fw_ledger.specs.Events.{after_second}
 use Rattle.fw_ledger.specs.Fold.{next_account}
 use Rattle.fw_ledger.specs.Words.{Register, BandwidthAvailable, ChannelsAvailable, OutputPlug, InputPlug, word_of}
 use Rattle.fw_run.specs.Giving.{at_most}
-use Rattle.fw_run.specs.State.{State, entered}
+use Rattle.fw_run.specs.State.{State, entered, number_in}
 use Rattle.fw_run.specs.Run.{Pass, EndSecond, Step, second_over, passes}
 use Rattle.fw_run.specs.Good.{IsGood}
 use Rattle.fw_bus.specs.declared.machine.Machine.{Machine}
-use Rattle.fw_bus.specs.Stands.{StandsFor, IsReady, Turns, Does}
+use Rattle.fw_bus.specs.Stands.{IsNodeAt, HasNodes, StandsFor, IsReady, Turns, Does}
+use Rattle.fw_bus.specs.Turning.{rested}
 use Rattle.fw_bus.proofs.Nodes.{nodes_same}
 use Rattle.fw_bus.proofs.Doings.{does_silent, does_then, does_cut}
 
@@ -49,20 +57,67 @@ same_words l (ChannelsAvailable base) = refl
 same_words l (OutputPlug p) = refl
 same_words l (InputPlug p) = refl
 
-pub second_turns : (m : Machine) → m.reclaiming ≡ true → m.cycle ≡ m.reset_cycle + 8000 → Turns EndSecond m (record m { reclaiming = false }) m.cycle (Some second_over)
+-- no plug lingers in a device that is as it was declared
+none_linger : (n : ℕ) → map (λ (l : Bool). false) (replicate n false) ≡ replicate n false
+none_linger zero = refl
+none_linger (suc n) = ap (λ ls. false ∷ ls) (none_linger n)
+
+first_rests : (kind : DeviceKind) (device rate : ℕ) → Nodes.after_second (Nodes.first_state kind device rate) ≡ Nodes.first_state kind device rate
+first_rests kind device rate =
+    let outputs = none_linger (output_plugs_of kind) in
+    let inputs = none_linger (input_plugs_of kind) in
+    λ i. record (Nodes.first_state kind device rate) { plugs = record (first_words (output_plugs_of kind) (input_plugs_of kind) rate) { lingering_outputs = outputs i; lingering_inputs = inputs i } }
+
+node_rests : (o : Option ℕ) (s : State) (d : ℕ) (n : NodeState) → IsNodeAt o s d n → IsNodeAt o s d (Nodes.after_second n)
+node_rests None s d n is = ap Nodes.after_second is ∙ first_rests (kind_at s.kinds d) d (facts_at s.topology.devices d).speed
+node_rests (Some number) s d n is = record {
+  number = is.number;
+  kind = is.kind;
+  device = is.device;
+  rate = is.rate;
+  outputs = is.outputs;
+  inputs = is.inputs;
+  output_words = is.output_words;
+  input_words = is.input_words;
+  manager = is.manager;
+}
+
+rested_at : (nodes : List NodeState) (d : ℕ) → d < length nodes → node_at (map Nodes.after_second nodes) d ≡ Nodes.after_second (node_at nodes d)
+rested_at [] d lt = absurd (omega (arith, lt))
+rested_at (n ∷ nodes) zero lt = refl
+rested_at (n ∷ nodes) (suc d) lt = rested_at nodes d (omega (arith, lt))
+
+rested_size : (nodes : List NodeState) → length (map Nodes.after_second nodes) ≡ length nodes
+rested_size [] = refl
+rested_size (n ∷ nodes) = ap (λ k. suc k) (rested_size nodes)
+
+rested_kinds : (nodes : List NodeState) → kinds_of (map Nodes.after_second nodes) ≡ kinds_of nodes
+rested_kinds [] = refl
+rested_kinds (n ∷ nodes) = ap (λ ks. n.kind ∷ ks) (rested_kinds nodes)
+
+nodes_rest : (nodes : List NodeState) (s : State) → HasNodes nodes s → HasNodes (map Nodes.after_second nodes) s
+nodes_rest nodes s h = record {
+  size = rested_size nodes ∙ h.size;
+  each = λ d lt.
+      let low : d < length nodes = let size = rested_size nodes in omega (arith, lt, size) in
+      let P : NodeState → Type 0 = IsNodeAt (number_in s.account.latest d) s d in
+      subst P (sym (rested_at nodes d low)) (node_rests (number_in s.account.latest d) s d (node_at nodes d) (h.each d low));
+}
+
+pub second_turns : (m : Machine) → m.reclaiming ≡ true → m.cycle ≡ m.reset_cycle + 8000 → Turns EndSecond m (rested m) m.cycle (Some second_over)
 second_turns m runs at = record { shown = shown_ }
   where
-    shown_ : (s : State) → IsGood s → StandsFor m s → (t : State) × Step s EndSecond (at_most m.cycle (Some second_over)) t × StandsFor (record m { reclaiming = false }) t
+    shown_ : (s : State) → IsGood s → StandsFor m s → (t : State) × Step s EndSecond (at_most m.cycle (Some second_over)) t × StandsFor (rested m) t
     shown_ s g st =
         let running : s.account.reclaiming ≡ true = sym st.reclaiming ∙ runs in
         let over : entered s.account second_over ≡ after_second s.account = (let next : next_account s.account second_over ≡ Some (after_second s.account) = rw running refl in rw next refl) in (
           record s { account = entered s.account second_over },
           (st.answered, (running, sym st.cycle ∙ (at ∙ ap (λ c. c + 8000) st.reset_cycle), ap (λ c. at_most c (Some second_over)) st.cycle, refl)),
-          subst (λ l. StandsFor (record m { reclaiming = false }) (record s { account = l })) (sym over) (record {
+          subst (λ l. StandsFor (rested m) (record s { account = l })) (sym over) (record {
             topology = st.topology;
             names = st.names;
-            kinds = st.kinds;
-            nodes = nodes_same m.devices.nodes s (record s { account = after_second s.account }) (record { names = refl; devices = refl; kinds = refl; latest = refl; bus_manager_id = refl; words = λ r. same_words s.account r }) st.nodes;
+            kinds = rested_kinds m.devices.nodes ∙ st.kinds;
+            nodes = nodes_rest m.devices.nodes (record s { account = after_second s.account }) (nodes_same m.devices.nodes s (record s { account = after_second s.account }) (record { names = refl; devices = refl; kinds = refl; latest = refl; bus_manager_id = refl; words = λ r. same_words s.account r }) st.nodes);
             epoch = st.epoch;
             manager = st.manager;
             cycle = st.cycle;
@@ -116,11 +171,11 @@ end_silent m held k u ready runs few =
     does_silent held k m.cycle u (pass_turns m (at_end m) (m.reset_cycle + 8000 - m.cycle) (subst (λ c. c ≤ 2 ^ 52) (sym same) few) (λ x. subst (λ c. c ≤ m.reset_cycle + 8000) (sym same) (omega arith)) (ap (λ c. record m { cycle = c }) (sym same)))
 
 pub passes_over : {T E : Type 0} (m now : Machine) (n : ℕ) (held after : Option (List ℕ)) (k l : ℕ) (u : T) → IsReady m → m.cycle + n ≤ 2 ^ 52 → m.reclaiming ≡ true → m.reset_cycle + 8000 ≤ m.cycle + n
-    → Does {T = T} {E = E} (EndSecond ∷ []) (at_end m) (record (at_end m) { reclaiming = false }) held after k l (Ok u) → now ≡ record m { cycle = m.cycle + n; reclaiming = false }
+    → Does {T = T} {E = E} (EndSecond ∷ []) (at_end m) (rested (at_end m)) held after k l (Ok u) → now ≡ record (rested m) { cycle = m.cycle + n }
     → Does {T = T} {E = E} (passes m.reclaiming (m.reset_cycle + 8000) m.cycle n) m now held after k l (Ok u)
 passes_over {T} {E} m now n held after k l u ready few runs late ended is =
     let same : m.reset_cycle + 8000 + (m.cycle + n - (m.reset_cycle + 8000)) ≡ m.cycle + n = omega (arith, late) in
-    let last = does_silent {T = T} {E = E} after l (m.reset_cycle + 8000) u (pass_turns (record (at_end m) { reclaiming = false }) now (m.cycle + n - (m.reset_cycle + 8000)) (subst (λ c. c ≤ 2 ^ 52) (sym same) few) (λ x. let no : false ≡ true = x in let bad : ⊥ = cc in absurd bad) (is ∙ ap (λ c. record m { cycle = c; reclaiming = false }) (sym same))) in
+    let last = does_silent {T = T} {E = E} after l (m.reset_cycle + 8000) u (pass_turns (rested (at_end m)) now (m.cycle + n - (m.reset_cycle + 8000)) (subst (λ c. c ≤ 2 ^ 52) (sym same) few) (λ x. let no : false ≡ true = x in let bad : ⊥ = cc in absurd bad) (is ∙ ap (λ c. record (rested m) { cycle = c }) (sym same))) in
     subst (λ z. Does {T = T} {E = E} z m now held after k l (Ok u)) (sym (passes_three m n runs late)) (does_then {T = T} {E = E} (Ok u) (end_silent {T = T} {E = E} m held k u ready runs (omega (arith, few, late))) (does_then {T = T} {E = E} (Ok u) ended last))
 
 pub passes_cut : {T E U F : Type 0} (m mid now : Machine) (n : ℕ) (held after : Option (List ℕ)) (k l : ℕ) (u : T) (q : Result U F) (r : Result T E) → IsReady m → m.cycle + n ≤ 2 ^ 52 → m.reclaiming ≡ true → m.reset_cycle + 8000 ≤ m.cycle + n
@@ -136,5 +191,5 @@ ready_reset r =
     omega (arith, at, small, same)
 
 -- what the machine is behind the end of the second
-pub over_now : (m ended : Machine) (last n : ℕ) → ended ≡ record (at_end m) { reclaiming = false } → last ≡ m.cycle + n → record ended { cycle = last } ≡ record m { cycle = m.cycle + n; reclaiming = false }
-over_now m ended last n is same = ap (λ (x : Machine). record x { cycle = last }) is ∙ ap (λ c. record m { cycle = c; reclaiming = false }) same
+pub over_now : (m ended : Machine) (last n : ℕ) → ended ≡ rested (at_end m) → last ≡ m.cycle + n → record ended { cycle = last } ≡ record (rested m) { cycle = m.cycle + n }
+over_now m ended last n is same = ap (λ (x : Machine). record x { cycle = last }) is ∙ ap (λ c. record (rested m) { cycle = c }) same

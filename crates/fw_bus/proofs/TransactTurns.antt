@@ -3,7 +3,7 @@ use Rattle.std.proofs.Common.{◌≡◌, ℕ, ◌<◌, ◌^◌, List, [], ◌∷
 use Rattle.fw_base.specs.declared.device.DeviceKind.TheVariants.{Deck}
 use Rattle.fw_async.specs.declared.packet.Packet.{Packet}
 use Rattle.fw_csr.specs.declared.request.Request.{Request}
-use Rattle.fw_log.specs.declared.entry.Entry.TheVariants.{Async, End as EndEntry}
+use Rattle.fw_entry.specs.declared.entry.Entry.TheVariants.{Async, End as EndEntry}
 use Rattle.fw_node.specs.Packets.{request_in, response_of}
 use Rattle.fw_node.specs.State.{NodeState, after_request, space_of}
 use Rattle.fw_base.specs.declared.device.DeviceKind.{DeviceKind}

@@ -2,9 +2,11 @@
 use Rattle.std.specs.Prelude.{ℕ, ◌≡◌, List, [], ◌∷◌, ◌++◌, Bool, Option, Some, None, Ok, Err, IsTrue, IsFalse, ⊤}
 use Rattle.std.specs.declared.result.Result.{Result}
 use Rattle.fw_outside.specs.Outside.{Grows}
-use Rattle.fw_log.specs.declared.entry.Timed.{Timed}
+use Rattle.fw_entry.specs.declared.entry.Timed.{Timed}
 use Rattle.fw_node.specs.State.{NodeState, HasSpace}
+use Rattle.fw_entry.specs.Log.{header_bytes, LogOpens, LogSpells}
 use Rattle.fw_script.specs.declared.command.Command.{Command}
+use Rattle.fw_script.specs.declared.command.Command.TheVariants.{End}
 use Rattle.fw_bus.specs.declared.machine.Machine.{Machine}
 use Rattle.fw_run.specs.declared.order.Order.{Order}
 use Rattle.fw_bus.specs.declared.BusFault.{BusFault}
@@ -16,6 +18,7 @@ use Rattle.fw_run.specs.Rules.{Decides}
 use Rattle.fw_run.specs.Run.{Action, Run, Steps, actions_of}
 use Rattle.fw_bus.specs.Stands.{StandsFor, Cut}
 use Rattle.fw_run.specs.Headline.{IsSoundThroughout}
+use Rattle.fw_run.specs.Logs.{HasNoEnd}
 
 -- what a caller sees of a bus
 pub record Standing : Type 0 where
@@ -42,6 +45,9 @@ pub record Goes (commands : List Command) (actions : List Action) (log : List Ti
   pub stands : StandsFor now.machine state
   pub grew : Grows held after (log_bytes out)
   pub sound : IsSoundThroughout (actions ++ actions_of s order) (log ++ out)
+  -- what was written so far is a log, which lacks its end alone until the end of the script
+  pub opens : HasNoEnd commands → LogOpens (log ++ out) (header_bytes ++ log_bytes (log ++ out))
+  pub whole : HasNoEnd commands → c ≡ End → LogSpells (log ++ out) (header_bytes ++ log_bytes (log ++ out))
   pub fresh : IsFalse now.spent
 
 -- it was cut off by the sink: the entries given so far, and a front of the next
@@ -50,6 +56,7 @@ pub record Stops (commands : List Command) (actions : List Action) (log : List T
   pub decided : Decides s c (Ok order)
   pub cut : Cut s (actions_of s order) held after
   pub sound : IsSoundThroughout (actions ++ cut.done) (log ++ (cut.given ++ cut.next ∷ []))
+  pub opens : HasNoEnd commands → LogOpens (log ++ (cut.given ++ cut.next ∷ [])) (header_bytes ++ log_bytes (log ++ (cut.given ++ cut.next ∷ [])))
   pub spent : IsTrue now.spent
 
 abbrev pub Applies : {T : Type 0} → List Command → List Action → List Timed → State → Command → Standing → Option (List ℕ) → Option (List ℕ) → Result T BusFault → Type 0

@@ -1,3 +1,4 @@
+pub mod Faults
 pub mod Turning
 pub mod Stands
 pub mod Buses

@@ -1,13 +1,14 @@
 -- What the bus keeps, against a state of a run, and what a call did.
 use Rattle.std.specs.Prelude.{ℕ, ◌≡◌, ◌+◌, ◌<◌, ◌≤◌, ◌^◌, ◌&&◌, nat_le, List, [], ◌∷◌, ◌++◌, length, Option, Some, None, unwrap_or, Ok, Err, IsTrue, IsFalse, ⊤}
 use Rattle.std.specs.declared.result.Result.{Result}
-use Rattle.fw_outside.specs.Outside.{HasCause, Grows}
+use Rattle.fw_outside.specs.Outside.{Grows}
+use Rattle.fw_bus.specs.Faults.{CountsFaults}
 use Rattle.fw_base.specs.declared.device.DeviceKind.TheVariants.{Deck}
 use Rattle.fw_csr.specs.declared.request.Request.TheVariants as Asks
 use Rattle.fw_csr.specs.declared.reply.Reply.{Reply}
-use Rattle.fw_log.specs.declared.entry.Entry.{Entry}
-use Rattle.fw_log.specs.declared.entry.Timed.{Timed}
-use Rattle.fw_log.specs.Log.{entry_bytes}
+use Rattle.fw_entry.specs.declared.entry.Entry.{Entry}
+use Rattle.fw_entry.specs.declared.entry.Timed.{Timed}
+use Rattle.fw_entry.specs.Log.{entry_bytes}
 use Rattle.fw_tree.specs.SelfIds.{facts_at}
 use Rattle.fw_ledger.specs.Words.{first_address}
 use Rattle.fw_node.specs.Space.{answer_of}
@@ -130,5 +131,5 @@ Ends s actions now held after (Err _) = Cut s actions held after
 
 -- what a call did by these actions, from any good state that the machine stood for
 pub record Does {T E : Type 0} (actions : List Action) (m now : Machine) (held after : Option (List ℕ)) (count counts : ℕ) (result : Result T E) : Type 0 where
-  pub cause : HasCause count counts result
+  pub faults : CountsFaults count counts result
   pub shown : (s : State) → IsGood s → StandsFor m s → Ends s actions now held after result

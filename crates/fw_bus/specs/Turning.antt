@@ -1,19 +1,19 @@
 -- What the code does in one half step, by its own fields.
-use Rattle.std.specs.Prelude.{List, ℕ, ◌≡◌, ◌<◌, Option, Some, None, ⊤, IsTrue, IsSome, length, slice_set, Bool, true, false}
+use Rattle.std.specs.Prelude.{List, ℕ, ◌≡◌, ◌<◌, Option, Some, None, ⊤, IsTrue, IsSome, length, slice_set, Bool, true, false, map}
 use Rattle.std.specs.declared.result.Result.{Result}
-use Rattle.fw_outside.specs.Outside.{HasCause}
+use Rattle.fw_bus.specs.Faults.{CountsFaults}
 use Rattle.fw_base.specs.Devices.{has_link}
 use Rattle.fw_async.specs.declared.packet.Packet.{Packet}
-use Rattle.fw_log.specs.declared.entry.Entry.{Entry}
-use Rattle.fw_log.specs.declared.entry.Entry.TheVariants.{Async, Reset}
-use Rattle.fw_log.specs.declared.entry.ResetEntry.{ResetEntry}
+use Rattle.fw_entry.specs.declared.entry.Entry.{Entry}
+use Rattle.fw_entry.specs.declared.entry.Entry.TheVariants.{Async, Reset}
+use Rattle.fw_entry.specs.declared.entry.ResetEntry.{ResetEntry}
 use Rattle.fw_cmp.specs.declared.job.Job.{Job}
 use Rattle.fw_cmp.specs.declared.stage.Stage.{Stage}
 use Rattle.fw_cmp.specs.declared.stage.Stage.TheVariants.{ReadOutput}
 use Rattle.fw_cmp.specs.declared.request.Request.{Request}
 use Rattle.fw_cmp.specs.Stages.{request_of, hear, JobFits, StageFits}
 use Rattle.fw_node.specs.Packets.{request_in, response_of}
-use Rattle.fw_node.specs.State.{NodeState, after_request, space_of}
+use Rattle.fw_node.specs.State.{NodeState, after_request, after_second, space_of}
 use Rattle.fw_run.specs.declared.order.Transaction.{Transaction}
 use Rattle.fw_run.specs.Spaces.{access_packet, script_head}
 use Rattle.fw_devices.specs.Network.{Network, node_at, is_node}
@@ -107,7 +107,7 @@ pub record GivesReset {T E : Type 0} (m now : Machine) (initiator : ℕ) (held a
   pub entry : Entry
   pub begins : BeginsReset m now initiator entry
   pub gives : Gives held after result now.cycle (Some entry)
-  pub cause : HasCause count counts result
+  pub faults : CountsFaults count counts result
 
 -- ---- transactions of the script
 
@@ -118,3 +118,9 @@ pub record IsRequest (nodes : List NodeState) (x : Transaction) (request : Packe
   pub to_is : (node_at nodes x.to).number ≡ Some to
   pub from_is : (node_at nodes x.from).number ≡ Some from
   pub request_is : request ≡ access_packet (script_head to from) x.access
+
+-- ---- the second
+
+-- the second is over: it no longer runs, and no plug lingers
+abbrev pub rested : Machine → Machine
+rested m = record m { reclaiming = false; devices = record m.devices { nodes = map after_second m.devices.nodes } }

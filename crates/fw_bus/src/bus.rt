@@ -1,8 +1,10 @@
-ghost use Rattle.std.specs.Prelude.{◌≡◌, ◌≤◌, List, IfOk, IfErr, IsFalse, IsTrue};
+ghost use Rattle.std.specs.Prelude.{◌≡◌, ◌≤◌, List, IfOk, IfErr, OnOk, IsFalse, IsTrue};
 ghost use Rattle.std.specs.Option.{option_map};
 ghost use Rattle.fw_outside.specs.Outside.{Rose};
 
-use crate::{BusFault, Machine};
+use crate::BusFault;
+use crate::machine::Machine;
+use fw_entry::EntryRoom;
 use fw_node::Node;
 use fw_outside::{Failed, Sink};
 use fw_script::Command;
@@ -14,6 +16,7 @@ use std::marker::Model;
 pub struct Bus {
     machine: Machine,
     spent: bool,
+    room: EntryRoom,
 }
 
 impl Model for Bus {
@@ -28,7 +31,7 @@ impl Model for Bus {
 }
 
 impl Bus {
-    ghost use Rattle.fw_log.specs.declared.entry.Timed.{Timed as TimedEntry};
+    ghost use Rattle.fw_entry.specs.declared.entry.Timed.{Timed as TimedEntry};
     ghost use Rattle.fw_script.specs.declared.command.Command.{Command as Line};
     ghost use Rattle.fw_run.specs.State.{State, first_state};
     ghost use Rattle.fw_run.specs.Rules.{IsCommand};
@@ -44,6 +47,7 @@ impl Bus {
         Ok(Bus {
             machine: Machine::new(alloc)?,
             spent: false,
+            room: EntryRoom::new(alloc)?,
         })
     }
 
@@ -65,13 +69,14 @@ impl Bus {
 
     /// Carries out a command, and writes what happens. `Refused` comes exactly where a rule holds of the command, with the
     /// first; then nothing is changed or written. Where the sink fails, it holds the entries given so far and a front of the
-    /// next, and the bus is spent.
+    /// next, its count of faults rose, and the bus is spent.
     pub fn apply<K: Sink>(&mut self, c: &Command, sink: &mut K) -> Result<(), BusFault>
         requires spent { IsFalse self.old.spent }
         requires command { IsCommand c.now }
         ensures run { (commands : List Line) (actions : List Action) (log : List TimedEntry) (s : State) → Run commands actions log s → StandsFor self.old.machine s
             → Applies commands actions log s c.now self.new (K.held sink.old) (K.held sink.new) result }
         ensures refused { IfErr result (λ e. WhereRefused e ((self.new ≡ self.old) × (sink.new ≡ sink.old))) }
+        ensures same { OnOk result (K.faults sink.new ≡ K.faults sink.old) }
         ensures failed { IfErr result (λ e. WhereFailed e (IsTrue self.new.spent × Rose (K.faults sink.old) (K.faults sink.new))) }
         ensures later { K.faults sink.old ≤ K.faults sink.new }
     {
@@ -79,7 +84,7 @@ impl Bus {
             Ok(order) => order,
             Err(rule) => return Err(BusFault::Refused(rule)),
         };
-        match self.machine.carry_out(&order, sink) {
+        match self.machine.carry_out(&order, &mut self.room, sink) {
             Ok(()) => Ok(()),
             Err(Failed) => {
                 self.spent = true;

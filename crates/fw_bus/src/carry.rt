@@ -1,20 +1,25 @@
 ghost use Rattle.std.specs.Prelude.{◌≡◌, ◌≤◌, ◌<◌, ◌+◌, ◌^◌, [], ◌∷◌, true, length};
-ghost use Rattle.fw_log.specs.Log.{Fits};
+ghost use Rattle.fw_entry.specs.Log.{Fits};
 ghost use Rattle.fw_run.specs.Run.{HalfStep, times, broadcast_job, shown_entry};
 ghost use Rattle.fw_run.specs.declared.controller.Controller.TheVariants.{Waiting};
 ghost use Rattle.fw_bus.specs.Stands.{Does, IsReady, MayCarry, actions_in};
 
-use crate::Machine;
 use crate::give::give;
+use crate::machine::Machine;
 use fw_base::{ConnectionKind, PlugAt};
 use fw_cmp::Job;
-use fw_log::{Entry, ShownEntry};
+use fw_entry::{Entry, EntryRoom, ShownEntry};
 use fw_outside::{Failed, Sink};
 use fw_run::{Controller, Order};
 
 impl Machine {
     /// One half step of a device's controller, which writes at most one entry.
-    fn half_step<K: Sink>(&mut self, device: u8, sink: &mut K) -> Result<(), Failed>
+    fn half_step<K: Sink>(
+        &mut self,
+        device: u8,
+        room: &mut EntryRoom,
+        sink: &mut K,
+    ) -> Result<(), Failed>
         requires ready { IsReady self.old }
         requires few { self.old.half_steps < 4000000 }
         ensures does { Does (HalfStep device ∷ []) self.old self.new (K.held sink.old) (K.held sink.new) (K.faults sink.old) (K.faults sink.new) result }
@@ -22,17 +27,23 @@ impl Machine {
     {
         self.half_steps += 1;
         let entry = self.turn_of(device);
-        give(self.cycle, entry, sink)
+        give(self.cycle, entry, room, sink)
     }
 
     /// Half steps.
-    fn steps<K: Sink>(&mut self, device: u8, count: u32, sink: &mut K) -> Result<(), Failed>
+    fn steps<K: Sink>(
+        &mut self,
+        device: u8,
+        count: u32,
+        room: &mut EntryRoom,
+        sink: &mut K,
+    ) -> Result<(), Failed>
         requires ready { IsReady self.old }
         requires few { self.old.half_steps + count ≤ 4000000 }
         ensures does { Does (times count (HalfStep device)) self.old self.new (K.held sink.old) (K.held sink.new) (K.faults sink.old) (K.faults sink.new) result }
     {
         for i in 0..count {
-            self.half_step(device, sink)?;
+            self.half_step(device, room, sink)?;
         }
         Ok(())
     }
@@ -46,28 +57,34 @@ impl Machine {
     }
 
     /// Carries an order out, and writes what happens.
-    pub(crate) fn carry_out<K: Sink>(&mut self, order: &Order, sink: &mut K) -> Result<(), Failed>
+    pub(crate) fn carry_out<K: Sink>(
+        &mut self,
+        order: &Order,
+        room: &mut EntryRoom,
+        sink: &mut K,
+    ) -> Result<(), Failed>
         requires ready { IsReady self.old }
         requires may { MayCarry self.old order.now }
         ensures does { Does (actions_in self.old order.now) self.old self.new (K.held sink.old) (K.held sink.new) (K.faults sink.old) (K.faults sink.new) result }
     {
         match order {
             Order::Declare(name, kind, ports, speed) => {
-                self.declare(name, *kind, *ports, *speed, sink)
+                self.declare(name, *kind, *ports, *speed, room, sink)
             }
-            Order::Cable(a, b) => self.join(*a, *b, sink),
-            Order::Reset(device) => self.reset(*device, sink),
+            Order::Cable(a, b) => self.join(*a, *b, room, sink),
+            Order::Reset(device) => self.reset(*device, room, sink),
             Order::Broadcast(overhead) => {
                 self.begin_broadcast(*overhead);
                 Ok(())
             }
-            Order::Step(device, count) => self.steps(*device, *count, sink),
-            Order::Wait(cycles) => self.wait(*cycles, sink),
-            Order::Transact(transaction) => self.transact(*transaction, sink),
+            Order::Step(device, count) => self.steps(*device, *count, room, sink),
+            Order::Wait(cycles) => self.wait(*cycles, room, sink),
+            Order::Transact(transaction) => self.transact(*transaction, room, sink),
             Order::Show(device, offset, word) => {
-                give(self.cycle, Some(shown_entry(*device, *offset, *word)), sink)
+                let entry = shown_entry(*device, *offset, *word);
+                give(self.cycle, Some(entry), room, sink)
             }
-            Order::End => give(self.cycle, Some(Entry::End), sink),
+            Order::End => give(self.cycle, Some(Entry::End), room, sink),
         }
     }
 }
@@ -86,7 +103,7 @@ fn broadcast_job(overhead: u8) -> Job
     }
 }
 
-fn shown_entry(device: u8, offset: u16, word: u32) -> Entry
+fn shown_entry(device: u8, offset: u16, word: u32) -> Entry<'static>
     requires { offset < 2 ^ 12 }
     ensures value { result ≡ shown_entry device offset word }
     ensures fits { Fits result }

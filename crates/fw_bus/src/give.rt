@@ -1,19 +1,24 @@
 ghost use Rattle.std.specs.Prelude.{◌<◌, IfSome};
-ghost use Rattle.fw_outside.specs.Outside.{HasCause};
-ghost use Rattle.fw_log.specs.Log.{Fits};
+ghost use Rattle.fw_bus.specs.Faults.{CountsFaults};
+ghost use Rattle.fw_entry.specs.Log.{Fits};
 ghost use Rattle.fw_run.specs.Giving.{Gives};
 
-use fw_log::{Entry, Timed, write_entry};
+use fw_entry::{Entry, EntryRoom, Timed, write_entry};
 use fw_outside::{Failed, Sink};
 
 /// Writes an entry of this cycle, where there is one.
-pub(crate) fn give<K: Sink>(cycle: u64, entry: Option<Entry>, sink: &mut K) -> Result<(), Failed>
-    requires { IfSome entry Fits }
-    ensures bytes { Gives (K.held sink.old) (K.held sink.new) result cycle entry }
-    ensures cause { HasCause (K.faults sink.old) (K.faults sink.new) result }
+pub(crate) fn give<K: Sink>(
+    cycle: u64,
+    what: Option<Entry<'_>>,
+    room: &mut EntryRoom,
+    sink: &mut K,
+) -> Result<(), Failed>
+    requires { IfSome what Fits }
+    ensures bytes { Gives (K.held sink.old) (K.held sink.new) result cycle what.entry }
+    ensures faults { CountsFaults (K.faults sink.old) (K.faults sink.new) result }
 {
-    match entry {
-        Some(what) => write_entry(&Timed { cycle, what }, sink),
+    match what {
+        Some(what) => write_entry(&Timed { cycle, what }, room, sink),
         None => Ok(()),
     }
 }

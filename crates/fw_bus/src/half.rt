@@ -1,13 +1,14 @@
 ghost use Rattle.std.specs.Prelude.{◌≡◌, ◌==◌, IfSome, Some};
-ghost use Rattle.fw_log.specs.Log.{Fits, OutcomeFits};
+ghost use Rattle.fw_entry.specs.Log.{Fits, OutcomeFits};
 ghost use Rattle.fw_run.specs.Outcomes.{outcome_entry, coded};
 ghost use Rattle.fw_bus.specs.Turning.{ControllerFits, HasNode, Turned, TurnedBy, Asks, Hears, HearsBy};
 ghost use Rattle.fw_cmp.specs.Stages.{request_of};
 
-use crate::Machine;
+use crate::machine::Machine;
 use crate::packets::{request_packet, word_in};
 use fw_cmp::{Job, Outcome, Request, Stage};
-use fw_log::{Entry, OutcomeEntry};
+use fw_entry::codes::outcome;
+use fw_entry::{Entry, OutcomeEntry};
 use fw_run::Controller;
 
 /// The device whose controller and node take part in the procedure: a bus of one deck is all that has one.
@@ -17,7 +18,7 @@ impl Machine {
     ghost use Rattle.fw_run.specs.declared.controller.Controller.TheVariants.{Asking, Hearing};
 
     /// One half step of a device's controller: what it writes, if anything. Only that of device 0 can have a job.
-    pub(crate) fn turn_of(&mut self, device: u8) -> Option<Entry>
+    pub(crate) fn turn_of(&mut self, device: u8) -> Option<Entry<'static>>
         requires fits { ControllerFits self.old.controller }
         requires node { HasNode self.old.devices self.old.controller }
         ensures turned { TurnedBy (device == 0) self.old self.new result }
@@ -31,7 +32,7 @@ impl Machine {
     }
 
     /// One half step of the controller: what it writes, if anything.
-    fn turn(&mut self) -> Option<Entry>
+    fn turn(&mut self) -> Option<Entry<'static>>
         requires fits { ControllerFits self.old.controller }
         requires node { HasNode self.old.devices self.old.controller }
         ensures turned { Turned self.old.controller self.old self.new result }
@@ -52,7 +53,7 @@ impl Machine {
     }
 
     /// Makes the request of a stage, or ends the job.
-    fn ask(&mut self, job: Job, stage: Stage) -> Option<Entry>
+    fn ask(&mut self, job: Job, stage: Stage) -> Option<Entry<'static>>
         requires { ControllerFits (Asking job stage) }
         ensures asks { Asks self.old self.new job stage result }
         ensures entry { IfSome result Fits }
@@ -70,7 +71,7 @@ impl Machine {
     }
 
     /// Has the request that stands carried out, and hears the response.
-    fn hear(&mut self, job: Job, stage: Stage) -> Option<Entry>
+    fn hear(&mut self, job: Job, stage: Stage) -> Option<Entry<'static>>
         requires fits { ControllerFits (Hearing job stage) }
         requires node { HasNode self.old.devices (Hearing job stage) }
         ensures hears { HearsBy (request_of job stage) self.old self.new job stage result }
@@ -81,7 +82,7 @@ impl Machine {
     }
 
     /// The node answers the request, and the controller hears the word.
-    fn exchange(&mut self, request: Request, job: Job, stage: Stage) -> Entry
+    fn exchange(&mut self, request: Request, job: Job, stage: Stage) -> Entry<'static>
         requires fits { ControllerFits (Hearing job stage) }
         requires node { HasNode self.old.devices (Hearing job stage) }
         ensures hears { Hears self.old self.new request job stage (Some result) }
@@ -100,9 +101,9 @@ fn outcome_entry(stage: Stage, cycle: u64) -> OutcomeEntry
     ensures fits { OutcomeFits result }
 {
     let (code, value) = match stage {
-        Stage::OutputConnected(channel) => (1, u32::from(channel)),
+        Stage::OutputConnected(channel) => (outcome::CONNECTED, u32::from(channel)),
         Stage::Ended(outcome) => coded(outcome, cycle),
-        _ => (2, 0),
+        _ => (outcome::BROKEN, 0),
     };
     OutcomeEntry {
         code,
@@ -117,10 +118,10 @@ fn coded(outcome: Outcome, cycle: u64) -> (u8, u32)
     ensures { result ≡ coded outcome cycle }
 {
     match outcome {
-        Outcome::Broken => (2, 0),
-        Outcome::NoChannel(word) => (4, word),
-        Outcome::NoUnits(remainder) => (5, remainder),
-        Outcome::PlugFull(word) => (6, word),
-        Outcome::Late => (12, (cycle % (1 << 32)) as u32),
+        Outcome::Broken => (outcome::BROKEN, 0),
+        Outcome::NoChannel(word) => (outcome::NO_CHANNEL, word),
+        Outcome::NoUnits(remainder) => (outcome::NO_UNITS, remainder),
+        Outcome::PlugFull(word) => (outcome::PLUG_FULL, word),
+        Outcome::Late => (outcome::LATE, (cycle % (1 << 32)) as u32),
     }
 }

@@ -16,14 +16,13 @@ mod second;
 mod transact;
 
 pub use bus::Bus;
-use fw_run::RuleFault;
-pub use machine::Machine;
+pub use fw_run::RuleFault;
 
 /// Why a command was not carried out to its end.
 #[derive(Clone, Copy, Debug, PartialEq, Eq)]
 pub enum BusFault {
     /// A rule forbids the command: nothing is changed or written.
     Refused(RuleFault),
-    /// The sink failed; its count rose. The bus is spent.
+    /// The sink failed, and its count of faults rose. The bus is spent.
     WriteFault,
 }

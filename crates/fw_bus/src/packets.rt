@@ -45,7 +45,7 @@ fn offset_of(register: Register) -> u64
 }
 
 /// The packet of a controller's request.
-pub(crate) fn request_packet(request: Request) -> Packet
+pub(crate) fn request_packet(request: Request) -> Packet<'static>
     ensures value { result ≡ request_packet request }
     ensures fits { Fits result }
     ensures request { IsSome (request_in result) }
@@ -63,7 +63,7 @@ pub(crate) fn request_packet(request: Request) -> Packet
 }
 
 /// The packet of a transaction of the script from one node to another.
-pub(crate) fn access_packet(to: u8, from: u8, access: Access) -> Packet
+pub(crate) fn access_packet(to: u8, from: u8, access: Access) -> Packet<'static>
     requires to { to ≤ 62 }
     requires from { from ≤ 62 }
     requires access { AccessFits access }

@@ -5,14 +5,15 @@ ghost use Rattle.fw_run.specs.Run.{AddDevice, AddCable, ResetBus};
 ghost use Rattle.fw_run.specs.Rules.{CanJoin, is_joining};
 ghost use Rattle.fw_bus.specs.Stands.{Does, IsReady};
 ghost use Rattle.fw_bus.specs.Turning.{BeginsReset, GivesReset};
-ghost use Rattle.fw_log.specs.Log.{Fits};
+ghost use Rattle.fw_entry.specs.Log.{ResetFits};
+ghost use Rattle.fw_entry.specs.declared.entry.Entry.TheVariants.{Reset};
 ghost use Rattle.fw_tree.specs.Cables.{IsOnBus};
 ghost use Rattle.fw_devices.specs.Network.{is_node};
 
-use crate::Machine;
 use crate::give::give;
+use crate::machine::Machine;
 use fw_base::DeviceKind;
-use fw_log::Entry;
+use fw_entry::{Entry, EntryRoom};
 use fw_outside::{Failed, Sink};
 use fw_script::Name;
 use fw_tree::End;
@@ -20,38 +21,53 @@ use fw_tree::End;
 impl Machine {
     /// A bus reset (IEEE 1394-1995, bus reset): the nodes are numbered anew, and the second begins, but for the first one,
     /// before which nothing can have been connected (own).
-    fn begin_reset(&mut self, initiator: u8) -> Entry
+    fn begin_reset(&mut self, initiator: u8)
         requires declared { initiator < length self.old.devices.nodes }
         requires on { IsOnBus self.old.devices.topology.cables initiator }
         requires few { self.old.devices.epoch < 10000 }
-        ensures begins { BeginsReset self.old self.new initiator result }
-        ensures fits { Fits result }
+        ensures begins { BeginsReset self.old self.new initiator (Reset self.new.devices.latest) }
+        ensures fits { ResetFits self.new.devices.latest }
     {
         self.reclaiming = self.devices.node(0).is_some();
         self.reset_cycle = self.cycle;
-        Entry::Reset(self.devices.reset(initiator))
+        self.devices.reset(initiator);
     }
 
     /// A bus reset, whose entry is written.
-    fn give_reset<K: Sink>(&mut self, initiator: u8, sink: &mut K) -> Result<(), Failed>
+    fn give_reset<K: Sink>(
+        &mut self,
+        initiator: u8,
+        room: &mut EntryRoom,
+        sink: &mut K,
+    ) -> Result<(), Failed>
         requires declared { initiator < length self.old.devices.nodes }
         requires on { IsOnBus self.old.devices.topology.cables initiator }
         requires few { self.old.devices.epoch < 10000 }
         ensures { GivesReset self.old self.new initiator (K.held sink.old) (K.held sink.new) (K.faults sink.old) (K.faults sink.new) result }
     {
-        let entry = self.begin_reset(initiator);
-        give(self.cycle, Some(entry), sink)
+        self.begin_reset(initiator);
+        give(
+            self.cycle,
+            Some(Entry::Reset(self.devices.latest())),
+            room,
+            sink,
+        )
     }
 
     /// A bus reset that a device on the bus begins.
-    pub(crate) fn reset<K: Sink>(&mut self, device: u8, sink: &mut K) -> Result<(), Failed>
+    pub(crate) fn reset<K: Sink>(
+        &mut self,
+        device: u8,
+        room: &mut EntryRoom,
+        sink: &mut K,
+    ) -> Result<(), Failed>
         requires ready { IsReady self.old }
         requires quiet { IsFalse self.old.began }
         requires on { IsTrue (is_node self.old.devices.nodes device) }
         requires few { self.old.devices.epoch < 10000 }
         ensures does { Does (ResetBus device ∷ []) self.old self.new (K.held sink.old) (K.held sink.new) (K.faults sink.old) (K.faults sink.new) result }
     {
-        self.give_reset(device, sink)
+        self.give_reset(device, room, sink)
     }
 
     /// A device more. The first begins the first bus reset; each other is off.
@@ -61,6 +77,7 @@ impl Machine {
         kind: DeviceKind,
         ports: u8,
         speed: u8,
+        room: &mut EntryRoom,
         sink: &mut K,
     ) -> Result<(), Failed>
         requires ready { IsReady self.old }
@@ -73,14 +90,20 @@ impl Machine {
         let is_first = self.devices.count() == 0;
         self.devices.add(name, kind, ports, speed);
         if is_first {
-            self.give_reset(0, sink)
+            self.give_reset(0, room, sink)
         } else {
             Ok(())
         }
     }
 
     /// A cable more. Where it joins a device that is off to the bus, the end that was on the bus begins a bus reset (own).
-    pub(crate) fn join<K: Sink>(&mut self, a: End, b: End, sink: &mut K) -> Result<(), Failed>
+    pub(crate) fn join<K: Sink>(
+        &mut self,
+        a: End,
+        b: End,
+        room: &mut EntryRoom,
+        sink: &mut K,
+    ) -> Result<(), Failed>
         requires ready { IsReady self.old }
         requires quiet { IsFalse self.old.began }
         requires free { CanJoin self.old.devices.topology a b }
@@ -91,8 +114,8 @@ impl Machine {
         let second_is_on = self.is_on(b.device);
         self.devices.join(a, b);
         match (first_is_on, second_is_on) {
-            (true, false) => self.give_reset(a.device, sink),
-            (false, true) => self.give_reset(b.device, sink),
+            (true, false) => self.give_reset(a.device, room, sink),
+            (false, true) => self.give_reset(b.device, room, sink),
             _ => Ok(()),
         }
     }

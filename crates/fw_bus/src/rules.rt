@@ -6,7 +6,7 @@ ghost use Rattle.fw_run.specs.Rules.{IsCommand, DecidedBy, JoinDecided};
 ghost use Rattle.fw_devices.specs.Network.{is_node};
 ghost use Rattle.fw_bus.specs.Stands.{view_in, MayCarry};
 
-use crate::Machine;
+use crate::machine::Machine;
 use fw_base::DeviceKind;
 use fw_run::{Access, Order, RuleFault};
 use fw_script::{Command, Name};
@@ -58,7 +58,7 @@ impl Machine {
         if self.devices.count() >= 63 {
             return Err(RuleFault::TooMany);
         }
-        Ok(Order::Declare(name.copied(), kind_with(kind), ports, speed))
+        Ok(Order::Declare(*name, kind_with(kind), ports, speed))
     }
 
     fn decide_cable(&self, a: &(Name, u8), b: &(Name, u8)) -> Result<Order, RuleFault>

@@ -9,11 +9,11 @@ ghost use Rattle.fw_devices.specs.Network.{is_node, node_at};
 ghost use Rattle.fw_bus.specs.Stands.{Does, IsReady, view_in};
 ghost use Rattle.fw_bus.specs.Turning.{IsRequest};
 
-use crate::Machine;
 use crate::give::give;
+use crate::machine::Machine;
 use crate::packets::access_packet;
 use fw_async::Packet;
-use fw_log::Entry;
+use fw_entry::{Entry, EntryRoom};
 use fw_outside::{Failed, Sink};
 use fw_run::Transaction;
 
@@ -31,7 +31,7 @@ impl Machine {
     }
 
     /// The request packet of a transaction.
-    fn request(&self, transaction: Transaction) -> Packet
+    fn request(&self, transaction: Transaction) -> Packet<'static>
         requires from { IsTrue (is_node self.now.devices.nodes transaction.from) }
         requires to { IsTrue (is_node self.now.devices.nodes transaction.to) }
         requires access { AccessFits transaction.access }
@@ -48,6 +48,7 @@ impl Machine {
     pub(crate) fn transact<K: Sink>(
         &mut self,
         transaction: Transaction,
+        room: &mut EntryRoom,
         sink: &mut K,
     ) -> Result<(), Failed>
         requires ready { IsReady self.old }
@@ -59,7 +60,7 @@ impl Machine {
     {
         let request = self.request(transaction);
         let response = self.devices.answer(transaction.to, self.cycle, &request);
-        give(self.cycle, Some(Entry::Async(request)), sink)?;
-        give(self.cycle, Some(Entry::Async(response)), sink)
+        give(self.cycle, Some(Entry::Async(request)), room, sink)?;
+        give(self.cycle, Some(Entry::Async(response)), room, sink)
     }
 }

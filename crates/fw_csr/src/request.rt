@@ -2,14 +2,15 @@ ghost use Rattle.std.specs.Prelude.{◌≡◌};
 ghost use Rattle.std.specs.Option.{option_map};
 ghost use Rattle.fw_csr.specs.Requests.{offset_of, quadlet_swap, swap_in};
 
-use fw_words::{Bytes16, Bytes512, quadlet_at};
+use fw_words::{Bytes16, Data, quadlet_at};
 
 /// The extended_tcode of a compare_swap (IEEE 1394-1995, lock functions).
 const COMPARE_SWAP: u8 = 2;
 
-/// What a request packet asks of a node, at a 48-bit destination_offset (IEEE 1394-1995, asynchronous packets).
+/// What a request packet asks of a node, at a 48-bit destination_offset (IEEE 1394-1995, asynchronous packets). The data
+/// of a block lies elsewhere, as in the bytes of its packet.
 #[derive(Debug, PartialEq, Eq, Drop)]
-pub enum Request {
+pub enum Request<'a> {
     /// A quadlet read.
     Read {
         offset: u64,
@@ -27,7 +28,7 @@ pub enum Request {
     /// A block write.
     WriteBlock {
         offset: u64,
-        bytes: Bytes512,
+        bytes: Data<'a>,
     },
     /// A lock with this extended_tcode and these bytes.
     Lock {
@@ -44,7 +45,7 @@ pub struct Swap {
     pub new: u32,
 }
 
-impl Request {
+impl<'a> Request<'a> {
     /// The offset that the request is at.
     pub fn offset(&self) -> u64
         ensures { result ≡ offset_of self.now }

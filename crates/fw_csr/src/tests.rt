@@ -1,7 +1,7 @@
 //! The manager's registers: reads, swaps that succeed and that do not, and what is refused.
 
 use super::*;
-use fw_words::{Bytes, Quadlet, put_quadlet};
+use fw_words::{Bytes, Data, Quadlet, put_quadlet};
 
 /// What a row asks for at its offset.
 #[derive(Clone, Copy)]
@@ -17,7 +17,7 @@ enum Ask {
     FetchAdd(u32),
 }
 
-fn request(offset: u16, ask: Ask) -> Request {
+fn request(offset: u16, ask: Ask) -> Request<'static> {
     let offset = REGISTER_SPACE + u64::from(offset);
     let mut bytes = Bytes::new();
     match ask {
@@ -27,7 +27,7 @@ fn request(offset: u16, ask: Ask) -> Request {
         Ask::WriteBlock => {
             return Request::WriteBlock {
                 offset,
-                bytes: Bytes::new(),
+                bytes: Data::new(&[]),
             };
         }
         Ask::Swap(argument, new) => {

@@ -5,8 +5,8 @@ use Rattle.fw_phy.specs.declared.packet.PhyPacket.{PhyPacket}
 use Rattle.fw_phy.specs.declared.packet.PhyPacket.TheVariants.{SelfId, SelfIdMore, Config, LinkOn}
 use Rattle.fw_phy.specs.declared.packet.SelfId.{SelfId as Zero}
 use Rattle.fw_phy.specs.declared.packet.SelfIdMore.{SelfIdMore as Further}
-use Rattle.fw_log.specs.Log.{are_ids}
-use Rattle.fw_ledger.specs.Network.{speed_of}
+use Rattle.fw_entry.specs.Log.{are_ids}
+use Rattle.fw_entry.specs.Network.{speed_of}
 use Rattle.fw_tree.specs.declared.facts.End.{End}
 use Rattle.fw_tree.specs.declared.facts.PhyFacts.{PhyFacts}
 use Rattle.fw_tree.specs.Cables.{Peers}

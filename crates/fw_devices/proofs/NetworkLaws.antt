@@ -1,5 +1,5 @@
 -- What declaring a device and changing registers leave of a network.
-use Rattle.std.proofs.Common.{◌≡◌, inl, inr, ℕ, zero, suc, ◌+◌, ◌<◌, List, [], ◌∷◌, ◌++◌, length, get_or, slice_set, Option, Some, None, false, arith, refl, sym, ap, subst, ◌∙◌, length-set, get_or-set_same, get_or-set_other}
+use Rattle.std.proofs.Common.{◌≡◌, inl, inr, ℕ, zero, suc, ◌+◌, ◌<◌, map, List, [], ◌∷◌, ◌++◌, length, get_or, slice_set, Option, Some, None, false, arith, refl, sym, ap, subst, ◌∙◌, length-set, get_or-set_same, get_or-set_other}
 use Rattle.std.specs.Str.{bytes_eq}
 use Rattle.std.proofs.lemmas.Bool.{cases_eq, cases_lt}
 use Rattle.std.proofs.lemmas.List.{length-map, length_push, get_or_append_left, get_or_push, get_or_read}
@@ -10,7 +10,7 @@ use Rattle.fw_tree.specs.declared.facts.PhyFacts.{PhyFacts}
 use Rattle.fw_tree.specs.Topology.{Made}
 use Rattle.fw_tree.specs.SelfIds.{facts_at}
 use Rattle.fw_csr.specs.declared.request.Request.{Request}
-use Rattle.fw_node.specs.State.{NodeState, first_state, after_request}
+use Rattle.fw_node.specs.State.{NodeState, first_state, after_request, after_second}
 use Rattle.fw_devices.specs.Network.{Network, IsNetwork, kinds_of, kind_at, facts_of, with_device, node_at, same_bytes}
 
 -- the two tests of names say the same
@@ -97,6 +97,18 @@ network_kept n m h topology names s =
 pub same_after : (r : Option Request) (n : NodeState) → IsSameDevice n (after_request r n)
 same_after None n = record { kind = refl; device = refl; rate = refl }
 same_after (Some r) n = record { kind = refl; device = refl; rate = refl }
+
+-- the end of the second after a bus reset leaves each node's device as it is
+node_mapped : (f : NodeState → NodeState) (nodes : List NodeState) (d : ℕ) → d < length nodes → node_at (map f nodes) d ≡ f (node_at nodes d)
+node_mapped f [] d low = absurd (omega arith)
+node_mapped f (n ∷ ns) zero low = refl
+node_mapped f (n ∷ ns) (suc d) low = node_mapped f ns d (omega arith)
+
+pub same_second : (nodes : List NodeState) → AreSameDevices nodes (map after_second nodes)
+same_second nodes = record {
+  size = length-map nodes after_second;
+  each = λ d low. let P : NodeState → Type 0 = IsSameDevice (node_at nodes d) in subst P (sym (node_mapped after_second nodes d low)) (record { kind = refl; device = refl; rate = refl });
+}
 
 -- where one node was exchanged for another of the same device
 pub same_set : (nodes : List NodeState) (i : ℕ) (x y : NodeState) → i < length nodes → x ≡ get_or nodes i x → IsSameDevice x y → AreSameDevices nodes (slice_set nodes i y)

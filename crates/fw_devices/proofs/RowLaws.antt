@@ -8,9 +8,9 @@ use Rattle.std.proofs.lemmas.Option.{slice_get_within, get_or_from_slice_get, sl
 use Rattle.fw_base.specs.declared.device.DeviceKind.{DeviceKind}
 use Rattle.fw_base.specs.declared.device.DeviceKind.TheVariants.{Relay, Deck, Camcorder, Computer}
 use Rattle.fw_base.specs.Devices.{code_of, output_plugs_of, input_plugs_of}
-use Rattle.fw_log.specs.declared.nodes.NodeRow.{NodeRow}
-use Rattle.fw_log.specs.Log.{RowFits, AreApart, devices}
-use Rattle.fw_ledger.specs.Network.{node_of_device}
+use Rattle.fw_entry.specs.declared.nodes.NodeRow.{NodeRow}
+use Rattle.fw_entry.specs.Log.{RowFits, AreApart, devices}
+use Rattle.fw_entry.specs.Network.{node_of_device}
 use Rattle.fw_tree.specs.Numbers.{number_at, AreNodes}
 use Rattle.fw_devices.specs.Network.{kind_at}
 use Rattle.fw_devices.specs.Entries.{row_of, node_number}

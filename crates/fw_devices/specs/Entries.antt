@@ -1,18 +1,19 @@
 -- The entry of a bus reset: the network as tree identification and self-identification see it (IEEE 1394-1995).
-use Rattle.std.specs.Prelude.{◌≡◌, ℕ, ◌==◌, nat_lt, List, [], ◌∷◌, Bool, false, Option, Some, None, length, slice_get, if◌then◌else◌}
+use Rattle.std.specs.Prelude.{◌≡◌, ℕ, ◌+◌, map, ◌==◌, nat_lt, List, [], ◌∷◌, Bool, false, Option, Some, None, length, slice_get, if◌then◌else◌}
 use Rattle.std.specs.Option.{option_map}
 use Rattle.fw_base.specs.declared.device.DeviceKind.{DeviceKind}
 use Rattle.fw_base.specs.declared.device.DeviceKind.TheVariants.{Deck}
 use Rattle.fw_base.specs.Devices.{code_of, output_plugs_of, input_plugs_of}
 use Rattle.fw_phy.specs.declared.packet.PhyPacket.{PhyPacket}
-use Rattle.fw_log.specs.declared.entry.ResetEntry.{ResetEntry}
-use Rattle.fw_log.specs.declared.nodes.NodeRow.{NodeRow}
+use Rattle.fw_phy.specs.Phy.{begun_by}
+use Rattle.fw_entry.specs.declared.entry.ResetEntry.{ResetEntry}
+use Rattle.fw_entry.specs.declared.nodes.NodeRow.{NodeRow}
 use Rattle.fw_tree.specs.declared.numbering.Numbering.{Numbering}
 use Rattle.fw_tree.specs.Numbering.{IsNumbering, IsManager}
 use Rattle.fw_tree.specs.Numbers.{number_at}
 use Rattle.fw_tree.specs.SelfIds.{ArePackets}
 use Rattle.fw_tree.specs.Topology.{Topology}
-use Rattle.fw_ledger.specs.Network.{node_of_device}
+use Rattle.fw_entry.specs.Network.{node_of_device}
 use Rattle.fw_devices.specs.Network.{kind_at}
 
 -- what an entry says of a node: its device, that device's plugs, and its kind
@@ -23,6 +24,10 @@ row_of d kind = record { device = d; outs = output_plugs_of kind; ins = input_pl
 abbrev pub number_of : List (Option ℕ) → Option ℕ → Option ℕ
 number_of number None = None
 number_of number (Some d) = number_at number d
+
+-- the entry of the next bus reset, which a node begins, where nothing else has changed
+abbrev pub begun : ℕ → ResetEntry → ResetEntry
+begun node e = record e { epoch = e.epoch + 1; initiator = node; ids = map (begun_by node) e.ids }
 
 -- The entry of the bus reset with this epoch that a device began: the numbers of the cabling's tree, the resource manager,
 -- a row for each node, and the self-ID packets.

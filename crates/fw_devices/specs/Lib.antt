@@ -1,3 +1,5 @@
 pub mod Network
 pub mod Entries
 pub mod Resets
+pub mod Kept
+pub mod Names

@@ -1,9 +1,10 @@
 -- The devices that are declared, their cabling, and the node that each is.
-use Rattle.std.specs.Prelude.{◌≡◌, ℕ, ◌<◌, ◌≤◌, ◌==◌, nat_lt, List, [], ◌∷◌, ◌++◌, Bool, true, false, ◌&&◌, Option, Some, None, is_some, length, map, slice_index_or, if◌then◌else◌}
+use Rattle.std.specs.Prelude.{◌≡◌, ℕ, ◌<◌, ◌==◌, nat_lt, List, [], ◌∷◌, ◌++◌, Bool, true, false, ◌&&◌, Option, Some, None, is_some, length, map, slice_index_or, if◌then◌else◌}
 use Rattle.std.specs.List.{position_or_len}
 use Rattle.fw_base.specs.declared.device.DeviceKind.{DeviceKind}
 use Rattle.fw_base.specs.declared.device.DeviceKind.TheVariants.{Relay}
 use Rattle.fw_base.specs.Devices.{has_link, is_contender}
+use Rattle.fw_entry.specs.declared.entry.ResetEntry.{ResetEntry}
 use Rattle.fw_tree.specs.declared.facts.PhyFacts.{PhyFacts}
 use Rattle.fw_tree.specs.Topology.{Topology, Made, no_cables}
 use Rattle.fw_tree.specs.SelfIds.{facts_at}
@@ -16,9 +17,14 @@ pub record Network : Type 0 where
   pub nodes : List NodeState
   pub epoch : ℕ  -- of the latest bus reset, 0 before the first
   pub manager : Option ℕ  -- the device that is the isochronous resource manager since the latest bus reset
+  pub latest : ResetEntry  -- the entry of the latest bus reset
+
+-- where no bus reset came yet
+abbrev pub no_entry : ResetEntry
+no_entry = record { epoch = 0; root = 0; manager = None; initiator = 0; nodes = []; ids = [] }
 
 abbrev pub no_devices : Network
-no_devices = record { topology = record { devices = []; cables = no_cables }; names = []; nodes = []; epoch = 0; manager = None }
+no_devices = record { topology = record { devices = []; cables = no_cables }; names = []; nodes = []; epoch = 0; manager = None; latest = no_entry }
 
 -- the kind of each device
 abbrev pub kinds_of : List NodeState → List DeviceKind
@@ -72,11 +78,3 @@ pub record IsNetwork (n : Network) : Type 0 where
 -- the device is a node since the latest bus reset
 abbrev pub is_node : List NodeState → ℕ → Bool
 is_node nodes d = nat_lt d (length nodes) && is_some (node_at nodes d).number
-
--- what is true of the fields of such a network, of which there is room for 63 devices
-pub record IsKept (n : Network) (names_capacity nodes_capacity : ℕ) : Type 0 where
-  pub network : IsNetwork n
-  pub few : length n.names ≤ 63
-  pub same : length n.nodes ≡ length n.names
-  pub names_room : 63 ≤ names_capacity
-  pub nodes_room : 63 ≤ nodes_capacity

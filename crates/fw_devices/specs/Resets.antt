@@ -2,10 +2,10 @@
 use Rattle.std.specs.Prelude.{◌≡◌, ◌↔◌, ℕ, ◌+◌, ◌<◌, List, Option, Some, None, is_some, IsTrue, length, slice_get}
 use Rattle.fw_base.specs.declared.device.DeviceKind.{DeviceKind}
 use Rattle.fw_base.specs.Devices.{has_link}
-use Rattle.fw_log.specs.declared.entry.ResetEntry.{ResetEntry}
-use Rattle.fw_log.specs.declared.nodes.NodeRow.{NodeRow}
-use Rattle.fw_ledger.specs.Network as Ledger
-use Rattle.fw_ledger.specs.Network.{speed_of}
+use Rattle.fw_entry.specs.declared.entry.ResetEntry.{ResetEntry}
+use Rattle.fw_entry.specs.declared.nodes.NodeRow.{NodeRow}
+use Rattle.fw_entry.specs.Network as Entry
+use Rattle.fw_entry.specs.Network.{speed_of}
 use Rattle.fw_tree.specs.Cables.{IsOnBus}
 use Rattle.fw_tree.specs.SelfIds.{facts_at}
 use Rattle.fw_tree.specs.Topology.{Topology}
@@ -31,7 +31,7 @@ pub record IsReset (old new : Network) (initiator : ℕ) (e : ResetEntry) : Type
 -- What the entry of a bus reset shows of the devices: exactly those of the bus are nodes, each under one number, with the
 -- row of its kind and the speed of its PHY; and the manager is a node with a link.
 pub record Shows (t : Topology) (kinds : List DeviceKind) (e : ResetEntry) : Type 0 where
-  pub network : Ledger.IsNetwork e
+  pub network : Entry.IsNetwork e
   pub declared : (n : ℕ) (row : NodeRow) → slice_get e.nodes n ≡ Some row → row.device < length t.devices
   pub rows : (n : ℕ) (row : NodeRow) → slice_get e.nodes n ≡ Some row → (row ≡ row_of row.device (kind_at kinds row.device)) × (node_number e.nodes row.device ≡ Some n)
   pub numbers : (d n : ℕ) → node_number e.nodes d ≡ Some n → slice_get e.nodes n ≡ Some (row_of d (kind_at kinds d))

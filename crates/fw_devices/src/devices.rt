@@ -1,6 +1,8 @@
-ghost use Rattle.std.specs.Prelude.{◌≡◌, ◌<◌, ◌≤◌, length, position, true, false, IfOk, IfSome, IfNone};
-ghost use Rattle.fw_devices.specs.Network.{IsNetwork, no_devices, device_named, node_at, is_node, same_bytes};
+ghost use Rattle.std.specs.Prelude.{◌≡◌, ◌<◌, ◌≤◌, length, true, false, IfOk, IfSome, IfNone};
+ghost use Rattle.fw_devices.specs.Network.{IsNetwork, no_devices, device_named, node_at, is_node};
 
+use crate::bus::Bus;
+use crate::names::{MOST, Names};
 use fw_base::DeviceKind;
 use fw_node::Node;
 use fw_script::Name;
@@ -12,46 +14,28 @@ mod declare;
 mod requests;
 mod resets;
 
-/// How many devices a bus may have.
-const MOST: usize = 63;
-
 /// Declared devices by name, their cabling, and the node that each is.
 ///
 /// Devices are numbered in order of declaration from 0, 63 at most. A call that takes a device asks that it is declared.
 #[derive(Drop)]
 pub struct Devices {
     cabling: Cabling,
-    names: Vec<Name>,
+    names: Names,
     nodes: Vec<Node>,
-    epoch: u32,
-    manager: Option<u8>,
+    bus: Bus,
 }
 
 impl Model for Devices {
     ghost use Rattle.std.specs.Prelude.{vec_capacity};
-    ghost use Rattle.fw_devices.specs.Network.{Network, IsKept};
+    ghost use Rattle.fw_devices.specs.Network.{Network};
+    ghost use Rattle.fw_devices.specs.Kept.{IsKept};
 
     ghost Value = { Network };
 
-    ghost view = { λ d. record { topology = d.cabling; names = d.names.items; nodes = d.nodes.items; epoch = d.epoch; manager = d.manager } };
+    ghost view = { λ d. record { topology = d.cabling; names = d.names; nodes = d.nodes.items; epoch = d.bus.entry.epoch; manager = d.bus.manager; latest = d.bus.entry } };
 
-    ghost invariant = { λ d. IsKept (record { topology = d.cabling; names = d.names.items; nodes = d.nodes.items; epoch = d.epoch; manager = d.manager })
-        (vec_capacity d.names) (vec_capacity d.nodes) };
-}
-
-// The two names are the same.
-fn same_name(a: &Name, b: &Name) -> bool
-    ensures { result ≡ same_bytes a.now b.now }
-{
-    a.as_slice() == b.as_slice()
-}
-
-// The place of the first name that is the same.
-fn place_of(name: &Name, names: &[Name]) -> Option<usize>
-    ensures value { result ≡ position (same_bytes name.now) names.now }
-    ensures there { IfSome result (λ place. place < length names.now) }
-{
-    names.iter().position(|other| same_name(name, other))
+    ghost invariant = { λ d. IsKept (record { topology = d.cabling; names = d.names; nodes = d.nodes.items; epoch = d.bus.entry.epoch; manager = d.bus.manager; latest = d.bus.entry })
+        (vec_capacity d.nodes) d.bus.current d.bus.numbering };
 }
 
 impl Devices {
@@ -61,10 +45,9 @@ impl Devices {
     {
         Ok(Devices {
             cabling: Cabling::new(),
-            names: Vec::with_capacity(alloc, MOST)?,
+            names: Names::new(alloc)?,
             nodes: Vec::with_capacity(alloc, MOST)?,
-            epoch: 0,
-            manager: None,
+            bus: Bus::new(),
         })
     }
 
@@ -83,7 +66,7 @@ impl Devices {
         ensures value { result ≡ device_named self.now.names name.now }
         ensures there { IfSome result (λ d. d < length self.now.names) }
     {
-        let device = place_of(name, &self.names)?;
+        let device = self.names.find(name)?;
         Some(device as u8)
     }
 
@@ -92,14 +75,14 @@ impl Devices {
     pub fn manager(&self) -> Option<u8>
         ensures { result ≡ self.now.manager }
     {
-        self.manager
+        self.bus.manager
     }
 
     /// The number of the latest bus reset, from 1, and 0 before the first.
     pub fn epoch(&self) -> u32
         ensures { result ≡ self.now.epoch }
     {
-        self.epoch
+        self.bus.entry.epoch
     }
 
     /// The kind of a device.

@@ -1,11 +1,13 @@
 //! The devices of a bus by name: their cabling, the node that each is, and the entries of bus resets.
 #![tactic(auto)]
 
+mod bus;
 mod devices;
 mod laws;
+mod names;
 
 pub use devices::Devices;
-pub use laws::reset_entries_show_the_bus;
+pub use laws::{cables_extend_the_bus, reset_entries_show_the_bus};
 
 #[cfg(test)]
 mod tests;

@@ -7,9 +7,10 @@ use Rattle.fw_base.specs.Tables.{find_plug}
 use Rattle.fw_ledger.specs.Account.{Connected, Flow, Account, reclaimable_total, flow_units, has_connection, allocated, talks}
 use Rattle.fw_plug.specs.Words.{Settings, units_of, FitsRegister}
 use Rattle.fw_ledger.specs.Events.{no_connections, talker_at, after_reset, after_second, flow_of}
-use Rattle.fw_ledger.specs.Network.{is_output, declared, IsNetwork}
+use Rattle.fw_entry.specs.Network.{IsNetwork}
+use Rattle.fw_ledger.specs.Network.{is_output, declared}
 use Rattle.fw_ledger.proofs.Network.{no_outputs, output_in_range, declared_fits}
-use Rattle.fw_log.specs.declared.entry.ResetEntry.{ResetEntry}
+use Rattle.fw_entry.specs.declared.entry.ResetEntry.{ResetEntry}
 use Rattle.std.proofs.lemmas.Bool.{false≢true}
 use Rattle.fw_ledger.specs.Sound.{IsSound}
 use Rattle.fw_base.proofs.Tables.{sum_to_le, sum_to_zero, find_plug_is, IsFirstPlug}

@@ -1,19 +1,19 @@
 -- Each entry leads from a sound account to a sound one.
-use Rattle.fw_log.specs.declared.entry.ResetEntry.{ResetEntry}
-use Rattle.fw_log.specs.declared.entry.EventEntry.{EventEntry}
-use Rattle.fw_log.specs.declared.entry.Entry.{Entry}
-use Rattle.fw_log.specs.declared.entry.Entry.TheVariants.{Reset, Async, Event, Outcome, Shown, End}
+use Rattle.fw_entry.specs.declared.entry.ResetEntry.{ResetEntry}
+use Rattle.fw_entry.specs.declared.entry.EventEntry.{EventEntry}
+use Rattle.fw_entry.specs.declared.entry.Entry.{Entry}
+use Rattle.fw_entry.specs.declared.entry.Entry.TheVariants.{Reset, Async, Iso, Event, Outcome, Shown, End}
 use Rattle.fw_phy.specs.declared.packet.PhyPacket.{PhyPacket}
 use Rattle.fw_phy.specs.declared.packet.PhyPacket.TheVariants.{SelfId, SelfIdMore, Config, LinkOn}
 use Rattle.fw_phy.specs.Phy as Phy
-use Rattle.fw_log.specs.Log.{Fits, ResetFits, RowFits}
+use Rattle.fw_entry.specs.Log.{Fits, ResetFits, RowFits}
 use Rattle.std.specs.List.{All}
 use Rattle.std.proofs.lemmas.Option.{slice_get_within, get_or_from_slice_get}
 use Rattle.std.proofs.Common.{◌≡◌, ℕ, suc, subst, ◌^◌, ◌<◌, ◌==◌, Bool, true, false, Option, Some, None, List, [], ◌∷◌, ◌++◌, refl, sym, ◌∙◌, arith, cond}
 use Rattle.std.proofs.lemmas.Bool.Decides.{nat_tests}
 use Rattle.std.proofs.lemmas.Bool.{false≢true}
 use Rattle.fw_ledger.specs.Account.{Account, has_connection}
-use Rattle.fw_ledger.specs.Network.{IsNetwork, speed_of}
+use Rattle.fw_entry.specs.Network.{IsNetwork, speed_of}
 use Rattle.fw_ledger.specs.Events.{no_connections, after_reset, after_second, after_death}
 use Rattle.fw_ledger.specs.Fold.{no_account, after_event, next_account, next_of, account_from, account_of}
 use Rattle.fw_ledger.specs.Sound.{IsSound}
@@ -65,6 +65,7 @@ fits_network r f = record {
 pub next_keeps : (l m : Account) (e : Entry) → Fits e → IsSound l → next_account l e ≡ Some m → IsSound m
 next_keeps l m (Reset r) f s e = let same : after_reset r l ≡ m = cc in rw (← same) (reset_keeps r l (fits_network r f) s)
 next_keeps l m (Async p) f s e = packet_keeps p l m s e
+next_keeps l m (Iso p) f s e = unchanged l m s e
 next_keeps l m (Event v) f s e = event_keeps v l m s e
 next_keeps l m (Outcome o) f s e = unchanged l m s e
 next_keeps l m (Shown v) f s e = unchanged l m s e

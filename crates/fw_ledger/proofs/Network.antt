@@ -1,13 +1,14 @@
 -- What a reset entry says of devices and plugs.
 use Rattle.fw_base.specs.declared.plug.PlugAt.{PlugAt}
-use Rattle.fw_log.specs.declared.entry.ResetEntry.{ResetEntry}
-use Rattle.fw_log.specs.declared.nodes.NodeRow.{NodeRow}
+use Rattle.fw_entry.specs.declared.entry.ResetEntry.{ResetEntry}
+use Rattle.fw_entry.specs.declared.nodes.NodeRow.{NodeRow}
 use Rattle.std.proofs.Common.{◌≡◌, ℕ, zero, suc, ◌<◌, Bool, true, false, Option, Some, None, List, [], ◌∷◌, refl, arith, slice_get}
 use Rattle.std.specs.List.{list_any}
 use Rattle.std.proofs.lemmas.Bool.Decides.{nat_tests}
 use Rattle.std.proofs.lemmas.Bool.{false≢true}
 use Rattle.fw_plug.specs.Words.{FitsRegister}
-use Rattle.fw_ledger.specs.Network.{is_output, is_input, is_output_of, declared, IsNetwork, HasRange}
+use Rattle.fw_entry.specs.Network.{IsNetwork, HasRange}
+use Rattle.fw_ledger.specs.Network.{is_output, is_input, is_output_of, declared}
 
 pub not_both : {A : Type 0} (o : Option A) (v : A) → o ≡ None → o ≡ Some v → ⊥
 not_both o v e f = cc

@@ -3,14 +3,14 @@ use Rattle.fw_base.specs.declared.plug.PlugAt.{PlugAt}
 use Rattle.fw_async.specs.declared.packet.Head.{Head}
 use Rattle.fw_async.specs.declared.packet.Packet.{Packet}
 use Rattle.fw_async.specs.declared.packet.Packet.TheVariants.{WriteQuadlet, WriteBlock, WriteReply, ReadQuadlet, ReadBlock, ReadQuadletReply, ReadBlockReply, CycleStart, Lock, LockReply}
-use Rattle.fw_log.specs.declared.entry.ResetEntry.{ResetEntry}
-use Rattle.fw_log.specs.declared.nodes.NodeRow.{NodeRow}
+use Rattle.fw_entry.specs.declared.entry.ResetEntry.{ResetEntry}
+use Rattle.fw_entry.specs.declared.nodes.NodeRow.{NodeRow}
 use Rattle.std.proofs.Common.{◌≡◌, ℕ, ◌-◌, ◌<◌, ◌==◌, ◌&&◌, nat_le, Bool, true, false, Option, Some, None, is_none, option_map, refl, ◌∙◌, arith, cond}
 use Rattle.std.proofs.lemmas.Bool.Decides.{nat_tests}
 use Rattle.fw_base.specs.Tables.{update}
 use Rattle.fw_words.specs.Quadlet.{quadlet_at}
 use Rattle.fw_ledger.specs.Account.{Account, Operation, Reads, Locks, Request, has_pending, Pending}
-use Rattle.fw_ledger.specs.Network.{HasRange, first_id, row_of_node, row_of_id, device_of_id}
+use Rattle.fw_entry.specs.Network.{HasRange, first_id, row_of_node, row_of_id, device_of_id}
 use Rattle.fw_ledger.specs.Moves.{Move, after}
 use Rattle.fw_ledger.specs.Words.{Register, register_of, output_addressed}
 use Rattle.fw_ledger.specs.Decode.{move_at}

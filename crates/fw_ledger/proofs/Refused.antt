@@ -3,14 +3,14 @@ use Rattle.fw_base.specs.declared.plug.PlugAt.{PlugAt}
 use Rattle.fw_async.specs.declared.packet.Head.{Head}
 use Rattle.fw_async.specs.declared.packet.Packet.{Packet}
 use Rattle.fw_async.specs.declared.packet.Packet.TheVariants.{WriteQuadlet, WriteBlock, WriteReply, ReadQuadlet, ReadBlock, ReadQuadletReply, ReadBlockReply, CycleStart, Lock, LockReply}
-use Rattle.fw_log.specs.declared.entry.EventEntry.{EventEntry}
-use Rattle.fw_log.specs.declared.entry.Entry.{Entry}
-use Rattle.fw_log.specs.declared.entry.Entry.TheVariants.{Reset, Async, Event, Outcome, Shown, End}
+use Rattle.fw_entry.specs.declared.entry.EventEntry.{EventEntry}
+use Rattle.fw_entry.specs.declared.entry.Entry.{Entry}
+use Rattle.fw_entry.specs.declared.entry.Entry.TheVariants.{Reset, Async, Iso, Event, Outcome, Shown, End}
 use Rattle.std.proofs.Common.{◌≡◌, ◌≢◌, ℕ, ◌==◌, ◌&&◌, ◌↔◌, Bool, true, false, Option, Some, None, is_none, List, length, refl, sym, subst, ◌∙◌, true≢false, arith, cond}
 use Rattle.std.proofs.lemmas.Bool.Decides.{nat_tests}
 use Rattle.fw_words.specs.Quadlet.{quadlet_at}
 use Rattle.fw_ledger.specs.Account.{Account, Operation, Reads, Locks, Request}
-use Rattle.fw_ledger.specs.Network.{device_of_id}
+use Rattle.fw_entry.specs.Network.{device_of_id}
 use Rattle.fw_ledger.specs.Moves.{Move, after}
 use Rattle.fw_ledger.specs.Words.{Register, register_of}
 use Rattle.fw_ledger.specs.Decode.{IsMove, move_at}
@@ -216,6 +216,7 @@ event_refused v l e = go (v.code == 1) (v.code == 2) refl e
 entry_refused : (l : Account) (e : Entry) → IsSound l → next_account l e ≡ None → IsRefused e l
 entry_refused l (Reset r) s e = cc
 entry_refused l (Async p) s e = packet_refused p l s e
+entry_refused l (Iso p) s e = some_is l e
 entry_refused l (Event v) s e = event_refused v l e
 entry_refused l (Outcome o) s e = some_is l e
 entry_refused l (Shown v) s e = some_is l e
@@ -224,6 +225,7 @@ entry_refused l End s e = some_is l e
 refused_entry : (l : Account) (e : Entry) → IsSound l → IsRefused e l → next_account l e ≡ None
 refused_entry l (Reset r) s x = absurd x
 refused_entry l (Async p) s x = refused_packet p l s x
+refused_entry l (Iso p) s x = absurd x
 refused_entry l (Event v) s x = rw (number_same v.code 1 x.0) (rw x.1 refl)
 refused_entry l (Outcome o) s x = absurd x
 refused_entry l (Shown v) s x = absurd x

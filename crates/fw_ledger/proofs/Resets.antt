@@ -1,13 +1,14 @@
 -- The registers right after a reset, and the account of the first one.
 use Rattle.fw_base.specs.declared.plug.PlugAt.{PlugAt}
-use Rattle.fw_log.specs.declared.entry.ResetEntry.{ResetEntry}
-use Rattle.fw_log.specs.declared.entry.Entry.TheVariants.{Reset}
+use Rattle.fw_entry.specs.declared.entry.ResetEntry.{ResetEntry}
+use Rattle.fw_entry.specs.declared.entry.Entry.TheVariants.{Reset}
 use Rattle.std.proofs.Common.{◌≡◌, ℕ, ◌-◌, ◌^◌, false, Some, None, [], ◌∷◌, refl, arith}
 use Rattle.std.proofs.lemmas.Bool.Decides.{nat_tests}
 use Rattle.fw_base.specs.Tables.{sum_to}
 use Rattle.fw_base.proofs.Tables.{sum_to_zero}
 use Rattle.fw_ledger.specs.Account.{Account, has_connection}
-use Rattle.fw_ledger.specs.Network.{IsNetwork, declared}
+use Rattle.fw_entry.specs.Network.{IsNetwork}
+use Rattle.fw_ledger.specs.Network.{declared}
 use Rattle.fw_ledger.specs.Events.{no_connections, after_reset}
 use Rattle.fw_ledger.specs.Words.{BandwidthAvailable, ChannelsAvailable, fields_at, input_fields_at, word_of}
 use Rattle.fw_ledger.specs.Fold.{no_account, account_of}

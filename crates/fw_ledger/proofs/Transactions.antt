@@ -2,12 +2,12 @@
 use Rattle.fw_base.specs.declared.plug.PlugAt.{PlugAt}
 use Rattle.fw_async.specs.declared.packet.Head.{Head}
 use Rattle.fw_async.specs.declared.packet.Packet.TheVariants.{ReadQuadlet, ReadQuadletReply, Lock, LockReply}
-use Rattle.fw_log.specs.declared.nodes.NodeRow.{NodeRow}
-use Rattle.fw_log.specs.declared.entry.Entry.TheVariants.{Async}
+use Rattle.fw_entry.specs.declared.nodes.NodeRow.{NodeRow}
+use Rattle.fw_entry.specs.declared.entry.Entry.TheVariants.{Async}
 use Rattle.std.proofs.Common.{◌≡◌, ◌≢◌, ℕ, ◌+◌, ◌<◌, ◌^◌, Some, None, List, refl, ◌∙◌}
 use Rattle.std.specs.Int.{to_be_bytes, w32}
 use Rattle.fw_ledger.specs.Account.{Account, Reads, Locks, Request}
-use Rattle.fw_ledger.specs.Network.{first_id, row_of_node}
+use Rattle.fw_entry.specs.Network.{first_id, row_of_node}
 use Rattle.fw_ledger.specs.Moves.{Move, after}
 use Rattle.fw_ledger.specs.Words.{Register, register_at, first_address}
 use Rattle.fw_ledger.specs.Decode.{IsMove}

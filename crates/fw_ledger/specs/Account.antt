@@ -1,6 +1,6 @@
 -- The account of channels, bandwidth units and plug connections that the transactions of a log make.
 use Rattle.fw_base.specs.declared.plug.PlugAt.{PlugAt}
-use Rattle.fw_log.specs.declared.entry.ResetEntry.{ResetEntry}
+use Rattle.fw_entry.specs.declared.entry.ResetEntry.{ResetEntry}
 use Rattle.std.specs.Prelude.{ℕ, ◌+◌, ◌-◌, ◌==◌, nat_lt, Bool, true, false, ◌||◌, Option, Some, None, is_some, List}
 use Rattle.fw_base.specs.Tables.{find_to, sum_to}
 use Rattle.fw_plug.specs.Words.{Settings}

@@ -1,6 +1,6 @@
 -- What a reset, the end of a reclaim second and a controller's death do to the account.
 use Rattle.fw_base.specs.declared.plug.PlugAt.{PlugAt}
-use Rattle.fw_log.specs.declared.entry.ResetEntry.{ResetEntry}
+use Rattle.fw_entry.specs.declared.entry.ResetEntry.{ResetEntry}
 use Rattle.std.specs.Prelude.{ℕ, ◌+◌, ◌==◌, false, ◌&&◌, if◌then◌else◌, Option, Some, None, is_some}
 use Rattle.fw_base.specs.Tables.{update, find_plug}
 use Rattle.fw_ledger.specs.Account.{Holder, Pending, Connected, Orphaned, Allocation, Owner, Of, Dead, Connections, Flow, Account, talks}

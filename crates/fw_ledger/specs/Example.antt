@@ -1,10 +1,12 @@
 -- The entries of a log: one deck, which is its own resource manager, makes a broadcast connection, and makes it again after a
 -- bus reset.
+use Rattle.fw_entry.specs.declared.codes.event.TheConstants.{SECOND_OVER, DIED}
+use Rattle.fw_entry.specs.declared.codes.TheConstants.{NO_DEVICE}
 use Rattle.fw_async.specs.declared.packet.Head.{Head}
 use Rattle.fw_async.specs.declared.packet.Packet.TheVariants.{ReadQuadlet, ReadQuadletReply, Lock, LockReply}
 use Rattle.fw_phy.specs.declared.packet.PhyPacket.TheVariants.{SelfId}
-use Rattle.fw_log.specs.declared.entry.Entry.{Entry}
-use Rattle.fw_log.specs.declared.entry.Entry.TheVariants.{Reset, Async, Event, Outcome}
+use Rattle.fw_entry.specs.declared.entry.Entry.{Entry}
+use Rattle.fw_entry.specs.declared.entry.Entry.TheVariants.{Reset, Async, Event, Outcome}
 use Rattle.std.specs.Prelude.{ℕ, true, false, Option, Some, option_map, List, [], ◌∷◌, ◌++◌}
 use Rattle.std.specs.Int.{to_be_bytes, w32}
 use Rattle.fw_ledger.specs.Account.{Account}
@@ -48,7 +50,7 @@ outcome code = Outcome (record { code = code; device = 0; slot = 0; value = 63 }
 
 -- the reclaim second is over
 abbrev pub second_over : Entry
-second_over = Event (record { code = 1; device = 255; tape = 0; system = 0 })
+second_over = Event (record { code = SECOND_OVER; device = NO_DEVICE; tape = 0; system = 0 })
 
 -- the first connection
 abbrev pub first_path : List Entry
@@ -84,4 +86,4 @@ input_after es = option_map (λ l. word_of l (InputPlug (record { device = 0; pl
 
 -- what the deck's controller took stays when it dies, up to the next reset
 abbrev pub died : List Entry
-died = first_path ++ Event (record { code = 2; device = 0; tape = 0; system = 0 }) ∷ []
+died = first_path ++ Event (record { code = DIED; device = 0; tape = 0; system = 0 }) ∷ []

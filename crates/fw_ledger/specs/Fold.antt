@@ -1,8 +1,9 @@
 -- The account of a list of entries of a log.
-use Rattle.fw_log.specs.declared.entry.EventEntry.{EventEntry}
-use Rattle.fw_log.specs.declared.entry.Entry.{Entry}
-use Rattle.fw_log.specs.declared.entry.Timed.{Timed}
-use Rattle.fw_log.specs.declared.entry.Entry.TheVariants.{Reset, Async, Event, Outcome, Shown, End}
+use Rattle.fw_entry.specs.declared.codes.event.TheConstants.{SECOND_OVER, DIED}
+use Rattle.fw_entry.specs.declared.entry.EventEntry.{EventEntry}
+use Rattle.fw_entry.specs.declared.entry.Entry.{Entry}
+use Rattle.fw_entry.specs.declared.entry.Timed.{Timed}
+use Rattle.fw_entry.specs.declared.entry.Entry.TheVariants.{Reset, Async, Iso, Event, Outcome, Shown, End}
 use Rattle.std.specs.Prelude.{◌==◌, false, if◌then◌else◌, Option, Some, None, List, [], ◌∷◌, map}
 use Rattle.fw_ledger.specs.Account.{Account}
 use Rattle.fw_ledger.specs.Events.{no_connections, after_reset, after_second, after_death}
@@ -27,14 +28,15 @@ no_account = record {
 -- second over, where one runs, and the death of a controller; any other event changes nothing
 abbrev pub after_event : EventEntry → Account → Option Account
 after_event e l =
-    if e.code == 1 then (if l.reclaiming then Some (after_second l) else None)
-    else if e.code == 2 then Some (after_death e.device l)
+    if e.code == SECOND_OVER then (if l.reclaiming then Some (after_second l) else None)
+    else if e.code == DIED then Some (after_death e.device l)
     else Some l
 
 -- the account after one entry more, where there is one
 abbrev pub next_account : Account → Entry → Option Account
 next_account l (Reset r) = Some (after_reset r l)
 next_account l (Async p) = after_packet p l
+next_account l (Iso p) = Some l
 next_account l (Event e) = after_event e l
 next_account l (Outcome o) = Some l
 next_account l (Shown s) = Some l

@@ -7,7 +7,7 @@ use Rattle.std.specs.Prelude.{ℕ, ◌==◌, Bool, true, false, ◌&&◌, if◌t
 use Rattle.fw_base.specs.Tables.{update}
 use Rattle.fw_words.specs.Quadlet.{quadlet_at}
 use Rattle.fw_ledger.specs.Account.{Account, Operation, Reads, Locks, Request, has_pending}
-use Rattle.fw_ledger.specs.Network.{device_of_id}
+use Rattle.fw_entry.specs.Network.{device_of_id}
 use Rattle.fw_ledger.specs.Moves.{Move, after}
 use Rattle.fw_ledger.specs.Words.{Register, register_of, output_addressed}
 use Rattle.fw_ledger.specs.Decode.{move_at}

@@ -1,14 +1,15 @@
 -- The entries that no account allows.
+use Rattle.fw_entry.specs.declared.codes.event.TheConstants.{SECOND_OVER}
 use Rattle.fw_base.specs.declared.plug.PlugAt.{PlugAt}
 use Rattle.fw_async.specs.declared.packet.Head.{Head}
 use Rattle.fw_async.specs.declared.packet.Packet.{Packet}
 use Rattle.fw_async.specs.declared.packet.Packet.TheVariants.{WriteQuadlet, WriteBlock, WriteReply, ReadQuadlet, ReadBlock, ReadQuadletReply, ReadBlockReply, CycleStart, Lock, LockReply}
-use Rattle.fw_log.specs.declared.entry.Entry.{Entry}
-use Rattle.fw_log.specs.declared.entry.Entry.TheVariants.{Reset, Async, Event, Outcome, Shown, End}
+use Rattle.fw_entry.specs.declared.entry.Entry.{Entry}
+use Rattle.fw_entry.specs.declared.entry.Entry.TheVariants.{Reset, Async, Iso, Event, Outcome, Shown, End}
 use Rattle.std.specs.Prelude.{◌≡◌, ◌≢◌, ℕ, Some, None, List, length, IsFalse}
 use Rattle.fw_words.specs.Quadlet.{quadlet_at}
 use Rattle.fw_ledger.specs.Account.{Account, Reads, Locks, Request}
-use Rattle.fw_ledger.specs.Network.{device_of_id}
+use Rattle.fw_entry.specs.Network.{device_of_id}
 use Rattle.fw_ledger.specs.Moves.{Move}
 use Rattle.fw_ledger.specs.Words.{Register, register_of}
 use Rattle.fw_ledger.specs.Decode.{IsMove}
@@ -68,7 +69,8 @@ IsPacketRefused (LockReply h rcode function bytes) l = IsLockRefused h rcode fun
 abbrev pub IsRefused : Entry → Account → Type 0
 IsRefused (Reset r) l = ⊥
 IsRefused (Async p) l = IsPacketRefused p l
-IsRefused (Event e) l = (e.code ≡ 1) × IsFalse l.reclaiming
+IsRefused (Iso p) l = ⊥
+IsRefused (Event e) l = (e.code ≡ SECOND_OVER) × IsFalse l.reclaiming
 IsRefused (Outcome o) l = ⊥
 IsRefused (Shown s) l = ⊥
 IsRefused End l = ⊥

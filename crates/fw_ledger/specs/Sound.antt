@@ -3,7 +3,8 @@ use Rattle.fw_base.specs.declared.plug.PlugAt.{PlugAt}
 use Rattle.fw_base.specs.Tables.{sum_plugs}
 use Rattle.std.specs.Prelude.{◌≡◌, ◌<◌, ◌≤◌, ◌⊎◌, ℕ, true, if◌then◌else◌, Some, None, IsTrue, IsFalse}
 use Rattle.fw_ledger.specs.Account.{Pending, Connected, Allocation, Flow, Account, total, reclaimable_total, counter, has_connection, is_pending, plug_of, talks}
-use Rattle.fw_ledger.specs.Network.{is_output, is_input, HasRange}
+use Rattle.fw_entry.specs.Network.{HasRange}
+use Rattle.fw_ledger.specs.Network.{is_output, is_input}
 use Rattle.fw_plug.specs.Words.{units_of, FitsRegister}
 
 -- nothing is allocated, connected, reclaimable or outstanding

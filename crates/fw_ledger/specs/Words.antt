@@ -1,12 +1,12 @@
 -- The registers of an account, and where they stand.
 use Rattle.fw_base.specs.declared.plug.PlugAt.{PlugAt}
-use Rattle.fw_log.specs.declared.entry.ResetEntry.{ResetEntry}
-use Rattle.fw_log.specs.declared.nodes.NodeRow.{NodeRow}
+use Rattle.fw_entry.specs.declared.entry.ResetEntry.{ResetEntry}
+use Rattle.fw_entry.specs.declared.nodes.NodeRow.{NodeRow}
 use Rattle.std.specs.Prelude.{ℕ, ◌+◌, ◌-◌, ◌*◌, ◌/◌, ◌%◌, ◌^◌, ◌==◌, nat_le, nat_lt, Bool, false, ◌&&◌, if◌then◌else◌, Option, Some, None, slice_get, option_map}
 use Rattle.std.specs.Option.{option_or}
 use Rattle.fw_base.specs.Tables.{sum_to, at_plug}
 use Rattle.fw_ledger.specs.Account.{Account, is_free, is_there, counter, remainder}
-use Rattle.fw_ledger.specs.Network.{first_id, row_of_id, node_of_device}
+use Rattle.fw_entry.specs.Network.{first_id, row_of_id, node_of_device}
 use Rattle.fw_plug.specs.Words.{OutFields, out_word, InFields, in_word, flag}
 
 -- the resource manager's registers, where base is the first channel of CHANNELS_AVAILABLE_HI, 0, or LO, 32; and the

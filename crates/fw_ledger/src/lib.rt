@@ -5,11 +5,11 @@
 ghost use Rattle.std.specs.Prelude.{◌≡◌, ◌<◌, ◌≤◌, ◌+◌, ◌^◌, ◌++◌, ◌↔◌, [], ◌∷◌, ℕ, Bool, List, count_by, Some, None, if◌then◌else◌, IsTrue};
 ghost use Rattle.std.specs.List.{All};
 ghost use Rattle.fw_base.specs.declared.plug.PlugAt.{PlugAt};
-ghost use Rattle.fw_log.specs.declared.entry.ResetEntry.{ResetEntry};
-ghost use Rattle.fw_log.specs.declared.entry.Entry.{Entry};
-ghost use Rattle.fw_log.specs.Log.{Fits};
+ghost use Rattle.fw_entry.specs.declared.entry.ResetEntry.{ResetEntry};
+ghost use Rattle.fw_entry.specs.declared.entry.Entry.{Entry};
+ghost use Rattle.fw_entry.specs.Log.{Fits};
 ghost use Rattle.fw_ledger.specs.Account.{Account, Holder};
-ghost use Rattle.fw_ledger.specs.Network.{IsNetwork};
+ghost use Rattle.fw_entry.specs.Network.{IsNetwork};
 ghost use Rattle.fw_plug.specs.Words.{out_fields, in_fields};
 ghost use Rattle.fw_words.specs.Quadlet.{field};
 ghost use Rattle.fw_ledger.specs.Network.{is_output, is_input};

@@ -8,14 +8,14 @@ use Rattle.std.specs.Int.{to_be_bytes, w16, w32, w64}
 use Rattle.fw_words.specs.Quadlet.{quadlet_at}
 use Rattle.fw_async.specs.Async.{AreBytes}
 use Rattle.fw_log.proofs.ByteLaws.{are_bytes_part, peel}
-use Rattle.fw_log.specs.Log.{header_bytes, entry_head, entry_bytes, body}
-use Rattle.fw_log.specs.Reading.{tested, header_fault, entry_fault, head_fault, fault_at, skip, header_at, need, entry_need, length_of, cycle_of, is_built, is_kind, is_length, HeadFits, IsComplete, Spells, WrongBody}
+use Rattle.fw_entry.specs.Log.{header_bytes, entry_head, entry_bytes, body}
+use Rattle.fw_log.specs.Reading.{tested, header_fault, entry_fault, head_fault, fault_at, skip, header_at, need, entry_need, length_of, cycle_of, is_kind, is_length, HeadFits, IsComplete, Spells, WrongBody}
 use Rattle.fw_log.specs.declared.stand.Stand.{Stand}
 use Rattle.fw_log.specs.Bodies.{IsBody, BodyRefused}
 use Rattle.fw_log.specs.declared.LogFault.{LogFault}
 use Rattle.fw_log.proofs.StayLaws.{need_least}
-use Rattle.fw_log.specs.declared.LogWhy.TheVariants.{AfterEnd, BadHeader, BadKind, BadLength, TimeBack, BadBody, NotBuilt}
-use Rattle.fw_log.specs.declared.entry.Timed.{Timed}
+use Rattle.fw_log.specs.declared.LogWhy.TheVariants.{AfterEnd, BadHeader, BadKind, BadLength, TimeBack, BadBody}
+use Rattle.fw_entry.specs.declared.entry.Timed.{Timed}
 use Rattle.fw_log.specs.declared.BodyFault.{BodyFault}
 
 record Passed (ok : Bool) (x : Option LogFault) : Type 0 where
@@ -31,11 +31,10 @@ passed n end false f x enough h = cc (shown (grind (arith, nat_tests)))
 
 pub head_fits : (place last : ℕ) (e : List ℕ) → 12 ≤ length e → entry_fault place last e ≡ None → HeadFits last e
 head_fits place last e enough h =
-    let a = passed (length e) 2 (is_built (get_or e 0 0)) (fault_at place NotBuilt) _ (omega arith) h in
-    let b = passed (length e) 2 (is_kind (get_or e 0 0) (get_or e 1 0)) (fault_at place BadKind) _ (omega arith) a.others in
+    let b = passed (length e) 2 (is_kind (get_or e 0 0) (get_or e 1 0)) (fault_at place BadKind) _ (omega arith) h in
     let c = passed (length e) 4 (is_length (get_or e 0 0) (length_of e)) (fault_at (place + 2) BadLength) _ (omega arith) b.others in
     let d = passed (length e) 12 (nat_le last (cycle_of e)) (fault_at (place + 4) TimeBack) None enough c.others in
-    record { built = a.test; kind = b.test; size = c.test; later = d.test }
+    record { kind = b.test; size = c.test; later = d.test }
 
 -- what a header without a fault has
 record IsHeader (bytes : List ℕ) (x : Option LogFault) : Type 0 where
@@ -221,8 +220,7 @@ complete_err s at bytes e more g here is after b =
 -- the length of an entry whose head has no fault
 entry_size : (place last : ℕ) (e : List ℕ) → 4 ≤ length e → entry_fault place last e ≡ None → length_of e ≤ 569
 entry_size place last e enough h =
-    let a = passed (length e) 2 (is_built (get_or e 0 0)) (fault_at place NotBuilt) _ (omega arith) h in
-    let b = passed (length e) 2 (is_kind (get_or e 0 0) (get_or e 1 0)) (fault_at place BadKind) _ (omega arith) a.others in
+    let b = passed (length e) 2 (is_kind (get_or e 0 0) (get_or e 1 0)) (fault_at place BadKind) _ (omega arith) h in
     let c = passed (length e) 4 (is_length (get_or e 0 0) (length_of e)) (fault_at (place + 2) BadLength) _ (omega arith) b.others in
     few (get_or e 0 0) (length_of e) c.test
   where

@@ -9,18 +9,20 @@ use Rattle.fw_async.specs.Reader.{Spells as SpellsPacket}
 use Rattle.fw_async.specs.declared.packet.Packet.{Packet as AsyncPacket}
 use Rattle.fw_async.specs.declared.PacketFault.{PacketFault}
 use Rattle.fw_phy.specs.Phy.{spelling}
+use Rattle.fw_cip.specs.Iso.{iso_fault}
+use Rattle.fw_cip.proofs.SpelledLaws.{spelled_none as iso_clear}
 use Rattle.fw_log.specs.Bodies.{IsBody, BodyRefused, PacketRefuses, refusal}
 use Rattle.fw_log.specs.Reading.{IsPending, Spells, Faulty, WrongBody, need, skip, fault_at}
 use Rattle.fw_log.specs.declared.stand.Stand.{Stand}
 use Rattle.fw_log.specs.Reader.{State, Feeds, FeedsTo, Counts, total, EndsEntry, ShowsFault, EndsNothing}
-use Rattle.fw_log.specs.declared.entry.Entry.{Entry}
-use Rattle.fw_log.specs.declared.entry.Timed.{Timed}
+use Rattle.fw_entry.specs.declared.entry.Entry.{Entry}
+use Rattle.fw_entry.specs.declared.entry.Timed.{Timed}
 use Rattle.fw_log.specs.declared.read.LogFed.{LogFed}
 use Rattle.fw_log.specs.declared.BodyFault.{BodyFault}
-use Rattle.fw_log.specs.declared.BodyFault.TheVariants.{Phy, Packet, Fields}
+use Rattle.fw_log.specs.declared.BodyFault.TheVariants.{Phy, Packet, Iso, Fields}
 use Rattle.fw_log.specs.declared.LogFault.{LogFault}
 use Rattle.fw_log.specs.declared.LogWhy.TheVariants.{BadBody}
-use Rattle.fw_log.proofs.BodyLaws.{packet_in}
+use Rattle.fw_log.proofs.BodyLaws.{packet_in, iso_in}
 use Rattle.fw_log.proofs.IdsLaws.{ids_clear}
 use Rattle.fw_log.proofs.ResetLaws.{reset_in, body_has, shape_of}
 use Rattle.fw_log.proofs.FeedLaws.{further, stays}
@@ -52,12 +54,19 @@ no_packet p bytes f s h =
 refused_once : (kind : ℕ) (bytes : List ℕ) (f g : BodyFault) → BodyRefused kind bytes f → BodyRefused kind bytes g → f ≡ g
 refused_once kind bytes (Phy f) (Phy g) h k = cc (h.1.here, k.1.here)
 refused_once kind bytes (Phy f) (Packet g) h k = cc (h.0, k.0)
+refused_once kind bytes (Phy f) (Iso g) h k = cc (h.0, k.0)
 refused_once kind bytes (Phy f) Fields h k = absurd (k.1 (Phy f) h)
 refused_once kind bytes (Packet f) (Phy g) h k = cc (h.0, k.0)
 refused_once kind bytes (Packet f) (Packet g) h k = ap Packet (packet_once bytes f g h.1 k.1)
+refused_once kind bytes (Packet f) (Iso g) h k = cc (h.0, k.0)
 refused_once kind bytes (Packet f) Fields h k = absurd (k.1 (Packet f) h)
+refused_once kind bytes (Iso f) (Phy g) h k = cc (h.0, k.0)
+refused_once kind bytes (Iso f) (Packet g) h k = cc (h.0, k.0)
+refused_once kind bytes (Iso f) (Iso g) h k = cc (h.1, k.1)
+refused_once kind bytes (Iso f) Fields h k = absurd (k.1 (Iso f) h)
 refused_once kind bytes Fields (Phy g) h k = absurd (h.1 (Phy g) k)
 refused_once kind bytes Fields (Packet g) h k = absurd (h.1 (Packet g) k)
+refused_once kind bytes Fields (Iso g) h k = absurd (h.1 (Iso g) k)
 refused_once kind bytes Fields Fields h k = refl
 
 as_body : (kind k : ℕ) (bytes : List ℕ) (e : Entry) → kind ≡ k → IsBody kind bytes e → IsBody k bytes e
@@ -69,6 +78,7 @@ not_refused kind bytes e (Phy f) b h =
     let P : List ℕ → Type 0 = λ t. refusal (length t) t ≡ Some f in
     cc (subst P (body_has r bytes (shape_of r fits) same).ids h.1.here, ids_clear (length (flat_map spelling r.ids)) r.ids fits.packets))
 not_refused kind bytes e (Packet f) b h = packet_in bytes e (as_body kind 2 bytes e h.0 b) (λ p s. no_packet p bytes f s h.1)
+not_refused kind bytes e (Iso f) b h = iso_in bytes e (as_body kind 3 bytes e h.0 b) (λ p fits same. cc (h.1, ap iso_fault (sym same), iso_clear p fits))
 not_refused kind bytes e Fields b h = h.0 e b
 
 wrong_once : (s : Stand) (bytes : List ℕ) (f g : LogFault) → WrongBody s bytes f → WrongBody s bytes g → f ≡ g

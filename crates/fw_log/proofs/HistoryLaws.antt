@@ -5,14 +5,14 @@ use Rattle.std.proofs.lemmas.Bool.Decides.{nat_tests}
 use Rattle.std.proofs.lemmas.Grind.{flat_map-append}
 use Rattle.std.proofs.lemmas.List.{append-nil, append_cancel_left, take_at, drop_at, take-append-drop, take-append-le, take-take, length-take-le, nil_from_length}
 use Rattle.std.specs.Result.{result_err}
-use Rattle.fw_log.specs.Log.{header_bytes, entry_bytes, is_end, EndsAt, InOrder, HasEnd, TimedFits, LogOpens, LogSpells}
+use Rattle.fw_entry.specs.Log.{header_bytes, entry_bytes, is_end, EndsAt, InOrder, HasEnd, TimedFits, LogOpens, LogSpells}
 use Rattle.fw_log.specs.Reading.{IsPending, Spells, Faulty, length_of, header_fault, entry_fault, head_fault, skip, header_at, fault_at}
 use Rattle.fw_log.specs.declared.stand.Stand.{Stand}
 use Rattle.fw_log.specs.Reader.{State, Feeds, FeedsTo, EndsEntry, ShowsFault, after, with_bytes, finish_of, finish_by}
 use Rattle.fw_log.specs.History.{bytes_of, last_cycle, ended_by, stand_after, HasRead, BeginsNoLog, ReadsTo, ReadsOn, IsNext, GivesNext, Finishes}
-use Rattle.fw_log.specs.declared.entry.Entry.{Entry}
-use Rattle.fw_log.specs.declared.entry.Entry.TheVariants.{Reset, Async, Event, Outcome, Shown, End}
-use Rattle.fw_log.specs.declared.entry.Timed.{Timed}
+use Rattle.fw_entry.specs.declared.entry.Entry.{Entry}
+use Rattle.fw_entry.specs.declared.entry.Entry.TheVariants.{Reset, Async, Iso, Event, Outcome, Shown, End}
+use Rattle.fw_entry.specs.declared.entry.Timed.{Timed}
 use Rattle.fw_log.specs.declared.read.LogFed.{LogFed}
 use Rattle.fw_log.specs.declared.LogFault.{LogFault}
 use Rattle.fw_log.specs.declared.LogWhy.TheVariants.{AfterEnd, Cut, NoEnd}
@@ -23,6 +23,7 @@ use Rattle.fw_log.proofs.ExactLaws.{never_complete, entry_faulty}
 ends_at : (e : Entry) (more : List Timed) → EndsAt e more → is_end e ≡ true → more ≡ []
 ends_at (Reset r) more h e = cc e
 ends_at (Async p) more h e = cc e
+ends_at (Iso p) more h e = cc e
 ends_at (Event x) more h e = cc e
 ends_at (Outcome o) more h e = cc e
 ends_at (Shown s) more h e = cc e
@@ -31,6 +32,7 @@ ends_at End more h e = h
 ends_none : (e : Entry) → EndsAt e []
 ends_none (Reset r) = tt
 ends_none (Async p) = tt
+ends_none (Iso p) = tt
 ends_none (Event x) = tt
 ends_none (Outcome o) = tt
 ends_none (Shown s) = tt
@@ -40,6 +42,7 @@ ends_none End = refl
 going : (e : Entry) (ts more : List Timed) → EndsAt e ts → ended_by (is_end e) ts ≡ false → EndsAt e more
 going (Reset r) ts more h n = tt
 going (Async p) ts more h n = tt
+going (Iso p) ts more h n = tt
 going (Event x) ts more h n = tt
 going (Outcome o) ts more h n = tt
 going (Shown s) ts more h n = tt

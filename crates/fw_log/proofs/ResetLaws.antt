@@ -12,15 +12,15 @@ use Rattle.fw_words.specs.Layout.{packed}
 use Rattle.fw_phy.specs.Phy.{spelling}
 use Rattle.fw_phy.specs.declared.packet.PhyPacket.{PhyPacket}
 use Rattle.fw_phy.specs.declared.PhyFault.{PhyFault}
-use Rattle.fw_log.specs.Log.{quads, node_quad, manager_byte, devices, AreApart, are_ids, ResetFits, RowFits, body}
+use Rattle.fw_entry.specs.Log.{quads, node_quad, manager_byte, devices, AreApart, are_ids, ResetFits, RowFits, body}
 use Rattle.fw_log.specs.Bodies.{IsBody, Refuses, BodyRefused, PhyRefuses, IdsJudges, refusal, count_of, ids_at, has_nodes}
-use Rattle.fw_log.specs.declared.entry.Entry.{Entry}
-use Rattle.fw_log.specs.declared.entry.Entry.TheVariants.{Reset, Async, Event, Outcome, Shown, End}
+use Rattle.fw_entry.specs.declared.entry.Entry.{Entry}
+use Rattle.fw_entry.specs.declared.entry.Entry.TheVariants.{Reset, Async, Iso, Event, Outcome, Shown, End}
 use Rattle.fw_log.specs.declared.BodyFault.{BodyFault}
-use Rattle.fw_log.specs.declared.BodyFault.TheVariants.{Phy, Packet, Fields}
+use Rattle.fw_log.specs.declared.BodyFault.TheVariants.{Phy, Packet, Iso as IsoFails, Fields}
 use Rattle.fw_log.specs.Resets.{RowShape, ResetShape}
-use Rattle.fw_log.specs.declared.nodes.NodeRow.{NodeRow}
-use Rattle.fw_log.specs.declared.entry.ResetEntry.{ResetEntry}
+use Rattle.fw_entry.specs.declared.nodes.NodeRow.{NodeRow}
+use Rattle.fw_entry.specs.declared.entry.ResetEntry.{ResetEntry}
 use Rattle.fw_log.proofs.IdsLaws.{back, same_ids, ids_clear}
 
 -- one node more
@@ -218,6 +218,7 @@ body_back r bytes q n first second e rows ids =
 pub reset_in : {A : Type 0} (bytes : List ℕ) (e : Entry) → IsBody 1 bytes e → ((r : ResetEntry) → ResetFits r → body (Reset r) ≡ bytes → A) → A
 reset_in bytes (Reset r) b f = f r b.fits b.same
 reset_in bytes (Async p) b f = cc b.kind
+reset_in bytes (Iso p) b f = cc b.kind
 reset_in bytes (Event e) b f = cc b.kind
 reset_in bytes (Outcome o) b f = cc b.kind
 reset_in bytes (Shown s) b f = cc b.kind
@@ -226,6 +227,7 @@ reset_in bytes End b f = cc b.kind
 only_phy : (bytes : List ℕ) → ((f : PhyFault) → PhyRefuses bytes f → ⊥) → (g : BodyFault) → Refuses 1 bytes g → ⊥
 only_phy bytes n (Phy f) h = n f h.1
 only_phy bytes n (Packet f) h = cc h.0
+only_phy bytes n (IsoFails f) h = cc h.0
 only_phy bytes n Fields h = h
 
 pub no_nodes : (bytes : List ℕ) → has_nodes bytes ≡ false → BodyRefused 1 bytes Fields
@@ -237,6 +239,7 @@ no_nodes bytes none = (
 pub ids_err : (bytes rest : List ℕ) (f : BodyFault) → has_nodes bytes ≡ true → rest ≡ drop (ids_at bytes) bytes → IdsJudges rest (Err f) → BodyRefused 1 bytes f
 ids_err bytes rest (Phy f) there e h = (refl, record { nodes = there; here = let P : List ℕ → Type 0 = λ t. refusal (length t) t ≡ Some f in subst P e h })
 ids_err bytes rest (Packet f) there e h = absurd h
+ids_err bytes rest (IsoFails f) there e h = absurd h
 ids_err bytes rest Fields there e h = (
   λ x b. reset_in bytes x b (λ r fits same. h.1 r.ids fits.few_packets (record { fits = fits.packets; same = sym (body_has r bytes (shape_of r fits) same).ids ∙ sym e })),
   only_phy bytes (λ f g. let P : List ℕ → Type 0 = λ t. refusal (length t) t ≡ None in cc (g.here, subst P e h.0)),

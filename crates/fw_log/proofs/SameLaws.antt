@@ -7,16 +7,17 @@ use Rattle.std.specs.Int.{to_be_bytes, w32}
 use Rattle.fw_words.specs.Layout.{packed}
 use Rattle.fw_words.specs.Quadlet.{quadlet_at}
 use Rattle.fw_async.proofs.SameLaws.{same_packet}
-use Rattle.fw_log.specs.Log.{header_bytes, quads, event_quads, outcome_quads, shown_quads, is_event, EventFits, OutcomeFits, ShownFits, is_outcome, Fits, TimedFits, kind_of, body, entry_bytes}
+use Rattle.fw_cip.proofs.SameLaws.{same_packet as same_iso}
+use Rattle.fw_entry.specs.Log.{header_bytes, quads, event_quads, outcome_quads, shown_quads, is_event, EventFits, OutcomeFits, ShownFits, is_outcome, Fits, TimedFits, kind_of, body, entry_bytes}
 use Rattle.fw_log.specs.Bodies.{IsBody}
-use Rattle.fw_log.specs.Reading.{tested, fault_at, length_of, cycle_of, is_built, is_kind, is_length, entry_fault, header_fault, head_fault, skip, header_at, entry_need, need, Spells}
+use Rattle.fw_log.specs.Reading.{tested, fault_at, length_of, cycle_of, is_kind, is_length, entry_fault, header_fault, head_fault, skip, header_at, entry_need, need, Spells}
 use Rattle.fw_log.specs.declared.stand.Stand.{Stand}
-use Rattle.fw_log.specs.declared.entry.Entry.{Entry}
-use Rattle.fw_log.specs.declared.entry.Entry.TheVariants.{Reset, Async, Event, Outcome, Shown, End}
-use Rattle.fw_log.specs.declared.entry.EventEntry.{EventEntry}
-use Rattle.fw_log.specs.declared.entry.OutcomeEntry.{OutcomeEntry}
-use Rattle.fw_log.specs.declared.entry.ShownEntry.{ShownEntry}
-use Rattle.fw_log.specs.declared.entry.Timed.{Timed}
+use Rattle.fw_entry.specs.declared.entry.Entry.{Entry}
+use Rattle.fw_entry.specs.declared.entry.Entry.TheVariants.{Reset, Async, Iso, Event, Outcome, Shown, End}
+use Rattle.fw_entry.specs.declared.entry.EventEntry.{EventEntry}
+use Rattle.fw_entry.specs.declared.entry.OutcomeEntry.{OutcomeEntry}
+use Rattle.fw_entry.specs.declared.entry.ShownEntry.{ShownEntry}
+use Rattle.fw_entry.specs.declared.entry.Timed.{Timed}
 use Rattle.fw_log.specs.declared.LogFault.{LogFault}
 use Rattle.fw_log.specs.declared.LogWhy.TheVariants.{BadHeader}
 use Rattle.fw_log.proofs.IdsLaws.{back}
@@ -120,6 +121,7 @@ same_shown s t f g same =
 same_body : (e g : Entry) → Fits e → Fits g → kind_of e ≡ kind_of g → body e ≡ body g → e ≡ g
 same_body (Reset r) (Reset s) f h k same = ap Reset (same_reset r s (shape_of r f) (shape_of s h) same)
 same_body (Async p) (Async q) f h k same = ap Async (same_packet p q f h same)
+same_body (Iso p) (Iso q) f h k same = ap Iso (same_iso p q f h same)
 same_body (Event e) (Event g) f h k same = ap Event (same_event e g f h same)
 same_body (Outcome o) (Outcome p) f h k same = ap Outcome (same_outcome o p f h same)
 same_body (Shown s) (Shown t) f h k same = ap Shown (same_shown s t f h same)
@@ -156,13 +158,14 @@ length-entry t f = let h = has_length t.what f.entry in omega (arith, h.size)
 passes : (n end : ℕ) (ok : Bool) (f : LogFault) (x : Option LogFault) → ok ≡ true → x ≡ None → tested n end ok f x ≡ None
 passes n end ok f x e none = grind (arith, nat_tests)
 
-kind_right : (e : Entry) → (is_built (kind_of e) ≡ true) × (is_kind (kind_of e) 0 ≡ true)
-kind_right (Reset r) = (refl, refl)
-kind_right (Async p) = (refl, refl)
-kind_right (Event e) = (refl, refl)
-kind_right (Outcome o) = (refl, refl)
-kind_right (Shown s) = (refl, refl)
-kind_right End = (refl, refl)
+kind_right : (e : Entry) → is_kind (kind_of e) 0 ≡ true
+kind_right (Reset r) = refl
+kind_right (Async p) = refl
+kind_right (Iso p) = refl
+kind_right (Event e) = refl
+kind_right (Outcome o) = refl
+kind_right (Shown s) = refl
+kind_right End = refl
 
 length_right : (t : Timed) → TimedFits t → is_length (kind_of t.what) (length_of (entry_bytes t)) ≡ true
 length_right t f =
@@ -176,10 +179,9 @@ later_right a b c e le = grind (arith, nat_tests)
 pub entry_clear : (place last : ℕ) (t : Timed) → TimedFits t → last ≤ t.cycle → entry_fault place last (entry_bytes t) ≡ None
 entry_clear place last t f later =
     let k = kind_right t.what in
-    passes (length (entry_bytes t)) 2 (is_built (kind_of t.what)) _ _ k.0
-    (passes (length (entry_bytes t)) 2 (is_kind (kind_of t.what) 0) _ _ k.1
+    passes (length (entry_bytes t)) 2 (is_kind (kind_of t.what) 0) _ _ k
     (passes (length (entry_bytes t)) 4 (is_length (kind_of t.what) (length_of (entry_bytes t))) _ _ (length_right t f)
-    (passes (length (entry_bytes t)) 12 (nat_le last (cycle_of (entry_bytes t))) _ None (later_right last t.cycle (cycle_of (entry_bytes t)) (cycle_back t f) later) refl)))
+    (passes (length (entry_bytes t)) 12 (nat_le last (cycle_of (entry_bytes t))) _ None (later_right last t.cycle (cycle_of (entry_bytes t)) (cycle_back t f) later) refl))
 
 header_clear : (rest : List ℕ) (x : Option LogFault) → x ≡ None → header_fault (header_bytes ++ rest) x ≡ None
 header_clear rest x none =

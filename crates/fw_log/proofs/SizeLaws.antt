@@ -1,5 +1,5 @@
 -- How long the bodies of entries are.
-use Rattle.std.proofs.Common.{◌≡◌, ℕ, ◌+◌, ◌*◌, ◌/◌, ◌≤◌, List, [], ◌∷◌, ◌==◌, flat_map, length, replicate, Bool, true, false, IsTrue, None, arith, refl, if◌then◌else◌, length-append}
+use Rattle.std.proofs.Common.{◌≡◌, ℕ, ◌+◌, ◌*◌, ◌/◌, ◌≤◌, List, [], ◌∷◌, ◌==◌, flat_map, length, replicate, Bool, true, false, IsTrue, Option, Some, None, IfSome, ◌∙◌, arith, refl, if◌then◌else◌, length-append}
 use Rattle.std.proofs.lemmas.Bool.Decides.{nat_tests}
 use Rattle.std.proofs.lemmas.List.{length-map, length-replicate}
 use Rattle.fw_words.specs.Layout.{packed}
@@ -10,12 +10,16 @@ use Rattle.fw_async.specs.Async as Async
 use Rattle.fw_async.proofs.NeedLaws.{need_least, need_most}
 use Rattle.fw_async.proofs.SpelledLaws.{spelled_none, spelled_need}
 use Rattle.fw_async.specs.declared.packet.Packet.{Packet}
-use Rattle.fw_log.specs.Log.{quads, node_quad, reset_quads, are_ids, ResetFits, Fits, kind_of, body}
+use Rattle.fw_cip.specs.Iso.{block_bytes, IsBlock}
+use Rattle.fw_cip.specs.Iso as Iso
+use Rattle.fw_cip.specs.declared.packet.IsoPacket.{IsoPacket}
+use Rattle.fw_cip.proofs.SpelledLaws.{spelled_size}
+use Rattle.fw_entry.specs.Log.{quads, node_quad, reset_quads, are_ids, ResetFits, Fits, kind_of, body}
 use Rattle.fw_log.specs.Reading.{is_length}
-use Rattle.fw_log.specs.declared.entry.Entry.{Entry}
-use Rattle.fw_log.specs.declared.entry.Entry.TheVariants.{Reset, Async as AsyncEntry, Event, Outcome, Shown, End}
-use Rattle.fw_log.specs.declared.entry.ResetEntry.{ResetEntry}
-use Rattle.fw_log.specs.declared.entry.EventEntry.{EventEntry}
+use Rattle.fw_entry.specs.declared.entry.Entry.{Entry}
+use Rattle.fw_entry.specs.declared.entry.Entry.TheVariants.{Reset, Async as AsyncEntry, Iso as IsoEntry, Event, Outcome, Shown, End}
+use Rattle.fw_entry.specs.declared.entry.ResetEntry.{ResetEntry}
+use Rattle.fw_entry.specs.declared.entry.EventEntry.{EventEntry}
 use Rattle.fw_log.proofs.ResetLaws.{length-quads}
 
 -- a body is whole quadlets, as many as its kind may have
@@ -64,6 +68,13 @@ packet_has p f =
       right = packet_length (length (parts p).quadlets + (length (parts p).bytes + 3) / 4) (omega (arith, size, low, e)) (omega (arith, size, high, e));
     }
 
+iso_size : (block : Option (List ℕ)) → IfSome block IsBlock → (n : ℕ) × (12 + length (block_bytes block) ≡ 4 * n) × (is_length 3 n ≡ true)
+iso_size None f = (3, refl, refl)
+iso_size (Some block) f = (123, omega (arith, f.size), refl)
+
+iso_has : (p : IsoPacket) → Iso.Fits p → HasLength (IsoEntry p)
+iso_has p f = let h = iso_size p.block f.block in record { quadlets = h.0; size = spelled_size p ∙ h.1; right = h.2 }
+
 event_size : (b : Bool) (q r : ℕ) → (n : ℕ) × (length (quads (q ∷ (if b then r ∷ [] else []))) ≡ 4 * n) × (is_length 4 n ≡ true)
 event_size true q r = (2, refl, refl)
 event_size false q r = (1, refl, refl)
@@ -76,6 +87,7 @@ event_has e =
 pub has_length : (e : Entry) → Fits e → HasLength e
 has_length (Reset r) f = reset_has r f
 has_length (AsyncEntry p) f = packet_has p f
+has_length (IsoEntry p) f = iso_has p f
 has_length (Event e) f = event_has e
 has_length (Outcome o) f = record { quadlets = 2; size = refl; right = refl }
 has_length (Shown s) f = record { quadlets = 2; size = refl; right = refl }

@@ -6,7 +6,7 @@ use Rattle.std.proofs.lemmas.List.{get_or_append_left, take-append-le, drop-appe
 use Rattle.std.specs.Int.{from_be_bytes, w64}
 use Rattle.fw_words.specs.Quadlet.{quadlet_at}
 use Rattle.fw_log.proofs.ByteLaws.{quadlet_at-append}
-use Rattle.fw_log.specs.Reading.{tested, fault_at, length_of, cycle_of, is_built, is_kind, is_length, entry_fault, header_fault, head_fault, skip, entry_need, need, IsPending}
+use Rattle.fw_log.specs.Reading.{tested, fault_at, length_of, cycle_of, is_kind, is_length, entry_fault, header_fault, head_fault, skip, entry_need, need, IsPending}
 use Rattle.fw_log.specs.declared.stand.Stand.{Stand}
 use Rattle.fw_log.specs.declared.LogFault.{LogFault}
 use Rattle.fw_log.specs.declared.LogWhy.TheVariants.{AfterEnd}
@@ -25,26 +25,25 @@ level n m k ok again f g x y le same more h =
       | inr long ↦ ap (λ b. tested m k b f y) (same long) ∙ level_by n m k ok f g x y le long (more long) h
     ]
 
-length_of-append : (e more : List ℕ) → 4 ≤ length e → length_of (e ++ more) ≡ length_of e
+pub length_of-append : (e more : List ℕ) → 4 ≤ length e → length_of (e ++ more) ≡ length_of e
 length_of-append e more enough = omega (arith, get_or_append_left e more 0 2 (omega arith), get_or_append_left e more 0 3 (omega arith))
 
-cycle_of-append : (e more : List ℕ) → 12 ≤ length e → cycle_of (e ++ more) ≡ cycle_of e
+pub cycle_of-append : (e more : List ℕ) → 12 ≤ length e → cycle_of (e ++ more) ≡ cycle_of e
 cycle_of-append e more enough =
     ap (λ t. from_be_bytes w64 (take 8 t)) (drop-append-le 4 e more (omega arith)) ∙ ap (from_be_bytes w64) (take-append-le 8 (drop 4 e) more (omega (arith, length-drop 4 e)))
 
-kind_append : (e more : List ℕ) → 2 ≤ length e → is_kind (get_or (e ++ more) 0 0) (get_or (e ++ more) 1 0) ≡ is_kind (get_or e 0 0) (get_or e 1 0)
+pub kind_append : (e more : List ℕ) → 2 ≤ length e → is_kind (get_or (e ++ more) 0 0) (get_or (e ++ more) 1 0) ≡ is_kind (get_or e 0 0) (get_or e 1 0)
 kind_append e more enough = ap (λ k. is_kind k (get_or (e ++ more) 1 0)) (get_or_append_left e more 0 0 (omega arith)) ∙ ap (is_kind (get_or e 0 0)) (get_or_append_left e more 0 1 (omega arith))
 
-length_append : (e more : List ℕ) → 4 ≤ length e → is_length (get_or (e ++ more) 0 0) (length_of (e ++ more)) ≡ is_length (get_or e 0 0) (length_of e)
+pub length_append : (e more : List ℕ) → 4 ≤ length e → is_length (get_or (e ++ more) 0 0) (length_of (e ++ more)) ≡ is_length (get_or e 0 0) (length_of e)
 length_append e more enough = ap (λ k. is_length k (length_of (e ++ more))) (get_or_append_left e more 0 0 (omega arith)) ∙ ap (is_length (get_or e 0 0)) (length_of-append e more enough)
 
 entry_stays : (place last : ℕ) (e more : List ℕ) (g : LogFault) → entry_fault place last e ≡ Some g → entry_fault place last (e ++ more) ≡ Some g
 entry_stays place last e more g h =
     let le : length e ≤ length (e ++ more) = omega (arith, length-append e more) in
-    level (length e) (length (e ++ more)) 2 (is_built (get_or e 0 0)) _ _ g _ _ le (λ k. ap is_built (get_or_append_left e more 0 0 (omega arith)))
-    (λ a. level (length e) (length (e ++ more)) 2 (is_kind (get_or e 0 0) (get_or e 1 0)) _ _ g _ _ le (kind_append e more)
+    level (length e) (length (e ++ more)) 2 (is_kind (get_or e 0 0) (get_or e 1 0)) _ _ g _ _ le (kind_append e more)
     (λ b. level (length e) (length (e ++ more)) 4 (is_length (get_or e 0 0) (length_of e)) _ _ g _ _ le (length_append e more)
-    (λ c. level (length e) (length (e ++ more)) 12 (nat_le last (cycle_of e)) _ _ g None None le (λ k. ap (nat_le last) (cycle_of-append e more k)) (λ d none. none))))
+    (λ c. level (length e) (length (e ++ more)) 12 (nat_le last (cycle_of e)) _ _ g None None le (λ k. ap (nat_le last) (cycle_of-append e more k)) (λ d none. none)))
     h
 
 header_stays : (last : ℕ) (bytes more : List ℕ) (g : LogFault) → header_fault bytes (entry_fault 16 last (drop 16 bytes)) ≡ Some g → header_fault (bytes ++ more) (entry_fault 16 last (drop 16 (bytes ++ more))) ≡ Some g

@@ -6,14 +6,15 @@ use Rattle.fw_phy.specs.Phy.{phy_fault, Fits as PhyFits, spelling as phy_spellin
 use Rattle.fw_phy.specs.declared.packet.PhyPacket.{PhyPacket}
 use Rattle.fw_phy.specs.declared.PhyFault.{PhyFault}
 use Rattle.fw_async.specs.Reader as Packets
+use Rattle.fw_cip.specs.Iso.{iso_fault}
 use Rattle.fw_async.specs.declared.PacketFault.{PacketFault}
 use Rattle.fw_async.specs.declared.packet.Packet.{Packet as AsyncPacket}
-use Rattle.fw_log.specs.Log.{Fits, ResetFits, kind_of, body}
-use Rattle.fw_log.specs.declared.entry.Entry.{Entry}
-use Rattle.fw_log.specs.declared.entry.Entry.TheVariants.{Reset}
-use Rattle.fw_log.specs.declared.entry.ResetEntry.{ResetEntry}
+use Rattle.fw_entry.specs.Log.{Fits, ResetFits, kind_of, body}
+use Rattle.fw_entry.specs.declared.entry.Entry.{Entry}
+use Rattle.fw_entry.specs.declared.entry.Entry.TheVariants.{Reset}
+use Rattle.fw_entry.specs.declared.entry.ResetEntry.{ResetEntry}
 use Rattle.fw_log.specs.declared.BodyFault.{BodyFault}
-use Rattle.fw_log.specs.declared.BodyFault.TheVariants.{Phy, Packet, Fields}
+use Rattle.fw_log.specs.declared.BodyFault.TheVariants.{Phy, Packet, Iso, Fields}
 
 -- the body of an entry
 pub record IsBody (k : ℕ) (bytes : List ℕ) (e : Entry) : Type 0 where
@@ -57,12 +58,14 @@ pub record PhyRefuses (bytes : List ℕ) (f : PhyFault) : Type 0 where
 abbrev pub Refuses : ℕ → List ℕ → BodyFault → Type 0
 Refuses kind bytes (Phy f) = (kind ≡ 1) × PhyRefuses bytes f
 Refuses kind bytes (Packet f) = (kind ≡ 2) × PacketRefuses bytes f
+Refuses kind bytes (Iso f) = (kind ≡ 3) × (iso_fault bytes ≡ Some f)
 Refuses kind bytes Fields = ⊥
 
 -- A lower fault where a lower reader refuses, and Fields where none does and the body is of no entry of its kind.
 abbrev pub BodyRefused : ℕ → List ℕ → BodyFault → Type 0
 BodyRefused kind bytes (Phy f) = Refuses kind bytes (Phy f)
 BodyRefused kind bytes (Packet f) = Refuses kind bytes (Packet f)
+BodyRefused kind bytes (Iso f) = Refuses kind bytes (Iso f)
 BodyRefused kind bytes Fields = ((e : Entry) → IsBody kind bytes e → ⊥) × ((g : BodyFault) → Refuses kind bytes g → ⊥)
 
 -- the self-ID packets, eight bytes each
@@ -75,6 +78,7 @@ abbrev pub IdsJudges : List ℕ → Result (List PhyPacket) BodyFault → Type 0
 IdsJudges bytes (Ok ids) = AreIds ids bytes × (length ids ≤ 252)
 IdsJudges bytes (Err (Phy f)) = refusal (length bytes) bytes ≡ Some f
 IdsJudges bytes (Err (Packet f)) = ⊥
+IdsJudges bytes (Err (Iso f)) = ⊥
 IdsJudges bytes (Err Fields) = (refusal (length bytes) bytes ≡ None) × ((ids : List PhyPacket) → length ids ≤ 252 → AreIds ids bytes → ⊥)
 
 -- a reset that the body is, or why it is none

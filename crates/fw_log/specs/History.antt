@@ -1,10 +1,10 @@
 -- Whole logs, and how much of one a reader has read.
 use Rattle.std.specs.Prelude.{◌≡◌, ℕ, ◌+◌, ◌<◌, List, [], ◌∷◌, ◌++◌, length, take, flat_map, Bool, false, Option, Some, None, Result, Ok, Err, OnOk, IfErr}
-use Rattle.fw_log.specs.Log.{header_bytes, entry_bytes, is_end, InOrder, LogOpens, LogSpells}
+use Rattle.fw_entry.specs.Log.{header_bytes, entry_bytes, is_end, InOrder, LogOpens, LogSpells}
 use Rattle.fw_log.specs.Reading.{IsPending}
 use Rattle.fw_log.specs.declared.stand.Stand.{Stand}
 use Rattle.fw_log.specs.Reader.{State}
-use Rattle.fw_log.specs.declared.entry.Timed.{Timed}
+use Rattle.fw_entry.specs.declared.entry.Timed.{Timed}
 use Rattle.fw_log.specs.declared.read.LogFed.{LogFed}
 use Rattle.fw_log.specs.declared.LogFault.{LogFault}
 

@@ -1,12 +1,13 @@
 -- What a reader of logs keeps, and what it makes of the bytes that come.
 use Rattle.std.specs.Prelude.{◌≡◌, ℕ, ◌+◌, ◌==◌, ◌≤◌, ◌<◌, List, [], ◌++◌, length, take, Option, Some, None, Result, Ok, Err, if◌then◌else◌}
-use Rattle.fw_log.specs.Log.{is_end}
-use Rattle.fw_log.specs.Reading.{IsPending, Spells, Faulty, WrongBody, skip, fault_at}
-use Rattle.fw_log.specs.declared.entry.Timed.{Timed}
+use Rattle.fw_entry.specs.Log.{is_end}
+use Rattle.fw_log.specs.Reading.{IsPending, Spells, Faulty, WrongBody, skip, fault_at, head_fault, need}
+use Rattle.fw_entry.specs.declared.entry.Timed.{Timed}
 use Rattle.fw_log.specs.declared.LogFault.{LogFault}
 use Rattle.fw_log.specs.declared.LogWhy.TheVariants.{Cut, NoEnd}
 use Rattle.fw_log.specs.declared.stand.Stand.{Stand}
 use Rattle.fw_log.specs.declared.read.LogFed.{LogFed}
+use Rattle.fw_log.specs.declared.read.Found.{Found}
 
 -- where the reader stands, the bytes since the last entry, and the fault that was answered
 pub record State : Type 0 where
@@ -36,18 +37,6 @@ abbrev pub EntryJudges : Stand → List ℕ → Result Timed LogFault → Type 0
 EntryJudges s bytes (Ok t) = Spells s t bytes
 EntryJudges s bytes (Err f) = WrongBody s bytes f
 
--- what bytes that do not go past their entry are: a part of it, it, or a fault
-abbrev pub Judges : Stand → List ℕ → Result (Option Timed) LogFault → Type 0
-Judges s bytes (Ok None) = IsPending s bytes
-Judges s bytes (Ok (Some t)) = Spells s t bytes
-Judges s bytes (Err f) = Faulty s bytes f
-
--- a part that does not go past the entry: nothing yet, the entry, or a fault
-abbrev pub TakesPart : Stand → List ℕ → List ℕ → Result (Option Timed) LogFault → State → Type 0
-TakesPart s old part (Ok None) new = (new ≡ with_bytes s (old ++ part)) × IsPending s (old ++ part)
-TakesPart s old part (Ok (Some t)) new = (new ≡ after s (old ++ part) t) × Spells s t (old ++ part)
-TakesPart s old part (Err f) new = (new.fault ≡ Some f) × Faulty s (old ++ part) f
-
 -- the first k bytes of a piece end an entry
 pub record EndsEntry (s : Stand) (old piece : List ℕ) (k : ℕ) (t : Timed) : Type 0 where
   pub within : k ≤ length piece
@@ -58,6 +47,32 @@ pub record ShowsFault (s : Stand) (old piece : List ℕ) (k : ℕ) (f : LogFault
   pub within : k < length piece
   pub before : IsPending s (old ++ take k piece)
   pub shown : Faulty s (old ++ take (k + 1) piece) f
+
+-- where the entry ends that bytes begin with, none where they are a part of it, or a fault before its body
+abbrev pub Ends : Stand → List ℕ → Result (Option ℕ) LogFault → Type 0
+Ends s bytes (Ok None) = IsPending s bytes
+Ends s bytes (Ok (Some n)) = (head_fault s bytes ≡ None) × (n ≡ need s bytes) × (n ≤ length bytes)
+Ends s bytes (Err f) = head_fault s bytes ≡ Some f
+
+-- the entry that bytes begin with, none where they are a part of it, or the first fault
+abbrev pub Finds : Stand → List ℕ → Result (Option Found) LogFault → Type 0
+Finds s bytes (Ok None) = IsPending s bytes
+Finds s bytes (Ok (Some found)) = (found.end ≤ length bytes) × Spells s found.entry (take found.end bytes)
+Finds s bytes (Err f) = (k : ℕ) × ShowsFault s [] bytes k f
+
+-- The bytes are what was kept and a front of the piece, which is all of it or has room for the longest entry.
+pub record Joins (old piece bytes : List ℕ) : Type 0 where
+  pub count : ℕ
+  pub within : count ≤ length piece
+  pub enough : count < length piece → 2304 ≤ length old + count
+  pub same : bytes ≡ old ++ take count piece
+
+-- It was found in what was kept and a front of the piece, which is all of it or has room for the longest entry.
+pub record FindsIn (s : Stand) (old piece : List ℕ) (found : Result (Option Found) LogFault) : Type 0 where
+  pub count : ℕ
+  pub within : count ≤ length piece
+  pub enough : count < length piece → 2304 ≤ length old + count
+  pub finds : Finds s (old ++ take count piece) found
 
 -- no part that was taken whole is refused, and the bytes end no entry
 pub record EndsNothing (s : Stand) (old piece : List ℕ) : Type 0 where

@@ -1,13 +1,13 @@
 -- What the bytes of a log show before an entry is whole: a fault, or how many bytes the entry takes.
-use Rattle.std.specs.Prelude.{◌≡◌, ℕ, ◌+◌, ◌*◌, ◌≤◌, ◌<◌, ◌==◌, ◌||◌, ◌&&◌, not, nat_le, nat_lt, List, [], ◌++◌, Bool, true, false, Option, Some, None, length, slice_index, take, drop, if◌then◌else◌, ◌⊎◌}
+use Rattle.std.specs.Prelude.{◌≡◌, ℕ, ◌+◌, ◌*◌, ◌≤◌, ◌<◌, ◌==◌, ◌||◌, ◌&&◌, nat_le, nat_lt, List, [], ◌++◌, Bool, true, false, Option, Some, None, length, slice_index, take, drop, if◌then◌else◌, ◌⊎◌}
 use Rattle.std.specs.Int.{from_be_bytes, w64}
 use Rattle.fw_words.specs.Quadlet.{quadlet_at}
-use Rattle.fw_log.specs.Log.{header_bytes, entry_bytes, TimedFits}
-use Rattle.fw_log.specs.declared.entry.Timed.{Timed}
+use Rattle.fw_entry.specs.Log.{header_bytes, entry_bytes, TimedFits}
+use Rattle.fw_entry.specs.declared.entry.Timed.{Timed}
 use Rattle.fw_log.specs.declared.BodyFault.{BodyFault}
 use Rattle.fw_log.specs.Bodies.{BodyRefused}
 use Rattle.fw_log.specs.declared.LogWhy.{LogWhy}
-use Rattle.fw_log.specs.declared.LogWhy.TheVariants.{AfterEnd, BadHeader, BadKind, BadLength, TimeBack, BadBody, NotBuilt}
+use Rattle.fw_log.specs.declared.LogWhy.TheVariants.{AfterEnd, BadHeader, BadKind, BadLength, TimeBack, BadBody}
 use Rattle.fw_log.specs.declared.LogFault.{LogFault}
 use Rattle.fw_log.specs.declared.stand.Stand.{Stand}
 
@@ -41,10 +41,6 @@ length_of e = 256 * slice_index e length_at + slice_index e (length_at + 1)
 abbrev pub cycle_of : List ℕ → ℕ
 cycle_of e = from_be_bytes w64 (take 8 (drop cycle_at e))
 
--- kinds that a reader takes: isochronous packets, kind 3, come later
-abbrev pub is_built : ℕ → Bool
-is_built kind = not (kind == 3)
-
 -- a kind, and the zero byte behind it
 abbrev pub is_kind : ℕ → ℕ → Bool
 is_kind kind low = nat_le 1 kind && nat_le kind 7 && (low == 0)
@@ -62,10 +58,9 @@ is_length kind len =
 -- the first part of an entry before its body that is there and is refused
 abbrev pub entry_fault : ℕ → ℕ → List ℕ → Option LogFault
 entry_fault place last e =
-    tested (length e) length_at (is_built (slice_index e 0)) (fault_at place NotBuilt)
-    (tested (length e) length_at (is_kind (slice_index e 0) (slice_index e 1)) (fault_at place BadKind)
+    tested (length e) length_at (is_kind (slice_index e 0) (slice_index e 1)) (fault_at place BadKind)
     (tested (length e) cycle_at (is_length (slice_index e 0) (length_of e)) (fault_at (place + length_at) BadLength)
-    (tested (length e) body_at (nat_le last (cycle_of e)) (fault_at (place + cycle_at) TimeBack) None)))
+    (tested (length e) body_at (nat_le last (cycle_of e)) (fault_at (place + cycle_at) TimeBack) None))
 
 -- the first quadlet of the header that is there and is refused, or what follows
 abbrev pub header_fault : List ℕ → Option LogFault → Option LogFault
@@ -112,7 +107,6 @@ pub record Spells (s : Stand) (t : Timed) (bytes : List ℕ) : Type 0 where
 
 -- what an entry's head without a fault has
 pub record HeadFits (last : ℕ) (e : List ℕ) : Type 0 where
-  pub built : is_built (slice_index e 0) ≡ true
   pub kind : is_kind (slice_index e 0) (slice_index e 1) ≡ true
   pub size : is_length (slice_index e 0) (length_of e) ≡ true
   pub later : nat_le last (cycle_of e) ≡ true

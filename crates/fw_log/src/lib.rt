@@ -1,28 +1,24 @@
-//! The log of a bus: a header, then entries, as bytes and back.
-//!
-//! The header is the quadlets 31333934, 1, 0 and 0 in hexadecimal. An entry is its kind (8 bits), a zero byte,
-//! the length of its body in quadlets (16 bits), its cycle (64 bits) and its body, each number with the most
-//! significant byte first. Cycles never fall, and nothing follows the entry of kind 7. The format is own.
+//! A reader of logs: entries from bytes that come in any pieces, exactly where there are some.
 #![tactic(auto)]
 
-mod entry;
-mod nodes;
 mod read;
 mod read_body;
 mod read_head;
 mod read_reset;
+mod room;
 mod stand;
 #[cfg(test)]
 mod tests;
-mod write;
-mod write_body;
 
-pub use entry::{Entry, EventEntry, OutcomeEntry, ResetEntry, ShownEntry, Timed};
 use fw_async::PacketFault;
+use fw_cip::IsoFault;
+pub use fw_entry::{
+    BorrowedReset, Entry, EntryRoom, EventEntry, NodeList, NodeRow, OutcomeEntry, ResetEntry,
+    ShownEntry, Timed, body_of, codes, write_entry, write_header,
+};
 use fw_phy::PhyFault;
-pub use nodes::{NodeList, NodeRow};
 pub use read::{LogFed, LogReader};
-pub use write::{write_entry, write_header};
+pub use room::Room;
 
 /// Why a body is of no entry of its kind.
 #[derive(Clone, Copy, Debug, PartialEq, Eq)]
@@ -31,6 +27,8 @@ pub enum BodyFault {
     Phy(PhyFault),
     /// The bytes of an asynchronous entry go on to no packet.
     Packet(PacketFault),
+    /// The body of an isochronous entry is no packet.
+    Iso(IsoFault),
     /// The body is not as it must be, and no lower fault holds.
     Fields,
 }
@@ -54,8 +52,6 @@ pub enum LogWhy {
     Cut,
     /// The input ended after the header or an entry that is not the end; the place is the input's length.
     NoEnd,
-    /// The kind is 3, isochronous packets, which no reader takes yet; the place is the entry's.
-    NotBuilt,
 }
 
 /// Why bytes are no log, and the place of the first byte of what is refused, counted from 0.

@@ -2,32 +2,59 @@
 
 ghost use Rattle.std.specs.Prelude.{ℕ, ◌≡◌, ◌≤◌, ◌<◌, ◌+◌, ◌-◌, ◌*◌, ◌^◌, ◌++◌, ◌∷◌, [], length, take, drop, IfSome, IfNone, IfOk, Some, None, Ok, Err, List};
 ghost use Rattle.std.specs.Result.{result_err};
-ghost use Rattle.fw_log.specs.Log.{is_end, LogOpens};
-ghost use Rattle.fw_log.specs.Reading.{need, IsComplete, IsPending};
-ghost use Rattle.fw_log.specs.Reader.{State, total, with_bytes, EntryJudges, Judges, TakesPart, EndsEntry, EndsNothing, ShowsFault, Feeds, Counts, finish_of};
+ghost use Rattle.fw_entry.specs.Log.{is_end, LogOpens};
+ghost use Rattle.fw_log.specs.Reading.{IsComplete, IsPending};
+ghost use Rattle.fw_log.specs.Reader.{State, total, with_bytes, EntryJudges, Ends, Finds, Joins, FindsIn, EndsEntry, EndsNothing, ShowsFault, Feeds, Counts, finish_of};
 ghost use Rattle.fw_log.specs.History.{stand_after, HasRead, ReadsOn, GivesNext, Finishes};
 ghost use Rattle.fw_log.specs.declared.LogFault.{LogFault};
-ghost use Rattle.fw_log.specs.declared.entry.Timed.{Timed};
+ghost use Rattle.fw_entry.specs.declared.entry.Timed.{Timed};
 
 use crate::read_body::entry_of;
 use crate::read_head::head_fault;
 use crate::stand::{BODY_AT, Stand, cycle_of, need, rest, skip};
-use crate::{Entry, LogFault, LogWhy, Timed};
+use crate::{Entry, LogFault, LogWhy, ResetEntry, Room, Timed};
 use fw_words::Bytes;
 use std::alloc::{AllocError, Global};
 use std::marker::Model;
 
 /// What a piece gave.
-#[derive(Debug, PartialEq, Eq, Drop)]
-pub struct LogFed {
+#[derive(Debug, Drop)]
+pub struct LogFed<'a> {
     /// How many of its bytes were taken.
     pub used: usize,
     /// The entry that ended with them, if one did.
-    pub entry: Option<Timed>,
+    pub entry: Option<Timed<'a>>,
+}
+
+/// An entry that bytes begin with, and where it ends.
+#[derive(Debug, Drop)]
+pub struct Found<'a> {
+    pub end: usize,
+    pub entry: Timed<'a>,
+}
+
+// Where the entry ends that the bytes begin with, none where they are a part of it, or a fault before its body.
+fn end_of(stand: Stand, bytes: &[u8]) -> Result<Option<usize>, LogFault>
+    requires { stand.start + length bytes.now < 2 ^ 64 }
+    ensures { Ends stand bytes.now result }
+{
+    if let Some(fault) = head_fault(stand, bytes) {
+        return Err(fault);
+    }
+    let end = need(stand, bytes);
+    if bytes.len() < end {
+        Ok(None)
+    } else {
+        Ok(Some(end))
+    }
 }
 
 // The entry that the bytes are, or why its body is none.
-fn complete_entry(stand: Stand, bytes: &[u8]) -> Result<Timed, LogFault>
+fn complete_entry<'a>(
+    stand: Stand,
+    bytes: &'a [u8],
+    room: &'a mut ResetEntry,
+) -> Result<Timed<'a>, LogFault>
     requires room { stand.start + length bytes.now < 2 ^ 64 }
     requires head { IsComplete stand bytes.now }
     ensures { EntryJudges stand bytes.now result }
@@ -35,7 +62,7 @@ fn complete_entry(stand: Stand, bytes: &[u8]) -> Result<Timed, LogFault>
     let at = skip(stand.start);
     let entry = rest(bytes, at);
     let cycle = cycle_of(entry);
-    match entry_of(entry[0], rest(entry, BODY_AT)) {
+    match entry_of(entry[0], rest(entry, BODY_AT), room) {
         Ok(what) => Ok(Timed { cycle, what }),
         Err(why) => Err(LogFault {
             place: stand.start + (at + BODY_AT) as u64,
@@ -44,22 +71,36 @@ fn complete_entry(stand: Stand, bytes: &[u8]) -> Result<Timed, LogFault>
     }
 }
 
-// What bytes that are no longer than their entry are: it, a part of it, or a fault.
-fn judge(stand: Stand, bytes: &[u8]) -> Result<Option<Timed>, LogFault>
+// The entry that the bytes begin with, none where they are a part of it, or the first fault.
+fn first_entry<'a>(
+    stand: Stand,
+    bytes: &'a [u8],
+    room: &'a mut ResetEntry,
+) -> Result<Option<Found<'a>>, LogFault>
     requires room { stand.start + length bytes.now < 2 ^ 64 }
-    requires part { length bytes.now ≤ need stand bytes.now }
-    ensures { Judges stand bytes.now result }
+    ensures { Finds stand bytes.now result }
 {
-    if let Some(fault) = head_fault(stand, bytes) {
-        return Err(fault);
-    }
-    if bytes.len() < need(stand, bytes) {
-        return Ok(None);
-    }
-    match complete_entry(stand, bytes) {
-        Ok(entry) => Ok(Some(entry)),
+    let end = match end_of(stand, bytes) {
+        Ok(Some(end)) => end,
+        Ok(None) => return Ok(None),
+        Err(fault) => return Err(fault),
+    };
+    match complete_entry(stand, &bytes[..end], room) {
+        Ok(entry) => Ok(Some(Found { end, entry })),
         Err(fault) => Err(fault),
     }
+}
+
+// The piece, where nothing was kept, or else what was kept and as much of the piece as there is room for.
+fn at_hand<'a>(taken: &[u8], piece: &'a [u8], room: &'a mut Bytes<2304>) -> &'a [u8]
+    requires { length taken.now ≤ 2304 }
+    ensures { Joins taken.now piece.now result.now }
+{
+    if taken.is_empty() {
+        return piece;
+    }
+    room.join(taken, piece);
+    room.as_slice()
 }
 
 fn is_end(what: &Entry) -> bool
@@ -103,60 +144,71 @@ impl LogReader {
         })
     }
 
-    // Takes bytes that do not go past the entry's end.
-    fn take_part(&mut self, part: &[u8]) -> Result<Option<Timed>, LogFault>
+    // Takes what was found in the bytes that were kept and, behind them, in the piece.
+    fn keep<'a>(
+        &mut self,
+        found: Result<Option<Found<'a>>, LogFault>,
+        piece: &[u8],
+    ) -> Result<LogFed<'a>, LogFault>
         requires fresh { self.old.fault ≡ None }
-        requires room { self.old.stand.start + length self.old.taken + length part.now < 2 ^ 64 }
-        requires within { length self.old.taken + length part.now ≤ need self.old.stand self.old.taken }
-        ensures { TakesPart self.old.stand self.old.taken part.now result self.new }
+        requires pending { IsPending self.old.stand self.old.taken }
+        requires room { self.old.stand.start + length self.old.taken + length piece.now < 2 ^ 64 }
+        requires found { FindsIn self.old.stand self.old.taken piece.now found }
+        ensures { Feeds self.old.stand self.old.taken piece.now result self.new }
     {
-        self.taken.append(part);
-        let judged = judge(self.stand, self.taken.as_slice());
-        match &judged {
-            Ok(None) => {}
-            Ok(Some(entry)) => {
-                self.stand.start += self.taken.as_slice().len() as u64;
-                self.stand.last = entry.cycle;
-                self.stand.ended = is_end(&entry.what);
-                *self.taken = Bytes::new();
+        match found {
+            Err(fault) => {
+                self.fault = Some(fault);
+                Err(fault)
             }
-            Err(fault) => self.fault = Some(*fault),
+            Ok(None) => {
+                self.taken.append(piece);
+                Ok(LogFed {
+                    used: piece.len(),
+                    entry: None,
+                })
+            }
+            Ok(Some(found)) => {
+                let Found { end, entry } = found;
+                let used = end - self.taken.as_slice().len();
+                self.stand = Stand {
+                    start: self.stand.start + end as u64,
+                    last: entry.cycle,
+                    ended: is_end(&entry.what),
+                };
+                self.taken.clear();
+                Ok(LogFed {
+                    used,
+                    entry: Some(entry),
+                })
+            }
         }
-        judged
     }
 
-    // Takes bytes up to the end of one entry, where no fault was answered.
-    fn feed_fresh(&mut self, piece: &[u8]) -> Result<LogFed, LogFault>
+    // Takes bytes up to the end of one entry, where no fault was answered. An entry that lies whole in the piece is read
+    // where it lies.
+    fn feed_fresh<'a>(
+        &mut self,
+        piece: &'a [u8],
+        room: &'a mut Room,
+    ) -> Result<LogFed<'a>, LogFault>
         requires fresh { self.old.fault ≡ None }
         requires pending { IsPending self.old.stand self.old.taken }
         requires room { self.old.stand.start + length self.old.taken + length piece.now < 2 ^ 64 }
         ensures { Feeds self.old.stand self.old.taken piece.now result self.new }
     {
-        let mut used = 0;
-        while used < piece.len() {
-            let taken = self.taken.as_slice();
-            let wanted = need(self.stand, taken) - taken.len();
-            let end = used + wanted.min(piece.len() - used);
-            match self.take_part(&piece[used..end]) {
-                Ok(None) => used = end,
-                Ok(Some(entry)) => {
-                    return Ok(LogFed {
-                        used: end,
-                        entry: Some(entry),
-                    });
-                }
-                Err(fault) => return Err(fault),
-            }
-        }
-        Ok(LogFed { used, entry: None })
+        let bytes = at_hand(self.taken.as_slice(), piece, &mut room.bytes);
+        let found = first_entry(self.stand, bytes, &mut room.reset);
+        self.keep(found, piece)
     }
 
     /// Takes bytes up to the end of one entry, or all of the piece where no entry ends in it. The parts of a log are
     /// each quadlet of its header, and of an entry its kind with the zero behind it, its length, its cycle and its
     /// body, and a byte behind the end. A fault comes in the call in which the last byte of a refused part is taken;
-    /// no log begins with the bytes up to there. After a fault each call answers that fault.
-    pub fn feed(&mut self, piece: &[u8]) -> Result<LogFed, LogFault>
-        requires { total self.old + length piece.now < 2 ^ 64 }
+    /// no log begins with the bytes up to there. After a fault each call answers that fault. The entry refers to the
+    /// piece and to the room.
+    pub fn feed<'a>(&mut self, piece: &'a [u8], room: &'a mut Room) -> Result<LogFed<'a>, LogFault>
+        requires { self.old.fault ≡ None → total self.old + length piece.now < 2 ^ 64 }
         ensures kept { IfSome self.old.fault (λ f. (result ≡ Err f) × (self.new ≡ self.old)) }
         ensures fresh { IfNone self.old.fault (Feeds self.old.stand self.old.taken piece.now result self.new) }
 
@@ -174,13 +226,13 @@ impl LogReader {
     {
         match self.fault {
             Some(fault) => Err(fault),
-            None => self.feed_fresh(piece),
+            None => self.feed_fresh(piece, room),
         }
     }
 
     // The fault that the input's end is, where it is one.
     fn end_fault(&self) -> Option<LogFault>
-        requires { total self.now < 2 ^ 64 }
+        requires { self.now.fault ≡ None → total self.now < 2 ^ 64 }
         ensures { result ≡ finish_of self.now }
     {
         if self.fault.is_some() || self.stand.ended {
@@ -200,7 +252,7 @@ impl LogReader {
     /// Whether the log is whole, at the input's end. `Cut` comes where the input ended inside the header or an entry,
     /// `NoEnd` where it ended after one of them and the last entry was not the end; a fault of `feed` is answered again.
     pub fn finish(&self) -> Result<(), LogFault>
-        requires { total self.now < 2 ^ 64 }
+        requires { self.now.fault ≡ None → total self.now < 2 ^ 64 }
         ensures fault { result_err result ≡ finish_of self.now }
         ensures log { (entries : List Timed) → (bytes : List ℕ) → HasRead entries bytes self.now → Finishes entries bytes result }
     {

@@ -1,16 +1,17 @@
 //! The bodies of entries, from bytes.
 
 ghost use Rattle.std.specs.Prelude.{ℕ, ◌≡◌, ◌≤◌, ◌<◌, ◌+◌, ◌-◌, ◌*◌, ◌/◌, ◌%◌, ◌^◌, ◌++◌, ◌∷◌, [], length, take, drop, IsTrue, IfSome, IfNone, ◌==◌, ◌||◌, if◌then◌else◌, true};
-ghost use Rattle.fw_log.specs.declared.entry.EventEntry.{EventEntry};
-ghost use Rattle.fw_log.specs.declared.entry.OutcomeEntry.{OutcomeEntry};
-ghost use Rattle.fw_log.specs.declared.entry.ShownEntry.{ShownEntry};
-ghost use Rattle.fw_log.specs.Log.{quads, event_quads, outcome_quads, shown_quads, is_event, is_outcome, EventFits, OutcomeFits, ShownFits};
-ghost use Rattle.fw_log.specs.Reading.{is_built, is_kind, is_length};
-ghost use Rattle.fw_log.specs.Bodies.{PacketJudges, BodyJudges};
+ghost use Rattle.fw_entry.specs.declared.entry.EventEntry.{EventEntry};
+ghost use Rattle.fw_entry.specs.declared.entry.OutcomeEntry.{OutcomeEntry};
+ghost use Rattle.fw_entry.specs.declared.entry.ShownEntry.{ShownEntry};
+ghost use Rattle.fw_entry.specs.Log.{quads, event_quads, outcome_quads, shown_quads, is_event, is_outcome, EventFits, OutcomeFits, ShownFits};
+ghost use Rattle.fw_log.specs.Reading.{is_kind, is_length};
+ghost use Rattle.fw_log.specs.Bodies.{PacketJudges, ResetJudges, BodyJudges};
 
 use crate::read_reset::reset_of;
-use crate::{BodyFault, Entry, EventEntry, OutcomeEntry, ShownEntry};
-use fw_async::{Fed, Packet, PacketReader};
+use crate::{BodyFault, BorrowedReset, Entry, EventEntry, OutcomeEntry, ResetEntry, ShownEntry};
+use fw_async::{Fed, Packet, read_packet};
+use fw_cip::read_iso;
 use fw_words::quadlet_at;
 
 fn outcome_of(body: &[u8]) -> Option<OutcomeEntry>
@@ -106,11 +107,10 @@ fn event_of(body: &[u8]) -> Option<EventEntry>
     })
 }
 
-fn async_of(body: &[u8]) -> Result<Packet, BodyFault>
+fn async_of<'a>(body: &'a [u8]) -> Result<Packet<'a>, BodyFault>
     ensures { PacketJudges body.now result }
 {
-    let mut reader = PacketReader::new();
-    match reader.feed(body) {
+    match read_packet(body) {
         Ok(fed) => {
             let Fed { used, packet } = fed;
             match packet {
@@ -128,16 +128,44 @@ fn async_of(body: &[u8]) -> Result<Packet, BodyFault>
     }
 }
 
+// Puts the reset that the body is into room that is kept for it.
+fn reset_in<'a>(body: &[u8], room: &'a mut ResetEntry) -> Result<BorrowedReset<'a>, BodyFault>
+    requires some { 20 ≤ length body.now }
+    requires few { length body.now ≤ 2276 }
+    ensures { ResetJudges body.now result }
+{
+    match reset_of(body) {
+        Ok(reset) => {
+            *room = reset;
+            Ok(BorrowedReset::new(room))
+        }
+        Err(fault) => Err(fault),
+    }
+}
+
 // The entry that the body is, or why it is none.
-pub(crate) fn entry_of(kind: u8, body: &[u8]) -> Result<Entry, BodyFault>
-    requires built { is_built kind ≡ true }
+pub(crate) fn entry_of<'a>(
+    kind: u8,
+    body: &'a [u8],
+    room: &'a mut ResetEntry,
+) -> Result<Entry<'a>, BodyFault>
     requires kind { is_kind kind 0 ≡ true }
     requires size { (n : ℕ) × (length body.now ≡ 4 * n) × (is_length kind n ≡ true) }
     ensures { BodyJudges kind body.now result }
 {
     match kind {
-        1 => Ok(Entry::Reset(reset_of(body)?)),
-        2 => Ok(Entry::Async(async_of(body)?)),
+        1 => match reset_in(body, room) {
+            Ok(reset) => Ok(Entry::Reset(reset)),
+            Err(fault) => Err(fault),
+        },
+        2 => match async_of(body) {
+            Ok(packet) => Ok(Entry::Async(packet)),
+            Err(fault) => Err(fault),
+        },
+        3 => match read_iso(body) {
+            Ok(packet) => Ok(Entry::Iso(packet)),
+            Err(fault) => Err(BodyFault::Iso(fault)),
+        },
         4 => match event_of(body) {
             Some(event) => Ok(Entry::Event(event)),
             None => Err(BodyFault::Fields),

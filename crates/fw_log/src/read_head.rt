@@ -34,12 +34,6 @@ fn entry_fault(place: u64, last: u64, e: &[u8]) -> Option<LogFault>
         return None;
     }
     let kind = e[0];
-    if kind == 3 {
-        return Some(LogFault {
-            place,
-            why: LogWhy::NotBuilt,
-        });
-    }
     if !is_kind(kind, e[1]) {
         return Some(LogFault {
             place,

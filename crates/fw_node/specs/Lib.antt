@@ -2,3 +2,5 @@ pub mod Contents
 pub mod Space
 pub mod Packets
 pub mod State
+pub mod Fcp
+pub mod Lending

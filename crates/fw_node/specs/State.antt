@@ -2,7 +2,10 @@
 use Rattle.std.specs.Prelude.{◌≡◌, ℕ, ◌<◌, Bool, length, slice_index, Option, Some, None, if◌then◌else◌}
 use Rattle.std.specs.Option.{option_map}
 use Rattle.fw_base.specs.declared.device.DeviceKind.{DeviceKind}
-use Rattle.fw_base.specs.Devices.{output_plugs_of, input_plugs_of}
+use Rattle.fw_base.specs.Devices.{has_unit, output_plugs_of, input_plugs_of}
+use Rattle.fw_fcp.specs.declared.frame.Frame.{Frame}
+use Rattle.fw_avc.specs.State as Units
+use Rattle.fw_avc.specs.State.{UnitState}
 use Rattle.fw_csr.specs.declared.request.Request.{Request}
 use Rattle.fw_csr.specs.Manager.{ManagerWords, initial_words}
 use Rattle.fw_csr.specs.Manager
@@ -18,12 +21,24 @@ pub record NodeState : Type 0 where
   pub plugs : PlugWords
   -- the manager's registers, where the latest bus reset named the node the isochronous resource manager
   pub manager : Option ManagerWords
+  -- the AV/C unit of a deck or camcorder
+  pub unit : Option UnitState
+  -- the response to the latest command frame, and the number of the node that it goes to
+  pub waiting : Option (ℕ × Frame)
+
+-- a deck and a camcorder have a unit, with the device's plugs
+abbrev pub first_unit : DeviceKind → Option UnitState
+first_unit kind = if has_unit kind then Some (Units.first_state (output_plugs_of kind) (input_plugs_of kind)) else None
 
 abbrev pub first_state : DeviceKind → ℕ → ℕ → NodeState
-first_state kind device rate = record { kind = kind; device = device; number = None; plugs = first_words (output_plugs_of kind) (input_plugs_of kind) rate; manager = None }
+first_state kind device rate = record { kind = kind; device = device; number = None; plugs = first_words (output_plugs_of kind) (input_plugs_of kind) rate; manager = None; unit = first_unit kind; waiting = None }
 
 abbrev pub after_reset : ℕ → Bool → NodeState → NodeState
-after_reset number manager n = record n { number = Some number; plugs = reset_words n.plugs; manager = if manager then Some initial_words else None }
+after_reset number manager n = record n { number = Some number; plugs = reset_words n.plugs; manager = if manager then Some initial_words else None; unit = option_map Units.after_reset n.unit; waiting = None }
+
+-- the second after a bus reset is over
+abbrev pub after_second : NodeState → NodeState
+after_second n = record n { plugs = Plugs.after_second n.plugs }
 
 abbrev pub after_request : Option Request → NodeState → NodeState
 after_request None n = n

@@ -1,14 +1,18 @@
 //! The nodes of the bus: each answers request packets from its registers (IEEE 1394-1995, 8; IEC 61883-1, 7).
 #![tactic(auto)]
 
+mod fcp;
 mod laws;
 mod node;
 mod offset;
+mod request;
 mod response;
 
-pub use laws::nodes_answer_as_their_spaces;
+pub use laws::{nodes_answer_as_their_spaces, packets_carry_what_they_are_made_of};
 pub use node::Node;
 pub use offset::{cycle_time, node_id};
+pub use request::request_packet;
+pub use response::reply_in;
 
 #[cfg(test)]
 mod tests;

@@ -1,19 +1,25 @@
-ghost use Rattle.std.specs.Prelude.{◌≡◌, ◌≤◌, ℕ, Some, IsSome, IsTrue, IfSome};
+ghost use Rattle.std.specs.Prelude.{◌≡◌, ◌≤◌, ℕ, Some, None, IsSome, IsTrue, IfSome, is_some};
 ghost use Rattle.std.specs.Option.{option_map};
 ghost use Rattle.fw_async.specs.Async.{Fits};
-ghost use Rattle.fw_base.specs.Devices.{code_of, has_link};
+ghost use Rattle.fw_base.specs.Devices.{code_of, has_link, has_unit};
 ghost use Rattle.fw_csr.specs.Requests.{offset_of};
 ghost use Rattle.fw_csr.specs.Replies.{reply};
-ghost use Rattle.fw_node.specs.Packets.{request_in, response_of};
+ghost use Rattle.fw_tape.specs.Desks.{AnyVendorByte};
+ghost use Rattle.fw_node.specs.Packets.{request_in, requester, response_of};
+ghost use Rattle.fw_node.specs.Fcp.{HasFollowed};
 ghost use Rattle.fw_node.specs.Space.{answer_of, register_at, core_register_at};
-ghost use Rattle.fw_node.specs.State.{first_state, after_reset, after_request, space_of};
+ghost use Rattle.fw_node.specs.State.{first_state, first_unit, after_reset, after_second, after_request, space_of};
 
 use crate::offset::*;
-use crate::response::{request_of, response};
+use crate::request::{request_of, requester};
+use crate::response::response;
 use fw_async::Packet;
+use fw_avc::Unit;
 use fw_base::DeviceKind;
 use fw_csr::{BUS_MANAGER_ID, CHANNELS_AVAILABLE_LO, Manager, Register, Reply, Request};
+use fw_fcp::Frame;
 use fw_plug::{OMPR, Plugs};
+use fw_tape::Desk;
 use std::marker::Model;
 
 /// A device as a node of the bus: the registers by which it answers request packets.
@@ -21,22 +27,26 @@ use std::marker::Model;
 pub struct Node {
     kind: DeviceKind,
     device: u8,
-    number: Option<u8>,
+    pub(crate) number: Option<u8>,
     plugs: Plugs,
     manager: Option<Manager>,
+    pub(crate) unit: Option<Unit>,
+    /// The response to the latest command frame, and the number of the node that it goes to.
+    pub(crate) waiting: Option<(u8, Frame)>,
 }
 
 impl Model for Node {
-    ghost use Rattle.std.specs.Prelude.{◌≡◌, ◌≤◌, length};
+    ghost use Rattle.std.specs.Prelude.{◌≡◌, ◌≤◌, is_some, length};
     ghost use Rattle.std.specs.Option.{ForSome};
-    ghost use Rattle.fw_base.specs.Devices.{output_plugs_of, input_plugs_of};
+    ghost use Rattle.fw_base.specs.Devices.{has_unit, output_plugs_of, input_plugs_of};
+    ghost use Rattle.fw_fcp.specs.Frames.{Fits};
     ghost use Rattle.fw_node.specs.State.{NodeState};
 
     ghost Value = { NodeState };
 
-    ghost view = { λ n. record { kind = n.kind; device = n.device; number = n.number; plugs = n.plugs; manager = n.manager } };
+    ghost view = { λ n. record { kind = n.kind; device = n.device; number = n.number; plugs = n.plugs; manager = n.manager; unit = n.unit; waiting = n.waiting } };
 
-    ghost invariant = { λ n. ForSome n.number (λ number. number ≤ 62) × (length n.plugs.outputs ≡ output_plugs_of n.kind) × (length n.plugs.inputs ≡ input_plugs_of n.kind) };
+    ghost invariant = { λ n. ForSome n.number (λ number. number ≤ 62) × (length n.plugs.outputs ≡ output_plugs_of n.kind) × (length n.plugs.inputs ≡ input_plugs_of n.kind) × (is_some n.unit ≡ has_unit n.kind) × ForSome n.waiting (λ told. Fits told.1) };
 }
 
 impl Node {
@@ -59,6 +69,8 @@ impl Node {
             number: None,
             plugs: Plugs::new(kind.output_plugs(), kind.input_plugs(), rate),
             manager: None,
+            unit: unit_of(kind),
+            waiting: None,
         }
     }
 
@@ -71,11 +83,15 @@ impl Node {
         self.number = Some(number);
         self.plugs.reset();
         self.manager = if manager { Some(Manager::new()) } else { None };
+        self.waiting = None;
+        if let Some(unit) = &mut self.unit {
+            unit.reset();
+        }
     }
 
-    /// The second after a bus reset is over. No register changes.
+    /// The second after a bus reset is over: no plug lingers. No register changes.
     pub fn second_over(&mut self)
-        ensures { self.new ≡ self.old }
+        ensures { self.new ≡ after_second self.old }
     {
         self.plugs.second_over();
     }
@@ -110,9 +126,32 @@ impl Node {
         self.manager.as_ref()
     }
 
-    /// Carries a request packet to this node out in cycle `now`, and gives the response packet. A write to FCP_COMMAND is
-    /// answered, and nothing follows from it.
-    pub fn answer(&mut self, now: u64, p: &Packet) -> Packet
+    /// Carries a request packet to this node out in cycle `now`, and gives the response packet. From a command frame that is
+    /// written to FCP_COMMAND follows that the unit carries it out; its response is the next packet of `outgoing`, which
+    /// must have given the response to each command before.
+    pub fn answer<F: Fn(u16, u32, u16) -> [u8; 480], H: Fn(u32, u8) -> u8>(
+        &mut self,
+        now: u64,
+        p: &Packet,
+        desk: &Desk<F, H>,
+    ) -> Packet<'static>
+        requires desk { AnyVendorByte (H.pre desk.now.vendor) }
+        requires request { IsSome (request_in p.now) }
+        requires link { IsTrue (has_link self.old.kind) }
+        requires reset { IsSome self.old.number }
+        requires given { self.old.waiting ≡ None }
+        ensures response { (number : ℕ) → self.old.number ≡ Some number → response_of (space_of number now self.old) p.now ≡ Some result }
+        ensures node { HasFollowed (H.post desk.now.vendor) (requester p.now) (request_in p.now) (after_request (request_in p.now) self.old) self.new }
+        ensures fits { Fits p.now → Fits result }
+    {
+        let response = self.carry_out(now, p);
+        self.follow(requester(p), &request_of(p), desk);
+        response
+    }
+
+    /// Carries a request packet to this node out at its registers in cycle `now`, and gives the response packet. A write to
+    /// FCP_COMMAND is answered, and nothing follows from it.
+    pub fn carry_out(&mut self, now: u64, p: &Packet) -> Packet<'static>
         requires request { IsSome (request_in p.now) }
         requires link { IsTrue (has_link self.old.kind) }
         requires reset { IsSome self.old.number }
@@ -193,5 +232,17 @@ impl Node {
             FCP_RESPONSE => Some(Register::WriteOnly),
             _ => None,
         }
+    }
+}
+
+/// The unit of a device, if it has one.
+fn unit_of(kind: DeviceKind) -> Option<Unit>
+    ensures value { result ≡ first_unit kind }
+    ensures variant { is_some result ≡ has_unit kind }
+{
+    if kind.has_unit() {
+        Some(Unit::new(kind.output_plugs(), kind.input_plugs()))
+    } else {
+        None
     }
 }

@@ -1,60 +1,19 @@
-//! Request packets and the packets that answer them.
+//! Replies, and the packets that carry them.
 
 ghost use Rattle.std.specs.Prelude.{◌≡◌, ◌≤◌, ◌<◌, ◌^◌, Some, IsSome, IsTrue, length};
 ghost use Rattle.fw_async.specs.Async.{Fits, AreBytes, is_reply_size};
-ghost use Rattle.fw_node.specs.Packets.{request_in, response_to, response_head, old_bytes};
+ghost use Rattle.fw_node.specs.Packets.{request_in, response_to, response_head, old_bytes, reply_in, old_value};
 
 use crate::offset::node_id;
 use fw_async::{Head, Packet};
-use fw_csr::{Reply, Request};
-use fw_words::{Bytes, Bytes8, Quadlet, put_quadlet};
+use fw_csr::Reply;
+use fw_words::{Bytes, Bytes8, Data, Quadlet, put_quadlet, quadlet_at};
 
-/// The retry code of a response, retry_X (own).
-const RETRY_X: u8 = 1;
-
-/// What a request packet asks.
-pub fn request_of(p: &Packet) -> Request
-    requires { IsSome (request_in p.now) }
-    ensures { request_in p.now ≡ Some result }
-{
-    match p {
-        Packet::ReadQuadlet { offset, .. } => Request::Read { offset: *offset },
-        Packet::ReadBlock { offset, length, .. } => Request::ReadBlock {
-            offset: *offset,
-            length: *length,
-        },
-        Packet::WriteQuadlet { offset, value, .. } => Request::Write {
-            offset: *offset,
-            value: *value,
-        },
-        Packet::WriteBlock { offset, bytes, .. } => Request::WriteBlock {
-            offset: *offset,
-            bytes: copy_of(bytes),
-        },
-        Packet::Lock {
-            offset,
-            function,
-            bytes,
-            ..
-        } => Request::Lock {
-            offset: *offset,
-            function: *function,
-            bytes: copy_of(bytes),
-        },
-        _ => unreachable!(),
-    }
-}
-
-fn copy_of<const N: usize>(bytes: &Bytes<N>) -> Bytes<N>
-    ensures { result ≡ bytes.now }
-{
-    let mut copy = Bytes::new();
-    copy.append(bytes.as_slice());
-    copy
-}
+/// The retry code of each packet, retry_X (own).
+pub const RETRY_X: u8 = 1;
 
 /// The packet by which node `number` answers a request packet with this reply.
-pub fn response(number: u8, p: &Packet, reply: Reply) -> Packet
+pub fn response(number: u8, p: &Packet, reply: Reply) -> Packet<'static>
     requires number { number ≤ 62 }
     requires request { IsSome (request_in p.now) }
     ensures packet { response_to number p.now reply ≡ Some result }
@@ -70,7 +29,7 @@ pub fn response(number: u8, p: &Packet, reply: Reply) -> Packet
         Packet::ReadBlock { head, .. } => Packet::ReadBlockReply {
             head: response_head(number, head),
             rcode,
-            bytes: Bytes::new(),
+            bytes: Data::new(&[]),
         },
         Packet::WriteQuadlet { head, .. } | Packet::WriteBlock { head, .. } => Packet::WriteReply {
             head: response_head(number, head),
@@ -111,4 +70,36 @@ fn old_bytes(reply: Reply) -> Bytes8
         bytes.append(&put_quadlet(Quadlet(reply.value)));
     }
     bytes
+}
+
+/// The reply that a response packet carries, with its response code. None where the packet is no response, or carries
+/// other data than a quadlet.
+pub fn reply_in(p: &Packet) -> Option<Reply>
+    ensures { result ≡ reply_in p.now }
+{
+    match p {
+        Packet::WriteReply { rcode, .. } => Some(Reply {
+            rcode: *rcode,
+            value: 0,
+        }),
+        Packet::ReadQuadletReply { rcode, value, .. } => Some(Reply {
+            rcode: *rcode,
+            value: *value,
+        }),
+        Packet::ReadBlockReply { rcode, bytes, .. } => old_value(*rcode, bytes.as_slice()),
+        Packet::LockReply { rcode, bytes, .. } => old_value(*rcode, bytes.as_slice()),
+        _ => None,
+    }
+}
+
+/// The reply with this data: a quadlet, or none.
+fn old_value(rcode: u8, bytes: &[u8]) -> Option<Reply>
+    ensures { result ≡ old_value rcode bytes.now }
+{
+    let value = match bytes.len() {
+        0 => 0,
+        4 => quadlet_at(bytes, 0).0,
+        _ => return None,
+    };
+    Some(Reply { rcode, value })
 }

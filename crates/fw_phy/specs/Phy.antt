@@ -23,6 +23,13 @@ layout (SelfIdMore s) = (2, 2) ∷ (6, s.phy) ∷ (1, 1) ∷ (3, s.number) ∷ (
 layout (Config root force_root set_gap gap) = (2, 0) ∷ (6, root) ∷ (1, bit force_root) ∷ (1, bit set_gap) ∷ (6, gap) ∷ (16, 0) ∷ []
 layout (LinkOn phy) = (2, 1) ∷ (6, phy) ∷ (24, 0) ∷ []
 
+-- the packet after a bus reset that the node began
+abbrev pub begun_by : ℕ → PhyPacket → PhyPacket
+begun_by phy (SelfId s) = SelfId (record s { initiator = s.phy == phy })
+begun_by phy (SelfIdMore s) = SelfIdMore s
+begun_by phy (Config root force_root set_gap gap) = Config root force_root set_gap gap
+begun_by phy (LinkOn node) = LinkOn node
+
 -- as many ports as the packet has, and a number of 0, 1 or 2
 abbrev pub HasShape : PhyPacket → Type 0
 HasShape (SelfId s) = length s.ports ≡ 3

@@ -1,4 +1,5 @@
-ghost use Rattle.std.specs.Prelude.{◌≡◌, ◌<◌, ◌≤◌, ◌++◌, [], ◌∷◌, length};
+ghost use Rattle.std.specs.Prelude.{◌≡◌, ◌<◌, ◌≤◌, ◌++◌, [], ◌∷◌, length, map};
+ghost use Rattle.fw_phy.specs.Phy.{begun_by};
 
 use crate::PhyPacket;
 use arrayvec::ArrayVec;
@@ -19,6 +20,15 @@ impl Model for SelfIds {
     ghost view = { λ s. s.packets.items };
 
     ghost inverse = { λ xs. record { packets = record { items = xs } } };
+}
+
+// Notes in a packet which node began the bus reset.
+fn note_initiator(packet: &mut PhyPacket, phy: u8)
+    ensures { packet.new ≡ begun_by phy packet.old }
+{
+    if let PhyPacket::SelfId(zero) = packet {
+        zero.initiator = zero.phy == phy;
+    }
 }
 
 impl SelfIds {
@@ -45,5 +55,15 @@ impl SelfIds {
         ensures fits { length self.now ≤ 252 }
     {
         self.packets.as_slice()
+    }
+
+    /// Sets the initiator's bit in the packets zero of this node, and clears it in those of all others.
+    pub fn set_initiator(&mut self, phy: u8)
+        ensures { self.new ≡ map (begun_by phy) self.old }
+    {
+        let packets = self.packets.as_mut_slice();
+        for packet in packets.iter_mut() {
+            note_initiator(packet, phy);
+        }
     }
 }

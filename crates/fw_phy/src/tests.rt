@@ -1,7 +1,7 @@
 ghost use Rattle.std.specs.Prelude.{◌≡◌, true, false};
 ghost use Rattle.fw_phy.specs.Phy.{Fits};
 
-use crate::{PhyFault, PhyPacket, SelfId, SelfIdMore, SelfIds, read_phy, write_phy};
+use crate::{PhyFault, PhyPacket, SelfId, SelfIdMore, read_phy, write_phy};
 use std::process::Abort;
 
 // A quadlet and its inverse, as they stand on the cable.
@@ -57,8 +57,9 @@ fn self_ids_of_small_buses(rt: HostRuntime) {
     both_ways(&rt, 0x817F_08C0, &node(1, 0, true, [3, 0, 0], false));
 }
 
+// A packet of each kind, with fields that differ from their neighbours.
 #[test]
-fn the_other_kinds(rt: HostRuntime) {
+fn each_kind(rt: HostRuntime) {
     let more = PhyPacket::SelfIdMore(SelfIdMore {
         phy: 5,
         number: 1,
@@ -74,10 +75,6 @@ fn the_other_kinds(rt: HostRuntime) {
     };
     both_ways(&rt, 0x03D5_0000, &config);
     both_ways(&rt, 0x4900_0000, &PhyPacket::LinkOn { phy: 9 });
-}
-
-#[test]
-fn all_fields_of_packet_zero(rt: HostRuntime) {
     let packet = PhyPacket::SelfId(SelfId {
         phy: 42,
         link: false,
@@ -121,15 +118,4 @@ fn refusals(rt: HostRuntime) {
     assert_eq!(rt; read_phy(&[]), Err(PhyFault::Short));
     let not_inverse = [0xC0, 0, 0, 0, 0x3F, 0xFF, 0xFF, 0xFE];
     assert_eq!(rt; read_phy(&not_inverse), Err(PhyFault::NotInverse));
-}
-
-#[test]
-fn a_list_keeps_its_order(rt: HostRuntime) {
-    let mut ids = SelfIds::new();
-    ids.push(PhyPacket::LinkOn { phy: 1 });
-    ids.push(PhyPacket::LinkOn { phy: 2 });
-    assert_eq!(rt;
-        ids.as_slice(),
-        [PhyPacket::LinkOn { phy: 1 }, PhyPacket::LinkOn { phy: 2 }].as_slice()
-    );
 }

@@ -1,5 +1,5 @@
--- A device's plugs: their registers by offset (IEC 61883-1, plug control registers), and which plugs are connected.
-use Rattle.std.specs.Prelude.{ℕ, ◌+◌, ◌-◌, ◌*◌, ◌/◌, ◌^◌, ◌==◌, ◌&&◌, nat_lt, List, [], ◌∷◌, length, slice_index, slice_set, replicate, map, Option, Some, None, if◌then◌else◌}
+-- A device's plugs: their registers by offset (IEC 61883-1, plug control registers), which plugs talk and hear, and which linger.
+use Rattle.std.specs.Prelude.{ℕ, ◌+◌, ◌-◌, ◌*◌, ◌/◌, ◌^◌, ◌==◌, ◌&&◌, ◌||◌, nat_lt, Bool, false, List, [], ◌∷◌, length, slice_index, slice_index_or, slice_set, replicate, map, Option, Some, None, if◌then◌else◌}
 use Rattle.fw_words.specs.Quadlet.{field}
 use Rattle.fw_words.specs.Layout.{packed}
 use Rattle.fw_csr.specs.Requests.{offset_of}
@@ -7,12 +7,31 @@ use Rattle.fw_csr.specs.Replies.{word_after}
 use Rattle.fw_csr.specs.declared.request.Request.{Request}
 use Rattle.fw_csr.specs.declared.register.Register.{Register}
 use Rattle.fw_csr.specs.declared.register.Register.TheVariants.{ReadOnly, ReadSwap}
+use Rattle.fw_plug.specs.declared.plug.Plug.{Plug}
+use Rattle.fw_plug.specs.Words.{is_connected}
 
--- what a device keeps of its plugs: its data rate, and the words of its output and its input plugs
+-- what a device keeps of its plugs: its data rate, the words of its output and its input plugs, and which of them linger
 pub record PlugWords : Type 0 where
   pub rate : ℕ
   pub outputs : List ℕ
   pub inputs : List ℕ
+  pub lingering_outputs : List Bool
+  pub lingering_inputs : List Bool
+
+-- an output plug talks, and an input plug hears, where it is connected, and where it lingers: it goes on since a bus reset
+abbrev pub is_active : ℕ → Bool → Bool
+is_active word lingers = is_connected word || lingers
+
+-- a row of plugs: the word of each, and which linger
+pub record RowWords : Type 0 where
+  pub words : List ℕ
+  pub lingering : List Bool
+
+abbrev pub words_of : List Plug → List ℕ
+words_of plugs = map (λ (p : Plug). p.word) plugs
+
+abbrev pub lingering_of : List Plug → List Bool
+lingering_of plugs = map (λ (p : Plug). p.lingers) plugs
 
 -- on-line, not connected, on channel 63; the payload of an output plug is 122 quadlets
 abbrev pub first_out_word : ℕ → ℕ
@@ -22,7 +41,7 @@ abbrev pub first_in_word : ℕ
 first_in_word = packed ((1, 1) ∷ (1, 0) ∷ (6, 0) ∷ (2, 0) ∷ (6, 63) ∷ (16, 0) ∷ []) 0
 
 abbrev pub first_words : ℕ → ℕ → ℕ → PlugWords
-first_words outs ins rate = record { rate = rate; outputs = replicate outs (first_out_word rate); inputs = replicate ins first_in_word }
+first_words outs ins rate = record { rate = rate; outputs = replicate outs (first_out_word rate); inputs = replicate ins first_in_word; lingering_outputs = replicate outs false; lingering_inputs = replicate ins false }
 
 -- the registers as requests see them: the data rate, how many plugs there are, and the word of each
 pub record PlugTable : Type 0 where
@@ -69,15 +88,45 @@ abbrev pub after_at : Option ℕ → Request → List ℕ → List ℕ
 after_at None r words = words
 after_at (Some n) r words = slice_set words n (word_after (slice_index words n) r)
 
+-- which plugs of a row linger after a request at one of them, or at none: one whose word the request changes lingers no more
+abbrev pub lingering_after : Option ℕ → Request → List ℕ → List Bool → List Bool
+lingering_after None r words lingering = lingering
+lingering_after (Some n) r words lingering =
+    slice_set lingering n ((word_after (slice_index words n) r == slice_index words n) && slice_index_or lingering n false)
+
 abbrev pub words_after : PlugWords → Request → PlugWords
 words_after p r = record p {
   outputs = after_at (output_at (length p.outputs) (offset_of r)) r p.outputs;
   inputs = after_at (input_at (length p.inputs) (offset_of r)) r p.inputs;
+  lingering_outputs = lingering_after (output_at (length p.outputs) (offset_of r)) r p.outputs p.lingering_outputs;
+  lingering_inputs = lingering_after (input_at (length p.inputs) (offset_of r)) r p.inputs p.lingering_inputs;
 }
 
 -- a bus reset: the broadcast connection bit and the point-to-point connection counter become 0
 abbrev pub disconnected : ℕ → ℕ
 disconnected w = field w 0 0 * 2 ^ 31 + field w 8 31
 
+abbrev pub plug_after_reset : Plug → Plug
+plug_after_reset p = record { word = disconnected p.word; lingers = is_active p.word p.lingers }
+
+abbrev pub plug_after_second : Plug → Plug
+plug_after_second p = record p { lingers = false }
+
+-- the plugs of a row that are active
+abbrev pub active : List ℕ → List Bool → List Bool
+active [] lingering = []
+active (word ∷ words) [] = []
+active (word ∷ words) (lingers ∷ lingering) = is_active word lingers ∷ active words lingering
+
+-- the plugs that talk and hear at a bus reset linger after it
 abbrev pub reset_words : PlugWords → PlugWords
-reset_words p = record p { outputs = map disconnected p.outputs; inputs = map disconnected p.inputs }
+reset_words p = record p {
+  outputs = map disconnected p.outputs;
+  inputs = map disconnected p.inputs;
+  lingering_outputs = active p.outputs p.lingering_outputs;
+  lingering_inputs = active p.inputs p.lingering_inputs;
+}
+
+-- the second after a bus reset is over: no plug lingers
+abbrev pub after_second : PlugWords → PlugWords
+after_second p = record p { lingering_outputs = map (λ l. false) p.lingering_outputs; lingering_inputs = map (λ l. false) p.lingering_inputs }

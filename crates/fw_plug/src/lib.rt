@@ -4,6 +4,7 @@
 
 mod bandwidth;
 mod laws;
+mod plug;
 mod plugs;
 mod row;
 mod word;

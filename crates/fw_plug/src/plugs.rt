@@ -1,13 +1,13 @@
-ghost use Rattle.std.specs.Prelude.{◌≡◌, ◌<◌, ◌≤◌, length, slice_index};
+ghost use Rattle.std.specs.Prelude.{◌≡◌, ◌<◌, ◌≤◌, ◌∷◌, [], length, slice_index, slice_index_or, false};
+ghost use Rattle.fw_words.specs.Layout.{packed};
 ghost use Rattle.fw_csr.specs.Requests.{offset_of};
 ghost use Rattle.fw_csr.specs.Replies.{reply};
-ghost use Rattle.fw_plug.specs.Plugs.{first_words, table_of, register_at, output_master, input_master, words_after, reset_words};
-ghost use Rattle.fw_plug.specs.Words.{is_connected};
+ghost use Rattle.fw_plug.specs.Plugs.{first_words, table_of, register_at, output_master, input_master, words_after, reset_words, after_second, is_active};
 
-use crate::row::{answer_in, copies, disconnect, master, register_in};
+use crate::row::Row;
 use crate::{InWord, OutWord};
-use arrayvec::ArrayVec;
-use fw_csr::{REGISTER_SPACE, Register, Reply, Request, Word};
+use fw_csr::{REGISTER_SPACE, Register, Reply, Request};
+use fw_words::with_field;
 use std::marker::Model;
 
 /// The output master plug register's offset.
@@ -23,8 +23,8 @@ pub const IPCR: u64 = REGISTER_SPACE + 0x984;
 #[derive(Debug, Drop)]
 pub struct Plugs {
     rate: u8,
-    outputs: ArrayVec<Word, 31>,
-    inputs: ArrayVec<Word, 31>,
+    outputs: Row,
+    inputs: Row,
 }
 
 impl Model for Plugs {
@@ -33,11 +33,15 @@ impl Model for Plugs {
 
     ghost Value = { PlugWords };
 
-    ghost view = { λ p. record { rate = p.rate; outputs = p.outputs.items; inputs = p.inputs.items } };
+    ghost view = { λ p. record {
+      rate = p.rate;
+      outputs = p.outputs.words;
+      inputs = p.inputs.words;
+      lingering_outputs = p.outputs.lingering;
+      lingering_inputs = p.inputs.lingering;
+    } };
 
-    ghost inverse = { λ p. record { rate = p.rate; outputs = record { items = p.outputs }; inputs = record { items = p.inputs } } };
-
-    ghost invariant = { λ p. (p.rate ≤ 2) × (length p.outputs.items ≤ 31) × (length p.inputs.items ≤ 31) };
+    ghost invariant = { λ p. (p.rate ≤ 2) × (length p.outputs.words ≤ 31) × (length p.inputs.words ≤ 31) };
 }
 
 impl Plugs {
@@ -52,8 +56,8 @@ impl Plugs {
         let out_word = 0x803F_007A + (u32::from(rate) << 14);
         Plugs {
             rate,
-            outputs: copies(outs, out_word),
-            inputs: copies(ins, 0x803F_0000),
+            outputs: Row::new(outs, out_word),
+            inputs: Row::new(ins, 0x803F_0000),
         }
     }
 
@@ -66,8 +70,8 @@ impl Plugs {
         match r.offset() {
             OMPR => self.output_master().reply(r),
             IMPR => self.input_master().reply(r),
-            offset if offset < IMPR => answer_in(self.outputs.as_mut_slice(), OPCR, r),
-            _ => answer_in(self.inputs.as_mut_slice(), IPCR, r),
+            offset if offset < IMPR => self.outputs.answer(OPCR, r),
+            _ => self.inputs.answer(IPCR, r),
         }
     }
 
@@ -78,8 +82,8 @@ impl Plugs {
         match offset {
             OMPR => Some(self.output_master()),
             IMPR => Some(self.input_master()),
-            offset if offset < IMPR => register_in(self.outputs.as_slice(), OPCR, offset),
-            _ => register_in(self.inputs.as_slice(), IPCR, offset),
+            offset if offset < IMPR => self.outputs.register(OPCR, offset),
+            _ => self.inputs.register(IPCR, offset),
         }
     }
 
@@ -95,33 +99,37 @@ impl Plugs {
         Register::ReadOnly(master(self.rate, 0, self.inputs.len()))
     }
 
-    /// A bus reset: no plug is connected any more, and all other fields stay.
+    /// A bus reset: no plug is connected any more, and all other fields stay. An output plug that talked and an input plug
+    /// that heard lingers: it goes on until the second is over, or a request changes its word.
     pub fn reset(&mut self)
         ensures { self.new ≡ reset_words self.old }
     {
-        disconnect(self.outputs.as_mut_slice());
-        disconnect(self.inputs.as_mut_slice());
+        self.outputs.reset();
+        self.inputs.reset();
     }
 
-    /// The second after a bus reset is over. No register changes.
+    /// The second after a bus reset is over: no plug lingers. No register changes.
     pub fn second_over(&mut self)
-        ensures { self.new ≡ self.old }
-    {}
+        ensures { self.new ≡ after_second self.old }
+    {
+        self.outputs.second_over();
+        self.inputs.second_over();
+    }
 
-    /// Output plug `n` sends: it is connected.
+    /// Output plug `n` sends: it is connected, or lingers.
     pub fn talks(&self, n: u8) -> bool
         requires { n < length self.now.outputs }
-        ensures { result ≡ is_connected (slice_index self.now.outputs n) }
+        ensures { result ≡ is_active (slice_index self.now.outputs n) (slice_index_or self.now.lingering_outputs n false) }
     {
-        self.out_word(n).is_connected()
+        self.outputs.is_active(n)
     }
 
-    /// Input plug `n` listens: it is connected.
+    /// Input plug `n` listens: it is connected, or lingers.
     pub fn hears(&self, n: u8) -> bool
         requires { n < length self.now.inputs }
-        ensures { result ≡ is_connected (slice_index self.now.inputs n) }
+        ensures { result ≡ is_active (slice_index self.now.inputs n) (slice_index_or self.now.lingering_inputs n false) }
     {
-        self.in_word(n).is_connected()
+        self.inputs.is_active(n)
     }
 
     /// The register of output plug `n`.
@@ -129,7 +137,7 @@ impl Plugs {
         requires { n < length self.now.outputs }
         ensures { result.0 ≡ slice_index self.now.outputs n }
     {
-        OutWord(self.outputs.as_slice()[usize::from(n)].get())
+        OutWord(self.outputs.word(n))
     }
 
     /// The register of input plug `n`.
@@ -137,6 +145,19 @@ impl Plugs {
         requires { n < length self.now.inputs }
         ensures { result.0 ≡ slice_index self.now.inputs n }
     {
-        InWord(self.inputs.as_slice()[usize::from(n)].get())
+        InWord(self.inputs.word(n))
     }
+}
+
+/// A master plug register: the data rate, the base of the broadcast channels, two extension fields of ones, and the
+/// number of plugs.
+fn master(rate: u8, base: u8, plugs: usize) -> u32
+    requires rate { rate ≤ 2 }
+    requires base { base < 64 }
+    requires plugs { plugs ≤ 31 }
+    ensures { result ≡ packed ((2, rate) ∷ (6, base) ∷ (8, 0xFF) ∷ (8, 0xFF) ∷ (3, 0) ∷ (5, plugs) ∷ []) 0 }
+{
+    let word = with_field(u32::from(rate), 6, u32::from(base));
+    let word = with_field(word, 16, 0xFFFF);
+    with_field(word, 8, plugs as u32)
 }

@@ -1,5 +1,7 @@
 //! Words of plug control registers with their fields and units, and the registers of a device.
 
+ghost use Rattle.std.specs.Prelude.{◌≡◌, length};
+
 use super::*;
 use fw_csr::{REGISTER_SPACE, Reply, Request};
 use fw_words::{Bytes, Quadlet, put_quadlet};
@@ -36,7 +38,10 @@ fn read(plugs: &mut Plugs, offset: u16) -> Reply {
 }
 
 /// The reply to a quadlet compare_swap.
-fn swap(plugs: &mut Plugs, offset: u16, argument: u32, new: u32) -> Reply {
+fn swap(plugs: &mut Plugs, offset: u16, argument: u32, new: u32) -> Reply
+    ensures outputs { length plugs.new.outputs ≡ length plugs.old.outputs }
+    ensures inputs { length plugs.new.inputs ≡ length plugs.old.inputs }
+{
     let mut bytes = Bytes::new();
     bytes.append(&put_quadlet(Quadlet(argument)));
     bytes.append(&put_quadlet(Quadlet(new)));
@@ -83,16 +88,80 @@ fn the_plugs_answer(rt: HostRuntime) {
     }
 }
 
+/// What comes to the plugs.
+#[derive(Clone, Copy)]
+enum Event {
+    Reset,
+    SecondOver,
+    /// The word of the output plug is swapped for this one.
+    Output(u32),
+    /// The same of the input plug.
+    Input(u32),
+}
+
+fn happen(plugs: &mut Plugs, event: Event)
+    requires outputs { length plugs.old.outputs ≡ 1 }
+    requires inputs { length plugs.old.inputs ≡ 1 }
+    ensures outputs { length plugs.new.outputs ≡ 1 }
+    ensures inputs { length plugs.new.inputs ≡ 1 }
+{
+    let (offset, old, new) = match event {
+        Event::Reset => return plugs.reset(),
+        Event::SecondOver => return plugs.second_over(),
+        Event::Output(new) => (0x904, plugs.out_word(0).0, new),
+        Event::Input(new) => (0x984, plugs.in_word(0).0, new),
+    };
+    let _ = swap(plugs, offset, old, new);
+}
+
+// Rows of: what comes, whether the output plug then talks and the input plug hears, and the words of both.
 #[test]
-fn a_reset_clears_connections(rt: HostRuntime) {
+fn plugs_linger_over_a_reset(rt: HostRuntime) {
     let mut plugs = Plugs::new(1, 1, 0);
-    assert!(rt; !plugs.talks(0) && !plugs.hears(0));
-    let _ = swap(&mut plugs, 0x904, 0x803F_007A, 0x8203_207A);
-    let _ = swap(&mut plugs, 0x984, 0x803F_0000, 0xC103_0000);
-    assert_eq!(rt; read(&mut plugs, 0x904).value, 0x8203_207A);
-    plugs.reset();
-    assert_eq!(rt; read(&mut plugs, 0x904).value, 0x8003_207A);
-    assert_eq!(rt; read(&mut plugs, 0x984).value, 0x8003_0000);
-    plugs.second_over();
-    assert_eq!(rt; read(&mut plugs, 0x904).value, 0x8003_207A);
+    let rows = [
+        (Event::Reset, false, false, 0x803F_007A, 0x803F_0000),
+        (
+            Event::Output(0x8203_207A),
+            true,
+            false,
+            0x8203_207A,
+            0x803F_0000,
+        ),
+        (
+            Event::Input(0xC103_0000),
+            true,
+            true,
+            0x8203_207A,
+            0xC103_0000,
+        ),
+        (Event::Reset, true, true, 0x8003_207A, 0x8003_0000),
+        (Event::Reset, true, true, 0x8003_207A, 0x8003_0000),
+        (
+            Event::Output(0x8003_207A),
+            true,
+            true,
+            0x8003_207A,
+            0x8003_0000,
+        ),
+        (
+            Event::Output(0x8103_207A),
+            true,
+            true,
+            0x8103_207A,
+            0x8003_0000,
+        ),
+        (
+            Event::Output(0x8003_207A),
+            false,
+            true,
+            0x8003_207A,
+            0x8003_0000,
+        ),
+        (Event::SecondOver, false, false, 0x8003_207A, 0x8003_0000),
+    ];
+    for (event, talks, hears, output, input) in rows {
+        happen(&mut plugs, event);
+        assert_eq!(rt; (plugs.talks(0), plugs.hears(0)), (talks, hears));
+        assert_eq!(rt; (plugs.out_word(0).0, plugs.in_word(0).0), (output, input));
+    }
 }

@@ -66,7 +66,7 @@ impl OutWord {
     pub fn is_connected(self) -> bool
         ensures { result ≡ is_connected self.0 }
     {
-        self.broadcast() || self.counter() != 0
+        is_connected(self.0)
     }
 }
 
@@ -103,6 +103,13 @@ impl InWord {
     pub fn is_connected(self) -> bool
         ensures { result ≡ is_connected self.0 }
     {
-        self.broadcast() || self.counter() != 0
+        is_connected(self.0)
     }
+}
+
+/// The broadcast connection bit or the point-to-point connection counter of a register is not 0.
+pub(crate) fn is_connected(word: u32) -> bool
+    ensures { result ≡ is_connected word }
+{
+    Quadlet(word).field(1, 1) == 1 || Quadlet(word).field(2, 7) != 0
 }

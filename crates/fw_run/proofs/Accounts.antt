@@ -7,8 +7,8 @@ use Rattle.std.proofs.lemmas.Nat.{from_be_bytes-to_be_bytes_4}
 use Rattle.fw_base.specs.declared.plug.PlugAt.{PlugAt}
 use Rattle.fw_words.specs.Quadlet.{quadlet_at}
 use Rattle.fw_plug.specs.Words.{flag}
-use Rattle.fw_log.specs.declared.entry.Entry.TheVariants.{Async}
-use Rattle.fw_log.specs.declared.entry.ResetEntry.{ResetEntry}
+use Rattle.fw_entry.specs.declared.entry.Entry.TheVariants.{Async}
+use Rattle.fw_entry.specs.declared.entry.ResetEntry.{ResetEntry}
 use Rattle.fw_cmp.specs.declared.request.Register.{Register}
 use Rattle.fw_cmp.specs.declared.request.Register.TheVariants.{OutputPlug, Channels, BandwidthAvailable}
 use Rattle.fw_cmp.specs.declared.request.Request.{Request}
@@ -20,7 +20,8 @@ use Rattle.fw_base.specs.declared.plug.ConnectionKind.{ConnectionKind}
 use Rattle.fw_cmp.specs.Stages.{IsHalf, register_of as stage_register}
 use Rattle.fw_ledger.specs.Account.{Account, Reads, Locks, is_free, is_there, Request as OutstandingRequest}
 use Rattle.fw_ledger.specs.Moves.{Move, after}
-use Rattle.fw_ledger.specs.Network.{device_of_id, is_output}
+use Rattle.fw_entry.specs.Network.{device_of_id}
+use Rattle.fw_ledger.specs.Network.{is_output}
 use Rattle.fw_ledger.specs.Words.{register_of}
 use Rattle.fw_ledger.specs.Decode.{move_at}
 use Rattle.fw_ledger.specs.Packets.{asked, ended, asked_by, answered, replied_to, swapped, moved, is_swapped, Read, Locked}

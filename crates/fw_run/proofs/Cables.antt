@@ -1,7 +1,7 @@
 -- A cable, and a bus reset that a device begins, lead from a good state to a good state.
-use Rattle.std.proofs.Common.{◌≡◌, ◌↔◌, ℕ, ◌<◌, List, length, Bool, true, false, Option, Some, None, refl, ap, sym, subst, ◌∙◌, arith, is_some, IsTrue, IsFalse}
-use Rattle.fw_log.specs.declared.entry.ResetEntry.{ResetEntry}
-use Rattle.fw_log.specs.declared.entry.Timed.{Timed}
+use Rattle.std.proofs.Common.{◌≡◌, ◌↔◌, ℕ, ◌<◌, List, length, ◌≤◌, Bool, true, false, Option, Some, None, refl, ap, sym, subst, ◌∙◌, arith, is_some, IsTrue, IsFalse}
+use Rattle.fw_entry.specs.declared.entry.ResetEntry.{ResetEntry}
+use Rattle.fw_entry.specs.declared.entry.Timed.{Timed}
 use Rattle.fw_tree.specs.declared.facts.End.{End}
 use Rattle.fw_tree.specs.declared.facts.PhyFacts.{PhyFacts}
 use Rattle.fw_tree.specs.Cables.{IsOnBus}
@@ -51,8 +51,8 @@ cabled_kinds s u a b j h = subst (λ (xs : List PhyFacts). AreKinds xs s.kinds) 
 cabled_named : (s : State) (u : Topology) (a b : End) → IsJoined s.topology u a b → length s.names ≡ length s.topology.devices → length s.names ≡ length u.devices
 cabled_named s u a b j h = h ∙ ap (λ (xs : List PhyFacts). length xs) (sym j.same)
 
-cabled_may : (s : State) (u : Topology) (a b : End) → IsGood s → IsFalse s.began → IsJoined s.topology u a b → 0 < length s.names → MayReset (record s { topology = u })
-cabled_may s u a b g before j some = record {
+cabled_may : (s : State) (u : Topology) (a b : End) → IsGood s → IsFalse s.began → IsJoined s.topology u a b → 0 < length s.names → s.transaction ≡ None → MayReset (record s { topology = u })
+cabled_may s u a b g before j some free = record {
   sound = g.sound;
   made = Topologies.cable g.made a b j;
   kinds = cabled_kinds s u a b j g.kinds;
@@ -63,6 +63,7 @@ cabled_may s u a b g before j some = record {
   alone = g.alone;
   cycle = g.cycle;
   half_steps = g.half_steps;
+  free = free;
 }
 
 latest_cabled : (s : State) (u : Topology) (a b : End) → IsGood s → IsJoined s.topology u a b → (IsTrue (is_on s a.device) → ⊥) → (IsTrue (is_on s b.device) → ⊥) → (o : Option ResetEntry) → s.account.latest ≡ o → IsLatest o s → IsLatest o (record s { topology = u })
@@ -92,23 +93,26 @@ cabled_good s u a b g before j off_a off_b = record {
   reset_cycle = g.reset_cycle;
   cycle = g.cycle;
   half_steps = g.half_steps;
+  bus_manager_id = g.bus_manager_id;
+  asks = g.asks;
 }
 
-pub cable_led : (s : State) (u : Topology) (a b : End) (out : List Timed) (t : State) → IsGood s → IsFalse s.began → IsJoined s.topology u a b → Joins (is_on s a.device) (is_on s b.device) a.device b.device (record s { topology = u }) out t → Led s out t
-cable_led s u a b out t g before j h = go (is_on s a.device) (is_on s b.device) refl refl h
+pub cable_led : (s : State) (u : Topology) (a b : End) (out : List Timed) (t : State) → IsGood s → s.transaction ≡ None → IsFalse s.began → IsJoined s.topology u a b → Joins (is_on s a.device) (is_on s b.device) a.device b.device (record s { topology = u }) out t → Led s out t
+cable_led s u a b out t g free before j h = go (is_on s a.device) (is_on s b.device) refl refl h
   where
     go : (x y : Bool) → is_on s a.device ≡ x → is_on s b.device ≡ y → Joins x y a.device b.device (record s { topology = u }) out t → Led s out t
-    go true false on_a off_b r = led_reset s (record s { topology = u }) a.device out t refl refl (cabled_may s u a b g before j (on_some s a.device g on_a)) r
-    go false true off_a on_b r = led_reset s (record s { topology = u }) b.device out t refl refl (cabled_may s u a b g before j (on_some s b.device g on_b)) r
+    go true false on_a off_b r = led_reset s (record s { topology = u }) a.device out t refl refl (cabled_may s u a b g before j (on_some s a.device g on_a) free) r
+    go false true off_a on_b r = led_reset s (record s { topology = u }) b.device out t refl refl (cabled_may s u a b g before j (on_some s b.device g on_b) free) r
     go true true on_a on_b r =
         let some = on_some s a.device g on_a in
         absurd (never_both s.topology u a b g.made j ((on_is_bus s g some a.device).0 on_a) ((on_is_bus s g some b.device).0 on_b))
     go false false off_a off_b r = led_silent s out t r.0 (subst IsGood (sym r.1) (cabled_good s u a b g before j (λ on. let no : ⊥ = cc in no) (λ on. let no : ⊥ = cc in no))) (ap (λ (z : State). z.account) r.1)
+        (let after : t.cycle ≡ s.cycle = ap (λ (z : State). z.cycle) r.1 in omega (arith, after))
 
 -- ---- a bus reset that a device begins
 
-pub reset_led : (s : State) (d : ℕ) (out : List Timed) (t : State) → IsGood s → IsFalse s.began → IsTrue (is_on s d) → Resets s d out t → Led s out t
-reset_led s d out t g before on r = led_reset s s d out t refl refl (record {
+pub reset_led : (s : State) (d : ℕ) (out : List Timed) (t : State) → IsGood s → s.transaction ≡ None → IsFalse s.began → IsTrue (is_on s d) → Resets s d out t → Led s out t
+reset_led s d out t g free before on r = led_reset s s d out t refl refl (record {
   sound = g.sound;
   made = g.made;
   kinds = g.kinds;
@@ -119,4 +123,5 @@ reset_led s d out t g before on r = led_reset s s d out t refl refl (record {
   alone = g.alone;
   cycle = g.cycle;
   half_steps = g.half_steps;
+  free = free;
 }) r

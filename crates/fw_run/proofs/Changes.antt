@@ -1,14 +1,14 @@
 -- What leaves a state good: another account and controller, nothing, or a request.
-use Rattle.std.proofs.Common.{◌≡◌, ◌≢◌, ℕ, ◌+◌, ◌<◌, List, Bool, true, false, Option, Some, None, cond, refl, ap, sym, subst, ◌∙◌, arith, ◌⊎◌, inl, inr, unwrap_or}
-use Rattle.std.specs.Prelude.{IsFalse}
+use Rattle.std.proofs.Common.{◌≡◌, ◌≢◌, ℕ, ◌+◌, ◌<◌, List, Bool, true, false, Option, Some, None, cond, refl, ap, sym, subst, ◌∙◌, arith, ◌⊎◌, inl, inr, unwrap_or, is_some}
+use Rattle.std.specs.Prelude.{IsFalse, IsTrue}
 use Rattle.std.proofs.lemmas.Bool.Decides.{nat_tests}
 use Rattle.fw_base.specs.declared.plug.PlugAt.{PlugAt}
 use Rattle.fw_base.specs.declared.plug.ConnectionKind.{ConnectionKind}
 use Rattle.fw_base.specs.Tables.{update}
 use Rattle.fw_phy.specs.declared.packet.PhyPacket.{PhyPacket}
-use Rattle.fw_log.specs.declared.entry.Entry.{Entry}
-use Rattle.fw_log.specs.declared.entry.Entry.TheVariants.{Async}
-use Rattle.fw_log.specs.declared.entry.ResetEntry.{ResetEntry}
+use Rattle.fw_entry.specs.declared.entry.Entry.{Entry}
+use Rattle.fw_entry.specs.declared.entry.Entry.TheVariants.{Async}
+use Rattle.fw_entry.specs.declared.entry.ResetEntry.{ResetEntry}
 use Rattle.fw_cmp.specs.declared.job.Job.{Job}
 use Rattle.fw_cmp.specs.declared.stage.Stage.{Stage}
 use Rattle.fw_cmp.specs.declared.request.Register.{Register}
@@ -26,10 +26,10 @@ use Rattle.fw_devices.specs.Entries.{lone_deck}
 use Rattle.fw_run.specs.declared.controller.Controller.{Controller}
 use Rattle.fw_run.specs.declared.controller.Controller.TheVariants.{Idle, Hearing}
 use Rattle.fw_run.specs.Packets.{request_packet, request_record, offset_of}
-use Rattle.fw_run.specs.State.{State, entered}
+use Rattle.fw_run.specs.State.{State, entered, number_in}
 use Rattle.fw_run.specs.Halves.{asks_after, counted}
 use Rattle.fw_run.specs.Run.{own_plug}
-use Rattle.fw_run.specs.Good.{IsGood, IsOwnJob, InStep, IsLone, IsLatest, IsOutsideOfSecond, asked_of, outstanding_of}
+use Rattle.fw_run.specs.Good.{IsGood, IsOwnJob, EndFits, InStep, IsLone, IsLatest, IsOutsideOfSecond, asked_of, outstanding_of}
 use Rattle.fw_run.proofs.Accounts.{IsAsked, asked_next}
 use Rattle.fw_run.proofs.Registers.{has_begun, is_lone, own_request}
 use Rattle.fw_run.proofs.Leads.{Leads}
@@ -71,6 +71,8 @@ changed_good s m c others g works few h = record {
   reset_cycle = g.reset_cycle;
   cycle = g.cycle;
   half_steps = omega arith;
+  bus_manager_id = g.bus_manager_id;
+  asks = λ x waits. subst (λ o. IsTrue (is_some (number_in o x.to))) (sym h.latest) (g.asks x waits);
 }
   where
     lone : IsLone s.account.latest
@@ -100,6 +102,8 @@ rests s g few = record {
     reset_cycle = g.reset_cycle;
     cycle = g.cycle;
     half_steps = omega arith;
+    bus_manager_id = g.bus_manager_id;
+    asks = g.asks;
   };
   next = refl;
 }
@@ -140,14 +144,14 @@ request_entered s q g works out = entered_is s.account _ (Async (request_packet 
 
 -- a stage that makes its request is in step with the account that has it
 pub request_leads : (s : State) (j : Job) (stage : Stage) → IsGood s → (s.controller ≡ Idle → ⊥) → s.half_steps < 4000000 → IsFalse s.account.reclaiming → s.account.outstanding 0 ≡ None → request_of j stage ≡ Some (own_request j stage)
-    → IsOwnJob j → WordsFit stage → IsInStep (asked 0 (request_record (own_request j stage)) s.account) 0 j stage s.others
+    → IsOwnJob j → WordsFit stage → EndFits stage → IsInStep (asked 0 (request_record (own_request j stage)) s.account) 0 j stage s.others
     → Leads s (Some (Async (request_packet (own_request j stage)))) (counted (asks_after (Some (own_request j stage)) j stage s))
-request_leads s j stage g works few no_second out is own words step = record {
+request_leads s j stage g works few no_second out is own words ends step = record {
   good = subst (λ a. IsGood (counted (record s { account = a; controller = Hearing j stage }))) (sym same) (changed_good s (asked 0 (request_record q) s.account) (Hearing j stage) s.others g works few (record {
     sound = asked_keeps 0 (request_record q) s.account (not_none s.account.latest lone) g.sound;
     latest = refl;
     reclaiming = refl;
-    step = record { step = step; own = own; words = words };
+    step = record { step = step; own = own; words = words; ends = ends };
     outstanding = ap asked_of (sym is);
     outside = no_second;
     alone = λ d ne. alone_stays s.account _ d ne (g.alone d ne);

@@ -1,22 +1,24 @@
 -- Devices, cables, time and the broadcast connection lead from a good state to a good state.
-use Rattle.std.proofs.Common.{◌≡◌, ◌⊎◌, inl, ℕ, ◌+◌, ◌<◌, ◌≤◌, List, [], ◌∷◌, ◌++◌, length, Bool, true, false, Option, Some, None, refl, ap, sym, subst, ◌∙◌, arith, IsTrue, IsFalse}
+use Rattle.std.proofs.Common.{◌≡◌, ◌⊎◌, inl, ℕ, ◌+◌, ◌<◌, ◌≤◌, ◌^◌, List, [], ◌∷◌, ◌++◌, length, Bool, true, false, Option, Some, None, refl, ap, sym, subst, ◌∙◌, arith, IsTrue, IsFalse}
 use Rattle.fw_base.specs.declared.device.DeviceKind.{DeviceKind}
 use Rattle.fw_base.specs.declared.device.DeviceKind.TheVariants.{Deck}
 use Rattle.fw_base.specs.declared.plug.ConnectionKind.{ConnectionKind}
 use Rattle.fw_base.specs.declared.plug.ConnectionKind.TheVariants.{PointToPoint, Broadcast}
-use Rattle.fw_log.specs.declared.entry.Entry.{Entry}
-use Rattle.fw_log.specs.declared.entry.Entry.TheVariants.{Reset, Async}
-use Rattle.fw_log.specs.declared.entry.ResetEntry.{ResetEntry}
-use Rattle.fw_log.specs.declared.entry.Timed.{Timed}
+use Rattle.fw_entry.specs.declared.entry.Entry.{Entry}
+use Rattle.fw_entry.specs.declared.entry.Entry.TheVariants.{Reset, Async}
+use Rattle.fw_entry.specs.declared.entry.ResetEntry.{ResetEntry}
+use Rattle.fw_entry.specs.declared.entry.Timed.{Timed}
+use Rattle.fw_entry.specs.Log.{Fits}
 use Rattle.fw_tree.specs.Topology.{Topology, Made, IsJoined}
 use Rattle.fw_tree.specs.Topology as Topologies
 use Rattle.fw_ledger.proofs.Fold.{starts_sound}
 use Rattle.fw_step.specs.InStep.{connections_of}
 use Rattle.fw_devices.specs.Network.{facts_of}
+use Rattle.fw_devices.proofs.EntryLaws.{entry_fits}
 use Rattle.fw_run.specs.declared.order.Transaction.{Transaction}
 use Rattle.fw_run.specs.Giving.{at_most}
 use Rattle.fw_run.specs.Spaces.{transaction_packet}
-use Rattle.fw_run.specs.State.{State, first_state, is_on, with_device}
+use Rattle.fw_run.specs.State.{State, first_state, is_on, with_device, epoch_of}
 use Rattle.fw_run.specs.Run.{Resets, Declares}
 use Rattle.fw_run.specs.Headline.{IsAnswered, IsReadIn}
 use Rattle.fw_run.specs.Good.{IsGood, IsLatest}
@@ -41,6 +43,9 @@ pub record Led (s : State) (out : List Timed) (t : State) : Type 0 where
   pub answers : (e : Entry) → entry ≡ Some e → IsAnswered s.account e
   -- it asks for no word of the account, or for one that the next entry shows
   pub asks : (e u : Entry) → entry ≡ Some e → IsReadIn s.account e u ⊎ IsAsked s e t
+  -- it may be written, and its cycle is not behind that of the next
+  pub fits : (e : Entry) → entry ≡ Some e → Fits e
+  pub later : s.cycle ≤ t.cycle
 
 -- ---- the first state
 
@@ -62,6 +67,8 @@ first_good = record {
   reset_cycle = omega arith;
   cycle = omega arith;
   half_steps = omega arith;
+  bus_manager_id = omega arith;
+  asks = λ x waits. let no : ⊥ = cc in absurd no;
 }
   where
     none_ : (kind : ConnectionKind) → connections_of 0 kind (record { counts = λ c. 0; orphaned = 0; broadcast = None }) ≡ 0
@@ -70,8 +77,16 @@ first_good = record {
 
 -- ---- what writes nothing, and what shows no word
 
-pub led_silent : (s : State) (out : List Timed) (t : State) → out ≡ [] → IsGood t → t.account ≡ s.account → Led s out t
-led_silent s out t none good same = record { entry = None; is = none; leads = record { good = good; next = same }; answers = λ e x. let no : ⊥ = cc in absurd no; asks = λ e u x. let no : ⊥ = cc in absurd no }
+pub led_silent : (s : State) (out : List Timed) (t : State) → out ≡ [] → IsGood t → t.account ≡ s.account → s.cycle ≤ t.cycle → Led s out t
+led_silent s out t none good same later = record {
+  entry = None;
+  is = none;
+  leads = record { good = good; next = same };
+  answers = λ e x. let no : ⊥ = cc in absurd no;
+  asks = λ e u x. let no : ⊥ = cc in absurd no;
+  fits = λ e x. let no : ⊥ = cc in absurd no;
+  later = later;
+}
 
 pub led_reset : (s0 s : State) (initiator : ℕ) (out : List Timed) (t : State) → s0.cycle ≡ s.cycle → s0.account ≡ s.account → MayReset s → Resets s initiator out t → Led s0 out t
 led_reset s0 s initiator out t cycle account m r = record {
@@ -80,12 +95,19 @@ led_reset s0 s initiator out t cycle account m r = record {
   leads = let x = reset_leads s initiator out t m r in record { good = x.good; next = subst (λ l. NextIs l (Some (Reset r.entry)) t.account) (sym account) x.next };
   answers = λ e x. let same : Reset r.entry ≡ e = cc in subst (λ z. IsAnswered s0.account z) same tt;
   asks = λ e u x. let same : Reset r.entry ≡ e = cc in inl (subst (λ z. IsReadIn s0.account z u) same tt);
+  fits = λ e x.
+      let same : Reset r.entry ≡ e = cc in
+      let few = r.few in
+      let low : epoch_of s.account.latest + 1 < 2 ^ 32 = omega (arith, few) in
+      subst Fits same (entry_fits s.topology s.kinds (epoch_of s.account.latest + 1) initiator r.entry m.made m.kinds low r.is_entry);
+  later = let after : t.cycle ≡ s.cycle = ap (λ (z : State). z.cycle) r.state_is in omega (arith, cycle, after);
 }
 
 -- ---- a device more
 
-declared_may : (s : State) (name : List ℕ) (kind : DeviceKind) (ports speed : ℕ) → IsGood s → length s.names < 63 → 1 ≤ ports → ports ≤ 27 → speed ≤ 2 → IsFalse s.began → MayReset (with_device s name kind ports speed)
-declared_may s name kind ports speed g room some most fast before = record {
+declared_may : (s : State) (name : List ℕ) (kind : DeviceKind) (ports speed : ℕ) → IsGood s → length s.names < 63 → 1 ≤ ports → ports ≤ 27 → speed ≤ 2
+    → IsFalse s.began → s.transaction ≡ None → MayReset (with_device s name kind ports speed)
+declared_may s name kind ports speed g room some most fast before free = record {
   sound = g.sound;
   made = made_more s.topology (facts_of kind ports speed) g.made (subst (λ n. n < 63) g.named room) some most fast;
   kinds = kinds_more s.topology.devices s.kinds kind ports speed g.kinds;
@@ -96,6 +118,7 @@ declared_may s name kind ports speed g room some most fast before = record {
   alone = g.alone;
   cycle = g.cycle;
   half_steps = g.half_steps;
+  free = free;
 }
 
 -- there was one device: there are two
@@ -130,6 +153,8 @@ declared_good s name kind ports speed g room some most fast there = record {
   reset_cycle = g.reset_cycle;
   cycle = g.cycle;
   half_steps = g.half_steps;
+  bus_manager_id = g.bus_manager_id;
+  asks = g.asks;
 }
 
 -- before the first device nothing was asked for
@@ -142,9 +167,10 @@ first_before s g none true is = absurd (go s.account.latest refl g.latest)
     go (Some e) at h = omega (arith, h.0, ap (λ (xs : List (List ℕ)). length xs) none)
 
 pub device_led : (s : State) (name : List ℕ) (kind : DeviceKind) (ports speed : ℕ) (out : List Timed) (t : State) → IsGood s → length s.names < 63 → 1 ≤ ports → ports ≤ 27 → speed ≤ 2
-    → Declares s.names (with_device s name kind ports speed) out t → Led s out t
-device_led s name kind ports speed out t g room some most fast h = go s.names refl h
+    → s.transaction ≡ None → Declares s.names (with_device s name kind ports speed) out t → Led s out t
+device_led s name kind ports speed out t g room some most fast free h = go s.names refl h
   where
     go : (names : List (List ℕ)) → s.names ≡ names → Declares names (with_device s name kind ports speed) out t → Led s out t
-    go [] is r = led_reset s (with_device s name kind ports speed) 0 out t refl refl (declared_may s name kind ports speed g room some most fast (first_before s g is s.began refl)) r
+    go [] is r = led_reset s (with_device s name kind ports speed) 0 out t refl refl (declared_may s name kind ports speed g room some most fast (first_before s g is s.began refl) free) r
     go (x ∷ xs) is r = led_silent s out t r.0 (subst IsGood (sym r.1) (declared_good s name kind ports speed g room some most fast (subst (λ (ys : List (List ℕ)). 0 < length ys) (sym is) (omega arith)))) (ap (λ (z : State). z.account) r.1)
+        (let after : t.cycle ≡ s.cycle = ap (λ (z : State). z.cycle) r.1 in omega (arith, after))

@@ -2,8 +2,8 @@
 use Rattle.std.proofs.Common.{◌≡◌, ℕ, [], Bool, true, false, Option, Some, None, cond, eqb, refl, ap, sym, subst, ◌∙◌}
 use Rattle.std.specs.Int.{to_be_bytes, w32}
 use Rattle.fw_words.specs.Quadlet.{quadlet_at}
-use Rattle.fw_log.specs.declared.entry.Entry.{Entry}
-use Rattle.fw_log.specs.declared.entry.Entry.TheVariants.{Async}
+use Rattle.fw_entry.specs.declared.entry.Entry.{Entry}
+use Rattle.fw_entry.specs.declared.entry.Entry.TheVariants.{Async}
 use Rattle.fw_cmp.specs.declared.job.Job.{Job}
 use Rattle.fw_cmp.specs.declared.stage.Stage.{Stage}
 use Rattle.fw_cmp.specs.declared.stage.Stage.TheVariants.{ReadOutput}
@@ -11,7 +11,7 @@ use Rattle.fw_cmp.specs.declared.request.Request.{Request}
 use Rattle.fw_cmp.specs.declared.request.Swap.{Swap}
 use Rattle.fw_cmp.specs.Stages.{request_of, register_of, swap_of, is_over}
 use Rattle.fw_ledger.specs.Account.{Account}
-use Rattle.fw_ledger.specs.Network.{device_of_id}
+use Rattle.fw_entry.specs.Network.{device_of_id}
 use Rattle.fw_ledger.specs.Words.{register_of as account_register_of, word_of}
 use Rattle.fw_step.specs.InStep.{answer, word_at}
 use Rattle.fw_step.specs.Moves.{account_register}

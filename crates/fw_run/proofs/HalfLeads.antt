@@ -3,8 +3,8 @@ use Rattle.std.proofs.Common.{◌≡◌, ℕ, ◌+◌, ◌^◌, ◌<◌, Bool, t
 use Rattle.std.specs.Prelude.{IsFalse}
 use Rattle.fw_base.specs.declared.plug.PlugAt.{PlugAt}
 use Rattle.fw_base.specs.declared.plug.ConnectionKind.{ConnectionKind}
-use Rattle.fw_log.specs.declared.entry.Entry.TheVariants.{Async}
-use Rattle.fw_log.specs.declared.entry.ResetEntry.{ResetEntry}
+use Rattle.fw_entry.specs.declared.entry.Entry.TheVariants.{Async}
+use Rattle.fw_entry.specs.declared.entry.ResetEntry.{ResetEntry}
 use Rattle.fw_cmp.specs.declared.job.Job.{Job}
 use Rattle.fw_cmp.specs.declared.stage.Stage.{Stage}
 use Rattle.fw_cmp.specs.declared.stage.Stage.TheVariants.{ReadOutput, OutputConnected, Ended}
@@ -20,7 +20,7 @@ use Rattle.fw_ledger.proofs.Packets.{ended_keeps}
 use Rattle.fw_ledger.proofs.Tests.{no_pending_found}
 use Rattle.fw_step.specs.InStep.{IsInStep, HoldsPending, answer, tried, job_connections}
 use Rattle.fw_step.specs.Moves.{try_of}
-use Rattle.fw_step.proofs.StageFits.{hear_words}
+use Rattle.fw_step.proofs.StageFits.{hear_words, stage_fits}
 use Rattle.fw_devices.specs.Entries.{lone_deck}
 use Rattle.fw_run.specs.declared.controller.Controller.{Controller}
 use Rattle.fw_run.specs.declared.controller.Controller.TheVariants.{Idle, Waiting, Asking, Hearing}
@@ -34,6 +34,7 @@ use Rattle.fw_run.proofs.Accounts.{asks_own, word_below}
 use Rattle.fw_run.proofs.Registers.{is_lone, own_request, not_idle, responds, word_of_response}
 use Rattle.fw_run.proofs.Halves.{Hears, hears, tried_alone}
 use Rattle.fw_run.proofs.Leads.{Leads}
+use Rattle.fw_run.proofs.Ends.{hear_ends}
 use Rattle.fw_run.proofs.Changes.{changed_good, rests, own_addressed, addressed_stays, entered_is, request_leads}
 
 -- ---- where a controller stands
@@ -59,7 +60,7 @@ waiting_leads s j is g few = go s.account.reclaiming refl
     begins no_second =
         let step : IsAtRest s.account s.others × IsOwnJob j = subst (λ c. InStep s.account c s.others) is g.step in
         let out : s.account.outstanding 0 ≡ None = g.outstanding ∙ ap outstanding_of is in
-        request_leads s j ReadOutput g works few no_second out refl step.1 tt (record {
+        request_leads s j ReadOutput g works few no_second out refl step.1 tt tt (record {
           addressed = addressed_ s.account.latest lone.2 step.0.no_pending ∙ ap (λ (p : PlugAt). Some p) (sym step.1.plug);
           pending = step.0.no_pending;
           connections = λ kind q. step.0.connections kind q ∙ plus_none (s.others kind q);
@@ -118,7 +119,7 @@ asking_leads s j stage is g few = go (is_over stage) refl
       });
       next = refl;
     }
-    go false e = request_leads s j stage g works few no_second out (ap (λ b. cond b None (Some q)) e) at.own at.words (record {
+    go false e = request_leads s j stage g works few no_second out (ap (λ b. cond b None (Some q)) e) at.own at.words at.ends (record {
       addressed = addressed_ s.account.latest lone.2 ∙ ap (λ (p : PlugAt). Some p) (sym at.own.plug);
       pending = at.step.pending;
       connections = at.step.connections;
@@ -184,7 +185,7 @@ hearing_leads s j stage is g few = go (is_over stage) refl
             sound = ended_keeps 0 m h.sound;
             latest = h.latest;
             reclaiming = h.reclaiming;
-            step = record { step = ended_step m j (hear j stage v) s.others h.step; own = at.own; words = hear_words j stage v (answer_below s j stage g is) at.words };
+            step = record { step = ended_step m j (hear j stage v) s.others h.step; own = at.own; words = hear_words j stage v (answer_below s j stage g is) at.words; ends = hear_ends j stage v (answer_below s j stage g is) (stage_fits s.account 0 j stage s.others at.own.job at.step) at.ends };
             outstanding = refl;
             outside = h.reclaiming ∙ no_second;
             alone = λ d ne. tried_alone s.account j.plug (try_of j stage) v d ∙ g.alone d ne;

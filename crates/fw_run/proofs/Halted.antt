@@ -1,10 +1,10 @@
 -- A half step, as one action.
-use Rattle.std.proofs.Common.{◌≡◌, inl, ℕ, ◌<◌, List, Bool, true, false, Option, Some, None, cond, eqb, refl, ap, sym, subst, ◌∙◌, arith}
+use Rattle.std.proofs.Common.{◌≡◌, inl, ℕ, ◌<◌, ◌≤◌, List, Bool, true, false, Option, Some, None, cond, eqb, refl, ap, sym, subst, ◌∙◌, arith}
 use Rattle.fw_async.specs.declared.packet.Packet.{Packet}
 use Rattle.fw_async.specs.declared.packet.Packet.TheVariants.{WriteQuadlet, WriteBlock, WriteReply, ReadQuadlet, ReadBlock, ReadQuadletReply, ReadBlockReply, CycleStart, Lock, LockReply}
-use Rattle.fw_log.specs.declared.entry.Entry.{Entry}
-use Rattle.fw_log.specs.declared.entry.Entry.TheVariants.{Async}
-use Rattle.fw_log.specs.declared.entry.Timed.{Timed}
+use Rattle.fw_entry.specs.declared.entry.Entry.{Entry}
+use Rattle.fw_entry.specs.declared.entry.Entry.TheVariants.{Async}
+use Rattle.fw_entry.specs.declared.entry.Timed.{Timed}
 use Rattle.fw_cmp.specs.declared.job.Job.{Job}
 use Rattle.fw_cmp.specs.declared.stage.Stage.{Stage}
 use Rattle.fw_cmp.specs.declared.stage.Stage.TheVariants.{ReadOutput}
@@ -16,10 +16,11 @@ use Rattle.fw_step.specs.InStep.{answer}
 use Rattle.fw_run.specs.declared.controller.Controller.{Controller}
 use Rattle.fw_run.specs.declared.controller.Controller.TheVariants.{Idle, Waiting, Asking, Hearing}
 use Rattle.fw_run.specs.Giving.{at_most}
-use Rattle.fw_run.specs.Packets.{own_head, request_by, response_by, response_packet}
+use Rattle.fw_run.specs.Packets.{own_head, request_packet, request_by, response_by, response_packet}
 use Rattle.fw_run.specs.Outcomes.{asked_or_ended}
 use Rattle.fw_run.specs.State.{State}
-use Rattle.fw_run.specs.Halves.{half_says, half_says_by, half_after, answers, response_entry}
+use Rattle.fw_run.specs.Halves.{half_says, half_says_by, half_after, half_after_by, asks_after, heard_after, hears_after, answers, response_entry}
+use Rattle.fw_run.specs.Spaces.{response_from}
 use Rattle.fw_run.specs.Headline.{IsReadIn, IsReadBy}
 use Rattle.fw_run.specs.Good.{IsGood}
 use Rattle.fw_run.proofs.Leads.{Leads}
@@ -27,6 +28,7 @@ use Rattle.fw_run.proofs.Goods.{Led}
 use Rattle.fw_run.proofs.Registers.{own_request, responds}
 use Rattle.fw_run.proofs.HalfLeads.{half_leads}
 use Rattle.fw_run.proofs.HalfAnswers.{half_answers}
+use Rattle.fw_run.proofs.Fitting.{half_fits}
 use Rattle.fw_run.proofs.Transactions.{unread}
 
 -- a controller's requests have label 0
@@ -82,6 +84,36 @@ half_unread s d g e u = at (eqb d 0)
     at true says = go s.controller refl says
     at false says = let no : ⊥ = cc in absurd no
 
+-- it takes no time
+half_cycle : (s : State) (d : ℕ) → (half_after s d).cycle ≡ s.cycle
+half_cycle s d = at (eqb d 0)
+  where
+    asks_ : (o : Option Request) (j : Job) (stage : Stage) → (asks_after o j stage s).cycle ≡ s.cycle
+    asks_ None j stage = refl
+    asks_ (Some q) j stage = refl
+
+    heard_ : (o : Option Packet) (j : Job) (stage : Stage) → (heard_after o j stage s).cycle ≡ s.cycle
+    heard_ None j stage = refl
+    heard_ (Some p) j stage = refl
+
+    hears_ : (o : Option Request) (j : Job) (stage : Stage) → (hears_after o j stage s).cycle ≡ s.cycle
+    hears_ None j stage = refl
+    hears_ (Some q) j stage = heard_ (response_from s 0 (request_packet q)) j stage
+
+    waits_ : (r : Bool) (j : Job) → (cond r s (asks_after (request_of j ReadOutput) j ReadOutput s)).cycle ≡ s.cycle
+    waits_ true j = refl
+    waits_ false j = asks_ (request_of j ReadOutput) j ReadOutput
+
+    go : (c : Controller) → (half_after_by c s).cycle ≡ s.cycle
+    go Idle = refl
+    go (Waiting j) = waits_ s.account.reclaiming j
+    go (Asking j stage) = asks_ (request_of j stage) j stage
+    go (Hearing j stage) = hears_ (request_of j stage) j stage
+
+    at : (b : Bool) → (cond b (half_after_by s.controller s) s).cycle ≡ s.cycle
+    at true = go s.controller
+    at false = refl
+
 pub half_led : (s : State) (d : ℕ) (out : List Timed) (t : State) → IsGood s → s.half_steps < 4000000 → out ≡ at_most s.cycle (half_says s d) → t ≡ half_after s d → Led s out t
 half_led s d out t g few is to = record {
   entry = half_says s d;
@@ -89,4 +121,6 @@ half_led s d out t g few is to = record {
   leads = subst (λ x. Leads s (half_says s d) x) (sym to) (half_leads s d g few);
   answers = half_answers s d g;
   asks = λ e u x. inl (half_unread s d g e u x);
+  fits = half_fits s d g;
+  later = let after : t.cycle ≡ s.cycle = ap (λ (z : State). z.cycle) to ∙ half_cycle s d in omega (arith, after);
 }

@@ -3,7 +3,7 @@ use Rattle.std.proofs.Common.{◌≡◌, ◌≢◌, List, ℕ, ◌^◌, ◌<◌,
 use Rattle.std.proofs.lemmas.Bool.Decides.{nat_tests}
 use Rattle.fw_base.specs.declared.plug.PlugAt.{PlugAt}
 use Rattle.fw_base.specs.declared.plug.ConnectionKind.{ConnectionKind}
-use Rattle.fw_log.specs.declared.entry.Entry.TheVariants.{Async}
+use Rattle.fw_entry.specs.declared.entry.Entry.TheVariants.{Async}
 use Rattle.fw_cmp.specs.declared.job.Job.{Job}
 use Rattle.fw_cmp.specs.declared.stage.Stage.{Stage}
 use Rattle.fw_cmp.specs.Stages.{register_of, swap_of, hear, WordsFit}

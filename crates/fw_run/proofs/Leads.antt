@@ -1,6 +1,6 @@
 -- What one action leads to.
 use Rattle.std.proofs.Common.{◌≡◌, Option, Some, None}
-use Rattle.fw_log.specs.declared.entry.Entry.{Entry}
+use Rattle.fw_entry.specs.declared.entry.Entry.{Entry}
 use Rattle.fw_ledger.specs.Account.{Account}
 use Rattle.fw_ledger.specs.Fold.{next_account}
 use Rattle.fw_run.specs.State.{State}

@@ -3,6 +3,9 @@ pub mod Registers
 pub mod Words
 pub mod Halves
 pub mod Leads
+pub mod Ends
+pub mod Bounds
+pub mod Fitting
 pub mod Changes
 pub mod HalfLeads
 pub mod HalfAnswers
@@ -18,3 +21,7 @@ pub mod Seconds
 pub mod Shown
 pub mod Transactions
 pub mod Sounds
+pub mod Ended
+pub mod OneReset
+pub mod OneLog
+pub mod Logs

@@ -3,7 +3,7 @@ use Rattle.std.proofs.Common.{◌≡◌, ℕ, ◌^◌, ◌<◌, Bool, true, fals
 use Rattle.std.specs.Prelude.{IsTrue}
 use Rattle.fw_base.specs.Devices.{output_plugs_of}
 use Rattle.fw_phy.specs.declared.packet.PhyPacket.{PhyPacket}
-use Rattle.fw_log.specs.declared.nodes.NodeRow.{NodeRow}
+use Rattle.fw_entry.specs.declared.nodes.NodeRow.{NodeRow}
 use Rattle.fw_csr.specs.declared.register.Register.TheVariants.{ReadSwap}
 use Rattle.fw_csr.specs.Manager.{ManagerWords}
 use Rattle.fw_plug.specs.Plugs.{plug_register, output_at}

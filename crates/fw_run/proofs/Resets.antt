@@ -1,12 +1,12 @@
 -- A bus reset leads from a good state to a good state.
-use Rattle.std.proofs.Common.{◌≡◌, ◌≢◌, ℕ, ◌+◌, ◌<◌, ◌≤◌, ◌^◌, List, [], ◌∷◌, length, Some, None, refl, ap, sym, subst, ◌∙◌, arith, IsFalse}
+use Rattle.std.proofs.Common.{◌≡◌, ◌≢◌, ℕ, ◌+◌, ◌<◌, ◌≤◌, ◌^◌, List, [], ◌∷◌, length, Option, Some, None, refl, ap, sym, subst, ◌∙◌, arith, IsFalse}
 use Rattle.fw_base.specs.declared.device.DeviceKind.{DeviceKind}
 use Rattle.fw_base.specs.declared.device.DeviceKind.TheVariants.{Deck}
 use Rattle.fw_base.specs.declared.plug.ConnectionKind.{ConnectionKind}
 use Rattle.fw_base.specs.declared.plug.ConnectionKind.TheVariants.{PointToPoint, Broadcast}
-use Rattle.fw_log.specs.declared.entry.Entry.TheVariants.{Reset}
-use Rattle.fw_log.specs.declared.entry.ResetEntry.{ResetEntry}
-use Rattle.fw_log.specs.declared.entry.Timed.{Timed}
+use Rattle.fw_entry.specs.declared.entry.Entry.TheVariants.{Reset}
+use Rattle.fw_entry.specs.declared.entry.ResetEntry.{ResetEntry}
+use Rattle.fw_entry.specs.declared.entry.Timed.{Timed}
 use Rattle.fw_tree.specs.Topology.{Made}
 use Rattle.fw_ledger.specs.Events.{after_reset, no_connections}
 use Rattle.fw_ledger.specs.Sound.{IsSound}
@@ -15,6 +15,7 @@ use Rattle.fw_step.specs.InStep.{connections_of}
 use Rattle.fw_devices.specs.Network.{AreKinds, kind_at}
 use Rattle.fw_devices.specs.Resets.{Shows}
 use Rattle.fw_devices.proofs.EntryLaws.{entry_shows, entry_of_lone_deck}
+use Rattle.fw_run.specs.declared.order.Transaction.{Transaction}
 use Rattle.fw_run.specs.State.{State, epoch_of}
 use Rattle.fw_run.specs.Run.{Resets, after_reset_entry}
 use Rattle.fw_run.specs.Good.{IsGood, IsQuiet, IsLone, InStep, IsAtRest, IsOutsideOfSecond, outstanding_of}
@@ -32,10 +33,14 @@ pub record MayReset (s : State) : Type 0 where
   pub alone : (d : ℕ) → d ≢ 0 → s.account.addressed d ≡ None
   pub cycle : s.cycle ≤ 2 ^ 52
   pub half_steps : s.half_steps ≤ 4000000
+  pub free : s.transaction ≡ None
 
 none_connected : (kind : ConnectionKind) → connections_of 0 kind no_connections ≡ 0
 none_connected PointToPoint = refl
 none_connected Broadcast = refl
+
+pub none_waits : (o : Option Transaction) (x : Transaction) → o ≡ None → o ≡ Some x → ⊥
+none_waits o x free waits = let no : None ≡ Some x = sym free ∙ waits in cc
 
 pub reset_leads : (s : State) (initiator : ℕ) (out : List Timed) (t : State) → MayReset s → (r : Resets s initiator out t) → Leads s (Some (Reset r.entry)) t
 reset_leads s initiator out t m r = record { good = subst IsGood (sym r.state_is) good_; next = ap (λ (x : State). Some x.account) (sym r.state_is) }
@@ -76,4 +81,6 @@ reset_leads s initiator out t m r = record { good = subst IsGood (sym r.state_is
       reset_cycle = omega arith;
       cycle = m.cycle;
       half_steps = m.half_steps;
+      bus_manager_id = omega arith;
+      asks = λ x waits. absurd (none_waits s.transaction x m.free waits);
     }

@@ -1,7 +1,7 @@
 -- Laws of actions one after another, and of runs.
 use Rattle.std.proofs.Common.{◌≡◌, List, [], ◌∷◌, ◌++◌, refl, ap, sym, ◌∙◌, append_assoc}
-use Rattle.fw_log.specs.declared.entry.Timed.{Timed}
-use Rattle.fw_log.specs.Log.{entry_bytes}
+use Rattle.fw_entry.specs.declared.entry.Timed.{Timed}
+use Rattle.fw_entry.specs.Log.{entry_bytes}
 use Rattle.fw_script.specs.declared.command.Command.{Command}
 use Rattle.fw_run.specs.Giving.{log_bytes}
 use Rattle.fw_run.specs.State.{State, first_state}

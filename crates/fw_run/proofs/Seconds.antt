@@ -1,9 +1,10 @@
 -- Time, and the broadcast connection that is asked for, lead from a good state to a good state.
 use Rattle.std.proofs.Common.{◌≡◌, inl, ℕ, ◌+◌, ◌<◌, ◌≤◌, ◌^◌, List, [], ◌∷◌, true, false, Option, Some, None, refl, ap, sym, subst, ◌∙◌, arith, IsTrue, IsFalse}
 use Rattle.fw_base.specs.declared.device.DeviceKind.TheVariants.{Deck}
-use Rattle.fw_log.specs.declared.entry.Entry.TheVariants.{End as EndEntry}
-use Rattle.fw_log.specs.declared.entry.ResetEntry.{ResetEntry}
-use Rattle.fw_log.specs.declared.entry.Timed.{Timed}
+use Rattle.fw_entry.specs.declared.entry.Entry.TheVariants.{End as EndEntry}
+use Rattle.fw_entry.specs.declared.entry.ResetEntry.{ResetEntry}
+use Rattle.fw_entry.specs.declared.entry.Timed.{Timed}
+use Rattle.fw_entry.specs.Log.{Fits}
 use Rattle.fw_ledger.specs.Account.{Account}
 use Rattle.fw_ledger.specs.Events.{after_second}
 use Rattle.fw_ledger.specs.Fold.{next_account}
@@ -18,7 +19,7 @@ use Rattle.fw_run.specs.Good.{IsGood, IsLatest, InStep, IsAtRest, IsOutsideOfSec
 use Rattle.fw_run.proofs.Goods.{Led, led_silent}
 
 pub begin_led : (s : State) (overhead : ℕ) (out : List Timed) (t : State) → IsGood s → IsFalse s.began → s.kinds ≡ Deck ∷ [] → overhead < 16 → out ≡ [] → t ≡ record s { began = true; controller = Waiting (broadcast_job overhead) } → Led s out t
-begin_led s overhead out t g before deck small none is = led_silent s out t none (subst IsGood (sym is) good_) (ap (λ (z : State). z.account) is)
+begin_led s overhead out t g before deck small none is = led_silent s out t none (subst IsGood (sym is) good_) (ap (λ (z : State). z.account) is) (let after : t.cycle ≡ s.cycle = ap (λ (z : State). z.cycle) is in omega (arith, after))
   where
     rest : IsAtRest s.account s.others
     rest = subst (λ c. InStep s.account c s.others) (g.quiet before).idle g.step
@@ -41,6 +42,8 @@ begin_led s overhead out t g before deck small none is = led_silent s out t none
       reset_cycle = g.reset_cycle;
       cycle = g.cycle;
       half_steps = g.half_steps;
+      bus_manager_id = g.bus_manager_id;
+      asks = g.asks;
     }
       where
         latest_ : (o : Option ResetEntry) → IsLatest o s → IsLatest o (record s { began = true; controller = Waiting (broadcast_job overhead) })
@@ -48,7 +51,7 @@ begin_led s overhead out t g before deck small none is = led_silent s out t none
         latest_ (Some e) h = h
 
 pub pass_led : (s : State) (n : ℕ) (out : List Timed) (t : State) → IsGood s → s.cycle + n ≤ 2 ^ 52 → (IsTrue s.account.reclaiming → s.cycle + n ≤ over_at s) → out ≡ [] → t ≡ record s { cycle = s.cycle + n } → Led s out t
-pass_led s n out t g small before none is = led_silent s out t none (subst IsGood (sym is) good_) (ap (λ (z : State). z.account) is)
+pass_led s n out t g small before none is = led_silent s out t none (subst IsGood (sym is) good_) (ap (λ (z : State). z.account) is) (let after : t.cycle ≡ s.cycle + n = ap (λ (z : State). z.cycle) is in omega (arith, after))
   where
     latest_ : (o : Option ResetEntry) → IsLatest o s → IsLatest o (record s { cycle = s.cycle + n })
     latest_ None h = h
@@ -72,6 +75,8 @@ pass_led s n out t g small before none is = led_silent s out t none (subst IsGoo
       reset_cycle = let at = g.reset_cycle in omega (arith, at);
       cycle = small;
       half_steps = g.half_steps;
+      bus_manager_id = g.bus_manager_id;
+      asks = g.asks;
     }
 
 pub second_led : (s : State) (out : List Timed) (t : State) → IsGood s → IsTrue s.account.reclaiming → out ≡ at_most s.cycle (Some second_over) → t ≡ record s { account = entered s.account second_over } → Led s out t
@@ -81,6 +86,8 @@ second_led s out t g runs is to = record {
   leads = record { good = subst IsGood (sym to) (subst (λ l. IsGood (record s { account = l })) (sym over) good_); next = next ∙ ap (λ (l : Account). Some l) (sym over ∙ sym (ap (λ (z : State). z.account) to)) };
   answers = λ e x. let same : second_over ≡ e = cc in subst (λ z. IsAnswered s.account z) same tt;
   asks = λ e u x. let same : second_over ≡ e = cc in inl (subst (λ z. IsReadIn s.account z u) same tt);
+  fits = λ e x. let same : second_over ≡ e = cc in subst Fits same (record { device = omega arith; tape = omega arith; shape = refl });
+  later = let after : t.cycle ≡ s.cycle = ap (λ (z : State). z.cycle) to in omega (arith, after);
 }
   where
     next : next_account s.account second_over ≡ Some (after_second s.account)
@@ -126,6 +133,8 @@ second_led s out t g runs is to = record {
       reset_cycle = g.reset_cycle;
       cycle = g.cycle;
       half_steps = g.half_steps;
+      bus_manager_id = g.bus_manager_id;
+      asks = g.asks;
     }
 
 pub finish_led : (s : State) (out : List Timed) (t : State) → IsGood s → out ≡ at_most s.cycle (Some EndEntry) → t ≡ record s { account = entered s.account EndEntry } → Led s out t
@@ -135,4 +144,6 @@ finish_led s out t g is to = record {
   leads = record { good = subst IsGood (sym to) g; next = ap (λ (z : State). Some z.account) (sym to) };
   answers = λ e x. let same : EndEntry ≡ e = cc in subst (λ z. IsAnswered s.account z) same tt;
   asks = λ e u x. let same : EndEntry ≡ e = cc in inl (subst (λ z. IsReadIn s.account z u) same tt);
+  fits = λ e x. let same : EndEntry ≡ e = cc in subst Fits same tt;
+  later = let after : t.cycle ≡ s.cycle = ap (λ (z : State). z.cycle) to in omega (arith, after);
 }

@@ -1,13 +1,14 @@
 -- The account of the entries is defined, sound and in step in each state of a run, and each answer is the account's word.
-use Rattle.std.proofs.Common.{◌≡◌, ◌≢◌, ℕ, Bool, true, false, List, [], ◌∷◌, ◌++◌, ◌&&◌, Option, Some, None, eqb, refl, ap, sym, subst, ◌∙◌, arith, ◌⊎◌, inl, inr, IsTrue}
+use Rattle.std.proofs.Common.{◌≡◌, ◌≢◌, ℕ, ◌<◌, ◌≤◌, ◌^◌, Bool, true, false, List, [], ◌∷◌, ◌++◌, ◌&&◌, Option, Some, None, eqb, refl, ap, sym, subst, ◌∙◌, arith, ◌⊎◌, inl, inr, IsTrue}
 use Rattle.std.specs.Prelude.{⊤}
 use Rattle.std.proofs.lemmas.Bool.Decides.{nat_tests}
 use Rattle.std.proofs.lemmas.Bool.{cases_eq}
 use Rattle.fw_base.specs.declared.plug.PlugAt.{PlugAt}
 use Rattle.fw_async.specs.declared.packet.Packet.{Packet}
-use Rattle.fw_log.specs.declared.entry.Entry.{Entry}
-use Rattle.fw_log.specs.declared.entry.Entry.TheVariants.{Async}
-use Rattle.fw_log.specs.declared.entry.Timed.{Timed}
+use Rattle.fw_entry.specs.declared.entry.Entry.{Entry}
+use Rattle.fw_entry.specs.declared.entry.Entry.TheVariants.{Async}
+use Rattle.fw_entry.specs.declared.entry.Timed.{Timed}
+use Rattle.fw_entry.specs.Log.{Fits, TimedFits}
 use Rattle.fw_ledger.specs.Account.{Account, Allocation, Holder, Pending, Connected, Orphaned, is_pending, is_pending_of}
 use Rattle.fw_ledger.specs.Moves.{HasNoPending}
 use Rattle.fw_ledger.specs.Listing.{IsAllocatedForFlows}
@@ -36,16 +37,16 @@ linked_on false b h = h
 -- ---- each action
 
 pub step_led : (s t : State) (a : Action) (out : List Timed) → IsGood s → Step s a out t → Led s out t
-step_led s t (AddDevice name kind ports speed) out g f = device_led s name kind ports speed out t g f.1.0 f.1.1 f.1.2 f.1.3 f.1.4
-step_led s t (AddCable a b) out g f = cable_led s f.1.1.0 a b out t g f.1.0 f.1.1.1 f.1.1.2
-step_led s t (ResetBus d) out g f = reset_led s d out t g f.1.0 f.1.1 f.1.2
+step_led s t (AddDevice name kind ports speed) out g f = device_led s name kind ports speed out t g f.1.0 f.1.1 f.1.2 f.1.3 f.0 f.1.4
+step_led s t (AddCable a b) out g f = cable_led s f.1.1.0 a b out t g f.0 f.1.0 f.1.1.1 f.1.1.2
+step_led s t (ResetBus d) out g f = reset_led s d out t g f.0 f.1.0 f.1.1 f.1.2
 step_led s t (BeginBroadcast overhead) out g f = begin_led s overhead out t g f.1.0 f.1.1 f.1.2 f.1.3 f.1.4
 step_led s t (HalfStep d) out g f = half_led s d out t g f.1.0 f.1.1 f.1.2
 step_led s t (Pass n) out g f = pass_led s n out t g f.1.0 f.1.1 f.1.2 f.1.3
 step_led s t EndSecond out g f = second_led s out t g f.1.0 f.1.2 f.1.3
-step_led s t (Ask x) out g f = ask_led s x out t g (linked_on _ _ f.1.1) f.1.4 f.1.5
+step_led s t (Ask x) out g f = ask_led s x out t g (linked_on _ _ f.1.1) f.1.3 f.1.4 f.1.5
 step_led s t Answer out g f = answer_led s out t g f
-step_led s t (ShowWord d offset word) out g f = show_led s d offset word out t g (linked_on _ _ f.1.0) f.1.2 f.1.3 f.1.4
+step_led s t (ShowWord d offset word) out g f = show_led s d offset word out t g (linked_on _ _ f.1.0) f.1.1 f.1.2 f.1.3 f.1.4
 step_led s t Finish out g f = finish_led s out t g f.1.0 f.1.1
 
 pub steps_good : (s t : State) (xs : List Action) (out : List Timed) → IsGood s → Steps s xs out t → IsGood t
@@ -137,6 +138,36 @@ along_pair : (l m : Account) (front rest : List Timed) (t u : Timed) → Along l
 along_pair l m [] rest t u f = (l, refl, f.1)
 along_pair l m (e ∷ front) rest t u f = let x = along_pair f.2.0 m front rest t u f.2.2 in (x.0, ap (λ o. account_from o (entries_of front)) f.2.1 ∙ x.1, x.2)
 
+-- ---- each entry may be written, and cycles never fall
+
+-- entries from one cycle to another
+abbrev pub Spans : ℕ → List Timed → ℕ → Type 0
+Spans c [] d = c ≤ d
+Spans c (e ∷ es) d = (c ≤ e.cycle) × TimedFits e × Spans e.cycle es d
+
+earlier : (b c d : ℕ) (out : List Timed) → b ≤ c → Spans c out d → Spans b out d
+earlier b c d [] less f = omega (arith, less, f)
+earlier b c d (e ∷ es) less f = let first = f.0 in (omega (arith, less, first), f.1, f.2)
+
+pub steps_span : (s t : State) (xs : List Action) (out : List Timed) → IsGood s → Steps s xs out t → Spans s.cycle out t.cycle
+steps_span s t [] out g f = rw f.0 (let same = ap (λ (x : State). x.cycle) f.1 in omega (arith, same))
+steps_span s t (x ∷ xs) out g f = rw f.4 (rw led.is (go (steps_span f.2 t xs f.1 led.leads.good f.5) led.entry led.fits))
+  where
+    led : Led s f.0 f.2
+    led = step_led s f.2 x f.0 g f.3
+
+    go : Spans f.2.cycle f.1 t.cycle → (o : Option Entry) → ((e : Entry) → o ≡ Some e → Fits e) → Spans s.cycle (at_most s.cycle o ++ f.1) t.cycle
+    go later None fits = earlier s.cycle f.2.cycle t.cycle f.1 led.later later
+    go later (Some e) fits = let few = g.cycle in (omega arith, record { cycle = omega (arith, few); entry = fits e refl }, earlier s.cycle f.2.cycle t.cycle f.1 led.later later)
+
+spans_entry : (c d : ℕ) (front rest : List Timed) (t : Timed) → Spans c (front ++ t ∷ rest) d → TimedFits t
+spans_entry c d [] rest t f = f.1
+spans_entry c d (e ∷ front) rest t f = spans_entry e.cycle d front rest t f.2
+
+spans_pair : (c d : ℕ) (front rest : List Timed) (t u : Timed) → Spans c (front ++ t ∷ u ∷ rest) d → t.cycle ≤ u.cycle
+spans_pair c d [] rest t u f = f.2.0
+spans_pair c d (e ∷ front) rest t u f = spans_pair e.cycle d front rest t u f.2
+
 -- ---- the flows of a settled state
 
 settled_flows : (s : State) → IsGood s → IsSettled s → IsAllocatedForFlows s.account
@@ -207,4 +238,6 @@ sound_throughout actions log s f = record {
   fronts = λ front rest e. steps_front first_state s actions log front rest first_good f e;
   answers = λ front rest t e. along_front no_account s.account front rest t (rw e at (steps_along first_state s actions log first_good f));
   reads = λ front rest t u e. along_pair no_account s.account front rest t u (rw e at (steps_along first_state s actions log first_good f));
+  fits = λ front rest t e. spans_entry 0 s.cycle front rest t (rw e at (steps_span first_state s actions log first_good f));
+  cycles = λ front rest t u e. spans_pair 0 s.cycle front rest t u (rw e at (steps_span first_state s actions log first_good f));
 }

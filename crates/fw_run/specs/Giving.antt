@@ -3,9 +3,9 @@ use Rattle.std.specs.Prelude.{ℕ, List, [], ◌∷◌, None, Some, Ok, Err, fla
 use Rattle.std.specs.declared.option.Option.{Option}
 use Rattle.std.specs.declared.result.Result.{Result}
 use Rattle.fw_outside.specs.Outside.{Grows, Writes}
-use Rattle.fw_log.specs.declared.entry.Entry.{Entry}
-use Rattle.fw_log.specs.declared.entry.Timed.{Timed}
-use Rattle.fw_log.specs.Log.{entry_bytes}
+use Rattle.fw_entry.specs.declared.entry.Entry.{Entry}
+use Rattle.fw_entry.specs.declared.entry.Timed.{Timed}
+use Rattle.fw_entry.specs.Log.{entry_bytes}
 
 abbrev pub at_cycle : ℕ → Entry → Timed
 at_cycle cycle e = record { cycle = cycle; what = e }

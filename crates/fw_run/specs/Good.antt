@@ -4,9 +4,14 @@ use Rattle.fw_base.specs.declared.plug.PlugAt.{PlugAt}
 use Rattle.fw_base.specs.declared.plug.ConnectionKind.{ConnectionKind}
 use Rattle.fw_base.specs.declared.device.DeviceKind.TheVariants.{Deck}
 use Rattle.fw_phy.specs.declared.packet.PhyPacket.{PhyPacket}
-use Rattle.fw_log.specs.declared.entry.ResetEntry.{ResetEntry}
+use Rattle.fw_entry.specs.declared.entry.ResetEntry.{ResetEntry}
 use Rattle.fw_cmp.specs.declared.job.Job.{Job}
+use Rattle.fw_cmp.specs.declared.job.Outcome.{Outcome}
+use Rattle.fw_cmp.specs.declared.job.Outcome.TheVariants.{NoChannel, NoUnits, PlugFull}
+use Rattle.fw_cmp.specs.declared.job.Then.{Then}
+use Rattle.fw_cmp.specs.declared.job.Then.TheVariants.{EndsAs, Again}
 use Rattle.fw_cmp.specs.declared.stage.Stage.{Stage}
+use Rattle.fw_cmp.specs.declared.stage.Stage.TheVariants.{OutputConnected, ReadOutputToLeave, LeaveOutput, ReadBandwidthToRelease, RaiseBandwidth, ReadChannelsToRelease, RestoreChannel, Ended}
 use Rattle.fw_cmp.specs.Stages.{request_of, WordsFit}
 use Rattle.fw_cmp.specs.declared.request.Request.{Request}
 use Rattle.fw_tree.specs.Topology.{Made}
@@ -21,7 +26,8 @@ use Rattle.fw_devices.specs.Resets.{Shows}
 use Rattle.fw_run.specs.declared.controller.Controller.{Controller}
 use Rattle.fw_run.specs.declared.controller.Controller.TheVariants.{Idle, Waiting, Asking, Hearing}
 use Rattle.fw_run.specs.Packets.{request_record}
-use Rattle.fw_run.specs.State.{State, over_at}
+use Rattle.fw_run.specs.declared.order.Transaction.{Transaction}
+use Rattle.fw_run.specs.State.{State, is_on, over_at}
 use Rattle.fw_run.specs.Run.{own_plug}
 
 -- a controller with no current job has no Pending allocation, and its connections are those of its slots
@@ -34,11 +40,35 @@ pub record IsOwnJob (j : Job) : Type 0 where
   pub job : IsJob j
   pub plug : j.plug ≡ own_plug
 
+-- the value that an outcome shows is a quadlet
+abbrev pub ShowsQuadlet : Outcome → Type 0
+ShowsQuadlet (NoChannel word) = word < 2 ^ 32
+ShowsQuadlet (NoUnits remainder) = remainder < 2 ^ 32
+ShowsQuadlet (PlugFull word) = word < 2 ^ 32
+ShowsQuadlet _ = ⊤
+
+abbrev pub ThenShows : Then → Type 0
+ThenShows (EndsAs o) = ShowsQuadlet o
+ThenShows Again = ⊤
+
+-- so is the value with which a stage ends its job, or is to end it
+abbrev pub EndFits : Stage → Type 0
+EndFits (OutputConnected channel) = channel < 64
+EndFits (ReadOutputToLeave next) = ThenShows next
+EndFits (LeaveOutput next arg) = ThenShows next
+EndFits (ReadBandwidthToRelease next ch u) = ThenShows next
+EndFits (RaiseBandwidth next ch u arg) = ThenShows next
+EndFits (ReadChannelsToRelease next ch) = ThenShows next
+EndFits (RestoreChannel next ch arg) = ThenShows next
+EndFits (Ended o) = ShowsQuadlet o
+EndFits _ = ⊤
+
 -- a job at a stage: it is in step with the account, and the words that it keeps are quadlets
 pub record IsAtStage (l : Account) (j : Job) (stage : Stage) (others : ConnectionKind → PlugAt → ℕ) : Type 0 where
   pub step : IsInStep l 0 j stage others
   pub own : IsOwnJob j
   pub words : WordsFit stage
+  pub ends : EndFits stage
 
 -- the controller is in step with the account
 abbrev pub InStep : Account → Controller → (ConnectionKind → PlugAt → ℕ) → Type 0
@@ -98,3 +128,6 @@ pub record IsGood (s : State) : Type 0 where
   pub reset_cycle : s.reset_cycle ≤ s.cycle
   pub cycle : s.cycle ≤ 2 ^ 52
   pub half_steps : s.half_steps ≤ 4000000
+  pub bus_manager_id : s.bus_manager_id < 2 ^ 32
+  -- a transaction that waits for its answer is at a device on the bus
+  pub asks : (x : Transaction) → s.transaction ≡ Some x → IsTrue (is_on s x.to)

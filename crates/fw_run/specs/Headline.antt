@@ -1,16 +1,17 @@
 -- What holds in each state of a run, and of each answer in its log.
-use Rattle.std.specs.Prelude.{ℕ, ◌≡◌, ◌<◌, ◌==◌, ◌&&◌, ◌↔◌, List, ◌∷◌, ◌++◌, Option, Some, None, length, if◌then◌else◌, IsTrue, IsFalse, ⊤}
+use Rattle.std.specs.Prelude.{ℕ, ◌≡◌, ◌<◌, ◌≤◌, ◌==◌, ◌&&◌, ◌↔◌, List, ◌∷◌, ◌++◌, Option, Some, None, length, if◌then◌else◌, IsTrue, IsFalse, ⊤}
 use Rattle.fw_words.specs.Quadlet.{quadlet_at}
 use Rattle.fw_async.specs.declared.packet.Packet.{Packet}
 use Rattle.fw_async.specs.declared.packet.Packet.TheVariants.{WriteQuadlet, WriteBlock, WriteReply, ReadQuadlet, ReadBlock, ReadQuadletReply, ReadBlockReply, CycleStart, Lock, LockReply}
-use Rattle.fw_log.specs.declared.entry.Entry.{Entry}
-use Rattle.fw_log.specs.declared.entry.Entry.TheVariants.{Reset, Async, Event, Outcome, Shown, End}
-use Rattle.fw_log.specs.declared.entry.ShownEntry.{ShownEntry}
-use Rattle.fw_log.specs.declared.entry.Timed.{Timed}
+use Rattle.fw_entry.specs.declared.entry.Entry.{Entry}
+use Rattle.fw_entry.specs.declared.entry.Entry.TheVariants.{Reset, Async, Iso, Event, Outcome, Shown, End}
+use Rattle.fw_entry.specs.declared.entry.ShownEntry.{ShownEntry}
+use Rattle.fw_entry.specs.declared.entry.Timed.{Timed}
+use Rattle.fw_entry.specs.Log.{TimedFits}
 use Rattle.fw_tree.specs.Cables.{IsOnBus}
 use Rattle.fw_ledger.specs.Account.{Account, Request}
 use Rattle.fw_ledger.specs.Listing.{IsAllocatedForFlows}
-use Rattle.fw_ledger.specs.Network.{device_of_id}
+use Rattle.fw_entry.specs.Network.{device_of_id}
 use Rattle.fw_ledger.specs.Words.{Register, register_of, word_of, word_of_device}
 use Rattle.fw_ledger.specs.Fold.{account_of, entries_of}
 use Rattle.fw_ledger.specs.Sound.{IsSound, IsConflictFree}
@@ -63,6 +64,7 @@ IsWordOf l s = (word : ℕ) → word_of_device l s.device s.offset ≡ Some word
 abbrev pub IsAnswered : Account → Entry → Type 0
 IsAnswered l (Async p) = IsShownWord l (shown_in p)
 IsAnswered l (Reset r) = ⊤
+IsAnswered l (Iso p) = ⊤
 IsAnswered l (Event e) = ⊤
 IsAnswered l (Outcome o) = ⊤
 IsAnswered l (Shown s) = IsWordOf l s
@@ -81,10 +83,13 @@ IsReadIn l (Async p) (Async q) = IsReadBy l p q
 IsReadIn l _ _ = ⊤
 
 -- Actions from the first state on, and the log that they write: in each state on the way the account of the entries so far
--- is defined, sound and in step with the controller, and no channel has two talkers; each front of the log is reached; and
--- each complete answer, and each shown word, equals the account's word before it.
+-- is defined, sound and in step with the controller, and no channel has two talkers; each front of the log is reached; each
+-- complete answer, and each shown word, equals the account's word before it; and each entry may be written, in cycles that
+-- never fall.
 pub record IsSoundThroughout (actions : List Action) (log : List Timed) : Type 0 where
   pub states : (done later : List Action) (front : List Timed) (s : State) → actions ≡ done ++ later → Steps first_state done front s → IsSoundAt front s
   pub fronts : (front rest : List Timed) → log ≡ front ++ rest → (done : List Action) × (later : List Action) × (s : State) × (actions ≡ done ++ later) × Steps first_state done front s
   pub answers : (front rest : List Timed) (t : Timed) → log ≡ front ++ t ∷ rest → (l : Account) × (account_of (entries_of front) ≡ Some l) × IsAnswered l t.what
   pub reads : (front rest : List Timed) (t u : Timed) → log ≡ front ++ t ∷ u ∷ rest → (l : Account) × (account_of (entries_of front) ≡ Some l) × IsReadIn l t.what u.what
+  pub fits : (front rest : List Timed) (t : Timed) → log ≡ front ++ t ∷ rest → TimedFits t
+  pub cycles : (front rest : List Timed) (t u : Timed) → log ≡ front ++ t ∷ u ∷ rest → t.cycle ≤ u.cycle

@@ -8,3 +8,4 @@ pub mod Rules
 pub mod Run
 pub mod Good
 pub mod Headline
+pub mod Logs

@@ -6,10 +6,12 @@ use Rattle.fw_base.specs.declared.plug.PlugAt.{PlugAt}
 use Rattle.fw_base.specs.declared.plug.ConnectionKind.TheVariants.{Broadcast}
 use Rattle.fw_cmp.specs.declared.job.Job.{Job}
 use Rattle.fw_async.specs.declared.packet.Packet.{Packet}
-use Rattle.fw_log.specs.declared.entry.Timed.{Timed}
-use Rattle.fw_log.specs.declared.entry.Entry.{Entry}
-use Rattle.fw_log.specs.declared.entry.Entry.TheVariants.{Reset, Async, Event, Shown, End as EndEntry}
-use Rattle.fw_log.specs.declared.entry.ResetEntry.{ResetEntry}
+use Rattle.fw_entry.specs.declared.codes.TheConstants.{NO_DEVICE}
+use Rattle.fw_entry.specs.declared.codes.event.TheConstants.{SECOND_OVER}
+use Rattle.fw_entry.specs.declared.entry.Timed.{Timed}
+use Rattle.fw_entry.specs.declared.entry.Entry.{Entry}
+use Rattle.fw_entry.specs.declared.entry.Entry.TheVariants.{Reset, Async, Event, Shown, End as EndEntry}
+use Rattle.fw_entry.specs.declared.entry.ResetEntry.{ResetEntry}
 use Rattle.fw_tree.specs.declared.facts.End.{End}
 use Rattle.fw_tree.specs.Topology.{Topology, IsJoined}
 use Rattle.fw_script.specs.declared.command.Command.{Command}
@@ -80,7 +82,7 @@ broadcast_job overhead = record { plug = own_plug; kind = Broadcast; asked = Som
 
 -- the second of the latest bus reset is over
 abbrev pub second_over : Entry
-second_over = Event (record { code = 1; device = 255; tape = 0; system = 0 })
+second_over = Event (record { code = SECOND_OVER; device = NO_DEVICE; tape = 0; system = 0 })
 
 abbrev pub shown_entry : ℕ → ℕ → ℕ → Entry
 shown_entry d offset word = Shown (record { device = d; offset = offset; word = word })

@@ -9,6 +9,6 @@ mod order;
 mod rule;
 
 pub use controller::Controller;
-pub use laws::runs_are_sound;
+pub use laws::{runs_are_logs, runs_are_sound, runs_have_one_log};
 pub use order::{Access, Order, Transaction};
 pub use rule::RuleFault;

@@ -1,5 +1,5 @@
 -- What lines give is one only, and stays so where more bytes are known.
-use Rattle.std.proofs.Common.{◌≡◌, ◌≢◌, ◌⊎◌, inl, inr, ℕ, [], List, true, false, Some, Ok, Err, refl, ap, sym, subst}
+use Rattle.std.proofs.Common.{◌≡◌, ◌≢◌, ◌⊎◌, inl, inr, ℕ, [], List, Bool, true, false, Some, Ok, Err, refl, ap, sym, subst}
 use Rattle.fw_script.specs.Line.{is_skipped}
 use Rattle.fw_script.specs.Form.{HasForm}
 use Rattle.fw_script.specs.Reading.{Reading, Answer, Gives, IsLine, IsAtEndOfInput, IsLongLine, PassesLimit, behind, at_stage, refused, with_taken}
@@ -9,8 +9,10 @@ use Rattle.fw_script.specs.declared.command.Command.TheVariants.{End}
 use Rattle.fw_script.specs.declared.ScriptFault.TheVariants.{BadLine, LineTooLong, NoEnd, ReadFault, TooLong}
 use Rattle.fw_script.specs.declared.stage.Stage.{Stage}
 use Rattle.fw_script.specs.declared.stage.Stage.TheVariants.{Commands, AfterEnd, Done, Failed}
+use Rattle.fw_script.specs.Reader.{IsCut, Goes}
+use Rattle.fw_script.specs.Reader.Goes.{nowhere, over_skipped, over_end}
 use Rattle.fw_script.proofs.FormLaws.{one_form}
-use Rattle.fw_script.proofs.LineLaws.{line_once, line_not_long, line_not_limit, line_not_end, long_not_limit, long_not_end, limit_not_end, line_more, long_more, limit_more, end_more, behind_more}
+use Rattle.fw_script.proofs.LineLaws.{IsMore, line_once, line_not_long, line_not_limit, line_not_end, long_not_limit, long_not_end, limit_not_end, line_more, long_more, limit_more, end_more, behind_more, cut_not_line, cut_not_long, cut_not_limit, cut_not_end}
 use Rattle.fw_script.proofs.ReadingLaws.{gives_at}
 
 -- why a line is refused
@@ -130,21 +132,24 @@ gives_once {p = p} (no_end a i) h m o = after_no_end i (at_end p a o h)
 gives_once read_fault h m o = absurd (m refl)
 
 -- more bytes behind leave what lines give as it is
+pub gives_with : {p : Reading} {r : Answer} {q : Reading} → (more : List ℕ) (whole : Bool) → IsMore p more whole → Gives p r q → Gives (with_taken p more whole) r (with_taken q more whole)
+gives_with {p = p} {r = r} {q = q} more whole none (skipped t n a k g) =
+    skipped t n (line_more p t more whole n none a) k (subst (λ (z : Reading). Gives z r (with_taken q more whole)) (sym (behind_more p t more whole n a)) (gives_with more whole none g))
+gives_with {p = p} more whole none (command c t n a k i f o) =
+    gives_at (with_taken p more whole) (behind (with_taken p more whole) n) (with_taken (behind p n) more whole) (Ok (Some c)) (sym (behind_more p t more whole n a)) (command c t n (line_more p t more whole n none a) k i f o)
+gives_with {p = p} {r = r} {q = q} more whole none (end_line t n a k i f g) =
+    end_line t n (line_more p t more whole n none a) k i f (subst (λ (z : Reading). Gives (at_stage z AfterEnd) r (with_taken q more whole)) (sym (behind_more p t more whole n a)) (gives_with more whole none g))
+gives_with {p = p} more whole none (bad_line t n a k w) =
+    gives_at (with_taken p more whole) (at_stage (behind (with_taken p more whole) n) Failed) (at_stage (with_taken (behind p n) more whole) Failed) (Err BadLine)
+    (ap (λ (z : Reading). at_stage z Failed) (sym (behind_more p t more whole n a))) (bad_line t n (line_more p t more whole n none a) k w)
+gives_with {p = p} more whole none (long_line a) = long_line (long_more p more whole a)
+gives_with {p = p} more whole none (too_long a) = too_long (limit_more p more whole a)
+gives_with {p = p} more whole none (end_of_input a i) = end_of_input (end_more p more whole none a) i
+gives_with {p = p} more whole none (no_end a i) = no_end (end_more p more whole none a) i
+gives_with more whole none read_fault = read_fault
+
 pub gives_more : {p : Reading} {r : Answer} {q : Reading} → (more : List ℕ) → (p.whole ≡ true → more ≡ []) → Gives p r q → Gives (with_taken p more true) r (with_taken q more true)
-gives_more {p = p} {r = r} {q = q} more none (skipped t n a k g) =
-    skipped t n (line_more p t more n none a) k (subst (λ (z : Reading). Gives z r (with_taken q more true)) (sym (behind_more p t more n a)) (gives_more more none g))
-gives_more {p = p} more none (command c t n a k i f o) =
-    gives_at (with_taken p more true) (behind (with_taken p more true) n) (with_taken (behind p n) more true) (Ok (Some c)) (sym (behind_more p t more n a)) (command c t n (line_more p t more n none a) k i f o)
-gives_more {p = p} {r = r} {q = q} more none (end_line t n a k i f g) =
-    end_line t n (line_more p t more n none a) k i f (subst (λ (z : Reading). Gives (at_stage z AfterEnd) r (with_taken q more true)) (sym (behind_more p t more n a)) (gives_more more none g))
-gives_more {p = p} more none (bad_line t n a k w) =
-    gives_at (with_taken p more true) (at_stage (behind (with_taken p more true) n) Failed) (at_stage (with_taken (behind p n) more true) Failed) (Err BadLine)
-    (ap (λ (z : Reading). at_stage z Failed) (sym (behind_more p t more n a))) (bad_line t n (line_more p t more n none a) k w)
-gives_more {p = p} more none (long_line a) = long_line (long_more p more a)
-gives_more {p = p} more none (too_long a) = too_long (limit_more p more a)
-gives_more {p = p} more none (end_of_input a i) = end_of_input (end_more p more none a) i
-gives_more {p = p} more none (no_end a i) = no_end (end_more p more none a) i
-gives_more more none read_fault = read_fault
+gives_more more none g = gives_with more true (λ w. (none w, refl)) g
 
 -- whether the end was met stays
 pub gives_whole : {p : Reading} {r : Answer} {q : Reading} → Gives p r q → q.whole ≡ p.whole
@@ -157,3 +162,55 @@ gives_whole (too_long a) = refl
 gives_whole (end_of_input a i) = refl
 gives_whole (no_end a i) = refl
 gives_whole read_fault = refl
+
+-- where a front of a line is held, and not its end, lines give nothing
+pub cut_gives : {p : Reading} {r : Answer} {q : Reading} → IsCut p → Gives p r q → r ≢ Err ReadFault → ⊥
+cut_gives {p = p} c (skipped t n a k g) told = cut_not_line p t n c a
+cut_gives {p = p} c (command d t n a k i f o) told = cut_not_line p t n c a
+cut_gives {p = p} c (end_line t n a k i f g) told = cut_not_line p t n c a
+cut_gives {p = p} c (bad_line t n a k w) told = cut_not_line p t n c a
+cut_gives {p = p} c (long_line a) told = cut_not_long p c a
+cut_gives {p = p} c (too_long a) told = cut_not_limit p c a
+cut_gives {p = p} c (end_of_input a i) told = cut_not_end p c a
+cut_gives {p = p} c (no_end a i) told = cut_not_end p c a
+cut_gives c read_fault told = told refl
+
+-- what is given from here on is given behind the lines that are passed over
+skipped_gives : {p : Reading} {t : List ℕ} {n : ℕ} {r : Answer} {z : Reading} → is_skipped t ≡ true → Leads p t n r z → Gives (behind p n) r z
+skipped_gives k (on h g) = g
+skipped_gives k (said c h i j l) = absurd cc
+skipped_gives k (ended h i j g) = absurd cc
+skipped_gives k (bad h w) = absurd cc
+
+end_gives : {p : Reading} {t : List ℕ} {n : ℕ} {r : Answer} {z : Reading} → is_skipped t ≡ false → p.stage ≡ Commands → HasForm End t → Leads p t n r z → Gives (at_stage (behind p n) AfterEnd) r z
+end_gives k i f (on h g) = absurd cc
+end_gives {t = t} k i f (said d h j e l) = absurd (l (one_form d End t e f))
+end_gives k i f (ended h j e g) = g
+end_gives {p = p} {t = t} k i f (bad h w) = not_refused p t End i f w
+
+pub goes_answer : {p q z : Reading} {r : Answer} → Goes p q → Gives p r z → r ≢ Err ReadFault → Gives q r z
+goes_answer nowhere g told = g
+goes_answer {p = p} (over_skipped t n a k h) g told = goes_answer h (skipped_gives k (at_line p t n a told g)) told
+goes_answer {p = p} (over_end t n a k i f h) g told = goes_answer h (end_gives k i f (at_line p t n a told g)) told
+
+pub goes_gives : {p q z : Reading} {r : Answer} → Goes p q → Gives q r z → Gives p r z
+goes_gives nowhere g = g
+goes_gives (over_skipped t n a k h) g = skipped t n a k (goes_gives h g)
+goes_gives (over_end t n a k i f h) g = end_line t n a k i f (goes_gives h g)
+
+pub goes_goes : {p q z : Reading} → Goes p q → Goes q z → Goes p z
+goes_goes nowhere g = g
+goes_goes (over_skipped t n a k h) g = over_skipped t n a k (goes_goes h g)
+goes_goes (over_end t n a k i f h) g = over_end t n a k i f (goes_goes h g)
+
+pub goes_whole : {p q : Reading} → Goes p q → q.whole ≡ p.whole
+goes_whole nowhere = refl
+goes_whole (over_skipped t n a k h) = goes_whole h
+goes_whole (over_end t n a k i f h) = goes_whole h
+
+pub goes_with : {p q : Reading} (more : List ℕ) (whole : Bool) → IsMore p more whole → Goes p q → Goes (with_taken p more whole) (with_taken q more whole)
+goes_with more whole none nowhere = nowhere
+goes_with {p = p} {q = q} more whole none (over_skipped t n a k h) =
+    over_skipped t n (line_more p t more whole n none a) k (subst (λ (z : Reading). Goes z (with_taken q more whole)) (sym (behind_more p t more whole n a)) (goes_with more whole none h))
+goes_with {p = p} {q = q} more whole none (over_end t n a k i f h) =
+    over_end t n (line_more p t more whole n none a) k i f (subst (λ (z : Reading). Goes (at_stage z AfterEnd) (with_taken q more whole)) (sym (behind_more p t more whole n a)) (goes_with more whole none h))

@@ -1,3 +1,4 @@
+pub mod CallLaws
 pub mod CommandLaws
 pub mod FormLaws
 pub mod GivesLaws
@@ -6,3 +7,4 @@ pub mod NumberLaws
 pub mod PiecesLaws
 pub mod ReadingLaws
 pub mod ScriptLaws
+pub mod StepLaws

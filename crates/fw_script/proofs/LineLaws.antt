@@ -1,8 +1,13 @@
 -- The next line is one only, and stays so where more bytes are known.
-use Rattle.std.proofs.Common.{◌≡◌, inl, inr, ℕ, zero, suc, [], ◌∷◌, ◌++◌, ◌+◌, ◌-◌, ◌<◌, ◌≤◌, List, length, slice_index, take, drop, true, arith, refl, ap, sym, ◌∙◌, subst, length-drop, length-append, append_assoc}
+use Rattle.std.proofs.Common.{◌≡◌, ◌⊎◌, inl, inr, ℕ, zero, suc, [], ◌∷◌, ◌++◌, ◌+◌, ◌-◌, ◌<◌, ◌≤◌, List, length, slice_index, take, drop, Bool, true, arith, refl, ap, sym, ◌∙◌, subst, length-drop, length-append, append_assoc}
 use Rattle.std.proofs.lemmas.List.{append-nil, take-append-le, drop-append-le, get_or-take}
 use Rattle.std.proofs.Math.Seq.{get_or-append_seam}
+use Rattle.std.proofs.lemmas.Bool.{cases_lt}
 use Rattle.fw_script.specs.Pieces.{IsFree}
+use Rattle.fw_script.specs.Reader.{IsCut, IsNear, StandsNext}
+use Rattle.fw_script.specs.Line.{IsFront, IsEnded}
+use Rattle.fw_script.specs.declared.line.Front.{Front}
+use Rattle.fw_script.specs.declared.line.Front.TheVariants.{Line, LongLine, Limit, Cut, Nothing}
 use Rattle.fw_script.specs.Reading.{Reading, EndsLine, IsLine, IsLongLine, PassesLimit, IsAtEndOfInput, behind, with_taken}
 
 -- one cut at the first separator
@@ -88,11 +93,15 @@ line_there p t n a = by_end a.ends
     by_end (inl e) = omega (arith, e.1, ap (λ (l : List ℕ). length l) e.0, length-append t (10 ∷ drop n p.rest))
     by_end (inr e) = omega (arith, e.2, ap (λ (l : List ℕ). length l) e.0)
 
+-- more bytes may be known, and the end may be met; not where it was met before
+abbrev pub IsMore : Reading → List ℕ → Bool → Type 0
+IsMore p more whole = p.whole ≡ true → (more ≡ []) × (whole ≡ true)
+
 -- more bytes behind it leave the line as it is
-pub line_more : (p : Reading) (t more : List ℕ) (n : ℕ) → (p.whole ≡ true → more ≡ []) → IsLine p t n → IsLine (with_taken p more true) t n
-line_more p t more n none a = record { ends = by_end a.ends; free = a.free; short = a.short; within = a.within }
+pub line_more : (p : Reading) (t more : List ℕ) (whole : Bool) (n : ℕ) → IsMore p more whole → IsLine p t n → IsLine (with_taken p more whole) t n
+line_more p t more whole n none a = record { ends = by_end a.ends; free = a.free; short = a.short; within = a.within }
   where
-    by_end : EndsLine p t n → EndsLine (with_taken p more true) t n
+    by_end : EndsLine p t n → EndsLine (with_taken p more whole) t n
     by_end (inl e) =
         inl (
           ap (λ (l : List ℕ). l ++ more) e.0 ∙ append_assoc t (10 ∷ drop n p.rest) more
@@ -100,30 +109,93 @@ line_more p t more n none a = record { ends = by_end a.ends; free = a.free; shor
           e.1,
         )
     by_end (inr e) =
-        inr (ap (λ (l : List ℕ). p.rest ++ l) (none e.1) ∙ append-nil p.rest ∙ e.0, refl, e.2, e.3)
+        inr (ap (λ (l : List ℕ). p.rest ++ l) (none e.1).0 ∙ append-nil p.rest ∙ e.0, (none e.1).1, e.2, e.3)
 
-pub long_more : (p : Reading) (more : List ℕ) → IsLongLine p → IsLongLine (with_taken p more true)
-long_more p more a = record {
+pub long_more : (p : Reading) (more : List ℕ) (whole : Bool) → IsLongLine p → IsLongLine (with_taken p more whole)
+long_more p more whole a = record {
   long = omega (arith, a.long, length-append p.rest more);
   free = subst (λ (l : List ℕ). IsFree 10 l) (sym (take-append-le 257 p.rest more a.long)) a.free;
   within = a.within;
 }
 
-pub limit_more : (p : Reading) (more : List ℕ) → PassesLimit p → PassesLimit (with_taken p more true)
-limit_more p more a = record {
+pub limit_more : (p : Reading) (more : List ℕ) (whole : Bool) → PassesLimit p → PassesLimit (with_taken p more whole)
+limit_more p more whole a = record {
   start = a.start;
   more = omega (arith, a.more, length-append p.rest more);
   free = subst (λ (l : List ℕ). IsFree 10 l) (sym (take-append-le (1048576 - p.before) p.rest more (omega (arith, a.more)))) a.free;
   short = a.short;
 }
 
-pub end_more : (p : Reading) (more : List ℕ) → (p.whole ≡ true → more ≡ []) → IsAtEndOfInput p → IsAtEndOfInput (with_taken p more true)
-end_more p more none a = (ap (λ (l : List ℕ). p.rest ++ l) (none a.1) ∙ append-nil p.rest ∙ a.0, refl)
+pub end_more : (p : Reading) (more : List ℕ) (whole : Bool) → IsMore p more whole → IsAtEndOfInput p → IsAtEndOfInput (with_taken p more whole)
+end_more p more whole none a = (ap (λ (l : List ℕ). p.rest ++ l) (none a.1).0 ∙ append-nil p.rest ∙ a.0, (none a.1).1)
 
-pub behind_more : (p : Reading) (t more : List ℕ) (n : ℕ) → IsLine p t n → behind (with_taken p more true) n ≡ with_taken (behind p n) more true
-behind_more p t more n a =
-    ap (λ (l : List ℕ). record { rest = l; whole = true; before = p.before + n; line = p.line + 1; stage = p.stage }) (drop-append-le n p.rest more (line_there p t n a))
+pub behind_more : (p : Reading) (t more : List ℕ) (whole : Bool) (n : ℕ) → IsLine p t n → behind (with_taken p more whole) n ≡ with_taken (behind p n) more whole
+behind_more p t more whole n a =
+    ap (λ (l : List ℕ). record { rest = l; whole = whole; before = p.before + n; line = p.line + 1; stage = p.stage }) (drop-append-le n p.rest more (line_there p t n a))
 
 -- the bytes of the script that are known
 pub behind_total : (p : Reading) (t : List ℕ) (n : ℕ) → IsLine p t n → (p.before + n) + length (drop n p.rest) ≡ p.before + length p.rest
 behind_total p t n a = omega (arith, length-drop n p.rest, line_there p t n a)
+
+-- where a front of a line is held, and not its end, nothing is decided
+pub cut_not_line : (p : Reading) (t : List ℕ) (n : ℕ) → IsCut p → IsLine p t n → ⊥
+cut_not_line p t n c a = by_end a.ends
+  where
+    by_end : EndsLine p t n → ⊥
+    by_end (inl e) = let P : List ℕ → Type 0 = IsFree 10 in free_not t (drop n p.rest) (subst P e.0 c.free)
+    by_end (inr e) = let w = c.on in absurd cc
+
+pub cut_not_long : (p : Reading) → IsCut p → IsLongLine p → ⊥
+cut_not_long p c a = omega (arith, c.short, a.long)
+
+pub cut_not_limit : (p : Reading) → IsCut p → PassesLimit p → ⊥
+cut_not_limit p c a = omega (arith, c.within, a.more)
+
+pub cut_not_end : (p : Reading) → IsCut p → IsAtEndOfInput p → ⊥
+cut_not_end p c a = let w = c.on in let v = a.1 in absurd cc
+
+-- behind a line few bytes are held
+pub near_few : (xs : List ℕ) → length xs ≤ 4096 → IsNear xs
+near_few xs few = record { few = omega arith; free = λ k h. absurd (none (length xs - 4096) xs (omega arith) k h) }
+  where
+    none : (n : ℕ) (ys : List ℕ) → n ≡ 0 → (k : ℕ) → k < length (take n ys) → ⊥
+    none zero ys e k h = omega arith
+    none (suc n) ys e k h = omega arith
+
+pub line_near : (p : Reading) (t : List ℕ) (n : ℕ) → IsNear p.rest → IsLine p t n → length (drop n p.rest) ≤ 4096
+line_near p t n near a = by_end a.ends
+  where
+    by_count : p.rest ≡ t ++ 10 ∷ drop n p.rest → n ≡ length t + 1 → (4096 < length (drop n p.rest)) ⊎ (length (drop n p.rest) ≤ 4096) → length (drop n p.rest) ≤ 4096
+    by_count e size (inr few) = few
+    by_count e size (inl many) =
+        absurd (feed_within p.rest t (drop n p.rest) (length p.rest - 4096) e (omega (arith, size, many, length-drop n p.rest)) near.free)
+
+    by_end : EndsLine p t n → length (drop n p.rest) ≤ 4096
+    by_end (inl e) = by_count e.0 e.1 (cases_lt 4096 (length (drop n p.rest)))
+    by_end (inr e) = omega (arith, length-drop n p.rest, e.2, ap (λ (l : List ℕ). length l) e.0)
+
+-- what stands in front of the bytes that are held stands next
+pub stands_next : (p : Reading) (f : Front) → p.before ≤ 1048576 → IsFront p.rest (1048576 - p.before) p.whole f → StandsNext p f
+stands_next p (Line n size) low h =
+    record {
+      line = record { ends = by_end h.5; free = h.3; short = omega (arith, h.0, h.4); within = omega (arith, h.1, low) };
+      there = by_length h.5;
+      some = by_some h.5;
+      all = h.2;
+    }
+  where
+    by_end : IsEnded p.rest p.whole n size → EndsLine p (take n p.rest) size
+    by_end (inl e) = inl (e.0, e.1 ∙ ap (λ (k : ℕ). k + 1) h.4)
+    by_end (inr e) = inr (e.0, e.1, e.3 ∙ h.4, omega (arith, e.3, e.4))
+
+    by_length : IsEnded p.rest p.whole n size → n ≤ length p.rest
+    by_length (inl e) = omega (arith, h.2, e.1)
+    by_length (inr e) = omega (arith, h.2, e.3)
+
+    by_some : IsEnded p.rest p.whole n size → 0 < size
+    by_some (inl e) = omega (arith, e.1)
+    by_some (inr e) = omega (arith, e.3, e.4)
+stands_next p LongLine low h = record { long = h.0; free = h.2; within = omega (arith, h.1, low) }
+stands_next p Limit low h = record { start = low; more = omega (arith, h.0, low); free = h.2; short = omega (arith, h.1, low) }
+stands_next p Cut low h = record { on = h.0; short = h.1; within = omega (arith, h.2, low); free = h.3 }
+stands_next p Nothing low h = (h.0, h.1)

@@ -1,17 +1,17 @@
 -- What a line that was read gives.
-use Rattle.std.proofs.Common.{◌≡◌, ◌≢◌, ◌⊎◌, ◌↔◌, inl, inr, ℕ, zero, suc, [], ◌∷◌, ◌++◌, ◌<◌, List, length, take, drop, Bool, true, false, Option, Some, None, Ok, Err, arith, refl, ap, sym, ◌∙◌, subst, length-drop}
+use Rattle.std.proofs.Common.{◌≤◌, ◌≡◌, ◌≢◌, ◌⊎◌, ◌↔◌, inl, inr, ℕ, [], ◌<◌, List, length, take, Bool, true, false, Option, Some, None, Ok, Err, arith, refl, ap, sym, ◌∙◌, subst, length-drop}
 use Rattle.std.proofs.lemmas.List.{append-nil}
-use Rattle.fw_outside.specs.Outside.{Takes}
 use Rattle.fw_outside.proofs.Parts.{Takes-nothing}
 use Rattle.fw_script.specs.Line.{is_skipped}
 use Rattle.fw_script.specs.Form.{HasForm}
-use Rattle.fw_script.specs.Reader.{ReadsLine, HoldsLine, IsOpen, IsFilled, Fills}
-use Rattle.fw_script.specs.Reading.{Reading, Answer, Gives, IsLine, IsAtEndOfInput, IsLongLine, PassesLimit, behind, at_stage, refused, with_taken, TakesMore, Advances, GivesNext, IsStageAfter}
+use Rattle.fw_script.specs.Reader.{ReadsLine, HoldsLine, IsNear, IsOpen, to_read}
+use Rattle.fw_script.proofs.LineLaws.{line_near}
+use Rattle.fw_script.specs.Reader.Goes.{nowhere, over_skipped, over_end}
+use Rattle.fw_script.specs.Reading.{Reading, Answer, Gives, IsLine, IsAtEndOfInput, IsLongLine, PassesLimit, behind, at_stage, refused, TakesMore, Advances, GivesNext, IsStageAfter}
 use Rattle.fw_script.specs.Reading.Gives.{skipped, command, end_line, bad_line, long_line, too_long, end_of_input, no_end, read_fault}
 use Rattle.fw_script.specs.declared.command.Command.{Command}
 use Rattle.fw_script.specs.declared.command.Command.TheVariants.{End}
-use Rattle.fw_script.specs.declared.ScriptFault.{ScriptFault}
-use Rattle.fw_script.specs.declared.ScriptFault.TheVariants.{BadLine, LineTooLong, NoEnd, ReadFault, TooLong}
+use Rattle.fw_script.specs.declared.ScriptFault.TheVariants.{BadLine, LineTooLong, NoEnd, TooLong}
 use Rattle.fw_script.specs.declared.stage.Stage.{Stage}
 use Rattle.fw_script.specs.declared.stage.Stage.TheVariants.{Commands, AfterEnd, Done, Failed}
 
@@ -22,26 +22,23 @@ gives_at p q new r e g = subst (λ (z : Reading). Gives p r z) (sym e) g
 line_of : (p : Reading) (n size : ℕ) (text : List ℕ) → text ≡ take n p.rest → HoldsLine p n size → IsLine p text size
 line_of p n size text e h = subst (λ (t : List ℕ). IsLine p t size) (sym e) h.line
 
-filled_behind : (p : Reading) (n size : ℕ) → HoldsLine p n size → IsFilled p → IsFilled (behind p size)
-filled_behind p n size h (inl w) = inl w
-filled_behind p n size h (inr e) = inr (omega (arith, length-drop size p.rest, h.all))
+-- behind a line less is to be read
+less_behind : (p : Reading) (n size : ℕ) → IsNear p.rest → HoldsLine p n size → to_read (behind p size) < to_read p
+less_behind p n size near h = omega (arith, length-drop size p.rest, h.all, h.some, h.line.within, near.few)
 
-shorter : (p : Reading) (n size : ℕ) → HoldsLine p n size → length (drop size p.rest) < length p.rest
-shorter p n size h = omega (arith, length-drop size p.rest, h.all, h.some)
-
-pub reads_skipped : (p new : Reading) (n size : ℕ) (text : List ℕ) → text ≡ take n p.rest → HoldsLine p n size → new ≡ behind p size → IsOpen p.stage → IsFilled p → is_skipped text ≡ true → ReadsLine p (Ok None) new
-reads_skipped p new n size text e h is stage filled skip =
+pub reads_skipped : (p new : Reading) (n size : ℕ) (text : List ℕ) → text ≡ take n p.rest → HoldsLine p n size → new ≡ behind p size → IsNear p.rest → IsOpen p.stage → is_skipped text ≡ true → ReadsLine p (Ok None) new
+reads_skipped p new n size text e h is near stage skip =
     subst (λ (z : Reading). ReadsLine p (Ok None) z) (sym is)
-    ((λ r z g. skipped text size (line_of p n size text e h) skip g), stage, filled_behind p n size h filled, shorter p n size h)
+    (over_skipped text size (line_of p n size text e h) skip nowhere, stage, less_behind p n size near h)
 
 pub reads_command : (p new : Reading) (n size : ℕ) (text : List ℕ) (c : Command) → text ≡ take n p.rest → HoldsLine p n size → new ≡ behind p size → is_skipped text ≡ false → p.stage ≡ Commands → HasForm c text → c ≢ End → Gives p (Ok (Some c)) new
 reads_command p new n size text c e h is skip stage form other =
     gives_at p (behind p size) new (Ok (Some c)) is (command c text size (line_of p n size text e h) skip stage form other)
 
-pub reads_end_line : (p mid new : Reading) (n size : ℕ) (text : List ℕ) → text ≡ take n p.rest → HoldsLine p n size → mid ≡ behind p size → new ≡ at_stage mid AfterEnd → IsFilled p → is_skipped text ≡ false → p.stage ≡ Commands → HasForm End text → ReadsLine p (Ok None) new
-reads_end_line p mid new n size text e h is then filled skip stage form =
+pub reads_end_line : (p mid new : Reading) (n size : ℕ) (text : List ℕ) → text ≡ take n p.rest → HoldsLine p n size → mid ≡ behind p size → new ≡ at_stage mid AfterEnd → IsNear p.rest → is_skipped text ≡ false → p.stage ≡ Commands → HasForm End text → ReadsLine p (Ok None) new
+reads_end_line p mid new n size text e h is then near skip stage form =
     subst (λ (z : Reading). ReadsLine p (Ok None) z) (sym (then ∙ ap (λ (m : Reading). at_stage m AfterEnd) is))
-    ((λ r z g. end_line text size (line_of p n size text e h) skip stage form g), tt, filled_behind p n size h filled, shorter p n size h)
+    (over_end text size (line_of p n size text e h) skip stage form nowhere, tt, less_behind p n size near h)
 
 pub reads_bad_line : (p mid new : Reading) (n size : ℕ) (text : List ℕ) → text ≡ take n p.rest → HoldsLine p n size → mid ≡ behind p size → new ≡ at_stage mid Failed → is_skipped text ≡ false → (p.stage ≡ AfterEnd) ⊎ ((c : Command) → HasForm c text → ⊥) → Gives p (Err BadLine) new
 reads_bad_line p mid new n size text e h is then skip why =
@@ -95,9 +92,6 @@ stage_of s z (Err f) o h = (open_not_done s o, h)
 pub stage_after : (s : Stage) (p q : Reading) (r : Answer) → IsOpen s → Gives p r q → IsStageAfter s r q.stage
 stage_after s p q r o g = stage_of s q.stage r o (gives_stage g)
 
-pub stage_failed : (old new : Reading) (left left' : Option (List ℕ)) (f : ScriptFault) → IsOpen old.stage → Fills old left left' (Err f) new → IsStageAfter old.stage (Err f) new.stage
-stage_failed old new left left' f o h = (open_not_done old.stage o, ap (λ (p : Reading). p.stage) h.1.2)
-
 -- nothing was taken
 pub nothing_taken : (p : Reading) (left : Option (List ℕ)) → TakesMore p p left left
 nothing_taken p left =
@@ -119,37 +113,16 @@ gives_done Failed p e = absurd cc
 pub after_end : (p : Reading) (left : Option (List ℕ)) → p.stage ≡ Done → Advances p p left left (Ok None)
 after_end p left e = record { known = p; takes = nothing_taken p left; gives = gives_done p.stage p e }
 
-gives_open : (s : Stage) (p q : Reading) (r : Answer) → IsOpen s → Gives p r q → GivesNext s p r q
+pub gives_open : (s : Stage) (p q : Reading) (r : Answer) → IsOpen s → Gives p r q → GivesNext s p r q
 gives_open Commands p q r o g = g
 gives_open AfterEnd p q r o g = g
 gives_open Done p q r o g = absurd o
 gives_open Failed p q r o g = absurd o
 
-pub source_failed : (old new : Reading) (left left' : Option (List ℕ)) (f : ScriptFault) → IsOpen old.stage → Fills old left left' (Err f) new → Advances old new left left' (Err f)
-source_failed old new left left' f o h =
-    let g : Gives h.1.0 (Err ReadFault) new = gives_at h.1.0 (at_stage h.1.0 Failed) new (Err ReadFault) h.1.2 read_fault in
-    record { known = h.1.0; takes = h.1.1; gives = gives_open old.stage h.1.0 new (Err f) o (subst (λ (e : ScriptFault). Gives h.1.0 (Err e) new) (sym h.0) g) }
+-- behind a line few bytes are held
+pub few_behind : (p new : Reading) (n size : ℕ) → IsNear p.rest → HoldsLine p n size → new ≡ behind p size → length new.rest ≤ 4096
+few_behind p new n size near h is = subst (λ (q : Reading). length q.rest ≤ 4096) (sym is) (line_near p (take n p.rest) size near h.line)
 
--- what was taken before the source failed
-pub taken_before : (old : Reading) (xs bytes : List ℕ) (at line : ℕ) (whole : Bool) (stage : Stage) (left left' : Option (List ℕ))
-    → record { rest = drop at xs; whole = whole; before = at; line = line; stage = stage } ≡ old → (old.rest ≡ []) × (old.before ≡ 0) × (old.whole ≡ false) → Takes left left' bytes
-    → (known : Reading) × TakesMore old known left left' × (record { rest = drop at bytes; whole = whole; before = at; line = line; stage = Failed } ≡ at_stage known Failed)
-taken_before old xs bytes at line whole stage left left' e empty took = (
-  with_taken old bytes false,
-  record { taken = bytes; takes = took; kept = λ w. absurd cc; met = λ w v. absurd cc; now = refl },
-  same (ap (λ (p : Reading). p.before) e) (ap (λ (p : Reading). p.line) e) (ap (λ (p : Reading). p.whole) e),
-)
-  where
-    all : (n : ℕ) → n ≡ 0 → drop n bytes ≡ bytes
-    all zero e = refl
-    all (suc n) e = absurd (omega arith)
-
-    front : (ys : List ℕ) → ys ≡ [] → bytes ≡ ys ++ bytes
-    front [] e = refl
-    front (y ∷ ys) e = absurd cc
-
-    same : at ≡ old.before → line ≡ old.line → whole ≡ old.whole → record { rest = drop at bytes; whole = whole; before = at; line = line; stage = Failed } ≡ at_stage (with_taken old bytes false) Failed
-    same a l w =
-        let r : drop at bytes ≡ old.rest ++ bytes = all at (a ∙ empty.1) ∙ front old.rest empty.0 in
-        let v : whole ≡ false = w ∙ empty.2 in
-        rw (r, v, a, l) refl
+-- a refused line
+pub few_refused : (p mid new : Reading) (n size : ℕ) → IsNear p.rest → HoldsLine p n size → mid ≡ behind p size → new ≡ at_stage mid Failed → length new.rest ≤ 4096
+few_refused p mid new n size near h is then = subst (λ (q : Reading). length q.rest ≤ 4096) (sym then) (few_behind p mid n size near h is)

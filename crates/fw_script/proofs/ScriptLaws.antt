@@ -1,33 +1,31 @@
--- Whole scripts, and calls one after the other.
-use Rattle.std.proofs.Common.{◌≡◌, ◌≢◌, ℕ, [], ◌∷◌, ◌++◌, ◌+◌, ◌<◌, ◌≤◌, List, length, true, false, Bool, Option, Some, None, Ok, Err, arith, refl, ap, sym, ◌∙◌, subst, append_assoc, zero-add}
-use Rattle.std.proofs.lemmas.List.{append-nil}
-use Rattle.fw_outside.specs.Outside.{Takes, IsAtEnd}
-use Rattle.fw_outside.proofs.Parts.{Takes-Takes, Takes-nothing}
-use Rattle.fw_script.specs.Reading.{Reading, Answer, Gives, GivesNext, Advances, behind, at_stage, with_taken, unread}
+-- Whole scripts.
+use Rattle.std.proofs.Common.{◌≡◌, ◌≢◌, ℕ, [], ◌∷◌, ◌++◌, ◌+◌, ◌<◌, ◌≤◌, List, length, Option, Some, None, Ok, Err, arith, refl, ap, sym, ◌∙◌, subst, append_assoc, zero-add}
+use Rattle.fw_script.specs.Reading.{Reading, Answer, Gives, behind, at_stage}
 use Rattle.fw_script.specs.Reading.Gives.{skipped, command, end_line, bad_line, long_line, too_long, end_of_input, no_end, read_fault}
-use Rattle.fw_script.specs.Script.{Refusal, Says, IsScript, HasRead, Tells, FitsLimit}
+use Rattle.fw_script.specs.Script.{Refusal, Says, IsScript, FitsLimit}
+use Rattle.fw_script.specs.Leading.{Leads, BeginsWith}
+use Rattle.fw_script.specs.Leading.Leads.{nothing, and_then}
 use Rattle.fw_script.specs.Script.Says.{ends, refuses, goes_on}
 use Rattle.fw_script.specs.declared.command.Command.{Command}
 use Rattle.fw_script.specs.declared.command.Command.TheVariants.{End}
 use Rattle.fw_script.specs.declared.ScriptFault.{ScriptFault}
 use Rattle.fw_script.specs.declared.ScriptFault.TheVariants.{NoEnd, ReadFault, TooLong}
-use Rattle.fw_script.specs.declared.stage.Stage.{Stage}
-use Rattle.fw_script.specs.declared.stage.Stage.TheVariants.{Commands, AfterEnd, Done, Failed}
+use Rattle.fw_script.specs.declared.stage.Stage.TheVariants.{AfterEnd}
 use Rattle.fw_script.proofs.LineLaws.{behind_total}
-use Rattle.fw_script.proofs.GivesLaws.{gives_once, gives_more, gives_whole, Same}
+use Rattle.fw_script.proofs.GivesLaws.{gives_once, Same}
 
 -- the answer is no fault of the source
 abbrev IsTold : Answer → Type 0
 IsTold r = r ≢ Err ReadFault
 
 -- the answer is a command or a fault
-abbrev IsSomething : Answer → Type 0
+abbrev pub IsSomething : Answer → Type 0
 IsSomething r = r ≢ Ok None
 
-some_something : (c : Command) → IsSomething (Ok (Some c))
+pub some_something : (c : Command) → IsSomething (Ok (Some c))
 some_something c e = cc
 
-err_something : (f : ScriptFault) → IsSomething (Err f)
+pub err_something : (f : ScriptFault) → IsSomething (Err f)
 err_something f e = cc
 
 ok_told : (o : Option Command) → IsTold (Ok o)
@@ -69,144 +67,43 @@ says_after {q = q} {s = s} c g o (goes_on {q = z} {c = d} {cs = ds} h m w) =
     let head : d ≡ c = let x = e.0 in cc in
     (ds, ap (λ (x : Command). x ∷ ds) head, subst (λ (x : Reading). Says x ds s) (sym e.1) w)
 
--- taking in turn
-with_with : (p : Reading) (xs ys : List ℕ) (w : Bool) → with_taken (with_taken p xs w) ys true ≡ with_taken p (xs ++ ys) true
-with_with p xs ys w = ap (λ (l : List ℕ). record { rest = l; whole = true; before = p.before; line = p.line; stage = p.stage }) (append_assoc p.rest xs ys)
+-- what these commands lead to says the rest
+pub says_from : {p q : Reading} {commands : List Command} → Leads p commands q → (ds : List Command) (r : Option Refusal) → Says q ds r → Says p (commands ++ ds) r
+says_from nothing ds r s = s
+says_from {p = p} (and_then {commands = commands} l c o next g) ds r s =
+    subst (λ (cs : List Command). Says p cs r) (sym (append_assoc commands (c ∷ []) ds)) (says_from l (c ∷ ds) r (goes_on g o s))
 
-at_end_still : (left mid : Option (List ℕ)) → Takes left mid [] → IsAtEnd left → IsAtEnd mid
-at_end_still None None h e = tt
-at_end_still None (Some ys) h e = absurd h
-at_end_still (Some xs) None h e = tt
-at_end_still (Some xs) (Some ys) h e = sym h ∙ e
+pub says_behind : {p q : Reading} {commands : List Command} → Leads p commands q → (ds : List Command) (r : Option Refusal) → Says p ds r → (cs : List Command) × (ds ≡ commands ++ cs) × Says q cs r
+says_behind nothing ds r s = (ds, refl, s)
+says_behind (and_then {commands = commands} l c o next g) ds r s =
+    let b = says_behind l ds r s in
+    let n = says_after c g o b.2 in
+    (n.0, b.1 ∙ ap (λ (l : List Command). commands ++ l) n.1 ∙ sym (append_assoc commands (c ∷ []) n.0), n.2)
 
-next_open : (s : Stage) (p q : Reading) (r : Answer) → (r ≢ Ok None) → GivesNext s p r q → Gives p r q
-next_open Commands p q r n g = g
-next_open AfterEnd p q r n g = g
-next_open Done p q r n g = absurd (n g.0)
-next_open Failed p q r n g = g
+pub begins_first : (script : List ℕ) (commands ds : List Command) (r : Option Refusal) → BeginsWith script commands → IsScript script ds r → (cs : List Command) × (ds ≡ commands ++ cs)
+begins_first script commands ds r h s = let b = says_behind h.leads ds r s in (b.0, b.1)
 
--- what a call gave, over all bytes that are left
-module _ (old new : Reading) (mid left' : Option (List ℕ)) (r : Answer) (some : r ≢ Ok None) (a : Advances old new mid left' r) where
-  gave : Gives a.known r new
-  gave = next_open old.stage a.known new r some a.gives
+-- the first commands are the script's beginning
+leads_before : {p q z : Reading} {commands : List Command} → (c : Command) → Gives p (Ok (Some c)) q → c ≢ End → Leads q commands z → Leads p (c ∷ commands) z
+leads_before {q = q} c g o nothing = and_then nothing c o q g
+leads_before c g o (and_then l d m next h) = and_then (leads_before c g o l) d m next h
 
-  pub known_whole : new.whole ≡ a.known.whole
-  known_whole = gives_whole gave
+not_nothing : (commands ds : List Command) (c : Command) → [] ≡ commands ++ c ∷ ds → ⊥
+not_nothing [] ds c e = cc
+not_nothing (d ∷ commands) ds c e = cc
 
-  -- where the end was met nothing more is left
-  more_none : (more : List ℕ) → (new.whole ≡ true → more ≡ []) → a.known.whole ≡ true → more ≡ []
-  more_none more none w = none (known_whole ∙ w)
+says_begins : {p : Reading} {cs : List Command} {r : Option Refusal} → (commands ds : List Command) (c : Command) → cs ≡ commands ++ c ∷ ds → Says p cs r → (q : Reading) × Leads p commands q
+says_begins {p = p} [] ds c e s = (p, nothing)
+says_begins (d ∷ commands) ds c e (ends g) = absurd (not_nothing commands ds c (let h : [] ≡ commands ++ c ∷ ds = cc in h))
+says_begins (d ∷ commands) ds c e (refuses g n) = absurd cc
+says_begins {p = p} (d ∷ commands) ds c e (goes_on {c = b} {cs = bs} g o m) =
+    let head : b ≡ d = cc in
+    let rest : bs ≡ commands ++ c ∷ ds = cc in
+    let n = says_begins commands ds c rest m in
+    (n.0, subst (λ (x : Command). Leads p (x ∷ commands) n.0) head (leads_before b g o n.1))
 
-  pub gave_all : (more : List ℕ) → (new.whole ≡ true → more ≡ []) → Gives (with_taken old (a.takes.taken ++ more) true) r (with_taken new more true)
-  gave_all more none =
-      subst (λ (p : Reading). Gives p r (with_taken new more true))
-      (ap (λ (p : Reading). with_taken p more true) a.takes.now ∙ with_with old a.takes.taken more a.known.whole)
-      (gives_more more (more_none more none) gave)
-
-  -- nothing more was left before, where the end was met before
-  pub before_none : (more : List ℕ) → (new.whole ≡ true → more ≡ []) → old.whole ≡ true → a.takes.taken ++ more ≡ []
-  before_none more none w =
-      let k = a.takes.kept w in
-      ap (λ (l : List ℕ). l ++ more) k.0 ∙ none (known_whole ∙ k.1)
-
-  pub met_end : (old.whole ≡ true → IsAtEnd mid) → new.whole ≡ true → IsAtEnd left'
-  met_end before w = by_old old.whole refl
-    where
-      by_old : (b : Bool) → old.whole ≡ b → IsAtEnd left'
-      by_old true e = at_end_still mid left' (subst (λ (l : List ℕ). Takes mid left' l) (a.takes.kept e).0 a.takes.takes) (before e)
-      by_old false e = a.takes.met e (sym known_whole ∙ w)
-
--- a new reader has read nothing
-pub read_nothing : (left : Option (List ℕ)) → HasRead left left [] unread
-read_nothing left = record {
-  taken = [];
-  takes = Takes-nothing left;
-  met = λ w. absurd cc;
-  first = λ more cs r none h. h;
-  rest = λ more cs r none h. (cs, refl, h);
-}
-
--- a call gave one command more
-pub read_command : (left mid left' : Option (List ℕ)) (given : List Command) (old new : Reading) (c : Command)
-    → HasRead left mid given old → Advances old new mid left' (Ok (Some c)) → c ≢ End → HasRead left left' (given ++ c ∷ []) new
-read_command left mid left' given old new c so a other = record {
-  taken = so.taken ++ a.takes.taken;
-  takes = Takes-Takes left mid left' so.taken a.takes.taken so.takes a.takes.takes;
-  met = met_end old new mid left' (Ok (Some c)) (some_something c) a so.met;
-  first = first_more;
-  rest = rest_more;
-}
-  where
-    first_more : (more : List ℕ) (cs : List Command) (r : Option Refusal) → (new.whole ≡ true → more ≡ []) → Says (with_taken new more true) cs r → IsScript ((so.taken ++ a.takes.taken) ++ more) ((given ++ c ∷ []) ++ cs) r
-    first_more more cs r none h =
-        let g = gave_all old new mid left' (Ok (Some c)) (some_something c) a more none in
-        let s = so.first (a.takes.taken ++ more) (c ∷ cs) r (before_none old new mid left' (Ok (Some c)) (some_something c) a more none) (goes_on g other h) in
-        subst (λ (bytes : List ℕ). IsScript bytes ((given ++ c ∷ []) ++ cs) r) (sym (append_assoc so.taken a.takes.taken more))
-        (subst (λ (ds : List Command). IsScript (so.taken ++ (a.takes.taken ++ more)) ds r) (sym (append_assoc given (c ∷ []) cs)) s)
-
-    rest_more : (more : List ℕ) (ds : List Command) (r : Option Refusal) → (new.whole ≡ true → more ≡ []) → IsScript ((so.taken ++ a.takes.taken) ++ more) ds r → (cs : List Command) × (ds ≡ (given ++ c ∷ []) ++ cs) × Says (with_taken new more true) cs r
-    rest_more more ds r none h =
-        let b = so.rest (a.takes.taken ++ more) ds r (before_none old new mid left' (Ok (Some c)) (some_something c) a more none) (subst (λ (bytes : List ℕ). IsScript bytes ds r) (append_assoc so.taken a.takes.taken more) h) in
-        let n = says_after c (gave_all old new mid left' (Ok (Some c)) (some_something c) a more none) other b.2 in
-        (n.0, b.1 ∙ ap (λ (l : List Command). given ++ l) n.1 ∙ sym (append_assoc given (c ∷ []) n.0), n.2)
-
--- where the end was given, the input was read to its end
-gives_end_whole : {p : Reading} {r : Answer} {q : Reading} → Gives p r q → r ≡ Ok (Some End) → q.whole ≡ true
-gives_end_whole (skipped t n a k g) e = gives_end_whole g e
-gives_end_whole (command c t n a k i f o) e = absurd (o (let h : c ≡ End = cc in h))
-gives_end_whole (end_line t n a k i f g) e = gives_end_whole g e
-gives_end_whole (bad_line t n a k w) e = absurd cc
-gives_end_whole (long_line a) e = absurd cc
-gives_end_whole (too_long a) e = absurd cc
-gives_end_whole (end_of_input a i) e = a.1
-gives_end_whole (no_end a i) e = absurd cc
-gives_end_whole read_fault e = absurd cc
-
--- a call gave the end
-pub read_end : (left mid left' : Option (List ℕ)) (given : List Command) (old new : Reading)
-    → HasRead left mid given old → Advances old new mid left' (Ok (Some End))
-    → (script : List ℕ) × Takes left left' script × IsAtEnd left' × IsScript script (given ++ End ∷ []) None
-read_end left mid left' given old new so a =
-    let g = gave old new mid left' (Ok (Some End)) (some_something End) a in
-    let w : new.whole ≡ true = gives_end_whole g refl in
-    let all = gave_all old new mid left' (Ok (Some End)) (some_something End) a [] (λ v. refl) in
-    let s = so.first (a.takes.taken ++ []) (End ∷ []) None (before_none old new mid left' (Ok (Some End)) (some_something End) a [] (λ v. refl)) (ends all) in (
-      so.taken ++ a.takes.taken,
-      Takes-Takes left mid left' so.taken a.takes.taken so.takes a.takes.takes,
-      met_end old new mid left' (Ok (Some End)) (some_something End) a so.met w,
-      subst (λ (bytes : List ℕ). IsScript (so.taken ++ bytes) (given ++ End ∷ []) None) (append-nil a.takes.taken) s,
-    )
-
--- what the source still tells
-told_rest : (left left' : Option (List ℕ)) (xs : List ℕ) (whole : Bool) → Takes left left' xs → (whole ≡ true → IsAtEnd left')
-    → (more : List ℕ) × Tells left (xs ++ more) × (whole ≡ true → more ≡ [])
-told_rest None None xs whole t met = ([], tt, λ w. refl)
-told_rest None (Some ys) xs whole t met = absurd t
-told_rest (Some old) None xs whole t met = absurd t
-told_rest (Some old) (Some ys) xs whole t met = (ys, t, met)
-
--- what was given comes first
-pub given_first : (script : List ℕ) (left' : Option (List ℕ)) (given ds : List Command) (now : Reading) (r : Option Refusal)
-    → HasRead (Some script) left' given now → IsScript script ds r → (cs : List Command) × (ds ≡ given ++ cs)
-given_first script left' given ds now r so h =
-    let m = told_rest (Some script) left' so.taken now.whole so.takes so.met in
-    let b = so.rest m.0 ds r m.2 (subst (λ (bytes : List ℕ). IsScript bytes ds r) m.1 h) in
-    (b.0, b.1)
-
--- a call refused a line
-pub read_refused : (left mid left' : Option (List ℕ)) (given : List Command) (old new : Reading) (f : ScriptFault)
-    → HasRead left mid given old → Advances old new mid left' (Err f) → f ≢ ReadFault
-    → (script : List ℕ) × Tells left script × IsScript script given (Some (record { fault = f; line = new.line }))
-read_refused left mid left' given old new f so a told =
-    let met = met_end old new mid left' (Err f) (err_something f) a so.met in
-    let m = told_rest left left' (so.taken ++ a.takes.taken) new.whole (Takes-Takes left mid left' so.taken a.takes.taken so.takes a.takes.takes) met in
-    let g = gave_all old new mid left' (Err f) (err_something f) a m.0 m.2 in
-    let s = so.first (a.takes.taken ++ m.0) [] (Some (record { fault = f; line = new.line })) (before_none old new mid left' (Err f) (err_something f) a m.0 m.2) (refuses g told) in (
-      (so.taken ++ a.takes.taken) ++ m.0,
-      m.1,
-      subst (λ (bytes : List ℕ). IsScript bytes given (Some (record { fault = f; line = new.line }))) (sym (append_assoc so.taken a.takes.taken m.0))
-          (subst (λ (cs : List Command). IsScript (so.taken ++ (a.takes.taken ++ m.0)) cs (Some (record { fault = f; line = new.line }))) (append-nil given) s),
-    )
+pub first_begins : (script : List ℕ) (commands ds : List Command) (c : Command) (r : Option Refusal) → IsScript script (commands ++ c ∷ ds) r → BeginsWith script commands
+first_begins script commands ds c r s = let b = says_begins commands ds c refl s in record { behind = b.0; leads = b.1 }
 
 -- the script's length decides whether it is too long
 abbrev Total : Reading → Answer → Reading → Type 0

@@ -3,8 +3,9 @@ use Rattle.std.specs.Prelude.{◌≡◌, ◌≢◌, ℕ, List, [], ◌∷◌, �
 use Rattle.fw_outside.specs.Outside.{Takes, IsAtEnd}
 use Rattle.fw_script.specs.Pieces.{pieces, parted, AreFree}
 use Rattle.fw_script.specs.Form.{HasForm}
-use Rattle.fw_script.specs.Reading.{Reading, Answer, Gives, Advances, unread}
-use Rattle.fw_script.specs.Script.{Refusal, IsScript, HasRead, Tells, FitsLimit}
+use Rattle.fw_script.specs.Reading.{Reading, Answer, Gives, Advances, IsHeld, unread}
+use Rattle.fw_script.specs.Script.{Refusal, IsScript, Tells, FitsLimit}
+use Rattle.fw_script.specs.Leading.{HasRead, BeginsWith, LinesSay, IsReadOf}
 use Rattle.fw_script.specs.declared.command.Command.{Command}
 use Rattle.fw_script.specs.declared.command.Command.TheVariants.{End}
 use Rattle.fw_script.specs.declared.ScriptFault.{ScriptFault}
@@ -55,3 +56,24 @@ abbrev pub FaultIsTheScripts : Type 0
 FaultIsTheScripts = (left mid left' : Option (List ℕ)) (given : List Command) (old new : Reading) (f : ScriptFault)
     → HasRead left mid given old → Advances old new mid left' (Err f) → f ≢ ReadFault
     → (script : List ℕ) × Tells left script × IsScript script given (Some (record { fault = f; line = new.line }))
+
+-- where the source failed, the commands that were given are exactly those of the lines whose line feed was taken before
+abbrev pub WholeLinesWereGiven : Type 0
+WholeLinesWereGiven = (left mid left' : Option (List ℕ)) (given : List Command) (old new : Reading)
+    → HasRead left mid given old → Advances old new mid left' (Err ReadFault) → IsHeld (Err ReadFault) new
+    → (taken : List ℕ) × Takes left left' taken × LinesSay taken given
+
+-- what a call took beyond what was read is held
+abbrev pub TakenIsHeld : Type 0
+TakenIsHeld = (left mid left' : Option (List ℕ)) (given : List Command) (old new : Reading) (r : Answer)
+    → HasRead left mid given old → Advances old new mid left' r → (taken : List ℕ) × Takes left left' taken × IsReadOf taken new
+
+-- where a script gives these commands first, they come first in all that it says
+abbrev pub BeginningIsFirst : Type 0
+BeginningIsFirst = (script : List ℕ) (commands ds : List Command) (r : Option Refusal)
+    → BeginsWith script commands → IsScript script ds r → (cs : List Command) × (ds ≡ commands ++ cs)
+
+-- the first commands of a script are the script's beginning, unless they are all that it says
+abbrev pub FirstIsBeginning : Type 0
+FirstIsBeginning = (script : List ℕ) (commands ds : List Command) (c : Command) (r : Option Refusal)
+    → IsScript script (commands ++ c ∷ ds) r → BeginsWith script commands

@@ -1,11 +1,11 @@
 -- The next line of some bytes, and what it means.
-use Rattle.std.specs.Prelude.{◌≡◌, ◌≢◌, ◌⊎◌, ℕ, ◌+◌, ◌<◌, ◌≤◌, ◌==◌, nat_lt, List, [], ◌∷◌, ◌++◌, length, take, drop, Bool, true, false, if◌then◌else◌}
+use Rattle.std.specs.Prelude.{◌≡◌, ◌≢◌, ◌⊎◌, ℕ, ◌+◌, ◌<◌, ◌≤◌, ◌==◌, nat_lt, List, [], ◌∷◌, ◌++◌, length, take, drop, Bool, true, false, not, if◌then◌else◌}
 use Rattle.fw_script.specs.Pieces.{IsFree}
 use Rattle.fw_script.specs.Form.{HasForm}
 use Rattle.fw_script.specs.declared.command.Command.{Command}
 use Rattle.fw_script.specs.declared.command.Command.TheVariants as Commands
 use Rattle.fw_script.specs.declared.line.Front.{Front}
-use Rattle.fw_script.specs.declared.line.Front.TheVariants.{Line, LongLine, Limit, Nothing}
+use Rattle.fw_script.specs.declared.line.Front.TheVariants.{Line, LongLine, Limit, Cut, Nothing}
 use Rattle.fw_script.specs.declared.line.Meaning.{Meaning}
 use Rattle.fw_script.specs.declared.line.Meaning.TheVariants.{Skipped, Command as Said, End, Refused}
 
@@ -15,25 +15,27 @@ is_skipped [] = true
 is_skipped (b ∷ text) = b == 35
 
 -- what stands next, where the first bytes have no line feed: as many as are there, within the script's limit or fit a line and one more
-abbrev pub unfed_of : ℕ → ℕ → Front
-unfed_of total count =
+abbrev pub unfed_of : ℕ → ℕ → Bool → Front
+unfed_of total count whole =
     if nat_lt 256 count then LongLine
     else if nat_lt count total then Limit
+    else if not whole then Cut
     else if count == 0 then Nothing
     else Line count count
 
--- the line ends with a line feed, or with all bytes
-abbrev pub IsCut : List ℕ → ℕ → ℕ → Type 0
-IsCut rest n size =
+-- the line ends with a line feed, or with all bytes, where no others follow
+abbrev pub IsEnded : List ℕ → Bool → ℕ → ℕ → Type 0
+IsEnded rest whole n size =
     ((rest ≡ take n rest ++ 10 ∷ drop size rest) × (size ≡ n + 1))
-    ⊎ ((rest ≡ take n rest) × (drop size rest ≡ []) × (size ≡ n) × (0 < n))
+    ⊎ ((rest ≡ take n rest) × (whole ≡ true) × (drop size rest ≡ []) × (size ≡ n) × (0 < n))
 
 -- what stands next, where the first bytes, as many as there is room, are within the script's limit
-abbrev pub IsFront : List ℕ → ℕ → Front → Type 0
-IsFront rest room (Line n size) = (n ≤ 256) × (size ≤ room) × (size ≤ length rest) × IsFree 10 (take n rest) × (n ≡ length (take n rest)) × IsCut rest n size
-IsFront rest room LongLine = (257 ≤ length rest) × (257 ≤ room) × IsFree 10 (take 257 rest)
-IsFront rest room Limit = (room < length rest) × (room ≤ 256) × IsFree 10 (take room rest)
-IsFront rest room Nothing = rest ≡ []
+abbrev pub IsFront : List ℕ → ℕ → Bool → Front → Type 0
+IsFront rest room whole (Line n size) = (n ≤ 256) × (size ≤ room) × (size ≤ length rest) × IsFree 10 (take n rest) × (n ≡ length (take n rest)) × IsEnded rest whole n size
+IsFront rest room whole LongLine = (257 ≤ length rest) × (257 ≤ room) × IsFree 10 (take 257 rest)
+IsFront rest room whole Limit = (room < length rest) × (room ≤ 256) × IsFree 10 (take room rest)
+IsFront rest room whole Cut = (whole ≡ false) × (length rest ≤ 256) × (length rest ≤ room) × IsFree 10 rest
+IsFront rest room whole Nothing = (rest ≡ []) × (whole ≡ true)
 
 -- what a line means, where commands may stand or only skipped lines
 abbrev pub IsMeaning : List ℕ → Bool → Meaning → Type 0

@@ -1,10 +1,14 @@
 -- What a reader keeps between its steps.
-use Rattle.std.specs.Prelude.{◌≡◌, ◌⊎◌, ℕ, ◌+◌, ◌<◌, ◌≤◌, List, length, take, Bool, true, Option, Some, None, Result, Ok, Err}
-use Rattle.fw_script.specs.Reading.{Reading, Answer, Gives, IsLine, IsLongLine, PassesLimit, IsAtEndOfInput, TakesMore, at_stage}
+use Rattle.std.specs.Prelude.{◌≡◌, ℕ, ◌+◌, ◌*◌, ◌-◌, ◌<◌, ◌≤◌, List, length, take, true, false, Option, Some, None, Result, Ok, Err, if◌then◌else◌}
+use Rattle.fw_script.specs.Pieces.{IsFree}
+use Rattle.fw_script.specs.Line.{is_skipped}
+use Rattle.fw_script.specs.Form.{HasForm}
+use Rattle.fw_script.specs.Reading.{Reading, Answer, Gives, IsLine, IsLongLine, PassesLimit, IsAtEndOfInput, TakesMore, at_stage, behind}
+use Rattle.fw_script.specs.declared.command.Command.TheVariants.{End}
 use Rattle.fw_script.specs.declared.ScriptFault.{ScriptFault}
 use Rattle.fw_script.specs.declared.ScriptFault.TheVariants.{ReadFault}
 use Rattle.fw_script.specs.declared.line.Front.{Front}
-use Rattle.fw_script.specs.declared.line.Front.TheVariants.{Line, LongLine, Limit, Nothing}
+use Rattle.fw_script.specs.declared.line.Front.TheVariants.{Line, LongLine, Limit, Cut, Nothing}
 use Rattle.fw_script.specs.declared.stage.Stage.{Stage}
 use Rattle.fw_script.specs.declared.stage.Stage.TheVariants.{Commands, AfterEnd, Done, Failed}
 
@@ -15,28 +19,41 @@ IsOpen AfterEnd = Unit {0}
 IsOpen Done = ⊥
 IsOpen Failed = ⊥
 
--- all bytes were taken, or one more than a script may have
-abbrev pub IsFilled : Reading → Type 0
-IsFilled p = (p.whole ≡ true) ⊎ (p.before + length p.rest ≡ 1048577)
+-- a line of at most 256 bytes and 4,096 more are held at most, and what passes the 4,096 has no line feed
+pub record IsNear (rest : List ℕ) : Type 0 where
+  pub few : length rest ≤ 256 + 4096
+  pub free : IsFree 10 (take (length rest - 4096) rest)
 
--- what follows from there on follows from here on
-abbrev pub GoesOn : Reading → Reading → Type 0
-GoesOn p q = (r : Answer) (z : Reading) → Gives q r z → Gives p r z
+-- from the one reading on, lines are passed over that say nothing, and `end`, up to the other
+pub data Goes : Reading → Reading → Type 0 where
+  nowhere : {p : Reading} → Goes p p
+  over_skipped : {p q : Reading} (text : List ℕ) (size : ℕ)
+      → IsLine p text size → is_skipped text ≡ true → Goes (behind p size) q → Goes p q
+  over_end : {p q : Reading} (text : List ℕ) (size : ℕ)
+      → IsLine p text size → is_skipped text ≡ false → p.stage ≡ Commands → HasForm End text
+      → Goes (at_stage (behind p size) AfterEnd) q → Goes p q
 
--- one line was read: it says nothing, and the reading goes on, or it gives a command or a fault
+-- bytes were taken, and lines were passed over that say nothing
+pub record GoesOn (old new : Reading) (left left' : Option (List ℕ)) : Type 0 where
+  pub known : Reading
+  pub takes : TakesMore old known left left'
+  pub goes : Goes known new
+
+-- what is read and taken at most before an answer
+abbrev pub to_read : Reading → ℕ
+to_read p = (2101506 - (2 * p.before + length p.rest)) + (if p.whole then 0 else 1)
+
+-- a step: lines are passed over or bytes taken, and the reading goes on, or an answer is given
+abbrev pub Steps : Reading → Option (List ℕ) → Option (List ℕ) → Answer → Reading → Type 0
+Steps old left left' (Ok None) new = GoesOn old new left left' × IsOpen new.stage × (to_read new < to_read old)
+Steps old left left' (Ok (Some c)) new = (mid : Reading) × GoesOn old mid left left' × Gives mid (Ok (Some c)) new
+Steps old left left' (Err f) new = (mid : Reading) × GoesOn old mid left left' × Gives mid (Err f) new
+
+-- a line was read: it says nothing, and the reading goes on, or it gives a command or a fault
 abbrev pub ReadsLine : Reading → Answer → Reading → Type 0
-ReadsLine p (Ok None) q = GoesOn p q × IsOpen q.stage × IsFilled q × (length q.rest < length p.rest)
+ReadsLine p (Ok None) q = Goes p q × IsOpen q.stage × (to_read q < to_read p)
 ReadsLine p (Ok (Some c)) q = Gives p (Ok (Some c)) q
 ReadsLine p (Err f) q = Gives p (Err f) q
-
--- so much of the script was taken: all of it, nothing yet, or one byte more than it may have
-abbrev pub IsRead : Bool → ℕ → Type 0
-IsRead whole n = (whole ≡ true) ⊎ ((n ≡ 0) ⊎ (n ≡ 1048577))
-
--- the bytes were taken, or the source failed
-abbrev pub Fills : Reading → Option (List ℕ) → Option (List ℕ) → Result Unit ScriptFault → Reading → Type 0
-Fills old left left' (Ok u) new = TakesMore old new left left' × IsFilled new
-Fills old left left' (Err f) new = (f ≡ ReadFault) × ((known : Reading) × TakesMore old known left left' × (new ≡ at_stage known Failed))
 
 -- the next line has n bytes, and takes so many with its line feed
 pub record HoldsLine (p : Reading) (n size : ℕ) : Type 0 where
@@ -45,9 +62,22 @@ pub record HoldsLine (p : Reading) (n size : ℕ) : Type 0 where
   pub some : 0 < size
   pub all : size ≤ length p.rest
 
+-- a front of the next line is held, and not its end
+pub record IsCut (p : Reading) : Type 0 where
+  pub on : p.whole ≡ false
+  pub short : length p.rest ≤ 256
+  pub within : p.before + length p.rest ≤ 1048576
+  pub free : IsFree 10 p.rest
+
 -- what stands next
 abbrev pub StandsNext : Reading → Front → Type 0
 StandsNext p (Line n size) = HoldsLine p n size
 StandsNext p LongLine = IsLongLine p
 StandsNext p Limit = PassesLimit p
+StandsNext p Cut = IsCut p
 StandsNext p Nothing = IsAtEndOfInput p
+
+-- bytes were taken, some or the source's end, or the source failed
+abbrev pub Fills : Reading → Option (List ℕ) → Option (List ℕ) → Result Unit ScriptFault → Reading → Type 0
+Fills old left left' (Ok u) new = TakesMore old new left left' × (new.stage ≡ old.stage) × (to_read new < to_read old)
+Fills old left left' (Err f) new = (f ≡ ReadFault) × TakesMore old old left left' × (new ≡ at_stage old Failed)

@@ -15,8 +15,8 @@ use Rattle.fw_script.specs.declared.stage.Stage.TheVariants.{Commands, AfterEnd,
 abbrev pub Answer : Type 0
 Answer = Result (Option Command) ScriptFault
 
--- where a reading stands: the bytes from the next line on, as far as they were taken from the source; whether its
--- end was met behind them; how many bytes of the script stand before them; the number of the line last read or
+-- where a reading stands: the bytes from the next line on, as far as they were taken from the source, which is all that
+-- is held; whether its end was met behind them; how many bytes of the script stand before them; the number of the line last read or
 -- refused; and what is read next
 pub record Reading : Type 0 where
   pub rest : List ℕ
@@ -128,3 +128,18 @@ abbrev pub IsStageAfter : Stage → Answer → Stage → Type 0
 IsStageAfter old (Ok None) new = (old ≡ Done) × (new ≡ Done)
 IsStageAfter old (Ok (Some c)) new = (old ≢ Done) × (new ≢ Failed) × ((c ≡ End) ↔ (new ≡ Done))
 IsStageAfter old (Err f) new = (old ≢ Done) × (new ≡ Failed)
+
+-- what is held gives a command, or a fault that is not the source's: nothing more need be known
+abbrev pub HoldsAnswer : Reading → Type 0
+HoldsAnswer p = (r : Answer) × (q : Reading) × Gives p r q × (r ≢ Err ReadFault)
+
+-- How many bytes are held behind an answer: at most 4,096 behind the line of a command or of a refused one, of a line that is too
+-- long at most 4,096 behind its first 257. Where the source failed no whole line is held.
+abbrev pub IsHeld : Answer → Reading → Type 0
+IsHeld (Ok None) q = Unit {0}
+IsHeld (Ok (Some c)) q = length q.rest ≤ 4096
+IsHeld (Err BadLine) q = length q.rest ≤ 4096
+IsHeld (Err LineTooLong) q = length q.rest ≤ 257 + 4096
+IsHeld (Err NoEnd) q = q.rest ≡ []
+IsHeld (Err TooLong) q = length q.rest ≤ 256 + 4096
+IsHeld (Err ReadFault) q = IsFree 10 q.rest × (length q.rest ≤ 256) × (q.whole ≡ false)

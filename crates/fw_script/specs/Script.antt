@@ -1,7 +1,6 @@
 -- Whole scripts.
-use Rattle.std.specs.Prelude.{◌≡◌, ◌≢◌, ℕ, ◌≤◌, ◌<◌, List, [], ◌∷◌, ◌++◌, true, Option, Some, None, Ok, Err}
-use Rattle.fw_outside.specs.Outside.{Takes, IsAtEnd}
-use Rattle.fw_script.specs.Reading.{Reading, Gives, with_taken}
+use Rattle.std.specs.Prelude.{◌≡◌, ◌≢◌, ℕ, ◌≤◌, ◌<◌, List, [], ◌∷◌, Bool, true, Option, Some, None, Ok, Err}
+use Rattle.fw_script.specs.Reading.{Reading, Gives}
 use Rattle.fw_script.specs.declared.command.Command.{Command}
 use Rattle.fw_script.specs.declared.command.Command.TheVariants.{End}
 use Rattle.fw_script.specs.declared.ScriptFault.{ScriptFault}
@@ -20,20 +19,17 @@ pub data Says : Reading → List Command → Option Refusal → Type 0 where
   goes_on : {p q : Reading} {c : Command} {cs : List Command} {r : Option Refusal}
       → Gives p (Ok (Some c)) q → c ≢ End → Says q cs r → Says p (c ∷ cs) r
 
+-- bytes of which nothing is read yet; others may follow them where they are not whole
+abbrev pub begun : List ℕ → Bool → Reading
+begun bytes whole = record { rest = bytes; whole = whole; before = 0; line = 0; stage = Commands }
+
+-- a script of which nothing is read yet
+abbrev pub start_of : List ℕ → Reading
+start_of script = begun script true
+
 -- the commands of a script, and its first refused line, if any
 abbrev pub IsScript : List ℕ → List Command → Option Refusal → Type 0
-IsScript bytes cs r = Says (record { rest = bytes; whole = true; before = 0; line = 0; stage = Commands }) cs r
-
--- What calls have read of a script, from when the reader was new: the commands that they gave come first in the script,
--- whatever more is left where the input's end was not met, and what follows from there on follows them.
-pub record HasRead (left left' : Option (List ℕ)) (given : List Command) (now : Reading) : Type 0 where
-  pub taken : List ℕ
-  pub takes : Takes left left' taken
-  pub met : now.whole ≡ true → IsAtEnd left'
-  pub first : (more : List ℕ) (cs : List Command) (r : Option Refusal) → (now.whole ≡ true → more ≡ [])
-      → Says (with_taken now more true) cs r → IsScript (taken ++ more) (given ++ cs) r
-  pub rest : (more : List ℕ) (ds : List Command) (r : Option Refusal) → (now.whole ≡ true → more ≡ [])
-      → IsScript (taken ++ more) ds r → (cs : List Command) × (ds ≡ given ++ cs) × Says (with_taken now more true) cs r
+IsScript bytes cs r = Says (start_of bytes) cs r
 
 -- a script that the source tells, where it tells
 abbrev pub Tells : Option (List ℕ) → List ℕ → Type 0

@@ -1,62 +1,7 @@
 //! What the lines of a script say.
 
-ghost use Rattle.std.specs.Prelude.{◌≡◌, ◌≤◌, length};
-ghost use Rattle.fw_script.specs.Words.{name_in};
-
-use crate::words::name;
+use crate::Name;
 use fw_words::Bytes;
-use std::marker::Model;
-
-/// A device's name: 1 to 16 of a to z and 0 to 9, the first a letter, and none of `manager`, `any` and `late`.
-#[derive(Debug, PartialEq, Eq, Drop)]
-pub struct Name {
-    bytes: Bytes<16>,
-}
-
-impl Model for Name {
-    ghost use Rattle.std.specs.Prelude.{List, ℕ};
-
-    ghost Value = { List ℕ };
-
-    ghost view = { λ n. n.bytes };
-
-    ghost inverse = { λ n. record { bytes = n } };
-}
-
-impl Name {
-    // The name of these bytes.
-    pub(crate) fn from_bytes(word: &[u8]) -> Name
-        requires { length word.now ≤ 16 }
-        ensures { result ≡ word.now }
-    {
-        let mut bytes = Bytes::new();
-        bytes.append(word);
-        Name { bytes }
-    }
-
-    /// The name that a word is. None exactly where it is no name.
-    pub fn from_word(word: &[u8]) -> Option<Name>
-        ensures { result ≡ name_in word.now }
-    {
-        name(word)
-    }
-
-    /// The same name once more. It takes no memory.
-    pub fn copied(&self) -> Name
-        ensures { result ≡ self.now }
-    {
-        let mut bytes = Bytes::new();
-        bytes.append(self.bytes.as_slice());
-        Name { bytes }
-    }
-
-    /// The bytes of the name.
-    pub fn as_slice(&self) -> &[u8]
-        ensures { result.now ≡ self.now }
-    {
-        self.bytes.as_slice()
-    }
-}
 
 /// A line of a script, with its words behind the first in their order.
 #[derive(Debug, PartialEq, Eq, Drop)]

@@ -1,6 +1,6 @@
 //! Laws of scripts, as the contracts of empty functions.
 
-ghost use Rattle.fw_script.specs.Laws.{PiecesPartTheBytes, LineIsOneCommand, LinesGiveOneAnswer, ScriptSaysOneThing, LimitDecides, ReadingBegins, CommandIsNext, GivenComesFirst, EndIsLast, FaultIsTheScripts};
+ghost use Rattle.fw_script.specs.Laws.{PiecesPartTheBytes, LineIsOneCommand, LinesGiveOneAnswer, ScriptSaysOneThing, LimitDecides, ReadingBegins, CommandIsNext, GivenComesFirst, EndIsLast, FaultIsTheScripts, WholeLinesWereGiven, TakenIsHeld, BeginningIsFirst, FirstIsBeginning};
 
 /// A script says one thing: its commands in order, and its first refused line, if any. Its length decides whether
 /// it can be too long.
@@ -10,6 +10,8 @@ pub fn scripts_say_one_thing()
     ensures answer { LinesGiveOneAnswer }
     ensures script { ScriptSaysOneThing }
     ensures limit { LimitDecides }
+    ensures first { BeginningIsFirst }
+    ensures beginning { FirstIsBeginning }
 {}
 
 /// The calls of a reader, one after the other, give what the script says.
@@ -19,4 +21,6 @@ pub fn calls_give_the_script()
     ensures first { GivenComesFirst }
     ensures end { EndIsLast }
     ensures fault { FaultIsTheScripts }
+    ensures whole_lines { WholeLinesWereGiven }
+    ensures taken { TakenIsHeld }
 {}

@@ -14,13 +14,15 @@ mod hexadecimal;
 mod keyword;
 mod laws;
 mod line;
+mod name;
 mod reader;
 mod stage;
 mod transaction_forms;
 mod words;
 
-pub use command::{Command, Name};
+pub use command::Command;
 pub use laws::{calls_give_the_script, scripts_say_one_thing};
+pub use name::Name;
 pub use reader::ScriptReader;
 use thiserror::Error;
 

@@ -22,13 +22,16 @@ pub(crate) enum Front {
     LongLine,
     /// A line that ends behind the script's limit.
     Limit,
-    /// No byte.
+    /// The front of a line, whose end is not held yet, or no byte of it.
+    Cut,
+    /// No byte, at the input's end.
     Nothing,
 }
 
-/// What stands at the front of some bytes, of which the first `room` are within the script's limit.
-pub(crate) fn front_of(rest: &[u8], room: usize) -> Front
-    ensures { IsFront rest.now room result }
+/// What stands at the front of some bytes, of which the first `room` are within the script's limit. Where the bytes are
+/// not yet `whole`, others may follow them.
+pub(crate) fn front_of(rest: &[u8], room: usize, whole: bool) -> Front
+    ensures { IsFront rest.now room whole result }
 {
     let count = rest.len().min(room).min(LINE_LIMIT + 1);
     match find(&rest[..count], b'\n') {
@@ -36,19 +39,21 @@ pub(crate) fn front_of(rest: &[u8], room: usize) -> Front
             length,
             size: length + 1,
         },
-        None => unfed(rest.len(), count),
+        None => unfed(rest.len(), count, whole),
     }
 }
 
 /// What stands at the front of `total` bytes, where the first `count` have no line feed.
-fn unfed(total: usize, count: usize) -> Front
+fn unfed(total: usize, count: usize, whole: bool) -> Front
     requires { count ≤ total }
-    ensures { result ≡ unfed_of total count }
+    ensures { result ≡ unfed_of total count whole }
 {
     if count > LINE_LIMIT {
         Front::LongLine
     } else if count < total {
         Front::Limit
+    } else if !whole {
+        Front::Cut
     } else if count == 0 {
         Front::Nothing
     } else {

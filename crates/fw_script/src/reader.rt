@@ -1,9 +1,9 @@
 //! The reader of scripts.
 
-ghost use Rattle.std.specs.Prelude.{◌≡◌, ◌≢◌, ◌≤◌, ◌<◌, ◌+◌, [], length, take, true, false, IfOk};
+ghost use Rattle.std.specs.Prelude.{◌≡◌, ◌≢◌, ◌≤◌, ◌<◌, ◌+◌, [], length, take, drop, true, false, Ok, Err, None, IfOk, OnOk, OnErr, vec_len, vec_capacity};
 ghost use Rattle.fw_outside.specs.Outside.{Rose};
-ghost use Rattle.fw_script.specs.Reader.{IsOpen, IsFilled, ReadsLine, HoldsLine, StandsNext};
-ghost use Rattle.fw_script.specs.Reading.{unread, at_stage, refused, behind, Advances, IsStageAfter, IsAtEndOfInput, Gives};
+ghost use Rattle.fw_script.specs.Reader.{IsOpen, IsNear, IsCut, HoldsLine, StandsNext, ReadsLine, Steps};
+ghost use Rattle.fw_script.specs.Reading.{unread, at_stage, refused, behind, with_taken, Advances, IsStageAfter, IsAtEndOfInput, HoldsAnswer, IsHeld};
 
 use crate::line::{Front, Meaning, SCRIPT_LIMIT, front_of, meaning_of};
 use crate::stage::Stage;
@@ -14,11 +14,15 @@ use std::marker::Model;
 
 mod input;
 
-/// Reads the commands of a script.
+use input::HELD_LIMIT;
+
+/// Reads the commands of a script, line by line. It holds what it took from the source and did not yet read: the front of a
+/// line, of at most 256 bytes, and up to 4,096 bytes that were asked for since. It asks only where no whole line is held.
 #[derive(Debug, Drop)]
 pub struct ScriptReader {
     bytes: Vec<u8>,
     at: usize,
+    before: usize,
     whole: bool,
     line: u32,
     stage: Stage,
@@ -26,25 +30,26 @@ pub struct ScriptReader {
 
 impl Model for ScriptReader {
     ghost use Rattle.std.specs.Prelude.{◌≤◌, ◌+◌, drop, vec_len, vec_capacity};
-    ghost use Rattle.fw_script.specs.Reader.{IsOpen, IsRead};
+    ghost use Rattle.fw_script.specs.Reader.{IsOpen, IsNear};
     ghost use Rattle.fw_script.specs.Reading.{Reading};
 
     ghost Value = { Reading };
 
-    ghost view = { λ r. record { rest = drop r.at r.bytes.items; whole = r.whole; before = r.at; line = r.line; stage = r.stage } };
+    ghost view = { λ r. record { rest = drop r.at r.bytes.items; whole = r.whole; before = r.before; line = r.line; stage = r.stage } };
 
-    ghost invariant = { λ r. (r.at ≤ vec_len r.bytes) × (r.at ≤ 1048576) × (1048577 ≤ vec_capacity r.bytes)
-        × (r.line ≤ r.at + 1) × (IsOpen r.stage → (r.line ≤ r.at) × IsRead r.whole (vec_len r.bytes)) };
+    ghost invariant = { λ r. (r.at ≤ vec_len r.bytes) × (4352 ≤ vec_capacity r.bytes) × IsNear (drop r.at r.bytes.items)
+        × (r.before ≤ 1048576) × (r.line ≤ r.before + 1) × (IsOpen r.stage → r.line ≤ r.before) };
 }
 
 impl ScriptReader {
-    /// A reader that has read nothing. It makes the room for a whole script.
+    /// A reader that has read nothing. It makes the room for all that it will ever hold, 4,352 bytes.
     pub fn new(alloc: Global) -> Result<ScriptReader, AllocError>
         ensures { IfOk result (λ r. r ≡ unread) }
     {
         Ok(ScriptReader {
-            bytes: Vec::with_capacity(alloc, SCRIPT_LIMIT + 1)?,
+            bytes: Vec::with_capacity(alloc, HELD_LIMIT)?,
             at: 0,
+            before: 0,
             whole: false,
             line: 0,
             stage: Stage::Commands,
@@ -85,21 +90,16 @@ impl ScriptReader {
         }
     }
 
-    // Whether the bytes were taken.
-    fn is_filled(&self) -> bool
-        requires { IsOpen self.now.stage }
-        ensures filled { result ≡ true → IsFilled self.now }
-        ensures empty { result ≡ false → (self.now.rest ≡ []) × (self.now.before ≡ 0) × (self.now.whole ≡ false) }
-    {
-        self.whole || !self.bytes.is_empty()
-    }
-
     // What stands next.
     fn front(&self) -> Front
-        requires { IsFilled self.now }
-        ensures { StandsNext self.now result }
+        ensures stands { StandsNext self.now result }
+        ensures near { IsNear self.now.rest }
     {
-        front_of(&self.bytes[self.at..], SCRIPT_LIMIT - self.at)
+        front_of(
+            &self.bytes[self.at..],
+            SCRIPT_LIMIT - self.before,
+            self.whole,
+        )
     }
 
     // The first bytes from here on.
@@ -115,10 +115,12 @@ impl ScriptReader {
         requires open { IsOpen self.old.stage }
         requires some { 0 < size }
         requires there { size ≤ length self.old.rest }
+        requires near { IsNear (drop size self.old.rest) }
         requires within { self.old.before + size ≤ 1048576 }
         ensures { self.new ≡ behind self.old size }
     {
         self.at += size;
+        self.before += size;
         self.line += 1;
     }
 
@@ -142,9 +144,10 @@ impl ScriptReader {
     // Reads a line of so many bytes.
     fn read_text(&mut self, count: usize, size: usize) -> Result<Option<Command>, ScriptFault>
         requires open { IsOpen self.old.stage }
-        requires filled { IsFilled self.old }
+        requires near { IsNear self.old.rest }
         requires line { HoldsLine self.old count size }
         ensures reads { ReadsLine self.old result self.new }
+        ensures held { IsHeld result self.new }
         ensures told { result ≢ Err ScriptFault.ReadFault }
     {
         let meaning = meaning_of(self.text(count), self.takes_commands());
@@ -168,7 +171,9 @@ impl ScriptReader {
         requires open { IsOpen self.old.stage }
         requires end { IsAtEndOfInput self.old }
         ensures reads { ReadsLine self.old result self.new }
+        ensures held { IsHeld result self.new }
         ensures told { result ≢ Err ScriptFault.ReadFault }
+        ensures some { result ≢ Ok None }
     {
         if self.takes_commands() {
             self.refuse();
@@ -179,12 +184,17 @@ impl ScriptReader {
         }
     }
 
-    // Reads the next line: it gives a command or a fault, or nothing where it is skipped or `end`.
-    fn read_line(&mut self) -> Result<Option<Command>, ScriptFault>
+    // Reads the next line, or takes bytes where its end is not held: nothing is given where the reading goes on.
+    fn step<S: Source>(&mut self, source: &mut S) -> Result<Option<Command>, ScriptFault>
         requires open { IsOpen self.old.stage }
-        requires filled { IsFilled self.old }
-        ensures reads { ReadsLine self.old result self.new }
-        ensures told { result ≢ Err ScriptFault.ReadFault }
+        ensures steps { Steps self.old (S.left source.old) (S.left source.new) result self.new }
+        ensures held { IsHeld result self.new }
+        ensures unasked { self.old.whole ≡ true → (source.new ≡ source.old) × (self.new.whole ≡ true) }
+        ensures asks { HoldsAnswer self.old → source.new ≡ source.old }
+        ensures holds { HoldsAnswer self.old → result ≡ Ok None → HoldsAnswer self.new }
+        ensures later { S.faults source.old ≤ S.faults source.new }
+        ensures cause { result ≡ Err ScriptFault.ReadFault → Rose (S.faults source.old) (S.faults source.new) }
+        ensures unfailed { result ≢ Err ScriptFault.ReadFault → S.faults source.new ≡ S.faults source.old }
     {
         match self.front() {
             Front::Line { length, size } => self.read_text(length, size),
@@ -197,18 +207,27 @@ impl ScriptReader {
                 Err(ScriptFault::TooLong)
             }
             Front::Nothing => self.read_end(),
+            Front::Cut => match self.take(source) {
+                Ok(()) => Ok(None),
+                Err(fault) => Err(fault),
+            },
         }
     }
 
     // Reads lines up to the next command.
-    fn read_lines(&mut self) -> Result<Option<Command>, ScriptFault>
+    fn read_on<S: Source>(&mut self, source: &mut S) -> Result<Option<Command>, ScriptFault>
         requires open { IsOpen self.old.stage }
-        requires filled { IsFilled self.old }
-        ensures gives { Gives self.old result self.new }
-        ensures told { result ≢ Err ScriptFault.ReadFault }
+        ensures advances { Advances self.old self.new (S.left source.old) (S.left source.new) result }
+        ensures stage { IsStageAfter self.old.stage result self.new.stage }
+        ensures held { IsHeld result self.new }
+        ensures unasked { self.old.whole ≡ true → source.new ≡ source.old }
+        ensures asks { HoldsAnswer self.old → source.new ≡ source.old }
+        ensures later { S.faults source.old ≤ S.faults source.new }
+        ensures cause { result ≡ Err ScriptFault.ReadFault → Rose (S.faults source.old) (S.faults source.new) }
+        ensures unfailed { result ≢ Err ScriptFault.ReadFault → S.faults source.new ≡ S.faults source.old }
     {
         loop {
-            match self.read_line() {
+            match self.step(source) {
                 Ok(None) => {}
                 Ok(Some(command)) => return Ok(Some(command)),
                 Err(fault) => return Err(fault),
@@ -218,21 +237,23 @@ impl ScriptReader {
 
     /// The next command. `End` is given when the input's end is reached, and after it none.
     ///
-    /// It asks that no fault was answered before. Once the source's end was met, the source is not asked again.
+    /// It asks that no fault was answered before. The source is asked, for 4,096 bytes at once, only where what is held gives
+    /// no answer, and not again once its end was met. Behind a command, or a line that is refused, at most 4,096 bytes are held.
+    /// With `ReadFault` no whole line is held: the commands of all lines whose line feed was taken have been given.
     pub fn next<S: Source>(&mut self, source: &mut S) -> Result<Option<Command>, ScriptFault>
         requires { self.old.stage ≢ Stage.Failed }
         ensures gives { Advances self.old self.new (S.left source.old) (S.left source.new) result }
         ensures stage { IsStageAfter self.old.stage result self.new.stage }
+        ensures held { IsHeld result self.new }
         ensures unasked { self.old.whole ≡ true → source.new ≡ source.old }
+        ensures asks { HoldsAnswer self.old → source.new ≡ source.old }
         ensures later { S.faults source.old ≤ S.faults source.new }
         ensures cause { result ≡ Err ScriptFault.ReadFault → Rose (S.faults source.old) (S.faults source.new) }
+        ensures unfailed { result ≢ Err ScriptFault.ReadFault → S.faults source.new ≡ S.faults source.old }
     {
         if self.is_done() {
             return Ok(None);
         }
-        match self.fill(source) {
-            Ok(()) => self.read_lines(),
-            Err(fault) => Err(fault),
-        }
+        self.read_on(source)
     }
 }

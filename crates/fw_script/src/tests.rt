@@ -250,16 +250,55 @@ fn lines_and_scripts_have_limits(rt: HostRuntime) -> Result<(), Fail> {
     Ok(())
 }
 
+/// A line, so many comments of one byte, and a line.
+fn commented(alloc: Global, first: &str, comments: u32, last: &str) -> Result<Vec<u8>, Fail> {
+    let mut script = first.as_bytes().to_vec(alloc)?;
+    for _ in 0..comments {
+        script.extend_from_slice(b"#\n")?;
+    }
+    script.extend_from_slice(last.as_bytes())?;
+    Ok(script)
+}
+
 #[test]
 fn a_source_fails(rt: HostRuntime) -> Result<(), Fail> {
     let alloc = rt.alloc();
-    for call in [1, 2] {
-        let mut source = MemSource::new(b"reset a\nend\n".to_vec(alloc)?, [call].to_vec(alloc)?);
-        assert_eq!(rt;
-            run(alloc, &mut source)?,
-            (0, Some(ScriptFault::ReadFault), 0)
-        );
+    // Each read asks for 4,096 bytes: where the second one fails, the lines of the first 4,096 were given.
+    for (first, comments, last, call, answer) in [
+        (
+            "reset a\n",
+            0,
+            "end\n",
+            1,
+            (0, Some(ScriptFault::ReadFault), 0),
+        ),
+        (
+            "reset a\n",
+            0,
+            "end\n",
+            2,
+            (1, Some(ScriptFault::ReadFault), 2),
+        ),
+        (
+            "device d deck 1 100\n",
+            3000,
+            "end\n",
+            2,
+            (1, Some(ScriptFault::ReadFault), 2039),
+        ),
+    ] {
+        let script = commented(alloc, first, comments, last)?;
+        let mut source = MemSource::new(script, [call].to_vec(alloc)?);
+        assert_eq!(rt; run(alloc, &mut source)?, answer);
     }
+    // Behind a refused line at most 4,096 bytes were taken: 1,906 of 6,002 are left.
+    let mut source = MemSource::new(commented(alloc, "x\n", 3000, "")?, Vec::new(alloc));
+    assert_eq!(rt;
+        run(alloc, &mut source)?,
+        (0, Some(ScriptFault::BadLine), 1)
+    );
+    let mut left = [0; 4096];
+    assert_eq!(rt; source.read(&mut left), Ok(1906));
     for (fault, message) in [
         (ScriptFault::BadLine, "BadLine"),
         (ScriptFault::LineTooLong, "LineTooLong"),

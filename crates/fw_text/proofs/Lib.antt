@@ -1,1 +1,4 @@
 pub mod HexLaws
+pub mod BodyLaws
+pub mod AsciiLaws
+pub mod TallyLaws

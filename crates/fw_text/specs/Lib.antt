@@ -1,2 +1,5 @@
 pub mod Names
+pub mod Digits
 pub mod Line
+pub mod Report
+pub mod Tallies

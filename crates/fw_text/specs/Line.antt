@@ -6,13 +6,15 @@ use Rattle.fw_phy.specs.Phy as Phy
 use Rattle.fw_phy.specs.declared.packet.PhyPacket.{PhyPacket}
 use Rattle.fw_async.specs.Async as Async
 use Rattle.fw_async.specs.declared.packet.Packet.{Packet}
-use Rattle.fw_log.specs.declared.entry.ResetEntry.{ResetEntry}
-use Rattle.fw_log.specs.declared.entry.EventEntry.{EventEntry}
-use Rattle.fw_log.specs.declared.entry.OutcomeEntry.{OutcomeEntry}
-use Rattle.fw_log.specs.declared.entry.ShownEntry.{ShownEntry}
-use Rattle.fw_log.specs.declared.entry.Entry.{Entry}
-use Rattle.fw_log.specs.declared.entry.Entry.TheVariants.{Reset, Async as AsyncEntry, Event, Outcome, Shown, End}
-use Rattle.fw_log.specs.declared.entry.Timed.{Timed}
+use Rattle.fw_cip.specs.Iso.{data_length}
+use Rattle.fw_cip.specs.declared.packet.IsoPacket.{IsoPacket}
+use Rattle.fw_entry.specs.declared.entry.ResetEntry.{ResetEntry}
+use Rattle.fw_entry.specs.declared.entry.EventEntry.{EventEntry}
+use Rattle.fw_entry.specs.declared.entry.OutcomeEntry.{OutcomeEntry}
+use Rattle.fw_entry.specs.declared.entry.ShownEntry.{ShownEntry}
+use Rattle.fw_entry.specs.declared.entry.Entry.{Entry}
+use Rattle.fw_entry.specs.declared.entry.Entry.TheVariants.{Reset, Async as AsyncEntry, Iso as IsoEntry, Event, Outcome, Shown, End}
+use Rattle.fw_entry.specs.declared.entry.Timed.{Timed}
 use Rattle.fw_text.specs.Names.{packet_name, event_name, outcome_name}
 
 -- a number in so many lower-case hexadecimal digits
@@ -51,6 +53,10 @@ reset_text r = codes "reset " ++ decimal r.epoch ++ codes " root " ++ decimal r.
 abbrev pub packet_text : Packet → List ℕ
 packet_text p = codes "async " ++ packet_name p ++ quadlets_text (Async.spelling p)
 
+-- an isochronous packet: its channel, data_length and DBC
+abbrev pub iso_text : IsoPacket → List ℕ
+iso_text p = codes "iso " ++ decimal p.channel ++ codes " " ++ decimal (data_length p.block) ++ codes " " ++ decimal p.cip.dbc
+
 -- the device of an event, where it has one
 abbrev pub device_text : ℕ → List ℕ
 device_text device = if device == 255 then [] else codes " " ++ decimal device
@@ -79,6 +85,7 @@ shown_text s = codes "shown " ++ decimal s.device ++ offset_text s.offset ++ qua
 abbrev pub what_text : Entry → List ℕ
 what_text (Reset r) = reset_text r
 what_text (AsyncEntry p) = packet_text p
+what_text (IsoEntry p) = iso_text p
 what_text (Event e) = event_text e
 what_text (Outcome o) = outcome_text o
 what_text (Shown s) = shown_text s

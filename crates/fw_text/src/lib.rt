@@ -3,6 +3,7 @@
 //! - a reset: `reset EPOCH root NODE manager NODE by NODE:`, with `none` where there is no manager, and the first
 //!   quadlet of each self-ID packet
 //! - an asynchronous packet: `async NAME`, and all its quadlets
+//! - an isochronous packet: `iso CHANNEL LENGTH DBC`, LENGTH being its data_length
 //! - an event: `event NAME`, the device where it has one, and of an inserted tape its number and system
 //! - an outcome: `outcome NAME DEVICE SLOT VALUE`
 //! - a shown word: `shown DEVICE OFFSET WORD`
@@ -10,12 +11,21 @@
 //!
 //! Quadlets, values of outcomes and shown words are eight lower-case hexadecimal digits, offsets are three, and
 //! other numbers are decimal.
+//!
+//! The report of a log's streams has a line for each channel that has isochronous packets.
 #![tactic(auto)]
 
 mod line;
+mod lines;
 mod names;
+mod pairs;
 mod quadlets;
+mod report;
+mod room;
 #[cfg(test)]
 mod tests;
+mod text;
 
-pub use line::entry_text;
+pub use report::StreamReport;
+pub use room::{LineRoom, put_entry, put_entry_from};
+pub use text::entry_text;

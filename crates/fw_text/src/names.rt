@@ -4,6 +4,7 @@ ghost use Rattle.std.specs.Prelude.{◌≡◌, ◌≤◌};
 ghost use Rattle.fw_text.specs.Names.{packet_name, event_name, outcome_name};
 
 use fw_async::Packet;
+use fw_entry::codes::{event, outcome};
 
 // The name of a packet's transaction code.
 pub(crate) fn packet_name(p: &Packet) -> &'static str
@@ -30,11 +31,11 @@ pub(crate) fn event_name(code: u8) -> &'static str
     ensures { result.now ≡ event_name code }
 {
     match code {
-        1 => "second-over",
-        2 => "died",
-        3 => "started",
-        4 => "inserted",
-        5 => "ejected",
+        event::SECOND_OVER => "second-over",
+        event::DIED => "died",
+        event::STARTED => "started",
+        event::INSERTED => "inserted",
+        event::EJECTED => "ejected",
         _ => "unsettled",
     }
 }
@@ -46,17 +47,17 @@ pub(crate) fn outcome_name(code: u8) -> &'static str
     ensures { result.now ≡ outcome_name code }
 {
     match code {
-        1 => "connected",
-        2 => "broken",
-        3 => "restored",
-        4 => "no-channel",
-        5 => "no-units",
-        6 => "plug-full",
-        7 => "input-busy",
-        8 => "no-plug",
-        9 => "no-manager",
-        10 => "absent",
-        11 => "reset",
+        outcome::CONNECTED => "connected",
+        outcome::BROKEN => "broken",
+        outcome::RESTORED => "restored",
+        outcome::NO_CHANNEL => "no-channel",
+        outcome::NO_UNITS => "no-units",
+        outcome::PLUG_FULL => "plug-full",
+        outcome::INPUT_BUSY => "input-busy",
+        outcome::NO_PLUG => "no-plug",
+        outcome::NO_MANAGER => "no-manager",
+        outcome::ABSENT => "absent",
+        outcome::RESET => "reset",
         _ => "late",
     }
 }

@@ -1,39 +1,93 @@
-//! Quadlets as hexadecimal text.
+//! Words, numbers and quadlets as text.
 
-ghost use Rattle.std.specs.Prelude.{◌≡◌, ◌++◌, OnOk, string_bytes, flat_map};
+ghost use Rattle.std.specs.Prelude.{◌≡◌, ◌++◌, ◌≤◌, ◌*◌, OnOk, flat_map, length, decimal};
 ghost use Rattle.std.specs.List.{All};
-ghost use Rattle.fw_phy.specs.Phy.{Fits as PhyFits};
-ghost use Rattle.fw_text.specs.Line.{quadlet_text, quadlets_text, id_text};
+ghost use Rattle.fw_phy.specs.Phy.{Fits as PhyFits, spelling};
+ghost use Rattle.fw_text.specs.Line.{quadlet_text, quadlets_text, offset_text, id_text};
 
-use fw_phy::{PhyPacket, write_phy};
-use fw_words::{Quadlet, quadlet_at};
+use crate::pairs::Pairs;
+use fw_phy::PhyPacket;
+use fw_words::quadlet_at;
+use itoa::Buffer;
 use std::alloc::AllocError;
 
-// Appends a space and the quadlet.
-#[tactic(auto, using(crate::proofs::HexLaws::quadlet_is_hex))]
-pub(crate) fn put_quadlet(text: &mut String, q: Quadlet) -> Result<(), AllocError>
-    ensures { OnOk result (string_bytes text.new ≡ string_bytes text.old ++ quadlet_text q.0) }
+// Appends a word.
+pub(crate) fn put_word(text: &mut Vec<u8>, word: &str) -> Result<(), AllocError>
+    ensures { OnOk result (text.new.items ≡ text.old.items ++ word.now) }
 {
-    write!(text, " {:08x}", q.0)
+    text.extend_from_slice(word.as_bytes())
+}
+
+// Appends a number in decimal digits.
+pub(crate) fn put_number(text: &mut Vec<u8>, n: u64) -> Result<(), AllocError>
+    ensures { OnOk result (text.new.items ≡ text.old.items ++ decimal n) }
+{
+    let mut buffer = Buffer::new();
+    text.extend_from_slice(buffer.format(n).as_bytes())
+}
+
+// A space, and the digits of a quadlet.
+#[tactic(auto, using(crate::proofs::HexLaws::eight_digits))]
+fn word_of(pairs: &Pairs, q: u32) -> [u8; 9]
+    ensures { result ≡ quadlet_text q }
+{
+    let [a, b] = pairs.of(q >> 24);
+    let [c, d] = pairs.of(q >> 16);
+    let [e, f] = pairs.of(q >> 8);
+    let [g, h] = pairs.of(q);
+    [b' ', a, b, c, d, e, f, g, h]
+}
+
+// Appends a space and the quadlet.
+pub(crate) fn put_quadlet(text: &mut Vec<u8>, pairs: &Pairs, q: u32) -> Result<(), AllocError>
+    ensures { OnOk result (text.new.items ≡ text.old.items ++ quadlet_text q) }
+{
+    text.extend_from_slice(&word_of(pairs, q))
+}
+
+// A space, and the three digits of an offset.
+#[tactic(auto, using(crate::proofs::HexLaws::three_digits))]
+fn offset_of(pairs: &Pairs, offset: u32) -> [u8; 4]
+    ensures { result ≡ offset_text offset }
+{
+    let high = pairs.of(offset >> 8);
+    let [b, c] = pairs.of(offset);
+    [b' ', high[1], b, c]
+}
+
+// Appends a space and the offset.
+pub(crate) fn put_offset(text: &mut Vec<u8>, pairs: &Pairs, offset: u16) -> Result<(), AllocError>
+    ensures { OnOk result (text.new.items ≡ text.old.items ++ offset_text offset) }
+{
+    text.extend_from_slice(&offset_of(pairs, u32::from(offset)))
 }
 
 // Appends all whole quadlets of some bytes.
-pub(crate) fn put_quadlets(text: &mut String, bytes: &[u8]) -> Result<(), AllocError>
-    ensures { OnOk result (string_bytes text.new ≡ string_bytes text.old ++ quadlets_text bytes.now) }
+pub(crate) fn put_quadlets(
+    text: &mut Vec<u8>,
+    pairs: &Pairs,
+    bytes: &[u8],
+) -> Result<(), AllocError>
+    ensures { OnOk result (text.new.items ≡ text.old.items ++ quadlets_text bytes.now) }
 {
     for i in 0..bytes.len() / 4 {
-        put_quadlet(text, quadlet_at(bytes, 4 * i))?;
+        put_quadlet(text, pairs, quadlet_at(bytes, 4 * i).0)?;
     }
     Ok(())
 }
 
-// Appends the first quadlet of each packet.
-pub(crate) fn put_ids(text: &mut String, ids: &[PhyPacket]) -> Result<(), AllocError>
-    requires { All PhyFits ids.now }
-    ensures { OnOk result (string_bytes text.new ≡ string_bytes text.old ++ flat_map id_text ids.now) }
+// Appends the first quadlet of each packet, from the bytes of them all.
+pub(crate) fn put_ids(
+    text: &mut Vec<u8>,
+    pairs: &Pairs,
+    ids: &[PhyPacket],
+    bytes: &[u8],
+) -> Result<(), AllocError>
+    requires { bytes.now ≡ flat_map spelling ids.now }
+    ensures { OnOk result (text.new.items ≡ text.old.items ++ flat_map id_text ids.now) }
 {
-    for packet in ids {
-        put_quadlet(text, quadlet_at(&write_phy(packet), 0))?;
+    for i in 0..ids.len() {
+        put_quadlet(text, pairs, quadlet_at(bytes, 8 * i).0)?;
     }
     Ok(())
 }

@@ -1,18 +1,26 @@
 -- Where nothing is refused and nothing fails, all is done.
-use Rattle.std.proofs.Common.{◌≡◌, ◌⊎◌, inl, ℕ, List, [], ◌∷◌, ◌++◌, Option, Some, None, refl, sym, subst, ◌∙◌, append_assoc}
-use Rattle.fw_outside.specs.Outside.{Rose}
+use Rattle.std.proofs.Common.{◌≡◌, ◌≢◌, ◌⊎◌, inl, inr, ℕ, List, ◌++◌, Option, Some, None, Err, refl, ap, sym, subst, ◌∙◌}
+use Rattle.fw_decode.specs.Decode.{IsNoRefusal, ReadCount, WriteCount}
+use Rattle.fw_decode.specs.declared.ending.LogEnding.{LogEnding}
+use Rattle.fw_decode.specs.declared.ending.LogEnding.TheVariants as LogEndings
 use Rattle.fw_script.specs.Script.{IsScript}
 use Rattle.fw_script.specs.declared.ScriptFault.{ScriptFault}
 use Rattle.fw_script.specs.declared.ScriptFault.TheVariants as Fault
-use Rattle.fw_script.proofs.ScriptLaws.{says_once}
+use Rattle.fw_script.specs.declared.command.Command.{Command}
+use Rattle.fw_script.specs.declared.command.Command.TheVariants.{End}
+use Rattle.fw_script.proofs.ScriptLaws.{says_once, says_after, says_behind}
+use Rattle.fw_run.specs.declared.rule.RuleFault.{RuleFault}
+use Rattle.fw_run.specs.State.{State}
+use Rattle.fw_run.specs.Rules.{Decides}
 use Rattle.fw_tool.specs.declared.ending.Ending.{Ending}
 use Rattle.fw_tool.specs.declared.ending.Ending.TheVariants.{Done, Usage, Refused, NoLog, ReadFault, WriteFault, TooLong, NoMemory}
 use Rattle.fw_tool.specs.declared.Refusal.{Refusal}
 use Rattle.fw_tool.specs.declared.Refusal.TheVariants.{BadLine, LineTooLong, NoEnd, Rule}
 use Rattle.fw_tool.specs.Scripts.{IsValid}
-use Rattle.fw_tool.specs.Ending.{Runs, RefusesLine, RefusesBy}
-use Rattle.fw_tool.specs.Notes.{IsTold}
-use Rattle.fw_tool.proofs.Tellings.{eight}
+use Rattle.fw_tool.specs.Faults.{FirstFault}
+use Rattle.fw_tool.specs.Logs.{by_log}
+use Rattle.fw_tool.specs.Ending.{Runs, RefusesLine, RefusesCommand, RefusesBy}
+use Rattle.fw_tool.specs.Notes.{status_of}
 
 -- of a valid script no line is refused
 no_line : (script : List ℕ) (left' held held' : Option (List ℕ)) (f : ScriptFault) (line : ℕ) → RefusesLine (Some script) left' held held' f line → IsValid script → ⊥
@@ -22,30 +30,62 @@ no_line script left' held held' f line r v =
     let wrong : None ≡ Some (record { fault = f; line = line }) = e.1 in
     cc wrong
 
+-- the end breaks no rule
+end_allowed : (s : State) (f : RuleFault) → Decides s End (Err f) → ⊥
+end_allowed s f d = cc
+
+other_than_end : (s : State) (c : Command) (f : RuleFault) → Decides s c (Err f) → c ≢ End
+other_than_end s c f d e = end_allowed s f (subst (λ (x : Command). Decides s x (Err f)) e d)
+
+-- nor does a command break a rule
+no_command : (script : List ℕ) (left' held held' : Option (List ℕ)) (rule : RuleFault) (line : ℕ) → RefusesCommand (Some script) left' held held' rule line → IsValid script → ⊥
+no_command script left' held held' rule line r v =
+    let says = subst (λ (bytes : List ℕ). IsScript bytes v.commands None) r.takes.told v.says in
+    let first = says_behind r.on_line.leads v.commands None says in
+    let next = says_after r.command r.on_line.gives (other_than_end r.logged.state r.command rule r.decided) first.2 in
+    v.allowed r.commands next.0 r.command r.logged.actions r.logged.log r.logged.state rule (first.1 ∙ ap (λ (cs : List Command). r.commands ++ cs) next.1) r.logged.run r.decided
+
 -- neither by its form nor by a rule
 never_refused : (script : List ℕ) (left' held held' : Option (List ℕ)) (why : Refusal) (line : ℕ) → RefusesBy (Some script) left' held held' why line → IsValid script → ⊥
 never_refused script left' held held' BadLine line r v = no_line script left' held held' Fault.BadLine line r v
 never_refused script left' held held' LineTooLong line r v = no_line script left' held held' Fault.LineTooLong line r v
 never_refused script left' held held' NoEnd line r v = no_line script left' held held' Fault.NoEnd line r v
-never_refused script left' held held' (Rule rule) line r v =
-    let says = subst (λ (bytes : List ℕ). IsScript bytes ((r.commands ++ r.command ∷ []) ++ r.says.later) r.says.end) (sym r.takes.told) r.says.says in
-    let e = says_once v.says says in
-    v.allowed r.commands r.says.later r.command r.logged.actions r.logged.log r.logged.state rule (e.0 ∙ append_assoc r.commands (r.command ∷ []) r.says.later) r.logged.run r.decided
+never_refused script left' held held' (Rule rule) line r v = no_command script left' held held' rule line r v
+
+-- the status is that of an ending that is done, or of want of memory
+abbrev pub IsDoneOrUnmet : Ending → Type 0
+IsDoneOrUnmet e = (status_of e ≡ 0) ⊎ (status_of e ≡ 8)
 
 -- a valid script, where nothing fails
-pub complete_run : {N : Type 0} (held : N → Option (List ℕ)) (faults : N → ℕ) (old new : N) (status : ℕ) (script : List ℕ) (left left' kept kept' : Option (List ℕ)) (read written : Type 0) (e : Ending)
-    → Runs left left' kept kept' e → left ≡ Some script → IsValid script
-    → (e ≡ ReadFault → read) → (read → ⊥) → (e ≡ WriteFault → written) → (written → ⊥)
-    → IsTold held faults old new e status → (Rose (faults old) (faults new) → ⊥) → (status ≡ 0) ⊎ (status ≡ 8)
-complete_run held faults old new status script left left' kept kept' read written Done d told v r nr w nw t n = inl t.0
-complete_run held faults old new status script left left' kept kept' read written (Refused x) d told v r nr w nw t n =
-    let D : Option (List ℕ) → Type 0 = λ l. Runs l left' kept kept' (Refused x) in
-    absurd (never_refused script left' kept kept' x.why x.line (subst D told d) v)
-complete_run held faults old new status script left left' kept kept' read written TooLong d told v r nr w nw t n =
-    let D : Option (List ℕ) → Type 0 = λ l. RefusesLine l left' kept kept' Fault.TooLong d.line in
-    absurd (no_line script left' kept kept' Fault.TooLong d.line (subst D told d.refused) v)
-complete_run held faults old new status script left left' kept kept' read written ReadFault d told v r nr w nw t n = absurd (nr (r refl))
-complete_run held faults old new status script left left' kept kept' read written WriteFault d told v r nr w nw t n = absurd (nw (w refl))
-complete_run held faults old new status script left left' kept kept' read written NoMemory d told v r nr w nw t n = eight status _ _ _ t n
-complete_run held faults old new status script left left' kept kept' read written (NoLog f) d told v r nr w nw t n = absurd d
-complete_run held faults old new status script left left' kept kept' read written Usage d told v r nr w nw t n = absurd d
+pub run_completes : (script : List ℕ) (left left' held held' : Option (List ℕ)) (e : Ending)
+    → Runs left left' held held' e → left ≡ Some script → IsValid script → e ≢ ReadFault → e ≢ WriteFault → IsDoneOrUnmet e
+run_completes script left left' held held' Done d told v r w = inl refl
+run_completes script left left' held held' (Refused x) d told v r w =
+    let D : Option (List ℕ) → Type 0 = λ l. Runs l left' held held' (Refused x) in
+    absurd (never_refused script left' held held' x.why x.line (subst D told d) v)
+run_completes script left left' held held' TooLong d told v r w =
+    let D : Option (List ℕ) → Type 0 = λ l. RefusesLine l left' held held' Fault.TooLong d.line in
+    absurd (no_line script left' held held' Fault.TooLong d.line (subst D told d.refused) v)
+run_completes script left left' held held' ReadFault d told v r w = absurd (r refl)
+run_completes script left left' held held' WriteFault d told v r w = absurd (w refl)
+run_completes script left left' held held' NoMemory d told v r w = inr refl
+run_completes script left left' held held' (NoLog f) d told v r w = absurd d
+run_completes script left left' held held' Usage d told v r w = absurd d
+
+-- a log that is not refused, where nothing fails
+pub log_completes : (e : LogEnding) → IsNoRefusal e → by_log e ≢ ReadFault → by_log e ≢ WriteFault → IsDoneOrUnmet (by_log e)
+log_completes LogEndings.Done n r w = inl refl
+log_completes (LogEndings.NoLog f) n r w = absurd n
+log_completes LogEndings.ReadFault n r w = absurd (r refl)
+log_completes LogEndings.WriteFault n r w = absurd (w refl)
+log_completes LogEndings.TooLong n r w = absurd n
+log_completes LogEndings.NoMemory n r w = inr refl
+
+-- the counts of a word that reads a log
+pub first_of_log : (read read' written written' : ℕ) (e : LogEnding) → ReadCount read read' e → WriteCount written written' e → FirstFault read read' written written' (by_log e)
+first_of_log read read' written written' LogEndings.Done r w = (r, w)
+first_of_log read read' written written' (LogEndings.NoLog f) r w = (r, w)
+first_of_log read read' written written' LogEndings.ReadFault r w = (r, w)
+first_of_log read read' written written' LogEndings.WriteFault r w = (r, w)
+first_of_log read read' written written' LogEndings.TooLong r w = (r, w)
+first_of_log read read' written written' LogEndings.NoMemory r w = (r, w)

@@ -1,20 +1,19 @@
 -- What the lines of a script give, one command after another.
-use Rattle.std.proofs.Common.{◌≡◌, ◌≢◌, ◌⊎◌, inl, inr, ℕ, List, [], ◌∷◌, ◌++◌, ◌+◌, ◌<◌, ◌≤◌, true, Option, Some, None, Ok, codes, arith, refl, sym, ◌∙◌, subst, append_assoc}
+use Rattle.std.proofs.Common.{◌≡◌, ◌≢◌, ◌⊎◌, inl, inr, ℕ, List, [], ◌∷◌, ◌++◌, ◌+◌, ◌<◌, ◌≤◌, true, Option, Some, None, is_some, Ok, codes, arith, refl, sym, ◌∙◌, subst}
+use Rattle.std.proofs.lemmas.Bool.{false≢true}
 use Rattle.fw_script.specs.Form.{HasForm}
 use Rattle.fw_script.specs.Reading.{Reading, Answer, Gives, GivesNext, Advances, EndsLine, IsLine}
 use Rattle.fw_script.specs.declared.stage.Stage.{Stage}
 use Rattle.fw_script.specs.Reading.Gives.{skipped, command, end_line, bad_line, long_line, too_long, end_of_input, no_end, read_fault}
-use Rattle.fw_script.specs.Script.{Refusal, Says}
-use Rattle.fw_script.specs.Script.Says.{goes_on}
 use Rattle.fw_script.specs.Keyword.{keyword_in}
 use Rattle.fw_script.specs.declared.command.Command.{Command}
 use Rattle.fw_script.specs.declared.command.Command.TheVariants as Commands
 use Rattle.fw_script.specs.declared.command.Command.TheVariants.{End}
 use Rattle.fw_script.specs.declared.stage.Stage.TheVariants as Stages
 use Rattle.fw_run.specs.Rules.{IsCommand}
-use Rattle.fw_tool.specs.Scripts.{Leads}
-use Rattle.fw_tool.specs.Scripts.Leads.{nothing, and_then}
-use Rattle.fw_tool.proofs.Deciding.{value_in}
+use Rattle.fw_script.specs.Leading.{Leads}
+use Rattle.fw_script.specs.Leading.Leads.{nothing, and_then}
+use Rattle.fw_run.specs.Logs.{HasNoEnd}
 
 -- whether a command is the last one
 pub is_end : (c : Command) → (c ≡ End) ⊎ (c ≢ End)
@@ -38,6 +37,11 @@ is_end (Commands.Insert a b d) = inr (λ x. cc)
 is_end (Commands.Eject a) = inr (λ x. cc)
 is_end (Commands.Show a b) = inr (λ x. cc)
 is_end End = inl refl
+
+-- what an option holds
+abbrev value_in : {A : Type 0} (o : Option A) → is_some o ≡ true → A
+value_in None e = absurd (false≢true e)
+value_in (Some x) e = x
 
 -- the line of the last command
 end_form : HasForm End (codes "end")
@@ -109,11 +113,14 @@ over_end (end_of_input a i) e = record { stage = refl; further = omega arith; wh
 over_end (no_end a i) e = absurd cc
 over_end read_fault e = absurd cc
 
--- what follows these commands follows from the first on
-pub says_from : {p q : Reading} {commands : List Command} → Leads p commands q → (ds : List Command) (r : Option Refusal) → Says q ds r → Says p (commands ++ ds) r
-says_from nothing ds r s = s
-says_from {p = p} (and_then {commands = commands} l c o next g) ds r s =
-    subst (λ (cs : List Command). Says p cs r) (sym (append_assoc commands (c ∷ []) ds)) (says_from l (c ∷ ds) r (goes_on g o s))
+-- none of the commands that lines lead through is the end
+has_more : (cs : List Command) (c : Command) → HasNoEnd cs → c ≢ End → HasNoEnd (cs ++ c ∷ [])
+has_more [] c n o = (o, tt)
+has_more (x ∷ xs) c n o = (n.0, has_more xs c n.1 o)
+
+pub no_end_led : {p q : Reading} {cs : List Command} → Leads p cs q → HasNoEnd cs
+no_end_led nothing = tt
+no_end_led (and_then {commands = before} l c o next g) = has_more before c (no_end_led l) o
 
 -- what a call of a script's reader gave is a command of some line
 pub advance_form : {old new : Reading} {left left' : Option (List ℕ)} {r : Answer} → Advances old new left left' r → (c : Command) → r ≡ Ok (Some c) → IsCommand c

@@ -1,45 +1,36 @@
 -- Call after call of the reader and of the bus.
-use Rattle.std.proofs.Common.{◌≡◌, ◌≢◌, ◌⊎◌, inl, inr, ℕ, ◌+◌, ◌-◌, ◌<◌, ◌≤◌, List, [], ◌∷◌, ◌++◌, Bool, true, false, Option, Some, None, Ok, Err, refl, ap, sym, ◌∙◌, subst, append_assoc, append-nil, arith}
+use Rattle.std.proofs.Common.{◌≡◌, ◌≢◌, ◌⊎◌, inl, inr, ℕ, ◌+◌, ◌-◌, ◌<◌, ◌≤◌, List, [], ◌∷◌, ◌++◌, length, drop, Bool, true, false, Option, Some, None, Ok, Err, refl, ap, sym, ◌∙◌, subst, append_assoc, append-nil, arith}
 use Rattle.std.specs.Prelude.{IsFalse}
 use Rattle.fw_outside.specs.Outside.{Takes, Grows, IsAtEnd}
 use Rattle.fw_outside.proofs.Parts.{Takes-Takes, Takes-nothing, Grows-Grows}
-use Rattle.fw_log.specs.Log.{header_bytes}
-use Rattle.fw_log.specs.declared.entry.Timed.{Timed}
+use Rattle.fw_entry.specs.Log.{header_bytes}
+use Rattle.fw_entry.specs.declared.entry.Timed.{Timed}
 use Rattle.fw_script.specs.Reading.{Reading, Answer, Gives, GivesNext, Advances, unread, with_taken}
-use Rattle.fw_script.specs.Script.{IsScript, Tells}
-use Rattle.fw_script.specs.Script.Says.{ends}
+use Rattle.fw_script.specs.Script.{IsScript, Tells, start_of}
+use Rattle.fw_script.specs.Leading.{Leads, BeginsWith, TakesFrom, HasRead}
+use Rattle.fw_script.specs.Leading.Leads.{nothing}
 use Rattle.fw_script.specs.declared.ScriptFault.{ScriptFault}
 use Rattle.fw_script.specs.declared.command.Command.{Command}
 use Rattle.fw_script.specs.declared.command.Command.TheVariants.{End}
 use Rattle.fw_script.specs.declared.stage.Stage.{Stage}
 use Rattle.fw_script.specs.declared.stage.Stage.TheVariants.{Commands, AfterEnd, Done, Failed}
-use Rattle.fw_script.proofs.ScriptLaws.{gave_all, before_none, met_end}
+use Rattle.fw_script.proofs.CallLaws.{gave_all, before_none, met_end, read_nothing, read_command, read_end}
 use Rattle.fw_run.specs.Giving.{log_bytes}
+use Rattle.fw_run.specs.Logs.{HasNoEnd}
 use Rattle.fw_run.specs.State.{State, first_state}
 use Rattle.fw_run.specs.Rules.{IsCommand}
 use Rattle.fw_run.specs.Run.{Action, Run, begun, actions_of}
 use Rattle.fw_run.proofs.Runs.{log_append}
 use Rattle.fw_bus.specs.Stands.{StandsFor}
 use Rattle.fw_bus.specs.Buses.{Standing, Goes}
-use Rattle.fw_tool.specs.Scripts.{Leads, start_of, BeginsWith, TakesFrom}
-use Rattle.fw_tool.specs.Scripts.Leads.{nothing, and_then}
-use Rattle.fw_tool.proofs.Answering.{says_something}
-use Rattle.fw_tool.proofs.Givings.{is_end, given_form, given_some, behind_command, over_end, says_from}
+use Rattle.fw_tool.proofs.Givings.{is_end, given_form, given_some, behind_command, over_end, no_end_led}
+use Rattle.fw_tool.proofs.Takings.{left_behind, all_held}
 
 -- the answer is a command or a fault
 abbrev pub IsSomething : Answer → Type 0
 IsSomething r = r ≢ Ok None
 
 -- ---- the reader
-
--- So far these commands were given, whatever bytes are left.
-pub record HasGiven (left now : Option (List ℕ)) (given : List Command) (reader : Reading) : Type 0 where
-  pub taken : List ℕ
-  pub takes : Takes left now taken
-  pub met : reader.whole ≡ true → IsAtEnd now
-  pub leads : (more : List ℕ) → (reader.whole ≡ true → more ≡ []) → Leads (start_of (taken ++ more)) given (with_taken reader more true)
-  pub stage : reader.stage ≡ Commands
-  pub within : reader.before ≤ 1048576
 
 -- The end was given, and these commands are the script's.
 pub record HasEnded (left now : Option (List ℕ)) (given : List Command) (reader : Reading) : Type 0 where
@@ -48,42 +39,37 @@ pub record HasEnded (left now : Option (List ℕ)) (given : List Command) (reade
   pub end : IsAtEnd now
   pub says : IsScript script given None
   pub whole : reader.whole ≡ true
+  pub earlier : List Command
+  pub no_end : HasNoEnd earlier
+  pub last : given ≡ earlier ++ End ∷ []
 
 -- before a call of the reader
-abbrev pub HasRead : Stage → Option (List ℕ) → Option (List ℕ) → List Command → Reading → Type 0
-HasRead Commands left now given reader = HasGiven left now given reader
-HasRead AfterEnd left now given reader = ⊥
-HasRead Done left now given reader = HasEnded left now given reader
-HasRead Failed left now given reader = ⊥
+abbrev pub IsReading : Stage → Option (List ℕ) → Option (List ℕ) → List Command → Reading → Type 0
+IsReading Commands left now given reader = HasRead left now given reader
+IsReading AfterEnd left now given reader = ⊥
+IsReading Done left now given reader = HasEnded left now given reader
+IsReading Failed left now given reader = ⊥
 
-pub not_failed : (s : Stage) (left now : Option (List ℕ)) (given : List Command) (reader : Reading) → HasRead s left now given reader → s ≢ Failed
+pub not_failed : (s : Stage) (left now : Option (List ℕ)) (given : List Command) (reader : Reading) → IsReading s left now given reader → s ≢ Failed
 not_failed Commands left now given reader h e = cc
 not_failed AfterEnd left now given reader h e = h
 not_failed Done left now given reader h e = cc
 not_failed Failed left now given reader h e = h
 
 -- a command or a fault is given only before the end
-pub given_before : {left now : Option (List ℕ)} {given : List Command} {reader : Reading} (s : Stage) (known new : Reading) (r : Answer) → IsSomething r → HasRead s left now given reader → GivesNext s known r new → HasGiven left now given reader × Gives known r new
-given_before Commands known new r some h g = (h, g)
+pub given_before : {left now : Option (List ℕ)} {given : List Command} {reader : Reading} (s : Stage) (known new : Reading) (r : Answer) → IsSomething r → IsReading s left now given reader → GivesNext s known r new
+    → HasRead left now given reader × Gives known r new × (s ≡ Commands)
+given_before Commands known new r some h g = (h, g, refl)
 given_before AfterEnd known new r some h g = absurd h
 given_before Done known new r some h g = absurd (some g.0)
 given_before Failed known new r some h g = absurd h
 
 -- nothing is given only behind the end
-pub ended_before : {left now : Option (List ℕ)} {given : List Command} {reader : Reading} (s : Stage) (known new : Reading) → HasRead s left now given reader → GivesNext s known (Ok None) new → HasEnded left now given reader
+pub ended_before : {left now : Option (List ℕ)} {given : List Command} {reader : Reading} (s : Stage) (known new : Reading) → IsReading s left now given reader → GivesNext s known (Ok None) new → HasEnded left now given reader
 ended_before Commands known new h g = absurd (given_some g refl)
 ended_before AfterEnd known new h g = absurd h
 ended_before Done known new h g = h
 ended_before Failed known new h g = absurd h
-
-given_at : {left now : Option (List ℕ)} {given : List Command} {reader : Reading} → HasGiven left now given reader → HasRead reader.stage left now given reader
-given_at {left} {now} {given} {reader} h = subst (λ (s : Stage). HasRead s left now given reader) (sym h.stage) h
-
-ended_at : {left now : Option (List ℕ)} {given : List Command} {reader : Reading} → reader.stage ≡ Done → HasEnded left now given reader → HasRead reader.stage left now given reader
-ended_at {left} {now} {given} {reader} e h = subst (λ (s : Stage). HasRead s left now given reader) (sym e) h
-
-pub given_nothing : (left : Option (List ℕ)) → HasGiven left left [] unread
-given_nothing left = record { taken = []; takes = Takes-nothing left; met = λ w. absurd cc; leads = λ more none. nothing; stage = refl; within = omega arith }
 
 -- what the source still tells
 pub told_behind : (left now : Option (List ℕ)) (xs : List ℕ) (whole : Bool) → Takes left now xs → (whole ≡ true → IsAtEnd now)
@@ -99,52 +85,45 @@ takes_nothing left =
     let m = told_behind left left [] false (Takes-nothing left) (λ w. absurd cc) in
     (m.0, record { taken = []; behind = m.0; parts = refl; takes = Takes-nothing left; told = m.1 })
 
--- the script says the commands first that were given
-pub begins : {script : List ℕ} {commands : List Command} {q : Reading} → Leads (start_of script) commands q → q.whole ≡ true → q.stage ≡ Commands → q.before ≤ 1048576 → BeginsWith script commands
-begins {q = q} l w s b = let x = says_something q w s b in record { later = x.0; end = x.1; says = says_from l x.0 x.1 x.2 }
-
 pub begins_nothing : (script : List ℕ) → BeginsWith script []
-begins_nothing script = begins nothing refl refl (omega arith)
+begins_nothing script = record { behind = start_of script; leads = nothing }
 
 -- one call that gave a command or a fault, over all bytes that are left
-module _ (left mid left' : Option (List ℕ)) (given : List Command) (old new : Reading) (r : Answer) (some : IsSomething r) (so : HasGiven left mid given old) (a : Advances old new mid left' r) where
-  pub gave : Gives a.known r new
-  gave = subst (λ (s : Stage). GivesNext s a.known r new) so.stage a.gives
-
+module _ (left mid left' : Option (List ℕ)) (given : List Command) (old new : Reading) (r : Answer) (some : IsSomething r) (so : HasRead left mid given old) (a : Advances old new mid left' r) where
   abbrev pub all : List ℕ
   all = so.taken ++ a.takes.taken
 
   pub all_taken : Takes left left' all
   all_taken = Takes-Takes left mid left' so.taken a.takes.taken so.takes a.takes.takes
 
-  pub all_met : new.whole ≡ true → IsAtEnd left'
-  all_met = met_end old new mid left' r some a so.met
-
   abbrev pub behind : (more : List ℕ) × Tells left (all ++ more) × (new.whole ≡ true → more ≡ [])
-  behind = told_behind left left' all new.whole all_taken all_met
+  behind = told_behind left left' all new.whole all_taken (met_end old new mid left' r some a so.met)
 
   -- the script
   abbrev pub whole_script : List ℕ
   whole_script = all ++ behind.0
 
-  pub whole_takes : TakesFrom left left' whole_script
+  abbrev pub whole_takes : TakesFrom left left' whole_script
   whole_takes = record { taken = all; behind = behind.0; parts = refl; takes = all_taken; told = behind.1 }
 
   -- what was given before, and what the call gave
-  pub lines : (more : List ℕ) → (new.whole ≡ true → more ≡ [])
-      → (q : Reading) × Leads (start_of (all ++ more)) given q × Gives q r (with_taken new more true) × (q.whole ≡ true) × (q.stage ≡ Commands) × (q.before ≤ 1048576)
+  lines : (more : List ℕ) → (new.whole ≡ true → more ≡ []) → (q : Reading) × Leads (start_of (all ++ more)) given q × Gives q r (with_taken new more true)
   lines more none = (
     with_taken old (a.takes.taken ++ more) true,
     subst (λ (bytes : List ℕ). Leads (start_of bytes) given (with_taken old (a.takes.taken ++ more) true)) (sym (append_assoc so.taken a.takes.taken more))
-        (so.leads (a.takes.taken ++ more) (before_none old new mid left' r some a more none)),
+        (so.leads (a.takes.taken ++ more) true (λ w. (before_none old new mid left' r some a more none w, refl))),
     gave_all old new mid left' r some a more none,
-    refl,
-    so.stage,
-    so.within,
   )
 
-  pub the_lines : (q : Reading) × Leads (start_of whole_script) given q × Gives q r (with_taken new behind.0 true) × (q.whole ≡ true) × (q.stage ≡ Commands) × (q.before ≤ 1048576)
+  pub the_lines : (q : Reading) × Leads (start_of whole_script) given q × Gives q r (with_taken new behind.0 true)
   the_lines = lines behind.0 behind.2
+
+  -- what was taken beyond the lines is held
+  pub taken_held : length all ≤ new.before + length new.rest
+  taken_held =
+      let l = lines [] (λ w. refl) in
+      let rest : new.rest ++ [] ≡ drop new.before (all ++ []) = left_behind refl l.1 l.2 in
+      all_held all new.rest new.before (sym (append-nil new.rest) ∙ (rest ∙ ap (λ (bytes : List ℕ). drop new.before bytes) (append-nil all)))
 
 pub some_command : (c : Command) → IsSomething (Ok (Some c))
 some_command c e = cc
@@ -152,48 +131,36 @@ some_command c e = cc
 pub some_fault : (f : ScriptFault) → IsSomething (Err f)
 some_fault f e = cc
 
--- the call gave one command more
-given_more : (left mid left' : Option (List ℕ)) (given : List Command) (old new : Reading) (c : Command) → HasGiven left mid given old → Advances old new mid left' (Ok (Some c)) → c ≢ End → HasGiven left left' (given ++ c ∷ []) new
-given_more left mid left' given old new c so a other =
-    let l = the_lines left mid left' given old new (Ok (Some c)) (some_command c) so a in
-    let b = behind_command l.2 c refl other in
-    record {
-      taken = all left mid left' given old new (Ok (Some c)) (some_command c) so a;
-      takes = all_taken left mid left' given old new (Ok (Some c)) (some_command c) so a;
-      met = all_met left mid left' given old new (Ok (Some c)) (some_command c) so a;
-      leads = λ more none. let m = lines left mid left' given old new (Ok (Some c)) (some_command c) so a more none in and_then m.1 c other (with_taken new more true) m.2;
-      stage = b.stage;
-      within = b.within;
-    }
+-- where what was given leads to has no end in it
+pub given_no_end : {left now : Option (List ℕ)} {given : List Command} {reader : Reading} → HasRead left now given reader → HasNoEnd given
+given_no_end so = no_end_led (so.leads [] true (λ w. (refl, refl)))
 
 -- the call gave the end
-given_end : (left mid left' : Option (List ℕ)) (given : List Command) (old new : Reading) → HasGiven left mid given old → Advances old new mid left' (Ok (Some End)) → HasEnded left left' (given ++ End ∷ []) new × (new.stage ≡ Done)
-given_end left mid left' given old new so a =
-    let taken = all left mid left' given old new (Ok (Some End)) (some_command End) so a in
-    let l = lines left mid left' given old new (Ok (Some End)) (some_command End) so a [] (λ w. refl) in
-    let o = over_end (gave left mid left' given old new (Ok (Some End)) (some_command End) so a) refl in (
-      record {
-        script = taken;
-        takes = all_taken left mid left' given old new (Ok (Some End)) (some_command End) so a;
-        end = all_met left mid left' given old new (Ok (Some End)) (some_command End) so a o.whole;
-        says = subst (λ (bytes : List ℕ). IsScript bytes (given ++ End ∷ []) None) (append-nil taken) (says_from l.1 (End ∷ []) None (ends l.2));
-        whole = o.whole;
-      },
-      o.stage,
-    )
+given_end : (left mid left' : Option (List ℕ)) (given : List Command) (old new : Reading) → HasRead left mid given old
+    → (a : Advances old new mid left' (Ok (Some End))) → Gives a.known (Ok (Some End)) new → HasEnded left left' (given ++ End ∷ []) new × (new.stage ≡ Done)
+given_end left mid left' given old new so a g =
+    let e = read_end left mid left' given old new so a in
+    let o = over_end g refl in
+    (record { script = e.0; takes = e.1; end = e.2; says = e.3; whole = o.whole; earlier = given; no_end = given_no_end so; last = refl }, o.stage)
 
 -- what holds before the next call
-reads_on : (left mid left' : Option (List ℕ)) (given : List Command) (old new : Reading) (c : Command) → HasGiven left mid given old → Advances old new mid left' (Ok (Some c)) → HasRead new.stage left left' (given ++ c ∷ []) new
-reads_on left mid left' given old new c so a = by_end (is_end c)
+reads_on : (left mid left' : Option (List ℕ)) (given : List Command) (old new : Reading) (c : Command) → HasRead left mid given old
+    → (a : Advances old new mid left' (Ok (Some c))) → Gives a.known (Ok (Some c)) new → IsReading new.stage left left' (given ++ c ∷ []) new
+reads_on left mid left' given old new c so a g = by_end (is_end c)
   where
-    by_end : (c ≡ End) ⊎ (c ≢ End) → HasRead new.stage left left' (given ++ c ∷ []) new
+    at_stage : (s : Stage) → new.stage ≡ s → IsReading s left left' (given ++ c ∷ []) new → IsReading new.stage left left' (given ++ c ∷ []) new
+    at_stage s e h = subst (λ (x : Stage). IsReading x left left' (given ++ c ∷ []) new) (sym e) h
+
+    by_end : (c ≡ End) ⊎ (c ≢ End) → IsReading new.stage left left' (given ++ c ∷ []) new
     by_end (inl e) =
-        let h = given_end left mid left' given old new so (subst (λ (x : Command). Advances old new mid left' (Ok (Some x))) e a) in
-        subst (λ (x : Command). HasRead new.stage left left' (given ++ x ∷ []) new) (sym e) (ended_at h.1 h.0)
-    by_end (inr o) = given_at (given_more left mid left' given old new c so a o)
+        let over = subst (λ (x : Command). (b : Advances old new mid left' (Ok (Some x))) × Gives b.known (Ok (Some x)) new) e (a, g) in
+        let h = given_end left mid left' given old new so over.0 over.1 in
+        at_stage Done h.1 (subst (λ (x : Command). HasEnded left left' (given ++ x ∷ []) new) (sym e) h.0)
+    by_end (inr o) = at_stage Commands (behind_command g c refl o).stage (read_command left mid left' given old new c so a o)
 
 -- behind the end nothing more was taken
-pub still_ended : (left mid left' : Option (List ℕ)) (given : List Command) (old new : Reading) (h : HasEnded left mid given old) → Advances old new mid left' (Ok None) → Takes left left' h.script × IsAtEnd left'
+pub still_ended : (left mid left' : Option (List ℕ)) (given : List Command) (old new : Reading) (h : HasEnded left mid given old)
+    → Advances old new mid left' (Ok None) → Takes left left' h.script × IsAtEnd left'
 still_ended left mid left' given old new h a =
     let none : Takes mid left' [] = subst (λ (xs : List ℕ). Takes mid left' xs) (a.takes.kept h.whole).0 a.takes.takes in (
       subst (λ (xs : List ℕ). Takes left left' xs) (append-nil h.script) (Takes-Takes left mid left' h.script [] h.takes none),
@@ -225,7 +192,7 @@ pub record Going (left now held after : Option (List ℕ)) (reader : Reading) (b
   pub stands : StandsFor bus.machine state
   pub fresh : IsFalse bus.spent
   pub grew : Grows held after (header_bytes ++ log_bytes log)
-  pub read : HasRead reader.stage left now commands reader
+  pub read : IsReading reader.stage left now commands reader
 
 pub going_first : (left held after : Option (List ℕ)) (reader : Reading) (bus : Standing) → reader ≡ unread → StandsFor bus.machine first_state → IsFalse bus.spent → Grows held after header_bytes → Going left left held after reader bus
 going_first left held after reader bus new stands fresh header = record {
@@ -237,43 +204,47 @@ going_first left held after reader bus new stands fresh header = record {
   stands = stands;
   fresh = fresh;
   grew = subst (λ (bytes : List ℕ). Grows held after bytes) (sym (append-nil header_bytes)) header;
-  read = subst (λ (p : Reading). HasRead p.stage left left [] p) (sym new) (given_nothing left);
+  read = subst (λ (p : Reading). IsReading p.stage left left [] p) (sym new) (read_nothing left);
 }
 
 -- a command was given and carried out
 pub going_more : {left mid held held1 : Option (List ℕ)} {old : Reading} {bus : Standing} (left' held2 : Option (List ℕ)) (new : Reading) (bus' : Standing) (c : Command) (g : Going left mid held held1 old bus)
     → Advances old new mid left' (Ok (Some c)) → Goes g.commands g.actions g.log g.state c bus' held1 held2 → Going left left' held held2 new bus'
-going_more {left} {mid} {held} {held1} {old} {bus} left' held2 new bus' c g a d = record {
-  commands = g.commands ++ c ∷ [];
-  actions = g.actions ++ actions_of g.state d.order;
-  log = g.log ++ d.out;
-  state = d.state;
-  run = d.run;
-  stands = d.stands;
-  fresh = d.fresh;
-  grew = subst (λ (bytes : List ℕ). Grows held held2 bytes)
-      (append_assoc header_bytes (log_bytes g.log) (log_bytes d.out) ∙ ap (λ (bytes : List ℕ). header_bytes ++ bytes) (sym (log_append g.log d.out)))
-      (Grows-Grows held held1 held2 (header_bytes ++ log_bytes g.log) (log_bytes d.out) g.grew d.grew);
-  read = reads_on left mid left' g.commands old new c (given_before old.stage a.known new (Ok (Some c)) (some_command c) g.read a.gives).0 a;
-}
+going_more {left} {mid} {held} {held1} {old} {bus} left' held2 new bus' c g a d =
+    let before = given_before old.stage a.known new (Ok (Some c)) (some_command c) g.read a.gives in
+    record {
+      commands = g.commands ++ c ∷ [];
+      actions = g.actions ++ actions_of g.state d.order;
+      log = g.log ++ d.out;
+      state = d.state;
+      run = d.run;
+      stands = d.stands;
+      fresh = d.fresh;
+      grew = subst (λ (bytes : List ℕ). Grows held held2 bytes)
+          (append_assoc header_bytes (log_bytes g.log) (log_bytes d.out) ∙ ap (λ (bytes : List ℕ). header_bytes ++ bytes) (sym (log_append g.log d.out)))
+          (Grows-Grows held held1 held2 (header_bytes ++ log_bytes g.log) (log_bytes d.out) g.grew d.grew);
+      read = reads_on left mid left' g.commands old new c before.0 a before.1;
+    }
 
 -- a command that was given is that of a line
-pub going_form : {left mid held held1 : Option (List ℕ)} {old : Reading} {bus : Standing} (left' : Option (List ℕ)) (new : Reading) (c : Command) (g : Going left mid held held1 old bus) → Advances old new mid left' (Ok (Some c)) → IsCommand c
+pub going_form : {left mid held held1 : Option (List ℕ)} {old : Reading} {bus : Standing} (left' : Option (List ℕ)) (new : Reading) (c : Command) (g : Going left mid held held1 old bus)
+    → Advances old new mid left' (Ok (Some c)) → IsCommand c
 going_form {old = old} left' new c g a = given_form (given_before old.stage a.known new (Ok (Some c)) (some_command c) g.read a.gives).1 c refl
 
 -- each call that gives a command leaves less to read
-pub going_shorter : {left mid held held1 : Option (List ℕ)} {old : Reading} {bus : Standing} (left' : Option (List ℕ)) (new : Reading) (c : Command) (g : Going left mid held held1 old bus) → Advances old new mid left' (Ok (Some c))
+pub going_shorter : {left mid held held1 : Option (List ℕ)} {old : Reading} {bus : Standing} (left' : Option (List ℕ)) (new : Reading) (c : Command) (g : Going left mid held held1 old bus)
+    → Advances old new mid left' (Ok (Some c))
     → (1048576 - new.before) + open_of new.stage < (1048576 - old.before) + open_of old.stage
 going_shorter {left = left} {mid = mid} {old = old} left' new c g a = by_end (is_end c)
   where
-    h : HasGiven left mid g.commands old × Gives a.known (Ok (Some c)) new
+    h : HasRead left mid g.commands old × Gives a.known (Ok (Some c)) new × (old.stage ≡ Commands)
     h = given_before old.stage a.known new (Ok (Some c)) (some_command c) g.read a.gives
 
     same : a.known.before ≡ old.before
     same = ap (λ (p : Reading). p.before) a.takes.now
 
     one : open_of old.stage ≡ 1
-    one = ap (λ (s : Stage). open_of s) h.0.stage
+    one = ap (λ (s : Stage). open_of s) h.2
 
     by_end : (c ≡ End) ⊎ (c ≢ End) → (1048576 - new.before) + open_of new.stage < (1048576 - old.before) + open_of old.stage
     by_end (inl e) =
@@ -283,4 +254,4 @@ going_shorter {left = left} {mid = mid} {old = old} left' new c g a = by_end (is
     by_end (inr n) =
         let b = behind_command h.1 c refl n in
         let more : open_of new.stage ≡ 1 = ap (λ (s : Stage). open_of s) b.stage in
-        omega (arith, same, one, b.further, b.within)
+        omega (arith, same, one, more, b.further, b.within)

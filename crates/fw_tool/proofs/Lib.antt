@@ -1,9 +1,6 @@
-pub mod Deciding
 pub mod Givings
-pub mod Answering
+pub mod Takings
 pub mod Goings
 pub mod Endings
-pub mod Printings
-pub mod Decodings
 pub mod Tellings
 pub mod Completions

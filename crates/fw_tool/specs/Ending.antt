@@ -1,9 +1,10 @@
 -- What each ending of a run says of the input and of the log.
-use Rattle.std.specs.Prelude.{◌≡◌, ℕ, ◌<◌, List, [], ◌∷◌, ◌++◌, length, Option, Some, None, Ok, Err}
+use Rattle.std.specs.Prelude.{◌≡◌, ℕ, ◌+◌, ◌<◌, ◌≤◌, List, [], ◌++◌, length, Option, Some, None, Ok, Err}
 use Rattle.fw_outside.specs.Outside.{Takes, Grows, IsAtEnd, AppendsFront}
-use Rattle.fw_log.specs.Log.{header_bytes}
-use Rattle.fw_log.specs.declared.entry.Timed.{Timed}
+use Rattle.fw_entry.specs.Log.{header_bytes, LogOpens, LogSpells}
+use Rattle.fw_entry.specs.declared.entry.Timed.{Timed}
 use Rattle.fw_script.specs.Script.{IsScript}
+use Rattle.fw_script.specs.Leading.{BeginsWith, IsOnLine, TakesFrom, LinesSay}
 use Rattle.fw_script.specs.declared.command.Command.{Command}
 use Rattle.fw_script.specs.declared.ScriptFault.{ScriptFault}
 use Rattle.fw_script.specs.declared.ScriptFault.TheVariants as Fault
@@ -19,18 +20,21 @@ use Rattle.fw_tool.specs.declared.ending.Ending.TheVariants.{Done, Usage, Refuse
 use Rattle.fw_tool.specs.declared.Refused.{Refused as RefusedLine}
 use Rattle.fw_tool.specs.declared.Refusal.{Refusal}
 use Rattle.fw_tool.specs.declared.Refusal.TheVariants.{BadLine, LineTooLong, NoEnd, Rule}
-use Rattle.fw_tool.specs.Scripts.{IsOnLine, BeginsWith, TakesFrom}
+use Rattle.fw_tool.specs.Scripts.{FaultsAt, beyond}
 
--- The commands were carried out; the header and the log of their run were written, and it is sound throughout.
+-- The commands were carried out; the header and the log of their run were written. It is a log that lacks at most its end, and
+-- it is sound throughout.
 pub record LogsRun (held held' : Option (List ℕ)) (commands : List Command) : Type 0 where
   pub actions : List Action
   pub log : List Timed
   pub state : State
   pub run : Run commands actions log state
   pub sound : IsSoundThroughout actions log
+  pub opens : LogOpens log (header_bytes ++ log_bytes log)
   pub grew : Grows held held' (header_bytes ++ log_bytes log)
 
--- These bytes were taken, to the end of the input, and no line of them is refused. The log is that of their commands.
+-- These bytes were taken, to the end of the input, and no line of them is refused. The log is that of their commands, and
+-- whole.
 pub record Logged (left left' held held' : Option (List ℕ)) : Type 0 where
   pub script : List ℕ
   pub taken : Takes left left' script
@@ -38,24 +42,28 @@ pub record Logged (left left' held held' : Option (List ℕ)) : Type 0 where
   pub commands : List Command
   pub says : IsScript script commands None
   pub logged : LogsRun held held' commands
+  pub whole : LogSpells logged.log (header_bytes ++ log_bytes logged.log)
 
--- The script's first refused line has this fault and this number. The log is that of the commands before it.
+-- The script's first refused line has this fault and this number, and few bytes behind it were taken. The log is that of the
+-- commands before it.
 pub record RefusesLine (left left' held held' : Option (List ℕ)) (fault : ScriptFault) (line : ℕ) : Type 0 where
   pub script : List ℕ
   pub takes : TakesFrom left left' script
   pub commands : List Command
   pub says : IsScript script commands (Some (record { fault = fault; line = line }))
+  pub at : FaultsAt script commands fault
+  pub near : length takes.taken ≤ at.after.before + beyond fault
   pub logged : LogsRun held held' commands
 
--- The command on the line with this number is the first that breaks a rule, and this is the rule. The log is that of the
--- commands before it.
+-- The command on the line with this number is the first that breaks a rule, and this is the rule; at most 4,096 bytes behind
+-- the line were taken. The log is that of the commands before it.
 pub record RefusesCommand (left left' held held' : Option (List ℕ)) (rule : RuleFault) (line : ℕ) : Type 0 where
   pub script : List ℕ
   pub takes : TakesFrom left left' script
   pub commands : List Command
   pub command : Command
-  pub says : BeginsWith script (commands ++ command ∷ [])
   pub on_line : IsOnLine script commands command line
+  pub near : length takes.taken ≤ on_line.after.before + 4096
   pub logged : LogsRun held held' commands
   pub decided : Decides logged.state command (Err rule)
 
@@ -81,19 +89,28 @@ abbrev pub Began : Option Command → State → List Action → Type 0
 Began None s done = done ≡ []
 Began (Some c) s done = (order : Order) × (later : List Action) × Decides s c (Ok order) × (actions_of s order ≡ done ++ later)
 
--- the commands that were carried out, and the one that was begun, if any
-abbrev pub with_begun : List Command → Option Command → List Command
-with_begun commands None = commands
-with_begun commands (Some c) = commands ++ c ∷ []
+-- the script says these commands first, and then the one that was begun, if any
+abbrev pub SaysBegun : List ℕ → List Command → Option Command → Type 0
+SaysBegun script commands None = BeginsWith script commands
+SaysBegun script commands (Some c) = (line : ℕ) × IsOnLine script commands c line
 
--- Bytes were taken of a script that says these commands first, the last of them perhaps only begun. A front was written of
--- the header and the log of their actions, as far as they were carried out; and that log is sound throughout.
+-- The source failed. The log is that of the commands of exactly the lines whose line feed was taken before.
+pub record Interrupted (left left' held held' : Option (List ℕ)) : Type 0 where
+  pub taken : List ℕ
+  pub takes : Takes left left' taken
+  pub commands : List Command
+  pub lines : LinesSay taken commands
+  pub logged : LogsRun held held' commands
+
+-- The sink failed. Bytes were taken of a script that says these commands first, and then the one that was begun, if any. A
+-- front was written of the header and the log of their actions, as far as they were carried out; that log lacks at most its end,
+-- and is sound throughout.
 pub record PartLogged (left left' held held' : Option (List ℕ)) : Type 0 where
   pub script : List ℕ
   pub takes : TakesFrom left left' script
   pub commands : List Command
   pub begun : Option Command
-  pub says : BeginsWith script (with_begun commands begun)
+  pub says : SaysBegun script commands begun
   pub actions : List Action
   pub log : List Timed
   pub state : State
@@ -104,16 +121,17 @@ pub record PartLogged (left left' held held' : Option (List ℕ)) : Type 0 where
   pub after : State
   pub steps : Steps state done out after
   pub sound : IsSoundThroughout (actions ++ done) (log ++ out)
+  pub opens : LogOpens (log ++ out) (header_bytes ++ log_bytes (log ++ out))
   pub grew : AppendsFront held held' (header_bytes ++ log_bytes (log ++ out))
 
--- what each ending says
+-- what each ending says; memory is wanted before anything is read or written
 abbrev pub Runs : Option (List ℕ) → Option (List ℕ) → Option (List ℕ) → Option (List ℕ) → Ending → Type 0
 Runs left left' held held' Done = Logged left left' held held'
 Runs left left' held held' (Refused r) = Refuses left left' held held' r
 Runs left left' held held' TooLong = PassesScriptLimit left left' held held'
 Runs left left' held held' WriteFault = PartLogged left left' held held'
-Runs left left' held held' ReadFault = PartLogged left left' held held'
-Runs left left' held held' NoMemory = PartLogged left left' held held'
+Runs left left' held held' ReadFault = Interrupted left left' held held'
+Runs left left' held held' NoMemory = (left' ≡ left) × (held' ≡ held)
 Runs left left' held held' Usage = ⊥
 Runs left left' held held' (NoLog fault) = ⊥
 

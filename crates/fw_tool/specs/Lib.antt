@@ -1,6 +1,7 @@
 pub mod Scripts
 pub mod Ending
+pub mod Faults
 pub mod Notes
 pub mod Words
-pub mod Decode
-pub mod Printing
+pub mod Logs
+pub mod Laws

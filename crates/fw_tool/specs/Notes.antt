@@ -3,7 +3,7 @@ use Rattle.std.specs.Prelude.{◌≡◌, ℕ, ◌⊎◌, List, [], ◌∷◌, �
 use Rattle.std.specs.declared.option.Option.{Option}
 use Rattle.fw_outside.specs.Outside.{Grows, AppendsFront, Rose}
 use Rattle.fw_log.specs.declared.LogWhy.{LogWhy}
-use Rattle.fw_log.specs.declared.LogWhy.TheVariants.{AfterEnd, BadHeader, BadKind, BadLength, TimeBack, BadBody, Cut, NoEnd as NoLogEnd, NotBuilt as NotBuiltKind}
+use Rattle.fw_log.specs.declared.LogWhy.TheVariants.{AfterEnd, BadHeader, BadKind, BadLength, TimeBack, BadBody, Cut, NoEnd as NoLogEnd}
 use Rattle.fw_tool.specs.declared.ending.Ending.{Ending}
 use Rattle.fw_tool.specs.declared.ending.Ending.TheVariants.{Done, Usage, Refused, NoLog, ReadFault, WriteFault, TooLong, NoMemory}
 use Rattle.fw_run.specs.declared.rule.RuleFault.{RuleFault}
@@ -50,7 +50,6 @@ why_of TimeBack = codes ": TimeBack" ++ 10 ∷ []
 why_of (BadBody _) = codes ": BadBody" ++ 10 ∷ []
 why_of Cut = codes ": Cut" ++ 10 ∷ []
 why_of NoLogEnd = codes ": NoEnd" ++ 10 ∷ []
-why_of NotBuiltKind = codes ": NotBuilt" ++ 10 ∷ []
 
 abbrev pub note_of : Ending → List ℕ
 note_of Done = []
@@ -62,16 +61,13 @@ note_of WriteFault = codes "write fault" ++ 10 ∷ []
 note_of TooLong = codes "too long" ++ 10 ∷ []
 note_of NoMemory = codes "no memory" ++ 10 ∷ []
 
--- The note was written and the status is the ending's, or the note could not be written and the status is 6.
-abbrev pub IsNoted : {N : Type 0} → (N → Option (List ℕ)) → (N → ℕ) → N → N → Ending → ℕ → Type 0
-IsNoted held faults old new ending status =
-    ((status ≡ status_of ending) × Grows (held old) (held new) (note_of ending))
-    ⊎ ((status ≡ 6) × AppendsFront (held old) (held new) (note_of ending) × Rose (faults old) (faults new))
+-- A note was written and the status is the one that was given, or the note could not be written and the status is 6.
+abbrev pub IsPassedOn : {N : Type 0} → (N → Option (List ℕ)) → (N → ℕ) → N → N → List ℕ → ℕ → ℕ → Type 0
+IsPassedOn held faults old new note given status =
+    ((status ≡ given) × Grows (held old) (held new) note × (faults new ≡ faults old))
+    ⊎ ((status ≡ 6) × AppendsFront (held old) (held new) note × Rose (faults old) (faults new))
 
+-- How an ending is told: its note by the notes, and its status. One that is done has no note.
 abbrev pub IsTold : {N : Type 0} → (N → Option (List ℕ)) → (N → ℕ) → N → N → Ending → ℕ → Type 0
 IsTold held faults old new Done status = (status ≡ 0) × (new ≡ old)
-IsTold held faults old new ending status = IsNoted held faults old new ending status
-
--- With status 6 the notes hold that a write failed, or a front of the note that was due, where the notes themselves failed.
-abbrev pub IsFaultTold : {N : Type 0} → (N → Option (List ℕ)) → (N → ℕ) → N → N → Type 0
-IsFaultTold held faults old new = Grows (held old) (held new) (note_of WriteFault) ⊎ ((due : Ending) × AppendsFront (held old) (held new) (note_of due) × Rose (faults old) (faults new))
+IsTold held faults old new ending status = IsPassedOn held faults old new (note_of ending) (status_of ending) status

@@ -1,15 +1,24 @@
 use crate::Refused;
 use fw_log::LogFault;
 
-/// How a call ends.
+/// How a call ends. It is the table of statuses: each ending has its status and its note, which is one line on the notes.
 #[derive(Clone, Copy, Debug, PartialEq, Eq)]
-pub(crate) enum Ending {
+pub enum Ending {
+    /// 0, no note: the input was read to its end, nothing of it was refused, and all was written.
     Done,
+    /// 2, `usage`: the words are no listed form. Nothing was read or written.
     Usage,
+    /// 3, `line N: NAME`: line N of the script is the first that is refused, by its form or by a rule of the bus. The log of
+    /// the lines before it was written.
     Refused(Refused),
+    /// 4, `byte N: NAME`: the bytes are no log; the first refused part is at byte N. What the entries before it give was written.
     NoLog(LogFault),
+    /// 5, `read fault`: the source failed. What the input up to there gives was written.
     ReadFault,
+    /// 6, `write fault`: the sink failed. A front of what the input gives was written.
     WriteFault,
+    /// 7, `too long`: the script passes 1,048,576 bytes, or the log 268,435,456, and nothing within that limit is refused.
     TooLong,
+    /// 8, `no memory`: memory was refused.
     NoMemory,
 }

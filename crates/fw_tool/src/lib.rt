@@ -1,20 +1,17 @@
 //! The program's top call: scripts in, logs and notes out; logs in, text and notes out.
 #![tactic(auto)]
 
-mod decode;
-#[cfg(test)]
-mod decode_tests;
 mod ending;
-#[cfg(test)]
-mod node_tests;
+mod laws;
+mod logs;
 mod notes;
-mod print;
 mod run;
-#[cfg(test)]
-mod tests;
 mod top;
 
-use fw_run::RuleFault;
+pub use ending::Ending;
+use fw_bus::RuleFault;
+pub use laws::whole_logs_are_read;
+pub use notes::{NOTE_ROOM, close, tell};
 pub use top::fire;
 
 /// Why a line of a script was refused.

@@ -1,17 +1,20 @@
-ghost use Rattle.std.specs.Prelude.{◌≡◌, ◌+◌, ◌<◌, ◌≤◌, ◌++◌, length};
+ghost use Rattle.std.specs.Prelude.{◌≡◌, ◌≢◌, ◌⊎◌, ◌+◌, ◌<◌, ◌≤◌, ◌++◌, length, IsOk, IsErr};
 ghost use Rattle.arrayvec.specs.ArrayVec.{array_vec_len};
-ghost use Rattle.fw_tool.specs.Notes.{status_of, rule_of, name_of, why_of, note_of, IsTold};
+ghost use Rattle.fw_tool.specs.Notes.{status_of, rule_of, name_of, why_of, note_of, IsTold, IsPassedOn};
 
 use crate::Refusal;
 use crate::ending::Ending;
 use arrayvec::ArrayVec;
+use fw_bus::RuleFault;
 use fw_log::LogWhy;
-use fw_outside::Sink;
-use fw_run::RuleFault;
+use fw_outside::{Failed, Sink};
 use itoa::Buffer;
 
-/// The longest note has 37 bytes: that of a place of twenty digits.
-type Note = ArrayVec<u8, 64>;
+/// Room for any note, in bytes: the longest has 37, that of a place of twenty digits.
+pub const NOTE_ROOM: usize = 64;
+
+/// A note.
+type Note = ArrayVec<u8, NOTE_ROOM>;
 
 /// Appends a text.
 fn put(note: &mut Note, text: &[u8])
@@ -66,7 +69,6 @@ fn log_why(why: LogWhy) -> &'static [u8]
         LogWhy::BadBody(_) => b": BadBody\n",
         LogWhy::Cut => b": Cut\n",
         LogWhy::NoEnd => b": NoEnd\n",
-        LogWhy::NotBuilt => b": NotBuilt\n",
     }
 }
 
@@ -111,16 +113,38 @@ fn status(ending: Ending) -> u8
     }
 }
 
+/// Writes a note, and answers its status, or 6 where the note was not written.
+fn pass_on<N: Sink>(status: u8, note: &[u8], notes: &mut N) -> u8
+    ensures { IsPassedOn N.held N.faults notes.old notes.new note.now status result }
+{
+    match notes.write(note) {
+        Ok(()) => status,
+        Err(Failed) => 6,
+    }
+}
+
 /// Writes the note of an ending, and answers its status, or 6 where the note was not written. An ending that is
-/// done has no note.
-pub(crate) fn tell<N: Sink>(ending: Ending, notes: &mut N) -> u8
+/// done has no note, and leaves the notes as they were.
+pub fn tell<N: Sink>(ending: Ending, notes: &mut N) -> u8
     ensures { IsTold N.held N.faults notes.old notes.new ending result }
 {
     if matches!(ending, Ending::Done) {
         return 0;
     }
-    match notes.write(note(ending).as_slice()) {
-        Ok(()) => status(ending),
-        Err(_) => 6,
+    pass_on(status(ending), note(ending).as_slice(), notes)
+}
+
+/// Ends the program: passes the note of a call on, and answers its status, or 6 where the note was not written.
+///
+/// `flushed` is what the last flush of the sink answered. A write fault that only it shows was met before all that the
+/// note says, and is told in its place.
+pub fn close<N: Sink>(status: u8, note: &[u8], flushed: Result<(), Failed>, notes: &mut N) -> u8
+    ensures passed { IsOk flushed ⊎ (status ≡ 6) → IsPassedOn N.held N.faults notes.old notes.new note.now status result }
+    ensures told { IsErr flushed → status ≢ 6 → IsTold N.held N.faults notes.old notes.new Ending.WriteFault result }
+    ensures failed { IsErr flushed → result ≡ 6 }
+{
+    match flushed {
+        Err(Failed) if status != 6 => tell(Ending::WriteFault, notes),
+        _ => pass_on(status, note, notes),
     }
 }

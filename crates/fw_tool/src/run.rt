@@ -1,11 +1,11 @@
 ghost use Rattle.std.specs.Prelude.{◌≡◌};
-ghost use Rattle.fw_outside.specs.Outside.{Rose};
 ghost use Rattle.fw_tool.specs.Ending.{Runs, ending_by};
+ghost use Rattle.fw_tool.specs.Faults.{FirstFault};
 
 use crate::ending::Ending;
 use crate::{Refusal, Refused};
 use fw_bus::{Bus, BusFault};
-use fw_log::write_header;
+use fw_entry::write_header;
 use fw_outside::{Sink, Source};
 use fw_script::{ScriptFault, ScriptReader};
 use std::alloc::Global;
@@ -32,8 +32,7 @@ fn ending_of(fault: ScriptFault, line: u32) -> Ending
 /// Reads a script, and carries out its commands on a new bus, each as it is read.
 pub(crate) fn run<S: Source, K: Sink>(alloc: Global, source: &mut S, sink: &mut K) -> Ending
     ensures runs { Runs (S.left source.old) (S.left source.new) (K.held sink.old) (K.held sink.new) result }
-    ensures read_fault { result ≡ Ending.ReadFault → Rose (S.faults source.old) (S.faults source.new) }
-    ensures write_fault { result ≡ Ending.WriteFault → Rose (K.faults sink.old) (K.faults sink.new) }
+    ensures first { FirstFault (S.faults source.old) (S.faults source.new) (K.faults sink.old) (K.faults sink.new) result }
 {
     let Ok(mut bus) = Bus::new(alloc) else {
         return Ending::NoMemory;

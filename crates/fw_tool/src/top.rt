@@ -1,26 +1,32 @@
-ghost use Rattle.std.specs.Prelude.{◌≡◌, ◌≤◌, ◌⊎◌, List, ℕ, length, Some, IsTrue, ◌↔◌};
-ghost use Rattle.fw_log.specs.Log.{LogSpells};
-ghost use Rattle.fw_log.specs.declared.LogFault.{LogFault};
-ghost use Rattle.fw_log.specs.declared.entry.Timed.{Timed};
-ghost use Rattle.fw_outside.specs.Outside.{Rose, Grows};
-ghost use Rattle.fw_tool.specs.Decode.{limit, Decoded, Faulted, PassedLimit, PartDecoded};
-ghost use Rattle.fw_tool.specs.Ending.{Logged, Refuses, PassesScriptLimit, PartLogged};
-ghost use Rattle.fw_tool.specs.Notes.{note_of, IsFaultTold};
+ghost use Rattle.std.specs.Prelude.{◌≡◌, ◌≤◌, ◌⊎◌, ◌↔◌, List, ℕ, length, Some, IsTrue};
+ghost use Rattle.fw_entry.specs.Log.{LogSpells};
+ghost use Rattle.fw_entry.specs.declared.entry.Timed.{Timed};
+ghost use Rattle.fw_outside.specs.Outside.{Rose};
+ghost use Rattle.fw_decode.specs.Decode.{limit, lines_of, nothing, Reads};
+ghost use Rattle.fw_decode.specs.declared.ending.LogEnding.{LogEnding};
+ghost use Rattle.fw_text.specs.Report.{report_text};
+ghost use Rattle.fw_tool.specs.Ending.{Runs};
+ghost use Rattle.fw_tool.specs.Faults.{FirstFault, IsFirstFaults};
+ghost use Rattle.fw_tool.specs.Notes.{IsTold};
 ghost use Rattle.fw_tool.specs.Scripts.{IsValid};
-ghost use Rattle.fw_tool.specs.Words.{IsRun, IsDecode};
-ghost use Rattle.fw_tool.specs.declared.Refused.{Refused as RefusedLine};
+ghost use Rattle.fw_tool.specs.Logs.{by_log};
+ghost use Rattle.fw_tool.specs.Words.{IsRun, IsDecode, IsDv, IsListed};
+ghost use Rattle.fw_tool.specs.declared.ending.Ending.{Ending as AnEnding};
 
-use crate::decode::decode;
 use crate::ending::Ending;
+use crate::logs::ending_of_log;
 use crate::notes::tell;
 use crate::run::run;
+use fw_decode::{decode, dv};
 use fw_outside::{Sink, Source};
 use std::alloc::Global;
 
-/// Does what the words of the command line say, and answers the program's status.
+/// Does what the words of the command line say, and answers the program's status: that of the ending that is met first,
+/// or 6 where its note is not written (`Ending` is the table).
 ///
 /// The word `run` reads a script of at most 1,048,576 bytes, carries out its commands, and writes their log. The word
-/// `decode` reads a log of at most 268,435,456 bytes, and writes one line for each entry as the entry ends.
+/// `decode` reads a log of at most 268,435,456 bytes, and writes one line for each entry as the entry ends; `dv` reads one too, and
+/// writes at its end one line for each channel that has isochronous packets.
 pub fn fire<S: Source, K: Sink, N: Sink>(
     alloc: Global,
     words: &[String],
@@ -28,70 +34,46 @@ pub fn fire<S: Source, K: Sink, N: Sink>(
     sink: &mut K,
     notes: &mut N,
 ) -> u8
-    // 0: the input was read to its end. Of `run` no line was refused, and the sink holds the whole log. Of `decode` the
-    // input is a log within the limit, and the sink holds the lines of its entries.
-    ensures done { result ≡ 0 → IsRun words.now → Logged (S.left source.old) (S.left source.new) (K.held sink.old) (K.held sink.new) }
-    ensures decoded { result ≡ 0 → IsDecode words.now → Decoded (S.left source.old) (S.left source.new) (K.held sink.old) (K.held sink.new) }
-    ensures quiet { result ≡ 0 → notes.new ≡ notes.old }
+    // What each ending of `run` says of the bytes that were taken and of the log that was written, and that it was met first.
+    ensures run { IsRun words.now → (e : AnEnding) × Runs (S.left source.old) (S.left source.new) (K.held sink.old) (K.held sink.new) e
+        × FirstFault (S.faults source.old) (S.faults source.new) (K.faults sink.old) (K.faults sink.new) e
+        × IsTold N.held N.faults notes.old notes.new e result }
 
-    // 2: exactly where the words are no listed form, or 6 where the note could not be written.
-    ensures usage { result ≡ 2 → IsRun words.now ⊎ IsDecode words.now → ⊥ }
-    ensures no_form { (IsRun words.now ⊎ IsDecode words.now → ⊥) → (result ≡ 2) ⊎ ((result ≡ 6) × Rose (N.faults notes.old) (N.faults notes.new)) }
-    ensures untouched { (IsRun words.now ⊎ IsDecode words.now → ⊥) → (source.new ≡ source.old) × (sink.new ≡ sink.old) }
+    // The same of `decode` and the lines of the entries, and of `dv`, which writes only at the log's end, and its report.
+    ensures decode { IsDecode words.now → (e : LogEnding) × Reads lines_of lines_of (S.left source.old) (S.left source.new) (K.held sink.old) (K.held sink.new) e
+        × FirstFault (S.faults source.old) (S.faults source.new) (K.faults sink.old) (K.faults sink.new) (by_log e)
+        × IsTold N.held N.faults notes.old notes.new (by_log e) result }
+    ensures dv { IsDv words.now → (e : LogEnding) × Reads nothing report_text (S.left source.old) (S.left source.new) (K.held sink.old) (K.held sink.new) e
+        × FirstFault (S.faults source.old) (S.faults source.new) (K.faults sink.old) (K.faults sink.new) (by_log e)
+        × IsTold N.held N.faults notes.old notes.new (by_log e) result }
 
-    // 3: only of `run`, the first line that is refused, by its form or by a rule, and the log of the commands before it.
-    ensures refused { result ≡ 3 → IsRun words.now × ((r : RefusedLine)
-        × Refuses (S.left source.old) (S.left source.new) (K.held sink.old) (K.held sink.new) r
-        × Grows (N.held notes.old) (N.held notes.new) (note_of (Ending.Refused r))) }
+    // Other words read and write nothing but their note.
+    ensures usage { (IsListed words.now → ⊥) → (source.new ≡ source.old) × (sink.new ≡ sink.old)
+        × IsTold N.held N.faults notes.old notes.new Ending.Usage result }
 
-    // 4: only of `decode`, the first part of the bytes within the limit that is refused, or their end, which is no log's;
-    // and the lines of the entries before it.
-    ensures no_log { result ≡ 4 → IsDecode words.now × ((f : LogFault)
-        × Faulted (S.left source.old) (S.left source.new) (K.held sink.old) (K.held sink.new) f
-        × Grows (N.held notes.old) (N.held notes.new) (note_of (Ending.NoLog f))) }
-
-    // 7: the input passes its limit, and nothing within it is refused. Of `run` the sink holds the log of the commands
-    // within it, of `decode` the lines of the entries that end within it.
-    ensures too_long { result ≡ 7
-        → (IsRun words.now × PassesScriptLimit (S.left source.old) (S.left source.new) (K.held sink.old) (K.held sink.new)
-        ⊎ IsDecode words.now × PassedLimit (S.left source.old) (S.left source.new) (K.held sink.old) (K.held sink.new))
-        × Grows (N.held notes.old) (N.held notes.new) (note_of Ending.TooLong) }
-
-    // 2, 5 and 8: the notes hold what the ending is called.
-    ensures told { ((result ≡ 2) → Grows (N.held notes.old) (N.held notes.new) (note_of Ending.Usage))
-        × ((result ≡ 5) → Grows (N.held notes.old) (N.held notes.new) (note_of Ending.ReadFault))
-        × ((result ≡ 8) → Grows (N.held notes.old) (N.held notes.new) (note_of Ending.NoMemory)) }
-
-    // 6: the notes hold that a write failed, or a front of the note that was due.
-    ensures fault_told { result ≡ 6 → IsFaultTold N.held N.faults notes.old notes.new }
-
-    // 5 and 6: only where a count rose.
-    ensures read_fault { result ≡ 5 → Rose (S.faults source.old) (S.faults source.new) }
-    ensures write_fault { result ≡ 6 → Rose (K.faults sink.old) (K.faults sink.new) ⊎ Rose (N.faults notes.old) (N.faults notes.new) }
-
-    // 5, 6 and 8: the sink holds a front of what the commands or the entries that were read give.
-    ensures front { (result ≡ 5) ⊎ (result ≡ 6) ⊎ (result ≡ 8) → IsRun words.now → PartLogged (S.left source.old) (S.left source.new) (K.held sink.old) (K.held sink.new) }
-    ensures decoded_front { (result ≡ 5) ⊎ (result ≡ 6) ⊎ (result ≡ 8) → IsDecode words.now → PartDecoded (S.left source.old) (S.left source.new) (K.held sink.old) (K.held sink.new) }
+    // The first fault decides: by the status, whose count of faults rose in the call, and that the others stayed.
+    ensures first { IsFirstFaults result (S.faults source.old) (S.faults source.new) (K.faults sink.old) (K.faults sink.new)
+        (N.faults notes.old) (N.faults notes.new) }
 
     // A script of which no line is refused, and a log within the limit, end with 0, or 8 for want of memory, where no
     // count rose.
     ensures complete { (script : List ℕ) → S.left source.old ≡ Some script → IsValid script → IsRun words.now
         → (Rose (S.faults source.old) (S.faults source.new) → ⊥) → (Rose (K.faults sink.old) (K.faults sink.new) → ⊥)
         → (Rose (N.faults notes.old) (N.faults notes.new) → ⊥) → (result ≡ 0) ⊎ (result ≡ 8) }
-    ensures complete_log { (entries : List Timed) → (bytes : List ℕ) → S.left source.old ≡ Some bytes → LogSpells entries bytes → length bytes ≤ limit → IsDecode words.now
+    ensures complete_log { (entries : List Timed) → (bytes : List ℕ) → S.left source.old ≡ Some bytes → LogSpells entries bytes → length bytes ≤ limit
+        → IsDecode words.now ⊎ IsDv words.now
         → (Rose (S.faults source.old) (S.faults source.new) → ⊥) → (Rose (K.faults sink.old) (K.faults sink.new) → ⊥)
         → (Rose (N.faults notes.old) (N.faults notes.new) → ⊥) → (result ≡ 0) ⊎ (result ≡ 8) }
-
-    ensures statuses { (result ≡ 0) ⊎ (result ≡ 2) ⊎ (result ≡ 3) ⊎ (result ≡ 4) ⊎ (result ≡ 5) ⊎ (result ≡ 6) ⊎ (result ≡ 7) ⊎ (result ≡ 8) }
 {
-    let ending = if is_run(words) {
-        run(alloc, source, sink)
+    if is_run(words) {
+        tell(run(alloc, source, sink), notes)
     } else if is_decode(words) {
-        decode(alloc, source, sink)
+        tell(ending_of_log(decode(alloc, source, sink)), notes)
+    } else if is_dv(words) {
+        tell(ending_of_log(dv(alloc, source, sink)), notes)
     } else {
-        Ending::Usage
-    };
-    tell(ending, notes)
+        tell(Ending::Usage, notes)
+    }
 }
 
 /// Whether the words are `run`.
@@ -110,6 +92,16 @@ fn is_decode(words: &[String]) -> bool
 {
     match words {
         [word] => word.as_str() == "decode",
+        _ => false,
+    }
+}
+
+/// Whether the words are `dv`.
+fn is_dv(words: &[String]) -> bool
+    ensures { IsTrue result ↔ IsDv words.now }
+{
+    match words {
+        [word] => word.as_str() == "dv",
         _ => false,
     }
 }

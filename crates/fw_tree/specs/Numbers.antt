@@ -21,6 +21,10 @@ counted f (suc n) = counted f n + (if f n then 1 else 0)
 abbrev pub number_at : List (Option ℕ) → ℕ → Option ℕ
 number_at number d = slice_index_or number d None
 
+-- what a list by node says of a node: its device
+abbrev pub device_at : List ℕ → ℕ → ℕ
+device_at devices n = slice_index_or devices n 0
+
 -- a number is there
 abbrev pub is_there : Option ℕ → Bool
 is_there None = false

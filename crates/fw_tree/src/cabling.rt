@@ -9,7 +9,7 @@ ghost use Rattle.fw_tree.specs.SelfIds.{ArePackets};
 ghost use Rattle.fw_tree.specs.Topology.{IsExtended, IsFault, IsJoined, Made, no_cables};
 
 use crate::facts::AllCables;
-use crate::numbering::{contends, device_with};
+use crate::numbering::{contends, devices_of};
 use crate::numbers::{numbered, numbers_from, parent_ports};
 use crate::ports::{are_used, have_ports, plug};
 use crate::root::find_root;
@@ -140,9 +140,10 @@ impl Cabling {
         requires { IsNumbering self.now n.now }
         ensures { IsManager self.now.devices n.now.number result }
     {
+        let devices = devices_of(&n.number, n.count);
         let mut manager = None;
         for node in 0..n.count {
-            let device = device_with(&n.number, node);
+            let device = devices[node as usize];
             if contends(&self.facts[device as usize]) {
                 manager = Some(device);
             }
@@ -158,9 +159,10 @@ impl Cabling {
         ensures packets { ArePackets self.now.devices self.now.cables n.now.number n.now.parent_port initiator n.now.count out.new }
         ensures fit { All Fits out.new }
     {
+        let devices = devices_of(&n.number, n.count);
         *out = SelfIds::new();
         for node in 0..n.count {
-            let device = device_with(&n.number, node);
+            let device = devices[node as usize];
             push_node(
                 &self.facts[device as usize],
                 &self.cables[device as usize],

@@ -21,8 +21,8 @@ mod walk;
 
 pub use cabling::Cabling;
 pub use facts::{End, PhyFacts};
-pub use laws::rounds_end_with_one_root;
-pub use numbering::{Numbering, device_with};
+pub use laws::{another_initiator_changes_one_bit, rounds_end_with_one_root};
+pub use numbering::{Numbering, devices_of, number_of};
 
 /// Why a device or a cable is refused, in the order of the tests.
 #[derive(Clone, Copy, Debug, PartialEq, Eq, Error)]

@@ -1,5 +1,5 @@
-ghost use Rattle.std.specs.Prelude.{◌≡◌, ◌<◌, ◌&&◌, ℕ, Some};
-ghost use Rattle.fw_tree.specs.Numbers.{number_at};
+ghost use Rattle.std.specs.Prelude.{◌≡◌, ◌<◌, ◌≤◌, ◌&&◌, ℕ, Some, length, true};
+ghost use Rattle.fw_tree.specs.Numbers.{AreNodes, device_at, has_number, number_at};
 
 use crate::PhyFacts;
 
@@ -16,18 +16,34 @@ pub struct Numbering {
     pub parent_port: [Option<u8>; 63],
 }
 
-/// The device that has node number `n`, by the numbers of a numbering. It asks that one has it.
-pub fn device_with(number: &[Option<u8>; 63], n: u8) -> u8
-    requires { (d : ℕ) × (number_at number.now d ≡ Some n) }
-    ensures device { result < 63 }
-    ensures number { number_at number.now result ≡ Some n }
+/// The device of each node, by the numbers of a numbering that gives `count` of them: the other half of their two-way map.
+/// Places behind the last node have no meaning.
+pub fn devices_of(number: &[Option<u8>; 63], count: u8) -> [u8; 63]
+    requires nodes { AreNodes number.now count }
+    requires few { count ≤ 63 }
+    ensures size { length result ≡ 63 }
+    ensures devices { (n : ℕ) → n < count → number_at number.now (device_at result n) ≡ Some n }
+    ensures range { (n : ℕ) → n < count → device_at result n < 63 }
 {
+    let mut devices = [0; 63];
     for d in 0..63 {
-        if number[d] == Some(n) {
-            return d as u8;
+        if let Some(n) = number[d] {
+            devices[usize::from(n)] = d as u8;
         }
     }
-    unreachable!()
+    devices
+}
+
+/// The number of a device of the bus, by a numbering.
+pub fn number_of(numbering: &Numbering, device: u8) -> u8
+    requires device { device < 63 }
+    requires on { has_number numbering.now.number device ≡ true }
+    ensures { number_at numbering.now.number device ≡ Some result }
+{
+    match numbering.number[usize::from(device)] {
+        Some(number) => number,
+        None => unreachable!(),
+    }
 }
 
 /// The device may become manager: it has a link and contends.

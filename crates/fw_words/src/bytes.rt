@@ -1,4 +1,4 @@
-ghost use Rattle.std.specs.Prelude.{◌≡◌, ◌<◌, ◌≤◌, ◌+◌, [], ◌∷◌, ◌++◌, length};
+ghost use Rattle.std.specs.Prelude.{◌≡◌, ◌<◌, ◌≤◌, ◌+◌, ◌-◌, [], ◌∷◌, ◌++◌, length, take};
 
 use arrayvec::ArrayVec;
 use std::marker::Model;
@@ -52,6 +52,28 @@ impl<const N: usize> Bytes<N> {
         ensures { self.new ≡ self.old ++ more.now }
     {
         let _ = self.bytes.try_extend_from_slice(more);
+    }
+
+    /// Takes all bytes away. The work grows with the bytes that were held, and not with the room.
+    pub fn clear(&mut self)
+        ensures { self.new ≡ [] }
+    {
+        self.bytes.clear();
+    }
+
+    /// Puts the bytes of two slices in place of what was there, as many as there is room for.
+    pub fn join(&mut self, front: &[u8], back: &[u8])
+        requires { length front.now ≤ N }
+        ensures { self.new ≡ front.now ++ take (N - length front.now) back.now }
+    {
+        self.bytes.clear();
+        self.append(front);
+        let room = N - front.len();
+        self.append(if back.len() < room {
+            back
+        } else {
+            &back[..room]
+        });
     }
 
     /// All bytes.

@@ -5,7 +5,7 @@ ghost use Rattle.fw_run.specs.Rules as Rules;
 ghost use Rattle.fw_bus.specs.Stands.{view_in, MayCarry, read_in};
 ghost use Rattle.fw_run.specs.Run.{AccessFits};
 
-use crate::Machine;
+use crate::machine::Machine;
 use crate::packets::CSR_SPACE;
 use fw_run::{Access, Order, RuleFault, Transaction};
 use fw_script::Name;

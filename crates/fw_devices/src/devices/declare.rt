@@ -47,7 +47,8 @@ impl Devices {
             Ok(device) => device,
             Err(_) => unreachable!(),
         };
-        self.names.push(name.copied()).unwrap();
+        self.bus.current = false;
+        self.names.push(name);
         self.nodes.push(first_node(kind, device, speed)).unwrap();
     }
 
@@ -65,6 +66,7 @@ impl Devices {
         ensures joined { IsJoined self.old.topology self.new.topology a b }
         ensures same { self.new ≡ record self.old { topology = self.new.topology } }
     {
+        self.bus.current = false;
         match self.cabling.join(a, b) {
             Ok(()) => {}
             Err(_) => unreachable!(),

@@ -1,22 +1,32 @@
 //! Requests at the nodes that devices are.
 
-ghost use Rattle.std.specs.Prelude.{◌≡◌, ◌<◌, ℕ, Some, IsSome, IsTrue, length, slice_set};
+ghost use Rattle.std.specs.Prelude.{◌≡◌, ◌<◌, ℕ, Some, IsSome, IsTrue, length, map, slice_set};
 ghost use Rattle.fw_async.specs.Async.{Fits};
 ghost use Rattle.fw_base.specs.Devices.{has_link};
 ghost use Rattle.fw_csr.specs.declared.request.Request.TheVariants.{Read};
 ghost use Rattle.fw_node.specs.Packets.{request_in, response_of};
 ghost use Rattle.fw_node.specs.Space.{answer_of};
-ghost use Rattle.fw_node.specs.State.{after_request, space_of};
+ghost use Rattle.fw_node.specs.State.{after_request, after_second, space_of};
 ghost use Rattle.fw_devices.specs.Network.{node_at};
 
 use super::Devices;
 use fw_async::Packet;
 use fw_csr::Reply;
+use fw_node::Node;
+
+// The second is over for each of the nodes.
+fn end_second(nodes: &mut [Node])
+    ensures { nodes.new ≡ map after_second nodes.old }
+{
+    for node in nodes.iter_mut() {
+        node.second_over();
+    }
+}
 
 impl Devices {
     /// Carries a request packet to the node of a device out in cycle `now`, and gives the response packet
     /// (`fw_node::Node::answer`).
-    pub fn answer(&mut self, device: u8, now: u64, packet: &Packet) -> Packet
+    pub fn answer(&mut self, device: u8, now: u64, packet: &Packet) -> Packet<'static>
         requires request { IsSome (request_in packet.now) }
         requires declared { device < length self.old.nodes }
         requires number { IsSome (node_at self.old.nodes device).number }
@@ -25,7 +35,7 @@ impl Devices {
         ensures registers { self.new ≡ record self.old { nodes = slice_set self.old.nodes device (after_request (request_in packet.now) (node_at self.old.nodes device)) } }
         ensures fits { Fits packet.now → Fits result }
     {
-        self.nodes[usize::from(device)].answer(now, packet)
+        self.nodes[usize::from(device)].carry_out(now, packet)
     }
 
     /// What a quadlet read of the register at an offset of a device's node would be answered in cycle `now`.
@@ -37,12 +47,10 @@ impl Devices {
         self.nodes[usize::from(device)].read(now, offset)
     }
 
-    /// The second after a bus reset is over, for each node. No register changes.
+    /// The second after a bus reset is over, for each node: no plug lingers. No register changes.
     pub fn second_over(&mut self)
-        ensures { self.new ≡ self.old }
+        ensures { self.new ≡ record self.old { nodes = map after_second self.old.nodes } }
     {
-        for node in self.nodes.iter_mut() {
-            node.second_over();
-        }
+        end_second(&mut self.nodes);
     }
 }

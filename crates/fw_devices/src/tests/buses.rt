@@ -5,10 +5,9 @@ ghost use Rattle.fw_tree.specs.Cables.{IsOnBus};
 
 use crate::Devices;
 use fw_base::DeviceKind;
-use fw_log::ResetEntry;
 use fw_phy::read_phy;
 use fw_script::Name;
-use fw_tree::{End, TreeFault};
+use fw_tree::End;
 use std::process::Abort;
 use std::test::Fail;
 
@@ -17,10 +16,6 @@ pub type Declared<'a> = (&'a [u8], DeviceKind, u8, u8);
 
 /// A port of a device: the device and its port.
 pub type Port = (u8, u8);
-
-fn end((device, port): Port) -> End {
-    End { device, port }
-}
 
 /// The name that a word is.
 pub fn name_of(rt: &impl Abort, word: &[u8]) -> Name {
@@ -47,27 +42,18 @@ pub fn devices(rt: &(impl Abort + AllocGlobal), all: &[Declared]) -> Result<Devi
     Ok(devices)
 }
 
-/// The cable is refused for this.
-pub fn refused(rt: &impl Abort, devices: &Devices, a: Port, b: Port, fault: TreeFault) {
-    assert_eq!(rt;
-        devices.check_cable(end(a), end(b)),
-        Err(fault),
-        "{a:?}, {b:?}"
-    );
-}
-
 /// A bus reset that a device of the bus begins.
-pub fn reset(rt: &impl Abort, devices: &mut Devices, initiator: u8) -> ResetEntry
+pub fn reset(rt: &impl Abort, devices: &mut Devices, initiator: u8)
     requires { IsOnBus devices.old.topology.cables initiator }
     ensures { devices.new.topology ≡ devices.old.topology }
 {
     assert!(rt; initiator < devices.count());
     assert!(rt; devices.epoch() < 1000);
-    devices.reset(initiator)
+    devices.reset(initiator);
 }
 
 /// Joins two ports, the first of a device of the bus, which begins a bus reset.
-pub fn connect(rt: &impl Abort, devices: &mut Devices, a: Port, b: Port) -> ResetEntry
+pub fn connect(rt: &impl Abort, devices: &mut Devices, a: Port, b: Port)
     requires { IsOnBus devices.old.topology.cables a.0 }
     ensures reached { IsOnBus devices.new.topology.cables b.0 }
     ensures kept { (d : ℕ) → IsOnBus devices.old.topology.cables d → IsOnBus devices.new.topology.cables d }
@@ -86,15 +72,15 @@ pub fn connect(rt: &impl Abort, devices: &mut Devices, a: Port, b: Port) -> Rese
         Err(fault) => panic!(rt; "{fault} at {a:?}, {b:?}"),
     }
     devices.join(first, second);
-    reset(rt, devices, first.device)
+    reset(rt, devices, first.device);
 }
 
 /// The same from a port of device 0.
-pub fn connect_first(rt: &impl Abort, devices: &mut Devices, port: u8, b: Port) -> ResetEntry
+pub fn connect_first(rt: &impl Abort, devices: &mut Devices, port: u8, b: Port)
     ensures reached { IsOnBus devices.new.topology.cables b.0 }
     ensures kept { (d : ℕ) → IsOnBus devices.old.topology.cables d → IsOnBus devices.new.topology.cables d }
 {
-    connect(rt, devices, (0, port), b)
+    connect(rt, devices, (0, port), b);
 }
 
 /// Each device's number, 63 where it is no node.
@@ -109,18 +95,15 @@ pub fn numbers_are(rt: &impl Abort, devices: &Devices, numbers: &[u8]) {
     }
 }
 
-/// The devices that are the nodes of an entry, in order of node.
-pub fn nodes_are(rt: &impl Abort, entry: &ResetEntry, devices: &[u8]) {
-    let rows = entry.nodes.as_slice();
-    assert_eq!(rt; rows.len(), devices.len(), "nodes");
-    for (row, device) in rows.iter().zip(devices) {
+/// What the entry of the latest bus reset says: the devices of the nodes, in order, and the first quadlets of the self-ID packets.
+pub fn latest_is(rt: &impl Abort, devices: &Devices, nodes: &[u8], quadlets: &[u32]) {
+    let latest = devices.latest();
+    let rows = latest.get().nodes.as_slice();
+    assert_eq!(rt; rows.len(), nodes.len(), "nodes");
+    for (row, device) in rows.iter().zip(nodes) {
         assert_eq!(rt; row.device, *device);
     }
-}
-
-/// The first quadlets of the self-ID packets of an entry.
-pub fn self_ids_are(rt: &impl Abort, entry: &ResetEntry, quadlets: &[u32]) {
-    let packets = entry.ids.as_slice();
+    let packets = latest.get().ids.as_slice();
     assert_eq!(rt; packets.len(), quadlets.len(), "packets");
     for (packet, quadlet) in packets.iter().zip(quadlets) {
         let [a, b, c, d] = quadlet.to_be_bytes();

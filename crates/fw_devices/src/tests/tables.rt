@@ -4,7 +4,6 @@ use fw_async::{Head, Packet};
 use fw_base::DeviceKind;
 use fw_csr::{BANDWIDTH_AVAILABLE, Reply};
 use fw_plug::OPCR;
-use fw_tree::TreeFault;
 use std::process::Abort;
 use std::test::Fail;
 
@@ -21,78 +20,39 @@ const FOUR: [Declared<'static>; 4] = [
 ];
 
 #[test]
-fn a_computer_among_decks(rt: HostRuntime) -> Result<(), Fail> {
+fn bus_resets_show_the_bus(rt: HostRuntime) -> Result<(), Fail> {
     let mut devices = devices(&rt, &FOUR)?;
     numbers_are(&rt, &devices, &[63, 63, 63, 63]);
-    assert_eq!(rt; devices.manager(), None);
-
-    let entry = connect_first(&rt, &mut devices, 0, (1, 0));
+    latest_is(&rt, &devices, &[], &[]);
+    connect_first(&rt, &mut devices, 0, (1, 0));
     numbers_are(&rt, &devices, &[0, 1, 63, 63]);
-    self_ids_are(&rt, &entry, &[0x807F_8896, 0x817F_00C0]);
+    latest_is(&rt, &devices, &[0, 1], &[0x807F_8896, 0x817F_00C0]);
     assert_eq!(rt; devices.manager(), Some(0));
 
     connect_first(&rt, &mut devices, 1, (2, 0));
-    numbers_are(&rt, &devices, &[2, 0, 1, 63]);
-    assert_eq!(rt; devices.manager(), Some(0));
-
-    let entry = connect(&rt, &mut devices, (2, 1), (3, 0));
+    connect(&rt, &mut devices, (2, 1), (3, 0));
     numbers_are(&rt, &devices, &[1, 0, 3, 2]);
-    nodes_are(&rt, &entry, &[1, 0, 3, 2]);
-    self_ids_are(
+    latest_is(
         &rt,
-        &entry,
+        &devices,
+        &[1, 0, 3, 2],
         &[0x807F_0080, 0x817F_88E4, 0x827F_0880, 0x837F_08F2],
     );
-    assert_eq!(rt; entry.root, 3);
-    assert_eq!(rt; entry.manager, Some(3));
-    assert_eq!(rt; entry.initiator, 3);
-    assert_eq!(rt; entry.epoch, 3);
     assert_eq!(rt; devices.manager(), Some(2));
-    Ok(())
-}
 
-// Five decks in a row:
-//
-//     a 1---0 b 1---0 c 1---0 d 1---0 e
-#[test]
-fn five_decks_in_a_row(rt: HostRuntime) -> Result<(), Fail> {
-    let names: [&[u8]; 5] = [b"a", b"b", b"c", b"d", b"e"];
-    let mut devices = devices(&rt, &names.map(|name| (name, DeviceKind::Deck, 2, 0)))?;
-    connect_first(&rt, &mut devices, 1, (1, 0));
-    connect(&rt, &mut devices, (1, 1), (2, 0));
-    connect(&rt, &mut devices, (2, 1), (3, 0));
-    let entry = connect(&rt, &mut devices, (3, 1), (4, 0));
-    numbers_are(&rt, &devices, &[0, 1, 4, 3, 2]);
-    nodes_are(&rt, &entry, &[0, 1, 4, 3, 2]);
-    self_ids_are(
+    // Of the same cables another device begins a bus reset: bit 30 moves from node 3 to node 1.
+    reset(&rt, &mut devices, 0);
+    latest_is(
         &rt,
-        &entry,
-        &[
-            0x807F_0860,
-            0x817F_08E0,
-            0x827F_0890,
-            0x837F_08B2,
-            0x847F_08F0,
-        ],
+        &devices,
+        &[1, 0, 3, 2],
+        &[0x807F_0080, 0x817F_88E6, 0x827F_0880, 0x837F_08F0],
     );
-    assert_eq!(rt; entry.root, 4);
-    assert_eq!(rt; devices.manager(), Some(2));
-
-    refused(&rt, &devices, (0, 0), (4, 1), TreeFault::Loop);
-    refused(&rt, &devices, (0, 1), (4, 1), TreeFault::PortUsed);
-    refused(&rt, &devices, (0, 2), (4, 1), TreeFault::NoPort);
-    refused(&rt, &devices, (0, 0), (5, 0), TreeFault::NoPort);
-    Ok(())
-}
-
-#[test]
-fn relays_alone_have_no_manager(rt: HostRuntime) -> Result<(), Fail> {
-    let relay: Declared = (b"relay", DeviceKind::Relay, 2, 0);
-    let mut devices = devices(&rt, &[relay, relay])?;
-    let entry = connect_first(&rt, &mut devices, 1, (1, 0));
-    numbers_are(&rt, &devices, &[0, 1]);
-    assert_eq!(rt; entry.manager, None);
-    assert_eq!(rt; devices.manager(), None);
+    let latest = devices.latest();
+    assert_eq!(rt; latest.get().epoch, 4);
+    assert_eq!(rt; latest.get().root, 3);
+    assert_eq!(rt; latest.get().manager, Some(3));
+    assert_eq!(rt; latest.get().initiator, 1);
     Ok(())
 }
 
@@ -120,7 +80,7 @@ const REQUEST: Packet = Packet::ReadQuadlet {
     offset: BANDWIDTH_AVAILABLE,
 };
 
-fn answer(rt: &impl Abort, devices: &mut Devices, device: u8, packet: &Packet) -> Packet {
+fn answer(rt: &impl Abort, devices: &mut Devices, device: u8, packet: &Packet) -> Packet<'static> {
     assert!(rt; matches!(packet, Packet::ReadQuadlet { .. }));
     assert!(rt; device < devices.count());
     assert!(rt; devices.number(device).is_some());

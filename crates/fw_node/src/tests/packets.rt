@@ -7,13 +7,13 @@ ghost use Rattle.fw_base.specs.Devices.{has_link};
 use super::requests::{NOW, node_of};
 use crate::Node;
 use arrayvec::ArrayVec;
-use fw_async::{Packet, PacketReader, write_packet};
+use fw_async::{Packet, read_packet, write_packet};
 use fw_base::DeviceKind;
 use fw_words::{Quadlet, put_quadlet};
 use std::process::Abort;
 
 /// The bytes of these quadlets.
-fn bytes_of(words: &[u32]) -> ArrayVec<u8, 528> {
+pub fn bytes_of(words: &[u32]) -> ArrayVec<u8, 528> {
     let mut bytes = ArrayVec::new();
     for &word in words {
         let _ = bytes.try_extend_from_slice(&put_quadlet(Quadlet(word)));
@@ -21,12 +21,11 @@ fn bytes_of(words: &[u32]) -> ArrayVec<u8, 528> {
     bytes
 }
 
-/// The packet that these quadlets are.
-fn packet_of(words: &[u32]) -> Option<Packet>
+/// The packet that these bytes are.
+pub fn packet_of<'a>(bytes: &'a [u8]) -> Option<Packet<'a>>
     ensures { IfSome result Fits }
 {
-    let mut reader = PacketReader::new();
-    match reader.feed(bytes_of(words).as_slice()) {
+    match read_packet(bytes) {
         Ok(fed) => fed.packet,
         Err(_) => None,
     }
@@ -39,13 +38,14 @@ fn exchange(rt: &impl Abort, node: &mut Node, request: &[u32], response: &[u32])
     ensures number { IsSome node.new.number }
     ensures link { IsTrue (has_link node.new.kind) }
 {
-    let p = match packet_of(request) {
+    let request = bytes_of(request);
+    let p = match packet_of(request.as_slice()) {
         Some(p) => p,
         None => panic!(rt; "no packet"),
     };
     assert!(rt; matches!(p, Packet::ReadQuadlet { .. } | Packet::Lock { .. }));
     let mut bytes = ArrayVec::new();
-    write_packet(&node.answer(NOW, &p), &mut bytes);
+    write_packet(&node.carry_out(NOW, &p), &mut bytes);
     assert_eq!(rt; bytes.as_slice(), bytes_of(response).as_slice());
 }
 

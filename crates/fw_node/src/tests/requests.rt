@@ -1,13 +1,13 @@
 //! Nodes of each kind, and requests to them.
 
-ghost use Rattle.std.specs.Prelude.{IsSome, IsTrue};
+ghost use Rattle.std.specs.Prelude.{◌≡◌, None, IsSome, IsTrue};
 ghost use Rattle.fw_base.specs.Devices.{has_link};
 
 use crate::Node;
 use fw_async::{Head, Packet};
 use fw_base::DeviceKind;
 use fw_csr::REGISTER_SPACE;
-use fw_words::{Bytes, Quadlet, put_quadlet, quadlet_at};
+use fw_words::{Bytes, Data, Quadlet, put_quadlet, quadlet_at};
 
 /// The cycle of each request.
 pub const NOW: u64 = 8001;
@@ -17,6 +17,7 @@ pub fn node_of(kind: DeviceKind) -> Node
     requires { IsTrue (has_link kind) }
     ensures number { IsSome result.number }
     ensures link { IsTrue (has_link result.kind) }
+    ensures given { result.waiting ≡ None }
 {
     let (device, rate, number, manager) = match kind {
         DeviceKind::Camcorder => (0, 1, 0, false),
@@ -48,7 +49,7 @@ pub fn read(node: &mut Node, offset: u16) -> Option<(u8, u32)>
         head: HEAD,
         offset: REGISTER_SPACE + u64::from(offset),
     };
-    match node.answer(NOW, &p) {
+    match node.carry_out(NOW, &p) {
         Packet::ReadQuadletReply { rcode, value, .. } => Some((rcode, value)),
         _ => None,
     }
@@ -73,7 +74,7 @@ pub fn lock(node: &mut Node, offset: u16, function: u8, words: &[u32]) -> Option
         function,
         bytes,
     };
-    match node.answer(NOW, &p) {
+    match node.carry_out(NOW, &p) {
         Packet::LockReply { rcode, bytes, .. } => {
             let old = bytes.as_slice();
             if old.len() == 4 {
@@ -101,14 +102,12 @@ pub fn writes(node: &mut Node, offset: u16) -> Option<(u8, u8)>
         offset,
         value: 0x0020_C375,
     };
-    let mut bytes = Bytes::new();
-    bytes.append(&[0x00, 0xFF]);
     let block = Packet::WriteBlock {
         head: HEAD,
         offset,
-        bytes,
+        bytes: Data::new(&[0x00, 0xFF]),
     };
-    match (node.answer(NOW, &quadlet), node.answer(NOW, &block)) {
+    match (node.carry_out(NOW, &quadlet), node.carry_out(NOW, &block)) {
         (Packet::WriteReply { rcode: first, .. }, Packet::WriteReply { rcode: second, .. }) => {
             Some((first, second))
         }
@@ -128,7 +127,7 @@ pub fn read_block(node: &mut Node, offset: u16) -> Option<u8>
         offset: REGISTER_SPACE + u64::from(offset),
         length: 4,
     };
-    match node.answer(NOW, &p) {
+    match node.carry_out(NOW, &p) {
         Packet::ReadBlockReply { rcode, bytes, .. } if bytes.as_slice().is_empty() => Some(rcode),
         _ => None,
     }

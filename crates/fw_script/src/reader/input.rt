@@ -1,75 +1,66 @@
 //! The bytes of a script, taken from their source.
 
-ghost use Rattle.std.specs.Prelude.{◌≡◌, ◌≤◌, [], true, false, OnOk, OnErr, vec_len, vec_capacity};
-ghost use Rattle.fw_outside.specs.Outside.{HasCause, Rose, Takes, IsAtEnd};
-ghost use Rattle.fw_script.specs.Reader.{IsOpen, Fills};
+ghost use Rattle.std.specs.Prelude.{◌≡◌, ◌≢◌, ◌≤◌, ◌+◌, ◌++◌, ◌==◌, length, true, OnOk, OnErr, Err, vec_len, vec_capacity};
+ghost use Rattle.fw_outside.specs.Outside.{Rose};
+ghost use Rattle.fw_script.specs.Reader.{IsOpen, IsCut, Fills};
+ghost use Rattle.fw_script.specs.Reading.{with_taken, at_stage};
 
 use super::ScriptReader;
 use crate::ScriptFault;
-use crate::line::SCRIPT_LIMIT;
+use crate::line::LINE_LIMIT;
 use crate::stage::Stage;
-use fw_outside::{Failed, Source};
+use fw_outside::Source;
+use fw_words::Bytes;
 
 /// How many bytes are asked for at once.
 const PIECE: usize = 4096;
 
-/// Takes all that is left, or one byte more than a script may have.
-fn take_script<S: Source>(source: &mut S, bytes: &mut Vec<u8>) -> Result<(), Failed>
-    requires empty { bytes.old.items ≡ [] }
-    requires room { 1048577 ≤ vec_capacity bytes.old }
-    ensures taken { Takes (S.left source.old) (S.left source.new) bytes.new.items }
-    ensures size { vec_len bytes.new ≤ 1048577 }
-    ensures kept { 1048577 ≤ vec_capacity bytes.new }
-    ensures end { OnOk result (vec_len bytes.new ≤ 1048576 → IsAtEnd (S.left source.new)) }
-    ensures cause { HasCause (S.faults source.old) (S.faults source.new) result }
+/// How many bytes are held at most: the front of a line, and those that were asked for behind it.
+pub(super) const HELD_LIMIT: usize = LINE_LIMIT + PIECE;
+
+/// Appends bytes for which there is room.
+fn put(bytes: &mut Vec<u8>, more: &[u8])
+    requires room { vec_len bytes.old + length more.now ≤ vec_capacity bytes.old }
+    ensures items { bytes.new.items ≡ bytes.old.items ++ more.now }
+    ensures len { vec_len bytes.new ≡ vec_len bytes.old + length more.now }
+    ensures kept { vec_capacity bytes.old ≤ vec_capacity bytes.new }
 {
-    let mut piece = [0; PIECE];
-    while bytes.len() <= SCRIPT_LIMIT {
-        let room = (SCRIPT_LIMIT + 1 - bytes.len()).min(PIECE);
-        let count = source.read(&mut piece[..room])?;
-        if count == 0 {
-            return Ok(());
-        }
-        if bytes.extend_from_slice(&piece[..count]).is_err() {
-            unreachable!();
-        }
+    if bytes.extend_from_slice(more).is_err() {
+        unreachable!();
     }
-    Ok(())
 }
 
 impl ScriptReader {
-    // Takes the bytes from the source.
-    fn take<S: Source>(&mut self, source: &mut S) -> Result<(), ScriptFault>
-        requires open { IsOpen self.old.stage }
-        requires empty { (self.old.rest ≡ []) × (self.old.before ≡ 0) × (self.old.whole ≡ false) }
-        ensures fills { Fills self.old (S.left source.old) (S.left source.new) result self.new }
-        ensures later { S.faults source.old ≤ S.faults source.new }
-        ensures cause { OnErr result (Rose (S.faults source.old) (S.faults source.new)) }
+    // Puts bytes behind the front of a line that is held. No bytes are the source's end.
+    fn hold(&mut self, piece: &[u8])
+        requires cut { IsCut self.old }
+        requires few { length piece.now ≤ 4096 }
+        ensures { self.new ≡ with_taken self.old piece.now (length piece.now == 0) }
     {
-        match take_script(source, &mut self.bytes) {
-            Ok(()) => {
-                self.whole = self.bytes.len() <= SCRIPT_LIMIT;
-                Ok(())
-            }
-            Err(_) => {
-                self.stage = Stage::Failed;
-                Err(ScriptFault::ReadFault)
-            }
-        }
+        let mut front = Bytes::<256>::new();
+        front.append(&self.bytes[self.at..]);
+        self.bytes.clear();
+        put(&mut self.bytes, front.as_slice());
+        put(&mut self.bytes, piece);
+        self.at = 0;
+        self.whole = piece.is_empty();
     }
 
-    // Takes the bytes from the source where that was not done.
-    pub(super) fn fill<S: Source>(&mut self, source: &mut S) -> Result<(), ScriptFault>
-        requires { IsOpen self.old.stage }
+    // Takes bytes from the source, behind the front of a line that is held.
+    pub(super) fn take<S: Source>(&mut self, source: &mut S) -> Result<(), ScriptFault>
+        requires open { IsOpen self.old.stage }
+        requires cut { IsCut self.old }
         ensures fills { Fills self.old (S.left source.old) (S.left source.new) result self.new }
-        ensures stage { OnOk result (self.new.stage ≡ self.old.stage) }
-        ensures same { self.old.whole ≡ true → source.new ≡ source.old }
         ensures later { S.faults source.old ≤ S.faults source.new }
         ensures cause { OnErr result (Rose (S.faults source.old) (S.faults source.new)) }
+        ensures unfailed { OnOk result (S.faults source.new ≡ S.faults source.old) }
     {
-        if self.is_filled() {
-            return Ok(());
-        }
-        self.take(source)
+        let mut piece = [0; PIECE];
+        let Ok(count) = source.read(&mut piece) else {
+            self.enter(Stage::Failed);
+            return Err(ScriptFault::ReadFault);
+        };
+        self.hold(&piece[..count]);
+        Ok(())
     }
 }

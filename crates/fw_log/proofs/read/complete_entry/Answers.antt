@@ -2,9 +2,6 @@ use Rattle.std.proofs.Common.{arith}
 use Rattle.fw_log.proofs.EntryLaws.{entry_is, kind_of_complete, size_of_complete, long_of_complete, complete_ok, complete_err}
 use Rattle.fw_log.proofs.read.complete_entry.Goals as goal
 
-pub entry_of-requires-clause-built : goal.entry_of-requires-clause-built
-entry_of-requires-clause-built c = rw (entry_is c.args.stand.start c.skip-at.result c.args.bytes.now c.rest-entry.result.now c.skip-at.ensures c.rest-entry.ensures) c.requires.head.head.built
-
 pub entry_of-requires-clause-kind : goal.entry_of-requires-clause-kind
 entry_of-requires-clause-kind c = kind_of_complete c.args.stand c.args.bytes.now c.rest-entry.result.now (entry_is c.args.stand.start c.skip-at.result c.args.bytes.now c.rest-entry.result.now c.skip-at.ensures c.rest-entry.ensures) c.requires.head
 

@@ -1,6 +1,6 @@
 use Rattle.std.proofs.Common.{◌≡◌, ◌∷◌, [], length, arith, sym, ap, ◌∙◌}
 use Rattle.fw_words.specs.Layout.{packed}
-use Rattle.fw_log.specs.Log.{quads}
+use Rattle.fw_entry.specs.Log.{quads}
 use Rattle.fw_log.proofs.FieldLaws.{two_quads, event_shape, event_quad}
 use Rattle.fw_log.proofs.read_body.event_of.Goals as goal
 

@@ -1,5 +1,5 @@
 use Rattle.std.proofs.Common.{◌≡◌, ℕ, ◌<◌, slice_index}
-use Rattle.fw_log.specs.Log.{devices}
+use Rattle.fw_entry.specs.Log.{devices}
 use Rattle.fw_log.proofs.read_reset.are_apart.Given as goal
 
 abbrev pub invariant-loop-i : goal.invariant-loop-i

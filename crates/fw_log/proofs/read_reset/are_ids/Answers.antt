@@ -1,6 +1,6 @@
 use Rattle.std.proofs.Common.{◌+◌, None, drop}
 use Rattle.std.proofs.lemmas.List.{get_or_default}
-use Rattle.fw_log.specs.Log.{are_ids}
+use Rattle.fw_entry.specs.Log.{are_ids}
 use Rattle.fw_log.proofs.ResetLaws.{ids_stop}
 use Rattle.fw_log.proofs.read_reset.are_ids.Goals as goal
 

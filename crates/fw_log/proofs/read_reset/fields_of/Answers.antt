@@ -1,7 +1,7 @@
 use Rattle.std.proofs.Common.{◌+◌, ◌*◌, length, take, drop, arith, sym, ap, ◌∙◌}
 use Rattle.std.proofs.lemmas.List.{take_rest}
 use Rattle.fw_words.specs.Quadlet.{field}
-use Rattle.fw_log.specs.Log.{manager_byte}
+use Rattle.fw_entry.specs.Log.{manager_byte}
 use Rattle.fw_log.proofs.ResetLaws.{second_back, body_back}
 use Rattle.fw_log.proofs.read_reset.fields_of.Goals as goal
 

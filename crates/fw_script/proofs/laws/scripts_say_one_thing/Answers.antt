@@ -1,6 +1,6 @@
 use Rattle.fw_script.proofs.FormLaws.{one_form}
 use Rattle.fw_script.proofs.GivesLaws.{gives_once}
-use Rattle.fw_script.proofs.ScriptLaws.{says_once, script_limit}
+use Rattle.fw_script.proofs.ScriptLaws.{says_once, script_limit, begins_first, first_begins}
 use Rattle.fw_script.proofs.PiecesLaws.{pieces_part}
 use Rattle.fw_script.proofs.laws.scripts_say_one_thing.Goals as goal
 
@@ -18,3 +18,9 @@ returns-clause-limit c = script_limit
 
 pub returns-clause-pieces : goal.returns-clause-pieces
 returns-clause-pieces c = pieces_part
+
+pub returns-clause-first : goal.returns-clause-first
+returns-clause-first c = begins_first
+
+pub returns-clause-beginning : goal.returns-clause-beginning
+returns-clause-beginning c = first_begins

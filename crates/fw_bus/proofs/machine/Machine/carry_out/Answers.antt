@@ -12,7 +12,7 @@ returns-in-Broadcast g c =
 pub returns-in-Show : goal.returns-in-Show
 returns-in-Show g c =
     let may = subst (λ o. MayCarry c.args.self.now o) c.in-Show.is c.requires.may in
-    record { does = rw c.in-Show.is (does_one _ _ _ (show_turns _ _ _ _ may.0 may.1 may.3) (rw c.shown_entry.ensures.value at c.give.ensures.bytes) c.give.ensures.cause) }
+    record { does = rw c.in-Show.is (does_one _ _ _ (show_turns _ _ _ _ may.0 may.1 may.3) (rw c.shown_entry-entry.ensures.value at c.give.ensures.bytes) c.give.ensures.faults) }
 
 pub returns-in-End : goal.returns-in-End
-returns-in-End g c = record { does = rw c.in-End.is (does_one _ _ _ (finish_turns _) c.give-in-End.ensures.bytes c.give-in-End.ensures.cause) }
+returns-in-End g c = record { does = rw c.in-End.is (does_one _ _ _ (finish_turns _) c.give-in-End.ensures.bytes c.give-in-End.ensures.faults) }

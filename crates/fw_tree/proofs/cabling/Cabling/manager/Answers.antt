@@ -1,23 +1,23 @@
 use Rattle.std.proofs.Common.{◌≡◌, ◌<◌, ◌+◌, ◌∙◌, ℕ, Option, subst, sym, arith, true}
 use Rattle.fw_tree.specs.Topology.{Topology}
-use Rattle.fw_tree.specs.Numbers.{has_number}
+use Rattle.fw_tree.specs.Numbers.{has_number, device_at}
 use Rattle.fw_tree.specs.Numbering.{IsManager, IsGreatest}
-use Rattle.fw_tree.proofs.NumberingLaws.{low_of, greatest_first, greatest_yes, greatest_no, manager_of}
+use Rattle.fw_tree.proofs.NumberingLaws.{low_of, count_most, greatest_first, greatest_yes, greatest_no, manager_of}
 use Rattle.fw_tree.proofs.cabling.Cabling.manager.Goals as goal
 use Rattle.fw_tree.proofs.cabling.Cabling.manager.Goals.{then-contends, else-contends}
 
 pub loop-node-init : goal.loop-node-init
 loop-node-init c = greatest_first c.self.inside.facts c.args.n.now.number
 
-pub device_with-device-requires : goal.device_with-device-requires
-device_with-device-requires c = c.requires.nodes.taken c.loop-node.node (omega arith)
+pub devices_of-devices-requires : goal.devices_of-devices-requires
+devices_of-devices-requires c = record { nodes = c.requires.nodes; few = count_most c.args.self.now c.args.n.now c.requires }
 
 pub loop-node-preserved : goal.loop-node-preserved
 loop-node-preserved c =
     let fs = c.self.inside.facts in
     let number = c.args.n.now.number in
-    let d = c.device_with-device.result in
-    let at = c.device_with-device.ensures.number in
+    let d = device_at c.devices_of-devices.result c.loop-node.node in
+    let at = c.devices_of-devices.ensures.devices c.loop-node.node c.loop-node-test.true in
     let P : Option ℕ → Type 0 = IsGreatest fs number (c.loop-node.node + 1) in
     elim c.if-contends.branch [
       | then-contends w ↦ subst P (sym w.manager-is) (greatest_yes fs number d c.loop-node.node at (sym c.contends.ensures ∙ w.if-contends.true))
@@ -31,3 +31,6 @@ returns c =
     let P : ℕ → Type 0 = λ n. IsGreatest c.self.inside.facts c.args.n.now.number n c.loop-node.manager in
     let Q : Topology → Type 0 = λ p. IsManager p.devices c.args.n.now.number c.loop-node.manager in
     subst Q c.self.view_is (manager_of c.self.inside.facts c.args.n.now.number c.self.inside.count c.args.n.now.count c.loop-node.manager low c.requires.nodes (subst P all c.loop-node.invariant))
+
+pub bounds-devices-node : goal.bounds-devices-node
+bounds-devices-node c = let most = count_most c.args.self.now c.args.n.now c.requires in omega arith

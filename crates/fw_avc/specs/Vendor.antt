@@ -1,0 +1,9 @@
+-- What a vendor makes of bytes, behind bytes that are there.
+use Rattle.std.specs.Prelude.{◌≡◌, ℕ, List, ◌++◌}
+use Rattle.fw_tape.specs.Desks.{VendorRelation}
+use Rattle.fw_avc.specs.Replies.{Makes}
+
+pub record AddsMade (V : VendorRelation) (asked before after : List ℕ) : Type 0 where
+  pub made : List ℕ
+  pub makes : Makes V asked made
+  pub added : after ≡ before ++ made

@@ -1,0 +1,47 @@
+ghost use Rattle.std.specs.Prelude.{◌≤◌, ◌+◌, length};
+ghost use Rattle.fw_tape.specs.Desks.{AnyVendorByte};
+ghost use Rattle.fw_avc.specs.Replies.{IsVendorResponse};
+ghost use Rattle.fw_avc.specs.Vendor.{AddsMade};
+
+use fw_fcp::{ACCEPTED, Frame, Operands};
+use fw_tape::Desk;
+
+/// The unit's company ID, an invented one (own).
+const COMPANY: u32 = 0xA0B0C0;
+
+/// The response to VENDOR DEPENDENT of the unit's company: behind the company, what the vendor makes of each byte.
+pub(crate) fn vendor_dependent<F: Fn(u16, u32, u16) -> [u8; 480], H: Fn(u32, u8) -> u8>(
+    f: &Frame,
+    desk: &Desk<F, H>,
+) -> Frame
+    requires desk { AnyVendorByte (H.pre desk.now.vendor) }
+    requires company { 3 ≤ length f.now.operands }
+    ensures { IsVendorResponse (H.post desk.now.vendor) f.now result }
+{
+    let asked = &f.operands.as_slice()[3..];
+    let mut operands = Operands::new();
+    operands.append(&[0xA0, 0xB0, 0xC0]);
+    append_made(&mut operands, asked, desk);
+    Frame {
+        code: ACCEPTED,
+        kind: f.kind,
+        id: f.id,
+        opcode: f.opcode,
+        operands,
+    }
+}
+
+/// Appends what the vendor makes of each byte.
+fn append_made<F: Fn(u16, u32, u16) -> [u8; 480], H: Fn(u32, u8) -> u8>(
+    operands: &mut Operands,
+    asked: &[u8],
+    desk: &Desk<F, H>,
+)
+    requires desk { AnyVendorByte (H.pre desk.now.vendor) }
+    requires room { length operands.old + length asked.now ≤ 509 }
+    ensures { AddsMade (H.post desk.now.vendor) asked.now operands.old operands.new }
+{
+    for byte in asked {
+        operands.push(desk.vendor_byte(COMPANY, *byte));
+    }
+}

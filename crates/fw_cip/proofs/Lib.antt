@@ -1,0 +1,4 @@
+pub mod ReadLaws
+pub mod SpelledLaws
+pub mod SameLaws
+pub mod StreamLaws

@@ -1,0 +1,2 @@
+pub mod Iso
+pub mod Streams

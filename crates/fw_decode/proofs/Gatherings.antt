@@ -1,0 +1,215 @@
+-- The entries of a piece are taken, and their text is gathered.
+use Rattle.std.proofs.Common.{◌≡◌, ℕ, ◌+◌, ◌-◌, ◌/◌, ◌^◌, ◌≤◌, ◌<◌, ◌==◌, if◌then◌else◌, List, [], ◌∷◌, ◌++◌, length, take, drop, Option, Some, None, Ok, Err, IfNone, arith, refl, ap, sym, subst, ◌∙◌, append_assoc, length-append, take-add}
+use Rattle.std.proofs.lemmas.Bool.Decides.{nat_tests}
+use Rattle.std.proofs.lemmas.List.{append-nil, take_at, drop_at, take_all, take-append-drop, nil_from_length, length-drop}
+use Rattle.fw_entry.specs.Log.{Fits, header_bytes, entry_bytes, entry_head, kind_of, body}
+use Rattle.fw_entry.specs.declared.entry.Timed.{Timed}
+use Rattle.fw_log.specs.Reading.{IsPending, Faulty, Spells, header_at}
+use Rattle.fw_log.specs.Reader.{State, Feeds, FeedsTo, ShowsFault, total}
+use Rattle.fw_log.specs.History.{bytes_of, HasRead, BeginsNoLog, ReadsTo, ReadsOn}
+use Rattle.fw_log.specs.declared.stand.Stand.{Stand}
+use Rattle.fw_log.specs.declared.read.LogFed.{LogFed}
+use Rattle.fw_log.specs.declared.LogFault.{LogFault}
+use Rattle.fw_log.proofs.HistoryLaws.{dead}
+use Rattle.fw_decode.specs.Pieces.{IsBetween, Gathers, GathersUpTo, GatheredTo}
+use Rattle.fw_decode.proofs.Texts.{IsEach, few_by}
+
+pub gathered_first : {text : List Timed → List ℕ} (e : IsEach text) (Took : List Timed → Type 0) (old : List ℕ) (entries : List Timed) (bytes piece : List ℕ) (r : State) → HasRead entries bytes r → Took entries
+    → GatheredTo text Took old old entries bytes piece piece r
+gathered_first {text} e Took old entries bytes piece r h t =
+    let P : List Timed → Type 0 = λ es. HasRead es bytes r in
+    let Q : List ℕ → Type 0 = λ b. HasRead (entries ++ []) b r in
+    record {
+      done = [];
+      parts = refl;
+      gathers = record {
+        more = [];
+        read = subst Q (sym (append-nil bytes)) (subst P (sym (append-nil entries)) h);
+        took = subst Took (sym (append-nil entries)) t;
+        gathered = sym (ap (λ (x : List ℕ). old ++ x) e.none ∙ append-nil old);
+      };
+    }
+
+next : {text : List Timed → List ℕ} (e : IsEach text) {Took Took' : List Timed → Type 0} {old now now' : List ℕ} {entries : List Timed} {bytes piece rest : List ℕ} {r : State} (new : State) (used : ℕ) (more : List Timed) (p : GatheredTo text Took old now entries bytes piece rest r)
+    → HasRead (entries ++ (p.gathers.more ++ more)) ((bytes ++ p.done) ++ take used rest) new → Took' (entries ++ (p.gathers.more ++ more)) → now' ≡ now ++ text more → GatheredTo text Took' old now' entries bytes piece (drop used rest) new
+next {text} e {Took} {Took'} {old} {now} {now'} {entries} {bytes} {piece} {rest} {r} new used more p h t g =
+    let P : List ℕ → Type 0 = λ b. HasRead (entries ++ (p.gathers.more ++ more)) b new in
+    record {
+      done = p.done ++ take used rest;
+      parts = append_assoc p.done (take used rest) (drop used rest) ∙ ap (λ (x : List ℕ). p.done ++ x) (take-append-drop used rest) ∙ p.parts;
+      gathers = record {
+        more = p.gathers.more ++ more;
+        read = subst P (append_assoc bytes p.done (take used rest)) h;
+        took = t;
+        gathered = g ∙ ap (λ (x : List ℕ). x ++ text more) p.gathers.gathered ∙ append_assoc old (text p.gathers.more) (text more) ∙ ap (λ (x : List ℕ). old ++ x) (sym (e.more p.gathers.more more));
+      };
+    }
+
+none_by : (es : List Timed) (bs rest old : List ℕ) (s : Stand) (new : State) (used : ℕ) (o : Option Timed) → o ≡ None → FeedsTo s old rest used o new → ReadsTo es bs rest used o new → HasRead es (bs ++ take used rest) new
+none_by es bs rest old s new used None e f h =
+    let P : List ℕ → Type 0 = λ x. HasRead es (bs ++ x) new in
+    subst P (sym (take_all used rest (omega (arith, f.0)))) h
+none_by es bs rest old s new used (Some t) e f h = cc e
+
+some_by : (es : List Timed) (bs rest : List ℕ) (new : State) (used : ℕ) (o : Option Timed) (t : Timed) → o ≡ Some t → ReadsTo es bs rest used o new → HasRead (es ++ t ∷ []) (bs ++ take used rest) new
+some_by es bs rest new used None t e h = cc e
+some_by es bs rest new used (Some u) t e h =
+    let same : u ≡ t = cc e in
+    let P : Timed → Type 0 = λ x. HasRead (es ++ x ∷ []) (bs ++ take used rest) new in
+    subst P same h
+
+fits_by : (rest old : List ℕ) (s : Stand) (new : State) (used : ℕ) (o : Option Timed) (t : Timed) → o ≡ Some t → FeedsTo s old rest used o new → Fits t.what
+fits_by rest old s new used None t e f = cc e
+fits_by rest old s new used (Some u) t e f =
+    let same : u ≡ t = cc e in
+    let P : Timed → Type 0 = λ x. Fits x.what in
+    subst P same f.0.spells.fits.entry
+
+pub when_fresh : (P : Type 0) (o : Option LogFault) → o ≡ None → IfNone o P → P
+when_fresh P None e h = h
+when_fresh P (Some f) e h = cc e
+
+-- the rest of a slice
+pub rest_from : (xs : List ℕ) (n : ℕ) → take (length xs - n) (drop n xs) ≡ drop n xs
+rest_from xs n = take_all (length xs - n) (drop n xs) (omega (arith, length-drop n xs))
+
+fresh_by : (s : Stand) (old rest : List ℕ) (new : State) (used : ℕ) (o : Option Timed) → FeedsTo s old rest used o new → new.fault ≡ None
+fresh_by s old rest new used None f = ap (λ (r : State). r.fault) f.1
+fresh_by s old rest new used (Some t) f = ap (λ (r : State). r.fault) f.1
+
+pub stays_fresh : (s : Stand) (old rest : List ℕ) (new : State) (fed : LogFed) → Feeds s old rest (Ok fed) new → new.fault ≡ None
+stays_fresh s old rest new fed f = fresh_by s old rest new fed.used fed.entry f
+
+-- an entry that is given may be printed
+pub given_fits : (r new : State) (rest : List ℕ) (fed : LogFed) (t : Timed) → Feeds r.stand r.taken rest (Ok fed) new → fed.entry ≡ Some t → Fits t.what
+given_fits r new rest fed t f e = fits_by rest r.taken r.stand new fed.used fed.entry t e f
+
+-- ---- the bytes of an entry that lies whole in a piece
+
+no_header : (n : ℕ) → 0 < n → header_at n ≡ []
+no_header n some = by n header_bytes some
+  where
+    by : (n : ℕ) (h : List ℕ) → 0 < n → (if n == 0 then h else []) ≡ []
+    by n h some = grind (arith, nat_tests)
+
+body_behind : (t : Timed) → drop 12 (entry_bytes t) ≡ body t.what
+body_behind t = drop_at (entry_head (kind_of t.what) (length (body t.what) / 4) t.cycle) (body t.what) 12 refl
+
+body_by : (s : Stand) (rest : List ℕ) (new : State) (used : ℕ) (o : Option Timed) (t : Timed) → 0 < s.start → o ≡ Some t → FeedsTo s [] rest used o new → drop 12 (take used rest) ≡ body t.what
+body_by s rest new used None t some e f = cc e
+body_by s rest new used (Some u) t some e f =
+    let same : u ≡ t = cc e in
+    let line : entry_bytes u ≡ take used rest = ap (λ (x : List ℕ). x ++ entry_bytes u) (sym (no_header s.start some)) ∙ f.0.spells.same in
+    ap (drop 12) (sym line) ∙ body_behind u ∙ ap (λ (x : Timed). body x.what) same
+
+-- what lies behind the head of an entry between others is its body
+pub body_is : (r new : State) (rest : List ℕ) (fed : LogFed) (t : Timed) → IsBetween r → Feeds r.stand r.taken rest (Ok fed) new → fed.entry ≡ Some t → drop 12 (take fed.used rest) ≡ body t.what
+body_is r new rest fed t b f e =
+    let P : List ℕ → Type 0 = λ x. FeedsTo r.stand x rest fed.used fed.entry new in
+    body_by r.stand rest new fed.used fed.entry t b.past e (subst P b.none f)
+
+after_by : (s : Stand) (old rest : List ℕ) (new : State) (used : ℕ) (o : Option Timed) (t : Timed) → o ≡ Some t → FeedsTo s old rest used o new → IsBetween new
+after_by s old rest new used None t e f = cc e
+after_by s old rest new used (Some u) t e f =
+    let sp = f.0.spells.same in
+    record {
+      none = ap (λ (r : State). r.taken) f.1;
+      past = omega (arith, ap (λ (r : State). r.stand.start) f.1, ap length sp, length-append (header_at s.start) (entry_bytes u), length-append (entry_head (kind_of u.what) (length (body u.what) / 4) u.cycle) (body u.what));
+    }
+
+pub stands_between : (r new : State) (rest : List ℕ) (fed : LogFed) (t : Timed) → Feeds r.stand r.taken rest (Ok fed) new → fed.entry ≡ Some t → IsBetween new
+stands_between r new rest fed t f e = after_by r.stand r.taken rest new fed.used fed.entry t e f
+
+-- ---- one entry more, or none
+
+-- no entry ended in the rest of the piece
+pub gathered_none : {text : List Timed → List ℕ} (e : IsEach text) {Took : List Timed → Type 0} {old now : List ℕ} {entries : List Timed} {bytes piece rest : List ℕ} {r : State} (new : State) (fed : LogFed) (p : GatheredTo text Took old now entries bytes piece rest r)
+    → Feeds r.stand r.taken rest (Ok fed) new → ReadsOn (entries ++ p.gathers.more) (bytes ++ p.done) rest (Ok fed) new → fed.entry ≡ None → GatheredTo text Took old now entries bytes piece (drop fed.used rest) new
+gathered_none {text} e {Took} {old} {now} {entries} {bytes} {piece} {rest} {r} new fed p f h is =
+    let read = none_by (entries ++ p.gathers.more) (bytes ++ p.done) rest r.taken r.stand new fed.used fed.entry is f h in
+    let P : List Timed → Type 0 = λ x. HasRead x ((bytes ++ p.done) ++ take fed.used rest) new in
+    let Q : List Timed → Type 0 = λ x. Took (entries ++ x) in
+    let R : List Timed → Type 0 = λ x. HasRead (entries ++ x) ((bytes ++ p.done) ++ take fed.used rest) new in
+    next e new fed.used [] p (subst R (sym (append-nil p.gathers.more)) read) (subst Q (sym (append-nil p.gathers.more)) p.gathers.took) (sym (ap (λ (x : List ℕ). now ++ x) e.none ∙ append-nil now))
+
+-- an entry ended, and this is what was read then
+one_read : {text : List Timed → List ℕ} {Took : List Timed → Type 0} {old now : List ℕ} {entries : List Timed} {bytes piece rest : List ℕ} {r : State} (new : State) (fed : LogFed) (t : Timed) (p : GatheredTo text Took old now entries bytes piece rest r)
+    → ReadsOn (entries ++ p.gathers.more) (bytes ++ p.done) rest (Ok fed) new → fed.entry ≡ Some t → HasRead (entries ++ (p.gathers.more ++ t ∷ [])) ((bytes ++ p.done) ++ take fed.used rest) new
+one_read {text} {Took} {old} {now} {entries} {bytes} {piece} {rest} {r} new fed t p h is =
+    let P : List Timed → Type 0 = λ x. HasRead x ((bytes ++ p.done) ++ take fed.used rest) new in
+    subst P (append_assoc entries p.gathers.more (t ∷ [])) (some_by (entries ++ p.gathers.more) (bytes ++ p.done) rest new fed.used fed.entry t is h)
+
+-- fewer entries were read than bytes
+pub few_read : {text : List Timed → List ℕ} {Took : List Timed → Type 0} {old now : List ℕ} {entries : List Timed} {bytes piece rest : List ℕ} {r : State} (new : State) (fed : LogFed) (t : Timed) (p : GatheredTo text Took old now entries bytes piece rest r)
+    → ReadsOn (entries ++ p.gathers.more) (bytes ++ p.done) rest (Ok fed) new → fed.entry ≡ Some t → total new < 2 ^ 64 → length (entries ++ p.gathers.more) + 1 < 2 ^ 64
+few_read {text} {Took} {old} {now} {entries} {bytes} {piece} {rest} {r} new fed t p h is small =
+    let read = one_read new fed t p h is in
+    let start : new.stand.start ≡ length (bytes_of (entries ++ (p.gathers.more ++ t ∷ []))) = ap (λ (s : Stand). s.start) read.stand in
+    omega (arith, start, few_by (entries ++ (p.gathers.more ++ t ∷ [])), length-append entries p.gathers.more, length-append entries (p.gathers.more ++ t ∷ []), length-append p.gathers.more (t ∷ []))
+
+-- its text was gathered
+pub gathered_some : {text : List Timed → List ℕ} (e : IsEach text) {Took Took' : List Timed → Type 0} {old now now' : List ℕ} {entries : List Timed} {bytes piece rest : List ℕ} {r : State} (new : State) (fed : LogFed) (t : Timed) (p : GatheredTo text Took old now entries bytes piece rest r)
+    → ReadsOn (entries ++ p.gathers.more) (bytes ++ p.done) rest (Ok fed) new → fed.entry ≡ Some t → Took' ((entries ++ p.gathers.more) ++ t ∷ []) → now' ≡ now ++ text (t ∷ []) → GatheredTo text Took' old now' entries bytes piece (drop fed.used rest) new
+gathered_some {text} e {Took} {Took'} {old} {now} {now'} {entries} new fed t p h is took g =
+    next e new fed.used (t ∷ []) p (one_read new fed t p h is) (subst Took' (append_assoc entries p.gathers.more (t ∷ [])) took) g
+
+-- ---- a refused part
+
+taken_in : (old rest : List ℕ) (k : ℕ) → take (length old + k) (old ++ rest) ≡ old ++ take k rest
+taken_in old rest k =
+    take-add (length old) k (old ++ rest) ∙ ap (λ (t : List ℕ). t ++ take k (drop (length old) (old ++ rest))) (take_at old rest (length old) refl)
+    ∙ ap (λ (t : List ℕ). old ++ take k t) (drop_at old rest (length old) refl)
+
+taken_past : (old rest : List ℕ) (k : ℕ) → take (length old + k + 1) (old ++ rest) ≡ old ++ take (k + 1) rest
+taken_past old rest k =
+    let more : length old + k + 1 ≡ length old + (k + 1) = omega arith in
+    ap (λ (n : ℕ). take n (old ++ rest)) more ∙ taken_in old rest (k + 1)
+
+shown_in : (s : Stand) (old rest : List ℕ) (k : ℕ) (f : LogFault) → ShowsFault s old rest k f → ShowsFault s [] (old ++ rest) (length old + k) f
+shown_in s old rest k f h =
+    let P : List ℕ → Type 0 = IsPending s in
+    let Q : List ℕ → Type 0 = λ x. Faulty s x f in
+    record {
+      within = omega (arith, h.within, length-append old rest);
+      before = subst P (sym (taken_in old rest k)) h.before;
+      shown = subst Q (sym (taken_past old rest k)) h.shown;
+    }
+
+-- a part of the rest is refused
+gathered_refused : {text : List Timed → List ℕ} {Took : List Timed → Type 0} {old now : List ℕ} {entries : List Timed} {bytes piece rest : List ℕ} {r : State} (k : ℕ) (f : LogFault) (p : GatheredTo text Took old now entries bytes piece rest r)
+    → ShowsFault r.stand r.taken rest k f → GathersUpTo text old now entries bytes piece f
+gathered_refused {text} {Took} {old} {now} {entries} {bytes} {piece} {rest} {r} k f p s =
+    let g = p.gathers in
+    let es : List Timed = entries ++ g.more in
+    let S : Stand → Type 0 = λ x. ShowsFault x [] (r.taken ++ rest) (length r.taken + k) f in
+    let B : List ℕ → Type 0 = BeginsNoLog in
+    let upto : (bytes ++ p.done) ++ take (k + 1) rest ≡ bytes_of es ++ take (length r.taken + k + 1) (r.taken ++ rest) =
+    ap (λ (x : List ℕ). x ++ take (k + 1) rest) (sym g.read.same) ∙ append_assoc (bytes_of es) r.taken (take (k + 1) rest) ∙ ap (λ (x : List ℕ). bytes_of es ++ x) (sym (taken_past r.taken rest k)) in
+    record {
+      more = g.more;
+      refuses = record {
+        part = r.taken ++ rest;
+        begins = record {
+          order = g.read.order;
+          same = sym (append_assoc (bytes_of es) r.taken rest) ∙ ap (λ (x : List ℕ). x ++ rest) g.read.same ∙ append_assoc bytes p.done rest ∙ ap (λ (x : List ℕ). bytes ++ x) p.parts;
+        };
+        index = length r.taken + k;
+        shown = subst S g.read.stand (shown_in r.stand r.taken rest k f s);
+        none = subst B upto (dead es (bytes ++ p.done) rest r k f g.read s);
+      };
+      soon = omega (arith, length-append r.taken rest, ap length p.parts, length-append p.done rest);
+      gathered = g.gathered;
+    }
+
+pub gathered_fault : {text : List Timed → List ℕ} {Took : List Timed → Type 0} {old now : List ℕ} {entries : List Timed} {bytes piece rest : List ℕ} {r : State} (new : State) (f : LogFault) (p : GatheredTo text Took old now entries bytes piece rest r)
+    → Feeds r.stand r.taken rest (Err f) new → GathersUpTo text old now entries bytes piece f
+gathered_fault new f p h = gathered_refused h.0.0 f p h.0.1
+
+-- all of the piece was taken
+pub gathered_all : {text : List Timed → List ℕ} {Took : List Timed → Type 0} {old now : List ℕ} {entries : List Timed} {bytes piece rest : List ℕ} {r : State} (p : GatheredTo text Took old now entries bytes piece rest r) → length rest ≡ 0
+    → Gathers text Took old now entries (bytes ++ piece) r
+gathered_all {text} {Took} {old} {now} {entries} {bytes} {piece} {rest} {r} p empty =
+    let none : rest ≡ [] = nil_from_length rest empty in
+    let all : p.done ≡ piece = sym (append-nil p.done) ∙ ap (λ (x : List ℕ). p.done ++ x) (sym none) ∙ p.parts in
+    let P : List ℕ → Type 0 = λ b. HasRead (entries ++ p.gathers.more) (bytes ++ b) r in
+    record { more = p.gathers.more; read = subst P all p.gathers.read; took = p.gathers.took; gathered = p.gathers.gathered }

@@ -1,0 +1,5 @@
+pub mod Texts
+pub mod Gatherings
+pub mod Printings
+pub mod Decodings
+pub mod Completions

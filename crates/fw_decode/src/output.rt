@@ -1,0 +1,127 @@
+//! What a word makes of the entries of a log.
+
+ghost use Rattle.std.specs.Prelude.{◌≡◌, ◌+◌, ◌<◌, ◌^◌, ◌++◌, ◌∷◌, ◌⊎◌, [], List, length, IfSome, IfErr, OnOk, OnErr};
+ghost use Rattle.fw_outside.specs.Outside.{Rose, Writes};
+ghost use Rattle.fw_entry.specs.Log.{Fits, body};
+ghost use Rattle.fw_entry.specs.declared.entry.Timed.{Timed as TimedEntry};
+ghost use Rattle.fw_text.specs.Report.{report_text};
+ghost use Rattle.fw_text.specs.Tallies.{Reports};
+ghost use Rattle.fw_decode.specs.Decode.{WriteCount, lines_of};
+
+use crate::ending::LogEnding;
+use fw_log::Timed;
+use fw_outside::{Failed, Sink};
+use fw_text::{LineRoom, StreamReport, put_entry, put_entry_from};
+use std::alloc::{AllocError, Global};
+
+/// What is made of the entries of a log.
+#[derive(Drop)]
+pub(crate) enum Output {
+    /// The line of each entry, as it ends.
+    Lines(LineRoom),
+    /// The report of the streams, at the log's end.
+    Report(StreamReport),
+}
+
+// Appends the line of an entry, from the bytes of its body where they are at hand.
+fn put_line(room: &mut LineRoom, entry: &Timed, bytes: Option<&[u8]>) -> Result<(), AllocError>
+    requires fits { Fits entry.now.what }
+    requires body { IfSome bytes (λ b. b.now ≡ body entry.now.what) }
+    ensures { OnOk result (room.new ≡ room.old ++ lines_of (entry.now ∷ [])) }
+{
+    match bytes {
+        Some(bytes) => put_entry_from(room, entry, bytes),
+        None => put_entry(room, entry),
+    }
+}
+
+// Writes a report.
+fn print_report<K: Sink>(
+    alloc: Global,
+    report: &StreamReport,
+    sink: &mut K,
+) -> Result<(), LogEnding>
+    ensures text { (entries : List TimedEntry) → Reports entries report.now → Writes (K.held sink.old) (K.held sink.new) result (report_text entries) }
+    ensures stays { OnOk result (K.faults sink.new ≡ K.faults sink.old) }
+    ensures counts { IfErr result (WriteCount (K.faults sink.old) (K.faults sink.new)) }
+    ensures why { IfErr result (λ e. (e ≡ LogEnding.NoMemory) ⊎ (e ≡ LogEnding.WriteFault)) }
+{
+    let Ok(text) = report.text(alloc) else {
+        return Err(LogEnding::NoMemory);
+    };
+    match sink.write(text.as_bytes()) {
+        Ok(()) => Ok(()),
+        Err(_) => Err(LogEnding::WriteFault),
+    }
+}
+
+impl Output {
+    ghost use Rattle.fw_decode.specs.Outputs.{gathered, text_of, last_of, Took, IsSame};
+
+    /// Takes an entry that has ended, and the bytes of its body where they are at hand.
+    pub(crate) fn take(&mut self, entry: &Timed, bytes: Option<&[u8]>) -> Result<(), AllocError>
+        requires fits { Fits entry.now.what }
+        requires body { IfSome bytes (λ b. b.now ≡ body entry.now.what) }
+        ensures text { OnOk result (gathered self.new ≡ gathered self.old ++ text_of self.old (entry.now ∷ [])) }
+        ensures same { IsSame self.old self.new }
+        ensures took { (entries : List TimedEntry) → length entries + 1 < 2 ^ 64 → Took self.old entries → OnOk result (Took self.new (entries ++ entry.now ∷ [])) }
+    {
+        match self {
+            Output::Lines(room) => put_line(room, entry, bytes),
+            Output::Report(report) => {
+                report.take(entry);
+                Ok(())
+            }
+        }
+    }
+
+    fn gathered(&self) -> &[u8]
+        ensures { result.now ≡ gathered self.now }
+    {
+        match self {
+            Output::Lines(room) => room.as_slice(),
+            Output::Report(_) => &[],
+        }
+    }
+
+    fn clear(&mut self)
+        ensures empty { gathered self.new ≡ [] }
+        ensures same { IsSame self.old self.new }
+        ensures took { (entries : List TimedEntry) → Took self.old entries → Took self.new entries }
+    {
+        match self {
+            Output::Lines(room) => room.clear(),
+            Output::Report(_) => {}
+        }
+    }
+
+    /// Writes what was gathered.
+    pub(crate) fn flush<K: Sink>(&mut self, sink: &mut K) -> Result<(), Failed>
+        ensures text { Writes (K.held sink.old) (K.held sink.new) result (gathered self.old) }
+        ensures empty { OnOk result (gathered self.new ≡ []) }
+        ensures same { IsSame self.old self.new }
+        ensures took { (entries : List TimedEntry) → Took self.old entries → Took self.new entries }
+        ensures stays { OnOk result (K.faults sink.new ≡ K.faults sink.old) }
+        ensures failed { OnErr result (Rose (K.faults sink.old) (K.faults sink.new)) }
+    {
+        let text = self.gathered();
+        if !text.is_empty() {
+            sink.write(text)?;
+        }
+        self.clear();
+        Ok(())
+    }
+
+    /// Writes what is due at the end of a log.
+    pub(crate) fn close<K: Sink>(&self, alloc: Global, sink: &mut K) -> Result<(), LogEnding>
+        ensures text { (entries : List TimedEntry) → Took self.now entries → Writes (K.held sink.old) (K.held sink.new) result (last_of self.now entries) }
+        ensures stays { OnOk result (K.faults sink.new ≡ K.faults sink.old) }
+        ensures counts { IfErr result (WriteCount (K.faults sink.old) (K.faults sink.new)) }
+        ensures why { IfErr result (λ e. (e ≡ LogEnding.NoMemory) ⊎ (e ≡ LogEnding.WriteFault)) }
+    {
+        match self {
+            Output::Lines(_) => Ok(()),
+            Output::Report(report) => print_report(alloc, report, sink),
+        }
+    }
+}

@@ -1,6 +1,0 @@
-use Rattle.std.proofs.Common.{◌∙◌}
-use Rattle.fw_devices.proofs.NetworkLaws.{same_bytes_is}
-use Rattle.fw_devices.proofs.devices.same_name.Goals as goal
-
-pub returns : goal.returns
-returns c = c.eq.ensures ∙ rw (c.as_slice.ensures, c.as_slice-2.ensures) (same_bytes_is c.args.a.now c.args.b.now)

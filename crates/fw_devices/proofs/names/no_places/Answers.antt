@@ -1,0 +1,6 @@
+use Rattle.std.proofs.Common.{rules, ℕ, ◌≡◌, ◌<◌, get_or, set, arith}
+use Rattle.fw_devices.proofs.NameLaws.{always}
+use Rattle.fw_devices.proofs.names.no_places.Goals as goal
+
+pub returns : goal.returns
+returns c = λ key. always 256 key 255

@@ -1,0 +1,10 @@
+use Rattle.std.proofs.Common.{◌∙◌}
+use Rattle.fw_entry.specs.Log.{entry_bytes}
+use Rattle.fw_entry.proofs.WriteLaws.{writes_same}
+use Rattle.fw_entry.proofs.write.write_entry.Goals as goal
+
+pub returns-clause-bytes : goal.returns-clause-bytes
+returns-clause-bytes g c =
+    writes_same (g.K.Sink.held c.args.sink.now) (g.K.Sink.held c.write.new.self) c.write.result c.as_slice.result.now (entry_bytes c.args.t.now)
+    (c.as_slice.ensures.value ∙ (c.deref.ensures ∙ c.put_entry.ensures))
+    c.write.ensures.bytes

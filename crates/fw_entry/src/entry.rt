@@ -1,0 +1,145 @@
+ghost use Rattle.std.specs.Prelude.{◌≡◌};
+
+use crate::NodeList;
+use fw_async::Packet;
+use fw_cip::IsoPacket;
+use fw_phy::SelfIds;
+use std::fmt;
+use std::marker::Model;
+
+/// A bus reset, and the bus as it is then (own).
+#[derive(Debug, PartialEq, Eq, Drop)]
+pub struct ResetEntry {
+    /// The number of the reset, from 1.
+    pub epoch: u32,
+    /// The node that is root.
+    pub root: u8,
+    /// The node that is isochronous resource manager, if any.
+    pub manager: Option<u8>,
+    /// The node that began the reset.
+    pub initiator: u8,
+    /// The nodes from number 0 on, 1 to 63.
+    pub nodes: NodeList,
+    /// The self-ID packets of all nodes, in order.
+    pub ids: SelfIds,
+}
+
+/// A reset that lies elsewhere, since its lists are long.
+#[derive(Drop)]
+pub struct BorrowedReset<'a> {
+    entry: &'a ResetEntry,
+}
+
+impl<'a> Model for BorrowedReset<'a> {
+    ghost use Rattle.fw_entry.specs.declared.entry.ResetEntry.{ResetEntry};
+
+    ghost Value = { ResetEntry };
+
+    ghost view = { λ r. r.entry.now };
+}
+
+impl<'a> BorrowedReset<'a> {
+    /// This reset.
+    pub fn new(entry: &'a ResetEntry) -> BorrowedReset<'a>
+        ensures { result ≡ entry.now }
+    {
+        BorrowedReset { entry }
+    }
+
+    /// The reset.
+    pub fn get(&self) -> &'a ResetEntry
+        ensures { result.now ≡ self.now }
+    {
+        self.entry
+    }
+}
+
+impl<'a> PartialEq for BorrowedReset<'a> {
+    ghost use Rattle.fw_entry.specs.contracts.entry.ResetEntryPartialEq.TheImpl.Laws as reset_laws;
+
+    ghost eq = { ⟦<ResetEntry as PartialEq>⟧.eq };
+
+    ghost laws = { reset_laws.lawful.laws };
+
+    fn eq(&self, other: &Self) -> bool {
+        self.entry == other.entry
+    }
+}
+
+impl<'a> Eq for BorrowedReset<'a> {
+    ghost use Rattle.fw_entry.specs.contracts.entry.ResetEntryEq.TheImpl.Laws as reset_laws;
+
+    ghost laws = { reset_laws.lawful.laws };
+}
+
+impl<'a> fmt::Debug for BorrowedReset<'a> {
+    fn fmt<W: fmt::Write>(&self, f: &mut fmt::Formatter<W>) -> fmt::Result {
+        f.debug_tuple("BorrowedReset").field(&self.entry).finish()
+    }
+}
+
+/// Something that happened on the bus without a packet (own).
+#[derive(Clone, Copy, Debug, PartialEq, Eq)]
+pub struct EventEntry {
+    /// 1 second over, 2 controller died, 3 controller started, 4 tape inserted, 5 tape ejected, 6 unsettled.
+    pub code: u8,
+    /// The number of the device, 255 where the event has none, as for codes 1 and 6.
+    pub device: u8,
+    /// The number of the inserted tape; 0 for other codes.
+    pub tape: u16,
+    /// The lines of the inserted tape's system, 525 or 625; 0 for other codes.
+    pub system: u16,
+}
+
+/// How a procedure of a controller ended (own).
+#[derive(Clone, Copy, Debug, PartialEq, Eq)]
+pub struct OutcomeEntry {
+    /// 1 connected, 2 broken, 3 restored, 4 no channel, 5 no units, 6 plug full, 7 input busy, 8 no plug,
+    /// 9 no manager, 10 absent, 11 reset, 12 late.
+    pub code: u8,
+    /// The number of the controller's device.
+    pub device: u8,
+    /// The slot of the procedure's connection.
+    pub slot: u8,
+    /// The outcome's value; 0 for broken and no manager.
+    pub value: u32,
+}
+
+/// A word of a register, shown on demand (own).
+#[derive(Clone, Copy, Debug, PartialEq, Eq)]
+pub struct ShownEntry {
+    /// The number of the device.
+    pub device: u8,
+    /// The register's offset in the initial units space, below hexadecimal 1000.
+    pub offset: u16,
+    /// What it held.
+    pub word: u32,
+}
+
+/// What a log records. What is long lies elsewhere, so that an entry is a few words.
+#[derive(Debug, PartialEq, Eq, Drop)]
+pub enum Entry<'a> {
+    /// Kind 1.
+    Reset(BorrowedReset<'a>),
+    /// Kind 2: an asynchronous packet.
+    Async(Packet<'a>),
+    /// Kind 3: an isochronous packet.
+    Iso(IsoPacket<'a>),
+    /// Kind 4.
+    Event(EventEntry),
+    /// Kind 5.
+    Outcome(OutcomeEntry),
+    /// Kind 6.
+    Shown(ShownEntry),
+    /// Kind 7: the end of the log.
+    End,
+}
+
+/// An entry, and its cycle.
+#[derive(Debug, PartialEq, Eq, Drop)]
+pub struct Timed<'a> {
+    /// Isochronous cycles of 125 microseconds since the log began.
+    pub cycle: u64,
+    /// What is recorded.
+    pub what: Entry<'a>,
+}

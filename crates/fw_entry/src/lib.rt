@@ -1,0 +1,18 @@
+//! The entries of a bus's log, and the header before them, written as bytes.
+//!
+//! The header is the quadlets 31333934, 1, 0 and 0 in hexadecimal. An entry is its kind (8 bits), a zero byte,
+//! the length of its body in quadlets (16 bits), its cycle (64 bits) and its body, each number with the most
+//! significant byte first. Cycles never fall, and nothing follows the entry of kind 7. The format is own.
+#![tactic(auto)]
+
+pub mod codes;
+mod entry;
+mod nodes;
+mod room;
+mod write;
+mod write_body;
+
+pub use entry::{BorrowedReset, Entry, EventEntry, OutcomeEntry, ResetEntry, ShownEntry, Timed};
+pub use nodes::{NodeList, NodeRow};
+pub use room::EntryRoom;
+pub use write::{body_of, write_entry, write_header};

@@ -1,0 +1,32 @@
+use crate::{NodeList, ResetEntry};
+use fw_phy::SelfIds;
+use fw_words::Bytes;
+use std::alloc::{AllocError, Global};
+
+/// Memory for what an entry refers to that a reader gives: a reset, and the bytes of an entry that came in pieces.
+#[derive(Debug, Drop)]
+pub struct Room {
+    pub(crate) bytes: Box<Bytes<2304>>,
+    pub(crate) reset: Box<ResetEntry>,
+}
+
+impl Room {
+    /// Room for one entry.
+    pub fn new(alloc: Global) -> Result<Room, AllocError> {
+        Ok(Room {
+            bytes: Box::new(alloc, Bytes::new())?,
+            reset: Box::new(alloc, no_reset())?,
+        })
+    }
+}
+
+fn no_reset() -> ResetEntry {
+    ResetEntry {
+        epoch: 0,
+        root: 0,
+        manager: None,
+        initiator: 0,
+        nodes: NodeList::new(),
+        ids: SelfIds::new(),
+    }
+}

@@ -1,0 +1,163 @@
+//! FCP (IEC 61883-1, 9): command frames that are written to a node, and the frames that it sends.
+
+ghost use Rattle.std.specs.Prelude.{◌≡◌, ◌≤◌, Some, IfSome, is_some, length};
+ghost use Rattle.std.specs.Borrow.{sem};
+ghost use Rattle.std.specs.Option.{option_map};
+ghost use Rattle.fw_async.specs.Async.{Fits as HasSpelling, AreBytes};
+ghost use Rattle.fw_fcp.specs.Frames.{Fits};
+ghost use Rattle.fw_tape.specs.Desks.{AnyVendorByte};
+ghost use Rattle.fw_base.specs.Devices.{has_unit};
+ghost use Rattle.fw_csr.specs.declared.request.Request.{Request};
+ghost use Rattle.fw_node.specs.Lending.{LendsUnit};
+ghost use Rattle.fw_node.specs.Fcp.{command_bytes, HasFollowed, local_id, number_of, frame_head, frame_packet, next_frame, after_frame};
+
+use crate::Node;
+use crate::offset::{FCP_COMMAND, FCP_RESPONSE};
+use crate::response::RETRY_X;
+use fw_async::{Head, Packet};
+use fw_avc::Unit;
+use fw_csr::Request;
+use fw_fcp::{Frame, GENERAL_INQUIRY, read_frame, write_frame};
+use fw_tape::Desk;
+use fw_words::{Bytes512, Data, Quadlet, put_quadlet, quadlet_at};
+
+/// The transaction label of FCP responses and notices (own).
+const FRAME_LABEL: u8 = 1;
+
+/// The bytes of the longest frame, which fills a block.
+const LONGEST_FRAME: usize = 512;
+
+/// The number of a node that no bus reset has numbered (IEEE 1394-1995, NODE_IDS).
+const NO_NUMBER: u8 = 63;
+
+impl Node {
+    /// The AV/C unit. None exactly where the node is a relay or a computer.
+    pub fn unit(&mut self) -> Option<&mut Unit>
+        ensures* lends { sem 𝓛 (LendsUnit self.entry result) }
+        ensures unit { option_map (λ u. u.now) result ≡ self.old.unit }
+        ensures variant { is_some result ≡ has_unit self.old.kind }
+    {
+        match &mut self.unit {
+            Some(unit) => Some(unit),
+            None => None,
+        }
+    }
+
+    /// What follows from a request of node `from`: a command frame that is written to FCP_COMMAND is carried out by the
+    /// unit, and its response then waits. Bytes that are no frame, and response frames, are ignored (own).
+    pub(crate) fn follow<F: Fn(u16, u32, u16) -> [u8; 480], H: Fn(u32, u8) -> u8>(
+        &mut self,
+        from: u8,
+        r: &Request,
+        desk: &Desk<F, H>,
+    )
+        requires desk { AnyVendorByte (H.pre desk.now.vendor) }
+        ensures { HasFollowed (H.post desk.now.vendor) from (Some r.now) self.old self.new }
+    {
+        match r {
+            Request::Write {
+                offset: FCP_COMMAND,
+                value,
+            } => self.command(from, &put_quadlet(Quadlet(*value)), desk),
+            Request::WriteBlock {
+                offset: FCP_COMMAND,
+                bytes,
+            } => self.command(from, bytes.as_slice(), desk),
+            _ => {}
+        }
+    }
+
+    /// What follows from bytes that node `from` writes to FCP_COMMAND.
+    fn command<F: Fn(u16, u32, u16) -> [u8; 480], H: Fn(u32, u8) -> u8>(
+        &mut self,
+        from: u8,
+        bytes: &[u8],
+        desk: &Desk<F, H>,
+    )
+        requires desk { AnyVendorByte (H.pre desk.now.vendor) }
+        ensures { (r : Request) → command_bytes r ≡ Some bytes.now → HasFollowed (H.post desk.now.vendor) from (Some r) self.old self.new }
+    {
+        if bytes.len() > LONGEST_FRAME {
+            return;
+        }
+        let Some(unit) = &mut self.unit else {
+            return;
+        };
+        let Ok(frame) = read_frame(bytes) else {
+            return;
+        };
+        if frame.code <= GENERAL_INQUIRY {
+            let response = unit.answer(from, &frame, desk);
+            self.waiting = Some((from, response));
+        }
+    }
+
+    /// The packet that is sent next: the response to the latest command, if it waits, and then the notices of changes. None
+    /// exactly where no response waits and no kept value has changed. The bytes of a frame of a block lie in `room`.
+    pub fn outgoing<'a>(&mut self, room: &'a mut Bytes512) -> Option<Packet<'a>>
+        ensures packet { result ≡ option_map (frame_packet (number_of self.old.number)) (next_frame self.old) }
+        ensures node { self.new ≡ after_frame self.old }
+        ensures fits { IfSome result HasSpelling }
+    {
+        let from = self.number.unwrap_or(NO_NUMBER);
+        let (to, frame) = self.next_frame()?;
+        Some(frame_packet(from, to, &frame, room))
+    }
+
+    /// The frame that is sent next, and the number of the node that it goes to.
+    fn next_frame(&mut self) -> Option<(u8, Frame)>
+        ensures frame { result ≡ next_frame self.old }
+        ensures node { self.new ≡ after_frame self.old }
+        ensures fits { IfSome result (λ told. Fits told.1) }
+    {
+        if let Some(told) = self.waiting.take() {
+            return Some(told);
+        }
+        self.unit.as_mut()?.notice()
+    }
+}
+
+/// The packet by which node `from` writes a frame to FCP_RESPONSE of node `to`. The frame's bytes are put into `room`.
+fn frame_packet<'a>(from: u8, to: u8, frame: &Frame, room: &'a mut Bytes512) -> Packet<'a>
+    requires { Fits frame.now }
+    ensures packet { result ≡ frame_packet from (to, frame.now) }
+    ensures fits { HasSpelling result }
+{
+    let head = Head {
+        destination: local_id(to),
+        tl: FRAME_LABEL,
+        rt: RETRY_X,
+        pri: 0,
+        source: local_id(from),
+    };
+    write_frame(frame, room);
+    let bytes = room.as_slice();
+    are_bytes(bytes);
+    if bytes.len() == 4 {
+        let value = quadlet_at(bytes, 0).0;
+        return Packet::WriteQuadlet {
+            head,
+            offset: FCP_RESPONSE,
+            value,
+        };
+    }
+    Packet::WriteBlock {
+        head,
+        offset: FCP_RESPONSE,
+        bytes: Data::new(bytes),
+    }
+}
+
+/// What the type of a slice says of its items.
+fn are_bytes(bytes: &[u8])
+    ensures { AreBytes bytes.now }
+{
+    let _ = bytes;
+}
+
+/// The node ID on the local bus of a node's number, of which six bits count.
+fn local_id(number: u8) -> u16
+    ensures { result ≡ local_id number }
+{
+    0xFFC0 + u16::from(number % 64)
+}

@@ -1,0 +1,108 @@
+-- How bytes are taken and lines passed over, step by step.
+use Rattle.std.proofs.Common.{◌≡◌, ℕ, [], ◌++◌, List, Bool, true, false, Option, Some, None, Ok, Err, refl, ap, sym, ◌∙◌, subst, append_assoc}
+use Rattle.fw_outside.specs.Outside.{Takes, IsAtEnd}
+use Rattle.fw_outside.proofs.Parts.{Takes-Takes}
+use Rattle.fw_script.specs.Reader.{Goes, GoesOn, Steps, ReadsLine, Fills, IsCut, IsOpen}
+use Rattle.fw_script.specs.Reader.Goes.{nowhere}
+use Rattle.fw_script.specs.Reading.{Reading, Answer, Gives, TakesMore, Advances, with_taken, at_stage, HoldsAnswer}
+use Rattle.fw_script.specs.Reading.Gives.{read_fault}
+use Rattle.fw_script.specs.declared.stage.Stage.{Stage}
+use Rattle.fw_script.specs.declared.stage.Stage.TheVariants.{Failed}
+use Rattle.fw_script.specs.declared.command.Command.{Command}
+use Rattle.fw_script.specs.declared.ScriptFault.{ScriptFault}
+use Rattle.fw_script.specs.declared.ScriptFault.TheVariants.{ReadFault}
+use Rattle.fw_script.proofs.LineLaws.{IsMore}
+use Rattle.fw_script.proofs.GivesLaws.{gives_whole, cut_gives, goes_gives, goes_goes, goes_with, goes_whole, goes_answer}
+use Rattle.fw_script.proofs.ReadingLaws.{gives_at, nothing_taken, gives_open}
+
+-- taking in turn
+pub with_with : (p : Reading) (xs ys : List ℕ) (w v : Bool) → with_taken (with_taken p xs w) ys v ≡ with_taken p (xs ++ ys) v
+with_with p xs ys w v = ap (λ (l : List ℕ). record { rest = l; whole = v; before = p.before; line = p.line; stage = p.stage }) (append_assoc p.rest xs ys)
+
+pub at_end_still : (left mid : Option (List ℕ)) → Takes left mid [] → IsAtEnd left → IsAtEnd mid
+at_end_still None None h e = tt
+at_end_still None (Some ys) h e = absurd h
+at_end_still (Some xs) None h e = tt
+at_end_still (Some xs) (Some ys) h e = sym h ∙ e
+
+-- more bytes were taken, after some were
+pub takes_takes : (p q z : Reading) (left mid left' : Option (List ℕ)) (a : TakesMore p q left mid) (b : TakesMore z z left' left') → (ys : List ℕ) (w : Bool) → Takes mid left' ys
+    → (q.whole ≡ true → (ys ≡ []) × (w ≡ true)) → (q.whole ≡ false → w ≡ true → IsAtEnd left') → TakesMore p (with_taken q ys w) left left'
+takes_takes p q z left mid left' a b ys w took kept met = record {
+  taken = a.taken ++ ys;
+  takes = Takes-Takes left mid left' a.taken ys a.takes took;
+  kept = λ v. let k = a.kept v in let m = kept k.1 in (ap (λ (l : List ℕ). l ++ ys) k.0 ∙ m.0, m.1);
+  met = λ v e. by_mid q.whole refl v e;
+  now = ap (λ (x : Reading). with_taken x ys w) a.now ∙ with_with p a.taken ys q.whole w;
+}
+  where
+    by_mid : (m : Bool) → q.whole ≡ m → p.whole ≡ false → w ≡ true → IsAtEnd left'
+    by_mid true is v e = at_end_still mid left' (subst (λ (l : List ℕ). Takes mid left' l) (kept is).0 took) (a.met v is)
+    by_mid false is v e = met is e
+
+pub goes_nowhere : (p : Reading) (left : Option (List ℕ)) → GoesOn p p left left
+goes_nowhere p left = record { known = p; takes = nothing_taken p left; goes = nowhere }
+
+pub goes_passed : (p q : Reading) (left : Option (List ℕ)) → Goes p q → GoesOn p q left left
+goes_passed p q left g = record { known = p; takes = nothing_taken p left; goes = g }
+
+pub goes_taken : (p q : Reading) (left left' : Option (List ℕ)) → TakesMore p q left left' → GoesOn p q left left'
+goes_taken p q left left' t = record { known = q; takes = t; goes = nowhere }
+
+pub goes_in_turn : (p q z : Reading) (left mid left' : Option (List ℕ)) → GoesOn p q left mid → GoesOn q z mid left' → GoesOn p z left left'
+goes_in_turn p q z left mid left' a b =
+    let more : IsMore a.known b.takes.taken b.known.whole = λ w. b.takes.kept (goes_whole a.goes ∙ w) in
+    let far = goes_with b.takes.taken b.known.whole more a.goes in
+    record {
+      known = with_taken a.known b.takes.taken b.known.whole;
+      takes = takes_takes p a.known z left mid left' a.takes (nothing_taken z left') b.takes.taken b.known.whole b.takes.takes more
+          (λ v e. b.takes.met (goes_whole a.goes ∙ v) e);
+      goes = goes_goes (subst (λ (x : Reading). Goes (with_taken a.known b.takes.taken b.known.whole) x) (sym b.takes.now) far) b.goes;
+    }
+
+-- a step after others
+pub advances_by : (p q new : Reading) (left left' : Option (List ℕ)) (r : Answer) → IsOpen p.stage → GoesOn p q left left' → Gives q r new → Advances p new left left' r
+advances_by p q new left left' r o a g = record { known = a.known; takes = a.takes; gives = gives_open p.stage a.known new r o (goes_gives a.goes g) }
+
+-- an answer that is held is still held behind what is passed over
+pub holds_behind : (p q : Reading) → Goes p q → HoldsAnswer p → HoldsAnswer q
+holds_behind p q g h = (h.0, h.1, goes_answer g h.2 h.3, h.3)
+
+-- a line that was read is a step
+pub step_read : (p new : Reading) (left : Option (List ℕ)) (r : Answer) → ReadsLine p r new → Steps p left left r new
+step_read p new left (Ok None) h = (goes_passed p new left h.0, h.1, h.2)
+step_read p new left (Ok (Some c)) h = (p, goes_nowhere p left, h)
+step_read p new left (Err f) h = (p, goes_nowhere p left, h)
+
+pub reads_whole : (p new : Reading) (r : Answer) → ReadsLine p r new → p.whole ≡ true → new.whole ≡ true
+reads_whole p new (Ok None) h w = goes_whole h.0 ∙ w
+reads_whole p new (Ok (Some c)) h w = gives_whole h ∙ w
+reads_whole p new (Err f) h w = gives_whole h ∙ w
+
+pub reads_holds : (p new : Reading) (r : Answer) → ReadsLine p r new → HoldsAnswer p → r ≡ Ok None → HoldsAnswer new
+reads_holds p new (Ok None) h held e = holds_behind p new h.0 held
+reads_holds p new (Ok (Some c)) h held e = absurd cc
+reads_holds p new (Err f) h held e = absurd cc
+
+-- an answer without a line
+pub step_gives : (p new : Reading) (left : Option (List ℕ)) (f : ScriptFault) → Gives p (Err f) new → Steps p left left (Err f) new
+step_gives p new left f g = (p, goes_nowhere p left, g)
+
+-- bytes were taken, or the source failed
+pub step_filled : (p new : Reading) (left left' : Option (List ℕ)) → IsOpen p.stage → Fills p left left' (Ok tt) new → Steps p left left' (Ok None) new
+step_filled p new left left' o h = (goes_taken p new left left' h.0, subst (λ (s : Stage). IsOpen s) (sym h.1) o, h.2)
+
+pub step_failed : (p new : Reading) (left left' : Option (List ℕ)) (f : ScriptFault) → Fills p left left' (Err f) new → Steps p left left' (Err f) new
+step_failed p new left left' f h =
+    (p, goes_taken p p left left' h.1, subst (λ (e : ScriptFault). Gives p (Err e) new) (sym h.0) (gives_at p (at_stage p Failed) new (Err ReadFault) h.2 read_fault))
+
+-- an answer that is not held
+pub cut_holds : (p : Reading) → IsCut p → HoldsAnswer p → ⊥
+cut_holds p c h = cut_gives c h.2 h.3
+
+-- what a step gave
+pub nothing_given : (p new : Reading) (left left' : Option (List ℕ)) (o : Option Command) → o ≡ None → Steps p left left' (Ok o) new → Steps p left left' (Ok None) new
+nothing_given p new left left' o e h = subst (λ (x : Option Command). Steps p left left' (Ok x) new) e h
+
+pub command_given : (p new : Reading) (left left' : Option (List ℕ)) (o : Option Command) (c : Command) → o ≡ Some c → Steps p left left' (Ok o) new → Steps p left left' (Ok (Some c)) new
+command_given p new left left' o c e h = subst (λ (x : Option Command). Steps p left left' (Ok x) new) e h

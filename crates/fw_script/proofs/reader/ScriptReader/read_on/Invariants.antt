@@ -1,0 +1,16 @@
+use Rattle.std.proofs.Common.{◌≡◌, true}
+use Rattle.fw_script.specs.Reader.{GoesOn, IsOpen, to_read}
+use Rattle.fw_script.specs.Reading.{HoldsAnswer}
+use Rattle.fw_script.proofs.reader.ScriptReader.read_on.Given as goal
+
+abbrev pub invariant-loop-command : goal.invariant-loop-command
+invariant-loop-command g l = record {
+  goes_on : GoesOn l.initial.self l.self (g.S.Source.left l.initial.source) (g.S.Source.left l.source);
+  more : IsOpen l.self.stage;
+  unasked : l.initial.self.whole ≡ true → (l.source ≡ l.initial.source) × (l.self.whole ≡ true);
+  asks : HoldsAnswer l.initial.self → (l.source ≡ l.initial.source) × HoldsAnswer l.self;
+  unfailed : g.S.Source.faults l.source ≡ g.S.Source.faults l.initial.source;
+}
+
+abbrev pub decreases-loop-command : goal.decreases-loop-command
+decreases-loop-command g l = to_read l.self

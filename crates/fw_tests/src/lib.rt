@@ -1,0 +1,15 @@
+//! Tests of the program's top call, over scripts and logs whole. Nothing stands on this crate.
+#![tactic(auto)]
+
+#[cfg(test)]
+mod calls;
+#[cfg(test)]
+mod decodes;
+#[cfg(test)]
+mod nodes;
+#[cfg(test)]
+mod program;
+#[cfg(test)]
+mod runs;
+#[cfg(test)]
+mod vectors;

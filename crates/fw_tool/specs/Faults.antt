@@ -1,0 +1,19 @@
+-- The first fault decides: which counts of faults rise in a call.
+use Rattle.std.specs.Prelude.{◌≡◌, ◌≢◌, ◌⊎◌, ℕ}
+use Rattle.fw_outside.specs.Outside.{Rose}
+use Rattle.fw_tool.specs.declared.ending.Ending.{Ending}
+use Rattle.fw_tool.specs.declared.ending.Ending.TheVariants.{ReadFault, WriteFault}
+
+-- By the ending, the counts of source and sink before and after: with a read fault the source's rose alone, with a write
+-- fault the sink's alone, and with any other neither.
+abbrev pub FirstFault : ℕ → ℕ → ℕ → ℕ → Ending → Type 0
+FirstFault read read' written written' ReadFault = Rose read read' × (written' ≡ written)
+FirstFault read read' written written' WriteFault = (read' ≡ read) × Rose written written'
+FirstFault read read' written written' ending = (read' ≡ read) × (written' ≡ written)
+
+-- By the status, the counts of source, sink and notes. With 6 it was the sink's that rose, or the notes' behind one ending.
+pub record IsFirstFaults (status read read' written written' noted noted' : ℕ) : Type 0 where
+  pub no_fault : status ≢ 5 → status ≢ 6 → (read' ≡ read) × (written' ≡ written) × (noted' ≡ noted)
+  pub read_fault : status ≡ 5 → Rose read read' × (written' ≡ written) × (noted' ≡ noted)
+  pub write_fault : status ≡ 6
+      → ((read' ≡ read) × Rose written written' × (noted' ≡ noted)) ⊎ (Rose noted noted' × ((read' ≡ read) ⊎ (written' ≡ written)))

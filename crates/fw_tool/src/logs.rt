@@ -1,0 +1,21 @@
+//! The words that read a log.
+
+ghost use Rattle.std.specs.Prelude.{◌≡◌};
+ghost use Rattle.fw_tool.specs.Logs.{by_log};
+
+use crate::ending::Ending;
+use fw_decode::LogEnding;
+
+/// How a call ends whose word has read a log to this ending.
+pub(crate) fn ending_of_log(ending: LogEnding) -> Ending
+    ensures { result ≡ by_log ending }
+{
+    match ending {
+        LogEnding::Done => Ending::Done,
+        LogEnding::NoLog(fault) => Ending::NoLog(fault),
+        LogEnding::ReadFault => Ending::ReadFault,
+        LogEnding::WriteFault => Ending::WriteFault,
+        LogEnding::TooLong => Ending::TooLong,
+        LogEnding::NoMemory => Ending::NoMemory,
+    }
+}
