@@ -1,5 +1,6 @@
 -- What was read of a log, by the ending.
-use Rattle.std.proofs.Common.{◌≡◌, ◌⊎◌, inl, inr, ℕ, ◌+◌, ◌-◌, ◌≤◌, ◌<◌, List, [], ◌∷◌, ◌++◌, length, take, drop, Option, Some, None, Ok, Err, arith, refl, ap, sym, subst, ◌∙◌, append_assoc, length-append}
+use Rattle.std.proofs.Common.{◌≡◌, ◌⊎◌, inl, inr, ℕ, ◌+◌, ◌-◌, ◌≤◌, ◌<◌, List, [], ◌++◌, length, take, drop}
+use Rattle.std.proofs.Common.{Option, Some, None, Ok, Err, arith, refl, ap, sym, subst, ◌∙◌, append_assoc, length-append}
 use Rattle.std.proofs.lemmas.List.{append-nil, take-append-drop, take-take, length-take-le, length-drop}
 use Rattle.fw_outside.specs.Outside.{Takes, Grows, IsAtEnd, AppendsFront}
 use Rattle.fw_outside.proofs.Parts.{Takes-Takes, Takes-nothing, Grows-Grows, then_front}
@@ -12,10 +13,10 @@ use Rattle.fw_log.specs.declared.stand.Stand.{Stand}
 use Rattle.fw_log.specs.declared.LogFault.{LogFault}
 use Rattle.fw_decode.specs.declared.ending.LogEnding.{LogEnding}
 use Rattle.fw_decode.specs.declared.ending.LogEnding.TheVariants.{Done, NoLog, ReadFault, WriteFault, TooLong, NoMemory}
-use Rattle.fw_decode.specs.Decode.{limit, piece_size, Begins, Refuses, RefusesSoon, EndsEarly, Decoded, Faulted, PassedLimit, Interrupted, PartDecoded, Reads, ReadCount}
+use Rattle.fw_decode.specs.Decode.{limit, piece_size, Decoded, Faulted, PassedLimit, Interrupted, PartDecoded, Reads, ReadCount}
 use Rattle.fw_decode.specs.Pieces.{Prints, PrintsUpTo, PrintsPart, Stops, DecodedTo, EndsLog}
-use Rattle.fw_decode.proofs.Texts.{IsEach, IsSum, nothing_grew, grows_text, front_text, front_of_all, front_of_none, front_of_sum}
-use Rattle.fw_decode.proofs.Printings.{begins_of, begins_before}
+use Rattle.fw_decode.proofs.Texts.{IsEach, IsSum, nothing_grew, grows_text, front_text, front_of_none, front_of_sum}
+use Rattle.fw_decode.proofs.Printings.{begins_of}
 
 -- how many bytes a reader has taken
 pub total_of : {entries : List Timed} {bytes : List ℕ} {r : State} → HasRead entries bytes r → total r ≡ length bytes

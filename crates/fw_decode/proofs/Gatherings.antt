@@ -1,17 +1,17 @@
 -- The entries of a piece are taken, and their text is gathered.
-use Rattle.std.proofs.Common.{◌≡◌, ℕ, ◌+◌, ◌-◌, ◌/◌, ◌^◌, ◌≤◌, ◌<◌, ◌==◌, if◌then◌else◌, List, [], ◌∷◌, ◌++◌, length, take, drop, Option, Some, None, Ok, Err, IfNone, arith, refl, ap, sym, subst, ◌∙◌, append_assoc, length-append, take-add}
-use Rattle.std.proofs.lemmas.Bool.Decides.{nat_tests}
+use Rattle.std.proofs.Common.{◌≡◌, ℕ, ◌+◌, ◌-◌, ◌/◌, ◌^◌, ◌≤◌, ◌<◌, List, [], ◌∷◌, ◌++◌, length, take, drop}
+use Rattle.std.proofs.Common.{Option, Some, None, Ok, Err, IfNone, arith, refl, ap, sym, subst, ◌∙◌, append_assoc, length-append, take-add}
 use Rattle.std.proofs.lemmas.List.{append-nil, take_at, drop_at, take_all, take-append-drop, nil_from_length, length-drop}
-use Rattle.fw_entry.specs.Log.{Fits, header_bytes, entry_bytes, entry_head, kind_of, body}
+use Rattle.fw_entry.specs.Log.{Fits, entry_bytes, entry_head, kind_of, body}
 use Rattle.fw_entry.specs.declared.entry.Timed.{Timed}
-use Rattle.fw_log.specs.Reading.{IsPending, Faulty, Spells, header_at}
-use Rattle.fw_log.specs.Reader.{State, Feeds, FeedsTo, ShowsFault, total}
+use Rattle.fw_log.specs.Reading.{IsPending, Faulty}
+use Rattle.fw_log.specs.Reader.{State, Feeds, FeedsTo, ShowsFault, total, bytes_given}
 use Rattle.fw_log.specs.History.{bytes_of, HasRead, BeginsNoLog, ReadsTo, ReadsOn}
 use Rattle.fw_log.specs.declared.stand.Stand.{Stand}
 use Rattle.fw_log.specs.declared.read.LogFed.{LogFed}
 use Rattle.fw_log.specs.declared.LogFault.{LogFault}
 use Rattle.fw_log.proofs.HistoryLaws.{dead}
-use Rattle.fw_decode.specs.Pieces.{IsBetween, Gathers, GathersUpTo, GatheredTo}
+use Rattle.fw_decode.specs.Pieces.{Gathers, GathersUpTo, GatheredTo}
 use Rattle.fw_decode.proofs.Texts.{IsEach, few_by}
 
 pub gathered_first : {text : List Timed → List ℕ} (e : IsEach text) (Took : List Timed → Type 0) (old : List ℕ) (entries : List Timed) (bytes piece : List ℕ) (r : State) → HasRead entries bytes r → Took entries
@@ -78,47 +78,34 @@ fresh_by s old rest new used None f = ap (λ (r : State). r.fault) f.1
 fresh_by s old rest new used (Some t) f = ap (λ (r : State). r.fault) f.1
 
 pub stays_fresh : (s : Stand) (old rest : List ℕ) (new : State) (fed : LogFed) → Feeds s old rest (Ok fed) new → new.fault ≡ None
-stays_fresh s old rest new fed f = fresh_by s old rest new fed.used fed.entry f
+stays_fresh s old rest new fed f = fresh_by s old rest new fed.used fed.entry f.0
 
 -- an entry that is given may be printed
 pub given_fits : (r new : State) (rest : List ℕ) (fed : LogFed) (t : Timed) → Feeds r.stand r.taken rest (Ok fed) new → fed.entry ≡ Some t → Fits t.what
-given_fits r new rest fed t f e = fits_by rest r.taken r.stand new fed.used fed.entry t e f
+given_fits r new rest fed t f e = fits_by rest r.taken r.stand new fed.used fed.entry t e f.0
 
--- ---- the bytes of an entry that lies whole in a piece
-
-no_header : (n : ℕ) → 0 < n → header_at n ≡ []
-no_header n some = by n header_bytes some
-  where
-    by : (n : ℕ) (h : List ℕ) → 0 < n → (if n == 0 then h else []) ≡ []
-    by n h some = grind (arith, nat_tests)
+-- ---- the bytes of an entry that is given
 
 body_behind : (t : Timed) → drop 12 (entry_bytes t) ≡ body t.what
 body_behind t = drop_at (entry_head (kind_of t.what) (length (body t.what) / 4) t.cycle) (body t.what) 12 refl
 
-body_by : (s : Stand) (rest : List ℕ) (new : State) (used : ℕ) (o : Option Timed) (t : Timed) → 0 < s.start → o ≡ Some t → FeedsTo s [] rest used o new → drop 12 (take used rest) ≡ body t.what
-body_by s rest new used None t some e f = cc e
-body_by s rest new used (Some u) t some e f =
-    let same : u ≡ t = cc e in
-    let line : entry_bytes u ≡ take used rest = ap (λ (x : List ℕ). x ++ entry_bytes u) (sym (no_header s.start some)) ∙ f.0.spells.same in
-    ap (drop 12) (sym line) ∙ body_behind u ∙ ap (λ (x : Timed). body x.what) same
+long_by : (t : Timed) → 12 ≤ length (entry_bytes t)
+long_by t = omega (arith, length-append (entry_head (kind_of t.what) (length (body t.what) / 4) t.cycle) (body t.what))
 
--- what lies behind the head of an entry between others is its body
-pub body_is : (r new : State) (rest : List ℕ) (fed : LogFed) (t : Timed) → IsBetween r → Feeds r.stand r.taken rest (Ok fed) new → fed.entry ≡ Some t → drop 12 (take fed.used rest) ≡ body t.what
-body_is r new rest fed t b f e =
-    let P : List ℕ → Type 0 = λ x. FeedsTo r.stand x rest fed.used fed.entry new in
-    body_by r.stand rest new fed.used fed.entry t b.past e (subst P b.none f)
+given_by : (bytes : List ℕ) (o : Option Timed) (t : Timed) → o ≡ Some t → bytes ≡ bytes_given o → bytes ≡ entry_bytes t
+given_by bytes o t e h = h ∙ ap bytes_given e
 
-after_by : (s : Stand) (old rest : List ℕ) (new : State) (used : ℕ) (o : Option Timed) (t : Timed) → o ≡ Some t → FeedsTo s old rest used o new → IsBetween new
-after_by s old rest new used None t e f = cc e
-after_by s old rest new used (Some u) t e f =
-    let sp = f.0.spells.same in
-    record {
-      none = ap (λ (r : State). r.taken) f.1;
-      past = omega (arith, ap (λ (r : State). r.stand.start) f.1, ap length sp, length-append (header_at s.start) (entry_bytes u), length-append (entry_head (kind_of u.what) (length (body u.what) / 4) u.cycle) (body u.what));
-    }
+pub none_given : (o : Option Timed) → ((t : Timed) → o ≡ Some t → ⊥) → o ≡ None
+none_given None h = refl
+none_given (Some t) h = absurd (h t refl)
 
-pub stands_between : (r new : State) (rest : List ℕ) (fed : LogFed) (t : Timed) → Feeds r.stand r.taken rest (Ok fed) new → fed.entry ≡ Some t → IsBetween new
-stands_between r new rest fed t f e = after_by r.stand r.taken rest new fed.used fed.entry t e f
+-- they are those of its head at least
+pub given_long : (fed : LogFed) (t : Timed) → fed.entry ≡ Some t → fed.bytes ≡ bytes_given fed.entry → 12 ≤ length fed.bytes
+given_long fed t e h = omega (arith, long_by t, ap length (given_by fed.bytes fed.entry t e h))
+
+-- and what lies behind its head is its body
+pub given_body : (fed : LogFed) (t : Timed) → fed.entry ≡ Some t → fed.bytes ≡ bytes_given fed.entry → drop 12 fed.bytes ≡ body t.what
+given_body fed t e h = ap (drop 12) (given_by fed.bytes fed.entry t e h) ∙ body_behind t
 
 -- ---- one entry more, or none
 
@@ -126,7 +113,7 @@ stands_between r new rest fed t f e = after_by r.stand r.taken rest new fed.used
 pub gathered_none : {text : List Timed → List ℕ} (e : IsEach text) {Took : List Timed → Type 0} {old now : List ℕ} {entries : List Timed} {bytes piece rest : List ℕ} {r : State} (new : State) (fed : LogFed) (p : GatheredTo text Took old now entries bytes piece rest r)
     → Feeds r.stand r.taken rest (Ok fed) new → ReadsOn (entries ++ p.gathers.more) (bytes ++ p.done) rest (Ok fed) new → fed.entry ≡ None → GatheredTo text Took old now entries bytes piece (drop fed.used rest) new
 gathered_none {text} e {Took} {old} {now} {entries} {bytes} {piece} {rest} {r} new fed p f h is =
-    let read = none_by (entries ++ p.gathers.more) (bytes ++ p.done) rest r.taken r.stand new fed.used fed.entry is f h in
+    let read = none_by (entries ++ p.gathers.more) (bytes ++ p.done) rest r.taken r.stand new fed.used fed.entry is f.0 h in
     let P : List Timed → Type 0 = λ x. HasRead x ((bytes ++ p.done) ++ take fed.used rest) new in
     let Q : List Timed → Type 0 = λ x. Took (entries ++ x) in
     let R : List Timed → Type 0 = λ x. HasRead (entries ++ x) ((bytes ++ p.done) ++ take fed.used rest) new in

@@ -1,16 +1,16 @@
 -- What was gathered of a piece is written.
-use Rattle.std.proofs.Common.{◌≡◌, ◌⊎◌, inl, inr, ℕ, ◌+◌, ◌≤◌, List, [], ◌∷◌, ◌++◌, length, Option, None, Some, Ok, Err, Result, refl, sym, subst, ap, ◌∙◌, append_assoc}
+use Rattle.std.proofs.Common.{◌≡◌, ℕ, List, [], ◌++◌, Option, None, Some, Ok, sym, subst, ap, ◌∙◌, append_assoc}
 use Rattle.std.proofs.lemmas.List.{append-nil}
 use Rattle.fw_outside.specs.Outside.{Grows, AppendsFront}
 use Rattle.fw_entry.specs.declared.entry.Timed.{Timed}
 use Rattle.fw_log.specs.Reader.{State}
 use Rattle.fw_log.specs.History.{bytes_of, HasRead}
 use Rattle.fw_log.specs.declared.LogFault.{LogFault}
-use Rattle.fw_decode.specs.Decode.{Begins, ReadCount, WriteCount}
+use Rattle.fw_decode.specs.Decode.{Begins, ReadCount}
 use Rattle.fw_decode.specs.declared.ending.LogEnding.{LogEnding}
 use Rattle.fw_decode.specs.declared.ending.LogEnding.TheVariants.{Done, NoLog, ReadFault, WriteFault, TooLong, NoMemory}
 use Rattle.fw_decode.specs.Pieces.{TakesPiece, Gathers, GathersUpTo, Prints, PrintsUpTo, PrintsPart, Stops}
-use Rattle.fw_decode.proofs.Texts.{IsEach, front_of_none}
+use Rattle.fw_decode.proofs.Texts.{front_of_none}
 
 pub begins_of : {entries : List Timed} {bytes : List ℕ} {r : State} → HasRead entries bytes r → Begins entries r.taken bytes
 begins_of h = record { order = h.order; same = h.same }

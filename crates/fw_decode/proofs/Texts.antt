@@ -1,5 +1,5 @@
 -- The text of entries, one after another.
-use Rattle.std.proofs.Common.{◌≡◌, ℕ, ◌+◌, ◌≤◌, flat_map, List, [], ◌∷◌, ◌++◌, length, Option, arith, refl, ap, sym, subst, ◌∙◌, append_assoc, length-append}
+use Rattle.std.proofs.Common.{◌≡◌, ℕ, ◌≤◌, flat_map, List, [], ◌∷◌, ◌++◌, length, Option, arith, refl, ap, sym, subst, ◌∙◌, append_assoc, length-append}
 use Rattle.std.proofs.lemmas.List.{append-nil}
 use Rattle.fw_outside.specs.Outside.{Grows, AppendsFront}
 use Rattle.fw_outside.proofs.Parts.{Grows-nothing, Grows-Grows, then_front, front_then}

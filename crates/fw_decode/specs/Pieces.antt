@@ -1,5 +1,5 @@
 -- What a piece of a log does to a reader, to what takes the entries, and to a sink.
-use Rattle.std.specs.Prelude.{◌≡◌, ℕ, ◌+◌, ◌≤◌, ◌<◌, List, [], ◌++◌, length, Option, Some, None, Result, Ok, Err}
+use Rattle.std.specs.Prelude.{◌≡◌, ℕ, ◌+◌, ◌≤◌, List, ◌++◌, length, Option, Some, None, Result, Ok, Err}
 use Rattle.std.specs.declared.alloc.AllocError.{AllocError}
 use Rattle.fw_outside.specs.Outside.{Takes, Grows, AppendsFront}
 use Rattle.fw_entry.specs.declared.entry.Timed.{Timed}
@@ -9,11 +9,6 @@ use Rattle.fw_log.specs.declared.LogFault.{LogFault}
 use Rattle.fw_decode.specs.declared.ending.LogEnding.{LogEnding}
 use Rattle.fw_decode.specs.declared.ending.LogEnding.TheVariants.{Done, NoLog, ReadFault, WriteFault, TooLong, NoMemory}
 use Rattle.fw_decode.specs.Decode.{limit, Begins, Refuses}
-
--- no byte of an entry was taken, and some entry was
-pub record IsBetween (r : State) : Type 0 where
-  pub none : r.taken ≡ []
-  pub past : 0 < r.stand.start
 
 -- more entries were read and taken, and their text was gathered
 pub record Gathers (text : List Timed → List ℕ) (Took : List Timed → Type 0) (old new : List ℕ) (entries : List Timed) (bytes : List ℕ) (reader : State) : Type 0 where

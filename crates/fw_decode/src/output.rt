@@ -11,7 +11,7 @@ ghost use Rattle.fw_decode.specs.Decode.{WriteCount, lines_of};
 use crate::ending::LogEnding;
 use fw_log::Timed;
 use fw_outside::{Failed, Sink};
-use fw_text::{LineRoom, StreamReport, put_entry, put_entry_from};
+use fw_text::{LineRoom, StreamReport, put_entry_from};
 use std::alloc::{AllocError, Global};
 
 /// What is made of the entries of a log.
@@ -23,16 +23,13 @@ pub(crate) enum Output {
     Report(StreamReport),
 }
 
-// Appends the line of an entry, from the bytes of its body where they are at hand.
-fn put_line(room: &mut LineRoom, entry: &Timed, bytes: Option<&[u8]>) -> Result<(), AllocError>
+// Appends the line of an entry, from the bytes of its body.
+fn put_line(room: &mut LineRoom, entry: &Timed, bytes: &[u8]) -> Result<(), AllocError>
     requires fits { Fits entry.now.what }
-    requires body { IfSome bytes (λ b. b.now ≡ body entry.now.what) }
+    requires body { bytes.now ≡ body entry.now.what }
     ensures { OnOk result (room.new ≡ room.old ++ lines_of (entry.now ∷ [])) }
 {
-    match bytes {
-        Some(bytes) => put_entry_from(room, entry, bytes),
-        None => put_entry(room, entry),
-    }
+    put_entry_from(room, entry, bytes)
 }
 
 // Writes a report.
@@ -58,10 +55,10 @@ fn print_report<K: Sink>(
 impl Output {
     ghost use Rattle.fw_decode.specs.Outputs.{gathered, text_of, last_of, Took, IsSame};
 
-    /// Takes an entry that has ended, and the bytes of its body where they are at hand.
-    pub(crate) fn take(&mut self, entry: &Timed, bytes: Option<&[u8]>) -> Result<(), AllocError>
+    /// Takes an entry that has ended, and the bytes of its body.
+    pub(crate) fn take(&mut self, entry: &Timed, bytes: &[u8]) -> Result<(), AllocError>
         requires fits { Fits entry.now.what }
-        requires body { IfSome bytes (λ b. b.now ≡ body entry.now.what) }
+        requires body { bytes.now ≡ body entry.now.what }
         ensures text { OnOk result (gathered self.new ≡ gathered self.old ++ text_of self.old (entry.now ∷ [])) }
         ensures same { IsSame self.old self.new }
         ensures took { (entries : List TimedEntry) → length entries + 1 < 2 ^ 64 → Took self.old entries → OnOk result (Took self.new (entries ++ entry.now ∷ [])) }

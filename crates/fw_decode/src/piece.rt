@@ -12,21 +12,18 @@ use crate::ending::LogEnding;
 use crate::output::Output;
 use fw_log::{LogFault, LogFed, LogReader, Room};
 use fw_outside::Sink;
+use fw_words::Data;
 use std::alloc::AllocError;
 
 /// How many bytes of an entry stand before its body.
 const HEAD: usize = 12;
 
-// The body of the entry that the first bytes are, where none of its bytes came before them.
-fn body_at_hand<'a>(between: bool, bytes: &'a [u8], used: usize) -> Option<&'a [u8]>
-    requires { used ≤ length bytes.now }
-    ensures { IfSome result (λ body. (between ≡ true) × (body.now ≡ drop 12 (take used bytes.now))) }
+// The bytes of an entry's body, which are those behind its head.
+fn body_of<'a>(bytes: &Data<'a>) -> &'a [u8]
+    requires { 12 ≤ length bytes.now }
+    ensures { result.now ≡ drop 12 bytes.now }
 {
-    if between && HEAD <= used {
-        Some(&bytes[HEAD..used])
-    } else {
-        None
-    }
+    &bytes.as_slice()[HEAD..]
 }
 
 // Takes each entry that ends in a piece, and answers the fault that the piece shows, if any.
@@ -43,19 +40,14 @@ fn take_entries(
     ensures same { IsSame output.old output.new }
 {
     let mut rest = piece;
-    let mut between = false;
     while !rest.is_empty() {
-        let LogFed { used, entry } = match reader.feed(rest, room) {
+        let LogFed { used, entry, bytes } = match reader.feed(rest, room) {
             Ok(fed) => fed,
             Err(fault) => return Ok(Some(fault)),
         };
-        between = match &entry {
-            Some(entry) => {
-                output.take(entry, body_at_hand(between, rest, used))?;
-                true
-            }
-            None => false,
-        };
+        if let Some(entry) = entry {
+            output.take(&entry, body_of(&bytes))?;
+        }
         rest = &rest[used..];
     }
     Ok(None)

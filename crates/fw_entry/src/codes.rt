@@ -50,7 +50,7 @@ pub mod outcome {
     pub const PLUG_FULL: u8 = 6;
     /// The input plug is connected already: its word.
     pub const INPUT_BUSY: u8 = 7;
-    /// The device has no such plug: the plug's number.
+    /// An answer was not complete, as where the device has no such plug: its response code.
     pub const NO_PLUG: u8 = 8;
     /// The bus has no isochronous resource manager: no value.
     pub const NO_MANAGER: u8 = 9;

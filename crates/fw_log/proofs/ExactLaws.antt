@@ -1,5 +1,6 @@
 -- What a reader makes of a piece is the only thing that it can be.
-use Rattle.std.proofs.Common.{◌≡◌, inl, inr, ℕ, ◌+◌, ◌-◌, ◌≤◌, ◌<◌, List, ◌++◌, flat_map, length, take, drop, Option, Some, None, Result, Ok, Err, arith, refl, ap, sym, subst, ◌∙◌, length-append}
+use Rattle.std.proofs.Common.{◌≡◌, inl, inr, ℕ, ◌+◌, ◌-◌, ◌≤◌, ◌<◌, List, [], ◌++◌, flat_map, length, take, drop}
+use Rattle.std.proofs.Common.{Option, Some, None, Result, Ok, Err, IfOk, arith, refl, ap, sym, subst, ◌∙◌, length-append}
 use Rattle.std.proofs.lemmas.Bool.{cases_lt}
 use Rattle.std.proofs.lemmas.List.{append-nil, take_all, take-take, length-take-le, take-append-drop}
 use Rattle.fw_async.proofs.NeedLaws.{fault_stays}
@@ -14,7 +15,8 @@ use Rattle.fw_cip.proofs.SpelledLaws.{spelled_none as iso_clear}
 use Rattle.fw_log.specs.Bodies.{IsBody, BodyRefused, PacketRefuses, refusal}
 use Rattle.fw_log.specs.Reading.{IsPending, Spells, Faulty, WrongBody, need, skip, fault_at}
 use Rattle.fw_log.specs.declared.stand.Stand.{Stand}
-use Rattle.fw_log.specs.Reader.{State, Feeds, FeedsTo, Counts, total, EndsEntry, ShowsFault, EndsNothing}
+use Rattle.fw_log.specs.Reader.{State, Feeds, FeedsTo, Counts, bytes_given, total, EndsEntry, ShowsFault, EndsNothing}
+use Rattle.fw_entry.specs.Log.{entry_bytes}
 use Rattle.fw_entry.specs.declared.entry.Entry.{Entry}
 use Rattle.fw_entry.specs.declared.entry.Timed.{Timed}
 use Rattle.fw_log.specs.declared.read.LogFed.{LogFed}
@@ -136,11 +138,20 @@ gave_to s old piece used (Some u) new k t h e =
     let P : ℕ → Type 0 = λ n. Spells s u (old ++ take n piece) in
     record { count = count; this = ap Some (same_spelled s u t (old ++ take k piece) (subst P count h.0.spells) e.spells) }
 
+same_fed : (n k : ℕ) (o p : Option Timed) (x y : List ℕ) → n ≡ k → o ≡ p → x ≡ y →
+    let r : Result LogFed LogFault = Ok (record { used = n; entry = o; bytes = x }) in
+    let q : Result LogFed LogFault = Ok (record { used = k; entry = p; bytes = y }) in r ≡ q
+same_fed n k o p x y a b c =
+    ap (λ (z : ℕ). let r : Result LogFed LogFault = Ok (record { used = z; entry = o; bytes = x }) in r) a
+    ∙ ap (λ (z : Option Timed). let r : Result LogFed LogFault = Ok (record { used = k; entry = z; bytes = x }) in r) b
+    ∙ ap (λ (z : List ℕ). let r : Result LogFed LogFault = Ok (record { used = k; entry = p; bytes = z }) in r) c
+
 -- where a front of the piece ends an entry, that entry is given
-pub gives_entry : (s : Stand) (old piece : List ℕ) (r : Result LogFed LogFault) (new : State) → Feeds s old piece r new → (k : ℕ) (t : Timed) → EndsEntry s old piece k t → r ≡ Ok (record { used = k; entry = Some t })
+pub gives_entry : (s : Stand) (old piece : List ℕ) (r : Result LogFed LogFault) (new : State) → Feeds s old piece r new →
+    (k : ℕ) (t : Timed) → EndsEntry s old piece k t → r ≡ Ok (record { used = k; entry = Some t; bytes = entry_bytes t })
 gives_entry s old piece (Ok fed) new h k t e =
-    let g = gave_to s old piece fed.used fed.entry new k t h e in
-    ap (λ (n : ℕ). let r : Result LogFed LogFault = Ok (record { used = n; entry = fed.entry }) in r) g.count ∙ ap (λ (o : Option Timed). let r : Result LogFed LogFault = Ok (record { used = k; entry = o }) in r) g.this
+    let g = gave_to s old piece fed.used fed.entry new k t h.0 e in
+    same_fed fed.used k fed.entry (Some t) fed.bytes (entry_bytes t) g.count g.this (h.1 ∙ ap bytes_given g.this)
 gives_entry s old piece (Err f) new h k t e =
     elim (cases_lt h.0.0 k) [
       | inl less ↦ entry_faulty s old piece (h.0.0 + 1) k f t (omega arith) e.within h.0.1.shown e.spells
@@ -157,7 +168,7 @@ fault_to s old piece used (Some u) new k f h e =
 
 -- where a byte of the piece completes a part that is refused, that refusal is answered
 pub gives_fault : (s : Stand) (old piece : List ℕ) (r : Result LogFed LogFault) (new : State) → Feeds s old piece r new → (k : ℕ) (f : LogFault) → ShowsFault s old piece k f → r ≡ Err f
-gives_fault s old piece (Ok fed) new h k f e = fault_to s old piece fed.used fed.entry new k f h e
+gives_fault s old piece (Ok fed) new h k f e = fault_to s old piece fed.used fed.entry new k f h.0 e
 gives_fault s old piece (Err g) new h k f e =
     elim (cases_lt k h.0.0) [
       | inl less ↦ never_faulty s old piece (k + 1) h.0.0 f (omega arith) e.shown h.0.1.before
@@ -179,10 +190,11 @@ none_to s old piece used None new h e = record { count = h.0; none = refl }
 none_to s old piece used (Some t) new h e = absurd (e.no_entry used t h.0.within h.0.spells)
 
 -- where no part is refused and no entry ends, all is taken
-pub gives_none : (s : Stand) (old piece : List ℕ) (r : Result LogFed LogFault) (new : State) → Feeds s old piece r new → EndsNothing s old piece → r ≡ Ok (record { used = length piece; entry = None })
+pub gives_none : (s : Stand) (old piece : List ℕ) (r : Result LogFed LogFault) (new : State) → Feeds s old piece r new →
+    EndsNothing s old piece → r ≡ Ok (record { used = length piece; entry = None; bytes = [] })
 gives_none s old piece (Ok fed) new h e =
-    let g = none_to s old piece fed.used fed.entry new h e in
-    ap (λ (n : ℕ). let r : Result LogFed LogFault = Ok (record { used = n; entry = fed.entry }) in r) g.count ∙ ap (λ (o : Option Timed). let r : Result LogFed LogFault = Ok (record { used = length piece; entry = o }) in r) g.none
+    let g = none_to s old piece fed.used fed.entry new h.0 e in
+    same_fed fed.used (length piece) fed.entry None fed.bytes [] g.count g.none (h.1 ∙ ap bytes_given g.none)
 gives_none s old piece (Err f) new h e = absurd (e.no_fault (h.0.0 + 1) f (omega (arith, h.0.1.within)) h.0.1.shown)
 
 counts_to : (old : State) (piece : List ℕ) (used : ℕ) (entry : Option Timed) (new : State) → FeedsTo old.stand old.taken piece used entry new → IsPending old.stand old.taken → (total new ≡ total old + used) × (used ≤ length piece) × (0 < length piece → 0 < used)
@@ -202,5 +214,11 @@ counts_to old piece used (Some t) new h pending =
     )
 
 pub counts : (old : State) (piece : List ℕ) (r : Result LogFed LogFault) (new : State) → Feeds old.stand old.taken piece r new → IsPending old.stand old.taken → Counts old piece r new
-counts old piece (Ok fed) new h pending = counts_to old piece fed.used fed.entry new h pending
+counts old piece (Ok fed) new h pending = counts_to old piece fed.used fed.entry new h.0 pending
 counts old piece (Err f) new h pending = tt
+
+-- the bytes that are given are the entry's
+pub bytes_are : (s : Stand) (old piece : List ℕ) (r : Result LogFed LogFault) (new : State) → Feeds s old piece r new →
+    IfOk r (λ fed. fed.bytes ≡ bytes_given fed.entry)
+bytes_are s old piece (Ok fed) new h = h.1
+bytes_are s old piece (Err f) new h = tt

@@ -6,6 +6,7 @@ use Rattle.std.proofs.lemmas.List.{take-append-drop, take-append-le, drop-append
 use Rattle.std.proofs.Math.Seq.{take-append-add}
 use Rattle.fw_words.specs.Quadlet.{quadlet_at}
 use Rattle.fw_async.specs.Async.{AreBytes}
+use Rattle.fw_entry.specs.Log.{entry_bytes}
 use Rattle.fw_log.specs.Reading.{tested, fault_at, length_of, cycle_of, is_kind, is_length, entry_fault, header_fault, head_fault, skip, entry_need, need, IsPending, IsComplete, Spells, Faulty, WrongBody}
 use Rattle.fw_log.specs.Reader.{State, HoldsPending, Ends, Finds, Joins, FindsIn, ShowsFault, EndsEntry}
 use Rattle.fw_log.specs.declared.stand.Stand.{Stand}
@@ -199,6 +200,7 @@ pub record KeptEntry (s : Stand) (old piece : List ℕ) (found : Found) : Type 0
   pub past : length old ≤ found.end
   pub ends : EndsEntry s old piece (found.end - length old) found.entry
   pub size : length (old ++ take (found.end - length old) piece) ≡ found.end
+  pub bytes : found.bytes ≡ entry_bytes found.entry
 
 pub kept_entry : (s : Stand) (old piece : List ℕ) (found : Found) → IsPending s old → FindsIn s old piece (Ok (Some found)) → KeptEntry s old piece found
 kept_entry s old piece found pending h =
@@ -213,6 +215,7 @@ kept_entry s old piece found pending h =
       past = past;
       ends = record { within = within; spells = subst P (joined old piece h.count found.end past (omega (arith, h.finds.0, size))) h.finds.1 };
       size = length_joined old piece (found.end - length old) within ∙ omega arith;
+      bytes = h.finds.2;
     }
 
 -- all of the piece is a part of an entry, and there is room for it

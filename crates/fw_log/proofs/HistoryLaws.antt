@@ -251,7 +251,7 @@ reads_to entries bytes piece r new used (Some t) h f = entry_more entries bytes 
 
 -- what a piece makes of what was read
 pub reads_on : (entries : List Timed) (bytes piece : List ℕ) (r new : State) (result : Result LogFed LogFault) → HasRead entries bytes r → Feeds r.stand r.taken piece result new → ReadsOn entries bytes piece result new
-reads_on entries bytes piece r new (Ok fed) h f = reads_to entries bytes piece r new fed.used fed.entry h f
+reads_on entries bytes piece r new (Ok fed) h f = reads_to entries bytes piece r new fed.used fed.entry h f.0
 reads_on entries bytes piece r new (Err g) h f = (f.0.0, f.0.1.within, dead entries bytes piece r f.0.0 g h f.0.1)
 
 -- in a log each entry is the next

@@ -1,6 +1,6 @@
 -- What a reader of logs keeps, and what it makes of the bytes that come.
 use Rattle.std.specs.Prelude.{◌≡◌, ℕ, ◌+◌, ◌==◌, ◌≤◌, ◌<◌, List, [], ◌++◌, length, take, Option, Some, None, Result, Ok, Err, if◌then◌else◌}
-use Rattle.fw_entry.specs.Log.{is_end}
+use Rattle.fw_entry.specs.Log.{is_end, entry_bytes}
 use Rattle.fw_log.specs.Reading.{IsPending, Spells, Faulty, WrongBody, skip, fault_at, head_fault, need}
 use Rattle.fw_entry.specs.declared.entry.Timed.{Timed}
 use Rattle.fw_log.specs.declared.LogFault.{LogFault}
@@ -57,7 +57,7 @@ Ends s bytes (Err f) = head_fault s bytes ≡ Some f
 -- the entry that bytes begin with, none where they are a part of it, or the first fault
 abbrev pub Finds : Stand → List ℕ → Result (Option Found) LogFault → Type 0
 Finds s bytes (Ok None) = IsPending s bytes
-Finds s bytes (Ok (Some found)) = (found.end ≤ length bytes) × Spells s found.entry (take found.end bytes)
+Finds s bytes (Ok (Some found)) = (found.end ≤ length bytes) × Spells s found.entry (take found.end bytes) × (found.bytes ≡ entry_bytes found.entry)
 Finds s bytes (Err f) = (k : ℕ) × ShowsFault s [] bytes k f
 
 -- The bytes are what was kept and a front of the piece, which is all of it or has room for the longest entry.
@@ -84,9 +84,14 @@ abbrev pub FeedsTo : Stand → List ℕ → List ℕ → ℕ → Option Timed �
 FeedsTo s old piece used None new = (used ≡ length piece) × (new ≡ with_bytes s (old ++ piece)) × IsPending s (old ++ piece)
 FeedsTo s old piece used (Some t) new = EndsEntry s old piece used t × (new ≡ after s (old ++ take used piece) t)
 
+-- the bytes of an entry that is given, and none without one
+abbrev pub bytes_given : Option Timed → List ℕ
+bytes_given None = []
+bytes_given (Some t) = entry_bytes t
+
 -- A piece: the bytes up to an entry's end, all of them, or up to the one that completes a refused part.
 abbrev pub Feeds : Stand → List ℕ → List ℕ → Result LogFed LogFault → State → Type 0
-Feeds s old piece (Ok fed) new = FeedsTo s old piece fed.used fed.entry new
+Feeds s old piece (Ok fed) new = FeedsTo s old piece fed.used fed.entry new × (fed.bytes ≡ bytes_given fed.entry)
 Feeds s old piece (Err f) new = ((k : ℕ) × ShowsFault s old piece k f) × (new.fault ≡ Some f)
 
 -- the bytes that were taken are counted, and some are where there are any

@@ -1,6 +1,8 @@
 //! A reader of logs: entries from bytes that come in any pieces, exactly where there are some.
 #![tactic(auto)]
 
+#[cfg(test)]
+mod kind_tests;
 mod read;
 mod read_body;
 mod read_head;

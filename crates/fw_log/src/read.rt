@@ -2,9 +2,10 @@
 
 ghost use Rattle.std.specs.Prelude.{ℕ, ◌≡◌, ◌≤◌, ◌<◌, ◌+◌, ◌-◌, ◌*◌, ◌^◌, ◌++◌, ◌∷◌, [], length, take, drop, IfSome, IfNone, IfOk, Some, None, Ok, Err, List};
 ghost use Rattle.std.specs.Result.{result_err};
-ghost use Rattle.fw_entry.specs.Log.{is_end, LogOpens};
+ghost use Rattle.fw_entry.specs.Log.{is_end, entry_bytes, LogOpens};
 ghost use Rattle.fw_log.specs.Reading.{IsComplete, IsPending};
-ghost use Rattle.fw_log.specs.Reader.{State, total, with_bytes, EntryJudges, Ends, Finds, Joins, FindsIn, EndsEntry, EndsNothing, ShowsFault, Feeds, Counts, finish_of};
+ghost use Rattle.fw_log.specs.Reader.{State, total, with_bytes, EntryJudges, Ends, Finds, Joins, FindsIn};
+ghost use Rattle.fw_log.specs.Reader.{EndsEntry, EndsNothing, ShowsFault, Feeds, Counts, bytes_given, finish_of};
 ghost use Rattle.fw_log.specs.History.{stand_after, HasRead, ReadsOn, GivesNext, Finishes};
 ghost use Rattle.fw_log.specs.declared.LogFault.{LogFault};
 ghost use Rattle.fw_entry.specs.declared.entry.Timed.{Timed};
@@ -13,7 +14,7 @@ use crate::read_body::entry_of;
 use crate::read_head::head_fault;
 use crate::stand::{BODY_AT, Stand, cycle_of, need, rest, skip};
 use crate::{Entry, LogFault, LogWhy, ResetEntry, Room, Timed};
-use fw_words::Bytes;
+use fw_words::{Bytes, Data};
 use std::alloc::{AllocError, Global};
 use std::marker::Model;
 
@@ -24,12 +25,15 @@ pub struct LogFed<'a> {
     pub used: usize,
     /// The entry that ended with them, if one did.
     pub entry: Option<Timed<'a>>,
+    /// The bytes of that entry, without the header of the log; empty where none ended.
+    pub bytes: Data<'a>,
 }
 
-/// An entry that bytes begin with, and where it ends.
+/// An entry that bytes begin with, where it ends, and its bytes without the header.
 #[derive(Debug, Drop)]
 pub struct Found<'a> {
     pub end: usize,
+    pub bytes: Data<'a>,
     pub entry: Timed<'a>,
 }
 
@@ -85,8 +89,13 @@ fn first_entry<'a>(
         Ok(None) => return Ok(None),
         Err(fault) => return Err(fault),
     };
-    match complete_entry(stand, &bytes[..end], room) {
-        Ok(entry) => Ok(Some(Found { end, entry })),
+    let whole = &bytes[..end];
+    match complete_entry(stand, whole, room) {
+        Ok(entry) => Ok(Some(Found {
+            end,
+            bytes: Data::new(rest(whole, skip(stand.start))),
+            entry,
+        })),
         Err(fault) => Err(fault),
     }
 }
@@ -166,10 +175,11 @@ impl LogReader {
                 Ok(LogFed {
                     used: piece.len(),
                     entry: None,
+                    bytes: Data::new(&[]),
                 })
             }
             Ok(Some(found)) => {
-                let Found { end, entry } = found;
+                let Found { end, bytes, entry } = found;
                 let used = end - self.taken.as_slice().len();
                 self.stand = Stand {
                     start: self.stand.start + end as u64,
@@ -180,6 +190,7 @@ impl LogReader {
                 Ok(LogFed {
                     used,
                     entry: Some(entry),
+                    bytes,
                 })
             }
         }
@@ -213,16 +224,20 @@ impl LogReader {
         ensures fresh { IfNone self.old.fault (Feeds self.old.stand self.old.taken piece.now result self.new) }
 
         ensures counts { Counts self.old piece.now result self.new }
+        ensures bytes { IfOk result (λ fed. fed.bytes ≡ bytes_given fed.entry) }
 
         // An entry, none and a fault come exactly where the bytes since the last entry make them.
-        ensures entry { IfNone self.old.fault ((k : ℕ) → (t : Timed) → EndsEntry self.old.stand self.old.taken piece.now k t → result ≡ Ok (record { used = k; entry = Some t })) }
-        ensures none { IfNone self.old.fault (EndsNothing self.old.stand self.old.taken piece.now → result ≡ Ok (record { used = length piece.now; entry = None })) }
+        ensures entry { IfNone self.old.fault ((k : ℕ) → (t : Timed) → EndsEntry self.old.stand self.old.taken piece.now k t
+            → result ≡ Ok (record { used = k; entry = Some t; bytes = entry_bytes t })) }
+        ensures none { IfNone self.old.fault (EndsNothing self.old.stand self.old.taken piece.now
+            → result ≡ Ok (record { used = length piece.now; entry = None; bytes = [] })) }
         ensures fault { IfNone self.old.fault ((k : ℕ) → (f : LogFault) → ShowsFault self.old.stand self.old.taken piece.now k f → result ≡ Err f) }
 
         // All that was fed since the reader began is the entries that were given and a part of one more; a fault comes
         // only where no log goes on, and of a log each entry that is given is the next.
         ensures history { (entries : List Timed) → (bytes : List ℕ) → HasRead entries bytes self.old → ReadsOn entries bytes piece.now result self.new }
-        ensures log { (entries all : List Timed) → (bytes more : List ℕ) → HasRead entries bytes self.old → LogOpens all (bytes ++ (piece.now ++ more)) → GivesNext all entries result }
+        ensures log { (entries all : List Timed) → (bytes more : List ℕ) → HasRead entries bytes self.old
+            → LogOpens all (bytes ++ (piece.now ++ more)) → GivesNext all entries result }
     {
         match self.fault {
             Some(fault) => Err(fault),

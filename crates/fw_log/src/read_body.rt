@@ -1,6 +1,7 @@
 //! The bodies of entries, from bytes.
 
-ghost use Rattle.std.specs.Prelude.{ℕ, ◌≡◌, ◌≤◌, ◌<◌, ◌+◌, ◌-◌, ◌*◌, ◌/◌, ◌%◌, ◌^◌, ◌++◌, ◌∷◌, [], length, take, drop, IsTrue, IfSome, IfNone, ◌==◌, ◌||◌, if◌then◌else◌, true};
+ghost use Rattle.std.specs.Prelude.{ℕ, ◌≡◌, ◌≤◌, ◌<◌, ◌+◌, ◌-◌, ◌*◌, ◌/◌, ◌%◌, ◌^◌, ◌++◌, ◌∷◌, [], length, take, drop};
+ghost use Rattle.std.specs.Prelude.{IsTrue, IfSome, IfNone, ◌==◌, ◌||◌, if◌then◌else◌, true};
 ghost use Rattle.fw_entry.specs.declared.entry.EventEntry.{EventEntry};
 ghost use Rattle.fw_entry.specs.declared.entry.OutcomeEntry.{OutcomeEntry};
 ghost use Rattle.fw_entry.specs.declared.entry.ShownEntry.{ShownEntry};
@@ -9,7 +10,9 @@ ghost use Rattle.fw_log.specs.Reading.{is_kind, is_length};
 ghost use Rattle.fw_log.specs.Bodies.{PacketJudges, ResetJudges, BodyJudges};
 
 use crate::read_reset::reset_of;
-use crate::{BodyFault, BorrowedReset, Entry, EventEntry, OutcomeEntry, ResetEntry, ShownEntry};
+use crate::{
+    BodyFault, BorrowedReset, Entry, EventEntry, OutcomeEntry, ResetEntry, ShownEntry, codes,
+};
 use fw_async::{Fed, Packet, read_packet};
 use fw_cip::read_iso;
 use fw_words::quadlet_at;
@@ -154,27 +157,27 @@ pub(crate) fn entry_of<'a>(
     ensures { BodyJudges kind body.now result }
 {
     match kind {
-        1 => match reset_in(body, room) {
+        codes::kind::RESET => match reset_in(body, room) {
             Ok(reset) => Ok(Entry::Reset(reset)),
             Err(fault) => Err(fault),
         },
-        2 => match async_of(body) {
+        codes::kind::ASYNC => match async_of(body) {
             Ok(packet) => Ok(Entry::Async(packet)),
             Err(fault) => Err(fault),
         },
-        3 => match read_iso(body) {
+        codes::kind::ISO => match read_iso(body) {
             Ok(packet) => Ok(Entry::Iso(packet)),
             Err(fault) => Err(BodyFault::Iso(fault)),
         },
-        4 => match event_of(body) {
+        codes::kind::EVENT => match event_of(body) {
             Some(event) => Ok(Entry::Event(event)),
             None => Err(BodyFault::Fields),
         },
-        5 => match outcome_of(body) {
+        codes::kind::OUTCOME => match outcome_of(body) {
             Some(outcome) => Ok(Entry::Outcome(outcome)),
             None => Err(BodyFault::Fields),
         },
-        6 => match shown_of(body) {
+        codes::kind::SHOWN => match shown_of(body) {
             Some(shown) => Ok(Entry::Shown(shown)),
             None => Err(BodyFault::Fields),
         },

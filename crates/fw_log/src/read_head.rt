@@ -4,24 +4,24 @@ ghost use Rattle.std.specs.Prelude.{ℕ, ◌≡◌, ◌≤◌, ◌<◌, ◌+◌,
 ghost use Rattle.fw_log.specs.Reading.{length_of, cycle_of, is_kind, is_length, entry_fault, header_fault, head_fault, fault_at};
 
 use crate::stand::{BODY_AT, CYCLE_AT, HEADER_SIZE, LENGTH_AT, Stand, cycle_of, length_of, rest};
-use crate::{LogFault, LogWhy};
+use crate::{LogFault, LogWhy, codes};
 use fw_words::quadlet_at;
 
 fn is_kind(kind: u8, low: u8) -> bool
     ensures { result ≡ is_kind kind low }
 {
-    1 <= kind && kind <= 7 && low == 0
+    codes::kind::RESET <= kind && kind <= codes::kind::END && low == 0
 }
 
 fn is_length(kind: u8, len: usize) -> bool
     ensures { result ≡ is_length kind len }
 {
     match kind {
-        1 => 5 <= len && len <= 569,
-        2 => 3 <= len && len <= 132,
-        3 => len == 3 || len == 123,
-        4 => len == 1 || len == 2,
-        7 => len == 0,
+        codes::kind::RESET => 5 <= len && len <= 569,
+        codes::kind::ASYNC => 3 <= len && len <= 132,
+        codes::kind::ISO => len == 3 || len == 123,
+        codes::kind::EVENT => len == 1 || len == 2,
+        codes::kind::END => len == 0,
         _ => len == 2,
     }
 }

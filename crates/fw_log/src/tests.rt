@@ -54,7 +54,7 @@ fn through(
             break;
         }
         let end = at + size.min(bytes.len() - at);
-        let LogFed { used, entry } = reader.feed(&bytes[at..end], room)?;
+        let LogFed { used, entry, .. } = reader.feed(&bytes[at..end], room)?;
         if let Some(entry) = entry {
             let _ = write_entry(&entry, written, sink);
         }

@@ -1,14 +1,14 @@
-use Rattle.std.proofs.Common.{rules, ◌≡◌, ◌<◌, ◌^◌, ◌+◌, ◌++◌, ◌∷◌, [], ◌∙◌, List, ℕ, Ok, Err, true, false, length, drop, take, arith, refl, sym, ap, subst}
+use Rattle.std.proofs.Common.{rules, ◌≡◌, ◌<◌, ◌^◌, ◌+◌, ◌++◌, ◌∷◌, [], ◌∙◌, List, ℕ, Ok, Err, length, arith, refl, sym, subst}
 use Rattle.std.proofs.lemmas.List.{length-drop}
-use Rattle.std.proofs.lemmas.Option.{IfSome_then}
 use Rattle.fw_entry.specs.declared.entry.Timed.{Timed}
 use Rattle.fw_log.specs.Reader.{Feeds, total}
 use Rattle.fw_decode.specs.Outputs.{gathered, text_of, Took}
 use Rattle.fw_decode.specs.Pieces.{GatheredTo}
 use Rattle.fw_decode.proofs.Texts.{text_each, same_then}
-use Rattle.fw_decode.proofs.Gatherings.{gathered_first, gathered_none, gathered_some, gathered_fault, gathered_all, few_read, rest_from, when_fresh, stays_fresh, given_fits, body_is, stands_between}
+use Rattle.fw_decode.proofs.Gatherings.{gathered_first, gathered_none, gathered_some, gathered_fault, gathered_all, few_read, rest_from}
+use Rattle.fw_decode.proofs.Gatherings.{when_fresh, stays_fresh, given_long, given_body, none_given}
 use Rattle.fw_decode.proofs.piece.take_entries.Goals as goal
-use Rattle.fw_decode.proofs.piece.take_entries.Goals.{in-Some+in_ok-take-in-Some, in-None}
+use Rattle.fw_decode.proofs.piece.take_entries.Goals.{in-Some+in_ok-take, in_default}
 
 pub loop-rest-init : goal.loop-rest-init
 loop-rest-init c = record {
@@ -16,7 +16,6 @@ loop-rest-init c = record {
   count = omega arith;
   text = λ entries bytes h t. gathered_first (text_each c.args.output.now) (Took c.args.output.now) (gathered c.args.output.now) entries bytes c.args.piece.now c.args.reader.now h t;
   same = record { text = refl; last = refl };
-  between = λ e. cc e;
 }
 
 pub returns-in-Err-clause-text : goal.returns-in-Err-clause-text
@@ -28,14 +27,11 @@ returns-in-Err-clause-text c entries bytes h t =
     when_fresh (Feeds r.stand r.taken rest (Err c.in-Err.fault) c.feed.new.self) r.fault i.fresh c.in-Err.ensures.fresh in
     gathered_fault c.feed.new.self c.in-Err.fault (i.text entries bytes h t) f
 
+pub body_of-requires : goal.body_of-requires
+body_of-requires c = given_long c.in-Ok.fed c.in-Some.entry c.in-Some.is c.in-Ok.ensures.bytes
+
 pub take-requires-clause-body : goal.take-requires-clause-body
-take-requires-clause-body c =
-    let i = c.loop-rest.invariant in
-    let r = c.loop-rest.reader in
-    let rest : List ℕ = c.loop-rest.rest.now in
-    let f : Feeds r.stand r.taken rest (Ok c.in-Ok.fed) c.feed.new.self =
-    when_fresh (Feeds r.stand r.taken rest (Ok c.in-Ok.fed) c.feed.new.self) r.fault i.fresh c.in-Ok.ensures.fresh in
-    IfSome_then c.body_at_hand.result c.body_at_hand.ensures (λ b x. x.1 ∙ body_is r c.feed.new.self rest c.in-Ok.fed c.in-Some.entry (i.between x.0) f c.in-Some.is)
+take-requires-clause-body c = c.body_of.ensures ∙ given_body c.in-Ok.fed c.in-Some.entry c.in-Some.is c.in-Ok.ensures.bytes
 
 pub loop-rest-preserved : goal.loop-rest-preserved
 loop-rest-preserved c =
@@ -59,19 +55,16 @@ loop-rest-preserved c =
           let P : List ℕ → Type 0 = λ x. GatheredTo (text_of c.args.output.now) (Took c.match-entry.output) (gathered c.args.output.now) (gathered c.match-entry.output) entries bytes c.args.piece.now x new in
           let read = c.in-Ok.ensures.history es (bytes ++ p.done) p.gathers.read in
           subst P from (elim c.match-entry.branch [
-            | in-Some+in_ok-take-in-Some w ↦
+            | in-Some+in_ok-take w ↦
                 let A : (List Timed → List ℕ) → Type 0 = λ text. gathered w.take.new.self ≡ gathered c.loop-rest.output ++ text (w.in-Some.entry ∷ []) in
                 rw w.output-is (gathered_some each new fed w.in-Some.entry p read w.in-Some.is
-                (w.in_ok-take-in-Some.ensures.took es (few_read new fed w.in-Some.entry p read w.in-Some.is small) p.gathers.took) (subst A i.same.text w.in_ok-take-in-Some.ensures.text))
-            | in-None w ↦ rw w.output-is (gathered_none each new fed p f read w.in-None.is)
+                (w.in_ok-take.ensures.took es (few_read new fed w.in-Some.entry p read w.in-Some.is small) p.gathers.took)
+                (subst A i.same.text w.in_ok-take.ensures.text))
+            | in_default w ↦ rw w.output-is (gathered_none each new fed p f read (none_given fed.entry w.in_default.not-Some))
           ]);
       same = elim c.match-entry.branch [
-        | in-Some+in_ok-take-in-Some w ↦ rw w.output-is (same_then i.same w.in_ok-take-in-Some.ensures.same)
-        | in-None w ↦ rw w.output-is i.same
-      ];
-      between = elim c.match-entry.branch [
-        | in-Some+in_ok-take-in-Some w ↦ λ e. stands_between r new rest fed w.in-Some.entry f w.in-Some.is
-        | in-None w ↦ λ e. cc (sym w.between-is ∙ e)
+        | in-Some+in_ok-take w ↦ rw w.output-is (same_then i.same w.in_ok-take.ensures.same)
+        | in_default w ↦ rw w.output-is i.same
       ];
     }
 

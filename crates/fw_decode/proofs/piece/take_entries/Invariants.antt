@@ -1,9 +1,9 @@
-use Rattle.std.proofs.Common.{◌≡◌, ◌+◌, List, ℕ, None, true, length}
+use Rattle.std.proofs.Common.{◌≡◌, ◌+◌, List, ℕ, None, length}
 use Rattle.fw_entry.specs.declared.entry.Timed.{Timed}
 use Rattle.fw_log.specs.History.{HasRead}
 use Rattle.fw_log.specs.Reader.{total}
 use Rattle.fw_decode.specs.Outputs.{gathered, text_of, Took, IsSame}
-use Rattle.fw_decode.specs.Pieces.{GatheredTo, IsBetween}
+use Rattle.fw_decode.specs.Pieces.{GatheredTo}
 use Rattle.fw_decode.proofs.piece.take_entries.Given as goal
 
 abbrev pub invariant-loop-rest : goal.invariant-loop-rest
@@ -12,7 +12,6 @@ invariant-loop-rest l = record {
   count : total l.reader + length l.rest ≡ total l.fn.reader + length l.fn.piece;
   text : (entries : List Timed) (bytes : List ℕ) → HasRead entries bytes l.fn.reader → Took l.fn.output entries → GatheredTo (text_of l.fn.output) (Took l.output) (gathered l.fn.output) (gathered l.output) entries bytes l.fn.piece l.rest l.reader;
   same : IsSame l.fn.output l.output;
-  between : l.between ≡ true → IsBetween l.reader;
 }
 
 abbrev pub decreases-loop-rest : goal.decreases-loop-rest

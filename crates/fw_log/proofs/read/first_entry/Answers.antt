@@ -1,5 +1,6 @@
-use Rattle.std.proofs.Common.{arith}
+use Rattle.std.proofs.Common.{◌≡◌, ◌∙◌, drop, ap, arith}
 use Rattle.fw_log.proofs.FindLaws.{first_complete, first_wrong, head_shown_first, ends_at}
+use Rattle.fw_log.proofs.SameLaws.{spelled_tail}
 use Rattle.fw_log.proofs.read.first_entry.Goals as goal
 
 pub complete_entry-requires-clause-head : goal.complete_entry-requires-clause-head

@@ -37,8 +37,15 @@ pub returns-in-Ok-None : goal.returns-in-Ok-None
 returns-in-Ok-None c =
     let part = kept_part c.args.self.now.stand c.args.self.now.taken c.args.piece.now (found_as _ _ _ _ _ None c.in-Ok-None.is c.in-Ok-None.field-0-is c.requires.found) in
     let taken : c.append.new.self ≡ c.args.self.now.taken ++ c.args.piece.now =
-    c.append.ensures ∙ ap (λ t. t ++ c.args.piece.now) (c.deref_mut.ensures.value ∙ ap (λ (r : State). r.taken) c.self.view_is) in
-    (refl, same_state c.self.inside.stand c.args.self.now.stand _ _ c.self.inside.fault None (ap (λ (r : State). r.stand) c.self.view_is) taken (ap (λ (r : State). r.fault) c.self.view_is ∙ c.requires.fresh), part.pending)
+    c.append.ensures ∙ ap (λ t. t ++ c.args.piece.now) (c.deref_mut.ensures.value ∙ ap (λ (r : State). r.taken) c.self.view_is) in (
+      (
+        refl,
+        same_state c.self.inside.stand c.args.self.now.stand _ _ c.self.inside.fault None (ap (λ (r : State). r.stand) c.self.view_is)
+            taken (ap (λ (r : State). r.fault) c.self.view_is ∙ c.requires.fresh),
+        part.pending,
+      ),
+      c.new.ensures,
+    )
 
 pub returns-in-Ok-Some : goal.returns-in-Ok-Some
 returns-in-Ok-Some c =
@@ -48,8 +55,13 @@ returns-in-Ok-Some c =
     let start : c.self.inside.stand.start ≡ c.args.self.now.stand.start = ap (λ (r : State). r.stand.start) c.self.view_is in
     let cut : length (c.args.self.now.taken ++ take (c.in-Ok-Some.found.end - length c.as_slice.result.now) c.args.piece.now) ≡ c.in-Ok-Some.found.end =
     ap (λ n. length (c.args.self.now.taken ++ take (c.in-Ok-Some.found.end - n) c.args.piece.now)) same ∙ e.size in (
-      subst P (sym same) e.ends,
-      same_state _ _ c.clear.new.self [] c.self.inside.fault None
-          (same_stand (c.self.inside.stand.start + c.in-Ok-Some.found.end) (c.args.self.now.stand.start + length (c.args.self.now.taken ++ take (c.in-Ok-Some.found.end - length c.as_slice.result.now) c.args.piece.now)) c.in-Ok-Some.found.entry.cycle _ _ (omega (arith, start, cut)) c.is_end.ensures)
-          c.clear.ensures (ap (λ (r : State). r.fault) c.self.view_is ∙ c.requires.fresh),
+      (
+        subst P (sym same) e.ends,
+        same_state _ _ c.clear.new.self [] c.self.inside.fault None
+            (same_stand (c.self.inside.stand.start + c.in-Ok-Some.found.end)
+            (c.args.self.now.stand.start + length (c.args.self.now.taken ++ take (c.in-Ok-Some.found.end - length c.as_slice.result.now) c.args.piece.now))
+            c.in-Ok-Some.found.entry.cycle _ _ (omega (arith, start, cut)) c.is_end.ensures)
+            c.clear.ensures (ap (λ (r : State). r.fault) c.self.view_is ∙ c.requires.fresh),
+      ),
+      e.bytes,
     )
