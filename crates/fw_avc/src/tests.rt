@@ -1,5 +1,6 @@
 //! Frames to a unit and its responses.
 
+mod commands;
 mod states;
 mod worked;
 

@@ -1,5 +1,5 @@
 -- What nodes keep after a transaction of the script: no register of the account changes, and BUS_MANAGER_ID as the run says.
-use Rattle.std.proofs.Common.{true≢false, ◌≡◌, ◌≢◌, ℕ, ◌+◌, ◌*◌, ◌<◌, ◌≤◌, List, length, Bool, true, false, cond, ◌==◌, Option, Some, None, refl, ap, sym, subst, ◌∙◌, arith, IsTrue, IsFalse, ◌⊎◌, inl, inr, slice_set}
+use Rattle.std.proofs.Common.{true≢false, ◌≡◌, ◌≢◌, ℕ, ◌+◌, ◌*◌, ◌<◌, ◌≤◌, List, length, Bool, true, false, cond, ◌==◌, Option, Some, None, refl, ap, sym, subst, ◌∙◌, arith, IsTrue, IsFalse, ◌⊎◌, inl, inr, slice_set, unwrap_or}
 use Rattle.std.specs.Option.{option_map}
 use Rattle.std.proofs.lemmas.Bool.{cases_eq}
 use Rattle.std.proofs.lemmas.Bool.Decides.{nat_tests}
@@ -14,7 +14,7 @@ use Rattle.fw_csr.specs.Manager.{ManagerWords, after_at, words_after}
 use Rattle.fw_entry.specs.declared.entry.ResetEntry.{ResetEntry}
 use Rattle.fw_ledger.specs.Words.{node_of, first_address}
 use Rattle.fw_node.specs.Space.{space_after}
-use Rattle.fw_node.specs.Packets.{request_in, response_of}
+use Rattle.fw_node.specs.Packets.{request_in, packet_of, response_of, response_with}
 use Rattle.fw_node.specs.State.{NodeState, HasSpace, space_of, first_state, after_request}
 use Rattle.fw_node.proofs.Spaces.{space_kept}
 use Rattle.fw_devices.specs.Network.{kind_at, node_at}
@@ -22,17 +22,19 @@ use Rattle.fw_devices.specs.Entries.{is_number}
 use Rattle.fw_run.specs.declared.order.Access.{Access}
 use Rattle.fw_run.specs.declared.order.Access.TheVariants.{Read, Swap}
 use Rattle.fw_run.specs.declared.order.Transaction.{Transaction}
-use Rattle.fw_run.specs.State.{State, number_in, is_linked}
-use Rattle.fw_run.specs.Spaces.{space_at, is_manager, manager_words, access_request, access_packet, transaction_packet, response_from, bus_manager_id_after}
-use Rattle.fw_run.specs.Rules.{is_guarded, is_guarded_at}
-use Rattle.fw_run.specs.Good.{IsGood}
+use Rattle.fw_run.specs.State.{State, number_in, device_in, is_linked}
+use Rattle.fw_run.specs.Spaces.{space_at, is_manager, manager_words, access_request, answer_packet, transaction_head, target_node, bus_manager_id_after}
+use Rattle.fw_run.specs.Rules.{is_guarded_at}
+use Rattle.fw_bus.specs.Orders.{is_guarded}
+use Rattle.fw_run.specs.Good.{IsGood, IsLatest}
+use Rattle.fw_entry.specs.declared.nodes.NodeRow.{NodeRow}
 use Rattle.fw_bus.specs.Stands.{IsNodeAt, HasNodes}
 use Rattle.fw_bus.proofs.Latest.{on_number, numbers_apart}
-use Rattle.fw_bus.proofs.Nodes.{space_as, node_as, on_within, node_has, linked_on, response_same}
+use Rattle.fw_bus.proofs.Nodes.{space_as, node_as, on_within, node_has, linked_on, response_by_space}
 
 -- ---- registers that a request of the script leaves
 
-request_is : (h : Head) (a : Access) → request_in (access_packet h a) ≡ Some (access_request a)
+pub request_is : (h : Head) (a : Access) → request_in (packet_of h (access_request a)) ≡ Some (access_request a)
 request_is h (Read offset) = refl
 request_is h (Swap offset argument new) = refl
 
@@ -65,7 +67,7 @@ input_guarded k lt = grind (arith, nat_tests)
 -- ---- one node changes
 
 -- the node of one device changes
-pub nodes_set : (nodes : List NodeState) (s t : State) (d : ℕ) (n : NodeState) → HasNodes nodes s → length t.names ≡ length s.names → d < length nodes → IsNodeAt (number_in t.account.latest d) t d n
+pub nodes_set : (nodes : List NodeState) (s t : State) (d : ℕ) (n : NodeState) → HasNodes nodes s → length t.declared.names ≡ length s.declared.names → d < length nodes → IsNodeAt (number_in t.account.latest d) t d n
     → ((c : ℕ) → c ≢ d → c < length nodes → IsNodeAt (number_in t.account.latest c) t c (node_at nodes c)) → HasNodes (slice_set nodes d n) t
 nodes_set nodes s t d n h names low here others = record { size = length-set nodes d n ∙ h.size ∙ sym names; each = λ c lt. go c (cases_eq c d) (let e = length-set nodes d n in omega arith) }
   where
@@ -98,8 +100,8 @@ asked_here : (s : State) (x : Transaction) (n : NodeState) → IsFalse (is_guard
     → HasSpace (after_request (Some (access_request x.access)) n) (space_at (answered_state s x) x.to (node_of s.account.latest x.to))
 asked_here s x n free h =
     space_as (after_request (Some r) n) (space_after (space_at s x.to number) r) (space_at (answered_state s x) x.to number) (space_kept n (space_at s x.to number) r h) refl refl refl refl
-    (λ k lt. let few = (plugs_few (kind_at s.kinds x.to)).0 in sym (kept x.access (0x904 + 4 * k) (0xFFFF_F000_0904 + 4 * k) _ free (output_guarded k (omega arith)) (omega arith)))
-    (λ k lt. let few = (plugs_few (kind_at s.kinds x.to)).1 in sym (kept x.access (0x984 + 4 * k) (0xFFFF_F000_0984 + 4 * k) _ free (input_guarded k (omega arith)) (omega arith)))
+    (λ k lt. let few = (plugs_few (kind_at s.declared.kinds x.to)).0 in sym (kept x.access (0x904 + 4 * k) (0xFFFF_F000_0904 + 4 * k) _ free (output_guarded k (omega arith)) (omega arith)))
+    (λ k lt. let few = (plugs_few (kind_at s.declared.kinds x.to)).1 in sym (kept x.access (0x984 + 4 * k) (0xFFFF_F000_0984 + 4 * k) _ free (input_guarded k (omega arith)) (omega arith)))
     (go (is_manager s.account.latest number))
   where
     number : ℕ
@@ -131,19 +133,32 @@ asked_elsewhere s x d o n apart is = node_as s (answered_state s x) d o n refl r
 
 -- the node that was asked, and all others, after a request of the script
 pub transacted : (s : State) (nodes : List NodeState) (x : Transaction) → IsGood s → HasNodes nodes s → IsTrue (is_linked s x.to) → IsFalse (is_guarded x.access)
-    → HasNodes (slice_set nodes x.to (after_request (request_in (transaction_packet s x)) (node_at nodes x.to))) (record s { transaction = None; bus_manager_id = bus_manager_id_after s x })
+    → HasNodes (slice_set nodes x.to (after_request (Some (access_request x.access)) (node_at nodes x.to))) (record s { transaction = None; bus_manager_id = bus_manager_id_after s x })
 transacted s nodes x g h linked free =
     let on = linked_on s x.to linked in
     let number : number_in s.account.latest x.to ≡ Some (node_of s.account.latest x.to) = on_number s x.to on in
-    let here : HasSpace (after_request (request_in (transaction_packet s x)) (node_at nodes x.to)) (space_at (answered_state s x) x.to (node_of s.account.latest x.to)) =
-    let P : Option Request → Type 0 = λ o. HasSpace (after_request o (node_at nodes x.to)) (space_at (answered_state s x) x.to (node_of s.account.latest x.to)) in
-    subst P (sym (request_is _ x.access)) (asked_here s x (node_at nodes x.to) free (node_has nodes s x.to h g on))
-    in
-    let Q : Option ℕ → Type 0 = λ o. IsNodeAt o (answered_state s x) x.to (after_request (request_in (transaction_packet s x)) (node_at nodes x.to)) in
+    let here = asked_here s x (node_at nodes x.to) free (node_has nodes s x.to h g on) in
+    let Q : Option ℕ → Type 0 = λ o. IsNodeAt o (answered_state s x) x.to (after_request (Some (access_request x.access)) (node_at nodes x.to)) in
     nodes_set nodes s (answered_state s x) x.to _ h refl (on_within nodes s x.to h g on) (subst Q (sym number) here)
     (λ c ne lt. asked_elsewhere s x c (number_in s.account.latest c) (node_at nodes c) (λ m is same. ne (numbers_apart s c x.to m _ g is number same)) (h.each c lt))
 
--- the packet by which it answers is that of the run
-pub answers_same : (s : State) (nodes : List NodeState) (x : Transaction) → IsGood s → HasNodes nodes s → IsTrue (is_linked s x.to) → (number : ℕ) → (node_at nodes x.to).number ≡ Some number
-    → (p : Packet) → response_of (space_of number s.cycle (node_at nodes x.to)) (transaction_packet s x) ≡ Some p → response_from s x.to (transaction_packet s x) ≡ Some p
-answers_same s nodes x g h linked number is p answer = sym (response_same nodes s x.to h g (linked_on s x.to linked) number is (transaction_packet s x)) ∙ answer
+-- the device of a node is found by its number
+pub device_of_number : (s : State) (d n : ℕ) → IsGood s → number_in s.account.latest d ≡ Some n → device_in s.account.latest n ≡ Some d
+device_of_number s d n g at = go s.account.latest g.latest at
+  where
+    go : (o : Option ResetEntry) → IsLatest o s → number_in o d ≡ Some n → device_in o n ≡ Some d
+    go None h at = absurd (let z : ⊥ = cc in z)
+    go (Some e) h at = ap (option_map (λ (r : NodeRow). r.device)) (h.1.numbers d n at)
+
+-- the packet by which the node answers is that of the run
+pub answers_same : (s : State) (nodes : List NodeState) (x : Transaction) → IsGood s → HasNodes nodes s → IsTrue (is_linked s x.to) → (p : Packet)
+    → response_of (space_of (node_of s.account.latest x.to) s.clock.cycle (node_at nodes x.to)) (packet_of (transaction_head s x) (access_request x.access)) ≡ Some p
+    → answer_packet s (target_node s x) (transaction_head s x) (access_request x.access) ≡ Some p
+answers_same s nodes x g h linked p answer =
+    let n = node_of s.account.latest x.to in
+    let on = linked_on s x.to linked in
+    let q = packet_of (transaction_head s x) (access_request x.access) in
+    let device : device_in s.account.latest n ≡ Some x.to = device_of_number s x.to n g (on_number s x.to on) in
+    let same : response_of (space_at s x.to n) q ≡ Some p = sym (response_by_space (node_at nodes x.to) (space_at s x.to n) (node_has nodes s x.to h g on) q) ∙ answer in
+    ap (λ o. response_with (space_at s (unwrap_or o 0) n) q (Some (access_request x.access))) device
+    ∙ (ap (response_with (space_at s x.to n) q) (sym (request_is (transaction_head s x) x.access)) ∙ same)

@@ -3,42 +3,139 @@ use Rattle.std.proofs.Common.{◌≡◌, ℕ, ◌+◌, ◌-◌, ◌<◌, ◌≤�
 use Rattle.std.specs.Prelude.{Ok, Err, IsErr}
 use Rattle.std.specs.declared.result.Result.{Result}
 use Rattle.fw_outside.specs.Outside.{Grows}
-use Rattle.fw_bus.specs.Faults.{CountsFaults}
 use Rattle.fw_outside.proofs.Parts.{Grows-Grows, Grows-nothing}
 use Rattle.fw_entry.specs.declared.entry.Entry.{Entry}
+use Rattle.fw_entry.specs.declared.entry.Timed.{Timed}
 use Rattle.fw_entry.specs.Log.{entry_bytes}
-use Rattle.fw_bus.specs.declared.machine.Machine.{Machine}
 use Rattle.fw_run.specs.Giving.{at_cycle, log_bytes, Gives}
-use Rattle.fw_run.specs.Run.{Action, Steps, times}
+use Rattle.fw_run.specs.State.{State}
+use Rattle.fw_run.specs.Actions.{Action, Step, Steps}
+use Rattle.fw_run.specs.Carrying.{times}
+use Rattle.fw_run.specs.Good.{IsGood}
+use Rattle.fw_run.specs.Numbers.{HasNumbers}
 use Rattle.fw_run.proofs.Runs.{steps_then, log_append}
-use Rattle.fw_run.proofs.Sounds.{steps_good}
-use Rattle.fw_bus.specs.Stands.{IsReady, Turns, Talks, Does}
+use Rattle.fw_run.proofs.Steps.{steps_good}
+use Rattle.fw_run.proofs.Kept.{step_numbers}
+use Rattle.fw_bus.specs.declared.machine.Machine.{Machine}
+use Rattle.fw_bus.specs.Faults.{CountsFaults}
+use Rattle.fw_bus.specs.Stands.{IsReady, StandsFor}
+use Rattle.fw_bus.specs.Doings.{Deed, Acts, Turns, Talks, Done, Cut, Does}
 
-faults_then : {U F : Type 0} (k l m : ℕ) (r : Result U F) → l ≡ k → CountsFaults l m r → CountsFaults k m r
+-- ---- counts of faults
+
+pub faults_then : {U F : Type 0} (k l m : ℕ) (r : Result U F) → l ≡ k → CountsFaults l m r → CountsFaults k m r
 faults_then k l m (Ok _) first c = record { cause = record { later = omega (arith, first, c.same); failed = tt }; same = c.same ∙ first }
-faults_then k l m (Err _) first c = record { cause = record { later = omega (arith, first, c.cause.later); failed = grind (arith, c.cause.failed, first) }; same = tt }
+faults_then k l m (Err _) first c =
+    record { cause = record { later = omega (arith, first, c.cause.later); failed = grind (arith, c.cause.failed, first) }; same = tt }
 
-pub does_none : {T E : Type 0} (m : Machine) (held : Option (List ℕ)) (k : ℕ) (u : T) → Does {T = T} {E = E} [] m m held held k k (Ok u)
-does_none m held k u = record { faults = record { cause = record { later = omega arith; failed = tt }; same = refl }; shown = λ s g st. ([], s, (refl, refl), st, Grows-nothing held) }
+pub no_faults : {T E : Type 0} (k : ℕ) (u : T) → CountsFaults {T = T} {E = E} k k (Ok u)
+no_faults k u = record { cause = record { later = omega arith; failed = tt }; same = refl }
+
+-- ---- what is done
+
+-- one action from a state
+pub one_step : (s t : State) (a : Action) (out : List Timed) → Step s a out t → Steps s (a ∷ []) out t
+one_step s t a out f = (out, [], t, f, sym (append-nil out), (refl, refl))
+
+-- what is done of the one is done of the other, in the states that the machine stood for
+pub does_when : {T E : Type 0} {P Q : Deed} {m now : Machine} {a b : Option (List ℕ)} {k l : ℕ} {r : Result T E}
+    → ((s t : State) (xs : List Action) (out : List Timed) → IsGood s → StandsFor m s → P s xs out t → Steps s xs out t → Q s xs out t) → Does P m now a b k l r → Does Q m now a b k l r
+does_when {r = Ok u} to d = record {
+  faults = d.faults;
+  shown = λ s g st. let x = d.shown s g st in record {
+    actions = x.actions;
+    out = x.out;
+    state = x.state;
+    whole = to s x.state x.actions x.out g st x.whole x.steps;
+    steps = x.steps;
+    stands = x.stands;
+    grew = x.grew;
+  };
+}
+does_when {r = Err u} to d = record {
+  faults = d.faults;
+  shown = λ s g st. let x = d.shown s g st in record {
+    done = x.done;
+    later = x.later;
+    all = x.all;
+    last = x.last;
+    whole = to s x.last (x.done ++ x.later) x.all g st x.whole x.goes;
+    goes = x.goes;
+    given = x.given;
+    next = x.next;
+    state = x.state;
+    steps = x.steps;
+    front = x.front;
+    rest = x.rest;
+    parts = x.parts;
+    appended = x.appended;
+  };
+}
+
+pub does_as : {T E : Type 0} {P Q : Deed} {m now : Machine} {a b : Option (List ℕ)} {k l : ℕ} {r : Result T E}
+    → ((s t : State) (xs : List Action) (out : List Timed) → P s xs out t → Q s xs out t) → Does P m now a b k l r → Does Q m now a b k l r
+does_as to d = does_when (λ s t xs out g st x f. to s t xs out x) d
+
+-- nothing was done
+pub does_nothing : {T E : Type 0} {P : Deed} (m : Machine) (held : Option (List ℕ)) (k : ℕ) (u : T)
+    → ((s : State) → IsGood s → StandsFor m s → P s [] [] s) → Does {T = T} {E = E} P m m held held k k (Ok u)
+does_nothing m held k u nothing = record {
+  faults = no_faults k u;
+  shown = λ s g st. record {
+    actions = [];
+    out = [];
+    state = s;
+    whole = nothing s g st;
+    steps = (refl, refl);
+    stands = st;
+    grew = Grows-nothing held;
+  };
+}
+
+pub does_none : {T E : Type 0} (m : Machine) (held : Option (List ℕ)) (k : ℕ) (u : T) → Does {T = T} {E = E} (Acts []) m m held held k k (Ok u)
+does_none m held k u = does_nothing m held k u (λ s g st. (refl, (refl, refl)))
 
 -- an action whose entry was written, or cut off
-pub does_one : {T E : Type 0} {a : Action} {m now : Machine} {held after : Option (List ℕ)} {k l : ℕ} (cycle : ℕ) (e : Option Entry) (r : Result T E) → Turns a m now cycle e → Gives held after r cycle e → CountsFaults k l r → Does (a ∷ []) m now held after k l r
-does_one cycle None (Ok u) turn gives faults = record { faults = faults; shown = λ s g st. let x = turn.shown s g st in ([], x.0, ([], [], x.0, x.1, refl, (refl, refl)), x.2, gives) }
-does_one {held = held} {after} cycle (Some e) (Ok u) turn gives faults = record {
+pub does_one : {T E : Type 0} {a : Action} {m now : Machine} {held after : Option (List ℕ)} {k l : ℕ} (cycle : ℕ) (e : Option Entry) (r : Result T E)
+    → Turns a m now cycle e → Gives held after r cycle e → CountsFaults k l r → Does (Acts (a ∷ [])) m now held after k l r
+does_one {a = a} cycle None (Ok u) turn gives faults = record {
   faults = faults;
-  shown = λ s g st. let x = turn.shown s g st in (at_cycle cycle e ∷ [], x.0, (at_cycle cycle e ∷ [], [], x.0, x.1, refl, (refl, refl)), x.2, subst (Grows held after) (sym (append-nil (entry_bytes (at_cycle cycle e)))) gives);
+  shown = λ s g st. let x = turn.shown s g st in let f = one_step s x.0 a [] x.1 in record {
+    actions = a ∷ [];
+    out = [];
+    state = x.0;
+    whole = (refl, f);
+    steps = f;
+    stands = x.2;
+    grew = gives;
+  };
+}
+does_one {a = a} {held = held} {after} cycle (Some e) (Ok u) turn gives faults = record {
+  faults = faults;
+  shown = λ s g st. let x = turn.shown s g st in let f = one_step s x.0 a (at_cycle cycle e ∷ []) x.1 in record {
+    actions = a ∷ [];
+    out = at_cycle cycle e ∷ [];
+    state = x.0;
+    whole = (refl, f);
+    steps = f;
+    stands = x.2;
+    grew = subst (Grows held after) (sym (append-nil (entry_bytes (at_cycle cycle e)))) gives;
+  };
 }
 does_one cycle None (Err u) turn gives faults = absurd gives
 does_one {a = a} cycle (Some e) (Err u) turn gives faults = record {
   faults = faults;
-  shown = λ s g st. let x = turn.shown s g st in record {
+  shown = λ s g st. let x = turn.shown s g st in let f = one_step s x.0 a (at_cycle cycle e ∷ []) x.1 in record {
     done = a ∷ [];
     later = [];
-    actions_are = refl;
+    all = at_cycle cycle e ∷ [];
+    last = x.0;
+    whole = (refl, f);
+    goes = f;
     given = [];
     next = at_cycle cycle e;
     state = x.0;
-    steps = (at_cycle cycle e ∷ [], [], x.0, x.1, refl, (refl, refl));
+    steps = f;
     front = gives.front;
     rest = gives.rest;
     parts = gives.parts;
@@ -46,135 +143,179 @@ does_one {a = a} cycle (Some e) (Err u) turn gives faults = record {
   };
 }
 
-pub does_then : {T E U F : Type 0} {xs ys : List Action} {m mid now : Machine} {a b c : Option (List ℕ)} {k l n : ℕ} {u : T} (r : Result U F) → Does {T = T} {E = E} xs m mid a b k l (Ok u) → Does ys mid now b c l n r → Does (xs ++ ys) m now a c k n r
-does_then {xs = xs} {ys} {a = a} {b} {c} {k} {l} {n} (Ok w) f g = record {
+-- an action that writes nothing
+pub does_silent : {T E : Type 0} {a : Action} {m now : Machine} (held : Option (List ℕ)) (k cycle : ℕ) (u : T) → Turns a m now cycle None
+    → Does {T = T} {E = E} (Acts (a ∷ [])) m now held held k k (Ok u)
+does_silent held k cycle u turn = does_one cycle None (Ok u) turn (Grows-nothing held) (no_faults k u)
+
+-- ---- one after another
+
+-- one thing done after another comes to a third
+abbrev pub Follows : Machine → Deed → Deed → Deed → Type 0
+Follows m P Q R =
+    (s mid t : State) (xs ys : List Action) (a b : List Timed) → IsGood s → StandsFor m s → P s xs a mid → Steps s xs a mid → Q mid ys b t → Steps mid ys b t → R s (xs ++ ys) (a ++ b) t
+
+pub does_then : {T E U F : Type 0} {P Q R : Deed} {m mid now : Machine} {a b c : Option (List ℕ)} {k l n : ℕ} {u : T} (r : Result U F)
+    → Follows m P Q R → Does {T = T} {E = E} P m mid a b k l (Ok u) → Does Q mid now b c l n r → Does R m now a c k n r
+does_then {a = a} {b} {c} {k} {l} {n} (Ok w) follows f g = record {
   faults = faults_then k l n (Ok w) f.faults.same g.faults;
   shown = λ s good st.
       let x = f.shown s good st in
-      let y = g.shown x.1 (steps_good s x.1 xs x.0 good x.2) x.3 in
-      (x.0 ++ y.0, y.1, steps_then s x.1 y.1 xs ys x.0 y.0 x.2 y.2, y.3, rw (log_append x.0 y.0) (Grows-Grows a b c (log_bytes x.0) (log_bytes y.0) x.4 y.4));
+      let y = g.shown x.state (steps_good s x.state x.actions x.out good x.steps) x.stands in
+      record {
+        actions = x.actions ++ y.actions;
+        out = x.out ++ y.out;
+        state = y.state;
+        whole = follows s x.state y.state x.actions y.actions x.out y.out good st x.whole x.steps y.whole y.steps;
+        steps = steps_then s x.state y.state x.actions y.actions x.out y.out x.steps y.steps;
+        stands = y.stands;
+        grew = rw (log_append x.out y.out) (Grows-Grows a b c (log_bytes x.out) (log_bytes y.out) x.grew y.grew);
+      };
 }
-does_then {xs = xs} {ys} {a = a} {b} {c} {k} {l} {n} (Err w) f g = record {
+does_then {R = R} {a = a} {b} {c} {k} {l} {n} (Err w) follows f g = record {
   faults = faults_then k l n (Err w) f.faults.same g.faults;
   shown = λ s good st.
       let x = f.shown s good st in
-      let y = g.shown x.1 (steps_good s x.1 xs x.0 good x.2) x.3 in
+      let y = g.shown x.state (steps_good s x.state x.actions x.out good x.steps) x.stands in
+      let assoc = append_assoc x.actions y.done y.later in
       record {
-        done = xs ++ y.done;
+        done = x.actions ++ y.done;
         later = y.later;
-        actions_are = ap (λ z. xs ++ z) y.actions_are ∙ sym (append_assoc xs y.done y.later);
-        given = x.0 ++ y.given;
+        all = x.out ++ y.all;
+        last = y.last;
+        whole = subst (λ z. R s z (x.out ++ y.all) y.last) (sym assoc) (follows s x.state y.last x.actions (y.done ++ y.later) x.out y.all good st x.whole x.steps y.whole y.goes);
+        goes = subst (λ z. Steps s z (x.out ++ y.all) y.last) (sym assoc) (steps_then s x.state y.last x.actions (y.done ++ y.later) x.out y.all x.steps y.goes);
+        given = x.out ++ y.given;
         next = y.next;
         state = y.state;
-        steps = subst (λ z. Steps s (xs ++ y.done) z y.state) (sym (append_assoc x.0 y.given (y.next ∷ []))) (steps_then s x.1 y.state xs y.done x.0 (y.given ++ y.next ∷ []) x.2 y.steps);
+        steps = subst (λ z. Steps s (x.actions ++ y.done) z y.state) (sym (append_assoc x.out y.given (y.next ∷ [])))
+            (steps_then s x.state y.state x.actions y.done x.out (y.given ++ y.next ∷ []) x.steps y.steps);
         front = y.front;
         rest = y.rest;
         parts = y.parts;
-        appended = subst (Grows a c) (sym (ap (λ z. z ++ y.front) (log_append x.0 y.given) ∙ append_assoc (log_bytes x.0) (log_bytes y.given) y.front)) (Grows-Grows a b c (log_bytes x.0) (log_bytes y.given ++ y.front) x.4 y.appended);
+        appended = subst (Grows a c) (sym (ap (λ z. z ++ y.front) (log_append x.out y.given) ∙ append_assoc (log_bytes x.out) (log_bytes y.given) y.front))
+            (Grows-Grows a b c (log_bytes x.out) (log_bytes y.given ++ y.front) x.grew y.appended);
       };
 }
 
--- what was cut off is a front of more
-pub does_cut : {U F V G : Type 0} {xs : List Action} {m now last : Machine} {a b : Option (List ℕ)} {k l : ℕ} (ys : List Action) (q : Result U F) (r : Result V G) → IsErr q → IsErr r → Does xs m now a b k l q → Does (xs ++ ys) m last a b k l r
-does_cut ys (Ok u) r is was f = let no : ⊥ = grind (arith, is) in absurd no
-does_cut ys (Err u) (Ok v) is was f = let no : ⊥ = grind (arith, was) in absurd no
-does_cut ys (Err u) (Err v) is was f = record {
+-- these actions, and then those
+pub acts_follow : {m : Machine} (xs ys : List Action) → Follows m (Acts xs) (Acts ys) (Acts (xs ++ ys))
+acts_follow xs ys s m t zs ws a b good st f p g q = (ap (λ z. z ++ ws) f.0 ∙ ap (λ z. xs ++ z) g.0, steps_then s m t xs ys a b f.1 g.1)
+
+-- ---- what was cut off
+
+-- what was done could have been gone on with
+abbrev pub GoesOn : Machine → Deed → Deed → Type 0
+GoesOn m P R =
+    (s u : State) (xs : List Action) (a : List Timed) → IsGood s → StandsFor m s → P s xs a u → Steps s xs a u
+    → (ys : List Action) × (b : List Timed) × (t : State) × R s (xs ++ ys) (a ++ b) t × Steps u ys b t
+
+pub does_cut : {U F V G : Type 0} {P R : Deed} {m now last : Machine} {a b : Option (List ℕ)} {k l : ℕ} (q : Result U F) (r : Result V G)
+    → GoesOn m P R → IsErr q → IsErr r → Does P m now a b k l q → Does R m last a b k l r
+does_cut (Ok u) r on is was f = let no : ⊥ = grind (arith, is) in absurd no
+does_cut (Err u) (Ok v) on is was f = let no : ⊥ = grind (arith, was) in absurd no
+does_cut {R = R} (Err u) (Err v) on is was f = record {
   faults = record { cause = record { later = f.faults.cause.later; failed = f.faults.cause.failed }; same = tt };
-  shown = λ s good st. let y = f.shown s good st in record {
-    done = y.done;
-    later = y.later ++ ys;
-    actions_are = ap (λ z. z ++ ys) y.actions_are ∙ append_assoc y.done y.later ys;
-    given = y.given;
-    next = y.next;
-    state = y.state;
-    steps = y.steps;
-    front = y.front;
-    rest = y.rest;
-    parts = y.parts;
-    appended = y.appended;
-  };
+  shown = λ s good st.
+      let y = f.shown s good st in
+      let x = on s y.last (y.done ++ y.later) y.all good st y.whole y.goes in
+      let assoc = append_assoc y.done y.later x.0 in
+      record {
+        done = y.done;
+        later = y.later ++ x.0;
+        all = y.all ++ x.1;
+        last = x.2;
+        whole = subst (λ z. R s z (y.all ++ x.1) x.2) assoc x.3;
+        goes = subst (λ z. Steps s z (y.all ++ x.1) x.2) assoc (steps_then s y.last x.2 (y.done ++ y.later) x.0 y.all x.1 y.goes x.4);
+        given = y.given;
+        next = y.next;
+        state = y.state;
+        steps = y.steps;
+        front = y.front;
+        rest = y.rest;
+        parts = y.parts;
+        appended = y.appended;
+      };
 }
 
--- the machine is ready for what comes next
-pub ready_after : {T E : Type 0} {xs : List Action} {m now : Machine} {a b : Option (List ℕ)} {k l : ℕ} {u : T} → IsReady m → Does {T = T} {E = E} xs m now a b k l (Ok u) → IsReady now
-ready_after {xs = xs} r f = let x = f.shown r.state r.good r.stands in record { state = x.1; good = steps_good r.state x.1 xs x.0 r.good x.2; stands = x.3 }
+-- ---- the machine is ready for what comes next
 
--- an action that writes nothing
-pub does_silent : {T E : Type 0} {a : Action} {m now : Machine} (held : Option (List ℕ)) (k cycle : ℕ) (u : T) → Turns a m now cycle None → Does {T = T} {E = E} (a ∷ []) m now held held k k (Ok u)
-does_silent held k cycle u turn = does_one cycle None (Ok u) turn (Grows-nothing held) (record { cause = record { later = omega arith; failed = tt }; same = refl })
+pub steps_numbers : (s t : State) (xs : List Action) (out : List Timed) → IsGood s → HasNumbers s → Steps s xs out t → HasNumbers t
+steps_numbers s t [] out g b f = subst HasNumbers (sym f.1) b
+steps_numbers s t (x ∷ xs) out g b f = steps_numbers f.2 t xs f.1 (steps_good s f.2 (x ∷ []) f.0 g (one_step s f.2 x f.0 f.3)) (step_numbers s x f.0 f.2 g b f.3) f.5
 
--- ---- so many times
-
-pub times_none : {T E : Type 0} (x : Action) (m : Machine) (held : Option (List ℕ)) (k : ℕ) (u : T) → Does {T = T} {E = E} (times 0 x) m m held held k k (Ok u)
-unfolding times
-times_none x m held k u = does_none m held k u
-
-pub times_then : {T E U F : Type 0} (x : Action) (i : ℕ) {m mid now : Machine} {a b c : Option (List ℕ)} {k l n : ℕ} {u : T} {r : Result U F} → Does {T = T} {E = E} (times i x) m mid a b k l (Ok u) → Does (x ∷ []) mid now b c l n r → Does (times (i + 1) x) m now a c k n r
-unfolding times
-times_then x i {r = r} d e = rw add-one (does_then r d e)
-
-times_front : (x : Action) (j k : ℕ) → (rest : List Action) × (times (j + k) x ≡ times j x ++ rest)
-unfolding times
-times_front x j zero = let none : j + 0 ≡ j = omega arith in ([], ap (λ n. times n x) none ∙ sym (append-nil (times j x)))
-times_front x j (suc k) = let f = times_front x j k in let one : j + suc k ≡ suc (j + k) = omega arith in (f.0 ++ x ∷ [], ap (λ n. times n x) one ∙ ap (λ z. z ++ x ∷ []) f.1 ∙ append_assoc (times j x) f.0 (x ∷ []))
-
--- a turn was cut off
-pub times_cut : {T E U F V G : Type 0} (x : Action) (i : ℕ) {m mid now : Machine} {a b c : Option (List ℕ)} {k l n : ℕ} {u : T} (count : ℕ) (q : Result U F) (r : Result V G) → i < count → IsErr q → IsErr r → Does {T = T} {E = E} (times i x) m mid a b k l (Ok u) → Does (x ∷ []) mid now b c l n q → Does (times count x) m now a c k n r
-times_cut x i {m} {now = now} {a} {c = c} {k} {n = n} count q r lt was is d e =
-    let f = times_front x (i + 1) (count - (i + 1)) in
-    let same : i + 1 + (count - (i + 1)) ≡ count = omega (arith, lt) in
-    subst (λ z. Does (times z x) m now a c k n r) same (subst (λ z. Does z m now a c k n r) (sym f.1) (does_cut f.0 q r was is (times_then x i d e)))
-
--- all turns were done
-pub times_all : {T E : Type 0} (x : Action) (i n : ℕ) {m now : Machine} {a b : Option (List ℕ)} {k l : ℕ} {u : T} → i ≡ n → Does {T = T} {E = E} (times i x) m now a b k l (Ok u) → Does {T = T} {E = E} (times n x) m now a b k l (Ok u)
-times_all {E = E} x i n {m = m} {now} {a} {b} {k} {l} {u} e d = subst (λ z. Does {E = E} (times z x) m now a b k l (Ok u)) e d
+pub ready_after : {T E : Type 0} {P : Deed} {m now : Machine} {a b : Option (List ℕ)} {k l : ℕ} {u : T}
+    → IsReady m → Does {T = T} {E = E} P m now a b k l (Ok u) → IsReady now
+ready_after r f = let x = f.shown r.state r.good r.stands in record {
+  state = x.state;
+  good = steps_good r.state x.state x.actions x.out r.good x.steps;
+  numbers = steps_numbers r.state x.state x.actions x.out r.good r.numbers x.steps;
+  stands = x.stands;
+}
 
 -- ---- a transaction: its request and its response, before their entries are written
 
--- both were written, or the one that was cut off
-pub does_asked : {T E U F : Type 0} {a b : Action} {m now : Machine} {held after : Option (List ℕ)} {k l n : ℕ} {u : T} (mid : Option (List ℕ)) (cycle : ℕ) (e f : Entry) (r : Result U F) → Talks a b m now cycle e f
-    → Gives {T = T} {E = E} held mid (Ok u) cycle (Some e) → CountsFaults {T = T} {E = E} k l (Ok u) → Gives mid after r cycle (Some f) → CountsFaults l n r → Does (a ∷ b ∷ []) m now held after k n r
-does_asked {held = held} {after} {k} {l} {n} mid cycle e f (Ok w) talk gives faults given also = record {
+-- the two actions of it
+pub talk_steps : (s mid t : State) (a b : Action) (cycle : ℕ) (e f : Entry) → Step s a (at_cycle cycle e ∷ []) mid → Step mid b (at_cycle cycle f ∷ []) t
+    → Steps s (a ∷ b ∷ []) (at_cycle cycle e ∷ at_cycle cycle f ∷ []) t
+talk_steps s mid t a b cycle e f g h = (at_cycle cycle e ∷ [], at_cycle cycle f ∷ [], mid, g, refl, one_step mid t b (at_cycle cycle f ∷ []) h)
+
+-- both entries were written, or the one that was cut off
+pub does_asked : {T E U F : Type 0} {a b : Action} {m now : Machine} {held after : Option (List ℕ)} {k l n : ℕ} {u : T} (mid : Option (List ℕ)) (cycle : ℕ) (e f : Entry) (r : Result U F)
+    → Talks a b m now cycle e f → Gives {T = T} {E = E} held mid (Ok u) cycle (Some e) → CountsFaults {T = T} {E = E} k l (Ok u) → Gives mid after r cycle (Some f) → CountsFaults l n r
+    → Does (Acts (a ∷ b ∷ [])) m now held after k n r
+does_asked {a = a} {b} {held = held} {after} {k} {l} {n} mid cycle e f (Ok w) talk gives faults given also = record {
   faults = faults_then k l n (Ok w) faults.same also;
-  shown = λ s g st. let x = talk.shown s g st in (
-    at_cycle cycle e ∷ at_cycle cycle f ∷ [],
-    x.1,
-    (at_cycle cycle e ∷ [], at_cycle cycle f ∷ [], x.0, x.2, refl, (at_cycle cycle f ∷ [], [], x.1, x.3, refl, (refl, refl))),
-    x.4,
-    subst (λ z. Grows held after (entry_bytes (at_cycle cycle e) ++ z)) (sym (append-nil (entry_bytes (at_cycle cycle f)))) (Grows-Grows held mid after (entry_bytes (at_cycle cycle e)) (entry_bytes (at_cycle cycle f)) gives given),
-  );
+  shown = λ s g st. let x = talk.shown s g st in let both = talk_steps s x.0 x.1 a b cycle e f x.2 x.3 in record {
+    actions = a ∷ b ∷ [];
+    out = at_cycle cycle e ∷ at_cycle cycle f ∷ [];
+    state = x.1;
+    whole = (refl, both);
+    steps = both;
+    stands = x.4;
+    grew = subst (λ z. Grows held after (entry_bytes (at_cycle cycle e) ++ z)) (sym (append-nil (entry_bytes (at_cycle cycle f))))
+        (Grows-Grows held mid after (entry_bytes (at_cycle cycle e)) (entry_bytes (at_cycle cycle f)) gives given);
+  };
 }
 does_asked {a = a} {b} {held = held} {after} {k} {l} {n} mid cycle e f (Err w) talk gives faults given also = record {
   faults = faults_then k l n (Err w) faults.same also;
-  shown = λ s g st. let x = talk.shown s g st in record {
+  shown = λ s g st. let x = talk.shown s g st in let both = talk_steps s x.0 x.1 a b cycle e f x.2 x.3 in record {
     done = a ∷ b ∷ [];
     later = [];
-    actions_are = refl;
+    all = at_cycle cycle e ∷ at_cycle cycle f ∷ [];
+    last = x.1;
+    whole = (refl, both);
+    goes = both;
     given = at_cycle cycle e ∷ [];
     next = at_cycle cycle f;
     state = x.1;
-    steps = (at_cycle cycle e ∷ [], at_cycle cycle f ∷ [], x.0, x.2, refl, (at_cycle cycle f ∷ [], [], x.1, x.3, refl, (refl, refl)));
+    steps = both;
     front = given.front;
     rest = given.rest;
     parts = given.parts;
-    appended = subst (λ z. Grows held after (z ++ given.front)) (sym (append-nil (entry_bytes (at_cycle cycle e)))) (Grows-Grows held mid after (entry_bytes (at_cycle cycle e)) given.front gives given.appended);
+    appended = subst (λ z. Grows held after (z ++ given.front)) (sym (append-nil (entry_bytes (at_cycle cycle e))))
+        (Grows-Grows held mid after (entry_bytes (at_cycle cycle e)) given.front gives given.appended);
   };
 }
 
 -- the request was cut off
-pub does_unasked : {U F V G : Type 0} {a b : Action} {m now : Machine} {held after : Option (List ℕ)} {k l : ℕ} (cycle : ℕ) (e f : Entry) (q : Result U F) (r : Result V G) → Talks a b m now cycle e f → IsErr q → IsErr r → Gives held after q cycle (Some e) → CountsFaults k l q → Does (a ∷ b ∷ []) m now held after k l r
+pub does_unasked : {U F V G : Type 0} {a b : Action} {m now : Machine} {held after : Option (List ℕ)} {k l : ℕ} (cycle : ℕ) (e f : Entry) (q : Result U F) (r : Result V G)
+    → Talks a b m now cycle e f → IsErr q → IsErr r → Gives held after q cycle (Some e) → CountsFaults k l q → Does (Acts (a ∷ b ∷ [])) m now held after k l r
 does_unasked cycle e f (Ok u) r talk is was gives faults = let no : ⊥ = grind (arith, is) in absurd no
 does_unasked cycle e f (Err w) (Ok v) talk is was gives faults = let no : ⊥ = grind (arith, was) in absurd no
 does_unasked {a = a} {b} cycle e f (Err w) (Err v) talk is was gives faults = record {
   faults = record { cause = record { later = faults.cause.later; failed = faults.cause.failed }; same = tt };
-  shown = λ s g st. let x = talk.shown s g st in record {
+  shown = λ s g st. let x = talk.shown s g st in let both = talk_steps s x.0 x.1 a b cycle e f x.2 x.3 in record {
     done = a ∷ [];
     later = b ∷ [];
-    actions_are = refl;
+    all = at_cycle cycle e ∷ at_cycle cycle f ∷ [];
+    last = x.1;
+    whole = (refl, both);
+    goes = both;
     given = [];
     next = at_cycle cycle e;
     state = x.0;
-    steps = (at_cycle cycle e ∷ [], [], x.0, x.2, refl, (refl, refl));
+    steps = one_step s x.0 a (at_cycle cycle e ∷ []) x.2;
     front = gives.front;
     rest = gives.rest;
     parts = gives.parts;

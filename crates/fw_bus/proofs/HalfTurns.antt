@@ -1,294 +1,213 @@
--- One half step of the machine is one action of the run.
-use Rattle.std.proofs.Common.{◌≡◌, ◌≢◌, ℕ, ◌+◌, ◌<◌, ◌==◌, List, [], ◌∷◌, Bool, true, false, Option, Some, None, cond, eqb, refl, ap, sym, subst, ◌∙◌, arith, length, map, slice_set, IsTrue}
-use Rattle.std.proofs.lemmas.Bool.Decides.{nat_tests}
-use Rattle.fw_csr.specs.declared.request.Request.{Request as NodeRequest}
+-- The machine after a half step, and the half step in which no request stands: the controller says what it does next.
+use Rattle.std.proofs.Common.{◌≡◌, ◌⊎◌, inl, inr, ℕ, ◌<◌, length, List, Option, Some, None, IfSome, unwrap_or, refl, ap, sym, subst, ◌∙◌, arith, IsTrue}
+use Rattle.std.proofs.lemmas.Option.{same_Some}
+use Rattle.fw_base.specs.Tables.{update, at_plug}
+use Rattle.fw_async.specs.declared.packet.Packet.{Packet}
+use Rattle.fw_csr.specs.declared.request.Request.{Request}
 use Rattle.fw_entry.specs.declared.entry.Entry.{Entry}
 use Rattle.fw_entry.specs.declared.entry.Entry.TheVariants.{Async}
-use Rattle.fw_cmp.specs.declared.job.Job.{Job}
-use Rattle.fw_cmp.specs.declared.stage.Stage.{Stage}
-use Rattle.fw_cmp.specs.declared.stage.Stage.TheVariants.{ReadOutput}
-use Rattle.fw_cmp.specs.declared.request.Request.{Request}
-use Rattle.fw_cmp.specs.Stages.{request_of, is_over}
-use Rattle.fw_step.proofs.StageFits.{job_fits, stage_fits}
-use Rattle.fw_node.specs.Packets.{request_in, response_of}
-use Rattle.fw_node.specs.State.{NodeState, HasSpace, after_request, space_of}
-use Rattle.fw_node.specs.State as NodeStates
-use Rattle.fw_tree.specs.SelfIds.{facts_at}
-use Rattle.fw_devices.specs.Network.{Network, kinds_of, kind_at, node_at}
-use Rattle.fw_devices.specs.Entries.{lone_deck}
-use Rattle.fw_run.specs.declared.controller.Controller.{Controller}
-use Rattle.fw_run.specs.declared.controller.Controller.TheVariants.{Idle, Waiting, Asking, Hearing}
-use Rattle.fw_run.specs.Giving.{at_most}
-use Rattle.fw_run.specs.Packets.{request_packet}
-use Rattle.fw_run.specs.Outcomes.{asked_or_ended}
-use Rattle.fw_run.specs.State.{State, number_in, epoch_of, manager_in, is_on}
-use Rattle.fw_run.specs.Spaces.{space_at, response_from}
-use Rattle.fw_run.specs.Halves.{half_says, half_after, half_says_by, half_after_by, asks_after, heard_after, answers, response_entry, counted, hears_after}
-use Rattle.fw_run.specs.Run.{HalfStep, Step}
-use Rattle.fw_run.specs.Good.{IsGood, InStep, IsLone}
-use Rattle.fw_run.proofs.Registers.{own_request, is_lone, not_idle}
-use Rattle.fw_run.proofs.HalfSpaces.{IsHearing, half_space, asks_space}
-use Rattle.fw_run.proofs.HalfKeeps.{HalfKeeps, half_keeps}
+use Rattle.fw_ledger.specs.Account.{Account, Request as Outstanding}
+use Rattle.fw_ledger.specs.Packets.{asked, ended}
+use Rattle.fw_ledger.specs.Words.{Register, BandwidthAvailable, ChannelsAvailable, OutputPlug, InputPlug, word_of, node_of}
+use Rattle.fw_cmp.specs.declared.current.Current.{Current}
+use Rattle.fw_cmp.specs.declared.current.Current.TheVariants.{Nothing, Asking, Hearing, Overtaken}
+use Rattle.fw_cmp.specs.declared.outcome.Next.{Next}
+use Rattle.fw_cmp.specs.declared.outcome.Next.TheVariants.{Send, Idle, Waiting}
+use Rattle.fw_cmp.specs.declared.request.Target.TheVariants as target
+use Rattle.fw_cmp.specs.Controllers.{ControllerState, IsHeard}
+use Rattle.fw_cmp.specs.Nodes.{HasNodeNumbers}
+use Rattle.fw_cmp.specs.Nodes as Told
+use Rattle.fw_cmp.specs.Turns.{next, after_next}
+use Rattle.fw_step.specs.Controllers.{IsDirectory}
+use Rattle.fw_node.specs.Packets.{packet_of, request_head}
+use Rattle.fw_node.specs.State.{NodeState}
+use Rattle.fw_devices.specs.Network.{kinds_of, no_entry, node_at}
+use Rattle.fw_run.specs.State.{State, entered_by, epoch_of, directory_of, is_living, list_to, linked_number, manager_in}
+use Rattle.fw_run.specs.HalfSteps.{said, asks, half, half_of, taken, after_half}
+use Rattle.fw_run.specs.Good.{IsGood}
+use Rattle.fw_run.proofs.Directories.{told}
+use Rattle.fw_run.proofs.Fitting.{EntryFits, half_fits}
+use Rattle.fw_run.proofs.Leads.{IsLinked, linked_of}
+use Rattle.fw_run.proofs.Responses.{node_of_target}
+use Rattle.fw_run.proofs.Turns.{Turns, sends, rests, turns, living_linked}
 use Rattle.fw_bus.specs.declared.machine.Machine.{Machine}
-use Rattle.fw_bus.specs.Turning.{Turned, TurnedBy, Rests, Asks, Hears, HearsBy, Begins, HasNode, ControllerFits, asking_or_idle, answered_by}
-use Rattle.std.specs.declared.result.Result.{Result}
-use Rattle.fw_base.specs.Devices.{has_link}
-use Rattle.fw_bus.specs.Faults.{CountsFaults}
-use Rattle.fw_run.specs.Giving.{Gives}
-use Rattle.fw_bus.proofs.Doings.{does_one}
-use Rattle.fw_bus.specs.Stands.{StandsFor, HasNodes, IsNodeAt, IsReady, Turns, Does}
-use Rattle.fw_bus.proofs.Latest.{shown_by}
-use Rattle.fw_bus.proofs.Latest.{numbers_apart}
-use Rattle.fw_bus.proofs.Nodes.{response_same, number_of_node, on_within}
-use Rattle.fw_bus.proofs.Asked.{nodes_set}
+use Rattle.fw_bus.specs.Doings.{Takes}
+use Rattle.fw_bus.specs.Stands.{HasNodes, StandsFor, IsReady, is_living_in, manager_device}
+use Rattle.fw_bus.specs.Tables.{ControllerTable, IsTable, count_of, states_of, dead_of}
+use Rattle.fw_bus.proofs.HalfNodes.{state_with}
+use Rattle.fw_bus.proofs.Latest.{number_low}
+use Rattle.fw_bus.proofs.Living.{living_same}
+use Rattle.fw_bus.proofs.Nodes.{nodes_same, node_number_is, linked_on}
 
--- one half step more was given
-abbrev pub bumped : Machine → Machine
-bumped m = record m { half_steps = m.half_steps + 1 }
+-- ---- the machine stands for a state that differs in the account and in one controller
 
--- ---- the nodes
+-- the bus that the account has is the same
+pub record SameBus (l m : Account) : Type 0 where
+  pub latest : m.latest ≡ l.latest
+  pub reclaiming : m.reclaiming ≡ l.reclaiming
 
--- a device that is off stays as it was declared
-off_stays : (s t : State) (d : ℕ) (n : NodeState) → HalfKeeps s t → IsNodeAt None s d n → IsNodeAt None t d n
-off_stays s t d n k h = h ∙ (ap (λ xs. NodeStates.first_state (kind_at xs d) d (facts_at s.topology.devices d).speed) (sym k.kinds) ∙ ap (λ x. NodeStates.first_state (kind_at t.kinds d) d (facts_at x d).speed) (ap (λ (p : Rattle.fw_tree.specs.Topology.Topology). p.devices) (sym k.topology)))
-
--- any half step but that of a controller that hears leaves what nodes keep
-nodes_rest : (nodes : List NodeState) (s : State) (e : ℕ) → IsGood s → (e ≡ 0 → IsHearing s.controller → ⊥) → HasNodes nodes s → HasNodes nodes (half_after s e)
-nodes_rest nodes s e g not h = record {
-  size = h.size ∙ ap (λ (xs : List (List ℕ)). length xs) (sym k.names);
-  each = λ d lt. subst (λ o. IsNodeAt o (half_after s e) d (node_at nodes d)) (ap (λ o. number_in o d) (sym k.account.latest)) (go d (number_in s.account.latest d) (h.each d lt));
+-- the table with one other controller
+pub table_with : (m : Machine) (s : State) (k : ControllerTable) (d : ℕ) (c e : ControllerState) → StandsFor m s → c ≡ e
+    → IsTable k (count_of m.controllers) (update (states_of m.controllers) d c) (dead_of m.controllers)
+    → IsTable k (length s.declared.names) (update s.controllers d e) s.dead
+table_with m s k d c e st same h = let t = st.controllers.table in record {
+  count_is = h.count_is ∙ t.count_is;
+  states_are = h.states_are ∙ (λ i. update (t.states_are i) d (same i));
+  dead_are = h.dead_are ∙ t.dead_are;
 }
+
+-- the machine with these nodes and controllers stands for the state with this account
+pub stands_with : (m : Machine) (s : State) (nodes : List NodeState) (k : ControllerTable) (l : Account) (f : ℕ → ControllerState) → StandsFor m s
+    → SameBus s.account l → kinds_of nodes ≡ kinds_of m.devices.nodes → HasNodes nodes (state_with s l f) → IsTable k (length s.declared.names) f s.dead
+    → StandsFor (record m { devices = record m.devices { nodes = nodes }; controllers = k }) (state_with s l f)
+stands_with m s nodes k l f st same kinds h table = record {
+  devices = record {
+    topology = st.devices.topology;
+    names = st.devices.names;
+    kinds = kinds ∙ st.devices.kinds;
+    nodes = h;
+    latest = st.devices.latest ∙ sym (ap (λ o. unwrap_or o no_entry) same.latest);
+    epoch = st.devices.epoch ∙ sym (ap epoch_of same.latest);
+    manager = st.devices.manager ∙ sym (ap manager_device same.latest);
+  };
+  clock =
+      record { cycle = st.clock.cycle; reclaiming = st.clock.reclaiming ∙ sym same.reclaiming; half_steps = st.clock.half_steps };
+  controllers =
+      record {
+        table = table;
+        directory = st.controllers.directory ∙ sym (ap (λ o. record { node = list_to 63 (linked_number o); manager = manager_in o; over_at = s.clock.over_at }) same.latest);
+      };
+  answered = st.answered;
+}
+
+-- ---- words that a request and its end leave
+
+-- a request that goes out changes no word
+pub asked_words : (d : ℕ) (q : Outstanding) (l : Account) (r : Register) → word_of (asked d q l) r ≡ word_of l r
+asked_words d q l BandwidthAvailable = refl
+asked_words d q l (ChannelsAvailable base) = refl
+asked_words d q l (OutputPlug p) = refl
+asked_words d q l (InputPlug p) = refl
+
+-- nor does the end of a request
+pub ended_words : (d : ℕ) (l : Account) (r : Register) → word_of (ended d l) r ≡ word_of l r
+ended_words d l BandwidthAvailable = refl
+ended_words d l (ChannelsAvailable base) = refl
+ended_words d l (OutputPlug p) = refl
+ended_words d l (InputPlug p) = refl
+
+-- ---- no request stands
+
+-- the half step is then what the controller does next
+pub asks_is : (s : State) (d : ℕ) → IsHeard (s.controllers d).current → half s d ≡ asks s d
+asks_is s d heard = go (s.controllers d).current heard
   where
-    k : HalfKeeps s (half_after s e)
-    k = half_keeps s e g
+    go : (c : Current) → IsHeard c → half_of s d c ≡ asks s d
+    go Nothing h = refl
+    go (Asking j stage) h = refl
+    go (Hearing j stage) h = absurd h
+    go (Overtaken i o) h = refl
 
-    go : (d : ℕ) (o : Option ℕ) → IsNodeAt o s d (node_at nodes d) → IsNodeAt o (half_after s e) d (node_at nodes d)
-    go d None is = off_stays s (half_after s e) d (node_at nodes d) k is
-    go d (Some n) is = asks_space s e g not d n (node_at nodes d) is
+-- what the controller says leaves the bus and all words
+pub record SameShown (l m : Account) : Type 0 where
+  pub bus : SameBus l m
+  pub words : (r : Register) → word_of m r ≡ word_of l r
 
--- the deck is node 0, and no other device is a node
-lone_number : (o : Option Rattle.fw_entry.specs.declared.entry.ResetEntry.ResetEntry) → IsLone o → number_in o 0 ≡ Some 0
-lone_number o l = ap (λ x. number_in x 0) l.2
-
-lone_others : (o : Option Rattle.fw_entry.specs.declared.entry.ResetEntry.ResetEntry) (d : ℕ) → IsLone o → d ≢ 0 → number_in o d ≡ None
-lone_others o d l ne = ap (λ x. number_in x d) l.2 ∙ (let test : eqb 0 d ≡ false = grind (arith, nat_tests, ne) in rw test refl)
-
--- a controller that hears: the deck's own node has answered
-nodes_heard : (nodes : List NodeState) (s : State) (j : Job) (stage : Stage) → IsGood s → s.controller ≡ Hearing j stage → is_over stage ≡ false → HasNodes nodes s
-    → HasNodes (slice_set nodes 0 (after_request (request_in (request_packet (own_request j stage))) (node_at nodes 0))) (half_after s 0)
-nodes_heard nodes s j stage g is goes_on h = nodes_set nodes s (half_after s 0) 0 _ h (ap (λ (xs : List (List ℕ)). length xs) k.names) (on_within nodes s 0 h g on) here
-    (λ d ne lt. subst (λ o. IsNodeAt o (half_after s 0) d (node_at nodes d)) (sym (lone_others _ d (subst IsLone (sym k.account.latest) lone) ne))
-    (off_stays s (half_after s 0) d (node_at nodes d) k (subst (λ o. IsNodeAt o s d (node_at nodes d)) (lone_others s.account.latest d lone ne) (h.each d lt))))
+-- whether a request goes out or not
+pub asks_leaves : (s : State) (d : ℕ) → IsGood s → IsTrue (is_living s d) → IsHeard (s.controllers d).current
+    → SameShown s.account (entered_by s.account (asks s d).says)
+asks_leaves s d g lives heard = go (turns s d x.number x.entry g x.is x.shows x.linked heard)
   where
-    k : HalfKeeps s (half_after s 0)
-    k = half_keeps s 0 g
+    x : IsLinked s d
+    x = linked_of s d g (living_linked s d lives)
 
-    lone : IsLone s.account.latest
-    lone = is_lone s g (not_idle s.controller (Hearing j stage) is (λ x. cc))
+    go : Turns s d → SameShown s.account (entered_by s.account (asks s d).says)
+    go (sends q out is) =
+        subst (SameShown s.account) (sym is) (record { bus = record { latest = refl; reclaiming = refl }; words = λ r. asked_words d q s.account r })
+    go (rests out is) = subst (SameShown s.account) (sym is) (record { bus = record { latest = refl; reclaiming = refl }; words = λ r. refl })
 
-    on : IsTrue (is_on s 0)
-    on = ap Rattle.std.proofs.Common.is_some (lone_number s.account.latest lone)
+-- what the controller answers is the same by the machine and by the run
+next_same : (m : Machine) (s : State) (d : ℕ) → StandsFor m s
+    → next m.cycle m.directory (states_of m.controllers d) ≡ next s.clock.cycle (directory_of s) (s.controllers d)
+next_same m s d st = λ i. next (st.clock.cycle i) (st.controllers.directory i) (st.controllers.table.states_are i d)
 
-    before : HasSpace (node_at nodes 0) (space_at s 0 0)
-    before = subst (λ o. IsNodeAt o s 0 (node_at nodes 0)) (lone_number s.account.latest lone) (h.each 0 (on_within nodes s 0 h g on))
+-- the machine stands for the state after it
+asks_stands : (m : Machine) (s : State) (k : ControllerTable) (d : ℕ) → IsGood s → StandsFor m s → IsTrue (is_living s d) → IsHeard (s.controllers d).current
+    → IsTable k (count_of m.controllers) (update (states_of m.controllers) d (after_next m.cycle m.directory (states_of m.controllers d))) (dead_of m.controllers)
+    → StandsFor (record m { controllers = k }) (after_half s d)
+asks_stands m s k d g st lives heard table =
+    let l : Account = entered_by s.account (asks s d).says in
+    let f : ℕ → ControllerState = update s.controllers d (after_next s.clock.cycle (directory_of s) (s.controllers d)) in
+    let same = asks_leaves s d g lives heard in
+    let t = st.controllers.table in
+    let becomes : after_next m.cycle m.directory (states_of m.controllers d) ≡ after_next s.clock.cycle (directory_of s) (s.controllers d) =
+    λ i. after_next (st.clock.cycle i) (st.controllers.directory i) (t.states_are i d) in
+    let nodes = nodes_same m.devices.nodes s (state_with s l f)
+    (record { names = refl; devices = refl; kinds = refl; latest = same.bus.latest; bus_manager_id = refl; words = same.words }) st.devices.nodes in
+    subst (λ h. StandsFor (record m { controllers = k }) (taken s d h)) (sym (asks_is s d heard))
+    (stands_with m s m.devices.nodes k l f st same.bus refl nodes (table_with m s k d _ _ st becomes table))
 
-    here : IsNodeAt (number_in (half_after s 0).account.latest 0) (half_after s 0) 0 (after_request (request_in (request_packet (own_request j stage))) (node_at nodes 0))
-    here = subst (λ o. IsNodeAt o (half_after s 0) 0 (after_request (request_in (request_packet (own_request j stage))) (node_at nodes 0))) (sym (lone_number _ (subst IsLone (sym k.account.latest) lone)))
-        (half_space s j stage g is goes_on (node_at nodes 0) before)
+-- the controller says what it says in the run
+pub takes_asks : (m : Machine) (k : ControllerTable) (d : ℕ) (e : Option Entry) → IsTrue (is_living_in m d) → IsHeard (states_of m.controllers d).current
+    → IsTable k (count_of m.controllers) (update (states_of m.controllers) d (after_next m.cycle m.directory (states_of m.controllers d))) (dead_of m.controllers)
+    → ((s : State) → IsGood s → StandsFor m s → e ≡ said s d (next m.cycle m.directory (states_of m.controllers d)))
+    → Takes half m (record m { controllers = k }) d e
+takes_asks m k d e lives heard table says = λ s g st.
+    let own : IsHeard (s.controllers d).current = subst (λ f. IsHeard (f d).current) st.controllers.table.states_are heard in
+    let living = sym (living_same m s d g st) ∙ lives in
+    (says s g st ∙ (ap (said s d) (next_same m s d st) ∙ sym (ap (λ h. h.says) (asks_is s d own))), asks_stands m s k d g st living own table)
 
--- ---- the machine stands for the state after it
+-- the packet of a request that goes out
+pub request_says : (m : Machine) (s : State) (d to own : ℕ) (q : Request) (p : Packet) (x : Next) → IsGood s → StandsFor m s → IsTrue (is_living_in m d)
+    → x ≡ Send to q → (node_at m.devices.nodes d).number ≡ Some own → p ≡ packet_of (request_head own to 0) q
+    → Some (Async p) ≡ said s d x
+request_says m s d to own q p x g st lives is number packet =
+    let living = sym (living_same m s d g st) ∙ lives in
+    let on = node_number_is m.devices.nodes s d st.devices.nodes g (linked_on s d (living_linked s d living)) in
+    let place : own ≡ node_of s.account.latest d = same_Some own (node_of s.account.latest d) (sym number ∙ on.0) in
+    ap (λ y. Some (Async y)) (packet ∙ ap (λ n. packet_of (request_head n to 0) q) place) ∙ sym (ap (said s d) is)
 
--- the machine after a half step of device 0: the network and the controller may have changed
-stands_after : (m now : Machine) (s t : State) → StandsFor m s → HalfKeeps s t → s.half_steps + 1 ≡ t.half_steps
-    → (network : Network) → now ≡ record m { half_steps = m.half_steps + 1; devices = network; controller = t.controller }
-    → network.topology ≡ m.devices.topology → network.names ≡ m.devices.names → kinds_of network.nodes ≡ kinds_of m.devices.nodes → network.epoch ≡ m.devices.epoch → network.manager ≡ m.devices.manager
-    → HasNodes network.nodes t → StandsFor now t
-stands_after m now s t st k steps network is topology names kinds epoch manager nodes = subst (λ x. StandsFor x t) (sym is) (record {
-  topology = topology ∙ (st.topology ∙ sym k.topology);
-  names = names ∙ (st.names ∙ sym k.names);
-  kinds = kinds ∙ (st.kinds ∙ sym k.kinds);
-  nodes = nodes;
-  epoch = epoch ∙ (st.epoch ∙ ap epoch_of (sym k.account.latest));
-  manager = manager ∙ (st.manager ∙ ap manager_in (sym k.account.latest));
-  cycle = st.cycle ∙ sym k.cycle;
-  reset_cycle = st.reset_cycle ∙ sym k.reset_cycle;
-  reclaiming = st.reclaiming ∙ sym k.account.reclaiming;
-  half_steps = ap (λ n. n + 1) st.half_steps ∙ steps;
-  began = st.began ∙ sym k.began;
-  controller = refl;
-  answered = k.transaction ∙ st.answered;
-})
-
--- ---- by what the controller does
-
--- it writes what the state's half step writes, and stands for the state after it
-abbrev pub Fits : Machine → Option Entry → State → Type 0
-Fits now e s = (e ≡ half_says s 0) × StandsFor now (half_after s 0)
-
--- the same, where the half step of the state is computed
-computed : (now : Machine) (e : Option Entry) (s t : State) (f : Option Entry) → half_says s 0 ≡ f → half_after s 0 ≡ t → e ≡ f → StandsFor now t → Fits now e s
-computed now e s t f says after same stands = (same ∙ sym says, subst (λ x. StandsFor now x) (sym after) stands)
-
-fits_rest : (m now : Machine) (s : State) (e : Option Entry) → IsGood s → StandsFor m s → (IsHearing s.controller → ⊥) → half_says s 0 ≡ None → half_after s 0 ≡ counted s → Rests (bumped m) now e → Fits now e s
-fits_rest m now s e g st not says after r = computed now e s (counted s) None says after r.says
-    (stands_after m now s (counted s) st (subst (λ x. HalfKeeps s x) after (half_keeps s 0 g)) refl m.devices
-    (r.after ∙ ap (λ c. record m { half_steps = m.half_steps + 1; controller = c }) st.controller) refl refl refl refl refl
-    (subst (λ x. HasNodes m.devices.nodes x) after (nodes_rest m.devices.nodes s 0 g (λ z. not) st.nodes)))
-
-fits_asks : (m now : Machine) (s : State) (e : Option Entry) (j : Job) (stage : Stage) (o : Option Request) → IsGood s → StandsFor m s → (IsHearing s.controller → ⊥)
-    → half_says s 0 ≡ Some (asked_or_ended o stage s.cycle) → half_after s 0 ≡ counted (asks_after o j stage s)
-    → e ≡ Some (asked_or_ended o stage m.cycle) → now ≡ record m { half_steps = m.half_steps + 1; controller = asking_or_idle o j stage } → Fits now e s
-fits_asks m now s e j stage None g st not says after wrote is = computed now e s _ _ says after (wrote ∙ ap (λ c. Some (asked_or_ended None stage c)) st.cycle)
-    (stands_after m now s _ st (subst (λ x. HalfKeeps s x) after (half_keeps s 0 g)) refl m.devices is refl refl refl refl refl
-    (subst (λ x. HasNodes m.devices.nodes x) after (nodes_rest m.devices.nodes s 0 g (λ z. not) st.nodes)))
-fits_asks m now s e j stage (Some q) g st not says after wrote is = computed now e s _ _ says after (wrote ∙ ap (λ c. Some (asked_or_ended (Some q) stage c)) st.cycle)
-    (stands_after m now s _ st (subst (λ x. HalfKeeps s x) after (half_keeps s 0 g)) refl m.devices is refl refl refl refl refl
-    (subst (λ x. HasNodes m.devices.nodes x) after (nodes_rest m.devices.nodes s 0 g (λ z. not) st.nodes)))
-
--- a node's kind stays
-kinds_set : (nodes : List NodeState) (o : Option NodeRequest) → kinds_of (slice_set nodes 0 (after_request o (node_at nodes 0))) ≡ kinds_of nodes
-kinds_set [] o = refl
-kinds_set (n ∷ nodes) None = refl
-kinds_set (n ∷ nodes) (Some r) = refl
-
-fits_hears : (m now : Machine) (s : State) (e : Option Entry) (j : Job) (stage : Stage) → IsGood s → StandsFor m s → s.controller ≡ Hearing j stage → is_over stage ≡ false → Hears (bumped m) now (own_request j stage) j stage e → Fits now e s
-fits_hears m now s e j stage g st is goes_on h = computed now e s (counted (heard_after (Some h.response) j stage s)) (Some (Async h.response)) says after h.says
-    (stands_after m now s (counted (heard_after (Some h.response) j stage s)) st (subst (λ x. HalfKeeps s x) after (half_keeps s 0 g)) refl (answered_by m.devices 0 (request_packet (own_request j stage))) h.after refl refl
-    (kinds_set m.devices.nodes (request_in (request_packet (own_request j stage)))) refl refl
-    (subst (λ x. HasNodes (slice_set m.devices.nodes 0 (after_request (request_in (request_packet (own_request j stage))) (node_at m.devices.nodes 0))) x) after (nodes_heard m.devices.nodes s j stage g is goes_on st.nodes)))
-  where
-    lone : IsLone s.account.latest
-    lone = is_lone s g (not_idle s.controller (Hearing j stage) is (λ x. cc))
-
-    on : IsTrue (is_on s 0)
-    on = ap Rattle.std.proofs.Common.is_some (lone_number s.account.latest lone)
-
-    number : (node_at m.devices.nodes 0).number ≡ Some 0
-    number = number_of_node m.devices.nodes s 0 st.nodes (on_within m.devices.nodes s 0 st.nodes g on) ∙ lone_number s.account.latest lone
-
-    answered : response_from s 0 (request_packet (own_request j stage)) ≡ Some h.response
-    answered = sym (response_same m.devices.nodes s 0 st.nodes g on 0 number (request_packet (own_request j stage)))
-        ∙ (subst (λ c. response_of (space_of 0 c (node_at m.devices.nodes 0)) (request_packet (own_request j stage)) ≡ Some h.response) st.cycle (h.answer.is 0 number))
-
-    says : half_says s 0 ≡ Some (Async h.response)
-    says = ap (λ c. half_says_by c s) is ∙ (ap (λ b. answers (cond b None (Some (own_request j stage))) s) goes_on ∙ ap response_entry answered)
-
-    after : half_after s 0 ≡ counted (heard_after (Some h.response) j stage s)
-    after = ap (λ c. counted (half_after_by c s)) is ∙ (ap (λ b. counted (hears_after (cond b None (Some (own_request j stage))) j stage s)) goes_on ∙ ap (λ o. counted (heard_after o j stage s)) answered)
-
-fits_own : (m now : Machine) (s : State) (e : Option Entry) → IsGood s → StandsFor m s → Turned s.controller (bumped m) now e → Fits now e s
-fits_own m now s e g st turned = go s.controller refl turned
-  where
-    waits : (j : Job) → s.controller ≡ Waiting j → (r : Bool) → s.account.reclaiming ≡ r → Begins r (bumped m) now j e → Fits now e s
-    waits j is true runs t = fits_rest m now s e g st (subst (λ c. IsHearing c → ⊥) (sym is) (λ x. x)) (ap (λ c. half_says_by c s) is ∙ ap (λ b. cond b None (Some (asked_or_ended (request_of j ReadOutput) ReadOutput s.cycle))) runs)
-        (ap (λ c. counted (half_after_by c s)) is ∙ ap (λ b. counted (cond b s (asks_after (request_of j ReadOutput) j ReadOutput s))) runs) t
-    waits j is false runs t = fits_asks m now s e j ReadOutput (request_of j ReadOutput) g st (subst (λ c. IsHearing c → ⊥) (sym is) (λ x. x)) (ap (λ c. half_says_by c s) is ∙ ap (λ b. cond b None (Some (asked_or_ended (request_of j ReadOutput) ReadOutput s.cycle))) runs)
-        (ap (λ c. counted (half_after_by c s)) is ∙ ap (λ b. counted (cond b s (asks_after (request_of j ReadOutput) j ReadOutput s))) runs) t.says t.after
-
-    hears : (j : Job) (stage : Stage) → s.controller ≡ Hearing j stage → (b : Bool) → is_over stage ≡ b → HearsBy (cond b None (Some (own_request j stage))) (bumped m) now j stage e → Fits now e s
-    hears j stage is true over t = fits_rest m now s e g st (subst (λ c. IsHearing c → ⊥) (sym is) (λ x. let no : true ≡ false = sym over ∙ x in cc no))
-        (ap (λ c. half_says_by c s) is ∙ ap (λ b. answers (cond b None (Some (own_request j stage))) s) over)
-        (ap (λ c. counted (half_after_by c s)) is ∙ ap (λ b. counted (hears_after (cond b None (Some (own_request j stage))) j stage s)) over) t
-    hears j stage is false over t = fits_hears m now s e j stage g st is over t
-
-    go : (c : Controller) → s.controller ≡ c → Turned c (bumped m) now e → Fits now e s
-    go Idle is t = fits_rest m now s e g st (subst (λ c. IsHearing c → ⊥) (sym is) (λ x. x)) (ap (λ c. half_says_by c s) is) (ap (λ c. counted (half_after_by c s)) is) t
-    go (Waiting j) is t = waits j is s.account.reclaiming refl (subst (λ r. Begins r (bumped m) now j e) st.reclaiming t)
-    go (Asking j stage) is t = fits_asks m now s e j stage (request_of j stage) g st (subst (λ c. IsHearing c → ⊥) (sym is) (λ x. x)) (ap (λ c. half_says_by c s) is) (ap (λ c. counted (half_after_by c s)) is) t.says t.after
-    go (Hearing j stage) is t = hears j stage is (is_over stage) refl t
-
-pub half_turns : (m now : Machine) (e : Option Entry) (d : ℕ) → m.half_steps < 4000000 → TurnedBy (d == 0) (bumped m) now e → Turns (HalfStep d) m now m.cycle e
-half_turns m now e d few turned = record { shown = λ s g st. go s g st (d == 0) refl turned }
-  where
-    go : (s : State) → IsGood s → StandsFor m s → (b : Bool) → (d == 0) ≡ b → TurnedBy b (bumped m) now e → (t : State) × Step s (HalfStep d) (at_most m.cycle e) t × StandsFor now t
-    go s g st true is t =
-        let zero_ : d ≡ 0 = grind (arith, nat_tests) in
-        let f = fits_own m now s e g st (subst (λ c. Turned c (bumped m) now e) st.controller t) in
-        subst (λ k. (t : State) × Step s (HalfStep k) (at_most m.cycle e) t × StandsFor now t) (sym zero_) (
-          half_after s 0,
-          (st.answered, (subst (λ n. n < 4000000) st.half_steps few, ap (λ c. at_most c e) st.cycle ∙ ap (λ x. at_most s.cycle x) f.0, refl)),
-          f.1,
-        )
-    go s g st false is r = (
-      half_after s d,
-      (st.answered, (subst (λ n. n < 4000000) st.half_steps few, ap (λ c. at_most c e) st.cycle ∙ ap (λ x. at_most s.cycle x) (r.says ∙ sym (ap (λ b. cond b (half_says_by s.controller s) None) is)), refl)),
-      subst (λ x. StandsFor now x) (sym (ap (λ b. counted (cond b (half_after_by s.controller s) s)) is))
-          (stands_after m now s (counted s) st (record { topology = refl; names = refl; kinds = refl; cycle = refl; reset_cycle = refl; began = refl; bus_manager_id = refl; transaction = refl; account = (subst (λ x. HalfKeeps s x) (ap (λ b. counted (cond b (half_after_by s.controller s) s)) is) (half_keeps s d g)).account }) refl m.devices
-          (r.after ∙ ap (λ c. record m { half_steps = m.half_steps + 1; controller = c }) st.controller) refl refl refl refl refl
-          (subst (λ x. HasNodes m.devices.nodes x) (ap (λ b. counted (cond b (half_after_by s.controller s) s)) is) (nodes_rest m.devices.nodes s d g (λ z. let no : true ≡ false = sym (grind (arith, nat_tests, z)) ∙ is in cc no) st.nodes))),
-    )
-
--- ---- what the code asks
-
-fits_of : (l : Rattle.fw_ledger.specs.Account.Account) (c : Controller) (others : Rattle.fw_base.specs.declared.plug.ConnectionKind.ConnectionKind → Rattle.fw_base.specs.declared.plug.PlugAt.PlugAt → ℕ) → InStep l c others → ControllerFits c
-fits_of l Idle others i = tt
-fits_of l (Waiting j) others i = job_fits j i.1.job
-fits_of l (Asking j stage) others i = (job_fits j i.own.job, stage_fits l 0 j stage others i.own.job i.step)
-fits_of l (Hearing j stage) others i = (job_fits j i.own.job, stage_fits l 0 j stage others i.own.job i.step)
-
-pub ready_fits : {m : Machine} → IsReady m → ControllerFits m.controller
-ready_fits r = subst ControllerFits (sym r.stands.controller) (fits_of r.state.account r.state.controller r.state.others r.good.step)
-
--- since a connection was asked for, device 0 has a link
-own_deck : (s : State) → IsGood s → (s.controller ≡ Idle → ⊥) → has_link (kind_at s.kinds 0) ≡ true
-own_deck s g works =
-    let lone = is_lone s g works in
-    let shows = shown_by s (lone_deck lone.0 lone.1) g lone.2 in
-    let manager = shows.manager 0 refl in
-    let only : manager.0 ≡ 0 = numbers_apart s manager.0 0 0 0 g (ap (λ o. number_in o manager.0) lone.2 ∙ manager.1) (lone_number s.account.latest lone) refl in
-    subst (λ d. has_link (kind_at s.kinds d) ≡ true) only manager.2
-
--- the node whose request stands is the deck's own
-pub ready_node : {m : Machine} → IsReady m → HasNode m.devices m.controller
-ready_node {m} r = go m.controller (sym r.stands.controller)
-  where
-    go : (c : Controller) → r.state.controller ≡ c → HasNode m.devices c
-    go Idle is = tt
-    go (Waiting j) is = tt
-    go (Asking j stage) is = tt
-    go (Hearing j stage) is =
-        let lone = is_lone r.state r.good (not_idle r.state.controller (Hearing j stage) is (λ x. cc)) in
-        let on : IsTrue (is_on r.state 0) = ap Rattle.std.proofs.Common.is_some (lone_number r.state.account.latest lone) in
-        let within = on_within m.devices.nodes r.state 0 r.stands.nodes r.good on in
-        let number = number_of_node m.devices.nodes r.state 0 r.stands.nodes within ∙ lone_number r.state.account.latest lone in
-        let space : HasSpace (node_at m.devices.nodes 0) (space_at r.state 0 0) = subst (λ o. IsNodeAt o r.state 0 (node_at m.devices.nodes 0)) (lone_number r.state.account.latest lone) (r.stands.nodes.each 0 within) in
-        record {
-          declared = within;
-          number = ap Rattle.std.proofs.Common.is_some number;
-          link = ap has_link space.kind ∙ own_deck r.state r.good (not_idle r.state.controller (Hearing j stage) is (λ x. cc));
-        }
+-- the controller has nothing to do, or waits
+pub rests_says : (s : State) (d : ℕ) (x : Next) → (x ≡ Idle) ⊎ ((until : ℕ) × (x ≡ Waiting until)) → None ≡ said s d x
+rests_says s d x (inl is) = sym (ap (said s d) is)
+rests_says s d x (inr w) = sym (ap (said s d) w.1)
 
 -- ---- what a half step leaves
 
-rests_steps : (m now : Machine) (e : Option Entry) → Rests m now e → (now.half_steps ≡ m.half_steps) × (now.cycle ≡ m.cycle)
-rests_steps m now e r = (ap (λ (x : Machine). x.half_steps) r.after, ap (λ (x : Machine). x.cycle) r.after)
+-- what is written fits the log
+pub entry_fits : (m now : Machine) (d : ℕ) (e : Option Entry) → IsReady m → IsTrue (is_living_in m d) → Takes half m now d e → EntryFits e
+entry_fits m now d e ready lives takes =
+    let s = ready.state in
+    let living = sym (living_same m s d ready.good ready.stands) ∙ lives in
+    subst EntryFits (sym (takes s ready.good ready.stands).0) (half_fits s d ready.good ready.numbers living)
 
-asks_steps : (m now : Machine) (j : Job) (stage : Stage) (e : Option Entry) → Asks m now j stage e → (now.half_steps ≡ m.half_steps) × (now.cycle ≡ m.cycle)
-asks_steps m now j stage e r = (ap (λ (x : Machine). x.half_steps) r.after, ap (λ (x : Machine). x.cycle) r.after)
+-- ---- node numbers
 
-turned_keeps : (m now : Machine) (e : Option Entry) (b : Bool) → TurnedBy b m now e → (now.half_steps ≡ m.half_steps) × (now.cycle ≡ m.cycle)
-turned_keeps m now e false t = rests_steps m now e t
-turned_keeps m now e true t = go m.controller t
+-- controllers are told of node numbers below 63
+pub node_numbers : (m : Machine) (s : State) (d : ℕ) → IsGood s → StandsFor m s → IsTrue (is_living_in m d) → HasNodeNumbers m.directory
+node_numbers m s d g st lives =
+    subst HasNodeNumbers (sym st.controllers.directory)
+    (record { devices = λ k. device k (Told.node_of (directory_of s) k) refl; manager = manager (manager_in s.account.latest) refl })
   where
-    begins : (j : Job) (r : Bool) → Begins r m now j e → (now.half_steps ≡ m.half_steps) × (now.cycle ≡ m.cycle)
-    begins j true t = rests_steps m now e t
-    begins j false t = asks_steps m now j ReadOutput e t
+    living : IsTrue (is_living s d)
+    living = sym (living_same m s d g st) ∙ lives
 
-    hears : (o : Option Request) (j : Job) (stage : Stage) → HearsBy o m now j stage e → (now.half_steps ≡ m.half_steps) × (now.cycle ≡ m.cycle)
-    hears None j stage t = rests_steps m now e t
-    hears (Some q) j stage t = (ap (λ (x : Machine). x.half_steps) t.after, ap (λ (x : Machine). x.cycle) t.after)
+    x : IsLinked s d
+    x = linked_of s d g (living_linked s d living)
 
-    go : (c : Controller) → Turned c m now e → (now.half_steps ≡ m.half_steps) × (now.cycle ≡ m.cycle)
-    go Idle t = rests_steps m now e t
-    go (Waiting j) t = begins j m.reclaiming t
-    go (Asking j stage) t = asks_steps m now j stage e t
-    go (Hearing j stage) t = hears (request_of j stage) j stage t
+    dir : IsDirectory s.account s.clock.cycle (directory_of s)
+    dir = told s x.entry x.is x.shows.1 g.time.second
 
-pub turned_steps : (m now : Machine) (e : Option Entry) (d : ℕ) → TurnedBy (d == 0) (bumped m) now e → now.half_steps ≡ m.half_steps + 1
-turned_steps m now e d t = (turned_keeps (bumped m) now e (d == 0) t).0
+    device : (k : ℕ) (o : Option ℕ) → Told.node_of (directory_of s) k ≡ o → IfSome o (λ n. n < 63)
+    device k None e = tt
+    device k (Some n) e =
+        let w = node_of_target s x.entry (target.OutputPlug (at_plug k 0)) n x.is x.shows (dir.devices k n e) in
+        let low = number_low s w.device n g w.number in
+        omega (arith, low)
 
--- the entry of a half step was written, or cut off
-pub half_does : {T E : Type 0} {held after : Option (List ℕ)} {k l : ℕ} (m now : Machine) (e : Option Entry) (d : ℕ) (r : Result T E) → m.half_steps < 4000000 → TurnedBy (d == 0) (bumped m) now e
-    → Gives held after r now.cycle e → CountsFaults k l r → Does (HalfStep d ∷ []) m now held after k l r
-half_does {held = held} {after} m now e d r few turned gives faults =
-    does_one m.cycle e r (half_turns m now e d few turned) (subst (λ c. Gives held after r c e) (turned_keeps (bumped m) now e (d == 0) turned).1 gives) faults
+    manager : (o : Option ℕ) → manager_in s.account.latest ≡ o → IfSome o (λ n. n < 63)
+    manager None e = tt
+    manager (Some n) e =
+        let w = node_of_target s x.entry target.BandwidthAvailable n x.is x.shows (dir.manager n e) in
+        let low = number_low s w.device n g w.number in
+        omega (arith, low)

@@ -21,23 +21,23 @@ use Rattle.fw_run.specs.Good.{IsGood, IsLatest}
 
 -- ---- the entry
 
-pub shown_by : (s : State) (e : ResetEntry) → IsGood s → s.account.latest ≡ Some e → Shows s.topology s.kinds e
+pub shown_by : (s : State) (e : ResetEntry) → IsGood s → s.account.latest ≡ Some e → Shows s.declared.topology s.declared.kinds e
 shown_by s e g is = go s.account.latest g.latest is
   where
-    go : (o : Option ResetEntry) → IsLatest o s → o ≡ Some e → Shows s.topology s.kinds e
+    go : (o : Option ResetEntry) → IsLatest o s → o ≡ Some e → Shows s.declared.topology s.declared.kinds e
     go None h is = absurd (let z : ⊥ = cc in z)
-    go (Some x) h is = let P : ResetEntry → Type 0 = Shows s.topology s.kinds in subst P (same_Some x e is) h.1
+    go (Some x) h is = let P : ResetEntry → Type 0 = Shows s.declared.topology s.declared.kinds in subst P (same_Some x e is) h.1
 
 -- a device that is a node is declared
-declared_in : (s : State) (o : Option ResetEntry) (d n : ℕ) → IsLatest o s → number_in o d ≡ Some n → d < length s.topology.devices
+declared_in : (s : State) (o : Option ResetEntry) (d n : ℕ) → IsLatest o s → number_in o d ≡ Some n → d < length s.declared.topology.devices
 declared_in s None d n h at = absurd (let z : ⊥ = cc in z)
-declared_in s (Some e) d n h at = h.1.declared n (row_of d (kind_at s.kinds d)) (h.1.numbers d n at)
+declared_in s (Some e) d n h at = h.1.declared n (row_of d (kind_at s.declared.kinds d)) (h.1.numbers d n at)
 
-pub on_declared : (s : State) (d n : ℕ) → IsGood s → number_in s.account.latest d ≡ Some n → d < length s.names
-on_declared s d n g at = let low = declared_in s s.account.latest d n g.latest at in let e = g.named in omega arith
+pub on_declared : (s : State) (d n : ℕ) → IsGood s → number_in s.account.latest d ≡ Some n → d < length s.declared.names
+on_declared s d n g at = let low = declared_in s s.account.latest d n g.latest at in let e = g.declared.named in omega arith
 
 -- a device that is not declared is none
-pub undeclared_off : (s : State) (d : ℕ) → IsGood s → length s.names ≤ d → number_in s.account.latest d ≡ None
+pub undeclared_off : (s : State) (d : ℕ) → IsGood s → length s.declared.names ≤ d → number_in s.account.latest d ≡ None
 undeclared_off s d g past = go (number_in s.account.latest d) refl
   where
     go : (o : Option ℕ) → number_in s.account.latest d ≡ o → o ≡ None
@@ -45,8 +45,8 @@ undeclared_off s d g past = go (number_in s.account.latest d) refl
     go (Some n) e = absurd (let low = on_declared s d n g e in omega arith)
 
 -- before the first device none is
-pub nothing_on : (s : State) (d : ℕ) → IsGood s → s.names ≡ [] → IsTrue (is_on s d) → ⊥
-nothing_on s d g none on = false≢true (sym (ap is_some (undeclared_off s d g (let size : length s.names ≡ 0 = ap length none in omega arith))) ∙ on)
+pub nothing_on : (s : State) (d : ℕ) → IsGood s → s.declared.names ≡ [] → IsTrue (is_on s d) → ⊥
+nothing_on s d g none on = false≢true (sym (ap is_some (undeclared_off s d g (let size : length s.declared.names ≡ 0 = ap length none in omega arith))) ∙ on)
 
 -- ---- numbers
 
@@ -74,7 +74,7 @@ numbers_apart s c d m n g a b same = go s.account.latest g.latest a b
     go (Some e) h a b =
         let x = h.1.numbers c m a in
         let y = h.1.numbers d n b in
-        let z : row_of c (kind_at s.kinds c) ≡ row_of d (kind_at s.kinds d) = same_Some _ _ (sym x ∙ ap (slice_get e.nodes) same ∙ y) in
+        let z : row_of c (kind_at s.declared.kinds c) ≡ row_of d (kind_at s.declared.kinds d) = same_Some _ _ (sym x ∙ ap (slice_get e.nodes) same ∙ y) in
         ap (λ (r : NodeRow). r.device) z
 
 -- ---- how many there are
@@ -134,4 +134,4 @@ number_low s d n g at = go s.account.latest g.latest at
   where
     go : (o : Option ResetEntry) → IsLatest o s → number_in o d ≡ Some n → n ≤ 62
     go None h at = absurd (let z : ⊥ = cc in z)
-    go (Some e) h at = let low = slice_get_within e.nodes n (row_of d (kind_at s.kinds d)) (h.1.numbers d n at) in let few = rows_few s.topology s.kinds e h.1 in omega arith
+    go (Some e) h at = let low = slice_get_within e.nodes n (row_of d (kind_at s.declared.kinds d)) (h.1.numbers d n at) in let few = rows_few s.declared.topology s.declared.kinds e h.1 in omega arith

@@ -25,7 +25,7 @@ use Rattle.fw_node.specs.State as Nodes
 use Rattle.fw_node.proofs.Spaces.{registers_same}
 use Rattle.fw_devices.specs.Network.{kind_at, facts_of, is_node, node_at}
 use Rattle.fw_run.specs.State.{State, number_in, is_on, is_linked, with_device}
-use Rattle.fw_run.specs.Spaces.{space_at, is_manager, response_from, read_at}
+use Rattle.fw_run.specs.Spaces.{space_at, is_manager, space_of_device, read_at}
 use Rattle.fw_run.specs.Good.{IsGood}
 use Rattle.fw_bus.specs.declared.machine.Machine.{Machine}
 use Rattle.fw_bus.specs.Stands.{IsNodeAt, HasNodes, StandsFor, read_in}
@@ -39,9 +39,9 @@ no_facts = record { ports = 0; speed = 0; link = false; contender = false }
 
 -- what nodes keep is the same in both
 pub record SameNodes (s t : State) : Type 0 where
-  pub names : length t.names ≡ length s.names
-  pub devices : t.topology.devices ≡ s.topology.devices
-  pub kinds : t.kinds ≡ s.kinds
+  pub names : length t.declared.names ≡ length s.declared.names
+  pub devices : t.declared.topology.devices ≡ s.declared.topology.devices
+  pub kinds : t.declared.kinds ≡ s.declared.kinds
   pub latest : t.account.latest ≡ s.account.latest
   pub bus_manager_id : t.bus_manager_id ≡ s.bus_manager_id
   pub words : (r : Register) → word_of t.account r ≡ word_of s.account r
@@ -78,9 +78,9 @@ space_as n a b h number kind device rate outputs inputs manager =
     }
 
 -- what is kept of a device is the same for another state that agrees on the device
-pub node_as : (s t : State) (d : ℕ) (o : Option ℕ) (n : NodeState) → kind_at t.kinds d ≡ kind_at s.kinds d → (facts_at t.topology.devices d).speed ≡ (facts_at s.topology.devices d).speed
-    → ((k : ℕ) → k < output_plugs_of (kind_at s.kinds d) → word_of t.account (OutputPlug (at_plug d k)) ≡ word_of s.account (OutputPlug (at_plug d k)))
-    → ((k : ℕ) → k < input_plugs_of (kind_at s.kinds d) → word_of t.account (InputPlug (at_plug d k)) ≡ word_of s.account (InputPlug (at_plug d k)))
+pub node_as : (s t : State) (d : ℕ) (o : Option ℕ) (n : NodeState) → kind_at t.declared.kinds d ≡ kind_at s.declared.kinds d → (facts_at t.declared.topology.devices d).speed ≡ (facts_at s.declared.topology.devices d).speed
+    → ((k : ℕ) → k < output_plugs_of (kind_at s.declared.kinds d) → word_of t.account (OutputPlug (at_plug d k)) ≡ word_of s.account (OutputPlug (at_plug d k)))
+    → ((k : ℕ) → k < input_plugs_of (kind_at s.declared.kinds d) → word_of t.account (InputPlug (at_plug d k)) ≡ word_of s.account (InputPlug (at_plug d k)))
     → ((m : ℕ) → o ≡ Some m → (space_at t d m).manager ≡ (space_at s d m).manager) → IsNodeAt o s d n → IsNodeAt o t d n
 node_as s t d None n kind speed outputs inputs manager is = is ∙ (λ i. Nodes.first_state (sym kind i) d (sym speed i))
 node_as s t d (Some m) n kind speed outputs inputs manager is = space_as n (space_at s d m) (space_at t d m) is refl kind refl speed outputs inputs (manager m refl)
@@ -100,34 +100,34 @@ nodes_same nodes s t same h = record {
 
 -- a device that is declared has its node beside those of the others, which stay
 pub nodes_declared : (nodes : List NodeState) (s : State) (name : List ℕ) (kind : DeviceKind) (ports speed : ℕ) → IsGood s → HasNodes nodes s
-    → HasNodes (nodes ++ Nodes.first_state kind (length s.names) speed ∷ []) (with_device s name kind ports speed)
-nodes_declared nodes s name kind ports speed g h = record { size = let size = h.size in omega (arith, length-append nodes (new ∷ []), length-append s.names (name ∷ [])); each = λ d lt. go d lt (cases_lt d (length nodes)) }
+    → HasNodes (nodes ++ Nodes.first_state kind (length s.declared.names) speed ∷ []) (record s { declared = with_device s.declared name kind ports speed })
+nodes_declared nodes s name kind ports speed g h = record { size = let size = h.size in omega (arith, length-append nodes (new ∷ []), length-append s.declared.names (name ∷ [])); each = λ d lt. go d lt (cases_lt d (length nodes)) }
   where
     new : NodeState
-    new = Nodes.first_state kind (length s.names) speed
+    new = Nodes.first_state kind (length s.declared.names) speed
 
     facts : PhyFacts
     facts = facts_of kind ports speed
 
     t : State
-    t = with_device s name kind ports speed
+    t = record s { declared = with_device s.declared name kind ports speed }
 
     go : (d : ℕ) → d < length (nodes ++ new ∷ []) → (d < length nodes) ⊎ (length nodes ≤ d) → IsNodeAt (number_in s.account.latest d) t d (node_at (nodes ++ new ∷ []) d)
     go d lt (inl low) =
         let size = h.size in
-        let named = g.named in
-        let same = g.kinds.size in
-        let k = get_or_append_left s.kinds (kind ∷ []) Relay d (omega arith) in
-        let v = get_or_append_left s.topology.devices (facts ∷ []) no_facts d (omega arith) in
+        let named = g.declared.named in
+        let same = g.declared.kinds.size in
+        let k = get_or_append_left s.declared.kinds (kind ∷ []) Relay d (omega arith) in
+        let v = get_or_append_left s.declared.topology.devices (facts ∷ []) no_facts d (omega arith) in
         let P : NodeState → Type 0 = IsNodeAt (number_in s.account.latest d) t d in
         subst P (sym (get_or_append_left nodes (new ∷ []) (Nodes.first_state Relay 0 0) d low)) (node_as s t d (number_in s.account.latest d) (node_at nodes d) k (ap (λ (f : PhyFacts). f.speed) v) (λ j below. refl) (λ j below. refl) (λ m is. refl) (h.each d low))
     go d lt (inr past) =
         let size = h.size in
-        let named = g.named in
-        let same = g.kinds.size in
-        let here : d ≡ length s.names = omega (arith, length-append nodes (new ∷ [])) in
-        let k : kind_at t.kinds d ≡ kind = get_or_push s.kinds kind Relay d (omega arith) in
-        let v : facts_at t.topology.devices d ≡ facts = get_or_push s.topology.devices facts no_facts d (omega arith) in
+        let named = g.declared.named in
+        let same = g.declared.kinds.size in
+        let here : d ≡ length s.declared.names = omega (arith, length-append nodes (new ∷ [])) in
+        let k : kind_at t.declared.kinds d ≡ kind = get_or_push s.declared.kinds kind Relay d (omega arith) in
+        let v : facts_at t.declared.topology.devices d ≡ facts = get_or_push s.declared.topology.devices facts no_facts d (omega arith) in
         let P : Option ℕ → Type 0 = λ o. IsNodeAt o t d (node_at (nodes ++ new ∷ []) d) in
         subst P (sym (undeclared_off s d g (omega arith)))
         (get_or_push nodes new (Nodes.first_state Relay 0 0) d (omega arith) ∙ (λ i. Nodes.first_state (sym k i) (sym here i) (sym v i).speed))
@@ -183,18 +183,18 @@ response_by_space n a h p = go (request_in p)
 
 -- a device on the bus answers a packet as the account
 pub response_same : (nodes : List NodeState) (s : State) (d : ℕ) → HasNodes nodes s → IsGood s → IsTrue (is_on s d) → (number : ℕ) → (node_at nodes d).number ≡ Some number
-    → (p : Packet) → response_of (space_of number s.cycle (node_at nodes d)) p ≡ response_from s d p
+    → (p : Packet) → response_of (space_of number s.clock.cycle (node_at nodes d)) p ≡ response_of (space_of_device s d) p
 response_same nodes s d h g on number is p =
     let same : number ≡ node_of s.account.latest d = same_Some number (node_of s.account.latest d) (sym is ∙ (node_number_is nodes s d h g on).0) in
-    ap (λ k. response_of (space_of k s.cycle (node_at nodes d)) p) same ∙ response_by_space (node_at nodes d) (space_at s d (node_of s.account.latest d)) (node_has nodes s d h g on) p
+    ap (λ k. response_of (space_of k s.clock.cycle (node_at nodes d)) p) same ∙ response_by_space (node_at nodes d) (space_at s d (node_of s.account.latest d)) (node_has nodes s d h g on) p
 
 pub read_on : (m : Machine) (s : State) → IsGood s → StandsFor m s → (d offset : ℕ) → IsTrue (is_on s d) → read_in m d offset ≡ read_at s d offset
 read_on m s g st d offset on =
     let r : Request = Asks.Read (first_address + offset) in
     let n : NodeState = node_at m.devices.nodes d in
-    let number : unwrap_or n.number 0 ≡ node_of s.account.latest d = ap (λ o. unwrap_or o 0) (node_number_is m.devices.nodes s d st.nodes g on).0 in
-    let here = node_has m.devices.nodes s d st.nodes g on in
-    ap (λ a. reply (register_at a (offset_of r)) r) (λ i. space_of (number i) (st.cycle i) n) ∙ ap (λ register. reply register r) (registers_same n (space_at s d (node_of s.account.latest d)) (offset_of r) here)
+    let number : unwrap_or n.number 0 ≡ node_of s.account.latest d = ap (λ o. unwrap_or o 0) (node_number_is m.devices.nodes s d st.devices.nodes g on).0 in
+    let here = node_has m.devices.nodes s d st.devices.nodes g on in
+    ap (λ a. reply (register_at a (offset_of r)) r) (λ i. space_of (number i) (st.clock.cycle i) n) ∙ ap (λ register. reply register r) (registers_same n (space_at s d (node_of s.account.latest d)) (offset_of r) here)
 
 pub read_same : (m : Machine) (s : State) → IsGood s → StandsFor m s → (d offset : ℕ) → IsTrue (is_linked s d) → read_in m d offset ≡ read_at s d offset
 read_same m s g st d offset linked = read_on m s g st d offset (linked_on s d linked)

@@ -26,23 +26,29 @@ use Rattle.fw_node.specs.State as Nodes
 use Rattle.fw_devices.specs.Network.{Network, kind_at, kinds_of, node_at}
 use Rattle.fw_devices.specs.Entries.{node_number, is_number}
 use Rattle.fw_devices.specs.Resets.{IsReset, Shows, numbered}
-use Rattle.fw_run.specs.State.{State, number_in, is_on, manager_in, with_device}
+use Rattle.fw_run.specs.State.{State, number_in, is_on, with_device}
 use Rattle.fw_run.specs.Spaces.{space_at}
-use Rattle.fw_run.specs.Run.{after_reset_entry}
+use Rattle.fw_run.specs.Actions.{after_reset_entry, with_topology}
 use Rattle.fw_run.specs.Good.{IsGood, IsLatest}
-use Rattle.fw_bus.specs.Stands.{IsNodeAt, HasNodes}
+use Rattle.fw_bus.specs.Stands.{IsNodeAt, HasNodes, manager_device}
 use Rattle.fw_bus.proofs.Latest.{on_declared, on_number, number_is}
 use Rattle.fw_bus.proofs.Resets.{first_fields, first_input_fields, first_out_cleared, first_in_cleared, output_there, input_there, output_not_there, input_not_there, output_kept, input_kept, output_declared, input_declared}
 
 -- the same account, and the kinds of the devices that were declared; there may be more devices and cables
 pub record Extends (s t : State) : Type 0 where
   pub account : t.account ≡ s.account
-  pub kinds : (d : ℕ) → d < length s.names → kind_at t.kinds d ≡ kind_at s.kinds d
+  pub kinds : (d : ℕ) → d < length s.declared.names → kind_at t.declared.kinds d ≡ kind_at s.declared.kinds d
 
-pub extends_declared : (s : State) (name : List ℕ) (kind : DeviceKind) (ports speed : ℕ) → IsGood s → Extends s (with_device s name kind ports speed)
-extends_declared s name kind ports speed g = record { account = refl; kinds = λ d lt. get_or_append_left s.kinds (kind ∷ []) Relay d (let named = g.named in let same = g.kinds.size in omega arith) }
+-- a device more, which is off
+pub extends_declared : (s : State) (name : List ℕ) (kind : DeviceKind) (ports speed : ℕ) → IsGood s
+    → Extends s (record s { declared = with_device s.declared name kind ports speed })
+extends_declared s name kind ports speed g =
+    let named = g.declared.named in
+    let same = g.declared.kinds.size in
+    record { account = refl; kinds = λ d lt. get_or_append_left s.declared.kinds (kind ∷ []) Relay d (omega arith) }
 
-pub extends_cabled : (s : State) (t : Topology) → Extends s (record s { topology = t })
+-- a cable more, or none
+pub extends_cabled : (s : State) (t : Topology) → Extends s (with_topology s t)
 extends_cabled s t = record { account = refl; kinds = λ d lt. refl }
 
 -- ---- the manager
@@ -57,38 +63,48 @@ reset_manager s e d k =
 
 -- ---- the words of a device that was a node
 
-kept_output : (s0 s : State) (e : ResetEntry) (d n k : ℕ) → IsGood s0 → Extends s0 s → number_in s.account.latest d ≡ Some n → k < output_plugs_of (kind_at s.kinds d)
+-- the word of an output plug that was there keeps its settings, and its connections are cleared
+kept_output : (s0 s : State) (e : ResetEntry) (d n k : ℕ) → IsGood s0 → Extends s0 s → number_in s.account.latest d ≡ Some n
+    → k < output_plugs_of (kind_at s.declared.kinds d)
     → disconnected (word_of s.account (OutputPlug (at_plug d k))) ≡ word_of (after_reset e s.account) (OutputPlug (at_plug d k))
 kept_output s0 s e d n k g x at lt =
     let before : number_in s0.account.latest d ≡ Some n = sym (ap (λ (l : Account). number_in l.latest d) x.account) ∙ at in
-    let kind : output_plugs_of (kind_at s.kinds d) ≡ output_plugs_of (kind_at s0.kinds d) = ap output_plugs_of (x.kinds d (on_declared s0 d n g before)) in
+    let kind : output_plugs_of (kind_at s.declared.kinds d) ≡ output_plugs_of (kind_at s0.declared.kinds d) = ap output_plugs_of (x.kinds d (on_declared s0 d n g before)) in
     let was = output_there s0 d n k g before (omega arith) in
     let P : Account → Type 0 = λ l. disconnected (word_of l (OutputPlug (at_plug d k))) ≡ word_of (after_reset e l) (OutputPlug (at_plug d k)) in
-    subst P (sym x.account) (output_kept s0.account e (at_plug d k) (g.sound.counts (at_plug d k)).0 (g.sound.settings_fit (at_plug d k) was) was)
+    subst P (sym x.account) (output_kept s0.account e (at_plug d k) (g.reclaims.step.sound.counts (at_plug d k)).0 (g.reclaims.step.sound.settings_fit (at_plug d k) was) was)
 
-kept_input : (s0 s : State) (e : ResetEntry) (d n k : ℕ) → IsGood s0 → Extends s0 s → number_in s.account.latest d ≡ Some n → k < input_plugs_of (kind_at s.kinds d)
+-- so does that of an input plug its channel
+kept_input : (s0 s : State) (e : ResetEntry) (d n k : ℕ) → IsGood s0 → Extends s0 s → number_in s.account.latest d ≡ Some n
+    → k < input_plugs_of (kind_at s.declared.kinds d)
     → disconnected (word_of s.account (InputPlug (at_plug d k))) ≡ word_of (after_reset e s.account) (InputPlug (at_plug d k))
 kept_input s0 s e d n k g x at lt =
     let before : number_in s0.account.latest d ≡ Some n = sym (ap (λ (l : Account). number_in l.latest d) x.account) ∙ at in
-    let kind : input_plugs_of (kind_at s.kinds d) ≡ input_plugs_of (kind_at s0.kinds d) = ap input_plugs_of (x.kinds d (on_declared s0 d n g before)) in
+    let kind : input_plugs_of (kind_at s.declared.kinds d) ≡ input_plugs_of (kind_at s0.declared.kinds d) = ap input_plugs_of (x.kinds d (on_declared s0 d n g before)) in
     let was = input_there s0 d n k g before (omega arith) in
     let P : Account → Type 0 = λ l. disconnected (word_of l (InputPlug (at_plug d k))) ≡ word_of (after_reset e l) (InputPlug (at_plug d k)) in
-    subst P (sym x.account) (input_kept s0.account e (at_plug d k) (g.sound.counts (at_plug d k)).1 (g.sound.channels_fit (at_plug d k) was) was)
+    subst P (sym x.account) (input_kept s0.account e (at_plug d k) (g.reclaims.step.sound.counts (at_plug d k)).1 (g.reclaims.step.sound.channels_fit (at_plug d k) was) was)
 
 -- ---- those of a new one
 
-new_output : (s0 s : State) (e : ResetEntry) (d n k : ℕ) → IsGood s0 → Extends s0 s → Shows s.topology s.kinds e → number_in s.account.latest d ≡ None → node_number e.nodes d ≡ Some n
-    → disconnected (first_out_word (facts_at s.topology.devices d).speed) ≡ word_of (after_reset e s.account) (OutputPlug (at_plug d k))
+-- the word of a new output plug is as it was declared
+new_output : (s0 s : State) (e : ResetEntry) (d n k : ℕ) → IsGood s0 → Extends s0 s → Shows s.declared.topology s.declared.kinds e
+    → number_in s.account.latest d ≡ None → node_number e.nodes d ≡ Some n
+    → disconnected (first_out_word (facts_at s.declared.topology.devices d).speed) ≡ word_of (after_reset e s.account) (OutputPlug (at_plug d k))
 new_output s0 s e d n k g x shows off at =
     let before : number_in s0.account.latest d ≡ None = sym (ap (λ (l : Account). number_in l.latest d) x.account) ∙ off in
     let not_there = output_not_there s0 d k g before in
     let P : Account → Type 0 = λ l. word_of (after_reset e l) (OutputPlug (at_plug d k)) ≡ out_word (first_fields (declared e (at_plug d k)).rate) in
-    let now : word_of (after_reset e s.account) (OutputPlug (at_plug d k)) ≡ out_word (first_fields (declared e (at_plug d k)).rate) = subst P (sym x.account) (output_declared s0.account e (at_plug d k) not_there) in
-    let speed : (declared e (at_plug d k)).rate ≡ (facts_at s.topology.devices d).speed = ap (λ m. speed_of m e.ids) (number_is (Some e) d n at) ∙ shows.speeds d n at in
-    let low : (facts_at s.topology.devices d).speed < 4 = let w = shows.network.speeds n in let v = shows.speeds d n at in omega arith in
-    first_out_cleared (facts_at s.topology.devices d).speed low ∙ ap (λ rate. out_word (first_fields rate)) (sym speed) ∙ sym now
+    let now : word_of (after_reset e s.account) (OutputPlug (at_plug d k)) ≡ out_word (first_fields (declared e (at_plug d k)).rate) =
+    subst P (sym x.account) (output_declared s0.account e (at_plug d k) not_there) in
+    let speed : (declared e (at_plug d k)).rate ≡ (facts_at s.declared.topology.devices d).speed =
+    ap (λ m. speed_of m e.ids) (number_is (Some e) d n at) ∙ shows.speeds d n at in
+    let low : (facts_at s.declared.topology.devices d).speed < 4 = let w = shows.network.speeds n in let v = shows.speeds d n at in omega arith in
+    first_out_cleared (facts_at s.declared.topology.devices d).speed low ∙ ap (λ rate. out_word (first_fields rate)) (sym speed) ∙ sym now
 
-new_input : (s0 s : State) (e : ResetEntry) (d k : ℕ) → IsGood s0 → Extends s0 s → number_in s.account.latest d ≡ None → disconnected first_in_word ≡ word_of (after_reset e s.account) (InputPlug (at_plug d k))
+-- and that of a new input plug
+new_input : (s0 s : State) (e : ResetEntry) (d k : ℕ) → IsGood s0 → Extends s0 s → number_in s.account.latest d ≡ None
+    → disconnected first_in_word ≡ word_of (after_reset e s.account) (InputPlug (at_plug d k))
 new_input s0 s e d k g x off =
     let before : number_in s0.account.latest d ≡ None = sym (ap (λ (l : Account). number_in l.latest d) x.account) ∙ off in
     let P : Account → Type 0 = λ l. word_of (after_reset e l) (InputPlug (at_plug d k)) ≡ in_word first_input_fields in
@@ -96,24 +112,28 @@ new_input s0 s e d k g x off =
 
 -- ---- one device
 
+-- each word of a list is cleared by itself
 cleared_at : (words : List ℕ) (k : ℕ) → k < length words → slice_index (map disconnected words) k ≡ disconnected (slice_index words k)
 cleared_at words k lt = Lists.get_or-map disconnected words k 0 0 lt
 
 -- the node that a device is by the entry
-renumbered : (s0 s : State) (e : ResetEntry) (d k : ℕ) (n : NodeState) (o : Option ℕ) → IsGood s0 → Extends s0 s → Shows s.topology s.kinds e → node_number e.nodes d ≡ Some k → number_in s.account.latest d ≡ o → IsNodeAt o s d n
+renumbered : (s0 s : State) (e : ResetEntry) (d k : ℕ) (n : NodeState) (o : Option ℕ) → IsGood s0 → Extends s0 s
+    → Shows s.declared.topology s.declared.kinds e → node_number e.nodes d ≡ Some k → number_in s.account.latest d ≡ o → IsNodeAt o s d n
     → HasSpace (Nodes.after_reset k (is_number e.manager k) n) (space_at (after_reset_entry s e) d k)
-renumbered s0 s e d k n None g x shows at was is = let P : NodeState → Type 0 = λ n. HasSpace (Nodes.after_reset k (is_number e.manager k) n) (space_at (after_reset_entry s e) d k) in subst P (sym is) fresh
+renumbered s0 s e d k n None g x shows at was is =
+    let P : NodeState → Type 0 = λ n. HasSpace (Nodes.after_reset k (is_number e.manager k) n) (space_at (after_reset_entry s e) d k) in
+    subst P (sym is) fresh
   where
     rate : ℕ
-    rate = (facts_at s.topology.devices d).speed
+    rate = (facts_at s.declared.topology.devices d).speed
 
     outs : ℕ
-    outs = output_plugs_of (kind_at s.kinds d)
+    outs = output_plugs_of (kind_at s.declared.kinds d)
 
     ins : ℕ
-    ins = input_plugs_of (kind_at s.kinds d)
+    ins = input_plugs_of (kind_at s.declared.kinds d)
 
-    fresh : HasSpace (Nodes.after_reset k (is_number e.manager k) (Nodes.first_state (kind_at s.kinds d) d rate)) (space_at (after_reset_entry s e) d k)
+    fresh : HasSpace (Nodes.after_reset k (is_number e.manager k) (Nodes.first_state (kind_at s.declared.kinds d) d rate)) (space_at (after_reset_entry s e) d k)
     fresh = record {
       number = refl;
       kind = refl;
@@ -121,8 +141,10 @@ renumbered s0 s e d k n None g x shows at was is = let P : NodeState → Type 0 
       rate = refl;
       outputs = length-map _ disconnected ∙ length-replicate outs (first_out_word rate);
       inputs = length-map _ disconnected ∙ length-replicate ins first_in_word;
-      output_words = λ j lt. cleared_at _ j (let size = length-replicate outs (first_out_word rate) in omega arith) ∙ ap disconnected (get_or-replicate outs j (first_out_word rate) 0 lt) ∙ new_output s0 s e d k j g x shows was at;
-      input_words = λ j lt. cleared_at _ j (let size = length-replicate ins first_in_word in omega arith) ∙ ap disconnected (get_or-replicate ins j first_in_word 0 lt) ∙ new_input s0 s e d j g x was;
+      output_words = λ j lt.
+          cleared_at _ j (let size = length-replicate outs (first_out_word rate) in omega arith) ∙ ap disconnected (get_or-replicate outs j (first_out_word rate) 0 lt) ∙ new_output s0 s e d k j g x shows was at;
+      input_words = λ j lt.
+          cleared_at _ j (let size = length-replicate ins first_in_word in omega arith) ∙ ap disconnected (get_or-replicate ins j first_in_word 0 lt) ∙ new_input s0 s e d j g x was;
       manager = reset_manager s e d k;
     }
 renumbered s0 s e d k n (Some m) g x shows at was is = record {
@@ -140,24 +162,27 @@ renumbered s0 s e d k n (Some m) g x shows at was is = record {
 -- ---- the whole
 
 -- a device that is on the bus stays on it where walks along the cables stay
-pub stays_on : (s : State) (t : Topology) (kinds : List DeviceKind) (e : ResetEntry) → IsGood s → Shows t kinds e → length s.topology.devices ≤ length t.devices → ((d : ℕ) → IsOnBus s.topology.cables d → IsOnBus t.cables d)
+pub stays_on : (s : State) (t : Topology) (kinds : List DeviceKind) (e : ResetEntry) → IsGood s → Shows t kinds e
+    → length s.declared.topology.devices ≤ length t.devices → ((d : ℕ) → IsOnBus s.declared.topology.cables d → IsOnBus t.cables d)
     → (d : ℕ) → IsTrue (is_on s d) → IsTrue (is_some (node_number e.nodes d))
 stays_on s t kinds e g shows more walks d on = go s.account.latest g.latest on
   where
-    low : d < length s.topology.devices
-    low = let declared = on_declared s d (node_of s.account.latest d) g (on_number s d on) in let named = g.named in omega arith
+    low : d < length s.declared.topology.devices
+    low = let declared = on_declared s d (node_of s.account.latest d) g (on_number s d on) in let named = g.declared.named in omega arith
 
     go : (o : Option ResetEntry) → IsLatest o s → IsTrue (is_some (number_in o d)) → IsTrue (is_some (node_number e.nodes d))
     go None h on = absurd (false≢true on)
     go (Some x) h on = (shows.nodes d (omega (arith, low))).1 (walks d ((h.1.nodes d low).0 on))
 
 -- Where each device that is on the bus is on it by the entry too, the nodes of its bus reset are those of the account after it.
-pub nodes_reset : (old new : Network) (s0 s : State) (initiator : ℕ) (e : ResetEntry) → IsGood s0 → Extends s0 s → HasNodes old.nodes s → IsReset old new initiator e → Shows s.topology s.kinds e
+pub nodes_reset : (old new : Network) (s0 s : State) (initiator : ℕ) (e : ResetEntry) → IsGood s0 → Extends s0 s → HasNodes old.nodes s
+    → IsReset old new initiator e → Shows s.declared.topology s.declared.kinds e
     → ((d : ℕ) → IsTrue (is_on s d) → IsTrue (is_some (node_number e.nodes d))) → HasNodes new.nodes (after_reset_entry s e)
 nodes_reset old new s0 s initiator e g x h r shows stays = record {
   size = r.size ∙ h.size;
   each = λ d lt. let size = r.size in let low : d < length old.nodes = omega arith in
-      let P : NodeState → Type 0 = IsNodeAt (node_number e.nodes d) (after_reset_entry s e) d in subst P (sym (r.nodes d low)) (go d (node_number e.nodes d) refl (number_in s.account.latest d) refl (h.each d low));
+      let P : NodeState → Type 0 = IsNodeAt (node_number e.nodes d) (after_reset_entry s e) d in
+      subst P (sym (r.nodes d low)) (go d (node_number e.nodes d) refl (number_in s.account.latest d) refl (h.each d low));
 }
   where
     go : (d : ℕ) (now : Option ℕ) → node_number e.nodes d ≡ now → (was : Option ℕ) → number_in s.account.latest d ≡ was → IsNodeAt was s d (node_at old.nodes d)
@@ -167,12 +192,14 @@ nodes_reset old new s0 s initiator e g x h r shows stays = record {
     go d (Some k) at o was is = renumbered s0 s e d k (node_at old.nodes d) o g x shows at was is
 
 -- the manager is the one that the entry shows
-pub manager_reset : (old new : Network) (initiator : ℕ) (e : ResetEntry) → IsReset old new initiator e → new.manager ≡ manager_in (Some e)
+pub manager_reset : (old new : Network) (initiator : ℕ) (e : ResetEntry) → IsReset old new initiator e → new.manager ≡ manager_device (Some e)
 manager_reset old new initiator e r = r.manager
 
 -- each device stays of its kind
 pub kinds_reset : (old new : Network) (initiator : ℕ) (e : ResetEntry) → IsReset old new initiator e → kinds_of new.nodes ≡ kinds_of old.nodes
-kinds_reset old new initiator e r = ext_get_or Relay (kinds_of new.nodes) (kinds_of old.nodes) (length-map new.nodes (λ (n : NodeState). n.kind) ∙ r.size ∙ sym (length-map old.nodes (λ (n : NodeState). n.kind))) each
+kinds_reset old new initiator e r =
+    ext_get_or Relay (kinds_of new.nodes) (kinds_of old.nodes)
+    (length-map new.nodes (λ (n : NodeState). n.kind) ∙ r.size ∙ sym (length-map old.nodes (λ (n : NodeState). n.kind))) each
   where
     stays : (o manager : Option ℕ) (n : NodeState) → (numbered o manager n).kind ≡ n.kind
     stays None manager n = refl
@@ -181,5 +208,6 @@ kinds_reset old new initiator e r = ext_get_or Relay (kinds_of new.nodes) (kinds
     each : (d : ℕ) → d < length (kinds_of new.nodes) → get_or (kinds_of new.nodes) d Relay ≡ get_or (kinds_of old.nodes) d Relay
     each d lt =
         let low : d < length old.nodes = omega (arith, r.size, length-map new.nodes (λ (n : NodeState). n.kind)) in
-        Plain.get_or-map (λ (n : NodeState). n.kind) new.nodes d (Nodes.first_state Relay 0 0) ∙ ap (λ (n : NodeState). n.kind) (r.nodes d low) ∙ stays (node_number e.nodes d) e.manager (node_at old.nodes d)
+        Plain.get_or-map (λ (n : NodeState). n.kind) new.nodes d (Nodes.first_state Relay 0 0) ∙ ap (λ (n : NodeState). n.kind) (r.nodes d low)
+        ∙ stays (node_number e.nodes d) e.manager (node_at old.nodes d)
         ∙ sym (Plain.get_or-map (λ (n : NodeState). n.kind) old.nodes d (Nodes.first_state Relay 0 0))

@@ -52,19 +52,19 @@ first_in_cleared = refl
 -- ---- which plugs were there
 
 -- a plug of a device on the bus was there
-pub output_there : (s : State) (d n k : ℕ) → IsGood s → number_in s.account.latest d ≡ Some n → k < output_plugs_of (kind_at s.kinds d) → is_output s.account.latest (at_plug d k) ≡ true
+pub output_there : (s : State) (d n k : ℕ) → IsGood s → number_in s.account.latest d ≡ Some n → k < output_plugs_of (kind_at s.declared.kinds d) → is_output s.account.latest (at_plug d k) ≡ true
 output_there s d n k g at lt = go s.account.latest g.latest at
   where
     go : (o : Option ResetEntry) → IsLatest o s → number_in o d ≡ Some n → is_output o (at_plug d k) ≡ true
     go None h at = absurd (let z : ⊥ = cc in z)
-    go (Some e) h at = any_at (is_output_of (at_plug d k)) e.nodes n (row_of d (kind_at s.kinds d)) (h.1.numbers d n at) (grind (arith, nat_tests))
+    go (Some e) h at = any_at (is_output_of (at_plug d k)) e.nodes n (row_of d (kind_at s.declared.kinds d)) (h.1.numbers d n at) (grind (arith, nat_tests))
 
-pub input_there : (s : State) (d n k : ℕ) → IsGood s → number_in s.account.latest d ≡ Some n → k < input_plugs_of (kind_at s.kinds d) → is_input s.account.latest (at_plug d k) ≡ true
+pub input_there : (s : State) (d n k : ℕ) → IsGood s → number_in s.account.latest d ≡ Some n → k < input_plugs_of (kind_at s.declared.kinds d) → is_input s.account.latest (at_plug d k) ≡ true
 input_there s d n k g at lt = go s.account.latest g.latest at
   where
     go : (o : Option ResetEntry) → IsLatest o s → number_in o d ≡ Some n → is_input o (at_plug d k) ≡ true
     go None h at = absurd (let z : ⊥ = cc in z)
-    go (Some e) h at = any_at (is_input_of (at_plug d k)) e.nodes n (row_of d (kind_at s.kinds d)) (h.1.numbers d n at) (grind (arith, nat_tests))
+    go (Some e) h at = any_at (is_input_of (at_plug d k)) e.nodes n (row_of d (kind_at s.declared.kinds d)) (h.1.numbers d n at) (grind (arith, nat_tests))
 
 no_row : NodeRow
 no_row = record { device = 0; outs = 0; ins = 0; kind = 0 }
@@ -87,14 +87,14 @@ output_not_there s d k g off = go s.account.latest g.latest off
   where
     go : (o : Option ResetEntry) → IsLatest o s → number_in o d ≡ None → is_output o (at_plug d k) ≡ false
     go None h off = refl
-    go (Some e) h off = none_of s.topology s.kinds e d (is_output_of (at_plug d k)) h.1 off (λ row t. grind (arith, nat_tests))
+    go (Some e) h off = none_of s.declared.topology s.declared.kinds e d (is_output_of (at_plug d k)) h.1 off (λ row t. grind (arith, nat_tests))
 
 pub input_not_there : (s : State) (d k : ℕ) → IsGood s → number_in s.account.latest d ≡ None → is_input s.account.latest (at_plug d k) ≡ false
 input_not_there s d k g off = go s.account.latest g.latest off
   where
     go : (o : Option ResetEntry) → IsLatest o s → number_in o d ≡ None → is_input o (at_plug d k) ≡ false
     go None h off = refl
-    go (Some e) h off = none_of s.topology s.kinds e d (is_input_of (at_plug d k)) h.1 off (λ row t. grind (arith, nat_tests))
+    go (Some e) h off = none_of s.declared.topology s.declared.kinds e d (is_input_of (at_plug d k)) h.1 off (λ row t. grind (arith, nat_tests))
 
 -- ---- the words after a reset
 

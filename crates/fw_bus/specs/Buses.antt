@@ -1,5 +1,5 @@
 -- What a bus stands for, and what a call of it did.
-use Rattle.std.specs.Prelude.{ℕ, ◌≡◌, List, [], ◌∷◌, ◌++◌, Bool, Option, Some, None, Ok, Err, IsTrue, IsFalse, ⊤}
+use Rattle.std.specs.Prelude.{ℕ, ◌≡◌, ◌+◌, ◌*◌, ◌≤◌, List, [], ◌∷◌, ◌++◌, Bool, Option, Some, None, Ok, Err, IsTrue, IsFalse, ⊤}
 use Rattle.std.specs.declared.result.Result.{Result}
 use Rattle.fw_outside.specs.Outside.{Grows}
 use Rattle.fw_entry.specs.declared.entry.Timed.{Timed}
@@ -8,16 +8,23 @@ use Rattle.fw_entry.specs.Log.{header_bytes, LogOpens, LogSpells}
 use Rattle.fw_script.specs.declared.command.Command.{Command}
 use Rattle.fw_script.specs.declared.command.Command.TheVariants.{End}
 use Rattle.fw_bus.specs.declared.machine.Machine.{Machine}
+use Rattle.fw_cmp.specs.Controllers.{is_restoring, slot_at}
 use Rattle.fw_run.specs.declared.order.Order.{Order}
+use Rattle.fw_run.specs.declared.order.Order.TheVariants.{Settle}
 use Rattle.fw_bus.specs.declared.BusFault.{BusFault}
 use Rattle.fw_bus.specs.declared.BusFault.TheVariants.{Refused, WriteFault}
 use Rattle.fw_run.specs.Giving.{log_bytes}
 use Rattle.fw_run.specs.State.{State, number_in}
 use Rattle.fw_run.specs.Spaces.{space_at}
 use Rattle.fw_run.specs.Rules.{Decides}
-use Rattle.fw_run.specs.Run.{Action, Run, Steps, actions_of}
-use Rattle.fw_bus.specs.Stands.{StandsFor, Cut}
+use Rattle.fw_run.specs.Actions.{Action}
+use Rattle.fw_run.specs.Carrying.{Carries}
+use Rattle.fw_run.specs.Runs.{Run}
+use Rattle.fw_bus.specs.Stands.{StandsFor}
+use Rattle.fw_bus.specs.Doings.{Cut}
 use Rattle.fw_run.specs.Headline.{IsSoundThroughout}
+use Rattle.fw_run.specs.Reclaiming.{ComesBack}
+use Rattle.fw_run.specs.Settling.{BeginsSecond, to_restore}
 use Rattle.fw_run.specs.Logs.{HasNoEnd}
 
 -- what a caller sees of a bus
@@ -38,13 +45,18 @@ pub record IsReached (m : Machine) : Type 0 where
 pub record Goes (commands : List Command) (actions : List Action) (log : List Timed) (s : State) (c : Command) (now : Standing) (held after : Option (List ℕ)) : Type 0 where
   pub order : Order
   pub decided : Decides s c (Ok order)
+  pub more : List Action
   pub out : List Timed
   pub state : State
-  pub steps : Steps s (actions_of s order) out state
-  pub run : Run (commands ++ c ∷ []) (actions ++ actions_of s order) (log ++ out) state
+  pub carries : Carries s order more out state
+  pub run : Run (commands ++ c ∷ []) (actions ++ more) (log ++ out) state
   pub stands : StandsFor now.machine state
   pub grew : Grows held after (log_bytes out)
-  pub sound : IsSoundThroughout (actions ++ actions_of s order) (log ++ out)
+  pub sound : IsSoundThroughout (actions ++ more) (log ++ out)
+  -- what was whole before a bus reset is whole again where its second is over
+  pub restored : ComesBack (actions ++ more) (log ++ out)
+  -- given right after a bus reset that begins a second, enough rounds leave no connection to be restored
+  pub settles : BeginsSecond s → (rounds : ℕ) → order ≡ Settle rounds → 64 * (to_restore s + 1) ≤ rounds → (d i : ℕ) → IsFalse (is_restoring (slot_at (state.controllers d) i))
   -- what was written so far is a log, which lacks its end alone until the end of the script
   pub opens : HasNoEnd commands → LogOpens (log ++ out) (header_bytes ++ log_bytes (log ++ out))
   pub whole : HasNoEnd commands → c ≡ End → LogSpells (log ++ out) (header_bytes ++ log_bytes (log ++ out))
@@ -54,8 +66,9 @@ pub record Goes (commands : List Command) (actions : List Action) (log : List Ti
 pub record Stops (commands : List Command) (actions : List Action) (log : List Timed) (s : State) (c : Command) (now : Standing) (held after : Option (List ℕ)) : Type 0 where
   pub order : Order
   pub decided : Decides s c (Ok order)
-  pub cut : Cut s (actions_of s order) held after
+  pub cut : Cut (Carries s order) s held after
   pub sound : IsSoundThroughout (actions ++ cut.done) (log ++ (cut.given ++ cut.next ∷ []))
+  pub restored : ComesBack (actions ++ cut.done) (log ++ (cut.given ++ cut.next ∷ []))
   pub opens : HasNoEnd commands → LogOpens (log ++ (cut.given ++ cut.next ∷ [])) (header_bytes ++ log_bytes (log ++ (cut.given ++ cut.next ∷ [])))
   pub spent : IsTrue now.spent
 

@@ -1,4 +1,8 @@
 pub mod Faults
-pub mod Turning
+pub mod Tables
 pub mod Stands
+pub mod Doings
+pub mod Orders
+pub mod Resetting
+pub mod Transacting
 pub mod Buses

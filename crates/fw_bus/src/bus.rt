@@ -34,8 +34,9 @@ impl Bus {
     ghost use Rattle.fw_entry.specs.declared.entry.Timed.{Timed as TimedEntry};
     ghost use Rattle.fw_script.specs.declared.command.Command.{Command as Line};
     ghost use Rattle.fw_run.specs.State.{State, first_state};
-    ghost use Rattle.fw_run.specs.Rules.{IsCommand};
-    ghost use Rattle.fw_run.specs.Run.{Run, Action};
+    ghost use Rattle.fw_run.specs.Actions.{Action};
+    ghost use Rattle.fw_run.specs.Runs.{Run};
+    ghost use Rattle.fw_bus.specs.Orders.{IsCommand};
     ghost use Rattle.fw_bus.specs.Stands.{StandsFor};
     ghost use Rattle.fw_bus.specs.Buses.{Applies, Lends, WhereRefused, WhereFailed};
 

@@ -1,127 +1,103 @@
-ghost use Rattle.std.specs.Prelude.{◌≡◌, ◌==◌, IfSome, Some};
-ghost use Rattle.fw_entry.specs.Log.{Fits, OutcomeFits};
-ghost use Rattle.fw_run.specs.Outcomes.{outcome_entry, coded};
-ghost use Rattle.fw_bus.specs.Turning.{ControllerFits, HasNode, Turned, TurnedBy, Asks, Hears, HearsBy};
-ghost use Rattle.fw_cmp.specs.Stages.{request_of};
+//! One half step of a controller: its request is carried out and it hears the answer, or it says what it does next.
 
+ghost use Rattle.std.specs.Prelude.{◌≡◌, ◌≤◌, ◌<◌, ℕ, IfSome, IsTrue, Some, IsSome, slice_set, length};
+ghost use Rattle.fw_async.specs.Async.{Fits as PacketFits};
+ghost use Rattle.fw_base.specs.Tables.{update};
+ghost use Rattle.fw_cmp.specs.Controllers.{IsHeard, IsStanding};
+ghost use Rattle.fw_cmp.specs.Fits.{TargetFits};
+ghost use Rattle.fw_cmp.specs.Resets.{after_hear};
+ghost use Rattle.fw_entry.specs.Log.{Fits};
+ghost use Rattle.fw_node.specs.Packets.{packet_of, request_head, request_in};
+ghost use Rattle.fw_run.specs.HalfSteps as HalfSteps;
+ghost use Rattle.fw_bus.specs.Doings.{Takes};
+ghost use Rattle.fw_devices.specs.Entries.{node_device};
+ghost use Rattle.fw_bus.specs.Stands.{IsReady, is_living_in};
+ghost use Rattle.fw_bus.specs.Tables.{dead_of, states_of};
+
+use crate::entries::outcome_entry;
 use crate::machine::Machine;
-use crate::packets::{request_packet, word_in};
-use fw_cmp::{Job, Outcome, Request, Stage};
-use fw_entry::codes::outcome;
-use fw_entry::{Entry, OutcomeEntry};
-use fw_run::Controller;
+use fw_async::Packet;
+use fw_cmp::Next;
+use fw_csr::Request;
+use fw_entry::Entry;
+use fw_node::{reply_in, request_packet};
 
-/// The device whose controller and node take part in the procedure: a bus of one deck is all that has one.
-const OWN_DEVICE: u8 = 0;
+/// The transaction label of controllers' procedures (own).
+const PROCEDURE_LABEL: u8 = 0;
 
 impl Machine {
-    ghost use Rattle.fw_run.specs.declared.controller.Controller.TheVariants.{Asking, Hearing};
-
-    /// One half step of a device's controller: what it writes, if anything. Only that of device 0 can have a job.
-    pub(crate) fn turn_of(&mut self, device: u8) -> Option<Entry<'static>>
-        requires fits { ControllerFits self.old.controller }
-        requires node { HasNode self.old.devices self.old.controller }
-        ensures turned { TurnedBy (device == 0) self.old self.new result }
-        ensures entry { IfSome result Fits }
+    /// One half step of a device's controller, which lives: what it writes, if anything.
+    pub(crate) fn turn(&mut self, device: u8) -> Option<Entry<'static>>
+        requires ready { IsReady self.old }
+        requires living { IsTrue (is_living_in self.old device) }
+        ensures takes { Takes HalfSteps.half self.old self.new device result }
+        ensures living { (d : ℕ) → is_living_in self.new d ≡ is_living_in self.old d }
+        ensures time { (self.new.cycle ≡ self.old.cycle) }
+        ensures half_steps { self.new.half_steps ≡ self.old.half_steps }
+        ensures names { self.new.devices.names ≡ self.old.devices.names }
+        ensures fits { IfSome result Fits }
     {
-        if device == OWN_DEVICE {
-            self.turn()
+        if self.controllers.get(device).has_request() {
+            self.hear(device)
         } else {
-            None
+            self.ask(device)
         }
     }
 
-    /// One half step of the controller: what it writes, if anything.
-    fn turn(&mut self) -> Option<Entry<'static>>
-        requires fits { ControllerFits self.old.controller }
-        requires node { HasNode self.old.devices self.old.controller }
-        ensures turned { Turned self.old.controller self.old self.new result }
-        ensures entry { IfSome result Fits }
+    /// No request stands: what the controller does next.
+    fn ask(&mut self, device: u8) -> Option<Entry<'static>>
+        requires ready { IsReady self.old }
+        requires living { IsTrue (is_living_in self.old device) }
+        requires heard { IsHeard (states_of self.old.controllers device).current }
+        ensures takes { Takes HalfSteps.half self.old self.new device result }
+        ensures same { self.new ≡ record self.old { controllers = self.new.controllers } }
+        ensures dead { dead_of self.new.controllers ≡ dead_of self.old.controllers }
+        ensures fits { IfSome result Fits }
     {
-        match self.controller {
-            Controller::Idle => None,
-            Controller::Waiting(job) => {
-                if self.reclaiming {
-                    None
-                } else {
-                    self.ask(job, Stage::ReadOutput)
-                }
+        match self.controllers.next(device, self.cycle, &self.directory) {
+            Next::Send { to, request } => {
+                let own = self.number(device);
+                Some(Entry::Async(request_packet(own, to, PROCEDURE_LABEL, &request)))
             }
-            Controller::Asking(job, stage) => self.ask(job, stage),
-            Controller::Hearing(job, stage) => self.hear(job, stage),
+            Next::End { slot, outcome } => Some(outcome_entry(device, slot, outcome)),
+            Next::Idle | Next::Waiting { .. } => None,
         }
     }
 
-    /// Makes the request of a stage, or ends the job.
-    fn ask(&mut self, job: Job, stage: Stage) -> Option<Entry<'static>>
-        requires { ControllerFits (Asking job stage) }
-        ensures asks { Asks self.old self.new job stage result }
-        ensures entry { IfSome result Fits }
+    /// A request stands: the node that it went to carries it out, and the controller hears the reply.
+    fn hear(&mut self, device: u8) -> Option<Entry<'static>>
+        requires ready { IsReady self.old }
+        requires living { IsTrue (is_living_in self.old device) }
+        requires standing { IsStanding (states_of self.old.controllers device).current }
+        ensures takes { Takes HalfSteps.half self.old self.new device result }
+        ensures living { (d : ℕ) → is_living_in self.new d ≡ is_living_in self.old d }
+        ensures time { (self.new.cycle ≡ self.old.cycle) }
+        ensures half_steps { self.new.half_steps ≡ self.old.half_steps }
+        ensures names { self.new.devices.names ≡ self.old.devices.names }
+        ensures fits { IfSome result Fits }
     {
-        match job.request(stage) {
-            Some(request) => {
-                self.controller = Controller::Hearing(job, stage);
-                Some(Entry::Async(request_packet(request)))
-            }
-            None => {
-                self.controller = Controller::Idle;
-                Some(Entry::Outcome(outcome_entry(stage, self.cycle)))
-            }
-        }
+        let access = self.controllers.get(device).standing()?;
+        let to = self.directory.addressee(access.target)?;
+        let target = self.device_at(to)?;
+        let own = self.number(device);
+        let request = request_packet(own, to, PROCEDURE_LABEL, &access.request());
+        let response = self.devices.answer(target, self.cycle, &request);
+        let reply = reply_in(&response)?;
+        self.controllers.hear(device, &reply);
+        Some(Entry::Async(response))
     }
 
-    /// Has the request that stands carried out, and hears the response.
-    fn hear(&mut self, job: Job, stage: Stage) -> Option<Entry<'static>>
-        requires fits { ControllerFits (Hearing job stage) }
-        requires node { HasNode self.old.devices (Hearing job stage) }
-        ensures hears { HearsBy (request_of job stage) self.old self.new job stage result }
-        ensures entry { IfSome result Fits }
+    /// The device that is the node with this number.
+    fn device_at(&self, number: u8) -> Option<u8>
+        ensures { result ≡ node_device self.now.devices.latest.nodes number }
     {
-        let request = job.request(stage)?;
-        Some(self.exchange(request, job, stage))
-    }
-
-    /// The node answers the request, and the controller hears the word.
-    fn exchange(&mut self, request: Request, job: Job, stage: Stage) -> Entry<'static>
-        requires fits { ControllerFits (Hearing job stage) }
-        requires node { HasNode self.old.devices (Hearing job stage) }
-        ensures hears { Hears self.old self.new request job stage (Some result) }
-        ensures entry { Fits result }
-    {
-        let packet = request_packet(request);
-        let response = self.devices.answer(OWN_DEVICE, self.cycle, &packet);
-        self.controller = Controller::Asking(job, job.heard(stage, word_in(&response)));
-        Entry::Async(response)
-    }
-}
-
-/// The entry of the outcome of a stage that ends its job.
-fn outcome_entry(stage: Stage, cycle: u64) -> OutcomeEntry
-    ensures value { result ≡ outcome_entry stage cycle }
-    ensures fits { OutcomeFits result }
-{
-    let (code, value) = match stage {
-        Stage::OutputConnected(channel) => (outcome::CONNECTED, u32::from(channel)),
-        Stage::Ended(outcome) => coded(outcome, cycle),
-        _ => (outcome::BROKEN, 0),
-    };
-    OutcomeEntry {
-        code,
-        device: OWN_DEVICE,
-        slot: 0,
-        value,
-    }
-}
-
-/// The code and the value of an outcome.
-fn coded(outcome: Outcome, cycle: u64) -> (u8, u32)
-    ensures { result ≡ coded outcome cycle }
-{
-    match outcome {
-        Outcome::Broken => (outcome::BROKEN, 0),
-        Outcome::NoChannel(word) => (outcome::NO_CHANNEL, word),
-        Outcome::NoUnits(remainder) => (outcome::NO_UNITS, remainder),
-        Outcome::PlugFull(word) => (outcome::PLUG_FULL, word),
-        Outcome::Late => (outcome::LATE, (cycle % (1 << 32)) as u32),
+        let row = self
+            .devices
+            .latest()
+            .get()
+            .nodes
+            .as_slice()
+            .get(usize::from(number))?;
+        Some(row.device)
     }
 }

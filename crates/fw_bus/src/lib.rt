@@ -6,13 +6,16 @@
 
 mod bus;
 mod carry;
+mod controllers;
+mod entries;
 mod give;
 mod half;
+mod lives;
 mod machine;
-mod packets;
 mod reset;
 mod rules;
 mod second;
+mod steps;
 mod transact;
 
 pub use bus::Bus;

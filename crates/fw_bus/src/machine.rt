@@ -1,27 +1,31 @@
-ghost use Rattle.std.specs.Prelude.{◌≡◌, IfOk};
-ghost use Rattle.fw_run.specs.State.{first_state};
-ghost use Rattle.fw_bus.specs.Stands.{StandsFor};
+ghost use Rattle.std.specs.Prelude.{◌≡◌, ◌<◌, ◌≤◌, ℕ, IfOk, IsTrue, Some, length};
+ghost use Rattle.fw_run.specs.State.{State, first_state, living};
+ghost use Rattle.fw_run.specs.Good.{IsGood};
+ghost use Rattle.fw_run.specs.HalfSteps.{is_unsettled};
+ghost use Rattle.fw_devices.specs.Network.{is_node, node_at};
+ghost use Rattle.fw_bus.specs.Stands.{StandsFor, IsReady, is_linked_in, is_living_in, living_in};
 
+use crate::controllers::Controllers;
+use fw_cmp::Directory;
 use fw_devices::Devices;
-use fw_run::Controller;
 use std::alloc::{AllocError, Global};
+
+/// How many cycles a second has.
+pub(crate) const SECOND: u64 = 8000;
 
 /// What a bus keeps: no account and no entries.
 #[derive(Drop)]
 pub struct Machine {
     pub devices: Devices,
+    pub controllers: Controllers,
+    /// What controllers know of the bus since the latest bus reset.
+    pub directory: Directory,
     /// The isochronous cycle, 125 microseconds each, from 0.
     pub cycle: u64,
-    /// The cycle of the latest bus reset.
-    pub reset_cycle: u64,
     /// Whether the second after the latest bus reset runs, in which only flows that talked before it are allocated again.
     pub reclaiming: bool,
     /// How many half steps were given.
     pub half_steps: u32,
-    /// Whether a connection was asked for.
-    pub began: bool,
-    /// The controller of device 0.
-    pub controller: Controller,
 }
 
 impl Machine {
@@ -31,12 +35,80 @@ impl Machine {
     {
         Ok(Machine {
             devices: Devices::new(alloc)?,
+            controllers: Controllers::new(alloc)?,
+            directory: Directory {
+                node: [None; 63],
+                manager: None,
+                over_at: 0,
+            },
             cycle: 0,
-            reset_cycle: 0,
             reclaiming: false,
             half_steps: 0,
-            began: false,
-            controller: Controller::Idle,
         })
+    }
+
+    /// Whether the device is on the bus.
+    pub(crate) fn is_on(&self, device: u8) -> bool
+        ensures { result ≡ is_node self.now.devices.nodes device }
+    {
+        self.devices.node(device).is_some()
+    }
+
+    /// Whether the device is on the bus and has a link: then its node answers.
+    pub(crate) fn is_linked(&self, device: u8) -> bool
+        ensures { result ≡ is_linked_in self.now.devices device }
+    {
+        self.is_on(device) && self.devices.kind(device).has_link()
+    }
+
+    /// Whether the device's controller lives.
+    pub(crate) fn is_living(&self, device: u8) -> bool
+        ensures { result ≡ is_living_in self.now device }
+    {
+        self.is_linked(device) && !self.controllers.is_dead(device)
+    }
+
+    /// How many controllers live.
+    pub(crate) fn living(&self) -> u32
+        ensures count { result ≡ length (living_in self.now) }
+        ensures few { result ≤ 63 }
+    {
+        let mut count = 0;
+        for device in 0..self.devices.count() {
+            if self.is_living(device) {
+                count += 1;
+            }
+        }
+        count
+    }
+
+    /// The node number of a device on the bus.
+    pub(crate) fn number(&self, device: u8) -> u8
+        requires { IsTrue (is_node self.now.devices.nodes device) }
+        ensures value { (node_at self.now.devices.nodes device).number ≡ Some result }
+        ensures range { result ≤ 62 }
+    {
+        match self.devices.number(device) {
+            Some(number) => number,
+            None => unreachable!(),
+        }
+    }
+
+    /// Whether a living controller has something to do, or waits for an answer.
+    pub(crate) fn is_unsettled(&self) -> bool
+        requires ready { IsReady self.now }
+        ensures { (s : State) → IsGood s → StandsFor self.now s → result ≡ is_unsettled s }
+    {
+        for device in 0..self.devices.count() {
+            if self.is_living(device)
+                && self
+                    .controllers
+                    .get(device)
+                    .busy(self.cycle, &self.directory)
+            {
+                return true;
+            }
+        }
+        false
     }
 }

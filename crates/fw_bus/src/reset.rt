@@ -1,36 +1,62 @@
 //! Devices and cables that come, and the bus resets that they begin.
 
-ghost use Rattle.std.specs.Prelude.{◌≡◌, ◌≤◌, ◌<◌, ◌&&◌, [], ◌∷◌, nat_le, IsTrue, IsFalse, length};
-ghost use Rattle.fw_run.specs.Run.{AddDevice, AddCable, ResetBus};
-ghost use Rattle.fw_run.specs.Rules.{CanJoin, is_joining};
-ghost use Rattle.fw_bus.specs.Stands.{Does, IsReady};
-ghost use Rattle.fw_bus.specs.Turning.{BeginsReset, GivesReset};
+ghost use Rattle.std.specs.Prelude.{◌≡◌, ◌≤◌, ◌<◌, ◌+◌, ◌&&◌, ◌^◌, [], ◌∷◌, nat_le, IsTrue, IsFalse, length};
+ghost use Rattle.fw_run.specs.Actions.{AddDevice, AddCable, ResetBus};
+ghost use Rattle.fw_bus.specs.Doings.{Acts, Does};
+ghost use Rattle.fw_bus.specs.Orders.{CanJoin, joins_in};
+ghost use Rattle.fw_bus.specs.Resetting.{BeginsReset, GivesReset, directory_in};
+ghost use Rattle.fw_bus.specs.Stands.{IsReady};
 ghost use Rattle.fw_entry.specs.Log.{ResetFits};
-ghost use Rattle.fw_entry.specs.declared.entry.Entry.TheVariants.{Reset};
 ghost use Rattle.fw_tree.specs.Cables.{IsOnBus};
 ghost use Rattle.fw_devices.specs.Network.{is_node};
 
 use crate::give::give;
-use crate::machine::Machine;
+use crate::machine::{Machine, SECOND};
 use fw_base::DeviceKind;
+use fw_cmp::Directory;
 use fw_entry::{Entry, EntryRoom};
 use fw_outside::{Failed, Sink};
 use fw_script::Name;
 use fw_tree::End;
 
 impl Machine {
-    /// A bus reset (IEEE 1394-1995, bus reset): the nodes are numbered anew, and the second begins, but for the first one,
-    /// before which nothing can have been connected (own).
+    /// What controllers are told at a bus reset of this cycle: the nodes that have a link, the manager, and when the second is over,
+    /// where the bus reset begins one.
+    fn directory_now(&self) -> Directory
+        requires { self.now.cycle ≤ 2 ^ 52 }
+        ensures { result ≡ directory_in self.now.devices self.now.reclaiming self.now.cycle }
+    {
+        let mut node = [None; 63];
+        for device in 0..self.devices.count() {
+            if self.is_linked(device) {
+                node[usize::from(device)] = self.devices.number(device);
+            }
+        }
+        Directory {
+            node,
+            manager: self.devices.latest().get().manager,
+            over_at: if self.reclaiming {
+                self.cycle + SECOND
+            } else {
+                self.cycle
+            },
+        }
+    }
+
+    /// A bus reset (IEEE 1394-1995, bus reset): the nodes are numbered anew, controllers hear of it, and the second begins, but
+    /// for the first one, before which nothing can have been connected (own).
     fn begin_reset(&mut self, initiator: u8)
         requires declared { initiator < length self.old.devices.nodes }
         requires on { IsOnBus self.old.devices.topology.cables initiator }
         requires few { self.old.devices.epoch < 10000 }
-        ensures begins { BeginsReset self.old self.new initiator (Reset self.new.devices.latest) }
+        requires cycle { self.old.cycle ≤ 2 ^ 52 }
+        ensures begins { BeginsReset self.old self.new initiator }
         ensures fits { ResetFits self.new.devices.latest }
     {
         self.reclaiming = self.devices.node(0).is_some();
-        self.reset_cycle = self.cycle;
         self.devices.reset(initiator);
+        self.directory = self.directory_now();
+        self.controllers.reset(self.devices.epoch());
     }
 
     /// A bus reset, whose entry is written.
@@ -43,6 +69,7 @@ impl Machine {
         requires declared { initiator < length self.old.devices.nodes }
         requires on { IsOnBus self.old.devices.topology.cables initiator }
         requires few { self.old.devices.epoch < 10000 }
+        requires cycle { self.old.cycle ≤ 2 ^ 52 }
         ensures { GivesReset self.old self.new initiator (K.held sink.old) (K.held sink.new) (K.faults sink.old) (K.faults sink.new) result }
     {
         self.begin_reset(initiator);
@@ -62,10 +89,9 @@ impl Machine {
         sink: &mut K,
     ) -> Result<(), Failed>
         requires ready { IsReady self.old }
-        requires quiet { IsFalse self.old.began }
         requires on { IsTrue (is_node self.old.devices.nodes device) }
         requires few { self.old.devices.epoch < 10000 }
-        ensures does { Does (ResetBus device ∷ []) self.old self.new (K.held sink.old) (K.held sink.new) (K.faults sink.old) (K.faults sink.new) result }
+        ensures does { Does (Acts (ResetBus device ∷ [])) self.old self.new (K.held sink.old) (K.held sink.new) (K.faults sink.old) (K.faults sink.new) result }
     {
         self.give_reset(device, room, sink)
     }
@@ -85,10 +111,11 @@ impl Machine {
         requires some { 1 ≤ ports }
         requires most { ports ≤ 27 }
         requires speed { speed ≤ 2 }
-        ensures does { Does (AddDevice name.now kind ports speed ∷ []) self.old self.new (K.held sink.old) (K.held sink.new) (K.faults sink.old) (K.faults sink.new) result }
+        ensures does { Does (Acts (AddDevice name.now kind ports speed ∷ [])) self.old self.new (K.held sink.old) (K.held sink.new) (K.faults sink.old) (K.faults sink.new) result }
     {
         let is_first = self.devices.count() == 0;
         self.devices.add(name, kind, ports, speed);
+        self.controllers.add();
         if is_first {
             self.give_reset(0, room, sink)
         } else {
@@ -105,10 +132,9 @@ impl Machine {
         sink: &mut K,
     ) -> Result<(), Failed>
         requires ready { IsReady self.old }
-        requires quiet { IsFalse self.old.began }
         requires free { CanJoin self.old.devices.topology a b }
-        requires few { IsFalse (is_joining (is_node self.old.devices.nodes) a b && nat_le 10000 self.old.devices.epoch) }
-        ensures does { Does (AddCable a b ∷ []) self.old self.new (K.held sink.old) (K.held sink.new) (K.faults sink.old) (K.faults sink.new) result }
+        requires few { IsFalse (joins_in self.old a b && nat_le 10000 self.old.devices.epoch) }
+        ensures does { Does (Acts (AddCable a b ∷ [])) self.old self.new (K.held sink.old) (K.held sink.new) (K.faults sink.old) (K.faults sink.new) result }
     {
         let first_is_on = self.is_on(a.device);
         let second_is_on = self.is_on(b.device);

@@ -1,1 +1,16 @@
 pub mod Bits
+pub mod Jobs
+pub mod Fitting
+pub mod Picking
+pub mod Going
+pub mod Ready
+pub mod Ended
+pub mod Overtaken
+pub mod Busy
+pub mod PlugWords
+pub mod GoingOn
+pub mod Resting
+pub mod Deciding
+pub mod Outcomes
+pub mod OfAnswers
+pub mod Starting

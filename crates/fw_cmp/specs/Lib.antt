@@ -1,1 +1,16 @@
+pub mod Connections
+pub mod Plugs
+pub mod Decisions
 pub mod Stages
+pub mod Nodes
+pub mod Requests
+pub mod Fits
+pub mod Holdings
+pub mod Controllers
+pub mod Starts
+pub mod Refusals
+pub mod Turns
+pub mod Resets
+pub mod Answers
+pub mod Causes
+pub mod Outcomes

@@ -1,15 +1,45 @@
-ghost use Rattle.std.specs.Prelude.{◌≡◌};
-ghost use Rattle.fw_cmp.specs.Stages.{hear, JobFits, StageFits, IsReleasing};
+//! What follows the answer to a stage's request.
 
-use crate::decide::half_of;
-use crate::release::{decide_raise, give_back};
-use crate::{Held, Job, Stage};
-use fw_plug::OutWord;
+ghost use Rattle.std.specs.Prelude.{◌≡◌};
+ghost use Rattle.fw_cmp.specs.Stages.{hear, refuse, hear_reply, IsJoining, IsLeaving, IsReleasing};
+ghost use Rattle.fw_cmp.specs.Fits.{JobFits, StageFits};
+
+use crate::output::overlaid_flow;
+use crate::release::{decide_raise, goes_on, leave_output};
+use crate::words::half_of;
+use crate::{Ending, Held, Job, Stage};
+use fw_csr::Reply;
 
 impl Job {
-    /// The stage that follows the word which answers a stage's request. A swap has succeeded exactly where the
-    /// word equals its argument.
-    pub fn heard(&self, stage: Stage, word: u32) -> Stage
+    /// The stage that follows an answer.
+    pub fn hear(&self, stage: Stage, r: &Reply) -> Stage
+        requires job { JobFits self.now }
+        requires fits { StageFits self.now stage }
+        ensures value { result ≡ hear_reply self.now stage r.now }
+        ensures fits { StageFits self.now result }
+    {
+        if r.is_complete() {
+            self.heard(stage, r.value)
+        } else {
+            self.refused(stage, r.rcode)
+        }
+    }
+
+    /// The stage that follows an answer which is not complete.
+    fn refused(&self, stage: Stage, rcode: u8) -> Stage
+        requires fits { StageFits self.now stage }
+        ensures value { result ≡ refuse self.now stage rcode }
+        ensures fits { StageFits self.now result }
+    {
+        match stage {
+            Stage::ReadInput(flow) => leave_output(self.connection, Ending::NoPlug(rcode), flow),
+            _ => Stage::Ended(Ending::NoPlug(rcode)),
+        }
+    }
+
+    /// The stage that follows a complete answer with this word. A swap has succeeded exactly where the word equals
+    /// its argument.
+    fn heard(&self, stage: Stage, word: u32) -> Stage
         requires job { JobFits self.now }
         requires fits { StageFits self.now stage }
         ensures value { result ≡ hear self.now stage word }
@@ -33,45 +63,94 @@ impl Job {
                     self.decide_units(channel, plug, word)
                 }
             }
+            Stage::ConnectOutput(..)
+            | Stage::OverlayOutput(_)
+            | Stage::ReadInput(_)
+            | Stage::ConnectInput(..) => self.heard_joining(stage, word),
+            Stage::ReadInputToLeave(..)
+            | Stage::LeaveInput(..)
+            | Stage::ReadOutputToLeave(..)
+            | Stage::LeaveOutput(..) => self.heard_leaving(stage, word),
+            Stage::ReadBandwidthToRelease(..)
+            | Stage::RaiseBandwidth(..)
+            | Stage::ReadChannelsToRelease(..)
+            | Stage::RestoreChannel(..) => self.heard_releasing(stage, word),
+            Stage::Begin | Stage::Made(_) | Stage::Ended(_) => stage,
+        }
+    }
+
+    /// The same for the stages that join plugs.
+    fn heard_joining(&self, stage: Stage, word: u32) -> Stage
+        requires job { JobFits self.now }
+        requires fits { StageFits self.now stage }
+        ensures value { IsJoining stage → result ≡ hear self.now stage word }
+        ensures fits { StageFits self.now result }
+    {
+        match stage {
             Stage::ConnectOutput(channel, units, arg) => {
                 if word == arg {
-                    Stage::OutputConnected(channel)
+                    self.output_joined(self.first_flow(channel, units))
                 } else {
                     self.decide_output(Some(Held { channel, units }), word)
                 }
             }
             Stage::OverlayOutput(arg) => {
                 if word == arg {
-                    Stage::OutputConnected(OutWord(arg).channel())
+                    self.output_joined(overlaid_flow(arg))
                 } else {
                     self.decide_output(None, word)
                 }
             }
-            Stage::ReadOutputToLeave(_)
-            | Stage::LeaveOutput(..)
-            | Stage::ReadBandwidthToRelease(..)
-            | Stage::RaiseBandwidth(..)
-            | Stage::ReadChannelsToRelease(..)
-            | Stage::RestoreChannel(..) => self.heard_releasing(stage, word),
-            Stage::OutputConnected(_) | Stage::Ended(_) => stage,
+            Stage::ReadInput(flow) => self.decide_input(flow, word),
+            Stage::ConnectInput(flow, arg) => {
+                if word == arg {
+                    Stage::Made(flow)
+                } else {
+                    self.decide_input(flow, word)
+                }
+            }
+            _ => stage,
         }
     }
 
-    /// The same for the stages that give back.
+    /// The same for the stages that leave plugs.
+    fn heard_leaving(&self, stage: Stage, word: u32) -> Stage
+        requires fits { StageFits self.now stage }
+        ensures value { IsLeaving stage → result ≡ hear self.now stage word }
+        ensures fits { StageFits self.now result }
+    {
+        match stage {
+            Stage::ReadInputToLeave(channel, units) => {
+                self.decide_leave_input(channel, units, word)
+            }
+            Stage::LeaveInput(channel, units, arg) => {
+                if word == arg {
+                    self.input_left(channel, units)
+                } else {
+                    self.decide_leave_input(channel, units, word)
+                }
+            }
+            Stage::ReadOutputToLeave(ending, channel, units) => {
+                self.decide_leave_output(ending, channel, units, word)
+            }
+            Stage::LeaveOutput(ending, channel, units, arg) => {
+                if word == arg {
+                    self.output_left(ending, channel, units, arg)
+                } else {
+                    self.decide_leave_output(ending, channel, units, word)
+                }
+            }
+            _ => stage,
+        }
+    }
+
+    /// The same for the stages that give back units and the channel.
     fn heard_releasing(&self, stage: Stage, word: u32) -> Stage
         requires fits { StageFits self.now stage }
         ensures value { IsReleasing stage → result ≡ hear self.now stage word }
         ensures fits { StageFits self.now result }
     {
         match stage {
-            Stage::ReadOutputToLeave(next) => self.decide_leave(next, word),
-            Stage::LeaveOutput(next, arg) => {
-                if word == arg {
-                    self.left(next, arg)
-                } else {
-                    self.decide_leave(next, word)
-                }
-            }
             Stage::ReadBandwidthToRelease(next, channel, units) => {
                 decide_raise(next, channel, units, word)
             }
@@ -87,7 +166,7 @@ impl Job {
             }
             Stage::RestoreChannel(next, channel, arg) => {
                 if word == arg {
-                    give_back(None, next)
+                    goes_on(next)
                 } else {
                     Stage::RestoreChannel(next, channel, word)
                 }

@@ -1,24 +1,35 @@
-ghost use Rattle.std.specs.Prelude.{◌≡◌, ◌<◌};
-ghost use Rattle.fw_plug.specs.Words.{out_fields};
-ghost use Rattle.fw_cmp.specs.Stages.{give_back, is_connected, one_less, after_leave, decide_leave, decide_raise, shows_connection, StageFits, HeldFits};
-ghost use Rattle.fw_cmp.specs.declared.job.Job.{Job};
+//! Leaving plugs, and giving back units and channels.
 
-use crate::decide::units_needed;
-use crate::{Held, Job, Stage, Then};
-use fw_base::ConnectionKind;
+ghost use Rattle.std.specs.Prelude.{◌≡◌, ◌<◌, ◌^◌, IsTrue};
+ghost use Rattle.fw_cmp.specs.declared.job.Job.{Job as JobRecord};
+ghost use Rattle.fw_cmp.specs.Connections.{kind_of};
+ghost use Rattle.fw_cmp.specs.Plugs.{shows_connection};
+ghost use Rattle.fw_cmp.specs.Decisions.{goes_on, give_back, leave_output, input_left, decide_leave_in, decide_leave_out, output_left, decide_raise};
+ghost use Rattle.fw_cmp.specs.Fits.{StageFits, HeldFits, HasOutput, HasInput, FlowFits, ResourcesFit};
+
+use crate::words::{one_less, remainder, shows_connection};
+use crate::{Connection, Ending, Flow, Held, Job, Stage, Then};
 use fw_plug::OutWord;
+
+/// What follows where nothing is left to give back.
+pub(crate) fn goes_on(next: Then) -> Stage
+    ensures value { result ≡ goes_on next }
+    ensures fits { (j : JobRecord) → HasOutput j.connection → StageFits j result }
+{
+    match next {
+        Then::EndsAs(ending) => Stage::Ended(ending),
+        Then::Again => Stage::ReadOutput,
+    }
+}
 
 /// The first stage of giving back what is held, or what follows where nothing is.
 pub(crate) fn give_back(held: Option<Held>, next: Then) -> Stage
     requires { HeldFits held }
     ensures value { result ≡ give_back held next }
-    ensures fits { (j : Job) → StageFits j result }
+    ensures fits { (j : JobRecord) → HasOutput j.connection → StageFits j result }
 {
     match held {
-        None => match next {
-            Then::EndsAs(outcome) => Stage::Ended(outcome),
-            Then::Again => Stage::ReadOutput,
-        },
+        None => goes_on(next),
         Some(h) => {
             if h.units == 0 {
                 Stage::ReadChannelsToRelease(next, h.channel)
@@ -29,23 +40,16 @@ pub(crate) fn give_back(held: Option<Held>, next: Then) -> Stage
     }
 }
 
-/// Whether a plug with this word is still connected when one connection of the kind is left.
-fn stays_connected(kind: ConnectionKind, word: OutWord) -> bool
-    ensures { result ≡ is_connected (one_less kind (out_fields word.0)) }
+/// How a job ends so that has its connection at the output plug, where it has one.
+pub(crate) fn leave_output(connection: Connection, ending: Ending, flow: Flow) -> Stage
+    requires { FlowFits flow }
+    ensures value { result ≡ leave_output connection ending flow }
+    ensures fits { (j : JobRecord) → j.connection ≡ connection → StageFits j result }
 {
-    match kind {
-        ConnectionKind::PointToPoint => word.counter() > 1 || word.broadcast(),
-        ConnectionKind::Broadcast => word.counter() > 0,
-    }
-}
-
-/// Whether a plug's word shows a connection of the kind.
-fn shows(kind: ConnectionKind, word: OutWord) -> bool
-    ensures { result ≡ shows_connection kind (out_fields word.0) }
-{
-    match kind {
-        ConnectionKind::PointToPoint => word.counter() > 0,
-        ConnectionKind::Broadcast => word.broadcast(),
+    if connection.is_listen() {
+        Stage::Ended(ending)
+    } else {
+        Stage::ReadOutputToLeave(ending, flow.channel, flow.units)
     }
 }
 
@@ -54,9 +58,9 @@ fn shows(kind: ConnectionKind, word: OutWord) -> bool
 pub(crate) fn decide_raise(next: Then, channel: u8, units: u32, word: u32) -> Stage
     requires { channel < 64 }
     ensures value { result ≡ decide_raise next channel units word }
-    ensures fits { (j : Job) → StageFits j result }
+    ensures fits { (j : JobRecord) → HasOutput j.connection → StageFits j result }
 {
-    if u64::from(units) + u64::from(word) <= 4915 {
+    if u64::from(units) + u64::from(remainder(word)) <= 4915 {
         Stage::RaiseBandwidth(next, channel, units, word)
     } else {
         Stage::ReadChannelsToRelease(next, channel)
@@ -64,32 +68,65 @@ pub(crate) fn decide_raise(next: Then, channel: u8, units: u32, word: u32) -> St
 }
 
 impl Job {
-    /// What a word of the plug means for a job that leaves it.
-    pub(crate) fn decide_leave(&self, next: Then, word: u32) -> Stage
-        ensures value { result ≡ decide_leave self.now next word }
+    /// What follows where a break has left the input plug.
+    pub(crate) fn input_left(&self, channel: u8, units: u32) -> Stage
+        requires { channel < 64 }
+        ensures value { result ≡ input_left self.now channel units }
         ensures fits { StageFits self.now result }
     {
-        if shows(self.kind, OutWord(word)) {
-            Stage::LeaveOutput(next, word)
+        if self.connection.is_listen() {
+            Stage::Ended(Ending::Broken)
         } else {
-            give_back(None, next)
+            Stage::ReadOutputToLeave(Ending::Broken, channel, units)
         }
     }
 
-    /// What follows when a connection was taken off this word of the plug.
-    pub(crate) fn left(&self, next: Then, word: u32) -> Stage
-        ensures value { result ≡ after_leave self.now next (out_fields word) }
+    /// What a word of the input plug means for a break.
+    pub(crate) fn decide_leave_input(&self, channel: u8, units: u32, word: u32) -> Stage
+        requires input { HasInput self.now.connection }
+        requires channel { channel < 64 }
+        ensures value { result ≡ decide_leave_in self.now channel units word }
         ensures fits { StageFits self.now result }
     {
-        let plug = OutWord(word);
-        if stays_connected(self.kind, plug) {
-            give_back(None, next)
+        if shows_connection(self.connection.kind(), word) {
+            Stage::LeaveInput(channel, units, word)
         } else {
-            Stage::ReadBandwidthToRelease(
-                next,
-                plug.channel(),
-                units_needed(plug.rate(), plug.overhead()),
-            )
+            self.input_left(channel, units)
+        }
+    }
+
+    /// What a word of the output plug means for a job that leaves it.
+    pub(crate) fn decide_leave_output(
+        &self,
+        ending: Ending,
+        channel: u8,
+        units: u32,
+        word: u32,
+    ) -> Stage
+        requires output { HasOutput self.now.connection }
+        requires channel { channel < 64 }
+        ensures value { result ≡ decide_leave_out self.now ending channel units word }
+        ensures fits { StageFits self.now result }
+    {
+        if shows_connection(self.connection.kind(), word) {
+            Stage::LeaveOutput(ending, channel, units, word)
+        } else {
+            Stage::Ended(ending)
+        }
+    }
+
+    /// What follows when a connection was taken off this word of the output plug.
+    pub(crate) fn output_left(&self, ending: Ending, channel: u8, units: u32, word: u32) -> Stage
+        requires output { HasOutput self.now.connection }
+        requires channel { channel < 64 }
+        requires shown { IsTrue (shows_connection (kind_of self.now.connection) word) }
+        ensures value { result ≡ output_left self.now ending channel units word }
+        ensures fits { StageFits self.now result }
+    {
+        if OutWord(one_less(self.connection.kind(), word)).is_connected() {
+            Stage::Ended(ending)
+        } else {
+            Stage::ReadBandwidthToRelease(Then::EndsAs(ending), channel, units)
         }
     }
 }

@@ -1,144 +1,115 @@
-ghost use Rattle.std.specs.Prelude.{◌≡◌, ◌<◌, ◌-◌, ◌^◌, IsFalse, IsTrue};
-ghost use Rattle.fw_plug.specs.Words.{out_fields, out_word};
-ghost use Rattle.fw_cmp.specs.Stages.{asks_register, swap_of, request_of, half_of, with_bit, without_bit, first_word, one_more, one_less, is_full, shows_connection, JobFits, StageFits, IsUnconnected};
+ghost use Rattle.std.specs.Prelude.{◌≡◌, ◌<◌};
+ghost use Rattle.fw_cmp.specs.Requests.{offset_of, first_word, input_word, target_of, swap_of, access_of, request_of};
+ghost use Rattle.fw_cmp.specs.Plugs.{is_full};
+ghost use Rattle.fw_cmp.specs.Connections.{kind_of};
+ghost use Rattle.fw_cmp.specs.Fits.{JobFits, StageFits, IsUnconnected};
+ghost use Rattle.fw_plug.specs.Words.{is_connected};
+ghost use Rattle.std.specs.Prelude.{IsFalse};
 
-use crate::decide::half_of;
+use crate::words::{
+    half_of, one_less, one_more, with_bit, with_channel, with_overhead, without_bit,
+};
 use crate::{Job, Stage};
-use fw_base::ConnectionKind;
-use fw_plug::OutWord;
-use fw_words::Quadlet;
+use fw_base::PlugAt;
+use fw_csr::{BANDWIDTH_AVAILABLE, CHANNELS_AVAILABLE_HI, CHANNELS_AVAILABLE_LO, Request, Swap};
+use fw_plug::{IPCR, OPCR, OutWord};
+use fw_words::{Bytes16, Quadlet, put_quadlet};
 
-/// A register that a job asks for: that of its output plug, or one of the isochronous resource manager's.
+/// The extended_tcode of a compare_swap (IEEE 1394-1995, lock functions).
+const COMPARE_SWAP: u8 = 2;
+
+/// A register that a job asks for: that of a plug, or one of the isochronous resource manager's.
 #[derive(Clone, Copy, Debug, PartialEq, Eq)]
-pub enum Register {
-    OutputPlug,
+pub enum Target {
+    OutputPlug(PlugAt),
+    InputPlug(PlugAt),
     /// The CHANNELS_AVAILABLE register that begins with this channel, 0 or 32.
     Channels(u8),
     BandwidthAvailable,
 }
 
-/// A quadlet compare_swap: it stores `new` exactly where the register equals `arg`.
+/// What a stage asks of a register: a read, or a quadlet compare_swap.
 #[derive(Clone, Copy, Debug, PartialEq, Eq)]
-pub struct Swap {
-    pub arg: u32,
-    pub new: u32,
-}
-
-/// What a stage asks of a register: a read, or a swap.
-#[derive(Clone, Copy, Debug, PartialEq, Eq)]
-pub struct Request {
-    pub register: Register,
+pub struct Access {
+    pub target: Target,
     pub swap: Option<Swap>,
 }
 
-/// The word of a plug with one connection more of the kind.
-fn one_more(kind: ConnectionKind, word: u32) -> u32
-    requires { IsFalse (is_full kind (out_fields word)) }
-    ensures { result ≡ out_word (one_more kind (out_fields word)) }
-{
-    let plug = OutWord(word);
-    match kind {
-        ConnectionKind::PointToPoint => plug_word(
-            plug.broadcast(),
-            plug.counter() + 1,
-            plug.channel(),
-            plug.rate(),
-            plug.overhead(),
-        ),
-        ConnectionKind::Broadcast => plug_word(
-            true,
-            plug.counter(),
-            plug.channel(),
-            plug.rate(),
-            plug.overhead(),
-        ),
+impl Target {
+    /// The register's offset.
+    pub fn offset(self) -> u64
+        ensures { result ≡ offset_of self }
+    {
+        match self {
+            Target::OutputPlug(p) => OPCR + 4 * u64::from(p.plug),
+            Target::InputPlug(p) => IPCR + 4 * u64::from(p.plug),
+            Target::Channels(0) => CHANNELS_AVAILABLE_HI,
+            Target::Channels(_) => CHANNELS_AVAILABLE_LO,
+            Target::BandwidthAvailable => BANDWIDTH_AVAILABLE,
+        }
     }
 }
 
-/// The word of a plug with one connection less of the kind.
-fn one_less(kind: ConnectionKind, word: u32) -> u32
-    requires { IsTrue (shows_connection kind (out_fields word)) }
-    ensures { result ≡ out_word (one_less kind (out_fields word)) }
-{
-    let plug = OutWord(word);
-    match kind {
-        ConnectionKind::PointToPoint => plug_word(
-            plug.broadcast(),
-            plug.counter() - 1,
-            plug.channel(),
-            plug.rate(),
-            plug.overhead(),
-        ),
-        ConnectionKind::Broadcast => plug_word(
-            false,
-            plug.counter(),
-            plug.channel(),
-            plug.rate(),
-            plug.overhead(),
-        ),
-    }
-}
-
-/// The word of a plug of 122 quadlets a packet that is on-line.
-fn plug_word(broadcast: bool, counter: u8, channel: u8, rate: u8, overhead: u8) -> u32
-    requires counter { counter < 64 }
-    requires channel { channel < 64 }
-    requires rate { rate < 4 }
-    requires overhead { overhead < 16 }
-    ensures { result ≡ out_word (record { broadcast = broadcast; counter = counter; settings = record { channel = channel; rate = rate; overhead = overhead } }) }
-{
-    0x8000_007A
-        + (u32::from(broadcast) << 30)
-        + (u32::from(counter) << 24)
-        + (u32::from(channel) << 16)
-        + (u32::from(rate) << 14)
-        + (u32::from(overhead) << 10)
-}
-
-/// The value of a bit, bit 0 being the most significant.
-fn value_of(bit: u8) -> u32
-    requires { bit < 32 }
-    ensures { result ≡ 2 ^ (31 - bit) }
-{
-    1 << (31 - bit)
-}
-
-/// A word with a bit set.
-fn with_bit(word: u32, bit: u8) -> u32
-    requires { bit < 32 }
-    ensures { result ≡ with_bit word bit }
-{
-    if Quadlet(word).field(bit, bit) == 1 {
-        word
-    } else {
-        word + value_of(bit)
-    }
-}
-
-/// A word with a bit cleared.
-fn without_bit(word: u32, bit: u8) -> u32
-    requires { bit < 32 }
-    ensures { result ≡ without_bit word bit }
-{
-    if Quadlet(word).field(bit, bit) == 1 {
-        word - value_of(bit)
-    } else {
-        word
+impl Access {
+    /// The request packet's part: a quadlet read, or a lock.
+    pub fn request(&self) -> Request<'static>
+        ensures { result ≡ request_of self.now }
+    {
+        let offset = self.target.offset();
+        match self.swap {
+            None => Request::Read { offset },
+            Some(swap) => {
+                let mut bytes = Bytes16::new();
+                bytes.append(&put_quadlet(Quadlet(swap.argument)));
+                bytes.append(&put_quadlet(Quadlet(swap.new)));
+                Request::Lock {
+                    offset,
+                    function: COMPARE_SWAP,
+                    bytes,
+                }
+            }
+        }
     }
 }
 
 impl Job {
-    /// The request of a stage; None where the stage makes none, since the job has ended.
-    pub fn request(&self, stage: Stage) -> Option<Request>
+    /// What a stage asks; None where it makes no request.
+    pub fn access(&self, stage: Stage) -> Option<Access>
         requires job { JobFits self.now }
         requires fits { StageFits self.now stage }
-        ensures { result ≡ request_of self.now stage }
+        ensures { result ≡ access_of self.now stage }
     {
-        let register = register_of(stage)?;
-        Some(Request {
-            register,
+        let target = self.target(stage)?;
+        Some(Access {
+            target,
             swap: self.swap(stage),
         })
+    }
+
+    /// The register of a stage's request; None where it makes none.
+    fn target(&self, stage: Stage) -> Option<Target>
+        ensures { result ≡ target_of self.now stage }
+    {
+        match stage {
+            Stage::ReadOutput
+            | Stage::ConnectOutput(..)
+            | Stage::OverlayOutput(_)
+            | Stage::ReadOutputToLeave(..)
+            | Stage::LeaveOutput(..) => self.connection.output().map(Target::OutputPlug),
+            Stage::ReadInput(_)
+            | Stage::ConnectInput(..)
+            | Stage::ReadInputToLeave(..)
+            | Stage::LeaveInput(..) => self.connection.input().map(Target::InputPlug),
+            Stage::ReadChannels(base, _) => Some(Target::Channels(base)),
+            Stage::SwapChannels(channel, ..)
+            | Stage::ReadChannelsToRelease(_, channel)
+            | Stage::RestoreChannel(_, channel, _) => Some(Target::Channels(half_of(channel))),
+            Stage::ReadBandwidth(..)
+            | Stage::SwapBandwidth(..)
+            | Stage::ReadBandwidthToRelease(..)
+            | Stage::RaiseBandwidth(..) => Some(Target::BandwidthAvailable),
+            Stage::Begin | Stage::Made(_) | Stage::Ended(_) => None,
+        }
     }
 
     /// The swap of a stage, where it makes one.
@@ -147,56 +118,51 @@ impl Job {
         requires fits { StageFits self.now stage }
         ensures { result ≡ swap_of self.now stage }
     {
-        let (arg, new) = match stage {
+        let kind = self.connection.kind();
+        let (argument, new) = match stage {
             Stage::SwapChannels(channel, arg, _) => {
                 (arg, without_bit(arg, channel - half_of(channel)))
             }
             Stage::SwapBandwidth(_, units, arg, _) => (arg, arg - units),
             Stage::ConnectOutput(channel, _, arg) => (arg, self.first_word(channel, arg)),
-            Stage::OverlayOutput(arg) => (arg, one_more(self.kind, arg)),
-            Stage::LeaveOutput(_, arg) => (arg, one_less(self.kind, arg)),
+            Stage::OverlayOutput(arg) => (arg, one_more(kind, arg)),
+            Stage::ConnectInput(flow, arg) => (arg, self.input_word(flow.channel, arg)),
+            Stage::LeaveInput(_, _, arg) | Stage::LeaveOutput(_, _, _, arg) => {
+                (arg, one_less(kind, arg))
+            }
             Stage::RaiseBandwidth(_, _, units, arg) => (arg, arg + units),
             Stage::RestoreChannel(_, channel, arg) => {
                 (arg, with_bit(arg, channel - half_of(channel)))
             }
             _ => return None,
         };
-        Some(Swap { arg, new })
+        Some(Swap { argument, new })
     }
 
-    /// The word of the plug with its first connection, on this channel and with the job's overhead_ID.
+    /// The word of the output plug with its first connection, on this channel and with the job's overhead_ID.
     fn first_word(&self, channel: u8, word: u32) -> u32
         requires job { JobFits self.now }
         requires channel { channel < 64 }
         requires free { IsUnconnected word }
-        ensures { result ≡ out_word (first_word self.now channel word) }
+        ensures { result ≡ first_word self.now channel word }
     {
-        let rate = OutWord(word).rate();
-        match self.kind {
-            ConnectionKind::PointToPoint => plug_word(false, 1, channel, rate, self.overhead),
-            ConnectionKind::Broadcast => plug_word(true, 0, channel, rate, self.overhead),
-        }
+        one_more(
+            self.connection.kind(),
+            with_overhead(with_channel(word, channel), self.overhead),
+        )
     }
-}
 
-/// The register of a stage's request.
-fn register_of(stage: Stage) -> Option<Register>
-    ensures { result ≡ asks_register stage }
-{
-    Some(match stage {
-        Stage::ReadOutput
-        | Stage::ConnectOutput(..)
-        | Stage::OverlayOutput(_)
-        | Stage::ReadOutputToLeave(_)
-        | Stage::LeaveOutput(..) => Register::OutputPlug,
-        Stage::ReadChannels(base, _) => Register::Channels(base),
-        Stage::SwapChannels(channel, ..)
-        | Stage::ReadChannelsToRelease(_, channel)
-        | Stage::RestoreChannel(_, channel, _) => Register::Channels(half_of(channel)),
-        Stage::ReadBandwidth(..)
-        | Stage::SwapBandwidth(..)
-        | Stage::ReadBandwidthToRelease(..)
-        | Stage::RaiseBandwidth(..) => Register::BandwidthAvailable,
-        Stage::OutputConnected(_) | Stage::Ended(_) => return None,
-    })
+    /// The word of the input plug with one connection more; its first one sets the channel.
+    fn input_word(&self, channel: u8, word: u32) -> u32
+        requires channel { channel < 64 }
+        requires room { IsFalse (is_full (kind_of self.now.connection) word) }
+        ensures { result ≡ input_word self.now channel word }
+    {
+        let on_channel = if OutWord(word).is_connected() {
+            word
+        } else {
+            with_channel(word, channel)
+        };
+        one_more(self.connection.kind(), on_channel)
+    }
 }

@@ -1,8 +1,10 @@
-use crate::{Outcome, Then};
+use crate::{Ending, Flow, Then};
 
 /// Where a job stands: the request that it makes next, with the words that it has read and still needs.
 #[derive(Clone, Copy, Debug, PartialEq, Eq)]
 pub enum Stage {
+    /// Has made no request yet, or none since a bus reset.
+    Begin,
     /// Reads the output plug's register.
     ReadOutput,
     /// Reads the CHANNELS_AVAILABLE register that begins with this channel; the plug's word.
@@ -13,16 +15,22 @@ pub enum Stage {
     ReadBandwidth(u8, u32),
     /// Takes these units off a word of BANDWIDTH_AVAILABLE; channel, units, that word, and the plug's word.
     SwapBandwidth(u8, u32, u32, u32),
-    /// Makes the plug's first connection on this channel with these units; the plug's word.
+    /// Makes the output plug's first connection on this channel with these units; the plug's word.
     ConnectOutput(u8, u32, u32),
-    /// Adds a connection to a plug that has one; the plug's word.
+    /// Adds a connection to an output plug that has one; the plug's word.
     OverlayOutput(u32),
-    /// The connection stands on this channel.
-    OutputConnected(u8),
-    /// Reads the output plug's register, to leave it.
-    ReadOutputToLeave(Then),
-    /// Takes one connection off the plug's word.
-    LeaveOutput(Then, u32),
+    /// Reads the input plug's register, for a connection on this channel.
+    ReadInput(Flow),
+    /// Adds a connection to the input plug; the plug's word.
+    ConnectInput(Flow, u32),
+    /// Reads the input plug's register, to leave it; the connection's channel and units.
+    ReadInputToLeave(u8, u32),
+    /// Takes one connection off the input plug's word; the connection's channel and units before it.
+    LeaveInput(u8, u32, u32),
+    /// Reads the output plug's register, to leave it; the connection's channel and units.
+    ReadOutputToLeave(Ending, u8, u32),
+    /// Takes one connection off the output plug's word; the connection's channel and units before it.
+    LeaveOutput(Ending, u8, u32, u32),
     /// Reads BANDWIDTH_AVAILABLE, to give back the units of this channel.
     ReadBandwidthToRelease(Then, u8, u32),
     /// Adds the units to a word of BANDWIDTH_AVAILABLE; channel, units, that word.
@@ -31,5 +39,8 @@ pub enum Stage {
     ReadChannelsToRelease(Then, u8),
     /// Sets the bit of this channel in a word of CHANNELS_AVAILABLE.
     RestoreChannel(Then, u8, u32),
-    Ended(Outcome),
+    /// The connection is made; its outcome is still to be written.
+    Made(Flow),
+    /// The job ends so; its outcome is still to be written.
+    Ended(Ending),
 }

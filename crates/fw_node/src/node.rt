@@ -83,7 +83,9 @@ impl Node {
         self.number = Some(number);
         self.plugs.reset();
         self.manager = if manager { Some(Manager::new()) } else { None };
-        self.waiting = None;
+        if self.waiting.is_some() {
+            self.waiting = None;
+        }
         if let Some(unit) = &mut self.unit {
             unit.reset();
         }

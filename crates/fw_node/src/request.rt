@@ -15,31 +15,36 @@ pub fn request_of<'a>(p: &Packet<'a>) -> Request<'a>
     requires { IsSome (request_in p.now) }
     ensures { request_in p.now ≡ Some result }
 {
-    match p {
-        Packet::ReadQuadlet { offset, .. } => Request::Read { offset: *offset },
-        Packet::ReadBlock { offset, length, .. } => Request::ReadBlock {
-            offset: *offset,
-            length: *length,
-        },
-        Packet::WriteQuadlet { offset, value, .. } => Request::Write {
-            offset: *offset,
-            value: *value,
-        },
-        Packet::WriteBlock { offset, bytes, .. } => Request::WriteBlock {
-            offset: *offset,
+    match *p {
+        Packet::ReadQuadlet { offset, .. } => Request::Read { offset },
+        Packet::ReadBlock { offset, length, .. } => Request::ReadBlock { offset, length },
+        Packet::WriteQuadlet { offset, value, .. } => Request::Write { offset, value },
+        Packet::WriteBlock {
+            offset,
+            ref bytes,
+            ..
+        } => Request::WriteBlock {
+            offset,
             bytes: Data::new(bytes.as_slice()),
         },
         Packet::Lock {
             offset,
             function,
-            bytes,
+            ref bytes,
             ..
-        } => Request::Lock {
-            offset: *offset,
-            function: *function,
-            bytes: copy_of(bytes),
-        },
+        } => lock_request(offset, function, bytes),
         _ => unreachable!(),
+    }
+}
+
+/// A lock at an offset, with this function and data.
+fn lock_request(offset: u64, function: u8, bytes: &Bytes16) -> Request<'static>
+    ensures { result ≡ Request.Lock offset function bytes.now }
+{
+    Request::Lock {
+        offset,
+        function,
+        bytes: copy_of(bytes),
     }
 }
 
@@ -76,42 +81,55 @@ pub fn request_packet<'a>(from: u8, to: u8, label: u8, r: &Request<'a>) -> Packe
     ensures packet { result ≡ packet_of (request_head from to label) r.now }
     ensures fits { RequestFits r.now → Fits result }
 {
-    let head = Head {
-        destination: node_id(to),
-        tl: label,
-        rt: RETRY_X,
-        pri: 0,
-        source: node_id(from),
-    };
-    match r {
-        Request::Read { offset } => Packet::ReadQuadlet {
-            head,
-            offset: *offset,
-        },
+    let head = request_head(from, to, label);
+    match *r {
+        Request::Read { offset } => Packet::ReadQuadlet { head, offset },
         Request::ReadBlock { offset, length } => Packet::ReadBlock {
             head,
-            offset: *offset,
-            length: *length,
+            offset,
+            length,
         },
         Request::Write { offset, value } => Packet::WriteQuadlet {
             head,
-            offset: *offset,
-            value: *value,
+            offset,
+            value,
         },
-        Request::WriteBlock { offset, bytes } => Packet::WriteBlock {
+        Request::WriteBlock { offset, ref bytes } => Packet::WriteBlock {
             head,
-            offset: *offset,
+            offset,
             bytes: Data::new(bytes.as_slice()),
         },
         Request::Lock {
             offset,
             function,
-            bytes,
-        } => Packet::Lock {
-            head,
-            offset: *offset,
-            function: *function,
-            bytes: copy_of(bytes),
-        },
+            ref bytes,
+        } => lock_packet(head, offset, function, bytes),
+    }
+}
+
+/// From one node of the local bus to another, under a transaction label.
+fn request_head(from: u8, to: u8, label: u8) -> Head
+    requires from { from ≤ 62 }
+    requires to { to ≤ 62 }
+    ensures { result ≡ request_head from to label }
+{
+    Head {
+        destination: node_id(to),
+        tl: label,
+        rt: RETRY_X,
+        pri: 0,
+        source: node_id(from),
+    }
+}
+
+/// The lock request packet at an offset, with this function and data.
+fn lock_packet(head: Head, offset: u64, function: u8, bytes: &Bytes16) -> Packet<'static>
+    ensures { result ≡ Packet.Lock head offset function bytes.now }
+{
+    Packet::Lock {
+        head,
+        offset,
+        function,
+        bytes: copy_of(bytes),
     }
 }

@@ -35,13 +35,24 @@ pub fn response(number: u8, p: &Packet, reply: Reply) -> Packet<'static>
             head: response_head(number, head),
             rcode,
         },
-        Packet::Lock { head, function, .. } => Packet::LockReply {
-            head: response_head(number, head),
-            rcode,
-            function: *function,
-            bytes: old_bytes(reply),
-        },
+        Packet::Lock { head, function, .. } => {
+            lock_response(response_head(number, head), *function, reply)
+        }
         _ => unreachable!(),
+    }
+}
+
+/// The response to a lock request with this function, with the old value where the lock was carried out.
+fn lock_response(head: Head, function: u8, reply: Reply) -> Packet<'static>
+    ensures packet { result ≡ Packet.LockReply head reply.rcode function (old_bytes reply) }
+    ensures sizes { IsTrue (is_reply_size (length (old_bytes reply))) }
+    ensures bytes { AreBytes (old_bytes reply) }
+{
+    Packet::LockReply {
+        head,
+        rcode: reply.rcode,
+        function,
+        bytes: old_bytes(reply),
     }
 }
 

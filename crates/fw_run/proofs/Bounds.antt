@@ -1,8 +1,9 @@
 -- A bus has 63 nodes at most, and what the registers of a device on the bus show are quadlets.
-use Rattle.std.proofs.Common.{◌≡◌, ℕ, suc, ◌+◌, ◌-◌, ◌*◌, ◌/◌, ◌%◌, ◌^◌, ◌<◌, ◌≤◌, ◌==◌, ◌&&◌, ◌||◌, nat_lt, List, [], ◌∷◌, length, map, slice_get, Bool, true, false, Option, Some, None, IfSome, eqb, cond, refl, ap, sym, subst, ◌∙◌, arith, is_some, IsTrue, inl, inr}
+use Rattle.std.proofs.Common.{◌≡◌, ℕ, suc, ◌+◌, ◌-◌, ◌*◌, ◌/◌, ◌^◌, ◌<◌, ◌≤◌, ◌==◌, ◌&&◌, ◌||◌, nat_lt, List, [], ◌∷◌, length, slice_get, Bool, true, false, Option, Some, None, IfSome, eqb, cond, refl, ap, sym, subst, ◌∙◌, arith, is_some, inl, inr}
 use Rattle.std.specs.Prelude.{⊤}
 use Rattle.std.specs.List.{IsDistinct, AllByRecursion, list_any}
 use Rattle.std.proofs.lemmas.Bool.Decides.{nat_tests}
+use Rattle.std.proofs.lemmas.Option.{same_Some}
 use Rattle.std.proofs.lemmas.Map.Steps.{length-le_from_distinct_below}
 use Rattle.fw_base.specs.declared.device.DeviceKind.{DeviceKind}
 use Rattle.fw_base.specs.declared.device.DeviceKind.TheVariants.{Relay, Deck, Camcorder, Computer}
@@ -10,30 +11,33 @@ use Rattle.fw_base.specs.Devices.{output_plugs_of, input_plugs_of, has_unit}
 use Rattle.fw_base.specs.Tables.{at_plug}
 use Rattle.fw_csr.specs.declared.register.Register.{Register}
 use Rattle.fw_csr.specs.declared.register.Register.TheVariants.{ReadOnly, ReadSwap, WriteOnly}
-use Rattle.fw_csr.specs.declared.request.Request.TheVariants.{Read}
+use Rattle.fw_csr.specs.declared.reply.Reply.{Reply}
+use Rattle.fw_csr.specs.declared.request.Swap.{Swap}
+use Rattle.fw_csr.specs.Requests as Requests
+use Rattle.fw_csr.specs.Requests.{quadlet_swap}
+use Rattle.fw_cmp.specs.Requests.{request_at, swap_bytes}
 use Rattle.fw_csr.specs.Manager.{ManagerWords}
-use Rattle.fw_csr.specs.Replies.{reply}
+use Rattle.fw_csr.specs.Replies.{reply, swap_reply}
 use Rattle.fw_plug.specs.Plugs.{plug_at, plug_register, output_at, input_at, output_master, input_master}
 use Rattle.fw_entry.specs.declared.entry.ResetEntry.{ResetEntry}
 use Rattle.fw_entry.specs.declared.nodes.NodeRow.{NodeRow}
 use Rattle.fw_entry.specs.Log.{devices}
-use Rattle.fw_tree.specs.Topology.{Topology}
-use Rattle.fw_tree.specs.SelfIds.{facts_at}
 use Rattle.fw_tree.proofs.ReachLaws.{sound_made}
 use Rattle.fw_entry.specs.Network.{node_of_device}
 use Rattle.fw_ledger.specs.Network.{is_output, is_input, is_output_of, is_input_of}
-use Rattle.fw_ledger.specs.Words.{BandwidthAvailable, ChannelsAvailable, OutputPlug, InputPlug, word_of, node_of, first_address}
+use Rattle.fw_ledger.specs.Words.{BandwidthAvailable, ChannelsAvailable, OutputPlug, InputPlug, node_of}
 use Rattle.fw_ledger.proofs.Network.{any_at}
 use Rattle.fw_ledger.proofs.Bounds.{word_below}
 use Rattle.fw_node.specs.Contents.{node_ids, cycle_time, capabilities}
-use Rattle.fw_node.specs.Space.{Space, register_at, manager_register_at, core_register_at, plug_table, lies_within}
+use Rattle.fw_node.specs.Space.{Space, answer_of, register_at, manager_register_at, core_register_at, plug_table, lies_within}
 use Rattle.fw_plug.specs.Plugs as Plugs
 use Rattle.fw_devices.specs.Network.{kind_at}
 use Rattle.fw_devices.specs.Entries.{node_number, row_of}
 use Rattle.fw_devices.specs.Resets.{Shows}
-use Rattle.fw_run.specs.State.{State, is_on, number_in}
-use Rattle.fw_run.specs.Spaces.{space_at, space_of_device, manager_words, is_manager, read_at}
+use Rattle.fw_run.specs.State.{State, number_in}
+use Rattle.fw_run.specs.Spaces.{space_at, manager_words, is_manager, reply_from}
 use Rattle.fw_run.specs.Good.{IsGood, IsLatest}
+use Rattle.fw_run.proofs.Words.{number_of_on, node_space_of}
 
 -- ---- how many nodes a bus has
 
@@ -76,9 +80,9 @@ below_of (r ∷ rs) d bound f any = go (eqb d r.device) refl (below_of rs d boun
     go true t later h = let low = f 0 r refl in let same : d ≡ r.device = grind (arith, nat_tests) in omega (arith, low, same)
     go false t later h = later h
 
-few_rows : (s : State) (e : ResetEntry) → IsGood s → Shows s.topology s.kinds e → length e.nodes ≤ 63
+few_rows : (s : State) (e : ResetEntry) → IsGood s → Shows s.declared.topology s.declared.kinds e → length e.nodes ≤ 63
 few_rows s e g h =
-    let few = (sound_made s.topology g.made).few in
+    let few = (sound_made s.declared.topology g.declared.made).few in
     let most = length-le_from_distinct_below (devices e.nodes) 63 (distinct e.nodes (λ n row at. found_of e.nodes row.device n (h.rows n row at).1))
     (λ d any. below_of e.nodes d 63 (λ n row at. let low = h.declared n row at in omega (arith, low, few)) any) in
     subst (λ n. n ≤ 63) (same e.nodes) most
@@ -103,6 +107,10 @@ node_few s d g = go s.account.latest g.latest
     go None h = omega arith
     go (Some e) h = let few = few_rows s e g h.1 in let within = place_within e.nodes d in omega (arith, few, within)
 
+-- so is each number of one
+pub number_few : (s : State) (d n : ℕ) → IsGood s → number_in s.account.latest d ≡ Some n → n ≤ 63
+number_few s d n g at = subst (λ k. k ≤ 63) (same_Some (node_of s.account.latest d) n (sym (number_of_on s.account.latest d (ap is_some at)) ∙ at)) (node_few s d g)
+
 -- ---- what registers show
 
 -- the word that a register shows is a quadlet
@@ -113,16 +121,16 @@ RegisterBelow (Some (ReadSwap word)) = word < 2 ^ 32
 RegisterBelow (Some WriteOnly) = ⊤
 
 -- all that a space shows are quadlets
-record WordsBelow (z : Space) : Type 0 where
-  number : z.number < 64
-  device : z.device < 63
-  rate : z.rate < 4
-  outputs : (k : ℕ) → k < output_plugs_of z.kind → z.output_word k < 2 ^ 32
-  inputs : (k : ℕ) → k < input_plugs_of z.kind → z.input_word k < 2 ^ 32
-  bus_manager_id : IfSome z.manager (λ m. m.bus_manager_id < 2 ^ 32)
-  bandwidth : IfSome z.manager (λ m. m.bandwidth_available < 2 ^ 32)
-  high : IfSome z.manager (λ m. m.channels_available_hi < 2 ^ 32)
-  low : IfSome z.manager (λ m. m.channels_available_lo < 2 ^ 32)
+pub record WordsBelow (z : Space) : Type 0 where
+  pub number : z.number < 64
+  pub device : z.device < 63
+  pub rate : z.rate < 4
+  pub outputs : (k : ℕ) → k < output_plugs_of z.kind → z.output_word k < 2 ^ 32
+  pub inputs : (k : ℕ) → k < input_plugs_of z.kind → z.input_word k < 2 ^ 32
+  pub bus_manager_id : IfSome z.manager (λ m. m.bus_manager_id < 2 ^ 32)
+  pub bandwidth : IfSome z.manager (λ m. m.bandwidth_available < 2 ^ 32)
+  pub high : IfSome z.manager (λ m. m.channels_available_hi < 2 ^ 32)
+  pub low : IfSome z.manager (λ m. m.channels_available_lo < 2 ^ 32)
 
 either : (b : Bool) (x y : Option Register) → RegisterBelow x → RegisterBelow y → RegisterBelow (cond b x y)
 either true x y f g = f
@@ -190,57 +198,71 @@ register_below z offset w =
     (either (lies_within 0xFFFF_F000_0900 0xFFFF_F000_09FC offset) _ _ (plugs_below z offset w) (core_below z offset w))
 
 -- the registers of a device on the bus
-words_below : (s : State) (d : ℕ) → IsGood s → IsTrue (is_on s d) → WordsBelow (space_of_device s d)
-words_below s d g on = go s.account.latest refl g.latest on
+pub words_below : (s : State) (d n : ℕ) → IsGood s → s.bus_manager_id < 2 ^ 32 → number_in s.account.latest d ≡ Some n → WordsBelow (space_at s d n)
+words_below s d n g low at = go s.account.latest refl g.latest at
   where
-    few_devices : length s.topology.devices ≤ 63
-    few_devices = (sound_made s.topology g.made).few
+    few_devices : length s.declared.topology.devices ≤ 63
+    few_devices = (sound_made s.declared.topology g.declared.made).few
 
     managed : (P : ManagerWords → Type 0) (b : Bool) → P (manager_words s) → IfSome (cond b (Some (manager_words s)) None) P
     managed P true h = h
     managed P false h = tt
 
-    of : (e : ResetEntry) (n : ℕ) → s.account.latest ≡ Some e → IsLatest (Some e) s → node_number e.nodes d ≡ Some n → WordsBelow (space_of_device s d)
-    of e n is h at =
-        let row : slice_get e.nodes n ≡ Some (row_of d (kind_at s.kinds d)) = h.1.numbers d n at in
-        let low = h.1.declared n (row_of d (kind_at s.kinds d)) row in
+    of : (e : ResetEntry) → s.account.latest ≡ Some e → IsLatest (Some e) s → node_number e.nodes d ≡ Some n → WordsBelow (space_at s d n)
+    of e is h at =
+        let row : slice_get e.nodes n ≡ Some (row_of d (kind_at s.declared.kinds d)) = h.1.numbers d n at in
+        let few = h.1.declared n (row_of d (kind_at s.declared.kinds d)) row in
         let slow = h.1.network.speeds n in
         let speed = h.1.speeds d n at in
-        let number = node_few s d g in
-        let test = is_manager s.account.latest (node_of s.account.latest d) in
+        let place = number_few s d n g (ap (λ o. number_in o d) is ∙ at) in
+        let test = is_manager s.account.latest n in
         record {
-          number = omega (arith, number);
-          device = omega (arith, low, few_devices);
+          number = omega (arith, place);
+          device = omega (arith, few, few_devices);
           rate = omega (arith, slow, speed);
-          outputs = λ k lt. word_below s.account (OutputPlug (at_plug d k)) g.sound (ap (λ o. is_output o (at_plug d k)) is
-              ∙ any_at (is_output_of (at_plug d k)) e.nodes n (row_of d (kind_at s.kinds d)) row (grind (arith, nat_tests)));
-          inputs = λ k lt. word_below s.account (InputPlug (at_plug d k)) g.sound (ap (λ o. is_input o (at_plug d k)) is
-              ∙ any_at (is_input_of (at_plug d k)) e.nodes n (row_of d (kind_at s.kinds d)) row (grind (arith, nat_tests)));
-          bus_manager_id = managed (λ m. m.bus_manager_id < 2 ^ 32) test g.bus_manager_id;
-          bandwidth = managed (λ m. m.bandwidth_available < 2 ^ 32) test (word_below s.account BandwidthAvailable g.sound tt);
-          high = managed (λ m. m.channels_available_hi < 2 ^ 32) test (word_below s.account (ChannelsAvailable 0) g.sound (inl refl));
-          low = managed (λ m. m.channels_available_lo < 2 ^ 32) test (word_below s.account (ChannelsAvailable 32) g.sound (inr refl));
+          outputs = λ k lt. word_below s.account (OutputPlug (at_plug d k)) g.reclaims.step.sound (ap (λ o. is_output o (at_plug d k)) is
+              ∙ any_at (is_output_of (at_plug d k)) e.nodes n (row_of d (kind_at s.declared.kinds d)) row (grind (arith, nat_tests)));
+          inputs = λ k lt. word_below s.account (InputPlug (at_plug d k)) g.reclaims.step.sound (ap (λ o. is_input o (at_plug d k)) is
+              ∙ any_at (is_input_of (at_plug d k)) e.nodes n (row_of d (kind_at s.declared.kinds d)) row (grind (arith, nat_tests)));
+          bus_manager_id = managed (λ m. m.bus_manager_id < 2 ^ 32) test low;
+          bandwidth = managed (λ m. m.bandwidth_available < 2 ^ 32) test (word_below s.account BandwidthAvailable g.reclaims.step.sound tt);
+          high = managed (λ m. m.channels_available_hi < 2 ^ 32) test (word_below s.account (ChannelsAvailable 0) g.reclaims.step.sound (inl refl));
+          low = managed (λ m. m.channels_available_lo < 2 ^ 32) test (word_below s.account (ChannelsAvailable 32) g.reclaims.step.sound (inr refl));
         }
 
-    numbered : (e : ResetEntry) (o : Option ℕ) → s.account.latest ≡ Some e → IsLatest (Some e) s → node_number e.nodes d ≡ o → IsTrue (is_some o)
-        → WordsBelow (space_of_device s d)
-    numbered e None is h at there = let no : ⊥ = cc in absurd no
-    numbered e (Some n) is h at there = of e n is h at
+    go : (o : Option ResetEntry) → s.account.latest ≡ o → IsLatest o s → number_in o d ≡ Some n → WordsBelow (space_at s d n)
+    go None is h x = absurd (grind (arith, x))
+    go (Some e) is h x = of e is h x
 
-    go : (o : Option ResetEntry) → s.account.latest ≡ o → IsLatest o s → IsTrue (is_some (number_in o d)) → WordsBelow (space_of_device s d)
-    go None is h there = let no : ⊥ = cc in absurd no
-    go (Some e) is h there = numbered e (node_number e.nodes d) is h refl there
+-- ---- what an answer carries
 
--- a device on the bus is one of 63
-pub device_few : (s : State) (d : ℕ) → IsGood s → IsTrue (is_on s d) → d < 63
-device_few s d g on = (words_below s d g on).device
+-- the code and the value of a reply
+pub record ReplyFits (r : Reply) : Type 0 where
+  pub rcode : r.rcode < 2 ^ 4
+  pub value : r.value < 2 ^ 32
 
--- what a quadlet read shows
-shown_below : (o : Option Register) (offset : ℕ) → RegisterBelow o → (reply o (Read offset)).value < 2 ^ 32
-shown_below None offset f = omega arith
-shown_below (Some (ReadOnly word)) offset f = f
-shown_below (Some (ReadSwap word)) offset f = f
-shown_below (Some WriteOnly) offset f = omega arith
+swap_below : (word : ℕ) (o : Option Swap) → word < 2 ^ 32 → ReplyFits (swap_reply word o)
+swap_below word None low = record { rcode = omega arith; value = omega arith }
+swap_below word (Some swap) low = record { rcode = omega arith; value = low }
 
-pub read_below : (s : State) (d offset : ℕ) → IsGood s → IsTrue (is_on s d) → (read_at s d offset).value < 2 ^ 32
-read_below s d offset g on = shown_below (register_at (space_of_device s d) (first_address + offset)) (first_address + offset) (register_below (space_of_device s d) (first_address + offset) (words_below s d g on))
+reply_below : (o : Option Register) (offset : ℕ) (w : Option Swap) → RegisterBelow o → ReplyFits (reply o (request_at offset w))
+reply_below None offset w f = record { rcode = omega arith; value = omega arith }
+reply_below (Some (ReadOnly word)) offset None f = record { rcode = omega arith; value = f }
+reply_below (Some (ReadOnly word)) offset (Some swap) f = record { rcode = omega arith; value = omega arith }
+reply_below (Some (ReadSwap word)) offset None f = record { rcode = omega arith; value = f }
+reply_below (Some (ReadSwap word)) offset (Some swap) f = swap_below word (quadlet_swap 2 (swap_bytes swap)) f
+reply_below (Some WriteOnly) offset None f = record { rcode = omega arith; value = omega arith }
+reply_below (Some WriteOnly) offset (Some swap) f = record { rcode = omega arith; value = omega arith }
+
+same_offset : (offset : ℕ) (w : Option Swap) → Requests.offset_of (request_at offset w) ≡ offset
+same_offset offset None = refl
+same_offset offset (Some swap) = refl
+
+-- what a device on the bus answers to a read or a compare_swap of a quadlet
+pub space_fits : (s : State) (d n offset : ℕ) (w : Option Swap) → IsGood s → s.bus_manager_id < 2 ^ 32 → number_in s.account.latest d ≡ Some n → ReplyFits (answer_of (space_at s d n) (request_at offset w)).reply
+space_fits s d n offset w g low at =
+    reply_below (register_at (space_at s d n) (Requests.offset_of (request_at offset w))) offset w
+    (subst (λ k. RegisterBelow (register_at (space_at s d n) k)) (sym (same_offset offset w)) (register_below (space_at s d n) offset (words_below s d n g low at)))
+
+pub node_fits : (s : State) (d n offset : ℕ) (w : Option Swap) → IsGood s → s.bus_manager_id < 2 ^ 32 → number_in s.account.latest d ≡ Some n → ReplyFits (reply_from s n (request_at offset w))
+node_fits s d n offset w g low at = subst (λ z. ReplyFits (answer_of z (request_at offset w)).reply) (sym (node_space_of s d n g at)) (space_fits s d n offset w g low at)

@@ -1,172 +1,215 @@
--- What leaves a state good: another account and controller, nothing, or a request.
-use Rattle.std.proofs.Common.{◌≡◌, ◌≢◌, ℕ, ◌+◌, ◌<◌, List, Bool, true, false, Option, Some, None, cond, refl, ap, sym, subst, ◌∙◌, arith, ◌⊎◌, inl, inr, unwrap_or, is_some}
-use Rattle.std.specs.Prelude.{IsFalse, IsTrue}
-use Rattle.std.proofs.lemmas.Bool.Decides.{nat_tests}
-use Rattle.fw_base.specs.declared.plug.PlugAt.{PlugAt}
-use Rattle.fw_base.specs.declared.plug.ConnectionKind.{ConnectionKind}
-use Rattle.fw_base.specs.Tables.{update}
-use Rattle.fw_phy.specs.declared.packet.PhyPacket.{PhyPacket}
-use Rattle.fw_entry.specs.declared.entry.Entry.{Entry}
-use Rattle.fw_entry.specs.declared.entry.Entry.TheVariants.{Async}
+-- Each action is a change of the account and all controllers, as the reclaim theorem speaks of them.
+use Rattle.std.proofs.Common.{◌≡◌, inl, inr, ℕ, ◌&&◌, not, List, [], ◌∷◌, Bool, true, false, Option, None, Ok, unwrap_or, refl, ap, sym, subst, arith, IsTrue}
 use Rattle.fw_entry.specs.declared.entry.ResetEntry.{ResetEntry}
+use Rattle.fw_entry.specs.declared.entry.Timed.{Timed}
+use Rattle.fw_tree.specs.declared.facts.End.{End}
+use Rattle.fw_tree.specs.Topology.{Topology, IsJoined}
+use Rattle.fw_ledger.specs.Account.{Account}
+use Rattle.fw_cmp.specs.declared.current.Current.{Current}
+use Rattle.fw_cmp.specs.declared.current.Current.TheVariants.{Nothing, Asking, Hearing, Overtaken}
+use Rattle.fw_cmp.specs.declared.directory.Directory.{Directory}
 use Rattle.fw_cmp.specs.declared.job.Job.{Job}
 use Rattle.fw_cmp.specs.declared.stage.Stage.{Stage}
-use Rattle.fw_cmp.specs.declared.request.Register.{Register}
-use Rattle.fw_cmp.specs.declared.request.Register.TheVariants.{OutputPlug, Channels, BandwidthAvailable}
-use Rattle.fw_cmp.specs.declared.request.Request.{Request}
-use Rattle.fw_cmp.specs.Stages.{request_of, WordsFit}
-use Rattle.fw_ledger.specs.Account.{Account, has_pending}
-use Rattle.fw_ledger.specs.Words.{output_addressed}
-use Rattle.fw_ledger.specs.Packets.{asked, addressed_after}
-use Rattle.fw_ledger.specs.Fold.{next_account}
-use Rattle.fw_ledger.specs.Sound.{IsSound}
-use Rattle.fw_ledger.proofs.Packets.{asked_keeps}
-use Rattle.fw_step.specs.InStep.{IsInStep}
-use Rattle.fw_devices.specs.Entries.{lone_deck}
-use Rattle.fw_run.specs.declared.controller.Controller.{Controller}
-use Rattle.fw_run.specs.declared.controller.Controller.TheVariants.{Idle, Hearing}
-use Rattle.fw_run.specs.Packets.{request_packet, request_record, offset_of}
-use Rattle.fw_run.specs.State.{State, entered, number_in}
-use Rattle.fw_run.specs.Halves.{asks_after, counted}
-use Rattle.fw_run.specs.Run.{own_plug}
-use Rattle.fw_run.specs.Good.{IsGood, IsOwnJob, EndFits, InStep, IsLone, IsLatest, IsOutsideOfSecond, asked_of, outstanding_of}
-use Rattle.fw_run.proofs.Accounts.{IsAsked, asked_next}
-use Rattle.fw_run.proofs.Registers.{has_begun, is_lone, own_request}
-use Rattle.fw_run.proofs.Leads.{Leads}
+use Rattle.fw_cmp.specs.Controllers.{first_state as new_controller, IsHeard}
+use Rattle.fw_cmp.specs.Fits.{SlotFits}
+use Rattle.fw_cmp.specs.Resets.{after_hear}
+use Rattle.fw_cmp.specs.Starts.{started as given, break_fault, break_started}
+use Rattle.fw_cmp.specs.Turns.{after_next}
+use Rattle.fw_reclaim.specs.Worlds.{World, Change, Turn, Answer as Answered, BusReset, SecondOver, Death, NewConnection, BreakOf, Elsewhere, TakesTurn, HearsAnswer, IsReset, Path}
+use Rattle.fw_reclaim.specs.Worlds as Worlds
+use Rattle.fw_reclaim.specs.Whole as Whole
+use Rattle.fw_run.specs.declared.order.Wanted.{Wanted}
+use Rattle.fw_run.specs.State.{State, Declared, list_to, linked_number, manager_in, entered, is_on, is_linked, is_living, directory_of, with_device}
+use Rattle.fw_run.specs.Entries.{second_over}
+use Rattle.fw_run.specs.HalfSteps.{HalfStep as Half, asks, taken, half, half_of, after_half, with_controller}
+use Rattle.fw_run.specs.Actions.{Action, AddDevice, AddCable, ResetBus, StartConnection, StartBreak, HalfStep, Rest, Unsettled, Pass, EndSecond, Die, CarryOut, Start, Ask, Answer, ShowWord, Finish, Resets, Declares, Joins, with_topology, slot_of, start_of, with_connection, after_cycles, after_second, after_death, after_start, counted, Step, Steps}
+use Rattle.fw_run.specs.Good.{IsGood, world_of}
+use Rattle.fw_run.specs.Reclaiming.{IsHarmless, AreHarmless}
+use Rattle.fw_run.proofs.Buses.{linked_small, shows_bus}
+use Rattle.fw_run.proofs.Cables.{on_some, cabled_may, begun_may}
+use Rattle.fw_run.proofs.Declares.{first_may}
+use Rattle.fw_run.proofs.Directories.{told}
+use Rattle.fw_run.proofs.Events.{living_small, starts_is, makes}
+use Rattle.fw_run.proofs.Hears.{Heard, HalfHears, heard_of, half_hears, reply_heard, with_answer, carried_bus}
+use Rattle.fw_run.proofs.Leads.{IsLinked, linked_of}
+use Rattle.fw_run.proofs.Others.{same_table}
+use Rattle.fw_run.proofs.Resets.{MayReset, declaring, reset_change}
+use Rattle.fw_run.proofs.Steps.{step_good}
+use Rattle.fw_run.proofs.Times.{second_ends}
+use Rattle.fw_run.proofs.Turns.{Turns, sends, rests, turns, with_account, becomes, living_linked}
 
--- ---- a state with another account
+-- what controllers are told where this is the latest reset entry
+abbrev told_by : State → Option ResetEntry → Directory
+told_by s o = record { node = list_to 63 (linked_number o); manager = manager_in o; over_at = s.clock.over_at }
 
-latest_stays : (s : State) (m : Account) (c : Controller) (others : ConnectionKind → PlugAt → ℕ) (steps : ℕ) (o : Option ResetEntry) → (o ≡ None → ⊥) → IsLatest o s → IsLatest o (record s { account = m; controller = c; others = others; half_steps = steps })
-latest_stays s m c others steps None some h = absurd (some refl)
-latest_stays s m c others steps (Some e) some h = h
+-- ---- half steps
 
-not_none : (o : Option ResetEntry) → IsLone o → o ≡ None → ⊥
-not_none o lone none = let no : Some (lone_deck lone.0 lone.1) ≡ None = sym lone.2 ∙ none in cc
+pub turn_change : (s : State) (d : ℕ) → IsGood s → (x : IsLinked s d) → IsHeard (s.controllers d).current → TakesTurn (world_of s) d s.clock.cycle (world_of (taken s d (asks s d)))
+turn_change s d g x heard = go (turns s d x.number x.entry g x.is x.shows x.linked heard)
+  where
+    Leads_ : Account → Type 0
+    Leads_ l = TakesTurn (world_of s) d s.clock.cycle (world_of (with_account s d l))
 
--- what changes of a good state where its controller has something to do
-pub record Changes (s : State) (m : Account) (c : Controller) (others : ConnectionKind → PlugAt → ℕ) : Type 0 where
-  pub sound : IsSound m
-  pub latest : m.latest ≡ s.account.latest
-  pub reclaiming : m.reclaiming ≡ s.account.reclaiming
-  pub step : InStep m c others
-  pub outstanding : m.outstanding 0 ≡ outstanding_of c
-  pub outside : IsOutsideOfSecond m c
-  pub alone : (d : ℕ) → d ≢ 0 → m.addressed d ≡ None
+    go : Turns s d → TakesTurn (world_of s) d s.clock.cycle (world_of (taken s d (asks s d)))
+    go (sends request out leads) = subst Leads_ (sym leads) (record {
+      device = linked_small s x.entry d x.number x.shows.1 x.linked;
+      heard = heard;
+      told = told s x.entry x.is x.shows.1 g.time.second;
+      shows = shows_bus s x.entry x.is x.shows.1;
+      says = inl (record { request = request; outstanding = out; account = refl });
+      becomes = becomes s.controllers d (after_next s.clock.cycle (directory_of s) (s.controllers d));
+      directory = refl;
+    })
+    go (rests out leads) = subst Leads_ (sym leads) (record {
+      device = linked_small s x.entry d x.number x.shows.1 x.linked;
+      heard = heard;
+      told = told s x.entry x.is x.shows.1 g.time.second;
+      shows = shows_bus s x.entry x.is x.shows.1;
+      says = inr (record { outstanding = out; account = refl });
+      becomes = becomes s.controllers d (after_next s.clock.cycle (directory_of s) (s.controllers d));
+      directory = refl;
+    })
 
-pub changed_good : (s : State) (m : Account) (c : Controller) (others : ConnectionKind → PlugAt → ℕ) → IsGood s → (s.controller ≡ Idle → ⊥) → s.half_steps < 4000000 → Changes s m c others → IsGood (counted (record s { account = m; controller = c; others = others }))
-changed_good s m c others g works few h = record {
-  sound = h.sound;
-  made = g.made;
-  kinds = g.kinds;
-  named = g.named;
-  latest = subst (λ o. IsLatest o (counted (record s { account = m; controller = c; others = others }))) (sym h.latest) (latest_stays s m c others (s.half_steps + 1) s.account.latest (not_none s.account.latest lone) g.latest);
-  quiet = λ no_. let no : ⊥ = let both : true ≡ false = sym (has_begun s g works) ∙ no_ in cc in absurd no;
-  single = λ deck. subst IsLone (sym h.latest) (g.single deck);
-  lone = λ yes_. subst IsLone (sym h.latest) lone;
-  step = h.step;
-  outstanding = h.outstanding;
-  outside = h.outside;
-  alone = h.alone;
-  second = λ r. g.second (sym h.reclaiming ∙ r);
-  reset_cycle = g.reset_cycle;
-  cycle = g.cycle;
-  half_steps = omega arith;
-  bus_manager_id = g.bus_manager_id;
-  asks = λ x waits. subst (λ o. IsTrue (is_some (number_in o x.to))) (sym h.latest) (g.asks x waits);
+answer_change : (s : State) (d : ℕ) (j : Job) (stage : Stage) → IsGood s → (s.controllers d).current ≡ Hearing j stage → (x : Heard s d j stage) → (h : HalfHears s d j stage x) → HearsAnswer (world_of s) d (reply_heard s d j stage x) (world_of (after_half s d))
+answer_change s d j stage g current x h =
+    subst (λ y. HearsAnswer (world_of s) d (reply_heard s d j stage x) (world_of (taken s d y))) (sym h.half_is)
+    (subst (λ l. HearsAnswer (world_of s) d (reply_heard s d j stage x) (world_of (with_answer s d (reply_heard s d j stage x) l))) (sym (ap (λ o. unwrap_or o s.account) h.leads)) (record {
+      device = linked_small s x.entry d x.number x.shows.1 x.linked;
+      job = j;
+      stage = stage;
+      current = current;
+      target = x.target;
+      asked = x.asked;
+      answer = h.answer;
+      account = refl;
+      becomes = becomes s.controllers d (after_hear (s.controllers d) (reply_heard s d j stage x));
+      directory = ap (λ o. told_by s o) (carried_bus d j stage (reply_heard s d j stage x) s.account).0;
+    }))
+
+-- ---- what an action is
+
+-- the change that it is, which takes no more than the action does
+pub record IsChange (s : State) (a : Action) (t : State) : Type 0 where
+  pub change : Change
+  pub happens : Worlds.Happens (world_of s) change (world_of t)
+  pub harmless : (d i : ℕ) → IsHarmless d i a → Whole.IsHarmless d i change
+
+elsewhere : (s : State) (a : Action) (t : State) → world_of t ≡ world_of s → IsChange s a t
+elsewhere s a t same = record { change = Elsewhere; happens = same; harmless = λ d i h. tt }
+
+pub half_change : (s : State) (d : ℕ) (a : Action) → IsGood s → IsTrue (is_living s d) → IsChange s a (after_half s d)
+half_change s d a g lives = go (s.controllers d).current refl
+  where
+    turn : (c : Current) → (s.controllers d).current ≡ c → IsHeard c → half_of s d c ≡ asks s d → IsChange s a (after_half s d)
+    turn c e heard is = record {
+      change = Turn d s.clock.cycle;
+      happens = subst (λ x. TakesTurn (world_of s) d s.clock.cycle (world_of (taken s d (half_of s d x)))) (sym e)
+          (subst (λ y. TakesTurn (world_of s) d s.clock.cycle (world_of (taken s d y))) (sym is) (turn_change s d g (linked_of s d g (living_linked s d lives)) (subst IsHeard (sym e) heard)));
+      harmless = λ e i h. tt;
+    }
+
+    go : (c : Current) → (s.controllers d).current ≡ c → IsChange s a (after_half s d)
+    go Nothing e = turn Nothing e tt refl
+    go (Asking j stage) e = turn (Asking j stage) e tt refl
+    go (Overtaken i o) e = turn (Overtaken i o) e tt refl
+    go (Hearing j stage) e = let x = heard_of s d j stage g lives e in record {
+      change = Answered d (reply_heard s d j stage x);
+      happens = answer_change s d j stage g e x (half_hears s d j stage g e x);
+      harmless = λ e i h. tt;
+    }
+
+-- ---- bus resets
+
+pub reset_is : (s : State) (n : Declared) (initiator : ℕ) (out : List Timed) (t : State) → MayReset s n → (r : Resets (declaring s n) initiator out t) → IsReset (world_of s) r.entry r.entry.epoch (world_of t)
+reset_is s n initiator out t m r = subst (λ (z : State). IsReset (world_of s) r.entry r.entry.epoch (world_of z)) (sym r.state_is) (reset_change s n initiator out t m r)
+
+resets : (s : State) (a : Action) (n : Declared) (initiator : ℕ) (out : List Timed) (t : State) → MayReset s n → Resets (declaring s n) initiator out t → IsChange s a t
+resets s a n initiator out t m r = record { change = BusReset r.entry r.entry.epoch; happens = reset_is s n initiator out t m r; harmless = λ d i h. tt }
+
+declare_change : (s : State) (a : Action) (names : List (List ℕ)) (n : Declared) (out : List Timed) (t : State) → (names ≡ [] → MayReset s n) → Declares names (declaring s n) out t → IsChange s a t
+declare_change s a [] n out t m r = resets s a n 0 out t (m refl) r
+declare_change s a (x ∷ names) n out t m r = elsewhere s a t (ap world_of r.1)
+
+join_change : (s : State) (act : Action) (u : Topology) (a b : End) (out : List Timed) (t : State) → IsGood s → IsJoined s.declared.topology u a b → Joins (is_on s a.device) (is_on s b.device) a.device b.device (with_topology s u) out t → IsChange s act t
+join_change s act u a b out t g j h = go (is_on s a.device) (is_on s b.device) refl refl h
+  where
+    go : (x y : Bool) → is_on s a.device ≡ x → is_on s b.device ≡ y → Joins x y a.device b.device (with_topology s u) out t → IsChange s act t
+    go true false on_a off_b r = resets s act (record s.declared { topology = u }) a.device out t (cabled_may s u a b g j (on_some s a.device g on_a)) r
+    go false true off_a on_b r = resets s act (record s.declared { topology = u }) b.device out t (cabled_may s u a b g j (on_some s b.device g on_b)) r
+    go true true on_a on_b r = elsewhere s act t (ap world_of r.1)
+    go false false off_a off_b r = elsewhere s act t (ap world_of r.1)
+
+-- ---- what controllers are asked for, and deaths
+
+start_change : (s : State) (d i : ℕ) (w : Wanted) → IsGood s → IsTrue (is_living s d) → SlotFits (slot_of w) → start_of d w (s.controllers d) ≡ Ok i → IsChange s (StartConnection d w) (with_connection s d w)
+start_change s d i w g lives fits is = subst (λ r. IsChange s (StartConnection d w) (with_controller s d (given r (slot_of w) (s.controllers d)))) (sym is) (record {
+  change = NewConnection d i (slot_of w);
+  happens = record { device = living_small s d g lives; starts = starts_is d i w (s.controllers d) is; making = makes w; fits = fits; account = refl; becomes = becomes s.controllers d (given (Ok i) (slot_of w) (s.controllers d)); directory = refl };
+  harmless = λ e k h. tt;
+})
+
+break_change : (s : State) (d i : ℕ) → IsGood s → IsTrue (is_living s d) → break_fault (s.controllers d) i ≡ None → IsChange s (StartBreak d i) (with_controller s d (break_started (s.controllers d) i))
+break_change s d i g lives accepted = record {
+  change = BreakOf d i;
+  happens = record { device = living_small s d g lives; accepted = accepted; account = refl; becomes = becomes s.controllers d (break_started (s.controllers d) i); directory = refl };
+  harmless = λ e k h. h;
 }
-  where
-    lone : IsLone s.account.latest
-    lone = is_lone s g works
 
--- a half step that does nothing
-counted_latest : (o : Option ResetEntry) (s : State) → IsLatest o s → IsLatest o (counted s)
-counted_latest None s h = h
-counted_latest (Some e) s h = h
-
-pub rests : (s : State) → IsGood s → s.half_steps < 4000000 → Leads s None (counted s)
-rests s g few = record {
-  good = record {
-    sound = g.sound;
-    made = g.made;
-    kinds = g.kinds;
-    named = g.named;
-    latest = counted_latest s.account.latest s g.latest;
-    quiet = λ no_. record { idle = (g.quiet no_).idle; others = (g.quiet no_).others };
-    single = g.single;
-    lone = g.lone;
-    step = g.step;
-    outstanding = g.outstanding;
-    outside = g.outside;
-    alone = g.alone;
-    second = g.second;
-    reset_cycle = g.reset_cycle;
-    cycle = g.cycle;
-    half_steps = omega arith;
-    bus_manager_id = g.bus_manager_id;
-    asks = g.asks;
-  };
-  next = refl;
+death_change : (s : State) (d : ℕ) → IsGood s → IsTrue (is_living s d) → IsChange s (Die d) (after_death s d)
+death_change s d g lives = record {
+  change = Death d;
+  happens = record { device = living_small s d g lives; account = refl; becomes = becomes s.controllers d new_controller; directory = refl };
+  harmless = λ e k h. h;
 }
 
--- ---- a request
-
--- the deck's own plug is the only one that is addressed
-pub own_addressed : (epoch : ℕ) (ids : List PhyPacket) (r : Register) → IsAsked r → (output_addressed (Some (lone_deck epoch ids)) 65472 (offset_of r) ≡ None) ⊎ (output_addressed (Some (lone_deck epoch ids)) 65472 (offset_of r) ≡ Some own_plug)
-own_addressed epoch ids OutputPlug asks = inr refl
-own_addressed epoch ids BandwidthAvailable asks = inl refl
-own_addressed epoch ids (Channels base) (inl z) = subst (λ b. (output_addressed (Some (lone_deck epoch ids)) 65472 (offset_of (Channels b)) ≡ None) ⊎ (output_addressed (Some (lone_deck epoch ids)) 65472 (offset_of (Channels b)) ≡ Some own_plug)) (sym z) (inl refl)
-own_addressed epoch ids (Channels base) (inr z) = subst (λ b. (output_addressed (Some (lone_deck epoch ids)) 65472 (offset_of (Channels b)) ≡ None) ⊎ (output_addressed (Some (lone_deck epoch ids)) 65472 (offset_of (Channels b)) ≡ Some own_plug)) (sym z) (inl refl)
-
-pub addressed_stays : (l : Account) (o : Option PlugAt) → (o ≡ None) ⊎ (o ≡ Some own_plug) → l.addressed 0 ≡ Some own_plug → addressed_after 0 o l 0 ≡ Some own_plug
-addressed_stays l o (inl none) a = subst (λ x. addressed_after 0 x l 0 ≡ Some own_plug) (sym none) a
-addressed_stays l o (inr own) a = subst (λ x. addressed_after 0 x l 0 ≡ Some own_plug) (sym own) (go (has_pending 0 l.allocations))
+start_again : (s : State) (d : ℕ) → IsGood s → IsTrue (s.dead d) → IsChange s (Start d) (after_start s d)
+start_again s d g dead = elsewhere s (Start d) (after_start s d) (ap (λ f. record (world_of s) { controllers = f }) (same_table s.controllers d new_controller (g.unused d (rests_ (is_linked s d) (s.dead d) dead))))
   where
-    go : (b : Bool) → cond b l.addressed (update l.addressed 0 (Some own_plug)) 0 ≡ Some own_plug
-    go true = a
-    go false = refl
+    rests_ : (a b : Bool) → b ≡ true → (a && not b) ≡ false
+    rests_ a b e = grind (arith, e)
 
--- nobody else addresses a plug
-alone_stays : (l : Account) (o : Option PlugAt) (d : ℕ) → d ≢ 0 → l.addressed d ≡ None → addressed_after 0 o l d ≡ None
-alone_stays l None d ne a = a
-alone_stays l (Some p) d ne a = go (has_pending 0 l.allocations)
-  where
-    go : (b : Bool) → cond b l.addressed (update l.addressed 0 (Some p)) d ≡ None
-    go true = a
-    go false = grind (arith, nat_tests)
-
--- an entry that the account has
-pub entered_is : (l m : Account) (e : Entry) → next_account l e ≡ Some m → entered l e ≡ m
-entered_is l m e next = ap (λ o. unwrap_or o l) next
-
--- the account that has a request of the deck's controller
-pub request_entered : (s : State) (q : Request) → IsGood s → (s.controller ≡ Idle → ⊥) → s.account.outstanding 0 ≡ None → entered s.account (Async (request_packet q)) ≡ asked 0 (request_record q) s.account
-request_entered s q g works out = entered_is s.account _ (Async (request_packet q)) (asked_next s.account q (is_lone s g works).2 out)
-
--- a stage that makes its request is in step with the account that has it
-pub request_leads : (s : State) (j : Job) (stage : Stage) → IsGood s → (s.controller ≡ Idle → ⊥) → s.half_steps < 4000000 → IsFalse s.account.reclaiming → s.account.outstanding 0 ≡ None → request_of j stage ≡ Some (own_request j stage)
-    → IsOwnJob j → WordsFit stage → EndFits stage → IsInStep (asked 0 (request_record (own_request j stage)) s.account) 0 j stage s.others
-    → Leads s (Some (Async (request_packet (own_request j stage)))) (counted (asks_after (Some (own_request j stage)) j stage s))
-request_leads s j stage g works few no_second out is own words ends step = record {
-  good = subst (λ a. IsGood (counted (record s { account = a; controller = Hearing j stage }))) (sym same) (changed_good s (asked 0 (request_record q) s.account) (Hearing j stage) s.others g works few (record {
-    sound = asked_keeps 0 (request_record q) s.account (not_none s.account.latest lone) g.sound;
-    latest = refl;
-    reclaiming = refl;
-    step = record { step = step; own = own; words = words; ends = ends };
-    outstanding = ap asked_of (sym is);
-    outside = no_second;
-    alone = λ d ne. alone_stays s.account _ d ne (g.alone d ne);
-  }));
-  next = next ∙ ap (λ (a : Account). Some a) (sym same);
+second_change : (s : State) → IsTrue s.account.reclaiming → IsChange s EndSecond (after_cycles (after_second s) 1)
+second_change s runs = record {
+  change = SecondOver;
+  happens = record { account = second_ends s.account runs; each = λ d. refl; directory = ap (λ (l : Account). told_by s l.latest) (second_ends s.account runs) };
+  harmless = λ d i h. absurd h;
 }
-  where
-    q : Request
-    q = own_request j stage
 
-    lone : IsLone s.account.latest
-    lone = is_lone s g works
+-- ---- each action
 
-    next : next_account s.account (Async (request_packet q)) ≡ Some (asked 0 (request_record q) s.account)
-    next = asked_next s.account q lone.2 out
+moved : (s u t : State) (a : Action) → t ≡ u → IsChange s a u → IsChange s a t
+moved s u t a is c = subst (IsChange s a) (sym is) c
 
-    same : entered s.account (Async (request_packet q)) ≡ asked 0 (request_record q) s.account
-    same = entered_is s.account _ (Async (request_packet q)) next
+pub step_change : (s : State) (a : Action) (out : List Timed) (t : State) → IsGood s → Step s a out t → IsChange s a t
+step_change s (AddDevice name kind ports speed) out t g x = declare_change s (AddDevice name kind ports speed) s.declared.names (with_device s.declared name kind ports speed) out t (λ empty. first_may s name kind ports speed (record { good = g; room = x.1.0; some = x.1.1; most = x.1.2; fast = x.1.3 }) empty) x.1.4
+step_change s (AddCable a b) out t g x = join_change s (AddCable a b) x.1.0 a b out t g x.1.1 x.1.2
+step_change s (ResetBus d) out t g x = resets s (ResetBus d) s.declared d out t (begun_may s d g x.1.0) x.1.1
+step_change s (StartConnection d w) out t g x = moved s _ t (StartConnection d w) x.1.4 (start_change s d x.1.2.0 w g x.1.0 x.1.1 x.1.2.1)
+step_change s (StartBreak d i) out t g x = moved s _ t (StartBreak d i) x.1.3 (break_change s d i g x.1.0 x.1.1)
+step_change s (HalfStep d) out t g x = let c = half_change s d (HalfStep d) g x.1.0 in moved s (counted (after_half s d) 1) t (HalfStep d) x.1.3 (record { change = c.change; happens = c.happens; harmless = c.harmless })
+step_change s (Rest n) out t g x = elsewhere s (Rest n) t (ap world_of x.1.3)
+step_change s Unsettled out t g x = elsewhere s Unsettled t (ap world_of x.1.2)
+step_change s (Pass n) out t g x = elsewhere s (Pass n) t (ap world_of x.1.3)
+step_change s EndSecond out t g x = moved s _ t EndSecond x.1.4 (second_change s x.1.1)
+step_change s (Die d) out t g x = moved s _ t (Die d) x.1.2 (death_change s d g x.1.0)
+step_change s (CarryOut d) out t g x = moved s _ t (CarryOut d) x.1.3 (half_change s d (CarryOut d) g x.1.0)
+step_change s (Start d) out t g x = moved s _ t (Start d) x.1.3 (start_again s d g x.1.1)
+step_change s (Ask y) out t g x = elsewhere s (Ask y) t (ap world_of x.1.4)
+step_change s Answer out t g x = elsewhere s Answer t (ap world_of x.state_is)
+step_change s (ShowWord d offset) out t g x = elsewhere s (ShowWord d offset) t (ap world_of x.1.4)
+step_change s Finish out t g x = elsewhere s Finish t (ap world_of x.1.1)
+
+-- ---- actions
+
+-- the changes that they are
+pub record IsPath (s : State) (xs : List Action) (t : State) : Type 0 where
+  pub changes : List Change
+  pub path : Path (world_of s) changes (world_of t)
+  pub harmless : (d i : ℕ) → AreHarmless d i xs → Whole.AreHarmless d i changes
+
+pub steps_path : (s : State) (xs : List Action) (out : List Timed) (t : State) → IsGood s → Steps s xs out t → IsPath s xs t
+steps_path s [] out t g f = record { changes = []; path = ap world_of f.1; harmless = λ d i h. tt }
+steps_path s (a ∷ xs) out t g f =
+    let c = step_change s a f.0 f.2 g f.3 in
+    let p = steps_path f.2 xs f.1 t (step_good s a f.0 f.2 g f.3) f.5 in
+    record { changes = c.change ∷ p.changes; path = (world_of f.2, c.happens, p.path); harmless = λ d i h. (c.harmless d i h.0, p.harmless d i h.1) }

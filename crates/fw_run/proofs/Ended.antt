@@ -1,40 +1,34 @@
 -- Only the end of the script writes the end of the log.
-use Rattle.std.proofs.Common.{◌≡◌, ◌≢◌, ℕ, zero, suc, ◌+◌, ◌-◌, ◌^◌, ◌&&◌, not, nat_le, nat_lt, length, List, [], ◌∷◌, ◌++◌, Bool, true, false, Option, Some, None, eqb, cond, is_some, refl, sym, subst, ◌∙◌, IsFalse}
-use Rattle.std.specs.Prelude.{⊤, Ok, Err}
-use Rattle.std.specs.declared.result.Result.{Result}
+use Rattle.std.proofs.Common.{◌≡◌, ◌≢◌, ◌⊎◌, inl, inr, ℕ, zero, suc, ◌+◌, List, [], ◌∷◌, ◌++◌, Bool, true, false, Option, Some, None, option_map, refl, sym, subst, IsFalse}
+use Rattle.std.specs.Prelude.{⊤}
+use Rattle.fw_async.specs.declared.packet.Packet.{Packet}
 use Rattle.fw_entry.specs.declared.entry.Entry.{Entry}
 use Rattle.fw_entry.specs.declared.entry.Entry.TheVariants.{Reset, Async}
 use Rattle.fw_entry.specs.declared.entry.Timed.{Timed}
 use Rattle.fw_entry.specs.Log.{is_end}
-use Rattle.fw_cmp.specs.declared.request.Request.{Request}
-use Rattle.fw_cmp.specs.declared.stage.Stage.{Stage}
-use Rattle.fw_cmp.specs.declared.stage.Stage.TheVariants.{ReadOutput}
-use Rattle.fw_cmp.specs.Stages.{request_of}
-use Rattle.fw_async.specs.declared.packet.Packet.{Packet}
-use Rattle.fw_tree.specs.declared.facts.End.{End as CableEnd}
-use Rattle.fw_tree.specs.Topology.{Topology}
-use Rattle.fw_csr.specs.declared.reply.Reply.{Reply}
+use Rattle.fw_cmp.specs.declared.current.Current.{Current}
+use Rattle.fw_cmp.specs.declared.current.Current.TheVariants.{Nothing, Asking, Hearing, Overtaken}
+use Rattle.fw_cmp.specs.declared.outcome.Next.{Next}
+use Rattle.fw_cmp.specs.declared.outcome.Next.TheVariants.{Send, End as EndOf, Idle, Waiting}
+use Rattle.fw_cmp.specs.declared.request.Access.{Access}
+use Rattle.fw_cmp.specs.Requests.{access_of, request_of, addressee_of}
+use Rattle.fw_cmp.specs.Turns.{next}
+use Rattle.fw_node.specs.Packets.{packet_of}
 use Rattle.fw_script.specs.declared.command.Command.{Command}
 use Rattle.fw_script.specs.declared.command.Command.TheVariants as Commands
-use Rattle.fw_devices.specs.Network.{device_named}
-use Rattle.fw_run.specs.declared.controller.Controller.{Controller}
-use Rattle.fw_run.specs.declared.controller.Controller.TheVariants.{Idle, Waiting, Asking, Hearing}
-use Rattle.fw_run.specs.declared.order.Access.{Access}
-use Rattle.fw_run.specs.declared.order.Access.TheVariants.{Read, Swap}
 use Rattle.fw_run.specs.declared.order.Order.{Order}
-use Rattle.fw_run.specs.declared.order.Order.TheVariants as Orders
-use Rattle.fw_run.specs.declared.rule.RuleFault.{RuleFault}
-use Rattle.fw_run.specs.declared.rule.RuleFault.TheVariants.{NotBuilt, NotController, OffBus, Guarded, NoRegister}
+use Rattle.fw_run.specs.declared.order.Order.TheVariants as order
 use Rattle.fw_run.specs.Giving.{at_most}
-use Rattle.fw_run.specs.Packets.{request_packet}
-use Rattle.fw_run.specs.Outcomes.{asked_or_ended}
-use Rattle.fw_run.specs.State.{State, is_on}
-use Rattle.fw_run.specs.Spaces.{response_from, transaction_packet}
-use Rattle.fw_run.specs.Halves.{half_says, half_says_by, answers, response_entry}
-use Rattle.fw_run.specs.Rules.{View, view_of, known, or_fault, with, unless, order_of, shown_word, transact, is_linked_in, is_guarded, is_later_broadcast, CableDecided, DecidedBy, Decides}
-use Rattle.fw_run.specs.Run.{Action, AddDevice, AddCable, ResetBus, BeginBroadcast, HalfStep, Pass, EndSecond, Ask, Answer, ShowWord, Finish, Declares, Joins, second_over, shown_entry, Step, Steps, Run, begun, and_then, times, passes, actions_of}
-use Rattle.fw_run.specs.State.{first_state, over_at, with_device}
+use Rattle.fw_run.specs.Entries.{second_over, died, started, unsettled, shown_entry}
+use Rattle.fw_run.specs.State.{State, is_on, living, with_device, directory_of}
+use Rattle.fw_run.specs.Spaces.{transaction_head, access_request, answer_packet, read_at}
+use Rattle.fw_run.specs.HalfSteps.{head_from, said, hears, hears_from, half, half_of}
+use Rattle.fw_run.specs.Actions.{Action, AddDevice, AddCable, ResetBus, StartConnection, StartBreak, HalfStep, Rest, Unsettled, Pass, EndSecond, Die, CarryOut, Start, Ask, Answer, ShowWord, Finish, Declares, Joins, with_topology, Step, Steps}
+use Rattle.fw_run.specs.Carrying.{times, half_steps_of, Rounds, none, round, rest, Carries, declares, joins, resets, connects, breaks, steps, settled, unsettled as not_settled, waits, waits_over, dies, dies_late, dies_idle, starts, goes_on, transacts, shows, ends}
+use Rattle.fw_run.specs.Rules.{IsOrder}
+use Rattle.fw_run.specs.Runs.{Run, begun, and_then}
 use Rattle.fw_run.specs.Logs.{HasNoEnd}
+use Rattle.fw_run.proofs.Runs.{carries_steps}
 
 -- ---- entries
 
@@ -47,47 +41,44 @@ pub unended_then : (xs ys : List Timed) → IsUnended xs → IsUnended ys → Is
 unended_then [] ys f g = g
 unended_then (x ∷ xs) ys f g = (f.0, unended_then xs ys f.1 g)
 
-at_most_unended : (cycle : ℕ) (o : Option Entry) → ((e : Entry) → o ≡ Some e → IsFalse (is_end e)) → IsUnended (at_most cycle o)
-at_most_unended cycle None f = tt
-at_most_unended cycle (Some e) f = (f e refl, tt)
+-- neither is the entry, if any
+abbrev GoesOn : Option Entry → Type 0
+GoesOn None = ⊤
+GoesOn (Some e) = IsFalse (is_end e)
 
-one_unended : (cycle : ℕ) (e : Entry) (out : List Timed) → IsFalse (is_end e) → out ≡ at_most cycle (Some e) → IsUnended out
-one_unended cycle e out f is = subst IsUnended (sym is) (f, tt)
+most_unended : (cycle : ℕ) (o : Option Entry) (out : List Timed) → GoesOn o → out ≡ at_most cycle o → IsUnended out
+most_unended cycle None out f is = subst IsUnended (sym is) tt
+most_unended cycle (Some e) out f is = subst IsUnended (sym is) (f, tt)
 
 none_unended : (out : List Timed) → out ≡ [] → IsUnended out
 none_unended out is = subst IsUnended (sym is) tt
 
-the_entry : (x e : Entry) → Some x ≡ Some e → IsFalse (is_end x) → IsFalse (is_end e)
-the_entry x e same f = let y : x ≡ e = cc in subst (λ z. IsFalse (is_end z)) y f
-
-asked_unended : (o : Option Request) (stage : Stage) (cycle : ℕ) → IsFalse (is_end (asked_or_ended o stage cycle))
-asked_unended None stage cycle = refl
-asked_unended (Some q) stage cycle = refl
-
-half_unended : (s : State) (d : ℕ) (e : Entry) → half_says s d ≡ Some e → IsFalse (is_end e)
-half_unended s d e = at (eqb d 0)
+half_unended : (s : State) (d : ℕ) → GoesOn (half s d).says
+half_unended s d = go (s.controllers d).current
   where
-    waits_ : (r : Bool) (x : Entry) → IsFalse (is_end x) → cond r None (Some x) ≡ Some e → IsFalse (is_end e)
-    waits_ true x f says = let no : ⊥ = cc in absurd no
-    waits_ false x f says = the_entry x e says f
+    said_on : (x : Next) → GoesOn (said s d x)
+    said_on (Send to q) = refl
+    said_on (EndOf i o) = refl
+    said_on Idle = tt
+    said_on (Waiting until) = tt
 
-    responds_ : (o : Option Packet) → response_entry o ≡ Some e → IsFalse (is_end e)
-    responds_ None says = let no : ⊥ = cc in absurd no
-    responds_ (Some p) says = the_entry (Async p) e says refl
+    packet_on : (o : Option Packet) → GoesOn (option_map Async o)
+    packet_on None = tt
+    packet_on (Some p) = refl
 
-    answers_ : (o : Option Request) → answers o s ≡ Some e → IsFalse (is_end e)
-    answers_ None says = let no : ⊥ = cc in absurd no
-    answers_ (Some q) says = responds_ (response_from s 0 (request_packet q)) says
+    from : (o : Option ℕ) (a : Access) → GoesOn (hears_from s d o a).says
+    from None a = tt
+    from (Some to) a = packet_on (answer_packet s to (head_from s d to) (request_of a))
 
-    go : (c : Controller) → half_says_by c s ≡ Some e → IsFalse (is_end e)
-    go Idle says = let no : ⊥ = cc in absurd no
-    go (Waiting j) says = waits_ s.account.reclaiming (asked_or_ended (request_of j ReadOutput) ReadOutput s.cycle) (asked_unended (request_of j ReadOutput) ReadOutput s.cycle) says
-    go (Asking j stage) says = the_entry _ e says (asked_unended (request_of j stage) stage s.cycle)
-    go (Hearing j stage) says = answers_ (request_of j stage) says
+    heard : (o : Option Access) → GoesOn (hears s d o).says
+    heard None = tt
+    heard (Some a) = from (addressee_of (directory_of s) a.target) a
 
-    at : (b : Bool) → cond b (half_says_by s.controller s) None ≡ Some e → IsFalse (is_end e)
-    at true says = go s.controller says
-    at false says = let no : ⊥ = cc in absurd no
+    go : (c : Current) → GoesOn (half_of s d c).says
+    go Nothing = said_on (next s.clock.cycle (directory_of s) (s.controllers d))
+    go (Asking j stage) = said_on (next s.clock.cycle (directory_of s) (s.controllers d))
+    go (Hearing j stage) = heard (access_of j stage)
+    go (Overtaken i o) = said_on (next s.clock.cycle (directory_of s) (s.controllers d))
 
 -- ---- actions
 
@@ -100,27 +91,33 @@ HasNoFinish [] = ⊤
 HasNoFinish (a ∷ actions) = IsNoFinish a × HasNoFinish actions
 
 declares_unended : (names : List (List ℕ)) (s t : State) (out : List Timed) → Declares names s out t → IsUnended out
-declares_unended [] s t out r = one_unended s.cycle (Reset r.entry) out refl r.out_is
+declares_unended [] s t out r = most_unended s.clock.cycle (Some (Reset r.entry)) out refl r.out_is
 declares_unended (x ∷ names) s t out r = none_unended out r.0
 
 joins_unended : (x y : Bool) (a b : ℕ) (s t : State) (out : List Timed) → Joins x y a b s out t → IsUnended out
-joins_unended true false a b s t out r = one_unended s.cycle (Reset r.entry) out refl r.out_is
-joins_unended false true a b s t out r = one_unended s.cycle (Reset r.entry) out refl r.out_is
+joins_unended true false a b s t out r = most_unended s.clock.cycle (Some (Reset r.entry)) out refl r.out_is
+joins_unended false true a b s t out r = most_unended s.clock.cycle (Some (Reset r.entry)) out refl r.out_is
 joins_unended true true a b s t out r = none_unended out r.0
 joins_unended false false a b s t out r = none_unended out r.0
 
 step_unended : (s t : State) (a : Action) (out : List Timed) → IsNoFinish a → Step s a out t → IsUnended out
-step_unended s t (AddDevice name kind ports speed) out nf f = declares_unended s.names (with_device s name kind ports speed) t out f.1.4
-step_unended s t (AddCable a b) out nf f = joins_unended (is_on s a.device) (is_on s b.device) a.device b.device (record s { topology = f.1.1.0 }) t out f.1.1.2
-step_unended s t (ResetBus d) out nf f = let r = f.1.2 in one_unended s.cycle (Reset r.entry) out refl r.out_is
-step_unended s t (BeginBroadcast overhead) out nf f = none_unended out f.1.3
-step_unended s t (HalfStep d) out nf f = subst IsUnended (sym f.1.1) (at_most_unended s.cycle (half_says s d) (half_unended s d))
-step_unended s t (Pass n) out nf f = none_unended out f.1.2
-step_unended s t EndSecond out nf f = one_unended s.cycle second_over out refl f.1.2
-step_unended s t (Ask x) out nf f = one_unended s.cycle (Async (transaction_packet s x)) out refl f.1.4
-step_unended s t Answer out nf f = one_unended s.cycle (Async f.response) out refl f.out_is
-step_unended s t (ShowWord d offset word) out nf f = one_unended s.cycle (shown_entry d offset word) out refl f.1.3
-step_unended s t Finish out nf f = absurd nf
+step_unended s t (AddDevice name kind ports speed) out nf x = declares_unended s.declared.names (record s { declared = with_device s.declared name kind ports speed }) t out x.1.4
+step_unended s t (AddCable a b) out nf x = joins_unended (is_on s a.device) (is_on s b.device) a.device b.device (with_topology s x.1.0) t out x.1.2
+step_unended s t (ResetBus d) out nf x = let r = x.1.1 in most_unended s.clock.cycle (Some (Reset r.entry)) out refl r.out_is
+step_unended s t (StartConnection d w) out nf x = none_unended out x.1.3
+step_unended s t (StartBreak d i) out nf x = none_unended out x.1.2
+step_unended s t (HalfStep d) out nf x = most_unended s.clock.cycle (half s d).says out (half_unended s d) x.1.2
+step_unended s t (Rest n) out nf x = none_unended out x.1.2
+step_unended s t Unsettled out nf x = most_unended s.clock.cycle (Some unsettled) out refl x.1.1
+step_unended s t (Pass n) out nf x = none_unended out x.1.2
+step_unended s t EndSecond out nf x = most_unended (s.clock.cycle + 1) (Some second_over) out refl x.1.3
+step_unended s t (Die d) out nf x = most_unended s.clock.cycle (Some (died d)) out refl x.1.1
+step_unended s t (CarryOut d) out nf x = most_unended s.clock.cycle (half s d).says out (half_unended s d) x.1.2
+step_unended s t (Start d) out nf x = most_unended s.clock.cycle (Some (started d)) out refl x.1.2
+step_unended s t (Ask y) out nf x = most_unended s.clock.cycle (Some (Async (packet_of (transaction_head s y) (access_request y.access)))) out refl x.1.3
+step_unended s t Answer out nf x = most_unended s.clock.cycle (Some (Async x.response)) out refl x.out_is
+step_unended s t (ShowWord d offset) out nf x = most_unended s.clock.cycle (Some (shown_entry d offset (read_at s d offset).value)) out refl x.1.3
+step_unended s t Finish out nf x = absurd nf
 
 pub steps_unended : (s t : State) (actions : List Action) (out : List Timed) → HasNoFinish actions → Steps s actions out t → IsUnended out
 steps_unended s t [] out nf f = none_unended out f.0
@@ -129,75 +126,89 @@ steps_unended s t (a ∷ actions) out nf f = subst IsUnended (sym f.4) (unended_
 -- ---- orders
 
 abbrev pub IsNoEnd : Order → Type 0
-IsNoEnd Orders.End = ⊥
+IsNoEnd order.End = ⊥
 IsNoEnd _ = ⊤
 
-no_finish_then : (xs : List Action) (a : Action) → HasNoFinish xs → IsNoFinish a → HasNoFinish (xs ++ a ∷ [])
-no_finish_then [] a f g = (g, tt)
-no_finish_then (x ∷ xs) a f g = (f.0, no_finish_then xs a f.1 g)
+no_finish_append : (xs ys : List Action) → HasNoFinish xs → HasNoFinish ys → HasNoFinish (xs ++ ys)
+no_finish_append [] ys f g = g
+no_finish_append (x ∷ xs) ys f g = (f.0, no_finish_append xs ys f.1 g)
 
 no_finish_times : (n : ℕ) (a : Action) → IsNoFinish a → HasNoFinish (times n a)
 unfolding times
 no_finish_times zero a f = tt
-no_finish_times (suc n) a f = no_finish_then (times n a) a (no_finish_times n a f) f
+no_finish_times (suc n) a f = no_finish_append (times n a) (a ∷ []) (no_finish_times n a f) (f, tt)
 
-pub no_finish : (s : State) (o : Order) → IsNoEnd o → HasNoFinish (actions_of s o)
-no_finish s (Orders.Declare name kind ports speed) f = (tt, tt)
-no_finish s (Orders.Cable a b) f = (tt, tt)
-no_finish s (Orders.Reset d) f = (tt, tt)
-no_finish s (Orders.Broadcast overhead) f = (tt, tt)
-no_finish s (Orders.Step d count) f = no_finish_times count (HalfStep d) tt
-no_finish s (Orders.Wait n) f = go (s.account.reclaiming && nat_le (over_at s) (s.cycle + n))
-  where
-    go : (b : Bool) → HasNoFinish (cond b (Pass (over_at s - s.cycle) ∷ EndSecond ∷ Pass (s.cycle + n - over_at s) ∷ []) (Pass n ∷ []))
-    go true = (tt, (tt, (tt, tt)))
-    go false = (tt, tt)
-no_finish s (Orders.Transact x) f = (tt, (tt, tt))
-no_finish s (Orders.Show d offset word) f = (tt, tt)
-no_finish s Orders.End f = absurd f
+no_finish_halves : (ds : List ℕ) → HasNoFinish (half_steps_of ds)
+no_finish_halves [] = tt
+no_finish_halves (d ∷ ds) = (tt, no_finish_halves ds)
+
+no_finish_rounds : (n : ℕ) (s : State) (xs : List Action) (out : List Timed) (t : State) → Rounds n s xs out t → HasNoFinish xs
+no_finish_rounds n s xs out t none = tt
+no_finish_rounds n s xs out t (round {n = k} m more first last f g) = no_finish_append (half_steps_of (living s)) more (no_finish_halves (living s)) (no_finish_rounds k m more last t g)
+no_finish_rounds n s xs out t (rest f) = (tt, tt)
+
+pub no_finish : (s : State) (o : Order) (xs : List Action) (out : List Timed) (t : State) → IsNoEnd o → Carries s o xs out t → HasNoFinish xs
+no_finish s o xs out t on (declares f) = (tt, tt)
+no_finish s o xs out t on (joins f) = (tt, tt)
+no_finish s o xs out t on (resets f) = (tt, tt)
+no_finish s o xs out t on (connects f) = (tt, tt)
+no_finish s o xs out t on (breaks f) = (tt, tt)
+no_finish s o xs out t on (steps {d = d} {count = n} f) = no_finish_times n (HalfStep d) tt
+no_finish s o xs out t on (settled {n = k} f e) = no_finish_rounds k s xs out t f
+no_finish s o xs out t on (not_settled {n = k} m more first last f g) = no_finish_append more (Unsettled ∷ []) (no_finish_rounds k s more first m f) (tt, tt)
+no_finish s o xs out t on (waits f) = (tt, tt)
+no_finish s o xs out t on (waits_over e f) = (tt, (tt, (tt, tt)))
+no_finish s o xs out t on (dies f) = (tt, tt)
+no_finish s o xs out t on (dies_late f) = (tt, (tt, tt))
+no_finish s o xs out t on (dies_idle e f) = (tt, tt)
+no_finish s o xs out t on (starts f) = (tt, tt)
+no_finish s o xs out t on (goes_on e) = tt
+no_finish s o xs out t on (transacts f) = (tt, (tt, tt))
+no_finish s o xs out t on (shows f) = (tt, tt)
+no_finish s o xs out t on (ends f) = absurd on
+
+-- the order is the end, or it is not
+pub end_or_none : (o : Order) → IsNoEnd o ⊎ (o ≡ order.End)
+end_or_none order.End = inr refl
+end_or_none (order.Declare name kind ports speed) = inl tt
+end_or_none (order.Cable a b) = inl tt
+end_or_none (order.Reset d) = inl tt
+end_or_none (order.Connect d w) = inl tt
+end_or_none (order.Break d i) = inl tt
+end_or_none (order.Step d count) = inl tt
+end_or_none (order.Settle n) = inl tt
+end_or_none (order.Wait n) = inl tt
+end_or_none (order.Die d late) = inl tt
+end_or_none (order.Start d) = inl tt
+end_or_none (order.Transact x) = inl tt
+end_or_none (order.Show d offset) = inl tt
 
 -- ---- commands
 
-abbrev GivesNoEnd : Result Order RuleFault → Type 0
-GivesNoEnd (Ok o) = IsNoEnd o
-GivesNoEnd (Err fault) = ⊤
+is_no_end : (o p : Order) → o ≡ p → IsNoEnd p → IsNoEnd o
+is_no_end o p e f = subst IsNoEnd (sym e) f
 
-unless_ : (b : Bool) (fault : RuleFault) (r : Result Order RuleFault) → GivesNoEnd r → GivesNoEnd (unless b fault r)
-unless_ true fault r f = tt
-unless_ false fault r f = f
-
-with_ : (x : Result ℕ RuleFault) (later : ℕ → Result Order RuleFault) → ((d : ℕ) → GivesNoEnd (later d)) → GivesNoEnd (with x later)
-with_ (Ok d) later f = f d
-with_ (Err fault) later f = tt
-
-transact_no_end : (v : View) (a b : List ℕ) (access : Access) → GivesNoEnd (transact v a b access)
-transact_no_end v a b access = with_ (known v a) _ (λ from. with_ (known v b) _ (λ to. unless_ (not (is_linked_in v from)) _ _ (unless_ (not (is_linked_in v to)) _ _ (unless_ (is_guarded access) _ _ tt))))
-
-shown_no_end : (d offset : ℕ) (r : Reply) → GivesNoEnd (shown_word d offset r)
-shown_no_end d offset r = unless_ (not (eqb r.rcode 0)) NoRegister (Ok (Orders.Show d offset r.value)) tt
-
-orders_no_end : (v : View) (c : Command) → c ≢ Commands.End → GivesNoEnd (order_of v c)
-orders_no_end v (Commands.Device name kind ports speed) ne = unless_ (is_some (device_named v.names name)) _ _ (unless_ (nat_le 63 (length v.names)) _ _ tt)
-orders_no_end v (Commands.Cable a b) ne = unless_ v.began _ _ (with_ (known v a.0) _ (λ x. with_ (known v b.0) _ (λ y. tt)))
-orders_no_end v (Commands.Reset name) ne = unless_ v.began _ _ (with_ (known v name) _ (λ d. unless_ (not (v.is_on d)) _ _ (unless_ (nat_le 10000 v.epoch) _ _ tt)))
-orders_no_end v (Commands.Broadcast name plug overhead) ne = unless_ (is_later_broadcast v plug.1) _ _ (with_ (known v name) _ (λ d. with_ (known v plug.0) _ (λ e. tt)))
-orders_no_end v (Commands.Step name count) ne = with_ (known v name) _ (λ d. unless_ (not (is_linked_in v d)) _ _ (unless_ (nat_lt 4000000 (v.half_steps + count)) _ _ tt))
-orders_no_end v (Commands.Wait cycles) ne = unless_ (nat_lt (2 ^ 52) (v.cycle + cycles)) _ _ tt
-orders_no_end v (Commands.Read a b offset) ne = transact_no_end v a b (Read offset)
-orders_no_end v (Commands.Swap a b offset argument new) ne = transact_no_end v a b (Swap offset argument new)
-orders_no_end v (Commands.Show None offset) ne = with_ (or_fault v.manager NoRegister) _ (λ d. shown_no_end d offset (v.reads d offset))
-orders_no_end v (Commands.Show (Some name) offset) ne = with_ (known v name) _ (λ d. unless_ (not (is_linked_in v d)) _ _ (shown_no_end d offset (v.reads d offset)))
-orders_no_end v Commands.End ne = absurd (ne refl)
-orders_no_end v _ ne = tt
-
-cable_no_end : (t : Topology) (v : View) (r : Result Order RuleFault) (o : Order) → CableDecided t v r (Ok o) → IsNoEnd o
-cable_no_end t v (Ok (Orders.Cable a b)) o f = subst IsNoEnd (sym f.0) tt
-cable_no_end t v (Ok _) o f = absurd f
-cable_no_end t v (Err fault) o f = let no : ⊥ = cc in absurd no
-
-pub decided_no_end : (t : Topology) (v : View) (c : Command) (o : Order) → c ≢ Commands.End → DecidedBy t v c (Ok o) → IsNoEnd o
-decided_no_end t v (Commands.Cable a b) o ne f = cable_no_end t v (order_of v (Commands.Cable a b)) o f
-decided_no_end t v c o ne f = subst GivesNoEnd (sym f) (orders_no_end v c ne)
+pub order_no_end : (s : State) (c : Command) (o : Order) → c ≢ Commands.End → IsOrder s c o → IsNoEnd o
+order_no_end s (Commands.Device name kind ports speed) o ne f = is_no_end o _ f tt
+order_no_end s (Commands.Cable a b) o ne f = is_no_end o _ f.4 tt
+order_no_end s (Commands.Reset name) o ne f = is_no_end o _ f.2 tt
+order_no_end s (Commands.Connect name out into channel overhead) o ne f = is_no_end o _ f.3 tt
+order_no_end s (Commands.Broadcast name out overhead) o ne f = is_no_end o _ f.3 tt
+order_no_end s (Commands.Listen name into) o ne f = is_no_end o _ f.3 tt
+order_no_end s (Commands.Break name slot) o ne f = is_no_end o _ f.2 tt
+order_no_end s (Commands.Step name count) o ne f = is_no_end o _ f.2 tt
+order_no_end s (Commands.Settle rounds) o ne f = is_no_end o _ f tt
+order_no_end s (Commands.Wait cycles) o ne f = is_no_end o _ f tt
+order_no_end s (Commands.Cycles count) o ne f = absurd f.2
+order_no_end s (Commands.Die name late) o ne f = is_no_end o _ f.2 tt
+order_no_end s (Commands.Start name) o ne f = is_no_end o _ f.2 tt
+order_no_end s (Commands.Command name other frame) o ne f = absurd f.2
+order_no_end s (Commands.Read name other offset) o ne f = is_no_end o _ f.4 tt
+order_no_end s (Commands.Swap name other offset argument new) o ne f = is_no_end o _ f.4 tt
+order_no_end s (Commands.Insert name tape system) o ne f = absurd f.2
+order_no_end s (Commands.Eject name) o ne f = absurd f.2
+order_no_end s (Commands.Show name offset) o ne f = is_no_end o _ f.2 tt
+order_no_end s Commands.End o ne f = absurd (ne refl)
 
 -- ---- runs
 
@@ -206,7 +217,7 @@ front_no_end [] c f = (tt, f.0)
 front_no_end (d ∷ commands) c f = let more = front_no_end commands c f.1 in ((f.0, more.0), more.1)
 
 pub run_unended : (commands : List Command) (actions : List Action) (log : List Timed) (s : State) → Run commands actions log s → HasNoEnd commands → IsUnended log
-run_unended commands actions log s begun none = tt
-run_unended commands actions log s (and_then {commands = cs} {actions = xs} {log = front} {s = mid} r c o out t decided f) none =
-    let both = front_no_end cs c none in
-    unended_then front out (run_unended cs xs front mid r both.0) (steps_unended mid t (actions_of mid o) out (no_finish mid o (decided_no_end mid.topology (view_of mid) c o both.1 decided)) f)
+run_unended commands actions log s begun on = tt
+run_unended commands actions log s (and_then {commands = cs} {actions = xs} {log = front} {s = mid} r c o more out t decided f) on =
+    let both = front_no_end cs c on in
+    unended_then front out (run_unended cs xs front mid r both.0) (steps_unended mid t more out (no_finish mid o more out t (order_no_end mid c o both.1 decided.0) f) (carries_steps mid o more out t f))

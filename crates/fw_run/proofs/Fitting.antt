@@ -1,45 +1,57 @@
--- The packets and the outcomes of controllers, and the packets of transactions of the script, are in the grammar of the log.
-use Rattle.std.proofs.Common.{◌≡◌, ℕ, zero, suc, ◌+◌, ◌*◌, ◌/◌, ◌%◌, ◌^◌, ◌<◌, ◌≤◌, List, [], ◌∷◌, ◌++◌, Bool, true, false, Option, Some, None, slice_index, length, eqb, cond, refl, ap, sym, subst, ◌∙◌, arith, IsTrue}
+-- What half steps and transactions of the script write is in the grammar of the log.
+use Rattle.std.proofs.Common.{◌≡◌, ℕ, zero, suc, ◌^◌, ◌<◌, ◌≤◌, ◌==◌, List, [], ◌∷◌, ◌++◌, Bool, true, false, Option, Some, None, length, cond, option_map, refl, ap, sym, subst, arith, IsTrue}
+use Rattle.std.specs.Prelude.{⊤}
 use Rattle.std.specs.Int.{to_be_bytes, w32, byte_at}
+use Rattle.std.proofs.lemmas.Option.{same_Some}
 use Rattle.fw_async.specs.Async.{AreBytes, HeadFits, is_reply_size}
 use Rattle.fw_async.specs.Async as Async
+use Rattle.fw_async.specs.declared.packet.Head.{Head}
+use Rattle.fw_async.specs.declared.packet.Packet.{Packet}
 use Rattle.fw_async.specs.declared.packet.Packet.TheVariants.{ReadQuadletReply, LockReply}
 use Rattle.fw_csr.specs.declared.reply.Reply.{Reply}
-use Rattle.fw_csr.specs.declared.register.Register.{Register}
-use Rattle.fw_csr.specs.declared.register.Register.TheVariants.{ReadOnly, ReadSwap, WriteOnly}
-use Rattle.fw_csr.specs.declared.request.Request.TheVariants as Asks
-use Rattle.fw_csr.specs.declared.request.Swap.{Swap as OldSwap}
-use Rattle.fw_csr.specs.Requests.{quadlet_swap}
-use Rattle.fw_csr.specs.Replies.{reply, swap_reply}
-use Rattle.fw_cmp.specs.declared.job.Job.{Job}
-use Rattle.fw_cmp.specs.declared.job.Outcome.{Outcome}
-use Rattle.fw_cmp.specs.declared.job.Outcome.TheVariants.{NoChannel, NoUnits, PlugFull, Late, Broken}
-use Rattle.fw_cmp.specs.declared.stage.Stage.{Stage}
-use Rattle.fw_cmp.specs.declared.stage.Stage.TheVariants.{ReadOutput, OutputConnected, Ended}
-use Rattle.fw_cmp.specs.declared.request.Register.{Register as PlugRegister}
-use Rattle.fw_cmp.specs.declared.request.Register.TheVariants.{OutputPlug, Channels, BandwidthAvailable}
-use Rattle.fw_cmp.specs.declared.request.Request.{Request}
-use Rattle.fw_cmp.specs.declared.request.Swap.{Swap}
-use Rattle.fw_cmp.specs.Stages.{request_of, is_over}
+use Rattle.fw_csr.specs.declared.request.Swap.{Swap}
 use Rattle.fw_entry.specs.declared.entry.Entry.{Entry}
-use Rattle.fw_entry.specs.declared.entry.Entry.TheVariants.{Async as AsyncEntry}
-use Rattle.fw_entry.specs.Log.{Fits, OutcomeFits}
-use Rattle.fw_ledger.specs.Words.{first_address}
-use Rattle.fw_node.specs.Packets.{response_head, old_bytes}
-use Rattle.fw_step.specs.InStep.{answer}
-use Rattle.fw_run.specs.declared.controller.Controller.{Controller}
-use Rattle.fw_run.specs.declared.controller.Controller.TheVariants.{Idle, Waiting, Asking, Hearing}
-use Rattle.fw_run.specs.declared.order.Access.{Access}
-use Rattle.fw_run.specs.declared.order.Access.TheVariants as Accesses
-use Rattle.fw_run.specs.Packets.{own_head, offset_of, request_by, response_by, response_packet}
-use Rattle.fw_run.specs.Outcomes.{outcome_entry, asked_or_ended}
-use Rattle.fw_run.specs.State.{State}
-use Rattle.fw_run.specs.Spaces.{script_head, access_packet}
-use Rattle.fw_run.specs.Halves.{half_says, half_says_by, answers, response_entry}
-use Rattle.fw_run.specs.Run.{AccessFits}
-use Rattle.fw_run.specs.Good.{IsGood, IsAtStage, InStep, EndFits}
-use Rattle.fw_run.proofs.Registers.{own_request, responds}
-use Rattle.fw_run.proofs.HalfLeads.{answer_below}
+use Rattle.fw_entry.specs.Log.{Fits}
+use Rattle.fw_ledger.specs.Words.{node_of}
+use Rattle.fw_cmp.specs.declared.connection.Connection.{Connection}
+use Rattle.fw_cmp.specs.declared.connection.Connection.TheVariants.{PlugToPlug, BroadcastOut, BroadcastIn}
+use Rattle.fw_cmp.specs.declared.current.Current.{Current}
+use Rattle.fw_cmp.specs.declared.current.Current.TheVariants.{Nothing, Asking, Hearing, Overtaken}
+use Rattle.fw_cmp.specs.declared.directory.Directory.{Directory}
+use Rattle.fw_cmp.specs.declared.job.Ending.{Ending}
+use Rattle.fw_cmp.specs.declared.job.Ending.TheVariants as ending
+use Rattle.fw_cmp.specs.declared.job.Job.{Job}
+use Rattle.fw_cmp.specs.declared.outcome.Next.{Next}
+use Rattle.fw_cmp.specs.declared.outcome.Next.TheVariants.{End, Idle, Waiting}
+use Rattle.fw_cmp.specs.declared.outcome.Outcome.{Outcome}
+use Rattle.fw_cmp.specs.declared.outcome.Outcome.TheVariants.{Connected, Broken, Restored, NoChannel, NoUnits, PlugFull, InputBusy, NoPlug, NoManager, Absent, Reset, Late}
+use Rattle.fw_cmp.specs.declared.request.Access.{Access}
+use Rattle.fw_cmp.specs.declared.request.Target.{Target}
+use Rattle.fw_cmp.specs.declared.request.Target.TheVariants.{OutputPlug, InputPlug, Channels, BandwidthAvailable}
+use Rattle.fw_cmp.specs.declared.stage.Stage.{Stage}
+use Rattle.fw_cmp.specs.declared.stage.Stage.TheVariants.{Begin, ReadOutput, ReadChannels, SwapChannels, ReadBandwidth, SwapBandwidth, ConnectOutput, OverlayOutput, ReadInput, ConnectInput, ReadInputToLeave, LeaveInput, ReadOutputToLeave, LeaveOutput, ReadBandwidthToRelease, RaiseBandwidth, ReadChannelsToRelease, RestoreChannel, Made, Ended}
+use Rattle.fw_cmp.specs.Connections.{output_of, input_of}
+use Rattle.fw_cmp.specs.Controllers.{ControllerState}
+use Rattle.fw_cmp.specs.Decisions.{restores}
+use Rattle.fw_cmp.specs.Fits.{ConnectionFits}
+use Rattle.fw_cmp.specs.Requests.{offset_of, target_of, swap_of, access_at, access_of, request_at, addressee_of}
+use Rattle.fw_cmp.specs.Turns.{is_empty, outcome_for, outcome_of, sending, asks_or_ends, rests, ready, next}
+use Rattle.fw_node.specs.Packets.{packet_of, response_head, response_to, old_bytes}
+use Rattle.fw_step.specs.Requests.{PlugNumberFits, procedure_head}
+use Rattle.fw_step.proofs.Addressees.{node_is}
+use Rattle.fw_run.specs.Entries.{coded, outcome_entry}
+use Rattle.fw_run.specs.State.{State, directory_of, is_living}
+use Rattle.fw_run.specs.HalfSteps.{HalfStep, said, asks, half, half_of}
+use Rattle.fw_run.specs.Good.{IsGood}
+use Rattle.fw_run.specs.Numbers.{EndingShows, StageShows, HasNumbers}
+use Rattle.fw_run.proofs.Bounds.{ReplyFits, node_few, number_few, node_fits}
+use Rattle.fw_run.proofs.Buses.{linked_small}
+use Rattle.fw_run.proofs.Directories.{told}
+use Rattle.fw_run.proofs.Endings.{ReadyFits, ready_fits, made_shows}
+use Rattle.fw_run.proofs.Hears.{Heard, heard_of, half_hears, reply_heard}
+use Rattle.fw_run.proofs.Leads.{IsLinked, linked_of}
+use Rattle.fw_run.proofs.Responses.{node_of_target, heard_node}
+use Rattle.fw_run.proofs.Turns.{living_linked}
 
 -- ---- bytes of quadlets
 
@@ -50,7 +62,7 @@ byte_more b bytes low f (suc i) = f i
 no_bytes : AreBytes []
 no_bytes i = omega arith
 
-pub quadlet_bytes : (a : ℕ) (bytes : List ℕ) → AreBytes bytes → AreBytes (to_be_bytes w32 a ++ bytes)
+quadlet_bytes : (a : ℕ) (bytes : List ℕ) → AreBytes bytes → AreBytes (to_be_bytes w32 a ++ bytes)
 quadlet_bytes a bytes f =
     byte_more (byte_at 3 a) (byte_at 2 a ∷ byte_at 1 a ∷ byte_at 0 a ∷ bytes) (omega arith) (byte_more (byte_at 2 a) (byte_at 1 a ∷ byte_at 0 a ∷ bytes) (omega arith)
     (byte_more (byte_at 1 a) (byte_at 0 a ∷ bytes) (omega arith) (byte_more (byte_at 0 a) bytes (omega arith) f)))
@@ -58,117 +70,184 @@ quadlet_bytes a bytes f =
 two_quadlets : (a b : ℕ) → AreBytes (to_be_bytes w32 a ++ to_be_bytes w32 b)
 two_quadlets a b = quadlet_bytes a (to_be_bytes w32 b) (quadlet_bytes b [] no_bytes)
 
--- ---- packets of controllers
+-- ---- packets
 
-own_fits : HeadFits own_head
-own_fits = (omega arith, omega arith, omega arith, omega arith, omega arith)
+pub procedure_fits : (to source : ℕ) → to ≤ 63 → source ≤ 63 → HeadFits (procedure_head to source)
+procedure_fits to source few some = (omega (arith, few), omega arith, omega arith, omega arith, omega (arith, some))
 
-offset_below : (r : PlugRegister) → offset_of r < 2 ^ 48
-offset_below OutputPlug = omega arith
-offset_below BandwidthAvailable = omega arith
-offset_below (Channels base) = go (eqb base 0)
+pub request_fits : (h : Head) (offset : ℕ) (w : Option Swap) → HeadFits h → offset < 2 ^ 48 → Async.Fits (packet_of h (request_at offset w))
+request_fits h offset None f low = (f, low)
+request_fits h offset (Some swap) f low = (f, low, omega arith, omega arith, refl, two_quadlets swap.argument swap.new)
+
+response_head_fits : (n : ℕ) (h : Head) → n ≤ 63 → HeadFits h → HeadFits (response_head n h)
+response_head_fits n h few f = (f.4, f.1, omega arith, omega arith, omega (arith, few))
+
+lock_fits : (n : ℕ) (h : Head) (r : Reply) → n ≤ 63 → HeadFits h → ReplyFits r → Async.Fits (LockReply (response_head n h) r.rcode 2 (old_bytes r))
+lock_fits n h r few f fits = (response_head_fits n h few f, fits.rcode, omega arith, omega arith, size (r.rcode == 0), bytes (r.rcode == 0))
   where
-    go : (b : Bool) → cond b 281474708275748 281474708275752 < 2 ^ 48
-    go true = omega arith
-    go false = omega arith
-
-request_fits : (r : PlugRegister) (o : Option Swap) → Async.Fits (request_by r o)
-request_fits r None = (own_fits, offset_below r)
-request_fits r (Some s) = (own_fits, offset_below r, omega arith, omega arith, refl, two_quadlets s.arg s.new)
-
-response_fits : (o : Option Swap) (word : ℕ) → word < 2 ^ 32 → Async.Fits (response_by o word)
-response_fits None word low = (own_fits, omega arith, low)
-response_fits (Some s) word low = (own_fits, omega arith, omega arith, omega arith, refl, quadlet_bytes word [] no_bytes)
-
--- ---- outcomes
-
-outcome_fits : (stage : Stage) (cycle : ℕ) → EndFits stage → OutcomeFits (outcome_entry stage cycle)
-outcome_fits (OutputConnected channel) cycle f = record { device = omega arith; slot = omega arith; value = omega (arith, f); shape = refl }
-outcome_fits (Ended Broken) cycle f = record { device = omega arith; slot = omega arith; value = omega arith; shape = refl }
-outcome_fits (Ended (NoChannel word)) cycle f = record { device = omega arith; slot = omega arith; value = f; shape = refl }
-outcome_fits (Ended (NoUnits word)) cycle f = record { device = omega arith; slot = omega arith; value = f; shape = refl }
-outcome_fits (Ended (PlugFull word)) cycle f = record { device = omega arith; slot = omega arith; value = f; shape = refl }
-outcome_fits (Ended Late) cycle f = record { device = omega arith; slot = omega arith; value = omega arith; shape = refl }
-outcome_fits _ cycle f = record { device = omega arith; slot = omega arith; value = omega arith; shape = refl }
-
-asked_fits : (o : Option Request) (stage : Stage) (cycle : ℕ) → EndFits stage → Fits (asked_or_ended o stage cycle)
-asked_fits None stage cycle f = outcome_fits stage cycle f
-asked_fits (Some q) stage cycle f = request_fits q.register q.swap
-
--- ---- half steps
-
-the_entry : (x e : Entry) → Some x ≡ Some e → Fits x → Fits e
-the_entry x e same f = let y : x ≡ e = cc in subst Fits y f
-
-pub half_fits : (s : State) (d : ℕ) → IsGood s → (e : Entry) → half_says s d ≡ Some e → Fits e
-half_fits s d g e = at (eqb d 0)
-  where
-    at_stage_ : (j : Job) (stage : Stage) → s.controller ≡ Asking j stage → IsAtStage s.account j stage s.others
-    at_stage_ j stage is = subst (λ c. InStep s.account c s.others) is g.step
-
-    waits_ : (j : Job) (r : Bool) → cond r None (Some (asked_or_ended (request_of j ReadOutput) ReadOutput s.cycle)) ≡ Some e → Fits e
-    waits_ j true says = let no : ⊥ = cc in absurd no
-    waits_ j false says = the_entry _ e says (asked_fits (request_of j ReadOutput) ReadOutput s.cycle tt)
-
-    hears_ : (j : Job) (stage : Stage) → s.controller ≡ Hearing j stage → (b : Bool) → is_over stage ≡ b
-        → answers (cond b None (Some (own_request j stage))) s ≡ Some e → Fits e
-    hears_ j stage is true b says = let no : ⊥ = cc in absurd no
-    hears_ j stage is false b says =
-        let q = own_request j stage in
-        the_entry (AsyncEntry (response_packet q (answer s.account j stage))) e (sym (ap response_entry (responds s j stage g is b))
-        ∙ says) (response_fits q.swap (answer s.account j stage) (answer_below s j stage g is))
-
-    go : (c : Controller) → s.controller ≡ c → half_says_by c s ≡ Some e → Fits e
-    go Idle is says = let no : ⊥ = cc in absurd no
-    go (Waiting j) is says = waits_ j s.account.reclaiming says
-    go (Asking j stage) is says = the_entry _ e says (asked_fits (request_of j stage) stage s.cycle (at_stage_ j stage is).ends)
-    go (Hearing j stage) is says = hears_ j stage is (is_over stage) refl says
-
-    at : (b : Bool) → cond b (half_says_by s.controller s) None ≡ Some e → Fits e
-    at true says = go s.controller refl says
-    at false says = let no : ⊥ = cc in absurd no
-
--- ---- transactions of the script
-
-script_fits : (n m : ℕ) → n ≤ 63 → m ≤ 63 → HeadFits (script_head n m)
-script_fits n m few some = (omega (arith, few), omega arith, omega arith, omega arith, omega (arith, some))
-
-pub access_fits : (n m : ℕ) (a : Access) → n ≤ 63 → m ≤ 63 → AccessFits a → Async.Fits (access_packet (script_head n m) a)
-access_fits n m (Accesses.Read offset) few some f = (script_fits n m few some, omega (arith, f))
-access_fits n m (Accesses.Swap offset argument new) few some f = let low = f.0 in (script_fits n m few some, omega (arith, low), omega arith, omega arith, refl, two_quadlets argument new)
-
--- the codes of replies to reads and to compare_swaps
-pub read_code : (o : Option Register) (offset : ℕ) → (reply o (Asks.Read offset)).rcode < 2 ^ 4
-read_code None offset = omega arith
-read_code (Some (ReadOnly word)) offset = omega arith
-read_code (Some (ReadSwap word)) offset = omega arith
-read_code (Some WriteOnly) offset = omega arith
-
-pub swap_code : (o : Option Register) (offset function : ℕ) (bytes : List ℕ) → (reply o (Asks.Lock offset function bytes)).rcode < 2 ^ 4
-swap_code None offset function bytes = omega arith
-swap_code (Some (ReadOnly word)) offset function bytes = omega arith
-swap_code (Some (ReadSwap word)) offset function bytes = go (quadlet_swap function bytes)
-  where
-    go : (o : Option OldSwap) → (swap_reply word o).rcode < 2 ^ 4
-    go None = omega arith
-    go (Some swap) = omega arith
-swap_code (Some WriteOnly) offset function bytes = omega arith
-
-response_head_fits : (k n m : ℕ) → k ≤ 63 → n ≤ 63 → m ≤ 63 → HeadFits (response_head k (script_head n m))
-response_head_fits k n m low few some = (omega (arith, some), omega arith, omega arith, omega arith, omega (arith, low))
-
-pub read_reply_fits : (k n m rcode value : ℕ) → k ≤ 63 → n ≤ 63 → m ≤ 63 → rcode < 2 ^ 4 → value < 2 ^ 32
-    → Async.Fits (ReadQuadletReply (response_head k (script_head n m)) rcode value)
-read_reply_fits k n m rcode value low few some code word = (response_head_fits k n m low few some, code, word)
-
-pub lock_reply_fits : (k n m : ℕ) (a : Reply) → k ≤ 63 → n ≤ 63 → m ≤ 63 → a.rcode < 2 ^ 4
-    → Async.Fits (LockReply (response_head k (script_head n m)) a.rcode 2 (old_bytes a))
-lock_reply_fits k n m a low few some code = (response_head_fits k n m low few some, code, omega arith, omega arith, size (eqb a.rcode 0), bytes (eqb a.rcode 0))
-  where
-    size : (b : Bool) → IsTrue (is_reply_size (length (cond b (to_be_bytes w32 a.value) [])))
+    size : (b : Bool) → IsTrue (is_reply_size (length (cond b (to_be_bytes w32 r.value) [])))
     size true = refl
     size false = refl
 
-    bytes : (b : Bool) → AreBytes (cond b (to_be_bytes w32 a.value) [])
-    bytes true = quadlet_bytes a.value [] no_bytes
+    bytes : (b : Bool) → AreBytes (cond b (to_be_bytes w32 r.value) [])
+    bytes true = quadlet_bytes r.value [] no_bytes
     bytes false = no_bytes
+
+pub response_fits : (n : ℕ) (h : Head) (offset : ℕ) (w : Option Swap) (r : Reply) (p : Packet) → response_to n (packet_of h (request_at offset w)) r ≡ Some p → n ≤ 63 → HeadFits h → ReplyFits r → Async.Fits p
+response_fits n h offset None r p is few f fits = subst Async.Fits (same_Some (ReadQuadletReply (response_head n h) r.rcode r.value) p is) (response_head_fits n h few f, fits.rcode, fits.value)
+response_fits n h offset (Some swap) r p is few f fits = subst Async.Fits (same_Some (LockReply (response_head n h) r.rcode 2 (old_bytes r)) p is) (lock_fits n h r few f fits)
+
+-- ---- registers
+
+offset_below : (t : Target) → PlugNumberFits t → offset_of t < 2 ^ 48
+offset_below (OutputPlug p) f = omega (arith, f)
+offset_below (InputPlug p) f = omega (arith, f)
+offset_below BandwidthAvailable f = omega arith
+offset_below (Channels base) f = go (base == 0)
+  where
+    go : (b : Bool) → cond b 0xFFFF_F000_0224 0xFFFF_F000_0228 < 2 ^ 48
+    go true = omega arith
+    go false = omega arith
+
+plain : (u t : Target) → Some u ≡ Some t → PlugNumberFits u → PlugNumberFits t
+plain u t e f = subst PlugNumberFits (same_Some u t e) f
+
+output_small : (conn : Connection) (t : Target) → ConnectionFits conn → option_map OutputPlug (output_of conn) ≡ Some t → PlugNumberFits t
+output_small (PlugToPlug out into) t f e = plain (OutputPlug out) t e f.0.1
+output_small (BroadcastOut out) t f e = plain (OutputPlug out) t e f.1
+output_small (BroadcastIn into) t f e = absurd (grind (arith, e))
+
+input_small : (conn : Connection) (t : Target) → ConnectionFits conn → option_map InputPlug (input_of conn) ≡ Some t → PlugNumberFits t
+input_small (PlugToPlug out into) t f e = plain (InputPlug into) t e f.1.1
+input_small (BroadcastOut out) t f e = absurd (grind (arith, e))
+input_small (BroadcastIn into) t f e = plain (InputPlug into) t e f.1
+
+target_small : (j : Job) (s : Stage) (t : Target) → ConnectionFits j.connection → target_of j s ≡ Some t → PlugNumberFits t
+target_small j Begin t f e = absurd (grind (arith, e))
+target_small j ReadOutput t f e = output_small j.connection t f e
+target_small j (ReadChannels base w) t f e = plain (Channels base) t e tt
+target_small j (SwapChannels ch arg w) t f e = plain (Channels _) t e tt
+target_small j (ReadBandwidth ch w) t f e = plain BandwidthAvailable t e tt
+target_small j (SwapBandwidth ch u arg w) t f e = plain BandwidthAvailable t e tt
+target_small j (ConnectOutput ch u arg) t f e = output_small j.connection t f e
+target_small j (OverlayOutput arg) t f e = output_small j.connection t f e
+target_small j (ReadInput g) t f e = input_small j.connection t f e
+target_small j (ConnectInput g arg) t f e = input_small j.connection t f e
+target_small j (ReadInputToLeave ch u) t f e = input_small j.connection t f e
+target_small j (LeaveInput ch u arg) t f e = input_small j.connection t f e
+target_small j (ReadOutputToLeave x ch u) t f e = output_small j.connection t f e
+target_small j (LeaveOutput x ch u arg) t f e = output_small j.connection t f e
+target_small j (ReadBandwidthToRelease next ch u) t f e = plain BandwidthAvailable t e tt
+target_small j (RaiseBandwidth next ch u arg) t f e = plain BandwidthAvailable t e tt
+target_small j (ReadChannelsToRelease next ch) t f e = plain (Channels _) t e tt
+target_small j (RestoreChannel next ch arg) t f e = plain (Channels _) t e tt
+target_small j (Made g) t f e = absurd (grind (arith, e))
+target_small j (Ended x) t f e = absurd (grind (arith, e))
+
+-- the register of an access is that of its stage
+access_target : (o : Option Target) (w : Option Swap) (a : Access) → option_map (access_at w) o ≡ Some a → o ≡ Some a.target
+access_target None w a e = absurd (grind (arith, e))
+access_target (Some t) w a e = ap (λ (x : Access). Some x.target) (same_Some (access_at w t) a e)
+
+-- ---- outcomes
+
+outcome_fits : (d slot : ℕ) (o : Outcome) → d < 63 → slot < 32 → (coded o).1 < 2 ^ 32 → Fits (outcome_entry d slot o)
+outcome_fits d slot (Connected channel) few some low = record { device = omega (arith, few); slot = omega (arith, some); value = low; shape = refl }
+outcome_fits d slot Broken few some low = record { device = omega (arith, few); slot = omega (arith, some); value = low; shape = refl }
+outcome_fits d slot (Restored channel) few some low = record { device = omega (arith, few); slot = omega (arith, some); value = low; shape = refl }
+outcome_fits d slot (NoChannel word) few some low = record { device = omega (arith, few); slot = omega (arith, some); value = low; shape = refl }
+outcome_fits d slot (NoUnits remainder) few some low = record { device = omega (arith, few); slot = omega (arith, some); value = low; shape = refl }
+outcome_fits d slot (PlugFull word) few some low = record { device = omega (arith, few); slot = omega (arith, some); value = low; shape = refl }
+outcome_fits d slot (InputBusy word) few some low = record { device = omega (arith, few); slot = omega (arith, some); value = low; shape = refl }
+outcome_fits d slot (NoPlug rcode) few some low = record { device = omega (arith, few); slot = omega (arith, some); value = low; shape = refl }
+outcome_fits d slot NoManager few some low = record { device = omega (arith, few); slot = omega (arith, some); value = low; shape = refl }
+outcome_fits d slot (Absent device) few some low = record { device = omega (arith, few); slot = omega (arith, some); value = low; shape = refl }
+outcome_fits d slot (Reset epoch) few some low = record { device = omega (arith, few); slot = omega (arith, some); value = low; shape = refl }
+outcome_fits d slot (Late cycle) few some low = record { device = omega (arith, few); slot = omega (arith, some); value = low; shape = refl }
+
+ending_low : (now : ℕ) (e : Ending) → EndingShows e → (coded (outcome_for now e)).1 < 2 ^ 32
+ending_low now ending.Broken f = omega arith
+ending_low now (ending.NoChannel w) f = f
+ending_low now (ending.NoUnits left) f = f
+ending_low now (ending.PlugFull w) f = f
+ending_low now (ending.InputBusy w) f = f
+ending_low now (ending.NoPlug rcode) f = f
+ending_low now ending.NoManager f = omega arith
+ending_low now (ending.Absent device) f = f
+ending_low now ending.Late f = omega arith
+
+outcome_low : (now : ℕ) (j : Job) (s : Stage) → StageShows s → (coded (outcome_of now j s)).1 < 2 ^ 32
+outcome_low now j (Made f) h = made_shows f.channel (restores j) h
+outcome_low now j (Ended e) h = ending_low now e h
+outcome_low now j _ h = omega arith
+
+-- ---- half steps
+
+abbrev pub EntryFits : Option Entry → Type 0
+EntryFits None = ⊤
+EntryFits (Some e) = Fits e
+
+asks_fits : (s : State) (d : ℕ) → IsGood s → HasNumbers s → IsLinked s d → EntryFits (asks s d).says
+asks_fits s d g b x = go (ready now dir c).current (ready_fits now dir c (g.reclaims.step.fits d) (b.shows d))
+  where
+    now : ℕ
+    now = s.clock.cycle
+
+    dir : Directory
+    dir = directory_of s
+
+    c : ControllerState
+    c = s.controllers d
+
+    few : d < 63
+    few = linked_small s x.entry d x.number x.shows.1 x.linked
+
+    own : node_of s.account.latest d ≤ 63
+    own = node_few s d g
+
+    to_few : (t : Target) (to : ℕ) → addressee_of dir t ≡ Some to → to ≤ 63
+    to_few t to e = let w = node_of_target s x.entry t to x.is x.shows (node_is s.account now dir t to (told s x.entry x.is x.shows.1 g.time.second) e) in number_few s w.device to g w.number
+
+    sends : (a : Access) → PlugNumberFits a.target → (o : Option ℕ) → addressee_of dir a.target ≡ o → EntryFits (said s d (sending o a))
+    sends a f None e = request_fits (procedure_head 63 (node_of s.account.latest d)) (offset_of a.target) a.swap (procedure_fits 63 (node_of s.account.latest d) (omega arith) own) (offset_below a.target f)
+    sends a f (Some to) e = request_fits (procedure_head to (node_of s.account.latest d)) (offset_of a.target) a.swap (procedure_fits to (node_of s.account.latest d) (to_few a.target to e) own) (offset_below a.target f)
+
+    stage : (j : Job) (st : Stage) → ReadyFits (Asking j st) → (o : Option Access) → access_of j st ≡ o → EntryFits (said s d (asks_or_ends now dir j st o))
+    stage j st h None e = outcome_fits d j.slot (outcome_of now j st) few h.0.slot (outcome_low now j st h.1)
+    stage j st h (Some a) e = sends a (target_small j st a.target h.0.connection (access_target (target_of j st) (swap_of j st) a e)) (addressee_of dir a.target) refl
+
+    rest : (b : Bool) → EntryFits (said s d (cond b Idle (Waiting dir.over_at)))
+    rest true = tt
+    rest false = tt
+
+    go : (cur : Current) → ReadyFits cur → EntryFits (said s d (elim cur as (λ _. Next) [ Nothing ↦ rests dir (ready now dir c).waiting | Asking j st ↦ asks_or_ends now dir j st (access_of j st) | Hearing j st ↦ Idle | Overtaken i o ↦ End i o ]))
+    go Nothing h = rest (is_empty (ready now dir c).waiting)
+    go (Asking j st) h = stage j st h (access_of j st) refl
+    go (Hearing j st) h = tt
+    go (Overtaken i o) h = outcome_fits d i o few h.0 h.1
+
+-- the reply that a controller hears
+pub heard_fits : (s : State) (d : ℕ) (j : Job) (stage : Stage) → IsGood s → HasNumbers s → (x : Heard s d j stage) → ReplyFits (reply_heard s d j stage x)
+heard_fits s d j stage g b x = let w = heard_node s d j stage g x in node_fits s w.device x.to (offset_of x.target) (swap_of j stage) g b.bus_manager_id w.number
+
+pub half_fits : (s : State) (d : ℕ) → IsGood s → HasNumbers s → IsTrue (is_living s d) → EntryFits (half s d).says
+half_fits s d g b lives = go (s.controllers d).current refl
+  where
+    Ok : Current → Type 0
+    Ok c = EntryFits (half_of s d c).says
+
+    rests_ : (c : Current) → (s.controllers d).current ≡ c → half_of s d c ≡ asks s d → Ok (s.controllers d).current
+    rests_ c e is = subst Ok (sym e) (subst (λ (h : HalfStep). EntryFits h.says) (sym is) (asks_fits s d g b (linked_of s d g (living_linked s d lives))))
+
+    go : (c : Current) → (s.controllers d).current ≡ c → Ok (s.controllers d).current
+    go Nothing e = rests_ Nothing e refl
+    go (Asking j stage) e = rests_ (Asking j stage) e refl
+    go (Overtaken i o) e = rests_ (Overtaken i o) e refl
+    go (Hearing j stage) e =
+        let x = heard_of s d j stage g lives e in
+        let h = half_hears s d j stage g e x in
+        let w = heard_node s d j stage g x in
+        let to = number_few s w.device x.to g w.number in
+        subst (λ (y : HalfStep). EntryFits y.says) (sym h.half_is)
+        (response_fits x.to (procedure_head x.to (node_of s.account.latest d)) (offset_of x.target) (swap_of j stage) (reply_heard s d j stage x) h.response.packet h.response.sent to
+        (procedure_fits x.to (node_of s.account.latest d) to (node_few s d g)) (heard_fits s d j stage g b x))

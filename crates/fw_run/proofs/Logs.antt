@@ -1,6 +1,5 @@
 -- What a run writes is a log.
-use Rattle.std.proofs.Common.{◌≡◌, ◌≢◌, ℕ, ◌+◌, ◌≤◌, List, [], ◌∷◌, ◌++◌, length, refl, ap, sym, subst, ◌∙◌, arith, append_assoc, IsFalse, IsTrue, true, Option, Some, None, ◌⊎◌, inl, inr}
-use Rattle.std.specs.Prelude.{⊤, Ok}
+use Rattle.std.proofs.Common.{◌≡◌, ℕ, ◌≤◌, List, [], ◌∷◌, ◌++◌, length, refl, ap, sym, subst, ◌∙◌, arith, IsFalse, Option, Some, None, ◌⊎◌, inl, inr}
 use Rattle.fw_entry.specs.declared.entry.Entry.{Entry}
 use Rattle.fw_entry.specs.declared.entry.Entry.TheVariants.{Reset, Async, Iso, Event, Outcome, Shown, End}
 use Rattle.fw_entry.specs.declared.entry.Timed.{Timed}
@@ -9,18 +8,23 @@ use Rattle.fw_script.specs.declared.command.Command.{Command}
 use Rattle.fw_script.specs.declared.command.Command.TheVariants as Commands
 use Rattle.fw_run.specs.declared.order.Order.{Order}
 use Rattle.fw_run.specs.declared.order.Order.TheVariants as Orders
-use Rattle.fw_tree.specs.Topology.{Topology}
 use Rattle.fw_run.specs.Giving.{at_cycle, at_most, log_bytes}
 use Rattle.fw_run.specs.State.{State, first_state}
-use Rattle.fw_run.specs.Rules.{View, view_of, DecidedBy}
-use Rattle.fw_run.specs.Run.{Action, Finish, Steps, Run, actions_of}
+use Rattle.fw_run.specs.Actions.{Action, Finish, Steps}
+use Rattle.fw_run.specs.Carrying.{Carries, declares, joins, resets, connects, breaks, steps, settled, unsettled as not_settled, waits, waits_over, dies, dies_late, dies_idle, starts, goes_on, transacts, shows, ends}
+use Rattle.fw_run.specs.Runs.{Run}
 use Rattle.fw_run.specs.Logs.{HasNoEnd}
 use Rattle.fw_run.specs.Good.{IsGood}
-use Rattle.fw_run.proofs.Goods.{Led, first_good}
-use Rattle.fw_run.proofs.Runs.{run_steps, steps_then}
-use Rattle.fw_run.proofs.Sounds.{Spans, step_led, steps_good, steps_span}
-use Rattle.fw_run.proofs.Ended.{IsUnended, HasNoFinish, IsNoEnd, unended_then, steps_unended, no_finish, decided_no_end, run_unended}
+use Rattle.fw_run.proofs.Along.{step_led}
+use Rattle.fw_run.proofs.Ended.{IsUnended, HasNoFinish, IsNoEnd, unended_then, steps_unended, no_finish, end_or_none, run_unended}
+use Rattle.fw_run.proofs.Kept.{first_numbers}
+use Rattle.fw_run.proofs.Led.{Led}
 use Rattle.fw_run.proofs.OneLog.{last_of}
+use Rattle.fw_run.proofs.OneResult.{CarriedBy, carried}
+use Rattle.fw_run.proofs.Runs.{run_steps, steps_then}
+use Rattle.fw_run.proofs.Spans.{Spans, steps_span}
+use Rattle.fw_run.proofs.Steps.{step_good, steps_good}
+use Rattle.fw_run.proofs.Times.{first_good}
 
 -- ---- order
 
@@ -51,7 +55,7 @@ in_order c d (e ∷ front) back span un few = (span.0, span.1, ends_at e.what (f
 
 opens_of : (actions : List Action) (front back : List Timed) (s : State) → Steps first_state actions (front ++ back) s → IsUnended front → length back ≤ 1
     → LogOpens (front ++ back) (header_bytes ++ log_bytes (front ++ back))
-opens_of actions front back s f un few = record { order = in_order 0 s.cycle front back (steps_span first_state s actions (front ++ back) first_good f) un few; same = refl }
+opens_of actions front back s f un few = record { order = in_order 0 s.clock.cycle front back (steps_span first_state s actions (front ++ back) first_good first_numbers f) un few; same = refl }
 
 -- a front of a log is a log without its end
 ends_front : (e : Entry) (front rest : List Timed) → EndsAt e (front ++ rest) → EndsAt e front
@@ -88,40 +92,37 @@ pub run_opens : (commands : List Command) (actions : List Action) (log : List Ti
 run_opens commands actions log s r none = steps_open actions log s (run_steps commands actions log s r) (run_unended commands actions log s r none)
 
 -- what the end of the script writes
-end_order : (t : Topology) (v : View) (o : Order) → DecidedBy t v Commands.End (Ok o) → o ≡ Orders.End
-end_order t v o e = cc e
-
 has_end : (log : List Timed) (cycle : ℕ) → HasEnd (log ++ at_cycle cycle End ∷ [])
 has_end [] cycle = refl
 has_end (e ∷ []) cycle = refl
 has_end (e ∷ u ∷ us) cycle = has_end (u ∷ us) cycle
 
-finished : (s t : State) (o : Order) (out : List Timed) → o ≡ Orders.End → Steps s (actions_of s o) out t → out ≡ at_cycle s.cycle End ∷ []
+finished : (s t : State) (o : Order) (out : List Timed) → o ≡ Orders.End → CarriedBy s o out t → out ≡ at_cycle s.clock.cycle End ∷ []
 finished s t o out is f =
-    let g : Steps s (Finish ∷ []) out t = subst (λ z. Steps s (actions_of s z) out t) is f in
-    g.4 ∙ (ap (λ z. z ++ g.1) g.3.1.0 ∙ ap (λ z. at_cycle s.cycle End ∷ z) g.5.0)
+    let g : Steps s (Finish ∷ []) out t = subst (λ z. CarriedBy s z out t) is f in
+    g.4 ∙ (ap (λ z. z ++ g.1) g.3.1.0 ∙ ap (λ z. at_cycle s.clock.cycle End ∷ z) g.5.0)
 
 pub run_spells : (commands : List Command) (actions : List Action) (log : List Timed) (s : State) → Run (commands ++ Commands.End ∷ []) actions log s
     → HasNoEnd commands → LogSpells log (header_bytes ++ log_bytes log)
 run_spells commands actions log s r none =
     let w = last_of (commands ++ Commands.End ∷ []) commands Commands.End actions log s r refl in
-    let order : w.order ≡ Orders.End = end_order w.state.topology (view_of w.state) w.order w.decided in
-    let is : log ≡ w.front ++ at_cycle w.state.cycle End ∷ [] = w.log_is ∙ ap (λ z. w.front ++ z) (finished w.state s w.order w.out order w.steps) in
+    let last = finished w.state s w.order w.out w.decided.0 (carried w.state w.order w.more w.out s w.carries) in
+    let is : log ≡ w.front ++ at_cycle w.state.clock.cycle End ∷ [] = w.log_is ∙ ap (λ z. w.front ++ z) last in
     subst (λ z. LogSpells z (header_bytes ++ log_bytes z)) (sym is) (record {
-      opens = opens_of actions w.front (at_cycle w.state.cycle End ∷ []) s (subst (λ z. Steps first_state actions z s) is (run_steps (commands ++ Commands.End ∷ []) actions log s r)) (run_unended commands w.early w.front w.state w.run none) (omega arith);
-      ends = has_end w.front w.state.cycle;
+      opens = opens_of actions w.front (at_cycle w.state.clock.cycle End ∷ []) s (subst (λ z. Steps first_state actions z s) is (run_steps (commands ++ Commands.End ∷ []) actions log s r)) (run_unended commands w.early w.front w.state w.run none) (omega arith);
+      ends = has_end w.front w.state.clock.cycle;
     })
 
 -- ---- a run that is cut off inside a command
 
 steps_few : (s t : State) (actions : List Action) (out : List Timed) → IsGood s → Steps s actions out t → length out ≤ length actions
 steps_few s t [] out g f = subst (λ (z : List Timed). length z ≤ 0) (sym f.0) (omega arith)
-steps_few s t (a ∷ actions) out g f = subst (λ (z : List Timed). length z ≤ length (a ∷ actions)) (sym f.4) (subst (λ (z : List Timed). length (z ++ f.1) ≤ length (a ∷ actions)) (sym led.is) (go (steps_few f.2 t actions f.1 led.leads.good f.5) led.entry))
+steps_few s t (a ∷ actions) out g f = subst (λ (z : List Timed). length z ≤ length (a ∷ actions)) (sym f.4) (subst (λ (z : List Timed). length (z ++ f.1) ≤ length (a ∷ actions)) (sym led.is) (go (steps_few f.2 t actions f.1 (step_good s a f.0 f.2 g f.3) f.5) led.entry))
   where
     led : Led s f.0 f.2
     led = step_led s f.2 a f.0 g f.3
 
-    go : length f.1 ≤ length actions → (o : Option Entry) → length (at_most s.cycle o ++ f.1) ≤ length (a ∷ actions)
+    go : length f.1 ≤ length actions → (o : Option Entry) → length (at_most f.2.clock.cycle o ++ f.1) ≤ length (a ∷ actions)
     go rest None = omega (arith, rest)
     go rest (Some e) = omega (arith, rest)
 
@@ -137,32 +138,41 @@ front_few done later e = let same : 1 ≡ length (done ++ later) = ap (λ (z : L
     go (a ∷ []) later e = omega arith
     go (a ∷ b ∷ done) later e = absurd (omega (arith, e))
 
-end_or_none : (o : Order) → IsNoEnd o ⊎ (o ≡ Orders.End)
-end_or_none Orders.End = inr refl
-end_or_none (Orders.Declare name kind ports speed) = inl tt
-end_or_none (Orders.Cable a b) = inl tt
-end_or_none (Orders.Reset d) = inl tt
-end_or_none (Orders.Broadcast overhead) = inl tt
-end_or_none (Orders.Step d count) = inl tt
-end_or_none (Orders.Wait n) = inl tt
-end_or_none (Orders.Transact x) = inl tt
-end_or_none (Orders.Show d offset word) = inl tt
+-- the end is one action
+end_actions : (s : State) (o : Order) (xs : List Action) (out : List Timed) (t : State) → Carries s o xs out t → o ≡ Orders.End → xs ≡ Finish ∷ []
+end_actions s o xs out t (declares f) is = absurd (cc is)
+end_actions s o xs out t (joins f) is = absurd (cc is)
+end_actions s o xs out t (resets f) is = absurd (cc is)
+end_actions s o xs out t (connects f) is = absurd (cc is)
+end_actions s o xs out t (breaks f) is = absurd (cc is)
+end_actions s o xs out t (steps f) is = absurd (cc is)
+end_actions s o xs out t (settled f e) is = absurd (cc is)
+end_actions s o xs out t (not_settled m more first last f g) is = absurd (cc is)
+end_actions s o xs out t (waits f) is = absurd (cc is)
+end_actions s o xs out t (waits_over e f) is = absurd (cc is)
+end_actions s o xs out t (dies f) is = absurd (cc is)
+end_actions s o xs out t (dies_late f) is = absurd (cc is)
+end_actions s o xs out t (dies_idle e f) is = absurd (cc is)
+end_actions s o xs out t (starts f) is = absurd (cc is)
+end_actions s o xs out t (goes_on e) is = absurd (cc is)
+end_actions s o xs out t (transacts f) is = absurd (cc is)
+end_actions s o xs out t (shows f) is = absurd (cc is)
+end_actions s o xs out t (ends f) is = refl
 
 -- entries of a front of an order's actions
-pub cut_opens : (commands : List Command) (actions done later : List Action) (log out : List Timed) (s t : State) (o : Order) → Run commands actions log s
-    → HasNoEnd commands → actions_of s o ≡ done ++ later → Steps s done out t
-    → LogOpens (log ++ out) (header_bytes ++ log_bytes (log ++ out))
-cut_opens commands actions done later log out s t o r none is f = go (end_or_none o)
+pub cut_opens : (commands : List Command) (actions done later : List Action) (log out more : List Timed) (s t u : State) (o : Order) → Run commands actions log s
+    → HasNoEnd commands → Carries s o (done ++ later) more u → Steps s done out t → LogOpens (log ++ out) (header_bytes ++ log_bytes (log ++ out))
+cut_opens commands actions done later log out more s t u o r none is f = go (end_or_none o)
   where
     un : IsUnended log
     un = run_unended commands actions log s r none
 
-    steps : Steps first_state (actions ++ done) (log ++ out) t
-    steps = steps_then first_state s t actions done log out (run_steps commands actions log s r) f
+    steps_ : Steps first_state (actions ++ done) (log ++ out) t
+    steps_ = steps_then first_state s t actions done log out (run_steps commands actions log s r) f
 
     go : IsNoEnd o ⊎ (o ≡ Orders.End) → LogOpens (log ++ out) (header_bytes ++ log_bytes (log ++ out))
-    go (inl goes_on) = steps_open (actions ++ done) (log ++ out) t steps (unended_then log out un (steps_unended s t done out (finish_front done later (subst HasNoFinish is (no_finish s o goes_on))) f))
-    go (inr ends) =
-        let few = front_few done later (sym (ap (actions_of s) ends) ∙ is) in
+    go (inl continues) = steps_open (actions ++ done) (log ++ out) t steps_ (unended_then log out un (steps_unended s t done out (finish_front done later (no_finish s o (done ++ later) more u continues is)) f))
+    go (inr ended) =
+        let few = front_few done later (sym (end_actions s o (done ++ later) more u is ended)) in
         let most = steps_few s t done out (steps_good first_state s actions log first_good (run_steps commands actions log s r)) f in
-        opens_of (actions ++ done) log out t steps un (omega (arith, few, most))
+        opens_of (actions ++ done) log out t steps_ un (omega (arith, few, most))

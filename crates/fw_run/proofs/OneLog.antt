@@ -1,115 +1,90 @@
--- Each action has one result, so a script has one log.
-use Rattle.std.proofs.Common.{◌≡◌, ◌≢◌, ℕ, ◌+◌, ◌<◌, List, [], ◌∷◌, ◌++◌, Bool, true, false, Option, Some, None, refl, ap, sym, subst, ◌∙◌}
-use Rattle.std.specs.Prelude.{Ok, Err}
-use Rattle.std.specs.declared.result.Result.{Result}
-use Rattle.fw_async.specs.declared.packet.Packet.{Packet}
-use Rattle.fw_entry.specs.declared.entry.Entry.TheVariants.{Reset, Async}
-use Rattle.fw_entry.specs.declared.entry.ResetEntry.{ResetEntry}
+-- Each accepted command orders one thing, so a script has one log.
+use Rattle.std.proofs.Common.{◌≡◌, ℕ, List, [], ◌∷◌, ◌++◌, Option, Some, None, refl, ap, sym, subst, ◌∙◌}
+use Rattle.std.specs.Prelude.{Ok}
+use Rattle.std.proofs.lemmas.Option.{same_Some}
 use Rattle.fw_entry.specs.declared.entry.Timed.{Timed}
 use Rattle.fw_tree.specs.declared.facts.End.{End}
-use Rattle.fw_tree.specs.Topology.{Topology, Made, IsJoined}
-use Rattle.fw_tree.specs.Topology as Topologies
-use Rattle.fw_tree.proofs.ReachLaws.{sound_made}
 use Rattle.fw_script.specs.declared.command.Command.{Command}
 use Rattle.fw_script.specs.declared.command.Command.TheVariants as Commands
-use Rattle.fw_devices.specs.Network.{facts_of}
 use Rattle.fw_run.specs.declared.order.Order.{Order}
-use Rattle.fw_run.specs.declared.order.Order.TheVariants as Orders
-use Rattle.fw_run.specs.declared.order.Transaction.{Transaction}
-use Rattle.fw_run.specs.declared.rule.RuleFault.{RuleFault}
-use Rattle.fw_run.specs.Giving.{at_most}
-use Rattle.fw_run.specs.State.{State, first_state, epoch_of, is_on, with_device}
-use Rattle.fw_run.specs.Spaces.{response_from, transaction_packet, bus_manager_id_after}
-use Rattle.fw_run.specs.Rules.{View, view_of, order_of, CableDecided, DecidedBy}
-use Rattle.fw_run.specs.Run.{Action, AddDevice, AddCable, ResetBus, BeginBroadcast, HalfStep, Pass, EndSecond, Ask, Answer, ShowWord, Finish, Resets, Declares, Joins, Answers, after_reset_entry, Step, Steps, Run, begun, and_then, actions_of}
+use Rattle.fw_run.specs.declared.order.Order.TheVariants as order
+use Rattle.fw_run.specs.declared.order.Access.{Access}
+use Rattle.fw_run.specs.declared.order.Wanted.{Wanted}
+use Rattle.fw_run.specs.declared.order.Wanted.TheVariants.{PlugToPlug, BroadcastOut, BroadcastIn}
+use Rattle.fw_run.specs.State.{State, first_state, device_in}
+use Rattle.fw_run.specs.Actions.{Action}
+use Rattle.fw_run.specs.Carrying.{Carries}
+use Rattle.fw_run.specs.Rules.{IsNamed, IsEnd, IsOrder, IsShown, plug_of, Transacts, Decides}
+use Rattle.fw_run.specs.Runs.{Run, begun, and_then}
 use Rattle.fw_run.specs.Good.{IsGood}
-use Rattle.fw_run.proofs.Networks.{made_more}
-use Rattle.fw_run.proofs.Goods.{first_good}
+use Rattle.fw_run.proofs.OneResult.{Same, CarriedBy, carried, one_carried}
 use Rattle.fw_run.proofs.Runs.{run_steps}
-use Rattle.fw_run.proofs.Sounds.{step_led, steps_good}
-use Rattle.fw_run.proofs.OneReset.{one_entry}
+use Rattle.fw_run.proofs.Steps.{steps_good}
+use Rattle.fw_run.proofs.Times.{first_good}
 
--- ---- actions
+-- ---- what a command orders
 
--- the same entries, and the same state
-abbrev Same : List Timed → State → List Timed → State → Type 0
-Same out t other u = (out ≡ other) × (t ≡ u)
+one_name : (s : State) (name : List ℕ) (d e : ℕ) → IsNamed s name d → IsNamed s name e → d ≡ e
+one_name s name d e f g = same_Some d e (sym f ∙ g)
 
-one_resets : (s t u : State) (initiator : ℕ) (out other : List Timed) → Made s.topology → Resets s initiator out t → Resets s initiator other u → Same out t other u
-one_resets s t u initiator out other made f g =
-    let same : f.entry ≡ g.entry = one_entry s.topology s.kinds (epoch_of s.account.latest + 1) initiator f.entry g.entry (sound_made s.topology made) f.is_entry g.is_entry in (
-      f.out_is ∙ (ap (λ (e : ResetEntry). at_most s.cycle (Some (Reset e))) same ∙ sym g.out_is),
-      f.state_is ∙ (ap (after_reset_entry s) same ∙ sym g.state_is),
-    )
+one_end : (s : State) (a : List ℕ × ℕ) (x y : End) → IsEnd s a x → IsEnd s a y → x ≡ y
+one_end s a x y f g =
+    let device = one_name s a.0 x.device y.device f.0 g.0 in
+    let port = f.1 ∙ sym g.1 in
+    λ i. record { device = device i; port = port i }
 
-one_declares : (names : List (List ℕ)) (s t u : State) (out other : List Timed) → Made s.topology → Declares names s out t → Declares names s other u
-    → Same out t other u
-one_declares [] s t u out other made f g = one_resets s t u 0 out other made f g
-one_declares (x ∷ names) s t u out other made f g = (f.0 ∙ sym g.0, f.1 ∙ sym g.1)
+one_shown : (s : State) (name : Option (List ℕ)) (d e : ℕ) → IsShown s name d → IsShown s name e → d ≡ e
+one_shown s None d e f g =
+    let same = same_Some f.0 g.0 (sym f.1 ∙ g.1) in
+    same_Some d e (sym f.2 ∙ (ap (device_in s.account.latest) same ∙ g.2))
+one_shown s (Some name) d e f g = one_name s name d e f g
 
-one_joins : (x y : Bool) (a b : ℕ) (s t u : State) (out other : List Timed) → Made s.topology → Joins x y a b s out t → Joins x y a b s other u → Same out t other u
-one_joins true false a b s t u out other made f g = one_resets s t u a out other made f g
-one_joins false true a b s t u out other made f g = one_resets s t u b out other made f g
-one_joins true true a b s t u out other made f g = (f.0 ∙ sym g.0, f.1 ∙ sym g.1)
-one_joins false false a b s t u out other made f g = (f.0 ∙ sym g.0, f.1 ∙ sym g.1)
+one_transaction : (s : State) (name other : List ℕ) (a : Access) (o p : Order) → Transacts s name other a o → Transacts s name other a p → o ≡ p
+one_transaction s name other a o p f g =
+    let from = one_name s name f.0 g.0 f.2 g.2 in
+    let to = one_name s other f.1 g.1 f.3 g.3 in
+    f.4 ∙ ((λ i. order.Transact (record { from = from i; to = to i; access = a })) ∙ sym g.4)
 
-one_topology : (p q r : Topology) (a b : End) → IsJoined p q a b → IsJoined p r a b → q ≡ r
-one_topology p q r a b f g = let devices = f.same ∙ sym g.same in let cables = f.added ∙ sym g.added in λ i. record { devices = devices i; cables = cables i }
+one_connect : (d e : ℕ) (v w : Wanted) → d ≡ e → v ≡ w → order.Connect d v ≡ order.Connect e w
+one_connect d e v w f g = λ i. order.Connect (f i) (g i)
 
-one_answers : (s t u : State) (out other : List Timed) → Answers s out t → Answers s other u → Same out t other u
-one_answers s t u out other f g = (
-  f.out_is ∙ (ap (λ (p : Packet). at_most s.cycle (Some (Async p))) response ∙ sym g.out_is),
-  f.state_is ∙ (ap (λ (x : Transaction). record s { transaction = None; bus_manager_id = bus_manager_id_after s x }) transaction ∙ sym g.state_is),
-)
-  where
-    transaction : f.transaction ≡ g.transaction
-    transaction = let same : Some f.transaction ≡ Some g.transaction = sym f.waits ∙ g.waits in cc
-
-    response : f.response ≡ g.response
-    response =
-        let same : Some f.response ≡ Some g.response = sym f.answered
-        ∙ (ap (λ (x : Transaction). response_from s x.to (transaction_packet s x)) transaction ∙ g.answered) in
-        cc
-
-one_step : (s t u : State) (a : Action) (out other : List Timed) → IsGood s → Step s a out t → Step s a other u → Same out t other u
-one_step s t u (AddDevice name kind ports speed) out other good f g =
-    one_declares s.names (with_device s name kind ports speed) t u out other (made_more s.topology (facts_of kind ports speed) good.made (subst (λ n. n < 63) good.named f.1.0) f.1.1 f.1.2 f.1.3) f.1.4 g.1.4
-one_step s t u (AddCable a b) out other good f g =
-    let x = f.1.1 in
-    let y = g.1.1 in
-    let same : y.0 ≡ x.0 = one_topology s.topology y.0 x.0 a b y.1 x.1 in
-    one_joins (is_on s a.device) (is_on s b.device) a.device b.device (record s { topology = x.0 }) t u out other (Topologies.cable good.made a b x.1) x.2
-    (subst (λ (p : Topology). Joins (is_on s a.device) (is_on s b.device) a.device b.device (record s { topology = p }) other u) same y.2)
-one_step s t u (ResetBus d) out other good f g = one_resets s t u d out other good.made f.1.2 g.1.2
-one_step s t u (BeginBroadcast overhead) out other good f g = (f.1.3 ∙ sym g.1.3, f.1.4 ∙ sym g.1.4)
-one_step s t u (HalfStep d) out other good f g = (f.1.1 ∙ sym g.1.1, f.1.2 ∙ sym g.1.2)
-one_step s t u (Pass n) out other good f g = (f.1.2 ∙ sym g.1.2, f.1.3 ∙ sym g.1.3)
-one_step s t u EndSecond out other good f g = (f.1.2 ∙ sym g.1.2, f.1.3 ∙ sym g.1.3)
-one_step s t u (Ask x) out other good f g = (f.1.4 ∙ sym g.1.4, f.1.5 ∙ sym g.1.5)
-one_step s t u Answer out other good f g = one_answers s t u out other f g
-one_step s t u (ShowWord d offset word) out other good f g = (f.1.3 ∙ sym g.1.3, f.1.4 ∙ sym g.1.4)
-one_step s t u Finish out other good f g = (f.1.0 ∙ sym g.1.0, f.1.1 ∙ sym g.1.1)
-
-one_steps : (s t u : State) (actions : List Action) (out other : List Timed) → IsGood s → Steps s actions out t → Steps s actions other u → Same out t other u
-one_steps s t u [] out other good f g = (f.0 ∙ sym g.0, f.1 ∙ sym g.1)
-one_steps s t u (a ∷ actions) out other good f g =
-    let first = one_step s f.2 g.2 a f.0 g.0 good f.3 g.3 in
-    let rest = one_steps f.2 t u actions f.1 g.1 (step_led s f.2 a f.0 good f.3).leads.good f.5 (subst (λ z. Steps z actions g.1 u) (sym first.1) g.5) in
-    (f.4 ∙ (ap (λ z. z ++ f.1) first.0 ∙ (ap (λ z. g.0 ++ z) rest.0 ∙ sym g.4)), rest.1)
-
--- ---- commands
-
-one_cable : (t : Topology) (v : View) (r : Result Order RuleFault) (o p : Order) → CableDecided t v r (Ok o) → CableDecided t v r (Ok p) → o ≡ p
-one_cable t v (Ok (Orders.Cable a b)) o p f g = f.0 ∙ sym g.0
-one_cable t v (Ok _) o p f g = absurd f
-one_cable t v (Err fault) o p f g = let no : ⊥ = cc in absurd no
-
-same_order : (o p : Order) (r : Result Order RuleFault) → Ok o ≡ r → Ok p ≡ r → o ≡ p
-same_order o p r f g = let same : Ok o ≡ Ok p = f ∙ sym g in cc
-
-one_order : (t : Topology) (v : View) (c : Command) (o p : Order) → DecidedBy t v c (Ok o) → DecidedBy t v c (Ok p) → o ≡ p
-one_order t v (Commands.Cable a b) o p f g = one_cable t v (order_of v (Commands.Cable a b)) o p f g
-one_order t v c o p f g = same_order o p (order_of v c) f g
+pub one_order : (s : State) (c : Command) (o p : Order) → IsOrder s c o → IsOrder s c p → o ≡ p
+one_order s (Commands.Device name kind ports speed) o p f g = f ∙ sym g
+one_order s (Commands.Cable a b) o p f g =
+    let x = one_end s a f.0 g.0 f.2 g.2 in
+    let y = one_end s b f.1 g.1 f.3 g.3 in
+    f.4 ∙ ((λ i. order.Cable (x i) (y i)) ∙ sym g.4)
+one_order s (Commands.Reset name) o p f g = f.2 ∙ (ap order.Reset (one_name s name f.0 g.0 f.1 g.1) ∙ sym g.2)
+one_order s (Commands.Connect name out into channel overhead) o p f g =
+    let d = one_name s name f.0 g.0 f.2.0 g.2.0 in
+    let e = one_name s out.0 f.2.1.0 g.2.1.0 f.2.1.2 g.2.1.2 in
+    let k = one_name s into.0 f.2.1.1 g.2.1.1 f.2.1.3 g.2.1.3 in
+    let w : f.1 ≡ g.1 = f.2.1.4 ∙ ((λ i. PlugToPlug (plug_of (e i) out) (plug_of (k i) into) channel overhead) ∙ sym g.2.1.4) in
+    f.3 ∙ (one_connect f.0 g.0 f.1 g.1 d w ∙ sym g.3)
+one_order s (Commands.Broadcast name out overhead) o p f g =
+    let d = one_name s name f.0 g.0 f.2.0 g.2.0 in
+    let e = one_name s out.0 f.2.1.0 g.2.1.0 f.2.1.1 g.2.1.1 in
+    let w : f.1 ≡ g.1 = f.2.1.2 ∙ ((λ i. BroadcastOut (plug_of (e i) out) overhead) ∙ sym g.2.1.2) in
+    f.3 ∙ (one_connect f.0 g.0 f.1 g.1 d w ∙ sym g.3)
+one_order s (Commands.Listen name into) o p f g =
+    let d = one_name s name f.0 g.0 f.2.0 g.2.0 in
+    let e = one_name s into.0 f.2.1.0 g.2.1.0 f.2.1.1 g.2.1.1 in
+    let w : f.1 ≡ g.1 = f.2.1.2 ∙ ((λ i. BroadcastIn (plug_of (e i) into)) ∙ sym g.2.1.2) in
+    f.3 ∙ (one_connect f.0 g.0 f.1 g.1 d w ∙ sym g.3)
+one_order s (Commands.Break name slot) o p f g = f.2 ∙ (ap (λ d. order.Break d slot) (one_name s name f.0 g.0 f.1 g.1) ∙ sym g.2)
+one_order s (Commands.Step name count) o p f g = f.2 ∙ (ap (λ d. order.Step d count) (one_name s name f.0 g.0 f.1 g.1) ∙ sym g.2)
+one_order s (Commands.Settle rounds) o p f g = f ∙ sym g
+one_order s (Commands.Wait cycles) o p f g = f ∙ sym g
+one_order s (Commands.Cycles count) o p f g = absurd f.2
+one_order s (Commands.Die name late) o p f g = f.2 ∙ (ap (λ d. order.Die d late) (one_name s name f.0 g.0 f.1 g.1) ∙ sym g.2)
+one_order s (Commands.Start name) o p f g = f.2 ∙ (ap order.Start (one_name s name f.0 g.0 f.1 g.1) ∙ sym g.2)
+one_order s (Commands.Command name other frame) o p f g = absurd f.2
+one_order s (Commands.Read name other offset) o p f g = one_transaction s name other _ o p f g
+one_order s (Commands.Swap name other offset argument new) o p f g = one_transaction s name other _ o p f g
+one_order s (Commands.Insert name tape system) o p f g = absurd f.2
+one_order s (Commands.Eject name) o p f g = absurd f.2
+one_order s (Commands.Show name offset) o p f g = f.2 ∙ (ap (λ d. order.Show d offset) (one_shown s name f.0 g.0 f.1 g.1) ∙ sym g.2)
+one_order s Commands.End o p f g = f ∙ sym g
 
 -- ---- the last command of a run
 
@@ -117,7 +92,7 @@ no_snoc : {T : Type 0} (xs : List T) (x : T) → [] ≡ xs ++ x ∷ [] → ⊥
 no_snoc [] x e = cc e
 no_snoc (y ∷ xs) x e = cc e
 
-snoc_same : {T : Type 0} (xs ys : List T) (x y : T) → xs ++ x ∷ [] ≡ ys ++ y ∷ [] → (xs ≡ ys) × (x ≡ y)
+pub snoc_same : {T : Type 0} (xs ys : List T) (x y : T) → xs ++ x ∷ [] ≡ ys ++ y ∷ [] → (xs ≡ ys) × (x ≡ y)
 snoc_same [] [] x y e = (refl, cc e)
 snoc_same [] (z ∷ ys) x y e = let rest : [] ≡ ys ++ y ∷ [] = cc e in absurd (no_snoc ys y rest)
 snoc_same (w ∷ xs) [] x y e = let rest : xs ++ x ∷ [] ≡ [] = cc e in absurd (no_snoc xs x (sym rest))
@@ -133,16 +108,16 @@ pub record Last (commands : List Command) (c : Command) (actions : List Action) 
   pub state : State
   pub run : Run commands early front state
   pub order : Order
-  pub decided : DecidedBy state.topology (view_of state) c (Ok order)
+  pub decided : Decides state c (Ok order)
+  pub more : List Action
   pub out : List Timed
-  pub steps : Steps state (actions_of state order) out t
-  pub actions_are : actions ≡ early ++ actions_of state order
+  pub carries : Carries state order more out t
+  pub actions_are : actions ≡ early ++ more
   pub log_is : log ≡ front ++ out
 
-pub last_of : (all commands : List Command) (c : Command) (actions : List Action) (log : List Timed) (t : State) → Run all actions log t
-    → all ≡ commands ++ c ∷ [] → Last commands c actions log t
+pub last_of : (all commands : List Command) (c : Command) (actions : List Action) (log : List Timed) (t : State) → Run all actions log t → all ≡ commands ++ c ∷ [] → Last commands c actions log t
 last_of all commands c actions log t begun e = absurd (no_snoc commands c e)
-last_of all commands c actions log t (and_then {commands = cs} {actions = xs} {log = front} {s = mid} r d o out u decided f) e =
+last_of all commands c actions log t (and_then {commands = cs} {actions = xs} {log = front} {s = mid} r d o more out u decided f) e =
     let same = snoc_same cs commands d c e in
     record {
       early = xs;
@@ -150,48 +125,40 @@ last_of all commands c actions log t (and_then {commands = cs} {actions = xs} {l
       state = mid;
       run = subst (λ z. Run z xs front mid) same.0 r;
       order = o;
-      decided = subst (λ z. DecidedBy mid.topology (view_of mid) z (Ok o)) same.1 decided;
+      decided = subst (λ z. Decides mid z (Ok o)) same.1 decided;
+      more = more;
       out = out;
-      steps = f;
+      carries = f;
       actions_are = refl;
       log_is = refl;
     }
 
 -- ---- runs
 
-record SameRun (actions others : List Action) (log other : List Timed) (s t : State) : Type 0 where
-  actions_same : actions ≡ others
-  log_same : log ≡ other
-  state_same : s ≡ t
-
-nothing_done : (all : List Command) (actions : List Action) (log : List Timed) (t : State) → Run all actions log t → [] ≡ all
-    → SameRun [] actions [] log first_state t
-nothing_done all actions log t begun e = record { actions_same = refl; log_same = refl; state_same = refl }
-nothing_done all actions log t (and_then {commands = cs} r c o out u decided f) e = absurd (no_snoc cs c e)
+nothing_done : (all : List Command) (actions : List Action) (log : List Timed) (t : State) → Run all actions log t → [] ≡ all → Same [] first_state log t
+nothing_done all actions log t begun e = (refl, refl)
+nothing_done all actions log t (and_then {commands = cs} r c o more out u decided f) e = absurd (no_snoc cs c e)
 
 run_good : (commands : List Command) (actions : List Action) (log : List Timed) (s : State) → Run commands actions log s → IsGood s
 run_good commands actions log s r = steps_good first_state s actions log first_good (run_steps commands actions log s r)
 
-one_run : (commands : List Command) (actions others : List Action) (log other : List Timed) (s t : State) → Run commands actions log s
-    → Run commands others other t → SameRun actions others log other s t
+-- they need not be the same actions: where nobody has anything to do, rounds may be taken one after another, or at once
+pub one_run : (commands : List Command) (actions others : List Action) (log other : List Timed) (s t : State) → Run commands actions log s → Run commands others other t → Same log s other t
 one_run commands actions others log other s t begun g = nothing_done commands others other t g refl
-one_run commands actions others log other s t (and_then {commands = cs} {actions = xs} {log = front} {s = mid} r c o out u decided f) g = go (last_of commands cs c others other t g refl) (λ others other t g. one_run cs xs others front other mid t r g)
+one_run commands actions others log other s t (and_then {commands = cs} {actions = xs} {log = front} {s = mid} r c o more out u decided f) g = go (last_of commands cs c others other t g refl) (λ others other t g. one_run cs xs others front other mid t r g)
   where
-    go : Last cs c others other t → ((others : List Action) (other : List Timed) (t : State) → Run cs others other t → SameRun xs others front other mid t)
-        → SameRun (xs ++ actions_of mid o) others (front ++ out) other u t
+    go : Last cs c others other t → ((others : List Action) (other : List Timed) (t : State) → Run cs others other t → Same front mid other t) → Same (front ++ out) u other t
     go w same_before =
         let before = same_before w.early w.front w.state w.run in
-        let order : o ≡ w.order = one_order mid.topology (view_of mid) c o w.order decided (subst (λ z. DecidedBy z.topology (view_of z) c (Ok w.order)) (sym before.state_same) w.decided) in
-        let here : Steps mid (actions_of mid w.order) w.out t = subst (λ z. Steps z (actions_of z w.order) w.out t) (sym before.state_same) w.steps in
-        let steps : Steps mid (actions_of mid o) w.out t = subst (λ z. Steps mid (actions_of mid z) w.out t) (sym order) here in
-        let same = one_steps mid u t (actions_of mid o) out w.out (run_good cs xs front mid r) f steps in
-        record {
-          actions_same = ap (λ z. z ++ actions_of mid o) before.actions_same
-              ∙ (ap (λ z. w.early ++ actions_of mid z) order ∙ (ap (λ z. w.early ++ actions_of z w.order) before.state_same ∙ sym w.actions_are));
-          log_same = ap (λ z. z ++ out) before.log_same ∙ (ap (λ z. w.front ++ z) same.0 ∙ sym w.log_is);
-          state_same = same.1;
-        }
+        let order : o ≡ w.order = one_order mid c o w.order decided.0 (subst (λ z. IsOrder z c w.order) (sym before.1) w.decided.0) in
+        let here : CarriedBy mid w.order w.out t = subst (λ z. CarriedBy z w.order w.out t) (sym before.1) (carried w.state w.order w.more w.out t w.carries) in
+        let result = one_carried mid o out w.out u t (run_good cs xs front mid r) (carried mid o more out u f) (subst (λ z. CarriedBy mid z w.out t) (sym order) here) in
+        (ap (λ z. z ++ out) before.0 ∙ (ap (λ z. w.front ++ z) result.0 ∙ sym w.log_is), result.1)
 
-pub one_log : (commands : List Command) (actions others : List Action) (log other : List Timed) (s t : State) → Run commands actions log s
-    → Run commands others other t → log ≡ other
-one_log commands actions others log other s t f g = (one_run commands actions others log other s t f g).log_same
+pub one_log : (commands : List Command) (actions others : List Action) (log other : List Timed) (s t : State) → Run commands actions log s → Run commands others other t → log ≡ other
+one_log commands actions others log other s t f g = (one_run commands actions others log other s t f g).0
+
+-- ---- what decides
+
+pub one_carries : (s : State) (o : Order) (actions others : List Action) (out other : List Timed) (t u : State) → IsGood s → Carries s o actions out t → Carries s o others other u → (out ≡ other) × (t ≡ u)
+one_carries s o actions others out other t u g f h = one_carried s o out other t u g (carried s o actions out t f) (carried s o others other u h)

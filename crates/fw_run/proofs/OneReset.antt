@@ -1,5 +1,5 @@
 -- A bus reset has one entry.
-use Rattle.std.proofs.Common.{◌≡◌, ℕ, zero, suc, ◌<◌, ◌≤◌, ◌==◌, List, [], ◌∷◌, ◌++◌, length, slice_get, get_or, Option, Some, None, refl, ap, sym, subst, ◌∙◌, arith, slice_index_or}
+use Rattle.std.proofs.Common.{◌≡◌, ℕ, zero, suc, ◌<◌, ◌==◌, List, [], ◌++◌, length, get_or, Option, Some, None, refl, ap, sym, subst, ◌∙◌, arith, slice_index_or}
 use Rattle.std.proofs.lemmas.List.{same_lists}
 use Rattle.std.proofs.lemmas.Option.{same_Some, get_or_from_slice_get}
 use Rattle.fw_base.specs.declared.device.DeviceKind.{DeviceKind}
@@ -9,7 +9,7 @@ use Rattle.fw_entry.specs.declared.nodes.NodeRow.{NodeRow}
 use Rattle.fw_tree.specs.declared.facts.PhyFacts.{PhyFacts}
 use Rattle.fw_tree.specs.Cables.{Peers}
 use Rattle.fw_tree.specs.Numbering.{IsManager, Contends, IsSame}
-use Rattle.fw_tree.specs.Numbers.{number_at, AreNodes}
+use Rattle.fw_tree.specs.Numbers.{number_at}
 use Rattle.fw_tree.specs.SelfIds.{ArePackets, no_node, node, node_packets, facts_at}
 use Rattle.fw_tree.specs.Topology.{Topology, IsSound}
 use Rattle.fw_tree.proofs.OneNumberingLaws.{one_numbering}

@@ -1,86 +1,119 @@
 -- A bus reset leads from a good state to a good state.
-use Rattle.std.proofs.Common.{◌≡◌, ◌≢◌, ℕ, ◌+◌, ◌<◌, ◌≤◌, ◌^◌, List, [], ◌∷◌, length, Option, Some, None, refl, ap, sym, subst, ◌∙◌, arith, IsFalse}
+use Rattle.std.proofs.Common.{◌≡◌, ℕ, ◌+◌, ◌<◌, ◌≤◌, ◌&&◌, not, List, length, Bool, true, false, Option, Some, None, is_some, refl, ap, sym, subst, ◌∙◌, cond, arith, IsTrue, IsFalse}
 use Rattle.fw_base.specs.declared.device.DeviceKind.{DeviceKind}
-use Rattle.fw_base.specs.declared.device.DeviceKind.TheVariants.{Deck}
-use Rattle.fw_base.specs.declared.plug.ConnectionKind.{ConnectionKind}
-use Rattle.fw_base.specs.declared.plug.ConnectionKind.TheVariants.{PointToPoint, Broadcast}
-use Rattle.fw_entry.specs.declared.entry.Entry.TheVariants.{Reset}
 use Rattle.fw_entry.specs.declared.entry.ResetEntry.{ResetEntry}
 use Rattle.fw_entry.specs.declared.entry.Timed.{Timed}
-use Rattle.fw_tree.specs.Topology.{Made}
-use Rattle.fw_ledger.specs.Events.{after_reset, no_connections}
-use Rattle.fw_ledger.specs.Sound.{IsSound}
-use Rattle.fw_ledger.proofs.Events.{reset_keeps}
-use Rattle.fw_step.specs.InStep.{connections_of}
-use Rattle.fw_devices.specs.Network.{AreKinds, kind_at}
+use Rattle.fw_tree.specs.Cables.{IsOnBus}
+use Rattle.fw_cmp.specs.Controllers.{first_state as new_controller}
+use Rattle.fw_cmp.specs.Resets.{after_reset as controller_reset}
 use Rattle.fw_devices.specs.Resets.{Shows}
-use Rattle.fw_devices.proofs.EntryLaws.{entry_shows, entry_of_lone_deck}
-use Rattle.fw_run.specs.declared.order.Transaction.{Transaction}
-use Rattle.fw_run.specs.State.{State, epoch_of}
-use Rattle.fw_run.specs.Run.{Resets, after_reset_entry}
-use Rattle.fw_run.specs.Good.{IsGood, IsQuiet, IsLone, InStep, IsAtRest, IsOutsideOfSecond, outstanding_of}
-use Rattle.fw_run.proofs.Leads.{Leads}
+use Rattle.fw_devices.proofs.EntryLaws.{entry_shows}
+use Rattle.fw_reclaim.specs.Worlds.{BusReset, Grows}
+use Rattle.fw_reclaim.specs.Worlds as Worlds
+use Rattle.fw_reclaim.proofs.Together.{goes_on_reclaiming}
+use Rattle.fw_rounds.proofs.Stands.{reset_stands}
+use Rattle.fw_run.specs.State.{State, Declared, epoch_of, linked_number, is_living}
+use Rattle.fw_run.specs.Actions.{Resets, after_reset_entry}
+use Rattle.fw_run.specs.Good.{IsGood, IsLatest, AreDeclared, ManagerContends, world_of}
+use Rattle.fw_run.proofs.Grows.{Follows, number_there, stays_linked, grows, grows_first, manager_contends}
+use Rattle.fw_run.proofs.Turns.{living_linked}
 
--- a state in which a bus reset may begin: the account is sound, the lists are of the same devices, and nothing was asked for
-pub record MayReset (s : State) : Type 0 where
-  pub sound : IsSound s.account
-  pub made : Made s.topology
-  pub kinds : AreKinds s.topology.devices s.kinds
-  pub named : length s.names ≡ length s.topology.devices
-  pub some : 0 < length s.names
-  pub before : IsFalse s.began
-  pub quiet : IsQuiet s
-  pub alone : (d : ℕ) → d ≢ 0 → s.account.addressed d ≡ None
-  pub cycle : s.cycle ≤ 2 ^ 52
-  pub half_steps : s.half_steps ≤ 4000000
-  pub free : s.transaction ≡ None
+-- the state with these devices and cables
+abbrev pub declaring : State → Declared → State
+declaring s n = record s { declared = n }
 
-none_connected : (kind : ConnectionKind) → connections_of 0 kind no_connections ≡ 0
-none_connected PointToPoint = refl
-none_connected Broadcast = refl
+-- A bus reset may begin: each device of the bus stays on it, with its kind.
+pub record MayReset (s : State) (n : Declared) : Type 0 where
+  pub good : IsGood s
+  pub declared : AreDeclared n
+  pub some : 0 < length n.names
+  pub kinds : (e : ResetEntry) → s.account.latest ≡ Some e → n.kinds ≡ s.declared.kinds
+  pub stays : (e : ResetEntry) → s.account.latest ≡ Some e → (d : ℕ) → IsOnBus s.declared.topology.cables d → IsOnBus n.topology.cables d
 
-pub none_waits : (o : Option Transaction) (x : Transaction) → o ≡ None → o ≡ Some x → ⊥
-none_waits o x free waits = let no : None ≡ Some x = sym free ∙ waits in cc
+-- ---- what the entry shows
 
-pub reset_leads : (s : State) (initiator : ℕ) (out : List Timed) (t : State) → MayReset s → (r : Resets s initiator out t) → Leads s (Some (Reset r.entry)) t
-reset_leads s initiator out t m r = record { good = subst IsGood (sym r.state_is) good_; next = ap (λ (x : State). Some x.account) (sym r.state_is) }
+pub reset_shows : (s : State) (n : Declared) (initiator : ℕ) (out : List Timed) (t : State) → MayReset s n → (r : Resets (declaring s n) initiator out t) → Shows n.topology n.kinds r.entry
+reset_shows s n initiator out t m r = entry_shows n.topology n.kinds (epoch_of s.account.latest + 1) initiator r.entry m.declared.made m.declared.kinds r.is_entry
+
+pub reset_follows : (s : State) (n : Declared) (initiator : ℕ) (out : List Timed) (t : State) → MayReset s n → (r : Resets (declaring s n) initiator out t) → (e : ResetEntry) → s.account.latest ≡ Some e → IsLatest (Some e) s → Follows s.declared.topology n.topology n.kinds e r.entry
+reset_follows s n initiator out t m r e is h = record {
+  made = m.declared.made;
+  some = subst (λ k. 0 < k) m.declared.named m.some;
+  before = subst (λ kinds. Shows s.declared.topology kinds e) (sym (m.kinds e is)) h.1;
+  after = reset_shows s n initiator out t m r;
+  stays = m.stays e is;
+}
+
+pub reset_grows : (s : State) (n : Declared) (initiator : ℕ) (out : List Timed) (t : State) → MayReset s n → (r : Resets (declaring s n) initiator out t) → Grows s.account r.entry
+reset_grows s n initiator out t m r = go s.account.latest refl m.good.latest
+  where
+    go : (o : Option ResetEntry) → s.account.latest ≡ o → IsLatest o s → Grows s.account r.entry
+    go None is h = grows_first s.account r.entry is
+    go (Some e) is h =
+        grows s.account s.declared.topology n.topology n.kinds (epoch_of s.account.latest + 1) initiator e r.entry is (reset_follows s n initiator out t m r e is h) r.is_entry m.declared.kinds
+        (subst (λ kinds. ManagerContends kinds e) (sym (m.kinds e is)) h.3)
+
+-- the bus reset, as what happens to all controllers
+pub reset_change : (s : State) (n : Declared) (initiator : ℕ) (out : List Timed) (t : State) → MayReset s n → (r : Resets (declaring s n) initiator out t) → Worlds.IsReset (world_of s) r.entry r.entry.epoch (world_of (after_reset_entry (declaring s n) r.entry))
+reset_change s n initiator out t m r = record {
+  network = (reset_shows s n initiator out t m r).network;
+  grows = reset_grows s n initiator out t m r;
+  account = refl;
+  each = λ c. refl;
+}
+
+-- ---- who lives
+
+still_living : (s : State) (n : Declared) (initiator : ℕ) (out : List Timed) (t : State) → MayReset s n → (r : Resets (declaring s n) initiator out t) → (d : ℕ) → IsTrue (is_living s d) → IsTrue (is_living (after_reset_entry (declaring s n) r.entry) d)
+still_living s n initiator out t m r d lives = go s.account.latest refl m.good.latest
+  where
+    both : (a b : Bool) → a ≡ true → b ≡ true → (a && b) ≡ true
+    both a b x y = grind (arith, x, y)
+
+    second : (a b : Bool) → (a && b) ≡ true → b ≡ true
+    second a b x = grind (arith, x)
+
+    awake : not (s.dead d) ≡ true
+    awake = second (is_some (linked_number s.account.latest d)) (not (s.dead d)) lives
+
+    go : (o : Option ResetEntry) → s.account.latest ≡ o → IsLatest o s → (is_some (linked_number (Some r.entry) d) && not (s.dead d)) ≡ true
+    go None is h = absurd (let on = subst (λ o. IsTrue (is_some (linked_number o d))) is (living_linked s d lives) in grind (arith, on))
+    go (Some e) is h =
+        let a = number_there (linked_number (Some e) d) (subst (λ o. IsTrue (is_some (linked_number o d))) is (living_linked s d lives)) in
+        let b = stays_linked s.declared.topology n.topology n.kinds e r.entry (reset_follows s n initiator out t m r e is h) d a.number a.is in
+        both (is_some (linked_number (Some r.entry) d)) (not (s.dead d)) (ap is_some b.is) awake
+
+-- ---- the state after it
+
+-- where the reset begins a second, that is over later, and by 8000 cycles at most
+begins : (b : Bool) (n : ℕ) → b ≡ true → n < cond b (n + 8000) n
+begins true n e = omega arith
+begins false n e = cc e
+
+within : (b : Bool) (n : ℕ) → cond b (n + 8000) n ≤ n + 8000
+within true n = omega arith
+within false n = omega arith
+
+pub reset_good : (s : State) (n : Declared) (initiator : ℕ) (out : List Timed) (t : State) → MayReset s n → Resets (declaring s n) initiator out t → IsGood t
+reset_good s n initiator out t m r = subst IsGood (sym r.state_is) (record {
+  declared = m.declared;
+  latest = (m.some, reset_shows s n initiator out t m r, few, manager_contends n.topology n.kinds (epoch_of s.account.latest + 1) initiator e r.is_entry (reset_shows s n initiator out t m r) m.declared.kinds);
+  reclaims = goes_on_reclaiming (world_of s) (world_of u) (BusReset e e.epoch) m.good.reclaims (reset_change s n initiator out t m r);
+  stands = λ d. reset_stands e.epoch (s.controllers d) (m.good.stands d);
+  unused = λ d off. unused d (is_living s d) refl off;
+  time = record { second = begins (is_some s.account.latest) s.clock.cycle; over_at = within (is_some s.account.latest) s.clock.cycle; cycle = m.good.time.cycle };
+  half_steps = m.good.half_steps;
+})
   where
     e : ResetEntry
     e = r.entry
 
-    shows : Shows s.topology s.kinds e
-    shows = entry_shows s.topology s.kinds (epoch_of s.account.latest + 1) initiator e m.made m.kinds r.is_entry
+    u : State
+    u = after_reset_entry (declaring s n) e
 
-    single_ : s.kinds ≡ Deck ∷ [] → IsLone (Some e)
-    single_ is =
-        let one : length s.topology.devices ≡ 1 = sym m.kinds.size ∙ ap (λ (xs : List DeviceKind). length xs) is in
-        let deck : kind_at s.kinds 0 ≡ Deck = ap (λ xs. kind_at xs 0) is in
-        (epoch_of s.account.latest + 1, e.ids, ap (λ (x : ResetEntry). Some x) (entry_of_lone_deck s.topology s.kinds (epoch_of s.account.latest + 1) initiator e m.made m.kinds one deck r.is_entry))
+    few : e.epoch ≤ 10000
+    few = let is = r.is_entry.epoch_is in let few = r.few in omega (arith, is, few)
 
-    epoch_ : e.epoch ≤ 10000
-    epoch_ = let is = r.is_entry.epoch_is in let few = r.few in omega (arith, is, few)
-
-    rest : IsAtRest (after_reset e s.account) s.others
-    rest = record { no_pending = λ ch. refl; connections = λ kind q. none_connected kind ∙ sym (m.quiet.others kind q) }
-
-    good_ : IsGood (after_reset_entry s e)
-    good_ = record {
-      sound = reset_keeps e s.account shows.network m.sound;
-      made = m.made;
-      kinds = m.kinds;
-      named = m.named;
-      latest = (m.some, shows, epoch_);
-      quiet = λ before. record { idle = m.quiet.idle; others = m.quiet.others };
-      single = single_;
-      lone = λ began. let before = m.before in let no : ⊥ = cc in absurd no;
-      step = subst (λ c. InStep (after_reset e s.account) c s.others) (sym m.quiet.idle) rest;
-      outstanding = sym (ap outstanding_of m.quiet.idle);
-      outside = subst (λ c. IsOutsideOfSecond (after_reset e s.account) c) (sym m.quiet.idle) tt;
-      alone = m.alone;
-      second = λ runs. omega arith;
-      reset_cycle = omega arith;
-      cycle = m.cycle;
-      half_steps = m.half_steps;
-      bus_manager_id = omega arith;
-      asks = λ x waits. absurd (none_waits s.transaction x m.free waits);
-    }
+    unused : (d : ℕ) (b : Bool) → is_living s d ≡ b → IsFalse (is_living u d) → controller_reset e.epoch (s.controllers d) ≡ new_controller
+    unused d true lives off = absurd (let on = still_living s n initiator out t m r d lives in grind (arith, on, off))
+    unused d false rests off = ap (controller_reset e.epoch) (m.good.unused d rests)

@@ -96,27 +96,27 @@ space_shows s d n offset register g numbered at = go s.account.latest refl g.lat
         three false false false ta tb tc f = let no : ⊥ = cc in absurd no
 
     -- the plugs' registers
-    outputs : (r : Register) (o : Option ℕ) → plug_number first_output offset ≡ o → output_register (row_of d (kind_at s.kinds d)) o ≡ Some r → Shown r
+    outputs : (r : Register) (o : Option ℕ) → plug_number first_output offset ≡ o → output_register (row_of d (kind_at s.declared.kinds d)) o ≡ Some r → Shown r
     outputs r None t e = let no : ⊥ = cc in absurd no
-    outputs r (Some k) t e = bounded (nat_lt k (output_plugs_of (kind_at s.kinds d))) refl e
+    outputs r (Some k) t e = bounded (nat_lt k (output_plugs_of (kind_at s.declared.kinds d))) refl e
       where
         p : IsPlugAt first_output offset k
         p = plug_at_offset first_output offset k t
 
-        bounded : (b : Bool) → nat_lt k (output_plugs_of (kind_at s.kinds d)) ≡ b → cond b (Some (OutputPlug (at_plug d k))) None ≡ Some r → Shown r
+        bounded : (b : Bool) → nat_lt k (output_plugs_of (kind_at s.declared.kinds d)) ≡ b → cond b (Some (OutputPlug (at_plug d k))) None ≡ Some r → Shown r
         bounded true lt f =
             let same : OutputPlug (at_plug d k) ≡ r = cc in
             subst Shown same (subst (λ o. Spaces.register_at (space_at s d n) (first_address + o) ≡ Some (ReadSwap (word_of s.account (OutputPlug (at_plug d k))))) (sym p.place) (output_in_space (space_at s d n) k p.few lt))
         bounded false lt f = let no : ⊥ = cc in absurd no
 
-    inputs : (r : Register) (o : Option ℕ) → plug_number first_input offset ≡ o → input_register (row_of d (kind_at s.kinds d)) o ≡ Some r → Shown r
+    inputs : (r : Register) (o : Option ℕ) → plug_number first_input offset ≡ o → input_register (row_of d (kind_at s.declared.kinds d)) o ≡ Some r → Shown r
     inputs r None t e = let no : ⊥ = cc in absurd no
-    inputs r (Some k) t e = bounded (nat_lt k (input_plugs_of (kind_at s.kinds d))) refl e
+    inputs r (Some k) t e = bounded (nat_lt k (input_plugs_of (kind_at s.declared.kinds d))) refl e
       where
         p : IsPlugAt first_input offset k
         p = plug_at_offset first_input offset k t
 
-        bounded : (b : Bool) → nat_lt k (input_plugs_of (kind_at s.kinds d)) ≡ b → cond b (Some (InputPlug (at_plug d k))) None ≡ Some r → Shown r
+        bounded : (b : Bool) → nat_lt k (input_plugs_of (kind_at s.declared.kinds d)) ≡ b → cond b (Some (InputPlug (at_plug d k))) None ≡ Some r → Shown r
         bounded true lt f =
             let same : InputPlug (at_plug d k) ≡ r = cc in
             subst Shown same (subst (λ o. Spaces.register_at (space_at s d n) (first_address + o) ≡ Some (ReadSwap (word_of s.account (InputPlug (at_plug d k))))) (sym p.place) (input_in_space (space_at s d n) k p.few lt))
@@ -126,7 +126,7 @@ space_shows s d n offset register g numbered at = go s.account.latest refl g.lat
     go None is h num e = let no : ⊥ = cc in absurd no
     go (Some e) is h num f = or_either Shown (cond (is_node n e.manager) (manager_register offset) None) (plug_register (slice_get e.nodes n) offset) register f first second
       where
-        row : slice_get e.nodes n ≡ Some (row_of d (kind_at s.kinds d))
+        row : slice_get e.nodes n ≡ Some (row_of d (kind_at s.declared.kinds d))
         row = h.1.numbers d n num
 
         first : cond (is_node n e.manager) (manager_register offset) None ≡ Some register → Shown register
@@ -137,5 +137,5 @@ space_shows s d n offset register g numbered at = go s.account.latest refl g.lat
             when false t y = let no : ⊥ = cc in absurd no
 
         second : plug_register (slice_get e.nodes n) offset ≡ Some register → Shown register
-        second x = or_either Shown (output_register (row_of d (kind_at s.kinds d)) (plug_number first_output offset)) (input_register (row_of d (kind_at s.kinds d)) (plug_number first_input offset)) register (ap (λ o. plug_register o offset) (sym row) ∙ x)
+        second x = or_either Shown (output_register (row_of d (kind_at s.declared.kinds d)) (plug_number first_output offset)) (input_register (row_of d (kind_at s.declared.kinds d)) (plug_number first_input offset)) register (ap (λ o. plug_register o offset) (sym row) ∙ x)
             (outputs register (plug_number first_output offset) refl) (inputs register (plug_number first_input offset) refl)

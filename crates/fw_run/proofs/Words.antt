@@ -1,161 +1,75 @@
--- A request of the deck's controller leaves the words of its node equal to those of the account.
-use Rattle.std.proofs.Common.{◌≡◌, ◌≢◌, ℕ, ◌+◌, ◌*◌, ◌^◌, ◌<◌, Bool, true, false, Option, Some, None, eqb, cond, refl, ap, sym, subst, ◌∙◌, arith, ◌⊎◌, inl, inr}
-use Rattle.std.specs.Int.{to_be_bytes, w32}
+-- A complete answer of a node shows the word of the account, where the account has the register.
+use Rattle.std.proofs.Common.{◌≡◌, ℕ, ◌+◌, ◌-◌, ◌^◌, ◌<◌, ◌≤◌, ◌&&◌, nat_le, nat_lt, length, cond, Bool, true, false, Option, Some, None, is_some, unwrap_or, option_map, refl, ap, sym, subst, ◌∙◌, arith, IsTrue}
 use Rattle.std.proofs.lemmas.Bool.Decides.{nat_tests}
-use Rattle.std.proofs.lemmas.Bool.{cases_eq}
-use Rattle.fw_base.specs.declared.plug.PlugAt.{PlugAt}
-use Rattle.fw_base.specs.Tables.{at_plug}
-use Rattle.fw_words.specs.Quadlet.{quadlet_at}
-use Rattle.fw_csr.specs.declared.request.Request.{Request as RegisterRequest}
-use Rattle.fw_csr.specs.declared.request.Request.TheVariants as Asks
-use Rattle.fw_csr.specs.Manager.{ManagerWords, after_at, words_after}
-use Rattle.fw_cmp.specs.declared.request.Register.{Register}
-use Rattle.fw_cmp.specs.declared.request.Register.TheVariants.{OutputPlug, Channels, BandwidthAvailable}
-use Rattle.fw_cmp.specs.declared.request.Swap.{Swap}
-use Rattle.fw_ledger.specs.Account.{Account}
-use Rattle.fw_ledger.specs.Words.{word_of, BandwidthAvailable as BandwidthRegister, ChannelsAvailable, OutputPlug as OutputPlugRegister, InputPlug}
-use Rattle.fw_ledger.specs.Moves.{Move, AllocateChannel, AllocateUnits, ConnectFirst, ConnectOverlaid, ConnectInput, DisconnectInput, DisconnectOutput, ReleaseUnits, ReleaseChannel, after}
-use Rattle.fw_step.specs.InStep.{SameElsewhere, moves_at, word_at}
-use Rattle.fw_node.specs.Packets.{request_in}
-use Rattle.fw_run.specs.Packets.{request_by, offset_of, swap_bytes}
-use Rattle.fw_run.specs.Run.{own_plug}
-use Rattle.fw_run.proofs.Accounts.{IsAsked, quadlet_first, quadlet_second}
+use Rattle.fw_csr.specs.declared.register.Register.TheVariants.{ReadSwap}
+use Rattle.fw_csr.specs.declared.request.Swap.{Swap}
+use Rattle.fw_entry.specs.declared.entry.ResetEntry.{ResetEntry}
+use Rattle.fw_entry.specs.declared.nodes.NodeRow.{NodeRow}
+use Rattle.fw_entry.specs.Network.{first_id, node_of_device}
+use Rattle.fw_ledger.specs.Words.{Register, word_of, register_at, register_of, node_of, first_address}
+use Rattle.fw_ledger.proofs.Bounds.{register_there, word_below}
+use Rattle.fw_ledger.proofs.Places.{register_at_address}
+use Rattle.fw_cmp.specs.Requests.{request_at}
+use Rattle.fw_node.specs.Space as Spaces
+use Rattle.fw_node.specs.Space.{answer_of}
+use Rattle.fw_run.specs.State.{State, number_in, device_in}
+use Rattle.fw_run.specs.Spaces.{space_at, space_of_node, reply_from}
+use Rattle.fw_run.specs.Good.{IsGood, IsLatest}
+use Rattle.fw_run.proofs.Answers.{answered}
+use Rattle.fw_run.proofs.Shown.{space_shows}
 
--- what a request packet of the controller asks of a register
-abbrev pub asks_of : Register → Option Swap → RegisterRequest
-asks_of r None = Asks.Read (offset_of r)
-asks_of r (Some s) = Asks.Lock (offset_of r) 2 (swap_bytes s)
+-- ---- the number of a device on the bus
 
-pub asks_same : (r : Register) (o : Option Swap) → request_in (request_by r o) ≡ Some (asks_of r o)
-asks_same r None = refl
-asks_same r (Some s) = refl
-
--- the words of the manager's registers
-abbrev pub manager_of : ℕ → Account → ManagerWords
-manager_of id l = record { bus_manager_id = id; bandwidth_available = word_of l BandwidthRegister; channels_available_hi = word_of l (ChannelsAvailable 0); channels_available_lo = word_of l (ChannelsAvailable 32) }
-
--- the words of one account after a request are those of another
-pub record Kept (r : RegisterRequest) (l m : Account) : Type 0 where
-  pub output : (k : ℕ) → after_at (0xFFFF_F000_0904 + 4 * k) r (word_of l (OutputPlugRegister (at_plug 0 k))) ≡ word_of m (OutputPlugRegister (at_plug 0 k))
-  pub input : (k : ℕ) → after_at (0xFFFF_F000_0984 + 4 * k) r (word_of l (InputPlug (at_plug 0 k))) ≡ word_of m (InputPlug (at_plug 0 k))
-  pub manager : (id : ℕ) → words_after (manager_of id l) r ≡ manager_of id m
-
--- ---- a read
-
-after_read : (place offset w : ℕ) → after_at place (Asks.Read offset) w ≡ w
-after_read place offset w = go (eqb offset place)
+pub number_of_on : (latest : Option ResetEntry) (d : ℕ) → IsTrue (is_some (number_in latest d)) → number_in latest d ≡ Some (node_of latest d)
+number_of_on None d on = absurd (grind (arith, on))
+number_of_on (Some e) d on = go (nat_lt (node_of_device e.nodes d) (length e.nodes)) on
   where
-    go : (b : Bool) → cond b w w ≡ w
-    go true = refl
-    go false = refl
+    go : (b : Bool) → IsTrue (is_some {T = ℕ} (cond b (Some (node_of_device e.nodes d)) None)) → cond b (Some (node_of_device e.nodes d)) None ≡ Some (node_of_device e.nodes d)
+    go true num = refl
+    go false num = absurd (grind (arith, num))
 
-pub read_keeps : (offset : ℕ) (l : Account) → Kept (Asks.Read offset) l l
-read_keeps offset l = record {
-  output = λ k. after_read (0xFFFF_F000_0904 + 4 * k) offset _;
-  input = λ k. after_read (0xFFFF_F000_0984 + 4 * k) offset _;
-  manager = λ id i. record {
-    bus_manager_id = after_read 0xFFFF_F000_021C offset id i;
-    bandwidth_available = after_read 0xFFFF_F000_0220 offset (word_of l BandwidthRegister) i;
-    channels_available_hi = after_read 0xFFFF_F000_0224 offset (word_of l (ChannelsAvailable 0)) i;
-    channels_available_lo = after_read 0xFFFF_F000_0228 offset (word_of l (ChannelsAvailable 32)) i;
-  };
-}
-
--- ---- a compare_swap
-
-is_equal : (a b : ℕ) → a ≡ b → eqb a b ≡ true
-is_equal a b e = grind (arith, nat_tests)
-
-is_other : (a b : ℕ) → a ≢ b → eqb a b ≡ false
-is_other a b ne = grind (arith, nat_tests)
-
--- the word was the argument and is the new value, or it was not and is the same
-abbrev pub IsSwapped : Swap → ℕ → ℕ → Type 0
-IsSwapped s old new = ((old ≡ s.arg) × (new ≡ s.new) × (s.new < 2 ^ 32)) ⊎ ((old ≢ s.arg) × (new ≡ old))
-
--- one register, where the swap is there and where it is elsewhere
-swap_at : (place offset old new : ℕ) (s : Swap) → s.arg < 2 ^ 32 → (offset ≡ place → IsSwapped s old new) → (offset ≢ place → new ≡ old) → after_at place (Asks.Lock offset 2 (swap_bytes s)) old ≡ new
-swap_at place offset old new s below here other = go (cases_eq offset place)
+-- the device of its node is itself
+pub device_of_number : (s : State) (d n : ℕ) → IsGood s → number_in s.account.latest d ≡ Some n → device_in s.account.latest n ≡ Some d
+device_of_number s d n g at = go s.account.latest g.latest at
   where
-    here_ : IsSwapped s old new → cond (eqb old s.arg) (quadlet_at (swap_bytes s) 4) old ≡ new
-    here_ (inl h) = ap (λ b. cond b (quadlet_at (swap_bytes s) 4) old) (is_equal old s.arg h.0) ∙ (quadlet_second s.arg s.new h.2 ∙ sym h.1)
-    here_ (inr h) = ap (λ b. cond b (quadlet_at (swap_bytes s) 4) old) (is_other old s.arg h.0) ∙ sym h.1
+    go : (o : Option ResetEntry) → IsLatest o s → number_in o d ≡ Some n → device_in o n ≡ Some d
+    go None h x = absurd (grind (arith, x))
+    go (Some e) h x = ap (option_map (λ (r : NodeRow). r.device)) (h.1.numbers d n x)
 
-    go : (offset ≡ place) ⊎ (offset ≢ place) → after_at place (Asks.Lock offset 2 (swap_bytes s)) old ≡ new
-    go (inl e) =
-        ap (λ b. cond b (cond (eqb old (quadlet_at (swap_bytes s) 0)) (quadlet_at (swap_bytes s) 4) old) old) (is_equal offset place e)
-        ∙ (ap (λ a. cond (eqb old a) (quadlet_at (swap_bytes s) 4) old) (quadlet_first s.arg (to_be_bytes w32 s.new) below) ∙ here_ (here e))
-    go (inr ne) = ap (λ b. cond b (cond (eqb old (quadlet_at (swap_bytes s) 0)) (quadlet_at (swap_bytes s) 4) old) old) (is_other offset place ne) ∙ sym (other ne)
+pub node_space_of : (s : State) (d n : ℕ) → IsGood s → number_in s.account.latest d ≡ Some n → space_of_node s n ≡ space_at s d n
+node_space_of s d n g at = ap (λ o. space_at s (unwrap_or o 0) n) (device_of_number s d n g at)
 
--- the input plugs are as they were
-pub record SameInputs (l m : Account) : Type 0 where
-  pub inputs : m.inputs ≡ l.inputs
-  pub channels : m.input_channel ≡ l.input_channel
+-- ---- a register of the account
 
-pub same_input : (l m : Account) (p : PlugAt) → SameInputs l m → word_of m (InputPlug p) ≡ word_of l (InputPlug p)
-same_input l m p e = λ i. word_of (record l { inputs = e.inputs i; input_channel = e.channels i }) (InputPlug p)
+-- where a node ID and an address name a register
+record Named (s : State) (n address : ℕ) (register : Register) : Type 0 where
+  offset : ℕ
+  place : first_address + offset ≡ address
+  at : register_at s.account.latest n offset ≡ Some register
 
-pub swap_keeps : (l m : Account) (r : Register) (s : Swap) → IsAsked r → s.arg < 2 ^ 32 → IsSwapped s (word_at l own_plug r) (word_at m own_plug r) → SameElsewhere own_plug (Some r) l m → SameInputs l m → Kept (Asks.Lock (offset_of r) 2 (swap_bytes s)) l m
-swap_keeps l m OutputPlug s asks below here e i = record {
-  output = λ k. swap_at (0xFFFF_F000_0904 + 4 * k) 0xFFFF_F000_0904 _ _ s below
-      (λ place. let first : 0 ≡ k = omega arith in subst (λ k. IsSwapped s (word_of l (OutputPlugRegister (at_plug 0 k))) (word_of m (OutputPlugRegister (at_plug 0 k)))) first here)
-      (λ place. e.outputs (at_plug 0 k) (inr (λ same. let first : k ≡ 0 = ap (λ (p : PlugAt). p.plug) same in place (omega arith))));
-  input = λ k. swap_at (0xFFFF_F000_0984 + 4 * k) 0xFFFF_F000_0904 _ _ s below (λ place. absurd (omega arith)) (λ place. same_input l m (at_plug 0 k) i);
-  manager = λ id i. record {
-    bus_manager_id = id;
-    bandwidth_available = sym (e.remainder (grind arith)) i;
-    channels_available_hi = sym (e.halves 0 (inl refl) (grind arith)) i;
-    channels_available_lo = sym (e.halves 32 (inr refl) (grind arith)) i;
-  };
-}
-swap_keeps l m BandwidthAvailable s asks below here e i = record {
-  output = λ k. swap_at (0xFFFF_F000_0904 + 4 * k) 0xFFFF_F000_0220 _ _ s below (λ place. absurd (omega arith)) (λ place. e.outputs (at_plug 0 k) (inl (grind arith)));
-  input = λ k. swap_at (0xFFFF_F000_0984 + 4 * k) 0xFFFF_F000_0220 _ _ s below (λ place. absurd (omega arith)) (λ place. same_input l m (at_plug 0 k) i);
-  manager = λ id i. record {
-    bus_manager_id = id;
-    bandwidth_available = swap_at 0xFFFF_F000_0220 0xFFFF_F000_0220 (word_of l BandwidthRegister) (word_of m BandwidthRegister) s below (λ place. here) (λ place. absurd (place refl)) i;
-    channels_available_hi = sym (e.halves 0 (inl refl) (grind arith)) i;
-    channels_available_lo = sym (e.halves 32 (inr refl) (grind arith)) i;
-  };
-}
-swap_keeps l m (Channels base) s (inl z) below here e i = subst (λ b. IsSwapped s (word_at l own_plug (Channels b)) (word_at m own_plug (Channels b)) → SameElsewhere own_plug (Some (Channels b)) l m → Kept (Asks.Lock (offset_of (Channels b)) 2 (swap_bytes s)) l m) (sym z) (λ here' e'. record {
-  output = λ k. swap_at (0xFFFF_F000_0904 + 4 * k) 0xFFFF_F000_0224 _ _ s below (λ place. absurd (omega arith)) (λ place. e'.outputs (at_plug 0 k) (inl (grind arith)));
-  input = λ k. swap_at (0xFFFF_F000_0984 + 4 * k) 0xFFFF_F000_0224 _ _ s below (λ place. absurd (omega arith)) (λ place. same_input l m (at_plug 0 k) i);
-  manager = λ id i. record {
-    bus_manager_id = id;
-    bandwidth_available = sym (e'.remainder (grind arith)) i;
-    channels_available_hi = swap_at 0xFFFF_F000_0224 0xFFFF_F000_0224 (word_of l (ChannelsAvailable 0)) (word_of m (ChannelsAvailable 0)) s below (λ place. here') (λ place. absurd (place refl)) i;
-    channels_available_lo = sym (e'.halves 32 (inr refl) (grind arith)) i;
-  };
-}) here e
-swap_keeps l m (Channels base) s (inr z) below here e i = subst (λ b. IsSwapped s (word_at l own_plug (Channels b)) (word_at m own_plug (Channels b)) → SameElsewhere own_plug (Some (Channels b)) l m → Kept (Asks.Lock (offset_of (Channels b)) 2 (swap_bytes s)) l m) (sym z) (λ here' e'. record {
-  output = λ k. swap_at (0xFFFF_F000_0904 + 4 * k) 0xFFFF_F000_0228 _ _ s below (λ place. absurd (omega arith)) (λ place. e'.outputs (at_plug 0 k) (inl (grind arith)));
-  input = λ k. swap_at (0xFFFF_F000_0984 + 4 * k) 0xFFFF_F000_0228 _ _ s below (λ place. absurd (omega arith)) (λ place. same_input l m (at_plug 0 k) i);
-  manager = λ id i. record {
-    bus_manager_id = id;
-    bandwidth_available = sym (e'.remainder (grind arith)) i;
-    channels_available_hi = sym (e'.halves 0 (inl refl) (grind arith)) i;
-    channels_available_lo = swap_at 0xFFFF_F000_0228 0xFFFF_F000_0228 (word_of l (ChannelsAvailable 32)) (word_of m (ChannelsAvailable 32)) s below (λ place. here') (λ place. absurd (place refl)) i;
-  };
-}) here e
+named : (s : State) (n address : ℕ) (register : Register) → register_of s.account.latest (first_id + n) address ≡ Some register → Named s n address register
+named s n address register e = go (nat_le first_address address) refl
+  where
+    go : (b : Bool) → nat_le first_address address ≡ b → Named s n address register
+    go true t =
+        let low : first_address ≤ address = grind (arith, nat_tests) in
+        let place : first_address + (address - first_address) ≡ address = omega (arith, low) in
+        record { offset = address - first_address; place = place; at = sym (register_at_address s.account.latest n (address - first_address)) ∙ (ap (register_of s.account.latest (first_id + n)) place ∙ e) }
+    go false t =
+        let none : register_of s.account.latest (first_id + n) address ≡ None = off (nat_le first_id (first_id + n)) (nat_le first_address address) (register_at s.account.latest (first_id + n - first_id) (address - first_address)) t in
+        absurd (grind (arith, none, e))
+      where
+        off : (a b : Bool) (o : Option Register) → b ≡ false → cond (a && b) o None ≡ None
+        off a b o f = grind (arith, f)
 
--- a swap that fails leaves the account
-pub fails_keep : (l : Account) (r : Register) (s : Swap) → IsAsked r → s.arg < 2 ^ 32 → word_at l own_plug r ≢ s.arg → Kept (Asks.Lock (offset_of r) 2 (swap_bytes s)) l l
-fails_keep l r s asks below ne = swap_keeps l l r s asks below (inr (ne, refl)) (record { remainder = λ x. refl; halves = λ base half x. refl; outputs = λ q x. refl }) (record { inputs = refl; channels = refl })
+-- its word is what a read or a compare_swap of a quadlet shows
+pub answers_word : (s : State) (d n address : ℕ) (w : Option Swap) (register : Register) → IsGood s → number_in s.account.latest d ≡ Some n
+    → register_of s.account.latest (first_id + n) address ≡ Some register → reply_from s n (request_at address w) ≡ record { rcode = 0; value = word_of s.account register }
+answers_word s d n address w register g at e =
+    let x = named s n address register e in
+    ap (λ z. (answer_of z (request_at address w)).reply) (node_space_of s d n g at)
+    ∙ answered (space_at s d n) address w (word_of s.account register) (subst (λ k. Spaces.register_at (space_at s d n) k ≡ Some (ReadSwap (word_of s.account register))) x.place (space_shows s d n x.offset register g at x.at))
 
--- a move at an output plug or at the manager leaves the input plugs
-pub inputs_stay : (c : ℕ) (p : PlugAt) (m : Move) (l : Account) (r : Register) → moves_at m ≡ Some r → SameInputs l (after c p m l)
-inputs_stay c p (AllocateChannel ch) l r e = record { inputs = refl; channels = refl }
-inputs_stay c p (AllocateUnits ch u) l r e = record { inputs = refl; channels = refl }
-inputs_stay c p (ConnectFirst kind ch overhead) l r e = record { inputs = refl; channels = refl }
-inputs_stay c p (ConnectOverlaid kind) l r e = record { inputs = refl; channels = refl }
-inputs_stay c p (ConnectInput kind ch) l r e = let no : ⊥ = cc in absurd no
-inputs_stay c p (DisconnectInput kind) l r e = let no : ⊥ = cc in absurd no
-inputs_stay c p (DisconnectOutput kind) l r e = record { inputs = refl; channels = refl }
-inputs_stay c p (ReleaseUnits ch u) l r e = record { inputs = refl; channels = refl }
-inputs_stay c p (ReleaseChannel ch) l r e = record { inputs = refl; channels = refl }
-
--- the words of all input plugs and of the output plugs but the deck's own are as they were
-pub record SamePlugs (l m : Account) : Type 0 where
-  pub outputs : (p : PlugAt) → p ≢ own_plug → word_of m (OutputPlugRegister p) ≡ word_of l (OutputPlugRegister p)
-  pub inputs : (p : PlugAt) → word_of m (InputPlug p) ≡ word_of l (InputPlug p)
+-- it is a quadlet
+pub register_below : (s : State) (n address : ℕ) (register : Register) → IsGood s → register_of s.account.latest (first_id + n) address ≡ Some register → word_of s.account register < 2 ^ 32
+register_below s n address register g e = let x = named s n address register e in word_below s.account register g.reclaims.step.sound (register_there s.account.latest n x.offset register x.at)

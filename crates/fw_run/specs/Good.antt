@@ -1,133 +1,51 @@
 -- What holds of each state of a run.
-use Rattle.std.specs.Prelude.{ℕ, ◌<◌, ◌≤◌, ◌^◌, ◌≡◌, ◌≢◌, List, [], ◌∷◌, length, Option, Some, None, IsTrue, IsFalse, ⊤}
-use Rattle.fw_base.specs.declared.plug.PlugAt.{PlugAt}
-use Rattle.fw_base.specs.declared.plug.ConnectionKind.{ConnectionKind}
-use Rattle.fw_base.specs.declared.device.DeviceKind.TheVariants.{Deck}
-use Rattle.fw_phy.specs.declared.packet.PhyPacket.{PhyPacket}
+use Rattle.std.specs.Prelude.{ℕ, ◌+◌, ◌<◌, ◌≤◌, ◌^◌, ◌≡◌, List, [], length, Option, Some, None, IsTrue, IsFalse, ⊤}
 use Rattle.fw_entry.specs.declared.entry.ResetEntry.{ResetEntry}
-use Rattle.fw_cmp.specs.declared.job.Job.{Job}
-use Rattle.fw_cmp.specs.declared.job.Outcome.{Outcome}
-use Rattle.fw_cmp.specs.declared.job.Outcome.TheVariants.{NoChannel, NoUnits, PlugFull}
-use Rattle.fw_cmp.specs.declared.job.Then.{Then}
-use Rattle.fw_cmp.specs.declared.job.Then.TheVariants.{EndsAs, Again}
-use Rattle.fw_cmp.specs.declared.stage.Stage.{Stage}
-use Rattle.fw_cmp.specs.declared.stage.Stage.TheVariants.{OutputConnected, ReadOutputToLeave, LeaveOutput, ReadBandwidthToRelease, RaiseBandwidth, ReadChannelsToRelease, RestoreChannel, Ended}
-use Rattle.fw_cmp.specs.Stages.{request_of, WordsFit}
-use Rattle.fw_cmp.specs.declared.request.Request.{Request}
 use Rattle.fw_tree.specs.Topology.{Made}
-use Rattle.fw_ledger.specs.Account.{Account, Request as OutstandingRequest}
 use Rattle.fw_ledger.specs.Fold.{no_account}
-use Rattle.fw_ledger.specs.Moves.{HasNoPending}
-use Rattle.fw_ledger.specs.Sound.{IsSound}
-use Rattle.fw_step.specs.InStep.{IsInStep, IsJob, connections_of}
-use Rattle.fw_devices.specs.Network.{AreKinds}
-use Rattle.fw_devices.specs.Entries.{lone_deck}
+use Rattle.fw_base.specs.declared.device.DeviceKind.{DeviceKind}
+use Rattle.fw_base.specs.Devices.{is_contender}
+use Rattle.fw_devices.specs.Network.{AreKinds, kind_at}
+use Rattle.fw_devices.specs.Entries.{node_number}
 use Rattle.fw_devices.specs.Resets.{Shows}
-use Rattle.fw_run.specs.declared.controller.Controller.{Controller}
-use Rattle.fw_run.specs.declared.controller.Controller.TheVariants.{Idle, Waiting, Asking, Hearing}
-use Rattle.fw_run.specs.Packets.{request_record}
-use Rattle.fw_run.specs.declared.order.Transaction.{Transaction}
-use Rattle.fw_run.specs.State.{State, is_on, over_at}
-use Rattle.fw_run.specs.Run.{own_plug}
+use Rattle.fw_cmp.specs.Controllers.{first_state as new_controller}
+use Rattle.fw_reclaim.specs.Worlds.{World, CanReclaim}
+use Rattle.fw_rounds.specs.HalfSteps.{AsksWhatStands}
+use Rattle.fw_run.specs.State.{State, Declared, directory_of, is_living}
 
--- a controller with no current job has no Pending allocation, and its connections are those of its slots
-pub record IsAtRest (l : Account) (others : ConnectionKind → PlugAt → ℕ) : Type 0 where
-  pub no_pending : HasNoPending 0 l.allocations
-  pub connections : (kind : ConnectionKind) (q : PlugAt) → connections_of 0 kind (l.outputs q) ≡ others kind q
+-- the account, all controllers, and what they know of the bus
+abbrev pub world_of : State → World
+world_of s = record { account = s.account; controllers = s.controllers; directory = directory_of s }
 
--- a job at the deck's own plug
-pub record IsOwnJob (j : Job) : Type 0 where
-  pub job : IsJob j
-  pub plug : j.plug ≡ own_plug
+-- the lists are of the same devices, whose PHYs say what their kinds have
+pub record AreDeclared (n : Declared) : Type 0 where
+  pub made : Made n.topology
+  pub kinds : AreKinds n.topology.devices n.kinds
+  pub named : length n.names ≡ length n.topology.devices
 
--- the value that an outcome shows is a quadlet
-abbrev pub ShowsQuadlet : Outcome → Type 0
-ShowsQuadlet (NoChannel word) = word < 2 ^ 32
-ShowsQuadlet (NoUnits remainder) = remainder < 2 ^ 32
-ShowsQuadlet (PlugFull word) = word < 2 ^ 32
-ShowsQuadlet _ = ⊤
-
-abbrev pub ThenShows : Then → Type 0
-ThenShows (EndsAs o) = ShowsQuadlet o
-ThenShows Again = ⊤
-
--- so is the value with which a stage ends its job, or is to end it
-abbrev pub EndFits : Stage → Type 0
-EndFits (OutputConnected channel) = channel < 64
-EndFits (ReadOutputToLeave next) = ThenShows next
-EndFits (LeaveOutput next arg) = ThenShows next
-EndFits (ReadBandwidthToRelease next ch u) = ThenShows next
-EndFits (RaiseBandwidth next ch u arg) = ThenShows next
-EndFits (ReadChannelsToRelease next ch) = ThenShows next
-EndFits (RestoreChannel next ch arg) = ThenShows next
-EndFits (Ended o) = ShowsQuadlet o
-EndFits _ = ⊤
-
--- a job at a stage: it is in step with the account, and the words that it keeps are quadlets
-pub record IsAtStage (l : Account) (j : Job) (stage : Stage) (others : ConnectionKind → PlugAt → ℕ) : Type 0 where
-  pub step : IsInStep l 0 j stage others
-  pub own : IsOwnJob j
-  pub words : WordsFit stage
-  pub ends : EndFits stage
-
--- the controller is in step with the account
-abbrev pub InStep : Account → Controller → (ConnectionKind → PlugAt → ℕ) → Type 0
-InStep l Idle others = IsAtRest l others
-InStep l (Waiting j) others = IsAtRest l others × IsOwnJob j
-InStep l (Asking j stage) others = IsAtStage l j stage others
-InStep l (Hearing j stage) others = IsAtStage l j stage others
-
--- the request that a controller waits for
-abbrev pub asked_of : Option Request → Option OutstandingRequest
-asked_of None = None
-asked_of (Some q) = Some (request_record q)
-
-abbrev pub outstanding_of : Controller → Option OutstandingRequest
-outstanding_of Idle = None
-outstanding_of (Waiting j) = None
-outstanding_of (Asking j stage) = None
-outstanding_of (Hearing j stage) = asked_of (request_of j stage)
-
--- a job is current only while no reclaim second runs
-abbrev pub IsOutsideOfSecond : Account → Controller → Type 0
-IsOutsideOfSecond l Idle = ⊤
-IsOutsideOfSecond l (Waiting j) = ⊤
-IsOutsideOfSecond l (Asking j stage) = IsFalse l.reclaiming
-IsOutsideOfSecond l (Hearing j stage) = IsFalse l.reclaiming
+-- the manager of a reset entry contends (IEEE 1394-1995, isochronous resource manager)
+abbrev pub ManagerContends : List DeviceKind → ResetEntry → Type 0
+ManagerContends kinds e = (n : ℕ) → e.manager ≡ Some n → (d : ℕ) × (node_number e.nodes d ≡ Some n) × IsTrue (is_contender (kind_at kinds d))
 
 -- before the first device there is nothing, and then the latest reset entry shows the bus
 abbrev pub IsLatest : Option ResetEntry → State → Type 0
-IsLatest None s = (s.names ≡ []) × (s.account ≡ no_account)
-IsLatest (Some e) s = (0 < length s.names) × Shows s.topology s.kinds e × (e.epoch ≤ 10000)
+IsLatest None s = (s.declared.names ≡ []) × (s.account ≡ no_account)
+IsLatest (Some e) s = (0 < length s.declared.names) × Shows s.declared.topology s.declared.kinds e × (e.epoch ≤ 10000) × ManagerContends s.declared.kinds e
 
--- nothing was asked for yet, and no connection stands
-pub record IsQuiet (s : State) : Type 0 where
-  pub idle : s.controller ≡ Idle
-  pub others : (kind : ConnectionKind) (q : PlugAt) → s.others kind q ≡ 0
-
--- since a connection was asked for the bus is one deck, which is its manager
-abbrev pub IsLone : Option ResetEntry → Type 0
-IsLone latest = (epoch : ℕ) × (ids : List PhyPacket) × (latest ≡ Some (lone_deck epoch ids))
+-- the second of the latest bus reset is over exactly when its end is written
+pub record IsTimed (s : State) : Type 0 where
+  pub second : IsTrue s.account.reclaiming → s.clock.cycle < s.clock.over_at
+  pub over_at : s.clock.over_at ≤ s.clock.cycle + 8000
+  pub cycle : s.clock.cycle ≤ 2 ^ 52
 
 pub record IsGood (s : State) : Type 0 where
-  pub sound : IsSound s.account
-  pub made : Made s.topology
-  pub kinds : AreKinds s.topology.devices s.kinds
-  pub named : length s.names ≡ length s.topology.devices
+  pub declared : AreDeclared s.declared
   pub latest : IsLatest s.account.latest s
-  pub quiet : IsFalse s.began → IsQuiet s
-  pub single : s.kinds ≡ Deck ∷ [] → IsLone s.account.latest
-  pub lone : IsTrue s.began → IsLone s.account.latest
-  pub step : InStep s.account s.controller s.others
-  -- the request that stands is the one that the account has, of the deck's own node
-  pub outstanding : s.account.outstanding 0 ≡ outstanding_of s.controller
-  pub outside : IsOutsideOfSecond s.account s.controller
-  -- no other device addressed a plug
-  pub alone : (d : ℕ) → d ≢ 0 → s.account.addressed d ≡ None
-  pub second : IsTrue s.account.reclaiming → s.cycle ≤ over_at s
-  pub reset_cycle : s.reset_cycle ≤ s.cycle
-  pub cycle : s.cycle ≤ 2 ^ 52
+  -- the account is sound and all controllers are in step with it, and what reclaiming rests on holds
+  pub reclaims : CanReclaim (world_of s)
+  -- a request stands only of a stage that makes one
+  pub stands : (d : ℕ) → AsksWhatStands (s.controllers d).current
+  -- a device without a living controller has one that has just started
+  pub unused : (d : ℕ) → IsFalse (is_living s d) → s.controllers d ≡ new_controller
+  pub time : IsTimed s
   pub half_steps : s.half_steps ≤ 4000000
-  pub bus_manager_id : s.bus_manager_id < 2 ^ 32
-  -- a transaction that waits for its answer is at a device on the bus
-  pub asks : (x : Transaction) → s.transaction ≡ Some x → IsTrue (is_on s x.to)

@@ -1,8 +1,9 @@
 -- What holds in each state of a run, and of each answer in its log.
-use Rattle.std.specs.Prelude.{ℕ, ◌≡◌, ◌<◌, ◌≤◌, ◌==◌, ◌&&◌, ◌↔◌, List, ◌∷◌, ◌++◌, Option, Some, None, length, if◌then◌else◌, IsTrue, IsFalse, ⊤}
+use Rattle.std.specs.Prelude.{ℕ, ◌≡◌, ◌<◌, ◌==◌, ◌≤◌, ◌&&◌, ◌↔◌, List, ◌∷◌, ◌++◌, Option, Some, None, length, if◌then◌else◌, IsTrue, ⊤}
 use Rattle.fw_words.specs.Quadlet.{quadlet_at}
 use Rattle.fw_async.specs.declared.packet.Packet.{Packet}
-use Rattle.fw_async.specs.declared.packet.Packet.TheVariants.{WriteQuadlet, WriteBlock, WriteReply, ReadQuadlet, ReadBlock, ReadQuadletReply, ReadBlockReply, CycleStart, Lock, LockReply}
+use Rattle.fw_async.specs.declared.packet.Packet.TheVariants.{WriteQuadlet, WriteBlock, WriteReply, CycleStart, Lock, LockReply}
+use Rattle.fw_async.specs.declared.packet.Packet.TheVariants.{ReadQuadlet, ReadBlock, ReadQuadletReply, ReadBlockReply}
 use Rattle.fw_entry.specs.declared.entry.Entry.{Entry}
 use Rattle.fw_entry.specs.declared.entry.Entry.TheVariants.{Reset, Async, Iso, Event, Outcome, Shown, End}
 use Rattle.fw_entry.specs.declared.entry.ShownEntry.{ShownEntry}
@@ -15,25 +16,29 @@ use Rattle.fw_entry.specs.Network.{device_of_id}
 use Rattle.fw_ledger.specs.Words.{Register, register_of, word_of, word_of_device}
 use Rattle.fw_ledger.specs.Fold.{account_of, entries_of}
 use Rattle.fw_ledger.specs.Sound.{IsSound, IsConflictFree}
-use Rattle.fw_run.specs.declared.controller.Controller.TheVariants.{Idle}
-use Rattle.fw_run.specs.State.{State, first_state, is_on}
-use Rattle.fw_run.specs.Run.{Action, Steps}
-use Rattle.fw_run.specs.Good.{InStep}
+use Rattle.fw_cmp.specs.declared.connection.Connection.{Connection}
+use Rattle.fw_cmp.specs.declared.connection.Flow.{Flow}
+use Rattle.fw_cmp.specs.declared.connection.Slot.TheVariants.{Standing}
+use Rattle.fw_cmp.specs.Controllers.{slot_at}
+use Rattle.fw_step.specs.Together.{AreInStep, AreSettled, IsWhole}
+use Rattle.fw_run.specs.State.{State, first_state, directory_of, is_on}
+use Rattle.fw_run.specs.Actions.{Action, Steps}
 
--- no second runs, and the controller has no job
-pub record IsSettled (s : State) : Type 0 where
-  pub no_second : IsFalse s.account.reclaiming
-  pub idle : s.controller ≡ Idle
+-- in a settled state what is allocated is exactly what the standing flows take and what controllers left that died since the
+-- latest bus reset; and each standing connection is whole
+pub record IsCharged (s : State) : Type 0 where
+  pub allocations : IsAllocatedForFlows s.account
+  pub connections : (d i : ℕ) (conn : Connection) (f : Flow) → slot_at (s.controllers d) i ≡ Standing conn f → IsWhole s.account d conn f
 
 -- a state to which these entries lead
 pub record IsSoundAt (log : List Timed) (s : State) : Type 0 where
   pub account : account_of (entries_of log) ≡ Some s.account
   pub sound : IsSound s.account
   pub free : IsConflictFree s.account
-  pub step : InStep s.account s.controller s.others
-  pub settled : IsSettled s → IsAllocatedForFlows s.account
+  pub step : AreInStep (directory_of s) s.account s.controllers
+  pub settled : AreSettled s.account s.controllers → IsCharged s
   -- the nodes of the latest reset entry are the declared devices to which a walk of cables leads from device 0
-  pub bus : (d : ℕ) → d < length s.names → IsTrue (is_on s d) ↔ IsOnBus s.topology.cables d
+  pub bus : (d : ℕ) → d < length s.declared.names → IsTrue (is_on s d) ↔ IsOnBus s.declared.topology.cables d
 
 -- ---- answers to controllers
 
@@ -74,7 +79,9 @@ IsAnswered l End = ⊤
 
 -- a complete response to a quadlet read of the script shows the account's word, where the account has the register
 abbrev pub IsReadBy : Account → Packet → Packet → Type 0
-IsReadBy l (ReadQuadlet h offset) (ReadQuadletReply k rcode value) = h.tl ≡ 1 → rcode ≡ 0 → (register : Register) → register_of l.latest h.destination offset ≡ Some register → value ≡ word_of l register
+IsReadBy l (ReadQuadlet h offset) (ReadQuadletReply k rcode value) =
+    h.tl ≡ 1 → rcode ≡ 0
+    → (register : Register) → register_of l.latest h.destination offset ≡ Some register → value ≡ word_of l register
 IsReadBy l _ _ = ⊤
 
 -- two entries that follow each other
@@ -83,13 +90,15 @@ IsReadIn l (Async p) (Async q) = IsReadBy l p q
 IsReadIn l _ _ = ⊤
 
 -- Actions from the first state on, and the log that they write: in each state on the way the account of the entries so far
--- is defined, sound and in step with the controller, and no channel has two talkers; each front of the log is reached; each
+-- is defined, sound and in step with all controllers, and no channel has two talkers; each front of the log is reached; each
 -- complete answer, and each shown word, equals the account's word before it; and each entry may be written, in cycles that
 -- never fall.
 pub record IsSoundThroughout (actions : List Action) (log : List Timed) : Type 0 where
   pub states : (done later : List Action) (front : List Timed) (s : State) → actions ≡ done ++ later → Steps first_state done front s → IsSoundAt front s
-  pub fronts : (front rest : List Timed) → log ≡ front ++ rest → (done : List Action) × (later : List Action) × (s : State) × (actions ≡ done ++ later) × Steps first_state done front s
+  pub fronts : (front rest : List Timed) → log ≡ front ++ rest
+      → (done : List Action) × (later : List Action) × (s : State) × (actions ≡ done ++ later) × Steps first_state done front s
   pub answers : (front rest : List Timed) (t : Timed) → log ≡ front ++ t ∷ rest → (l : Account) × (account_of (entries_of front) ≡ Some l) × IsAnswered l t.what
-  pub reads : (front rest : List Timed) (t u : Timed) → log ≡ front ++ t ∷ u ∷ rest → (l : Account) × (account_of (entries_of front) ≡ Some l) × IsReadIn l t.what u.what
+  pub reads : (front rest : List Timed) (t u : Timed) → log ≡ front ++ t ∷ u ∷ rest
+      → (l : Account) × (account_of (entries_of front) ≡ Some l) × IsReadIn l t.what u.what
   pub fits : (front rest : List Timed) (t : Timed) → log ≡ front ++ t ∷ rest → TimedFits t
   pub cycles : (front rest : List Timed) (t u : Timed) → log ≡ front ++ t ∷ u ∷ rest → t.cycle ≤ u.cycle

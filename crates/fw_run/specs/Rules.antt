@@ -1,184 +1,255 @@
--- The rules by which a command is refused, in the order in which they are tested, and what a command orders that breaks none.
-use Rattle.std.specs.Prelude.{◌≡◌, ℕ, ◌+◌, ◌^◌, ◌==◌, ◌&&◌, ◌||◌, not, nat_le, nat_lt, List, [], ◌∷◌, length, Bool, true, false, Option, Some, None, is_some, if◌then◌else◌, IsTrue, IsFalse, Ok, Err}
+-- The rules of commands: when a command breaks each of them, in which order they are tested, and what a command orders.
+use Rattle.std.specs.Prelude.{ℕ, ◌≡◌, ◌+◌, ◌*◌, ◌^◌, ◌<◌, ◌≤◌, ◌⊎◌, ◌==◌, ◌&&◌, ◌||◌, not, nat_le, Bool, IsTrue, IsFalse, if◌then◌else◌, ⊤}
+use Rattle.std.specs.Prelude.{List, [], ◌∷◌, length, Option, Some, None, Ok, Err, is_some}
+use Rattle.std.specs.List.{list_any}
 use Rattle.std.specs.declared.result.Result.{Result}
 use Rattle.fw_base.specs.declared.device.DeviceKind.{DeviceKind}
 use Rattle.fw_base.specs.declared.device.DeviceKind.TheVariants.{Relay, Deck, Camcorder, Computer}
-use Rattle.fw_base.specs.Devices.{has_link}
-use Rattle.fw_csr.specs.declared.reply.Reply.{Reply}
+use Rattle.fw_base.specs.Tables.{at_plug}
+use Rattle.fw_base.specs.declared.plug.PlugAt.{PlugAt}
 use Rattle.fw_tree.specs.declared.facts.End.{End}
 use Rattle.fw_tree.specs.declared.TreeFault.{TreeFault}
 use Rattle.fw_tree.specs.declared.TreeFault.TheVariants as Tree
-use Rattle.fw_tree.specs.Topology.{Topology, IsFault}
+use Rattle.fw_tree.specs.Topology.{IsFault}
 use Rattle.fw_script.specs.declared.command.Command.{Command}
 use Rattle.fw_script.specs.declared.command.Command.TheVariants as Commands
-use Rattle.fw_script.specs.Form.{HasForm}
-use Rattle.fw_devices.specs.Network.{kind_at, device_named}
+use Rattle.fw_devices.specs.Network.{device_named}
+use Rattle.fw_cmp.specs.declared.outcome.StartFault.{StartFault}
+use Rattle.fw_cmp.specs.declared.outcome.StartFault.TheVariants as Refusals
+use Rattle.fw_cmp.specs.Starts.{break_fault}
 use Rattle.fw_run.specs.declared.order.Access.{Access}
 use Rattle.fw_run.specs.declared.order.Access.TheVariants.{Read, Swap}
+use Rattle.fw_run.specs.declared.order.Wanted.{Wanted}
+use Rattle.fw_run.specs.declared.order.Wanted.TheVariants.{PlugToPlug, BroadcastOut, BroadcastIn}
 use Rattle.fw_run.specs.declared.order.Order.{Order}
-use Rattle.fw_run.specs.declared.order.Order.TheVariants as Orders
+use Rattle.fw_run.specs.declared.order.Order.TheVariants as order
 use Rattle.fw_run.specs.declared.rule.RuleFault.{RuleFault}
-use Rattle.fw_run.specs.declared.rule.RuleFault.TheVariants.{UnknownName, NameTaken, TooMany, NoPort, PortUsed, Loop, NotController, Guarded, NoRegister, Limit, OffBus, NotBuilt}
-use Rattle.fw_run.specs.State.{State, is_on, epoch_of, manager_in}
+use Rattle.fw_run.specs.declared.rule.RuleFault.TheVariants.{UnknownName, NameTaken, TooMany, NoPort, PortUsed, Loop, NotController, OffBus}
+use Rattle.fw_run.specs.declared.rule.RuleFault.TheVariants.{Guarded, NoRegister, Limit, TableFull, Busy, NoSuchConnection, NotOwnPlug, NotBuilt}
+use Rattle.fw_run.specs.State.{State, device_in, manager_in, epoch_of, is_on, is_linked, is_living, living}
 use Rattle.fw_run.specs.Spaces.{read_at}
+use Rattle.fw_run.specs.Actions.{start_of}
 
--- a command that some line of a script gives
-abbrev pub IsCommand : Command → Type 0
-IsCommand c = (line : List ℕ) × HasForm c line
+-- ---- names
 
--- what the rules look at
-pub record View : Type 0 where
-  pub names : List (List ℕ)
-  pub kinds : List DeviceKind
-  pub is_on : ℕ → Bool
-  pub epoch : ℕ
-  pub manager : Option ℕ
-  pub reads : ℕ → ℕ → Reply
-  pub cycle : ℕ
-  pub half_steps : ℕ
-  pub began : Bool
+-- the device with a name
+abbrev pub IsNamed : State → List ℕ → ℕ → Type 0
+IsNamed s name d = device_named s.declared.names name ≡ Some d
 
-abbrev pub view_of : State → View
-view_of s = record {
-  names = s.names;
-  kinds = s.kinds;
-  is_on = is_on s;
-  epoch = epoch_of s.account.latest;
-  manager = manager_in s.account.latest;
-  reads = read_at s;
-  cycle = s.cycle;
-  half_steps = s.half_steps;
-  began = s.began;
-}
+abbrev pub is_declared : State → List ℕ → Bool
+is_declared s name = is_some (device_named s.declared.names name)
 
--- ---- tests
+-- the declared devices that a command names, from left to right
+abbrev pub names_of : Command → List (List ℕ)
+names_of (Commands.Device name kind ports speed) = []
+names_of (Commands.Cable a b) = a.0 ∷ b.0 ∷ []
+names_of (Commands.Reset name) = name ∷ []
+names_of (Commands.Connect name out into channel overhead) = name ∷ out.0 ∷ into.0 ∷ []
+names_of (Commands.Broadcast name out overhead) = name ∷ out.0 ∷ []
+names_of (Commands.Listen name into) = name ∷ into.0 ∷ []
+names_of (Commands.Break name slot) = name ∷ []
+names_of (Commands.Step name count) = name ∷ []
+names_of (Commands.Settle rounds) = []
+names_of (Commands.Wait cycles) = []
+names_of (Commands.Cycles count) = []
+names_of (Commands.Die name late) = name ∷ []
+names_of (Commands.Start name) = name ∷ []
+names_of (Commands.Command name other frame) = name ∷ other ∷ []
+names_of (Commands.Read name other offset) = name ∷ other ∷ []
+names_of (Commands.Swap name other offset argument new) = name ∷ other ∷ []
+names_of (Commands.Insert name tape system) = name ∷ []
+names_of (Commands.Eject name) = name ∷ []
+names_of (Commands.Show None offset) = []
+names_of (Commands.Show (Some name) offset) = name ∷ []
+names_of Commands.End = []
 
--- the fault where the test holds
-abbrev pub unless : Bool → RuleFault → Result Order RuleFault → Result Order RuleFault
-unless test fault later = if test then Err fault else later
+-- the device whose controller a command needs
+abbrev pub controller_of : Command → Option (List ℕ)
+controller_of (Commands.Connect name out into channel overhead) = Some name
+controller_of (Commands.Broadcast name out overhead) = Some name
+controller_of (Commands.Listen name into) = Some name
+controller_of (Commands.Break name slot) = Some name
+controller_of (Commands.Step name count) = Some name
+controller_of (Commands.Die name late) = Some name
+controller_of (Commands.Command name other frame) = Some name
+controller_of (Commands.Read name other offset) = Some name
+controller_of (Commands.Swap name other offset argument new) = Some name
+controller_of _ = None
 
--- what follows for a device, where there is one
-abbrev pub with : Result ℕ RuleFault → (ℕ → Result Order RuleFault) → Result Order RuleFault
-with (Err fault) later = Err fault
-with (Ok d) later = later d
+-- the device whose node a command needs
+abbrev pub node_of : Command → Option (List ℕ)
+node_of (Commands.Command name other frame) = Some other
+node_of (Commands.Read name other offset) = Some other
+node_of (Commands.Swap name other offset argument new) = Some other
+node_of (Commands.Show name offset) = name
+node_of _ = None
 
-abbrev pub or_fault : Option ℕ → RuleFault → Result ℕ RuleFault
-or_fault None fault = Err fault
-or_fault (Some d) fault = Ok d
+-- the device with this name, if any, is not so
+abbrev pub IsNot : State → (ℕ → Bool) → Option (List ℕ) → Type 0
+IsNot s test None = ⊥
+IsNot s test (Some name) = (d : ℕ) × IsNamed s name d × IsFalse (test d)
 
--- the device of a name that is declared
-abbrev pub known : View → List ℕ → Result ℕ RuleFault
-known v name = or_fault (device_named v.names name) UnknownName
+-- ---- cables
 
--- a device on the bus that has a link
-abbrev pub is_linked_in : View → ℕ → Bool
-is_linked_in v d = v.is_on d && has_link (kind_at v.kinds d)
+abbrev pub IsEnd : State → List ℕ × ℕ → End → Type 0
+IsEnd s a e = IsNamed s a.0 e.device × (e.port ≡ a.1)
 
--- the kind with a code
-abbrev pub kind_with : ℕ → DeviceKind
-kind_with code = if code == 0 then Relay else if code == 1 then Deck else if code == 2 then Camcorder else Computer
+-- the ends of a cable, which have the property
+abbrev pub Ends : State → Command → (End → End → Type 0) → Type 0
+Ends s (Commands.Cable a b) P = (x y : End) × IsEnd s a x × IsEnd s b y × P x y
+Ends s _ P = ⊥
 
-abbrev pub is_deck : DeviceKind → Bool
-is_deck Relay = false
-is_deck Deck = true
-is_deck Camcorder = false
-is_deck Computer = false
+abbrev pub HasTreeFault : State → TreeFault → Command → Type 0
+HasTreeFault s f c = Ends s c (λ x y. IsFault s.declared.topology x y f)
 
--- the first device is there and no deck
-abbrev pub begins_other : List DeviceKind → Bool
-begins_other [] = false
-begins_other (kind ∷ kinds) = not (is_deck kind)
+-- one of the ends is on the bus, and the other is off: the cable begins a bus reset
+abbrev pub is_joining : State → End → End → Bool
+is_joining s a b = if is_on s a.device then not (is_on s b.device) else is_on s b.device
 
--- a broadcast connection that is not carried out yet: all but the first, of plug 0 of one deck alone
-abbrev pub is_later_broadcast : View → ℕ → Bool
-is_later_broadcast v plug = v.began || nat_lt 1 (length v.kinds) || begins_other v.kinds || not (plug == 0)
+-- ---- connections
+
+abbrev pub plug_of : ℕ → List ℕ × ℕ → PlugAt
+plug_of e plug = at_plug e plug.1
+
+-- the connection that a command asks a controller for
+abbrev pub IsWanted : State → Command → ℕ → Wanted → Type 0
+IsWanted s (Commands.Connect name out into channel overhead) d w =
+    IsNamed s name d × ((e f : ℕ) × IsNamed s out.0 e × IsNamed s into.0 f × (w ≡ PlugToPlug (plug_of e out) (plug_of f into) channel overhead))
+IsWanted s (Commands.Broadcast name out overhead) d w = IsNamed s name d × ((e : ℕ) × IsNamed s out.0 e × (w ≡ BroadcastOut (plug_of e out) overhead))
+IsWanted s (Commands.Listen name into) d w = IsNamed s name d × ((e : ℕ) × IsNamed s into.0 e × (w ≡ BroadcastIn (plug_of e into)))
+IsWanted s _ d w = ⊥
+
+-- the controller refuses a new connection, or a break
+abbrev pub IsRefused : State → Command → StartFault → Type 0
+IsRefused s (Commands.Break name slot) f = (d : ℕ) × IsNamed s name d × (break_fault (s.controllers d) slot ≡ Some f)
+IsRefused s c f = (d : ℕ) × (w : Wanted) × IsWanted s c d w × (start_of d w (s.controllers d) ≡ Err f)
+
+-- ---- registers
 
 -- the registers of the manager that hold channels and units, and the plug control registers
 abbrev pub is_guarded_at : ℕ → Bool
 is_guarded_at offset =
     (offset == 0x220) || (offset == 0x224) || (offset == 0x228) || (nat_le 0x904 offset && nat_le offset 0x97C) || (nat_le 0x984 offset && nat_le offset 0x9FC)
 
+-- the device whose register is shown
+abbrev pub IsShown : State → Option (List ℕ) → ℕ → Type 0
+IsShown s None d = (n : ℕ) × (manager_in s.account.latest ≡ Some n) × (device_in s.account.latest n ≡ Some d)
+IsShown s (Some name) d = IsNamed s name d
+
+abbrev pub HasNoManager : State → Option (List ℕ) → Type 0
+HasNoManager s None = manager_in s.account.latest ≡ None
+HasNoManager s (Some name) = ⊥
+
+abbrev pub HasNoRegister : State → Command → Type 0
+HasNoRegister s (Commands.Show name offset) = HasNoManager s name ⊎ ((d : ℕ) × IsShown s name d × IsFalse ((read_at s d offset).rcode == 0))
+HasNoRegister s _ = ⊥
+
+-- ---- limits
+
+abbrev pub PassesLimit : State → Command → Type 0
+PassesLimit s (Commands.Cable a b) = (10000 ≤ epoch_of s.account.latest) × Ends s (Commands.Cable a b) (λ x y. IsTrue (is_joining s x y))
+PassesLimit s (Commands.Reset name) = 10000 ≤ epoch_of s.account.latest
+PassesLimit s (Commands.Step name count) = 4000000 < s.half_steps + count
+PassesLimit s (Commands.Settle rounds) = 4000000 < s.half_steps + rounds * length (living s)
+PassesLimit s (Commands.Wait cycles) = 2 ^ 52 < s.clock.cycle + cycles
+PassesLimit s _ = ⊥
+
+-- ---- the rules
+
+-- the commands that the bus does not carry out yet
+abbrev pub IsNotBuilt : Command → Type 0
+IsNotBuilt (Commands.Cycles count) = ⊤
+IsNotBuilt (Commands.Command name other frame) = ⊤
+IsNotBuilt (Commands.Insert name tape system) = ⊤
+IsNotBuilt (Commands.Eject name) = ⊤
+IsNotBuilt _ = ⊥
+
+abbrev pub TakesName : State → Command → Type 0
+TakesName s (Commands.Device name kind ports speed) = IsTrue (is_declared s name)
+TakesName s _ = ⊥
+
+abbrev pub IsTooMany : State → Command → Type 0
+IsTooMany s (Commands.Device name kind ports speed) = 63 ≤ length s.declared.names
+IsTooMany s _ = ⊥
+
+abbrev pub HasNoController : State → Command → Type 0
+HasNoController s (Commands.Start name) = IsNot s (is_linked s) (Some name)
+HasNoController s c = IsNot s (is_living s) (controller_of c)
+
+abbrev pub IsOff : State → Command → Type 0
+IsOff s (Commands.Reset name) = IsNot s (is_on s) (Some name)
+IsOff s c = IsNot s (is_linked s) (node_of c)
+
 -- only controllers' procedures swap there (own)
-abbrev pub is_guarded : Access → Bool
-is_guarded (Read offset) = false
-is_guarded (Swap offset argument new) = is_guarded_at offset
+abbrev pub IsGuarded : Command → Type 0
+IsGuarded (Commands.Swap name other offset argument new) = IsTrue (is_guarded_at offset)
+IsGuarded _ = ⊥
 
--- ---- commands
+-- A command breaks a rule.
+abbrev pub Breaks : State → Command → RuleFault → Type 0
+Breaks s c NotBuilt = IsNotBuilt c
+Breaks s c UnknownName = IsTrue (list_any (λ name. not (is_declared s name)) (names_of c))
+Breaks s c NameTaken = TakesName s c
+Breaks s c TooMany = IsTooMany s c
+Breaks s c NoPort = HasTreeFault s Tree.NoPort c
+Breaks s c PortUsed = HasTreeFault s Tree.PortUsed c
+Breaks s c Loop = HasTreeFault s Tree.Loop c
+Breaks s c NotController = HasNoController s c
+Breaks s c OffBus = IsOff s c
+Breaks s c NotOwnPlug = IsRefused s c Refusals.NotOwnPlug
+Breaks s c NoSuchConnection = IsRefused s c Refusals.NoSuchConnection
+Breaks s c TableFull = IsRefused s c Refusals.TableFull
+Breaks s c Busy = IsRefused s c Refusals.Busy
+Breaks s c Guarded = IsGuarded c
+Breaks s c NoRegister = HasNoRegister s c
+Breaks s c Limit = PassesLimit s c
 
-abbrev pub declare : View → List ℕ → ℕ → ℕ → ℕ → Result Order RuleFault
-declare v name kind ports speed = unless (is_some (device_named v.names name)) NameTaken (unless (nat_le 63 (length v.names)) TooMany (Ok (Orders.Declare name (kind_with kind) ports speed)))
+-- the order in which they are tested
+abbrev pub rank : RuleFault → ℕ
+rank NotBuilt = 0
+rank UnknownName = 1
+rank NameTaken = 2
+rank TooMany = 3
+rank NoPort = 4
+rank PortUsed = 5
+rank Loop = 6
+rank NotController = 7
+rank OffBus = 8
+rank NotOwnPlug = 9
+rank NoSuchConnection = 10
+rank TableFull = 11
+rank Busy = 12
+rank Guarded = 13
+rank NoRegister = 14
+rank Limit = 15
 
--- the two ends of a cable; whether they can be joined is said below
-abbrev pub cable : View → (List ℕ × ℕ) → (List ℕ × ℕ) → Result Order RuleFault
-cable v a b = unless v.began NotBuilt (with (known v a.0) (λ x. with (known v b.0) (λ y. Ok (Orders.Cable (record { device = x; port = a.1 }) (record { device = y; port = b.1 })))))
+-- ---- orders
 
-abbrev pub reset : View → List ℕ → Result Order RuleFault
-reset v name = unless v.began NotBuilt (with (known v name) (λ d. unless (not (v.is_on d)) OffBus (unless (nat_le 10000 v.epoch) Limit (Ok (Orders.Reset d)))))
+-- the kind with a code
+abbrev pub kind_with : ℕ → DeviceKind
+kind_with code = if code == 0 then Relay else if code == 1 then Deck else if code == 2 then Camcorder else Computer
 
-abbrev pub broadcast : View → List ℕ → (List ℕ × ℕ) → ℕ → Result Order RuleFault
-broadcast v name plug overhead = unless (is_later_broadcast v plug.1) NotBuilt (with (known v name) (λ d. with (known v plug.0) (λ e. Ok (Orders.Broadcast overhead))))
+abbrev pub Transacts : State → List ℕ → List ℕ → Access → Order → Type 0
+Transacts s name other access o = (d e : ℕ) × IsNamed s name d × IsNamed s other e × (o ≡ order.Transact (record { from = d; to = e; access = access }))
 
-abbrev pub step : View → List ℕ → ℕ → Result Order RuleFault
-step v name count = with (known v name) (λ d. unless (not (is_linked_in v d)) NotController (unless (nat_lt 4000000 (v.half_steps + count)) Limit (Ok (Orders.Step d count))))
+-- a command, with its devices by number
+abbrev pub IsOrder : State → Command → Order → Type 0
+IsOrder s (Commands.Device name kind ports speed) o = o ≡ order.Declare name (kind_with kind) ports speed
+IsOrder s (Commands.Cable a b) o = Ends s (Commands.Cable a b) (λ x y. o ≡ order.Cable x y)
+IsOrder s (Commands.Reset name) o = (d : ℕ) × IsNamed s name d × (o ≡ order.Reset d)
+IsOrder s (Commands.Break name slot) o = (d : ℕ) × IsNamed s name d × (o ≡ order.Break d slot)
+IsOrder s (Commands.Step name count) o = (d : ℕ) × IsNamed s name d × (o ≡ order.Step d count)
+IsOrder s (Commands.Settle rounds) o = o ≡ order.Settle rounds
+IsOrder s (Commands.Wait cycles) o = o ≡ order.Wait cycles
+IsOrder s (Commands.Die name late) o = (d : ℕ) × IsNamed s name d × (o ≡ order.Die d late)
+IsOrder s (Commands.Start name) o = (d : ℕ) × IsNamed s name d × (o ≡ order.Start d)
+IsOrder s (Commands.Read name other offset) o = Transacts s name other (Read offset) o
+IsOrder s (Commands.Swap name other offset argument new) o = Transacts s name other (Swap offset argument new) o
+IsOrder s (Commands.Show name offset) o = (d : ℕ) × IsShown s name d × (o ≡ order.Show d offset)
+IsOrder s Commands.End o = o ≡ order.End
+IsOrder s c o = (d : ℕ) × (w : Wanted) × IsWanted s c d w × (o ≡ order.Connect d w)
 
-abbrev pub wait : View → ℕ → Result Order RuleFault
-wait v cycles = unless (nat_lt (2 ^ 52) (v.cycle + cycles)) Limit (Ok (Orders.Wait cycles))
-
-abbrev pub transact : View → List ℕ → List ℕ → Access → Result Order RuleFault
-transact v a b access =
-    with (known v a) (λ from. with (known v b) (λ to.
-    unless (not (is_linked_in v from)) NotController (unless (not (is_linked_in v to)) OffBus (unless (is_guarded access) Guarded (Ok (Orders.Transact (record { from = from; to = to; access = access })))))))
-
--- the word of a complete answer
-abbrev pub shown_word : ℕ → ℕ → Reply → Result Order RuleFault
-shown_word d offset reply = unless (not (reply.rcode == 0)) NoRegister (Ok (Orders.Show d offset reply.value))
-
-abbrev pub show : View → Option (List ℕ) → ℕ → Result Order RuleFault
-show v None offset = with (or_fault v.manager NoRegister) (λ d. shown_word d offset (v.reads d offset))
-show v (Some name) offset = with (known v name) (λ d. unless (not (is_linked_in v d)) OffBus (shown_word d offset (v.reads d offset)))
-
--- What a command orders, or the first rule that it breaks.
-abbrev pub order_of : View → Command → Result Order RuleFault
-order_of v (Commands.Device name kind ports speed) = declare v name kind ports speed
-order_of v (Commands.Cable a b) = cable v a b
-order_of v (Commands.Reset name) = reset v name
-order_of v (Commands.Broadcast name plug overhead) = broadcast v name plug overhead
-order_of v (Commands.Step name count) = step v name count
-order_of v (Commands.Wait cycles) = wait v cycles
-order_of v (Commands.Read a b offset) = transact v a b (Read offset)
-order_of v (Commands.Swap a b offset argument new) = transact v a b (Swap offset argument new)
-order_of v (Commands.Show name offset) = show v name offset
-order_of v Commands.End = Ok Orders.End
-order_of v _ = Err NotBuilt
-
--- ---- whether a cable can be joined
-
--- one of the ends is on the bus, and the other is off
-abbrev pub is_joining : (ℕ → Bool) → End → End → Bool
-is_joining on a b = if on a.device then not (on b.device) else on b.device
-
--- no fault of the cabling holds
-abbrev pub CanJoin : Topology → End → End → Type 0
-CanJoin t a b = (f : TreeFault) → IsFault t a b f → ⊥
-
--- The faults of the cabling come first, then that the cable would begin a bus reset too many.
-abbrev pub JoinDecided : Topology → View → End → End → Result Order RuleFault → Type 0
-JoinDecided t v a b (Ok o) = (o ≡ Orders.Cable a b) × CanJoin t a b × IsFalse (is_joining v.is_on a b && nat_le 10000 v.epoch)
-JoinDecided t v a b (Err NoPort) = IsFault t a b Tree.NoPort
-JoinDecided t v a b (Err PortUsed) = IsFault t a b Tree.PortUsed
-JoinDecided t v a b (Err Loop) = IsFault t a b Tree.Loop
-JoinDecided t v a b (Err Limit) = CanJoin t a b × IsTrue (is_joining v.is_on a b && nat_le 10000 v.epoch)
-JoinDecided t v a b (Err _) = ⊥
-
-abbrev pub CableDecided : Topology → View → Result Order RuleFault → Result Order RuleFault → Type 0
-CableDecided t v (Ok (Orders.Cable a b)) r = JoinDecided t v a b r
-CableDecided t v (Ok _) r = ⊥
-CableDecided t v (Err f) r = r ≡ Err f
-
--- What a command orders over a topology, or the first rule that it breaks.
-abbrev pub DecidedBy : Topology → View → Command → Result Order RuleFault → Type 0
-DecidedBy t v (Commands.Cable a b) r = CableDecided t v (order_of v (Commands.Cable a b)) r
-DecidedBy t v c r = r ≡ order_of v c
-
+-- What a command orders that breaks no rule, or the first rule that it breaks.
 abbrev pub Decides : State → Command → Result Order RuleFault → Type 0
-Decides s c r = DecidedBy s.topology (view_of s) c r
+Decides s c (Ok o) = IsOrder s c o × ((g : RuleFault) → Breaks s c g → ⊥)
+Decides s c (Err f) = Breaks s c f × ((g : RuleFault) → rank g < rank f → Breaks s c g → ⊥)

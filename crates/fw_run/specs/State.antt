@@ -1,55 +1,85 @@
 -- The state of a run. It has the account, which the bus does not keep.
-use Rattle.std.specs.Prelude.{ℕ, ◌+◌, ◌&&◌, List, [], ◌∷◌, ◌++◌, Bool, false, Option, Some, None, is_some, unwrap_or}
-use Rattle.fw_base.specs.declared.plug.PlugAt.{PlugAt}
-use Rattle.fw_base.specs.declared.plug.ConnectionKind.{ConnectionKind}
+use Rattle.std.specs.Prelude.{ℕ, zero, suc, ◌+◌, ◌==◌, ◌&&◌, not, Bool, false, Option, Some, None, is_some, unwrap_or, if◌then◌else◌}
+use Rattle.std.specs.Prelude.{List, [], ◌∷◌, ◌++◌, length, slice_get}
 use Rattle.fw_base.specs.declared.device.DeviceKind.{DeviceKind}
-use Rattle.fw_base.specs.Devices.{has_link}
+use Rattle.fw_base.specs.declared.device.DeviceKind.TheVariants.{Relay}
+use Rattle.fw_base.specs.Devices.{code_of}
 use Rattle.fw_entry.specs.declared.entry.Entry.{Entry}
 use Rattle.fw_entry.specs.declared.entry.ResetEntry.{ResetEntry}
+use Rattle.fw_entry.specs.declared.nodes.NodeRow.{NodeRow}
 use Rattle.fw_tree.specs.Topology.{Topology, no_cables}
 use Rattle.fw_ledger.specs.Account.{Account}
 use Rattle.fw_ledger.specs.Fold.{no_account, next_account}
-use Rattle.fw_devices.specs.Network.{kind_at, facts_of}
-use Rattle.fw_devices.specs.Entries.{node_number, device_of}
-use Rattle.fw_run.specs.declared.controller.Controller.{Controller}
-use Rattle.fw_run.specs.declared.controller.Controller.TheVariants.{Idle}
+use Rattle.fw_devices.specs.Network.{facts_of}
+use Rattle.fw_devices.specs.Entries.{node_number, node_device}
+use Rattle.fw_cmp.specs.Controllers.{ControllerState, first_state as new_controller}
+use Rattle.fw_cmp.specs.declared.directory.Directory.{Directory}
 use Rattle.fw_run.specs.declared.order.Transaction.{Transaction}
 
--- Devices are named by their numbers in order of declaration.
-pub record State : Type 0 where
-  pub topology : Topology  -- the devices' PHYs, and the cables between them
+-- The devices, in order of declaration, which are their numbers, and the cables between them.
+pub record Declared : Type 0 where
   pub names : List (List ℕ)
   pub kinds : List DeviceKind
+  pub topology : Topology
+
+pub record Clock : Type 0 where
   pub cycle : ℕ
-  pub reset_cycle : ℕ  -- the cycle of the latest bus reset
-  pub half_steps : ℕ  -- all that `step` has given
-  pub began : Bool  -- whether a connection was asked for
+  pub over_at : ℕ  -- the cycle from which on the second of the latest bus reset is over; that of the first one, which begins none
+
+pub record State : Type 0 where
+  pub declared : Declared
+  pub clock : Clock
+  pub half_steps : ℕ  -- all that `step` and `settle` have given
   pub account : Account  -- of the entries so far
   pub bus_manager_id : ℕ  -- the word of BUS_MANAGER_ID
+  -- by device; that of a device that has none, or whose controller died, is one that has just started
+  pub controllers : ℕ → ControllerState
+  pub dead : ℕ → Bool  -- the controller died, and was not started again
   pub transaction : Option Transaction  -- a transaction of the script whose request was written, and that is not answered yet
-  pub controller : Controller  -- that of device 0; no other has a job
-  -- the connections at each output plug that the controller's slots stand for, beside those of its current job
-  pub others : ConnectionKind → PlugAt → ℕ
+
+abbrev pub nothing_declared : Declared
+nothing_declared = record { names = []; kinds = []; topology = record { devices = []; cables = no_cables } }
 
 abbrev pub first_state : State
 first_state = record {
-  topology = record { devices = []; cables = no_cables };
-  names = [];
-  kinds = [];
-  cycle = 0;
-  reset_cycle = 0;
+  declared = nothing_declared;
+  clock = record { cycle = 0; over_at = 0 };
   half_steps = 0;
-  began = false;
   account = no_account;
   bus_manager_id = 0x3F;
+  controllers = λ d. new_controller;
+  dead = λ d. false;
   transaction = None;
-  controller = Idle;
-  others = λ kind plug. 0;
 }
 
 -- the account with one entry more, where it has one
 abbrev pub entered : Account → Entry → Account
 entered l e = unwrap_or (next_account l e) l
+
+-- the account with the entry that was written, or with none
+abbrev pub entered_by : Account → Option Entry → Account
+entered_by l None = l
+entered_by l (Some e) = entered l e
+
+-- one device more, which has no cable yet
+abbrev pub with_device : Declared → List ℕ → DeviceKind → ℕ → ℕ → Declared
+with_device n name kind ports speed = record {
+  names = n.names ++ name ∷ [];
+  kinds = n.kinds ++ kind ∷ [];
+  topology = record { devices = n.topology.devices ++ facts_of kind ports speed ∷ []; cables = n.topology.cables };
+}
+
+-- ---- lists by number
+
+-- f 0, .., f (n - 1)
+unfoldable pub list_to : {A : Type 0} → ℕ → (ℕ → A) → List A
+list_to zero f = []
+list_to (suc n) f = list_to n f ++ f n ∷ []
+
+-- the numbers below n that pass, in order
+unfoldable pub numbers_to : ℕ → (ℕ → Bool) → List ℕ
+numbers_to zero test = []
+numbers_to (suc n) test = numbers_to n test ++ (if test n then n ∷ [] else [])
 
 -- ---- devices on the bus, by the latest reset entry
 
@@ -63,26 +93,47 @@ abbrev pub number_in : Option ResetEntry → ℕ → Option ℕ
 number_in None d = None
 number_in (Some e) d = node_number e.nodes d
 
+-- the device that a node is
+abbrev pub device_in : Option ResetEntry → ℕ → Option ℕ
+device_in None n = None
+device_in (Some e) n = node_device e.nodes n
+
+-- the node that is the isochronous resource manager
+abbrev pub manager_in : Option ResetEntry → Option ℕ
+manager_in None = None
+manager_in (Some e) = e.manager
+
+-- the device is a relay, by its row
+abbrev pub is_relay : Option NodeRow → Bool
+is_relay None = false
+is_relay (Some row) = row.kind == code_of Relay
+
+-- the node where it has a link
+abbrev pub with_link : List NodeRow → Option ℕ → Option ℕ
+with_link rows None = None
+with_link rows (Some n) = if is_relay (slice_get rows n) then None else Some n
+
+-- the node number of a device that is on the bus with its link: its node answers requests
+abbrev pub linked_number : Option ResetEntry → ℕ → Option ℕ
+linked_number None d = None
+linked_number (Some e) d = with_link e.nodes (node_number e.nodes d)
+
 abbrev pub is_on : State → ℕ → Bool
 is_on s d = is_some (number_in s.account.latest d)
 
--- a device on the bus that has a link: its node answers, and its controller lives
 abbrev pub is_linked : State → ℕ → Bool
-is_linked s d = is_on s d && has_link (kind_at s.kinds d)
+is_linked s d = is_some (linked_number s.account.latest d)
 
--- the device that is the isochronous resource manager
-abbrev pub manager_in : Option ResetEntry → Option ℕ
-manager_in None = None
-manager_in (Some e) = device_of e.nodes e.manager
+-- a device on the bus that has a link, and whose controller has not died
+abbrev pub is_living : State → ℕ → Bool
+is_living s d = is_linked s d && not (s.dead d)
 
--- the cycle at which the second of the latest bus reset is over
-abbrev pub over_at : State → ℕ
-over_at s = s.reset_cycle + 8000
+-- the living controllers, in order of declaration
+abbrev pub living : State → List ℕ
+living s = numbers_to (length s.declared.names) (is_living s)
 
--- one device more, which has no cable yet
-abbrev pub with_device : State → List ℕ → DeviceKind → ℕ → ℕ → State
-with_device s name kind ports speed = record s {
-  topology = record { devices = s.topology.devices ++ facts_of kind ports speed ∷ []; cables = s.topology.cables };
-  names = s.names ++ name ∷ [];
-  kinds = s.kinds ++ kind ∷ [];
-}
+-- ---- what controllers know of the bus
+
+-- They are told at a bus reset: the nodes that have a link, the manager, and when the second is over.
+abbrev pub directory_of : State → Directory
+directory_of s = record { node = list_to 63 (linked_number s.account.latest); manager = manager_in s.account.latest; over_at = s.clock.over_at }

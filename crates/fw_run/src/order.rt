@@ -1,4 +1,4 @@
-use fw_base::DeviceKind;
+use fw_base::{DeviceKind, PlugAt};
 use fw_script::Name;
 use fw_tree::End;
 
@@ -19,7 +19,19 @@ pub struct Transaction {
     pub access: Access,
 }
 
-/// What a command orders that breaks no rule. Devices have their numbers in order of declaration, from 0.
+/// A new connection of a controller, as a command asks for it.
+#[derive(Clone, Copy, Debug, PartialEq, Eq)]
+pub enum Wanted {
+    /// A point-to-point connection of an output plug to an input plug: the channel, none for the lowest free one, and the
+    /// overhead_ID.
+    PlugToPlug(PlugAt, PlugAt, Option<u8>, u8),
+    /// A broadcast-out connection of an output plug, with this overhead_ID.
+    BroadcastOut(PlugAt, u8),
+    /// A broadcast-in connection of an input plug.
+    BroadcastIn(PlugAt),
+}
+
+/// A command, with its devices by number: they have their numbers in order of declaration, from 0.
 #[derive(Debug, PartialEq, Eq, Drop)]
 pub enum Order {
     /// A device more: its name, its kind, its ports (1 to 27) and its speed (0, 1, 2 for 100, 200, 400 Mbit/s).
@@ -28,16 +40,24 @@ pub enum Order {
     Cable(End, End),
     /// A bus reset that the device begins.
     Reset(u8),
-    /// A broadcast-out connection of output plug 0 of device 0, with this overhead_ID (0 to 15).
-    Broadcast(u8),
+    /// A new connection of the device's controller.
+    Connect(u8, Wanted),
+    /// A break of the connection in a slot of the device's controller.
+    Break(u8, u8),
     /// Half steps of the device's controller, 1 to 10,000.
     Step(u8, u32),
+    /// Rounds of half steps of all living controllers, 1 to 200,000.
+    Settle(u32),
     /// Cycles that go by.
     Wait(u32),
+    /// The device's controller dies: true where its standing request is carried out before.
+    Die(u8, bool),
+    /// The device's controller starts.
+    Start(u8),
     /// A transaction, carried out whole.
     Transact(Transaction),
-    /// The word that stands at an offset of a device.
-    Show(u8, u16, u32),
+    /// The word that stands at an offset of a device is shown.
+    Show(u8, u16),
     /// The end of the script.
     End,
 }

@@ -1,5 +1,4 @@
-/// The rules by which commands are refused. They are tested in the order NotBuilt, UnknownName, NameTaken, TooMany, NoPort,
-/// PortUsed, Loop, NotController, OffBus, Guarded, NoRegister, Limit.
+/// The rules by which commands are refused.
 #[derive(Clone, Copy, Debug, PartialEq, Eq)]
 pub enum RuleFault {
     /// A named device is not declared.
@@ -14,7 +13,8 @@ pub enum RuleFault {
     PortUsed,
     /// `cable`: the two devices are connected already, or are one.
     Loop,
-    /// `step`, `read`, `swap`: the first device has no living controller: it is a relay, or off.
+    /// `connect`, `broadcast`, `listen`, `break`, `step`, `die`, `read`, `swap`: the first device has no living
+    /// controller. `start`: it is a relay, or off.
     NotController,
     /// `swap` at a register that only controllers' procedures swap: those of channels and units, and of plugs.
     Guarded,
@@ -24,6 +24,14 @@ pub enum RuleFault {
     /// More than 10,000 bus resets or 4,000,000 half steps, or a cycle number above 2 to the power 52. The command that
     /// would pass a limit is refused whole.
     Limit,
+    /// All 32 slots of the controller are in use.
+    TableFull,
+    /// Eight jobs of the controller wait.
+    Busy,
+    /// `break`: the slot's connection does not stand and is not to be restored, or a break of it waits or is current.
+    NoSuchConnection,
+    /// `broadcast`, `listen`: the plug is another device's.
+    NotOwnPlug,
     /// `reset`: the device is off. `read`, `swap`: the second device is off or a relay. `show`: the device is.
     OffBus,
     /// The bus does not carry the command out yet.

@@ -1,6 +1,6 @@
 -- The numbers of a command that some line of a script gives.
-use Rattle.std.proofs.Common.{◌≡◌, ℕ, ◌+◌, ◌-◌, ◌*◌, ◌<◌, ◌≤◌, ◌^◌, List, [], ◌∷◌, length, nat_le, ◌==◌, Bool, true, false, cond, ◌&&◌, Option, Some, None, IfSome, Ok, refl, inl, inr, sym, subst, arith}
-use Rattle.std.specs.Prelude.{⊤}
+use Rattle.std.proofs.Common.{◌≡◌, ℕ, ◌+◌, ◌-◌, ◌*◌, ◌<◌, ◌≤◌, ◌^◌, List, [], ◌∷◌, length, nat_le, ◌==◌, Bool, true, false, cond, ◌&&◌, Option, Some, None, IfSome, Ok, refl, ap, inl, inr, sym, subst, arith}
+use Rattle.std.specs.Prelude.{⊤, codes}
 use Rattle.std.specs.declared.result.Result.{Result}
 use Rattle.std.specs.Int.{from_be_bytes, w16}
 use Rattle.std.specs.Str.Parse.{digits_value}
@@ -10,7 +10,8 @@ use Rattle.std.proofs.lemmas.Option.{same_Some}
 use Rattle.hex.specs.Hex.{decode_pairs, decode_sized, digit_or_error, hex_digit_value, ◌>>=◌}
 use Rattle.hex.specs.declared.error.FromHexError.{FromHexError}
 use Rattle.fw_script.specs.Form.{HasArguments, HasForm}
-use Rattle.fw_script.specs.Words.{is_decimal, only_if, or_none, number_in, offset_in}
+use Rattle.fw_script.specs.Words.{both, channel_in, is, is_decimal, name_in, only_if, or_none, number_in, offset_in, place_by, place_in, some_in}
+use Rattle.fw_script.specs.Pieces.{pieces}
 use Rattle.fw_script.specs.declared.keyword.Keyword.{Keyword}
 use Rattle.fw_script.specs.declared.keyword.Keyword.TheVariants.{Device, Cable, Reset, Connect, Broadcast, Listen, Break, Step, Settle, Wait, Cycles, Die, Start, Command as CommandWord, Read, Swap, Insert, Eject, Show, End}
 use Rattle.fw_script.specs.declared.command.Command.{Command}
@@ -19,8 +20,11 @@ use Rattle.fw_script.specs.declared.command.Command.TheVariants as Commands
 -- the numbers are in their ranges
 abbrev pub CommandFits : Command → Type 0
 CommandFits (Commands.Device name kind ports speed) = (kind ≤ 3) × (1 ≤ ports) × (ports ≤ 27) × (speed ≤ 2)
-CommandFits (Commands.Broadcast name plug overhead) = overhead < 16
+CommandFits (Commands.Connect name output input channel overhead) = (output.1 < 31) × (input.1 < 31) × IfSome channel (λ ch. ch < 64) × (overhead < 16)
+CommandFits (Commands.Broadcast name output overhead) = (output.1 < 31) × (overhead < 16)
+CommandFits (Commands.Listen name input) = input.1 < 31
 CommandFits (Commands.Step name count) = count ≤ 10000
+CommandFits (Commands.Settle rounds) = rounds ≤ 200000
 CommandFits (Commands.Read a b offset) = offset < 2 ^ 12
 CommandFits (Commands.Swap a b offset argument new) = offset < 2 ^ 12
 CommandFits (Commands.Show name offset) = offset < 2 ^ 12
@@ -99,6 +103,33 @@ three_digits (a ∷ b ∷ c ∷ d ∷ w) n size e = absurd (omega arith)
 offset_range : (w : List ℕ) (n : ℕ) → offset_in w ≡ Some n → n < 2 ^ 12
 offset_range w n e = let h = some_if (length w == 3) (or_none (from_be_bytes w16) (decode_sized (48 ∷ w) 2)) n e in three_digits w n (eqb-true (length w) 3 h.0) h.1
 
+-- ---- plugs and channels
+
+both_range : (high : ℕ) (o : Option (List ℕ)) (k : Option ℕ) (p : List ℕ × ℕ) → ((n : ℕ) → k ≡ Some n → n ≤ high) → both o k ≡ Some p → p.1 ≤ high
+both_range high (Some name) (Some n) p low e = let same : n ≡ p.1 = ap (λ (p : List ℕ × ℕ). p.1) (same_Some (name, n) p e) in let le = low n refl in omega arith
+both_range high (Some name) None p low e = absurd (let z : ⊥ = cc in z)
+both_range high None k p low e = absurd (let z : ⊥ = cc in z)
+
+place_by_range : (high : ℕ) (ws : List (List ℕ)) (p : List ℕ × ℕ) → place_by high ws ≡ Some p → p.1 ≤ high
+place_by_range high [] p e = absurd (let z : ⊥ = cc in z)
+place_by_range high (name ∷ []) p e = absurd (let z : ⊥ = cc in z)
+place_by_range high (name ∷ number ∷ []) p e = both_range high (name_in name) (number_in 0 high number) p (λ n is. (number_range 0 high number n is).1) e
+place_by_range high (name ∷ number ∷ w ∷ ws) p e = absurd (let z : ⊥ = cc in z)
+
+place_range : (high : ℕ) (w : List ℕ) (p : List ℕ × ℕ) → place_in high w ≡ Some p → p.1 ≤ high
+place_range high w p e = place_by_range high (pieces 46 w) p e
+
+some_channel : (k asked : Option ℕ) → ((n : ℕ) → k ≡ Some n → n ≤ 63) → some_in k ≡ Some asked → IfSome asked (λ ch. ch < 64)
+some_channel (Some n) asked low e = let le = low n refl in let P : Option ℕ → Type 0 = λ o. IfSome o (λ ch. ch < 64) in subst P (same_Some (Some n) asked e) (omega arith)
+some_channel None asked low e = absurd (let z : ⊥ = cc in z)
+
+channel_range : (w : List ℕ) (asked : Option ℕ) → channel_in w ≡ Some asked → IfSome asked (λ ch. ch < 64)
+channel_range w asked e = go (is (codes "any") w) e
+  where
+    go : (b : Bool) → cond b (Some None) (some_in (number_in 0 63 w)) ≡ Some asked → IfSome asked (λ ch. ch < 64)
+    go true e = let P : Option ℕ → Type 0 = λ o. IfSome o (λ ch. ch < 64) in subst P (same_Some None asked e) tt
+    go false e = some_channel (number_in 0 63 w) asked (λ n is. (number_range 0 63 w n is).1) e
+
 -- ---- commands
 
 fits_as : (c d : Command) → c ≡ d → CommandFits d → CommandFits c
@@ -108,17 +139,24 @@ arguments_fit : (k : Keyword) (ws : List (List ℕ)) (c : Command) → HasArgume
 arguments_fit Device ws c h =
     let ports = number_range 1 27 h.2 h.6 h.11 in
     fits_as c (Commands.Device h.4 h.5 h.6 h.7) h.13 (kind_range _ _ _ _ h.5 h.10, ports.0, ports.1, speed_range _ _ _ h.7 h.12)
-arguments_fit Broadcast ws c h = fits_as c (Commands.Broadcast h.3 h.4 h.5) h.10 (let range = number_range 0 15 h.2 h.5 h.9 in omega arith)
+arguments_fit Connect ws c h =
+    let output = place_range 30 h.1 h.6 h.12 in
+    let input = place_range 30 h.2 h.7 h.13 in
+    let overhead = number_range 0 15 h.4 h.9 h.15 in
+    fits_as c (Commands.Connect h.5 h.6 h.7 h.8 h.9) h.16 (omega arith, omega arith, channel_range h.3 h.8 h.14, omega arith)
+arguments_fit Broadcast ws c h =
+    let output = place_range 30 h.1 h.4 h.8 in
+    let overhead = number_range 0 15 h.2 h.5 h.9 in
+    fits_as c (Commands.Broadcast h.3 h.4 h.5) h.10 (omega arith, omega arith)
+arguments_fit Listen ws c h = let input = place_range 30 h.1 h.3 h.6 in fits_as c (Commands.Listen h.2 h.3) h.7 (omega arith)
+arguments_fit Settle ws c h = fits_as c (Commands.Settle h.1) h.4 (number_range 1 200000 h.0 h.1 h.3).1
 arguments_fit Step ws c h = fits_as c (Commands.Step h.2 h.3) h.7 (number_range 1 10000 h.1 h.3 h.6).1
 arguments_fit Read ws c h = fits_as c (Commands.Read h.3 h.4 h.5) h.10 (offset_range h.2 h.5 h.9)
 arguments_fit Swap ws c h = fits_as c (Commands.Swap h.5 h.6 h.7 h.8 h.9) h.16 (offset_range h.2 h.7 h.13)
 arguments_fit Show ws c h = fits_as c (Commands.Show h.2 h.3) h.7 (offset_range h.1 h.3 h.6)
 arguments_fit Cable ws c h = fits_as c (Commands.Cable h.2 h.3) h.7 tt
 arguments_fit Reset ws c h = fits_as c (Commands.Reset h.1) h.4 tt
-arguments_fit Connect ws c h = fits_as c (Commands.Connect h.5 h.6 h.7 h.8 h.9) h.16 tt
-arguments_fit Listen ws c h = fits_as c (Commands.Listen h.2 h.3) h.7 tt
 arguments_fit Break ws c h = fits_as c (Commands.Break h.2 h.3) h.7 tt
-arguments_fit Settle ws c h = fits_as c (Commands.Settle h.1) h.4 tt
 arguments_fit Wait ws c h = fits_as c (Commands.Wait h.1) h.4 tt
 arguments_fit Cycles ws c h = fits_as c (Commands.Cycles h.1) h.4 tt
 arguments_fit Die ws c (inl h) = fits_as c (Commands.Die h.1 false) h.4 tt

@@ -1,119 +1,258 @@
 -- What each decision leads to.
-use Rattle.fw_cmp.specs.declared.job.Held.{Held}
-use Rattle.fw_cmp.specs.declared.job.Job.{Job}
-use Rattle.fw_cmp.specs.declared.stage.Stage.{Stage}
-use Rattle.fw_cmp.specs.declared.job.Then.{Then}
-use Rattle.fw_cmp.specs.declared.job.Outcome.TheVariants.{NoChannel, NoUnits, PlugFull, Late}
-use Rattle.fw_cmp.specs.declared.stage.Stage.TheVariants.{ReadOutput, ReadChannels, SwapChannels, SwapBandwidth, ConnectOutput, OverlayOutput, ReadBandwidthToRelease, ReadChannelsToRelease, Ended}
-use Rattle.fw_cmp.specs.declared.job.Then.TheVariants.{EndsAs, Again}
-use Rattle.std.proofs.Common.{pow_pos, ◌^◌, ◌≡◌, ℕ, ◌+◌, ◌-◌, ◌<◌, Bool, true, false, Option, Some, None, eqb, refl, ap, arith, ◌&&◌, cond, ◌⊎◌, inl, inr, leb, ltb, leb-true}
+use Rattle.fw_base.specs.declared.plug.PlugAt.{PlugAt}
+use Rattle.fw_base.specs.declared.plug.ConnectionKind.{ConnectionKind}
+use Rattle.std.proofs.Common.{◌≡◌, ℕ, ◌+◌, ◌-◌, ◌^◌, ◌<◌, Bool, true, false, Option, Some, None, is_some, eqb, leb, cond, refl, ap, arith, ◌&&◌, pow_pos}
+use Rattle.std.specs.Prelude.{not}
 use Rattle.std.proofs.lemmas.Bool.Decides.{nat_tests}
 use Rattle.fw_base.specs.Tables.{find_to}
-use Rattle.fw_plug.specs.Words.{Settings, units_of}
+use Rattle.fw_plug.specs.Words.{Settings, units_of, is_connected}
 use Rattle.fw_ledger.specs.Account.{Account}
-use Rattle.fw_plug.specs.Words.{OutFields, out_fields}
-use Rattle.fw_ledger.specs.Words.{fields_at}
-use Rattle.fw_base.proofs.Tables.{find_to_is, IsFirst}
-use Rattle.fw_cmp.specs.Stages.{pending_of, is_joined, is_connected, is_full, is_bit, half_of, is_other, wanted, give_back, decide_free, decide_connected, decide_out, decide_any, decide_channel, decide_units, needs, first_half}
-use Rattle.fw_step.specs.InStep.{IsFirstWord, Knows, allocates, again}
+use Rattle.fw_cmp.specs.declared.connection.Connection.{Connection}
+use Rattle.fw_cmp.specs.declared.connection.Connection.TheVariants.{PlugToPlug, BroadcastOut, BroadcastIn}
+use Rattle.fw_cmp.specs.declared.connection.Flow.{Flow}
+use Rattle.fw_cmp.specs.declared.job.Job.{Job}
+use Rattle.fw_cmp.specs.declared.job.Held.{Held}
+use Rattle.fw_cmp.specs.declared.job.Then.{Then}
+use Rattle.fw_cmp.specs.declared.job.Then.TheVariants.{EndsAs, Again}
+use Rattle.fw_cmp.specs.declared.job.Ending.{Ending}
+use Rattle.fw_cmp.specs.declared.job.Ending.TheVariants.{Broken, NoChannel, NoUnits, PlugFull, InputBusy, Late}
+use Rattle.fw_cmp.specs.declared.stage.Stage.{Stage}
+use Rattle.fw_cmp.specs.declared.stage.Stage.TheVariants.{ReadOutput, ReadChannels, SwapChannels, ReadBandwidth, SwapBandwidth, ConnectOutput, OverlayOutput, ReadInput, ConnectInput, LeaveInput, ReadOutputToLeave, LeaveOutput, ReadBandwidthToRelease, RaiseBandwidth, ReadChannelsToRelease, RestoreChannel, Made, Ended}
+use Rattle.fw_cmp.specs.Connections.{kind_of, output_of, input_of, is_listen, is_point_to_point}
+use Rattle.fw_cmp.specs.Plugs.{channel_of, counter_of, has_broadcast, is_full, is_bit, remainder_of}
+use Rattle.fw_cmp.specs.Decisions.{restores, goes_on, give_back, leave_output, is_other, first_half, is_lost, decide_out, decide_any, decide_channel, needs, decide_units, output_joined, listen_flow, decide_listen, decide_point_to_point, decide_in, input_left}
+use Rattle.fw_cmp.specs.Holdings.{pending_of, has_output, has_input, job_outputs, job_inputs}
+use Rattle.fw_cmp.specs.Controllers.{count_of}
+use Rattle.fw_step.specs.InStep.{units_at, Knows, KnowsFlow, KnowsChannel, KnowsInput, IsFresh, is_input_stage, IsFlow, again, allocates, sees, sees_input}
 
--- a stage with this pending allocation, joined or not, that allocates only where it may
-pub record IsNext (l : Account) (j : Job) (h : Option Held) (b may : Bool) (t : Stage) : Type 0 where
+-- A stage that has this, at these plugs, and rests on no more: that the job may allocate, that its output plug was seen, and
+-- that its input plug was found.
+pub record IsNext (l : Account) (j : Job) (h : Option Held) (out into may seen found : Bool) (t : Stage) : Type 0 where
   pub pending : pending_of t ≡ h
-  pub is_joined : is_joined t ≡ b
-  pub knows : Knows (l.settings j.plug).rate j t
+  pub output : (kind : ConnectionKind) (q : PlugAt) → job_outputs j t kind q ≡ count_of (out && has_output j.connection kind q)
+  pub input : (kind : ConnectionKind) (q : PlugAt) → job_inputs j t kind q ≡ count_of (into && has_input j.connection kind q)
+  pub knows : (p : PlugAt) → output_of j.connection ≡ Some p → Knows (l.settings p).rate j t
+  pub flow : (p : PlugAt) → output_of j.connection ≡ Some p → KnowsFlow (l.settings p) t
+  pub channel : (q : PlugAt) → input_of j.connection ≡ Some q → KnowsChannel (l.input_channel q) t
+  pub keeps : KnowsInput t
+  pub fresh : IsFresh j t
+  pub plugs : is_input_stage t ≡ true → is_some (input_of j.connection) ≡ true
   pub allocates : allocates t ≡ true → may ≡ true
-  pub channel : (ch : ℕ) → wanted t ≡ Some ch → is_other j.asked ch ≡ false
+  pub sees : sees t ≡ true → seen ≡ true
+  pub sees_input : sees_input t ≡ true → found ≡ true
 
 pub some_units : (k : Settings) → 0 < units_of k
 some_units k = let e : 0 < 2 ^ (4 - k.rate) = pow_pos (4 - k.rate) in omega arith
 
--- a word that was read at the job's plug
-abbrev pub IsWord : Account → Job → ℕ → Type 0
-IsWord l j w = out_fields w ≡ fields_at l j.plug
+-- ---- ends, and giving back
 
-pub back_next : (l : Account) (j : Job) (h : Option Held) (next : Then) (may : Bool) → (again next ≡ true → may ≡ true) → IsNext l j h false may (give_back h next)
-back_next l j None (EndsAs o) may f = record { pending = refl; is_joined = refl; knows = tt; allocates = λ e. f e; channel = λ ch e. grind arith }
-back_next l j None Again may f = record { pending = refl; is_joined = refl; knows = tt; allocates = f; channel = λ ch e. grind arith }
-back_next l j (Some h) next may f = go (eqb h.units 0) refl
+pub ended_next : (l : Account) (j : Job) (e : Ending) (may seen found : Bool) → IsNext l j None false false may seen found (Ended e)
+ended_next l j e may seen found = record { pending = refl; output = λ kind q. refl; input = λ kind q. refl; knows = λ p x. tt; flow = λ p x. tt; channel = λ q x. tt; keeps = tt; fresh = tt; plugs = λ y. grind arith; allocates = λ x. grind arith; sees = λ x. grind arith; sees_input = λ x. grind arith }
+
+pub read_next : (l : Account) (j : Job) (may seen found : Bool) → may ≡ true → IsNext l j None false false may seen found ReadOutput
+read_next l j may seen found e = record { pending = refl; output = λ kind q. refl; input = λ kind q. refl; knows = λ p x. tt; flow = λ p x. tt; channel = λ q x. tt; keeps = tt; fresh = tt; plugs = λ y. grind arith; allocates = λ x. e; sees = λ x. grind arith; sees_input = λ x. grind arith }
+
+pub on_next : (l : Account) (j : Job) (next : Then) (may seen found : Bool) → (again next ≡ true → may ≡ true) → IsNext l j None false false may seen found (goes_on next)
+on_next l j (EndsAs e) may seen found f = ended_next l j e may seen found
+on_next l j Again may seen found f = read_next l j may seen found (f refl)
+
+pub back_next : (l : Account) (j : Job) (h : Held) (next : Then) (may seen found : Bool) → (again next ≡ true → may ≡ true) → IsNext l j (Some h) false false may seen found (give_back (Some h) next)
+back_next l j h next may seen found f = go (eqb h.units 0) refl
   where
-    go : (b : Bool) → eqb h.units 0 ≡ b → IsNext l j (Some h) false may (cond b (ReadChannelsToRelease next h.channel) (ReadBandwidthToRelease next h.channel h.units))
-    go true e = record { pending = grind (arith, nat_tests); is_joined = refl; knows = tt; allocates = f; channel = λ ch x. grind arith }
-    go false e = record { pending = refl; is_joined = refl; knows = grind (arith, nat_tests); allocates = f; channel = λ ch x. grind arith }
+    go : (b : Bool) → eqb h.units 0 ≡ b → IsNext l j (Some h) false false may seen found (cond b (ReadChannelsToRelease next h.channel) (ReadBandwidthToRelease next h.channel h.units))
+    go true e = record { pending = grind (arith, nat_tests); output = λ kind q. refl; input = λ kind q. refl; knows = λ p x. tt; flow = λ p x. tt; channel = λ q x. tt; keeps = tt; fresh = tt; plugs = λ y. grind arith; allocates = f; sees = λ x. grind arith; sees_input = λ x. grind arith }
+    go false e = record { pending = refl; output = λ kind q. refl; input = λ kind q. refl; knows = λ p x. grind (arith, nat_tests); flow = λ p x. tt; channel = λ q x. tt; keeps = tt; fresh = tt; plugs = λ y. grind arith; allocates = f; sees = λ x. grind arith; sees_input = λ x. grind arith }
 
--- what was asked for is no other channel
-not_other : (o : Option ℕ) (ch k : ℕ) → o ≡ Some ch → Some ch ≡ Some k → is_other o k ≡ false
-not_other o ch k e x = rw e (grind (arith, nat_tests))
+pub back_nothing : (l : Account) (j : Job) (e : Ending) (may seen found : Bool) → IsNext l j None false false may seen found (give_back None (EndsAs e))
+back_nothing l j e may seen found = ended_next l j e may seen found
 
-connected_next : (l : Account) (j : Job) (w : ℕ) → is_connected (out_fields w) ≡ true → is_full j.kind (out_fields w) ≡ false → IsNext l j None false true (decide_connected j None w)
-connected_next l j w is room = go (j.restores && is_other j.asked (out_fields w).settings.channel)
+-- ---- the output plug
+
+-- the units that the job needs by a word are those at the plug's data rate
+abbrev pub NeedsAre : Account → Job → ℕ → Type 0
+NeedsAre l j w = (p : PlugAt) → output_of j.connection ≡ Some p → needs j w ≡ units_at (l.settings p).rate j.overhead
+
+overlay_next : (l : Account) (j : Job) (w : ℕ) (found : Bool) → IsNext l j None false false true true found (OverlayOutput w)
+overlay_next l j w found = record { pending = refl; output = λ kind q. refl; input = λ kind q. refl; knows = λ p x. tt; flow = λ p x. tt; channel = λ q x. tt; keeps = tt; fresh = tt; plugs = λ y. grind arith; allocates = λ x. refl; sees = λ x. refl; sees_input = λ x. grind arith }
+
+channels_next : (l : Account) (j : Job) (base w : ℕ) (found : Bool) → NeedsAre l j w → IsNext l j None false false true true found (ReadChannels base w)
+channels_next l j base w found needs_are = record { pending = refl; output = λ kind q. refl; input = λ kind q. refl; knows = needs_are; flow = λ p x. tt; channel = λ q x. tt; keeps = tt; fresh = tt; plugs = λ y. grind arith; allocates = λ x. refl; sees = λ x. refl; sees_input = λ x. grind arith }
+
+pub out_next : (l : Account) (j : Job) (w : ℕ) (found : Bool) → NeedsAre l j w → IsNext l j None false false true true found (decide_out j None w)
+out_next l j w found needs_are = go (is_full (kind_of j.connection) w) (is_connected w) (is_lost j w)
   where
-    go : (b : Bool) → IsNext l j None false true (cond b (Ended Late) (OverlayOutput w))
-    go true = record { pending = refl; is_joined = refl; knows = tt; allocates = λ e. refl; channel = λ ch e. grind arith }
-    go false = record { pending = refl; is_joined = refl; knows = (is, room); allocates = λ e. refl; channel = λ ch e. grind arith }
+    go : (full connected lost : Bool) → IsNext l j None false false true true found (cond full (give_back None (EndsAs (PlugFull w))) (cond connected (cond lost (Ended Late) (OverlayOutput w)) (ReadChannels (first_half j.asked) w)))
+    go true connected lost = ended_next l j (PlugFull w) true true found
+    go false true true = ended_next l j Late true true found
+    go false true false = overlay_next l j w found
+    go false false lost = channels_next l j (first_half j.asked) w found needs_are
 
-pub first_is : (o : Option ℕ) → (first_half o ≡ 0) ⊎ (first_half o ≡ 32)
-first_is None = inl refl
-first_is (Some ch) = go (ltb ch 32)
+-- with a reservation
+pub held_next : (l : Account) (j : Job) (h : Held) (w : ℕ) (found : Bool) → ((p : PlugAt) → output_of j.connection ≡ Some p → h.units ≡ units_at (l.settings p).rate j.overhead) → IsNext l j (Some h) false false true true found (decide_out j (Some h) w)
+held_next l j h w found units = go (is_full (kind_of j.connection) w) (is_connected w) (is_lost j w)
   where
-    go : (b : Bool) → (cond {A = ℕ} b 0 32 ≡ 0) ⊎ (cond {A = ℕ} b 0 32 ≡ 32)
-    go true = inl refl
-    go false = inr refl
+    go : (full connected lost : Bool) → IsNext l j (Some h) false false true true found (cond full (give_back (Some h) (EndsAs (PlugFull w))) (cond connected (give_back (Some h) (cond lost (EndsAs Late) Again)) (ConnectOutput h.channel h.units w)))
+    go true connected lost = back_next l j h (EndsAs (PlugFull w)) true true found (λ x. refl)
+    go false true true = back_next l j h (EndsAs Late) true true found (λ x. refl)
+    go false true false = back_next l j h Again true true found (λ x. refl)
+    go false false lost = record { pending = refl; output = λ kind q. refl; input = λ kind q. refl; knows = units; flow = λ p x. tt; channel = λ q x. tt; keeps = tt; fresh = tt; plugs = λ y. grind arith; allocates = λ x. refl; sees = λ x. refl; sees_input = λ x. grind arith }
 
-pub first_of : (o : Option ℕ) (ch : ℕ) → o ≡ Some ch → half_of ch ≡ first_half o
-first_of o ch e = rw e refl
+-- ---- the manager's registers
 
-pub out_next : (l : Account) (j : Job) (w : ℕ) → IsWord l j w → IsNext l j None false true (decide_out j None w)
-out_next l j w is = go (is_full j.kind (out_fields w)) refl (is_connected (out_fields w)) refl
+swap_next : (l : Account) (j : Job) (ch v w : ℕ) (found : Bool) → is_other j.asked ch ≡ false → NeedsAre l j w → IsNext l j None false false true true found (SwapChannels ch v w)
+swap_next l j ch v w found own needs_are = record { pending = refl; output = λ kind q. refl; input = λ kind q. refl; knows = λ p x. (own, needs_are p x); flow = λ p x. tt; channel = λ q x. tt; keeps = tt; fresh = tt; plugs = λ y. grind arith; allocates = λ x. refl; sees = λ x. refl; sees_input = λ x. grind arith }
+
+not_other : (o : Option ℕ) (ch : ℕ) → o ≡ Some ch → is_other o ch ≡ false
+not_other None ch e = refl
+not_other (Some a) ch e = grind (arith, nat_tests)
+
+pub channel_next : (l : Account) (j : Job) (base w v : ℕ) (found : Bool) → NeedsAre l j w → IsNext l j None false false true true found (decide_channel j j.asked base w v)
+channel_next l j base w v found needs_are = go j.asked refl
   where
-    go : (b : Bool) → is_full j.kind (out_fields w) ≡ b → (d : Bool) → is_connected (out_fields w) ≡ d → IsNext l j None false true (cond b (give_back None (EndsAs (PlugFull w))) (cond d (decide_connected j None w) (decide_free j None w)))
-    go true e d f = record { pending = refl; is_joined = refl; knows = tt; allocates = λ x. refl; channel = λ ch x. grind arith }
-    go false e true f = connected_next l j w f e
-    go false e false f = record { pending = refl; is_joined = refl; knows = (first_is j.asked, first_of j.asked, (f, ap (λ (x : OutFields). x.settings.rate) is)); allocates = λ x. refl; channel = λ ch x. grind arith }
+    taken : (b r : Bool) (ch : ℕ) → j.asked ≡ Some ch → IsNext l j None false false true true found (cond b (SwapChannels ch v w) (cond r ReadOutput (Ended (NoChannel v))))
+    taken true r ch e = swap_next l j ch v w found (not_other j.asked ch e) needs_are
+    taken false true ch e = read_next l j true true found refl
+    taken false false ch e = ended_next l j (NoChannel v) true true found
 
--- with a pending allocation
-pub held_next : (l : Account) (j : Job) (h : Held) (w : ℕ) → IsWord l j w → h.units ≡ units_of (record { channel = h.channel; rate = (l.settings j.plug).rate; overhead = j.overhead }) → IsNext l j (Some h) false true (decide_out j (Some h) w)
-held_next l j h w is u = go (is_full j.kind (out_fields w)) (is_connected (out_fields w)) refl (j.restores && is_other j.asked (out_fields w).settings.channel)
+    rest : (b : Bool) → IsNext l j None false false true true found (cond b (ReadChannels 32 w) (Ended (NoChannel v)))
+    rest true = channels_next l j 32 w found needs_are
+    rest false = ended_next l j (NoChannel v) true true found
+
+    any : (o : Option ℕ) → j.asked ≡ None → IsNext l j None false false true true found (decide_any o base w v)
+    any (Some i) e = swap_next l j (base + i) v w found (ap (λ x. is_other x (base + i)) e) needs_are
+    any None e = rest (eqb base 0)
+
+    go : (o : Option ℕ) → j.asked ≡ o → IsNext l j None false false true true found (decide_channel j o base w v)
+    go (Some ch) e = taken (is_bit v (ch - base)) (restores j) ch e
+    go None e = any (find_to 32 (is_bit v)) e
+
+pub units_next : (l : Account) (j : Job) (ch w v : ℕ) (found : Bool) → is_other j.asked ch ≡ false → NeedsAre l j w → IsNext l j (Some (record { channel = ch; units = 0 })) false false true true found (decide_units j ch w v)
+units_next l j ch w v found own needs_are = go (leb (needs j w) (remainder_of v))
   where
-    go : (b d : Bool) → is_connected (out_fields w) ≡ d → (e : Bool) → IsNext l j (Some h) false true (cond b (give_back (Some h) (EndsAs (PlugFull w))) (cond d (give_back (Some h) (cond e (EndsAs Late) Again)) (ConnectOutput h.channel h.units w)))
-    go true d f e = back_next l j (Some h) (EndsAs (PlugFull w)) true (λ x. refl)
-    go false true f true = back_next l j (Some h) (EndsAs Late) true (λ x. refl)
-    go false true f false = back_next l j (Some h) Again true (λ x. refl)
-    go false false f e = record { pending = refl; is_joined = refl; knows = (f, u); allocates = λ x. refl; channel = λ ch x. grind arith }
+    go : (b : Bool) → IsNext l j (Some (record { channel = ch; units = 0 })) false false true true found (cond b (SwapBandwidth ch (needs j w) v w) (ReadChannelsToRelease (EndsAs (NoUnits (remainder_of v))) ch))
+    go true = record { pending = refl; output = λ kind q. refl; input = λ kind q. refl; knows = λ p x. (own, needs_are p x, needs_are p x); flow = λ p x. tt; channel = λ q x. tt; keeps = tt; fresh = tt; plugs = λ y. grind arith; allocates = λ x. refl; sees = λ x. refl; sees_input = λ x. grind arith }
+    go false = record { pending = refl; output = λ kind q. refl; input = λ kind q. refl; knows = λ p x. tt; flow = λ p x. tt; channel = λ q x. tt; keeps = tt; fresh = tt; plugs = λ y. grind arith; allocates = λ x. grind arith; sees = λ x. grind arith; sees_input = λ x. grind arith }
 
--- a channel's word
-pub channel_next : (l : Account) (j : Job) (base w v : ℕ) → (base ≡ 0) ⊎ (base ≡ 32) → ((ch : ℕ) → j.asked ≡ Some ch → (ch < 64) × (half_of ch ≡ base)) → IsFirstWord (l.settings j.plug).rate w → IsNext l j None false true (decide_channel j j.asked base w v)
-channel_next l j base w v half fits rate = go j.asked refl
+pub allocated_next : (l : Account) (j : Job) (ch w : ℕ) (found : Bool) → is_other j.asked ch ≡ false → NeedsAre l j w → IsNext l j (Some (record { channel = ch; units = 0 })) false false true true found (ReadBandwidth ch w)
+allocated_next l j ch w found own needs_are = record { pending = refl; output = λ kind q. refl; input = λ kind q. refl; knows = λ p x. (own, needs_are p x); flow = λ p x. tt; channel = λ q x. tt; keeps = tt; fresh = tt; plugs = λ y. grind arith; allocates = λ x. refl; sees = λ x. refl; sees_input = λ x. grind arith }
+
+pub funded_next : (l : Account) (j : Job) (ch u w : ℕ) (found : Bool) → ((p : PlugAt) → output_of j.connection ≡ Some p → u ≡ units_at (l.settings p).rate j.overhead) → IsNext l j (Some (record { channel = ch; units = u })) false false true true found (ConnectOutput ch u w)
+funded_next l j ch u w found units = record { pending = refl; output = λ kind q. refl; input = λ kind q. refl; knows = units; flow = λ p x. tt; channel = λ q x. tt; keeps = tt; fresh = tt; plugs = λ y. grind arith; allocates = λ x. refl; sees = λ x. refl; sees_input = λ x. grind arith }
+
+-- ---- the input plug
+
+-- the job's output plug is set to this flow
+abbrev pub FlowIs : Account → Job → Flow → Type 0
+FlowIs l j f = (p : PlugAt) → output_of j.connection ≡ Some p → IsFlow (l.settings p) f
+
+leave_next : (l : Account) (j : Job) (e : Ending) (f : Flow) (may seen found : Bool) → is_listen j.connection ≡ false → FlowIs l j f → IsNext l j None true false may seen found (leave_output j.connection e f)
+leave_next l j e f may seen found no_listen is = rw no_listen (record { pending = refl; output = λ kind q. refl; input = λ kind q. refl; knows = λ p x. tt; flow = λ p x. let k = is p x in (k.channel, k.units); channel = λ q x. tt; keeps = tt; fresh = tt; plugs = λ y. grind arith; allocates = λ x. grind arith; sees = λ x. grind arith; sees_input = λ x. grind arith })
+
+connect_next : (l : Account) (j : Job) (f : Flow) (w : ℕ) (may seen : Bool) → is_some (input_of j.connection) ≡ true → FlowIs l j f → (is_connected w ≡ true → channel_of w ≡ f.channel) → IsNext l j None true false may seen true (ConnectInput f w)
+connect_next l j f w may seen there is same = record { pending = refl; output = λ kind q. refl; input = λ kind q. refl; knows = λ p x. tt; flow = is; channel = λ q x. tt; keeps = same; fresh = tt; plugs = λ y. there; allocates = λ x. grind arith; sees = λ x. grind arith; sees_input = λ x. refl }
+
+-- a broadcast-in connection has no output plug
+pub no_output : (conn : Connection) (p : PlugAt) → is_listen conn ≡ true → output_of conn ≡ Some p → ⊥
+no_output (PlugToPlug out into) p e x = grind arith
+no_output (BroadcastOut out) p e x = grind arith
+no_output (BroadcastIn into) p e x = grind arith
+
+pub none_at_output : (conn : Connection) (b : Bool) → is_listen conn ≡ true → (kind : ConnectionKind) (q : PlugAt) → 0 ≡ count_of (b && has_output conn kind q)
+none_at_output (PlugToPlug out into) b e kind q = grind arith
+none_at_output (BroadcastOut out) b e kind q = grind arith
+none_at_output (BroadcastIn into) true e kind q = refl
+none_at_output (BroadcastIn into) false e kind q = refl
+
+-- a broadcast-out connection has no input plug
+no_input : (conn : Connection) (p : PlugAt) → is_listen conn ≡ false → is_point_to_point conn ≡ false → input_of conn ≡ Some p → ⊥
+no_input (PlugToPlug out into) p e x y = grind arith
+no_input (BroadcastOut out) p e x y = grind arith
+no_input (BroadcastIn into) p e x y = grind arith
+
+none_at_input : (conn : Connection) (b : Bool) → is_listen conn ≡ false → is_point_to_point conn ≡ false → (kind : ConnectionKind) (q : PlugAt) → count_of (b && has_input conn kind q) ≡ 0
+none_at_input (PlugToPlug out into) b e x kind q = grind arith
+none_at_input (BroadcastOut out) true e x kind q = refl
+none_at_input (BroadcastOut out) false e x kind q = refl
+none_at_input (BroadcastIn into) b e x kind q = grind arith
+
+listen_next : (l : Account) (j : Job) (f : Flow) (w : ℕ) (may seen : Bool) → is_some (input_of j.connection) ≡ true → is_listen j.connection ≡ true → IsNext l j None true false may seen true (decide_listen j f w)
+listen_next l j f w may seen there listens = go (has_broadcast w)
   where
-    taken : (b r : Bool) (ch : ℕ) → j.asked ≡ Some ch → is_bit v (ch - base) ≡ b → IsNext l j None false true (cond b (SwapChannels ch v w) (cond r ReadOutput (Ended (NoChannel v))))
-    taken true r ch e is = record { pending = refl; is_joined = refl; knows = ((fits ch e).0, rw (fits ch e).1 is, rate); allocates = λ x. refl; channel = λ k x. not_other j.asked ch k e x }
-    taken false true ch e is = record { pending = refl; is_joined = refl; knows = tt; allocates = λ x. refl; channel = λ k x. grind arith }
-    taken false false ch e is = record { pending = refl; is_joined = refl; knows = tt; allocates = λ x. refl; channel = λ k x. grind arith }
+    go : (b : Bool) → IsNext l j None true false may seen true (cond b (Ended (InputBusy w)) (ConnectInput (listen_flow j f w) w))
+    go true = record { pending = refl; output = none_at_output j.connection true listens; input = λ kind q. refl; knows = λ p x. tt; flow = λ p x. tt; channel = λ q x. tt; keeps = tt; fresh = tt; plugs = λ y. grind arith; allocates = λ x. grind arith; sees = λ x. grind arith; sees_input = λ x. grind arith }
+    go false = connect_next l j (listen_flow j f w) w may seen there (λ p x. absurd (no_output j.connection p listens x)) (λ e. rw e refl)
 
-    rest : j.asked ≡ None → (b : Bool) → IsNext l j None false true (cond b (ReadChannels 32 w) (Ended (NoChannel v)))
-    rest e true = record { pending = refl; is_joined = refl; knows = (inr refl, (λ ch x. grind (arith, e)), rate); allocates = λ x. refl; channel = λ k x. grind arith }
-    rest e false = record { pending = refl; is_joined = refl; knows = tt; allocates = λ x. refl; channel = λ k x. grind arith }
-
-    any : (o : Option ℕ) → IsFirst 32 (is_bit v) o → j.asked ≡ None → IsNext l j None false true (decide_any o base w v)
-    any (Some i) f e =
-        let own : (base + i) - half_of (base + i) ≡ i = grind (arith, nat_tests, f.0) in
-        record { pending = refl; is_joined = refl; knows = (omega arith, rw own f.1, rate); allocates = λ x. refl; channel = λ k x. rw e refl }
-    any None f e = rest e (eqb base 0)
-
-    go : (o : Option ℕ) → j.asked ≡ o → IsNext l j None false true (decide_channel j o base w v)
-    go (Some ch) e = taken (is_bit v (ch - base)) j.restores ch e refl
-    go None e = any (find_to 32 (is_bit v)) (find_to_is 32 (is_bit v)) e
-
-pub units_next : (l : Account) (j : Job) (ch w v : ℕ) → IsFirstWord (l.settings j.plug).rate w → is_other j.asked ch ≡ false → IsNext l j (Some (record { channel = ch; units = 0 })) false true (decide_units j ch w v)
-units_next l j ch w v rate own = go (leb (needs j ch w) v) refl
+point_to_point_next : (l : Account) (j : Job) (f : Flow) (w : ℕ) (may seen : Bool) → is_some (input_of j.connection) ≡ true → is_listen j.connection ≡ false → FlowIs l j f → IsNext l j None true false may seen true (decide_point_to_point j f w)
+point_to_point_next l j f w may seen there no_listen is = go (is_connected w) refl (eqb (channel_of w) f.channel) refl (eqb (counter_of w) 63)
   where
-    go : (b : Bool) → leb (needs j ch w) v ≡ b → IsNext l j (Some (record { channel = ch; units = 0 })) false true (cond b (SwapBandwidth ch (needs j ch w) v w) (ReadChannelsToRelease (EndsAs (NoUnits v)) ch))
-    go true e = record { pending = refl; is_joined = refl; knows = (leb-true (needs j ch w) v e, refl, rate); allocates = λ x. refl; channel = λ k x. grind arith }
-    go false e = record { pending = refl; is_joined = refl; knows = tt; allocates = λ x. refl; channel = λ k x. grind arith }
+    go : (b : Bool) → is_connected w ≡ b → (d : Bool) → eqb (channel_of w) f.channel ≡ d → (full : Bool) → IsNext l j None true false may seen true (cond (b && not d) (leave_output j.connection (InputBusy w) f) (cond full (leave_output j.connection (PlugFull w) f) (ConnectInput f w)))
+    go true e false g full = leave_next l j (InputBusy w) f may seen true no_listen is
+    go true e true g true = leave_next l j (PlugFull w) f may seen true no_listen is
+    go true e true g false = connect_next l j f w may seen there is (λ x. grind (arith, nat_tests))
+    go false e d g true = leave_next l j (PlugFull w) f may seen true no_listen is
+    go false e d g false = connect_next l j f w may seen there is (λ x. grind (arith, nat_tests))
 
-pub half_is : (ch : ℕ) → (half_of ch ≡ 0) ⊎ (half_of ch ≡ 32)
-half_is ch = go (ltb ch 32)
+pub in_next : (l : Account) (j : Job) (f : Flow) (w : ℕ) (may seen : Bool) → is_some (input_of j.connection) ≡ true → FlowIs l j f → IsNext l j None true false may seen true (decide_in j f w)
+in_next l j f w may seen there is = go (is_listen j.connection) refl
   where
-    go : (b : Bool) → (cond {A = ℕ} b 0 32 ≡ 0) ⊎ (cond {A = ℕ} b 0 32 ≡ 32)
-    go true = inl refl
-    go false = inr refl
+    go : (b : Bool) → is_listen j.connection ≡ b → IsNext l j None true false may seen true (cond b (decide_listen j f w) (decide_point_to_point j f w))
+    go true e = listen_next l j f w may seen there e
+    go false e = point_to_point_next l j f w may seen there e is
+
+-- the node of the input plug refused
+pub refused_next : (l : Account) (j : Job) (e : Ending) (f : Flow) (may seen found : Bool) → FlowIs l j f → IsNext l j None true false may seen found (leave_output j.connection e f)
+refused_next l j e f may seen found is = go (is_listen j.connection) refl
+  where
+    go : (b : Bool) → is_listen j.connection ≡ b → IsNext l j None true false may seen found (leave_output j.connection e f)
+    go true x = rw x (record { pending = refl; output = none_at_output j.connection true x; input = λ kind q. refl; knows = λ p y. tt; flow = λ p y. tt; channel = λ q y. tt; keeps = tt; fresh = tt; plugs = λ y. grind arith; allocates = λ y. grind arith; sees = λ y. grind arith; sees_input = λ y. grind arith })
+    go false x = leave_next l j e f may seen found x is
+
+-- ---- connected
+
+both_plugs : (conn : Connection) → is_point_to_point conn ≡ true → is_some (input_of conn) ≡ true
+both_plugs (PlugToPlug out into) e = refl
+both_plugs (BroadcastOut out) e = grind arith
+both_plugs (BroadcastIn into) e = grind arith
+
+pub joined_next : (l : Account) (j : Job) (f : Flow) (may seen found : Bool) → is_listen j.connection ≡ false → FlowIs l j f → IsNext l j None true false may seen found (output_joined j f)
+joined_next l j f may seen found no_listen is = go (is_point_to_point j.connection) refl
+  where
+    go : (b : Bool) → is_point_to_point j.connection ≡ b → IsNext l j None true false may seen found (cond b (ReadInput f) (Made f))
+    go true e = record { pending = refl; output = λ kind q. refl; input = λ kind q. refl; knows = λ p x. tt; flow = is; channel = λ q x. tt; keeps = tt; fresh = tt; plugs = λ y. both_plugs j.connection e; allocates = λ x. grind arith; sees = λ x. grind arith; sees_input = λ x. grind arith }
+    go false e = record { pending = refl; output = λ kind q. refl; input = none_at_input j.connection true no_listen e; knows = λ p x. tt; flow = is; channel = λ q x. absurd (no_input j.connection q no_listen e x); keeps = tt; fresh = tt; plugs = λ y. grind arith; allocates = λ x. grind arith; sees = λ x. grind arith; sees_input = λ x. grind arith }
+
+pub made_next : (l : Account) (j : Job) (f : Flow) (may seen found : Bool) → FlowIs l j f → ((q : PlugAt) → input_of j.connection ≡ Some q → l.input_channel q ≡ f.channel) → IsNext l j None true true may seen found (Made f)
+made_next l j f may seen found is channel = record { pending = refl; output = λ kind q. refl; input = λ kind q. refl; knows = λ p x. tt; flow = is; channel = channel; keeps = tt; fresh = tt; plugs = λ y. grind arith; allocates = λ x. grind arith; sees = λ x. grind arith; sees_input = λ x. grind arith }
+
+-- ---- leaving
+
+-- channel and units of the job's output plug
+abbrev pub PlugHas : Account → Job → ℕ → ℕ → Type 0
+PlugHas l j ch u = (p : PlugAt) → output_of j.connection ≡ Some p → ((l.settings p).channel ≡ ch) × (units_of (l.settings p) ≡ u)
+
+pub leave_input_next : (l : Account) (j : Job) (ch u v : ℕ) (may seen found : Bool) → is_some (input_of j.connection) ≡ true → PlugHas l j ch u → IsNext l j None true true may seen found (LeaveInput ch u v)
+leave_input_next l j ch u v may seen found there is = record { pending = refl; output = λ kind q. refl; input = λ kind q. refl; knows = λ p x. tt; flow = is; channel = λ q x. tt; keeps = tt; fresh = tt; plugs = λ y. there; allocates = λ x. grind arith; sees = λ x. grind arith; sees_input = λ x. grind arith }
+
+pub input_left_next : (l : Account) (j : Job) (ch u : ℕ) (may seen found : Bool) → PlugHas l j ch u → IsNext l j None true false may seen found (input_left j ch u)
+input_left_next l j ch u may seen found is = go (is_listen j.connection) refl
+  where
+    go : (b : Bool) → is_listen j.connection ≡ b → IsNext l j None true false may seen found (cond b (Ended Broken) (ReadOutputToLeave Broken ch u))
+    go true e = record { pending = refl; output = none_at_output j.connection true e; input = λ kind q. refl; knows = λ p x. tt; flow = λ p x. tt; channel = λ q x. tt; keeps = tt; fresh = tt; plugs = λ y. grind arith; allocates = λ x. grind arith; sees = λ x. grind arith; sees_input = λ x. grind arith }
+    go false e = record { pending = refl; output = λ kind q. refl; input = λ kind q. refl; knows = λ p x. tt; flow = is; channel = λ q x. tt; keeps = tt; fresh = tt; plugs = λ y. grind arith; allocates = λ x. grind arith; sees = λ x. grind arith; sees_input = λ x. grind arith }
+
+pub leave_output_next : (l : Account) (j : Job) (e : Ending) (ch u v : ℕ) (may found : Bool) → PlugHas l j ch u → IsNext l j None true false may true found (LeaveOutput e ch u v)
+leave_output_next l j e ch u v may found is = record { pending = refl; output = λ kind q. refl; input = λ kind q. refl; knows = λ p x. tt; flow = is; channel = λ q x. tt; keeps = tt; fresh = tt; plugs = λ y. grind arith; allocates = λ x. grind arith; sees = λ x. refl; sees_input = λ x. grind arith }
+
+-- ---- giving back
+
+pub raise_next : (l : Account) (j : Job) (next : Then) (ch u v : ℕ) (may seen found : Bool) → 0 < u → (again next ≡ true → may ≡ true) → IsNext l j (Some (record { channel = ch; units = u })) false false may seen found (RaiseBandwidth next ch u v)
+raise_next l j next ch u v may seen found some f = record { pending = refl; output = λ kind q. refl; input = λ kind q. refl; knows = λ p x. some; flow = λ p x. tt; channel = λ q x. tt; keeps = tt; fresh = tt; plugs = λ y. grind arith; allocates = f; sees = λ x. grind arith; sees_input = λ x. grind arith }
+
+pub release_next : (l : Account) (j : Job) (next : Then) (ch u : ℕ) (may seen found : Bool) → 0 < u → (again next ≡ true → may ≡ true) → IsNext l j (Some (record { channel = ch; units = u })) false false may seen found (ReadBandwidthToRelease next ch u)
+release_next l j next ch u may seen found some f = record { pending = refl; output = λ kind q. refl; input = λ kind q. refl; knows = λ p x. some; flow = λ p x. tt; channel = λ q x. tt; keeps = tt; fresh = tt; plugs = λ y. grind arith; allocates = f; sees = λ x. grind arith; sees_input = λ x. grind arith }
+
+pub restore_next : (l : Account) (j : Job) (next : Then) (ch v : ℕ) (may seen found : Bool) → (again next ≡ true → may ≡ true) → IsNext l j (Some (record { channel = ch; units = 0 })) false false may seen found (RestoreChannel next ch v)
+restore_next l j next ch v may seen found f = record { pending = refl; output = λ kind q. refl; input = λ kind q. refl; knows = λ p x. tt; flow = λ p x. tt; channel = λ q x. tt; keeps = tt; fresh = tt; plugs = λ y. grind arith; allocates = f; sees = λ x. grind arith; sees_input = λ x. grind arith }
+
+pub released_next : (l : Account) (j : Job) (next : Then) (ch : ℕ) (may seen found : Bool) → (again next ≡ true → may ≡ true) → IsNext l j (Some (record { channel = ch; units = 0 })) false false may seen found (ReadChannelsToRelease next ch)
+released_next l j next ch may seen found f = record { pending = refl; output = λ kind q. refl; input = λ kind q. refl; knows = λ p x. tt; flow = λ p x. tt; channel = λ q x. tt; keeps = tt; fresh = tt; plugs = λ y. grind arith; allocates = f; sees = λ x. grind arith; sees_input = λ x. grind arith }

@@ -1,147 +1,248 @@
--- What is in step has passed the decisions that led to it, and keeps quadlets.
+-- What a stage keeps has room in the registers, after each answer.
+use Rattle.std.proofs.Common.{◌≡◌, ℕ, ◌+◌, ◌-◌, ◌*◌, ◌^◌, ◌<◌, ◌≤◌, Bool, true, false, not, ◌&&◌, Option, Some, None, eqb, leb, cond, refl, subst, sym, arith, inl, inr}
+use Rattle.std.proofs.lemmas.Bool.Decides.{nat_tests}
+use Rattle.fw_base.specs.Tables.{find_to}
+use Rattle.fw_base.proofs.Tables.{find_to_is, IsFirst}
+use Rattle.fw_csr.specs.declared.reply.Reply.{Reply}
+use Rattle.fw_words.specs.Quadlet.{field}
+use Rattle.fw_plug.specs.Words.{is_connected}
+use Rattle.fw_plug.specs.Units.{payload_quadlets}
+use Rattle.std.proofs.Math.Pow.{pow_mono}
+use Rattle.std.proofs.Math.Nat.{mul-le-mul}
+use Rattle.fw_cmp.specs.declared.connection.Connection.{Connection}
+use Rattle.fw_cmp.specs.declared.connection.Connection.TheVariants.{PlugToPlug, BroadcastOut, BroadcastIn}
+use Rattle.fw_cmp.specs.declared.connection.Flow.{Flow}
 use Rattle.fw_cmp.specs.declared.job.Job.{Job}
 use Rattle.fw_cmp.specs.declared.job.Held.{Held}
 use Rattle.fw_cmp.specs.declared.job.Then.{Then}
 use Rattle.fw_cmp.specs.declared.job.Then.TheVariants.{EndsAs, Again}
-use Rattle.fw_cmp.specs.declared.job.Outcome.TheVariants.{NoChannel, NoUnits, PlugFull, Late}
+use Rattle.fw_cmp.specs.declared.job.Ending.{Ending}
+use Rattle.fw_cmp.specs.declared.job.Ending.TheVariants.{Broken, NoChannel, NoUnits, PlugFull, InputBusy, NoPlug, Late}
 use Rattle.fw_cmp.specs.declared.stage.Stage.{Stage}
-use Rattle.fw_cmp.specs.declared.stage.Stage.TheVariants.{ReadOutput, ReadChannels, SwapChannels, ReadBandwidth, SwapBandwidth, ConnectOutput, OverlayOutput, OutputConnected, ReadOutputToLeave, LeaveOutput, ReadBandwidthToRelease, RaiseBandwidth, ReadChannelsToRelease, RestoreChannel, Ended}
-use Rattle.fw_base.specs.declared.plug.PlugAt.{PlugAt}
-use Rattle.fw_base.specs.declared.plug.ConnectionKind.{ConnectionKind}
-use Rattle.std.proofs.Common.{◌≡◌, ℕ, ◌+◌, ◌-◌, ◌^◌, ◌<◌, Bool, true, false, Option, Some, None, IfSome, eqb, leb, cond, refl, arith, ◌&&◌}
-use Rattle.std.proofs.lemmas.Bool.Decides.{nat_tests}
-use Rattle.fw_base.specs.Tables.{find_to}
-use Rattle.fw_plug.specs.Words.{OutFields, out_fields, units_of}
-use Rattle.fw_ledger.specs.Account.{Account}
-use Rattle.fw_cmp.specs.Stages.{hear, give_back, decide_out, decide_connected, decide_free, decide_any, decide_channel, decide_units, decide_raise, decide_leave, after_leave, needs, is_bit, is_full, is_connected, is_other, shows_connection, one_less, half_of, AskedFits, JobFits, StageFits, WordsFit}
-use Rattle.fw_step.specs.InStep.{IsInStep, IsJob}
-use Rattle.fw_step.proofs.Steps.{asked_is}
-
--- ---- the decisions
-
-pub job_fits : (j : Job) → IsJob j → JobFits j
-job_fits j f = record { asked = go j.asked f.asked; overhead = f.overhead }
-  where
-    go : (o : Option ℕ) → ((ch : ℕ) → o ≡ Some ch → ch < 64) → IfSome o (λ ch. ch < 64)
-    go None h = tt
-    go (Some ch) h = h ch refl
-
-half_fits : (o : Option ℕ) (base : ℕ) → ((ch : ℕ) → o ≡ Some ch → ch < 64) → ((ch : ℕ) → o ≡ Some ch → half_of ch ≡ base) → AskedFits o base
-half_fits None base f g = tt
-half_fits (Some ch) base f g = let lt = f ch refl in let e = g ch refl in (grind (arith, nat_tests), grind (arith, nat_tests))
-
-own_fits : (o : Option ℕ) (ch : ℕ) → ch < 64 → is_other o ch ≡ false → AskedFits o (half_of ch)
-own_fits None ch lt own = tt
-own_fits (Some a) ch lt own = let e = asked_is (Some a) a ch refl own in (grind (arith, nat_tests), grind (arith, nat_tests))
-
-pub stage_fits : (l : Account) (c : ℕ) (j : Job) (s : Stage) (others : ConnectionKind → PlugAt → ℕ) → IsJob j → IsInStep l c j s others → StageFits j s
-stage_fits l c j ReadOutput others f i = tt
-stage_fits l c j (ReadChannels base w) others f i = (i.knows.0, half_fits j.asked base f.asked i.knows.1, i.knows.2.0)
-stage_fits l c j (SwapChannels ch arg w) others f i = (i.knows.0, own_fits j.asked ch i.knows.0 (i.channel ch refl), i.knows.1, i.knows.2.0)
-stage_fits l c j (ReadBandwidth ch w) others f i = (i.pending.0, i.knows.0)
-stage_fits l c j (SwapBandwidth ch u arg w) others f i = (i.pending.0, i.knows.0, i.knows.2.0)
-stage_fits l c j (ConnectOutput ch u arg) others f i = (i.pending.0, i.knows.0)
-stage_fits l c j (OverlayOutput arg) others f i = i.knows.1
-stage_fits l c j (OutputConnected ch) others f i = tt
-stage_fits l c j (ReadOutputToLeave next) others f i = tt
-stage_fits l c j (LeaveOutput next arg) others f i = i.knows
-stage_fits l c j (ReadBandwidthToRelease next ch u) others f i = i.pending.0
-stage_fits l c j (RaiseBandwidth next ch u arg) others f i = (i.pending.0, i.knows.1)
-stage_fits l c j (ReadChannelsToRelease next ch) others f i = i.pending.0
-stage_fits l c j (RestoreChannel next ch arg) others f i = i.pending.0
-stage_fits l c j (Ended o) others f i = tt
-
--- ---- words
-
-back_words : (h : Option Held) (next : Then) → WordsFit (give_back h next)
-back_words None (EndsAs o) = tt
-back_words None Again = tt
-back_words (Some h) next = go (eqb h.units 0)
-  where
-    go : (b : Bool) → WordsFit (cond b (ReadChannelsToRelease next h.channel) (ReadBandwidthToRelease next h.channel h.units))
-    go true = tt
-    go false = tt
-
-out_words : (j : Job) (h : Option Held) (w : ℕ) → w < 2 ^ 32 → WordsFit (decide_out j h w)
-out_words j h w lt = go (is_full j.kind (out_fields w)) (is_connected (out_fields w)) h
-  where
-    late : Bool
-    late = j.restores && is_other j.asked (out_fields w).settings.channel
-
-    connected_ : (b : Bool) → WordsFit (cond b (Ended Late) (OverlayOutput w))
-    connected_ true = tt
-    connected_ false = lt
-
-    go : (full connected : Bool) (h : Option Held) → WordsFit (cond full (give_back h (EndsAs (PlugFull w))) (cond connected (decide_connected j h w) (decide_free j h w)))
-    go true connected h = back_words h (EndsAs (PlugFull w))
-    go false true None = connected_ late
-    go false true (Some h) = back_words (Some h) (cond late (EndsAs Late) Again)
-    go false false None = lt
-    go false false (Some h) = lt
-
-any_words : (o : Option ℕ) (base w v : ℕ) → w < 2 ^ 32 → v < 2 ^ 32 → WordsFit (decide_any o base w v)
-any_words (Some i) base w v lt vl = (vl, lt)
-any_words None base w v lt vl = go (eqb base 0)
-  where
-    go : (b : Bool) → WordsFit (cond b (ReadChannels 32 w) (Ended (NoChannel v)))
-    go true = lt
-    go false = tt
-
-channel_words : (j : Job) (o : Option ℕ) (base w v : ℕ) → w < 2 ^ 32 → v < 2 ^ 32 → WordsFit (decide_channel j o base w v)
-channel_words j None base w v lt vl = any_words (find_to 32 (is_bit v)) base w v lt vl
-channel_words j (Some ch) base w v lt vl = go (is_bit v (ch - base)) j.restores
-  where
-    go : (b r : Bool) → WordsFit (cond b (SwapChannels ch v w) (cond r ReadOutput (Ended (NoChannel v))))
-    go true r = (vl, lt)
-    go false true = tt
-    go false false = tt
-
-units_words : (j : Job) (ch w v : ℕ) → w < 2 ^ 32 → v < 2 ^ 32 → WordsFit (decide_units j ch w v)
-units_words j ch w v lt vl = go (leb (needs j ch w) v)
-  where
-    go : (b : Bool) → WordsFit (cond b (SwapBandwidth ch (needs j ch w) v w) (ReadChannelsToRelease (EndsAs (NoUnits v)) ch))
-    go true = (vl, lt)
-    go false = tt
-
-raise_words : (next : Then) (ch u v : ℕ) → v < 2 ^ 32 → WordsFit (decide_raise next ch u v)
-raise_words next ch u v vl = go (leb (u + v) 4915)
-  where
-    go : (b : Bool) → WordsFit (cond b (RaiseBandwidth next ch u v) (ReadChannelsToRelease next ch))
-    go true = vl
-    go false = tt
-
-leave_words : (j : Job) (next : Then) (v : ℕ) → v < 2 ^ 32 → WordsFit (decide_leave j next v)
-leave_words j next v vl = go (shows_connection j.kind (out_fields v))
-  where
-    go : (b : Bool) → WordsFit (cond b (LeaveOutput next v) (give_back None next))
-    go true = vl
-    go false = back_words None next
-
-left_words : (j : Job) (next : Then) (f : OutFields) → WordsFit (after_leave j next f)
-left_words j next f = go (is_connected (one_less j.kind f))
-  where
-    go : (b : Bool) → WordsFit (cond b (give_back None next) (ReadBandwidthToRelease next f.settings.channel (units_of f.settings)))
-    go true = back_words None next
-    go false = tt
+use Rattle.fw_cmp.specs.declared.stage.Stage.TheVariants.{Begin, ReadOutput, ReadChannels, SwapChannels, ReadBandwidth, SwapBandwidth, ConnectOutput, OverlayOutput, ReadInput, ConnectInput, ReadInputToLeave, LeaveInput, ReadOutputToLeave, LeaveOutput, ReadBandwidthToRelease, RaiseBandwidth, ReadChannelsToRelease, RestoreChannel, Made, Ended}
+use Rattle.fw_cmp.specs.Connections.{kind_of, is_listen, is_point_to_point}
+use Rattle.fw_cmp.specs.Plugs.{channel_of, overhead_of, counter_of, has_broadcast, units_with, is_full, is_bit, shows_connection, half_of, remainder_of, one_less}
+use Rattle.fw_cmp.specs.Decisions.{restores, goes_on, give_back, leave_output, first_half, is_lost, decide_connected, decide_free, decide_out, decide_any, decide_channel, needs, decide_units, first_flow, overlaid_flow, output_joined, channel_or, listen_flow, decide_listen, decide_point_to_point, decide_in, input_left, decide_leave_in, decide_leave_out, output_left, decide_raise}
+use Rattle.fw_cmp.specs.Fits.{FlowFits, AskedFits, JobFits, IsHalf, AskedWithin, HasOutput, HasInput, ResourcesFit, HeldFits, StageFits}
+use Rattle.fw_cmp.specs.Stages.{hear, refuse, hear_reply}
 
 -- one of two stages
-either : (b : Bool) (s t : Stage) → WordsFit s → WordsFit t → WordsFit (cond b s t)
-either true s t f g = f
-either false s t f g = g
+either : (j : Job) (b : Bool) (s t : Stage) → StageFits j s → StageFits j t → StageFits j (cond b s t)
+either j true s t f g = f
+either j false s t f g = g
 
-pub hear_words : (j : Job) (s : Stage) (v : ℕ) → v < 2 ^ 32 → WordsFit s → WordsFit (hear j s v)
-hear_words j ReadOutput v vl f = out_words j None v vl
-hear_words j (ReadChannels base w) v vl f = channel_words j j.asked base w v f vl
-hear_words j (SwapChannels ch arg w) v vl f = either (eqb v arg) _ _ f.1 (channel_words j j.asked (half_of ch) w v f.1 vl)
-hear_words j (ReadBandwidth ch w) v vl f = units_words j ch w v f vl
-hear_words j (SwapBandwidth ch u arg w) v vl f = either (eqb v arg) _ _ f.1 (units_words j ch w v f.1 vl)
-hear_words j (ConnectOutput ch u arg) v vl f = either (eqb v arg) _ _ tt (out_words j (Some (record { channel = ch; units = u })) v vl)
-hear_words j (OverlayOutput arg) v vl f = either (eqb v arg) _ _ tt (out_words j None v vl)
-hear_words j (OutputConnected ch) v vl f = tt
-hear_words j (ReadOutputToLeave next) v vl f = leave_words j next v vl
-hear_words j (LeaveOutput next arg) v vl f = either (eqb v arg) _ _ (left_words j next (out_fields arg)) (leave_words j next v vl)
-hear_words j (ReadBandwidthToRelease next ch u) v vl f = raise_words next ch u v vl
-hear_words j (RaiseBandwidth next ch u arg) v vl f = either (eqb v arg) _ _ tt (raise_words next ch u v vl)
-hear_words j (ReadChannelsToRelease next ch) v vl f = vl
-hear_words j (RestoreChannel next ch arg) v vl f = either (eqb v arg) _ _ (back_words None next) vl
-hear_words j (Ended o) v vl f = tt
+-- ---- giving back
+
+on_fits : (j : Job) (next : Then) → HasOutput j.connection → StageFits j (goes_on next)
+on_fits j (EndsAs e) out = tt
+on_fits j Again out = out
+
+back_fits : (j : Job) (h : Option Held) (next : Then) → HasOutput j.connection → HeldFits h → StageFits j (give_back h next)
+back_fits j None next out f = on_fits j next out
+back_fits j (Some h) next out f = either j (eqb h.units 0) (ReadChannelsToRelease next h.channel) (ReadBandwidthToRelease next h.channel h.units) (out, f.0) (out, f)
+
+leave_fits : (j : Job) (e : Ending) (f : Flow) → FlowFits f → StageFits j (leave_output j.connection e f)
+leave_fits j e f fits = go (is_listen j.connection) refl
+  where
+    go : (b : Bool) → is_listen j.connection ≡ b → StageFits j (cond b (Ended e) (ReadOutputToLeave e f.channel f.units))
+    go true x = tt
+    go false x = (x, (fits.channel, fits.units))
+
+-- ---- the output plug
+
+pub half_is : (ch : ℕ) → IsHalf (half_of ch)
+half_is ch = grind (arith, nat_tests)
+
+first_half_is : (o : Option ℕ) → IsHalf (first_half o)
+first_half_is None = inl refl
+first_half_is (Some ch) = half_is ch
+
+asked_within : (o : Option ℕ) → AskedFits o → AskedWithin o (first_half o)
+asked_within None f = tt
+asked_within (Some ch) f = (grind (arith, nat_tests), grind (arith, nat_tests))
+
+out_fits : (j : Job) (h : Option Held) (w : ℕ) → JobFits j → HasOutput j.connection → HeldFits h → w < 2 ^ 32 → StageFits j (decide_out j h w)
+out_fits j h w job out f lt = go (is_full (kind_of j.connection) w) refl (is_connected w) refl
+  where
+    connected_fits : (h : Option Held) → HeldFits h → is_connected w ≡ true → is_full (kind_of j.connection) w ≡ false → StageFits j (decide_connected j h w)
+    connected_fits None f g e = either j (is_lost j w) (Ended Late) (OverlayOutput w) tt (out, lt, g, e)
+    connected_fits (Some k) f g e = back_fits j (Some k) (cond (is_lost j w) (EndsAs Late) Again) out f
+
+    free_fits : (h : Option Held) → HeldFits h → is_connected w ≡ false → StageFits j (decide_free j h w)
+    free_fits None f g = (out, first_half_is j.asked, asked_within j.asked job.asked, (lt, g))
+    free_fits (Some k) f g = (out, f, (lt, g))
+
+    go : (full : Bool) → is_full (kind_of j.connection) w ≡ full → (connected : Bool) → is_connected w ≡ connected → StageFits j (cond full (give_back h (EndsAs (PlugFull w))) (cond connected (decide_connected j h w) (decide_free j h w)))
+    go true e connected g = back_fits j h (EndsAs (PlugFull w)) out f
+    go false e true g = connected_fits h f g e
+    go false e false g = free_fits h f g
+
+-- ---- the manager's registers
+
+channel_within : (ch base : ℕ) → IsHalf base → base ≤ ch → ch < base + 32 → half_of ch ≡ base
+channel_within ch base (inl e) le lt = grind (arith, nat_tests)
+channel_within ch base (inr e) le lt = grind (arith, nat_tests)
+
+half_within : (ch : ℕ) → ch < 64 → (half_of ch ≤ ch) × (ch < half_of ch + 32)
+half_within ch lt = (grind (arith, nat_tests), grind (arith, nat_tests))
+
+channel_fits : (j : Job) (base w v : ℕ) → HasOutput j.connection → IsHalf base → AskedWithin j.asked base → (w < 2 ^ 32) × (is_connected w ≡ false) → v < 2 ^ 32 → StageFits j (decide_channel j j.asked base w v)
+channel_fits j base w v out half within f lt = go j.asked refl
+  where
+    asked : (ch : ℕ) → j.asked ≡ Some ch → (base ≤ ch) × (ch < base + 32)
+    asked ch e = subst (λ o. AskedWithin o base) e within
+
+    below : (ch : ℕ) → IsHalf base → ch < base + 32 → ch < 64
+    below ch (inl e) l = omega arith
+    below ch (inr e) l = omega arith
+
+    taken : (ch : ℕ) → j.asked ≡ Some ch → (b : Bool) → is_bit v (ch - base) ≡ b → (r : Bool) → StageFits j (cond b (SwapChannels ch v w) (cond r ReadOutput (Ended (NoChannel v))))
+    taken ch e true bit r =
+        let at : half_of ch ≡ base = channel_within ch base half (asked ch e).0 (asked ch e).1 in
+        (out, below ch half (asked ch e).1, subst (λ x. AskedWithin j.asked x) (sym at) within, subst (λ x. is_bit v (ch - x) ≡ true) (sym at) bit, lt, f)
+    taken ch e false bit true = out
+    taken ch e false bit false = tt
+
+    any : (o : Option ℕ) → IsFirst 32 (is_bit v) o → j.asked ≡ None → StageFits j (decide_any o base w v)
+    any (Some i) first e =
+        let at : half_of (base + i) ≡ base = channel_within (base + i) base half (omega arith) (omega (arith, first.0)) in
+        let own : (base + i) - base ≡ i = omega arith in
+        (out, below (base + i) half (omega (arith, first.0)), subst (λ o. AskedWithin o (half_of (base + i))) (sym e) tt, subst (λ x. is_bit v ((base + i) - x) ≡ true) (sym at) (subst (λ x. is_bit v x ≡ true) (sym own) first.1), lt, f)
+    any None first e = either j (eqb base 0) (ReadChannels 32 w) (Ended (NoChannel v)) (out, inr refl, subst (λ o. AskedWithin o 32) (sym e) tt, f) tt
+
+    go : (o : Option ℕ) → j.asked ≡ o → StageFits j (decide_channel j o base w v)
+    go (Some ch) e = taken ch e (is_bit v (ch - base)) refl (restores j)
+    go None e = any (find_to 32 (is_bit v)) (find_to_is 32 (is_bit v)) e
+
+units_fits : (j : Job) (ch w v : ℕ) → HasOutput j.connection → ch < 64 → (w < 2 ^ 32) × (is_connected w ≡ false) → v < 2 ^ 32 → StageFits j (decide_units j ch w v)
+units_fits j ch w v out lt f vl = go (leb (needs j w) (remainder_of v)) refl
+  where
+    go : (b : Bool) → leb (needs j w) (remainder_of v) ≡ b → StageFits j (cond b (SwapBandwidth ch (needs j w) v w) (ReadChannelsToRelease (EndsAs (NoUnits (remainder_of v))) ch))
+    go true e = (out, lt, grind (arith, nat_tests), vl, f)
+    go false e = (out, lt)
+
+-- ---- the input plug
+
+in_fits : (j : Job) (f : Flow) (w : ℕ) → JobFits j → HasInput j.connection → FlowFits f → w < 2 ^ 32 → StageFits j (decide_in j f w)
+in_fits j f w job into fits lt = go (is_listen j.connection) refl
+  where
+    listens : (conn : Connection) → is_listen conn ≡ true → (b : Bool) → has_broadcast w ≡ b → is_full (kind_of conn) w ≡ b
+    listens (PlugToPlug o i) e b g = absurd (grind arith)
+    listens (BroadcastOut o) e b g = absurd (grind arith)
+    listens (BroadcastIn i) e b g = g
+
+    points : (conn : Connection) → HasInput conn → is_listen conn ≡ false → (b : Bool) → eqb (counter_of w) 63 ≡ b → is_full (kind_of conn) w ≡ b
+    points (PlugToPlug o i) h e b g = g
+    points (BroadcastOut o) h e b g = absurd h
+    points (BroadcastIn i) h e b g = absurd (grind arith)
+
+    channel : (o : Option ℕ) → AskedFits o → (b : Bool) → (cond b (channel_of w) (channel_or o 63)) < 64
+    channel o h true = omega arith
+    channel None h false = omega arith
+    channel (Some ch) h false = h
+
+    listen : is_listen j.connection ≡ true → (b : Bool) → has_broadcast w ≡ b → StageFits j (cond b (Ended (InputBusy w)) (ConnectInput (listen_flow j f w) w))
+    listen e true g = tt
+    listen e false g = (into, record { channel = channel j.asked job.asked (is_connected w); overhead = fits.overhead; units = fits.units }, lt, listens j.connection e false g)
+
+    point : is_listen j.connection ≡ false → (b full : Bool) → eqb (counter_of w) 63 ≡ full → StageFits j (cond b (leave_output j.connection (InputBusy w) f) (cond full (leave_output j.connection (PlugFull w) f) (ConnectInput f w)))
+    point e true full g = leave_fits j (InputBusy w) f fits
+    point e false true g = leave_fits j (PlugFull w) f fits
+    point e false false g = (into, fits, lt, points j.connection into e false g)
+
+    go : (b : Bool) → is_listen j.connection ≡ b → StageFits j (cond b (decide_listen j f w) (decide_point_to_point j f w))
+    go true e = listen e (has_broadcast w) refl
+    go false e = point e (is_connected w && not (eqb (channel_of w) f.channel)) (eqb (counter_of w) 63) refl
+
+joined_fits : (j : Job) (f : Flow) → FlowFits f → StageFits j (output_joined j f)
+joined_fits j f fits = go (is_point_to_point j.connection) refl
+  where
+    both : (conn : Connection) → is_point_to_point conn ≡ true → HasInput conn
+    both (PlugToPlug o i) e = tt
+    both (BroadcastOut o) e = grind arith
+    both (BroadcastIn i) e = tt
+
+    go : (b : Bool) → is_point_to_point j.connection ≡ b → StageFits j (cond b (ReadInput f) (Made f))
+    go true e = (both j.connection e, fits)
+    go false e = fits
+
+-- ---- leaving
+
+left_fits : (j : Job) (ch u : ℕ) → ResourcesFit ch u → StageFits j (input_left j ch u)
+left_fits j ch u f = go (is_listen j.connection) refl
+  where
+    go : (b : Bool) → is_listen j.connection ≡ b → StageFits j (cond b (Ended Broken) (ReadOutputToLeave Broken ch u))
+    go true e = tt
+    go false e = (e, f)
+
+leave_in_fits : (j : Job) (ch u v : ℕ) → HasInput j.connection → ResourcesFit ch u → v < 2 ^ 32 → StageFits j (decide_leave_in j ch u v)
+leave_in_fits j ch u v into f lt = go (shows_connection (kind_of j.connection) v) refl
+  where
+    go : (b : Bool) → shows_connection (kind_of j.connection) v ≡ b → StageFits j (cond b (LeaveInput ch u v) (input_left j ch u))
+    go true e = (into, f, lt, e)
+    go false e = left_fits j ch u f
+
+leave_out_fits : (j : Job) (e : Ending) (ch u v : ℕ) → HasOutput j.connection → ResourcesFit ch u → v < 2 ^ 32 → StageFits j (decide_leave_out j e ch u v)
+leave_out_fits j e ch u v out f lt = go (shows_connection (kind_of j.connection) v) refl
+  where
+    go : (b : Bool) → shows_connection (kind_of j.connection) v ≡ b → StageFits j (cond b (LeaveOutput e ch u v) (Ended e))
+    go true x = (out, f, lt, x)
+    go false x = tt
+
+raise_fits : (j : Job) (next : Then) (ch u v : ℕ) → HasOutput j.connection → ResourcesFit ch u → v < 2 ^ 32 → StageFits j (decide_raise next ch u v)
+raise_fits j next ch u v out f lt = go (leb (u + remainder_of v) 4915) refl
+  where
+    go : (b : Bool) → leb (u + remainder_of v) 4915 ≡ b → StageFits j (cond b (RaiseBandwidth next ch u v) (ReadChannelsToRelease next ch))
+    go true e = (out, f, lt, grind (arith, nat_tests))
+    go false e = (out, f.0)
+
+-- ---- each answer
+
+first_units : (k w : ℕ) → k < 16 → units_with k w < 2 ^ 32
+first_units k w lt =
+    let small : 4 - field w 16 17 ≤ 4 = omega arith in
+    let power : 2 ^ (4 - field w 16 17) ≤ 2 ^ 4 = pow_mono small in
+    let count : payload_quadlets (field w 22 31) + 3 ≤ 1027 = omega (arith, payload (eqb (field w 22 31) 0)) in
+    let product : (payload_quadlets (field w 22 31) + 3) * 2 ^ (4 - field w 16 17) ≤ 1027 * 2 ^ 4 = mul-le-mul count power in
+    omega (arith, overhead (eqb k 0), product)
+  where
+    payload : (b : Bool) → cond b 1024 (field w 22 31) ≤ 1024
+    payload true = omega arith
+    payload false = omega arith
+
+    overhead : (b : Bool) → cond b 512 (32 * k) ≤ 512
+    overhead true = omega arith
+    overhead false = omega arith
+
+pub hear_fits : (j : Job) (s : Stage) (v : ℕ) → JobFits j → v < 2 ^ 32 → StageFits j s → StageFits j (hear j s v)
+hear_fits j Begin v job lt f = tt
+hear_fits j ReadOutput v job lt f = out_fits j None v job f tt lt
+hear_fits j (ReadChannels base w) v job lt f = channel_fits j base w v f.0 f.1 f.2 f.3 lt
+hear_fits j (SwapChannels ch arg w) v job lt f = either j (eqb v arg) (ReadBandwidth ch w) _ (f.0, f.1, f.5) (channel_fits j (half_of ch) w v f.0 (half_is ch) f.2 f.5 lt)
+hear_fits j (ReadBandwidth ch w) v job lt f = units_fits j ch w v f.0 f.1 f.2 lt
+hear_fits j (SwapBandwidth ch u arg w) v job lt f = either j (eqb v arg) (ConnectOutput ch u w) _ (f.0, (f.1, omega (arith, f.2)), f.4) (units_fits j ch w v f.0 f.1 f.4 lt)
+hear_fits j (ConnectOutput ch u arg) v job lt f = either j (eqb v arg) (output_joined j (first_flow j ch u)) _ (joined_fits j (first_flow j ch u) (record { channel = f.1.0; overhead = job.overhead; units = f.1.1 })) (out_fits j (Some (record { channel = ch; units = u })) v job f.0 f.1 lt)
+hear_fits j (OverlayOutput arg) v job lt f = either j (eqb v arg) (output_joined j (overlaid_flow arg)) _ (joined_fits j (overlaid_flow arg) (record { channel = omega arith; overhead = omega arith; units = first_units (overhead_of arg) arg (omega arith) })) (out_fits j None v job f.0 tt lt)
+hear_fits j (ReadInput g) v job lt f = in_fits j g v job f.0 f.1 lt
+hear_fits j (ConnectInput g arg) v job lt f = either j (eqb v arg) (Made g) _ f.1 (in_fits j g v job f.0 f.1 lt)
+hear_fits j (ReadInputToLeave ch u) v job lt f = leave_in_fits j ch u v f.0 f.1 lt
+hear_fits j (LeaveInput ch u arg) v job lt f = either j (eqb v arg) (input_left j ch u) _ (left_fits j ch u f.1) (leave_in_fits j ch u v f.0 f.1 lt)
+hear_fits j (ReadOutputToLeave e ch u) v job lt f = leave_out_fits j e ch u v f.0 f.1 lt
+hear_fits j (LeaveOutput e ch u arg) v job lt f = either j (eqb v arg) (output_left j e ch u arg) _ (either j (is_connected (one_less (kind_of j.connection) arg)) (Ended e) (ReadBandwidthToRelease (EndsAs e) ch u) tt (f.0, f.1)) (leave_out_fits j e ch u v f.0 f.1 lt)
+hear_fits j (ReadBandwidthToRelease next ch u) v job lt f = raise_fits j next ch u v f.0 f.1 lt
+hear_fits j (RaiseBandwidth next ch u arg) v job lt f = either j (eqb v arg) (ReadChannelsToRelease next ch) _ (f.0, f.1.0) (raise_fits j next ch u v f.0 f.1 lt)
+hear_fits j (ReadChannelsToRelease next ch) v job lt f = (f.0, f.1, lt)
+hear_fits j (RestoreChannel next ch arg) v job lt f = either j (eqb v arg) (goes_on next) _ (on_fits j next f.0) (f.0, f.1, lt)
+hear_fits j (Made g) v job lt f = f
+hear_fits j (Ended e) v job lt f = tt
+
+refuse_fits : (j : Job) (s : Stage) (rcode : ℕ) → StageFits j s → StageFits j (refuse j s rcode)
+refuse_fits j (ReadInput g) rcode f = leave_fits j (NoPlug rcode) g f.1
+refuse_fits j _ rcode f = tt
+
+pub reply_fits : (j : Job) (s : Stage) (r : Reply) → JobFits j → (r.rcode ≡ 0 → r.value < 2 ^ 32) → StageFits j s → StageFits j (hear_reply j s r)
+reply_fits j s r job lt f = go (eqb r.rcode 0) refl
+  where
+    go : (b : Bool) → eqb r.rcode 0 ≡ b → StageFits j (cond b (hear j s r.value) (refuse j s r.rcode))
+    go true e = hear_fits j s r.value job (lt (grind (arith, nat_tests))) f
+    go false e = refuse_fits j s r.rcode f

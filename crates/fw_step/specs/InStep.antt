@@ -1,77 +1,101 @@
--- A controller in step with the account.
-use Rattle.fw_cmp.specs.declared.job.Held.{Held}
-use Rattle.fw_cmp.specs.declared.job.Job.{Job}
-use Rattle.fw_cmp.specs.declared.stage.Stage.{Stage}
-use Rattle.fw_cmp.specs.declared.job.Then.{Then}
-use Rattle.fw_cmp.specs.declared.stage.Stage.TheVariants.{ReadOutput, ReadChannels, SwapChannels, ReadBandwidth, SwapBandwidth, ConnectOutput, OverlayOutput, OutputConnected, ReadOutputToLeave, LeaveOutput, ReadBandwidthToRelease, RaiseBandwidth, ReadChannelsToRelease, RestoreChannel, Ended}
-use Rattle.fw_cmp.specs.declared.job.Then.TheVariants.{EndsAs, Again}
+-- A job at a stage, in step with the account.
+use Rattle.std.specs.Prelude.{ℕ, ◌+◌, ◌≡◌, ◌<◌, ◌&&◌, ◌||◌, ◌⊎◌, Bool, true, false, Option, Some, None, is_some, IsTrue, IsFalse, ⊤}
 use Rattle.fw_base.specs.declared.plug.PlugAt.{PlugAt}
-use Rattle.fw_base.specs.declared.plug.ConnectionKind.{ConnectionKind}
-use Rattle.fw_base.specs.declared.plug.ConnectionKind.TheVariants.{PointToPoint, Broadcast}
-use Rattle.std.specs.Prelude.{ℕ, ◌+◌, ◌-◌, ◌==◌, ◌≡◌, ◌<◌, ◌≤◌, Bool, true, false, ◌&&◌, if◌then◌else◌, Option, Some, None, IsTrue, IsFalse, ⊤, ◌⊎◌, ◌≢◌}
-use Rattle.fw_base.specs.Tables.{same_plug}
-use Rattle.fw_ledger.specs.Account.{Pending, Allocation, Owner, Of, Dead, Connections, Account, remainder}
-use Rattle.fw_plug.specs.Words.{units_of}
-use Rattle.fw_ledger.specs.Moves.{Move, ConnectInput, DisconnectInput, AllocateChannel, AllocateUnits, ConnectFirst, ConnectOverlaid, DisconnectOutput, ReleaseUnits, ReleaseChannel, HasNoPending, Can, after}
-use Rattle.fw_plug.specs.Words.{out_fields, out_word}
-use Rattle.fw_ledger.specs.Words.{fields_at, channel_word}
-use Rattle.fw_ledger.specs.Network.{is_output}
-use Rattle.fw_cmp.specs.declared.request.Register.{Register}
-use Rattle.fw_cmp.specs.declared.request.Register.TheVariants.{OutputPlug, Channels, BandwidthAvailable}
-use Rattle.fw_cmp.specs.Stages.{register_of, pending_of, is_joined, hear, is_connected, is_full, shows_connection, is_bit, half_of, is_other, wanted}
-use Rattle.fw_step.specs.Moves.{Try, try_of}
+use Rattle.fw_csr.specs.declared.request.Swap.{Swap}
+use Rattle.fw_csr.specs.declared.reply.Reply.{Reply}
+use Rattle.fw_plug.specs.Words.{Settings, units_of, is_connected}
+use Rattle.fw_ledger.specs.Account.{Account}
+use Rattle.fw_ledger.specs.Network.{is_output, is_input}
+use Rattle.fw_ledger.specs.Decode.{IsMove}
+use Rattle.fw_ledger.specs.Moves.{Move}
+use Rattle.fw_ledger.specs.Words.{Register, BandwidthAvailable, ChannelsAvailable, OutputPlug, InputPlug}
+use Rattle.fw_cmp.specs.declared.connection.Flow.{Flow}
+use Rattle.fw_cmp.specs.declared.job.Job.{Job}
+use Rattle.fw_cmp.specs.declared.job.Held.{Held}
+use Rattle.fw_cmp.specs.declared.job.Then.{Then}
+use Rattle.fw_cmp.specs.declared.job.Then.TheVariants.{EndsAs, Again}
+use Rattle.fw_cmp.specs.declared.stage.Stage.{Stage}
+use Rattle.fw_cmp.specs.declared.stage.Stage.TheVariants.{Begin, ReadOutput, ReadChannels, SwapChannels, ReadBandwidth, SwapBandwidth, ConnectOutput, OverlayOutput, ReadInput, ConnectInput, ReadInputToLeave, LeaveInput, ReadOutputToLeave, LeaveOutput, ReadBandwidthToRelease, RaiseBandwidth, ReadChannelsToRelease, RestoreChannel, Made, Ended}
+use Rattle.fw_cmp.specs.declared.request.Target.{Target}
+use Rattle.fw_cmp.specs.Connections.{output_of, input_of, is_listen}
+use Rattle.fw_cmp.specs.Plugs.{channel_of}
+use Rattle.fw_cmp.specs.Decisions.{restores, needs, is_other}
+use Rattle.fw_cmp.specs.Stages.{hear_reply}
+use Rattle.fw_cmp.specs.Requests.{swap_of}
+use Rattle.fw_cmp.specs.Holdings.{pending_of, job_outputs, job_inputs}
+use Rattle.fw_step.specs.Holding.{Reservation, Holding, Counts, Holds}
+use Rattle.fw_step.specs.Registers.{register_at, has_manager, succeeds}
+use Rattle.fw_step.specs.Moves.{move_of, carried_out}
 
--- the word of a register, of the plug p or of the manager
-abbrev pub word_at : Account → PlugAt → Register → ℕ
-word_at l p OutputPlug = out_word (fields_at l p)
-word_at l p (Channels base) = channel_word l base
-word_at l p BandwidthAvailable = remainder l
+-- ---- what the controller has
 
--- the pending allocations of controller c are exactly these
-abbrev pub HoldsPending : ℕ → PlugAt → Option Held → (ℕ → Option Allocation) → Type 0
-HoldsPending c p None allocations = HasNoPending c allocations
-HoldsPending c p (Some h) allocations = (h.channel < 64) × (allocations h.channel ≡ Some (record { holder = Pending c p; units = h.units }))
+-- the connections that it has beside those of its current job
+pub record Others : Type 0 where
+  pub outputs : Counts
+  pub inputs : Counts
 
-abbrev pub is_of : ℕ → Option Owner → Bool
-is_of c None = false
-is_of c (Some (Of d)) = c == d
-is_of c (Some Dead) = false
+abbrev pub reservation : Option PlugAt → Option Held → Option Reservation
+reservation plug None = None
+reservation None (Some h) = None
+reservation (Some p) (Some h) = Some (record { plug = p; channel = h.channel; units = h.units })
 
--- the connections of a kind that a controller has at a plug
-abbrev pub connections_of : ℕ → ConnectionKind → Connections → ℕ
-connections_of c PointToPoint s = s.counts c
-connections_of c Broadcast s = if is_of c s.broadcast then 1 else 0
+-- what a controller has while its job is at a stage
+abbrev pub holding : Job → Stage → Others → Holding
+holding j s others = record {
+  reserved = reservation (output_of j.connection) (pending_of s);
+  outputs = λ kind q. others.outputs kind q + job_outputs j s kind q;
+  inputs = λ kind q. others.inputs kind q + job_inputs j s kind q;
+}
 
-abbrev pub same_kind : ConnectionKind → ConnectionKind → Bool
-same_kind PointToPoint PointToPoint = true
-same_kind PointToPoint Broadcast = false
-same_kind Broadcast PointToPoint = false
-same_kind Broadcast Broadcast = true
+-- ---- what a stage knows
 
--- the connections that a job has
-abbrev pub job_connections : Job → Stage → ConnectionKind → PlugAt → ℕ
-job_connections j s kind q = if is_joined s && (same_plug q j.plug && same_kind kind j.kind) then 1 else 0
+-- the units at a data rate, with an overhead_ID
+abbrev pub units_at : ℕ → ℕ → ℕ
+units_at rate overhead = units_of (record { channel = 0; rate = rate; overhead = overhead })
 
--- the word of a plug with no connection, at this rate
-abbrev pub IsFirstWord : ℕ → ℕ → Type 0
-IsFirstWord rate w = IsFalse (is_connected (out_fields w)) × ((out_fields w).settings.rate ≡ rate)
-
--- what a stage knows of the words that it keeps, where its plug has this rate
+-- the words and units that a stage keeps, where its output plug has this data rate
 abbrev pub Knows : ℕ → Job → Stage → Type 0
-Knows rate j (ReadChannels base w) = ((base ≡ 0) ⊎ (base ≡ 32)) × ((ch : ℕ) → j.asked ≡ Some ch → half_of ch ≡ base) × IsFirstWord rate w
-Knows rate j (SwapChannels ch arg w) = (ch < 64) × IsTrue (is_bit arg (ch - half_of ch)) × IsFirstWord rate w
-Knows rate j (ReadBandwidth ch w) = IsFirstWord rate w
-Knows rate j (SwapBandwidth ch u arg w) = (u ≤ arg) × (u ≡ units_of (record { channel = ch; rate = (out_fields w).settings.rate; overhead = j.overhead })) × IsFirstWord rate w
-Knows rate j (ConnectOutput ch u arg) = IsFalse (is_connected (out_fields arg)) × (u ≡ units_of (record { channel = ch; rate = rate; overhead = j.overhead }))
-Knows rate j (OverlayOutput arg) = IsTrue (is_connected (out_fields arg)) × IsFalse (is_full j.kind (out_fields arg))
-Knows rate j (LeaveOutput next arg) = IsTrue (shows_connection j.kind (out_fields arg))
+Knows rate j (ReadChannels base w) = needs j w ≡ units_at rate j.overhead
+Knows rate j (SwapChannels ch arg w) = IsFalse (is_other j.asked ch) × (needs j w ≡ units_at rate j.overhead)
+Knows rate j (ReadBandwidth ch w) = IsFalse (is_other j.asked ch) × (needs j w ≡ units_at rate j.overhead)
+Knows rate j (SwapBandwidth ch u arg w) = IsFalse (is_other j.asked ch) × (needs j w ≡ units_at rate j.overhead) × (u ≡ units_at rate j.overhead)
+Knows rate j (ConnectOutput ch u arg) = u ≡ units_at rate j.overhead
 Knows rate j (ReadBandwidthToRelease next ch u) = 0 < u
-Knows rate j (RaiseBandwidth next ch u arg) = (0 < u) × (u + arg ≤ 4915)
+Knows rate j (RaiseBandwidth next ch u arg) = 0 < u
 Knows rate j _ = ⊤
 
--- the stages from which the job may still take a channel or units
+-- the connection goes on with the channel that a connected input plug has
+abbrev pub KnowsInput : Stage → Type 0
+KnowsInput (ConnectInput f arg) = IsTrue (is_connected arg) → channel_of arg ≡ f.channel
+KnowsInput _ = ⊤
+
+-- channel, overhead_ID and units of an output plug
+pub record IsFlow (k : Settings) (f : Flow) : Type 0 where
+  pub channel : k.channel ≡ f.channel
+  pub overhead : k.overhead ≡ f.overhead
+  pub units : units_of k ≡ f.units
+
+-- a job that has its connection at its output plug knows what the plug is set to
+abbrev pub KnowsFlow : Settings → Stage → Type 0
+KnowsFlow k (ReadInput f) = IsFlow k f
+KnowsFlow k (ConnectInput f arg) = IsFlow k f
+KnowsFlow k (ReadInputToLeave ch u) = (k.channel ≡ ch) × (units_of k ≡ u)
+KnowsFlow k (LeaveInput ch u arg) = (k.channel ≡ ch) × (units_of k ≡ u)
+KnowsFlow k (ReadOutputToLeave e ch u) = (k.channel ≡ ch) × (units_of k ≡ u)
+KnowsFlow k (LeaveOutput e ch u arg) = (k.channel ≡ ch) × (units_of k ≡ u)
+KnowsFlow k (Made f) = IsFlow k f
+KnowsFlow k _ = ⊤
+
+-- a connection that is made has the channel of its input plug
+abbrev pub KnowsChannel : ℕ → Stage → Type 0
+KnowsChannel ch (Made f) = ch ≡ f.channel
+KnowsChannel ch _ = ⊤
+
+-- ---- what a stage rests on
+
+-- the job may still allocate a channel or units
 abbrev pub again : Then → Bool
-again (EndsAs o) = false
+again (EndsAs e) = false
 again Again = true
 
 abbrev pub allocates : Stage → Bool
@@ -82,68 +106,93 @@ allocates (ReadBandwidth ch w) = true
 allocates (SwapBandwidth ch u arg w) = true
 allocates (ConnectOutput ch u arg) = true
 allocates (OverlayOutput arg) = true
-allocates (OutputConnected ch) = false
-allocates (ReadOutputToLeave next) = again next
-allocates (LeaveOutput next arg) = again next
 allocates (ReadBandwidthToRelease next ch u) = again next
 allocates (RaiseBandwidth next ch u arg) = again next
 allocates (ReadChannelsToRelease next ch) = again next
 allocates (RestoreChannel next ch arg) = again next
-allocates (Ended o) = false
+allocates _ = false
 
--- while a second runs only flows that talked before are allocated: the job's channel is asked for, and is in the reclaimable list
-abbrev pub MayReclaim : Account → Job → Type 0
-MayReclaim l j = (ch : ℕ) × (j.asked ≡ Some ch) × (l.reclaimable ch ≡ Some (record { plug = j.plug; units = units_of (record { channel = ch; rate = (l.settings j.plug).rate; overhead = j.overhead }) }))
+-- in a reclaim second a job that may allocate restores a flow that talked before the reset: it asks for the flow's channel,
+-- and takes its units
+abbrev pub MayReclaim : Account → PlugAt → Job → Type 0
+MayReclaim l p j = (ch : ℕ) × (j.asked ≡ Some ch) × (l.reclaimable ch ≡ Some (record { plug = p; units = units_at (l.settings p).rate j.overhead }))
 
--- what a job asks for has room in the registers
-pub record IsJob (j : Job) : Type 0 where
-  pub asked : (ch : ℕ) → j.asked ≡ Some ch → ch < 64
-  pub overhead : j.overhead < 16
+-- the output plug's register was read since the job began
+abbrev pub sees : Stage → Bool
+sees (ReadChannels base w) = true
+sees (SwapChannels ch arg w) = true
+sees (ReadBandwidth ch w) = true
+sees (SwapBandwidth ch u arg w) = true
+sees (ConnectOutput ch u arg) = true
+sees (OverlayOutput arg) = true
+sees (LeaveOutput e ch u arg) = true
+sees _ = false
 
--- controller c is in step, with its job at this stage and with the connections of its other slots
-pub record IsInStep (l : Account) (c : ℕ) (j : Job) (s : Stage) (others : ConnectionKind → PlugAt → ℕ) : Type 0 where
-  pub addressed : l.addressed c ≡ Some j.plug
-  pub pending : HoldsPending c j.plug (pending_of s) l.allocations
-  pub connections : (kind : ConnectionKind) (q : PlugAt) → connections_of c kind (l.outputs q) ≡ others kind q + job_connections j s kind q
-  pub knows : Knows (l.settings j.plug).rate j s
-  pub reclaims : IsTrue l.reclaiming → IsTrue (allocates s) → MayReclaim l j
-  pub channel : (ch : ℕ) → wanted s ≡ Some ch → IsFalse (is_other j.asked ch)
-  pub there : IsTrue (is_output l.latest j.plug)
+-- the output plug's register is asked for the first time
+abbrev pub looks : Stage → Bool
+looks ReadOutput = true
+looks (ReadOutputToLeave e ch u) = true
+looks _ = false
+
+abbrev pub sees_input : Stage → Bool
+sees_input (ConnectInput f arg) = true
+sees_input _ = false
+
+-- a request at the input plug
+abbrev pub is_input_stage : Stage → Bool
+is_input_stage (ReadInput f) = true
+is_input_stage (ConnectInput f arg) = true
+is_input_stage (ReadInputToLeave ch u) = true
+is_input_stage (LeaveInput ch u arg) = true
+is_input_stage _ = false
+
+-- the job has begun and has not ended without a connection
+abbrev pub works : Stage → Bool
+works Begin = false
+works (Ended e) = false
+works _ = true
+
+-- only a restoring waits to begin again
+abbrev pub IsFresh : Job → Stage → Type 0
+IsFresh j Begin = IsTrue (restores j)
+IsFresh j _ = ⊤
+
+-- ---- in step
+
+-- Controller c, whose job is at this stage, with its request standing or not, has exactly what the stage says beside its
+-- other connections; and the stage's words and numbers are those of the account.
+pub record IsInStep (l : Account) (c : ℕ) (j : Job) (s : Stage) (waits : Bool) (others : Others) : Type 0 where
+  pub holds : Holds l c (holding j s others)
+  pub knows : (p : PlugAt) → output_of j.connection ≡ Some p → Knows (l.settings p).rate j s
+  pub knows_flow : (p : PlugAt) → output_of j.connection ≡ Some p → KnowsFlow (l.settings p) s
+  pub knows_channel : (q : PlugAt) → input_of j.connection ≡ Some q → KnowsChannel (l.input_channel q) s
+  pub knows_input : KnowsInput s
+  pub fresh : IsFresh j s
+  pub plugs : IsTrue (is_input_stage s) → IsTrue (is_some (input_of j.connection))
+  pub units : (p : PlugAt) (u : ℕ) → output_of j.connection ≡ Some p → j.units ≡ Some u → u ≡ units_at (l.settings p).rate j.overhead
+  pub reclaims : (p : PlugAt) → output_of j.connection ≡ Some p → IsTrue l.reclaiming → IsTrue (allocates s) → MayReclaim l p j
+  pub addressed : (p : PlugAt) → output_of j.connection ≡ Some p → IsTrue (sees s || (waits && looks s)) → l.addressed c ≡ Some p
+  pub found : (p : PlugAt) → output_of j.connection ≡ Some p → IsTrue (sees s) → IsTrue (is_output l.latest p)
+  pub found_input : (q : PlugAt) → input_of j.connection ≡ Some q → IsTrue (sees_input s) → IsTrue (is_input l.latest q)
+  pub manager : IsFalse (is_listen j.connection) → IsTrue (works s) → IsTrue (has_manager l.latest)
 
 -- ---- a half step that has a request carried out
 
--- the account after the answer v
-abbrev pub tried : ℕ → PlugAt → Option Try → ℕ → Account → Account
-tried c p None v l = l
-tried c p (Some t) v l = if v == t.arg then after c p t.move l else l
+-- the swap of a stage, where it succeeds, is a move of its register from word to word
+pub record SwapIsMove (l : Account) (c : ℕ) (t : Target) (s : Swap) (m : Option (PlugAt × Move)) : Type 0 where
+  pub plug : PlugAt
+  pub move : Move
+  pub move_is : m ≡ Some (plug, move)
+  pub is_move : IsMove c plug move (register_at t) s.argument s.new l
 
--- where a swap succeeds it is a move, and leaves its new word
-abbrev pub IsMove : ℕ → PlugAt → Register → Option Try → ℕ → Account → Type 0
-IsMove c p r None v l = ⊤
-IsMove c p r (Some t) v l = v ≡ t.arg → Can c p t.move l × (word_at (after c p t.move l) p r ≡ t.new)
+-- the answer to the request of a stage: a swap that succeeds is a move, and the controller stays in step
+pub record HalfStep (l : Account) (c : ℕ) (j : Job) (s : Stage) (others : Others) (t : Target) (r : Reply) : Type 0 where
+  pub moves : (swap : Swap) → swap_of j s ≡ Some swap → IsTrue (succeeds (Some swap) r) → SwapIsMove l c t swap (move_of j s)
+  pub step : IsInStep (carried_out c j s r l) c j (hear_reply j s r) false others
 
--- the answer to a stage's request: the word, before the swap
-abbrev pub answer : Account → Job → Stage → ℕ
-answer l j s = word_at l j.plug (register_of s)
-
-pub record HalfStep (l : Account) (c : ℕ) (j : Job) (s : Stage) (others : ConnectionKind → PlugAt → ℕ) : Type 0 where
-  pub move : IsMove c j.plug (register_of s) (try_of j s) (answer l j s) l
-  pub step : IsInStep (tried c j.plug (try_of j s) (answer l j s) l) c j (hear j s (answer l j s)) others
-
--- the registers other than r of plug p are as they were
-pub record SameElsewhere (p : PlugAt) (r : Option Register) (l m : Account) : Type 0 where
-  pub remainder : r ≢ Some BandwidthAvailable → remainder m ≡ remainder l
-  pub halves : (base : ℕ) → (base ≡ 0) ⊎ (base ≡ 32) → r ≢ Some (Channels base) → channel_word m base ≡ channel_word l base
-  pub outputs : (q : PlugAt) → (r ≢ Some OutputPlug) ⊎ (q ≢ p) → out_word (fields_at m q) ≡ out_word (fields_at l q)
-
--- the register that a move changes, but for those of input plugs
-abbrev pub moves_at : Move → Option Register
-moves_at (AllocateChannel ch) = Some (Channels (half_of ch))
-moves_at (AllocateUnits ch u) = Some BandwidthAvailable
-moves_at (ConnectFirst kind ch overhead) = Some OutputPlug
-moves_at (ConnectOverlaid kind) = Some OutputPlug
-moves_at (ConnectInput kind ch) = None
-moves_at (DisconnectInput kind) = None
-moves_at (DisconnectOutput kind) = Some OutputPlug
-moves_at (ReleaseUnits ch u) = Some BandwidthAvailable
-moves_at (ReleaseChannel ch) = Some (Channels (half_of ch))
+-- a register of the bus: each of the two CHANNELS_AVAILABLE registers begins with channel 0 or 32
+abbrev pub IsRegister : Register → Type 0
+IsRegister BandwidthAvailable = ⊤
+IsRegister (ChannelsAvailable base) = (base ≡ 0) ⊎ (base ≡ 32)
+IsRegister (OutputPlug p) = ⊤
+IsRegister (InputPlug p) = ⊤

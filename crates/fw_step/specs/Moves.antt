@@ -1,47 +1,37 @@
--- The move that a stage makes where its swap succeeds.
+-- The move of the account that a stage makes where its swap succeeds.
+use Rattle.std.specs.Prelude.{ℕ, Option, Some, None, if◌then◌else◌}
+use Rattle.fw_base.specs.declared.plug.PlugAt.{PlugAt}
+use Rattle.fw_csr.specs.declared.reply.Reply.{Reply}
+use Rattle.fw_ledger.specs.Account.{Account}
+use Rattle.fw_ledger.specs.Moves.{Move, AllocateChannel, AllocateUnits, ConnectFirst, ConnectOverlaid, ConnectInput, DisconnectInput, DisconnectOutput, ReleaseUnits, ReleaseChannel, after}
 use Rattle.fw_cmp.specs.declared.job.Job.{Job}
 use Rattle.fw_cmp.specs.declared.stage.Stage.{Stage}
-use Rattle.fw_cmp.specs.declared.stage.Stage.TheVariants.{ReadOutput, ReadChannels, SwapChannels, ReadBandwidth, SwapBandwidth, ConnectOutput, OverlayOutput, OutputConnected, ReadOutputToLeave, LeaveOutput, ReadBandwidthToRelease, RaiseBandwidth, ReadChannelsToRelease, RestoreChannel, Ended}
-use Rattle.std.specs.Prelude.{ℕ, ◌+◌, ◌-◌, Option, Some, None}
-use Rattle.fw_plug.specs.Words.{out_fields, out_word}
-use Rattle.fw_cmp.specs.Stages.{one_more, one_less, first_word, half_of, with_bit, without_bit}
-use Rattle.fw_base.specs.declared.plug.PlugAt.{PlugAt}
-use Rattle.fw_cmp.specs.declared.request.Register.{Register}
-use Rattle.fw_cmp.specs.declared.request.Register.TheVariants.{OutputPlug, Channels, BandwidthAvailable}
-use Rattle.fw_cmp.specs.declared.request.Swap.{Swap}
-use Rattle.fw_ledger.specs.Words.{Register as AccountRegister, OutputPlug as OutputPlugRegister, ChannelsAvailable, BandwidthAvailable as BandwidthRegister}
-use Rattle.fw_ledger.specs.Moves.{Move, AllocateChannel, AllocateUnits, ConnectFirst, ConnectOverlaid, DisconnectOutput, ReleaseUnits, ReleaseChannel}
+use Rattle.fw_cmp.specs.declared.stage.Stage.TheVariants as stage
+use Rattle.fw_cmp.specs.Connections.{kind_of, output_of, input_of}
+use Rattle.fw_cmp.specs.Requests.{swap_of}
+use Rattle.fw_step.specs.Registers.{succeeds}
 
--- the swap of a stage, and the move that it makes where it succeeds
-pub record Try : Type 0 where
-  pub arg : ℕ
-  pub new : ℕ
-  pub move : Move
+abbrev pub at_plug : Option PlugAt → Move → Option (PlugAt × Move)
+at_plug None m = None
+at_plug (Some p) m = Some (p, m)
 
-abbrev pub try_of : Job → Stage → Option Try
-try_of j ReadOutput = None
-try_of j (ReadChannels base w) = None
-try_of j (SwapChannels ch arg w) = Some (record { arg = arg; new = without_bit arg (ch - half_of ch); move = AllocateChannel ch })
-try_of j (ReadBandwidth ch w) = None
-try_of j (SwapBandwidth ch u arg w) = Some (record { arg = arg; new = arg - u; move = AllocateUnits ch u })
-try_of j (ConnectOutput ch u arg) = Some (record { arg = arg; new = out_word (first_word j ch arg); move = ConnectFirst j.kind ch j.overhead })
-try_of j (OverlayOutput arg) = Some (record { arg = arg; new = out_word (one_more j.kind (out_fields arg)); move = ConnectOverlaid j.kind })
-try_of j (OutputConnected ch) = None
-try_of j (ReadOutputToLeave next) = None
-try_of j (LeaveOutput next arg) = Some (record { arg = arg; new = out_word (one_less j.kind (out_fields arg)); move = DisconnectOutput j.kind })
-try_of j (ReadBandwidthToRelease next ch u) = None
-try_of j (RaiseBandwidth next ch u arg) = Some (record { arg = arg; new = arg + u; move = ReleaseUnits ch u })
-try_of j (ReadChannelsToRelease next ch) = None
-try_of j (RestoreChannel next ch arg) = Some (record { arg = arg; new = with_bit arg (ch - half_of ch); move = ReleaseChannel ch })
-try_of j (Ended o) = None
+-- the move, for the job's output plug or at its input plug
+abbrev pub move_of : Job → Stage → Option (PlugAt × Move)
+move_of j (stage.SwapChannels ch arg w) = at_plug (output_of j.connection) (AllocateChannel ch)
+move_of j (stage.SwapBandwidth ch u arg w) = at_plug (output_of j.connection) (AllocateUnits ch u)
+move_of j (stage.ConnectOutput ch u arg) = at_plug (output_of j.connection) (ConnectFirst (kind_of j.connection) ch j.overhead)
+move_of j (stage.OverlayOutput arg) = at_plug (output_of j.connection) (ConnectOverlaid (kind_of j.connection))
+move_of j (stage.ConnectInput f arg) = at_plug (input_of j.connection) (ConnectInput (kind_of j.connection) f.channel)
+move_of j (stage.LeaveInput ch u arg) = at_plug (input_of j.connection) (DisconnectInput (kind_of j.connection))
+move_of j (stage.LeaveOutput e ch u arg) = at_plug (output_of j.connection) (DisconnectOutput (kind_of j.connection))
+move_of j (stage.RaiseBandwidth next ch u arg) = at_plug (output_of j.connection) (ReleaseUnits ch u)
+move_of j (stage.RestoreChannel next ch arg) = at_plug (output_of j.connection) (ReleaseChannel ch)
+move_of j _ = None
 
--- the swap alone
-abbrev pub swap_in : Option Try → Option Swap
-swap_in None = None
-swap_in (Some t) = Some (record { arg = t.arg; new = t.new })
+abbrev pub after_move : ℕ → Option (PlugAt × Move) → Account → Account
+after_move c None l = l
+after_move c (Some m) l = after c m.0 m.1 l
 
--- the register of the account that a job at plug p asks for
-abbrev pub account_register : PlugAt → Register → AccountRegister
-account_register p OutputPlug = OutputPlugRegister p
-account_register p (Channels base) = ChannelsAvailable base
-account_register p BandwidthAvailable = BandwidthRegister
+-- the account after the answer to the stage's request: where its swap succeeded, the move is made
+abbrev pub carried_out : ℕ → Job → Stage → Reply → Account → Account
+carried_out c j s r l = if succeeds (swap_of j s) r then after_move c (move_of j s) l else l

@@ -1,4 +1,4 @@
-ghost use Rattle.std.specs.Prelude.{◌≡◌, ◌≢◌, ◌+◌, ◌<◌, ◌≤◌, ℕ, List, [], ◌∷◌, Option, Some, None, IsTrue};
+ghost use Rattle.std.specs.Prelude.{◌≡◌, ◌≢◌, ◌+◌, ◌<◌, ◌≤◌, ℕ, List, [], ◌∷◌, Option, Some, None, IsTrue, false};
 ghost use Rattle.fw_fcp.specs.declared.frame.Frame.{Frame};
 ghost use Rattle.fw_fcp.specs.Tables.{row_of};
 ghost use Rattle.fw_tape.specs.declared.system.TapeSystem.{TapeSystem};
@@ -6,8 +6,8 @@ ghost use Rattle.fw_tape.specs.declared.transport.Transport.{Transport};
 ghost use Rattle.fw_tape.specs.declared.cassette.Cassette.{Cassette};
 ghost use Rattle.fw_tape.specs.declared.row.TapeRow.TheVariants.{Enter};
 ghost use Rattle.fw_tape.specs.Systems.{frames_per_day, share_cycles, share_blocks};
-ghost use Rattle.fw_tape.specs.Transports.{codes_of};
-ghost use Rattle.fw_tape.specs.Motion.{moved_on, moved_back, passed_on, transport_of};
+ghost use Rattle.fw_tape.specs.Transports.{codes_of, same_state};
+ghost use Rattle.fw_tape.specs.Motion.{moved_on, moved_back, passed_on, transport_of, frame_of, first_frame, entered, IsInRange};
 ghost use Rattle.fw_tape.specs.Blocks.{due_among, blocks_among, IsCycleOf};
 ghost use Rattle.fw_tape.specs.TimeCodes.{time_code, Counts};
 ghost use Rattle.fw_tape.specs.Rows.{control_rows};
@@ -24,11 +24,14 @@ pub fn blocks_are_due_in_order()
 {}
 
 /// A tape that moved some frames forward and as many back stands where it stood, and a time code counts the frames from
-/// the tape's begin.
+/// the tape's begin. A tape stands on a frame of its day, and a new state of the transport finds it where the old one left
+/// it, but for winding, which leaves it at the first or the last frame.
 pub fn frames_are_counted()
     ensures back { (s : TapeSystem) (start n : ℕ) → start < frames_per_day s → moved_back s (moved_on s start n) n ≡ start }
     ensures forth { (s : TapeSystem) (start n : ℕ) → start < frames_per_day s → moved_on s (moved_back s start n) n ≡ start }
     ensures time_code { (s : TapeSystem) (frame : ℕ) → frame < frames_per_day s → Counts s frame (time_code s frame) }
+    ensures within { (c : Cassette) → IsInRange c → frame_of c < frames_per_day c.system }
+    ensures begun { (c : Cassette) (t : Transport) → IsInRange c → same_state t c.transport ≡ false → frame_of (entered t c) ≡ first_frame t c }
 {}
 
 /// Control commands alone change the tape, and only those that are accepted: these leave the state that they name, which

@@ -38,7 +38,7 @@ pub(crate) fn call(
         list.push(word.to_string(alloc)?)?;
     }
     let mut source = MemSource::new(input.to_vec(alloc)?, failing.reads.to_vec(alloc)?);
-    let mut output = MemSink::new(alloc, 1000, failing.writes.to_vec(alloc)?)?;
+    let mut output = MemSink::new(alloc, 20_000, failing.writes.to_vec(alloc)?)?;
     let mut notes = MemSink::new(alloc, NOTE_ROOM, failing.notes.to_vec(alloc)?)?;
     let status = fire(alloc, &list, &mut source, &mut output, &mut notes);
     let unread = read_on(&mut source);

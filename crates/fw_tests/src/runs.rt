@@ -1,14 +1,22 @@
 //! Scripts that are run into memory, their logs decoded again, and calls that fail.
 
 use crate::calls::{Failing, NONE, call, front};
-use crate::vectors::{ENTRIES, FIVE_HALF_STEPS, ONE_DECK, SKIPPED_LINES, SWAP_AND_READ};
+use crate::vectors::{
+    ENTRIES, FIVE_HALF_STEPS, NO_PLUG, ONE_DECK, SKIPPED_LINES, SWAP_AND_READ, VECTORS,
+};
 use std::alloc::{AllocError, Global};
 use std::test::Fail;
 
 #[test]
 fn scripts_give_their_logs_and_logs_their_lines(rt: HostRuntime) -> Result<(), Fail> {
     let alloc = rt.alloc();
-    for session in [ONE_DECK, FIVE_HALF_STEPS, SKIPPED_LINES, SWAP_AND_READ] {
+    for session in [
+        ONE_DECK,
+        FIVE_HALF_STEPS,
+        SKIPPED_LINES,
+        SWAP_AND_READ,
+        NO_PLUG,
+    ] {
         let log = hex::decode(alloc, session.log)?;
         let ended = call(alloc, &["run"], session.script.as_bytes(), NONE)?;
         assert_eq!(rt; ended.status, 0, "{}", session.script);
@@ -23,6 +31,24 @@ fn scripts_give_their_logs_and_logs_their_lines(rt: HostRuntime) -> Result<(), F
         assert_eq!(rt; ended.status, 0, "{}", session.script);
         assert_eq!(rt; ended.output.as_slice(), session.lines.as_bytes());
         assert!(rt; ended.notes.as_slice().is_empty());
+    }
+    Ok(())
+}
+
+#[test]
+fn scripts_of_controllers_give_their_logs(rt: HostRuntime) -> Result<(), Fail> {
+    let alloc = rt.alloc();
+    for vector in VECTORS {
+        let log = hex::decode(alloc, vector.log)?;
+        let ended = call(alloc, &["run"], vector.script.as_bytes(), NONE)?;
+        assert_eq!(rt; ended.status, 0, "{}", vector.script);
+        assert_eq!(rt;
+            ended.output.as_slice(),
+            log.as_slice(),
+            "{}",
+            vector.script
+        );
+        assert!(rt; ended.notes.as_slice().is_empty(), "{}", vector.script);
     }
     Ok(())
 }
@@ -67,6 +93,24 @@ fn the_first_refused_line_decides(rt: HostRuntime) -> Result<(), Fail> {
             front(&two, 92),
         ),
         (PAIR, guarded, "line 5: Guarded\n", front(&two, 108)),
+        (
+            PAIR,
+            "wait 8000\nbroadcast a b.0 0\n",
+            "line 5: NotOwnPlug\n",
+            front(&two, 108),
+        ),
+        (
+            PAIR,
+            "wait 8000\nlisten a b.0\n",
+            "line 5: NotOwnPlug\n",
+            front(&two, 108),
+        ),
+        (
+            PAIR,
+            "wait 8000\nbreak a 0\n",
+            "line 5: NoSuchConnection\n",
+            front(&two, 108),
+        ),
     ];
     let fails = Failing {
         notes: &[1],
@@ -83,6 +127,81 @@ fn the_first_refused_line_decides(rt: HostRuntime) -> Result<(), Fail> {
         assert_eq!(rt; ended.status, 6, "{script}");
         assert!(rt; ended.notes.as_slice().is_empty(), "{script}");
         assert_eq!(rt; ended.output.as_slice(), log, "{script}");
+    }
+    Ok(())
+}
+
+const TRIANGLE: &str = "\
+device p deck 3 100
+device q deck 3 100
+device r deck 3 100
+cable p.0 q.0
+cable q.1 r.0
+";
+
+#[test]
+fn each_rule_has_its_note(rt: HostRuntime) -> Result<(), Fail> {
+    let alloc = rt.alloc();
+    let connect = "connect a a.0 b.0 any 8\n";
+    let made = "connect a a.0 b.0 any 8\nsettle 20\n";
+    // The first lines, a piece so many times behind them, and the last line; the note.
+    let cases = [
+        (TRIANGLE, "", 0, "cable r.1 p.1\n", "line 6: Loop\n"),
+        (TRIANGLE, "", 0, "cable r.3 p.1\n", "line 6: NoPort\n"),
+        (
+            "device r relay 2 100\n",
+            "",
+            0,
+            "show manager 220\n",
+            "line 2: NoRegister\n",
+        ),
+        (
+            "device r relay 2 100\n",
+            "",
+            0,
+            "start r\n",
+            "line 2: NotController\n",
+        ),
+        (PAIR, "die a\n", 1, "step a 1\n", "line 5: NotController\n"),
+        (PAIR, connect, 8, connect, "line 12: Busy\n"),
+        (
+            PAIR,
+            "wait 8000\n",
+            1,
+            "read a c 220\n",
+            "line 5: UnknownName\n",
+        ),
+        (
+            PAIR,
+            "settle 200000\n",
+            10,
+            "step a 1\n",
+            "line 14: Limit\n",
+        ),
+        (
+            DECK,
+            "device e deck 1 100\n",
+            1,
+            "reset e\n",
+            "line 3: OffBus\n",
+        ),
+        (
+            "device a deck 1 100\ndevice b deck 1 100\ncable a.0 b.0\nwait 8000\n",
+            made,
+            32,
+            connect,
+            "line 69: TableFull\n",
+        ),
+    ];
+    for (first, piece, count, last, note) in cases {
+        let mut script = first.to_string(alloc)?;
+        for _ in 0..count {
+            script.push_str(piece)?;
+        }
+        script.push_str(last)?;
+        let ended = call(alloc, &["run"], script.as_bytes(), NONE)?;
+        assert_eq!(rt; ended.status, 3, "{note}");
+        assert_eq!(rt; ended.notes.as_slice(), note.as_bytes(), "{note}");
     }
     Ok(())
 }

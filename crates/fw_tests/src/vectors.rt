@@ -2,6 +2,42 @@
 //!
 //! They were made by an implementation of the same rules that shares no code with this one.
 
+mod breaks;
+mod cables;
+mod connections;
+mod deaths;
+mod full_plug;
+mod resets;
+mod settled;
+
+/// A script, and its log in hexadecimal.
+#[derive(Clone, Copy)]
+pub(crate) struct Vector {
+    pub(crate) script: &'static str,
+    pub(crate) log: &'static str,
+}
+
+/// Scripts of connections, bus resets and deaths.
+pub(crate) const VECTORS: [Vector; 17] = [
+    cables::ABSENT_DEVICE,
+    cables::JOINED_IN_THE_MIDDLE,
+    connections::TWO_DECKS_NO_UNITS,
+    connections::TWO_DECKS_OVERHEAD_8,
+    connections::CHAIN_OF_FIVE_AT_400,
+    breaks::OVERLAY_AND_TWO_BREAKS,
+    breaks::LISTEN_TWICE_AND_BREAK,
+    deaths::DEATH_BEFORE_THE_SWAP,
+    deaths::LATE_DEATH,
+    deaths::DEATH_HOLDING_A_CHANNEL,
+    resets::RESET_BETWEEN_HALF_STEPS,
+    resets::SECOND_OVER_WITHOUT_STREAMS,
+    resets::SECOND_RESET_IN_THE_SECOND,
+    resets::OWN_SECOND_HAS_ENDED,
+    settled::BOTH_RESTORE_SETTLE_18,
+    settled::BOTH_RESTORE_SETTLE_19,
+    full_plug::INPUT_PLUG_FULL,
+];
+
 /// A script, its log in hexadecimal, and the lines of the log.
 #[derive(Clone, Copy)]
 pub(crate) struct Session {
@@ -118,6 +154,33 @@ ffc0fffff000021c020000040000000000001f40ffc00560ffc10000000000000000000006000002
 8000 async read-quadlet ffc10540 ffc0ffff f000021c\n\
 8000 async read-quadlet-reply ffc00560 ffc10000 00000000 00000000\n\
 8000 shown 1 21c 00000000\n\
+8000 end\n\
+",
+};
+
+/// A deck has no second output plug.
+pub(crate) const NO_PLUG: Session = Session {
+    script: "\
+device a deck 1 100\n\
+device b deck 1 100\n\
+cable a.0 b.0\n\
+wait 8000\n\
+connect a a.1 b.0 any 0\n\
+settle 20\n\
+end\n\
+",
+    log: "\
+31333934000000010000000000000000010000050000000000000000000000010000000100010101807f08427f80f7bd\
+01000008000000000000000000000002010100020001010101010101807f08827f80f77d817f08c07e80f73f04000001\
+0000000000001f4001ff0000020000030000000000001f40ffc00140ffc0fffff0000908020000040000000000001f40\
+ffc00160ffc070000000000000000000050000020000000000001f400800000000000007070000000000000000001f40",
+    lines: "\
+0 reset 1 root 0 manager 0 by 0: 807f0842\n\
+0 reset 2 root 1 manager 1 by 0: 807f0882 817f08c0\n\
+8000 event second-over\n\
+8000 async read-quadlet ffc00140 ffc0ffff f0000908\n\
+8000 async read-quadlet-reply ffc00160 ffc07000 00000000 00000000\n\
+8000 outcome no-plug 0 0 00000007\n\
 8000 end\n\
 ",
 };

@@ -1,5 +1,5 @@
 -- Where nothing is refused and nothing fails, all is done.
-use Rattle.std.proofs.Common.{◌≡◌, ◌≢◌, ◌⊎◌, inl, inr, ℕ, List, ◌++◌, Option, Some, None, Err, refl, ap, sym, subst, ◌∙◌}
+use Rattle.std.proofs.Common.{◌≡◌, ◌≢◌, ◌⊎◌, inl, inr, ℕ, List, ◌++◌, true, false, Option, Some, None, Err, refl, ap, sym, subst, ◌∙◌}
 use Rattle.fw_decode.specs.Decode.{IsNoRefusal, ReadCount, WriteCount}
 use Rattle.fw_decode.specs.declared.ending.LogEnding.{LogEnding}
 use Rattle.fw_decode.specs.declared.ending.LogEnding.TheVariants as LogEndings
@@ -10,6 +10,7 @@ use Rattle.fw_script.specs.declared.command.Command.{Command}
 use Rattle.fw_script.specs.declared.command.Command.TheVariants.{End}
 use Rattle.fw_script.proofs.ScriptLaws.{says_once, says_after, says_behind}
 use Rattle.fw_run.specs.declared.rule.RuleFault.{RuleFault}
+use Rattle.fw_run.specs.declared.rule.RuleFault.TheVariants.{UnknownName, NameTaken, TooMany, NoPort, PortUsed, Loop, NotController, Guarded, NoRegister, Limit, TableFull, Busy, NoSuchConnection, NotOwnPlug, OffBus, NotBuilt}
 use Rattle.fw_run.specs.State.{State}
 use Rattle.fw_run.specs.Rules.{Decides}
 use Rattle.fw_tool.specs.declared.ending.Ending.{Ending}
@@ -32,7 +33,22 @@ no_line script left' held held' f line r v =
 
 -- the end breaks no rule
 end_allowed : (s : State) (f : RuleFault) → Decides s End (Err f) → ⊥
-end_allowed s f d = cc
+end_allowed s NotBuilt d = d.0
+end_allowed s UnknownName d = let wrong : false ≡ true = d.0 in cc wrong
+end_allowed s NameTaken d = d.0
+end_allowed s TooMany d = d.0
+end_allowed s NoPort d = d.0
+end_allowed s PortUsed d = d.0
+end_allowed s Loop d = d.0
+end_allowed s NotController d = d.0
+end_allowed s OffBus d = d.0
+end_allowed s NotOwnPlug d = d.0.2
+end_allowed s NoSuchConnection d = d.0.2
+end_allowed s TableFull d = d.0.2
+end_allowed s Busy d = d.0.2
+end_allowed s Guarded d = d.0
+end_allowed s NoRegister d = d.0
+end_allowed s Limit d = d.0
 
 other_than_end : (s : State) (c : Command) (f : RuleFault) → Decides s c (Err f) → c ≢ End
 other_than_end s c f d e = end_allowed s f (subst (λ (x : Command). Decides s x (Err f)) e d)

@@ -16,11 +16,14 @@ use Rattle.fw_run.specs.declared.rule.RuleFault.{RuleFault}
 use Rattle.fw_run.specs.Giving.{log_bytes}
 use Rattle.fw_run.specs.State.{first_state}
 use Rattle.fw_run.specs.Rules.{Decides}
-use Rattle.fw_run.specs.Run.{Run, begun, actions_of}
+use Rattle.fw_run.specs.Carrying.{Carries}
+use Rattle.fw_run.specs.Runs.{Run, begun}
 use Rattle.fw_run.proofs.Runs.{log_append, run_steps}
+use Rattle.fw_run.proofs.ComesBack.{comes_back}
 use Rattle.fw_run.proofs.Sounds.{sound_throughout}
+use Rattle.fw_run.proofs.Suffice.{rounds_suffice}
 use Rattle.fw_run.proofs.Logs.{run_opens, run_spells}
-use Rattle.fw_bus.specs.Stands.{Cut}
+use Rattle.fw_bus.specs.Doings.{Cut}
 use Rattle.fw_bus.specs.Buses.{Standing, Stops}
 use Rattle.fw_tool.specs.Faults.{FirstFault}
 use Rattle.fw_tool.specs.Scripts.{beyond}
@@ -36,6 +39,8 @@ logs_run g opens = record {
   state = g.state;
   run = g.run;
   sound = sound_throughout g.actions g.log g.state (run_steps g.commands g.actions g.log g.state g.run);
+  restored = comes_back g.actions g.log g.state (run_steps g.commands g.actions g.log g.state g.run);
+  rounds = rounds_suffice g.commands g.actions g.log g.state g.run;
   opens = opens;
   grew = g.grew;
 }
@@ -64,6 +69,8 @@ logged_all {left} {mid} {held} {held1} {old} left' new g a =
         state = g.state;
         run = g.run;
         sound = sound_throughout g.actions g.log g.state (run_steps g.commands g.actions g.log g.state g.run);
+        restored = comes_back g.actions g.log g.state (run_steps g.commands g.actions g.log g.state g.run);
+        rounds = rounds_suffice g.commands g.actions g.log g.state g.run;
         opens = whole.opens;
         grew = g.grew;
       };
@@ -147,6 +154,8 @@ part_header left held held' wrote =
       after = first_state;
       steps = (refl, refl);
       sound = sound_throughout [] [] first_state (run_steps [] [] [] first_state begun);
+      restored = comes_back [] [] first_state (run_steps [] [] [] first_state begun);
+      rounds = rounds_suffice [] [] [] first_state begun;
       opens = run_opens [] [] [] first_state begun tt;
       grew = subst (λ (bytes : List ℕ). AppendsFront held held' bytes) (sym (append-nil header_bytes)) wrote;
     }
@@ -173,11 +182,13 @@ part_stopped {left} {mid} {held} {held1} {old} left' held2 new bus' c g a d = re
   state = g.state;
   run = g.run;
   done = x.done;
-  began = (d.order, x.later, d.decided, x.actions_are);
+  began = (d.order, x.later, x.all, x.last, d.decided, x.whole);
   out = x.given ++ x.next ∷ [];
   after = x.state;
   steps = x.steps;
   sound = d.sound;
+  restored = d.restored;
+  rounds = rounds_suffice g.commands g.actions g.log g.state g.run;
   opens = d.opens (given_no_end (given_before old.stage a.known new (Ok (Some c)) (some_command c) g.read a.gives).0);
   grew = record {
     front = (header_bytes ++ log_bytes g.log) ++ (log_bytes x.given ++ x.front);
@@ -191,7 +202,7 @@ part_stopped {left} {mid} {held} {held1} {old} left' held2 new bus' c g a d = re
     o : Given left left' g.commands c new
     o = given_on left' new c g a
 
-    x : Cut g.state (actions_of g.state d.order) held1 held2
+    x : Cut (Carries g.state d.order) g.state held1 held2
     x = d.cut
 
     regroup : (a b c d e : List ℕ) → a ++ (b ++ (c ++ (d ++ e))) ≡ ((a ++ b) ++ (c ++ d)) ++ e

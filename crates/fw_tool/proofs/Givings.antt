@@ -10,7 +10,7 @@ use Rattle.fw_script.specs.declared.command.Command.{Command}
 use Rattle.fw_script.specs.declared.command.Command.TheVariants as Commands
 use Rattle.fw_script.specs.declared.command.Command.TheVariants.{End}
 use Rattle.fw_script.specs.declared.stage.Stage.TheVariants as Stages
-use Rattle.fw_run.specs.Rules.{IsCommand}
+use Rattle.fw_bus.specs.Orders.{IsCommand}
 use Rattle.fw_script.specs.Leading.{Leads}
 use Rattle.fw_script.specs.Leading.Leads.{nothing, and_then}
 use Rattle.fw_run.specs.Logs.{HasNoEnd}

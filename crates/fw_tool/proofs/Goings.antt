@@ -18,11 +18,12 @@ use Rattle.fw_script.proofs.CallLaws.{gave_all, before_none, met_end, read_nothi
 use Rattle.fw_run.specs.Giving.{log_bytes}
 use Rattle.fw_run.specs.Logs.{HasNoEnd}
 use Rattle.fw_run.specs.State.{State, first_state}
-use Rattle.fw_run.specs.Rules.{IsCommand}
-use Rattle.fw_run.specs.Run.{Action, Run, begun, actions_of}
+use Rattle.fw_run.specs.Actions.{Action}
+use Rattle.fw_run.specs.Runs.{Run, begun}
 use Rattle.fw_run.proofs.Runs.{log_append}
 use Rattle.fw_bus.specs.Stands.{StandsFor}
 use Rattle.fw_bus.specs.Buses.{Standing, Goes}
+use Rattle.fw_bus.specs.Orders.{IsCommand}
 use Rattle.fw_tool.proofs.Givings.{is_end, given_form, given_some, behind_command, over_end, no_end_led}
 use Rattle.fw_tool.proofs.Takings.{left_behind, all_held}
 
@@ -214,7 +215,7 @@ going_more {left} {mid} {held} {held1} {old} {bus} left' held2 new bus' c g a d 
     let before = given_before old.stage a.known new (Ok (Some c)) (some_command c) g.read a.gives in
     record {
       commands = g.commands ++ c ∷ [];
-      actions = g.actions ++ actions_of g.state d.order;
+      actions = g.actions ++ d.more;
       log = g.log ++ d.out;
       state = d.state;
       run = d.run;

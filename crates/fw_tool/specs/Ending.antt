@@ -13,8 +13,12 @@ use Rattle.fw_run.specs.declared.rule.RuleFault.{RuleFault}
 use Rattle.fw_run.specs.Giving.{log_bytes}
 use Rattle.fw_run.specs.State.{State}
 use Rattle.fw_run.specs.Rules.{Decides}
-use Rattle.fw_run.specs.Run.{Action, Steps, Run, actions_of}
+use Rattle.fw_run.specs.Actions.{Action, Steps}
+use Rattle.fw_run.specs.Carrying.{Carries}
+use Rattle.fw_run.specs.Runs.{Run}
 use Rattle.fw_run.specs.Headline.{IsSoundThroughout}
+use Rattle.fw_run.specs.Reclaiming.{ComesBack}
+use Rattle.fw_run.specs.Settling.{RoundsSuffice}
 use Rattle.fw_tool.specs.declared.ending.Ending.{Ending}
 use Rattle.fw_tool.specs.declared.ending.Ending.TheVariants.{Done, Usage, Refused, NoLog, ReadFault, WriteFault, TooLong, NoMemory}
 use Rattle.fw_tool.specs.declared.Refused.{Refused as RefusedLine}
@@ -23,13 +27,16 @@ use Rattle.fw_tool.specs.declared.Refusal.TheVariants.{BadLine, LineTooLong, NoE
 use Rattle.fw_tool.specs.Scripts.{FaultsAt, beyond}
 
 -- The commands were carried out; the header and the log of their run were written. It is a log that lacks at most its end, and
--- it is sound throughout.
+-- it is sound throughout; what was whole before a bus reset is whole again where its second is over, and enough rounds suffice for
+-- that.
 pub record LogsRun (held held' : Option (List ℕ)) (commands : List Command) : Type 0 where
   pub actions : List Action
   pub log : List Timed
   pub state : State
   pub run : Run commands actions log state
   pub sound : IsSoundThroughout actions log
+  pub restored : ComesBack actions log
+  pub rounds : RoundsSuffice commands
   pub opens : LogOpens log (header_bytes ++ log_bytes log)
   pub grew : Grows held held' (header_bytes ++ log_bytes log)
 
@@ -84,10 +91,10 @@ pub record PassesScriptLimit (left left' held held' : Option (List ℕ)) : Type 
   pub refused : RefusesLine left left' held held' Fault.TooLong line
   pub long : 1048576 < length refused.script
 
--- of what a command orders these actions were carried out, or of no command none
+-- of what a command orders these actions were carried out, and all that it orders could have been; or of no command none
 abbrev pub Began : Option Command → State → List Action → Type 0
 Began None s done = done ≡ []
-Began (Some c) s done = (order : Order) × (later : List Action) × Decides s c (Ok order) × (actions_of s order ≡ done ++ later)
+Began (Some c) s done = (order : Order) × (later : List Action) × (all : List Timed) × (last : State) × Decides s c (Ok order) × Carries s order (done ++ later) all last
 
 -- the script says these commands first, and then the one that was begun, if any
 abbrev pub SaysBegun : List ℕ → List Command → Option Command → Type 0
@@ -121,6 +128,8 @@ pub record PartLogged (left left' held held' : Option (List ℕ)) : Type 0 where
   pub after : State
   pub steps : Steps state done out after
   pub sound : IsSoundThroughout (actions ++ done) (log ++ out)
+  pub restored : ComesBack (actions ++ done) (log ++ out)
+  pub rounds : RoundsSuffice commands
   pub opens : LogOpens (log ++ out) (header_bytes ++ log_bytes (log ++ out))
   pub grew : AppendsFront held held' (header_bytes ++ log_bytes (log ++ out))
 

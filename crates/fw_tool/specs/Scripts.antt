@@ -10,7 +10,8 @@ use Rattle.fw_script.specs.declared.ScriptFault.TheVariants.{BadLine, LineTooLon
 use Rattle.fw_run.specs.declared.rule.RuleFault.{RuleFault}
 use Rattle.fw_run.specs.State.{State}
 use Rattle.fw_run.specs.Rules.{Decides}
-use Rattle.fw_run.specs.Run.{Action, Run}
+use Rattle.fw_run.specs.Actions.{Action}
+use Rattle.fw_run.specs.Runs.{Run}
 
 -- the lines after these commands give this fault, perhaps behind skipped ones
 pub record FaultsAt (script : List ℕ) (commands : List Command) (fault : ScriptFault) : Type 0 where

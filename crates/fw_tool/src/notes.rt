@@ -27,7 +27,7 @@ fn put(note: &mut Note, text: &[u8])
 
 fn rule(fault: RuleFault) -> &'static [u8]
     ensures name { result.now ≡ rule_of fault }
-    ensures short { length result.now ≤ 16 }
+    ensures short { length result.now ≤ 19 }
 {
     match fault {
         RuleFault::UnknownName => b": UnknownName\n",
@@ -40,6 +40,10 @@ fn rule(fault: RuleFault) -> &'static [u8]
         RuleFault::Guarded => b": Guarded\n",
         RuleFault::NoRegister => b": NoRegister\n",
         RuleFault::Limit => b": Limit\n",
+        RuleFault::TableFull => b": TableFull\n",
+        RuleFault::Busy => b": Busy\n",
+        RuleFault::NoSuchConnection => b": NoSuchConnection\n",
+        RuleFault::NotOwnPlug => b": NotOwnPlug\n",
         RuleFault::OffBus => b": OffBus\n",
         RuleFault::NotBuilt => b": NotBuilt\n",
     }
@@ -47,7 +51,7 @@ fn rule(fault: RuleFault) -> &'static [u8]
 
 fn refusal(why: Refusal) -> &'static [u8]
     ensures name { result.now ≡ name_of why }
-    ensures short { length result.now ≤ 16 }
+    ensures short { length result.now ≤ 19 }
 {
     match why {
         Refusal::BadLine => b": BadLine\n",

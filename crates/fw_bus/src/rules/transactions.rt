@@ -1,12 +1,12 @@
 //! The rules of transactions of the script, and of registers that are shown.
 
-ghost use Rattle.std.specs.Prelude.{◌≡◌, ◌<◌, ◌^◌, IfOk, IfSome, IsTrue};
-ghost use Rattle.fw_run.specs.Rules as Rules;
-ghost use Rattle.fw_bus.specs.Stands.{view_in, MayCarry, read_in};
-ghost use Rattle.fw_run.specs.Run.{AccessFits};
+ghost use Rattle.std.specs.Prelude.{◌≡◌, ◌<◌, ◌^◌, IfOk};
+ghost use Rattle.fw_run.specs.Actions.{AccessFits};
+ghost use Rattle.fw_script.specs.declared.command.Command.TheVariants as Commands;
+ghost use Rattle.fw_bus.specs.Orders.{Decided, MayCarry, command_of, is_guarded};
+ghost use Rattle.fw_bus.specs.Stands.{IsReady};
 
 use crate::machine::Machine;
-use crate::packets::CSR_SPACE;
 use fw_run::{Access, Order, RuleFault, Transaction};
 use fw_script::Name;
 
@@ -18,12 +18,12 @@ impl Machine {
         access: Access,
     ) -> Result<Order, RuleFault>
         requires { AccessFits access }
-        ensures decided { result ≡ Rules.transact (view_in self.now) from.now to.now access }
+        ensures decided { Decided self.now (command_of from.now to.now access) result }
         ensures may { IfOk result (MayCarry self.now) }
     {
         let from = self.known(from)?;
         let to = self.known(to)?;
-        if !self.is_linked(from) {
+        if !self.is_living(from) {
             return Err(RuleFault::NotController);
         }
         if !self.is_linked(to) {
@@ -37,46 +37,28 @@ impl Machine {
 
     /// The device whose register is shown; the resource manager where no name stands.
     pub(super) fn decide_show(&self, name: &Option<Name>, offset: u16) -> Result<Order, RuleFault>
+        requires ready { IsReady self.now }
         requires offset { offset < 2 ^ 12 }
-        requires manager { IfSome self.now.devices.manager (λ d. IsTrue (Rules.is_linked_in (view_in self.now) d)) }
-        ensures decided { result ≡ Rules.show (view_in self.now) name.now offset }
+        ensures decided { Decided self.now (Commands.Show name.now offset) result }
         ensures may { IfOk result (MayCarry self.now) }
     {
-        match name {
-            None => {
-                let device = self.devices.manager().ok_or(RuleFault::NoRegister)?;
-                self.show(device, offset)
-            }
-            Some(name) => {
-                let device = self.known(name)?;
-                if !self.is_linked(device) {
-                    return Err(RuleFault::OffBus);
-                }
-                self.show(device, offset)
-            }
+        let device = match name {
+            None => self.devices.manager().ok_or(RuleFault::NoRegister)?,
+            Some(name) => self.known(name)?,
+        };
+        if !self.is_linked(device) {
+            return Err(RuleFault::OffBus);
         }
-    }
-
-    /// The word that a quadlet read would be answered.
-    fn show(&self, device: u8, offset: u16) -> Result<Order, RuleFault>
-        requires offset { offset < 2 ^ 12 }
-        requires linked { IsTrue (Rules.is_linked_in (view_in self.now) device) }
-        ensures decided { result ≡ Rules.shown_word device offset (read_in self.now device offset) }
-        ensures may { IfOk result (MayCarry self.now) }
-    {
-        let reply = self
-            .devices
-            .read(device, self.cycle, CSR_SPACE + u64::from(offset));
-        if !reply.is_complete() {
+        if !self.read(device, offset).is_complete() {
             return Err(RuleFault::NoRegister);
         }
-        Ok(Order::Show(device, offset, reply.value))
+        Ok(Order::Show(device, offset))
     }
 }
 
 /// Only controllers' procedures swap at the registers of channels and units, and of plugs (own).
 fn is_guarded(access: Access) -> bool
-    ensures { result ≡ Rules.is_guarded access }
+    ensures { result ≡ is_guarded access }
 {
     match access {
         Access::Read(_) => false,

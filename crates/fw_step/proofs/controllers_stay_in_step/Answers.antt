@@ -1,15 +1,19 @@
 -- Each clause is a lemma.
-use Rattle.fw_ledger.specs.Moves.{after}
-use Rattle.fw_step.proofs.HalfSteps.{half_step}
-use Rattle.fw_step.proofs.Others.{move_spares, spared}
-use Rattle.fw_step.proofs.Elsewhere.{move_elsewhere}
+use Rattle.fw_step.proofs.Nexts.{turn_in_step}
+use Rattle.fw_step.proofs.Together.{first_step, holds_all, restoring, stay_in_step}
 use Rattle.fw_step.proofs.controllers_stay_in_step.Goals as goal
 
-pub returns-clause-own : goal.returns-clause-own
-returns-clause-own c = half_step
+pub returns-clause-first : goal.returns-clause-first
+returns-clause-first c = first_step
 
-pub returns-clause-others : goal.returns-clause-others
-returns-clause-others r = λ l c d p m j s others lt ne sound can i. spared l (after c p m l) d j s others (move_spares c d p m l lt ne sound can) i
+pub returns-clause-holding : goal.returns-clause-holding
+returns-clause-holding c = holds_all
 
-pub returns-clause-registers : goal.returns-clause-registers
-returns-clause-registers c = move_elsewhere
+pub returns-clause-turn : goal.returns-clause-turn
+returns-clause-turn c = turn_in_step
+
+pub returns-clause-together : goal.returns-clause-together
+returns-clause-together c = stay_in_step
+
+pub returns-clause-restoring : goal.returns-clause-restoring
+returns-clause-restoring c = restoring

@@ -1,21 +1,13 @@
 use Rattle.std.proofs.Common.{subst, sym, refl, IsFalse}
 use Rattle.fw_bus.specs.Stands.{StandsFor}
-use Rattle.fw_bus.proofs.Reached.{ready_of}
-use Rattle.fw_bus.proofs.SecondTurns.{ready_cycle}
-use Rattle.fw_bus.proofs.Views.{manager_linked}
-use Rattle.fw_bus.proofs.Runs.{goes, stops, refused, reached_more}
+use Rattle.fw_bus.proofs.Runs.{goes, stops, ready_of, reached_more, run_good}
 use Rattle.fw_bus.proofs.bus.Bus.apply.Goals as goal
 
-pub decide-requires-clause-cycle : goal.decide-requires-clause-cycle
-decide-requires-clause-cycle g c = ready_cycle (ready_of (c.self.invariant (subst (λ v. IsFalse v.spent) (sym c.self.view_is) c.requires.spent)))
-
-pub decide-requires-clause-manager : goal.decide-requires-clause-manager
-decide-requires-clause-manager g c =
-    let r = ready_of (c.self.invariant (subst (λ v. IsFalse v.spent) (sym c.self.view_is) c.requires.spent)) in
-    manager_linked _ r.state r.good r.stands
+pub decide-requires-clause-ready : goal.decide-requires-clause-ready
+decide-requires-clause-ready g c = ready_of (c.self.invariant (subst (λ v. IsFalse v.spent) (sym c.self.view_is) c.requires.spent))
 
 pub returns-in-Err-clause-run : goal.returns-in-Err-clause-run
-returns-in-Err-clause-run g c commands actions log s r st = refused c.args.c.now _ c.in-Err.ensures.decided commands actions log s r (subst (λ v. StandsFor v.machine s) (sym c.self.view_is) st)
+returns-in-Err-clause-run g c commands actions log s r st = c.in-Err.ensures.decided s (run_good r) (subst (λ v. StandsFor v.machine s) (sym c.self.view_is) st)
 
 pub carry_out-requires-clause-ready : goal.carry_out-requires-clause-ready
 carry_out-requires-clause-ready g c = ready_of (c.self.invariant (subst (λ v. IsFalse v.spent) (sym c.self.view_is) c.requires.spent))
@@ -24,7 +16,9 @@ pub invariant_of-self : goal.invariant_of-self
 invariant_of-self g c = λ fresh. reached_more c.args.c.now _ (c.self.invariant fresh) c.in-Ok.ensures.decided c.in-Ok-carry_out.ensures.does
 
 pub returns-in-Ok-carry_out-clause-run : goal.returns-in-Ok-carry_out-clause-run
-returns-in-Ok-carry_out-clause-run g c commands actions log s r st = goes c.args.c.now _ _ (subst (λ v. IsFalse v.spent) (sym c.self.view_is) c.requires.spent) c.in-Ok.ensures.decided c.in-Ok-carry_out.ensures.does commands actions log s r (subst (λ v. StandsFor v.machine s) (sym c.self.view_is) st)
+returns-in-Ok-carry_out-clause-run g c commands actions log s r st =
+    goes c.args.c.now _ _ (subst (λ v. IsFalse v.spent) (sym c.self.view_is) c.requires.spent) c.in-Ok.ensures.decided c.in-Ok-carry_out.ensures.does commands actions log s r (subst (λ v. StandsFor v.machine s) (sym c.self.view_is) st)
 
 pub returns-in-Err-carry_out-clause-run : goal.returns-in-Err-carry_out-clause-run
-returns-in-Err-carry_out-clause-run g c commands actions log s r st = stops c.args.c.now _ _ refl c.in-Ok.ensures.decided c.in-Err-carry_out.ensures.does commands actions log s r (subst (λ v. StandsFor v.machine s) (sym c.self.view_is) st)
+returns-in-Err-carry_out-clause-run g c commands actions log s r st =
+    stops c.args.c.now _ _ refl c.in-Ok.ensures.decided c.in-Err-carry_out.ensures.does commands actions log s r (subst (λ v. StandsFor v.machine s) (sym c.self.view_is) st)

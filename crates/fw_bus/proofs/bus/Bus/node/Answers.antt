@@ -8,8 +8,8 @@ use Rattle.fw_run.specs.Good.{IsGood}
 use Rattle.fw_bus.specs.declared.machine.Machine.{Machine}
 use Rattle.fw_bus.specs.Buses.{Standing, Lends}
 use Rattle.fw_bus.specs.Stands.{HasNodes, StandsFor}
-use Rattle.fw_bus.proofs.Reached.{run_good}
-use Rattle.fw_bus.proofs.Views.{lends_none, lends_some}
+use Rattle.fw_bus.proofs.Runs.{run_good}
+use Rattle.fw_bus.proofs.Lends.{lends_none, lends_some}
 use Rattle.fw_bus.proofs.bus.Bus.node.Goals as goal
 
 lent_of : (s : State) (nodes : List NodeState) (d : ℕ) (o : Option (Bor NodeState)) → IsGood s → HasNodes nodes s
@@ -22,5 +22,5 @@ returns c = record {
   lent = λ commands actions log s run st.
       let P : Machine → Type 0 = λ m. StandsFor m s in
       let here : StandsFor c.self.inside.machine s = subst P (ap (λ (b : Standing). b.machine) (sym c.self.view_is)) st in
-      lent_of s c.self.inside.machine.devices.nodes c.args.device c.node.result (run_good run) here.nodes c.node.ensures.none c.node.ensures.some;
+      lent_of s c.self.inside.machine.devices.nodes c.args.device c.node.result (run_good run) here.devices.nodes c.node.ensures.none c.node.ensures.some;
 }

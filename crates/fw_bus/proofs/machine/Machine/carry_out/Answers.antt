@@ -1,18 +1,33 @@
-use Rattle.std.proofs.Common.{subst}
-use Rattle.fw_bus.specs.Stands.{MayCarry}
-use Rattle.fw_bus.proofs.Doings.{does_one, does_silent}
-use Rattle.fw_bus.proofs.TransactTurns.{begin_turns, show_turns, finish_turns}
+use Rattle.std.proofs.Common.{subst, ◌∷◌, []}
+use Rattle.fw_run.specs.Carrying.{Carries}
+use Rattle.fw_bus.specs.Orders.{MayCarry}
+use Rattle.fw_bus.proofs.CarryLaws.{carried, finish_turns}
+use Rattle.fw_bus.proofs.Doings.{does_one}
 use Rattle.fw_bus.proofs.machine.Machine.carry_out.Goals as goal
 
-pub returns-in-Broadcast : goal.returns-in-Broadcast
-returns-in-Broadcast g c =
-    let may = subst (λ o. MayCarry c.args.self.now o) c.in-Broadcast.is c.requires.may in
-    record { does = rw c.in-Broadcast.is (does_silent _ _ _ _ (begin_turns _ _ _ may.0 may.1 may.2 c.begin_broadcast.ensures)) }
+pub returns-in-Declare : goal.returns-in-Declare
+returns-in-Declare g c = record { does = rw c.in-Declare.is (carried _ _ (λ s t out f. Carries.declares f) c.declare.ensures.does) }
+
+pub returns-in-Cable : goal.returns-in-Cable
+returns-in-Cable g c = record { does = rw c.in-Cable.is (carried _ _ (λ s t out f. Carries.joins f) c.join.ensures.does) }
+
+pub returns-in-Reset : goal.returns-in-Reset
+returns-in-Reset g c = record { does = rw c.in-Reset.is (carried _ _ (λ s t out f. Carries.resets f) c.reset.ensures.does) }
+
+pub returns-in-Connect : goal.returns-in-Connect
+returns-in-Connect g c = record { does = rw c.in-Connect.is (carried _ _ (λ s t out f. Carries.connects f) c.connect.ensures.does) }
+
+pub returns-in-Break : goal.returns-in-Break
+returns-in-Break g c = record { does = rw c.in-Break.is (carried _ _ (λ s t out f. Carries.breaks f) c.break_connection.ensures.does) }
+
+pub returns-in-Step : goal.returns-in-Step
+returns-in-Step g c = record { does = rw c.in-Step.is (carried _ _ (λ s t out f. Carries.steps f) c.steps.ensures.does) }
+
+pub returns-in-Transact : goal.returns-in-Transact
+returns-in-Transact g c = record { does = rw c.in-Transact.is (carried _ _ (λ s t out f. Carries.transacts f) c.transact.ensures.does) }
 
 pub returns-in-Show : goal.returns-in-Show
-returns-in-Show g c =
-    let may = subst (λ o. MayCarry c.args.self.now o) c.in-Show.is c.requires.may in
-    record { does = rw c.in-Show.is (does_one _ _ _ (show_turns _ _ _ _ may.0 may.1 may.3) (rw c.shown_entry-entry.ensures.value at c.give.ensures.bytes) c.give.ensures.faults) }
+returns-in-Show g c = record { does = rw c.in-Show.is (carried _ _ (λ s t out f. Carries.shows f) c.show.ensures.does) }
 
 pub returns-in-End : goal.returns-in-End
-returns-in-End g c = record { does = rw c.in-End.is (does_one _ _ _ (finish_turns _) c.give-in-End.ensures.bytes c.give-in-End.ensures.faults) }
+returns-in-End g c = record { does = rw c.in-End.is (carried _ _ (λ s t out f. Carries.ends f) (does_one _ _ _ (finish_turns _) c.give.ensures.bytes c.give.ensures.faults)) }

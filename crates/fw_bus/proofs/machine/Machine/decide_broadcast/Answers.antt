@@ -1,36 +1,28 @@
--- A broadcast connection that is carried out is of the one deck of its bus.
-use Rattle.std.proofs.Common.{◌≡◌, ◌<◌, nat_lt, length, Bool, true, false, ◌||◌, not, List, [], ◌∷◌, refl, ap, sym, ◌==◌, arith}
-use Rattle.std.proofs.lemmas.Bool.Decides.{nat_tests}
-use Rattle.fw_base.specs.declared.device.DeviceKind.{DeviceKind}
-use Rattle.fw_base.specs.declared.device.DeviceKind.TheVariants.{Relay, Deck, Camcorder, Computer}
-use Rattle.fw_node.specs.State.{NodeState}
-use Rattle.fw_devices.specs.Network.{kinds_of}
-use Rattle.fw_run.specs.Rules.{is_deck, begins_other}
+-- The order, or the rule, is that of the connection that is asked for.
+use Rattle.std.proofs.Common.{arith}
+use Rattle.fw_run.specs.declared.order.Wanted.TheVariants.{BroadcastOut}
+use Rattle.fw_script.specs.declared.command.Command.TheVariants as Commands
 use Rattle.fw_bus.proofs.machine.Machine.decide_broadcast.Goals as goal
+use Rattle.fw_bus.proofs.Connections.{connection_decided, few_devices, is_named, plug_is}
 
-deck_of : (kind : DeviceKind) → not (is_deck kind) ≡ false → kind ≡ Deck
-deck_of Relay e = absurd (let z : ⊥ = cc in z)
-deck_of Deck e = refl
-deck_of Camcorder e = absurd (let z : ⊥ = cc in z)
-deck_of Computer e = absurd (let z : ⊥ = cc in z)
+pub decide_connection-requires-clause-slot : goal.decide_connection-requires-clause-slot
+decide_connection-requires-clause-slot c =
+    let few = few_devices c.args.self.now c.requires.ready in
+    let p = c.in_ok-output.ensures.declared in
+    let plug = c.in_ok-output.ensures.device.1 in
+    ((omega arith, omega arith), omega arith, c.requires.overhead)
 
-none_of : (a b c d : Bool) → a || b || c || d ≡ false → (a ≡ false) × (b ≡ false) × (c ≡ false)
-none_of false false false d e = (refl, refl, refl)
-none_of true b c d e = absurd (let z : ⊥ = cc in z)
-none_of false true c d e = absurd (let z : ⊥ = cc in z)
-none_of false false true d e = absurd (let z : ⊥ = cc in z)
-
-lone : (nodes : List NodeState) → 0 < length nodes → nat_lt 1 (length (kinds_of nodes)) ≡ false → begins_other (kinds_of nodes) ≡ false → kinds_of nodes ≡ Deck ∷ []
-lone [] some few deck = absurd (omega arith)
-lone (n ∷ []) some few deck = ap (λ kind. kind ∷ []) (deck_of n.kind deck)
-lone (n ∷ m ∷ nodes) some few deck = absurd (grind (arith, nat_tests))
-
-pub returns-clause-may : goal.returns-clause-may
-returns-clause-may c =
+pub returns-clause-decided : goal.returns-clause-decided
+returns-clause-decided c = λ s g st.
     let m = c.args.self.now in
-    let nodes = m.devices.nodes in
-    let kinds = kinds_of nodes in
-    let n = none_of m.began (nat_lt 1 (length kinds)) (begins_other kinds) (not (c.args.plug.now.1 == 0)) (sym c.if-is_later_broadcast.ensures.value) in
-    let low = c.in_ok-known.ensures.declared in
-    let same = c.if-is_later_broadcast.ensures.nodes in
-    (n.0, lone nodes (omega arith) n.1 n.2, c.requires)
+    let a = c.args.output.now in
+    let p = c.in_ok-output.output in
+    let name = is_named m s c.args.name.now c.in_ok-device.device st c.in_ok-device.ensures.device in
+    let out = is_named m s a.0 p.device st c.in_ok-output.ensures.device.0 in
+    let plug = plug_is p a c.in_ok-output.ensures.device.1 in
+    connection_decided m s (Commands.Broadcast c.args.name.now a c.args.overhead) c.in_ok-device.device (BroadcastOut p c.args.overhead) c.decide_connection.result g st
+    (record {
+      asks = tt;
+      known = ((c.in_ok-device.device, name), ((p.device, out), tt));
+      wanted = (name, (p.device, out, λ i. BroadcastOut (plug i) c.args.overhead));
+    }) c.decide_connection.ensures.decided

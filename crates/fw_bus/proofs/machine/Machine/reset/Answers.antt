@@ -1,4 +1,4 @@
-use Rattle.fw_bus.proofs.ResetTurns.{ready_on, ready_declared, reset_does}
+use Rattle.fw_bus.proofs.ResetTurns.{ready_on, ready_declared, ready_cycle, reset_does}
 use Rattle.fw_bus.proofs.machine.Machine.reset.Goals as goal
 
 pub give_reset-requires-clause-declared : goal.give_reset-requires-clause-declared
@@ -7,5 +7,8 @@ give_reset-requires-clause-declared g c = ready_declared _ c.requires.ready c.re
 pub give_reset-requires-clause-on : goal.give_reset-requires-clause-on
 give_reset-requires-clause-on g c = ready_on _ c.requires.ready c.requires.on
 
+pub give_reset-requires-clause-cycle : goal.give_reset-requires-clause-cycle
+give_reset-requires-clause-cycle g c = ready_cycle c.requires.ready
+
 pub returns : goal.returns
-returns g c = record { does = reset_does _ _ _ _ c.requires.quiet c.requires.on c.requires.few c.give_reset.ensures }
+returns g c = record { does = reset_does _ _ _ _ c.requires.on c.requires.few c.give_reset.ensures }

@@ -1,7 +1,8 @@
-use Rattle.std.proofs.Common.{refl, rules, arith}
+use Rattle.std.proofs.Common.{refl, rules, arith, ◌∙◌}
 use Rattle.std.specs.Prelude.{Err}
-use Rattle.fw_run.specs.Run.{HalfStep}
-use Rattle.fw_bus.proofs.Doings.{times_none, times_then, times_cut, times_all, ready_after}
+use Rattle.fw_run.specs.Actions.{HalfStep}
+use Rattle.fw_bus.proofs.Doings.{ready_after}
+use Rattle.fw_bus.proofs.Times.{times_none, times_then, times_cut, times_all}
 use Rattle.fw_bus.proofs.machine.Machine.steps.Goals as goal
 
 pub half_step-requires-clause-ready : goal.half_step-requires-clause-ready
@@ -11,13 +12,17 @@ pub half_step-requires-clause-few : goal.half_step-requires-clause-few
 half_step-requires-clause-few g c = let count = c.loop-i.invariant.count in let few = c.requires.few in let lt = c.loop-i-test.true in omega arith
 
 pub loop-i-init : goal.loop-i-init
-loop-i-init g c = record { count = omega arith; does = times_none _ _ _ _ _ }
+loop-i-init g c = record { count = omega arith; living = c.requires.living; does = times_none _ _ _ _ _ }
 
 pub loop-i-preserved : goal.loop-i-preserved
-loop-i-preserved g c = record { count = let count = c.loop-i.invariant.count in let one = c.in_ok-half_step.ensures.count in omega arith; does = times_then (HalfStep _) _ c.loop-i.invariant.does c.in_ok-half_step.ensures.does }
+loop-i-preserved g c = record {
+  count = let count = c.loop-i.invariant.count in let one = c.in_ok-half_step.ensures.count in omega arith;
+  living = c.in_ok-half_step.ensures.living _ ∙ c.loop-i.invariant.living;
+  does = times_then (HalfStep _) _ c.loop-i.invariant.does c.in_ok-half_step.ensures.does;
+}
 
 pub returns-in_err-half_step : goal.returns-in_err-half_step
-returns-in_err-half_step g c = record { does = times_cut (HalfStep _) _ _ (Err _) _ c.loop-i-test.true refl c.from_residual.ensures.0 c.loop-i.invariant.does c.in_err-half_step.ensures.does }
+returns-in_err-half_step g c = record { does = times_cut _ _ _ (Err _) _ c.loop-i-test.true c.requires.living c.requires.few refl c.from_residual.ensures.0 c.loop-i.invariant.does c.in_err-half_step.ensures.does }
 
 pub returns : goal.returns
 returns g c = record { does = times_all (HalfStep _) _ _ (search rules) c.loop-i.invariant.does }

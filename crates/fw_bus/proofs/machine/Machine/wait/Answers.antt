@@ -1,19 +1,13 @@
-use Rattle.std.proofs.Common.{refl, sym, subst, ◌∙◌, ◌+◌, ◌≤◌, ◌^◌}
-use Rattle.std.specs.Prelude.{Ok}
-use Rattle.fw_outside.specs.declared.failed.Failed.{Failed}
-use Rattle.fw_run.specs.Run.{passes}
-use Rattle.fw_bus.specs.Stands.{Does}
-use Rattle.fw_bus.proofs.SecondTurns.{passes_by, ready_reset}
+use Rattle.std.proofs.Common.{◌≡◌, ◌+◌, ◌<◌, true, false, sym, ◌∙◌, arith}
+use Rattle.fw_bus.proofs.Waits.{waits_by}
 use Rattle.fw_bus.proofs.machine.Machine.wait.Goals as goal
+use Rattle.fw_bus.proofs.machine.Machine.wait.Goals.{else-self-via-then-self+else-self-last, else-self-via-else-self}
 
-pub is_over_by-requires : goal.is_over_by-requires
-is_over_by-requires g c = ready_reset c.requires.ready
-
-pub returns-else-is_over_by : goal.returns-else-is_over_by
-returns-else-is_over_by g c =
-    let same = c.from.ensures in
-    let not = sym c.is_over_by.ensures ∙ c.if-is_over_by.false in
-    record {
-      does = subst (λ n. Does {T = Unit {0}} {E = Failed} (passes c.args.self.now.reclaiming (c.args.self.now.reset_cycle + 8000) c.args.self.now.cycle n) c.args.self.now (record c.args.self.now { cycle = c.args.self.now.cycle + c.from.result }) (g.K.Sink.held c.args.sink.now) (g.K.Sink.held c.args.sink.now) (g.K.Sink.faults c.args.sink.now) (g.K.Sink.faults c.args.sink.now) (Ok (tt {0}))) same
-          (passes_by c.args.self.now _ c.from.result _ _ (tt {0}) (subst (λ n. c.args.self.now.cycle + n ≤ 2 ^ 52) (sym same) c.requires.few) not refl);
-    }
+pub returns-else-self : goal.returns-else-self
+returns-else-self g c =
+    let m = c.args.self.now in
+    let before : m.reclaiming ≡ true → m.cycle + c.args.cycles < m.directory.over_at = λ runs. elim c.else-self.branch [
+      | else-self-via-then-self+else-self-last w ↦ let same = c.from.ensures in let late = w.if-self-last.false in omega (arith, late, same)
+      | else-self-via-else-self w ↦ let no : false ≡ true = sym w.if-self.false ∙ runs in let bad : ⊥ = cc in absurd bad
+    ] in
+    record { does = waits_by _ _ _ _ _ (tt {0}) c.requires.few before (rw c.from-else-self.ensures at c.pass.ensures) }

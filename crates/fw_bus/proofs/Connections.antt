@@ -1,0 +1,172 @@
+-- A command that asks a controller for a connection is decided by whether the controller lives, and by what it answers.
+use Rattle.std.proofs.Common.{◌≡◌, ℕ, ◌<◌, ◌≤◌, List, length, Some, Ok, Err, IsTrue, IsFalse, inl, inr, refl, ap, sym, subst, ◌∙◌, arith}
+use Rattle.std.specs.Prelude.{⊤, IsOk}
+use Rattle.std.specs.declared.result.Result.{Result}
+use Rattle.fw_base.specs.declared.plug.PlugAt.{PlugAt}
+use Rattle.fw_tree.proofs.ReachLaws.{sound_made}
+use Rattle.fw_script.specs.declared.command.Command.{Command}
+use Rattle.fw_script.specs.declared.command.Command.TheVariants as Commands
+use Rattle.fw_devices.specs.Network.{device_named}
+use Rattle.fw_cmp.specs.declared.outcome.StartFault.{StartFault}
+use Rattle.fw_cmp.specs.declared.outcome.StartFault.TheVariants as Refusals
+use Rattle.fw_run.specs.declared.order.Order.{Order}
+use Rattle.fw_run.specs.declared.order.Order.TheVariants as Orders
+use Rattle.fw_run.specs.declared.order.Wanted.{Wanted}
+use Rattle.fw_run.specs.declared.rule.RuleFault.{RuleFault}
+use Rattle.fw_run.specs.declared.rule.RuleFault.TheVariants.{UnknownName, NotController, TableFull, Busy, NoSuchConnection, NotOwnPlug}
+use Rattle.fw_run.specs.State.{State, is_living}
+use Rattle.fw_run.specs.Actions.{start_of}
+use Rattle.fw_run.specs.Good.{IsGood}
+use Rattle.fw_run.specs.Rules.{Breaks, Decides, IsNamed, IsOrder, IsRefused, IsWanted, names_of, plug_of, rank}
+use Rattle.fw_run.proofs.OneLog.{one_order}
+use Rattle.fw_bus.specs.declared.machine.Machine.{Machine}
+use Rattle.fw_bus.specs.Orders.{ConnectionDecided, rule_of}
+use Rattle.fw_bus.specs.Stands.{IsReady, StandsFor, is_living_in}
+use Rattle.fw_bus.specs.Tables.{states_of}
+use Rattle.fw_bus.proofs.Living.{living_same}
+use Rattle.fw_bus.proofs.FirstBroken.{AreKnown, all_known, is_another, is_so}
+
+-- the command asks for a connection
+abbrev pub IsAsking : Command → Type 0
+IsAsking (Commands.Connect name out into channel overhead) = ⊤
+IsAsking (Commands.Broadcast name out overhead) = ⊤
+IsAsking (Commands.Listen name into) = ⊤
+IsAsking _ = ⊥
+
+-- ---- what is asked for
+
+wanted_order : (s : State) (c : Command) (d : ℕ) (w : Wanted) → IsAsking c → IsWanted s c d w → IsOrder s c (Orders.Connect d w)
+wanted_order s (Commands.Connect name out into channel overhead) d w asks is = (d, w, is, refl)
+wanted_order s (Commands.Broadcast name out overhead) d w asks is = (d, w, is, refl)
+wanted_order s (Commands.Listen name into) d w asks is = (d, w, is, refl)
+wanted_order s c d w asks is = absurd asks
+
+one_wanted : (s : State) (c : Command) (d e : ℕ) (w v : Wanted) → IsAsking c → IsWanted s c d w → IsWanted s c e v → (d ≡ e) × (w ≡ v)
+one_wanted s c d e w v asks f g =
+    let same : Orders.Connect d w ≡ Orders.Connect e v = one_order s c _ _ (wanted_order s c d w asks f) (wanted_order s c e v asks g) in
+    (cc, cc)
+
+-- the controller's answer is the one by which the command is refused
+refused_start : (s : State) (c : Command) (d : ℕ) (w : Wanted) (f : StartFault) → IsAsking c → IsWanted s c d w → IsRefused s c f → start_of d w (s.controllers d) ≡ Err f
+refused_start s c d w f asks is h = go c asks is h
+  where
+    same : (c : Command) (e : ℕ) (v : Wanted) → IsAsking c → IsWanted s c d w → IsWanted s c e v → start_of e v (s.controllers e) ≡ Err f → start_of d w (s.controllers d) ≡ Err f
+    same c e v asks is other h = let one = one_wanted s c d e w v asks is other in (λ i. start_of (one.0 i) (one.1 i) (s.controllers (one.0 i))) ∙ h
+
+    go : (c : Command) → IsAsking c → IsWanted s c d w → IsRefused s c f → start_of d w (s.controllers d) ≡ Err f
+    go (Commands.Connect name out into channel overhead) asks is h = same (Commands.Connect name out into channel overhead) h.0 h.1 asks is h.2 h.3
+    go (Commands.Broadcast name out overhead) asks is h = same (Commands.Broadcast name out overhead) h.0 h.1 asks is h.2 h.3
+    go (Commands.Listen name into) asks is h = same (Commands.Listen name into) h.0 h.1 asks is h.2 h.3
+    go c asks is h = absurd asks
+
+refusal : (s : State) (c : Command) (d : ℕ) (w : Wanted) (f : StartFault) → IsAsking c → IsWanted s c d w → start_of d w (s.controllers d) ≡ Err f → IsRefused s c f
+refusal s (Commands.Connect name out into channel overhead) d w f asks is h = (d, w, is, h)
+refusal s (Commands.Broadcast name out overhead) d w f asks is h = (d, w, is, h)
+refusal s (Commands.Listen name into) d w f asks is h = (d, w, is, h)
+refusal s c d w f asks is h = absurd asks
+
+-- ---- plugs
+
+-- a device that is declared is below 63
+pub few_devices : (m : Machine) → IsReady m → length m.devices.names ≤ 63
+few_devices m r =
+    let names : length m.devices.names ≡ length r.state.declared.names = ap length r.stands.devices.names in
+    let few = (sound_made r.state.declared.topology r.good.declared.made).few in
+    let named = r.good.declared.named in
+    omega arith
+
+pub plug_is : (p : PlugAt) (plug : List ℕ × ℕ) → p.plug ≡ plug.1 → p ≡ plug_of p.device plug
+plug_is p plug e = λ i. record { device = p.device; plug = e i }
+
+-- a name is of the same device by the machine and by the run
+pub is_named : (m : Machine) (s : State) (name : List ℕ) (d : ℕ) → StandsFor m s → device_named m.devices.names name ≡ Some d → IsNamed s name d
+is_named m s name d st e = subst (λ names. device_named names name ≡ Some d) st.devices.names e
+
+-- ---- rules
+
+-- what of a command's controller is asked
+pub record Asked (s : State) (c : Command) (d : ℕ) (w : Wanted) : Type 0 where
+  pub asks : IsAsking c
+  pub known : AreKnown s (names_of c)
+  pub wanted : IsWanted s c d w
+
+-- it breaks a rule where the controller does not live, or refuses
+connection_breaks : (s : State) (c : Command) (d : ℕ) (w : Wanted) → Asked s c d w → (g : RuleFault) → (g ≡ NotController → IsTrue (is_living s d))
+    → ((f : StartFault) → g ≡ rule_of f → start_of d w (s.controllers d) ≡ Err f → ⊥) → Breaks s c g → ⊥
+connection_breaks s c d w a g living accepted h = go c a.asks a.known a.wanted g living accepted h
+  where
+    go : (c : Command) → IsAsking c → AreKnown s (names_of c) → IsWanted s c d w → (g : RuleFault) → (g ≡ NotController → IsTrue (is_living s d))
+        → ((f : StartFault) → g ≡ rule_of f → start_of d w (s.controllers d) ≡ Err f → ⊥) → Breaks s c g → ⊥
+    go c asks known is UnknownName living accepted h = all_known s (names_of c) known h
+    go c asks known is NotOwnPlug living accepted h = accepted Refusals.NotOwnPlug refl (refused_start s c d w Refusals.NotOwnPlug asks is h)
+    go c asks known is NoSuchConnection living accepted h = accepted Refusals.NoSuchConnection refl (refused_start s c d w Refusals.NoSuchConnection asks is h)
+    go c asks known is TableFull living accepted h = accepted Refusals.TableFull refl (refused_start s c d w Refusals.TableFull asks is h)
+    go c asks known is Busy living accepted h = accepted Refusals.Busy refl (refused_start s c d w Refusals.Busy asks is h)
+    go (Commands.Connect name out into channel overhead) asks known is NotController living accepted h = is_so s (is_living s) name d is.0 (living refl) h
+    go (Commands.Broadcast name out overhead) asks known is NotController living accepted h = is_so s (is_living s) name d is.0 (living refl) h
+    go (Commands.Listen name into) asks known is NotController living accepted h = is_so s (is_living s) name d is.0 (living refl) h
+    go (Commands.Connect name out into channel overhead) asks known is g living accepted h = h
+    go (Commands.Broadcast name out overhead) asks known is g living accepted h = h
+    go (Commands.Listen name into) asks known is g living accepted h = h
+    go c asks known is g living accepted h = absurd asks
+
+no_controller : (s : State) (c : Command) (d : ℕ) (w : Wanted) → IsAsking c → IsWanted s c d w → IsFalse (is_living s d) → Breaks s c NotController
+no_controller s (Commands.Connect name out into channel overhead) d w asks is dead = (d, is.0, dead)
+no_controller s (Commands.Broadcast name out overhead) d w asks is dead = (d, is.0, dead)
+no_controller s (Commands.Listen name into) d w asks is dead = (d, is.0, dead)
+no_controller s c d w asks is dead = absurd asks
+
+refusal_breaks : (s : State) (c : Command) (f : StartFault) → IsRefused s c f → Breaks s c (rule_of f)
+refusal_breaks s c Refusals.TableFull h = h
+refusal_breaks s c Refusals.Busy h = h
+refusal_breaks s c Refusals.NoSuchConnection h = h
+refusal_breaks s c Refusals.NotOwnPlug h = h
+
+-- ---- what is decided
+
+later_rule : (f : StartFault) → 9 ≤ rank (rule_of f)
+later_rule Refusals.TableFull = omega arith
+later_rule Refusals.Busy = omega arith
+later_rule Refusals.NoSuchConnection = omega arith
+later_rule Refusals.NotOwnPlug = omega arith
+
+ok_no_fault : (r : Result ℕ StartFault) (f : StartFault) → IsOk r → r ≡ Err f → ⊥
+ok_no_fault (Ok i) f ok e = cc
+ok_no_fault (Err k) f ok e = cc
+
+same_fault : (r : Result ℕ StartFault) (f k : StartFault) → r ≡ Err f → r ≡ Err k → f ≡ k
+same_fault r f k e g = cc
+
+without_controller : (s : State) (c : Command) (d : ℕ) (w : Wanted) → Asked s c d w → IsFalse (is_living s d) → Decides s c (Err NotController)
+without_controller s c d w a dead =
+    (no_controller s c d w a.asks a.wanted dead, λ g lt. connection_breaks s c d w a g (λ e. absurd (is_another NotController g NotController lt (omega arith) e)) (λ f e is. later g lt f e))
+  where
+    later : (g : RuleFault) → rank g < 7 → (f : StartFault) → g ≡ rule_of f → ⊥
+    later g lt f e = let late = later_rule f in is_another NotController g (rule_of f) lt (omega arith) e
+
+with_refusal : (s : State) (c : Command) (d : ℕ) (w : Wanted) (f : StartFault) → Asked s c d w → IsTrue (is_living s d) → start_of d w (s.controllers d) ≡ Err f → Decides s c (Err (rule_of f))
+with_refusal s c d w f a living h = (refusal_breaks s c f (refusal s c d w f a.asks a.wanted h), λ g lt. connection_breaks s c d w a g (λ e. living) (other g lt))
+  where
+    other : (g : RuleFault) → rank g < rank (rule_of f) → (k : StartFault) → g ≡ rule_of k → start_of d w (s.controllers d) ≡ Err k → ⊥
+    other g lt k e is =
+        let same : rank (rule_of f) ≡ rank (rule_of k) = ap (λ f. rank (rule_of f)) (same_fault (start_of d w (s.controllers d)) f k h is) in
+        is_another (rule_of f) g (rule_of k) lt (omega arith) e
+
+-- what the machine decides of a connection is decided of the command that asks for it
+pub connection_decided : (m : Machine) (s : State) (c : Command) (d : ℕ) (w : Wanted) (r : Result Order RuleFault) → IsGood s → StandsFor m s → Asked s c d w → ConnectionDecided m d w r → Decides s c r
+connection_decided m s c d w r g st a h = go r h
+  where
+    lives : is_living_in m d ≡ is_living s d
+    lives = living_same m s d g st
+
+    answers : (o : Result ℕ StartFault) → start_of d w (states_of m.controllers d) ≡ o → start_of d w (s.controllers d) ≡ o
+    answers o e = sym (ap (λ states. start_of d w (states d)) st.controllers.table.states_are) ∙ e
+
+    go : (r : Result Order RuleFault) → ConnectionDecided m d w r → Decides s c r
+    go (Ok o) h =
+        let living : IsTrue (is_living s d) = sym lives ∙ h.1 in
+        let accepted : IsOk (start_of d w (s.controllers d)) = subst (λ states. IsOk (start_of d w (states d))) st.controllers.table.states_are h.2 in
+        let ordered : IsOrder s c o = subst (IsOrder s c) (sym h.0) (wanted_order s c d w a.asks a.wanted) in
+        (ordered, λ g. connection_breaks s c d w a g (λ e. living) (λ f e. ok_no_fault (start_of d w (s.controllers d)) f accepted))
+    go (Err rule) (inl h) = subst (λ rule. Decides s c (Err rule)) (sym h.0) (without_controller s c d w a (sym lives ∙ h.1))
+    go (Err rule) (inr h) = subst (λ rule. Decides s c (Err rule)) (sym h.1) (with_refusal s c d w h.0 a (sym lives ∙ h.2) (answers (Err h.0) h.3))

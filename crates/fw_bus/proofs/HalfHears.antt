@@ -1,0 +1,253 @@
+-- The half step in which a request stands: the node that it went to carries it out, and the controller hears the reply.
+use Rattle.std.proofs.Common.{◌≡◌, ℕ, zero, suc, ◌<◌, ◌^◌, List, [], ◌∷◌, slice_set, Bool, true, false, Option, Some, None, unwrap_or, refl, ap, sym, subst, ◌∙◌, IsTrue}
+use Rattle.std.proofs.lemmas.Option.{same_Some, none-some}
+use Rattle.fw_base.specs.Tables.{update}
+use Rattle.fw_async.specs.declared.packet.Head.{Head}
+use Rattle.fw_async.specs.declared.packet.Packet.{Packet}
+use Rattle.fw_csr.specs.declared.reply.Reply.{Reply}
+use Rattle.fw_csr.specs.declared.request.Request.{Request}
+use Rattle.fw_csr.specs.Requests as Offsets
+use Rattle.fw_entry.specs.declared.entry.Entry.TheVariants.{Async}
+use Rattle.fw_ledger.specs.Account.{Account}
+use Rattle.fw_ledger.specs.Packets.{ended}
+use Rattle.fw_ledger.specs.Words.{node_of}
+use Rattle.fw_cmp.specs.declared.current.Current.TheVariants.{Hearing}
+use Rattle.fw_cmp.specs.declared.job.Job.{Job}
+use Rattle.fw_cmp.specs.declared.stage.Stage.{Stage}
+use Rattle.fw_cmp.specs.declared.request.Access.{Access}
+use Rattle.fw_cmp.specs.Controllers.{ControllerState, IsStanding, CurrentFits, RunsFitting, Fits}
+use Rattle.fw_cmp.specs.Requests.{offset_of, swap_of, standing_in, addressee_of, request_at, request_of}
+use Rattle.fw_cmp.specs.Resets.{after_hear}
+use Rattle.fw_step.specs.Controllers.{ControllerInStep}
+use Rattle.fw_step.specs.Moves.{carried_out}
+use Rattle.fw_step.specs.Registers.{register_at, stands}
+use Rattle.fw_step.specs.Requests.{procedure_head}
+use Rattle.fw_step.proofs.Carried.{hearing, hear_half}
+use Rattle.fw_step.proofs.Leads.{target_register}
+use Rattle.fw_node.specs.Packets.{packet_of, request_head, request_in, response_to, response_with, response_of, reply_in}
+use Rattle.fw_node.specs.Space.{Space, answer_of}
+use Rattle.fw_node.specs.Space as Spaces
+use Rattle.fw_node.specs.State.{NodeState, space_of, after_request}
+use Rattle.fw_devices.specs.Network.{Network, kinds_of, node_at}
+use Rattle.fw_devices.specs.Entries.{node_device}
+use Rattle.fw_run.specs.State.{State, number_in}
+use Rattle.fw_run.specs.Spaces.{space_at, space_of_device, space_of_node, reply_from}
+use Rattle.fw_run.specs.HalfSteps.{half, taken, after_half}
+use Rattle.fw_run.specs.Good.{IsGood}
+use Rattle.fw_run.proofs.Buses.{linked_small}
+use Rattle.fw_run.proofs.Hears.{Heard, HalfHears, half_hears, access_heard, reply_heard, carried_bus}
+use Rattle.fw_run.proofs.Turns.{living_linked}
+use Rattle.fw_run.proofs.Words.{node_space_of}
+use Rattle.fw_bus.specs.declared.machine.Machine.{Machine}
+use Rattle.fw_bus.specs.Doings.{Takes}
+use Rattle.fw_bus.specs.Stands.{HasNodes, StandsFor, is_living_in}
+use Rattle.fw_bus.specs.Tables.{ControllerTable, IsTable, count_of, states_of, dead_of}
+use Rattle.fw_bus.proofs.Exchanges.{Exchange, standing_of, exchange_of, exchange_on, exchange_within, exchange_addresses, asks_request, carried}
+use Rattle.fw_bus.proofs.HalfNodes.{state_with, nodes_answer}
+use Rattle.fw_bus.proofs.HalfTurns.{stands_with, table_with, ended_words}
+use Rattle.fw_bus.proofs.Latest.{number_is}
+use Rattle.fw_bus.proofs.Living.{living_same}
+use Rattle.fw_bus.proofs.Nodes.{response_same, node_number_is, number_of_node, linked_on}
+use Rattle.fw_bus.proofs.Swaps.{IsAnswered, quadlet_below, answer_changes}
+
+-- ---- what the answer leaves of the account
+
+-- the account after the answer
+abbrev pub account_heard : (s : State) (d : ℕ) (j : Job) (stage : Stage) → Heard s d j stage → Account
+account_heard s d j stage x = ended d (carried_out d j stage (reply_heard s d j stage x) s.account)
+
+-- the words of the account after the answer
+words_heard : (s : State) (d : ℕ) (j : Job) (stage : Stage) → IsGood s → (s.controllers d).current ≡ Hearing j stage → (x : Heard s d j stage)
+    → HalfHears s d j stage x → IsAnswered s.account (account_heard s d j stage x) x.target (swap_of j stage)
+words_heard s d j stage g current x h =
+    record { own = λ there. ended_words d m (register_at x.target) ∙ w.own there; others = λ r is ne. ended_words d m r ∙ w.others r is ne }
+  where
+    reply_ : Reply
+    reply_ = reply_heard s d j stage x
+
+    m : Account
+    m = carried_out d j stage reply_ s.account
+
+    fits : RunsFitting (s.controllers d) j stage
+    fits = subst (CurrentFits (s.controllers d)) current (g.reclaims.step.fits d).current
+
+    same : s.controllers d ≡ hearing (s.controllers d) j stage
+    same = λ i. record (s.controllers d) { current = current i }
+
+    small : d < 63
+    small = linked_small s x.entry d x.number x.shows.1 x.linked
+
+    w : IsAnswered s.account m x.target (swap_of j stage)
+    w =
+        answer_changes s.account d j stage _ x.target reply_ small g.reclaims.step.sound fits.stage (target_register j stage x.target fits.stage x.asked) h.answer
+        (hear_half s.account d (s.controllers d) j stage x.target reply_ small g.reclaims.step.sound (subst Fits same (g.reclaims.step.fits d)) x.asked h.answer
+        (subst (ControllerInStep s.account d) same (g.reclaims.step.each d)))
+
+-- what a complete reply shows is a quadlet
+reply_below : (s : State) (d : ℕ) (j : Job) (stage : Stage) → IsGood s → (s.controllers d).current ≡ Hearing j stage → (x : Heard s d j stage)
+    → HalfHears s d j stage x → (reply_heard s d j stage x).rcode ≡ 0 → (reply_heard s d j stage x).value < 2 ^ 32
+reply_below s d j stage g current x h zero_ = go (stands s.account.latest x.target) refl
+  where
+    fits : RunsFitting (s.controllers d) j stage
+    fits = subst (CurrentFits (s.controllers d)) current (g.reclaims.step.fits d).current
+
+    go : (b : Bool) → stands s.account.latest x.target ≡ b → (reply_heard s d j stage x).value < 2 ^ 32
+    go true there =
+        subst (λ v. v < 2 ^ 32) (sym (h.answer.complete there).1)
+        (quadlet_below s.account x.target g.reclaims.step.sound (target_register j stage x.target fits.stage x.asked) there)
+    go false gone = absurd (h.answer.refused gone zero_)
+
+-- ---- the response
+
+-- what the machine did: the packet of the request that stands went to the node of its addressee, which answered
+pub record Sent (m : Machine) (d : ℕ) (a : Access) (to device own : ℕ) (packet response : Packet) : Type 0 where
+  pub asks : Some a ≡ standing_in (states_of m.controllers d).current
+  pub goes : Some to ≡ addressee_of m.directory a.target
+  pub at : Some device ≡ node_device m.devices.latest.nodes to
+  pub own_is : (node_at m.devices.nodes d).number ≡ Some own
+  pub packet_is : packet ≡ packet_of (request_head own to 0) (request_of a)
+  pub answered : (n : ℕ) → (node_at m.devices.nodes device).number ≡ Some n
+      → response_of (space_of n m.cycle (node_at m.devices.nodes device)) packet ≡ Some response
+
+-- the run's half step has that response, and its controller hears the reply in it
+pub record Answered (m : Machine) (s : State) (d : ℕ) (a : Access) (to device : ℕ) (response : Packet) : Type 0 where
+  pub exchange : Exchange m s d a to device
+  pub hears : HalfHears s d exchange.job exchange.stage exchange.heard
+  pub response_is : response ≡ hears.response.packet
+  pub reply_is : reply_in response ≡ Some (reply_heard s d exchange.job exchange.stage exchange.heard)
+
+-- a space answers the packet of a request
+answers_packet : (z : Space) (h : Head) (q : Request) → response_of z (packet_of h q) ≡ response_to z.number (packet_of h q) (answer_of z q).reply
+answers_packet z h q = ap (response_with z (packet_of h q)) (asks_request h q)
+
+-- the node of the account answers it as the run says
+node_answers : (s : State) (device to : ℕ) (h : Head) (q : Request) → IsGood s → number_in s.account.latest device ≡ Some to
+    → response_of (space_of_device s device) (packet_of h q) ≡ response_to to (packet_of h q) (reply_from s to q)
+node_answers s device to h q g at =
+    ap (λ n. response_of (space_at s device n) (packet_of h q)) (number_is s.account.latest device to at)
+    ∙ (answers_packet (space_at s device to) h q ∙ ap (λ z. response_to to (packet_of h q) (answer_of z q).reply) (sym (node_space_of s device to g at)))
+
+-- the machine's exchange is that of the run
+pub answered_of : (m : Machine) (s : State) (d : ℕ) (a : Access) (to device own : ℕ) (packet response : Packet) → IsGood s → StandsFor m s
+    → IsTrue (is_living_in m d) → IsStanding (states_of m.controllers d).current → Sent m d a to device own packet response
+    → Answered m s d a to device response
+answered_of m s d a to device own packet response g st lives standing sent =
+    record { exchange = x; hears = h; response_is = response_is; reply_is = ap reply_in response_is ∙ reply_is }
+  where
+    x : Exchange m s d a to device
+    x = exchange_of m s d a to device g st (standing_of m s d a g st lives standing sent.asks) sent.goes sent.at
+
+    h : HalfHears s d x.job x.stage x.heard
+    h = half_hears s d x.job x.stage g x.current x.heard
+
+    q : Request
+    q = request_of (access_heard s d x.job x.stage x.heard)
+
+    head : Head
+    head = procedure_head x.heard.to (node_of s.account.latest d)
+
+    place : own ≡ node_of s.account.latest d
+    place =
+        same_Some own (node_of s.account.latest d) (sym sent.own_is
+        ∙ (node_number_is m.devices.nodes s d st.devices.nodes g (linked_on s d (living_linked s d (sym (living_same m s d g st) ∙ lives)))).0)
+
+    packet_is : packet ≡ packet_of head q
+    packet_is = sent.packet_is ∙ (λ i. packet_of (request_head (place i) (x.to_is i) 0) (request_of (x.access i)))
+
+    number : number_in s.account.latest device ≡ Some x.heard.to
+    number = x.number ∙ ap (λ n. Some n) x.to_is
+
+    node_number : (node_at m.devices.nodes device).number ≡ Some x.heard.to
+    node_number = number_of_node m.devices.nodes s device st.devices.nodes (exchange_within m s d a to device g st x) ∙ number
+
+    answered : response_to x.heard.to (packet_of head q) (reply_from s x.heard.to q) ≡ Some response
+    answered =
+        sym (node_answers s device x.heard.to head q g number)
+        ∙ (sym (response_same m.devices.nodes s device st.devices.nodes g (exchange_on m s d a to device x) x.heard.to node_number (packet_of head q))
+        ∙ ((λ i. response_of (space_of x.heard.to (sym st.clock.cycle i) (node_at m.devices.nodes device)) (sym packet_is i)) ∙ sent.answered x.heard.to node_number))
+
+    response_is : response ≡ h.response.packet
+    response_is = same_Some response h.response.packet (sym answered ∙ h.response.sent)
+
+    reply_is : reply_in h.response.packet ≡ Some (reply_heard s d x.job x.stage x.heard)
+    reply_is =
+        carried x.heard.to head (offset_of x.heard.target) (swap_of x.job x.stage) (Spaces.register_at (space_of_node s x.heard.to) (Offsets.offset_of q)) h.response.packet
+        (reply_below s d x.job x.stage g x.current x.heard h) h.response.sent
+
+-- ---- the machine after it
+
+-- a node's kind stays
+kinds_set : (nodes : List NodeState) (d : ℕ) (o : Option Request) → kinds_of (slice_set nodes d (after_request o (node_at nodes d))) ≡ kinds_of nodes
+kinds_set [] d o = refl
+kinds_set (n ∷ nodes) zero None = refl
+kinds_set (n ∷ nodes) zero (Some r) = refl
+kinds_set (n ∷ nodes) (suc d) o = ap (λ ks. n.kind ∷ ks) (kinds_set nodes d o)
+
+-- the nodes once the target has carried the request out
+abbrev pub nodes_after : List NodeState → ℕ → Packet → List NodeState
+nodes_after nodes device packet = slice_set nodes device (after_request (request_in packet) (node_at nodes device))
+
+-- it stands for the state after the half step
+hears_stands : (m : Machine) (s : State) (k : ControllerTable) (d : ℕ) (a : Access) (to device own : ℕ) (packet response : Packet) (r : Reply) → IsGood s
+    → StandsFor m s → Sent m d a to device own packet response → Answered m s d a to device response → Some r ≡ reply_in response
+    → IsTable k (count_of m.controllers) (update (states_of m.controllers) d (after_hear (states_of m.controllers d) r)) (dead_of m.controllers)
+    → StandsFor (record m { devices = record m.devices { nodes = nodes_after m.devices.nodes device packet }; controllers = k }) (after_half s d)
+hears_stands m s k d a to device own packet response r g st sent z heard table =
+    subst (λ y. StandsFor now (taken s d y)) (sym h.half_is) (subst (λ l. StandsFor now (state_with s l f)) (sym (ap (λ o. unwrap_or o s.account) h.leads))
+    (stands_with m s (nodes_after m.devices.nodes device packet) k l f st (record { latest = bus.0; reclaiming = bus.1 })
+    (kinds_set m.devices.nodes device (request_in packet)) nodes
+    (table_with m s k d (after_hear (states_of m.controllers d) r) (after_hear (s.controllers d) reply_) st
+    (λ i. after_hear (st.controllers.table.states_are i d) (reply_is i)) table)))
+  where
+    x : Exchange m s d a to device
+    x = z.exchange
+
+    h : HalfHears s d x.job x.stage x.heard
+    h = z.hears
+
+    now : Machine
+    now = record m { devices = record m.devices { nodes = nodes_after m.devices.nodes device packet }; controllers = k }
+
+    reply_ : Reply
+    reply_ = reply_heard s d x.job x.stage x.heard
+
+    reply_is : r ≡ reply_
+    reply_is = same_Some r reply_ (heard ∙ z.reply_is)
+
+    l : Account
+    l = account_heard s d x.job x.stage x.heard
+
+    f : ℕ → ControllerState
+    f = update s.controllers d (after_hear (s.controllers d) reply_)
+
+    bus : (l.latest ≡ s.account.latest) × (l.reclaiming ≡ s.account.reclaiming)
+    bus = carried_bus d x.job x.stage reply_ s.account
+
+    request_is : request_in packet ≡ Some (request_at (offset_of x.heard.target) (swap_of x.job x.stage))
+    request_is = ap request_in sent.packet_is ∙ (asks_request (request_head own to 0) (request_of a) ∙ ap (λ y. Some (request_of y)) x.access)
+
+    nodes : HasNodes (nodes_after m.devices.nodes device packet) (state_with s l f)
+    nodes = subst (λ o. HasNodes (slice_set m.devices.nodes device (after_request o (node_at m.devices.nodes device))) (state_with s l f)) (sym request_is)
+        (nodes_answer m.devices.nodes s l f device to x.heard.target (swap_of x.job x.stage) g st.devices.nodes
+        (exchange_addresses m s d a to device g x) (exchange_within m s d a to device g st x) bus.0 (words_heard s d x.job x.stage g x.current x.heard h))
+
+-- the half step of the machine is that of the run
+pub takes_hears : (m : Machine) (n : Network) (k : ControllerTable) (d : ℕ) (a : Access) (to device own : ℕ) (packet response : Packet) (r : Reply)
+    → IsTrue (is_living_in m d) → IsStanding (states_of m.controllers d).current → Sent m d a to device own packet response
+    → n ≡ record m.devices { nodes = nodes_after m.devices.nodes device packet } → Some r ≡ reply_in response
+    → IsTable k (count_of m.controllers) (update (states_of m.controllers) d (after_hear (states_of m.controllers d) r)) (dead_of m.controllers)
+    → Takes half m (record m { devices = n; controllers = k }) d (Some (Async response))
+takes_hears m n k d a to device own packet response r lives standing sent registers heard table = λ s g st.
+    let z = answered_of m s d a to device own packet response g st lives standing sent in (
+      ap (λ p. Some (Async p)) z.response_is ∙ sym (ap (λ y. y.says) z.hears.half_is),
+      subst (λ v. StandsFor (record m {
+        devices =
+            v;
+        controllers = k;
+      }) (after_half s d)) (sym registers) (hears_stands m s k d a to device own packet response r g st sent z heard table),
+    )
+
+-- the response has a reply
+pub no_reply : (m : Machine) (s : State) (d : ℕ) (a : Access) (to device : ℕ) (response : Packet) → Answered m s d a to device response
+    → None ≡ reply_in response → ⊥
+no_reply m s d a to device response z e = none-some _ (e ∙ z.reply_is)

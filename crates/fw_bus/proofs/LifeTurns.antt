@@ -1,0 +1,227 @@
+-- What commands ask of controllers: by the machine and by the run.
+use Rattle.std.proofs.Common.{◌≡◌, ℕ, ◌<◌, ◌&&◌, not, List, [], ◌∷◌, ◌++◌, Bool, true, false, Option, Some, None, is_some, refl, ap, sym, subst, ◌∙◌, arith, IsTrue}
+use Rattle.std.specs.Prelude.{Ok, Err, IsOk, IsFalse}
+use Rattle.std.specs.declared.result.Result.{Result}
+use Rattle.fw_base.specs.Tables.{update}
+use Rattle.fw_entry.specs.declared.entry.Entry.{Entry}
+use Rattle.fw_entry.specs.declared.entry.Timed.{Timed}
+use Rattle.fw_ledger.specs.Account.{Account}
+use Rattle.fw_ledger.specs.Words.{Register, word_of}
+use Rattle.fw_ledger.specs.Events.{after_death as account_after_death}
+use Rattle.fw_cmp.specs.declared.current.Current.{Current}
+use Rattle.fw_cmp.specs.declared.current.Current.TheVariants.{Nothing, Asking, Hearing, Overtaken}
+use Rattle.fw_cmp.specs.Controllers.{ControllerState, IsHeard, IsStanding, first_state as new_controller}
+use Rattle.fw_cmp.specs.Fits.{SlotFits}
+use Rattle.fw_cmp.specs.Starts.{break_fault, break_started, started as given}
+use Rattle.fw_run.specs.declared.order.Order.TheVariants as Orders
+use Rattle.fw_run.specs.declared.order.Wanted.{Wanted}
+use Rattle.fw_run.specs.Giving.{at_most}
+use Rattle.fw_run.specs.Entries.{died, started}
+use Rattle.fw_run.specs.State.{State, is_living, is_linked, linked_number}
+use Rattle.fw_run.specs.HalfSteps.{half, has_request, after_half, with_controller}
+use Rattle.fw_run.specs.Actions.{Action, StartConnection, StartBreak, Die, CarryOut, Start, slot_of, start_of, with_connection, after_death, after_start, Steps}
+use Rattle.fw_run.specs.Carrying.{Carries, dies, dies_late, dies_idle, starts, goes_on}
+use Rattle.fw_run.specs.Good.{IsGood}
+use Rattle.fw_run.proofs.Settling.{half_turn}
+use Rattle.fw_run.proofs.Turns.{living_linked}
+use Rattle.fw_bus.specs.declared.machine.Machine.{Machine}
+use Rattle.fw_bus.specs.Doings.{Acts, Turns, Takes}
+use Rattle.fw_bus.specs.Stands.{StandsFor, is_linked_in, is_living_in}
+use Rattle.fw_bus.specs.Tables.{ControllerTable, IsTable, count_of, states_of, dead_of}
+use Rattle.fw_bus.proofs.Doings.{Follows, GoesOn, acts_follow, one_step}
+use Rattle.fw_bus.proofs.Deaths.{death_words}
+use Rattle.fw_bus.proofs.Living.{linked_low, linked_same, living_same}
+use Rattle.fw_bus.proofs.Nodes.{SameNodes}
+use Rattle.fw_bus.proofs.Standing.{devices_same, directory_same}
+
+-- ---- another table of controllers
+
+-- what of an account nodes and controllers are told is the same
+pub record SameAccount (l k : Account) : Type 0 where
+  pub latest : k.latest ≡ l.latest
+  pub reclaiming : k.reclaiming ≡ l.reclaiming
+  pub words : (r : Register) → word_of k r ≡ word_of l r
+
+pub same_account : (l : Account) → SameAccount l l
+same_account l = record { latest = refl; reclaiming = refl; words = λ r. refl }
+
+-- the machine whose table is another one stands for the state whose controllers are those
+pub table_stands : (m : Machine) (s : State) (table : ControllerTable)
+    (f : (ℕ → ControllerState) → ℕ → ControllerState) (h : (ℕ → Bool) → ℕ → Bool) (l : Account)
+    → StandsFor m s → SameAccount s.account l → IsTable table (count_of m.controllers) (f (states_of m.controllers)) (h (dead_of m.controllers))
+    → StandsFor (record m { controllers = table }) (record s { controllers = f s.controllers; dead = h s.dead; account = l })
+table_stands m s table f h l st same is = record {
+  devices = devices_same m.devices s t kept refl st.devices;
+  clock = record {
+    cycle = st.clock.cycle;
+    reclaiming = st.clock.reclaiming ∙ sym same.reclaiming;
+    half_steps = st.clock.half_steps;
+  };
+  controllers = record {
+    table = record {
+      count_is = is.count_is ∙ st.controllers.table.count_is;
+      states_are = is.states_are ∙ ap f st.controllers.table.states_are;
+      dead_are = is.dead_are ∙ ap h st.controllers.table.dead_are;
+    };
+    directory = st.controllers.directory ∙ sym (directory_same s t same.latest refl);
+  };
+  answered = st.answered;
+}
+  where
+    t : State
+    t = record s { controllers = f s.controllers; dead = h s.dead; account = l }
+
+    kept : SameNodes s t
+    kept = record { names = refl; devices = refl; kinds = refl; latest = same.latest; bus_manager_id = refl; words = same.words }
+
+-- ---- a new connection, and a break
+
+accepted_at : {E : Type 0} (r : Result ℕ E) → IsOk r → (i : ℕ) × (r ≡ Ok i)
+accepted_at (Ok i) ok = (i, refl)
+accepted_at (Err e) ok = let no : ⊥ = grind (arith, ok) in absurd no
+
+-- the controllers after a connection was asked for
+abbrev pub connected : ℕ → Wanted → (ℕ → ControllerState) → ℕ → ControllerState
+connected d w c = update c d (given (start_of d w (c d)) (slot_of w) (c d))
+
+pub connect_turns : (m : Machine) (table : ControllerTable) (d : ℕ) (w : Wanted)
+    → IsTrue (is_living_in m d) → SlotFits (slot_of w) → IsOk (start_of d w (states_of m.controllers d))
+    → IsTable table (count_of m.controllers) (connected d w (states_of m.controllers)) (dead_of m.controllers)
+    → Turns (StartConnection d w) m (record m { controllers = table }) m.cycle None
+connect_turns m table d w lives slot ok is = record {
+  shown = λ s g st.
+      let same : states_of m.controllers d ≡ s.controllers d = ap (λ (c : ℕ → ControllerState). c d) st.controllers.table.states_are in
+      let accepted : IsOk (start_of d w (s.controllers d)) = subst (λ c. IsOk (start_of d w c)) same ok in
+      let living : IsTrue (is_living s d) = subst IsTrue (living_same m s d g st) lives in (
+        with_connection s d w,
+        (st.answered, (living, slot, accepted_at (start_of d w (s.controllers d)) accepted, refl, refl)),
+        table_stands m s table (connected d w) (λ x. x) s.account st (same_account s.account) is,
+      );
+}
+
+-- the controllers after a break was asked for
+abbrev pub broken : ℕ → ℕ → (ℕ → ControllerState) → ℕ → ControllerState
+broken d i c = update c d (break_started (c d) i)
+
+pub break_turns : (m : Machine) (table : ControllerTable) (d i : ℕ) → IsTrue (is_living_in m d) → break_fault (states_of m.controllers d) i ≡ None
+    → IsTable table (count_of m.controllers) (broken d i (states_of m.controllers)) (dead_of m.controllers)
+    → Turns (StartBreak d i) m (record m { controllers = table }) m.cycle None
+break_turns m table d i lives ok is = record {
+  shown = λ s g st.
+      let same : states_of m.controllers d ≡ s.controllers d = ap (λ (c : ℕ → ControllerState). c d) st.controllers.table.states_are in
+      let accepted : break_fault (s.controllers d) i ≡ None = subst (λ c. break_fault c i ≡ None) same ok in
+      let living : IsTrue (is_living s d) = subst IsTrue (living_same m s d g st) lives in (
+        with_controller s d (break_started (s.controllers d) i),
+        (st.answered, (living, accepted, refl, refl)),
+        table_stands m s table (broken d i) (λ x. x) s.account st (same_account s.account) is,
+      );
+}
+
+-- ---- deaths and starts
+
+-- a death leaves the words of registers
+death_same : (l : Account) (d : ℕ) → d < 63 → SameAccount l (account_after_death d l)
+death_same l d lt = record { latest = refl; reclaiming = refl; words = death_words l d lt }
+
+-- the controllers where that of a device has just started
+abbrev pub renewed : ℕ → (ℕ → ControllerState) → ℕ → ControllerState
+renewed d c = update c d new_controller
+
+abbrev pub marked : ℕ → Bool → (ℕ → Bool) → ℕ → Bool
+marked d b c = update c d b
+
+pub death_turns : (m : Machine) (table : ControllerTable) (d : ℕ) (e : Entry) → IsTrue (is_living_in m d) → e ≡ died d
+    → IsTable table (count_of m.controllers) (renewed d (states_of m.controllers)) (marked d true (dead_of m.controllers))
+    → Turns (Die d) m (record m { controllers = table }) m.cycle (Some e)
+death_turns m table d e lives entry is = record {
+  shown = λ s g st.
+      let living : IsTrue (is_living s d) = subst IsTrue (living_same m s d g st) lives in
+      let out : at_most m.cycle (Some e) ≡ at_most s.clock.cycle (Some (died d)) = (λ i. at_most (st.clock.cycle i) (Some (entry i))) in
+      let same = death_same s.account d (linked_low s d g (living_linked s d living)) in
+      (after_death s d, (st.answered, (living, out, refl)), table_stands m s table (renewed d) (marked d true) (account_after_death d s.account) st same is);
+}
+
+pub start_turns : (m : Machine) (table : ControllerTable) (d : ℕ) (e : Entry)
+    → IsTrue (is_linked_in m.devices d) → IsTrue (dead_of m.controllers d) → e ≡ started d
+    → IsTable table (count_of m.controllers) (renewed d (states_of m.controllers)) (marked d false (dead_of m.controllers))
+    → Turns (Start d) m (record m { controllers = table }) m.cycle (Some e)
+start_turns m table d e on was entry is = record {
+  shown = λ s g st.
+      let linked : IsTrue (is_linked s d) = subst IsTrue (linked_same m.devices s d g st.devices) on in
+      let dead : IsTrue (s.dead d) = sym (ap (λ (c : ℕ → Bool). c d) st.controllers.table.dead_are) ∙ was in
+      let out : at_most m.cycle (Some e) ≡ at_most s.clock.cycle (Some (started d)) = (λ i. at_most (st.clock.cycle i) (Some (entry i))) in
+      (after_start s d, (st.answered, (linked, dead, out, refl)), table_stands m s table (renewed d) (marked d false) s.account st (same_account s.account) is);
+}
+
+-- ---- the request that stands
+
+stands_request : (x : Current) → IsStanding x → IsTrue (has_request x)
+stands_request Nothing h = absurd h
+stands_request (Asking j stage) h = absurd h
+stands_request (Hearing j stage) h = refl
+stands_request (Overtaken i o) h = absurd h
+
+heard_request : (x : Current) → IsHeard x → IsFalse (has_request x)
+heard_request Nothing h = refl
+heard_request (Asking j stage) h = refl
+heard_request (Hearing j stage) h = absurd h
+heard_request (Overtaken i o) h = refl
+
+-- it is carried out
+pub carry_turns : (m now : Machine) (d : ℕ) (e : Option Entry)
+    → IsTrue (is_living_in m d) → IsStanding (states_of m.controllers d).current → Takes half m now d e → Turns (CarryOut d) m now m.cycle e
+carry_turns m now d e lives stands takes = record {
+  shown = λ s g st.
+      let living : IsTrue (is_living s d) = subst IsTrue (living_same m s d g st) lives in
+      let same : states_of m.controllers d ≡ s.controllers d = ap (λ (c : ℕ → ControllerState). c d) st.controllers.table.states_are in
+      let standing : IsStanding (s.controllers d).current = subst (λ (c : ControllerState). IsStanding c.current) same stands in
+      let request : IsTrue (has_request (s.controllers d).current) = stands_request (s.controllers d).current standing in
+      let x = takes s g st in
+      let said = x.0 in
+      let out : at_most m.cycle e ≡ at_most s.clock.cycle (half s d).says = (λ i. at_most (st.clock.cycle i) (said i)) in
+      (after_half s d, (st.answered, (living, request, out, refl)), x.1);
+}
+
+-- ---- what a death is
+
+-- the order, where no request is to be carried out
+pub dies_at : (m : Machine) (d : ℕ) (late : Bool) → (late ≡ true → IsHeard (states_of m.controllers d).current)
+    → (s t : State) (xs : List Action) (out : List Timed) → IsGood s → StandsFor m s → Acts (Die d ∷ []) s xs out t → Steps s xs out t
+    → Carries s (Orders.Die d late) xs out t
+dies_at m d false quiet s t xs out g st f p = subst (λ z. Carries s (Orders.Die d false) z out t) (sym f.0) (dies f.1)
+dies_at m d true quiet s t xs out g st f p =
+    let same : states_of m.controllers d ≡ s.controllers d = ap (λ (c : ℕ → ControllerState). c d) st.controllers.table.states_are in
+    let rests = heard_request (s.controllers d).current (subst (λ (c : ControllerState). IsHeard c.current) same (quiet refl)) in
+    subst (λ z. Carries s (Orders.Die d true) z out t) (sym f.0) (dies_idle rests f.1)
+
+-- the request is carried out, and then it dies
+pub late_follows : (m : Machine) (d : ℕ) → Follows m (Acts (CarryOut d ∷ [])) (Acts (Die d ∷ [])) (λ s. Carries s (Orders.Die d true))
+late_follows m d s mid t xs ys a b good st f p g q =
+    let both = acts_follow {m = m} (CarryOut d ∷ []) (Die d ∷ []) s mid t xs ys a b good st f p g q in
+    subst (λ z. Carries s (Orders.Die d true) z (a ++ b) t) (sym both.0) (dies_late both.1)
+
+-- it can die once the request is carried out
+pub late_goes : (m : Machine) (d : ℕ) → IsTrue (is_living_in m d) → GoesOn m (Acts (CarryOut d ∷ [])) (λ s. Carries s (Orders.Die d true))
+late_goes m d lives s u xs a g st f p =
+    let living : IsTrue (is_living s d) = subst IsTrue (living_same m s d g st) lives in
+    let still = (half_turn s d g living).1 in
+    let is : u ≡ after_half s d = f.1.5.1 ∙ f.1.3.1.3 in
+    let lives_after : IsTrue (is_living (after_half s d) d) = (λ i. is_some (linked_number (still.latest i) d) && not (still.dead i d)) ∙ living in
+    let lives_now : IsTrue (is_living u d) = subst (λ x. IsTrue (is_living x d)) (sym is) lives_after in
+    let quiet : u.transaction ≡ None = ap (λ (x : State). x.transaction) is ∙ st.answered in
+    let step = one_step u (after_death u d) (Die d) (at_most u.clock.cycle (Some (died d))) (quiet, (lives_now, refl, refl)) in (
+      Die d ∷ [],
+      at_most u.clock.cycle (Some (died d)),
+      after_death u d,
+      late_follows m d s u (after_death u d) xs (Die d ∷ []) a (at_most u.clock.cycle (Some (died d))) g st f p (refl, step) step,
+      step,
+    )
+
+-- ---- what a start is
+
+pub starts_at : (d : ℕ) (s t : State) (xs : List Action) (out : List Timed) → Acts (Start d ∷ []) s xs out t → Carries s (Orders.Start d) xs out t
+starts_at d s t xs out f = subst (λ z. Carries s (Orders.Start d) z out t) (sym f.0) (starts f.1)
+
+-- a living controller goes on
+pub goes_on_at : (m : Machine) (d : ℕ) → IsFalse (dead_of m.controllers d) → (s : State) → IsGood s → StandsFor m s → Carries s (Orders.Start d) [] [] s
+goes_on_at m d lives s g st = goes_on (sym (ap (λ (c : ℕ → Bool). c d) st.controllers.table.dead_are) ∙ lives)

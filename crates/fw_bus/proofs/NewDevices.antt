@@ -1,0 +1,156 @@
+-- Devices and cables that come to the machine are those of the run.
+use Rattle.std.proofs.Common.{◌≡◌, ℕ, ◌+◌, ◌<◌, ◌≤◌, List, [], ◌∷◌, ◌++◌, Option, None, Some, refl, ap, sym, subst, ◌∙◌, arith, length}
+use Rattle.std.proofs.lemmas.List.{length-append, map-append}
+use Rattle.std.specs.declared.result.Result.{Result}
+use Rattle.fw_base.specs.declared.device.DeviceKind.{DeviceKind}
+use Rattle.fw_entry.specs.declared.entry.Entry.TheVariants.{Reset}
+use Rattle.fw_entry.specs.declared.entry.ResetEntry.{ResetEntry}
+use Rattle.fw_tree.specs.Topology.{Topology}
+use Rattle.fw_node.specs.State as Nodes
+use Rattle.fw_devices.specs.Network.{with_device, facts_of}
+use Rattle.fw_run.specs.Giving.{at_most}
+use Rattle.fw_run.specs.State.{State, epoch_of}
+use Rattle.fw_run.specs.State as States
+use Rattle.fw_run.specs.Actions.{AddDevice, Step, Declares}
+use Rattle.fw_run.specs.Good.{IsGood, IsLatest}
+use Rattle.fw_run.proofs.Declares.{MayDeclare, more_declared}
+use Rattle.fw_bus.specs.declared.machine.Machine.{Machine}
+use Rattle.fw_bus.specs.Resetting.{BeginsReset, GivesReset}
+use Rattle.fw_bus.specs.Stands.{StandsFor, HasNodes, IsReady}
+use Rattle.fw_bus.specs.Tables.{ControllerTable, IsTable, count_of, states_of, dead_of}
+use Rattle.fw_bus.specs.Doings.{Turns, Does, Acts}
+use Rattle.fw_bus.proofs.Nodes.{nodes_declared}
+use Rattle.fw_bus.proofs.Renumbered.{extends_declared}
+use Rattle.fw_bus.proofs.ResetTurns.{MayBegin, reset_of}
+use Rattle.fw_bus.proofs.Doings.{does_one}
+
+-- ---- a device more
+
+-- the machine with a device more, whose controller has just started
+abbrev pub with_device_in : Machine → ControllerTable → List ℕ → DeviceKind → ℕ → ℕ → Machine
+with_device_in m controllers name kind ports speed = record m { devices = with_device m.devices name kind ports speed; controllers = controllers }
+
+-- the controllers of the others stay
+abbrev pub IsOneMore : Machine → ControllerTable → Type 0
+IsOneMore m controllers = IsTable controllers (count_of m.controllers + 1) (states_of m.controllers) (dead_of m.controllers)
+
+-- the state of the run with a device more
+abbrev declared_in : State → List ℕ → DeviceKind → ℕ → ℕ → State
+declared_in s name kind ports speed = record s { declared = States.with_device s.declared name kind ports speed }
+
+-- the machine with a device more stands for it
+declared_stands : (m : Machine) (s : State) (table : ControllerTable) (name : List ℕ) (kind : DeviceKind) (ports speed : ℕ) → IsGood s → StandsFor m s
+    → IsOneMore m table
+    → StandsFor (with_device_in m table name kind ports speed) (declared_in s name kind ports speed)
+declared_stands m s table name kind ports speed g st more = record {
+  devices = record {
+    topology = ap (λ (t : Topology). record { devices = t.devices ++ facts_of kind ports speed ∷ []; cables = t.cables }) st.devices.topology;
+    names = ap (λ (xs : List (List ℕ)). xs ++ name ∷ []) st.devices.names;
+    kinds = map-append _ m.devices.nodes _ ∙ ap (λ (ks : List DeviceKind). ks ++ kind ∷ []) st.devices.kinds;
+    nodes = subst (λ n. HasNodes (m.devices.nodes ++ Nodes.first_state kind n speed ∷ []) (declared_in s name kind ports speed))
+        (ap (λ (xs : List (List ℕ)). length xs) (sym st.devices.names)) (nodes_declared m.devices.nodes s name kind ports speed g st.devices.nodes);
+    latest = st.devices.latest;
+    epoch = st.devices.epoch;
+    manager = st.devices.manager;
+  };
+  clock = record { cycle = st.clock.cycle; reclaiming = st.clock.reclaiming; half_steps = st.clock.half_steps };
+  controllers = record {
+    table = record {
+      count_is = more.count_is ∙ (ap (λ k. k + 1) st.controllers.table.count_is ∙ sym (length-append s.declared.names (name ∷ [])));
+      states_are = more.states_are ∙ st.controllers.table.states_are;
+      dead_are = more.dead_are ∙ st.controllers.table.dead_are;
+    };
+    directory = st.controllers.directory;
+  };
+  answered = st.answered;
+}
+
+-- what is asked of a device that may be declared
+pub record MayAdd (m : Machine) (ports speed : ℕ) : Type 0 where
+  pub room : length m.devices.names < 63
+  pub some : 1 ≤ ports
+  pub most : ports ≤ 27
+  pub fast : speed ≤ 2
+
+-- the run may declare the device too
+may_declare : (m : Machine) (s : State) (ports speed : ℕ) → IsGood s → StandsFor m s → MayAdd m ports speed → MayDeclare s ports speed
+may_declare m s ports speed g st may = record {
+  good = g;
+  room = subst (λ (xs : List (List ℕ)). length xs < 63) st.devices.names may.room;
+  some = may.some;
+  most = may.most;
+  fast = may.fast;
+}
+
+-- the first device begins the first bus reset
+first_turns : (m now : Machine) (table : ControllerTable) (name : List ℕ) (kind : DeviceKind) (ports speed : ℕ) → m.devices.names ≡ [] → MayAdd m ports speed
+    → IsOneMore m table → m.devices.epoch < 10000
+    → BeginsReset (with_device_in m table name kind ports speed) now 0 → Turns (AddDevice name kind ports speed) m now m.cycle (Some (Reset now.devices.latest))
+first_turns m now table name kind ports speed none may more few b = record { shown = shown_ }
+  where
+    new : Machine
+    new = with_device_in m table name kind ports speed
+
+    shown_ : (s : State) → IsGood s → StandsFor m s
+        → (t : State) × Step s (AddDevice name kind ports speed) (at_most m.cycle (Some (Reset now.devices.latest))) t × StandsFor now t
+    shown_ s g st =
+        let names : s.declared.names ≡ [] = sym st.devices.names ∙ none in
+        let d = may_declare m s ports speed g st may in
+        let begin : MayBegin new s (declared_in s name kind ports speed) = record {
+          is_good = g;
+          extends = extends_declared s name kind ports speed g;
+          stands = declared_stands m s table name kind ports speed g st more;
+          declared = more_declared s name kind ports speed d;
+          some = let n = length-append m.devices.nodes (Nodes.first_state kind (length m.devices.names) speed ∷ []) in omega (arith, n);
+          more = let n = length-append s.declared.topology.devices (facts_of kind ports speed ∷ []) in omega (arith, n);
+          walks = λ c on. on;
+        } in
+        let r = reset_of new now s (declared_in s name kind ports speed) 0 begin b few in
+        let out = at_most m.cycle (Some (Reset now.devices.latest)) in
+        let declares = subst (λ (xs : List (List ℕ)). Declares xs (declared_in s name kind ports speed) out r.state) (sym names) r.resets in
+        (r.state, (st.answered, (d.room, may.some, may.most, may.fast, declares)), r.stands)
+
+-- any other is off
+pub later_turns : (m : Machine) (table : ControllerTable) (name : List ℕ) (kind : DeviceKind) (ports speed : ℕ) → 0 < length m.devices.names
+    → MayAdd m ports speed → IsOneMore m table
+    → Turns (AddDevice name kind ports speed) m (with_device_in m table name kind ports speed) m.cycle None
+later_turns m table name kind ports speed there may more = record { shown = shown_ }
+  where
+    declares : (names : List (List ℕ)) (s : State) → 0 < length names → Declares names s [] s
+    declares [] s lt = absurd (omega (arith, lt))
+    declares (x ∷ xs) s lt = (refl, refl)
+
+    shown_ : (s : State) → IsGood s → StandsFor m s
+        → (t : State) × Step s (AddDevice name kind ports speed) [] t × StandsFor (with_device_in m table name kind ports speed) t
+    shown_ s g st =
+        let d = may_declare m s ports speed g st may in
+        let some = subst (λ (xs : List (List ℕ)). 0 < length xs) st.devices.names there in (
+          declared_in s name kind ports speed,
+          (st.answered, (d.room, may.some, may.most, may.fast, declares s.declared.names (declared_in s name kind ports speed) some)),
+          declared_stands m s table name kind ports speed g st more,
+        )
+
+-- the entry of the first bus reset was written, or cut off
+pub first_does : {T E : Type 0} {held after : Option (List ℕ)} {k l : ℕ}
+    (m now : Machine) (table : ControllerTable) (name : List ℕ) (kind : DeviceKind) (ports speed : ℕ) (r : Result T E)
+    → m.devices.names ≡ [] → MayAdd m ports speed → IsOneMore m table → m.devices.epoch < 10000 → GivesReset (with_device_in m table name kind ports speed) now 0 held after k l r
+    → Does (Acts (AddDevice name kind ports speed ∷ [])) m now held after k l r
+first_does m now table name kind ports speed r none may more few h =
+    does_one m.cycle (Some (Reset now.devices.latest)) r (first_turns m now table name kind ports speed none may more few h.begins) h.gives h.faults
+
+-- before the first device there was no bus reset
+pub ready_first : {m : Machine} → IsReady m → m.devices.names ≡ [] → m.devices.epoch ≡ 0
+ready_first {m} r none = r.stands.devices.epoch ∙ go r.state.account.latest r.good.latest
+  where
+    go : (o : Option ResetEntry) → IsLatest o r.state → epoch_of o ≡ 0
+    go None h = refl
+    go (Some e) h = let n = ap (λ (xs : List (List ℕ)). length xs) (sym r.stands.devices.names ∙ none) in absurd (omega (arith, h.0, n))
+
+-- no device is there where their count is 0
+pub no_names : (names : List (List ℕ)) (n : ℕ) → n ≡ length names → n ≡ 0 → names ≡ []
+no_names [] n same zero_ = refl
+no_names (x ∷ xs) n same zero_ = absurd (omega (arith, same, zero_))
+
+-- some device is there where their count is not 0
+pub some_names : (names : List (List ℕ)) (n : ℕ) → n ≡ length names → (n ≡ 0 → ⊥) → 0 < length names
+some_names names n same some = grind (arith, same, some)

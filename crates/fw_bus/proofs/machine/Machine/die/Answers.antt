@@ -1,0 +1,18 @@
+use Rattle.std.proofs.Common.{◌≡◌, true, false, sym, subst, ◌∙◌}
+use Rattle.std.proofs.lemmas.Bool.{false≢true}
+use Rattle.fw_cmp.specs.Controllers.{ControllerState, IsHeard}
+use Rattle.fw_bus.specs.Tables.{states_of}
+use Rattle.fw_bus.proofs.Doings.{does_when}
+use Rattle.fw_bus.proofs.LifeTurns.{dies_at}
+use Rattle.fw_bus.proofs.machine.Machine.die.Goals as goal
+use Rattle.fw_bus.proofs.machine.Machine.die.Goals.{else-late-via-then-late+else-has_request, else-late-via-else-late}
+
+-- no request stands, or none is to be carried out
+pub returns-else-late : goal.returns-else-late
+returns-else-late g c = record { does = does_when (dies_at c.args.self.now c.args.device c.args.late quiet) c.stop.ensures }
+  where
+    quiet : c.args.late ≡ true → IsHeard (states_of c.args.self.now.controllers c.args.device).current
+    quiet late = elim c.else-late.branch [
+      | else-late-via-then-late+else-has_request w ↦ subst (λ (x : ControllerState). IsHeard x.current) w.get.ensures (w.has_request.ensures.heard.0 w.if-has_request.false)
+      | else-late-via-else-late w ↦ absurd (false≢true (sym w.if-late.false ∙ late))
+    ]

@@ -1,0 +1,27 @@
+use Rattle.std.proofs.Common.{◌<◌, refl, sym, subst, arith}
+use Rattle.fw_devices.specs.Network.{Network, no_devices}
+use Rattle.fw_run.specs.State.{first_state, list_to}
+use Rattle.fw_bus.specs.Stands.{HasDevices}
+use Rattle.fw_bus.proofs.machine.Machine.new.Goals as goal
+
+-- before the first device nothing is declared
+nothing_stands : HasDevices no_devices first_state
+nothing_stands = record {
+  topology = refl;
+  names = refl;
+  kinds = refl;
+  nodes = record { size = refl; each = λ d lt. let low : d < 0 = lt in absurd (omega arith) };
+  latest = refl;
+  epoch = refl;
+  manager = refl;
+}
+
+-- and no controller is told of a node
+pub returns : goal.returns
+unfolding list_to
+returns c = record {
+  devices = subst (λ (n : Network). HasDevices n first_state) (sym c.in_ok-new.ensures) nothing_stands;
+  clock = record { cycle = refl; reclaiming = refl; half_steps = refl };
+  controllers = record { table = c.in_ok-new-2.ensures; directory = refl };
+  answered = refl;
+}

@@ -1,0 +1,66 @@
+use Rattle.std.proofs.Common.{refl, rules, arith, sym, ◌∙◌, ◌≡◌, ◌≤◌, ◌<◌, ◌+◌, length, true, false, cond, ap}
+use Rattle.std.specs.Prelude.{Err}
+use Rattle.fw_run.specs.State.{numbers_to}
+use Rattle.fw_bus.specs.Stands.{is_living_in, living_in}
+use Rattle.fw_bus.proofs.Doings.{ready_after}
+use Rattle.fw_bus.proofs.Rounding.{round_none, round_skips, round_then, round_cut, round_all, count_none, count_more, count_front}
+use Rattle.fw_bus.proofs.machine.Machine.round.Goals as goal
+
+pub half_step-requires-clause-ready : goal.half_step-requires-clause-ready
+half_step-requires-clause-ready g c = ready_after c.requires.ready c.loop-device.invariant.does
+
+pub half_step-requires-clause-few : goal.half_step-requires-clause-few
+half_step-requires-clause-few g c =
+    let count = c.loop-device.invariant.count in
+    let few = c.requires.few in
+    let within = c.loop-device-test.true in
+    let value = c.count-device-end.ensures.value in
+    let lives : is_living_in c.args.self.now c.loop-device.device ≡ true = sym (c.loop-device.invariant.living c.loop-device.device) ∙ (sym c.is_living.ensures ∙ c.if-not-is_living.false) in
+    let more = count_more c.loop-device.device (is_living_in c.args.self.now) ∙ ap (λ b. length (numbers_to c.loop-device.device (is_living_in c.args.self.now)) + cond b 1 0) lives in
+    let front = count_front (c.loop-device.device + 1) (length c.args.self.now.devices.names) (is_living_in c.args.self.now) (omega (arith, within, value)) in
+    omega (arith, count, few, more, front)
+
+pub loop-device-init : goal.loop-device-init
+loop-device-init g c = record { count = omega (arith, count_none (is_living_in c.args.self.now)); living = λ d. refl; names = refl; does = round_none _ _ _ _ }
+
+pub returns : goal.returns
+returns g c =
+    let value = c.count-device-end.ensures.value in
+    let past = c.loop-device-test.false in
+    let within = c.loop-device.auto.device-end in
+    let all : c.loop-device.device ≡ length c.args.self.now.devices.names = omega (arith, value, past, within) in
+    record {
+      does = round_all _ all c.loop-device.invariant.does;
+      living = c.loop-device.invariant.living;
+      names = c.loop-device.invariant.names;
+      count = c.loop-device.invariant.count ∙ ap (λ n. c.args.self.now.half_steps + length (numbers_to n (is_living_in c.args.self.now))) all;
+    }
+
+pub loop-device-preserved-then-not-is_living : goal.loop-device-preserved-then-not-is_living
+loop-device-preserved-then-not-is_living g c =
+    let off : is_living_in c.args.self.now c.loop-device.device ≡ false = sym (c.loop-device.invariant.living c.loop-device.device) ∙ (sym c.is_living.ensures ∙ c.if-not-is_living.true) in
+    let more = count_more c.loop-device.device (is_living_in c.args.self.now) ∙ ap (λ b. length (numbers_to c.loop-device.device (is_living_in c.args.self.now)) + cond b 1 0) off in
+    record {
+      count = let count = c.loop-device.invariant.count in omega (arith, count, more);
+      living = c.loop-device.invariant.living;
+      names = c.loop-device.invariant.names;
+      does = round_skips _ off c.loop-device.invariant.does;
+    }
+
+pub returns-in_err-half_step-clause-does : goal.returns-in_err-half_step-clause-does
+returns-in_err-half_step-clause-does g c =
+    let value = c.count-device-end.ensures.value in
+    let within = c.loop-device-test.true in
+    let lives : is_living_in c.args.self.now c.loop-device.device ≡ true = sym (c.loop-device.invariant.living c.loop-device.device) ∙ (sym c.is_living.ensures ∙ c.if-not-is_living.false) in
+    round_cut _ (Err _) _ (omega (arith, value, within)) lives c.requires.few refl c.from_residual.ensures.0 c.loop-device.invariant.does c.in_err-half_step.ensures.does
+
+pub loop-device-preserved : goal.loop-device-preserved
+loop-device-preserved g c =
+    let lives : is_living_in c.args.self.now c.loop-device.device ≡ true = sym (c.loop-device.invariant.living c.loop-device.device) ∙ (sym c.is_living.ensures ∙ c.if-not-is_living.false) in
+    let more = count_more c.loop-device.device (is_living_in c.args.self.now) ∙ ap (λ b. length (numbers_to c.loop-device.device (is_living_in c.args.self.now)) + cond b 1 0) lives in
+    record {
+      count = let count = c.loop-device.invariant.count in let one = c.in_ok-half_step.ensures.count in omega (arith, count, one, more);
+      living = λ d. c.in_ok-half_step.ensures.living d ∙ c.loop-device.invariant.living d;
+      names = c.in_ok-half_step.ensures.names ∙ c.loop-device.invariant.names;
+      does = round_then _ lives c.loop-device.invariant.does c.in_ok-half_step.ensures.does;
+    }

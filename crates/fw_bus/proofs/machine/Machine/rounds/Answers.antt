@@ -1,0 +1,50 @@
+use Rattle.std.proofs.Common.{refl, rules, arith, sym, ap, ◌∙◌, ◌≡◌, ◌+◌, ◌*◌, ◌-◌, ◌≤◌, length, List, ℕ, true, false}
+use Rattle.std.specs.Prelude.{Err}
+use Rattle.fw_run.specs.State.{numbers_to}
+use Rattle.fw_bus.specs.Stands.{living_in}
+use Rattle.fw_bus.proofs.Doings.{ready_after}
+use Rattle.fw_bus.proofs.Settles.{rounds_none, rounds_then, rounds_all, rounds_rest, rounds_cut, living_kept, rounds_within, round_within}
+use Rattle.fw_bus.proofs.machine.Machine.rounds.Goals as goal
+
+pub is_unsettled-requires : goal.is_unsettled-requires
+is_unsettled-requires g c = record { ready = ready_after c.requires.ready c.loop-i.invariant.does }
+
+pub rest-requires-clause-ready : goal.rest-requires-clause-ready
+rest-requires-clause-ready g c = ready_after c.requires.ready c.loop-i.invariant.does
+
+pub rest-requires-clause-few : goal.rest-requires-clause-few
+rest-requires-clause-few g c =
+    rounds_within c.args.self.now c.loop-i.self c.loop-i.i c.args.count (omega (arith, c.loop-i-test.true)) (living_kept c.args.self.now c.loop-i.self c.loop-i.invariant.names c.loop-i.invariant.living) c.loop-i.invariant.count c.requires.few
+
+pub round-requires-clause-ready : goal.round-requires-clause-ready
+round-requires-clause-ready g c = ready_after c.requires.ready c.loop-i.invariant.does
+
+pub round-requires-clause-few : goal.round-requires-clause-few
+round-requires-clause-few g c =
+    round_within c.args.self.now c.loop-i.self c.loop-i.i c.args.count c.loop-i-test.true (living_kept c.args.self.now c.loop-i.self c.loop-i.invariant.names c.loop-i.invariant.living) c.loop-i.invariant.count c.requires.few
+
+pub loop-i-init : goal.loop-i-init
+loop-i-init g c = record { count = omega arith; living = λ d. refl; names = refl; does = rounds_none _ _ _ _ }
+
+pub returns-in_err-round : goal.returns-in_err-round
+returns-in_err-round g c = record { does = rounds_cut _ _ (Err _) _ c.loop-i-test.true c.requires.few refl c.from_residual.ensures.0 c.loop-i.invariant.does c.in_err-round.ensures.does }
+
+pub returns : goal.returns
+returns g c = record { does = rounds_all _ _ (search rules) c.loop-i.invariant.does }
+
+pub returns-then-not-is_unsettled : goal.returns-then-not-is_unsettled
+returns-then-not-is_unsettled g c =
+    let within = c.loop-i-test.true in
+    let few = rounds_within c.args.self.now c.loop-i.self c.loop-i.i c.args.count (omega (arith, within)) (living_kept c.args.self.now c.loop-i.self c.loop-i.invariant.names c.loop-i.invariant.living) c.loop-i.invariant.count c.requires.few in
+    record { does = rw c.rest.ensures (rounds_rest _ _ (omega (arith, within)) (λ s good st. sym (c.is_unsettled.ensures s good st) ∙ c.if-not-is_unsettled.true) few c.loop-i.invariant.does) }
+
+pub loop-i-preserved : goal.loop-i-preserved
+loop-i-preserved g c =
+    let still = living_kept c.args.self.now c.loop-i.self c.loop-i.invariant.names c.loop-i.invariant.living in
+    let more : (c.loop-i.i + 1) * length (living_in c.args.self.now) ≡ c.loop-i.i * length (living_in c.args.self.now) + length (living_in c.args.self.now) = omega arith in
+    record {
+      count = let count = c.loop-i.invariant.count in let one = c.in_ok-round.ensures.count in let size = ap (λ (z : List ℕ). length z) still in omega (arith, count, one, more, size);
+      living = λ d. c.in_ok-round.ensures.living d ∙ c.loop-i.invariant.living d;
+      names = c.in_ok-round.ensures.names ∙ c.loop-i.invariant.names;
+      does = rounds_then _ c.loop-i.invariant.does c.in_ok-round.ensures.does;
+    }

@@ -1,0 +1,83 @@
+-- What carrying an order out asks of the machine.
+use Rattle.std.specs.Prelude.{ℕ, ◌≡◌, ◌+◌, ◌*◌, ◌<◌, ◌≤◌, ◌^◌, ◌&&◌, not, nat_le, if◌then◌else◌, Bool, false, List, length, None, Ok, Err, ◌⊎◌, IsOk, IsTrue, IsFalse, ⊤}
+use Rattle.std.specs.declared.result.Result.{Result}
+use Rattle.fw_tree.specs.declared.facts.End.{End}
+use Rattle.fw_tree.specs.declared.TreeFault.{TreeFault}
+use Rattle.fw_tree.specs.Topology.{Topology, IsFault}
+use Rattle.fw_script.specs.declared.command.Command.{Command}
+use Rattle.fw_script.specs.Form.{HasForm}
+use Rattle.fw_cmp.specs.Fits.{SlotFits}
+use Rattle.fw_cmp.specs.Starts.{break_fault}
+use Rattle.fw_devices.specs.Network.{is_node}
+use Rattle.fw_run.specs.declared.order.Access.{Access}
+use Rattle.fw_run.specs.declared.order.Access.TheVariants.{Read, Swap}
+use Rattle.fw_run.specs.declared.order.Order.{Order}
+use Rattle.fw_run.specs.declared.order.Order.TheVariants as Orders
+use Rattle.fw_run.specs.Actions.{AccessFits, slot_of, start_of}
+use Rattle.fw_run.specs.declared.order.Wanted.{Wanted}
+use Rattle.fw_run.specs.declared.rule.RuleFault.{RuleFault}
+use Rattle.fw_run.specs.declared.rule.RuleFault.TheVariants.{NotController, TableFull, Busy, NoSuchConnection, NotOwnPlug}
+use Rattle.fw_script.specs.declared.command.Command.TheVariants as Commands
+use Rattle.fw_cmp.specs.declared.outcome.StartFault.{StartFault}
+use Rattle.fw_cmp.specs.declared.outcome.StartFault.TheVariants as Refusals
+use Rattle.fw_run.specs.State.{State}
+use Rattle.fw_run.specs.Good.{IsGood}
+use Rattle.fw_run.specs.Rules.{Decides, is_guarded_at}
+use Rattle.fw_bus.specs.declared.machine.Machine.{Machine}
+use Rattle.fw_bus.specs.Tables.{states_of}
+use Rattle.fw_bus.specs.Stands.{StandsFor, is_linked_in, is_living_in, living_in, read_in}
+
+-- a command that some line of a script gives
+abbrev pub IsCommand : Command → Type 0
+IsCommand c = (line : List ℕ) × HasForm c line
+
+-- no fault of the cabling holds
+abbrev pub CanJoin : Topology → End → End → Type 0
+CanJoin t a b = (f : TreeFault) → IsFault t a b f → ⊥
+
+-- one of the ends is on the bus, and the other is off
+abbrev pub joins_in : Machine → End → End → Bool
+joins_in m a b = if is_node m.devices.nodes a.device then not (is_node m.devices.nodes b.device) else is_node m.devices.nodes b.device
+
+-- a swap at a register that only controllers' procedures swap
+abbrev pub is_guarded : Access → Bool
+is_guarded (Read offset) = false
+is_guarded (Swap offset argument new) = is_guarded_at offset
+
+-- what a command orders, or the first rule that it breaks, in each good state that the machine stands for
+abbrev pub Decided : Machine → Command → Result Order RuleFault → Type 0
+Decided m c r = (s : State) → IsGood s → StandsFor m s → Decides s c r
+
+-- the rule by which a controller refuses a job
+abbrev pub rule_of : StartFault → RuleFault
+rule_of Refusals.TableFull = TableFull
+rule_of Refusals.Busy = Busy
+rule_of Refusals.NoSuchConnection = NoSuchConnection
+rule_of Refusals.NotOwnPlug = NotOwnPlug
+
+-- a new connection of a device's controller is ordered, or that controller does not live, or refuses it
+abbrev pub ConnectionDecided : Machine → ℕ → Wanted → Result Order RuleFault → Type 0
+ConnectionDecided m d w (Ok o) = (o ≡ Orders.Connect d w) × IsTrue (is_living_in m d) × IsOk (start_of d w (states_of m.controllers d))
+ConnectionDecided m d w (Err rule) =
+    ((rule ≡ NotController) × IsFalse (is_living_in m d))
+    ⊎ ((f : StartFault) × (rule ≡ rule_of f) × IsTrue (is_living_in m d) × (start_of d w (states_of m.controllers d) ≡ Err f))
+
+-- the line of a transaction
+abbrev pub command_of : List ℕ → List ℕ → Access → Command
+command_of from to (Read offset) = Commands.Read from to offset
+command_of from to (Swap offset argument new) = Commands.Swap from to offset argument new
+
+abbrev pub MayCarry : Machine → Order → Type 0
+MayCarry m (Orders.Declare name kind ports speed) = (length m.devices.names < 63) × (1 ≤ ports) × (ports ≤ 27) × (speed ≤ 2)
+MayCarry m (Orders.Cable a b) = CanJoin m.devices.topology a b × IsFalse (joins_in m a b && nat_le 10000 m.devices.epoch)
+MayCarry m (Orders.Reset d) = IsTrue (is_node m.devices.nodes d) × (m.devices.epoch < 10000)
+MayCarry m (Orders.Connect d w) = IsTrue (is_living_in m d) × SlotFits (slot_of w) × IsOk (start_of d w (states_of m.controllers d))
+MayCarry m (Orders.Break d slot) = IsTrue (is_living_in m d) × (break_fault (states_of m.controllers d) slot ≡ None)
+MayCarry m (Orders.Step d count) = IsTrue (is_living_in m d) × (m.half_steps + count ≤ 4000000)
+MayCarry m (Orders.Settle rounds) = m.half_steps + rounds * length (living_in m) ≤ 4000000
+MayCarry m (Orders.Wait cycles) = m.cycle + cycles ≤ 2 ^ 52
+MayCarry m (Orders.Die d late) = IsTrue (is_living_in m d)
+MayCarry m (Orders.Start d) = IsTrue (is_linked_in m.devices d)
+MayCarry m (Orders.Transact x) = IsTrue (is_living_in m x.from) × IsTrue (is_linked_in m.devices x.to) × IsFalse (is_guarded x.access) × AccessFits x.access
+MayCarry m (Orders.Show d offset) = IsTrue (is_linked_in m.devices d) × (offset < 2 ^ 12) × ((read_in m d offset).rcode ≡ 0)
+MayCarry m Orders.End = ⊤

@@ -1,0 +1,51 @@
+-- What a bus reset and the end of a reclaim second make of the machine.
+use Rattle.std.specs.Prelude.{ℕ, ◌≡◌, ◌+◌, List, Bool, Option, Some, None, false, map, if◌then◌else◌}
+use Rattle.std.specs.declared.result.Result.{Result}
+use Rattle.fw_entry.specs.declared.entry.Entry.TheVariants.{Reset}
+use Rattle.fw_cmp.specs.Resets.{after_reset as controller_reset, after_second as controller_second}
+use Rattle.fw_cmp.specs.declared.directory.Directory.{Directory}
+use Rattle.fw_node.specs.State.{after_second}
+use Rattle.fw_devices.specs.Network.{Network, is_node, node_at}
+use Rattle.fw_devices.specs.Resets.{IsReset}
+use Rattle.fw_run.specs.State.{list_to}
+use Rattle.fw_run.specs.Giving.{Gives}
+use Rattle.fw_bus.specs.Faults.{CountsFaults}
+use Rattle.fw_bus.specs.Tables.{IsTable, count_of, states_of, dead_of}
+use Rattle.fw_bus.specs.Stands.{is_linked_in}
+use Rattle.fw_bus.specs.declared.machine.Machine.{Machine}
+
+-- the node number of a device that has a link
+abbrev pub number_with_link : Network → ℕ → Option ℕ
+number_with_link n d = if is_linked_in n d then (node_at n.nodes d).number else None
+
+-- what controllers are told at a bus reset of this cycle, which begins a second or not
+abbrev pub directory_in : Network → Bool → ℕ → Directory
+directory_in n begins cycle = record { node = list_to 63 (number_with_link n); manager = n.latest.manager; over_at = if begins then cycle + 8000 else cycle }
+
+-- The nodes are numbered anew, and each controller hears of it. The second begins, but for the first bus reset, before which device
+-- 0 was no node.
+pub record BeginsReset (m now : Machine) (initiator : ℕ) : Type 0 where
+  pub reset : IsReset m.devices now.devices initiator now.devices.latest
+  pub table : IsTable now.controllers (count_of m.controllers) (λ d. controller_reset now.devices.epoch (states_of m.controllers d)) (dead_of m.controllers)
+  pub after : now ≡ record m {
+    devices = now.devices;
+    controllers = now.controllers;
+    directory = directory_in now.devices (is_node m.devices.nodes 0) m.cycle;
+    reclaiming = is_node m.devices.nodes 0;
+  }
+
+-- its entry was written, or cut off
+pub record GivesReset {T E : Type 0} (m now : Machine) (initiator : ℕ) (held after : Option (List ℕ)) (count counts : ℕ) (result : Result T E) : Type 0 where
+  pub begins : BeginsReset m now initiator
+  pub gives : Gives held after result m.cycle (Some (Reset now.devices.latest))
+  pub faults : CountsFaults count counts result
+
+-- One cycle goes by and the second is over: it no longer runs, no plug lingers, and each controller hears of it.
+pub record RestsAfterSecond (m now : Machine) : Type 0 where
+  pub table : IsTable now.controllers (count_of m.controllers) (λ d. controller_second (states_of m.controllers d)) (dead_of m.controllers)
+  pub after : now ≡ record m {
+    devices = record m.devices { nodes = map after_second m.devices.nodes };
+    controllers = now.controllers;
+    cycle = m.cycle + 1;
+    reclaiming = false;
+  }

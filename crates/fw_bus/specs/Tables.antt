@@ -1,0 +1,31 @@
+-- The controllers of the declared devices, by number.
+use Rattle.std.specs.Prelude.{ℕ, ◌≡◌, ◌≤◌, List, Bool, false, length, slice_index_or}
+use Rattle.fw_cmp.specs.Controllers.{ControllerState, first_state as new_controller}
+
+-- The lists are by device, in order of declaration.
+pub record ControllerTable : Type 0 where
+  pub list : List ControllerState
+  pub flags : List Bool  -- the controller died, and was not started again
+
+-- how many devices are declared
+abbrev pub count_of : ControllerTable → ℕ
+count_of t = length t.list
+
+-- the controller of a device; that of one that is not declared is as one that has just started
+abbrev pub states_of : ControllerTable → ℕ → ControllerState
+states_of t d = slice_index_or t.list d new_controller
+
+abbrev pub dead_of : ControllerTable → ℕ → Bool
+dead_of t d = slice_index_or t.flags d false
+
+-- the table has these controllers, of so many devices, and these of them died
+pub record IsTable (t : ControllerTable) (count : ℕ) (states : ℕ → ControllerState) (dead : ℕ → Bool) : Type 0 where
+  pub count_is : count_of t ≡ count
+  pub states_are : states_of t ≡ states
+  pub dead_are : dead_of t ≡ dead
+
+-- what is kept is of 63 devices at most
+pub record IsRoomy (t : ControllerTable) (capacity : ℕ) : Type 0 where
+  pub few : count_of t ≤ 63
+  pub enough : 63 ≤ capacity
+  pub size : length t.flags ≡ 63

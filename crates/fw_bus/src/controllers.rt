@@ -1,0 +1,183 @@
+//! The controllers of the declared devices.
+
+ghost use Rattle.std.specs.Prelude.{◌≡◌, ◌<◌, ◌+◌, IfOk, IfErr, IfSome, IsOk, Err, None, true, false};
+ghost use Rattle.fw_base.specs.Tables.{update};
+ghost use Rattle.fw_cmp.specs.Controllers.{first_state as new_controller, IsHeard, IsStanding};
+ghost use Rattle.fw_cmp.specs.Fits.{SlotFits};
+ghost use Rattle.fw_cmp.specs.Holdings.{CanGoOn};
+ghost use Rattle.fw_cmp.specs.Nodes.{HasNodeNumbers};
+ghost use Rattle.fw_cmp.specs.Resets.{after_hear, after_reset, after_second};
+ghost use Rattle.fw_cmp.specs.Starts.{break_fault, break_started, started};
+ghost use Rattle.fw_cmp.specs.Turns.{addressee_in, next, after_next};
+ghost use Rattle.fw_run.specs.Actions.{slot_of, start_of};
+ghost use Rattle.fw_bus.specs.Tables.{IsTable, count_of, dead_of, states_of};
+
+use fw_cmp::{Controller, Directory, Next, StartFault};
+use fw_csr::Reply;
+use fw_run::Wanted;
+use std::alloc::{AllocError, Global};
+use std::marker::Model;
+
+/// How many devices a bus may have.
+const MOST: usize = 63;
+
+/// The controller of each declared device, by number. That of a device without one is as one that has just started.
+#[derive(Drop)]
+pub struct Controllers {
+    list: Vec<Controller>,
+    /// The controller died, and was not started again.
+    dead: [bool; MOST],
+}
+
+impl Model for Controllers {
+    ghost use Rattle.std.specs.Prelude.{vec_capacity};
+    ghost use Rattle.fw_bus.specs.Tables.{ControllerTable, IsRoomy};
+
+    ghost Value = { ControllerTable };
+
+    ghost view = { λ c. record { list = c.list.items; flags = c.dead } };
+
+    ghost invariant = { λ c. IsRoomy (record { list = c.list.items; flags = c.dead }) (vec_capacity c.list) };
+}
+
+impl Controllers {
+    /// No controllers. The memory for 63 is taken here, and no later call takes any.
+    pub fn new(alloc: Global) -> Result<Controllers, AllocError>
+        ensures { IfOk result (λ c. IsTable c 0 (λ d. new_controller) (λ d. false)) }
+    {
+        Ok(Controllers {
+            list: Vec::with_capacity(alloc, MOST)?,
+            dead: [false; MOST],
+        })
+    }
+
+    /// One device more.
+    pub fn add(&mut self)
+        requires { count_of self.old < 63 }
+        ensures { IsTable self.new (count_of self.old + 1) (states_of self.old) (dead_of self.old) }
+    {
+        self.list.push(Controller::new()).unwrap();
+    }
+
+    /// The controller of a device.
+    pub fn get(&self, device: u8) -> &Controller
+        requires { device < count_of self.now }
+        ensures { result.now ≡ states_of self.now device }
+    {
+        &self.list[usize::from(device)]
+    }
+
+    /// Whether the controller of a device died, and was not started again.
+    pub fn is_dead(&self, device: u8) -> bool
+        ensures { result ≡ dead_of self.now device }
+    {
+        match self.dead.get(usize::from(device)) {
+            Some(dead) => *dead,
+            None => false,
+        }
+    }
+
+    /// What the controller of a device does next (`Controller::next`).
+    pub fn next(&mut self, device: u8, now: u64, directory: &Directory) -> Next
+        requires device { device < count_of self.old }
+        requires heard { IsHeard (states_of self.old device).current }
+        requires nodes { HasNodeNumbers directory.now }
+        requires reached { CanGoOn directory.now (states_of self.old device) }
+        ensures answer { result ≡ next now directory.now (states_of self.old device) }
+        ensures state { IsTable self.new (count_of self.old) (update (states_of self.old) device (after_next now directory.now (states_of self.old device))) (dead_of self.old) }
+        ensures addressee { IfSome (addressee_in result) (λ to. to < 63) }
+    {
+        self.list[usize::from(device)].next(now, directory)
+    }
+
+    /// The controller of a device hears the reply to the request that stands (`Controller::hear`).
+    pub fn hear(&mut self, device: u8, reply: &Reply)
+        requires device { device < count_of self.old }
+        requires stands { IsStanding (states_of self.old device).current }
+        ensures { IsTable self.new (count_of self.old) (update (states_of self.old) device (after_hear (states_of self.old device) reply.now)) (dead_of self.old) }
+    {
+        self.list[usize::from(device)].hear(reply);
+    }
+
+    /// Whether the controller of a device would refuse a connection, and why.
+    pub fn check(&self, device: u8, wanted: &Wanted) -> Result<(), StartFault>
+        requires { device < count_of self.now }
+        ensures accepted { IfOk result (λ _. IsOk (start_of device wanted.now (states_of self.now device))) }
+        ensures refused { IfErr result (λ f. start_of device wanted.now (states_of self.now device) ≡ Err f) }
+    {
+        let is_own = match wanted {
+            Wanted::PlugToPlug(..) => true,
+            Wanted::BroadcastOut(plug, _) | Wanted::BroadcastIn(plug) => plug.device == device,
+        };
+        if !is_own {
+            return Err(StartFault::NotOwnPlug);
+        }
+        self.get(device).check_start()?;
+        Ok(())
+    }
+
+    /// The controller of a device is asked for a connection that it does not refuse.
+    pub fn connect(&mut self, device: u8, wanted: &Wanted)
+        requires device { device < count_of self.old }
+        requires slot { SlotFits (slot_of wanted.now) }
+        requires accepted { IsOk (start_of device wanted.now (states_of self.old device)) }
+        ensures { IsTable self.new (count_of self.old) (update (states_of self.old) device (started (start_of device wanted.now (states_of self.old device)) (slot_of wanted.now) (states_of self.old device))) (dead_of self.old) }
+    {
+        let controller = &mut self.list[usize::from(device)];
+        let started = match *wanted {
+            Wanted::PlugToPlug(output, input, channel, overhead) => {
+                controller.start_connect(output, input, channel, overhead)
+            }
+            Wanted::BroadcastOut(output, overhead) => {
+                controller.start_broadcast(device, output, overhead)
+            }
+            Wanted::BroadcastIn(input) => controller.start_listen(device, input),
+        };
+        let _ = started;
+    }
+
+    /// The controller of a device is asked for a break that it does not refuse.
+    pub fn break_connection(&mut self, device: u8, slot: u8)
+        requires device { device < count_of self.old }
+        requires accepted { break_fault (states_of self.old device) slot ≡ None }
+        ensures { IsTable self.new (count_of self.old) (update (states_of self.old) device (break_started (states_of self.old device) slot)) (dead_of self.old) }
+    {
+        let _ = self.list[usize::from(device)].start_break(slot);
+    }
+
+    /// A bus reset that begins this epoch, for each controller.
+    pub fn reset(&mut self, epoch: u32)
+        ensures { IsTable self.new (count_of self.old) (λ d. after_reset epoch (states_of self.old d)) (dead_of self.old) }
+    {
+        for controller in self.list.iter_mut() {
+            controller.reset(epoch);
+        }
+    }
+
+    /// The reclaim second is over, for each controller.
+    pub fn second_over(&mut self)
+        ensures { IsTable self.new (count_of self.old) (λ d. after_second (states_of self.old d)) (dead_of self.old) }
+    {
+        for controller in self.list.iter_mut() {
+            controller.second_over();
+        }
+    }
+
+    /// The controller of a device dies: it forgets its slots and jobs.
+    pub fn die(&mut self, device: u8)
+        requires { device < count_of self.old }
+        ensures { IsTable self.new (count_of self.old) (update (states_of self.old) device new_controller) (update (dead_of self.old) device true) }
+    {
+        self.list[usize::from(device)] = Controller::new();
+        self.dead[usize::from(device)] = true;
+    }
+
+    /// The controller of a device starts.
+    pub fn start(&mut self, device: u8)
+        requires { device < count_of self.old }
+        ensures { IsTable self.new (count_of self.old) (update (states_of self.old) device new_controller) (update (dead_of self.old) device false) }
+    {
+        self.list[usize::from(device)] = Controller::new();
+        self.dead[usize::from(device)] = false;
+    }
+}

@@ -1,0 +1,102 @@
+//! The entries of events, outcomes and shown words.
+
+ghost use Rattle.std.specs.Prelude.{◌≡◌, ◌<◌, ◌≤◌, ◌^◌};
+ghost use Rattle.fw_entry.specs.Log.{Fits};
+ghost use Rattle.fw_run.specs.Entries as Entries;
+ghost use Rattle.fw_run.specs.Entries.{coded};
+
+use fw_cmp::Outcome;
+use fw_entry::codes::{NO_DEVICE, event, outcome};
+use fw_entry::{Entry, EventEntry, OutcomeEntry, ShownEntry};
+
+/// An event without a tape.
+fn event_of(code: u8, device: u8) -> Entry<'static>
+    ensures { result ≡ Entries.event_of code device }
+{
+    Entry::Event(EventEntry {
+        code,
+        device,
+        tape: 0,
+        system: 0,
+    })
+}
+
+/// The second of the latest bus reset is over.
+pub fn second_over() -> Entry<'static>
+    ensures value { result ≡ Entries.second_over }
+    ensures fits { Fits result }
+{
+    event_of(event::SECOND_OVER, NO_DEVICE)
+}
+
+/// After a `settle` a living controller has something to do, or waits for an answer.
+pub fn unsettled() -> Entry<'static>
+    ensures value { result ≡ Entries.unsettled }
+    ensures fits { Fits result }
+{
+    event_of(event::UNSETTLED, NO_DEVICE)
+}
+
+/// The controller of a device died.
+pub fn died(device: u8) -> Entry<'static>
+    requires { device < 63 }
+    ensures value { result ≡ Entries.died device }
+    ensures fits { Fits result }
+{
+    event_of(event::DIED, device)
+}
+
+/// The controller of a device started.
+pub fn started(device: u8) -> Entry<'static>
+    requires { device < 63 }
+    ensures value { result ≡ Entries.started device }
+    ensures fits { Fits result }
+{
+    event_of(event::STARTED, device)
+}
+
+/// A register's word is shown.
+pub fn shown_entry(device: u8, offset: u16, word: u32) -> Entry<'static>
+    requires offset { offset < 2 ^ 12 }
+    ensures value { result ≡ Entries.shown_entry device offset word }
+    ensures fits { Fits result }
+{
+    Entry::Shown(ShownEntry {
+        device,
+        offset,
+        word,
+    })
+}
+
+/// How the job of a slot of a device's controller ended.
+pub fn outcome_entry(device: u8, slot: u8, outcome: Outcome) -> Entry<'static>
+    ensures { result ≡ Entries.outcome_entry device slot outcome }
+{
+    let (code, value) = coded(outcome);
+    Entry::Outcome(OutcomeEntry {
+        code,
+        device,
+        slot,
+        value,
+    })
+}
+
+/// The code and the value of an outcome; of a cycle the low 32 bits.
+fn coded(outcome: Outcome) -> (u8, u32)
+    ensures { result ≡ coded outcome }
+{
+    match outcome {
+        Outcome::Connected(channel) => (outcome::CONNECTED, u32::from(channel)),
+        Outcome::Broken => (outcome::BROKEN, 0),
+        Outcome::Restored(channel) => (outcome::RESTORED, u32::from(channel)),
+        Outcome::NoChannel(word) => (outcome::NO_CHANNEL, word),
+        Outcome::NoUnits(remainder) => (outcome::NO_UNITS, remainder),
+        Outcome::PlugFull(word) => (outcome::PLUG_FULL, word),
+        Outcome::InputBusy(word) => (outcome::INPUT_BUSY, word),
+        Outcome::NoPlug(rcode) => (outcome::NO_PLUG, u32::from(rcode)),
+        Outcome::NoManager => (outcome::NO_MANAGER, 0),
+        Outcome::Absent(device) => (outcome::ABSENT, u32::from(device)),
+        Outcome::Reset(epoch) => (outcome::RESET, epoch),
+        Outcome::Late(cycle) => (outcome::LATE, (cycle % (1 << 32)) as u32),
+    }
+}

@@ -1,0 +1,222 @@
+-- A bus at which a controller can go on is one at which it can go on after each of its steps, and after a bus reset each bus is.
+use Rattle.std.proofs.Common.{◌≡◌, ◌≢◌, ℕ, ◌<◌, ◌≤◌, ◌==◌, Bool, true, false, List, length, ap, sym, ◌∙◌, arith, Option, Some, None, Ok, Err, ◌⊎◌, inl, inr, ◌&&◌}
+use Rattle.std.specs.Prelude.{⊤, if◌then◌else◌, Result}
+use Rattle.std.proofs.lemmas.Bool.{cases_eq, cases_lt}
+use Rattle.std.proofs.lemmas.List.{get_or_past, get_or-replicate, length-replicate}
+use Rattle.fw_csr.specs.declared.reply.Reply.{Reply}
+use Rattle.fw_cmp.specs.declared.connection.Connection.{Connection}
+use Rattle.fw_cmp.specs.declared.connection.Flow.{Flow}
+use Rattle.fw_cmp.specs.declared.connection.Slot.{Slot}
+use Rattle.fw_cmp.specs.declared.connection.Slot.TheVariants.{Free, Making, Standing, Restoring, Gone}
+use Rattle.fw_cmp.specs.declared.current.Current.{Current}
+use Rattle.fw_cmp.specs.declared.current.Current.TheVariants.{Nothing, Asking, Hearing, Overtaken}
+use Rattle.fw_cmp.specs.declared.current.Task.{Task}
+use Rattle.fw_cmp.specs.declared.directory.Directory.{Directory}
+use Rattle.fw_cmp.specs.declared.job.Job.{Job}
+use Rattle.fw_cmp.specs.declared.job.Purpose.{Purpose}
+use Rattle.fw_cmp.specs.declared.job.Purpose.TheVariants.{Make, Restore, Break}
+use Rattle.fw_cmp.specs.declared.outcome.Outcome.TheVariants.{Reset}
+use Rattle.fw_cmp.specs.declared.outcome.StartFault.{StartFault}
+use Rattle.fw_cmp.specs.declared.outcome.StartFault.TheVariants.{TableFull, Busy}
+use Rattle.fw_base.proofs.Tables.{find_to_is, IsFirst}
+use Rattle.fw_cmp.specs.declared.request.Access.{Access}
+use Rattle.fw_cmp.specs.declared.stage.Stage.{Stage}
+use Rattle.fw_cmp.specs.declared.stage.Stage.TheVariants.{Begin, ReadInput, Made, Ended}
+use Rattle.fw_cmp.specs.Controllers.{ControllerState, first_state, slot_at, with_slot, is_free, Fits, break_waits, CurrentFits}
+use Rattle.fw_cmp.specs.Decisions.{restores}
+use Rattle.fw_cmp.specs.Holdings.{IsReached, StageReached, CurrentReached, CanGoOn}
+use Rattle.fw_cmp.specs.Requests.{access_of}
+use Rattle.fw_cmp.specs.Starts.{IsMaking, OkWithin, free_slot, is_crowded, start_at, start, started, with_task, break_started, break_fault}
+use Rattle.fw_cmp.specs.Stages.{hear, refuse, hear_reply}
+use Rattle.fw_cmp.specs.Resets.{after_hear, heard, overtaken, current_reset, slot_reset, after_reset, slot_over, after_second}
+use Rattle.fw_cmp.specs.Turns.{ended, after_asking, after_answer, after_next, picked, resumed_current}
+use Rattle.fw_cmp.proofs.Ended.{after_stop}
+use Rattle.fw_cmp.proofs.Fitting.{slot_here, slot_elsewhere}
+use Rattle.fw_cmp.proofs.Overtaken.{slot_at_reset, slot_at_over}
+use Rattle.fw_cmp.proofs.Picking.{picked_fits, picked_goes_on}
+use Rattle.fw_cmp.proofs.Ready.{ready_reached}
+
+-- ---- one slot is set
+
+-- each connection that stands is one of this bus
+abbrev pub AllReached : Directory → ControllerState → Type 0
+AllReached d c = (i : ℕ) (conn : Connection) (f : Flow) → slot_at c i ≡ Standing conn f → IsReached d conn
+
+-- what a slot is to hold is one of this bus
+abbrev pub SlotReached : Directory → Slot → Type 0
+SlotReached d s = (conn : Connection) (f : Flow) → s ≡ Standing conn f → IsReached d conn
+
+set_reached : (d : Directory) (c : ControllerState) (i : ℕ) (s : Slot) → i < length c.slots → SlotReached d s → AllReached d c → AllReached d (with_slot c i s)
+set_reached d c i s lt new old k conn f e = go (cases_eq k i)
+  where
+    go : (k ≡ i) ⊎ (k ≢ i) → IsReached d conn
+    go (inl is) = new conn f (sym (slot_here c i s lt) ∙ ap (λ (n : ℕ). slot_at (with_slot c i s) n) (sym is) ∙ e)
+    go (inr ne) = old k conn f (sym (slot_elsewhere c i k s ne) ∙ e)
+
+-- ---- a turn
+
+any_stage : (d : Directory) (j : Job) (s : Stage) → IsReached d j.connection → StageReached d j s
+any_stage d j Begin h = tt
+any_stage d j (Ended e) h = tt
+any_stage d j s h = h
+
+standing_reached : (d : Directory) (conn : Connection) (f : Flow) → IsReached d conn → SlotReached d (Standing conn f)
+standing_reached d conn f h other g e = let same : conn ≡ other = ap (λ (s : Slot). connection_in s conn) e in rw (← same) h
+  where
+    connection_in : Slot → Connection → Connection
+    connection_in (Standing x y) z = x
+    connection_in _ z = z
+
+left_reached : (d : Directory) (conn : Connection) (b : Bool) → SlotReached d (if b then Gone conn else Free)
+left_reached d conn true other g e = cc
+left_reached d conn false other g e = cc
+
+ended_reached : (d : Directory) (c : ControllerState) (j : Job) (s : Stage) → j.slot < length c.slots → AllReached d c → StageReached d j s → AllReached d (ended c j s)
+ended_reached d c j (Made f) lt all h = set_reached d (record c { current = Nothing }) j.slot (Standing j.connection f) lt (standing_reached d j.connection f h) all
+ended_reached d c j s lt all h = set_reached d (record c { current = Nothing }) j.slot (if restores j && break_waits c j.slot then Gone j.connection else Free) lt (left_reached d j.connection (restores j && break_waits c j.slot)) all
+
+asked_goes_on : (d : Directory) (c : ControllerState) (j : Job) (s : Stage) (o : Option Access) → j.slot < length c.slots → AllReached d c → StageReached d j s → CanGoOn d (after_asking c j s o)
+asked_goes_on d c j s None lt all h = record { standing = ended_reached d c j s lt all h; current = tt }
+asked_goes_on d c j s (Some a) lt all h = record { standing = all; current = h }
+
+-- the slot of the current job is one
+abbrev SlotWithin : Current → Type 0
+SlotWithin (Asking j s) = j.slot < 32
+SlotWithin _ = ⊤
+
+resumed_within : (c : ControllerState) (d : Directory) (cur : Current) → CurrentFits c cur → SlotWithin (resumed_current c d cur)
+resumed_within c d Nothing h = tt
+resumed_within c d (Asking j s) h = h.job.slot
+resumed_within c d (Hearing j s) h = tt
+resumed_within c d (Overtaken i o) h = tt
+
+answered_goes_on : (d : Directory) (ss : List Slot) (ts : List Task) (cur : Current) → length ss ≡ 32 → SlotWithin cur → AllReached d (record { slots = ss; waiting = ts; current = cur }) → CurrentReached d cur → CanGoOn d (after_answer (record { slots = ss; waiting = ts; current = cur }))
+answered_goes_on d ss ts Nothing len within all h = record { standing = all; current = tt }
+answered_goes_on d ss ts (Asking j s) len within all h = asked_goes_on d (record { slots = ss; waiting = ts; current = Asking j s }) j s (access_of j s) (omega arith) all h
+answered_goes_on d ss ts (Hearing j s) len within all h = record { standing = all; current = h }
+answered_goes_on d ss ts (Overtaken i o) len within all h = record { standing = all; current = tt }
+
+-- at a bus at which a controller can go on, it can after its turn
+pub next_goes_on : (now : ℕ) (d : Directory) (c : ControllerState) → Fits c → CanGoOn d c → CanGoOn d (after_next now d c)
+next_goes_on now d c fits h =
+    let p : ControllerState = picked now d c in
+    let here : Fits p = picked_fits now d c fits in
+    answered_goes_on d p.slots p.waiting (resumed_current p d p.current) here.slots (resumed_within p d p.current here.current) (picked_goes_on now d c h).standing (ready_reached now d c fits h)
+
+-- ---- an answer
+
+heard_reached : (d : Directory) (j : Job) (s : Stage) (r : Reply) → StageReached d j s → StageReached d j (hear_reply j s r)
+heard_reached d j s r h = go (r.rcode == 0)
+  where
+    complete : (s : Stage) → StageReached d j s → StageReached d j (hear j s r.value)
+    complete Begin h = tt
+    complete (Ended e) h = tt
+    complete s h = any_stage d j (hear j s r.value) h
+
+    refused : (s : Stage) → StageReached d j s → StageReached d j (refuse j s r.rcode)
+    refused (ReadInput f) h = any_stage d j (refuse j (ReadInput f) r.rcode) h
+    refused s h = tt
+
+    go : (b : Bool) → StageReached d j (if b then hear j s r.value else refuse j s r.rcode)
+    go true = complete s h
+    go false = refused s h
+
+current_heard : (d : Directory) (cur : Current) (r : Reply) → CurrentReached d cur → CurrentReached d (heard cur r)
+current_heard d Nothing r h = h
+current_heard d (Asking j s) r h = h
+current_heard d (Hearing j s) r h = heard_reached d j s r h
+current_heard d (Overtaken i o) r h = h
+
+pub hear_goes_on : (d : Directory) (c : ControllerState) (r : Reply) → CanGoOn d c → CanGoOn d (after_hear c r)
+hear_goes_on d c r h = record { standing = h.standing; current = current_heard d c.current r h.current }
+
+-- ---- starts
+
+making_reached : (d : Directory) (s : Slot) → IsMaking s → SlotReached d s
+making_reached d (Making x asked overhead) m conn f e = cc
+making_reached d Free m conn f e = cc
+making_reached d (Standing x y) m conn f e = absurd m
+making_reached d (Restoring x y over) m conn f e = cc
+making_reached d (Gone x) m conn f e = cc
+
+pub start_goes_on : (d : Directory) (c : ControllerState) (r : Result ℕ StartFault) (s : Slot) → IsMaking s → OkWithin r → length c.slots ≡ 32 → CanGoOn d c → CanGoOn d (started r s c)
+start_goes_on d c (Ok i) s m lt len h = record { standing = set_reached d c i s (omega arith) (making_reached d s m) h.standing; current = h.current }
+start_goes_on d c (Err fault) s m lt len h = h
+
+pub break_goes_on : (d : Directory) (c : ControllerState) (i : ℕ) → CanGoOn d c → CanGoOn d (break_started c i)
+break_goes_on d c i h = go (break_fault c i)
+  where
+    go : (o : Option StartFault) → CanGoOn d (elim o [ None ↦ with_task c (record { slot = i; breaks = true }) | Some fault ↦ c ])
+    go None = record { standing = h.standing; current = h.current }
+    go (Some fault) = h
+
+pub connection_goes_on : (d : Directory) (c : ControllerState) (s : Slot) → Fits c → IsMaking s → CanGoOn d c → CanGoOn d (started (start c) s c)
+connection_goes_on d c s fits making h = go (free_slot c) (find_to_is 32 (λ i. is_free (slot_at c i)))
+  where
+    crowded : (i : ℕ) (b : Bool) → i < 32 → CanGoOn d (started (if b then Err Busy else Ok i) s c)
+    crowded i true lt = start_goes_on d c (Err Busy) s making tt fits.slots h
+    crowded i false lt = start_goes_on d c (Ok i) s making lt fits.slots h
+
+    go : (o : Option ℕ) → IsFirst 32 (λ i. is_free (slot_at c i)) o → CanGoOn d (started (start_at o c) s c)
+    go None first = start_goes_on d c (Err TableFull) s making tt fits.slots h
+    go (Some i) first = crowded i (is_crowded c) first.0
+
+-- ---- the end of the reclaim second
+
+over_standing : (s : Slot) (conn : Connection) (f : Flow) → slot_over s ≡ Standing conn f → s ≡ Standing conn f
+over_standing Free conn f e = e
+over_standing (Making x asked overhead) conn f e = e
+over_standing (Standing x y) conn f e = e
+over_standing (Restoring x y over) conn f e = cc
+over_standing (Gone x) conn f e = e
+
+pub second_goes_on : (d : Directory) (c : ControllerState) → CanGoOn d c → CanGoOn d (after_second c)
+second_goes_on d c h = record { standing = λ i conn f e. h.standing i conn f (over_standing (slot_at c i) conn f (sym (slot_at_over c.slots i) ∙ e)); current = h.current }
+
+-- ---- a bus reset
+
+reset_standing : (s : Slot) (conn : Connection) (f : Flow) → slot_reset s ≡ Standing conn f → ⊥
+reset_standing Free conn f e = cc
+reset_standing (Making x asked overhead) conn f e = cc
+reset_standing (Standing x y) conn f e = cc
+reset_standing (Restoring x y over) conn f e = cc
+reset_standing (Gone x) conn f e = cc
+
+decided_reached : (d : Directory) (c : ControllerState) (j : Job) (p : Purpose) → CurrentReached d c.current → CurrentReached d (elim p as (λ _. ControllerState) [ Make ↦ c | Restore ↦ c | Break ↦ with_slot c j.slot (Gone j.connection) ]).current
+decided_reached d c j Make h = h
+decided_reached d c j Restore h = h
+decided_reached d c j Break h = h
+
+interrupted_reached : (d : Directory) (epoch : ℕ) (c : ControllerState) (j : Job) (p : Purpose) → CurrentReached d (elim p as (λ _. ControllerState) [ Make ↦ after_stop c j Free (Overtaken j.slot (Reset epoch)) | Restore ↦ record c { current = Asking j Begin } | Break ↦ after_stop c j Free (Overtaken j.slot (Reset epoch)) ]).current
+interrupted_reached d epoch c j Make = tt
+interrupted_reached d epoch c j Restore = tt
+interrupted_reached d epoch c j Break = tt
+
+overtaken_reached : (d : Directory) (epoch : ℕ) (ss : List Slot) (ts : List Task) (j : Job) (s : Stage) (hears : Bool) → let c : ControllerState = record { slots = ss; waiting = ts; current = (if hears then Hearing j s else Asking j s) } in CurrentReached d (overtaken epoch c j s).current
+overtaken_reached d epoch ss ts j (Made f) b = tt
+overtaken_reached d epoch ss ts j (Ended e) true = decided_reached d (record { slots = ss; waiting = ts; current = Hearing j (Ended e) }) j j.purpose tt
+overtaken_reached d epoch ss ts j (Ended e) false = decided_reached d (record { slots = ss; waiting = ts; current = Asking j (Ended e) }) j j.purpose tt
+overtaken_reached d epoch ss ts j s b = interrupted_reached d epoch (record { slots = ss; waiting = ts; current = (if b then Hearing j s else Asking j s) }) j j.purpose
+
+current_reset_reached : (d : Directory) (epoch : ℕ) (ss : List Slot) (ts : List Task) (cur : Current) → CurrentReached d (current_reset epoch (record { slots = ss; waiting = ts; current = cur }) cur).current
+current_reset_reached d epoch ss ts Nothing = tt
+current_reset_reached d epoch ss ts (Asking j s) = overtaken_reached d epoch ss ts j s false
+current_reset_reached d epoch ss ts (Hearing j s) = overtaken_reached d epoch ss ts j s true
+current_reset_reached d epoch ss ts (Overtaken i o) = tt
+
+-- after a bus reset a controller can go on at each bus
+pub reset_goes_on : (d : Directory) (epoch : ℕ) (c : ControllerState) → CanGoOn d (after_reset epoch c)
+reset_goes_on d epoch c =
+    let r : ControllerState = current_reset epoch c c.current in
+    record {
+      standing = λ i conn f e. absurd (reset_standing (slot_at r i) conn f (sym (slot_at_reset r.slots i) ∙ e));
+      current = current_reset_reached d epoch c.slots c.waiting c.current;
+    }
+
+-- at first a controller can go on at each bus
+pub first_goes_on : (d : Directory) → CanGoOn d first_state
+first_goes_on d = record { standing = λ i conn f e. let free : slot_at first_state i ≡ Free = free_slot i (cases_lt i 32) in cc; current = tt }
+  where
+    free_slot : (i : ℕ) → (i < 32) ⊎ (32 ≤ i) → slot_at first_state i ≡ Free
+    free_slot i (inl lt) = get_or-replicate 32 i Free Free lt
+    free_slot i (inr le) = get_or_past first_state.slots i Free (omega (arith, length-replicate 32 Free))

@@ -1,7 +1,0 @@
-use Rattle.std.proofs.Common.{◌≡◌, None}
-use Rattle.fw_base.specs.Tables.{find_to}
-use Rattle.fw_cmp.specs.Stages.{is_bit}
-use Rattle.fw_cmp.proofs.decide.first_free.Given as goal
-
-abbrev pub invariant-loop-i : goal.invariant-loop-i
-invariant-loop-i l = find_to l.i (is_bit l.word) ≡ None

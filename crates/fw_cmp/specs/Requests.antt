@@ -1,0 +1,118 @@
+-- What a stage asks: of which register, and by a read or a quadlet compare_swap.
+use Rattle.std.specs.Prelude.{ℕ, ◌+◌, ◌-◌, ◌*◌, ◌==◌, ◌++◌, if◌then◌else◌, Option, Some, None, List}
+use Rattle.std.specs.Int.{to_be_bytes, w32}
+use Rattle.std.specs.Option.{option_map}
+use Rattle.fw_csr.specs.declared.request.Request.{Request}
+use Rattle.fw_csr.specs.declared.request.Request.TheVariants.{Read, Lock}
+use Rattle.fw_csr.specs.declared.request.Swap.{Swap}
+use Rattle.fw_plug.specs.Words.{is_connected}
+use Rattle.fw_cmp.specs.declared.job.Job.{Job}
+use Rattle.fw_cmp.specs.declared.request.Target.{Target}
+use Rattle.fw_cmp.specs.declared.request.Target.TheVariants.{OutputPlug, InputPlug, Channels, BandwidthAvailable}
+use Rattle.fw_cmp.specs.declared.request.Access.{Access}
+use Rattle.fw_cmp.specs.declared.stage.Stage.{Stage}
+use Rattle.fw_cmp.specs.declared.stage.Stage.TheVariants.{Begin, ReadOutput, ReadChannels, SwapChannels, ReadBandwidth, SwapBandwidth, ConnectOutput, OverlayOutput, ReadInput, ConnectInput, ReadInputToLeave, LeaveInput, ReadOutputToLeave, LeaveOutput, ReadBandwidthToRelease, RaiseBandwidth, ReadChannelsToRelease, RestoreChannel, Made, Ended}
+use Rattle.fw_cmp.specs.declared.current.Current.{Current}
+use Rattle.fw_cmp.specs.declared.current.Current.TheVariants.{Nothing, Asking, Hearing, Overtaken}
+use Rattle.fw_cmp.specs.declared.directory.Directory.{Directory}
+use Rattle.fw_cmp.specs.Connections.{kind_of, output_of, input_of}
+use Rattle.fw_cmp.specs.Plugs.{one_more, one_less, with_channel, with_overhead, half_of, with_bit, without_bit}
+use Rattle.fw_cmp.specs.Nodes.{node_of}
+
+-- ---- the register
+
+abbrev pub output_target : Job → Option Target
+output_target j = option_map OutputPlug (output_of j.connection)
+
+abbrev pub input_target : Job → Option Target
+input_target j = option_map InputPlug (input_of j.connection)
+
+-- the register of a stage's request; none where the stage makes none
+abbrev pub target_of : Job → Stage → Option Target
+target_of j Begin = None
+target_of j ReadOutput = output_target j
+target_of j (ReadChannels base w) = Some (Channels base)
+target_of j (SwapChannels ch arg w) = Some (Channels (half_of ch))
+target_of j (ReadBandwidth ch w) = Some BandwidthAvailable
+target_of j (SwapBandwidth ch u arg w) = Some BandwidthAvailable
+target_of j (ConnectOutput ch u arg) = output_target j
+target_of j (OverlayOutput arg) = output_target j
+target_of j (ReadInput f) = input_target j
+target_of j (ConnectInput f arg) = input_target j
+target_of j (ReadInputToLeave ch u) = input_target j
+target_of j (LeaveInput ch u arg) = input_target j
+target_of j (ReadOutputToLeave e ch u) = output_target j
+target_of j (LeaveOutput e ch u arg) = output_target j
+target_of j (ReadBandwidthToRelease next ch u) = Some BandwidthAvailable
+target_of j (RaiseBandwidth next ch u arg) = Some BandwidthAvailable
+target_of j (ReadChannelsToRelease next ch) = Some (Channels (half_of ch))
+target_of j (RestoreChannel next ch arg) = Some (Channels (half_of ch))
+target_of j (Made f) = None
+target_of j (Ended e) = None
+
+-- ---- the swap
+
+-- the word of an output plug with its first connection
+abbrev pub first_word : Job → ℕ → ℕ → ℕ
+first_word j ch arg = one_more (kind_of j.connection) (with_overhead (with_channel arg ch) j.overhead)
+
+-- the word of an input plug with one connection more; its first one sets the channel
+abbrev pub input_word : Job → ℕ → ℕ → ℕ
+input_word j ch arg = one_more (kind_of j.connection) (if is_connected arg then arg else with_channel arg ch)
+
+abbrev pub swapping : ℕ → ℕ → Option Swap
+swapping arg new = Some (record { argument = arg; new = new })
+
+-- the swap of a stage, where it makes one
+abbrev pub swap_of : Job → Stage → Option Swap
+swap_of j (SwapChannels ch arg w) = swapping arg (without_bit arg (ch - half_of ch))
+swap_of j (SwapBandwidth ch u arg w) = swapping arg (arg - u)
+swap_of j (ConnectOutput ch u arg) = swapping arg (first_word j ch arg)
+swap_of j (OverlayOutput arg) = swapping arg (one_more (kind_of j.connection) arg)
+swap_of j (ConnectInput f arg) = swapping arg (input_word j f.channel arg)
+swap_of j (LeaveInput ch u arg) = swapping arg (one_less (kind_of j.connection) arg)
+swap_of j (LeaveOutput e ch u arg) = swapping arg (one_less (kind_of j.connection) arg)
+swap_of j (RaiseBandwidth next ch u arg) = swapping arg (arg + u)
+swap_of j (RestoreChannel next ch arg) = swapping arg (with_bit arg (ch - half_of ch))
+swap_of j _ = None
+
+abbrev pub access_at : Option Swap → Target → Access
+access_at s t = record { target = t; swap = s }
+
+-- the access of a stage: a read, or a swap; none where the stage makes no request
+abbrev pub access_of : Job → Stage → Option Access
+access_of j s = option_map (access_at (swap_of j s)) (target_of j s)
+
+-- what the request that stands asks
+abbrev pub standing_in : Current → Option Access
+standing_in Nothing = None
+standing_in (Asking j s) = None
+standing_in (Hearing j s) = access_of j s
+standing_in (Overtaken i o) = None
+
+-- ---- the request packet's part
+
+-- FFFF F000 0000, and 904, 984 for a device's first plugs, 224 or 228, and 220
+abbrev pub offset_of : Target → ℕ
+offset_of (OutputPlug p) = 0xFFFF_F000_0904 + 4 * p.plug
+offset_of (InputPlug p) = 0xFFFF_F000_0984 + 4 * p.plug
+offset_of (Channels base) = if base == 0 then 0xFFFF_F000_0224 else 0xFFFF_F000_0228
+offset_of BandwidthAvailable = 0xFFFF_F000_0220
+
+abbrev pub swap_bytes : Swap → List ℕ
+swap_bytes s = to_be_bytes w32 s.argument ++ to_be_bytes w32 s.new
+
+abbrev pub request_at : ℕ → Option Swap → Request
+request_at offset None = Read offset
+request_at offset (Some s) = Lock offset 2 (swap_bytes s)
+
+-- a quadlet read, or a lock request of function 2
+abbrev pub request_of : Access → Request
+request_of a = request_at (offset_of a.target) a.swap
+
+-- the node that a request goes to: that of the plug's device, or the manager; none where the directory has none
+abbrev pub addressee_of : Directory → Target → Option ℕ
+addressee_of d (OutputPlug p) = node_of d p.device
+addressee_of d (InputPlug p) = node_of d p.device
+addressee_of d (Channels base) = d.manager
+addressee_of d BandwidthAvailable = d.manager

@@ -1,0 +1,48 @@
+ghost use Rattle.std.specs.Prelude.{◌≡◌};
+ghost use Rattle.fw_cmp.specs.Controllers.{is_break_at, break_runs};
+
+use crate::{Job, Outcome, Purpose, Stage};
+
+/// A job that was asked for and waits: its slot, and whether it breaks the slot's connection or makes it.
+#[derive(Clone, Copy, Debug, Default, PartialEq, Eq)]
+pub struct Task {
+    pub slot: u8,
+    pub breaks: bool,
+}
+
+/// What a controller is at.
+#[derive(Clone, Copy, Debug, PartialEq, Eq)]
+pub enum Current {
+    /// No job is current.
+    Nothing,
+    /// The job makes the request of this stage next, or ends.
+    Asking(Job, Stage),
+    /// The request of this stage stands.
+    Hearing(Job, Stage),
+    /// A bus reset has taken the job off its slot; the outcome is still to be written.
+    Overtaken(u8, Outcome),
+}
+
+impl Job {
+    /// The job breaks the connection of this slot.
+    fn breaks(&self, slot: u8) -> bool
+        ensures { result ≡ is_break_at self.now slot }
+    {
+        match self.purpose {
+            Purpose::Make | Purpose::Restore => false,
+            Purpose::Break => self.slot == slot,
+        }
+    }
+}
+
+impl Current {
+    /// A break of the slot is current.
+    pub(crate) fn breaks(&self, slot: u8) -> bool
+        ensures { result ≡ break_runs self.now slot }
+    {
+        match self {
+            Current::Asking(job, _) | Current::Hearing(job, _) => job.breaks(slot),
+            Current::Nothing | Current::Overtaken(..) => false,
+        }
+    }
+}

@@ -1,0 +1,89 @@
+ghost use Rattle.fw_cmp.specs.declared.outcome.StartFault.TheVariants.{TableFull, Busy, NoSuchConnection};
+ghost use Rattle.fw_cmp.specs.Refusals.{IsFull, HasFree, TakesSlot};
+ghost use Rattle.std.specs.Prelude.{◌≡◌, ◌⊎◌, ◌↔◌, ◌≤◌, Ok, Err, length, ◌<◌, ◌+◌, ◌-◌, ◌^◌, ℕ, true, false, Some, IfSome};
+ghost use Rattle.fw_cmp.specs.declared.job.Job.{Job as JobRecord};
+ghost use Rattle.fw_cmp.specs.declared.stage.Stage.{Stage as StageRecord};
+ghost use Rattle.fw_cmp.specs.Answers.{decision_of, DecidedBy, IsDecidedByAnswers};
+ghost use Rattle.fw_cmp.specs.Stages.{hear_reply};
+ghost use Rattle.fw_base.specs.declared.plug.ConnectionKind.TheVariants.{PointToPoint, Broadcast};
+ghost use Rattle.fw_plug.specs.Words.{OutFields, InFields, FitsRegister, out_word, in_word, units_of};
+ghost use Rattle.fw_csr.specs.declared.reply.Reply.{Reply as ReplyRecord};
+ghost use Rattle.fw_cmp.specs.declared.connection.Slot.{Slot as SlotRecord};
+ghost use Rattle.fw_cmp.specs.declared.directory.Directory.{Directory as BusDirectory};
+ghost use Rattle.fw_cmp.specs.Controllers.{ControllerState, Fits, first_state};
+ghost use Rattle.fw_cmp.specs.Holdings.{CanGoOn};
+ghost use Rattle.fw_cmp.specs.Resets.{after_hear, after_reset, after_second};
+ghost use Rattle.fw_cmp.specs.Starts.{IsMaking, start, started, start_break, can_break, break_started};
+ghost use Rattle.fw_cmp.specs.Turns.{after_next};
+ghost use Rattle.fw_cmp.specs.Plugs.{has_broadcast, counter_of, channel_of, overhead_of, one_more, one_less, with_channel, with_overhead, units_with, remainder_of};
+
+/// A new connection takes the lowest free slot. It is refused exactly where all 32 slots are in use, or else eight jobs
+/// wait. A break is refused exactly where the slot's connection does not stand and is not to be restored, or a break of
+/// it waits or is current, or else eight jobs wait.
+pub fn starts_are_refused_by_the_rules()
+    ensures full { (c : ControllerState) → (start c ≡ Err TableFull) ↔ IsFull c }
+    ensures crowded { (c : ControllerState) → (start c ≡ Err Busy) ↔ (HasFree c × (8 ≤ length c.waiting)) }
+    ensures slot { (c : ControllerState) (i : ℕ) → start c ≡ Ok i → TakesSlot c i }
+    ensures no_connection { (c : ControllerState) (i : ℕ) → (start_break c i ≡ Err NoSuchConnection) ↔ (can_break c i ≡ false) }
+    ensures crowded_break { (c : ControllerState) (i : ℕ) → (start_break c i ≡ Err Busy) ↔ ((can_break c i ≡ true) × (8 ≤ length c.waiting)) }
+{}
+
+/// A bus at which a controller can go on is one at which it can go on after each of its steps; at first, and after a bus
+/// reset, each bus is.
+pub fn controllers_go_on()
+    ensures first { (d : BusDirectory) → CanGoOn d first_state }
+    ensures connection { (d : BusDirectory) (c : ControllerState) (s : SlotRecord) → Fits c → IsMaking s → CanGoOn d c → CanGoOn d (started (start c) s c) }
+    ensures breaking { (d : BusDirectory) (c : ControllerState) (i : ℕ) → CanGoOn d c → CanGoOn d (break_started c i) }
+    ensures turn { (now : ℕ) (d : BusDirectory) (c : ControllerState) → Fits c → CanGoOn d c → CanGoOn d (after_next now d c) }
+    ensures answer { (d : BusDirectory) (c : ControllerState) (r : ReplyRecord) → CanGoOn d c → CanGoOn d (after_hear c r) }
+    ensures reset { (d : BusDirectory) (epoch : ℕ) (c : ControllerState) → CanGoOn d (after_reset epoch c) }
+    ensures second { (d : BusDirectory) (c : ControllerState) → CanGoOn d c → CanGoOn d (after_second c) }
+{}
+
+/// An answer decides how a job ends, only where it shows the cause: the asked channel taken, or no free one; too few units;
+/// a plug that is full, or an input plug that is busy; an output plug on another channel than the one to be restored; or
+/// a response code other than 0. What was decided stays so.
+pub fn answers_decide_by_what_they_show()
+    ensures { (j : JobRecord) (s : StageRecord) (r : ReplyRecord) → IfSome (decision_of (hear_reply j s r)) (λ e. (decision_of s ≡ Some e) ⊎ DecidedBy j s r e) }
+{}
+
+/// Between calls no job is decided by the directory: that there is no manager, or no such device, is answered in the call
+/// that begins the job. At first, and after a bus reset, a turn and an answer, what is decided was decided by answers;
+/// starts and the end of the reclaim second leave the current job as it is.
+pub fn the_directory_decides_only_as_a_job_begins()
+    ensures first { IsDecidedByAnswers first_state.current }
+    ensures turn { (now : ℕ) (d : BusDirectory) (c : ControllerState) → IsDecidedByAnswers c.current → IsDecidedByAnswers (after_next now d c).current }
+    ensures answer { (c : ControllerState) (r : ReplyRecord) → IsDecidedByAnswers c.current → IsDecidedByAnswers (after_hear c r).current }
+    ensures reset { (epoch : ℕ) (c : ControllerState) → IsDecidedByAnswers c.current → IsDecidedByAnswers (after_reset epoch c).current }
+    ensures second { (c : ControllerState) → (after_second c).current ≡ c.current }
+{}
+
+/// What a controller reads in the words of plugs are their fields, and what it writes are words of plugs: with one
+/// connection more or less, with another channel, or with another overhead_ID. The remainder is the whole word of
+/// BANDWIDTH_AVAILABLE.
+pub fn words_are_those_of_plugs()
+    ensures broadcast { (f : OutFields) → f.counter < 64 → FitsRegister f.settings → has_broadcast (out_word f) ≡ f.broadcast }
+    ensures counter { (f : OutFields) → f.counter < 64 → FitsRegister f.settings → counter_of (out_word f) ≡ f.counter }
+    ensures channel { (f : OutFields) → f.counter < 64 → FitsRegister f.settings → channel_of (out_word f) ≡ f.settings.channel }
+    ensures overhead { (f : OutFields) → f.counter < 64 → FitsRegister f.settings → overhead_of (out_word f) ≡ f.settings.overhead }
+    ensures units { (f : OutFields) (o : ℕ) → f.counter < 64 → FitsRegister f.settings → units_with o (out_word f) ≡ units_of (record f.settings { overhead = o }) }
+    ensures counted { (f : OutFields) → one_more PointToPoint (out_word f) ≡ out_word (record f { counter = f.counter + 1 }) }
+    ensures uncounted { (f : OutFields) → 0 < f.counter → one_less PointToPoint (out_word f) ≡ out_word (record f { counter = f.counter - 1 }) }
+    ensures set { (f : OutFields) → f.broadcast ≡ false → one_more Broadcast (out_word f) ≡ out_word (record f { broadcast = true }) }
+    ensures cleared { (f : OutFields) → f.broadcast ≡ true → one_less Broadcast (out_word f) ≡ out_word (record f { broadcast = false }) }
+    ensures on_channel { (f : OutFields) (ch : ℕ) → f.counter < 64 → FitsRegister f.settings → with_channel (out_word f) ch ≡ out_word (record f { settings = record f.settings { channel = ch } }) }
+    ensures with_overhead { (f : OutFields) (o : ℕ) → f.counter < 64 → FitsRegister f.settings → with_overhead (out_word f) o ≡ out_word (record f { settings = record f.settings { overhead = o } }) }
+    ensures remainder { (w : ℕ) → w < 2 ^ 13 → remainder_of w ≡ w }
+{}
+
+/// The same of input plugs.
+pub fn words_are_those_of_input_plugs()
+    ensures broadcast { (f : InFields) → f.counter < 64 → f.channel < 64 → has_broadcast (in_word f) ≡ f.broadcast }
+    ensures counter { (f : InFields) → f.counter < 64 → f.channel < 64 → counter_of (in_word f) ≡ f.counter }
+    ensures channel { (f : InFields) → f.counter < 64 → f.channel < 64 → channel_of (in_word f) ≡ f.channel }
+    ensures counted { (f : InFields) → one_more PointToPoint (in_word f) ≡ in_word (record f { counter = f.counter + 1 }) }
+    ensures uncounted { (f : InFields) → 0 < f.counter → one_less PointToPoint (in_word f) ≡ in_word (record f { counter = f.counter - 1 }) }
+    ensures set { (f : InFields) → f.broadcast ≡ false → one_more Broadcast (in_word f) ≡ in_word (record f { broadcast = true }) }
+    ensures cleared { (f : InFields) → f.broadcast ≡ true → one_less Broadcast (in_word f) ≡ in_word (record f { broadcast = false }) }
+    ensures on_channel { (f : InFields) (ch : ℕ) → f.counter < 64 → f.channel < 64 → with_channel (in_word f) ch ≡ in_word (record f { channel = ch }) }
+{}

@@ -1,0 +1,127 @@
+//! The slots of a controller: which are free, which are to be restored, and what a bus reset and the end of the reclaim
+//! second make of them.
+
+ghost use Rattle.std.specs.Prelude.{◌≡◌, ◌<◌, length, slice_index_or, map, IfSome, IsTrue};
+ghost use Rattle.fw_base.specs.Tables.{find_to};
+ghost use Rattle.fw_cmp.specs.declared.connection.Slot.TheVariants.{Free};
+ghost use Rattle.fw_cmp.specs.Controllers.{is_free, is_restoring, is_breakable, job_for};
+ghost use Rattle.fw_cmp.specs.Resets.{slot_reset, slot_over};
+
+use crate::{Job, Purpose, Slot};
+
+impl Slot {
+    /// The slot is not in use.
+    pub fn is_free(self) -> bool
+        ensures { result ≡ is_free self }
+    {
+        matches!(self, Slot::Free)
+    }
+
+    /// Its connection is to be restored.
+    pub fn is_restoring(self) -> bool
+        ensures { result ≡ is_restoring self }
+    {
+        matches!(self, Slot::Restoring(..))
+    }
+
+    /// Its connection stands or is to be restored.
+    pub fn is_breakable(self) -> bool
+        ensures { result ≡ is_breakable self }
+    {
+        matches!(self, Slot::Standing(..) | Slot::Restoring(..))
+    }
+
+    /// What a bus reset makes of it: a connection that stands is to be restored.
+    fn after_reset(self) -> Slot
+        ensures { result ≡ slot_reset self }
+    {
+        match self {
+            Slot::Standing(connection, flow) => Slot::Restoring(connection, flow, false),
+            other => other,
+        }
+    }
+
+    /// What the end of the reclaim second makes of it.
+    fn after_second(self) -> Slot
+        ensures { result ≡ slot_over self }
+    {
+        match self {
+            Slot::Restoring(connection, flow, _) => Slot::Restoring(connection, flow, true),
+            other => other,
+        }
+    }
+
+    /// The job for what the slot with this number holds.
+    pub(crate) fn job(self, slot: u8) -> Option<Job>
+        ensures { result ≡ job_for slot self }
+    {
+        let (connection, purpose, asked, overhead, units) = match self {
+            Slot::Free => return None,
+            Slot::Making(connection, asked, overhead) => {
+                (connection, Purpose::Make, asked, overhead, None)
+            }
+            Slot::Restoring(connection, flow, _) => (
+                connection,
+                Purpose::Restore,
+                Some(flow.channel),
+                flow.overhead,
+                Some(flow.units),
+            ),
+            Slot::Standing(connection, _) | Slot::Gone(connection) => {
+                (connection, Purpose::Break, None, 0, None)
+            }
+        };
+        Some(Job {
+            slot,
+            connection,
+            purpose,
+            asked,
+            overhead,
+            units,
+        })
+    }
+}
+
+/// The lowest free slot.
+pub(crate) fn first_free(slots: &[Slot; 32]) -> Option<u8>
+    ensures first { result ≡ find_to 32 (λ i. is_free (slice_index_or slots.now i Free)) }
+    ensures within { IfSome result (λ i. i < 32) }
+{
+    for i in 0..32 {
+        if slots[i as usize].is_free() {
+            return Some(i);
+        }
+    }
+    None
+}
+
+/// The lowest slot that is to be restored.
+pub(crate) fn first_restoring(slots: &[Slot; 32]) -> Option<u8>
+    ensures first { result ≡ find_to 32 (λ i. is_restoring (slice_index_or slots.now i Free)) }
+    ensures within { IfSome result (λ i. i < 32) }
+{
+    for i in 0..32 {
+        if slots[i as usize].is_restoring() {
+            return Some(i);
+        }
+    }
+    None
+}
+
+/// A bus reset.
+pub(crate) fn reset(slots: &mut [Slot; 32])
+    ensures { slots.new ≡ map slot_reset slots.old }
+{
+    for slot in slots.iter_mut() {
+        *slot = slot.after_reset();
+    }
+}
+
+/// The end of the reclaim second.
+pub(crate) fn second_over(slots: &mut [Slot; 32])
+    ensures { slots.new ≡ map slot_over slots.old }
+{
+    for slot in slots.iter_mut() {
+        *slot = slot.after_second();
+    }
+}

@@ -1,0 +1,88 @@
+-- No step of a controller makes more due to it in a reclaim second, and no bus reset does.
+use Rattle.fw_base.specs.declared.plug.PlugAt.{PlugAt}
+use Rattle.fw_base.specs.declared.plug.ConnectionKind.{ConnectionKind}
+use Rattle.std.proofs.Common.{◌≡◌, ◌≢◌, ◌⊎◌, inl, inr, ℕ, ◌<◌, ◌≤◌, Bool, true, false, ◌&&◌, refl, sym, ap, subst, ◌∙◌, arith, cond}
+use Rattle.std.proofs.lemmas.Bool.{cases_eq}
+use Rattle.std.proofs.lemmas.Bool.Decides.{nat_tests}
+use Rattle.fw_csr.specs.declared.reply.Reply.{Reply}
+use Rattle.fw_cmp.specs.declared.connection.Connection.{Connection}
+use Rattle.fw_cmp.specs.declared.connection.Flow.{Flow}
+use Rattle.fw_cmp.specs.declared.connection.Slot.{Slot}
+use Rattle.fw_cmp.specs.declared.connection.Slot.TheVariants.{Free, Standing, Restoring, Gone}
+use Rattle.fw_cmp.specs.declared.current.Current.{Current}
+use Rattle.fw_cmp.specs.declared.current.Current.TheVariants.{Asking, Hearing}
+use Rattle.fw_cmp.specs.declared.job.Job.{Job}
+use Rattle.fw_cmp.specs.declared.stage.Stage.{Stage}
+use Rattle.fw_cmp.specs.declared.stage.Stage.TheVariants.{Made}
+use Rattle.fw_cmp.specs.Controllers.{ControllerState, slot_at, break_waits, count_of}
+use Rattle.fw_cmp.specs.Decisions.{restores}
+use Rattle.fw_cmp.specs.Turns.{slot_after}
+use Rattle.fw_cmp.specs.Holdings.{is_current_slot}
+use Rattle.fw_cmp.specs.Resets.{heard, after_hear}
+use Rattle.fw_cmp.specs.Stages.{hear_reply}
+use Rattle.fw_reclaim.specs.Seats.{Side, Output, Input}
+use Rattle.fw_reclaim.specs.Due.{IsAtSlot, due_to, slot_due, has_plug}
+use Rattle.fw_reclaim.proofs.Due.{resting, working, due_less, due_resting, due_asking, due_hearing}
+
+-- ---- the slot of the current job, and the others
+
+-- what is due to the slot of the current job
+pub own_due : (side : Side) (cur : Current) (j : Job) (s : Stage) (slot : Slot) (i : ℕ) (kind : ConnectionKind) (q : PlugAt) → (cur ≡ Asking j s) ⊎ (cur ≡ Hearing j s) → i ≡ j.slot → slot_due side cur slot i kind q ≡ working side j s slot kind q
+own_due side cur j s slot i kind q (inl e) is = ap (λ x. slot_due side x slot i kind q) e ∙ (ap (λ k. slot_due side (Asking j s) slot k kind q) is ∙ due_asking side j s slot kind q)
+own_due side cur j s slot i kind q (inr e) is = ap (λ x. slot_due side x slot i kind q) e ∙ (ap (λ k. slot_due side (Hearing j s) slot k kind q) is ∙ due_hearing side j s slot kind q)
+
+-- and to another
+pub other_due : (side : Side) (cur : Current) (j : Job) (s : Stage) (slot : Slot) (i : ℕ) (kind : ConnectionKind) (q : PlugAt) → (cur ≡ Asking j s) ⊎ (cur ≡ Hearing j s) → i ≢ j.slot → slot_due side cur slot i kind q ≡ resting side slot kind q
+other_due side cur j s slot i kind q (inl e) ne = due_resting side cur slot i kind q (ap (λ x. is_current_slot x i) e ∙ grind (arith, nat_tests))
+other_due side cur j s slot i kind q (inr e) ne = due_resting side cur slot i kind q (ap (λ x. is_current_slot x i) e ∙ grind (arith, nat_tests))
+
+pub at_slot_of : (cur : Current) (j : Job) (s : Stage) → (cur ≡ Asking j s) ⊎ (cur ≡ Hearing j s) → j.slot < 32 → IsAtSlot cur
+at_slot_of cur j s (inl e) lt = subst (λ x. IsAtSlot x) (sym e) lt
+at_slot_of cur j s (inr e) lt = subst (λ x. IsAtSlot x) (sym e) lt
+
+-- ---- an answer
+
+pub due_heard : (c : ControllerState) (j : Job) (s : Stage) (r : Reply) (side : Side) (kind : ConnectionKind) (q : PlugAt) → c.current ≡ Hearing j s → j.slot < 32 → working side j (hear_reply j s r) (slot_at c j.slot) kind q ≤ working side j s (slot_at c j.slot) kind q → due_to (after_hear c r) side kind q ≤ due_to c side kind q
+due_heard c j s r side kind q e lt less = due_less c (after_hear c r) side kind q (at_slot_of c.current j s (inr e) lt) (at_slot_of (heard c.current r) j (hear_reply j s r) (inl later) lt) (λ i il. go i (cases_eq i j.slot))
+  where
+    later : heard c.current r ≡ Asking j (hear_reply j s r)
+    later = ap (λ x. heard x r) e
+
+    go : (i : ℕ) → (i ≡ j.slot) ⊎ (i ≢ j.slot) → slot_due side (heard c.current r) (slot_at c i) i kind q ≤ slot_due side c.current (slot_at c i) i kind q
+    go i (inl is) =
+        let old = own_due side c.current j s (slot_at c i) i kind q (inr e) is in
+        let new = own_due side (heard c.current r) j (hear_reply j s r) (slot_at c i) i kind q (inl later) is in
+        let here = subst (λ k. working side j (hear_reply j s r) (slot_at c k) kind q ≤ working side j s (slot_at c k) kind q) (sym is) less in
+        omega arith
+    go i (inr ne) =
+        let old = other_due side c.current j s (slot_at c i) i kind q (inr e) ne in
+        let new = other_due side (heard c.current r) j (hear_reply j s r) (slot_at c i) i kind q (inl later) ne in
+        omega arith
+
+-- ---- a turn
+
+pub stands_share : (side : Side) (conn : Connection) (f : Flow) (kind : ConnectionKind) (q : PlugAt) → resting side (Standing conn f) kind q ≡ count_of (has_plug side conn kind q)
+stands_share Output conn f kind q = omega arith
+stands_share Input conn f kind q = omega arith
+
+pub restoring_share : (side : Side) (conn : Connection) (f : Flow) (kind : ConnectionKind) (q : PlugAt) → resting side (Restoring conn f false) kind q ≡ count_of (has_plug side conn kind q)
+restoring_share Output conn f kind q = omega arith
+restoring_share Input conn f kind q = omega arith
+
+left_share : (side : Side) (b : Bool) (conn : Connection) (kind : ConnectionKind) (q : PlugAt) → resting side (cond b (Gone conn) Free) kind q ≡ 0
+left_share Output true conn kind q = refl
+left_share Output false conn kind q = refl
+left_share Input true conn kind q = refl
+left_share Input false conn kind q = refl
+
+pub made_share : (side : Side) (j : Job) (f : Flow) (slot : Slot) (kind : ConnectionKind) (q : PlugAt) → count_of (has_plug side j.connection kind q) ≤ working side j (Made f) slot kind q
+made_share Output j f slot kind q = omega arith
+made_share Input j f slot kind q = omega arith
+
+-- what is left of a job that has ended
+pub after_share : (side : Side) (c : ControllerState) (j : Job) (t : Stage) (slot : Slot) (kind : ConnectionKind) (q : PlugAt) → resting side (slot_after c j t) kind q ≤ working side j t slot kind q
+after_share side c j (Made f) slot kind q = omega (arith, stands_share side j.connection f kind q, made_share side j f slot kind q)
+after_share side c j t slot kind q = at_most_none (left_share side (restores j && break_waits c j.slot) j.connection kind q)
+  where
+    at_most_none : {m : ℕ} → m ≡ 0 → m ≤ working side j t slot kind q
+    at_most_none e = omega arith

@@ -1,0 +1,96 @@
+-- All that reclaiming rests on goes on to hold, whatever happens.
+use Rattle.std.proofs.Common.{◌≡◌, ◌⊎◌, inl, inr, ℕ, ◌+◌, ◌≤◌, refl, sym, subst, ◌∙◌, arith}
+use Rattle.fw_base.specs.declared.plug.PlugAt.{PlugAt}
+use Rattle.fw_base.specs.declared.plug.ConnectionKind.{ConnectionKind}
+use Rattle.fw_base.specs.declared.plug.ConnectionKind.TheVariants.{PointToPoint, Broadcast}
+use Rattle.fw_base.specs.Tables.{sum_to}
+use Rattle.fw_base.proofs.Tables.{sum_to_same, sum_to_zero}
+use Rattle.fw_ledger.specs.Fold.{no_account}
+use Rattle.fw_cmp.specs.declared.directory.Directory.{Directory}
+use Rattle.fw_cmp.specs.Controllers.{first_state}
+use Rattle.fw_cmp.specs.Resets.{after_hear}
+use Rattle.fw_cmp.specs.Starts.{started, break_started}
+use Rattle.fw_cmp.specs.Turns.{after_next}
+use Rattle.std.specs.Prelude.{Ok}
+use Rattle.fw_step.specs.Together.{AreInStep, Happens as StepHappens, asks, rests, hears, given, resets, second, dies, connection, break}
+use Rattle.fw_step.proofs.Together.{stay_in_step, first_step}
+use Rattle.fw_reclaim.specs.Due.{held_in, due_in}
+use Rattle.fw_reclaim.specs.Restores.{Restores}
+use Rattle.fw_reclaim.specs.Seats.{Side, Output, Input, AreSeated, most, orphaned_of, connections_at}
+use Rattle.fw_reclaim.specs.Worlds.{World, CanReclaim, IsUnused, SendsRequest, SendsNothing, TakesTurn, Change, Turn, Answer, BusReset, SecondOver, Death, NewConnection, BreakOf, Elsewhere, Happens}
+use Rattle.fw_reclaim.proofs.Events.{restores_first}
+use Rattle.fw_reclaim.proofs.Facts.{facts}
+use Rattle.fw_reclaim.proofs.Fitting.{fits_after}
+use Rattle.fw_reclaim.proofs.Living.{restores_after}
+use Rattle.fw_reclaim.proofs.Making.{makes_after}
+use Rattle.fw_reclaim.proofs.Unused.{nothing_due, nothing_held, first_unused, reset_unused, second_unused, beyond_after}
+
+-- the turn of a controller
+turn_happens : (w v : World) (c now : ℕ) (t : TakesTurn w c now v) → SendsRequest w c now v.account ⊎ SendsNothing w c now v.account → StepHappens w.directory v.directory w.account w.controllers v.account v.controllers
+turn_happens w v c now t (inl x) = asks c now x.request t.told t.heard x.outstanding x.account t.becomes t.directory
+turn_happens w v c now t (inr x) = rests c now t.told t.heard x.outstanding x.account t.becomes t.directory
+
+-- a change is one that keeps all controllers in step, or none
+happens : (w v : World) (x : Change) → Happens w x v → StepHappens w.directory v.directory w.account w.controllers v.account v.controllers ⊎ (v ≡ w)
+happens w v (Turn c now) t = inl (turn_happens w v c now t t.says)
+happens w v (Answer c r) t = inl (hears c t.job t.stage t.target r t.device t.current t.asked t.answer t.account t.becomes t.directory)
+happens w v (BusReset entry epoch) t = inl (resets entry epoch t.network (λ p e. t.grows.outputs p e) t.account t.each)
+happens w v SecondOver t = inl (second t.account t.each t.directory)
+happens w v (Death c) t = inl (dies c t.account t.becomes t.directory)
+happens w v (NewConnection c i slot) t = inl (given c (started (Ok i) slot (w.controllers c)) (connection i slot t.starts t.making t.fits refl) t.account t.becomes t.directory)
+happens w v (BreakOf c i) t = inl (given c (break_started (w.controllers c) i) (break i t.accepted refl) t.account t.becomes t.directory)
+happens w v Elsewhere t = inr t
+
+-- all controllers stay in step
+in_step_after : (w v : World) (x : Change) → CanReclaim w → Happens w x v → AreInStep v.directory v.account v.controllers
+in_step_after w v x h t = go (happens w v x t)
+  where
+    go : StepHappens w.directory v.directory w.account w.controllers v.account v.controllers ⊎ (v ≡ w) → AreInStep v.directory v.account v.controllers
+    go (inl y) = stay_in_step w.directory v.directory w.account v.account w.controllers v.controllers h.step y
+    go (inr e) = subst (λ y. AreInStep y.directory y.account y.controllers) (sym e) h.step
+
+-- the controllers beyond the devices stay as they are
+unused_after : (w v : World) (x : Change) → CanReclaim w → Happens w x v → (e : ℕ) → 63 ≤ e → IsUnused (v.controllers e)
+unused_after w v (Turn c now) h t = beyond_after w.controllers v.controllers c (after_next now w.directory (w.controllers c)) t.device t.becomes h.beyond
+unused_after w v (Answer c r) h t = beyond_after w.controllers v.controllers c (after_hear (w.controllers c) r) t.device t.becomes h.beyond
+unused_after w v (BusReset entry epoch) h t = λ e far. subst (λ x. IsUnused x) (sym (t.each e)) (reset_unused epoch (w.controllers e) (h.beyond e far))
+unused_after w v SecondOver h t = λ e far. subst (λ x. IsUnused x) (sym (t.each e)) (second_unused (w.controllers e) (h.beyond e far))
+unused_after w v (Death c) h t = beyond_after w.controllers v.controllers c first_state t.device t.becomes h.beyond
+unused_after w v (NewConnection c i slot) h t = beyond_after w.controllers v.controllers c (started (Ok i) slot (w.controllers c)) t.device t.becomes h.beyond
+unused_after w v (BreakOf c i) h t = beyond_after w.controllers v.controllers c (break_started (w.controllers c) i) t.device t.becomes h.beyond
+unused_after w v Elsewhere h t = λ e far. subst (λ y. IsUnused (y.controllers e)) (sym t) (h.beyond e far)
+
+-- each change leaves all that reclaiming rests on
+pub goes_on_reclaiming : (w v : World) (x : Change) → CanReclaim w → Happens w x v → CanReclaim v
+goes_on_reclaiming w v x h t = record { step = step; each = each; fits = fits_after w v x h t step.sound seated each; makes = makes_after w v x h t; beyond = beyond }
+  where
+    step : AreInStep v.directory v.account v.controllers
+    step = in_step_after w v x h t
+
+    each : (e : ℕ) → Restores v.account (v.controllers e)
+    each = restores_after w v x h t step.sound
+
+    beyond : (e : ℕ) → 63 ≤ e → IsUnused (v.controllers e)
+    beyond = unused_after w v x h t
+
+    seated : AreSeated v.account (held_in v.controllers)
+    seated = record { seated = λ c side kind q. (facts v.account c (v.controllers c) (step.fits c) (step.each c)).seated side kind q; beyond = λ c side kind q far. nothing_held (v.controllers c) side kind q (beyond c far) }
+
+-- before the first device there is nothing
+pub first_reclaims : (directory : Directory) → CanReclaim (record { account = no_account; controllers = λ d. first_state; directory = directory })
+first_reclaims directory = record {
+  step = first_step directory;
+  each = λ d. restores_first no_account;
+  fits = record { fits = λ side kind q. fits side kind q };
+  makes = λ d. tt;
+  beyond = λ d far. first_unused;
+}
+  where
+    none : (side : Side) (kind : ConnectionKind) (q : PlugAt) → sum_to 63 (λ c. due_in (λ d. first_state) c side kind q) ≡ 0
+    none side kind q = sum_to_same 63 (λ c. due_in (λ d. first_state) c side kind q) (λ c. 0) (λ c lt. nothing_due first_state side kind q first_unused) ∙ sum_to_zero 63
+
+    fits : (side : Side) (kind : ConnectionKind) (q : PlugAt) → orphaned_of kind (connections_at no_account side q) + sum_to 63 (λ c. due_in (λ d. first_state) c side kind q) ≤ most kind
+    fits Output PointToPoint q = omega (arith, none Output PointToPoint q)
+    fits Output Broadcast q = omega (arith, none Output Broadcast q)
+    fits Input PointToPoint q = omega (arith, none Input PointToPoint q)
+    fits Input Broadcast q = omega (arith, none Input Broadcast q)

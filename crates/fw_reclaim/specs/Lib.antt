@@ -1,0 +1,7 @@
+pub mod Seats
+pub mod Due
+pub mod Restores
+pub mod Makings
+pub mod Worlds
+pub mod Whole
+pub mod Rooms

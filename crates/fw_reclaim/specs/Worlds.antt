@@ -1,0 +1,170 @@
+-- The account and all controllers, and what happens to them.
+use Rattle.std.specs.Prelude.{ℕ, ◌≡◌, ◌<◌, ◌≤◌, ◌⊎◌, Option, Some, None, List, [], ◌∷◌, Ok, true, IsSome}
+use Rattle.fw_base.specs.declared.plug.PlugAt.{PlugAt}
+use Rattle.fw_csr.specs.declared.reply.Reply.{Reply}
+use Rattle.fw_entry.specs.declared.entry.ResetEntry.{ResetEntry}
+use Rattle.fw_ledger.specs.Account.{Account, Request}
+use Rattle.fw_ledger.specs.Events.{after_reset as account_reset, after_second as account_second, after_death}
+use Rattle.fw_entry.specs.Network.{IsNetwork}
+use Rattle.fw_ledger.specs.Network.{is_output, is_input}
+use Rattle.fw_ledger.specs.Packets.{asked, ended}
+use Rattle.fw_cmp.specs.declared.connection.Slot.{Slot}
+use Rattle.fw_cmp.specs.declared.connection.Slot.TheVariants.{Free}
+use Rattle.fw_cmp.specs.declared.current.Current.{Current}
+use Rattle.fw_cmp.specs.declared.current.Current.TheVariants.{Nothing, Asking, Hearing}
+use Rattle.fw_cmp.specs.declared.directory.Directory.{Directory}
+use Rattle.fw_cmp.specs.declared.job.Job.{Job}
+use Rattle.fw_cmp.specs.declared.request.Target.{Target}
+use Rattle.fw_cmp.specs.declared.stage.Stage.{Stage}
+use Rattle.fw_cmp.specs.Controllers.{ControllerState, first_state, slot_at, IsHeard}
+use Rattle.fw_cmp.specs.Fits.{SlotFits}
+use Rattle.fw_cmp.specs.Nodes.{node_of}
+use Rattle.fw_cmp.specs.Requests.{target_of}
+use Rattle.fw_cmp.specs.Resets.{after_hear, after_reset, after_second}
+use Rattle.fw_cmp.specs.Starts.{IsMaking, start, started, break_fault, break_started}
+use Rattle.fw_cmp.specs.Turns.{after_next}
+use Rattle.fw_step.specs.Controllers.{IsDirectory}
+use Rattle.fw_step.specs.Moves.{carried_out}
+use Rattle.fw_step.specs.Registers.{IsAnswer, has_manager}
+use Rattle.fw_step.specs.Requests.{outstanding_of}
+use Rattle.fw_step.specs.Together.{AreInStep, Becomes}
+use Rattle.fw_reclaim.specs.Due.{Controllers, due_in}
+use Rattle.fw_reclaim.specs.Makings.{CurrentMakes}
+use Rattle.fw_reclaim.specs.Restores.{Restores}
+use Rattle.fw_reclaim.specs.Seats.{Fits}
+
+-- Controllers are named by device; that of a device that has none, or whose controller died, is one that has just started.
+-- The directory is the one that they were given since the latest bus reset.
+pub record World : Type 0 where
+  pub account : Account
+  pub controllers : Controllers
+  pub directory : Directory
+
+-- the job is current, with its request standing or not
+abbrev pub IsAtWork : Current → Job → Stage → Type 0
+IsAtWork cur j s = (cur ≡ Asking j s) ⊎ (cur ≡ Hearing j s)
+
+-- ---- what reclaiming rests on
+
+-- a controller with no connection and no job
+pub record IsUnused (c : ControllerState) : Type 0 where
+  pub free : (i : ℕ) → slot_at c i ≡ Free
+  pub idle : c.current ≡ Nothing
+
+pub record CanReclaim (w : World) : Type 0 where
+  pub step : AreInStep w.directory w.account w.controllers
+  pub each : (c : ℕ) → Restores w.account (w.controllers c)
+  pub fits : Fits w.account (due_in w.controllers)
+  pub makes : (c : ℕ) → CurrentMakes (w.controllers c).current
+  -- devices have numbers below 63
+  pub beyond : (c : ℕ) → 63 ≤ c → IsUnused (w.controllers c)
+
+-- ---- what happens
+
+-- a turn whose request goes out
+pub record SendsRequest (w : World) (c now : ℕ) (m : Account) : Type 0 where
+  pub request : Request
+  pub outstanding : outstanding_of w.directory (after_next now w.directory (w.controllers c)).current ≡ Some request
+  pub account : m ≡ asked c request w.account
+
+-- a turn in which a job ends, or nothing is done
+pub record SendsNothing (w : World) (c now : ℕ) (m : Account) : Type 0 where
+  pub outstanding : outstanding_of w.directory (after_next now w.directory (w.controllers c)).current ≡ None
+  pub account : m ≡ w.account
+
+-- the directory has the devices of the plugs on the bus, and the manager where there is one
+pub record ShowsBus (latest : Option ResetEntry) (d : Directory) : Type 0 where
+  pub outputs : (p : PlugAt) → is_output latest p ≡ true → IsSome (node_of d p.device)
+  pub inputs : (q : PlugAt) → is_input latest q ≡ true → IsSome (node_of d q.device)
+  pub manager : has_manager latest ≡ true → IsSome d.manager
+
+-- a controller with no request outstanding takes its turn
+pub record TakesTurn (w : World) (c now : ℕ) (v : World) : Type 0 where
+  pub device : c < 63
+  pub heard : IsHeard (w.controllers c).current
+  pub told : IsDirectory w.account now w.directory
+  pub shows : ShowsBus w.account.latest w.directory
+  pub says : SendsRequest w c now v.account ⊎ SendsNothing w c now v.account
+  pub becomes : Becomes w.controllers c (after_next now w.directory (w.controllers c)) v.controllers
+  pub directory : v.directory ≡ w.directory
+
+-- its request is carried out, and it hears the answer
+pub record HearsAnswer (w : World) (c : ℕ) (r : Reply) (v : World) : Type 0 where
+  pub device : c < 63
+  pub job : Job
+  pub stage : Stage
+  pub current : (w.controllers c).current ≡ Hearing job stage
+  pub target : Target
+  pub asked : target_of job stage ≡ Some target
+  pub answer : IsAnswer w.account target r
+  pub account : v.account ≡ ended c (carried_out c job stage r w.account)
+  pub becomes : Becomes w.controllers c (after_hear (w.controllers c) r) v.controllers
+  pub directory : v.directory ≡ w.directory
+
+-- the bus only grows
+pub record Grows (l : Account) (r : ResetEntry) : Type 0 where
+  pub outputs : (p : PlugAt) → is_output l.latest p ≡ true → is_output (Some r) p ≡ true
+  pub inputs : (q : PlugAt) → is_input l.latest q ≡ true → is_input (Some r) q ≡ true
+  pub manager : has_manager l.latest ≡ true → has_manager (Some r) ≡ true
+
+-- a bus reset, with a new directory
+pub record IsReset (w : World) (entry : ResetEntry) (epoch : ℕ) (v : World) : Type 0 where
+  pub network : IsNetwork entry
+  pub grows : Grows w.account entry
+  pub account : v.account ≡ account_reset entry w.account
+  pub each : (c : ℕ) → v.controllers c ≡ after_reset epoch (w.controllers c)
+
+-- the reclaim second is over
+pub record EndsSecond (w : World) (v : World) : Type 0 where
+  pub account : v.account ≡ account_second w.account
+  pub each : (c : ℕ) → v.controllers c ≡ after_second (w.controllers c)
+  pub directory : v.directory ≡ w.directory
+
+pub record Dies (w : World) (c : ℕ) (v : World) : Type 0 where
+  pub device : c < 63
+  pub account : v.account ≡ after_death c w.account
+  pub becomes : Becomes w.controllers c first_state v.controllers
+  pub directory : v.directory ≡ w.directory
+
+-- a new connection is asked for: it takes the lowest free slot
+pub record AsksNew (w : World) (c i : ℕ) (slot : Slot) (v : World) : Type 0 where
+  pub device : c < 63
+  pub starts : start (w.controllers c) ≡ Ok i
+  pub making : IsMaking slot
+  pub fits : SlotFits slot
+  pub account : v.account ≡ w.account
+  pub becomes : Becomes w.controllers c (started (Ok i) slot (w.controllers c)) v.controllers
+  pub directory : v.directory ≡ w.directory
+
+-- a break is asked for, and accepted
+pub record AsksBreak (w : World) (c i : ℕ) (v : World) : Type 0 where
+  pub device : c < 63
+  pub accepted : break_fault (w.controllers c) i ≡ None
+  pub account : v.account ≡ w.account
+  pub becomes : Becomes w.controllers c (break_started (w.controllers c) i) v.controllers
+  pub directory : v.directory ≡ w.directory
+
+pub data Change : Type 0 where
+  Turn : (c now : ℕ) → Change
+  Answer : (c : ℕ) → (r : Reply) → Change
+  BusReset : (entry : ResetEntry) → (epoch : ℕ) → Change
+  SecondOver : Change
+  Death : (c : ℕ) → Change
+  NewConnection : (c i : ℕ) → (slot : Slot) → Change
+  BreakOf : (c i : ℕ) → Change
+  Elsewhere : Change  -- nothing of this changes
+
+abbrev pub Happens : World → Change → World → Type 0
+Happens w (Turn c now) v = TakesTurn w c now v
+Happens w (Answer c r) v = HearsAnswer w c r v
+Happens w (BusReset entry epoch) v = IsReset w entry epoch v
+Happens w SecondOver v = EndsSecond w v
+Happens w (Death c) v = Dies w c v
+Happens w (NewConnection c i slot) v = AsksNew w c i slot v
+Happens w (BreakOf c i) v = AsksBreak w c i v
+Happens w Elsewhere v = v ≡ w
+
+-- changes one after another
+abbrev pub Path : World → List Change → World → Type 0
+Path w [] v = v ≡ w
+Path w (x ∷ changes) v = (u : World) × Happens w x u × Path u changes v

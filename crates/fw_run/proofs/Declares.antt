@@ -1,0 +1,79 @@
+-- A device more leads from a good state to a good state.
+use Rattle.std.proofs.Common.{◌≡◌, ℕ, ◌+◌, ◌<◌, ◌≤◌, List, [], ◌∷◌, ◌++◌, length, Option, Some, None, refl, ap, sym, subst, ◌∙◌, arith}
+use Rattle.fw_base.specs.declared.device.DeviceKind.{DeviceKind}
+use Rattle.fw_entry.specs.declared.entry.ResetEntry.{ResetEntry}
+use Rattle.fw_entry.specs.declared.entry.Timed.{Timed}
+use Rattle.fw_devices.specs.Network.{facts_of, kind_at}
+use Rattle.fw_devices.specs.Entries.{row_of}
+use Rattle.fw_devices.specs.Resets.{Shows}
+use Rattle.fw_base.specs.Devices.{is_contender}
+use Rattle.fw_run.specs.State.{State, with_device}
+use Rattle.fw_run.specs.Actions.{Declares}
+use Rattle.fw_run.specs.Good.{IsGood, IsLatest, AreDeclared, ManagerContends}
+use Rattle.fw_run.proofs.Networks.{one_more, kind_before, kinds_more, made_more, shows_more}
+use Rattle.fw_run.proofs.Resets.{MayReset, reset_good}
+
+-- a device that may be declared
+pub record MayDeclare (s : State) (ports speed : ℕ) : Type 0 where
+  pub good : IsGood s
+  pub room : length s.declared.names < 63
+  pub some : 1 ≤ ports
+  pub most : ports ≤ 27
+  pub fast : speed ≤ 2
+
+pub more_declared : (s : State) (name : List ℕ) (kind : DeviceKind) (ports speed : ℕ) → MayDeclare s ports speed → AreDeclared (with_device s.declared name kind ports speed)
+more_declared s name kind ports speed m = let h = m.good.declared in record {
+  made = made_more s.declared.topology (facts_of kind ports speed) h.made (subst (λ k. k < 63) h.named m.room) (let some = m.some in omega (arith, some)) m.most m.fast;
+  kinds = kinds_more s.declared.topology.devices s.declared.kinds kind ports speed h.kinds;
+  named = one_more s.declared.names name ∙ (ap (λ k. k + 1) h.named ∙ sym (one_more s.declared.topology.devices (facts_of kind ports speed)));
+}
+
+still_contends : (s : State) (kind : DeviceKind) (e : ResetEntry) → length s.declared.kinds ≡ length s.declared.topology.devices → Shows s.declared.topology s.declared.kinds e → ManagerContends s.declared.kinds e → ManagerContends (s.declared.kinds ++ kind ∷ []) e
+still_contends s kind e size h m n is =
+    let w = m n is in
+    let low = h.declared n (row_of w.0 (kind_at s.declared.kinds w.0)) (h.numbers w.0 n w.1) in
+    (w.0, w.1, ap is_contender (kind_before s.declared.kinds kind w.0 (subst (λ k. w.0 < k) (sym size) low)) ∙ w.2)
+
+-- one that is off
+pub more_good : (s : State) (name : List ℕ) (kind : DeviceKind) (ports speed : ℕ) → MayDeclare s ports speed → 0 < length s.declared.names → IsGood (record s { declared = with_device s.declared name kind ports speed })
+more_good s name kind ports speed m some = record {
+  declared = more_declared s name kind ports speed m;
+  latest = latest_ s.account.latest m.good.latest;
+  reclaims = m.good.reclaims;
+  stands = m.good.stands;
+  unused = m.good.unused;
+  time = record { second = m.good.time.second; over_at = m.good.time.over_at; cycle = m.good.time.cycle };
+  half_steps = m.good.half_steps;
+}
+  where
+    longer : 0 < length (s.declared.names ++ name ∷ [])
+    longer = let e = one_more s.declared.names name in omega (arith, e)
+
+    latest_ : (o : Option ResetEntry) → IsLatest o s → IsLatest o (record s { declared = with_device s.declared name kind ports speed })
+    latest_ None h = absurd (omega (arith, some, ap (λ (xs : List (List ℕ)). length xs) h.0))
+    latest_ (Some e) h = (
+      longer,
+      shows_more s.declared.topology s.declared.kinds e (facts_of kind ports speed) kind m.good.declared.made m.good.declared.kinds.size (subst (λ k. 0 < k) m.good.declared.named some) h.1,
+      h.2,
+      still_contends s kind e m.good.declared.kinds.size h.1 h.3,
+    )
+
+-- the first one begins a bus reset
+pub first_may : (s : State) (name : List ℕ) (kind : DeviceKind) (ports speed : ℕ) → MayDeclare s ports speed → s.declared.names ≡ [] → MayReset s (with_device s.declared name kind ports speed)
+first_may s name kind ports speed m none = record {
+  good = m.good;
+  declared = more_declared s name kind ports speed m;
+  some = let e = one_more s.declared.names name in omega (arith, e);
+  kinds = λ e is. absurd (never e is m.good.latest);
+  stays = λ e is. absurd (never e is m.good.latest);
+}
+  where
+    never : (e : ResetEntry) → s.account.latest ≡ Some e → IsLatest s.account.latest s → ⊥
+    never e is h = let some = (subst (λ o. IsLatest o s) is h).0 in omega (arith, some, ap (λ (xs : List (List ℕ)). length xs) none)
+
+pub declare_good : (s : State) (name : List ℕ) (kind : DeviceKind) (ports speed : ℕ) (out : List Timed) (t : State) → MayDeclare s ports speed → Declares s.declared.names (record s { declared = with_device s.declared name kind ports speed }) out t → IsGood t
+declare_good s name kind ports speed out t m h = go s.declared.names refl h
+  where
+    go : (names : List (List ℕ)) → s.declared.names ≡ names → Declares names (record s { declared = with_device s.declared name kind ports speed }) out t → IsGood t
+    go [] none r = reset_good s (with_device s.declared name kind ports speed) 0 out t (first_may s name kind ports speed m none) r
+    go (x ∷ names) more r = subst IsGood (sym r.1) (more_good s name kind ports speed m (let e = ap (λ (xs : List (List ℕ)). length xs) more in omega (arith, e)))

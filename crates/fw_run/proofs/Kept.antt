@@ -1,0 +1,141 @@
+-- The numbers that a state keeps stay in their fields.
+use Rattle.std.proofs.Common.{◌≡◌, ℕ, ◌+◌, ◌^◌, ◌<◌, ◌==◌, ◌++◌, List, [], ◌∷◌, Bool, true, false, cond, Some, None, refl, sym, subst, ◌∙◌, arith, IsTrue}
+use Rattle.std.specs.Prelude.{Ok, Err}
+use Rattle.std.specs.declared.result.Result.{Result}
+use Rattle.std.specs.Int.{to_be_bytes, w32}
+use Rattle.fw_base.specs.Tables.{update}
+use Rattle.fw_words.specs.Quadlet.{quadlet_at}
+use Rattle.fw_csr.specs.Manager.{after_at}
+use Rattle.fw_entry.specs.declared.entry.Timed.{Timed}
+use Rattle.fw_tree.specs.Topology.{Topology}
+use Rattle.fw_ledger.specs.Words.{first_address}
+use Rattle.fw_cmp.specs.declared.connection.Slot.{Slot}
+use Rattle.fw_cmp.specs.declared.current.Current.{Current}
+use Rattle.fw_cmp.specs.declared.current.Current.TheVariants.{Nothing, Asking, Hearing, Overtaken}
+use Rattle.fw_cmp.specs.declared.outcome.StartFault.{StartFault}
+use Rattle.fw_cmp.specs.Controllers.{ControllerState, first_state as new_controller}
+use Rattle.fw_cmp.specs.Starts.{started as given, break_started}
+use Rattle.fw_run.specs.declared.order.Access.{Access}
+use Rattle.fw_run.specs.declared.order.Access.TheVariants.{Read, Swap}
+use Rattle.fw_run.specs.declared.order.Transaction.{Transaction}
+use Rattle.fw_run.specs.State.{State, Declared, first_state, directory_of, is_on, is_linked, is_living, with_device}
+use Rattle.fw_run.specs.Spaces.{access_request, target_node, is_manager, bus_manager_id_after}
+use Rattle.fw_run.specs.HalfSteps.{HalfStep as Half, asks, half, half_of, after_half}
+use Rattle.fw_run.specs.Actions.{Action, AddDevice, AddCable, ResetBus, StartConnection, StartBreak, HalfStep, Rest, Unsettled, Pass, EndSecond, Die, CarryOut, Start, Ask, Answer, ShowWord, Finish, Resets, Declares, Joins, with_topology, after_reset_entry, slot_of, start_of, Step}
+use Rattle.fw_run.specs.Good.{IsGood}
+use Rattle.fw_run.specs.Numbers.{CurrentShows, HasNumbers}
+use Rattle.fw_run.proofs.Endings.{next_shows, hears_shows, reset_shows}
+use Rattle.fw_run.proofs.Events.{break_current}
+use Rattle.fw_run.proofs.Fitting.{heard_fits}
+use Rattle.fw_run.proofs.Hears.{heard_of, half_hears, reply_heard}
+use Rattle.fw_run.proofs.Resets.{declaring}
+use Rattle.fw_run.proofs.Turns.{each_of}
+
+pub first_numbers : HasNumbers first_state
+first_numbers = record { shows = λ d. tt; bus_manager_id = omega arith; asks = λ x waits. absurd (cc waits) }
+
+-- while no transaction waits
+numbers_of : (s u : State) → s.transaction ≡ None → u.transaction ≡ s.transaction → u.bus_manager_id < 2 ^ 32 → ((d : ℕ) → CurrentShows (u.controllers d).current) → HasNumbers u
+numbers_of s u none same low shows = record {
+  shows = shows;
+  bus_manager_id = low;
+  asks = λ x waits. absurd (let wrong : None ≡ Some x = sym (same ∙ none) ∙ waits in cc wrong);
+}
+
+-- one controller changes
+one_shows : (s : State) (d : ℕ) (c : ControllerState) → HasNumbers s → CurrentShows c.current → (k : ℕ) → CurrentShows (update s.controllers d c k).current
+one_shows s d c b new = each_of (λ x. CurrentShows x.current) s.controllers d c new b.shows
+
+-- ---- bus resets, devices and cables
+
+reset_numbers : (s : State) (n : Declared) (initiator : ℕ) (out : List Timed) (t : State) → HasNumbers s → s.transaction ≡ None → Resets (declaring s n) initiator out t → HasNumbers t
+reset_numbers s n initiator out t b none r =
+    let is = r.is_entry.epoch_is in
+    let few = r.few in
+    let low : r.entry.epoch < 2 ^ 32 = omega (arith, is, few) in
+    subst HasNumbers (sym r.state_is) (numbers_of s (after_reset_entry (declaring s n) r.entry) none refl (omega arith) (λ d. reset_shows r.entry.epoch (s.controllers d) low (b.shows d)))
+
+declare_numbers : (s : State) (names : List (List ℕ)) (n : Declared) (out : List Timed) (t : State) → HasNumbers s → s.transaction ≡ None → Declares names (declaring s n) out t → HasNumbers t
+declare_numbers s [] n out t b none r = reset_numbers s n 0 out t b none r
+declare_numbers s (x ∷ names) n out t b none r = subst HasNumbers (sym r.1) (numbers_of s (declaring s n) none refl b.bus_manager_id b.shows)
+
+join_numbers : (x y : Bool) (a b : ℕ) (s : State) (g : Topology) (out : List Timed) (t : State) → HasNumbers s → s.transaction ≡ None → Joins x y a b (with_topology s g) out t → HasNumbers t
+join_numbers true false a b s g out t h none r = reset_numbers s (record s.declared { topology = g }) a out t h none r
+join_numbers false true a b s g out t h none r = reset_numbers s (record s.declared { topology = g }) b out t h none r
+join_numbers true true a b s g out t h none r = subst HasNumbers (sym r.1) (numbers_of s (with_topology s g) none refl h.bus_manager_id h.shows)
+join_numbers false false a b s g out t h none r = subst HasNumbers (sym r.1) (numbers_of s (with_topology s g) none refl h.bus_manager_id h.shows)
+
+-- ---- half steps
+
+half_shows : (s : State) (d : ℕ) → IsGood s → HasNumbers s → IsTrue (is_living s d) → CurrentShows (half s d).controller.current
+half_shows s d g b lives = go (s.controllers d).current refl
+  where
+    Ok_ : Current → Type 0
+    Ok_ c = CurrentShows (half_of s d c).controller.current
+
+    rests : (c : Current) → (s.controllers d).current ≡ c → half_of s d c ≡ asks s d → Ok_ (s.controllers d).current
+    rests c e is = subst Ok_ (sym e) (subst (λ (h : Half). CurrentShows h.controller.current) (sym is) (next_shows s.clock.cycle (directory_of s) (s.controllers d) (g.reclaims.step.fits d) (b.shows d)))
+
+    go : (c : Current) → (s.controllers d).current ≡ c → Ok_ (s.controllers d).current
+    go Nothing e = rests Nothing e refl
+    go (Asking j stage) e = rests (Asking j stage) e refl
+    go (Overtaken i o) e = rests (Overtaken i o) e refl
+    go (Hearing j stage) e =
+        let x = heard_of s d j stage g lives e in
+        let h = half_hears s d j stage g e x in
+        let r = heard_fits s d j stage g b x in
+        let code = r.rcode in
+        subst (λ (y : Half). CurrentShows y.controller.current) (sym h.half_is)
+        (hears_shows (s.controllers d) (reply_heard s d j stage x) (g.reclaims.step.fits d).current (b.shows d) r.value (omega (arith, code)))
+
+half_numbers : (s : State) (d : ℕ) → IsGood s → HasNumbers s → s.transaction ≡ None → IsTrue (is_living s d) → HasNumbers (after_half s d)
+half_numbers s d g b none lives = numbers_of s (after_half s d) none refl b.bus_manager_id (one_shows s d (half s d).controller b (half_shows s d g b lives))
+
+-- ---- what controllers are asked for
+
+given_current : (r : Result ℕ StartFault) (slot : Slot) (c : ControllerState) → (given r slot c).current ≡ c.current
+given_current (Ok i) slot c = refl
+given_current (Err f) slot c = refl
+
+-- ---- transactions of the script
+
+-- what raw swaps store in BUS_MANAGER_ID is a quadlet
+id_below : (s : State) (x : Transaction) → HasNumbers s → bus_manager_id_after s x < 2 ^ 32
+id_below s x b = either (is_manager s.account.latest (target_node s x)) _ s.bus_manager_id (go x.access) b.bus_manager_id
+  where
+    either : (b : Bool) (k l : ℕ) → k < 2 ^ 32 → l < 2 ^ 32 → cond b k l < 2 ^ 32
+    either true k l f h = f
+    either false k l f h = h
+
+    go : (a : Access) → after_at 0xFFFF_F000_021C (access_request a) s.bus_manager_id < 2 ^ 32
+    go (Read offset) = either (first_address + offset == 0xFFFF_F000_021C) s.bus_manager_id s.bus_manager_id b.bus_manager_id b.bus_manager_id
+    go (Swap offset argument new) =
+        let stored : quadlet_at (to_be_bytes w32 argument ++ to_be_bytes w32 new) 4 < 2 ^ 32 = omega arith in
+        either (first_address + offset == 0xFFFF_F000_021C) _ s.bus_manager_id (either (s.bus_manager_id == quadlet_at (to_be_bytes w32 argument ++ to_be_bytes w32 new) 0) _ s.bus_manager_id stored b.bus_manager_id) b.bus_manager_id
+
+-- ---- each action
+
+-- where the controllers and BUS_MANAGER_ID stay
+same_numbers : (s u t : State) → HasNumbers s → s.transaction ≡ None → u.transaction ≡ s.transaction → u.bus_manager_id ≡ s.bus_manager_id → u.controllers ≡ s.controllers → t ≡ u → HasNumbers t
+same_numbers s u t b none x id controllers is = subst HasNumbers (sym is) (numbers_of s u none x (subst (λ k. k < 2 ^ 32) (sym id) b.bus_manager_id) (subst (λ (f : ℕ → ControllerState). (d : ℕ) → CurrentShows (f d).current) (sym controllers) b.shows))
+
+pub step_numbers : (s : State) (a : Action) (out : List Timed) (t : State) → IsGood s → HasNumbers s → Step s a out t → HasNumbers t
+step_numbers s (AddDevice name kind ports speed) out t g b x = declare_numbers s s.declared.names (with_device s.declared name kind ports speed) out t b x.0 x.1.4
+step_numbers s (AddCable p q) out t g b x = join_numbers (is_on s p.device) (is_on s q.device) p.device q.device s x.1.0 out t b x.0 x.1.2
+step_numbers s (ResetBus d) out t g b x = reset_numbers s s.declared d out t b x.0 x.1.1
+step_numbers s (StartConnection d w) out t g b x =
+    subst HasNumbers (sym x.1.4) (numbers_of s _ x.0 refl b.bus_manager_id
+    (one_shows s d (given (start_of d w (s.controllers d)) (slot_of w) (s.controllers d)) b (subst CurrentShows (sym (given_current (start_of d w (s.controllers d)) (slot_of w) (s.controllers d))) (b.shows d))))
+step_numbers s (StartBreak d i) out t g b x = subst HasNumbers (sym x.1.3) (numbers_of s _ x.0 refl b.bus_manager_id (one_shows s d (break_started (s.controllers d) i) b (subst CurrentShows (sym (break_current (s.controllers d) i x.1.1)) (b.shows d))))
+step_numbers s (HalfStep d) out t g b x = let h = half_numbers s d g b x.0 x.1.0 in subst HasNumbers (sym x.1.3) (numbers_of s _ x.0 refl h.bus_manager_id h.shows)
+step_numbers s (Rest n) out t g b x = same_numbers s _ t b x.0 refl refl refl x.1.3
+step_numbers s Unsettled out t g b x = same_numbers s _ t b x.0 refl refl refl x.1.2
+step_numbers s (Pass n) out t g b x = same_numbers s _ t b x.0 refl refl refl x.1.3
+step_numbers s EndSecond out t g b x = subst HasNumbers (sym x.1.4) (numbers_of s _ x.0 refl b.bus_manager_id b.shows)
+step_numbers s (Die d) out t g b x = subst HasNumbers (sym x.1.2) (numbers_of s _ x.0 refl b.bus_manager_id (one_shows s d new_controller b tt))
+step_numbers s (CarryOut d) out t g b x = subst HasNumbers (sym x.1.3) (half_numbers s d g b x.0 x.1.0)
+step_numbers s (Start d) out t g b x = subst HasNumbers (sym x.1.3) (numbers_of s _ x.0 refl b.bus_manager_id (one_shows s d new_controller b tt))
+step_numbers s (Ask y) out t g b x = subst HasNumbers (sym x.1.4) (record { shows = b.shows; bus_manager_id = b.bus_manager_id; asks = λ z waits. let same : y ≡ z = cc in subst (λ (w : Transaction). IsTrue (is_linked s w.to)) same x.1.1 })
+step_numbers s Answer out t g b x = subst HasNumbers (sym x.state_is) (record { shows = b.shows; bus_manager_id = id_below s x.transaction b; asks = λ z waits. absurd (cc waits) })
+step_numbers s (ShowWord d offset) out t g b x = subst HasNumbers (sym x.1.4) b
+step_numbers s Finish out t g b x = same_numbers s _ t b x.0 refl refl refl x.1.1

@@ -1,0 +1,50 @@
+-- A command has one answer.
+use Rattle.std.proofs.Common.{◌≡◌, ◌⊎◌, inl, inr, ℕ, ◌<◌, ◌≤◌, ◌==◌, cond, refl, ap, sym, ◌∙◌, arith}
+use Rattle.std.specs.Prelude.{Ok, Err}
+use Rattle.std.specs.declared.result.Result.{Result}
+use Rattle.std.proofs.lemmas.Bool.{cases_lt}
+use Rattle.fw_script.specs.declared.command.Command.{Command}
+use Rattle.fw_run.specs.declared.order.Order.{Order}
+use Rattle.fw_run.specs.declared.rule.RuleFault.{RuleFault}
+use Rattle.fw_run.specs.declared.rule.RuleFault.TheVariants.{UnknownName, NameTaken, TooMany, NoPort, PortUsed, Loop, NotController, Guarded, NoRegister, Limit, TableFull, Busy, NoSuchConnection, NotOwnPlug, OffBus, NotBuilt}
+use Rattle.fw_run.specs.State.{State}
+use Rattle.fw_run.specs.Rules.{rank, Decides}
+use Rattle.fw_run.proofs.OneLog.{one_order}
+
+-- the rule of a rank
+abbrev ranked : ℕ → RuleFault
+ranked n =
+    cond (n == 0) NotBuilt (cond (n == 1) UnknownName (cond (n == 2) NameTaken (cond (n == 3) TooMany (cond (n == 4) NoPort (cond (n == 5) PortUsed (cond (n == 6) Loop (cond (n == 7) NotController
+    (cond (n == 8) OffBus (cond (n == 9) NotOwnPlug (cond (n == 10) NoSuchConnection (cond (n == 11) TableFull (cond (n == 12) Busy (cond (n == 13) Guarded (cond (n == 14) NoRegister Limit))))))))))))))
+
+ranked_back : (f : RuleFault) → ranked (rank f) ≡ f
+ranked_back NotBuilt = refl
+ranked_back UnknownName = refl
+ranked_back NameTaken = refl
+ranked_back TooMany = refl
+ranked_back NoPort = refl
+ranked_back PortUsed = refl
+ranked_back Loop = refl
+ranked_back NotController = refl
+ranked_back OffBus = refl
+ranked_back NotOwnPlug = refl
+ranked_back NoSuchConnection = refl
+ranked_back TableFull = refl
+ranked_back Busy = refl
+ranked_back Guarded = refl
+ranked_back NoRegister = refl
+ranked_back Limit = refl
+
+same_rank : (f g : RuleFault) → rank f ≡ rank g → f ≡ g
+same_rank f g e = sym (ranked_back f) ∙ (ap ranked e ∙ ranked_back g)
+
+pub one_answer : (s : State) (c : Command) (r q : Result Order RuleFault) → Decides s c r → Decides s c q → r ≡ q
+one_answer s c (Ok o) (Ok p) f g = ap (λ x. Ok x) (one_order s c o p f.0 g.0)
+one_answer s c (Ok o) (Err k) f g = absurd (f.1 k g.0)
+one_answer s c (Err k) (Ok o) f g = absurd (g.1 k f.0)
+one_answer s c (Err k) (Err l) f g = ap (λ x. Err x) (go (cases_lt (rank k) (rank l)) (cases_lt (rank l) (rank k)))
+  where
+    go : (rank k < rank l) ⊎ (rank l ≤ rank k) → (rank l < rank k) ⊎ (rank k ≤ rank l) → k ≡ l
+    go (inl lt) either = absurd (g.1 k lt f.0)
+    go (inr le) (inl lt) = absurd (f.1 l lt g.0)
+    go (inr le) (inr ge) = same_rank k l (omega (arith, le, ge))

@@ -1,0 +1,37 @@
+-- Each action leads from a good state to a good state.
+use Rattle.std.proofs.Common.{List, [], ◌∷◌, None, Some, sym, subst, arith}
+use Rattle.fw_entry.specs.declared.entry.Timed.{Timed}
+use Rattle.fw_run.specs.State.{State}
+use Rattle.fw_run.specs.HalfSteps.{after_half}
+use Rattle.fw_run.specs.Actions.{Action, AddDevice, AddCable, ResetBus, StartConnection, StartBreak, HalfStep, Rest, Unsettled, Pass, EndSecond, Die, CarryOut, Start, Ask, Answer, ShowWord, Finish, Step, Steps}
+use Rattle.fw_run.specs.Spaces.{bus_manager_id_after}
+use Rattle.fw_run.specs.Good.{IsGood}
+use Rattle.fw_run.proofs.Cables.{cable_good, begun_good}
+use Rattle.fw_run.proofs.Declares.{declare_good}
+use Rattle.fw_run.proofs.Events.{start_good as connection_good, break_good, death_good}
+use Rattle.fw_run.proofs.HalfSteps.{half_good}
+use Rattle.fw_run.proofs.Others.{start_good, transaction_good, unsettled_good, finish_good}
+use Rattle.fw_run.proofs.Times.{pass_good, second_good, counted_good}
+
+pub step_good : (s : State) (a : Action) (out : List Timed) (t : State) → IsGood s → Step s a out t → IsGood t
+step_good s (AddDevice name kind ports speed) out t g x = declare_good s name kind ports speed out t (record { good = g; room = x.1.0; some = x.1.1; most = x.1.2; fast = x.1.3 }) x.1.4
+step_good s (AddCable a b) out t g x = cable_good s x.1.0 a b out t g x.1.1 x.1.2
+step_good s (ResetBus d) out t g x = begun_good s d out t g x.1.0 x.1.1
+step_good s (StartConnection d w) out t g x = subst IsGood (sym x.1.4) (connection_good s d x.1.2.0 w g x.1.0 x.1.1 x.1.2.1)
+step_good s (StartBreak d i) out t g x = subst IsGood (sym x.1.3) (break_good s d i g x.1.0 x.1.1)
+step_good s (HalfStep d) out t g x = subst IsGood (sym x.1.3) (counted_good (after_half s d) 1 (half_good s d g x.1.0) (omega (arith, x.1.1)))
+step_good s (Rest n) out t g x = subst IsGood (sym x.1.3) (counted_good s n g x.1.1)
+step_good s Unsettled out t g x = subst IsGood (sym x.1.2) (unsettled_good s g)
+step_good s (Pass n) out t g x = subst IsGood (sym x.1.3) (pass_good s n g x.1.0 x.1.1)
+step_good s EndSecond out t g x = subst IsGood (sym x.1.4) (second_good s g x.1.1 x.1.0)
+step_good s (Die d) out t g x = subst IsGood (sym x.1.2) (death_good s d g x.1.0)
+step_good s (CarryOut d) out t g x = subst IsGood (sym x.1.3) (half_good s d g x.1.0)
+step_good s (Start d) out t g x = subst IsGood (sym x.1.3) (start_good s d g x.1.1)
+step_good s (Ask y) out t g x = subst IsGood (sym x.1.4) (transaction_good s (Some y) s.bus_manager_id g)
+step_good s Answer out t g x = subst IsGood (sym x.state_is) (transaction_good s None (bus_manager_id_after s x.transaction) g)
+step_good s (ShowWord d offset) out t g x = subst IsGood (sym x.1.4) g
+step_good s Finish out t g x = subst IsGood (sym x.1.1) (finish_good s g)
+
+pub steps_good : (s t : State) (xs : List Action) (out : List Timed) → IsGood s → Steps s xs out t → IsGood t
+steps_good s t [] out g f = subst IsGood (sym f.1) g
+steps_good s t (x ∷ xs) out g f = steps_good f.2 t xs f.1 (step_good s x f.0 f.2 g f.3) f.5

@@ -1,0 +1,69 @@
+-- Enough rounds, in a script: each `settle` of it has a state that it is given in.
+use Rattle.std.proofs.Common.{◌≡◌, ◌⊎◌, inl, inr, List, [], ◌∷◌, ◌++◌, refl, ap, sym, subst, ◌∙◌, append_assoc}
+use Rattle.fw_entry.specs.declared.entry.Timed.{Timed}
+use Rattle.fw_script.specs.declared.command.Command.{Command}
+use Rattle.fw_script.specs.declared.command.Command.TheVariants as Commands
+use Rattle.fw_run.specs.declared.order.Order.TheVariants.{Settle}
+use Rattle.fw_run.specs.State.{State}
+use Rattle.fw_run.specs.Actions.{Action}
+use Rattle.fw_run.specs.Carrying.{Carries}
+use Rattle.fw_run.specs.Runs.{Run, begun, and_then}
+use Rattle.fw_run.specs.Settling.{RoundsSuffice}
+use Rattle.fw_run.proofs.OneLog.{Last, last_of, snoc_same}
+use Rattle.fw_run.proofs.Settling.{enough}
+
+-- ---- lists
+
+-- a list is empty, or has a last element
+last_element : {T : Type 0} (xs : List T) → (xs ≡ []) ⊎ ((front : List T) × (x : T) × (xs ≡ front ++ x ∷ []))
+last_element {T} [] = inl refl
+last_element {T} (y ∷ ys) = go (last_element ys)
+  where
+    go : (ys ≡ []) ⊎ ((front : List T) × (x : T) × (ys ≡ front ++ x ∷ [])) → (y ∷ ys ≡ []) ⊎ ((front : List T) × (x : T) × (y ∷ ys ≡ front ++ x ∷ []))
+    go (inl none) = inr ([], y, ap (λ z. y ∷ z) none)
+    go (inr w) = inr (y ∷ w.0, w.1, ap (λ z. y ∷ z) w.2)
+
+no_middle : {T : Type 0} (xs ys : List T) (x : T) → [] ≡ xs ++ x ∷ ys → ⊥
+no_middle [] ys x e = cc e
+no_middle (z ∷ xs) ys x e = cc e
+
+-- ---- a command inside a script
+
+-- the run of the commands up to it, of which it is the last
+abbrev pub Reached : List Command → Command → Type 0
+Reached front c = (actions : List Action) × (log : List Timed) × (t : State) × Last front c actions log t
+
+-- each command of a script has the run of the commands before it, its order, and what that order does
+pub run_at : (all front later : List Command) (c : Command) (actions : List Action) (log : List Timed) (t : State) → Run all actions log t
+    → all ≡ front ++ c ∷ later → Reached front c
+run_at all front later c actions log t begun e = absurd (no_middle front later c e)
+run_at all front later c actions log t (and_then {commands = cs} {actions = xs} {log = wrote} {s = mid} r d o more out u decided f) e =
+    go (last_element later) (λ init is. run_at cs front init c xs wrote mid r is)
+  where
+    go : (later ≡ []) ⊎ ((init : List Command) × (x : Command) × (later ≡ init ++ x ∷ []))
+        → ((init : List Command) → cs ≡ front ++ c ∷ init → Reached front c) → Reached front c
+    go (inl none) before = (actions, log, t, last_of all front c actions log t (and_then r d o more out u decided f) (e ∙ ap (λ z. front ++ c ∷ z) none))
+    go (inr w) before =
+        let is : cs ++ d ∷ [] ≡ (front ++ c ∷ w.0) ++ w.1 ∷ [] = e ∙ (ap (λ z. front ++ c ∷ z) w.2 ∙ sym (append_assoc front (c ∷ w.0) (w.1 ∷ []))) in
+        before w.0 (snoc_same cs (front ++ c ∷ w.0) d w.1 is).0
+
+-- ---- enough rounds
+
+-- a `settle` of a script takes its rounds from there, and they are enough
+pub rounds_suffice : (commands : List Command) (actions : List Action) (log : List Timed) (s : State) → Run commands actions log s → RoundsSuffice commands
+rounds_suffice commands actions log s run front later rounds is =
+    let x = run_at commands front later (Commands.Settle rounds) actions log s run is in
+    let w = x.3 in
+    let carries : Carries w.state (Settle rounds) w.more w.out x.2 = subst (λ o. Carries w.state o w.more w.out x.2) w.decided.0 w.carries in
+    record {
+      actions = w.early;
+      log = w.front;
+      before = w.state;
+      run = w.run;
+      more = w.more;
+      out = w.out;
+      after = x.2;
+      carries = carries;
+      whole = and_then w.run (Commands.Settle rounds) w.order w.more w.out x.2 w.decided w.carries;
+      enough = λ begins many. enough w.state x.2 rounds w.more w.out begins many carries;
+    }

@@ -1,0 +1,74 @@
+-- What lets time pass leads from a good state to a good state, and so does what writes an event alone.
+use Rattle.std.proofs.Common.{◌≡◌, ℕ, ◌+◌, ◌<◌, ◌≤◌, ◌^◌, cond, Option, Some, None, refl, ap, sym, subst, arith, unwrap_or, IsTrue}
+use Rattle.fw_entry.specs.declared.entry.ResetEntry.{ResetEntry}
+use Rattle.fw_ledger.specs.Account.{Account}
+use Rattle.fw_ledger.specs.Events.{after_second as account_second}
+use Rattle.fw_tree.specs.Topology as Topologies
+use Rattle.fw_cmp.specs.Resets.{after_second as controller_second}
+use Rattle.fw_reclaim.specs.Worlds.{SecondOver}
+use Rattle.fw_reclaim.proofs.Together.{first_reclaims, goes_on_reclaiming}
+use Rattle.fw_run.specs.Entries.{second_over}
+use Rattle.fw_run.specs.State.{State, first_state, entered, directory_of}
+use Rattle.fw_run.specs.Actions.{after_cycles, after_second, counted}
+use Rattle.fw_run.specs.Good.{IsGood, IsLatest, world_of}
+
+-- ---- before the first device
+
+pub first_good : IsGood first_state
+first_good = record {
+  declared = record { made = Topologies.empty refl; kinds = record { size = refl; link = λ d lt. absurd (grind arith); contender = λ d lt. absurd (grind arith) }; named = refl };
+  latest = (refl, refl);
+  reclaims = first_reclaims (directory_of first_state);
+  stands = λ d. tt;
+  unused = λ d off. refl;
+  time = record { second = λ runs. absurd (grind arith); over_at = omega arith; cycle = omega arith };
+  half_steps = omega arith;
+}
+
+-- ---- half steps that do nothing
+
+pub counted_good : (s : State) (n : ℕ) → IsGood s → s.half_steps + n ≤ 4000000 → IsGood (counted s n)
+counted_good s n g few = record { declared = g.declared; latest = latest_ s.account.latest g.latest; reclaims = g.reclaims; stands = g.stands; unused = g.unused; time = record { second = g.time.second; over_at = g.time.over_at; cycle = g.time.cycle }; half_steps = few }
+  where
+    latest_ : (o : Option ResetEntry) → IsLatest o s → IsLatest o (counted s n)
+    latest_ None h = h
+    latest_ (Some e) h = h
+
+-- ---- cycles
+
+pub pass_good : (s : State) (n : ℕ) → IsGood s → s.clock.cycle + n ≤ 2 ^ 52 → (IsTrue s.account.reclaiming → s.clock.cycle + n < s.clock.over_at) → IsGood (after_cycles s n)
+pass_good s n g small second = record { declared = g.declared; latest = latest_ s.account.latest g.latest; reclaims = g.reclaims; stands = g.stands; unused = g.unused; time = record { second = second; over_at = omega (arith, g.time.over_at); cycle = small }; half_steps = g.half_steps }
+  where
+    latest_ : (o : Option ResetEntry) → IsLatest o s → IsLatest o (after_cycles s n)
+    latest_ None h = h
+    latest_ (Some e) h = h
+
+-- ---- the end of the second
+
+-- the state after it, with this account
+abbrev over : State → Account → State
+over s l = after_cycles (record s { account = l; controllers = λ d. controller_second (s.controllers d) }) 1
+
+pub second_ends : (l : Account) → IsTrue l.reclaiming → entered l second_over ≡ account_second l
+second_ends l runs = ap (λ b. unwrap_or (cond b (Some (account_second l)) None) l) runs
+
+over_good : (s : State) → IsGood s → s.clock.cycle + 1 ≤ 2 ^ 52 → IsGood (over s (account_second s.account))
+over_good s g small = record {
+  declared = g.declared;
+  latest = latest_ s.account.latest refl g.latest;
+  reclaims = goes_on_reclaiming (world_of s) (world_of t) SecondOver g.reclaims (record { account = refl; each = λ d. refl; directory = refl });
+  stands = g.stands;
+  unused = λ d off. ap controller_second (g.unused d off);
+  time = record { second = λ runs. absurd (grind arith); over_at = omega (arith, g.time.over_at); cycle = small };
+  half_steps = g.half_steps;
+}
+  where
+    t : State
+    t = over s (account_second s.account)
+
+    latest_ : (o : Option ResetEntry) → s.account.latest ≡ o → IsLatest o s → IsLatest o t
+    latest_ None e h = (h.0, ap account_second h.1)
+    latest_ (Some r) e h = h
+
+pub second_good : (s : State) → IsGood s → IsTrue s.account.reclaiming → s.clock.cycle + 1 ≤ 2 ^ 52 → IsGood (after_cycles (after_second s) 1)
+second_good s g runs small = subst (λ l. IsGood (over s l)) (sym (second_ends s.account runs)) (over_good s g small)

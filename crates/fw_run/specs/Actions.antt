@@ -1,0 +1,188 @@
+-- Actions: what commands do, each of which writes one entry at most.
+use Rattle.std.specs.Prelude.{ℕ, ◌≡◌, ◌+◌, ◌^◌, ◌<◌, ◌≤◌, List, [], ◌∷◌, ◌++◌, length, Bool, true, false, Some, None, Ok, is_some, if◌then◌else◌, IsTrue, IsFalse}
+use Rattle.std.specs.declared.result.Result.{Result}
+use Rattle.fw_base.specs.declared.device.DeviceKind.{DeviceKind}
+use Rattle.fw_base.specs.Tables.{update}
+use Rattle.fw_async.specs.declared.packet.Packet.{Packet}
+use Rattle.fw_entry.specs.declared.entry.Timed.{Timed}
+use Rattle.fw_entry.specs.declared.entry.Entry.TheVariants.{Reset, Async, End as EndEntry}
+use Rattle.fw_entry.specs.declared.entry.ResetEntry.{ResetEntry}
+use Rattle.fw_tree.specs.declared.facts.End.{End}
+use Rattle.fw_tree.specs.Topology.{Topology, IsJoined}
+use Rattle.fw_devices.specs.Entries.{IsResetEntry}
+use Rattle.fw_cmp.specs.declared.connection.Slot.{Slot}
+use Rattle.fw_cmp.specs.declared.outcome.StartFault.{StartFault}
+use Rattle.fw_cmp.specs.Controllers.{ControllerState, first_state as new_controller}
+use Rattle.fw_cmp.specs.Fits.{SlotFits}
+use Rattle.fw_cmp.specs.Resets.{after_reset as controller_reset, after_second as controller_second}
+use Rattle.fw_cmp.specs.Starts.{start, start_own, started as given, connect_slot, broadcast_slot, listen_slot, break_fault, break_started}
+use Rattle.fw_run.specs.declared.order.Access.{Access}
+use Rattle.fw_run.specs.declared.order.Access.TheVariants.{Read, Swap}
+use Rattle.fw_run.specs.declared.order.Transaction.{Transaction}
+use Rattle.fw_run.specs.declared.order.Wanted.{Wanted}
+use Rattle.fw_run.specs.declared.order.Wanted.TheVariants.{PlugToPlug, BroadcastOut, BroadcastIn}
+use Rattle.fw_run.specs.Giving.{at_most}
+use Rattle.fw_run.specs.Entries.{second_over, died, started, unsettled, shown_entry}
+use Rattle.fw_run.specs.State.{State, with_device, entered, epoch_of, is_on, is_linked, is_living}
+use Rattle.fw_node.specs.Packets.{packet_of}
+use Rattle.fw_run.specs.Spaces.{answer_packet, transaction_head, target_node, access_request, read_at, bus_manager_id_after}
+use Rattle.fw_run.specs.HalfSteps.{half, has_request, with_controller, after_half, is_unsettled}
+
+pub data Action : Type 0 where
+  AddDevice : (name : List ℕ) → (kind : DeviceKind) → (ports speed : ℕ) → Action
+  AddCable : (a b : End) → Action
+  ResetBus : (device : ℕ) → Action
+  StartConnection : (device : ℕ) → (wanted : Wanted) → Action
+  StartBreak : (device slot : ℕ) → Action
+  HalfStep : (device : ℕ) → Action
+  Rest : (count : ℕ) → Action  -- so many half steps of controllers of which none has anything to do
+  Unsettled : Action
+  Pass : (cycles : ℕ) → Action  -- cycles go by, in which nothing happens
+  EndSecond : Action  -- one cycle goes by, and the second of the latest bus reset is over
+  Die : (device : ℕ) → Action
+  CarryOut : (device : ℕ) → Action  -- the standing request of a controller that is about to die is carried out
+  Start : (device : ℕ) → Action
+  Ask : (transaction : Transaction) → Action
+  Answer : Action
+  ShowWord : (device offset : ℕ) → Action
+  Finish : Action
+
+-- ---- bus resets
+
+-- The state after a bus reset: the manager's registers are as at first, the second begins, but for the first bus reset, before which
+-- nothing can have been connected (own), and each controller hears of it.
+abbrev pub after_reset_entry : State → ResetEntry → State
+after_reset_entry s e = record s {
+  clock = record { cycle = s.clock.cycle; over_at = if is_some s.account.latest then s.clock.cycle + 8000 else s.clock.cycle };
+  account = entered s.account (Reset e);
+  bus_manager_id = 0x3F;
+  controllers = λ d. controller_reset e.epoch (s.controllers d);
+}
+
+-- A device on the bus begins a bus reset, of which there are at most 10,000.
+pub record Resets (s : State) (initiator : ℕ) (out : List Timed) (t : State) : Type 0 where
+  pub entry : ResetEntry
+  pub is_entry : IsResetEntry s.declared.topology s.declared.kinds (epoch_of s.account.latest + 1) initiator entry
+  pub few : epoch_of s.account.latest < 10000
+  pub out_is : out ≡ at_most s.clock.cycle (Some (Reset entry))
+  pub state_is : t ≡ after_reset_entry s entry
+
+-- the first device begins the first bus reset
+abbrev pub Declares : List (List ℕ) → State → List Timed → State → Type 0
+Declares [] s out t = Resets s 0 out t
+Declares (x ∷ names) s out t = (out ≡ []) × (t ≡ s)
+
+-- where a cable joins a device that is off to the bus, the end that was on the bus begins a bus reset (own)
+abbrev pub Joins : Bool → Bool → ℕ → ℕ → State → List Timed → State → Type 0
+Joins true false a b s out t = Resets s a out t
+Joins false true a b s out t = Resets s b out t
+Joins true true a b s out t = (out ≡ []) × (t ≡ s)
+Joins false false a b s out t = (out ≡ []) × (t ≡ s)
+
+abbrev pub with_topology : State → Topology → State
+with_topology s g = record s { declared = record s.declared { topology = g } }
+
+-- ---- what controllers are asked for
+
+-- what the slot of a new connection holds
+abbrev pub slot_of : Wanted → Slot
+slot_of (PlugToPlug out into channel overhead) = connect_slot out into channel overhead
+slot_of (BroadcastOut out overhead) = broadcast_slot out overhead
+slot_of (BroadcastIn into) = listen_slot into
+
+-- the slot that the controller of device d gives it, or why it refuses
+abbrev pub start_of : ℕ → Wanted → ControllerState → Result ℕ StartFault
+start_of d (PlugToPlug out into channel overhead) c = start c
+start_of d (BroadcastOut out overhead) c = start_own d out c
+start_of d (BroadcastIn into) c = start_own d into c
+
+-- the state after a new connection was asked for
+abbrev pub with_connection : State → ℕ → Wanted → State
+with_connection s d w = with_controller s d (given (start_of d w (s.controllers d)) (slot_of w) (s.controllers d))
+
+-- ---- deaths
+
+-- the controller of device d has just started
+abbrev pub with_new_controller : State → ℕ → Bool → State
+with_new_controller s d is_dead = record s { controllers = update s.controllers d new_controller; dead = update s.dead d is_dead }
+
+abbrev pub after_death : State → ℕ → State
+after_death s d = record (with_new_controller s d true) { account = entered s.account (died d) }
+
+abbrev pub after_start : State → ℕ → State
+after_start s d = record (with_new_controller s d false) { account = entered s.account (started d) }
+
+-- ---- time
+
+-- cycles go by
+abbrev pub after_cycles : State → ℕ → State
+after_cycles s n = record s { clock = record s.clock { cycle = s.clock.cycle + n } }
+
+-- the second is over, and each controller hears of it
+abbrev pub after_second : State → State
+after_second s = record s { account = entered s.account second_over; controllers = λ d. controller_second (s.controllers d) }
+
+-- half steps more were given
+abbrev pub counted : State → ℕ → State
+counted s n = record s { half_steps = s.half_steps + n }
+
+-- ---- actions
+
+-- an access that may be written
+abbrev pub AccessFits : Access → Type 0
+AccessFits (Read offset) = offset < 2 ^ 12
+AccessFits (Swap offset argument new) = (offset < 2 ^ 12) × (argument < 2 ^ 32) × (new < 2 ^ 32)
+
+-- One action while no transaction of the script waits for its answer: what it writes, and the state after it. While the second of
+-- the latest bus reset runs its end has not come yet, so in each state it is not over.
+abbrev pub Happens : State → Action → List Timed → State → Type 0
+Happens s (AddDevice name kind ports speed) out t =
+    (length s.declared.names < 63) × (1 ≤ ports) × (ports ≤ 27) × (speed ≤ 2)
+    × Declares s.declared.names (record s { declared = with_device s.declared name kind ports speed }) out t
+Happens s (AddCable a b) out t =
+    (g : Topology) × IsJoined s.declared.topology g a b × Joins (is_on s a.device) (is_on s b.device) a.device b.device (with_topology s g) out t
+Happens s (ResetBus d) out t = IsTrue (is_on s d) × Resets s d out t
+Happens s (StartConnection d w) out t =
+    IsTrue (is_living s d) × SlotFits (slot_of w) × ((i : ℕ) × (start_of d w (s.controllers d) ≡ Ok i)) × (out ≡ []) × (t ≡ with_connection s d w)
+Happens s (StartBreak d i) out t =
+    IsTrue (is_living s d) × (break_fault (s.controllers d) i ≡ None) × (out ≡ []) × (t ≡ with_controller s d (break_started (s.controllers d) i))
+Happens s (HalfStep d) out t =
+    IsTrue (is_living s d) × (s.half_steps < 4000000) × (out ≡ at_most s.clock.cycle (half s d).says) × (t ≡ counted (after_half s d) 1)
+Happens s (Rest n) out t = IsFalse (is_unsettled s) × (s.half_steps + n ≤ 4000000) × (out ≡ []) × (t ≡ counted s n)
+Happens s Unsettled out t = IsTrue (is_unsettled s) × (out ≡ at_most s.clock.cycle (Some unsettled)) × (t ≡ record s { account = entered s.account unsettled })
+Happens s (Pass n) out t =
+    (s.clock.cycle + n ≤ 2 ^ 52) × (IsTrue s.account.reclaiming → s.clock.cycle + n < s.clock.over_at) × (out ≡ []) × (t ≡ after_cycles s n)
+Happens s EndSecond out t =
+    (s.clock.cycle + 1 ≤ 2 ^ 52) × IsTrue s.account.reclaiming × (s.clock.cycle + 1 ≡ s.clock.over_at)
+    × (out ≡ at_most (s.clock.cycle + 1) (Some second_over)) × (t ≡ after_cycles (after_second s) 1)
+Happens s (Die d) out t = IsTrue (is_living s d) × (out ≡ at_most s.clock.cycle (Some (died d))) × (t ≡ after_death s d)
+Happens s (CarryOut d) out t =
+    IsTrue (is_living s d) × IsTrue (has_request (s.controllers d).current) × (out ≡ at_most s.clock.cycle (half s d).says) × (t ≡ after_half s d)
+Happens s (Start d) out t = IsTrue (is_linked s d) × IsTrue (s.dead d) × (out ≡ at_most s.clock.cycle (Some (started d))) × (t ≡ after_start s d)
+Happens s (Ask x) out t =
+    IsTrue (is_living s x.from) × IsTrue (is_linked s x.to) × AccessFits x.access
+    × (out ≡ at_most s.clock.cycle (Some (Async (packet_of (transaction_head s x) (access_request x.access))))) × (t ≡ record s { transaction = Some x })
+Happens s Answer out t = ⊥
+Happens s (ShowWord d offset) out t =
+    IsTrue (is_linked s d) × (offset < 2 ^ 12) × ((read_at s d offset).rcode ≡ 0)
+    × (out ≡ at_most s.clock.cycle (Some (shown_entry d offset (read_at s d offset).value))) × (t ≡ s)
+Happens s Finish out t = (out ≡ at_most s.clock.cycle (Some EndEntry)) × (t ≡ record s { account = entered s.account EndEntry })
+
+-- the node that a transaction of the script asked answers it
+pub record Answers (s : State) (out : List Timed) (t : State) : Type 0 where
+  pub transaction : Transaction
+  pub waits : s.transaction ≡ Some transaction
+  pub response : Packet
+  pub answered : answer_packet s (target_node s transaction) (transaction_head s transaction) (access_request transaction.access) ≡ Some response
+  pub out_is : out ≡ at_most s.clock.cycle (Some (Async response))
+  pub state_is : t ≡ record s { transaction = None; bus_manager_id = bus_manager_id_after s transaction }
+
+-- One action. A transaction of the script is answered before anything else happens.
+abbrev pub Step : State → Action → List Timed → State → Type 0
+Step s Answer out t = Answers s out t
+Step s a out t = (s.transaction ≡ None) × Happens s a out t
+
+-- actions one after another
+abbrev pub Steps : State → List Action → List Timed → State → Type 0
+Steps s [] out t = (out ≡ []) × (t ≡ s)
+Steps s (a ∷ actions) out t = (first rest : List Timed) × (mid : State) × Step s a first mid × (out ≡ first ++ rest) × Steps mid actions rest t

@@ -1,0 +1,67 @@
+-- What a command that breaks no rule does: its actions, all that they write, and the state that they lead to.
+use Rattle.std.specs.Prelude.{ℕ, zero, suc, ◌≡◌, ◌+◌, ◌*◌, List, [], ◌∷◌, ◌++◌, length, map, true, false, IsFalse}
+use Rattle.fw_base.specs.declared.device.DeviceKind.{DeviceKind}
+use Rattle.fw_entry.specs.declared.entry.Timed.{Timed}
+use Rattle.fw_tree.specs.declared.facts.End.{End}
+use Rattle.fw_run.specs.declared.order.Transaction.{Transaction}
+use Rattle.fw_run.specs.declared.order.Wanted.{Wanted}
+use Rattle.fw_run.specs.declared.order.Order.{Order}
+use Rattle.fw_run.specs.declared.order.Order.TheVariants as Orders
+use Rattle.fw_run.specs.State.{State, living}
+use Rattle.fw_run.specs.HalfSteps.{has_request, is_unsettled}
+use Rattle.fw_run.specs.Actions.{Action, AddDevice, AddCable, ResetBus, StartConnection, StartBreak, HalfStep, Rest, Unsettled, Pass, EndSecond, Steps}
+use Rattle.fw_run.specs.Actions.{Die, CarryOut, Start, Ask, Answer, ShowWord, Finish}
+
+-- the same action so many times
+unfoldable pub times : ℕ → Action → List Action
+times zero a = []
+times (suc n) a = times n a ++ a ∷ []
+
+-- one half step of each of these controllers
+abbrev pub half_steps_of : List ℕ → List Action
+half_steps_of ds = map HalfStep ds
+
+-- So many rounds, in each of which every living controller, in order of declaration, takes one half step. Where none of them has
+-- anything to do, all further rounds do nothing, and they may be taken at once.
+pub data Rounds : ℕ → State → List Action → List Timed → State → Type 0 where
+  none : {s : State} → Rounds 0 s [] [] s
+  round : {n : ℕ} {s t : State} → (m : State) → (actions : List Action) → (first rest : List Timed)
+      → Steps s (half_steps_of (living s)) first m → Rounds n m actions rest t
+      → Rounds (suc n) s (half_steps_of (living s) ++ actions) (first ++ rest) t
+  rest : {n : ℕ} {s t : State} {out : List Timed} → Steps s (Rest (n * length (living s)) ∷ []) out t → Rounds n s (Rest (n * length (living s)) ∷ []) out t
+
+-- A constructor an order, and two where the state decides.
+pub data Carries : State → Order → List Action → List Timed → State → Type 0 where
+  declares : {s t : State} {name : List ℕ} {kind : DeviceKind} {ports speed : ℕ} {out : List Timed}
+      → Steps s (AddDevice name kind ports speed ∷ []) out t → Carries s (Orders.Declare name kind ports speed) (AddDevice name kind ports speed ∷ []) out t
+  joins : {s t : State} {a b : End} {out : List Timed} → Steps s (AddCable a b ∷ []) out t → Carries s (Orders.Cable a b) (AddCable a b ∷ []) out t
+  resets : {s t : State} {d : ℕ} {out : List Timed} → Steps s (ResetBus d ∷ []) out t → Carries s (Orders.Reset d) (ResetBus d ∷ []) out t
+  connects : {s t : State} {d : ℕ} {w : Wanted} {out : List Timed}
+      → Steps s (StartConnection d w ∷ []) out t → Carries s (Orders.Connect d w) (StartConnection d w ∷ []) out t
+  breaks : {s t : State} {d i : ℕ} {out : List Timed} → Steps s (StartBreak d i ∷ []) out t → Carries s (Orders.Break d i) (StartBreak d i ∷ []) out t
+  steps : {s t : State} {d count : ℕ} {out : List Timed}
+      → Steps s (times count (HalfStep d)) out t → Carries s (Orders.Step d count) (times count (HalfStep d)) out t
+  -- the event is written by the state after the rounds
+  settled : {s t : State} {n : ℕ} {actions : List Action} {out : List Timed}
+      → Rounds n s actions out t → IsFalse (is_unsettled t) → Carries s (Orders.Settle n) actions out t
+  unsettled : {s t : State} {n : ℕ} → (m : State) → (actions : List Action) → (out last : List Timed)
+      → Rounds n s actions out m → Steps m (Unsettled ∷ []) last t → Carries s (Orders.Settle n) (actions ++ Unsettled ∷ []) (out ++ last) t
+  -- where the second is over on the way, its end comes at its own cycle
+  waits : {s t : State} {n : ℕ} {out : List Timed} → Steps s (Pass n ∷ []) out t → Carries s (Orders.Wait n) (Pass n ∷ []) out t
+  waits_over : {s t : State} {n before after : ℕ} {out : List Timed}
+      → n ≡ before + 1 + after → Steps s (Pass before ∷ EndSecond ∷ Pass after ∷ []) out t
+      → Carries s (Orders.Wait n) (Pass before ∷ EndSecond ∷ Pass after ∷ []) out t
+  -- `late` has the request carried out that stands
+  dies : {s t : State} {d : ℕ} {out : List Timed} → Steps s (Die d ∷ []) out t → Carries s (Orders.Die d false) (Die d ∷ []) out t
+  dies_late : {s t : State} {d : ℕ} {out : List Timed}
+      → Steps s (CarryOut d ∷ Die d ∷ []) out t → Carries s (Orders.Die d true) (CarryOut d ∷ Die d ∷ []) out t
+  dies_idle : {s t : State} {d : ℕ} {out : List Timed}
+      → IsFalse (has_request (s.controllers d).current) → Steps s (Die d ∷ []) out t → Carries s (Orders.Die d true) (Die d ∷ []) out t
+  -- a living controller goes on
+  starts : {s t : State} {d : ℕ} {out : List Timed} → Steps s (Start d ∷ []) out t → Carries s (Orders.Start d) (Start d ∷ []) out t
+  goes_on : {s : State} {d : ℕ} → IsFalse (s.dead d) → Carries s (Orders.Start d) [] [] s
+  transacts : {s t : State} {x : Transaction} {out : List Timed}
+      → Steps s (Ask x ∷ Answer ∷ []) out t → Carries s (Orders.Transact x) (Ask x ∷ Answer ∷ []) out t
+  shows : {s t : State} {d offset : ℕ} {out : List Timed}
+      → Steps s (ShowWord d offset ∷ []) out t → Carries s (Orders.Show d offset) (ShowWord d offset ∷ []) out t
+  ends : {s t : State} {out : List Timed} → Steps s (Finish ∷ []) out t → Carries s Orders.End (Finish ∷ []) out t

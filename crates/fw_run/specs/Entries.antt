@@ -1,0 +1,55 @@
+-- The entries of events and of outcomes.
+use Rattle.std.specs.Prelude.{ℕ, ◌%◌, ◌^◌}
+use Rattle.fw_entry.specs.declared.codes.TheConstants.{NO_DEVICE}
+use Rattle.fw_entry.specs.declared.codes.event.TheConstants.{SECOND_OVER, DIED, STARTED, UNSETTLED}
+use Rattle.fw_entry.specs.declared.codes.outcome.TheConstants as Codes
+use Rattle.fw_entry.specs.declared.entry.Entry.{Entry}
+use Rattle.fw_entry.specs.declared.entry.Entry.TheVariants.{Event, Outcome as OutcomeOf, Shown}
+use Rattle.fw_cmp.specs.declared.outcome.Outcome.{Outcome}
+use Rattle.fw_cmp.specs.declared.outcome.Outcome.TheVariants.{Connected, Broken, Restored, NoChannel, NoUnits, PlugFull, InputBusy}
+use Rattle.fw_cmp.specs.declared.outcome.Outcome.TheVariants.{NoPlug, NoManager, Absent, Reset, Late}
+
+-- ---- events
+
+abbrev pub event_of : ℕ → ℕ → Entry
+event_of code device = Event (record { code = code; device = device; tape = 0; system = 0 })
+
+-- the second of the latest bus reset is over
+abbrev pub second_over : Entry
+second_over = event_of SECOND_OVER NO_DEVICE
+
+abbrev pub died : ℕ → Entry
+died d = event_of DIED d
+
+abbrev pub started : ℕ → Entry
+started d = event_of STARTED d
+
+-- a living controller has something to do, or waits for an answer
+abbrev pub unsettled : Entry
+unsettled = event_of UNSETTLED NO_DEVICE
+
+-- ---- outcomes
+
+-- the code and the value; a cycle is its low 32 bits
+abbrev pub coded : Outcome → ℕ × ℕ
+coded (Connected channel) = (Codes.CONNECTED, channel)
+coded Broken = (Codes.BROKEN, 0)
+coded (Restored channel) = (Codes.RESTORED, channel)
+coded (NoChannel word) = (Codes.NO_CHANNEL, word)
+coded (NoUnits remainder) = (Codes.NO_UNITS, remainder)
+coded (PlugFull word) = (Codes.PLUG_FULL, word)
+coded (InputBusy word) = (Codes.INPUT_BUSY, word)
+coded (NoPlug rcode) = (Codes.NO_PLUG, rcode)
+coded NoManager = (Codes.NO_MANAGER, 0)
+coded (Absent device) = (Codes.ABSENT, device)
+coded (Reset epoch) = (Codes.RESET, epoch)
+coded (Late cycle) = (Codes.LATE, cycle % 2 ^ 32)
+
+-- the job of a slot of device d ends so
+abbrev pub outcome_entry : ℕ → ℕ → Outcome → Entry
+outcome_entry d slot o = OutcomeOf (record { code = (coded o).0; device = d; slot = slot; value = (coded o).1 })
+
+-- ---- shown words
+
+abbrev pub shown_entry : ℕ → ℕ → ℕ → Entry
+shown_entry d offset word = Shown (record { device = d; offset = offset; word = word })

@@ -1,0 +1,56 @@
+-- Enough rounds, over a run: after them no connection is to be restored.
+use Rattle.std.specs.Prelude.{ℕ, ◌≡◌, ◌+◌, ◌*◌, ◌≤◌, List, [], ◌∷◌, ◌++◌, None, IsTrue, IsFalse}
+use Rattle.fw_entry.specs.declared.entry.Timed.{Timed}
+use Rattle.fw_script.specs.declared.command.Command.{Command}
+use Rattle.fw_script.specs.declared.command.Command.TheVariants as Commands
+use Rattle.fw_cmp.specs.Controllers.{slot_at, is_restoring}
+use Rattle.fw_cmp.specs.Turns.{waiting_break}
+use Rattle.fw_rounds.specs.Accounts.{situation_of}
+use Rattle.fw_rounds.specs.Rounds.{connections_to_restore}
+use Rattle.fw_run.specs.declared.order.Order.TheVariants.{Settle}
+use Rattle.fw_run.specs.State.{State, first_state}
+use Rattle.fw_run.specs.Actions.{Action, Steps}
+use Rattle.fw_run.specs.Carrying.{Carries}
+use Rattle.fw_run.specs.Runs.{Run}
+use Rattle.fw_run.specs.Reclaiming.{IsBusReset}
+
+-- the connections that controllers have to restore
+abbrev pub to_restore : State → ℕ
+to_restore s = connections_to_restore (situation_of s.account s.controllers)
+
+-- a run up to a bus reset that begins a reclaim second, at which no break waits
+pub record BeginsSecond (s : State) : Type 0 where
+  pub actions : List Action
+  pub log : List Timed
+  pub before : State
+  pub run : Steps first_state actions log before
+  pub reset : Action
+  pub resets : IsBusReset before reset s
+  pub second : IsTrue s.account.reclaiming
+  pub no_break : (d : ℕ) → waiting_break (s.controllers d) ≡ None
+
+-- Right after it, rounds that are 64 for each connection that is to be restored, and 64 more, leave none to be restored. The
+-- number of controllers does not matter.
+abbrev pub HasEnoughRounds : Type 0
+HasEnoughRounds =
+    (s t : State) (rounds : ℕ) (actions : List Action) (out : List Timed) → BeginsSecond s
+    → 64 * (to_restore s + 1) ≤ rounds → Carries s (Settle rounds) actions out t
+    → (d i : ℕ) → IsFalse (is_restoring (slot_at (t.controllers d) i))
+
+-- a `settle` of a script, from the state that the commands before it lead to
+pub record SettlesAt (front : List Command) (rounds : ℕ) : Type 0 where
+  pub actions : List Action
+  pub log : List Timed
+  pub before : State
+  pub run : Run front actions log before
+  pub more : List Action
+  pub out : List Timed
+  pub after : State
+  pub carries : Carries before (Settle rounds) more out after
+  pub whole : Run (front ++ Commands.Settle rounds ∷ []) (actions ++ more) (log ++ out) after
+  -- given right after a bus reset that begins a second, at which no break waits, enough rounds leave no connection to be restored
+  pub enough : BeginsSecond before → 64 * (to_restore before + 1) ≤ rounds → (d i : ℕ) → IsFalse (is_restoring (slot_at (after.controllers d) i))
+
+-- each `settle` of a script is one
+abbrev pub RoundsSuffice : List Command → Type 0
+RoundsSuffice commands = (front later : List Command) (rounds : ℕ) → commands ≡ front ++ Commands.Settle rounds ∷ later → SettlesAt front rounds

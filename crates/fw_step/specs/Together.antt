@@ -1,0 +1,84 @@
+-- All controllers of a bus in step with one account, and what may happen to them.
+use Rattle.std.specs.Prelude.{ℕ, ◌≡◌, ◌≢◌, ◌<◌, Some, None, Ok, [], IsTrue, IsFalse}
+use Rattle.fw_base.specs.declared.plug.PlugAt.{PlugAt}
+use Rattle.fw_csr.specs.declared.reply.Reply.{Reply}
+use Rattle.fw_entry.specs.declared.entry.ResetEntry.{ResetEntry}
+use Rattle.fw_ledger.specs.Account.{Account, Request}
+use Rattle.fw_ledger.specs.Events.{after_reset, after_second, after_death}
+use Rattle.fw_entry.specs.Network.{IsNetwork}
+use Rattle.fw_ledger.specs.Network.{is_output}
+use Rattle.fw_ledger.specs.Packets.{asked, ended}
+use Rattle.fw_ledger.specs.Sound.{IsSound}
+use Rattle.fw_cmp.specs.declared.connection.Connection.{Connection}
+use Rattle.fw_cmp.specs.declared.connection.Flow.{Flow}
+use Rattle.fw_cmp.specs.declared.connection.Slot.{Slot}
+use Rattle.fw_cmp.specs.declared.current.Current.TheVariants.{Nothing, Hearing}
+use Rattle.fw_cmp.specs.declared.directory.Directory.{Directory}
+use Rattle.fw_cmp.specs.declared.job.Job.{Job}
+use Rattle.fw_cmp.specs.declared.request.Target.{Target}
+use Rattle.fw_cmp.specs.declared.stage.Stage.{Stage}
+use Rattle.fw_cmp.specs.Connections.{kind_of, output_of, input_of}
+use Rattle.fw_cmp.specs.Controllers.{ControllerState, first_state, slot_at, is_restoring, IsHeard, Fits}
+use Rattle.fw_cmp.specs.Fits.{SlotFits}
+use Rattle.fw_cmp.specs.Starts.{IsMaking, start, started, break_fault, break_started}
+use Rattle.fw_cmp.specs.Requests.{target_of}
+use Rattle.fw_cmp.specs.Resets.{after_hear, after_reset as controller_reset, after_second as second_over}
+use Rattle.fw_cmp.specs.Turns.{after_next}
+use Rattle.fw_step.specs.Holding.{connections_of}
+use Rattle.fw_step.specs.InStep.{IsFlow}
+use Rattle.fw_step.specs.Registers.{IsAnswer}
+use Rattle.fw_step.specs.Moves.{carried_out}
+use Rattle.fw_cmp.specs.Holdings.{CanGoOn}
+use Rattle.fw_step.specs.Requests.{outstanding_of}
+use Rattle.fw_step.specs.Controllers.{ControllerInStep, IsDirectory}
+
+-- Controllers are named by device; that of a device that has none, or whose controller died, is one that has just started.
+-- The directory is the one that they were given since the latest bus reset.
+pub record AreInStep (dir : Directory) (l : Account) (controllers : ℕ → ControllerState) : Type 0 where
+  pub sound : IsSound l
+  pub fits : (d : ℕ) → Fits (controllers d)
+  pub each : (d : ℕ) → ControllerInStep l d (controllers d)
+  -- the devices that their requests go to are on the bus
+  pub goes_on : (d : ℕ) → CanGoOn dir (controllers d)
+  -- the outstanding requests of the account are those for whose answer they wait
+  pub requests : (d : ℕ) → l.outstanding d ≡ outstanding_of dir (controllers d).current
+
+-- controller d becomes this one, and no other changes
+pub record Becomes (before : ℕ → ControllerState) (d : ℕ) (c : ControllerState) (after : ℕ → ControllerState) : Type 0 where
+  pub new : after d ≡ c
+  pub others : (k : ℕ) → k ≢ d → after k ≡ before k
+
+-- no output plug leaves the bus
+abbrev pub KeepsPlugs : Account → ResetEntry → Type 0
+KeepsPlugs l r = (p : PlugAt) → IsTrue (is_output l.latest p) → IsTrue (is_output (Some r) p)
+
+-- A controller is given a job: a new connection takes the lowest free slot and waits, or a break of a connection waits.
+pub data IsGiven (before after : ControllerState) : Type 0 where
+  connection : (i : ℕ) (s : Slot) → start before ≡ Ok i → IsMaking s → SlotFits s → after ≡ started (Ok i) s before → IsGiven before after
+  break : (i : ℕ) → break_fault before i ≡ None → after ≡ break_started before i → IsGiven before after
+
+-- What happens: half steps of one controller (its request goes out, it hears the answer, or it ends its job or does
+-- nothing), a job that is given to one, a bus reset, the end of the reclaim second, and a controller's death. A new
+-- directory comes with a bus reset alone.
+pub data Happens (dir new : Directory) (l : Account) (before : ℕ → ControllerState) (m : Account) (after : ℕ → ControllerState) : Type 0 where
+  asks : (d now : ℕ) (request : Request) → IsDirectory l now dir → IsHeard (before d).current → outstanding_of dir (after_next now dir (before d)).current ≡ Some request → m ≡ asked d request l → Becomes before d (after_next now dir (before d)) after → new ≡ dir → Happens dir new l before m after
+  rests : (d now : ℕ) → IsDirectory l now dir → IsHeard (before d).current → outstanding_of dir (after_next now dir (before d)).current ≡ None → m ≡ l → Becomes before d (after_next now dir (before d)) after → new ≡ dir → Happens dir new l before m after
+  hears : (d : ℕ) (j : Job) (s : Stage) (t : Target) (r : Reply) → d < 63 → (before d).current ≡ Hearing j s → target_of j s ≡ Some t → IsAnswer l t r → m ≡ ended d (carried_out d j s r l) → Becomes before d (after_hear (before d) r) after → new ≡ dir → Happens dir new l before m after
+  given : (d : ℕ) (c : ControllerState) → IsGiven (before d) c → m ≡ l → Becomes before d c after → new ≡ dir → Happens dir new l before m after
+  resets : (r : ResetEntry) (epoch : ℕ) → IsNetwork r → KeepsPlugs l r → m ≡ after_reset r l → ((d : ℕ) → after d ≡ controller_reset epoch (before d)) → Happens dir new l before m after
+  second : m ≡ after_second l → ((d : ℕ) → after d ≡ second_over (before d)) → new ≡ dir → Happens dir new l before m after
+  dies : (d : ℕ) → m ≡ after_death d l → Becomes before d first_state after → new ≡ dir → Happens dir new l before m after
+
+-- ---- settled
+
+-- no reclaim second runs, and no controller has a current job, a waiting job or a connection to restore
+pub record AreSettled (l : Account) (controllers : ℕ → ControllerState) : Type 0 where
+  pub second : IsFalse l.reclaiming
+  pub idle : (d : ℕ) → (controllers d).current ≡ Nothing
+  pub waiting : (d : ℕ) → (controllers d).waiting ≡ []
+  pub restored : (d i : ℕ) → IsFalse (is_restoring (slot_at (controllers d) i))
+
+-- a connection is whole: it is there at each of its plugs, on its channel and with its units
+pub record IsWhole (l : Account) (d : ℕ) (conn : Connection) (f : Flow) : Type 0 where
+  pub output : (p : PlugAt) → output_of conn ≡ Some p → (0 < connections_of d (kind_of conn) (l.outputs p)) × IsFlow (l.settings p) f
+  pub input : (q : PlugAt) → input_of conn ≡ Some q → (0 < connections_of d (kind_of conn) (l.inputs q)) × (l.input_channel q ≡ f.channel)
