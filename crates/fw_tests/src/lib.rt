@@ -6,9 +6,13 @@ mod calls;
 #[cfg(test)]
 mod decodes;
 #[cfg(test)]
+mod halts;
+#[cfg(test)]
 mod nodes;
 #[cfg(test)]
 mod program;
+#[cfg(test)]
+mod rounds;
 #[cfg(test)]
 mod runs;
 #[cfg(test)]
