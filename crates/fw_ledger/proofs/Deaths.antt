@@ -10,14 +10,14 @@ use Rattle.std.proofs.lemmas.Bool.{cases_lt}
 use Rattle.fw_ledger.specs.Sound.{IsSound}
 use Rattle.fw_base.proofs.Tables.{sum_to_changed, sum_to_same}
 
-orphaned_total : (c : ℕ) (allocations : ℕ → Option Allocation) → total (λ ch. orphaned_allocation c (allocations ch)) ≡ total allocations
+pub orphaned_total : (c : ℕ) (allocations : ℕ → Option Allocation) → total (λ ch. orphaned_allocation c (allocations ch)) ≡ total allocations
 orphaned_total c allocations = sum_to_same 64 (λ ch. allocated (orphaned_allocation c (allocations ch))) (λ ch. allocated (allocations ch)) (λ j lt. same (allocations j))
   where
     same : (x : Option Allocation) → allocated (orphaned_allocation c x) ≡ allocated x
     same None = refl
     same (Some x) = refl
 
-orphaned_counter : (c : ℕ) (s : Connections) → NoneBeyond s → counter (orphaned_connections c s) ≡ counter s
+pub orphaned_counter : (c : ℕ) (s : Connections) → NoneBeyond s → counter (orphaned_connections c s) ≡ counter s
 orphaned_counter c s none = go (cases_lt c 63)
   where
     go : (c < 63) ⊎ (63 ≤ c) → counter (orphaned_connections c s) ≡ counter s
@@ -27,7 +27,7 @@ orphaned_counter c s none = go (cases_lt c 63)
 orphaned_beyond : (c : ℕ) (s : Connections) → NoneBeyond s → NoneBeyond (orphaned_connections c s)
 orphaned_beyond c s none = λ d le. grind (arith, nat_tests, none d le)
 
-orphaned_there : (c : ℕ) (o : Option Owner) → is_there (orphaned_owner c o) ≡ is_there o
+pub orphaned_there : (c : ℕ) (o : Option Owner) → is_there (orphaned_owner c o) ≡ is_there o
 orphaned_there c None = refl
 orphaned_there c (Some (Of d)) = refl
 orphaned_there c (Some Dead) = refl

@@ -132,7 +132,7 @@ move_decoded c p (ReleaseChannel ch) l lt s h = go (nat_lt ch 32) refl
     go true e = channel_released l c p ch 0 ch h (grind (arith, nat_tests)) (omega arith)
     go false e = let within = h.within in channel_released l c p ch 32 (ch - 32) h (omega arith) (grind (arith, nat_tests))
 
-same_register_self : (r : Register) → same_register r r ≡ true
+pub same_register_self : (r : Register) → same_register r r ≡ true
 same_register_self BandwidthAvailable = refl
 same_register_self (ChannelsAvailable base) = grind (arith, nat_tests)
 same_register_self (OutputPlug p) = same_plug_self p
@@ -163,7 +163,7 @@ same_number : (n k : ℕ) → (n == k) ≡ true → n ≡ k
 same_number n k e = grind (arith, nat_tests)
 
 -- what is decoded and allowed is a move
-allowed_is : (l : Account) (c : ℕ) (register : Register) (arg new : ℕ) (o : Option (PlugAt × Move)) (p : PlugAt) (m : Move) → IsSound l → allowed l c register arg new o ≡ Some (p, m) → IsMove c p m register arg new l
+pub allowed_is : (l : Account) (c : ℕ) (register : Register) (arg new : ℕ) (o : Option (PlugAt × Move)) (p : PlugAt) (m : Move) → IsSound l → allowed l c register arg new o ≡ Some (p, m) → IsMove c p m register arg new l
 allowed_is l c register arg new None p m s e = absurd (not_both None (p, m) refl e)
 allowed_is l c register arg new (Some k) p m s e = go (can c k.0 k.1 l && same_register (register_of_move k.0 k.1) register && (word_of l register == arg) && (word_of (after c k.0 k.1 l) register == new)) refl e
   where

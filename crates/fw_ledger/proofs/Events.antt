@@ -74,7 +74,7 @@ abbrev pub IsTalker : Account → ℕ → Option Flow → Type 0
 IsTalker l ch None = (p : PlugAt) → talks l p ≡ true → (l.settings p).channel ≡ ch → ⊥
 IsTalker l ch (Some f) = (talks l f.plug ≡ true) × ((l.settings f.plug).channel ≡ ch) × (f.units ≡ units_of (l.settings f.plug))
 
-talker_at_is : (l : Account) (ch : ℕ) → IsSound l → IsTalker l ch (talker_at l ch)
+pub talker_at_is : (l : Account) (ch : ℕ) → IsSound l → IsTalker l ch (talker_at l ch)
 talker_at_is l ch s = go (find_plug test) (find_plug_is test)
   where
     test : PlugAt → Bool

@@ -23,7 +23,7 @@ no_inputs None p e t = false≢true t
 no_inputs (Some r) p e t = cc
 
 -- what passes stands at some place, and what stands at a place is met
-any_place : (test : NodeRow → Bool) (xs : List NodeRow) → list_any test xs ≡ true → (n : ℕ) × (x : NodeRow) × (slice_get xs n ≡ Some x) × (test x ≡ true)
+pub any_place : (test : NodeRow → Bool) (xs : List NodeRow) → list_any test xs ≡ true → (n : ℕ) × (x : NodeRow) × (slice_get xs n ≡ Some x) × (test x ≡ true)
 any_place test [] e = absurd (false≢true e)
 any_place test (x ∷ xs) e = go (test x) refl (any_place test xs)
   where

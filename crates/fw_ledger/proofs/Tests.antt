@@ -13,19 +13,19 @@ use Rattle.fw_ledger.specs.Moves.{Move, AllocateChannel, AllocateUnits, ConnectF
 use Rattle.fw_ledger.specs.Decode.{is_plug, is_flow_of, is_flow, is_held, is_owner, has_room, has_connection_of, can}
 use Rattle.fw_ledger.specs.Sound.{IsSound}
 
-is_plug-true : (p : PlugAt) (o : Option PlugAt) → is_plug p o ≡ true → o ≡ Some p
+pub is_plug-true : (p : PlugAt) (o : Option PlugAt) → is_plug p o ≡ true → o ≡ Some p
 is_plug-true p None e = absurd (false≢true e)
 is_plug-true p (Some q) e = grind (arith, same_plug-true q p)
 
-is_flow_of-true : (p : PlugAt) (o : Option Flow) → is_flow_of p o ≡ true → (u : ℕ) × (o ≡ Some (record { plug = p; units = u }))
+pub is_flow_of-true : (p : PlugAt) (o : Option Flow) → is_flow_of p o ≡ true → (u : ℕ) × (o ≡ Some (record { plug = p; units = u }))
 is_flow_of-true p None e = absurd (false≢true e)
 is_flow_of-true p (Some f) e = (f.units, grind (arith, same_plug-true f.plug p))
 
-is_flow-true : (p : PlugAt) (u : ℕ) (o : Option Flow) → is_flow p u o ≡ true → o ≡ Some (record { plug = p; units = u })
+pub is_flow-true : (p : PlugAt) (u : ℕ) (o : Option Flow) → is_flow p u o ≡ true → o ≡ Some (record { plug = p; units = u })
 is_flow-true p u None e = absurd (false≢true e)
 is_flow-true p u (Some f) e = grind (arith, nat_tests, same_plug-true f.plug p)
 
-is_held-true : (c : ℕ) (p : PlugAt) (u : ℕ) (o : Option Allocation) → is_held c p u o ≡ true → o ≡ Some (record { holder = Pending c p; units = u })
+pub is_held-true : (c : ℕ) (p : PlugAt) (u : ℕ) (o : Option Allocation) → is_held c p u o ≡ true → o ≡ Some (record { holder = Pending c p; units = u })
 is_held-true c p u None e = absurd (false≢true e)
 is_held-true c p u (Some x) e = grind (arith, nat_tests, go x.holder)
   where
@@ -43,15 +43,15 @@ no_owner : (o : Option Owner) → not (is_there o) ≡ true → o ≡ None
 no_owner None e = refl
 no_owner (Some o) e = absurd (false≢true e)
 
-has_room-true : (kind : ConnectionKind) (s : Connections) → has_room kind s ≡ true → HasRoom kind s
+pub has_room-true : (kind : ConnectionKind) (s : Connections) → has_room kind s ≡ true → HasRoom kind s
 has_room-true PointToPoint s e = grind (arith, nat_tests)
 has_room-true Broadcast s e = no_owner s.broadcast e
 
-has_connection_of-true : (c : ℕ) (kind : ConnectionKind) (s : Connections) → has_connection_of c kind s ≡ true → HasConnection c kind s
+pub has_connection_of-true : (c : ℕ) (kind : ConnectionKind) (s : Connections) → has_connection_of c kind s ≡ true → HasConnection c kind s
 has_connection_of-true c PointToPoint s e = grind (arith, nat_tests)
 has_connection_of-true c Broadcast s e = is_owner-true c s.broadcast e
 
-is_free-true : (o : Option Allocation) → is_free o ≡ true → o ≡ None
+pub is_free-true : (o : Option Allocation) → is_free o ≡ true → o ≡ None
 is_free-true None e = refl
 is_free-true (Some x) e = absurd (false≢true e)
 
@@ -104,23 +104,23 @@ can_is c p (ReleaseChannel ch) l s e = record { within = grind (arith, nat_tests
 
 -- ---- and what holds passes its test
 
-is_plug_self : (p : PlugAt) (o : Option PlugAt) → o ≡ Some p → is_plug p o ≡ true
+pub is_plug_self : (p : PlugAt) (o : Option PlugAt) → o ≡ Some p → is_plug p o ≡ true
 is_plug_self p o e = rw e (same_plug_self p)
 
-is_flow_of_self : (p : PlugAt) (u : ℕ) (o : Option Flow) → o ≡ Some (record { plug = p; units = u }) → is_flow_of p o ≡ true
+pub is_flow_of_self : (p : PlugAt) (u : ℕ) (o : Option Flow) → o ≡ Some (record { plug = p; units = u }) → is_flow_of p o ≡ true
 is_flow_of_self p u o e = rw e (same_plug_self p)
 
-is_flow_self : (p : PlugAt) (u : ℕ) (o : Option Flow) → o ≡ Some (record { plug = p; units = u }) → is_flow p u o ≡ true
+pub is_flow_self : (p : PlugAt) (u : ℕ) (o : Option Flow) → o ≡ Some (record { plug = p; units = u }) → is_flow p u o ≡ true
 is_flow_self p u o e = rw e (grind (arith, nat_tests, same_plug_self p))
 
-is_held_self : (c : ℕ) (p : PlugAt) (u : ℕ) (o : Option Allocation) → o ≡ Some (record { holder = Pending c p; units = u }) → is_held c p u o ≡ true
+pub is_held_self : (c : ℕ) (p : PlugAt) (u : ℕ) (o : Option Allocation) → o ≡ Some (record { holder = Pending c p; units = u }) → is_held c p u o ≡ true
 is_held_self c p u o e = rw e (grind (arith, nat_tests, same_plug_self p))
 
-has_room_from : (kind : ConnectionKind) (s : Connections) → HasRoom kind s → has_room kind s ≡ true
+pub has_room_from : (kind : ConnectionKind) (s : Connections) → HasRoom kind s → has_room kind s ≡ true
 has_room_from PointToPoint s h = grind (arith, nat_tests)
 has_room_from Broadcast s h = rw h refl
 
-has_connection_of_from : (c : ℕ) (kind : ConnectionKind) (s : Connections) → HasConnection c kind s → has_connection_of c kind s ≡ true
+pub has_connection_of_from : (c : ℕ) (kind : ConnectionKind) (s : Connections) → HasConnection c kind s → has_connection_of c kind s ≡ true
 has_connection_of_from c PointToPoint s h = grind (arith, nat_tests)
 has_connection_of_from c Broadcast s h = rw h (grind (arith, nat_tests))
 
@@ -132,11 +132,11 @@ no_pending_found l c none = go (pending_channel c l.allocations) (find_to_is 64 
     go (Some k) f = absurd (true≢false (sym f.1 ∙ none k))
 
 -- a test beside one that fails
-either : (a b : Bool) → (a ≡ true → b ≡ true) → (not a || b) ≡ true
+pub either : (a b : Bool) → (a ≡ true → b ≡ true) → (not a || b) ≡ true
 either true b h = h refl
 either false b h = refl
 
-or_else : (a b : Bool) → (a ≡ false → b ≡ true) → (a || b) ≡ true
+pub or_else : (a b : Bool) → (a ≡ false → b ≡ true) → (a || b) ≡ true
 or_else true b h = refl
 or_else false b h = h refl
 

@@ -10,3 +10,8 @@ pub mod Refused
 pub mod Sound
 pub mod Listing
 pub mod Example
+pub mod Stands
+pub mod Deaths
+pub mod Resets
+pub mod Renewed
+pub mod Swaps

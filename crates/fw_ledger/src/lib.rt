@@ -1,5 +1,6 @@
-//! The account of channels, bandwidth units and plug connections that the transactions of a log make, as definitions and
-//! their laws. The functions do nothing: their contracts are the laws.
+//! The account of channels, bandwidth units and plug connections that the transactions of a log make: as definitions with
+//! their laws, and as a `Ledger` that takes a log entry by entry and tells what the registers hold. The functions of this
+//! file do nothing: their contracts are the laws.
 #![tactic(auto)]
 
 ghost use Rattle.std.specs.Prelude.{◌≡◌, ◌<◌, ◌≤◌, ◌+◌, ◌^◌, ◌++◌, ◌↔◌, [], ◌∷◌, ℕ, Bool, List, count_by, Some, None, if◌then◌else◌, IsTrue};
@@ -22,6 +23,35 @@ ghost use Rattle.fw_ledger.specs.Refused.{IsRefused};
 ghost use Rattle.fw_ledger.specs.Sound.{IsSound, IsConflictFree};
 ghost use Rattle.fw_ledger.specs.Listing.{resources, listed_units, lists_channel, is_channel, is_channel_of, is_units_of, IsAllocatedForFlows};
 ghost use Rattle.fw_ledger.specs.Example.{first_path, restored, other_channel, not_allocated, listening, died, second_over, reset, registers_after, input_after};
+
+mod channel;
+mod connection;
+mod counts;
+mod entry;
+mod event;
+mod held;
+mod input;
+mod ledger;
+mod output;
+mod packet;
+mod place;
+mod reads;
+mod register;
+mod renew;
+mod request;
+mod reset;
+mod swap;
+mod tables;
+mod units;
+
+pub use ledger::Ledger;
+
+#[cfg(test)]
+mod account_tests;
+#[cfg(test)]
+mod decks;
+#[cfg(test)]
+mod swap_tests;
 
 /// Each move and each event keeps the account sound, and so does each entry in the grammar of the log: at every prefix of a
 /// list of entries that has an account, there is one, and it is sound. In a sound account no channel has two talkers, and
@@ -49,8 +79,8 @@ pub fn entries_are_refused()
     ensures { (l : Account) (e : Entry) → IsSound l → (next_account l e ≡ None) ↔ IsRefused e l }
 {}
 
-/// What the registers of a sound account say, each in 32 bits: the units that are left beside those of the list of all that is allocated, a
-/// bit that is 1 exactly for a channel that the list does not name, and the fields of the plug registers.
+/// What the registers of a sound account say, each in 32 bits: the units that are left beside those of the list of all that
+/// is allocated, a bit that is 1 exactly for a channel that the list does not name, and the fields of the plug registers.
 pub fn registers_tell()
     ensures below { (l : Account) (n offset word : ℕ) → IsSound l → word_at l n offset ≡ Some word → word < 2 ^ 32 }
     ensures units { (l : Account) → IsSound l → listed_units (resources l) + word_of l BandwidthAvailable ≡ 4915 }

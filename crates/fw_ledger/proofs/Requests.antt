@@ -1,0 +1,110 @@
+-- The tables after a request.
+use Rattle.fw_base.specs.declared.plug.PlugAt.{PlugAt}
+use Rattle.std.proofs.Common.{◌≡◌, ◌≢◌, ◌<◌, ℕ, Bool, true, false, not, Option, Some, None, length, slice_set, Vec, Global, cond, get_or-set_same, get_or-set_other, ◌⊎◌, inl, inr, is_none, is_some, refl, sym, ◌∙◌, ap, rules, IfSome, length-set}
+use Rattle.fw_ledger.specs.Account.{Account, Request, has_pending, is_pending}
+use Rattle.fw_ledger.specs.Packets.{asked, asked_by, addressed_after}
+use Rattle.fw_ledger.specs.Words.{output_addressed}
+use Rattle.fw_ledger.specs.Stands.{StandsFor, AskedFor, Follows, plug_of, addressed_at, is_asked, device_at, allocation_of, charge_at}
+use Rattle.fw_ledger.specs.declared.tables.Tables.{Tables}
+use Rattle.fw_ledger.specs.declared.tables.Addressed.{Addressed}
+use Rattle.fw_ledger.specs.declared.tables.Asked.{Asked}
+use Rattle.fw_base.specs.Tables.{update, find_to}
+use Rattle.std.proofs.lemmas.Bool.{cases_eq}
+use Rattle.fw_ledger.specs.declared.tables.Addressed.TheVariants.{Nowhere}
+use Rattle.fw_ledger.specs.declared.tables.Asked.TheVariants.{Nothing as NotAsked, Read, Swap, Lock}
+use Rattle.std.specs.Option.{option_map}
+use Rattle.fw_entry.specs.declared.nodes.NodeRow.{NodeRow}
+use Rattle.fw_entry.specs.Network.{device_of_id}
+use Rattle.fw_ledger.proofs.Plugs.{row_is, pending_is_found}
+use Rattle.fw_ledger.proofs.Related.{related_set, update_same, update_other}
+use Rattle.fw_ledger.proofs.Packets.{asked_keeps, device_below}
+
+-- a request of controller c at this output plug changes what c addressed, and nothing else
+addressed_else : (c d : ℕ) (o : Option PlugAt) (l : Account) → d ≢ c → addressed_after c o l d ≡ l.addressed d
+addressed_else c d None l ne = refl
+addressed_else c d (Some p) l ne = go (has_pending c l.allocations)
+  where
+    go : (b : Bool) → (cond b l.addressed (update l.addressed c (Some p))) d ≡ l.addressed d
+    go true = refl
+    go false = update_other l.addressed c d (Some p) ne
+
+-- the tables after a request of controller c that has none outstanding
+pub asked_stands : (t : Tables) (l : Account) (c : ℕ) (request : Request) (a : Asked) (x : Addressed) (plugs : Vec Addressed Global) (requests : Vec Asked Global) → StandsFor t l → c < 63 → l.latest ≢ None
+    → plugs.items ≡ slice_set t.addressed.items c x → requests.items ≡ slice_set t.asked.items c a → AskedFor a (Some request)
+    → plug_of x ≡ addressed_after c (output_addressed l.latest request.target request.address) l c
+    → StandsFor (record t { addressed = plugs; asked = requests }) (asked c request l)
+asked_stands t l c request a x plugs requests h lt started at_plugs at_requests is here = record {
+  sizes = record {
+    charges = h.sizes.charges;
+    reclaimable = h.sizes.reclaimable;
+    outputs = h.sizes.outputs;
+    inputs = h.sizes.inputs;
+    output_seats = h.sizes.output_seats;
+    input_seats = h.sizes.input_seats;
+    continues = h.sizes.continues;
+    addressed = ap length at_plugs ∙ length-set t.addressed.items c x ∙ h.sizes.addressed;
+    asked = ap length at_requests ∙ length-set t.asked.items c a ∙ h.sizes.asked;
+  };
+  latest = h.latest;
+  plugs = h.plugs;
+  resources = h.resources;
+  second = record { runs = h.second.runs; reclaimable = h.second.reclaimable; continues = h.second.continues };
+  outputs = h.outputs;
+  inputs = h.inputs;
+  controllers = record {
+    addressed = λ d dlt. at_place d (cases_eq d c) dlt;
+    asked = λ d dlt. rw at_requests (related_set AskedFor t.asked.items c a _ 63 l.outstanding (Some request) h.sizes.asked is h.controllers.asked d dlt);
+  };
+  sound = asked_keeps c request l started h.sound;
+}
+  where
+    at_place : (d : ℕ) → (d ≡ c) ⊎ (d ≢ c) → d < 63 → plug_of (addressed_at plugs.items d) ≡ addressed_after c (output_addressed l.latest request.target request.address) l d
+    at_place d (inl e) dlt = rw e (rw at_plugs (rw (get_or-set_same t.addressed.items c x Nowhere (rw h.sizes.addressed lt)) here))
+    at_place d (inr ne) dlt = rw at_plugs (rw (get_or-set_other t.addressed.items c d x Nowhere ne) (h.controllers.addressed d dlt ∙ sym (addressed_else c d (output_addressed l.latest request.target request.address) l ne)))
+
+-- the device of a node ID, by the nodes that are kept
+pub device_is : (t : Tables) (l : Account) (id : ℕ) → StandsFor t l → device_at t.nodes id ≡ device_of_id l.latest id
+device_is t l id h = ap (option_map (λ (r : NodeRow). r.device)) (row_is t.started t.manager t.nodes l.latest id h.latest)
+
+-- it is below 63
+pub device_within : (o : Option ℕ) (t : Tables) (l : Account) (id : ℕ) → StandsFor t l → o ≡ device_of_id l.latest id → IfSome o (λ d. d < 63)
+device_within None t l id h e = search rules
+device_within (Some d) t l id h e = device_below l.latest id d h.sound.range (sym e)
+
+-- a controller has a Pending allocation
+pub holds_is : (t : Tables) (l : Account) (c : ℕ) → StandsFor t l → is_some (find_to 64 (λ ch. is_pending c (allocation_of (charge_at t.charges.items ch)))) ≡ has_pending c l.allocations
+holds_is t l c h = ap is_some (pending_is_found t l c h)
+
+-- a request is outstanding exactly where the table has one
+pub outstanding_is : (a : Asked) (o : Option Request) → AskedFor a o → is_asked a ≡ is_some o
+outstanding_is NotAsked o h = rw h refl
+outstanding_is (Read target address) o h = rw h refl
+outstanding_is (Swap target address argument new) o h = rw h.1 refl
+outstanding_is (Lock target address function) o h = rw h.1 refl
+
+-- what c addressed: the plug, where c has no Pending allocation
+pub addressed_plug : (c : ℕ) (o : Option PlugAt) (p : PlugAt) (l : Account) → o ≡ Some p → has_pending c l.allocations ≡ false → Some p ≡ addressed_after c o l c
+addressed_plug c o p l e none = rw e (rw none (sym (update_same l.addressed c c (Some p) refl)))
+
+pub addressed_held : (c : ℕ) (o : Option PlugAt) (l : Account) → has_pending c l.allocations ≡ true → l.addressed c ≡ addressed_after c o l c
+addressed_held c None l some = refl
+addressed_held c (Some p) l some = rw some refl
+
+-- no request is outstanding where not one is
+none_is : (o : Option Request) → is_none o ≡ not (is_some o)
+none_is None = refl
+none_is (Some r) = refl
+
+-- a request by no device is refused
+pub refused_none : (t : Tables) (l : Account) (o : Option ℕ) (request : Request) → o ≡ None → Follows false t t (asked_by o request l)
+refused_none t l o request e = rw e (refl, refl)
+
+-- a request by this device is refused beside another
+pub refused_beside : (t : Tables) (l : Account) (c : ℕ) (o : Option ℕ) (request : Request) → o ≡ Some c → is_some (l.outstanding c) ≡ true → Follows false t t (asked_by o request l)
+refused_beside t l c o request e busy = rw (e, none_is (l.outstanding c), busy) (refl, refl)
+
+pub asked_follows : (t new : Tables) (l : Account) (c : ℕ) (o : Option ℕ) (request : Request) → o ≡ Some c → is_some (l.outstanding c) ≡ false → StandsFor new (asked c request l) → Follows true t new (asked_by o request l)
+asked_follows t new l c o request e free h = rw (e, none_is (l.outstanding c), free) (refl, h)
+
+pub addressed_none : (c : ℕ) (o : Option PlugAt) (l : Account) → o ≡ None → l.addressed c ≡ addressed_after c o l c
+addressed_none c o l e = rw e refl

@@ -1,0 +1,207 @@
+-- The tables after a bus reset stand for the account after it.
+use Rattle.fw_base.specs.declared.plug.PlugAt.{PlugAt}
+use Rattle.fw_entry.specs.declared.entry.ResetEntry.{ResetEntry}
+use Rattle.std.proofs.Common.{◌≡◌, ◌≢◌, ◌<◌, ◌-◌, ◌==◌, ◌&&◌, ◌||◌, not, nat_lt, ℕ, Bool, true, false, Option, Some, None, is_some, List, length, cond, slice_index, refl, sym, ◌∙◌, ap, subst, arith}
+use Rattle.std.proofs.lemmas.Bool.Decides.{nat_tests}
+use Rattle.fw_base.proofs.Tables.{sum_to_zero}
+use Rattle.fw_plug.specs.Words.{units_of, out_word, in_word, is_connected}
+use Rattle.fw_entry.specs.Network.{IsNetwork}
+use Rattle.fw_ledger.specs.Account.{Account, Allocation, Flow, Connected as ConnectedHolder, Pending as PendingHolder, Orphaned as OrphanedHolder, talks, has_connection, counter, is_there}
+use Rattle.fw_ledger.specs.Network.{is_output, is_input, declared}
+use Rattle.fw_ledger.specs.Events.{after_reset, talker_at, no_connections}
+use Rattle.fw_ledger.specs.Words.{fields_at, input_fields_at}
+use Rattle.fw_ledger.specs.Resets.{without_connections, first_output, first_input, rate_of, talker}
+use Rattle.fw_ledger.specs.Sound.{IsSound}
+use Rattle.fw_ledger.specs.Renewed.{HasNewPlugs, AreEmpty}
+use Rattle.fw_ledger.specs.Stands.{StandsFor, ShowsReset, asked_at, OutputsFor, InputsFor, SeatsFor, SecondFor, flow_of, allocation_of, charge_at, reclaimable_at, continues_at, word_at, seats_at, place}
+use Rattle.fw_ledger.specs.declared.tables.Tables.{Tables}
+use Rattle.fw_ledger.specs.declared.tables.Charge.{Charge}
+use Rattle.fw_ledger.specs.declared.tables.Charge.TheVariants.{Free, Pending, Connected, Orphaned}
+use Rattle.fw_ledger.specs.declared.tables.Seats.{Seats}
+use Rattle.fw_ledger.specs.declared.tables.Asked.TheVariants.{Nothing as NotAsked}
+use Rattle.fw_entry.specs.declared.nodes.NodeRow.{NodeRow}
+use Rattle.fw_ledger.proofs.Events.{IsTalker, talker_at_is, talker_is_allocated, reset_reclaimable, reset_keeps}
+use Rattle.fw_ledger.proofs.Network.{output_in_range}
+use Rattle.fw_ledger.proofs.Plugs.{input_in_range, place_low}
+use Rattle.fw_ledger.proofs.Starts.{copy_at, channels_start}
+use Rattle.fw_ledger.proofs.ResetWords.{place_device, place_plug, output_disconnected, input_disconnected, output_connected}
+
+-- ---- the flows that may be allocated again
+
+-- no flow talks on a channel that no plug has connected
+none_talks : (l : Account) (ch : ℕ) → l.reclaiming ≡ false → IsSound l
+    → ((p : PlugAt) (u : ℕ) → l.allocations ch ≢ Some (record { holder = ConnectedHolder p; units = u })) → talker_at l ch ≡ None
+none_talks l ch none s free = go (talker_at l ch) (talker_at_is l ch s)
+  where
+    go : (o : Option Flow) → IsTalker l ch o → o ≡ None
+    go None h = refl
+    go (Some f) h = absurd (free f.plug (units_of (l.settings f.plug))
+        (subst (λ k. l.allocations k ≡ Some (record { holder = ConnectedHolder f.plug; units = units_of (l.settings f.plug) })) h.1
+        (talker_is_allocated l f.plug s none h.0)))
+
+-- an allocation has one holder
+same_holder : (a b : Allocation) → Some a ≡ Some b → a.holder ≡ b.holder
+same_holder a b e = let same : a ≡ b = cc in ap (λ (x : Allocation). x.holder) same
+
+-- the flow of a charge is the one that talks
+pub flow_talks : (r : ResetEntry) (l : Account) (ch : ℕ) (x : Charge) → l.reclaiming ≡ false → IsSound l → allocation_of x ≡ l.allocations ch
+    → flow_of (talker x) ≡ talker_at l ch
+flow_talks r l ch Free none s e = sym (none_talks l ch none s (λ p u f. let g = e ∙ f in cc))
+flow_talks r l ch (Pending c q v) none s e = sym (none_talks l ch none s
+    (λ p u f. let g = same_holder (record { holder = PendingHolder c q; units = v }) (record { holder = ConnectedHolder p; units = u }) (e ∙ f) in cc))
+flow_talks r l ch (Orphaned q v) none s e = sym (none_talks l ch none s
+    (λ p u f. let g = same_holder (record { holder = OrphanedHolder q; units = v }) (record { holder = ConnectedHolder p; units = u }) (e ∙ f) in cc))
+flow_talks r l ch (Connected p u) none s e =
+    let w = s.connected ch p u (sym e) in
+    let talks_on : talks l p ≡ true = grind (arith, w.0) in
+    let same : u ≡ units_of (l.settings p) = let f = s.allocated p w.0 in grind
+    (arith, subst (λ k. l.allocations k ≡ Some (record { holder = ConnectedHolder p; units = u })) w.1 (sym e)) in
+    let listed = reset_reclaimable r l p s talks_on in
+    rw (same, w.1) (sym (subst (λ b. (cond b l.reclaimable (talker_at l)) (l.settings p).channel ≡ Some
+    (record { plug = p; units = units_of (l.settings p) })) none listed))
+
+-- a reset entry came before exactly where one is kept
+started_is : (started : Bool) (manager : Option ℕ) (nodes : List NodeRow) (latest : Option ResetEntry) → ShowsReset started manager nodes latest
+    → started ≡ is_some latest
+started_is started manager nodes None h = h.0
+started_is started manager nodes (Some r) h = h.0
+
+-- ---- the tables
+
+-- the tables after a bus reset with this entry
+pub record IsReset (t : Tables) (r : ResetEntry) (new : Tables) : Type 0 where
+  pub latest : (new.started ≡ true) × (new.manager ≡ r.manager) × (new.nodes ≡ r.nodes)
+  pub reclaiming : new.reclaiming ≡ t.started
+  pub words : (new.left ≡ 4915) × (new.high ≡ 4294967295) × (new.low ≡ 4294967295)
+  pub plugs : HasNewPlugs t r new
+  pub charge_size : length new.charges.items ≡ 64
+  pub charges : (ch : ℕ) → ch < 64 → charge_at new.charges.items ch ≡ Free
+  pub flow_size : length new.reclaimable.items ≡ 64
+  pub flows : (ch : ℕ) → ch < 64
+      → reclaimable_at new.reclaimable.items ch ≡ cond t.reclaiming (reclaimable_at t.reclaimable.items ch) (talker (charge_at t.charges.items ch))
+  pub addressed : new.addressed ≡ t.addressed
+  pub asked_size : length new.asked.items ≡ 63
+  pub asked : (c : ℕ) → c < 63 → asked_at new.asked.items c ≡ NotAsked
+
+-- a plug without connections
+pub empty_seats : (seats : List Seats) (p : PlugAt) → AreEmpty seats → place p < 1953 → SeatsFor (seats_at seats p) no_connections
+empty_seats seats p e lt = rw (e.all (place p) lt) (record { size = refl; counts = λ c clt. let none : ℕ = 0 in copy_at {A = ℕ} 63 c none; broadcast = refl })
+
+-- no connections are counted
+none_counted : counter no_connections ≡ 0
+none_counted = omega (arith, sum_to_zero 63)
+
+flows_renewed : (t : Tables) (l : Account) (r : ResetEntry) (ch : ℕ) (b : Bool) → StandsFor t l → ch < 64 → t.reclaiming ≡ b → l.reclaiming ≡ b
+    → flow_of (cond b (reclaimable_at t.reclaimable.items ch) (talker (charge_at t.charges.items ch))) ≡ (cond b l.reclaimable (talker_at l)) ch
+flows_renewed t l r ch true h lt a b = h.second.reclaimable a ch lt
+flows_renewed t l r ch false h lt a b = flow_talks r l ch (charge_at t.charges.items ch) b h.sound (h.resources.charges ch lt)
+
+-- an output plug goes on where it talks, before it had the latest entry
+on_renewed : (t : Tables) (l : Account) (p : PlugAt) (there runs : Bool) → StandsFor t l → is_output l.latest p ≡ there → t.reclaiming ≡ runs
+    → (there && (is_connected (word_at t.outputs.items p) || (runs && continues_at t.continues.items p))) ≡ talks l p
+on_renewed t l p false runs h is run = grind (arith, h.sound.there p)
+on_renewed t l p true runs h is run =
+    let w = h.outputs.words p is in
+    let connected = output_connected (fields_at l p) (let m = h.sound.counts p in omega arith) (h.sound.settings_fit p is) in
+    let same : is_connected (word_at t.outputs.items p) ≡ has_connection (l.outputs p) = ap is_connected w ∙ connected ∙ counted
+    (is_there (l.outputs p).broadcast) (counter (l.outputs p)) in
+    rw same (ap (λ b. has_connection (l.outputs p) || b) (goes runs run))
+  where
+    counted : (b : Bool) (n : ℕ) → (b || not (n == 0)) ≡ (nat_lt 0 n || b)
+    counted b n = grind (arith, nat_tests)
+
+    goes : (b : Bool) → t.reclaiming ≡ b → (b && continues_at t.continues.items p) ≡ l.continues p
+    goes true e = h.second.continues e p is
+    goes false e = grind (arith, h.sound.continuing p, h.sound.reclaimable_ends (sym h.second.runs ∙ e) (l.settings p).channel)
+
+-- the word of an output plug after the reset
+word_renewed : (t : Tables) (l : Account) (r : ResetEntry) (new : List ℕ) (p : PlugAt) (there : Bool) → StandsFor t l → is_output l.latest p ≡ there
+    → nat_lt p.plug (slice_index new p.device) ≡ true
+    → cond there (without_connections (word_at t.outputs.items p))
+    (cond (nat_lt p.plug (slice_index new p.device)) (first_output (rate_of r.nodes r.ids p.device)) (word_at t.outputs.items p))
+    ≡ out_word (record { broadcast = false; counter = 0; settings = cond there (l.settings p) (declared r p) })
+word_renewed t l r new p true h is now = rw (h.outputs.words p is) (output_disconnected (fields_at l p) (h.sound.settings_fit p is))
+word_renewed t l r new p false h is now = rw now refl
+
+input_renewed : (t : Tables) (l : Account) (p : PlugAt) (there : Bool) → StandsFor t l → is_input l.latest p ≡ there
+    → cond there (without_connections (word_at t.inputs.items p)) first_input ≡ in_word
+    (record { broadcast = false; counter = 0; channel = cond there (l.input_channel p) 63 })
+input_renewed t l p true h is = rw (h.inputs.words p is) (input_disconnected (input_fields_at l p) (h.sound.channels_fit p is))
+input_renewed t l p false h is = refl
+
+outputs_reset : (t : Tables) (l : Account) (r : ResetEntry) (new : Tables) → StandsFor t l → IsNetwork r → HasNewPlugs t r new
+    → OutputsFor new.outputs.items new.output_seats.items (Some r) (λ p. no_connections) (after_reset r l).settings
+outputs_reset t l r new h net x = record {
+  words = λ p is. word p is (output_in_range (Some r) p net.range is);
+  seats = λ p is. empty_seats new.output_seats.items p x.output_seats (place_low p (output_in_range (Some r) p net.range is));
+}
+  where
+    word : (p : PlugAt) → is_output (Some r) p ≡ true → (p.device < 63) × (p.plug < 31)
+        → word_at new.outputs.items p ≡ out_word (record
+        { broadcast = false; counter = counter no_connections; settings = cond (is_output l.latest p) (l.settings p) (declared r p) })
+    word p is low = rw (none_counted, x.outputs (place p) (place_low p low), place_device p low.1, place_plug p low.1)
+        (rw (← h.plugs.outs p) (word_renewed t l r new.outs p (is_output l.latest p) h refl (sym (x.outs p) ∙ is)))
+
+inputs_reset : (t : Tables) (l : Account) (r : ResetEntry) (new : Tables) → StandsFor t l → IsNetwork r → HasNewPlugs t r new
+    → InputsFor new.inputs.items new.input_seats.items (Some r) (λ p. no_connections) (after_reset r l).input_channel
+inputs_reset t l r new h net x = record {
+  words = λ p is. word p (input_in_range (Some r) p net.range is);
+  seats = λ p is. empty_seats new.input_seats.items p x.input_seats (place_low p (input_in_range (Some r) p net.range is));
+}
+  where
+    word : (p : PlugAt) → (p.device < 63) × (p.plug < 31)
+        → word_at new.inputs.items p ≡ in_word (record
+        { broadcast = false; counter = counter no_connections; channel = cond (is_input l.latest p) (l.input_channel p) 63 })
+    word p low = rw (none_counted, x.inputs (place p) (place_low p low), place_device p low.1, place_plug p low.1)
+        (rw (← h.plugs.ins p) (input_renewed t l p (is_input l.latest p) h refl))
+
+-- a test stays with one more that holds
+true_more : (b : Bool) → b ≡ (b && true)
+true_more true = refl
+true_more false = refl
+
+second_reset : (t : Tables) (l : Account) (r : ResetEntry) (new : Tables) → StandsFor t l → IsNetwork r → IsReset t r new
+    → SecondFor new.reclaiming new.reclaimable.items new.continues.items (after_reset r l)
+second_reset t l r new h net x = record {
+  runs = x.reclaiming ∙ started_is t.started t.manager t.nodes l.latest h.latest;
+  reclaimable = λ runs ch lt. rw (x.flows ch lt) (subst
+      (λ b. flow_of (cond t.reclaiming (reclaimable_at t.reclaimable.items ch) (talker (charge_at t.charges.items ch))) ≡
+      (cond b l.reclaimable (talker_at l)) ch) h.second.runs (flows_renewed t l r ch t.reclaiming h lt refl (sym h.second.runs)));
+  continues = λ runs p is. on p is (output_in_range (Some r) p net.range is);
+}
+  where
+    on : (p : PlugAt) → is_output (Some r) p ≡ true → (p.device < 63) × (p.plug < 31)
+        → continues_at new.continues.items p ≡ (talks l p && is_output (Some r) p)
+    on p is low =
+        rw (x.plugs.continues (place p) (place_low p low), place_device p low.1, place_plug p low.1, ← h.plugs.outs p, is)
+        (on_renewed t l p (is_output l.latest p) t.reclaiming h refl refl ∙ true_more (talks l p))
+
+-- the tables after a bus reset
+pub reset_stands : (t : Tables) (l : Account) (r : ResetEntry) (new : Tables) → StandsFor t l → IsNetwork r → IsReset t r new
+    → StandsFor new (after_reset r l)
+reset_stands t l r new h net x = record {
+  sizes = record {
+    charges = x.charge_size;
+    reclaimable = x.flow_size;
+    addressed = rw x.addressed h.sizes.addressed;
+    asked = x.asked_size;
+    outputs = x.plugs.output_size;
+    inputs = x.plugs.input_size;
+    output_seats = x.plugs.output_seats.size;
+    input_seats = x.plugs.input_seats.size;
+    continues = x.plugs.continue_size;
+  };
+  latest = x.latest;
+  plugs = record { outs = x.plugs.outs; ins = x.plugs.ins };
+  resources = record {
+    left = x.words.0 ∙ sym (ap (λ m. 4915 - m) (sum_to_zero 64));
+    high = x.words.1 ∙ sym (channels_start 0);
+    low = x.words.2 ∙ sym (channels_start 32);
+    charges = λ ch lt. rw (x.charges ch lt) refl;
+  };
+  second = second_reset t l r new h net x;
+  outputs = outputs_reset t l r new h net x.plugs;
+  inputs = inputs_reset t l r new h net x.plugs;
+  controllers = record { addressed = rw x.addressed h.controllers.addressed; asked = λ c lt. rw (x.asked c lt) refl };
+  sound = reset_keeps r l net h.sound;
+}

@@ -1,0 +1,40 @@
+-- The words of plugs after a bus reset.
+use Rattle.fw_base.specs.declared.plug.PlugAt.{PlugAt}
+use Rattle.std.proofs.Common.{◌≡◌, ◌<◌, ◌+◌, ◌*◌, ◌/◌, ◌%◌, ◌^◌, ◌==◌, ◌||◌, not, ℕ, false, ◌∙◌, ap, arith}
+use Rattle.std.proofs.lemmas.Nat.{mod_low, div-mul-add, mod-mul-add}
+use Rattle.fw_words.specs.Quadlet.{field}
+use Rattle.fw_plug.specs.Words.{OutFields, InFields, FitsRegister, flag, out_word, in_word, is_connected}
+use Rattle.fw_plug.proofs.Words.{fields_of_word}
+use Rattle.fw_ledger.specs.Resets.{without_connections}
+use Rattle.fw_ledger.specs.Stands.{place}
+
+-- the device and the number of a place
+pub place_device : (p : PlugAt) → p.plug < 31 → place p / 31 ≡ p.device
+place_device p lt = div-mul-add p.device 31 p.plug lt
+
+pub place_plug : (p : PlugAt) → p.plug < 31 → place p % 31 ≡ p.plug
+place_plug p lt = mod-mul-add p.device 31 p.plug lt
+
+-- the lower 24 bits of a word
+low_bits : (high low : ℕ) → low < 2 ^ 24 → field (high * 2 ^ 24 + low) 8 31 ≡ low
+low_bits high low lt = let e : (high * 2 ^ 24 + low) / 2 ^ 0 ≡ high * 2 ^ 24 + low = omega arith in rw e (mod_low high 24 low lt)
+
+-- an output plug keeps its settings
+pub output_disconnected : (f : OutFields) → FitsRegister f.settings → without_connections (out_word f) ≡ out_word (record { broadcast = false; counter = 0; settings = f.settings })
+output_disconnected f r =
+    let low : ℕ = f.settings.channel * 2 ^ 16 + f.settings.rate * 2 ^ 14 + f.settings.overhead * 2 ^ 10 + 122 in
+    let lt : low < 2 ^ 24 = omega arith in
+    let e : out_word f ≡ (128 + flag f.broadcast * 64 + f.counter) * 2 ^ 24 + low = omega arith in
+    ap (λ w. 2 ^ 31 + field w 8 31) e ∙ ap (λ n. 2 ^ 31 + n) (low_bits (128 + flag f.broadcast * 64 + f.counter) low lt) ∙ omega arith
+
+-- an input plug keeps its channel
+pub input_disconnected : (f : InFields) → f.channel < 64 → without_connections (in_word f) ≡ in_word (record { broadcast = false; counter = 0; channel = f.channel })
+input_disconnected f small =
+    let low : ℕ = f.channel * 2 ^ 16 in
+    let lt : low < 2 ^ 24 = omega arith in
+    let e : in_word f ≡ (128 + flag f.broadcast * 64 + f.counter) * 2 ^ 24 + low = omega arith in
+    ap (λ w. 2 ^ 31 + field w 8 31) e ∙ ap (λ n. 2 ^ 31 + n) (low_bits (128 + flag f.broadcast * 64 + f.counter) low lt) ∙ omega arith
+
+-- a connection stands where one is counted
+pub output_connected : (f : OutFields) → f.counter < 64 → FitsRegister f.settings → is_connected (out_word f) ≡ (f.broadcast || not (f.counter == 0))
+output_connected f most r = ap (λ (g : OutFields). g.broadcast || not (g.counter == 0)) (fields_of_word f most r)

@@ -1,0 +1,7 @@
+use Rattle.std.proofs.Common.{◌≡◌, ◌<◌, ℕ}
+use Rattle.fw_ledger.specs.Stands.{asked_at}
+use Rattle.fw_ledger.specs.declared.tables.Asked.TheVariants.{Nothing}
+use Rattle.fw_ledger.proofs.counts.forget.Given as goal
+
+abbrev pub invariant-loop-asked : goal.invariant-loop-asked
+invariant-loop-asked l = (k : ℕ) → k < l.asked-index → asked_at l.requests k ≡ Nothing

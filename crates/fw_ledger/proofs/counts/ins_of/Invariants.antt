@@ -1,0 +1,8 @@
+use Rattle.std.proofs.Common.{◌≡◌, nat_lt, take, slice_index}
+use Rattle.std.specs.List.{list_any}
+use Rattle.fw_base.specs.declared.plug.PlugAt.{PlugAt}
+use Rattle.fw_ledger.specs.Network.{is_input_of}
+use Rattle.fw_ledger.proofs.counts.ins_of.Given as goal
+
+abbrev pub invariant-loop-row : goal.invariant-loop-row
+invariant-loop-row l = (p : PlugAt) → list_any (is_input_of p) (take l.row-index l.nodes) ≡ nat_lt p.plug (slice_index l.counts p.device)

@@ -1,0 +1,6 @@
+use Rattle.std.proofs.Common.{◌≡◌, ◌++◌, map, take, drop}
+use Rattle.fw_ledger.specs.Deaths.{orphaned_charge}
+use Rattle.fw_ledger.proofs.event.orphan_charges.Given as goal
+
+abbrev pub invariant-loop-charge : goal.invariant-loop-charge
+invariant-loop-charge l = l.charges ≡ map (orphaned_charge l.c) (take l.charge-index l.initial.charges) ++ drop l.charge-index l.initial.charges

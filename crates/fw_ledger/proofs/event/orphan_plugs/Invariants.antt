@@ -1,0 +1,6 @@
+use Rattle.std.proofs.Common.{◌≡◌, ◌++◌, map, take, drop}
+use Rattle.fw_ledger.specs.Deaths.{orphaned_seats}
+use Rattle.fw_ledger.proofs.event.orphan_plugs.Given as goal
+
+abbrev pub invariant-loop-seats : goal.invariant-loop-seats
+invariant-loop-seats l = l.plugs ≡ map (orphaned_seats l.c) (take l.seats-index l.initial.plugs) ++ drop l.seats-index l.initial.plugs

@@ -1,0 +1,9 @@
+use Rattle.std.proofs.Common.{◌≡◌, ◌<◌, ◌≤◌, ◌/◌, ◌%◌, ℕ, slice_index}
+use Rattle.fw_ledger.specs.Resets.{renewed_input}
+use Rattle.fw_ledger.proofs.renew.renew_inputs.Given as goal
+
+abbrev pub invariant-loop-k : goal.invariant-loop-k
+invariant-loop-k l = record {
+  done : (k : ℕ) → k < l.k → slice_index l.words k ≡ renewed_input l.before (k / 31) (k % 31) (slice_index l.initial.words k);
+  left : (k : ℕ) → l.k ≤ k → slice_index l.words k ≡ slice_index l.initial.words k;
+}

@@ -1,0 +1,19 @@
+use Rattle.std.proofs.Common.{◌-◌, if◌then◌else◌, None, ◌∙◌, ap}
+use Rattle.fw_entry.specs.Network.{first_id}
+use Rattle.fw_ledger.specs.Words.{is_node, manager_register, plug_register, first_address}
+use Rattle.fw_ledger.specs.Stands.{row_at}
+use Rattle.fw_ledger.proofs.RegisterNames.{register_is, second_found, named_there}
+use Rattle.fw_ledger.proofs.tables.Tables.register_at.Goals as goal
+
+pub returns-in-None-clause-there : goal.returns-in-None-clause-there
+returns-in-None-clause-there c =
+    let t = c.args.self.now in
+    let l = c.requires.stands.0 in
+    let h = c.requires.stands.1 in
+    let id = c.args.id in
+    let offset = c.args.address - first_address in
+    let row = c.row_at.ensures ∙ ap (λ nodes. row_at nodes id) c.as_slice.ensures.value in
+    named_there t l id c.args.address c.plug_register.result h
+    (second_found c.managed.result c.plug_register.result (if is_node (id - first_id) t.manager then manager_register offset else None)
+    (plug_register (row_at t.nodes id) offset) c.in-None.is c.managed.ensures (c.plug_register.ensures ∙ ap (λ r. plug_register r offset) row)
+    ∙ register_is t.started t.manager t.nodes l.latest id c.args.address h.latest c.if-id-lt65472.false c.if-address-lt281474708275200.false)

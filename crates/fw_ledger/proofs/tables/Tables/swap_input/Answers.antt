@@ -1,0 +1,20 @@
+use Rattle.std.proofs.Common.{◌≡◌, sym, ◌∙◌, ap, rules}
+use Rattle.fw_ledger.specs.Stands.{word_at}
+use Rattle.fw_ledger.proofs.InputSwaps.{input_made, input_left}
+use Rattle.fw_ledger.proofs.tables.Tables.swap_input.Goals as goal
+
+pub returns-then-is_more : goal.returns-then-is_more
+returns-then-is_more c = λ l h.
+    let p = c.args.p in
+    let found : c.args.argument ≡ c.word_at.result = search rules in
+    let same = found ∙ c.word_at.ensures ∙ ap (λ ws. word_at ws p) c.deref.ensures.value in
+    input_made c.args.self.now l c.args.c p c.args.argument c.args.new c.kind_of-kind.result _ _ same c.kind_of-kind.ensures
+    (sym c.is_more.ensures ∙ c.if-is_more.true) (c.connect_input.ensures l h)
+
+pub returns-else-is_more : goal.returns-else-is_more
+returns-else-is_more c = λ l h.
+    let p = c.args.p in
+    let found : c.args.argument ≡ c.word_at.result = search rules in
+    let same = found ∙ c.word_at.ensures ∙ ap (λ ws. word_at ws p) c.deref.ensures.value in
+    input_left c.args.self.now l c.args.c p c.args.argument c.args.new c.kind_of-kind.result _ _ same c.kind_of-kind.ensures
+    (sym c.is_more.ensures ∙ c.if-is_more.false) (c.disconnect_input.ensures l h)

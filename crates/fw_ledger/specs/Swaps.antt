@@ -1,0 +1,110 @@
+-- What the tables of a ledger say of a compare_swap.
+use Rattle.fw_base.specs.declared.plug.ConnectionKind.{ConnectionKind}
+use Rattle.fw_base.specs.declared.plug.ConnectionKind.TheVariants.{PointToPoint, Broadcast}
+use Rattle.fw_base.specs.declared.plug.PlugAt.{PlugAt}
+use Rattle.fw_words.specs.Quadlet.{field, quadlet_at}
+use Rattle.fw_plug.specs.Words.{OutFields, Settings, is_connected}
+use Rattle.std.specs.Prelude.{◌≡◌, ◌<◌, ◌⊎◌, ◌+◌, ◌-◌, ◌*◌, ℕ, ◌==◌, nat_lt, Bool, true, false, not, ◌&&◌, ◌||◌, IsTrue, List, length, slice_index, if◌then◌else◌, Option, Some, None}
+use Rattle.fw_ledger.specs.Account.{Pending, Allocation, Connections, Account, is_there, is_pending_of, counter, pending_channel}
+use Rattle.fw_ledger.specs.Moves.{Move, after}
+use Rattle.fw_ledger.specs.Words.{Register, BandwidthAvailable, ChannelsAvailable, OutputPlug, InputPlug}
+use Rattle.fw_ledger.specs.declared.register.Register.{Register as RegisterName}
+use Rattle.fw_ledger.specs.declared.register.Register.TheVariants.{Bandwidth, HighChannels, LowChannels, Output, Input}
+use Rattle.fw_ledger.specs.declared.held.Held.{Held}
+use Rattle.fw_ledger.specs.declared.tables.Charge.{Charge}
+use Rattle.fw_ledger.specs.declared.tables.Charge.TheVariants.{Free, Pending as PendingCharge, Connected, Orphaned}
+use Rattle.fw_ledger.specs.declared.tables.Tables.{Tables}
+
+-- the register that is named
+abbrev pub register_named : RegisterName → Register
+register_named Bandwidth = BandwidthAvailable
+register_named HighChannels = ChannelsAvailable 0
+register_named LowChannels = ChannelsAvailable 32
+register_named (Output p) = OutputPlug p
+register_named (Input p) = InputPlug p
+
+-- the account after the move that a swap was found to be, where it is one
+abbrev pub moved_by : ℕ → Option (PlugAt × Move) → Account → Option Account
+moved_by c None l = None
+moved_by c (Some m) l = Some (after c m.0 m.1 l)
+
+-- the account after a swap of a register of the account, or of another
+abbrev pub account_after : ℕ → Option Register → (Register → Option (PlugAt × Move)) → Account → Option Account
+account_after c None move l = Some l
+account_after c (Some register) move l = moved_by c (move register) l
+
+-- ---- channels and units
+
+-- the channel that a charge holds for its controller, with the plug and the units
+abbrev pub held_of : ℕ → Charge → Option Held
+held_of ch Free = None
+held_of ch (PendingCharge c plug units) = Some (record { channel = ch; plug = plug; units = units })
+held_of ch (Connected plug units) = None
+held_of ch (Orphaned plug units) = None
+
+-- what controller c has allocated and not connected
+abbrev pub IsHeld : ℕ → Option Held → Account → Type 0
+IsHeld c None l = pending_channel c l.allocations ≡ None
+IsHeld c (Some h) l = (h.channel < 64) × (l.allocations h.channel ≡ Some (record { holder = Pending c h.plug; units = h.units }))
+
+-- a channel that controller c holds without units
+abbrev pub holds_no_units : ℕ → Option Allocation → Bool
+holds_no_units c None = false
+holds_no_units c (Some x) = is_pending_of c x.holder && (x.units == 0)
+
+-- the half of CHANNELS_AVAILABLE that begins with this channel
+abbrev pub IsHalf : ℕ → Type 0
+IsHalf base = (base ≡ 0) ⊎ (base ≡ 32)
+
+abbrev pub half_of : ℕ → Tables → ℕ
+half_of base t = if base == 0 then t.high else t.low
+
+abbrev pub with_half : ℕ → ℕ → Tables → Tables
+with_half base word t = record t { high = (if base == 0 then word else t.high); low = (if base == 0 then t.low else word) }
+
+-- ---- connections
+
+-- one count of the point-to-point connection counter, or the broadcast connection bit
+abbrev pub connection_value : ConnectionKind → ℕ
+connection_value PointToPoint = 16777216
+connection_value Broadcast = 1073741824
+
+-- whether one connection more of the kind fits a plug with this word
+abbrev pub shows_room : ConnectionKind → ℕ → Bool
+shows_room PointToPoint word = nat_lt (field word 2 7) 63
+shows_room Broadcast word = not (field word 1 1 == 1)
+
+-- the word shows these connections
+pub record Shows (word : ℕ) (s : Connections) : Type 0 where
+  pub broadcast : (field word 1 1 == 1) ≡ is_there s.broadcast
+  pub counter : field word 2 7 ≡ counter s
+
+-- the fields of an output plug, and of an input plug, with one connection of the kind and no other
+abbrev pub is_broadcast : ConnectionKind → Bool
+is_broadcast PointToPoint = false
+is_broadcast Broadcast = true
+
+abbrev pub connected_once : ConnectionKind → Settings → OutFields
+connected_once kind k = record { broadcast = is_broadcast kind; counter = (if is_broadcast kind then 0 else 1); settings = k }
+
+-- an input plug's word with another channel
+abbrev pub with_channel : ℕ → ℕ → ℕ
+with_channel word channel = word - field word 10 15 * 65536 + channel * 65536
+
+-- a plug with this word may be connected on the channel
+abbrev pub keeps_channel : ℕ → ℕ → Bool
+keeps_channel word channel = not (is_connected word) || (channel == field word 10 15)
+
+-- ---- registers
+
+-- the plug of a plug register is there
+abbrev pub IsThere : RegisterName → Tables → Type 0
+IsThere Bandwidth t = Unit {0}
+IsThere HighChannels t = Unit {0}
+IsThere LowChannels t = Unit {0}
+IsThere (Output p) t = IsTrue (nat_lt p.plug (slice_index t.outs p.device))
+IsThere (Input p) t = IsTrue (nat_lt p.plug (slice_index t.ins p.device))
+
+-- a compare_swap of two quadlets is complete and shows its argument as the old value
+abbrev pub shows_argument : ℕ → ℕ → List ℕ → Bool
+shows_argument argument rcode old = (rcode == 0) && (length old == 4) && (quadlet_at old 0 == argument)

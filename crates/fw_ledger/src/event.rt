@@ -1,0 +1,83 @@
+//! The end of a reclaim second, and the death of a controller.
+
+ghost use Rattle.std.specs.Prelude.{◌≡◌, ◌<◌, Some, None, length, map, if◌then◌else◌};
+ghost use Rattle.fw_base.specs.Tables.{update};
+ghost use Rattle.fw_ledger.specs.Account.{Account};
+ghost use Rattle.fw_ledger.specs.Events.{after_second, after_death};
+ghost use Rattle.fw_ledger.specs.Stands.{Stands, StandsFor, Follows};
+ghost use Rattle.fw_ledger.specs.Deaths.{orphaned_charge, orphaned_seats};
+
+use crate::tables::{Asked, Broadcaster, Charge, Seats, Tables};
+
+// The charge after the death of controller `c`.
+fn orphaned_charge(charge: Charge, c: u8) -> Charge
+    ensures { result ≡ orphaned_charge c charge }
+{
+    match charge {
+        Charge::Pending {
+            controller,
+            plug,
+            units,
+        } if c == controller => Charge::Orphaned { plug, units },
+        other => other,
+    }
+}
+
+// Whose the connections of a plug are after the death of controller `c`.
+fn orphan_seats(seats: &mut Seats, c: u8)
+    ensures { seats.new ≡ orphaned_seats c seats.old }
+{
+    if c < 63 {
+        seats.counts[usize::from(c)] = 0;
+    }
+    if let Broadcaster::Controller(owner) = seats.broadcaster
+        && c == owner
+    {
+        seats.broadcaster = Broadcaster::Died;
+    }
+}
+
+// All charges after the death of controller `c`.
+fn orphan_charges(charges: &mut [Charge], c: u8)
+    ensures { charges.new ≡ map (orphaned_charge c) charges.old }
+{
+    for charge in charges.iter_mut() {
+        *charge = orphaned_charge(*charge, c);
+    }
+}
+
+// The connections of all plugs after the death of controller `c`.
+fn orphan_plugs(plugs: &mut [Seats], c: u8)
+    ensures { plugs.new ≡ map (orphaned_seats c) plugs.old }
+{
+    for seats in plugs.iter_mut() {
+        orphan_seats(seats, c);
+    }
+}
+
+impl Tables {
+    /// The reclaim second is over. It is refused where none runs.
+    pub fn take_second(&mut self) -> bool
+        requires stands { Stands self.old }
+        ensures { (l : Account) → StandsFor self.old l → Follows result self.old self.new (if l.reclaiming then Some (after_second l) else None) }
+    {
+        if !self.reclaiming {
+            return false;
+        }
+        self.reclaiming = false;
+        true
+    }
+
+    /// The controller of this device dies.
+    pub fn take_death(&mut self, device: u8)
+        requires stands { Stands self.old }
+        ensures { (l : Account) → StandsFor self.old l → StandsFor self.new (after_death device l) }
+    {
+        orphan_charges(&mut self.charges, device);
+        orphan_plugs(&mut self.output_seats, device);
+        orphan_plugs(&mut self.input_seats, device);
+        if device < 63 {
+            self.asked[usize::from(device)] = Asked::Nothing;
+        }
+    }
+}

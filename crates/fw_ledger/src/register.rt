@@ -1,0 +1,124 @@
+//! Which register of the account stands at an address.
+
+ghost use Rattle.std.specs.Prelude.{◌≡◌, IfSome, if◌then◌else◌, None};
+ghost use Rattle.std.specs.Option.{option_map};
+ghost use Rattle.fw_ledger.specs.Account.{Account};
+ghost use Rattle.fw_ledger.specs.Words.{is_node, manager_register, plug_number, first_output, first_input, output_register, input_register, plug_register, register_of};
+ghost use Rattle.fw_ledger.specs.Stands.{Stands, StandsFor};
+ghost use Rattle.fw_ledger.specs.Swaps.{IsThere, register_named};
+
+use crate::place::{plug_number, row_at};
+use crate::tables::Tables;
+use fw_base::PlugAt;
+use fw_entry::NodeRow;
+
+/// A register of the account.
+#[derive(Clone, Copy, Debug, PartialEq, Eq)]
+pub enum Register {
+    /// BANDWIDTH_AVAILABLE.
+    Bandwidth,
+    /// CHANNELS_AVAILABLE_HI: channels 0 to 31.
+    HighChannels,
+    /// CHANNELS_AVAILABLE_LO: channels 32 to 63.
+    LowChannels,
+    /// The output plug control register of a plug.
+    Output(PlugAt),
+    /// The input plug control register of a plug.
+    Input(PlugAt),
+}
+
+// The resource manager's register at an offset.
+fn manager_register(offset: u64) -> Option<Register>
+    ensures { option_map register_named result ≡ manager_register offset }
+{
+    if offset == 0x220 {
+        Some(Register::Bandwidth)
+    } else if offset == 0x224 {
+        Some(Register::HighChannels)
+    } else if offset == 0x228 {
+        Some(Register::LowChannels)
+    } else {
+        None
+    }
+}
+
+// The output plug's register at an offset of a node.
+fn output_register(row: NodeRow, offset: u64) -> Option<Register>
+    ensures { option_map register_named result ≡ output_register row (plug_number first_output offset) }
+{
+    let plug = plug_number(0x904, offset)?;
+    if plug < row.outs {
+        Some(Register::Output(PlugAt {
+            device: row.device,
+            plug,
+        }))
+    } else {
+        None
+    }
+}
+
+// The input plug's register at an offset of a node.
+fn input_register(row: NodeRow, offset: u64) -> Option<Register>
+    ensures { option_map register_named result ≡ input_register row (plug_number first_input offset) }
+{
+    let plug = plug_number(0x984, offset)?;
+    if plug < row.ins {
+        Some(Register::Input(PlugAt {
+            device: row.device,
+            plug,
+        }))
+    } else {
+        None
+    }
+}
+
+// The plug register at an offset of a node.
+fn plug_register(row: Option<NodeRow>, offset: u64) -> Option<Register>
+    ensures { option_map register_named result ≡ plug_register row offset }
+{
+    let row = row?;
+    match output_register(row, offset) {
+        Some(register) => Some(register),
+        None => input_register(row, offset),
+    }
+}
+
+// The node with this number is the resource manager.
+fn is_node(node: u16, manager: Option<u8>) -> bool
+    ensures { result ≡ is_node node manager }
+{
+    match manager {
+        Some(n) => u16::from(n) == node,
+        None => false,
+    }
+}
+
+// The register at an offset of a node, where it is the resource manager.
+fn managed(node: u16, manager: Option<u8>, offset: u64) -> Option<Register>
+    ensures { option_map register_named result ≡ (if is_node node manager then manager_register offset else None) }
+{
+    if is_node(node, manager) {
+        manager_register(offset)
+    } else {
+        None
+    }
+}
+
+impl Tables {
+    /// The register of the account that a node ID and an address name. None where another register stands there, or
+    /// none.
+    pub fn register_at(&self, id: u16, address: u64) -> Option<Register>
+        requires stands { Stands self.now }
+        ensures register { (l : Account) → StandsFor self.now l → option_map register_named result ≡ register_of l.latest id address }
+        ensures there { IfSome result (λ register. IsThere register self.now) }
+    {
+        if id < 0xffc0 || address < 0xffff_f000_0000 {
+            return None;
+        }
+        let offset = address - 0xffff_f000_0000;
+        match managed(id - 0xffc0, self.manager, offset) {
+            Some(register) => Some(register),
+            None => plug_register(row_at(self.nodes.as_slice(), id), offset),
+        }
+    }
+}

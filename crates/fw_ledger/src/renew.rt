@@ -1,0 +1,132 @@
+//! What a bus reset leaves of the registers of plugs.
+
+ghost use Rattle.std.specs.Prelude.{◌≡◌, ◌<◌, ◌/◌, ◌%◌, ℕ, length, slice_index, slice_index_or, false};
+ghost use Rattle.fw_entry.specs.Network.{speed_of, node_of_device};
+ghost use Rattle.fw_ledger.specs.Resets.{without_connections, first_output, first_input, rate_of, renewed_output, renewed_input, goes_on};
+
+use crate::place::has_plug;
+use fw_base::PlugAt;
+use fw_entry::NodeRow;
+use fw_phy::PhyPacket;
+use fw_plug::OutWord;
+use fw_words::Quadlet;
+
+// A plug's word without its connections.
+fn without_connections(word: u32) -> u32
+    ensures { result ≡ without_connections word }
+{
+    0x8000_0000 + Quadlet(word).field(8, 31)
+}
+
+// The word of an output plug at first.
+fn first_output(rate: u8) -> u32
+    requires { rate < 4 }
+    ensures { result ≡ first_output rate }
+{
+    0x803F_007A + (u32::from(rate) << 14)
+}
+
+// The speed of a node, by its self-ID packet zero.
+fn speed_of(n: usize, ids: &[PhyPacket]) -> u8
+    ensures { result ≡ speed_of n ids.now }
+{
+    for packet in ids {
+        if let PhyPacket::SelfId(zero) = packet
+            && usize::from(zero.phy) == n
+        {
+            return zero.speed;
+        }
+    }
+    0
+}
+
+// The number of the node that a device is, or how many nodes there are.
+fn node_of_device(nodes: &[NodeRow], device: u8) -> usize
+    ensures { result ≡ node_of_device nodes.now device }
+{
+    for (n, row) in nodes.iter().enumerate() {
+        if row.device == device {
+            return n;
+        }
+    }
+    nodes.len()
+}
+
+// The plug that has a place.
+fn plug_at(place: usize) -> PlugAt
+    requires { place < 1953 }
+    ensures device { result.device ≡ place / 31 }
+    ensures plug { result.plug ≡ place % 31 }
+{
+    PlugAt {
+        device: (place / 31) as u8,
+        plug: (place % 31) as u8,
+    }
+}
+
+// The word of an output plug after a bus reset.
+fn renewed_output(
+    before: &[u8; 63],
+    now: &[u8; 63],
+    nodes: &[NodeRow],
+    ids: &[PhyPacket],
+    p: PlugAt,
+    word: u32,
+) -> u32
+    requires { (n : ℕ) → speed_of n ids.now < 4 }
+    ensures { result ≡ renewed_output before.now now.now nodes.now ids.now p.device p.plug word }
+{
+    if has_plug(before, p) {
+        without_connections(word)
+    } else if has_plug(now, p) {
+        first_output(speed_of(node_of_device(nodes, p.device), ids))
+    } else {
+        word
+    }
+}
+
+/// The words of all output plugs after a bus reset.
+pub fn renew_outputs(
+    words: &mut [u32],
+    before: &[u8; 63],
+    now: &[u8; 63],
+    nodes: &[NodeRow],
+    ids: &[PhyPacket],
+)
+    requires size { length words.old ≡ 1953 }
+    requires rates { (n : ℕ) → speed_of n ids.now < 4 }
+    ensures size { length words.new ≡ 1953 }
+    ensures words { (k : ℕ) → k < 1953 → slice_index words.new k ≡ renewed_output before.now now.now nodes.now ids.now (k / 31) (k % 31) (slice_index words.old k) }
+{
+    for (k, word) in words.iter_mut().enumerate() {
+        *word = renewed_output(before, now, nodes, ids, plug_at(k), *word);
+    }
+}
+
+/// The words of all input plugs after a bus reset.
+pub fn renew_inputs(words: &mut [u32], before: &[u8; 63])
+    requires size { length words.old ≡ 1953 }
+    ensures size { length words.new ≡ 1953 }
+    ensures words { (k : ℕ) → k < 1953 → slice_index words.new k ≡ renewed_input before.now (k / 31) (k % 31) (slice_index words.old k) }
+{
+    for (k, word) in words.iter_mut().enumerate() {
+        *word = if has_plug(before, plug_at(k)) {
+            without_connections(*word)
+        } else {
+            0x803F_0000
+        };
+    }
+}
+
+/// Which output plugs go on talking after a bus reset.
+pub fn go_on(continues: &mut [bool], words: &[u32], before: &[u8; 63], runs: bool)
+    requires size { length continues.old ≡ 1953 }
+    requires words { length words.now ≡ 1953 }
+    ensures size { length continues.new ≡ 1953 }
+    ensures continues { (k : ℕ) → k < 1953 → slice_index_or continues.new k false ≡ goes_on before.now runs (k / 31) (k % 31) (slice_index words.now k) (slice_index_or continues.old k false) }
+{
+    for (k, continue_) in continues.iter_mut().enumerate() {
+        *continue_ = has_plug(before, plug_at(k))
+            && (OutWord(words[k]).is_connected() || (runs && *continue_));
+    }
+}

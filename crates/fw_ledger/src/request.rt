@@ -1,0 +1,76 @@
+//! Requests.
+
+ghost use Rattle.std.specs.Prelude.{◌≡◌, ◌<◌, Some};
+ghost use Rattle.fw_entry.specs.Network.{device_of_id};
+ghost use Rattle.fw_ledger.specs.Account.{Account, Operation};
+ghost use Rattle.fw_ledger.specs.Packets.{asked_by, addressed_after};
+ghost use Rattle.fw_ledger.specs.Words.{output_of, output_addressed, first_address};
+ghost use Rattle.fw_ledger.specs.Stands.{Stands, StandsFor, AskedFor, Follows, plug_of};
+
+use crate::place::{plug_number, row_at};
+use crate::tables::{Addressed, Asked, Tables};
+use fw_base::PlugAt;
+use fw_entry::NodeRow;
+
+/// The output plug whose register stands at an address of this node, also where the node has no such plug.
+fn output_of(row: Option<NodeRow>, offset: u64) -> Option<PlugAt>
+    ensures { result ≡ output_of row offset }
+{
+    let row = row?;
+    let plug = plug_number(0x904, offset)?;
+    Some(PlugAt {
+        device: row.device,
+        plug,
+    })
+}
+
+impl Tables {
+    /// The output plug that a request is at.
+    fn output_addressed(&self, target: u16, address: u64) -> Option<PlugAt>
+        ensures { (l : Account) → StandsFor self.now l → result ≡ output_addressed l.latest target address }
+    {
+        if address < 0xffff_f000_0000 {
+            return None;
+        }
+        output_of(
+            row_at(self.nodes.as_slice(), target),
+            address - 0xffff_f000_0000,
+        )
+    }
+
+    /// The output plug that controller `c` last addressed, once it sends this request.
+    fn addressed_after(&self, c: u8, target: u16, address: u64) -> Addressed
+        requires stands { Stands self.now }
+        requires within { c < 63 }
+        ensures { (l : Account) → StandsFor self.now l → plug_of result ≡ addressed_after c (output_addressed l.latest target address) l c }
+    {
+        let plug = match self.output_addressed(target, address) {
+            Some(plug) => plug,
+            None => return self.latest_addressed(c),
+        };
+        if self.holds(c) {
+            return self.latest_addressed(c);
+        }
+        Addressed::Plug(plug)
+    }
+
+    /// A request of the node with the ID `source`, for what `asked` says. It is refused where the ID is no node's, and
+    /// beside an outstanding request of that node.
+    pub fn take_request(&mut self, source: u16, target: u16, address: u64, asked: Asked) -> bool
+        requires stands { Stands self.old }
+        ensures { (l : Account) (operation : Operation) → StandsFor self.old l → AskedFor asked (Some (record { target = target; address = address; operation = operation })) → Follows result self.old self.new (asked_by (device_of_id l.latest source) (record { target = target; address = address; operation = operation }) l) }
+    {
+        let device = match self.device(source) {
+            Some(device) => device,
+            None => return false,
+        };
+        if self.is_busy(device) {
+            return false;
+        }
+        let plug = self.addressed_after(device, target, address);
+        let c = usize::from(device);
+        self.addressed[c] = plug;
+        self.asked[c] = asked;
+        true
+    }
+}

@@ -1,0 +1,116 @@
+//! Responses to lock requests, and the swaps of registers that they end.
+
+ghost use Rattle.std.specs.Prelude.{◌≡◌, ◌<◌};
+ghost use Rattle.fw_entry.specs.Network.{device_of_id};
+ghost use Rattle.fw_ledger.specs.Account.{Account};
+ghost use Rattle.fw_ledger.specs.Words.{register_of};
+ghost use Rattle.fw_ledger.specs.Decode.{move_at};
+ghost use Rattle.fw_ledger.specs.Packets.{Locked, ended, replied_to, after_reply};
+ghost use Rattle.fw_ledger.specs.Stands.{Stands, StandsFor, Follows};
+ghost use Rattle.fw_ledger.specs.Swaps.{IsThere, register_named, moved_by, account_after, shows_argument};
+
+use crate::register::Register;
+use crate::tables::{Asked, Tables};
+use fw_async::Head;
+use fw_words::quadlet_at;
+
+// The response is complete and shows the argument as the old value.
+fn shows_argument(argument: u32, rcode: u8, old: &[u8]) -> bool
+    ensures { result ≡ shows_argument argument rcode old.now }
+{
+    rcode == 0 && old.len() == 4 && quadlet_at(old, 0).0 == argument
+}
+
+impl Tables {
+    // Controller `c` swaps the register. It is refused where that is no move.
+    fn swap(&mut self, c: u8, register: Register, argument: u32, new: u32) -> bool
+        requires stands { Stands self.old }
+        requires controller { c < 63 }
+        requires there { IsThere register self.old }
+        ensures { (l : Account) → StandsFor self.old l → Follows result self.old self.new (moved_by c (move_at l c (register_named register) argument new) l) }
+    {
+        match register {
+            Register::Bandwidth => self.swap_units(c, argument, new),
+            Register::HighChannels => self.swap_channels(c, 0, argument, new),
+            Register::LowChannels => self.swap_channels(c, 32, argument, new),
+            Register::Output(p) => self.swap_output(c, p, argument, new),
+            Register::Input(p) => self.swap_input(c, p, argument, new),
+        }
+    }
+
+    // Controller `c` swaps what stands at an address. It is refused where that is a register of the account, and no move.
+    fn swap_at(&mut self, c: u8, target: u16, address: u64, argument: u32, new: u32) -> bool
+        requires stands { Stands self.old }
+        requires controller { c < 63 }
+        ensures { (l : Account) → StandsFor self.old l → Follows result self.old self.new (account_after c (register_of l.latest target address) (λ r. move_at l c r argument new) l) }
+    {
+        match self.register_at(target, address) {
+            Some(register) => self.swap(c, register, argument, new),
+            None => true,
+        }
+    }
+
+    // The request of controller `c` has ended.
+    fn end(&mut self, c: u8)
+        requires stands { Stands self.old }
+        requires controller { c < 63 }
+        ensures { (l : Account) → StandsFor self.old l → StandsFor self.new (ended c l) }
+    {
+        self.asked[usize::from(c)] = Asked::Nothing;
+    }
+
+    // The response to a lock request of controller `c`.
+    fn end_lock(&mut self, c: u8, source: u16, rcode: u8, function: u8, old: &[u8]) -> bool
+        requires stands { Stands self.old }
+        requires controller { c < 63 }
+        ensures { (l : Account) → StandsFor self.old l → Follows result self.old self.new (replied_to c (l.outstanding c) source (Locked function rcode old.now) l) }
+    {
+        match self.outstanding(c) {
+            Asked::Swap {
+                target,
+                address,
+                argument,
+                new,
+            } => {
+                if target != source || function != 2 {
+                    return false;
+                }
+                if !shows_argument(argument, rcode, old) {
+                    self.end(c);
+                    return true;
+                }
+                if !self.swap_at(c, target, address, argument, new) {
+                    return false;
+                }
+                self.end(c);
+                true
+            },
+            Asked::Lock {
+                target,
+                function: asked,
+                ..
+            } => {
+                if target != source || asked != function {
+                    return false;
+                }
+                self.end(c);
+                true
+            },
+            _ => false,
+        }
+    }
+
+    /// The response to a lock request.
+    pub fn take_lock_reply(&mut self, head: &Head, rcode: u8, function: u8, old: &[u8]) -> bool
+        requires stands { Stands self.old }
+        ensures { (l : Account) → StandsFor self.old l → Follows result self.old self.new (after_reply head.now (Locked function rcode old.now) l) }
+    {
+        if head.tl != 0 {
+            return true;
+        }
+        match self.device(head.destination) {
+            Some(c) => self.end_lock(c, head.source, rcode, function, old),
+            None => false,
+        }
+    }
+}
