@@ -9,7 +9,7 @@ use Rattle.fw_entry.specs.declared.entry.Timed.{Timed}
 use Rattle.fw_log.specs.Reading.{IsPending}
 use Rattle.fw_log.specs.Reader.{State, finish_of, finish_by, total}
 use Rattle.fw_log.specs.History.{bytes_of, stand_after, HasRead, Finishes}
-use Rattle.fw_log.specs.declared.stand.Stand.{Stand}
+use Rattle.fw_log.specs.Stands.{Position}
 use Rattle.fw_log.specs.declared.LogFault.{LogFault}
 use Rattle.fw_decode.specs.declared.ending.LogEnding.{LogEnding}
 use Rattle.fw_decode.specs.declared.ending.LogEnding.TheVariants.{Done, NoLog, ReadFault, WriteFault, TooLong, NoMemory}
@@ -20,7 +20,7 @@ use Rattle.fw_decode.proofs.Printings.{begins_of}
 
 -- how many bytes a reader has taken
 pub total_of : {entries : List Timed} {bytes : List ℕ} {r : State} → HasRead entries bytes r → total r ≡ length bytes
-total_of {entries} {bytes} {r} h = omega (arith, ap (λ (s : Stand). s.start) h.stand, ap length h.same, length-append (bytes_of entries) r.taken)
+total_of {entries} {bytes} {r} h = omega (arith, ap (λ (s : Position). s.start) h.stand, ap length h.same, length-append (bytes_of entries) r.taken)
 
 pub decoded_first : {text : List Timed → List ℕ} (e : IsEach text) (Took : List Timed → Type 0) (left held : Option (List ℕ)) (r : State) → HasRead [] [] r → Took [] → DecodedTo text Took left left held held r limit
 decoded_first e Took left held r h t = record { entries = []; bytes = []; taken = Takes-nothing left; read = h; took = t; grew = nothing_grew e held; count = omega arith }
@@ -39,7 +39,7 @@ decoded_more {text} e {Took} {Took'} {left} {left1} {held} {held1} {r} {room} le
 }
 
 pending_of : {entries : List Timed} {bytes : List ℕ} {r : State} → HasRead entries bytes r → IsPending (stand_after entries) r.taken
-pending_of {entries} {bytes} {r} h = let P : Stand → Type 0 = λ s. IsPending s r.taken in subst P h.stand h.pending
+pending_of {entries} {bytes} {r} h = let P : Position → Type 0 = λ s. IsPending s r.taken in subst P h.stand h.pending
 
 -- the input has ended, and what is written at the log's end was written
 pub decoded_end : {text last whole : List Timed → List ℕ} (w : IsSum text last whole) {Took : List Timed → Type 0} {left left1 held held1 : Option (List ℕ)} {r : State} {room : ℕ} (left2 held2 : Option (List ℕ)) (d : DecodedTo text Took left left1 held held1 r room)
@@ -82,7 +82,7 @@ pub faulted_end : {text : List Timed → List ℕ} {Took : List Timed → Type 0
     → Takes left1 left2 [] × IsAtEnd left2 → Finishes d.entries d.bytes (Err f) → Some f ≡ finish_of r → Faulted text left left2 held held1 f
 faulted_end {text} {Took} {left} {left1} {held} {held1} {r} {room} left2 f d e h is =
     let same : finish_of r ≡ finish_by None (stand_after d.entries) r.taken =
-    ap (λ (o : Option LogFault). finish_by o r.stand r.taken) d.read.no_fault ∙ ap (λ (s : Stand). finish_by None s r.taken) d.read.stand in
+    ap (λ (o : Option LogFault). finish_by o r.stand r.taken) d.read.no_fault ∙ ap (λ (s : Position). finish_by None s r.taken) d.read.stand in
     record {
       entries = d.entries;
       bytes = d.bytes;

@@ -7,7 +7,7 @@ use Rattle.fw_entry.specs.declared.entry.Timed.{Timed}
 use Rattle.fw_log.specs.Reading.{IsPending, Faulty}
 use Rattle.fw_log.specs.Reader.{State, Feeds, FeedsTo, ShowsFault, total, bytes_given}
 use Rattle.fw_log.specs.History.{bytes_of, HasRead, BeginsNoLog, ReadsTo, ReadsOn}
-use Rattle.fw_log.specs.declared.stand.Stand.{Stand}
+use Rattle.fw_log.specs.Stands.{Position}
 use Rattle.fw_log.specs.declared.read.LogFed.{LogFed}
 use Rattle.fw_log.specs.declared.LogFault.{LogFault}
 use Rattle.fw_log.proofs.HistoryLaws.{dead}
@@ -45,7 +45,7 @@ next {text} e {Took} {Took'} {old} {now} {now'} {entries} {bytes} {piece} {rest}
       };
     }
 
-none_by : (es : List Timed) (bs rest old : List ℕ) (s : Stand) (new : State) (used : ℕ) (o : Option Timed) → o ≡ None → FeedsTo s old rest used o new → ReadsTo es bs rest used o new → HasRead es (bs ++ take used rest) new
+none_by : (es : List Timed) (bs rest old : List ℕ) (s : Position) (new : State) (used : ℕ) (o : Option Timed) → o ≡ None → FeedsTo s old rest used o new → ReadsTo es bs rest used o new → HasRead es (bs ++ take used rest) new
 none_by es bs rest old s new used None e f h =
     let P : List ℕ → Type 0 = λ x. HasRead es (bs ++ x) new in
     subst P (sym (take_all used rest (omega (arith, f.0)))) h
@@ -58,7 +58,7 @@ some_by es bs rest new used (Some u) t e h =
     let P : Timed → Type 0 = λ x. HasRead (es ++ x ∷ []) (bs ++ take used rest) new in
     subst P same h
 
-fits_by : (rest old : List ℕ) (s : Stand) (new : State) (used : ℕ) (o : Option Timed) (t : Timed) → o ≡ Some t → FeedsTo s old rest used o new → Fits t.what
+fits_by : (rest old : List ℕ) (s : Position) (new : State) (used : ℕ) (o : Option Timed) (t : Timed) → o ≡ Some t → FeedsTo s old rest used o new → Fits t.what
 fits_by rest old s new used None t e f = cc e
 fits_by rest old s new used (Some u) t e f =
     let same : u ≡ t = cc e in
@@ -73,11 +73,11 @@ when_fresh P (Some f) e h = cc e
 pub rest_from : (xs : List ℕ) (n : ℕ) → take (length xs - n) (drop n xs) ≡ drop n xs
 rest_from xs n = take_all (length xs - n) (drop n xs) (omega (arith, length-drop n xs))
 
-fresh_by : (s : Stand) (old rest : List ℕ) (new : State) (used : ℕ) (o : Option Timed) → FeedsTo s old rest used o new → new.fault ≡ None
+fresh_by : (s : Position) (old rest : List ℕ) (new : State) (used : ℕ) (o : Option Timed) → FeedsTo s old rest used o new → new.fault ≡ None
 fresh_by s old rest new used None f = ap (λ (r : State). r.fault) f.1
 fresh_by s old rest new used (Some t) f = ap (λ (r : State). r.fault) f.1
 
-pub stays_fresh : (s : Stand) (old rest : List ℕ) (new : State) (fed : LogFed) → Feeds s old rest (Ok fed) new → new.fault ≡ None
+pub stays_fresh : (s : Position) (old rest : List ℕ) (new : State) (fed : LogFed) → Feeds s old rest (Ok fed) new → new.fault ≡ None
 stays_fresh s old rest new fed f = fresh_by s old rest new fed.used fed.entry f.0
 
 -- an entry that is given may be printed
@@ -131,7 +131,7 @@ pub few_read : {text : List Timed → List ℕ} {Took : List Timed → Type 0} {
     → ReadsOn (entries ++ p.gathers.more) (bytes ++ p.done) rest (Ok fed) new → fed.entry ≡ Some t → total new < 2 ^ 64 → length (entries ++ p.gathers.more) + 1 < 2 ^ 64
 few_read {text} {Took} {old} {now} {entries} {bytes} {piece} {rest} {r} new fed t p h is small =
     let read = one_read new fed t p h is in
-    let start : new.stand.start ≡ length (bytes_of (entries ++ (p.gathers.more ++ t ∷ []))) = ap (λ (s : Stand). s.start) read.stand in
+    let start : new.stand.start ≡ length (bytes_of (entries ++ (p.gathers.more ++ t ∷ []))) = ap (λ (s : Position). s.start) read.stand in
     omega (arith, start, few_by (entries ++ (p.gathers.more ++ t ∷ [])), length-append entries p.gathers.more, length-append entries (p.gathers.more ++ t ∷ []), length-append p.gathers.more (t ∷ []))
 
 -- its text was gathered
@@ -152,7 +152,7 @@ taken_past old rest k =
     let more : length old + k + 1 ≡ length old + (k + 1) = omega arith in
     ap (λ (n : ℕ). take n (old ++ rest)) more ∙ taken_in old rest (k + 1)
 
-shown_in : (s : Stand) (old rest : List ℕ) (k : ℕ) (f : LogFault) → ShowsFault s old rest k f → ShowsFault s [] (old ++ rest) (length old + k) f
+shown_in : (s : Position) (old rest : List ℕ) (k : ℕ) (f : LogFault) → ShowsFault s old rest k f → ShowsFault s [] (old ++ rest) (length old + k) f
 shown_in s old rest k f h =
     let P : List ℕ → Type 0 = IsPending s in
     let Q : List ℕ → Type 0 = λ x. Faulty s x f in
@@ -168,7 +168,7 @@ gathered_refused : {text : List Timed → List ℕ} {Took : List Timed → Type 
 gathered_refused {text} {Took} {old} {now} {entries} {bytes} {piece} {rest} {r} k f p s =
     let g = p.gathers in
     let es : List Timed = entries ++ g.more in
-    let S : Stand → Type 0 = λ x. ShowsFault x [] (r.taken ++ rest) (length r.taken + k) f in
+    let S : Position → Type 0 = λ x. ShowsFault x [] (r.taken ++ rest) (length r.taken + k) f in
     let B : List ℕ → Type 0 = BeginsNoLog in
     let upto : (bytes ++ p.done) ++ take (k + 1) rest ≡ bytes_of es ++ take (length r.taken + k + 1) (r.taken ++ rest) =
     ap (λ (x : List ℕ). x ++ take (k + 1) rest) (sym g.read.same) ∙ append_assoc (bytes_of es) r.taken (take (k + 1) rest) ∙ ap (λ (x : List ℕ). bytes_of es ++ x) (sym (taken_past r.taken rest k)) in

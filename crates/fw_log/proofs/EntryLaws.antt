@@ -10,7 +10,7 @@ use Rattle.fw_async.specs.Async.{AreBytes}
 use Rattle.fw_log.proofs.ByteLaws.{are_bytes_part, peel}
 use Rattle.fw_entry.specs.Log.{header_bytes, entry_head, entry_bytes, body}
 use Rattle.fw_log.specs.Reading.{tested, header_fault, entry_fault, head_fault, fault_at, skip, header_at, need, entry_need, length_of, cycle_of, is_kind, is_length, HeadFits, IsComplete, Spells, WrongBody}
-use Rattle.fw_log.specs.declared.stand.Stand.{Stand}
+use Rattle.fw_log.specs.Stands.{Position}
 use Rattle.fw_log.specs.Bodies.{IsBody, BodyRefused}
 use Rattle.fw_log.specs.declared.LogFault.{LogFault}
 use Rattle.fw_log.proofs.StayLaws.{need_least}
@@ -107,14 +107,14 @@ entry_back e fit size zero =
 need_complete : (n m : ℕ) → n ≡ (if nat_lt n 4 then 12 else 12 + 4 * m) → n ≡ 12 + 4 * m
 need_complete n m h = grind (arith, nat_tests)
 
-still_open : (s : Stand) (bytes : List ℕ) → 0 < length bytes → head_fault s bytes ≡ None → s.ended ≡ false
+still_open : (s : Position) (bytes : List ℕ) → 0 < length bytes → head_fault s bytes ≡ None → s.ended ≡ false
 still_open s bytes some h = by s.ended (length bytes) some _ (fault_at s.start AfterEnd) h
   where
     by : (b : Bool) (n : ℕ) → 0 < n → (x : Option LogFault) (f : LogFault) → (if b then (if n == 0 then None else Some f) else x) ≡ None → b ≡ false
     by b n some x f h = grind (arith, nat_tests)
 
 -- a first entry, and one behind others
-opened : (s : Stand) (bytes : List ℕ) → s.ended ≡ false → head_fault s bytes ≡ None → (if s.start == 0 then header_fault bytes (entry_fault 16 s.last (drop 16 bytes)) else entry_fault s.start s.last bytes) ≡ None
+opened : (s : Position) (bytes : List ℕ) → s.ended ≡ false → head_fault s bytes ≡ None → (if s.start == 0 then header_fault bytes (entry_fault 16 s.last (drop 16 bytes)) else entry_fault s.start s.last bytes) ≡ None
 opened s bytes e h = rw e at h
 
 record CompleteBy (last : ℕ) (before e bytes : List ℕ) : Type 0 where
@@ -146,7 +146,7 @@ complete_by start last bytes false fit h complete enough =
       size = need_complete (length bytes) (length_of bytes) size;
     }
 
-pub complete_head : (s : Stand) (bytes : List ℕ) → AreBytes bytes → head_fault s bytes ≡ None → length bytes ≡ need s bytes → IsComplete s bytes
+pub complete_head : (s : Position) (bytes : List ℕ) → AreBytes bytes → head_fault s bytes ≡ None → length bytes ≡ need s bytes → IsComplete s bytes
 complete_head s bytes fit h complete =
     let least = need_least s bytes in
     let more : 0 < length bytes = omega arith in
@@ -162,7 +162,7 @@ kind_alone : (k low : ℕ) → is_kind k low ≡ true → (is_kind k 0 ≡ true)
 kind_alone k low h = (grind (arith, nat_tests), grind (arith, nat_tests))
 
 -- a body that is an entry's, and its cycle, spell the bytes
-pub spelled_by : (s : Stand) (bytes e : List ℕ) (t : Timed) → AreBytes e → e ≡ drop (skip s.start) bytes → IsComplete s bytes → t.cycle ≡ cycle_of e → IsBody (get_or e 0 0) (drop 12 e) t.what → Spells s t bytes
+pub spelled_by : (s : Position) (bytes e : List ℕ) (t : Timed) → AreBytes e → e ≡ drop (skip s.start) bytes → IsComplete s bytes → t.cycle ≡ cycle_of e → IsBody (get_or e 0 0) (drop 12 e) t.what → Spells s t bytes
 spelled_by s bytes e t fit is w c b =
     let P : List ℕ → Type 0 = HeadFits s.last in
     let h = subst P (sym is) w.head in
@@ -194,24 +194,24 @@ bytes_drop bytes k fit i = rw (get_or-drop k bytes i 0) (fit (k + i))
 pub entry_is : (start at : ℕ) (bytes e : List ℕ) → at ≡ skip start → e ≡ drop at bytes → e ≡ drop (skip start) bytes
 entry_is start at bytes e a b = b ∙ ap (λ k. drop k bytes) a
 
-pub kind_of_complete : (s : Stand) (bytes e : List ℕ) → e ≡ drop (skip s.start) bytes → IsComplete s bytes → is_kind (get_or e 0 0) 0 ≡ true
+pub kind_of_complete : (s : Position) (bytes e : List ℕ) → e ≡ drop (skip s.start) bytes → IsComplete s bytes → is_kind (get_or e 0 0) 0 ≡ true
 kind_of_complete s bytes e is w = rw is (kind_alone (get_or (drop (skip s.start) bytes) 0 0) (get_or (drop (skip s.start) bytes) 1 0) w.head.kind).0
 
-pub size_of_complete : (s : Stand) (bytes e more : List ℕ) → e ≡ drop (skip s.start) bytes → more ≡ drop 12 e → IsComplete s bytes → (n : ℕ) × (length more ≡ 4 * n) × (is_length (get_or e 0 0) n ≡ true)
+pub size_of_complete : (s : Position) (bytes e more : List ℕ) → e ≡ drop (skip s.start) bytes → more ≡ drop 12 e → IsComplete s bytes → (n : ℕ) × (length more ≡ 4 * n) × (is_length (get_or e 0 0) n ≡ true)
 size_of_complete s bytes e more is after w =
     let size : length e ≡ 12 + 4 * length_of e = let Q : List ℕ → Type 0 = λ x. length x ≡ 12 + 4 * length_of x in subst Q (sym is) w.size in
     (length_of e, ap length after ∙ omega (arith, length-drop 12 e), rw is w.head.size)
 
-pub long_of_complete : (s : Stand) (bytes e : List ℕ) → e ≡ drop (skip s.start) bytes → IsComplete s bytes → 12 ≤ length e
+pub long_of_complete : (s : Position) (bytes e : List ℕ) → e ≡ drop (skip s.start) bytes → IsComplete s bytes → 12 ≤ length e
 long_of_complete s bytes e is w = rw is (omega (arith, w.size))
 
-pub complete_ok : (s : Stand) (bytes e more : List ℕ) (t : Timed) → AreBytes bytes → e ≡ drop (skip s.start) bytes → more ≡ drop 12 e → IsComplete s bytes → t.cycle ≡ cycle_of e → IsBody (get_or e 0 0) more t.what → Spells s t bytes
+pub complete_ok : (s : Position) (bytes e more : List ℕ) (t : Timed) → AreBytes bytes → e ≡ drop (skip s.start) bytes → more ≡ drop 12 e → IsComplete s bytes → t.cycle ≡ cycle_of e → IsBody (get_or e 0 0) more t.what → Spells s t bytes
 complete_ok s bytes e more t fit is after w c b =
     let A : List ℕ → Type 0 = AreBytes in
     let B : List ℕ → Type 0 = λ x. IsBody (get_or e 0 0) x t.what in
     spelled_by s bytes e t (subst A (sym is) (bytes_drop bytes (skip s.start) fit)) is w c (subst B after b)
 
-pub complete_err : (s : Stand) (at : ℕ) (bytes e more : List ℕ) (g : BodyFault) → at ≡ skip s.start → e ≡ drop (skip s.start) bytes → more ≡ drop 12 e → BodyRefused (get_or e 0 0) more g → WrongBody s bytes (fault_at (s.start + (at + 12)) (BadBody g))
+pub complete_err : (s : Position) (at : ℕ) (bytes e more : List ℕ) (g : BodyFault) → at ≡ skip s.start → e ≡ drop (skip s.start) bytes → more ≡ drop 12 e → BodyRefused (get_or e 0 0) more g → WrongBody s bytes (fault_at (s.start + (at + 12)) (BadBody g))
 complete_err s at bytes e more g here is after b =
     let B : List ℕ → Type 0 = λ x. BodyRefused (get_or e 0 0) x g in
     let C : List ℕ → Type 0 = λ x. BodyRefused (get_or x 0 0) (drop 12 x) g in
@@ -235,7 +235,7 @@ size_by start last bytes true h enough =
     entry_size 16 last (drop 16 bytes) enough (is_header bytes (entry_fault 16 last (drop 16 bytes)) long h).others
 size_by start last bytes false h enough = entry_size start last bytes enough h
 
-pub size_within : (s : Stand) (bytes : List ℕ) → head_fault s bytes ≡ None → 4 ≤ length (drop (skip s.start) bytes) → length_of (drop (skip s.start) bytes) ≤ 569
+pub size_within : (s : Position) (bytes : List ℕ) → head_fault s bytes ≡ None → 4 ≤ length (drop (skip s.start) bytes) → length_of (drop (skip s.start) bytes) ≤ 569
 size_within s bytes h enough =
     let more : 0 < length bytes = omega (arith, length-drop (skip s.start) bytes) in
     size_by s.start s.last bytes (s.start == 0) (opened s bytes (still_open s bytes more h) h) enough

@@ -14,7 +14,7 @@ use Rattle.fw_cip.specs.Iso.{iso_fault}
 use Rattle.fw_cip.proofs.SpelledLaws.{spelled_none as iso_clear}
 use Rattle.fw_log.specs.Bodies.{IsBody, BodyRefused, PacketRefuses, refusal}
 use Rattle.fw_log.specs.Reading.{IsPending, Spells, Faulty, WrongBody, need, skip, fault_at}
-use Rattle.fw_log.specs.declared.stand.Stand.{Stand}
+use Rattle.fw_log.specs.Stands.{Position}
 use Rattle.fw_log.specs.Reader.{State, Feeds, FeedsTo, Counts, bytes_given, total, EndsEntry, ShowsFault, EndsNothing}
 use Rattle.fw_entry.specs.Log.{entry_bytes}
 use Rattle.fw_entry.specs.declared.entry.Entry.{Entry}
@@ -83,21 +83,21 @@ not_refused kind bytes e (Packet f) b h = packet_in bytes e (as_body kind 2 byte
 not_refused kind bytes e (Iso f) b h = iso_in bytes e (as_body kind 3 bytes e h.0 b) (λ p fits same. cc (h.1, ap iso_fault (sym same), iso_clear p fits))
 not_refused kind bytes e Fields b h = h.0 e b
 
-wrong_once : (s : Stand) (bytes : List ℕ) (f g : LogFault) → WrongBody s bytes f → WrongBody s bytes g → f ≡ g
+wrong_once : (s : Position) (bytes : List ℕ) (f g : LogFault) → WrongBody s bytes f → WrongBody s bytes g → f ≡ g
 wrong_once s bytes f g h k = h.is ∙ ap (λ w. fault_at (s.start + (skip s.start + 12)) (BadBody w)) (refused_once _ _ h.why k.why h.refused k.refused) ∙ sym k.is
 
-faulty_once : (s : Stand) (bytes : List ℕ) (f g : LogFault) → Faulty s bytes f → Faulty s bytes g → f ≡ g
+faulty_once : (s : Position) (bytes : List ℕ) (f g : LogFault) → Faulty s bytes f → Faulty s bytes g → f ≡ g
 faulty_once s bytes f g (inl a) (inl b) = cc (a, b)
 faulty_once s bytes f g (inl a) (inr b) = cc (a, b.no_fault)
 faulty_once s bytes f g (inr a) (inl b) = cc (b, a.no_fault)
 faulty_once s bytes f g (inr a) (inr b) = wrong_once s bytes f g a.wrong b.wrong
 
-pub not_faulty : {A : Type 0} (s : Stand) (t : Timed) (bytes : List ℕ) (f : LogFault) → Spells s t bytes → Faulty s bytes f → A
+pub not_faulty : {A : Type 0} (s : Position) (t : Timed) (bytes : List ℕ) (f : LogFault) → Spells s t bytes → Faulty s bytes f → A
 not_faulty s t bytes f h (inl a) = cc (a, spelled_clear s t bytes h)
 not_faulty s t bytes f h (inr b) = absurd (not_refused _ _ t.what b.wrong.why (spelled_body s t bytes h) b.wrong.refused)
 
 -- a whole entry has no front that is whole, pending bytes have none, and a fault stays
-complete_once : (s : Stand) (old piece : List ℕ) (i k : ℕ) → i ≤ k → k ≤ length piece → length (old ++ take i piece) ≡ need s (old ++ take i piece) → length (old ++ take k piece) ≡ need s (old ++ take k piece) → i ≡ k
+complete_once : (s : Position) (old piece : List ℕ) (i k : ℕ) → i ≤ k → k ≤ length piece → length (old ++ take i piece) ≡ need s (old ++ take i piece) → length (old ++ take k piece) ≡ need s (old ++ take k piece) → i ≡ k
 complete_once s old piece i k le within a b =
     let done : need s (old ++ take k piece) ≡ length (old ++ take i piece) = ap (need s) (further old piece i k le) ∙ need_done s (old ++ take i piece) (take (k - i) (drop i piece)) a in
     let same : length (old ++ take k piece) ≡ length (old ++ take i piece) = b ∙ done in
@@ -105,31 +105,31 @@ complete_once s old piece i k le within a b =
     let y : length (take k piece) ≡ k = length-take-le k piece within in
     omega (arith, length-append old (take i piece), length-append old (take k piece))
 
-pub never_complete : {A : Type 0} (s : Stand) (old piece : List ℕ) (i k : ℕ) → i ≤ k → length (old ++ take i piece) ≡ need s (old ++ take i piece) → IsPending s (old ++ take k piece) → A
+pub never_complete : {A : Type 0} (s : Position) (old piece : List ℕ) (i k : ℕ) → i ≤ k → length (old ++ take i piece) ≡ need s (old ++ take i piece) → IsPending s (old ++ take k piece) → A
 never_complete s old piece i k le a pending =
     let P : List ℕ → Type 0 = IsPending s in
     no_complete_front s (old ++ take i piece) (take (k - i) (drop i piece)) (subst P (further old piece i k le) pending) a
 
 -- no part is refused in front of pending bytes, nor in front of an entry's
-never_faulty : {A : Type 0} (s : Stand) (old piece : List ℕ) (i k : ℕ) (f : LogFault) → i ≤ k → Faulty s (old ++ take i piece) f → IsPending s (old ++ take k piece) → A
+never_faulty : {A : Type 0} (s : Position) (old piece : List ℕ) (i k : ℕ) (f : LogFault) → i ≤ k → Faulty s (old ++ take i piece) f → IsPending s (old ++ take k piece) → A
 never_faulty s old piece i k f le (inl a) pending = cc (stays s old piece i k f le a, pending.no_fault)
 never_faulty s old piece i k f le (inr b) pending = never_complete s old piece i k le b.complete pending
 
-pub entry_faulty : {A : Type 0} (s : Stand) (old piece : List ℕ) (i k : ℕ) (f : LogFault) (t : Timed) → i ≤ k → k ≤ length piece → Faulty s (old ++ take i piece) f → Spells s t (old ++ take k piece) → A
+pub entry_faulty : {A : Type 0} (s : Position) (old piece : List ℕ) (i k : ℕ) (f : LogFault) (t : Timed) → i ≤ k → k ≤ length piece → Faulty s (old ++ take i piece) f → Spells s t (old ++ take k piece) → A
 entry_faulty s old piece i k f t le within (inl a) h = cc (stays s old piece i k f le a, spelled_clear s t (old ++ take k piece) h)
 entry_faulty s old piece i k f t le within (inr b) h =
     let e : k ≡ i = sym (complete_once s old piece i k le within b.complete (spelled_complete s t (old ++ take k piece) h)) in
     let P : ℕ → Type 0 = λ n. Spells s t (old ++ take n piece) in
     not_faulty s t (old ++ take i piece) f (subst P e h) (inr b)
 
-all_of : (s : Stand) (old piece : List ℕ) (k : ℕ) → k ≡ length piece → IsPending s (old ++ piece) → IsPending s (old ++ take k piece)
+all_of : (s : Position) (old piece : List ℕ) (k : ℕ) → k ≡ length piece → IsPending s (old ++ piece) → IsPending s (old ++ take k piece)
 all_of s old piece k e h = let P : List ℕ → Type 0 = λ t. IsPending s (old ++ t) in subst P (sym (take_all k piece (omega arith))) h
 
 record Gave (used k : ℕ) (entry : Option Timed) (t : Timed) : Type 0 where
   pub count : used ≡ k
   pub this : entry ≡ Some t
 
-gave_to : (s : Stand) (old piece : List ℕ) (used : ℕ) (entry : Option Timed) (new : State) (k : ℕ) (t : Timed) → FeedsTo s old piece used entry new → EndsEntry s old piece k t → Gave used k entry t
+gave_to : (s : Position) (old piece : List ℕ) (used : ℕ) (entry : Option Timed) (new : State) (k : ℕ) (t : Timed) → FeedsTo s old piece used entry new → EndsEntry s old piece k t → Gave used k entry t
 gave_to s old piece used None new k t h e = never_complete s old piece k (length piece) e.within (spelled_complete s t _ e.spells) (all_of s old piece (length piece) refl h.2)
 gave_to s old piece used (Some u) new k t h e =
     let a = spelled_complete s u (old ++ take used piece) h.0.spells in
@@ -147,7 +147,7 @@ same_fed n k o p x y a b c =
     ∙ ap (λ (z : List ℕ). let r : Result LogFed LogFault = Ok (record { used = k; entry = p; bytes = z }) in r) c
 
 -- where a front of the piece ends an entry, that entry is given
-pub gives_entry : (s : Stand) (old piece : List ℕ) (r : Result LogFed LogFault) (new : State) → Feeds s old piece r new →
+pub gives_entry : (s : Position) (old piece : List ℕ) (r : Result LogFed LogFault) (new : State) → Feeds s old piece r new →
     (k : ℕ) (t : Timed) → EndsEntry s old piece k t → r ≡ Ok (record { used = k; entry = Some t; bytes = entry_bytes t })
 gives_entry s old piece (Ok fed) new h k t e =
     let g = gave_to s old piece fed.used fed.entry new k t h.0 e in
@@ -158,7 +158,7 @@ gives_entry s old piece (Err f) new h k t e =
       | inr more ↦ never_complete s old piece k h.0.0 more (spelled_complete s t (old ++ take k piece) e.spells) h.0.1.before
     ]
 
-fault_to : {A : Type 0} (s : Stand) (old piece : List ℕ) (used : ℕ) (entry : Option Timed) (new : State) (k : ℕ) (f : LogFault) → FeedsTo s old piece used entry new → ShowsFault s old piece k f → A
+fault_to : {A : Type 0} (s : Position) (old piece : List ℕ) (used : ℕ) (entry : Option Timed) (new : State) (k : ℕ) (f : LogFault) → FeedsTo s old piece used entry new → ShowsFault s old piece k f → A
 fault_to s old piece used None new k f h e = never_faulty s old piece (k + 1) (length piece) f (omega (arith, e.within)) e.shown (all_of s old piece (length piece) refl h.2)
 fault_to s old piece used (Some u) new k f h e =
     elim (cases_lt k used) [
@@ -167,7 +167,7 @@ fault_to s old piece used (Some u) new k f h e =
     ]
 
 -- where a byte of the piece completes a part that is refused, that refusal is answered
-pub gives_fault : (s : Stand) (old piece : List ℕ) (r : Result LogFed LogFault) (new : State) → Feeds s old piece r new → (k : ℕ) (f : LogFault) → ShowsFault s old piece k f → r ≡ Err f
+pub gives_fault : (s : Position) (old piece : List ℕ) (r : Result LogFed LogFault) (new : State) → Feeds s old piece r new → (k : ℕ) (f : LogFault) → ShowsFault s old piece k f → r ≡ Err f
 gives_fault s old piece (Ok fed) new h k f e = fault_to s old piece fed.used fed.entry new k f h.0 e
 gives_fault s old piece (Err g) new h k f e =
     elim (cases_lt k h.0.0) [
@@ -185,12 +185,12 @@ record Gives (used k : ℕ) (entry : Option Timed) : Type 0 where
   pub count : used ≡ k
   pub none : entry ≡ None
 
-none_to : (s : Stand) (old piece : List ℕ) (used : ℕ) (entry : Option Timed) (new : State) → FeedsTo s old piece used entry new → EndsNothing s old piece → Gives used (length piece) entry
+none_to : (s : Position) (old piece : List ℕ) (used : ℕ) (entry : Option Timed) (new : State) → FeedsTo s old piece used entry new → EndsNothing s old piece → Gives used (length piece) entry
 none_to s old piece used None new h e = record { count = h.0; none = refl }
 none_to s old piece used (Some t) new h e = absurd (e.no_entry used t h.0.within h.0.spells)
 
 -- where no part is refused and no entry ends, all is taken
-pub gives_none : (s : Stand) (old piece : List ℕ) (r : Result LogFed LogFault) (new : State) → Feeds s old piece r new →
+pub gives_none : (s : Position) (old piece : List ℕ) (r : Result LogFed LogFault) (new : State) → Feeds s old piece r new →
     EndsNothing s old piece → r ≡ Ok (record { used = length piece; entry = None; bytes = [] })
 gives_none s old piece (Ok fed) new h e =
     let g = none_to s old piece fed.used fed.entry new h.0 e in
@@ -218,7 +218,7 @@ counts old piece (Ok fed) new h pending = counts_to old piece fed.used fed.entry
 counts old piece (Err f) new h pending = tt
 
 -- the bytes that are given are the entry's
-pub bytes_are : (s : Stand) (old piece : List ℕ) (r : Result LogFed LogFault) (new : State) → Feeds s old piece r new →
+pub bytes_are : (s : Position) (old piece : List ℕ) (r : Result LogFed LogFault) (new : State) → Feeds s old piece r new →
     IfOk r (λ fed. fed.bytes ≡ bytes_given fed.entry)
 bytes_are s old piece (Ok fed) new h = h.1
 bytes_are s old piece (Err f) new h = tt

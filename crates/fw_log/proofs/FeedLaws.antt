@@ -3,12 +3,12 @@ use Rattle.std.proofs.Common.{◌≡◌, ℕ, ◌+◌, ◌-◌, ◌*◌, ◌≤�
 use Rattle.std.proofs.lemmas.Bool.Decides.{nat_tests}
 use Rattle.fw_log.specs.Reading.{IsPending, head_fault, need, length_of, skip}
 use Rattle.fw_log.specs.Reader.{HoldsPending}
-use Rattle.fw_log.specs.declared.stand.Stand.{Stand}
+use Rattle.fw_log.specs.Stands.{Position}
 use Rattle.fw_log.specs.declared.LogFault.{LogFault}
 use Rattle.fw_log.proofs.EntryLaws.{size_within}
 use Rattle.fw_log.proofs.StayLaws.{head_stays}
 
-pub pending_of : (s : Stand) (taken : List ℕ) (fault : Option LogFault) → fault ≡ None → HoldsPending s taken fault → IsPending s taken
+pub pending_of : (s : Position) (taken : List ℕ) (fault : Option LogFault) → fault ≡ None → HoldsPending s taken fault → IsPending s taken
 pending_of s taken None e h = h
 pending_of s taken (Some f) e h = cc
 
@@ -23,7 +23,7 @@ most k n m le few = grind (arith, nat_tests, few)
 skip_most : (start : ℕ) → skip start ≤ 16
 skip_most start = grind (arith, nat_tests)
 
-pub need_most : (s : Stand) (taken : List ℕ) → IsPending s taken → need s taken ≤ 2304
+pub need_most : (s : Position) (taken : List ℕ) → IsPending s taken → need s taken ≤ 2304
 need_most s taken h = most (skip s.start) (length (drop (skip s.start) taken)) (length_of (drop (skip s.start) taken)) (skip_most s.start) (size_within s taken h.no_fault)
 
 -- what lies between two places of a piece
@@ -32,5 +32,5 @@ further old piece i k le =
     let e : k ≡ i + (k - i) = omega arith in
     ap (λ (n : ℕ). old ++ take n piece) e ∙ ap (λ t. old ++ t) (take-add i (k - i) piece) ∙ sym (append_assoc old (take i piece) (take (k - i) (drop i piece)))
 
-pub stays : (s : Stand) (old piece : List ℕ) (i k : ℕ) (f : LogFault) → i ≤ k → head_fault s (old ++ take i piece) ≡ Some f → head_fault s (old ++ take k piece) ≡ Some f
+pub stays : (s : Position) (old piece : List ℕ) (i k : ℕ) (f : LogFault) → i ≤ k → head_fault s (old ++ take i piece) ≡ Some f → head_fault s (old ++ take k piece) ≡ Some f
 stays s old piece i k f le h = ap (head_fault s) (further old piece i k le) ∙ head_stays s (old ++ take i piece) (take (k - i) (drop i piece)) f h

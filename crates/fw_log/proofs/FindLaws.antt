@@ -1,5 +1,5 @@
 -- What is found in bytes at hand.
-use Rattle.std.proofs.Common.{◌≡◌, inl, inr, ℕ, zero, suc, ◌+◌, ◌-◌, ◌*◌, ◌≤◌, ◌<◌, List, [], ◌∷◌, ◌++◌, ◌==◌, get_or, length, take, drop, nat_lt, nat_le, Bool, true, false, Option, Some, None, Result, Ok, Err, arith, refl, ap, sym, subst, ◌∙◌, if◌then◌else◌, length-append, length-drop, append-nil}
+use Rattle.std.proofs.Common.{◌≡◌, inl, inr, ℕ, zero, suc, ◌+◌, ◌-◌, ◌*◌, ◌≤◌, ◌<◌, List, [], ◌∷◌, ◌++◌, ◌==◌, get_or, length, take, drop, nat_lt, nat_le, Bool, true, false, Option, Some, None, Result, Ok, Err, arith, refl, ap, sym, subst, ◌∙◌, if◌then◌else◌, length-append, length-drop, length-take, append-nil}
 use Rattle.std.proofs.lemmas.Bool.{cases_lt}
 use Rattle.std.proofs.lemmas.Bool.Decides.{nat_tests}
 use Rattle.std.proofs.lemmas.List.{take-append-drop, take-append-le, drop-append-le, length-take-le, take-take, take_all}
@@ -9,10 +9,10 @@ use Rattle.fw_async.specs.Async.{AreBytes}
 use Rattle.fw_entry.specs.Log.{entry_bytes}
 use Rattle.fw_log.specs.Reading.{tested, fault_at, length_of, cycle_of, is_kind, is_length, entry_fault, header_fault, head_fault, skip, entry_need, need, IsPending, IsComplete, Spells, Faulty, WrongBody}
 use Rattle.fw_log.specs.Reader.{State, HoldsPending, Ends, Finds, Joins, FindsIn, ShowsFault, EndsEntry}
-use Rattle.fw_log.specs.declared.stand.Stand.{Stand}
+use Rattle.fw_log.specs.Stands.{Position}
 use Rattle.fw_log.specs.declared.LogFault.{LogFault}
 use Rattle.fw_log.specs.declared.LogWhy.TheVariants.{AfterEnd}
-use Rattle.fw_log.specs.declared.read.Found.{Found}
+use Rattle.fw_log.specs.declared.first.Found.{Found}
 use Rattle.fw_log.proofs.ByteLaws.{are_bytes_part, quadlet_at-append}
 use Rattle.fw_log.proofs.EntryLaws.{complete_head}
 use Rattle.fw_log.proofs.SameLaws.{spelled_complete}
@@ -23,7 +23,7 @@ use Rattle.fw_log.proofs.StayLaws.{head_stays, need_least, no_complete_front, le
 same_by : (n m l k : ℕ) → 4 ≤ n → n ≤ m → k ≡ l → (if nat_lt m 4 then 12 else 12 + 4 * k) ≡ (if nat_lt n 4 then 12 else 12 + 4 * l)
 same_by n m l k enough le same = grind (arith, nat_tests)
 
-need_same : (s : Stand) (front more : List ℕ) → skip s.start + 4 ≤ length front → need s (front ++ more) ≡ need s front
+need_same : (s : Position) (front more : List ℕ) → skip s.start + 4 ≤ length front → need s (front ++ more) ≡ need s front
 need_same s front more enough =
     let cut : drop (skip s.start) (front ++ more) ≡ drop (skip s.start) front ++ more = drop-append-le (skip s.start) front more (omega arith) in
     let long : 4 ≤ length (drop (skip s.start) front) = omega (arith, length-drop (skip s.start) front) in
@@ -32,12 +32,12 @@ need_same s front more enough =
     ∙ ap (λ n. skip s.start + n) (same_by (length (drop (skip s.start) front)) (length (drop (skip s.start) front ++ more)) (length_of (drop (skip s.start) front)) (length_of (drop (skip s.start) front ++ more)) long le (length_of-append (drop (skip s.start) front) more long))
 
 -- What no fault shows in, none shows in a front of.
-clear_by : (s : Stand) (front more : List ℕ) (o : Option LogFault) → head_fault s front ≡ o → head_fault s (front ++ more) ≡ None → head_fault s front ≡ None
+clear_by : (s : Position) (front more : List ℕ) (o : Option LogFault) → head_fault s front ≡ o → head_fault s (front ++ more) ≡ None → head_fault s front ≡ None
 clear_by s front more None e h = e
 clear_by s front more (Some g) e h = cc (head_stays s front more g e, h)
 
 -- a front of a whole entry is a part of it
-front_pending : (s : Stand) (front more : List ℕ) → 0 < length more → head_fault s (front ++ more) ≡ None → length (front ++ more) ≡ need s (front ++ more) → IsPending s front
+front_pending : (s : Position) (front more : List ℕ) → 0 < length more → head_fault s (front ++ more) ≡ None → length (front ++ more) ≡ need s (front ++ more) → IsPending s front
 front_pending s front more some clear complete = record {
   no_fault = clear_by s front more (head_fault s front) refl clear;
   not_complete = elim (cases_lt (length front) (skip s.start + 4)) [
@@ -77,11 +77,11 @@ settled_by true first start last bytes more enough h = by (if first then 16 else
 settled_by false true start last bytes more enough h = header_same last bytes more enough ∙ h
 settled_by false false start last bytes more enough h = entry_same start last bytes more enough ∙ h
 
-head_settled : (s : Stand) (bytes more : List ℕ) → need s bytes ≤ length bytes → head_fault s bytes ≡ None → head_fault s (bytes ++ more) ≡ None
+head_settled : (s : Position) (bytes more : List ℕ) → need s bytes ≤ length bytes → head_fault s bytes ≡ None → head_fault s (bytes ++ more) ≡ None
 head_settled s bytes more complete clear = let low = need_least s bytes in settled_by s.ended (s.start == 0) s.start s.last bytes more (omega arith) clear
 
 -- A fault of the head comes with one byte of the piece.
-still_pending : (s : Stand) (old piece : List ℕ) (n : ℕ) (f : LogFault) → head_fault s (old ++ take n piece) ≡ None → head_fault s (old ++ take (suc n) piece) ≡ Some f → IsPending s (old ++ take n piece)
+still_pending : (s : Position) (old piece : List ℕ) (n : ℕ) (f : LogFault) → head_fault s (old ++ take n piece) ≡ None → head_fault s (old ++ take (suc n) piece) ≡ Some f → IsPending s (old ++ take n piece)
 still_pending s old piece n f clear shown = record {
   no_fault = clear;
   not_complete = elim (cases_lt (length (old ++ take n piece)) (need s (old ++ take n piece))) [
@@ -90,7 +90,7 @@ still_pending s old piece n f clear shown = record {
   ];
 }
 
-shown_by : (s : Stand) (old piece : List ℕ) (n : ℕ) (f : LogFault) (o : Option LogFault) → head_fault s (old ++ take n piece) ≡ o → suc n ≤ length piece → head_fault s (old ++ take (suc n) piece) ≡ Some f
+shown_by : (s : Position) (old piece : List ℕ) (n : ℕ) (f : LogFault) (o : Option LogFault) → head_fault s (old ++ take n piece) ≡ o → suc n ≤ length piece → head_fault s (old ++ take (suc n) piece) ≡ Some f
     → (head_fault s (old ++ take n piece) ≡ Some f → (k : ℕ) × ShowsFault s old piece k f) → (k : ℕ) × ShowsFault s old piece k f
 shown_by s old piece n f None e within h earlier =
     let same : suc n ≡ n + 1 = omega arith in
@@ -99,7 +99,7 @@ shown_by s old piece n f (Some g) e within h earlier =
     let same : g ≡ f = cc (stays s old piece n (suc n) g (omega arith) e, h) in
     earlier (e ∙ ap Some same)
 
-pub head_shown : (s : Stand) (old piece : List ℕ) (n : ℕ) (f : LogFault) → head_fault s old ≡ None → n ≤ length piece → head_fault s (old ++ take n piece) ≡ Some f → (k : ℕ) × ShowsFault s old piece k f
+pub head_shown : (s : Position) (old piece : List ℕ) (n : ℕ) (f : LogFault) → head_fault s old ≡ None → n ≤ length piece → head_fault s (old ++ take n piece) ≡ Some f → (k : ℕ) × ShowsFault s old piece k f
 head_shown s old piece zero f clear within h = cc (clear, h, ap (head_fault s) (append-nil old))
 head_shown s old piece (suc n) f clear within h = shown_by s old piece n f (head_fault s (old ++ take n piece)) refl within h (λ e. head_shown s old piece n f clear (omega arith) e)
 
@@ -109,20 +109,20 @@ nothing true b x y z e f g = e
 nothing false true x y z e f g = f
 nothing false false x y z e f g = g
 
-clear_first : (s : Stand) → head_fault s [] ≡ None
+clear_first : (s : Position) → head_fault s [] ≡ None
 clear_first s = nothing s.ended (s.start == 0) None None None refl refl refl
 
-pub head_shown_first : (s : Stand) (bytes : List ℕ) (f : LogFault) → head_fault s bytes ≡ Some f → (k : ℕ) × ShowsFault s [] bytes k f
+pub head_shown_first : (s : Position) (bytes : List ℕ) (f : LogFault) → head_fault s bytes ≡ Some f → (k : ℕ) × ShowsFault s [] bytes k f
 head_shown_first s bytes f h = head_shown s [] bytes (length bytes) f (clear_first s) (omega arith) (ap (head_fault s) (take_all (length bytes) bytes (omega arith)) ∙ h)
 
 -- the front that is the first entry
-record FirstEntry (s : Stand) (bytes : List ℕ) (n : ℕ) : Type 0 where
+record FirstEntry (s : Position) (bytes : List ℕ) (n : ℕ) : Type 0 where
   pub clear : head_fault s (take n bytes) ≡ None
   pub size : length (take n bytes) ≡ n
   pub whole : length (take n bytes) ≡ need s (take n bytes)
   pub some : 12 ≤ n
 
-first_of : (s : Stand) (bytes : List ℕ) (n : ℕ) → Ends s bytes (Ok (Some n)) → FirstEntry s bytes n
+first_of : (s : Position) (bytes : List ℕ) (n : ℕ) → Ends s bytes (Ok (Some n)) → FirstEntry s bytes n
 first_of s bytes n h =
     let size : length (take n bytes) ≡ n = length-take-le n bytes h.2 in
     let parts : take n bytes ++ drop n bytes ≡ bytes = take-append-drop n bytes in
@@ -135,11 +135,11 @@ first_of s bytes n h =
       some = omega (arith, h.1);
     }
 
-pub first_complete : (s : Stand) (bytes : List ℕ) (n : ℕ) → AreBytes bytes → Ends s bytes (Ok (Some n)) → IsComplete s (take n bytes)
+pub first_complete : (s : Position) (bytes : List ℕ) (n : ℕ) → AreBytes bytes → Ends s bytes (Ok (Some n)) → IsComplete s (take n bytes)
 first_complete s bytes n fit h = let e = first_of s bytes n h in complete_head s (take n bytes) (are_bytes_part bytes n 0 fit) e.clear e.whole
 
 -- a body that is refused is refused with its last byte
-pub first_wrong : (s : Stand) (bytes : List ℕ) (n : ℕ) (f : LogFault) → Ends s bytes (Ok (Some n)) → WrongBody s (take n bytes) f → (k : ℕ) × ShowsFault s [] bytes k f
+pub first_wrong : (s : Position) (bytes : List ℕ) (n : ℕ) (f : LogFault) → Ends s bytes (Ok (Some n)) → WrongBody s (take n bytes) f → (k : ℕ) × ShowsFault s [] bytes k f
 first_wrong s bytes n f h w =
     let e = first_of s bytes n h in
     let last : n - 1 + 1 ≡ n = omega (arith, e.some) in
@@ -166,16 +166,16 @@ length_joined : (old piece : List ℕ) (m : ℕ) → m ≤ length piece → leng
 length_joined old piece m within = length-append old (take m piece) ∙ ap (λ n. length old + n) (length-take-le m piece within)
 
 -- a front of what is pending is not refused and not whole
-not_faulty : {A : Type 0} (s : Stand) (front more : List ℕ) (f : LogFault) → Faulty s front f → IsPending s (front ++ more) → A
+not_faulty : {A : Type 0} (s : Position) (front more : List ℕ) (f : LogFault) → Faulty s front f → IsPending s (front ++ more) → A
 not_faulty s front more f (inl a) pending = cc (head_stays s front more f a, pending.no_fault)
 not_faulty s front more f (inr b) pending = no_complete_front s front more pending b.complete
 
-in_old : (s : Stand) (old piece : List ℕ) (m k : ℕ) → IsPending s old → k ≤ length old → IsPending s (take k (old ++ take m piece) ++ drop k old)
+in_old : (s : Position) (old piece : List ℕ) (m k : ℕ) → IsPending s old → k ≤ length old → IsPending s (take k (old ++ take m piece) ++ drop k old)
 in_old s old piece m k pending within =
     let P : List ℕ → Type 0 = IsPending s in
     subst P (sym (ap (λ t. t ++ drop k old) (take-append-le k old (take m piece) within) ∙ take-append-drop k old)) pending
 
-pub kept_fault : (s : Stand) (old piece : List ℕ) (f : LogFault) → IsPending s old → FindsIn s old piece (Err f) → (k : ℕ) × ShowsFault s old piece k f
+pub kept_fault : (s : Position) (old piece : List ℕ) (f : LogFault) → IsPending s old → FindsIn s old piece (Err f) → (k : ℕ) × ShowsFault s old piece k f
 kept_fault s old piece f pending h =
     let k = h.finds.0 in
     let shows = h.finds.1 in
@@ -196,13 +196,14 @@ kept_fault s old piece f pending h =
           )
     ]
 
-pub record KeptEntry (s : Stand) (old piece : List ℕ) (found : Found) : Type 0 where
+pub record KeptEntry (s : Position) (old piece : List ℕ) (found : Found) : Type 0 where
   pub past : length old ≤ found.end
   pub ends : EndsEntry s old piece (found.end - length old) found.entry
   pub size : length (old ++ take (found.end - length old) piece) ≡ found.end
+  pub some : 0 < found.end
   pub bytes : found.bytes ≡ entry_bytes found.entry
 
-pub kept_entry : (s : Stand) (old piece : List ℕ) (found : Found) → IsPending s old → FindsIn s old piece (Ok (Some found)) → KeptEntry s old piece found
+pub kept_entry : (s : Position) (old piece : List ℕ) (found : Found) → IsPending s old → FindsIn s old piece (Ok (Some found)) → KeptEntry s old piece found
 kept_entry s old piece found pending h =
     let size = length_joined old piece h.count h.within in
     let past : length old ≤ found.end = elim (cases_lt found.end (length old)) [
@@ -215,15 +216,18 @@ kept_entry s old piece found pending h =
       past = past;
       ends = record { within = within; spells = subst P (joined old piece h.count found.end past (omega (arith, h.finds.0, size))) h.finds.1 };
       size = length_joined old piece (found.end - length old) within ∙ omega arith;
+      some =
+          let whole : List ℕ = take found.end (old ++ take h.count piece) in
+          omega (arith, length-take found.end (old ++ take h.count piece), spelled_complete s found.entry whole h.finds.1, need_least s whole);
       bytes = h.finds.2;
     }
 
 -- all of the piece is a part of an entry, and there is room for it
-pub record KeptPart (s : Stand) (old piece : List ℕ) : Type 0 where
+pub record KeptPart (s : Position) (old piece : List ℕ) : Type 0 where
   pub pending : IsPending s (old ++ piece)
   pub room : length old + length piece ≤ 2304
 
-pub kept_part : (s : Stand) (old piece : List ℕ) → FindsIn s old piece (Ok None) → KeptPart s old piece
+pub kept_part : (s : Position) (old piece : List ℕ) → FindsIn s old piece (Ok None) → KeptPart s old piece
 kept_part s old piece h =
     let size = length_joined old piece h.count h.within in
     let most = need_most s (old ++ take h.count piece) h.finds in
@@ -235,38 +239,38 @@ kept_part s old piece h =
     let P : List ℕ → Type 0 = IsPending s in
     record { pending = subst P e h.finds; room = omega (arith, size, most, h.finds.not_complete, all) }
 
-pub ends_at : (s : Stand) (bytes : List ℕ) (o : Option ℕ) (n : ℕ) → o ≡ Some n → Ends s bytes (Ok o) → Ends s bytes (Ok (Some n))
+pub ends_at : (s : Position) (bytes : List ℕ) (o : Option ℕ) (n : ℕ) → o ≡ Some n → Ends s bytes (Ok o) → Ends s bytes (Ok (Some n))
 ends_at s bytes o n e h = let P : Option ℕ → Type 0 = λ x. Ends s bytes (Ok x) in subst P e h
 
 -- what was found, by its two cases
-pub found_as : (s : Stand) (old piece : List ℕ) (r : Result (Option Found) LogFault) (o p : Option Found) → r ≡ Ok o → o ≡ p → FindsIn s old piece r → FindsIn s old piece (Ok p)
+pub found_as : (s : Position) (old piece : List ℕ) (r : Result (Option Found) LogFault) (o p : Option Found) → r ≡ Ok o → o ≡ p → FindsIn s old piece r → FindsIn s old piece (Ok p)
 found_as s old piece r o p e g h =
     let P : Result (Option Found) LogFault → Type 0 = FindsIn s old piece in
     subst P (e ∙ ap (λ (x : Option Found). let y : Result (Option Found) LogFault = Ok x in y) g) h
 
-pub found_err : (s : Stand) (old piece : List ℕ) (r : Result (Option Found) LogFault) (f : LogFault) → r ≡ Err f → FindsIn s old piece r → FindsIn s old piece (Err f)
+pub found_err : (s : Position) (old piece : List ℕ) (r : Result (Option Found) LogFault) (f : LogFault) → r ≡ Err f → FindsIn s old piece r → FindsIn s old piece (Err f)
 found_err s old piece r f e h = let P : Result (Option Found) LogFault → Type 0 = FindsIn s old piece in subst P e h
 
-pub pending_at : (s t : Stand) (a b : List ℕ) → t ≡ s → b ≡ a → IsPending s a → IsPending t b
+pub pending_at : (s t : Position) (a b : List ℕ) → t ≡ s → b ≡ a → IsPending s a → IsPending t b
 pending_at s t a b e g h =
-    let P : Stand → Type 0 = λ x. IsPending x a in
+    let P : Position → Type 0 = λ x. IsPending x a in
     let Q : List ℕ → Type 0 = IsPending t in
     subst Q (sym g) (subst P (sym e) h)
 
-pub holds_by : (s : Stand) (taken : List ℕ) (f : Option LogFault) → f ≡ None → IsPending s taken → HoldsPending s taken f
+pub holds_by : (s : Position) (taken : List ℕ) (f : Option LogFault) → f ≡ None → IsPending s taken → HoldsPending s taken f
 holds_by s taken None e h = h
 holds_by s taken (Some f) e h = cc
 
-pub same_state : (s t : Stand) (a b : List ℕ) (f g : Option LogFault) → s ≡ t → a ≡ b → f ≡ g → let x : State = record { stand = s; taken = a; fault = f } in let y : State = record { stand = t; taken = b; fault = g } in x ≡ y
+pub same_state : (s t : Position) (a b : List ℕ) (f g : Option LogFault) → s ≡ t → a ≡ b → f ≡ g → let x : State = record { stand = s; taken = a; fault = f } in let y : State = record { stand = t; taken = b; fault = g } in x ≡ y
 same_state s t a b f g d e h =
-    ap (λ (z : Stand). let x : State = record { stand = z; taken = a; fault = f } in x) d
+    ap (λ (z : Position). let x : State = record { stand = z; taken = a; fault = f } in x) d
     ∙ ap (λ (z : List ℕ). let x : State = record { stand = t; taken = z; fault = f } in x) e
     ∙ ap (λ (z : Option LogFault). let x : State = record { stand = t; taken = b; fault = z } in x) h
 
-pub same_stand : (a b last : ℕ) (x y : Bool) → a ≡ b → x ≡ y → let s : Stand = record { start = a; last = last; ended = x } in let t : Stand = record { start = b; last = last; ended = y } in s ≡ t
+pub same_stand : (a b last : ℕ) (x y : Bool) → a ≡ b → x ≡ y → let s : Position = record { start = a; last = last; ended = x } in let t : Position = record { start = b; last = last; ended = y } in s ≡ t
 same_stand a b last x y e g =
-    ap (λ (z : ℕ). let s : Stand = record { start = z; last = last; ended = x } in s) e
-    ∙ ap (λ (z : Bool). let s : Stand = record { start = b; last = last; ended = z } in s) g
+    ap (λ (z : ℕ). let s : Position = record { start = z; last = last; ended = x } in s) e
+    ∙ ap (λ (z : Bool). let s : Position = record { start = b; last = last; ended = z } in s) g
 
 -- the piece alone, or what was kept and as much of the piece as there is room for
 pub joins_none : (old piece : List ℕ) → length old ≡ 0 → Joins old piece piece
@@ -296,9 +300,9 @@ joins_both old piece bytes same = record {
     ]
 
 -- what was found in the bytes at hand
-pub found_in : (s t : Stand) (old kept piece bytes : List ℕ) (r : Result (Option Found) LogFault) → t ≡ s → kept ≡ old → Joins kept piece bytes → Finds t bytes r → FindsIn s old piece r
+pub found_in : (s t : Position) (old kept piece bytes : List ℕ) (r : Result (Option Found) LogFault) → t ≡ s → kept ≡ old → Joins kept piece bytes → Finds t bytes r → FindsIn s old piece r
 found_in s t old kept piece bytes r e g j h =
-    let P : Stand → Type 0 = λ x. Finds x bytes r in
+    let P : Position → Type 0 = λ x. Finds x bytes r in
     let Q : List ℕ → Type 0 = λ x. Finds s x r in
     let R : List ℕ → Type 0 = λ x. FindsIn s x piece r in
     subst R g (record { count = j.count; within = j.within; enough = j.enough; finds = subst Q j.same (subst P e h) })

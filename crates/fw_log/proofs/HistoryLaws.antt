@@ -7,7 +7,7 @@ use Rattle.std.proofs.lemmas.List.{append-nil, append_cancel_left, take_at, drop
 use Rattle.std.specs.Result.{result_err}
 use Rattle.fw_entry.specs.Log.{header_bytes, entry_bytes, is_end, EndsAt, InOrder, HasEnd, TimedFits, LogOpens, LogSpells}
 use Rattle.fw_log.specs.Reading.{IsPending, Spells, Faulty, length_of, header_fault, entry_fault, head_fault, skip, header_at, fault_at}
-use Rattle.fw_log.specs.declared.stand.Stand.{Stand}
+use Rattle.fw_log.specs.Stands.{Position}
 use Rattle.fw_log.specs.Reader.{State, Feeds, FeedsTo, EndsEntry, ShowsFault, after, with_bytes, finish_of, finish_by}
 use Rattle.fw_log.specs.History.{bytes_of, last_cycle, ended_by, stand_after, HasRead, BeginsNoLog, ReadsTo, ReadsOn, IsNext, GivesNext, Finishes}
 use Rattle.fw_entry.specs.declared.entry.Entry.{Entry}
@@ -111,7 +111,7 @@ next_spells : (entries rest : List Timed) (t : Timed) → InOrder (last_cycle 0 
 next_spells entries rest t order ends = record { going_on = not_true (ended_by false entries) (λ e. cc (ends e)); fits = order.1; later = order.0; same = refl }
 
 -- no log goes on from a fault
-dead_front : {A : Type 0} (s : Stand) (line : List ℕ) (n m : ℕ) (f : LogFault) (t : Timed) → IsPending s (take n line) → Faulty s (take (n + 1) line) f → m ≤ length line → Spells s t (take m line) → A
+dead_front : {A : Type 0} (s : Position) (line : List ℕ) (n m : ℕ) (f : LogFault) (t : Timed) → IsPending s (take n line) → Faulty s (take (n + 1) line) f → m ≤ length line → Spells s t (take m line) → A
 dead_front s line n m f t pending shown within h =
     elim (cases_lt n m) [
       | inl less ↦ entry_faulty s [] line (n + 1) m f t (omega arith) within shown h
@@ -122,7 +122,7 @@ ended_begun : (entries : List Timed) → ended_by false entries ≡ true → hea
 ended_begun [] e = cc e
 ended_begun (t ∷ ts) e = no_header (length (bytes_of (t ∷ ts))) (omega arith)
 
-nothing_shown : (s : Stand) → head_fault s [] ≡ None
+nothing_shown : (s : Position) → head_fault s [] ≡ None
 nothing_shown s = by s.ended (s.start == 0)
   where
     by : (b first : Bool) → (if b then (if length {A = ℕ} [] == 0 then None else Some (fault_at s.start AfterEnd)) else if first then header_fault [] (entry_fault 16 s.last (drop 16 [])) else entry_fault s.start s.last []) ≡ None
@@ -175,8 +175,8 @@ taken_at old piece more k within =
 
 pub dead : (entries : List Timed) (bytes piece : List ℕ) (r : State) (k : ℕ) (f : LogFault) → HasRead entries bytes r → ShowsFault r.stand r.taken piece k f → BeginsNoLog (bytes ++ take (k + 1) piece)
 dead entries bytes piece r k f h shows all more o =
-    let I : Stand → Type 0 = λ s. IsPending s (r.taken ++ take k piece) in
-    let F : Stand → Type 0 = λ s. Faulty s (r.taken ++ take (k + 1) piece) f in
+    let I : Position → Type 0 = λ s. IsPending s (r.taken ++ take k piece) in
+    let F : Position → Type 0 = λ s. Faulty s (r.taken ++ take (k + 1) piece) f in
     let before = subst I h.stand shows.before in
     let shown = subst F h.stand shows.shown in
     let line : bytes_of entries ++ ((r.taken ++ take (k + 1) piece) ++ more) ≡ (bytes ++ take (k + 1) piece) ++ more =
@@ -212,10 +212,10 @@ bytes_push (u ∷ us) t =
     ∙ sym (append_assoc header_bytes (flat_map entry_bytes (u ∷ us)) (entry_bytes t))
     ∙ ap (λ x. bytes_of (u ∷ us) ++ (x ++ entry_bytes t)) (sym (no_header (length (bytes_of (u ∷ us))) (omega arith)))
 
-same_stand : (a b a' b' : ℕ) (c c' : Bool) → a ≡ a' → b ≡ b' → c ≡ c' → let s : Stand = record { start = a; last = b; ended = c } in let t : Stand = record { start = a'; last = b'; ended = c' } in s ≡ t
+same_stand : (a b a' b' : ℕ) (c c' : Bool) → a ≡ a' → b ≡ b' → c ≡ c' → let s : Position = record { start = a; last = b; ended = c } in let t : Position = record { start = a'; last = b'; ended = c' } in s ≡ t
 same_stand a b a' b' c c' e f g = cc
 
-nothing_pending : (s : Stand) → IsPending s []
+nothing_pending : (s : Position) → IsPending s []
 nothing_pending s = record { no_fault = nothing_shown s; not_complete = let low = need_least s [] in omega arith }
 
 pub read_begins : HasRead [] [] (with_bytes (record { start = 0; last = 0; ended = false }) [])
@@ -223,11 +223,11 @@ read_begins = record { order = tt; same = refl; stand = refl; no_fault = refl; p
 
 entry_more : (entries : List Timed) (bytes piece : List ℕ) (r new : State) (used : ℕ) (t : Timed) → HasRead entries bytes r → EndsEntry r.stand r.taken piece used t → new ≡ after r.stand (r.taken ++ take used piece) t → HasRead (entries ++ t ∷ []) (bytes ++ take used piece) new
 entry_more entries bytes piece r new used t h e is =
-    let S : Stand → Type 0 = λ s. Spells s t (r.taken ++ take used piece) in
+    let S : Position → Type 0 = λ s. Spells s t (r.taken ++ take used piece) in
     let spells = subst S h.stand e.spells in
     let unit : bytes_of (entries ++ t ∷ []) ≡ bytes_of entries ++ (r.taken ++ take used piece) = bytes_push entries t ∙ ap (λ x. bytes_of entries ++ x) spells.same in
     let all : bytes_of entries ++ (r.taken ++ take used piece) ≡ bytes ++ take used piece = sym (append_assoc (bytes_of entries) r.taken (take used piece)) ∙ ap (λ x. x ++ take used piece) h.same in
-    let start : r.stand.start + length (r.taken ++ take used piece) ≡ length (bytes_of (entries ++ t ∷ [])) = omega (arith, ap (λ (s : Stand). s.start) h.stand, ap length unit, length-append (bytes_of entries) (r.taken ++ take used piece)) in
+    let start : r.stand.start + length (r.taken ++ take used piece) ≡ length (bytes_of (entries ++ t ∷ [])) = omega (arith, ap (λ (s : Position). s.start) h.stand, ap length unit, length-append (bytes_of entries) (r.taken ++ take used piece)) in
     record {
       order = order_push 0 false entries t h.order spells.later spells.fits spells.going_on;
       same = ap (λ (n : State). bytes_of (entries ++ t ∷ []) ++ n.taken) is ∙ append-nil (bytes_of (entries ++ t ∷ [])) ∙ unit ∙ all;
@@ -285,7 +285,7 @@ has_end b [] h = absurd h
 has_end b (t ∷ []) h = h
 has_end b (t ∷ u ∷ us) h = has_end (is_end t.what) (u ∷ us) h
 
-nothing_more : (s : Stand) (taken : List ℕ) → IsPending s taken → s.ended ≡ true → taken ≡ []
+nothing_more : (s : Position) (taken : List ℕ) → IsPending s taken → s.ended ≡ true → taken ≡ []
 nothing_more s taken pending e = nil_from_length taken (by s.ended (length taken) _ (fault_at s.start AfterEnd) e pending.no_fault)
   where
     by : (b : Bool) (n : ℕ) (x : Option LogFault) (f : LogFault) → b ≡ true → (if b then (if n == 0 then None else Some f) else x) ≡ None → n ≡ 0
@@ -301,7 +301,7 @@ header_too (t ∷ ts) some = refl
 
 log_spelled : (entries : List Timed) (bytes : List ℕ) (r : State) → HasRead entries bytes r → r.stand.ended ≡ true → LogSpells entries bytes
 log_spelled entries bytes r h e =
-    let ended : ended_by false entries ≡ true = sym (ap (λ (s : Stand). s.ended) h.stand) ∙ e in
+    let ended : ended_by false entries ≡ true = sym (ap (λ (s : Position). s.ended) h.stand) ∙ e in
     let some = some_entry entries ended in
     let none = nothing_more r.stand r.taken h.pending e in
     record {
@@ -321,7 +321,7 @@ only_log : (entries all : List Timed) (bytes : List ℕ) (r : State) → HasRead
 only_log entries all bytes r h o =
     let P : List ℕ → Type 0 = LogOpens all in
     let b = log_begins entries all bytes [] r h (subst P (sym (append-nil bytes)) o) in
-    let I : Stand → Type 0 = λ s. IsPending s r.taken in
+    let I : Position → Type 0 = λ s. IsPending s r.taken in
     b.all_is ∙ ap (λ t. entries ++ t) (only_by entries b.rest r.taken (subst I h.stand h.pending) b.order b.ends (b.same ∙ append-nil r.taken)) ∙ append-nil entries
 
 abbrev get_place : Option LogFault → ℕ
@@ -364,6 +364,6 @@ finishes entries bytes r (Err f) h e =
     record {
       complete = tt;
       only = λ all o. only_log entries all bytes r h o;
-      spelled = λ s. absurd (ended_none r.stand.ended _ f (ap (λ (s : Stand). s.ended) h.stand ∙ has_end false entries s.ends) is);
-      place = place_by r.stand.ended (r.stand.start + length r.taken) (length r.taken) (skip r.stand.start) f is ∙ omega (arith, ap (λ (s : Stand). s.start) h.stand, ap length h.same, length-append (bytes_of entries) r.taken);
+      spelled = λ s. absurd (ended_none r.stand.ended _ f (ap (λ (s : Position). s.ended) h.stand ∙ has_end false entries s.ends) is);
+      place = place_by r.stand.ended (r.stand.start + length r.taken) (length r.taken) (skip r.stand.start) f is ∙ omega (arith, ap (λ (s : Position). s.start) h.stand, ap length h.same, length-append (bytes_of entries) r.taken);
     }

@@ -1,9 +1,8 @@
 -- The body of a reset, and the reset that it is.
-use Rattle.std.proofs.Common.{◌≡◌, inl, inr, ℕ, ◌+◌, ◌-◌, ◌*◌, ◌^◌, ◌≤◌, ◌<◌, List, [], ◌∷◌, ◌++◌, get_or, map, flat_map, length, take, drop, Bool, true, false, nat_le, ◌&&◌, Option, Some, None, Err, IfSome, Contains, arith, refl, ap, sym, subst, ◌∙◌, length-append, length-take, length-take-le, take-add}
-use Rattle.std.proofs.lemmas.Bool.{cases_lt}
+use Rattle.std.proofs.Common.{◌≡◌, ℕ, ◌+◌, ◌-◌, ◌*◌, ◌^◌, ◌≤◌, ◌<◌, List, [], ◌∷◌, ◌++◌, get_or, map, flat_map, length, take, drop, Bool, true, false, nat_le, ◌&&◌, Option, Some, None, Err, IfSome, arith, refl, ap, sym, subst, ◌∙◌, length-append, take-add}
 use Rattle.std.proofs.lemmas.Bool.Decides.{nat_tests}
 use Rattle.std.proofs.lemmas.Grind.{flat_map-append}
-use Rattle.std.proofs.lemmas.List.{length-map, take_at, drop_at, drop_more, take_rest, drop-drop, map-append, take-map, get_or-take, get_or_default, take-append-drop}
+use Rattle.std.proofs.lemmas.List.{length-map, take_at, drop_at, drop_more, take_rest, drop-drop, map-append, take-append-drop}
 use Rattle.std.proofs.lemmas.List.Elements.{All-push, All-head, All-tail, All-weaker}
 use Rattle.std.specs.List.{All}
 use Rattle.std.specs.Int.{to_be_bytes, w32}
@@ -12,7 +11,7 @@ use Rattle.fw_words.specs.Layout.{packed}
 use Rattle.fw_phy.specs.Phy.{spelling}
 use Rattle.fw_phy.specs.declared.packet.PhyPacket.{PhyPacket}
 use Rattle.fw_phy.specs.declared.PhyFault.{PhyFault}
-use Rattle.fw_entry.specs.Log.{quads, node_quad, manager_byte, devices, AreApart, are_ids, ResetFits, RowFits, body}
+use Rattle.fw_entry.specs.Log.{quads, node_quad, manager_byte, are_ids, ResetFits, RowFits, body}
 use Rattle.fw_log.specs.Bodies.{IsBody, Refuses, BodyRefused, PhyRefuses, IdsJudges, refusal, count_of, ids_at, has_nodes}
 use Rattle.fw_entry.specs.declared.entry.Entry.{Entry}
 use Rattle.fw_entry.specs.declared.entry.Entry.TheVariants.{Reset, Async, Iso, Event, Outcome, Shown, End}
@@ -34,36 +33,6 @@ nodes_more nodes new r q i bytes h e f four =
 
 pub fits_more : (nodes new : List NodeRow) (r : NodeRow) → All RowShape nodes → new ≡ nodes ++ r ∷ [] → RowShape r → All RowShape new
 fits_more nodes new r h e f = let P : List NodeRow → Type 0 = All RowShape in subst P (sym e) (All-push RowShape nodes r h f)
-
--- the row in the place of one that is not there
-abbrev pub no_row : NodeRow
-no_row = record { device = 0; outs = 0; ins = 0; kind = 0 }
-
--- a device that stands before a place, and none that does
-pub device_again : (rows : List NodeRow) (i d : ℕ) → i < length rows → get_or (devices rows) i 0 ≡ d → Contains (devices (take i rows)) d → AreApart rows → ⊥
-device_again rows i d within here h apart =
-    let part : devices (take i rows) ≡ take i (devices rows) = sym (take-map (λ r. r.device) i rows) in
-    let P : List ℕ → Type 0 = λ t. Contains t d in
-    let k = subst P part h in
-    let size : length (devices rows) ≡ length rows = length-map rows (λ r. r.device) in
-    let few : length (take i (devices rows)) ≤ i = omega (arith, length-take i (devices rows)) in
-    let low : k.0 < i = omega (arith, k.1) in
-    apart k.0 i low within (get_or_default (devices rows) k.0 0 d (omega arith) ∙ sym (get_or-take i (devices rows) k.0 d low) ∙ k.2 ∙ sym here)
-
-pub device_new : (rows : List NodeRow) (i d : ℕ) → i < length rows → get_or (devices rows) i 0 ≡ d → (Contains (devices (take i rows)) d → ⊥)
-    → ((j k : ℕ) → j < k → k < i → get_or (devices rows) j 0 ≡ get_or (devices rows) k 0 → ⊥)
-    → (j k : ℕ) → j < k → k < i + 1 → get_or (devices rows) j 0 ≡ get_or (devices rows) k 0 → ⊥
-device_new rows i d within here fresh before j k less low same =
-    elim (cases_lt k i) [
-      | inl below ↦ before j k less below same
-      | inr last ↦
-          let e : k ≡ i = omega arith in
-          let part : devices (take i rows) ≡ take i (devices rows) = sym (take-map (λ r. r.device) i rows) in
-          let size : length (devices rows) ≡ length rows = length-map rows (λ r. r.device) in
-          let P : List ℕ → Type 0 = λ t. Contains t d in
-          let count : length (take i (devices rows)) ≡ i = length-take-le i (devices rows) (omega arith) in
-          fresh (subst P (sym part) (j, omega arith, get_or-take i (devices rows) j d (omega arith) ∙ get_or_default (devices rows) j d 0 (omega arith) ∙ same ∙ ap (λ n. get_or (devices rows) n 0) e ∙ here))
-    ]
 
 -- a packet after which nothing goes on
 pub ids_stop : (ids : List PhyPacket) (i node n : ℕ) (next : Option ℕ) (p : PhyPacket) (complete : Bool) → i < length ids → p ≡ get_or ids i p → are_ids node next (p ∷ drop (i + 1) ids) n ≡ false

@@ -11,7 +11,7 @@ use Rattle.fw_cip.proofs.SameLaws.{same_packet as same_iso}
 use Rattle.fw_entry.specs.Log.{header_bytes, quads, event_quads, outcome_quads, shown_quads, is_event, EventFits, OutcomeFits, ShownFits, is_outcome, Fits, TimedFits, kind_of, body, entry_bytes}
 use Rattle.fw_log.specs.Bodies.{IsBody}
 use Rattle.fw_log.specs.Reading.{tested, fault_at, length_of, cycle_of, is_kind, is_length, entry_fault, header_fault, head_fault, skip, header_at, entry_need, need, Spells}
-use Rattle.fw_log.specs.declared.stand.Stand.{Stand}
+use Rattle.fw_log.specs.Stands.{Position}
 use Rattle.fw_entry.specs.declared.entry.Entry.{Entry}
 use Rattle.fw_entry.specs.declared.entry.Entry.TheVariants.{Reset, Async, Iso, Event, Outcome, Shown, End}
 use Rattle.fw_entry.specs.declared.entry.EventEntry.{EventEntry}
@@ -191,7 +191,7 @@ header_clear rest x none =
     (passes (length (header_bytes ++ rest)) 16 (quadlet_at (header_bytes ++ rest) 12 == 0) (fault_at 12 BadHeader) x refl none)))
 
 -- the header alone, and nothing, show no fault
-pub header_alone : (s : Stand) → s.ended ≡ false → head_fault s (header_at s.start) ≡ None
+pub header_alone : (s : Position) → s.ended ≡ false → head_fault s (header_at s.start) ≡ None
 header_alone s e = rw e (by (s.start == 0))
   where
     by : (first : Bool) → (if first then header_fault (if first then header_bytes else []) (entry_fault 16 s.last (drop 16 (if first then header_bytes else []))) else entry_fault s.start s.last (if first then header_bytes else [])) ≡ None
@@ -206,7 +206,7 @@ clear_by true start last bytes t f later e =
     subst P e (header_clear (entry_bytes t) (entry_fault 16 last (entry_bytes t)) (entry_clear 16 last t f later))
 clear_by false start last bytes t f later e = ap (entry_fault start last) (sym e) ∙ entry_clear start last t f later
 
-pub spelled_clear : (s : Stand) (t : Timed) (bytes : List ℕ) → Spells s t bytes → head_fault s bytes ≡ None
+pub spelled_clear : (s : Position) (t : Timed) (bytes : List ℕ) → Spells s t bytes → head_fault s bytes ≡ None
 spelled_clear s t bytes h = rw h.going_on (clear_by (s.start == 0) s.start s.last bytes t h.fits h.later h.same)
 
 -- the entry behind the header
@@ -214,14 +214,14 @@ tail_by : (first : Bool) (e bytes : List ℕ) → (if first then header_bytes el
 tail_by true e bytes h = ap (drop 16) (sym h)
 tail_by false e bytes h = sym h
 
-pub spelled_tail : (s : Stand) (t : Timed) (bytes : List ℕ) → Spells s t bytes → drop (skip s.start) bytes ≡ entry_bytes t
+pub spelled_tail : (s : Position) (t : Timed) (bytes : List ℕ) → Spells s t bytes → drop (skip s.start) bytes ≡ entry_bytes t
 spelled_tail s t bytes h = tail_by (s.start == 0) (entry_bytes t) bytes h.same
 
 size_by : (first : Bool) (e bytes : List ℕ) → (if first then header_bytes else []) ++ e ≡ bytes → length bytes ≡ (if first then 16 else 0) + length e
 size_by true e bytes h = ap length (sym h) ∙ length-append header_bytes e
 size_by false e bytes h = omega (arith, ap length h)
 
-pub spelled_complete : (s : Stand) (t : Timed) (bytes : List ℕ) → Spells s t bytes → length bytes ≡ need s bytes
+pub spelled_complete : (s : Position) (t : Timed) (bytes : List ℕ) → Spells s t bytes → length bytes ≡ need s bytes
 spelled_complete s t bytes h =
     let size = size_by (s.start == 0) (entry_bytes t) bytes h.same in
     size ∙ ap (λ n. skip s.start + n) (by (length (entry_bytes t)) (length_of (entry_bytes t)) (length-entry t h.fits ∙ ap (λ n. 12 + 4 * n) (sym (length_back t h.fits))) ∙ ap entry_need (sym (spelled_tail s t bytes h)))
@@ -229,10 +229,10 @@ spelled_complete s t bytes h =
     by : (n m : ℕ) → n ≡ 12 + 4 * m → n ≡ (if nat_lt n 4 then 12 else 12 + 4 * m)
     by n m e = grind (arith, nat_tests)
 
-pub same_spelled : (s : Stand) (t u : Timed) (bytes : List ℕ) → Spells s t bytes → Spells s u bytes → t ≡ u
+pub same_spelled : (s : Position) (t u : Timed) (bytes : List ℕ) → Spells s t bytes → Spells s u bytes → t ≡ u
 same_spelled s t u bytes h g = same_timed t u h.fits g.fits (append_cancel_left (header_at s.start) (entry_bytes t) (entry_bytes u) (h.same ∙ sym g.same))
 
-pub spelled_body : (s : Stand) (t : Timed) (bytes : List ℕ) → Spells s t bytes → IsBody (get_or (drop (skip s.start) bytes) 0 0) (drop 12 (drop (skip s.start) bytes)) t.what
+pub spelled_body : (s : Position) (t : Timed) (bytes : List ℕ) → Spells s t bytes → IsBody (get_or (drop (skip s.start) bytes) 0 0) (drop 12 (drop (skip s.start) bytes)) t.what
 spelled_body s t bytes h =
     let P : List ℕ → Type 0 = λ e. IsBody (get_or e 0 0) (drop 12 e) t.what in
     subst P (sym (spelled_tail s t bytes h)) (record { fits = h.fits.entry; kind = refl; same = refl })

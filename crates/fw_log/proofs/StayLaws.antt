@@ -7,7 +7,7 @@ use Rattle.std.specs.Int.{from_be_bytes, w64}
 use Rattle.fw_words.specs.Quadlet.{quadlet_at}
 use Rattle.fw_log.proofs.ByteLaws.{quadlet_at-append}
 use Rattle.fw_log.specs.Reading.{tested, fault_at, length_of, cycle_of, is_kind, is_length, entry_fault, header_fault, head_fault, skip, entry_need, need, IsPending}
-use Rattle.fw_log.specs.declared.stand.Stand.{Stand}
+use Rattle.fw_log.specs.Stands.{Position}
 use Rattle.fw_log.specs.declared.LogFault.{LogFault}
 use Rattle.fw_log.specs.declared.LogWhy.TheVariants.{AfterEnd}
 
@@ -66,7 +66,7 @@ stays_by true first start last bytes more g h = by (length bytes) (length (bytes
 stays_by false true start last bytes more g h = header_stays last bytes more g h
 stays_by false false start last bytes more g h = entry_stays start last bytes more g h
 
-pub head_stays : (s : Stand) (bytes more : List ℕ) (g : LogFault) → head_fault s bytes ≡ Some g → head_fault s (bytes ++ more) ≡ Some g
+pub head_stays : (s : Position) (bytes more : List ℕ) (g : LogFault) → head_fault s bytes ≡ Some g → head_fault s (bytes ++ more) ≡ Some g
 head_stays s bytes more g h = stays_by s.ended (s.start == 0) s.start s.last bytes more g h
 
 -- what is whole
@@ -76,10 +76,10 @@ done_by n m l k complete le same = grind (arith, nat_tests, same)
 least : (n m : ℕ) → 12 ≤ (if nat_lt n 4 then 12 else 12 + 4 * m)
 least n m = grind (arith, nat_tests)
 
-pub need_least : (s : Stand) (bytes : List ℕ) → skip s.start + 12 ≤ need s bytes
+pub need_least : (s : Position) (bytes : List ℕ) → skip s.start + 12 ≤ need s bytes
 need_least s bytes = let low = least (length (drop (skip s.start) bytes)) (length_of (drop (skip s.start) bytes)) in omega arith
 
-pub need_done : (s : Stand) (front more : List ℕ) → length front ≡ need s front → need s (front ++ more) ≡ length front
+pub need_done : (s : Position) (front more : List ℕ) → length front ≡ need s front → need s (front ++ more) ≡ length front
 need_done s front more complete =
     let low = least (length (drop (skip s.start) front)) (length_of (drop (skip s.start) front)) in
     let within : skip s.start ≤ length front = omega arith in
@@ -100,7 +100,7 @@ no_entry_yet e none = by (length e) (length_of e) none
     by : (n l : ℕ) → n ≡ 0 → (if nat_lt n 4 then 12 else 12 + 4 * l) ≡ 12
     by n l e = grind (arith, nat_tests)
 
-pub need_grows : (s : Stand) (bytes more : List ℕ) → need s bytes ≤ need s (bytes ++ more)
+pub need_grows : (s : Position) (bytes more : List ℕ) → need s bytes ≤ need s (bytes ++ more)
 need_grows s bytes more =
     elim (cases_lt (length bytes) (skip s.start)) [
       | inl short ↦ let low = need_least s (bytes ++ more) in omega (arith, low, no_entry_yet (drop (skip s.start) bytes) (omega (arith, length-drop (skip s.start) bytes)))
@@ -112,7 +112,7 @@ need_grows s bytes more =
     ]
 
 -- bytes that are pending have no front that is whole
-pub no_complete_front : {A : Type 0} (s : Stand) (front more : List ℕ) → IsPending s (front ++ more) → length front ≡ need s front → A
+pub no_complete_front : {A : Type 0} (s : Position) (front more : List ℕ) → IsPending s (front ++ more) → length front ≡ need s front → A
 no_complete_front s front more pending complete =
     let done = need_done s front more complete in
     absurd (omega (arith, pending.not_complete, done, length-append front more))

@@ -10,6 +10,7 @@ use Rattle.fw_cip.specs.Iso.{iso_fault}
 use Rattle.fw_async.specs.declared.PacketFault.{PacketFault}
 use Rattle.fw_async.specs.declared.packet.Packet.{Packet as AsyncPacket}
 use Rattle.fw_entry.specs.Log.{Fits, ResetFits, kind_of, body}
+use Rattle.fw_entry.specs.declared.codes.kind.TheConstants as Kinds
 use Rattle.fw_entry.specs.declared.entry.Entry.{Entry}
 use Rattle.fw_entry.specs.declared.entry.Entry.TheVariants.{Reset}
 use Rattle.fw_entry.specs.declared.entry.ResetEntry.{ResetEntry}
@@ -56,9 +57,9 @@ pub record PhyRefuses (bytes : List ℕ) (f : PhyFault) : Type 0 where
 
 -- a lower reader refuses
 abbrev pub Refuses : ℕ → List ℕ → BodyFault → Type 0
-Refuses kind bytes (Phy f) = (kind ≡ 1) × PhyRefuses bytes f
-Refuses kind bytes (Packet f) = (kind ≡ 2) × PacketRefuses bytes f
-Refuses kind bytes (Iso f) = (kind ≡ 3) × (iso_fault bytes ≡ Some f)
+Refuses kind bytes (Phy f) = (kind ≡ Kinds.RESET) × PhyRefuses bytes f
+Refuses kind bytes (Packet f) = (kind ≡ Kinds.ASYNC) × PacketRefuses bytes f
+Refuses kind bytes (Iso f) = (kind ≡ Kinds.ISO) × (iso_fault bytes ≡ Some f)
 Refuses kind bytes Fields = ⊥
 
 -- A lower fault where a lower reader refuses, and Fields where none does and the body is of no entry of its kind.
@@ -84,12 +85,12 @@ IdsJudges bytes (Err Fields) = (refusal (length bytes) bytes ≡ None) × ((ids 
 -- a reset that the body is, or why it is none
 abbrev pub ResetJudges : List ℕ → Result ResetEntry BodyFault → Type 0
 ResetJudges bytes (Ok r) = ResetFits r × (body (Reset r) ≡ bytes)
-ResetJudges bytes (Err g) = BodyRefused 1 bytes g
+ResetJudges bytes (Err g) = BodyRefused Kinds.RESET bytes g
 
 -- a packet that the body is, or why it is none
 abbrev pub PacketJudges : List ℕ → Result AsyncPacket BodyFault → Type 0
 PacketJudges bytes (Ok p) = Packets.Spells p bytes
-PacketJudges bytes (Err g) = BodyRefused 2 bytes g
+PacketJudges bytes (Err g) = BodyRefused Kinds.ASYNC bytes g
 
 -- an entry that the body is, or why it is none
 abbrev pub BodyJudges : ℕ → List ℕ → Result Entry BodyFault → Type 0

@@ -2,7 +2,7 @@
 use Rattle.std.specs.Prelude.{◌≡◌, ℕ, ◌+◌, ◌<◌, List, [], ◌∷◌, ◌++◌, length, take, flat_map, Bool, false, Option, Some, None, Result, Ok, Err, OnOk, IfErr}
 use Rattle.fw_entry.specs.Log.{header_bytes, entry_bytes, is_end, InOrder, LogOpens, LogSpells}
 use Rattle.fw_log.specs.Reading.{IsPending}
-use Rattle.fw_log.specs.declared.stand.Stand.{Stand}
+use Rattle.fw_log.specs.Stands.{Position}
 use Rattle.fw_log.specs.Reader.{State}
 use Rattle.fw_entry.specs.declared.entry.Timed.{Timed}
 use Rattle.fw_log.specs.declared.read.LogFed.{LogFed}
@@ -24,7 +24,7 @@ ended_by b [] = b
 ended_by b (t ∷ ts) = ended_by (is_end t.what) ts
 
 -- where a reader stands after these entries
-abbrev pub stand_after : List Timed → Stand
+abbrev pub stand_after : List Timed → Position
 stand_after entries = record { start = length (bytes_of entries); last = last_cycle 0 entries; ended = ended_by false entries }
 
 -- A reader that has answered no fault was fed these bytes, and gave these entries: the bytes are those of the entries, and then a part of one.

@@ -5,13 +5,13 @@ use Rattle.fw_log.specs.Reading.{IsPending, Spells, Faulty, WrongBody, skip, fau
 use Rattle.fw_entry.specs.declared.entry.Timed.{Timed}
 use Rattle.fw_log.specs.declared.LogFault.{LogFault}
 use Rattle.fw_log.specs.declared.LogWhy.TheVariants.{Cut, NoEnd}
-use Rattle.fw_log.specs.declared.stand.Stand.{Stand}
+use Rattle.fw_log.specs.Stands.{Position}
 use Rattle.fw_log.specs.declared.read.LogFed.{LogFed}
-use Rattle.fw_log.specs.declared.read.Found.{Found}
+use Rattle.fw_log.specs.declared.first.Found.{Found}
 
 -- where the reader stands, the bytes since the last entry, and the fault that was answered
 pub record State : Type 0 where
-  pub stand : Stand
+  pub stand : Position
   pub taken : List ℕ
   pub fault : Option LogFault
 
@@ -20,42 +20,42 @@ abbrev pub total : State → ℕ
 total r = r.stand.start + length r.taken
 
 -- A reader that has answered no fault holds a part of an entry.
-abbrev pub HoldsPending : Stand → List ℕ → Option LogFault → Type 0
+abbrev pub HoldsPending : Position → List ℕ → Option LogFault → Type 0
 HoldsPending s taken None = IsPending s taken
 HoldsPending s taken (Some f) = Unit {0}
 
 -- the state with these bytes and no fault
-abbrev pub with_bytes : Stand → List ℕ → State
+abbrev pub with_bytes : Position → List ℕ → State
 with_bytes s taken = record { stand = s; taken = taken; fault = None }
 
 -- the state after an entry that the bytes are
-abbrev pub after : Stand → List ℕ → Timed → State
+abbrev pub after : Position → List ℕ → Timed → State
 after s taken t = record { stand = record { start = s.start + length taken; last = t.cycle; ended = is_end t.what }; taken = []; fault = None }
 
 -- a whole entry: it, or why its body is none
-abbrev pub EntryJudges : Stand → List ℕ → Result Timed LogFault → Type 0
+abbrev pub EntryJudges : Position → List ℕ → Result Timed LogFault → Type 0
 EntryJudges s bytes (Ok t) = Spells s t bytes
 EntryJudges s bytes (Err f) = WrongBody s bytes f
 
 -- the first k bytes of a piece end an entry
-pub record EndsEntry (s : Stand) (old piece : List ℕ) (k : ℕ) (t : Timed) : Type 0 where
+pub record EndsEntry (s : Position) (old piece : List ℕ) (k : ℕ) (t : Timed) : Type 0 where
   pub within : k ≤ length piece
   pub spells : Spells s t (old ++ take k piece)
 
 -- A byte of a piece, that at index k, is the last of a part that is refused, and none is refused before.
-pub record ShowsFault (s : Stand) (old piece : List ℕ) (k : ℕ) (f : LogFault) : Type 0 where
+pub record ShowsFault (s : Position) (old piece : List ℕ) (k : ℕ) (f : LogFault) : Type 0 where
   pub within : k < length piece
   pub before : IsPending s (old ++ take k piece)
   pub shown : Faulty s (old ++ take (k + 1) piece) f
 
 -- where the entry ends that bytes begin with, none where they are a part of it, or a fault before its body
-abbrev pub Ends : Stand → List ℕ → Result (Option ℕ) LogFault → Type 0
+abbrev pub Ends : Position → List ℕ → Result (Option ℕ) LogFault → Type 0
 Ends s bytes (Ok None) = IsPending s bytes
 Ends s bytes (Ok (Some n)) = (head_fault s bytes ≡ None) × (n ≡ need s bytes) × (n ≤ length bytes)
 Ends s bytes (Err f) = head_fault s bytes ≡ Some f
 
 -- the entry that bytes begin with, none where they are a part of it, or the first fault
-abbrev pub Finds : Stand → List ℕ → Result (Option Found) LogFault → Type 0
+abbrev pub Finds : Position → List ℕ → Result (Option Found) LogFault → Type 0
 Finds s bytes (Ok None) = IsPending s bytes
 Finds s bytes (Ok (Some found)) = (found.end ≤ length bytes) × Spells s found.entry (take found.end bytes) × (found.bytes ≡ entry_bytes found.entry)
 Finds s bytes (Err f) = (k : ℕ) × ShowsFault s [] bytes k f
@@ -68,19 +68,19 @@ pub record Joins (old piece bytes : List ℕ) : Type 0 where
   pub same : bytes ≡ old ++ take count piece
 
 -- It was found in what was kept and a front of the piece, which is all of it or has room for the longest entry.
-pub record FindsIn (s : Stand) (old piece : List ℕ) (found : Result (Option Found) LogFault) : Type 0 where
+pub record FindsIn (s : Position) (old piece : List ℕ) (found : Result (Option Found) LogFault) : Type 0 where
   pub count : ℕ
   pub within : count ≤ length piece
   pub enough : count < length piece → 2304 ≤ length old + count
   pub finds : Finds s (old ++ take count piece) found
 
 -- no part that was taken whole is refused, and the bytes end no entry
-pub record EndsNothing (s : Stand) (old piece : List ℕ) : Type 0 where
+pub record EndsNothing (s : Position) (old piece : List ℕ) : Type 0 where
   pub no_fault : (k : ℕ) (f : LogFault) → k ≤ length piece → Faulty s (old ++ take k piece) f → ⊥
   pub no_entry : (k : ℕ) (t : Timed) → k ≤ length piece → Spells s t (old ++ take k piece) → ⊥
 
 -- all bytes of a piece without an entry's end, or those up to it
-abbrev pub FeedsTo : Stand → List ℕ → List ℕ → ℕ → Option Timed → State → Type 0
+abbrev pub FeedsTo : Position → List ℕ → List ℕ → ℕ → Option Timed → State → Type 0
 FeedsTo s old piece used None new = (used ≡ length piece) × (new ≡ with_bytes s (old ++ piece)) × IsPending s (old ++ piece)
 FeedsTo s old piece used (Some t) new = EndsEntry s old piece used t × (new ≡ after s (old ++ take used piece) t)
 
@@ -90,7 +90,7 @@ bytes_given None = []
 bytes_given (Some t) = entry_bytes t
 
 -- A piece: the bytes up to an entry's end, all of them, or up to the one that completes a refused part.
-abbrev pub Feeds : Stand → List ℕ → List ℕ → Result LogFed LogFault → State → Type 0
+abbrev pub Feeds : Position → List ℕ → List ℕ → Result LogFed LogFault → State → Type 0
 Feeds s old piece (Ok fed) new = FeedsTo s old piece fed.used fed.entry new × (fed.bytes ≡ bytes_given fed.entry)
 Feeds s old piece (Err f) new = ((k : ℕ) × ShowsFault s old piece k f) × (new.fault ≡ Some f)
 
@@ -100,7 +100,7 @@ Counts old piece (Ok fed) new = (total new ≡ total old + fed.used) × (fed.use
 Counts old piece (Err f) new = Unit {0}
 
 -- what the input's end makes of it
-abbrev pub finish_by : Option LogFault → Stand → List ℕ → Option LogFault
+abbrev pub finish_by : Option LogFault → Position → List ℕ → Option LogFault
 finish_by (Some f) s taken = Some f
 finish_by None s taken =
     if s.ended then None

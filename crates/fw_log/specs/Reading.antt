@@ -3,13 +3,14 @@ use Rattle.std.specs.Prelude.{◌≡◌, ℕ, ◌+◌, ◌*◌, ◌≤◌, ◌<�
 use Rattle.std.specs.Int.{from_be_bytes, w64}
 use Rattle.fw_words.specs.Quadlet.{quadlet_at}
 use Rattle.fw_entry.specs.Log.{header_bytes, entry_bytes, TimedFits}
+use Rattle.fw_entry.specs.declared.codes.kind.TheConstants as Kinds
 use Rattle.fw_entry.specs.declared.entry.Timed.{Timed}
 use Rattle.fw_log.specs.declared.BodyFault.{BodyFault}
 use Rattle.fw_log.specs.Bodies.{BodyRefused}
 use Rattle.fw_log.specs.declared.LogWhy.{LogWhy}
 use Rattle.fw_log.specs.declared.LogWhy.TheVariants.{AfterEnd, BadHeader, BadKind, BadLength, TimeBack, BadBody}
 use Rattle.fw_log.specs.declared.LogFault.{LogFault}
-use Rattle.fw_log.specs.declared.stand.Stand.{Stand}
+use Rattle.fw_log.specs.Stands.{Position}
 
 -- a fault and its place
 abbrev pub fault_at : ℕ → LogWhy → LogFault
@@ -43,16 +44,16 @@ cycle_of e = from_be_bytes w64 (take 8 (drop cycle_at e))
 
 -- a kind, and the zero byte behind it
 abbrev pub is_kind : ℕ → ℕ → Bool
-is_kind kind low = nat_le 1 kind && nat_le kind 7 && (low == 0)
+is_kind kind low = nat_le Kinds.RESET kind && nat_le kind Kinds.END && (low == 0)
 
 -- which numbers of quadlets a body of this kind has
 abbrev pub is_length : ℕ → ℕ → Bool
 is_length kind len =
-    if kind == 1 then nat_le 5 len && nat_le len 569
-    else if kind == 2 then nat_le 3 len && nat_le len 132
-    else if kind == 3 then (len == 3) || (len == 123)
-    else if kind == 4 then (len == 1) || (len == 2)
-    else if kind == 7 then len == 0
+    if kind == Kinds.RESET then nat_le 5 len && nat_le len 569
+    else if kind == Kinds.ASYNC then nat_le 3 len && nat_le len 132
+    else if kind == Kinds.ISO then (len == 3) || (len == 123)
+    else if kind == Kinds.EVENT then (len == 1) || (len == 2)
+    else if kind == Kinds.END then len == 0
     else len == 2
 
 -- the first part of an entry before its body that is there and is refused
@@ -75,7 +76,7 @@ abbrev pub skip : ℕ → ℕ
 skip start = if start == 0 then header_size else 0
 
 -- the first fault that parts before the body show
-abbrev pub head_fault : Stand → List ℕ → Option LogFault
+abbrev pub head_fault : Position → List ℕ → Option LogFault
 head_fault s bytes =
     if s.ended then (if length bytes == 0 then None else Some (fault_at s.start AfterEnd))
     else if s.start == 0 then header_fault bytes (entry_fault header_size s.last (drop header_size bytes))
@@ -86,11 +87,11 @@ abbrev pub entry_need : List ℕ → ℕ
 entry_need e = if nat_lt (length e) cycle_at then body_at else body_at + 4 * length_of e
 
 -- how many bytes the header and the entry take at least
-abbrev pub need : Stand → List ℕ → ℕ
+abbrev pub need : Position → List ℕ → ℕ
 need s bytes = skip s.start + entry_need (drop (skip s.start) bytes)
 
 -- no part that was taken whole is refused, and the bytes end no entry
-pub record IsPending (s : Stand) (bytes : List ℕ) : Type 0 where
+pub record IsPending (s : Position) (bytes : List ℕ) : Type 0 where
   pub no_fault : head_fault s bytes ≡ None
   pub not_complete : length bytes < need s bytes
 
@@ -99,7 +100,7 @@ abbrev pub header_at : ℕ → List ℕ
 header_at start = if start == 0 then header_bytes else []
 
 -- The bytes are the entry, behind the header where it is the first, and it may stand there.
-pub record Spells (s : Stand) (t : Timed) (bytes : List ℕ) : Type 0 where
+pub record Spells (s : Position) (t : Timed) (bytes : List ℕ) : Type 0 where
   pub going_on : s.ended ≡ false
   pub fits : TimedFits t
   pub later : s.last ≤ t.cycle
@@ -112,24 +113,24 @@ pub record HeadFits (last : ℕ) (e : List ℕ) : Type 0 where
   pub later : nat_le last (cycle_of e) ≡ true
 
 -- The parts before the body are right, and the bytes are as many as the entry takes.
-pub record IsComplete (s : Stand) (bytes : List ℕ) : Type 0 where
+pub record IsComplete (s : Position) (bytes : List ℕ) : Type 0 where
   pub going_on : s.ended ≡ false
   pub head : HeadFits s.last (drop (skip s.start) bytes)
   pub before : header_at s.start ++ drop (skip s.start) bytes ≡ bytes
   pub size : length (drop (skip s.start) bytes) ≡ body_at + 4 * length_of (drop (skip s.start) bytes)
 
 -- The body is refused, with its reason and place.
-pub record WrongBody (s : Stand) (bytes : List ℕ) (f : LogFault) : Type 0 where
+pub record WrongBody (s : Position) (bytes : List ℕ) (f : LogFault) : Type 0 where
   pub why : BodyFault
   pub is : f ≡ fault_at (s.start + (skip s.start + body_at)) (BadBody why)
   pub refused : BodyRefused (slice_index (drop (skip s.start) bytes) 0) (drop body_at (drop (skip s.start) bytes)) why
 
 -- The parts before the body are right, the body is there, and it is refused.
-pub record BodyFaulty (s : Stand) (bytes : List ℕ) (f : LogFault) : Type 0 where
+pub record BodyFaulty (s : Position) (bytes : List ℕ) (f : LogFault) : Type 0 where
   pub no_fault : head_fault s bytes ≡ None
   pub complete : length bytes ≡ need s bytes
   pub wrong : WrongBody s bytes f
 
 -- A part is refused: one before the body, or the body.
-abbrev pub Faulty : Stand → List ℕ → LogFault → Type 0
+abbrev pub Faulty : Position → List ℕ → LogFault → Type 0
 Faulty s bytes f = (head_fault s bytes ≡ Some f) ⊎ BodyFaulty s bytes f

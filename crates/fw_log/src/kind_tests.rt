@@ -170,7 +170,7 @@ fn a_fault_is_answered_again(rt: HostRuntime) -> Result<(), Fail> {
     assert_eq!(rt; reader.feed(&log, &mut room).err(), Some(fault));
     assert_eq!(rt; reader.feed(&good, &mut room).err(), Some(fault));
     assert_eq!(rt; reader.finish(), Err(fault));
-    assert_eq!(rt; reader.feed(&[], &mut room).err(), Some(fault));
     assert_eq!(rt; reader.finish(), Err(fault));
+    assert_eq!(rt; reader.feed(&[], &mut room).err(), Some(fault));
     Ok(())
 }

@@ -2,6 +2,9 @@
 #![tactic(auto)]
 
 #[cfg(test)]
+mod change_tests;
+mod first;
+#[cfg(test)]
 mod kind_tests;
 mod read;
 mod read_body;

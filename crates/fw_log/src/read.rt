@@ -3,20 +3,21 @@
 ghost use Rattle.std.specs.Prelude.{ℕ, ◌≡◌, ◌≤◌, ◌<◌, ◌+◌, ◌-◌, ◌*◌, ◌^◌, ◌++◌, ◌∷◌, [], length, take, drop, IfSome, IfNone, IfOk, Some, None, Ok, Err, List};
 ghost use Rattle.std.specs.Result.{result_err};
 ghost use Rattle.fw_entry.specs.Log.{is_end, entry_bytes, LogOpens};
-ghost use Rattle.fw_log.specs.Reading.{IsComplete, IsPending};
-ghost use Rattle.fw_log.specs.Reader.{State, total, with_bytes, EntryJudges, Ends, Finds, Joins, FindsIn};
+ghost use Rattle.fw_log.specs.Stands.{position};
+ghost use Rattle.fw_log.specs.Reading.{IsPending};
+ghost use Rattle.fw_log.specs.Reader.{State, total, with_bytes, FindsIn};
 ghost use Rattle.fw_log.specs.Reader.{EndsEntry, EndsNothing, ShowsFault, Feeds, Counts, bytes_given, finish_of};
 ghost use Rattle.fw_log.specs.History.{stand_after, HasRead, ReadsOn, GivesNext, Finishes};
 ghost use Rattle.fw_log.specs.declared.LogFault.{LogFault};
 ghost use Rattle.fw_entry.specs.declared.entry.Timed.{Timed};
 
-use crate::read_body::entry_of;
-use crate::read_head::head_fault;
-use crate::stand::{BODY_AT, Stand, cycle_of, need, rest, skip};
-use crate::{Entry, LogFault, LogWhy, ResetEntry, Room, Timed};
+use crate::first::{Found, at_hand, first_entry};
+use crate::stand::{Stand, skip};
+use crate::{Entry, LogFault, LogWhy, Room, Timed};
 use fw_words::{Bytes, Data};
 use std::alloc::{AllocError, Global};
 use std::marker::Model;
+use std::num::NonZero;
 
 /// What a piece gave.
 #[derive(Debug, Drop)]
@@ -29,93 +30,19 @@ pub struct LogFed<'a> {
     pub bytes: Data<'a>,
 }
 
-/// An entry that bytes begin with, where it ends, and its bytes without the header.
-#[derive(Debug, Drop)]
-pub struct Found<'a> {
-    pub end: usize,
-    pub bytes: Data<'a>,
-    pub entry: Timed<'a>,
-}
-
-// Where the entry ends that the bytes begin with, none where they are a part of it, or a fault before its body.
-fn end_of(stand: Stand, bytes: &[u8]) -> Result<Option<usize>, LogFault>
-    requires { stand.start + length bytes.now < 2 ^ 64 }
-    ensures { Ends stand bytes.now result }
+// Where a reader stands behind an entry that ends at this place.
+fn behind(place: u64, entry: &Timed) -> Stand
+    requires { 0 < place }
+    ensures { position result ≡ record { start = place; last = entry.now.cycle; ended = is_end entry.now.what } }
 {
-    if let Some(fault) = head_fault(stand, bytes) {
-        return Err(fault);
-    }
-    let end = need(stand, bytes);
-    if bytes.len() < end {
-        Ok(None)
-    } else {
-        Ok(Some(end))
-    }
-}
-
-// The entry that the bytes are, or why its body is none.
-fn complete_entry<'a>(
-    stand: Stand,
-    bytes: &'a [u8],
-    room: &'a mut ResetEntry,
-) -> Result<Timed<'a>, LogFault>
-    requires room { stand.start + length bytes.now < 2 ^ 64 }
-    requires head { IsComplete stand bytes.now }
-    ensures { EntryJudges stand bytes.now result }
-{
-    let at = skip(stand.start);
-    let entry = rest(bytes, at);
-    let cycle = cycle_of(entry);
-    match entry_of(entry[0], rest(entry, BODY_AT), room) {
-        Ok(what) => Ok(Timed { cycle, what }),
-        Err(why) => Err(LogFault {
-            place: stand.start + (at + BODY_AT) as u64,
-            why: LogWhy::BadBody(why),
-        }),
-    }
-}
-
-// The entry that the bytes begin with, none where they are a part of it, or the first fault.
-fn first_entry<'a>(
-    stand: Stand,
-    bytes: &'a [u8],
-    room: &'a mut ResetEntry,
-) -> Result<Option<Found<'a>>, LogFault>
-    requires room { stand.start + length bytes.now < 2 ^ 64 }
-    ensures { Finds stand bytes.now result }
-{
-    let end = match end_of(stand, bytes) {
-        Ok(Some(end)) => end,
-        Ok(None) => return Ok(None),
-        Err(fault) => return Err(fault),
+    let Some(past) = NonZero::<u64>::new(place) else {
+        unreachable!()
     };
-    let whole = &bytes[..end];
-    match complete_entry(stand, whole, room) {
-        Ok(entry) => Ok(Some(Found {
-            end,
-            bytes: Data::new(rest(whole, skip(stand.start))),
-            entry,
-        })),
-        Err(fault) => Err(fault),
+    let last = entry.cycle;
+    match entry.what {
+        Entry::End => Stand::Ended { past, last },
+        _ => Stand::Entries { past, last },
     }
-}
-
-// The piece, where nothing was kept, or else what was kept and as much of the piece as there is room for.
-fn at_hand<'a>(taken: &[u8], piece: &'a [u8], room: &'a mut Bytes<2304>) -> &'a [u8]
-    requires { length taken.now ≤ 2304 }
-    ensures { Joins taken.now piece.now result.now }
-{
-    if taken.is_empty() {
-        return piece;
-    }
-    room.join(taken, piece);
-    room.as_slice()
-}
-
-fn is_end(what: &Entry) -> bool
-    ensures { result ≡ is_end what.now }
-{
-    matches!(what, Entry::End)
 }
 
 /// Reads the entries of a log from bytes that come in any pieces.
@@ -127,13 +54,14 @@ pub struct LogReader {
 }
 
 impl Model for LogReader {
+    ghost use Rattle.fw_log.specs.Stands.{position};
     ghost use Rattle.fw_log.specs.Reader.{State, HoldsPending};
 
     ghost Value = { State };
 
-    ghost view = { λ r. record { stand = r.stand; taken = r.taken.value; fault = r.fault } };
+    ghost view = { λ r. record { stand = position r.stand; taken = r.taken.value; fault = r.fault } };
 
-    ghost invariant = { λ r. HoldsPending r.stand r.taken.value r.fault };
+    ghost invariant = { λ r. HoldsPending (position r.stand) r.taken.value r.fault };
 }
 
 impl LogReader {
@@ -144,11 +72,7 @@ impl LogReader {
     {
         Ok(LogReader {
             taken: Box::new(alloc, Bytes::new())?,
-            stand: Stand {
-                start: 0,
-                last: 0,
-                ended: false,
-            },
+            stand: Stand::Header,
             fault: None,
         })
     }
@@ -181,11 +105,7 @@ impl LogReader {
             Ok(Some(found)) => {
                 let Found { end, bytes, entry } = found;
                 let used = end - self.taken.as_slice().len();
-                self.stand = Stand {
-                    start: self.stand.start + end as u64,
-                    last: entry.cycle,
-                    ended: is_end(&entry.what),
-                };
+                self.stand = behind(self.stand.start() + end as u64, &entry);
                 self.taken.clear();
                 Ok(LogFed {
                     used,
@@ -250,16 +170,16 @@ impl LogReader {
         requires { self.now.fault ≡ None → total self.now < 2 ^ 64 }
         ensures { result ≡ finish_of self.now }
     {
-        if self.fault.is_some() || self.stand.ended {
+        if self.fault.is_some() || matches!(self.stand, Stand::Ended { .. }) {
             return self.fault;
         }
-        let why = if self.taken.as_slice().len() == skip(self.stand.start) {
+        let why = if self.taken.as_slice().len() == skip(self.stand) {
             LogWhy::NoEnd
         } else {
             LogWhy::Cut
         };
         Some(LogFault {
-            place: self.stand.start + self.taken.as_slice().len() as u64,
+            place: self.stand.start() + self.taken.as_slice().len() as u64,
             why,
         })
     }

@@ -6,13 +6,14 @@ ghost use Rattle.fw_entry.specs.declared.entry.EventEntry.{EventEntry};
 ghost use Rattle.fw_entry.specs.declared.entry.OutcomeEntry.{OutcomeEntry};
 ghost use Rattle.fw_entry.specs.declared.entry.ShownEntry.{ShownEntry};
 ghost use Rattle.fw_entry.specs.Log.{quads, event_quads, outcome_quads, shown_quads, is_event, is_outcome, EventFits, OutcomeFits, ShownFits};
+ghost use Rattle.fw_entry.specs.declared.codes.TheConstants.{LINES_525, LINES_625};
+ghost use Rattle.fw_entry.specs.declared.codes.event.TheConstants.{INSERTED};
 ghost use Rattle.fw_log.specs.Reading.{is_kind, is_length};
 ghost use Rattle.fw_log.specs.Bodies.{PacketJudges, ResetJudges, BodyJudges};
 
-use crate::read_reset::reset_of;
-use crate::{
-    BodyFault, BorrowedReset, Entry, EventEntry, OutcomeEntry, ResetEntry, ShownEntry, codes,
-};
+use crate::codes::{LINES_525, LINES_625, NO_DEVICE, event, kind, outcome};
+use crate::read_reset::read_reset;
+use crate::{BodyFault, BorrowedReset, Entry, EventEntry, OutcomeEntry, ResetEntry, ShownEntry};
 use fw_async::{Fed, Packet, read_packet};
 use fw_cip::read_iso;
 use fw_words::quadlet_at;
@@ -23,13 +24,13 @@ fn outcome_of(body: &[u8]) -> Option<OutcomeEntry>
     ensures only { (o : OutcomeEntry) → OutcomeFits o → quads (outcome_quads o) ≡ body.now → result ≡ Some o }
 {
     let first = quadlet_at(body, 0);
-    let code = first.field(0, 7);
+    let code = first.field(0, 7) as u8;
     let value = quadlet_at(body, 4).0;
     if first.field(24, 31) != 0 || !is_outcome(code, value) {
         return None;
     }
     Some(OutcomeEntry {
-        code: code as u8,
+        code,
         device: first.field(8, 15) as u8,
         slot: first.field(16, 23) as u8,
         value,
@@ -37,10 +38,12 @@ fn outcome_of(body: &[u8]) -> Option<OutcomeEntry>
 }
 
 // An outcome of this code may have this value.
-fn is_outcome(code: u32, value: u32) -> bool
+fn is_outcome(code: u8, value: u32) -> bool
     ensures { result ≡ is_outcome code value }
 {
-    1 <= code && code <= 12 && (value == 0 || (code != 2 && code != 9))
+    outcome::CONNECTED <= code
+        && code <= outcome::LATE
+        && (value == 0 || (code != outcome::BROKEN && code != outcome::NO_MANAGER))
 }
 
 fn shown_of(body: &[u8]) -> Option<ShownEntry>
@@ -60,16 +63,18 @@ fn shown_of(body: &[u8]) -> Option<ShownEntry>
 }
 
 // The event may have this device.
-fn is_event_of(code: u32, device: u32) -> bool
-    ensures { result ≡ is_event code device 0 (if code == 4 then 525 else 0) }
+fn is_event_of(code: u8, device: u8) -> bool
+    ensures { result ≡ is_event code device 0 (if code == INSERTED then LINES_525 else 0) }
 {
-    1 <= code && code <= 6 && (device == 255 || (code != 1 && code != 6))
+    event::SECOND_OVER <= code
+        && code <= event::UNSETTLED
+        && (device == NO_DEVICE || (code != event::SECOND_OVER && code != event::UNSETTLED))
 }
 
-fn is_system(system: u32) -> bool
-    ensures { result ≡ ((system == 525) || (system == 625)) }
+fn is_system(system: u16) -> bool
+    ensures { result ≡ ((system == LINES_525) || (system == LINES_625)) }
 {
-    system == 525 || system == 625
+    system == LINES_525 || system == LINES_625
 }
 
 fn event_of(body: &[u8]) -> Option<EventEntry>
@@ -78,18 +83,18 @@ fn event_of(body: &[u8]) -> Option<EventEntry>
     ensures only { (o : EventEntry) → EventFits o → quads (event_quads o) ≡ body.now → result ≡ Some o }
 {
     let first = quadlet_at(body, 0);
-    let code = first.field(0, 7);
-    let device = first.field(8, 15);
+    let code = first.field(0, 7) as u8;
+    let device = first.field(8, 15) as u8;
     if first.field(16, 31) != 0 || !is_event_of(code, device) {
         return None;
     }
-    if code != 4 {
+    if code != event::INSERTED {
         if body.len() != 4 {
             return None;
         }
         return Some(EventEntry {
-            code: code as u8,
-            device: device as u8,
+            code,
+            device,
             tape: 0,
             system: 0,
         });
@@ -98,15 +103,15 @@ fn event_of(body: &[u8]) -> Option<EventEntry>
         return None;
     }
     let second = quadlet_at(body, 4);
-    let system = second.field(16, 31);
+    let system = second.field(16, 31) as u16;
     if !is_system(system) {
         return None;
     }
     Some(EventEntry {
-        code: code as u8,
-        device: device as u8,
+        code,
+        device,
         tape: second.field(0, 15) as u16,
-        system: system as u16,
+        system,
     })
 }
 
@@ -137,11 +142,8 @@ fn reset_in<'a>(body: &[u8], room: &'a mut ResetEntry) -> Result<BorrowedReset<'
     requires few { length body.now ≤ 2276 }
     ensures { ResetJudges body.now result }
 {
-    match reset_of(body) {
-        Ok(reset) => {
-            *room = reset;
-            Ok(BorrowedReset::new(room))
-        }
+    match read_reset(room, body) {
+        Ok(()) => Ok(BorrowedReset::new(room)),
         Err(fault) => Err(fault),
     }
 }
@@ -157,27 +159,27 @@ pub(crate) fn entry_of<'a>(
     ensures { BodyJudges kind body.now result }
 {
     match kind {
-        codes::kind::RESET => match reset_in(body, room) {
+        kind::RESET => match reset_in(body, room) {
             Ok(reset) => Ok(Entry::Reset(reset)),
             Err(fault) => Err(fault),
         },
-        codes::kind::ASYNC => match async_of(body) {
+        kind::ASYNC => match async_of(body) {
             Ok(packet) => Ok(Entry::Async(packet)),
             Err(fault) => Err(fault),
         },
-        codes::kind::ISO => match read_iso(body) {
+        kind::ISO => match read_iso(body) {
             Ok(packet) => Ok(Entry::Iso(packet)),
             Err(fault) => Err(BodyFault::Iso(fault)),
         },
-        codes::kind::EVENT => match event_of(body) {
+        kind::EVENT => match event_of(body) {
             Some(event) => Ok(Entry::Event(event)),
             None => Err(BodyFault::Fields),
         },
-        codes::kind::OUTCOME => match outcome_of(body) {
+        kind::OUTCOME => match outcome_of(body) {
             Some(outcome) => Ok(Entry::Outcome(outcome)),
             None => Err(BodyFault::Fields),
         },
-        codes::kind::SHOWN => match shown_of(body) {
+        kind::SHOWN => match shown_of(body) {
             Some(shown) => Ok(Entry::Shown(shown)),
             None => Err(BodyFault::Fields),
         },

@@ -1,6 +1,7 @@
 //! What the bytes of an entry show before its body.
 
-ghost use Rattle.std.specs.Prelude.{ℕ, ◌≡◌, ◌≤◌, ◌<◌, ◌+◌, ◌-◌, ◌*◌, ◌/◌, ◌%◌, ◌^◌, ◌++◌, ◌∷◌, [], length, take, drop, None};
+ghost use Rattle.std.specs.Prelude.{ℕ, ◌≡◌, ◌≤◌, ◌<◌, ◌+◌, ◌-◌, ◌*◌, ◌/◌, ◌%◌, ◌^◌, ◌++◌, ◌∷◌, [], length, take, drop, None, Some, ◌==◌, if◌then◌else◌};
+ghost use Rattle.fw_log.specs.Stands.{position};
 ghost use Rattle.fw_log.specs.Reading.{length_of, cycle_of, is_kind, is_length, entry_fault, header_fault, head_fault, fault_at};
 
 use crate::stand::{BODY_AT, CYCLE_AT, HEADER_SIZE, LENGTH_AT, Stand, cycle_of, length_of, rest};
@@ -101,25 +102,30 @@ fn header_fault(bytes: &[u8]) -> Option<LogFault>
     None
 }
 
+// The first byte behind the end, which stands at this place.
+fn after_end(place: u64, bytes: &[u8]) -> Option<LogFault>
+    ensures { result ≡ (if length bytes.now == 0 then None else Some (fault_at place LogWhy.AfterEnd)) }
+{
+    if bytes.is_empty() {
+        return None;
+    }
+    Some(LogFault {
+        place,
+        why: LogWhy::AfterEnd,
+    })
+}
+
 // The first fault that the parts before the body show.
 pub(crate) fn head_fault(stand: Stand, bytes: &[u8]) -> Option<LogFault>
-    requires { stand.start + length bytes.now < 2 ^ 64 }
-    ensures { result ≡ head_fault stand bytes.now }
+    requires { (position stand).start + length bytes.now < 2 ^ 64 }
+    ensures { result ≡ head_fault (position stand) bytes.now }
 {
-    if stand.ended {
-        if bytes.is_empty() {
-            return None;
-        }
-        return Some(LogFault {
-            place: stand.start,
-            why: LogWhy::AfterEnd,
-        });
-    }
-    if stand.start > 0 {
-        return entry_fault(stand.start, stand.last, bytes);
-    }
-    match header_fault(bytes) {
-        Some(fault) => Some(fault),
-        None => entry_fault(HEADER_SIZE as u64, stand.last, rest(bytes, HEADER_SIZE)),
+    match stand {
+        Stand::Header => match header_fault(bytes) {
+            Some(fault) => Some(fault),
+            None => entry_fault(HEADER_SIZE as u64, 0, rest(bytes, HEADER_SIZE)),
+        },
+        Stand::Entries { past, last } => entry_fault(past.get(), last, bytes),
+        Stand::Ended { past, .. } => after_end(past.get(), bytes),
     }
 }

@@ -1,11 +1,11 @@
 //! The bodies of reset entries, from bytes.
 
-ghost use Rattle.std.specs.Prelude.{ℕ, ◌≡◌, ◌≤◌, ◌<◌, ◌+◌, ◌*◌, ◌++◌, ◌∷◌, [], List, length, take, drop, map, slice_index, IsTrue, ◌↔◌, IfSome, Contains, None};
+ghost use Rattle.std.specs.Prelude.{ℕ, ◌≡◌, ◌≤◌, ◌<◌, ◌+◌, ◌*◌, ◌++◌, ◌∷◌, [], List, length, take, drop, map, slice_index, IsTrue, ◌↔◌, IfSome, None, Ok, Err, OnOk, IfErr};
 ghost use Rattle.std.specs.List.{All};
 ghost use Rattle.fw_phy.specs.Phy.{Fits as PhyFits};
 ghost use Rattle.fw_phy.specs.declared.packet.PhyPacket.{PhyPacket};
 ghost use Rattle.fw_entry.specs.Log as Log;
-ghost use Rattle.fw_entry.specs.Log.{quads, node_quad, devices, RowFits, AreApart, ResetFits, are_ids, manager_byte};
+ghost use Rattle.fw_entry.specs.Log.{quads, node_quad, RowFits, AreApart, ResetFits, are_ids, manager_byte};
 ghost use Rattle.fw_log.specs.Bodies.{count_of, ids_at, has_nodes, AreIds, IdsJudges, ResetJudges};
 ghost use Rattle.fw_log.specs.Resets.{RowShape, ResetShape, goes_on};
 
@@ -23,16 +23,17 @@ fn keep(ids: &mut SelfIds, packet: PhyPacket)
     }
 }
 
-// The packets that the bytes are, the first refusal, or that they are more than a reset has.
-fn ids_of(bytes: &[u8]) -> Result<SelfIds, BodyFault>
+// Puts the packets that the bytes are into a list, or tells the first refusal, or that they are more than a reset has.
+fn read_ids(ids: &mut SelfIds, bytes: &[u8]) -> Result<(), BodyFault>
     requires { length bytes.now ≤ 2276 }
-    ensures { IdsJudges bytes.now result }
+    ensures ids { OnOk result (IdsJudges bytes.now (Ok ids.new)) }
+    ensures fault { IfErr result (λ f. IdsJudges bytes.now (Err f)) }
 {
-    let mut ids = SelfIds::new();
+    *ids = SelfIds::new();
     let mut at = 0;
     while at < bytes.len() {
         match read_phy(&bytes[at..]) {
-            Ok(packet) => keep(&mut ids, packet),
+            Ok(packet) => keep(ids, packet),
             Err(fault) => return Err(BodyFault::Phy(fault)),
         }
         at += 8;
@@ -40,7 +41,7 @@ fn ids_of(bytes: &[u8]) -> Result<SelfIds, BodyFault>
     if at > 8 * 252 {
         return Err(BodyFault::Fields);
     }
-    Ok(ids)
+    Ok(())
 }
 
 fn node_of(q: Quadlet) -> NodeRow
@@ -89,19 +90,17 @@ fn rows_fit(rows: &[NodeRow]) -> bool
     rows.iter().all(|r| row_fits(r))
 }
 
-fn has_device(rows: &[NodeRow], device: u8) -> bool
-    ensures { IsTrue result ↔ Contains (devices rows.now) device }
-{
-    rows.iter().map(|r| r.device).any(|d| d == device)
-}
-
+// Whether each device is at most once among the rows, by a table of those that were met.
 fn are_apart(rows: &[NodeRow]) -> bool
     ensures { IsTrue result ↔ AreApart rows.now }
 {
+    let mut met = [false; 256];
     for i in 0..rows.len() {
-        if has_device(&rows[..i], rows[i].device) {
+        let device = usize::from(rows[i].device);
+        if met[device] {
             return false;
         }
+        met[device] = true;
     }
     true
 }
@@ -172,42 +171,39 @@ fn has_nodes(body: &[u8]) -> bool
     1 <= count && count <= 63 && 8 + 4 * count <= body.len()
 }
 
-// What the fields are, whatever the rules say.
-fn fields_of(body: &[u8], ids: SelfIds) -> ResetEntry
+// Puts what the fields are into a reset that has the packets, whatever the rules say.
+fn read_fields(reset: &mut ResetEntry, body: &[u8])
     requires nodes { IsTrue (has_nodes body.now) }
     requires some { 8 ≤ length body.now }
-    requires ids { AreIds ids (drop (ids_at body.now) body.now) }
-    requires few { length ids ≤ 252 }
-    ensures shape { ResetShape result }
-    ensures same { Log.body (Entry.Reset result) ≡ body.now }
+    requires ids { AreIds reset.old.ids (drop (ids_at body.now) body.now) }
+    requires few { length reset.old.ids ≤ 252 }
+    ensures shape { ResetShape reset.new }
+    ensures same { Log.body (Entry.Reset reset.new) ≡ body.now }
 {
     let second = quadlet_at(body, 4);
-    ResetEntry {
-        epoch: quadlet_at(body, 0).0,
-        root: second.field(0, 7) as u8,
-        manager: manager_of(second.field(8, 15) as u8),
-        initiator: second.field(16, 23) as u8,
-        nodes: nodes_of(&body[8..], count_of(body)),
-        ids,
-    }
+    reset.epoch = quadlet_at(body, 0).0;
+    reset.root = second.field(0, 7) as u8;
+    reset.manager = manager_of(second.field(8, 15) as u8);
+    reset.initiator = second.field(16, 23) as u8;
+    reset.nodes = nodes_of(&body[8..], count_of(body));
 }
 
-/// The reset that a body is, or why it is none.
-pub(crate) fn reset_of(body: &[u8]) -> Result<ResetEntry, BodyFault>
+/// Puts the reset that a body is into room that is kept for it, or tells why it is none.
+pub(crate) fn read_reset(reset: &mut ResetEntry, body: &[u8]) -> Result<(), BodyFault>
     requires some { 20 ≤ length body.now }
     requires few { length body.now ≤ 2276 }
-    ensures { ResetJudges body.now result }
+    ensures reset { OnOk result (ResetJudges body.now (Ok reset.new)) }
+    ensures fault { IfErr result (λ f. ResetJudges body.now (Err f)) }
 {
     if !has_nodes(body) {
         return Err(BodyFault::Fields);
     }
-    let ids = match ids_of(&body[8 + 4 * count_of(body)..]) {
-        Ok(ids) => ids,
-        Err(fault) => return Err(fault),
-    };
-    let reset = fields_of(body, ids);
-    if reset_fits(&reset) {
-        Ok(reset)
+    if let Err(fault) = read_ids(&mut reset.ids, &body[8 + 4 * count_of(body)..]) {
+        return Err(fault);
+    }
+    read_fields(reset, body);
+    if reset_fits(reset) {
+        Ok(())
     } else {
         Err(BodyFault::Fields)
     }

@@ -1,7 +1,10 @@
 //! Where the parts of a log stand, and where a reader does.
 
 ghost use Rattle.std.specs.Prelude.{◌≡◌, ◌≤◌, ◌+◌, ◌*◌, length, take, drop};
+ghost use Rattle.fw_log.specs.Stands.{position};
 ghost use Rattle.fw_log.specs.Reading.{length_of, cycle_of, skip, entry_need, need};
+
+use std::num::NonZero;
 
 /// How many bytes the header has.
 pub(crate) const HEADER_SIZE: usize = 16;
@@ -15,13 +18,27 @@ pub(crate) const CYCLE_AT: usize = 4;
 /// Where an entry's body begins.
 pub(crate) const BODY_AT: usize = 12;
 
-/// Where a reader stands: the place of the first byte that belongs to no entry yet, the cycle of the last entry, and
-/// whether that was the end.
+/// Where a reader stands. `past` is the place of the first byte behind the last entry, `last` the cycle of that entry.
 #[derive(Clone, Copy, Debug, PartialEq, Eq)]
-pub struct Stand {
-    pub start: u64,
-    pub last: u64,
-    pub ended: bool,
+pub enum Stand {
+    /// The header is to come, and the first entry behind it.
+    Header,
+    /// An entry is to come.
+    Entries { past: NonZero<u64>, last: u64 },
+    /// The end was read.
+    Ended { past: NonZero<u64>, last: u64 },
+}
+
+impl Stand {
+    /// The place of the first byte that belongs to no entry yet.
+    pub(crate) fn start(self) -> u64
+        ensures { result ≡ (position self).start }
+    {
+        match self {
+            Stand::Header => 0,
+            Stand::Entries { past, .. } | Stand::Ended { past, .. } => past.get(),
+        }
+    }
 }
 
 /// The bytes from a place on, as far as there are any.
@@ -51,10 +68,13 @@ pub(crate) fn cycle_of(e: &[u8]) -> u64
 }
 
 /// How many bytes of a header stand before the entry.
-pub(crate) fn skip(start: u64) -> usize
-    ensures { result ≡ skip start }
+pub(crate) fn skip(stand: Stand) -> usize
+    ensures { result ≡ skip (position stand).start }
 {
-    if start == 0 { HEADER_SIZE } else { 0 }
+    match stand {
+        Stand::Header => HEADER_SIZE,
+        _ => 0,
+    }
 }
 
 fn entry_need(e: &[u8]) -> usize
@@ -69,8 +89,8 @@ fn entry_need(e: &[u8]) -> usize
 
 /// How many bytes the header and the entry take at least, by what is there of them.
 pub(crate) fn need(stand: Stand, bytes: &[u8]) -> usize
-    ensures { result ≡ need stand bytes.now }
+    ensures { result ≡ need (position stand) bytes.now }
 {
-    let at = skip(stand.start);
+    let at = skip(stand);
     at + entry_need(rest(bytes, at))
 }

@@ -17,7 +17,7 @@ use std::process::Abort;
 use std::test::Fail;
 
 // A deck broadcasts: a reset, twelve packets, an outcome and the end.
-const ONE_DECK_BROADCAST: &str =
+pub(crate) const ONE_DECK_BROADCAST: &str =
     "31333934000000010000000000000000010000050000000000000000000000010000000100010101807f08427f80f7bd020000030000000000000000ffc00140ffc0fffff0000904020000040000000000000000ffc00160ffc0000000000000803f007a020000030000000000000000ffc00140ffc0fffff0000228020000040000000000000000ffc00160ffc0000000000000ffffffff020000060000000000000000ffc00190ffc0fffff000022800080002fffffffffffffffe020000050000000000000000ffc001b0ffc000000000000000040002ffffffff020000030000000000000000ffc00140ffc0fffff0000220020000040000000000000000ffc00160ffc000000000000000001333020000060000000000000000ffc00190ffc0fffff0000220000800020000133300000963020000050000000000000000ffc001b0ffc00000000000000004000200001333020000060000000000000000ffc00190ffc0fffff000090400080002803f007ac03f007a020000050000000000000000ffc001b0ffc000000000000000040002803f007a050000020000000000000000010000000000003f070000000000000000000000";
 
 // Devices are joined while a connection is made: resets of one, two and three nodes, and shown words.
@@ -64,7 +64,12 @@ fn through(
 }
 
 // What becomes of a log, at this size of pieces.
-fn outcome(rt: &impl Abort, alloc: Global, bytes: &[u8], size: usize) -> Result<(), LogFault>
+pub(crate) fn outcome(
+    rt: &impl Abort,
+    alloc: Global,
+    bytes: &[u8],
+    size: usize,
+) -> Result<(), LogFault>
     requires { length bytes.now < 2 ^ 32 }
 {
     let mut reader = LogReader::new(alloc).expect(rt, "room for a reader");
@@ -74,9 +79,10 @@ fn outcome(rt: &impl Abort, alloc: Global, bytes: &[u8], size: usize) -> Result<
     through(bytes, size, &mut reader, &mut room, &mut written, &mut sink)
 }
 
-fn written_again(rt: &impl Abort, alloc: Global, text: &str) -> Result<(), Fail> {
-    let log = hex::decode(alloc, text)?;
-    assert!(rt; log.len() < 100_000);
+// Reads a log in pieces of three sizes, and writes what was read.
+pub(crate) fn written_again(rt: &impl Abort, alloc: Global, log: &[u8]) -> Result<(), Fail>
+    requires { length log.now < 2 ^ 32 }
+{
     for size in [log.len(), 1, 7] {
         let mut reader = LogReader::new(alloc)?;
         let mut room = Room::new(alloc)?;
@@ -84,22 +90,29 @@ fn written_again(rt: &impl Abort, alloc: Global, text: &str) -> Result<(), Fail>
         let mut sink = MemSink::new(alloc, log.len(), Vec::new(alloc))?;
         assert_eq!(rt; write_header(&mut sink), Ok(()));
         assert_eq!(rt;
-            through(&log, size, &mut reader, &mut room, &mut written, &mut sink),
+            through(log, size, &mut reader, &mut room, &mut written, &mut sink),
             Ok(()),
             "in pieces of {size}"
         );
-        assert_eq!(rt; sink.as_slice(), log.as_slice(), "in pieces of {size}");
+        assert_eq!(rt; sink.as_slice(), log, "in pieces of {size}");
     }
     Ok(())
 }
 
 #[test]
 fn a_log_that_is_read_is_written_again(rt: HostRuntime) -> Result<(), Fail> {
-    written_again(&rt, rt.alloc(), ONE_DECK_BROADCAST)?;
-    written_again(&rt, rt.alloc(), JOINED_IN_THE_MIDDLE)?;
-    written_again(&rt, rt.alloc(), TAPE_TIME_CODE)?;
-    written_again(&rt, rt.alloc(), ABSENT_DEVICE)?;
-    written_again(&rt, rt.alloc(), SECOND_OVER_ENDS_THE_FLOW)
+    for text in [
+        ONE_DECK_BROADCAST,
+        JOINED_IN_THE_MIDDLE,
+        TAPE_TIME_CODE,
+        ABSENT_DEVICE,
+        SECOND_OVER_ENDS_THE_FLOW,
+    ] {
+        let log = hex::decode(rt.alloc(), text)?;
+        assert!(rt; log.len() < 100_000);
+        written_again(&rt, rt.alloc(), &log)?;
+    }
+    Ok(())
 }
 
 // Lengths at which the log of the lone deck stands between two entries.

@@ -1,11 +1,11 @@
 -- The self-ID packets in the body of a reset entry.
-use Rattle.std.proofs.Common.{◌≡◌, refl, ap, ◌∙◌, sym, ℕ, zero, suc, ◌+◌, ◌*◌, ◌<◌, List, [], ◌∷◌, ◌++◌, length, take, drop, map, flat_map, arith, length-append, append_assoc, add-one}
+use Rattle.std.proofs.Common.{◌≡◌, refl, ap, ◌∙◌, sym, ℕ, zero, suc, ◌+◌, ◌*◌, ◌/◌, ◌≤◌, ◌<◌, List, [], ◌∷◌, ◌++◌, length, take, drop, flat_map, arith, length-append, length-drop, append_assoc, add-one}
 use Rattle.std.specs.Int.{to_be_bytes, from_be_bytes, w32}
-use Rattle.std.proofs.lemmas.List.{append-nil, drop_at, length-map}
+use Rattle.std.proofs.lemmas.List.{append-nil, drop_at, drop-drop, length-map}
 use Rattle.std.proofs.Math.Seq.{drop-append-add}
 use Rattle.fw_words.specs.Quadlet.{quadlet_at}
 use Rattle.fw_phy.specs.Phy.{spelling}
-use Rattle.fw_text.specs.Line.{id_text, quadlet_text}
+use Rattle.fw_text.specs.Line.{id_text, quadlet_text, first_quadlets, quadlets_text}
 use Rattle.fw_phy.specs.declared.packet.PhyPacket.{PhyPacket}
 use Rattle.fw_entry.specs.Log.{quads, reset_quads, node_quad}
 use Rattle.fw_entry.specs.declared.entry.ResetEntry.{ResetEntry}
@@ -41,3 +41,18 @@ ids_next (p ∷ ps) (suc i) h =
     sym (past p rest (8 * i)) ∙ ap (quadlet_at (spelling p ++ rest)) (omega arith) in
     ap (λ (x : List PhyPacket). flat_map id_text x) e ∙ ap (λ (x : List ℕ). id_text p ++ x) (ids_next ps i (omega (arith, h)))
     ∙ sym (append_assoc (id_text p) before (quadlet_text (quadlet_at rest (8 * i)))) ∙ ap (λ (q : ℕ). (id_text p ++ before) ++ quadlet_text q) at
+
+-- The text of the first quadlets is that of the first one, and of those behind it.
+first_then : (bytes : List ℕ) (n : ℕ) → first_quadlets bytes (suc n) ≡ quadlet_text (quadlet_at bytes 0) ++ first_quadlets (drop 4 bytes) n
+first_then bytes zero = sym (append-nil (quadlet_text (quadlet_at bytes 0)))
+first_then bytes (suc n) =
+    let behind : quadlet_at (drop 4 bytes) (4 * n) ≡ quadlet_at bytes (4 * suc n) =
+    ap (λ t. from_be_bytes w32 (take 4 t)) (drop-drop (4 * n) 4 bytes ∙ ap (λ k. drop k bytes) (omega arith)) in
+    ap (λ t. t ++ quadlet_text (quadlet_at bytes (4 * suc n))) (first_then bytes n)
+    ∙ append_assoc (quadlet_text (quadlet_at bytes 0)) (first_quadlets (drop 4 bytes) n) (quadlet_text (quadlet_at bytes (4 * suc n)))
+    ∙ ap (λ (q : ℕ). quadlet_text (quadlet_at bytes 0) ++ (first_quadlets (drop 4 bytes) n ++ quadlet_text q)) (sym behind)
+
+pub quadlets_then : (bytes : List ℕ) → 4 ≤ length bytes → quadlets_text bytes ≡ quadlet_text (quadlet_at bytes 0) ++ quadlets_text (drop 4 bytes)
+quadlets_then bytes some =
+    let count : length bytes / 4 ≡ suc (length (drop 4 bytes) / 4) = omega (arith, length-drop 4 bytes) in
+    ap (first_quadlets bytes) count ∙ first_then bytes (length (drop 4 bytes) / 4)

@@ -1,6 +1,6 @@
 //! The lines of entries, one behind another.
 
-ghost use Rattle.std.specs.Prelude.{◌≡◌, ◌++◌, [], IfOk, OnOk, OnErr, decimal};
+ghost use Rattle.std.specs.Prelude.{◌≡◌, ◌++◌, [], IfOk, OnOk, OnErr, codes, decimal};
 ghost use Rattle.fw_entry.specs.Log.{Fits, body};
 ghost use Rattle.fw_text.specs.Line.{entry_line};
 
@@ -15,27 +15,27 @@ use std::marker::Model;
 /// entry behind them.
 const TEXT_ROOM: usize = 24_576;
 
-/// How many digits the greatest cycle has.
-const CYCLE_ROOM: usize = 20;
+/// How many digits the greatest cycle has, and the space behind them.
+const CYCLE_ROOM: usize = 21;
 
 /// The bytes of lines, and what the next one is made with.
 #[derive(Drop)]
 pub(crate) struct Lines {
     text: Vec<u8>,
-    // The last cycle and its digits: many entries have the same.
+    // The last cycle, and its digits with the space behind them: many entries have the same.
     cycle: Option<u64>,
     digits: Vec<u8>,
     pairs: Pairs,
 }
 
 impl Model for Lines {
-    ghost use Rattle.std.specs.Prelude.{List, ℕ, ◌≡◌, IfSome, decimal};
+    ghost use Rattle.std.specs.Prelude.{List, ℕ, ◌≡◌, ◌++◌, IfSome, codes, decimal};
 
     ghost Value = { List ℕ };
 
     ghost view = { λ r. r.text.items };
 
-    ghost invariant = { λ r. IfSome r.cycle (λ n. r.digits.items ≡ decimal n) };
+    ghost invariant = { λ r. IfSome r.cycle (λ n. r.digits.items ≡ decimal n ++ codes " ") };
 }
 
 impl Lines {
@@ -62,13 +62,15 @@ impl Lines {
         self.text.clear();
     }
 
+    // Appends a cycle and a space.
     fn put_cycle(&mut self, cycle: u64) -> Result<(), AllocError>
-        ensures { OnOk result (self.new ≡ self.old ++ decimal cycle) }
+        ensures { OnOk result (self.new ≡ self.old ++ (decimal cycle ++ codes " ")) }
     {
         if self.cycle != Some(cycle) {
             self.cycle = None;
             self.digits.clear();
             put_number(&mut self.digits, cycle)?;
+            put_word(&mut self.digits, " ")?;
             self.cycle = Some(cycle);
         }
         self.text.extend_from_slice(&self.digits)
@@ -80,7 +82,6 @@ impl Lines {
         ensures { OnOk result (self.new ≡ self.old ++ entry_line t.now) }
     {
         self.put_cycle(t.cycle)?;
-        put_word(&mut self.text, " ")?;
         put_what(&mut self.text, &self.pairs, &t.what, bytes)?;
         put_word(&mut self.text, "\n")
     }

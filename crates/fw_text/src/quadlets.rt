@@ -7,7 +7,7 @@ ghost use Rattle.fw_text.specs.Line.{quadlet_text, quadlets_text, offset_text, i
 
 use crate::pairs::Pairs;
 use fw_phy::PhyPacket;
-use fw_words::quadlet_at;
+use fw_words::{get_quadlet, quadlet_at};
 use itoa::Buffer;
 use std::alloc::AllocError;
 
@@ -70,8 +70,10 @@ pub(crate) fn put_quadlets(
 ) -> Result<(), AllocError>
     ensures { OnOk result (text.new.items ≡ text.old.items ++ quadlets_text bytes.now) }
 {
-    for i in 0..bytes.len() / 4 {
-        put_quadlet(text, pairs, quadlet_at(bytes, 4 * i).0)?;
+    let mut rest = bytes;
+    while let Some((four, more)) = rest.split_first_chunk::<4>() {
+        put_quadlet(text, pairs, get_quadlet(*four).0)?;
+        rest = more;
     }
     Ok(())
 }

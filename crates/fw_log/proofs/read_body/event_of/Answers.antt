@@ -7,7 +7,7 @@ use Rattle.fw_log.proofs.read_body.event_of.Goals as goal
 pub returns-clause-found : goal.returns-clause-found
 returns-clause-found c =
     let size : length c.args.body.now ≡ 8 = omega arith in (
-      record { device = omega arith; tape = omega arith; shape = event_shape c.field-code.result c.field-device.result c.field-2.result c.field-system.result (sym c.is_event_of.ensures ∙ c.if-not-is_event_of.false) c.if-code-ne4.false (sym c.is_system.ensures ∙ c.if-not-is_system.false) },
-      ap (λ more. quads (packed ((8, c.field-code.result) ∷ (8, c.field-device.result) ∷ (16, 0) ∷ []) 0 ∷ more)) (event_quad c.field-code.result (packed ((16, c.field-2.result) ∷ (16, c.field-system.result) ∷ []) 0 ∷ []) c.if-code-ne4.false)
+      record { device = omega arith; tape = omega arith; shape = event_shape c.field-code.result c.field-device.result c.field-2.result c.field-system.result (sym c.is_event_of.ensures ∙ c.if-not-is_event_of.false) c.if-code-ne-INSERTED.false (sym c.is_system.ensures ∙ c.if-not-is_system.false) },
+      ap (λ more. quads (packed ((8, c.field-code.result) ∷ (8, c.field-device.result) ∷ (16, 0) ∷ []) 0 ∷ more)) (event_quad c.field-code.result (packed ((16, c.field-2.result) ∷ (16, c.field-system.result) ∷ []) 0 ∷ []) c.if-code-ne-INSERTED.false)
           ∙ two_quads c.args.body.now (packed ((8, c.field-code.result) ∷ (8, c.field-device.result) ∷ (16, 0) ∷ []) 0) (packed ((16, c.field-2.result) ∷ (16, c.field-system.result) ∷ []) 0) c.quadlet_at-first.result.0 c.quadlet_at-second.result.0 size c.quadlet_at-first.ensures.back c.quadlet_at-second.ensures.back (omega arith) (omega arith),
     )

@@ -1,16 +1,25 @@
-use Rattle.std.proofs.Common.{get_or}
+use Rattle.std.proofs.Common.{arith, rules}
 use Rattle.std.proofs.lemmas.Bool.{false≢true}
-use Rattle.std.proofs.lemmas.List.{get_or-map}
-use Rattle.fw_log.proofs.ResetLaws.{no_row, device_again, device_new}
+use Rattle.fw_entry.specs.Log.{devices}
+use Rattle.fw_log.proofs.ApartLaws.{holds_none, met_again, met_first}
 use Rattle.fw_log.proofs.read_reset.are_apart.Goals as goal
 
-pub returns-then-has_device : goal.returns-then-has_device
-returns-then-has_device c = (
+pub loop-i-init : goal.loop-i-init
+loop-i-init c = holds_none (devices c.args.rows.now)
+
+pub returns-then-met-device : goal.returns-then-met-device
+returns-then-met-device c = (
   λ t. absurd (false≢true t),
-  λ apart. absurd (device_again c.args.rows.now c.loop-i.i (get_or c.args.rows.now c.loop-i.i no_row).device c.loop-i-test.true (get_or-map (λ r. r.device) c.args.rows.now c.loop-i.i no_row 0 c.loop-i-test.true) (c.has_device.ensures.0 c.if-has_device.true) apart),
+  λ apart. absurd (met_again c.args.rows.now c.loop-i.i c.from-device.result c.loop-i.met c.loop-i.invariant c.loop-i-test.true
+      (omega (arith, c.loop-i-test.element_fits, c.from-device.ensures)) c.from-device.ensures c.if-met-device.true apart),
 )
 
 pub loop-i-preserved : goal.loop-i-preserved
-loop-i-preserved c =
-    device_new c.args.rows.now c.loop-i.i (get_or c.args.rows.now c.loop-i.i no_row).device c.loop-i-test.true (get_or-map (λ r. r.device) c.args.rows.now c.loop-i.i no_row 0 c.loop-i-test.true)
-    (λ h. false≢true (c.if-has_device.ensures.1 h)) c.loop-i.invariant
+loop-i-preserved c = met_first c.args.rows.now c.loop-i.i c.from-device.result c.loop-i.met c.loop-i.invariant c.loop-i-test.true
+    (omega (arith, c.loop-i-test.element_fits, c.from-device.ensures)) c.from-device.ensures c.if-met-device.false
+
+pub returns : goal.returns
+returns c = (
+  λ t j k less low same. c.loop-i.invariant.apart j k less (omega arith) same,
+  λ apart. search rules,
+)

@@ -1,4 +1,4 @@
-use Rattle.std.proofs.Common.{◌≡◌, ◌≤◌, ◌+◌, ◌*◌, ◌-◌, ◌∙◌, ◌++◌, List, ℕ, length, drop, flat_map, arith, ap, sym, length-append}
+use Rattle.std.proofs.Common.{◌≤◌, ◌+◌, ◌*◌, ◌-◌, ◌∙◌, ◌++◌, List, ℕ, length, drop, flat_map, arith, ap, length-append}
 use Rattle.std.proofs.lemmas.List.{take_all, length-drop}
 use Rattle.fw_phy.specs.Phy.{spelling}
 use Rattle.fw_entry.specs.Log.{quads, reset_quads}

@@ -1,6 +1,9 @@
-use Rattle.std.proofs.Common.{◌≡◌, ◌++◌, string_bytes}
-use Rattle.fw_text.specs.Line.{first_quadlets}
+use Rattle.std.proofs.Common.{◌≡◌, ◌++◌, length}
+use Rattle.fw_text.specs.Line.{quadlets_text}
 use Rattle.fw_text.proofs.quadlets.put_quadlets.Given as goal
 
-abbrev pub invariant-loop-i : goal.invariant-loop-i
-invariant-loop-i l = l.text.items ≡ l.initial.text.items ++ first_quadlets l.bytes l.i
+abbrev pub invariant-loop-four : goal.invariant-loop-four
+invariant-loop-four l = l.text.items ++ quadlets_text l.rest ≡ l.initial.text.items ++ quadlets_text l.bytes
+
+abbrev pub decreases-loop-four : goal.decreases-loop-four
+decreases-loop-four l = length l.rest

@@ -1,4 +1,5 @@
 use Rattle.std.proofs.Common.{subst}
+use Rattle.fw_log.specs.Stands.{position}
 use Rattle.fw_log.specs.Reading.{IsPending}
 use Rattle.fw_log.specs.Reader.{State}
 use Rattle.fw_log.proofs.FeedLaws.{if_none_by, pending_of}
@@ -24,7 +25,7 @@ returns-in-None-clause-log c entries all bytes more h o =
 
 pub returns-in-None-clause-counts : goal.returns-in-None-clause-counts
 returns-in-None-clause-counts c = counts c.args.self.now c.args.piece.now c.feed_fresh.result c.feed_fresh.new.self c.feed_fresh.ensures
-    (let P : State → Type 0 = λ r. IsPending r.stand r.taken in subst P c.self.view_is (pending_of c.self.inside.stand c.self.inside.taken.value c.self.inside.fault c.in-None.is c.self.invariant))
+    (let P : State → Type 0 = λ r. IsPending r.stand r.taken in subst P c.self.view_is (pending_of (position c.self.inside.stand) c.self.inside.taken.value c.self.inside.fault c.in-None.is c.self.invariant))
 
 pub returns-in-None-clause-bytes : goal.returns-in-None-clause-bytes
 returns-in-None-clause-bytes c =

@@ -1,4 +1,5 @@
 use Rattle.std.proofs.Common.{◌≡◌, ◌+◌, ◌-◌, ◌≤◌, ◌++◌, ℕ, [], length, take, None, Some, arith, refl, ap, sym, subst, ◌∙◌}
+use Rattle.fw_log.specs.Stands.{position}
 use Rattle.fw_log.specs.Reader.{State, EndsEntry}
 use Rattle.fw_log.proofs.FindLaws.{kept_fault, kept_entry, kept_part, found_as, found_err, pending_at, holds_by, same_state, same_stand}
 use Rattle.fw_log.proofs.read.LogReader.keep.Goals as goal
@@ -15,8 +16,8 @@ invariant_of-self-in-Ok-None c =
     let part = kept_part c.args.self.now.stand c.args.self.now.taken c.args.piece.now (found_as _ _ _ _ _ None c.in-Ok-None.is c.in-Ok-None.field-0-is c.requires.found) in
     let taken : c.append.new.self ≡ c.args.self.now.taken ++ c.args.piece.now =
     c.append.ensures ∙ ap (λ t. t ++ c.args.piece.now) (c.deref_mut.ensures.value ∙ ap (λ (r : State). r.taken) c.self.view_is) in
-    holds_by c.self.inside.stand c.append.new.self c.self.inside.fault (ap (λ (r : State). r.fault) c.self.view_is ∙ c.requires.fresh)
-    (pending_at c.args.self.now.stand c.self.inside.stand _ _ (ap (λ (r : State). r.stand) c.self.view_is) taken part.pending)
+    holds_by (position c.self.inside.stand) c.append.new.self c.self.inside.fault (ap (λ (r : State). r.fault) c.self.view_is ∙ c.requires.fresh)
+    (pending_at c.args.self.now.stand (position c.self.inside.stand) _ _ (ap (λ (r : State). r.stand) c.self.view_is) taken part.pending)
 
 pub overflow_sub-used : goal.overflow_sub-used
 overflow_sub-used c =
@@ -24,11 +25,16 @@ overflow_sub-used c =
     let same : length c.as_slice.result.now ≡ length c.args.self.now.taken = ap length (c.as_slice.ensures.value ∙ c.deref.ensures ∙ ap (λ (r : State). r.taken) c.self.view_is) in
     omega (arith, same, e.past)
 
-pub overflow_add-self : goal.overflow_add-self
-overflow_add-self c =
+pub overflow_add-start : goal.overflow_add-start
+overflow_add-start c =
     let e = kept_entry c.args.self.now.stand c.args.self.now.taken c.args.piece.now c.in-Ok-Some.found c.requires.pending (found_as _ _ _ _ _ (Some c.in-Ok-Some.found) c.in-Ok-Some.is c.in-Ok-Some.field-0-is c.requires.found) in
-    let start : c.self.inside.stand.start ≡ c.args.self.now.stand.start = ap (λ (r : State). r.stand.start) c.self.view_is in
+    let start : c.start.result ≡ c.args.self.now.stand.start = c.start.ensures ∙ ap (λ (r : State). r.stand.start) c.self.view_is in
     omega (arith, start, e.past, e.ends.within, c.requires.room)
+
+pub behind-self-inside-requires : goal.behind-self-inside-requires
+behind-self-inside-requires c =
+    let e = kept_entry c.args.self.now.stand c.args.self.now.taken c.args.piece.now c.in-Ok-Some.found c.requires.pending (found_as _ _ _ _ _ (Some c.in-Ok-Some.found) c.in-Ok-Some.is c.in-Ok-Some.field-0-is c.requires.found) in
+    omega (arith, e.some)
 
 pub returns-in-Err : goal.returns-in-Err
 returns-in-Err c = (kept_fault c.args.self.now.stand c.args.self.now.taken c.args.piece.now c.in-Err.fault c.requires.pending (found_err _ _ _ _ c.in-Err.fault c.in-Err.is c.requires.found), refl)
@@ -40,7 +46,7 @@ returns-in-Ok-None c =
     c.append.ensures ∙ ap (λ t. t ++ c.args.piece.now) (c.deref_mut.ensures.value ∙ ap (λ (r : State). r.taken) c.self.view_is) in (
       (
         refl,
-        same_state c.self.inside.stand c.args.self.now.stand _ _ c.self.inside.fault None (ap (λ (r : State). r.stand) c.self.view_is)
+        same_state (position c.self.inside.stand) c.args.self.now.stand _ _ c.self.inside.fault None (ap (λ (r : State). r.stand) c.self.view_is)
             taken (ap (λ (r : State). r.fault) c.self.view_is ∙ c.requires.fresh),
         part.pending,
       ),
@@ -52,15 +58,15 @@ returns-in-Ok-Some c =
     let e = kept_entry c.args.self.now.stand c.args.self.now.taken c.args.piece.now c.in-Ok-Some.found c.requires.pending (found_as _ _ _ _ _ (Some c.in-Ok-Some.found) c.in-Ok-Some.is c.in-Ok-Some.field-0-is c.requires.found) in
     let same : length c.as_slice.result.now ≡ length c.args.self.now.taken = ap length (c.as_slice.ensures.value ∙ c.deref.ensures ∙ ap (λ (r : State). r.taken) c.self.view_is) in
     let P : ℕ → Type 0 = λ n. EndsEntry c.args.self.now.stand c.args.self.now.taken c.args.piece.now (c.in-Ok-Some.found.end - n) c.in-Ok-Some.found.entry in
-    let start : c.self.inside.stand.start ≡ c.args.self.now.stand.start = ap (λ (r : State). r.stand.start) c.self.view_is in
+    let start : c.start.result ≡ c.args.self.now.stand.start = c.start.ensures ∙ ap (λ (r : State). r.stand.start) c.self.view_is in
     let cut : length (c.args.self.now.taken ++ take (c.in-Ok-Some.found.end - length c.as_slice.result.now) c.args.piece.now) ≡ c.in-Ok-Some.found.end =
     ap (λ n. length (c.args.self.now.taken ++ take (c.in-Ok-Some.found.end - n) c.args.piece.now)) same ∙ e.size in (
       (
         subst P (sym same) e.ends,
         same_state _ _ c.clear.new.self [] c.self.inside.fault None
-            (same_stand (c.self.inside.stand.start + c.in-Ok-Some.found.end)
+            (c.behind-self-inside.ensures ∙ same_stand (c.start.result + c.in-Ok-Some.found.end)
             (c.args.self.now.stand.start + length (c.args.self.now.taken ++ take (c.in-Ok-Some.found.end - length c.as_slice.result.now) c.args.piece.now))
-            c.in-Ok-Some.found.entry.cycle _ _ (omega (arith, start, cut)) c.is_end.ensures)
+            c.in-Ok-Some.found.entry.cycle _ _ (omega (arith, start, cut)) refl)
             c.clear.ensures (ap (λ (r : State). r.fault) c.self.view_is ∙ c.requires.fresh),
       ),
       e.bytes,

@@ -1,4 +1,4 @@
-use Rattle.std.proofs.Common.{arith, length, ◌∙◌}
+use Rattle.std.proofs.Common.{arith, ◌∙◌}
 use Rattle.std.proofs.lemmas.List.{length-set}
 use Rattle.fw_text.proofs.HexLaws.{table_more}
 use Rattle.fw_text.proofs.pairs.Pairs.new.Goals as goal

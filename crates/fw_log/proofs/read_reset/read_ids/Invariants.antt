@@ -1,6 +1,6 @@
 use Rattle.std.proofs.Common.{◌-◌, length}
 use Rattle.fw_log.proofs.IdsLaws.{IdsRead}
-use Rattle.fw_log.proofs.read_reset.ids_of.Given as goal
+use Rattle.fw_log.proofs.read_reset.read_ids.Given as goal
 
 abbrev pub invariant-loop-at : goal.invariant-loop-at
 invariant-loop-at l = IdsRead l.ids l.bytes l.at

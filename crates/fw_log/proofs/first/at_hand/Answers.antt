@@ -1,7 +1,7 @@
 use Rattle.std.proofs.Common.{◌≡◌, ◌==◌, ℕ, true, arith, sym, ◌∙◌, length}
 use Rattle.std.proofs.lemmas.Bool.Decides.{nat_tests}
 use Rattle.fw_log.proofs.FindLaws.{joins_none, joins_both}
-use Rattle.fw_log.proofs.read.at_hand.Goals as goal
+use Rattle.fw_log.proofs.first.at_hand.Goals as goal
 
 pub returns-then-is_empty : goal.returns-then-is_empty
 returns-then-is_empty c = joins_none c.args.taken.now c.args.piece.now (zero_by (length c.args.taken.now) (sym c.if-is_empty.ensures))
