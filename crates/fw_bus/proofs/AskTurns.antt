@@ -19,10 +19,11 @@ use Rattle.fw_bus.specs.declared.machine.Machine.{Machine}
 use Rattle.fw_bus.specs.Orders.{is_guarded}
 use Rattle.fw_bus.specs.Transacting.{IsRequest}
 use Rattle.fw_bus.specs.Doings.{Talks}
-use Rattle.fw_bus.specs.Stands.{StandsFor, is_linked_in, is_living_in}
+use Rattle.fw_bus.specs.Stands.{HasNodes, StandsFor, is_linked_in, is_living_in}
 use Rattle.fw_bus.proofs.Asked.{transacted, answers_same, request_is}
+use Rattle.fw_bus.proofs.Lingers.{requested, unchanged_same}
 use Rattle.fw_bus.proofs.Living.{linked_same, living_same}
-use Rattle.fw_bus.proofs.Nodes.{node_number_is, linked_on}
+use Rattle.fw_bus.proofs.Nodes.{node_number_is, linked_on, on_within}
 
 -- the packet of the run
 abbrev pub asking_packet : State → Transaction → Packet
@@ -56,7 +57,9 @@ answered_stands m s x g st to free = record {
     topology = st.devices.topology;
     names = st.devices.names;
     kinds = kinds_set_at m.devices.nodes x.to (Some (access_request x.access)) ∙ st.devices.kinds;
-    nodes = transacted s m.devices.nodes x g st.devices.nodes to free;
+    nodes = nodes;
+    lingering = requested m.devices.nodes s t x.to (Some (access_request x.access)) g st.devices.nodes nodes (on_within m.devices.nodes s x.to st.devices.nodes g (linked_on s x.to to))
+        refl (unchanged_same s.account) st.devices.lingering;
     latest = st.devices.latest;
     epoch = st.devices.epoch;
     manager = st.devices.manager;
@@ -65,6 +68,12 @@ answered_stands m s x g st to free = record {
   controllers = record { table = st.controllers.table; directory = st.controllers.directory };
   answered = refl;
 }
+  where
+    t : State
+    t = record s { transaction = None; bus_manager_id = bus_manager_id_after s x }
+
+    nodes : HasNodes (slice_set m.devices.nodes x.to (after_request (Some (access_request x.access)) (node_at m.devices.nodes x.to))) t
+    nodes = transacted s m.devices.nodes x g st.devices.nodes to free
 
 -- both packets are those of the run, and the node's registers follow it
 pub transact_talks : (m now : Machine) (x : Transaction) (request response : Packet) → IsTrue (is_living_in m x.from) → IsTrue (is_linked_in m.devices x.to)

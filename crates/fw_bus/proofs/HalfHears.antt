@@ -19,10 +19,12 @@ use Rattle.fw_cmp.specs.Controllers.{ControllerState, IsStanding, CurrentFits, R
 use Rattle.fw_cmp.specs.Requests.{offset_of, swap_of, standing_in, addressee_of, request_at, request_of}
 use Rattle.fw_cmp.specs.Resets.{after_hear}
 use Rattle.fw_step.specs.Controllers.{ControllerInStep}
+use Rattle.fw_step.specs.Lingering.{LingerUnchanged}
 use Rattle.fw_step.specs.Moves.{carried_out}
 use Rattle.fw_step.specs.Registers.{register_at, stands}
 use Rattle.fw_step.specs.Requests.{procedure_head}
 use Rattle.fw_step.proofs.Carried.{hearing, hear_half}
+use Rattle.fw_step.proofs.LingersAlong.{entry_lingers}
 use Rattle.fw_step.proofs.Leads.{target_register}
 use Rattle.fw_node.specs.Packets.{packet_of, request_head, request_in, response_to, response_with, response_of, reply_in}
 use Rattle.fw_node.specs.Space.{Space, answer_of}
@@ -40,12 +42,14 @@ use Rattle.fw_run.proofs.Turns.{living_linked}
 use Rattle.fw_run.proofs.Words.{node_space_of}
 use Rattle.fw_bus.specs.declared.machine.Machine.{Machine}
 use Rattle.fw_bus.specs.Doings.{Takes}
+use Rattle.fw_bus.specs.Lingering.{HasLingering}
 use Rattle.fw_bus.specs.Stands.{HasNodes, StandsFor, is_living_in}
 use Rattle.fw_bus.specs.Tables.{ControllerTable, IsTable, count_of, states_of, dead_of}
 use Rattle.fw_bus.proofs.Exchanges.{Exchange, standing_of, exchange_of, exchange_on, exchange_within, exchange_addresses, asks_request, carried}
 use Rattle.fw_bus.proofs.HalfNodes.{state_with, nodes_answer}
 use Rattle.fw_bus.proofs.HalfTurns.{stands_with, table_with, ended_words}
 use Rattle.fw_bus.proofs.Latest.{number_is}
+use Rattle.fw_bus.proofs.Lingers.{requested}
 use Rattle.fw_bus.proofs.Living.{living_same}
 use Rattle.fw_bus.proofs.Nodes.{response_same, node_number_is, number_of_node, linked_on}
 use Rattle.fw_bus.proofs.Swaps.{IsAnswered, quadlet_below, answer_changes}
@@ -195,7 +199,7 @@ hears_stands : (m : Machine) (s : State) (k : ControllerTable) (d : ℕ) (a : Ac
 hears_stands m s k d a to device own packet response r g st sent z heard table =
     subst (λ y. StandsFor now (taken s d y)) (sym h.half_is) (subst (λ l. StandsFor now (state_with s l f)) (sym (ap (λ o. unwrap_or o s.account) h.leads))
     (stands_with m s (nodes_after m.devices.nodes device packet) k l f st (record { latest = bus.0; reclaiming = bus.1 })
-    (kinds_set m.devices.nodes device (request_in packet)) nodes
+    (kinds_set m.devices.nodes device (request_in packet)) nodes lingering
     (table_with m s k d (after_hear (states_of m.controllers d) r) (after_hear (s.controllers d) reply_) st
     (λ i. after_hear (st.controllers.table.states_are i d) (reply_is i)) table)))
   where
@@ -230,6 +234,13 @@ hears_stands m s k d a to device own packet response r g st sent z heard table =
     nodes = subst (λ o. HasNodes (slice_set m.devices.nodes device (after_request o (node_at m.devices.nodes device))) (state_with s l f)) (sym request_is)
         (nodes_answer m.devices.nodes s l f device to x.heard.target (swap_of x.job x.stage) g st.devices.nodes
         (exchange_addresses m s d a to device g x) (exchange_within m s d a to device g st x) bus.0 (words_heard s d x.job x.stage g x.current x.heard h))
+
+    -- a swap that changes the word of an output plug ends its lingering, in the node as in the account
+    linger : LingerUnchanged s.account l
+    linger = entry_lingers s.account l (Async h.response.packet) g.reclaims.step.sound h.leads
+
+    lingering : HasLingering (nodes_after m.devices.nodes device packet) (state_with s l f)
+    lingering = requested m.devices.nodes s (state_with s l f) device (request_in packet) g st.devices.nodes nodes (exchange_within m s d a to device g st x) bus.0 linger st.devices.lingering
 
 -- the half step of the machine is that of the run
 pub takes_hears : (m : Machine) (n : Network) (k : ControllerTable) (d : ℕ) (a : Access) (to device own : ℕ) (packet response : Packet) (r : Reply)

@@ -18,6 +18,7 @@ use Rattle.fw_cmp.specs.Controllers.{ControllerState, IsHeard}
 use Rattle.fw_cmp.specs.Nodes.{HasNodeNumbers}
 use Rattle.fw_cmp.specs.Nodes as Told
 use Rattle.fw_cmp.specs.Turns.{next, after_next}
+use Rattle.fw_step.specs.Lingering.{SameLinger}
 use Rattle.fw_step.specs.Controllers.{IsDirectory}
 use Rattle.fw_node.specs.Packets.{packet_of, request_head}
 use Rattle.fw_node.specs.State.{NodeState}
@@ -32,10 +33,12 @@ use Rattle.fw_run.proofs.Responses.{node_of_target}
 use Rattle.fw_run.proofs.Turns.{Turns, sends, rests, turns, living_linked}
 use Rattle.fw_bus.specs.declared.machine.Machine.{Machine}
 use Rattle.fw_bus.specs.Doings.{Takes}
+use Rattle.fw_bus.specs.Lingering.{HasLingering}
 use Rattle.fw_bus.specs.Stands.{HasNodes, StandsFor, IsReady, is_living_in, manager_device}
 use Rattle.fw_bus.specs.Tables.{ControllerTable, IsTable, count_of, states_of, dead_of}
 use Rattle.fw_bus.proofs.HalfNodes.{state_with}
 use Rattle.fw_bus.proofs.Latest.{number_low}
+use Rattle.fw_bus.proofs.Lingers.{lingering_same}
 use Rattle.fw_bus.proofs.Living.{living_same}
 use Rattle.fw_bus.proofs.Nodes.{nodes_same, node_number_is, linked_on}
 
@@ -58,14 +61,16 @@ table_with m s k d c e st same h = let t = st.controllers.table in record {
 
 -- the machine with these nodes and controllers stands for the state with this account
 pub stands_with : (m : Machine) (s : State) (nodes : List NodeState) (k : ControllerTable) (l : Account) (f : ℕ → ControllerState) → StandsFor m s
-    → SameBus s.account l → kinds_of nodes ≡ kinds_of m.devices.nodes → HasNodes nodes (state_with s l f) → IsTable k (length s.declared.names) f s.dead
+    → SameBus s.account l → kinds_of nodes ≡ kinds_of m.devices.nodes → HasNodes nodes (state_with s l f)
+    → HasLingering nodes (state_with s l f) → IsTable k (length s.declared.names) f s.dead
     → StandsFor (record m { devices = record m.devices { nodes = nodes }; controllers = k }) (state_with s l f)
-stands_with m s nodes k l f st same kinds h table = record {
+stands_with m s nodes k l f st same kinds h linger table = record {
   devices = record {
     topology = st.devices.topology;
     names = st.devices.names;
     kinds = kinds ∙ st.devices.kinds;
     nodes = h;
+    lingering = linger;
     latest = st.devices.latest ∙ sym (ap (λ o. unwrap_or o no_entry) same.latest);
     epoch = st.devices.epoch ∙ sym (ap epoch_of same.latest);
     manager = st.devices.manager ∙ sym (ap manager_device same.latest);
@@ -112,6 +117,7 @@ asks_is s d heard = go (s.controllers d).current heard
 pub record SameShown (l m : Account) : Type 0 where
   pub bus : SameBus l m
   pub words : (r : Register) → word_of m r ≡ word_of l r
+  pub linger : SameLinger l m
 
 -- whether a request goes out or not
 pub asks_leaves : (s : State) (d : ℕ) → IsGood s → IsTrue (is_living s d) → IsHeard (s.controllers d).current
@@ -123,8 +129,8 @@ asks_leaves s d g lives heard = go (turns s d x.number x.entry g x.is x.shows x.
 
     go : Turns s d → SameShown s.account (entered_by s.account (asks s d).says)
     go (sends q out is) =
-        subst (SameShown s.account) (sym is) (record { bus = record { latest = refl; reclaiming = refl }; words = λ r. asked_words d q s.account r })
-    go (rests out is) = subst (SameShown s.account) (sym is) (record { bus = record { latest = refl; reclaiming = refl }; words = λ r. refl })
+        subst (SameShown s.account) (sym is) (record { bus = record { latest = refl; reclaiming = refl }; words = λ r. asked_words d q s.account r; linger = λ p. refl })
+    go (rests out is) = subst (SameShown s.account) (sym is) (record { bus = record { latest = refl; reclaiming = refl }; words = λ r. refl; linger = λ p. refl })
 
 -- what the controller answers is the same by the machine and by the run
 next_same : (m : Machine) (s : State) (d : ℕ) → StandsFor m s
@@ -145,7 +151,7 @@ asks_stands m s k d g st lives heard table =
     let nodes = nodes_same m.devices.nodes s (state_with s l f)
     (record { names = refl; devices = refl; kinds = refl; latest = same.bus.latest; bus_manager_id = refl; words = same.words }) st.devices.nodes in
     subst (λ h. StandsFor (record m { controllers = k }) (taken s d h)) (sym (asks_is s d heard))
-    (stands_with m s m.devices.nodes k l f st same.bus refl nodes (table_with m s k d _ _ st becomes table))
+    (stands_with m s m.devices.nodes k l f st same.bus refl nodes (lingering_same m.devices.nodes s (state_with s l f) same.linger st.devices.lingering) (table_with m s k d _ _ st becomes table))
 
 -- the controller says what it says in the run
 pub takes_asks : (m : Machine) (k : ControllerTable) (d : ℕ) (e : Option Entry) → IsTrue (is_living_in m d) → IsHeard (states_of m.controllers d).current

@@ -35,3 +35,5 @@ pub mod Shown
 pub mod CarryLaws
 pub mod Runs
 pub mod Lends
+pub mod Flags
+pub mod Lingers

@@ -13,6 +13,7 @@ use Rattle.fw_cmp.specs.declared.current.Current.TheVariants.{Nothing, Asking, H
 use Rattle.fw_cmp.specs.Controllers.{ControllerState, IsHeard, IsStanding, first_state as new_controller}
 use Rattle.fw_cmp.specs.Fits.{SlotFits}
 use Rattle.fw_cmp.specs.Starts.{break_fault, break_started, started as given}
+use Rattle.fw_step.specs.Lingering.{SameLinger}
 use Rattle.fw_run.specs.declared.order.Order.TheVariants as Orders
 use Rattle.fw_run.specs.declared.order.Wanted.{Wanted}
 use Rattle.fw_run.specs.Giving.{at_most}
@@ -41,9 +42,10 @@ pub record SameAccount (l k : Account) : Type 0 where
   pub latest : k.latest ≡ l.latest
   pub reclaiming : k.reclaiming ≡ l.reclaiming
   pub words : (r : Register) → word_of k r ≡ word_of l r
+  pub linger : SameLinger l k
 
 pub same_account : (l : Account) → SameAccount l l
-same_account l = record { latest = refl; reclaiming = refl; words = λ r. refl }
+same_account l = record { latest = refl; reclaiming = refl; words = λ r. refl; linger = λ p. refl }
 
 -- the machine whose table is another one stands for the state whose controllers are those
 pub table_stands : (m : Machine) (s : State) (table : ControllerTable)
@@ -51,7 +53,7 @@ pub table_stands : (m : Machine) (s : State) (table : ControllerTable)
     → StandsFor m s → SameAccount s.account l → IsTable table (count_of m.controllers) (f (states_of m.controllers)) (h (dead_of m.controllers))
     → StandsFor (record m { controllers = table }) (record s { controllers = f s.controllers; dead = h s.dead; account = l })
 table_stands m s table f h l st same is = record {
-  devices = devices_same m.devices s t kept refl st.devices;
+  devices = devices_same m.devices s t kept refl same.linger st.devices;
   clock = record {
     cycle = st.clock.cycle;
     reclaiming = st.clock.reclaiming ∙ sym same.reclaiming;
@@ -121,7 +123,7 @@ break_turns m table d i lives ok is = record {
 
 -- a death leaves the words of registers
 death_same : (l : Account) (d : ℕ) → d < 63 → SameAccount l (account_after_death d l)
-death_same l d lt = record { latest = refl; reclaiming = refl; words = death_words l d lt }
+death_same l d lt = record { latest = refl; reclaiming = refl; words = death_words l d lt; linger = λ p. refl }
 
 -- the controllers where that of a device has just started
 abbrev pub renewed : ℕ → (ℕ → ControllerState) → ℕ → ControllerState

@@ -19,8 +19,10 @@ use Rattle.fw_run.proofs.Cables.{cabled_declared}
 use Rattle.fw_bus.specs.declared.machine.Machine.{Machine}
 use Rattle.fw_bus.specs.Orders.{joins_in}
 use Rattle.fw_bus.specs.Resetting.{BeginsReset, GivesReset}
+use Rattle.fw_bus.specs.Lingering.{HasLingering}
 use Rattle.fw_bus.specs.Stands.{StandsFor, HasNodes, IsReady}
 use Rattle.fw_bus.specs.Doings.{Turns, Does, Acts}
+use Rattle.fw_bus.proofs.Lingers.{lingering_same}
 use Rattle.fw_bus.proofs.Nodes.{SameNodes, is_node_same, nodes_same}
 use Rattle.fw_bus.proofs.Renumbered.{extends_cabled}
 use Rattle.fw_bus.proofs.ResetTurns.{MayBegin, reset_of, some_nodes, ready_on}
@@ -47,6 +49,8 @@ joined_stands m s devices a b x y st j = record {
     kinds = ap (λ (n : Network). kinds_of n.nodes) j.same ∙ st.devices.kinds;
     nodes = subst (λ (ns : List NodeState). HasNodes ns (with_topology s devices.topology)) (sym (ap (λ (n : Network). n.nodes) j.same))
         (nodes_same m.devices.nodes s (with_topology s devices.topology) keeps st.devices.nodes);
+    lingering = subst (λ (ns : List NodeState). HasLingering ns (with_topology s devices.topology)) (sym (ap (λ (n : Network). n.nodes) j.same))
+        (lingering_same m.devices.nodes s (with_topology s devices.topology) (λ p. refl) st.devices.lingering);
     latest = ap (λ (n : Network). n.latest) j.same ∙ st.devices.latest;
     epoch = ap (λ (n : Network). n.epoch) j.same ∙ st.devices.epoch;
     manager = ap (λ (n : Network). n.manager) j.same ∙ st.devices.manager;

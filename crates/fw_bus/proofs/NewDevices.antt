@@ -16,9 +16,11 @@ use Rattle.fw_run.specs.Good.{IsGood, IsLatest}
 use Rattle.fw_run.proofs.Declares.{MayDeclare, more_declared}
 use Rattle.fw_bus.specs.declared.machine.Machine.{Machine}
 use Rattle.fw_bus.specs.Resetting.{BeginsReset, GivesReset}
+use Rattle.fw_bus.specs.Lingering.{HasLingering}
 use Rattle.fw_bus.specs.Stands.{StandsFor, HasNodes, IsReady}
 use Rattle.fw_bus.specs.Tables.{ControllerTable, IsTable, count_of, states_of, dead_of}
 use Rattle.fw_bus.specs.Doings.{Turns, Does, Acts}
+use Rattle.fw_bus.proofs.Lingers.{lingering_declared}
 use Rattle.fw_bus.proofs.Nodes.{nodes_declared}
 use Rattle.fw_bus.proofs.Renumbered.{extends_declared}
 use Rattle.fw_bus.proofs.ResetTurns.{MayBegin, reset_of}
@@ -49,6 +51,8 @@ declared_stands m s table name kind ports speed g st more = record {
     kinds = map-append _ m.devices.nodes _ ∙ ap (λ (ks : List DeviceKind). ks ++ kind ∷ []) st.devices.kinds;
     nodes = subst (λ n. HasNodes (m.devices.nodes ++ Nodes.first_state kind n speed ∷ []) (declared_in s name kind ports speed))
         (ap (λ (xs : List (List ℕ)). length xs) (sym st.devices.names)) (nodes_declared m.devices.nodes s name kind ports speed g st.devices.nodes);
+    lingering = subst (λ n. HasLingering (m.devices.nodes ++ Nodes.first_state kind n speed ∷ []) (declared_in s name kind ports speed))
+        (ap (λ (xs : List (List ℕ)). length xs) (sym st.devices.names)) (lingering_declared m.devices.nodes s name kind ports speed g st.devices.nodes st.devices.lingering);
     latest = st.devices.latest;
     epoch = st.devices.epoch;
     manager = st.devices.manager;

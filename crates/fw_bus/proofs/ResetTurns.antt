@@ -21,9 +21,11 @@ use Rattle.fw_run.specs.Good.{IsGood, IsLatest, AreDeclared}
 use Rattle.fw_run.proofs.Cables.{on_is_bus, on_some}
 use Rattle.fw_bus.specs.declared.machine.Machine.{Machine}
 use Rattle.fw_bus.specs.Resetting.{BeginsReset, GivesReset, directory_in}
+use Rattle.fw_bus.specs.Lingering.{HasLingering}
 use Rattle.fw_bus.specs.Stands.{StandsFor, HasNodes, IsReady}
 use Rattle.fw_bus.specs.Tables.{IsTable}
 use Rattle.fw_bus.specs.Doings.{Turns, Does, Acts}
+use Rattle.fw_bus.proofs.Lingers.{lingering_reset}
 use Rattle.fw_bus.proofs.Nodes.{is_node_same, number_of_node, on_within}
 use Rattle.fw_bus.proofs.Renumbered.{Extends, extends_cabled, nodes_reset, manager_reset, kinds_reset, stays_on}
 use Rattle.fw_bus.proofs.Told.{linked_shown}
@@ -83,6 +85,16 @@ nodes_now m now good s i may b =
     nodes_reset m.devices now.devices good s i now.devices.latest g may.extends may.stands.devices.nodes b.reset shows
     (λ d is. stays_on good s.declared.topology s.declared.kinds now.devices.latest g shows may.more may.walks d (on d is))
 
+-- and its plugs that were active linger
+lingering_now : (m now : Machine) (good s : State) (i : ℕ) → MayBegin m good s → BeginsReset m now i
+    → HasLingering now.devices.nodes (after_reset_entry s now.devices.latest)
+lingering_now m now good s i may b =
+    let g = may.is_good in
+    let shows = shows_now m now good s i may b in
+    let on = λ (d : ℕ) (is : IsTrue (is_on s d)). subst (λ (l : Account). IsTrue (is_some (number_in l.latest d))) may.extends.account is in
+    lingering_reset m.devices now.devices good s i now.devices.latest g may.extends may.stands.devices.nodes b.reset shows
+    (λ d is. stays_on good s.declared.topology s.declared.kinds now.devices.latest g shows may.more may.walks d (on d is)) may.stands.devices.lingering
+
 -- controllers are told what the entry shows
 directory_now : (m now : Machine) (good s : State) (i : ℕ) → MayBegin m good s → BeginsReset m now i
     → now.directory ≡ directory_of (after_reset_entry s now.devices.latest)
@@ -122,6 +134,7 @@ reset_stands m now good s i may b =
         names = b.reset.names ∙ st.devices.names;
         kinds = kinds_reset m.devices now.devices i now.devices.latest b.reset ∙ st.devices.kinds;
         nodes = nodes_now m now good s i may b;
+        lingering = lingering_now m now good s i may b;
         latest = refl;
         epoch = b.reset.epoch ∙ sym b.reset.entry.epoch_is;
         manager = manager_reset m.devices now.devices i now.devices.latest b.reset;

@@ -22,6 +22,7 @@ use Rattle.fw_bus.specs.declared.machine.Machine.{Machine}
 use Rattle.fw_bus.specs.Resetting.{RestsAfterSecond}
 use Rattle.fw_bus.specs.Stands.{IsNodeAt, HasNodes, HasDevices, StandsFor}
 use Rattle.fw_bus.specs.Doings.{Turns}
+use Rattle.fw_bus.proofs.Lingers.{lingering_same, lingering_rests}
 use Rattle.fw_bus.proofs.Nodes.{SameNodes, nodes_same}
 
 -- ---- cycles that go by
@@ -41,6 +42,7 @@ pass_turns m now n few before is = record { shown = shown_ }
         names = st.devices.names;
         kinds = st.devices.kinds;
         nodes = nodes_same m.devices.nodes s (after_cycles s n) keeps st.devices.nodes;
+        lingering = lingering_same m.devices.nodes s (after_cycles s n) (λ p. refl) st.devices.lingering;
         latest = st.devices.latest;
         epoch = st.devices.epoch;
         manager = st.devices.manager;
@@ -140,6 +142,7 @@ devices_rest n s h = record {
   names = h.names;
   kinds = rested_kinds n.nodes ∙ h.kinds;
   nodes = nodes_rest n.nodes (over s (account_second s.account)) (nodes_same n.nodes s (over s (account_second s.account)) keeps h.nodes);
+  lingering = lingering_rests n.nodes s (over s (account_second s.account)) (λ p. refl) h.lingering;
   latest = h.latest;
   epoch = h.epoch;
   manager = h.manager;

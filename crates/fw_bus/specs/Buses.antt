@@ -20,6 +20,7 @@ use Rattle.fw_run.specs.Rules.{Decides}
 use Rattle.fw_run.specs.Actions.{Action}
 use Rattle.fw_run.specs.Carrying.{Carries}
 use Rattle.fw_run.specs.Runs.{Run}
+use Rattle.fw_bus.specs.Lingering.{TalksAs}
 use Rattle.fw_bus.specs.Stands.{StandsFor}
 use Rattle.fw_bus.specs.Doings.{Cut}
 use Rattle.fw_run.specs.Headline.{IsSoundThroughout}
@@ -77,11 +78,11 @@ Applies commands actions log s c now held after (Ok _) = Goes commands actions l
 Applies commands actions log s c now held after (Err (Refused fault)) = Decides s c (Err fault)
 Applies commands actions log s c now held after (Err WriteFault) = Stops commands actions log s c now held after
 
--- the node that is lent for a device: one on the bus, with the registers of the account
+-- the node that is lent for a device: one on the bus, with the registers of the account, that talks exactly where the account says so
 abbrev pub LendsAt : Option ℕ → State → ℕ → Option NodeState → Type 0
 LendsAt None s d o = o ≡ None
 LendsAt (Some number) s d None = ⊥
-LendsAt (Some number) s d (Some n) = HasSpace n (space_at s d number)
+LendsAt (Some number) s d (Some n) = HasSpace n (space_at s d number) × TalksAs n d s.account
 
 abbrev pub Lends : State → ℕ → Option NodeState → Type 0
 Lends s d o = LendsAt (number_in s.account.latest d) s d o

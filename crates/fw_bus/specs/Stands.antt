@@ -16,6 +16,7 @@ use Rattle.fw_run.specs.State.{State, number_in, epoch_of, numbers_to, directory
 use Rattle.fw_run.specs.Spaces.{space_at}
 use Rattle.fw_run.specs.Good.{IsGood}
 use Rattle.fw_run.specs.Numbers.{HasNumbers}
+use Rattle.fw_bus.specs.Lingering.{HasLingering}
 use Rattle.fw_bus.specs.Tables.{IsTable, dead_of}
 
 -- ---- devices
@@ -40,6 +41,7 @@ pub record HasDevices (n : Network) (s : State) : Type 0 where
   pub names : n.names ≡ s.declared.names
   pub kinds : kinds_of n.nodes ≡ s.declared.kinds
   pub nodes : HasNodes n.nodes s
+  pub lingering : HasLingering n.nodes s
   pub latest : n.latest ≡ unwrap_or s.account.latest no_entry
   pub epoch : n.epoch ≡ epoch_of s.account.latest
   pub manager : n.manager ≡ manager_device s.account.latest

@@ -40,3 +40,4 @@ pub mod Rules
 pub mod Seconds
 pub mod ComesBack
 pub mod Suffice
+pub mod Lingers

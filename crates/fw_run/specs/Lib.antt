@@ -13,3 +13,4 @@ pub mod Numbers
 pub mod Headline
 pub mod Reclaiming
 pub mod Settling
+pub mod Lingering

@@ -5,6 +5,7 @@
 #![tactic(auto)]
 
 mod laws;
+mod lingering;
 mod order;
 mod rule;
 
@@ -12,5 +13,6 @@ pub use laws::{
     actions_leave_states_good, connections_come_back, nodes_answer_by_the_account,
     rounds_are_enough, runs_are_logs, runs_are_sound, runs_have_one_log,
 };
+pub use lingering::plugs_linger_through_runs;
 pub use order::{Access, Order, Transaction, Wanted};
 pub use rule::RuleFault;

@@ -37,3 +37,5 @@ pub mod Finds
 pub mod Directories
 pub mod Contents
 pub mod Contented
+pub mod Lingers
+pub mod LingersAlong

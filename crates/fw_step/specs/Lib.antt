@@ -6,3 +6,4 @@ pub mod Requests
 pub mod Controllers
 pub mod Together
 pub mod Wants
+pub mod Lingering

@@ -2,6 +2,8 @@
 //! all of them in step. The functions do nothing: their contracts are the laws.
 #![tactic(auto)]
 
+mod lingering;
+
 ghost use Rattle.std.specs.Prelude.{◌≡◌, ◌≢◌, ◌<◌, ℕ, true, false, Option, Some, None, IsTrue, IsFalse};
 ghost use Rattle.fw_async.specs.declared.packet.Packet.{Packet};
 ghost use Rattle.fw_entry.specs.declared.entry.Entry.TheVariants.{Async};
@@ -45,6 +47,8 @@ ghost use Rattle.fw_cmp.specs.declared.outcome.Next.TheVariants.{End};
 ghost use Rattle.fw_step.specs.InStep.{Others, IsInStep, HalfStep, IsRegister};
 ghost use Rattle.fw_step.specs.Controllers.{holding_of, ControllerInStep, IsDirectory, TurnInStep};
 ghost use Rattle.fw_step.specs.Together.{AreInStep, Happens, AreSettled, IsWhole};
+
+pub use lingering::plugs_linger_by_their_words;
 
 /// A move changes what its controller has as the move says, and leaves each other controller all that it has. No plug
 /// changes its data rate, a connected plug keeps what it is set to, and no word but that of the move's register changes.

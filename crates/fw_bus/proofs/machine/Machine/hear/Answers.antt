@@ -1,8 +1,16 @@
-use Rattle.std.proofs.Common.{◌≡◌, ℕ, Some, ap, ◌∙◌}
-use Rattle.fw_cmp.specs.Controllers.{ControllerState}
+use Rattle.std.proofs.Common.{◌≡◌, ℕ, Option, Some, None, refl, ap, sym, subst, ◌∙◌, IsTrue}
+use Rattle.std.proofs.lemmas.Option.{none-some}
+use Rattle.fw_cmp.specs.declared.current.Current.{Current}
+use Rattle.fw_cmp.specs.declared.current.Current.TheVariants.{Nothing, Asking, Hearing, Overtaken}
+use Rattle.fw_cmp.specs.Controllers.{ControllerState, IsStanding}
 use Rattle.fw_cmp.specs.Requests.{standing_in}
 use Rattle.fw_node.specs.Packets.{packet_of, request_head}
+use Rattle.fw_run.specs.State.{State}
+use Rattle.fw_run.specs.Good.{IsGood}
+use Rattle.fw_run.proofs.Hears.{heard_of, half_hears}
 use Rattle.fw_bus.specs.declared.machine.Machine.{Machine}
+use Rattle.fw_bus.specs.Stands.{StandsFor, is_living_in}
+use Rattle.fw_bus.proofs.Living.{living_same}
 use Rattle.fw_bus.specs.Tables.{states_of}
 use Rattle.fw_bus.proofs.Exchanges.{standing_of, exchange_of, exchange_linked, no_addressee, no_device}
 use Rattle.fw_bus.proofs.HalfHears.{Sent, answered_of, takes_hears, no_reply}
@@ -15,6 +23,24 @@ use Rattle.fw_cmp.specs.declared.request.Access.{Access}
 -- what stands, of the controller that was found in the table
 asked : (m : Machine) (d : ℕ) (a : Access) (x : ControllerState) → Some a ≡ standing_in x.current → x ≡ states_of m.controllers d → Some a ≡ standing_in (states_of m.controllers d).current
 asked m d a x asks is = asks ∙ ap (λ (y : ControllerState). standing_in y.current) is
+
+-- a request that stands has a register
+no_access : (m : Machine) (s : State) (d : ℕ) → IsGood s → StandsFor m s → IsTrue (is_living_in m d) → IsStanding (states_of m.controllers d).current
+    → None ≡ standing_in (states_of m.controllers d).current → ⊥
+no_access m s d g st lives stands none = go (s.controllers d).current refl (subst (λ f. IsStanding (f d).current) same stands) (none ∙ ap (λ f. standing_in (f d).current) same)
+  where
+    same : states_of m.controllers ≡ s.controllers
+    same = st.controllers.table.states_are
+
+    go : (c : Current) → (s.controllers d).current ≡ c → IsStanding c → None ≡ standing_in c → ⊥
+    go Nothing e h f = h
+    go (Asking j stage) e h f = h
+    go (Overtaken i o) e h f = h
+    go (Hearing j stage) e h f = none-some _ (f ∙ (half_hears s d j stage g e (heard_of s d j stage g (sym (living_same m s d g st) ∙ lives) e)).access)
+
+pub returns-in_err-access-clause-takes : goal.returns-in_err-access-clause-takes
+returns-in_err-access-clause-takes c = λ s g st.
+    absurd (no_access c.args.self.now s c.args.device g st c.requires.living c.requires.standing (c.in_err-access.ensures.access ∙ ap (λ (y : ControllerState). standing_in y.current) c.get.ensures))
 
 pub returns-in_err-to-clause-takes : goal.returns-in_err-to-clause-takes
 returns-in_err-to-clause-takes c = λ s g st.

@@ -11,6 +11,7 @@ nothing_stands = record {
   names = refl;
   kinds = refl;
   nodes = record { size = refl; each = λ d lt. let low : d < 0 = lt in absurd (omega arith) };
+  lingering = record { each = λ d lt. let low : d < 0 = lt in absurd (omega arith) };
   latest = refl;
   epoch = refl;
   manager = refl;

@@ -1,0 +1,174 @@
+-- Each action leaves the output plugs that linger as its entry says, and a half step as their words say.
+use Rattle.std.proofs.Common.{◌≡◌, ℕ, ◌<◌, ◌==◌, ◌&&◌, List, Bool, true, false, Option, Some, None, is_some, option_map, refl, ap, sym, subst, ◌∙◌, arith}
+use Rattle.std.proofs.Common.{IsTrue}
+use Rattle.std.specs.Prelude.{⊤}
+use Rattle.std.proofs.lemmas.Bool.Decides.{nat_tests}
+use Rattle.fw_base.specs.Devices.{output_plugs_of}
+use Rattle.fw_base.specs.Tables.{at_plug}
+use Rattle.fw_base.specs.declared.plug.PlugAt.{PlugAt}
+use Rattle.fw_async.specs.declared.packet.Packet.{Packet}
+use Rattle.fw_entry.specs.declared.entry.Entry.{Entry}
+use Rattle.fw_entry.specs.declared.entry.Entry.TheVariants.{Reset, Async, Iso, Event, Outcome, Shown, End}
+use Rattle.fw_entry.specs.declared.entry.ResetEntry.{ResetEntry}
+use Rattle.fw_entry.specs.declared.entry.Timed.{Timed}
+use Rattle.fw_ledger.specs.Account.{Account, talks}
+use Rattle.fw_ledger.specs.Network.{is_output, is_output_of}
+use Rattle.fw_ledger.specs.Sound.{IsSound}
+use Rattle.fw_ledger.specs.Words.{OutputPlug, word_of, node_of}
+use Rattle.fw_ledger.proofs.Network.{any_at}
+use Rattle.fw_cmp.specs.declared.current.Current.{Current}
+use Rattle.fw_cmp.specs.declared.current.Current.TheVariants.{Nothing, Asking, Hearing, Overtaken}
+use Rattle.fw_cmp.specs.declared.outcome.Next.{Next}
+use Rattle.fw_cmp.specs.declared.outcome.Next.TheVariants.{Send, End as EndOf, Idle, Waiting}
+use Rattle.fw_cmp.specs.declared.request.Access.{Access}
+use Rattle.fw_cmp.specs.Requests.{access_of, addressee_of, request_of}
+use Rattle.fw_cmp.specs.Turns.{next}
+use Rattle.fw_plug.specs.Plugs.{is_active}
+use Rattle.fw_devices.specs.Network.{kind_at}
+use Rattle.fw_devices.specs.Entries.{row_of}
+use Rattle.fw_step.specs.Lingering.{SameLinger, LingerUnchanged}
+use Rattle.fw_step.proofs.Lingers.{talks_shown}
+use Rattle.fw_step.proofs.LingersAlong.{entry_lingers}
+use Rattle.fw_run.specs.Giving.{at_most}
+use Rattle.fw_run.specs.State.{State, directory_of, number_in, is_on, is_living}
+use Rattle.fw_run.specs.Spaces.{answer_packet}
+use Rattle.fw_run.specs.HalfSteps.{head_from, said, hears, hears_from, half, half_of, after_half}
+use Rattle.fw_run.specs.Actions.{Action, AddDevice, AddCable, ResetBus, StartConnection, StartBreak, HalfStep, Rest, Unsettled, Pass, EndSecond, Die}
+use Rattle.fw_run.specs.Actions.{CarryOut, Start, Ask, Answer, ShowWord, Finish, Step}
+use Rattle.fw_run.specs.Good.{IsGood, IsLatest}
+use Rattle.fw_run.specs.Lingering.{LingerBy, LingerThrough}
+use Rattle.fw_run.proofs.Along.{step_led}
+use Rattle.fw_run.proofs.Buses.{row_place}
+use Rattle.fw_run.proofs.Leads.{NextIs, half_next}
+use Rattle.fw_run.proofs.Led.{Led}
+use Rattle.fw_run.proofs.Times.{second_ends}
+use Rattle.fw_run.proofs.Words.{number_of_on}
+
+-- ---- by an entry, or none
+
+flags : (l m : Account) → m ≡ l → SameLinger l m
+flags l m e p = ap (λ (x : Account). x.continues p) e
+
+kept : (v w : ℕ) (a b : Bool) → v ≡ w → a ≡ b → a ≡ ((v == w) && b)
+kept v w a b same e = grind (arith, nat_tests, same, e)
+
+unchanged : (l m : Account) → m ≡ l → LingerUnchanged l m
+unchanged l m e p = kept _ _ _ _ (ap (λ (x : Account). word_of x (OutputPlug p)) e) (ap (λ (x : Account). x.continues p) e)
+
+by_entry : (s t : State) (out : List Timed) → IsGood s → Led s out t → LingerBy out s.account t.account
+by_entry s t out g w = subst (λ z. LingerBy z s.account t.account) (sym w.is) (go w.entry w.next)
+  where
+    go : (o : Option Entry) → NextIs s.account o t.account → LingerBy (at_most t.clock.cycle o) s.account t.account
+    go None e = flags s.account t.account e
+    go (Some x) e = entry_lingers s.account t.account x g.reclaims.step.sound e
+
+-- ---- a half step
+
+-- it writes a packet, an outcome or nothing
+abbrev IsOfHalf : Option Entry → Type 0
+IsOfHalf None = ⊤
+IsOfHalf (Some (Async p)) = ⊤
+IsOfHalf (Some (Outcome o)) = ⊤
+IsOfHalf _ = ⊥
+
+of_half : (l m : Account) (o : Option Entry) → IsSound l → IsOfHalf o → NextIs l o m → LingerUnchanged l m
+of_half l m None s is e = unchanged l m e
+of_half l m (Some (Async p)) s is e = entry_lingers l m (Async p) s e
+of_half l m (Some (Outcome o)) s is e = let same : m ≡ l = cc in unchanged l m same
+of_half l m (Some (Reset r)) s is e = absurd is
+of_half l m (Some (Iso p)) s is e = absurd is
+of_half l m (Some (Event v)) s is e = absurd is
+of_half l m (Some (Shown v)) s is e = absurd is
+of_half l m (Some End) s is e = absurd is
+
+says_half : (s : State) (d : ℕ) → IsOfHalf (half s d).says
+says_half s d = go (s.controllers d).current
+  where
+    said_half : (y : Next) → IsOfHalf (said s d y)
+    said_half (Send to q) = tt
+    said_half (EndOf slot outcome) = tt
+    said_half Idle = tt
+    said_half (Waiting until) = tt
+
+    packet : (o : Option Packet) → IsOfHalf (option_map Async o)
+    packet None = tt
+    packet (Some p) = tt
+
+    from : (o : Option ℕ) (a : Access) → IsOfHalf (hears_from s d o a).says
+    from None a = tt
+    from (Some to) a = packet (answer_packet s to (head_from s d to) (request_of a))
+
+    heard : (o : Option Access) → IsOfHalf (hears s d o).says
+    heard None = tt
+    heard (Some a) = from (addressee_of (directory_of s) a.target) a
+
+    go : (c : Current) → IsOfHalf (half_of s d c).says
+    go Nothing = said_half (next s.clock.cycle (directory_of s) (s.controllers d))
+    go (Asking j stage) = said_half (next s.clock.cycle (directory_of s) (s.controllers d))
+    go (Overtaken slot outcome) = said_half (next s.clock.cycle (directory_of s) (s.controllers d))
+    go (Hearing j stage) = heard (access_of j stage)
+
+pub half_lingers : (s : State) (d : ℕ) → IsGood s → IsTrue (is_living s d) → LingerUnchanged s.account (after_half s d).account
+half_lingers s d g lives = of_half s.account (after_half s d).account (half s d).says g.reclaims.step.sound (says_half s d) (half_next s d g lives)
+
+-- ---- each action
+
+-- one whose account is this one
+leads_to : (P : Account → Type 0) (t u : State) → t ≡ u → P u.account → P t.account
+leads_to P t u e h = subst (λ (z : State). P z.account) (sym e) h
+
+pub step_lingers : (s : State) (a : Action) (out : List Timed) (t : State) → IsGood s → Step s a out t → LingerThrough a out s.account t.account
+step_lingers s (AddDevice name kind ports speed) out t g x = by_entry s t out g (step_led s t (AddDevice name kind ports speed) out g x)
+step_lingers s (AddCable a b) out t g x = by_entry s t out g (step_led s t (AddCable a b) out g x)
+step_lingers s (ResetBus d) out t g x = by_entry s t out g (step_led s t (ResetBus d) out g x)
+step_lingers s (StartConnection d w) out t g x = leads_to (SameLinger s.account) t _ x.1.4 (λ p. refl)
+step_lingers s (StartBreak d i) out t g x = leads_to (SameLinger s.account) t _ x.1.3 (λ p. refl)
+step_lingers s (HalfStep d) out t g x = leads_to (LingerUnchanged s.account) t _ x.1.3 (half_lingers s d g x.1.0)
+step_lingers s (Rest n) out t g x = leads_to (SameLinger s.account) t _ x.1.3 (λ p. refl)
+step_lingers s Unsettled out t g x = leads_to (SameLinger s.account) t _ x.1.2 (λ p. refl)
+step_lingers s (Pass n) out t g x = leads_to (SameLinger s.account) t _ x.1.3 (λ p. refl)
+step_lingers s EndSecond out t g x =
+    let P : Account → Type 0 = λ l. (p : PlugAt) → l.continues p ≡ false in leads_to P t _ x.1.4 (subst P (sym (second_ends s.account x.1.1)) (λ p. refl))
+step_lingers s (Die d) out t g x = leads_to (SameLinger s.account) t _ x.1.2 (λ p. refl)
+step_lingers s (CarryOut d) out t g x = leads_to (LingerUnchanged s.account) t _ x.1.3 (half_lingers s d g x.1.0)
+step_lingers s (Start d) out t g x = leads_to (SameLinger s.account) t _ x.1.3 (λ p. refl)
+step_lingers s (Ask y) out t g x = leads_to (SameLinger s.account) t _ x.1.4 (λ p. refl)
+step_lingers s Answer out t g x = leads_to (SameLinger s.account) t _ x.state_is (λ p. refl)
+step_lingers s (ShowWord d offset) out t g x = leads_to (SameLinger s.account) t s x.1.4 (λ p. refl)
+step_lingers s Finish out t g x = leads_to (SameLinger s.account) t _ x.1.1 (λ p. refl)
+
+-- ---- devices on the bus and off it
+
+-- an output plug of a device on the bus stands
+stands : (s : State) (d n k : ℕ) → IsGood s → number_in s.account.latest d ≡ Some n → k < output_plugs_of (kind_at s.declared.kinds d)
+    → is_output s.account.latest (at_plug d k) ≡ true
+stands s d n k g at lt = go s.account.latest g.latest at
+  where
+    go : (o : Option ResetEntry) → IsLatest o s → number_in o d ≡ Some n → is_output o (at_plug d k) ≡ true
+    go None h at = absurd (let z : ⊥ = cc in z)
+    go (Some e) h at = any_at (is_output_of (at_plug d k)) e.nodes n (row_of d (kind_at s.declared.kinds d)) (h.1.numbers d n at) (grind (arith, nat_tests))
+
+pub talks_by_word : (s : State) (d k : ℕ) → IsGood s → IsTrue (is_on s d) → k < output_plugs_of (kind_at s.declared.kinds d)
+    → is_active (word_of s.account (OutputPlug (at_plug d k))) (s.account.continues (at_plug d k)) ≡ talks s.account (at_plug d k)
+talks_by_word s d k g on lt =
+    talks_shown s.account (at_plug d k) g.reclaims.step.sound (stands s d (node_of s.account.latest d) k g (number_of_on s.account.latest d on) lt)
+
+-- no plug of a device that is off stands
+gone : (s : State) (d k : ℕ) → IsGood s → is_on s d ≡ false → is_output s.account.latest (at_plug d k) ≡ true → ⊥
+gone s d k g off there = go s.account.latest g.latest off there
+  where
+    go : (o : Option ResetEntry) → IsLatest o s → is_some (number_in o d) ≡ false → is_output o (at_plug d k) ≡ true → ⊥
+    go None h off there = grind (arith, there)
+    go (Some e) h off there =
+        let w = row_place (is_output_of (at_plug d k)) e.nodes there in
+        let device : w.1.device ≡ d = let x = w.3 in grind (arith, nat_tests, x) in
+        let number : number_in (Some e) d ≡ Some w.0 = ap (number_in (Some e)) (sym device) ∙ (h.1.rows w.0 w.1 w.2).1 in
+        let on : is_some (number_in (Some e) d) ≡ true = ap is_some number in
+        grind (arith, on, off)
+
+pub off_talks : (s : State) (d k : ℕ) → IsGood s → is_on s d ≡ false → talks s.account (at_plug d k) ≡ false
+off_talks s d k g off = go (talks s.account (at_plug d k)) refl
+  where
+    go : (b : Bool) → talks s.account (at_plug d k) ≡ b → talks s.account (at_plug d k) ≡ false
+    go true e = absurd (gone s d k g off (g.reclaims.step.sound.there (at_plug d k) e))
+    go false e = e

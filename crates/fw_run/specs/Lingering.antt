@@ -1,0 +1,22 @@
+-- Which output plugs linger through the actions of a run.
+use Rattle.std.specs.Prelude.{List, [], ◌∷◌}
+use Rattle.fw_entry.specs.declared.entry.Timed.{Timed}
+use Rattle.fw_ledger.specs.Account.{Account}
+use Rattle.fw_step.specs.Lingering.{NoneLingers, SameLinger, LingerUnchanged, LingerAfter}
+use Rattle.fw_run.specs.Actions.{Action, AddDevice, AddCable, ResetBus, HalfStep, EndSecond, CarryOut}
+
+-- by what an action writes: one entry at most
+abbrev pub LingerBy : List Timed → Account → Account → Type 0
+LingerBy [] l m = SameLinger l m
+LingerBy (e ∷ es) l m = LingerAfter e.what l m
+
+-- What an action writes tells whether it began a bus reset. A half step ends the lingering of the plugs whose words it changes, and
+-- so does a request that is carried out late; after the second no plug lingers. No other action touches what lingers.
+abbrev pub LingerThrough : Action → List Timed → Account → Account → Type 0
+LingerThrough (AddDevice name kind ports speed) out l m = LingerBy out l m
+LingerThrough (AddCable a b) out l m = LingerBy out l m
+LingerThrough (ResetBus d) out l m = LingerBy out l m
+LingerThrough (HalfStep d) out l m = LingerUnchanged l m
+LingerThrough (CarryOut d) out l m = LingerUnchanged l m
+LingerThrough EndSecond out l m = NoneLingers m
+LingerThrough _ out l m = SameLinger l m
