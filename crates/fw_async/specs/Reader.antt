@@ -21,6 +21,11 @@ pub record Spells (p : Packet) (bytes : List ℕ) : Type 0 where
   pub fits : Fits p
   pub same : spelling p ≡ bytes
 
+-- the bytes are some packet
+pub record IsPacket (bytes : List ℕ) : Type 0 where
+  pub packet : Packet
+  pub spells : Spells packet bytes
+
 -- the first k bytes of a piece end a packet
 pub record EndsPacket (old piece : List ℕ) (k : ℕ) (p : Packet) : Type 0 where
   pub within : k ≤ length piece

@@ -16,15 +16,18 @@ mod packet;
 mod pieces;
 mod read;
 mod reader;
+mod senders;
 mod tcode;
 #[cfg(test)]
 mod tests;
+mod wire;
 mod write;
 mod writer;
 
 pub use packet::{Head, Packet};
 pub use pieces::PacketReader;
-pub use reader::{Fed, read_packet};
+pub use reader::{Fed, read_packet, whole_packet};
+pub use wire::Wire;
 pub use writer::{append_packet, packet_length, write_packet};
 
 /// Why bytes are no packet. The variants that one quadlet can show are tested in this order, and each comes as

@@ -1,7 +1,7 @@
 ghost use Rattle.std.specs.Prelude.{ℕ, ◌≡◌, ◌≤◌, ◌<◌, ◌+◌, ◌-◌, length, take};
 ghost use Rattle.fw_async.specs.Tcode.{code_of};
 ghost use Rattle.fw_async.specs.Reading.{IsComplete, ReadsAs, IsPending, fault_of, need};
-ghost use Rattle.fw_async.specs.Reader.{Spells, Reads};
+ghost use Rattle.fw_async.specs.Reader.{Spells, Reads, IsPacket};
 ghost use Rattle.fw_async.specs.declared.PacketFault.{PacketFault};
 ghost use Rattle.fw_async.specs.declared.packet.Packet.{Packet};
 
@@ -95,4 +95,13 @@ pub fn read_packet<'a>(bytes: &'a [u8]) -> Result<Fed<'a>, PacketFault>
     ensures fault { (k : ℕ) → (f : PacketFault) → k < length bytes.now → IsPending (take k bytes.now) → fault_of (take (k + 1) bytes.now) ≡ Some f → result ≡ Err f }
 {
     read_front(bytes)
+}
+
+/// The packet that these bytes are. They are one packet's, as those of a `Wire` are, and so no fault is looked for.
+pub fn whole_packet<'a>(bytes: &'a [u8]) -> Packet<'a>
+    requires { IsPacket bytes.now }
+    ensures spells { Spells result bytes.now }
+    ensures same { (p : Packet) → Spells p bytes.now → result ≡ p }
+{
+    packet_at(bytes)
 }

@@ -1,5 +1,7 @@
 //! Packets in both directions, bytes that are none, and packets in pieces of any size.
 
+mod wire;
+
 ghost use Rattle.std.specs.Prelude.{◌≤◌, length};
 
 use crate::{Head, Packet, PacketFault, PacketReader, read_packet, write_packet};

@@ -135,8 +135,10 @@ pub fn append_packet<const N: usize>(p: &Packet, out: &mut Bytes<N>)
     let front = front_of(p);
     let data = data_of(p);
     out.append(front.as_slice());
-    out.append(data);
-    out.append(padding_of(data.len()));
+    if !data.is_empty() {
+        out.append(data);
+        out.append(padding_of(data.len()));
+    }
 }
 
 fn extend(out: &mut ArrayVec<u8, 528>, more: &[u8])
@@ -155,8 +157,10 @@ fn spell(p: &Packet, out: &mut ArrayVec<u8, 528>)
     let data = data_of(p);
     out.clear();
     extend(out, front.as_slice());
-    extend(out, data);
-    extend(out, padding_of(data.len()));
+    if !data.is_empty() {
+        extend(out, data);
+        extend(out, padding_of(data.len()));
+    }
 }
 
 /// Writes a packet's bytes in place of what `out` held: 12 to 528 bytes, a multiple of four. The packet's numbers
@@ -167,4 +171,33 @@ pub fn write_packet(p: &Packet, out: &mut ArrayVec<u8, 528>)
     ensures begins_no_other { (q : Packet) → (more : List ℕ) → Fits q → spelling q ≡ out.new.items ++ more → (q ≡ p.now) × (more ≡ []) }
 {
     spell(p, out);
+}
+
+// Writes over the bytes from `at` on.
+fn write_over(out: &mut [u8; 528], at: usize, more: &[u8])
+    requires { at + length more.now ≤ 528 }
+    ensures { take (at + length more.now) out.new ≡ take at out.old ++ more.now }
+{
+    out[at..at + more.len()].copy_from_slice(more);
+}
+
+/// Writes a packet's bytes over the front of `out`, and answers how many they are.
+pub(crate) fn spell_over(p: &Packet, out: &mut [u8; 528]) -> usize
+    requires { Fits p.now }
+    ensures bytes { take result out.new ≡ spelling p.now }
+    ensures size { result ≡ length (spelling p.now) }
+    ensures room { result ≤ 528 }
+{
+    let front = front_of(p);
+    let front = front.as_slice();
+    let data = data_of(p);
+    write_over(out, 0, front);
+    if data.is_empty() {
+        return front.len();
+    }
+    let padding = padding_of(data.len());
+    let end = front.len() + data.len();
+    write_over(out, front.len(), data);
+    write_over(out, end, padding);
+    end + padding.len()
 }

@@ -66,6 +66,7 @@ answered_stands m s x g st to free = record {
   };
   clock = record { cycle = st.clock.cycle; reclaiming = st.clock.reclaiming; half_steps = st.clock.half_steps };
   controllers = record { table = st.controllers.table; directory = st.controllers.directory };
+  wire = record { each = st.wire.each };
   answered = refl;
 }
   where

@@ -17,7 +17,7 @@ use Rattle.fw_cmp.specs.declared.stage.Stage.{Stage}
 use Rattle.fw_cmp.specs.declared.request.Access.{Access}
 use Rattle.fw_cmp.specs.Controllers.{ControllerState, IsStanding, CurrentFits, RunsFitting, Fits}
 use Rattle.fw_cmp.specs.Requests.{offset_of, swap_of, standing_in, addressee_of, request_at, request_of}
-use Rattle.fw_cmp.specs.Resets.{after_hear}
+use Rattle.fw_cmp.specs.Resets.{heard as heard_then, after_hear}
 use Rattle.fw_step.specs.Controllers.{ControllerInStep}
 use Rattle.fw_step.specs.Lingering.{LingerUnchanged}
 use Rattle.fw_step.specs.Moves.{carried_out}
@@ -44,10 +44,15 @@ use Rattle.fw_bus.specs.declared.machine.Machine.{Machine}
 use Rattle.fw_bus.specs.Doings.{Takes}
 use Rattle.fw_bus.specs.Lingering.{HasLingering}
 use Rattle.fw_bus.specs.Stands.{HasNodes, StandsFor, is_living_in}
+use Rattle.fw_async.specs.Wire.{Pairs, without}
+use Rattle.fw_bus.specs.Wires.{HasWire}
 use Rattle.fw_bus.specs.Tables.{ControllerTable, IsTable, count_of, states_of, dead_of}
 use Rattle.fw_bus.proofs.Exchanges.{Exchange, standing_of, exchange_of, exchange_on, exchange_within, exchange_addresses, asks_request, carried}
 use Rattle.fw_bus.proofs.HalfNodes.{state_with, nodes_answer}
 use Rattle.fw_bus.proofs.HalfTurns.{stands_with, table_with, ended_words}
+use Rattle.fw_bus.proofs.HalfWires.{own_number}
+use Rattle.fw_bus.proofs.Standing.{directory_same}
+use Rattle.fw_bus.proofs.Wires.{wire_take}
 use Rattle.fw_bus.proofs.Latest.{number_is}
 use Rattle.fw_bus.proofs.Lingers.{requested}
 use Rattle.fw_bus.proofs.Living.{living_same}
@@ -193,15 +198,15 @@ nodes_after nodes device packet = slice_set nodes device (after_request (request
 
 -- it stands for the state after the half step
 hears_stands : (m : Machine) (s : State) (k : ControllerTable) (d : ℕ) (a : Access) (to device own : ℕ) (packet response : Packet) (r : Reply) → IsGood s
-    → StandsFor m s → Sent m d a to device own packet response → Answered m s d a to device response → Some r ≡ reply_in response
+    → StandsFor m s → number_in s.account.latest d ≡ Some own → Sent m d a to device own packet response → Answered m s d a to device response → Some r ≡ reply_in response
     → IsTable k (count_of m.controllers) (update (states_of m.controllers) d (after_hear (states_of m.controllers d) r)) (dead_of m.controllers)
-    → StandsFor (record m { devices = record m.devices { nodes = nodes_after m.devices.nodes device packet }; controllers = k }) (after_half s d)
-hears_stands m s k d a to device own packet response r g st sent z heard table =
+    → StandsFor (record m { devices = record m.devices { nodes = nodes_after m.devices.nodes device packet }; controllers = k; wire = without own m.wire }) (after_half s d)
+hears_stands m s k d a to device own packet response r g st place sent z heard table =
     subst (λ y. StandsFor now (taken s d y)) (sym h.half_is) (subst (λ l. StandsFor now (state_with s l f)) (sym (ap (λ o. unwrap_or o s.account) h.leads))
-    (stands_with m s (nodes_after m.devices.nodes device packet) k l f st (record { latest = bus.0; reclaiming = bus.1 })
+    (stands_with m s (nodes_after m.devices.nodes device packet) k l f (without own m.wire) st (record { latest = bus.0; reclaiming = bus.1 })
     (kinds_set m.devices.nodes device (request_in packet)) nodes lingering
     (table_with m s k d (after_hear (states_of m.controllers d) r) (after_hear (s.controllers d) reply_) st
-    (λ i. after_hear (st.controllers.table.states_are i d) (reply_is i)) table)))
+    (λ i. after_hear (st.controllers.table.states_are i d) (reply_is i)) table) wire))
   where
     x : Exchange m s d a to device
     x = z.exchange
@@ -210,7 +215,7 @@ hears_stands m s k d a to device own packet response r g st sent z heard table =
     h = z.hears
 
     now : Machine
-    now = record m { devices = record m.devices { nodes = nodes_after m.devices.nodes device packet }; controllers = k }
+    now = record m { devices = record m.devices { nodes = nodes_after m.devices.nodes device packet }; controllers = k; wire = without own m.wire }
 
     reply_ : Reply
     reply_ = reply_heard s d x.job x.stage x.heard
@@ -226,6 +231,13 @@ hears_stands m s k d a to device own packet response r g st sent z heard table =
 
     bus : (l.latest ≡ s.account.latest) × (l.reclaiming ≡ s.account.reclaiming)
     bus = carried_bus d x.job x.stage reply_ s.account
+
+    rests : standing_in (after_hear (s.controllers d) reply_).current ≡ None
+    rests = ap (λ c. standing_in (heard_then c reply_)) x.current
+
+    wire : HasWire (without own m.wire) (state_with s l f)
+    wire = wire_take m.wire s (state_with s l f) d own (after_hear (s.controllers d) reply_) g
+        (record { latest = bus.0; told = directory_same s (state_with s l f) bus.0 refl; controllers = refl }) place rests st.wire
 
     request_is : request_in packet ≡ Some (request_at (offset_of x.heard.target) (swap_of x.job x.stage))
     request_is = ap request_in sent.packet_is ∙ (asks_request (request_head own to 0) (request_of a) ∙ ap (λ y. Some (request_of y)) x.access)
@@ -247,7 +259,7 @@ pub takes_hears : (m : Machine) (n : Network) (k : ControllerTable) (d : ℕ) (a
     → IsTrue (is_living_in m d) → IsStanding (states_of m.controllers d).current → Sent m d a to device own packet response
     → n ≡ record m.devices { nodes = nodes_after m.devices.nodes device packet } → Some r ≡ reply_in response
     → IsTable k (count_of m.controllers) (update (states_of m.controllers) d (after_hear (states_of m.controllers d) r)) (dead_of m.controllers)
-    → Takes half m (record m { devices = n; controllers = k }) d (Some (Async response))
+    → Takes half m (record m { devices = n; controllers = k; wire = without own m.wire }) d (Some (Async response))
 takes_hears m n k d a to device own packet response r lives standing sent registers heard table = λ s g st.
     let z = answered_of m s d a to device own packet response g st lives standing sent in (
       ap (λ p. Some (Async p)) z.response_is ∙ sym (ap (λ y. y.says) z.hears.half_is),
@@ -255,7 +267,8 @@ takes_hears m n k d a to device own packet response r lives standing sent regist
         devices =
             v;
         controllers = k;
-      }) (after_half s d)) (sym registers) (hears_stands m s k d a to device own packet response r g st sent z heard table),
+        wire = without own m.wire;
+      }) (after_half s d)) (sym registers) (hears_stands m s k d a to device own packet response r g st (own_number m s d own g st lives sent.own_is) sent z heard table),
     )
 
 -- the response has a reply

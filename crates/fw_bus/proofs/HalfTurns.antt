@@ -35,6 +35,8 @@ use Rattle.fw_bus.specs.declared.machine.Machine.{Machine}
 use Rattle.fw_bus.specs.Doings.{Takes}
 use Rattle.fw_bus.specs.Lingering.{HasLingering}
 use Rattle.fw_bus.specs.Stands.{HasNodes, StandsFor, IsReady, is_living_in, manager_device}
+use Rattle.fw_async.specs.Wire.{Pairs}
+use Rattle.fw_bus.specs.Wires.{HasWire}
 use Rattle.fw_bus.specs.Tables.{ControllerTable, IsTable, count_of, states_of, dead_of}
 use Rattle.fw_bus.proofs.HalfNodes.{state_with}
 use Rattle.fw_bus.proofs.Latest.{number_low}
@@ -60,11 +62,11 @@ table_with m s k d c e st same h = let t = st.controllers.table in record {
 }
 
 -- the machine with these nodes and controllers stands for the state with this account
-pub stands_with : (m : Machine) (s : State) (nodes : List NodeState) (k : ControllerTable) (l : Account) (f : ℕ → ControllerState) → StandsFor m s
+pub stands_with : (m : Machine) (s : State) (nodes : List NodeState) (k : ControllerTable) (l : Account) (f : ℕ → ControllerState) (w : Pairs) → StandsFor m s
     → SameBus s.account l → kinds_of nodes ≡ kinds_of m.devices.nodes → HasNodes nodes (state_with s l f)
     → HasLingering nodes (state_with s l f) → IsTable k (length s.declared.names) f s.dead
-    → StandsFor (record m { devices = record m.devices { nodes = nodes }; controllers = k }) (state_with s l f)
-stands_with m s nodes k l f st same kinds h linger table = record {
+    → HasWire w (state_with s l f) → StandsFor (record m { devices = record m.devices { nodes = nodes }; controllers = k; wire = w }) (state_with s l f)
+stands_with m s nodes k l f w st same kinds h linger table wire = record {
   devices = record {
     topology = st.devices.topology;
     names = st.devices.names;
@@ -82,6 +84,7 @@ stands_with m s nodes k l f st same kinds h linger table = record {
         table = table;
         directory = st.controllers.directory ∙ sym (ap (λ o. record { node = list_to 63 (linked_number o); manager = manager_in o; over_at = s.clock.over_at }) same.latest);
       };
+  wire = wire;
   answered = st.answered;
 }
 
@@ -133,15 +136,15 @@ asks_leaves s d g lives heard = go (turns s d x.number x.entry g x.is x.shows x.
     go (rests out is) = subst (SameShown s.account) (sym is) (record { bus = record { latest = refl; reclaiming = refl }; words = λ r. refl; linger = λ p. refl })
 
 -- what the controller answers is the same by the machine and by the run
-next_same : (m : Machine) (s : State) (d : ℕ) → StandsFor m s
+pub next_same : (m : Machine) (s : State) (d : ℕ) → StandsFor m s
     → next m.cycle m.directory (states_of m.controllers d) ≡ next s.clock.cycle (directory_of s) (s.controllers d)
 next_same m s d st = λ i. next (st.clock.cycle i) (st.controllers.directory i) (st.controllers.table.states_are i d)
 
 -- the machine stands for the state after it
-asks_stands : (m : Machine) (s : State) (k : ControllerTable) (d : ℕ) → IsGood s → StandsFor m s → IsTrue (is_living s d) → IsHeard (s.controllers d).current
+asks_stands : (m : Machine) (s : State) (k : ControllerTable) (w : Pairs) (d : ℕ) → IsGood s → StandsFor m s → IsTrue (is_living s d) → IsHeard (s.controllers d).current
     → IsTable k (count_of m.controllers) (update (states_of m.controllers) d (after_next m.cycle m.directory (states_of m.controllers d))) (dead_of m.controllers)
-    → StandsFor (record m { controllers = k }) (after_half s d)
-asks_stands m s k d g st lives heard table =
+    → HasWire w (after_half s d) → StandsFor (record m { controllers = k; wire = w }) (after_half s d)
+asks_stands m s k w d g st lives heard table wire =
     let l : Account = entered_by s.account (asks s d).says in
     let f : ℕ → ControllerState = update s.controllers d (after_next s.clock.cycle (directory_of s) (s.controllers d)) in
     let same = asks_leaves s d g lives heard in
@@ -150,18 +153,21 @@ asks_stands m s k d g st lives heard table =
     λ i. after_next (st.clock.cycle i) (st.controllers.directory i) (t.states_are i d) in
     let nodes = nodes_same m.devices.nodes s (state_with s l f)
     (record { names = refl; devices = refl; kinds = refl; latest = same.bus.latest; bus_manager_id = refl; words = same.words }) st.devices.nodes in
-    subst (λ h. StandsFor (record m { controllers = k }) (taken s d h)) (sym (asks_is s d heard))
-    (stands_with m s m.devices.nodes k l f st same.bus refl nodes (lingering_same m.devices.nodes s (state_with s l f) same.linger st.devices.lingering) (table_with m s k d _ _ st becomes table))
+    subst (λ h. StandsFor (record m { controllers = k; wire = w }) (taken s d h)) (sym (asks_is s d heard))
+    (stands_with m s m.devices.nodes k l f w st same.bus refl nodes
+    (lingering_same m.devices.nodes s (state_with s l f) same.linger st.devices.lingering) (table_with m s k d _ _ st becomes table)
+    (subst (λ h. HasWire w (taken s d h)) (asks_is s d heard) wire))
 
 -- the controller says what it says in the run
-pub takes_asks : (m : Machine) (k : ControllerTable) (d : ℕ) (e : Option Entry) → IsTrue (is_living_in m d) → IsHeard (states_of m.controllers d).current
+pub takes_asks : (m : Machine) (k : ControllerTable) (w : Pairs) (d : ℕ) (e : Option Entry) → IsTrue (is_living_in m d) → IsHeard (states_of m.controllers d).current
     → IsTable k (count_of m.controllers) (update (states_of m.controllers) d (after_next m.cycle m.directory (states_of m.controllers d))) (dead_of m.controllers)
     → ((s : State) → IsGood s → StandsFor m s → e ≡ said s d (next m.cycle m.directory (states_of m.controllers d)))
-    → Takes half m (record m { controllers = k }) d e
-takes_asks m k d e lives heard table says = λ s g st.
+    → ((s : State) → IsGood s → StandsFor m s → HasWire w (after_half s d))
+    → Takes half m (record m { controllers = k; wire = w }) d e
+takes_asks m k w d e lives heard table says wires = λ s g st.
     let own : IsHeard (s.controllers d).current = subst (λ f. IsHeard (f d).current) st.controllers.table.states_are heard in
     let living = sym (living_same m s d g st) ∙ lives in
-    (says s g st ∙ (ap (said s d) (next_same m s d st) ∙ sym (ap (λ h. h.says) (asks_is s d own))), asks_stands m s k d g st living own table)
+    (says s g st ∙ (ap (said s d) (next_same m s d st) ∙ sym (ap (λ h. h.says) (asks_is s d own))), asks_stands m s k w d g st living own table (wires s g st))
 
 -- the packet of a request that goes out
 pub request_says : (m : Machine) (s : State) (d to own : ℕ) (q : Request) (p : Packet) (x : Next) → IsGood s → StandsFor m s → IsTrue (is_living_in m d)

@@ -1,5 +1,6 @@
 pub mod Latest
 pub mod Nodes
+pub mod Wires
 pub mod Resets
 pub mod Tables
 pub mod Doings
@@ -9,8 +10,11 @@ pub mod Swaps
 pub mod Places
 pub mod HalfNodes
 pub mod HalfTurns
+pub mod HalfWires
+pub mod WireResets
 pub mod Exchanges
 pub mod HalfHears
+pub mod HalfReads
 pub mod HalfLives
 pub mod Deaths
 pub mod LifeTurns
@@ -18,6 +22,7 @@ pub mod ShowTurns
 pub mod Asked
 pub mod AskTurns
 pub mod Halves
+pub mod Idles
 pub mod StepTurns
 pub mod Times
 pub mod Rounding

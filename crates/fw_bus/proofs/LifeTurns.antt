@@ -20,7 +20,7 @@ use Rattle.fw_run.specs.Giving.{at_most}
 use Rattle.fw_run.specs.Entries.{died, started}
 use Rattle.fw_run.specs.State.{State, is_living, is_linked, linked_number}
 use Rattle.fw_run.specs.HalfSteps.{half, has_request, after_half, with_controller}
-use Rattle.fw_run.specs.Actions.{Action, StartConnection, StartBreak, Die, CarryOut, Start, slot_of, start_of, with_connection, after_death, after_start, Steps}
+use Rattle.fw_run.specs.Actions.{Action, StartConnection, StartBreak, Die, CarryOut, Start, slot_of, start_of, with_connection, after_death, after_start, with_new_controller, Steps}
 use Rattle.fw_run.specs.Carrying.{Carries, dies, dies_late, dies_idle, starts, goes_on}
 use Rattle.fw_run.specs.Good.{IsGood}
 use Rattle.fw_run.proofs.Settling.{half_turn}
@@ -30,6 +30,12 @@ use Rattle.fw_bus.specs.Doings.{Acts, Turns, Takes}
 use Rattle.fw_bus.specs.Stands.{StandsFor, is_linked_in, is_living_in}
 use Rattle.fw_bus.specs.Tables.{ControllerTable, IsTable, count_of, states_of, dead_of}
 use Rattle.fw_bus.proofs.Doings.{Follows, GoesOn, acts_follow, one_step}
+use Rattle.fw_async.specs.Wire.{Pairs, without}
+use Rattle.fw_devices.specs.Network.{node_at}
+use Rattle.fw_bus.specs.Wires.{HasWire}
+use Rattle.fw_bus.proofs.HalfWires.{own_number}
+use Rattle.fw_bus.proofs.Wires.{wire_same, wire_take}
+use Rattle.fw_bus.proofs.WireResets.{given_current, break_current, same_currents}
 use Rattle.fw_bus.proofs.Deaths.{death_words}
 use Rattle.fw_bus.proofs.Living.{linked_low, linked_same, living_same}
 use Rattle.fw_bus.proofs.Nodes.{SameNodes}
@@ -49,10 +55,11 @@ same_account l = record { latest = refl; reclaiming = refl; words = λ r. refl; 
 
 -- the machine whose table is another one stands for the state whose controllers are those
 pub table_stands : (m : Machine) (s : State) (table : ControllerTable)
-    (f : (ℕ → ControllerState) → ℕ → ControllerState) (h : (ℕ → Bool) → ℕ → Bool) (l : Account)
+    (f : (ℕ → ControllerState) → ℕ → ControllerState) (h : (ℕ → Bool) → ℕ → Bool) (l : Account) (w : Pairs)
     → StandsFor m s → SameAccount s.account l → IsTable table (count_of m.controllers) (f (states_of m.controllers)) (h (dead_of m.controllers))
-    → StandsFor (record m { controllers = table }) (record s { controllers = f s.controllers; dead = h s.dead; account = l })
-table_stands m s table f h l st same is = record {
+    → HasWire w (record s { controllers = f s.controllers; dead = h s.dead; account = l })
+    → StandsFor (record m { controllers = table; wire = w }) (record s { controllers = f s.controllers; dead = h s.dead; account = l })
+table_stands m s table f h l w st same is wire = record {
   devices = devices_same m.devices s t kept refl same.linger st.devices;
   clock = record {
     cycle = st.clock.cycle;
@@ -67,6 +74,7 @@ table_stands m s table f h l st same is = record {
     };
     directory = st.controllers.directory ∙ sym (directory_same s t same.latest refl);
   };
+  wire = wire;
   answered = st.answered;
 }
   where
@@ -97,7 +105,9 @@ connect_turns m table d w lives slot ok is = record {
       let living : IsTrue (is_living s d) = subst IsTrue (living_same m s d g st) lives in (
         with_connection s d w,
         (st.answered, (living, slot, accepted_at (start_of d w (s.controllers d)) accepted, refl, refl)),
-        table_stands m s table (connected d w) (λ x. x) s.account st (same_account s.account) is,
+        table_stands m s table (connected d w) (λ x. x) s.account m.wire st (same_account s.account) is
+            (wire_same m.wire s (with_connection s d w) refl refl
+            (same_currents s.controllers d (given (start_of d w (s.controllers d)) (slot_of w) (s.controllers d)) (given_current (start_of d w (s.controllers d)) (slot_of w) (s.controllers d))) st.wire),
       );
 }
 
@@ -115,7 +125,9 @@ break_turns m table d i lives ok is = record {
       let living : IsTrue (is_living s d) = subst IsTrue (living_same m s d g st) lives in (
         with_controller s d (break_started (s.controllers d) i),
         (st.answered, (living, accepted, refl, refl)),
-        table_stands m s table (broken d i) (λ x. x) s.account st (same_account s.account) is,
+        table_stands m s table (broken d i) (λ x. x) s.account m.wire st (same_account s.account) is
+            (wire_same m.wire s (with_controller s d (break_started (s.controllers d) i)) refl refl
+            (same_currents s.controllers d (break_started (s.controllers d) i) (break_current (s.controllers d) i)) st.wire),
       );
 }
 
@@ -132,16 +144,30 @@ renewed d c = update c d new_controller
 abbrev pub marked : ℕ → Bool → (ℕ → Bool) → ℕ → Bool
 marked d b c = update c d b
 
-pub death_turns : (m : Machine) (table : ControllerTable) (d : ℕ) (e : Entry) → IsTrue (is_living_in m d) → e ≡ died d
+pub death_turns : (m : Machine) (table : ControllerTable) (d own : ℕ) (e : Entry) → IsTrue (is_living_in m d) → (node_at m.devices.nodes d).number ≡ Some own → e ≡ died d
     → IsTable table (count_of m.controllers) (renewed d (states_of m.controllers)) (marked d true (dead_of m.controllers))
-    → Turns (Die d) m (record m { controllers = table }) m.cycle (Some e)
-death_turns m table d e lives entry is = record {
+    → Turns (Die d) m (record m { controllers = table; wire = without own m.wire }) m.cycle (Some e)
+death_turns m table d own e lives number entry is = record {
   shown = λ s g st.
       let living : IsTrue (is_living s d) = subst IsTrue (living_same m s d g st) lives in
       let out : at_most m.cycle (Some e) ≡ at_most s.clock.cycle (Some (died d)) = (λ i. at_most (st.clock.cycle i) (Some (entry i))) in
-      let same = death_same s.account d (linked_low s d g (living_linked s d living)) in
-      (after_death s d, (st.answered, (living, out, refl)), table_stands m s table (renewed d) (marked d true) (account_after_death d s.account) st same is);
+      let same = death_same s.account d (linked_low s d g (living_linked s d living)) in (
+        after_death s d,
+        (st.answered, (living, out, refl)),
+        table_stands m s table (renewed d) (marked d true) (account_after_death d s.account) (without own m.wire) st same is
+            (wire_take m.wire s (after_death s d) d own new_controller g (record { latest = same.latest; told = directory_same s (after_death s d) same.latest refl; controllers = refl })
+            (own_number m s d own g st lives number) refl st.wire),
+      );
 }
+
+-- that of a device whose controller died is a new one
+unused : (s : State) (d : ℕ) → IsGood s → IsTrue (s.dead d) → s.controllers d ≡ new_controller
+unused s d g dead = g.unused d (off (is_linked s d) (s.dead d) dead)
+  where
+    off : (a b : Bool) → b ≡ true → (a && not b) ≡ false
+    off true true e = refl
+    off false true e = refl
+    off a false e = let no : ⊥ = cc in absurd no
 
 pub start_turns : (m : Machine) (table : ControllerTable) (d : ℕ) (e : Entry)
     → IsTrue (is_linked_in m.devices d) → IsTrue (dead_of m.controllers d) → e ≡ started d
@@ -151,8 +177,12 @@ start_turns m table d e on was entry is = record {
   shown = λ s g st.
       let linked : IsTrue (is_linked s d) = subst IsTrue (linked_same m.devices s d g st.devices) on in
       let dead : IsTrue (s.dead d) = sym (ap (λ (c : ℕ → Bool). c d) st.controllers.table.dead_are) ∙ was in
-      let out : at_most m.cycle (Some e) ≡ at_most s.clock.cycle (Some (started d)) = (λ i. at_most (st.clock.cycle i) (Some (entry i))) in
-      (after_start s d, (st.answered, (linked, dead, out, refl)), table_stands m s table (renewed d) (marked d false) s.account st (same_account s.account) is);
+      let out : at_most m.cycle (Some e) ≡ at_most s.clock.cycle (Some (started d)) = (λ i. at_most (st.clock.cycle i) (Some (entry i))) in (
+        after_start s d,
+        (st.answered, (linked, dead, out, refl)),
+        table_stands m s table (renewed d) (marked d false) s.account m.wire st (same_account s.account) is
+            (wire_same m.wire s (with_new_controller s d false) refl refl (same_currents s.controllers d new_controller (sym (ap (λ (x : ControllerState). x.current) (unused s d g dead)))) st.wire),
+      );
 }
 
 -- ---- the request that stands

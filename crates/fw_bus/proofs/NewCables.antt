@@ -57,6 +57,7 @@ joined_stands m s devices a b x y st j = record {
   };
   clock = record { cycle = st.clock.cycle; reclaiming = st.clock.reclaiming; half_steps = st.clock.half_steps };
   controllers = record { table = st.controllers.table; directory = st.controllers.directory };
+  wire = record { each = st.wire.each };
   answered = st.answered;
 }
   where

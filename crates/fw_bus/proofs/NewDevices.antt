@@ -66,6 +66,7 @@ declared_stands m s table name kind ports speed g st more = record {
     };
     directory = st.controllers.directory;
   };
+  wire = record { each = st.wire.each };
   answered = st.answered;
 }
 

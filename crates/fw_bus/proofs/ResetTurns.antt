@@ -23,6 +23,9 @@ use Rattle.fw_bus.specs.declared.machine.Machine.{Machine}
 use Rattle.fw_bus.specs.Resetting.{BeginsReset, GivesReset, directory_in}
 use Rattle.fw_bus.specs.Lingering.{HasLingering}
 use Rattle.fw_bus.specs.Stands.{StandsFor, HasNodes, IsReady}
+use Rattle.fw_async.specs.Wire.{Pairs}
+use Rattle.fw_bus.specs.Wires.{HasWire}
+use Rattle.fw_bus.proofs.WireResets.{wire_empty, reset_stands_none}
 use Rattle.fw_bus.specs.Tables.{IsTable}
 use Rattle.fw_bus.specs.Doings.{Turns, Does, Acts}
 use Rattle.fw_bus.proofs.Lingers.{lingering_reset}
@@ -128,6 +131,7 @@ table_now m now s i st b =
 reset_stands : (m now : Machine) (good s : State) (i : ℕ) → MayBegin m good s → BeginsReset m now i → StandsFor now (after_reset_entry s now.devices.latest)
 reset_stands m now good s i may b =
     let st = may.stands in
+    let t : State = after_reset_entry s now.devices.latest in
     record {
       devices = record {
         topology = b.reset.topology ∙ st.devices.topology;
@@ -145,6 +149,8 @@ reset_stands m now good s i may b =
         half_steps = ap (λ (z : Machine). z.half_steps) b.after ∙ st.clock.half_steps;
       };
       controllers = record { table = table_now m now s i st b; directory = directory_now m now good s i may b };
+      wire = subst (λ (w : Pairs). HasWire w t) (sym (ap (λ (z : Machine). z.wire) b.after))
+          (wire_empty t (λ d. reset_stands_none now.devices.latest.epoch (s.controllers d)));
       answered = st.answered;
     }
 

@@ -22,6 +22,8 @@ use Rattle.fw_bus.specs.declared.machine.Machine.{Machine}
 use Rattle.fw_bus.specs.Resetting.{RestsAfterSecond}
 use Rattle.fw_bus.specs.Stands.{IsNodeAt, HasNodes, HasDevices, StandsFor}
 use Rattle.fw_bus.specs.Doings.{Turns}
+use Rattle.fw_async.specs.Wire.{Pairs}
+use Rattle.fw_bus.specs.Wires.{HasWire}
 use Rattle.fw_bus.proofs.Lingers.{lingering_same, lingering_rests}
 use Rattle.fw_bus.proofs.Nodes.{SameNodes, nodes_same}
 
@@ -49,6 +51,7 @@ pass_turns m now n few before is = record { shown = shown_ }
       };
       clock = record { cycle = ap (λ c. c + n) st.clock.cycle; reclaiming = st.clock.reclaiming; half_steps = st.clock.half_steps };
       controllers = record { table = st.controllers.table; directory = st.controllers.directory };
+      wire = record { each = st.wire.each };
       answered = st.answered;
     }
 
@@ -172,6 +175,7 @@ rests_stands m now s st r =
         };
         directory = ap (λ (z : Machine). z.directory) r.after ∙ st.controllers.directory;
       };
+      wire = subst (λ (w : Pairs). HasWire w (over s (account_second s.account))) (sym (ap (λ (z : Machine). z.wire) r.after)) (record { each = st.wire.each });
       answered = st.answered;
     }
 

@@ -38,5 +38,6 @@ counted_stands m s k st = record {
     table = record { count_is = st.controllers.table.count_is; states_are = st.controllers.table.states_are; dead_are = st.controllers.table.dead_are };
     directory = st.controllers.directory;
   };
+  wire = record { each = st.wire.each };
   answered = st.answered;
 }

@@ -1,11 +1,12 @@
 -- Tables of controllers by device: one is changed, one is added, and all are changed.
-use Rattle.std.proofs.Common.{◌≡◌, ◌≢◌, ◌⊎◌, inl, inr, ℕ, ◌+◌, ◌<◌, ◌≤◌, List, [], ◌∷◌, ◌++◌, length, map, get_or, set, replicate, slice_index_or, slice_set, cond, ◌==◌, Bool, true, false, refl, ap, sym, subst, ◌∙◌, arith}
-use Rattle.std.proofs.lemmas.Bool.{cases_eq, cases_lt}
+use Rattle.std.proofs.Common.{◌≡◌, ◌≢◌, ◌⊎◌, inl, inr, ℕ, zero, suc, take, drop, ◌+◌, ◌<◌, ◌≤◌, List, [], ◌∷◌, ◌++◌, length, map, get_or, set, replicate, slice_index_or, slice_set, cond, ◌==◌, Bool, true, false, refl, ap, sym, subst, ◌∙◌, arith, IsTrue}
+use Rattle.std.proofs.lemmas.Bool.{cases_eq, cases_lt, false≢true}
 use Rattle.std.proofs.lemmas.Bool.Decides.{nat_tests}
-use Rattle.std.proofs.lemmas.List.{get_or-set_same, get_or-set_other, get_or-map, get_or-replicate, length-replicate, get_or_past, get_or_read, length-map, length-append, length-set, get_or_append_left, get_or_push}
+use Rattle.std.proofs.lemmas.List.{get_or-set_same, get_or-set_other, get_or-map, get_or-replicate, length-replicate, get_or_past, get_or_read, length-map, length-append, length-set, get_or_append_left, get_or_push, length-drop}
 use Rattle.fw_base.specs.Tables.{update}
 use Rattle.fw_cmp.specs.Controllers.{ControllerState, first_state as new_controller}
-use Rattle.fw_bus.specs.Tables.{ControllerTable, IsTable, count_of, states_of, dead_of}
+use Rattle.fw_cmp.specs.Causes.{IsAtRest}
+use Rattle.fw_bus.specs.Tables.{AreCalm, ControllerTable, IsTable, count_of, states_of, dead_of}
 
 -- ---- lists
 
@@ -106,15 +107,62 @@ table_map t list before flags f same is fixed = subst Goes same (record {
 pub table_push : (t : ControllerTable) → IsTable (record { list = t.list ++ new_controller ∷ []; flags = t.flags }) (count_of t + 1) (states_of t) (dead_of t)
 table_push t = record { count_is = length-append t.list (new_controller ∷ []); states_are = push_is_same t.list new_controller; dead_are = refl }
 
--- ---- no devices
-
--- no controller died at first
+-- a list of which nothing is true
 none_dead : (n k : ℕ) → get_or (replicate n false) k false ≡ false
 none_dead n k = go (cases_lt k n)
   where
     go : (k < n) ⊎ (n ≤ k) → get_or (replicate n false) k false ≡ false
     go (inl lt) = get_or-replicate n k false false lt
     go (inr past) = let far : length (replicate n false) ≤ k = omega (arith, length-replicate n false) in get_or_past (replicate n false) k false far
+
+-- ---- controllers that are marked as having nothing to do
+
+-- one is changed, and so is its mark
+pub calm_set : (marks : List Bool) (list : List ControllerState) (d : ℕ) (b : Bool) (y : ControllerState) → AreCalm marks list → d < length list
+    → length list ≤ 63 → (IsTrue b → IsAtRest y) → AreCalm (slice_set marks d b) (slice_set list d y)
+calm_set marks list d b y h lt few rests = record { size = length-set marks d b ∙ h.size; each = each }
+  where
+    low : d < length marks
+    low = let size = h.size in omega (arith, lt, few, size)
+
+    each : (k : ℕ) → IsTrue (slice_index_or (slice_set marks d b) k false) → IsAtRest (slice_index_or (slice_set list d y) k new_controller)
+    each k marked = go (cases_eq k d)
+      where
+        go : (k ≡ d) ⊎ (k ≢ d) → IsAtRest (slice_index_or (slice_set list d y) k new_controller)
+        go (inl same) =
+            let mark : IsTrue b = sym (get_or-set_same marks d b false low) ∙ subst (λ j. IsTrue (slice_index_or (slice_set marks d b) j false)) same marked in
+            subst (λ j. IsAtRest (slice_index_or (slice_set list d y) j new_controller)) (sym same)
+            (subst IsAtRest (sym (get_or-set_same list d y new_controller lt)) (rests mark))
+        go (inr other) =
+            let mark = sym (get_or-set_other marks d k b false other) ∙ marked in
+            subst IsAtRest (sym (get_or-set_other list d k y new_controller other)) (h.each k mark)
+
+-- none is marked
+pub calm_none : (marks : List Bool) (list : List ControllerState) → marks ≡ replicate 63 false → AreCalm marks list
+calm_none marks list is = subst (λ (ms : List Bool). AreCalm ms list) (sym is)
+    (record { size = length-replicate 63 false; each = λ k marked. absurd (false≢true (sym (none_dead 63 k) ∙ marked)) })
+
+-- one more, which is not marked
+pub calm_push : (marks : List Bool) (list : List ControllerState) → AreCalm marks list → AreCalm marks (list ++ new_controller ∷ [])
+calm_push marks list h = record { size = h.size; each = λ k marked. subst IsAtRest (sym (push_at list new_controller k)) (h.each k marked) }
+
+-- ---- a list that is written back
+
+take_few : {A : Type 0} (n : ℕ) (xs : List A) → length (take n xs) ≤ length xs
+take_few zero xs = omega arith
+take_few (suc n) [] = omega arith
+take_few (suc n) (x ∷ xs) = let h = take_few n xs in omega (arith, h)
+
+-- it is no longer than it was
+pub few_after : {A : Type 0} (n most : ℕ) (new old : List A) → length new ≡ length old → length old ≤ most
+    → length (take n (new ++ drop (length new) old)) ≤ most
+few_after n most new old same few =
+    let front = take_few n (new ++ drop (length new) old) in
+    let all = length-append new (drop (length new) old) in
+    let rest = length-drop (length new) old in
+    omega (arith, front, all, rest, same, few)
+
+-- ---- no devices
 
 pub table_none : (list : List ControllerState) (n : ℕ) → list ≡ []
     → IsTable (record { list = list; flags = replicate n false }) 0 (λ d. new_controller) (λ d. false)

@@ -5,7 +5,7 @@ use Rattle.fw_outside.specs.Outside.{Grows}
 use Rattle.fw_entry.specs.declared.entry.Entry.{Entry}
 use Rattle.fw_entry.specs.declared.entry.Timed.{Timed}
 use Rattle.fw_entry.specs.Log.{entry_bytes}
-use Rattle.fw_run.specs.Giving.{at_most, log_bytes}
+use Rattle.fw_run.specs.Giving.{at_most, log_bytes, Gives}
 use Rattle.fw_run.specs.State.{State, is_living, living, numbers_to}
 use Rattle.fw_run.specs.HalfSteps.{HalfStep as Half, after_half, is_unsettled}
 use Rattle.fw_run.specs.Actions.{Action, Unsettled, Step, Steps}
@@ -57,6 +57,13 @@ pub record Talks (a b : Action) (m now : Machine) (cycle : ℕ) (e f : Entry) : 
 -- what a controller does in a half step of device d, and the state after it
 abbrev pub Takes : (State → ℕ → Half) → Machine → Machine → ℕ → Option Entry → Type 0
 Takes step m now d e = (s : State) → IsGood s → StandsFor m s → (e ≡ (step s d).says) × StandsFor now (after_half s d)
+
+-- it was written, where there is something to write, or a front of it
+pub record Speaks {T E : Type 0} (step : State → ℕ → Half) (m now : Machine) (d : ℕ) (held after : Option (List ℕ)) (count counts : ℕ) (result : Result T E) : Type 0 where
+  pub entry : Option Entry
+  pub takes : Takes step m now d entry
+  pub gives : Gives held after result now.cycle entry
+  pub faults : CountsFaults count counts result
 
 -- ---- what a call did
 

@@ -1,5 +1,6 @@
 pub mod Faults
 pub mod Tables
+pub mod Wires
 pub mod Lingering
 pub mod Stands
 pub mod Doings

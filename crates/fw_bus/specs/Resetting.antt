@@ -1,5 +1,5 @@
 -- What a bus reset and the end of a reclaim second make of the machine.
-use Rattle.std.specs.Prelude.{ℕ, ◌≡◌, ◌+◌, List, Bool, Option, Some, None, false, map, if◌then◌else◌}
+use Rattle.std.specs.Prelude.{ℕ, ◌≡◌, ◌+◌, List, [], Bool, Option, Some, None, false, map, if◌then◌else◌}
 use Rattle.std.specs.declared.result.Result.{Result}
 use Rattle.fw_entry.specs.declared.entry.Entry.TheVariants.{Reset}
 use Rattle.fw_cmp.specs.Resets.{after_reset as controller_reset, after_second as controller_second}
@@ -32,6 +32,7 @@ pub record BeginsReset (m now : Machine) (initiator : ℕ) : Type 0 where
     controllers = now.controllers;
     directory = directory_in now.devices (is_node m.devices.nodes 0) m.cycle;
     reclaiming = is_node m.devices.nodes 0;
+    wire = [];
   }
 
 -- its entry was written, or cut off

@@ -1,5 +1,6 @@
 -- The controllers of the declared devices, by number.
-use Rattle.std.specs.Prelude.{ℕ, ◌≡◌, ◌≤◌, List, Bool, false, length, slice_index_or}
+use Rattle.std.specs.Prelude.{ℕ, ◌≡◌, ◌≤◌, List, Bool, false, length, slice_index_or, IsTrue}
+use Rattle.fw_cmp.specs.Causes.{IsAtRest}
 use Rattle.fw_cmp.specs.Controllers.{ControllerState, first_state as new_controller}
 
 -- The lists are by device, in order of declaration.
@@ -23,6 +24,11 @@ pub record IsTable (t : ControllerTable) (count : ℕ) (states : ℕ → Control
   pub count_is : count_of t ≡ count
   pub states_are : states_of t ≡ states
   pub dead_are : dead_of t ≡ dead
+
+-- the controllers that are marked have nothing to do
+pub record AreCalm (marks : List Bool) (list : List ControllerState) : Type 0 where
+  pub size : length marks ≡ 63
+  pub each : (d : ℕ) → IsTrue (slice_index_or marks d false) → IsAtRest (slice_index_or list d new_controller)
 
 -- what is kept is of 63 devices at most
 pub record IsRoomy (t : ControllerTable) (capacity : ℕ) : Type 0 where

@@ -4,7 +4,8 @@ ghost use Rattle.fw_outside.specs.Outside.{Rose};
 
 use crate::BusFault;
 use crate::machine::Machine;
-use fw_entry::EntryRoom;
+use crate::room::Room;
+use fw_async::Wire;
 use fw_node::Node;
 use fw_outside::{Failed, Sink};
 use fw_script::Command;
@@ -16,7 +17,7 @@ use std::marker::Model;
 pub struct Bus {
     machine: Machine,
     spent: bool,
-    room: EntryRoom,
+    room: Room,
 }
 
 impl Model for Bus {
@@ -38,6 +39,7 @@ impl Bus {
     ghost use Rattle.fw_run.specs.Runs.{Run};
     ghost use Rattle.fw_bus.specs.Orders.{IsCommand};
     ghost use Rattle.fw_bus.specs.Stands.{StandsFor};
+    ghost use Rattle.fw_bus.specs.Wires.{HasWire};
     ghost use Rattle.fw_bus.specs.Buses.{Applies, Lends, WhereRefused, WhereFailed};
 
     /// A bus without a device, at cycle 0. It takes all the memory that its calls need.
@@ -48,7 +50,7 @@ impl Bus {
         Ok(Bus {
             machine: Machine::new(alloc)?,
             spent: false,
-            room: EntryRoom::new(alloc)?,
+            room: Room::new(alloc)?,
         })
     }
 
@@ -66,6 +68,16 @@ impl Bus {
             → Lends s device (option_map (λ n. n.now) result) }
     {
         self.machine.devices.node(device)
+    }
+
+    /// What lies on the bus: for each node a pair with its number exactly where a request of its controller stands, with the bytes of
+    /// that request.
+    pub fn wire(&self) -> &Wire
+        requires spent { IsFalse self.now.spent }
+        ensures lent { (commands : List Line) (actions : List Action) (log : List TimedEntry) (s : State) → Run commands actions log s → StandsFor self.now.machine s
+            → HasWire result.now s }
+    {
+        &self.machine.wire
     }
 
     /// Carries out a command, and writes what happens. `Refused` comes exactly where a rule holds of the command, with the

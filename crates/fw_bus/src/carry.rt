@@ -6,7 +6,8 @@ ghost use Rattle.fw_bus.specs.Stands.{IsReady};
 
 use crate::give::give;
 use crate::machine::Machine;
-use fw_entry::{Entry, EntryRoom};
+use crate::room::Room;
+use fw_entry::Entry;
 use fw_outside::{Failed, Sink};
 use fw_run::Order;
 
@@ -15,7 +16,7 @@ impl Machine {
     pub(crate) fn carry_out<K: Sink>(
         &mut self,
         order: &Order,
-        room: &mut EntryRoom,
+        room: &mut Room,
         sink: &mut K,
     ) -> Result<(), Failed>
         requires ready { IsReady self.old }

@@ -1,7 +1,8 @@
 //! The controllers of the declared devices.
 
-ghost use Rattle.std.specs.Prelude.{◌≡◌, ◌<◌, ◌+◌, IfOk, IfErr, IfSome, IsOk, Err, None, true, false};
+ghost use Rattle.std.specs.Prelude.{◌≡◌, ◌<◌, ◌+◌, IfOk, IfErr, IfSome, IsOk, IsTrue, Err, None, true, false, map, replicate};
 ghost use Rattle.fw_base.specs.Tables.{update};
+ghost use Rattle.fw_cmp.specs.Causes.{IsAtRest};
 ghost use Rattle.fw_cmp.specs.Controllers.{first_state as new_controller, IsHeard, IsStanding};
 ghost use Rattle.fw_cmp.specs.Fits.{SlotFits};
 ghost use Rattle.fw_cmp.specs.Holdings.{CanGoOn};
@@ -27,17 +28,19 @@ pub struct Controllers {
     list: Vec<Controller>,
     /// The controller died, and was not started again.
     dead: [bool; MOST],
+    /// The controller was found to have nothing to do, and nothing has happened to it since.
+    calm: [bool; MOST],
 }
 
 impl Model for Controllers {
     ghost use Rattle.std.specs.Prelude.{vec_capacity};
-    ghost use Rattle.fw_bus.specs.Tables.{ControllerTable, IsRoomy};
+    ghost use Rattle.fw_bus.specs.Tables.{AreCalm, ControllerTable, IsRoomy};
 
     ghost Value = { ControllerTable };
 
     ghost view = { λ c. record { list = c.list.items; flags = c.dead } };
 
-    ghost invariant = { λ c. IsRoomy (record { list = c.list.items; flags = c.dead }) (vec_capacity c.list) };
+    ghost invariant = { λ c. IsRoomy (record { list = c.list.items; flags = c.dead }) (vec_capacity c.list) × AreCalm c.calm c.list.items };
 }
 
 impl Controllers {
@@ -48,6 +51,7 @@ impl Controllers {
         Ok(Controllers {
             list: Vec::with_capacity(alloc, MOST)?,
             dead: [false; MOST],
+            calm: unmarked(),
         })
     }
 
@@ -77,6 +81,16 @@ impl Controllers {
         }
     }
 
+    /// Whether the controller of a device is known to have nothing to do.
+    pub fn is_calm(&self, device: u8) -> bool
+        ensures { IsTrue result → IsAtRest (states_of self.now device) }
+    {
+        match self.calm.get(usize::from(device)) {
+            Some(calm) => *calm,
+            None => false,
+        }
+    }
+
     /// What the controller of a device does next (`Controller::next`).
     pub fn next(&mut self, device: u8, now: u64, directory: &Directory) -> Next
         requires device { device < count_of self.old }
@@ -87,7 +101,9 @@ impl Controllers {
         ensures state { IsTable self.new (count_of self.old) (update (states_of self.old) device (after_next now directory.now (states_of self.old device))) (dead_of self.old) }
         ensures addressee { IfSome (addressee_in result) (λ to. to < 63) }
     {
-        self.list[usize::from(device)].next(now, directory)
+        let next = self.list[usize::from(device)].next(now, directory);
+        self.calm[usize::from(device)] = is_idle(&next);
+        next
     }
 
     /// The controller of a device hears the reply to the request that stands (`Controller::hear`).
@@ -97,6 +113,7 @@ impl Controllers {
         ensures { IsTable self.new (count_of self.old) (update (states_of self.old) device (after_hear (states_of self.old device) reply.now)) (dead_of self.old) }
     {
         self.list[usize::from(device)].hear(reply);
+        self.calm[usize::from(device)] = false;
     }
 
     /// Whether the controller of a device would refuse a connection, and why.
@@ -134,6 +151,7 @@ impl Controllers {
             Wanted::BroadcastIn(input) => controller.start_listen(device, input),
         };
         let _ = started;
+        self.calm[usize::from(device)] = false;
     }
 
     /// The controller of a device is asked for a break that it does not refuse.
@@ -143,24 +161,23 @@ impl Controllers {
         ensures { IsTable self.new (count_of self.old) (update (states_of self.old) device (break_started (states_of self.old device) slot)) (dead_of self.old) }
     {
         let _ = self.list[usize::from(device)].start_break(slot);
+        self.calm[usize::from(device)] = false;
     }
 
     /// A bus reset that begins this epoch, for each controller.
     pub fn reset(&mut self, epoch: u32)
         ensures { IsTable self.new (count_of self.old) (λ d. after_reset epoch (states_of self.old d)) (dead_of self.old) }
     {
-        for controller in self.list.iter_mut() {
-            controller.reset(epoch);
-        }
+        reset_each(&mut self.list, epoch);
+        self.calm = unmarked();
     }
 
     /// The reclaim second is over, for each controller.
     pub fn second_over(&mut self)
         ensures { IsTable self.new (count_of self.old) (λ d. after_second (states_of self.old d)) (dead_of self.old) }
     {
-        for controller in self.list.iter_mut() {
-            controller.second_over();
-        }
+        end_second(&mut self.list);
+        self.calm = unmarked();
     }
 
     /// The controller of a device dies: it forgets its slots and jobs.
@@ -170,6 +187,7 @@ impl Controllers {
     {
         self.list[usize::from(device)] = Controller::new();
         self.dead[usize::from(device)] = true;
+        self.calm[usize::from(device)] = false;
     }
 
     /// The controller of a device starts.
@@ -179,5 +197,41 @@ impl Controllers {
     {
         self.list[usize::from(device)] = Controller::new();
         self.dead[usize::from(device)] = false;
+        self.calm[usize::from(device)] = false;
+    }
+}
+
+/// A bus reset that begins this epoch, for each of the controllers.
+fn reset_each(list: &mut [Controller], epoch: u32)
+    ensures { list.new ≡ map (after_reset epoch) list.old }
+{
+    for controller in list.iter_mut() {
+        controller.reset(epoch);
+    }
+}
+
+/// The reclaim second is over, for each of the controllers.
+fn end_second(list: &mut [Controller])
+    ensures { list.new ≡ map after_second list.old }
+{
+    for controller in list.iter_mut() {
+        controller.second_over();
+    }
+}
+
+/// No marks.
+fn unmarked() -> [bool; MOST]
+    ensures { result ≡ replicate 63 false }
+{
+    [false; MOST]
+}
+
+/// Whether the controller has nothing to do.
+fn is_idle(next: &Next) -> bool
+    ensures { IsTrue result → next.now ≡ Next.Idle }
+{
+    match next {
+        Next::Idle => true,
+        Next::Send { .. } | Next::End { .. } | Next::Waiting { .. } => false,
     }
 }

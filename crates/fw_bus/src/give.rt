@@ -1,16 +1,20 @@
-ghost use Rattle.std.specs.Prelude.{◌<◌, IfSome};
+ghost use Rattle.std.specs.Prelude.{◌<◌, IfSome, Some};
+ghost use Rattle.fw_async.specs.Reader.{IsPacket, Spells};
+ghost use Rattle.fw_async.specs.declared.packet.Packet.{Packet};
+ghost use Rattle.fw_entry.specs.declared.entry.Entry.TheVariants.{Async};
 ghost use Rattle.fw_bus.specs.Faults.{CountsFaults};
 ghost use Rattle.fw_entry.specs.Log.{Fits};
 ghost use Rattle.fw_run.specs.Giving.{Gives};
 
-use fw_entry::{Entry, EntryRoom, Timed, write_entry};
+use crate::room::Room;
+use fw_entry::{Entry, EntryRoom, Timed, write_async, write_entry};
 use fw_outside::{Failed, Sink};
 
 /// Writes an entry of this cycle, where there is one.
 pub(crate) fn give<K: Sink>(
     cycle: u64,
     what: Option<Entry<'_>>,
-    room: &mut EntryRoom,
+    room: &mut Room,
     sink: &mut K,
 ) -> Result<(), Failed>
     requires { IfSome what Fits }
@@ -18,7 +22,21 @@ pub(crate) fn give<K: Sink>(
     ensures faults { CountsFaults (K.faults sink.old) (K.faults sink.new) result }
 {
     match what {
-        Some(what) => write_entry(&Timed { cycle, what }, room, sink),
+        Some(what) => write_entry(&Timed { cycle, what }, &mut room.entry, sink),
         None => Ok(()),
     }
+}
+
+/// Writes the entry of a packet of this cycle, whose bytes are at hand.
+pub(crate) fn give_packet<K: Sink>(
+    cycle: u64,
+    bytes: &[u8],
+    room: &mut EntryRoom,
+    sink: &mut K,
+) -> Result<(), Failed>
+    requires { IsPacket bytes.now }
+    ensures bytes { (p : Packet) → Spells p bytes.now → Gives (K.held sink.old) (K.held sink.new) result cycle (Some (Async p)) }
+    ensures faults { CountsFaults (K.faults sink.old) (K.faults sink.new) result }
+{
+    write_async(cycle, bytes, room, sink)
 }

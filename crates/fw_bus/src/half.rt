@@ -1,90 +1,115 @@
 //! One half step of a controller: its request is carried out and it hears the answer, or it says what it does next.
 
-ghost use Rattle.std.specs.Prelude.{◌≡◌, ◌≤◌, ◌<◌, ℕ, IfSome, IsTrue, Some, IsSome, slice_set, length};
-ghost use Rattle.fw_async.specs.Async.{Fits as PacketFits};
-ghost use Rattle.fw_base.specs.Tables.{update};
-ghost use Rattle.fw_cmp.specs.Controllers.{IsHeard, IsStanding};
+ghost use Rattle.std.specs.Prelude.{◌≡◌, ◌≤◌, ◌<◌, ℕ, IsTrue, IfSome, Some};
 ghost use Rattle.fw_cmp.specs.Fits.{TargetFits};
-ghost use Rattle.fw_cmp.specs.Resets.{after_hear};
-ghost use Rattle.fw_entry.specs.Log.{Fits};
-ghost use Rattle.fw_node.specs.Packets.{packet_of, request_head, request_in};
+ghost use Rattle.fw_cmp.specs.Requests.{standing_in};
+ghost use Rattle.fw_cmp.specs.Controllers.{IsHeard, IsStanding};
 ghost use Rattle.fw_run.specs.HalfSteps as HalfSteps;
-ghost use Rattle.fw_bus.specs.Doings.{Takes};
+ghost use Rattle.fw_bus.specs.Doings.{Speaks};
 ghost use Rattle.fw_devices.specs.Entries.{node_device};
-ghost use Rattle.fw_bus.specs.Stands.{IsReady, is_living_in};
-ghost use Rattle.fw_bus.specs.Tables.{dead_of, states_of};
+ghost use Rattle.fw_bus.specs.Stands.{IsReady, is_living_in, target_in};
+ghost use Rattle.fw_bus.specs.Tables.{count_of, dead_of, states_of};
 
 use crate::entries::outcome_entry;
+use crate::give::{give, give_packet};
 use crate::machine::Machine;
-use fw_async::Packet;
+use crate::room::Room;
 use fw_cmp::Next;
-use fw_csr::Request;
-use fw_entry::Entry;
-use fw_node::{reply_in, request_packet};
+use fw_node::{reply_at, request_packet};
+use fw_outside::{Failed, Sink};
 
 /// The transaction label of controllers' procedures (own).
 const PROCEDURE_LABEL: u8 = 0;
 
 impl Machine {
-    /// One half step of a device's controller, which lives: what it writes, if anything.
-    pub(crate) fn turn(&mut self, device: u8) -> Option<Entry<'static>>
+    /// One half step of a device's controller, which lives: it writes at most one entry.
+    pub(crate) fn turn<K: Sink>(
+        &mut self,
+        device: u8,
+        room: &mut Room,
+        sink: &mut K,
+    ) -> Result<(), Failed>
         requires ready { IsReady self.old }
         requires living { IsTrue (is_living_in self.old device) }
-        ensures takes { Takes HalfSteps.half self.old self.new device result }
+        ensures speaks { Speaks HalfSteps.half self.old self.new device (K.held sink.old) (K.held sink.new) (K.faults sink.old) (K.faults sink.new) result }
         ensures living { (d : ℕ) → is_living_in self.new d ≡ is_living_in self.old d }
         ensures time { (self.new.cycle ≡ self.old.cycle) }
         ensures half_steps { self.new.half_steps ≡ self.old.half_steps }
         ensures names { self.new.devices.names ≡ self.old.devices.names }
-        ensures fits { IfSome result Fits }
     {
         if self.controllers.get(device).has_request() {
-            self.hear(device)
+            self.hear(device, room, sink)
         } else {
-            self.ask(device)
+            self.ask(device, room, sink)
         }
     }
 
-    /// No request stands: what the controller does next.
-    fn ask(&mut self, device: u8) -> Option<Entry<'static>>
+    /// No request stands: what the controller does next. A request that goes out is put on the wire.
+    fn ask<K: Sink>(&mut self, device: u8, room: &mut Room, sink: &mut K) -> Result<(), Failed>
         requires ready { IsReady self.old }
         requires living { IsTrue (is_living_in self.old device) }
         requires heard { IsHeard (states_of self.old.controllers device).current }
-        ensures takes { Takes HalfSteps.half self.old self.new device result }
-        ensures same { self.new ≡ record self.old { controllers = self.new.controllers } }
+        ensures speaks { Speaks HalfSteps.half self.old self.new device (K.held sink.old) (K.held sink.new) (K.faults sink.old) (K.faults sink.new) result }
+        ensures same { self.new ≡ record self.old { controllers = self.new.controllers; wire = self.new.wire } }
         ensures dead { dead_of self.new.controllers ≡ dead_of self.old.controllers }
-        ensures fits { IfSome result Fits }
     {
         match self.controllers.next(device, self.cycle, &self.directory) {
             Next::Send { to, request } => {
                 let own = self.number(device);
-                Some(Entry::Async(request_packet(own, to, PROCEDURE_LABEL, &request)))
+                let packet = request_packet(own, to, PROCEDURE_LABEL, &request);
+                self.wire.put(own, &packet);
+                match self.wire.get(own) {
+                    Some(bytes) => give_packet(self.cycle, bytes, &mut room.entry, sink),
+                    None => Ok(()),
+                }
             }
-            Next::End { slot, outcome } => Some(outcome_entry(device, slot, outcome)),
-            Next::Idle | Next::Waiting { .. } => None,
+            Next::End { slot, outcome } => give(
+                self.cycle,
+                Some(outcome_entry(device, slot, outcome)),
+                room,
+                sink,
+            ),
+            Next::Idle | Next::Waiting { .. } => Ok(()),
         }
     }
 
-    /// A request stands: the node that it went to carries it out, and the controller hears the reply.
-    fn hear(&mut self, device: u8) -> Option<Entry<'static>>
+    /// A request stands: the node that it went to reads its bytes off the wire and carries it out, and the controller hears the
+    /// reply in the bytes of the response.
+    fn hear<K: Sink>(&mut self, device: u8, room: &mut Room, sink: &mut K) -> Result<(), Failed>
         requires ready { IsReady self.old }
         requires living { IsTrue (is_living_in self.old device) }
         requires standing { IsStanding (states_of self.old.controllers device).current }
-        ensures takes { Takes HalfSteps.half self.old self.new device result }
+        ensures speaks { Speaks HalfSteps.half self.old self.new device (K.held sink.old) (K.held sink.new) (K.faults sink.old) (K.faults sink.new) result }
         ensures living { (d : ℕ) → is_living_in self.new d ≡ is_living_in self.old d }
         ensures time { (self.new.cycle ≡ self.old.cycle) }
         ensures half_steps { self.new.half_steps ≡ self.old.half_steps }
         ensures names { self.new.devices.names ≡ self.old.devices.names }
-        ensures fits { IfSome result Fits }
+    {
+        let Some(target) = self.target(device) else {
+            return Ok(());
+        };
+        let own = self.number(device);
+        let Some(bytes) = self.wire.take(own, &mut room.request) else {
+            return Ok(());
+        };
+        self.devices
+            .take(target, self.cycle, bytes, &mut room.response);
+        let Some(reply) = reply_at(&room.response) else {
+            return Ok(());
+        };
+        self.controllers.hear(device, &reply);
+        give_packet(self.cycle, &room.response, &mut room.entry, sink)
+    }
+
+    /// The device of the node to which the request that stands of a device's controller went. None where none stands.
+    fn target(&self, device: u8) -> Option<u8>
+        requires { device < count_of self.now.controllers }
+        ensures target { result ≡ target_in self.now device }
+        ensures fits { IfSome (standing_in (states_of self.now.controllers device).current) (λ a. TargetFits a.target) }
     {
         let access = self.controllers.get(device).standing()?;
         let to = self.directory.addressee(access.target)?;
-        let target = self.device_at(to)?;
-        let own = self.number(device);
-        let request = request_packet(own, to, PROCEDURE_LABEL, &access.request());
-        let response = self.devices.answer(target, self.cycle, &request);
-        let reply = reply_in(&response)?;
-        self.controllers.hear(device, &reply);
-        Some(Entry::Async(response))
+        self.device_at(to)
     }
 
     /// The device that is the node with this number.

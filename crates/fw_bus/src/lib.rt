@@ -13,6 +13,7 @@ mod half;
 mod lives;
 mod machine;
 mod reset;
+mod room;
 mod rules;
 mod second;
 mod steps;

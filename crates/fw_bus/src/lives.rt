@@ -14,7 +14,7 @@ ghost use Rattle.fw_bus.specs.Tables.{states_of};
 use crate::entries::{died, started};
 use crate::give::give;
 use crate::machine::Machine;
-use fw_entry::EntryRoom;
+use crate::room::Room;
 use fw_outside::{Failed, Sink};
 use fw_run::Wanted;
 
@@ -56,7 +56,7 @@ impl Machine {
     fn carry_request<K: Sink>(
         &mut self,
         device: u8,
-        room: &mut EntryRoom,
+        room: &mut Room,
         sink: &mut K,
     ) -> Result<(), Failed>
         requires ready { IsReady self.old }
@@ -65,22 +65,18 @@ impl Machine {
         ensures does { Does (Acts (CarryOut device ∷ [])) self.old self.new (K.held sink.old) (K.held sink.new) (K.faults sink.old) (K.faults sink.new) result }
         ensures living { IsTrue (is_living_in self.new device) }
     {
-        let entry = self.turn(device);
-        give(self.cycle, entry, room, sink)
+        self.turn(device, room, sink)
     }
 
     /// A device's controller stops.
-    fn stop<K: Sink>(
-        &mut self,
-        device: u8,
-        room: &mut EntryRoom,
-        sink: &mut K,
-    ) -> Result<(), Failed>
+    fn stop<K: Sink>(&mut self, device: u8, room: &mut Room, sink: &mut K) -> Result<(), Failed>
         requires ready { IsReady self.old }
         requires living { IsTrue (is_living_in self.old device) }
         ensures { Does (Acts (Dies device ∷ [])) self.old self.new (K.held sink.old) (K.held sink.new) (K.faults sink.old) (K.faults sink.new) result }
     {
         self.controllers.die(device);
+        let own = self.number(device);
+        let _ = self.wire.take(own, &mut room.request);
         give(self.cycle, Some(died(device)), room, sink)
     }
 
@@ -88,7 +84,7 @@ impl Machine {
     fn stop_late<K: Sink>(
         &mut self,
         device: u8,
-        room: &mut EntryRoom,
+        room: &mut Room,
         sink: &mut K,
     ) -> Result<(), Failed>
         requires ready { IsReady self.old }
@@ -105,7 +101,7 @@ impl Machine {
         &mut self,
         device: u8,
         late: bool,
-        room: &mut EntryRoom,
+        room: &mut Room,
         sink: &mut K,
     ) -> Result<(), Failed>
         requires ready { IsReady self.old }
@@ -123,7 +119,7 @@ impl Machine {
     pub(crate) fn start<K: Sink>(
         &mut self,
         device: u8,
-        room: &mut EntryRoom,
+        room: &mut Room,
         sink: &mut K,
     ) -> Result<(), Failed>
         requires ready { IsReady self.old }

@@ -1,11 +1,12 @@
 ghost use Rattle.std.specs.Prelude.{◌≡◌, ◌<◌, ◌≤◌, ℕ, IfOk, IsTrue, Some, length};
 ghost use Rattle.fw_run.specs.State.{State, first_state, living};
 ghost use Rattle.fw_run.specs.Good.{IsGood};
-ghost use Rattle.fw_run.specs.HalfSteps.{is_unsettled};
+ghost use Rattle.fw_run.specs.HalfSteps.{is_busy_at, is_unsettled};
 ghost use Rattle.fw_devices.specs.Network.{is_node, node_at};
 ghost use Rattle.fw_bus.specs.Stands.{StandsFor, IsReady, is_linked_in, is_living_in, living_in};
 
 use crate::controllers::Controllers;
+use fw_async::Wire;
 use fw_cmp::Directory;
 use fw_devices::Devices;
 use std::alloc::{AllocError, Global};
@@ -18,6 +19,8 @@ pub(crate) const SECOND: u64 = 8000;
 pub struct Machine {
     pub devices: Devices,
     pub controllers: Controllers,
+    /// The requests that stand, by the number of the node that asks.
+    pub wire: Wire,
     /// What controllers know of the bus since the latest bus reset.
     pub directory: Directory,
     /// The isochronous cycle, 125 microseconds each, from 0.
@@ -36,6 +39,7 @@ impl Machine {
         Ok(Machine {
             devices: Devices::new(alloc)?,
             controllers: Controllers::new(alloc)?,
+            wire: Wire::new(),
             directory: Directory {
                 node: [None; 63],
                 manager: None,
@@ -94,18 +98,27 @@ impl Machine {
         }
     }
 
+    /// Whether the controller of a device, which lives, has something to do, or waits for an answer.
+    fn is_busy(&self, device: u8) -> bool
+        requires ready { IsReady self.now }
+        requires living { IsTrue (is_living_in self.now device) }
+        ensures { (s : State) → IsGood s → StandsFor self.now s → result ≡ is_busy_at s device }
+    {
+        if self.controllers.is_calm(device) {
+            return false;
+        }
+        self.controllers
+            .get(device)
+            .busy(self.cycle, &self.directory)
+    }
+
     /// Whether a living controller has something to do, or waits for an answer.
     pub(crate) fn is_unsettled(&self) -> bool
         requires ready { IsReady self.now }
         ensures { (s : State) → IsGood s → StandsFor self.now s → result ≡ is_unsettled s }
     {
         for device in 0..self.devices.count() {
-            if self.is_living(device)
-                && self
-                    .controllers
-                    .get(device)
-                    .busy(self.cycle, &self.directory)
-            {
+            if self.is_living(device) && self.is_busy(device) {
                 return true;
             }
         }

@@ -12,9 +12,10 @@ ghost use Rattle.fw_devices.specs.Network.{is_node};
 
 use crate::give::give;
 use crate::machine::{Machine, SECOND};
+use crate::room::Room;
 use fw_base::DeviceKind;
 use fw_cmp::Directory;
-use fw_entry::{Entry, EntryRoom};
+use fw_entry::Entry;
 use fw_outside::{Failed, Sink};
 use fw_script::Name;
 use fw_tree::End;
@@ -57,13 +58,14 @@ impl Machine {
         self.devices.reset(initiator);
         self.directory = self.directory_now();
         self.controllers.reset(self.devices.epoch());
+        self.wire.clear();
     }
 
     /// A bus reset, whose entry is written.
     fn give_reset<K: Sink>(
         &mut self,
         initiator: u8,
-        room: &mut EntryRoom,
+        room: &mut Room,
         sink: &mut K,
     ) -> Result<(), Failed>
         requires declared { initiator < length self.old.devices.nodes }
@@ -85,7 +87,7 @@ impl Machine {
     pub(crate) fn reset<K: Sink>(
         &mut self,
         device: u8,
-        room: &mut EntryRoom,
+        room: &mut Room,
         sink: &mut K,
     ) -> Result<(), Failed>
         requires ready { IsReady self.old }
@@ -103,7 +105,7 @@ impl Machine {
         kind: DeviceKind,
         ports: u8,
         speed: u8,
-        room: &mut EntryRoom,
+        room: &mut Room,
         sink: &mut K,
     ) -> Result<(), Failed>
         requires ready { IsReady self.old }
@@ -128,7 +130,7 @@ impl Machine {
         &mut self,
         a: End,
         b: End,
-        room: &mut EntryRoom,
+        room: &mut Room,
         sink: &mut K,
     ) -> Result<(), Failed>
         requires ready { IsReady self.old }

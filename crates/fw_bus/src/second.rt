@@ -11,7 +11,7 @@ ghost use Rattle.fw_bus.specs.Stands.{IsReady};
 use crate::entries::second_over;
 use crate::give::give;
 use crate::machine::Machine;
-use fw_entry::EntryRoom;
+use crate::room::Room;
 use fw_outside::{Failed, Sink};
 
 impl Machine {
@@ -24,7 +24,7 @@ impl Machine {
     }
 
     /// One cycle goes by, and the second of the latest bus reset is over.
-    fn end_second<K: Sink>(&mut self, room: &mut EntryRoom, sink: &mut K) -> Result<(), Failed>
+    fn end_second<K: Sink>(&mut self, room: &mut Room, sink: &mut K) -> Result<(), Failed>
         requires runs { IsTrue self.old.reclaiming }
         requires now { self.old.cycle + 1 ≡ self.old.directory.over_at }
         requires few { self.old.cycle + 1 ≤ 2 ^ 52 }
@@ -42,7 +42,7 @@ impl Machine {
     pub(crate) fn wait<K: Sink>(
         &mut self,
         cycles: u32,
-        room: &mut EntryRoom,
+        room: &mut Room,
         sink: &mut K,
     ) -> Result<(), Failed>
         requires ready { IsReady self.old }
@@ -59,12 +59,7 @@ impl Machine {
     }
 
     /// Cycles go by, and the second is over on the way.
-    fn wait_over<K: Sink>(
-        &mut self,
-        last: u64,
-        room: &mut EntryRoom,
-        sink: &mut K,
-    ) -> Result<(), Failed>
+    fn wait_over<K: Sink>(&mut self, last: u64, room: &mut Room, sink: &mut K) -> Result<(), Failed>
         requires ready { IsReady self.old }
         requires runs { IsTrue self.old.reclaiming }
         requires over { self.old.directory.over_at ≤ last }

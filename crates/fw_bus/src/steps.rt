@@ -13,7 +13,7 @@ ghost use Rattle.fw_bus.specs.Stands.{IsReady, StandsFor, is_living_in, living_i
 use crate::entries::unsettled;
 use crate::give::give;
 use crate::machine::Machine;
-use fw_entry::EntryRoom;
+use crate::room::Room;
 use fw_outside::{Failed, Sink};
 
 impl Machine {
@@ -21,7 +21,7 @@ impl Machine {
     fn half_step<K: Sink>(
         &mut self,
         device: u8,
-        room: &mut EntryRoom,
+        room: &mut Room,
         sink: &mut K,
     ) -> Result<(), Failed>
         requires ready { IsReady self.old }
@@ -32,9 +32,13 @@ impl Machine {
         ensures names { self.new.devices.names ≡ self.old.devices.names }
         ensures count { self.new.half_steps ≡ self.old.half_steps + 1 }
     {
-        let entry = self.turn(device);
+        if self.controllers.is_calm(device) {
+            self.half_steps += 1;
+            return Ok(());
+        }
+        let result = self.turn(device, room, sink);
         self.half_steps += 1;
-        give(self.cycle, entry, room, sink)
+        result
     }
 
     /// Half steps of a device's controller.
@@ -42,7 +46,7 @@ impl Machine {
         &mut self,
         device: u8,
         count: u32,
-        room: &mut EntryRoom,
+        room: &mut Room,
         sink: &mut K,
     ) -> Result<(), Failed>
         requires ready { IsReady self.old }
@@ -57,7 +61,7 @@ impl Machine {
     }
 
     /// One round: each living controller, in order of declaration, takes one half step.
-    fn round<K: Sink>(&mut self, room: &mut EntryRoom, sink: &mut K) -> Result<(), Failed>
+    fn round<K: Sink>(&mut self, room: &mut Room, sink: &mut K) -> Result<(), Failed>
         requires ready { IsReady self.old }
         requires few { self.old.half_steps + length (living_in self.old) ≤ 4000000 }
         ensures does { Does OneRound self.old self.new (K.held sink.old) (K.held sink.new) (K.faults sink.old) (K.faults sink.new) result }
@@ -85,12 +89,7 @@ impl Machine {
     }
 
     /// Rounds. Where no controller has anything to do, all further ones are taken at once.
-    fn rounds<K: Sink>(
-        &mut self,
-        count: u32,
-        room: &mut EntryRoom,
-        sink: &mut K,
-    ) -> Result<(), Failed>
+    fn rounds<K: Sink>(&mut self, count: u32, room: &mut Room, sink: &mut K) -> Result<(), Failed>
         requires ready { IsReady self.old }
         requires few { self.old.half_steps + count * length (living_in self.old) ≤ 4000000 }
         ensures does { Does (SomeRounds count) self.old self.new (K.held sink.old) (K.held sink.new) (K.faults sink.old) (K.faults sink.new) result }
@@ -106,7 +105,7 @@ impl Machine {
     }
 
     /// Where a living controller has something to do, or waits for an answer, that is written.
-    fn tell_unsettled<K: Sink>(&mut self, room: &mut EntryRoom, sink: &mut K) -> Result<(), Failed>
+    fn tell_unsettled<K: Sink>(&mut self, room: &mut Room, sink: &mut K) -> Result<(), Failed>
         requires ready { IsReady self.old }
         ensures does { Does LooksBack self.old self.new (K.held sink.old) (K.held sink.new) (K.faults sink.old) (K.faults sink.new) result }
     {
@@ -121,7 +120,7 @@ impl Machine {
     pub(crate) fn settle<K: Sink>(
         &mut self,
         count: u32,
-        room: &mut EntryRoom,
+        room: &mut Room,
         sink: &mut K,
     ) -> Result<(), Failed>
         requires ready { IsReady self.old }

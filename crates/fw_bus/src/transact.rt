@@ -14,9 +14,10 @@ ghost use Rattle.fw_bus.specs.Stands.{IsReady, is_linked_in, is_living_in, read_
 use crate::entries::shown_entry;
 use crate::give::give;
 use crate::machine::Machine;
+use crate::room::Room;
 use fw_async::Packet;
 use fw_csr::{Reply, Request};
-use fw_entry::{Entry, EntryRoom};
+use fw_entry::Entry;
 use fw_node::request_packet;
 use fw_outside::{Failed, Sink};
 use fw_run::{Access, Transaction};
@@ -73,7 +74,7 @@ impl Machine {
     pub(crate) fn transact<K: Sink>(
         &mut self,
         transaction: Transaction,
-        room: &mut EntryRoom,
+        room: &mut Room,
         sink: &mut K,
     ) -> Result<(), Failed>
         requires ready { IsReady self.old }
@@ -104,7 +105,7 @@ impl Machine {
         &mut self,
         device: u8,
         offset: u16,
-        room: &mut EntryRoom,
+        room: &mut Room,
         sink: &mut K,
     ) -> Result<(), Failed>
         requires ready { IsReady self.old }

@@ -14,3 +14,4 @@ pub mod Deciding
 pub mod Outcomes
 pub mod OfAnswers
 pub mod Starting
+pub mod Turning

@@ -145,3 +145,9 @@ pub idle_stays : (now : ℕ) (d : Directory) (c : ControllerState) → Fits c �
 idle_stays now d c fits heard e =
     let h : Rests now d c = rests_from now d c.slots c.waiting c.current fits heard e in
     subst (λ (x : Current). after_next now d (record c { current = x }) ≡ record c { current = x }) (sym h.current) (rest_stays now d c.slots c.waiting h.unpicked)
+
+-- so does one that has no job
+pub rest_same : (now : ℕ) (d : Directory) (c : ControllerState) → IsAtRest c → after_next now d c ≡ c
+rest_same now d c h =
+    let none : Unpicked now d c.slots c.waiting = rw h.waiting (rest_unpicked now d c.slots h.no_job.restoring) in
+    subst (λ (x : Current). after_next now d (record c { current = x }) ≡ record c { current = x }) (sym h.no_job.current) (rest_stays now d c.slots c.waiting none)

@@ -4,6 +4,7 @@ ghost use Rattle.std.specs.Prelude.{◌≡◌, ◌<◌, IsTrue, IsFalse};
 ghost use Rattle.fw_cmp.specs.Fits.{JobFits, StageFits, FlowFits, SlotFits, ConnectionFits};
 ghost use Rattle.fw_cmp.specs.Turns.{own_flow, begin_making, begin_leaving, begin_breaking, begin, is_undecided, is_over, is_late, resumed, outcome_for, made_outcome, outcome_of};
 ghost use Rattle.fw_cmp.specs.Controllers.{job_for};
+ghost use Rattle.fw_cmp.specs.declared.directory.Directory.{Directory as BusDirectory};
 ghost use Rattle.std.specs.Prelude.{Some};
 
 use crate::input::channel_or;
@@ -114,8 +115,8 @@ impl Job {
     }
 
     /// The job holds no channel and has no connection at a plug, and no answer has decided its outcome.
-    fn is_undecided(&self, stage: Stage) -> bool
-        ensures { result ≡ is_undecided self.now stage }
+    fn is_undecided(&self, stage: &Stage) -> bool
+        ensures { result ≡ is_undecided self.now stage.now }
     {
         match stage {
             Stage::Begin
@@ -129,10 +130,20 @@ impl Job {
     }
 
     /// The job restores a connection whose slot's own second is over, and has come to nothing yet.
-    fn is_late(&self, slot: Slot, stage: Stage) -> bool
-        ensures { result ≡ is_late slot self.now stage }
+    fn is_late(&self, slot: &Slot, stage: &Stage) -> bool
+        ensures { result ≡ is_late slot.now self.now stage.now }
     {
         self.restores() && slot.is_over() && self.is_undecided(stage)
+    }
+
+    /// Whether the job goes on from another stage than this one: it begins, or is late; `slot` is its slot.
+    pub(crate) fn moves_on(&self, slot: &Slot, stage: &Stage) -> bool
+        ensures { (d : BusDirectory) → IsFalse result → resumed d slot.now self.now stage.now ≡ stage.now }
+    {
+        match stage {
+            Stage::Begin => true,
+            _ => self.is_late(slot, stage),
+        }
     }
 
     /// The stage from which the job goes on; `slot` is its slot.
@@ -144,7 +155,7 @@ impl Job {
         ensures value { result ≡ resumed directory.now slot self.now stage }
         ensures fits { StageFits self.now result }
     {
-        if self.is_late(slot, stage) {
+        if self.is_late(&slot, &stage) {
             return Stage::Ended(Ending::Late);
         }
         match stage {

@@ -233,8 +233,8 @@ impl Controller {
         ensures fits { Fits self.new }
         ensures goes_on { (d : BusDirectory) → CanGoOn d self.old → CanGoOn d self.new }
     {
-        if let Current::Hearing(job, stage) = self.current {
-            self.current = Current::Asking(job, job.hear(stage, r));
+        if let Current::Hearing(job, stage) = &self.current {
+            self.current = Current::Asking(*job, job.hear(*stage, r));
         }
     }
 

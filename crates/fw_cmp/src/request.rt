@@ -79,6 +79,15 @@ impl Job {
         requires fits { StageFits self.now stage }
         ensures { result ≡ access_of self.now stage }
     {
+        self.access_at(&stage)
+    }
+
+    /// What a stage that is only looked at asks.
+    pub(crate) fn access_at(&self, stage: &Stage) -> Option<Access>
+        requires job { JobFits self.now }
+        requires fits { StageFits self.now stage.now }
+        ensures { result ≡ access_of self.now stage.now }
+    {
         let target = self.target(stage)?;
         Some(Access {
             target,
@@ -87,10 +96,10 @@ impl Job {
     }
 
     /// The register of a stage's request; None where it makes none.
-    fn target(&self, stage: Stage) -> Option<Target>
-        ensures { result ≡ target_of self.now stage }
+    fn target(&self, stage: &Stage) -> Option<Target>
+        ensures { result ≡ target_of self.now stage.now }
     {
-        match stage {
+        match *stage {
             Stage::ReadOutput
             | Stage::ConnectOutput(..)
             | Stage::OverlayOutput(_)
@@ -113,13 +122,13 @@ impl Job {
     }
 
     /// The swap of a stage, where it makes one.
-    fn swap(&self, stage: Stage) -> Option<Swap>
+    fn swap(&self, stage: &Stage) -> Option<Swap>
         requires job { JobFits self.now }
-        requires fits { StageFits self.now stage }
-        ensures { result ≡ swap_of self.now stage }
+        requires fits { StageFits self.now stage.now }
+        ensures { result ≡ swap_of self.now stage.now }
     {
         let kind = self.connection.kind();
-        let (argument, new) = match stage {
+        let (argument, new) = match *stage {
             Stage::SwapChannels(channel, arg, _) => {
                 (arg, without_bit(arg, channel - half_of(channel)))
             }

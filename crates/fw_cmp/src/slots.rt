@@ -31,23 +31,21 @@ impl Slot {
         matches!(self, Slot::Standing(..) | Slot::Restoring(..))
     }
 
-    /// What a bus reset makes of it: a connection that stands is to be restored.
-    fn after_reset(self) -> Slot
-        ensures { result ≡ slot_reset self }
+    /// A bus reset: a connection that stands is to be restored.
+    fn reset(&mut self)
+        ensures { self.new ≡ slot_reset self.old }
     {
-        match self {
-            Slot::Standing(connection, flow) => Slot::Restoring(connection, flow, false),
-            other => other,
+        if let Slot::Standing(connection, flow) = *self {
+            *self = Slot::Restoring(connection, flow, false);
         }
     }
 
-    /// What the end of the reclaim second makes of it.
-    fn after_second(self) -> Slot
-        ensures { result ≡ slot_over self }
+    /// The end of the reclaim second.
+    fn second_over(&mut self)
+        ensures { self.new ≡ slot_over self.old }
     {
-        match self {
-            Slot::Restoring(connection, flow, _) => Slot::Restoring(connection, flow, true),
-            other => other,
+        if let Slot::Restoring(connection, flow, _) = *self {
+            *self = Slot::Restoring(connection, flow, true);
         }
     }
 
@@ -113,7 +111,7 @@ pub(crate) fn reset(slots: &mut [Slot; 32])
     ensures { slots.new ≡ map slot_reset slots.old }
 {
     for slot in slots.iter_mut() {
-        *slot = slot.after_reset();
+        slot.reset();
     }
 }
 
@@ -122,6 +120,6 @@ pub(crate) fn second_over(slots: &mut [Slot; 32])
     ensures { slots.new ≡ map slot_over slots.old }
 {
     for slot in slots.iter_mut() {
-        *slot = slot.after_second();
+        slot.second_over();
     }
 }

@@ -4,13 +4,14 @@ ghost use Rattle.std.specs.Prelude.{◌≡◌, ◌<◌, ◌↔◌, ℕ, IsTrue, 
 ghost use Rattle.fw_cmp.specs.declared.connection.Slot.TheVariants.{Free};
 ghost use Rattle.fw_cmp.specs.Controllers.{Fits, CurrentFits, IsHeard, IsStanding};
 ghost use Rattle.fw_cmp.specs.Fits.{TargetFits, SlotFits};
+ghost use Rattle.fw_cmp.specs.declared.directory.Directory.{Directory as BusDirectory};
 ghost use Rattle.fw_cmp.specs.Holdings.{CanGoOn, CurrentReached};
 ghost use Rattle.fw_cmp.specs.Causes.{IsAtRest, IsHeldBack};
 ghost use Rattle.fw_cmp.specs.Outcomes.{EndsWithCause};
 ghost use Rattle.fw_cmp.specs.Nodes.{HasNodeNumbers};
 ghost use Rattle.fw_cmp.specs.Requests.{addressee_of, standing_in};
-ghost use Rattle.fw_cmp.specs.Turns.{addressee_in, picked, can_pick, current_for, resumed_current, is_break, ready, slot_after, ended, sending, rests, answer_of, after_answer, next, after_next, is_busy};
-ghost use Rattle.fw_cmp.specs.declared.current.Current.TheVariants.{Asking};
+ghost use Rattle.fw_cmp.specs.Turns.{addressee_in, picked, can_pick, current_for, resumed_current, going, is_break, slot_after, ended, sending, rests, answer_of, after_answer, next, after_next, is_busy};
+ghost use Rattle.fw_cmp.specs.declared.current.Current.TheVariants.{Asking, Nothing};
 
 use crate::{Access, Controller, Current, Directory, Job, Next, Slot, Stage, Task, slots};
 use arrayvec::ArrayVec;
@@ -51,22 +52,18 @@ fn job_of(slots: &[Slot; 32], slot: u8) -> Current
     }
 }
 
-/// The current job, or the next one, taken in the order of jobs: connections to be restored, lowest slot first; then
-/// the first waiting break; then the first other waiting job, where no reclaim second runs.
+/// The next job, taken in the order of jobs: connections to be restored, lowest slot first; then the first waiting
+/// break; then the first other waiting job, where no reclaim second runs.
 fn pick(
     now: u64,
     directory: &Directory,
     slots: &[Slot; 32],
     waiting: &mut ArrayVec<Task, 8>,
-    current: Current,
 ) -> Current
     requires slots { All (λ t. t.slot < 32) waiting.old.items }
-    ensures current { result ≡ (picked now directory.now (record { slots = slots.now; waiting = waiting.old.items; current = current })).current }
-    ensures waiting { waiting.new.items ≡ (picked now directory.now (record { slots = slots.now; waiting = waiting.old.items; current = current })).waiting }
+    ensures current { result ≡ (picked now directory.now (record { slots = slots.now; waiting = waiting.old.items; current = Nothing })).current }
+    ensures waiting { waiting.new.items ≡ (picked now directory.now (record { slots = slots.now; waiting = waiting.old.items; current = Nothing })).waiting }
 {
-    if !matches!(current, Current::Nothing) {
-        return current;
-    }
     if let Some(slot) = slots::first_restoring(slots) {
         return job_of(slots, slot);
     }
@@ -120,7 +117,8 @@ impl Controller {
         ensures ended { EndsWithCause now directory.now self.old result }
         ensures addressee { IfSome (addressee_in result) (λ to. to < 63) }
     {
-        self.get_ready(now, directory);
+        self.take(now, directory);
+        self.go_on(directory);
         self.answer(now, directory)
     }
 
@@ -137,8 +135,8 @@ impl Controller {
         ensures access { result ≡ standing_in self.now.current }
         ensures target { IfSome result (λ a. TargetFits a.target) }
     {
-        match self.current {
-            Current::Hearing(job, stage) => job.access(stage),
+        match &self.current {
+            Current::Hearing(job, stage) => job.access_at(stage),
             _ => None,
         }
     }
@@ -154,16 +152,50 @@ impl Controller {
         }
     }
 
-    /// The job that is current, or becomes so, goes on.
-    fn get_ready(&mut self, now: u64, directory: &Directory)
-        requires reached { CanGoOn directory.now self.old }
-        ensures state { self.new ≡ ready now directory.now self.old }
+    /// A job is current.
+    fn has_job(&self) -> bool
+        ensures none { IsFalse result → self.now.current ≡ Nothing }
+        ensures some { (now : ℕ) → (d : BusDirectory) → IsTrue result → picked now d self.now ≡ self.now }
+        ensures fits { Fits self.now }
+    {
+        match &self.current {
+            Current::Nothing => false,
+            Current::Asking(..) | Current::Hearing(..) | Current::Overtaken(..) => true,
+        }
+    }
+
+    /// The next job becomes current, where none is.
+    fn take(&mut self, now: u64, directory: &Directory)
+        ensures state { self.new ≡ picked now directory.now self.old }
         ensures before { Fits self.old }
         ensures fits { Fits self.new }
-        ensures reached { CurrentReached directory.now self.new.current }
     {
-        let current = pick(now, directory, &self.slots, &mut self.waiting, self.current);
-        self.current = resume(directory, &self.slots, current);
+        if self.has_job() {
+            return;
+        }
+        self.current = pick(now, directory, &self.slots, &mut self.waiting);
+    }
+
+    /// The current job goes on from another stage than that at which it stands: it begins, or restores too late.
+    fn turns(&self) -> bool
+        ensures stays { (d : BusDirectory) → IsFalse result → going d self.now ≡ self.now }
+        ensures fits { Fits self.now }
+    {
+        match &self.current {
+            Current::Asking(job, stage) => job.moves_on(&self.slots[job.slot as usize], stage),
+            Current::Nothing | Current::Hearing(..) | Current::Overtaken(..) => false,
+        }
+    }
+
+    /// The current job goes on from its stage.
+    fn go_on(&mut self, directory: &Directory)
+        ensures state { self.new ≡ going directory.now self.old }
+        ensures fits { Fits self.new }
+    {
+        if !self.turns() {
+            return;
+        }
+        self.current = resume(directory, &self.slots, self.current);
     }
 
     /// The request of the current job, or its outcome.
@@ -175,14 +207,15 @@ impl Controller {
         ensures fits { Fits self.new }
         ensures addressee { IfSome (addressee_in result) (λ to. to < 63) }
     {
-        match self.current {
+        match &self.current {
             Current::Nothing => self.rest(directory),
-            Current::Asking(job, stage) => match job.access(stage) {
+            Current::Asking(job, stage) => match job.access_at(stage) {
                 Some(access) => {
-                    self.current = Current::Hearing(job, stage);
+                    self.current = Current::Hearing(*job, *stage);
                     send(directory, access)
                 }
                 None => {
+                    let (job, stage) = (*job, *stage);
                     self.end(job, stage);
                     Next::End {
                         slot: job.slot,
@@ -192,8 +225,12 @@ impl Controller {
             },
             Current::Hearing(..) => Next::Idle,
             Current::Overtaken(slot, outcome) => {
+                let end = Next::End {
+                    slot: *slot,
+                    outcome: *outcome,
+                };
                 self.current = Current::Nothing;
-                Next::End { slot, outcome }
+                end
             }
         }
     }

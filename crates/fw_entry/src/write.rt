@@ -1,7 +1,10 @@
 //! A log's header and its entries, as bytes.
 
-ghost use Rattle.std.specs.Prelude.{◌≡◌, OnOk};
+ghost use Rattle.std.specs.Prelude.{◌≡◌, ◌/◌, ◌++◌, length, OnOk};
 ghost use Rattle.fw_outside.specs.Outside.{HasCause, Writes};
+ghost use Rattle.fw_async.specs.Reader.{Spells, IsPacket};
+ghost use Rattle.fw_async.specs.declared.packet.Packet.{Packet};
+ghost use Rattle.fw_entry.specs.declared.entry.Entry.TheVariants.{Async};
 ghost use Rattle.fw_entry.specs.Log.{header_bytes, entry_head, entry_bytes, kind_of, body, Fits, TimedFits};
 
 use crate::codes::kind;
@@ -41,15 +44,21 @@ fn kind_of(what: &Entry) -> u8
     }
 }
 
+// An entry's head.
+fn head_of(kind: u8, quadlets: u16, cycle: u64) -> [u8; 12]
+    ensures { result ≡ entry_head kind quadlets cycle }
+{
+    let [high, low] = quadlets.to_be_bytes();
+    let [a, b, c, d, e, f, g, h] = cycle.to_be_bytes();
+    [kind, 0, high, low, a, b, c, d, e, f, g, h]
+}
+
 // An entry's head, in place of what was there.
 fn put_head(kind: u8, quadlets: u16, cycle: u64, out: &mut EntryBytes)
     ensures { out.new ≡ entry_head kind quadlets cycle }
 {
     out.clear();
-    out.push(kind);
-    out.push(0);
-    out.append(&quadlets.to_be_bytes());
-    out.append(&cycle.to_be_bytes());
+    out.append(&head_of(kind, quadlets, cycle));
 }
 
 // An entry, in place of what was there.
@@ -61,6 +70,15 @@ fn put_entry(t: &Timed, out: &mut EntryBytes)
     put_body(&t.what, out);
 }
 
+// The entry of a packet with these bytes, in place of what was there.
+fn put_packet(cycle: u64, packet: &[u8], out: &mut EntryBytes)
+    requires { IsPacket packet.now }
+    ensures { out.new ≡ entry_head 2 (length packet.now / 4) cycle ++ packet.now }
+{
+    put_head(kind::ASYNC, (packet.len() / 4) as u16, cycle, out);
+    out.append(packet);
+}
+
 /// Appends an entry, in one write. An error says that the sink failed; a front of the entry may have been written
 /// then. The room is used for it, whatever an earlier entry left there.
 pub fn write_entry<K: Sink>(t: &Timed, room: &mut EntryRoom, sink: &mut K) -> Result<(), Failed>
@@ -70,6 +88,23 @@ pub fn write_entry<K: Sink>(t: &Timed, room: &mut EntryRoom, sink: &mut K) -> Re
     ensures same { OnOk result (K.faults sink.new ≡ K.faults sink.old) }
 {
     put_entry(t, &mut room.bytes);
+    sink.write(room.bytes.as_slice())
+}
+
+/// Appends the entry of an asynchronous packet whose bytes are at hand, in one write, so that they are not made again.
+/// An error says that the sink failed; a front of the entry may have been written then.
+pub fn write_async<K: Sink>(
+    cycle: u64,
+    packet: &[u8],
+    room: &mut EntryRoom,
+    sink: &mut K,
+) -> Result<(), Failed>
+    requires { IsPacket packet.now }
+    ensures bytes { (p : Packet) → Spells p packet.now → Writes (K.held sink.old) (K.held sink.new) result (entry_bytes (record { cycle = cycle; what = Async p })) }
+    ensures cause { HasCause (K.faults sink.old) (K.faults sink.new) result }
+    ensures same { OnOk result (K.faults sink.new ≡ K.faults sink.old) }
+{
+    put_packet(cycle, packet, &mut room.bytes);
     sink.write(room.bytes.as_slice())
 }
 

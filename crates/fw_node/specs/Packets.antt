@@ -1,8 +1,9 @@
 -- Request packets and the packets that answer them (IEEE 1394-1995, transactions; retry code 01 and priority 0 are own).
-use Rattle.std.specs.Prelude.{ℕ, ◌%◌, ◌^◌, ◌<◌, ◌≤◌, ◌==◌, IsTrue, List, [], length, Option, Some, None, if◌then◌else◌}
+use Rattle.std.specs.Prelude.{◌≡◌, ℕ, ◌%◌, ◌^◌, ◌<◌, ◌≤◌, ◌==◌, IsTrue, IsSome, List, [], length, Option, Some, None, if◌then◌else◌}
 use Rattle.std.specs.Int.{to_be_bytes, w32}
 use Rattle.fw_words.specs.Quadlet.{quadlet_at}
 use Rattle.fw_async.specs.Async.{AreBytes, is_lock_size}
+use Rattle.fw_async.specs.Reader.{Spells}
 use Rattle.fw_async.specs.declared.packet.Head.{Head}
 use Rattle.fw_async.specs.declared.packet.Packet.{Packet}
 use Rattle.fw_async.specs.declared.packet.Packet.TheVariants.{WriteQuadlet, WriteBlock, WriteReply, ReadQuadlet, ReadBlock, ReadQuadletReply, ReadBlockReply, Lock, LockReply}
@@ -89,3 +90,15 @@ response_with s p (Some r) = response_to s.number p (answer_of s r).reply
 -- the packet that answers a request packet to the node of this space
 abbrev pub response_of : Space → Packet → Option Packet
 response_of s p = response_with s p (request_in p)
+
+-- the bytes are a request packet
+pub record IsRequest (bytes : List ℕ) : Type 0 where
+  pub packet : Packet
+  pub spells : Spells packet bytes
+  pub asks : IsSome (request_in packet)
+
+-- the bytes are the packet that answers a request packet to the node of this space
+pub record IsAnswer (s : Space) (p : Packet) (bytes : List ℕ) : Type 0 where
+  pub packet : Packet
+  pub answers : response_of s p ≡ Some packet
+  pub spells : Spells packet bytes

@@ -1,6 +1,7 @@
 //! The nodes of the bus: each answers request packets from its registers (IEEE 1394-1995, 8; IEC 61883-1, 7).
 #![tactic(auto)]
 
+mod bytes;
 mod fcp;
 mod laws;
 mod node;
@@ -8,6 +9,7 @@ mod offset;
 mod request;
 mod response;
 
+pub use bytes::reply_at;
 pub use laws::{nodes_answer_as_their_spaces, packets_carry_what_they_are_made_of};
 pub use node::Node;
 pub use offset::{cycle_time, node_id};

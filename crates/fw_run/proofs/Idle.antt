@@ -34,7 +34,7 @@ asks_idle s d g heard idle =
     let stays = idle_stays s.clock.cycle (directory_of s) (s.controllers d) (g.reclaims.step.fits d) heard idle in
     λ i. record { says = says i; controller = stays i }
 
-half_idle : (s : State) (d : ℕ) → IsGood s → is_busy_at s d ≡ false → half s d ≡ record { says = None; controller = s.controllers d }
+pub half_idle : (s : State) (d : ℕ) → IsGood s → is_busy_at s d ≡ false → half s d ≡ record { says = None; controller = s.controllers d }
 half_idle s d g idle = go (s.controllers d).current refl
   where
     Quiet : Current → Type 0
@@ -57,7 +57,7 @@ half_idle s d g idle = go (s.controllers d).current refl
     go (Overtaken i o) e = rests (Overtaken i o) e tt refl
     go (Hearing j stage) e = absurd (let clash : true ≡ false = sym (ap has_request e) ∙ parts.0 in cc clash)
 
-half_stays : (s : State) (d : ℕ) → IsGood s → is_busy_at s d ≡ false → after_half s d ≡ s
+pub half_stays : (s : State) (d : ℕ) → IsGood s → is_busy_at s d ≡ false → after_half s d ≡ s
 half_stays s d g idle = ap (taken s d) (half_idle s d g idle) ∙ ap (λ f. record s { controllers = f }) (same_table s.controllers d (s.controllers d) refl)
 
 -- ---- the living controllers

@@ -2,14 +2,17 @@
 
 ghost use Rattle.std.specs.Prelude.{◌≡◌, ◌<◌, ℕ, Some, IsSome, IsTrue, length, map, slice_set};
 ghost use Rattle.fw_async.specs.Async.{Fits};
+ghost use Rattle.fw_async.specs.Reader.{Spells};
+ghost use Rattle.fw_async.specs.declared.packet.Packet.{Packet as RequestPacket};
 ghost use Rattle.fw_base.specs.Devices.{has_link};
 ghost use Rattle.fw_csr.specs.declared.request.Request.TheVariants.{Read};
-ghost use Rattle.fw_node.specs.Packets.{request_in, response_of};
+ghost use Rattle.fw_node.specs.Packets.{IsAnswer, IsRequest, request_in, response_of};
 ghost use Rattle.fw_node.specs.Space.{answer_of};
 ghost use Rattle.fw_node.specs.State.{after_request, after_second, space_of};
 ghost use Rattle.fw_devices.specs.Network.{node_at};
 
 use super::Devices;
+use arrayvec::ArrayVec;
 use fw_async::Packet;
 use fw_csr::Reply;
 use fw_node::Node;
@@ -36,6 +39,20 @@ impl Devices {
         ensures fits { Fits packet.now → Fits result }
     {
         self.nodes[usize::from(device)].carry_out(now, packet)
+    }
+
+    /// Carries the request packet that these bytes are to the node of a device out in cycle `now`, and writes the response's bytes
+    /// in place of what `out` held (`fw_node::Node::take_at_registers`).
+    pub fn take(&mut self, device: u8, now: u64, bytes: &[u8], out: &mut ArrayVec<u8, 528>)
+        requires request { IsRequest bytes.now }
+        requires declared { device < length self.old.nodes }
+        requires number { IsSome (node_at self.old.nodes device).number }
+        requires link { IsTrue (has_link (node_at self.old.nodes device).kind) }
+        ensures response { (p : RequestPacket) → Spells p bytes.now → (number : ℕ) → (node_at self.old.nodes device).number ≡ Some number
+            → IsAnswer (space_of number now (node_at self.old.nodes device)) p out.new.items }
+        ensures registers { (p : RequestPacket) → Spells p bytes.now → self.new ≡ record self.old { nodes = slice_set self.old.nodes device (after_request (request_in p) (node_at self.old.nodes device)) } }
+    {
+        self.nodes[usize::from(device)].take_at_registers(now, bytes, out);
     }
 
     /// What a quadlet read of the register at an offset of a device's node would be answered in cycle `now`.

@@ -50,8 +50,14 @@ fn commands<F: Fn(u16, u32, u16) -> [u8; 480], H: Fn(u32, u8) -> u8>(
     match packet_of(request.as_slice()) {
         Some(p) => {
             assert!(rt; matches!(p, Packet::WriteQuadlet { .. } | Packet::WriteBlock { .. }));
-            let response = node.answer(NOW, &p, desk);
-            assert!(rt; matches!(response, Packet::WriteReply { .. }));
+            let mut response = ArrayVec::new();
+            node.take(NOW, request.as_slice(), desk, &mut response);
+            assert!(rt;
+                matches!(
+                    packet_of(response.as_slice()),
+                    Some(Packet::WriteReply { .. })
+                )
+            );
         }
         None => panic!(rt; "no packet"),
     }

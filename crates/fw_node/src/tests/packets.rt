@@ -1,13 +1,13 @@
 //! Request packets and their responses, in quadlets.
 
 ghost use Rattle.std.specs.Prelude.{IfSome, IsSome, IsTrue};
-ghost use Rattle.fw_async.specs.Async.{Fits};
+ghost use Rattle.fw_async.specs.Reader.{Spells};
 ghost use Rattle.fw_base.specs.Devices.{has_link};
 
 use super::requests::{NOW, node_of};
 use crate::Node;
 use arrayvec::ArrayVec;
-use fw_async::{Packet, read_packet, write_packet};
+use fw_async::{Packet, read_packet};
 use fw_base::DeviceKind;
 use fw_words::{Quadlet, put_quadlet};
 use std::process::Abort;
@@ -21,13 +21,13 @@ pub fn bytes_of(words: &[u32]) -> ArrayVec<u8, 528> {
     bytes
 }
 
-/// The packet that these bytes are.
+/// The packet that these bytes are, if they are one.
 pub fn packet_of<'a>(bytes: &'a [u8]) -> Option<Packet<'a>>
-    ensures { IfSome result Fits }
+    ensures { IfSome result (λ p. Spells p bytes.now) }
 {
     match read_packet(bytes) {
-        Ok(fed) => fed.packet,
-        Err(_) => None,
+        Ok(fed) if fed.used == bytes.len() => fed.packet,
+        _ => None,
     }
 }
 
@@ -45,7 +45,7 @@ fn exchange(rt: &impl Abort, node: &mut Node, request: &[u32], response: &[u32])
     };
     assert!(rt; matches!(p, Packet::ReadQuadlet { .. } | Packet::Lock { .. }));
     let mut bytes = ArrayVec::new();
-    write_packet(&node.carry_out(NOW, &p), &mut bytes);
+    node.take_at_registers(NOW, request.as_slice(), &mut bytes);
     assert_eq!(rt; bytes.as_slice(), bytes_of(response).as_slice());
 }
 

@@ -1,8 +1,32 @@
+use Rattle.std.proofs.Common.{◌≡◌, ℕ, ◌<◌, List, Bool, length, rules, arith, sym, subst, ap, ◌∙◌, slice_set, IsTrue}
+use Rattle.fw_cmp.specs.Controllers.{ControllerState}
+use Rattle.fw_cmp.specs.Causes.{IsAtRest}
 use Rattle.fw_cmp.specs.Turns.{after_next}
-use Rattle.fw_bus.proofs.Tables.{table_set}
+use Rattle.fw_cmp.proofs.Resting.{rest_same}
+use Rattle.fw_bus.specs.Tables.{AreCalm, count_of}
+use Rattle.fw_bus.proofs.Tables.{calm_set, table_set}
 use Rattle.fw_bus.proofs.controllers.Controllers.next.Goals as goal
 
 pub returns-clause-state : goal.returns-clause-state
 returns-clause-state c =
-    table_set c.args.self.now c.self.inside.list.items c.self.inside.dead c.args.device c.from.result (after_next c.args.now c.args.directory.now) c.index_mut.result.now c.next.new.self
-    c.self.view_is c.requires.device c.from.ensures c.index_mut.ensures.value c.next.ensures.state
+    table_set c.args.self.now c.self.inside.list.items c.self.inside.dead c.args.device c.from.result (after_next c.args.now c.args.directory.now) c.index_mut.result.now c.next-next.new.self
+    c.self.view_is c.requires.device c.from.ensures c.index_mut.ensures.value c.next-next.ensures.state
+
+-- where it has nothing to do, it stays as it is
+rests : (c : goal.After-way_told-1) → IsTrue c.is_idle.result → IsAtRest c.next-next.new.self
+rests c on =
+    let old : ControllerState = c.index_mut.result.now in
+    let here : IsAtRest old = c.next-next.ensures.idle.0 (c.is_idle.ensures on) in
+    subst IsAtRest (sym (c.next-next.ensures.state ∙ rest_same c.args.now c.args.directory.now old here)) here
+
+pub invariant_of-self : goal.invariant_of-self
+invariant_of-self c =
+    let marks : List Bool = c.self.inside.calm in
+    let items : List ControllerState = c.self.inside.list.items in
+    let size = ap count_of c.self.view_is in
+    let within : c.args.device < length items = omega (arith, size, c.requires.device) in
+    let calm = calm_set marks items c.args.device c.is_idle.result c.next-next.new.self c.self.invariant.1 within c.self.invariant.0.few (rests c) in (
+      search rules,
+      subst (λ (j : ℕ). AreCalm (slice_set marks j c.is_idle.result) (slice_set items c.from.result c.next-next.new.self)) (sym c.from-2.ensures)
+          (subst (λ (j : ℕ). AreCalm (slice_set marks c.args.device c.is_idle.result) (slice_set items j c.next-next.new.self)) (sym c.from.ensures) calm),
+    )

@@ -1,25 +1,118 @@
-use Rattle.std.proofs.Common.{◌≡◌, Some, None, ap, sym, subst, ◌∙◌}
-use Rattle.fw_run.specs.HalfSteps.{said}
-use Rattle.fw_bus.proofs.HalfTurns.{takes_asks, request_says, rests_says, entry_fits, node_numbers}
+use Rattle.std.proofs.Common.{◌≡◌, ℕ, ◌<◌, inl, inr, List, Bor, false, option_map, Some, None, IfSome, ap, sym, subst, ◌∙◌}
+use Rattle.fw_async.specs.Wire.{Pairs, bytes_from}
+use Rattle.fw_outside.proofs.Parts.{Grows-nothing}
+use Rattle.fw_entry.specs.declared.entry.Entry.TheVariants.{Async}
+use Rattle.fw_cmp.specs.declared.outcome.Next.{Next}
+use Rattle.fw_cmp.specs.Turns.{addressee_in}
+use Rattle.fw_step.specs.Requests.{is_sent}
+use Rattle.fw_run.specs.HalfSteps.{half, said}
+use Rattle.fw_bus.specs.Doings.{Takes}
+use Rattle.fw_bus.proofs.Doings.{no_faults}
+use Rattle.fw_bus.proofs.HalfTurns.{takes_asks, rests_says, node_numbers}
+use Rattle.fw_bus.proofs.HalfWires.{Sends, sends_takes, sends_fits, sends_free, sends_found, sends_some, quiet_wire}
 use Rattle.fw_bus.proofs.machine.Machine.ask.Goals as goal
 
 pub next-requires-clause-nodes : goal.next-requires-clause-nodes
-next-requires-clause-nodes c = let r = c.requires.ready in node_numbers c.args.self.now r.state c.args.device r.good r.stands c.requires.living
+next-requires-clause-nodes g c = let r = c.requires.ready in node_numbers c.args.self.now r.state c.args.device r.good r.stands c.requires.living
 
-pub returns-in-Send-clause-takes : goal.returns-in-Send-clause-takes
-returns-in-Send-clause-takes c =
-    takes_asks c.args.self.now c.next.new.self c.args.device _ c.requires.living c.requires.heard c.next.ensures.state
-    (λ s g st. request_says c.args.self.now s c.args.device c.in-Send.to c.number-own.result c.in-Send.request c.request_packet.result _ g st c.requires.living (sym c.next.ensures.answer ∙ c.in-Send.is) c.number-own.ensures.value c.request_packet.ensures.packet)
+-- ---- a request goes out
 
-pub returns-in-Send-clause-fits : goal.returns-in-Send-clause-fits
-returns-in-Send-clause-fits c = entry_fits c.args.self.now _ c.args.device _ c.requires.ready c.requires.living (returns-in-Send-clause-takes c)
+pub put-requires-clause-free : goal.put-requires-clause-free
+put-requires-clause-free g c =
+    let x : Sends c.args.self.now c.args.device c.in-Send.to c.number-own.result c.next.new.self c.in-Send.request c.request_packet-packet.result = record {
+      lives = c.requires.living;
+      heard = c.requires.heard;
+      table = c.next.ensures.state;
+      says = sym c.next.ensures.answer ∙ c.in-Send.is;
+      low = subst (λ (x : Next). IfSome (addressee_in x) (λ t. t < 63)) c.in-Send.is c.next.ensures.addressee;
+      number = c.number-own.ensures.value;
+      packet = c.request_packet-packet.ensures.packet;
+    } in
+    sends_free c.requires.ready x
 
-pub returns-in-End-clause-takes : goal.returns-in-End-clause-takes
-returns-in-End-clause-takes c =
-    takes_asks c.args.self.now c.next.new.self c.args.device _ c.requires.living c.requires.heard c.next.ensures.state
-    (λ s g st. ap (λ e. Some e) c.outcome_entry.ensures ∙ sym (ap (said s c.args.device) (sym c.next.ensures.answer ∙ c.in-End.is)))
+pub put-requires-clause-fits : goal.put-requires-clause-fits
+put-requires-clause-fits g c =
+    let x : Sends c.args.self.now c.args.device c.in-Send.to c.number-own.result c.next.new.self c.in-Send.request c.request_packet-packet.result = record {
+      lives = c.requires.living;
+      heard = c.requires.heard;
+      table = c.next.ensures.state;
+      says = sym c.next.ensures.answer ∙ c.in-Send.is;
+      low = subst (λ (x : Next). IfSome (addressee_in x) (λ t. t < 63)) c.in-Send.is c.next.ensures.addressee;
+      number = c.number-own.ensures.value;
+      packet = c.request_packet-packet.ensures.packet;
+    } in
+    sends_fits c.requires.ready x
 
-pub returns-in-Idle-clause-takes : goal.returns-in-Idle-clause-takes
-returns-in-Idle-clause-takes c =
-    takes_asks c.args.self.now c.next.new.self c.args.device _ c.requires.living c.requires.heard c.next.ensures.state
-    (λ s g st. subst (λ x. None ≡ said s c.args.device x) c.next.ensures.answer (rests_says s c.args.device c.next.result c.in-Idle.is))
+pub give_packet-requires : goal.give_packet-requires
+give_packet-requires g c =
+    let x : Sends c.args.self.now c.args.device c.in-Send.to c.number-own.result c.next.new.self c.in-Send.request c.request_packet-packet.result = record {
+      lives = c.requires.living;
+      heard = c.requires.heard;
+      table = c.next.ensures.state;
+      says = sym c.next.ensures.answer ∙ c.in-Send.is;
+      low = subst (λ (x : Next). IfSome (addressee_in x) (λ t. t < 63)) c.in-Send.is c.next.ensures.addressee;
+      number = c.number-own.ensures.value;
+      packet = c.request_packet-packet.ensures.packet;
+    } in
+    let found = ap (option_map (λ (b : Bor (List ℕ)). b.now)) (sym c.in-Some.is) ∙ (c.get.ensures ∙ ap (bytes_from c.number-own.result) c.put.ensures) in
+    record { packet = c.request_packet-packet.result; spells = sends_found c.in-Some.bytes.now c.requires.ready x found }
+
+pub returns-in-Some-clause-speaks : goal.returns-in-Some-clause-speaks
+returns-in-Some-clause-speaks g c =
+    let x : Sends c.args.self.now c.args.device c.in-Send.to c.number-own.result c.next.new.self c.in-Send.request c.request_packet-packet.result = record {
+      lives = c.requires.living;
+      heard = c.requires.heard;
+      table = c.next.ensures.state;
+      says = sym c.next.ensures.answer ∙ c.in-Send.is;
+      low = subst (λ (x : Next). IfSome (addressee_in x) (λ t. t < 63)) c.in-Send.is c.next.ensures.addressee;
+      number = c.number-own.ensures.value;
+      packet = c.request_packet-packet.ensures.packet;
+    } in
+    let found = ap (option_map (λ (b : Bor (List ℕ)). b.now)) (sym c.in-Some.is) ∙ (c.get.ensures ∙ ap (bytes_from c.number-own.result) c.put.ensures) in
+    record {
+      entry = Some (Async c.request_packet-packet.result);
+      takes = subst (λ (w : Pairs). Takes half c.args.self.now (record c.args.self.now { controllers = c.next.new.self; wire = w }) c.args.device (Some (Async c.request_packet-packet.result)))
+          (sym c.put.ensures) (sends_takes x);
+      gives = c.give_packet.ensures.bytes c.request_packet-packet.result (sends_found c.in-Some.bytes.now c.requires.ready x found);
+      faults = c.give_packet.ensures.faults;
+    }
+
+pub returns-in-None-clause-speaks : goal.returns-in-None-clause-speaks
+returns-in-None-clause-speaks g c =
+    let x : Sends c.args.self.now c.args.device c.in-Send.to c.number-own.result c.next.new.self c.in-Send.request c.request_packet-packet.result = record {
+      lives = c.requires.living;
+      heard = c.requires.heard;
+      table = c.next.ensures.state;
+      says = sym c.next.ensures.answer ∙ c.in-Send.is;
+      low = subst (λ (x : Next). IfSome (addressee_in x) (λ t. t < 63)) c.in-Send.is c.next.ensures.addressee;
+      number = c.number-own.ensures.value;
+      packet = c.request_packet-packet.ensures.packet;
+    } in
+    let found = ap (option_map (λ (b : Bor (List ℕ)). b.now)) (sym c.in-None.is) ∙ (c.get.ensures ∙ ap (bytes_from c.number-own.result) c.put.ensures) in
+    absurd (sends_some c.requires.ready x found)
+
+-- ---- the job ends
+
+pub returns-in-End-clause-speaks : goal.returns-in-End-clause-speaks
+returns-in-End-clause-speaks g c = record {
+  entry = Some c.outcome_entry.result;
+  takes = takes_asks c.args.self.now c.next.new.self c.args.self.now.wire c.args.device _ c.requires.living c.requires.heard c.next.ensures.state
+      (λ s g st. ap (λ e. Some e) c.outcome_entry.ensures ∙ sym (ap (said s c.args.device) (sym c.next.ensures.answer ∙ c.in-End.is)))
+      (quiet_wire c.args.self.now c.args.device c.requires.living c.requires.heard (ap is_sent (sym c.next.ensures.answer ∙ c.in-End.is)));
+  gives = c.give.ensures.bytes;
+  faults = c.give.ensures.faults;
+}
+
+-- ---- nothing to do
+
+pub returns-in-Idle-clause-speaks : goal.returns-in-Idle-clause-speaks
+returns-in-Idle-clause-speaks g c =
+    let quiet : is_sent c.next.result ≡ false = elim c.in-Idle.is [ inl e ↦ ap is_sent e | inr w ↦ ap is_sent w.1 ] in
+    record {
+      entry = None;
+      takes = takes_asks c.args.self.now c.next.new.self c.args.self.now.wire c.args.device _ c.requires.living c.requires.heard c.next.ensures.state
+          (λ s g st. subst (λ x. None ≡ said s c.args.device x) c.next.ensures.answer (rests_says s c.args.device c.next.result c.in-Idle.is))
+          (quiet_wire c.args.self.now c.args.device c.requires.living c.requires.heard (ap is_sent (sym c.next.ensures.answer) ∙ quiet));
+      gives = Grows-nothing (g.K.Sink.held c.args.sink.now);
+      faults = no_faults (g.K.Sink.faults c.args.sink.now) tt;
+    }

@@ -25,5 +25,6 @@ returns-clause-begins c =
         controllers = c.reset-2.new.self;
         directory = directory i;
         reclaiming = zero i;
+        wire = c.clear.ensures i;
       };
     }

@@ -1,7 +1,15 @@
-use Rattle.fw_bus.proofs.Doings.{does_one}
-use Rattle.fw_bus.proofs.Halves.{rounds_given}
+use Rattle.std.proofs.Common.{refl}
+use Rattle.fw_bus.proofs.Doings.{does_one, does_silent}
+use Rattle.fw_bus.proofs.Idles.{takes_idle}
 use Rattle.fw_bus.proofs.StepTurns.{step_turns}
 use Rattle.fw_bus.proofs.machine.Machine.half_step.Goals as goal
 
+pub returns-then-is_calm-clause-does : goal.returns-then-is_calm-clause-does
+returns-then-is_calm-clause-does g c =
+    does_silent (g.K.Sink.held c.args.sink.now) (g.K.Sink.faults c.args.sink.now) c.args.self.now.cycle tt
+    (step_turns c.args.self.now c.args.self.now c.args.device _ c.requires.living c.requires.few refl (takes_idle c.args.self.now c.args.device (c.is_calm.ensures c.if-is_calm.true)))
+
 pub returns-clause-does : goal.returns-clause-does
-returns-clause-does g c = does_one _ _ _ (step_turns _ _ _ _ c.requires.living c.requires.few c.turn-entry.ensures.time c.turn-entry.ensures.takes) c.give.ensures.bytes c.give.ensures.faults
+returns-clause-does g c =
+    let x = c.turn-result.ensures.speaks in
+    does_one c.turn-result.new.self.cycle x.entry c.turn-result.result (step_turns _ _ _ _ c.requires.living c.requires.few c.turn-result.ensures.time x.takes) x.gives x.faults

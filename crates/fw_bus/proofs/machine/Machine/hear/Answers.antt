@@ -1,106 +1,204 @@
-use Rattle.std.proofs.Common.{◌≡◌, ℕ, Option, Some, None, refl, ap, sym, subst, ◌∙◌, IsTrue}
-use Rattle.std.proofs.lemmas.Option.{none-some}
-use Rattle.fw_cmp.specs.declared.current.Current.{Current}
-use Rattle.fw_cmp.specs.declared.current.Current.TheVariants.{Nothing, Asking, Hearing, Overtaken}
-use Rattle.fw_cmp.specs.Controllers.{ControllerState, IsStanding}
-use Rattle.fw_cmp.specs.Requests.{standing_in}
-use Rattle.fw_node.specs.Packets.{packet_of, request_head}
-use Rattle.fw_run.specs.State.{State}
-use Rattle.fw_run.specs.Good.{IsGood}
-use Rattle.fw_run.proofs.Hears.{heard_of, half_hears}
-use Rattle.fw_bus.specs.declared.machine.Machine.{Machine}
-use Rattle.fw_bus.specs.Stands.{StandsFor, is_living_in}
-use Rattle.fw_bus.proofs.Living.{living_same}
-use Rattle.fw_bus.specs.Tables.{states_of}
-use Rattle.fw_bus.proofs.Exchanges.{standing_of, exchange_of, exchange_linked, no_addressee, no_device}
-use Rattle.fw_bus.proofs.HalfHears.{Sent, answered_of, takes_hears, no_reply}
+use Rattle.std.proofs.Common.{◌≡◌, ℕ, List, Bor, option_map, Some, None, ap, sym, subst, ◌∙◌, refl, is_some}
+use Rattle.fw_async.specs.Reader.{IsPacket, Spells}
+use Rattle.fw_async.specs.Wire.{Pairs}
+use Rattle.fw_entry.specs.declared.entry.Entry.TheVariants.{Async}
+use Rattle.fw_devices.specs.Network.{Network}
+use Rattle.fw_run.specs.HalfSteps.{half}
+use Rattle.fw_bus.specs.Doings.{Takes}
+use Rattle.fw_bus.proofs.HalfHears.{takes_hears}
 use Rattle.fw_bus.proofs.HalfLives.{living_stays}
-use Rattle.fw_bus.proofs.HalfTurns.{entry_fits}
-use Rattle.fw_bus.proofs.Latest.{number_low}
+use Rattle.fw_bus.proofs.HalfReads.{Known, went_of, went_packet, target_there, request_read, some_taken, is_request, device_within, device_number, device_linked, response_written, reply_there}
 use Rattle.fw_bus.proofs.machine.Machine.hear.Goals as goal
-use Rattle.fw_cmp.specs.declared.request.Access.{Access}
 
--- what stands, of the controller that was found in the table
-asked : (m : Machine) (d : ℕ) (a : Access) (x : ControllerState) → Some a ≡ standing_in x.current → x ≡ states_of m.controllers d → Some a ≡ standing_in (states_of m.controllers d).current
-asked m d a x asks is = asks ∙ ap (λ (y : ControllerState). standing_in y.current) is
-
--- a request that stands has a register
-no_access : (m : Machine) (s : State) (d : ℕ) → IsGood s → StandsFor m s → IsTrue (is_living_in m d) → IsStanding (states_of m.controllers d).current
-    → None ≡ standing_in (states_of m.controllers d).current → ⊥
-no_access m s d g st lives stands none = go (s.controllers d).current refl (subst (λ f. IsStanding (f d).current) same stands) (none ∙ ap (λ f. standing_in (f d).current) same)
-  where
-    same : states_of m.controllers ≡ s.controllers
-    same = st.controllers.table.states_are
-
-    go : (c : Current) → (s.controllers d).current ≡ c → IsStanding c → None ≡ standing_in c → ⊥
-    go Nothing e h f = h
-    go (Asking j stage) e h f = h
-    go (Overtaken i o) e h f = h
-    go (Hearing j stage) e h f = none-some _ (f ∙ (half_hears s d j stage g e (heard_of s d j stage g (sym (living_same m s d g st) ∙ lives) e)).access)
-
-pub returns-in_err-access-clause-takes : goal.returns-in_err-access-clause-takes
-returns-in_err-access-clause-takes c = λ s g st.
-    absurd (no_access c.args.self.now s c.args.device g st c.requires.living c.requires.standing (c.in_err-access.ensures.access ∙ ap (λ (y : ControllerState). standing_in y.current) c.get.ensures))
-
-pub returns-in_err-to-clause-takes : goal.returns-in_err-to-clause-takes
-returns-in_err-to-clause-takes c = λ s g st.
-    let asks = asked c.args.self.now c.args.device c.in_ok-access.access _ c.in_ok-access.ensures.access c.get.ensures in
-    let x = standing_of c.args.self.now s c.args.device c.in_ok-access.access g st c.requires.living c.requires.standing asks in
-    absurd (no_addressee c.args.self.now s c.args.device c.in_ok-access.access st x c.in_err-to.ensures)
-
-pub returns-in_err-target-clause-takes : goal.returns-in_err-target-clause-takes
-returns-in_err-target-clause-takes c = λ s g st.
-    let asks = asked c.args.self.now c.args.device c.in_ok-access.access _ c.in_ok-access.ensures.access c.get.ensures in
-    let x = standing_of c.args.self.now s c.args.device c.in_ok-access.access g st c.requires.living c.requires.standing asks in
-    absurd (no_device c.args.self.now s c.args.device c.in_ok-access.access c.in_ok-to.to g st x c.in_ok-to.ensures c.in_err-target.ensures)
-
-pub request_packet-request-requires-clause-to : goal.request_packet-request-requires-clause-to
-request_packet-request-requires-clause-to c =
-    let r = c.requires.ready in
-    let asks = asked c.args.self.now c.args.device c.in_ok-access.access _ c.in_ok-access.ensures.access c.get.ensures in
-    let x = standing_of c.args.self.now r.state c.args.device c.in_ok-access.access r.good r.stands c.requires.living c.requires.standing asks in
-    let y = exchange_of c.args.self.now r.state c.args.device c.in_ok-access.access c.in_ok-to.to c.in_ok-target.target r.good r.stands x c.in_ok-to.ensures c.in_ok-target.ensures in
-    number_low r.state c.in_ok-target.target c.in_ok-to.to r.good y.number
-
-pub answer-response-requires-clause-link : goal.answer-response-requires-clause-link
-answer-response-requires-clause-link c =
-    let r = c.requires.ready in
-    let asks = asked c.args.self.now c.args.device c.in_ok-access.access _ c.in_ok-access.ensures.access c.get.ensures in
-    let x = standing_of c.args.self.now r.state c.args.device c.in_ok-access.access r.good r.stands c.requires.living c.requires.standing asks in
-    let y = exchange_of c.args.self.now r.state c.args.device c.in_ok-access.access c.in_ok-to.to c.in_ok-target.target r.good r.stands x c.in_ok-to.ensures c.in_ok-target.ensures in
-    exchange_linked c.args.self.now r.state c.args.device c.in_ok-access.access c.in_ok-to.to c.in_ok-target.target r.good r.stands c.in_ok-access.ensures.target y
-
--- no reply in the response: that cannot be
-pub returns-in_err-reply-clause-takes : goal.returns-in_err-reply-clause-takes
-returns-in_err-reply-clause-takes c = λ s g st.
-    let sent : Sent c.args.self.now c.args.device c.in_ok-access.access c.in_ok-to.to c.in_ok-target.target c.number-own.result c.request_packet-request.result c.answer-response.result = record {
-      asks = asked c.args.self.now c.args.device c.in_ok-access.access _ c.in_ok-access.ensures.access c.get.ensures;
-      goes = c.in_ok-to.ensures;
-      at = c.in_ok-target.ensures;
+pub take-requires-2-clause-request : goal.take-requires-2-clause-request
+take-requires-2-clause-request g c =
+    let m = c.args.self.now in
+    let d = c.args.device in
+    let k : Known m d c.in-Some.target c.number-own.result = record {
+      ready = c.requires.ready;
+      lives = c.requires.living;
+      stands = c.requires.standing;
+      went = went_of m d c.in-Some.target (sym c.in-Some.is ∙ c.target.ensures.target);
       own_is = c.number-own.ensures.value;
-      packet_is = c.request_packet-request.ensures.packet ∙ ap (packet_of (request_head c.number-own.result c.in_ok-to.to 0)) c.request.ensures;
-      answered = c.answer-response.ensures.response;
     } in
-    let z = answered_of c.args.self.now s c.args.device _ _ _ _ _ _ g st c.requires.living c.requires.standing sent in
-    absurd (no_reply c.args.self.now s c.args.device _ _ _ _ z c.in_err-reply.ensures)
+    let taken = ap (option_map (λ (b : Bor (List ℕ)). b.now)) (sym c.in-Some-take.is) ∙ c.take.ensures.bytes in
+    is_request m d c.in-Some.target c.number-own.result c.in-Some-take.bytes.now k taken
 
-pub returns-in_err-reply-clause-living : goal.returns-in_err-reply-clause-living
-returns-in_err-reply-clause-living c = living_stays c.args.self.now _ c.args.device _ c.requires.ready c.requires.living (returns-in_err-reply-clause-takes c)
-
-pub returns-clause-takes : goal.returns-clause-takes
-returns-clause-takes c =
-    let sent : Sent c.args.self.now c.args.device c.in_ok-access.access c.in_ok-to.to c.in_ok-target.target c.number-own.result c.request_packet-request.result c.answer-response.result = record {
-      asks = asked c.args.self.now c.args.device c.in_ok-access.access _ c.in_ok-access.ensures.access c.get.ensures;
-      goes = c.in_ok-to.ensures;
-      at = c.in_ok-target.ensures;
+pub take-requires-2-clause-declared : goal.take-requires-2-clause-declared
+take-requires-2-clause-declared g c =
+    let m = c.args.self.now in
+    let d = c.args.device in
+    let k : Known m d c.in-Some.target c.number-own.result = record {
+      ready = c.requires.ready;
+      lives = c.requires.living;
+      stands = c.requires.standing;
+      went = went_of m d c.in-Some.target (sym c.in-Some.is ∙ c.target.ensures.target);
       own_is = c.number-own.ensures.value;
-      packet_is = c.request_packet-request.ensures.packet ∙ ap (packet_of (request_head c.number-own.result c.in_ok-to.to 0)) c.request.ensures;
-      answered = c.answer-response.ensures.response;
     } in
-    takes_hears c.args.self.now c.answer-response.new.self c.hear.new.self c.args.device _ _ _ _ _ _ c.in_ok-reply.reply c.requires.living c.requires.standing sent c.answer-response.ensures.registers c.in_ok-reply.ensures c.hear.ensures
+    device_within m d c.in-Some.target c.number-own.result k
 
-pub returns-clause-living : goal.returns-clause-living
-returns-clause-living c = living_stays c.args.self.now _ c.args.device _ c.requires.ready c.requires.living (returns-clause-takes c)
+pub take-requires-2-clause-number : goal.take-requires-2-clause-number
+take-requires-2-clause-number g c =
+    let m = c.args.self.now in
+    let d = c.args.device in
+    let k : Known m d c.in-Some.target c.number-own.result = record {
+      ready = c.requires.ready;
+      lives = c.requires.living;
+      stands = c.requires.standing;
+      went = went_of m d c.in-Some.target (sym c.in-Some.is ∙ c.target.ensures.target);
+      own_is = c.number-own.ensures.value;
+    } in
+    ap is_some (device_number m d c.in-Some.target c.number-own.result k)
 
-pub returns-clause-fits : goal.returns-clause-fits
-returns-clause-fits c = entry_fits c.args.self.now _ c.args.device _ c.requires.ready c.requires.living (returns-clause-takes c)
+pub take-requires-2-clause-link : goal.take-requires-2-clause-link
+take-requires-2-clause-link g c =
+    let m = c.args.self.now in
+    let d = c.args.device in
+    let k : Known m d c.in-Some.target c.number-own.result = record {
+      ready = c.requires.ready;
+      lives = c.requires.living;
+      stands = c.requires.standing;
+      went = went_of m d c.in-Some.target (sym c.in-Some.is ∙ c.target.ensures.target);
+      own_is = c.number-own.ensures.value;
+    } in
+    device_linked m d c.in-Some.target c.number-own.result k c.target.ensures.fits
+
+pub reply_at-requires : goal.reply_at-requires
+reply_at-requires g c =
+    let m = c.args.self.now in
+    let d = c.args.device in
+    let k : Known m d c.in-Some.target c.number-own.result = record {
+      ready = c.requires.ready;
+      lives = c.requires.living;
+      stands = c.requires.standing;
+      went = went_of m d c.in-Some.target (sym c.in-Some.is ∙ c.target.ensures.target);
+      own_is = c.number-own.ensures.value;
+    } in
+    let taken = ap (option_map (λ (b : Bor (List ℕ)). b.now)) (sym c.in-Some-take.is) ∙ c.take.ensures.bytes in
+    let read = request_read m d c.in-Some.target c.number-own.result c.in-Some-take.bytes.now k taken in
+    let response = response_written m d c.in-Some.target c.number-own.result c.take-2.new.out.items k (c.take-2.ensures.response (went_packet c.number-own.result k.went) read) in
+    record { packet = response.packet; spells = subst (Spells response.packet) (sym c.deref.ensures.0) response.spells }
+
+pub give_packet-requires : goal.give_packet-requires
+give_packet-requires g c =
+    let m = c.args.self.now in
+    let d = c.args.device in
+    let k : Known m d c.in-Some.target c.number-own.result = record {
+      ready = c.requires.ready;
+      lives = c.requires.living;
+      stands = c.requires.standing;
+      went = went_of m d c.in-Some.target (sym c.in-Some.is ∙ c.target.ensures.target);
+      own_is = c.number-own.ensures.value;
+    } in
+    let taken = ap (option_map (λ (b : Bor (List ℕ)). b.now)) (sym c.in-Some-take.is) ∙ c.take.ensures.bytes in
+    let read = request_read m d c.in-Some.target c.number-own.result c.in-Some-take.bytes.now k taken in
+    let response = response_written m d c.in-Some.target c.number-own.result c.take-2.new.out.items k (c.take-2.ensures.response (went_packet c.number-own.result k.went) read) in
+    record { packet = response.packet; spells = subst (Spells response.packet) (sym c.deref-2.ensures.0) response.spells }
+
+pub returns : goal.returns
+returns g c =
+    let m = c.args.self.now in
+    let d = c.args.device in
+    let k : Known m d c.in-Some.target c.number-own.result = record {
+      ready = c.requires.ready;
+      lives = c.requires.living;
+      stands = c.requires.standing;
+      went = went_of m d c.in-Some.target (sym c.in-Some.is ∙ c.target.ensures.target);
+      own_is = c.number-own.ensures.value;
+    } in
+    let taken = ap (option_map (λ (b : Bor (List ℕ)). b.now)) (sym c.in-Some-take.is) ∙ c.take.ensures.bytes in
+    let read = request_read m d c.in-Some.target c.number-own.result c.in-Some-take.bytes.now k taken in
+    let response = response_written m d c.in-Some.target c.number-own.result c.take-2.new.out.items k (c.take-2.ensures.response (went_packet c.number-own.result k.went) read) in
+    let there = c.reply_at.ensures response.packet (subst (Spells response.packet) (sym c.deref.ensures.0) response.spells) in
+    let registers = c.take-2.ensures.registers (went_packet c.number-own.result k.went) read in
+    let takes = subst (λ (w : Pairs). Takes half m (record m { devices = c.take-2.new.self; controllers = c.hear.new.self; wire = w }) d (Some (Async response.packet))) (sym c.take.ensures.rest)
+    (takes_hears m c.take-2.new.self c.hear.new.self d k.went.access k.went.to c.in-Some.target c.number-own.result (went_packet c.number-own.result k.went) response.packet
+    c.in-Some-reply_at.reply c.requires.living c.requires.standing response.sent registers (sym c.in-Some-reply_at.is ∙ there) c.hear.ensures) in
+    record {
+      speaks = record {
+        entry = Some (Async response.packet);
+        takes = takes;
+        gives = c.give_packet.ensures.bytes response.packet (subst (Spells response.packet) (sym c.deref-2.ensures.0) response.spells);
+        faults = c.give_packet.ensures.faults;
+      };
+      living = living_stays m (record m { devices = c.take-2.new.self; controllers = c.hear.new.self; wire = c.take.new.self }) d (Some (Async response.packet)) c.requires.ready c.requires.living takes;
+      time = refl;
+      half_steps = refl;
+      names = ap (λ (n : Network). n.names) registers;
+    }
+
+-- ---- what cannot be: no node that it went to, no bytes, no reply
+
+pub returns-in_default-clause-speaks : goal.returns-in_default-clause-speaks
+returns-in_default-clause-speaks g c =
+    let r = c.requires.ready in
+    let w = target_there c.args.self.now r.state c.args.device r.good r.stands c.requires.living c.requires.standing in
+    absurd (c.in_default.not-Some w.0 (c.target.ensures.target ∙ w.1))
+
+pub returns-in_default-take-clause-speaks : goal.returns-in_default-take-clause-speaks
+returns-in_default-take-clause-speaks g c =
+    let m = c.args.self.now in
+    let d = c.args.device in
+    let k : Known m d c.in-Some.target c.number-own.result = record {
+      ready = c.requires.ready;
+      lives = c.requires.living;
+      stands = c.requires.standing;
+      went = went_of m d c.in-Some.target (sym c.in-Some.is ∙ c.target.ensures.target);
+      own_is = c.number-own.ensures.value;
+    } in
+    let w = some_taken (λ (b : Bor (List ℕ)). b.now) c.take.result m d c.in-Some.target c.number-own.result k c.take.ensures.bytes in
+    absurd (c.in_default-take.not-Some w.0 w.1)
+
+pub returns-in_default-reply_at-clause-speaks : goal.returns-in_default-reply_at-clause-speaks
+returns-in_default-reply_at-clause-speaks g c =
+    let m = c.args.self.now in
+    let d = c.args.device in
+    let k : Known m d c.in-Some.target c.number-own.result = record {
+      ready = c.requires.ready;
+      lives = c.requires.living;
+      stands = c.requires.standing;
+      went = went_of m d c.in-Some.target (sym c.in-Some.is ∙ c.target.ensures.target);
+      own_is = c.number-own.ensures.value;
+    } in
+    let taken = ap (option_map (λ (b : Bor (List ℕ)). b.now)) (sym c.in-Some-take.is) ∙ c.take.ensures.bytes in
+    let read = request_read m d c.in-Some.target c.number-own.result c.in-Some-take.bytes.now k taken in
+    let response = response_written m d c.in-Some.target c.number-own.result c.take-2.new.out.items k (c.take-2.ensures.response (went_packet c.number-own.result k.went) read) in
+    let there = c.reply_at.ensures response.packet (subst (Spells response.packet) (sym c.deref.ensures.0) response.spells) in
+    let w = reply_there m d c.in-Some.target c.number-own.result c.take-2.new.out.items k response in
+    absurd (c.in_default-reply_at.not-Some w.0 (there ∙ w.1))
+
+pub returns-in_default-reply_at-clause-living : goal.returns-in_default-reply_at-clause-living
+returns-in_default-reply_at-clause-living g c =
+    let m = c.args.self.now in
+    let d = c.args.device in
+    let k : Known m d c.in-Some.target c.number-own.result = record {
+      ready = c.requires.ready;
+      lives = c.requires.living;
+      stands = c.requires.standing;
+      went = went_of m d c.in-Some.target (sym c.in-Some.is ∙ c.target.ensures.target);
+      own_is = c.number-own.ensures.value;
+    } in
+    let taken = ap (option_map (λ (b : Bor (List ℕ)). b.now)) (sym c.in-Some-take.is) ∙ c.take.ensures.bytes in
+    let read = request_read m d c.in-Some.target c.number-own.result c.in-Some-take.bytes.now k taken in
+    let response = response_written m d c.in-Some.target c.number-own.result c.take-2.new.out.items k (c.take-2.ensures.response (went_packet c.number-own.result k.went) read) in
+    let there = c.reply_at.ensures response.packet (subst (Spells response.packet) (sym c.deref.ensures.0) response.spells) in
+    let w = reply_there m d c.in-Some.target c.number-own.result c.take-2.new.out.items k response in
+    absurd (c.in_default-reply_at.not-Some w.0 (there ∙ w.1))
+
+pub returns-in_default-reply_at-clause-names : goal.returns-in_default-reply_at-clause-names
+returns-in_default-reply_at-clause-names g c =
+    let m = c.args.self.now in
+    let d = c.args.device in
+    let k : Known m d c.in-Some.target c.number-own.result = record {
+      ready = c.requires.ready;
+      lives = c.requires.living;
+      stands = c.requires.standing;
+      went = went_of m d c.in-Some.target (sym c.in-Some.is ∙ c.target.ensures.target);
+      own_is = c.number-own.ensures.value;
+    } in
+    let taken = ap (option_map (λ (b : Bor (List ℕ)). b.now)) (sym c.in-Some-take.is) ∙ c.take.ensures.bytes in
+    let read = request_read m d c.in-Some.target c.number-own.result c.in-Some-take.bytes.now k taken in
+    let response = response_written m d c.in-Some.target c.number-own.result c.take-2.new.out.items k (c.take-2.ensures.response (went_packet c.number-own.result k.went) read) in
+    let there = c.reply_at.ensures response.packet (subst (Spells response.packet) (sym c.deref.ensures.0) response.spells) in
+    let w = reply_there m d c.in-Some.target c.number-own.result c.take-2.new.out.items k response in
+    absurd (c.in_default-reply_at.not-Some w.0 (there ∙ w.1))

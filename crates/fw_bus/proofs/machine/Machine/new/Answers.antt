@@ -2,6 +2,9 @@ use Rattle.std.proofs.Common.{◌<◌, refl, sym, subst, arith}
 use Rattle.fw_devices.specs.Network.{Network, no_devices}
 use Rattle.fw_run.specs.State.{first_state, list_to}
 use Rattle.fw_bus.specs.Stands.{HasDevices}
+use Rattle.fw_async.specs.Wire.{Pairs}
+use Rattle.fw_bus.specs.Wires.{HasWire}
+use Rattle.fw_bus.proofs.WireResets.{wire_empty}
 use Rattle.fw_bus.proofs.machine.Machine.new.Goals as goal
 
 -- before the first device nothing is declared
@@ -24,5 +27,6 @@ returns c = record {
   devices = subst (λ (n : Network). HasDevices n first_state) (sym c.in_ok-new.ensures) nothing_stands;
   clock = record { cycle = refl; reclaiming = refl; half_steps = refl };
   controllers = record { table = c.in_ok-new-2.ensures; directory = refl };
+  wire = subst (λ (w : Pairs). HasWire w first_state) (sym c.new-3.ensures) (wire_empty first_state (λ d. refl));
   answered = refl;
 }

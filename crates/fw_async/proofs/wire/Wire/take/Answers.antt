@@ -1,0 +1,42 @@
+use Rattle.std.proofs.Common.{◌≡◌, ◌≢◌, ◌<◌, ℕ, List, [], ◌++◌, Some, take, get_or, slice_set, arith, refl, sym, ◌∙◌, ap, subst}
+use Rattle.fw_async.specs.Wire.{IsKept, bytes_from, bytes_at, without, pairs_at}
+use Rattle.std.proofs.lemmas.List.{set-get_or}
+use Rattle.fw_async.proofs.WireLaws.{found, missing, beyond, none_taken, take_kept, take_pairs}
+use Rattle.fw_async.proofs.wire.Wire.take.Goals as goal
+use Rattle.fw_async.proofs.wire.Wire.take.Goals.{then-at-ge-MOST-via-then-at-ge-MOST, then-at-ge-MOST-via-else-at-ge-MOST+then-self-at-eq0}
+
+pub returns-then-at-ge-MOST : goal.returns-then-at-ge-MOST
+returns-then-at-ge-MOST c =
+    let none : get_or c.self.inside.lengths c.args.from 0 ≡ 0 = elim c.then-at-ge-MOST.branch [
+      | then-at-ge-MOST-via-then-at-ge-MOST w ↦ beyond c.self.inside.lengths c.self.inside.senders c.args.from c.self.invariant (omega (arith, w.if-at-ge-MOST.true, c.from-at.ensures))
+      | then-at-ge-MOST-via-else-at-ge-MOST+then-self-at-eq0 w ↦ rw (sym c.from-at.ensures) w.if-self-at-eq0.true
+    ] in
+    record {
+      bytes = sym (missing c.self.inside.lengths c.self.inside.rows c.self.inside.senders c.args.from c.self.invariant none) ∙ ap (bytes_from c.args.from) c.self.view_is;
+      rest = sym c.self.view_is ∙ sym (none_taken c.self.inside.lengths c.self.inside.rows c.self.inside.senders c.args.from c.self.invariant none) ∙ ap (without c.args.from) c.self.view_is;
+      absent = refl;
+    }
+
+pub invariant_of-self : goal.invariant_of-self
+invariant_of-self c =
+    let within : c.args.from < 63 = omega (arith, c.if-at-ge-MOST.false, c.from-at.ensures) in
+    let P : List ℕ → Type 0 = IsKept _ in
+    subst P (sym c.remove.ensures) (rw c.from-at.ensures (take_kept c.self.inside.lengths c.self.inside.senders c.args.from c.self.invariant within))
+
+pub returns : goal.returns
+returns c =
+    let lengths = c.self.inside.lengths in
+    let rows = c.self.inside.rows in
+    let senders = c.self.inside.senders in
+    let q = c.args.from in
+    let some : get_or lengths q 0 ≢ 0 = rw (sym c.from-at.ensures) c.if-self-at-eq0.false in
+    let stood = take (get_or lengths c.from-at.result 0) (get_or rows c.from-at.result []) in
+    let given : c.as_slice.result.now ≡ stood = c.as_slice.ensures.value ∙ c.append.ensures ∙ ap (λ t. t ++ stood) c.clear.ensures in
+    let at : stood ≡ bytes_at lengths rows q = ap (bytes_at lengths rows) c.from-at.ensures in
+    let left : pairs_at (slice_set lengths q 0) rows c.remove.new.self ≡ without q c.args.self.now =
+    ap (pairs_at (slice_set lengths q 0) rows) c.remove.ensures ∙ take_pairs lengths rows senders q ∙ ap (without q) c.self.view_is in
+    record {
+      bytes = ap Some (given ∙ at) ∙ sym (found lengths rows senders q c.self.invariant some) ∙ ap (bytes_from q) c.self.view_is;
+      rest = rw c.from-at.ensures (ap (λ r. pairs_at (slice_set lengths q 0) r c.remove.new.self) (set-get_or rows q []) ∙ left);
+      absent = tt;
+    }

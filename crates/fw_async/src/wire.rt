@@ -1,0 +1,103 @@
+//! The requests that stand on the bus between two half steps.
+
+ghost use Rattle.std.specs.Prelude.{◌≡◌, ◌≤◌, [], ◌∷◌, ◌++◌, length, None, IfNone};
+ghost use Rattle.std.specs.Option.{option_map};
+ghost use Rattle.fw_async.specs.Async.{spelling, Fits};
+ghost use Rattle.fw_async.specs.Wire.{bytes_from, without};
+
+use crate::packet::Packet;
+use crate::senders::Senders;
+use crate::writer::spell_over;
+use fw_words::Bytes;
+use std::marker::Model;
+
+/// How many nodes a bus may have.
+const MOST: usize = 63;
+
+/// How many bytes the longest packet has.
+const LONGEST: usize = 528;
+
+/// Pairs of a sender's node number and the bytes of its request, in the order in which they were put: at most one of a
+/// sender, and so at most 63. No call takes memory or moves the bytes of another pair, and the oldest pair is found at once.
+#[derive(Drop)]
+pub struct Wire {
+    senders: Senders,
+    /// By sender: how many bytes of its packet stand, at the front of its row; none where it has no pair.
+    lengths: [usize; MOST],
+    rows: [[u8; LONGEST]; MOST],
+}
+
+impl Model for Wire {
+    ghost use Rattle.fw_async.specs.Wire.{Pairs, IsKept, pairs_at};
+
+    ghost Value = { Pairs };
+
+    ghost view = { λ w. pairs_at w.lengths w.rows w.senders };
+
+    ghost invariant = { λ w. IsKept w.lengths w.senders };
+}
+
+impl Wire {
+    /// Nothing stands.
+    pub fn new() -> Wire
+        ensures { result ≡ [] }
+    {
+        Wire {
+            senders: Senders::new(),
+            lengths: [0; MOST],
+            rows: [[0; LONGEST]; MOST],
+        }
+    }
+
+    /// Puts a sender's packet behind all that stands.
+    pub fn put(&mut self, from: u8, p: &Packet)
+        requires from { from ≤ 62 }
+        requires free { bytes_from from self.old ≡ None }
+        requires fits { Fits p.now }
+        ensures { self.new ≡ self.old ++ (from, spelling p.now) ∷ [] }
+    {
+        let at = usize::from(from);
+        let length = spell_over(p, &mut self.rows[at]);
+        self.lengths[at] = length;
+        self.senders.push(from);
+    }
+
+    /// The bytes of a sender's packet. None exactly where no pair of that sender stands.
+    pub fn get(&self, from: u8) -> Option<&[u8]>
+        ensures { option_map (λ b. b.now) result ≡ bytes_from from self.now }
+    {
+        let at = usize::from(from);
+        if at >= MOST || self.lengths[at] == 0 {
+            return None;
+        }
+        let row = &self.rows[at];
+        Some(&row[..self.lengths[at]])
+    }
+
+    /// Takes a sender's pair away and answers its bytes, which are put into `room`; the others keep their order. None exactly
+    /// where no pair of that sender stands, and then nothing changes.
+    pub fn take<'a>(&mut self, from: u8, room: &'a mut Bytes<LONGEST>) -> Option<&'a [u8]>
+        ensures bytes { option_map (λ b. b.now) result ≡ bytes_from from self.old }
+        ensures rest { self.new ≡ without from self.old }
+        ensures absent { IfNone result (self.new ≡ self.old) }
+    {
+        let at = usize::from(from);
+        if at >= MOST || self.lengths[at] == 0 {
+            return None;
+        }
+        let row = &self.rows[at];
+        room.clear();
+        room.append(&row[..self.lengths[at]]);
+        self.lengths[at] = 0;
+        self.senders.remove(from);
+        Some(room.as_slice())
+    }
+
+    /// Takes all pairs away.
+    pub fn clear(&mut self)
+        ensures { self.new ≡ [] }
+    {
+        self.lengths = [0; MOST];
+        self.senders.clear();
+    }
+}

@@ -1,0 +1,214 @@
+-- The request that is read off the wire, and the response that is written.
+use Rattle.std.proofs.Common.{◌≡◌, ℕ, ◌<◌, ◌≤◌, ◌^◌, ◌==◌, List, Bool, true, false, cond, option_map, Option, Some, None, IfSome, IsSome, is_some, refl, ap, sym, subst, ◌∙◌, arith, IsTrue, length}
+use Rattle.std.proofs.lemmas.Option.{same_Some, none-some}
+use Rattle.fw_async.specs.declared.packet.Packet.{Packet}
+use Rattle.fw_async.specs.Async.{spelling, Fits}
+use Rattle.fw_async.specs.Reader.{Spells}
+use Rattle.fw_async.specs.Wire.{bytes_from}
+use Rattle.fw_ledger.specs.Words.{node_of}
+use Rattle.fw_cmp.specs.declared.current.Current.{Current}
+use Rattle.fw_cmp.specs.declared.current.Current.TheVariants.{Nothing, Asking, Hearing, Overtaken}
+use Rattle.fw_cmp.specs.declared.directory.Directory.{Directory}
+use Rattle.fw_cmp.specs.declared.request.Access.{Access}
+use Rattle.fw_cmp.specs.declared.request.Target.{Target}
+use Rattle.fw_cmp.specs.declared.request.Target.TheVariants.{OutputPlug, InputPlug, Channels, BandwidthAvailable}
+use Rattle.fw_base.specs.Devices.{has_link}
+use Rattle.fw_cmp.specs.Controllers.{ControllerState, IsStanding}
+use Rattle.fw_cmp.specs.Fits.{TargetFits}
+use Rattle.fw_cmp.specs.Requests.{access_of, addressee_of, offset_of, request_of, standing_in}
+use Rattle.fw_step.specs.Requests.{PlugNumberFits, procedure_head}
+use Rattle.fw_csr.specs.declared.reply.Reply.{Reply}
+use Rattle.fw_node.specs.Packets.{reply_in, packet_of, request_head, request_in, response_of, IsAnswer, IsRequest}
+use Rattle.fw_node.specs.State.{space_of}
+use Rattle.fw_devices.specs.Network.{node_at}
+use Rattle.fw_devices.specs.Entries.{node_device}
+use Rattle.fw_run.specs.State.{State, directory_of, is_living, number_in}
+use Rattle.fw_run.specs.Good.{IsGood}
+use Rattle.fw_run.proofs.Fitting.{procedure_fits, request_fits}
+use Rattle.fw_run.proofs.Hears.{Heard, heard_of, half_hears}
+use Rattle.fw_bus.specs.declared.machine.Machine.{Machine}
+use Rattle.fw_bus.specs.Stands.{StandsFor, IsReady, is_living_in, device_for, target_for, target_in}
+use Rattle.fw_bus.specs.Tables.{states_of}
+use Rattle.fw_bus.specs.Wires.{packet_for}
+use Rattle.fw_bus.proofs.Exchanges.{Standing, Exchange, standing_of, addressee_is, device_is, exchange_of, exchange_within, exchange_addresses, exchange_linked, asks_request}
+use Rattle.fw_bus.proofs.HalfHears.{Sent, answered_of}
+use Rattle.fw_bus.proofs.HalfWires.{own_number, own_place}
+use Rattle.fw_bus.proofs.Latest.{number_low}
+use Rattle.fw_bus.proofs.Living.{living_same}
+use Rattle.fw_bus.proofs.Nodes.{number_of_node}
+use Rattle.fw_bus.proofs.Wires.{stands_at}
+
+-- ---- where the request went
+
+-- what the machine knows of it: what it asks, and where it went
+pub record Went (m : Machine) (d device : ℕ) : Type 0 where
+  pub access : Access
+  pub to : ℕ
+  pub asks : Some access ≡ standing_in (states_of m.controllers d).current
+  pub goes : Some to ≡ addressee_of m.directory access.target
+  pub at : Some device ≡ node_device m.devices.latest.nodes to
+
+pub went_of : (m : Machine) (d device : ℕ) → Some device ≡ target_in m d → Went m d device
+went_of m d device e = go (standing_in (states_of m.controllers d).current) refl e
+  where
+    third : (a : Access) → Some a ≡ standing_in (states_of m.controllers d).current → (o : Option ℕ) → addressee_of m.directory a.target ≡ o
+        → Some device ≡ device_for m o → Went m d device
+    third a is None f x = absurd (none-some device (sym x))
+    third a is (Some to) f x = record { access = a; to = to; asks = is; goes = sym f; at = x }
+
+    go : (o : Option Access) → standing_in (states_of m.controllers d).current ≡ o → Some device ≡ target_for m o → Went m d device
+    go None is x = absurd (none-some device (sym x))
+    go (Some a) is x = third a (sym is) (addressee_of m.directory a.target) refl x
+
+-- a request that stands asks something
+standing_some : (m : Machine) (s : State) (d : ℕ) → IsGood s → StandsFor m s → IsTrue (is_living_in m d) → IsStanding (states_of m.controllers d).current
+    → (a : Access) × (standing_in (states_of m.controllers d).current ≡ Some a)
+standing_some m s d g st lives stands = go (s.controllers d).current refl (subst (λ f. IsStanding (f d).current) same stands)
+  where
+    same : states_of m.controllers ≡ s.controllers
+    same = st.controllers.table.states_are
+
+    living : IsTrue (is_living s d)
+    living = sym (living_same m s d g st) ∙ lives
+
+    go : (c : Current) → (s.controllers d).current ≡ c → IsStanding c → (a : Access) × (standing_in (states_of m.controllers d).current ≡ Some a)
+    go Nothing e h = absurd h
+    go (Asking j stage) e h = absurd h
+    go (Overtaken i o) e h = absurd h
+    go (Hearing j stage) e h =
+        let x = heard_of s d j stage g living e in
+        (_, ap (λ f. standing_in (f d).current) same ∙ (ap standing_in e ∙ (half_hears s d j stage g e x).access))
+
+-- it went to the node of a device
+pub target_there : (m : Machine) (s : State) (d : ℕ) → IsGood s → StandsFor m s → IsTrue (is_living_in m d) → IsStanding (states_of m.controllers d).current
+    → (device : ℕ) × (target_in m d ≡ Some device)
+target_there m s d g st lives stands =
+    let a = standing_some m s d g st lives stands in
+    let x = standing_of m s d a.0 g st lives stands (sym a.1) in
+    let w = device_is m s d a.0 g st x in
+    (w.0, ap (target_for m) a.1 ∙ (ap (device_for m) (addressee_is m s d a.0 st x) ∙ w.1))
+
+-- ---- its bytes
+
+-- the packet
+abbrev pub went_packet : {m : Machine} {d device : ℕ} (own : ℕ) → Went m d device → Packet
+went_packet own w = packet_of (request_head own w.to 0) (request_of w.access)
+
+offset_below : (t : Target) → PlugNumberFits t → offset_of t < 2 ^ 48
+offset_below (OutputPlug p) f = omega (arith, f)
+offset_below (InputPlug p) f = omega (arith, f)
+offset_below BandwidthAvailable f = omega arith
+offset_below (Channels base) f = go (base == 0)
+  where
+    go : (b : Bool) → cond b 0xFFFF_F000_0224 0xFFFF_F000_0228 < 2 ^ 48
+    go true = omega arith
+    go false = omega arith
+
+-- what is known where a request stands
+pub record Known (m : Machine) (d device own : ℕ) : Type 0 where
+  pub ready : IsReady m
+  pub lives : IsTrue (is_living_in m d)
+  pub stands : IsStanding (states_of m.controllers d).current
+  pub went : Went m d device
+  pub own_is : (node_at m.devices.nodes d).number ≡ Some own
+
+exchanged : (m : Machine) (d device own : ℕ) → (k : Known m d device own) → Exchange m k.ready.state d k.went.access k.went.to device
+exchanged m d device own k =
+    let r = k.ready in
+    exchange_of m r.state d k.went.access k.went.to device r.good r.stands (standing_of m r.state d k.went.access r.good r.stands k.lives k.stands k.went.asks) k.went.goes k.went.at
+
+packet_fits : (m : Machine) (d device own : ℕ) → (k : Known m d device own) → Fits (went_packet own k.went)
+packet_fits m d device own k =
+    let r = k.ready in
+    let x = exchanged m d device own k in
+    let place = own_number m r.state d own r.good r.stands k.lives k.own_is in
+    let to = number_low r.state device k.went.to r.good x.number in
+    let source = number_low r.state d own r.good place in
+    let small = (exchange_addresses m r.state d k.went.access k.went.to device r.good x).small in
+    let low : offset_of k.went.access.target < 2 ^ 48 = subst (λ (a : Access). offset_of a.target < 2 ^ 48) (sym x.access) (offset_below x.heard.target small) in
+    request_fits (procedure_head k.went.to own) (offset_of k.went.access.target) k.went.access.swap
+    (procedure_fits k.went.to own (omega (arith, to)) (omega (arith, source))) low
+
+-- they lie on the wire
+pub wire_has : (m : Machine) (d device own : ℕ) → (k : Known m d device own) → bytes_from own m.wire ≡ Some (spelling (went_packet own k.went))
+wire_has m d device own k =
+    let r = k.ready in
+    let s = r.state in
+    let g = r.good in
+    let st = r.stands in
+    let place = own_number m s d own g st k.lives k.own_is in
+    let node : node_of s.account.latest d ≡ own = same_Some _ own (sym (own_place s d (sym (living_same m s d g st) ∙ k.lives)) ∙ place) in
+    let asks : standing_in (s.controllers d).current ≡ Some k.went.access =
+    ap (λ (f : ℕ → ControllerState). standing_in (f d).current) (sym st.controllers.table.states_are) ∙ sym k.went.asks in
+    let goes : addressee_of (directory_of s) k.went.access.target ≡ Some k.went.to =
+    ap (λ (x : Directory). addressee_of x k.went.access.target) (sym st.controllers.directory) ∙ sym k.went.goes in
+    st.wire.each own ∙ ap (option_map spelling) (stands_at s d own g place ∙ (ap (packet_for s.account.latest (directory_of s) d) asks
+    ∙ (ap (option_map (λ to. packet_of (procedure_head to (node_of s.account.latest d)) (request_of k.went.access))) goes
+    ∙ ap (λ (n : ℕ). Some (packet_of (procedure_head k.went.to n) (request_of k.went.access))) node)))
+
+-- so what was taken are these
+pub request_read : (m : Machine) (d device own : ℕ) (bytes : List ℕ) → (k : Known m d device own) → Some bytes ≡ bytes_from own m.wire → Spells (went_packet own k.went) bytes
+request_read m d device own bytes k is = record { fits = packet_fits m d device own k; same = same_Some _ bytes (sym (wire_has m d device own k) ∙ sym is) }
+
+pub some_taken : {A : Type 0} (f : A → List ℕ) (o : Option A) (m : Machine) (d device own : ℕ) → Known m d device own → option_map f o ≡ bytes_from own m.wire
+    → (x : A) × (o ≡ Some x)
+some_taken f None m d device own k e = absurd (none-some _ (e ∙ wire_has m d device own k))
+some_taken f (Some x) m d device own k e = (x, refl)
+
+pub is_request : (m : Machine) (d device own : ℕ) (bytes : List ℕ) → (k : Known m d device own) → Some bytes ≡ bytes_from own m.wire → IsRequest bytes
+is_request m d device own bytes k is = record {
+  packet = went_packet own k.went;
+  spells = request_read m d device own bytes k is;
+  asks = ap is_some (asks_request (request_head own k.went.to 0) (request_of k.went.access));
+}
+
+-- ---- the node that reads them
+
+pub device_within : (m : Machine) (d device own : ℕ) → Known m d device own → device < length m.devices.nodes
+device_within m d device own k = let r = k.ready in exchange_within m r.state d k.went.access k.went.to device r.good r.stands (exchanged m d device own k)
+
+pub device_number : (m : Machine) (d device own : ℕ) → (k : Known m d device own) → (node_at m.devices.nodes device).number ≡ Some k.went.to
+device_number m d device own k =
+    let r = k.ready in
+    number_of_node m.devices.nodes r.state device r.stands.devices.nodes (device_within m d device own k) ∙ (exchanged m d device own k).number
+
+-- it has a link
+pub device_linked : (m : Machine) (d device own : ℕ) → (k : Known m d device own) → IfSome (standing_in (states_of m.controllers d).current) (λ a. TargetFits a.target)
+    → IsTrue (has_link (node_at m.devices.nodes device).kind)
+device_linked m d device own k fits =
+    let r = k.ready in
+    exchange_linked m r.state d k.went.access k.went.to device r.good r.stands (subst (λ o. IfSome o (λ a. TargetFits a.target)) (sym k.went.asks) fits) (exchanged m d device own k)
+
+-- ---- the response that it writes
+
+pub record Response (m : Machine) (d device own : ℕ) (k : Known m d device own) (out : List ℕ) : Type 0 where
+  pub packet : Packet
+  pub sent : Sent m d k.went.access k.went.to device own (went_packet own k.went) packet
+  pub spells : Spells packet out
+
+pub response_written : (m : Machine) (d device own : ℕ) (out : List ℕ) → (k : Known m d device own)
+    → ((n : ℕ) → (node_at m.devices.nodes device).number ≡ Some n → IsAnswer (space_of n m.cycle (node_at m.devices.nodes device)) (went_packet own k.went) out)
+    → Response m d device own k out
+response_written m d device own out k written =
+    let number = device_number m d device own k in
+    let found = written k.went.to number in
+    record {
+      packet = found.packet;
+      sent = record {
+        asks = k.went.asks;
+        goes = k.went.goes;
+        at = k.went.at;
+        own_is = k.own_is;
+        packet_is = refl;
+        answered = λ n e.
+            ap (λ (j : ℕ). response_of (space_of j m.cycle (node_at m.devices.nodes device)) (went_packet own k.went)) (same_Some n k.went.to (sym e ∙ number)) ∙ found.answers;
+      };
+      spells = found.spells;
+    }
+
+-- it has a reply
+pub reply_there : (m : Machine) (d device own : ℕ) (out : List ℕ) (k : Known m d device own) → (r : Response m d device own k out) → (y : Reply) × (reply_in r.packet ≡ Some y)
+reply_there m d device own out k r =
+    let q = k.ready in
+    let z = answered_of m q.state d k.went.access k.went.to device own (went_packet own k.went) r.packet q.good q.stands k.lives k.stands r.sent in
+    (_, z.reply_is)

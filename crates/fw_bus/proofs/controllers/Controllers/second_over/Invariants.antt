@@ -1,6 +1,0 @@
-use Rattle.std.proofs.Common.{◌≡◌, ◌++◌, map, take, drop}
-use Rattle.fw_cmp.specs.Resets.{after_second}
-use Rattle.fw_bus.proofs.controllers.Controllers.second_over.Given as goal
-
-abbrev pub invariant-loop-controller : goal.invariant-loop-controller
-invariant-loop-controller l = l.controller-items ≡ map after_second (take l.controller-index l.initial.controller-items) ++ drop l.controller-index l.initial.controller-items

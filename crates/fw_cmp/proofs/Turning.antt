@@ -1,0 +1,44 @@
+-- A job that has begun and is not late goes on from the stage at which it stands.
+use Rattle.std.proofs.Common.{◌≡◌, Bool, true, false, refl, ap, sym, ◌∙◌}
+use Rattle.std.specs.Prelude.{if◌then◌else◌}
+use Rattle.fw_cmp.specs.declared.connection.Slot.{Slot}
+use Rattle.fw_cmp.specs.declared.current.Current.{Current}
+use Rattle.fw_cmp.specs.declared.current.Current.TheVariants.{Asking}
+use Rattle.fw_cmp.specs.declared.directory.Directory.{Directory}
+use Rattle.fw_cmp.specs.declared.job.Job.{Job}
+use Rattle.fw_cmp.specs.declared.job.Ending.TheVariants as ending
+use Rattle.fw_cmp.specs.declared.stage.Stage.{Stage}
+use Rattle.fw_cmp.specs.declared.stage.Stage.TheVariants.{Begin, ReadOutput, ReadChannels, SwapChannels, ReadBandwidth, SwapBandwidth, ConnectOutput, OverlayOutput, ReadInput, ConnectInput, ReadInputToLeave, LeaveInput, ReadOutputToLeave, LeaveOutput, ReadBandwidthToRelease, RaiseBandwidth, ReadChannelsToRelease, RestoreChannel, Made, Ended}
+use Rattle.fw_cmp.specs.Controllers.{ControllerState, slot_at}
+use Rattle.fw_cmp.specs.Turns.{is_late, begun, resumed, resumed_current, going}
+
+begun_stays : (d : Directory) (s : Slot) (j : Job) (t : Stage) → (t ≡ Begin → ⊥) → begun d s j t ≡ t
+begun_stays d s j Begin ne = absurd (ne refl)
+begun_stays d s j ReadOutput ne = refl
+begun_stays d s j (ReadChannels base w) ne = refl
+begun_stays d s j (SwapChannels ch arg w) ne = refl
+begun_stays d s j (ReadBandwidth ch w) ne = refl
+begun_stays d s j (SwapBandwidth ch u arg w) ne = refl
+begun_stays d s j (ConnectOutput ch u arg) ne = refl
+begun_stays d s j (OverlayOutput arg) ne = refl
+begun_stays d s j (ReadInput f) ne = refl
+begun_stays d s j (ConnectInput f arg) ne = refl
+begun_stays d s j (ReadInputToLeave ch u) ne = refl
+begun_stays d s j (LeaveInput ch u arg) ne = refl
+begun_stays d s j (ReadOutputToLeave x ch u) ne = refl
+begun_stays d s j (LeaveOutput x ch u arg) ne = refl
+begun_stays d s j (ReadBandwidthToRelease next ch u) ne = refl
+begun_stays d s j (RaiseBandwidth next ch u arg) ne = refl
+begun_stays d s j (ReadChannelsToRelease next ch) ne = refl
+begun_stays d s j (RestoreChannel next ch arg) ne = refl
+begun_stays d s j (Made f) ne = refl
+begun_stays d s j (Ended x) ne = refl
+
+pub resumed_stays : (d : Directory) (s : Slot) (j : Job) (t : Stage) → (t ≡ Begin → ⊥) → is_late s j t ≡ false → resumed d s j t ≡ t
+resumed_stays d s j t ne e = ap (λ (b : Bool). if b then Ended ending.Late else begun d s j t) e ∙ begun_stays d s j t ne
+
+-- a controller whose current job does so stays as it is
+pub asking_stays : (d : Directory) (c : ControllerState) (j : Job) (t : Stage) → c.current ≡ Asking j t → resumed d (slot_at c j.slot) j t ≡ t → going d c ≡ c
+asking_stays d c j t is stays =
+    let same : resumed_current c d c.current ≡ c.current = ap (λ (x : Current). resumed_current c d x) is ∙ ap (Asking j) stays ∙ sym is in
+    ap (λ (x : Current). record c { current = x }) same

@@ -1,0 +1,61 @@
+//! Request packets and their responses as bytes, as they stand on the bus.
+
+ghost use Rattle.std.specs.Prelude.{◌≡◌, ℕ, Some, None, IsSome, IsTrue};
+ghost use Rattle.fw_async.specs.Reader.{Spells, IsPacket};
+ghost use Rattle.fw_async.specs.declared.packet.Packet.{Packet as AsyncPacket};
+ghost use Rattle.fw_base.specs.Devices.{has_link};
+ghost use Rattle.fw_tape.specs.Desks.{AnyVendorByte};
+ghost use Rattle.fw_node.specs.Fcp.{HasFollowed};
+ghost use Rattle.fw_node.specs.Packets.{IsAnswer, IsRequest, reply_in, request_in, requester};
+ghost use Rattle.fw_node.specs.State.{after_request, space_of};
+
+use crate::Node;
+use crate::response::reply_in;
+use arrayvec::ArrayVec;
+use fw_async::{whole_packet, write_packet};
+use fw_csr::Reply;
+use fw_tape::Desk;
+
+impl Node {
+    /// `answer` from bytes to bytes: carries the request packet that these bytes are out in cycle `now`, and writes the response's
+    /// bytes in place of what `out` held.
+    pub fn take<F: Fn(u16, u32, u16) -> [u8; 480], H: Fn(u32, u8) -> u8>(
+        &mut self,
+        now: u64,
+        bytes: &[u8],
+        desk: &Desk<F, H>,
+        out: &mut ArrayVec<u8, 528>,
+    )
+        requires desk { AnyVendorByte (H.pre desk.now.vendor) }
+        requires request { IsRequest bytes.now }
+        requires link { IsTrue (has_link self.old.kind) }
+        requires reset { IsSome self.old.number }
+        requires given { self.old.waiting ≡ None }
+        ensures response { (p : AsyncPacket) → Spells p bytes.now → (number : ℕ) → self.old.number ≡ Some number → IsAnswer (space_of number now self.old) p out.new.items }
+        ensures node { (p : AsyncPacket) → Spells p bytes.now → HasFollowed (H.post desk.now.vendor) (requester p) (request_in p) (after_request (request_in p) self.old) self.new }
+    {
+        let response = self.answer(now, &whole_packet(bytes), desk);
+        write_packet(&response, out);
+    }
+
+    /// `carry_out` from bytes to bytes: nothing follows from a write to FCP_COMMAND but its response.
+    pub fn take_at_registers(&mut self, now: u64, bytes: &[u8], out: &mut ArrayVec<u8, 528>)
+        requires request { IsRequest bytes.now }
+        requires link { IsTrue (has_link self.old.kind) }
+        requires reset { IsSome self.old.number }
+        ensures response { (p : AsyncPacket) → Spells p bytes.now → (number : ℕ) → self.old.number ≡ Some number → IsAnswer (space_of number now self.old) p out.new.items }
+        ensures registers { (p : AsyncPacket) → Spells p bytes.now → self.new ≡ after_request (request_in p) self.old }
+    {
+        let response = self.carry_out(now, &whole_packet(bytes));
+        write_packet(&response, out);
+    }
+}
+
+/// The reply that the bytes of a response packet carry, with its response code. None where the packet is no response, or carries
+/// other data than a quadlet.
+pub fn reply_at(bytes: &[u8]) -> Option<Reply>
+    requires { IsPacket bytes.now }
+    ensures { (p : AsyncPacket) → Spells p bytes.now → result ≡ reply_in p }
+{
+    reply_in(&whole_packet(bytes))
+}
