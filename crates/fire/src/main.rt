@@ -1,28 +1,44 @@
 //! `fire`: runs a script on a simulated FireWire bus and writes its log, or decodes a log.
 #![tactic(auto)]
 
+ghost use Rattle.std.specs.Prelude.{◌≡◌, ◌⊎◌, IfErr};
+ghost use Rattle.fw_tool.specs.declared.ending.Ending.{Ending as AnEnding};
+
 use fw_outside::{MemSink, StdSink, StdSource};
 use fw_tool::{Ending, NOTE_ROOM, close, fire, tell};
 use std::env;
-use std::io::{BufReader, BufWriter};
+use std::io::{BufWriter, ErrorKind};
 use std::process::ExitCode;
+
+/// The words of the command line, behind the program's name.
+fn words(rt: &HostRuntime) -> Result<Vec<String>, Ending>
+    ensures { IfErr result (λ e. (e ≡ AnEnding.Usage) ⊎ (e ≡ AnEnding.NoMemory)) }
+{
+    match env::args(rt) {
+        Ok(mut words) => {
+            let _ = words.next();
+            words.collect(rt.alloc()).map_err(|_| Ending::NoMemory)
+        }
+        Err(error) if error.kind() == ErrorKind::OutOfMemory => Err(Ending::NoMemory),
+        Err(_) => Err(Ending::Usage),
+    }
+}
 
 fn main(rt: HostRuntime) -> ExitCode {
     let alloc = rt.alloc();
     let mut errors = StdSink::new(rt.stderr());
-    let Ok(mut words) = env::args(&rt) else {
-        return ExitCode::from(tell(Ending::Usage, &mut errors));
+    let words = match words(&rt) {
+        Ok(words) => words,
+        Err(ending) => return ExitCode::from(tell(ending, &mut errors)),
     };
-    let _ = words.next();
-    let (Ok(words), Ok(input), Ok(output), Ok(mut notes)) = (
-        words.collect::<Vec<String>>(alloc),
-        BufReader::new(alloc, rt.reader()),
+    let (Ok(output), Ok(mut notes)) = (
         BufWriter::new(alloc, rt.stdout()),
         MemSink::new(alloc, NOTE_ROOM, Vec::new(alloc)),
     ) else {
         return ExitCode::from(tell(Ending::NoMemory, &mut errors));
     };
-    let mut source = StdSource::new(input);
+    // The source is asked for whole pieces, and needs no buffer in front of it.
+    let mut source = StdSource::new(rt.reader());
     let mut sink = StdSink::new(output);
     let status = fire(alloc, &words, &mut source, &mut sink, &mut notes);
     let flushed = sink.flush();

@@ -1,4 +1,5 @@
-//! A bus reset, a cable that joins a device, or a death behind each half step of a job, and where it leaves the registers.
+//! A bus reset, a cable that joins a device, or a death behind each half step of a job, and where it leaves the registers. What a dead
+//! controller took comes back at the next bus reset.
 //!
 //! The lines and words are worked out by hand from the rules of the bus. A stage takes two half steps, one that asks and one that has
 //! the request carried out and hears the answer; the outcome takes one more.
@@ -19,6 +20,9 @@ const MAKE: &str = "connect a a.0 b.0 any 8\nstep a";
 const OVERLAY: &str = "connect a a.0 b.0 any 8\nsettle 20\nconnect b a.0 b.0 any 8\nstep b";
 
 const BREAK: &str = "connect a a.0 b.0 any 8\nsettle 20\nbreak a 0\nstep a";
+
+const RESTORE: &str =
+    "connect a a.0 b.0 any 8\nsettle 20\nconnect b a.0 b.0 any 8\nsettle 20\nreset a\nstep a";
 
 const LISTEN: &str = "listen b b.0\nstep b";
 
@@ -56,6 +60,22 @@ const OVERLAY_RESET: &str = "\
 const BOTH_BACK: &str = "\
 8000 outcome connected 0 0 00000000
 8000 outcome connected 1 0 00000000
+8000 outcome restored 0 0 00000000
+8000 outcome restored 1 0 00000000
+";
+
+const A_BACK_TWICE: &str = "\
+8000 outcome connected 0 0 00000000
+8000 outcome connected 1 0 00000000
+8000 outcome restored 0 0 00000000
+8000 outcome restored 1 0 00000000
+8000 outcome restored 0 0 00000000
+";
+
+const A_BACK_BEFORE: &str = "\
+8000 outcome connected 0 0 00000000
+8000 outcome connected 1 0 00000000
+8000 outcome restored 0 0 00000000
 8000 outcome restored 0 0 00000000
 8000 outcome restored 1 0 00000000
 ";
@@ -168,29 +188,55 @@ const LATE_DEATHS_OF_B: &[Row] = &[
     (LISTEN, 5, 5, HEARD, LISTENS),
 ];
 
+// A second bus reset begins the restoring anew. Behind 16 half steps the first controller has heard its last answer, and it writes its
+// outcome while the other takes the channel.
+const SECOND_RESETS: &[Row] = &[
+    (RESTORE, 1, 15, BOTH_BACK, TWICE),
+    (RESTORE, 16, 16, A_BACK_TWICE, TWICE),
+    (RESTORE, 17, 25, A_BACK_BEFORE, TWICE),
+];
+
+const DEATHS_AND_RESETS: &[Row] = &[
+    (MAKE, 1, 11, "", FREE),
+    (MAKE, 12, 15, "", OUTPUT_KEPT),
+    (MAKE, 16, 16, "", ALL_BACK),
+    (MAKE, 17, 17, A_MADE, ALL_BACK),
+];
+
+const LATE_DEATHS_AND_RESETS: &[Row] = &[
+    (MAKE, 1, 10, "", FREE),
+    (MAKE, 11, 14, "", OUTPUT_KEPT),
+    (MAKE, 15, 16, "", ALL_BACK),
+    (MAKE, 17, 17, A_MADE, ALL_BACK),
+];
+
+// What comes behind the half steps.
+const EVENTS: &[(&str, &[Row])] = &[
+    ("reset a\n", RESETS),
+    ("reset b\n", RESETS),
+    ("reset a\nstep a 3\nreset b\n", RESETS),
+    ("device c deck 1 100\ncable b.1 c.0\n", RESETS),
+    ("reset b\n", SECOND_RESETS),
+    ("die a\n", DEATHS_OF_A),
+    ("die b\n", DEATHS_OF_B),
+    ("die a late\n", LATE_DEATHS_OF_A),
+    ("die b late\n", LATE_DEATHS_OF_B),
+    ("die a\nreset b\n", DEATHS_AND_RESETS),
+    ("die a late\nreset b\n", LATE_DEATHS_AND_RESETS),
+];
+
 #[test]
 fn each_half_step_may_be_the_last(rt: HostRuntime) -> Result<(), Fail> {
     let alloc = rt.alloc();
-    // What comes behind the half steps.
-    let cases = [
-        ("reset a\n", RESETS),
-        ("reset b\n", RESETS),
-        ("reset a\nstep a 3\nreset b\n", RESETS),
-        ("device c deck 1 100\ncable b.1 c.0\n", RESETS),
-        ("die a\n", DEATHS_OF_A),
-        ("die b\n", DEATHS_OF_B),
-        ("die a late\n", LATE_DEATHS_OF_A),
-        ("die b late\n", LATE_DEATHS_OF_B),
-    ];
-    for (event, rows) in cases {
-        for (job, from, to, outcomes, [output, input, channels, bandwidth]) in rows {
+    for (event, rows) in EVENTS {
+        for (job, from, to, outcomes, [output, input, channels, bandwidth]) in *rows {
             let lines = format!(in alloc;
                 "{outcomes}16000 shown 0 904 {output}\n16000 shown 1 984 {input}\n\
                  16000 shown 1 224 {channels}\n16000 shown 1 220 {bandwidth}\n"
             )?;
             for count in *from..=*to {
                 let rest = format!(in alloc;
-                    "{job} {count}\n{event}settle 64\nwait 8000\nsettle 64\n\
+                    "{job} {count}\n{event}settle 192\nwait 8000\nsettle 64\n\
                      show a 904\nshow b 984\nshow manager 224\nshow manager 220\n"
                 )?;
                 let told = told(alloc, PAIR, &rest)?;

@@ -6,6 +6,8 @@ mod calls;
 #[cfg(test)]
 mod decodes;
 #[cfg(test)]
+mod faults;
+#[cfg(test)]
 mod halts;
 #[cfg(test)]
 mod nodes;
@@ -15,5 +17,7 @@ mod program;
 mod rounds;
 #[cfg(test)]
 mod runs;
+#[cfg(test)]
+mod seeds;
 #[cfg(test)]
 mod vectors;

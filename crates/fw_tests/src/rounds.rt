@@ -47,8 +47,6 @@ wait 8000
 device f deck 1 100
 ";
 
-const MANAGER: &str = "show manager 224\nshow manager 220\n";
-
 const ONE: &str = "connect a a.0 b.0 any 8\nsettle 20\n";
 
 const ONE_MADE: &str = "8000 outcome connected 0 0 00000000\n";
@@ -60,159 +58,89 @@ const TWO_MADE: &str = "\
 8000 outcome connected 1 0 00000000
 ";
 
-#[test]
-fn connections_come_back_or_are_late(rt: HostRuntime) -> Result<(), Fail> {
-    let alloc = rt.alloc();
-    // What stands and its lines, what follows and its lines.
-    let cases = [
-        (
-            (TWO, TWO_MADE),
-            "reset a\nsettle 19\nshow a 904\nshow b 984\nshow manager 224\nshow manager 220\n",
-            "8000 outcome restored 0 0 00000000\n8000 outcome restored 1 0 00000000\n\
-             8000 shown 0 904 8200207a\n8000 shown 1 984 82000000\n\
-             8000 shown 1 224 7fffffff\n8000 shown 1 220 00000a63\n",
-        ),
-        // The last outcome comes in the nineteenth round.
-        (
-            (TWO, TWO_MADE),
-            "reset a\nsettle 18\n",
-            "8000 outcome restored 0 0 00000000\n8000 event unsettled\n",
-        ),
-        (
-            (ONE, ONE_MADE),
-            "reset a\nwait 7999\nshow a 904\nwait 1\nsettle 1\n",
-            "15999 shown 0 904 8000207a\n16000 outcome late 0 0 00003e80\n",
-        ),
-        (
-            (ONE, ONE_MADE),
-            "reset a\nsettle 6\nreset b\nsettle 20\nshow manager 224\nshow manager 220\n",
-            "8000 event unsettled\n8000 outcome restored 0 0 00000000\n\
-             8000 shown 1 224 7fffffff\n8000 shown 1 220 00000a63\n",
-        ),
-        // A second that has ended stays ended, whatever second runs later.
-        (
-            (ONE, ONE_MADE),
-            "reset a\nwait 8000\nreset b\nsettle 20\nshow manager 224\nshow manager 220\n",
-            "16000 outcome late 0 0 00003e80\n\
-             16000 shown 1 224 ffffffff\n16000 shown 1 220 00001333\n",
-        ),
-        // A holder dies with the channel. The other finds it taken and waits for that holder, an even number of half steps, so that no
-        // request of it stands and it holds nothing when its own second ends. The channel stays taken up to the next bus reset.
-        (
-            (TWO, TWO_MADE),
-            "reset a\nstep a 6\ndie a\nsettle 64\nwait 8000\nsettle 20\n\
-             show manager 224\nshow manager 220\nreset b\nsettle 20\nshow manager 224\n",
-            "8000 event unsettled\n16000 outcome late 1 0 00003e80\n\
-             16000 shown 1 224 7fffffff\n16000 shown 1 220 00001333\n16000 shown 1 224 ffffffff\n",
-        ),
-    ];
-    for ((stands, made), rest, lines) in cases {
-        let script = format!(in alloc; "{stands}{rest}")?;
-        let lines = format!(in alloc; "{made}{lines}")?;
-        let told = told(alloc, PAIR, &script)?;
-        assert_eq!(rt; told.as_str(), lines.as_str(), "{script}");
-    }
-    Ok(())
-}
+// The devices, the connections that stand, and what follows; then the lines of the one and of the other.
+type Row = (
+    &'static str,
+    (&'static str, &'static str),
+    &'static str,
+    &'static str,
+);
+
+const ROWS: &[Row] = &[
+    (
+        PAIR,
+        (TWO, TWO_MADE),
+        "reset a\nsettle 19\nshow a 904\nshow b 984\nshow manager 224\nshow manager 220\n",
+        "8000 outcome restored 0 0 00000000\n8000 outcome restored 1 0 00000000\n\
+         8000 shown 0 904 8200207a\n8000 shown 1 984 82000000\n\
+         8000 shown 1 224 7fffffff\n8000 shown 1 220 00000a63\n",
+    ),
+    // The last outcome comes in the nineteenth round.
+    (
+        PAIR,
+        (TWO, TWO_MADE),
+        "reset a\nsettle 18\n",
+        "8000 outcome restored 0 0 00000000\n8000 event unsettled\n",
+    ),
+    (
+        PAIR,
+        (ONE, ONE_MADE),
+        "reset a\nwait 7999\nshow a 904\nwait 1\nsettle 1\n",
+        "15999 shown 0 904 8000207a\n16000 outcome late 0 0 00003e80\n",
+    ),
+    (
+        PAIR,
+        (ONE, ONE_MADE),
+        "reset a\nsettle 6\nreset b\nsettle 20\nshow manager 224\nshow manager 220\n",
+        "8000 event unsettled\n8000 outcome restored 0 0 00000000\n\
+         8000 shown 1 224 7fffffff\n8000 shown 1 220 00000a63\n",
+    ),
+    // A second that has ended stays ended, whatever second runs later.
+    (
+        PAIR,
+        (ONE, ONE_MADE),
+        "reset a\nwait 8000\nreset b\nsettle 20\nshow manager 224\nshow manager 220\n",
+        "16000 outcome late 0 0 00003e80\n\
+         16000 shown 1 224 ffffffff\n16000 shown 1 220 00001333\n",
+    ),
+    // A holder dies with the channel. The other finds it taken and waits for that holder, an even number of half steps, so that no
+    // request of it stands and it holds nothing when its own second ends. The channel stays taken up to the next bus reset.
+    (
+        PAIR,
+        (TWO, TWO_MADE),
+        "reset a\nstep a 6\ndie a\nsettle 64\nwait 8000\nsettle 20\n\
+         show manager 224\nshow manager 220\nreset b\nsettle 20\nshow manager 224\n",
+        "8000 event unsettled\n16000 outcome late 1 0 00003e80\n\
+         16000 shown 1 224 7fffffff\n16000 shown 1 220 00001333\n16000 shown 1 224 ffffffff\n",
+    ),
+    (
+        CHAIN,
+        ("", ""),
+        "connect b a.0 f.0 any 8\nsettle 1\n",
+        "8000 outcome absent 1 0 00000005\n",
+    ),
+    // The broadcast-in connection sets the bit of the input plug, 803f0000, on channel 63: c03f0000. The other takes channel 0, the
+    // units and the output plug, finds the input plug connected on another channel, and gives all back; the output plug keeps its
+    // channel 0 and overhead_ID 8. The bus reset clears the bit, and the restoring sets it again.
+    (
+        PAIR,
+        ("", ""),
+        "listen b b.0\nsettle 20\nconnect a a.0 b.0 any 8\nsettle 64\n\
+         show a 904\nshow manager 224\nshow manager 220\nreset a\nsettle 64\nshow b 984\n",
+        "8000 outcome connected 1 0 0000003f\n8000 outcome input-busy 0 0 c03f0000\n\
+         8000 shown 0 904 8000207a\n8000 shown 1 224 ffffffff\n8000 shown 1 220 00001333\n\
+         8000 outcome restored 1 0 0000003f\n8000 shown 1 984 c03f0000\n",
+    ),
+];
 
 #[test]
 fn jobs_end_as_the_bus_stands(rt: HostRuntime) -> Result<(), Fail> {
     let alloc = rt.alloc();
-    // The devices, what follows, and its lines.
-    let cases = [
-        (
-            PAIR,
-            "connect a a.0 b.0 any 8\nstep a 10\nreset a\nsettle 1\n\
-             show manager 224\nshow manager 220\n",
-            "8000 outcome reset 0 0 00000003\n\
-             8000 shown 1 224 ffffffff\n8000 shown 1 220 00001333\n",
-        ),
-        (
-            PAIR,
-            "connect a a.0 b.0 any 8\nstep a 6\ndie a\nshow manager 224\n\
-             reset b\nwait 8000\nshow manager 224\n",
-            "8000 shown 1 224 7fffffff\n16000 shown 1 224 ffffffff\n",
-        ),
-        (
-            PAIR,
-            "connect a a.0 b.0 any 8\nstep a 5\ndie a\nshow manager 224\n",
-            "8000 shown 1 224 ffffffff\n",
-        ),
-        (
-            PAIR,
-            "connect a a.0 b.0 any 8\nstep a 5\ndie a late\nshow manager 224\n",
-            "8000 shown 1 224 7fffffff\n",
-        ),
-        (
-            CHAIN,
-            "connect b a.0 f.0 any 8\nsettle 1\n",
-            "8000 outcome absent 1 0 00000005\n",
-        ),
-        // The broadcast-in connection sets the bit of the input plug, 803f0000, on channel 63: c03f0000. The other takes channel 0, the
-        // units and the output plug, finds the input plug connected on another channel, and gives all back; the output plug keeps its
-        // channel 0 and overhead_ID 8. The bus reset clears the bit, and the restoring sets it again.
-        (
-            PAIR,
-            "listen b b.0\nsettle 20\nconnect a a.0 b.0 any 8\nsettle 64\n\
-             show a 904\nshow manager 224\nshow manager 220\nreset a\nsettle 64\nshow b 984\n",
-            "8000 outcome connected 1 0 0000003f\n8000 outcome input-busy 0 0 c03f0000\n\
-             8000 shown 0 904 8000207a\n8000 shown 1 224 ffffffff\n8000 shown 1 220 00001333\n\
-             8000 outcome restored 1 0 0000003f\n8000 shown 1 984 c03f0000\n",
-        ),
-    ];
-    for (first, rest, lines) in cases {
-        let told = told(alloc, first, rest)?;
-        assert_eq!(rt; told.as_str(), lines, "{rest}");
-    }
-    Ok(())
-}
-
-#[test]
-fn a_second_reset_begins_anew(rt: HostRuntime) -> Result<(), Fail> {
-    let alloc = rt.alloc();
-    // Half steps of the first controller between the resets; the devices whose connections come back. Behind 16 it has heard its last
-    // answer, and it writes its outcome while the other takes the channel.
-    let cases = [
-        (1, 15, ["0", "1", ""]),
-        (16, 16, ["0", "1", "0"]),
-        (17, 25, ["0", "0", "1"]),
-    ];
-    for (from, to, devices) in cases {
-        let mut lines = TWO_MADE.to_string(alloc)?;
-        for device in devices {
-            if !device.is_empty() {
-                let line = format!(in alloc; "8000 outcome restored {device} 0 00000000\n")?;
-                lines.push_str(&line)?;
-            }
-        }
-        lines.push_str("8000 shown 0 904 8200207a\n8000 shown 1 220 00000a63\n")?;
-        for count in from..=to {
-            let rest = format!(in alloc;
-                "{TWO}reset a\nstep a {count}\nreset b\nsettle 192\nshow a 904\nshow manager 220\n"
-            )?;
-            let told = told(alloc, PAIR, &rest)?;
-            assert_eq!(rt; told.as_str(), lines.as_str(), "{count}");
-        }
-    }
-    Ok(())
-}
-
-#[test]
-fn a_reset_gives_back_what_a_dead_controller_took(rt: HostRuntime) -> Result<(), Fail> {
-    let alloc = rt.alloc();
-    let words = "16000 shown 1 224 ffffffff\n16000 shown 1 220 00001333\n";
-    // Half steps before the death, and what was told by then.
-    for (from, to, made) in [(1, 16, ""), (17, 17, ONE_MADE)] {
-        let lines = format!(in alloc; "{made}{words}")?;
-        for count in from..=to {
-            for death in ["die a\n", "die a late\n"] {
-                let rest = format!(in alloc;
-                    "connect a a.0 b.0 any 8\nstep a {count}\n{death}reset b\nwait 8000\n{MANAGER}"
-                )?;
-                let told = told(alloc, PAIR, &rest)?;
-                assert_eq!(rt; told.as_str(), lines.as_str(), "{rest}");
-            }
-        }
+    for (devices, (stands, made), rest, lines) in ROWS {
+        let script = format!(in alloc; "{stands}{rest}")?;
+        let lines = format!(in alloc; "{made}{lines}")?;
+        let told = told(alloc, devices, &script)?;
+        assert_eq!(rt; told.as_str(), lines.as_str(), "{script}");
     }
     Ok(())
 }

@@ -1,36 +1,26 @@
-//! Scripts that are run into memory, their logs decoded again, and calls that fail.
+//! Scripts that are run into memory, and scripts that are refused.
 
-use crate::calls::{Failing, NONE, call, front};
+use crate::calls::{Failing, NONE, call, call_over, front, read_on};
 use crate::vectors::{
-    ENTRIES, FIVE_HALF_STEPS, NO_PLUG, ONE_DECK, SKIPPED_LINES, SWAP_AND_READ, VECTORS,
+    FIVE_HALF_STEPS, NO_PLUG, ONE_DECK, SKIPPED_LINES, SWAP_AND_READ, VECTORS, Vector,
 };
+use fw_outside::MemSource;
 use std::alloc::{AllocError, Global};
 use std::test::Fail;
 
 #[test]
-fn scripts_give_their_logs_and_logs_their_lines(rt: HostRuntime) -> Result<(), Fail> {
+fn scripts_give_their_logs(rt: HostRuntime) -> Result<(), Fail> {
     let alloc = rt.alloc();
-    for session in [
+    for vector in [
         ONE_DECK,
         FIVE_HALF_STEPS,
         SKIPPED_LINES,
         SWAP_AND_READ,
         NO_PLUG,
     ] {
-        let log = hex::decode(alloc, session.log)?;
-        let ended = call(alloc, &["run"], session.script.as_bytes(), NONE)?;
-        assert_eq!(rt; ended.status, 0, "{}", session.script);
-        assert_eq!(rt;
-            ended.output.as_slice(),
-            log.as_slice(),
-            "{}",
-            session.script
-        );
-        assert!(rt; ended.notes.as_slice().is_empty());
-        let ended = call(alloc, &["decode"], &log, NONE)?;
-        assert_eq!(rt; ended.status, 0, "{}", session.script);
-        assert_eq!(rt; ended.output.as_slice(), session.lines.as_bytes());
-        assert!(rt; ended.notes.as_slice().is_empty());
+        let log = hex::decode(alloc, vector.log)?;
+        let ended = call(alloc, &["run"], vector.script.as_bytes(), NONE)?;
+        assert!(rt; ended.is(0, "", &log), "{}", vector.script);
     }
     Ok(())
 }
@@ -41,14 +31,7 @@ fn scripts_of_controllers_give_their_logs(rt: HostRuntime) -> Result<(), Fail> {
     for vector in VECTORS {
         let log = hex::decode(alloc, vector.log)?;
         let ended = call(alloc, &["run"], vector.script.as_bytes(), NONE)?;
-        assert_eq!(rt; ended.status, 0, "{}", vector.script);
-        assert_eq!(rt;
-            ended.output.as_slice(),
-            log.as_slice(),
-            "{}",
-            vector.script
-        );
-        assert!(rt; ended.notes.as_slice().is_empty(), "{}", vector.script);
+        assert!(rt; ended.is(0, "", &log), "{}", vector.script);
     }
     Ok(())
 }
@@ -57,79 +40,7 @@ const DECK: &str = "device d deck 1 100\n";
 
 const PAIR: &str = "device a deck 1 100\ndevice b deck 1 100\ncable a.0 b.0\n";
 
-#[test]
-fn the_first_refused_line_decides(rt: HostRuntime) -> Result<(), Fail> {
-    let alloc = rt.alloc();
-    let one = hex::decode(alloc, ONE_DECK.log)?;
-    let two = hex::decode(alloc, SWAP_AND_READ.log)?;
-    let guarded = "wait 8000\nswap a b 220 00001333 00000000\n";
-    let cases = [
-        ("", "", "line 1: NoEnd\n", front(&one, 16)),
-        ("# x\n\n", "end \n", "line 3: BadLine\n", front(&one, 16)),
-        (
-            "",
-            "show manager 220\n",
-            "line 1: NoRegister\n",
-            front(&one, 16),
-        ),
-        (DECK, "", "line 2: NoEnd\n", front(&one, 48)),
-        (DECK, DECK, "line 2: NameTaken\n", front(&one, 48)),
-        (
-            DECK,
-            "broadcast a b.0 0\n",
-            "line 2: UnknownName\n",
-            front(&one, 48),
-        ),
-        (
-            ONE_DECK.script,
-            "end\n",
-            "line 5: BadLine\n",
-            front(&one, 428),
-        ),
-        (
-            PAIR,
-            "cable a.0 b.0\n",
-            "line 4: PortUsed\n",
-            front(&two, 92),
-        ),
-        (PAIR, guarded, "line 5: Guarded\n", front(&two, 108)),
-        (
-            PAIR,
-            "wait 8000\nbroadcast a b.0 0\n",
-            "line 5: NotOwnPlug\n",
-            front(&two, 108),
-        ),
-        (
-            PAIR,
-            "wait 8000\nlisten a b.0\n",
-            "line 5: NotOwnPlug\n",
-            front(&two, 108),
-        ),
-        (
-            PAIR,
-            "wait 8000\nbreak a 0\n",
-            "line 5: NoSuchConnection\n",
-            front(&two, 108),
-        ),
-    ];
-    let fails = Failing {
-        notes: &[1],
-        ..NONE
-    };
-    for (first, last, note, log) in cases {
-        let mut script = first.to_string(alloc)?;
-        script.push_str(last)?;
-        let ended = call(alloc, &["run"], script.as_bytes(), NONE)?;
-        assert_eq!(rt; ended.status, 3, "{script}");
-        assert_eq!(rt; ended.notes.as_slice(), note.as_bytes(), "{script}");
-        assert_eq!(rt; ended.output.as_slice(), log, "{script}");
-        let ended = call(alloc, &["run"], script.as_bytes(), fails)?;
-        assert_eq!(rt; ended.status, 6, "{script}");
-        assert!(rt; ended.notes.as_slice().is_empty(), "{script}");
-        assert_eq!(rt; ended.output.as_slice(), log, "{script}");
-    }
-    Ok(())
-}
+const BUS: &str = "device a deck 1 100\ndevice b deck 1 100\ncable a.0 b.0\nwait 8000\n";
 
 const TRIANGLE: &str = "\
 device p deck 3 100
@@ -139,152 +50,178 @@ cable p.0 q.0
 cable q.1 r.0
 ";
 
-#[test]
-fn each_rule_has_its_note(rt: HostRuntime) -> Result<(), Fail> {
-    let alloc = rt.alloc();
-    let connect = "connect a a.0 b.0 any 8\n";
-    let made = "connect a a.0 b.0 any 8\nsettle 20\n";
-    // The first lines, a piece so many times behind them, and the last line; the note.
-    let cases = [
-        (TRIANGLE, "", 0, "cable r.1 p.1\n", "line 6: Loop\n"),
-        (TRIANGLE, "", 0, "cable r.3 p.1\n", "line 6: NoPort\n"),
-        (
-            "device r relay 2 100\n",
-            "",
-            0,
-            "show manager 220\n",
-            "line 2: NoRegister\n",
-        ),
-        (
-            "device r relay 2 100\n",
-            "",
-            0,
-            "start r\n",
-            "line 2: NotController\n",
-        ),
-        (PAIR, "die a\n", 1, "step a 1\n", "line 5: NotController\n"),
-        (PAIR, connect, 8, connect, "line 12: Busy\n"),
-        (
-            PAIR,
-            "wait 8000\n",
-            1,
-            "read a c 220\n",
-            "line 5: UnknownName\n",
-        ),
-        (
-            PAIR,
-            "settle 200000\n",
-            10,
-            "step a 1\n",
-            "line 14: Limit\n",
-        ),
-        (
-            DECK,
-            "device e deck 1 100\n",
-            1,
-            "reset e\n",
-            "line 3: OffBus\n",
-        ),
-        (
-            "device a deck 1 100\ndevice b deck 1 100\ncable a.0 b.0\nwait 8000\n",
-            made,
-            32,
-            connect,
-            "line 69: TableFull\n",
-        ),
-    ];
-    for (first, piece, count, last, note) in cases {
-        let mut script = first.to_string(alloc)?;
-        for _ in 0..count {
-            script.push_str(piece)?;
-        }
-        script.push_str(last)?;
-        let ended = call(alloc, &["run"], script.as_bytes(), NONE)?;
-        assert_eq!(rt; ended.status, 3, "{note}");
-        assert_eq!(rt; ended.notes.as_slice(), note.as_bytes(), "{note}");
-    }
-    Ok(())
-}
+const CONNECT: &str = "connect a a.0 b.0 any 8\n";
 
-#[test]
-fn lines_and_scripts_at_their_limits(rt: HostRuntime) -> Result<(), Fail> {
-    let alloc = rt.alloc();
-    let log = hex::decode(alloc, ONE_DECK.log)?;
-    let cases = [
-        ("a", 257, 3, "line 1: LineTooLong\n"),
-        ("#\n", 524_288, 3, "line 524289: NoEnd\n"),
-        ("#\n", 524_289, 7, "too long\n"),
-    ];
-    for (piece, count, status, note) in cases {
-        let mut script = String::new(alloc);
-        for _ in 0..count {
-            script.push_str(piece)?;
-        }
-        let ended = call(alloc, &["run"], script.as_bytes(), NONE)?;
-        assert_eq!(rt; ended.status, status, "{note}");
-        assert_eq!(rt; ended.notes.as_slice(), note.as_bytes());
-        assert_eq!(rt; ended.output.as_slice(), front(&log, 16), "{note}");
-    }
-    Ok(())
-}
+const MADE: &str = "connect a a.0 b.0 any 8\nsettle 20\n";
 
-// So many lines that say nothing.
-fn skipped_lines(alloc: Global, first: &str, count: u32, last: &str) -> Result<String, AllocError> {
+// A script: its first lines, a piece so many times behind them, and its last line.
+type Pieces = (&'static str, &'static str, u32, &'static str);
+
+fn script_of(alloc: Global, pieces: &Pieces) -> Result<String, AllocError> {
+    let (first, piece, count, last) = pieces;
     let mut script = first.to_string(alloc)?;
-    for _ in 0..count {
-        script.push_str("#\n")?;
+    for _ in 0..*count {
+        script.push_str(piece)?;
     }
     script.push_str(last)?;
     Ok(script)
 }
 
+// Refused scripts with their notes, and the log whose front is written, where another script has it.
+const REFUSED: &[(Pieces, &str, Option<(Vector, usize)>)] = &[
+    (("", "", 0, ""), "line 1: NoEnd\n", Some((ONE_DECK, 16))),
+    (
+        ("# x\n\n", "", 0, "end \n"),
+        "line 3: BadLine\n",
+        Some((ONE_DECK, 16)),
+    ),
+    (
+        ("", "", 0, "show manager 220\n"),
+        "line 1: NoRegister\n",
+        Some((ONE_DECK, 16)),
+    ),
+    ((DECK, "", 0, ""), "line 2: NoEnd\n", Some((ONE_DECK, 48))),
+    (
+        (DECK, "", 0, DECK),
+        "line 2: NameTaken\n",
+        Some((ONE_DECK, 48)),
+    ),
+    (
+        (DECK, "", 0, "broadcast a b.0 0\n"),
+        "line 2: UnknownName\n",
+        Some((ONE_DECK, 48)),
+    ),
+    (
+        (DECK, "", 0, "broadcast d d.0 0\nstep d 13\nend\nend\n"),
+        "line 5: BadLine\n",
+        Some((ONE_DECK, 428)),
+    ),
+    (
+        (PAIR, "", 0, "cable a.0 b.0\n"),
+        "line 4: PortUsed\n",
+        Some((SWAP_AND_READ, 92)),
+    ),
+    (
+        (BUS, "", 0, "swap a b 220 00001333 00000000\n"),
+        "line 5: Guarded\n",
+        Some((SWAP_AND_READ, 108)),
+    ),
+    (
+        (BUS, "", 0, "broadcast a b.0 0\n"),
+        "line 5: NotOwnPlug\n",
+        Some((SWAP_AND_READ, 108)),
+    ),
+    (
+        (BUS, "", 0, "listen a b.0\n"),
+        "line 5: NotOwnPlug\n",
+        Some((SWAP_AND_READ, 108)),
+    ),
+    (
+        (BUS, "", 0, "break a 0\n"),
+        "line 5: NoSuchConnection\n",
+        Some((SWAP_AND_READ, 108)),
+    ),
+    (
+        (BUS, "", 0, "read a c 220\n"),
+        "line 5: UnknownName\n",
+        Some((SWAP_AND_READ, 108)),
+    ),
+    ((TRIANGLE, "", 0, "cable r.1 p.1\n"), "line 6: Loop\n", None),
+    (
+        (TRIANGLE, "", 0, "cable r.3 p.1\n"),
+        "line 6: NoPort\n",
+        None,
+    ),
+    (
+        ("device r relay 2 100\n", "", 0, "show manager 220\n"),
+        "line 2: NoRegister\n",
+        None,
+    ),
+    (
+        ("device r relay 2 100\n", "", 0, "start r\n"),
+        "line 2: NotController\n",
+        None,
+    ),
+    (
+        (PAIR, "", 0, "die a\nstep a 1\n"),
+        "line 5: NotController\n",
+        None,
+    ),
+    ((PAIR, CONNECT, 8, CONNECT), "line 12: Busy\n", None),
+    (
+        (PAIR, "settle 200000\n", 10, "step a 1\n"),
+        "line 14: Limit\n",
+        None,
+    ),
+    (
+        (DECK, "", 0, "device e deck 1 100\nreset e\n"),
+        "line 3: OffBus\n",
+        None,
+    ),
+    ((BUS, MADE, 32, CONNECT), "line 69: TableFull\n", None),
+];
+
 #[test]
-fn a_script_is_read_line_by_line(rt: HostRuntime) -> Result<(), Fail> {
+fn the_first_refused_line_decides(rt: HostRuntime) -> Result<(), Fail> {
     let alloc = rt.alloc();
-    let log = hex::decode(alloc, ONE_DECK.log)?;
-    let script = skipped_lines(alloc, "x\n", 3000, "")?;
-    let ended = call(alloc, &["run"], script.as_bytes(), NONE)?;
-    assert_eq!(rt; ended.status, 3);
-    assert_eq!(rt; ended.notes.as_slice(), b"line 1: BadLine\n".as_slice());
-    assert!(rt; ended.unread >= 1904);
-    // The first line is carried out before the second read, which fails.
-    let script = skipped_lines(alloc, DECK, 3000, "end\n")?;
-    let reads = &[2];
-    let ended = call(
-        alloc,
-        &["run"],
-        script.as_bytes(),
-        Failing { reads, ..NONE },
-    )?;
-    assert_eq!(rt; ended.status, 5);
-    assert_eq!(rt; ended.output.as_slice(), front(&log, 48));
+    let notes = &[1];
+    for (pieces, note, due) in REFUSED {
+        let script = script_of(alloc, pieces)?;
+        let ended = call(alloc, &["run"], script.as_bytes(), NONE)?;
+        let unnoted = call(
+            alloc,
+            &["run"],
+            script.as_bytes(),
+            Failing { notes, ..NONE },
+        )?;
+        let written = ended.output.as_slice();
+        if let Some((vector, length)) = due {
+            let log = hex::decode(alloc, vector.log)?;
+            assert!(rt; written == front(&log, *length), "{note}");
+        }
+        // Where the note is not written, the log is the same.
+        assert!(rt;
+            ended.is(3, note, written) && unnoted.is(6, "", written),
+            "{note}"
+        );
+    }
     Ok(())
 }
 
+// Scripts and the read that fails, if any; the status and the note, how many bytes were written, and how many at least are left unread.
+const AT_LIMITS: &[(Pieces, u32, u8, &str, usize, usize)] = &[
+    (("", "a", 257, ""), 0, 3, "line 1: LineTooLong\n", 16, 0),
+    (
+        ("", "#\n", 524_288, ""),
+        0,
+        3,
+        "line 524289: NoEnd\n",
+        16,
+        0,
+    ),
+    (("", "#\n", 524_289, ""), 0, 7, "too long\n", 16, 0),
+    (
+        ("x\n", "#\n", 3000, ""),
+        0,
+        3,
+        "line 1: BadLine\n",
+        16,
+        1904,
+    ),
+    // The first line is carried out before the second read, which fails.
+    ((DECK, "#\n", 3000, "end\n"), 2, 5, "read fault\n", 48, 0),
+];
+
 #[test]
-fn a_read_or_a_write_that_fails_ends_a_run(rt: HostRuntime) -> Result<(), Fail> {
+fn scripts_are_read_line_by_line_up_to_their_limits(rt: HostRuntime) -> Result<(), Fail> {
     let alloc = rt.alloc();
-    let script = ONE_DECK.script.as_bytes();
     let log = hex::decode(alloc, ONE_DECK.log)?;
-    // Each read fails where the one behind it would succeed; the end is carried out only where the input ends.
-    for (read, length) in [(1, 16), (2, 428)] {
-        let reads = &[read];
-        let ended = call(alloc, &["run"], script, Failing { reads, ..NONE })?;
-        assert_eq!(rt; ended.status, 5);
-        assert_eq!(rt; ended.notes.as_slice(), b"read fault\n".as_slice());
-        assert_eq!(rt; ended.output.as_slice(), front(&log, length));
-    }
-    for write in 1..17 {
-        let writes = &[write];
-        let ended = call(alloc, &["run"], script, Failing { writes, ..NONE })?;
-        let length = ENTRIES[write as usize - 1];
-        assert_eq!(rt; ended.status, 6, "write {write}");
-        assert_eq!(rt; ended.notes.as_slice(), b"write fault\n".as_slice());
-        assert_eq!(rt;
-            ended.output.as_slice(),
-            front(&log, length),
-            "write {write}"
-        );
+    for (pieces, read, status, note, length, left) in AT_LIMITS {
+        let script = script_of(alloc, pieces)?;
+        let mut source = MemSource::new(script.as_bytes().to_vec(alloc)?, [*read].to_vec(alloc)?);
+        let ended = call_over(alloc, &["run"], &mut source, NONE)?;
+        assert!(rt; ended.is(*status, note, front(&log, *length)), "{note}");
+        assert!(rt; read_on(&mut source) >= *left, "{note}");
     }
     Ok(())
 }

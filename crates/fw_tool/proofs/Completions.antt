@@ -1,95 +1,64 @@
 -- Where nothing is refused and nothing fails, all is done.
-use Rattle.std.proofs.Common.{◌≡◌, ◌≢◌, ◌⊎◌, inl, inr, ℕ, List, ◌++◌, true, false, Option, Some, None, Err, refl, ap, sym, subst, ◌∙◌}
-use Rattle.fw_decode.specs.Decode.{IsNoRefusal, ReadCount, WriteCount}
+use Rattle.std.proofs.Common.{◌≡◌, ◌≢◌, ◌⊎◌, inl, inr, ℕ, List, Option, refl}
+use Rattle.fw_decode.specs.Decode.{IsNoRefusal as IsNoLogRefusal, ReadCount as LogReadCount, WriteCount as LogWriteCount}
 use Rattle.fw_decode.specs.declared.ending.LogEnding.{LogEnding}
 use Rattle.fw_decode.specs.declared.ending.LogEnding.TheVariants as LogEndings
-use Rattle.fw_script.specs.Script.{IsScript}
-use Rattle.fw_script.specs.declared.ScriptFault.{ScriptFault}
-use Rattle.fw_script.specs.declared.ScriptFault.TheVariants as Fault
-use Rattle.fw_script.specs.declared.command.Command.{Command}
-use Rattle.fw_script.specs.declared.command.Command.TheVariants.{End}
-use Rattle.fw_script.proofs.ScriptLaws.{says_once, says_after, says_behind}
-use Rattle.fw_run.specs.declared.rule.RuleFault.{RuleFault}
-use Rattle.fw_run.specs.declared.rule.RuleFault.TheVariants.{UnknownName, NameTaken, TooMany, NoPort, PortUsed, Loop, NotController, Guarded, NoRegister, Limit, TableFull, Busy, NoSuchConnection, NotOwnPlug, OffBus, NotBuilt}
-use Rattle.fw_run.specs.State.{State}
-use Rattle.fw_run.specs.Rules.{Decides}
+use Rattle.fw_simulate.specs.Counts.{ReadCount, WriteCount}
+use Rattle.fw_simulate.specs.Scripts.{IsNoRefusal}
+use Rattle.fw_simulate.specs.Sums.{Sums}
+use Rattle.fw_simulate.specs.declared.ending.RunEnding.{RunEnding}
+use Rattle.fw_simulate.specs.declared.ending.RunEnding.TheVariants as RunEndings
 use Rattle.fw_tool.specs.declared.ending.Ending.{Ending}
-use Rattle.fw_tool.specs.declared.ending.Ending.TheVariants.{Done, Usage, Refused, NoLog, ReadFault, WriteFault, TooLong, NoMemory}
-use Rattle.fw_tool.specs.declared.Refusal.{Refusal}
-use Rattle.fw_tool.specs.declared.Refusal.TheVariants.{BadLine, LineTooLong, NoEnd, Rule}
-use Rattle.fw_tool.specs.Scripts.{IsValid}
+use Rattle.fw_tool.specs.declared.ending.Ending.TheVariants.{ReadFault, WriteFault}
 use Rattle.fw_tool.specs.Faults.{FirstFault}
 use Rattle.fw_tool.specs.Logs.{by_log}
-use Rattle.fw_tool.specs.Ending.{Runs, RefusesLine, RefusesCommand, RefusesBy}
+use Rattle.fw_tool.specs.Runs.{by_run}
 use Rattle.fw_tool.specs.Notes.{status_of}
-
--- of a valid script no line is refused
-no_line : (script : List ℕ) (left' held held' : Option (List ℕ)) (f : ScriptFault) (line : ℕ) → RefusesLine (Some script) left' held held' f line → IsValid script → ⊥
-no_line script left' held held' f line r v =
-    let says = subst (λ (bytes : List ℕ). IsScript bytes r.commands (Some (record { fault = f; line = line }))) (sym r.takes.told) r.says in
-    let e = says_once v.says says in
-    let wrong : None ≡ Some (record { fault = f; line = line }) = e.1 in
-    cc wrong
-
--- the end breaks no rule
-end_allowed : (s : State) (f : RuleFault) → Decides s End (Err f) → ⊥
-end_allowed s NotBuilt d = d.0
-end_allowed s UnknownName d = let wrong : false ≡ true = d.0 in cc wrong
-end_allowed s NameTaken d = d.0
-end_allowed s TooMany d = d.0
-end_allowed s NoPort d = d.0
-end_allowed s PortUsed d = d.0
-end_allowed s Loop d = d.0
-end_allowed s NotController d = d.0
-end_allowed s OffBus d = d.0
-end_allowed s NotOwnPlug d = d.0.2
-end_allowed s NoSuchConnection d = d.0.2
-end_allowed s TableFull d = d.0.2
-end_allowed s Busy d = d.0.2
-end_allowed s Guarded d = d.0
-end_allowed s NoRegister d = d.0
-end_allowed s Limit d = d.0
-
-other_than_end : (s : State) (c : Command) (f : RuleFault) → Decides s c (Err f) → c ≢ End
-other_than_end s c f d e = end_allowed s f (subst (λ (x : Command). Decides s x (Err f)) e d)
-
--- nor does a command break a rule
-no_command : (script : List ℕ) (left' held held' : Option (List ℕ)) (rule : RuleFault) (line : ℕ) → RefusesCommand (Some script) left' held held' rule line → IsValid script → ⊥
-no_command script left' held held' rule line r v =
-    let says = subst (λ (bytes : List ℕ). IsScript bytes v.commands None) r.takes.told v.says in
-    let first = says_behind r.on_line.leads v.commands None says in
-    let next = says_after r.command r.on_line.gives (other_than_end r.logged.state r.command rule r.decided) first.2 in
-    v.allowed r.commands next.0 r.command r.logged.actions r.logged.log r.logged.state rule (first.1 ∙ ap (λ (cs : List Command). r.commands ++ cs) next.1) r.logged.run r.decided
-
--- neither by its form nor by a rule
-never_refused : (script : List ℕ) (left' held held' : Option (List ℕ)) (why : Refusal) (line : ℕ) → RefusesBy (Some script) left' held held' why line → IsValid script → ⊥
-never_refused script left' held held' BadLine line r v = no_line script left' held held' Fault.BadLine line r v
-never_refused script left' held held' LineTooLong line r v = no_line script left' held held' Fault.LineTooLong line r v
-never_refused script left' held held' NoEnd line r v = no_line script left' held held' Fault.NoEnd line r v
-never_refused script left' held held' (Rule rule) line r v = no_command script left' held held' rule line r v
 
 -- the status is that of an ending that is done, or of want of memory
 abbrev pub IsDoneOrUnmet : Ending → Type 0
 IsDoneOrUnmet e = (status_of e ≡ 0) ⊎ (status_of e ≡ 8)
 
--- a valid script, where nothing fails
-pub run_completes : (script : List ℕ) (left left' held held' : Option (List ℕ)) (e : Ending)
-    → Runs left left' held held' e → left ≡ Some script → IsValid script → e ≢ ReadFault → e ≢ WriteFault → IsDoneOrUnmet e
-run_completes script left left' held held' Done d told v r w = inl refl
-run_completes script left left' held held' (Refused x) d told v r w =
-    let D : Option (List ℕ) → Type 0 = λ l. Runs l left' held held' (Refused x) in
-    absurd (never_refused script left' held held' x.why x.line (subst D told d) v)
-run_completes script left left' held held' TooLong d told v r w =
-    let D : Option (List ℕ) → Type 0 = λ l. RefusesLine l left' held held' Fault.TooLong d.line in
-    absurd (no_line script left' held held' Fault.TooLong d.line (subst D told d.refused) v)
-run_completes script left left' held held' ReadFault d told v r w = absurd (r refl)
-run_completes script left left' held held' WriteFault d told v r w = absurd (w refl)
-run_completes script left left' held held' NoMemory d told v r w = inr refl
-run_completes script left left' held held' (NoLog f) d told v r w = absurd d
-run_completes script left left' held held' Usage d told v r w = absurd d
+-- a script that is not refused, where nothing fails
+pub run_completes : (e : RunEnding) → IsNoRefusal e → by_run e ≢ ReadFault → by_run e ≢ WriteFault → IsDoneOrUnmet (by_run e)
+run_completes RunEndings.Done n r w = inl refl
+run_completes (RunEndings.Refused f) n r w = absurd n
+run_completes RunEndings.ReadFault n r w = absurd (r refl)
+run_completes RunEndings.WriteFault n r w = absurd (w refl)
+run_completes RunEndings.TooLong n r w = absurd n
+run_completes RunEndings.NoMemory n r w = inr refl
+
+-- the counts of a word that runs a script
+pub first_of_run : (read read' written written' : ℕ) (e : RunEnding) → ReadCount read read' e → WriteCount written written' e → FirstFault read read' written written' (by_run e)
+first_of_run read read' written written' RunEndings.Done r w = (r, w)
+first_of_run read read' written written' (RunEndings.Refused f) r w = (r, w)
+first_of_run read read' written written' RunEndings.ReadFault r w = (r, w)
+first_of_run read read' written written' RunEndings.WriteFault r w = (r, w)
+first_of_run read read' written written' RunEndings.TooLong r w = (r, w)
+first_of_run read read' written written' RunEndings.NoMemory r w = (r, w)
+
+-- one that runs a seed's script reads nothing
+pub first_of_seed : (seed : ℕ) (held held' : Option (List ℕ)) (read written written' : ℕ) (e : RunEnding) → Sums seed held held' e → WriteCount written written' e → FirstFault read read written written' (by_run e)
+first_of_seed seed held held' read written written' RunEndings.Done d w = (refl, w)
+first_of_seed seed held held' read written written' (RunEndings.Refused f) d w = (refl, w)
+first_of_seed seed held held' read written written' RunEndings.ReadFault d w = absurd d
+first_of_seed seed held held' read written written' RunEndings.WriteFault d w = (refl, w)
+first_of_seed seed held held' read written written' RunEndings.TooLong d w = absurd d
+first_of_seed seed held held' read written written' RunEndings.NoMemory d w = (refl, w)
+
+never_read : (seed : ℕ) (held held' : Option (List ℕ)) (e : RunEnding) → Sums seed held held' e → by_run e ≢ ReadFault
+never_read seed held held' RunEndings.Done d is = cc
+never_read seed held held' (RunEndings.Refused f) d is = cc
+never_read seed held held' RunEndings.ReadFault d is = d
+never_read seed held held' RunEndings.WriteFault d is = cc
+never_read seed held held' RunEndings.TooLong d is = cc
+never_read seed held held' RunEndings.NoMemory d is = cc
+
+pub seed_completes : (seed : ℕ) (held held' : Option (List ℕ)) (e : RunEnding) → Sums seed held held' e → IsNoRefusal e → by_run e ≢ WriteFault → IsDoneOrUnmet (by_run e)
+seed_completes seed held held' e d n w = run_completes e n (never_read seed held held' e d) w
 
 -- a log that is not refused, where nothing fails
-pub log_completes : (e : LogEnding) → IsNoRefusal e → by_log e ≢ ReadFault → by_log e ≢ WriteFault → IsDoneOrUnmet (by_log e)
+pub log_completes : (e : LogEnding) → IsNoLogRefusal e → by_log e ≢ ReadFault → by_log e ≢ WriteFault → IsDoneOrUnmet (by_log e)
 log_completes LogEndings.Done n r w = inl refl
 log_completes (LogEndings.NoLog f) n r w = absurd n
 log_completes LogEndings.ReadFault n r w = absurd (r refl)
@@ -98,7 +67,7 @@ log_completes LogEndings.TooLong n r w = absurd n
 log_completes LogEndings.NoMemory n r w = inr refl
 
 -- the counts of a word that reads a log
-pub first_of_log : (read read' written written' : ℕ) (e : LogEnding) → ReadCount read read' e → WriteCount written written' e → FirstFault read read' written written' (by_log e)
+pub first_of_log : (read read' written written' : ℕ) (e : LogEnding) → LogReadCount read read' e → LogWriteCount written written' e → FirstFault read read' written written' (by_log e)
 first_of_log read read' written written' LogEndings.Done r w = (r, w)
 first_of_log read read' written written' (LogEndings.NoLog f) r w = (r, w)
 first_of_log read read' written written' LogEndings.ReadFault r w = (r, w)

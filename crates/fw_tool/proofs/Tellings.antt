@@ -88,6 +88,11 @@ module _ {N : Type 0} (held : N → Option (List ℕ)) (faults : N → ℕ) (old
   completes e (inl z) t none = inl (its_own e t none ∙ z)
   completes e (inr z) t none = inr (its_own e t none ∙ z)
 
+  -- where no write failed, of a call that reads nothing
+  pub quiet_writes : (e : Ending) → FirstFault read read' written written' e → (e ≢ WriteFault → IsDoneOrUnmet e) → Told e
+      → (Rose written written' → ⊥) → (Rose (faults old) (faults new) → ⊥) → (status ≡ 0) ⊎ (status ≡ 8)
+  quiet_writes e f done t w n = completes e (done (unwritten e f w)) t n
+
   -- where no count rose
   pub quiet_status : (e : Ending) → FirstFault read read' written written' e → (e ≢ ReadFault → e ≢ WriteFault → IsDoneOrUnmet e) → Told e
       → (Rose read read' → ⊥) → (Rose written written' → ⊥) → (Rose (faults old) (faults new) → ⊥) → (status ≡ 0) ⊎ (status ≡ 8)

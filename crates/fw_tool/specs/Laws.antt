@@ -5,7 +5,7 @@ use Rattle.fw_entry.specs.declared.entry.Timed.{Timed}
 use Rattle.fw_run.specs.Giving.{log_bytes}
 use Rattle.fw_decode.specs.Decode.{limit, Reads, IsNoRefusal}
 use Rattle.fw_decode.specs.declared.ending.LogEnding.{LogEnding}
-use Rattle.fw_tool.specs.Ending.{Logged}
+use Rattle.fw_simulate.specs.Ending.{Logged}
 
 -- where a source tells the log of a whole run, within the limit of logs, no word that reads it refuses it, whatever it writes of it
 abbrev pub WholeLogsAreRead : Type 0

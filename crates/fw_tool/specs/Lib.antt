@@ -1,7 +1,6 @@
-pub mod Scripts
-pub mod Ending
 pub mod Faults
 pub mod Notes
 pub mod Words
 pub mod Logs
+pub mod Runs
 pub mod Laws

@@ -8,8 +8,8 @@ use Rattle.fw_tool.specs.declared.ending.Ending.{Ending}
 use Rattle.fw_tool.specs.declared.ending.Ending.TheVariants.{Done, Usage, Refused, NoLog, ReadFault, WriteFault, TooLong, NoMemory}
 use Rattle.fw_run.specs.declared.rule.RuleFault.{RuleFault}
 use Rattle.fw_run.specs.declared.rule.RuleFault.TheVariants.{UnknownName, NameTaken, TooMany, NoPort, PortUsed, Loop, NotController, Guarded, NoRegister, Limit, TableFull, Busy, NoSuchConnection, NotOwnPlug, OffBus, NotBuilt}
-use Rattle.fw_tool.specs.declared.Refusal.{Refusal}
-use Rattle.fw_tool.specs.declared.Refusal.TheVariants.{BadLine, LineTooLong, NoEnd, Rule}
+use Rattle.fw_simulate.specs.declared.ending.Refusal.{Refusal}
+use Rattle.fw_simulate.specs.declared.ending.Refusal.TheVariants.{BadLine, LineTooLong, NoEnd, Rule}
 
 abbrev pub status_of : Ending → ℕ
 status_of Done = 0

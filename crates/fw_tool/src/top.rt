@@ -1,24 +1,29 @@
-ghost use Rattle.std.specs.Prelude.{◌≡◌, ◌≤◌, ◌⊎◌, ◌↔◌, List, ℕ, length, Some, IsTrue};
+ghost use Rattle.std.specs.Prelude.{◌≡◌, ◌≤◌, ◌⊎◌, List, ℕ, length, Some};
 ghost use Rattle.fw_entry.specs.Log.{LogSpells};
 ghost use Rattle.fw_entry.specs.declared.entry.Timed.{Timed};
 ghost use Rattle.fw_outside.specs.Outside.{Rose};
 ghost use Rattle.fw_decode.specs.Decode.{limit, lines_of, nothing, Reads};
 ghost use Rattle.fw_decode.specs.declared.ending.LogEnding.{LogEnding};
 ghost use Rattle.fw_text.specs.Report.{report_text};
-ghost use Rattle.fw_tool.specs.Ending.{Runs};
+ghost use Rattle.fw_gen.specs.Gen.{script_of};
+ghost use Rattle.fw_simulate.specs.Ending.{Runs};
+ghost use Rattle.fw_simulate.specs.Scripts.{IsValid};
+ghost use Rattle.fw_simulate.specs.Sums.{Sums};
+ghost use Rattle.fw_simulate.specs.declared.ending.RunEnding.{RunEnding};
 ghost use Rattle.fw_tool.specs.Faults.{FirstFault, IsFirstFaults};
 ghost use Rattle.fw_tool.specs.Notes.{IsTold};
-ghost use Rattle.fw_tool.specs.Scripts.{IsValid};
 ghost use Rattle.fw_tool.specs.Logs.{by_log};
-ghost use Rattle.fw_tool.specs.Words.{IsRun, IsDecode, IsDv, IsListed};
-ghost use Rattle.fw_tool.specs.declared.ending.Ending.{Ending as AnEnding};
+ghost use Rattle.fw_tool.specs.Runs.{by_run};
+ghost use Rattle.fw_tool.specs.Words.{IsRun, IsDecode, IsDv, IsGen, IsListed};
 
 use crate::ending::Ending;
 use crate::logs::ending_of_log;
 use crate::notes::tell;
-use crate::run::run;
+use crate::scripts::ending_of_run;
+use crate::words::{is_decode, is_dv, is_run, seed_of};
 use fw_decode::{decode, dv};
 use fw_outside::{Sink, Source};
+use fw_simulate::{run, run_seed};
 use std::alloc::Global;
 
 /// Does what the words of the command line say, and answers the program's status: that of the ending that is met first,
@@ -26,7 +31,8 @@ use std::alloc::Global;
 ///
 /// The word `run` reads a script of at most 1,048,576 bytes, carries out its commands, and writes their log. The word
 /// `decode` reads a log of at most 268,435,456 bytes, and writes one line for each entry as the entry ends; `dv` reads one too, and
-/// writes at its end one line for each channel that has isochronous packets.
+/// writes at its end one line for each channel that has isochronous packets. The words `gen NUMBER` run the script that the number
+/// makes, from 0 to 4,294,967,295, and write six lines that count what its log holds.
 pub fn fire<S: Source, K: Sink, N: Sink>(
     alloc: Global,
     words: &[String],
@@ -35,9 +41,9 @@ pub fn fire<S: Source, K: Sink, N: Sink>(
     notes: &mut N,
 ) -> u8
     // What each ending of `run` says of the bytes that were taken and of the log that was written, and that it was met first.
-    ensures run { IsRun words.now → (e : AnEnding) × Runs (S.left source.old) (S.left source.new) (K.held sink.old) (K.held sink.new) e
-        × FirstFault (S.faults source.old) (S.faults source.new) (K.faults sink.old) (K.faults sink.new) e
-        × IsTold N.held N.faults notes.old notes.new e result }
+    ensures run { IsRun words.now → (e : RunEnding) × Runs (S.left source.old) (S.left source.new) (K.held sink.old) (K.held sink.new) e
+        × FirstFault (S.faults source.old) (S.faults source.new) (K.faults sink.old) (K.faults sink.new) (by_run e)
+        × IsTold N.held N.faults notes.old notes.new (by_run e) result }
 
     // The same of `decode` and the lines of the entries, and of `dv`, which writes only at the log's end, and its report.
     ensures decode { IsDecode words.now → (e : LogEnding) × Reads lines_of lines_of (S.left source.old) (S.left source.new) (K.held sink.old) (K.held sink.new) e
@@ -47,6 +53,11 @@ pub fn fire<S: Source, K: Sink, N: Sink>(
         × FirstFault (S.faults source.old) (S.faults source.new) (K.faults sink.old) (K.faults sink.new) (by_log e)
         × IsTold N.held N.faults notes.old notes.new (by_log e) result }
 
+    // What each ending of `gen` says of the run of its seed's script, and of the summary that was written. The source stays as it was.
+    ensures sums { (seed : ℕ) → IsGen words.now seed → (source.new ≡ source.old) × ((e : RunEnding) × Sums seed (K.held sink.old) (K.held sink.new) e
+        × FirstFault (S.faults source.old) (S.faults source.new) (K.faults sink.old) (K.faults sink.new) (by_run e)
+        × IsTold N.held N.faults notes.old notes.new (by_run e) result) }
+
     // Other words read and write nothing but their note.
     ensures usage { (IsListed words.now → ⊥) → (source.new ≡ source.old) × (sink.new ≡ sink.old)
         × IsTold N.held N.faults notes.old notes.new Ending.Usage result }
@@ -55,53 +66,27 @@ pub fn fire<S: Source, K: Sink, N: Sink>(
     ensures first { IsFirstFaults result (S.faults source.old) (S.faults source.new) (K.faults sink.old) (K.faults sink.new)
         (N.faults notes.old) (N.faults notes.new) }
 
-    // A script of which no line is refused, and a log within the limit, end with 0, or 8 for want of memory, where no
-    // count rose.
+    // A script of which no line is refused, be it a seed's, and a log within the limit, end with 0, or 8 for want of memory, where
+    // no count rose.
     ensures complete { (script : List ℕ) → S.left source.old ≡ Some script → IsValid script → IsRun words.now
         → (Rose (S.faults source.old) (S.faults source.new) → ⊥) → (Rose (K.faults sink.old) (K.faults sink.new) → ⊥)
         → (Rose (N.faults notes.old) (N.faults notes.new) → ⊥) → (result ≡ 0) ⊎ (result ≡ 8) }
+    ensures complete_sums { (seed : ℕ) → IsGen words.now seed → IsValid (script_of seed)
+        → (Rose (K.faults sink.old) (K.faults sink.new) → ⊥) → (Rose (N.faults notes.old) (N.faults notes.new) → ⊥) → (result ≡ 0) ⊎ (result ≡ 8) }
     ensures complete_log { (entries : List Timed) → (bytes : List ℕ) → S.left source.old ≡ Some bytes → LogSpells entries bytes → length bytes ≤ limit
         → IsDecode words.now ⊎ IsDv words.now
         → (Rose (S.faults source.old) (S.faults source.new) → ⊥) → (Rose (K.faults sink.old) (K.faults sink.new) → ⊥)
         → (Rose (N.faults notes.old) (N.faults notes.new) → ⊥) → (result ≡ 0) ⊎ (result ≡ 8) }
 {
     if is_run(words) {
-        tell(run(alloc, source, sink), notes)
+        tell(ending_of_run(run(alloc, source, sink)), notes)
     } else if is_decode(words) {
         tell(ending_of_log(decode(alloc, source, sink)), notes)
     } else if is_dv(words) {
         tell(ending_of_log(dv(alloc, source, sink)), notes)
+    } else if let Some(seed) = seed_of(words) {
+        tell(ending_of_run(run_seed(alloc, seed, sink)), notes)
     } else {
         tell(Ending::Usage, notes)
-    }
-}
-
-/// Whether the words are `run`.
-fn is_run(words: &[String]) -> bool
-    ensures { IsTrue result ↔ IsRun words.now }
-{
-    match words {
-        [word] => word.as_str() == "run",
-        _ => false,
-    }
-}
-
-/// Whether the words are `decode`.
-fn is_decode(words: &[String]) -> bool
-    ensures { IsTrue result ↔ IsDecode words.now }
-{
-    match words {
-        [word] => word.as_str() == "decode",
-        _ => false,
-    }
-}
-
-/// Whether the words are `dv`.
-fn is_dv(words: &[String]) -> bool
-    ensures { IsTrue result ↔ IsDv words.now }
-{
-    match words {
-        [word] => word.as_str() == "dv",
-        _ => false,
     }
 }

@@ -3,7 +3,7 @@
 use super::Vector;
 
 /// Two decks make the same connection, and each breaks its own.
-pub(super) const OVERLAY_AND_TWO_BREAKS: Vector = Vector {
+pub(crate) const OVERLAY_AND_TWO_BREAKS: Vector = Vector {
     script: "\
 device a deck 1 100\n\
 device b deck 1 100\n\

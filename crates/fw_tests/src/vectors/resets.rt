@@ -66,7 +66,7 @@ ffc10140ffc0fffff0000984020000040000000000001f40ffc00160ffc1000000000000803f0000
 };
 
 /// A second bus reset comes in the second of the first, and the connection is restored.
-pub(super) const SECOND_RESET_IN_THE_SECOND: Vector = Vector {
+pub(crate) const SECOND_RESET_IN_THE_SECOND: Vector = Vector {
     script: "\
 device a deck 1 100\n\
 device b deck 1 100\n\

@@ -1,5 +1,5 @@
 use Rattle.std.proofs.Common.{ap, Ok}
-use Rattle.fw_tool.proofs.Givings.{advance_form}
+use Rattle.fw_simulate.proofs.Givings.{advance_form}
 use Rattle.fw_tests.proofs.nodes.apply_next.Goals as goal
 
 pub apply-requires-clause-command : goal.apply-requires-clause-command

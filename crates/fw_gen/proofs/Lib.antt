@@ -1,0 +1,3 @@
+pub mod GenLaws
+pub mod LengthLaws
+pub mod TallyLaws

@@ -1,0 +1,7 @@
+-- What the source and the sink of a made script are seen as.
+use Rattle.std.specs.Prelude.{ℕ, List}
+
+-- a sink that grows: the bytes that it holds, and how many writes failed
+pub record Kept : Type 0 where
+  pub held : List ℕ
+  pub faults : ℕ

@@ -1,0 +1,4 @@
+pub mod Gen
+pub mod Counted
+pub mod Summary
+pub mod Kept

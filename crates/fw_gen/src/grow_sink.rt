@@ -1,0 +1,71 @@
+ghost use Rattle.std.specs.Prelude.{◌≡◌, ◌++◌, [], Some, OnOk, OnErr};
+ghost use Rattle.fw_outside.specs.Outside.{HasCause, Writes, counted};
+
+use fw_outside::{Failed, Sink};
+use std::alloc::Global;
+use std::marker::Model;
+
+/// A sink that tells its bytes, and takes memory as they grow. A write fails only where memory is refused.
+#[derive(Drop)]
+pub struct GrowSink {
+    bytes: Vec<u8>,
+    faults: u64,
+}
+
+impl Model for GrowSink {
+    ghost use Rattle.fw_gen.specs.Kept.{Kept};
+
+    ghost Value = { Kept };
+
+    ghost view = { λ s. record { held = s.bytes.items; faults = s.faults } };
+}
+
+impl GrowSink {
+    ghost use Rattle.fw_gen.specs.Kept.{Kept};
+
+    /// An empty sink, which has taken no memory yet.
+    pub fn new(alloc: Global) -> GrowSink
+        ensures held { result.held ≡ [] }
+        ensures faults { result.faults ≡ 0 }
+    {
+        GrowSink {
+            bytes: Vec::new(alloc),
+            faults: 0,
+        }
+    }
+
+    /// All that it holds.
+    pub fn as_slice(&self) -> &[u8]
+        ensures { result.now ≡ self.now.held }
+    {
+        &self.bytes
+    }
+
+    /// Empties it. What memory it has it keeps, for the writes that follow.
+    pub fn clear(&mut self)
+        ensures held { self.new.held ≡ [] }
+        ensures faults { self.new.faults ≡ self.old.faults }
+    {
+        self.bytes.clear();
+    }
+}
+
+impl Sink for GrowSink {
+    ghost held = { λ s. Some s.held };
+
+    ghost faults = { λ s. s.faults };
+
+    fn write(&mut self, piece: &[u8]) -> Result<(), Failed>
+        ensures bytes { Writes (Some self.old.held) (Some self.new.held) result piece.now }
+        ensures cause { HasCause self.old.faults self.new.faults result }
+        ensures same { OnOk result (self.new.faults ≡ self.old.faults) }
+        ensures unchanged { OnErr result (self.new.held ≡ self.old.held) }
+        ensures risen { OnErr result (self.new.faults ≡ counted self.old.faults) }
+    {
+        if self.bytes.extend_from_slice(piece).is_err() {
+            self.faults = self.faults.saturating_add(1);
+            return Err(Failed);
+        }
+        Ok(())
+    }
+}

@@ -1,0 +1,264 @@
+-- What was logged, by the ending.
+use Rattle.std.proofs.Common.{◌≡◌, ◌≢◌, ℕ, ◌+◌, ◌≤◌, List, [], ◌∷◌, ◌++◌, length, true, Option, Some, None, Ok, Err, refl, ap, sym, ◌∙◌, subst, append_assoc, append-nil, arith}
+use Rattle.fw_outside.specs.Outside.{AppendsFront, Rose}
+use Rattle.fw_outside.proofs.Parts.{Grows-Grows}
+use Rattle.fw_entry.specs.Log.{header_bytes, entry_bytes, LogOpens}
+use Rattle.fw_script.specs.Reading.{Reading, Advances, IsHeld, with_taken}
+use Rattle.fw_script.specs.Script.{IsScript}
+use Rattle.fw_script.specs.Script.Says.{refuses}
+use Rattle.fw_script.specs.Leading.{HasRead, IsOnLine, TakesFrom}
+use Rattle.fw_script.specs.declared.ScriptFault.{ScriptFault}
+use Rattle.fw_script.specs.declared.ScriptFault.TheVariants as Fault
+use Rattle.fw_script.specs.declared.command.Command.{Command}
+use Rattle.fw_script.proofs.ScriptLaws.{says_from, script_limit}
+use Rattle.fw_script.proofs.CallLaws.{read_failed}
+use Rattle.fw_run.specs.declared.rule.RuleFault.{RuleFault}
+use Rattle.fw_run.specs.Giving.{log_bytes}
+use Rattle.fw_run.specs.State.{first_state}
+use Rattle.fw_run.specs.Rules.{Decides}
+use Rattle.fw_run.specs.Carrying.{Carries}
+use Rattle.fw_run.specs.Runs.{Run, begun}
+use Rattle.fw_run.proofs.Runs.{log_append, run_steps}
+use Rattle.fw_run.proofs.ComesBack.{comes_back}
+use Rattle.fw_run.proofs.Sounds.{sound_throughout}
+use Rattle.fw_run.proofs.Suffice.{rounds_suffice}
+use Rattle.fw_run.proofs.Logs.{run_opens, run_spells}
+use Rattle.fw_bus.specs.Doings.{Cut}
+use Rattle.fw_bus.specs.Buses.{Standing, Stops}
+use Rattle.fw_simulate.specs.Counts.{ReadCount, WriteCount}
+use Rattle.fw_simulate.specs.Going.{Going, Ends}
+use Rattle.fw_entry.specs.declared.entry.Timed.{Timed}
+use Rattle.fw_simulate.specs.declared.ending.RunEnding.{RunEnding}
+use Rattle.fw_simulate.specs.declared.ending.RunEnding.TheVariants as Endings
+use Rattle.fw_simulate.specs.Scripts.{beyond}
+use Rattle.fw_simulate.specs.Ending.{LogsRun, Logged, RefusesLine, RefusesCommand, Interrupted, PartLogged, Runs, ending_by}
+use Rattle.fw_simulate.proofs.Goings.{given_before, given_no_end, ended_before, still_ended, some_command, some_fault, all, whole_script, whole_takes, the_lines, taken_held, behind, begins_nothing, takes_nothing}
+
+-- what was carried out so far
+abbrev logs_run : {left now held after : Option (List ℕ)} {reader : Reading} {bus : Standing} (g : Going left now held after reader bus)
+    → LogOpens g.log (header_bytes ++ log_bytes g.log) → LogsRun held after g.commands
+logs_run g opens = record {
+  actions = g.actions;
+  log = g.log;
+  state = g.state;
+  run = g.run;
+  sound = sound_throughout g.actions g.log g.state (run_steps g.commands g.actions g.log g.state g.run);
+  restored = comes_back g.actions g.log g.state (run_steps g.commands g.actions g.log g.state g.run);
+  rounds = rounds_suffice g.commands g.actions g.log g.state g.run;
+  opens = opens;
+  grew = g.grew;
+}
+
+-- before the end
+abbrev logs_open : {left now held after : Option (List ℕ)} {reader : Reading} {bus : Standing} (g : Going left now held after reader bus) → HasRead left now g.commands reader → LogsRun held after g.commands
+logs_open g so = logs_run g (run_opens g.commands g.actions g.log g.state g.run (given_no_end so))
+
+-- ---- the input was read to its end
+
+pub logged_all : {left mid held held1 : Option (List ℕ)} {old : Reading} {bus : Standing} (left' : Option (List ℕ)) (new : Reading) (g : Going left mid held held1 old bus)
+    → Advances old new mid left' (Ok None) → Logged left left' held held1
+logged_all {left} {mid} {held} {held1} {old} left' new g a =
+    let h = ended_before old.stage a.known new g.read a.gives in
+    let t = still_ended left mid left' g.commands old new h a in
+    let whole = run_spells h.earlier g.actions g.log g.state (subst (λ (cs : List Command). Run cs g.actions g.log g.state) h.last g.run) h.no_end in
+    record {
+      script = h.script;
+      taken = t.0;
+      end = t.1;
+      commands = g.commands;
+      says = h.says;
+      logged = record {
+        actions = g.actions;
+        log = g.log;
+        state = g.state;
+        run = g.run;
+        sound = sound_throughout g.actions g.log g.state (run_steps g.commands g.actions g.log g.state g.run);
+        restored = comes_back g.actions g.log g.state (run_steps g.commands g.actions g.log g.state g.run);
+        rounds = rounds_suffice g.commands g.actions g.log g.state g.run;
+        opens = whole.opens;
+        grew = g.grew;
+      };
+      whole = whole;
+    }
+
+-- its log is the one so far
+pub logged_with : {left mid held held1 : Option (List ℕ)} {old : Reading} {bus : Standing} (left' : Option (List ℕ)) (new : Reading) (g : Going left mid held held1 old bus)
+    → Advances old new mid left' (Ok None) → Ends left left' held held1 g.log Endings.Done
+unfolding logged_all
+logged_with left' new g a = (logged_all left' new g a, refl)
+
+-- ---- a line is refused
+
+-- what is held behind a fault
+held_behind : (f : ScriptFault) (q : Reading) → IsHeld (Err f) q → length q.rest ≤ beyond f
+held_behind Fault.BadLine q h = h
+held_behind Fault.LineTooLong q h = h
+held_behind Fault.NoEnd q h = omega (arith, ap (λ (l : List ℕ). length l) h)
+held_behind Fault.ReadFault q h = h.1
+held_behind Fault.TooLong q h = h
+
+pub line_refused : {left mid held held1 : Option (List ℕ)} {old : Reading} {bus : Standing} (left' : Option (List ℕ)) (new : Reading) (f : ScriptFault) (g : Going left mid held held1 old bus)
+    → Advances old new mid left' (Err f) → IsHeld (Err f) new → f ≢ Fault.ReadFault → RefusesLine left left' held held1 f new.line
+line_refused {left} {mid} {held} {held1} {old} left' new f g a few told =
+    let h = (given_before old.stage a.known new (Err f) (some_fault f) g.read a.gives).0 in
+    let l = the_lines left mid left' g.commands old new (Err f) (some_fault f) h a in
+    let script = whole_script left mid left' g.commands old new (Err f) (some_fault f) h a in
+    let after = with_taken new (behind left mid left' g.commands old new (Err f) (some_fault f) h a).0 true in
+    let held : length (all left mid left' g.commands old new (Err f) (some_fault f) h a) ≤ new.before + length new.rest = taken_held left mid left' g.commands old new (Err f) (some_fault f) h a in
+    let near : length (all left mid left' g.commands old new (Err f) (some_fault f) h a) ≤ new.before + beyond f = omega (arith, held, held_behind f new few) in
+    record {
+      script = script;
+      takes = whole_takes left mid left' g.commands old new (Err f) (some_fault f) h a;
+      commands = g.commands;
+      says = subst (λ (cs : List Command). IsScript script cs (Some (record { fault = f; line = new.line }))) (append-nil g.commands) (says_from l.1 [] (Some (record { fault = f; line = new.line })) (refuses l.2 told));
+      at = record { before = l.0; after = after; leads = l.1; gives = l.2 };
+      near = near;
+      logged = logs_open g h;
+    }
+
+-- a command that was given is on the line that the reader has read last
+pub record Given (left left' : Option (List ℕ)) (commands : List Command) (c : Command) (new : Reading) : Type 0 where
+  pub script : List ℕ
+  pub takes : TakesFrom left left' script
+  pub on_line : IsOnLine script commands c new.line
+  pub held : length takes.taken ≤ on_line.after.before + length new.rest
+
+given_on : {left mid held held1 : Option (List ℕ)} {old : Reading} {bus : Standing} (left' : Option (List ℕ)) (new : Reading) (c : Command) (g : Going left mid held held1 old bus) (a : Advances old new mid left' (Ok (Some c))) → Given left left' g.commands c new
+given_on {left} {mid} {held} {held1} {old} left' new c g a =
+    let h = (given_before old.stage a.known new (Ok (Some c)) (some_command c) g.read a.gives).0 in
+    let l = the_lines left mid left' g.commands old new (Ok (Some c)) (some_command c) h a in
+    record {
+      script = whole_script left mid left' g.commands old new (Ok (Some c)) (some_command c) h a;
+      takes = whole_takes left mid left' g.commands old new (Ok (Some c)) (some_command c) h a;
+      on_line = record { before = l.0; after = with_taken new (behind left mid left' g.commands old new (Ok (Some c)) (some_command c) h a).0 true; leads = l.1; gives = l.2; number = refl };
+      held = taken_held left mid left' g.commands old new (Ok (Some c)) (some_command c) h a;
+    }
+
+-- a command breaks a rule
+pub command_refused : {left mid held held1 : Option (List ℕ)} {old : Reading} {bus : Standing} (left' : Option (List ℕ)) (new : Reading) (c : Command) (f : RuleFault) (g : Going left mid held held1 old bus)
+    → Advances old new mid left' (Ok (Some c)) → IsHeld (Ok (Some c)) new → Decides g.state c (Err f) → RefusesCommand left left' held held1 f new.line
+command_refused {left} {mid} {held} {held1} {old} left' new c f g a few d =
+    let o = given_on left' new c g a in
+    let h = (given_before old.stage a.known new (Ok (Some c)) (some_command c) g.read a.gives).0 in
+    record { script = o.script; takes = o.takes; commands = g.commands; command = c; on_line = o.on_line; near = omega (arith, o.held, few); logged = logs_open g h; decided = d }
+
+-- ---- the run was cut off
+
+-- not even the header was written
+pub part_header : (left held held' : Option (List ℕ)) → AppendsFront held held' header_bytes → PartLogged left left held held'
+part_header left held held' wrote =
+    let t = takes_nothing left in
+    record {
+      script = t.0;
+      takes = t.1;
+      commands = [];
+      begun = None;
+      says = begins_nothing t.0;
+      actions = [];
+      log = [];
+      state = first_state;
+      run = begun;
+      done = [];
+      began = refl;
+      out = [];
+      after = first_state;
+      steps = (refl, refl);
+      sound = sound_throughout [] [] first_state (run_steps [] [] [] first_state begun);
+      restored = comes_back [] [] first_state (run_steps [] [] [] first_state begun);
+      rounds = rounds_suffice [] [] [] first_state begun;
+      opens = run_opens [] [] [] first_state begun tt;
+      grew = subst (λ (bytes : List ℕ). AppendsFront held held' bytes) (sym (append-nil header_bytes)) wrote;
+    }
+
+-- the source failed
+pub interrupted : {left mid held held1 : Option (List ℕ)} {old : Reading} {bus : Standing} (left' : Option (List ℕ)) (new : Reading) (g : Going left mid held held1 old bus)
+    → Advances old new mid left' (Err Fault.ReadFault) → IsHeld (Err Fault.ReadFault) new → Interrupted left left' held held1
+interrupted {left} {mid} {held} {held1} {old} left' new g a cut =
+    let h = (given_before old.stage a.known new (Err Fault.ReadFault) (some_fault Fault.ReadFault) g.read a.gives).0 in
+    let f = read_failed left mid left' g.commands old new h a cut in
+    record { taken = f.0; takes = f.1; commands = g.commands; lines = f.2; logged = logs_open g h }
+
+-- the sink failed within a command
+pub part_stopped : {left mid held held1 : Option (List ℕ)} {old : Reading} {bus : Standing} (left' held2 : Option (List ℕ)) (new : Reading) (bus' : Standing) (c : Command) (g : Going left mid held held1 old bus)
+    → Advances old new mid left' (Ok (Some c)) → Stops g.commands g.actions g.log g.state c bus' held1 held2 → PartLogged left left' held held2
+part_stopped {left} {mid} {held} {held1} {old} left' held2 new bus' c g a d = record {
+  script = o.script;
+  takes = o.takes;
+  commands = g.commands;
+  begun = Some c;
+  says = (new.line, o.on_line);
+  actions = g.actions;
+  log = g.log;
+  state = g.state;
+  run = g.run;
+  done = x.done;
+  began = (d.order, x.later, x.all, x.last, d.decided, x.whole);
+  out = x.given ++ x.next ∷ [];
+  after = x.state;
+  steps = x.steps;
+  sound = d.sound;
+  restored = d.restored;
+  rounds = rounds_suffice g.commands g.actions g.log g.state g.run;
+  opens = d.opens (given_no_end (given_before old.stage a.known new (Ok (Some c)) (some_command c) g.read a.gives).0);
+  grew = record {
+    front = (header_bytes ++ log_bytes g.log) ++ (log_bytes x.given ++ x.front);
+    rest = x.rest;
+    parts = ap (λ (z : List ℕ). header_bytes ++ z) (log_append g.log (x.given ++ x.next ∷ []) ∙ ap (λ (z : List ℕ). log_bytes g.log ++ z) (log_append x.given (x.next ∷ []) ∙ ap (λ (z : List ℕ). log_bytes x.given ++ z) (append-nil (entry_bytes x.next) ∙ x.parts)))
+        ∙ regroup header_bytes (log_bytes g.log) (log_bytes x.given) x.front x.rest;
+    appended = Grows-Grows held held1 held2 (header_bytes ++ log_bytes g.log) (log_bytes x.given ++ x.front) g.grew x.appended;
+  };
+}
+  where
+    o : Given left left' g.commands c new
+    o = given_on left' new c g a
+
+    x : Cut (Carries g.state d.order) g.state held1 held2
+    x = d.cut
+
+    regroup : (a b c d e : List ℕ) → a ++ (b ++ (c ++ (d ++ e))) ≡ ((a ++ b) ++ (c ++ d)) ++ e
+    regroup a b c d e = simp append_assoc
+
+-- ---- any ending
+
+-- the reader answered a fault
+pub faulted : {left mid held held1 : Option (List ℕ)} {old : Reading} {bus : Standing} (left' : Option (List ℕ)) (new : Reading) (f : ScriptFault) (g : Going left mid held held1 old bus)
+    → Advances old new mid left' (Err f) → IsHeld (Err f) new → Runs left left' held held1 (ending_by f new.line)
+faulted left' new Fault.BadLine g a few = line_refused left' new Fault.BadLine g a few (λ e. cc)
+faulted left' new Fault.LineTooLong g a few = line_refused left' new Fault.LineTooLong g a few (λ e. cc)
+faulted left' new Fault.NoEnd g a few = line_refused left' new Fault.NoEnd g a few (λ e. cc)
+faulted left' new Fault.ReadFault g a few = interrupted left' new g a few
+faulted left' new Fault.TooLong g a few =
+    let r = line_refused left' new Fault.TooLong g a few (λ e. cc) in
+    record { line = new.line; refused = r; long = (script_limit r.script r.commands _ r.says).0 refl }
+
+-- that is how the run ends
+pub fault_ends : (left left' held held' : Option (List ℕ)) (log : List Timed) (f : ScriptFault) (line : ℕ) → Runs left left' held held' (ending_by f line) → Ends left left' held held' log (ending_by f line)
+fault_ends left left' held held' log Fault.BadLine line r = r
+fault_ends left left' held held' log Fault.LineTooLong line r = r
+fault_ends left left' held held' log Fault.NoEnd line r = r
+fault_ends left left' held held' log Fault.ReadFault line r = r
+fault_ends left left' held held' log Fault.TooLong line r = r
+
+pub ends_runs : (left left' held held' : Option (List ℕ)) (log : List Timed) (e : RunEnding) → Ends left left' held held' log e → Runs left left' held held' e
+ends_runs left left' held held' log Endings.Done d = d.0
+ends_runs left left' held held' log (Endings.Refused r) d = d
+ends_runs left left' held held' log Endings.ReadFault d = d
+ends_runs left left' held held' log Endings.WriteFault d = d
+ends_runs left left' held held' log Endings.TooLong d = d
+ends_runs left left' held held' log Endings.NoMemory d = d
+
+-- by the fault, whose count rose
+pub read_fault_counts : (old new : ℕ) (f : ScriptFault) (line : ℕ)
+    → (f ≡ Fault.ReadFault → Rose old new) → (f ≢ Fault.ReadFault → new ≡ old) → ReadCount old new (ending_by f line)
+read_fault_counts old new Fault.BadLine line rose same = same (λ e. cc)
+read_fault_counts old new Fault.LineTooLong line rose same = same (λ e. cc)
+read_fault_counts old new Fault.NoEnd line rose same = same (λ e. cc)
+read_fault_counts old new Fault.ReadFault line rose same = rose refl
+read_fault_counts old new Fault.TooLong line rose same = same (λ e. cc)
+
+pub write_fault_counts : (old : ℕ) (f : ScriptFault) (line : ℕ) → WriteCount old old (ending_by f line)
+write_fault_counts old Fault.BadLine line = refl
+write_fault_counts old Fault.LineTooLong line = refl
+write_fault_counts old Fault.NoEnd line = refl
+write_fault_counts old Fault.ReadFault line = refl
+write_fault_counts old Fault.TooLong line = refl

@@ -1,0 +1,97 @@
+-- What a step did, wherever the log is kept.
+use Rattle.std.proofs.Common.{◌≡◌, ℕ, List, [], ◌∷◌, ◌++◌, Option, Some, None, Ok, refl, ap, sym, ◌∙◌, append-nil, append_assoc, arith}
+use Rattle.std.proofs.lemmas.List.Elements.{All-cons}
+use Rattle.std.specs.List.{All}
+use Rattle.fw_outside.specs.Outside.{Grows}
+use Rattle.fw_outside.proofs.Parts.{Grows-nothing}
+use Rattle.fw_entry.specs.Log.{TimedFits}
+use Rattle.fw_entry.specs.declared.entry.Timed.{Timed}
+use Rattle.fw_script.specs.Reading.{Reading, Advances}
+use Rattle.fw_script.specs.declared.command.Command.{Command}
+use Rattle.fw_run.specs.State.{State}
+use Rattle.fw_run.specs.Actions.{Action}
+use Rattle.fw_bus.specs.Buses.{Standing, Goes, Stops}
+use Rattle.fw_bus.specs.Doings.{Cut}
+use Rattle.fw_simulate.specs.Going.{Going, Mirrors, Carried}
+use Rattle.fw_simulate.proofs.Goings.{going_more, going_shorter}
+
+-- a place that grows by nothing stays
+grown_by_none : (after after' : Option (List ℕ)) → Grows after after' [] → after' ≡ after
+grown_by_none None None h = refl
+grown_by_none None (Some ys) h = absurd h
+grown_by_none (Some xs) None h = absurd h
+grown_by_none (Some xs) (Some ys) h = ap (λ (l : List ℕ). Some l) (h ∙ append-nil xs)
+
+pub still : (written after after' : Option (List ℕ)) → Mirrors written written after after' → after' ≡ after
+still written after after' m = grown_by_none after after' (m [] (Grows-nothing written))
+
+-- the same of another place
+pub goes_there : {commands : List Command} {actions : List Action} {log : List Timed} {s : State} {c : Command} {now : Standing} {written written' : Option (List ℕ)} (after after' : Option (List ℕ))
+    → Mirrors written written' after after' → Goes commands actions log s c now written written' → Goes commands actions log s c now after after'
+goes_there after after' m d = record {
+  order = d.order;
+  decided = d.decided;
+  more = d.more;
+  out = d.out;
+  state = d.state;
+  carries = d.carries;
+  run = d.run;
+  stands = d.stands;
+  grew = m _ d.grew;
+  sound = d.sound;
+  restored = d.restored;
+  settles = d.settles;
+  opens = d.opens;
+  whole = d.whole;
+  fresh = d.fresh;
+}
+
+cut_there : {P : List Action → List Timed → State → Type 0} {s : State} {written written' : Option (List ℕ)} (after after' : Option (List ℕ)) → Mirrors written written' after after' → Cut P s written written' → Cut P s after after'
+cut_there after after' m x = record {
+  done = x.done;
+  later = x.later;
+  all = x.all;
+  last = x.last;
+  whole = x.whole;
+  goes = x.goes;
+  given = x.given;
+  next = x.next;
+  state = x.state;
+  steps = x.steps;
+  front = x.front;
+  rest = x.rest;
+  parts = x.parts;
+  appended = m _ x.appended;
+}
+
+pub stops_there : {commands : List Command} {actions : List Action} {log : List Timed} {s : State} {c : Command} {now : Standing} {written written' : Option (List ℕ)} (after after' : Option (List ℕ))
+    → Mirrors written written' after after' → Stops commands actions log s c now written written' → Stops commands actions log s c now after after'
+unfolding cut_there
+stops_there after after' m d = record {
+  order = d.order;
+  decided = d.decided;
+  cut = cut_there after after' m d.cut;
+  sound = d.sound;
+  restored = d.restored;
+  opens = d.opens;
+  spent = d.spent;
+}
+
+-- the entries behind others fit
+fit_behind : (log out : List Timed) → ((front rest : List Timed) (t : Timed) → log ++ out ≡ front ++ t ∷ rest → TimedFits t) → All TimedFits out
+fit_behind log [] h = λ k d l. absurd (omega (arith, l))
+fit_behind log (t ∷ ts) h = All-cons TimedFits t ts (h log ts t refl) (fit_behind (log ++ t ∷ []) ts (λ front rest u e. h front rest u (sym (append_assoc log (t ∷ []) ts) ∙ e)))
+
+-- a command more was carried out
+pub carried : {left mid held after written written' : Option (List ℕ)} {old : Reading} {bus : Standing} (left' after' : Option (List ℕ)) (new : Reading) (bus' : Standing) (c : Command) (g : Going left mid held after old bus)
+    → Mirrors written written' after after' → Advances old new mid left' (Ok (Some c)) → Goes g.commands g.actions g.log g.state c bus' written written'
+    → Carried left left' held after' written written' g.log old new bus'
+unfolding going_more goes_there
+carried {after = after} left' after' new bus' c g m a d = record {
+  going = going_more left' after' new bus' c g a (goes_there after after' m d);
+  out = d.out;
+  longer = refl;
+  fit = fit_behind g.log d.out d.sound.fits;
+  wrote = d.grew;
+  shorter = going_shorter left' new c g a;
+}

@@ -1,0 +1,5 @@
+pub mod Scripts
+pub mod Ending
+pub mod Counts
+pub mod Going
+pub mod Sums

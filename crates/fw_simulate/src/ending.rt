@@ -1,0 +1,38 @@
+use fw_bus::RuleFault;
+
+/// How a call that runs a script ends.
+#[derive(Clone, Copy, Debug, PartialEq, Eq)]
+pub enum RunEnding {
+    /// The script was read to its end, nothing of it was refused, and all that is due was written.
+    Done,
+    /// The first line that is refused, by its form or by a rule of the bus.
+    Refused(Refused),
+    /// A read failed.
+    ReadFault,
+    /// A write failed.
+    WriteFault,
+    /// The script passes 1,048,576 bytes, and nothing within them is refused.
+    TooLong,
+    /// Memory ran out.
+    NoMemory,
+}
+
+/// A refused line, by its number from 1.
+#[derive(Clone, Copy, Debug, PartialEq, Eq)]
+pub struct Refused {
+    pub line: u32,
+    pub why: Refusal,
+}
+
+/// Why a line of a script was refused.
+#[derive(Clone, Copy, Debug, PartialEq, Eq)]
+pub enum Refusal {
+    /// The line has none of the forms, or follows `end`.
+    BadLine,
+    /// The line has more than 256 bytes, be it a skipped one.
+    LineTooLong,
+    /// The input ended without `end`; the line is the one after the last.
+    NoEnd,
+    /// The line's command breaks a rule of the bus.
+    Rule(RuleFault),
+}

@@ -1,0 +1,84 @@
+//! The word `gen`.
+
+ghost use Rattle.std.specs.Prelude.{◌≡◌, ◌≤◌, [], List, length};
+ghost use Rattle.fw_entry.specs.declared.entry.Timed.{Timed};
+ghost use Rattle.fw_gen.specs.Gen.{script_of};
+ghost use Rattle.fw_gen.specs.Summary.{Counts};
+ghost use Rattle.fw_simulate.specs.Counts.{WriteCount};
+ghost use Rattle.fw_simulate.specs.Scripts.{IsValid, IsNoRefusal};
+ghost use Rattle.fw_simulate.specs.Sums.{in_memory, Counted, Summed, Sums};
+
+use crate::ending::RunEnding;
+use crate::step::carry_next;
+use fw_bus::Bus;
+use fw_gen::{GrowSink, ScriptSource, Tally, gen_script};
+use fw_outside::{Failed, Sink};
+use fw_script::ScriptReader;
+use std::alloc::Global;
+
+// How a run in memory ends: a write there fails only where memory is refused.
+fn in_memory(ending: RunEnding) -> RunEnding
+    ensures { result ≡ in_memory ending }
+{
+    match ending {
+        RunEnding::WriteFault => RunEnding::NoMemory,
+        _ => ending,
+    }
+}
+
+// Runs a script in memory, and counts the entries of its log. The log is never kept: after each command what it wrote is
+// counted, and the sink emptied. Where a count passes 2^64 - 1, memory for it is lacking.
+fn count_run(alloc: Global, script: Vec<u8>, tally: &mut Tally) -> RunEnding
+    requires none { Counts [] tally.old }
+    requires short { length script.items ≤ 1048576 }
+    ensures { Counted script.items tally.new result }
+{
+    let Ok(mut bus) = Bus::new(alloc) else {
+        return RunEnding::NoMemory;
+    };
+    let Ok(mut reader) = ScriptReader::new(alloc) else {
+        return RunEnding::NoMemory;
+    };
+    let mut source = ScriptSource::new(script);
+    let mut sink = GrowSink::new(alloc);
+    loop {
+        if let Some(ending) = carry_next(&mut reader, &mut bus, &mut source, &mut sink) {
+            return in_memory(ending);
+        }
+        let Ok(()) = tally.take(sink.as_slice()) else {
+            return RunEnding::NoMemory;
+        };
+        sink.clear();
+    }
+}
+
+// Writes the summary of what was counted.
+fn write_summary<K: Sink>(alloc: Global, tally: &Tally, sink: &mut K) -> RunEnding
+    ensures text { (log : List Timed) → Counts log tally.now → Summed log (K.held sink.old) (K.held sink.new) result }
+    ensures counts { WriteCount (K.faults sink.old) (K.faults sink.new) result }
+{
+    let Ok(summary) = tally.summary(alloc) else {
+        return RunEnding::NoMemory;
+    };
+    match sink.write(summary.as_bytes()) {
+        Ok(()) => RunEnding::Done,
+        Err(Failed) => RunEnding::WriteFault,
+    }
+}
+
+/// Runs the script that a seed makes, and writes the summary of its log at the end. It reads nothing, and where a line of the
+/// script is refused it writes nothing.
+pub fn run_seed<K: Sink>(alloc: Global, seed: u32, sink: &mut K) -> RunEnding
+    ensures sums { Sums seed (K.held sink.old) (K.held sink.new) result }
+    ensures complete { IsValid (script_of seed) → IsNoRefusal result }
+    ensures write_count { WriteCount (K.faults sink.old) (K.faults sink.new) result }
+{
+    let Ok(script) = gen_script(alloc, seed) else {
+        return RunEnding::NoMemory;
+    };
+    let mut tally = Tally::new();
+    match count_run(alloc, script, &mut tally) {
+        RunEnding::Done => write_summary(alloc, &tally, sink),
+        ending => ending,
+    }
+}

@@ -1,0 +1,59 @@
+//! The step that all words share which run a script.
+
+ghost use Rattle.std.specs.Prelude.{◌≡◌, List, ℕ};
+ghost use Rattle.std.specs.declared.option.Option.{Option as Maybe};
+ghost use Rattle.fw_simulate.specs.Ending.{ending_by};
+ghost use Rattle.fw_simulate.specs.Counts.{ReadsOn, WritesOn};
+ghost use Rattle.fw_simulate.specs.Going.{Going, IsUnderWay, Mirrors, Continues};
+
+use crate::ending::{Refusal, Refused, RunEnding};
+use fw_bus::{Bus, BusFault};
+use fw_outside::{Sink, Source};
+use fw_script::{ScriptFault, ScriptReader};
+
+fn refused(line: u32, why: Refusal) -> RunEnding
+    ensures { result ≡ RunEnding.Refused (record { line = line; why = why }) }
+{
+    RunEnding::Refused(Refused { line, why })
+}
+
+/// How a run ends whose script has this fault at this line.
+fn ending_of(fault: ScriptFault, line: u32) -> RunEnding
+    ensures { result ≡ ending_by fault line }
+{
+    match fault {
+        ScriptFault::BadLine => refused(line, Refusal::BadLine),
+        ScriptFault::LineTooLong => refused(line, Refusal::LineTooLong),
+        ScriptFault::NoEnd => refused(line, Refusal::NoEnd),
+        ScriptFault::ReadFault => RunEnding::ReadFault,
+        ScriptFault::TooLong => RunEnding::TooLong,
+    }
+}
+
+/// Reads the next command of a script, and carries it out. It answers how the run ends, or None where it goes on.
+///
+/// A caller may keep elsewhere what the sink was given: the clause speaks of any place that grows as the sink does.
+pub(crate) fn carry_next<S: Source, K: Sink>(
+    reader: &mut ScriptReader,
+    bus: &mut Bus,
+    source: &mut S,
+    sink: &mut K,
+) -> Option<RunEnding>
+    requires { IsUnderWay (S.left source.old) reader.old bus.old }
+    ensures goes { (left held after after2 : Maybe (List ℕ)) → Mirrors (K.held sink.old) (K.held sink.new) after after2
+        → (g : Going left (S.left source.old) held after reader.old bus.old)
+        → Continues g (S.left source.new) (K.held sink.old) (K.held sink.new) after2 reader.new bus.new result }
+    ensures reads { ReadsOn (S.faults source.old) (S.faults source.new) result }
+    ensures writes { WritesOn (K.faults sink.old) (K.faults sink.new) result }
+{
+    let command = match reader.next(source) {
+        Ok(Some(command)) => command,
+        Ok(None) => return Some(RunEnding::Done),
+        Err(fault) => return Some(ending_of(fault, reader.line())),
+    };
+    match bus.apply(&command, sink) {
+        Ok(()) => None,
+        Err(BusFault::Refused(rule)) => Some(refused(reader.line(), Refusal::Rule(rule))),
+        Err(BusFault::WriteFault) => Some(RunEnding::WriteFault),
+    }
+}

@@ -1,0 +1,13 @@
+-- How a word that runs a script ends, as an ending of a call.
+use Rattle.fw_simulate.specs.declared.ending.RunEnding.{RunEnding}
+use Rattle.fw_simulate.specs.declared.ending.RunEnding.TheVariants as RunEndings
+use Rattle.fw_tool.specs.declared.ending.Ending.{Ending}
+use Rattle.fw_tool.specs.declared.ending.Ending.TheVariants.{Done, Refused, ReadFault, WriteFault, TooLong, NoMemory}
+
+abbrev pub by_run : RunEnding → Ending
+by_run RunEndings.Done = Done
+by_run (RunEndings.Refused refused) = Refused refused
+by_run RunEndings.ReadFault = ReadFault
+by_run RunEndings.WriteFault = WriteFault
+by_run RunEndings.TooLong = TooLong
+by_run RunEndings.NoMemory = NoMemory
