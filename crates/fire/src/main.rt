@@ -1,10 +1,15 @@
 //! `fire`: runs a script on a simulated FireWire bus and writes its log, or decodes a log.
 #![tactic(auto)]
 
-ghost use Rattle.std.specs.Prelude.{◌≡◌, ◌⊎◌, IfErr};
+ghost use Rattle.std.specs.Prelude.{◌≡◌, ◌⊎◌, ◌-◌, IfErr};
+ghost use Rattle.fire.specs.Blocks.{IsBlock};
 ghost use Rattle.fw_tool.specs.declared.ending.Ending.{Ending as AnEnding};
 
+mod desk;
+
+use desk::{block_of, inverted};
 use fw_outside::{MemSink, StdSink, StdSource};
+use fw_tape::Desk;
 use fw_tool::{Ending, NOTE_ROOM, close, fire, tell};
 use std::env;
 use std::io::{BufWriter, ErrorKind};
@@ -40,7 +45,15 @@ fn main(rt: HostRuntime) -> ExitCode {
     // The source is asked for whole pieces, and needs no buffer in front of it.
     let mut source = StdSource::new(rt.reader());
     let mut sink = StdSink::new(output);
-    let status = fire(alloc, &words, &mut source, &mut sink, &mut notes);
+    let desk = Desk::new(
+        |tape: u16, frame: u32, block: u16| -> [u8; 480]
+            ensures { IsBlock tape frame block result }
+        { block_of(tape, frame, block) },
+        |_company: u32, byte: u8| -> u8
+            ensures { result ≡ 255 - byte }
+        { inverted(byte) },
+    );
+    let status = fire(alloc, &words, &mut source, &mut sink, &mut notes, &desk);
     let flushed = sink.flush();
     ExitCode::from(close(status, notes.as_slice(), flushed, &mut errors))
 }

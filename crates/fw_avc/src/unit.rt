@@ -58,6 +58,13 @@ impl Unit {
         &mut self.tape
     }
 
+    /// The tape subunit, to be read.
+    pub fn tape_subunit(&self) -> &Tape
+        ensures { result.now ≡ self.now.tape }
+    {
+        &self.tape
+    }
+
     /// The state of the same kind as `value`, as it is now.
     fn now(&self, value: Watched) -> Watched
         ensures { result ≡ now_of self.now value }

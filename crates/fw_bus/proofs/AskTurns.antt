@@ -21,6 +21,7 @@ use Rattle.fw_bus.specs.Transacting.{IsRequest}
 use Rattle.fw_bus.specs.Doings.{Talks}
 use Rattle.fw_bus.specs.Stands.{HasNodes, StandsFor, is_linked_in, is_living_in}
 use Rattle.fw_bus.proofs.Asked.{transacted, answers_same, request_is}
+use Rattle.fw_bus.proofs.DeckNodes.{decks_same, decks_requested}
 use Rattle.fw_bus.proofs.Lingers.{requested, unchanged_same}
 use Rattle.fw_bus.proofs.Living.{linked_same, living_same}
 use Rattle.fw_bus.proofs.Nodes.{node_number_is, linked_on, on_within}
@@ -60,14 +61,17 @@ answered_stands m s x g st to free = record {
     nodes = nodes;
     lingering = requested m.devices.nodes s t x.to (Some (access_request x.access)) g st.devices.nodes nodes (on_within m.devices.nodes s x.to st.devices.nodes g (linked_on s x.to to))
         refl (unchanged_same s.account) st.devices.lingering;
+    decks = decks_same _ s t refl refl (decks_requested m.devices.nodes s x.to (Some (access_request x.access)) (on_within m.devices.nodes s x.to st.devices.nodes g (linked_on s x.to to)) st.devices.decks);
     latest = st.devices.latest;
     epoch = st.devices.epoch;
     manager = st.devices.manager;
   };
-  clock = record { cycle = st.clock.cycle; reclaiming = st.clock.reclaiming; half_steps = st.clock.half_steps };
+  clock = record { cycle = st.clock.cycle; reclaiming = st.clock.reclaiming; half_steps = st.clock.half_steps; written = st.clock.written };
   controllers = record { table = st.controllers.table; directory = st.controllers.directory };
   wire = record { each = st.wire.each };
+  streams = record { size = st.streams.size; each = st.streams.each };
   answered = refl;
+  unsent = st.unsent;
 }
   where
     t : State

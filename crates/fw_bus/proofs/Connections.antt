@@ -141,7 +141,7 @@ without_controller : (s : State) (c : Command) (d : ℕ) (w : Wanted) → Asked 
 without_controller s c d w a dead =
     (no_controller s c d w a.asks a.wanted dead, λ g lt. connection_breaks s c d w a g (λ e. absurd (is_another NotController g NotController lt (omega arith) e)) (λ f e is. later g lt f e))
   where
-    later : (g : RuleFault) → rank g < 7 → (f : StartFault) → g ≡ rule_of f → ⊥
+    later : (g : RuleFault) → rank g < 8 → (f : StartFault) → g ≡ rule_of f → ⊥
     later g lt f e = let late = later_rule f in is_another NotController g (rule_of f) lt (omega arith) e
 
 with_refusal : (s : State) (c : Command) (d : ℕ) (w : Wanted) (f : StartFault) → Asked s c d w → IsTrue (is_living s d) → start_of d w (s.controllers d) ≡ Err f → Decides s c (Err (rule_of f))

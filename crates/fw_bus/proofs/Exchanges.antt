@@ -115,7 +115,7 @@ pub addressee_is : (m : Machine) (s : State) (d : ℕ) (a : Access) → StandsFo
 addressee_is m s d a st x = (λ i. addressee_of (st.controllers.directory i) (x.access i).target) ∙ x.heard.goes
 
 -- the device that the latest entry has at a node
-device_at_node : (m : Machine) (s : State) (e : ResetEntry) (n : ℕ) → StandsFor m s → s.account.latest ≡ Some e
+pub device_at_node : (m : Machine) (s : State) (e : ResetEntry) (n : ℕ) → StandsFor m s → s.account.latest ≡ Some e
     → node_device m.devices.latest.nodes n ≡ device_in s.account.latest n
 device_at_node m s e n st is =
     ap (λ (x : ResetEntry). node_device x.nodes n) (st.devices.latest ∙ ap (λ o. unwrap_or o no_entry) is) ∙ sym (ap (λ o. device_in o n) is)

@@ -63,7 +63,7 @@ tree_rule Tree.NoPort = NoPort
 tree_rule Tree.PortUsed = PortUsed
 tree_rule Tree.Loop = Loop
 
-tree_rule_low : (f : TreeFault) → rank (tree_rule f) ≤ 6
+tree_rule_low : (f : TreeFault) → rank (tree_rule f) ≤ 7
 tree_rule_low Tree.TooMany = omega arith
 tree_rule_low Tree.NoPort = omega arith
 tree_rule_low Tree.PortUsed = omega arith
@@ -121,38 +121,51 @@ cable_ordered s a b x y p q fits few = ((x, y, p, q, refl), λ g. cable_breaks s
 
 -- ---- transactions
 
--- a transaction of a living controller at a linked node breaks no rule, or that of guarded registers
-transaction_breaks : (s : State) (from to : List ℕ) (a : Access) (d e : ℕ) → IsNamed s from d → IsNamed s to e → IsTrue (is_living s d) → IsTrue (is_linked s e) → (g : RuleFault)
+-- a transaction of a living controller breaks no rule but those of nodes that do not answer and of guarded registers
+transaction_breaks : (s : State) (from to : List ℕ) (a : Access) (d e : ℕ) → IsNamed s from d → IsNamed s to e → IsTrue (is_living s d) → (g : RuleFault) → (g ≡ OffBus → IsTrue (is_linked s e))
     → (g ≡ Guarded → IsFalse (is_guarded a)) → Breaks s (command_of from to a) g → ⊥
-transaction_breaks s from to (Read offset) d e p q living linked UnknownName free h = all_known s (from ∷ to ∷ []) ((d, p), ((e, q), tt)) h
-transaction_breaks s from to (Read offset) d e p q living linked NotController free h = is_so s (is_living s) from d p living h
-transaction_breaks s from to (Read offset) d e p q living linked OffBus free h = is_so s (is_linked s) to e q linked h
-transaction_breaks s from to (Read offset) d e p q living linked NotOwnPlug free h = h.2
-transaction_breaks s from to (Read offset) d e p q living linked NoSuchConnection free h = h.2
-transaction_breaks s from to (Read offset) d e p q living linked TableFull free h = h.2
-transaction_breaks s from to (Read offset) d e p q living linked Busy free h = h.2
-transaction_breaks s from to (Read offset) d e p q living linked g free h = h
-transaction_breaks s from to (Swap offset argument new) d e p q living linked UnknownName free h = all_known s (from ∷ to ∷ []) ((d, p), ((e, q), tt)) h
-transaction_breaks s from to (Swap offset argument new) d e p q living linked NotController free h = is_so s (is_living s) from d p living h
-transaction_breaks s from to (Swap offset argument new) d e p q living linked OffBus free h = is_so s (is_linked s) to e q linked h
-transaction_breaks s from to (Swap offset argument new) d e p q living linked NotOwnPlug free h = h.2
-transaction_breaks s from to (Swap offset argument new) d e p q living linked NoSuchConnection free h = h.2
-transaction_breaks s from to (Swap offset argument new) d e p q living linked TableFull free h = h.2
-transaction_breaks s from to (Swap offset argument new) d e p q living linked Busy free h = h.2
-transaction_breaks s from to (Swap offset argument new) d e p q living linked Guarded free h = true≢false (sym h ∙ free refl)
-transaction_breaks s from to (Swap offset argument new) d e p q living linked g free h = h
+transaction_breaks s from to (Read offset) d e p q living UnknownName linked free h = all_known s (from ∷ to ∷ []) ((d, p), ((e, q), tt)) h
+transaction_breaks s from to (Read offset) d e p q living NotController linked free h = is_so s (is_living s) from d p living h
+transaction_breaks s from to (Read offset) d e p q living OffBus linked free h = is_so s (is_linked s) to e q (linked refl) h
+transaction_breaks s from to (Read offset) d e p q living NotOwnPlug linked free h = h.2
+transaction_breaks s from to (Read offset) d e p q living NoSuchConnection linked free h = h.2
+transaction_breaks s from to (Read offset) d e p q living TableFull linked free h = h.2
+transaction_breaks s from to (Read offset) d e p q living Busy linked free h = h.2
+transaction_breaks s from to (Read offset) d e p q living g linked free h = h
+transaction_breaks s from to (Swap offset argument new) d e p q living UnknownName linked free h = all_known s (from ∷ to ∷ []) ((d, p), ((e, q), tt)) h
+transaction_breaks s from to (Swap offset argument new) d e p q living NotController linked free h = is_so s (is_living s) from d p living h
+transaction_breaks s from to (Swap offset argument new) d e p q living OffBus linked free h = is_so s (is_linked s) to e q (linked refl) h
+transaction_breaks s from to (Swap offset argument new) d e p q living NotOwnPlug linked free h = h.2
+transaction_breaks s from to (Swap offset argument new) d e p q living NoSuchConnection linked free h = h.2
+transaction_breaks s from to (Swap offset argument new) d e p q living TableFull linked free h = h.2
+transaction_breaks s from to (Swap offset argument new) d e p q living Busy linked free h = h.2
+transaction_breaks s from to (Swap offset argument new) d e p q living Guarded linked free h = true≢false (sym h ∙ free refl)
+transaction_breaks s from to (Swap offset argument new) d e p q living g linked free h = h
 
 pub transaction_guarded : (s : State) (from to : List ℕ) (a : Access) (d e : ℕ) → IsNamed s from d → IsNamed s to e → IsTrue (is_living s d) → IsTrue (is_linked s e) → IsTrue (is_guarded a)
     → Decides s (command_of from to a) (Err Guarded)
 transaction_guarded s from to (Read offset) d e p q living linked guarded = absurd (false≢true guarded)
 transaction_guarded s from to (Swap offset argument new) d e p q living linked guarded =
-    (guarded, λ g lt. transaction_breaks s from to (Swap offset argument new) d e p q living linked g (λ same. absurd (is_another Guarded g Guarded lt (omega arith) same)))
+    (guarded, λ g lt. transaction_breaks s from to (Swap offset argument new) d e p q living g (λ same. linked) (λ same. absurd (is_another Guarded g Guarded lt (omega arith) same)))
+
+pub transaction_off : (s : State) (from to : List ℕ) (a : Access) (d e : ℕ) → IsNamed s from d → IsNamed s to e → IsTrue (is_living s d) → IsFalse (is_linked s e)
+    → Decides s (command_of from to a) (Err OffBus)
+transaction_off s from to (Read offset) d e p q living off = (
+  (e, q, off),
+  λ g lt. transaction_breaks s from to (Read offset) d e p q living g
+      (λ same. absurd (is_another OffBus g OffBus lt (omega arith) same)) (λ same. absurd (is_another OffBus g Guarded lt (omega arith) same)),
+)
+transaction_off s from to (Swap offset argument new) d e p q living off = (
+  (e, q, off),
+  λ g lt. transaction_breaks s from to (Swap offset argument new) d e p q living g
+      (λ same. absurd (is_another OffBus g OffBus lt (omega arith) same)) (λ same. absurd (is_another OffBus g Guarded lt (omega arith) same)),
+)
 
 pub transaction_ordered : (s : State) (from to : List ℕ) (a : Access) (d e : ℕ) → IsNamed s from d → IsNamed s to e → IsTrue (is_living s d) → IsTrue (is_linked s e) → IsFalse (is_guarded a)
     → Decides s (command_of from to a) (Ok (Orders.Transact (record { from = d; to = e; access = a })))
-transaction_ordered s from to (Read offset) d e p q living linked free = ((d, e, p, q, refl), λ g. transaction_breaks s from to (Read offset) d e p q living linked g (λ same. free))
+transaction_ordered s from to (Read offset) d e p q living linked free = ((d, e, p, q, refl), λ g. transaction_breaks s from to (Read offset) d e p q living g (λ same. linked) (λ same. free))
 transaction_ordered s from to (Swap offset argument new) d e p q living linked free =
-    ((d, e, p, q, refl), λ g. transaction_breaks s from to (Swap offset argument new) d e p q living linked g (λ same. free))
+    ((d, e, p, q, refl), λ g. transaction_breaks s from to (Swap offset argument new) d e p q living g (λ same. linked) (λ same. free))
 
 -- ---- registers that are shown
 
@@ -198,7 +211,7 @@ show_no_register s name offset d is linked off =
 pub show_no_manager : (s : State) (offset : ℕ) → manager_in s.account.latest ≡ None → Decides s (Commands.Show None offset) (Err NoRegister)
 show_no_manager s offset none = (inl none, go)
   where
-    go : (g : RuleFault) → rank g < 14 → Breaks s (Commands.Show None offset) g → ⊥
+    go : (g : RuleFault) → rank g < 15 → Breaks s (Commands.Show None offset) g → ⊥
     go UnknownName lt h = false≢true h
     go NoRegister lt h = absurd (omega arith)
     go NotOwnPlug lt h = h.2
@@ -211,7 +224,7 @@ show_no_manager s offset none = (inl none, go)
 pub show_off : (s : State) (name : List ℕ) (offset d : ℕ) → IsNamed s name d → IsFalse (is_linked s d) → Decides s (Commands.Show (Some name) offset) (Err OffBus)
 show_off s name offset d is off = ((d, is, off), go)
   where
-    go : (g : RuleFault) → rank g < 8 → Breaks s (Commands.Show (Some name) offset) g → ⊥
+    go : (g : RuleFault) → rank g < 9 → Breaks s (Commands.Show (Some name) offset) g → ⊥
     go UnknownName lt h = all_known s (name ∷ []) ((d, is), tt) h
     go OffBus lt h = absurd (omega arith)
     go NoRegister lt h = absurd (omega arith)

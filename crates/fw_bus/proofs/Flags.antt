@@ -28,7 +28,11 @@ same_flag : (w : ℕ) (b : Bool) → b ≡ ((w == w) && b)
 same_flag w b = grind (arith, nat_tests)
 
 pub same_flags : (n : NodeState) → LeavesFlags n n
-same_flags n = record { plugs = refl; size = refl; flags = λ k lt. same_flag (slice_index n.plugs.outputs k) (slice_index_or n.plugs.lingering_outputs k false) }
+same_flags n = record {
+  plugs = refl;
+  size = refl;
+  flags = λ k lt. same_flag (slice_index n.plugs.outputs k) (slice_index_or n.plugs.lingering_outputs k false);
+}
 
 -- a request at a plug of a row, or at none
 row_flag : (o : Option ℕ) (r : Request) (words : List ℕ) (flags : List Bool) (k : ℕ) → length flags ≡ length words → k < length words
@@ -124,6 +128,7 @@ pub first_rests : (kind : DeviceKind) (device rate k : ℕ) → rate < 4 → k <
 first_rests kind device rate k low lt =
     let n : ℕ = output_plugs_of kind in
     let size = length-replicate n (first_out_word rate) in
-    let word : slice_index (replicate n (first_out_word rate)) k ≡ first_out_word rate = get_or-replicate n k (first_out_word rate) 0 (omega (arith, lt, size)) in
+    let word : slice_index (replicate n (first_out_word rate)) k ≡ first_out_word rate =
+    get_or-replicate n k (first_out_word rate) 0 (omega (arith, lt, size)) in
     ap (λ w. is_active w (slice_index_or (replicate n false) k false)) word
     ∙ (ap (λ b. is_connected (first_out_word rate) || b) (first_flag n k) ∙ ap (λ b. b || false) (first_word_rests rate low))

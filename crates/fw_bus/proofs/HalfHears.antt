@@ -1,6 +1,8 @@
 -- The half step in which a request stands: the node that it went to carries it out, and the controller hears the reply.
-use Rattle.std.proofs.Common.{◌≡◌, ℕ, zero, suc, ◌<◌, ◌^◌, List, [], ◌∷◌, slice_set, Bool, true, false, Option, Some, None, unwrap_or, refl, ap, sym, subst, ◌∙◌, IsTrue}
+use Rattle.std.proofs.Common.{◌≡◌, ℕ, zero, suc, List, [], ◌∷◌, slice_set, Option, Some, None, unwrap_or, refl, ap, sym, subst, ◌∙◌, IsTrue}
+use Rattle.std.proofs.lemmas.List.{get_or-set_other, length-set}
 use Rattle.std.proofs.lemmas.Option.{same_Some, none-some}
+use Rattle.fw_base.specs.declared.device.DeviceKind.TheVariants.{Relay}
 use Rattle.fw_base.specs.Tables.{update}
 use Rattle.fw_async.specs.declared.packet.Head.{Head}
 use Rattle.fw_async.specs.declared.packet.Packet.{Packet}
@@ -9,102 +11,50 @@ use Rattle.fw_csr.specs.declared.request.Request.{Request}
 use Rattle.fw_csr.specs.Requests as Offsets
 use Rattle.fw_entry.specs.declared.entry.Entry.TheVariants.{Async}
 use Rattle.fw_ledger.specs.Account.{Account}
-use Rattle.fw_ledger.specs.Packets.{ended}
 use Rattle.fw_ledger.specs.Words.{node_of}
-use Rattle.fw_cmp.specs.declared.current.Current.TheVariants.{Hearing}
-use Rattle.fw_cmp.specs.declared.job.Job.{Job}
-use Rattle.fw_cmp.specs.declared.stage.Stage.{Stage}
 use Rattle.fw_cmp.specs.declared.request.Access.{Access}
-use Rattle.fw_cmp.specs.Controllers.{ControllerState, IsStanding, CurrentFits, RunsFitting, Fits}
+use Rattle.fw_cmp.specs.Controllers.{ControllerState, IsStanding}
 use Rattle.fw_cmp.specs.Requests.{offset_of, swap_of, standing_in, addressee_of, request_at, request_of}
 use Rattle.fw_cmp.specs.Resets.{heard as heard_then, after_hear}
-use Rattle.fw_step.specs.Controllers.{ControllerInStep}
 use Rattle.fw_step.specs.Lingering.{LingerUnchanged}
-use Rattle.fw_step.specs.Moves.{carried_out}
-use Rattle.fw_step.specs.Registers.{register_at, stands}
+use Rattle.fw_step.specs.Registers.{register_at}
 use Rattle.fw_step.specs.Requests.{procedure_head}
-use Rattle.fw_step.proofs.Carried.{hearing, hear_half}
 use Rattle.fw_step.proofs.LingersAlong.{entry_lingers}
-use Rattle.fw_step.proofs.Leads.{target_register}
 use Rattle.fw_node.specs.Packets.{packet_of, request_head, request_in, response_to, response_with, response_of, reply_in}
 use Rattle.fw_node.specs.Space.{Space, answer_of}
 use Rattle.fw_node.specs.Space as Spaces
-use Rattle.fw_node.specs.State.{NodeState, space_of, after_request}
+use Rattle.fw_node.specs.State.{NodeState, first_state, space_of, after_request}
 use Rattle.fw_devices.specs.Network.{Network, kinds_of, node_at}
 use Rattle.fw_devices.specs.Entries.{node_device}
 use Rattle.fw_run.specs.State.{State, number_in}
 use Rattle.fw_run.specs.Spaces.{space_at, space_of_device, space_of_node, reply_from}
 use Rattle.fw_run.specs.HalfSteps.{half, taken, after_half}
 use Rattle.fw_run.specs.Good.{IsGood}
-use Rattle.fw_run.proofs.Buses.{linked_small}
-use Rattle.fw_run.proofs.Hears.{Heard, HalfHears, half_hears, access_heard, reply_heard, carried_bus}
+use Rattle.fw_run.proofs.HalfSteps.{half_good}
+use Rattle.fw_run.proofs.Hears.{HalfHears, half_hears, access_heard, reply_heard, carried_bus}
 use Rattle.fw_run.proofs.Turns.{living_linked}
 use Rattle.fw_run.proofs.Words.{node_space_of}
 use Rattle.fw_bus.specs.declared.machine.Machine.{Machine}
 use Rattle.fw_bus.specs.Doings.{Takes}
 use Rattle.fw_bus.specs.Lingering.{HasLingering}
 use Rattle.fw_bus.specs.Stands.{HasNodes, StandsFor, is_living_in}
-use Rattle.fw_async.specs.Wire.{Pairs, without}
+use Rattle.fw_async.specs.Wire.{without}
+use Rattle.fw_bus.specs.Streaming.{HasStreams, looked_at}
 use Rattle.fw_bus.specs.Wires.{HasWire}
 use Rattle.fw_bus.specs.Tables.{ControllerTable, IsTable, count_of, states_of, dead_of}
 use Rattle.fw_bus.proofs.Exchanges.{Exchange, standing_of, exchange_of, exchange_on, exchange_within, exchange_addresses, asks_request, carried}
 use Rattle.fw_bus.proofs.HalfNodes.{state_with, nodes_answer}
-use Rattle.fw_bus.proofs.HalfTurns.{stands_with, table_with, ended_words}
+use Rattle.fw_bus.proofs.HalfTurns.{stands_with, table_with}
 use Rattle.fw_bus.proofs.HalfWires.{own_number}
 use Rattle.fw_bus.proofs.Standing.{directory_same}
 use Rattle.fw_bus.proofs.Wires.{wire_take}
 use Rattle.fw_bus.proofs.Latest.{number_is}
+use Rattle.fw_bus.proofs.DeckNodes.{decks_requested}
 use Rattle.fw_bus.proofs.Lingers.{requested}
 use Rattle.fw_bus.proofs.Living.{living_same}
 use Rattle.fw_bus.proofs.Nodes.{response_same, node_number_is, number_of_node, linked_on}
-use Rattle.fw_bus.proofs.Swaps.{IsAnswered, quadlet_below, answer_changes}
-
--- ---- what the answer leaves of the account
-
--- the account after the answer
-abbrev pub account_heard : (s : State) (d : ℕ) (j : Job) (stage : Stage) → Heard s d j stage → Account
-account_heard s d j stage x = ended d (carried_out d j stage (reply_heard s d j stage x) s.account)
-
--- the words of the account after the answer
-words_heard : (s : State) (d : ℕ) (j : Job) (stage : Stage) → IsGood s → (s.controllers d).current ≡ Hearing j stage → (x : Heard s d j stage)
-    → HalfHears s d j stage x → IsAnswered s.account (account_heard s d j stage x) x.target (swap_of j stage)
-words_heard s d j stage g current x h =
-    record { own = λ there. ended_words d m (register_at x.target) ∙ w.own there; others = λ r is ne. ended_words d m r ∙ w.others r is ne }
-  where
-    reply_ : Reply
-    reply_ = reply_heard s d j stage x
-
-    m : Account
-    m = carried_out d j stage reply_ s.account
-
-    fits : RunsFitting (s.controllers d) j stage
-    fits = subst (CurrentFits (s.controllers d)) current (g.reclaims.step.fits d).current
-
-    same : s.controllers d ≡ hearing (s.controllers d) j stage
-    same = λ i. record (s.controllers d) { current = current i }
-
-    small : d < 63
-    small = linked_small s x.entry d x.number x.shows.1 x.linked
-
-    w : IsAnswered s.account m x.target (swap_of j stage)
-    w =
-        answer_changes s.account d j stage _ x.target reply_ small g.reclaims.step.sound fits.stage (target_register j stage x.target fits.stage x.asked) h.answer
-        (hear_half s.account d (s.controllers d) j stage x.target reply_ small g.reclaims.step.sound (subst Fits same (g.reclaims.step.fits d)) x.asked h.answer
-        (subst (ControllerInStep s.account d) same (g.reclaims.step.each d)))
-
--- what a complete reply shows is a quadlet
-reply_below : (s : State) (d : ℕ) (j : Job) (stage : Stage) → IsGood s → (s.controllers d).current ≡ Hearing j stage → (x : Heard s d j stage)
-    → HalfHears s d j stage x → (reply_heard s d j stage x).rcode ≡ 0 → (reply_heard s d j stage x).value < 2 ^ 32
-reply_below s d j stage g current x h zero_ = go (stands s.account.latest x.target) refl
-  where
-    fits : RunsFitting (s.controllers d) j stage
-    fits = subst (CurrentFits (s.controllers d)) current (g.reclaims.step.fits d).current
-
-    go : (b : Bool) → stands s.account.latest x.target ≡ b → (reply_heard s d j stage x).value < 2 ^ 32
-    go true there =
-        subst (λ v. v < 2 ^ 32) (sym (h.answer.complete there).1)
-        (quadlet_below s.account x.target g.reclaims.step.sound (target_register j stage x.target fits.stage x.asked) there)
-    go false gone = absurd (h.answer.refused gone zero_)
+use Rattle.fw_bus.proofs.Counts.{streams_look}
+use Rattle.fw_bus.proofs.HalfAnswers.{account_heard, words_heard, reply_below}
 
 -- ---- the response
 
@@ -173,14 +123,16 @@ answered_of m s d a to device own packet response g st lives standing sent =
     answered =
         sym (node_answers s device x.heard.to head q g number)
         ∙ (sym (response_same m.devices.nodes s device st.devices.nodes g (exchange_on m s d a to device x) x.heard.to node_number (packet_of head q))
-        ∙ ((λ i. response_of (space_of x.heard.to (sym st.clock.cycle i) (node_at m.devices.nodes device)) (sym packet_is i)) ∙ sent.answered x.heard.to node_number))
+        ∙ ((λ i. response_of (space_of x.heard.to (sym st.clock.cycle i) (node_at m.devices.nodes device)) (sym packet_is i))
+        ∙ sent.answered x.heard.to node_number))
 
     response_is : response ≡ h.response.packet
     response_is = same_Some response h.response.packet (sym answered ∙ h.response.sent)
 
     reply_is : reply_in h.response.packet ≡ Some (reply_heard s d x.job x.stage x.heard)
     reply_is =
-        carried x.heard.to head (offset_of x.heard.target) (swap_of x.job x.stage) (Spaces.register_at (space_of_node s x.heard.to) (Offsets.offset_of q)) h.response.packet
+        carried x.heard.to head (offset_of x.heard.target) (swap_of x.job x.stage)
+        (Spaces.register_at (space_of_node s x.heard.to) (Offsets.offset_of q)) h.response.packet
         (reply_below s d x.job x.stage g x.current x.heard h) h.response.sent
 
 -- ---- the machine after it
@@ -196,17 +148,29 @@ kinds_set (n ∷ nodes) (suc d) o = ap (λ ks. n.kind ∷ ks) (kinds_set nodes d
 abbrev pub nodes_after : List NodeState → ℕ → Packet → List NodeState
 nodes_after nodes device packet = slice_set nodes device (after_request (request_in packet) (node_at nodes device))
 
+-- the machine then
+abbrev pub machine_after : Machine → ControllerTable → ℕ → ℕ → Packet → Machine
+machine_after m k device own packet = record m {
+  devices = record m.devices { nodes = nodes_after m.devices.nodes device packet };
+  controllers = k;
+  wire = without own m.wire;
+  streams = looked_at device (nodes_after m.devices.nodes device packet) m.streams;
+}
+
 -- it stands for the state after the half step
 hears_stands : (m : Machine) (s : State) (k : ControllerTable) (d : ℕ) (a : Access) (to device own : ℕ) (packet response : Packet) (r : Reply) → IsGood s
-    → StandsFor m s → number_in s.account.latest d ≡ Some own → Sent m d a to device own packet response → Answered m s d a to device response → Some r ≡ reply_in response
+    → IsGood (after_half s d) → StandsFor m s → number_in s.account.latest d ≡ Some own → Sent m d a to device own packet response
+    → Answered m s d a to device response → Some r ≡ reply_in response
     → IsTable k (count_of m.controllers) (update (states_of m.controllers) d (after_hear (states_of m.controllers d) r)) (dead_of m.controllers)
-    → StandsFor (record m { devices = record m.devices { nodes = nodes_after m.devices.nodes device packet }; controllers = k; wire = without own m.wire }) (after_half s d)
-hears_stands m s k d a to device own packet response r g st place sent z heard table =
+    → StandsFor (machine_after m k device own packet) (after_half s d)
+hears_stands m s k d a to device own packet response r g after st place sent z heard table =
     subst (λ y. StandsFor now (taken s d y)) (sym h.half_is) (subst (λ l. StandsFor now (state_with s l f)) (sym (ap (λ o. unwrap_or o s.account) h.leads))
-    (stands_with m s (nodes_after m.devices.nodes device packet) k l f (without own m.wire) st (record { latest = bus.0; reclaiming = bus.1 })
+    (stands_with m s (nodes_after m.devices.nodes device packet) k l f (without own m.wire)
+    (looked_at device (nodes_after m.devices.nodes device packet) m.streams) st (record { latest = bus.0; reclaiming = bus.1 })
     (kinds_set m.devices.nodes device (request_in packet)) nodes lingering
+    (decks_requested m.devices.nodes s device (request_in packet) (exchange_within m s d a to device g st x) st.devices.decks)
     (table_with m s k d (after_hear (states_of m.controllers d) r) (after_hear (s.controllers d) reply_) st
-    (λ i. after_hear (st.controllers.table.states_are i d) (reply_is i)) table) wire))
+    (λ i. after_hear (st.controllers.table.states_are i d) (reply_is i)) table) wire streams))
   where
     x : Exchange m s d a to device
     x = z.exchange
@@ -215,7 +179,7 @@ hears_stands m s k d a to device own packet response r g st place sent z heard t
     h = z.hears
 
     now : Machine
-    now = record m { devices = record m.devices { nodes = nodes_after m.devices.nodes device packet }; controllers = k; wire = without own m.wire }
+    now = machine_after m k device own packet
 
     reply_ : Reply
     reply_ = reply_heard s d x.job x.stage x.heard
@@ -252,23 +216,33 @@ hears_stands m s k d a to device own packet response r g st place sent z heard t
     linger = entry_lingers s.account l (Async h.response.packet) g.reclaims.step.sound h.leads
 
     lingering : HasLingering (nodes_after m.devices.nodes device packet) (state_with s l f)
-    lingering = requested m.devices.nodes s (state_with s l f) device (request_in packet) g st.devices.nodes nodes (exchange_within m s d a to device g st x) bus.0 linger st.devices.lingering
+    lingering = requested m.devices.nodes s (state_with s l f) device (request_in packet) g st.devices.nodes nodes
+        (exchange_within m s d a to device g st x) bus.0 linger st.devices.lingering
+
+    good : IsGood (state_with s l f)
+    good = subst (λ o. IsGood (state_with s (unwrap_or o s.account) f)) h.leads (subst (λ y. IsGood (taken s d y)) h.half_is after)
+
+    streams : HasStreams (looked_at device (nodes_after m.devices.nodes device packet) m.streams) (state_with s l f)
+    streams =
+        streams_look m.devices.nodes (nodes_after m.devices.nodes device packet) m.streams s (state_with s l f) device g good st.devices.nodes nodes
+        st.devices.lingering lingering (length-set m.devices.nodes device _) (exchange_within m s d a to device g st x)
+        (λ c ne. get_or-set_other m.devices.nodes device c _ (first_state Relay 0 0) ne) refl st.streams
 
 -- the half step of the machine is that of the run
 pub takes_hears : (m : Machine) (n : Network) (k : ControllerTable) (d : ℕ) (a : Access) (to device own : ℕ) (packet response : Packet) (r : Reply)
     → IsTrue (is_living_in m d) → IsStanding (states_of m.controllers d).current → Sent m d a to device own packet response
     → n ≡ record m.devices { nodes = nodes_after m.devices.nodes device packet } → Some r ≡ reply_in response
     → IsTable k (count_of m.controllers) (update (states_of m.controllers) d (after_hear (states_of m.controllers d) r)) (dead_of m.controllers)
-    → Takes half m (record m { devices = n; controllers = k; wire = without own m.wire }) d (Some (Async response))
+    → Takes half m (record m { devices = n; controllers = k; wire = without own m.wire; streams = looked_at device n.nodes m.streams })
+    d (Some (Async response))
 takes_hears m n k d a to device own packet response r lives standing sent registers heard table = λ s g st.
-    let z = answered_of m s d a to device own packet response g st lives standing sent in (
+    let z = answered_of m s d a to device own packet response g st lives standing sent in
+    let after = half_good s d g (sym (living_same m s d g st) ∙ lives) in
+    let P : Network → Type 0 = λ v.
+    StandsFor (record m { devices = v; controllers = k; wire = without own m.wire; streams = looked_at device v.nodes m.streams }) (after_half s d) in (
       ap (λ p. Some (Async p)) z.response_is ∙ sym (ap (λ y. y.says) z.hears.half_is),
-      subst (λ v. StandsFor (record m {
-        devices =
-            v;
-        controllers = k;
-        wire = without own m.wire;
-      }) (after_half s d)) (sym registers) (hears_stands m s k d a to device own packet response r g st (own_number m s d own g st lives sent.own_is) sent z heard table),
+      subst P (sym registers) (hears_stands m s k d a to device own packet response r g after st
+          (own_number m s d own g st lives sent.own_is) sent z heard table),
     )
 
 -- the response has a reply

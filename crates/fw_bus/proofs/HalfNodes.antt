@@ -22,7 +22,7 @@ use Rattle.fw_node.specs.Space.{space_after}
 use Rattle.fw_node.specs.State.{NodeState, HasSpace, first_state, after_request}
 use Rattle.fw_node.proofs.Spaces.{space_kept}
 use Rattle.fw_devices.specs.Network.{kind_at, node_at}
-use Rattle.fw_run.specs.State.{State, number_in, manager_in}
+use Rattle.fw_run.specs.State.{State, number_in, manager_in, while_talking}
 use Rattle.fw_run.specs.Spaces.{space_at, is_manager, manager_words}
 use Rattle.fw_run.specs.Good.{IsGood}
 use Rattle.fw_bus.specs.Stands.{IsNodeAt, HasNodes}
@@ -51,16 +51,17 @@ node_set nodes s t d n h names low here others =
 
 -- ---- the node that answers
 
--- the state with another account, and other controllers
+-- the state with another account, by which plugs talk, and other controllers
 abbrev pub state_with : State → Account → (ℕ → ControllerState) → State
-state_with s m f = record s { account = m; controllers = f }
+state_with s m f = record s { account = m; controllers = f; streams = while_talking m s.streams }
 
 -- it has the registers of the account after the answer
 answers_here : (s : State) (m : Account) (f : ℕ → ControllerState) (d n : ℕ) (t : Target) (w : Option Swap) (node : NodeState) → IsGood s → Addresses s d n t
     → m.latest ≡ s.account.latest → IsAnswered s.account m t w → HasSpace node (space_at s d n)
     → HasSpace (after_request (Some (request_at (offset_of t) w)) node) (space_at (state_with s m f) d n)
 answers_here s m f d n t w node g a latest x h =
-    space_as (after_request (Some r) node) (space_after (space_at s d n) r) (space_at (state_with s m f) d n) (space_kept node (space_at s d n) r h) refl refl refl refl
+    space_as (after_request (Some r) node) (space_after (space_at s d n) r) (space_at (state_with s m f) d n)
+    (space_kept node (space_at s d n) r h) refl refl refl refl
     (λ k lt. let few = (plugs_few (kind_at s.declared.kinds d)).0 in
     follows s.account m t w (OutputPlug (at_plug d k)) x tt (λ e. output k lt (same_output s.account.latest d n k t a.has a.small (omega arith) e)))
     (λ k lt. let few = (plugs_few (kind_at s.declared.kinds d)).1 in
@@ -109,8 +110,10 @@ answers_here s m f d n t w node g a latest x h =
     words own =
         let id = sym (passes t w 0xFFFF_F000_021C s.bus_manager_id (no_manager_id t)) in
         let units = follows s.account m t w BandwidthAvailable x tt (λ e. let same = same_bandwidth t e in (same, bandwidth t own same)) in
-        let high = follows s.account m t w (ChannelsAvailable 0) x (inl refl) (λ e. let same = same_half 0 t (inl refl) a.register e in (same, channels 0 t own same)) in
-        let low = follows s.account m t w (ChannelsAvailable 32) x (inr refl) (λ e. let same = same_half 32 t (inr refl) a.register e in (same, channels 32 t own same)) in
+        let high = follows s.account m t w (ChannelsAvailable 0) x (inl refl)
+        (λ e. let same = same_half 0 t (inl refl) a.register e in (same, channels 0 t own same)) in
+        let low = follows s.account m t w (ChannelsAvailable 32) x (inr refl)
+        (λ e. let same = same_half 32 t (inr refl) a.register e in (same, channels 32 t own same)) in
         λ i. record { bus_manager_id = id i; bandwidth_available = units i; channels_available_hi = high i; channels_available_lo = low i }
 
     manager : (b : Bool) → is_manager s.account.latest n ≡ b

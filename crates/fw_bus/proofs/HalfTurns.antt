@@ -1,12 +1,13 @@
 -- The machine after a half step, and the half step in which no request stands: the controller says what it does next.
 use Rattle.std.proofs.Common.{◌≡◌, ◌⊎◌, inl, inr, ℕ, ◌<◌, length, List, Option, Some, None, IfSome, unwrap_or, refl, ap, sym, subst, ◌∙◌, arith, IsTrue}
 use Rattle.std.proofs.lemmas.Option.{same_Some}
+use Rattle.fw_base.specs.declared.plug.PlugAt.{PlugAt}
 use Rattle.fw_base.specs.Tables.{update, at_plug}
 use Rattle.fw_async.specs.declared.packet.Packet.{Packet}
 use Rattle.fw_csr.specs.declared.request.Request.{Request}
 use Rattle.fw_entry.specs.declared.entry.Entry.{Entry}
 use Rattle.fw_entry.specs.declared.entry.Entry.TheVariants.{Async}
-use Rattle.fw_ledger.specs.Account.{Account, Request as Outstanding}
+use Rattle.fw_ledger.specs.Account.{Account, Request as Outstanding, talks}
 use Rattle.fw_ledger.specs.Packets.{asked, ended}
 use Rattle.fw_ledger.specs.Words.{Register, BandwidthAvailable, ChannelsAvailable, OutputPlug, InputPlug, word_of, node_of}
 use Rattle.fw_cmp.specs.declared.current.Current.{Current}
@@ -34,15 +35,18 @@ use Rattle.fw_run.proofs.Turns.{Turns, sends, rests, turns, living_linked}
 use Rattle.fw_bus.specs.declared.machine.Machine.{Machine}
 use Rattle.fw_bus.specs.Doings.{Takes}
 use Rattle.fw_bus.specs.Lingering.{HasLingering}
-use Rattle.fw_bus.specs.Stands.{HasNodes, StandsFor, IsReady, is_living_in, manager_device}
+use Rattle.fw_bus.specs.Stands.{HasNodes, HasDecks, StandsFor, IsReady, is_living_in, manager_device}
 use Rattle.fw_async.specs.Wire.{Pairs}
+use Rattle.fw_bus.specs.Streaming.{HasStreams}
 use Rattle.fw_bus.specs.Wires.{HasWire}
 use Rattle.fw_bus.specs.Tables.{ControllerTable, IsTable, count_of, states_of, dead_of}
 use Rattle.fw_bus.proofs.HalfNodes.{state_with}
 use Rattle.fw_bus.proofs.Latest.{number_low}
+use Rattle.fw_bus.proofs.DeckNodes.{decks_same}
 use Rattle.fw_bus.proofs.Lingers.{lingering_same}
 use Rattle.fw_bus.proofs.Living.{living_same}
 use Rattle.fw_bus.proofs.Nodes.{nodes_same, node_number_is, linked_on}
+use Rattle.fw_bus.proofs.Counts.{streams_stay}
 
 -- ---- the machine stands for a state that differs in the account and in one controller
 
@@ -62,30 +66,35 @@ table_with m s k d c e st same h = let t = st.controllers.table in record {
 }
 
 -- the machine with these nodes and controllers stands for the state with this account
-pub stands_with : (m : Machine) (s : State) (nodes : List NodeState) (k : ControllerTable) (l : Account) (f : ℕ → ControllerState) (w : Pairs) → StandsFor m s
-    → SameBus s.account l → kinds_of nodes ≡ kinds_of m.devices.nodes → HasNodes nodes (state_with s l f)
-    → HasLingering nodes (state_with s l f) → IsTable k (length s.declared.names) f s.dead
-    → HasWire w (state_with s l f) → StandsFor (record m { devices = record m.devices { nodes = nodes }; controllers = k; wire = w }) (state_with s l f)
-stands_with m s nodes k l f w st same kinds h linger table wire = record {
+pub stands_with : (m : Machine) (s : State) (nodes : List NodeState) (k : ControllerTable) (l : Account) (f : ℕ → ControllerState) (w : Pairs) (c : List ℕ)
+    → StandsFor m s → SameBus s.account l → kinds_of nodes ≡ kinds_of m.devices.nodes → HasNodes nodes (state_with s l f)
+    → HasLingering nodes (state_with s l f) → HasDecks nodes s → IsTable k (length s.declared.names) f s.dead
+    → HasWire w (state_with s l f) → HasStreams c (state_with s l f)
+    → StandsFor (record m { devices = record m.devices { nodes = nodes }; controllers = k; wire = w; streams = c }) (state_with s l f)
+stands_with m s nodes k l f w c st same kinds h linger decks table wire streams = record {
   devices = record {
     topology = st.devices.topology;
     names = st.devices.names;
     kinds = kinds ∙ st.devices.kinds;
     nodes = h;
     lingering = linger;
+    decks = decks_same nodes s (state_with s l f) refl refl decks;
     latest = st.devices.latest ∙ sym (ap (λ o. unwrap_or o no_entry) same.latest);
     epoch = st.devices.epoch ∙ sym (ap epoch_of same.latest);
     manager = st.devices.manager ∙ sym (ap manager_device same.latest);
   };
   clock =
-      record { cycle = st.clock.cycle; reclaiming = st.clock.reclaiming ∙ sym same.reclaiming; half_steps = st.clock.half_steps };
+      record { cycle = st.clock.cycle; reclaiming = st.clock.reclaiming ∙ sym same.reclaiming; half_steps = st.clock.half_steps; written = st.clock.written };
   controllers =
       record {
         table = table;
-        directory = st.controllers.directory ∙ sym (ap (λ o. record { node = list_to 63 (linked_number o); manager = manager_in o; over_at = s.clock.over_at }) same.latest);
+        directory = st.controllers.directory
+            ∙ sym (ap (λ o. record { node = list_to 63 (linked_number o); manager = manager_in o; over_at = s.clock.over_at }) same.latest);
       };
   wire = wire;
+  streams = streams;
   answered = st.answered;
+  unsent = st.unsent;
 }
 
 -- ---- words that a request and its end leave
@@ -121,6 +130,7 @@ pub record SameShown (l m : Account) : Type 0 where
   pub bus : SameBus l m
   pub words : (r : Register) → word_of m r ≡ word_of l r
   pub linger : SameLinger l m
+  pub talk : (p : PlugAt) → talks m p ≡ talks l p
 
 -- whether a request goes out or not
 pub asks_leaves : (s : State) (d : ℕ) → IsGood s → IsTrue (is_living s d) → IsHeard (s.controllers d).current
@@ -132,8 +142,10 @@ asks_leaves s d g lives heard = go (turns s d x.number x.entry g x.is x.shows x.
 
     go : Turns s d → SameShown s.account (entered_by s.account (asks s d).says)
     go (sends q out is) =
-        subst (SameShown s.account) (sym is) (record { bus = record { latest = refl; reclaiming = refl }; words = λ r. asked_words d q s.account r; linger = λ p. refl })
-    go (rests out is) = subst (SameShown s.account) (sym is) (record { bus = record { latest = refl; reclaiming = refl }; words = λ r. refl; linger = λ p. refl })
+        subst (SameShown s.account) (sym is)
+        (record { bus = record { latest = refl; reclaiming = refl }; words = λ r. asked_words d q s.account r; linger = λ p. refl; talk = λ p. refl })
+    go (rests out is) = subst (SameShown s.account) (sym is)
+        (record { bus = record { latest = refl; reclaiming = refl }; words = λ r. refl; linger = λ p. refl; talk = λ p. refl })
 
 -- what the controller answers is the same by the machine and by the run
 pub next_same : (m : Machine) (s : State) (d : ℕ) → StandsFor m s
@@ -141,8 +153,10 @@ pub next_same : (m : Machine) (s : State) (d : ℕ) → StandsFor m s
 next_same m s d st = λ i. next (st.clock.cycle i) (st.controllers.directory i) (st.controllers.table.states_are i d)
 
 -- the machine stands for the state after it
-asks_stands : (m : Machine) (s : State) (k : ControllerTable) (w : Pairs) (d : ℕ) → IsGood s → StandsFor m s → IsTrue (is_living s d) → IsHeard (s.controllers d).current
-    → IsTable k (count_of m.controllers) (update (states_of m.controllers) d (after_next m.cycle m.directory (states_of m.controllers d))) (dead_of m.controllers)
+asks_stands : (m : Machine) (s : State) (k : ControllerTable) (w : Pairs) (d : ℕ) → IsGood s → StandsFor m s → IsTrue (is_living s d)
+    → IsHeard (s.controllers d).current
+    → IsTable k (count_of m.controllers)
+    (update (states_of m.controllers) d (after_next m.cycle m.directory (states_of m.controllers d))) (dead_of m.controllers)
     → HasWire w (after_half s d) → StandsFor (record m { controllers = k; wire = w }) (after_half s d)
 asks_stands m s k w d g st lives heard table wire =
     let l : Account = entered_by s.account (asks s d).says in
@@ -154,13 +168,16 @@ asks_stands m s k w d g st lives heard table wire =
     let nodes = nodes_same m.devices.nodes s (state_with s l f)
     (record { names = refl; devices = refl; kinds = refl; latest = same.bus.latest; bus_manager_id = refl; words = same.words }) st.devices.nodes in
     subst (λ h. StandsFor (record m { controllers = k; wire = w }) (taken s d h)) (sym (asks_is s d heard))
-    (stands_with m s m.devices.nodes k l f w st same.bus refl nodes
-    (lingering_same m.devices.nodes s (state_with s l f) same.linger st.devices.lingering) (table_with m s k d _ _ st becomes table)
-    (subst (λ h. HasWire w (taken s d h)) (asks_is s d heard) wire))
+    (stands_with m s m.devices.nodes k l f w m.streams st same.bus refl nodes
+    (lingering_same m.devices.nodes s (state_with s l f) same.linger st.devices.lingering) st.devices.decks (table_with m s k d _ _ st becomes table)
+    (subst (λ h. HasWire w (taken s d h)) (asks_is s d heard) wire)
+    (streams_stay m.streams s (state_with s l f) g refl (λ k. same.talk (at_plug k 0)) st.streams))
 
 -- the controller says what it says in the run
-pub takes_asks : (m : Machine) (k : ControllerTable) (w : Pairs) (d : ℕ) (e : Option Entry) → IsTrue (is_living_in m d) → IsHeard (states_of m.controllers d).current
-    → IsTable k (count_of m.controllers) (update (states_of m.controllers) d (after_next m.cycle m.directory (states_of m.controllers d))) (dead_of m.controllers)
+pub takes_asks : (m : Machine) (k : ControllerTable) (w : Pairs) (d : ℕ) (e : Option Entry) → IsTrue (is_living_in m d)
+    → IsHeard (states_of m.controllers d).current
+    → IsTable k (count_of m.controllers)
+    (update (states_of m.controllers) d (after_next m.cycle m.directory (states_of m.controllers d))) (dead_of m.controllers)
     → ((s : State) → IsGood s → StandsFor m s → e ≡ said s d (next m.cycle m.directory (states_of m.controllers d)))
     → ((s : State) → IsGood s → StandsFor m s → HasWire w (after_half s d))
     → Takes half m (record m { controllers = k; wire = w }) d e

@@ -1,10 +1,10 @@
 -- What commands ask of controllers: by the machine and by the run.
-use Rattle.std.proofs.Common.{◌≡◌, ℕ, ◌<◌, ◌&&◌, not, List, [], ◌∷◌, ◌++◌, Bool, true, false, Option, Some, None, is_some, refl, ap, sym, subst, ◌∙◌, arith, IsTrue}
+use Rattle.std.proofs.Common.{◌≡◌, ℕ, ◌<◌, ◌&&◌, not, Bool, true, false, Option, Some, None, refl, ap, sym, subst, ◌∙◌, arith, IsTrue}
 use Rattle.std.specs.Prelude.{Ok, Err, IsOk, IsFalse}
 use Rattle.std.specs.declared.result.Result.{Result}
-use Rattle.fw_base.specs.Tables.{update}
+use Rattle.fw_base.specs.declared.plug.PlugAt.{PlugAt}
+use Rattle.fw_base.specs.Tables.{update, at_plug}
 use Rattle.fw_entry.specs.declared.entry.Entry.{Entry}
-use Rattle.fw_entry.specs.declared.entry.Timed.{Timed}
 use Rattle.fw_ledger.specs.Account.{Account}
 use Rattle.fw_ledger.specs.Words.{Register, word_of}
 use Rattle.fw_ledger.specs.Events.{after_death as account_after_death}
@@ -14,22 +14,19 @@ use Rattle.fw_cmp.specs.Controllers.{ControllerState, IsHeard, IsStanding, first
 use Rattle.fw_cmp.specs.Fits.{SlotFits}
 use Rattle.fw_cmp.specs.Starts.{break_fault, break_started, started as given}
 use Rattle.fw_step.specs.Lingering.{SameLinger}
-use Rattle.fw_run.specs.declared.order.Order.TheVariants as Orders
 use Rattle.fw_run.specs.declared.order.Wanted.{Wanted}
 use Rattle.fw_run.specs.Giving.{at_most}
 use Rattle.fw_run.specs.Entries.{died, started}
-use Rattle.fw_run.specs.State.{State, is_living, is_linked, linked_number}
+use Rattle.fw_run.specs.State.{State, is_living, is_linked}
 use Rattle.fw_run.specs.HalfSteps.{half, has_request, after_half, with_controller}
-use Rattle.fw_run.specs.Actions.{Action, StartConnection, StartBreak, Die, CarryOut, Start, slot_of, start_of, with_connection, after_death, after_start, with_new_controller, Steps}
-use Rattle.fw_run.specs.Carrying.{Carries, dies, dies_late, dies_idle, starts, goes_on}
+use Rattle.fw_run.specs.Actions.{StartConnection, StartBreak, Die, CarryOut, Start, slot_of, start_of, with_connection, after_death, after_start, with_new_controller}
 use Rattle.fw_run.specs.Good.{IsGood}
-use Rattle.fw_run.proofs.Settling.{half_turn}
+use Rattle.fw_run.proofs.Counting.{deaths_keep}
 use Rattle.fw_run.proofs.Turns.{living_linked}
 use Rattle.fw_bus.specs.declared.machine.Machine.{Machine}
-use Rattle.fw_bus.specs.Doings.{Acts, Turns, Takes}
+use Rattle.fw_bus.specs.Doings.{Turns, Takes}
 use Rattle.fw_bus.specs.Stands.{StandsFor, is_linked_in, is_living_in}
 use Rattle.fw_bus.specs.Tables.{ControllerTable, IsTable, count_of, states_of, dead_of}
-use Rattle.fw_bus.proofs.Doings.{Follows, GoesOn, acts_follow, one_step}
 use Rattle.fw_async.specs.Wire.{Pairs, without}
 use Rattle.fw_devices.specs.Network.{node_at}
 use Rattle.fw_bus.specs.Wires.{HasWire}
@@ -40,6 +37,7 @@ use Rattle.fw_bus.proofs.Deaths.{death_words}
 use Rattle.fw_bus.proofs.Living.{linked_low, linked_same, living_same}
 use Rattle.fw_bus.proofs.Nodes.{SameNodes}
 use Rattle.fw_bus.proofs.Standing.{devices_same, directory_same}
+use Rattle.fw_bus.proofs.Counts.{streams_same}
 
 -- ---- another table of controllers
 
@@ -55,16 +53,17 @@ same_account l = record { latest = refl; reclaiming = refl; words = λ r. refl; 
 
 -- the machine whose table is another one stands for the state whose controllers are those
 pub table_stands : (m : Machine) (s : State) (table : ControllerTable)
-    (f : (ℕ → ControllerState) → ℕ → ControllerState) (h : (ℕ → Bool) → ℕ → Bool) (l : Account) (w : Pairs)
+    (f : (ℕ → ControllerState) → ℕ → ControllerState) (h : (ℕ → Bool) → ℕ → Bool) (l : Account) (w : Pairs) (c : PlugAt → ℕ)
     → StandsFor m s → SameAccount s.account l → IsTable table (count_of m.controllers) (f (states_of m.controllers)) (h (dead_of m.controllers))
-    → HasWire w (record s { controllers = f s.controllers; dead = h s.dead; account = l })
-    → StandsFor (record m { controllers = table; wire = w }) (record s { controllers = f s.controllers; dead = h s.dead; account = l })
-table_stands m s table f h l w st same is wire = record {
-  devices = devices_same m.devices s t kept refl same.linger st.devices;
+    → HasWire w (record s { controllers = f s.controllers; dead = h s.dead; account = l; streams = c }) → ((p : PlugAt) → c p ≡ s.streams p)
+    → StandsFor (record m { controllers = table; wire = w }) (record s { controllers = f s.controllers; dead = h s.dead; account = l; streams = c })
+table_stands m s table f h l w c st same is wire counts = record {
+  devices = devices_same m.devices s t kept refl refl same.linger st.devices;
   clock = record {
     cycle = st.clock.cycle;
     reclaiming = st.clock.reclaiming ∙ sym same.reclaiming;
     half_steps = st.clock.half_steps;
+    written = st.clock.written;
   };
   controllers = record {
     table = record {
@@ -75,11 +74,13 @@ table_stands m s table f h l w st same is wire = record {
     directory = st.controllers.directory ∙ sym (directory_same s t same.latest refl);
   };
   wire = wire;
+  streams = streams_same m.streams s t (λ d. counts (at_plug d 0)) st.streams;
   answered = st.answered;
+  unsent = st.unsent;
 }
   where
     t : State
-    t = record s { controllers = f s.controllers; dead = h s.dead; account = l }
+    t = record s { controllers = f s.controllers; dead = h s.dead; account = l; streams = c }
 
     kept : SameNodes s t
     kept = record { names = refl; devices = refl; kinds = refl; latest = same.latest; bus_manager_id = refl; words = same.words }
@@ -105,9 +106,11 @@ connect_turns m table d w lives slot ok is = record {
       let living : IsTrue (is_living s d) = subst IsTrue (living_same m s d g st) lives in (
         with_connection s d w,
         (st.answered, (living, slot, accepted_at (start_of d w (s.controllers d)) accepted, refl, refl)),
-        table_stands m s table (connected d w) (λ x. x) s.account m.wire st (same_account s.account) is
+        table_stands m s table (connected d w) (λ x. x) s.account m.wire s.streams st (same_account s.account) is
             (wire_same m.wire s (with_connection s d w) refl refl
-            (same_currents s.controllers d (given (start_of d w (s.controllers d)) (slot_of w) (s.controllers d)) (given_current (start_of d w (s.controllers d)) (slot_of w) (s.controllers d))) st.wire),
+            (same_currents s.controllers d (given (start_of d w (s.controllers d)) (slot_of w) (s.controllers d))
+            (given_current (start_of d w (s.controllers d)) (slot_of w) (s.controllers d))) st.wire)
+            (λ p. refl),
       );
 }
 
@@ -125,9 +128,10 @@ break_turns m table d i lives ok is = record {
       let living : IsTrue (is_living s d) = subst IsTrue (living_same m s d g st) lives in (
         with_controller s d (break_started (s.controllers d) i),
         (st.answered, (living, accepted, refl, refl)),
-        table_stands m s table (broken d i) (λ x. x) s.account m.wire st (same_account s.account) is
+        table_stands m s table (broken d i) (λ x. x) s.account m.wire s.streams st (same_account s.account) is
             (wire_same m.wire s (with_controller s d (break_started (s.controllers d) i)) refl refl
-            (same_currents s.controllers d (break_started (s.controllers d) i) (break_current (s.controllers d) i)) st.wire),
+            (same_currents s.controllers d (break_started (s.controllers d) i) (break_current (s.controllers d) i)) st.wire)
+            (λ p. refl),
       );
 }
 
@@ -144,7 +148,8 @@ renewed d c = update c d new_controller
 abbrev pub marked : ℕ → Bool → (ℕ → Bool) → ℕ → Bool
 marked d b c = update c d b
 
-pub death_turns : (m : Machine) (table : ControllerTable) (d own : ℕ) (e : Entry) → IsTrue (is_living_in m d) → (node_at m.devices.nodes d).number ≡ Some own → e ≡ died d
+pub death_turns : (m : Machine) (table : ControllerTable) (d own : ℕ) (e : Entry) → IsTrue (is_living_in m d) → (node_at m.devices.nodes d).number ≡ Some own
+    → e ≡ died d
     → IsTable table (count_of m.controllers) (renewed d (states_of m.controllers)) (marked d true (dead_of m.controllers))
     → Turns (Die d) m (record m { controllers = table; wire = without own m.wire }) m.cycle (Some e)
 death_turns m table d own e lives number entry is = record {
@@ -154,9 +159,11 @@ death_turns m table d own e lives number entry is = record {
       let same = death_same s.account d (linked_low s d g (living_linked s d living)) in (
         after_death s d,
         (st.answered, (living, out, refl)),
-        table_stands m s table (renewed d) (marked d true) (account_after_death d s.account) (without own m.wire) st same is
-            (wire_take m.wire s (after_death s d) d own new_controller g (record { latest = same.latest; told = directory_same s (after_death s d) same.latest refl; controllers = refl })
-            (own_number m s d own g st lives number) refl st.wire),
+        table_stands m s table (renewed d) (marked d true) (account_after_death d s.account) (without own m.wire) (after_death s d).streams st same is
+            (wire_take m.wire s (after_death s d) d own new_controller g
+            (record { latest = same.latest; told = directory_same s (after_death s d) same.latest refl; controllers = refl })
+            (own_number m s d own g st lives number) refl st.wire)
+            (deaths_keep s d (at_most s.clock.cycle (Some (died d))) (after_death s d) g (st.answered, (living, refl, refl))),
       );
 }
 
@@ -180,8 +187,10 @@ start_turns m table d e on was entry is = record {
       let out : at_most m.cycle (Some e) ≡ at_most s.clock.cycle (Some (started d)) = (λ i. at_most (st.clock.cycle i) (Some (entry i))) in (
         after_start s d,
         (st.answered, (linked, dead, out, refl)),
-        table_stands m s table (renewed d) (marked d false) s.account m.wire st (same_account s.account) is
-            (wire_same m.wire s (with_new_controller s d false) refl refl (same_currents s.controllers d new_controller (sym (ap (λ (x : ControllerState). x.current) (unused s d g dead)))) st.wire),
+        table_stands m s table (renewed d) (marked d false) s.account m.wire s.streams st (same_account s.account) is
+            (wire_same m.wire s (with_new_controller s d false) refl refl
+            (same_currents s.controllers d new_controller (sym (ap (λ (x : ControllerState). x.current) (unused s d g dead)))) st.wire)
+            (λ p. refl),
       );
 }
 
@@ -193,7 +202,7 @@ stands_request (Asking j stage) h = absurd h
 stands_request (Hearing j stage) h = refl
 stands_request (Overtaken i o) h = absurd h
 
-heard_request : (x : Current) → IsHeard x → IsFalse (has_request x)
+pub heard_request : (x : Current) → IsHeard x → IsFalse (has_request x)
 heard_request Nothing h = refl
 heard_request (Asking j stage) h = refl
 heard_request (Hearing j stage) h = absurd h
@@ -213,47 +222,3 @@ carry_turns m now d e lives stands takes = record {
       let out : at_most m.cycle e ≡ at_most s.clock.cycle (half s d).says = (λ i. at_most (st.clock.cycle i) (said i)) in
       (after_half s d, (st.answered, (living, request, out, refl)), x.1);
 }
-
--- ---- what a death is
-
--- the order, where no request is to be carried out
-pub dies_at : (m : Machine) (d : ℕ) (late : Bool) → (late ≡ true → IsHeard (states_of m.controllers d).current)
-    → (s t : State) (xs : List Action) (out : List Timed) → IsGood s → StandsFor m s → Acts (Die d ∷ []) s xs out t → Steps s xs out t
-    → Carries s (Orders.Die d late) xs out t
-dies_at m d false quiet s t xs out g st f p = subst (λ z. Carries s (Orders.Die d false) z out t) (sym f.0) (dies f.1)
-dies_at m d true quiet s t xs out g st f p =
-    let same : states_of m.controllers d ≡ s.controllers d = ap (λ (c : ℕ → ControllerState). c d) st.controllers.table.states_are in
-    let rests = heard_request (s.controllers d).current (subst (λ (c : ControllerState). IsHeard c.current) same (quiet refl)) in
-    subst (λ z. Carries s (Orders.Die d true) z out t) (sym f.0) (dies_idle rests f.1)
-
--- the request is carried out, and then it dies
-pub late_follows : (m : Machine) (d : ℕ) → Follows m (Acts (CarryOut d ∷ [])) (Acts (Die d ∷ [])) (λ s. Carries s (Orders.Die d true))
-late_follows m d s mid t xs ys a b good st f p g q =
-    let both = acts_follow {m = m} (CarryOut d ∷ []) (Die d ∷ []) s mid t xs ys a b good st f p g q in
-    subst (λ z. Carries s (Orders.Die d true) z (a ++ b) t) (sym both.0) (dies_late both.1)
-
--- it can die once the request is carried out
-pub late_goes : (m : Machine) (d : ℕ) → IsTrue (is_living_in m d) → GoesOn m (Acts (CarryOut d ∷ [])) (λ s. Carries s (Orders.Die d true))
-late_goes m d lives s u xs a g st f p =
-    let living : IsTrue (is_living s d) = subst IsTrue (living_same m s d g st) lives in
-    let still = (half_turn s d g living).1 in
-    let is : u ≡ after_half s d = f.1.5.1 ∙ f.1.3.1.3 in
-    let lives_after : IsTrue (is_living (after_half s d) d) = (λ i. is_some (linked_number (still.latest i) d) && not (still.dead i d)) ∙ living in
-    let lives_now : IsTrue (is_living u d) = subst (λ x. IsTrue (is_living x d)) (sym is) lives_after in
-    let quiet : u.transaction ≡ None = ap (λ (x : State). x.transaction) is ∙ st.answered in
-    let step = one_step u (after_death u d) (Die d) (at_most u.clock.cycle (Some (died d))) (quiet, (lives_now, refl, refl)) in (
-      Die d ∷ [],
-      at_most u.clock.cycle (Some (died d)),
-      after_death u d,
-      late_follows m d s u (after_death u d) xs (Die d ∷ []) a (at_most u.clock.cycle (Some (died d))) g st f p (refl, step) step,
-      step,
-    )
-
--- ---- what a start is
-
-pub starts_at : (d : ℕ) (s t : State) (xs : List Action) (out : List Timed) → Acts (Start d ∷ []) s xs out t → Carries s (Orders.Start d) xs out t
-starts_at d s t xs out f = subst (λ z. Carries s (Orders.Start d) z out t) (sym f.0) (starts f.1)
-
--- a living controller goes on
-pub goes_on_at : (m : Machine) (d : ℕ) → IsFalse (dead_of m.controllers d) → (s : State) → IsGood s → StandsFor m s → Carries s (Orders.Start d) [] [] s
-goes_on_at m d lives s g st = goes_on (sym (ap (λ (c : ℕ → Bool). c d) st.controllers.table.dead_are) ∙ lives)

@@ -1,6 +1,6 @@
 -- Each change of the devices keeps which output plugs of the nodes linger, against the account.
 use Rattle.std.proofs.Common.{◌≡◌, ◌≢◌, ◌⊎◌, inl, inr, ℕ, ◌+◌, ◌<◌, ◌≤◌, ◌==◌, ◌&&◌, ◌||◌, List, [], ◌∷◌, ◌++◌, length, map, slice_index, slice_index_or}
-use Rattle.std.proofs.Common.{slice_set, Bool, true, false, Option, Some, None, is_some, refl, ap, sym, subst, ◌∙◌, arith, IsTrue, zero, suc}
+use Rattle.std.proofs.Common.{slice_set, Bool, true, false, Option, Some, None, is_some, refl, ap, sym, subst, ◌∙◌, arith, IsTrue}
 use Rattle.std.proofs.lemmas.Bool.{cases_eq, cases_lt, false≢true}
 use Rattle.std.proofs.lemmas.Bool.Decides.{nat_tests}
 use Rattle.std.proofs.lemmas.List.{get_or_append_left, get_or_push, get_or-set_same, get_or-set_other, length-append, length-map, length-set}
@@ -18,6 +18,7 @@ use Rattle.fw_ledger.specs.Sound.{IsSound}
 use Rattle.fw_ledger.specs.Words.{OutputPlug, word_of}
 use Rattle.fw_ledger.proofs.Network.{any_at}
 use Rattle.fw_tree.specs.SelfIds.{facts_at}
+use Rattle.fw_avc.specs.State.{UnitState}
 use Rattle.fw_node.specs.State.{NodeState, HasSpace}
 use Rattle.fw_node.specs.State as Nodes
 use Rattle.fw_devices.specs.Network.{Network, kind_at, node_at}
@@ -32,6 +33,7 @@ use Rattle.fw_run.specs.Good.{IsGood}
 use Rattle.fw_run.proofs.Lingers.{talks_by_word, off_talks}
 use Rattle.fw_bus.specs.Stands.{IsNodeAt, HasNodes}
 use Rattle.fw_bus.specs.Lingering.{LingersAs, HasLingering, TalksAs}
+use Rattle.fw_bus.proofs.DeckNodes.{mapped_at}
 use Rattle.fw_bus.proofs.Flags.{LeavesFlags, same_flags, request_flags, active_at, active_size, rested_flag, rested_size, first_flag, first_size, first_rests}
 use Rattle.fw_bus.proofs.Latest.{on_declared, undeclared_off}
 use Rattle.fw_bus.proofs.Renumbered.{Extends}
@@ -46,10 +48,10 @@ quiet_off s d k g off = rests (has_connection (s.account.outputs (at_plug d k)))
     rests : (a b : Bool) → (a || b) ≡ false → b ≡ false
     rests a b e = grind (arith, e)
 
--- a device that is as it was declared, where no plug of it goes on
-first_lingers : (kind : DeviceKind) (device rate d : ℕ) (l : Account)
-    → ((k : ℕ) → l.continues (at_plug d k) ≡ false) → LingersAs (Nodes.first_state kind device rate) d l
-first_lingers kind device rate d l none = record { size = first_size kind device rate; flags = λ k lt. first_flag (output_plugs_of kind) k ∙ sym (none k) }
+-- a device that is as it was declared but for its unit, where no plug of it goes on
+first_lingers : (u : Option UnitState) (kind : DeviceKind) (device rate d : ℕ) (l : Account)
+    → ((k : ℕ) → l.continues (at_plug d k) ≡ false) → LingersAs (record (Nodes.first_state kind device rate) { unit = u }) d l
+first_lingers u kind device rate d l none = record { size = first_size kind device rate; flags = λ k lt. first_flag (output_plugs_of kind) k ∙ sym (none k) }
 
 -- a node has the words of the account
 abbrev ShowsWords : NodeState → ℕ → Account → Type 0
@@ -83,7 +85,7 @@ nodes_unchanged nodes now s t g before later size latest linger leaves h =
     go d low lt None off =
         let is = subst (λ o. IsNodeAt o t d (node_at now d)) (ap (λ o. number_in o d) latest ∙ off) (later.each d lt) in
         subst (λ n. LingersAs n d t.account) (sym is)
-        (first_lingers (kind_at t.declared.kinds d) d (facts_at t.declared.topology.devices d).speed d t.account
+        (first_lingers (node_at now d).unit (kind_at t.declared.kinds d) d (facts_at t.declared.topology.devices d).speed d t.account
         (λ k. linger (at_plug d k) ∙ quiet _ _ _ (quiet_off s d k g off)))
     go d low lt (Some n) at =
         let was = subst (λ o. IsNodeAt o s d (node_at nodes d)) at (before.each d low) in
@@ -123,6 +125,10 @@ pub lingering_same : (nodes : List NodeState) (s t : State) → SameLinger s.acc
 lingering_same nodes s t same h =
     record { each = λ d lt. let x = h.each d lt in record { size = x.size; flags = λ k low. x.flags k low ∙ sym (same (at_plug d k)) } }
 
+-- registers that stay keep which plugs linger
+pub lingers_kept : (n m : NodeState) (d : ℕ) (l : Account) → m.plugs ≡ n.plugs → LingersAs n d l → LingersAs m d l
+lingers_kept n m d l same h = subst (λ p. LingersAs (record m { plugs = p }) d l) (sym same) (record { size = h.size; flags = h.flags })
+
 -- ---- a device more
 
 pub lingering_declared : (nodes : List NodeState) (s : State) (name : List ℕ) (kind : DeviceKind) (ports speed : ℕ) → IsGood s → HasNodes nodes s
@@ -139,7 +145,8 @@ lingering_declared nodes s name kind ports speed g at h = record { each = λ d l
         let size = at.size in
         let here : length nodes ≡ d = omega (arith, lt, past, length-append nodes (new ∷ [])) in
         subst (λ n. LingersAs n d s.account) (sym (get_or_push nodes new (Nodes.first_state Relay 0 0) d here))
-        (first_lingers kind (length s.declared.names) speed d s.account (λ k. quiet_off s d k g (undeclared_off s d g (omega (arith, here, size)))))
+        (first_lingers (Nodes.first_unit kind) kind (length s.declared.names) speed d s.account
+        (λ k. quiet_off s d k g (undeclared_off s d g (omega (arith, here, size)))))
 
 -- ---- a bus reset
 
@@ -171,7 +178,8 @@ lingering_reset old new s0 s initiator e g x at r shows stays h = record {
         any_at (is_output_of (at_plug d k)) e.nodes n (row_of d (kind_at s.declared.kinds d)) (shows.numbers d n is) (grind (arith, nat_tests, lt))
 
     -- a plug that was there
-    was : (d n k : ℕ) → number_in s.account.latest d ≡ Some n → k < output_plugs_of (kind_at s.declared.kinds d) → is_output s.account.latest (at_plug d k) ≡ true
+    was : (d n k : ℕ) → number_in s.account.latest d ≡ Some n → k < output_plugs_of (kind_at s.declared.kinds d)
+        → is_output s.account.latest (at_plug d k) ≡ true
     was d n k is lt =
         let before : number_in s0.account.latest d ≡ Some n = sym (ap (λ (l : Account). number_in l.latest d) x.account) ∙ is in
         let kind = ap output_plugs_of (x.kinds d (on_declared s0 d n g before)) in
@@ -195,12 +203,12 @@ lingering_reset old new s0 s initiator e g x at r shows stays h = record {
     go d None off (Some n) on is had = absurd (false≢true (sym (ap is_some off) ∙ stays d (ap is_some on)))
     go d None off None gone is had =
         subst (λ n. LingersAs n d m) (sym is)
-        (first_lingers (kind_at s.declared.kinds d) d (facts_at s.declared.topology.devices d).speed d m (λ k. joins d k gone))
+        (first_lingers (node_at old.nodes d).unit (kind_at s.declared.kinds d) d (facts_at s.declared.topology.devices d).speed d m (λ k. joins d k gone))
     go d (Some k) on None gone is had =
         let rate : ℕ = (facts_at s.declared.topology.devices d).speed in
         let kind : DeviceKind = kind_at s.declared.kinds d in
         subst (λ n. LingersAs (Nodes.after_reset k (is_number e.manager k) n) d m) (sym is)
-        (flags (Nodes.first_state kind d rate) (first_size kind d rate) k (is_number e.manager k) d
+        (flags (record (Nodes.first_state kind d rate) { unit = (node_at old.nodes d).unit }) (first_size kind d rate) k (is_number e.manager k) d
         (λ j lt. first_rests kind d rate j (low_speed d k on) lt ∙ sym (joins d j gone)))
     go d (Some k) on (Some n) at_n is had =
         flags (node_at old.nodes d) had.size k (is_number e.manager k) d
@@ -212,16 +220,11 @@ lingering_reset old new s0 s initiator e g x at r shows stays h = record {
 pub lingering_rests : (nodes : List NodeState) (s t : State) → NoneLingers t.account → HasLingering nodes s → HasLingering (map Nodes.after_second nodes) t
 lingering_rests nodes s t none h = record { each = λ d lt. go d (omega (arith, lt, length-map nodes Nodes.after_second)) }
   where
-    rested_at : (nodes : List NodeState) (d : ℕ) → d < length nodes → node_at (map Nodes.after_second nodes) d ≡ Nodes.after_second (node_at nodes d)
-    rested_at [] d lt = absurd (omega (arith, lt))
-    rested_at (n ∷ nodes) zero lt = refl
-    rested_at (n ∷ nodes) (suc d) lt = rested_at nodes d (omega (arith, lt))
-
     go : (d : ℕ) → d < length nodes → LingersAs (node_at (map Nodes.after_second nodes) d) d t.account
     go d low =
         let x = h.each d low in
         let flags = (node_at nodes d).plugs.lingering_outputs in
-        subst (λ n. LingersAs n d t.account) (sym (rested_at nodes d low))
+        subst (λ n. LingersAs n d t.account) (sym (mapped_at Nodes.after_second nodes d low))
         (record { size = rested_size flags ∙ x.size; flags = λ k lt. rested_flag flags k ∙ sym (none (at_plug d k)) })
 
 -- ---- which plugs talk

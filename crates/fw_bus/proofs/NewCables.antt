@@ -20,12 +20,14 @@ use Rattle.fw_bus.specs.declared.machine.Machine.{Machine}
 use Rattle.fw_bus.specs.Orders.{joins_in}
 use Rattle.fw_bus.specs.Resetting.{BeginsReset, GivesReset}
 use Rattle.fw_bus.specs.Lingering.{HasLingering}
-use Rattle.fw_bus.specs.Stands.{StandsFor, HasNodes, IsReady}
+use Rattle.fw_bus.specs.Stands.{StandsFor, HasNodes, HasDecks, IsReady}
 use Rattle.fw_bus.specs.Doings.{Turns, Does, Acts}
+use Rattle.fw_bus.proofs.DeckNodes.{decks_same}
 use Rattle.fw_bus.proofs.Lingers.{lingering_same}
 use Rattle.fw_bus.proofs.Nodes.{SameNodes, is_node_same, nodes_same}
 use Rattle.fw_bus.proofs.Renumbered.{extends_cabled}
-use Rattle.fw_bus.proofs.ResetTurns.{MayBegin, reset_of, some_nodes, ready_on}
+use Rattle.fw_bus.proofs.Began.{MayBegin}
+use Rattle.fw_bus.proofs.ResetTurns.{reset_of, some_nodes, ready_on}
 use Rattle.fw_bus.proofs.Doings.{does_one}
 
 -- what a cable between these ends makes of the devices, of which the first is on the bus or not, and the second
@@ -51,14 +53,18 @@ joined_stands m s devices a b x y st j = record {
         (nodes_same m.devices.nodes s (with_topology s devices.topology) keeps st.devices.nodes);
     lingering = subst (λ (ns : List NodeState). HasLingering ns (with_topology s devices.topology)) (sym (ap (λ (n : Network). n.nodes) j.same))
         (lingering_same m.devices.nodes s (with_topology s devices.topology) (λ p. refl) st.devices.lingering);
+    decks = subst (λ (ns : List NodeState). HasDecks ns (with_topology s devices.topology)) (sym (ap (λ (n : Network). n.nodes) j.same))
+        (decks_same m.devices.nodes s (with_topology s devices.topology) refl refl st.devices.decks);
     latest = ap (λ (n : Network). n.latest) j.same ∙ st.devices.latest;
     epoch = ap (λ (n : Network). n.epoch) j.same ∙ st.devices.epoch;
     manager = ap (λ (n : Network). n.manager) j.same ∙ st.devices.manager;
   };
-  clock = record { cycle = st.clock.cycle; reclaiming = st.clock.reclaiming; half_steps = st.clock.half_steps };
+  clock = record { cycle = st.clock.cycle; reclaiming = st.clock.reclaiming; half_steps = st.clock.half_steps; written = st.clock.written };
   controllers = record { table = st.controllers.table; directory = st.controllers.directory };
   wire = record { each = st.wire.each };
+  streams = record { size = st.streams.size; each = st.streams.each };
   answered = st.answered;
+  unsent = st.unsent;
 }
   where
     keeps : SameNodes s (with_topology s devices.topology)
@@ -78,7 +84,8 @@ joined_in m s u a b st j = subst (λ (t : Topology). IsJoined t u a b) st.device
 -- which of the ends is on the bus decides, by the machine and by the run
 joins_by : (m : Machine) (s : State) (devices : Network) (a b : End) (x y : Bool) (out : List Timed) (t : State) → IsGood s → StandsFor m s
     → IsCable m devices a b x y
-    → Joins x y a.device b.device (with_topology s devices.topology) out t → Joins (is_on s a.device) (is_on s b.device) a.device b.device (with_topology s devices.topology) out t
+    → Joins x y a.device b.device (with_topology s devices.topology) out t
+    → Joins (is_on s a.device) (is_on s b.device) a.device b.device (with_topology s devices.topology) out t
 joins_by m s devices a b x y out t g st j joins =
     let first = sym j.first_on ∙ is_node_same m.devices.nodes s st.devices.nodes g a.device in
     let second = sym j.second_on ∙ is_node_same m.devices.nodes s st.devices.nodes g b.device in
@@ -96,8 +103,10 @@ join_resets m now devices a b x y i j few joins node begins = record { shown = s
     shown_ s g st =
         let js = joined_in m s devices.topology a b st j.joined in
         let s1 = with_topology s devices.topology in
-        let may : MayBegin (with_devices m devices) s s1 = record {
+        let may : MayBegin (with_devices m devices) s s1 i = record {
           is_good = g;
+          action = AddCable a b;
+          begins = λ out t r. (st.answered, (devices.topology, js, joins_by m s devices a b x y out t g st j (joins s1 out t r)));
           extends = extends_cabled s devices.topology;
           stands = joined_stands m s devices a b x y st j;
           declared = cabled_declared s.declared devices.topology a b js g.declared;
@@ -106,8 +115,7 @@ join_resets m now devices a b x y i j few joins node begins = record { shown = s
           walks = bus_grows s.declared.topology devices.topology a b js g.declared.made;
         } in
         let r = reset_of (with_devices m devices) now s s1 i may begins (subst (λ n. n < 10000) (sym (ap (λ (n : Network). n.epoch) j.same)) few) in
-        let out = at_most m.cycle (Some (Reset now.devices.latest)) in
-        (r.state, (st.answered, (devices.topology, js, joins_by m s devices a b x y out r.state g st j (joins s1 out r.state r.resets))), r.stands)
+        (r.state, may.begins (at_most m.cycle (Some (Reset now.devices.latest))) r.state r.resets, r.stands)
 
 -- where both are off nothing else happens; both on the bus they cannot be
 pub join_silent : (m : Machine) (devices : Network) (a b : End) (x y : Bool) → IsCable m devices a b x y → ((s : State) → Joins x y a.device b.device s [] s)

@@ -5,25 +5,28 @@ use Rattle.std.specs.declared.result.Result.{Result}
 use Rattle.fw_base.specs.declared.device.DeviceKind.{DeviceKind}
 use Rattle.fw_entry.specs.declared.entry.Entry.TheVariants.{Reset}
 use Rattle.fw_entry.specs.declared.entry.ResetEntry.{ResetEntry}
+use Rattle.fw_entry.specs.declared.entry.Timed.{Timed}
 use Rattle.fw_tree.specs.Topology.{Topology}
 use Rattle.fw_node.specs.State as Nodes
 use Rattle.fw_devices.specs.Network.{with_device, facts_of}
 use Rattle.fw_run.specs.Giving.{at_most}
 use Rattle.fw_run.specs.State.{State, epoch_of}
 use Rattle.fw_run.specs.State as States
-use Rattle.fw_run.specs.Actions.{AddDevice, Step, Declares}
+use Rattle.fw_run.specs.Actions.{AddDevice, Step, Declares, Resets}
 use Rattle.fw_run.specs.Good.{IsGood, IsLatest}
 use Rattle.fw_run.proofs.Declares.{MayDeclare, more_declared}
 use Rattle.fw_bus.specs.declared.machine.Machine.{Machine}
 use Rattle.fw_bus.specs.Resetting.{BeginsReset, GivesReset}
 use Rattle.fw_bus.specs.Lingering.{HasLingering}
-use Rattle.fw_bus.specs.Stands.{StandsFor, HasNodes, IsReady}
+use Rattle.fw_bus.specs.Stands.{StandsFor, HasNodes, HasDecks, IsReady}
 use Rattle.fw_bus.specs.Tables.{ControllerTable, IsTable, count_of, states_of, dead_of}
 use Rattle.fw_bus.specs.Doings.{Turns, Does, Acts}
+use Rattle.fw_bus.proofs.DeckNodes.{decks_declared}
 use Rattle.fw_bus.proofs.Lingers.{lingering_declared}
 use Rattle.fw_bus.proofs.Nodes.{nodes_declared}
 use Rattle.fw_bus.proofs.Renumbered.{extends_declared}
-use Rattle.fw_bus.proofs.ResetTurns.{MayBegin, reset_of}
+use Rattle.fw_bus.proofs.Began.{MayBegin}
+use Rattle.fw_bus.proofs.ResetTurns.{reset_of}
 use Rattle.fw_bus.proofs.Doings.{does_one}
 
 -- ---- a device more
@@ -52,12 +55,16 @@ declared_stands m s table name kind ports speed g st more = record {
     nodes = subst (λ n. HasNodes (m.devices.nodes ++ Nodes.first_state kind n speed ∷ []) (declared_in s name kind ports speed))
         (ap (λ (xs : List (List ℕ)). length xs) (sym st.devices.names)) (nodes_declared m.devices.nodes s name kind ports speed g st.devices.nodes);
     lingering = subst (λ n. HasLingering (m.devices.nodes ++ Nodes.first_state kind n speed ∷ []) (declared_in s name kind ports speed))
-        (ap (λ (xs : List (List ℕ)). length xs) (sym st.devices.names)) (lingering_declared m.devices.nodes s name kind ports speed g st.devices.nodes st.devices.lingering);
+        (ap (λ (xs : List (List ℕ)). length xs) (sym st.devices.names))
+        (lingering_declared m.devices.nodes s name kind ports speed g st.devices.nodes st.devices.lingering);
+    decks = subst (λ n. HasDecks (m.devices.nodes ++ Nodes.first_state kind n speed ∷ []) (declared_in s name kind ports speed))
+        (ap (λ (xs : List (List ℕ)). length xs) (sym st.devices.names))
+        (decks_declared m.devices.nodes s name kind ports speed st.devices.nodes.size g st.devices.decks);
     latest = st.devices.latest;
     epoch = st.devices.epoch;
     manager = st.devices.manager;
   };
-  clock = record { cycle = st.clock.cycle; reclaiming = st.clock.reclaiming; half_steps = st.clock.half_steps };
+  clock = record { cycle = st.clock.cycle; reclaiming = st.clock.reclaiming; half_steps = st.clock.half_steps; written = st.clock.written };
   controllers = record {
     table = record {
       count_is = more.count_is ∙ (ap (λ k. k + 1) st.controllers.table.count_is ∙ sym (length-append s.declared.names (name ∷ [])));
@@ -67,7 +74,9 @@ declared_stands m s table name kind ports speed g st more = record {
     directory = st.controllers.directory;
   };
   wire = record { each = st.wire.each };
+  streams = record { size = st.streams.size; each = st.streams.each };
   answered = st.answered;
+  unsent = st.unsent;
 }
 
 -- what is asked of a device that may be declared
@@ -101,8 +110,12 @@ first_turns m now table name kind ports speed none may more few b = record { sho
     shown_ s g st =
         let names : s.declared.names ≡ [] = sym st.devices.names ∙ none in
         let d = may_declare m s ports speed g st may in
-        let begin : MayBegin new s (declared_in s name kind ports speed) = record {
+        let declares = λ (out : List Timed) (t : State) (r : Resets (declared_in s name kind ports speed) 0 out t).
+        subst (λ (xs : List (List ℕ)). Declares xs (declared_in s name kind ports speed) out t) (sym names) r in
+        let begin : MayBegin new s (declared_in s name kind ports speed) 0 = record {
           is_good = g;
+          action = AddDevice name kind ports speed;
+          begins = λ out t r. (st.answered, (d.room, may.some, may.most, may.fast, declares out t r));
           extends = extends_declared s name kind ports speed g;
           stands = declared_stands m s table name kind ports speed g st more;
           declared = more_declared s name kind ports speed d;
@@ -111,9 +124,7 @@ first_turns m now table name kind ports speed none may more few b = record { sho
           walks = λ c on. on;
         } in
         let r = reset_of new now s (declared_in s name kind ports speed) 0 begin b few in
-        let out = at_most m.cycle (Some (Reset now.devices.latest)) in
-        let declares = subst (λ (xs : List (List ℕ)). Declares xs (declared_in s name kind ports speed) out r.state) (sym names) r.resets in
-        (r.state, (st.answered, (d.room, may.some, may.most, may.fast, declares)), r.stands)
+        (r.state, begin.begins (at_most m.cycle (Some (Reset now.devices.latest))) r.state r.resets, r.stands)
 
 -- any other is off
 pub later_turns : (m : Machine) (table : ControllerTable) (name : List ℕ) (kind : DeviceKind) (ports speed : ℕ) → 0 < length m.devices.names
@@ -138,7 +149,8 @@ later_turns m table name kind ports speed there may more = record { shown = show
 -- the entry of the first bus reset was written, or cut off
 pub first_does : {T E : Type 0} {held after : Option (List ℕ)} {k l : ℕ}
     (m now : Machine) (table : ControllerTable) (name : List ℕ) (kind : DeviceKind) (ports speed : ℕ) (r : Result T E)
-    → m.devices.names ≡ [] → MayAdd m ports speed → IsOneMore m table → m.devices.epoch < 10000 → GivesReset (with_device_in m table name kind ports speed) now 0 held after k l r
+    → m.devices.names ≡ [] → MayAdd m ports speed → IsOneMore m table → m.devices.epoch < 10000
+    → GivesReset (with_device_in m table name kind ports speed) now 0 held after k l r
     → Does (Acts (AddDevice name kind ports speed ∷ [])) m now held after k l r
 first_does m now table name kind ports speed r none may more few h =
     does_one m.cycle (Some (Reset now.devices.latest)) r (first_turns m now table name kind ports speed none may more few h.begins) h.gives h.faults

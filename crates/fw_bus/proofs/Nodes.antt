@@ -57,11 +57,13 @@ same_manager s t n same =
     let bandwidth = sym (same.words BandwidthAvailable) in
     let high = sym (same.words (ChannelsAvailable 0)) in
     let low = sym (same.words (ChannelsAvailable 32)) in
-    λ i. manager_by (latest i) n (record { bus_manager_id = id i; bandwidth_available = bandwidth i; channels_available_hi = high i; channels_available_lo = low i })
+    λ i. manager_by (latest i) n
+    (record { bus_manager_id = id i; bandwidth_available = bandwidth i; channels_available_hi = high i; channels_available_lo = low i })
 
 -- a node's registers are those of another space that agrees at the plugs that are there
 pub space_as : (n : NodeState) (a b : Space) → HasSpace n a → b.number ≡ a.number → b.kind ≡ a.kind → b.device ≡ a.device → b.rate ≡ a.rate
-    → ((k : ℕ) → k < output_plugs_of a.kind → b.output_word k ≡ a.output_word k) → ((k : ℕ) → k < input_plugs_of a.kind → b.input_word k ≡ a.input_word k) → b.manager ≡ a.manager → HasSpace n b
+    → ((k : ℕ) → k < output_plugs_of a.kind → b.output_word k ≡ a.output_word k) → ((k : ℕ) → k < input_plugs_of a.kind → b.input_word k ≡ a.input_word k)
+    → b.manager ≡ a.manager → HasSpace n b
 space_as n a b h number kind device rate outputs inputs manager =
     let outs : output_plugs_of b.kind ≡ output_plugs_of a.kind = ap output_plugs_of kind in
     let ins : input_plugs_of b.kind ≡ input_plugs_of a.kind = ap input_plugs_of kind in
@@ -78,12 +80,14 @@ space_as n a b h number kind device rate outputs inputs manager =
     }
 
 -- what is kept of a device is the same for another state that agrees on the device
-pub node_as : (s t : State) (d : ℕ) (o : Option ℕ) (n : NodeState) → kind_at t.declared.kinds d ≡ kind_at s.declared.kinds d → (facts_at t.declared.topology.devices d).speed ≡ (facts_at s.declared.topology.devices d).speed
+pub node_as : (s t : State) (d : ℕ) (o : Option ℕ) (n : NodeState) → kind_at t.declared.kinds d ≡ kind_at s.declared.kinds d
+    → (facts_at t.declared.topology.devices d).speed ≡ (facts_at s.declared.topology.devices d).speed
     → ((k : ℕ) → k < output_plugs_of (kind_at s.declared.kinds d) → word_of t.account (OutputPlug (at_plug d k)) ≡ word_of s.account (OutputPlug (at_plug d k)))
     → ((k : ℕ) → k < input_plugs_of (kind_at s.declared.kinds d) → word_of t.account (InputPlug (at_plug d k)) ≡ word_of s.account (InputPlug (at_plug d k)))
     → ((m : ℕ) → o ≡ Some m → (space_at t d m).manager ≡ (space_at s d m).manager) → IsNodeAt o s d n → IsNodeAt o t d n
-node_as s t d None n kind speed outputs inputs manager is = is ∙ (λ i. Nodes.first_state (sym kind i) d (sym speed i))
-node_as s t d (Some m) n kind speed outputs inputs manager is = space_as n (space_at s d m) (space_at t d m) is refl kind refl speed outputs inputs (manager m refl)
+node_as s t d None n kind speed outputs inputs manager is = is ∙ (λ i. record (Nodes.first_state (sym kind i) d (sym speed i)) { unit = n.unit })
+node_as s t d (Some m) n kind speed outputs inputs manager is =
+    space_as n (space_at s d m) (space_at t d m) is refl kind refl speed outputs inputs (manager m refl)
 
 pub nodes_same : (nodes : List NodeState) (s t : State) → SameNodes s t → HasNodes nodes s → HasNodes nodes t
 nodes_same nodes s t same h = record {
@@ -93,7 +97,8 @@ nodes_same nodes s t same h = record {
   where
     stays : (d : ℕ) → IsNodeAt (number_in s.account.latest d) s d (node_at nodes d) → IsNodeAt (number_in s.account.latest d) t d (node_at nodes d)
     stays d is =
-        node_as s t d (number_in s.account.latest d) (node_at nodes d) (ap (λ kinds. kind_at kinds d) same.kinds) (ap (λ (devices : List PhyFacts). (facts_at devices d).speed) same.devices)
+        node_as s t d (number_in s.account.latest d) (node_at nodes d) (ap (λ kinds. kind_at kinds d) same.kinds)
+        (ap (λ (devices : List PhyFacts). (facts_at devices d).speed) same.devices)
         (λ k lt. same.words (OutputPlug (at_plug d k))) (λ k lt. same.words (InputPlug (at_plug d k))) (λ m e. sym (same_manager s t m same)) is
 
 -- ---- one device more
@@ -101,7 +106,10 @@ nodes_same nodes s t same h = record {
 -- a device that is declared has its node beside those of the others, which stay
 pub nodes_declared : (nodes : List NodeState) (s : State) (name : List ℕ) (kind : DeviceKind) (ports speed : ℕ) → IsGood s → HasNodes nodes s
     → HasNodes (nodes ++ Nodes.first_state kind (length s.declared.names) speed ∷ []) (record s { declared = with_device s.declared name kind ports speed })
-nodes_declared nodes s name kind ports speed g h = record { size = let size = h.size in omega (arith, length-append nodes (new ∷ []), length-append s.declared.names (name ∷ [])); each = λ d lt. go d lt (cases_lt d (length nodes)) }
+nodes_declared nodes s name kind ports speed g h = record {
+  size = let size = h.size in omega (arith, length-append nodes (new ∷ []), length-append s.declared.names (name ∷ []));
+  each = λ d lt. go d lt (cases_lt d (length nodes));
+}
   where
     new : NodeState
     new = Nodes.first_state kind (length s.declared.names) speed
@@ -112,7 +120,8 @@ nodes_declared nodes s name kind ports speed g h = record { size = let size = h.
     t : State
     t = record s { declared = with_device s.declared name kind ports speed }
 
-    go : (d : ℕ) → d < length (nodes ++ new ∷ []) → (d < length nodes) ⊎ (length nodes ≤ d) → IsNodeAt (number_in s.account.latest d) t d (node_at (nodes ++ new ∷ []) d)
+    go : (d : ℕ) → d < length (nodes ++ new ∷ []) → (d < length nodes) ⊎ (length nodes ≤ d)
+        → IsNodeAt (number_in s.account.latest d) t d (node_at (nodes ++ new ∷ []) d)
     go d lt (inl low) =
         let size = h.size in
         let named = g.declared.named in
@@ -120,7 +129,9 @@ nodes_declared nodes s name kind ports speed g h = record { size = let size = h.
         let k = get_or_append_left s.declared.kinds (kind ∷ []) Relay d (omega arith) in
         let v = get_or_append_left s.declared.topology.devices (facts ∷ []) no_facts d (omega arith) in
         let P : NodeState → Type 0 = IsNodeAt (number_in s.account.latest d) t d in
-        subst P (sym (get_or_append_left nodes (new ∷ []) (Nodes.first_state Relay 0 0) d low)) (node_as s t d (number_in s.account.latest d) (node_at nodes d) k (ap (λ (f : PhyFacts). f.speed) v) (λ j below. refl) (λ j below. refl) (λ m is. refl) (h.each d low))
+        subst P (sym (get_or_append_left nodes (new ∷ []) (Nodes.first_state Relay 0 0) d low))
+        (node_as s t d (number_in s.account.latest d) (node_at nodes d) k (ap (λ (f : PhyFacts). f.speed) v) (λ j below. refl) (λ j below. refl)
+        (λ m is. refl) (h.each d low))
     go d lt (inr past) =
         let size = h.size in
         let named = g.declared.named in
@@ -130,12 +141,36 @@ nodes_declared nodes s name kind ports speed g h = record { size = let size = h.
         let v : facts_at t.declared.topology.devices d ≡ facts = get_or_push s.declared.topology.devices facts no_facts d (omega arith) in
         let P : Option ℕ → Type 0 = λ o. IsNodeAt o t d (node_at (nodes ++ new ∷ []) d) in
         subst P (sym (undeclared_off s d g (omega arith)))
-        (get_or_push nodes new (Nodes.first_state Relay 0 0) d (omega arith) ∙ (λ i. Nodes.first_state (sym k i) (sym here i) (sym v i).speed))
+        (let is = get_or_push nodes new (Nodes.first_state Relay 0 0) d (omega arith) in
+        is ∙ (λ i. record (Nodes.first_state (sym k i) (sym here i) (sym v i).speed) { unit = (sym is i).unit }))
+
+-- ---- only units change
+
+-- a node whose registers stay, with another unit and another response that waits, has what it had
+pub node_kept : (o : Option ℕ) (s : State) (d : ℕ) (n m : NodeState) → m ≡ record n { unit = m.unit; waiting = m.waiting } → (o ≡ None → m.waiting ≡ None)
+    → IsNodeAt o s d n → IsNodeAt o s d m
+node_kept None s d n m same none is =
+    let first = Nodes.first_state (kind_at s.declared.kinds d) d (facts_at s.declared.topology.devices d).speed in
+    same ∙ ((λ i. record (is i) { unit = m.unit; waiting = m.waiting }) ∙ (λ i. record first { unit = m.unit; waiting = none refl i }))
+node_kept (Some number) s d n m same none is =
+    subst (λ z. HasSpace z (space_at s d number)) (sym same)
+    (record {
+      number = is.number;
+      kind = is.kind;
+      device = is.device;
+      rate = is.rate;
+      outputs = is.outputs;
+      inputs = is.inputs;
+      output_words = is.output_words;
+      input_words = is.input_words;
+      manager = is.manager;
+    })
 
 -- ---- numbers
 
 -- a node has the number of its device
-pub number_of_node : (nodes : List NodeState) (s : State) (d : ℕ) → HasNodes nodes s → d < length nodes → (node_at nodes d).number ≡ number_in s.account.latest d
+pub number_of_node : (nodes : List NodeState) (s : State) (d : ℕ) → HasNodes nodes s → d < length nodes
+    → (node_at nodes d).number ≡ number_in s.account.latest d
 number_of_node nodes s d h lt = go (number_in s.account.latest d) (h.each d lt)
   where
     go : (o : Option ℕ) → IsNodeAt o s d (node_at nodes d) → (node_at nodes d).number ≡ o
@@ -159,14 +194,18 @@ is_node_same nodes s h g d = go (cases_lt d (length nodes))
 pub on_within : (nodes : List NodeState) (s : State) (d : ℕ) → HasNodes nodes s → IsGood s → IsTrue (is_on s d) → d < length nodes
 on_within nodes s d h g on = let low = on_declared s d (node_of s.account.latest d) g (on_number s d on) in let size = h.size in omega arith
 
-pub node_number_is : (nodes : List NodeState) (s : State) (d : ℕ) → HasNodes nodes s → IsGood s → IsTrue (is_on s d) → ((node_at nodes d).number ≡ Some (node_of s.account.latest d)) × (node_of s.account.latest d ≤ 62)
+pub node_number_is : (nodes : List NodeState) (s : State) (d : ℕ) → HasNodes nodes s → IsGood s → IsTrue (is_on s d)
+    → ((node_at nodes d).number ≡ Some (node_of s.account.latest d)) × (node_of s.account.latest d ≤ 62)
 node_number_is nodes s d h g on =
     let number = on_number s d on in
     (number_of_node nodes s d h (on_within nodes s d h g on) ∙ number, number_low s d (node_of s.account.latest d) g number)
 
 -- it has the registers of the account
-pub node_has : (nodes : List NodeState) (s : State) (d : ℕ) → HasNodes nodes s → IsGood s → IsTrue (is_on s d) → HasSpace (node_at nodes d) (space_at s d (node_of s.account.latest d))
-node_has nodes s d h g on = let P : Option ℕ → Type 0 = λ o. IsNodeAt o s d (node_at nodes d) in subst P (on_number s d on) (h.each d (on_within nodes s d h g on))
+pub node_has : (nodes : List NodeState) (s : State) (d : ℕ) → HasNodes nodes s → IsGood s → IsTrue (is_on s d)
+    → HasSpace (node_at nodes d) (space_at s d (node_of s.account.latest d))
+node_has nodes s d h g on =
+    let P : Option ℕ → Type 0 = λ o. IsNodeAt o s d (node_at nodes d) in
+    subst P (on_number s d on) (h.each d (on_within nodes s d h g on))
 
 pub linked_on : (s : State) (d : ℕ) → IsTrue (is_linked s d) → IsTrue (is_on s d)
 linked_on s d linked = grind arith
@@ -182,11 +221,13 @@ response_by_space n a h p = go (request_in p)
     go (Some r) = ap (λ register. response_to a.number p (reply register r)) (registers_same n a (offset_of r) h)
 
 -- a device on the bus answers a packet as the account
-pub response_same : (nodes : List NodeState) (s : State) (d : ℕ) → HasNodes nodes s → IsGood s → IsTrue (is_on s d) → (number : ℕ) → (node_at nodes d).number ≡ Some number
+pub response_same : (nodes : List NodeState) (s : State) (d : ℕ) → HasNodes nodes s → IsGood s → IsTrue (is_on s d) → (number : ℕ)
+    → (node_at nodes d).number ≡ Some number
     → (p : Packet) → response_of (space_of number s.clock.cycle (node_at nodes d)) p ≡ response_of (space_of_device s d) p
 response_same nodes s d h g on number is p =
     let same : number ≡ node_of s.account.latest d = same_Some number (node_of s.account.latest d) (sym is ∙ (node_number_is nodes s d h g on).0) in
-    ap (λ k. response_of (space_of k s.clock.cycle (node_at nodes d)) p) same ∙ response_by_space (node_at nodes d) (space_at s d (node_of s.account.latest d)) (node_has nodes s d h g on) p
+    ap (λ k. response_of (space_of k s.clock.cycle (node_at nodes d)) p) same
+    ∙ response_by_space (node_at nodes d) (space_at s d (node_of s.account.latest d)) (node_has nodes s d h g on) p
 
 pub read_on : (m : Machine) (s : State) → IsGood s → StandsFor m s → (d offset : ℕ) → IsTrue (is_on s d) → read_in m d offset ≡ read_at s d offset
 read_on m s g st d offset on =
@@ -194,7 +235,8 @@ read_on m s g st d offset on =
     let n : NodeState = node_at m.devices.nodes d in
     let number : unwrap_or n.number 0 ≡ node_of s.account.latest d = ap (λ o. unwrap_or o 0) (node_number_is m.devices.nodes s d st.devices.nodes g on).0 in
     let here = node_has m.devices.nodes s d st.devices.nodes g on in
-    ap (λ a. reply (register_at a (offset_of r)) r) (λ i. space_of (number i) (st.clock.cycle i) n) ∙ ap (λ register. reply register r) (registers_same n (space_at s d (node_of s.account.latest d)) (offset_of r) here)
+    ap (λ a. reply (register_at a (offset_of r)) r) (λ i. space_of (number i) (st.clock.cycle i) n)
+    ∙ ap (λ register. reply register r) (registers_same n (space_at s d (node_of s.account.latest d)) (offset_of r) here)
 
 pub read_same : (m : Machine) (s : State) → IsGood s → StandsFor m s → (d offset : ℕ) → IsTrue (is_linked s d) → read_in m d offset ≡ read_at s d offset
 read_same m s g st d offset linked = read_on m s g st d offset (linked_on s d linked)

@@ -21,6 +21,7 @@ use Rattle.fw_ledger.proofs.Resets.{reset_remainder, reset_channels}
 use Rattle.fw_tree.specs.Cables.{IsOnBus}
 use Rattle.fw_tree.specs.SelfIds.{facts_at}
 use Rattle.fw_tree.specs.Topology.{Topology}
+use Rattle.fw_avc.specs.State.{UnitState}
 use Rattle.fw_node.specs.State.{NodeState, HasSpace}
 use Rattle.fw_node.specs.State as Nodes
 use Rattle.fw_devices.specs.Network.{Network, kind_at, kinds_of, node_at}
@@ -34,9 +35,12 @@ use Rattle.fw_bus.specs.Stands.{IsNodeAt, HasNodes, manager_device}
 use Rattle.fw_bus.proofs.Latest.{on_declared, on_number, number_is}
 use Rattle.fw_bus.proofs.Resets.{first_fields, first_input_fields, first_out_cleared, first_in_cleared, output_there, input_there, output_not_there, input_not_there, output_kept, input_kept, output_declared, input_declared}
 
--- the same account, and the kinds of the devices that were declared; there may be more devices and cables
+-- the same account and decks, and the kinds of the devices that were declared; there may be more devices and cables
 pub record Extends (s t : State) : Type 0 where
   pub account : t.account ≡ s.account
+  pub cycle : t.clock.cycle ≡ s.clock.cycle
+  pub decks : t.decks ≡ s.decks
+  pub streams : t.streams ≡ s.streams
   pub kinds : (d : ℕ) → d < length s.declared.names → kind_at t.declared.kinds d ≡ kind_at s.declared.kinds d
 
 -- a device more, which is off
@@ -45,11 +49,11 @@ pub extends_declared : (s : State) (name : List ℕ) (kind : DeviceKind) (ports 
 extends_declared s name kind ports speed g =
     let named = g.declared.named in
     let same = g.declared.kinds.size in
-    record { account = refl; kinds = λ d lt. get_or_append_left s.declared.kinds (kind ∷ []) Relay d (omega arith) }
+    record { account = refl; cycle = refl; decks = refl; streams = refl; kinds = λ d lt. get_or_append_left s.declared.kinds (kind ∷ []) Relay d (omega arith) }
 
 -- a cable more, or none
 pub extends_cabled : (s : State) (t : Topology) → Extends s (with_topology s t)
-extends_cabled s t = record { account = refl; kinds = λ d lt. refl }
+extends_cabled s t = record { account = refl; cycle = refl; decks = refl; streams = refl; kinds = λ d lt. refl }
 
 -- ---- the manager
 
@@ -59,7 +63,8 @@ reset_manager s e d k =
     let bandwidth = sym (reset_remainder e s.account) in
     let high = sym (reset_channels e s.account 0) in
     let low = sym (reset_channels e s.account 32) in
-    λ i. cond (is_number e.manager k) (Some (record { bus_manager_id = 0x3F; bandwidth_available = bandwidth i; channels_available_hi = high i; channels_available_lo = low i })) None
+    λ i. cond (is_number e.manager k)
+    (Some (record { bus_manager_id = 0x3F; bandwidth_available = bandwidth i; channels_available_hi = high i; channels_available_lo = low i })) None
 
 -- ---- the words of a device that was a node
 
@@ -69,10 +74,12 @@ kept_output : (s0 s : State) (e : ResetEntry) (d n k : ℕ) → IsGood s0 → Ex
     → disconnected (word_of s.account (OutputPlug (at_plug d k))) ≡ word_of (after_reset e s.account) (OutputPlug (at_plug d k))
 kept_output s0 s e d n k g x at lt =
     let before : number_in s0.account.latest d ≡ Some n = sym (ap (λ (l : Account). number_in l.latest d) x.account) ∙ at in
-    let kind : output_plugs_of (kind_at s.declared.kinds d) ≡ output_plugs_of (kind_at s0.declared.kinds d) = ap output_plugs_of (x.kinds d (on_declared s0 d n g before)) in
+    let kind : output_plugs_of (kind_at s.declared.kinds d) ≡ output_plugs_of (kind_at s0.declared.kinds d) =
+    ap output_plugs_of (x.kinds d (on_declared s0 d n g before)) in
     let was = output_there s0 d n k g before (omega arith) in
     let P : Account → Type 0 = λ l. disconnected (word_of l (OutputPlug (at_plug d k))) ≡ word_of (after_reset e l) (OutputPlug (at_plug d k)) in
-    subst P (sym x.account) (output_kept s0.account e (at_plug d k) (g.reclaims.step.sound.counts (at_plug d k)).0 (g.reclaims.step.sound.settings_fit (at_plug d k) was) was)
+    subst P (sym x.account) (output_kept s0.account e (at_plug d k) (g.reclaims.step.sound.counts (at_plug d k)).0
+    (g.reclaims.step.sound.settings_fit (at_plug d k) was) was)
 
 -- so does that of an input plug its channel
 kept_input : (s0 s : State) (e : ResetEntry) (d n k : ℕ) → IsGood s0 → Extends s0 s → number_in s.account.latest d ≡ Some n
@@ -80,10 +87,12 @@ kept_input : (s0 s : State) (e : ResetEntry) (d n k : ℕ) → IsGood s0 → Ext
     → disconnected (word_of s.account (InputPlug (at_plug d k))) ≡ word_of (after_reset e s.account) (InputPlug (at_plug d k))
 kept_input s0 s e d n k g x at lt =
     let before : number_in s0.account.latest d ≡ Some n = sym (ap (λ (l : Account). number_in l.latest d) x.account) ∙ at in
-    let kind : input_plugs_of (kind_at s.declared.kinds d) ≡ input_plugs_of (kind_at s0.declared.kinds d) = ap input_plugs_of (x.kinds d (on_declared s0 d n g before)) in
+    let kind : input_plugs_of (kind_at s.declared.kinds d) ≡ input_plugs_of (kind_at s0.declared.kinds d) =
+    ap input_plugs_of (x.kinds d (on_declared s0 d n g before)) in
     let was = input_there s0 d n k g before (omega arith) in
     let P : Account → Type 0 = λ l. disconnected (word_of l (InputPlug (at_plug d k))) ≡ word_of (after_reset e l) (InputPlug (at_plug d k)) in
-    subst P (sym x.account) (input_kept s0.account e (at_plug d k) (g.reclaims.step.sound.counts (at_plug d k)).1 (g.reclaims.step.sound.channels_fit (at_plug d k) was) was)
+    subst P (sym x.account) (input_kept s0.account e (at_plug d k) (g.reclaims.step.sound.counts (at_plug d k)).1
+    (g.reclaims.step.sound.channels_fit (at_plug d k) was) was)
 
 -- ---- those of a new one
 
@@ -122,7 +131,7 @@ renumbered : (s0 s : State) (e : ResetEntry) (d k : ℕ) (n : NodeState) (o : Op
     → HasSpace (Nodes.after_reset k (is_number e.manager k) n) (space_at (after_reset_entry s e) d k)
 renumbered s0 s e d k n None g x shows at was is =
     let P : NodeState → Type 0 = λ n. HasSpace (Nodes.after_reset k (is_number e.manager k) n) (space_at (after_reset_entry s e) d k) in
-    subst P (sym is) fresh
+    subst P (sym is) (fresh n.unit)
   where
     rate : ℕ
     rate = (facts_at s.declared.topology.devices d).speed
@@ -133,8 +142,11 @@ renumbered s0 s e d k n None g x shows at was is =
     ins : ℕ
     ins = input_plugs_of (kind_at s.declared.kinds d)
 
-    fresh : HasSpace (Nodes.after_reset k (is_number e.manager k) (Nodes.first_state (kind_at s.declared.kinds d) d rate)) (space_at (after_reset_entry s e) d k)
-    fresh = record {
+    -- whatever its unit keeps
+    fresh : (u : Option UnitState)
+        → HasSpace (Nodes.after_reset k (is_number e.manager k) (record (Nodes.first_state (kind_at s.declared.kinds d) d rate) { unit = u }))
+        (space_at (after_reset_entry s e) d k)
+    fresh u = record {
       number = refl;
       kind = refl;
       device = refl;
@@ -142,9 +154,11 @@ renumbered s0 s e d k n None g x shows at was is =
       outputs = length-map _ disconnected ∙ length-replicate outs (first_out_word rate);
       inputs = length-map _ disconnected ∙ length-replicate ins first_in_word;
       output_words = λ j lt.
-          cleared_at _ j (let size = length-replicate outs (first_out_word rate) in omega arith) ∙ ap disconnected (get_or-replicate outs j (first_out_word rate) 0 lt) ∙ new_output s0 s e d k j g x shows was at;
+          cleared_at _ j (let size = length-replicate outs (first_out_word rate) in omega arith)
+          ∙ ap disconnected (get_or-replicate outs j (first_out_word rate) 0 lt) ∙ new_output s0 s e d k j g x shows was at;
       input_words = λ j lt.
-          cleared_at _ j (let size = length-replicate ins first_in_word in omega arith) ∙ ap disconnected (get_or-replicate ins j first_in_word 0 lt) ∙ new_input s0 s e d j g x was;
+          cleared_at _ j (let size = length-replicate ins first_in_word in omega arith) ∙ ap disconnected (get_or-replicate ins j first_in_word 0 lt)
+          ∙ new_input s0 s e d j g x was;
       manager = reset_manager s e d k;
     }
 renumbered s0 s e d k n (Some m) g x shows at was is = record {
@@ -154,8 +168,10 @@ renumbered s0 s e d k n (Some m) g x shows at was is = record {
   rate = is.rate;
   outputs = length-map n.plugs.outputs disconnected ∙ is.outputs;
   inputs = length-map n.plugs.inputs disconnected ∙ is.inputs;
-  output_words = λ j lt. cleared_at n.plugs.outputs j (let size = is.outputs in omega arith) ∙ ap disconnected (is.output_words j lt) ∙ kept_output s0 s e d m j g x was lt;
-  input_words = λ j lt. cleared_at n.plugs.inputs j (let size = is.inputs in omega arith) ∙ ap disconnected (is.input_words j lt) ∙ kept_input s0 s e d m j g x was lt;
+  output_words = λ j lt. cleared_at n.plugs.outputs j (let size = is.outputs in omega arith) ∙ ap disconnected (is.output_words j lt)
+      ∙ kept_output s0 s e d m j g x was lt;
+  input_words = λ j lt. cleared_at n.plugs.inputs j (let size = is.inputs in omega arith) ∙ ap disconnected (is.input_words j lt)
+      ∙ kept_input s0 s e d m j g x was lt;
   manager = reset_manager s e d k;
 }
 

@@ -10,6 +10,7 @@ use Rattle.fw_run.specs.State.{State, first_state}
 use Rattle.fw_run.specs.Rules.{Decides}
 use Rattle.fw_run.specs.Actions.{Action}
 use Rattle.fw_run.specs.Carrying.{Carries}
+use Rattle.fw_run.specs.Desks.{DeskRelations}
 use Rattle.fw_run.specs.Runs.{Run, and_then}
 use Rattle.fw_run.specs.Good.{IsGood}
 use Rattle.fw_run.proofs.ComesBack.{comes_back}
@@ -22,10 +23,11 @@ use Rattle.fw_run.proofs.Steps.{steps_good}
 use Rattle.fw_run.proofs.Times.{first_good}
 use Rattle.fw_bus.specs.declared.machine.Machine.{Machine}
 use Rattle.fw_bus.specs.Stands.{IsReady, StandsFor}
-use Rattle.fw_bus.specs.Doings.{Does}
+use Rattle.fw_bus.specs.Framing.{DoesBy, IsQuiet}
 use Rattle.fw_bus.specs.Orders.{Decided}
 use Rattle.fw_bus.specs.Buses.{IsReached, Goes, Stops}
 use Rattle.fw_bus.proofs.Doings.{steps_numbers}
+use Rattle.fw_bus.proofs.Quiet.{run_quiet, quiet_of}
 
 -- the state of a run is good, so a machine that stands for one is ready
 pub run_good : {commands : List Command} {actions : List Action} {log : List Timed} {s : State} → Run commands actions log s → IsGood s
@@ -39,9 +41,13 @@ ready_of h = record {
   stands = h.stands;
 }
 
+-- no response waits in it
+pub quiet_reached : {m : Machine} → IsReached m → IsQuiet m.devices
+quiet_reached {m} h = quiet_of m h.state h.stands (run_quiet h.run)
+
 -- a command more
-pub reached_more : {T E : Type 0} {m now : Machine} {a b : Option (List ℕ)} {k l : ℕ} {u : T} (c : Command) (o : Order) → IsReached m → Decided m c (Ok o)
-    → Does {T = T} {E = E} (λ s. Carries s o) m now a b k l (Ok u) → IsReached now
+pub reached_more : {T E : Type 0} {D : DeskRelations} {m now : Machine} {a b : Option (List ℕ)} {k l : ℕ} {u : T} (c : Command) (o : Order) → IsReached m → Decided m c (Ok o)
+    → DoesBy {T = T} {E = E} D (λ s. Carries s o) m now a b k l (Ok u) → IsReached now
 reached_more c o r decided d =
     let good = run_good r.run in
     let x = d.shown r.state good r.stands in
@@ -50,47 +56,50 @@ reached_more c o r decided d =
       actions = r.actions ++ x.actions;
       log = r.log ++ x.out;
       state = x.state;
-      run = and_then r.run c o x.actions x.out x.state (decided r.state good r.stands) x.whole;
+      run = and_then r.run c o x.actions x.out x.state (decided r.state good r.stands) x.whole.0;
       stands = x.stands;
     }
 
-pub goes : {T E : Type 0} {m now : Machine} {a b : Option (List ℕ)} {k l : ℕ} {u : T} (c : Command) (o : Order) (spent : Bool) → IsFalse spent → Decided m c (Ok o)
-    → Does {T = T} {E = E} (λ s. Carries s o) m now a b k l (Ok u) → (commands : List Command) (actions : List Action) (log : List Timed) (s : State) → Run commands actions log s
-    → StandsFor m s → Goes commands actions log s c (record { machine = now; spent = spent }) a b
+pub goes : {T E : Type 0} {D : DeskRelations} {m now : Machine} {a b : Option (List ℕ)} {k l : ℕ} {u : T} (c : Command) (o : Order) (spent : Bool) → IsFalse spent → Decided m c (Ok o)
+    → DoesBy {T = T} {E = E} D (λ s. Carries s o) m now a b k l (Ok u) → (commands : List Command) (actions : List Action) (log : List Timed) (s : State) → Run commands actions log s
+    → StandsFor m s → Goes D commands actions log s c (record { machine = now; spent = spent }) a b
 goes c o spent un decided d commands actions log s r st =
     let good = run_good r in
     let x = d.shown s good st in
     let is = decided s good st in
-    let more = and_then r c o x.actions x.out x.state is x.whole in
+    let more = and_then r c o x.actions x.out x.state is x.whole.0 in
     record {
       order = o;
       decided = is;
       more = x.actions;
       out = x.out;
       state = x.state;
-      carries = x.whole;
+      carries = x.whole.0;
+      given = x.whole.1;
       run = more;
       stands = x.stands;
       grew = x.grew;
       sound = sound_throughout (actions ++ x.actions) (log ++ x.out) x.state (run_steps (commands ++ c ∷ []) (actions ++ x.actions) (log ++ x.out) x.state more);
       restored = comes_back (actions ++ x.actions) (log ++ x.out) x.state (run_steps (commands ++ c ∷ []) (actions ++ x.actions) (log ++ x.out) x.state more);
-      settles = λ begins rounds ordered many. enough s x.state rounds x.actions x.out begins many (subst (λ z. Carries s z x.actions x.out x.state) ordered x.whole);
-      opens = λ none. cut_opens commands actions x.actions [] log x.out x.out s x.state x.state o r none (subst (λ z. Carries s o z x.out x.state) (sym (append-nil x.actions)) x.whole) x.steps;
+      settles = λ begins rounds ordered many. enough s x.state rounds x.actions x.out begins many (subst (λ z. Carries s z x.actions x.out x.state) ordered x.whole.0);
+      opens = λ none. cut_opens commands actions x.actions [] log x.out x.out s x.state x.state o r none (subst (λ z. Carries s o z x.out x.state) (sym (append-nil x.actions)) x.whole.0) x.steps;
       whole = λ none end. run_spells commands (actions ++ x.actions) (log ++ x.out) x.state (subst (λ z. Run (commands ++ z ∷ []) (actions ++ x.actions) (log ++ x.out) x.state) end more) none;
       fresh = un;
     }
 
-pub stops : {T E : Type 0} {m now mid : Machine} {a b : Option (List ℕ)} {k l : ℕ} {e : E} (c : Command) (o : Order) (spent : Bool) → IsTrue spent → Decided m c (Ok o)
-    → Does {T = T} {E = E} (λ s. Carries s o) m mid a b k l (Err e) → (commands : List Command) (actions : List Action) (log : List Timed) (s : State) → Run commands actions log s
-    → StandsFor m s → Stops commands actions log s c (record { machine = now; spent = spent }) a b
+pub stops : {T E : Type 0} {D : DeskRelations} {m now mid : Machine} {a b : Option (List ℕ)} {k l : ℕ} {e : E} (c : Command) (o : Order) (spent : Bool) → IsTrue spent → Decided m c (Ok o)
+    → DoesBy {T = T} {E = E} D (λ s. Carries s o) m mid a b k l (Err e) → (commands : List Command) (actions : List Action) (log : List Timed) (s : State) → Run commands actions log s
+    → StandsFor m s → Stops D commands actions log s c (record { machine = now; spent = spent }) a b
 stops c o spent is decided d commands actions log s r st =
     let good = run_good r in
-    let x = d.shown s good st in
+    let cut = d.shown s good st in
+    let x = cut.0 in
     let given = x.given ++ x.next ∷ [] in
     record {
       order = o;
       decided = decided s good st;
       cut = x;
+      given = cut.1;
       sound = sound_throughout (actions ++ x.done) (log ++ given) x.state (steps_then first_state s x.state actions x.done log given (run_steps commands actions log s r) x.steps);
       restored = comes_back (actions ++ x.done) (log ++ given) x.state (steps_then first_state s x.state actions x.done log given (run_steps commands actions log s r) x.steps);
       opens = λ none. cut_opens commands actions x.done x.later log given x.all s x.state x.last o r none x.whole x.steps;

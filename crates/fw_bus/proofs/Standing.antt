@@ -1,25 +1,25 @@
 -- A machine stands for another state that differs only elsewhere.
-use Rattle.std.proofs.Common.{◌≡◌, ℕ, ◌+◌, List, Option, None, unwrap_or, refl, ap, sym, ◌∙◌, length}
-use Rattle.fw_entry.specs.declared.entry.ResetEntry.{ResetEntry}
+use Rattle.std.proofs.Common.{◌≡◌, ℕ, ◌+◌, unwrap_or, refl, ap, sym, ◌∙◌}
 use Rattle.fw_devices.specs.Network.{Network, no_entry}
 use Rattle.fw_step.specs.Lingering.{SameLinger}
-use Rattle.fw_run.specs.State.{State, Declared, Clock, epoch_of, directory_of, linked_number, list_to, manager_in}
+use Rattle.fw_run.specs.State.{State, Declared, epoch_of, directory_of, linked_number, list_to, manager_in}
 use Rattle.fw_run.specs.Actions.{counted}
-use Rattle.fw_run.proofs.Settling.{Stays}
 use Rattle.fw_bus.specs.declared.machine.Machine.{Machine}
-use Rattle.fw_bus.specs.Stands.{HasDevices, HasClock, HasControllers, StandsFor, manager_device}
-use Rattle.fw_bus.specs.Tables.{IsTable}
+use Rattle.fw_bus.specs.Stands.{HasDevices, StandsFor, manager_device}
+use Rattle.fw_bus.proofs.DeckNodes.{decks_same}
 use Rattle.fw_bus.proofs.Lingers.{lingering_same}
 use Rattle.fw_bus.proofs.Nodes.{SameNodes, nodes_same}
 
 -- what is kept of the devices is the same for a state with the same devices, whose nodes keep the same
-pub devices_same : (n : Network) (s t : State) → SameNodes s t → t.declared ≡ s.declared → SameLinger s.account t.account → HasDevices n s → HasDevices n t
-devices_same n s t same declared linger h = record {
+pub devices_same : (n : Network) (s t : State) → SameNodes s t → t.declared ≡ s.declared → t.decks ≡ s.decks → SameLinger s.account t.account → HasDevices n s
+    → HasDevices n t
+devices_same n s t same declared decks linger h = record {
   topology = h.topology ∙ sym (ap (λ (d : Declared). d.topology) declared);
   names = h.names ∙ sym (ap (λ (d : Declared). d.names) declared);
   kinds = h.kinds ∙ sym (ap (λ (d : Declared). d.kinds) declared);
   nodes = nodes_same n.nodes s t same h.nodes;
   lingering = lingering_same n.nodes s t linger h.lingering;
+  decks = decks_same n.nodes s t (ap (λ (d : Declared). d.kinds) declared) decks h.decks;
   latest = h.latest ∙ sym (ap (λ o. unwrap_or o no_entry) same.latest);
   epoch = h.epoch ∙ sym (ap epoch_of same.latest);
   manager = h.manager ∙ sym (ap manager_device same.latest);
@@ -32,12 +32,15 @@ directory_same s t latest cycle = λ i. record { node = list_to 63 (linked_numbe
 -- half steps more were given
 pub counted_stands : (m : Machine) (s : State) (k : ℕ) → StandsFor m s → StandsFor (record m { half_steps = m.half_steps + k }) (counted s k)
 counted_stands m s k st = record {
-  devices = devices_same m.devices s (counted s k) (record { names = refl; devices = refl; kinds = refl; latest = refl; bus_manager_id = refl; words = λ r. refl }) refl (λ p. refl) st.devices;
-  clock = record { cycle = st.clock.cycle; reclaiming = st.clock.reclaiming; half_steps = ap (λ n. n + k) st.clock.half_steps };
+  devices = devices_same m.devices s (counted s k)
+      (record { names = refl; devices = refl; kinds = refl; latest = refl; bus_manager_id = refl; words = λ r. refl }) refl refl (λ p. refl) st.devices;
+  clock = record { cycle = st.clock.cycle; reclaiming = st.clock.reclaiming; half_steps = ap (λ n. n + k) st.clock.half_steps; written = st.clock.written };
   controllers = record {
     table = record { count_is = st.controllers.table.count_is; states_are = st.controllers.table.states_are; dead_are = st.controllers.table.dead_are };
     directory = st.controllers.directory;
   };
   wire = record { each = st.wire.each };
+  streams = record { size = st.streams.size; each = st.streams.each };
   answered = st.answered;
+  unsent = st.unsent;
 }

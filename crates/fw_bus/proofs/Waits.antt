@@ -15,8 +15,9 @@ use Rattle.fw_bus.specs.declared.machine.Machine.{Machine}
 use Rattle.fw_bus.specs.Resetting.{RestsAfterSecond}
 use Rattle.fw_bus.specs.Stands.{IsReady}
 use Rattle.fw_bus.specs.Doings.{Acts, Does}
-use Rattle.fw_bus.proofs.Doings.{GoesOn, one_step, does_as, does_silent, does_then, does_cut, acts_follow}
-use Rattle.fw_bus.proofs.SecondTurns.{pass_turns}
+use Rattle.fw_outside.specs.declared.failed.Failed.{Failed}
+use Rattle.fw_bus.proofs.Doings.{GoesOn, one_step, does_as, does_silent, does_then, does_cut, acts_follow, ready_after}
+use Rattle.fw_bus.proofs.SecondTurns.{pass_turns, passed_by}
 
 -- ---- what is known of the time
 
@@ -32,7 +33,7 @@ ready_second {m} r runs =
 
 -- the end of the second lies behind the cycles that go by, or none runs
 pub waits_by : {T E : Type 0} (m now : Machine) (n : ℕ) (held : Option (List ℕ)) (k : ℕ) (u : T) → m.cycle + n ≤ 2 ^ 52
-    → (m.reclaiming ≡ true → m.cycle + n < m.directory.over_at) → now ≡ record m { cycle = m.cycle + n }
+    → (m.reclaiming ≡ true → m.cycle + n < m.directory.over_at) → now ≡ passed_by m n
     → Does {T = T} {E = E} (λ s. Carries s (Wait n)) m now held held k k (Ok u)
 waits_by {T} {E} m now n held k u few before is =
     does_as {P = Acts (Pass n ∷ [])} {Q = λ s. Carries s (Wait n)} carries (does_silent held k m.cycle u (pass_turns m now n few before is))
@@ -72,15 +73,17 @@ pass_goes m n runs few s u xs a g st p steps =
 
 -- the machine at the cycle before the second is over
 abbrev pub before_end : Machine → Machine
-before_end m = record m { cycle = m.cycle + (m.directory.over_at - 1 - m.cycle) }
+before_end m = passed_by m (m.directory.over_at - 1 - m.cycle)
 
 -- all cycles went by, and the second was over on the way
 pub waits_all : {T E : Type 0} (m mid now : Machine) (last : ℕ) (held after : Option (List ℕ)) (k l : ℕ) (u : T) → IsReady m → m.reclaiming ≡ true
     → m.directory.over_at ≤ last → last ≤ 2 ^ 52
-    → Does {T = T} {E = E} (Acts (EndSecond ∷ [])) (before_end m) mid held after k l (Ok u) → RestsAfterSecond (before_end m) mid → now ≡ record mid { cycle = mid.cycle + (last - mid.cycle) }
+    → Does {T = T} {E = E} (Acts (EndSecond ∷ [])) (before_end m) mid held after k l (Ok u) → RestsAfterSecond (before_end m) mid
+    → now ≡ passed_by mid (last - mid.cycle)
     → Does {T = T} {E = E} (λ s. Carries s (Wait (last - m.cycle))) m now held after k l (Ok u)
 waits_all {T} {E} m mid now last held after k l u ready runs late few ended rests is =
-    does_as {P = Acts (Pass before ∷ EndSecond ∷ Pass behind ∷ [])} {Q = λ s. Carries s (Wait (last - m.cycle))} (over_carries (last - m.cycle) before behind same)
+    does_as {P = Acts (Pass before ∷ EndSecond ∷ Pass behind ∷ [])} {Q = λ s. Carries s (Wait (last - m.cycle))}
+    (over_carries (last - m.cycle) before behind same)
     (does_then (Ok u) (acts_follow (Pass before ∷ []) (EndSecond ∷ Pass behind ∷ [])) first
     (does_then (Ok u) (acts_follow (EndSecond ∷ []) (Pass behind ∷ [])) ended onward))
   where
@@ -111,11 +114,14 @@ waits_all {T} {E} m mid now last held after k l u ready runs late few ended rest
 -- the entry of the end of the second was cut off
 pub waits_cut : {T E U F : Type 0} (m mid now : Machine) (last : ℕ) (held after : Option (List ℕ)) (k l : ℕ) (u : T) (q : Result U F) (r : Result T E)
     → IsReady m → m.reclaiming ≡ true → m.directory.over_at ≤ last → last ≤ 2 ^ 52
-    → IsErr q → IsErr r → Does (Acts (EndSecond ∷ [])) (before_end m) mid held after k l q → Does (λ s. Carries s (Wait (last - m.cycle))) m now held after k l r
+    → IsErr q → IsErr r → Does (Acts (EndSecond ∷ [])) (before_end m) mid held after k l q
+    → Does (λ s. Carries s (Wait (last - m.cycle))) m now held after k l r
 waits_cut {T} {E} m mid now last held after k l u q r ready runs late few was is ended =
-    does_as {P = Acts (Pass before ∷ EndSecond ∷ Pass behind ∷ [])} {Q = λ s. Carries s (Wait (last - m.cycle))} (over_carries (last - m.cycle) before behind same)
+    does_as {P = Acts (Pass before ∷ EndSecond ∷ Pass behind ∷ [])} {Q = λ s. Carries s (Wait (last - m.cycle))}
+    (over_carries (last - m.cycle) before behind same)
     (does_then r (acts_follow (Pass before ∷ []) (EndSecond ∷ Pass behind ∷ [])) first
-    (does_cut {P = Acts (EndSecond ∷ [])} {R = Acts (EndSecond ∷ Pass behind ∷ [])} q r (pass_goes (before_end m) behind runs (omega (arith, second, late, few))) was is ended))
+    (does_cut {P = Acts (EndSecond ∷ [])} {R = Acts (EndSecond ∷ Pass behind ∷ [])} q r
+    (pass_goes (before_end m) behind runs (omega (arith, second, late, few))) was is ended))
   where
     second : m.cycle < m.directory.over_at
     second = ready_second ready runs
@@ -131,3 +137,17 @@ waits_cut {T} {E} m mid now last held after k l u q r ready runs late few was is
 
     first : Does {T = T} {E = E} (Acts (Pass before ∷ [])) m (before_end m) held held k k (Ok u)
     first = does_silent held k m.cycle u (pass_turns m (before_end m) before (omega (arith, second, late, few)) (λ x. omega (arith, second)) refl)
+
+-- ---- the machine is ready between the parts
+
+-- at the cycle before the second is over
+pub ready_before : {m : Machine} → IsReady m → m.reclaiming ≡ true → m.directory.over_at ≤ 2 ^ 52 → IsReady (before_end m)
+ready_before {m} r runs few =
+    let second = ready_second r runs in
+    ready_after {E = Failed} r (does_silent {T = Unit {0}} {E = Failed} None 0 m.cycle tt
+    (pass_turns m (before_end m) (m.directory.over_at - 1 - m.cycle) (omega (arith, second, few)) (λ x. omega (arith, second)) refl))
+
+-- and when it is over
+pub ready_over : {T E : Type 0} {m mid : Machine} {a b : Option (List ℕ)} {k l : ℕ} {u : T} → IsReady m → m.reclaiming ≡ true → m.directory.over_at ≤ 2 ^ 52
+    → Does {T = T} {E = E} (Acts (EndSecond ∷ [])) (before_end m) mid a b k l (Ok u) → IsReady mid
+ready_over r runs few ended = ready_after (ready_before r runs few) ended

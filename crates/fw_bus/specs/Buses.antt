@@ -19,6 +19,8 @@ use Rattle.fw_run.specs.Spaces.{space_at}
 use Rattle.fw_run.specs.Rules.{Decides}
 use Rattle.fw_run.specs.Actions.{Action}
 use Rattle.fw_run.specs.Carrying.{Carries}
+use Rattle.fw_run.specs.Desks.{DeskRelations}
+use Rattle.fw_run.specs.Given.{AreGiven}
 use Rattle.fw_run.specs.Runs.{Run}
 use Rattle.fw_bus.specs.Lingering.{TalksAs}
 use Rattle.fw_bus.specs.Stands.{StandsFor}
@@ -42,14 +44,15 @@ pub record IsReached (m : Machine) : Type 0 where
   pub run : Run commands actions log state
   pub stands : StandsFor m state
 
--- the run goes on with this command from its state, and the bus stands for the state that the command leads to
-pub record Goes (commands : List Command) (actions : List Action) (log : List Timed) (s : State) (c : Command) (now : Standing) (held after : Option (List ℕ)) : Type 0 where
+-- the run goes on with this command from its state, with what this desk gives, and the bus stands for the state that the command leads to
+pub record Goes (D : DeskRelations) (commands : List Command) (actions : List Action) (log : List Timed) (s : State) (c : Command) (now : Standing) (held after : Option (List ℕ)) : Type 0 where
   pub order : Order
   pub decided : Decides s c (Ok order)
   pub more : List Action
   pub out : List Timed
   pub state : State
   pub carries : Carries s order more out state
+  pub given : AreGiven D more
   pub run : Run (commands ++ c ∷ []) (actions ++ more) (log ++ out) state
   pub stands : StandsFor now.machine state
   pub grew : Grows held after (log_bytes out)
@@ -63,20 +66,21 @@ pub record Goes (commands : List Command) (actions : List Action) (log : List Ti
   pub whole : HasNoEnd commands → c ≡ End → LogSpells (log ++ out) (header_bytes ++ log_bytes (log ++ out))
   pub fresh : IsFalse now.spent
 
--- it was cut off by the sink: the entries given so far, and a front of the next
-pub record Stops (commands : List Command) (actions : List Action) (log : List Timed) (s : State) (c : Command) (now : Standing) (held after : Option (List ℕ)) : Type 0 where
+-- It was cut off by the sink: the entries given so far, and a front of the next. With what this desk gives the order was carried out so far.
+pub record Stops (D : DeskRelations) (commands : List Command) (actions : List Action) (log : List Timed) (s : State) (c : Command) (now : Standing) (held after : Option (List ℕ)) : Type 0 where
   pub order : Order
   pub decided : Decides s c (Ok order)
   pub cut : Cut (Carries s order) s held after
+  pub given : AreGiven D cut.done
   pub sound : IsSoundThroughout (actions ++ cut.done) (log ++ (cut.given ++ cut.next ∷ []))
   pub restored : ComesBack (actions ++ cut.done) (log ++ (cut.given ++ cut.next ∷ []))
   pub opens : HasNoEnd commands → LogOpens (log ++ (cut.given ++ cut.next ∷ [])) (header_bytes ++ log_bytes (log ++ (cut.given ++ cut.next ∷ [])))
   pub spent : IsTrue now.spent
 
-abbrev pub Applies : {T : Type 0} → List Command → List Action → List Timed → State → Command → Standing → Option (List ℕ) → Option (List ℕ) → Result T BusFault → Type 0
-Applies commands actions log s c now held after (Ok _) = Goes commands actions log s c now held after
-Applies commands actions log s c now held after (Err (Refused fault)) = Decides s c (Err fault)
-Applies commands actions log s c now held after (Err WriteFault) = Stops commands actions log s c now held after
+abbrev pub Applies : {T : Type 0} → DeskRelations → List Command → List Action → List Timed → State → Command → Standing → Option (List ℕ) → Option (List ℕ) → Result T BusFault → Type 0
+Applies D commands actions log s c now held after (Ok _) = Goes D commands actions log s c now held after
+Applies D commands actions log s c now held after (Err (Refused fault)) = Decides s c (Err fault)
+Applies D commands actions log s c now held after (Err WriteFault) = Stops D commands actions log s c now held after
 
 -- the node that is lent for a device: one on the bus, with the registers of the account, that talks exactly where the account says so
 abbrev pub LendsAt : Option ℕ → State → ℕ → Option NodeState → Type 0

@@ -1,5 +1,5 @@
 -- What carrying an order out asks of the machine.
-use Rattle.std.specs.Prelude.{ℕ, ◌≡◌, ◌+◌, ◌*◌, ◌<◌, ◌≤◌, ◌^◌, ◌&&◌, not, nat_le, if◌then◌else◌, Bool, false, List, length, None, Ok, Err, ◌⊎◌, IsOk, IsTrue, IsFalse, ⊤}
+use Rattle.std.specs.Prelude.{ℕ, ◌≡◌, ◌+◌, ◌*◌, ◌<◌, ◌≤◌, ◌^◌, ◌&&◌, not, nat_le, if◌then◌else◌, Bool, false, List, length, Some, None, Ok, Err, ◌⊎◌, IsOk, IsTrue, IsFalse, ⊤}
 use Rattle.std.specs.declared.result.Result.{Result}
 use Rattle.fw_tree.specs.declared.facts.End.{End}
 use Rattle.fw_tree.specs.declared.TreeFault.{TreeFault}
@@ -8,7 +8,8 @@ use Rattle.fw_script.specs.declared.command.Command.{Command}
 use Rattle.fw_script.specs.Form.{HasForm}
 use Rattle.fw_cmp.specs.Fits.{SlotFits}
 use Rattle.fw_cmp.specs.Starts.{break_fault}
-use Rattle.fw_devices.specs.Network.{is_node}
+use Rattle.fw_base.specs.Devices.{has_unit}
+use Rattle.fw_devices.specs.Network.{Network, is_node, kind_at, kinds_of, device_named}
 use Rattle.fw_run.specs.declared.order.Access.{Access}
 use Rattle.fw_run.specs.declared.order.Access.TheVariants.{Read, Swap}
 use Rattle.fw_run.specs.declared.order.Order.{Order}
@@ -16,7 +17,7 @@ use Rattle.fw_run.specs.declared.order.Order.TheVariants as Orders
 use Rattle.fw_run.specs.Actions.{AccessFits, slot_of, start_of}
 use Rattle.fw_run.specs.declared.order.Wanted.{Wanted}
 use Rattle.fw_run.specs.declared.rule.RuleFault.{RuleFault}
-use Rattle.fw_run.specs.declared.rule.RuleFault.TheVariants.{NotController, TableFull, Busy, NoSuchConnection, NotOwnPlug}
+use Rattle.fw_run.specs.declared.rule.RuleFault.TheVariants.{UnknownName, NoDeck, NotController, TableFull, Busy, NoSuchConnection, NotOwnPlug}
 use Rattle.fw_script.specs.declared.command.Command.TheVariants as Commands
 use Rattle.fw_cmp.specs.declared.outcome.StartFault.{StartFault}
 use Rattle.fw_cmp.specs.declared.outcome.StartFault.TheVariants as Refusals
@@ -62,6 +63,17 @@ ConnectionDecided m d w (Err rule) =
     ((rule ≡ NotController) × IsFalse (is_living_in m d))
     ⊎ ((f : StartFault) × (rule ≡ rule_of f) × IsTrue (is_living_in m d) × (start_of d w (states_of m.controllers d) ≡ Err f))
 
+-- a deck or a camcorder, on the bus or off
+abbrev pub has_deck_in : Network → ℕ → Bool
+has_deck_in n d = has_unit (kind_at (kinds_of n.nodes) d)
+
+-- the deck or camcorder of a name, or why there is none
+abbrev pub DeckDecided : Machine → List ℕ → Result ℕ RuleFault → Type 0
+DeckDecided m name (Ok d) = (device_named m.devices.names name ≡ Some d) × (d < length m.devices.nodes) × IsTrue (has_deck_in m.devices d)
+DeckDecided m name (Err rule) =
+    ((rule ≡ UnknownName) × (device_named m.devices.names name ≡ None))
+    ⊎ ((rule ≡ NoDeck) × ((d : ℕ) × (device_named m.devices.names name ≡ Some d) × IsFalse (has_deck_in m.devices d)))
+
 -- the line of a transaction
 abbrev pub command_of : List ℕ → List ℕ → Access → Command
 command_of from to (Read offset) = Commands.Read from to offset
@@ -76,8 +88,12 @@ MayCarry m (Orders.Break d slot) = IsTrue (is_living_in m d) × (break_fault (st
 MayCarry m (Orders.Step d count) = IsTrue (is_living_in m d) × (m.half_steps + count ≤ 4000000)
 MayCarry m (Orders.Settle rounds) = m.half_steps + rounds * length (living_in m) ≤ 4000000
 MayCarry m (Orders.Wait cycles) = m.cycle + cycles ≤ 2 ^ 52
+MayCarry m (Orders.Cycles count) = (m.cycle + count ≤ 2 ^ 52) × (0 < length m.devices.nodes → m.written + count ≤ 8000)
 MayCarry m (Orders.Die d late) = IsTrue (is_living_in m d)
 MayCarry m (Orders.Start d) = IsTrue (is_linked_in m.devices d)
 MayCarry m (Orders.Transact x) = IsTrue (is_living_in m x.from) × IsTrue (is_linked_in m.devices x.to) × IsFalse (is_guarded x.access) × AccessFits x.access
+MayCarry m (Orders.Command a b bytes) = IsTrue (is_living_in m a) × IsTrue (is_linked_in m.devices b)
+MayCarry m (Orders.Insert d tape system) = (d < length m.devices.nodes) × IsTrue (has_deck_in m.devices d)
+MayCarry m (Orders.Eject d) = (d < length m.devices.nodes) × IsTrue (has_deck_in m.devices d)
 MayCarry m (Orders.Show d offset) = IsTrue (is_linked_in m.devices d) × (offset < 2 ^ 12) × ((read_in m d offset).rcode ≡ 0)
 MayCarry m Orders.End = ⊤

@@ -5,6 +5,7 @@ use Rattle.fw_entry.specs.declared.entry.Entry.TheVariants.{Reset}
 use Rattle.fw_cmp.specs.Resets.{after_reset as controller_reset, after_second as controller_second}
 use Rattle.fw_cmp.specs.declared.directory.Directory.{Directory}
 use Rattle.fw_node.specs.State.{after_second}
+use Rattle.fw_devices.specs.Decks.{passed}
 use Rattle.fw_devices.specs.Network.{Network, is_node, node_at}
 use Rattle.fw_devices.specs.Resets.{IsReset}
 use Rattle.fw_run.specs.State.{list_to}
@@ -12,6 +13,7 @@ use Rattle.fw_run.specs.Giving.{Gives}
 use Rattle.fw_bus.specs.Faults.{CountsFaults}
 use Rattle.fw_bus.specs.Tables.{IsTable, count_of, states_of, dead_of}
 use Rattle.fw_bus.specs.Stands.{is_linked_in}
+use Rattle.fw_bus.specs.Streaming.{counted_on}
 use Rattle.fw_bus.specs.declared.machine.Machine.{Machine}
 
 -- the node number of a device that has a link
@@ -41,12 +43,18 @@ pub record GivesReset {T E : Type 0} (m now : Machine) (initiator : ℕ) (held a
   pub gives : Gives held after result m.cycle (Some (Reset now.devices.latest))
   pub faults : CountsFaults count counts result
 
--- One cycle goes by and the second is over: it no longer runs, no plug lingers, and each controller hears of it.
+-- cycles go by for the tapes of all devices
+abbrev pub passed_in : ℕ → Network → Network
+passed_in cycles n = record n { nodes = map (passed cycles) n.nodes }
+
+-- The second is over: it no longer runs, no plug lingers, and each controller hears of it. One cycle goes by, in which tapes move and the
+-- plugs that still talk count their blocks.
 pub record RestsAfterSecond (m now : Machine) : Type 0 where
   pub table : IsTable now.controllers (count_of m.controllers) (λ d. controller_second (states_of m.controllers d)) (dead_of m.controllers)
   pub after : now ≡ record m {
-    devices = record m.devices { nodes = map after_second m.devices.nodes };
+    devices = record m.devices { nodes = map (passed 1) (map after_second m.devices.nodes) };
     controllers = now.controllers;
     cycle = m.cycle + 1;
     reclaiming = false;
+    streams = counted_on 1 (map after_second m.devices.nodes) m.streams;
   }

@@ -1,5 +1,5 @@
 -- What the bus keeps, against a state of a run: a record a part.
-use Rattle.std.specs.Prelude.{ℕ, ◌≡◌, ◌+◌, ◌<◌, ◌&&◌, not, List, Bool, length, Option, Some, None, unwrap_or, IsTrue, IsFalse}
+use Rattle.std.specs.Prelude.{ℕ, ◌≡◌, ◌+◌, ◌<◌, ◌≤◌, ◌&&◌, not, List, Bool, length, Option, Some, None, unwrap_or, IsTrue, IsFalse}
 use Rattle.fw_base.specs.Devices.{has_link}
 use Rattle.fw_csr.specs.declared.request.Request.TheVariants as Asks
 use Rattle.fw_csr.specs.declared.reply.Reply.{Reply}
@@ -12,7 +12,9 @@ use Rattle.fw_node.specs.State as Nodes
 use Rattle.fw_devices.specs.Network.{Network, no_entry, kind_at, kinds_of, is_node, node_at}
 use Rattle.fw_devices.specs.Entries.{device_of}
 use Rattle.fw_bus.specs.declared.machine.Machine.{Machine}
-use Rattle.fw_run.specs.State.{State, number_in, epoch_of, numbers_to, directory_of}
+use Rattle.fw_run.specs.State.{State, number_in, epoch_of, numbers_to, directory_of, has_deck}
+use Rattle.fw_run.specs.Decks.{first_deck}
+use Rattle.fw_run.specs.Units.{HasDeck}
 use Rattle.fw_run.specs.Spaces.{space_at}
 use Rattle.fw_run.specs.Good.{IsGood}
 use Rattle.fw_run.specs.Numbers.{HasNumbers}
@@ -20,20 +22,26 @@ use Rattle.fw_cmp.specs.declared.request.Access.{Access}
 use Rattle.fw_cmp.specs.Requests.{addressee_of, standing_in}
 use Rattle.fw_devices.specs.Entries.{node_device}
 use Rattle.fw_bus.specs.Lingering.{HasLingering}
+use Rattle.fw_bus.specs.Streaming.{HasStreams}
 use Rattle.fw_bus.specs.Tables.{IsTable, dead_of, states_of}
 use Rattle.fw_bus.specs.Wires.{HasWire}
 
 -- ---- devices
 
--- a node on the bus has the registers of the account; a device that is off is as it was declared
+-- a node on the bus has the registers of the account; a device that is off is as it was declared, but for the unit
 abbrev pub IsNodeAt : Option ℕ → State → ℕ → NodeState → Type 0
-IsNodeAt None s d n = n ≡ Nodes.first_state (kind_at s.declared.kinds d) d (facts_at s.declared.topology.devices d).speed
+IsNodeAt None s d n = n ≡ record (Nodes.first_state (kind_at s.declared.kinds d) d (facts_at s.declared.topology.devices d).speed) { unit = n.unit }
 IsNodeAt (Some number) s d n = HasSpace n (space_at s d number)
 
 -- each device's node
 pub record HasNodes (nodes : List NodeState) (s : State) : Type 0 where
   pub size : length nodes ≡ length s.declared.names
   pub each : (d : ℕ) → d < length nodes → IsNodeAt (number_in s.account.latest d) s d (node_at nodes d)
+
+-- each device's unit, and the response that waits; a device that is not declared has none yet
+pub record HasDecks (nodes : List NodeState) (s : State) : Type 0 where
+  pub each : (d : ℕ) → d < length nodes → HasDeck (node_at nodes d) (has_deck s d) (s.decks d)
+  pub others : (d : ℕ) → length nodes ≤ d → s.decks d ≡ first_deck
 
 -- the device that is the isochronous resource manager
 abbrev pub manager_device : Option ResetEntry → Option ℕ
@@ -46,6 +54,7 @@ pub record HasDevices (n : Network) (s : State) : Type 0 where
   pub kinds : kinds_of n.nodes ≡ s.declared.kinds
   pub nodes : HasNodes n.nodes s
   pub lingering : HasLingering n.nodes s
+  pub decks : HasDecks n.nodes s
   pub latest : n.latest ≡ unwrap_or s.account.latest no_entry
   pub epoch : n.epoch ≡ epoch_of s.account.latest
   pub manager : n.manager ≡ manager_device s.account.latest
@@ -56,6 +65,7 @@ pub record HasClock (m : Machine) (s : State) : Type 0 where
   pub cycle : m.cycle ≡ s.clock.cycle
   pub reclaiming : m.reclaiming ≡ s.account.reclaiming
   pub half_steps : m.half_steps ≡ s.half_steps
+  pub written : m.written ≡ s.written
 
 pub record HasControllers (m : Machine) (s : State) : Type 0 where
   pub table : IsTable m.controllers (length s.declared.names) s.controllers s.dead
@@ -69,7 +79,9 @@ pub record StandsFor (m : Machine) (s : State) : Type 0 where
   pub clock : HasClock m s
   pub controllers : HasControllers m s
   pub wire : HasWire m.wire s
+  pub streams : HasStreams m.streams s
   pub answered : s.transaction ≡ None
+  pub unsent : s.frame ≡ None
 
 -- it stands for some good state: what a call's safety rests on
 pub record IsReady (m : Machine) : Type 0 where

@@ -9,6 +9,7 @@ use fw_async::Wire;
 use fw_node::Node;
 use fw_outside::{Failed, Sink};
 use fw_script::Command;
+use fw_tape::Desk;
 use std::alloc::{AllocError, Global};
 use std::marker::Model;
 
@@ -37,6 +38,7 @@ impl Bus {
     ghost use Rattle.fw_run.specs.State.{State, first_state};
     ghost use Rattle.fw_run.specs.Actions.{Action};
     ghost use Rattle.fw_run.specs.Runs.{Run};
+    ghost use Rattle.fw_tape.specs.Desks.{AnyBlock, AnyVendorByte};
     ghost use Rattle.fw_bus.specs.Orders.{IsCommand};
     ghost use Rattle.fw_bus.specs.Stands.{StandsFor};
     ghost use Rattle.fw_bus.specs.Wires.{HasWire};
@@ -80,14 +82,21 @@ impl Bus {
         &self.machine.wire
     }
 
-    /// Carries out a command, and writes what happens. `Refused` comes exactly where a rule holds of the command, with the
-    /// first; then nothing is changed or written. Where the sink fails, it holds the entries given so far and a front of the
-    /// next, its count of faults rose, and the bus is spent.
-    pub fn apply<K: Sink>(&mut self, c: &Command, sink: &mut K) -> Result<(), BusFault>
+    /// Carries out a command, and writes what happens; the blocks of tapes, and what a vendor makes of a byte, come from the desk. `Refused` comes exactly
+    /// where a rule holds of the command, with the first; then nothing is changed or written. Where the sink fails, it holds the
+    /// entries given so far and a front of the next, its count of faults rose, and the bus is spent.
+    pub fn apply<K: Sink, F: Fn(u16, u32, u16) -> [u8; 480], H: Fn(u32, u8) -> u8>(
+        &mut self,
+        c: &Command,
+        sink: &mut K,
+        desk: &Desk<F, H>,
+    ) -> Result<(), BusFault>
         requires spent { IsFalse self.old.spent }
         requires command { IsCommand c.now }
+        requires blocks { AnyBlock (F.pre desk.now.blocks) }
+        requires desk { AnyVendorByte (H.pre desk.now.vendor) }
         ensures run { (commands : List Line) (actions : List Action) (log : List TimedEntry) (s : State) → Run commands actions log s → StandsFor self.old.machine s
-            → Applies commands actions log s c.now self.new (K.held sink.old) (K.held sink.new) result }
+            → Applies (record { blocks = F.post desk.now.blocks; vendor = H.post desk.now.vendor }) commands actions log s c.now self.new (K.held sink.old) (K.held sink.new) result }
         ensures refused { IfErr result (λ e. WhereRefused e ((self.new ≡ self.old) × (sink.new ≡ sink.old))) }
         ensures same { OnOk result (K.faults sink.new ≡ K.faults sink.old) }
         ensures failed { IfErr result (λ e. WhereFailed e (IsTrue self.new.spent × Rose (K.faults sink.old) (K.faults sink.new))) }
@@ -97,7 +106,7 @@ impl Bus {
             Ok(order) => order,
             Err(rule) => return Err(BusFault::Refused(rule)),
         };
-        match self.machine.carry_out(&order, &mut self.room, sink) {
+        match self.machine.carry_out(&order, desk, &mut self.room, sink) {
             Ok(()) => Ok(()),
             Err(Failed) => {
                 self.spent = true;

@@ -6,8 +6,9 @@ ghost use Rattle.fw_run.specs.Entries as Entries;
 ghost use Rattle.fw_run.specs.Entries.{coded};
 
 use fw_cmp::Outcome;
-use fw_entry::codes::{NO_DEVICE, event, outcome};
+use fw_entry::codes::{LINES_525, LINES_625, NO_DEVICE, event, outcome};
 use fw_entry::{Entry, EventEntry, OutcomeEntry, ShownEntry};
+use fw_tape::TapeSystem;
 
 /// An event without a tape.
 fn event_of(code: u8, device: u8) -> Entry<'static>
@@ -53,6 +54,39 @@ pub fn started(device: u8) -> Entry<'static>
     ensures fits { Fits result }
 {
     event_of(event::STARTED, device)
+}
+
+/// A tape was put into a deck or camcorder.
+pub fn inserted(device: u8, tape: u16, system: TapeSystem) -> Entry<'static>
+    requires { device < 63 }
+    ensures value { result ≡ Entries.inserted device tape system }
+    ensures fits { Fits result }
+{
+    Entry::Event(EventEntry {
+        code: event::INSERTED,
+        device,
+        tape,
+        system: lines_of(system),
+    })
+}
+
+/// How many lines a picture of a television system has.
+fn lines_of(system: TapeSystem) -> u16
+    ensures { result ≡ Entries.lines_of system }
+{
+    match system {
+        TapeSystem::Lines525 => LINES_525,
+        TapeSystem::Lines625 => LINES_625,
+    }
+}
+
+/// The tape was taken out of a deck or camcorder.
+pub fn ejected(device: u8) -> Entry<'static>
+    requires { device < 63 }
+    ensures value { result ≡ Entries.ejected device }
+    ensures fits { Fits result }
+{
+    event_of(event::EJECTED, device)
 }
 
 /// A register's word is shown.

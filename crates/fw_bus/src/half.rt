@@ -1,6 +1,6 @@
 //! One half step of a controller: its request is carried out and it hears the answer, or it says what it does next.
 
-ghost use Rattle.std.specs.Prelude.{◌≡◌, ◌≤◌, ◌<◌, ℕ, IsTrue, IfSome, Some};
+ghost use Rattle.std.specs.Prelude.{◌≡◌, ◌<◌, ℕ, IsTrue, IfSome, Some};
 ghost use Rattle.fw_cmp.specs.Fits.{TargetFits};
 ghost use Rattle.fw_cmp.specs.Requests.{standing_in};
 ghost use Rattle.fw_cmp.specs.Controllers.{IsHeard, IsStanding};
@@ -94,6 +94,7 @@ impl Machine {
         };
         self.devices
             .take(target, self.cycle, bytes, &mut room.response);
+        self.streams.look(&self.devices, target);
         let Some(reply) = reply_at(&room.response) else {
             return Ok(());
         };
@@ -113,7 +114,7 @@ impl Machine {
     }
 
     /// The device that is the node with this number.
-    fn device_at(&self, number: u8) -> Option<u8>
+    pub(crate) fn device_at(&self, number: u8) -> Option<u8>
         ensures { result ≡ node_device self.now.devices.latest.nodes number }
     {
         let row = self

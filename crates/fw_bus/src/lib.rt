@@ -7,7 +7,9 @@
 mod bus;
 mod carry;
 mod controllers;
+mod cycles;
 mod entries;
+mod frames;
 mod give;
 mod half;
 mod lives;
@@ -17,6 +19,8 @@ mod room;
 mod rules;
 mod second;
 mod steps;
+mod streams;
+mod tapes;
 mod transact;
 
 pub use bus::Bus;

@@ -6,6 +6,7 @@ ghost use Rattle.fw_devices.specs.Network.{is_node, node_at};
 ghost use Rattle.fw_bus.specs.Stands.{StandsFor, IsReady, is_linked_in, is_living_in, living_in};
 
 use crate::controllers::Controllers;
+use crate::streams::Streams;
 use fw_async::Wire;
 use fw_cmp::Directory;
 use fw_devices::Devices;
@@ -29,6 +30,10 @@ pub struct Machine {
     pub reclaiming: bool,
     /// How many half steps were given.
     pub half_steps: u32,
+    /// How many cycles were written.
+    pub written: u32,
+    /// What the output plugs have sent since they began to talk.
+    pub streams: Streams,
 }
 
 impl Machine {
@@ -48,6 +53,8 @@ impl Machine {
             cycle: 0,
             reclaiming: false,
             half_steps: 0,
+            written: 0,
+            streams: Streams::new(),
         })
     }
 

@@ -15,12 +15,15 @@ use fw_script::{Command, Name};
 use fw_tree::{End, TreeFault};
 
 mod connections;
+mod decks;
 mod transactions;
 
 /// How many devices a bus may have.
 const MOST_DEVICES: u8 = 63;
 /// How many bus resets a script may have.
 const MOST_RESETS: u32 = 10_000;
+/// How many cycles a script may write.
+const MOST_WRITTEN: u32 = 8000;
 /// How many half steps a script may have.
 const MOST_HALF_STEPS: u64 = 4_000_000;
 /// The greatest cycle number.
@@ -139,6 +142,21 @@ impl Machine {
         Ok(Order::Wait(cycles))
     }
 
+    fn decide_cycles(&self, count: u32) -> Result<Order, RuleFault>
+        requires ready { IsReady self.now }
+        requires few { count ≤ 8000 }
+        ensures decided { Decided self.now (Commands.Cycles count) result }
+        ensures may { IfOk result (MayCarry self.now) }
+    {
+        if self.cycle + u64::from(count) > LAST_CYCLE {
+            return Err(RuleFault::Limit);
+        }
+        if self.devices.count() > 0 && self.written + count > MOST_WRITTEN {
+            return Err(RuleFault::Limit);
+        }
+        Ok(Order::Cycles(count))
+    }
+
     /// What a command orders, or the first rule that it breaks.
     pub(crate) fn decide(&self, c: &Command) -> Result<Order, RuleFault>
         requires ready { IsReady self.now }
@@ -163,6 +181,7 @@ impl Machine {
             Command::Step(name, count) => self.decide_step(name, *count),
             Command::Settle(rounds) => self.decide_settle(*rounds),
             Command::Wait(cycles) => self.decide_wait(*cycles),
+            Command::Cycles(count) => self.decide_cycles(*count),
             Command::Die(name, late) => self.decide_death(name, *late),
             Command::Start(name) => self.decide_start(name),
             Command::Read(from, to, offset) => {
@@ -171,10 +190,11 @@ impl Machine {
             Command::Swap(from, to, offset, argument, new) => {
                 self.decide_transaction(from, to, Access::Swap(*offset, *argument, *new))
             }
+            Command::Command(from, to, frame) => self.decide_command(from, to, frame),
+            Command::Insert(name, tape, lines) => self.decide_insert(name, *tape, *lines),
+            Command::Eject(name) => self.decide_eject(name),
             Command::Show(name, offset) => self.decide_show(name, *offset),
             Command::End => Ok(Order::End),
-            Command::Cycles(_) | Command::Command(..) | Command::Insert(..) | Command::Eject(_) =>
-                Err(RuleFault::NotBuilt),
         }
     }
 }

@@ -27,7 +27,7 @@ use fw_words::{Bytes16, Quadlet, put_quadlet};
 const REGISTER_SPACE: u64 = 0xFFFF_F000_0000;
 
 /// The transaction label of the script's transactions (own); those of controllers have 0.
-const SCRIPT_LABEL: u8 = 1;
+pub(crate) const SCRIPT_LABEL: u8 = 1;
 
 /// The lock function compare_swap.
 const COMPARE_SWAP: u8 = 2;

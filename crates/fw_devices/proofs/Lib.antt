@@ -6,3 +6,5 @@ pub mod NetworkLaws
 pub mod NameLaws
 pub mod ResetLaws
 pub mod JoinLaws
+pub mod DeckLaws
+pub mod TalkLaws

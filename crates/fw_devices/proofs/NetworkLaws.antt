@@ -99,7 +99,7 @@ same_after None n = record { kind = refl; device = refl; rate = refl }
 same_after (Some r) n = record { kind = refl; device = refl; rate = refl }
 
 -- the end of the second after a bus reset leaves each node's device as it is
-node_mapped : (f : NodeState → NodeState) (nodes : List NodeState) (d : ℕ) → d < length nodes → node_at (map f nodes) d ≡ f (node_at nodes d)
+pub node_mapped : (f : NodeState → NodeState) (nodes : List NodeState) (d : ℕ) → d < length nodes → node_at (map f nodes) d ≡ f (node_at nodes d)
 node_mapped f [] d low = absurd (omega arith)
 node_mapped f (n ∷ ns) zero low = refl
 node_mapped f (n ∷ ns) (suc d) low = node_mapped f ns d (omega arith)

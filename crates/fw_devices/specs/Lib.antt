@@ -3,3 +3,5 @@ pub mod Entries
 pub mod Resets
 pub mod Kept
 pub mod Names
+pub mod Decks
+pub mod Streams

@@ -10,9 +10,11 @@ use fw_tree::Cabling;
 use std::alloc::{AllocError, Global};
 use std::marker::Model;
 
+mod decks;
 mod declare;
 mod requests;
 mod resets;
+mod streams;
 
 /// Declared devices by name, their cabling, and the node that each is.
 ///

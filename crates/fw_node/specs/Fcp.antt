@@ -2,6 +2,7 @@
 use Rattle.std.specs.Prelude.{◌≡◌, ℕ, ◌+◌, ◌%◌, ◌<◌, ◌≤◌, ◌==◌, List, length, Option, Some, None, if◌then◌else◌}
 use Rattle.std.specs.Int.{to_be_bytes, from_be_bytes, w32}
 use Rattle.std.specs.Option.{option_map, option_and_then}
+use Rattle.fw_async.specs.Async.{AreBytes}
 use Rattle.fw_async.specs.declared.packet.Head.{Head}
 use Rattle.fw_async.specs.declared.packet.Packet.{Packet}
 use Rattle.fw_async.specs.declared.packet.Packet.TheVariants.{WriteQuadlet, WriteBlock}
@@ -28,10 +29,18 @@ pub record IsCommand (r : Option Request) (f : Frame) : Type 0 where
   pub size : length f.operands ≤ 509
   pub command : f.code < 8
 
+-- a frame can be sent: its numbers fit, and its operands are bytes, no more than a block has
+pub record IsSendable (f : Frame) : Type 0 where
+  pub fits : Fits f
+  pub opcode : f.opcode < 256
+  pub bytes : AreBytes f.operands
+  pub size : length f.operands ≤ 509
+
 -- the unit of a node carried a command from another node out, and its response waits
 pub record Follows (V : VendorRelation) (from : ℕ) (f : Frame) (u : UnitState) (before after : NodeState) : Type 0 where
   pub response : Frame
   pub answers : IsResponse V u f (ruling u f) response
+  pub sendable : IsSendable response
   pub node : after ≡ record before { unit = Some (unit_after u from f); waiting = Some (from, response) }
 
 -- what follows from a request, beside what it does at the registers: nothing where it is no command or the node has no unit;

@@ -4,3 +4,4 @@ pub mod Packets
 pub mod State
 pub mod Fcp
 pub mod Lending
+pub mod Streams

@@ -8,8 +8,9 @@ ghost use Rattle.fw_fcp.specs.Frames.{Fits};
 ghost use Rattle.fw_tape.specs.Desks.{AnyVendorByte};
 ghost use Rattle.fw_base.specs.Devices.{has_unit};
 ghost use Rattle.fw_csr.specs.declared.request.Request.{Request};
+ghost use Rattle.fw_avc.specs.State.{UnitState};
 ghost use Rattle.fw_node.specs.Lending.{LendsUnit};
-ghost use Rattle.fw_node.specs.Fcp.{command_bytes, HasFollowed, local_id, number_of, frame_head, frame_packet, next_frame, after_frame};
+ghost use Rattle.fw_node.specs.Fcp.{command_bytes, IsSendable, HasFollowed, local_id, number_of, frame_head, frame_packet, next_frame, after_frame};
 
 use crate::Node;
 use crate::offset::{FCP_COMMAND, FCP_RESPONSE};
@@ -18,7 +19,7 @@ use fw_async::{Head, Packet};
 use fw_avc::Unit;
 use fw_csr::Request;
 use fw_fcp::{Frame, GENERAL_INQUIRY, read_frame, write_frame};
-use fw_tape::Desk;
+use fw_tape::{Desk, Tape};
 use fw_words::{Bytes512, Data, Quadlet, put_quadlet, quadlet_at};
 
 /// The transaction label of FCP responses and notices (own).
@@ -39,6 +40,17 @@ impl Node {
     {
         match &mut self.unit {
             Some(unit) => Some(unit),
+            None => None,
+        }
+    }
+
+    /// The tape subunit of its unit, to be read. None exactly where the node is a relay or a computer.
+    pub fn tape_subunit(&self) -> Option<&Tape>
+        ensures tape { option_map (λ t. t.now) result ≡ option_map (λ (u : UnitState). u.tape) self.now.unit }
+        ensures variant { is_some result ≡ has_unit self.now.kind }
+    {
+        match &self.unit {
+            Some(unit) => Some(unit.tape_subunit()),
             None => None,
         }
     }
@@ -88,6 +100,7 @@ impl Node {
         };
         if frame.code <= GENERAL_INQUIRY {
             let response = unit.answer(from, &frame, desk);
+            is_sendable(&response);
             self.waiting = Some((from, response));
         }
     }
@@ -153,6 +166,15 @@ fn are_bytes(bytes: &[u8])
     ensures { AreBytes bytes.now }
 {
     let _ = bytes;
+}
+
+/// What the type of a frame says of its operands.
+fn is_sendable(frame: &Frame)
+    requires { Fits frame.now }
+    ensures { IsSendable frame.now }
+{
+    let _opcode = frame.opcode;
+    are_bytes(frame.operands.as_slice());
 }
 
 /// The node ID on the local bus of a node's number, of which six bits count.

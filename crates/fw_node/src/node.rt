@@ -1,4 +1,4 @@
-ghost use Rattle.std.specs.Prelude.{◌≡◌, ◌≤◌, ℕ, Some, None, IsSome, IsTrue, IfSome, is_some};
+ghost use Rattle.std.specs.Prelude.{◌≡◌, ◌≤◌, ◌<◌, ℕ, Some, None, IsSome, IsTrue, IfSome, is_some};
 ghost use Rattle.std.specs.Option.{option_map};
 ghost use Rattle.fw_async.specs.Async.{Fits};
 ghost use Rattle.fw_base.specs.Devices.{code_of, has_link, has_unit};
@@ -8,6 +8,7 @@ ghost use Rattle.fw_tape.specs.Desks.{AnyVendorByte};
 ghost use Rattle.fw_node.specs.Packets.{request_in, requester, response_of};
 ghost use Rattle.fw_node.specs.Fcp.{HasFollowed};
 ghost use Rattle.fw_node.specs.Space.{answer_of, register_at, core_register_at};
+ghost use Rattle.fw_node.specs.Streams.{talking_on};
 ghost use Rattle.fw_node.specs.State.{first_state, first_unit, after_reset, after_second, after_request, space_of};
 
 use crate::offset::*;
@@ -118,6 +119,18 @@ impl Node {
         ensures { result.now ≡ self.now.plugs }
     {
         &self.plugs
+    }
+
+    /// The channel on which the node's output plug talks: None exactly where it does not talk, or the node has none. A device has
+    /// one output plug at most (own).
+    pub fn talking_on(&self) -> Option<u8>
+        ensures value { result ≡ talking_on self.now }
+        ensures range { IfSome result (λ channel. channel < 64) }
+    {
+        if self.kind.output_plugs() == 0 || !self.plugs.talks(0) {
+            return None;
+        }
+        Some(self.plugs.out_word(0).channel())
     }
 
     /// The manager's registers that `answer` reads and swaps. None exactly where the latest `reset` did not name this node

@@ -3,7 +3,7 @@ use Rattle.std.proofs.Common.{◌≡◌, ◌⊎◌, inl, inr, ℕ, ◌≤◌, co
 use Rattle.std.specs.Prelude.{⊤}
 use Rattle.fw_async.specs.declared.packet.Packet.{Packet}
 use Rattle.fw_entry.specs.declared.entry.Entry.{Entry}
-use Rattle.fw_entry.specs.declared.entry.Entry.TheVariants.{Async}
+use Rattle.fw_entry.specs.declared.entry.Entry.TheVariants.{Async, Iso}
 use Rattle.fw_entry.specs.declared.entry.Timed.{Timed}
 use Rattle.fw_tree.specs.Topology.{Topology}
 use Rattle.fw_ledger.specs.Account.{Account}
@@ -11,16 +11,19 @@ use Rattle.fw_ledger.specs.Events.{after_second as account_second}
 use Rattle.fw_ledger.specs.Fold.{account_from, next_account, entries_of}
 use Rattle.fw_run.specs.declared.order.Transaction.{Transaction}
 use Rattle.fw_run.specs.Giving.{at_most, at_cycle}
-use Rattle.fw_run.specs.Entries.{second_over, died, started, unsettled}
+use Rattle.fw_run.specs.Entries.{second_over, died, started, inserted, ejected, unsettled}
 use Rattle.fw_entry.specs.declared.entry.Entry.TheVariants.{End as EndEntry}
 use Rattle.fw_run.specs.State.{State, Declared, is_on, with_device}
+use Rattle.fw_run.specs.Frames.{command_write, response_write}
 use Rattle.fw_run.specs.Spaces.{answer_packet, target_node, transaction_head, access_request}
-use Rattle.fw_run.specs.Actions.{Action, AddDevice, AddCable, ResetBus, StartConnection, StartBreak, HalfStep, Rest, Unsettled, Pass, EndSecond, Die, CarryOut, Start, Ask, Answer, ShowWord, Finish, Answers, Declares, Joins, with_topology, Step, Steps}
+use Rattle.fw_run.specs.Streams.{bytes_of, cycle_start, stream_packet}
+use Rattle.fw_run.specs.Actions.{Action, AddDevice, AddCable, ResetBus, StartConnection, StartBreak, HalfStep, Rest, Unsettled, Pass, EndSecond, Die, CarryOut, Start, Ask, Answer, ShowWord, SendCommand, SendFrame, Receive, InsertTape, EjectTape, StartCycle, SendPacket, Finish, Answers, Declares, Joins, with_topology, Step, Steps}
 use Rattle.fw_run.specs.Good.{IsGood}
 use Rattle.fw_run.specs.Headline.{IsAnswered, IsReadIn}
 use Rattle.fw_run.proofs.Leads.{NextIs, entered_next}
-use Rattle.fw_run.proofs.Led.{Led, Says, IsAsked, led_says, led_silent, half_led, reset_led}
+use Rattle.fw_run.proofs.Led.{Led, Says, IsAsked, unread, led_says, led_silent, half_led, reset_led}
 use Rattle.fw_run.proofs.Steps.{step_good}
+use Rattle.fw_run.proofs.FrameWrites.{write_led, received_led}
 use Rattle.fw_run.proofs.Transactions.{ask_led, answer_led, show_led, read_pair}
 
 -- ---- devices and cables
@@ -67,6 +70,13 @@ step_led s t (Start d) out g x = event s _ (started d) out t x.1.2 x.1.3 refl (t
 step_led s t (Ask y) out g x = ask_led s y out t x.1.1 x.1.3 x.1.4
 step_led s t Answer out g x = answer_led s out t x
 step_led s t (ShowWord d offset) out g x = show_led s d offset out t g x.1.0 x.1.3 x.1.4
+step_led s t (SendCommand a b bytes) out g x = write_led s (command_write a b bytes) _ out t x.1.3 x.1.4 refl refl
+step_led s t (SendFrame d) out g x = let y = x.1 in write_led s (response_write d y.to y.told.1) _ out t y.out_is y.state_is refl refl
+step_led s t (Receive o) out g x = received_led s o out t x.1
+step_led s t (InsertTape d tape system) out g x = event s _ (inserted d tape system) out t x.1.3 x.1.4 refl (tt, λ u. tt) (omega arith)
+step_led s t (EjectTape d) out g x = event s _ (ejected d) out t x.1.3 x.1.4 refl (tt, λ u. tt) (omega arith)
+step_led s t StartCycle out g x = event s _ (Async (cycle_start x.1.1.0.root s.clock.cycle)) out t x.1.1.2 x.1.2 refl (tt, unread s.account (cycle_start x.1.1.0.root s.clock.cycle) (λ q. tt)) (omega arith)
+step_led s t (SendPacket p block) out g x = event s _ (Iso (stream_packet s p (bytes_of block))) out t x.1.2 x.1.3 refl (tt, λ u. tt) (omega arith)
 step_led s t Finish out g x = event s _ EndEntry out t x.1.0 x.1.1 refl (tt, λ u. tt) (omega arith)
 
 -- ---- what follows an entry
@@ -96,6 +106,13 @@ only_answer t x (CarryOut d) out v waits f = absurd (clash t.transaction x waits
 only_answer t x (Start d) out v waits f = absurd (clash t.transaction x waits f.0)
 only_answer t x (Ask y) out v waits f = absurd (clash t.transaction x waits f.0)
 only_answer t x (ShowWord d offset) out v waits f = absurd (clash t.transaction x waits f.0)
+only_answer t x (SendCommand a b bytes) out v waits f = absurd (clash t.transaction x waits f.0)
+only_answer t x (SendFrame d) out v waits f = absurd (clash t.transaction x waits f.0)
+only_answer t x (Receive o) out v waits f = absurd (clash t.transaction x waits f.0)
+only_answer t x (InsertTape d tape system) out v waits f = absurd (clash t.transaction x waits f.0)
+only_answer t x (EjectTape d) out v waits f = absurd (clash t.transaction x waits f.0)
+only_answer t x StartCycle out v waits f = absurd (clash t.transaction x waits f.0)
+only_answer t x (SendPacket p block) out v waits f = absurd (clash t.transaction x waits f.0)
 only_answer t x Finish out v waits f = absurd (clash t.transaction x waits f.0)
 
 -- the packet that answers a transaction

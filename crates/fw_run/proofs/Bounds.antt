@@ -80,7 +80,7 @@ below_of (r ∷ rs) d bound f any = go (eqb d r.device) refl (below_of rs d boun
     go true t later h = let low = f 0 r refl in let same : d ≡ r.device = grind (arith, nat_tests) in omega (arith, low, same)
     go false t later h = later h
 
-few_rows : (s : State) (e : ResetEntry) → IsGood s → Shows s.declared.topology s.declared.kinds e → length e.nodes ≤ 63
+pub few_rows : (s : State) (e : ResetEntry) → IsGood s → Shows s.declared.topology s.declared.kinds e → length e.nodes ≤ 63
 few_rows s e g h =
     let few = (sound_made s.declared.topology g.declared.made).few in
     let most = length-le_from_distinct_below (devices e.nodes) 63 (distinct e.nodes (λ n row at. found_of e.nodes row.device n (h.rows n row at).1))

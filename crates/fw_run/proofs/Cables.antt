@@ -74,6 +74,9 @@ cabled_good s u a b g j off_a off_b = record {
   unused = g.unused;
   time = record { second = g.time.second; over_at = g.time.over_at; cycle = g.time.cycle };
   half_steps = g.half_steps;
+  written = g.written;
+  decks = g.decks;
+  streams = g.streams;
 }
   where
     latest_ : (o : Option ResetEntry) → IsLatest o s → IsLatest o (with_topology s u)
@@ -84,6 +87,7 @@ cabled_good s u a b g j off_a off_b = record {
           (bus_stays s.declared.topology u a b j g.declared.made (λ on. off_a ((on_is_bus s g h.0 a.device).1 on)) (λ on. off_b ((on_is_bus s g h.0 b.device).1 on))) h.1,
       h.2,
       h.3,
+      h.4,
     )
 
 pub cable_good : (s : State) (u : Topology) (a b : End) (out : List Timed) (t : State) → IsGood s → IsJoined s.declared.topology u a b → Joins (is_on s a.device) (is_on s b.device) a.device b.device (with_topology s u) out t → IsGood t

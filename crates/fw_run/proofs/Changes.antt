@@ -19,10 +19,9 @@ use Rattle.fw_reclaim.specs.Worlds.{World, Change, Turn, Answer as Answered, Bus
 use Rattle.fw_reclaim.specs.Worlds as Worlds
 use Rattle.fw_reclaim.specs.Whole as Whole
 use Rattle.fw_run.specs.declared.order.Wanted.{Wanted}
-use Rattle.fw_run.specs.State.{State, Declared, list_to, linked_number, manager_in, entered, is_on, is_linked, is_living, directory_of, with_device}
-use Rattle.fw_run.specs.Entries.{second_over}
-use Rattle.fw_run.specs.HalfSteps.{HalfStep as Half, asks, taken, half, half_of, after_half, with_controller}
-use Rattle.fw_run.specs.Actions.{Action, AddDevice, AddCable, ResetBus, StartConnection, StartBreak, HalfStep, Rest, Unsettled, Pass, EndSecond, Die, CarryOut, Start, Ask, Answer, ShowWord, Finish, Resets, Declares, Joins, with_topology, slot_of, start_of, with_connection, after_cycles, after_second, after_death, after_start, counted, Step, Steps}
+use Rattle.fw_run.specs.State.{State, Declared, list_to, linked_number, manager_in, is_on, is_linked, is_living, directory_of, with_device}
+use Rattle.fw_run.specs.HalfSteps.{asks, taken, half_of, after_half, with_controller}
+use Rattle.fw_run.specs.Actions.{Action, AddDevice, AddCable, ResetBus, StartConnection, StartBreak, HalfStep, Rest, Unsettled, Pass, EndSecond, Die, CarryOut, Start, Ask, Answer, ShowWord, SendCommand, SendFrame, Receive, InsertTape, EjectTape, StartCycle, SendPacket, Finish, Resets, Declares, Joins, with_topology, slot_of, start_of, with_connection, after_cycles, after_second, after_death, after_start, counted, Step, Steps}
 use Rattle.fw_run.specs.Good.{IsGood, world_of}
 use Rattle.fw_run.specs.Reclaiming.{IsHarmless, AreHarmless}
 use Rattle.fw_run.proofs.Buses.{linked_small, shows_bus}
@@ -197,6 +196,13 @@ step_change s (Start d) out t g x = moved s _ t (Start d) x.1.3 (start_again s d
 step_change s (Ask y) out t g x = elsewhere s (Ask y) t (ap world_of x.1.4)
 step_change s Answer out t g x = elsewhere s Answer t (ap world_of x.state_is)
 step_change s (ShowWord d offset) out t g x = elsewhere s (ShowWord d offset) t (ap world_of x.1.4)
+step_change s (SendCommand a b bytes) out t g x = elsewhere s (SendCommand a b bytes) t (ap world_of x.1.4)
+step_change s (SendFrame d) out t g x = elsewhere s (SendFrame d) t (ap world_of x.1.state_is)
+step_change s (Receive o) out t g x = elsewhere s (Receive o) t (ap world_of x.1.state_is)
+step_change s (InsertTape d tape system) out t g x = elsewhere s (InsertTape d tape system) t (ap world_of x.1.4)
+step_change s (EjectTape d) out t g x = elsewhere s (EjectTape d) t (ap world_of x.1.4)
+step_change s StartCycle out t g x = elsewhere s StartCycle t (ap world_of x.1.2)
+step_change s (SendPacket p block) out t g x = elsewhere s (SendPacket p block) t (ap world_of x.1.3)
 step_change s Finish out t g x = elsewhere s Finish t (ap world_of x.1.1)
 
 -- ---- actions

@@ -44,6 +44,9 @@ more_good s name kind ports speed m some = record {
   unused = m.good.unused;
   time = record { second = m.good.time.second; over_at = m.good.time.over_at; cycle = m.good.time.cycle };
   half_steps = m.good.half_steps;
+  written = m.good.written;
+  decks = m.good.decks;
+  streams = m.good.streams;
 }
   where
     longer : 0 < length (s.declared.names ++ name ∷ [])
@@ -56,6 +59,7 @@ more_good s name kind ports speed m some = record {
       shows_more s.declared.topology s.declared.kinds e (facts_of kind ports speed) kind m.good.declared.made m.good.declared.kinds.size (subst (λ k. 0 < k) m.good.declared.named some) h.1,
       h.2,
       still_contends s kind e m.good.declared.kinds.size h.1 h.3,
+      h.4,
     )
 
 -- the first one begins a bus reset

@@ -1,9 +1,9 @@
 -- Only the end of the script writes the end of the log.
-use Rattle.std.proofs.Common.{◌≡◌, ◌≢◌, ◌⊎◌, inl, inr, ℕ, zero, suc, ◌+◌, List, [], ◌∷◌, ◌++◌, Bool, true, false, Option, Some, None, option_map, refl, sym, subst, IsFalse}
+use Rattle.std.proofs.Common.{◌≡◌, ◌≢◌, ◌⊎◌, inl, inr, ℕ, zero, suc, ◌+◌, List, [], ◌∷◌, ◌++◌, ◌==◌, ◌&&◌, cond, Bool, true, false, Option, Some, None, option_map, refl, sym, subst, IsFalse}
 use Rattle.std.specs.Prelude.{⊤}
 use Rattle.fw_async.specs.declared.packet.Packet.{Packet}
 use Rattle.fw_entry.specs.declared.entry.Entry.{Entry}
-use Rattle.fw_entry.specs.declared.entry.Entry.TheVariants.{Reset, Async}
+use Rattle.fw_entry.specs.declared.entry.Entry.TheVariants.{Reset, Async, Iso}
 use Rattle.fw_entry.specs.declared.entry.Timed.{Timed}
 use Rattle.fw_entry.specs.Log.{is_end}
 use Rattle.fw_cmp.specs.declared.current.Current.{Current}
@@ -19,12 +19,16 @@ use Rattle.fw_script.specs.declared.command.Command.TheVariants as Commands
 use Rattle.fw_run.specs.declared.order.Order.{Order}
 use Rattle.fw_run.specs.declared.order.Order.TheVariants as order
 use Rattle.fw_run.specs.Giving.{at_most}
-use Rattle.fw_run.specs.Entries.{second_over, died, started, unsettled, shown_entry}
+use Rattle.fw_run.specs.Entries.{second_over, died, started, inserted, ejected, unsettled, shown_entry}
 use Rattle.fw_run.specs.State.{State, is_on, living, with_device, directory_of}
+use Rattle.fw_run.specs.Frames.{command_write, response_write, frame_packet}
 use Rattle.fw_run.specs.Spaces.{transaction_head, access_request, answer_packet, read_at}
 use Rattle.fw_run.specs.HalfSteps.{head_from, said, hears, hears_from, half, half_of}
-use Rattle.fw_run.specs.Actions.{Action, AddDevice, AddCable, ResetBus, StartConnection, StartBreak, HalfStep, Rest, Unsettled, Pass, EndSecond, Die, CarryOut, Start, Ask, Answer, ShowWord, Finish, Declares, Joins, with_topology, Step, Steps}
-use Rattle.fw_run.specs.Carrying.{times, half_steps_of, Rounds, none, round, rest, Carries, declares, joins, resets, connects, breaks, steps, settled, unsettled as not_settled, waits, waits_over, dies, dies_late, dies_idle, starts, goes_on, transacts, shows, ends}
+use Rattle.fw_base.specs.declared.plug.PlugAt.{PlugAt}
+use Rattle.fw_entry.specs.declared.entry.ResetEntry.{ResetEntry}
+use Rattle.fw_run.specs.Streams.{bytes_of, cycle_start, stream_packet, talkers}
+use Rattle.fw_run.specs.Actions.{Action, AddDevice, AddCable, ResetBus, StartConnection, StartBreak, HalfStep, Rest, Unsettled, Pass, EndSecond, Die, CarryOut, Start, Ask, Answer, ShowWord, SendCommand, SendFrame, Receive, InsertTape, EjectTape, StartCycle, SendPacket, Finish, Declares, Joins, with_topology, Step, Steps}
+use Rattle.fw_run.specs.Carrying.{times, half_steps_of, Rounds, none, round, rest, Carries, declares, joins, resets, connects, breaks, steps, settled, unsettled as not_settled, waits, waits_over, writes_cycles, next_cycle, SendsPackets, HasCycle, HasCycles, dies, dies_late, dies_idle, starts, goes_on, transacts, shows, commanded, inserts, ejects, ejects_nothing, SendsAll, quiet, sends, ends}
 use Rattle.fw_run.specs.Rules.{IsOrder}
 use Rattle.fw_run.specs.Runs.{Run, begun, and_then}
 use Rattle.fw_run.specs.Logs.{HasNoEnd}
@@ -117,6 +121,13 @@ step_unended s t (Start d) out nf x = most_unended s.clock.cycle (Some (started 
 step_unended s t (Ask y) out nf x = most_unended s.clock.cycle (Some (Async (packet_of (transaction_head s y) (access_request y.access)))) out refl x.1.3
 step_unended s t Answer out nf x = most_unended s.clock.cycle (Some (Async x.response)) out refl x.out_is
 step_unended s t (ShowWord d offset) out nf x = most_unended s.clock.cycle (Some (shown_entry d offset (read_at s d offset).value)) out refl x.1.3
+step_unended s t (SendCommand a b bytes) out nf x = most_unended s.clock.cycle (Some (Async (frame_packet s (command_write a b bytes)))) out refl x.1.3
+step_unended s t (SendFrame d) out nf x = let y = x.1 in most_unended s.clock.cycle (Some (Async (frame_packet s (response_write d y.to y.told.1)))) out refl y.out_is
+step_unended s t (Receive o) out nf x = let y = x.1 in most_unended s.clock.cycle (Some (Async y.response)) out refl y.out_is
+step_unended s t (InsertTape d tape system) out nf x = most_unended s.clock.cycle (Some (inserted d tape system)) out refl x.1.3
+step_unended s t (EjectTape d) out nf x = most_unended s.clock.cycle (Some (ejected d)) out refl x.1.3
+step_unended s t StartCycle out nf x = most_unended s.clock.cycle (Some (Async (cycle_start x.1.1.0.root s.clock.cycle))) out refl x.1.1.2
+step_unended s t (SendPacket p block) out nf x = most_unended s.clock.cycle (Some (Iso (stream_packet s p (bytes_of block)))) out refl x.1.2
 step_unended s t Finish out nf x = absurd nf
 
 pub steps_unended : (s t : State) (actions : List Action) (out : List Timed) → HasNoFinish actions → Steps s actions out t → IsUnended out
@@ -147,6 +158,30 @@ no_finish_rounds n s xs out t none = tt
 no_finish_rounds n s xs out t (round {n = k} m more first last f g) = no_finish_append (half_steps_of (living s)) more (no_finish_halves (living s)) (no_finish_rounds k m more last t g)
 no_finish_rounds n s xs out t (rest f) = (tt, tt)
 
+no_finish_all : (d : ℕ) (s : State) (xs : List Action) (out : List Timed) (t : State) → SendsAll d s xs out t → HasNoFinish xs
+no_finish_all d s xs out t (quiet e) = tt
+no_finish_all d s xs out t (sends m more first last f g) = (tt, (tt, no_finish_all d m more last t g))
+
+no_finish_next : (s : State) → IsNoFinish (next_cycle s)
+no_finish_next s = go (s.account.reclaiming && (s.clock.cycle + 1 == s.clock.over_at))
+  where
+    go : (b : Bool) → IsNoFinish (cond b EndSecond (Pass 1))
+    go true = tt
+    go false = tt
+
+no_finish_packets : (plugs : List PlugAt) (s : State) (xs : List Action) (out : List Timed) (t : State) → SendsPackets plugs s xs out t → HasNoFinish xs
+no_finish_packets [] s xs out t f = subst HasNoFinish (sym f.0) tt
+no_finish_packets (p ∷ plugs) s xs out t f = subst HasNoFinish (sym f.7) (tt, no_finish_packets plugs f.1 f.2 f.4 t f.6)
+
+no_finish_cycle : (o : Option ResetEntry) (s : State) (xs : List Action) (out : List Timed) (t : State) → HasCycle o s xs out t → HasNoFinish xs
+no_finish_cycle None s xs out t f = subst HasNoFinish (sym f.1) (no_finish_next s, tt)
+no_finish_cycle (Some e) s xs out t f = subst HasNoFinish (sym f.actions_are) (no_finish_next s, (tt, no_finish_packets (talkers f.mid.account) f.mid f.packets f.last t f.sends))
+
+no_finish_cycles : (n : ℕ) (s : State) (xs : List Action) (out : List Timed) (t : State) → HasCycles n s xs out t → HasNoFinish xs
+unfolding HasCycles
+no_finish_cycles zero s xs out t f = subst HasNoFinish (sym f.0) tt
+no_finish_cycles (suc n) s xs out t f = subst HasNoFinish (sym f.7) (no_finish_append f.1 f.2 (no_finish_cycle s.account.latest s f.1 f.3 f.0 f.5) (no_finish_cycles n f.0 f.2 f.4 t f.6))
+
 pub no_finish : (s : State) (o : Order) (xs : List Action) (out : List Timed) (t : State) → IsNoEnd o → Carries s o xs out t → HasNoFinish xs
 no_finish s o xs out t on (declares f) = (tt, tt)
 no_finish s o xs out t on (joins f) = (tt, tt)
@@ -158,6 +193,7 @@ no_finish s o xs out t on (settled {n = k} f e) = no_finish_rounds k s xs out t 
 no_finish s o xs out t on (not_settled {n = k} m more first last f g) = no_finish_append more (Unsettled ∷ []) (no_finish_rounds k s more first m f) (tt, tt)
 no_finish s o xs out t on (waits f) = (tt, tt)
 no_finish s o xs out t on (waits_over e f) = (tt, (tt, (tt, tt)))
+no_finish s o xs out t on (writes_cycles {n = n} f) = no_finish_cycles n s xs out t f
 no_finish s o xs out t on (dies f) = (tt, tt)
 no_finish s o xs out t on (dies_late f) = (tt, (tt, tt))
 no_finish s o xs out t on (dies_idle e f) = (tt, tt)
@@ -165,11 +201,18 @@ no_finish s o xs out t on (starts f) = (tt, tt)
 no_finish s o xs out t on (goes_on e) = tt
 no_finish s o xs out t on (transacts f) = (tt, (tt, tt))
 no_finish s o xs out t on (shows f) = (tt, tt)
+no_finish s o xs out t on (commanded {b = b} x m more first last f g) = (tt, (tt, no_finish_all b m more last t g))
+no_finish s o xs out t on (inserts {d = d} m more first last f g) = (tt, no_finish_all d m more last t g)
+no_finish s o xs out t on (ejects {d = d} m more first last f g) = (tt, no_finish_all d m more last t g)
+no_finish s o xs out t on (ejects_nothing e) = tt
 no_finish s o xs out t on (ends f) = absurd on
 
 -- the order is the end, or it is not
 pub end_or_none : (o : Order) → IsNoEnd o ⊎ (o ≡ order.End)
 end_or_none order.End = inr refl
+end_or_none (order.Command a b bytes) = inl tt
+end_or_none (order.Insert d tape system) = inl tt
+end_or_none (order.Eject d) = inl tt
 end_or_none (order.Declare name kind ports speed) = inl tt
 end_or_none (order.Cable a b) = inl tt
 end_or_none (order.Reset d) = inl tt
@@ -178,6 +221,7 @@ end_or_none (order.Break d i) = inl tt
 end_or_none (order.Step d count) = inl tt
 end_or_none (order.Settle n) = inl tt
 end_or_none (order.Wait n) = inl tt
+end_or_none (order.Cycles n) = inl tt
 end_or_none (order.Die d late) = inl tt
 end_or_none (order.Start d) = inl tt
 end_or_none (order.Transact x) = inl tt
@@ -199,14 +243,14 @@ order_no_end s (Commands.Break name slot) o ne f = is_no_end o _ f.2 tt
 order_no_end s (Commands.Step name count) o ne f = is_no_end o _ f.2 tt
 order_no_end s (Commands.Settle rounds) o ne f = is_no_end o _ f tt
 order_no_end s (Commands.Wait cycles) o ne f = is_no_end o _ f tt
-order_no_end s (Commands.Cycles count) o ne f = absurd f.2
+order_no_end s (Commands.Cycles count) o ne f = is_no_end o _ f tt
 order_no_end s (Commands.Die name late) o ne f = is_no_end o _ f.2 tt
 order_no_end s (Commands.Start name) o ne f = is_no_end o _ f.2 tt
-order_no_end s (Commands.Command name other frame) o ne f = absurd f.2
+order_no_end s (Commands.Command name other frame) o ne f = is_no_end o _ f.4 tt
 order_no_end s (Commands.Read name other offset) o ne f = is_no_end o _ f.4 tt
 order_no_end s (Commands.Swap name other offset argument new) o ne f = is_no_end o _ f.4 tt
-order_no_end s (Commands.Insert name tape system) o ne f = absurd f.2
-order_no_end s (Commands.Eject name) o ne f = absurd f.2
+order_no_end s (Commands.Insert name tape system) o ne f = is_no_end o _ f.2 tt
+order_no_end s (Commands.Eject name) o ne f = is_no_end o _ f.2 tt
 order_no_end s (Commands.Show name offset) o ne f = is_no_end o _ f.2 tt
 order_no_end s Commands.End o ne f = absurd (ne refl)
 

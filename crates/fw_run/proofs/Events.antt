@@ -19,6 +19,7 @@ use Rattle.fw_run.specs.HalfSteps.{with_controller}
 use Rattle.fw_run.specs.Actions.{slot_of, start_of, with_connection, after_death}
 use Rattle.fw_run.specs.Good.{IsGood, IsLatest, world_of}
 use Rattle.fw_run.proofs.Buses.{linked_small}
+use Rattle.fw_run.proofs.Counts.{silent}
 use Rattle.fw_run.proofs.Turns.{becomes, each_of, living_linked, update_new, update_others}
 
 -- ---- devices
@@ -47,6 +48,9 @@ changed_good s d c g lives stands reclaims = record {
   unused = λ k off. unused k off (cases_eq k d);
   time = record { second = g.time.second; over_at = g.time.over_at; cycle = g.time.cycle };
   half_steps = g.half_steps;
+  written = g.written;
+  decks = g.decks;
+  streams = g.streams;
 }
   where
     latest_ : (o : Option ResetEntry) → IsLatest o s → IsLatest o (with_controller s d c)
@@ -100,6 +104,9 @@ death_good s d g lives = record {
   unused = λ k off. unused k off (cases_eq k d);
   time = record { second = g.time.second; over_at = g.time.over_at; cycle = g.time.cycle };
   half_steps = g.half_steps;
+  written = g.written;
+  decks = g.decks;
+  streams = silent (after_death s d).account s.streams;
 }
   where
     begun : (o : Option ResetEntry) → linked_number o d ≡ None → IsTrue (is_some (linked_number o d)) → ⊥

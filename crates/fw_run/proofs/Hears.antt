@@ -39,11 +39,12 @@ use Rattle.fw_reclaim.proofs.Together.{goes_on_reclaiming}
 use Rattle.fw_rounds.specs.HalfSteps.{AsksWhatStands}
 use Rattle.fw_node.specs.Packets.{packet_of}
 use Rattle.fw_run.specs.Spaces.{reply_from}
-use Rattle.fw_run.specs.State.{State, list_to, entered_by, linked_number, manager_in, directory_of, is_living}
+use Rattle.fw_run.specs.State.{State, while_talking, list_to, linked_number, manager_in, directory_of, is_living}
 use Rattle.fw_run.specs.HalfSteps.{half_of, half, hears, hears_from, taken, after_half}
-use Rattle.fw_run.specs.Good.{IsGood, IsLatest, world_of}
+use Rattle.fw_run.specs.Good.{IsGood, IsLatest, IsDeck, world_of}
 use Rattle.fw_run.proofs.Answers.{nodes_answer}
 use Rattle.fw_run.proofs.Buses.{linked_at, linked_small}
+use Rattle.fw_run.proofs.Counts.{silent}
 use Rattle.fw_run.proofs.Directories.{told}
 use Rattle.fw_run.proofs.Turns.{becomes, each_of, living_linked, update_others}
 
@@ -87,7 +88,11 @@ carried_bus d j s r l = go (succeeds (swap_of j s) r) (move_of j s)
 -- ---- the state after it
 
 abbrev answered : State → ℕ → Job → Stage → Reply → State
-answered s d j stage r = record s { account = ended d (carried_out d j stage r s.account); controllers = update s.controllers d (after_hear (s.controllers d) r) }
+answered s d j stage r = record s {
+  account = ended d (carried_out d j stage r s.account);
+  controllers = update s.controllers d (after_hear (s.controllers d) r);
+  streams = while_talking (ended d (carried_out d j stage r s.account)) s.streams;
+}
 
 -- a request that stands: its register, and the node that it went to
 pub record Asked (s : State) (d : ℕ) (j : Job) (stage : Stage) (t : Target) (to : ℕ) (r : Reply) : Type 0 where
@@ -115,6 +120,9 @@ answered_good s d n to e j stage t r g lives is h number x = record {
   unused = λ k off. unused k (sym (ap (λ o. is_some (linked_number o k) && not (s.dead k)) latest) ∙ off) (cases_eq k d);
   time = record { second = λ runs. g.time.second (sym (carried_bus d j stage r s.account).1 ∙ runs); over_at = g.time.over_at; cycle = g.time.cycle };
   half_steps = g.half_steps;
+  written = g.written;
+  decks = λ k. subst (λ o. IsDeck o s.clock.cycle k (s.decks k)) (sym latest) (g.decks k);
+  streams = silent u.account s.streams;
 }
   where
     u : State
@@ -130,7 +138,7 @@ answered_good s d n to e j stage t r g lives is h number x = record {
 -- ---- the half step
 
 abbrev pub with_answer : State → ℕ → Reply → Account → State
-with_answer s d r l = record s { account = l; controllers = update s.controllers d (after_hear (s.controllers d) r) }
+with_answer s d r l = record s { account = l; controllers = update s.controllers d (after_hear (s.controllers d) r); streams = while_talking l s.streams }
 
 -- a request that stands, whose controller's device and addressee are nodes
 pub record Heard (s : State) (d : ℕ) (j : Job) (stage : Stage) : Type 0 where

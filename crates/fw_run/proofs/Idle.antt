@@ -12,11 +12,12 @@ use Rattle.fw_cmp.specs.Controllers.{IsHeard}
 use Rattle.fw_cmp.specs.Turns.{next, is_busy}
 use Rattle.fw_cmp.proofs.Resting.{idle_stays}
 use Rattle.fw_run.specs.Giving.{at_most}
-use Rattle.fw_run.specs.State.{State, numbers_to, is_living, living, directory_of}
+use Rattle.fw_run.specs.State.{State, while_talking, numbers_to, is_living, living, directory_of}
 use Rattle.fw_run.specs.HalfSteps.{HalfStep as Half, said, asks, half, half_of, taken, after_half, has_request, is_busy_at, is_unsettled}
 use Rattle.fw_run.specs.Actions.{Action, HalfStep, Rest, Step, Steps, counted}
 use Rattle.fw_run.specs.Carrying.{half_steps_of, Rounds, none, round, rest}
 use Rattle.fw_run.specs.Good.{IsGood}
+use Rattle.fw_run.proofs.Counts.{same_counts}
 use Rattle.fw_run.proofs.Others.{same_table}
 use Rattle.fw_run.proofs.Steps.{step_good, steps_good}
 
@@ -58,7 +59,10 @@ half_idle s d g idle = go (s.controllers d).current refl
     go (Hearing j stage) e = absurd (let clash : true ≡ false = sym (ap has_request e) ∙ parts.0 in cc clash)
 
 pub half_stays : (s : State) (d : ℕ) → IsGood s → is_busy_at s d ≡ false → after_half s d ≡ s
-half_stays s d g idle = ap (taken s d) (half_idle s d g idle) ∙ ap (λ f. record s { controllers = f }) (same_table s.controllers d (s.controllers d) refl)
+half_stays s d g idle =
+    ap (taken s d) (half_idle s d g idle)
+    ∙ (ap (λ f. record s { controllers = f; streams = while_talking s.account s.streams }) (same_table s.controllers d (s.controllers d) refl)
+    ∙ ap (λ c. record s { streams = c }) (same_counts s.account s.streams g.streams))
 
 -- ---- the living controllers
 

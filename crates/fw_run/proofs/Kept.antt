@@ -21,7 +21,7 @@ use Rattle.fw_run.specs.declared.order.Transaction.{Transaction}
 use Rattle.fw_run.specs.State.{State, Declared, first_state, directory_of, is_on, is_linked, is_living, with_device}
 use Rattle.fw_run.specs.Spaces.{access_request, target_node, is_manager, bus_manager_id_after}
 use Rattle.fw_run.specs.HalfSteps.{HalfStep as Half, asks, half, half_of, after_half}
-use Rattle.fw_run.specs.Actions.{Action, AddDevice, AddCable, ResetBus, StartConnection, StartBreak, HalfStep, Rest, Unsettled, Pass, EndSecond, Die, CarryOut, Start, Ask, Answer, ShowWord, Finish, Resets, Declares, Joins, with_topology, after_reset_entry, slot_of, start_of, Step}
+use Rattle.fw_run.specs.Actions.{Action, AddDevice, AddCable, ResetBus, StartConnection, StartBreak, HalfStep, Rest, Unsettled, Pass, EndSecond, Die, CarryOut, Start, Ask, Answer, ShowWord, SendCommand, SendFrame, Receive, InsertTape, EjectTape, StartCycle, SendPacket, Finish, Resets, Declares, Joins, with_topology, after_reset_entry, slot_of, start_of, Step}
 use Rattle.fw_run.specs.Good.{IsGood}
 use Rattle.fw_run.specs.Numbers.{CurrentShows, HasNumbers}
 use Rattle.fw_run.proofs.Endings.{next_shows, hears_shows, reset_shows}
@@ -138,4 +138,11 @@ step_numbers s (Start d) out t g b x = subst HasNumbers (sym x.1.3) (numbers_of 
 step_numbers s (Ask y) out t g b x = subst HasNumbers (sym x.1.4) (record { shows = b.shows; bus_manager_id = b.bus_manager_id; asks = λ z waits. let same : y ≡ z = cc in subst (λ (w : Transaction). IsTrue (is_linked s w.to)) same x.1.1 })
 step_numbers s Answer out t g b x = subst HasNumbers (sym x.state_is) (record { shows = b.shows; bus_manager_id = id_below s x.transaction b; asks = λ z waits. absurd (cc waits) })
 step_numbers s (ShowWord d offset) out t g b x = subst HasNumbers (sym x.1.4) b
+step_numbers s (SendCommand a c bytes) out t g b x = same_numbers s _ t b x.0 refl refl refl x.1.4
+step_numbers s (SendFrame d) out t g b x = same_numbers s _ t b x.0 refl refl refl x.1.state_is
+step_numbers s (Receive o) out t g b x = same_numbers s _ t b x.0 refl refl refl x.1.state_is
+step_numbers s (InsertTape d tape system) out t g b x = same_numbers s _ t b x.0 refl refl refl x.1.4
+step_numbers s (EjectTape d) out t g b x = same_numbers s _ t b x.0 refl refl refl x.1.4
+step_numbers s StartCycle out t g b x = same_numbers s _ t b x.0 refl refl refl x.1.2
+step_numbers s (SendPacket p block) out t g b x = subst HasNumbers (sym x.1.3) b
 step_numbers s Finish out t g b x = same_numbers s _ t b x.0 refl refl refl x.1.1

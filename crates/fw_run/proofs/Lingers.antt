@@ -34,7 +34,7 @@ use Rattle.fw_run.specs.State.{State, directory_of, number_in, is_on, is_living}
 use Rattle.fw_run.specs.Spaces.{answer_packet}
 use Rattle.fw_run.specs.HalfSteps.{head_from, said, hears, hears_from, half, half_of, after_half}
 use Rattle.fw_run.specs.Actions.{Action, AddDevice, AddCable, ResetBus, StartConnection, StartBreak, HalfStep, Rest, Unsettled, Pass, EndSecond, Die}
-use Rattle.fw_run.specs.Actions.{CarryOut, Start, Ask, Answer, ShowWord, Finish, Step}
+use Rattle.fw_run.specs.Actions.{CarryOut, Start, Ask, Answer, ShowWord, SendCommand, SendFrame, Receive, InsertTape, EjectTape, StartCycle, SendPacket, Finish, Step}
 use Rattle.fw_run.specs.Good.{IsGood, IsLatest}
 use Rattle.fw_run.specs.Lingering.{LingerBy, LingerThrough}
 use Rattle.fw_run.proofs.Along.{step_led}
@@ -135,6 +135,13 @@ step_lingers s (Start d) out t g x = leads_to (SameLinger s.account) t _ x.1.3 (
 step_lingers s (Ask y) out t g x = leads_to (SameLinger s.account) t _ x.1.4 (λ p. refl)
 step_lingers s Answer out t g x = leads_to (SameLinger s.account) t _ x.state_is (λ p. refl)
 step_lingers s (ShowWord d offset) out t g x = leads_to (SameLinger s.account) t s x.1.4 (λ p. refl)
+step_lingers s (SendCommand a b bytes) out t g x = leads_to (SameLinger s.account) t _ x.1.4 (λ p. refl)
+step_lingers s (SendFrame d) out t g x = leads_to (SameLinger s.account) t _ x.1.state_is (λ p. refl)
+step_lingers s (Receive obeyed) out t g x = leads_to (SameLinger s.account) t _ x.1.state_is (λ p. refl)
+step_lingers s (InsertTape d tape system) out t g x = leads_to (SameLinger s.account) t _ x.1.4 (λ p. refl)
+step_lingers s (EjectTape d) out t g x = leads_to (SameLinger s.account) t _ x.1.4 (λ p. refl)
+step_lingers s StartCycle out t g x = leads_to (SameLinger s.account) t _ x.1.2 (λ p. refl)
+step_lingers s (SendPacket p block) out t g x = leads_to (SameLinger s.account) t s x.1.3 (λ p. refl)
 step_lingers s Finish out t g x = leads_to (SameLinger s.account) t _ x.1.1 (λ p. refl)
 
 -- ---- devices on the bus and off it

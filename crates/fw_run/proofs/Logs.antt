@@ -11,7 +11,7 @@ use Rattle.fw_run.specs.declared.order.Order.TheVariants as Orders
 use Rattle.fw_run.specs.Giving.{at_cycle, at_most, log_bytes}
 use Rattle.fw_run.specs.State.{State, first_state}
 use Rattle.fw_run.specs.Actions.{Action, Finish, Steps}
-use Rattle.fw_run.specs.Carrying.{Carries, declares, joins, resets, connects, breaks, steps, settled, unsettled as not_settled, waits, waits_over, dies, dies_late, dies_idle, starts, goes_on, transacts, shows, ends}
+use Rattle.fw_run.specs.Carrying.{Carries, writes_cycles, declares, joins, resets, connects, breaks, steps, settled, unsettled as not_settled, waits, waits_over, dies, dies_late, dies_idle, starts, goes_on, transacts, shows, commanded, inserts, ejects, ejects_nothing, ends}
 use Rattle.fw_run.specs.Runs.{Run}
 use Rattle.fw_run.specs.Logs.{HasNoEnd}
 use Rattle.fw_run.specs.Good.{IsGood}
@@ -97,16 +97,16 @@ has_end [] cycle = refl
 has_end (e ∷ []) cycle = refl
 has_end (e ∷ u ∷ us) cycle = has_end (u ∷ us) cycle
 
-finished : (s t : State) (o : Order) (out : List Timed) → o ≡ Orders.End → CarriedBy s o out t → out ≡ at_cycle s.clock.cycle End ∷ []
-finished s t o out is f =
-    let g : Steps s (Finish ∷ []) out t = subst (λ z. CarriedBy s z out t) is f in
+finished : (s t : State) (o : Order) (xs : List Action) (out : List Timed) → o ≡ Orders.End → CarriedBy s o xs out t → out ≡ at_cycle s.clock.cycle End ∷ []
+finished s t o xs out is f =
+    let g : Steps s (Finish ∷ []) out t = subst (λ z. CarriedBy s z xs out t) is f in
     g.4 ∙ (ap (λ z. z ++ g.1) g.3.1.0 ∙ ap (λ z. at_cycle s.clock.cycle End ∷ z) g.5.0)
 
 pub run_spells : (commands : List Command) (actions : List Action) (log : List Timed) (s : State) → Run (commands ++ Commands.End ∷ []) actions log s
     → HasNoEnd commands → LogSpells log (header_bytes ++ log_bytes log)
 run_spells commands actions log s r none =
     let w = last_of (commands ++ Commands.End ∷ []) commands Commands.End actions log s r refl in
-    let last = finished w.state s w.order w.out w.decided.0 (carried w.state w.order w.more w.out s w.carries) in
+    let last = finished w.state s w.order w.more w.out w.decided.0 (carried w.state w.order w.more w.out s w.carries) in
     let is : log ≡ w.front ++ at_cycle w.state.clock.cycle End ∷ [] = w.log_is ∙ ap (λ z. w.front ++ z) last in
     subst (λ z. LogSpells z (header_bytes ++ log_bytes z)) (sym is) (record {
       opens = opens_of actions w.front (at_cycle w.state.clock.cycle End ∷ []) s (subst (λ z. Steps first_state actions z s) is (run_steps (commands ++ Commands.End ∷ []) actions log s r)) (run_unended commands w.early w.front w.state w.run none) (omega arith);
@@ -150,6 +150,7 @@ end_actions s o xs out t (settled f e) is = absurd (cc is)
 end_actions s o xs out t (not_settled m more first last f g) is = absurd (cc is)
 end_actions s o xs out t (waits f) is = absurd (cc is)
 end_actions s o xs out t (waits_over e f) is = absurd (cc is)
+end_actions s o xs out t (writes_cycles f) is = absurd (cc is)
 end_actions s o xs out t (dies f) is = absurd (cc is)
 end_actions s o xs out t (dies_late f) is = absurd (cc is)
 end_actions s o xs out t (dies_idle e f) is = absurd (cc is)
@@ -157,6 +158,10 @@ end_actions s o xs out t (starts f) is = absurd (cc is)
 end_actions s o xs out t (goes_on e) is = absurd (cc is)
 end_actions s o xs out t (transacts f) is = absurd (cc is)
 end_actions s o xs out t (shows f) is = absurd (cc is)
+end_actions s o xs out t (commanded x m more first last f g) is = absurd (cc is)
+end_actions s o xs out t (inserts m more first last f g) is = absurd (cc is)
+end_actions s o xs out t (ejects m more first last f g) is = absurd (cc is)
+end_actions s o xs out t (ejects_nothing e) is = absurd (cc is)
 end_actions s o xs out t (ends f) is = refl
 
 -- entries of a front of an order's actions

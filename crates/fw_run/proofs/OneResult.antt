@@ -1,101 +1,23 @@
--- Each action, and each order, has one result.
-use Rattle.std.proofs.Common.{◌≡◌, ◌⊎◌, inl, inr, ℕ, zero, suc, ◌+◌, ◌<◌, List, [], ◌∷◌, ◌++◌, Bool, true, false, Some, None, refl, ap, sym, subst, ◌∙◌, arith, IsTrue, IsFalse}
-use Rattle.std.proofs.lemmas.Option.{same_Some}
-use Rattle.fw_async.specs.declared.packet.Packet.{Packet}
-use Rattle.fw_entry.specs.declared.entry.Entry.TheVariants.{Reset, Async}
-use Rattle.fw_entry.specs.declared.entry.ResetEntry.{ResetEntry}
+-- Each order has one result.
+use Rattle.std.proofs.Common.{◌≡◌, ◌⊎◌, inl, inr, ℕ, zero, suc, ◌+◌, List, [], ◌∷◌, ◌++◌, Bool, true, false, Option, Some, None, is_some, refl, ap, sym, subst, ◌∙◌, arith, IsTrue, IsFalse}
 use Rattle.fw_entry.specs.declared.entry.Timed.{Timed}
-use Rattle.fw_tree.specs.declared.facts.End.{End}
-use Rattle.fw_tree.specs.Topology.{Topology, Made, IsJoined}
-use Rattle.fw_tree.specs.Topology as Topologies
-use Rattle.fw_tree.proofs.ReachLaws.{sound_made}
-use Rattle.fw_devices.specs.Network.{facts_of}
 use Rattle.fw_run.specs.declared.order.Order.{Order}
 use Rattle.fw_run.specs.declared.order.Order.TheVariants as order
-use Rattle.fw_run.specs.declared.order.Transaction.{Transaction}
-use Rattle.fw_run.specs.Giving.{at_most}
-use Rattle.fw_run.specs.State.{State, Declared, Clock, first_state, epoch_of, is_on, living, manager_in, device_in, with_device}
-use Rattle.fw_run.specs.Spaces.{answer_packet, target_node, transaction_head, access_request, bus_manager_id_after}
+use Rattle.fw_run.specs.State.{State, living}
 use Rattle.fw_run.specs.HalfSteps.{has_request, is_unsettled}
-use Rattle.fw_run.specs.Actions.{Action, AddDevice, AddCable, ResetBus, StartConnection, StartBreak, HalfStep, Rest, Unsettled, Pass, EndSecond, Die, CarryOut, Start, Ask, Answer, ShowWord, Finish, Resets, Declares, Joins, Answers, after_reset_entry, with_topology, Step, Steps}
-use Rattle.fw_run.specs.Carrying.{times, half_steps_of, Rounds, Carries, declares, joins, resets, connects, breaks, steps, settled, unsettled as not_settled, waits, waits_over, dies, dies_late, dies_idle, starts, goes_on, transacts, shows, ends}
+use Rattle.fw_run.specs.Actions.{Action, AddDevice, AddCable, ResetBus, StartConnection, StartBreak, HalfStep, Unsettled, Pass, EndSecond, Die, CarryOut, Start, Ask, Answer, ShowWord, SendCommand, SendFrame, Receive, InsertTape, EjectTape, Finish, Steps}
+use Rattle.fw_run.specs.Carrying.{times, half_steps_of, Rounds, Carries, declares, joins, resets, connects, breaks, steps, settled, unsettled as not_settled, waits, waits_over, writes_cycles, HasCycles, dies, dies_late, dies_idle, starts, goes_on, transacts, shows, commanded, inserts, ejects, ejects_nothing, SendsAll, quiet, sends, ends}
+use Rattle.fw_run.specs.Decks.{Obeyed}
+use Rattle.fw_run.specs.Desks.{DeskRelations, desk_of}
+use Rattle.fw_run.specs.Frames.{next_told, Sends, Receives}
+use Rattle.fw_run.specs.Given.{IsGiven, AreGiven}
 use Rattle.fw_run.specs.Good.{IsGood}
-use Rattle.fw_run.proofs.Networks.{made_more}
 use Rattle.fw_run.proofs.Idle.{RoundsAre, are_none, are_round, are_rest, rounds_are, idle_rounds}
 use Rattle.fw_run.proofs.Runs.{rounds_steps}
-use Rattle.fw_run.proofs.Steps.{step_good, steps_good}
-use Rattle.fw_run.proofs.OneReset.{one_entry}
-
--- ---- actions
-
--- the same entries, and the same state
-abbrev pub Same : List Timed → State → List Timed → State → Type 0
-Same out t other u = (out ≡ other) × (t ≡ u)
-
-one_resets : (s t u : State) (initiator : ℕ) (out other : List Timed) → Made s.declared.topology → Resets s initiator out t → Resets s initiator other u → Same out t other u
-one_resets s t u initiator out other made f g =
-    let same : f.entry ≡ g.entry = one_entry s.declared.topology s.declared.kinds (epoch_of s.account.latest + 1) initiator f.entry g.entry (sound_made s.declared.topology made) f.is_entry g.is_entry in (
-      f.out_is ∙ (ap (λ (e : ResetEntry). at_most s.clock.cycle (Some (Reset e))) same ∙ sym g.out_is),
-      f.state_is ∙ (ap (after_reset_entry s) same ∙ sym g.state_is),
-    )
-
-one_declares : (names : List (List ℕ)) (s t u : State) (out other : List Timed) → Made s.declared.topology → Declares names s out t → Declares names s other u → Same out t other u
-one_declares [] s t u out other made f g = one_resets s t u 0 out other made f g
-one_declares (x ∷ names) s t u out other made f g = (f.0 ∙ sym g.0, f.1 ∙ sym g.1)
-
-one_joins : (x y : Bool) (a b : ℕ) (s t u : State) (out other : List Timed) → Made s.declared.topology → Joins x y a b s out t → Joins x y a b s other u → Same out t other u
-one_joins true false a b s t u out other made f g = one_resets s t u a out other made f g
-one_joins false true a b s t u out other made f g = one_resets s t u b out other made f g
-one_joins true true a b s t u out other made f g = (f.0 ∙ sym g.0, f.1 ∙ sym g.1)
-one_joins false false a b s t u out other made f g = (f.0 ∙ sym g.0, f.1 ∙ sym g.1)
-
-one_topology : (p q r : Topology) (a b : End) → IsJoined p q a b → IsJoined p r a b → q ≡ r
-one_topology p q r a b f g = let devices = f.same ∙ sym g.same in let cables = f.added ∙ sym g.added in λ i. record { devices = devices i; cables = cables i }
-
-one_answers : (s t u : State) (out other : List Timed) → Answers s out t → Answers s other u → Same out t other u
-one_answers s t u out other f g = (
-  f.out_is ∙ (ap (λ (p : Packet). at_most s.clock.cycle (Some (Async p))) response ∙ sym g.out_is),
-  f.state_is ∙ (ap (λ (x : Transaction). record s { transaction = None; bus_manager_id = bus_manager_id_after s x }) transaction ∙ sym g.state_is),
-)
-  where
-    transaction : f.transaction ≡ g.transaction
-    transaction = same_Some f.transaction g.transaction (sym f.waits ∙ g.waits)
-
-    response : f.response ≡ g.response
-    response = same_Some f.response g.response (sym f.answered ∙ (ap (λ (x : Transaction). answer_packet s (target_node s x) (transaction_head s x) (access_request x.access)) transaction ∙ g.answered))
-
-one_step : (s t u : State) (a : Action) (out other : List Timed) → IsGood s → Step s a out t → Step s a other u → Same out t other u
-one_step s t u (AddDevice name kind ports speed) out other good f g =
-    one_declares s.declared.names (record s { declared = with_device s.declared name kind ports speed }) t u out other
-    (made_more s.declared.topology (facts_of kind ports speed) good.declared.made (subst (λ n. n < 63) good.declared.named f.1.0) (let some = f.1.1 in omega (arith, some)) f.1.2 f.1.3) f.1.4 g.1.4
-one_step s t u (AddCable a b) out other good f g =
-    let x = f.1 in
-    let y = g.1 in
-    let same : y.0 ≡ x.0 = one_topology s.declared.topology y.0 x.0 a b y.1 x.1 in
-    one_joins (is_on s a.device) (is_on s b.device) a.device b.device (with_topology s x.0) t u out other (Topologies.cable good.declared.made a b x.1) x.2
-    (subst (λ (p : Topology). Joins (is_on s a.device) (is_on s b.device) a.device b.device (with_topology s p) other u) same y.2)
-one_step s t u (ResetBus d) out other good f g = one_resets s t u d out other good.declared.made f.1.1 g.1.1
-one_step s t u (StartConnection d w) out other good f g = (f.1.3 ∙ sym g.1.3, f.1.4 ∙ sym g.1.4)
-one_step s t u (StartBreak d i) out other good f g = (f.1.2 ∙ sym g.1.2, f.1.3 ∙ sym g.1.3)
-one_step s t u (HalfStep d) out other good f g = (f.1.2 ∙ sym g.1.2, f.1.3 ∙ sym g.1.3)
-one_step s t u (Rest n) out other good f g = (f.1.2 ∙ sym g.1.2, f.1.3 ∙ sym g.1.3)
-one_step s t u Unsettled out other good f g = (f.1.1 ∙ sym g.1.1, f.1.2 ∙ sym g.1.2)
-one_step s t u (Pass n) out other good f g = (f.1.2 ∙ sym g.1.2, f.1.3 ∙ sym g.1.3)
-one_step s t u EndSecond out other good f g = (f.1.3 ∙ sym g.1.3, f.1.4 ∙ sym g.1.4)
-one_step s t u (Die d) out other good f g = (f.1.1 ∙ sym g.1.1, f.1.2 ∙ sym g.1.2)
-one_step s t u (CarryOut d) out other good f g = (f.1.2 ∙ sym g.1.2, f.1.3 ∙ sym g.1.3)
-one_step s t u (Start d) out other good f g = (f.1.2 ∙ sym g.1.2, f.1.3 ∙ sym g.1.3)
-one_step s t u (Ask x) out other good f g = (f.1.3 ∙ sym g.1.3, f.1.4 ∙ sym g.1.4)
-one_step s t u Answer out other good f g = one_answers s t u out other f g
-one_step s t u (ShowWord d offset) out other good f g = (f.1.3 ∙ sym g.1.3, f.1.4 ∙ sym g.1.4)
-one_step s t u Finish out other good f g = (f.1.0 ∙ sym g.1.0, f.1.1 ∙ sym g.1.1)
-
-pub one_steps : (s t u : State) (actions : List Action) (out other : List Timed) → IsGood s → Steps s actions out t → Steps s actions other u → Same out t other u
-one_steps s t u [] out other good f g = (f.0 ∙ sym g.0, f.1 ∙ sym g.1)
-one_steps s t u (a ∷ actions) out other good f g =
-    let first = one_step s f.2 g.2 a f.0 g.0 good f.3 g.3 in
-    let rest = one_steps f.2 t u actions f.1 g.1 (step_good s a f.0 f.2 good f.3) f.5 (subst (λ z. Steps z actions g.1 u) (sym first.1) g.5) in
-    (f.4 ∙ (ap (λ z. z ++ f.1) first.0 ∙ (ap (λ z. g.0 ++ z) rest.0 ∙ sym g.4)), rest.1)
+use Rattle.fw_run.proofs.Steps.{steps_good}
+use Rattle.fw_run.proofs.OneFrame.{one_obeyed}
+use Rattle.fw_run.proofs.OneStep.{Same, one_step, one_steps}
+use Rattle.fw_run.proofs.OneCycle.{one_cycles}
 
 -- ---- rounds
 
@@ -136,25 +58,34 @@ one_rounds_at n = one_rounds n
 -- ---- orders
 
 -- what an order does, by the order
-abbrev pub CarriedBy : State → Order → List Timed → State → Type 0
-CarriedBy s (order.Declare name kind ports speed) out t = Steps s (AddDevice name kind ports speed ∷ []) out t
-CarriedBy s (order.Cable a b) out t = Steps s (AddCable a b ∷ []) out t
-CarriedBy s (order.Reset d) out t = Steps s (ResetBus d ∷ []) out t
-CarriedBy s (order.Connect d w) out t = Steps s (StartConnection d w ∷ []) out t
-CarriedBy s (order.Break d i) out t = Steps s (StartBreak d i ∷ []) out t
-CarriedBy s (order.Step d count) out t = Steps s (times count (HalfStep d)) out t
-CarriedBy s (order.Settle n) out t =
+abbrev pub CarriedBy : State → Order → List Action → List Timed → State → Type 0
+CarriedBy s (order.Declare name kind ports speed) ys out t = Steps s (AddDevice name kind ports speed ∷ []) out t
+CarriedBy s (order.Cable a b) ys out t = Steps s (AddCable a b ∷ []) out t
+CarriedBy s (order.Reset d) ys out t = Steps s (ResetBus d ∷ []) out t
+CarriedBy s (order.Connect d w) ys out t = Steps s (StartConnection d w ∷ []) out t
+CarriedBy s (order.Break d i) ys out t = Steps s (StartBreak d i ∷ []) out t
+CarriedBy s (order.Step d count) ys out t = Steps s (times count (HalfStep d)) out t
+CarriedBy s (order.Settle n) ys out t =
     (xs : List Action) × (m : State) × (first : List Timed) × Rounds n s xs first m
     × ((IsFalse (is_unsettled m) × (out ≡ first) × (t ≡ m)) ⊎ ((last : List Timed) × Steps m (Unsettled ∷ []) last t × (out ≡ first ++ last)))
-CarriedBy s (order.Wait n) out t = Steps s (Pass n ∷ []) out t ⊎ ((before : ℕ) × (after : ℕ) × (n ≡ before + 1 + after) × Steps s (Pass before ∷ EndSecond ∷ Pass after ∷ []) out t)
-CarriedBy s (order.Die d false) out t = Steps s (Die d ∷ []) out t
-CarriedBy s (order.Die d true) out t = Steps s (CarryOut d ∷ Die d ∷ []) out t ⊎ (IsFalse (has_request (s.controllers d).current) × Steps s (Die d ∷ []) out t)
-CarriedBy s (order.Start d) out t = Steps s (Start d ∷ []) out t ⊎ (IsFalse (s.dead d) × (out ≡ []) × (t ≡ s))
-CarriedBy s (order.Transact x) out t = Steps s (Ask x ∷ Answer ∷ []) out t
-CarriedBy s (order.Show d offset) out t = Steps s (ShowWord d offset ∷ []) out t
-CarriedBy s order.End out t = Steps s (Finish ∷ []) out t
+CarriedBy s (order.Wait n) ys out t = Steps s (Pass n ∷ []) out t ⊎ ((before : ℕ) × (after : ℕ) × (n ≡ before + 1 + after) × Steps s (Pass before ∷ EndSecond ∷ Pass after ∷ []) out t)
+CarriedBy s (order.Cycles n) ys out t = HasCycles n s ys out t
+CarriedBy s (order.Die d false) ys out t = Steps s (Die d ∷ []) out t
+CarriedBy s (order.Die d true) ys out t = Steps s (CarryOut d ∷ Die d ∷ []) out t ⊎ (IsFalse (has_request (s.controllers d).current) × Steps s (Die d ∷ []) out t)
+CarriedBy s (order.Start d) ys out t = Steps s (Start d ∷ []) out t ⊎ (IsFalse (s.dead d) × (out ≡ []) × (t ≡ s))
+CarriedBy s (order.Transact x) ys out t = Steps s (Ask x ∷ Answer ∷ []) out t
+CarriedBy s (order.Show d offset) ys out t = Steps s (ShowWord d offset ∷ []) out t
+CarriedBy s (order.Command a b bytes) ys out t =
+    (x : Option Obeyed) × (m : State) × (more : List Action) × (first : List Timed) × (rest : List Timed)
+    × Steps s (SendCommand a b bytes ∷ Receive x ∷ []) first m × SendsAll b m more rest t × (ys ≡ SendCommand a b bytes ∷ Receive x ∷ more) × (out ≡ first ++ rest)
+CarriedBy s (order.Insert d tape system) ys out t = (m : State) × (more : List Action) × (first : List Timed) × (rest : List Timed)
+    × Steps s (InsertTape d tape system ∷ []) first m × SendsAll d m more rest t × (out ≡ first ++ rest)
+CarriedBy s (order.Eject d) ys out t =
+    ((m : State) × (more : List Action) × (first : List Timed) × (rest : List Timed) × Steps s (EjectTape d ∷ []) first m × SendsAll d m more rest t × (out ≡ first ++ rest))
+    ⊎ (IsFalse (is_some (s.decks d).unit.tape) × (out ≡ []) × (t ≡ s))
+CarriedBy s order.End ys out t = Steps s (Finish ∷ []) out t
 
-pub carried : (s : State) (o : Order) (xs : List Action) (out : List Timed) (t : State) → Carries s o xs out t → CarriedBy s o out t
+pub carried : (s : State) (o : Order) (xs : List Action) (out : List Timed) (t : State) → Carries s o xs out t → CarriedBy s o xs out t
 carried s o xs out t (declares f) = f
 carried s o xs out t (joins f) = f
 carried s o xs out t (resets f) = f
@@ -165,6 +96,7 @@ carried s o xs out t (settled f e) = (xs, t, out, f, inl (e, refl, refl))
 carried s o xs out t (not_settled m more first last f g) = (more, m, first, f, inr (last, g, refl))
 carried s o xs out t (waits f) = inl f
 carried s o xs out t (waits_over {before = before} {after = after} e f) = inr (before, after, e, f)
+carried s o xs out t (writes_cycles f) = f
 carried s o xs out t (dies f) = f
 carried s o xs out t (dies_late f) = inl f
 carried s o xs out t (dies_idle e f) = inr (e, f)
@@ -172,7 +104,43 @@ carried s o xs out t (starts f) = inl f
 carried s o xs out t (goes_on e) = inr (e, refl, refl)
 carried s o xs out t (transacts f) = f
 carried s o xs out t (shows f) = f
+carried s o xs out t (commanded x m more first last f g) = (x, m, more, first, last, f, g, refl, refl)
+carried s o xs out t (inserts m more first last f g) = (m, more, first, last, f, g, refl)
+carried s o xs out t (ejects m more first last f g) = inl (m, more, first, last, f, g, refl)
+carried s o xs out t (ejects_nothing e) = inr (e, refl, refl)
 carried s o xs out t (ends f) = f
+
+-- ---- the frames that a device sends
+
+-- there is one to be sent, or there is none
+never_quiet : (s t : State) (d : ℕ) (out : List Timed) → next_told s d ≡ None → Sends s d out t → ⊥
+never_quiet s t d out none x = let wrong : Some x.told ≡ None = sym x.next ∙ none in cc wrong
+
+one_all : (d : ℕ) (s t u : State) (xs ys : List Action) (out other : List Timed) → IsGood s → SendsAll d s xs out t → SendsAll d s ys other u → Same out t other u
+one_all d s t u xs ys out other good (quiet e) (quiet f) = (refl, refl)
+one_all d s t u xs ys out other good (quiet e) (sends m more first rest f g) = absurd (never_quiet s f.2 d f.0 e f.3.1)
+one_all d s t u xs ys out other good (sends m more first rest f g) (quiet e) = absurd (never_quiet s f.2 d f.0 e f.3.1)
+one_all d s t u xs ys out other good (sends m more first rest f g) (sends m2 more2 first2 rest2 f2 g2) =
+    let now = one_steps s m m2 (SendFrame d ∷ Receive None ∷ []) first first2 good f f2 in
+    let later = one_all d m t u more more2 rest rest2 (steps_good s m (SendFrame d ∷ Receive None ∷ []) first good f) g (subst (λ z. SendsAll d z more2 rest2 u) (sym now.1) g2) in
+    (ap (λ z. z ++ rest) now.0 ∙ ap (λ z. first2 ++ z) later.0, later.1)
+
+-- actions, and the frames that a device then sends
+one_then : (d : ℕ) (s m n t u : State) (done xs ys : List Action) (first first2 rest rest2 : List Timed) → IsGood s → Steps s done first m → Steps s done first2 n → SendsAll d m xs rest t → SendsAll d n ys rest2 u → Same (first ++ rest) t (first2 ++ rest2) u
+one_then d s m n t u done xs ys first first2 rest rest2 good f g h k =
+    let now = one_steps s m n done first first2 good f g in
+    let later = one_all d m t u xs ys rest rest2 (steps_good s m done first good f) h (subst (λ z. SendsAll d z ys rest2 u) (sym now.1) k) in
+    (ap (λ z. z ++ rest) now.0 ∙ ap (λ z. first2 ++ z) later.0, later.1)
+
+-- what follows from a command is the same, where the vendor makes one thing of each byte
+same_obeyed : (blocks : ℕ → ℕ → ℕ → List ℕ) (vendor : ℕ → ℕ → ℕ) (s m n : State) (a b : ℕ) (bytes : List ℕ) (x y : Option Obeyed) (first first2 : List Timed) → IsGood s → Steps s (SendCommand a b bytes ∷ Receive x ∷ []) first m → Steps s (SendCommand a b bytes ∷ Receive y ∷ []) first2 n
+    → IsGiven (desk_of blocks vendor) (Receive x) → IsGiven (desk_of blocks vendor) (Receive y) → x ≡ y
+same_obeyed blocks vendor s m n a b bytes x y first first2 good f g given other =
+    let sent = one_step s f.2 g.2 (SendCommand a b bytes) f.0 g.0 good f.3 g.3 in
+    one_obeyed blocks vendor f.2 f.5.2 g.5.2 x y f.5.0 g.5.0 f.5.3.1 (subst (λ z. Receives z y g.5.0 g.5.2) (sym sent.1) g.5.3.1) given other
+
+given_second : (D : DeskRelations) (xs more : List Action) (a b : Action) → xs ≡ a ∷ b ∷ more → AreGiven D xs → IsGiven D b
+given_second D xs more a b e f = (subst (AreGiven D) e f).1.0
 
 -- the second is over before the cycles are
 over_before : (s : State) (n before after : ℕ) (out other : List Timed) (t u : State) → n ≡ before + 1 + after → Steps s (Pass n ∷ []) out t → Steps s (Pass before ∷ EndSecond ∷ Pass after ∷ []) other u → ⊥
@@ -193,14 +161,14 @@ over_same s before other xs ys out out2 t u f g =
 both_ways : (b : Bool) → b ≡ true → b ≡ false → ⊥
 both_ways b x y = let clash : true ≡ false = sym x ∙ y in cc clash
 
-pub one_carried : (s : State) (o : Order) (out other : List Timed) (t u : State) → IsGood s → CarriedBy s o out t → CarriedBy s o other u → Same out t other u
-one_carried s (order.Declare name kind ports speed) out other t u g f h = one_steps s t u (AddDevice name kind ports speed ∷ []) out other g f h
-one_carried s (order.Cable a b) out other t u g f h = one_steps s t u (AddCable a b ∷ []) out other g f h
-one_carried s (order.Reset d) out other t u g f h = one_steps s t u (ResetBus d ∷ []) out other g f h
-one_carried s (order.Connect d w) out other t u g f h = one_steps s t u (StartConnection d w ∷ []) out other g f h
-one_carried s (order.Break d i) out other t u g f h = one_steps s t u (StartBreak d i ∷ []) out other g f h
-one_carried s (order.Step d count) out other t u g f h = one_steps s t u (times count (HalfStep d)) out other g f h
-one_carried s (order.Settle n) out other t u g f h = go f.4 h.4
+pub one_carried : (blocks : ℕ → ℕ → ℕ → List ℕ) (vendor : ℕ → ℕ → ℕ) (s : State) (o : Order) (xs ys : List Action) (out other : List Timed) (t u : State) → IsGood s → AreGiven (desk_of blocks vendor) xs → AreGiven (desk_of blocks vendor) ys → CarriedBy s o xs out t → CarriedBy s o ys other u → Same out t other u
+one_carried blocks vendor s (order.Declare name kind ports speed) xs ys out other t u g give gave f h = one_steps s t u (AddDevice name kind ports speed ∷ []) out other g f h
+one_carried blocks vendor s (order.Cable a b) xs ys out other t u g give gave f h = one_steps s t u (AddCable a b ∷ []) out other g f h
+one_carried blocks vendor s (order.Reset d) xs ys out other t u g give gave f h = one_steps s t u (ResetBus d ∷ []) out other g f h
+one_carried blocks vendor s (order.Connect d w) xs ys out other t u g give gave f h = one_steps s t u (StartConnection d w ∷ []) out other g f h
+one_carried blocks vendor s (order.Break d i) xs ys out other t u g give gave f h = one_steps s t u (StartBreak d i ∷ []) out other g f h
+one_carried blocks vendor s (order.Step d count) xs ys out other t u g give gave f h = one_steps s t u (times count (HalfStep d)) out other g f h
+one_carried blocks vendor s (order.Settle n) xs ys out other t u g give gave f h = go f.4 h.4
   where
     same : Same f.2 f.1 h.2 h.1
     same = one_rounds_at n s f.1 h.1 f.0 h.0 f.2 h.2 g f.3 h.3
@@ -215,24 +183,38 @@ one_carried s (order.Settle n) out other t u g f h = go f.4 h.4
     go (inr a) (inr b) =
         let last = one_steps f.1 t u (Unsettled ∷ []) a.0 b.0 good a.1 (subst (λ z. Steps z (Unsettled ∷ []) b.0 u) (sym same.1) b.1) in
         (a.2 ∙ (ap (λ z. z ++ a.0) same.0 ∙ (ap (λ z. h.2 ++ z) last.0 ∙ sym b.2)), last.1)
-one_carried s (order.Wait n) out other t u g (inl f) (inl h) = one_steps s t u (Pass n ∷ []) out other g f h
-one_carried s (order.Wait n) out other t u g (inl f) (inr h) = absurd (over_before s n h.0 h.1 out other t u h.2 f h.3)
-one_carried s (order.Wait n) out other t u g (inr f) (inl h) = absurd (over_before s n f.0 f.1 other out u t f.2 h f.3)
-one_carried s (order.Wait n) out other t u g (inr f) (inr h) =
+one_carried blocks vendor s (order.Wait n) xs ys out other t u g give gave (inl f) (inl h) = one_steps s t u (Pass n ∷ []) out other g f h
+one_carried blocks vendor s (order.Wait n) xs ys out other t u g give gave (inl f) (inr h) = absurd (over_before s n h.0 h.1 out other t u h.2 f h.3)
+one_carried blocks vendor s (order.Wait n) xs ys out other t u g give gave (inr f) (inl h) = absurd (over_before s n f.0 f.1 other out u t f.2 h f.3)
+one_carried blocks vendor s (order.Wait n) xs ys out other t u g give gave (inr f) (inr h) =
     let before : h.0 ≡ f.0 = over_same s h.0 f.0 (Pass h.1 ∷ []) (Pass f.1 ∷ []) other out u t h.3 f.3 in
     let sum = sym h.2 ∙ f.2 in
     let after : h.1 ≡ f.1 = omega (arith, before, sum) in
     let moved : Steps s (Pass f.0 ∷ EndSecond ∷ Pass h.1 ∷ []) other u = subst (λ k. Steps s (Pass k ∷ EndSecond ∷ Pass h.1 ∷ []) other u) before h.3 in
     one_steps s t u (Pass f.0 ∷ EndSecond ∷ Pass f.1 ∷ []) out other g f.3 (subst (λ k. Steps s (Pass f.0 ∷ EndSecond ∷ Pass k ∷ []) other u) after moved)
-one_carried s (order.Die d false) out other t u g f h = one_steps s t u (Die d ∷ []) out other g f h
-one_carried s (order.Die d true) out other t u g (inl f) (inl h) = one_steps s t u (CarryOut d ∷ Die d ∷ []) out other g f h
-one_carried s (order.Die d true) out other t u g (inl f) (inr h) = absurd (both_ways (has_request (s.controllers d).current) f.3.1.1 h.0)
-one_carried s (order.Die d true) out other t u g (inr f) (inl h) = absurd (both_ways (has_request (s.controllers d).current) h.3.1.1 f.0)
-one_carried s (order.Die d true) out other t u g (inr f) (inr h) = one_steps s t u (Die d ∷ []) out other g f.1 h.1
-one_carried s (order.Start d) out other t u g (inl f) (inl h) = one_steps s t u (Start d ∷ []) out other g f h
-one_carried s (order.Start d) out other t u g (inl f) (inr h) = absurd (both_ways (s.dead d) f.3.1.1 h.0)
-one_carried s (order.Start d) out other t u g (inr f) (inl h) = absurd (both_ways (s.dead d) h.3.1.1 f.0)
-one_carried s (order.Start d) out other t u g (inr f) (inr h) = (f.1 ∙ sym h.1, f.2 ∙ sym h.2)
-one_carried s (order.Transact x) out other t u g f h = one_steps s t u (Ask x ∷ Answer ∷ []) out other g f h
-one_carried s (order.Show d offset) out other t u g f h = one_steps s t u (ShowWord d offset ∷ []) out other g f h
-one_carried s order.End out other t u g f h = one_steps s t u (Finish ∷ []) out other g f h
+one_carried blocks vendor s (order.Cycles n) xs ys out other t u g give gave f h = one_cycles blocks vendor n s t u xs ys out other g give gave f h
+one_carried blocks vendor s (order.Die d false) xs ys out other t u g give gave f h = one_steps s t u (Die d ∷ []) out other g f h
+one_carried blocks vendor s (order.Die d true) xs ys out other t u g give gave (inl f) (inl h) = one_steps s t u (CarryOut d ∷ Die d ∷ []) out other g f h
+one_carried blocks vendor s (order.Die d true) xs ys out other t u g give gave (inl f) (inr h) = absurd (both_ways (has_request (s.controllers d).current) f.3.1.1 h.0)
+one_carried blocks vendor s (order.Die d true) xs ys out other t u g give gave (inr f) (inl h) = absurd (both_ways (has_request (s.controllers d).current) h.3.1.1 f.0)
+one_carried blocks vendor s (order.Die d true) xs ys out other t u g give gave (inr f) (inr h) = one_steps s t u (Die d ∷ []) out other g f.1 h.1
+one_carried blocks vendor s (order.Start d) xs ys out other t u g give gave (inl f) (inl h) = one_steps s t u (Start d ∷ []) out other g f h
+one_carried blocks vendor s (order.Start d) xs ys out other t u g give gave (inl f) (inr h) = absurd (both_ways (s.dead d) f.3.1.1 h.0)
+one_carried blocks vendor s (order.Start d) xs ys out other t u g give gave (inr f) (inl h) = absurd (both_ways (s.dead d) h.3.1.1 f.0)
+one_carried blocks vendor s (order.Start d) xs ys out other t u g give gave (inr f) (inr h) = (f.1 ∙ sym h.1, f.2 ∙ sym h.2)
+one_carried blocks vendor s (order.Transact x) xs ys out other t u g give gave f h = one_steps s t u (Ask x ∷ Answer ∷ []) out other g f h
+one_carried blocks vendor s (order.Show d offset) xs ys out other t u g give gave f h = one_steps s t u (ShowWord d offset ∷ []) out other g f h
+one_carried blocks vendor s (order.Command a b bytes) xs ys out other t u g give gave f h =
+    let same : h.0 ≡ f.0 = same_obeyed blocks vendor s h.1 f.1 a b bytes h.0 f.0 h.3 f.3 g h.5 f.5 (given_second (desk_of blocks vendor) ys h.2 (SendCommand a b bytes) (Receive h.0) h.7 gave) (given_second (desk_of blocks vendor) xs f.2 (SendCommand a b bytes) (Receive f.0) f.7 give) in
+    let r = one_then b s f.1 h.1 t u (SendCommand a b bytes ∷ Receive f.0 ∷ []) f.2 h.2 f.3 h.3 f.4 h.4 g f.5 (subst (λ o. Steps s (SendCommand a b bytes ∷ Receive o ∷ []) h.3 h.1) same h.5) f.6 h.6 in
+    (f.8 ∙ (r.0 ∙ sym h.8), r.1)
+one_carried blocks vendor s (order.Insert d tape system) xs ys out other t u g give gave f h =
+    let r = one_then d s f.0 h.0 t u (InsertTape d tape system ∷ []) f.1 h.1 f.2 h.2 f.3 h.3 g f.4 h.4 f.5 h.5 in
+    (f.6 ∙ (r.0 ∙ sym h.6), r.1)
+one_carried blocks vendor s (order.Eject d) xs ys out other t u g give gave (inl f) (inl h) =
+    let r = one_then d s f.0 h.0 t u (EjectTape d ∷ []) f.1 h.1 f.2 h.2 f.3 h.3 g f.4 h.4 f.5 h.5 in
+    (f.6 ∙ (r.0 ∙ sym h.6), r.1)
+one_carried blocks vendor s (order.Eject d) xs ys out other t u g give gave (inl f) (inr h) = absurd (both_ways (is_some (s.decks d).unit.tape) f.4.3.1.2 h.0)
+one_carried blocks vendor s (order.Eject d) xs ys out other t u g give gave (inr f) (inl h) = absurd (both_ways (is_some (s.decks d).unit.tape) h.4.3.1.2 f.0)
+one_carried blocks vendor s (order.Eject d) xs ys out other t u g give gave (inr f) (inr h) = (f.1 ∙ sym h.1, f.2 ∙ sym h.2)
+one_carried blocks vendor s order.End xs ys out other t u g give gave f h = one_steps s t u (Finish ∷ []) out other g f h

@@ -26,7 +26,7 @@ finish_good s g = g
 -- ---- transactions of the script
 
 pub transaction_good : (s : State) (x : Option Transaction) (id : ℕ) → IsGood s → IsGood (record s { transaction = x; bus_manager_id = id })
-transaction_good s x id g = record { declared = g.declared; latest = latest_ s.account.latest g.latest; reclaims = g.reclaims; stands = g.stands; unused = g.unused; time = record { second = g.time.second; over_at = g.time.over_at; cycle = g.time.cycle }; half_steps = g.half_steps }
+transaction_good s x id g = record { declared = g.declared; latest = latest_ s.account.latest g.latest; reclaims = g.reclaims; stands = g.stands; unused = g.unused; time = record { second = g.time.second; over_at = g.time.over_at; cycle = g.time.cycle }; half_steps = g.half_steps; written = g.written; decks = g.decks; streams = g.streams }
   where
     latest_ : (o : Option ResetEntry) → IsLatest o s → IsLatest o (record s { transaction = x; bus_manager_id = id })
     latest_ None h = h
@@ -51,6 +51,9 @@ start_good s d g dead = record {
   unused = λ k off. unused k off (cases_eq k d);
   time = record { second = g.time.second; over_at = g.time.over_at; cycle = g.time.cycle };
   half_steps = g.half_steps;
+  written = g.written;
+  decks = g.decks;
+  streams = g.streams;
 }
   where
     rests : (a b : Bool) → b ≡ true → (a && not b) ≡ false

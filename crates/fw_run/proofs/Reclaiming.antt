@@ -2,7 +2,7 @@
 use Rattle.std.proofs.Common.{◌≡◌, ℕ, ◌+◌, ◌==◌, List, [], ◌∷◌, Bool, true, false, Option, Some, None, option_map, refl, ap, sym, subst, ◌∙◌, IsTrue}
 use Rattle.fw_base.specs.Tables.{find_to}
 use Rattle.fw_async.specs.declared.packet.Packet.{Packet}
-use Rattle.fw_entry.specs.declared.entry.Entry.TheVariants.{Reset, Async, End as EndEntry}
+use Rattle.fw_entry.specs.declared.entry.Entry.TheVariants.{Reset, Async, Iso, End as EndEntry}
 use Rattle.fw_entry.specs.declared.entry.ResetEntry.{ResetEntry}
 use Rattle.fw_entry.specs.declared.entry.Timed.{Timed}
 use Rattle.fw_entry.specs.Log.{kind_of}
@@ -25,11 +25,13 @@ use Rattle.fw_reclaim.proofs.Living.{turn_meets, facts_in}
 use Rattle.fw_reclaim.proofs.Outcomes.{ends_restored}
 use Rattle.fw_reclaim.proofs.Reclaim.{reclaims}
 use Rattle.fw_run.specs.Giving.{at_cycle, at_most}
-use Rattle.fw_run.specs.Entries.{second_over, died, started, unsettled, shown_entry}
+use Rattle.fw_run.specs.Entries.{second_over, died, started, inserted, ejected, unsettled, shown_entry}
 use Rattle.fw_run.specs.State.{State, Declared, first_state, is_on, is_living, directory_of, with_device}
+use Rattle.fw_run.specs.Frames.{command_write, response_write, frame_packet}
 use Rattle.fw_run.specs.Spaces.{answer_packet, transaction_head, access_request, read_at}
 use Rattle.fw_run.specs.HalfSteps.{head_from, said, asks, taken, hears, hears_from, half, half_of}
-use Rattle.fw_run.specs.Actions.{Action, AddDevice, AddCable, ResetBus, StartConnection, StartBreak, HalfStep, Rest, Unsettled, Pass, EndSecond, Die, CarryOut, Start, Ask, Answer, ShowWord, Finish, Resets, Declares, Joins, with_topology, Step}
+use Rattle.fw_run.specs.Streams.{bytes_of, cycle_start, stream_packet}
+use Rattle.fw_run.specs.Actions.{Action, AddDevice, AddCable, ResetBus, StartConnection, StartBreak, HalfStep, Rest, Unsettled, Pass, EndSecond, Die, CarryOut, Start, Ask, Answer, ShowWord, SendCommand, SendFrame, Receive, InsertTape, EjectTape, StartCycle, SendPacket, Finish, Resets, Declares, Joins, with_topology, Step}
 use Rattle.fw_run.specs.Good.{IsGood, world_of}
 use Rattle.fw_run.specs.Reclaiming.{Reclaims, RestoresInSecond}
 use Rattle.fw_run.proofs.Cables.{on_some, cabled_may, begun_may}
@@ -121,6 +123,13 @@ bus_resets s t (Start d) e c g x = absurd (never c e (at_most s.clock.cycle (Som
 bus_resets s t (Ask y) e c g x = absurd (never c e (at_most s.clock.cycle (Some (Async (packet_of (transaction_head s y) (access_request y.access))))) x.1.3 refl)
 bus_resets s t Answer e c g x = absurd (never c e (at_most s.clock.cycle (Some (Async x.response))) x.out_is refl)
 bus_resets s t (ShowWord d offset) e c g x = absurd (never c e (at_most s.clock.cycle (Some (shown_entry d offset (read_at s d offset).value))) x.1.3 refl)
+bus_resets s t (SendCommand a b bytes) e c g x = absurd (never c e (at_most s.clock.cycle (Some (Async (frame_packet s (command_write a b bytes))))) x.1.3 refl)
+bus_resets s t (SendFrame d) e c g x = let y = x.1 in absurd (never c e (at_most s.clock.cycle (Some (Async (frame_packet s (response_write d y.to y.told.1))))) y.out_is refl)
+bus_resets s t (Receive o) e c g x = let y = x.1 in absurd (never c e (at_most s.clock.cycle (Some (Async y.response))) y.out_is refl)
+bus_resets s t (InsertTape d tape system) e c g x = absurd (never c e (at_most s.clock.cycle (Some (inserted d tape system))) x.1.3 refl)
+bus_resets s t (EjectTape d) e c g x = absurd (never c e (at_most s.clock.cycle (Some (ejected d))) x.1.3 refl)
+bus_resets s t StartCycle e c g x = absurd (never c e (at_most s.clock.cycle (Some (Async (cycle_start x.1.1.0.root s.clock.cycle)))) x.1.1.2 refl)
+bus_resets s t (SendPacket p block) e c g x = absurd (never c e (at_most s.clock.cycle (Some (Iso (stream_packet s p (bytes_of block))))) x.1.2 refl)
 bus_resets s t Finish e c g x = absurd (never c e (at_most s.clock.cycle (Some EndEntry)) x.1.0 refl)
 
 -- ---- the reclaim theorem

@@ -1,13 +1,12 @@
 -- A bus reset leads from a good state to a good state.
-use Rattle.std.proofs.Common.{◌≡◌, ℕ, ◌+◌, ◌<◌, ◌≤◌, ◌&&◌, not, List, length, Bool, true, false, Option, Some, None, is_some, refl, ap, sym, subst, ◌∙◌, cond, arith, IsTrue, IsFalse}
-use Rattle.fw_base.specs.declared.device.DeviceKind.{DeviceKind}
+use Rattle.std.proofs.Common.{◌≡◌, ℕ, ◌+◌, ◌<◌, ◌≤◌, ◌&&◌, not, List, length, Bool, true, false, Option, Some, None, is_some, refl, ap, sym, subst, cond, arith, IsTrue, IsFalse}
 use Rattle.fw_entry.specs.declared.entry.ResetEntry.{ResetEntry}
 use Rattle.fw_entry.specs.declared.entry.Timed.{Timed}
 use Rattle.fw_tree.specs.Cables.{IsOnBus}
 use Rattle.fw_cmp.specs.Controllers.{first_state as new_controller}
 use Rattle.fw_cmp.specs.Resets.{after_reset as controller_reset}
 use Rattle.fw_devices.specs.Resets.{Shows}
-use Rattle.fw_devices.proofs.EntryLaws.{entry_shows}
+use Rattle.fw_devices.proofs.EntryLaws.{entry_shows, entry_fits}
 use Rattle.fw_reclaim.specs.Worlds.{BusReset, Grows}
 use Rattle.fw_reclaim.specs.Worlds as Worlds
 use Rattle.fw_reclaim.proofs.Together.{goes_on_reclaiming}
@@ -15,7 +14,9 @@ use Rattle.fw_rounds.proofs.Stands.{reset_stands}
 use Rattle.fw_run.specs.State.{State, Declared, epoch_of, linked_number, is_living}
 use Rattle.fw_run.specs.Actions.{Resets, after_reset_entry}
 use Rattle.fw_run.specs.Good.{IsGood, IsLatest, AreDeclared, ManagerContends, world_of}
+use Rattle.fw_run.proofs.Decks.{reset_is}
 use Rattle.fw_run.proofs.Grows.{Follows, number_there, stays_linked, grows, grows_first, manager_contends}
+use Rattle.fw_run.proofs.Counts.{silent}
 use Rattle.fw_run.proofs.Turns.{living_linked}
 
 -- the state with these devices and cables
@@ -62,26 +63,25 @@ reset_change s n initiator out t m r = record {
   each = λ c. refl;
 }
 
--- ---- who lives
+-- ---- who has a link, and who lives
+
+still_linked : (s : State) (n : Declared) (initiator : ℕ) (out : List Timed) (t : State) → MayReset s n → (r : Resets (declaring s n) initiator out t) → (d : ℕ) → IsTrue (is_some (linked_number s.account.latest d)) → IsTrue (is_some (linked_number (Some r.entry) d))
+still_linked s n initiator out t m r d on = go s.account.latest refl m.good.latest on
+  where
+    go : (o : Option ResetEntry) → s.account.latest ≡ o → IsLatest o s → IsTrue (is_some (linked_number o d)) → IsTrue (is_some (linked_number (Some r.entry) d))
+    go None is h there = absurd (grind (arith, there))
+    go (Some e) is h there =
+        let a = number_there (linked_number (Some e) d) there in
+        ap is_some (stays_linked s.declared.topology n.topology n.kinds e r.entry (reset_follows s n initiator out t m r e is h) d a.number a.is).is
 
 still_living : (s : State) (n : Declared) (initiator : ℕ) (out : List Timed) (t : State) → MayReset s n → (r : Resets (declaring s n) initiator out t) → (d : ℕ) → IsTrue (is_living s d) → IsTrue (is_living (after_reset_entry (declaring s n) r.entry) d)
-still_living s n initiator out t m r d lives = go s.account.latest refl m.good.latest
+still_living s n initiator out t m r d lives = both (is_some (linked_number (Some r.entry) d)) (not (s.dead d)) (still_linked s n initiator out t m r d (living_linked s d lives)) (second (is_some (linked_number s.account.latest d)) (not (s.dead d)) lives)
   where
     both : (a b : Bool) → a ≡ true → b ≡ true → (a && b) ≡ true
     both a b x y = grind (arith, x, y)
 
     second : (a b : Bool) → (a && b) ≡ true → b ≡ true
     second a b x = grind (arith, x)
-
-    awake : not (s.dead d) ≡ true
-    awake = second (is_some (linked_number s.account.latest d)) (not (s.dead d)) lives
-
-    go : (o : Option ResetEntry) → s.account.latest ≡ o → IsLatest o s → (is_some (linked_number (Some r.entry) d) && not (s.dead d)) ≡ true
-    go None is h = absurd (let on = subst (λ o. IsTrue (is_some (linked_number o d))) is (living_linked s d lives) in grind (arith, on))
-    go (Some e) is h =
-        let a = number_there (linked_number (Some e) d) (subst (λ o. IsTrue (is_some (linked_number o d))) is (living_linked s d lives)) in
-        let b = stays_linked s.declared.topology n.topology n.kinds e r.entry (reset_follows s n initiator out t m r e is h) d a.number a.is in
-        both (is_some (linked_number (Some r.entry) d)) (not (s.dead d)) (ap is_some b.is) awake
 
 -- ---- the state after it
 
@@ -97,12 +97,15 @@ within false n = omega arith
 pub reset_good : (s : State) (n : Declared) (initiator : ℕ) (out : List Timed) (t : State) → MayReset s n → Resets (declaring s n) initiator out t → IsGood t
 reset_good s n initiator out t m r = subst IsGood (sym r.state_is) (record {
   declared = m.declared;
-  latest = (m.some, reset_shows s n initiator out t m r, few, manager_contends n.topology n.kinds (epoch_of s.account.latest + 1) initiator e r.is_entry (reset_shows s n initiator out t m r) m.declared.kinds);
+  latest = (m.some, reset_shows s n initiator out t m r, few, manager_contends n.topology n.kinds (epoch_of s.account.latest + 1) initiator e r.is_entry (reset_shows s n initiator out t m r) m.declared.kinds, root);
   reclaims = goes_on_reclaiming (world_of s) (world_of u) (BusReset e e.epoch) m.good.reclaims (reset_change s n initiator out t m r);
   stands = λ d. reset_stands e.epoch (s.controllers d) (m.good.stands d);
   unused = λ d off. unused d (is_living s d) refl off;
   time = record { second = begins (is_some s.account.latest) s.clock.cycle; over_at = within (is_some s.account.latest) s.clock.cycle; cycle = m.good.time.cycle };
   half_steps = m.good.half_steps;
+  written = m.good.written;
+  decks = λ d. reset_is s.account.latest (Some e) s.clock.cycle d (s.decks d) (still_linked s n initiator out t m r d) (m.good.decks d);
+  streams = silent u.account s.streams;
 })
   where
     e : ResetEntry
@@ -110,6 +113,9 @@ reset_good s n initiator out t m r = subst IsGood (sym r.state_is) (record {
 
     u : State
     u = after_reset_entry (declaring s n) e
+
+    root : e.root < length e.nodes
+    root = let less = r.few in (entry_fits n.topology n.kinds (epoch_of s.account.latest + 1) initiator e m.declared.made m.declared.kinds (omega (arith, less)) r.is_entry).root
 
     few : e.epoch ≤ 10000
     few = let is = r.is_entry.epoch_is in let few = r.few in omega (arith, is, few)

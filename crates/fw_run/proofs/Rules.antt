@@ -6,7 +6,7 @@ use Rattle.std.proofs.lemmas.Bool.{cases_lt}
 use Rattle.fw_script.specs.declared.command.Command.{Command}
 use Rattle.fw_run.specs.declared.order.Order.{Order}
 use Rattle.fw_run.specs.declared.rule.RuleFault.{RuleFault}
-use Rattle.fw_run.specs.declared.rule.RuleFault.TheVariants.{UnknownName, NameTaken, TooMany, NoPort, PortUsed, Loop, NotController, Guarded, NoRegister, Limit, TableFull, Busy, NoSuchConnection, NotOwnPlug, OffBus, NotBuilt}
+use Rattle.fw_run.specs.declared.rule.RuleFault.TheVariants.{UnknownName, NameTaken, TooMany, NoPort, PortUsed, Loop, NotController, Guarded, NoRegister, Limit, TableFull, Busy, NoSuchConnection, NotOwnPlug, OffBus, NoDeck}
 use Rattle.fw_run.specs.State.{State}
 use Rattle.fw_run.specs.Rules.{rank, Decides}
 use Rattle.fw_run.proofs.OneLog.{one_order}
@@ -14,14 +14,14 @@ use Rattle.fw_run.proofs.OneLog.{one_order}
 -- the rule of a rank
 abbrev ranked : ℕ → RuleFault
 ranked n =
-    cond (n == 0) NotBuilt (cond (n == 1) UnknownName (cond (n == 2) NameTaken (cond (n == 3) TooMany (cond (n == 4) NoPort (cond (n == 5) PortUsed (cond (n == 6) Loop (cond (n == 7) NotController
-    (cond (n == 8) OffBus (cond (n == 9) NotOwnPlug (cond (n == 10) NoSuchConnection (cond (n == 11) TableFull (cond (n == 12) Busy (cond (n == 13) Guarded (cond (n == 14) NoRegister Limit))))))))))))))
+    cond (n == 1) UnknownName (cond (n == 2) NameTaken (cond (n == 3) TooMany (cond (n == 4) NoDeck (cond (n == 5) NoPort (cond (n == 6) PortUsed (cond (n == 7) Loop
+    (cond (n == 8) NotController (cond (n == 9) OffBus (cond (n == 10) NotOwnPlug (cond (n == 11) NoSuchConnection (cond (n == 12) TableFull (cond (n == 13) Busy (cond (n == 14) Guarded (cond (n == 15) NoRegister Limit))))))))))))))
 
 ranked_back : (f : RuleFault) → ranked (rank f) ≡ f
-ranked_back NotBuilt = refl
 ranked_back UnknownName = refl
 ranked_back NameTaken = refl
 ranked_back TooMany = refl
+ranked_back NoDeck = refl
 ranked_back NoPort = refl
 ranked_back PortUsed = refl
 ranked_back Loop = refl

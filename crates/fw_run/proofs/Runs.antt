@@ -1,13 +1,16 @@
 -- What commands do, and so a run, is actions one after another.
-use Rattle.std.proofs.Common.{◌≡◌, ℕ, List, [], ◌∷◌, ◌++◌, refl, ap, sym, ◌∙◌, append_assoc}
+use Rattle.std.proofs.Common.{◌≡◌, ℕ, zero, suc, Option, Some, List, [], ◌∷◌, ◌++◌, None, refl, ap, sym, subst, ◌∙◌, append_assoc}
+use Rattle.fw_base.specs.declared.plug.PlugAt.{PlugAt}
+use Rattle.fw_entry.specs.declared.entry.ResetEntry.{ResetEntry}
 use Rattle.fw_entry.specs.declared.entry.Timed.{Timed}
 use Rattle.fw_entry.specs.Log.{entry_bytes}
 use Rattle.fw_script.specs.declared.command.Command.{Command}
 use Rattle.fw_run.specs.declared.order.Order.{Order}
 use Rattle.fw_run.specs.Giving.{log_bytes}
+use Rattle.fw_run.specs.Streams.{talkers}
 use Rattle.fw_run.specs.State.{State, first_state, living}
-use Rattle.fw_run.specs.Actions.{Action, Unsettled, Steps}
-use Rattle.fw_run.specs.Carrying.{half_steps_of, Rounds, none, round, rest, Carries, declares, joins, resets, connects, breaks, steps, settled, unsettled, waits, waits_over, dies, dies_late, dies_idle, starts, goes_on, transacts, shows, ends}
+use Rattle.fw_run.specs.Actions.{Action, Unsettled, SendCommand, SendFrame, Receive, InsertTape, EjectTape, StartCycle, SendPacket, Steps}
+use Rattle.fw_run.specs.Carrying.{half_steps_of, Rounds, none, round, rest, Carries, declares, joins, resets, connects, breaks, steps, settled, unsettled, waits, waits_over, writes_cycles, next_cycle, SendsPackets, HasCycle, HasCycles, dies, dies_late, dies_idle, starts, goes_on, transacts, shows, commanded, inserts, ejects, ejects_nothing, SendsAll, quiet, sends, ends}
 use Rattle.fw_run.specs.Runs.{Run, begun, and_then}
 
 pub steps_then : (s t u : State) (xs ys : List Action) (a b : List Timed) → Steps s xs a t → Steps t ys b u → Steps s (xs ++ ys) (a ++ b) u
@@ -18,6 +21,29 @@ pub rounds_steps : (n : ℕ) (s : State) (actions : List Action) (out : List Tim
 rounds_steps n s actions out t none = (refl, refl)
 rounds_steps n s actions out t (round {n = k} m more first last f g) = steps_then s m t (half_steps_of (living s)) more first last f (rounds_steps k m more last t g)
 rounds_steps n s actions out t (rest f) = f
+
+all_steps : (d : ℕ) (s : State) (actions : List Action) (out : List Timed) (t : State) → SendsAll d s actions out t → Steps s actions out t
+all_steps d s actions out t (quiet e) = (refl, refl)
+all_steps d s actions out t (sends m more first last f g) = steps_then s m t (SendFrame d ∷ Receive None ∷ []) more first last f (all_steps d m more last t g)
+
+pub packets_steps : (plugs : List PlugAt) (s : State) (actions : List Action) (out : List Timed) (t : State) → SendsPackets plugs s actions out t → Steps s actions out t
+packets_steps [] s actions out t f = subst (λ xs. Steps s xs out t) (sym f.0) (f.1, f.2)
+packets_steps (p ∷ plugs) s actions out t f =
+    subst (λ xs. Steps s xs out t) (sym f.7) (subst (λ o. Steps s (SendPacket p f.0 ∷ f.2) o t) (sym f.8) (steps_then s f.1 t (SendPacket p f.0 ∷ []) f.2 f.3 f.4 f.5 (packets_steps plugs f.1 f.2 f.4 t f.6)))
+
+pub cycle_steps : (o : Option ResetEntry) (s : State) (actions : List Action) (out : List Timed) (t : State) → HasCycle o s actions out t → Steps s actions out t
+cycle_steps None s actions out t f = subst (λ xs. Steps s xs out t) (sym f.1) f.0
+cycle_steps (Some e) s actions out t f =
+    subst (λ xs. Steps s xs out t) (sym f.actions_are)
+    (subst (λ o. Steps s (next_cycle s ∷ StartCycle ∷ f.packets) o t) (sym f.out_is)
+    (steps_then s f.mid t (next_cycle s ∷ StartCycle ∷ []) f.packets f.first f.last f.comes (packets_steps (talkers f.mid.account) f.mid f.packets f.last t f.sends)))
+
+cycles_steps : (n : ℕ) (s : State) (actions : List Action) (out : List Timed) (t : State) → HasCycles n s actions out t → Steps s actions out t
+unfolding HasCycles
+cycles_steps zero s actions out t f = subst (λ xs. Steps s xs out t) (sym f.0) (f.1, f.2)
+cycles_steps (suc n) s actions out t f =
+    subst (λ xs. Steps s xs out t) (sym f.7)
+    (subst (λ o. Steps s (f.1 ++ f.2) o t) (sym f.8) (steps_then s f.0 t f.1 f.2 f.3 f.4 (cycle_steps s.account.latest s f.1 f.3 f.0 f.5) (cycles_steps n f.0 f.2 f.4 t f.6)))
 
 pub carries_steps : (s : State) (o : Order) (actions : List Action) (out : List Timed) (t : State) → Carries s o actions out t → Steps s actions out t
 carries_steps s o actions out t (declares f) = f
@@ -30,6 +56,7 @@ carries_steps s o actions out t (settled {n = k} f e) = rounds_steps k s actions
 carries_steps s o actions out t (unsettled {n = k} m more first last f g) = steps_then s m t more (Unsettled ∷ []) first last (rounds_steps k s more first m f) g
 carries_steps s o actions out t (waits f) = f
 carries_steps s o actions out t (waits_over e f) = f
+carries_steps s o actions out t (writes_cycles {n = n} f) = cycles_steps n s actions out t f
 carries_steps s o actions out t (dies f) = f
 carries_steps s o actions out t (dies_late f) = f
 carries_steps s o actions out t (dies_idle e f) = f
@@ -37,6 +64,10 @@ carries_steps s o actions out t (starts f) = f
 carries_steps s o actions out t (goes_on e) = (refl, refl)
 carries_steps s o actions out t (transacts f) = f
 carries_steps s o actions out t (shows f) = f
+carries_steps s o actions out t (commanded {a = a} {b = b} {bytes = bytes} x m more first last f g) = steps_then s m t (SendCommand a b bytes ∷ Receive x ∷ []) more first last f (all_steps b m more last t g)
+carries_steps s o actions out t (inserts {d = d} {tape = tape} {system = system} m more first last f g) = steps_then s m t (InsertTape d tape system ∷ []) more first last f (all_steps d m more last t g)
+carries_steps s o actions out t (ejects {d = d} m more first last f g) = steps_then s m t (EjectTape d ∷ []) more first last f (all_steps d m more last t g)
+carries_steps s o actions out t (ejects_nothing e) = (refl, refl)
 carries_steps s o actions out t (ends f) = f
 
 pub log_append : (xs ys : List Timed) → log_bytes (xs ++ ys) ≡ log_bytes xs ++ log_bytes ys

@@ -15,11 +15,13 @@ use Rattle.fw_cmp.specs.Requests.{access_of, request_of, addressee_of}
 use Rattle.fw_cmp.specs.Turns.{next}
 use Rattle.fw_node.specs.Packets.{packet_of}
 use Rattle.fw_run.specs.Giving.{at_cycle, at_most}
-use Rattle.fw_run.specs.Entries.{second_over, died, started, unsettled, shown_entry}
+use Rattle.fw_run.specs.Entries.{second_over, died, started, inserted, ejected, unsettled, shown_entry}
 use Rattle.fw_run.specs.State.{State, Declared, first_state, is_on, directory_of, with_device}
+use Rattle.fw_run.specs.Frames.{command_write, response_write, frame_packet}
 use Rattle.fw_run.specs.Spaces.{answer_packet, transaction_head, access_request, read_at}
 use Rattle.fw_run.specs.HalfSteps.{head_from, said, hears, hears_from, half, half_of}
-use Rattle.fw_run.specs.Actions.{Action, AddDevice, AddCable, ResetBus, StartConnection, StartBreak, HalfStep, Rest, Unsettled, Pass, EndSecond, Die, CarryOut, Start, Ask, Answer, ShowWord, Finish, Resets, Declares, Joins, with_topology, Step, Steps}
+use Rattle.fw_run.specs.Streams.{bytes_of, cycle_start, stream_packet}
+use Rattle.fw_run.specs.Actions.{Action, AddDevice, AddCable, ResetBus, StartConnection, StartBreak, HalfStep, Rest, Unsettled, Pass, EndSecond, Die, CarryOut, Start, Ask, Answer, ShowWord, SendCommand, SendFrame, Receive, InsertTape, EjectTape, StartCycle, SendPacket, Finish, Resets, Declares, Joins, with_topology, Step, Steps}
 use Rattle.fw_run.specs.Good.{IsGood}
 use Rattle.fw_run.specs.Reclaiming.{IsBusReset, GoesOn, IsSecond, EndsAreSeconds}
 use Rattle.fw_run.proofs.Along.{step_led}
@@ -65,6 +67,13 @@ begins s (Start d) out t g x = inr (as_before s _ t x.1.3 refl)
 begins s (Ask y) out t g x = inr (as_before s _ t x.1.4 refl)
 begins s Answer out t g x = inr (as_before s _ t x.state_is refl)
 begins s (ShowWord d offset) out t g x = inr (as_before s s t x.1.4 refl)
+begins s (SendCommand a b bytes) out t g x = inr (as_before s _ t x.1.4 refl)
+begins s (SendFrame d) out t g x = inr (as_before s _ t x.1.state_is refl)
+begins s (Receive o) out t g x = inr (as_before s _ t x.1.state_is refl)
+begins s (InsertTape d tape system) out t g x = inr (as_before s _ t x.1.4 refl)
+begins s (EjectTape d) out t g x = inr (as_before s _ t x.1.4 refl)
+begins s StartCycle out t g x = inr (as_before s _ t x.1.2 refl)
+begins s (SendPacket p block) out t g x = inr (as_before s s t x.1.3 refl)
 begins s Finish out t g x = inr (as_before s _ t x.1.1 refl)
 
 -- ---- the bus reset behind a state in which a second runs
@@ -91,6 +100,13 @@ goes_on s (Start d) xs out t x runs on = on
 goes_on s (Ask y) xs out t x runs on = on
 goes_on s Answer xs out t x runs on = on
 goes_on s (ShowWord d offset) xs out t x runs on = on
+goes_on s (SendCommand a b bytes) xs out t x runs on = on
+goes_on s (SendFrame d) xs out t x runs on = on
+goes_on s (Receive o) xs out t x runs on = on
+goes_on s (InsertTape d tape system) xs out t x runs on = on
+goes_on s (EjectTape d) xs out t x runs on = on
+goes_on s StartCycle xs out t x runs on = on
+goes_on s (SendPacket p block) xs out t x runs on = on
 goes_on s Finish xs out t x runs on = on
 
 -- actions with a bus reset among them, since which no second ended
@@ -150,7 +166,7 @@ opened_of s t (a ∷ xs) out g f = go (opened_of f.2 t xs f.1 (step_good s a f.0
 
 -- ---- which action ends one
 
-abbrev is_over : Entry → Bool
+abbrev pub is_over : Entry → Bool
 is_over (Event e) = e.code == SECOND_OVER
 is_over (Reset r) = false
 is_over (Async p) = false
@@ -160,7 +176,7 @@ is_over (Shown s) = false
 is_over EndEntry = false
 
 -- the first entry ends a second
-abbrev opens_over : List Timed → Bool
+abbrev pub opens_over : List Timed → Bool
 opens_over [] = false
 opens_over (e ∷ es) = is_over e.what
 
@@ -222,6 +238,13 @@ ends_it s (Start d) out t x over = absurd (never out (at_most s.clock.cycle (Som
 ends_it s (Ask y) out t x over = absurd (never out (at_most s.clock.cycle (Some (Async (packet_of (transaction_head s y) (access_request y.access))))) over x.1.3 refl)
 ends_it s Answer out t x over = absurd (never out (at_most s.clock.cycle (Some (Async x.response))) over x.out_is refl)
 ends_it s (ShowWord d offset) out t x over = absurd (never out (at_most s.clock.cycle (Some (shown_entry d offset (read_at s d offset).value))) over x.1.3 refl)
+ends_it s (SendCommand a b bytes) out t x over = absurd (never out (at_most s.clock.cycle (Some (Async (frame_packet s (command_write a b bytes))))) over x.1.3 refl)
+ends_it s (SendFrame d) out t x over = let y = x.1 in absurd (never out (at_most s.clock.cycle (Some (Async (frame_packet s (response_write d y.to y.told.1))))) over y.out_is refl)
+ends_it s (Receive o) out t x over = let y = x.1 in absurd (never out (at_most s.clock.cycle (Some (Async y.response))) over y.out_is refl)
+ends_it s (InsertTape d tape system) out t x over = absurd (never out (at_most s.clock.cycle (Some (inserted d tape system))) over x.1.3 refl)
+ends_it s (EjectTape d) out t x over = absurd (never out (at_most s.clock.cycle (Some (ejected d))) over x.1.3 refl)
+ends_it s StartCycle out t x over = absurd (never out (at_most s.clock.cycle (Some (Async (cycle_start x.1.1.0.root s.clock.cycle)))) over x.1.1.2 refl)
+ends_it s (SendPacket p block) out t x over = absurd (never out (at_most s.clock.cycle (Some (Iso (stream_packet s p (bytes_of block))))) over x.1.2 refl)
 ends_it s Finish out t x over = absurd (never out (at_most s.clock.cycle (Some EndEntry)) over x.1.0 refl)
 
 -- ---- where a log has the end of a second

@@ -34,8 +34,8 @@ use Rattle.fw_rounds.proofs.Beginning.{can_settle, all_reset}
 use Rattle.fw_rounds.proofs.Settling.{settle_restores}
 use Rattle.fw_run.specs.declared.order.Order.TheVariants.{Settle}
 use Rattle.fw_run.specs.Giving.{at_cycle}
-use Rattle.fw_run.specs.State.{State, Clock, Declared, first_state, numbers_to, linked_number, is_living, living, list_to, manager_in, directory_of}
-use Rattle.fw_run.specs.HalfSteps.{asks, taken, half_of, after_half, has_request, is_busy_at, is_unsettled}
+use Rattle.fw_run.specs.State.{State, Clock, first_state, numbers_to, linked_number, is_living, living, list_to, manager_in, directory_of}
+use Rattle.fw_run.specs.HalfSteps.{asks, taken, half_of, after_half, has_request, is_unsettled}
 use Rattle.fw_run.specs.Actions.{Action, HalfStep, Unsettled, Steps, counted}
 use Rattle.fw_run.specs.Carrying.{half_steps_of, Rounds}
 use Rattle.fw_run.specs.Good.{IsGood}
@@ -340,7 +340,7 @@ enough s t n actions out x many f = go c.4
     r : BusResets x.before s
     r = bus_resets x.before s x.reset x.resets.entry x.before.clock.cycle gb x.resets.step
 
-    c : CarriedBy s (Settle n) out t
+    c : CarriedBy s (Settle n) actions out t
     c = carried s (Settle n) actions out t f
 
     gm : IsGood c.1

@@ -1,14 +1,18 @@
 -- Each entry that actions write may be written, in cycles that never fall.
-use Rattle.std.proofs.Common.{◌≡◌, ℕ, ◌+◌, ◌^◌, ◌<◌, ◌≤◌, ◌++◌, List, [], ◌∷◌, Bool, true, false, Option, Some, None, refl, ap, sym, subst, ◌∙◌, arith, IsTrue}
+use Rattle.std.proofs.Common.{◌≡◌, ℕ, ◌+◌, ◌^◌, ◌<◌, ◌≤◌, ◌++◌, List, [], ◌∷◌, length, Bool, true, false, Option, Some, None, refl, ap, sym, subst, ◌∙◌, arith, IsTrue}
 use Rattle.std.specs.Prelude.{⊤}
 use Rattle.fw_async.specs.Async as Async
 use Rattle.fw_async.specs.declared.packet.Packet.{Packet}
 use Rattle.fw_csr.specs.declared.request.Request.{Request}
 use Rattle.fw_csr.specs.declared.request.Swap.{Swap as Swapping}
 use Rattle.fw_entry.specs.declared.entry.Entry.{Entry}
-use Rattle.fw_entry.specs.declared.entry.Entry.TheVariants.{Reset, Async as AsyncEntry, End as EndEntry}
+use Rattle.fw_entry.specs.declared.entry.Entry.TheVariants.{Reset, Async as AsyncEntry, Iso as IsoEntry, End as EndEntry}
 use Rattle.fw_entry.specs.declared.entry.Timed.{Timed}
-use Rattle.fw_entry.specs.Log.{Fits, TimedFits}
+use Rattle.fw_entry.specs.Log.{Fits, TimedFits, is_event}
+use Rattle.fw_entry.specs.declared.codes.event.TheConstants.{INSERTED}
+use Rattle.fw_tape.specs.declared.system.TapeSystem.{TapeSystem}
+use Rattle.fw_tape.specs.declared.system.TapeSystem.TheVariants.{Lines525, Lines625}
+use Rattle.fw_tree.proofs.ReachLaws.{sound_made}
 use Rattle.fw_tree.specs.Topology.{Topology}
 use Rattle.fw_ledger.specs.Words.{node_of, first_address}
 use Rattle.fw_cmp.specs.Requests.{request_at}
@@ -18,11 +22,13 @@ use Rattle.fw_run.specs.declared.order.Access.{Access}
 use Rattle.fw_run.specs.declared.order.Access.TheVariants.{Read, Swap}
 use Rattle.fw_run.specs.declared.order.Transaction.{Transaction}
 use Rattle.fw_run.specs.Giving.{at_most}
-use Rattle.fw_run.specs.Entries.{second_over, died, started, unsettled, shown_entry}
+use Rattle.fw_run.specs.Entries.{second_over, died, started, inserted, ejected, lines_of, unsettled, shown_entry}
 use Rattle.fw_run.specs.State.{State, Declared, epoch_of, is_on, is_linked, with_device}
+use Rattle.fw_run.specs.Frames.{command_write, response_write, frame_packet}
 use Rattle.fw_run.specs.Spaces.{script_head, access_request, target_node, transaction_head, answer_packet, read_at, reply_from}
 use Rattle.fw_run.specs.HalfSteps.{half}
-use Rattle.fw_run.specs.Actions.{Action, AddDevice, AddCable, ResetBus, StartConnection, StartBreak, HalfStep, Rest, Unsettled, Pass, EndSecond, Die, CarryOut, Start, Ask, Answer, ShowWord, Finish, Resets, Declares, Joins, AccessFits, with_topology, Step, Steps}
+use Rattle.fw_run.specs.Streams.{bytes_of, cycle_start, stream_packet}
+use Rattle.fw_run.specs.Actions.{Action, AddDevice, AddCable, ResetBus, StartConnection, StartBreak, HalfStep, Rest, Unsettled, Pass, EndSecond, Die, CarryOut, Start, Ask, Answer, ShowWord, SendCommand, SendFrame, Receive, InsertTape, EjectTape, StartCycle, SendPacket, Finish, Resets, Declares, Joins, AccessFits, with_topology, Step, Steps}
 use Rattle.fw_run.specs.Good.{IsGood, AreDeclared}
 use Rattle.fw_run.specs.Numbers.{HasNumbers}
 use Rattle.fw_run.proofs.Along.{step_led}
@@ -36,7 +42,10 @@ use Rattle.fw_run.proofs.Kept.{step_numbers}
 use Rattle.fw_run.proofs.Leads.{linked_of}
 use Rattle.fw_run.proofs.Led.{Led}
 use Rattle.fw_run.proofs.Resets.{declaring}
+use Rattle.fw_run.proofs.StreamFits.{start_fits, packet_fits}
 use Rattle.fw_run.proofs.Steps.{step_good}
+use Rattle.fw_run.proofs.FrameWrites.{write_fits, sendable_fits, received_fits}
+use Rattle.fw_run.proofs.Framing.{told_sendable}
 use Rattle.fw_run.proofs.Transactions.{linked_number_of}
 
 -- ---- entries that may be written
@@ -113,6 +122,14 @@ answer_fits s x p g b on is =
 linked_few : (s : State) (d : ℕ) → IsGood s → IsTrue (is_linked s d) → d < 63
 linked_few s d g on = let x = linked_of s d g on in linked_small s x.entry d x.number x.shows.1 x.linked
 
+-- a declared device has a number below 63
+declared_few : (s : State) (d : ℕ) → IsGood s → d < length s.declared.names → d < 2 ^ 8
+declared_few s d g low = let few = (sound_made s.declared.topology g.declared.made).few in let same = g.declared.named in omega (arith, low, few, same)
+
+inserted_shape : (d tape : ℕ) (system : TapeSystem) → IsTrue (is_event INSERTED d tape (lines_of system))
+inserted_shape d tape Lines525 = refl
+inserted_shape d tape Lines625 = refl
+
 pub step_fits : (s : State) (a : Action) (out : List Timed) (t : State) → IsGood s → HasNumbers s → Step s a out t → AllFit out
 step_fits s (AddDevice name kind ports speed) out t g b x = declare_fits s s.declared.names (with_device s.declared name kind ports speed) out t (more_declared s name kind ports speed (record { good = g; room = x.1.0; some = x.1.1; most = x.1.2; fast = x.1.3 })) x.1.4
 step_fits s (AddCable p q) out t g b x = join_fits (is_on s p.device) (is_on s q.device) p.device q.device s x.1.0 out t (cabled_declared s.declared x.1.0 p q x.1.1 g.declared) x.1.2
@@ -134,6 +151,13 @@ step_fits s (ShowWord d offset) out t g b x = most_fit s.clock.cycle (Some (show
   offset = x.1.1;
   word = (space_fits s d (node_of s.account.latest d) (first_address + offset) None g b.bus_manager_id (linked_number_of s d g x.1.0)).value;
 })
+step_fits s (SendCommand a c bytes) out t g b x = most_fit s.clock.cycle (Some (AsyncEntry (frame_packet s (command_write a c bytes)))) out x.1.3 (write_fits s (command_write a c bytes) g x.1.2)
+step_fits s (SendFrame d) out t g b x = let y = x.1 in most_fit s.clock.cycle (Some (AsyncEntry (frame_packet s (response_write d y.to y.told.1)))) out y.out_is (write_fits s (response_write d y.to y.told.1) g (sendable_fits d y.to y.told.1 (told_sendable s d y.told g y.next)))
+step_fits s (Receive o) out t g b x = let y = x.1 in most_fit s.clock.cycle (Some (AsyncEntry y.response)) out y.out_is (received_fits s o out t g y)
+step_fits s (InsertTape d tape system) out t g b x = most_fit s.clock.cycle (Some (inserted d tape system)) out x.1.3 (record { device = declared_few s d g x.1.0; tape = x.1.2; shape = inserted_shape d tape system })
+step_fits s (EjectTape d) out t g b x = most_fit s.clock.cycle (Some (ejected d)) out x.1.3 (record { device = declared_few s d g x.1.0; tape = omega arith; shape = refl })
+step_fits s StartCycle out t g b x = most_fit s.clock.cycle (Some (AsyncEntry (cycle_start x.1.1.0.root s.clock.cycle))) out x.1.1.2 (start_fits s x.1.1.0 g x.1.1.1)
+step_fits s (SendPacket p block) out t g b x = most_fit s.clock.cycle (Some (IsoEntry (stream_packet s p (bytes_of block)))) out x.1.2 (packet_fits s p block g x.1.0 x.1.1)
 step_fits s Finish out t g b x = most_fit s.clock.cycle (Some EndEntry) out x.1.0 tt
 
 -- ---- actions

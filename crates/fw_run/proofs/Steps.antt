@@ -3,15 +3,17 @@ use Rattle.std.proofs.Common.{List, [], ◌∷◌, None, Some, sym, subst, arith
 use Rattle.fw_entry.specs.declared.entry.Timed.{Timed}
 use Rattle.fw_run.specs.State.{State}
 use Rattle.fw_run.specs.HalfSteps.{after_half}
-use Rattle.fw_run.specs.Actions.{Action, AddDevice, AddCable, ResetBus, StartConnection, StartBreak, HalfStep, Rest, Unsettled, Pass, EndSecond, Die, CarryOut, Start, Ask, Answer, ShowWord, Finish, Step, Steps}
+use Rattle.fw_run.specs.Actions.{Action, AddDevice, AddCable, ResetBus, StartConnection, StartBreak, HalfStep, Rest, Unsettled, Pass, EndSecond, Die, CarryOut, Start, Ask, Answer, ShowWord, SendCommand, SendFrame, Receive, InsertTape, EjectTape, StartCycle, SendPacket, Finish, Step, Steps}
+use Rattle.fw_run.specs.Frames.{command_write}
 use Rattle.fw_run.specs.Spaces.{bus_manager_id_after}
 use Rattle.fw_run.specs.Good.{IsGood}
 use Rattle.fw_run.proofs.Cables.{cable_good, begun_good}
 use Rattle.fw_run.proofs.Declares.{declare_good}
 use Rattle.fw_run.proofs.Events.{start_good as connection_good, break_good, death_good}
+use Rattle.fw_run.proofs.Framing.{with_frame_good, send_good, receive_good, insert_good, eject_good}
 use Rattle.fw_run.proofs.HalfSteps.{half_good}
 use Rattle.fw_run.proofs.Others.{start_good, transaction_good, unsettled_good, finish_good}
-use Rattle.fw_run.proofs.Times.{pass_good, second_good, counted_good}
+use Rattle.fw_run.proofs.Times.{written_good, pass_good, second_good, counted_good}
 
 pub step_good : (s : State) (a : Action) (out : List Timed) (t : State) → IsGood s → Step s a out t → IsGood t
 step_good s (AddDevice name kind ports speed) out t g x = declare_good s name kind ports speed out t (record { good = g; room = x.1.0; some = x.1.1; most = x.1.2; fast = x.1.3 }) x.1.4
@@ -30,6 +32,13 @@ step_good s (Start d) out t g x = subst IsGood (sym x.1.3) (start_good s d g x.1
 step_good s (Ask y) out t g x = subst IsGood (sym x.1.4) (transaction_good s (Some y) s.bus_manager_id g)
 step_good s Answer out t g x = subst IsGood (sym x.state_is) (transaction_good s None (bus_manager_id_after s x.transaction) g)
 step_good s (ShowWord d offset) out t g x = subst IsGood (sym x.1.4) g
+step_good s (SendCommand a b bytes) out t g x = subst IsGood (sym x.1.4) (with_frame_good s s.decks (Some (command_write a b bytes)) g g.decks)
+step_good s (SendFrame d) out t g x = send_good s d out t g x.1
+step_good s (Receive o) out t g x = receive_good s o out t g x.1
+step_good s (InsertTape d tape system) out t g x = subst IsGood (sym x.1.4) (insert_good s d tape system g)
+step_good s (EjectTape d) out t g x = subst IsGood (sym x.1.4) (eject_good s d g)
+step_good s StartCycle out t g x = subst IsGood (sym x.1.2) (written_good s g x.1.0)
+step_good s (SendPacket p block) out t g x = subst IsGood (sym x.1.3) g
 step_good s Finish out t g x = subst IsGood (sym x.1.1) (finish_good s g)
 
 pub steps_good : (s t : State) (xs : List Action) (out : List Timed) → IsGood s → Steps s xs out t → IsGood t

@@ -8,9 +8,12 @@ use Rattle.fw_cmp.specs.Resets.{after_second as controller_second}
 use Rattle.fw_reclaim.specs.Worlds.{SecondOver}
 use Rattle.fw_reclaim.proofs.Together.{first_reclaims, goes_on_reclaiming}
 use Rattle.fw_run.specs.Entries.{second_over}
-use Rattle.fw_run.specs.State.{State, first_state, entered, directory_of}
+use Rattle.fw_run.specs.State.{State, first_state, entered, while_talking, directory_of}
 use Rattle.fw_run.specs.Actions.{after_cycles, after_second, counted}
 use Rattle.fw_run.specs.Good.{IsGood, IsLatest, world_of}
+use Rattle.fw_tape.specs.Blocks.{blocks_among}
+use Rattle.fw_run.proofs.Counts.{silent}
+use Rattle.fw_run.proofs.Decks.{first_is, passed_is}
 
 -- ---- before the first device
 
@@ -23,12 +26,15 @@ first_good = record {
   unused = λ d off. refl;
   time = record { second = λ runs. absurd (grind arith); over_at = omega arith; cycle = omega arith };
   half_steps = omega arith;
+  written = omega arith;
+  decks = first_is;
+  streams = λ p off. refl;
 }
 
 -- ---- half steps that do nothing
 
 pub counted_good : (s : State) (n : ℕ) → IsGood s → s.half_steps + n ≤ 4000000 → IsGood (counted s n)
-counted_good s n g few = record { declared = g.declared; latest = latest_ s.account.latest g.latest; reclaims = g.reclaims; stands = g.stands; unused = g.unused; time = record { second = g.time.second; over_at = g.time.over_at; cycle = g.time.cycle }; half_steps = few }
+counted_good s n g few = record { declared = g.declared; latest = latest_ s.account.latest g.latest; reclaims = g.reclaims; stands = g.stands; unused = g.unused; time = record { second = g.time.second; over_at = g.time.over_at; cycle = g.time.cycle }; half_steps = few; written = g.written; decks = g.decks; streams = g.streams }
   where
     latest_ : (o : Option ResetEntry) → IsLatest o s → IsLatest o (counted s n)
     latest_ None h = h
@@ -36,8 +42,15 @@ counted_good s n g few = record { declared = g.declared; latest = latest_ s.acco
 
 -- ---- cycles
 
+pub written_good : (s : State) → IsGood s → s.written < 8000 → IsGood (record s { written = s.written + 1 })
+written_good s g few = record { declared = g.declared; latest = latest_ s.account.latest g.latest; reclaims = g.reclaims; stands = g.stands; unused = g.unused; time = record { second = g.time.second; over_at = g.time.over_at; cycle = g.time.cycle }; half_steps = g.half_steps; written = omega (arith, few); decks = g.decks; streams = g.streams }
+  where
+    latest_ : (o : Option ResetEntry) → IsLatest o s → IsLatest o (record s { written = s.written + 1 })
+    latest_ None h = h
+    latest_ (Some e) h = h
+
 pub pass_good : (s : State) (n : ℕ) → IsGood s → s.clock.cycle + n ≤ 2 ^ 52 → (IsTrue s.account.reclaiming → s.clock.cycle + n < s.clock.over_at) → IsGood (after_cycles s n)
-pass_good s n g small second = record { declared = g.declared; latest = latest_ s.account.latest g.latest; reclaims = g.reclaims; stands = g.stands; unused = g.unused; time = record { second = second; over_at = omega (arith, g.time.over_at); cycle = small }; half_steps = g.half_steps }
+pass_good s n g small second = record { declared = g.declared; latest = latest_ s.account.latest g.latest; reclaims = g.reclaims; stands = g.stands; unused = g.unused; time = record { second = second; over_at = omega (arith, g.time.over_at); cycle = small }; half_steps = g.half_steps; written = g.written; decks = λ d. passed_is s.account.latest s.clock.cycle n d (s.decks d) (g.decks d); streams = silent s.account (λ p. s.streams p + blocks_among (s.decks p.device).unit.tape n) }
   where
     latest_ : (o : Option ResetEntry) → IsLatest o s → IsLatest o (after_cycles s n)
     latest_ None h = h
@@ -47,7 +60,7 @@ pass_good s n g small second = record { declared = g.declared; latest = latest_ 
 
 -- the state after it, with this account
 abbrev over : State → Account → State
-over s l = after_cycles (record s { account = l; controllers = λ d. controller_second (s.controllers d) }) 1
+over s l = after_cycles (record s { account = l; controllers = λ d. controller_second (s.controllers d); streams = while_talking l s.streams }) 1
 
 pub second_ends : (l : Account) → IsTrue l.reclaiming → entered l second_over ≡ account_second l
 second_ends l runs = ap (λ b. unwrap_or (cond b (Some (account_second l)) None) l) runs
@@ -61,6 +74,9 @@ over_good s g small = record {
   unused = λ d off. ap controller_second (g.unused d off);
   time = record { second = λ runs. absurd (grind arith); over_at = omega (arith, g.time.over_at); cycle = small };
   half_steps = g.half_steps;
+  written = g.written;
+  decks = λ d. passed_is s.account.latest s.clock.cycle 1 d (s.decks d) (g.decks d);
+  streams = silent t.account (λ p. while_talking t.account s.streams p + blocks_among (s.decks p.device).unit.tape 1);
 }
   where
     t : State

@@ -29,10 +29,11 @@ use Rattle.fw_reclaim.proofs.Together.{goes_on_reclaiming}
 use Rattle.fw_rounds.specs.HalfSteps.{AsksWhatStands}
 use Rattle.fw_rounds.proofs.Stands.{next_stands}
 use Rattle.fw_node.specs.Packets.{packet_of}
-use Rattle.fw_run.specs.State.{State, entered_by, linked_number, directory_of, is_living}
+use Rattle.fw_run.specs.State.{State, entered_by, while_talking, linked_number, directory_of, is_living}
 use Rattle.fw_run.specs.HalfSteps.{head_from, said, asks, taken}
 use Rattle.fw_run.specs.Good.{IsGood, IsLatest, world_of}
 use Rattle.fw_run.proofs.Buses.{shows_bus, linked_at, linked_small}
+use Rattle.fw_run.proofs.Counts.{silent}
 use Rattle.fw_run.proofs.Directories.{told}
 
 -- ---- packets
@@ -67,7 +68,11 @@ abbrev marked : Account → (ℕ → Option PlugAt) → (ℕ → Option Request)
 marked l a o = record l { addressed = a; outstanding = o }
 
 abbrev turned : State → ℕ → (ℕ → Option PlugAt) → (ℕ → Option Request) → State
-turned s d a o = record s { account = marked s.account a o; controllers = update s.controllers d (after_next s.clock.cycle (directory_of s) (s.controllers d)) }
+turned s d a o = record s {
+  account = marked s.account a o;
+  controllers = update s.controllers d (after_next s.clock.cycle (directory_of s) (s.controllers d));
+  streams = while_talking (marked s.account a o) s.streams;
+}
 
 latest_turned : (s : State) (d : ℕ) (a : ℕ → Option PlugAt) (o : ℕ → Option Request) (e : ResetEntry) → s.account.latest ≡ Some e → IsLatest (Some e) s → IsLatest s.account.latest (turned s d a o)
 latest_turned s d a o e is h = subst (λ x. IsLatest x (turned s d a o)) (sym is) h
@@ -89,6 +94,9 @@ turned_good s d n e a o g lives is h number heard says = record {
   unused = λ k off. unused k off (cases_eq k d);
   time = record { second = g.time.second; over_at = g.time.over_at; cycle = g.time.cycle };
   half_steps = g.half_steps;
+  written = g.written;
+  decks = g.decks;
+  streams = silent (marked s.account a o) s.streams;
 }
   where
     unused : (k : ℕ) → IsFalse (is_living s k) → (k ≡ d) ⊎ (k ≢ d) → (turned s d a o).controllers k ≡ new_controller
@@ -125,7 +133,7 @@ turns s d n e g is h number heard = go (next s.clock.cycle (directory_of s) (s.c
 
 -- the state with this account
 abbrev pub with_account : State → ℕ → Account → State
-with_account s d l = record s { account = l; controllers = update s.controllers d (after_next s.clock.cycle (directory_of s) (s.controllers d)) }
+with_account s d l = record s { account = l; controllers = update s.controllers d (after_next s.clock.cycle (directory_of s) (s.controllers d)); streams = while_talking l s.streams }
 
 pub living_linked : (s : State) (d : ℕ) → IsTrue (is_living s d) → IsTrue (is_some (linked_number s.account.latest d))
 living_linked s d lives = grind (arith, lives)

@@ -1,11 +1,12 @@
 -- Actions: what commands do, each of which writes one entry at most.
-use Rattle.std.specs.Prelude.{ℕ, ◌≡◌, ◌+◌, ◌^◌, ◌<◌, ◌≤◌, List, [], ◌∷◌, ◌++◌, length, Bool, true, false, Some, None, Ok, is_some, if◌then◌else◌, IsTrue, IsFalse}
+use Rattle.std.specs.Prelude.{ℕ, ◌≡◌, ◌+◌, ◌^◌, ◌<◌, ◌≤◌, List, [], ◌∷◌, ◌++◌, length, Bool, true, false, Option, Some, None, Ok, is_some, if◌then◌else◌, IsTrue, IsFalse}
 use Rattle.std.specs.declared.result.Result.{Result}
 use Rattle.fw_base.specs.declared.device.DeviceKind.{DeviceKind}
 use Rattle.fw_base.specs.Tables.{update}
+use Rattle.fw_base.specs.declared.plug.PlugAt.{PlugAt}
 use Rattle.fw_async.specs.declared.packet.Packet.{Packet}
 use Rattle.fw_entry.specs.declared.entry.Timed.{Timed}
-use Rattle.fw_entry.specs.declared.entry.Entry.TheVariants.{Reset, Async, End as EndEntry}
+use Rattle.fw_entry.specs.declared.entry.Entry.TheVariants.{Reset, Async, Iso, End as EndEntry}
 use Rattle.fw_entry.specs.declared.entry.ResetEntry.{ResetEntry}
 use Rattle.fw_tree.specs.declared.facts.End.{End}
 use Rattle.fw_tree.specs.Topology.{Topology, IsJoined}
@@ -22,9 +23,17 @@ use Rattle.fw_run.specs.declared.order.Transaction.{Transaction}
 use Rattle.fw_run.specs.declared.order.Wanted.{Wanted}
 use Rattle.fw_run.specs.declared.order.Wanted.TheVariants.{PlugToPlug, BroadcastOut, BroadcastIn}
 use Rattle.fw_run.specs.Giving.{at_most}
-use Rattle.fw_run.specs.Entries.{second_over, died, started, unsettled, shown_entry}
-use Rattle.fw_run.specs.State.{State, with_device, entered, epoch_of, is_on, is_linked, is_living}
-use Rattle.fw_node.specs.Packets.{packet_of}
+use Rattle.fw_run.specs.Entries.{second_over, died, started, inserted as inserted_entry, ejected, unsettled, shown_entry}
+use Rattle.fw_run.specs.State.{State, with_device, entered, while_talking, epoch_of, is_on, is_linked, has_deck, is_living}
+use Rattle.fw_run.specs.Decks.{Obeyed, with_tape, passed as deck_passed, after_reset as deck_reset}
+use Rattle.fw_run.specs.Frames.{Sends, Receives, request_of, command_write, frame_packet}
+use Rattle.fw_tape.specs.declared.cassette.Cassette.{Cassette}
+use Rattle.fw_tape.specs.declared.system.TapeSystem.{TapeSystem}
+use Rattle.fw_tape.specs.Motion.{inserted}
+use Rattle.fw_tape.specs.Blocks.{blocks_among}
+use Rattle.fw_ledger.specs.Account.{talks}
+use Rattle.fw_run.specs.Streams.{GivenBlock, GivesBlock, bytes_of, cycle_start, stream_packet}
+use Rattle.fw_node.specs.Packets.{packet_of, RequestFits}
 use Rattle.fw_run.specs.Spaces.{answer_packet, transaction_head, target_node, access_request, read_at, bus_manager_id_after}
 use Rattle.fw_run.specs.HalfSteps.{half, has_request, with_controller, after_half, is_unsettled}
 
@@ -45,18 +54,28 @@ pub data Action : Type 0 where
   Ask : (transaction : Transaction) → Action
   Answer : Action
   ShowWord : (device offset : ℕ) → Action
+  SendCommand : (from to : ℕ) → (bytes : List ℕ) → Action  -- bytes are written to FCP_COMMAND
+  SendFrame : (device : ℕ) → Action  -- a deck writes its next frame
+  Receive : (obeyed : Option Obeyed) → Action  -- a frame's write is answered, and where it is a command to a unit, carried out
+  InsertTape : (device tape : ℕ) → (system : TapeSystem) → Action
+  EjectTape : (device : ℕ) → Action
+  StartCycle : Action  -- the root writes the cycle start of the cycle that has come
+  SendPacket : (plug : PlugAt) → (block : Option GivenBlock) → Action  -- an output plug sends its packet of the cycle, with this block or empty
   Finish : Action
 
 -- ---- bus resets
 
 -- The state after a bus reset: the manager's registers are as at first, the second begins, but for the first bus reset, before which
--- nothing can have been connected (own), and each controller hears of it.
+-- nothing can have been connected (own), each controller hears of it, and the decks forget who asked to be told of changes.
 abbrev pub after_reset_entry : State → ResetEntry → State
 after_reset_entry s e = record s {
   clock = record { cycle = s.clock.cycle; over_at = if is_some s.account.latest then s.clock.cycle + 8000 else s.clock.cycle };
   account = entered s.account (Reset e);
   bus_manager_id = 0x3F;
   controllers = λ d. controller_reset e.epoch (s.controllers d);
+  decks = λ d. deck_reset (s.decks d);
+  frame = None;
+  streams = while_talking (entered s.account (Reset e)) s.streams;
 }
 
 -- A device on the bus begins a bus reset, of which there are at most 10,000.
@@ -107,20 +126,34 @@ abbrev pub with_new_controller : State → ℕ → Bool → State
 with_new_controller s d is_dead = record s { controllers = update s.controllers d new_controller; dead = update s.dead d is_dead }
 
 abbrev pub after_death : State → ℕ → State
-after_death s d = record (with_new_controller s d true) { account = entered s.account (died d) }
+after_death s d = record (with_new_controller s d true) { account = entered s.account (died d); streams = while_talking (entered s.account (died d)) s.streams }
 
 abbrev pub after_start : State → ℕ → State
 after_start s d = record (with_new_controller s d false) { account = entered s.account (started d) }
 
 -- ---- time
 
--- cycles go by
+-- cycles go by, in which tapes move, and each plug that talks sends a data packet for each block that is due, whether it is written or not
 abbrev pub after_cycles : State → ℕ → State
-after_cycles s n = record s { clock = record s.clock { cycle = s.clock.cycle + n } }
+after_cycles s n = record s {
+  clock = record s.clock { cycle = s.clock.cycle + n };
+  decks = λ d. deck_passed n (s.decks d);
+  streams = while_talking s.account (λ p. s.streams p + blocks_among (s.decks p.device).unit.tape n);
+}
 
 -- the second is over, and each controller hears of it
 abbrev pub after_second : State → State
-after_second s = record s { account = entered s.account second_over; controllers = λ d. controller_second (s.controllers d) }
+after_second s = record s {
+  account = entered s.account second_over;
+  controllers = λ d. controller_second (s.controllers d);
+  streams = while_talking (entered s.account second_over) s.streams;
+}
+
+-- ---- tapes
+
+-- this tape is in a deck, or none
+abbrev pub with_cassette : State → ℕ → Option Cassette → State
+with_cassette s d tape = record s { decks = update s.decks d (with_tape tape (s.decks d)) }
 
 -- half steps more were given
 abbrev pub counted : State → ℕ → State
@@ -166,6 +199,22 @@ Happens s Answer out t = ⊥
 Happens s (ShowWord d offset) out t =
     IsTrue (is_linked s d) × (offset < 2 ^ 12) × ((read_at s d offset).rcode ≡ 0)
     × (out ≡ at_most s.clock.cycle (Some (shown_entry d offset (read_at s d offset).value))) × (t ≡ s)
+Happens s (SendCommand a b bytes) out t =
+    IsTrue (is_living s a) × IsTrue (is_linked s b) × RequestFits (request_of (command_write a b bytes))
+    × (out ≡ at_most s.clock.cycle (Some (Async (frame_packet s (command_write a b bytes))))) × (t ≡ record s { frame = Some (command_write a b bytes) })
+Happens s (SendFrame d) out t = Sends s d out t
+Happens s (Receive obeyed) out t = Receives s obeyed out t
+Happens s (InsertTape d tape system) out t =
+    (d < length s.declared.names) × IsTrue (has_deck s d) × (tape < 2 ^ 16)
+    × (out ≡ at_most s.clock.cycle (Some (inserted_entry d tape system))) × (t ≡ with_cassette s d (Some (inserted tape system)))
+Happens s (EjectTape d) out t =
+    (d < length s.declared.names) × IsTrue (has_deck s d) × IsTrue (is_some (s.decks d).unit.tape)
+    × (out ≡ at_most s.clock.cycle (Some (ejected d))) × (t ≡ with_cassette s d None)
+Happens s StartCycle out t =
+    (s.written < 8000) × ((e : ResetEntry) × (s.account.latest ≡ Some e) × (out ≡ at_most s.clock.cycle (Some (Async (cycle_start e.root s.clock.cycle)))))
+    × (t ≡ record s { written = s.written + 1 })
+Happens s (SendPacket p block) out t =
+    IsTrue (talks s.account p) × GivesBlock s p block × (out ≡ at_most s.clock.cycle (Some (Iso (stream_packet s p (bytes_of block))))) × (t ≡ s)
 Happens s Finish out t = (out ≡ at_most s.clock.cycle (Some EndEntry)) × (t ≡ record s { account = entered s.account EndEntry })
 
 -- the node that a transaction of the script asked answers it

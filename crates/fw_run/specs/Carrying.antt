@@ -1,16 +1,22 @@
 -- What a command that breaks no rule does: its actions, all that they write, and the state that they lead to.
-use Rattle.std.specs.Prelude.{ℕ, zero, suc, ◌≡◌, ◌+◌, ◌*◌, List, [], ◌∷◌, ◌++◌, length, map, true, false, IsFalse}
+use Rattle.std.specs.Prelude.{ℕ, zero, suc, ◌≡◌, ◌+◌, ◌*◌, ◌==◌, ◌&&◌, if◌then◌else◌, List, [], ◌∷◌, ◌++◌, length, map, Option, Some, None, is_some, true, false, IsFalse}
 use Rattle.fw_base.specs.declared.device.DeviceKind.{DeviceKind}
+use Rattle.fw_base.specs.declared.plug.PlugAt.{PlugAt}
+use Rattle.fw_entry.specs.declared.entry.ResetEntry.{ResetEntry}
 use Rattle.fw_entry.specs.declared.entry.Timed.{Timed}
 use Rattle.fw_tree.specs.declared.facts.End.{End}
 use Rattle.fw_run.specs.declared.order.Transaction.{Transaction}
 use Rattle.fw_run.specs.declared.order.Wanted.{Wanted}
 use Rattle.fw_run.specs.declared.order.Order.{Order}
 use Rattle.fw_run.specs.declared.order.Order.TheVariants as Orders
+use Rattle.fw_tape.specs.declared.system.TapeSystem.{TapeSystem}
+use Rattle.fw_run.specs.Decks.{Obeyed}
+use Rattle.fw_run.specs.Frames.{next_told}
+use Rattle.fw_run.specs.Streams.{GivenBlock, talkers}
 use Rattle.fw_run.specs.State.{State, living}
 use Rattle.fw_run.specs.HalfSteps.{has_request, is_unsettled}
 use Rattle.fw_run.specs.Actions.{Action, AddDevice, AddCable, ResetBus, StartConnection, StartBreak, HalfStep, Rest, Unsettled, Pass, EndSecond, Steps}
-use Rattle.fw_run.specs.Actions.{Die, CarryOut, Start, Ask, Answer, ShowWord, Finish}
+use Rattle.fw_run.specs.Actions.{Die, CarryOut, Start, Ask, Answer, ShowWord, SendCommand, SendFrame, Receive, InsertTape, EjectTape, StartCycle, SendPacket, Finish}
 
 -- the same action so many times
 unfoldable pub times : ℕ → Action → List Action
@@ -29,6 +35,47 @@ pub data Rounds : ℕ → State → List Action → List Timed → State → Typ
       → Steps s (half_steps_of (living s)) first m → Rounds n m actions rest t
       → Rounds (suc n) s (half_steps_of (living s) ++ actions) (first ++ rest) t
   rest : {n : ℕ} {s t : State} {out : List Timed} → Steps s (Rest (n * length (living s)) ∷ []) out t → Rounds n s (Rest (n * length (living s)) ∷ []) out t
+
+-- A device sends the frames that it has, one after another, and each write is answered before the next.
+pub data SendsAll (d : ℕ) : State → List Action → List Timed → State → Type 0 where
+  quiet : {s : State} → next_told s d ≡ None → SendsAll d s [] [] s
+  sends : {s t : State} → (m : State) → (actions : List Action) → (first rest : List Timed)
+      → Steps s (SendFrame d ∷ Receive None ∷ []) first m → SendsAll d m actions rest t
+      → SendsAll d s (SendFrame d ∷ Receive None ∷ actions) (first ++ rest) t
+
+-- the action by which the next cycle comes: where the second is over at it, its end comes first
+abbrev pub next_cycle : State → Action
+next_cycle s = if s.account.reclaiming && (s.clock.cycle + 1 == s.clock.over_at) then EndSecond else Pass 1
+
+-- These output plugs send their packets of a cycle, one after another.
+abbrev pub SendsPackets : List PlugAt → State → List Action → List Timed → State → Type 0
+SendsPackets [] s actions out t = (actions ≡ []) × (out ≡ []) × (t ≡ s)
+SendsPackets (p ∷ plugs) s actions out t =
+    (block : Option GivenBlock) × (m : State) × (more : List Action) × (first rest : List Timed)
+    × Steps s (SendPacket p block ∷ []) first m × SendsPackets plugs m more rest t × (actions ≡ SendPacket p block ∷ more) × (out ≡ first ++ rest)
+
+-- A cycle comes and is written: the cycle start, and then the packet of each output plug that talks in it, in order of channel.
+pub record WritesCycle (s : State) (actions : List Action) (out : List Timed) (t : State) : Type 0 where
+  pub mid : State
+  pub packets : List Action
+  pub first : List Timed
+  pub last : List Timed
+  pub comes : Steps s (next_cycle s ∷ StartCycle ∷ []) first mid
+  pub sends : SendsPackets (talkers mid.account) mid packets last t
+  pub actions_are : actions ≡ next_cycle s ∷ StartCycle ∷ packets
+  pub out_is : out ≡ first ++ last
+
+-- before the first device it only comes
+abbrev pub HasCycle : Option ResetEntry → State → List Action → List Timed → State → Type 0
+HasCycle None s actions out t = Steps s (next_cycle s ∷ []) out t × (actions ≡ next_cycle s ∷ [])
+HasCycle (Some e) s actions out t = WritesCycle s actions out t
+
+-- so many cycles, one after another
+unfoldable pub HasCycles : ℕ → State → List Action → List Timed → State → Type 0
+HasCycles zero s actions out t = (actions ≡ []) × (out ≡ []) × (t ≡ s)
+HasCycles (suc n) s actions out t =
+    (m : State) × (now more : List Action) × (first rest : List Timed)
+    × HasCycle s.account.latest s now first m × HasCycles n m more rest t × (actions ≡ now ++ more) × (out ≡ first ++ rest)
 
 -- A constructor an order, and two where the state decides.
 pub data Carries : State → Order → List Action → List Timed → State → Type 0 where
@@ -51,6 +98,7 @@ pub data Carries : State → Order → List Action → List Timed → State → 
   waits_over : {s t : State} {n before after : ℕ} {out : List Timed}
       → n ≡ before + 1 + after → Steps s (Pass before ∷ EndSecond ∷ Pass after ∷ []) out t
       → Carries s (Orders.Wait n) (Pass before ∷ EndSecond ∷ Pass after ∷ []) out t
+  writes_cycles : {s t : State} {n : ℕ} {actions : List Action} {out : List Timed} → HasCycles n s actions out t → Carries s (Orders.Cycles n) actions out t
   -- `late` has the request carried out that stands
   dies : {s t : State} {d : ℕ} {out : List Timed} → Steps s (Die d ∷ []) out t → Carries s (Orders.Die d false) (Die d ∷ []) out t
   dies_late : {s t : State} {d : ℕ} {out : List Timed}
@@ -64,4 +112,16 @@ pub data Carries : State → Order → List Action → List Timed → State → 
       → Steps s (Ask x ∷ Answer ∷ []) out t → Carries s (Orders.Transact x) (Ask x ∷ Answer ∷ []) out t
   shows : {s t : State} {d offset : ℕ} {out : List Timed}
       → Steps s (ShowWord d offset ∷ []) out t → Carries s (Orders.Show d offset) (ShowWord d offset ∷ []) out t
+  -- the device answers the write, and its unit may carry the command out; the response is sent first, and then the notices
+  commanded : {s t : State} {a b : ℕ} {bytes : List ℕ} → (obeyed : Option Obeyed) → (m : State) → (actions : List Action) → (first rest : List Timed)
+      → Steps s (SendCommand a b bytes ∷ Receive obeyed ∷ []) first m → SendsAll b m actions rest t
+      → Carries s (Orders.Command a b bytes) (SendCommand a b bytes ∷ Receive obeyed ∷ actions) (first ++ rest) t
+  inserts : {s t : State} {d tape : ℕ} {system : TapeSystem} → (m : State) → (actions : List Action) → (first rest : List Timed)
+      → Steps s (InsertTape d tape system ∷ []) first m → SendsAll d m actions rest t
+      → Carries s (Orders.Insert d tape system) (InsertTape d tape system ∷ actions) (first ++ rest) t
+  ejects : {s t : State} {d : ℕ} → (m : State) → (actions : List Action) → (first rest : List Timed)
+      → Steps s (EjectTape d ∷ []) first m → SendsAll d m actions rest t
+      → Carries s (Orders.Eject d) (EjectTape d ∷ actions) (first ++ rest) t
+  -- without a tape nothing changes
+  ejects_nothing : {s : State} {d : ℕ} → IsFalse (is_some (s.decks d).unit.tape) → Carries s (Orders.Eject d) [] [] s
   ends : {s t : State} {out : List Timed} → Steps s (Finish ∷ []) out t → Carries s Orders.End (Finish ∷ []) out t

@@ -1,10 +1,12 @@
 -- The entries of events and of outcomes.
 use Rattle.std.specs.Prelude.{ℕ, ◌%◌, ◌^◌}
-use Rattle.fw_entry.specs.declared.codes.TheConstants.{NO_DEVICE}
-use Rattle.fw_entry.specs.declared.codes.event.TheConstants.{SECOND_OVER, DIED, STARTED, UNSETTLED}
+use Rattle.fw_entry.specs.declared.codes.TheConstants.{NO_DEVICE, LINES_525, LINES_625}
+use Rattle.fw_entry.specs.declared.codes.event.TheConstants.{SECOND_OVER, DIED, STARTED, INSERTED, EJECTED, UNSETTLED}
 use Rattle.fw_entry.specs.declared.codes.outcome.TheConstants as Codes
 use Rattle.fw_entry.specs.declared.entry.Entry.{Entry}
 use Rattle.fw_entry.specs.declared.entry.Entry.TheVariants.{Event, Outcome as OutcomeOf, Shown}
+use Rattle.fw_tape.specs.declared.system.TapeSystem.{TapeSystem}
+use Rattle.fw_tape.specs.declared.system.TapeSystem.TheVariants.{Lines525, Lines625}
 use Rattle.fw_cmp.specs.declared.outcome.Outcome.{Outcome}
 use Rattle.fw_cmp.specs.declared.outcome.Outcome.TheVariants.{Connected, Broken, Restored, NoChannel, NoUnits, PlugFull, InputBusy}
 use Rattle.fw_cmp.specs.declared.outcome.Outcome.TheVariants.{NoPlug, NoManager, Absent, Reset, Late}
@@ -27,6 +29,17 @@ started d = event_of STARTED d
 -- a living controller has something to do, or waits for an answer
 abbrev pub unsettled : Entry
 unsettled = event_of UNSETTLED NO_DEVICE
+
+-- how many lines a picture of a television system has
+abbrev pub lines_of : TapeSystem → ℕ
+lines_of Lines525 = LINES_525
+lines_of Lines625 = LINES_625
+
+abbrev pub inserted : ℕ → ℕ → TapeSystem → Entry
+inserted d tape system = Event (record { code = INSERTED; device = d; tape = tape; system = lines_of system })
+
+abbrev pub ejected : ℕ → Entry
+ejected d = event_of EJECTED d
 
 -- ---- outcomes
 

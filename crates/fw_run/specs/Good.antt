@@ -1,17 +1,24 @@
 -- What holds of each state of a run.
-use Rattle.std.specs.Prelude.{ℕ, ◌+◌, ◌<◌, ◌≤◌, ◌^◌, ◌≡◌, List, [], length, Option, Some, None, IsTrue, IsFalse, ⊤}
+use Rattle.std.specs.Prelude.{ℕ, ◌+◌, ◌<◌, ◌≤◌, ◌^◌, ◌≡◌, List, [], ◌∷◌, length, Option, Some, None, is_some, IsTrue, IsFalse, ⊤}
 use Rattle.fw_entry.specs.declared.entry.ResetEntry.{ResetEntry}
 use Rattle.fw_tree.specs.Topology.{Made}
 use Rattle.fw_ledger.specs.Fold.{no_account}
 use Rattle.fw_base.specs.declared.device.DeviceKind.{DeviceKind}
 use Rattle.fw_base.specs.Devices.{is_contender}
+use Rattle.fw_base.specs.declared.plug.PlugAt.{PlugAt}
+use Rattle.fw_ledger.specs.Account.{talks}
 use Rattle.fw_devices.specs.Network.{AreKinds, kind_at}
 use Rattle.fw_devices.specs.Entries.{node_number}
 use Rattle.fw_devices.specs.Resets.{Shows}
 use Rattle.fw_cmp.specs.Controllers.{first_state as new_controller}
 use Rattle.fw_reclaim.specs.Worlds.{World, CanReclaim}
 use Rattle.fw_rounds.specs.HalfSteps.{AsksWhatStands}
-use Rattle.fw_run.specs.State.{State, Declared, directory_of, is_living}
+use Rattle.fw_fcp.specs.declared.frame.Frame.{Frame}
+use Rattle.fw_tape.specs.declared.cassette.Cassette.{Cassette}
+use Rattle.fw_avc.specs.declared.notify.Kept.{Kept}
+use Rattle.fw_node.specs.Fcp.{IsSendable}
+use Rattle.fw_run.specs.Decks.{DeckState, IsAtRest}
+use Rattle.fw_run.specs.State.{State, Declared, device_in, linked_number, directory_of, is_living}
 
 -- the account, all controllers, and what they know of the bus
 abbrev pub world_of : State → World
@@ -30,13 +37,43 @@ ManagerContends kinds e = (n : ℕ) → e.manager ≡ Some n → (d : ℕ) × (n
 -- before the first device there is nothing, and then the latest reset entry shows the bus
 abbrev pub IsLatest : Option ResetEntry → State → Type 0
 IsLatest None s = (s.declared.names ≡ []) × (s.account ≡ no_account)
-IsLatest (Some e) s = (0 < length s.declared.names) × Shows s.declared.topology s.declared.kinds e × (e.epoch ≤ 10000) × ManagerContends s.declared.kinds e
+IsLatest (Some e) s = (0 < length s.declared.names) × Shows s.declared.topology s.declared.kinds e × (e.epoch ≤ 10000) × ManagerContends s.declared.kinds e × (e.root < length e.nodes)
 
 -- the second of the latest bus reset is over exactly when its end is written
 pub record IsTimed (s : State) : Type 0 where
   pub second : IsTrue s.account.reclaiming → s.clock.cycle < s.clock.over_at
   pub over_at : s.clock.over_at ≤ s.clock.cycle + 8000
   pub cycle : s.clock.cycle ≤ 2 ^ 52
+
+-- ---- decks
+
+-- a node with a link
+abbrev pub IsLinkedNode : Option ResetEntry → ℕ → Type 0
+IsLinkedNode latest n = (d : ℕ) × (device_in latest n ≡ Some d) × IsTrue (is_some (linked_number latest d))
+
+-- those that asked to be told of changes
+abbrev pub AreLinkedNodes : Option ResetEntry → List Kept → Type 0
+AreLinkedNodes latest [] = ⊤
+AreLinkedNodes latest (k ∷ kept) = IsLinkedNode latest k.node × AreLinkedNodes latest kept
+
+-- a response that waits, if any, can be sent to such a node
+abbrev pub IsForLinkedNode : Option ResetEntry → Option (ℕ × Frame) → Type 0
+IsForLinkedNode latest None = ⊤
+IsForLinkedNode latest (Some told) = IsLinkedNode latest told.0 × IsSendable told.1
+
+-- a tape has not moved for longer than time has gone by
+abbrev pub HasMovedWithin : ℕ → Option Cassette → Type 0
+HasMovedWithin cycle None = ⊤
+HasMovedWithin cycle (Some c) = c.passed ≤ cycle
+
+-- What is kept of the unit of a device. What it has to tell is for nodes with a link, and off the bus it is at rest.
+pub record IsDeck (latest : Option ResetEntry) (cycle device : ℕ) (k : DeckState) : Type 0 where
+  pub kept : AreLinkedNodes latest k.unit.kept
+  pub waiting : IsForLinkedNode latest k.waiting
+  pub moved : HasMovedWithin cycle k.unit.tape
+  pub off : IsFalse (is_some (linked_number latest device)) → IsAtRest k
+
+-- ---- the whole
 
 pub record IsGood (s : State) : Type 0 where
   pub declared : AreDeclared s.declared
@@ -49,3 +86,6 @@ pub record IsGood (s : State) : Type 0 where
   pub unused : (d : ℕ) → IsFalse (is_living s d) → s.controllers d ≡ new_controller
   pub time : IsTimed s
   pub half_steps : s.half_steps ≤ 4000000
+  pub written : s.written ≤ 8000
+  pub decks : (d : ℕ) → IsDeck s.account.latest s.clock.cycle d (s.decks d)
+  pub streams : (p : PlugAt) → IsFalse (talks s.account p) → s.streams p ≡ 0

@@ -16,7 +16,7 @@ use Rattle.fw_cmp.specs.Requests.{access_of, request_of, addressee_of}
 use Rattle.fw_cmp.specs.Resets.{after_hear}
 use Rattle.fw_cmp.specs.Turns.{next, after_next, is_busy}
 use Rattle.fw_step.specs.Requests.{procedure_head}
-use Rattle.fw_run.specs.State.{State, entered_by, directory_of, is_living}
+use Rattle.fw_run.specs.State.{State, entered_by, while_talking, directory_of, is_living}
 use Rattle.fw_run.specs.Entries.{outcome_entry}
 use Rattle.fw_node.specs.Packets.{packet_of}
 use Rattle.fw_run.specs.Spaces.{reply_from, answer_packet}
@@ -74,7 +74,11 @@ with_controller s d c = record s { controllers = update s.controllers d c }
 
 -- the state after a half step
 abbrev pub taken : State → ℕ → HalfStep → State
-taken s d h = record s { account = entered_by s.account h.says; controllers = update s.controllers d h.controller }
+taken s d h = record s {
+  account = entered_by s.account h.says;
+  controllers = update s.controllers d h.controller;
+  streams = while_talking (entered_by s.account h.says) s.streams;
+}
 
 abbrev pub after_half : State → ℕ → State
 after_half s d = taken s d (half s d)

@@ -1,9 +1,15 @@
 pub mod Giving
+pub mod Decks
+pub mod Desks
 pub mod State
 pub mod Entries
 pub mod Spaces
 pub mod HalfSteps
+pub mod Frames
+pub mod Streams
 pub mod Actions
+pub mod Given
+pub mod Units
 pub mod Carrying
 pub mod Rules
 pub mod Runs
@@ -14,3 +20,4 @@ pub mod Headline
 pub mod Reclaiming
 pub mod Settling
 pub mod Lingering
+pub mod Cycles

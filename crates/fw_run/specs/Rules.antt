@@ -1,5 +1,5 @@
 -- The rules of commands: when a command breaks each of them, in which order they are tested, and what a command orders.
-use Rattle.std.specs.Prelude.{ℕ, ◌≡◌, ◌+◌, ◌*◌, ◌^◌, ◌<◌, ◌≤◌, ◌⊎◌, ◌==◌, ◌&&◌, ◌||◌, not, nat_le, Bool, IsTrue, IsFalse, if◌then◌else◌, ⊤}
+use Rattle.std.specs.Prelude.{ℕ, ◌≡◌, ◌+◌, ◌*◌, ◌^◌, ◌<◌, ◌≤◌, ◌⊎◌, ◌==◌, ◌&&◌, ◌||◌, not, nat_le, Bool, IsTrue, IsFalse, if◌then◌else◌}
 use Rattle.std.specs.Prelude.{List, [], ◌∷◌, length, Option, Some, None, Ok, Err, is_some}
 use Rattle.std.specs.List.{list_any}
 use Rattle.std.specs.declared.result.Result.{Result}
@@ -7,6 +7,8 @@ use Rattle.fw_base.specs.declared.device.DeviceKind.{DeviceKind}
 use Rattle.fw_base.specs.declared.device.DeviceKind.TheVariants.{Relay, Deck, Camcorder, Computer}
 use Rattle.fw_base.specs.Tables.{at_plug}
 use Rattle.fw_base.specs.declared.plug.PlugAt.{PlugAt}
+use Rattle.fw_tape.specs.declared.system.TapeSystem.{TapeSystem}
+use Rattle.fw_tape.specs.declared.system.TapeSystem.TheVariants.{Lines525, Lines625}
 use Rattle.fw_tree.specs.declared.facts.End.{End}
 use Rattle.fw_tree.specs.declared.TreeFault.{TreeFault}
 use Rattle.fw_tree.specs.declared.TreeFault.TheVariants as Tree
@@ -25,8 +27,8 @@ use Rattle.fw_run.specs.declared.order.Order.{Order}
 use Rattle.fw_run.specs.declared.order.Order.TheVariants as order
 use Rattle.fw_run.specs.declared.rule.RuleFault.{RuleFault}
 use Rattle.fw_run.specs.declared.rule.RuleFault.TheVariants.{UnknownName, NameTaken, TooMany, NoPort, PortUsed, Loop, NotController, OffBus}
-use Rattle.fw_run.specs.declared.rule.RuleFault.TheVariants.{Guarded, NoRegister, Limit, TableFull, Busy, NoSuchConnection, NotOwnPlug, NotBuilt}
-use Rattle.fw_run.specs.State.{State, device_in, manager_in, epoch_of, is_on, is_linked, is_living, living}
+use Rattle.fw_run.specs.declared.rule.RuleFault.TheVariants.{Guarded, NoRegister, Limit, TableFull, Busy, NoSuchConnection, NotOwnPlug, NoDeck}
+use Rattle.fw_run.specs.State.{State, device_in, manager_in, epoch_of, is_on, is_linked, has_deck, is_living, living}
 use Rattle.fw_run.specs.Spaces.{read_at}
 use Rattle.fw_run.specs.Actions.{start_of}
 
@@ -83,6 +85,12 @@ node_of (Commands.Read name other offset) = Some other
 node_of (Commands.Swap name other offset argument new) = Some other
 node_of (Commands.Show name offset) = name
 node_of _ = None
+
+-- the device that a command needs a tape subunit of
+abbrev pub deck_of : Command → Option (List ℕ)
+deck_of (Commands.Insert name tape system) = Some name
+deck_of (Commands.Eject name) = Some name
+deck_of _ = None
 
 -- the device with this name, if any, is not so
 abbrev pub IsNot : State → (ℕ → Bool) → Option (List ℕ) → Type 0
@@ -152,17 +160,10 @@ PassesLimit s (Commands.Reset name) = 10000 ≤ epoch_of s.account.latest
 PassesLimit s (Commands.Step name count) = 4000000 < s.half_steps + count
 PassesLimit s (Commands.Settle rounds) = 4000000 < s.half_steps + rounds * length (living s)
 PassesLimit s (Commands.Wait cycles) = 2 ^ 52 < s.clock.cycle + cycles
+PassesLimit s (Commands.Cycles count) = (2 ^ 52 < s.clock.cycle + count) ⊎ (IsTrue (is_some s.account.latest) × (8000 < s.written + count))
 PassesLimit s _ = ⊥
 
 -- ---- the rules
-
--- the commands that the bus does not carry out yet
-abbrev pub IsNotBuilt : Command → Type 0
-IsNotBuilt (Commands.Cycles count) = ⊤
-IsNotBuilt (Commands.Command name other frame) = ⊤
-IsNotBuilt (Commands.Insert name tape system) = ⊤
-IsNotBuilt (Commands.Eject name) = ⊤
-IsNotBuilt _ = ⊥
 
 abbrev pub TakesName : State → Command → Type 0
 TakesName s (Commands.Device name kind ports speed) = IsTrue (is_declared s name)
@@ -171,6 +172,10 @@ TakesName s _ = ⊥
 abbrev pub IsTooMany : State → Command → Type 0
 IsTooMany s (Commands.Device name kind ports speed) = 63 ≤ length s.declared.names
 IsTooMany s _ = ⊥
+
+-- a computer or a relay
+abbrev pub HasNoDeck : State → Command → Type 0
+HasNoDeck s c = IsNot s (has_deck s) (deck_of c)
 
 abbrev pub HasNoController : State → Command → Type 0
 HasNoController s (Commands.Start name) = IsNot s (is_linked s) (Some name)
@@ -187,10 +192,10 @@ IsGuarded _ = ⊥
 
 -- A command breaks a rule.
 abbrev pub Breaks : State → Command → RuleFault → Type 0
-Breaks s c NotBuilt = IsNotBuilt c
 Breaks s c UnknownName = IsTrue (list_any (λ name. not (is_declared s name)) (names_of c))
 Breaks s c NameTaken = TakesName s c
 Breaks s c TooMany = IsTooMany s c
+Breaks s c NoDeck = HasNoDeck s c
 Breaks s c NoPort = HasTreeFault s Tree.NoPort c
 Breaks s c PortUsed = HasTreeFault s Tree.PortUsed c
 Breaks s c Loop = HasTreeFault s Tree.Loop c
@@ -206,28 +211,32 @@ Breaks s c Limit = PassesLimit s c
 
 -- the order in which they are tested
 abbrev pub rank : RuleFault → ℕ
-rank NotBuilt = 0
 rank UnknownName = 1
 rank NameTaken = 2
 rank TooMany = 3
-rank NoPort = 4
-rank PortUsed = 5
-rank Loop = 6
-rank NotController = 7
-rank OffBus = 8
-rank NotOwnPlug = 9
-rank NoSuchConnection = 10
-rank TableFull = 11
-rank Busy = 12
-rank Guarded = 13
-rank NoRegister = 14
-rank Limit = 15
+rank NoDeck = 4
+rank NoPort = 5
+rank PortUsed = 6
+rank Loop = 7
+rank NotController = 8
+rank OffBus = 9
+rank NotOwnPlug = 10
+rank NoSuchConnection = 11
+rank TableFull = 12
+rank Busy = 13
+rank Guarded = 14
+rank NoRegister = 15
+rank Limit = 16
 
 -- ---- orders
 
 -- the kind with a code
 abbrev pub kind_with : ℕ → DeviceKind
 kind_with code = if code == 0 then Relay else if code == 1 then Deck else if code == 2 then Camcorder else Computer
+
+-- the system whose pictures have so many lines
+abbrev pub system_with : ℕ → TapeSystem
+system_with lines = if lines == 525 then Lines525 else Lines625
 
 abbrev pub Transacts : State → List ℕ → List ℕ → Access → Order → Type 0
 Transacts s name other access o = (d e : ℕ) × IsNamed s name d × IsNamed s other e × (o ≡ order.Transact (record { from = d; to = e; access = access }))
@@ -241,10 +250,14 @@ IsOrder s (Commands.Break name slot) o = (d : ℕ) × IsNamed s name d × (o ≡
 IsOrder s (Commands.Step name count) o = (d : ℕ) × IsNamed s name d × (o ≡ order.Step d count)
 IsOrder s (Commands.Settle rounds) o = o ≡ order.Settle rounds
 IsOrder s (Commands.Wait cycles) o = o ≡ order.Wait cycles
+IsOrder s (Commands.Cycles count) o = o ≡ order.Cycles count
 IsOrder s (Commands.Die name late) o = (d : ℕ) × IsNamed s name d × (o ≡ order.Die d late)
 IsOrder s (Commands.Start name) o = (d : ℕ) × IsNamed s name d × (o ≡ order.Start d)
 IsOrder s (Commands.Read name other offset) o = Transacts s name other (Read offset) o
 IsOrder s (Commands.Swap name other offset argument new) o = Transacts s name other (Swap offset argument new) o
+IsOrder s (Commands.Command name other frame) o = (d e : ℕ) × IsNamed s name d × IsNamed s other e × (o ≡ order.Command d e frame)
+IsOrder s (Commands.Insert name tape system) o = (d : ℕ) × IsNamed s name d × (o ≡ order.Insert d tape (system_with system))
+IsOrder s (Commands.Eject name) o = (d : ℕ) × IsNamed s name d × (o ≡ order.Eject d)
 IsOrder s (Commands.Show name offset) o = (d : ℕ) × IsShown s name d × (o ≡ order.Show d offset)
 IsOrder s Commands.End o = o ≡ order.End
 IsOrder s c o = (d : ℕ) × (w : Wanted) × IsWanted s c d w × (o ≡ order.Connect d w)

@@ -1,20 +1,22 @@
 -- The state of a run. It has the account, which the bus does not keep.
-use Rattle.std.specs.Prelude.{ℕ, zero, suc, ◌+◌, ◌==◌, ◌&&◌, not, Bool, false, Option, Some, None, is_some, unwrap_or, if◌then◌else◌}
+use Rattle.std.specs.Prelude.{ℕ, zero, suc, ◌==◌, ◌&&◌, not, Bool, false, Option, Some, None, is_some, unwrap_or, if◌then◌else◌}
 use Rattle.std.specs.Prelude.{List, [], ◌∷◌, ◌++◌, length, slice_get}
 use Rattle.fw_base.specs.declared.device.DeviceKind.{DeviceKind}
+use Rattle.fw_base.specs.declared.plug.PlugAt.{PlugAt}
 use Rattle.fw_base.specs.declared.device.DeviceKind.TheVariants.{Relay}
-use Rattle.fw_base.specs.Devices.{code_of}
+use Rattle.fw_base.specs.Devices.{code_of, has_unit}
 use Rattle.fw_entry.specs.declared.entry.Entry.{Entry}
 use Rattle.fw_entry.specs.declared.entry.ResetEntry.{ResetEntry}
 use Rattle.fw_entry.specs.declared.nodes.NodeRow.{NodeRow}
 use Rattle.fw_tree.specs.Topology.{Topology, no_cables}
-use Rattle.fw_ledger.specs.Account.{Account}
+use Rattle.fw_ledger.specs.Account.{Account, talks}
 use Rattle.fw_ledger.specs.Fold.{no_account, next_account}
-use Rattle.fw_devices.specs.Network.{facts_of}
+use Rattle.fw_devices.specs.Network.{facts_of, kind_at}
 use Rattle.fw_devices.specs.Entries.{node_number, node_device}
 use Rattle.fw_cmp.specs.Controllers.{ControllerState, first_state as new_controller}
 use Rattle.fw_cmp.specs.declared.directory.Directory.{Directory}
 use Rattle.fw_run.specs.declared.order.Transaction.{Transaction}
+use Rattle.fw_run.specs.Decks.{DeckState, FrameWrite, first_deck}
 
 -- The devices, in order of declaration, which are their numbers, and the cables between them.
 pub record Declared : Type 0 where
@@ -30,12 +32,16 @@ pub record State : Type 0 where
   pub declared : Declared
   pub clock : Clock
   pub half_steps : ℕ  -- all that `step` and `settle` have given
+  pub written : ℕ  -- the cycles that `cycles` has written
   pub account : Account  -- of the entries so far
   pub bus_manager_id : ℕ  -- the word of BUS_MANAGER_ID
   -- by device; that of a device that has none, or whose controller died, is one that has just started
   pub controllers : ℕ → ControllerState
   pub dead : ℕ → Bool  -- the controller died, and was not started again
   pub transaction : Option Transaction  -- a transaction of the script whose request was written, and that is not answered yet
+  pub decks : ℕ → DeckState  -- by device; that of a device that has no unit is as at first
+  pub frame : Option FrameWrite  -- a frame that was written, and whose write is not answered yet
+  pub streams : PlugAt → ℕ  -- how many data packets each output plug has sent since it began to talk; 0 where it does not talk
 
 abbrev pub nothing_declared : Declared
 nothing_declared = record { names = []; kinds = []; topology = record { devices = []; cables = no_cables } }
@@ -45,11 +51,15 @@ first_state = record {
   declared = nothing_declared;
   clock = record { cycle = 0; over_at = 0 };
   half_steps = 0;
+  written = 0;
   account = no_account;
   bus_manager_id = 0x3F;
   controllers = λ d. new_controller;
   dead = λ d. false;
   transaction = None;
+  decks = λ d. first_deck;
+  frame = None;
+  streams = λ p. 0;
 }
 
 -- the account with one entry more, where it has one
@@ -60,6 +70,10 @@ entered l e = unwrap_or (next_account l e) l
 abbrev pub entered_by : Account → Option Entry → Account
 entered_by l None = l
 entered_by l (Some e) = entered l e
+
+-- the counts of the plugs that talk by an account; that of each other plug is 0, and so begins anew where it begins to talk again
+abbrev pub while_talking : Account → (PlugAt → ℕ) → PlugAt → ℕ
+while_talking l counts p = if talks l p then counts p else 0
 
 -- one device more, which has no cable yet
 abbrev pub with_device : Declared → List ℕ → DeviceKind → ℕ → ℕ → Declared
@@ -123,6 +137,10 @@ is_on s d = is_some (number_in s.account.latest d)
 
 abbrev pub is_linked : State → ℕ → Bool
 is_linked s d = is_some (linked_number s.account.latest d)
+
+-- a deck or a camcorder, on the bus or off
+abbrev pub has_deck : State → ℕ → Bool
+has_deck s d = has_unit (kind_at s.declared.kinds d)
 
 -- a device on the bus that has a link, and whose controller has not died
 abbrev pub is_living : State → ℕ → Bool

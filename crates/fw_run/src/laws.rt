@@ -24,6 +24,8 @@ ghost use Rattle.fw_run.specs.declared.order.Order.{Order};
 ghost use Rattle.fw_run.specs.declared.rule.RuleFault.{RuleFault};
 ghost use Rattle.std.specs.declared.result.Result.{Result};
 ghost use Rattle.fw_script.specs.declared.command.Command.{Command};
+ghost use Rattle.fw_run.specs.Desks.{desk_of};
+ghost use Rattle.fw_run.specs.Given.{AreGiven};
 ghost use Rattle.fw_run.specs.Good.{IsGood};
 ghost use Rattle.fw_run.specs.Headline.{IsSoundThroughout};
 
@@ -62,14 +64,16 @@ pub fn runs_are_logs()
     ensures fronts { (front rest : List Timed) (bytes : List ℕ) → LogOpens (front ++ rest) bytes → LogOpens front (header_bytes ++ log_bytes front) }
 {}
 
-/// A script has one log: two runs of the same commands write the same entries, and lead to the same state. A command has one
-/// answer, its order or the first rule that it breaks, and in a good state an order has one result.
+/// A script has one log, where a desk gives one block for each place and the vendor makes one thing of each byte: two runs of the same commands then write the same
+/// entries, and lead to the same state. A command has one answer, its order or the first rule that it breaks, and in a good state
+/// an order has one result, where the desk does so.
 pub fn runs_have_one_log()
-    ensures logs { (commands : List Command) (actions others : List Action) (log other : List Timed) (s t : State) → Run commands actions log s
-        → Run commands others other t → (log ≡ other) × (s ≡ t) }
+    ensures logs { (blocks : ℕ → ℕ → ℕ → List ℕ) (vendor : ℕ → ℕ → ℕ) (commands : List Command) (actions others : List Action) (log other : List Timed) (s t : State) → Run commands actions log s
+        → Run commands others other t → AreGiven (desk_of blocks vendor) actions → AreGiven (desk_of blocks vendor) others → (log ≡ other) × (s ≡ t) }
     ensures orders { (s : State) (c : Command) (r q : Result Order RuleFault) → Decides s c r → Decides s c q → r ≡ q }
-    ensures results { (s : State) (o : Order) (actions others : List Action) (out other : List Timed) (t u : State) → IsGood s
-        → Carries s o actions out t → Carries s o others other u → (out ≡ other) × (t ≡ u) }
+    ensures results { (blocks : ℕ → ℕ → ℕ → List ℕ) (vendor : ℕ → ℕ → ℕ) (s : State) (o : Order) (actions others : List Action) (out other : List Timed) (t u : State) → IsGood s
+        → Carries s o actions out t → Carries s o others other u → AreGiven (desk_of blocks vendor) actions → AreGiven (desk_of blocks vendor) others
+        → (out ≡ other) × (t ≡ u) }
 {}
 
 /// The connections that were whole before the bus reset that opened a reclaim second are whole at its end: those whose

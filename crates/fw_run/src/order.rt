@@ -1,6 +1,8 @@
 use fw_base::{DeviceKind, PlugAt};
 use fw_script::Name;
+use fw_tape::TapeSystem;
 use fw_tree::End;
+use fw_words::Bytes;
 
 /// What a transaction of the script asks of a register, by its offset from FFFF F000 0000, 000 to FFF.
 #[derive(Clone, Copy, Debug, PartialEq, Eq)]
@@ -50,12 +52,20 @@ pub enum Order {
     Settle(u32),
     /// Cycles that go by.
     Wait(u32),
+    /// Cycles that go by and are written, 1 to 8,000.
+    Cycles(u32),
     /// The device's controller dies: true where its standing request is carried out before.
     Die(u8, bool),
     /// The device's controller starts.
     Start(u8),
     /// A transaction, carried out whole.
     Transact(Transaction),
+    /// Bytes that the first device writes to FCP_COMMAND of the second, 1 to 110.
+    Command(u8, u8, Bytes<110>),
+    /// A tape with this number goes into a deck, and replaces one that is there.
+    Insert(u8, u16, TapeSystem),
+    /// The tape goes out of a deck, if one is there.
+    Eject(u8),
     /// The word that stands at an offset of a device is shown.
     Show(u8, u16),
     /// The end of the script.

@@ -13,16 +13,16 @@ pub enum RuleFault {
     PortUsed,
     /// `cable`: the two devices are connected already, or are one.
     Loop,
-    /// `connect`, `broadcast`, `listen`, `break`, `step`, `die`, `read`, `swap`: the first device has no living
-    /// controller. `start`: it is a relay, or off.
+    /// `connect`, `broadcast`, `listen`, `break`, `step`, `die`, `command`, `read`, `swap`: the first device has no
+    /// living controller. `start`: it is a relay, or off.
     NotController,
     /// `swap` at a register that only controllers' procedures swap: those of channels and units, and of plugs.
     Guarded,
     /// `show`: there is no isochronous resource manager where it is asked for, or a quadlet read of the register would not
     /// be complete.
     NoRegister,
-    /// More than 10,000 bus resets or 4,000,000 half steps, or a cycle number above 2 to the power 52. The command that
-    /// would pass a limit is refused whole.
+    /// More than 8,000 written cycles, 10,000 bus resets or 4,000,000 half steps, or a cycle number above 2 to the power 52.
+    /// The command that would pass a limit is refused whole.
     Limit,
     /// All 32 slots of the controller are in use.
     TableFull,
@@ -32,8 +32,8 @@ pub enum RuleFault {
     NoSuchConnection,
     /// `broadcast`, `listen`: the plug is another device's.
     NotOwnPlug,
-    /// `reset`: the device is off. `read`, `swap`: the second device is off or a relay. `show`: the device is.
+    /// `reset`: the device is off. `command`, `read`, `swap`: the second device is off or a relay. `show`: the device is.
     OffBus,
-    /// The bus does not carry the command out yet.
-    NotBuilt,
+    /// `insert`, `eject`: the device is a computer or a relay, which has no tape.
+    NoDeck,
 }

@@ -7,8 +7,9 @@ use Rattle.fw_script.specs.declared.command.Command.{Command}
 use Rattle.fw_script.specs.declared.command.Command.TheVariants.{End}
 use Rattle.fw_script.proofs.ScriptLaws.{says_once, says_after, says_behind}
 use Rattle.fw_run.specs.declared.rule.RuleFault.{RuleFault}
-use Rattle.fw_run.specs.declared.rule.RuleFault.TheVariants.{UnknownName, NameTaken, TooMany, NoPort, PortUsed, Loop, NotController, Guarded, NoRegister, Limit, TableFull, Busy, NoSuchConnection, NotOwnPlug, OffBus, NotBuilt}
+use Rattle.fw_run.specs.declared.rule.RuleFault.TheVariants.{UnknownName, NameTaken, TooMany, NoPort, PortUsed, Loop, NotController, Guarded, NoRegister, Limit, TableFull, Busy, NoSuchConnection, NotOwnPlug, OffBus, NoDeck}
 use Rattle.fw_run.specs.State.{State}
+use Rattle.fw_run.specs.Desks.{DeskRelations}
 use Rattle.fw_run.specs.Rules.{Decides}
 use Rattle.fw_simulate.specs.declared.ending.RunEnding.{RunEnding}
 use Rattle.fw_simulate.specs.declared.ending.RunEnding.TheVariants.{Done, Refused, ReadFault, WriteFault, TooLong, NoMemory}
@@ -18,7 +19,7 @@ use Rattle.fw_simulate.specs.Scripts.{IsValid, IsNoRefusal}
 use Rattle.fw_simulate.specs.Ending.{Runs, RefusesLine, RefusesCommand, RefusesBy}
 
 -- of a valid script no line is refused
-no_line : (script : List ℕ) (left' held held' : Option (List ℕ)) (f : ScriptFault) (line : ℕ) → RefusesLine (Some script) left' held held' f line → IsValid script → ⊥
+no_line : {D : DeskRelations} (script : List ℕ) (left' held held' : Option (List ℕ)) (f : ScriptFault) (line : ℕ) → RefusesLine D (Some script) left' held held' f line → IsValid script → ⊥
 no_line script left' held held' f line r v =
     let says = subst (λ (bytes : List ℕ). IsScript bytes r.commands (Some (record { fault = f; line = line }))) (sym r.takes.told) r.says in
     let e = says_once v.says says in
@@ -27,7 +28,6 @@ no_line script left' held held' f line r v =
 
 -- the end breaks no rule
 end_allowed : (s : State) (f : RuleFault) → Decides s End (Err f) → ⊥
-end_allowed s NotBuilt d = d.0
 end_allowed s UnknownName d = let wrong : false ≡ true = d.0 in cc wrong
 end_allowed s NameTaken d = d.0
 end_allowed s TooMany d = d.0
@@ -36,6 +36,7 @@ end_allowed s PortUsed d = d.0
 end_allowed s Loop d = d.0
 end_allowed s NotController d = d.0
 end_allowed s OffBus d = d.0
+end_allowed s NoDeck d = d.0
 end_allowed s NotOwnPlug d = d.0.2
 end_allowed s NoSuchConnection d = d.0.2
 end_allowed s TableFull d = d.0.2
@@ -48,7 +49,7 @@ other_than_end : (s : State) (c : Command) (f : RuleFault) → Decides s c (Err 
 other_than_end s c f d e = end_allowed s f (subst (λ (x : Command). Decides s x (Err f)) e d)
 
 -- nor does a command break a rule
-no_command : (script : List ℕ) (left' held held' : Option (List ℕ)) (rule : RuleFault) (line : ℕ) → RefusesCommand (Some script) left' held held' rule line → IsValid script → ⊥
+no_command : {D : DeskRelations} (script : List ℕ) (left' held held' : Option (List ℕ)) (rule : RuleFault) (line : ℕ) → RefusesCommand D (Some script) left' held held' rule line → IsValid script → ⊥
 no_command script left' held held' rule line r v =
     let says = subst (λ (bytes : List ℕ). IsScript bytes v.commands None) r.takes.told v.says in
     let first = says_behind r.on_line.leads v.commands None says in
@@ -56,21 +57,21 @@ no_command script left' held held' rule line r v =
     v.allowed r.commands next.0 r.command r.logged.actions r.logged.log r.logged.state rule (first.1 ∙ ap (λ (cs : List Command). r.commands ++ cs) next.1) r.logged.run r.decided
 
 -- neither by its form nor by a rule
-pub never_refused : (script : List ℕ) (left' held held' : Option (List ℕ)) (why : Refusal) (line : ℕ) → RefusesBy (Some script) left' held held' why line → IsValid script → ⊥
-never_refused script left' held held' BadLine line r v = no_line script left' held held' Fault.BadLine line r v
-never_refused script left' held held' LineTooLong line r v = no_line script left' held held' Fault.LineTooLong line r v
-never_refused script left' held held' NoEnd line r v = no_line script left' held held' Fault.NoEnd line r v
-never_refused script left' held held' (Rule rule) line r v = no_command script left' held held' rule line r v
+pub never_refused : (D : DeskRelations) (script : List ℕ) (left' held held' : Option (List ℕ)) (why : Refusal) (line : ℕ) → RefusesBy D (Some script) left' held held' why line → IsValid script → ⊥
+never_refused D script left' held held' BadLine line r v = no_line script left' held held' Fault.BadLine line r v
+never_refused D script left' held held' LineTooLong line r v = no_line script left' held held' Fault.LineTooLong line r v
+never_refused D script left' held held' NoEnd line r v = no_line script left' held held' Fault.NoEnd line r v
+never_refused D script left' held held' (Rule rule) line r v = no_command script left' held held' rule line r v
 
 -- so a valid script that is run meets no refusal
-pub run_completes : (script : List ℕ) (left left' held held' : Option (List ℕ)) (e : RunEnding) → Runs left left' held held' e → left ≡ Some script → IsValid script → IsNoRefusal e
-run_completes script left left' held held' Done d told v = tt
-run_completes script left left' held held' (Refused x) d told v =
-    let D : Option (List ℕ) → Type 0 = λ l. Runs l left' held held' (Refused x) in
-    never_refused script left' held held' x.why x.line (subst D told d) v
-run_completes script left left' held held' TooLong d told v =
-    let D : Option (List ℕ) → Type 0 = λ l. RefusesLine l left' held held' Fault.TooLong d.line in
-    no_line script left' held held' Fault.TooLong d.line (subst D told d.refused) v
-run_completes script left left' held held' ReadFault d told v = tt
-run_completes script left left' held held' WriteFault d told v = tt
-run_completes script left left' held held' NoMemory d told v = tt
+pub run_completes : (D : DeskRelations) (script : List ℕ) (left left' held held' : Option (List ℕ)) (e : RunEnding) → Runs D left left' held held' e → left ≡ Some script → IsValid script → IsNoRefusal e
+run_completes D script left left' held held' Done d told v = tt
+run_completes D script left left' held held' (Refused x) d told v =
+    let P : Option (List ℕ) → Type 0 = λ l. Runs D l left' held held' (Refused x) in
+    never_refused D script left' held held' x.why x.line (subst P told d) v
+run_completes D script left left' held held' TooLong d told v =
+    let P : Option (List ℕ) → Type 0 = λ l. RefusesLine D l left' held held' Fault.TooLong d.line in
+    no_line script left' held held' Fault.TooLong d.line (subst P told d.refused) v
+run_completes D script left left' held held' ReadFault d told v = tt
+run_completes D script left left' held held' WriteFault d told v = tt
+run_completes D script left left' held held' NoMemory d told v = tt

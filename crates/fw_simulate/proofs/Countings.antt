@@ -6,6 +6,7 @@ use Rattle.fw_entry.specs.Log.{header_bytes}
 use Rattle.fw_entry.specs.declared.entry.Timed.{Timed}
 use Rattle.fw_script.specs.Reading.{Reading, unread}
 use Rattle.fw_run.specs.Giving.{log_bytes}
+use Rattle.fw_run.specs.Desks.{DeskRelations}
 use Rattle.fw_run.specs.State.{first_state}
 use Rattle.fw_bus.specs.Stands.{StandsFor}
 use Rattle.fw_bus.specs.Buses.{Standing}
@@ -24,18 +25,18 @@ use Rattle.fw_simulate.proofs.Completions.{never_refused}
 
 -- The commands so far were carried out, as over a sink that keeps all their log, and the entries of that log were counted. The
 -- sink that is there was emptied.
-pub record IsCounting (script now held : List ℕ) (reader : Reading) (bus : Standing) (tally : Tally) : Type 0 where
+pub record IsCounting (D : DeskRelations) (script now held : List ℕ) (reader : Reading) (bus : Standing) (tally : Tally) : Type 0 where
   pub written : List ℕ
-  pub going : Going (Some script) (Some now) (Some []) (Some written) reader bus
+  pub going : Going D (Some script) (Some now) (Some []) (Some written) reader bus
   pub counts : Counts going.log tally
   pub empty : held ≡ []
 
-pub counting_first : (script now held : List ℕ) (reader : Reading) (bus : Standing) (tally : Tally) → reader ≡ unread → StandsFor bus.machine first_state → IsFalse bus.spent
-    → now ≡ script → held ≡ [] → Counts [] tally → IsCounting script now held reader bus tally
+pub counting_first : {D : DeskRelations} (script now held : List ℕ) (reader : Reading) (bus : Standing) (tally : Tally) → reader ≡ unread → StandsFor bus.machine first_state → IsFalse bus.spent
+    → now ≡ script → held ≡ [] → Counts [] tally → IsCounting D script now held reader bus tally
 unfolding going_first
-counting_first script now held reader bus tally new stands fresh same empty counts = record {
+counting_first {D} script now held reader bus tally new stands fresh same empty counts = record {
   written = header_bytes;
-  going = subst (λ (x : List ℕ). Going (Some script) (Some x) (Some []) (Some header_bytes) reader bus) (sym same) (going_first (Some script) (Some []) (Some header_bytes) reader bus new stands fresh refl);
+  going = subst (λ (x : List ℕ). Going D (Some script) (Some x) (Some []) (Some header_bytes) reader bus) (sym same) (going_first (Some script) (Some []) (Some header_bytes) reader bus new stands fresh refl);
   counts = counts;
   empty = empty;
 }
@@ -45,14 +46,14 @@ pub kept_elsewhere : (written held held' : List ℕ) → held ≡ [] → Mirrors
 kept_elsewhere written held held' empty bytes h = ap (λ (l : List ℕ). written ++ l) (h ∙ ap (λ (l : List ℕ). l ++ bytes) empty)
 
 -- what the sink holds are the entries of one command
-pub given_alone : {script now held : List ℕ} {reader : Reading} {bus : Standing} {tally : Tally} (i : IsCounting script now held reader bus tally) (now' held' : List ℕ) (reader' : Reading) (bus' : Standing)
-    → (d : Carried (Some script) (Some now') (Some []) (Some (i.written ++ held')) (Some held) (Some held') i.going.log reader reader' bus') → held' ≡ log_bytes d.out
+pub given_alone : {D : DeskRelations} {script now held : List ℕ} {reader : Reading} {bus : Standing} {tally : Tally} (i : IsCounting D script now held reader bus tally) (now' held' : List ℕ) (reader' : Reading) (bus' : Standing)
+    → (d : Carried D (Some script) (Some now') (Some []) (Some (i.written ++ held')) (Some held) (Some held') i.going.log reader reader' bus') → held' ≡ log_bytes d.out
 given_alone i now' held' reader' bus' d = d.wrote ∙ ap (λ (l : List ℕ). l ++ log_bytes d.out) i.empty
 
 -- and were counted
-pub counting_more : {script now held : List ℕ} {reader : Reading} {bus : Standing} {tally : Tally} (i : IsCounting script now held reader bus tally) (now' held' empty : List ℕ) (reader' : Reading) (bus' : Standing) (tally' : Tally)
-    → (d : Carried (Some script) (Some now') (Some []) (Some (i.written ++ held')) (Some held) (Some held') i.going.log reader reader' bus')
-    → Counts (i.going.log ++ d.out) tally' → empty ≡ [] → IsCounting script now' empty reader' bus' tally'
+pub counting_more : {D : DeskRelations} {script now held : List ℕ} {reader : Reading} {bus : Standing} {tally : Tally} (i : IsCounting D script now held reader bus tally) (now' held' empty : List ℕ) (reader' : Reading) (bus' : Standing) (tally' : Tally)
+    → (d : Carried D (Some script) (Some now') (Some []) (Some (i.written ++ held')) (Some held) (Some held') i.going.log reader reader' bus')
+    → Counts (i.going.log ++ d.out) tally' → empty ≡ [] → IsCounting D script now' empty reader' bus' tally'
 counting_more i now' held' empty reader' bus' tally' d counts none = record {
   written = i.written ++ held';
   going = d.going;
@@ -61,36 +62,36 @@ counting_more i now' held' empty reader' bus' tally' d counts none = record {
 }
 
 -- no script within the limit passes it, and a source in memory does not fail
-within : (script : List ℕ) (left' held held' : Option (List ℕ)) → length script ≤ 1048576 → PassesScriptLimit (Some script) left' held held' → ⊥
+within : {D : DeskRelations} (script : List ℕ) (left' held held' : Option (List ℕ)) → length script ≤ 1048576 → PassesScriptLimit D (Some script) left' held held' → ⊥
 within script left' held held' short d = let same : length script ≡ length d.refused.script = ap (λ (l : List ℕ). length l) d.refused.takes.told in omega (arith, short, d.long, same)
 
 -- how the counted run ends
-pub counted_ends : (script now written : List ℕ) (log : List Timed) (tally : Tally) (e : RunEnding) → length script ≤ 1048576 → Counts log tally → ReadCount 0 0 e
-    → Ends (Some script) (Some now) (Some []) (Some written) log e → Counted script tally (in_memory e)
-counted_ends script now written log tally Done short counts read d = record {
+pub counted_ends : (D : DeskRelations) (script now written : List ℕ) (log : List Timed) (tally : Tally) (e : RunEnding) → length script ≤ 1048576 → Counts log tally → ReadCount 0 0 e
+    → Ends D (Some script) (Some now) (Some []) (Some written) log e → Counted D script tally (in_memory e)
+counted_ends D script now written log tally Done short counts read d = record {
   was = record { left = now; written = written; ran = d.0 };
   counts = subst (λ (l : List Timed). Counts l tally) (sym d.1) counts;
 }
-counted_ends script now written log tally (Refused r) short counts read d = record { left = Some now; written = written; refuses = d }
-counted_ends script now written log tally ReadFault short counts read d = none read
+counted_ends D script now written log tally (Refused r) short counts read d = record { left = Some now; written = written; refuses = d }
+counted_ends D script now written log tally ReadFault short counts read d = none read
   where
     none : Rose 0 0 → ⊥
     none h = omega (arith, h)
-counted_ends script now written log tally WriteFault short counts read d = tt
-counted_ends script now written log tally TooLong short counts read d = within script (Some now) (Some []) (Some written) short d
-counted_ends script now written log tally NoMemory short counts read d = tt
+counted_ends D script now written log tally WriteFault short counts read d = tt
+counted_ends D script now written log tally TooLong short counts read d = within script (Some now) (Some []) (Some written) short d
+counted_ends D script now written log tally NoMemory short counts read d = tt
 
 -- ---- the summary
 
 -- the summary of a seed's run was written, or a front of it
-pub summed_up : (seed : ℕ) (script : List ℕ) (tally : Tally) (held held' : Option (List ℕ)) (e : RunEnding) → script ≡ script_of seed → (h : HasCounted script tally)
-    → ((log : List Timed) → Counts log tally → Summed log held held' e) → Sums seed held held' e
-summed_up seed script tally held held' e same h text = by e (text (log_of was.was) was.counts)
+pub summed_up : {D : DeskRelations} (seed : ℕ) (script : List ℕ) (tally : Tally) (held held' : Option (List ℕ)) (e : RunEnding) → script ≡ script_of seed → (h : HasCounted D script tally)
+    → ((log : List Timed) → Counts log tally → Summed log held held' e) → Sums D seed held held' e
+summed_up {D} seed script tally held held' e same h text = by e (text (log_of was.was) was.counts)
   where
-    was : HasCounted (script_of seed) tally
-    was = subst (λ (s : List ℕ). HasCounted s tally) same h
+    was : HasCounted D (script_of seed) tally
+    was = subst (λ (s : List ℕ). HasCounted D s tally) same h
 
-    by : (e : RunEnding) → Summed (log_of was.was) held held' e → Sums seed held held' e
+    by : (e : RunEnding) → Summed (log_of was.was) held held' e → Sums D seed held held' e
     by Done d = record { was = was.was; grew = d }
     by (Refused r) d = absurd d
     by ReadFault d = absurd d
@@ -99,10 +100,10 @@ summed_up seed script tally held held' e same h text = by e (text (log_of was.wa
     by NoMemory d = d
 
 -- nothing was written where the run did not come to its end
-pub unwritten : (seed : ℕ) (script : List ℕ) (tally : Tally) (held : Option (List ℕ)) (e : RunEnding) → script ≡ script_of seed → e ≢ Done → Counted script tally e → Sums seed held held e
-unwritten seed script tally held e same other h = by e other (subst (λ (s : List ℕ). Counted s tally e) same h)
+pub unwritten : (D : DeskRelations) (seed : ℕ) (script : List ℕ) (tally : Tally) (held : Option (List ℕ)) (e : RunEnding) → script ≡ script_of seed → e ≢ Done → Counted D script tally e → Sums D seed held held e
+unwritten D seed script tally held e same other h = by e other (subst (λ (s : List ℕ). Counted D s tally e) same h)
   where
-    by : (e : RunEnding) → e ≢ Done → Counted (script_of seed) tally e → Sums seed held held e
+    by : (e : RunEnding) → e ≢ Done → Counted D (script_of seed) tally e → Sums D seed held held e
     by Done n d = absurd (n refl)
     by (Refused r) n d = (d, refl)
     by ReadFault n d = absurd d
@@ -110,19 +111,19 @@ unwritten seed script tally held e same other h = by e other (subst (λ (s : Lis
     by TooLong n d = absurd d
     by NoMemory n d = refl
 
-pub no_write_fault : (count : ℕ) (script : List ℕ) (tally : Tally) (e : RunEnding) → Counted script tally e → WriteCount count count e
-no_write_fault count script tally Done d = refl
-no_write_fault count script tally (Refused r) d = refl
-no_write_fault count script tally ReadFault d = refl
-no_write_fault count script tally WriteFault d = absurd d
-no_write_fault count script tally TooLong d = refl
-no_write_fault count script tally NoMemory d = refl
+pub no_write_fault : (D : DeskRelations) (count : ℕ) (script : List ℕ) (tally : Tally) (e : RunEnding) → Counted D script tally e → WriteCount count count e
+no_write_fault D count script tally Done d = refl
+no_write_fault D count script tally (Refused r) d = refl
+no_write_fault D count script tally ReadFault d = refl
+no_write_fault D count script tally WriteFault d = absurd d
+no_write_fault D count script tally TooLong d = refl
+no_write_fault D count script tally NoMemory d = refl
 
 -- no line of a valid script is refused
-pub sums_no_refusal : (seed : ℕ) (held held' : Option (List ℕ)) (e : RunEnding) → Sums seed held held' e → IsValid (script_of seed) → IsNoRefusal e
-sums_no_refusal seed held held' Done d v = tt
-sums_no_refusal seed held held' (Refused r) d v = never_refused (script_of seed) d.0.left (Some []) (Some d.0.written) r.why r.line d.0.refuses v
-sums_no_refusal seed held held' ReadFault d v = tt
-sums_no_refusal seed held held' WriteFault d v = tt
-sums_no_refusal seed held held' TooLong d v = absurd d
-sums_no_refusal seed held held' NoMemory d v = tt
+pub sums_no_refusal : (D : DeskRelations) (seed : ℕ) (held held' : Option (List ℕ)) (e : RunEnding) → Sums D seed held held' e → IsValid (script_of seed) → IsNoRefusal e
+sums_no_refusal D seed held held' Done d v = tt
+sums_no_refusal D seed held held' (Refused r) d v = never_refused D (script_of seed) d.0.left (Some []) (Some d.0.written) r.why r.line d.0.refuses v
+sums_no_refusal D seed held held' ReadFault d v = tt
+sums_no_refusal D seed held held' WriteFault d v = tt
+sums_no_refusal D seed held held' TooLong d v = absurd d
+sums_no_refusal D seed held held' NoMemory d v = tt

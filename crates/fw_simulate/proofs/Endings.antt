@@ -16,7 +16,6 @@ use Rattle.fw_run.specs.declared.rule.RuleFault.{RuleFault}
 use Rattle.fw_run.specs.Giving.{log_bytes}
 use Rattle.fw_run.specs.State.{first_state}
 use Rattle.fw_run.specs.Rules.{Decides}
-use Rattle.fw_run.specs.Carrying.{Carries}
 use Rattle.fw_run.specs.Runs.{Run, begun}
 use Rattle.fw_run.proofs.Runs.{log_append, run_steps}
 use Rattle.fw_run.proofs.ComesBack.{comes_back}
@@ -24,7 +23,10 @@ use Rattle.fw_run.proofs.Sounds.{sound_throughout}
 use Rattle.fw_run.proofs.Suffice.{rounds_suffice}
 use Rattle.fw_run.proofs.Logs.{run_opens, run_spells}
 use Rattle.fw_bus.specs.Doings.{Cut}
+use Rattle.fw_run.specs.Desks.{DeskRelations}
 use Rattle.fw_bus.specs.Buses.{Standing, Stops}
+use Rattle.fw_run.specs.Carrying.{Carries}
+use Rattle.fw_run.proofs.Given.{given_then}
 use Rattle.fw_simulate.specs.Counts.{ReadCount, WriteCount}
 use Rattle.fw_simulate.specs.Going.{Going, Ends}
 use Rattle.fw_entry.specs.declared.entry.Timed.{Timed}
@@ -35,13 +37,14 @@ use Rattle.fw_simulate.specs.Ending.{LogsRun, Logged, RefusesLine, RefusesComman
 use Rattle.fw_simulate.proofs.Goings.{given_before, given_no_end, ended_before, still_ended, some_command, some_fault, all, whole_script, whole_takes, the_lines, taken_held, behind, begins_nothing, takes_nothing}
 
 -- what was carried out so far
-abbrev logs_run : {left now held after : Option (List ℕ)} {reader : Reading} {bus : Standing} (g : Going left now held after reader bus)
-    → LogOpens g.log (header_bytes ++ log_bytes g.log) → LogsRun held after g.commands
+abbrev logs_run : {D : DeskRelations} {left now held after : Option (List ℕ)} {reader : Reading} {bus : Standing} (g : Going D left now held after reader bus)
+    → LogOpens g.log (header_bytes ++ log_bytes g.log) → LogsRun D held after g.commands
 logs_run g opens = record {
   actions = g.actions;
   log = g.log;
   state = g.state;
   run = g.run;
+  given = g.given;
   sound = sound_throughout g.actions g.log g.state (run_steps g.commands g.actions g.log g.state g.run);
   restored = comes_back g.actions g.log g.state (run_steps g.commands g.actions g.log g.state g.run);
   rounds = rounds_suffice g.commands g.actions g.log g.state g.run;
@@ -50,14 +53,14 @@ logs_run g opens = record {
 }
 
 -- before the end
-abbrev logs_open : {left now held after : Option (List ℕ)} {reader : Reading} {bus : Standing} (g : Going left now held after reader bus) → HasRead left now g.commands reader → LogsRun held after g.commands
+abbrev logs_open : {D : DeskRelations} {left now held after : Option (List ℕ)} {reader : Reading} {bus : Standing} (g : Going D left now held after reader bus) → HasRead left now g.commands reader → LogsRun D held after g.commands
 logs_open g so = logs_run g (run_opens g.commands g.actions g.log g.state g.run (given_no_end so))
 
 -- ---- the input was read to its end
 
-pub logged_all : {left mid held held1 : Option (List ℕ)} {old : Reading} {bus : Standing} (left' : Option (List ℕ)) (new : Reading) (g : Going left mid held held1 old bus)
-    → Advances old new mid left' (Ok None) → Logged left left' held held1
-logged_all {left} {mid} {held} {held1} {old} left' new g a =
+pub logged_all : {D : DeskRelations} {left mid held held1 : Option (List ℕ)} {old : Reading} {bus : Standing} (left' : Option (List ℕ)) (new : Reading) (g : Going D left mid held held1 old bus)
+    → Advances old new mid left' (Ok None) → Logged D left left' held held1
+logged_all {D} {left} {mid} {held} {held1} {old} left' new g a =
     let h = ended_before old.stage a.known new g.read a.gives in
     let t = still_ended left mid left' g.commands old new h a in
     let whole = run_spells h.earlier g.actions g.log g.state (subst (λ (cs : List Command). Run cs g.actions g.log g.state) h.last g.run) h.no_end in
@@ -72,6 +75,7 @@ logged_all {left} {mid} {held} {held1} {old} left' new g a =
         log = g.log;
         state = g.state;
         run = g.run;
+        given = g.given;
         sound = sound_throughout g.actions g.log g.state (run_steps g.commands g.actions g.log g.state g.run);
         restored = comes_back g.actions g.log g.state (run_steps g.commands g.actions g.log g.state g.run);
         rounds = rounds_suffice g.commands g.actions g.log g.state g.run;
@@ -82,8 +86,8 @@ logged_all {left} {mid} {held} {held1} {old} left' new g a =
     }
 
 -- its log is the one so far
-pub logged_with : {left mid held held1 : Option (List ℕ)} {old : Reading} {bus : Standing} (left' : Option (List ℕ)) (new : Reading) (g : Going left mid held held1 old bus)
-    → Advances old new mid left' (Ok None) → Ends left left' held held1 g.log Endings.Done
+pub logged_with : {D : DeskRelations} {left mid held held1 : Option (List ℕ)} {old : Reading} {bus : Standing} (left' : Option (List ℕ)) (new : Reading) (g : Going D left mid held held1 old bus)
+    → Advances old new mid left' (Ok None) → Ends D left left' held held1 g.log Endings.Done
 unfolding logged_all
 logged_with left' new g a = (logged_all left' new g a, refl)
 
@@ -97,9 +101,9 @@ held_behind Fault.NoEnd q h = omega (arith, ap (λ (l : List ℕ). length l) h)
 held_behind Fault.ReadFault q h = h.1
 held_behind Fault.TooLong q h = h
 
-pub line_refused : {left mid held held1 : Option (List ℕ)} {old : Reading} {bus : Standing} (left' : Option (List ℕ)) (new : Reading) (f : ScriptFault) (g : Going left mid held held1 old bus)
-    → Advances old new mid left' (Err f) → IsHeld (Err f) new → f ≢ Fault.ReadFault → RefusesLine left left' held held1 f new.line
-line_refused {left} {mid} {held} {held1} {old} left' new f g a few told =
+pub line_refused : {D : DeskRelations} {left mid held held1 : Option (List ℕ)} {old : Reading} {bus : Standing} (left' : Option (List ℕ)) (new : Reading) (f : ScriptFault) (g : Going D left mid held held1 old bus)
+    → Advances old new mid left' (Err f) → IsHeld (Err f) new → f ≢ Fault.ReadFault → RefusesLine D left left' held held1 f new.line
+line_refused {D} {left} {mid} {held} {held1} {old} left' new f g a few told =
     let h = (given_before old.stage a.known new (Err f) (some_fault f) g.read a.gives).0 in
     let l = the_lines left mid left' g.commands old new (Err f) (some_fault f) h a in
     let script = whole_script left mid left' g.commands old new (Err f) (some_fault f) h a in
@@ -123,8 +127,8 @@ pub record Given (left left' : Option (List ℕ)) (commands : List Command) (c :
   pub on_line : IsOnLine script commands c new.line
   pub held : length takes.taken ≤ on_line.after.before + length new.rest
 
-given_on : {left mid held held1 : Option (List ℕ)} {old : Reading} {bus : Standing} (left' : Option (List ℕ)) (new : Reading) (c : Command) (g : Going left mid held held1 old bus) (a : Advances old new mid left' (Ok (Some c))) → Given left left' g.commands c new
-given_on {left} {mid} {held} {held1} {old} left' new c g a =
+given_on : {D : DeskRelations} {left mid held held1 : Option (List ℕ)} {old : Reading} {bus : Standing} (left' : Option (List ℕ)) (new : Reading) (c : Command) (g : Going D left mid held held1 old bus) (a : Advances old new mid left' (Ok (Some c))) → Given left left' g.commands c new
+given_on {D} {left} {mid} {held} {held1} {old} left' new c g a =
     let h = (given_before old.stage a.known new (Ok (Some c)) (some_command c) g.read a.gives).0 in
     let l = the_lines left mid left' g.commands old new (Ok (Some c)) (some_command c) h a in
     record {
@@ -135,9 +139,9 @@ given_on {left} {mid} {held} {held1} {old} left' new c g a =
     }
 
 -- a command breaks a rule
-pub command_refused : {left mid held held1 : Option (List ℕ)} {old : Reading} {bus : Standing} (left' : Option (List ℕ)) (new : Reading) (c : Command) (f : RuleFault) (g : Going left mid held held1 old bus)
-    → Advances old new mid left' (Ok (Some c)) → IsHeld (Ok (Some c)) new → Decides g.state c (Err f) → RefusesCommand left left' held held1 f new.line
-command_refused {left} {mid} {held} {held1} {old} left' new c f g a few d =
+pub command_refused : {D : DeskRelations} {left mid held held1 : Option (List ℕ)} {old : Reading} {bus : Standing} (left' : Option (List ℕ)) (new : Reading) (c : Command) (f : RuleFault) (g : Going D left mid held held1 old bus)
+    → Advances old new mid left' (Ok (Some c)) → IsHeld (Ok (Some c)) new → Decides g.state c (Err f) → RefusesCommand D left left' held held1 f new.line
+command_refused {D} {left} {mid} {held} {held1} {old} left' new c f g a few d =
     let o = given_on left' new c g a in
     let h = (given_before old.stage a.known new (Ok (Some c)) (some_command c) g.read a.gives).0 in
     record { script = o.script; takes = o.takes; commands = g.commands; command = c; on_line = o.on_line; near = omega (arith, o.held, few); logged = logs_open g h; decided = d }
@@ -145,7 +149,7 @@ command_refused {left} {mid} {held} {held1} {old} left' new c f g a few d =
 -- ---- the run was cut off
 
 -- not even the header was written
-pub part_header : (left held held' : Option (List ℕ)) → AppendsFront held held' header_bytes → PartLogged left left held held'
+pub part_header : {D : DeskRelations} (left held held' : Option (List ℕ)) → AppendsFront held held' header_bytes → PartLogged D left left held held'
 part_header left held held' wrote =
     let t = takes_nothing left in
     record {
@@ -160,6 +164,7 @@ part_header left held held' wrote =
       run = begun;
       done = [];
       began = refl;
+      given = tt;
       out = [];
       after = first_state;
       steps = (refl, refl);
@@ -171,17 +176,17 @@ part_header left held held' wrote =
     }
 
 -- the source failed
-pub interrupted : {left mid held held1 : Option (List ℕ)} {old : Reading} {bus : Standing} (left' : Option (List ℕ)) (new : Reading) (g : Going left mid held held1 old bus)
-    → Advances old new mid left' (Err Fault.ReadFault) → IsHeld (Err Fault.ReadFault) new → Interrupted left left' held held1
-interrupted {left} {mid} {held} {held1} {old} left' new g a cut =
+pub interrupted : {D : DeskRelations} {left mid held held1 : Option (List ℕ)} {old : Reading} {bus : Standing} (left' : Option (List ℕ)) (new : Reading) (g : Going D left mid held held1 old bus)
+    → Advances old new mid left' (Err Fault.ReadFault) → IsHeld (Err Fault.ReadFault) new → Interrupted D left left' held held1
+interrupted {D} {left} {mid} {held} {held1} {old} left' new g a cut =
     let h = (given_before old.stage a.known new (Err Fault.ReadFault) (some_fault Fault.ReadFault) g.read a.gives).0 in
     let f = read_failed left mid left' g.commands old new h a cut in
     record { taken = f.0; takes = f.1; commands = g.commands; lines = f.2; logged = logs_open g h }
 
 -- the sink failed within a command
-pub part_stopped : {left mid held held1 : Option (List ℕ)} {old : Reading} {bus : Standing} (left' held2 : Option (List ℕ)) (new : Reading) (bus' : Standing) (c : Command) (g : Going left mid held held1 old bus)
-    → Advances old new mid left' (Ok (Some c)) → Stops g.commands g.actions g.log g.state c bus' held1 held2 → PartLogged left left' held held2
-part_stopped {left} {mid} {held} {held1} {old} left' held2 new bus' c g a d = record {
+pub part_stopped : {D : DeskRelations} {left mid held held1 : Option (List ℕ)} {old : Reading} {bus : Standing} (left' held2 : Option (List ℕ)) (new : Reading) (bus' : Standing) (c : Command) (g : Going D left mid held held1 old bus)
+    → Advances old new mid left' (Ok (Some c)) → Stops D g.commands g.actions g.log g.state c bus' held1 held2 → PartLogged D left left' held held2
+part_stopped {D} {left} {mid} {held} {held1} {old} left' held2 new bus' c g a d = record {
   script = o.script;
   takes = o.takes;
   commands = g.commands;
@@ -193,6 +198,7 @@ part_stopped {left} {mid} {held} {held1} {old} left' held2 new bus' c g a d = re
   run = g.run;
   done = x.done;
   began = (d.order, x.later, x.all, x.last, d.decided, x.whole);
+  given = given_then D g.actions x.done g.given d.given;
   out = x.given ++ x.next ∷ [];
   after = x.state;
   steps = x.steps;
@@ -221,31 +227,36 @@ part_stopped {left} {mid} {held} {held1} {old} left' held2 new bus' c g a d = re
 -- ---- any ending
 
 -- the reader answered a fault
-pub faulted : {left mid held held1 : Option (List ℕ)} {old : Reading} {bus : Standing} (left' : Option (List ℕ)) (new : Reading) (f : ScriptFault) (g : Going left mid held held1 old bus)
-    → Advances old new mid left' (Err f) → IsHeld (Err f) new → Runs left left' held held1 (ending_by f new.line)
-faulted left' new Fault.BadLine g a few = line_refused left' new Fault.BadLine g a few (λ e. cc)
-faulted left' new Fault.LineTooLong g a few = line_refused left' new Fault.LineTooLong g a few (λ e. cc)
-faulted left' new Fault.NoEnd g a few = line_refused left' new Fault.NoEnd g a few (λ e. cc)
-faulted left' new Fault.ReadFault g a few = interrupted left' new g a few
-faulted left' new Fault.TooLong g a few =
+fault_runs : {D : DeskRelations} {left mid held held1 : Option (List ℕ)} {old : Reading} {bus : Standing} (left' : Option (List ℕ)) (new : Reading) (f : ScriptFault) (g : Going D left mid held held1 old bus)
+    → Advances old new mid left' (Err f) → IsHeld (Err f) new → Runs D left left' held held1 (ending_by f new.line)
+fault_runs left' new Fault.BadLine g a few = line_refused left' new Fault.BadLine g a few (λ e. cc)
+fault_runs left' new Fault.LineTooLong g a few = line_refused left' new Fault.LineTooLong g a few (λ e. cc)
+fault_runs left' new Fault.NoEnd g a few = line_refused left' new Fault.NoEnd g a few (λ e. cc)
+fault_runs left' new Fault.ReadFault g a few = interrupted left' new g a few
+fault_runs left' new Fault.TooLong g a few =
     let r = line_refused left' new Fault.TooLong g a few (λ e. cc) in
     record { line = new.line; refused = r; long = (script_limit r.script r.commands _ r.says).0 refl }
 
 -- that is how the run ends
-pub fault_ends : (left left' held held' : Option (List ℕ)) (log : List Timed) (f : ScriptFault) (line : ℕ) → Runs left left' held held' (ending_by f line) → Ends left left' held held' log (ending_by f line)
-fault_ends left left' held held' log Fault.BadLine line r = r
-fault_ends left left' held held' log Fault.LineTooLong line r = r
-fault_ends left left' held held' log Fault.NoEnd line r = r
-fault_ends left left' held held' log Fault.ReadFault line r = r
-fault_ends left left' held held' log Fault.TooLong line r = r
+fault_ends : (D : DeskRelations) (left left' held held' : Option (List ℕ)) (log : List Timed) (f : ScriptFault) (line : ℕ) → Runs D left left' held held' (ending_by f line) → Ends D left left' held held' log (ending_by f line)
+fault_ends D left left' held held' log Fault.BadLine line r = r
+fault_ends D left left' held held' log Fault.LineTooLong line r = r
+fault_ends D left left' held held' log Fault.NoEnd line r = r
+fault_ends D left left' held held' log Fault.ReadFault line r = r
+fault_ends D left left' held held' log Fault.TooLong line r = r
 
-pub ends_runs : (left left' held held' : Option (List ℕ)) (log : List Timed) (e : RunEnding) → Ends left left' held held' log e → Runs left left' held held' e
-ends_runs left left' held held' log Endings.Done d = d.0
-ends_runs left left' held held' log (Endings.Refused r) d = d
-ends_runs left left' held held' log Endings.ReadFault d = d
-ends_runs left left' held held' log Endings.WriteFault d = d
-ends_runs left left' held held' log Endings.TooLong d = d
-ends_runs left left' held held' log Endings.NoMemory d = d
+pub faulted : {D : DeskRelations} {left mid held held1 : Option (List ℕ)} {old : Reading} {bus : Standing} (left' : Option (List ℕ)) (new : Reading) (f : ScriptFault) (g : Going D left mid held held1 old bus)
+    → Advances old new mid left' (Err f) → IsHeld (Err f) new → Ends D left left' held held1 g.log (ending_by f new.line)
+faulted {D} {left} {mid} {held} {held1} left' new f g a few = fault_ends D left left' held held1 g.log f new.line (fault_runs left' new f g a few)
+
+pub ends_runs : {D : DeskRelations} {left mid held held1 : Option (List ℕ)} {old : Reading} {bus : Standing} (left' held' : Option (List ℕ)) (g : Going D left mid held held1 old bus) (e : RunEnding)
+    → Ends D left left' held held' g.log e → Runs D left left' held held' e
+ends_runs left' held' g Endings.Done d = d.0
+ends_runs left' held' g (Endings.Refused r) d = d
+ends_runs left' held' g Endings.ReadFault d = d
+ends_runs left' held' g Endings.WriteFault d = d
+ends_runs left' held' g Endings.TooLong d = d
+ends_runs left' held' g Endings.NoMemory d = d
 
 -- by the fault, whose count rose
 pub read_fault_counts : (old new : ℕ) (f : ScriptFault) (line : ℕ)

@@ -17,7 +17,9 @@ use Rattle.fw_script.proofs.CallLaws.{gave_all, before_none, met_end, read_nothi
 use Rattle.fw_run.specs.Giving.{log_bytes}
 use Rattle.fw_run.specs.Logs.{HasNoEnd}
 use Rattle.fw_run.specs.State.{first_state}
+use Rattle.fw_run.specs.Desks.{DeskRelations}
 use Rattle.fw_run.specs.Runs.{begun}
+use Rattle.fw_run.proofs.Given.{given_then}
 use Rattle.fw_run.proofs.Runs.{log_append}
 use Rattle.fw_bus.specs.Stands.{StandsFor}
 use Rattle.fw_bus.specs.Buses.{Standing, Goes}
@@ -157,13 +159,14 @@ still_ended left mid left' given old new h a =
 
 -- ---- the bus
 
-unfoldable pub going_first : (left held after : Option (List ℕ)) (reader : Reading) (bus : Standing) → reader ≡ unread → StandsFor bus.machine first_state → IsFalse bus.spent → Grows held after header_bytes → Going left left held after reader bus
+unfoldable pub going_first : {D : DeskRelations} (left held after : Option (List ℕ)) (reader : Reading) (bus : Standing) → reader ≡ unread → StandsFor bus.machine first_state → IsFalse bus.spent → Grows held after header_bytes → Going D left left held after reader bus
 going_first left held after reader bus new stands fresh header = record {
   commands = [];
   actions = [];
   log = [];
   state = first_state;
   run = begun;
+  given = tt;
   stands = stands;
   fresh = fresh;
   grew = subst (λ (bytes : List ℕ). Grows held after bytes) (sym (append-nil header_bytes)) header;
@@ -171,9 +174,9 @@ going_first left held after reader bus new stands fresh header = record {
 }
 
 -- a command was given and carried out
-unfoldable pub going_more : {left mid held held1 : Option (List ℕ)} {old : Reading} {bus : Standing} (left' held2 : Option (List ℕ)) (new : Reading) (bus' : Standing) (c : Command) (g : Going left mid held held1 old bus)
-    → Advances old new mid left' (Ok (Some c)) → Goes g.commands g.actions g.log g.state c bus' held1 held2 → Going left left' held held2 new bus'
-going_more {left} {mid} {held} {held1} {old} {bus} left' held2 new bus' c g a d =
+unfoldable pub going_more : {D : DeskRelations} {left mid held held1 : Option (List ℕ)} {old : Reading} {bus : Standing} (left' held2 : Option (List ℕ)) (new : Reading) (bus' : Standing) (c : Command) (g : Going D left mid held held1 old bus)
+    → Advances old new mid left' (Ok (Some c)) → Goes D g.commands g.actions g.log g.state c bus' held1 held2 → Going D left left' held held2 new bus'
+going_more {D} {left} {mid} {held} {held1} {old} {bus} left' held2 new bus' c g a d =
     let before = given_before old.stage a.known new (Ok (Some c)) (some_command c) g.read a.gives in
     record {
       commands = g.commands ++ c ∷ [];
@@ -181,6 +184,7 @@ going_more {left} {mid} {held} {held1} {old} {bus} left' held2 new bus' c g a d 
       log = g.log ++ d.out;
       state = d.state;
       run = d.run;
+      given = given_then D g.actions d.more g.given d.given;
       stands = d.stands;
       fresh = d.fresh;
       grew = subst (λ (bytes : List ℕ). Grows held held2 bytes)
@@ -190,12 +194,12 @@ going_more {left} {mid} {held} {held1} {old} {bus} left' held2 new bus' c g a d 
     }
 
 -- a command that was given is that of a line
-pub going_form : {left mid held held1 : Option (List ℕ)} {old : Reading} {bus : Standing} (left' : Option (List ℕ)) (new : Reading) (c : Command) (g : Going left mid held held1 old bus)
+pub going_form : {D : DeskRelations} {left mid held held1 : Option (List ℕ)} {old : Reading} {bus : Standing} (left' : Option (List ℕ)) (new : Reading) (c : Command) (g : Going D left mid held held1 old bus)
     → Advances old new mid left' (Ok (Some c)) → IsCommand c
 going_form {old = old} left' new c g a = given_form (given_before old.stage a.known new (Ok (Some c)) (some_command c) g.read a.gives).1 c refl
 
 -- each call that gives a command leaves less to read
-pub going_shorter : {left mid held held1 : Option (List ℕ)} {old : Reading} {bus : Standing} (left' : Option (List ℕ)) (new : Reading) (c : Command) (g : Going left mid held held1 old bus)
+pub going_shorter : {D : DeskRelations} {left mid held held1 : Option (List ℕ)} {old : Reading} {bus : Standing} (left' : Option (List ℕ)) (new : Reading) (c : Command) (g : Going D left mid held held1 old bus)
     → Advances old new mid left' (Ok (Some c))
     → to_read new < to_read old
 going_shorter {left = left} {mid = mid} {old = old} left' new c g a = by_end (is_end c)

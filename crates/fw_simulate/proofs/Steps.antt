@@ -1,5 +1,5 @@
 -- What a step did, wherever the log is kept.
-use Rattle.std.proofs.Common.{◌≡◌, ℕ, List, [], ◌∷◌, ◌++◌, Option, Some, None, Ok, refl, ap, sym, ◌∙◌, append-nil, append_assoc, arith}
+use Rattle.std.proofs.Common.{◌≡◌, ℕ, List, [], ◌∷◌, ◌++◌, Option, Some, None, Ok, refl, ap, sym, subst, ◌∙◌, append-nil, append_assoc, arith}
 use Rattle.std.proofs.lemmas.List.Elements.{All-cons}
 use Rattle.std.specs.List.{All}
 use Rattle.fw_outside.specs.Outside.{Grows}
@@ -9,10 +9,14 @@ use Rattle.fw_entry.specs.declared.entry.Timed.{Timed}
 use Rattle.fw_script.specs.Reading.{Reading, Advances}
 use Rattle.fw_script.specs.declared.command.Command.{Command}
 use Rattle.fw_run.specs.State.{State}
+use Rattle.fw_run.specs.declared.rule.RuleFault.{RuleFault}
+use Rattle.fw_simulate.specs.declared.ending.RunEnding.{RunEnding}
 use Rattle.fw_run.specs.Actions.{Action}
+use Rattle.fw_run.specs.Desks.{DeskRelations}
 use Rattle.fw_bus.specs.Buses.{Standing, Goes, Stops}
 use Rattle.fw_bus.specs.Doings.{Cut}
-use Rattle.fw_simulate.specs.Going.{Going, Mirrors, Carried}
+use Rattle.fw_simulate.specs.Ending.{RefusesCommand}
+use Rattle.fw_simulate.specs.Going.{Going, Mirrors, Carried, Ends}
 use Rattle.fw_simulate.proofs.Goings.{going_more, going_shorter}
 
 -- a place that grows by nothing stays
@@ -25,9 +29,18 @@ grown_by_none (Some xs) (Some ys) h = ap (λ (l : List ℕ). Some l) (h ∙ appe
 pub still : (written after after' : Option (List ℕ)) → Mirrors written written after after' → after' ≡ after
 still written after after' m = grown_by_none after after' (m [] (Grows-nothing written))
 
+-- how the run ends with a log at a place, where nothing more was written
+pub ends_there : {D : DeskRelations} {left mid held after : Option (List ℕ)} {old : Reading} {bus : Standing} (left' : Option (List ℕ)) {after' : Option (List ℕ)} (g : Going D left mid held after old bus) (e : RunEnding)
+    → after' ≡ after → Ends D left left' held after g.log e → Ends D left left' held after' g.log e
+ends_there {D} {left} {mid} {held} left' g e same h = subst (λ (x : Option (List ℕ)). Ends D left left' held x g.log e) (sym same) h
+
+pub refused_there : {D : DeskRelations} (left left' held : Option (List ℕ)) {after after' : Option (List ℕ)} (rule : RuleFault) (line : ℕ) → after' ≡ after
+    → RefusesCommand D left left' held after rule line → RefusesCommand D left left' held after' rule line
+refused_there {D} left left' held rule line same h = subst (λ (x : Option (List ℕ)). RefusesCommand D left left' held x rule line) (sym same) h
+
 -- the same of another place
-pub goes_there : {commands : List Command} {actions : List Action} {log : List Timed} {s : State} {c : Command} {now : Standing} {written written' : Option (List ℕ)} (after after' : Option (List ℕ))
-    → Mirrors written written' after after' → Goes commands actions log s c now written written' → Goes commands actions log s c now after after'
+pub goes_there : {D : DeskRelations} {commands : List Command} {actions : List Action} {log : List Timed} {s : State} {c : Command} {now : Standing} {written written' : Option (List ℕ)} (after after' : Option (List ℕ))
+    → Mirrors written written' after after' → Goes D commands actions log s c now written written' → Goes D commands actions log s c now after after'
 goes_there after after' m d = record {
   order = d.order;
   decided = d.decided;
@@ -35,6 +48,7 @@ goes_there after after' m d = record {
   out = d.out;
   state = d.state;
   carries = d.carries;
+  given = d.given;
   run = d.run;
   stands = d.stands;
   grew = m _ d.grew;
@@ -64,13 +78,14 @@ cut_there after after' m x = record {
   appended = m _ x.appended;
 }
 
-pub stops_there : {commands : List Command} {actions : List Action} {log : List Timed} {s : State} {c : Command} {now : Standing} {written written' : Option (List ℕ)} (after after' : Option (List ℕ))
-    → Mirrors written written' after after' → Stops commands actions log s c now written written' → Stops commands actions log s c now after after'
+pub stops_there : {D : DeskRelations} {commands : List Command} {actions : List Action} {log : List Timed} {s : State} {c : Command} {now : Standing} {written written' : Option (List ℕ)} (after after' : Option (List ℕ))
+    → Mirrors written written' after after' → Stops D commands actions log s c now written written' → Stops D commands actions log s c now after after'
 unfolding cut_there
 stops_there after after' m d = record {
   order = d.order;
   decided = d.decided;
   cut = cut_there after after' m d.cut;
+  given = d.given;
   sound = d.sound;
   restored = d.restored;
   opens = d.opens;
@@ -83,9 +98,9 @@ fit_behind log [] h = λ k d l. absurd (omega (arith, l))
 fit_behind log (t ∷ ts) h = All-cons TimedFits t ts (h log ts t refl) (fit_behind (log ++ t ∷ []) ts (λ front rest u e. h front rest u (sym (append_assoc log (t ∷ []) ts) ∙ e)))
 
 -- a command more was carried out
-pub carried : {left mid held after written written' : Option (List ℕ)} {old : Reading} {bus : Standing} (left' after' : Option (List ℕ)) (new : Reading) (bus' : Standing) (c : Command) (g : Going left mid held after old bus)
-    → Mirrors written written' after after' → Advances old new mid left' (Ok (Some c)) → Goes g.commands g.actions g.log g.state c bus' written written'
-    → Carried left left' held after' written written' g.log old new bus'
+pub carried : {D : DeskRelations} {left mid held after written written' : Option (List ℕ)} {old : Reading} {bus : Standing} (left' after' : Option (List ℕ)) (new : Reading) (bus' : Standing) (c : Command) (g : Going D left mid held after old bus)
+    → Mirrors written written' after after' → Advances old new mid left' (Ok (Some c)) → Goes D g.commands g.actions g.log g.state c bus' written written'
+    → Carried D left left' held after' written written' g.log old new bus'
 unfolding going_more goes_there
 carried {after = after} left' after' new bus' c g m a d = record {
   going = going_more left' after' new bus' c g a (goes_there after after' m d);

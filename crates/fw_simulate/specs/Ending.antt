@@ -15,6 +15,8 @@ use Rattle.fw_run.specs.State.{State}
 use Rattle.fw_run.specs.Rules.{Decides}
 use Rattle.fw_run.specs.Actions.{Action, Steps}
 use Rattle.fw_run.specs.Carrying.{Carries}
+use Rattle.fw_run.specs.Desks.{DeskRelations}
+use Rattle.fw_run.specs.Given.{AreGiven}
 use Rattle.fw_run.specs.Runs.{Run}
 use Rattle.fw_run.specs.Headline.{IsSoundThroughout}
 use Rattle.fw_run.specs.Reclaiming.{ComesBack}
@@ -26,14 +28,15 @@ use Rattle.fw_simulate.specs.declared.ending.Refusal.{Refusal}
 use Rattle.fw_simulate.specs.declared.ending.Refusal.TheVariants.{BadLine, LineTooLong, NoEnd, Rule}
 use Rattle.fw_simulate.specs.Scripts.{FaultsAt, beyond}
 
--- The commands were carried out; the header and the log of their run were written. It is a log that lacks at most its end, and
--- it is sound throughout; what was whole before a bus reset is whole again where its second is over, and enough rounds suffice for
--- that.
-pub record LogsRun (held held' : Option (List ℕ)) (commands : List Command) : Type 0 where
+-- The commands were carried out, with what the desk gives; the header and the log of their run were written. It is a log that
+-- lacks at most its end, and it is sound throughout; what was whole before a bus reset is whole again where its second is over, and
+-- enough rounds suffice for that.
+pub record LogsRun (D : DeskRelations) (held held' : Option (List ℕ)) (commands : List Command) : Type 0 where
   pub actions : List Action
   pub log : List Timed
   pub state : State
   pub run : Run commands actions log state
+  pub given : AreGiven D actions
   pub sound : IsSoundThroughout actions log
   pub restored : ComesBack actions log
   pub rounds : RoundsSuffice commands
@@ -42,53 +45,53 @@ pub record LogsRun (held held' : Option (List ℕ)) (commands : List Command) : 
 
 -- These bytes were taken, to the end of the input, and no line of them is refused. The log is that of their commands, and
 -- whole.
-pub record Logged (left left' held held' : Option (List ℕ)) : Type 0 where
+pub record Logged (D : DeskRelations) (left left' held held' : Option (List ℕ)) : Type 0 where
   pub script : List ℕ
   pub taken : Takes left left' script
   pub end : IsAtEnd left'
   pub commands : List Command
   pub says : IsScript script commands None
-  pub logged : LogsRun held held' commands
+  pub logged : LogsRun D held held' commands
   pub whole : LogSpells logged.log (header_bytes ++ log_bytes logged.log)
 
 -- The script's first refused line has this fault and this number, and few bytes behind it were taken. The log is that of the
 -- commands before it.
-pub record RefusesLine (left left' held held' : Option (List ℕ)) (fault : ScriptFault) (line : ℕ) : Type 0 where
+pub record RefusesLine (D : DeskRelations) (left left' held held' : Option (List ℕ)) (fault : ScriptFault) (line : ℕ) : Type 0 where
   pub script : List ℕ
   pub takes : TakesFrom left left' script
   pub commands : List Command
   pub says : IsScript script commands (Some (record { fault = fault; line = line }))
   pub at : FaultsAt script commands fault
   pub near : length takes.taken ≤ at.after.before + beyond fault
-  pub logged : LogsRun held held' commands
+  pub logged : LogsRun D held held' commands
 
 -- The command on the line with this number is the first that breaks a rule, and this is the rule; at most 4,096 bytes behind
 -- the line were taken. The log is that of the commands before it.
-pub record RefusesCommand (left left' held held' : Option (List ℕ)) (rule : RuleFault) (line : ℕ) : Type 0 where
+pub record RefusesCommand (D : DeskRelations) (left left' held held' : Option (List ℕ)) (rule : RuleFault) (line : ℕ) : Type 0 where
   pub script : List ℕ
   pub takes : TakesFrom left left' script
   pub commands : List Command
   pub command : Command
   pub on_line : IsOnLine script commands command line
   pub near : length takes.taken ≤ on_line.after.before + 4096
-  pub logged : LogsRun held held' commands
+  pub logged : LogsRun D held held' commands
   pub decided : Decides logged.state command (Err rule)
 
 -- what each reason says of a line
-abbrev pub RefusesBy : Option (List ℕ) → Option (List ℕ) → Option (List ℕ) → Option (List ℕ) → Refusal → ℕ → Type 0
-RefusesBy left left' held held' BadLine line = RefusesLine left left' held held' Fault.BadLine line
-RefusesBy left left' held held' LineTooLong line = RefusesLine left left' held held' Fault.LineTooLong line
-RefusesBy left left' held held' NoEnd line = RefusesLine left left' held held' Fault.NoEnd line
-RefusesBy left left' held held' (Rule rule) line = RefusesCommand left left' held held' rule line
+abbrev pub RefusesBy : DeskRelations → Option (List ℕ) → Option (List ℕ) → Option (List ℕ) → Option (List ℕ) → Refusal → ℕ → Type 0
+RefusesBy D left left' held held' BadLine line = RefusesLine D left left' held held' Fault.BadLine line
+RefusesBy D left left' held held' LineTooLong line = RefusesLine D left left' held held' Fault.LineTooLong line
+RefusesBy D left left' held held' NoEnd line = RefusesLine D left left' held held' Fault.NoEnd line
+RefusesBy D left left' held held' (Rule rule) line = RefusesCommand D left left' held held' rule line
 
 -- this line is the first that is refused
-abbrev pub Refuses : Option (List ℕ) → Option (List ℕ) → Option (List ℕ) → Option (List ℕ) → RefusedLine → Type 0
-Refuses left left' held held' r = RefusesBy left left' held held' r.why r.line
+abbrev pub Refuses : DeskRelations → Option (List ℕ) → Option (List ℕ) → Option (List ℕ) → Option (List ℕ) → RefusedLine → Type 0
+Refuses D left left' held held' r = RefusesBy D left left' held held' r.why r.line
 
 -- The script has more than 1,048,576 bytes, and no line within them is refused. The log is that of the commands within them.
-pub record PassesScriptLimit (left left' held held' : Option (List ℕ)) : Type 0 where
+pub record PassesScriptLimit (D : DeskRelations) (left left' held held' : Option (List ℕ)) : Type 0 where
   pub line : ℕ
-  pub refused : RefusesLine left left' held held' Fault.TooLong line
+  pub refused : RefusesLine D left left' held held' Fault.TooLong line
   pub long : 1048576 < length refused.script
 
 -- of what a command orders these actions were carried out, and all that it orders could have been; or of no command none
@@ -102,17 +105,17 @@ SaysBegun script commands None = BeginsWith script commands
 SaysBegun script commands (Some c) = (line : ℕ) × IsOnLine script commands c line
 
 -- The source failed. The log is that of the commands of exactly the lines whose line feed was taken before.
-pub record Interrupted (left left' held held' : Option (List ℕ)) : Type 0 where
+pub record Interrupted (D : DeskRelations) (left left' held held' : Option (List ℕ)) : Type 0 where
   pub taken : List ℕ
   pub takes : Takes left left' taken
   pub commands : List Command
   pub lines : LinesSay taken commands
-  pub logged : LogsRun held held' commands
+  pub logged : LogsRun D held held' commands
 
 -- The sink failed. Bytes were taken of a script that says these commands first, and then the one that was begun, if any. A
--- front was written of the header and the log of their actions, as far as they were carried out; that log lacks at most its end,
--- and is sound throughout.
-pub record PartLogged (left left' held held' : Option (List ℕ)) : Type 0 where
+-- front was written of the header and the log of their actions, as far as they were carried out with what the desk gives; that log
+-- lacks at most its end, and is sound throughout.
+pub record PartLogged (D : DeskRelations) (left left' held held' : Option (List ℕ)) : Type 0 where
   pub script : List ℕ
   pub takes : TakesFrom left left' script
   pub commands : List Command
@@ -124,6 +127,7 @@ pub record PartLogged (left left' held held' : Option (List ℕ)) : Type 0 where
   pub run : Run commands actions log state
   pub done : List Action
   pub began : Began begun state done
+  pub given : AreGiven D (actions ++ done)
   pub out : List Timed
   pub after : State
   pub steps : Steps state done out after
@@ -134,13 +138,13 @@ pub record PartLogged (left left' held held' : Option (List ℕ)) : Type 0 where
   pub grew : AppendsFront held held' (header_bytes ++ log_bytes (log ++ out))
 
 -- what each ending says; memory is wanted before anything is read or written
-abbrev pub Runs : Option (List ℕ) → Option (List ℕ) → Option (List ℕ) → Option (List ℕ) → RunEnding → Type 0
-Runs left left' held held' Done = Logged left left' held held'
-Runs left left' held held' (Refused r) = Refuses left left' held held' r
-Runs left left' held held' TooLong = PassesScriptLimit left left' held held'
-Runs left left' held held' WriteFault = PartLogged left left' held held'
-Runs left left' held held' ReadFault = Interrupted left left' held held'
-Runs left left' held held' NoMemory = (left' ≡ left) × (held' ≡ held)
+abbrev pub Runs : DeskRelations → Option (List ℕ) → Option (List ℕ) → Option (List ℕ) → Option (List ℕ) → RunEnding → Type 0
+Runs D left left' held held' Done = Logged D left left' held held'
+Runs D left left' held held' (Refused r) = Refuses D left left' held held' r
+Runs D left left' held held' TooLong = PassesScriptLimit D left left' held held'
+Runs D left left' held held' WriteFault = PartLogged D left left' held held'
+Runs D left left' held held' ReadFault = Interrupted D left left' held held'
+Runs D left left' held held' NoMemory = (left' ≡ left) × (held' ≡ held)
 
 -- the ending by a fault of the script at this line
 abbrev pub ending_by : ScriptFault → ℕ → RunEnding

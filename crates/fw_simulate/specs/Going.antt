@@ -15,6 +15,8 @@ use Rattle.fw_run.specs.Giving.{log_bytes}
 use Rattle.fw_run.specs.Logs.{HasNoEnd}
 use Rattle.fw_run.specs.State.{State}
 use Rattle.fw_run.specs.Actions.{Action}
+use Rattle.fw_run.specs.Desks.{DeskRelations}
+use Rattle.fw_run.specs.Given.{AreGiven}
 use Rattle.fw_run.specs.Runs.{Run}
 use Rattle.fw_bus.specs.Stands.{StandsFor}
 use Rattle.fw_bus.specs.Buses.{Standing}
@@ -50,32 +52,34 @@ open_of Failed = 1
 abbrev pub to_read : Reading → ℕ
 to_read reader = (1048576 - reader.before) + open_of reader.stage
 
--- Before a call of the reader: the commands so far were carried out, and the header and their log stand where they are kept.
-pub record Going (left now held after : Option (List ℕ)) (reader : Reading) (bus : Standing) : Type 0 where
+-- Before a call of the reader: the commands so far were carried out, with what the desk gives, and the header and their log stand
+-- where they are kept.
+pub record Going (D : DeskRelations) (left now held after : Option (List ℕ)) (reader : Reading) (bus : Standing) : Type 0 where
   pub commands : List Command
   pub actions : List Action
   pub log : List Timed
   pub state : State
   pub run : Run commands actions log state
+  pub given : AreGiven D actions
   pub stands : StandsFor bus.machine state
   pub fresh : IsFalse bus.spent
   pub grew : Grows held after (header_bytes ++ log_bytes log)
   pub read : IsReading reader.stage left now commands reader
 
 -- some run is under way
-pub record IsUnderWay (now : Option (List ℕ)) (reader : Reading) (bus : Standing) : Type 0 where
+pub record IsUnderWay (D : DeskRelations) (now : Option (List ℕ)) (reader : Reading) (bus : Standing) : Type 0 where
   pub left : Option (List ℕ)
   pub held : Option (List ℕ)
   pub after : Option (List ℕ)
-  pub going : Going left now held after reader bus
+  pub going : Going D left now held after reader bus
 
 -- a place grows by all that a sink grows by
 abbrev pub Mirrors : Option (List ℕ) → Option (List ℕ) → Option (List ℕ) → Option (List ℕ) → Type 0
 Mirrors written written' after after' = (bytes : List ℕ) → Grows written written' bytes → Grows after after' bytes
 
 -- One command more was carried out: the run goes on with the entries that were written.
-pub record Carried (left now' held after' written written' : Option (List ℕ)) (log : List Timed) (reader reader' : Reading) (bus' : Standing) : Type 0 where
-  pub going : Going left now' held after' reader' bus'
+pub record Carried (D : DeskRelations) (left now' held after' written written' : Option (List ℕ)) (log : List Timed) (reader reader' : Reading) (bus' : Standing) : Type 0 where
+  pub going : Going D left now' held after' reader' bus'
   pub out : List Timed
   pub longer : going.log ≡ log ++ out
   pub fit : All TimedFits out
@@ -83,12 +87,12 @@ pub record Carried (left now' held after' written written' : Option (List ℕ)) 
   pub shorter : to_read reader' < to_read reader
 
 -- The run ended with this log so far: what was logged is that, where the script was read to its end.
-abbrev pub Ends : Option (List ℕ) → Option (List ℕ) → Option (List ℕ) → Option (List ℕ) → List Timed → RunEnding → Type 0
-Ends left left' held held' log Endings.Done = (all : Logged left left' held held') × (all.logged.log ≡ log)
-Ends left left' held held' log ending = Runs left left' held held' ending
+abbrev pub Ends : DeskRelations → Option (List ℕ) → Option (List ℕ) → Option (List ℕ) → Option (List ℕ) → List Timed → RunEnding → Type 0
+Ends D left left' held held' log Endings.Done = (all : Logged D left left' held held') × (all.logged.log ≡ log)
+Ends D left left' held held' log ending = Runs D left left' held held' ending
 
 -- what a step did: a command more, or the end of the run
-abbrev pub Continues : {left now held after : Option (List ℕ)} {reader : Reading} {bus : Standing} → Going left now held after reader bus
+abbrev pub Continues : {D : DeskRelations} {left now held after : Option (List ℕ)} {reader : Reading} {bus : Standing} → Going D left now held after reader bus
     → Option (List ℕ) → Option (List ℕ) → Option (List ℕ) → Option (List ℕ) → Reading → Standing → Option RunEnding → Type 0
-Continues {left} {now} {held} {after} {reader} g now' written written' after' reader' bus' None = Carried left now' held after' written written' g.log reader reader' bus'
-Continues {left} {now} {held} g now' written written' after' reader' bus' (Some ending) = Ends left now' held after' g.log ending
+Continues {D} {left} {now} {held} {after} {reader} g now' written written' after' reader' bus' None = Carried D left now' held after' written written' g.log reader reader' bus'
+Continues {D} {left} {now} {held} g now' written written' after' reader' bus' (Some ending) = Ends D left now' held after' g.log ending

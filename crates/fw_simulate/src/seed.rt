@@ -4,6 +4,7 @@ ghost use Rattle.std.specs.Prelude.{◌≡◌, ◌≤◌, [], List, length};
 ghost use Rattle.fw_entry.specs.declared.entry.Timed.{Timed};
 ghost use Rattle.fw_gen.specs.Gen.{script_of};
 ghost use Rattle.fw_gen.specs.Summary.{Counts};
+ghost use Rattle.fw_tape.specs.Desks.{AnyBlock, AnyVendorByte};
 ghost use Rattle.fw_simulate.specs.Counts.{WriteCount};
 ghost use Rattle.fw_simulate.specs.Scripts.{IsValid, IsNoRefusal};
 ghost use Rattle.fw_simulate.specs.Sums.{in_memory, Counted, Summed, Sums};
@@ -14,6 +15,7 @@ use fw_bus::Bus;
 use fw_gen::{GrowSink, ScriptSource, Tally, gen_script};
 use fw_outside::{Failed, Sink};
 use fw_script::ScriptReader;
+use fw_tape::Desk;
 use std::alloc::Global;
 
 // How a run in memory ends: a write there fails only where memory is refused.
@@ -28,10 +30,17 @@ fn in_memory(ending: RunEnding) -> RunEnding
 
 // Runs a script in memory, and counts the entries of its log. The log is never kept: after each command what it wrote is
 // counted, and the sink emptied. Where a count passes 2^64 - 1, memory for it is lacking.
-fn count_run(alloc: Global, script: Vec<u8>, tally: &mut Tally) -> RunEnding
+fn count_run<F: Fn(u16, u32, u16) -> [u8; 480], H: Fn(u32, u8) -> u8>(
+    alloc: Global,
+    script: Vec<u8>,
+    tally: &mut Tally,
+    desk: &Desk<F, H>,
+) -> RunEnding
+    requires blocks { AnyBlock (F.pre desk.now.blocks) }
+    requires desk { AnyVendorByte (H.pre desk.now.vendor) }
     requires none { Counts [] tally.old }
     requires short { length script.items ≤ 1048576 }
-    ensures { Counted script.items tally.new result }
+    ensures { Counted (record { blocks = F.post desk.now.blocks; vendor = H.post desk.now.vendor }) script.items tally.new result }
 {
     let Ok(mut bus) = Bus::new(alloc) else {
         return RunEnding::NoMemory;
@@ -42,7 +51,7 @@ fn count_run(alloc: Global, script: Vec<u8>, tally: &mut Tally) -> RunEnding
     let mut source = ScriptSource::new(script);
     let mut sink = GrowSink::new(alloc);
     loop {
-        if let Some(ending) = carry_next(&mut reader, &mut bus, &mut source, &mut sink) {
+        if let Some(ending) = carry_next(&mut reader, &mut bus, &mut source, &mut sink, desk) {
             return in_memory(ending);
         }
         let Ok(()) = tally.take(sink.as_slice()) else {
@@ -68,8 +77,15 @@ fn write_summary<K: Sink>(alloc: Global, tally: &Tally, sink: &mut K) -> RunEndi
 
 /// Runs the script that a seed makes, and writes the summary of its log at the end. It reads nothing, and where a line of the
 /// script is refused it writes nothing.
-pub fn run_seed<K: Sink>(alloc: Global, seed: u32, sink: &mut K) -> RunEnding
-    ensures sums { Sums seed (K.held sink.old) (K.held sink.new) result }
+pub fn run_seed<K: Sink, F: Fn(u16, u32, u16) -> [u8; 480], H: Fn(u32, u8) -> u8>(
+    alloc: Global,
+    seed: u32,
+    sink: &mut K,
+    desk: &Desk<F, H>,
+) -> RunEnding
+    requires blocks { AnyBlock (F.pre desk.now.blocks) }
+    requires desk { AnyVendorByte (H.pre desk.now.vendor) }
+    ensures sums { Sums (record { blocks = F.post desk.now.blocks; vendor = H.post desk.now.vendor }) seed (K.held sink.old) (K.held sink.new) result }
     ensures complete { IsValid (script_of seed) → IsNoRefusal result }
     ensures write_count { WriteCount (K.faults sink.old) (K.faults sink.new) result }
 {
@@ -77,7 +93,7 @@ pub fn run_seed<K: Sink>(alloc: Global, seed: u32, sink: &mut K) -> RunEnding
         return RunEnding::NoMemory;
     };
     let mut tally = Tally::new();
-    match count_run(alloc, script, &mut tally) {
+    match count_run(alloc, script, &mut tally, desk) {
         RunEnding::Done => write_summary(alloc, &tally, sink),
         ending => ending,
     }

@@ -2,6 +2,7 @@
 
 ghost use Rattle.std.specs.Prelude.{◌≡◌, List, ℕ};
 ghost use Rattle.std.specs.declared.option.Option.{Option as Maybe};
+ghost use Rattle.fw_tape.specs.Desks.{AnyBlock, AnyVendorByte};
 ghost use Rattle.fw_simulate.specs.Ending.{ending_by};
 ghost use Rattle.fw_simulate.specs.Counts.{ReadsOn, WritesOn};
 ghost use Rattle.fw_simulate.specs.Going.{Going, IsUnderWay, Mirrors, Continues};
@@ -10,6 +11,7 @@ use crate::ending::{Refusal, Refused, RunEnding};
 use fw_bus::{Bus, BusFault};
 use fw_outside::{Sink, Source};
 use fw_script::{ScriptFault, ScriptReader};
+use fw_tape::Desk;
 
 fn refused(line: u32, why: Refusal) -> RunEnding
     ensures { result ≡ RunEnding.Refused (record { line = line; why = why }) }
@@ -30,18 +32,27 @@ fn ending_of(fault: ScriptFault, line: u32) -> RunEnding
     }
 }
 
-/// Reads the next command of a script, and carries it out. It answers how the run ends, or None where it goes on.
+/// Reads the next command of a script, and carries it out; the blocks of tapes, and what a vendor makes of a byte, come from the desk.
+/// It answers how the run ends, or None where it goes on.
 ///
 /// A caller may keep elsewhere what the sink was given: the clause speaks of any place that grows as the sink does.
-pub(crate) fn carry_next<S: Source, K: Sink>(
+pub(crate) fn carry_next<
+    S: Source,
+    K: Sink,
+    F: Fn(u16, u32, u16) -> [u8; 480],
+    H: Fn(u32, u8) -> u8,
+>(
     reader: &mut ScriptReader,
     bus: &mut Bus,
     source: &mut S,
     sink: &mut K,
+    desk: &Desk<F, H>,
 ) -> Option<RunEnding>
-    requires { IsUnderWay (S.left source.old) reader.old bus.old }
+    requires blocks { AnyBlock (F.pre desk.now.blocks) }
+    requires desk { AnyVendorByte (H.pre desk.now.vendor) }
+    requires under_way { IsUnderWay (record { blocks = F.post desk.now.blocks; vendor = H.post desk.now.vendor }) (S.left source.old) reader.old bus.old }
     ensures goes { (left held after after2 : Maybe (List ℕ)) → Mirrors (K.held sink.old) (K.held sink.new) after after2
-        → (g : Going left (S.left source.old) held after reader.old bus.old)
+        → (g : Going (record { blocks = F.post desk.now.blocks; vendor = H.post desk.now.vendor }) left (S.left source.old) held after reader.old bus.old)
         → Continues g (S.left source.new) (K.held sink.old) (K.held sink.new) after2 reader.new bus.new result }
     ensures reads { ReadsOn (S.faults source.old) (S.faults source.new) result }
     ensures writes { WritesOn (K.faults sink.old) (K.faults sink.new) result }
@@ -51,7 +62,7 @@ pub(crate) fn carry_next<S: Source, K: Sink>(
         Ok(None) => return Some(RunEnding::Done),
         Err(fault) => return Some(ending_of(fault, reader.line())),
     };
-    match bus.apply(&command, sink) {
+    match bus.apply(&command, sink, desk) {
         Ok(()) => None,
         Err(BusFault::Refused(rule)) => Some(refused(reader.line(), Refusal::Rule(rule))),
         Err(BusFault::WriteFault) => Some(RunEnding::WriteFault),

@@ -1,5 +1,5 @@
 -- The blocks that are due in some cycles are those by the last of them but not by the first.
-use Rattle.std.proofs.Common.{◌≡◌, ℕ, zero, suc, ◌+◌, ◌-◌, ◌*◌, ◌/◌, ◌≤◌, ◌<◌, Some, IsTrue, cond, arith, refl, ap}
+use Rattle.std.proofs.Common.{◌≡◌, ℕ, zero, suc, ◌+◌, ◌-◌, ◌*◌, ◌/◌, ◌≤◌, ◌<◌, Option, Some, None, Bool, true, false, is_some, option_map, IsTrue, cond, arith, refl, ap, subst, ◌∙◌}
 use Rattle.std.proofs.lemmas.Bool.Decides.{nat_tests}
 use Rattle.fw_tape.specs.declared.system.TapeSystem.{TapeSystem}
 use Rattle.fw_tape.specs.declared.system.TapeSystem.TheVariants.{Lines525, Lines625}
@@ -8,7 +8,7 @@ use Rattle.fw_tape.specs.declared.transport.Transport.TheVariants.{Play, Reverse
 use Rattle.fw_tape.specs.declared.cassette.Cassette.{Cassette}
 use Rattle.fw_tape.specs.Systems.{share_cycles, share_blocks, blocks_due}
 use Rattle.fw_tape.specs.Motion.{passed_on}
-use Rattle.fw_tape.specs.Blocks.{is_due, due_among, blocks_among, IsCycleOf}
+use Rattle.fw_tape.specs.Blocks.{is_due, due_among, blocks_among, next_block, block_now, IsCycleOf}
 
 -- a cycle more makes at most one block more due
 pub due_step : (s : TapeSystem) (k : ℕ) → (blocks_due s k ≤ blocks_due s (k + 1)) × (blocks_due s (k + 1) ≤ blocks_due s k + 1)
@@ -92,3 +92,33 @@ passed_in_parts c Play m n = sum c Play m n
 passed_in_parts c Record m n = sum c Record m n
 passed_in_parts c Reverse m n = sum c Reverse m n
 passed_in_parts c _ m n = refl
+
+-- ---- one cycle
+
+given_at : (c : Cassette) (t : Transport) → let d : Cassette = record c { transport = t } in block_now (Some (passed_on 1 d)) ≡ next_block (Some d)
+given_at c Play = refl
+given_at c _ = refl
+
+pub given_now : (t : Option Cassette) → block_now (option_map (passed_on 1) t) ≡ next_block t
+given_now None = refl
+given_now (Some c) = given_at c c.transport
+
+one_due : (s : TapeSystem) (k : ℕ) → due_among s k 1 ≡ cond (is_due s (k + 1)) 1 0
+one_due s k =
+    let e : k + 0 + 1 ≡ k + 1 = omega arith in
+    let first = due_among_next s k 0 in
+    let none = due_among_none s k in
+    subst (λ j. due_among s k 1 ≡ cond (is_due s j) 1 0) e (omega (arith, first, none))
+
+counted_by : {A : Type 0} (b : Bool) (x : A) → let n : ℕ = cond b 1 0 in n ≡ cond (is_some (cond b (Some x) None)) 1 0
+counted_by true x = refl
+counted_by false x = refl
+
+counted_at : (c : Cassette) (t : Transport)
+    → let d : Cassette = record c { transport = t } in blocks_among (Some d) 1 ≡ cond (is_some (next_block (Some d))) 1 0
+counted_at c Play = one_due c.system c.passed ∙ counted_by (is_due c.system (c.passed + 1)) _
+counted_at c _ = refl
+
+pub counted_one : (t : Option Cassette) → blocks_among t 1 ≡ cond (is_some (next_block t)) 1 0
+counted_one None = refl
+counted_one (Some c) = counted_at c c.transport

@@ -34,6 +34,11 @@ abbrev pub next_block : Option Cassette → Option BlockPlace
 next_block None = None
 next_block (Some c) = if is_play c.transport then block_in c (c.passed + 1) else None
 
+-- the block that was due in the cycle that passed last; none was without forward play, and none before its first cycle
+abbrev pub block_now : Option Cassette → Option BlockPlace
+block_now None = None
+block_now (Some c) = if is_play c.transport then block_in c c.passed else None
+
 -- the bytes of a due block are there exactly where one is due, and the desk's relation allows them for its place
 abbrev pub Gives : BlockRelation → Option BlockPlace → Option (List ℕ) → Type 0
 Gives R None None = Unit {0}

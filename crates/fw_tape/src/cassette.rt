@@ -94,8 +94,28 @@ impl Cassette {
         requires passed { self.now.passed + 1 ≤ 2 ^ 52 }
         ensures value { result ≡ block_in self.now (self.now.passed + 1) }
     {
-        let before = self.system.blocks_due(self.passed);
-        if self.system.blocks_due(self.passed + 1) == before {
+        self.block_after(self.passed)
+    }
+
+    /// The block that was due in the cycle of forward play that passed last, if one was.
+    pub(crate) fn block_now(&self) -> Option<BlockPlace>
+        requires { IsInRange self.now }
+        ensures value { result ≡ block_in self.now self.now.passed }
+    {
+        if self.passed == 0 {
+            return None;
+        }
+        self.block_after(self.passed - 1)
+    }
+
+    /// The block that is due in the cycle of forward play behind so many, if one is.
+    fn block_after(&self, passed: u64) -> Option<BlockPlace>
+        requires start { self.now.start < frames_per_day self.now.system }
+        requires passed { passed + 1 ≤ 2 ^ 52 }
+        ensures value { result ≡ block_in self.now (passed + 1) }
+    {
+        let before = self.system.blocks_due(passed);
+        if self.system.blocks_due(passed + 1) == before {
             return None;
         }
         let per_frame = self.system.blocks_per_frame();

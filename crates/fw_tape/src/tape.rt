@@ -3,7 +3,7 @@ ghost use Rattle.std.specs.Option.{option_map};
 ghost use Rattle.fw_tape.specs.Desks.{AnyBlock};
 ghost use Rattle.fw_tape.specs.Motion.{inserted, entered, passed_on, transport_of, is_fifty, MayPass, IsInRange};
 ghost use Rattle.fw_tape.specs.Transports.{codes_of};
-ghost use Rattle.fw_tape.specs.Blocks.{Gives, next_block, blocks_among};
+ghost use Rattle.fw_tape.specs.Blocks.{Gives, next_block, block_now, blocks_among};
 ghost use Rattle.fw_tape.specs.declared.system.TapeSystem.TheVariants.{Lines525, Lines625};
 
 use crate::{BlockPlace, Cassette, Desk, TapeSystem, Transport};
@@ -123,6 +123,33 @@ impl Tape {
         Some(desk.block(tape, frame, block))
     }
 
+    /// The block that was due in the cycle that passed last: None exactly where none was. It is the one that `cycle` would have
+    /// given as it passed that cycle.
+    pub fn block<F: Fn(u16, u32, u16) -> [u8; 480], H: Fn(u32, u8) -> u8>(
+        &self,
+        desk: &Desk<F, H>,
+    ) -> Option<[u8; 480]>
+        requires desk { AnyBlock (F.pre desk.now.blocks) }
+        ensures block { Gives (F.post desk.now.blocks) (block_now self.now) result }
+    {
+        let place = self.block_now()?;
+        Some(desk.block(place.tape, place.frame, place.block))
+    }
+
+    /// How many blocks of forward play are due in the next cycles.
+    pub fn blocks_among(&self, cycles: u64) -> u64
+        requires { MayPass cycles self.now }
+        ensures { result ≡ blocks_among self.now cycles }
+    {
+        let Some(cassette) = &self.cassette else {
+            return 0;
+        };
+        match cassette.transport {
+            Transport::Play => cassette.blocks_among(cycles),
+            _ => 0,
+        }
+    }
+
     /// Passes cycles, and answers how many blocks were due in them.
     pub fn pass(&mut self, cycles: u64) -> u64
         requires { MayPass cycles self.old }
@@ -149,6 +176,20 @@ impl Tape {
         match &self.cassette {
             Some(cassette) if matches!(cassette.transport, Transport::Play) =>
                 cassette.next_block(),
+            _ => None,
+        }
+    }
+
+    /// The block that was due in the cycle that passed last, if one was.
+    fn block_now(&self) -> Option<BlockPlace>
+        ensures value { result ≡ block_now self.now }
+        ensures range { IfSome result (λ place. (place.frame < 2592000) × (place.block < 300)) }
+    {
+        let Some(cassette) = &self.cassette else {
+            return None;
+        };
+        match cassette.transport {
+            Transport::Play => cassette.block_now(),
             _ => None,
         }
     }

@@ -3,6 +3,7 @@
 ghost use Rattle.std.specs.Prelude.{None};
 
 use fw_outside::{Failed, MemSink, MemSource, Source};
+use fw_tape::Desk;
 use fw_tool::{NOTE_ROOM, fire};
 use std::alloc::{AllocError, Global};
 
@@ -37,6 +38,18 @@ pub(crate) const NONE: Failing<'static> = Failing {
     notes: &[],
 };
 
+// What the program's tapes have recorded: byte j of a block is tape + 3 frame + 5 block + 7 j, modulo 256.
+fn recorded(tape: u16, frame: u32, block: u16) -> [u8; 480] {
+    let first = u64::from(tape) + 3 * u64::from(frame) + 5 * u64::from(block);
+    let mut next = (first % 256) as u8;
+    let mut bytes = [0; 480];
+    for byte in &mut bytes {
+        *byte = next;
+        next = next.wrapping_add(7);
+    }
+    bytes
+}
+
 /// A call over a source that gives all that is asked for.
 pub(crate) fn call(
     alloc: Global,
@@ -55,13 +68,25 @@ pub(crate) fn call_over<S: Source>(
     source: &mut S,
     failing: Failing<'_>,
 ) -> Result<Ended, AllocError> {
+    call_with_room(alloc, words, source, failing, 20_000)
+}
+
+/// A call whose output has room for so many bytes.
+pub(crate) fn call_with_room<S: Source>(
+    alloc: Global,
+    words: &[&str],
+    source: &mut S,
+    failing: Failing<'_>,
+    room: usize,
+) -> Result<Ended, AllocError> {
     let mut list = Vec::new(alloc);
     for word in words {
         list.push(word.to_string(alloc)?)?;
     }
-    let mut output = MemSink::new(alloc, 20_000, failing.writes.to_vec(alloc)?)?;
+    let mut output = MemSink::new(alloc, room, failing.writes.to_vec(alloc)?)?;
     let mut notes = MemSink::new(alloc, NOTE_ROOM, failing.notes.to_vec(alloc)?)?;
-    let status = fire(alloc, &list, source, &mut output, &mut notes);
+    let desk = Desk::new(recorded, |_: u32, byte: u8| !byte);
+    let status = fire(alloc, &list, source, &mut output, &mut notes, &desk);
     Ok(Ended {
         status,
         output,

@@ -5,7 +5,8 @@
 
 use crate::calls::{Ended, Failing, NONE, call, call_in_drops, front};
 use crate::vectors::{
-    ONE_DECK, ONE_DECK_LINES, OVERLAY_AND_TWO_BREAKS, SECOND_RESET_IN_THE_SECOND, Vector,
+    ONE_DECK, ONE_DECK_LINES, ORDINARY_SESSION, OVERLAY_AND_TWO_BREAKS, SECOND_RESET_IN_THE_SECOND,
+    Vector,
 };
 use std::alloc::{AllocError, Global};
 use std::test::Fail;
@@ -22,6 +23,10 @@ const SESSIONS: &[(Vector, &[usize])] = &[
     (
         SECOND_RESET_IN_THE_SECOND,
         &[0, 1, 1, 2, 3, 3, 20, 21, 28, 29, 46, 47, 48, 49, 49],
+    ),
+    (
+        ORDINARY_SESSION,
+        &[0, 1, 1, 1, 1, 2, 3, 4, 5, 5, 22, 23, 27, 59, 63, 63, 80, 80],
     ),
 ];
 

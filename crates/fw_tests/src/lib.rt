@@ -4,6 +4,8 @@
 #[cfg(test)]
 mod calls;
 #[cfg(test)]
+mod decks;
+#[cfg(test)]
 mod decodes;
 #[cfg(test)]
 mod faults;
@@ -19,5 +21,7 @@ mod rounds;
 mod runs;
 #[cfg(test)]
 mod seeds;
+#[cfg(test)]
+mod streams;
 #[cfg(test)]
 mod vectors;

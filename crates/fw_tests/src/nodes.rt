@@ -3,10 +3,12 @@
 ghost use Rattle.std.specs.Prelude.{◌≡◌, ◌≢◌, true, IsFalse};
 ghost use Rattle.fw_script.specs.declared.stage.Stage.{Stage};
 ghost use Rattle.fw_script.specs.declared.stage.Stage.TheVariants.{Failed};
+ghost use Rattle.fw_tape.specs.Desks.{AnyBlock, AnyVendorByte};
 
 use fw_bus::Bus;
 use fw_outside::{MemSink, MemSource};
 use fw_script::ScriptReader;
+use fw_tape::Desk;
 use std::test::Fail;
 
 // Two decks on a cable: the first swaps BUS_MANAGER_ID at the second.
@@ -14,19 +16,22 @@ const COMMANDS: &[u8] =
     b"device a deck 1 100\ndevice b deck 1 100\ncable a.0 b.0\nwait 8000\nswap a b 21C 0000003F 00000000\n";
 
 // Carries out the next command of a script, where there is one.
-fn apply_next(
+fn apply_next<F: Fn(u16, u32, u16) -> [u8; 480], H: Fn(u32, u8) -> u8>(
     reader: &mut ScriptReader,
     bus: &mut Bus,
     source: &mut MemSource,
     log: &mut MemSink,
+    desk: &Desk<F, H>,
 ) -> bool
+    requires blocks { AnyBlock (F.pre desk.now.blocks) }
+    requires desk { AnyVendorByte (H.pre desk.now.vendor) }
     requires open { reader.old.stage ≢ Failed }
     requires fresh { IsFalse bus.old.spent }
     ensures open { result ≡ true → reader.new.stage ≢ Failed }
     ensures fresh { result ≡ true → IsFalse bus.new.spent }
 {
     match reader.next(source) {
-        Ok(Some(command)) => bus.apply(&command, log).is_ok() && !bus.spent(),
+        Ok(Some(command)) => bus.apply(&command, log, desk).is_ok() && !bus.spent(),
         _ => false,
     }
 }
@@ -38,11 +43,12 @@ fn the_manager_keeps_what_was_swapped(rt: HostRuntime) -> Result<(), Fail> {
     let mut log = MemSink::new(alloc, 1000, Vec::new(alloc))?;
     let mut bus = Bus::new(alloc)?;
     let mut reader = ScriptReader::new(alloc)?;
-    let applied = apply_next(&mut reader, &mut bus, &mut source, &mut log)
-        && apply_next(&mut reader, &mut bus, &mut source, &mut log)
-        && apply_next(&mut reader, &mut bus, &mut source, &mut log)
-        && apply_next(&mut reader, &mut bus, &mut source, &mut log)
-        && apply_next(&mut reader, &mut bus, &mut source, &mut log);
+    let desk = Desk::new(|_: u16, _: u32, _: u16| [0; 480], |_: u32, byte: u8| !byte);
+    let applied = apply_next(&mut reader, &mut bus, &mut source, &mut log, &desk)
+        && apply_next(&mut reader, &mut bus, &mut source, &mut log, &desk)
+        && apply_next(&mut reader, &mut bus, &mut source, &mut log, &desk)
+        && apply_next(&mut reader, &mut bus, &mut source, &mut log, &desk)
+        && apply_next(&mut reader, &mut bus, &mut source, &mut log, &desk);
     assert!(rt; applied);
     if applied {
         let registers = bus

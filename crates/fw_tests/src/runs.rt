@@ -154,6 +154,11 @@ const REFUSED: &[(Pieces, &str, Option<(Vector, usize)>)] = &[
         None,
     ),
     (
+        (DECK, "", 0, "cycles 1\ncycles 8000\n"),
+        "line 3: Limit\n",
+        None,
+    ),
+    (
         (DECK, "", 0, "device e deck 1 100\nreset e\n"),
         "line 3: OffBus\n",
         None,

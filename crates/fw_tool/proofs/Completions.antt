@@ -1,8 +1,9 @@
 -- Where nothing is refused and nothing fails, all is done.
-use Rattle.std.proofs.Common.{◌≡◌, ◌≢◌, ◌⊎◌, inl, inr, ℕ, List, Option, refl}
+use Rattle.std.proofs.Common.{◌≡◌, ◌≢◌, ◌⊎◌, inl, inr, ℕ, List, Option, refl, subst}
 use Rattle.fw_decode.specs.Decode.{IsNoRefusal as IsNoLogRefusal, ReadCount as LogReadCount, WriteCount as LogWriteCount}
 use Rattle.fw_decode.specs.declared.ending.LogEnding.{LogEnding}
 use Rattle.fw_decode.specs.declared.ending.LogEnding.TheVariants as LogEndings
+use Rattle.fw_run.specs.Desks.{DeskRelations}
 use Rattle.fw_simulate.specs.Counts.{ReadCount, WriteCount}
 use Rattle.fw_simulate.specs.Scripts.{IsNoRefusal}
 use Rattle.fw_simulate.specs.Sums.{Sums}
@@ -38,24 +39,28 @@ first_of_run read read' written written' RunEndings.TooLong r w = (r, w)
 first_of_run read read' written written' RunEndings.NoMemory r w = (r, w)
 
 -- one that runs a seed's script reads nothing
-pub first_of_seed : (seed : ℕ) (held held' : Option (List ℕ)) (read written written' : ℕ) (e : RunEnding) → Sums seed held held' e → WriteCount written written' e → FirstFault read read written written' (by_run e)
-first_of_seed seed held held' read written written' RunEndings.Done d w = (refl, w)
-first_of_seed seed held held' read written written' (RunEndings.Refused f) d w = (refl, w)
-first_of_seed seed held held' read written written' RunEndings.ReadFault d w = absurd d
-first_of_seed seed held held' read written written' RunEndings.WriteFault d w = (refl, w)
-first_of_seed seed held held' read written written' RunEndings.TooLong d w = absurd d
-first_of_seed seed held held' read written written' RunEndings.NoMemory d w = (refl, w)
+pub first_of_seed : (D : DeskRelations) (seed : ℕ) (held held' : Option (List ℕ)) (read written written' : ℕ) (e : RunEnding) → Sums D seed held held' e → WriteCount written written' e → FirstFault read read written written' (by_run e)
+first_of_seed D seed held held' read written written' RunEndings.Done d w = (refl, w)
+first_of_seed D seed held held' read written written' (RunEndings.Refused f) d w = (refl, w)
+first_of_seed D seed held held' read written written' RunEndings.ReadFault d w = absurd d
+first_of_seed D seed held held' read written written' RunEndings.WriteFault d w = (refl, w)
+first_of_seed D seed held held' read written written' RunEndings.TooLong d w = absurd d
+first_of_seed D seed held held' read written written' RunEndings.NoMemory d w = (refl, w)
 
-never_read : (seed : ℕ) (held held' : Option (List ℕ)) (e : RunEnding) → Sums seed held held' e → by_run e ≢ ReadFault
-never_read seed held held' RunEndings.Done d is = cc
-never_read seed held held' (RunEndings.Refused f) d is = cc
-never_read seed held held' RunEndings.ReadFault d is = d
-never_read seed held held' RunEndings.WriteFault d is = cc
-never_read seed held held' RunEndings.TooLong d is = cc
-never_read seed held held' RunEndings.NoMemory d is = cc
+-- the same of a seed that is the same
+pub seed_same : (D : DeskRelations) (held held' : Option (List ℕ)) (e : RunEnding) (n m : ℕ) → n ≡ m → Sums D n held held' e → Sums D m held held' e
+seed_same D held held' e n m same d = subst (λ (k : ℕ). Sums D k held held' e) same d
 
-pub seed_completes : (seed : ℕ) (held held' : Option (List ℕ)) (e : RunEnding) → Sums seed held held' e → IsNoRefusal e → by_run e ≢ WriteFault → IsDoneOrUnmet (by_run e)
-seed_completes seed held held' e d n w = run_completes e n (never_read seed held held' e d) w
+never_read : (D : DeskRelations) (seed : ℕ) (held held' : Option (List ℕ)) (e : RunEnding) → Sums D seed held held' e → by_run e ≢ ReadFault
+never_read D seed held held' RunEndings.Done d is = cc
+never_read D seed held held' (RunEndings.Refused f) d is = cc
+never_read D seed held held' RunEndings.ReadFault d is = d
+never_read D seed held held' RunEndings.WriteFault d is = cc
+never_read D seed held held' RunEndings.TooLong d is = cc
+never_read D seed held held' RunEndings.NoMemory d is = cc
+
+pub seed_completes : (D : DeskRelations) (seed : ℕ) (held held' : Option (List ℕ)) (e : RunEnding) → Sums D seed held held' e → IsNoRefusal e → by_run e ≢ WriteFault → IsDoneOrUnmet (by_run e)
+seed_completes D seed held held' e d n w = run_completes e n (never_read D seed held held' e d) w
 
 -- a log that is not refused, where nothing fails
 pub log_completes : (e : LogEnding) → IsNoLogRefusal e → by_log e ≢ ReadFault → by_log e ≢ WriteFault → IsDoneOrUnmet (by_log e)

@@ -7,7 +7,7 @@ use Rattle.fw_log.specs.declared.LogWhy.TheVariants.{AfterEnd, BadHeader, BadKin
 use Rattle.fw_tool.specs.declared.ending.Ending.{Ending}
 use Rattle.fw_tool.specs.declared.ending.Ending.TheVariants.{Done, Usage, Refused, NoLog, ReadFault, WriteFault, TooLong, NoMemory}
 use Rattle.fw_run.specs.declared.rule.RuleFault.{RuleFault}
-use Rattle.fw_run.specs.declared.rule.RuleFault.TheVariants.{UnknownName, NameTaken, TooMany, NoPort, PortUsed, Loop, NotController, Guarded, NoRegister, Limit, TableFull, Busy, NoSuchConnection, NotOwnPlug, OffBus, NotBuilt}
+use Rattle.fw_run.specs.declared.rule.RuleFault.TheVariants.{UnknownName, NameTaken, TooMany, NoPort, PortUsed, Loop, NotController, Guarded, NoRegister, Limit, TableFull, Busy, NoSuchConnection, NotOwnPlug, OffBus, NoDeck}
 use Rattle.fw_simulate.specs.declared.ending.Refusal.{Refusal}
 use Rattle.fw_simulate.specs.declared.ending.Refusal.TheVariants.{BadLine, LineTooLong, NoEnd, Rule}
 
@@ -37,7 +37,7 @@ rule_of Busy = codes ": Busy" ++ 10 ∷ []
 rule_of NoSuchConnection = codes ": NoSuchConnection" ++ 10 ∷ []
 rule_of NotOwnPlug = codes ": NotOwnPlug" ++ 10 ∷ []
 rule_of OffBus = codes ": OffBus" ++ 10 ∷ []
-rule_of NotBuilt = codes ": NotBuilt" ++ 10 ∷ []
+rule_of NoDeck = codes ": NoDeck" ++ 10 ∷ []
 
 abbrev pub name_of : Refusal → List ℕ
 name_of BadLine = codes ": BadLine" ++ 10 ∷ []

@@ -2,7 +2,14 @@
 
 ghost use Rattle.fw_tool.specs.Laws.{WholeLogsAreRead};
 
-/// What `run` writes with status 0 is a whole log: no word that reads logs refuses it, where it is within their limit.
-pub fn whole_logs_are_read()
-    ensures { WholeLogsAreRead }
-{}
+use fw_tape::Desk;
+
+/// What `run` writes with status 0 is a whole log, whatever the desk: no word that reads logs refuses it, where it is within their
+/// limit.
+pub fn whole_logs_are_read<F: Fn(u16, u32, u16) -> [u8; 480], H: Fn(u32, u8) -> u8>(
+    desk: &Desk<F, H>,
+)
+    ensures { WholeLogsAreRead (record { blocks = F.post desk.now.blocks; vendor = H.post desk.now.vendor }) }
+{
+    let _ = desk;
+}

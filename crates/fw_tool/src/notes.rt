@@ -45,7 +45,7 @@ fn rule(fault: RuleFault) -> &'static [u8]
         RuleFault::NoSuchConnection => b": NoSuchConnection\n",
         RuleFault::NotOwnPlug => b": NotOwnPlug\n",
         RuleFault::OffBus => b": OffBus\n",
-        RuleFault::NotBuilt => b": NotBuilt\n",
+        RuleFault::NoDeck => b": NoDeck\n",
     }
 }
 

@@ -10,6 +10,7 @@ ghost use Rattle.fw_simulate.specs.Ending.{Runs};
 ghost use Rattle.fw_simulate.specs.Scripts.{IsValid};
 ghost use Rattle.fw_simulate.specs.Sums.{Sums};
 ghost use Rattle.fw_simulate.specs.declared.ending.RunEnding.{RunEnding};
+ghost use Rattle.fw_tape.specs.Desks.{AnyBlock, AnyVendorByte};
 ghost use Rattle.fw_tool.specs.Faults.{FirstFault, IsFirstFaults};
 ghost use Rattle.fw_tool.specs.Notes.{IsTold};
 ghost use Rattle.fw_tool.specs.Logs.{by_log};
@@ -24,24 +25,31 @@ use crate::words::{is_decode, is_dv, is_run, seed_of};
 use fw_decode::{decode, dv};
 use fw_outside::{Sink, Source};
 use fw_simulate::{run, run_seed};
+use fw_tape::Desk;
 use std::alloc::Global;
 
 /// Does what the words of the command line say, and answers the program's status: that of the ending that is met first,
 /// or 6 where its note is not written (`Ending` is the table).
 ///
-/// The word `run` reads a script of at most 1,048,576 bytes, carries out its commands, and writes their log. The word
-/// `decode` reads a log of at most 268,435,456 bytes, and writes one line for each entry as the entry ends; `dv` reads one too, and
-/// writes at its end one line for each channel that has isochronous packets. The words `gen NUMBER` run the script that the number
-/// makes, from 0 to 4,294,967,295, and write six lines that count what its log holds.
-pub fn fire<S: Source, K: Sink, N: Sink>(
+/// The word `run` reads a script of at most 1,048,576 bytes, carries out its commands, and writes their log; the blocks of tapes,
+/// and what a vendor makes of a byte of a command, come from the desk. The word `decode` reads a log of at most 268,435,456 bytes,
+/// and writes one line for each entry as the entry ends; `dv` reads one too, and writes at its end one line for each channel that
+/// has isochronous packets. The words `gen NUMBER` run the script that the number makes, from 0 to 4,294,967,295, and write six
+/// lines that count what its log holds.
+pub fn fire<S: Source, K: Sink, N: Sink, F: Fn(u16, u32, u16) -> [u8; 480], H: Fn(u32, u8) -> u8>(
     alloc: Global,
     words: &[String],
     source: &mut S,
     sink: &mut K,
     notes: &mut N,
+    desk: &Desk<F, H>,
 ) -> u8
+    requires blocks { AnyBlock (F.pre desk.now.blocks) }
+    requires desk { AnyVendorByte (H.pre desk.now.vendor) }
+
     // What each ending of `run` says of the bytes that were taken and of the log that was written, and that it was met first.
-    ensures run { IsRun words.now → (e : RunEnding) × Runs (S.left source.old) (S.left source.new) (K.held sink.old) (K.held sink.new) e
+    ensures run { IsRun words.now → (e : RunEnding)
+        × Runs (record { blocks = F.post desk.now.blocks; vendor = H.post desk.now.vendor }) (S.left source.old) (S.left source.new) (K.held sink.old) (K.held sink.new) e
         × FirstFault (S.faults source.old) (S.faults source.new) (K.faults sink.old) (K.faults sink.new) (by_run e)
         × IsTold N.held N.faults notes.old notes.new (by_run e) result }
 
@@ -54,7 +62,8 @@ pub fn fire<S: Source, K: Sink, N: Sink>(
         × IsTold N.held N.faults notes.old notes.new (by_log e) result }
 
     // What each ending of `gen` says of the run of its seed's script, and of the summary that was written. The source stays as it was.
-    ensures sums { (seed : ℕ) → IsGen words.now seed → (source.new ≡ source.old) × ((e : RunEnding) × Sums seed (K.held sink.old) (K.held sink.new) e
+    ensures sums { (seed : ℕ) → IsGen words.now seed → (source.new ≡ source.old) × ((e : RunEnding)
+        × Sums (record { blocks = F.post desk.now.blocks; vendor = H.post desk.now.vendor }) seed (K.held sink.old) (K.held sink.new) e
         × FirstFault (S.faults source.old) (S.faults source.new) (K.faults sink.old) (K.faults sink.new) (by_run e)
         × IsTold N.held N.faults notes.old notes.new (by_run e) result) }
 
@@ -79,13 +88,13 @@ pub fn fire<S: Source, K: Sink, N: Sink>(
         → (Rose (N.faults notes.old) (N.faults notes.new) → ⊥) → (result ≡ 0) ⊎ (result ≡ 8) }
 {
     if is_run(words) {
-        tell(ending_of_run(run(alloc, source, sink)), notes)
+        tell(ending_of_run(run(alloc, source, sink, desk)), notes)
     } else if is_decode(words) {
         tell(ending_of_log(decode(alloc, source, sink)), notes)
     } else if is_dv(words) {
         tell(ending_of_log(dv(alloc, source, sink)), notes)
     } else if let Some(seed) = seed_of(words) {
-        tell(ending_of_run(run_seed(alloc, seed, sink)), notes)
+        tell(ending_of_run(run_seed(alloc, seed, sink, desk)), notes)
     } else {
         tell(Ending::Usage, notes)
     }

@@ -27,8 +27,8 @@ fn end_second(nodes: &mut [Node])
 }
 
 impl Devices {
-    /// Carries a request packet to the node of a device out in cycle `now`, and gives the response packet
-    /// (`fw_node::Node::answer`).
+    /// Carries a request packet to the node of a device out at its registers in cycle `now`, and gives the response packet
+    /// (`fw_node::Node::carry_out`). Nothing follows from a frame: those go by `answer_frame`.
     pub fn answer(&mut self, device: u8, now: u64, packet: &Packet) -> Packet<'static>
         requires request { IsSome (request_in packet.now) }
         requires declared { device < length self.old.nodes }

@@ -1,4 +1,3 @@
-use Rattle.std.proofs.Common.{rules, ℕ, ◌≡◌, ◌<◌, get_or, set, arith}
 use Rattle.fw_devices.proofs.NameLaws.{always}
 use Rattle.fw_devices.proofs.names.no_places.Goals as goal
 

@@ -27,12 +27,12 @@ loop-ending-smaller g c =
 
 pub returns-in-Some-clause-runs : goal.returns-in-Some-clause-runs
 returns-in-Some-clause-runs g c =
-    ends_runs _ _ _ _ c.loop-ending.invariant.going.log c.in-Some.ending
+    ends_runs (g.S.Source.left c.carry_next.new.source) (g.K.Sink.held c.carry_next.new.sink) c.loop-ending.invariant.going c.in-Some.ending
     (c.in-Some.ensures.goes (g.S.Source.left c.args.source.now) (g.K.Sink.held c.args.sink.now) (g.K.Sink.held c.loop-ending.sink) (g.K.Sink.held c.carry_next.new.sink) (λ bytes h. h) c.loop-ending.invariant.going)
 
 pub returns-in-Some-clause-complete : goal.returns-in-Some-clause-complete
 returns-in-Some-clause-complete g c script told valid =
-    run_completes script (g.S.Source.left c.args.source.now) (g.S.Source.left c.carry_next.new.source) (g.K.Sink.held c.args.sink.now) (g.K.Sink.held c.carry_next.new.sink) c.in-Some.ending
-    (ends_runs _ _ _ _ c.loop-ending.invariant.going.log c.in-Some.ending
+    run_completes _ script (g.S.Source.left c.args.source.now) (g.S.Source.left c.carry_next.new.source) (g.K.Sink.held c.args.sink.now) (g.K.Sink.held c.carry_next.new.sink) c.in-Some.ending
+    (ends_runs (g.S.Source.left c.carry_next.new.source) (g.K.Sink.held c.carry_next.new.sink) c.loop-ending.invariant.going c.in-Some.ending
     (c.in-Some.ensures.goes (g.S.Source.left c.args.source.now) (g.K.Sink.held c.args.sink.now) (g.K.Sink.held c.loop-ending.sink) (g.K.Sink.held c.carry_next.new.sink) (λ bytes h. h) c.loop-ending.invariant.going))
     told valid

@@ -1,27 +1,22 @@
-use Rattle.std.proofs.Common.{List, ℕ, Option, sym, subst}
-use Rattle.fw_simulate.specs.Ending.{RefusesCommand}
-use Rattle.fw_simulate.specs.Going.{Ends}
 use Rattle.fw_simulate.specs.declared.ending.RunEnding.TheVariants as Endings
 use Rattle.fw_simulate.proofs.Goings.{going_form}
-use Rattle.fw_simulate.proofs.Endings.{logged_with, fault_ends, faulted, command_refused, part_stopped}
-use Rattle.fw_simulate.proofs.Steps.{still, stops_there, carried}
+use Rattle.fw_simulate.proofs.Endings.{logged_with, faulted, command_refused, part_stopped}
+use Rattle.fw_simulate.proofs.Steps.{still, ends_there, refused_there, stops_there, carried}
 use Rattle.fw_simulate.proofs.step.carry_next.Goals as goal
 
 pub returns-in-Ok-None-clause-goes : goal.returns-in-Ok-None-clause-goes
 returns-in-Ok-None-clause-goes g c left held after after2 m i =
     let left2 = g.S.Source.left c.next.new.source in
-    let P : Option (List ℕ) → Type 0 = λ x. Ends left left2 held x i.log Endings.Done in
-    subst P (sym (still (g.K.Sink.held c.args.sink.now) after after2 m)) (logged_with left2 c.next.new.self i (rw c.in-Ok-None.field-0-is at c.in-Ok-None.ensures.gives))
+    ends_there left2 i Endings.Done (still (g.K.Sink.held c.args.sink.now) after after2 m) (logged_with left2 c.next.new.self i (rw c.in-Ok-None.field-0-is at c.in-Ok-None.ensures.gives))
 
 pub returns-in-Err-clause-goes : goal.returns-in-Err-clause-goes
 returns-in-Err-clause-goes g c left held after after2 m i =
     let left2 = g.S.Source.left c.next.new.source in
-    let P : Option (List ℕ) → Type 0 = λ x. Ends left left2 held x i.log c.ending_of.result in
-    subst P (sym (still (g.K.Sink.held c.args.sink.now) after after2 m))
-    (rw (c.ending_of.ensures, c.line.ensures) (fault_ends left left2 held after i.log c.in-Err.fault c.next.new.self.line (faulted left2 c.next.new.self c.in-Err.fault i c.in-Err.ensures.gives c.in-Err.ensures.held)))
+    ends_there left2 i c.ending_of.result (still (g.K.Sink.held c.args.sink.now) after after2 m)
+    (rw (c.ending_of.ensures, c.line.ensures) (faulted left2 c.next.new.self c.in-Err.fault i c.in-Err.ensures.gives c.in-Err.ensures.held))
 
 pub apply-requires-clause-command : goal.apply-requires-clause-command
-apply-requires-clause-command g c = going_form (g.S.Source.left c.next.new.source) c.next.new.self c.in-Ok-Some.command c.requires.going (rw c.in-Ok-Some.field-0-is at c.in-Ok-Some.ensures.gives)
+apply-requires-clause-command g c = going_form (g.S.Source.left c.next.new.source) c.next.new.self c.in-Ok-Some.command c.requires.under_way.going (rw c.in-Ok-Some.field-0-is at c.in-Ok-Some.ensures.gives)
 
 pub returns-in-Ok-clause-goes : goal.returns-in-Ok-clause-goes
 returns-in-Ok-clause-goes g c left held after after2 m i =
@@ -32,9 +27,8 @@ pub returns-in-Err-Refused-clause-goes : goal.returns-in-Err-Refused-clause-goes
 returns-in-Err-Refused-clause-goes g c left held after after2 m i =
     let left2 = g.S.Source.left c.next.new.source in
     let same = rw c.in-Err-Refused.field-0-is at c.in-Err-Refused.ensures.refused in
-    let P : Option (List ℕ) → Type 0 = λ x. RefusesCommand left left2 held x c.in-Err-Refused.rule c.next.new.self.line in
     rw (c.refused.ensures, c.line-in-Err-Refused.ensures)
-    (subst P (sym (still (g.K.Sink.held c.args.sink.now) after after2 (rw same.1 at m)))
+    (refused_there left left2 held c.in-Err-Refused.rule c.next.new.self.line (still (g.K.Sink.held c.args.sink.now) after after2 (rw same.1 at m))
     (command_refused left2 c.next.new.self c.in-Ok-Some.command c.in-Err-Refused.rule i
     (rw c.in-Ok-Some.field-0-is at c.in-Ok-Some.ensures.gives) (rw c.in-Ok-Some.field-0-is at c.in-Ok-Some.ensures.held) (rw c.in-Err-Refused.field-0-is at (c.in-Err-Refused.ensures.run i.commands i.actions i.log i.state i.run i.stands))))
 

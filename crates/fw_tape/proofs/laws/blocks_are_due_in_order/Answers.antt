@@ -1,4 +1,4 @@
-use Rattle.fw_tape.proofs.BlockLaws.{block_has_cycle, one_cycle, share_is_due, passed_in_parts, blocks_in_parts}
+use Rattle.fw_tape.proofs.BlockLaws.{block_has_cycle, one_cycle, share_is_due, passed_in_parts, blocks_in_parts, given_now, counted_one}
 use Rattle.fw_tape.proofs.laws.blocks_are_due_in_order.Goals as goal
 
 pub returns-clause-once : goal.returns-clause-once
@@ -15,3 +15,9 @@ returns-clause-parts c = λ d m n. passed_in_parts d d.transport m n
 
 pub returns-clause-blocks : goal.returns-clause-blocks
 returns-clause-blocks c = λ d m n. blocks_in_parts d d.transport m n
+
+pub returns-clause-given : goal.returns-clause-given
+returns-clause-given c = given_now
+
+pub returns-clause-counted : goal.returns-clause-counted
+returns-clause-counted c = counted_one

@@ -1,13 +1,14 @@
 use Rattle.std.proofs.Common.{◌≡◌, ℕ, Option, Some, refl, sym, subst}
 use Rattle.fw_gen.specs.Gen.{script_of}
+use Rattle.fw_run.specs.Desks.{DeskRelations}
 use Rattle.fw_simulate.specs.Scripts.{IsValid}
-use Rattle.fw_simulate.specs.Sums.{Sums}
 use Rattle.fw_tool.specs.declared.ending.Ending.{Ending}
 use Rattle.fw_tool.specs.Logs.{by_log}
 use Rattle.fw_tool.specs.Runs.{by_run}
 use Rattle.fw_tool.specs.Notes.{IsTold}
-use Rattle.fw_tool.proofs.Completions.{run_completes, log_completes, first_of_run, first_of_seed, seed_completes, first_of_log}
+use Rattle.fw_tool.proofs.Completions.{run_completes, log_completes, first_of_run, first_of_seed, seed_same, seed_completes, first_of_log}
 use Rattle.fw_tool.proofs.Tellings.{first_by_status, quiet_status, quiet_writes}
+use Rattle.fw_tool.proofs.top.fire.Given as given
 use Rattle.fw_tool.proofs.top.fire.Goals as goal
 
 -- one number is the seed
@@ -102,30 +103,32 @@ returns-then-is_dv-clause-complete_log g c entries bytes told log short form rea
 
 pub returns-in-Some-clause-sums : goal.returns-in-Some-clause-sums
 returns-in-Some-clause-sums g c seed form =
+    let D : DeskRelations = record { blocks = given.F-post g c.args.desk.now.blocks; vendor = given.H-post g c.args.desk.now.vendor } in
     let T : Ending → Type 0 = λ e. IsTold g.N.Sink.held g.N.Sink.faults c.args.notes.now c.tell-in-Some.new.notes e c.tell-in-Some.result in
-    let S : ℕ → Type 0 = λ n. Sums n (g.K.Sink.held c.args.sink.now) (g.K.Sink.held c.run_seed.new.sink) c.run_seed.result in
     let same = one_seed c.seed_of.result c.in-Some.seed seed c.in-Some.is ((c.seed_of.ensures seed).1 form) in (
       refl,
       (
         c.run_seed.result,
-        subst S same c.run_seed.ensures.sums,
-        first_of_seed c.in-Some.seed (g.K.Sink.held c.args.sink.now) (g.K.Sink.held c.run_seed.new.sink) (g.S.Source.faults c.args.source.now) (g.K.Sink.faults c.args.sink.now) (g.K.Sink.faults c.run_seed.new.sink) c.run_seed.result c.run_seed.ensures.sums c.run_seed.ensures.write_count,
+        seed_same D (g.K.Sink.held c.args.sink.now) (g.K.Sink.held c.run_seed.new.sink) c.run_seed.result c.in-Some.seed seed same c.run_seed.ensures.sums,
+        first_of_seed D c.in-Some.seed (g.K.Sink.held c.args.sink.now) (g.K.Sink.held c.run_seed.new.sink) (g.S.Source.faults c.args.source.now) (g.K.Sink.faults c.args.sink.now) (g.K.Sink.faults c.run_seed.new.sink) c.run_seed.result c.run_seed.ensures.sums c.run_seed.ensures.write_count,
         subst T c.ending_of_run-in-Some.ensures c.tell-in-Some.ensures,
       ),
     )
 
 pub returns-in-Some-clause-first : goal.returns-in-Some-clause-first
 returns-in-Some-clause-first g c =
+    let D : DeskRelations = record { blocks = given.F-post g c.args.desk.now.blocks; vendor = given.H-post g c.args.desk.now.vendor } in
     let T : Ending → Type 0 = λ e. IsTold g.N.Sink.held g.N.Sink.faults c.args.notes.now c.tell-in-Some.new.notes e c.tell-in-Some.result in
     let r0 = g.S.Source.faults c.args.source.now in
     let w0 = g.K.Sink.faults c.args.sink.now in
     let w1 = g.K.Sink.faults c.run_seed.new.sink in
     first_by_status g.N.Sink.held g.N.Sink.faults c.args.notes.now c.tell-in-Some.new.notes c.tell-in-Some.result r0 r0 w0 w1 (by_run c.run_seed.result)
-    (first_of_seed c.in-Some.seed (g.K.Sink.held c.args.sink.now) (g.K.Sink.held c.run_seed.new.sink) r0 w0 w1 c.run_seed.result c.run_seed.ensures.sums c.run_seed.ensures.write_count)
+    (first_of_seed D c.in-Some.seed (g.K.Sink.held c.args.sink.now) (g.K.Sink.held c.run_seed.new.sink) r0 w0 w1 c.run_seed.result c.run_seed.ensures.sums c.run_seed.ensures.write_count)
     (subst T c.ending_of_run-in-Some.ensures c.tell-in-Some.ensures)
 
 pub returns-in-Some-clause-complete_sums : goal.returns-in-Some-clause-complete_sums
 returns-in-Some-clause-complete_sums g c seed form valid written noted =
+    let D : DeskRelations = record { blocks = given.F-post g c.args.desk.now.blocks; vendor = given.H-post g c.args.desk.now.vendor } in
     let T : Ending → Type 0 = λ e. IsTold g.N.Sink.held g.N.Sink.faults c.args.notes.now c.tell-in-Some.new.notes e c.tell-in-Some.result in
     let V : ℕ → Type 0 = λ n. IsValid (script_of n) in
     let r0 = g.S.Source.faults c.args.source.now in
@@ -133,6 +136,6 @@ returns-in-Some-clause-complete_sums g c seed form valid written noted =
     let w1 = g.K.Sink.faults c.run_seed.new.sink in
     let same = one_seed c.seed_of.result c.in-Some.seed seed c.in-Some.is ((c.seed_of.ensures seed).1 form) in
     quiet_writes g.N.Sink.held g.N.Sink.faults c.args.notes.now c.tell-in-Some.new.notes c.tell-in-Some.result r0 r0 w0 w1 (by_run c.run_seed.result)
-    (first_of_seed c.in-Some.seed (g.K.Sink.held c.args.sink.now) (g.K.Sink.held c.run_seed.new.sink) r0 w0 w1 c.run_seed.result c.run_seed.ensures.sums c.run_seed.ensures.write_count)
-    (seed_completes c.in-Some.seed (g.K.Sink.held c.args.sink.now) (g.K.Sink.held c.run_seed.new.sink) c.run_seed.result c.run_seed.ensures.sums (c.run_seed.ensures.complete (subst V (sym same) valid)))
+    (first_of_seed D c.in-Some.seed (g.K.Sink.held c.args.sink.now) (g.K.Sink.held c.run_seed.new.sink) r0 w0 w1 c.run_seed.result c.run_seed.ensures.sums c.run_seed.ensures.write_count)
+    (seed_completes D c.in-Some.seed (g.K.Sink.held c.args.sink.now) (g.K.Sink.held c.run_seed.new.sink) c.run_seed.result c.run_seed.ensures.sums (c.run_seed.ensures.complete (subst V (sym same) valid)))
     (subst T c.ending_of_run-in-Some.ensures c.tell-in-Some.ensures) written noted

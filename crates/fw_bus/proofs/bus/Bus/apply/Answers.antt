@@ -1,6 +1,6 @@
 use Rattle.std.proofs.Common.{subst, sym, refl, IsFalse}
 use Rattle.fw_bus.specs.Stands.{StandsFor}
-use Rattle.fw_bus.proofs.Runs.{goes, stops, ready_of, reached_more, run_good}
+use Rattle.fw_bus.proofs.Runs.{goes, stops, quiet_reached, ready_of, reached_more, run_good}
 use Rattle.fw_bus.proofs.bus.Bus.apply.Goals as goal
 
 pub decide-requires-clause-ready : goal.decide-requires-clause-ready
@@ -11,6 +11,9 @@ returns-in-Err-clause-run g c commands actions log s r st = c.in-Err.ensures.dec
 
 pub carry_out-requires-clause-ready : goal.carry_out-requires-clause-ready
 carry_out-requires-clause-ready g c = ready_of (c.self.invariant (subst (λ v. IsFalse v.spent) (sym c.self.view_is) c.requires.spent))
+
+pub carry_out-requires-clause-quiet : goal.carry_out-requires-clause-quiet
+carry_out-requires-clause-quiet g c = quiet_reached (c.self.invariant (subst (λ v. IsFalse v.spent) (sym c.self.view_is) c.requires.spent))
 
 pub invariant_of-self : goal.invariant_of-self
 invariant_of-self g c = λ fresh. reached_more c.args.c.now _ (c.self.invariant fresh) c.in-Ok.ensures.decided c.in-Ok-carry_out.ensures.does

@@ -4,8 +4,18 @@ use Rattle.fw_bus.specs.Orders.{is_guarded}
 use Rattle.fw_bus.specs.Stands.{is_linked_in, is_living_in}
 use Rattle.fw_bus.proofs.machine.Machine.decide_transaction.Goals as goal
 use Rattle.fw_bus.proofs.Connections.{is_named}
-use Rattle.fw_bus.proofs.FirstBroken.{transaction_guarded, transaction_ordered}
+use Rattle.fw_bus.proofs.FirstBroken.{transaction_guarded, transaction_off, transaction_ordered}
 use Rattle.fw_bus.proofs.Living.{linked_same, living_same}
+
+pub returns-then-not-is_linked-clause-decided : goal.returns-then-not-is_linked-clause-decided
+returns-then-not-is_linked-clause-decided c = λ s g st.
+    let m = c.args.self.now in
+    let d = c.in_ok-from.from in
+    let e = c.in_ok-to.to in
+    let living : is_living_in m d ≡ true = cc in
+    let off : is_linked_in m.devices e ≡ false = cc in
+    transaction_off s c.args.from.now c.args.to.now c.args.access d e (is_named m s _ d st c.in_ok-from.ensures.device) (is_named m s _ e st c.in_ok-to.ensures.device)
+    (sym (living_same m s d g st) ∙ living) (sym (linked_same m.devices s e g st.devices) ∙ off)
 
 pub returns-then-is_guarded-clause-decided : goal.returns-then-is_guarded-clause-decided
 returns-then-is_guarded-clause-decided c = λ s g st.

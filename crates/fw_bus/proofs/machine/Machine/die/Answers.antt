@@ -3,7 +3,7 @@ use Rattle.std.proofs.lemmas.Bool.{false≢true}
 use Rattle.fw_cmp.specs.Controllers.{ControllerState, IsHeard}
 use Rattle.fw_bus.specs.Tables.{states_of}
 use Rattle.fw_bus.proofs.Doings.{does_when}
-use Rattle.fw_bus.proofs.LifeTurns.{dies_at}
+use Rattle.fw_bus.proofs.LifeOrders.{dies_at}
 use Rattle.fw_bus.proofs.machine.Machine.die.Goals as goal
 use Rattle.fw_bus.proofs.machine.Machine.die.Goals.{else-late-via-then-late+else-has_request, else-late-via-else-late}
 

@@ -1,13 +1,16 @@
-use Rattle.std.proofs.Common.{◌≡◌, ℕ, List, Bor, option_map, Some, None, ap, sym, subst, ◌∙◌, refl, is_some}
-use Rattle.fw_async.specs.Reader.{IsPacket, Spells}
+use Rattle.std.proofs.Common.{ℕ, List, length, Bor, option_map, Some, ap, sym, subst, ◌∙◌, refl, is_some, arith}
+use Rattle.std.proofs.lemmas.List.{length-set}
+use Rattle.fw_async.specs.Reader.{Spells}
 use Rattle.fw_async.specs.Wire.{Pairs}
 use Rattle.fw_entry.specs.declared.entry.Entry.TheVariants.{Async}
 use Rattle.fw_devices.specs.Network.{Network}
 use Rattle.fw_run.specs.HalfSteps.{half}
 use Rattle.fw_bus.specs.Doings.{Takes}
+use Rattle.fw_bus.specs.Streaming.{looked_at}
 use Rattle.fw_bus.proofs.HalfHears.{takes_hears}
 use Rattle.fw_bus.proofs.HalfLives.{living_stays}
 use Rattle.fw_bus.proofs.HalfReads.{Known, went_of, went_packet, target_there, request_read, some_taken, is_request, device_within, device_number, device_linked, response_written, reply_there}
+use Rattle.fw_bus.proofs.Streaming.{few_nodes}
 use Rattle.fw_bus.proofs.machine.Machine.hear.Goals as goal
 
 pub take-requires-2-clause-request : goal.take-requires-2-clause-request
@@ -63,6 +66,26 @@ take-requires-2-clause-link g c =
     } in
     device_linked m d c.in-Some.target c.number-own.result k c.target.ensures.fits
 
+pub look-requires : goal.look-requires
+look-requires g c =
+    let m = c.args.self.now in
+    let d = c.args.device in
+    let k : Known m d c.in-Some.target c.number-own.result = record {
+      ready = c.requires.ready;
+      lives = c.requires.living;
+      stands = c.requires.standing;
+      went = went_of m d c.in-Some.target (sym c.in-Some.is ∙ c.target.ensures.target);
+      own_is = c.number-own.ensures.value;
+    } in
+    let taken = ap (option_map (λ (b : Bor (List ℕ)). b.now)) (sym c.in-Some-take.is) ∙ c.take.ensures.bytes in
+    let read = request_read m d c.in-Some.target c.number-own.result c.in-Some-take.bytes.now k taken in
+    let registers = c.take-2.ensures.registers (went_packet c.number-own.result k.went) read in
+    let size = ap (λ (n : Network). length n.nodes) registers ∙ length-set m.devices.nodes c.in-Some.target _ in
+    let low = device_within m d c.in-Some.target c.number-own.result k in
+    let r = c.requires.ready in
+    let most = few_nodes m.devices.nodes r.state r.good r.stands.devices.nodes in
+    omega (arith, size, low, most)
+
 pub reply_at-requires : goal.reply_at-requires
 reply_at-requires g c =
     let m = c.args.self.now in
@@ -111,9 +134,14 @@ returns g c =
     let response = response_written m d c.in-Some.target c.number-own.result c.take-2.new.out.items k (c.take-2.ensures.response (went_packet c.number-own.result k.went) read) in
     let there = c.reply_at.ensures response.packet (subst (Spells response.packet) (sym c.deref.ensures.0) response.spells) in
     let registers = c.take-2.ensures.registers (went_packet c.number-own.result k.went) read in
-    let takes = subst (λ (w : Pairs). Takes half m (record m { devices = c.take-2.new.self; controllers = c.hear.new.self; wire = w }) d (Some (Async response.packet))) (sym c.take.ensures.rest)
-    (takes_hears m c.take-2.new.self c.hear.new.self d k.went.access k.went.to c.in-Some.target c.number-own.result (went_packet c.number-own.result k.went) response.packet
-    c.in-Some-reply_at.reply c.requires.living c.requires.standing response.sent registers (sym c.in-Some-reply_at.is ∙ there) c.hear.ensures) in
+    let P : Pairs → List ℕ → Type 0 = λ w counts.
+    Takes half m (record m { devices = c.take-2.new.self; controllers = c.hear.new.self; wire = w; streams = counts }) d (Some (Async response.packet)) in
+    let stood = takes_hears m c.take-2.new.self c.hear.new.self d k.went.access k.went.to c.in-Some.target c.number-own.result
+    (went_packet c.number-own.result k.went) response.packet c.in-Some-reply_at.reply c.requires.living c.requires.standing response.sent
+    registers (sym c.in-Some-reply_at.is ∙ there) c.hear.ensures in
+    let takes = subst (P c.take.new.self) (sym c.look.ensures)
+    (subst (λ w. P w (looked_at c.in-Some.target c.take-2.new.self.nodes m.streams)) (sym c.take.ensures.rest) stood) in
+    let now = record m { devices = c.take-2.new.self; controllers = c.hear.new.self; wire = c.take.new.self; streams = c.look.new.self } in
     record {
       speaks = record {
         entry = Some (Async response.packet);
@@ -121,7 +149,7 @@ returns g c =
         gives = c.give_packet.ensures.bytes response.packet (subst (Spells response.packet) (sym c.deref-2.ensures.0) response.spells);
         faults = c.give_packet.ensures.faults;
       };
-      living = living_stays m (record m { devices = c.take-2.new.self; controllers = c.hear.new.self; wire = c.take.new.self }) d (Some (Async response.packet)) c.requires.ready c.requires.living takes;
+      living = living_stays m now d (Some (Async response.packet)) c.requires.ready c.requires.living takes;
       time = refl;
       half_steps = refl;
       names = ap (λ (n : Network). n.names) registers;

@@ -1,9 +1,11 @@
-use Rattle.std.proofs.Common.{◌<◌, refl, sym, subst, arith}
+use Rattle.std.proofs.Common.{◌<◌, ℕ, List, refl, sym, subst, arith}
 use Rattle.fw_devices.specs.Network.{Network, no_devices}
 use Rattle.fw_run.specs.State.{first_state, list_to}
 use Rattle.fw_bus.specs.Stands.{HasDevices}
 use Rattle.fw_async.specs.Wire.{Pairs}
+use Rattle.fw_bus.specs.Streaming.{HasStreams}
 use Rattle.fw_bus.specs.Wires.{HasWire}
+use Rattle.fw_bus.proofs.Counts.{nothing_sent}
 use Rattle.fw_bus.proofs.WireResets.{wire_empty}
 use Rattle.fw_bus.proofs.machine.Machine.new.Goals as goal
 
@@ -15,6 +17,7 @@ nothing_stands = record {
   kinds = refl;
   nodes = record { size = refl; each = λ d lt. let low : d < 0 = lt in absurd (omega arith) };
   lingering = record { each = λ d lt. let low : d < 0 = lt in absurd (omega arith) };
+  decks = record { each = λ d lt. let low : d < 0 = lt in absurd (omega arith); others = λ d past. refl };
   latest = refl;
   epoch = refl;
   manager = refl;
@@ -25,8 +28,10 @@ pub returns : goal.returns
 unfolding list_to
 returns c = record {
   devices = subst (λ (n : Network). HasDevices n first_state) (sym c.in_ok-new.ensures) nothing_stands;
-  clock = record { cycle = refl; reclaiming = refl; half_steps = refl };
+  clock = record { cycle = refl; reclaiming = refl; half_steps = refl; written = refl };
   controllers = record { table = c.in_ok-new-2.ensures; directory = refl };
   wire = subst (λ (w : Pairs). HasWire w first_state) (sym c.new-3.ensures) (wire_empty first_state (λ d. refl));
+  streams = subst (λ (counts : List ℕ). HasStreams counts first_state) (sym c.new-4.ensures) nothing_sent;
   answered = refl;
+  unsent = refl;
 }

@@ -1,6 +1,7 @@
 use Rattle.std.proofs.Common.{Some, sym, ◌∙◌}
 use Rattle.fw_bus.proofs.Doings.{does_as, does_nothing, does_one}
-use Rattle.fw_bus.proofs.LifeTurns.{goes_on_at, start_turns, starts_at}
+use Rattle.fw_bus.proofs.LifeOrders.{goes_on_at, starts_at}
+use Rattle.fw_bus.proofs.LifeTurns.{start_turns}
 use Rattle.fw_bus.proofs.Living.{linked_there}
 use Rattle.fw_bus.proofs.machine.Machine.start.Goals as goal
 

@@ -1,6 +1,6 @@
 use Rattle.std.proofs.Common.{refl, Err}
 use Rattle.fw_bus.proofs.Doings.{does_cut, does_then, ready_after}
-use Rattle.fw_bus.proofs.LifeTurns.{late_follows, late_goes}
+use Rattle.fw_bus.proofs.LifeOrders.{late_follows, late_goes}
 use Rattle.fw_bus.proofs.machine.Machine.stop_late.Goals as goal
 
 pub returns-in_err-carry_request : goal.returns-in_err-carry_request

@@ -1,6 +1,6 @@
 use Rattle.std.proofs.Common.{◌≡◌, ◌<◌, ◌≤◌, ◌++◌, ◌∷◌, ◌∙◌, [], List, ℕ, length, set, position, None, arith, sym, ap, subst}
 use Rattle.std.proofs.lemmas.Grind.{common_steps}
-use Rattle.std.specs.Vec.{vec_capacity, vec_len}
+use Rattle.std.specs.Vec.{vec_capacity}
 use Rattle.fw_devices.specs.Names.{HasPlaces}
 use Rattle.fw_devices.specs.Network.{same_bytes}
 use Rattle.fw_devices.proofs.NameLaws.{one_more, one_kept}

@@ -1,0 +1,31 @@
+-- What the bus counts of the streams of output plugs. A device has one output plug at most, which is number 0 (own).
+use Rattle.std.specs.Prelude.{ℕ, ◌≡◌, ◌+◌, ◌%◌, List, [], ◌∷◌, length, if◌then◌else◌, slice_index_or, slice_set}
+use Rattle.fw_base.specs.Tables.{at_plug}
+use Rattle.fw_tape.specs.Blocks.{blocks_among}
+use Rattle.fw_node.specs.State.{NodeState}
+use Rattle.fw_node.specs.Streams.{talks}
+use Rattle.fw_devices.specs.Decks.{tape_of}
+use Rattle.fw_devices.specs.Network.{node_at}
+use Rattle.fw_run.specs.State.{State}
+
+-- the count of a device; that of one that is not declared is 0
+abbrev pub count_at : List ℕ → ℕ → ℕ
+count_at counts d = slice_index_or counts d 0
+
+-- the data packets that each plug has sent since it began to talk, modulo 256
+pub record HasStreams (counts : List ℕ) (s : State) : Type 0 where
+  pub size : length counts ≡ 63
+  pub each : (d : ℕ) → count_at counts d ≡ s.streams (at_plug d 0) % 256
+
+-- cycles go by: a plug that talks counts the blocks that its tape gives in them, and one that does not talk begins anew
+abbrev pub counted_for : ℕ → NodeState → ℕ → ℕ
+counted_for cycles n count = if talks n then (count + blocks_among (tape_of n) cycles) % 256 else 0
+
+abbrev pub counted_on : ℕ → List NodeState → List ℕ → List ℕ
+counted_on cycles [] counts = counts
+counted_on cycles (n ∷ nodes) [] = []
+counted_on cycles (n ∷ nodes) (count ∷ counts) = counted_for cycles n count ∷ counted_on cycles nodes counts
+
+-- the plug of a device begins anew where it does not talk
+abbrev pub looked_at : ℕ → List NodeState → List ℕ → List ℕ
+looked_at d nodes counts = slice_set counts d (if talks (node_at nodes d) then count_at counts d else 0)

@@ -1,0 +1,175 @@
+//! Cycles that are written: the cycle start of the root (IEEE 1394-1995, cycle start packet), and the packets of the output plugs that talk
+//! (IEC 61883-1, 6).
+
+ghost use Rattle.std.specs.Prelude.{◌≡◌, ◌≤◌, ◌<◌, ◌+◌, ◌^◌, ℕ, Some, length};
+ghost use Rattle.std.specs.Option.{option_map};
+ghost use Rattle.fw_async.specs.Async.{Fits};
+ghost use Rattle.fw_entry.specs.declared.entry.ResetEntry.{ResetEntry};
+ghost use Rattle.fw_node.specs.Streams.{talking_on};
+ghost use Rattle.fw_devices.specs.Network.{node_at};
+ghost use Rattle.fw_run.specs.Carrying.{Carries};
+ghost use Rattle.fw_run.specs.Desks.{DeskRelations};
+ghost use Rattle.fw_run.specs.Good.{IsGood};
+ghost use Rattle.fw_run.specs.State.{State};
+ghost use Rattle.fw_run.specs.Streams.{cycle_start};
+ghost use Rattle.fw_run.specs.declared.order.Order.TheVariants.{Cycles};
+ghost use Rattle.fw_tape.specs.Desks.{AnyBlock};
+ghost use Rattle.fw_bus.specs.Cycling.{Comes, DoesWhere, HadSent, Sends, SendsTo, WritesCycle};
+ghost use Rattle.fw_bus.specs.Doings.{Does};
+ghost use Rattle.fw_bus.specs.Framing.{DoesBy};
+ghost use Rattle.fw_bus.specs.Stands.{IsReady, StandsFor};
+
+use crate::give::give;
+use crate::machine::Machine;
+use crate::room::Room;
+use crate::streams::Streams;
+use fw_async::{Head, Packet};
+use fw_entry::Entry;
+use fw_node::{cycle_time, node_id};
+use fw_outside::{Failed, Sink};
+use fw_tape::Desk;
+
+/// Where a cycle start is written to: the register CYCLE_TIME (IEEE 1394-1995, 8.3.2.3.1).
+const CYCLE_TIME: u64 = 0xFFFF_F000_0200;
+/// The node ID of a broadcast.
+const BROADCAST: u16 = 0xFFFF;
+/// How many isochronous channels there are.
+const CHANNELS: u8 = 64;
+
+/// The cycle start of a cycle, a broadcast of the root.
+fn cycle_start(root: u8, cycle: u64) -> Packet<'static>
+    requires { root < 63 }
+    ensures value { result ≡ cycle_start root cycle }
+    ensures fits { Fits result }
+{
+    Packet::CycleStart {
+        head: Head {
+            destination: BROADCAST,
+            tl: 0,
+            rt: 0,
+            pri: 15,
+            source: node_id(root),
+        },
+        offset: CYCLE_TIME,
+        time: cycle_time(cycle),
+    }
+}
+
+impl Machine {
+    /// The next cycle comes: where the second of the latest bus reset is over at it, that is written first.
+    fn next_cycle<K: Sink>(&mut self, room: &mut Room, sink: &mut K) -> Result<(), Failed>
+        requires ready { IsReady self.old }
+        requires few { self.old.cycle + 1 ≤ 2 ^ 52 }
+        ensures does { Does Comes self.old self.new (K.held sink.old) (K.held sink.new) (K.faults sink.old) (K.faults sink.new) result }
+    {
+        if self.reclaiming && self.directory.over_at == self.cycle + 1 {
+            self.end_second(room, sink)
+        } else {
+            self.pass(1);
+            Ok(())
+        }
+    }
+
+    /// The node that is root. None before the first device.
+    fn root(&self) -> Option<u8>
+        ensures { (s : State) → IsGood s → StandsFor self.now s → result ≡ option_map (λ (e : ResetEntry). e.root) s.account.latest }
+    {
+        if self.devices.count() == 0 {
+            return None;
+        }
+        Some(self.devices.latest().get().root)
+    }
+
+    /// The output plug of a device, which talks on this channel, sends its packet of the cycle: a block where its tape gives one, else
+    /// an empty one. `before` has the counts before the cycle.
+    fn send_packet<K: Sink, F: Fn(u16, u32, u16) -> [u8; 480], H: Fn(u32, u8) -> u8>(
+        &self,
+        device: u8,
+        channel: u8,
+        before: &Streams,
+        desk: &Desk<F, H>,
+        room: &mut Room,
+        sink: &mut K,
+    ) -> Result<(), Failed>
+        requires ready { IsReady self.now }
+        requires desk { AnyBlock (F.pre desk.now.blocks) }
+        requires declared { device < length self.now.devices.nodes }
+        requires talks { talking_on (node_at self.now.devices.nodes device) ≡ Some channel }
+        ensures does { DoesWhere (HadSent before.now) (record { blocks = F.post desk.now.blocks; vendor = H.post desk.now.vendor }) (Sends device)
+            self.now self.now (K.held sink.old) (K.held sink.new) (K.faults sink.old) (K.faults sink.new) result }
+    {
+        let block = self.devices.block(device, desk);
+        let mut talker = before.talker(device, channel);
+        let own = self.number(device);
+        let packet = talker.cycle(own, self.devices.fifty(device), block.as_ref());
+        give(self.cycle, Some(Entry::Iso(packet)), room, sink)
+    }
+
+    /// Each output plug that talks sends its packet of the cycle, in order of channel.
+    fn send_packets<K: Sink, F: Fn(u16, u32, u16) -> [u8; 480], H: Fn(u32, u8) -> u8>(
+        &self,
+        before: &Streams,
+        desk: &Desk<F, H>,
+        room: &mut Room,
+        sink: &mut K,
+    ) -> Result<(), Failed>
+        requires ready { IsReady self.now }
+        requires desk { AnyBlock (F.pre desk.now.blocks) }
+        ensures does { DoesWhere (HadSent before.now) (record { blocks = F.post desk.now.blocks; vendor = H.post desk.now.vendor }) (SendsTo 64)
+            self.now self.now (K.held sink.old) (K.held sink.new) (K.faults sink.old) (K.faults sink.new) result }
+    {
+        let talkers = self.devices.talkers();
+        for channel in 0..CHANNELS {
+            if let Some(device) = talkers[usize::from(channel)] {
+                self.send_packet(device, channel, before, desk, room, sink)?;
+            }
+        }
+        Ok(())
+    }
+
+    /// The next cycle comes and is written. Before the first device it only comes.
+    fn write_cycle<K: Sink, F: Fn(u16, u32, u16) -> [u8; 480], H: Fn(u32, u8) -> u8>(
+        &mut self,
+        desk: &Desk<F, H>,
+        room: &mut Room,
+        sink: &mut K,
+    ) -> Result<(), Failed>
+        requires ready { IsReady self.old }
+        requires desk { AnyBlock (F.pre desk.now.blocks) }
+        requires few { self.old.cycle + 1 ≤ 2 ^ 52 }
+        requires written { 0 < length self.old.devices.nodes → self.old.written < 8000 }
+        ensures does { DoesBy (record { blocks = F.post desk.now.blocks; vendor = H.post desk.now.vendor }) WritesCycle
+            self.old self.new (K.held sink.old) (K.held sink.new) (K.faults sink.old) (K.faults sink.new) result }
+    {
+        let before = self.streams;
+        self.next_cycle(room, sink)?;
+        let Some(root) = self.root() else {
+            return Ok(());
+        };
+        self.written += 1;
+        let start = cycle_start(root, self.cycle);
+        give(self.cycle, Some(Entry::Async(start)), room, sink)?;
+        self.send_packets(&before, desk, room, sink)
+    }
+
+    /// Cycles go by and are written.
+    pub(crate) fn cycles<K: Sink, F: Fn(u16, u32, u16) -> [u8; 480], H: Fn(u32, u8) -> u8>(
+        &mut self,
+        count: u32,
+        desk: &Desk<F, H>,
+        room: &mut Room,
+        sink: &mut K,
+    ) -> Result<(), Failed>
+        requires ready { IsReady self.old }
+        requires desk { AnyBlock (F.pre desk.now.blocks) }
+        requires few { self.old.cycle + count ≤ 2 ^ 52 }
+        requires written { 0 < length self.old.devices.nodes → self.old.written + count ≤ 8000 }
+        ensures does { DoesBy (record { blocks = F.post desk.now.blocks; vendor = H.post desk.now.vendor }) (λ s. Carries s (Cycles count))
+            self.old self.new (K.held sink.old) (K.held sink.new) (K.faults sink.old) (K.faults sink.new) result }
+    {
+        for i in 0..count {
+            self.write_cycle(desk, room, sink)?;
+        }
+        Ok(())
+    }
+}

@@ -1,0 +1,61 @@
+-- Frames and tapes leave each device what it is.
+use Rattle.std.proofs.Common.{◌<◌, ◌≤◌, ◌+◌, ◌∙◌, ℕ, List, length, arith, length-set, get_or-set_other, map, slice_set, Bool, Option, Some, None, option_map, refl, ap, sym, subst}
+use Rattle.std.proofs.lemmas.List.{length-map}
+use Rattle.fw_base.specs.declared.device.DeviceKind.TheVariants.{Relay}
+use Rattle.fw_csr.specs.declared.request.Request.{Request}
+use Rattle.fw_fcp.specs.declared.frame.Frame.{Frame}
+use Rattle.fw_avc.specs.Notices.{after_notice}
+use Rattle.fw_tape.specs.Desks.{VendorRelation}
+use Rattle.fw_tape.specs.Motion.{MayPass}
+use Rattle.fw_tape.specs.declared.cassette.Cassette.{Cassette}
+use Rattle.fw_tree.specs.declared.numbering.Numbering.{Numbering}
+use Rattle.fw_node.specs.Fcp.{HasFollowed, after_frame}
+use Rattle.fw_node.specs.State.{NodeState, first_state, after_request}
+use Rattle.fw_devices.specs.Decks.{tape_of, with_tape, passed}
+use Rattle.fw_devices.specs.Kept.{IsKept}
+use Rattle.fw_devices.specs.Network.{Network, node_at}
+use Rattle.fw_devices.proofs.NetworkLaws.{IsSameDevice, AreSameDevices, network_kept, node_mapped, same_after}
+use Rattle.fw_devices.proofs.ResetLaws.{found_same}
+
+-- ---- one node
+
+pub same_followed : (V : VendorRelation) (from : ℕ) (r : Option Request) (m n : NodeState) → HasFollowed V from r (after_request r m) n → IsSameDevice m n
+same_followed V from r m n h =
+    let s = same_after r m in
+    record { kind = ap (λ (x : NodeState). x.kind) h.rest ∙ s.kind; device = ap (λ (x : NodeState). x.device) h.rest ∙ s.device; rate = ap (λ (x : NodeState). x.plugs.rate) h.rest ∙ s.rate }
+
+pub same_sent : (m : NodeState) → IsSameDevice m (after_frame m)
+same_sent m = go m.waiting
+  where
+    go : (o : Option (ℕ × Frame)) → IsSameDevice m (elim o as (λ _. NodeState) [ Some told ↦ record m { waiting = None } | None ↦ record m { unit = option_map after_notice m.unit } ])
+    go (Some told) = record { kind = refl; device = refl; rate = refl }
+    go None = record { kind = refl; device = refl; rate = refl }
+
+pub same_tape : (tape : Option Cassette) (m : NodeState) → IsSameDevice m (with_tape tape m)
+same_tape tape m = record { kind = refl; device = refl; rate = refl }
+
+-- ---- all of them
+
+pub same_passed : (cycles : ℕ) (nodes : List NodeState) → AreSameDevices nodes (map (passed cycles) nodes)
+same_passed cycles nodes = record {
+  size = length-map nodes (passed cycles);
+  each = λ d low. let P : NodeState → Type 0 = IsSameDevice (node_at nodes d) in subst P (sym (node_mapped (passed cycles) nodes d low)) (record { kind = refl; device = refl; rate = refl });
+}
+
+-- what is kept of a network stays, where its nodes are of the same devices
+pub kept_same : (n : Network) (room : ℕ) (current : Bool) (numbering : Numbering) (nodes : List NodeState) → IsKept n room current numbering → AreSameDevices n.nodes nodes → IsKept (record n { nodes = nodes }) room current numbering
+kept_same n room current numbering nodes h same = record {
+  network = network_kept n (record n { nodes = nodes }) h.network refl refl same;
+  few = h.few;
+  same = same.size ∙ h.same;
+  nodes_room = h.nodes_room;
+  found = λ now. found_same _ _ _ _ _ _ same (h.found now);
+}
+
+-- the nodes that are left are as they were, where one before them was exchanged
+pub left_set : (cycles : ℕ) (nodes : List NodeState) (i : ℕ) (x : NodeState) → ((d : ℕ) → i ≤ d → d < length nodes → MayPass cycles (tape_of (node_at nodes d)))
+    → (d : ℕ) → i + 1 ≤ d → d < length (slice_set nodes i x) → MayPass cycles (tape_of (node_at (slice_set nodes i x) d))
+left_set cycles nodes i x left d above low =
+    let size = length-set nodes i x in
+    let M : NodeState → Type 0 = λ n. MayPass cycles (tape_of n) in
+    subst M (sym (get_or-set_other nodes i d x (first_state Relay 0 0) (λ e. absurd (omega (arith, above, e))))) (left d (omega (arith, above)) (omega (arith, low, size)))

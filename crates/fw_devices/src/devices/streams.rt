@@ -1,0 +1,79 @@
+//! The streams of output plugs: which of them talk, and the blocks that the tapes of their devices give.
+
+ghost use Rattle.std.specs.Prelude.{◌≡◌, ◌<◌, IfSome, length};
+ghost use Rattle.fw_tape.specs.Blocks.{Gives, block_now, blocks_among};
+ghost use Rattle.fw_tape.specs.Desks.{AnyBlock};
+ghost use Rattle.fw_tape.specs.Motion.{is_fifty, MayPass};
+ghost use Rattle.fw_node.specs.Streams.{talking_on};
+ghost use Rattle.fw_devices.specs.Decks.{tape_of};
+ghost use Rattle.fw_devices.specs.Network.{node_at};
+ghost use Rattle.fw_devices.specs.Streams.{AreTalkers};
+
+use super::Devices;
+use fw_tape::Desk;
+
+/// How many isochronous channels there are.
+const CHANNELS: usize = 64;
+
+impl Devices {
+    /// The channel on which the output plug of a device talks: None exactly where it does not talk, or the device has none.
+    pub fn talking_on(&self, device: u8) -> Option<u8>
+        requires declared { device < length self.now.nodes }
+        ensures value { result ≡ talking_on (node_at self.now.nodes device) }
+        ensures range { IfSome result (λ channel. channel < 64) }
+    {
+        self.nodes[usize::from(device)].talking_on()
+    }
+
+    /// The device whose output plug talks on each channel, one of them where there are several. None exactly where no device has one.
+    pub fn talkers(&self) -> [Option<u8>; CHANNELS]
+        ensures { AreTalkers (length self.now.nodes) self.now.nodes result }
+    {
+        let mut talkers = [None; CHANNELS];
+        for device in 0..self.count() {
+            if let Some(channel) = self.talking_on(device) {
+                talkers[usize::from(channel)] = Some(device);
+            }
+        }
+        talkers
+    }
+
+    /// The block that the tape of a device gives in the cycle that passed last: None exactly where none was due.
+    pub fn block<F: Fn(u16, u32, u16) -> [u8; 480], H: Fn(u32, u8) -> u8>(
+        &self,
+        device: u8,
+        desk: &Desk<F, H>,
+    ) -> Option<[u8; 480]>
+        requires desk { AnyBlock (F.pre desk.now.blocks) }
+        requires declared { device < length self.now.nodes }
+        ensures { Gives (F.post desk.now.blocks) (block_now (tape_of (node_at self.now.nodes device))) result }
+    {
+        match self.nodes[usize::from(device)].tape_subunit() {
+            Some(tape) => tape.block(desk),
+            None => None,
+        }
+    }
+
+    /// How many blocks the tape of a device gives in the next cycles.
+    pub fn blocks_among(&self, device: u8, cycles: u64) -> u64
+        requires declared { device < length self.now.nodes }
+        requires tape { MayPass cycles (tape_of (node_at self.now.nodes device)) }
+        ensures { result ≡ blocks_among (tape_of (node_at self.now.nodes device)) cycles }
+    {
+        match self.nodes[usize::from(device)].tape_subunit() {
+            Some(tape) => tape.blocks_among(cycles),
+            None => 0,
+        }
+    }
+
+    /// A tape of the 625-50 system is in the device.
+    pub fn fifty(&self, device: u8) -> bool
+        requires declared { device < length self.now.nodes }
+        ensures { result ≡ is_fifty (tape_of (node_at self.now.nodes device)) }
+    {
+        match self.nodes[usize::from(device)].tape_subunit() {
+            Some(tape) => tape.fifty(),
+            None => false,
+        }
+    }
+}

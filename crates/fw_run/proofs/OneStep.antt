@@ -1,0 +1,134 @@
+-- Each action has one result.
+use Rattle.std.proofs.Common.{◌≡◌, ℕ, ◌+◌, ◌<◌, List, [], ◌∷◌, ◌++◌, Bool, true, false, Option, Some, None, ap, sym, subst, ◌∙◌, arith}
+use Rattle.std.proofs.lemmas.Option.{same_Some}
+use Rattle.fw_async.specs.declared.packet.Packet.{Packet}
+use Rattle.fw_entry.specs.declared.entry.Entry.TheVariants.{Reset, Async}
+use Rattle.fw_entry.specs.declared.entry.ResetEntry.{ResetEntry}
+use Rattle.fw_entry.specs.declared.entry.Timed.{Timed}
+use Rattle.fw_tree.specs.declared.facts.End.{End}
+use Rattle.fw_tree.specs.Topology.{Topology, Made, IsJoined}
+use Rattle.fw_tree.specs.Topology as Topologies
+use Rattle.fw_tree.proofs.ReachLaws.{sound_made}
+use Rattle.fw_devices.specs.Network.{facts_of}
+use Rattle.fw_run.specs.declared.order.Transaction.{Transaction}
+use Rattle.fw_run.specs.Giving.{at_most}
+use Rattle.fw_run.specs.State.{State, epoch_of, is_on, device_in, with_device}
+use Rattle.fw_run.specs.Spaces.{answer_packet, target_node, transaction_head, access_request, bus_manager_id_after}
+use Rattle.fw_run.specs.Streams.{cycle_start}
+use Rattle.fw_run.specs.Actions.{Action, AddDevice, AddCable, ResetBus, StartConnection, StartBreak, HalfStep, Rest, Unsettled, Pass, EndSecond, Die, CarryOut, Start, Ask, Answer, ShowWord, SendCommand, SendFrame, Receive, InsertTape, EjectTape, StartCycle, SendPacket, Finish, Resets, Declares, Joins, Answers, after_reset_entry, with_topology, Step, Steps}
+use Rattle.fw_base.specs.Tables.{update}
+use Rattle.fw_fcp.specs.declared.frame.Frame.{Frame}
+use Rattle.fw_ledger.specs.Words.{node_of}
+use Rattle.fw_run.specs.Decks.{Obeyed, FrameWrite, after_frame}
+use Rattle.fw_run.specs.Frames.{request_of, frame_head, frame_packet, response_write, decks_after, Sends, Receives}
+use Rattle.fw_run.specs.Good.{IsGood}
+use Rattle.fw_run.proofs.Networks.{made_more}
+use Rattle.fw_run.proofs.Steps.{step_good}
+use Rattle.fw_run.proofs.OneReset.{one_entry}
+
+-- ---- actions
+
+-- the same entries, and the same state
+abbrev pub Same : List Timed → State → List Timed → State → Type 0
+Same out t other u = (out ≡ other) × (t ≡ u)
+
+one_resets : (s t u : State) (initiator : ℕ) (out other : List Timed) → Made s.declared.topology → Resets s initiator out t → Resets s initiator other u → Same out t other u
+one_resets s t u initiator out other made f g =
+    let same : f.entry ≡ g.entry = one_entry s.declared.topology s.declared.kinds (epoch_of s.account.latest + 1) initiator f.entry g.entry (sound_made s.declared.topology made) f.is_entry g.is_entry in (
+      f.out_is ∙ (ap (λ (e : ResetEntry). at_most s.clock.cycle (Some (Reset e))) same ∙ sym g.out_is),
+      f.state_is ∙ (ap (after_reset_entry s) same ∙ sym g.state_is),
+    )
+
+one_declares : (names : List (List ℕ)) (s t u : State) (out other : List Timed) → Made s.declared.topology → Declares names s out t → Declares names s other u → Same out t other u
+one_declares [] s t u out other made f g = one_resets s t u 0 out other made f g
+one_declares (x ∷ names) s t u out other made f g = (f.0 ∙ sym g.0, f.1 ∙ sym g.1)
+
+one_joins : (x y : Bool) (a b : ℕ) (s t u : State) (out other : List Timed) → Made s.declared.topology → Joins x y a b s out t → Joins x y a b s other u → Same out t other u
+one_joins true false a b s t u out other made f g = one_resets s t u a out other made f g
+one_joins false true a b s t u out other made f g = one_resets s t u b out other made f g
+one_joins true true a b s t u out other made f g = (f.0 ∙ sym g.0, f.1 ∙ sym g.1)
+one_joins false false a b s t u out other made f g = (f.0 ∙ sym g.0, f.1 ∙ sym g.1)
+
+one_topology : (p q r : Topology) (a b : End) → IsJoined p q a b → IsJoined p r a b → q ≡ r
+one_topology p q r a b f g = let devices = f.same ∙ sym g.same in let cables = f.added ∙ sym g.added in λ i. record { devices = devices i; cables = cables i }
+
+one_answers : (s t u : State) (out other : List Timed) → Answers s out t → Answers s other u → Same out t other u
+one_answers s t u out other f g = (
+  f.out_is ∙ (ap (λ (p : Packet). at_most s.clock.cycle (Some (Async p))) response ∙ sym g.out_is),
+  f.state_is ∙ (ap (λ (x : Transaction). record s { transaction = None; bus_manager_id = bus_manager_id_after s x }) transaction ∙ sym g.state_is),
+)
+  where
+    transaction : f.transaction ≡ g.transaction
+    transaction = same_Some f.transaction g.transaction (sym f.waits ∙ g.waits)
+
+    response : f.response ≡ g.response
+    response = same_Some f.response g.response (sym f.answered ∙ (ap (λ (x : Transaction). answer_packet s (target_node s x) (transaction_head s x) (access_request x.access)) transaction ∙ g.answered))
+
+one_sends : (s t u : State) (d : ℕ) (out other : List Timed) → Sends s d out t → Sends s d other u → Same out t other u
+one_sends s t u d out other f g = (
+  f.out_is ∙ (ap (λ w. at_most s.clock.cycle (Some (Async (frame_packet s w)))) write ∙ sym g.out_is),
+  f.state_is ∙ (ap (λ w. record s { decks = update s.decks d (after_frame (s.decks d)); frame = Some w }) write ∙ sym g.state_is),
+)
+  where
+    told : f.told ≡ g.told
+    told = same_Some f.told g.told (sym f.next ∙ g.next)
+
+    to : f.to ≡ g.to
+    to = same_Some f.to g.to (sym f.addressee ∙ (ap (λ (x : ℕ × Frame). device_in s.account.latest x.0) told ∙ g.addressee))
+
+    write : response_write d f.to f.told.1 ≡ response_write d g.to g.told.1
+    write = λ i. response_write d (to i) (told i).1
+
+one_receives : (s t u : State) (o : Option Obeyed) (out other : List Timed) → Receives s o out t → Receives s o other u → Same out t other u
+one_receives s t u o out other f g = (
+  f.out_is ∙ (ap (λ (p : Packet). at_most s.clock.cycle (Some (Async p))) response ∙ sym g.out_is),
+  f.state_is ∙ (ap (λ w. record s { decks = decks_after s w o; frame = None }) write ∙ sym g.state_is),
+)
+  where
+    write : f.write ≡ g.write
+    write = same_Some f.write g.write (sym f.waits ∙ g.waits)
+
+    response : f.response ≡ g.response
+    response = same_Some f.response g.response (sym f.answered ∙ (ap (λ (w : FrameWrite). answer_packet s (node_of s.account.latest w.to) (frame_head s w) (request_of w)) write ∙ g.answered))
+
+pub one_step : (s t u : State) (a : Action) (out other : List Timed) → IsGood s → Step s a out t → Step s a other u → Same out t other u
+one_step s t u (AddDevice name kind ports speed) out other good f g =
+    one_declares s.declared.names (record s { declared = with_device s.declared name kind ports speed }) t u out other
+    (made_more s.declared.topology (facts_of kind ports speed) good.declared.made (subst (λ n. n < 63) good.declared.named f.1.0) (let some = f.1.1 in omega (arith, some)) f.1.2 f.1.3) f.1.4 g.1.4
+one_step s t u (AddCable a b) out other good f g =
+    let x = f.1 in
+    let y = g.1 in
+    let same : y.0 ≡ x.0 = one_topology s.declared.topology y.0 x.0 a b y.1 x.1 in
+    one_joins (is_on s a.device) (is_on s b.device) a.device b.device (with_topology s x.0) t u out other (Topologies.cable good.declared.made a b x.1) x.2
+    (subst (λ (p : Topology). Joins (is_on s a.device) (is_on s b.device) a.device b.device (with_topology s p) other u) same y.2)
+one_step s t u (ResetBus d) out other good f g = one_resets s t u d out other good.declared.made f.1.1 g.1.1
+one_step s t u (StartConnection d w) out other good f g = (f.1.3 ∙ sym g.1.3, f.1.4 ∙ sym g.1.4)
+one_step s t u (StartBreak d i) out other good f g = (f.1.2 ∙ sym g.1.2, f.1.3 ∙ sym g.1.3)
+one_step s t u (HalfStep d) out other good f g = (f.1.2 ∙ sym g.1.2, f.1.3 ∙ sym g.1.3)
+one_step s t u (Rest n) out other good f g = (f.1.2 ∙ sym g.1.2, f.1.3 ∙ sym g.1.3)
+one_step s t u Unsettled out other good f g = (f.1.1 ∙ sym g.1.1, f.1.2 ∙ sym g.1.2)
+one_step s t u (Pass n) out other good f g = (f.1.2 ∙ sym g.1.2, f.1.3 ∙ sym g.1.3)
+one_step s t u EndSecond out other good f g = (f.1.3 ∙ sym g.1.3, f.1.4 ∙ sym g.1.4)
+one_step s t u (Die d) out other good f g = (f.1.1 ∙ sym g.1.1, f.1.2 ∙ sym g.1.2)
+one_step s t u (CarryOut d) out other good f g = (f.1.2 ∙ sym g.1.2, f.1.3 ∙ sym g.1.3)
+one_step s t u (Start d) out other good f g = (f.1.2 ∙ sym g.1.2, f.1.3 ∙ sym g.1.3)
+one_step s t u (Ask x) out other good f g = (f.1.3 ∙ sym g.1.3, f.1.4 ∙ sym g.1.4)
+one_step s t u Answer out other good f g = one_answers s t u out other f g
+one_step s t u (ShowWord d offset) out other good f g = (f.1.3 ∙ sym g.1.3, f.1.4 ∙ sym g.1.4)
+one_step s t u (SendCommand a b bytes) out other good f g = (f.1.3 ∙ sym g.1.3, f.1.4 ∙ sym g.1.4)
+one_step s t u (SendFrame d) out other good f g = one_sends s t u d out other f.1 g.1
+one_step s t u (Receive o) out other good f g = one_receives s t u o out other f.1 g.1
+one_step s t u (InsertTape d tape system) out other good f g = (f.1.3 ∙ sym g.1.3, f.1.4 ∙ sym g.1.4)
+one_step s t u (EjectTape d) out other good f g = (f.1.3 ∙ sym g.1.3, f.1.4 ∙ sym g.1.4)
+one_step s t u StartCycle out other good f g =
+    let same : f.1.1.0 ≡ g.1.1.0 = same_Some f.1.1.0 g.1.1.0 (sym f.1.1.1 ∙ g.1.1.1) in
+    (f.1.1.2 ∙ (ap (λ (e : ResetEntry). at_most s.clock.cycle (Some (Async (cycle_start e.root s.clock.cycle)))) same ∙ sym g.1.1.2), f.1.2 ∙ sym g.1.2)
+one_step s t u (SendPacket p block) out other good f g = (f.1.2 ∙ sym g.1.2, f.1.3 ∙ sym g.1.3)
+one_step s t u Finish out other good f g = (f.1.0 ∙ sym g.1.0, f.1.1 ∙ sym g.1.1)
+
+pub one_steps : (s t u : State) (actions : List Action) (out other : List Timed) → IsGood s → Steps s actions out t → Steps s actions other u → Same out t other u
+one_steps s t u [] out other good f g = (f.0 ∙ sym g.0, f.1 ∙ sym g.1)
+one_steps s t u (a ∷ actions) out other good f g =
+    let first = one_step s f.2 g.2 a f.0 g.0 good f.3 g.3 in
+    let rest = one_steps f.2 t u actions f.1 g.1 (step_good s a f.0 f.2 good f.3) f.5 (subst (λ z. Steps z actions g.1 u) (sym first.1) g.5) in
+    (f.4 ∙ (ap (λ z. z ++ f.1) first.0 ∙ (ap (λ z. g.0 ++ z) rest.0 ∙ sym g.4)), rest.1)
