@@ -30,7 +30,7 @@ gathered_first {text} e Took old entries bytes piece r h t =
       };
     }
 
-next : {text : List Timed → List ℕ} (e : IsEach text) {Took Took' : List Timed → Type 0} {old now now' : List ℕ} {entries : List Timed} {bytes piece rest : List ℕ} {r : State} (new : State) (used : ℕ) (more : List Timed) (p : GatheredTo text Took old now entries bytes piece rest r)
+pub next : {text : List Timed → List ℕ} (e : IsEach text) {Took Took' : List Timed → Type 0} {old now now' : List ℕ} {entries : List Timed} {bytes piece rest : List ℕ} {r : State} (new : State) (used : ℕ) (more : List Timed) (p : GatheredTo text Took old now entries bytes piece rest r)
     → HasRead (entries ++ (p.gathers.more ++ more)) ((bytes ++ p.done) ++ take used rest) new → Took' (entries ++ (p.gathers.more ++ more)) → now' ≡ now ++ text more → GatheredTo text Took' old now' entries bytes piece (drop used rest) new
 next {text} e {Took} {Took'} {old} {now} {now'} {entries} {bytes} {piece} {rest} {r} new used more p h t g =
     let P : List ℕ → Type 0 = λ b. HasRead (entries ++ (p.gathers.more ++ more)) b new in

@@ -1,5 +1,5 @@
 -- What a piece of a log does to a reader, to what takes the entries, and to a sink.
-use Rattle.std.specs.Prelude.{◌≡◌, ℕ, ◌+◌, ◌≤◌, List, ◌++◌, length, Option, Some, None, Result, Ok, Err}
+use Rattle.std.specs.Prelude.{◌≡◌, ℕ, ◌+◌, ◌≤◌, List, [], ◌∷◌, ◌++◌, length, Option, Some, None, Result, Ok, Err}
 use Rattle.std.specs.declared.alloc.AllocError.{AllocError}
 use Rattle.fw_outside.specs.Outside.{Takes, Grows, AppendsFront}
 use Rattle.fw_entry.specs.declared.entry.Timed.{Timed}
@@ -16,6 +16,13 @@ pub record Gathers (text : List Timed → List ℕ) (Took : List Timed → Type 
   pub read : HasRead (entries ++ more) bytes reader
   pub took : Took (entries ++ more)
   pub gathered : new ≡ old ++ text more
+
+-- one entry more was read and taken, and it has no text
+pub record Passes (text : List Timed → List ℕ) (Took : List Timed → Type 0) (entries : List Timed) (bytes : List ℕ) (reader : State) : Type 0 where
+  pub entry : Timed
+  pub read : HasRead (entries ++ entry ∷ []) bytes reader
+  pub took : Took (entries ++ entry ∷ [])
+  pub silent : text (entry ∷ []) ≡ []
 
 -- Behind more entries, whose text was gathered, a part is refused, whose last byte is in the piece.
 pub record GathersUpTo (text : List Timed → List ℕ) (old new : List ℕ) (entries : List Timed) (bytes piece : List ℕ) (fault : LogFault) : Type 0 where

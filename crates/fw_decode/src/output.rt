@@ -1,15 +1,19 @@
 //! What a word makes of the entries of a log.
 
-ghost use Rattle.std.specs.Prelude.{◌≡◌, ◌+◌, ◌<◌, ◌^◌, ◌++◌, ◌∷◌, ◌⊎◌, [], List, length, IfSome, IfErr, OnOk, OnErr};
+ghost use Rattle.std.specs.Prelude.{◌≡◌, ◌+◌, ◌<◌, ◌^◌, ◌++◌, ◌∷◌, ◌⊎◌, [], List, ℕ, length, take, IfSome, IfNone, IfErr, OnOk, OnErr, None};
 ghost use Rattle.fw_outside.specs.Outside.{Rose, Writes};
 ghost use Rattle.fw_entry.specs.Log.{Fits, body};
 ghost use Rattle.fw_entry.specs.declared.entry.Timed.{Timed as TimedEntry};
+ghost use Rattle.fw_log.specs.History.{HasRead};
+ghost use Rattle.fw_log.specs.Passing.{CountsUp};
+ghost use Rattle.fw_log.specs.Reader.{total};
 ghost use Rattle.fw_text.specs.Report.{report_text};
 ghost use Rattle.fw_text.specs.Tallies.{Reports};
 ghost use Rattle.fw_decode.specs.Decode.{WriteCount, lines_of};
+ghost use Rattle.fw_decode.specs.Pieces.{Passes};
 
 use crate::ending::LogEnding;
-use fw_log::Timed;
+use fw_log::{LogReader, Room, Timed};
 use fw_outside::{Failed, Sink};
 use fw_text::{LineRoom, StreamReport, put_entry_from};
 use std::alloc::{AllocError, Global};
@@ -69,6 +73,27 @@ impl Output {
                 report.take(entry);
                 Ok(())
             }
+        }
+    }
+
+    /// Takes the entry that ends in a piece and of which nothing is made, and answers how many bytes of the piece it took. Where
+    /// it takes none, the entry is to be read.
+    pub(crate) fn pass(
+        &self,
+        reader: &mut LogReader,
+        room: &mut Room,
+        piece: &[u8],
+    ) -> Option<usize>
+        requires { total reader.old + length piece.now < 2 ^ 64 }
+        ensures kept { IfNone result (reader.new ≡ reader.old) }
+        ensures fresh { IfSome result (λ n. reader.new.fault ≡ None) }
+        ensures counts { IfSome result (CountsUp reader.old piece.now reader.new) }
+        ensures history { (entries : List TimedEntry) → (bytes : List ℕ) → HasRead entries bytes reader.old → Took self.now entries
+            → IfSome result (λ n. Passes (text_of self.now) (Took self.now) entries (bytes ++ take n piece.now) reader.new) }
+    {
+        match self {
+            Output::Lines(_) => None,
+            Output::Report(_) => reader.pass(piece, room),
         }
     }
 

@@ -41,6 +41,10 @@ fn take_entries(
 {
     let mut rest = piece;
     while !rest.is_empty() {
+        if let Some(used) = output.pass(reader, room, rest) {
+            rest = &rest[used..];
+            continue;
+        }
         let LogFed { used, entry, bytes } = match reader.feed(rest, room) {
             Ok(fed) => fed,
             Err(fault) => return Ok(Some(fault)),

@@ -1,12 +1,14 @@
 //! The entry that some bytes begin with.
 
-ghost use Rattle.std.specs.Prelude.{◌≡◌, ◌≤◌, ◌<◌, ◌+◌, ◌^◌, length, take, drop};
+ghost use Rattle.std.specs.Prelude.{◌≡◌, ◌≤◌, ◌<◌, ◌+◌, ◌^◌, length, take, drop, IfSome};
 ghost use Rattle.fw_log.specs.Stands.{position};
 ghost use Rattle.fw_log.specs.Reading.{IsComplete};
 ghost use Rattle.fw_log.specs.Reader.{EntryJudges, Ends, Finds, Joins};
+ghost use Rattle.fw_log.specs.Passing.{PassesFirst};
 
+use crate::plain::is_plain_body;
 use crate::read_body::entry_of;
-use crate::read_head::head_fault;
+use crate::read_head::{head_fault, whole_end};
 use crate::stand::{BODY_AT, Stand, cycle_of, need, rest, skip};
 use crate::{LogFault, LogWhy, ResetEntry, Timed};
 use fw_words::{Bytes, Data};
@@ -24,6 +26,9 @@ fn end_of(stand: Stand, bytes: &[u8]) -> Result<Option<usize>, LogFault>
     requires { (position stand).start + length bytes.now < 2 ^ 64 }
     ensures { Ends (position stand) bytes.now result }
 {
+    if let Some(end) = whole_end(stand, bytes) {
+        return Ok(Some(end));
+    }
     if let Some(fault) = head_fault(stand, bytes) {
         return Err(fault);
     }
@@ -80,6 +85,27 @@ pub(crate) fn first_entry<'a>(
         })),
         Err(fault) => Err(fault),
     }
+}
+
+/// An entry that is passed over: where it ends, and its cycle.
+pub(crate) struct Passed {
+    pub end: usize,
+    pub cycle: u64,
+}
+
+/// The entry that the bytes begin with, if it is whole and right at the first look, and may be passed over.
+pub(crate) fn plain_entry(stand: Stand, bytes: &[u8]) -> Option<Passed>
+    ensures { IfSome result (PassesFirst (position stand) bytes.now) }
+{
+    let end = whole_end(stand, bytes)?;
+    let entry = rest(&bytes[..end], skip(stand));
+    if !is_plain_body(entry[0], rest(entry, BODY_AT)) {
+        return None;
+    }
+    Some(Passed {
+        end,
+        cycle: cycle_of(entry),
+    })
 }
 
 /// The piece, where nothing was kept, or else what was kept and as much of the piece as there is room for.

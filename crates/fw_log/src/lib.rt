@@ -6,6 +6,8 @@ mod change_tests;
 mod first;
 #[cfg(test)]
 mod kind_tests;
+mod plain;
+mod plain_reset;
 mod read;
 mod read_body;
 mod read_head;

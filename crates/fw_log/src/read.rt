@@ -1,6 +1,7 @@
 //! A reader of logs.
 
-ghost use Rattle.std.specs.Prelude.{ℕ, ◌≡◌, ◌≤◌, ◌<◌, ◌+◌, ◌-◌, ◌*◌, ◌^◌, ◌++◌, ◌∷◌, [], length, take, drop, IfSome, IfNone, IfOk, Some, None, Ok, Err, List};
+ghost use Rattle.std.specs.Prelude.{ℕ, ◌≡◌, ◌≤◌, ◌<◌, ◌+◌, ◌-◌, ◌*◌, ◌^◌, ◌++◌, ◌∷◌, [], List, length, take, drop};
+ghost use Rattle.std.specs.Prelude.{IfSome, IfNone, IfOk, Some, None, Ok, Err, false};
 ghost use Rattle.std.specs.Result.{result_err};
 ghost use Rattle.fw_entry.specs.Log.{is_end, entry_bytes, LogOpens};
 ghost use Rattle.fw_log.specs.Stands.{position};
@@ -8,10 +9,12 @@ ghost use Rattle.fw_log.specs.Reading.{IsPending};
 ghost use Rattle.fw_log.specs.Reader.{State, total, with_bytes, FindsIn};
 ghost use Rattle.fw_log.specs.Reader.{EndsEntry, EndsNothing, ShowsFault, Feeds, Counts, bytes_given, finish_of};
 ghost use Rattle.fw_log.specs.History.{stand_after, HasRead, ReadsOn, GivesNext, Finishes};
+ghost use Rattle.fw_log.specs.Passing.{CountsUp, PassesOn};
 ghost use Rattle.fw_log.specs.declared.LogFault.{LogFault};
 ghost use Rattle.fw_entry.specs.declared.entry.Timed.{Timed};
 
-use crate::first::{Found, at_hand, first_entry};
+use crate::codes::kind;
+use crate::first::{Found, Passed, at_hand, first_entry, plain_entry};
 use crate::stand::{Stand, skip};
 use crate::{Entry, LogFault, LogWhy, Room, Timed};
 use fw_words::{Bytes, Data};
@@ -28,6 +31,17 @@ pub struct LogFed<'a> {
     pub entry: Option<Timed<'a>>,
     /// The bytes of that entry, without the header of the log; empty where none ended.
     pub bytes: Data<'a>,
+}
+
+// Where a reader stands behind an entry that ends at this place and is not the end.
+fn going_on(place: u64, last: u64) -> Stand
+    requires { 0 < place }
+    ensures { position result ≡ record { start = place; last = last; ended = false } }
+{
+    let Some(past) = NonZero::<u64>::new(place) else {
+        unreachable!()
+    };
+    Stand::Entries { past, last }
 }
 
 // Where a reader stands behind an entry that ends at this place.
@@ -163,6 +177,36 @@ impl LogReader {
             Some(fault) => Err(fault),
             None => self.feed_fresh(piece, room),
         }
+    }
+
+    // Whether what comes next is an isochronous packet. It is not passed over, so that what was kept of it is not put before
+    // the piece twice.
+    fn meets_iso(&self, piece: &[u8]) -> bool {
+        let taken = self.taken.as_slice();
+        let bytes = if taken.is_empty() { piece } else { taken };
+        bytes.first() == Some(&kind::ISO)
+    }
+
+    /// Takes bytes up to the end of one entry, as `feed` does, and answers how many, where the entry is right at the first look
+    /// and is neither an isochronous packet nor the end. It is judged and not given: a report of the streams has no use for it.
+    /// Where it takes none, `feed` says what comes.
+    pub fn pass(&mut self, piece: &[u8], room: &mut Room) -> Option<usize>
+        requires { self.old.fault ≡ None → total self.old + length piece.now < 2 ^ 64 }
+        ensures kept { IfNone result (self.new ≡ self.old) }
+        ensures fresh { IfSome result (λ n. self.new.fault ≡ None) }
+        ensures counts { IfSome result (CountsUp self.old piece.now self.new) }
+        ensures history { (entries : List Timed) → (bytes : List ℕ) → HasRead entries bytes self.old
+            → IfSome result (λ n. PassesOn entries (bytes ++ take n piece.now) self.new) }
+    {
+        if self.fault.is_some() || self.meets_iso(piece) {
+            return None;
+        }
+        let bytes = at_hand(self.taken.as_slice(), piece, &mut room.bytes);
+        let Passed { end, cycle } = plain_entry(self.stand, bytes)?;
+        let used = end - self.taken.as_slice().len();
+        self.stand = going_on(self.stand.start() + end as u64, cycle);
+        self.taken.clear();
+        Some(used)
     }
 
     // The fault that the input's end is, where it is one.

@@ -12,13 +12,14 @@ ghost use Rattle.fw_log.specs.Reading.{is_kind, is_length};
 ghost use Rattle.fw_log.specs.Bodies.{PacketJudges, ResetJudges, BodyJudges};
 
 use crate::codes::{LINES_525, LINES_625, NO_DEVICE, event, kind, outcome};
+use crate::plain::is_plain_packet;
 use crate::read_reset::read_reset;
 use crate::{BodyFault, BorrowedReset, Entry, EventEntry, OutcomeEntry, ResetEntry, ShownEntry};
-use fw_async::{Fed, Packet, read_packet};
+use fw_async::{Fed, Packet, read_packet, whole_packet};
 use fw_cip::read_iso;
 use fw_words::quadlet_at;
 
-fn outcome_of(body: &[u8]) -> Option<OutcomeEntry>
+pub(crate) fn outcome_of(body: &[u8]) -> Option<OutcomeEntry>
     requires { length body.now ≡ 8 }
     ensures found { IfSome result (λ o. OutcomeFits o × (quads (outcome_quads o) ≡ body.now)) }
     ensures only { (o : OutcomeEntry) → OutcomeFits o → quads (outcome_quads o) ≡ body.now → result ≡ Some o }
@@ -46,7 +47,7 @@ fn is_outcome(code: u8, value: u32) -> bool
         && (value == 0 || (code != outcome::BROKEN && code != outcome::NO_MANAGER))
 }
 
-fn shown_of(body: &[u8]) -> Option<ShownEntry>
+pub(crate) fn shown_of(body: &[u8]) -> Option<ShownEntry>
     requires { length body.now ≡ 8 }
     ensures found { IfSome result (λ o. ShownFits o × (quads (shown_quads o) ≡ body.now)) }
     ensures only { (o : ShownEntry) → ShownFits o → quads (shown_quads o) ≡ body.now → result ≡ Some o }
@@ -77,7 +78,7 @@ fn is_system(system: u16) -> bool
     system == LINES_525 || system == LINES_625
 }
 
-fn event_of(body: &[u8]) -> Option<EventEntry>
+pub(crate) fn event_of(body: &[u8]) -> Option<EventEntry>
     requires { IsTrue ((length body.now == 4) || (length body.now == 8)) }
     ensures found { IfSome result (λ o. EventFits o × (quads (event_quads o) ≡ body.now)) }
     ensures only { (o : EventEntry) → EventFits o → quads (event_quads o) ≡ body.now → result ≡ Some o }
@@ -116,8 +117,13 @@ fn event_of(body: &[u8]) -> Option<EventEntry>
 }
 
 fn async_of<'a>(body: &'a [u8]) -> Result<Packet<'a>, BodyFault>
+    requires some { 12 ≤ length body.now }
+    requires whole { length body.now % 4 ≡ 0 }
     ensures { PacketJudges body.now result }
 {
+    if is_plain_packet(body) {
+        return Ok(whole_packet(body));
+    }
     match read_packet(body) {
         Ok(fed) => {
             let Fed { used, packet } = fed;

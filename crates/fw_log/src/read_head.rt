@@ -1,8 +1,10 @@
 //! What the bytes of an entry show before its body.
 
-ghost use Rattle.std.specs.Prelude.{ℕ, ◌≡◌, ◌≤◌, ◌<◌, ◌+◌, ◌-◌, ◌*◌, ◌/◌, ◌%◌, ◌^◌, ◌++◌, ◌∷◌, [], length, take, drop, None, Some, ◌==◌, if◌then◌else◌};
+ghost use Rattle.std.specs.Prelude.{ℕ, ◌≡◌, ◌≤◌, ◌<◌, ◌+◌, ◌-◌, ◌*◌, ◌/◌, ◌%◌, ◌^◌, ◌++◌, ◌∷◌, [], length, take, drop};
+ghost use Rattle.std.specs.Prelude.{None, Some, Ok, IfSome, ◌==◌, if◌then◌else◌};
 ghost use Rattle.fw_log.specs.Stands.{position};
 ghost use Rattle.fw_log.specs.Reading.{length_of, cycle_of, is_kind, is_length, entry_fault, header_fault, head_fault, fault_at};
+ghost use Rattle.fw_log.specs.Reader.{Ends};
 
 use crate::stand::{BODY_AT, CYCLE_AT, HEADER_SIZE, LENGTH_AT, Stand, cycle_of, length_of, rest};
 use crate::{LogFault, LogWhy, codes};
@@ -113,6 +115,25 @@ fn after_end(place: u64, bytes: &[u8]) -> Option<LogFault>
         place,
         why: LogWhy::AfterEnd,
     })
+}
+
+/// Where the entry ends that the bytes begin with, behind others, where all of it is there and the parts before its body are
+/// right.
+pub(crate) fn whole_end(stand: Stand, bytes: &[u8]) -> Option<usize>
+    ensures { IfSome result (λ n. Ends (position stand) bytes.now (Ok (Some n))) }
+{
+    let Stand::Entries { last, .. } = stand else {
+        return None;
+    };
+    if bytes.len() < BODY_AT {
+        return None;
+    }
+    let quadlets = length_of(bytes);
+    if !is_kind(bytes[0], bytes[1]) || !is_length(bytes[0], quadlets) || cycle_of(bytes) < last {
+        return None;
+    }
+    let end = BODY_AT + 4 * quadlets;
+    if bytes.len() < end { None } else { Some(end) }
 }
 
 // The first fault that the parts before the body show.

@@ -57,7 +57,7 @@ fn node_of(q: Quadlet) -> NodeRow
 }
 
 // The nodes that the first quadlets are.
-fn nodes_of(bytes: &[u8], count: usize) -> NodeList
+pub(crate) fn nodes_of(bytes: &[u8], count: usize) -> NodeList
     requires few { count ≤ 63 }
     requires there { 4 * count ≤ length bytes.now }
     ensures count { length result ≡ count }
@@ -84,14 +84,14 @@ fn row_fits(r: &NodeRow) -> bool
     r.device < 63 && r.outs <= 31 && r.ins <= 31 && r.kind <= 3
 }
 
-fn rows_fit(rows: &[NodeRow]) -> bool
+pub(crate) fn rows_fit(rows: &[NodeRow]) -> bool
     ensures { IsTrue result ↔ All RowFits rows.now }
 {
     rows.iter().all(|r| row_fits(r))
 }
 
 // Whether each device is at most once among the rows, by a table of those that were met.
-fn are_apart(rows: &[NodeRow]) -> bool
+pub(crate) fn are_apart(rows: &[NodeRow]) -> bool
     ensures { IsTrue result ↔ AreApart rows.now }
 {
     let mut met = [false; 256];
@@ -139,7 +139,8 @@ fn are_ids(ids: &[PhyPacket], count: u8) -> bool
     node == count && next.is_none()
 }
 
-// The fields of a reset are as they must be.
+// The fields of a reset are as they must be. Its loops are for resets alone, and stay out of the loop over all entries.
+#[inline(never)]
 fn reset_fits(r: &ResetEntry) -> bool
     requires { ResetShape r.now }
     ensures { IsTrue result ↔ ResetFits r.now }
@@ -155,7 +156,7 @@ fn reset_fits(r: &ResetEntry) -> bool
 }
 
 // How many nodes the body names.
-fn count_of(body: &[u8]) -> usize
+pub(crate) fn count_of(body: &[u8]) -> usize
     requires { 8 ≤ length body.now }
     ensures value { result ≡ count_of body.now }
     ensures small { result < 256 }
@@ -163,7 +164,7 @@ fn count_of(body: &[u8]) -> usize
     quadlet_at(body, 4).field(24, 31) as usize
 }
 
-fn has_nodes(body: &[u8]) -> bool
+pub(crate) fn has_nodes(body: &[u8]) -> bool
     requires { 8 ≤ length body.now }
     ensures { result ≡ has_nodes body.now }
 {

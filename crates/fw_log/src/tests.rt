@@ -63,7 +63,36 @@ fn through(
     reader.finish()
 }
 
-// What becomes of a log, at this size of pieces.
+// Feeds what cannot be passed over of the bytes, in pieces of this size, ends the input, and answers in how many calls some
+// bytes were fed.
+fn passed_over(
+    bytes: &[u8],
+    size: usize,
+    reader: &mut LogReader,
+    room: &mut Room,
+) -> Result<usize, LogFault>
+    requires few { length bytes.now < 2 ^ 32 }
+    requires begun { total reader.old ≡ 0 }
+{
+    let mut at = 0;
+    let mut fed: usize = 0;
+    for _ in 0..2 * bytes.len() {
+        if at >= bytes.len() {
+            break;
+        }
+        let piece = &bytes[at..at + size.min(bytes.len() - at)];
+        if let Some(used) = reader.pass(piece, room) {
+            at += used;
+        } else {
+            at += reader.feed(piece, room)?.used;
+            fed = fed.saturating_add(1);
+        }
+    }
+    reader.finish()?;
+    Ok(fed)
+}
+
+// What becomes of a log, at this size of pieces, whether what can be passed over is passed over or read.
 pub(crate) fn outcome(
     rt: &impl Abort,
     alloc: Global,
@@ -76,7 +105,11 @@ pub(crate) fn outcome(
     let mut room = Room::new(alloc).expect(rt, "room for an entry");
     let mut written = EntryRoom::new(alloc).expect(rt, "room for its bytes");
     let mut sink = MemSink::new(alloc, bytes.len(), Vec::new(alloc)).expect(rt, "room for a log");
-    through(bytes, size, &mut reader, &mut room, &mut written, &mut sink)
+    let read = through(bytes, size, &mut reader, &mut room, &mut written, &mut sink);
+    let mut reader = LogReader::new(alloc).expect(rt, "room for a second reader");
+    let passed = passed_over(bytes, size, &mut reader, &mut room);
+    assert_eq!(rt; passed.map(|_| ()), read);
+    read
 }
 
 // Reads a log in pieces of three sizes, and writes what was read.
@@ -111,6 +144,28 @@ fn a_log_that_is_read_is_written_again(rt: HostRuntime) -> Result<(), Fail> {
         let log = hex::decode(rt.alloc(), text)?;
         assert!(rt; log.len() < 100_000);
         written_again(&rt, rt.alloc(), &log)?;
+    }
+    Ok(())
+}
+
+// The first entry stands behind the header, and the end and isochronous packets are not passed over.
+#[test]
+fn what_is_passed_over(rt: HostRuntime) -> Result<(), Fail> {
+    for (text, fed) in [
+        (ONE_DECK_BROADCAST, 2),
+        (JOINED_IN_THE_MIDDLE, 2),
+        (TAPE_TIME_CODE, 2),
+        (ABSENT_DEVICE, 2),
+        (SECOND_OVER_ENDS_THE_FLOW, 3),
+    ] {
+        let log = hex::decode(rt.alloc(), text)?;
+        assert!(rt; log.len() < 100_000);
+        let mut reader = LogReader::new(rt.alloc())?;
+        let mut room = Room::new(rt.alloc())?;
+        assert_eq!(rt;
+            passed_over(&log, log.len(), &mut reader, &mut room),
+            Ok(fed)
+        );
     }
     Ok(())
 }

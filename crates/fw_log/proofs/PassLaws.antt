@@ -1,0 +1,135 @@
+-- Entries that are passed over.
+use Rattle.std.proofs.Common.{◌≡◌, ℕ, ◌+◌, ◌-◌, ◌≤◌, ◌<◌, List, [], ◌++◌, get_or, length, take, drop, Bool, false, Option, Some, None, Ok, Result}
+use Rattle.std.proofs.Common.{IfSome, IsSome, refl, ap, sym, subst, ◌∙◌, arith}
+use Rattle.std.specs.Option.{is_some}
+use Rattle.fw_async.specs.Async.{AreBytes}
+use Rattle.fw_async.specs.Reader.{IsPacket}
+use Rattle.fw_entry.specs.Log.{quads, event_quads, outcome_quads, shown_quads, EventFits, OutcomeFits, ShownFits, entry_bytes, is_end}
+use Rattle.fw_entry.specs.declared.entry.Entry.{Entry}
+use Rattle.fw_entry.specs.declared.entry.Entry.TheVariants.{Reset, Async, Iso, Event, Outcome, Shown, End}
+use Rattle.fw_entry.specs.declared.entry.EventEntry.{EventEntry}
+use Rattle.fw_entry.specs.declared.entry.OutcomeEntry.{OutcomeEntry}
+use Rattle.fw_entry.specs.declared.entry.ShownEntry.{ShownEntry}
+use Rattle.fw_entry.specs.declared.entry.Timed.{Timed}
+use Rattle.fw_log.specs.Plain.{IsReset}
+use Rattle.fw_log.specs.Passing.{IsPassed, IsPlain, PassesFirst, CountsUp, PassesOn}
+use Rattle.fw_log.specs.Reading.{cycle_of, skip, IsComplete, IsPending}
+use Rattle.fw_log.specs.Reader.{State, HoldsPending, EndsEntry, Ends, Joins, Feeds, after}
+use Rattle.fw_log.specs.History.{HasRead}
+use Rattle.fw_log.specs.Stands.{Position}
+use Rattle.fw_log.specs.declared.LogFault.{LogFault}
+use Rattle.fw_log.specs.declared.first.Found.{Found}
+use Rattle.fw_log.specs.declared.first.Passed.{Passed}
+use Rattle.fw_log.specs.declared.read.LogFed.{LogFed}
+use Rattle.fw_log.proofs.ByteLaws.{are_bytes_part}
+use Rattle.fw_log.proofs.EntryLaws.{complete_ok}
+use Rattle.fw_log.proofs.ExactLaws.{counts}
+use Rattle.fw_log.proofs.FeedLaws.{pending_of}
+use Rattle.fw_log.proofs.FindLaws.{found_in, kept_entry, same_state, same_stand}
+use Rattle.fw_log.proofs.HistoryLaws.{reads_on}
+
+-- bodies by their kinds
+pub plain_reset : (k : ℕ) (bytes : List ℕ) → k ≡ 1 → IsReset bytes → IsPlain k bytes
+plain_reset k bytes e h = record { entry = Reset h.reset; is = record { fits = h.fits; kind = sym e; same = h.same }; passed = tt }
+
+pub plain_async : (k : ℕ) (bytes : List ℕ) → k ≡ 2 → IsPacket bytes → IsPlain k bytes
+plain_async k bytes e h = record { entry = Async h.packet; is = record { fits = h.spells.fits; kind = sym e; same = h.spells.same }; passed = tt }
+
+pub plain_event : (k : ℕ) (bytes : List ℕ) (r : Option EventEntry)
+    → k ≡ 4 → IfSome r (λ o. EventFits o × (quads (event_quads o) ≡ bytes)) → IsSome r → IsPlain k bytes
+plain_event k bytes None e h some = cc some
+plain_event k bytes (Some o) e h some = record { entry = Event o; is = record { fits = h.0; kind = sym e; same = h.1 }; passed = tt }
+
+pub plain_outcome : (k : ℕ) (bytes : List ℕ) (r : Option OutcomeEntry)
+    → k ≡ 5 → IfSome r (λ o. OutcomeFits o × (quads (outcome_quads o) ≡ bytes)) → IsSome r → IsPlain k bytes
+plain_outcome k bytes None e h some = cc some
+plain_outcome k bytes (Some o) e h some = record { entry = Outcome o; is = record { fits = h.0; kind = sym e; same = h.1 }; passed = tt }
+
+pub plain_shown : (k : ℕ) (bytes : List ℕ) (r : Option ShownEntry)
+    → k ≡ 6 → IfSome r (λ o. ShownFits o × (quads (shown_quads o) ≡ bytes)) → IsSome r → IsPlain k bytes
+plain_shown k bytes None e h some = cc some
+plain_shown k bytes (Some o) e h some = record { entry = Shown o; is = record { fits = h.0; kind = sym e; same = h.1 }; passed = tt }
+
+-- the entry that a whole front of bytes is
+pub passes_first : (s : Position) (bytes e more : List ℕ) (n cycle : ℕ) → AreBytes bytes → Ends s bytes (Ok (Some n))
+    → e ≡ drop (skip s.start) (take n bytes) → more ≡ drop 12 e → IsComplete s (take n bytes)
+    → cycle ≡ cycle_of e → IsPlain (get_or e 0 0) more → PassesFirst s bytes (record { end = n; cycle = cycle })
+passes_first s bytes e more n cycle fit ends is after w c plain = record {
+  entry = record { cycle = cycle; what = plain.entry };
+  passed = plain.passed;
+  cycle = refl;
+  within = ends.2;
+  spells = complete_ok s (take n bytes) e more (record { cycle = cycle; what = plain.entry }) (are_bytes_part bytes n 0 fit) is after w c plain.is;
+}
+
+not_end : (e : Entry) → IsPassed e → is_end e ≡ false
+not_end (Reset r) h = refl
+not_end (Async p) h = refl
+not_end (Iso p) h = absurd h
+not_end (Event e) h = refl
+not_end (Outcome o) h = refl
+not_end (Shown s) h = refl
+not_end End h = absurd h
+
+-- the entry that is passed over ends in the piece
+pub record EndsPassed (s : Position) (old piece : List ℕ) (p : Passed) : Type 0 where
+  pub entry : Timed
+  pub passed : IsPassed entry.what
+  pub cycle : entry.cycle ≡ p.cycle
+  pub past : length old ≤ p.end
+  pub some : 0 < p.end
+  pub ends : EndsEntry s old piece (p.end - length old) entry
+  pub size : length (old ++ take (p.end - length old) piece) ≡ p.end
+
+ends_at : (s t : Position) (old kept piece bytes : List ℕ) (p : Passed) → IsPending s old → t ≡ s → kept ≡ old
+    → Joins kept piece bytes → PassesFirst t bytes p → EndsPassed s old piece p
+ends_at s t old kept piece bytes p pending e g j h =
+    let found : Found = record { end = p.end; bytes = entry_bytes h.entry; entry = h.entry } in
+    let k = kept_entry s old piece found pending (found_in s t old kept piece bytes (Ok (Some found)) e g j (h.within, h.spells, refl)) in
+    record { entry = h.entry; passed = h.passed; cycle = h.cycle; past = k.past; some = k.some; ends = k.ends; size = k.size }
+
+-- of a reader without a fault, in the bytes at hand
+pub ends_passed : (r : State) (stand : Position) (taken kept piece bytes : List ℕ) (fault : Option LogFault) (p : Passed)
+    → record { stand = stand; taken = taken; fault = fault } ≡ r → HoldsPending stand taken fault → fault ≡ None → kept ≡ taken
+    → Joins kept piece bytes → PassesFirst stand bytes p → EndsPassed r.stand r.taken piece p
+ends_passed r stand taken kept piece bytes fault p is holds clear same j h =
+    let P : State → Type 0 = λ x. IsPending x.stand x.taken in
+    ends_at r.stand stand r.taken kept piece bytes p (subst P is (pending_of stand taken fault clear holds)) (ap (λ (x : State). x.stand) is)
+    (same ∙ ap (λ (x : State). x.taken) is) j h
+
+-- what the reader gives where the entry is not passed over
+abbrev pub fed : ℕ → Timed → Result LogFed LogFault
+fed used t = Ok (record { used = used; entry = Some t; bytes = entry_bytes t })
+
+-- the reader stands behind it
+pub behind_passed : (r : State) (piece : List ℕ) (p : Passed) (e : EndsPassed r.stand r.taken piece p) (n start : ℕ) (stand : Position) (taken : List ℕ)
+    (fault : Option LogFault) → n ≡ length r.taken → start ≡ r.stand.start
+    → stand ≡ record { start = start + p.end; last = p.cycle; ended = false } → taken ≡ [] → fault ≡ None
+    → Feeds r.stand r.taken piece (fed (p.end - n) e.entry) (record { stand = stand; taken = taken; fault = fault })
+behind_passed r piece p e n start stand taken fault same from stands none clear =
+    let P : ℕ → Type 0 = λ m. EndsEntry r.stand r.taken piece (p.end - m) e.entry in
+    let cut : length (r.taken ++ take (p.end - n) piece) ≡ p.end = ap (λ (m : ℕ). length (r.taken ++ take (p.end - m) piece)) same ∙ e.size in
+    let last : record { start = start + p.end; last = p.cycle; ended = false } ≡ (after r.stand (r.taken ++ take (p.end - n) piece) e.entry).stand =
+    ap (λ c. let x : Position = record { start = start + p.end; last = c; ended = false } in x) (sym e.cycle)
+    ∙ same_stand (start + p.end) (r.stand.start + length (r.taken ++ take (p.end - n) piece)) e.entry.cycle false (is_end e.entry.what)
+    (omega (arith, from, cut))
+    (sym (not_end e.entry.what e.passed)) in
+    ((subst P (sym same) e.ends, same_state stand _ taken [] fault None (stands ∙ last) none clear), refl)
+
+pub counts_up : (r new : State) (stand : Position) (taken piece : List ℕ) (fault : Option LogFault) (used : ℕ) (t : Timed)
+    → record { stand = stand; taken = taken; fault = fault } ≡ r → HoldsPending stand taken fault → fault ≡ None → Feeds r.stand r.taken piece (fed used t) new
+    → CountsUp r piece new used
+counts_up r new stand taken piece fault used t is holds clear f =
+    let P : State → Type 0 = λ x. IsPending x.stand x.taken in
+    let c = counts r piece (fed used t) new f (subst P is (pending_of stand taken fault clear holds)) in
+    record { total = c.0; within = c.1; some = c.2 }
+
+pub passes_on : (r new : State) (piece : List ℕ) (p : Passed) (e : EndsPassed r.stand r.taken piece p) (used : ℕ)
+    → Feeds r.stand r.taken piece (fed used e.entry) new
+    → (entries : List Timed) (bytes : List ℕ) → HasRead entries bytes r → PassesOn entries (bytes ++ take used piece) new
+passes_on r new piece p e used f entries bytes h =
+    record { entry = e.entry; passed = e.passed; read = reads_on entries bytes piece r new (fed used e.entry) h f }
+
+pub without_fault : (o : Option LogFault) (b : Bool) → b ≡ is_some o → b ≡ false → o ≡ None
+without_fault None b e h = refl
+without_fault (Some f) b e h = cc (e, h)

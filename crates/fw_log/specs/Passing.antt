@@ -1,0 +1,47 @@
+-- Entries that are passed over.
+use Rattle.std.specs.Prelude.{◌≡◌, ℕ, ◌+◌, ◌≤◌, ◌<◌, List, [], ◌∷◌, ◌++◌, length, take}
+use Rattle.fw_entry.specs.declared.entry.Entry.{Entry}
+use Rattle.fw_entry.specs.declared.entry.Entry.TheVariants.{Reset, Async, Iso, Event, Outcome, Shown, End}
+use Rattle.fw_entry.specs.declared.entry.Timed.{Timed}
+use Rattle.fw_log.specs.Bodies.{IsBody}
+use Rattle.fw_log.specs.Reading.{Spells}
+use Rattle.fw_log.specs.Reader.{State, total}
+use Rattle.fw_log.specs.History.{HasRead}
+use Rattle.fw_log.specs.Stands.{Position}
+use Rattle.fw_log.specs.declared.first.Passed.{Passed}
+
+-- an entry that may be passed over: it is of no stream, and others may follow
+abbrev pub IsPassed : Entry → Type 0
+IsPassed (Reset r) = Unit {0}
+IsPassed (Async p) = Unit {0}
+IsPassed (Iso p) = ⊥
+IsPassed (Event e) = Unit {0}
+IsPassed (Outcome o) = Unit {0}
+IsPassed (Shown s) = Unit {0}
+IsPassed End = ⊥
+
+-- the bytes are the body of some entry of this kind that may be passed over
+pub record IsPlain (kind : ℕ) (bytes : List ℕ) : Type 0 where
+  pub entry : Entry
+  pub is : IsBody kind bytes entry
+  pub passed : IsPassed entry
+
+-- the bytes begin with some entry that may be passed over, with this end and cycle
+pub record PassesFirst (s : Position) (bytes : List ℕ) (p : Passed) : Type 0 where
+  pub entry : Timed
+  pub passed : IsPassed entry.what
+  pub cycle : entry.cycle ≡ p.cycle
+  pub within : p.end ≤ length bytes
+  pub spells : Spells s entry (take p.end bytes)
+
+-- so many bytes of a piece were taken, and some where there are any
+pub record CountsUp (old : State) (piece : List ℕ) (new : State) (used : ℕ) : Type 0 where
+  pub total : total new ≡ total old + used
+  pub within : used ≤ length piece
+  pub some : 0 < length piece → 0 < used
+
+-- one entry more was read, and it may be passed over
+pub record PassesOn (entries : List Timed) (bytes : List ℕ) (new : State) : Type 0 where
+  pub entry : Timed
+  pub passed : IsPassed entry.what
+  pub read : HasRead (entries ++ entry ∷ []) bytes new
