@@ -12,5 +12,6 @@ pub mod PathLaws
 pub mod NumberingLaws
 pub mod ParentLaws
 pub mod TopologyLaws
+pub mod PlacedLaws
 pub mod TreeLaws
 pub mod StepLaws

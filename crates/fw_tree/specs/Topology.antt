@@ -6,6 +6,7 @@ use Rattle.fw_tree.specs.declared.TreeFault.{TreeFault}
 use Rattle.fw_tree.specs.declared.TreeFault.TheVariants.{TooMany, NoPort, PortUsed, Loop}
 use Rattle.fw_tree.specs.Cables.{Peers, peer, Walk, InRange, IsClosed, is_seen}
 use Rattle.fw_tree.specs.Forest.{HasNoLoop, AreCables}
+use Rattle.fw_tree.specs.SelfIds.{facts_at}
 
 -- the facts of each device, and the cable at each port
 pub record Topology : Type 0 where
@@ -85,6 +86,10 @@ pub record IsSound (p : Topology) : Type 0 where
   pub cables : AreCables p.cables
   pub none : HasNoLoop p.cables
   pub placed : (d q : ℕ) (e : End) → peer p.cables d q ≡ Some e → q < ports_of p.devices d
+
+-- cables stand only at ports that their devices have
+abbrev pub ArePlaced : List PhyFacts → Peers → Type 0
+ArePlaced facts g = (d p : ℕ) (e : End) → peer g d p ≡ Some e → p < (facts_at facts d).ports
 
 -- the devices that were seen hold a and not b, and no cable leads out of them
 pub record Separates (g : Peers) (a b : ℕ) : Type 0 where

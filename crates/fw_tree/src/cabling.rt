@@ -92,7 +92,7 @@ impl Cabling {
         if are_used(&self.cables, a, b) {
             return Err(TreeFault::PortUsed);
         }
-        if are_connected(&self.cables, a.device, b.device) {
+        if are_connected(&self.cables, &self.facts, a.device, b.device) {
             return Err(TreeFault::Loop);
         }
         Ok(())
@@ -109,6 +109,15 @@ impl Cabling {
         Ok(())
     }
 
+    /// Joins two ports of which `check` answers no fault, without a look at them.
+    pub fn join_free(&mut self, a: End, b: End)
+        requires { (f : TreeFault) → IsFault self.old a b f → ⊥ }
+        ensures joined { IsJoined self.old self.new a b }
+        ensures made { Made self.new }
+    {
+        plug(&mut self.cables, a, b);
+    }
+
     /// Identifies the tree and numbers the nodes of the bus, the part that is connected with device 0 (own). A device
     /// is there.
     ///
@@ -122,10 +131,10 @@ impl Cabling {
         ensures only { (n : Numbering) → IsNumbering self.now n → IsSame result n }
         ensures made { Made self.now }
     {
-        let on = bus_of(&self.cables);
-        let parents = parents(&self.cables);
+        let on = bus_of(&self.cables, &self.facts);
+        let parents = parents(&self.cables, &self.facts);
         let root = find_root(&self.cables, &on, &parents);
-        let number = numbers_from(&self.cables, &parents, root);
+        let number = numbers_from(&self.cables, &self.facts, &parents, root);
         Numbering {
             root,
             count: numbered(&number),

@@ -4,8 +4,11 @@ ghost use Rattle.fw_tree.specs.Forest.{AreCables};
 ghost use Rattle.fw_tree.specs.Parents.{IsParent, parent_at};
 ghost use Rattle.fw_tree.specs.Numbers.{IsChild, counted, has_number, number_at, shown};
 ghost use Rattle.fw_tree.specs.Branch.{Branch};
+ghost use Rattle.fw_tree.specs.Topology.{ArePlaced};
 
+use crate::PhyFacts;
 use crate::facts::AllCables;
+use crate::ports::cables_of;
 use crate::rounds::Parent;
 
 // The device that hangs on another at a port.
@@ -44,19 +47,21 @@ pub fn numbered(number: &[Option<u8>; 63]) -> u8
 // Numbers the branch that hangs on a device, and then the device.
 fn number_branch(
     g: &AllCables,
+    facts: &[PhyFacts; 63],
     parents: &[Option<Parent>; 63],
     d: u8,
     number: &mut [Option<u8>; 63],
 )
     requires range { InRange g.now }
     requires cables { AreCables g.now }
+    requires placed { ArePlaced facts.now g.now }
     requires parents { (k : ℕ) → k < 63 → IsParent g.now k (parent_at parents.now k) }
     requires device { d < 63 }
     ensures { (root : ℕ) (on : ℕ → Bool) (paths : ℕ → List ℕ) → Branch g.now parents.now root on paths d number.old number.new }
 {
-    for p in 0..27 {
+    for p in 0..cables_of(g, facts, usize::from(d)).len() {
         match child_at(g, parents, d, p) {
-            Some(child) => number_branch(g, parents, child, number),
+            Some(child) => number_branch(g, facts, parents, child, number),
             None => {}
         }
     }
@@ -64,15 +69,21 @@ fn number_branch(
 }
 
 /// The numbers of all devices that hang together with the root.
-pub fn numbers_from(g: &AllCables, parents: &[Option<Parent>; 63], root: u8) -> [Option<u8>; 63]
+pub fn numbers_from(
+    g: &AllCables,
+    facts: &[PhyFacts; 63],
+    parents: &[Option<Parent>; 63],
+    root: u8,
+) -> [Option<u8>; 63]
     requires range { InRange g.now }
     requires cables { AreCables g.now }
+    requires placed { ArePlaced facts.now g.now }
     requires parents { (k : ℕ) → k < 63 → IsParent g.now k (parent_at parents.now k) }
     requires device { root < 63 }
     ensures { (on : ℕ → Bool) (paths : ℕ → List ℕ) → Branch g.now parents.now root on paths root (replicate 63 None) result }
 {
     let mut number = [None; 63];
-    number_branch(g, parents, root, &mut number);
+    number_branch(g, facts, parents, root, &mut number);
     number
 }
 

@@ -1,6 +1,7 @@
-ghost use Rattle.std.specs.Prelude.{◌≡◌, ◌<◌, ◌≤◌, ◌&&◌, nat_lt, true, take};
-ghost use Rattle.fw_tree.specs.Cables.{peer};
-ghost use Rattle.fw_tree.specs.Topology.{AreDevices, ports_of, are_used, with_cable};
+ghost use Rattle.std.specs.Prelude.{◌≡◌, ◌<◌, ◌≤◌, ◌&&◌, nat_lt, true, take, ℕ, Bool, None, length, slice_index_or, count_by};
+ghost use Rattle.fw_tree.specs.Cables.{InRange, peer};
+ghost use Rattle.fw_tree.specs.Rounds.{is_open, open_count};
+ghost use Rattle.fw_tree.specs.Topology.{AreDevices, ArePlaced, ports_of, are_used, with_cable};
 
 use crate::facts::AllCables;
 use crate::{End, PhyFacts};
@@ -31,6 +32,24 @@ pub fn have_ports(facts: &[PhyFacts; 63], count: u8, a: End, b: End) -> bool
     ensures has { result ≡ (nat_lt a.port (ports_of (take count facts.now) a.device) && nat_lt b.port (ports_of (take count facts.now) b.device)) }
 {
     a.port < ports_at(facts, count, a.device) && b.port < ports_at(facts, count, b.device)
+}
+
+/// What is at each port of a device, or of none where there is no such device: behind these no cable is.
+pub fn cables_of<'a>(g: &'a AllCables, facts: &[PhyFacts; 63], d: usize) -> &'a [Option<End>]
+    requires range { InRange g.now }
+    requires placed { ArePlaced facts.now g.now }
+    requires device { d < 63 }
+    ensures ports { (p : ℕ) → slice_index_or result.now p None ≡ peer g.now d p }
+    ensures open { (stays : ℕ → Bool) → count_by (is_open stays) result.now ≡ open_count g.now stays d }
+    ensures most { length result.now ≤ 27 }
+{
+    let row = &g[d];
+    let ports = usize::from(facts[d].ports);
+    if ports < row.len() {
+        &row[..ports]
+    } else {
+        row
+    }
 }
 
 // Which cable is at a port.

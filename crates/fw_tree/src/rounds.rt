@@ -1,11 +1,13 @@
-ghost use Rattle.std.specs.Prelude.{◌≡◌, ◌<◌, ◌==◌, ◌&&◌, not, ℕ, true, false, None, IfSome, IfNone, count_by, nat_lt, slice_index_or, slice_set};
+ghost use Rattle.std.specs.Prelude.{◌≡◌, ◌<◌, ◌≤◌, ◌==◌, ◌&&◌, not, ℕ, true, false, None, IfSome, IfNone, count_by, length, nat_lt, slice_index_or, slice_set};
 ghost use Rattle.fw_tree.specs.Cables.{InRange, is_seen};
 ghost use Rattle.fw_tree.specs.Rounds.{is_open, open_count, WinsTie, LeavesBy};
 ghost use Rattle.fw_tree.specs.Forest.{AreCables};
 ghost use Rattle.fw_tree.specs.Parents.{Notes, IsParent, Settled, parent_at, staying};
+ghost use Rattle.fw_tree.specs.Topology.{ArePlaced};
 
-use crate::End;
-use crate::facts::{AllCables, DeviceCables};
+use crate::facts::AllCables;
+use crate::ports::cables_of;
+use crate::{End, PhyFacts};
 
 // A cable of a device: its port, and the far end.
 #[derive(Clone, Copy, Debug)]
@@ -33,7 +35,7 @@ fn is_open(port: &Option<End>, stays: &[bool; 63]) -> bool
 }
 
 // How many cables of a device lead to devices that stay.
-fn open_count(ports: &DeviceCables, stays: &[bool; 63]) -> usize
+fn open_count(ports: &[Option<End>], stays: &[bool; 63]) -> usize
     requires { (p : ℕ) → IfSome (slice_index_or ports.now p None) (λ e. e.device < 63) }
     ensures { result ≡ count_by (is_open (is_seen stays.now)) ports.now }
 {
@@ -47,14 +49,15 @@ fn open_count(ports: &DeviceCables, stays: &[bool; 63]) -> usize
 }
 
 // The first cable that leads to a device that stays.
-fn open_cable(ports: &DeviceCables, stays: &[bool; 63]) -> Option<Cable>
-    requires { (p : ℕ) → IfSome (slice_index_or ports.now p None) (λ e. e.device < 63) }
-    ensures none { IfNone result ((p : ℕ) → p < 27 → is_open (is_seen stays.now) (slice_index_or ports.now p None) ≡ false) }
+fn open_cable(ports: &[Option<End>], stays: &[bool; 63]) -> Option<Cable>
+    requires most { length ports.now ≤ 27 }
+    requires ends { (p : ℕ) → IfSome (slice_index_or ports.now p None) (λ e. e.device < 63) }
+    ensures none { IfNone result ((p : ℕ) → is_open (is_seen stays.now) (slice_index_or ports.now p None) ≡ false) }
     ensures port { IfSome result (λ c. c.port < 27) }
     ensures end { IfSome result (λ c. slice_index_or ports.now c.port None ≡ Some c.end) }
     ensures stays { IfSome result (λ c. is_seen stays.now c.end.device ≡ true) }
 {
-    for p in 0..27 {
+    for p in 0..ports.len() {
         if let Some(end) = ports[p] {
             if stays[end.device as usize] {
                 return Some(Cable { port: p as u8, end });
@@ -65,26 +68,35 @@ fn open_cable(ports: &DeviceCables, stays: &[bool; 63]) -> Option<Cable>
 }
 
 // The device leaves in a round at whose start these stay.
-fn leaves(ports: &DeviceCables, d: usize, stays: &[bool; 63]) -> bool
+fn leaves(g: &AllCables, facts: &[PhyFacts; 63], d: usize, stays: &[bool; 63]) -> bool
+    requires range { InRange g.now }
+    requires placed { ArePlaced facts.now g.now }
     requires device { d < 63 }
-    requires ends { (p : ℕ) → IfSome (slice_index_or ports.now p None) (λ e. e.device < 63) }
-    ensures { result ≡ (is_seen stays.now d && (count_by (is_open (is_seen stays.now)) ports.now == 1)) }
+    ensures { result ≡ (is_seen stays.now d && (open_count g.now (is_seen stays.now) d == 1)) }
 {
-    stays[d] && open_count(ports, stays) == 1
+    stays[d] && open_count(cables_of(g, facts, d), stays) == 1
 }
 
 // The other device leaves too, and it was declared before this one.
-fn wins_over(ports: &DeviceCables, other: usize, d: usize, stays: &[bool; 63]) -> bool
+fn wins_over(
+    g: &AllCables,
+    facts: &[PhyFacts; 63],
+    other: usize,
+    d: usize,
+    stays: &[bool; 63],
+) -> bool
+    requires range { InRange g.now }
+    requires placed { ArePlaced facts.now g.now }
     requires device { other < 63 }
-    requires ends { (p : ℕ) → IfSome (slice_index_or ports.now p None) (λ e. e.device < 63) }
-    ensures { result ≡ (is_seen stays.now other && (count_by (is_open (is_seen stays.now)) ports.now == 1) && nat_lt other d) }
+    ensures { result ≡ (is_seen stays.now other && (open_count g.now (is_seen stays.now) other == 1) && nat_lt other d) }
 {
-    leaves(ports, other, stays) && other < d
+    leaves(g, facts, other, stays) && other < d
 }
 
 // The port of the parent of a device that leaves: none for the later one of two that leave towards each other.
-fn parent_port(g: &AllCables, d: usize, stays: &[bool; 63]) -> Option<u8>
+fn parent_port(g: &AllCables, facts: &[PhyFacts; 63], d: usize, stays: &[bool; 63]) -> Option<u8>
     requires range { InRange g.now }
+    requires placed { ArePlaced facts.now g.now }
     requires cables { AreCables g.now }
     requires device { d < 63 }
     requires still { is_seen stays.now d ≡ true }
@@ -94,10 +106,10 @@ fn parent_port(g: &AllCables, d: usize, stays: &[bool; 63]) -> Option<u8>
     ensures leaves { IfSome result (λ p. LeavesBy g.now (is_seen stays.now) d p) }
     ensures below { IfSome result (λ p. WinsTie g.now (is_seen stays.now) d → ⊥) }
 {
-    match open_cable(&g[d], stays) {
+    match open_cable(cables_of(g, facts, d), stays) {
         Some(cable) => {
             let other = cable.end.device as usize;
-            if wins_over(&g[other], other, d, stays) {
+            if wins_over(g, facts, other, d, stays) {
                 None
             } else {
                 Some(cable.port)
@@ -108,21 +120,29 @@ fn parent_port(g: &AllCables, d: usize, stays: &[bool; 63]) -> Option<u8>
 }
 
 // What is noted of a device that leaves in a round.
-fn note(g: &AllCables, d: usize, round: u8, stays: &[bool; 63]) -> Option<Parent>
+fn note(
+    g: &AllCables,
+    facts: &[PhyFacts; 63],
+    d: usize,
+    round: u8,
+    stays: &[bool; 63],
+) -> Option<Parent>
     requires range { InRange g.now }
+    requires placed { ArePlaced facts.now g.now }
     requires cables { AreCables g.now }
     requires device { d < 63 }
     requires still { is_seen stays.now d ≡ true }
     requires one { open_count g.now (is_seen stays.now) d ≡ 1 }
     ensures { Notes g.now (is_seen stays.now) round d result }
 {
-    let port = parent_port(g, d, stays)?;
+    let port = parent_port(g, facts, d, stays)?;
     Some(Parent { port, round })
 }
 
 // Lets a device leave where it has one open cable, and says whether it left.
 fn leave_one(
     g: &AllCables,
+    facts: &[PhyFacts; 63],
     d: usize,
     round: u8,
     before: &[bool; 63],
@@ -131,6 +151,7 @@ fn leave_one(
 ) -> bool
     requires range { InRange g.now }
     requires cables { AreCables g.now }
+    requires placed { ArePlaced facts.now g.now }
     requires device { d < 63 }
     ensures left { result ≡ (is_seen before.now d && (open_count g.now (is_seen before.now) d == 1)) }
     ensures gone { result ≡ true → stays.new ≡ slice_set stays.old d false }
@@ -139,9 +160,9 @@ fn leave_one(
     ensures same { result ≡ false → stays.new ≡ stays.old }
     ensures same_parents { result ≡ false → parents.new ≡ parents.old }
 {
-    let left = leaves(&g[d], d, before);
+    let left = leaves(g, facts, d, before);
     if left {
-        parents[d] = note(g, d, round, before);
+        parents[d] = note(g, facts, d, round, before);
         stays[d] = false;
     }
     left
@@ -150,12 +171,14 @@ fn leave_one(
 // One round: all devices that leave in it leave at once. Says whether any left.
 fn leave(
     g: &AllCables,
+    facts: &[PhyFacts; 63],
     round: u8,
     stays: &mut [bool; 63],
     parents: &mut [Option<Parent>; 63],
 ) -> bool
     requires range { InRange g.now }
     requires cables { AreCables g.now }
+    requires placed { ArePlaced facts.now g.now }
     ensures after { (d : ℕ) → d < 63 → is_seen stays.new d ≡ (is_seen stays.old d && not (open_count g.now (is_seen stays.old) d == 1)) }
     ensures notes { (d : ℕ) → d < 63 → is_seen stays.old d ≡ true → is_seen stays.new d ≡ false → Notes g.now (is_seen stays.old) round d (parent_at parents.new d) }
     ensures others { (d : ℕ) → d < 63 → is_seen stays.new d ≡ is_seen stays.old d → parent_at parents.new d ≡ parent_at parents.old d }
@@ -165,23 +188,24 @@ fn leave(
     let before = *stays;
     let mut changed = false;
     for d in 0..63 {
-        let left = leave_one(g, d, round, &before, stays, parents);
+        let left = leave_one(g, facts, d, round, &before, stays, parents);
         changed |= left;
     }
     changed
 }
 
 /// The parent of each device, after all rounds.
-pub fn parents(g: &AllCables) -> [Option<Parent>; 63]
+pub fn parents(g: &AllCables, facts: &[PhyFacts; 63]) -> [Option<Parent>; 63]
     requires range { InRange g.now }
     requires cables { AreCables g.now }
+    requires placed { ArePlaced facts.now g.now }
     ensures parents { (d : ℕ) → d < 63 → IsParent g.now d (parent_at result d) }
     ensures settled { (r : ℕ) × Settled g.now r }
 {
     let mut stays = [true; 63];
     let mut parents = [None; 63];
     let mut round = 0;
-    while leave(g, round, &mut stays, &mut parents) {
+    while leave(g, facts, round, &mut stays, &mut parents) {
         round += 1;
     }
     parents

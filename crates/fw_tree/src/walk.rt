@@ -1,10 +1,12 @@
 ghost use Rattle.std.specs.Prelude.{◌≡◌, ◌<◌, ◌↔◌, ◌⊎◌, ℕ, [], IsTrue, true, false, None, IfSome, slice_index_or, slice_set};
 ghost use Rattle.fw_tree.specs.Cables.{Walk, InRange, AllReached, IsClosed, is_seen, unseen, Spreads, MarksPeers, AreMarked, LeadsTo};
 ghost use Rattle.fw_tree.specs.Parents.{IsOn};
-ghost use Rattle.fw_tree.specs.Topology.{Separates};
+ghost use Rattle.fw_tree.specs.Forest.{AreCables};
+ghost use Rattle.fw_tree.specs.Topology.{ArePlaced, Separates};
 
-use crate::End;
-use crate::facts::{AllCables, DeviceCables};
+use crate::facts::AllCables;
+use crate::ports::cables_of;
+use crate::{End, PhyFacts};
 
 // Marks a device, and says whether it is new.
 fn mark(seen: &mut [bool; 63], device: u8) -> bool
@@ -33,7 +35,7 @@ fn mark_port(port: &Option<End>, seen: &mut [bool; 63]) -> bool
 }
 
 // Marks what is joined to a device by its ports, and says whether any of it is new.
-fn mark_peers(ports: &DeviceCables, seen: &mut [bool; 63]) -> bool
+fn mark_peers(ports: &[Option<End>], seen: &mut [bool; 63]) -> bool
     requires { (p : ℕ) → IfSome (slice_index_or ports.now p None) (λ e. e.device < 63) }
     ensures marks { MarksPeers ports.now seen.old seen.new }
     ensures marked { AreMarked ports.now seen.new }
@@ -49,8 +51,9 @@ fn mark_peers(ports: &DeviceCables, seen: &mut [bool; 63]) -> bool
 }
 
 // Marks what is joined to a device, where that was seen, and says whether any of it is new.
-fn spread_from(g: &AllCables, d: usize, seen: &mut [bool; 63]) -> bool
+fn spread_from(g: &AllCables, facts: &[PhyFacts; 63], d: usize, seen: &mut [bool; 63]) -> bool
     requires range { InRange g.now }
+    requires placed { ArePlaced facts.now g.now }
     requires device { d < 63 }
     ensures marks { Spreads g.now seen.old seen.new }
     ensures closed { IsTrue (is_seen seen.old d) → AreMarked (slice_index_or g.now d []) seen.new }
@@ -58,22 +61,23 @@ fn spread_from(g: &AllCables, d: usize, seen: &mut [bool; 63]) -> bool
     ensures fewer { result ≡ true → unseen seen.new < unseen seen.old }
 {
     if seen[d] {
-        mark_peers(&g[d], seen)
+        mark_peers(cables_of(g, facts, d), seen)
     } else {
         false
     }
 }
 
 // Marks what is joined to devices that were seen, and says whether any of it is new.
-fn spread(g: &AllCables, seen: &mut [bool; 63]) -> bool
-    requires { InRange g.now }
+fn spread(g: &AllCables, facts: &[PhyFacts; 63], seen: &mut [bool; 63]) -> bool
+    requires range { InRange g.now }
+    requires placed { ArePlaced facts.now g.now }
     ensures marks { Spreads g.now seen.old seen.new }
     ensures same { result ≡ false → (seen.new ≡ seen.old) × IsClosed g.now seen.new }
     ensures fewer { result ≡ true → unseen seen.new < unseen seen.old }
 {
     let mut changed = false;
     for d in 0..63 {
-        let new = spread_from(g, d, seen);
+        let new = spread_from(g, facts, d, seen);
         changed |= new;
     }
     changed
@@ -91,33 +95,38 @@ fn only(a: u8) -> [bool; 63]
 }
 
 /// The devices to which walks of cables lead.
-pub fn reach(g: &AllCables, a: u8) -> [bool; 63]
+pub fn reach(g: &AllCables, facts: &[PhyFacts; 63], a: u8) -> [bool; 63]
     requires range { InRange g.now }
+    requires placed { ArePlaced facts.now g.now }
     requires a { a < 63 }
     ensures reached { AllReached g.now a result }
     ensures closed { IsClosed g.now result }
     ensures first { is_seen result a ≡ true }
 {
     let mut seen = only(a);
-    while spread(g, &mut seen) {}
+    while spread(g, facts, &mut seen) {}
     seen
 }
 
-/// A walk of cables leads from the one device to the other.
-pub fn are_connected(g: &AllCables, a: u8, b: u8) -> bool
+/// A walk of cables leads from the one device to the other. It is sought from the other on, which is mostly the device that
+/// is new.
+pub fn are_connected(g: &AllCables, facts: &[PhyFacts; 63], a: u8, b: u8) -> bool
     requires range { InRange g.now }
+    requires cables { AreCables g.now }
+    requires placed { ArePlaced facts.now g.now }
     requires a { a < 63 }
     requires b { b < 63 }
     ensures walk { IsTrue result ↔ Walk g.now a b }
     ensures apart { result ≡ false → Separates g.now a b }
 {
-    reach(g, a)[b as usize]
+    reach(g, facts, b)[a as usize]
 }
 
 /// The devices of the bus.
-pub fn bus_of(g: &AllCables) -> [bool; 63]
-    requires { InRange g.now }
+pub fn bus_of(g: &AllCables, facts: &[PhyFacts; 63]) -> [bool; 63]
+    requires range { InRange g.now }
+    requires placed { ArePlaced facts.now g.now }
     ensures { IsOn g.now result }
 {
-    reach(g, 0)
+    reach(g, facts, 0)
 }

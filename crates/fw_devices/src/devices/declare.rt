@@ -67,9 +67,6 @@ impl Devices {
         ensures same { self.new ≡ record self.old { topology = self.new.topology } }
     {
         self.bus.current = false;
-        match self.cabling.join(a, b) {
-            Ok(()) => {}
-            Err(_) => unreachable!(),
-        }
+        self.cabling.join_free(a, b);
     }
 }

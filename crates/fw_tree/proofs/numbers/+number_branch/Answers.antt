@@ -1,5 +1,8 @@
-use Rattle.std.proofs.Common.{◌≡◌, ◌<◌, ◌+◌, sym, arith, ℕ, List, Option, subst, length}
+use Rattle.std.proofs.Common.{◌≡◌, ◌<◌, ◌≤◌, ◌+◌, ◌-◌, None, ap, sym, ◌∙◌, arith, ℕ, List, Option, subst, length}
+use Rattle.std.proofs.lemmas.List.{get_or_past}
+use Rattle.fw_tree.specs.Cables.{peer}
 use Rattle.fw_tree.specs.Branch.{Ports}
+use Rattle.fw_tree.proofs.PlacedLaws.{ports_all}
 use Rattle.fw_tree.specs.Numbers.{rank}
 use Rattle.fw_tree.specs.Parents.{parent_at}
 use Rattle.fw_tree.proofs.TreeLaws.{ports_first, ports_child, ports_none, branch_of, child_lower}
@@ -13,7 +16,7 @@ pub number_branch-requires : goal.number_branch-requires
 number_branch-requires t c =
     let lower : rank (parent_at c.args.parents.now c.in-Some.child) < rank (parent_at c.args.parents.now c.args.d) = child_lower c.args.g.now c.args.parents.now c.args.d c.loop-p.p c.in-Some.child c.requires.cables c.requires.parents c.requires.device c.in-Some.ensures.within c.in-Some.ensures.child in
     let falls : rank (parent_at c.args.parents.now c.in-Some.child) < t = omega (arith, c.decreases) in
-    (falls, (c.requires.range, (c.requires.cables, (c.requires.parents, c.in-Some.ensures.within))))
+    (falls, (c.requires.range, (c.requires.cables, (c.requires.placed, (c.requires.parents, c.in-Some.ensures.within)))))
 
 pub loop-p-preserved : goal.loop-p-preserved
 loop-p-preserved t c = record {
@@ -28,7 +31,11 @@ loop-p-preserved t c = record {
 
 pub returns : goal.returns
 returns t c = λ root on paths.
-    let all : c.loop-p.p ≡ 27 = omega arith in
+    let g = c.args.g.now in
+    let ports = c.cables_of-p-end.result.now in
+    let last : c.loop-p.p + (27 - c.loop-p.p) ≡ 27 = omega (arith, c.cables_of-p-end.ensures.most) in
     let size : length c.loop-p.number ≡ 63 = c.loop-p.invariant.size in
-    let P : ℕ → Type 0 = λ p. Ports c.args.g.now c.args.parents.now root on paths c.args.d p c.args.number.now c.loop-p.number in
-    branch_of c.args.g.now c.args.parents.now root on paths c.args.d c.numbered.result c.args.number.now c.loop-p.number (omega (arith, c.requires.device)) c.numbered.ensures.count (subst P all (c.loop-p.invariant.ports root on paths))
+    let none : (q : ℕ) → c.loop-p.p ≤ q → peer g c.args.d q ≡ None = λ q h. ap (λ (d : ℕ). peer g d q) (sym c.from.ensures) ∙ sym (c.cables_of-p-end.ensures.ports q) ∙ get_or_past ports q None (omega (arith, h)) in
+    let P : ℕ → Type 0 = λ p. Ports g c.args.parents.now root on paths c.args.d p c.args.number.now c.loop-p.number in
+    let all = ports_all g c.args.parents.now root on paths c.args.d c.loop-p.p (27 - c.loop-p.p) c.args.number.now c.loop-p.number none (c.loop-p.invariant.ports root on paths) in
+    branch_of g c.args.parents.now root on paths c.args.d c.numbered.result c.args.number.now c.loop-p.number (omega (arith, c.requires.device)) c.numbered.ensures.count (subst P last all)

@@ -4,6 +4,7 @@ use Rattle.fw_tree.specs.Cables.{is_seen}
 use Rattle.fw_tree.specs.Topology.{Topology, IsSound, Made}
 use Rattle.fw_tree.specs.Numbering.{IsNumbering}
 use Rattle.fw_tree.specs.Numbers.{AreNodes}
+use Rattle.fw_tree.proofs.PlacedLaws.{placed_of}
 use Rattle.fw_tree.proofs.OneNumberingLaws.{one_numbering}
 use Rattle.fw_tree.proofs.RootLaws.{ended}
 use Rattle.fw_tree.proofs.TreeLaws.{tree_of, numbers_of, parents_of, blank_number}
@@ -32,3 +33,12 @@ returns c =
     }) in
     let Q : Topology → Type 0 = IsSound in
     record { numbering = numbering; only = λ n h. one_numbering c.args.self.now result n (subst Q c.self.view_is s) numbering h; made = let R : Topology → Type 0 = Made in subst R c.self.view_is c.self.invariant.made }
+
+pub bus_of-on-requires-clause-placed : goal.bus_of-on-requires-clause-placed
+bus_of-on-requires-clause-placed c = placed_of c.self.inside.facts c.self.inside.count c.self.inside.cables c.self.invariant
+
+pub parents-parents-requires-clause-placed : goal.parents-parents-requires-clause-placed
+parents-parents-requires-clause-placed c = placed_of c.self.inside.facts c.self.inside.count c.self.inside.cables c.self.invariant
+
+pub numbers_from-number-requires-clause-placed : goal.numbers_from-number-requires-clause-placed
+numbers_from-number-requires-clause-placed c = placed_of c.self.inside.facts c.self.inside.count c.self.inside.cables c.self.invariant
