@@ -1,6 +1,6 @@
 //! Quadlets 0 to 2, written in front of all others and read from there.
 
-ghost use Rattle.std.specs.Prelude.{◌≡◌, ◌≤◌, ◌<◌, ◌+◌, ◌/◌, ◌%◌, ◌^◌, ◌++◌, [], length, flat_map};
+ghost use Rattle.std.specs.Prelude.{◌≡◌, ◌≤◌, ◌<◌, ◌+◌, ◌/◌, ◌%◌, ◌^◌, ◌++◌, [], ◌∷◌, length, flat_map};
 ghost use Rattle.std.specs.Int.{to_be_bytes, w32};
 ghost use Rattle.fw_words.specs.Quadlet.{field, quadlet_at};
 ghost use Rattle.fw_words.specs.Layout.{packed};
@@ -20,7 +20,8 @@ pub fn push_quadlet(out: &mut Bytes16, q: u32)
     out.append(&put_quadlet(Quadlet(q)));
 }
 
-fn first_quadlet(tcode: Tcode, h: &Head) -> u32
+/// Quadlet 0.
+pub fn first_quadlet(tcode: Tcode, h: &Head) -> u32
     requires { HeadFits h.now }
     ensures { result ≡ packed (head_fields (code_of tcode) h.now) 0 }
 {
@@ -28,6 +29,25 @@ fn first_quadlet(tcode: Tcode, h: &Head) -> u32
     let q = with_field(q, 2, h.rt as u32);
     let q = with_field(q, 4, tcode.code());
     with_field(q, 4, h.pri as u32)
+}
+
+/// Quadlet 1 of a request: the source, and the high part of the offset.
+pub fn source_quadlet(h: &Head, offset: u64) -> u32
+    requires head { HeadFits h.now }
+    requires offset { offset < 2 ^ 48 }
+    ensures { result ≡ packed ((16, h.now.source) ∷ (16, offset / 2 ^ 32) ∷ []) 0 }
+{
+    with_field(h.source as u32, 16, (offset >> 32) as u32)
+}
+
+/// Quadlet 1 of a response: the source, the response code, and zeros.
+pub fn rcode_quadlet(h: &Head, rcode: u8) -> u32
+    requires head { HeadFits h.now }
+    requires rcode { rcode < 2 ^ 4 }
+    ensures { result ≡ packed ((16, h.now.source) ∷ (4, rcode) ∷ (12, 0) ∷ []) 0 }
+{
+    let q = with_field(h.source as u32, 4, rcode as u32);
+    with_field(q, 12, 0)
 }
 
 /// The first three quadlets of a request, in place of what `out` held.
@@ -38,7 +58,7 @@ pub fn begin_request(tcode: Tcode, h: &Head, offset: u64, out: &mut Bytes16)
 {
     out.clear();
     push_quadlet(out, first_quadlet(tcode, h));
-    push_quadlet(out, with_field(h.source as u32, 16, (offset >> 32) as u32));
+    push_quadlet(out, source_quadlet(h, offset));
     push_quadlet(out, (offset & 0xffff_ffff) as u32);
 }
 
@@ -50,8 +70,7 @@ pub fn begin_response(tcode: Tcode, h: &Head, rcode: u8, out: &mut Bytes16)
 {
     out.clear();
     push_quadlet(out, first_quadlet(tcode, h));
-    let q = with_field(h.source as u32, 4, rcode as u32);
-    push_quadlet(out, with_field(q, 12, 0));
+    push_quadlet(out, rcode_quadlet(h, rcode));
     push_quadlet(out, 0);
 }
 

@@ -14,8 +14,10 @@ mod header;
 mod lock;
 mod packet;
 mod pieces;
+mod quadlets;
 mod read;
 mod reader;
+mod room;
 mod senders;
 mod tcode;
 #[cfg(test)]
@@ -26,7 +28,9 @@ mod writer;
 
 pub use packet::{Head, Packet};
 pub use pieces::PacketReader;
+pub use quadlets::{QuadletRequest, QuadletSwap, quadlet_request_at};
 pub use reader::{Fed, read_packet, whole_packet};
+pub use room::PacketRoom;
 pub use wire::Wire;
 pub use writer::{append_packet, packet_length, write_packet};
 

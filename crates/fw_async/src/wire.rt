@@ -3,9 +3,11 @@
 ghost use Rattle.std.specs.Prelude.{◌≡◌, ◌≤◌, [], ◌∷◌, ◌++◌, length, None, IfNone};
 ghost use Rattle.std.specs.Option.{option_map};
 ghost use Rattle.fw_async.specs.Async.{spelling, Fits};
+ghost use Rattle.fw_async.specs.Reader.{IsPacket};
 ghost use Rattle.fw_async.specs.Wire.{bytes_from, without};
 
 use crate::packet::Packet;
+use crate::room::PacketRoom;
 use crate::senders::Senders;
 use crate::writer::spell_over;
 use fw_words::Bytes;
@@ -62,6 +64,18 @@ impl Wire {
         self.senders.push(from);
     }
 
+    /// Puts the bytes of a sender's packet, which are at hand, behind all that stands.
+    pub fn put_bytes(&mut self, from: u8, packet: &PacketRoom)
+        requires from { from ≤ 62 }
+        requires free { bytes_from from self.old ≡ None }
+        requires packet { IsPacket packet.now }
+        ensures { self.new ≡ self.old ++ (from, packet.now) ∷ [] }
+    {
+        let at = usize::from(from);
+        self.lengths[at] = packet.copy_to(&mut self.rows[at]);
+        self.senders.push(from);
+    }
+
     /// The bytes of a sender's packet. None exactly where no pair of that sender stands.
     pub fn get(&self, from: u8) -> Option<&[u8]>
         ensures { option_map (λ b. b.now) result ≡ bytes_from from self.now }
@@ -88,9 +102,17 @@ impl Wire {
         let row = &self.rows[at];
         room.clear();
         room.append(&row[..self.lengths[at]]);
-        self.lengths[at] = 0;
-        self.senders.remove(from);
+        self.remove(from);
         Some(room.as_slice())
+    }
+
+    /// Takes a sender's pair away, where one stands; the others keep their order.
+    pub fn remove(&mut self, from: u8)
+        requires { from ≤ 62 }
+        ensures { self.new ≡ without from self.old }
+    {
+        self.lengths[usize::from(from)] = 0;
+        self.senders.remove(from);
     }
 
     /// Takes all pairs away.

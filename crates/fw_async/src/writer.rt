@@ -72,7 +72,7 @@ fn push_quadlet_3(p: &Packet, out: &mut Bytes16)
 }
 
 // The quadlets at the packet's front.
-fn front_of(p: &Packet) -> Bytes16
+pub(crate) fn front_of(p: &Packet) -> Bytes16
     requires { Fits p.now }
     ensures { result ≡ flat_map (to_be_bytes w32) (parts p.now).quadlets }
 {
@@ -83,7 +83,7 @@ fn front_of(p: &Packet) -> Bytes16
 }
 
 // The data behind the quadlets.
-fn data_of<'a>(p: &'a Packet) -> &'a [u8]
+pub(crate) fn data_of<'a>(p: &'a Packet) -> &'a [u8]
     requires { Fits p.now }
     ensures same { result.now ≡ (parts p.now).bytes }
     ensures few { length result.now ≤ 512 }
@@ -104,7 +104,7 @@ fn data_of<'a>(p: &'a Packet) -> &'a [u8]
 }
 
 // The zeros behind so many bytes of data.
-fn padding_of(count: usize) -> &'static [u8]
+pub(crate) fn padding_of(count: usize) -> &'static [u8]
     requires { count ≤ 512 }
     ensures { result.now ≡ replicate (padding count) 0 }
 {

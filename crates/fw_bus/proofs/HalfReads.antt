@@ -18,7 +18,7 @@ use Rattle.fw_cmp.specs.Fits.{TargetFits}
 use Rattle.fw_cmp.specs.Requests.{access_of, addressee_of, offset_of, request_of, standing_in}
 use Rattle.fw_step.specs.Requests.{PlugNumberFits, procedure_head}
 use Rattle.fw_csr.specs.declared.reply.Reply.{Reply}
-use Rattle.fw_node.specs.Packets.{reply_in, packet_of, request_head, request_in, response_of, IsAnswer, IsRequest}
+use Rattle.fw_node.specs.Packets.{reply_in, packet_of, request_head, request_in, response_of, IsRequest, IsServed}
 use Rattle.fw_node.specs.State.{space_of}
 use Rattle.fw_devices.specs.Network.{node_at}
 use Rattle.fw_devices.specs.Entries.{node_device}
@@ -31,7 +31,7 @@ use Rattle.fw_bus.specs.Stands.{StandsFor, IsReady, is_living_in, device_for, ta
 use Rattle.fw_bus.specs.Tables.{states_of}
 use Rattle.fw_bus.specs.Wires.{packet_for}
 use Rattle.fw_bus.proofs.Exchanges.{Standing, Exchange, standing_of, addressee_is, device_is, exchange_of, exchange_within, exchange_addresses, exchange_linked, asks_request}
-use Rattle.fw_bus.proofs.HalfHears.{Sent, answered_of}
+use Rattle.fw_bus.proofs.HalfHears.{Sent}
 use Rattle.fw_bus.proofs.HalfWires.{own_number, own_place}
 use Rattle.fw_bus.proofs.Latest.{number_low}
 use Rattle.fw_bus.proofs.Living.{living_same}
@@ -181,15 +181,16 @@ device_linked m d device own k fits =
 
 -- ---- the response that it writes
 
-pub record Response (m : Machine) (d device own : ℕ) (k : Known m d device own) (out : List ℕ) : Type 0 where
+pub record Response (m : Machine) (d device own : ℕ) (k : Known m d device own) (out : List ℕ) (reply : Reply) : Type 0 where
   pub packet : Packet
   pub sent : Sent m d k.went.access k.went.to device own (went_packet own k.went) packet
   pub spells : Spells packet out
+  pub carries : reply_in packet ≡ Some reply
 
-pub response_written : (m : Machine) (d device own : ℕ) (out : List ℕ) → (k : Known m d device own)
-    → ((n : ℕ) → (node_at m.devices.nodes device).number ≡ Some n → IsAnswer (space_of n m.cycle (node_at m.devices.nodes device)) (went_packet own k.went) out)
-    → Response m d device own k out
-response_written m d device own out k written =
+pub response_written : (m : Machine) (d device own : ℕ) (out : List ℕ) (reply : Reply) → (k : Known m d device own)
+    → ((n : ℕ) → (node_at m.devices.nodes device).number ≡ Some n → IsServed (space_of n m.cycle (node_at m.devices.nodes device)) (went_packet own k.went) out reply)
+    → Response m d device own k out reply
+response_written m d device own out reply k written =
     let number = device_number m d device own k in
     let found = written k.went.to number in
     record {
@@ -204,11 +205,5 @@ response_written m d device own out k written =
             ap (λ (j : ℕ). response_of (space_of j m.cycle (node_at m.devices.nodes device)) (went_packet own k.went)) (same_Some n k.went.to (sym e ∙ number)) ∙ found.answers;
       };
       spells = found.spells;
+      carries = found.carries;
     }
-
--- it has a reply
-pub reply_there : (m : Machine) (d device own : ℕ) (out : List ℕ) (k : Known m d device own) → (r : Response m d device own k out) → (y : Reply) × (reply_in r.packet ≡ Some y)
-reply_there m d device own out k r =
-    let q = k.ready in
-    let z = answered_of m q.state d k.went.access k.went.to device own (went_packet own k.went) r.packet q.good q.stands k.lives k.stands r.sent in
-    (_, z.reply_is)

@@ -7,7 +7,8 @@ ghost use Rattle.fw_entry.specs.Log.{Fits};
 ghost use Rattle.fw_run.specs.Giving.{Gives};
 
 use crate::room::Room;
-use fw_entry::{Entry, EntryRoom, Timed, write_async, write_entry};
+use fw_async::PacketRoom;
+use fw_entry::{Entry, Timed, write_async_in_place, write_entry};
 use fw_outside::{Failed, Sink};
 
 /// Writes an entry of this cycle, where there is one.
@@ -27,16 +28,15 @@ pub(crate) fn give<K: Sink>(
     }
 }
 
-/// Writes the entry of a packet of this cycle, whose bytes are at hand.
+/// Writes the entry of a packet of this cycle, which is in the room.
 pub(crate) fn give_packet<K: Sink>(
     cycle: u64,
-    bytes: &[u8],
-    room: &mut EntryRoom,
+    packet: &mut PacketRoom,
     sink: &mut K,
 ) -> Result<(), Failed>
-    requires { IsPacket bytes.now }
-    ensures bytes { (p : Packet) → Spells p bytes.now → Gives (K.held sink.old) (K.held sink.new) result cycle (Some (Async p)) }
+    requires { IsPacket packet.old }
+    ensures bytes { (p : Packet) → Spells p packet.old → Gives (K.held sink.old) (K.held sink.new) result cycle (Some (Async p)) }
     ensures faults { CountsFaults (K.faults sink.old) (K.faults sink.new) result }
 {
-    write_async(cycle, bytes, room, sink)
+    write_async_in_place(cycle, packet, sink)
 }

@@ -15,7 +15,7 @@ use crate::give::{give, give_packet};
 use crate::machine::Machine;
 use crate::room::Room;
 use fw_cmp::Next;
-use fw_node::{reply_at, request_packet};
+use fw_node::put_request;
 use fw_outside::{Failed, Sink};
 
 /// The transaction label of controllers' procedures (own).
@@ -56,12 +56,9 @@ impl Machine {
         match self.controllers.next(device, self.cycle, &self.directory) {
             Next::Send { to, request } => {
                 let own = self.number(device);
-                let packet = request_packet(own, to, PROCEDURE_LABEL, &request);
-                self.wire.put(own, &packet);
-                match self.wire.get(own) {
-                    Some(bytes) => give_packet(self.cycle, bytes, &mut room.entry, sink),
-                    None => Ok(()),
-                }
+                put_request(own, to, PROCEDURE_LABEL, &request, &mut room.packet);
+                self.wire.put_bytes(own, &room.packet);
+                give_packet(self.cycle, &mut room.packet, sink)
             }
             Next::End { slot, outcome } => give(
                 self.cycle,
@@ -89,17 +86,16 @@ impl Machine {
             return Ok(());
         };
         let own = self.number(device);
-        let Some(bytes) = self.wire.take(own, &mut room.request) else {
+        let Some(bytes) = self.wire.get(own) else {
             return Ok(());
         };
-        self.devices
-            .take(target, self.cycle, bytes, &mut room.response);
+        let reply = self
+            .devices
+            .serve(target, self.cycle, bytes, &mut room.packet);
         self.streams.look(&self.devices, target);
-        let Some(reply) = reply_at(&room.response) else {
-            return Ok(());
-        };
+        self.wire.remove(own);
         self.controllers.hear(device, &reply);
-        give_packet(self.cycle, &room.response, &mut room.entry, sink)
+        give_packet(self.cycle, &mut room.packet, sink)
     }
 
     /// The device of the node to which the request that stands of a device's controller went. None where none stands.

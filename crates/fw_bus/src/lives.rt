@@ -76,7 +76,7 @@ impl Machine {
     {
         self.controllers.die(device);
         let own = self.number(device);
-        let _ = self.wire.take(own, &mut room.request);
+        self.wire.remove(own);
         give(self.cycle, Some(died(device)), room, sink)
     }
 

@@ -11,6 +11,7 @@ use crate::codes::kind;
 use crate::room::EntryBytes;
 use crate::write_body::{body_quadlets, put_body};
 use crate::{Entry, EntryRoom, Timed};
+use fw_async::PacketRoom;
 use fw_outside::{Failed, Sink};
 use fw_words::{Bytes, Quadlet, put_quadlet};
 
@@ -48,9 +49,10 @@ fn kind_of(what: &Entry) -> u8
 fn head_of(kind: u8, quadlets: u16, cycle: u64) -> [u8; 12]
     ensures { result ≡ entry_head kind quadlets cycle }
 {
-    let [high, low] = quadlets.to_be_bytes();
-    let [a, b, c, d, e, f, g, h] = cycle.to_be_bytes();
-    [kind, 0, high, low, a, b, c, d, e, f, g, h]
+    let mut head = [kind, 0, 0, 0, 0, 0, 0, 0, 0, 0, 0, 0];
+    head[2..4].copy_from_slice(&quadlets.to_be_bytes());
+    head[4..].copy_from_slice(&cycle.to_be_bytes());
+    head
 }
 
 // An entry's head, in place of what was there.
@@ -106,6 +108,21 @@ pub fn write_async<K: Sink>(
 {
     put_packet(cycle, packet, &mut room.bytes);
     sink.write(room.bytes.as_slice())
+}
+
+/// The same of a packet in a room, of which no byte is copied. What the room has then does not matter.
+pub fn write_async_in_place<K: Sink>(
+    cycle: u64,
+    packet: &mut PacketRoom,
+    sink: &mut K,
+) -> Result<(), Failed>
+    requires { IsPacket packet.old }
+    ensures bytes { (p : Packet) → Spells p packet.old → Writes (K.held sink.old) (K.held sink.new) result (entry_bytes (record { cycle = cycle; what = Async p })) }
+    ensures cause { HasCause (K.faults sink.old) (K.faults sink.new) result }
+    ensures same { OnOk result (K.faults sink.new ≡ K.faults sink.old) }
+{
+    let quadlets = (packet.as_slice().len() / 4) as u16;
+    sink.write(packet.behind(head_of(kind::ASYNC, quadlets, cycle)))
 }
 
 /// The bytes of the body of an entry, in the room.

@@ -97,6 +97,13 @@ pub record IsRequest (bytes : List ℕ) : Type 0 where
   pub spells : Spells packet bytes
   pub asks : IsSome (request_in packet)
 
+-- The bytes are the packet that answers a request packet to the node of this space, and this is the reply that it carries.
+pub record IsServed (s : Space) (p : Packet) (bytes : List ℕ) (reply : Reply) : Type 0 where
+  pub packet : Packet
+  pub answers : response_of s p ≡ Some packet
+  pub spells : Spells packet bytes
+  pub carries : reply_in packet ≡ Some reply
+
 -- the bytes are the packet that answers a request packet to the node of this space
 pub record IsAnswer (s : Space) (p : Packet) (bytes : List ℕ) : Type 0 where
   pub packet : Packet

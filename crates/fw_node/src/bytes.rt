@@ -1,18 +1,23 @@
 //! Request packets and their responses as bytes, as they stand on the bus.
 
-ghost use Rattle.std.specs.Prelude.{◌≡◌, ℕ, Some, None, IsSome, IsTrue};
+ghost use Rattle.std.specs.Prelude.{◌≡◌, ◌≤◌, ℕ, Some, None, IsSome, IsTrue};
+ghost use Rattle.fw_async.specs.Async.{Fits};
+ghost use Rattle.fw_async.specs.Quadlets.{request_packet};
 ghost use Rattle.fw_async.specs.Reader.{Spells, IsPacket};
 ghost use Rattle.fw_async.specs.declared.packet.Packet.{Packet as AsyncPacket};
 ghost use Rattle.fw_base.specs.Devices.{has_link};
 ghost use Rattle.fw_tape.specs.Desks.{AnyVendorByte};
 ghost use Rattle.fw_node.specs.Fcp.{HasFollowed};
-ghost use Rattle.fw_node.specs.Packets.{IsAnswer, IsRequest, reply_in, request_in, requester};
+ghost use Rattle.fw_node.specs.Packets.{IsAnswer, IsRequest, IsServed, reply_in, request_in, requester};
 ghost use Rattle.fw_node.specs.State.{after_request, space_of};
 
 use crate::Node;
-use crate::response::reply_in;
+use crate::request::{asked_of, request_of};
+use crate::response::{put_reply, reply_in, response};
 use arrayvec::ArrayVec;
-use fw_async::{whole_packet, write_packet};
+use fw_async::{
+    Packet, PacketRoom, QuadletRequest, quadlet_request_at, whole_packet, write_packet,
+};
 use fw_csr::Reply;
 use fw_tape::Desk;
 
@@ -36,6 +41,56 @@ impl Node {
     {
         let response = self.answer(now, &whole_packet(bytes), desk);
         write_packet(&response, out);
+    }
+
+    /// `carry_out` from bytes to bytes, with the reply that the response carries beside its bytes, which are put into `out`. A read
+    /// and a compare_swap of a quadlet are carried out at once.
+    pub fn serve(&mut self, now: u64, bytes: &[u8], out: &mut PacketRoom) -> Reply
+        requires request { IsRequest bytes.now }
+        requires link { IsTrue (has_link self.old.kind) }
+        requires reset { IsSome self.old.number }
+        ensures response { (p : AsyncPacket) → Spells p bytes.now → (number : ℕ) → self.old.number ≡ Some number → IsServed (space_of number now self.old) p out.new result }
+        ensures registers { (p : AsyncPacket) → Spells p bytes.now → self.new ≡ after_request (request_in p) self.old }
+    {
+        let number = match self.number {
+            Some(number) => number,
+            None => unreachable!(),
+        };
+        match quadlet_request_at(bytes) {
+            Some(asked) => self.serve_quadlet(number, now, &asked, out),
+            None => self.serve_packet(number, now, &whole_packet(bytes), out),
+        }
+    }
+
+    /// The same of a request for a quadlet.
+    fn serve_quadlet(
+        &mut self,
+        number: u8,
+        now: u64,
+        asked: &QuadletRequest,
+        out: &mut PacketRoom,
+    ) -> Reply
+        requires number { number ≤ 62 }
+        requires fits { Fits (request_packet asked.now) }
+        ensures response { IsServed (space_of number now self.old) (request_packet asked.now) out.new result }
+        ensures registers { self.new ≡ after_request (request_in (request_packet asked.now)) self.old }
+    {
+        let reply = self.reply(number, now, &asked_of(asked));
+        put_reply(number, asked, reply, out);
+        reply
+    }
+
+    /// The same of any request packet.
+    fn serve_packet(&mut self, number: u8, now: u64, p: &Packet, out: &mut PacketRoom) -> Reply
+        requires number { number ≤ 62 }
+        requires fits { Fits p.now }
+        requires request { IsSome (request_in p.now) }
+        ensures response { IsServed (space_of number now self.old) p.now out.new result }
+        ensures registers { self.new ≡ after_request (request_in p.now) self.old }
+    {
+        let reply = self.reply(number, now, &request_of(p));
+        out.put(&response(number, p, reply));
+        reply
     }
 
     /// `carry_out` from bytes to bytes: nothing follows from a write to FCP_COMMAND but its response.

@@ -13,7 +13,7 @@ pub use bytes::reply_at;
 pub use laws::{nodes_answer_as_their_spaces, packets_carry_what_they_are_made_of};
 pub use node::Node;
 pub use offset::{cycle_time, node_id};
-pub use request::request_packet;
+pub use request::{put_request, request_packet};
 pub use response::reply_in;
 
 #[cfg(test)]

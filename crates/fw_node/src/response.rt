@@ -2,10 +2,13 @@
 
 ghost use Rattle.std.specs.Prelude.{◌≡◌, ◌≤◌, ◌<◌, ◌^◌, Some, IsSome, IsTrue, length};
 ghost use Rattle.fw_async.specs.Async.{Fits, AreBytes, is_reply_size};
+ghost use Rattle.fw_async.specs.Quadlets.{request_packet as quadlet_packet, old_value as old_part};
+ghost use Rattle.fw_async.specs.Reader.{Spells};
+ghost use Rattle.fw_async.specs.declared.packet.Packet.{Packet as PacketRecord};
 ghost use Rattle.fw_node.specs.Packets.{request_in, response_to, response_head, old_bytes, reply_in, old_value};
 
 use crate::offset::node_id;
-use fw_async::{Head, Packet};
+use fw_async::{Head, Packet, PacketRoom, QuadletRequest};
 use fw_csr::Reply;
 use fw_words::{Bytes, Bytes8, Data, Quadlet, put_quadlet, quadlet_at};
 
@@ -39,6 +42,31 @@ pub fn response(number: u8, p: &Packet, reply: Reply) -> Packet<'static>
             lock_response(response_head(number, head), *function, reply)
         }
         _ => unreachable!(),
+    }
+}
+
+/// `response` to a request of one quadlet as bytes, in place of what `out` held.
+pub fn put_reply(number: u8, asked: &QuadletRequest, reply: Reply, out: &mut PacketRoom)
+    requires number { number ≤ 62 }
+    requires rcode { reply.rcode < 2 ^ 4 }
+    requires fits { Fits (quadlet_packet asked.now) }
+    ensures { (r : PacketRecord) → response_to number (quadlet_packet asked.now) reply ≡ Some r → Spells r out.new }
+{
+    let head = response_head(number, &asked.head);
+    match asked.swap {
+        None => out.put_read_reply(&head, reply.rcode, reply.value),
+        Some(_) => out.put_swap_reply(&head, reply.rcode, old_quadlet(reply)),
+    }
+}
+
+/// The old value, where the lock was carried out.
+fn old_quadlet(reply: Reply) -> Option<u32>
+    ensures { old_part result ≡ old_bytes reply }
+{
+    if reply.is_complete() {
+        Some(reply.value)
+    } else {
+        None
     }
 }
 
@@ -77,8 +105,8 @@ fn old_bytes(reply: Reply) -> Bytes8
     ensures bytes { AreBytes result }
 {
     let mut bytes = Bytes::new();
-    if reply.is_complete() {
-        bytes.append(&put_quadlet(Quadlet(reply.value)));
+    if let Some(old) = old_quadlet(reply) {
+        bytes.append(&put_quadlet(Quadlet(old)));
     }
     bytes
 }

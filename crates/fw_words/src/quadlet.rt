@@ -41,8 +41,5 @@ pub fn quadlet_at(bytes: &[u8], at: usize) -> Quadlet
     ensures value { result.0 ≡ quadlet_at bytes.now at }
     ensures back { to_be_bytes w32 result.0 ≡ take 4 (drop at bytes.now) }
 {
-    match bytes[at..].first_chunk::<4>() {
-        Some(four) => get_quadlet(*four),
-        None => unreachable!(),
-    }
+    get_quadlet([bytes[at], bytes[at + 1], bytes[at + 2], bytes[at + 3]])
 }

@@ -6,14 +6,14 @@ ghost use Rattle.fw_async.specs.Reader.{Spells};
 ghost use Rattle.fw_async.specs.declared.packet.Packet.{Packet as RequestPacket};
 ghost use Rattle.fw_base.specs.Devices.{has_link};
 ghost use Rattle.fw_csr.specs.declared.request.Request.TheVariants.{Read};
-ghost use Rattle.fw_node.specs.Packets.{IsAnswer, IsRequest, request_in, response_of};
+ghost use Rattle.fw_node.specs.Packets.{IsAnswer, IsRequest, IsServed, request_in, response_of};
 ghost use Rattle.fw_node.specs.Space.{answer_of};
 ghost use Rattle.fw_node.specs.State.{after_request, after_second, space_of};
 ghost use Rattle.fw_devices.specs.Network.{node_at};
 
 use super::Devices;
 use arrayvec::ArrayVec;
-use fw_async::Packet;
+use fw_async::{Packet, PacketRoom};
 use fw_csr::Reply;
 use fw_node::Node;
 
@@ -53,6 +53,19 @@ impl Devices {
         ensures registers { (p : RequestPacket) → Spells p bytes.now → self.new ≡ record self.old { nodes = slice_set self.old.nodes device (after_request (request_in p) (node_at self.old.nodes device)) } }
     {
         self.nodes[usize::from(device)].take_at_registers(now, bytes, out);
+    }
+
+    /// The same, with the reply that the response carries beside its bytes, which are put into `out` (`fw_node::Node::serve`).
+    pub fn serve(&mut self, device: u8, now: u64, bytes: &[u8], out: &mut PacketRoom) -> Reply
+        requires request { IsRequest bytes.now }
+        requires declared { device < length self.old.nodes }
+        requires number { IsSome (node_at self.old.nodes device).number }
+        requires link { IsTrue (has_link (node_at self.old.nodes device).kind) }
+        ensures response { (p : RequestPacket) → Spells p bytes.now → (number : ℕ) → (node_at self.old.nodes device).number ≡ Some number
+            → IsServed (space_of number now (node_at self.old.nodes device)) p out.new result }
+        ensures registers { (p : RequestPacket) → Spells p bytes.now → self.new ≡ record self.old { nodes = slice_set self.old.nodes device (after_request (request_in p) (node_at self.old.nodes device)) } }
+    {
+        self.nodes[usize::from(device)].serve(now, bytes, out)
     }
 
     /// What a quadlet read of the register at an offset of a device's node would be answered in cycle `now`.

@@ -17,12 +17,6 @@ returns-then-at-ge-MOST c =
       absent = refl;
     }
 
-pub invariant_of-self : goal.invariant_of-self
-invariant_of-self c =
-    let within : c.args.from < 63 = omega (arith, c.if-at-ge-MOST.false, c.from-at.ensures) in
-    let P : List ℕ → Type 0 = IsKept _ in
-    subst P (sym c.remove.ensures) (rw c.from-at.ensures (take_kept c.self.inside.lengths c.self.inside.senders c.args.from c.self.invariant within))
-
 pub returns : goal.returns
 returns c =
     let lengths = c.self.inside.lengths in
@@ -33,10 +27,8 @@ returns c =
     let stood = take (get_or lengths c.from-at.result 0) (get_or rows c.from-at.result []) in
     let given : c.as_slice.result.now ≡ stood = c.as_slice.ensures.value ∙ c.append.ensures ∙ ap (λ t. t ++ stood) c.clear.ensures in
     let at : stood ≡ bytes_at lengths rows q = ap (bytes_at lengths rows) c.from-at.ensures in
-    let left : pairs_at (slice_set lengths q 0) rows c.remove.new.self ≡ without q c.args.self.now =
-    ap (pairs_at (slice_set lengths q 0) rows) c.remove.ensures ∙ take_pairs lengths rows senders q ∙ ap (without q) c.self.view_is in
     record {
       bytes = ap Some (given ∙ at) ∙ sym (found lengths rows senders q c.self.invariant some) ∙ ap (bytes_from q) c.self.view_is;
-      rest = rw c.from-at.ensures (ap (λ r. pairs_at (slice_set lengths q 0) r c.remove.new.self) (set-get_or rows q []) ∙ left);
+      rest = c.remove.ensures;
       absent = tt;
     }

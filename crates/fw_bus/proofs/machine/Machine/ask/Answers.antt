@@ -1,5 +1,7 @@
-use Rattle.std.proofs.Common.{◌≡◌, ℕ, ◌<◌, inl, inr, List, Bor, false, option_map, Some, None, IfSome, ap, sym, subst, ◌∙◌}
-use Rattle.fw_async.specs.Wire.{Pairs, bytes_from}
+use Rattle.std.proofs.Common.{◌≡◌, ℕ, ◌<◌, inl, inr, List, [], ◌∷◌, ◌++◌, false, Some, None, IfSome, refl, ap, sym, subst, ◌∙◌}
+use Rattle.fw_async.specs.Async.{spelling}
+use Rattle.fw_async.specs.Wire.{Pairs}
+use Rattle.fw_node.specs.Packets.{packet_of, request_head}
 use Rattle.fw_outside.proofs.Parts.{Grows-nothing}
 use Rattle.fw_entry.specs.declared.entry.Entry.TheVariants.{Async}
 use Rattle.fw_cmp.specs.declared.outcome.Next.{Next}
@@ -9,7 +11,7 @@ use Rattle.fw_run.specs.HalfSteps.{half, said}
 use Rattle.fw_bus.specs.Doings.{Takes}
 use Rattle.fw_bus.proofs.Doings.{no_faults}
 use Rattle.fw_bus.proofs.HalfTurns.{takes_asks, rests_says, node_numbers}
-use Rattle.fw_bus.proofs.HalfWires.{Sends, sends_takes, sends_fits, sends_free, sends_found, sends_some, quiet_wire}
+use Rattle.fw_bus.proofs.HalfWires.{Sends, sends_takes, sends_fits, sends_free, quiet_wire}
 use Rattle.fw_bus.proofs.machine.Machine.ask.Goals as goal
 
 pub next-requires-clause-nodes : goal.next-requires-clause-nodes
@@ -17,79 +19,82 @@ next-requires-clause-nodes g c = let r = c.requires.ready in node_numbers c.args
 
 -- ---- a request goes out
 
-pub put-requires-clause-free : goal.put-requires-clause-free
-put-requires-clause-free g c =
-    let x : Sends c.args.self.now c.args.device c.in-Send.to c.number-own.result c.next.new.self c.in-Send.request c.request_packet-packet.result = record {
+pub put_request-requires-clause-fits : goal.put_request-requires-clause-fits
+put_request-requires-clause-fits g c =
+    let p = packet_of (request_head c.number-own.result c.in-Send.to 0) c.in-Send.request in
+    let x : Sends c.args.self.now c.args.device c.in-Send.to c.number-own.result c.next.new.self c.in-Send.request p = record {
       lives = c.requires.living;
       heard = c.requires.heard;
       table = c.next.ensures.state;
       says = sym c.next.ensures.answer ∙ c.in-Send.is;
       low = subst (λ (x : Next). IfSome (addressee_in x) (λ t. t < 63)) c.in-Send.is c.next.ensures.addressee;
       number = c.number-own.ensures.value;
-      packet = c.request_packet-packet.ensures.packet;
-    } in
-    sends_free c.requires.ready x
-
-pub put-requires-clause-fits : goal.put-requires-clause-fits
-put-requires-clause-fits g c =
-    let x : Sends c.args.self.now c.args.device c.in-Send.to c.number-own.result c.next.new.self c.in-Send.request c.request_packet-packet.result = record {
-      lives = c.requires.living;
-      heard = c.requires.heard;
-      table = c.next.ensures.state;
-      says = sym c.next.ensures.answer ∙ c.in-Send.is;
-      low = subst (λ (x : Next). IfSome (addressee_in x) (λ t. t < 63)) c.in-Send.is c.next.ensures.addressee;
-      number = c.number-own.ensures.value;
-      packet = c.request_packet-packet.ensures.packet;
+      packet = refl;
     } in
     sends_fits c.requires.ready x
 
+pub put_bytes-requires-clause-free : goal.put_bytes-requires-clause-free
+put_bytes-requires-clause-free g c =
+    let p = packet_of (request_head c.number-own.result c.in-Send.to 0) c.in-Send.request in
+    let x : Sends c.args.self.now c.args.device c.in-Send.to c.number-own.result c.next.new.self c.in-Send.request p = record {
+      lives = c.requires.living;
+      heard = c.requires.heard;
+      table = c.next.ensures.state;
+      says = sym c.next.ensures.answer ∙ c.in-Send.is;
+      low = subst (λ (x : Next). IfSome (addressee_in x) (λ t. t < 63)) c.in-Send.is c.next.ensures.addressee;
+      number = c.number-own.ensures.value;
+      packet = refl;
+    } in
+    sends_free c.requires.ready x
+
+pub put_bytes-requires-clause-packet : goal.put_bytes-requires-clause-packet
+put_bytes-requires-clause-packet g c =
+    let p = packet_of (request_head c.number-own.result c.in-Send.to 0) c.in-Send.request in
+    let x : Sends c.args.self.now c.args.device c.in-Send.to c.number-own.result c.next.new.self c.in-Send.request p = record {
+      lives = c.requires.living;
+      heard = c.requires.heard;
+      table = c.next.ensures.state;
+      says = sym c.next.ensures.answer ∙ c.in-Send.is;
+      low = subst (λ (x : Next). IfSome (addressee_in x) (λ t. t < 63)) c.in-Send.is c.next.ensures.addressee;
+      number = c.number-own.ensures.value;
+      packet = refl;
+    } in
+    record { packet = p; spells = record { fits = sends_fits c.requires.ready x; same = sym c.put_request.ensures } }
+
 pub give_packet-requires : goal.give_packet-requires
 give_packet-requires g c =
-    let x : Sends c.args.self.now c.args.device c.in-Send.to c.number-own.result c.next.new.self c.in-Send.request c.request_packet-packet.result = record {
+    let p = packet_of (request_head c.number-own.result c.in-Send.to 0) c.in-Send.request in
+    let x : Sends c.args.self.now c.args.device c.in-Send.to c.number-own.result c.next.new.self c.in-Send.request p = record {
       lives = c.requires.living;
       heard = c.requires.heard;
       table = c.next.ensures.state;
       says = sym c.next.ensures.answer ∙ c.in-Send.is;
       low = subst (λ (x : Next). IfSome (addressee_in x) (λ t. t < 63)) c.in-Send.is c.next.ensures.addressee;
       number = c.number-own.ensures.value;
-      packet = c.request_packet-packet.ensures.packet;
+      packet = refl;
     } in
-    let found = ap (option_map (λ (b : Bor (List ℕ)). b.now)) (sym c.in-Some.is) ∙ (c.get.ensures ∙ ap (bytes_from c.number-own.result) c.put.ensures) in
-    record { packet = c.request_packet-packet.result; spells = sends_found c.in-Some.bytes.now c.requires.ready x found }
+    record { packet = p; spells = record { fits = sends_fits c.requires.ready x; same = sym c.put_request.ensures } }
 
-pub returns-in-Some-clause-speaks : goal.returns-in-Some-clause-speaks
-returns-in-Some-clause-speaks g c =
-    let x : Sends c.args.self.now c.args.device c.in-Send.to c.number-own.result c.next.new.self c.in-Send.request c.request_packet-packet.result = record {
+pub returns-in-Send-clause-speaks : goal.returns-in-Send-clause-speaks
+returns-in-Send-clause-speaks g c =
+    let p = packet_of (request_head c.number-own.result c.in-Send.to 0) c.in-Send.request in
+    let x : Sends c.args.self.now c.args.device c.in-Send.to c.number-own.result c.next.new.self c.in-Send.request p = record {
       lives = c.requires.living;
       heard = c.requires.heard;
       table = c.next.ensures.state;
       says = sym c.next.ensures.answer ∙ c.in-Send.is;
       low = subst (λ (x : Next). IfSome (addressee_in x) (λ t. t < 63)) c.in-Send.is c.next.ensures.addressee;
       number = c.number-own.ensures.value;
-      packet = c.request_packet-packet.ensures.packet;
+      packet = refl;
     } in
-    let found = ap (option_map (λ (b : Bor (List ℕ)). b.now)) (sym c.in-Some.is) ∙ (c.get.ensures ∙ ap (bytes_from c.number-own.result) c.put.ensures) in
+    let m = c.args.self.now in
+    let wire : c.put_bytes.new.self ≡ m.wire ++ (c.number-own.result, spelling p) ∷ [] = c.put_bytes.ensures ∙ ap (λ (b : List ℕ). m.wire ++ (c.number-own.result, b) ∷ []) c.put_request.ensures in
     record {
-      entry = Some (Async c.request_packet-packet.result);
-      takes = subst (λ (w : Pairs). Takes half c.args.self.now (record c.args.self.now { controllers = c.next.new.self; wire = w }) c.args.device (Some (Async c.request_packet-packet.result)))
-          (sym c.put.ensures) (sends_takes x);
-      gives = c.give_packet.ensures.bytes c.request_packet-packet.result (sends_found c.in-Some.bytes.now c.requires.ready x found);
+      entry = Some (Async p);
+      takes = subst (λ (w : Pairs). Takes half m (record m { controllers = c.next.new.self; wire = w }) c.args.device (Some (Async p))) (sym wire) (sends_takes x);
+      gives = c.give_packet.ensures.bytes p (record { fits = sends_fits c.requires.ready x; same = sym c.put_request.ensures });
       faults = c.give_packet.ensures.faults;
     }
-
-pub returns-in-None-clause-speaks : goal.returns-in-None-clause-speaks
-returns-in-None-clause-speaks g c =
-    let x : Sends c.args.self.now c.args.device c.in-Send.to c.number-own.result c.next.new.self c.in-Send.request c.request_packet-packet.result = record {
-      lives = c.requires.living;
-      heard = c.requires.heard;
-      table = c.next.ensures.state;
-      says = sym c.next.ensures.answer ∙ c.in-Send.is;
-      low = subst (λ (x : Next). IfSome (addressee_in x) (λ t. t < 63)) c.in-Send.is c.next.ensures.addressee;
-      number = c.number-own.ensures.value;
-      packet = c.request_packet-packet.ensures.packet;
-    } in
-    let found = ap (option_map (λ (b : Bor (List ℕ)). b.now)) (sym c.in-None.is) ∙ (c.get.ensures ∙ ap (bytes_from c.number-own.result) c.put.ensures) in
-    absurd (sends_some c.requires.ready x found)
 
 -- ---- the job ends
 

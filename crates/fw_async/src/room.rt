@@ -1,0 +1,162 @@
+//! Room for the bytes of one packet.
+
+ghost use Rattle.std.specs.Prelude.{◌≡◌, ◌≤◌, ◌<◌, ◌+◌, ◌^◌, [], ◌++◌, length, take, flat_map};
+ghost use Rattle.std.specs.Int.{to_be_bytes, w32};
+ghost use Rattle.fw_async.specs.Async.{spelling, Fits, HeadFits, request, response};
+ghost use Rattle.fw_async.specs.Tcode.{code_of};
+
+use crate::header::{first_quadlet, rcode_quadlet, source_quadlet};
+use crate::packet::{Head, Packet};
+use crate::tcode::Tcode;
+use crate::writer::{data_of, front_of, padding_of};
+use fw_words::{Quadlet, put_quadlet};
+use std::marker::Model;
+
+/// How many bytes stand in front of a packet.
+const FRONT: usize = 12;
+
+/// How many bytes the request and the response of a transaction of one quadlet have at most, and some more.
+const SHORT: usize = 32;
+
+/// How many bytes stand in front of a packet, and in the longest one.
+const ALL: usize = 540;
+
+/// Room for the bytes of one packet. It is made once and used again for each. The twelve bytes in front of the packet are
+/// those of `behind`, so that a packet that something stands before, as in an entry of a log, is not copied for it.
+#[derive(Drop)]
+pub struct PacketRoom {
+    bytes: [u8; ALL],
+    /// How many bytes the packet has.
+    length: usize,
+}
+
+impl Model for PacketRoom {
+    ghost use Rattle.std.specs.Prelude.{List, ℕ, ◌≤◌, drop, take};
+
+    ghost Value = { List ℕ };
+
+    ghost view = { λ r. take r.length (drop 12 r.bytes) };
+
+    ghost invariant = { λ r. r.length ≤ 528 };
+}
+
+impl PacketRoom {
+    /// No bytes.
+    pub fn new() -> PacketRoom
+        ensures { result ≡ [] }
+    {
+        PacketRoom {
+            bytes: [0; ALL],
+            length: 0,
+        }
+    }
+
+    /// The packet's bytes.
+    pub fn as_slice(&self) -> &[u8]
+        ensures { result.now ≡ self.now }
+    {
+        &self.bytes[FRONT..FRONT + self.length]
+    }
+
+    /// Copies the packet's bytes over the front of `row`, and answers how many they are.
+    pub(crate) fn copy_to(&self, row: &mut [u8; 528]) -> usize
+        ensures bytes { take result row.new ≡ self.now }
+        ensures size { result ≡ length self.now }
+        ensures room { result ≤ 528 }
+    {
+        // Most packets are short. A copy of a fixed size takes a few moves.
+        if self.length <= SHORT {
+            copy_over(&self.bytes[FRONT..FRONT + SHORT], row);
+        } else {
+            copy_over(self.as_slice(), row);
+        }
+        self.length
+    }
+
+    /// The packet's bytes behind twelve others. What the room has then does not matter.
+    pub fn behind<'a>(&'a mut self, front: [u8; 12]) -> &'a [u8]
+        ensures { result.now ≡ front ++ self.old }
+    {
+        self.bytes[..FRONT].copy_from_slice(&front);
+        &self.bytes[..FRONT + self.length]
+    }
+
+    /// Puts a packet in place of what was there.
+    pub fn put(&mut self, p: &Packet)
+        requires { Fits p.now }
+        ensures { self.new ≡ spelling p.now }
+    {
+        let front = front_of(p);
+        let data = data_of(p);
+        self.clear();
+        self.extend(front.as_slice());
+        if !data.is_empty() {
+            self.extend(data);
+            self.extend(padding_of(data.len()));
+        }
+    }
+
+    /// The first three quadlets of a request, in place of what was there.
+    pub(crate) fn begin_request(&mut self, tcode: Tcode, h: &Head, offset: u64)
+        requires head { HeadFits h.now }
+        requires offset { offset < 2 ^ 48 }
+        ensures { self.new ≡ flat_map (to_be_bytes w32) (request (code_of tcode) h.now offset [] []).quadlets }
+    {
+        self.clear();
+        self.push(first_quadlet(tcode, h));
+        self.push(source_quadlet(h, offset));
+        self.push((offset & 0xffff_ffff) as u32);
+    }
+
+    /// The first three quadlets of a response, in place of what was there.
+    pub(crate) fn begin_response(&mut self, tcode: Tcode, h: &Head, rcode: u8)
+        requires head { HeadFits h.now }
+        requires rcode { rcode < 2 ^ 4 }
+        ensures { self.new ≡ flat_map (to_be_bytes w32) (response (code_of tcode) h.now rcode [] []).quadlets }
+    {
+        self.clear();
+        self.push(first_quadlet(tcode, h));
+        self.push(rcode_quadlet(h, rcode));
+        self.push(0);
+    }
+
+    /// One quadlet more.
+    pub(crate) fn push(&mut self, q: u32)
+        requires { length self.old + 4 ≤ 528 }
+        ensures { self.new ≡ self.old ++ to_be_bytes w32 q }
+    {
+        self.extend(&put_quadlet(Quadlet(q)));
+    }
+
+    // Takes all bytes away, and touches none.
+    fn clear(&mut self)
+        ensures { self.new ≡ [] }
+    {
+        self.length = 0;
+    }
+
+    fn extend(&mut self, more: &[u8])
+        requires { length self.old + length more.now ≤ 528 }
+        ensures { self.new ≡ self.old ++ more.now }
+    {
+        let end = FRONT + self.length;
+        write_over(&mut self.bytes, end, more);
+        self.length += more.len();
+    }
+}
+
+// Writes over the bytes from `at` on.
+fn write_over(out: &mut [u8; ALL], at: usize, more: &[u8])
+    requires { at + length more.now ≤ 540 }
+    ensures { take (at + length more.now) out.new ≡ take at out.old ++ more.now }
+{
+    out[at..at + more.len()].copy_from_slice(more);
+}
+
+// Writes over the bytes at the front.
+fn copy_over(bytes: &[u8], row: &mut [u8; 528])
+    requires { length bytes.now ≤ 528 }
+    ensures { take (length bytes.now) row.new ≡ bytes.now }
+{
+    row[..bytes.len()].copy_from_slice(bytes);
+}
