@@ -22,6 +22,9 @@ use std::marker::Model;
 /// How many devices a bus may have.
 const MOST: usize = 63;
 
+/// How many numbers a `u8` may be, so that a look at a place needs no test.
+const PLACES: usize = 256;
+
 /// The controller of each declared device, by number. That of a device without one is as one that has just started.
 #[derive(Drop)]
 pub struct Controllers {
@@ -29,7 +32,7 @@ pub struct Controllers {
     /// The controller died, and was not started again.
     dead: [bool; MOST],
     /// The controller was found to have nothing to do, and nothing has happened to it since.
-    calm: [bool; MOST],
+    calm: [bool; PLACES],
 }
 
 impl Model for Controllers {
@@ -220,10 +223,10 @@ fn end_second(list: &mut [Controller])
 }
 
 /// No marks.
-fn unmarked() -> [bool; MOST]
-    ensures { result ≡ replicate 63 false }
+fn unmarked() -> [bool; PLACES]
+    ensures { result ≡ replicate 256 false }
 {
-    [false; MOST]
+    [false; PLACES]
 }
 
 /// Whether the controller has nothing to do.
