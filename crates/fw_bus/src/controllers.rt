@@ -95,6 +95,7 @@ impl Controllers {
     }
 
     /// What the controller of a device does next (`Controller::next`).
+    #[inline(always)]
     pub fn next(&mut self, device: u8, now: u64, directory: &Directory) -> Next
         requires device { device < count_of self.old }
         requires heard { IsHeard (states_of self.old device).current }
@@ -110,6 +111,7 @@ impl Controllers {
     }
 
     /// The controller of a device hears the reply to the request that stands (`Controller::hear`).
+    #[inline(always)]
     pub fn hear(&mut self, device: u8, reply: &Reply)
         requires device { device < count_of self.old }
         requires stands { IsStanding (states_of self.old device).current }
