@@ -1,7 +1,7 @@
 -- A packet of a transaction of one quadlet, read at once from its bytes.
 use Rattle.std.proofs.Common.{◌≡◌, ℕ, ◌≤◌, List, length, Option, Some, None, IfSome, true, arith, refl, sym, subst, ◌∙◌}
 use Rattle.fw_async.specs.Async.{AreBytes}
-use Rattle.fw_async.specs.Reading.{IsComplete, ReadsAs, tcode_of, need}
+use Rattle.fw_async.specs.Reading.{IsComplete, ReadsAs, tcode_of}
 use Rattle.fw_async.specs.Reader.{Spells}
 use Rattle.fw_async.specs.Quadlets.{request_packet}
 use Rattle.fw_async.specs.declared.packet.Packet.{Packet}

@@ -29,7 +29,7 @@ mod writer;
 pub use packet::{Head, Packet};
 pub use pieces::PacketReader;
 pub use quadlets::{QuadletRequest, QuadletSwap, quadlet_request_at};
-pub use reader::{Fed, read_packet, whole_packet};
+pub use reader::{Fed, destination_at, read_packet, whole_packet};
 pub use room::PacketRoom;
 pub use wire::Wire;
 pub use writer::{append_packet, packet_length, write_packet};

@@ -1,6 +1,7 @@
 ghost use Rattle.std.specs.Prelude.{ℕ, ◌≡◌, ◌≤◌, ◌<◌, ◌+◌, ◌-◌, length, take};
 ghost use Rattle.fw_async.specs.Tcode.{code_of};
 ghost use Rattle.fw_async.specs.Reading.{IsComplete, ReadsAs, IsPending, fault_of, need};
+ghost use Rattle.fw_async.specs.Heads.{head_of};
 ghost use Rattle.fw_async.specs.Reader.{Spells, Reads, IsPacket};
 ghost use Rattle.fw_async.specs.declared.PacketFault.{PacketFault};
 ghost use Rattle.fw_async.specs.declared.packet.Packet.{Packet};
@@ -13,6 +14,7 @@ use crate::packet::Packet;
 use crate::read::{read_block_at, read_block_reply_at, read_quadlet_at, read_quadlet_reply_at};
 use crate::tcode::Tcode;
 use crate::write::{write_block_at, write_quadlet_at, write_reply_at};
+use fw_words::quadlet_at;
 
 /// What a piece gave.
 #[derive(Debug, PartialEq, Eq, Drop)]
@@ -95,6 +97,14 @@ pub fn read_packet<'a>(bytes: &'a [u8]) -> Result<Fed<'a>, PacketFault>
     ensures fault { (k : ℕ) → (f : PacketFault) → k < length bytes.now → IsPending (take k bytes.now) → fault_of (take (k + 1) bytes.now) ≡ Some f → result ≡ Err f }
 {
     read_front(bytes)
+}
+
+/// The destination_ID of the packet that these bytes are, 16 bits.
+pub fn destination_at(bytes: &[u8]) -> u16
+    requires { IsPacket bytes.now }
+    ensures { (p : Packet) → Spells p bytes.now → result ≡ (head_of p).destination }
+{
+    quadlet_at(bytes, 0).field(0, 15) as u16
 }
 
 /// The packet that these bytes are. They are one packet's, as those of a `Wire` are, and so no fault is looked for.

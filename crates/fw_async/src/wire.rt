@@ -65,6 +65,7 @@ impl Wire {
     }
 
     /// Puts the bytes of a sender's packet, which are at hand, behind all that stands.
+    #[inline(always)]
     pub fn put_bytes(&mut self, from: u8, packet: &PacketRoom)
         requires from { from ≤ 62 }
         requires free { bytes_from from self.old ≡ None }
@@ -77,6 +78,7 @@ impl Wire {
     }
 
     /// The bytes of a sender's packet. None exactly where no pair of that sender stands.
+    #[inline(always)]
     pub fn get(&self, from: u8) -> Option<&[u8]>
         ensures { option_map (λ b. b.now) result ≡ bytes_from from self.now }
     {
@@ -107,6 +109,7 @@ impl Wire {
     }
 
     /// Takes a sender's pair away, where one stands; the others keep their order.
+    #[inline(always)]
     pub fn remove(&mut self, from: u8)
         requires { from ≤ 62 }
         ensures { self.new ≡ without from self.old }

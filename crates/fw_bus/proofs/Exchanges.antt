@@ -20,7 +20,6 @@ use Rattle.fw_cmp.specs.declared.request.Access.{Access}
 use Rattle.fw_cmp.specs.declared.request.Target.{Target}
 use Rattle.fw_cmp.specs.declared.request.Target.TheVariants as target
 use Rattle.fw_cmp.specs.Controllers.{IsStanding, CurrentFits, RunsFitting}
-use Rattle.fw_cmp.specs.Fits.{TargetFits}
 use Rattle.fw_cmp.specs.Nodes as Told
 use Rattle.fw_cmp.specs.Requests.{standing_in, addressee_of, request_at}
 use Rattle.fw_step.specs.Controllers.{IsDirectory}
@@ -37,6 +36,7 @@ use Rattle.fw_run.proofs.Directories.{told, node_told}
 use Rattle.fw_run.proofs.Hears.{Heard, heard_of, half_hears, access_heard}
 use Rattle.fw_run.proofs.Responses.{heard_node}
 use Rattle.fw_run.proofs.Words.{device_of_number}
+use Rattle.fw_tree.proofs.ReachLaws.{sound_made}
 use Rattle.fw_bus.specs.declared.machine.Machine.{Machine}
 use Rattle.fw_bus.specs.Stands.{IsNodeAt, StandsFor, is_linked_in, is_living_in}
 use Rattle.fw_bus.specs.Tables.{states_of}
@@ -204,15 +204,22 @@ exchange_addresses m s d a to device g x =
     has (target.Channels base) e = e
     has target.BandwidthAvailable e = e
 
+-- there are 63 devices at most
+exchange_low : (m : Machine) (s : State) (d : ℕ) (a : Access) (to device : ℕ) → IsGood s → StandsFor m s → Exchange m s d a to device → device < 63
+exchange_low m s d a to device g st x =
+    let few = (sound_made s.declared.topology g.declared.made).few in
+    omega (arith, exchange_within m s d a to device g st x, st.devices.nodes.size, g.declared.named, few)
+
 -- it has a link
-exchange_kind : (m : Machine) (s : State) (d : ℕ) (a : Access) (to device : ℕ) → IsGood s → StandsFor m s → TargetFits a.target
+exchange_kind : (m : Machine) (s : State) (d : ℕ) (a : Access) (to device : ℕ) → IsGood s → StandsFor m s
     → (x : Exchange m s d a to device) → IsTrue (has_link (kind_at s.declared.kinds device))
-exchange_kind m s d a to device g st small x =
-    go x.heard.target (subst (λ (y : Access). TargetFits y.target) x.access small)
+exchange_kind m s d a to device g st x =
+    go x.heard.target
     (subst (λ n. addressee_of (directory_of s) x.heard.target ≡ Some n) (sym x.to_is) x.heard.goes) (exchange_addresses m s d a to device g x).has
   where
-    linked : (k : ℕ) → k < 63 → Told.node_of (directory_of s) k ≡ Some to → k ≡ device → IsTrue (has_link (kind_at s.declared.kinds device))
-    linked k lt e same =
+    linked : (k : ℕ) → Told.node_of (directory_of s) k ≡ Some to → k ≡ device → IsTrue (has_link (kind_at s.declared.kinds device))
+    linked k e same =
+        let lt : k < 63 = omega (arith, exchange_low m s d a to device g st x, same) in
         let on : is_linked s k ≡ true = ap is_some (sym (node_told s k lt) ∙ e) in
         let there : is_linked_in m.devices device ≡ true = ap (is_linked_in m.devices) (sym same) ∙ (linked_same m.devices s k g st.devices ∙ on) in
         let link : has_link (kind_at (kinds_of m.devices.nodes) device) ≡ true = grind (arith, there) in
@@ -224,16 +231,16 @@ exchange_kind m s d a to device g st small x =
         let same : w.0 ≡ device = numbers_apart s w.0 device to to g (ap (λ o. number_in o w.0) x.heard.is ∙ w.1) x.number refl in
         subst (λ k. has_link (kind_at s.declared.kinds k) ≡ true) same w.2
 
-    go : (t : Target) → TargetFits t → addressee_of (directory_of s) t ≡ Some to → HasTarget s.account.latest device to t
+    go : (t : Target) → addressee_of (directory_of s) t ≡ Some to → HasTarget s.account.latest device to t
         → IsTrue (has_link (kind_at s.declared.kinds device))
-    go (target.OutputPlug p) f e has = linked p.device f.0 e has
-    go (target.InputPlug p) f e has = linked p.device f.0 e has
-    go (target.Channels base) f e has = manager has
-    go target.BandwidthAvailable f e has = manager has
+    go (target.OutputPlug p) e has = linked p.device e has
+    go (target.InputPlug p) e has = linked p.device e has
+    go (target.Channels base) e has = manager has
+    go target.BandwidthAvailable e has = manager has
 
 -- so its node answers
-pub exchange_linked : (m : Machine) (s : State) (d : ℕ) (a : Access) (to device : ℕ) → IsGood s → StandsFor m s → TargetFits a.target
+pub exchange_linked : (m : Machine) (s : State) (d : ℕ) (a : Access) (to device : ℕ) → IsGood s → StandsFor m s
     → (x : Exchange m s d a to device) → IsTrue (has_link (node_at m.devices.nodes device).kind)
-exchange_linked m s d a to device g st small x =
+exchange_linked m s d a to device g st x =
     let here = subst (λ o. IsNodeAt o s device (node_at m.devices.nodes device)) x.number (st.devices.nodes.each device (exchange_within m s d a to device g st x)) in
-    subst (λ k. has_link k ≡ true) (sym here.kind) (exchange_kind m s d a to device g st small x)
+    subst (λ k. has_link k ≡ true) (sym here.kind) (exchange_kind m s d a to device g st x)

@@ -1,7 +1,11 @@
 -- The request that is read off the wire, and the response that is written.
-use Rattle.std.proofs.Common.{◌≡◌, ℕ, ◌<◌, ◌≤◌, ◌^◌, ◌==◌, List, Bool, true, false, cond, option_map, Option, Some, None, IfSome, IsSome, is_some, refl, ap, sym, subst, ◌∙◌, arith, IsTrue, length}
+use Rattle.std.proofs.Common.{◌≡◌, ℕ, ◌<◌, ◌≤◌, ◌^◌, ◌%◌, ◌==◌, List, Bool, true, false, cond, option_map, Option, Some, None, IfSome, IsSome, is_some, refl, ap, sym, subst, ◌∙◌, arith, IsTrue, length}
 use Rattle.std.proofs.lemmas.Option.{same_Some, none-some}
+use Rattle.fw_async.specs.declared.packet.Head.{Head}
 use Rattle.fw_async.specs.declared.packet.Packet.{Packet}
+use Rattle.fw_async.specs.Heads.{head_of}
+use Rattle.fw_csr.specs.declared.request.Request.{Request}
+use Rattle.fw_csr.specs.declared.request.Request.TheVariants as Asks
 use Rattle.fw_async.specs.Async.{spelling, Fits}
 use Rattle.fw_async.specs.Reader.{Spells}
 use Rattle.fw_async.specs.Wire.{bytes_from}
@@ -14,7 +18,6 @@ use Rattle.fw_cmp.specs.declared.request.Target.{Target}
 use Rattle.fw_cmp.specs.declared.request.Target.TheVariants.{OutputPlug, InputPlug, Channels, BandwidthAvailable}
 use Rattle.fw_base.specs.Devices.{has_link}
 use Rattle.fw_cmp.specs.Controllers.{ControllerState, IsStanding}
-use Rattle.fw_cmp.specs.Fits.{TargetFits}
 use Rattle.fw_cmp.specs.Requests.{access_of, addressee_of, offset_of, request_of, standing_in}
 use Rattle.fw_step.specs.Requests.{PlugNumberFits, procedure_head}
 use Rattle.fw_csr.specs.declared.reply.Reply.{Reply}
@@ -27,7 +30,7 @@ use Rattle.fw_run.specs.Good.{IsGood}
 use Rattle.fw_run.proofs.Fitting.{procedure_fits, request_fits}
 use Rattle.fw_run.proofs.Hears.{Heard, heard_of, half_hears}
 use Rattle.fw_bus.specs.declared.machine.Machine.{Machine}
-use Rattle.fw_bus.specs.Stands.{StandsFor, IsReady, is_living_in, device_for, target_for, target_in}
+use Rattle.fw_bus.specs.Stands.{StandsFor, IsReady, is_living_in}
 use Rattle.fw_bus.specs.Tables.{states_of}
 use Rattle.fw_bus.specs.Wires.{packet_for}
 use Rattle.fw_bus.proofs.Exchanges.{Standing, Exchange, standing_of, addressee_is, device_is, exchange_of, exchange_within, exchange_addresses, exchange_linked, asks_request}
@@ -47,18 +50,6 @@ pub record Went (m : Machine) (d device : ℕ) : Type 0 where
   pub asks : Some access ≡ standing_in (states_of m.controllers d).current
   pub goes : Some to ≡ addressee_of m.directory access.target
   pub at : Some device ≡ node_device m.devices.latest.nodes to
-
-pub went_of : (m : Machine) (d device : ℕ) → Some device ≡ target_in m d → Went m d device
-went_of m d device e = go (standing_in (states_of m.controllers d).current) refl e
-  where
-    third : (a : Access) → Some a ≡ standing_in (states_of m.controllers d).current → (o : Option ℕ) → addressee_of m.directory a.target ≡ o
-        → Some device ≡ device_for m o → Went m d device
-    third a is None f x = absurd (none-some device (sym x))
-    third a is (Some to) f x = record { access = a; to = to; asks = is; goes = sym f; at = x }
-
-    go : (o : Option Access) → standing_in (states_of m.controllers d).current ≡ o → Some device ≡ target_for m o → Went m d device
-    go None is x = absurd (none-some device (sym x))
-    go (Some a) is x = third a (sym is) (addressee_of m.directory a.target) refl x
 
 -- a request that stands asks something
 standing_some : (m : Machine) (s : State) (d : ℕ) → IsGood s → StandsFor m s → IsTrue (is_living_in m d) → IsStanding (states_of m.controllers d).current
@@ -80,13 +71,13 @@ standing_some m s d g st lives stands = go (s.controllers d).current refl (subst
         (_, ap (λ f. standing_in (f d).current) same ∙ (ap standing_in e ∙ (half_hears s d j stage g e x).access))
 
 -- it went to the node of a device
-pub target_there : (m : Machine) (s : State) (d : ℕ) → IsGood s → StandsFor m s → IsTrue (is_living_in m d) → IsStanding (states_of m.controllers d).current
-    → (device : ℕ) × (target_in m d ≡ Some device)
-target_there m s d g st lives stands =
+pub went_there : (m : Machine) (s : State) (d : ℕ) → IsGood s → StandsFor m s → IsTrue (is_living_in m d) → IsStanding (states_of m.controllers d).current
+    → (device : ℕ) × Went m d device
+went_there m s d g st lives stands =
     let a = standing_some m s d g st lives stands in
     let x = standing_of m s d a.0 g st lives stands (sym a.1) in
     let w = device_is m s d a.0 g st x in
-    (w.0, ap (target_for m) a.1 ∙ (ap (device_for m) (addressee_is m s d a.0 st x) ∙ w.1))
+    (w.0, record { access = a.0; to = x.heard.to; asks = sym a.1; goes = sym (addressee_is m s d a.0 st x); at = sym w.1 })
 
 -- ---- its bytes
 
@@ -162,6 +153,26 @@ is_request m d device own bytes k is = record {
   asks = ap is_some (asks_request (request_head own k.went.to 0) (request_of k.went.access));
 }
 
+-- ---- the node that they are addressed to
+
+head_back : (h : Head) (q : Request) → head_of (packet_of h q) ≡ h
+head_back h (Asks.Read offset) = refl
+head_back h (Asks.ReadBlock offset len) = refl
+head_back h (Asks.Write offset value) = refl
+head_back h (Asks.WriteBlock offset bytes) = refl
+head_back h (Asks.Lock offset function bytes) = refl
+
+-- the last six bits of the destination are its number
+pub goes_to : (m : Machine) (d device own n : ℕ) → (k : Known m d device own) → n ≡ (head_of (went_packet own k.went)).destination % 64
+    → node_device m.devices.latest.nodes n ≡ Some device
+goes_to m d device own n k is =
+    let r = k.ready in
+    let x = exchanged m d device own k in
+    let to = number_low r.state device k.went.to r.good x.number in
+    let head = ap (λ (h : Head). h.destination) (head_back (request_head own k.went.to 0) (request_of k.went.access)) in
+    let same : n ≡ k.went.to = omega (arith, is, head, to) in
+    ap (node_device m.devices.latest.nodes) same ∙ sym k.went.at
+
 -- ---- the node that reads them
 
 pub device_within : (m : Machine) (d device own : ℕ) → Known m d device own → device < length m.devices.nodes
@@ -173,11 +184,10 @@ device_number m d device own k =
     number_of_node m.devices.nodes r.state device r.stands.devices.nodes (device_within m d device own k) ∙ (exchanged m d device own k).number
 
 -- it has a link
-pub device_linked : (m : Machine) (d device own : ℕ) → (k : Known m d device own) → IfSome (standing_in (states_of m.controllers d).current) (λ a. TargetFits a.target)
-    → IsTrue (has_link (node_at m.devices.nodes device).kind)
-device_linked m d device own k fits =
+pub device_linked : (m : Machine) (d device own : ℕ) → (k : Known m d device own) → IsTrue (has_link (node_at m.devices.nodes device).kind)
+device_linked m d device own k =
     let r = k.ready in
-    exchange_linked m r.state d k.went.access k.went.to device r.good r.stands (subst (λ o. IfSome o (λ a. TargetFits a.target)) (sym k.went.asks) fits) (exchanged m d device own k)
+    exchange_linked m r.state d k.went.access k.went.to device r.good r.stands (exchanged m d device own k)
 
 -- ---- the response that it writes
 

@@ -138,9 +138,9 @@ calm_set marks list d b y h lt few rests = record { size = length-set marks d b 
             subst IsAtRest (sym (get_or-set_other list d k y new_controller other)) (h.each k mark)
 
 -- none is marked
-pub calm_none : (marks : List Bool) (list : List ControllerState) → marks ≡ replicate 63 false → AreCalm marks list
+pub calm_none : (marks : List Bool) (list : List ControllerState) → marks ≡ replicate 256 false → AreCalm marks list
 calm_none marks list is = subst (λ (ms : List Bool). AreCalm ms list) (sym is)
-    (record { size = length-replicate 63 false; each = λ k marked. absurd (false≢true (sym (none_dead 63 k) ∙ marked)) })
+    (record { size = length-replicate 256 false; each = λ k marked. absurd (false≢true (sym (none_dead 256 k) ∙ marked)) })
 
 -- one more, which is not marked
 pub calm_push : (marks : List Bool) (list : List ControllerState) → AreCalm marks list → AreCalm marks (list ++ new_controller ∷ [])

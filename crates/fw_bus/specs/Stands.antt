@@ -18,12 +18,9 @@ use Rattle.fw_run.specs.Units.{HasDeck}
 use Rattle.fw_run.specs.Spaces.{space_at}
 use Rattle.fw_run.specs.Good.{IsGood}
 use Rattle.fw_run.specs.Numbers.{HasNumbers}
-use Rattle.fw_cmp.specs.declared.request.Access.{Access}
-use Rattle.fw_cmp.specs.Requests.{addressee_of, standing_in}
-use Rattle.fw_devices.specs.Entries.{node_device}
 use Rattle.fw_bus.specs.Lingering.{HasLingering}
 use Rattle.fw_bus.specs.Streaming.{HasStreams}
-use Rattle.fw_bus.specs.Tables.{IsTable, dead_of, states_of}
+use Rattle.fw_bus.specs.Tables.{IsTable, dead_of}
 use Rattle.fw_bus.specs.Wires.{HasWire}
 
 -- ---- devices
@@ -103,18 +100,6 @@ is_living_in m d = is_linked_in m.devices d && not (dead_of m.controllers d)
 -- the devices whose controllers live, in order of declaration
 abbrev pub living_in : Machine → List ℕ
 living_in m = numbers_to (length m.devices.names) (is_living_in m)
-
--- the device of the node that an access goes to, and of that to which the request that stands of the controller of a device went
-abbrev pub device_for : Machine → Option ℕ → Option ℕ
-device_for m None = None
-device_for m (Some to) = node_device m.devices.latest.nodes to
-
-abbrev pub target_for : Machine → Option Access → Option ℕ
-target_for m None = None
-target_for m (Some a) = device_for m (addressee_of m.directory a.target)
-
-abbrev pub target_in : Machine → ℕ → Option ℕ
-target_in m d = target_for m (standing_in (states_of m.controllers d).current)
 
 -- what a quadlet read of a register of a device is answered
 abbrev pub read_in : Machine → ℕ → ℕ → Reply

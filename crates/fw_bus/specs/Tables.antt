@@ -27,7 +27,7 @@ pub record IsTable (t : ControllerTable) (count : ℕ) (states : ℕ → Control
 
 -- the controllers that are marked have nothing to do
 pub record AreCalm (marks : List Bool) (list : List ControllerState) : Type 0 where
-  pub size : length marks ≡ 63
+  pub size : length marks ≡ 256
   pub each : (d : ℕ) → IsTrue (slice_index_or marks d false) → IsAtRest (slice_index_or list d new_controller)
 
 -- what is kept is of 63 devices at most

@@ -22,6 +22,9 @@ use std::marker::Model;
 /// How many devices a bus may have.
 const MOST: usize = 63;
 
+/// How many numbers a `u8` may be, so that a look at a place needs no test.
+const PLACES: usize = 256;
+
 /// The controller of each declared device, by number. That of a device without one is as one that has just started.
 #[derive(Drop)]
 pub struct Controllers {
@@ -29,7 +32,7 @@ pub struct Controllers {
     /// The controller died, and was not started again.
     dead: [bool; MOST],
     /// The controller was found to have nothing to do, and nothing has happened to it since.
-    calm: [bool; MOST],
+    calm: [bool; PLACES],
 }
 
 impl Model for Controllers {
@@ -92,6 +95,7 @@ impl Controllers {
     }
 
     /// What the controller of a device does next (`Controller::next`).
+    #[inline(always)]
     pub fn next(&mut self, device: u8, now: u64, directory: &Directory) -> Next
         requires device { device < count_of self.old }
         requires heard { IsHeard (states_of self.old device).current }
@@ -107,6 +111,7 @@ impl Controllers {
     }
 
     /// The controller of a device hears the reply to the request that stands (`Controller::hear`).
+    #[inline(always)]
     pub fn hear(&mut self, device: u8, reply: &Reply)
         requires device { device < count_of self.old }
         requires stands { IsStanding (states_of self.old device).current }
@@ -220,10 +225,10 @@ fn end_second(list: &mut [Controller])
 }
 
 /// No marks.
-fn unmarked() -> [bool; MOST]
-    ensures { result ≡ replicate 63 false }
+fn unmarked() -> [bool; PLACES]
+    ensures { result ≡ replicate 256 false }
 {
-    [false; MOST]
+    [false; PLACES]
 }
 
 /// Whether the controller has nothing to do.

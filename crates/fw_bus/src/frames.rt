@@ -136,7 +136,7 @@ impl Machine {
         requires frame { (n : ℕ) × IsFrameTo frame.now n × IsSome (node_device self.now.devices.latest.nodes n) }
         ensures { (n : ℕ) → IsFrameTo frame.now n → node_device self.now.devices.latest.nodes n ≡ Some result }
     {
-        match self.device_at(destination(frame)) {
+        match self.devices.device_at(destination(frame)) {
             Some(device) => device,
             None => unreachable!(),
         }

@@ -29,6 +29,7 @@ pub(crate) fn give<K: Sink>(
 }
 
 /// Writes the entry of a packet of this cycle, which is in the room.
+#[inline(always)]
 pub(crate) fn give_packet<K: Sink>(
     cycle: u64,
     packet: &mut PacketRoom,

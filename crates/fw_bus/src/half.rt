@@ -1,19 +1,17 @@
 //! One half step of a controller: its request is carried out and it hears the answer, or it says what it does next.
 
-ghost use Rattle.std.specs.Prelude.{◌≡◌, ◌<◌, ℕ, IsTrue, IfSome, Some};
-ghost use Rattle.fw_cmp.specs.Fits.{TargetFits};
-ghost use Rattle.fw_cmp.specs.Requests.{standing_in};
+ghost use Rattle.std.specs.Prelude.{◌≡◌, ◌%◌, ℕ, IsTrue};
 ghost use Rattle.fw_cmp.specs.Controllers.{IsHeard, IsStanding};
 ghost use Rattle.fw_run.specs.HalfSteps as HalfSteps;
 ghost use Rattle.fw_bus.specs.Doings.{Speaks};
-ghost use Rattle.fw_devices.specs.Entries.{node_device};
-ghost use Rattle.fw_bus.specs.Stands.{IsReady, is_living_in, target_in};
-ghost use Rattle.fw_bus.specs.Tables.{count_of, dead_of, states_of};
+ghost use Rattle.fw_bus.specs.Stands.{IsReady, is_living_in};
+ghost use Rattle.fw_bus.specs.Tables.{dead_of, states_of};
 
 use crate::entries::outcome_entry;
 use crate::give::{give, give_packet};
 use crate::machine::Machine;
 use crate::room::Room;
+use fw_async::destination_at;
 use fw_cmp::Next;
 use fw_node::put_request;
 use fw_outside::{Failed, Sink};
@@ -82,11 +80,11 @@ impl Machine {
         ensures half_steps { self.new.half_steps ≡ self.old.half_steps }
         ensures names { self.new.devices.names ≡ self.old.devices.names }
     {
-        let Some(target) = self.target(device) else {
-            return Ok(());
-        };
         let own = self.number(device);
         let Some(bytes) = self.wire.get(own) else {
+            return Ok(());
+        };
+        let Some(target) = self.devices.device_at(number_in(destination_at(bytes))) else {
             return Ok(());
         };
         let reply = self
@@ -97,29 +95,11 @@ impl Machine {
         self.controllers.hear(device, &reply);
         give_packet(self.cycle, &mut room.packet, sink)
     }
+}
 
-    /// The device of the node to which the request that stands of a device's controller went. None where none stands.
-    fn target(&self, device: u8) -> Option<u8>
-        requires { device < count_of self.now.controllers }
-        ensures target { result ≡ target_in self.now device }
-        ensures fits { IfSome (standing_in (states_of self.now.controllers device).current) (λ a. TargetFits a.target) }
-    {
-        let access = self.controllers.get(device).standing()?;
-        let to = self.directory.addressee(access.target)?;
-        self.device_at(to)
-    }
-
-    /// The device that is the node with this number.
-    pub(crate) fn device_at(&self, number: u8) -> Option<u8>
-        ensures { result ≡ node_device self.now.devices.latest.nodes number }
-    {
-        let row = self
-            .devices
-            .latest()
-            .get()
-            .nodes
-            .as_slice()
-            .get(usize::from(number))?;
-        Some(row.device)
-    }
+/// The number of a node, by its node ID: the last six bits (IEEE 1394-1995, node_ID).
+fn number_in(id: u16) -> u8
+    ensures { result ≡ id % 64 }
+{
+    (id % 64) as u8
 }

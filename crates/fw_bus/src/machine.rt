@@ -1,4 +1,4 @@
-ghost use Rattle.std.specs.Prelude.{◌≡◌, ◌<◌, ◌≤◌, ℕ, IfOk, IsTrue, Some, length};
+ghost use Rattle.std.specs.Prelude.{◌≡◌, ◌<◌, ◌≤◌, ℕ, IfOk, IsTrue, Some, false, length, slice_index_or};
 ghost use Rattle.fw_run.specs.State.{State, first_state, living};
 ghost use Rattle.fw_run.specs.Good.{IsGood};
 ghost use Rattle.fw_run.specs.HalfSteps.{is_busy_at, is_unsettled};
@@ -111,9 +111,6 @@ impl Machine {
         requires living { IsTrue (is_living_in self.now device) }
         ensures { (s : State) → IsGood s → StandsFor self.now s → result ≡ is_busy_at s device }
     {
-        if self.controllers.is_calm(device) {
-            return false;
-        }
         self.controllers
             .get(device)
             .busy(self.cycle, &self.directory)
@@ -125,10 +122,24 @@ impl Machine {
         ensures { (s : State) → IsGood s → StandsFor self.now s → result ≡ is_unsettled s }
     {
         for device in 0..self.devices.count() {
+            if self.controllers.is_calm(device) {
+                continue;
+            }
             if self.is_living(device) && self.is_busy(device) {
                 return true;
             }
         }
         false
+    }
+
+    /// Which controllers live.
+    pub(crate) fn living_marks(&self) -> [bool; 63]
+        ensures { (d : ℕ) → d < length self.now.devices.names → slice_index_or result d false ≡ is_living_in self.now d }
+    {
+        let mut marks = [false; 63];
+        for device in 0..self.devices.count() {
+            marks[usize::from(device)] = self.is_living(device);
+        }
+        marks
     }
 }

@@ -1,6 +1,6 @@
 //! Half steps, rounds of them, and what is written after a `settle`.
 
-ghost use Rattle.std.specs.Prelude.{◌≡◌, ◌≤◌, ◌<◌, ◌+◌, ◌*◌, ◌-◌, ℕ, [], ◌∷◌, IfOk, IsTrue, IsFalse, length};
+ghost use Rattle.std.specs.Prelude.{◌≡◌, ◌≤◌, ◌<◌, ◌+◌, ◌*◌, ◌-◌, ℕ, [], ◌∷◌, IfOk, IsTrue, IsFalse, false, length, slice_index_or};
 ghost use Rattle.fw_run.specs.Actions.{HalfStep};
 ghost use Rattle.fw_run.specs.Carrying.{times, Carries};
 ghost use Rattle.fw_run.specs.Good.{IsGood};
@@ -60,9 +60,15 @@ impl Machine {
         Ok(())
     }
 
-    /// One round: each living controller, in order of declaration, takes one half step.
-    fn round<K: Sink>(&mut self, room: &mut Room, sink: &mut K) -> Result<(), Failed>
+    /// One round: each living controller, in order of declaration, takes one half step. `living` marks those.
+    fn round<K: Sink>(
+        &mut self,
+        living: &[bool; 63],
+        room: &mut Room,
+        sink: &mut K,
+    ) -> Result<(), Failed>
         requires ready { IsReady self.old }
+        requires marks { (d : ℕ) → d < length self.old.devices.names → slice_index_or living.now d false ≡ is_living_in self.old d }
         requires few { self.old.half_steps + length (living_in self.old) ≤ 4000000 }
         ensures does { Does OneRound self.old self.new (K.held sink.old) (K.held sink.new) (K.faults sink.old) (K.faults sink.new) result }
         ensures living { (d : ℕ) → is_living_in self.new d ≡ is_living_in self.old d }
@@ -70,7 +76,7 @@ impl Machine {
         ensures count { IfOk result (λ _. self.new.half_steps ≡ self.old.half_steps + length (living_in self.old)) }
     {
         for device in 0..self.devices.count() {
-            if !self.is_living(device) {
+            if !living[usize::from(device)] {
                 continue;
             }
             self.half_step(device, room, sink)?;
@@ -94,12 +100,13 @@ impl Machine {
         requires few { self.old.half_steps + count * length (living_in self.old) ≤ 4000000 }
         ensures does { Does (SomeRounds count) self.old self.new (K.held sink.old) (K.held sink.new) (K.faults sink.old) (K.faults sink.new) result }
     {
+        let living = self.living_marks();
         for i in 0..count {
             if !self.is_unsettled() {
                 self.rest(count - i);
                 return Ok(());
             }
-            self.round(room, sink)?;
+            self.round(&living, room, sink)?;
         }
         Ok(())
     }

@@ -52,6 +52,7 @@ impl Target {
 
 impl Access {
     /// The request packet's part: a quadlet read, or a lock.
+    #[inline(always)]
     pub fn request(&self) -> Request<'static>
         ensures { result ≡ request_of self.now }
     {
@@ -83,6 +84,7 @@ impl Job {
     }
 
     /// What a stage that is only looked at asks.
+    #[inline(always)]
     pub(crate) fn access_at(&self, stage: &Stage) -> Option<Access>
         requires job { JobFits self.now }
         requires fits { StageFits self.now stage.now }

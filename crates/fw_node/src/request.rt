@@ -114,6 +114,7 @@ pub fn request_packet<'a>(from: u8, to: u8, label: u8, r: &Request<'a>) -> Packe
 }
 
 /// `request_packet` as bytes, in place of what `out` held.
+#[inline(always)]
 pub fn put_request(from: u8, to: u8, label: u8, r: &Request, out: &mut PacketRoom)
     requires from { from ≤ 62 }
     requires to { to ≤ 62 }
@@ -166,6 +167,7 @@ fn swap_in(function: u8, bytes: &Bytes16) -> Option<QuadletSwap>
 }
 
 /// What the packet of a request of one quadlet asks.
+#[inline(always)]
 pub fn asked_of(q: &QuadletRequest) -> Request<'static>
     ensures { request_in (quadlet_packet q.now) ≡ Some result }
 {

@@ -56,6 +56,7 @@ impl Devices {
     }
 
     /// The same, with the reply that the response carries beside its bytes, which are put into `out` (`fw_node::Node::serve`).
+    #[inline(always)]
     pub fn serve(&mut self, device: u8, now: u64, bytes: &[u8], out: &mut PacketRoom) -> Reply
         requires request { IsRequest bytes.now }
         requires declared { device < length self.old.nodes }

@@ -4,6 +4,7 @@ ghost use Rattle.std.specs.Prelude.{◌≡◌, ◌+◌, ◌<◌, ◌≤◌, ◌^
 ghost use Rattle.fw_entry.specs.Log.{ResetFits};
 ghost use Rattle.fw_tree.specs.Cables.{IsOnBus};
 ghost use Rattle.fw_tree.specs.Numbers.{number_at};
+ghost use Rattle.fw_devices.specs.Entries.{node_device};
 ghost use Rattle.fw_devices.specs.Network.{node_at};
 ghost use Rattle.fw_devices.specs.Resets.{IsReset, numbered};
 
@@ -59,5 +60,18 @@ impl Devices {
         ensures { result ≡ self.now.latest }
     {
         BorrowedReset::new(&self.bus.entry)
+    }
+
+    /// The device that is the node with this number. None where no node has it.
+    pub fn device_at(&self, number: u8) -> Option<u8>
+        ensures { result ≡ node_device self.now.latest.nodes number }
+    {
+        let row = self
+            .latest()
+            .get()
+            .nodes
+            .as_slice()
+            .get(usize::from(number))?;
+        Some(row.device)
     }
 }

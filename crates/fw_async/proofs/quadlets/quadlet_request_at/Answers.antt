@@ -1,5 +1,4 @@
-use Rattle.std.proofs.Common.{◌<◌, ◌≡◌, ℕ, slice_index, arith, sym, refl, ap, ◌∙◌}
-use Rattle.fw_async.specs.Async.{AreBytes}
+use Rattle.std.proofs.Common.{◌≡◌, arith, sym, ap, ◌∙◌}
 use Rattle.fw_async.specs.Tcode.{code_of}
 use Rattle.fw_async.specs.Reading.{tcode_of}
 use Rattle.fw_async.proofs.QuadletLaws.{complete_of, long_lock, read_back, asked, least}

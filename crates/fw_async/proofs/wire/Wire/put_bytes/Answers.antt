@@ -1,4 +1,4 @@
-use Rattle.std.proofs.Common.{◌≢◌, ℕ, ◌++◌, [], ◌∷◌, List, take, length, arith, sym, ◌∙◌, ap, subst}
+use Rattle.std.proofs.Common.{◌≢◌, ℕ, ◌++◌, [], ◌∷◌, List, take, arith, sym, ◌∙◌, ap, subst}
 use Rattle.fw_async.specs.Wire.{IsKept, bytes_from}
 use Rattle.fw_async.proofs.ExactLaws.{whole_from_spells}
 use Rattle.fw_async.proofs.NeedLaws.{need_least}

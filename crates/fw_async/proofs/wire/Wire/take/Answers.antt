@@ -1,7 +1,6 @@
-use Rattle.std.proofs.Common.{◌≡◌, ◌≢◌, ◌<◌, ℕ, List, [], ◌++◌, Some, take, get_or, slice_set, arith, refl, sym, ◌∙◌, ap, subst}
-use Rattle.fw_async.specs.Wire.{IsKept, bytes_from, bytes_at, without, pairs_at}
-use Rattle.std.proofs.lemmas.List.{set-get_or}
-use Rattle.fw_async.proofs.WireLaws.{found, missing, beyond, none_taken, take_kept, take_pairs}
+use Rattle.std.proofs.Common.{◌≡◌, ◌≢◌, [], ◌++◌, Some, take, get_or, arith, refl, sym, ◌∙◌, ap}
+use Rattle.fw_async.specs.Wire.{bytes_from, bytes_at, without}
+use Rattle.fw_async.proofs.WireLaws.{found, missing, beyond, none_taken}
 use Rattle.fw_async.proofs.wire.Wire.take.Goals as goal
 use Rattle.fw_async.proofs.wire.Wire.take.Goals.{then-at-ge-MOST-via-then-at-ge-MOST, then-at-ge-MOST-via-else-at-ge-MOST+then-self-at-eq0}
 

@@ -3,6 +3,7 @@ use Rattle.fw_run.specs.State.{State, is_living}
 use Rattle.fw_run.specs.Good.{IsGood}
 use Rattle.fw_run.specs.HalfSteps.{is_busy_at}
 use Rattle.fw_bus.specs.Stands.{StandsFor}
+use Rattle.fw_bus.proofs.Idles.{rest_busy}
 use Rattle.fw_bus.proofs.Living.{living_same, settled_all, unsettled_at}
 use Rattle.fw_bus.proofs.machine.Machine.is_unsettled.Goals as goal
 use Rattle.fw_bus.proofs.machine.Machine.is_unsettled.Goals.{else-is_living-via-then-is_living+else-is_busy, else-is_living-via-else-is_living}
@@ -16,6 +17,14 @@ returns-then-is_busy c = λ s g st.
     let lives : is_living s d ≡ true = sym (living_same m s d g st) ∙ (sym c.is_living.ensures ∙ c.if-is_living.true) in
     let busy : is_busy_at s d ≡ true = sym (c.is_busy.ensures s g st) ∙ c.if-is_busy.true in
     sym (unsettled_at s d (omega arith) lives busy)
+
+pub loop-device-preserved-then-is_calm : goal.loop-device-preserved-then-is_calm
+loop-device-preserved-then-is_calm c = λ s g st. below_more (λ d. (is_living s d && is_busy_at s d) ≡ false) c.loop-device.device (c.loop-device.invariant s g st)
+    (rests (is_living s c.loop-device.device) (is_busy_at s c.loop-device.device) (rest_busy c.args.self.now s c.loop-device.device st (c.is_calm.ensures c.if-is_calm.true)))
+  where
+    rests : (a b : Bool) → b ≡ false → (a && b) ≡ false
+    rests true b e = e
+    rests false b e = refl
 
 pub loop-device-preserved : goal.loop-device-preserved
 loop-device-preserved c = λ s g st. below_more (λ d. (is_living s d && is_busy_at s d) ≡ false) c.loop-device.device (c.loop-device.invariant s g st) (here s g st)

@@ -1,4 +1,4 @@
-use Rattle.std.proofs.Common.{refl, rules, arith, sym, ◌∙◌, ◌≡◌, ◌≤◌, ◌<◌, ◌+◌, length, true, false, cond, ap}
+use Rattle.std.proofs.Common.{refl, ℕ, slice_index_or, rules, arith, sym, ◌∙◌, ◌≡◌, ◌≤◌, ◌<◌, ◌+◌, length, true, false, cond, ap}
 use Rattle.std.specs.Prelude.{Err}
 use Rattle.fw_run.specs.State.{numbers_to}
 use Rattle.fw_bus.specs.Stands.{is_living_in, living_in}
@@ -15,7 +15,7 @@ half_step-requires-clause-few g c =
     let few = c.requires.few in
     let within = c.loop-device-test.true in
     let value = c.count-device-end.ensures.value in
-    let lives : is_living_in c.args.self.now c.loop-device.device ≡ true = sym (c.loop-device.invariant.living c.loop-device.device) ∙ (sym c.is_living.ensures ∙ c.if-not-is_living.false) in
+    let lives : is_living_in c.args.self.now c.loop-device.device ≡ true = sym (c.requires.marks c.loop-device.device (omega (arith, c.loop-device-test.true, c.count-device-end.ensures.value))) ∙ (ap (λ (i : ℕ). slice_index_or c.args.living.now i false) (sym c.from.ensures) ∙ c.if-not-living-from.false) in
     let more = count_more c.loop-device.device (is_living_in c.args.self.now) ∙ ap (λ b. length (numbers_to c.loop-device.device (is_living_in c.args.self.now)) + cond b 1 0) lives in
     let front = count_front (c.loop-device.device + 1) (length c.args.self.now.devices.names) (is_living_in c.args.self.now) (omega (arith, within, value)) in
     omega (arith, count, few, more, front)
@@ -36,9 +36,9 @@ returns g c =
       count = c.loop-device.invariant.count ∙ ap (λ n. c.args.self.now.half_steps + length (numbers_to n (is_living_in c.args.self.now))) all;
     }
 
-pub loop-device-preserved-then-not-is_living : goal.loop-device-preserved-then-not-is_living
-loop-device-preserved-then-not-is_living g c =
-    let off : is_living_in c.args.self.now c.loop-device.device ≡ false = sym (c.loop-device.invariant.living c.loop-device.device) ∙ (sym c.is_living.ensures ∙ c.if-not-is_living.true) in
+pub loop-device-preserved-then-not-living-from : goal.loop-device-preserved-then-not-living-from
+loop-device-preserved-then-not-living-from g c =
+    let off : is_living_in c.args.self.now c.loop-device.device ≡ false = sym (c.requires.marks c.loop-device.device (omega (arith, c.loop-device-test.true, c.count-device-end.ensures.value))) ∙ (ap (λ (i : ℕ). slice_index_or c.args.living.now i false) (sym c.from.ensures) ∙ c.if-not-living-from.true) in
     let more = count_more c.loop-device.device (is_living_in c.args.self.now) ∙ ap (λ b. length (numbers_to c.loop-device.device (is_living_in c.args.self.now)) + cond b 1 0) off in
     record {
       count = let count = c.loop-device.invariant.count in omega (arith, count, more);
@@ -51,12 +51,12 @@ pub returns-in_err-half_step-clause-does : goal.returns-in_err-half_step-clause-
 returns-in_err-half_step-clause-does g c =
     let value = c.count-device-end.ensures.value in
     let within = c.loop-device-test.true in
-    let lives : is_living_in c.args.self.now c.loop-device.device ≡ true = sym (c.loop-device.invariant.living c.loop-device.device) ∙ (sym c.is_living.ensures ∙ c.if-not-is_living.false) in
+    let lives : is_living_in c.args.self.now c.loop-device.device ≡ true = sym (c.requires.marks c.loop-device.device (omega (arith, c.loop-device-test.true, c.count-device-end.ensures.value))) ∙ (ap (λ (i : ℕ). slice_index_or c.args.living.now i false) (sym c.from.ensures) ∙ c.if-not-living-from.false) in
     round_cut _ (Err _) _ (omega (arith, value, within)) lives c.requires.few refl c.from_residual.ensures.0 c.loop-device.invariant.does c.in_err-half_step.ensures.does
 
 pub loop-device-preserved : goal.loop-device-preserved
 loop-device-preserved g c =
-    let lives : is_living_in c.args.self.now c.loop-device.device ≡ true = sym (c.loop-device.invariant.living c.loop-device.device) ∙ (sym c.is_living.ensures ∙ c.if-not-is_living.false) in
+    let lives : is_living_in c.args.self.now c.loop-device.device ≡ true = sym (c.requires.marks c.loop-device.device (omega (arith, c.loop-device-test.true, c.count-device-end.ensures.value))) ∙ (ap (λ (i : ℕ). slice_index_or c.args.living.now i false) (sym c.from.ensures) ∙ c.if-not-living-from.false) in
     let more = count_more c.loop-device.device (is_living_in c.args.self.now) ∙ ap (λ b. length (numbers_to c.loop-device.device (is_living_in c.args.self.now)) + cond b 1 0) lives in
     record {
       count = let count = c.loop-device.invariant.count in let one = c.in_ok-half_step.ensures.count in omega (arith, count, one, more);

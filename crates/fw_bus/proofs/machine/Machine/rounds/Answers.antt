@@ -23,6 +23,11 @@ pub round-requires-clause-few : goal.round-requires-clause-few
 round-requires-clause-few g c =
     round_within c.args.self.now c.loop-i.self c.loop-i.i c.args.count c.loop-i-test.true (living_kept c.args.self.now c.loop-i.self c.loop-i.invariant.names c.loop-i.invariant.living) c.loop-i.invariant.count c.requires.few
 
+pub round-requires-clause-marks : goal.round-requires-clause-marks
+round-requires-clause-marks g c = λ d lt.
+    let names = ap (λ (z : List (List ℕ)). length z) c.loop-i.invariant.names in
+    c.living_marks-living.ensures d (omega (arith, lt, names)) ∙ sym (c.loop-i.invariant.living d)
+
 pub loop-i-init : goal.loop-i-init
 loop-i-init g c = record { count = omega arith; living = λ d. refl; names = refl; does = rounds_none _ _ _ _ }
 
