@@ -20,6 +20,7 @@ use Rattle.fw_ledger.specs.Words.{node_of}
 use Rattle.fw_tape.specs.declared.cassette.BlockPlace.{BlockPlace}
 use Rattle.fw_tape.specs.declared.cassette.Cassette.{Cassette}
 use Rattle.fw_tape.specs.Blocks.{Gives, block_now}
+use Rattle.fw_tape.specs.Desks.{BlockRelation}
 use Rattle.fw_tape.specs.Motion.{is_fifty}
 use Rattle.fw_node.specs.Streams.{talking_on}
 use Rattle.fw_devices.specs.Decks.{tape_of}
@@ -167,6 +168,13 @@ ready_talker {m} d channel r low is =
     let few = few_nodes m.devices.nodes s g h in
     (is_node_same m.devices.nodes s h g d ∙ talker_on_bus s d g on.0, omega (arith, fits, same), omega (arith, low, few))
 
+-- it fits its fields
+pub packet_fits : {m : Machine} {packet : IsoPacket} {at own : ℕ} (d channel : ℕ) → IsReady m → d < length m.devices.nodes
+    → talking_on (node_at m.devices.nodes d) ≡ Some channel → at ≡ channel → own ≤ 62 → (at < 64 → own < 64 → Iso.Fits packet) → Iso.Fits packet
+packet_fits d channel r low is same few fits =
+    let on = (ready_talker d channel r low is).1 in
+    fits (omega (arith, on, same)) (omega (arith, few))
+
 -- a packet is the same for the same fields
 pub packet_same : {packet : IsoPacket} (blocks own : ℕ) {at channel : ℕ} {fifty is : Bool} {some block : Option (List ℕ)}
     → packet ≡ packet_after at blocks own fifty some
@@ -181,6 +189,14 @@ pub record Packing (D : DeskRelations) (m : Machine) (d channel own : ℕ) (befo
   pub gives : Gives D.blocks (block_now (tape_of (node_at m.devices.nodes d))) block
   pub packet_is : packet ≡ packet_after channel (count_at before d) own (is_fifty (tape_of (node_at m.devices.nodes d))) block
   pub fits : Iso.Fits packet
+
+-- a block that is given for the place that is due, and none where none is due
+pub gives_some : (R : BlockRelation) {o : Option BlockPlace} (place : BlockPlace) (bytes : List ℕ) → Some place ≡ o
+    → R place.tape place.frame place.block bytes → Gives R o (Some bytes)
+gives_some R place bytes due f = subst (λ (o : Option BlockPlace). Gives R o (Some bytes)) due f
+
+pub gives_none : (R : BlockRelation) {o : Option BlockPlace} → None ≡ o → Gives R o None
+gives_none R due = subst (λ (o : Option BlockPlace). Gives R o None) due tt
 
 -- the block that was given, with its place
 given_block : Option BlockPlace → Option (List ℕ) → Option GivenBlock

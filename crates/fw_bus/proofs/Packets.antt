@@ -1,5 +1,6 @@
 -- The packets of a cycle: the plugs that talk in it send theirs, in order of channel.
-use Rattle.std.proofs.Common.{◌≡◌, ℕ, zero, suc, ◌+◌, ◌-◌, ◌<◌, ◌≤◌, List, [], ◌∷◌, ◌++◌, length, slice_index_or, Option, Some, None, option_map, refl, ap, sym, subst, ◌∙◌, arith, append_assoc, append-nil, add-one}
+use Rattle.std.proofs.Common.{◌≡◌, ℕ, zero, suc, ◌+◌, ◌-◌, ◌<◌, ◌≤◌, List, [], ◌∷◌, ◌++◌, length, map, slice_index_or, Option, Some, None, option_map, refl, ap, sym, subst, ◌∙◌, arith, append_assoc, append-nil, add-one}
+use Rattle.std.proofs.lemmas.List.{length-map}
 use Rattle.std.specs.Prelude.{Ok, IsErr}
 use Rattle.std.specs.declared.result.Result.{Result}
 use Rattle.fw_base.specs.Tables.{at_plug}
@@ -16,13 +17,39 @@ use Rattle.fw_run.specs.Streams.{those, talker_on, talkers_to}
 use Rattle.fw_run.proofs.CanWrite.{can_send, talkers_talk}
 use Rattle.fw_run.proofs.Counting.{packets_are}
 use Rattle.fw_run.proofs.Runs.{packets_steps}
+use Rattle.fw_node.specs.State.{NodeState}
+use Rattle.fw_node.specs.Streams.{talking_on}
+use Rattle.fw_devices.specs.Decks.{passed}
+use Rattle.fw_devices.specs.Network.{Network, node_at}
 use Rattle.fw_devices.specs.Streams.{AreTalkers}
 use Rattle.fw_bus.specs.declared.machine.Machine.{Machine}
 use Rattle.fw_bus.specs.Cycling.{HadSent, Sends, SendsTo, DoesWhere}
+use Rattle.fw_bus.specs.Resetting.{passed_in}
 use Rattle.fw_bus.specs.Stands.{StandsFor}
+use Rattle.fw_bus.proofs.DeckNodes.{mapped_at}
 use Rattle.fw_bus.proofs.Desks.{LeadsTo, where_cut, where_nothing, where_then, where_when}
 use Rattle.fw_bus.proofs.Doings.{Follows, GoesOn}
 use Rattle.fw_bus.proofs.Talking.{talker_is}
+
+-- ---- those that talk
+
+-- as cycles go by they stay the same
+pub talkers_pass : (m now : Machine) {talkers : List (Option ℕ)} (cycles : ℕ) → now.devices ≡ passed_in cycles m.devices
+    → AreTalkers (length m.devices.nodes) m.devices.nodes talkers → AreTalkers (length now.devices.nodes) now.devices.nodes talkers
+talkers_pass m now {talkers} cycles is are = subst (λ (n : Network). AreTalkers (length n.nodes) n.nodes talkers) (sym is) (record {
+  size = are.size;
+  talk = λ channel d e. let x = are.talk channel d e in (let low = x.0 in omega (arith, low, size), same d x.0 ∙ x.1);
+  all = λ d channel lt on. let low : d < length nodes = omega (arith, lt, size) in are.all d channel low (sym (same d low) ∙ on);
+})
+  where
+    nodes : List NodeState
+    nodes = m.devices.nodes
+
+    size : length (map (passed cycles) nodes) ≡ length nodes
+    size = length-map nodes (passed cycles)
+
+    same : (d : ℕ) → d < length nodes → talking_on (node_at (map (passed cycles) nodes) d) ≡ talking_on (node_at nodes d)
+    same d low = ap talking_on (mapped_at (passed cycles) nodes d low)
 
 -- ---- packets one after another
 
@@ -84,6 +111,26 @@ packets_skip i talkers {m} are none d = where_when (λ s t xs out g st p f.
     let same : talkers_to (i + 1) s.account ≡ front =
     talkers_more i s.account ∙ (ap (λ o. front ++ those o) (talker_at m talkers i None are none s g st) ∙ append-nil front) in
     subst (λ ps. SendsPackets ps s xs out t) (sym same) p) d
+
+-- nor on any channel behind
+packets_rest : {T E : Type 0} {A : State → Type 0} {D : DeskRelations} (i k : ℕ) (talkers : List (Option ℕ))
+    {m now : Machine} {a b : Option (List ℕ)} {c l : ℕ} {u : T}
+    → AreTalkers (length m.devices.nodes) m.devices.nodes talkers → ((channel : ℕ) → i ≤ channel → slice_index_or talkers channel None ≡ None)
+    → DoesWhere {T = T} {E = E} A D (SendsTo i) m now a b c l (Ok u) → DoesWhere {T = T} {E = E} A D (SendsTo (i + k)) m now a b c l (Ok u)
+packets_rest {T = T} {E} {A} {D} i zero talkers {m} {now} {a} {b} {c} {l} {u} are silent d =
+    let e : i ≡ i + 0 = omega arith in subst (λ j. DoesWhere {T = T} {E = E} A D (SendsTo j) m now a b c l (Ok u)) e d
+packets_rest {T = T} {E} {A} {D} i (suc k) talkers {m} {now} {a} {b} {c} {l} {u} are silent d =
+    let e : i + k + 1 ≡ i + suc k = omega arith in
+    subst (λ j. DoesWhere {T = T} {E = E} A D (SendsTo j) m now a b c l (Ok u)) e
+    (packets_skip (i + k) talkers are (silent (i + k) (omega arith)) (packets_rest i k talkers are silent d))
+
+pub packets_whole : {T E : Type 0} {A : State → Type 0} {D : DeskRelations} (i : ℕ) (talkers : List (Option ℕ))
+    {m now : Machine} {a b : Option (List ℕ)} {c l : ℕ} {u : T}
+    → i ≤ 64 → AreTalkers (length m.devices.nodes) m.devices.nodes talkers → ((channel : ℕ) → i ≤ channel → slice_index_or talkers channel None ≡ None)
+    → DoesWhere {T = T} {E = E} A D (SendsTo i) m now a b c l (Ok u) → DoesWhere {T = T} {E = E} A D (SendsTo 64) m now a b c l (Ok u)
+packets_whole {T = T} {E} {A} {D} i talkers {m} {now} {a} {b} {c} {l} {u} few are silent d =
+    let e : i + (64 - i) ≡ 64 = omega (arith, few) in
+    subst (λ j. DoesWhere {T = T} {E = E} A D (SendsTo j) m now a b c l (Ok u)) e (packets_rest i (64 - i) talkers are silent d)
 
 -- a packet is that of a list of one plug
 one_packet : (s t : State) (d : ℕ) (xs : List Action) (out : List Timed) → Sends d s xs out t → SendsPackets (at_plug d 0 ∷ []) s xs out t

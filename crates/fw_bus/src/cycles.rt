@@ -7,6 +7,7 @@ ghost use Rattle.fw_async.specs.Async.{Fits};
 ghost use Rattle.fw_entry.specs.declared.entry.ResetEntry.{ResetEntry};
 ghost use Rattle.fw_node.specs.Streams.{talking_on};
 ghost use Rattle.fw_devices.specs.Network.{node_at};
+ghost use Rattle.fw_devices.specs.Streams.{AreTalkers};
 ghost use Rattle.fw_run.specs.Carrying.{Carries};
 ghost use Rattle.fw_run.specs.Desks.{DeskRelations};
 ghost use Rattle.fw_run.specs.Good.{IsGood};
@@ -19,11 +20,12 @@ ghost use Rattle.fw_bus.specs.Doings.{Does};
 ghost use Rattle.fw_bus.specs.Framing.{DoesBy};
 ghost use Rattle.fw_bus.specs.Stands.{IsReady, StandsFor};
 
-use crate::give::give;
+use crate::give::{give, give_iso};
 use crate::machine::Machine;
 use crate::room::Room;
 use crate::streams::Streams;
 use fw_async::{Head, Packet};
+use fw_devices::Talkers;
 use fw_entry::Entry;
 use fw_node::{cycle_time, node_id};
 use fw_outside::{Failed, Sink};
@@ -33,8 +35,6 @@ use fw_tape::Desk;
 const CYCLE_TIME: u64 = 0xFFFF_F000_0200;
 /// The node ID of a broadcast.
 const BROADCAST: u16 = 0xFFFF;
-/// How many isochronous channels there are.
-const CHANNELS: u8 = 64;
 
 /// The cycle start of a cycle, a broadcast of the root.
 fn cycle_start(root: u8, cycle: u64) -> Packet<'static>
@@ -56,14 +56,24 @@ fn cycle_start(root: u8, cycle: u64) -> Packet<'static>
 }
 
 impl Machine {
-    /// The next cycle comes: where the second of the latest bus reset is over at it, that is written first.
-    fn next_cycle<K: Sink>(&mut self, room: &mut Room, sink: &mut K) -> Result<(), Failed>
+    /// The next cycle comes: where the second of the latest bus reset is over at it, that is written first. `talkers` are those that
+    /// talk before it, and then after it.
+    fn next_cycle<K: Sink>(
+        &mut self,
+        talkers: &mut Talkers,
+        room: &mut Room,
+        sink: &mut K,
+    ) -> Result<(), Failed>
         requires ready { IsReady self.old }
         requires few { self.old.cycle + 1 ≤ 2 ^ 52 }
+        requires talkers { AreTalkers (length self.old.devices.nodes) self.old.devices.nodes talkers.old }
+        ensures talkers { AreTalkers (length self.new.devices.nodes) self.new.devices.nodes talkers.new }
         ensures does { Does Comes self.old self.new (K.held sink.old) (K.held sink.new) (K.faults sink.old) (K.faults sink.new) result }
     {
         if self.reclaiming && self.directory.over_at == self.cycle + 1 {
-            self.end_second(room, sink)
+            let written = self.end_second(room, sink);
+            *talkers = self.devices.talkers();
+            written
         } else {
             self.pass(1);
             Ok(())
@@ -98,16 +108,27 @@ impl Machine {
         ensures does { DoesWhere (HadSent before.now) (record { blocks = F.post desk.now.blocks; vendor = H.post desk.now.vendor }) (Sends device)
             self.now self.now (K.held sink.old) (K.held sink.new) (K.faults sink.old) (K.faults sink.new) result }
     {
-        let block = self.devices.block(device, desk);
         let mut talker = before.talker(device, channel);
         let own = self.number(device);
-        let packet = talker.cycle(own, self.devices.fifty(device), block.as_ref());
-        give(self.cycle, Some(Entry::Iso(packet)), room, sink)
+        let fifty = self.devices.fifty(device);
+        // The packet is made in each arm, so that the block's bytes go into the room as they come.
+        match self.devices.block_now(device) {
+            Some(place) => {
+                let bytes = desk.block(place.tape, place.frame, place.block);
+                let packet = talker.cycle(own, fifty, Some(&bytes));
+                give_iso(self.cycle, &packet, &mut room.stream, sink)
+            }
+            None => {
+                let packet = talker.cycle(own, fifty, None);
+                give_iso(self.cycle, &packet, &mut room.stream, sink)
+            }
+        }
     }
 
     /// Each output plug that talks sends its packet of the cycle, in order of channel.
     fn send_packets<K: Sink, F: Fn(u16, u32, u16) -> [u8; 480], H: Fn(u32, u8) -> u8>(
         &self,
+        talkers: &Talkers,
         before: &Streams,
         desk: &Desk<F, H>,
         room: &mut Room,
@@ -115,21 +136,23 @@ impl Machine {
     ) -> Result<(), Failed>
         requires ready { IsReady self.now }
         requires desk { AnyBlock (F.pre desk.now.blocks) }
+        requires talkers { AreTalkers (length self.now.devices.nodes) self.now.devices.nodes talkers.now }
         ensures does { DoesWhere (HadSent before.now) (record { blocks = F.post desk.now.blocks; vendor = H.post desk.now.vendor }) (SendsTo 64)
             self.now self.now (K.held sink.old) (K.held sink.new) (K.faults sink.old) (K.faults sink.new) result }
     {
-        let talkers = self.devices.talkers();
-        for channel in 0..CHANNELS {
-            if let Some(device) = talkers[usize::from(channel)] {
+        for channel in 0..talkers.end() {
+            if let Some(device) = talkers.get(channel) {
                 self.send_packet(device, channel, before, desk, room, sink)?;
             }
         }
         Ok(())
     }
 
-    /// The next cycle comes and is written. Before the first device it only comes.
+    /// The next cycle comes and is written. Before the first device it only comes. `talkers` are those that talk before it, and then
+    /// after it.
     fn write_cycle<K: Sink, F: Fn(u16, u32, u16) -> [u8; 480], H: Fn(u32, u8) -> u8>(
         &mut self,
+        talkers: &mut Talkers,
         desk: &Desk<F, H>,
         room: &mut Room,
         sink: &mut K,
@@ -138,18 +161,20 @@ impl Machine {
         requires desk { AnyBlock (F.pre desk.now.blocks) }
         requires few { self.old.cycle + 1 ≤ 2 ^ 52 }
         requires written { 0 < length self.old.devices.nodes → self.old.written < 8000 }
+        requires talkers { AreTalkers (length self.old.devices.nodes) self.old.devices.nodes talkers.old }
+        ensures talkers { AreTalkers (length self.new.devices.nodes) self.new.devices.nodes talkers.new }
         ensures does { DoesBy (record { blocks = F.post desk.now.blocks; vendor = H.post desk.now.vendor }) WritesCycle
             self.old self.new (K.held sink.old) (K.held sink.new) (K.faults sink.old) (K.faults sink.new) result }
     {
         let before = self.streams;
-        self.next_cycle(room, sink)?;
+        self.next_cycle(talkers, room, sink)?;
         let Some(root) = self.root() else {
             return Ok(());
         };
         self.written += 1;
         let start = cycle_start(root, self.cycle);
         give(self.cycle, Some(Entry::Async(start)), room, sink)?;
-        self.send_packets(&before, desk, room, sink)
+        self.send_packets(talkers, &before, desk, room, sink)
     }
 
     /// Cycles go by and are written.
@@ -167,8 +192,9 @@ impl Machine {
         ensures does { DoesBy (record { blocks = F.post desk.now.blocks; vendor = H.post desk.now.vendor }) (λ s. Carries s (Cycles count))
             self.old self.new (K.held sink.old) (K.held sink.new) (K.faults sink.old) (K.faults sink.new) result }
     {
+        let mut talkers = self.devices.talkers();
         for i in 0..count {
-            self.write_cycle(desk, room, sink)?;
+            self.write_cycle(&mut talkers, desk, room, sink)?;
         }
         Ok(())
     }

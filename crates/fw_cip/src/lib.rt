@@ -21,7 +21,7 @@ pub use listener::{Heard, Listener};
 pub use packet::{CipHeader, IsoPacket};
 pub use read::read_iso;
 pub use talker::Talker;
-pub use write::{append_iso, iso_length, write_iso};
+pub use write::{append_iso, heads_of, iso_length, write_iso};
 
 /// Why bytes are no isochronous packet, in the order of the tests.
 #[derive(Clone, Copy, Debug, PartialEq, Eq)]

@@ -48,17 +48,17 @@ fn second_quadlet(c: CipHeader) -> u32
     with_field(q, 24, c.fdf)
 }
 
-// The three quadlets of the headers.
+/// The bytes of a packet's headers, behind which its block stands, if it has one. Its numbers fit their fields.
+#[inline(always)]
 #[tactic(auto, unfolding(crate::specs::Iso::three))]
-fn heads_of(p: &IsoPacket) -> Bytes<12>
+pub fn heads_of(p: &IsoPacket) -> [u8; 12]
     requires { Fits p.now }
-    ensures same { result ≡ head_bytes p.now }
-    ensures size { length result ≡ 12 }
+    ensures { result ≡ head_bytes p.now }
 {
-    let mut heads = Bytes::new();
-    heads.append(&put_quadlet(Quadlet(header_quadlet(p))));
-    heads.append(&put_quadlet(Quadlet(first_quadlet(p.cip))));
-    heads.append(&put_quadlet(Quadlet(second_quadlet(p.cip))));
+    let mut heads = [0; 12];
+    heads[..4].copy_from_slice(&put_quadlet(Quadlet(header_quadlet(p))));
+    heads[4..8].copy_from_slice(&put_quadlet(Quadlet(first_quadlet(p.cip))));
+    heads[8..].copy_from_slice(&put_quadlet(Quadlet(second_quadlet(p.cip))));
     heads
 }
 
@@ -89,8 +89,7 @@ pub fn append_iso<const N: usize>(p: &IsoPacket, out: &mut Bytes<N>)
     requires room { length out.old + length (spelling p.now) ≤ N }
     ensures { out.new ≡ out.old ++ spelling p.now }
 {
-    let heads = heads_of(p);
-    out.append(heads.as_slice());
+    out.append(&heads_of(p));
     out.append(block_of(p));
 }
 
@@ -106,9 +105,8 @@ fn spell(p: &IsoPacket, out: &mut ArrayVec<u8, 492>)
     requires { Fits p.now }
     ensures { out.new.items ≡ spelling p.now }
 {
-    let heads = heads_of(p);
     out.clear();
-    extend(out, heads.as_slice());
+    extend(out, &heads_of(p));
     extend(out, block_of(p));
 }
 

@@ -6,19 +6,22 @@ use Rattle.std.proofs.lemmas.Option.{same_Some}
 use Rattle.fw_node.specs.State.{NodeState}
 use Rattle.fw_node.specs.Streams.{talking_on}
 use Rattle.fw_devices.specs.Network.{node_at}
-use Rattle.fw_devices.specs.Streams.{AreTalkers}
+use Rattle.fw_devices.specs.Streams.{AreSilentFrom, AreTalkers}
 
 -- at first it has none
+empty_at : (channel : ℕ) → (channel < 64) ⊎ (64 ≤ channel) → slice_index_or (replicate 64 None) channel None ≡ (let o : Option ℕ = None in o)
+empty_at channel (inl lt) = get_or-replicate 64 channel None None lt
+empty_at channel (inr past) = get_or_past (replicate 64 None) channel None past
+
+pub none_silent : AreSilentFrom 0 (replicate 64 None)
+none_silent = record { each = λ channel few. empty_at channel (cases_lt channel 64) }
+
 pub talkers_none : (nodes : List NodeState) → AreTalkers 0 nodes (replicate 64 None)
 talkers_none nodes = record {
   size = refl;
-  talk = λ channel d e. let no : ⊥ = cc (empty channel (cases_lt channel 64), e) in absurd no;
+  talk = λ channel d e. let no : ⊥ = cc (empty_at channel (cases_lt channel 64), e) in absurd no;
   all = λ d channel lt is. absurd (omega (arith, lt));
 }
-  where
-    empty : (channel : ℕ) → (channel < 64) ⊎ (64 ≤ channel) → slice_index_or (replicate 64 None) channel None ≡ (let o : Option ℕ = None in o)
-    empty channel (inl lt) = get_or-replicate 64 channel None None lt
-    empty channel (inr past) = get_or_past (replicate 64 None) channel None past
 
 -- a device that does not talk leaves it as it is
 pub talkers_skip : (i : ℕ) (nodes : List NodeState) (talkers : List (Option ℕ)) → talking_on (node_at nodes i) ≡ None → AreTalkers i nodes talkers

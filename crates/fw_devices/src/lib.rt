@@ -5,9 +5,11 @@ mod bus;
 mod devices;
 mod laws;
 mod names;
+mod talkers;
 
 pub use devices::Devices;
 pub use laws::{cables_extend_the_bus, reset_entries_show_the_bus};
+pub use talkers::Talkers;
 
 #[cfg(test)]
 mod tests;

@@ -123,19 +123,6 @@ impl Tape {
         Some(desk.block(tape, frame, block))
     }
 
-    /// The block that was due in the cycle that passed last: None exactly where none was. It is the one that `cycle` would have
-    /// given as it passed that cycle.
-    pub fn block<F: Fn(u16, u32, u16) -> [u8; 480], H: Fn(u32, u8) -> u8>(
-        &self,
-        desk: &Desk<F, H>,
-    ) -> Option<[u8; 480]>
-        requires desk { AnyBlock (F.pre desk.now.blocks) }
-        ensures block { Gives (F.post desk.now.blocks) (block_now self.now) result }
-    {
-        let place = self.block_now()?;
-        Some(desk.block(place.tape, place.frame, place.block))
-    }
-
     /// How many blocks of forward play are due in the next cycles.
     pub fn blocks_among(&self, cycles: u64) -> u64
         requires { MayPass cycles self.now }
@@ -180,8 +167,9 @@ impl Tape {
         }
     }
 
-    /// The block that was due in the cycle that passed last, if one was.
-    fn block_now(&self) -> Option<BlockPlace>
+    /// Which block was due in the cycle that passed last: None exactly where none was. It is the one that `cycle` would have
+    /// given as it passed that cycle; its bytes are the desk's (`Desk::block`).
+    pub fn block_now(&self) -> Option<BlockPlace>
         ensures value { result ≡ block_now self.now }
         ensures range { IfSome result (λ place. (place.frame < 2592000) × (place.block < 300)) }
     {

@@ -1,8 +1,7 @@
 //! The streams of output plugs: which of them talk, and the blocks that the tapes of their devices give.
 
 ghost use Rattle.std.specs.Prelude.{◌≡◌, ◌<◌, IfSome, length};
-ghost use Rattle.fw_tape.specs.Blocks.{Gives, block_now, blocks_among};
-ghost use Rattle.fw_tape.specs.Desks.{AnyBlock};
+ghost use Rattle.fw_tape.specs.Blocks.{block_now, blocks_among};
 ghost use Rattle.fw_tape.specs.Motion.{is_fifty, MayPass};
 ghost use Rattle.fw_node.specs.Streams.{talking_on};
 ghost use Rattle.fw_devices.specs.Decks.{tape_of};
@@ -10,10 +9,8 @@ ghost use Rattle.fw_devices.specs.Network.{node_at};
 ghost use Rattle.fw_devices.specs.Streams.{AreTalkers};
 
 use super::Devices;
-use fw_tape::Desk;
-
-/// How many isochronous channels there are.
-const CHANNELS: usize = 64;
+use crate::talkers::Talkers;
+use fw_tape::BlockPlace;
 
 impl Devices {
     /// The channel on which the output plug of a device talks: None exactly where it does not talk, or the device has none.
@@ -26,30 +23,26 @@ impl Devices {
     }
 
     /// The device whose output plug talks on each channel, one of them where there are several. None exactly where no device has one.
-    pub fn talkers(&self) -> [Option<u8>; CHANNELS]
+    pub fn talkers(&self) -> Talkers
         ensures { AreTalkers (length self.now.nodes) self.now.nodes result }
     {
-        let mut talkers = [None; CHANNELS];
+        let mut talkers = Talkers::new();
         for device in 0..self.count() {
             if let Some(channel) = self.talking_on(device) {
-                talkers[usize::from(channel)] = Some(device);
+                talkers.enter(channel, device);
             }
         }
         talkers
     }
 
-    /// The block that the tape of a device gives in the cycle that passed last: None exactly where none was due.
-    pub fn block<F: Fn(u16, u32, u16) -> [u8; 480], H: Fn(u32, u8) -> u8>(
-        &self,
-        device: u8,
-        desk: &Desk<F, H>,
-    ) -> Option<[u8; 480]>
-        requires desk { AnyBlock (F.pre desk.now.blocks) }
+    /// Which block the tape of a device gives in the cycle that passed last: None exactly where none was due.
+    pub fn block_now(&self, device: u8) -> Option<BlockPlace>
         requires declared { device < length self.now.nodes }
-        ensures { Gives (F.post desk.now.blocks) (block_now (tape_of (node_at self.now.nodes device))) result }
+        ensures value { result ≡ block_now (tape_of (node_at self.now.nodes device)) }
+        ensures range { IfSome result (λ place. (place.frame < 2592000) × (place.block < 300)) }
     {
         match self.nodes[usize::from(device)].tape_subunit() {
-            Some(tape) => tape.block(desk),
+            Some(tape) => tape.block_now(),
             None => None,
         }
     }

@@ -1,7 +1,6 @@
-use Rattle.std.proofs.Common.{◌≡◌, ℕ, List, Bor, Option, Some, None, option_map, refl, arith, ◌∙◌}
-use Rattle.std.specs.Option.{option_copied}
+use Rattle.std.proofs.Common.{◌≡◌, Some, None, refl}
 use Rattle.fw_bus.specs.Streaming.{count_at}
-use Rattle.fw_bus.proofs.CycleTurns.{ready_talker, packet_done, packet_same}
+use Rattle.fw_bus.proofs.CycleTurns.{ready_talker, gives_none, gives_some, packet_done, packet_fits, packet_same}
 use Rattle.fw_bus.proofs.machine.Machine.send_packet.Goals as goal
 
 pub talker-talker-requires : goal.talker-talker-requires
@@ -10,32 +9,41 @@ talker-talker-requires g c = record { declared = (ready_talker _ _ c.requires.re
 pub number-own-requires : goal.number-own-requires
 number-own-requires g c = (ready_talker _ _ c.requires.ready c.requires.declared c.requires.talks).0
 
-pub give-requires : goal.give-requires
-give-requires g c =
-    let low = (ready_talker _ _ c.requires.ready c.requires.declared c.requires.talks).1 in
-    let same = c.talker-talker.ensures.channel in
-    let few = c.number-own.ensures.range in
-    c.cycle-packet.ensures.fits (omega (arith, low, same)) (omega (arith, few))
+pub give_iso-requires : goal.give_iso-requires
+give_iso-requires g c =
+    packet_fits _ _ c.requires.ready c.requires.declared c.requires.talks c.talker-talker.ensures.channel c.number-own.ensures.range c.cycle-packet.ensures.fits
 
--- the block behind a reference
-copied_is : (o : Option (Bor (List ℕ))) → option_map (λ (b : Bor (List ℕ)). b.now) o ≡ option_copied o
-copied_is None = refl
-copied_is (Some b) = refl
+pub give_iso-requires-in-None : goal.give_iso-requires-in-None
+give_iso-requires-in-None g c =
+    packet_fits _ _ c.requires.ready c.requires.declared c.requires.talks c.talker-talker.ensures.channel c.number-own.ensures.range
+    c.cycle-packet-in-None.ensures.fits
 
-pub returns : goal.returns
-returns g c =
-    let x = c.cycle-packet.ensures.packet (count_at c.args.before.now c.args.device) c.talker-talker.ensures.count in
-    let block = copied_is c.as_ref.result ∙ c.as_ref.ensures.value in
-    let low = (ready_talker _ _ c.requires.ready c.requires.declared c.requires.talks).1 in
-    let same = c.talker-talker.ensures.channel in
-    let few = c.number-own.ensures.range in
+pub returns-in-Some : goal.returns-in-Some
+returns-in-Some g c =
+    let made = c.cycle-packet.ensures.packet (count_at c.args.before.now c.args.device) c.talker-talker.ensures.count in
     record {
-      does = packet_done c.block-block.result (record {
+      does = packet_done (Some c.block-bytes.result) (record {
         declared = c.requires.declared;
         talks = c.requires.talks;
         number = c.number-own.ensures.value;
-        gives = c.block-block.ensures;
-        packet_is = packet_same _ _ x c.talker-talker.ensures.channel c.fifty.ensures block;
-        fits = c.cycle-packet.ensures.fits (omega (arith, low, same)) (omega (arith, few));
-      }) c.give.ensures.bytes c.give.ensures.faults;
+        gives = gives_some _ c.in-Some.place c.block-bytes.result c.in-Some.ensures.value c.block-bytes.ensures;
+        packet_is = packet_same _ _ made c.talker-talker.ensures.channel c.fifty-fifty.ensures refl;
+        fits = packet_fits _ _ c.requires.ready c.requires.declared c.requires.talks c.talker-talker.ensures.channel c.number-own.ensures.range
+            c.cycle-packet.ensures.fits;
+      }) c.give_iso.ensures.bytes c.give_iso.ensures.faults;
+    }
+
+pub returns-in-None : goal.returns-in-None
+returns-in-None g c =
+    let made = c.cycle-packet-in-None.ensures.packet (count_at c.args.before.now c.args.device) c.talker-talker.ensures.count in
+    record {
+      does = packet_done None (record {
+        declared = c.requires.declared;
+        talks = c.requires.talks;
+        number = c.number-own.ensures.value;
+        gives = gives_none _ c.in-None.ensures.value;
+        packet_is = packet_same _ _ made c.talker-talker.ensures.channel c.fifty-fifty.ensures refl;
+        fits = packet_fits _ _ c.requires.ready c.requires.declared c.requires.talks c.talker-talker.ensures.channel c.number-own.ensures.range
+            c.cycle-packet-in-None.ensures.fits;
+      }) c.give_iso-in-None.ensures.bytes c.give_iso-in-None.ensures.faults;
     }

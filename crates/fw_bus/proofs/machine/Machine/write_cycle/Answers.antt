@@ -5,10 +5,16 @@ use Rattle.fw_bus.proofs.Doings.{ready_after}
 use Rattle.fw_bus.proofs.machine.Machine.write_cycle.Goals as goal
 
 pub returns-in_err-next_cycle : goal.returns-in_err-next_cycle
-returns-in_err-next_cycle g c = record { does = cycle_uncome (Err _) _ refl c.from_residual.ensures.0 c.requires.written c.in_err-next_cycle.ensures.does }
+returns-in_err-next_cycle g c = record {
+  talkers = c.in_err-next_cycle.ensures.talkers;
+  does = cycle_uncome (Err _) _ refl c.from_residual.ensures.0 c.requires.written c.in_err-next_cycle.ensures.does;
+}
 
 pub returns-in_default : goal.returns-in_default
-returns-in_default g c = record { does = cycle_alone (λ s good st. sym (c.root.ensures s good st) ∙ c.in_default.is) c.in_ok-next_cycle.ensures.does }
+returns-in_default g c = record {
+  talkers = c.in_ok-next_cycle.ensures.talkers;
+  does = cycle_alone (λ s good st. sym (c.root.ensures s good st) ∙ c.in_default.is) c.in_ok-next_cycle.ensures.does;
+}
 
 pub cycle_start-start-requires : goal.cycle_start-start-requires
 cycle_start-start-requires g c =
@@ -19,7 +25,7 @@ returns-in_err-give g c =
     let begun = begins c.in-Some.root _ c.requires.ready c.requires.written c.in_ok-next_cycle.ensures.does
     (λ s good st. sym (c.root.ensures s good st) ∙ c.in-Some.is)
     c.cycle_start-start.ensures.value c.in_err-give.ensures.bytes c.in_err-give.ensures.faults in
-    record { does = cycle_cut (Err _) _ refl c.from_residual-in_err-give.ensures.0 begun }
+    record { talkers = c.in_ok-next_cycle.ensures.talkers; does = cycle_cut (Err _) _ refl c.from_residual-in_err-give.ensures.0 begun }
 
 pub send_packets-requires-clause-ready : goal.send_packets-requires-clause-ready
 send_packets-requires-clause-ready g c =
@@ -27,9 +33,12 @@ send_packets-requires-clause-ready g c =
     (begins c.in-Some.root _ c.requires.ready c.requires.written c.in_ok-next_cycle.ensures.does (λ s good st. sym (c.root.ensures s good st) ∙ c.in-Some.is)
     c.cycle_start-start.ensures.value c.in_ok-give.ensures.bytes c.in_ok-give.ensures.faults)
 
+pub send_packets-requires-clause-talkers : goal.send_packets-requires-clause-talkers
+send_packets-requires-clause-talkers g c = c.in_ok-next_cycle.ensures.talkers
+
 pub returns : goal.returns
 returns g c =
     let begun = begins c.in-Some.root _ c.requires.ready c.requires.written c.in_ok-next_cycle.ensures.does
     (λ s good st. sym (c.root.ensures s good st) ∙ c.in-Some.is)
     c.cycle_start-start.ensures.value c.in_ok-give.ensures.bytes c.in_ok-give.ensures.faults in
-    record { does = cycle_then _ _ refl begun c.send_packets.ensures.does }
+    record { talkers = c.in_ok-next_cycle.ensures.talkers; does = cycle_then _ _ refl begun c.send_packets.ensures.does }
