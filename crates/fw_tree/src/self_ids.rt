@@ -86,6 +86,7 @@ fn more_packet(
 }
 
 // Appends an extended packet, where the device has the port at which it begins.
+#[inline(always)]
 fn push_further(
     facts: &PhyFacts,
     cables: &DeviceCables,
