@@ -1,5 +1,5 @@
 -- A transaction of the script, of the machine and of the run.
-use Rattle.std.proofs.Common.{◌≡◌, ℕ, List, [], ◌∷◌, Bool, true, false, Option, Some, None, refl, ap, sym, subst, ◌∙◌, slice_set, IsTrue, IsFalse, ◌&&◌, zero, suc}
+use Rattle.std.proofs.Common.{◌≡◌, ℕ, List, [], ◌∷◌, Option, Some, None, refl, ap, sym, subst, ◌∙◌, slice_set, IsTrue, IsFalse, zero, suc}
 use Rattle.fw_async.specs.declared.packet.Packet.{Packet}
 use Rattle.fw_base.specs.declared.device.DeviceKind.{DeviceKind}
 use Rattle.fw_csr.specs.declared.request.Request.{Request}

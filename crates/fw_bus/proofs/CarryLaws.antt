@@ -1,5 +1,5 @@
 -- Orders, by the actions that carry them out, with what a desk gives.
-use Rattle.std.proofs.Common.{◌≡◌, ℕ, List, [], ◌∷◌, Option, Some, refl, ap, sym, subst}
+use Rattle.std.proofs.Common.{ℕ, List, Option, Some, refl, ap, sym, subst}
 use Rattle.std.specs.Prelude.{Ok, Err}
 use Rattle.std.specs.declared.result.Result.{Result}
 use Rattle.fw_entry.specs.declared.entry.Entry.TheVariants.{End as EndEntry}

@@ -1,5 +1,5 @@
 -- Commands to units: of the machine and of the run.
-use Rattle.std.proofs.Common.{◌≡◌, ◌≢◌, ℕ, ◌+◌, ◌%◌, ◌<◌, ◌≤◌, zero, suc, List, [], ◌∷◌, ◌++◌, length, slice_set, is_some, Bool, true, false, cond, ◌==◌, Option, Some, None, refl, ap, sym, subst, ◌∙◌, arith, append-nil, IsTrue}
+use Rattle.std.proofs.Common.{◌≡◌, ◌≢◌, ℕ, ◌<◌, ◌≤◌, zero, suc, List, [], ◌∷◌, ◌++◌, length, slice_set, is_some, Bool, true, false, ◌==◌, Option, Some, None, refl, ap, sym, subst, ◌∙◌, arith, append-nil, IsTrue}
 use Rattle.std.specs.Prelude.{Ok, Err, IsErr}
 use Rattle.std.specs.declared.result.Result.{Result}
 use Rattle.std.proofs.lemmas.List.{get_or-set_same, length-set}
@@ -8,7 +8,6 @@ use Rattle.fw_outside.specs.Outside.{Grows}
 use Rattle.fw_outside.proofs.Parts.{Grows-Grows}
 use Rattle.fw_async.specs.Async.{Fits}
 use Rattle.fw_async.specs.declared.packet.Packet.{Packet}
-use Rattle.fw_csr.specs.declared.request.Request.{Request}
 use Rattle.fw_entry.specs.Log.{entry_bytes}
 use Rattle.fw_entry.specs.declared.entry.Entry.{Entry}
 use Rattle.fw_entry.specs.declared.entry.Entry.TheVariants.{Async}
@@ -29,14 +28,14 @@ use Rattle.fw_run.specs.Given.{IsGiven}
 use Rattle.fw_run.specs.Giving.{at_cycle, at_most, Gives}
 use Rattle.fw_run.specs.Good.{IsGood}
 use Rattle.fw_run.specs.Spaces.{script_head}
-use Rattle.fw_run.specs.State.{State, number_in, has_deck, is_linked, is_living}
-use Rattle.fw_run.specs.Units.{HasDeck, FollowsInRun}
+use Rattle.fw_run.specs.State.{State, has_deck, is_linked, is_living}
+use Rattle.fw_run.specs.Units.{HasDeck}
 use Rattle.fw_run.proofs.Commands.{follows_in_run}
 use Rattle.fw_run.proofs.FrameWrites.{fits_write, write_by}
 use Rattle.fw_run.proofs.Given.{all_given}
 use Rattle.fw_run.proofs.SendsAll.{can_send_all}
 use Rattle.fw_run.proofs.Steps.{steps_good}
-use Rattle.fw_run.proofs.Turns.{living_linked, update_new, update_others}
+use Rattle.fw_run.proofs.Turns.{living_linked, update_others}
 use Rattle.fw_run.proofs.Units.{request_kept}
 use Rattle.fw_bus.specs.declared.machine.Machine.{Machine}
 use Rattle.fw_bus.specs.Doings.{Does}

@@ -1,16 +1,14 @@
 -- The first rule that a command to a deck breaks, and of tapes.
-use Rattle.std.proofs.Common.{◌≡◌, ℕ, ◌<◌, ◌≤◌, ◌⊎◌, inl, inr, List, [], ◌∷◌, Bool, true, false, ◌||◌, not, is_some, Option, Some, None, Ok, Err, IsTrue, IsFalse, refl, ap, sym, subst, ◌∙◌, arith}
+use Rattle.std.proofs.Common.{◌≡◌, ℕ, ◌<◌, inl, inr, List, [], ◌∷◌, false, ◌||◌, not, is_some, Some, None, Ok, Err, IsTrue, IsFalse, refl, ap, sym, subst, ◌∙◌, arith}
 use Rattle.std.specs.List.{list_any}
-use Rattle.std.specs.declared.result.Result.{Result}
 use Rattle.fw_base.specs.declared.device.DeviceKind.{DeviceKind}
 use Rattle.fw_base.specs.Devices.{has_unit}
 use Rattle.fw_devices.specs.Network.{device_named, kind_at}
 use Rattle.fw_script.specs.declared.command.Command.{Command}
 use Rattle.fw_script.specs.declared.command.Command.TheVariants as Commands
-use Rattle.fw_run.specs.declared.order.Order.{Order}
 use Rattle.fw_run.specs.declared.order.Order.TheVariants as Orders
 use Rattle.fw_run.specs.declared.rule.RuleFault.{RuleFault}
-use Rattle.fw_run.specs.declared.rule.RuleFault.TheVariants.{UnknownName, NoDeck, NotController, Limit, TableFull, Busy, NoSuchConnection, NotOwnPlug, OffBus}
+use Rattle.fw_run.specs.declared.rule.RuleFault.TheVariants.{UnknownName, NoDeck, NotController, TableFull, Busy, NoSuchConnection, NotOwnPlug, OffBus}
 use Rattle.fw_run.specs.Rules.{Breaks, Decides, IsNamed, is_declared, names_of, rank, system_with}
 use Rattle.fw_run.specs.State.{State, has_deck, is_linked, is_living}
 use Rattle.fw_bus.specs.declared.machine.Machine.{Machine}

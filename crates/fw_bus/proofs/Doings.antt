@@ -1,5 +1,5 @@
 -- One call after another.
-use Rattle.std.proofs.Common.{◌≡◌, ℕ, ◌+◌, ◌-◌, ◌<◌, ◌≤◌, List, [], ◌∷◌, ◌++◌, Option, Some, None, refl, ap, sym, subst, ◌∙◌, append_assoc, append-nil, arith, add-one, zero, suc}
+use Rattle.std.proofs.Common.{◌≡◌, ℕ, List, [], ◌∷◌, ◌++◌, Option, Some, None, refl, ap, sym, subst, ◌∙◌, append_assoc, append-nil, arith}
 use Rattle.std.specs.Prelude.{Ok, Err, IsErr}
 use Rattle.std.specs.declared.result.Result.{Result}
 use Rattle.fw_outside.specs.Outside.{Grows}
@@ -10,7 +10,6 @@ use Rattle.fw_entry.specs.Log.{entry_bytes}
 use Rattle.fw_run.specs.Giving.{at_cycle, log_bytes, Gives}
 use Rattle.fw_run.specs.State.{State}
 use Rattle.fw_run.specs.Actions.{Action, Step, Steps}
-use Rattle.fw_run.specs.Carrying.{times}
 use Rattle.fw_run.specs.Good.{IsGood}
 use Rattle.fw_run.specs.Numbers.{HasNumbers}
 use Rattle.fw_run.proofs.Runs.{steps_then, log_append}
@@ -19,7 +18,7 @@ use Rattle.fw_run.proofs.Kept.{step_numbers}
 use Rattle.fw_bus.specs.declared.machine.Machine.{Machine}
 use Rattle.fw_bus.specs.Faults.{CountsFaults}
 use Rattle.fw_bus.specs.Stands.{IsReady, StandsFor}
-use Rattle.fw_bus.specs.Doings.{Deed, Acts, Turns, Talks, Done, Cut, Does}
+use Rattle.fw_bus.specs.Doings.{Deed, Acts, Turns, Talks, Does}
 
 -- ---- counts of faults
 

@@ -15,7 +15,7 @@ use Rattle.fw_entry.specs.declared.entry.ResetEntry.{ResetEntry}
 use Rattle.fw_devices.specs.Entries.{node_device}
 use Rattle.fw_devices.specs.Network.{node_at}
 use Rattle.fw_run.specs.Actions.{SendFrame, Receive, Step}
-use Rattle.fw_run.specs.Decks.{DeckState, FrameWrite, after_frame, next_frame}
+use Rattle.fw_run.specs.Decks.{DeckState, FrameWrite, after_frame}
 use Rattle.fw_run.specs.Frames.{frame_head, frame_packet, next_told, request_of, response_write}
 use Rattle.fw_run.specs.Giving.{at_most}
 use Rattle.fw_run.specs.Good.{IsGood}

@@ -17,7 +17,6 @@ use Rattle.fw_cmp.specs.Controllers.{ControllerState, IsStanding}
 use Rattle.fw_cmp.specs.Requests.{offset_of, swap_of, standing_in, addressee_of, request_at, request_of}
 use Rattle.fw_cmp.specs.Resets.{heard as heard_then, after_hear}
 use Rattle.fw_step.specs.Lingering.{LingerUnchanged}
-use Rattle.fw_step.specs.Registers.{register_at}
 use Rattle.fw_step.specs.Requests.{procedure_head}
 use Rattle.fw_step.proofs.LingersAlong.{entry_lingers}
 use Rattle.fw_node.specs.Packets.{packet_of, request_head, request_in, response_to, response_with, response_of, reply_in}

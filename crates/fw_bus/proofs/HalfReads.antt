@@ -1,5 +1,5 @@
 -- The request that is read off the wire, and the response that is written.
-use Rattle.std.proofs.Common.{◌≡◌, ℕ, ◌<◌, ◌≤◌, ◌^◌, ◌%◌, ◌==◌, List, Bool, true, false, cond, option_map, Option, Some, None, IfSome, IsSome, is_some, refl, ap, sym, subst, ◌∙◌, arith, IsTrue, length}
+use Rattle.std.proofs.Common.{◌≡◌, ℕ, ◌<◌, ◌^◌, ◌%◌, ◌==◌, List, Bool, true, false, cond, option_map, Option, Some, None, is_some, refl, ap, sym, subst, ◌∙◌, arith, IsTrue, length}
 use Rattle.std.proofs.lemmas.Option.{same_Some, none-some}
 use Rattle.fw_async.specs.declared.packet.Head.{Head}
 use Rattle.fw_async.specs.declared.packet.Packet.{Packet}
@@ -18,22 +18,22 @@ use Rattle.fw_cmp.specs.declared.request.Target.{Target}
 use Rattle.fw_cmp.specs.declared.request.Target.TheVariants.{OutputPlug, InputPlug, Channels, BandwidthAvailable}
 use Rattle.fw_base.specs.Devices.{has_link}
 use Rattle.fw_cmp.specs.Controllers.{ControllerState, IsStanding}
-use Rattle.fw_cmp.specs.Requests.{access_of, addressee_of, offset_of, request_of, standing_in}
+use Rattle.fw_cmp.specs.Requests.{addressee_of, offset_of, request_of, standing_in}
 use Rattle.fw_step.specs.Requests.{PlugNumberFits, procedure_head}
 use Rattle.fw_csr.specs.declared.reply.Reply.{Reply}
-use Rattle.fw_node.specs.Packets.{reply_in, packet_of, request_head, request_in, response_of, IsRequest, IsServed}
+use Rattle.fw_node.specs.Packets.{reply_in, packet_of, request_head, response_of, IsRequest, IsServed}
 use Rattle.fw_node.specs.State.{space_of}
 use Rattle.fw_devices.specs.Network.{node_at}
 use Rattle.fw_devices.specs.Entries.{node_device}
-use Rattle.fw_run.specs.State.{State, directory_of, is_living, number_in}
+use Rattle.fw_run.specs.State.{State, directory_of, is_living}
 use Rattle.fw_run.specs.Good.{IsGood}
 use Rattle.fw_run.proofs.Fitting.{procedure_fits, request_fits}
-use Rattle.fw_run.proofs.Hears.{Heard, heard_of, half_hears}
+use Rattle.fw_run.proofs.Hears.{heard_of, half_hears}
 use Rattle.fw_bus.specs.declared.machine.Machine.{Machine}
 use Rattle.fw_bus.specs.Stands.{StandsFor, IsReady, is_living_in}
 use Rattle.fw_bus.specs.Tables.{states_of}
 use Rattle.fw_bus.specs.Wires.{packet_for}
-use Rattle.fw_bus.proofs.Exchanges.{Standing, Exchange, standing_of, addressee_is, device_is, exchange_of, exchange_within, exchange_addresses, exchange_linked, asks_request}
+use Rattle.fw_bus.proofs.Exchanges.{Exchange, standing_of, addressee_is, device_is, exchange_of, exchange_within, exchange_addresses, exchange_linked, asks_request}
 use Rattle.fw_bus.proofs.HalfHears.{Sent}
 use Rattle.fw_bus.proofs.HalfWires.{own_number, own_place}
 use Rattle.fw_bus.proofs.Latest.{number_low}

@@ -1,13 +1,12 @@
 -- Half steps can be given, one after another, to controllers that live.
-use Rattle.std.proofs.Common.{◌≡◌, ℕ, zero, suc, ◌+◌, ◌*◌, ◌-◌, ◌<◌, ◌≤◌, ◌&&◌, not, List, [], ◌∷◌, ◌++◌, length, map, Bool, true, false, cond, Option, Some, None, is_some, refl, ap, sym, subst, ◌∙◌, arith, append_assoc, append-nil, length-append, add-one, IsTrue}
+use Rattle.std.proofs.Common.{◌≡◌, ℕ, zero, suc, ◌+◌, ◌*◌, ◌<◌, ◌≤◌, ◌&&◌, not, List, [], ◌∷◌, ◌++◌, length, Bool, true, false, cond, None, is_some, refl, ap, sym, subst, ◌∙◌, arith, IsTrue}
 use Rattle.std.specs.Prelude.{⊤}
-use Rattle.fw_entry.specs.declared.entry.Entry.{Entry}
 use Rattle.fw_entry.specs.declared.entry.Timed.{Timed}
 use Rattle.fw_run.specs.Giving.{at_most}
 use Rattle.fw_run.specs.State.{State, is_living, linked_number, living, numbers_to}
 use Rattle.fw_run.specs.HalfSteps.{half, after_half}
 use Rattle.fw_run.specs.Actions.{Action, HalfStep, Step, Steps, counted}
-use Rattle.fw_run.specs.Carrying.{times, half_steps_of, Rounds, none, round}
+use Rattle.fw_run.specs.Carrying.{times, half_steps_of, Rounds, round}
 use Rattle.fw_run.specs.Good.{IsGood}
 use Rattle.fw_run.proofs.Runs.{steps_then}
 use Rattle.fw_run.proofs.Settling.{Stays, half_turn}

@@ -1,7 +1,6 @@
 -- A half step of a controller that has nothing to do.
-use Rattle.std.proofs.Common.{◌≡◌, ℕ, ◌||◌, Bool, true, false, None, refl, ap, sym, subst, ◌∙◌, IsTrue}
+use Rattle.std.proofs.Common.{◌≡◌, ℕ, ◌||◌, Bool, false, None, ap, sym, subst, ◌∙◌, IsTrue}
 use Rattle.fw_cmp.specs.declared.current.Current.{Current}
-use Rattle.fw_cmp.specs.declared.outcome.Next.{Next}
 use Rattle.fw_cmp.specs.Causes.{IsAtRest}
 use Rattle.fw_cmp.specs.Controllers.{ControllerState, IsHeard, IsStanding}
 use Rattle.fw_cmp.specs.Turns.{next, is_busy}

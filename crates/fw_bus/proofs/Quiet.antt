@@ -1,5 +1,5 @@
 -- Between the commands of a run no response waits.
-use Rattle.std.proofs.Common.{◌≡◌, ◌≢◌, ◌⊎◌, inl, inr, ℕ, zero, suc, ◌+◌, ◌==◌, ◌&&◌, ◌<◌, List, [], ◌∷◌, ◌++◌, length, Bool, true, false, cond, Option, Some, None, refl, ap, sym, subst, ◌∙◌, arith, IsTrue}
+use Rattle.std.proofs.Common.{◌≡◌, ◌≢◌, ◌⊎◌, inl, inr, ℕ, zero, suc, ◌+◌, ◌==◌, ◌&&◌, List, [], ◌∷◌, ◌++◌, Bool, true, false, cond, Option, Some, None, refl, ap, sym, subst, ◌∙◌}
 use Rattle.std.specs.Prelude.{⊤}
 use Rattle.std.proofs.lemmas.Bool.{cases_eq}
 use Rattle.fw_base.specs.Tables.{update}
@@ -13,7 +13,7 @@ use Rattle.fw_run.specs.Actions.{Action, AddDevice, AddCable, ResetBus, StartCon
 use Rattle.fw_run.specs.Carrying.{times, half_steps_of, next_cycle, SendsPackets, HasCycle, HasCycles, Rounds, none, round, rest, SendsAll, quiet, sends, Carries, declares, joins, resets, connects, breaks, steps, settled, unsettled, waits, waits_over, writes_cycles, dies, dies_late, dies_idle, starts, goes_on, transacts, shows, commanded, inserts, ejects, ejects_nothing, ends}
 use Rattle.std.proofs.lemmas.Option.{same_Some}
 use Rattle.fw_run.specs.Decks.{DeckState, FrameWrite, Obeyed, after_frame, next_frame}
-use Rattle.fw_run.specs.Frames.{next_told, decks_after, command_write}
+use Rattle.fw_run.specs.Frames.{decks_after, command_write}
 use Rattle.fw_run.specs.Runs.{Run, begun, and_then}
 use Rattle.fw_run.specs.State.{State, has_deck, is_on, living}
 use Rattle.fw_run.specs.Streams.{talkers}

@@ -11,7 +11,6 @@ use Rattle.fw_ledger.specs.Account.{Account}
 use Rattle.fw_ledger.specs.Events.{after_second as account_second}
 use Rattle.fw_ledger.specs.Words.{Register, BandwidthAvailable, ChannelsAvailable, OutputPlug, InputPlug, word_of}
 use Rattle.fw_run.specs.State.{State, number_in}
-use Rattle.fw_run.specs.Actions.{after_second}
 use Rattle.fw_bus.specs.Stands.{IsNodeAt, HasNodes}
 use Rattle.std.proofs.lemmas.List.{length-map}
 use Rattle.fw_bus.proofs.DeckNodes.{mapped_at}

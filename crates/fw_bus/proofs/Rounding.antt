@@ -1,16 +1,14 @@
 -- One round: a half step of each living controller.
-use Rattle.std.proofs.Common.{◌≡◌, ℕ, zero, suc, ◌+◌, ◌-◌, ◌<◌, ◌≤◌, List, [], ◌∷◌, ◌++◌, length, map, Bool, true, false, cond, Option, None, refl, ap, sym, subst, ◌∙◌, arith, append_assoc, append-nil, add-one, IsTrue, IsFalse}
+use Rattle.std.proofs.Common.{◌≡◌, ℕ, zero, suc, ◌+◌, ◌-◌, ◌<◌, ◌≤◌, List, [], ◌∷◌, ◌++◌, length, Bool, true, false, cond, Option, refl, ap, sym, subst, ◌∙◌, arith, append_assoc, append-nil, add-one, IsTrue, IsFalse}
 use Rattle.std.specs.Prelude.{Ok, IsErr}
 use Rattle.std.specs.declared.result.Result.{Result}
 use Rattle.std.proofs.lemmas.List.{map-append, length-append}
-use Rattle.fw_entry.specs.declared.entry.Timed.{Timed}
-use Rattle.fw_run.specs.State.{State, is_living, living, numbers_to}
-use Rattle.fw_run.specs.Actions.{Action, HalfStep, Steps}
+use Rattle.fw_run.specs.State.{State, is_living, numbers_to}
+use Rattle.fw_run.specs.Actions.{HalfStep, Steps}
 use Rattle.fw_run.specs.Carrying.{half_steps_of}
-use Rattle.fw_run.specs.Good.{IsGood}
 use Rattle.fw_run.proofs.Runs.{steps_then}
 use Rattle.fw_bus.specs.declared.machine.Machine.{Machine}
-use Rattle.fw_bus.specs.Stands.{StandsFor, is_living_in, living_in}
+use Rattle.fw_bus.specs.Stands.{is_living_in, living_in}
 use Rattle.fw_bus.specs.Doings.{Acts, Does, RoundTo, OneRound}
 use Rattle.fw_bus.proofs.Doings.{GoesOn, Follows, does_when, does_cut, does_nothing, does_then}
 use Rattle.fw_bus.proofs.Halves.{AllLive, all_live, all_live_still, halves_after, halves_given}

@@ -1,13 +1,10 @@
 -- What a call of the bus did, over the runs for whose states it stands.
-use Rattle.std.proofs.Common.{◌≡◌, ℕ, Bool, List, [], ◌∷◌, ◌++◌, Option, refl, sym, subst, append-nil, IsTrue, IsFalse}
+use Rattle.std.proofs.Common.{ℕ, Bool, List, [], ◌∷◌, ◌++◌, Option, sym, subst, append-nil, IsTrue, IsFalse}
 use Rattle.std.specs.Prelude.{Ok, Err}
-use Rattle.std.specs.declared.result.Result.{Result}
 use Rattle.fw_entry.specs.declared.entry.Timed.{Timed}
 use Rattle.fw_script.specs.declared.command.Command.{Command}
 use Rattle.fw_run.specs.declared.order.Order.{Order}
-use Rattle.fw_run.specs.declared.rule.RuleFault.{RuleFault}
 use Rattle.fw_run.specs.State.{State, first_state}
-use Rattle.fw_run.specs.Rules.{Decides}
 use Rattle.fw_run.specs.Actions.{Action}
 use Rattle.fw_run.specs.Carrying.{Carries}
 use Rattle.fw_run.specs.Desks.{DeskRelations}

@@ -1,15 +1,15 @@
 -- Rounds, and what is written after them.
-use Rattle.std.proofs.Common.{◌≡◌, ◌⊎◌, inl, inr, ℕ, zero, suc, ◌+◌, ◌*◌, ◌-◌, ◌<◌, ◌≤◌, List, [], ◌∷◌, ◌++◌, length, Bool, true, false, Option, None, Some, refl, ap, sym, subst, ◌∙◌, arith, append_assoc, append-nil, add-one, IsTrue, IsFalse}
+use Rattle.std.proofs.Common.{◌≡◌, ◌⊎◌, inl, inr, ℕ, suc, ◌+◌, ◌*◌, ◌-◌, ◌<◌, ◌≤◌, List, [], ◌∷◌, ◌++◌, length, Bool, true, false, Option, None, Some, refl, ap, sym, subst, ◌∙◌, arith, append_assoc, append-nil, IsTrue, IsFalse}
 use Rattle.std.specs.Prelude.{Ok, IsErr}
 use Rattle.std.specs.declared.result.Result.{Result}
 use Rattle.fw_outside.proofs.Parts.{Grows-nothing}
 use Rattle.fw_entry.specs.declared.entry.Timed.{Timed}
 use Rattle.fw_run.specs.Giving.{at_most}
 use Rattle.fw_run.specs.declared.order.Order.TheVariants.{Settle}
-use Rattle.fw_run.specs.State.{State, entered, is_living, living, numbers_to}
+use Rattle.fw_run.specs.State.{State, entered, living, numbers_to}
 use Rattle.fw_run.specs.Entries.{unsettled as unsettled_entry}
 use Rattle.fw_run.specs.HalfSteps.{is_unsettled}
-use Rattle.fw_run.specs.Actions.{Action, Rest, Unsettled, Step, Steps, counted}
+use Rattle.fw_run.specs.Actions.{Action, Rest, Unsettled, Steps, counted}
 use Rattle.fw_run.specs.Carrying.{Carries, Rounds, half_steps_of}
 use Rattle.fw_run.specs.Good.{IsGood}
 use Rattle.fw_run.proofs.Runs.{rounds_steps}
@@ -17,8 +17,8 @@ use Rattle.fw_run.proofs.Steps.{steps_good}
 use Rattle.fw_bus.specs.declared.machine.Machine.{Machine}
 use Rattle.fw_bus.specs.Stands.{StandsFor, is_living_in, living_in}
 use Rattle.fw_bus.specs.Doings.{Acts, Does, LooksBack, OneRound, RoundsFirst, SomeRounds, Turns}
-use Rattle.fw_bus.proofs.Doings.{GoesOn, Follows, does_as, does_when, does_cut, does_nothing, does_then, no_faults, one_step}
-use Rattle.fw_bus.proofs.Halves.{After, halves_after, living_still, rounds_given}
+use Rattle.fw_bus.proofs.Doings.{GoesOn, Follows, does_as, does_cut, does_nothing, does_then, no_faults, one_step}
+use Rattle.fw_bus.proofs.Halves.{halves_after, living_still, rounds_given}
 use Rattle.fw_bus.proofs.Living.{living_list}
 use Rattle.fw_bus.proofs.Standing.{counted_stands}
 

@@ -1,15 +1,13 @@
 -- Registers that are shown, and the end of the log.
 use Rattle.std.proofs.Common.{◌≡◌, ℕ, ◌<◌, ◌^◌, Some, refl, ap, sym, ◌∙◌, IsTrue}
 use Rattle.fw_csr.specs.declared.reply.Reply.{Reply}
-use Rattle.fw_entry.specs.declared.entry.Entry.TheVariants.{End}
 use Rattle.fw_run.specs.Giving.{at_most}
-use Rattle.fw_run.specs.State.{State, entered, is_linked}
+use Rattle.fw_run.specs.State.{is_linked}
 use Rattle.fw_run.specs.Spaces.{read_at}
 use Rattle.fw_run.specs.Entries.{shown_entry}
-use Rattle.fw_run.specs.Actions.{ShowWord, Finish}
-use Rattle.fw_run.specs.Good.{IsGood}
+use Rattle.fw_run.specs.Actions.{ShowWord}
 use Rattle.fw_bus.specs.declared.machine.Machine.{Machine}
-use Rattle.fw_bus.specs.Stands.{StandsFor, is_linked_in, read_in}
+use Rattle.fw_bus.specs.Stands.{is_linked_in, read_in}
 use Rattle.fw_bus.specs.Doings.{Turns}
 use Rattle.fw_bus.proofs.Nodes.{read_same}
 use Rattle.fw_bus.proofs.Living.{linked_same}

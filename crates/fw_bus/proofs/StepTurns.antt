@@ -1,13 +1,13 @@
 -- Half steps of the machine and of the run.
-use Rattle.std.proofs.Common.{◌≡◌, ℕ, ◌+◌, ◌<◌, Option, refl, ap, sym, subst, ◌∙◌, arith, IsTrue}
+use Rattle.std.proofs.Common.{◌≡◌, ℕ, ◌+◌, ◌<◌, Option, refl, sym, ◌∙◌, arith, IsTrue}
 use Rattle.fw_entry.specs.declared.entry.Entry.{Entry}
 use Rattle.fw_run.specs.Giving.{at_most}
-use Rattle.fw_run.specs.State.{State, is_living}
+use Rattle.fw_run.specs.State.{is_living}
 use Rattle.fw_run.specs.HalfSteps.{half, after_half}
 use Rattle.fw_run.specs.Actions.{HalfStep, counted}
 use Rattle.fw_bus.specs.declared.machine.Machine.{Machine}
 use Rattle.fw_bus.specs.Doings.{Takes, Turns}
-use Rattle.fw_bus.specs.Stands.{StandsFor, is_living_in}
+use Rattle.fw_bus.specs.Stands.{is_living_in}
 use Rattle.fw_bus.proofs.Living.{living_same}
 use Rattle.fw_bus.proofs.Standing.{counted_stands}
 

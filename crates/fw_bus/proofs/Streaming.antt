@@ -1,5 +1,5 @@
 -- Which plugs talk, by the nodes and by the account.
-use Rattle.std.proofs.Common.{◌≡◌, ◌≢◌, ◌⊎◌, inl, inr, ℕ, ◌<◌, ◌≤◌, nat_lt, ◌&&◌, List, length, slice_index, slice_index_or, Bool, true, false, cond, Option, Some, None, is_some, refl, ap, sym, ◌∙◌, arith, IsTrue}
+use Rattle.std.proofs.Common.{◌≡◌, ◌⊎◌, inl, inr, ℕ, ◌<◌, ◌≤◌, nat_lt, ◌&&◌, List, length, slice_index, slice_index_or, Bool, true, false, cond, Option, Some, None, is_some, refl, ap, sym, ◌∙◌, arith, IsTrue}
 use Rattle.std.proofs.lemmas.Bool.{cases_lt, false≢true}
 use Rattle.std.proofs.lemmas.Bool.Decides.{nat_tests}
 use Rattle.fw_base.specs.declared.device.DeviceKind.{DeviceKind}
@@ -23,7 +23,7 @@ use Rattle.fw_devices.specs.Decks.{tape_of}
 use Rattle.fw_devices.specs.Network.{kind_at, node_at}
 use Rattle.fw_run.specs.Decks.{DeckState}
 use Rattle.fw_run.specs.Good.{IsGood, IsLatest}
-use Rattle.fw_run.specs.State.{State, first_state, number_in, has_deck}
+use Rattle.fw_run.specs.State.{State, number_in, has_deck}
 use Rattle.fw_run.specs.Units.{HasDeck}
 use Rattle.fw_run.proofs.Lingers.{off_talks}
 use Rattle.fw_run.proofs.Units.{tape_is}

@@ -1,5 +1,5 @@
 -- So many half steps of one controller.
-use Rattle.std.proofs.Common.{◌≡◌, ℕ, zero, suc, ◌+◌, ◌-◌, ◌<◌, ◌≤◌, List, [], ◌∷◌, ◌++◌, length, Option, None, refl, ap, sym, subst, ◌∙◌, arith, append_assoc, append-nil, add-one, IsTrue}
+use Rattle.std.proofs.Common.{◌≡◌, ℕ, zero, suc, ◌+◌, ◌-◌, ◌<◌, ◌≤◌, List, [], ◌∷◌, ◌++◌, Option, None, refl, ap, sym, subst, ◌∙◌, arith, append_assoc, append-nil, add-one, IsTrue}
 use Rattle.std.specs.Prelude.{Ok, IsErr, replicate}
 use Rattle.std.specs.declared.result.Result.{Result}
 use Rattle.std.proofs.lemmas.List.{length-replicate}
@@ -9,9 +9,9 @@ use Rattle.fw_run.specs.Actions.{Action, HalfStep, Steps}
 use Rattle.fw_run.specs.Carrying.{times, half_steps_of}
 use Rattle.fw_run.specs.Good.{IsGood}
 use Rattle.fw_bus.specs.declared.machine.Machine.{Machine}
-use Rattle.fw_bus.specs.Stands.{StandsFor, is_living_in}
+use Rattle.fw_bus.specs.Stands.{is_living_in}
 use Rattle.fw_bus.specs.Doings.{Acts, Does}
-use Rattle.fw_bus.proofs.Doings.{GoesOn, acts_follow, does_as, does_cut, does_none, does_then}
+use Rattle.fw_bus.proofs.Doings.{GoesOn, acts_follow, does_cut, does_none, does_then}
 use Rattle.fw_bus.proofs.Halves.{After, halves_after, times_given, lives_still}
 use Rattle.fw_bus.proofs.Living.{living_same}
 use Rattle.fw_run.proofs.Runs.{steps_then}

@@ -1,30 +1,27 @@
 -- What a bus reset, a death, and what controllers are asked for make of the wire.
-use Rattle.std.proofs.Common.{◌≡◌, ◌≢◌, ◌⊎◌, inl, inr, ℕ, [], Bool, true, false, Option, Some, None, option_map, refl, ap, sym, subst, ◌∙◌, arith, IsTrue, IsFalse}
+use Rattle.std.proofs.Common.{◌≡◌, ◌≢◌, ◌⊎◌, inl, inr, ℕ, [], true, Option, Some, None, option_map, refl, ap, sym, ◌∙◌}
 use Rattle.std.proofs.lemmas.Bool.{cases_eq}
 use Rattle.std.specs.Prelude.{Ok, Err}
 use Rattle.std.specs.declared.result.Result.{Result}
 use Rattle.fw_async.specs.Async.{spelling}
-use Rattle.fw_async.specs.Wire.{Pairs, without}
 use Rattle.fw_base.specs.Tables.{update}
 use Rattle.fw_cmp.specs.declared.connection.Slot.{Slot}
-use Rattle.fw_cmp.specs.declared.connection.Slot.TheVariants.{Free, Gone}
 use Rattle.fw_cmp.specs.declared.current.Current.{Current}
 use Rattle.fw_cmp.specs.declared.current.Current.TheVariants.{Nothing, Asking, Hearing, Overtaken}
 use Rattle.fw_cmp.specs.declared.job.Job.{Job}
 use Rattle.fw_cmp.specs.declared.job.Ending.{Ending}
 use Rattle.fw_cmp.specs.declared.job.Purpose.{Purpose}
 use Rattle.fw_cmp.specs.declared.job.Purpose.TheVariants.{Make, Restore, Break}
-use Rattle.fw_cmp.specs.declared.outcome.Outcome.TheVariants as outcome
 use Rattle.fw_cmp.specs.declared.outcome.StartFault.{StartFault}
 use Rattle.fw_cmp.specs.declared.stage.Stage.{Stage}
 use Rattle.fw_cmp.specs.declared.stage.Stage.TheVariants.{Begin, ReadOutput, ReadChannels, SwapChannels, ReadBandwidth, SwapBandwidth, ConnectOutput, OverlayOutput, ReadInput, ConnectInput, ReadInputToLeave, LeaveInput, ReadOutputToLeave, LeaveOutput, ReadBandwidthToRelease, RaiseBandwidth, ReadChannelsToRelease, RestoreChannel, Made, Ended}
-use Rattle.fw_cmp.specs.Controllers.{ControllerState, with_slot}
+use Rattle.fw_cmp.specs.Controllers.{ControllerState}
 use Rattle.fw_cmp.specs.Requests.{access_of, standing_in}
 use Rattle.fw_cmp.specs.Resets.{interrupted, decided, overtaken, current_reset, after_reset}
 use Rattle.fw_cmp.specs.Starts.{started, with_task, break_fault, break_started}
 use Rattle.fw_run.specs.State.{State, device_in, directory_of}
 use Rattle.fw_run.proofs.Turns.{update_new, update_others}
-use Rattle.fw_bus.specs.Wires.{HasWire, packet_for, packet_by, packet_at}
+use Rattle.fw_bus.specs.Wires.{HasWire, packet_for, packet_by}
 
 -- ---- no request stands after a bus reset
 

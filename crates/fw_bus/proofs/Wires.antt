@@ -1,5 +1,5 @@
 -- The wire of the machine against a state of the run: pairs that are put and taken, and what stands where a controller is another one.
-use Rattle.std.proofs.Common.{◌≡◌, ◌≢◌, ◌⊎◌, inl, inr, ℕ, ◌<◌, List, [], ◌∷◌, ◌++◌, Bool, true, false, cond, not, eqb, slice_get, option_map, Option, Some, None, IfSome, refl, ap, sym, subst, ◌∙◌, arith}
+use Rattle.std.proofs.Common.{◌≡◌, ◌≢◌, ◌⊎◌, inl, inr, ℕ, List, [], ◌∷◌, ◌++◌, Bool, true, false, cond, not, eqb, slice_get, option_map, Option, Some, None, refl, ap, sym, subst, ◌∙◌}
 use Rattle.std.proofs.lemmas.Bool.{cases_eq, eq-eqb, eqb-true, cases_Bool}
 use Rattle.std.proofs.lemmas.Option.{same_Some, none-some}
 use Rattle.std.proofs.lemmas.Map.Entries.{lookup-filter-keys}
@@ -7,9 +7,6 @@ use Rattle.fw_async.specs.declared.packet.Packet.{Packet}
 use Rattle.fw_async.specs.Async.{spelling}
 use Rattle.fw_async.specs.Wire.{Pairs, bytes_from, without}
 use Rattle.fw_base.specs.Tables.{update}
-use Rattle.fw_cmp.specs.declared.current.Current.{Current}
-use Rattle.fw_cmp.specs.declared.current.Current.TheVariants.{Nothing, Asking, Hearing, Overtaken}
-use Rattle.fw_cmp.specs.declared.directory.Directory.{Directory}
 use Rattle.fw_cmp.specs.Controllers.{ControllerState}
 use Rattle.fw_cmp.specs.Requests.{standing_in}
 use Rattle.fw_entry.specs.declared.entry.ResetEntry.{ResetEntry}

@@ -1,5 +1,5 @@
 -- What the bus keeps, against a state of a run: a record a part.
-use Rattle.std.specs.Prelude.{ℕ, ◌≡◌, ◌+◌, ◌<◌, ◌≤◌, ◌&&◌, not, List, Bool, length, Option, Some, None, unwrap_or, IsTrue, IsFalse}
+use Rattle.std.specs.Prelude.{ℕ, ◌≡◌, ◌+◌, ◌<◌, ◌≤◌, ◌&&◌, not, List, Bool, length, Option, Some, None, unwrap_or}
 use Rattle.fw_base.specs.Devices.{has_link}
 use Rattle.fw_csr.specs.declared.request.Request.TheVariants as Asks
 use Rattle.fw_csr.specs.declared.reply.Reply.{Reply}

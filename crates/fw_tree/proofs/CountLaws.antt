@@ -102,10 +102,14 @@ nodes_blank number blank = rw (counted_zero (has_number number) 63 (λ k. ap is_
   one = λ d e n x y. absurd (let b = blank d in let z : ⊥ = cc in z);
 })
 
+-- one device more has a number
+pub counted_set : (number : List (Option ℕ)) (d n : ℕ) → d < length number → d < 63 → has_number number d ≡ false → counted (has_number (slice_set number d (Some n))) 63 ≡ counted (has_number number) 63 + 1
+counted_set number d n size low free = counted_more (has_number number) (has_number (slice_set number d (Some n))) 63 d low free (there (number_at (slice_set number d (Some n)) d) n (set_there number d n size)) (λ k differ. ap is_there (set_else number d n k differ))
+
 -- one device more takes the next number
 pub nodes_set : (number : List (Option ℕ)) (d n : ℕ) → d < length number → d < 63 → has_number number d ≡ false → n ≡ counted (has_number number) 63 → AreNodes number (counted (has_number number) 63) → AreNodes (slice_set number d (Some n)) (counted (has_number (slice_set number d (Some n))) 63)
 nodes_set number d n size low free count nodes =
-    let more : counted (has_number (slice_set number d (Some n))) 63 ≡ counted (has_number number) 63 + 1 = counted_more (has_number number) (has_number (slice_set number d (Some n))) 63 d low free (there (number_at (slice_set number d (Some n)) d) n (set_there number d n size)) (λ k differ. ap is_there (set_else number d n k differ)) in
+    let more : counted (has_number (slice_set number d (Some n))) 63 ≡ counted (has_number number) 63 + 1 = counted_set number d n size low free in
     rw more (record {
       below = λ e m h. elim (was e m h) [ inl new ↦ let x = new.1 in omega arith | inr old ↦ let x = nodes.below e m old.1 in omega arith ];
       taken = λ m h. elim (cases_eq m n) [

@@ -1,4 +1,6 @@
+pub mod ClimbLaws
 pub mod CountLaws
+pub mod DueLaws
 pub mod FitLaws
 pub mod ForestLaws
 pub mod OneNumberingLaws

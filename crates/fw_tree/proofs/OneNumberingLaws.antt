@@ -1,9 +1,10 @@
 -- A topology has one numbering.
 use Rattle.std.proofs.Common.{◌≡◌, inl, inr, ℕ, ◌&&◌, List, Option, Some, None, Bool, true, false, refl, sym, ap, subst, ◌∙◌}
 use Rattle.fw_tree.specs.declared.numbering.Numbering.{Numbering}
-use Rattle.fw_tree.specs.Cables.{Peers, IsOnBus}
+use Rattle.fw_tree.specs.Cables.{Peers, IsOnBus, is_seen}
 use Rattle.fw_tree.specs.Rounds.{IsRoot}
 use Rattle.fw_tree.specs.Forest.{AreCables}
+use Rattle.fw_tree.specs.Parents.{IsOn}
 use Rattle.fw_tree.specs.Paths.{comes_before}
 use Rattle.fw_tree.specs.Numbers.{AreNumbers, AreParents, IsParentPort, number_at, has_number, is_there}
 use Rattle.fw_tree.specs.Topology.{Topology, IsSound}
@@ -17,14 +18,18 @@ none_there : (o : Option ℕ) → is_there o ≡ false → o ≡ None
 none_there None h = refl
 none_there (Some n) h = cc
 
+alike : (x y : Bool) → (x ≡ true → y ≡ true) → (y ≡ true → x ≡ true) → x ≡ y
+alike true y f h = sym (f refl)
+alike false true f h = h refl
+alike false false f h = refl
+
 -- the devices of the bus have numbers in the one as in the other
 same_has : (g : Peers) (r s : ℕ) (m n : List (Option ℕ)) → AreNumbers g r m → AreNumbers g s n → (d : ℕ) → has_number m d ≡ has_number n d
 same_has g r s m n a b d = alike (has_number m d) (has_number n d) (λ h. there (number_at n d) _ (b.places d (a.only d h))) (λ h. there (number_at m d) _ (a.places d (b.only d h)))
-  where
-    alike : (x y : Bool) → (x ≡ true → y ≡ true) → (y ≡ true → x ≡ true) → x ≡ y
-    alike true y f h = sym (f refl)
-    alike false true f h = h refl
-    alike false false f h = refl
+
+-- they are those that were seen of the bus
+pub same_on : (g : Peers) (root : ℕ) (number : List (Option ℕ)) (on : List Bool) → IsOn g on → AreNumbers g root number → (d : ℕ) → has_number number d ≡ is_seen on d
+same_on g root number on bus a d = alike (has_number number d) (is_seen on d) (λ h. bus.has d (a.only d h)) (λ h. there (number_at number d) _ (a.places d (bus.walk d h)))
 
 same_path : (g : Peers) (root : ℕ) (m n : List (Option ℕ)) → AreCables g → IsRoot g root → (a : AreNumbers g root m) (b : AreNumbers g root n) (d : ℕ) → IsOnBus g d → a.paths d ≡ b.paths d
 same_path g root m n cables top a b d on = one_path g root (a.paths d) (b.paths d) d d cables top (a.lead d on) (b.lead d on) refl

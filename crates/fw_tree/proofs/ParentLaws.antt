@@ -86,7 +86,7 @@ now_gone true true h = refl
 now_gone true false h = cc
 now_gone false c h = refl
 
-set_seen_other : (xs : List Bool) (i k : ℕ) → (k ≡ i → ⊥) → is_seen (slice_set xs i false) k ≡ is_seen xs k
+pub set_seen_other : (xs : List Bool) (i k : ℕ) → (k ≡ i → ⊥) → is_seen (slice_set xs i false) k ≡ is_seen xs k
 set_seen_other xs i k differ = get_or-set_other xs i k false false differ
 
 -- the device stays

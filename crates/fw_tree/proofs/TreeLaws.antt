@@ -197,6 +197,13 @@ ports_none g par root on paths d p old now shut ports t a i l = done_none on pat
 pub branch_of : (g : Peers) (par : List (Option Parent)) (root : ℕ) (on : ℕ → Bool) (paths : ℕ → List ℕ) (d n : ℕ) (old now : List (Option ℕ)) → d < length now → n ≡ counted (has_number now) 63 → Ports g par root on paths d 27 old now → Branch g par root on paths d old (slice_set now d (Some n))
 branch_of g par root on paths d n old now size e ports t a i l = done_number g root on paths d n now a i size (t.within d i) (done_last g root on paths (paths d) now t.range t.cables a (ports t a i l)) e
 
+-- a device that has a number is none whose branch is numbered
+pub branch_none : (g : Peers) (par : List (Option Parent)) (root : ℕ) (on : ℕ → Bool) (paths : ℕ → List ℕ) (d : ℕ) (old now : List (Option ℕ)) → has_number now d ≡ true → Ports g par root on paths d 27 old now → Branch g par root on paths d old now
+branch_none g par root on paths d old now has ports t a i l =
+    let before = done_last g root on paths (paths d) now t.range t.cables a (ports t a i l) in
+    let none = before.has d ∙ no_part (on d) (comes_before (paths d) (paths d)) (irreflexive (paths d)) in
+    absurd (let z : ⊥ = cc in z)
+
 -- a child leaves before its parent
 pub child_lower : (g : Peers) (par : List (Option Parent)) (d p c : ℕ) → AreCables g → ((k : ℕ) → k < 63 → IsParent g k (parent_at par k)) → d < 63 → c < 63 → IsChild g par d p c → rank (parent_at par c) < rank (parent_at par d)
 child_lower g par d p c cables parents low also h =

@@ -2,7 +2,7 @@
 use Rattle.std.specs.Prelude.{◌≡◌, ℕ, suc, ◌+◌, ◌<◌, List, [], ◌∷◌, Option, Some, None, Bool, true, false, slice_index_or}
 use Rattle.fw_tree.specs.declared.rounds.Parent.{Parent}
 use Rattle.fw_tree.specs.Cables.{Peers, is_seen, IsOnBus}
-use Rattle.fw_tree.specs.Rounds.{stays, LeavesBy, WinsTie, HasParent, IsRoot}
+use Rattle.fw_tree.specs.Rounds.{open_count, stays, LeavesBy, WinsTie, HasParent, IsRoot}
 
 -- what one round notes of a device that leaves in it
 abbrev pub Notes : Peers → (ℕ → Bool) → ℕ → ℕ → Option Parent → Type 0
@@ -28,6 +28,10 @@ abbrev pub staying : List Bool → ℕ
 staying [] = 0
 staying (true ∷ xs) = staying xs + 1
 staying (false ∷ xs) = staying xs
+
+-- where the device leaves in the round it is due in it
+abbrev pub IsDue : Peers → List Bool → List Bool → ℕ → Type 0
+IsDue g now due d = is_seen now d ≡ true → open_count g (is_seen now) d ≡ 1 → is_seen due d ≡ true
 
 -- the round leaves all as it was
 abbrev pub Settled : Peers → ℕ → Type 0

@@ -15,7 +15,7 @@ use crate::ports::{are_used, have_ports, plug};
 use crate::root::find_root;
 use crate::rounds::parents;
 use crate::self_ids::push_node;
-use crate::walk::{are_connected, bus_of};
+use crate::walk::are_connected;
 use crate::{End, Numbering, PhyFacts, TreeFault};
 use fw_phy::SelfIds;
 use std::marker::Model;
@@ -131,15 +131,14 @@ impl Cabling {
         ensures only { (n : Numbering) → IsNumbering self.now n → IsSame result n }
         ensures made { Made self.now }
     {
-        let on = bus_of(&self.cables, &self.facts);
         let parents = parents(&self.cables, &self.facts);
-        let root = find_root(&self.cables, &on, &parents);
+        let root = find_root(&self.cables, &parents);
         let number = numbers_from(&self.cables, &self.facts, &parents, root);
         Numbering {
             root,
             count: numbered(&number),
             number,
-            parent_port: parent_ports(&on, &parents),
+            parent_port: parent_ports(&number, &parents),
         }
     }
 

@@ -1,5 +1,5 @@
 ghost use Rattle.std.specs.Prelude.{◌≡◌, ◌<◌, ◌≤◌, ℕ, Bool, List, length, IfSome, IfNone, None, replicate};
-ghost use Rattle.fw_tree.specs.Cables.{InRange, is_seen};
+ghost use Rattle.fw_tree.specs.Cables.{InRange};
 ghost use Rattle.fw_tree.specs.Forest.{AreCables};
 ghost use Rattle.fw_tree.specs.Parents.{IsParent, parent_at};
 ghost use Rattle.fw_tree.specs.Numbers.{IsChild, counted, has_number, number_at, shown};
@@ -44,28 +44,36 @@ pub fn numbered(number: &[Option<u8>; 63]) -> u8
     count
 }
 
-// Numbers the branch that hangs on a device, and then the device.
+// Numbers the branch that hangs on a device, and then the device, from this number on, and says which is the next.
 fn number_branch(
     g: &AllCables,
     facts: &[PhyFacts; 63],
     parents: &[Option<Parent>; 63],
     d: u8,
+    next: u8,
     number: &mut [Option<u8>; 63],
-)
+) -> u8
     requires range { InRange g.now }
     requires cables { AreCables g.now }
     requires placed { ArePlaced facts.now g.now }
     requires parents { (k : ℕ) → k < 63 → IsParent g.now k (parent_at parents.now k) }
     requires device { d < 63 }
-    ensures { (root : ℕ) (on : ℕ → Bool) (paths : ℕ → List ℕ) → Branch g.now parents.now root on paths d number.old number.new }
+    requires next { next ≡ counted (has_number number.old) 63 }
+    ensures branch { (root : ℕ) (on : ℕ → Bool) (paths : ℕ → List ℕ) → Branch g.now parents.now root on paths d number.old number.new }
+    ensures next { result ≡ counted (has_number number.new) 63 }
 {
+    let mut next = next;
     for p in 0..cables_of(g, facts, usize::from(d)).len() {
         match child_at(g, parents, d, p) {
-            Some(child) => number_branch(g, facts, parents, child, number),
+            Some(child) => next = number_branch(g, facts, parents, child, next, number),
             None => {}
         }
     }
-    number[d as usize] = Some(numbered(number));
+    if number[d as usize].is_some() {
+        return next;
+    }
+    number[d as usize] = Some(next);
+    next + 1
 }
 
 /// The numbers of all devices that hang together with the root.
@@ -83,7 +91,7 @@ pub fn numbers_from(
     ensures { (on : ℕ → Bool) (paths : ℕ → List ℕ) → Branch g.now parents.now root on paths root (replicate 63 None) result }
 {
     let mut number = [None; 63];
-    number_branch(g, facts, parents, root, &mut number);
+    number_branch(g, facts, parents, root, 0, &mut number);
     number
 }
 
@@ -97,14 +105,14 @@ fn shown(on: bool, parent: &Option<Parent>) -> Option<u8>
     }
 }
 
-/// The parents' ports of the devices of the bus.
-pub fn parent_ports(on: &[bool; 63], parents: &[Option<Parent>; 63]) -> [Option<u8>; 63]
-    ensures ports { (d : ℕ) → d < 63 → number_at result d ≡ shown (is_seen on.now d) (parent_at parents.now d) }
+/// The parents' ports of the devices of the bus, which are those that have a number.
+pub fn parent_ports(number: &[Option<u8>; 63], parents: &[Option<Parent>; 63]) -> [Option<u8>; 63]
+    ensures ports { (d : ℕ) → d < 63 → number_at result d ≡ shown (has_number number.now d) (parent_at parents.now d) }
     ensures size { length result ≡ 63 }
 {
     let mut ports = [None; 63];
     for d in 0..63 {
-        ports[d] = shown(on[d], &parents[d]);
+        ports[d] = shown(number[d].is_some(), &parents[d]);
     }
     ports
 }

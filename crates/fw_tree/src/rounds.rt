@@ -1,12 +1,13 @@
-ghost use Rattle.std.specs.Prelude.{◌≡◌, ◌<◌, ◌≤◌, ◌==◌, ◌&&◌, not, ℕ, true, false, None, IfSome, IfNone, count_by, length, nat_lt, slice_index_or, slice_set};
-ghost use Rattle.fw_tree.specs.Cables.{InRange, is_seen};
+ghost use Rattle.std.specs.Prelude.{◌≡◌, ◌<◌, ◌≤◌, ◌==◌, ◌&&◌, not, ℕ, [], true, false, None, IfSome, IfNone, IsTrue, count_by, length, nat_lt, slice_index_or, slice_set};
+ghost use Rattle.fw_tree.specs.Cables.{AreMarked, InRange, is_seen};
 ghost use Rattle.fw_tree.specs.Rounds.{is_open, open_count, WinsTie, LeavesBy};
 ghost use Rattle.fw_tree.specs.Forest.{AreCables};
-ghost use Rattle.fw_tree.specs.Parents.{Notes, IsParent, Settled, parent_at, staying};
+ghost use Rattle.fw_tree.specs.Parents.{Notes, IsDue, IsParent, Settled, parent_at, staying};
 ghost use Rattle.fw_tree.specs.Topology.{ArePlaced};
 
 use crate::facts::AllCables;
 use crate::ports::cables_of;
+use crate::walk::mark_peers;
 use crate::{End, PhyFacts};
 
 // A cable of a device: its port, and the far end.
@@ -21,6 +22,16 @@ struct Cable {
 pub struct Parent {
     pub port: u8,
     pub round: u8,
+}
+
+// Who takes part in a round.
+#[derive(Clone, Copy, Debug)]
+struct Round {
+    // The device has not left.
+    stays: [bool; 63],
+    // The device may leave in the round. That is each in the first, and then those that are joined to one that left in the
+    // round before: of the others the count of open cables is as it was.
+    due: [bool; 63],
 }
 
 // A cable at the port leads to a device that stays.
@@ -139,14 +150,15 @@ fn note(
     Some(Parent { port, round })
 }
 
-// Lets a device leave where it has one open cable, and says whether it left.
+// Lets a device leave where it has one open cable, and says whether it left. Then those at its cables may leave in the next
+// round.
 fn leave_one(
     g: &AllCables,
     facts: &[PhyFacts; 63],
     d: usize,
     round: u8,
     before: &[bool; 63],
-    stays: &mut [bool; 63],
+    after: &mut Round,
     parents: &mut [Option<Parent>; 63],
 ) -> bool
     requires range { InRange g.now }
@@ -154,16 +166,19 @@ fn leave_one(
     requires placed { ArePlaced facts.now g.now }
     requires device { d < 63 }
     ensures left { result ≡ (is_seen before.now d && (open_count g.now (is_seen before.now) d == 1)) }
-    ensures gone { result ≡ true → stays.new ≡ slice_set stays.old d false }
+    ensures gone { result ≡ true → after.new.stays ≡ slice_set after.old.stays d false }
     ensures notes { result ≡ true → Notes g.now (is_seen before.now) round d (parent_at parents.new d) }
     ensures others { (k : ℕ) → (k ≡ d → ⊥) → parent_at parents.new k ≡ parent_at parents.old k }
-    ensures same { result ≡ false → stays.new ≡ stays.old }
+    ensures same { result ≡ false → after.new.stays ≡ after.old.stays }
     ensures same_parents { result ≡ false → parents.new ≡ parents.old }
+    ensures keeps { (k : ℕ) → IsTrue (is_seen after.old.due k) → IsTrue (is_seen after.new.due k) }
+    ensures marked { result ≡ true → AreMarked (slice_index_or g.now d []) after.new.due }
 {
     let left = leaves(g, facts, d, before);
     if left {
         parents[d] = note(g, facts, d, round, before);
-        stays[d] = false;
+        after.stays[d] = false;
+        mark_peers(cables_of(g, facts, d), &mut after.due);
     }
     left
 }
@@ -173,23 +188,28 @@ fn leave(
     g: &AllCables,
     facts: &[PhyFacts; 63],
     round: u8,
-    stays: &mut [bool; 63],
+    now: &mut Round,
     parents: &mut [Option<Parent>; 63],
 ) -> bool
     requires range { InRange g.now }
     requires cables { AreCables g.now }
     requires placed { ArePlaced facts.now g.now }
-    ensures after { (d : ℕ) → d < 63 → is_seen stays.new d ≡ (is_seen stays.old d && not (open_count g.now (is_seen stays.old) d == 1)) }
-    ensures notes { (d : ℕ) → d < 63 → is_seen stays.old d ≡ true → is_seen stays.new d ≡ false → Notes g.now (is_seen stays.old) round d (parent_at parents.new d) }
-    ensures others { (d : ℕ) → d < 63 → is_seen stays.new d ≡ is_seen stays.old d → parent_at parents.new d ≡ parent_at parents.old d }
-    ensures same { result ≡ false → stays.new ≡ stays.old }
-    ensures fewer { result ≡ true → staying stays.new < staying stays.old }
+    requires due { (d : ℕ) → d < 63 → IsDue g.now now.old.stays now.old.due d }
+    ensures after { (d : ℕ) → d < 63 → is_seen now.new.stays d ≡ (is_seen now.old.stays d && not (open_count g.now (is_seen now.old.stays) d == 1)) }
+    ensures notes { (d : ℕ) → d < 63 → is_seen now.old.stays d ≡ true → is_seen now.new.stays d ≡ false → Notes g.now (is_seen now.old.stays) round d (parent_at parents.new d) }
+    ensures others { (d : ℕ) → d < 63 → is_seen now.new.stays d ≡ is_seen now.old.stays d → parent_at parents.new d ≡ parent_at parents.old d }
+    ensures due { (d : ℕ) → d < 63 → IsDue g.now now.new.stays now.new.due d }
+    ensures same { result ≡ false → now.new.stays ≡ now.old.stays }
+    ensures fewer { result ≡ true → staying now.new.stays < staying now.old.stays }
 {
-    let before = *stays;
+    let before = *now;
+    now.due = [false; 63];
     let mut changed = false;
     for d in 0..63 {
-        let left = leave_one(g, facts, d, round, &before, stays, parents);
-        changed |= left;
+        if before.due[d] {
+            let left = leave_one(g, facts, d, round, &before.stays, now, parents);
+            changed |= left;
+        }
     }
     changed
 }
@@ -202,10 +222,13 @@ pub fn parents(g: &AllCables, facts: &[PhyFacts; 63]) -> [Option<Parent>; 63]
     ensures parents { (d : ℕ) → d < 63 → IsParent g.now d (parent_at result d) }
     ensures settled { (r : ℕ) × Settled g.now r }
 {
-    let mut stays = [true; 63];
+    let mut now = Round {
+        stays: [true; 63],
+        due: [true; 63],
+    };
     let mut parents = [None; 63];
     let mut round = 0;
-    while leave(g, facts, round, &mut stays, &mut parents) {
+    while leave(g, facts, round, &mut now, &mut parents) {
         round += 1;
     }
     parents

@@ -1,6 +1,5 @@
 ghost use Rattle.std.specs.Prelude.{◌≡◌, ◌<◌, ◌↔◌, ◌⊎◌, ℕ, [], IsTrue, true, false, None, IfSome, slice_index_or, slice_set};
 ghost use Rattle.fw_tree.specs.Cables.{Walk, InRange, AllReached, IsClosed, is_seen, unseen, Spreads, MarksPeers, AreMarked, LeadsTo};
-ghost use Rattle.fw_tree.specs.Parents.{IsOn};
 ghost use Rattle.fw_tree.specs.Forest.{AreCables};
 ghost use Rattle.fw_tree.specs.Topology.{ArePlaced, Separates};
 
@@ -34,8 +33,8 @@ fn mark_port(port: &Option<End>, seen: &mut [bool; 63]) -> bool
     }
 }
 
-// Marks what is joined to a device by its ports, and says whether any of it is new.
-fn mark_peers(ports: &[Option<End>], seen: &mut [bool; 63]) -> bool
+/// Marks what is joined to a device by its ports, and says whether any of it is new.
+pub fn mark_peers(ports: &[Option<End>], seen: &mut [bool; 63]) -> bool
     requires { (p : ℕ) → IfSome (slice_index_or ports.now p None) (λ e. e.device < 63) }
     ensures marks { MarksPeers ports.now seen.old seen.new }
     ensures marked { AreMarked ports.now seen.new }
@@ -120,13 +119,4 @@ pub fn are_connected(g: &AllCables, facts: &[PhyFacts; 63], a: u8, b: u8) -> boo
     ensures apart { result ≡ false → Separates g.now a b }
 {
     reach(g, facts, b)[a as usize]
-}
-
-/// The devices of the bus.
-pub fn bus_of(g: &AllCables, facts: &[PhyFacts; 63]) -> [bool; 63]
-    requires range { InRange g.now }
-    requires placed { ArePlaced facts.now g.now }
-    ensures { IsOn g.now result }
-{
-    reach(g, facts, 0)
 }

@@ -1,6 +1,6 @@
 use Rattle.std.proofs.Common.{◌≡◌, ℕ, Bool, List, length}
 use Rattle.fw_tree.specs.Branch.{Ports}
-use Rattle.fw_tree.specs.Numbers.{rank}
+use Rattle.fw_tree.specs.Numbers.{counted, has_number, rank}
 use Rattle.fw_tree.specs.Parents.{parent_at}
 use Rattle.fw_tree.proofs.numbers.+number_branch.Given as goal
 
@@ -11,4 +11,5 @@ abbrev pub invariant-loop-p : goal.invariant-loop-p
 invariant-loop-p l = record {
   size : length l.number ≡ 63;
   ports : (root : ℕ) (on : ℕ → Bool) (paths : ℕ → List ℕ) → Ports l.g l.parents root on paths l.d l.p l.initial.number l.number;
+  next : l.next ≡ counted (has_number l.number) 63;
 }

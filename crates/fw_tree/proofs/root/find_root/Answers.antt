@@ -1,24 +1,40 @@
-use Rattle.fw_tree.proofs.RootLaws.{ended, some_root, one_root, root_none, none_root}
-use Rattle.fw_tree.specs.Cables.{is_seen}
+use Rattle.std.proofs.Common.{◌≡◌, ◌∙◌, ℕ, Some, arith, ap, sym}
+use Rattle.fw_tree.specs.Cables.{here, along, peer}
 use Rattle.fw_tree.specs.Parents.{parent_at}
+use Rattle.fw_tree.proofs.ClimbLaws.{parent_later, leads_up, none_of, top_root}
+use Rattle.fw_tree.proofs.RoundLaws.{in_range}
 use Rattle.fw_tree.proofs.root.find_root.Goals as goal
+use Rattle.fw_tree.proofs.root.find_root.Goals.{In-Some-g}
 
-pub root_of-requires : goal.root_of-requires
-root_of-requires c =
-    let q = c.requires in
+noted : (c : In-Some-g) → parent_at c.args.parents.now c.loop-parent.d ≡ Some c.in-Some.parent
+noted c = ap (λ (d : ℕ). parent_at c.args.parents.now d) (sym c.from.ensures) ∙ c.in-Some.is
+
+-- the cable to the parent
+up : (c : In-Some-g) → peer c.args.g.now c.loop-parent.d c.in-Some.parent.port ≡ Some c.in-Some-g.end
+up c =
     let g = c.args.g.now in
-    let on = is_seen c.args.on.now in
-    let n = ended g c.args.on.now q.settled.0 q.range q.cables q.loops q.bus q.settled.1 in
-    let r = some_root g on q.settled.0 n in
-    let low = n.within r.device r.is_on in
-    (r.device, low, r.is_on, root_none g r.device (parent_at c.args.parents.now r.device) r.is_root (q.parents r.device low))
+    ap (λ (d : ℕ). peer g d c.in-Some.parent.port) (sym c.from-in-Some.ensures) ∙ (ap (λ (p : ℕ). peer g c.from-in-Some.result p) (sym c.from-in-Some-2.ensures) ∙ c.in-Some-g.is)
+
+pub loop-parent-init : goal.loop-parent-init
+loop-parent-init c = record { low = omega arith; on = here }
+
+pub loop-parent-smaller : goal.loop-parent-smaller
+loop-parent-smaller c =
+    let q = c.requires in
+    parent_later c.args.g.now c.args.parents.now c.loop-parent.d c.in-Some.parent c.in-Some-g.end q.range q.cables q.parents c.loop-parent.invariant.low (noted c) (up c)
+
+pub loop-parent-preserved : goal.loop-parent-preserved
+loop-parent-preserved c =
+    let e = c.in-Some-g.end in
+    let port = c.in-Some.parent.port in
+    record {
+      low = in_range c.args.g.now c.requires.range c.loop-parent.d port e (up c);
+      on = along c.loop-parent.invariant.on (record { port = port; leads = leads_up _ e (up c) });
+    }
 
 pub returns-clause-root : goal.returns-clause-root
 returns-clause-root c =
     let q = c.requires in
-    let g = c.args.g.now in
-    let on = is_seen c.args.on.now in
-    let n = ended g c.args.on.now q.settled.0 q.range q.cables q.loops q.bus q.settled.1 in
-    let e = c.root_of.ensures in
-    let root = none_root g c.root_of.result (parent_at c.args.parents.now c.root_of.result) e.none (q.parents c.root_of.result e.device) in
-    record { is_on = q.bus.walk c.root_of.result e.is_on; is_root = root; alone = λ d w h. one_root g on q.settled.0 d c.root_of.result n (q.bus.has d w) e.is_on h root }
+    let i = c.loop-parent.invariant in
+    let P = λ (d : ℕ). parent_at c.args.parents.now d in
+    top_root c.args.g.now c.args.parents.now c.loop-parent.d q.settled.0 q.range q.cables q.loops q.settled.1 q.parents i.low i.on (ap P (sym c.from.ensures) ∙ none_of _ c.in_default.not-Some)

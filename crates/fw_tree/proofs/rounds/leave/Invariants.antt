@@ -1,11 +1,5 @@
-use Rattle.std.proofs.Common.{◌≡◌, ◌<◌, true, false}
-use Rattle.fw_tree.specs.Parents.{staying}
-use Rattle.fw_tree.proofs.ParentLaws.{Leave}
+use Rattle.fw_tree.proofs.DueLaws.{Going}
 use Rattle.fw_tree.proofs.rounds.leave.Given as goal
 
 abbrev pub invariant-loop-d : goal.invariant-loop-d
-invariant-loop-d l = record {
-  leave : Leave l.g l.round l.before l.stays l.initial.parents l.parents l.d;
-  same : l.changed ≡ false → l.stays ≡ l.before;
-  fewer : l.changed ≡ true → staying l.stays < staying l.before;
-}
+invariant-loop-d l = Going l.g l.round l.before.stays l.now.stays l.now.due l.initial.parents l.parents l.changed l.d

@@ -1,6 +1,4 @@
-use Rattle.std.proofs.Common.{subst, ◌∷◌, []}
 use Rattle.fw_run.specs.Carrying.{Carries}
-use Rattle.fw_bus.specs.Orders.{MayCarry}
 use Rattle.fw_bus.proofs.CarryLaws.{by_desk, carried, finish_turns, given_front}
 use Rattle.fw_bus.proofs.Doings.{does_one}
 use Rattle.fw_bus.proofs.machine.Machine.carry_out.Goals as goal

@@ -1,4 +1,4 @@
-use Rattle.std.proofs.Common.{◌≡◌, length, ap, arith}
+use Rattle.std.proofs.Common.{length, ap, arith}
 use Rattle.fw_bus.proofs.machine.Machine.deck.Goals as goal
 
 pub kind-requires : goal.kind-requires

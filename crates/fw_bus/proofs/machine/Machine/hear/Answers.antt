@@ -1,12 +1,11 @@
-use Rattle.std.proofs.Common.{◌≡◌, ◌<◌, ◌%◌, ℕ, List, Bor, option_map, slice_set, length, IsTrue, Some, None, ap, sym, subst, arith, ◌∙◌, refl, is_some}
+use Rattle.std.proofs.Common.{◌≡◌, ◌<◌, ◌%◌, ℕ, List, Bor, option_map, length, IsTrue, Some, ap, sym, subst, arith, ◌∙◌, refl, is_some}
 use Rattle.std.proofs.lemmas.List.{length-set}
 use Rattle.std.proofs.lemmas.Option.{same_Some}
-use Rattle.fw_async.specs.Reader.{IsPacket, Spells}
 use Rattle.fw_async.specs.Wire.{Pairs}
 use Rattle.fw_base.specs.Devices.{has_link}
 use Rattle.fw_entry.specs.declared.entry.Entry.TheVariants.{Async}
-use Rattle.fw_node.specs.Packets.{IsServed, request_in}
-use Rattle.fw_node.specs.State.{after_request, space_of}
+use Rattle.fw_node.specs.Packets.{IsServed}
+use Rattle.fw_node.specs.State.{space_of}
 use Rattle.fw_devices.specs.Network.{Network, node_at}
 use Rattle.fw_run.specs.HalfSteps.{half}
 use Rattle.fw_bus.specs.Doings.{Takes}
@@ -155,8 +154,8 @@ give_packet-requires g c =
     let at = c.device_at.ensures ∙ goes_to m d there.0 own c.number_in.result k (c.number_in.ensures ∙ ap (λ (i : ℕ). i % 64) (c.destination_at.ensures (went_packet own k.went) read)) in
     let same : there.0 ≡ c.in-Some-device_at.target = same_Some there.0 c.in-Some-device_at.target (sym at ∙ c.in-Some-device_at.is) in
     let response = response_written m d there.0 own c.serve-reply.new.out c.serve-reply.result k
-        (λ n e. subst (λ (t : ℕ). IsServed (space_of n m.cycle (node_at m.devices.nodes t)) (went_packet own k.went) c.serve-reply.new.out c.serve-reply.result) (sym same)
-        (c.serve-reply.ensures.response (went_packet own k.went) read n (subst (λ (t : ℕ). (node_at m.devices.nodes t).number ≡ Some n) same e))) in
+    (λ n e. subst (λ (t : ℕ). IsServed (space_of n m.cycle (node_at m.devices.nodes t)) (went_packet own k.went) c.serve-reply.new.out c.serve-reply.result) (sym same)
+    (c.serve-reply.ensures.response (went_packet own k.went) read n (subst (λ (t : ℕ). (node_at m.devices.nodes t).number ≡ Some n) same e))) in
     record { packet = response.packet; spells = response.spells }
 
 pub returns : goal.returns
@@ -178,8 +177,8 @@ returns g c =
     let at = c.device_at.ensures ∙ goes_to m d there.0 own c.number_in.result k (c.number_in.ensures ∙ ap (λ (i : ℕ). i % 64) (c.destination_at.ensures (went_packet own k.went) read)) in
     let same : there.0 ≡ c.in-Some-device_at.target = same_Some there.0 c.in-Some-device_at.target (sym at ∙ c.in-Some-device_at.is) in
     let response = response_written m d there.0 own c.serve-reply.new.out c.serve-reply.result k
-        (λ n e. subst (λ (t : ℕ). IsServed (space_of n m.cycle (node_at m.devices.nodes t)) (went_packet own k.went) c.serve-reply.new.out c.serve-reply.result) (sym same)
-        (c.serve-reply.ensures.response (went_packet own k.went) read n (subst (λ (t : ℕ). (node_at m.devices.nodes t).number ≡ Some n) same e))) in
+    (λ n e. subst (λ (t : ℕ). IsServed (space_of n m.cycle (node_at m.devices.nodes t)) (went_packet own k.went) c.serve-reply.new.out c.serve-reply.result) (sym same)
+    (c.serve-reply.ensures.response (went_packet own k.went) read n (subst (λ (t : ℕ). (node_at m.devices.nodes t).number ≡ Some n) same e))) in
     let registers : c.serve-reply.new.self ≡ record m.devices { nodes = nodes_after m.devices.nodes there.0 (went_packet own k.went) } =
     subst (λ (t : ℕ). c.serve-reply.new.self ≡ record m.devices { nodes = nodes_after m.devices.nodes t (went_packet own k.went) }) (sym same) (c.serve-reply.ensures.registers (went_packet own k.went) read) in
     let P : Pairs → List ℕ → Type 0 = λ w counts.

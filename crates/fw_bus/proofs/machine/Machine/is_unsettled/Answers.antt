@@ -1,4 +1,4 @@
-use Rattle.std.proofs.Common.{◌≡◌, ◌&&◌, ℕ, Bool, true, false, length, refl, ap, sym, ◌∙◌, arith, below_more}
+use Rattle.std.proofs.Common.{◌≡◌, ◌&&◌, Bool, true, false, length, refl, ap, sym, ◌∙◌, arith, below_more}
 use Rattle.fw_run.specs.State.{State, is_living}
 use Rattle.fw_run.specs.Good.{IsGood}
 use Rattle.fw_run.specs.HalfSteps.{is_busy_at}

@@ -1,7 +1,7 @@
-use Rattle.std.proofs.Common.{refl, ℕ, slice_index_or, rules, arith, sym, ◌∙◌, ◌≡◌, ◌≤◌, ◌<◌, ◌+◌, length, true, false, cond, ap}
+use Rattle.std.proofs.Common.{refl, ℕ, slice_index_or, arith, sym, ◌∙◌, ◌≡◌, ◌+◌, length, true, false, cond, ap}
 use Rattle.std.specs.Prelude.{Err}
 use Rattle.fw_run.specs.State.{numbers_to}
-use Rattle.fw_bus.specs.Stands.{is_living_in, living_in}
+use Rattle.fw_bus.specs.Stands.{is_living_in}
 use Rattle.fw_bus.proofs.Doings.{ready_after}
 use Rattle.fw_bus.proofs.Rounding.{round_none, round_skips, round_then, round_cut, round_all, count_none, count_more, count_front}
 use Rattle.fw_bus.proofs.machine.Machine.round.Goals as goal

@@ -1,6 +1,5 @@
-use Rattle.std.proofs.Common.{refl, rules, arith, sym, ap, ◌∙◌, ◌≡◌, ◌+◌, ◌*◌, ◌-◌, ◌≤◌, length, List, ℕ, true, false}
+use Rattle.std.proofs.Common.{refl, rules, arith, sym, ap, ◌∙◌, ◌≡◌, ◌+◌, ◌*◌, length, List, ℕ}
 use Rattle.std.specs.Prelude.{Err}
-use Rattle.fw_run.specs.State.{numbers_to}
 use Rattle.fw_bus.specs.Stands.{living_in}
 use Rattle.fw_bus.proofs.Doings.{ready_after}
 use Rattle.fw_bus.proofs.Settles.{rounds_none, rounds_then, rounds_all, rounds_rest, rounds_cut, living_kept, rounds_within, round_within}

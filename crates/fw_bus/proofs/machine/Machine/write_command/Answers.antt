@@ -1,7 +1,6 @@
 use Rattle.std.proofs.Common.{refl}
-use Rattle.std.specs.Prelude.{Err}
 use Rattle.fw_run.specs.Desks.{DeskRelations}
-use Rattle.fw_bus.proofs.CommandTurns.{Commanding, command_talks, does_commands, does_exchanged, does_unexchanged}
+use Rattle.fw_bus.proofs.CommandTurns.{command_talks, does_commands, does_exchanged, does_unexchanged}
 use Rattle.fw_bus.proofs.machine.Machine.write_command.Given as given
 use Rattle.fw_bus.proofs.machine.Machine.write_command.Goals as goal
 

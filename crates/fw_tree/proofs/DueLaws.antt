@@ -1,0 +1,139 @@
+-- Who may leave in the next round: those that are joined to one that left.
+use Rattle.std.proofs.Common.{◌≡◌, ◌⊎◌, inl, inr, ℕ, suc, ◌<◌, ◌+◌, ◌==◌, ◌&&◌, not, List, [], ◌∷◌, length, Option, Some, None, IfSome, IsTrue, Bool, true, false, slice_index_or, slice_set, replicate, count_by, cond, arith, refl, sym, ap, ◌∙◌}
+use Rattle.std.proofs.lemmas.Bool.{cases_eq}
+use Rattle.std.proofs.lemmas.Bool.Decides.{nat_tests}
+use Rattle.std.proofs.lemmas.List.{get_or-replicate}
+use Rattle.std.proofs.lemmas.List.Sums.{sum_by-cons}
+use Rattle.fw_tree.specs.declared.facts.End.{End}
+use Rattle.fw_tree.specs.declared.rounds.Parent.{Parent}
+use Rattle.fw_tree.specs.Cables.{Peers, peer, InRange, is_seen, AreMarked}
+use Rattle.fw_tree.specs.Rounds.{is_open, open_count}
+use Rattle.fw_tree.specs.Forest.{AreCables}
+use Rattle.fw_tree.specs.Parents.{IsDue, staying}
+use Rattle.fw_tree.proofs.ForestLaws.{truth, first_of, second_of, open_to, opened}
+use Rattle.fw_tree.proofs.ParentLaws.{Leave, leave_more, set_seen_other}
+use Rattle.fw_tree.proofs.RoundLaws.{in_range}
+
+-- a device that is not due does not leave
+not_due : (stays due : Bool) (n : ℕ) → (stays ≡ true → n ≡ 1 → due ≡ true) → due ≡ false → false ≡ (stays && (n == 1))
+not_due false due n h e = refl
+not_due true due n h e = elim (cases_eq n 1) [
+  | inl one ↦ absurd (let x = h refl one in let z : ⊥ = cc in z)
+  | inr more ↦ grind (arith, nat_tests)
+]
+
+-- in the first round each is
+pub due_first : (g : Peers) (d : ℕ) → d < 63 → IsDue g (replicate 63 true) (replicate 63 true) d
+due_first g d low still one = get_or-replicate 63 d true false low
+
+-- what is joined to those that left is marked, as far as the devices below i
+pub Marked : Peers → List Bool → List Bool → List Bool → ℕ → Type 0
+Marked g old now due i = (k : ℕ) → k < i → is_seen old k ≡ true → is_seen now k ≡ false → AreMarked (slice_index_or g k []) due
+
+all_keep : (ports : List (Option End)) (due more : List Bool) → ((k : ℕ) → IsTrue (is_seen due k) → IsTrue (is_seen more k)) → AreMarked ports due → AreMarked ports more
+all_keep ports due more keeps m p = still (slice_index_or ports p None) (m p)
+  where
+    still : (o : Option End) → IfSome o (λ e. IsTrue (is_seen due e.device)) → IfSome o (λ e. IsTrue (is_seen more e.device))
+    still None h = tt
+    still (Some e) h = keeps e.device h
+
+pub marked_none : (g : Peers) (old now due : List Bool) → Marked g old now due 0
+unfolding Marked
+marked_none g old now due k low = absurd (omega arith)
+
+pub marked_more : (g : Peers) (round : ℕ) (old now then due more : List Bool) (was par : List (Option Parent)) (i : ℕ) (left : Bool) → Leave g round old now was par i → Marked g old now due i → (left ≡ true → then ≡ slice_set now i false) → (left ≡ false → then ≡ now) → ((k : ℕ) → IsTrue (is_seen due k) → IsTrue (is_seen more k)) → (left ≡ true → AreMarked (slice_index_or g i []) more) → Marked g old then more (i + 1)
+unfolding Marked
+marked_more g round old now then due more was par i true l m gone same keeps marked k low was_in is_out = elim (cases_eq k i) [
+  | inl here ↦ rw here (marked refl)
+  | inr differ ↦ all_keep (slice_index_or g k []) due more keeps (m k (omega arith) was_in (sym (set_seen_other now i k differ) ∙ (ap (λ xs. is_seen xs k) (sym (gone refl)) ∙ is_out)))
+]
+marked_more g round old now then due more was par i false l m gone same keeps marked k low was_in is_out = elim (cases_eq k i) [
+  | inl here ↦ absurd (let x : is_seen now k ≡ is_seen old k = l.still k (omega arith) in let y : is_seen now k ≡ false = ap (λ xs. is_seen xs k) (sym (same refl)) ∙ is_out in let z : ⊥ = cc in z)
+  | inr differ ↦ all_keep (slice_index_or g k []) due more keeps (m k (omega arith) was_in (ap (λ xs. is_seen xs k) (sym (same refl)) ∙ is_out))
+]
+
+-- what a round has done so far
+pub record Going (g : Peers) (round : ℕ) (old stays_now due : List Bool) (was now : List (Option Parent)) (changed : Bool) (i : ℕ) : Type 0 where
+  pub leave : Leave g round old stays_now was now i
+  pub marked : Marked g old stays_now due i
+  pub same : changed ≡ false → stays_now ≡ old
+  pub fewer : changed ≡ true → staying stays_now < staying old
+
+pub going_first : (g : Peers) (round : ℕ) (old due : List Bool) (was : List (Option Parent)) → length old ≡ 63 → Going g round old old due was was false 0
+going_first g round old due was size = record {
+  leave = record { done = λ k m. absurd (omega arith); still = λ k m. refl; notes = λ k m a b. absurd (omega arith); others = λ k m. refl; size = size };
+  marked = marked_none g old old due;
+  same = λ e. refl;
+  fewer = λ e. absurd (let z : ⊥ = cc in z);
+}
+
+-- a device that was not due
+pub going_on : (g : Peers) (round : ℕ) (old may now due : List Bool) (was par : List (Option Parent)) (changed : Bool) (i : ℕ) → i < 63 → Going g round old now due was par changed i → IsDue g old may i → is_seen may i ≡ false → Going g round old now due was par changed (i + 1)
+going_on g round old may now due was par changed i within l h none =
+    let stays = not_due (is_seen old i) (is_seen may i) (open_count g (is_seen old) i) h none in
+    record {
+      leave = leave_more g round old now now was par par i false within l.leave stays (λ e. absurd (let z : ⊥ = cc in z)) (λ e. absurd (let z : ⊥ = cc in z)) (λ k differ. refl) (λ e. refl) (λ e. refl);
+      marked = marked_more g round old now now due due was par i false l.leave l.marked (λ e. absurd (let z : ⊥ = cc in z)) (λ e. refl) (λ k m. m) (λ e. absurd (let z : ⊥ = cc in z));
+      same = l.same;
+      fewer = l.fewer;
+    }
+
+-- a port that leads to one that the first set has and the second has not
+Lost : (ℕ → Bool) → (ℕ → Bool) → Option End → Type 0
+Lost s t o = (is_open s o ≡ true) × (is_open t o ≡ false)
+
+-- where fewer cables are open, one of them is open no more
+lost_port : (s t : ℕ → Bool) (ports : List (Option End)) → ((p : ℕ) → is_open t (slice_index_or ports p None) ≡ true → is_open s (slice_index_or ports p None) ≡ true) → (count_by (is_open s) ports ≡ count_by (is_open t) ports) ⊎ ((p : ℕ) × Lost s t (slice_index_or ports p None))
+unfolding Lost
+lost_port s t [] fewer = inl refl
+lost_port s t (o ∷ ports) fewer = elim (lost_port s t ports (λ p. fewer (suc p))) [
+  | inr w ↦ inr (suc w.0, w.1)
+  | inl same ↦ elim (truth (is_open s o)) [
+    | inl was ↦ elim (truth (is_open t o)) [
+      | inl is ↦ inl (alike (was ∙ sym is) same)
+      | inr lost ↦ inr (0, (was, lost))
+    ]
+    | inr shut ↦ elim (truth (is_open t o)) [
+      | inl is ↦ absurd (let x = fewer 0 is in let z : ⊥ = cc in z)
+      | inr lost ↦ inl (alike (shut ∙ sym lost) same)
+    ]
+  ]
+]
+  where
+    alike : is_open s o ≡ is_open t o → count_by (is_open s) ports ≡ count_by (is_open t) ports → count_by (is_open s) (o ∷ ports) ≡ count_by (is_open t) (o ∷ ports)
+    alike e same =
+        sum_by-cons (λ x. cond (is_open s x) 1 0) o ports
+        ∙ (ap (λ b. cond b 1 0 + count_by (is_open s) ports) e
+        ∙ (ap (λ n. cond (is_open t o) 1 0 + n) same
+        ∙ sym (sum_by-cons (λ x. cond (is_open t x) 1 0) o ports)))
+
+-- after a round those are due whose count of open cables is another
+pub due_next : (g : Peers) (old now due : List Bool) (d : ℕ) → InRange g → AreCables g → ((k : ℕ) → k < 63 → is_seen now k ≡ (is_seen old k && not (open_count g (is_seen old) k == 1))) → Marked g old now due 63 → d < 63 → IsDue g now due d
+unfolding Marked Lost
+due_next g old now due d range cables after marked low stays one = elim (lost_port (is_seen old) (is_seen now) (slice_index_or g d []) fewer) [
+  | inl same ↦ absurd (not_one (open_count g (is_seen old) d) (second_of (is_seen old d) (not (open_count g (is_seen old) d == 1)) (sym (after d low) ∙ stays)) (same ∙ one))
+  | inr w ↦ by_port w.0 w.1
+]
+  where
+    fewer : (p : ℕ) → is_open (is_seen now) (peer g d p) ≡ true → is_open (is_seen old) (peer g d p) ≡ true
+    fewer p h =
+        let o = open_to (is_seen now) (peer g d p) h in
+        opened (is_seen old) (peer g d p) o.end o.is (first_of (is_seen old o.end.device) (not (open_count g (is_seen old) o.end.device == 1)) (sym (after o.end.device (in_range g range d p o.end o.is)) ∙ o.member))
+
+    not_one : (n : ℕ) → not (n == 1) ≡ true → n ≡ 1 → ⊥
+    not_one n h e = grind (arith, nat_tests)
+
+    shut : (o : Option End) (e : End) → o ≡ Some e → is_open (is_seen now) o ≡ false → is_seen now e.device ≡ false
+    shut None e is h = absurd (let z : ⊥ = cc in z)
+    shut (Some f) e is h = let same : f ≡ e = cc in rw (← same) h
+
+    seen_at : (o : Option End) (e : End) → o ≡ Some e → IfSome o (λ f. IsTrue (is_seen due f.device)) → is_seen due e.device ≡ true
+    seen_at None e is h = absurd (let z : ⊥ = cc in z)
+    seen_at (Some f) e is h = let same : f ≡ e = cc in rw (← same) h
+
+    by_port : (p : ℕ) → Lost (is_seen old) (is_seen now) (peer g d p) → is_seen due d ≡ true
+    by_port p lost =
+        let o = open_to (is_seen old) (peer g d p) lost.0 in
+        let gone = shut (peer g d p) o.end o.is lost.1 in
+        let back = cables.back d p o.end o.is in
+        seen_at (peer g o.end.device o.end.port) (record { device = d; port = p }) back (marked o.end.device (in_range g range d p o.end o.is) o.member gone o.end.port)
