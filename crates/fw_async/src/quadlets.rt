@@ -87,7 +87,6 @@ fn quadlet_request(p: &Packet) -> Option<QuadletRequest>
 }
 
 /// What the request packet asks that these bytes are, where it asks a quadlet; it is found at once. None tells nothing.
-#[inline(always)]
 pub fn quadlet_request_at(bytes: &[u8]) -> Option<QuadletRequest>
     requires { IsPacket bytes.now }
     ensures { (p : PacketRecord) → Spells p bytes.now → IfSome result (λ q. p ≡ request_packet q) }

@@ -59,6 +59,7 @@ impl PacketRoom {
     }
 
     /// Copies the packet's bytes over the front of `row`, and answers how many they are.
+    #[inline(always)]
     pub(crate) fn copy_to(&self, row: &mut [u8; 528]) -> usize
         ensures bytes { take result row.new ≡ self.now }
         ensures size { result ≡ length self.now }

@@ -1,6 +1,6 @@
 //! Who has a request on the bus, in the order in which the requests were put there.
 
-ghost use Rattle.std.specs.Prelude.{◌≡◌, ◌≢◌, ◌<◌, ◌≤◌, ℕ, [], ◌∷◌, ◌++◌, not, eqb, length, get_or};
+ghost use Rattle.std.specs.Prelude.{◌≡◌, ◌≢◌, ◌<◌, ◌≤◌, ℕ, [], ◌∷◌, ◌++◌, IsTrue, not, eqb, length, get_or};
 ghost use Rattle.std.specs.List.{filter, IsDistinct};
 
 use arrayvec::ArrayVec;
@@ -56,13 +56,12 @@ impl Senders {
         requires { IsDistinct eqb self.old }
         ensures { self.new ≡ filter (λ other. not (eqb sender other)) self.old }
     {
-        let at = place_of(self.numbers.as_slice(), self.gone, sender);
-        if at == self.numbers.len() {
+        if stands_at(self.numbers.as_slice(), self.gone, sender) {
+            self.gone += 1;
             return;
         }
-        if at == self.gone {
-            self.gone += 1;
-        } else {
+        let at = place_of(self.numbers.as_slice(), self.gone, sender);
+        if at < self.numbers.len() {
             self.numbers.remove(at);
         }
     }
@@ -74,6 +73,14 @@ impl Senders {
         self.numbers.clear();
         self.gone = 0;
     }
+}
+
+/// Whether a sender stands at this place.
+fn stands_at(numbers: &[u8], at: usize, sender: u8) -> bool
+    ensures within { IsTrue result → at < length numbers.now }
+    ensures here { IsTrue result → get_or numbers.now at 0 ≡ sender }
+{
+    at < numbers.len() && numbers[at] == sender
 }
 
 /// The first place from `from` on at which a sender stands; the numbers' end where it stands nowhere there.

@@ -78,7 +78,6 @@ impl Wire {
     }
 
     /// The bytes of a sender's packet. None exactly where no pair of that sender stands.
-    #[inline(always)]
     pub fn get(&self, from: u8) -> Option<&[u8]>
         ensures { option_map (λ b. b.now) result ≡ bytes_from from self.now }
     {
@@ -109,7 +108,6 @@ impl Wire {
     }
 
     /// Takes a sender's pair away, where one stands; the others keep their order.
-    #[inline(always)]
     pub fn remove(&mut self, from: u8)
         requires { from ≤ 62 }
         ensures { self.new ≡ without from self.old }

@@ -234,7 +234,7 @@ impl Controller {
         ensures goes_on { (d : BusDirectory) → CanGoOn d self.old → CanGoOn d self.new }
     {
         if let Current::Hearing(job, stage) = &self.current {
-            self.current = Current::Asking(*job, job.hear(*stage, r));
+            self.current = Current::Asking(*job, job.hear(stage, r));
         }
     }
 

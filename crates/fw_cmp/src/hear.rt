@@ -12,10 +12,10 @@ use fw_csr::Reply;
 
 impl Job {
     /// The stage that follows an answer.
-    pub fn hear(&self, stage: Stage, r: &Reply) -> Stage
+    pub fn hear(&self, stage: &Stage, r: &Reply) -> Stage
         requires job { JobFits self.now }
-        requires fits { StageFits self.now stage }
-        ensures value { result ≡ hear_reply self.now stage r.now }
+        requires fits { StageFits self.now stage.now }
+        ensures value { result ≡ hear_reply self.now stage.now r.now }
         ensures fits { StageFits self.now result }
     {
         if r.is_complete() {
@@ -26,12 +26,12 @@ impl Job {
     }
 
     /// The stage that follows an answer which is not complete.
-    fn refused(&self, stage: Stage, rcode: u8) -> Stage
-        requires fits { StageFits self.now stage }
-        ensures value { result ≡ refuse self.now stage rcode }
+    fn refused(&self, stage: &Stage, rcode: u8) -> Stage
+        requires fits { StageFits self.now stage.now }
+        ensures value { result ≡ refuse self.now stage.now rcode }
         ensures fits { StageFits self.now result }
     {
-        match stage {
+        match *stage {
             Stage::ReadInput(flow) => leave_output(self.connection, Ending::NoPlug(rcode), flow),
             _ => Stage::Ended(Ending::NoPlug(rcode)),
         }
@@ -39,13 +39,13 @@ impl Job {
 
     /// The stage that follows a complete answer with this word. A swap has succeeded exactly where the word equals
     /// its argument.
-    fn heard(&self, stage: Stage, word: u32) -> Stage
+    fn heard(&self, stage: &Stage, word: u32) -> Stage
         requires job { JobFits self.now }
-        requires fits { StageFits self.now stage }
-        ensures value { result ≡ hear self.now stage word }
+        requires fits { StageFits self.now stage.now }
+        ensures value { result ≡ hear self.now stage.now word }
         ensures fits { StageFits self.now result }
     {
-        match stage {
+        match *stage {
             Stage::ReadOutput => self.decide_output(None, word),
             Stage::ReadChannels(base, plug) => self.decide_channel(base, plug, word),
             Stage::SwapChannels(channel, arg, plug) => {
@@ -75,18 +75,18 @@ impl Job {
             | Stage::RaiseBandwidth(..)
             | Stage::ReadChannelsToRelease(..)
             | Stage::RestoreChannel(..) => self.heard_releasing(stage, word),
-            Stage::Begin | Stage::Made(_) | Stage::Ended(_) => stage,
+            Stage::Begin | Stage::Made(_) | Stage::Ended(_) => *stage,
         }
     }
 
     /// The same for the stages that join plugs.
-    fn heard_joining(&self, stage: Stage, word: u32) -> Stage
+    fn heard_joining(&self, stage: &Stage, word: u32) -> Stage
         requires job { JobFits self.now }
-        requires fits { StageFits self.now stage }
-        ensures value { IsJoining stage → result ≡ hear self.now stage word }
+        requires fits { StageFits self.now stage.now }
+        ensures value { IsJoining stage.now → result ≡ hear self.now stage.now word }
         ensures fits { StageFits self.now result }
     {
-        match stage {
+        match *stage {
             Stage::ConnectOutput(channel, units, arg) => {
                 if word == arg {
                     self.output_joined(self.first_flow(channel, units))
@@ -109,17 +109,17 @@ impl Job {
                     self.decide_input(flow, word)
                 }
             }
-            _ => stage,
+            _ => *stage,
         }
     }
 
     /// The same for the stages that leave plugs.
-    fn heard_leaving(&self, stage: Stage, word: u32) -> Stage
-        requires fits { StageFits self.now stage }
-        ensures value { IsLeaving stage → result ≡ hear self.now stage word }
+    fn heard_leaving(&self, stage: &Stage, word: u32) -> Stage
+        requires fits { StageFits self.now stage.now }
+        ensures value { IsLeaving stage.now → result ≡ hear self.now stage.now word }
         ensures fits { StageFits self.now result }
     {
-        match stage {
+        match *stage {
             Stage::ReadInputToLeave(channel, units) => {
                 self.decide_leave_input(channel, units, word)
             }
@@ -140,17 +140,17 @@ impl Job {
                     self.decide_leave_output(ending, channel, units, word)
                 }
             }
-            _ => stage,
+            _ => *stage,
         }
     }
 
     /// The same for the stages that give back units and the channel.
-    fn heard_releasing(&self, stage: Stage, word: u32) -> Stage
-        requires fits { StageFits self.now stage }
-        ensures value { IsReleasing stage → result ≡ hear self.now stage word }
+    fn heard_releasing(&self, stage: &Stage, word: u32) -> Stage
+        requires fits { StageFits self.now stage.now }
+        ensures value { IsReleasing stage.now → result ≡ hear self.now stage.now word }
         ensures fits { StageFits self.now result }
     {
-        match stage {
+        match *stage {
             Stage::ReadBandwidthToRelease(next, channel, units) => {
                 decide_raise(next, channel, units, word)
             }
@@ -171,7 +171,7 @@ impl Job {
                     Stage::RestoreChannel(next, channel, word)
                 }
             }
-            _ => stage,
+            _ => *stage,
         }
     }
 }

@@ -1,4 +1,4 @@
-use fw_csr::Request;
+use fw_csr::QuadletAccess;
 
 /// How a job ends.
 #[derive(Clone, Copy, Debug, PartialEq, Eq)]
@@ -31,10 +31,10 @@ pub enum Outcome {
 }
 
 /// What a controller does next.
-#[derive(Debug, PartialEq, Eq, Drop)]
+#[derive(Debug, Drop)]
 pub enum Next {
     /// Its request goes to the node with this number.
-    Send { to: u8, request: Request<'static> },
+    Send { to: u8, request: QuadletAccess },
     /// The job of this slot ends so.
     End { slot: u8, outcome: Outcome },
     /// It has nothing to do.

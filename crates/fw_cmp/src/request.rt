@@ -11,12 +11,10 @@ use crate::words::{
 };
 use crate::{Job, Stage};
 use fw_base::PlugAt;
-use fw_csr::{BANDWIDTH_AVAILABLE, CHANNELS_AVAILABLE_HI, CHANNELS_AVAILABLE_LO, Request, Swap};
+use fw_csr::{
+    BANDWIDTH_AVAILABLE, CHANNELS_AVAILABLE_HI, CHANNELS_AVAILABLE_LO, QuadletAccess, Swap,
+};
 use fw_plug::{IPCR, OPCR, OutWord};
-use fw_words::{Bytes16, Quadlet, put_quadlet};
-
-/// The extended_tcode of a compare_swap (IEEE 1394-1995, lock functions).
-const COMPARE_SWAP: u8 = 2;
 
 /// A register that a job asks for: that of a plug, or one of the isochronous resource manager's.
 #[derive(Clone, Copy, Debug, PartialEq, Eq)]
@@ -53,23 +51,10 @@ impl Target {
 impl Access {
     /// The request packet's part: a quadlet read, or a lock.
     #[inline(always)]
-    pub fn request(&self) -> Request<'static>
+    pub fn request(&self) -> QuadletAccess
         ensures { result ≡ request_of self.now }
     {
-        let offset = self.target.offset();
-        match self.swap {
-            None => Request::Read { offset },
-            Some(swap) => {
-                let mut bytes = Bytes16::new();
-                bytes.append(&put_quadlet(Quadlet(swap.argument)));
-                bytes.append(&put_quadlet(Quadlet(swap.new)));
-                Request::Lock {
-                    offset,
-                    function: COMPARE_SWAP,
-                    bytes,
-                }
-            }
-        }
+        QuadletAccess::new(self.target.offset(), self.swap)
     }
 }
 

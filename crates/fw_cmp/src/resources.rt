@@ -11,6 +11,7 @@ use fw_words::Quadlet;
 
 impl Job {
     /// What a word of the CHANNELS_AVAILABLE register from `base` on means; `plug` is the plug's word.
+    #[inline(always)]
     pub(crate) fn decide_channel(&self, base: u8, plug: u32, word: u32) -> Stage
         requires output { HasOutput self.now.connection }
         requires base { IsHalf base }

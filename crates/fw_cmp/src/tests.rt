@@ -109,7 +109,10 @@ fn sent(c: &mut Controller, d: &Directory) -> Option<(u8, u64, Option<Swap>)>
         return None;
     }
     match c.next(8000, d) {
-        Next::Send { to, request } => Some((to, request.offset(), request.swap())),
+        Next::Send { to, request } => {
+            let (offset, swap) = request.parts();
+            Some((to, offset, swap))
+        }
         _ => None,
     }
 }
@@ -191,7 +194,7 @@ fn connected(rt: &impl Abort, d: &Directory) -> Controller
 fn a_connection_is_made_and_broken(rt: HostRuntime) {
     let d = directory(8000);
     let mut c = connected(&rt, &d);
-    assert_eq!(rt; rests(&mut c, &d), Some(Next::Idle));
+    assert!(rt; matches!(rests(&mut c, &d), Some(Next::Idle)));
     assert_eq!(rt; breaks(&mut c, &d, 0), Ok(()));
     assert_eq!(rt; breaks(&mut c, &d, 0), Err(StartFault::NoSuchConnection));
     let rows = [
@@ -301,7 +304,7 @@ fn a_reset_ends_a_making_and_restores_what_stands(rt: HostRuntime) {
     ];
     goes_through(&rt, &mut c, &d, &restores);
     assert_eq!(rt; ended(&mut c, &d), Some((0, Outcome::Restored(0))));
-    assert_eq!(rt; rests(&mut c, &d), Some(Next::Waiting { until: 16000 }));
+    assert!(rt; matches!(rests(&mut c, &d), Some(Next::Waiting { until: 16000 })));
     assert!(rt; !c.busy(8000, &d) && c.busy(16000, &d));
 }
 
@@ -317,7 +320,7 @@ fn a_restoring_comes_too_late_once_its_second_is_over(rt: HostRuntime) {
     assert_eq!(rt; ended(&mut c, &d), Some((0, Outcome::Late(8000))));
     assert_eq!(rt; breaks(&mut c, &d, 0), Err(StartFault::NoSuchConnection));
     assert_eq!(rt; ended(&mut c, &d), Some((0, Outcome::Broken)));
-    assert_eq!(rt; rests(&mut c, &d), Some(Next::Idle));
+    assert!(rt; matches!(rests(&mut c, &d), Some(Next::Idle)));
 }
 
 #[test]

@@ -1,5 +1,6 @@
 -- What a request is at, and the two quadlets of a quadlet compare_swap (IEEE 1394-1995, lock functions).
-use Rattle.std.specs.Prelude.{ℕ, List, ◌==◌, ◌&&◌, length, Option, Some, None, if◌then◌else◌}
+use Rattle.std.specs.Prelude.{ℕ, List, ◌==◌, ◌&&◌, ◌++◌, length, Option, Some, None, if◌then◌else◌}
+use Rattle.std.specs.Int.{to_be_bytes, w32}
 use Rattle.fw_words.specs.Quadlet.{quadlet_at}
 use Rattle.fw_csr.specs.declared.request.Request.{Request}
 use Rattle.fw_csr.specs.declared.request.Request.TheVariants.{Read, ReadBlock, Write, WriteBlock, Lock}
@@ -21,3 +22,11 @@ quadlet_swap function bytes =
 abbrev pub swap_in : Request → Option Swap
 swap_in (Lock offset function bytes) = quadlet_swap function bytes
 swap_in _ = None
+
+abbrev pub swap_bytes : Swap → List ℕ
+swap_bytes s = to_be_bytes w32 s.argument ++ to_be_bytes w32 s.new
+
+-- the read of the quadlet at an offset, or its compare_swap
+abbrev pub request_at : ℕ → Option Swap → Request
+request_at offset None = Read offset
+request_at offset (Some s) = Lock offset 2 (swap_bytes s)

@@ -2,12 +2,14 @@
 //! compare_swap changes, and the four registers of the isochronous resource manager.
 #![tactic(auto)]
 
+mod access;
 mod manager;
 mod register;
 mod reply;
 mod request;
 mod word;
 
+pub use access::QuadletAccess;
 pub use manager::{
     BANDWIDTH_AVAILABLE, BUS_MANAGER_ID, CHANNELS_AVAILABLE_HI, CHANNELS_AVAILABLE_LO, Manager,
 };

@@ -45,7 +45,6 @@ impl Node {
 
     /// `carry_out` from bytes to bytes, with the reply that the response carries beside its bytes, which are put into `out`. A read
     /// and a compare_swap of a quadlet are carried out at once.
-    #[inline(always)]
     pub fn serve(&mut self, now: u64, bytes: &[u8], out: &mut PacketRoom) -> Reply
         requires request { IsRequest bytes.now }
         requires link { IsTrue (has_link self.old.kind) }
@@ -64,7 +63,6 @@ impl Node {
     }
 
     /// The same of a request for a quadlet.
-    #[inline(always)]
     fn serve_quadlet(
         &mut self,
         number: u8,

@@ -210,7 +210,6 @@ impl Node {
     }
 
     /// Carries a request out at the register that it is at, if there is one.
-    #[inline(always)]
     pub(crate) fn reply(&mut self, number: u8, now: u64, r: &Request) -> Reply
         requires { number ≤ 62 }
         ensures reply { result ≡ reply (register_at (space_of number now self.old) (offset_of r.now)) r.now }

@@ -10,8 +10,8 @@ ghost use Rattle.fw_node.specs.Packets.{request_in, requester, packet_of, reques
 use crate::offset::node_id;
 use crate::response::RETRY_X;
 use fw_async::{Head, Packet, PacketRoom, QuadletRequest, QuadletSwap};
-use fw_csr::Request;
-use fw_words::{Bytes, Bytes16, Data, Quadlet, put_quadlet, quadlet_at};
+use fw_csr::{QuadletAccess, Request, Swap};
+use fw_words::{Bytes, Bytes16, Data, Quadlet, put_quadlet};
 
 /// The extended_tcode of a compare_swap (IEEE 1394-1995, lock functions).
 const COMPARE_SWAP: u8 = 2;
@@ -113,61 +113,27 @@ pub fn request_packet<'a>(from: u8, to: u8, label: u8, r: &Request<'a>) -> Packe
     }
 }
 
-/// `request_packet` as bytes, in place of what `out` held.
+/// The packet by which node `from` asks node `to` for a quadlet, as bytes, in place of what `out` held: `request_packet`.
 #[inline(always)]
-pub fn put_request(from: u8, to: u8, label: u8, r: &Request, out: &mut PacketRoom)
+pub fn put_request(from: u8, to: u8, label: u8, r: &QuadletAccess, out: &mut PacketRoom)
     requires from { from ≤ 62 }
     requires to { to ≤ 62 }
     requires label { label < 64 }
     requires fits { Fits (packet_of (request_head from to label) r.now) }
     ensures { out.new ≡ spelling (packet_of (request_head from to label) r.now) }
 {
-    let head = request_head(from, to, label);
-    match quadlet_request(head, r) {
-        Some(asked) => out.put_request(&asked),
-        None => out.put(&request_packet(from, to, label, r)),
-    }
-}
-
-/// A request of one quadlet, with the head of its packet: a read, or a compare_swap.
-fn quadlet_request(head: Head, r: &Request) -> Option<QuadletRequest>
-    ensures packet { IfSome result (λ q. packet_of head r.now ≡ quadlet_packet q) }
-    ensures head { IfSome result (λ q. q.head ≡ head) }
-    ensures offset { IfSome result (λ q. q.offset ≡ offset_of r.now) }
-{
-    let swap = match r {
-        Request::Read { .. } => None,
-        Request::Lock {
-            function,
-            bytes,
-            ..
-        } => Some(swap_in(*function, bytes)?),
-        _ => return None,
-    };
-    Some(QuadletRequest {
-        head,
-        offset: r.offset(),
-        swap,
-    })
-}
-
-/// The two quadlets of a lock, where it is a compare_swap of quadlets.
-fn swap_in(function: u8, bytes: &Bytes16) -> Option<QuadletSwap>
-    ensures { IfSome result (λ s. (function ≡ 2) × (bytes.now ≡ to_be_bytes w32 s.argument ++ to_be_bytes w32 s.new)) }
-{
-    let bytes = bytes.as_slice();
-    if function == COMPARE_SWAP && bytes.len() == 8 {
-        Some(QuadletSwap {
-            argument: quadlet_at(bytes, 0).0,
-            new: quadlet_at(bytes, 4).0,
-        })
-    } else {
-        None
-    }
+    let (offset, swap) = r.parts();
+    out.put_request(&QuadletRequest {
+        head: request_head(from, to, label),
+        offset,
+        swap: match swap {
+            None => None,
+            Some(Swap { argument, new }) => Some(QuadletSwap { argument, new }),
+        },
+    });
 }
 
 /// What the packet of a request of one quadlet asks.
-#[inline(always)]
 pub fn asked_of(q: &QuadletRequest) -> Request<'static>
     ensures { request_in (quadlet_packet q.now) ≡ Some result }
 {

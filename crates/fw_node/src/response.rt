@@ -46,7 +46,6 @@ pub fn response(number: u8, p: &Packet, reply: Reply) -> Packet<'static>
 }
 
 /// `response` to a request of one quadlet as bytes, in place of what `out` held.
-#[inline(always)]
 pub fn put_reply(number: u8, asked: &QuadletRequest, reply: Reply, out: &mut PacketRoom)
     requires number { number ≤ 62 }
     requires rcode { reply.rcode < 2 ^ 4 }

@@ -1,0 +1,39 @@
+ghost use Rattle.std.specs.Prelude.{◌≡◌};
+ghost use Rattle.fw_csr.specs.Requests.{request_at};
+
+use crate::Swap;
+use std::marker::Model;
+
+/// A read, or a compare_swap, of the quadlet at an offset. It stands for the request that it is, and is short where a
+/// `Request` is as long as its longest kind.
+#[derive(Debug, Drop)]
+pub struct QuadletAccess {
+    offset: u64,
+    /// None in a read.
+    swap: Option<Swap>,
+}
+
+impl Model for QuadletAccess {
+    ghost use Rattle.fw_csr.specs.Requests.{request_at};
+    ghost use Rattle.fw_csr.specs.declared.request.Request.{Request};
+
+    ghost Value = { Request };
+
+    ghost view = { λ a. request_at a.offset a.swap };
+}
+
+impl QuadletAccess {
+    /// The read of the quadlet at an offset, or its compare_swap where there is one.
+    pub fn new(offset: u64, swap: Option<Swap>) -> QuadletAccess
+        ensures { result ≡ request_at offset swap }
+    {
+        QuadletAccess { offset, swap }
+    }
+
+    /// Its offset, and the compare_swap; None in a read.
+    pub fn parts(&self) -> (u64, Option<Swap>)
+        ensures { self.now ≡ request_at result.0 result.1 }
+    {
+        (self.offset, self.swap)
+    }
+}
