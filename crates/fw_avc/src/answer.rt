@@ -15,22 +15,23 @@ use fw_fcp::{
 use fw_tape::{Desk, TapeRow, Transport};
 
 impl Unit {
-    /// Carries a command frame from a node out, and gives the response: the first rule that holds, and then the row of the
-    /// table. What is answered NOT IMPLEMENTED or REJECTED changes nothing.
+    /// Carries a command frame from a node out, and puts the response into `out`: the first rule that holds, and then the row
+    /// of the table. What is answered NOT IMPLEMENTED or REJECTED changes nothing.
     pub fn answer<F: Fn(u16, u32, u16) -> [u8; 480], H: Fn(u32, u8) -> u8>(
         &mut self,
         from: u8,
         f: &Frame,
         desk: &Desk<F, H>,
-    ) -> Frame
+        out: &mut Frame,
+    )
         requires desk { AnyVendorByte (H.pre desk.now.vendor) }
         requires code { f.now.code ≤ 4 }
-        ensures response { IsResponse (H.post desk.now.vendor) self.old f.now (ruling self.old f.now) result }
+        ensures response { IsResponse (H.post desk.now.vendor) self.old f.now (ruling self.old f.now) out.new }
         ensures unit { self.new ≡ unit_after self.old from f.now }
-        ensures fits { Fits f.now → Fits result }
-        ensures refused { IsTrue (is_refusal result.code) → self.new ≡ self.old }
+        ensures fits { Fits f.now → Fits out.new }
+        ensures refused { IsTrue (is_refusal out.new.code) → self.new ≡ self.old }
     {
-        self.answer_by_address(from, f, desk)
+        self.answer_by_address(from, f, desk, out);
     }
 
     fn answer_by_address<F: Fn(u16, u32, u16) -> [u8; 480], H: Fn(u32, u8) -> u8>(
@@ -38,16 +39,17 @@ impl Unit {
         from: u8,
         f: &Frame,
         desk: &Desk<F, H>,
-    ) -> Frame
+        out: &mut Frame,
+    )
         requires desk { AnyVendorByte (H.pre desk.now.vendor) }
         requires code { f.now.code ≤ 4 }
-        ensures response { IsResponse (H.post desk.now.vendor) self.old f.now (ruling self.old f.now) result }
+        ensures response { IsResponse (H.post desk.now.vendor) self.old f.now (ruling self.old f.now) out.new }
         ensures unit { self.new ≡ unit_after self.old from f.now }
     {
         match (f.kind, f.id) {
-            (31, 7) => self.unit_command(from, f, desk),
-            (4, 0) => self.tape_command(from, f),
-            _ => f.repeated(NOT_IMPLEMENTED),
+            (31, 7) => self.unit_command(from, f, desk, out),
+            (4, 0) => self.tape_command(from, f, out),
+            _ => out.repeat(f, NOT_IMPLEMENTED),
         }
     }
 
@@ -57,20 +59,25 @@ impl Unit {
         from: u8,
         f: &Frame,
         desk: &Desk<F, H>,
-    ) -> Frame
+        out: &mut Frame,
+    )
         requires desk { AnyVendorByte (H.pre desk.now.vendor) }
         requires kind { f.now.kind ≡ 31 }
         requires id { f.now.id ≡ 7 }
-        ensures response { IsResponse (H.post desk.now.vendor) self.old f.now (ruling self.old f.now) result }
+        ensures response { IsResponse (H.post desk.now.vendor) self.old f.now (ruling self.old f.now) out.new }
         ensures unit { self.new ≡ unit_after self.old from f.now }
     {
         let operands = f.operands.as_slice();
         match f.code {
-            SPECIFIC_INQUIRY => inquired(f, UnitRow::of(CONTROL, f.opcode, operands).is_some()),
-            GENERAL_INQUIRY => inquired(f, UnitRow::is_controlled(f.opcode) && is_bare(f)),
+            SPECIFIC_INQUIRY => inquired(
+                f,
+                UnitRow::of(CONTROL, f.opcode, operands).is_some(),
+                out,
+            ),
+            GENERAL_INQUIRY => inquired(f, UnitRow::is_controlled(f.opcode) && is_bare(f), out),
             code => match UnitRow::of(code, f.opcode, operands) {
-                Some(row) => self.unit_row(from, f, row, desk),
-                None => f.repeated(NOT_IMPLEMENTED),
+                Some(row) => self.unit_row(from, f, row, desk, out),
+                None => out.repeat(f, NOT_IMPLEMENTED),
             },
         }
     }
@@ -82,31 +89,32 @@ impl Unit {
         f: &Frame,
         row: UnitRow,
         desk: &Desk<F, H>,
-    ) -> Frame
+        out: &mut Frame,
+    )
         requires desk { AnyVendorByte (H.pre desk.now.vendor) }
         requires kind { f.now.kind ≡ 31 }
         requires command { IsOfType f.now.code row }
         requires operands { operands_of row ≤ length f.now.operands }
-        ensures response { IsResponse (H.post desk.now.vendor) self.old f.now (row_ruling self.old f.now (OfUnit row)) result }
+        ensures response { IsResponse (H.post desk.now.vendor) self.old f.now (row_ruling self.old f.now (OfUnit row)) out.new }
         ensures unit { self.new ≡ state_after self.old from f.now (row_ruling self.old f.now (OfUnit row)) }
     {
         match row {
-            UnitRow::UnitInfo => f.with_values(STABLE, f.opcode, &[0x07, 0x20, 0xA0, 0xB0, 0xC0]),
+            UnitRow::UnitInfo => out.show(f, STABLE, f.opcode, &[0x07, 0x20, 0xA0, 0xB0, 0xC0]),
             UnitRow::SubunitInfo => {
-                f.with_values(STABLE, f.opcode, &subunits(f.operands.as_slice()[0]))
+                out.show(f, STABLE, f.opcode, &subunits(f.operands.as_slice()[0]))
             }
             UnitRow::PlugInfo => {
-                f.with_values(STABLE, f.opcode, &[0, self.inputs, self.outputs, 0, 0])
+                out.show(f, STABLE, f.opcode, &[0, self.inputs, self.outputs, 0, 0])
             }
             UnitRow::SetPower(on) => {
                 self.set_power(on);
-                f.repeated(ACCEPTED)
+                out.repeat(f, ACCEPTED)
             }
             UnitRow::PowerState => {
                 let power = self.power;
-                self.show(from, f, Watched::Power(power))
+                self.show(from, f, Watched::Power(power), out)
             }
-            UnitRow::VendorDependent => vendor_dependent(f, desk),
+            UnitRow::VendorDependent => vendor_dependent(f, desk, out),
         }
     }
 
@@ -122,49 +130,53 @@ impl Unit {
 
     /// The response that shows a state. A NOTIFY request is kept, with the value that it is told; where four are kept, it is
     /// rejected.
-    fn show(&mut self, from: u8, f: &Frame, value: Watched) -> Frame
+    fn show(&mut self, from: u8, f: &Frame, value: Watched, out: &mut Frame)
         requires { 1 ≤ length f.now.operands }
-        ensures response { result ≡ (if (f.now.code == 3) && (length self.old.kept == 4) then record f.now { code = 0xA } else shows_state f.now value) }
+        ensures response { out.new ≡ (if (f.now.code == 3) && (length self.old.kept == 4) then record f.now { code = 0xA } else shows_state f.now value) }
         ensures unit { self.new ≡ (if (f.now.code == 3) && (length self.old.kept == 4) then self.old else asked self.old from f.now value) }
     {
         let (opcode, operand) = value.codes();
         if f.code != NOTIFY {
-            return f.with_values(STABLE, opcode, &[operand]);
+            out.show(f, STABLE, opcode, &[operand]);
+            return;
         }
         match self.kept.try_push(Kept { node: from, value }) {
-            Ok(()) => f.with_values(INTERIM, opcode, &[operand]),
-            Err(_) => f.repeated(REJECTED),
+            Ok(()) => out.show(f, INTERIM, opcode, &[operand]),
+            Err(_) => out.repeat(f, REJECTED),
         }
     }
 
     /// A command to the tape subunit.
-    fn tape_command(&mut self, from: u8, f: &Frame) -> Frame
+    fn tape_command(&mut self, from: u8, f: &Frame, out: &mut Frame)
         requires kind { f.now.kind ≡ 4 }
         requires id { f.now.id ≡ 0 }
         requires code { f.now.code ≤ 4 }
-        ensures response { IsResponse NoVendor self.old f.now (ruling self.old f.now) result }
+        ensures response { IsResponse NoVendor self.old f.now (ruling self.old f.now) out.new }
         ensures unit { self.new ≡ unit_after self.old from f.now }
     {
         let is_row = TapeRow::of(f.code, f.opcode, f.operands.as_slice()).is_some();
         if is_row && !self.power {
-            return f.repeated(REJECTED);
+            out.repeat(f, REJECTED);
+            return;
         }
         if f.code != NOTIFY {
-            return self.tape.command(f);
+            self.tape.command(f, out);
+            return;
         }
         if !is_row {
-            return f.repeated(NOT_IMPLEMENTED);
+            out.repeat(f, NOT_IMPLEMENTED);
+            return;
         }
         let transport = self.tape.transport();
-        self.show(from, f, Watched::Transport(transport))
+        self.show(from, f, Watched::Transport(transport), out);
     }
 }
 
 /// The response to an inquiry, by whether what it asks for is a row.
-fn inquired(f: &Frame, found: bool) -> Frame
-    ensures { result ≡ record f.now { code = if found then 0xC else 8 } }
+fn inquired(f: &Frame, found: bool, out: &mut Frame)
+    ensures { out.new ≡ record f.now { code = if found then 0xC else 8 } }
 {
-    f.repeated(if found { STABLE } else { NOT_IMPLEMENTED })
+    out.repeat(f, if found { STABLE } else { NOT_IMPLEMENTED });
 }
 
 /// No operands, but for the zeros by which a frame may be longer; all operands of opcode 0 count.

@@ -6,7 +6,6 @@ ghost use Rattle.fw_avc.specs.Notices.{changed_frame};
 
 use fw_fcp::{CHANGED, Frame};
 use fw_tape::Transport;
-use fw_words::Bytes;
 
 /// A state that a controller may ask to be told of, with its value.
 #[derive(Clone, Copy, Debug, PartialEq, Eq)]
@@ -50,24 +49,21 @@ impl Watched {
         }
     }
 
-    /// The notice that the state has changed to this value, from the unit or from its tape subunit.
-    pub fn changed(self) -> Frame
-        ensures frame { result ≡ changed_frame self }
-        ensures fits { Fits result }
+    /// Replaces `out` by the notice that the state has changed to this value, from the unit or from its tape subunit.
+    pub fn put_notice(self, out: &mut Frame)
+        ensures frame { out.new ≡ changed_frame self }
+        ensures fits { Fits out.new }
     {
         let (kind, id) = match self {
             Watched::Power(_) => (31, 7),
             Watched::Transport(_) => (4, 0),
         };
         let (opcode, operand) = self.codes();
-        let mut operands = Bytes::new();
-        operands.push(operand);
-        Frame {
-            code: CHANGED,
-            kind,
-            id,
-            opcode,
-            operands,
-        }
+        out.code = CHANGED;
+        out.kind = kind;
+        out.id = id;
+        out.opcode = opcode;
+        out.operands.clear();
+        out.operands.push(operand);
     }
 }

@@ -15,7 +15,9 @@ fn frame_of(bytes: &[u8]) -> Option<Frame> {
     if bytes.len() > 16 {
         return None;
     }
-    read_frame(bytes).ok()
+    let mut frame = Frame::new();
+    read_frame(bytes, &mut frame).ok()?;
+    Some(frame)
 }
 
 /// The response to a frame from node 1, as a unit gives it; None where it is no frame or no command.
@@ -30,5 +32,7 @@ fn respond<F: Fn(u16, u32, u16) -> [u8; 480], H: Fn(u32, u8) -> u8>(
     if command.code > 4 {
         return None;
     }
-    Some(unit.answer(1, &command, desk))
+    let mut response = Frame::new();
+    unit.answer(1, &command, desk, &mut response);
+    Some(response)
 }

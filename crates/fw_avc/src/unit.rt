@@ -1,4 +1,5 @@
-ghost use Rattle.std.specs.Prelude.{◌≡◌, IfSome, position};
+ghost use Rattle.std.specs.Prelude.{◌≡◌, IfSome, IfNone, position};
+ghost use Rattle.std.specs.Option.{option_map};
 ghost use Rattle.fw_fcp.specs.Frames.{Fits};
 ghost use Rattle.std.specs.Borrow.{sem};
 ghost use Rattle.fw_avc.specs.State.{first_state, after_reset, now_of};
@@ -75,16 +76,18 @@ impl Unit {
         }
     }
 
-    /// The number of the node whose request is told next, and the frame for it: the first kept request whose state has
-    /// changed, which is then no longer kept. None exactly where no kept value has changed.
-    pub fn notice(&mut self) -> Option<(u8, Frame)>
-        ensures notice { result ≡ notice_of self.old }
+    /// The number of the node whose request is told next, with the frame for it in `out`: the first kept request whose state
+    /// has changed, which is then no longer kept. None exactly where no kept value has changed; then `out` stays as it was.
+    pub fn notice(&mut self, out: &mut Frame) -> Option<u8>
+        ensures notice { option_map (λ node. (node, out.new)) result ≡ notice_of self.old }
         ensures unit { self.new ≡ after_notice self.old }
-        ensures fits { IfSome result (λ told. Fits told.1) }
+        ensures fits { IfSome result (λ node. Fits out.new) }
+        ensures same { IfNone result (out.new ≡ out.old) }
     {
         let at = self.first_changed()?;
         let kept = self.kept.remove(at);
-        Some((kept.node, self.now(kept.value).changed()))
+        self.now(kept.value).put_notice(out);
+        Some(kept.node)
     }
 
     /// The place of the first kept request whose state has changed.

@@ -13,22 +13,20 @@ const COMPANY: u32 = 0xA0B0C0;
 pub(crate) fn vendor_dependent<F: Fn(u16, u32, u16) -> [u8; 480], H: Fn(u32, u8) -> u8>(
     f: &Frame,
     desk: &Desk<F, H>,
-) -> Frame
+    out: &mut Frame,
+)
     requires desk { AnyVendorByte (H.pre desk.now.vendor) }
     requires company { 3 ≤ length f.now.operands }
-    ensures { IsVendorResponse (H.post desk.now.vendor) f.now result }
+    ensures { IsVendorResponse (H.post desk.now.vendor) f.now out.new }
 {
     let asked = &f.operands.as_slice()[3..];
-    let mut operands = Operands::new();
-    operands.append(&[0xA0, 0xB0, 0xC0]);
-    append_made(&mut operands, asked, desk);
-    Frame {
-        code: ACCEPTED,
-        kind: f.kind,
-        id: f.id,
-        opcode: f.opcode,
-        operands,
-    }
+    out.code = ACCEPTED;
+    out.kind = f.kind;
+    out.id = f.id;
+    out.opcode = f.opcode;
+    out.operands.clear();
+    out.operands.append(&[0xA0, 0xB0, 0xC0]);
+    append_made(&mut out.operands, asked, desk);
 }
 
 /// Appends what the vendor makes of each byte.

@@ -147,6 +147,7 @@ impl Machine {
     fn send_frame<K: Sink>(
         &mut self,
         device: u8,
+        bytes: &mut Bytes512,
         room: &mut Room,
         sink: &mut K,
     ) -> Result<bool, Failed>
@@ -157,8 +158,7 @@ impl Machine {
         ensures fewer { IfOk result (λ sent. IsTrue sent
             → frames_of (node_at self.new.devices.nodes device) < frames_of (node_at self.old.devices.nodes device)) }
     {
-        let mut bytes = Bytes512::new();
-        let Some(frame) = self.devices.outgoing(device, &mut bytes) else {
+        let Some(frame) = self.devices.outgoing(device, bytes) else {
             return Ok(false);
         };
         let to = self.addressee(&frame);
@@ -179,7 +179,8 @@ impl Machine {
         requires declared { device < length self.old.devices.nodes }
         ensures does { Does (SendsAll device) self.old self.new (K.held sink.old) (K.held sink.new) (K.faults sink.old) (K.faults sink.new) result }
     {
-        while self.send_frame(device, room, sink)? {}
+        let mut bytes = Bytes512::new();
+        while self.send_frame(device, &mut bytes, room, sink)? {}
         Ok(())
     }
 }

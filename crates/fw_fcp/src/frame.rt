@@ -1,4 +1,4 @@
-ghost use Rattle.std.specs.Prelude.{◌≡◌, ◌≤◌, ◌++◌, length, drop};
+ghost use Rattle.std.specs.Prelude.{◌≡◌, ◌≤◌, ◌++◌, [], length, drop};
 
 use fw_words::Bytes;
 
@@ -21,37 +21,39 @@ pub struct Frame {
 }
 
 impl Frame {
-    /// The response with this code that repeats the frame.
-    pub fn repeated(&self, code: u8) -> Frame
-        ensures { result ≡ record self.now { code = code } }
+    /// A frame without operands whose numbers are 0: room for a frame that is to be read, or for a response.
+    pub fn new() -> Frame
+        ensures { result ≡ record { code = 0; kind = 0; id = 0; opcode = 0; operands = [] } }
     {
-        let mut operands = Bytes::new();
-        operands.append(self.operands.as_slice());
         Frame {
-            code,
-            kind: self.kind,
-            id: self.id,
-            opcode: self.opcode,
-            operands,
+            code: 0,
+            kind: 0,
+            id: 0,
+            opcode: 0,
+            operands: Bytes::new(),
         }
     }
 
-    /// The response with this code and opcode that has `values` in the place of the first operands, and repeats the
-    /// others.
-    pub fn with_values(&self, code: u8, opcode: u8, values: &[u8]) -> Frame
-        requires { length values.now ≤ length self.now.operands }
-        ensures { result ≡ record self.now { code = code; opcode = opcode; operands = values.now ++ drop (length values.now) self.now.operands } }
+    /// Becomes the response with this code that repeats the command.
+    pub fn repeat(&mut self, command: &Frame, code: u8)
+        ensures { self.new ≡ record command.now { code = code } }
     {
-        let others = &self.operands.as_slice()[values.len()..];
-        let mut operands = Bytes::new();
-        operands.append(values);
-        operands.append(others);
-        Frame {
-            code,
-            kind: self.kind,
-            id: self.id,
-            opcode,
-            operands,
-        }
+        self.show(command, code, command.opcode, &[]);
+    }
+
+    /// Becomes the response with this code and opcode that has `values` in the place of the command's first operands, and
+    /// repeats the others.
+    pub fn show(&mut self, command: &Frame, code: u8, opcode: u8, values: &[u8])
+        requires { length values.now ≤ length command.now.operands }
+        ensures { self.new ≡ record command.now { code = code; opcode = opcode; operands = values.now ++ drop (length values.now) command.now.operands } }
+    {
+        let others = &command.operands.as_slice()[values.len()..];
+        self.code = code;
+        self.kind = command.kind;
+        self.id = command.id;
+        self.opcode = opcode;
+        self.operands.clear();
+        self.operands.append(values);
+        self.operands.append(others);
     }
 }

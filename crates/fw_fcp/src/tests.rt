@@ -24,10 +24,9 @@ fn both_ways(rt: &impl Abort, f: &Frame, spelling: &[u8])
     let mut out: Bytes512 = bytes_of(&[9, 9]);
     write_frame(f, &mut out);
     assert_eq!(rt; out.as_slice(), spelling);
-    match read_frame(out.as_slice()) {
-        Ok(found) => assert_eq!(rt; found, *f),
-        Err(_) => assert!(rt; false),
-    }
+    let mut found = Frame::new();
+    assert!(rt; read_frame(out.as_slice(), &mut found).is_ok());
+    assert_eq!(rt; found, *f);
 }
 
 // PLAY, the state of a playing transport, UNIT INFO, and a frame with no operands.
@@ -86,7 +85,8 @@ fn refusals(rt: HostRuntime) {
     ];
     for (bytes, count, fault) in rows {
         if count <= 4 {
-            assert_eq!(rt; read_frame(&bytes[..count]).err(), Some(fault));
+            let mut out = Frame::new();
+            assert_eq!(rt; read_frame(&bytes[..count], &mut out).err(), Some(fault));
         }
     }
 }
@@ -96,14 +96,12 @@ fn refusals(rt: HostRuntime) {
 fn each_code_and_address(rt: HostRuntime) {
     for code in [0u8, 1, 2, 3, 4, 8, 9, 10, 11, 12, 13, 15] {
         for address in 0..=255 {
-            match read_frame(&[code, address, 0xB2, 0x70]) {
-                Ok(f) => {
-                    assert_eq!(rt; (f.code, f.opcode), (code, 0xB2));
-                    assert_eq!(rt; (f.kind, f.id), (address / 8, address % 8));
-                    assert_eq!(rt; f.operands.as_slice(), [0x70].as_slice());
-                }
-                Err(_) => assert!(rt; false, "{code:02X} {address:02X}"),
-            }
+            let mut f = Frame::new();
+            let read = read_frame(&[code, address, 0xB2, 0x70], &mut f);
+            assert!(rt; read.is_ok(), "{code:02X} {address:02X}");
+            assert_eq!(rt; (f.code, f.opcode), (code, 0xB2));
+            assert_eq!(rt; (f.kind, f.id), (address / 8, address % 8));
+            assert_eq!(rt; f.operands.as_slice(), [0x70].as_slice());
         }
     }
 }
@@ -111,8 +109,7 @@ fn each_code_and_address(rt: HostRuntime) {
 // A frame as long as a block: 509 operands.
 #[test]
 fn the_longest_frame(rt: HostRuntime) {
-    match read_frame(&[0; 512]) {
-        Ok(f) => assert_eq!(rt; f.operands.as_slice().len(), 509),
-        Err(_) => assert!(rt; false),
-    }
+    let mut f = Frame::new();
+    assert!(rt; read_frame(&[0; 512], &mut f).is_ok());
+    assert_eq!(rt; f.operands.as_slice().len(), 509);
 }

@@ -5,3 +5,4 @@ pub mod State
 pub mod Fcp
 pub mod Lending
 pub mod Streams
+pub mod Waiting

@@ -95,13 +95,12 @@ impl Node {
         let Some(unit) = &mut self.unit else {
             return;
         };
-        let Ok(frame) = read_frame(bytes) else {
+        let mut frame = Frame::new();
+        let Ok(()) = read_frame(bytes, &mut frame) else {
             return;
         };
         if frame.code <= GENERAL_INQUIRY {
-            let response = unit.answer(from, &frame, desk);
-            is_sendable(&response);
-            self.waiting = Some((from, response));
+            self.waiting.respond(unit, from, &frame, desk);
         }
     }
 
@@ -113,25 +112,20 @@ impl Node {
         ensures fits { IfSome result HasSpelling }
     {
         let from = self.number.unwrap_or(NO_NUMBER);
-        let (to, frame) = self.next_frame()?;
-        Some(frame_packet(from, to, &frame, room))
-    }
-
-    /// The frame that is sent next, and the number of the node that it goes to.
-    fn next_frame(&mut self) -> Option<(u8, Frame)>
-        ensures frame { result ≡ next_frame self.old }
-        ensures node { self.new ≡ after_frame self.old }
-        ensures fits { IfSome result (λ told. Fits told.1) }
-    {
-        if let Some(told) = self.waiting.take() {
-            return Some(told);
+        if let Some(unit) = &mut self.unit {
+            self.waiting.fill(unit);
         }
-        self.unit.as_mut()?.notice()
+        self.waiting.send(from, room)
     }
 }
 
 /// The packet by which node `from` writes a frame to FCP_RESPONSE of node `to`. The frame's bytes are put into `room`.
-fn frame_packet<'a>(from: u8, to: u8, frame: &Frame, room: &'a mut Bytes512) -> Packet<'a>
+pub(crate) fn frame_packet<'a>(
+    from: u8,
+    to: u8,
+    frame: &Frame,
+    room: &'a mut Bytes512,
+) -> Packet<'a>
     requires { Fits frame.now }
     ensures packet { result ≡ frame_packet from (to, frame.now) }
     ensures fits { HasSpelling result }
@@ -169,7 +163,7 @@ fn are_bytes(bytes: &[u8])
 }
 
 /// What the type of a frame says of its operands.
-fn is_sendable(frame: &Frame)
+pub(crate) fn is_sendable(frame: &Frame)
     requires { Fits frame.now }
     ensures { IsSendable frame.now }
 {

@@ -8,6 +8,7 @@ mod node;
 mod offset;
 mod request;
 mod response;
+mod waiting;
 
 pub use bytes::reply_at;
 pub use laws::{nodes_answer_as_their_spaces, packets_carry_what_they_are_made_of};

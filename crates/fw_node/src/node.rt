@@ -14,11 +14,11 @@ ghost use Rattle.fw_node.specs.State.{first_state, first_unit, after_reset, afte
 use crate::offset::*;
 use crate::request::{request_of, requester};
 use crate::response::response;
+use crate::waiting::Waiting;
 use fw_async::Packet;
 use fw_avc::Unit;
 use fw_base::DeviceKind;
 use fw_csr::{BUS_MANAGER_ID, CHANNELS_AVAILABLE_LO, Manager, Register, Reply, Request};
-use fw_fcp::Frame;
 use fw_plug::{OMPR, Plugs};
 use fw_tape::Desk;
 use std::marker::Model;
@@ -33,7 +33,7 @@ pub struct Node {
     manager: Option<Manager>,
     pub(crate) unit: Option<Unit>,
     /// The response to the latest command frame, and the number of the node that it goes to.
-    pub(crate) waiting: Option<(u8, Frame)>,
+    pub(crate) waiting: Waiting,
 }
 
 impl Model for Node {
@@ -71,7 +71,7 @@ impl Node {
             plugs: Plugs::new(kind.output_plugs(), kind.input_plugs(), rate),
             manager: None,
             unit: unit_of(kind),
-            waiting: None,
+            waiting: Waiting::new(),
         }
     }
 
@@ -84,9 +84,7 @@ impl Node {
         self.number = Some(number);
         self.plugs.reset();
         self.manager = if manager { Some(Manager::new()) } else { None };
-        if self.waiting.is_some() {
-            self.waiting = None;
-        }
+        self.waiting.clear();
         if let Some(unit) = &mut self.unit {
             unit.reset();
         }

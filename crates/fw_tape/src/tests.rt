@@ -17,7 +17,9 @@ fn control(tape: &mut Tape, opcode: u8, operand: u8) -> bool {
         opcode,
         operands,
     };
-    tape.command(&command).code == 9
+    let mut response = Frame::new();
+    tape.command(&command, &mut response);
+    response.code == 9
 }
 
 /// Passes cycles, as the bus does within its limits.
@@ -158,13 +160,15 @@ fn time_codes(rt: HostRuntime) {
         let _ = pass(&mut tape, 16_000);
         let mut operands = Bytes::new();
         operands.append(&[0x71, 0xFF, 0xFF, 0xFF, 0xFF, 0x00]);
-        let response = tape.command(&Frame {
+        let command = Frame {
             code: 1,
             kind: 4,
             id: 0,
             opcode: 0x51,
             operands,
-        });
+        };
+        let mut response = Frame::new();
+        tape.command(&command, &mut response);
         let [frame, second, minute, hour] = code;
         assert_eq!(rt; (response.code, response.opcode), (0xC, 0x51));
         assert_eq!(rt;

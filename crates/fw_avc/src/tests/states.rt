@@ -59,8 +59,9 @@ fn outcome<F: Fn(u16, u32, u16) -> [u8; 480], H: Fn(u32, u8) -> u8>(
 {
     let mut unit = unit_in(state, desk);
     let sum = mixed_frame(sum, respond(&mut unit, command, desk));
-    let sum = match unit.notice() {
-        Some((node, frame)) => mixed_frame(mixed(sum, &[node]), Some(frame)),
+    let mut notice = Frame::new();
+    let sum = match unit.notice(&mut notice) {
+        Some(node) => mixed_frame(mixed(sum, &[node]), Some(notice)),
         None => mixed(sum, &[]),
     };
     let sum = mixed_frame(sum, respond(&mut unit, &[0x01, 0xFF, 0xB2, 0x7F], desk));

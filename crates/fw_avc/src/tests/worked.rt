@@ -4,6 +4,7 @@ ghost use Rattle.fw_tape.specs.Desks.{AnyVendorByte};
 
 use super::{frame_of, respond};
 use crate::Unit;
+use fw_fcp::Frame;
 use fw_tape::Desk;
 use std::process::Abort;
 
@@ -23,12 +24,16 @@ fn answers<F: Fn(u16, u32, u16) -> [u8; 480], H: Fn(u32, u8) -> u8>(
 
 /// The next notice, in bytes.
 fn tells(rt: &impl Abort, unit: &mut Unit, notice: Option<&[u8]>) {
-    let told = unit.notice();
+    let mut told = Frame::new();
+    let node = unit.notice(&mut told);
     let frame = match notice {
         Some(bytes) => frame_of(bytes),
         None => None,
     };
-    assert_eq!(rt; told, frame.map(|frame| (1, frame)));
+    match frame {
+        Some(frame) => assert_eq!(rt; (node, told), (Some(1), frame)),
+        None => assert_eq!(rt; node, None),
+    }
 }
 
 #[test]

@@ -6,4 +6,4 @@ pub returns-in-4-eq0-clause-response : goal.returns-in-4-eq0-clause-response
 returns-in-4-eq0-clause-response g c =
     let u = c.args.self.now in
     let f = c.args.f.now in
-    any_vendor _ u f c.tape_command.result (ruling u f) c.tape_command.ensures.response
+    any_vendor _ u f c.tape_command.new.out (ruling u f) c.tape_command.ensures.response

@@ -34,7 +34,7 @@ returns-then-f-ne-NOTIFY-clause-response c =
     let u = c.args.self.now in
     let f = c.args.f.now in
     let P : Frame → Type 0 = λ r. IsResponse NoVendor u f (ruling u f) r in
-    let same : response u.tape f ≡ c.command.result = ap (λ v. response v.tape f) (sym c.self.view_is) ∙ sym c.command.ensures.response in
+    let same : response u.tape f ≡ c.command.new.out = ap (λ v. response v.tape f) (sym c.self.view_is) ∙ sym c.command.ensures.response in
     subst P same (tape_answered u c.args.from f (direct c)).response
 
 pub returns-then-f-ne-NOTIFY-clause-unit : goal.returns-then-f-ne-NOTIFY-clause-unit
