@@ -1,12 +1,13 @@
 -- Tables of controllers by device: one is changed, one is added, and all are changed.
-use Rattle.std.proofs.Common.{◌≡◌, ◌≢◌, ◌⊎◌, inl, inr, ℕ, zero, suc, take, drop, ◌+◌, ◌<◌, ◌≤◌, List, [], ◌∷◌, ◌++◌, length, map, get_or, set, replicate, slice_index_or, slice_set, cond, ◌==◌, Bool, true, false, refl, ap, sym, subst, ◌∙◌, arith, IsTrue}
+use Rattle.std.proofs.Common.{◌≡◌, ◌≢◌, ◌⊎◌, inl, inr, ℕ, zero, suc, take, drop, ◌+◌, ◌<◌, ◌≤◌, List, [], ◌∷◌, ◌++◌, length, map, get_or, set, replicate, slice_index_or, slice_set, cond, ◌==◌, Bool, true, false, refl, ap, sym, subst, ◌∙◌, append_assoc, arith, IsTrue}
 use Rattle.std.proofs.lemmas.Bool.{cases_eq, cases_lt, false≢true}
 use Rattle.std.proofs.lemmas.Bool.Decides.{nat_tests}
-use Rattle.std.proofs.lemmas.List.{get_or-set_same, get_or-set_other, get_or-map, get_or-replicate, length-replicate, get_or_past, get_or_read, length-map, length-append, length-set, get_or_append_left, get_or_push, length-drop}
+use Rattle.std.proofs.lemmas.List.{get_or-set_same, get_or-set_other, get_or-map, get_or-replicate, length-replicate, get_or_past, get_or_read, length-map, length-append, length-set, get_or_append_left, get_or_push, length-drop, length-take, get_or-take, drop_all, drop_more, map_more, append-nil}
 use Rattle.fw_base.specs.Tables.{update}
-use Rattle.fw_cmp.specs.Controllers.{ControllerState, first_state as new_controller}
+use Rattle.fw_cmp.specs.declared.connection.Slot.TheVariants.{Free}
+use Rattle.fw_cmp.specs.Controllers.{ControllerState, first_state as new_controller, is_restoring}
 use Rattle.fw_cmp.specs.Causes.{IsAtRest}
-use Rattle.fw_bus.specs.Tables.{AreCalm, ControllerTable, IsTable, count_of, states_of, dead_of}
+use Rattle.fw_bus.specs.Tables.{AreCalm, AreFresh, AreMarked, ControllerTable, IsTable, count_of, states_of, dead_of}
 
 -- ---- lists
 
@@ -115,36 +116,72 @@ none_dead n k = go (cases_lt k n)
     go (inl lt) = get_or-replicate n k false false lt
     go (inr past) = let far : length (replicate n false) ≤ k = omega (arith, length-replicate n false) in get_or_past (replicate n false) k false far
 
--- ---- controllers that are marked as having nothing to do
+-- ---- controllers that are marked
 
 -- one is changed, and so is its mark
-pub calm_set : (marks : List Bool) (list : List ControllerState) (d : ℕ) (b : Bool) (y : ControllerState) → AreCalm marks list → d < length list
-    → length list ≤ 63 → (IsTrue b → IsAtRest y) → AreCalm (slice_set marks d b) (slice_set list d y)
-calm_set marks list d b y h lt few rests = record { size = length-set marks d b ∙ h.size; each = each }
+pub marked_set : (says : ControllerState → Type 0) (marks : List Bool) (list : List ControllerState) (d : ℕ) (b : Bool) (y : ControllerState) → AreMarked says marks list → d < length list
+    → length list ≤ 63 → (IsTrue b → says y) → AreMarked says (slice_set marks d b) (slice_set list d y)
+marked_set says marks list d b y h lt few is = record { size = length-set marks d b ∙ h.size; each = each }
   where
     low : d < length marks
     low = let size = h.size in omega (arith, lt, few, size)
 
-    each : (k : ℕ) → IsTrue (slice_index_or (slice_set marks d b) k false) → IsAtRest (slice_index_or (slice_set list d y) k new_controller)
+    each : (k : ℕ) → IsTrue (slice_index_or (slice_set marks d b) k false) → says (slice_index_or (slice_set list d y) k new_controller)
     each k marked = go (cases_eq k d)
       where
-        go : (k ≡ d) ⊎ (k ≢ d) → IsAtRest (slice_index_or (slice_set list d y) k new_controller)
+        go : (k ≡ d) ⊎ (k ≢ d) → says (slice_index_or (slice_set list d y) k new_controller)
         go (inl same) =
             let mark : IsTrue b = sym (get_or-set_same marks d b false low) ∙ subst (λ j. IsTrue (slice_index_or (slice_set marks d b) j false)) same marked in
-            subst (λ j. IsAtRest (slice_index_or (slice_set list d y) j new_controller)) (sym same)
-            (subst IsAtRest (sym (get_or-set_same list d y new_controller lt)) (rests mark))
+            subst (λ j. says (slice_index_or (slice_set list d y) j new_controller)) (sym same)
+            (subst says (sym (get_or-set_same list d y new_controller lt)) (is mark))
         go (inr other) =
             let mark = sym (get_or-set_other marks d k b false other) ∙ marked in
-            subst IsAtRest (sym (get_or-set_other list d k y new_controller other)) (h.each k mark)
+            subst says (sym (get_or-set_other list d k y new_controller other)) (h.each k mark)
 
--- none is marked
-pub calm_none : (marks : List Bool) (list : List ControllerState) → marks ≡ replicate 256 false → AreCalm marks list
-calm_none marks list is = subst (λ (ms : List Bool). AreCalm ms list) (sym is)
-    (record { size = length-replicate 256 false; each = λ k marked. absurd (false≢true (sym (none_dead 256 k) ∙ marked)) })
+-- the same, where the two places are found to be the device's
+pub marked_put : (says : ControllerState → Type 0) (marks : List Bool) (list : List ControllerState) (d i j : ℕ) (b : Bool) (y : ControllerState) → AreMarked says marks list → d < length list
+    → length list ≤ 63 → i ≡ d → j ≡ d → (IsTrue b → says y) → AreMarked says (slice_set marks j b) (slice_set list i y)
+marked_put says marks list d i j b y h lt few at_list at_mark is = rw (at_list, at_mark) (marked_set says marks list d b y h lt few is)
 
--- one more, which is not marked
-pub calm_push : (marks : List Bool) (list : List ControllerState) → AreCalm marks list → AreCalm marks (list ++ new_controller ∷ [])
-calm_push marks list h = record { size = h.size; each = λ k marked. subst IsAtRest (sym (push_at list new_controller k)) (h.each k marked) }
+-- no mark says nothing
+pub unmarked : (y : Type 0) → IsTrue false → y
+unmarked y h = absurd (false≢true h)
+
+-- there are none yet, and each is marked
+pub marked_none : (says : ControllerState → Type 0) (marks : List Bool) (list : List ControllerState) → says new_controller → marks ≡ replicate 256 true → list ≡ [] → AreMarked says marks list
+marked_none says marks list new is none = subst (λ (ms : List Bool). AreMarked says ms list) (sym is)
+    (record { size = length-replicate 256 true; each = λ k marked. subst (λ (xs : List ControllerState). says (slice_index_or xs k new_controller)) (sym none) new })
+
+-- one more, which is new
+pub marked_push : (says : ControllerState → Type 0) (marks : List Bool) (list : List ControllerState) → AreMarked says marks list → AreMarked says marks (list ++ new_controller ∷ [])
+marked_push says marks list h = record { size = h.size; each = λ k marked. subst says (sym (push_at list new_controller k)) (h.each k marked) }
+
+-- a new one has nothing to do
+pub new_rests : IsAtRest new_controller
+new_rests = record { no_job = record { current = refl; restoring = λ i. free 32 i }; waiting = refl }
+  where
+    free : (n i : ℕ) → is_restoring (slice_index_or (replicate n Free) i Free) ≡ false
+    free zero i = refl
+    free (suc n) zero = refl
+    free (suc n) (suc i) = free n i
+
+pub fresh_calm : (marks : List Bool) (list : List ControllerState) → AreFresh marks list → AreCalm marks list
+fresh_calm marks list h = record { size = h.size; each = λ k marked. subst IsAtRest (sym (h.each k marked)) new_rests }
+
+-- all are changed, which leaves a new one as it is
+pub fresh_map : (f : ControllerState → ControllerState) (marks : List Bool) (list : List ControllerState) → f new_controller ≡ new_controller → AreFresh marks list → AreFresh marks (map f list)
+fresh_map f marks list fixed h = record { size = h.size; each = λ k marked. map_at f list new_controller k fixed ∙ (ap f (h.each k marked) ∙ fixed) }
+
+-- an element that the change leaves as it is may be left out of it
+pub map_skip : {A : Type 0} (f : A → A) (xs ys : List A) (i : ℕ) (e : A) → i < length xs → f (get_or xs i e) ≡ get_or xs i e → ys ≡ map f (take i xs) ++ drop i xs → ys ≡ map f (take (i + 1) xs) ++ drop (i + 1) xs
+map_skip f xs ys i e lt same is =
+    let front = map f (take i xs) in
+    is ∙ ap (λ l. front ++ l) (drop_more xs i e lt) ∙ sym (append_assoc front (get_or xs i e ∷ []) (drop (i + 1) xs))
+    ∙ ap (λ l. l ++ drop (i + 1) xs) (ap (λ x. front ++ x ∷ []) (sym same) ∙ sym (map_more f xs i e lt))
+
+-- a change that leaves a new controller as it is, of all controllers, may leave out those that are marked as new
+pub fresh_skip : (f : ControllerState → ControllerState) (marks : List Bool) (xs ys : List ControllerState) (i : ℕ) → f new_controller ≡ new_controller → AreFresh marks xs → i < length xs → slice_index_or marks i false ≡ true → ys ≡ map f (take i xs) ++ drop i xs → ys ≡ map f (take (i + 1) xs) ++ drop (i + 1) xs
+fresh_skip f marks xs ys i fixed h lt marked is = map_skip f xs ys i new_controller lt (ap f (h.each i marked) ∙ (fixed ∙ sym (h.each i marked))) is
 
 -- ---- a list that is written back
 
@@ -161,6 +198,23 @@ few_after n most new old same few =
     let all = length-append new (drop (length new) old) in
     let rest = length-drop (length new) old in
     omega (arith, front, all, rest, same, few)
+
+-- what marks say is so of it, where it is so of what was written
+marked_take : (says : ControllerState → Type 0) (marks : List Bool) (n : ℕ) (list : List ControllerState) → says new_controller → AreMarked says marks list → AreMarked says marks (take n list)
+marked_take says marks n list new h = record { size = h.size; each = λ k marked. go k marked (cases_lt k n) }
+  where
+    go : (k : ℕ) → IsTrue (slice_index_or marks k false) → (k < n) ⊎ (n ≤ k) → says (slice_index_or (take n list) k new_controller)
+    go k marked (inl lt) = subst says (sym (get_or-take n list k new_controller lt)) (h.each k marked)
+    go k marked (inr past) = let far : length (take n list) ≤ k = omega (arith, length-take n list, past) in subst says (sym (get_or_past (take n list) k new_controller far)) new
+
+-- a change of all, which leaves a new one as it is, is written back
+pub fresh_after : (f : ControllerState → ControllerState) (marks : List Bool) (n : ℕ) (new old : List ControllerState) → f new_controller ≡ new_controller → new ≡ map f old → AreFresh marks old
+    → AreFresh marks (take n (new ++ drop (length new) old))
+fresh_after f marks n new old fixed is h =
+    let size : length new ≡ length old = ap length is ∙ length-map old f in
+    let all : new ++ drop (length new) old ≡ new = ap (λ l. new ++ l) (drop_all (length new) old (omega (arith, size))) ∙ append-nil new in
+    subst (λ (xs : List ControllerState). AreFresh marks (take n xs)) (sym all)
+    (marked_take (λ c. c ≡ new_controller) marks n new refl (subst (λ (xs : List ControllerState). AreFresh marks xs) (sym is) (fresh_map f marks old fixed h)))
 
 -- ---- no devices
 

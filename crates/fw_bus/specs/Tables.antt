@@ -25,10 +25,18 @@ pub record IsTable (t : ControllerTable) (count : ℕ) (states : ℕ → Control
   pub states_are : states_of t ≡ states
   pub dead_are : dead_of t ≡ dead
 
--- the controllers that are marked have nothing to do
-pub record AreCalm (marks : List Bool) (list : List ControllerState) : Type 0 where
+-- what marks say is so of each controller that is marked
+pub record AreMarked (says : ControllerState → Type 0) (marks : List Bool) (list : List ControllerState) : Type 0 where
   pub size : length marks ≡ 256
-  pub each : (d : ℕ) → IsTrue (slice_index_or marks d false) → IsAtRest (slice_index_or list d new_controller)
+  pub each : (d : ℕ) → IsTrue (slice_index_or marks d false) → says (slice_index_or list d new_controller)
+
+-- the controllers that are marked have nothing to do
+abbrev pub AreCalm : List Bool → List ControllerState → Type 0
+AreCalm marks list = AreMarked IsAtRest marks list
+
+-- the controllers that are marked are as new ones
+abbrev pub AreFresh : List Bool → List ControllerState → Type 0
+AreFresh marks list = AreMarked (λ c. c ≡ new_controller) marks list
 
 -- what is kept is of 63 devices at most
 pub record IsRoomy (t : ControllerTable) (capacity : ℕ) : Type 0 where

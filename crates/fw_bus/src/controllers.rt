@@ -1,6 +1,6 @@
 //! The controllers of the declared devices.
 
-ghost use Rattle.std.specs.Prelude.{◌≡◌, ◌<◌, ◌+◌, IfOk, IfErr, IfSome, IsOk, IsTrue, Err, None, true, false, map, replicate};
+ghost use Rattle.std.specs.Prelude.{◌≡◌, ◌<◌, ◌≤◌, ◌+◌, IfOk, IfErr, IfSome, IsOk, IsTrue, Err, None, true, false, length, map, replicate};
 ghost use Rattle.fw_base.specs.Tables.{update};
 ghost use Rattle.fw_cmp.specs.Causes.{IsAtRest};
 ghost use Rattle.fw_cmp.specs.Controllers.{first_state as new_controller, IsHeard, IsStanding};
@@ -11,7 +11,7 @@ ghost use Rattle.fw_cmp.specs.Resets.{after_hear, after_reset, after_second};
 ghost use Rattle.fw_cmp.specs.Starts.{break_fault, break_started, started};
 ghost use Rattle.fw_cmp.specs.Turns.{addressee_in, next, after_next};
 ghost use Rattle.fw_run.specs.Actions.{slot_of, start_of};
-ghost use Rattle.fw_bus.specs.Tables.{IsTable, count_of, dead_of, states_of};
+ghost use Rattle.fw_bus.specs.Tables.{AreFresh, IsTable, count_of, dead_of, states_of};
 
 use fw_cmp::{Controller, Directory, Next, StartFault};
 use fw_csr::Reply;
@@ -31,19 +31,21 @@ pub struct Controllers {
     list: Vec<Controller>,
     /// The controller died, and was not started again.
     dead: [bool; MOST],
-    /// The controller was found to have nothing to do, and nothing has happened to it since.
+    /// The controller has nothing to do: it was found to have nothing, or is new, and nothing has happened to it since.
     calm: [bool; PLACES],
+    /// The controller is as a new one: nothing has happened to it at all, and nothing happens to it at a bus reset.
+    fresh: [bool; PLACES],
 }
 
 impl Model for Controllers {
     ghost use Rattle.std.specs.Prelude.{vec_capacity};
-    ghost use Rattle.fw_bus.specs.Tables.{AreCalm, ControllerTable, IsRoomy};
+    ghost use Rattle.fw_bus.specs.Tables.{AreCalm, AreFresh, ControllerTable, IsRoomy};
 
     ghost Value = { ControllerTable };
 
     ghost view = { λ c. record { list = c.list.items; flags = c.dead } };
 
-    ghost invariant = { λ c. IsRoomy (record { list = c.list.items; flags = c.dead }) (vec_capacity c.list) × AreCalm c.calm c.list.items };
+    ghost invariant = { λ c. IsRoomy (record { list = c.list.items; flags = c.dead }) (vec_capacity c.list) × AreCalm c.calm c.list.items × AreFresh c.fresh c.list.items };
 }
 
 impl Controllers {
@@ -54,7 +56,8 @@ impl Controllers {
         Ok(Controllers {
             list: Vec::with_capacity(alloc, MOST)?,
             dead: [false; MOST],
-            calm: unmarked(),
+            calm: all_marked(),
+            fresh: all_marked(),
         })
     }
 
@@ -107,6 +110,7 @@ impl Controllers {
     {
         let next = self.list[usize::from(device)].next(now, directory);
         self.calm[usize::from(device)] = is_idle(&next);
+        self.fresh[usize::from(device)] = false;
         next
     }
 
@@ -119,6 +123,7 @@ impl Controllers {
     {
         self.list[usize::from(device)].hear(reply);
         self.calm[usize::from(device)] = false;
+        self.fresh[usize::from(device)] = false;
     }
 
     /// Whether the controller of a device would refuse a connection, and why.
@@ -157,6 +162,7 @@ impl Controllers {
         };
         let _ = started;
         self.calm[usize::from(device)] = false;
+        self.fresh[usize::from(device)] = false;
     }
 
     /// The controller of a device is asked for a break that it does not refuse.
@@ -167,22 +173,23 @@ impl Controllers {
     {
         let _ = self.list[usize::from(device)].start_break(slot);
         self.calm[usize::from(device)] = false;
+        self.fresh[usize::from(device)] = false;
     }
 
     /// A bus reset that begins this epoch, for each controller.
     pub fn reset(&mut self, epoch: u32)
         ensures { IsTable self.new (count_of self.old) (λ d. after_reset epoch (states_of self.old d)) (dead_of self.old) }
     {
-        reset_each(&mut self.list, epoch);
-        self.calm = unmarked();
+        reset_each(&mut self.list, &self.fresh, epoch);
+        self.calm = self.fresh;
     }
 
     /// The reclaim second is over, for each controller.
     pub fn second_over(&mut self)
         ensures { IsTable self.new (count_of self.old) (λ d. after_second (states_of self.old d)) (dead_of self.old) }
     {
-        end_second(&mut self.list);
-        self.calm = unmarked();
+        end_second(&mut self.list, &self.fresh);
+        self.calm = self.fresh;
     }
 
     /// The controller of a device dies: it forgets its slots and jobs.
@@ -193,6 +200,7 @@ impl Controllers {
         self.list[usize::from(device)] = Controller::new();
         self.dead[usize::from(device)] = true;
         self.calm[usize::from(device)] = false;
+        self.fresh[usize::from(device)] = false;
     }
 
     /// The controller of a device starts.
@@ -203,32 +211,41 @@ impl Controllers {
         self.list[usize::from(device)] = Controller::new();
         self.dead[usize::from(device)] = false;
         self.calm[usize::from(device)] = false;
+        self.fresh[usize::from(device)] = false;
     }
 }
 
-/// A bus reset that begins this epoch, for each of the controllers.
-fn reset_each(list: &mut [Controller], epoch: u32)
+/// A bus reset that begins this epoch, for each of the controllers: a new one stays as it is.
+fn reset_each(list: &mut [Controller], fresh: &[bool; PLACES], epoch: u32)
+    requires few { length list.old ≤ 63 }
+    requires fresh { AreFresh fresh.now list.old }
     ensures { list.new ≡ map (after_reset epoch) list.old }
 {
-    for controller in list.iter_mut() {
-        controller.reset(epoch);
+    for (device, controller) in list.iter_mut().enumerate() {
+        if !fresh[device] {
+            controller.reset(epoch);
+        }
     }
 }
 
-/// The reclaim second is over, for each of the controllers.
-fn end_second(list: &mut [Controller])
+/// The reclaim second is over, for each of the controllers: a new one stays as it is.
+fn end_second(list: &mut [Controller], fresh: &[bool; PLACES])
+    requires few { length list.old ≤ 63 }
+    requires fresh { AreFresh fresh.now list.old }
     ensures { list.new ≡ map after_second list.old }
 {
-    for controller in list.iter_mut() {
-        controller.second_over();
+    for (device, controller) in list.iter_mut().enumerate() {
+        if !fresh[device] {
+            controller.second_over();
+        }
     }
 }
 
-/// No marks.
-fn unmarked() -> [bool; PLACES]
-    ensures { result ≡ replicate 256 false }
+/// Each place is marked.
+fn all_marked() -> [bool; PLACES]
+    ensures { result ≡ replicate 256 true }
 {
-    [false; PLACES]
+    [true; PLACES]
 }
 
 /// Whether the controller has nothing to do.

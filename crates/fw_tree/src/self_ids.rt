@@ -86,7 +86,6 @@ fn more_packet(
 }
 
 // Appends an extended packet, where the device has the port at which it begins.
-#[inline(always)]
 fn push_further(
     facts: &PhyFacts,
     cables: &DeviceCables,
@@ -119,7 +118,9 @@ pub fn push_node(
     ensures size { length out.new ≤ length out.old + 4 }
 {
     out.push(first_packet(facts, cables, parent, phy, initiator));
-    push_further(facts, cables, parent, phy, 0, out);
-    push_further(facts, cables, parent, phy, 1, out);
-    push_further(facts, cables, parent, phy, 2, out);
+    if facts.ports > 3 {
+        push_further(facts, cables, parent, phy, 0, out);
+        push_further(facts, cables, parent, phy, 1, out);
+        push_further(facts, cables, parent, phy, 2, out);
+    }
 }

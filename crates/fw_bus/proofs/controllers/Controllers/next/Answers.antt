@@ -1,10 +1,10 @@
-use Rattle.std.proofs.Common.{◌≡◌, ℕ, ◌<◌, List, Bool, length, rules, arith, sym, subst, ap, ◌∙◌, slice_set, IsTrue}
-use Rattle.fw_cmp.specs.Controllers.{ControllerState}
+use Rattle.std.proofs.Common.{◌≡◌, ◌<◌, List, false, length, rules, arith, sym, subst, ap, ◌∙◌, IsTrue}
+use Rattle.fw_cmp.specs.Controllers.{ControllerState, first_state as new_controller}
 use Rattle.fw_cmp.specs.Causes.{IsAtRest}
 use Rattle.fw_cmp.specs.Turns.{after_next}
 use Rattle.fw_cmp.proofs.Resting.{rest_same}
-use Rattle.fw_bus.specs.Tables.{AreCalm, count_of}
-use Rattle.fw_bus.proofs.Tables.{calm_set, table_set}
+use Rattle.fw_bus.specs.Tables.{count_of}
+use Rattle.fw_bus.proofs.Tables.{marked_put, table_set, unmarked}
 use Rattle.fw_bus.proofs.controllers.Controllers.next.Goals as goal
 
 pub returns-clause-state : goal.returns-clause-state
@@ -13,7 +13,7 @@ returns-clause-state c =
     c.self.view_is c.requires.device c.from.ensures c.index_mut.ensures.value c.next-next.ensures.state
 
 -- where it has nothing to do, it stays as it is
-rests : (c : goal.After-way_told-1) → IsTrue c.is_idle.result → IsAtRest c.next-next.new.self
+rests : (c : goal.After-from-3) → IsTrue c.is_idle.result → IsAtRest c.next-next.new.self
 rests c on =
     let old : ControllerState = c.index_mut.result.now in
     let here : IsAtRest old = c.next-next.ensures.idle.0 (c.is_idle.ensures on) in
@@ -21,12 +21,11 @@ rests c on =
 
 pub invariant_of-self : goal.invariant_of-self
 invariant_of-self c =
-    let marks : List Bool = c.self.inside.calm in
     let items : List ControllerState = c.self.inside.list.items in
     let size = ap count_of c.self.view_is in
     let within : c.args.device < length items = omega (arith, size, c.requires.device) in
-    let calm = calm_set marks items c.args.device c.is_idle.result c.next-next.new.self c.self.invariant.1 within c.self.invariant.0.few (rests c) in (
+    let few = c.self.invariant.0.few in (
       search rules,
-      subst (λ (j : ℕ). AreCalm (slice_set marks j c.is_idle.result) (slice_set items c.from.result c.next-next.new.self)) (sym c.from-2.ensures)
-          (subst (λ (j : ℕ). AreCalm (slice_set marks c.args.device c.is_idle.result) (slice_set items j c.next-next.new.self)) (sym c.from.ensures) calm),
+      marked_put IsAtRest c.self.inside.calm items c.args.device c.from.result c.from-2.result c.is_idle.result c.next-next.new.self c.self.invariant.1 within few c.from.ensures c.from-2.ensures (rests c),
+      marked_put (λ x. x ≡ new_controller) c.self.inside.fresh items c.args.device c.from.result c.from-3.result false c.next-next.new.self c.self.invariant.2 within few c.from.ensures c.from-3.ensures (unmarked _),
     )
