@@ -8,11 +8,11 @@ ghost use Rattle.fw_tool.specs.declared.ending.Ending.{Ending as AnEnding};
 mod desk;
 
 use desk::{block_of, inverted};
-use fw_outside::{MemSink, StdSink, StdSource};
+use fw_outside::{BufferedSink, MemSink, StdSink, StdSource};
 use fw_tape::Desk;
 use fw_tool::{Ending, NOTE_ROOM, close, fire, tell};
 use std::env;
-use std::io::{BufWriter, ErrorKind};
+use std::io::ErrorKind;
 use std::process::ExitCode;
 
 /// The words of the command line, behind the program's name.
@@ -36,15 +36,12 @@ fn main(rt: HostRuntime) -> ExitCode {
         Ok(words) => words,
         Err(ending) => return ExitCode::from(tell(ending, &mut errors)),
     };
-    let (Ok(output), Ok(mut notes)) = (
-        BufWriter::new(alloc, rt.stdout()),
-        MemSink::new(alloc, NOTE_ROOM, Vec::new(alloc)),
-    ) else {
+    let Ok(mut notes) = MemSink::new(alloc, NOTE_ROOM, Vec::new(alloc)) else {
         return ExitCode::from(tell(Ending::NoMemory, &mut errors));
     };
     // The source is asked for whole pieces, and needs no buffer in front of it.
     let mut source = StdSource::new(rt.reader());
-    let mut sink = StdSink::new(output);
+    let mut sink = BufferedSink::new(rt.stdout());
     let desk = Desk::new(
         |tape: u16, frame: u32, block: u16| -> [u8; 480]
             ensures { IsBlock tape frame block result }

@@ -1,0 +1,111 @@
+ghost use Rattle.std.specs.Prelude.{◌≡◌, ◌≤◌, ◌+◌, ◌++◌, length, take, None, OnOk, OnErr};
+ghost use Rattle.std.specs.Io.KnownBytes.{Appends};
+ghost use Rattle.fw_outside.specs.Gathering.{gathered};
+ghost use Rattle.fw_outside.specs.Outside.{HasCause, Writes, counted};
+
+use crate::{Failed, Sink, StdSink};
+use std::io::Write;
+
+/// How many bytes a `BufferedSink` keeps back at most.
+const ROOM: usize = 8192;
+
+/// A `StdSink` that gathers what is written and passes it on once its room is full, so that a short piece is only copied. What it
+/// still keeps back is passed on by `flush`; where the writer fails, it is lost.
+#[derive(Drop)]
+pub struct BufferedSink<W: Write> {
+    inner: StdSink<W>,
+    bytes: [u8; ROOM],
+    /// How many bytes are kept back.
+    length: usize,
+    ghost within: { length ≤ 8192 },
+}
+
+impl<W: Write> BufferedSink<W> {
+    /// A sink that writes to `inner`.
+    pub fn new(inner: W) -> BufferedSink<W>
+        ensures { result.inner.faults ≡ 0 }
+    {
+        BufferedSink {
+            inner: StdSink::new(inner),
+            bytes: [0; ROOM],
+            length: 0,
+        }
+    }
+
+    /// Passes on what is kept back, here and by the writer. Where it fails, some of it may not have been passed on.
+    pub fn flush(&mut self) -> Result<(), Failed>
+        ensures same { OnOk result (self.new.inner.faults ≡ self.old.inner.faults) }
+        ensures risen { OnErr result (self.new.inner.faults ≡ counted self.old.inner.faults) }
+    {
+        self.pass_on()?;
+        self.inner.flush()
+    }
+
+    /// Passes on what is kept back here.
+    fn pass_on(&mut self) -> Result<(), Failed>
+        ensures passed { OnOk result (Appends (W.contents self.old.inner.inner) (W.contents self.new.inner.inner) (take self.old.length self.old.bytes)) }
+        ensures empty { self.new.length ≡ 0 }
+        ensures cause { HasCause self.old.inner.faults self.new.inner.faults result }
+        ensures same { OnOk result (self.new.inner.faults ≡ self.old.inner.faults) }
+        ensures risen { OnErr result (self.new.inner.faults ≡ counted self.old.inner.faults) }
+    {
+        let result = self.inner.write(&self.bytes[..self.length]);
+        self.length = 0;
+        result
+    }
+
+    /// Keeps a piece back, which fits.
+    fn keep(&mut self, piece: &[u8])
+        requires { self.old.length + length piece.now ≤ 8192 }
+        ensures kept { take self.new.length self.new.bytes ≡ take self.old.length self.old.bytes ++ piece.now }
+        ensures inner { self.new.inner ≡ self.old.inner }
+    {
+        write_over(&mut self.bytes, self.length, piece);
+        self.length += piece.len();
+    }
+
+    /// Writes a piece that does not fit: what is kept back is passed on before it.
+    #[cold]
+    #[inline(never)]
+    fn write_behind(&mut self, piece: &[u8]) -> Result<(), Failed>
+        ensures passed { OnOk result (Appends (gathered (W.contents self.old.inner.inner) self.old.bytes self.old.length) (gathered (W.contents self.new.inner.inner) self.new.bytes self.new.length) piece.now) }
+        ensures cause { HasCause self.old.inner.faults self.new.inner.faults result }
+        ensures same { OnOk result (self.new.inner.faults ≡ self.old.inner.faults) }
+        ensures risen { OnErr result (self.new.inner.faults ≡ counted self.old.inner.faults) }
+    {
+        self.pass_on()?;
+        if piece.len() > ROOM {
+            return self.inner.write(piece);
+        }
+        self.keep(piece);
+        Ok(())
+    }
+}
+
+impl<W: Write> Sink for BufferedSink<W> {
+    ghost held = { λ _. None };
+
+    ghost faults = { λ s. s.inner.faults };
+
+    fn write(&mut self, piece: &[u8]) -> Result<(), Failed>
+        ensures bytes { Writes None None result piece.now }
+        ensures passed { OnOk result (Appends (gathered (W.contents self.old.inner.inner) self.old.bytes self.old.length) (gathered (W.contents self.new.inner.inner) self.new.bytes self.new.length) piece.now) }
+        ensures cause { HasCause self.old.inner.faults self.new.inner.faults result }
+        ensures same { OnOk result (self.new.inner.faults ≡ self.old.inner.faults) }
+        ensures risen { OnErr result (self.new.inner.faults ≡ counted self.old.inner.faults) }
+    {
+        if piece.len() > ROOM - self.length {
+            return self.write_behind(piece);
+        }
+        self.keep(piece);
+        Ok(())
+    }
+}
+
+/// Writes over the bytes from `at` on.
+fn write_over(out: &mut [u8; ROOM], at: usize, piece: &[u8])
+    requires { at + length piece.now ≤ 8192 }
+    ensures { take (at + length piece.now) out.new ≡ take at out.old ++ piece.now }
+{
+    out[at..at + piece.len()].copy_from_slice(piece);
+}
