@@ -24,7 +24,7 @@ use fw_entry::Entry;
 use fw_node::request_packet;
 use fw_outside::{Failed, Sink};
 use fw_tape::Desk;
-use fw_words::{Bytes, Bytes512, Data, quadlet_at};
+use fw_words::{Bytes512, Data, quadlet_at};
 
 /// The register of a node that commands are written to (IEC 61883-1, 9).
 const FCP_COMMAND: u64 = 0xFFFF_F000_0B00;
@@ -89,7 +89,7 @@ impl Machine {
         &mut self,
         from: u8,
         to: u8,
-        bytes: &Bytes<110>,
+        bytes: &Data,
         desk: &Desk<F, H>,
         room: &mut Room,
         sink: &mut K,
@@ -99,6 +99,7 @@ impl Machine {
         requires from { IsTrue (is_living_in self.old from) }
         requires to { IsTrue (is_linked_in self.old.devices to) }
         requires quiet { IsQuiet self.old.devices }
+        requires few { length bytes.now ≤ 512 }
         ensures does { Does (Commands (record { blocks = F.post desk.now.blocks; vendor = H.post desk.now.vendor }) from to bytes.now)
             self.old self.new (K.held sink.old) (K.held sink.new) (K.faults sink.old) (K.faults sink.new) result }
         ensures size { length self.new.devices.nodes ≡ length self.old.devices.nodes }
@@ -114,7 +115,7 @@ impl Machine {
         &mut self,
         from: u8,
         to: u8,
-        bytes: &Bytes<110>,
+        bytes: &Data,
         desk: &Desk<F, H>,
         room: &mut Room,
         sink: &mut K,
@@ -124,6 +125,7 @@ impl Machine {
         requires from { IsTrue (is_living_in self.old from) }
         requires to { IsTrue (is_linked_in self.old.devices to) }
         requires quiet { IsQuiet self.old.devices }
+        requires few { length bytes.now ≤ 512 }
         ensures does { Does (CarriesBy (record { blocks = F.post desk.now.blocks; vendor = H.post desk.now.vendor }) (Command from to bytes.now))
             self.old self.new (K.held sink.old) (K.held sink.new) (K.faults sink.old) (K.faults sink.new) result }
     {

@@ -39,7 +39,13 @@ impl Machine {
         self.devices.find(name).ok_or(RuleFault::UnknownName)
     }
 
-    fn decide_device(&self, name: &Name, kind: u8, ports: u8, speed: u8) -> Result<Order, RuleFault>
+    fn decide_device(
+        &self,
+        name: &Name,
+        kind: u8,
+        ports: u8,
+        speed: u8,
+    ) -> Result<Order<'static>, RuleFault>
         requires kind { kind ≤ 3 }
         requires some { 1 ≤ ports }
         requires most { ports ≤ 27 }
@@ -56,7 +62,7 @@ impl Machine {
         Ok(Order::Declare(*name, kind_with(kind), ports, speed))
     }
 
-    fn decide_cable(&self, a: &(Name, u8), b: &(Name, u8)) -> Result<Order, RuleFault>
+    fn decide_cable(&self, a: &(Name, u8), b: &(Name, u8)) -> Result<Order<'static>, RuleFault>
         ensures decided { Decided self.now (Commands.Cable a.now b.now) result }
         ensures may { IfOk result (MayCarry self.now) }
     {
@@ -90,7 +96,7 @@ impl Machine {
         self.devices.epoch() >= MOST_RESETS
     }
 
-    fn decide_reset(&self, name: &Name) -> Result<Order, RuleFault>
+    fn decide_reset(&self, name: &Name) -> Result<Order<'static>, RuleFault>
         ensures decided { Decided self.now (Commands.Reset name.now) result }
         ensures may { IfOk result (MayCarry self.now) }
     {
@@ -104,7 +110,7 @@ impl Machine {
         Ok(Order::Reset(device))
     }
 
-    fn decide_step(&self, name: &Name, count: u32) -> Result<Order, RuleFault>
+    fn decide_step(&self, name: &Name, count: u32) -> Result<Order<'static>, RuleFault>
         requires few { count ≤ 10000 }
         ensures decided { Decided self.now (Commands.Step name.now count) result }
         ensures may { IfOk result (MayCarry self.now) }
@@ -119,7 +125,7 @@ impl Machine {
         Ok(Order::Step(device, count))
     }
 
-    fn decide_settle(&self, rounds: u32) -> Result<Order, RuleFault>
+    fn decide_settle(&self, rounds: u32) -> Result<Order<'static>, RuleFault>
         requires few { rounds ≤ 200000 }
         ensures decided { Decided self.now (Commands.Settle rounds) result }
         ensures may { IfOk result (MayCarry self.now) }
@@ -131,7 +137,7 @@ impl Machine {
         Ok(Order::Settle(rounds))
     }
 
-    fn decide_wait(&self, cycles: u32) -> Result<Order, RuleFault>
+    fn decide_wait(&self, cycles: u32) -> Result<Order<'static>, RuleFault>
         requires { self.now.cycle ≤ 2 ^ 52 }
         ensures decided { Decided self.now (Commands.Wait cycles) result }
         ensures may { IfOk result (MayCarry self.now) }
@@ -142,7 +148,7 @@ impl Machine {
         Ok(Order::Wait(cycles))
     }
 
-    fn decide_cycles(&self, count: u32) -> Result<Order, RuleFault>
+    fn decide_cycles(&self, count: u32) -> Result<Order<'static>, RuleFault>
         requires ready { IsReady self.now }
         requires few { count ≤ 8000 }
         ensures decided { Decided self.now (Commands.Cycles count) result }
@@ -158,7 +164,7 @@ impl Machine {
     }
 
     /// What a command orders, or the first rule that it breaks.
-    pub(crate) fn decide(&self, c: &Command) -> Result<Order, RuleFault>
+    pub(crate) fn decide<'a>(&self, c: &'a Command) -> Result<Order<'a>, RuleFault>
         requires ready { IsReady self.now }
         requires command { IsCommand c.now }
         ensures decided { Decided self.now c.now result }

@@ -2,7 +2,7 @@ use fw_base::{DeviceKind, PlugAt};
 use fw_script::Name;
 use fw_tape::TapeSystem;
 use fw_tree::End;
-use fw_words::Bytes;
+use fw_words::Data;
 
 /// What a transaction of the script asks of a register, by its offset from FFFF F000 0000, 000 to FFF.
 #[derive(Clone, Copy, Debug, PartialEq, Eq)]
@@ -33,9 +33,10 @@ pub enum Wanted {
     BroadcastIn(PlugAt),
 }
 
-/// A command, with its devices by number: they have their numbers in order of declaration, from 0.
+/// A command, with its devices by number: they have their numbers in order of declaration, from 0. The bytes of a frame lie in
+/// the command.
 #[derive(Debug, PartialEq, Eq, Drop)]
-pub enum Order {
+pub enum Order<'a> {
     /// A device more: its name, its kind, its ports (1 to 27) and its speed (0, 1, 2 for 100, 200, 400 Mbit/s).
     Declare(Name, DeviceKind, u8, u8),
     /// A cable between two ports.
@@ -61,7 +62,7 @@ pub enum Order {
     /// A transaction, carried out whole.
     Transact(Transaction),
     /// Bytes that the first device writes to FCP_COMMAND of the second, 1 to 110.
-    Command(u8, u8, Bytes<110>),
+    Command(u8, u8, Data<'a>),
     /// A tape with this number goes into a deck, and replaces one that is there.
     Insert(u8, u16, TapeSystem),
     /// The tape goes out of a deck, if one is there.

@@ -1,5 +1,5 @@
 -- What is read of a keyword's words.
-use Rattle.std.proofs.Common.{◌≡◌, ℕ, List, Option, Some, true, false, inl, inr, sym, ◌∙◌, subst}
+use Rattle.std.proofs.Common.{◌≡◌, ℕ, List, Option, IsSome, true, false, inl, inr, sym, ◌∙◌, subst}
 use Rattle.fw_script.specs.Form.{HasArguments, HasForm, Words1, Words2, Words3, Words4, Words5}
 use Rattle.fw_script.specs.Words.{name_in, number_in, place_in, kind_in, speed_in, channel_in, system_in, shown_in, offset_in, word_in, frame_in, late_in}
 use Rattle.fw_script.specs.declared.keyword.Keyword.{Keyword}
@@ -7,12 +7,12 @@ use Rattle.fw_script.specs.declared.keyword.Keyword.TheVariants.{Device, Cable, 
 use Rattle.fw_script.specs.declared.command.Command.{Command}
 use Rattle.fw_script.specs.declared.command.Command.TheVariants as Commands
 
--- the result is what the words say
-abbrev pub IsOnly : Keyword → List (List ℕ) → Option Command → Type 0
-IsOnly k ws r = (c : Command) → HasArguments k ws c → r ≡ Some c
+-- there is a result, which is what the words say
+abbrev pub IsOnly : Keyword → List (List ℕ) → Option Unit → Command → Type 0
+IsOnly k ws r out = (c : Command) → HasArguments k ws c → IsSome r × (out ≡ c)
 
-pub of_keyword : (k j : Keyword) (ws : List (List ℕ)) (r : Option Command) → k ≡ j → IsOnly j ws r → IsOnly k ws r
-of_keyword k j ws r is only c h = only c (subst (λ (i : Keyword). HasArguments i ws c) is h)
+pub of_keyword : (k j : Keyword) (ws : List (List ℕ)) (r : Option Unit) (out : Command) → k ≡ j → IsOnly j ws r out → IsOnly k ws r out
+of_keyword k j ws r out is only c h = only c (subst (λ (i : Keyword). HasArguments i ws c) is h)
 
 same1 : {A : Type 0} (f : List ℕ → Option A) (K : A → Command) (ws : List (List ℕ)) (c d : Command) → Words1 ws f (λ u. c ≡ K u) → Words1 ws f (λ u. d ≡ K u) → c ≡ d
 same1 f K ws c d m n = cc

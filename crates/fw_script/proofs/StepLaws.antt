@@ -2,7 +2,7 @@
 use Rattle.std.proofs.Common.{◌≡◌, ℕ, [], ◌++◌, List, Bool, true, false, Option, Some, None, Ok, Err, refl, ap, sym, ◌∙◌, subst, append_assoc}
 use Rattle.fw_outside.specs.Outside.{Takes, IsAtEnd}
 use Rattle.fw_outside.proofs.Parts.{Takes-Takes}
-use Rattle.fw_script.specs.Reader.{Goes, GoesOn, Steps, ReadsLine, Fills, IsCut, IsOpen}
+use Rattle.fw_script.specs.Reader.{Goes, GoesOn, Steps, ReadsLine, Fills, IsCut, IsOpen, answer_of}
 use Rattle.fw_script.specs.Reader.Goes.{nowhere}
 use Rattle.fw_script.specs.Reading.{Reading, Answer, Gives, TakesMore, Advances, with_taken, at_stage, HoldsAnswer}
 use Rattle.fw_script.specs.Reading.Gives.{read_fault}
@@ -101,8 +101,8 @@ pub cut_holds : (p : Reading) → IsCut p → HoldsAnswer p → ⊥
 cut_holds p c h = cut_gives c h.2 h.3
 
 -- what a step gave
-pub nothing_given : (p new : Reading) (left left' : Option (List ℕ)) (o : Option Command) → o ≡ None → Steps p left left' (Ok o) new → Steps p left left' (Ok None) new
-nothing_given p new left left' o e h = subst (λ (x : Option Command). Steps p left left' (Ok x) new) e h
+pub nothing_given : (p new : Reading) (left left' : Option (List ℕ)) (b : Bool) (c : Command) → b ≡ false → Steps p left left' (answer_of (Ok b) c) new → Steps p left left' (Ok None) new
+nothing_given p new left left' b c e h = subst (λ (x : Bool). Steps p left left' (answer_of (Ok x) c) new) e h
 
-pub command_given : (p new : Reading) (left left' : Option (List ℕ)) (o : Option Command) (c : Command) → o ≡ Some c → Steps p left left' (Ok o) new → Steps p left left' (Ok (Some c)) new
-command_given p new left left' o c e h = subst (λ (x : Option Command). Steps p left left' (Ok x) new) e h
+pub command_given : (p new : Reading) (left left' : Option (List ℕ)) (b : Bool) (c : Command) → b ≡ true → Steps p left left' (answer_of (Ok b) c) new → Steps p left left' (Ok (Some c)) new
+command_given p new left left' b c e h = subst (λ (x : Bool). Steps p left left' (answer_of (Ok x) c) new) e h

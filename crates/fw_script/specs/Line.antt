@@ -37,9 +37,9 @@ IsFront rest room whole Limit = (room < length rest) × (room ≤ 256) × IsFree
 IsFront rest room whole Cut = (whole ≡ false) × (length rest ≤ 256) × (length rest ≤ room) × IsFree 10 rest
 IsFront rest room whole Nothing = (rest ≡ []) × (whole ≡ true)
 
--- what a line means, where commands may stand or only skipped lines
-abbrev pub IsMeaning : List ℕ → Bool → Meaning → Type 0
-IsMeaning text commands Skipped = is_skipped text ≡ true
-IsMeaning text commands (Said c) = (is_skipped text ≡ false) × (commands ≡ true) × HasForm c text × (c ≢ Commands.End)
-IsMeaning text commands End = (is_skipped text ≡ false) × (commands ≡ true) × HasForm Commands.End text
-IsMeaning text commands Refused = (is_skipped text ≡ false) × ((commands ≡ false) ⊎ ((c : Command) → HasForm c text → ⊥))
+-- what a line means, where commands may stand or only skipped lines, with its command, if it is one
+abbrev pub IsMeaning : List ℕ → Bool → Meaning → Command → Type 0
+IsMeaning text commands Skipped c = is_skipped text ≡ true
+IsMeaning text commands Said c = (is_skipped text ≡ false) × (commands ≡ true) × HasForm c text × (c ≢ Commands.End)
+IsMeaning text commands End c = (is_skipped text ≡ false) × (commands ≡ true) × HasForm Commands.End text
+IsMeaning text commands Refused c = (is_skipped text ≡ false) × ((commands ≡ false) ⊎ ((other : Command) → HasForm other text → ⊥))

@@ -1,9 +1,10 @@
 -- What a reader keeps between its steps.
-use Rattle.std.specs.Prelude.{◌≡◌, ℕ, ◌+◌, ◌*◌, ◌-◌, ◌<◌, ◌≤◌, List, length, take, true, false, Option, Some, None, Result, Ok, Err, if◌then◌else◌}
+use Rattle.std.specs.Prelude.{◌≡◌, ℕ, ◌+◌, ◌*◌, ◌-◌, ◌<◌, ◌≤◌, List, length, take, Bool, true, false, Option, Some, None, Result, Ok, Err, if◌then◌else◌}
 use Rattle.fw_script.specs.Pieces.{IsFree}
 use Rattle.fw_script.specs.Line.{is_skipped}
 use Rattle.fw_script.specs.Form.{HasForm}
 use Rattle.fw_script.specs.Reading.{Reading, Answer, Gives, IsLine, IsLongLine, PassesLimit, IsAtEndOfInput, TakesMore, at_stage, behind}
+use Rattle.fw_script.specs.declared.command.Command.{Command}
 use Rattle.fw_script.specs.declared.command.Command.TheVariants.{End}
 use Rattle.fw_script.specs.declared.ScriptFault.{ScriptFault}
 use Rattle.fw_script.specs.declared.ScriptFault.TheVariants.{ReadFault}
@@ -48,6 +49,17 @@ abbrev pub Steps : Reading → Option (List ℕ) → Option (List ℕ) → Answe
 Steps old left left' (Ok None) new = GoesOn old new left left' × IsOpen new.stage × (to_read new < to_read old)
 Steps old left left' (Ok (Some c)) new = (mid : Reading) × GoesOn old mid left left' × Gives mid (Ok (Some c)) new
 Steps old left left' (Err f) new = (mid : Reading) × GoesOn old mid left left' × Gives mid (Err f) new
+
+-- what a call answers that says whether it put a command into its room
+abbrev pub answer_of : Result Bool ScriptFault → Command → Answer
+answer_of (Ok true) c = Ok (Some c)
+answer_of (Ok false) c = Ok None
+answer_of (Err f) c = Err f
+
+-- what a call answers that put a command into its room
+abbrev pub given_of : Result Unit ScriptFault → Command → Answer
+given_of (Ok u) c = Ok (Some c)
+given_of (Err f) c = Err f
 
 -- a line was read: it says nothing, and the reading goes on, or it gives a command or a fault
 abbrev pub ReadsLine : Reading → Answer → Reading → Type 0

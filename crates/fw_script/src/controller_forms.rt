@@ -1,6 +1,6 @@
 //! Lines on controllers and their connections.
 
-ghost use Rattle.std.specs.Prelude.{◌≡◌, Some, IfSome};
+ghost use Rattle.std.specs.Prelude.{◌≡◌, IsSome, IfSome};
 ghost use Rattle.fw_script.specs.Form.{HasArguments};
 ghost use Rattle.fw_script.specs.declared.command.Command.{Command};
 
@@ -11,9 +11,9 @@ use crate::keyword::Keyword;
 use crate::words::{name, number, place, small};
 
 /// `connect NAME PLUG PLUG CHANNEL OVERHEAD`
-pub(crate) fn connect(words: &mut Pieces) -> Option<Command>
-    ensures found { IfSome result (HasArguments Keyword.Connect words.old) }
-    ensures only { (c : Command) → HasArguments Keyword.Connect words.old c → result ≡ Some c }
+pub(crate) fn connect(words: &mut Pieces, out: &mut Command) -> Option<()>
+    ensures found { IfSome result (λ u. HasArguments Keyword.Connect words.old out.new) }
+    ensures only { (c : Command) → HasArguments Keyword.Connect words.old c → IsSome result × (out.new ≡ c) }
 {
     let name = name(words.next()?)?;
     let output = place(words.next()?, 30)?;
@@ -21,86 +21,94 @@ pub(crate) fn connect(words: &mut Pieces) -> Option<Command>
     let channel = channel(words.next()?)?;
     let overhead = small(words.next()?, 0, 15)?;
     words.end()?;
-    Some(Command::Connect(name, output, input, channel, overhead))
+    *out = Command::Connect(name, output, input, channel, overhead);
+    Some(())
 }
 
 /// `broadcast NAME PLUG OVERHEAD`
-pub(crate) fn broadcast(words: &mut Pieces) -> Option<Command>
-    ensures found { IfSome result (HasArguments Keyword.Broadcast words.old) }
-    ensures only { (c : Command) → HasArguments Keyword.Broadcast words.old c → result ≡ Some c }
+pub(crate) fn broadcast(words: &mut Pieces, out: &mut Command) -> Option<()>
+    ensures found { IfSome result (λ u. HasArguments Keyword.Broadcast words.old out.new) }
+    ensures only { (c : Command) → HasArguments Keyword.Broadcast words.old c → IsSome result × (out.new ≡ c) }
 {
     let name = name(words.next()?)?;
     let output = place(words.next()?, 30)?;
     let overhead = small(words.next()?, 0, 15)?;
     words.end()?;
-    Some(Command::Broadcast(name, output, overhead))
+    *out = Command::Broadcast(name, output, overhead);
+    Some(())
 }
 
 /// `listen NAME PLUG`
-pub(crate) fn listen(words: &mut Pieces) -> Option<Command>
-    ensures found { IfSome result (HasArguments Keyword.Listen words.old) }
-    ensures only { (c : Command) → HasArguments Keyword.Listen words.old c → result ≡ Some c }
+pub(crate) fn listen(words: &mut Pieces, out: &mut Command) -> Option<()>
+    ensures found { IfSome result (λ u. HasArguments Keyword.Listen words.old out.new) }
+    ensures only { (c : Command) → HasArguments Keyword.Listen words.old c → IsSome result × (out.new ≡ c) }
 {
     let name = name(words.next()?)?;
     let input = place(words.next()?, 30)?;
     words.end()?;
-    Some(Command::Listen(name, input))
+    *out = Command::Listen(name, input);
+    Some(())
 }
 
 /// `break NAME SLOT`
-pub(crate) fn break_(words: &mut Pieces) -> Option<Command>
-    ensures found { IfSome result (HasArguments Keyword.Break words.old) }
-    ensures only { (c : Command) → HasArguments Keyword.Break words.old c → result ≡ Some c }
+pub(crate) fn break_(words: &mut Pieces, out: &mut Command) -> Option<()>
+    ensures found { IfSome result (λ u. HasArguments Keyword.Break words.old out.new) }
+    ensures only { (c : Command) → HasArguments Keyword.Break words.old c → IsSome result × (out.new ≡ c) }
 {
     let name = name(words.next()?)?;
     let slot = small(words.next()?, 0, 31)?;
     words.end()?;
-    Some(Command::Break(name, slot))
+    *out = Command::Break(name, slot);
+    Some(())
 }
 
 /// `step NAME COUNT`
-pub(crate) fn step(words: &mut Pieces) -> Option<Command>
-    ensures found { IfSome result (HasArguments Keyword.Step words.old) }
-    ensures only { (c : Command) → HasArguments Keyword.Step words.old c → result ≡ Some c }
+pub(crate) fn step(words: &mut Pieces, out: &mut Command) -> Option<()>
+    ensures found { IfSome result (λ u. HasArguments Keyword.Step words.old out.new) }
+    ensures only { (c : Command) → HasArguments Keyword.Step words.old c → IsSome result × (out.new ≡ c) }
 {
     let name = name(words.next()?)?;
     let count = number(words.next()?, 1, 10_000)?;
     words.end()?;
-    Some(Command::Step(name, count))
+    *out = Command::Step(name, count);
+    Some(())
 }
 
 /// `settle ROUNDS`
-pub(crate) fn settle(words: &mut Pieces) -> Option<Command>
-    ensures found { IfSome result (HasArguments Keyword.Settle words.old) }
-    ensures only { (c : Command) → HasArguments Keyword.Settle words.old c → result ≡ Some c }
+pub(crate) fn settle(words: &mut Pieces, out: &mut Command) -> Option<()>
+    ensures found { IfSome result (λ u. HasArguments Keyword.Settle words.old out.new) }
+    ensures only { (c : Command) → HasArguments Keyword.Settle words.old c → IsSome result × (out.new ≡ c) }
 {
     let rounds = number(words.next()?, 1, 200_000)?;
     words.end()?;
-    Some(Command::Settle(rounds))
+    *out = Command::Settle(rounds);
+    Some(())
 }
 
 /// `die NAME` or `die NAME late`
-pub(crate) fn die(words: &mut Pieces) -> Option<Command>
-    ensures found { IfSome result (HasArguments Keyword.Die words.old) }
-    ensures only { (c : Command) → HasArguments Keyword.Die words.old c → result ≡ Some c }
+pub(crate) fn die(words: &mut Pieces, out: &mut Command) -> Option<()>
+    ensures found { IfSome result (λ u. HasArguments Keyword.Die words.old out.new) }
+    ensures only { (c : Command) → HasArguments Keyword.Die words.old c → IsSome result × (out.new ≡ c) }
 {
     let name = name(words.next()?)?;
     match words.next() {
-        None => Some(Command::Die(name, false)),
+        None => *out = Command::Die(name, false),
         Some(word) => {
             late(word)?;
             words.end()?;
-            Some(Command::Die(name, true))
+            *out = Command::Die(name, true);
         }
     }
+    Some(())
 }
 
 /// `start NAME`
-pub(crate) fn start(words: &mut Pieces) -> Option<Command>
-    ensures found { IfSome result (HasArguments Keyword.Start words.old) }
-    ensures only { (c : Command) → HasArguments Keyword.Start words.old c → result ≡ Some c }
+pub(crate) fn start(words: &mut Pieces, out: &mut Command) -> Option<()>
+    ensures found { IfSome result (λ u. HasArguments Keyword.Start words.old out.new) }
+    ensures only { (c : Command) → HasArguments Keyword.Start words.old c → IsSome result × (out.new ≡ c) }
 {
     let name = name(words.next()?)?;
     words.end()?;
-    Some(Command::Start(name))
+    *out = Command::Start(name);
+    Some(())
 }

@@ -1,6 +1,6 @@
 //! The command of a line.
 
-ghost use Rattle.std.specs.Prelude.{◌≡◌, Some, IfSome};
+ghost use Rattle.std.specs.Prelude.{◌≡◌, IsSome, IfSome};
 ghost use Rattle.fw_script.specs.Form.{HasArguments, HasForm};
 ghost use Rattle.fw_script.specs.declared.command.Command.{Command};
 
@@ -12,40 +12,40 @@ use crate::keyword::{Keyword, keyword_of};
 use crate::transaction_forms::{command, cycles, end, read, swap, wait};
 
 /// The command of a keyword with the words behind it.
-fn arguments(keyword: Keyword, words: &mut Pieces) -> Option<Command>
-    ensures found { IfSome result (HasArguments keyword words.old) }
-    ensures only { (c : Command) → HasArguments keyword words.old c → result ≡ Some c }
+fn arguments(keyword: Keyword, words: &mut Pieces, out: &mut Command) -> Option<()>
+    ensures found { IfSome result (λ u. HasArguments keyword words.old out.new) }
+    ensures only { (c : Command) → HasArguments keyword words.old c → IsSome result × (out.new ≡ c) }
 {
     match keyword {
-        Keyword::Device => device(words),
-        Keyword::Cable => cable(words),
-        Keyword::Reset => reset(words),
-        Keyword::Connect => connect(words),
-        Keyword::Broadcast => broadcast(words),
-        Keyword::Listen => listen(words),
-        Keyword::Break => break_(words),
-        Keyword::Step => step(words),
-        Keyword::Settle => settle(words),
-        Keyword::Wait => wait(words),
-        Keyword::Cycles => cycles(words),
-        Keyword::Die => die(words),
-        Keyword::Start => start(words),
-        Keyword::Command => command(words),
-        Keyword::Read => read(words),
-        Keyword::Swap => swap(words),
-        Keyword::Insert => insert(words),
-        Keyword::Eject => eject(words),
-        Keyword::Show => show(words),
-        Keyword::End => end(words),
+        Keyword::Device => device(words, out),
+        Keyword::Cable => cable(words, out),
+        Keyword::Reset => reset(words, out),
+        Keyword::Connect => connect(words, out),
+        Keyword::Broadcast => broadcast(words, out),
+        Keyword::Listen => listen(words, out),
+        Keyword::Break => break_(words, out),
+        Keyword::Step => step(words, out),
+        Keyword::Settle => settle(words, out),
+        Keyword::Wait => wait(words, out),
+        Keyword::Cycles => cycles(words, out),
+        Keyword::Die => die(words, out),
+        Keyword::Start => start(words, out),
+        Keyword::Command => command(words, out),
+        Keyword::Read => read(words, out),
+        Keyword::Swap => swap(words, out),
+        Keyword::Insert => insert(words, out),
+        Keyword::Eject => eject(words, out),
+        Keyword::Show => show(words, out),
+        Keyword::End => end(words, out),
     }
 }
 
 /// The command that the line is, or none where it has no form.
-pub(crate) fn command_of(line: &[u8]) -> Option<Command>
-    ensures found { IfSome result (λ c. HasForm c line.now) }
-    ensures only { (c : Command) → HasForm c line.now → result ≡ Some c }
+pub(crate) fn command_of(line: &[u8], out: &mut Command) -> Option<()>
+    ensures found { IfSome result (λ u. HasForm out.new line.now) }
+    ensures only { (c : Command) → HasForm c line.now → IsSome result × (out.new ≡ c) }
 {
     let mut words = Pieces::new(line, b' ');
     let keyword = keyword_of(words.next()?)?;
-    arguments(keyword, &mut words)
+    arguments(keyword, &mut words, out)
 }

@@ -65,12 +65,12 @@ fn unfed(total: usize, count: usize, whole: bool) -> Front
 }
 
 /// What a line means.
-#[derive(Debug, PartialEq, Eq, Drop)]
+#[derive(Clone, Copy, Debug, PartialEq, Eq)]
 pub(crate) enum Meaning {
     /// Nothing: it is empty or a comment.
     Skipped,
     /// A command.
-    Command(Command),
+    Command,
     /// The end.
     End,
     /// It has no form, or stands behind the end.
@@ -86,9 +86,9 @@ fn is_skipped(text: &[u8]) -> bool
     }
 }
 
-/// What a line means, where commands may stand or only skipped lines.
-pub(crate) fn meaning_of(text: &[u8], commands: bool) -> Meaning
-    ensures { IsMeaning text.now commands result }
+/// What a line means, where commands may stand or only skipped lines. A command is put into `out`.
+pub(crate) fn meaning_of(text: &[u8], commands: bool, out: &mut Command) -> Meaning
+    ensures { IsMeaning text.now commands result out.new }
 {
     if is_skipped(text) {
         return Meaning::Skipped;
@@ -96,9 +96,9 @@ pub(crate) fn meaning_of(text: &[u8], commands: bool) -> Meaning
     if !commands {
         return Meaning::Refused;
     }
-    match command_of(text) {
-        Some(Command::End) => Meaning::End,
-        Some(command) => Meaning::Command(command),
+    match command_of(text, out) {
+        Some(()) if matches!(out, Command::End) => Meaning::End,
+        Some(()) => Meaning::Command,
         None => Meaning::Refused,
     }
 }

@@ -2,7 +2,7 @@
 
 ghost use Rattle.std.specs.Prelude.{◌≡◌, ◌≢◌, ◌≤◌, ◌<◌, ◌+◌, [], length, take, drop, true, false, Ok, Err, None, IfOk, OnOk, OnErr, vec_len, vec_capacity};
 ghost use Rattle.fw_outside.specs.Outside.{Rose};
-ghost use Rattle.fw_script.specs.Reader.{IsOpen, IsNear, IsCut, HoldsLine, StandsNext, ReadsLine, Steps};
+ghost use Rattle.fw_script.specs.Reader.{IsOpen, IsNear, IsCut, HoldsLine, StandsNext, ReadsLine, Steps, answer_of, given_of};
 ghost use Rattle.fw_script.specs.Reading.{unread, at_stage, refused, behind, with_taken, Advances, IsStageAfter, IsAtEndOfInput, HoldsAnswer, IsHeld};
 
 use crate::line::{Front, Meaning, SCRIPT_LIMIT, front_of, meaning_of};
@@ -141,23 +141,28 @@ impl ScriptReader {
         self.stage = Stage::Failed;
     }
 
-    // Reads a line of so many bytes.
-    fn read_text(&mut self, count: usize, size: usize) -> Result<Option<Command>, ScriptFault>
+    // Reads a line of so many bytes. Answers whether it is a command, which is put into `out`.
+    fn read_text(
+        &mut self,
+        count: usize,
+        size: usize,
+        out: &mut Command,
+    ) -> Result<bool, ScriptFault>
         requires open { IsOpen self.old.stage }
         requires near { IsNear self.old.rest }
         requires line { HoldsLine self.old count size }
-        ensures reads { ReadsLine self.old result self.new }
-        ensures held { IsHeld result self.new }
+        ensures reads { ReadsLine self.old (answer_of result out.new) self.new }
+        ensures held { IsHeld (answer_of result out.new) self.new }
         ensures told { result ≢ Err ScriptFault.ReadFault }
     {
-        let meaning = meaning_of(self.text(count), self.takes_commands());
+        let meaning = meaning_of(self.text(count), self.takes_commands(), out);
         self.advance(size);
         match meaning {
-            Meaning::Skipped => Ok(None),
-            Meaning::Command(command) => Ok(Some(command)),
+            Meaning::Skipped => Ok(false),
+            Meaning::Command => Ok(true),
             Meaning::End => {
                 self.enter(Stage::AfterEnd);
-                Ok(None)
+                Ok(false)
             }
             Meaning::Refused => {
                 self.enter(Stage::Failed);
@@ -166,38 +171,40 @@ impl ScriptReader {
         }
     }
 
-    // Meets the input's end.
-    fn read_end(&mut self) -> Result<Option<Command>, ScriptFault>
+    // Meets the input's end, and puts it into `out`.
+    fn read_end(&mut self, out: &mut Command) -> Result<bool, ScriptFault>
         requires open { IsOpen self.old.stage }
         requires end { IsAtEndOfInput self.old }
-        ensures reads { ReadsLine self.old result self.new }
-        ensures held { IsHeld result self.new }
+        ensures reads { ReadsLine self.old (answer_of result out.new) self.new }
+        ensures held { IsHeld (answer_of result out.new) self.new }
         ensures told { result ≢ Err ScriptFault.ReadFault }
-        ensures some { result ≢ Ok None }
+        ensures some { result ≢ Ok false }
     {
         if self.takes_commands() {
             self.refuse();
             Err(ScriptFault::NoEnd)
         } else {
             self.enter(Stage::Done);
-            Ok(Some(Command::End))
+            *out = Command::End;
+            Ok(true)
         }
     }
 
-    // Reads the next line, or takes bytes where its end is not held: nothing is given where the reading goes on.
-    fn step<S: Source>(&mut self, source: &mut S) -> Result<Option<Command>, ScriptFault>
+    // Reads the next line, or takes bytes where its end is not held. Answers whether a command was put into `out`: where none was,
+    // the reading goes on.
+    fn step<S: Source>(&mut self, source: &mut S, out: &mut Command) -> Result<bool, ScriptFault>
         requires open { IsOpen self.old.stage }
-        ensures steps { Steps self.old (S.left source.old) (S.left source.new) result self.new }
-        ensures held { IsHeld result self.new }
+        ensures steps { Steps self.old (S.left source.old) (S.left source.new) (answer_of result out.new) self.new }
+        ensures held { IsHeld (answer_of result out.new) self.new }
         ensures unasked { self.old.whole ≡ true → (source.new ≡ source.old) × (self.new.whole ≡ true) }
         ensures asks { HoldsAnswer self.old → source.new ≡ source.old }
-        ensures holds { HoldsAnswer self.old → result ≡ Ok None → HoldsAnswer self.new }
+        ensures holds { HoldsAnswer self.old → result ≡ Ok false → HoldsAnswer self.new }
         ensures later { S.faults source.old ≤ S.faults source.new }
         ensures cause { result ≡ Err ScriptFault.ReadFault → Rose (S.faults source.old) (S.faults source.new) }
         ensures unfailed { result ≢ Err ScriptFault.ReadFault → S.faults source.new ≡ S.faults source.old }
     {
         match self.front() {
-            Front::Line { length, size } => self.read_text(length, size),
+            Front::Line { length, size } => self.read_text(length, size, out),
             Front::LongLine => {
                 self.refuse();
                 Err(ScriptFault::LineTooLong)
@@ -206,20 +213,20 @@ impl ScriptReader {
                 self.enter(Stage::Failed);
                 Err(ScriptFault::TooLong)
             }
-            Front::Nothing => self.read_end(),
+            Front::Nothing => self.read_end(out),
             Front::Cut => match self.take(source) {
-                Ok(()) => Ok(None),
+                Ok(()) => Ok(false),
                 Err(fault) => Err(fault),
             },
         }
     }
 
-    // Reads lines up to the next command.
-    fn read_on<S: Source>(&mut self, source: &mut S) -> Result<Option<Command>, ScriptFault>
+    // Reads lines up to the next command, which is put into `out`.
+    fn read_on<S: Source>(&mut self, source: &mut S, out: &mut Command) -> Result<(), ScriptFault>
         requires open { IsOpen self.old.stage }
-        ensures advances { Advances self.old self.new (S.left source.old) (S.left source.new) result }
-        ensures stage { IsStageAfter self.old.stage result self.new.stage }
-        ensures held { IsHeld result self.new }
+        ensures advances { Advances self.old self.new (S.left source.old) (S.left source.new) (given_of result out.new) }
+        ensures stage { IsStageAfter self.old.stage (given_of result out.new) self.new.stage }
+        ensures held { IsHeld (given_of result out.new) self.new }
         ensures unasked { self.old.whole ≡ true → source.new ≡ source.old }
         ensures asks { HoldsAnswer self.old → source.new ≡ source.old }
         ensures later { S.faults source.old ≤ S.faults source.new }
@@ -227,9 +234,9 @@ impl ScriptReader {
         ensures unfailed { result ≢ Err ScriptFault.ReadFault → S.faults source.new ≡ S.faults source.old }
     {
         loop {
-            match self.step(source) {
-                Ok(None) => {}
-                Ok(Some(command)) => return Ok(Some(command)),
+            match self.step(source, out) {
+                Ok(false) => {}
+                Ok(true) => return Ok(()),
                 Err(fault) => return Err(fault),
             }
         }
@@ -254,6 +261,10 @@ impl ScriptReader {
         if self.is_done() {
             return Ok(None);
         }
-        self.read_on(source)
+        let mut command = Command::End;
+        match self.read_on(source, &mut command) {
+            Ok(()) => Ok(Some(command)),
+            Err(fault) => Err(fault),
+        }
     }
 }

@@ -14,6 +14,13 @@ fn a() -> Name {
     Name::from_bytes(b"a")
 }
 
+/// The command that a line is.
+fn said(line: &[u8]) -> Option<Command> {
+    let mut command = Command::End;
+    command_of(line, &mut command)?;
+    Some(command)
+}
+
 #[test]
 fn each_form_is_read(rt: HostRuntime) -> Result<(), Fail> {
     let mut frame = Bytes::new();
@@ -67,7 +74,7 @@ fn each_form_is_read(rt: HostRuntime) -> Result<(), Fail> {
         ),
     ];
     for (line, command) in lines {
-        assert_eq!(rt; command_of(line), Some(command), "{line:?}");
+        assert_eq!(rt; said(line), Some(command), "{line:?}");
     }
     Ok(())
 }
@@ -97,7 +104,7 @@ const NO_COMMANDS: &str = "\
 #[test]
 fn other_lines_have_no_form(rt: HostRuntime) -> Result<(), Fail> {
     for line in NO_COMMANDS.split('|') {
-        assert_eq!(rt; command_of(line.as_bytes()), None, "{line}");
+        assert_eq!(rt; said(line.as_bytes()), None, "{line}");
     }
     let lines: [&[u8]; 15] = [
         b" ",
@@ -117,7 +124,7 @@ fn other_lines_have_no_form(rt: HostRuntime) -> Result<(), Fail> {
         b"wait 1\0",
     ];
     for line in lines {
-        assert_eq!(rt; command_of(line), None, "{line:?}");
+        assert_eq!(rt; said(line), None, "{line:?}");
     }
     Ok(())
 }

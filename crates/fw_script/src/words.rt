@@ -9,6 +9,7 @@ ghost use Rattle.fw_script.specs.Words.{is, is_name, is_name_byte, is_taken, nam
 use crate::Name;
 use crate::cut::Pieces;
 
+#[inline(always)]
 pub(crate) fn is(word: &[u8], text: &[u8]) -> bool
     ensures { result ≡ is text.now word.now }
 {

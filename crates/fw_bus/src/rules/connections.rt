@@ -42,7 +42,7 @@ impl Machine {
     }
 
     /// A new connection of a device's controller.
-    fn decide_connection(&self, device: u8, wanted: Wanted) -> Result<Order, RuleFault>
+    fn decide_connection(&self, device: u8, wanted: Wanted) -> Result<Order<'static>, RuleFault>
         requires ready { IsReady self.now }
         requires slot { SlotFits (slot_of wanted) }
         ensures decided { ConnectionDecided self.now device wanted result }
@@ -64,7 +64,7 @@ impl Machine {
         input: &(Name, u8),
         channel: Option<u8>,
         overhead: u8,
-    ) -> Result<Order, RuleFault>
+    ) -> Result<Order<'static>, RuleFault>
         requires ready { IsReady self.now }
         requires output { output.now.1 < 31 }
         requires input { input.now.1 < 31 }
@@ -84,7 +84,7 @@ impl Machine {
         name: &Name,
         output: &(Name, u8),
         overhead: u8,
-    ) -> Result<Order, RuleFault>
+    ) -> Result<Order<'static>, RuleFault>
         requires ready { IsReady self.now }
         requires output { output.now.1 < 31 }
         requires overhead { overhead < 16 }
@@ -96,7 +96,11 @@ impl Machine {
         self.decide_connection(device, Wanted::BroadcastOut(output, overhead))
     }
 
-    pub(super) fn decide_listen(&self, name: &Name, input: &(Name, u8)) -> Result<Order, RuleFault>
+    pub(super) fn decide_listen(
+        &self,
+        name: &Name,
+        input: &(Name, u8),
+    ) -> Result<Order<'static>, RuleFault>
         requires ready { IsReady self.now }
         requires input { input.now.1 < 31 }
         ensures decided { Decided self.now (Commands.Listen name.now input.now) result }
@@ -107,7 +111,7 @@ impl Machine {
         self.decide_connection(device, Wanted::BroadcastIn(input))
     }
 
-    pub(super) fn decide_break(&self, name: &Name, slot: u8) -> Result<Order, RuleFault>
+    pub(super) fn decide_break(&self, name: &Name, slot: u8) -> Result<Order<'static>, RuleFault>
         requires ready { IsReady self.now }
         ensures decided { Decided self.now (Commands.Break name.now slot) result }
         ensures may { IfOk result (MayCarry self.now) }
@@ -122,7 +126,7 @@ impl Machine {
         }
     }
 
-    pub(super) fn decide_death(&self, name: &Name, late: bool) -> Result<Order, RuleFault>
+    pub(super) fn decide_death(&self, name: &Name, late: bool) -> Result<Order<'static>, RuleFault>
         ensures decided { Decided self.now (Commands.Die name.now late) result }
         ensures may { IfOk result (MayCarry self.now) }
     {
@@ -133,7 +137,7 @@ impl Machine {
         Ok(Order::Die(device, late))
     }
 
-    pub(super) fn decide_start(&self, name: &Name) -> Result<Order, RuleFault>
+    pub(super) fn decide_start(&self, name: &Name) -> Result<Order<'static>, RuleFault>
         ensures decided { Decided self.now (Commands.Start name.now) result }
         ensures may { IfOk result (MayCarry self.now) }
     {

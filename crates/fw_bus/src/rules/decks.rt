@@ -10,15 +10,15 @@ use crate::machine::Machine;
 use fw_run::{Order, RuleFault};
 use fw_script::Name;
 use fw_tape::TapeSystem;
-use fw_words::Bytes;
+use fw_words::{Bytes, Data};
 
 impl Machine {
-    pub(super) fn decide_command(
+    pub(super) fn decide_command<'a>(
         &self,
         from: &Name,
         to: &Name,
-        frame: &Bytes<110>,
-    ) -> Result<Order, RuleFault>
+        frame: &'a Bytes<110>,
+    ) -> Result<Order<'a>, RuleFault>
         ensures decided { Decided self.now (Commands.Command from.now to.now frame.now) result }
         ensures may { IfOk result (MayCarry self.now) }
     {
@@ -30,9 +30,7 @@ impl Machine {
         if !self.is_linked(to) {
             return Err(RuleFault::OffBus);
         }
-        let mut bytes = Bytes::new();
-        bytes.append(frame.as_slice());
-        Ok(Order::Command(from, to, bytes))
+        Ok(Order::Command(from, to, Data::new(frame.as_slice())))
     }
 
     /// The deck or camcorder of a name.
@@ -52,7 +50,7 @@ impl Machine {
         name: &Name,
         tape: u16,
         lines: u16,
-    ) -> Result<Order, RuleFault>
+    ) -> Result<Order<'static>, RuleFault>
         requires { IsReady self.now }
         ensures decided { Decided self.now (Commands.Insert name.now tape lines) result }
         ensures may { IfOk result (MayCarry self.now) }
@@ -61,7 +59,7 @@ impl Machine {
         Ok(Order::Insert(device, tape, system_with(lines)))
     }
 
-    pub(super) fn decide_eject(&self, name: &Name) -> Result<Order, RuleFault>
+    pub(super) fn decide_eject(&self, name: &Name) -> Result<Order<'static>, RuleFault>
         requires { IsReady self.now }
         ensures decided { Decided self.now (Commands.Eject name.now) result }
         ensures may { IfOk result (MayCarry self.now) }

@@ -16,7 +16,7 @@ impl Machine {
         from: &Name,
         to: &Name,
         access: Access,
-    ) -> Result<Order, RuleFault>
+    ) -> Result<Order<'static>, RuleFault>
         requires { AccessFits access }
         ensures decided { Decided self.now (command_of from.now to.now access) result }
         ensures may { IfOk result (MayCarry self.now) }
@@ -36,7 +36,11 @@ impl Machine {
     }
 
     /// The device whose register is shown; the resource manager where no name stands.
-    pub(super) fn decide_show(&self, name: &Option<Name>, offset: u16) -> Result<Order, RuleFault>
+    pub(super) fn decide_show(
+        &self,
+        name: &Option<Name>,
+        offset: u16,
+    ) -> Result<Order<'static>, RuleFault>
         requires ready { IsReady self.now }
         requires offset { offset < 2 ^ 12 }
         ensures decided { Decided self.now (Commands.Show name.now offset) result }

@@ -31,6 +31,6 @@ returns-clause-decided c = λ s g st.
     let e = c.in_ok-to.to in
     let living : is_living_in m d ≡ true = cc in
     let linked : is_linked_in m.devices e ≡ true = cc in
-    rw (c.append.ensures, c.new-bytes.ensures, c.as_slice.ensures.value)
+    rw (c.new.ensures, c.as_slice.ensures.value)
     (command_ordered s c.args.from.now c.args.to.now c.args.frame.now d e (is_named m s _ d st c.in_ok-from.ensures.device) (is_named m s _ e st c.in_ok-to.ensures.device)
     (sym (living_same m s d g st) ∙ living) (sym (linked_same m.devices s e g st.devices) ∙ linked))

@@ -3,8 +3,8 @@ use Rattle.fw_script.specs.Reader.{GoesOn, IsOpen, to_read}
 use Rattle.fw_script.specs.Reading.{HoldsAnswer}
 use Rattle.fw_script.proofs.reader.ScriptReader.read_on.Given as goal
 
-abbrev pub invariant-loop-command : goal.invariant-loop-command
-invariant-loop-command g l = record {
+abbrev pub invariant-loop-fault : goal.invariant-loop-fault
+invariant-loop-fault g l = record {
   goes_on : GoesOn l.initial.self l.self (g.S.Source.left l.initial.source) (g.S.Source.left l.source);
   more : IsOpen l.self.stage;
   unasked : l.initial.self.whole ≡ true → (l.source ≡ l.initial.source) × (l.self.whole ≡ true);
@@ -12,5 +12,5 @@ invariant-loop-command g l = record {
   unfailed : g.S.Source.faults l.source ≡ g.S.Source.faults l.initial.source;
 }
 
-abbrev pub decreases-loop-command : goal.decreases-loop-command
-decreases-loop-command g l = to_read l.self
+abbrev pub decreases-loop-fault : goal.decreases-loop-fault
+decreases-loop-fault g l = to_read l.self

@@ -12,7 +12,7 @@ returns-in-Skipped-clause-reads c =
 
 pub returns-in-Command-clause-reads : goal.returns-in-Command-clause-reads
 returns-in-Command-clause-reads c =
-    reads_command c.args.self.now c.advance.new.self c.args.count c.args.size c.text.result.now c.in-Command.command c.text.ensures c.requires.line c.advance.ensures
+    reads_command c.args.self.now c.advance.new.self c.args.count c.args.size c.text.result.now c.meaning_of-meaning.new.out c.text.ensures c.requires.line c.advance.ensures
     c.in-Command.ensures.0 (c.takes_commands.ensures.yes c.in-Command.ensures.1) c.in-Command.ensures.2 c.in-Command.ensures.3
 
 pub returns-in-Command-clause-held : goal.returns-in-Command-clause-held

@@ -1,17 +1,18 @@
-use Rattle.std.proofs.Common.{refl}
+use Rattle.std.proofs.Common.{refl, ap}
 use Rattle.fw_script.proofs.ReadingLaws.{reads_long_line, reads_limit}
 use Rattle.fw_script.proofs.StepLaws.{step_read, step_gives, step_filled, step_failed, reads_whole, reads_holds, cut_holds}
+use Rattle.fw_script.specs.Reader.{answer_of}
 use Rattle.fw_script.specs.declared.ScriptFault.TheVariants.{LineTooLong, TooLong}
 use Rattle.fw_script.proofs.reader.ScriptReader.step.Goals as goal
 
 pub returns-in-Line-clause-steps : goal.returns-in-Line-clause-steps
-returns-in-Line-clause-steps g c = step_read c.args.self.now c.read_text.new.self (g.S.Source.left c.args.source.now) c.read_text.result c.read_text.ensures.reads
+returns-in-Line-clause-steps g c = step_read c.args.self.now c.read_text.new.self (g.S.Source.left c.args.source.now) (answer_of c.read_text.result c.read_text.new.out) c.read_text.ensures.reads
 
 pub returns-in-Line-clause-unasked : goal.returns-in-Line-clause-unasked
-returns-in-Line-clause-unasked g c = λ w. (refl, reads_whole c.args.self.now c.read_text.new.self c.read_text.result c.read_text.ensures.reads w)
+returns-in-Line-clause-unasked g c = λ w. (refl, reads_whole c.args.self.now c.read_text.new.self (answer_of c.read_text.result c.read_text.new.out) c.read_text.ensures.reads w)
 
 pub returns-in-Line-clause-holds : goal.returns-in-Line-clause-holds
-returns-in-Line-clause-holds g c = reads_holds c.args.self.now c.read_text.new.self c.read_text.result c.read_text.ensures.reads
+returns-in-Line-clause-holds g c = λ h e. reads_holds c.args.self.now c.read_text.new.self (answer_of c.read_text.result c.read_text.new.out) c.read_text.ensures.reads h (ap (λ r. answer_of r c.read_text.new.out) e)
 
 pub returns-in-LongLine-clause-steps : goal.returns-in-LongLine-clause-steps
 returns-in-LongLine-clause-steps g c =
@@ -24,10 +25,10 @@ returns-in-Limit-clause-steps g c =
     (reads_limit c.args.self.now c.enter.new.self c.in-Limit.ensures.stands c.enter.ensures)
 
 pub returns-in-Nothing-clause-steps : goal.returns-in-Nothing-clause-steps
-returns-in-Nothing-clause-steps g c = step_read c.args.self.now c.read_end.new.self (g.S.Source.left c.args.source.now) c.read_end.result c.read_end.ensures.reads
+returns-in-Nothing-clause-steps g c = step_read c.args.self.now c.read_end.new.self (g.S.Source.left c.args.source.now) (answer_of c.read_end.result c.read_end.new.out) c.read_end.ensures.reads
 
 pub returns-in-Nothing-clause-unasked : goal.returns-in-Nothing-clause-unasked
-returns-in-Nothing-clause-unasked g c = λ w. (refl, reads_whole c.args.self.now c.read_end.new.self c.read_end.result c.read_end.ensures.reads w)
+returns-in-Nothing-clause-unasked g c = λ w. (refl, reads_whole c.args.self.now c.read_end.new.self (answer_of c.read_end.result c.read_end.new.out) c.read_end.ensures.reads w)
 
 pub returns-in-Ok-clause-steps : goal.returns-in-Ok-clause-steps
 returns-in-Ok-clause-steps g c =

@@ -1,0 +1,36 @@
+-- A word is no keyword of another length.
+use Rattle.std.proofs.Common.{◌≡◌, ◌≢◌, ℕ, ◌&&◌, nat_eq, List, [], ◌∷◌, length, Bool, true, false, codes, refl, arith}
+use Rattle.fw_script.specs.Words.{is}
+use Rattle.fw_script.specs.Keyword.{keyword_in, of_three}
+
+and_false : (b : Bool) → (b && false) ≡ false
+and_false true = refl
+and_false false = refl
+
+other : (t w : List ℕ) → length w ≢ length t → is t w ≡ false
+other [] [] e = absurd (e refl)
+other [] (x ∷ w) e = refl
+other (y ∷ t) [] e = refl
+other (y ∷ t) (x ∷ w) e = rw (other t w (λ same. e (grind (arith, same)))) (and_false (nat_eq x y))
+
+pub by_three : (w : List ℕ) → length w ≡ 3 → keyword_in w ≡ of_three w
+by_three w e = rw (
+  other (codes "device") w (λ f. omega arith),
+  other (codes "cable") w (λ f. omega arith),
+  other (codes "reset") w (λ f. omega arith),
+  other (codes "connect") w (λ f. omega arith),
+  other (codes "broadcast") w (λ f. omega arith),
+  other (codes "listen") w (λ f. omega arith),
+  other (codes "break") w (λ f. omega arith),
+  other (codes "step") w (λ f. omega arith),
+  other (codes "settle") w (λ f. omega arith),
+  other (codes "wait") w (λ f. omega arith),
+  other (codes "cycles") w (λ f. omega arith),
+  other (codes "start") w (λ f. omega arith),
+  other (codes "command") w (λ f. omega arith),
+  other (codes "read") w (λ f. omega arith),
+  other (codes "swap") w (λ f. omega arith),
+  other (codes "insert") w (λ f. omega arith),
+  other (codes "eject") w (λ f. omega arith),
+  other (codes "show") w (λ f. omega arith),
+) refl
