@@ -54,6 +54,7 @@ pub mod CarryLaws
 pub mod Runs
 pub mod Lends
 pub mod Flags
+pub mod Gathering
 pub mod Lingers
 pub mod Streaming
 pub mod Desks

@@ -1,5 +1,5 @@
 -- Cycles that are written: who talks in them, and what a desk gives.
-use Rattle.std.specs.Prelude.{ℕ, ◌≡◌, ◌%◌, List, [], ◌∷◌, Option, IsTrue}
+use Rattle.std.specs.Prelude.{ℕ, ◌≡◌, ◌%◌, List, [], ◌∷◌, Option, Some, Ok, IsTrue}
 use Rattle.std.specs.declared.result.Result.{Result}
 use Rattle.fw_base.specs.Tables.{at_plug}
 use Rattle.fw_ledger.specs.Account.{talks}
@@ -52,3 +52,7 @@ pub record DoesWhere {T E : Type 0} (A : State → Type 0) (D : DeskRelations) (
     (m now : Machine) (held after : Option (List ℕ)) (count counts : ℕ) (result : Result T E) : Type 0 where
   pub faults : CountsFaults count counts result
   pub shown : (s : State) → IsGood s → StandsFor m s → A s → EndsBy D (P s) s now held after result
+
+-- in a room stands what this writes: it grew by the entries
+abbrev pub Puts : (State → Type 0) → DeskRelations → Deed → Machine → List ℕ → List ℕ → Type 0
+Puts A D P m old new = DoesWhere {T = Unit {0}} {E = Unit {0}} A D P m m (Some old) (Some new) 0 0 (Ok (tt {0}))

@@ -1,7 +1,7 @@
 //! Cycles that are written: the cycle start of the root (IEEE 1394-1995, cycle start packet), and the packets of the output plugs that talk
 //! (IEC 61883-1, 6).
 
-ghost use Rattle.std.specs.Prelude.{◌≡◌, ◌≤◌, ◌<◌, ◌+◌, ◌^◌, ℕ, Some, length};
+ghost use Rattle.std.specs.Prelude.{◌≡◌, ◌≤◌, ◌<◌, ◌+◌, ◌^◌, ℕ, Some, [], length};
 ghost use Rattle.std.specs.Option.{option_map};
 ghost use Rattle.fw_async.specs.Async.{Fits};
 ghost use Rattle.fw_entry.specs.declared.entry.ResetEntry.{ResetEntry};
@@ -15,18 +15,18 @@ ghost use Rattle.fw_run.specs.State.{State};
 ghost use Rattle.fw_run.specs.Streams.{cycle_start};
 ghost use Rattle.fw_run.specs.declared.order.Order.TheVariants.{Cycles};
 ghost use Rattle.fw_tape.specs.Desks.{AnyBlock};
-ghost use Rattle.fw_bus.specs.Cycling.{Comes, DoesWhere, HadSent, Sends, SendsTo, WritesCycle};
+ghost use Rattle.fw_bus.specs.Cycling.{Comes, DoesWhere, HadSent, Puts, Sends, SendsTo, WritesCycle};
 ghost use Rattle.fw_bus.specs.Doings.{Does};
 ghost use Rattle.fw_bus.specs.Framing.{DoesBy};
 ghost use Rattle.fw_bus.specs.Stands.{IsReady, StandsFor};
 
-use crate::give::{give, give_iso};
+use crate::give::give;
 use crate::machine::Machine;
 use crate::room::Room;
 use crate::streams::Streams;
 use fw_async::{Head, Packet};
 use fw_devices::Talkers;
-use fw_entry::Entry;
+use fw_entry::{CycleRoom, Entry};
 use fw_node::{cycle_time, node_id};
 use fw_outside::{Failed, Sink};
 use fw_tape::Desk;
@@ -92,21 +92,22 @@ impl Machine {
 
     /// The output plug of a device, which talks on this channel, sends its packet of the cycle: a block where its tape gives one, else
     /// an empty one. `before` has the counts before the cycle.
-    fn send_packet<K: Sink, F: Fn(u16, u32, u16) -> [u8; 480], H: Fn(u32, u8) -> u8>(
+    #[inline(always)]
+    fn put_packet<F: Fn(u16, u32, u16) -> [u8; 480], H: Fn(u32, u8) -> u8>(
         &self,
         device: u8,
         channel: u8,
         before: &Streams,
         desk: &Desk<F, H>,
-        room: &mut Room,
-        sink: &mut K,
-    ) -> Result<(), Failed>
+        room: &mut CycleRoom,
+    )
         requires ready { IsReady self.now }
         requires desk { AnyBlock (F.pre desk.now.blocks) }
         requires declared { device < length self.now.devices.nodes }
         requires talks { talking_on (node_at self.now.devices.nodes device) ≡ Some channel }
-        ensures does { DoesWhere (HadSent before.now) (record { blocks = F.post desk.now.blocks; vendor = H.post desk.now.vendor }) (Sends device)
-            self.now self.now (K.held sink.old) (K.held sink.new) (K.faults sink.old) (K.faults sink.new) result }
+        requires room { length room.old + 504 ≤ 32256 }
+        ensures puts { Puts (HadSent before.now) (record { blocks = F.post desk.now.blocks; vendor = H.post desk.now.vendor }) (Sends device) self.now room.old room.new }
+        ensures size { length room.new ≤ length room.old + 504 }
     {
         let mut talker = before.talker(device, channel);
         let own = self.number(device);
@@ -116,16 +117,38 @@ impl Machine {
             Some(place) => {
                 let bytes = desk.block(place.tape, place.frame, place.block);
                 let packet = talker.cycle(own, fifty, Some(&bytes));
-                give_iso(self.cycle, &packet, &mut room.stream, sink)
+                room.put(self.cycle, &packet);
             }
             None => {
                 let packet = talker.cycle(own, fifty, None);
-                give_iso(self.cycle, &packet, &mut room.stream, sink)
+                room.put(self.cycle, &packet);
             }
         }
     }
 
-    /// Each output plug that talks sends its packet of the cycle, in order of channel.
+    /// The packets of the output plugs that talk, in order of channel, in the room.
+    #[inline(always)]
+    fn put_packets<F: Fn(u16, u32, u16) -> [u8; 480], H: Fn(u32, u8) -> u8>(
+        &self,
+        talkers: &Talkers,
+        before: &Streams,
+        desk: &Desk<F, H>,
+        room: &mut CycleRoom,
+    )
+        requires ready { IsReady self.now }
+        requires desk { AnyBlock (F.pre desk.now.blocks) }
+        requires talkers { AreTalkers (length self.now.devices.nodes) self.now.devices.nodes talkers.now }
+        ensures { Puts (HadSent before.now) (record { blocks = F.post desk.now.blocks; vendor = H.post desk.now.vendor }) (SendsTo 64) self.now [] room.new }
+    {
+        room.clear();
+        for channel in 0..talkers.end() {
+            if let Some(device) = talkers.get(channel) {
+                self.put_packet(device, channel, before, desk, room);
+            }
+        }
+    }
+
+    /// Each output plug that talks sends its packet of the cycle, in order of channel; they are written with one write.
     fn send_packets<K: Sink, F: Fn(u16, u32, u16) -> [u8; 480], H: Fn(u32, u8) -> u8>(
         &self,
         talkers: &Talkers,
@@ -140,12 +163,12 @@ impl Machine {
         ensures does { DoesWhere (HadSent before.now) (record { blocks = F.post desk.now.blocks; vendor = H.post desk.now.vendor }) (SendsTo 64)
             self.now self.now (K.held sink.old) (K.held sink.new) (K.faults sink.old) (K.faults sink.new) result }
     {
-        for channel in 0..talkers.end() {
-            if let Some(device) = talkers.get(channel) {
-                self.send_packet(device, channel, before, desk, room, sink)?;
-            }
+        self.put_packets(talkers, before, desk, &mut room.cycle);
+        let packets = room.cycle.as_slice();
+        if packets.is_empty() {
+            return Ok(());
         }
-        Ok(())
+        sink.write(packets)
     }
 
     /// The next cycle comes and is written. Before the first device it only comes. `talkers` are those that talk before it, and then

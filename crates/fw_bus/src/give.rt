@@ -1,16 +1,14 @@
 ghost use Rattle.std.specs.Prelude.{◌<◌, IfSome, Some};
 ghost use Rattle.fw_async.specs.Reader.{IsPacket, Spells};
 ghost use Rattle.fw_async.specs.declared.packet.Packet.{Packet};
-ghost use Rattle.fw_cip.specs.Iso as Iso;
-ghost use Rattle.fw_entry.specs.declared.entry.Entry.TheVariants.{Async, Iso as IsoEntry};
+ghost use Rattle.fw_entry.specs.declared.entry.Entry.TheVariants.{Async};
 ghost use Rattle.fw_bus.specs.Faults.{CountsFaults};
 ghost use Rattle.fw_entry.specs.Log.{Fits};
 ghost use Rattle.fw_run.specs.Giving.{Gives};
 
 use crate::room::Room;
 use fw_async::PacketRoom;
-use fw_cip::IsoPacket;
-use fw_entry::{Entry, IsoRoom, Timed, write_async_in_place, write_entry, write_iso};
+use fw_entry::{Entry, Timed, write_async_in_place, write_entry};
 use fw_outside::{Failed, Sink};
 
 /// Writes an entry of this cycle, where there is one.
@@ -42,19 +40,4 @@ pub(crate) fn give_packet<K: Sink>(
     ensures faults { CountsFaults (K.faults sink.old) (K.faults sink.new) result }
 {
     write_async_in_place(cycle, packet, sink)
-}
-
-/// Writes the entry of a packet of a stream, of this cycle.
-#[inline(always)]
-pub(crate) fn give_iso<K: Sink>(
-    cycle: u64,
-    packet: &IsoPacket,
-    room: &mut IsoRoom,
-    sink: &mut K,
-) -> Result<(), Failed>
-    requires { Iso.Fits packet.now }
-    ensures bytes { Gives (K.held sink.old) (K.held sink.new) result cycle (Some (IsoEntry packet.now)) }
-    ensures faults { CountsFaults (K.faults sink.old) (K.faults sink.new) result }
-{
-    write_iso(cycle, packet, room, sink)
 }

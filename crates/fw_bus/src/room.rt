@@ -1,5 +1,5 @@
 use fw_async::PacketRoom;
-use fw_entry::{EntryRoom, IsoRoom};
+use fw_entry::{CycleRoom, EntryRoom};
 use std::alloc::{AllocError, Global};
 
 /// Memory in which entries and packets are put together. It is made once and used again for each.
@@ -8,8 +8,8 @@ pub struct Room {
     pub entry: EntryRoom,
     /// The packet that is sent.
     pub packet: PacketRoom,
-    /// The entry of a packet of a stream.
-    pub stream: IsoRoom,
+    /// The entries of the packets of a cycle.
+    pub cycle: CycleRoom,
 }
 
 impl Room {
@@ -18,7 +18,7 @@ impl Room {
         Ok(Room {
             entry: EntryRoom::new(alloc)?,
             packet: PacketRoom::new(),
-            stream: IsoRoom::new(),
+            cycle: CycleRoom::new(),
         })
     }
 }

@@ -1,9 +1,17 @@
-ghost use Rattle.std.specs.Prelude.{◌≡◌, ◌≤◌, ◌+◌, ◌++◌, length, take};
-ghost use Rattle.fw_cip.specs.Iso.{Fits, spelling};
+ghost use Rattle.std.specs.Prelude.{◌≡◌, ◌≤◌, ◌+◌, [], ◌++◌, length, take};
+ghost use Rattle.fw_cip.specs.Iso.{Fits};
+ghost use Rattle.fw_entry.specs.Log.{entry_bytes};
+ghost use Rattle.fw_entry.specs.declared.entry.Entry.TheVariants.{Iso};
 
-use fw_cip::{IsoPacket, heads_of};
+use crate::codes::kind;
+use crate::write::head_of;
+use fw_cip::{IsoPacket, heads_of, iso_length};
 use fw_words::Bytes;
 use std::alloc::{AllocError, Global};
+use std::marker::Model;
+
+/// How many bytes the entries of a packet with a block on each of the 64 channels have.
+const ALL: usize = 32256;
 
 /// The bytes of one entry: at most the 12 of its head and the 569 quadlets of a reset.
 pub(crate) type EntryBytes = Bytes<2288>;
@@ -23,41 +31,91 @@ impl EntryRoom {
     }
 }
 
-/// Room for the entry of an isochronous packet: the 12 bytes of its head, the 12 of the packet's headers, and a block. It is made
-/// once and used again for each.
-#[derive(Debug, Drop)]
-pub struct IsoRoom {
-    bytes: [u8; 504],
+/// Room for the entries of the isochronous packets of one cycle, one behind the other: of each the 12 bytes of its head, the 12 of
+/// the packet's headers, and a block. It is made once and used again for each cycle.
+#[derive(Drop)]
+pub struct CycleRoom {
+    bytes: [u8; ALL],
+    /// How many bytes the entries have.
+    length: usize,
 }
 
-impl IsoRoom {
-    /// Room for one entry.
-    pub fn new() -> IsoRoom {
-        IsoRoom { bytes: [0; 504] }
-    }
+impl Model for CycleRoom {
+    ghost use Rattle.std.specs.Prelude.{List, ℕ, ◌≤◌, take};
 
-    /// The bytes of a packet behind an entry's head.
-    #[inline(always)]
-    pub(crate) fn put<'a>(&'a mut self, head: [u8; 12], p: &IsoPacket) -> &'a [u8]
-        requires { Fits p.now }
-        ensures { result.now ≡ head ++ spelling p.now }
+    ghost Value = { List ℕ };
+
+    ghost view = { λ r. take r.length r.bytes };
+
+    ghost invariant = { λ r. r.length ≤ 32256 };
+}
+
+impl CycleRoom {
+    /// No entries.
+    pub fn new() -> CycleRoom
+        ensures { result ≡ [] }
     {
-        write_over(&mut self.bytes, 0, &head);
-        write_over(&mut self.bytes, 12, &heads_of(p));
-        match &p.block {
-            Some(block) => {
-                write_over(&mut self.bytes, 24, block.as_slice());
-                &self.bytes[..504]
-            }
-            None => &self.bytes[..24],
+        CycleRoom {
+            bytes: [0; ALL],
+            length: 0,
         }
     }
+
+    /// The bytes of the entries.
+    pub fn as_slice(&self) -> &[u8]
+        ensures { result.now ≡ self.now }
+    {
+        &self.bytes[..self.length]
+    }
+
+    /// Takes all entries away, and touches no byte.
+    pub fn clear(&mut self)
+        ensures { self.new ≡ [] }
+    {
+        self.length = 0;
+    }
+
+    /// Puts the entry of a packet behind the others.
+    #[inline(always)]
+    #[tactic(auto, using(crate::proofs::SizeLaws::iso_few))]
+    pub fn put(&mut self, cycle: u64, p: &IsoPacket)
+        requires fits { Fits p.now }
+        requires room { length self.old + 504 ≤ 32256 }
+        ensures bytes { self.new ≡ self.old ++ entry_bytes (record { cycle = cycle; what = Iso p.now }) }
+        ensures size { length self.new ≤ length self.old + 504 }
+    {
+        let quadlets = (iso_length(p) / 4) as u16;
+        self.extend(&joined(head_of(kind::ISO, quadlets, cycle), heads_of(p)));
+        if let Some(block) = &p.block {
+            self.extend(block.as_slice());
+        }
+    }
+
+    #[inline(always)]
+    fn extend(&mut self, more: &[u8])
+        requires { length self.old + length more.now ≤ 32256 }
+        ensures { self.new ≡ self.old ++ more.now }
+    {
+        write_over(&mut self.bytes, self.length, more);
+        self.length += more.len();
+    }
+}
+
+// The one behind the other.
+#[inline(always)]
+fn joined(head: [u8; 12], heads: [u8; 12]) -> [u8; 24]
+    ensures { result ≡ head ++ heads }
+{
+    let mut both = [0; 24];
+    both[..12].copy_from_slice(&head);
+    both[12..].copy_from_slice(&heads);
+    both
 }
 
 // Writes over the bytes from `at` on.
 #[inline(always)]
-fn write_over(out: &mut [u8; 504], at: usize, more: &[u8])
-    requires { at + length more.now ≤ 504 }
+fn write_over(out: &mut [u8; ALL], at: usize, more: &[u8])
+    requires { at + length more.now ≤ 32256 }
     ensures { take (at + length more.now) out.new ≡ take at out.old ++ more.now }
 {
     out[at..at + more.len()].copy_from_slice(more);

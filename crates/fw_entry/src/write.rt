@@ -4,16 +4,14 @@ ghost use Rattle.std.specs.Prelude.{◌≡◌, ◌/◌, ◌++◌, length, OnOk};
 ghost use Rattle.fw_outside.specs.Outside.{HasCause, Writes};
 ghost use Rattle.fw_async.specs.Reader.{Spells, IsPacket};
 ghost use Rattle.fw_async.specs.declared.packet.Packet.{Packet};
-ghost use Rattle.fw_cip.specs.Iso as Iso;
-ghost use Rattle.fw_entry.specs.declared.entry.Entry.TheVariants.{Async, Iso as IsoEntry};
+ghost use Rattle.fw_entry.specs.declared.entry.Entry.TheVariants.{Async};
 ghost use Rattle.fw_entry.specs.Log.{header_bytes, entry_head, entry_bytes, kind_of, body, Fits, TimedFits};
 
 use crate::codes::kind;
 use crate::room::EntryBytes;
 use crate::write_body::{body_quadlets, put_body};
-use crate::{Entry, EntryRoom, IsoRoom, Timed};
+use crate::{Entry, EntryRoom, Timed};
 use fw_async::PacketRoom;
-use fw_cip::{IsoPacket, iso_length};
 use fw_outside::{Failed, Sink};
 use fw_words::{Bytes, Quadlet, put_quadlet};
 
@@ -48,7 +46,7 @@ fn kind_of(what: &Entry) -> u8
 }
 
 // An entry's head.
-fn head_of(kind: u8, quadlets: u16, cycle: u64) -> [u8; 12]
+pub(crate) fn head_of(kind: u8, quadlets: u16, cycle: u64) -> [u8; 12]
     ensures { result ≡ entry_head kind quadlets cycle }
 {
     let mut head = [kind, 0, 0, 0, 0, 0, 0, 0, 0, 0, 0, 0];
@@ -125,25 +123,6 @@ pub fn write_async_in_place<K: Sink>(
 {
     let quadlets = (packet.as_slice().len() / 4) as u16;
     sink.write(packet.behind(head_of(kind::ASYNC, quadlets, cycle)))
-}
-
-/// Appends the entry of an isochronous packet, in one write, and copies its block once. An error says that the sink failed; a
-/// front of the entry may have been written then. The room is used for it, whatever an earlier packet left there.
-#[inline(always)]
-#[tactic(auto, using(crate::proofs::SizeLaws::iso_few))]
-pub fn write_iso<K: Sink>(
-    cycle: u64,
-    packet: &IsoPacket,
-    room: &mut IsoRoom,
-    sink: &mut K,
-) -> Result<(), Failed>
-    requires { Iso.Fits packet.now }
-    ensures bytes { Writes (K.held sink.old) (K.held sink.new) result (entry_bytes (record { cycle = cycle; what = IsoEntry packet.now })) }
-    ensures cause { HasCause (K.faults sink.old) (K.faults sink.new) result }
-    ensures same { OnOk result (K.faults sink.new ≡ K.faults sink.old) }
-{
-    let quadlets = (iso_length(packet) / 4) as u16;
-    sink.write(room.put(head_of(kind::ISO, quadlets, cycle), packet))
 }
 
 /// The bytes of the body of an entry, in the room.

@@ -1,7 +1,8 @@
 use Rattle.std.proofs.Common.{◌≡◌, Some, None, refl}
 use Rattle.fw_bus.specs.Streaming.{count_at}
 use Rattle.fw_bus.proofs.CycleTurns.{ready_talker, gives_none, gives_some, packet_done, packet_fits, packet_same}
-use Rattle.fw_bus.proofs.machine.Machine.send_packet.Goals as goal
+use Rattle.fw_bus.proofs.Doings.{no_faults}
+use Rattle.fw_bus.proofs.machine.Machine.put_packet.Goals as goal
 
 pub talker-talker-requires : goal.talker-talker-requires
 talker-talker-requires g c = record { declared = (ready_talker _ _ c.requires.ready c.requires.declared c.requires.talks).2 }
@@ -9,12 +10,12 @@ talker-talker-requires g c = record { declared = (ready_talker _ _ c.requires.re
 pub number-own-requires : goal.number-own-requires
 number-own-requires g c = (ready_talker _ _ c.requires.ready c.requires.declared c.requires.talks).0
 
-pub give_iso-requires : goal.give_iso-requires
-give_iso-requires g c =
+pub put-requires-clause-fits : goal.put-requires-clause-fits
+put-requires-clause-fits g c =
     packet_fits _ _ c.requires.ready c.requires.declared c.requires.talks c.talker-talker.ensures.channel c.number-own.ensures.range c.cycle-packet.ensures.fits
 
-pub give_iso-requires-in-None : goal.give_iso-requires-in-None
-give_iso-requires-in-None g c =
+pub put-requires-in-None-clause-fits : goal.put-requires-in-None-clause-fits
+put-requires-in-None-clause-fits g c =
     packet_fits _ _ c.requires.ready c.requires.declared c.requires.talks c.talker-talker.ensures.channel c.number-own.ensures.range
     c.cycle-packet-in-None.ensures.fits
 
@@ -22,7 +23,7 @@ pub returns-in-Some : goal.returns-in-Some
 returns-in-Some g c =
     let made = c.cycle-packet.ensures.packet (count_at c.args.before.now c.args.device) c.talker-talker.ensures.count in
     record {
-      does = packet_done (Some c.block-bytes.result) (record {
+      puts = packet_done (Some c.block-bytes.result) (record {
         declared = c.requires.declared;
         talks = c.requires.talks;
         number = c.number-own.ensures.value;
@@ -30,14 +31,15 @@ returns-in-Some g c =
         packet_is = packet_same _ _ made c.talker-talker.ensures.channel c.fifty-fifty.ensures refl;
         fits = packet_fits _ _ c.requires.ready c.requires.declared c.requires.talks c.talker-talker.ensures.channel c.number-own.ensures.range
             c.cycle-packet.ensures.fits;
-      }) c.give_iso.ensures.bytes c.give_iso.ensures.faults;
+      }) c.put.ensures.bytes (no_faults 0 (tt {0}));
+      size = c.put.ensures.size;
     }
 
 pub returns-in-None : goal.returns-in-None
 returns-in-None g c =
     let made = c.cycle-packet-in-None.ensures.packet (count_at c.args.before.now c.args.device) c.talker-talker.ensures.count in
     record {
-      does = packet_done None (record {
+      puts = packet_done None (record {
         declared = c.requires.declared;
         talks = c.requires.talks;
         number = c.number-own.ensures.value;
@@ -45,5 +47,6 @@ returns-in-None g c =
         packet_is = packet_same _ _ made c.talker-talker.ensures.channel c.fifty-fifty.ensures refl;
         fits = packet_fits _ _ c.requires.ready c.requires.declared c.requires.talks c.talker-talker.ensures.channel c.number-own.ensures.range
             c.cycle-packet-in-None.ensures.fits;
-      }) c.give_iso-in-None.ensures.bytes c.give_iso-in-None.ensures.faults;
+      }) c.put-in-None.ensures.bytes (no_faults 0 (tt {0}));
+      size = c.put-in-None.ensures.size;
     }
