@@ -27,10 +27,6 @@ parent_later g par d p e range cables parents low noted is =
 pub leads_up : (o : Option End) (e : End) → o ≡ Some e → LeadsTo o e.device
 leads_up o e is = rw is refl
 
-pub none_of : (o : Option Parent) → ((p : Parent) → o ≡ Some p → ⊥) → o ≡ None
-none_of None h = refl
-none_of (Some p) h = absurd (h p refl)
-
 -- who has no parent is the root
 pub top_root : (g : Peers) (par : List (Option Parent)) (d r : ℕ) → InRange g → AreCables g → HasNoLoop g → Settled g r → ((k : ℕ) → k < 63 → IsParent g k (parent_at par k)) → d < 63 → IsOnBus g d → parent_at par d ≡ None → IsTheRoot g d
 top_root g par d r range cables loops settled parents low on none =

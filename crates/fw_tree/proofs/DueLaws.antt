@@ -1,5 +1,5 @@
 -- Who may leave in the next round: those that are joined to one that left.
-use Rattle.std.proofs.Common.{◌≡◌, ◌⊎◌, inl, inr, ℕ, suc, ◌<◌, ◌+◌, ◌==◌, ◌&&◌, not, List, [], ◌∷◌, length, Option, Some, None, IfSome, IsTrue, Bool, true, false, slice_index_or, slice_set, replicate, count_by, cond, arith, refl, sym, ap, ◌∙◌}
+use Rattle.std.proofs.Common.{◌≡◌, ◌⊎◌, inl, inr, ℕ, zero, suc, suc, ◌<◌, ◌≤◌, ◌+◌, ◌==◌, ◌&&◌, not, List, [], ◌∷◌, length, Option, Some, None, IfSome, IsTrue, Bool, true, false, slice_index_or, slice_set, replicate, count_by, cond, arith, refl, sym, ap, ◌∙◌}
 use Rattle.std.proofs.lemmas.Bool.{cases_eq}
 use Rattle.std.proofs.lemmas.Bool.Decides.{nat_tests}
 use Rattle.std.proofs.lemmas.List.{get_or-replicate}
@@ -12,6 +12,7 @@ use Rattle.fw_tree.specs.Forest.{AreCables}
 use Rattle.fw_tree.specs.Parents.{IsDue, staying}
 use Rattle.fw_tree.proofs.ForestLaws.{truth, first_of, second_of, open_to, opened}
 use Rattle.fw_tree.proofs.ParentLaws.{Leave, leave_more, set_seen_other}
+use Rattle.fw_tree.proofs.PlacedLaws.{none_open}
 use Rattle.fw_tree.proofs.RoundLaws.{in_range}
 
 -- a device that is not due does not leave
@@ -67,16 +68,29 @@ going_first g round old due was size = record {
   fewer = λ e. absurd (let z : ⊥ = cc in z);
 }
 
--- a device that was not due
+-- a device that does not leave
+going_idle : (g : Peers) (round : ℕ) (old now due : List Bool) (was par : List (Option Parent)) (changed : Bool) (i : ℕ) → i < 63 → Going g round old now due was par changed i → false ≡ (is_seen old i && (open_count g (is_seen old) i == 1)) → Going g round old now due was par changed (i + 1)
+going_idle g round old now due was par changed i within l stays = record {
+  leave = leave_more g round old now now was par par i false within l.leave stays (λ e. absurd (let z : ⊥ = cc in z)) (λ e. absurd (let z : ⊥ = cc in z)) (λ k differ. refl) (λ e. refl) (λ e. refl);
+  marked = marked_more g round old now now due due was par i false l.leave l.marked (λ e. absurd (let z : ⊥ = cc in z)) (λ e. refl) (λ k m. m) (λ e. absurd (let z : ⊥ = cc in z));
+  same = l.same;
+  fewer = l.fewer;
+}
+
+-- so it is with one that was not due
 pub going_on : (g : Peers) (round : ℕ) (old may now due : List Bool) (was par : List (Option Parent)) (changed : Bool) (i : ℕ) → i < 63 → Going g round old now due was par changed i → IsDue g old may i → is_seen may i ≡ false → Going g round old now due was par changed (i + 1)
-going_on g round old may now due was par changed i within l h none =
-    let stays = not_due (is_seen old i) (is_seen may i) (open_count g (is_seen old) i) h none in
-    record {
-      leave = leave_more g round old now now was par par i false within l.leave stays (λ e. absurd (let z : ⊥ = cc in z)) (λ e. absurd (let z : ⊥ = cc in z)) (λ k differ. refl) (λ e. refl) (λ e. refl);
-      marked = marked_more g round old now now due due was par i false l.leave l.marked (λ e. absurd (let z : ⊥ = cc in z)) (λ e. refl) (λ k m. m) (λ e. absurd (let z : ⊥ = cc in z));
-      same = l.same;
-      fewer = l.fewer;
-    }
+going_on g round old may now due was par changed i within l h none = going_idle g round old now due was par changed i within l (not_due (is_seen old i) (is_seen may i) (open_count g (is_seen old) i) h none)
+
+-- from i on no device has a cable
+pub going_all : (g : Peers) (round : ℕ) (old now due : List Bool) (was par : List (Option Parent)) (changed : Bool) (n i : ℕ) → i + n ≡ 63 → ((k p : ℕ) → i ≤ k → peer g k p ≡ None) → Going g round old now due was par changed i → Going g round old now due was par changed 63
+going_all g round old now due was par changed zero i end none l = let e : i ≡ 63 = omega arith in rw (← e) l
+going_all g round old now due was par changed (suc n) i end none l =
+    let zero_open = none_open (is_seen old) (slice_index_or g i []) (λ p. none i p (omega arith)) in
+    let stays : false ≡ (is_seen old i && (open_count g (is_seen old) i == 1)) = none_leaves (is_seen old i) (open_count g (is_seen old) i) zero_open in
+    going_all g round old now due was par changed n (i + 1) (omega arith) (λ k p h. none k p (omega arith)) (going_idle g round old now due was par changed i (omega arith) l stays)
+  where
+    none_leaves : (b : Bool) (n : ℕ) → n ≡ 0 → false ≡ (b && (n == 1))
+    none_leaves b n h = grind (arith, nat_tests)
 
 -- a port that leads to one that the first set has and the second has not
 Lost : (ℕ → Bool) → (ℕ → Bool) → Option End → Type 0

@@ -25,6 +25,10 @@ pub not_false : (b : Bool) → not b ≡ true → b ≡ false
 not_false true h = cc
 not_false false h = refl
 
+pub none_of : {A : Type 0} (o : Option A) → ((x : A) → o ≡ Some x → ⊥) → o ≡ None
+none_of None h = refl
+none_of (Some x) h = absurd (h x refl)
+
 -- what is at the other end of an open port
 pub record OpenTo (s : ℕ → Bool) (o : Option End) : Type 0 where
   pub end : End

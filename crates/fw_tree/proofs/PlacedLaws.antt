@@ -1,5 +1,5 @@
 -- Behind the ports that a device has no cable is, so that none needs to be looked at; and cables lead both ways.
-use Rattle.std.proofs.Common.{◌≡◌, inl, inr, ℕ, zero, suc, ◌+◌, ◌≤◌, List, [], ◌∷◌, take, slice_index_or, Bool, cond, Option, Some, None, IfSome, IsTrue, arith, refl, ap, sym, subst, ◌∙◌}
+use Rattle.std.proofs.Common.{◌≡◌, inl, inr, ℕ, zero, suc, ◌+◌, ◌<◌, ◌≤◌, List, [], ◌∷◌, take, slice_index_or, Bool, cond, Option, Some, None, IfSome, IsTrue, arith, refl, ap, sym, subst, ◌∙◌}
 use Rattle.std.specs.Prelude.{count_by}
 use Rattle.std.proofs.lemmas.List.Sums.{sum_by-cons}
 use Rattle.std.proofs.lemmas.Bool.{cases_lt}
@@ -23,6 +23,13 @@ placed_of facts count g k d p e is = elim (cases_lt d count) [
   | inr high ↦ let none = no_ports facts count d high in let has = k.sound.placed d p e is in absurd (omega arith)
 ]
 
+-- a device that has a cable is there
+pub declared_of : (facts : List PhyFacts) (count : ℕ) (g : Peers) → IsKept facts count g → (d p : ℕ) (e : End) → peer g d p ≡ Some e → d < count
+declared_of facts count g k d p e is = elim (cases_lt d count) [
+  | inl low ↦ low
+  | inr high ↦ let none = no_ports facts count d high in let has = k.sound.placed d p e is in absurd (omega arith)
+]
+
 -- the first ports say what all say
 pub front_same : (row : List (Option End)) (n p : ℕ) → ((q : ℕ) → n ≤ q → slice_index_or row q None ≡ None) → slice_index_or (take n row) p None ≡ slice_index_or row p None
 front_same [] zero p none = refl
@@ -34,7 +41,7 @@ front_same (x ∷ row) (suc n) (suc p) none = front_same row n p (λ q h. none (
 open_step : (stays : ℕ → Bool) (o : Option End) (row : List (Option End)) → count_by (is_open stays) (o ∷ row) ≡ cond (is_open stays o) 1 0 + count_by (is_open stays) row
 open_step stays o row = sum_by-cons (λ x. cond (is_open stays x) 1 0) o row
 
-none_open : (stays : ℕ → Bool) (row : List (Option End)) → ((p : ℕ) → slice_index_or row p None ≡ None) → count_by (is_open stays) row ≡ 0
+pub none_open : (stays : ℕ → Bool) (row : List (Option End)) → ((p : ℕ) → slice_index_or row p None ≡ None) → count_by (is_open stays) row ≡ 0
 none_open stays [] none = refl
 none_open stays (x ∷ row) none = let e : x ≡ None = none 0 in open_step stays x row ∙ (ap (λ o. cond (is_open stays o) 1 0 + count_by (is_open stays) row) e ∙ omega (arith, none_open stays row (λ p. none (suc p))))
 

@@ -131,7 +131,7 @@ impl Cabling {
         ensures only { (n : Numbering) → IsNumbering self.now n → IsSame result n }
         ensures made { Made self.now }
     {
-        let parents = parents(&self.cables, &self.facts);
+        let parents = parents(&self.cables, &self.facts, self.count);
         let root = find_root(&self.cables, &parents);
         let number = numbers_from(&self.cables, &self.facts, &parents, root);
         Numbering {

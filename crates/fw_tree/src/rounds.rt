@@ -1,5 +1,6 @@
-ghost use Rattle.std.specs.Prelude.{◌≡◌, ◌<◌, ◌≤◌, ◌==◌, ◌&&◌, not, ℕ, [], true, false, None, IfSome, IfNone, IsTrue, count_by, length, nat_lt, slice_index_or, slice_set};
-ghost use Rattle.fw_tree.specs.Cables.{AreMarked, InRange, is_seen};
+ghost use Rattle.std.specs.Prelude.{◌≡◌, ◌<◌, ◌≤◌, ◌==◌, ◌&&◌, not, ℕ, [], true, false, None, Some, IfSome, IfNone, IsTrue, count_by, length, nat_lt, slice_index_or, slice_set};
+ghost use Rattle.fw_tree.specs.Cables.{AreMarked, InRange, is_seen, peer};
+ghost use Rattle.fw_tree.specs.declared.facts.End.{End as Far};
 ghost use Rattle.fw_tree.specs.Rounds.{is_open, open_count, WinsTie, LeavesBy};
 ghost use Rattle.fw_tree.specs.Forest.{AreCables};
 ghost use Rattle.fw_tree.specs.Parents.{Notes, IsDue, IsParent, Settled, parent_at, staying};
@@ -187,6 +188,7 @@ fn leave_one(
 fn leave(
     g: &AllCables,
     facts: &[PhyFacts; 63],
+    count: u8,
     round: u8,
     now: &mut Round,
     parents: &mut [Option<Parent>; 63],
@@ -194,6 +196,8 @@ fn leave(
     requires range { InRange g.now }
     requires cables { AreCables g.now }
     requires placed { ArePlaced facts.now g.now }
+    requires few { count ≤ 63 }
+    requires declared { (d p : ℕ) (e : Far) → peer g.now d p ≡ Some e → d < count }
     requires due { (d : ℕ) → d < 63 → IsDue g.now now.old.stays now.old.due d }
     ensures after { (d : ℕ) → d < 63 → is_seen now.new.stays d ≡ (is_seen now.old.stays d && not (open_count g.now (is_seen now.old.stays) d == 1)) }
     ensures notes { (d : ℕ) → d < 63 → is_seen now.old.stays d ≡ true → is_seen now.new.stays d ≡ false → Notes g.now (is_seen now.old.stays) round d (parent_at parents.new d) }
@@ -205,7 +209,7 @@ fn leave(
     let before = *now;
     now.due = [false; 63];
     let mut changed = false;
-    for d in 0..63 {
+    for d in 0..usize::from(count) {
         if before.due[d] {
             let left = leave_one(g, facts, d, round, &before.stays, now, parents);
             changed |= left;
@@ -214,11 +218,13 @@ fn leave(
     changed
 }
 
-/// The parent of each device, after all rounds.
-pub fn parents(g: &AllCables, facts: &[PhyFacts; 63]) -> [Option<Parent>; 63]
+/// The parent of each device, after all rounds. So many devices are there, and the others have no cables.
+pub fn parents(g: &AllCables, facts: &[PhyFacts; 63], count: u8) -> [Option<Parent>; 63]
     requires range { InRange g.now }
     requires cables { AreCables g.now }
     requires placed { ArePlaced facts.now g.now }
+    requires few { count ≤ 63 }
+    requires declared { (d p : ℕ) (e : Far) → peer g.now d p ≡ Some e → d < count }
     ensures parents { (d : ℕ) → d < 63 → IsParent g.now d (parent_at result d) }
     ensures settled { (r : ℕ) × Settled g.now r }
 {
@@ -228,7 +234,7 @@ pub fn parents(g: &AllCables, facts: &[PhyFacts; 63]) -> [Option<Parent>; 63]
     };
     let mut parents = [None; 63];
     let mut round = 0;
-    while leave(g, facts, round, &mut now, &mut parents) {
+    while leave(g, facts, count, round, &mut now, &mut parents) {
         round += 1;
     }
     parents

@@ -5,7 +5,7 @@ use Rattle.fw_tree.specs.Topology.{Topology, IsSound, Made}
 use Rattle.fw_tree.specs.Numbering.{IsNumbering}
 use Rattle.fw_tree.specs.Numbers.{AreNodes, shown}
 use Rattle.fw_tree.specs.Parents.{parent_at}
-use Rattle.fw_tree.proofs.PlacedLaws.{placed_of}
+use Rattle.fw_tree.proofs.PlacedLaws.{declared_of, placed_of}
 use Rattle.fw_tree.proofs.OneNumberingLaws.{one_numbering, same_on}
 use Rattle.fw_tree.proofs.ReachLaws.{bus_of}
 use Rattle.fw_tree.proofs.RootLaws.{ended}
@@ -39,6 +39,9 @@ returns c =
 
 pub parents-parents-requires-clause-placed : goal.parents-parents-requires-clause-placed
 parents-parents-requires-clause-placed c = placed_of c.self.inside.facts c.self.inside.count c.self.inside.cables c.self.invariant
+
+pub parents-parents-requires-clause-declared : goal.parents-parents-requires-clause-declared
+parents-parents-requires-clause-declared c = declared_of c.self.inside.facts c.self.inside.count c.self.inside.cables c.self.invariant
 
 pub numbers_from-number-requires-clause-placed : goal.numbers_from-number-requires-clause-placed
 numbers_from-number-requires-clause-placed c = placed_of c.self.inside.facts c.self.inside.count c.self.inside.cables c.self.invariant
