@@ -20,13 +20,13 @@ ghost use Rattle.fw_bus.specs.Doings.{Does};
 ghost use Rattle.fw_bus.specs.Framing.{DoesBy};
 ghost use Rattle.fw_bus.specs.Stands.{IsReady, StandsFor};
 
-use crate::give::give;
+use crate::give::give_async;
 use crate::machine::Machine;
 use crate::room::Room;
 use crate::streams::Streams;
 use fw_async::{Head, Packet};
 use fw_devices::Talkers;
-use fw_entry::{CycleRoom, Entry};
+use fw_entry::CycleRoom;
 use fw_node::{cycle_time, node_id};
 use fw_outside::{Failed, Sink};
 use fw_tape::Desk;
@@ -196,7 +196,7 @@ impl Machine {
         };
         self.written += 1;
         let start = cycle_start(root, self.cycle);
-        give(self.cycle, Some(Entry::Async(start)), room, sink)?;
+        give_async(self.cycle, &start, &mut room.packet, sink)?;
         self.send_packets(talkers, &before, desk, room, sink)
     }
 

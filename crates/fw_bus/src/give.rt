@@ -1,4 +1,5 @@
 ghost use Rattle.std.specs.Prelude.{◌<◌, IfSome, Some};
+ghost use Rattle.fw_async.specs.Async.{Fits as PacketFits};
 ghost use Rattle.fw_async.specs.Reader.{IsPacket, Spells};
 ghost use Rattle.fw_async.specs.declared.packet.Packet.{Packet};
 ghost use Rattle.fw_entry.specs.declared.entry.Entry.TheVariants.{Async};
@@ -40,4 +41,19 @@ pub(crate) fn give_packet<K: Sink>(
     ensures faults { CountsFaults (K.faults sink.old) (K.faults sink.new) result }
 {
     write_async_in_place(cycle, packet, sink)
+}
+
+/// Writes the entry of a packet of this cycle, which is put together in the room.
+pub(crate) fn give_async<K: Sink>(
+    cycle: u64,
+    packet: &fw_async::Packet,
+    room: &mut PacketRoom,
+    sink: &mut K,
+) -> Result<(), Failed>
+    requires { PacketFits packet.now }
+    ensures bytes { Gives (K.held sink.old) (K.held sink.new) result cycle (Some (Async packet.now)) }
+    ensures faults { CountsFaults (K.faults sink.old) (K.faults sink.new) result }
+{
+    room.put(packet);
+    give_packet(cycle, room, sink)
 }

@@ -114,15 +114,30 @@ impl Cassette {
         requires passed { passed + 1 ≤ 2 ^ 52 }
         ensures value { result ≡ block_in self.now (passed + 1) }
     {
-        let before = self.system.blocks_due(passed);
-        if self.system.blocks_due(passed + 1) == before {
+        // Each system has an arm, so that its numbers are constants there.
+        match self.system {
+            TapeSystem::Lines525 => self.block_of(TapeSystem::Lines525, passed),
+            TapeSystem::Lines625 => self.block_of(TapeSystem::Lines625, passed),
+        }
+    }
+
+    /// The same of a tape of this system.
+    #[inline(always)]
+    fn block_of(&self, system: TapeSystem, passed: u64) -> Option<BlockPlace>
+        requires system { system ≡ self.now.system }
+        requires start { self.now.start < frames_per_day self.now.system }
+        requires passed { passed + 1 ≤ 2 ^ 52 }
+        ensures value { result ≡ block_in self.now (passed + 1) }
+    {
+        let before = system.blocks_due(passed);
+        if system.blocks_due(passed + 1) == before {
             return None;
         }
-        let per_frame = self.system.blocks_per_frame();
+        let per_frame = system.blocks_per_frame();
         let frame = u64::from(self.start) + before / per_frame;
         Some(BlockPlace {
             tape: self.tape,
-            frame: (frame % u64::from(self.system.frames_per_day())) as u32,
+            frame: (frame % u64::from(system.frames_per_day())) as u32,
             block: (before % per_frame) as u16,
         })
     }

@@ -20,18 +20,18 @@ pub cycle_start-start-requires : goal.cycle_start-start-requires
 cycle_start-start-requires g c =
     root_few _ (ready_after c.requires.ready c.in_ok-next_cycle.ensures.does) (λ s good st. sym (c.root.ensures s good st) ∙ c.in-Some.is)
 
-pub returns-in_err-give : goal.returns-in_err-give
-returns-in_err-give g c =
+pub returns-in_err-give_async : goal.returns-in_err-give_async
+returns-in_err-give_async g c =
     let begun = begins c.in-Some.root _ c.requires.ready c.requires.written c.in_ok-next_cycle.ensures.does
     (λ s good st. sym (c.root.ensures s good st) ∙ c.in-Some.is)
-    c.cycle_start-start.ensures.value c.in_err-give.ensures.bytes c.in_err-give.ensures.faults in
-    record { talkers = c.in_ok-next_cycle.ensures.talkers; does = cycle_cut (Err _) _ refl c.from_residual-in_err-give.ensures.0 begun }
+    c.cycle_start-start.ensures.value c.in_err-give_async.ensures.bytes c.in_err-give_async.ensures.faults in
+    record { talkers = c.in_ok-next_cycle.ensures.talkers; does = cycle_cut (Err _) _ refl c.from_residual-in_err-give_async.ensures.0 begun }
 
 pub send_packets-requires-clause-ready : goal.send_packets-requires-clause-ready
 send_packets-requires-clause-ready g c =
     ready_after c.requires.ready
     (begins c.in-Some.root _ c.requires.ready c.requires.written c.in_ok-next_cycle.ensures.does (λ s good st. sym (c.root.ensures s good st) ∙ c.in-Some.is)
-    c.cycle_start-start.ensures.value c.in_ok-give.ensures.bytes c.in_ok-give.ensures.faults)
+    c.cycle_start-start.ensures.value c.in_ok-give_async.ensures.bytes c.in_ok-give_async.ensures.faults)
 
 pub send_packets-requires-clause-talkers : goal.send_packets-requires-clause-talkers
 send_packets-requires-clause-talkers g c = c.in_ok-next_cycle.ensures.talkers
@@ -40,5 +40,5 @@ pub returns : goal.returns
 returns g c =
     let begun = begins c.in-Some.root _ c.requires.ready c.requires.written c.in_ok-next_cycle.ensures.does
     (λ s good st. sym (c.root.ensures s good st) ∙ c.in-Some.is)
-    c.cycle_start-start.ensures.value c.in_ok-give.ensures.bytes c.in_ok-give.ensures.faults in
+    c.cycle_start-start.ensures.value c.in_ok-give_async.ensures.bytes c.in_ok-give_async.ensures.faults in
     record { talkers = c.in_ok-next_cycle.ensures.talkers; does = cycle_then _ _ refl begun c.send_packets.ensures.does }
