@@ -1,4 +1,4 @@
-use Rattle.std.specs.Prelude.{Ok, ◌≡◌, ◌+◌, ◌≤◌, length, ℕ}
+use Rattle.std.specs.Prelude.{Ok, ◌≡◌, ◌+◌, length, ℕ}
 use Rattle.fw_outside.specs.declared.failed.Failed.{Failed}
 use Rattle.fw_run.specs.State.{numbers_to}
 use Rattle.fw_bus.specs.Doings.{Does, RoundTo}
