@@ -15,12 +15,15 @@ use Rattle.fw_bus.specs.Tables.{states_of}
 use Rattle.fw_bus.proofs.Living.{busy_same}
 
 -- such a controller is not busy
+pub not_busy : (s : State) (d : ℕ) → IsAtRest (s.controllers d) → is_busy_at s d ≡ false
+not_busy s d rests =
+    let turn : is_busy (next s.clock.cycle (directory_of s) (s.controllers d)) ≡ false = ap is_busy (rest_idles s.clock.cycle (directory_of s) (s.controllers d) rests) in
+    ap (λ (x : Current). has_request x || is_busy (next s.clock.cycle (directory_of s) (s.controllers d))) rests.no_job.current ∙ turn
+
 pub rest_busy : (m : Machine) (s : State) (d : ℕ) → StandsFor m s → IsAtRest (states_of m.controllers d) → is_busy_at s d ≡ false
 rest_busy m s d st rests =
     let same : states_of m.controllers d ≡ s.controllers d = ap (λ (c : ℕ → ControllerState). c d) st.controllers.table.states_are in
-    let here : IsAtRest (s.controllers d) = subst IsAtRest same rests in
-    let turn : is_busy (next s.clock.cycle (directory_of s) (s.controllers d)) ≡ false = ap is_busy (rest_idles s.clock.cycle (directory_of s) (s.controllers d) here) in
-    ap (λ (x : Current). has_request x || is_busy (next s.clock.cycle (directory_of s) (s.controllers d))) here.no_job.current ∙ turn
+    not_busy s d (subst IsAtRest same rests)
 
 -- its half step changes nothing, and writes nothing
 pub takes_idle : (m : Machine) (d : ℕ) → IsAtRest (states_of m.controllers d) → Takes half m m d None

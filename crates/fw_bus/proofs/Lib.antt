@@ -36,6 +36,7 @@ pub mod Idles
 pub mod StepTurns
 pub mod Times
 pub mod Rounding
+pub mod Calm
 pub mod Settles
 pub mod Renumbered
 pub mod Told

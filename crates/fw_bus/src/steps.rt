@@ -1,6 +1,7 @@
 //! Half steps, rounds of them, and what is written after a `settle`.
 
 ghost use Rattle.std.specs.Prelude.{◌≡◌, ◌≤◌, ◌<◌, ◌+◌, ◌*◌, ◌-◌, ℕ, [], ◌∷◌, IfOk, IsTrue, IsFalse, false, length, slice_index_or};
+ghost use Rattle.fw_cmp.specs.Causes.{IsAtRest};
 ghost use Rattle.fw_run.specs.Actions.{HalfStep};
 ghost use Rattle.fw_run.specs.Carrying.{times, Carries};
 ghost use Rattle.fw_run.specs.Good.{IsGood};
@@ -9,6 +10,7 @@ ghost use Rattle.fw_run.specs.State.{State};
 ghost use Rattle.fw_run.specs.declared.order.Order.TheVariants.{Settle};
 ghost use Rattle.fw_bus.specs.Doings.{Acts, Does, LooksBack, OneRound, SomeRounds};
 ghost use Rattle.fw_bus.specs.Stands.{IsReady, StandsFor, is_living_in, living_in};
+ghost use Rattle.fw_bus.specs.Tables.{states_of};
 
 use crate::entries::unsettled;
 use crate::give::give;
@@ -60,27 +62,56 @@ impl Machine {
         Ok(())
     }
 
-    /// One round: each living controller, in order of declaration, takes one half step. `living` marks those.
+    /// Where the controllers end that may have something to do: of those from there on and before `end`, each that lives has
+    /// nothing to do. `living` marks those that live.
+    fn busy_end(&self, living: &[bool; 63], end: u8) -> u8
+        requires most { end ≤ 63 }
+        requires marks { (d : ℕ) → d < end → slice_index_or living.now d false ≡ is_living_in self.now d }
+        ensures within { result ≤ end }
+        ensures calm { (d : ℕ) → result ≤ d → d < end → IsTrue (is_living_in self.now d) → IsAtRest (states_of self.now.controllers d) }
+    {
+        for passed in 0..end {
+            let last = end - 1 - passed;
+            if !living[usize::from(last)] {
+                continue;
+            }
+            if !self.controllers.is_calm(last) {
+                return last + 1;
+            }
+        }
+        0
+    }
+
+    /// One round: each living controller, in order of declaration, takes one half step. `living` marks those, and `each` is
+    /// how many they are. Those from `end` on have nothing to do, so that their half steps are only counted.
     fn round<K: Sink>(
         &mut self,
         living: &[bool; 63],
+        each: u32,
+        end: u8,
         room: &mut Room,
         sink: &mut K,
     ) -> Result<(), Failed>
         requires ready { IsReady self.old }
         requires marks { (d : ℕ) → d < length self.old.devices.names → slice_index_or living.now d false ≡ is_living_in self.old d }
+        requires each { each ≡ length (living_in self.old) }
+        requires most { end ≤ 63 }
+        requires within { end ≤ length self.old.devices.names }
+        requires calm { (d : ℕ) → end ≤ d → d < length self.old.devices.names → IsTrue (is_living_in self.old d) → IsAtRest (states_of self.old.controllers d) }
         requires few { self.old.half_steps + length (living_in self.old) ≤ 4000000 }
         ensures does { Does OneRound self.old self.new (K.held sink.old) (K.held sink.new) (K.faults sink.old) (K.faults sink.new) result }
         ensures living { (d : ℕ) → is_living_in self.new d ≡ is_living_in self.old d }
         ensures names { self.new.devices.names ≡ self.old.devices.names }
         ensures count { IfOk result (λ _. self.new.half_steps ≡ self.old.half_steps + length (living_in self.old)) }
     {
-        for device in 0..self.devices.count() {
+        let after = self.half_steps + each;
+        for device in 0..end {
             if !living[usize::from(device)] {
                 continue;
             }
             self.half_step(device, room, sink)?;
         }
+        self.half_steps = after;
         Ok(())
     }
 
@@ -101,12 +132,15 @@ impl Machine {
         ensures does { Does (SomeRounds count) self.old self.new (K.held sink.old) (K.held sink.new) (K.faults sink.old) (K.faults sink.new) result }
     {
         let living = self.living_marks();
+        let each = self.living();
+        let mut end = self.devices.count();
         for i in 0..count {
             if !self.is_unsettled() {
                 self.rest(count - i);
                 return Ok(());
             }
-            self.round(&living, room, sink)?;
+            end = self.busy_end(&living, end);
+            self.round(&living, each, end, room, sink)?;
         }
         Ok(())
     }

@@ -1,9 +1,10 @@
-use Rattle.std.proofs.Common.{refl, ℕ, slice_index_or, arith, sym, ◌∙◌, ◌≡◌, ◌+◌, length, true, false, cond, ap}
+use Rattle.std.proofs.Common.{refl, ℕ, slice_index_or, arith, sym, ◌∙◌, ◌≡◌, ◌≤◌, ◌+◌, length, true, false, cond, ap}
 use Rattle.std.specs.Prelude.{Err}
 use Rattle.fw_run.specs.State.{numbers_to}
-use Rattle.fw_bus.specs.Stands.{is_living_in}
+use Rattle.fw_bus.specs.Stands.{is_living_in, living_in}
 use Rattle.fw_bus.proofs.Doings.{ready_after}
-use Rattle.fw_bus.proofs.Rounding.{round_none, round_skips, round_then, round_cut, round_all, count_none, count_more, count_front}
+use Rattle.fw_bus.proofs.Calm.{round_rests}
+use Rattle.fw_bus.proofs.Rounding.{round_none, round_skips, round_then, round_cut, count_none, count_more, count_front}
 use Rattle.fw_bus.proofs.machine.Machine.round.Goals as goal
 
 pub half_step-requires-clause-ready : goal.half_step-requires-clause-ready
@@ -14,8 +15,8 @@ half_step-requires-clause-few g c =
     let count = c.loop-device.invariant.count in
     let few = c.requires.few in
     let within = c.loop-device-test.true in
-    let value = c.count-device-end.ensures.value in
-    let lives : is_living_in c.args.self.now c.loop-device.device ≡ true = sym (c.requires.marks c.loop-device.device (omega (arith, c.loop-device-test.true, c.count-device-end.ensures.value))) ∙ (ap (λ (i : ℕ). slice_index_or c.args.living.now i false) (sym c.from.ensures) ∙ c.if-not-living-from.false) in
+    let value = c.requires.within in
+    let lives : is_living_in c.args.self.now c.loop-device.device ≡ true = sym (c.requires.marks c.loop-device.device (omega (arith, c.loop-device-test.true, c.requires.within))) ∙ (ap (λ (i : ℕ). slice_index_or c.args.living.now i false) (sym c.from.ensures) ∙ c.if-not-living-from.false) in
     let more = count_more c.loop-device.device (is_living_in c.args.self.now) ∙ ap (λ b. length (numbers_to c.loop-device.device (is_living_in c.args.self.now)) + cond b 1 0) lives in
     let front = count_front (c.loop-device.device + 1) (length c.args.self.now.devices.names) (is_living_in c.args.self.now) (omega (arith, within, value)) in
     omega (arith, count, few, more, front)
@@ -25,20 +26,23 @@ loop-device-init g c = record { count = omega (arith, count_none (is_living_in c
 
 pub returns : goal.returns
 returns g c =
-    let value = c.count-device-end.ensures.value in
     let past = c.loop-device-test.false in
-    let within = c.loop-device.auto.device-end in
-    let all : c.loop-device.device ≡ length c.args.self.now.devices.names = omega (arith, value, past, within) in
+    let reached = c.loop-device.auto.device-end in
+    let at_end : c.loop-device.device ≡ c.args.end = omega (arith, past, reached) in
+    let size = length (living_in c.args.self.now) in
+    let after : c.args.self.now.half_steps + c.args.each ≡ c.args.self.now.half_steps + size = ap (λ n. c.args.self.now.half_steps + n) c.requires.each in
+    let few : c.args.self.now.half_steps + c.args.each ≤ 4000000 = omega (arith, after, c.requires.few) in
+    let within : c.loop-device.device ≤ length c.args.self.now.devices.names = omega (arith, at_end, c.requires.within) in
     record {
-      does = round_all _ all c.loop-device.invariant.does;
+      does = round_rests c.loop-device.device _ c.requires.ready within after few c.loop-device.invariant.living (λ d low lt lives. c.requires.calm d (omega (arith, low, at_end)) lt lives) c.loop-device.invariant.count c.loop-device.invariant.does;
       living = c.loop-device.invariant.living;
       names = c.loop-device.invariant.names;
-      count = c.loop-device.invariant.count ∙ ap (λ n. c.args.self.now.half_steps + length (numbers_to n (is_living_in c.args.self.now))) all;
+      count = after;
     }
 
 pub loop-device-preserved-then-not-living-from : goal.loop-device-preserved-then-not-living-from
 loop-device-preserved-then-not-living-from g c =
-    let off : is_living_in c.args.self.now c.loop-device.device ≡ false = sym (c.requires.marks c.loop-device.device (omega (arith, c.loop-device-test.true, c.count-device-end.ensures.value))) ∙ (ap (λ (i : ℕ). slice_index_or c.args.living.now i false) (sym c.from.ensures) ∙ c.if-not-living-from.true) in
+    let off : is_living_in c.args.self.now c.loop-device.device ≡ false = sym (c.requires.marks c.loop-device.device (omega (arith, c.loop-device-test.true, c.requires.within))) ∙ (ap (λ (i : ℕ). slice_index_or c.args.living.now i false) (sym c.from.ensures) ∙ c.if-not-living-from.true) in
     let more = count_more c.loop-device.device (is_living_in c.args.self.now) ∙ ap (λ b. length (numbers_to c.loop-device.device (is_living_in c.args.self.now)) + cond b 1 0) off in
     record {
       count = let count = c.loop-device.invariant.count in omega (arith, count, more);
@@ -49,14 +53,14 @@ loop-device-preserved-then-not-living-from g c =
 
 pub returns-in_err-half_step-clause-does : goal.returns-in_err-half_step-clause-does
 returns-in_err-half_step-clause-does g c =
-    let value = c.count-device-end.ensures.value in
+    let value = c.requires.within in
     let within = c.loop-device-test.true in
-    let lives : is_living_in c.args.self.now c.loop-device.device ≡ true = sym (c.requires.marks c.loop-device.device (omega (arith, c.loop-device-test.true, c.count-device-end.ensures.value))) ∙ (ap (λ (i : ℕ). slice_index_or c.args.living.now i false) (sym c.from.ensures) ∙ c.if-not-living-from.false) in
+    let lives : is_living_in c.args.self.now c.loop-device.device ≡ true = sym (c.requires.marks c.loop-device.device (omega (arith, c.loop-device-test.true, c.requires.within))) ∙ (ap (λ (i : ℕ). slice_index_or c.args.living.now i false) (sym c.from.ensures) ∙ c.if-not-living-from.false) in
     round_cut _ (Err _) _ (omega (arith, value, within)) lives c.requires.few refl c.from_residual.ensures.0 c.loop-device.invariant.does c.in_err-half_step.ensures.does
 
 pub loop-device-preserved : goal.loop-device-preserved
 loop-device-preserved g c =
-    let lives : is_living_in c.args.self.now c.loop-device.device ≡ true = sym (c.requires.marks c.loop-device.device (omega (arith, c.loop-device-test.true, c.count-device-end.ensures.value))) ∙ (ap (λ (i : ℕ). slice_index_or c.args.living.now i false) (sym c.from.ensures) ∙ c.if-not-living-from.false) in
+    let lives : is_living_in c.args.self.now c.loop-device.device ≡ true = sym (c.requires.marks c.loop-device.device (omega (arith, c.loop-device-test.true, c.requires.within))) ∙ (ap (λ (i : ℕ). slice_index_or c.args.living.now i false) (sym c.from.ensures) ∙ c.if-not-living-from.false) in
     let more = count_more c.loop-device.device (is_living_in c.args.self.now) ∙ ap (λ b. length (numbers_to c.loop-device.device (is_living_in c.args.self.now)) + cond b 1 0) lives in
     record {
       count = let count = c.loop-device.invariant.count in let one = c.in_ok-half_step.ensures.count in omega (arith, count, one, more);
