@@ -132,14 +132,19 @@ impl Machine {
         false
     }
 
-    /// Which controllers live.
-    pub(crate) fn living_marks(&self) -> [bool; 63]
-        ensures { (d : ℕ) → d < length self.now.devices.names → slice_index_or result d false ≡ is_living_in self.now d }
+    /// Marks which controllers live, in place of what was marked, and counts them.
+    pub(crate) fn mark_living(&self, marks: &mut [bool; 63]) -> u32
+        ensures marks { (d : ℕ) → d < length self.now.devices.names → slice_index_or marks.new d false ≡ is_living_in self.now d }
+        ensures count { result ≡ length (living_in self.now) }
     {
-        let mut marks = [false; 63];
+        let mut count = 0;
         for device in 0..self.devices.count() {
-            marks[usize::from(device)] = self.is_living(device);
+            let lives = self.is_living(device);
+            marks[usize::from(device)] = lives;
+            if lives {
+                count += 1;
+            }
         }
-        marks
+        count
     }
 }

@@ -131,8 +131,8 @@ impl Machine {
         requires few { self.old.half_steps + count * length (living_in self.old) ≤ 4000000 }
         ensures does { Does (SomeRounds count) self.old self.new (K.held sink.old) (K.held sink.new) (K.faults sink.old) (K.faults sink.new) result }
     {
-        let living = self.living_marks();
-        let each = self.living();
+        let mut living = [false; 63];
+        let each = self.mark_living(&mut living);
         let mut end = self.devices.count();
         for i in 0..count {
             if !self.is_unsettled() {

@@ -23,13 +23,13 @@ put_packet-requires-clause-room g c =
 pub loop-channel-preserved : goal.loop-channel-preserved
 loop-channel-preserved g c = elim c.match-get.branch [
   | in-Some w ↦ rw w.room-is (record {
-        puts = packets_then _ _ _ _ c.requires.talkers (sym c.get.ensures ∙ w.in-Some.is) c.loop-channel.invariant.puts w.put_packet.ensures.puts;
-        size = let more = w.put_packet.ensures.size in let size = c.loop-channel.invariant.size in omega (arith, more, size);
-      })
+    puts = packets_then _ _ _ _ c.requires.talkers (sym c.get.ensures ∙ w.in-Some.is) c.loop-channel.invariant.puts w.put_packet.ensures.puts;
+    size = let more = w.put_packet.ensures.size in let size = c.loop-channel.invariant.size in omega (arith, more, size);
+  })
   | in_default w ↦ rw w.room-is (record {
-        puts = packets_skip _ _ c.requires.talkers (sym c.get.ensures ∙ w.in_default.is) c.loop-channel.invariant.puts;
-        size = let size = c.loop-channel.invariant.size in omega (arith, size);
-      })
+    puts = packets_skip _ _ c.requires.talkers (sym c.get.ensures ∙ w.in_default.is) c.loop-channel.invariant.puts;
+    size = let size = c.loop-channel.invariant.size in omega (arith, size);
+  })
 ]
 
 pub returns : goal.returns

@@ -26,11 +26,11 @@ round-requires-clause-few g c =
 pub round-requires-clause-marks : goal.round-requires-clause-marks
 round-requires-clause-marks g c = λ d lt.
     let names = ap (λ (z : List (List ℕ)). length z) c.loop-i.invariant.names in
-    c.living_marks-living.ensures d (omega (arith, lt, names)) ∙ sym (c.loop-i.invariant.living d)
+    c.mark_living-each.ensures.marks d (omega (arith, lt, names)) ∙ sym (c.loop-i.invariant.living d)
 
 pub round-requires-clause-each : goal.round-requires-clause-each
 round-requires-clause-each g c =
-    c.living-each.ensures.count ∙ sym (ap (λ (z : List ℕ). length z) (living_kept c.args.self.now c.loop-i.self c.loop-i.invariant.names c.loop-i.invariant.living))
+    c.mark_living-each.ensures.count ∙ sym (ap (λ (z : List ℕ). length z) (living_kept c.args.self.now c.loop-i.self c.loop-i.invariant.names c.loop-i.invariant.living))
 
 pub round-requires-clause-within : goal.round-requires-clause-within
 round-requires-clause-within g c =
@@ -48,7 +48,7 @@ busy_end-end-requires-clause-most g c = c.loop-i.invariant.most
 
 pub busy_end-end-requires-clause-marks : goal.busy_end-end-requires-clause-marks
 busy_end-end-requires-clause-marks g c = λ d lt.
-    c.living_marks-living.ensures d (omega (arith, lt, c.loop-i.invariant.within)) ∙ sym (c.loop-i.invariant.living d)
+    c.mark_living-each.ensures.marks d (omega (arith, lt, c.loop-i.invariant.within)) ∙ sym (c.loop-i.invariant.living d)
 
 pub loop-i-init : goal.loop-i-init
 loop-i-init g c = record {
