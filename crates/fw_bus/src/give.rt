@@ -9,7 +9,7 @@ ghost use Rattle.fw_run.specs.Giving.{Gives};
 
 use crate::room::Room;
 use fw_async::PacketRoom;
-use fw_entry::{Entry, Timed, write_async_in_place, write_entry};
+use fw_entry::{Entry, Timed, write_async, write_entry};
 use fw_outside::{Failed, Sink};
 
 /// Writes an entry of this cycle, where there is one.
@@ -40,7 +40,7 @@ pub(crate) fn give_packet<K: Sink>(
     ensures bytes { (p : Packet) → Spells p packet.old → Gives (K.held sink.old) (K.held sink.new) result cycle (Some (Async p)) }
     ensures faults { CountsFaults (K.faults sink.old) (K.faults sink.new) result }
 {
-    write_async_in_place(cycle, packet, sink)
+    write_async(cycle, packet, sink)
 }
 
 /// Writes the entry of a packet of this cycle, which is put together in the room.

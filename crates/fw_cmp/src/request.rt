@@ -60,17 +60,8 @@ impl Access {
 
 impl Job {
     /// What a stage asks; None where it makes no request.
-    pub fn access(&self, stage: Stage) -> Option<Access>
-        requires job { JobFits self.now }
-        requires fits { StageFits self.now stage }
-        ensures { result ≡ access_of self.now stage }
-    {
-        self.access_at(&stage)
-    }
-
-    /// What a stage that is only looked at asks.
     #[inline(always)]
-    pub(crate) fn access_at(&self, stage: &Stage) -> Option<Access>
+    pub(crate) fn access(&self, stage: &Stage) -> Option<Access>
         requires job { JobFits self.now }
         requires fits { StageFits self.now stage.now }
         ensures { result ≡ access_of self.now stage.now }

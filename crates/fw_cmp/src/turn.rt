@@ -130,17 +130,6 @@ impl Controller {
         matches!(self.current, Current::Hearing(..))
     }
 
-    /// What the request that stands asks, of which register. None exactly where none stands.
-    pub fn standing(&self) -> Option<Access>
-        ensures access { result ≡ standing_in self.now.current }
-        ensures target { IfSome result (λ a. TargetFits a.target) }
-    {
-        match &self.current {
-            Current::Hearing(job, stage) => job.access_at(stage),
-            _ => None,
-        }
-    }
-
     /// Whether the controller has something to do: a request stands, or `next` would be neither Idle nor Waiting.
     pub fn busy(&self, now: u64, directory: &Directory) -> bool
         ensures heard { IsHeard self.now.current → result ≡ is_busy (next now directory.now self.now) }
@@ -209,7 +198,7 @@ impl Controller {
     {
         match &self.current {
             Current::Nothing => self.rest(directory),
-            Current::Asking(job, stage) => match job.access_at(stage) {
+            Current::Asking(job, stage) => match job.access(stage) {
                 Some(access) => {
                     self.current = Current::Hearing(*job, *stage);
                     send(directory, access)

@@ -15,4 +15,4 @@ mod write_body;
 pub use entry::{BorrowedReset, Entry, EventEntry, OutcomeEntry, ResetEntry, ShownEntry, Timed};
 pub use nodes::{NodeList, NodeRow};
 pub use room::{CycleRoom, EntryRoom};
-pub use write::{body_of, write_async, write_async_in_place, write_entry, write_header};
+pub use write::{body_of, write_async, write_entry, write_header};

@@ -72,15 +72,6 @@ fn put_entry(t: &Timed, out: &mut EntryBytes)
     put_body(&t.what, out);
 }
 
-// The entry of a packet with these bytes, in place of what was there.
-fn put_packet(cycle: u64, packet: &[u8], out: &mut EntryBytes)
-    requires { IsPacket packet.now }
-    ensures { out.new ≡ entry_head 2 (length packet.now / 4) cycle ++ packet.now }
-{
-    put_head(kind::ASYNC, (packet.len() / 4) as u16, cycle, out);
-    out.append(packet);
-}
-
 /// Appends an entry, in one write. An error says that the sink failed; a front of the entry may have been written
 /// then. The room is used for it, whatever an earlier entry left there.
 pub fn write_entry<K: Sink>(t: &Timed, room: &mut EntryRoom, sink: &mut K) -> Result<(), Failed>
@@ -93,29 +84,10 @@ pub fn write_entry<K: Sink>(t: &Timed, room: &mut EntryRoom, sink: &mut K) -> Re
     sink.write(room.bytes.as_slice())
 }
 
-/// Appends the entry of an asynchronous packet whose bytes are at hand, in one write, so that they are not made again.
-/// An error says that the sink failed; a front of the entry may have been written then.
-pub fn write_async<K: Sink>(
-    cycle: u64,
-    packet: &[u8],
-    room: &mut EntryRoom,
-    sink: &mut K,
-) -> Result<(), Failed>
-    requires { IsPacket packet.now }
-    ensures bytes { (p : Packet) → Spells p packet.now → Writes (K.held sink.old) (K.held sink.new) result (entry_bytes (record { cycle = cycle; what = Async p })) }
-    ensures cause { HasCause (K.faults sink.old) (K.faults sink.new) result }
-    ensures same { OnOk result (K.faults sink.new ≡ K.faults sink.old) }
-{
-    put_packet(cycle, packet, &mut room.bytes);
-    sink.write(room.bytes.as_slice())
-}
-
-/// The same of a packet in a room, of which no byte is copied. What the room has then does not matter.
-pub fn write_async_in_place<K: Sink>(
-    cycle: u64,
-    packet: &mut PacketRoom,
-    sink: &mut K,
-) -> Result<(), Failed>
+/// Appends the entry of an asynchronous packet, in one write, behind whose head the packet stands in its room, so that no byte of
+/// it is copied. An error says that the sink failed; a front of the entry may have been written then. What the room has then does
+/// not matter.
+pub fn write_async<K: Sink>(cycle: u64, packet: &mut PacketRoom, sink: &mut K) -> Result<(), Failed>
     requires { IsPacket packet.old }
     ensures bytes { (p : Packet) → Spells p packet.old → Writes (K.held sink.old) (K.held sink.new) result (entry_bytes (record { cycle = cycle; what = Async p })) }
     ensures cause { HasCause (K.faults sink.old) (K.faults sink.new) result }

@@ -3,17 +3,17 @@
 ghost use Rattle.std.specs.Prelude.{◌≡◌, ◌≤◌, ℕ, Some, None, IsSome, IsTrue};
 ghost use Rattle.fw_async.specs.Async.{Fits};
 ghost use Rattle.fw_async.specs.Quadlets.{request_packet};
-ghost use Rattle.fw_async.specs.Reader.{Spells, IsPacket};
+ghost use Rattle.fw_async.specs.Reader.{Spells};
 ghost use Rattle.fw_async.specs.declared.packet.Packet.{Packet as AsyncPacket};
 ghost use Rattle.fw_base.specs.Devices.{has_link};
 ghost use Rattle.fw_tape.specs.Desks.{AnyVendorByte};
 ghost use Rattle.fw_node.specs.Fcp.{HasFollowed};
-ghost use Rattle.fw_node.specs.Packets.{IsAnswer, IsRequest, IsServed, reply_in, request_in, requester};
+ghost use Rattle.fw_node.specs.Packets.{IsAnswer, IsRequest, IsServed, request_in, requester};
 ghost use Rattle.fw_node.specs.State.{after_request, space_of};
 
 use crate::Node;
 use crate::request::{asked_of, request_of};
-use crate::response::{put_reply, reply_in, response};
+use crate::response::{put_reply, response};
 use arrayvec::ArrayVec;
 use fw_async::{
     Packet, PacketRoom, QuadletRequest, quadlet_request_at, whole_packet, write_packet,
@@ -92,25 +92,4 @@ impl Node {
         out.put(&response(number, p, reply));
         reply
     }
-
-    /// `carry_out` from bytes to bytes: nothing follows from a write to FCP_COMMAND but its response.
-    pub fn take_at_registers(&mut self, now: u64, bytes: &[u8], out: &mut ArrayVec<u8, 528>)
-        requires request { IsRequest bytes.now }
-        requires link { IsTrue (has_link self.old.kind) }
-        requires reset { IsSome self.old.number }
-        ensures response { (p : AsyncPacket) → Spells p bytes.now → (number : ℕ) → self.old.number ≡ Some number → IsAnswer (space_of number now self.old) p out.new.items }
-        ensures registers { (p : AsyncPacket) → Spells p bytes.now → self.new ≡ after_request (request_in p) self.old }
-    {
-        let response = self.carry_out(now, &whole_packet(bytes));
-        write_packet(&response, out);
-    }
-}
-
-/// The reply that the bytes of a response packet carry, with its response code. None where the packet is no response, or carries
-/// other data than a quadlet.
-pub fn reply_at(bytes: &[u8]) -> Option<Reply>
-    requires { IsPacket bytes.now }
-    ensures { (p : AsyncPacket) → Spells p bytes.now → result ≡ reply_in p }
-{
-    reply_in(&whole_packet(bytes))
 }

@@ -10,7 +10,6 @@ mod request;
 mod response;
 mod waiting;
 
-pub use bytes::reply_at;
 pub use laws::{nodes_answer_as_their_spaces, packets_carry_what_they_are_made_of};
 pub use node::Node;
 pub use offset::{cycle_time, node_id};

@@ -41,21 +41,8 @@ impl Devices {
         self.nodes[usize::from(device)].carry_out(now, packet)
     }
 
-    /// Carries the request packet that these bytes are to the node of a device out in cycle `now`, and writes the response's bytes
-    /// in place of what `out` held (`fw_node::Node::take_at_registers`).
-    pub fn take(&mut self, device: u8, now: u64, bytes: &[u8], out: &mut ArrayVec<u8, 528>)
-        requires request { IsRequest bytes.now }
-        requires declared { device < length self.old.nodes }
-        requires number { IsSome (node_at self.old.nodes device).number }
-        requires link { IsTrue (has_link (node_at self.old.nodes device).kind) }
-        ensures response { (p : RequestPacket) → Spells p bytes.now → (number : ℕ) → (node_at self.old.nodes device).number ≡ Some number
-            → IsAnswer (space_of number now (node_at self.old.nodes device)) p out.new.items }
-        ensures registers { (p : RequestPacket) → Spells p bytes.now → self.new ≡ record self.old { nodes = slice_set self.old.nodes device (after_request (request_in p) (node_at self.old.nodes device)) } }
-    {
-        self.nodes[usize::from(device)].take_at_registers(now, bytes, out);
-    }
-
-    /// The same, with the reply that the response carries beside its bytes, which are put into `out` (`fw_node::Node::serve`).
+    /// Carries the request packet that these bytes are to the node of a device out in cycle `now`, puts the response's bytes in place
+    /// of what `out` held, and answers the reply that it carries (`fw_node::Node::serve`).
     #[inline(always)]
     pub fn serve(&mut self, device: u8, now: u64, bytes: &[u8], out: &mut PacketRoom) -> Reply
         requires request { IsRequest bytes.now }

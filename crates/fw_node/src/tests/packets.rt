@@ -7,7 +7,7 @@ ghost use Rattle.fw_base.specs.Devices.{has_link};
 use super::requests::{NOW, node_of};
 use crate::Node;
 use arrayvec::ArrayVec;
-use fw_async::{Packet, read_packet};
+use fw_async::{Packet, PacketRoom, read_packet};
 use fw_base::DeviceKind;
 use fw_words::{Quadlet, put_quadlet};
 use std::process::Abort;
@@ -44,9 +44,9 @@ fn exchange(rt: &impl Abort, node: &mut Node, request: &[u32], response: &[u32])
         None => panic!(rt; "no packet"),
     };
     assert!(rt; matches!(p, Packet::ReadQuadlet { .. } | Packet::Lock { .. }));
-    let mut bytes = ArrayVec::new();
-    node.take_at_registers(NOW, request.as_slice(), &mut bytes);
-    assert_eq!(rt; bytes.as_slice(), bytes_of(response).as_slice());
+    let mut room = PacketRoom::new();
+    let _reply = node.serve(NOW, request.as_slice(), &mut room);
+    assert_eq!(rt; room.as_slice(), bytes_of(response).as_slice());
 }
 
 #[test]
