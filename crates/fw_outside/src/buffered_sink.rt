@@ -34,6 +34,8 @@ impl<W: Write> BufferedSink<W> {
 
     /// Passes on what is kept back, here and by the writer. Where it fails, some of it may not have been passed on.
     pub fn flush(&mut self) -> Result<(), Failed>
+        ensures passed { OnOk result (Appends (W.contents self.old.inner.inner) (W.contents self.new.inner.inner) (take self.old.length self.old.bytes)) }
+        ensures empty { OnOk result (self.new.length ≡ 0) }
         ensures same { OnOk result (self.new.inner.faults ≡ self.old.inner.faults) }
         ensures risen { OnErr result (self.new.inner.faults ≡ counted self.old.inner.faults) }
     {
