@@ -90,8 +90,8 @@ impl Machine {
         Some(self.devices.latest().get().root)
     }
 
-    /// The output plug of a device, which talks on this channel, sends its packet of the cycle: a block where its tape gives one, else
-    /// an empty one. `before` has the counts before the cycle.
+    /// Puts the packet of the cycle of a device's output plug, which talks on this channel, into the room: with a block where its tape
+    /// gives one, else an empty one. `before` has the counts before the cycle.
     #[inline(always)]
     fn put_packet<F: Fn(u16, u32, u16) -> [u8; 480], H: Fn(u32, u8) -> u8>(
         &self,

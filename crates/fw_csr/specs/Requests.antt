@@ -23,6 +23,7 @@ abbrev pub swap_in : Request → Option Swap
 swap_in (Lock offset function bytes) = quadlet_swap function bytes
 swap_in _ = None
 
+-- the eight bytes of a quadlet compare_swap: its argument, and the new value behind it
 abbrev pub swap_bytes : Swap → List ℕ
 swap_bytes s = to_be_bytes w32 s.argument ++ to_be_bytes w32 s.new
 

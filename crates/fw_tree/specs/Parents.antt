@@ -29,7 +29,7 @@ staying [] = 0
 staying (true ∷ xs) = staying xs + 1
 staying (false ∷ xs) = staying xs
 
--- where the device leaves in the round it is due in it
+-- a device that leaves in a round is marked as due in it
 abbrev pub IsDue : Peers → List Bool → List Bool → ℕ → Type 0
 IsDue g now due d = is_seen now d ≡ true → open_count g (is_seen now) d ≡ 1 → is_seen due d ≡ true
 
