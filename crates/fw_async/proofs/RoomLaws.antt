@@ -1,17 +1,17 @@
--- The bytes of a packet in its room, behind twelve others.
+-- The bytes of a packet in its room, behind sixteen others.
 use Rattle.std.proofs.Common.{◌≡◌, ℕ, ◌+◌, ◌≤◌, List, ◌++◌, length, take, drop, arith, ap, sym, ◌∙◌}
 use Rattle.std.proofs.Math.Seq.{take-take}
 use Rattle.std.proofs.lemmas.List.{drop-take, drop-append-le, length-take-le, length-drop}
 
 -- more bytes stand behind those that were there
-pub appended : (n : ℕ) (old now more : List ℕ) → 12 + n ≤ length old → take (12 + n + length more) now ≡ take (12 + n) old ++ more
-    → take (n + length more) (drop 12 now) ≡ take n (drop 12 old) ++ more
+pub appended : (n : ℕ) (old now more : List ℕ) → 16 + n ≤ length old → take (16 + n + length more) now ≡ take (16 + n) old ++ more
+    → take (n + length more) (drop 16 now) ≡ take n (drop 16 old) ++ more
 appended n old now more within e =
-    let all : 12 + (n + length more) ≡ 12 + n + length more = omega arith in
-    let front : 12 ≤ length (take (12 + n) old) = omega (arith, length-take-le (12 + n) old within) in
-    sym (drop-take 12 (n + length more) now)
-    ∙ (ap (drop 12) (ap (λ k. take k now) all ∙ e)
-    ∙ (drop-append-le 12 (take (12 + n) old) more front ∙ ap (λ t. t ++ more) (drop-take 12 n old)))
+    let all : 16 + (n + length more) ≡ 16 + n + length more = omega arith in
+    let front : 16 ≤ length (take (16 + n) old) = omega (arith, length-take-le (16 + n) old within) in
+    sym (drop-take 16 (n + length more) now)
+    ∙ (ap (drop 16) (ap (λ k. take k now) all ∙ e)
+    ∙ (drop-append-le 16 (take (16 + n) old) more front ∙ ap (λ t. t ++ more) (drop-take 16 n old)))
 
 -- the first of those that are copied
 pub copied : (n m : ℕ) (from to : List ℕ) → n ≤ m → m ≤ length from → take (length (take m from)) to ≡ take m from → take n to ≡ take n from
@@ -19,5 +19,5 @@ copied n m from to few within e =
     let size : length (take m from) ≡ m = length-take-le m from within in
     sym (take-take n m to few) ∙ (ap (take n) (ap (λ k. take k to) (sym size) ∙ e) ∙ take-take n m from few)
 
-pub stood : (n : ℕ) (bytes : List ℕ) → 12 + n ≤ length bytes → length (take n (drop 12 bytes)) ≡ n
-stood n bytes within = length-take-le n (drop 12 bytes) (omega (arith, length-drop 12 bytes))
+pub stood : (n : ℕ) (bytes : List ℕ) → 16 + n ≤ length bytes → length (take n (drop 16 bytes)) ≡ n
+stood n bytes within = length-take-le n (drop 16 bytes) (omega (arith, length-drop 16 bytes))

@@ -20,8 +20,6 @@ mod reader;
 mod room;
 mod senders;
 mod tcode;
-#[cfg(test)]
-mod tests;
 mod wire;
 mod write;
 mod writer;

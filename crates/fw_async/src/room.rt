@@ -13,15 +13,15 @@ use fw_words::{Quadlet, put_quadlet};
 use std::marker::Model;
 
 /// How many bytes stand in front of a packet.
-const FRONT: usize = 12;
+const FRONT: usize = 16;
 
 /// How many bytes the request and the response of a transaction of one quadlet have at most, and some more.
 const SHORT: usize = 32;
 
 /// How many bytes stand in front of a packet, and in the longest one.
-const ALL: usize = 540;
+const ALL: usize = 544;
 
-/// Room for the bytes of one packet. It is made once and used again for each. The twelve bytes in front of the packet are
+/// Room for the bytes of one packet. It is made once and used again for each. The sixteen bytes in front of the packet are
 /// those of `behind`, so that a packet that something stands before, as in an entry of a log, is not copied for it.
 #[derive(Drop)]
 pub struct PacketRoom {
@@ -35,7 +35,7 @@ impl Model for PacketRoom {
 
     ghost Value = { List ℕ };
 
-    ghost view = { λ r. take r.length (drop 12 r.bytes) };
+    ghost view = { λ r. take r.length (drop 16 r.bytes) };
 
     ghost invariant = { λ r. r.length ≤ 528 };
 }
@@ -74,8 +74,8 @@ impl PacketRoom {
         self.length
     }
 
-    /// The packet's bytes behind twelve others. What the room has then does not matter.
-    pub fn behind<'a>(&'a mut self, front: [u8; 12]) -> &'a [u8]
+    /// The packet's bytes behind sixteen others. What the room has then does not matter.
+    pub fn behind<'a>(&'a mut self, front: [u8; 16]) -> &'a [u8]
         ensures { result.now ≡ front ++ self.old }
     {
         self.bytes[..FRONT].copy_from_slice(&front);
@@ -148,7 +148,7 @@ impl PacketRoom {
 
 // Writes over the bytes from `at` on.
 fn write_over(out: &mut [u8; ALL], at: usize, more: &[u8])
-    requires { at + length more.now ≤ 540 }
+    requires { at + length more.now ≤ 544 }
     ensures { take (at + length more.now) out.new ≡ take at out.old ++ more.now }
 {
     out[at..at + more.len()].copy_from_slice(more);

@@ -13,6 +13,3 @@ pub use laws::{frames_change_what_they_command, notices_tell_the_first_change};
 pub use notify::{Kept, Watched};
 pub use row::UnitRow;
 pub use unit::Unit;
-
-#[cfg(test)]
-mod tests;

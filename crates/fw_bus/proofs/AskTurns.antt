@@ -66,7 +66,7 @@ answered_stands m s x g st to free = record {
     epoch = st.devices.epoch;
     manager = st.devices.manager;
   };
-  clock = record { cycle = st.clock.cycle; reclaiming = st.clock.reclaiming; half_steps = st.clock.half_steps; written = st.clock.written };
+  clock = record { cycle = st.clock.cycle; reclaiming = st.clock.reclaiming; half_steps = st.clock.half_steps; written = st.clock.written; resets = st.clock.resets };
   controllers = record { table = st.controllers.table; directory = st.controllers.directory };
   wire = record { each = st.wire.each };
   streams = record { size = st.streams.size; each = st.streams.each };

@@ -10,7 +10,7 @@ use Rattle.fw_tree.specs.Cables.{here, IsOnBus}
 use Rattle.fw_tree.specs.Topology.{Topology}
 use Rattle.fw_ledger.specs.Account.{Account}
 use Rattle.fw_node.specs.State.{NodeState}
-use Rattle.fw_cmp.specs.Resets.{after_reset as controller_reset}
+use Rattle.fw_cmp.specs.Losses.{after_bus_reset as controller_reset}
 use Rattle.fw_devices.specs.Network.{kinds_of, is_node}
 use Rattle.fw_devices.specs.Entries.{IsResetEntry}
 use Rattle.fw_devices.specs.Resets.{Shows}
@@ -32,6 +32,8 @@ use Rattle.fw_bus.proofs.Lingers.{lingering_reset}
 use Rattle.fw_bus.proofs.Nodes.{number_of_node}
 use Rattle.fw_bus.proofs.Renumbered.{Extends, nodes_reset, kinds_reset, stays_on}
 use Rattle.fw_bus.proofs.Counts.{streams_same}
+use Rattle.fw_run.specs.Truth.{controller_at}
+use Rattle.fw_run.proofs.Apart.{all_reset}
 use Rattle.fw_bus.proofs.Told.{linked_shown}
 
 -- ---- device 0 is a node from the first bus reset on
@@ -131,14 +133,14 @@ directory_now m now good s i may b =
 
 -- each controller hears of it
 pub table_now : (m now : Machine) (s : State) (i : ℕ) → StandsFor m s → BeginsReset m now i
-    → IsTable now.controllers (length s.declared.names) (λ d. controller_reset now.devices.latest.epoch (s.controllers d)) s.dead
+    → IsTable now.controllers (length s.declared.names) (λ d. controller_at (after_reset_entry s now.devices.latest) d) s.dead
 table_now m now s i st b =
     let table = st.controllers.table in
     let states = table.states_are in
     let epoch = b.reset.epoch ∙ sym b.reset.entry.epoch_is in
     record {
       count_is = b.table.count_is ∙ table.count_is;
-      states_are = b.table.states_are ∙ (λ j d. controller_reset (epoch j) (states j d));
+      states_are = b.table.states_are ∙ ((λ j d. controller_reset (epoch j) (states j d)) ∙ sym (all_reset s now.devices.latest));
       dead_are = b.table.dead_are ∙ table.dead_are;
     }
 

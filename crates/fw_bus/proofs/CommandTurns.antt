@@ -8,7 +8,8 @@ use Rattle.fw_outside.specs.Outside.{Grows}
 use Rattle.fw_outside.proofs.Parts.{Grows-Grows}
 use Rattle.fw_async.specs.Async.{Fits}
 use Rattle.fw_async.specs.declared.packet.Packet.{Packet}
-use Rattle.fw_entry.specs.Log.{entry_bytes}
+use Rattle.fw_entry.specs.Log.{epoch_after, entry_bytes}
+use Rattle.fw_entry.specs.declared.version.Version.TheVariants.{Two}
 use Rattle.fw_entry.specs.declared.entry.Entry.{Entry}
 use Rattle.fw_entry.specs.declared.entry.Entry.TheVariants.{Async}
 use Rattle.fw_entry.specs.declared.entry.Timed.{Timed}
@@ -28,7 +29,7 @@ use Rattle.fw_run.specs.Given.{IsGiven}
 use Rattle.fw_run.specs.Giving.{at_cycle, at_most, Gives}
 use Rattle.fw_run.specs.Good.{IsGood}
 use Rattle.fw_run.specs.Spaces.{script_head}
-use Rattle.fw_run.specs.State.{State, has_deck, is_linked, is_living}
+use Rattle.fw_run.specs.State.{State, epoch_of, has_deck, is_linked, is_living}
 use Rattle.fw_run.specs.Units.{HasDeck}
 use Rattle.fw_run.proofs.Commands.{follows_in_run}
 use Rattle.fw_run.proofs.FrameWrites.{fits_write, write_by}
@@ -43,7 +44,7 @@ use Rattle.fw_bus.specs.Faults.{CountsFaults}
 use Rattle.fw_bus.specs.Framing.{CarriesBy, Commands, IsWrite}
 use Rattle.fw_bus.specs.Stands.{HasDecks, StandsFor, is_linked_in, is_living_in}
 use Rattle.fw_bus.proofs.DeckNodes.{decks_set}
-use Rattle.fw_bus.proofs.Doings.{Follows, GoesOn, does_as, does_cut, faults_then, one_step, talk_steps}
+use Rattle.fw_bus.proofs.Doings.{IsNoReset, two_epoch, two_grew, two_front, Follows, GoesOn, does_as, does_cut, faults_then, one_step, talk_steps}
 use Rattle.fw_bus.proofs.Exchanges.{asks_request}
 use Rattle.fw_bus.proofs.FrameNodes.{KeepsRegisters, with_node, with_decks, deck_stands, answers_request, written_stands}
 use Rattle.fw_bus.proofs.Living.{linked_same, living_same}
@@ -60,9 +61,9 @@ abbrev pub Exchanged : (State → Action → Action → Type 0) → State → Li
 Exchanged P s ys out t = (x y : Action) × P s x y × (ys ≡ x ∷ y ∷ []) × Steps s (x ∷ y ∷ []) out t
 
 pub does_exchanged : {T E U F : Type 0} {P : State → Action → Action → Type 0} {m now : Machine} {held after : Option (List ℕ)} {k l n : ℕ} {u : T} (mid : Option (List ℕ)) (cycle : ℕ) (e f : Entry) (r : Result U F)
-    → Exchanges P m now cycle e f → Gives {T = T} {E = E} held mid (Ok u) cycle (Some e) → CountsFaults {T = T} {E = E} k l (Ok u) → Gives mid after r cycle (Some f) → CountsFaults l n r
+    → Exchanges P m now cycle e f → IsNoReset e → IsNoReset f → Gives {T = T} {E = E} held mid (Ok u) cycle now.devices.epoch (Some e) → CountsFaults {T = T} {E = E} k l (Ok u) → Gives mid after r cycle now.devices.epoch (Some f) → CountsFaults l n r
     → Does (Exchanged P) m now held after k n r
-does_exchanged {held = held} {after} {k} {l} {n} mid cycle e f (Ok w) talk gives faults given also = record {
+does_exchanged {now = now} {held = held} {after} {k} {l} {n} mid cycle e f (Ok w) talk plain other gives faults given also = record {
   faults = faults_then k l n (Ok w) faults.same also;
   shown = λ s g st. let z = talk.shown s g st in let both = talk_steps s z.3 z.4 z.0 z.1 cycle e f z.5 z.6 in record {
     actions = z.0 ∷ z.1 ∷ [];
@@ -71,11 +72,10 @@ does_exchanged {held = held} {after} {k} {l} {n} mid cycle e f (Ok w) talk gives
     whole = (z.0, z.1, z.2, refl, both);
     steps = both;
     stands = z.7;
-    grew = subst (λ x. Grows held after (entry_bytes (at_cycle cycle e) ++ x)) (sym (append-nil (entry_bytes (at_cycle cycle f))))
-        (Grows-Grows held mid after (entry_bytes (at_cycle cycle e)) (entry_bytes (at_cycle cycle f)) gives given);
+    grew = two_grew s now.devices.epoch cycle e f held mid after (two_epoch now s z.3 z.4 z.0 z.1 cycle e f g z.5 z.6 z.7 plain other) plain other gives given;
   };
 }
-does_exchanged {held = held} {after} {k} {l} {n} mid cycle e f (Err w) talk gives faults given also = record {
+does_exchanged {now = now} {held = held} {after} {k} {l} {n} mid cycle e f (Err w) talk plain other gives faults given also = record {
   faults = faults_then k l n (Err w) faults.same also;
   shown = λ s g st. let z = talk.shown s g st in let both = talk_steps s z.3 z.4 z.0 z.1 cycle e f z.5 z.6 in record {
     done = z.0 ∷ z.1 ∷ [];
@@ -90,18 +90,17 @@ does_exchanged {held = held} {after} {k} {l} {n} mid cycle e f (Err w) talk give
     steps = both;
     front = given.front;
     rest = given.rest;
-    parts = given.parts;
-    appended = subst (λ x. Grows held after (x ++ given.front)) (sym (append-nil (entry_bytes (at_cycle cycle e))))
-        (Grows-Grows held mid after (entry_bytes (at_cycle cycle e)) given.front gives given.appended);
+    parts = ap (λ (n : ℕ). entry_bytes Two (epoch_after n f) (at_cycle cycle f)) (plain (epoch_of s.account.latest) ∙ sym (two_epoch now s z.3 z.4 z.0 z.1 cycle e f g z.5 z.6 z.7 plain other)) ∙ given.parts;
+    appended = two_front s now.devices.epoch cycle e given.front held mid after (two_epoch now s z.3 z.4 z.0 z.1 cycle e f g z.5 z.6 z.7 plain other) gives given.appended;
   };
 }
 
 -- the first was cut off
 pub does_unexchanged : {U F V G : Type 0} {P : State → Action → Action → Type 0} {m now : Machine} {held after : Option (List ℕ)} {k l : ℕ} (cycle : ℕ) (e f : Entry) (q : Result U F) (r : Result V G)
-    → Exchanges P m now cycle e f → IsErr q → IsErr r → Gives held after q cycle (Some e) → CountsFaults k l q → Does (Exchanged P) m now held after k l r
-does_unexchanged cycle e f (Ok u) r talk is was gives faults = let no : ⊥ = grind (arith, is) in absurd no
-does_unexchanged cycle e f (Err w) (Ok v) talk is was gives faults = let no : ⊥ = grind (arith, was) in absurd no
-does_unexchanged cycle e f (Err w) (Err v) talk is was gives faults = record {
+    → Exchanges P m now cycle e f → IsNoReset e → IsNoReset f → IsErr q → IsErr r → Gives held after q cycle now.devices.epoch (Some e) → CountsFaults k l q → Does (Exchanged P) m now held after k l r
+does_unexchanged cycle e f (Ok u) r talk plain other is was gives faults = let no : ⊥ = grind (arith, is) in absurd no
+does_unexchanged cycle e f (Err w) (Ok v) talk plain other is was gives faults = let no : ⊥ = grind (arith, was) in absurd no
+does_unexchanged {now = now} cycle e f (Err w) (Err v) talk plain other is was gives faults = record {
   faults = record { cause = record { later = faults.cause.later; failed = faults.cause.failed }; same = tt };
   shown = λ s g st. let z = talk.shown s g st in let both = talk_steps s z.3 z.4 z.0 z.1 cycle e f z.5 z.6 in record {
     done = z.0 ∷ [];
@@ -116,7 +115,7 @@ does_unexchanged cycle e f (Err w) (Err v) talk is was gives faults = record {
     steps = one_step s z.3 z.0 (at_cycle cycle e ∷ []) z.5;
     front = gives.front;
     rest = gives.rest;
-    parts = gives.parts;
+    parts = ap (λ (n : ℕ). entry_bytes Two (epoch_after n e) (at_cycle cycle e)) (sym (two_epoch now s z.3 z.4 z.0 z.1 cycle e f g z.5 z.6 z.7 plain other)) ∙ gives.parts;
     appended = gives.appended;
   };
 }

@@ -1,5 +1,5 @@
 -- A command that asks a controller for a connection is decided by whether the controller lives, and by what it answers.
-use Rattle.std.proofs.Common.{◌≡◌, ℕ, ◌<◌, ◌≤◌, List, length, Some, Ok, Err, IsTrue, IsFalse, inl, inr, refl, ap, sym, subst, ◌∙◌, arith}
+use Rattle.std.proofs.Common.{◌≡◌, ℕ, ◌<◌, ◌≤◌, List, [], ◌∷◌, length, Option, None, Some, Ok, Err, IsTrue, IsFalse, inl, inr, refl, ap, sym, subst, ◌∙◌, arith}
 use Rattle.std.specs.Prelude.{⊤, IsOk}
 use Rattle.std.specs.declared.result.Result.{Result}
 use Rattle.fw_base.specs.declared.plug.PlugAt.{PlugAt}
@@ -24,7 +24,11 @@ use Rattle.fw_bus.specs.Orders.{ConnectionDecided, rule_of}
 use Rattle.fw_bus.specs.Stands.{IsReady, StandsFor, is_living_in}
 use Rattle.fw_bus.specs.Tables.{states_of}
 use Rattle.fw_bus.proofs.Living.{living_same}
-use Rattle.fw_bus.proofs.FirstBroken.{AreKnown, all_known, is_another, is_so}
+use Rattle.fw_cmp.specs.Losses.{Listening}
+use Rattle.fw_cmp.specs.Starts.{break_fault}
+use Rattle.fw_run.proofs.Truth.{breaks_as, start_same}
+use Rattle.fw_bus.proofs.Heard.{at_same}
+use Rattle.fw_bus.proofs.FirstBroken.{AreKnown, all_known, is_another, is_so, one_name}
 
 -- the command asks for a connection
 abbrev pub IsAsking : Command → Type 0
@@ -124,7 +128,7 @@ refusal_breaks s c Refusals.NotOwnPlug h = h
 
 -- ---- what is decided
 
-later_rule : (f : StartFault) → 9 ≤ rank (rule_of f)
+later_rule : (f : StartFault) → 10 ≤ rank (rule_of f)
 later_rule Refusals.TableFull = omega arith
 later_rule Refusals.Busy = omega arith
 later_rule Refusals.NoSuchConnection = omega arith
@@ -159,14 +163,72 @@ connection_decided m s c d w r g st a h = go r h
     lives : is_living_in m d ≡ is_living s d
     lives = living_same m s d g st
 
-    answers : (o : Result ℕ StartFault) → start_of d w (states_of m.controllers d) ≡ o → start_of d w (s.controllers d) ≡ o
-    answers o e = sym (ap (λ states. start_of d w (states d)) st.controllers.table.states_are) ∙ e
+    same : start_of d w (states_of m.controllers d).state ≡ start_of d w (s.controllers d)
+    same = ap (λ (c : ℕ → Listening). start_of d w (c d).state) st.controllers.table.states_are ∙ start_same d w (s.controllers d) (s.lost d)
+
+    answers : (o : Result ℕ StartFault) → start_of d w (states_of m.controllers d).state ≡ o → start_of d w (s.controllers d) ≡ o
+    answers o e = sym same ∙ e
 
     go : (r : Result Order RuleFault) → ConnectionDecided m d w r → Decides s c r
     go (Ok o) h =
         let living : IsTrue (is_living s d) = sym lives ∙ h.1 in
-        let accepted : IsOk (start_of d w (s.controllers d)) = subst (λ states. IsOk (start_of d w (states d))) st.controllers.table.states_are h.2 in
+        let accepted : IsOk (start_of d w (s.controllers d)) = subst (λ (o : Result ℕ StartFault). IsOk o) same h.2 in
         let ordered : IsOrder s c o = subst (IsOrder s c) (sym h.0) (wanted_order s c d w a.asks a.wanted) in
         (ordered, λ g. connection_breaks s c d w a g (λ e. living) (λ f e. ok_no_fault (start_of d w (s.controllers d)) f accepted))
     go (Err rule) (inl h) = subst (λ rule. Decides s c (Err rule)) (sym h.0) (without_controller s c d w a (sym lives ∙ h.1))
     go (Err rule) (inr h) = subst (λ rule. Decides s c (Err rule)) (sym h.1) (with_refusal s c d w h.0 a (sym lives ∙ h.2) (answers (Err h.0) h.3))
+
+-- ---- breaks
+
+-- a break of a living controller breaks no rule but those by which the controller refuses it
+break_breaks : (s : State) (name : List ℕ) (slot d : ℕ) → IsNamed s name d → IsTrue (is_living s d) → (g : RuleFault)
+    → ((f : StartFault) → g ≡ rule_of f → break_fault (s.controllers d) slot ≡ Some f → ⊥) → Breaks s (Commands.Break name slot) g → ⊥
+break_breaks s name slot d p living g accepted h = go g accepted h
+  where
+    refused : (f : StartFault) → IsRefused s (Commands.Break name slot) f → break_fault (s.controllers d) slot ≡ Some f
+    refused f h = ap (λ k. break_fault (s.controllers k) slot) (one_name s name d h.0 p h.1) ∙ h.2
+
+    go : (g : RuleFault) → ((f : StartFault) → g ≡ rule_of f → break_fault (s.controllers d) slot ≡ Some f → ⊥) → Breaks s (Commands.Break name slot) g → ⊥
+    go UnknownName accepted h = all_known s (name ∷ []) ((d, p), tt) h
+    go NotController accepted h = is_so s (is_living s) name d p living h
+    go NotOwnPlug accepted h = accepted Refusals.NotOwnPlug refl (refused Refusals.NotOwnPlug h)
+    go NoSuchConnection accepted h = accepted Refusals.NoSuchConnection refl (refused Refusals.NoSuchConnection h)
+    go TableFull accepted h = accepted Refusals.TableFull refl (refused Refusals.TableFull h)
+    go Busy accepted h = accepted Refusals.Busy refl (refused Refusals.Busy h)
+    go g accepted h = h
+
+one_refusal : (o : Option StartFault) (f k : StartFault) → o ≡ Some f → o ≡ Some k → f ≡ k
+one_refusal o f k e g = cc
+
+no_refusal : (o : Option StartFault) (f : StartFault) → o ≡ None → o ≡ Some f → ⊥
+no_refusal o f e g = cc
+
+-- the controller of the machine refuses a break as that of the run
+pub break_same : (m : Machine) (s : State) (d slot : ℕ) → StandsFor m s → break_fault (states_of m.controllers d).state slot ≡ break_fault (s.controllers d) slot
+break_same m s d slot st = ap (λ (x : Listening). break_fault x.state slot) (at_same m s d st) ∙ breaks_as s d slot
+
+pub break_ordered : (m : Machine) (s : State) (name : List ℕ) (slot d : ℕ) → IsGood s → StandsFor m s → device_named m.devices.names name ≡ Some d → IsTrue (is_living_in m d)
+    → break_fault (states_of m.controllers d).state slot ≡ None → Decides s (Commands.Break name slot) (Ok (Orders.Break d slot))
+break_ordered m s name slot d g st named lives none =
+    let p = is_named m s name d st named in
+    let living : IsTrue (is_living s d) = sym (living_same m s d g st) ∙ lives in
+    let accepted = sym (break_same m s d slot st) ∙ none in
+    ((d, p, refl), λ g. break_breaks s name slot d p living g (λ f e. no_refusal (break_fault (s.controllers d) slot) f accepted))
+
+pub break_refused : (m : Machine) (s : State) (name : List ℕ) (slot d : ℕ) (f : StartFault) → IsGood s → StandsFor m s → device_named m.devices.names name ≡ Some d → IsTrue (is_living_in m d)
+    → break_fault (states_of m.controllers d).state slot ≡ Some f → Decides s (Commands.Break name slot) (Err (rule_of f))
+break_refused m s name slot d f g st named lives some = (refusal_breaks s (Commands.Break name slot) f (d, p, refused), λ g lt. break_breaks s name slot d p living g (other g lt))
+  where
+    p : IsNamed s name d
+    p = is_named m s name d st named
+
+    living : IsTrue (is_living s d)
+    living = sym (living_same m s d g st) ∙ lives
+
+    refused : break_fault (s.controllers d) slot ≡ Some f
+    refused = sym (break_same m s d slot st) ∙ some
+
+    other : (g : RuleFault) → rank g < rank (rule_of f) → (k : StartFault) → g ≡ rule_of k → break_fault (s.controllers d) slot ≡ Some k → ⊥
+    other g lt k e is =
+        let same : rank (rule_of f) ≡ rank (rule_of k) = ap (λ f. rank (rule_of f)) (one_refusal (break_fault (s.controllers d) slot) f k refused is) in
+        is_another (rule_of f) g (rule_of k) lt (omega arith) e

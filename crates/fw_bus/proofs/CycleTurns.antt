@@ -131,7 +131,7 @@ start_turns m now root packet roots few same is = record { shown = shown_ }
         epoch = st.devices.epoch;
         manager = st.devices.manager;
       };
-      clock = record { cycle = st.clock.cycle; reclaiming = st.clock.reclaiming; half_steps = st.clock.half_steps; written = ap (λ k. k + 1) st.clock.written };
+      clock = record { cycle = st.clock.cycle; reclaiming = st.clock.reclaiming; half_steps = st.clock.half_steps; written = ap (λ k. k + 1) st.clock.written; resets = st.clock.resets };
       controllers = record { table = st.controllers.table; directory = st.controllers.directory };
       wire = record { each = st.wire.each };
       streams = record { size = st.streams.size; each = st.streams.each };
@@ -260,7 +260,7 @@ packet_sends D m d channel own before block packet x s g st had = (
 -- it was written, or cut off
 pub packet_done : {T E : Type 0} {D : DeskRelations} {m : Machine} {d channel own : ℕ} {before : List ℕ} (block : Option (List ℕ)) {packet : IsoPacket}
     {a b : Option (List ℕ)} {k l : ℕ} {r : Result T E}
-    → Packing D m d channel own before block packet → Written a b r m.cycle (Some (IsoEntry packet)) → CountsFaults k l r
+    → Packing D m d channel own before block packet → Written a b r m.cycle m.devices.epoch (Some (IsoEntry packet)) → CountsFaults k l r
     → DoesWhere (HadSent before) D (Sends d) m m a b k l r
 packet_done {D = D} {m} {d} {channel} {own} {before} block {packet} {a} {b} {k} {l} {r} x gives faults =
     where_sent m d m.cycle a b k l (IsoEntry packet) r (packet_sends D m d channel own before block packet x) gives faults

@@ -7,7 +7,8 @@ use Rattle.fw_outside.proofs.Parts.{Grows-Grows, Grows-nothing}
 use Rattle.fw_base.specs.Tables.{at_plug}
 use Rattle.fw_entry.specs.declared.entry.Entry.{Entry}
 use Rattle.fw_entry.specs.declared.entry.Timed.{Timed}
-use Rattle.fw_entry.specs.Log.{entry_bytes}
+use Rattle.fw_entry.specs.Log.{epoch_after, entry_bytes}
+use Rattle.fw_entry.specs.declared.version.Version.TheVariants.{Two}
 use Rattle.fw_run.specs.Actions.{Action, SendPacket, Step, Steps}
 use Rattle.fw_run.specs.Desks.{DeskRelations}
 use Rattle.fw_run.specs.Given.{IsGiven, AreGiven}
@@ -24,7 +25,7 @@ use Rattle.fw_bus.specs.Doings.{Deed, Does}
 use Rattle.fw_bus.specs.Faults.{CountsFaults}
 use Rattle.fw_bus.specs.Framing.{DoesBy}
 use Rattle.fw_bus.specs.Stands.{StandsFor}
-use Rattle.fw_bus.proofs.Doings.{Follows, GoesOn, does_as, faults_then, no_faults, one_step}
+use Rattle.fw_bus.proofs.Doings.{one_grew, grew_then, front_then_front, parts_then, Follows, GoesOn, does_as, faults_then, no_faults, one_step}
 
 -- ---- what is known of the state
 
@@ -134,7 +135,7 @@ pub where_sent : {T E : Type 0} {A : State → Type 0} {D : DeskRelations}
     (m : Machine) (d cycle : ℕ) (held after : Option (List ℕ)) (k l : ℕ) (e : Entry) (r : Result T E)
     → ((s : State) → IsGood s → StandsFor m s → A s → (block : Option GivenBlock) × IsGiven D (SendPacket (at_plug d 0) block)
     × Step s (SendPacket (at_plug d 0) block) (at_most cycle (Some e)) s)
-    → Gives held after r cycle (Some e) → CountsFaults k l r → DoesWhere A D (Sends d) m m held after k l r
+    → Gives held after r cycle m.devices.epoch (Some e) → CountsFaults k l r → DoesWhere A D (Sends d) m m held after k l r
 where_sent m d cycle held after k l e (Ok u) turn gives faults = record {
   faults = faults;
   shown = λ s g st known.
@@ -146,7 +147,7 @@ where_sent m d cycle held after k l e (Ok u) turn gives faults = record {
         whole = ((x.0, (refl, f)), (x.1, tt));
         steps = f;
         stands = st;
-        grew = subst (Grows held after) (sym (append-nil (entry_bytes (at_cycle cycle e)))) gives;
+        grew = one_grew s (at_cycle cycle e) (epoch_after m.devices.epoch e) held after (ap (λ (n : ℕ). epoch_after n e) st.devices.epoch) gives;
       };
 }
 where_sent m d cycle held after k l e (Err u) turn gives faults = record {
@@ -167,7 +168,7 @@ where_sent m d cycle held after k l e (Err u) turn gives faults = record {
           steps = f;
           front = gives.front;
           rest = gives.rest;
-          parts = gives.parts;
+          parts = ap (λ (n : ℕ). entry_bytes Two (epoch_after n e) (at_cycle cycle e)) (sym st.devices.epoch) ∙ gives.parts;
           appended = gives.appended;
         },
         (x.1, tt),
@@ -199,7 +200,7 @@ where_then {D = D} {a = a} {b} {c} {k} {l} {n} (Ok w) follows leads f g = record
         );
         steps = steps_then s x.state y.state x.actions y.actions x.out y.out x.steps y.steps;
         stands = y.stands;
-        grew = rw (log_append x.out y.out) (Grows-Grows a b c (log_bytes x.out) (log_bytes y.out) x.grew y.grew);
+        grew = grew_then s x.state x.actions x.out y.out a b c good x.steps x.grew y.grew;
       };
 }
 where_then {D = D} {R = R} {a = a} {b} {c} {k} {l} {n} (Err w) follows leads f g = record {
@@ -225,9 +226,8 @@ where_then {D = D} {R = R} {a = a} {b} {c} {k} {l} {n} (Err w) follows leads f g
               (steps_then s x.state y.state x.actions y.done x.out (y.given ++ y.next ∷ []) x.steps y.steps);
           front = y.front;
           rest = y.rest;
-          parts = y.parts;
-          appended = subst (Grows a c) (sym (ap (λ z. z ++ y.front) (log_append x.out y.given) ∙ append_assoc (log_bytes x.out) (log_bytes y.given) y.front))
-              (Grows-Grows a b c (log_bytes x.out) (log_bytes y.given ++ y.front) x.grew y.appended);
+          parts = parts_then s x.state x.actions x.out y.given y.next (y.front ++ y.rest) good x.steps y.parts;
+          appended = front_then_front s x.state x.actions x.out y.given y.front a b c good x.steps x.grew y.appended;
         },
         given_then D x.actions y.done x.whole.1 z.1,
       );

@@ -6,14 +6,17 @@ use Rattle.fw_outside.specs.Outside.{Grows}
 use Rattle.fw_outside.proofs.Parts.{Grows-Grows, Grows-nothing}
 use Rattle.fw_entry.specs.declared.entry.Entry.{Entry}
 use Rattle.fw_entry.specs.declared.entry.Timed.{Timed}
-use Rattle.fw_entry.specs.Log.{entry_bytes}
-use Rattle.fw_run.specs.Giving.{at_cycle, log_bytes, Gives}
-use Rattle.fw_run.specs.State.{State}
+use Rattle.fw_entry.specs.Log.{epoch_after, latest_epoch, entry_bytes, entries_bytes}
+use Rattle.fw_entry.specs.declared.version.Version.TheVariants.{Two}
+use Rattle.fw_entry.proofs.LogLaws.{latest_append}
+use Rattle.fw_run.proofs.Epochs.{step_epoch, steps_epoch, entry_epoch}
+use Rattle.fw_run.specs.Giving.{at_cycle, at_most, log_bytes, Gives}
+use Rattle.fw_run.specs.State.{State, epoch_of}
 use Rattle.fw_run.specs.Actions.{Action, Step, Steps}
 use Rattle.fw_run.specs.Good.{IsGood}
 use Rattle.fw_run.specs.Numbers.{HasNumbers}
 use Rattle.fw_run.proofs.Runs.{steps_then, log_append}
-use Rattle.fw_run.proofs.Steps.{steps_good}
+use Rattle.fw_run.proofs.Steps.{step_good, steps_good}
 use Rattle.fw_run.proofs.Kept.{step_numbers}
 use Rattle.fw_bus.specs.declared.machine.Machine.{Machine}
 use Rattle.fw_bus.specs.Faults.{CountsFaults}
@@ -94,9 +97,46 @@ does_nothing m held k u nothing = record {
 pub does_none : {T E : Type 0} (m : Machine) (held : Option (List ℕ)) (k : ℕ) (u : T) → Does {T = T} {E = E} (Acts []) m m held held k k (Ok u)
 does_none m held k u = does_nothing m held k u (λ s g st. (refl, (refl, refl)))
 
+-- ---- epochs
+
+-- the epoch that the machine has behind an entry is that in its head
+pub written_epoch : (now : Machine) (s t : State) (a : Action) (cycle : ℕ) (e : Entry) → IsGood s → Step s a (at_most cycle (Some e)) t → StandsFor now t
+    → epoch_after now.devices.epoch e ≡ epoch_after (epoch_of s.account.latest) e
+written_epoch now s t a cycle e g f st = ap (λ (n : ℕ). epoch_after n e) st.devices.epoch ∙ entry_epoch s t a cycle e g f
+
+-- the entry of one action
+pub one_grew : (s : State) (t : Timed) (n : ℕ) (held after : Option (List ℕ)) → n ≡ epoch_after (epoch_of s.account.latest) t.what → Grows held after (entry_bytes Two n t)
+    → Grows held after (log_bytes (epoch_of s.account.latest) (t ∷ []))
+one_grew s t n held after is g =
+    let P : ℕ → Type 0 = λ k. Grows held after (entry_bytes Two k t) in
+    subst (Grows held after) (sym (append-nil (entry_bytes Two (epoch_after (epoch_of s.account.latest) t.what) t))) (subst P is g)
+
+-- what was written behind other entries
+pub grew_then : (s mid : State) (xs : List Action) (out more : List Timed) (a b c : Option (List ℕ)) → IsGood s → Steps s xs out mid
+    → Grows a b (log_bytes (epoch_of s.account.latest) out) → Grows b c (log_bytes (epoch_of mid.account.latest) more) → Grows a c (log_bytes (epoch_of s.account.latest) (out ++ more))
+grew_then s mid xs out more a b c g f first last =
+    let n : ℕ = epoch_of s.account.latest in
+    let P : ℕ → Type 0 = λ k. Grows b c (log_bytes k more) in
+    subst (Grows a c) (sym (log_append n out more)) (Grows-Grows a b c (log_bytes n out) (log_bytes (latest_epoch n out) more) first (subst P (steps_epoch s mid xs out g f) last))
+
+pub front_then_front : (s mid : State) (xs : List Action) (out more : List Timed) (front : List ℕ) (a b c : Option (List ℕ)) → IsGood s → Steps s xs out mid
+    → Grows a b (log_bytes (epoch_of s.account.latest) out) → Grows b c (log_bytes (epoch_of mid.account.latest) more ++ front) → Grows a c (log_bytes (epoch_of s.account.latest) (out ++ more) ++ front)
+front_then_front s mid xs out more front a b c g f first last =
+    let n : ℕ = epoch_of s.account.latest in
+    let P : ℕ → Type 0 = λ k. Grows b c (log_bytes k more ++ front) in
+    subst (Grows a c) (sym (ap (λ z. z ++ front) (log_append n out more) ∙ append_assoc (log_bytes n out) (log_bytes (latest_epoch n out) more) front))
+    (Grows-Grows a b c (log_bytes n out) (log_bytes (latest_epoch n out) more ++ front) first (subst P (steps_epoch s mid xs out g f) last))
+
+pub parts_then : (s mid : State) (xs : List Action) (out given : List Timed) (next : Timed) (whole : List ℕ) → IsGood s → Steps s xs out mid
+    → entry_bytes Two (epoch_after (latest_epoch (epoch_of mid.account.latest) given) next.what) next ≡ whole
+    → entry_bytes Two (epoch_after (latest_epoch (epoch_of s.account.latest) (out ++ given)) next.what) next ≡ whole
+parts_then s mid xs out given next whole g f is =
+    let n : ℕ = epoch_of s.account.latest in
+    ap (λ (k : ℕ). entry_bytes Two (epoch_after k next.what) next) (latest_append n out given ∙ ap (λ (k : ℕ). latest_epoch k given) (sym (steps_epoch s mid xs out g f))) ∙ is
+
 -- an action whose entry was written, or cut off
 pub does_one : {T E : Type 0} {a : Action} {m now : Machine} {held after : Option (List ℕ)} {k l : ℕ} (cycle : ℕ) (e : Option Entry) (r : Result T E)
-    → Turns a m now cycle e → Gives held after r cycle e → CountsFaults k l r → Does (Acts (a ∷ [])) m now held after k l r
+    → Turns a m now cycle e → Gives held after r cycle now.devices.epoch e → CountsFaults k l r → Does (Acts (a ∷ [])) m now held after k l r
 does_one {a = a} cycle None (Ok u) turn gives faults = record {
   faults = faults;
   shown = λ s g st. let x = turn.shown s g st in let f = one_step s x.0 a [] x.1 in record {
@@ -109,7 +149,7 @@ does_one {a = a} cycle None (Ok u) turn gives faults = record {
     grew = gives;
   };
 }
-does_one {a = a} {held = held} {after} cycle (Some e) (Ok u) turn gives faults = record {
+does_one {a = a} {now = now} {held = held} {after} cycle (Some e) (Ok u) turn gives faults = record {
   faults = faults;
   shown = λ s g st. let x = turn.shown s g st in let f = one_step s x.0 a (at_cycle cycle e ∷ []) x.1 in record {
     actions = a ∷ [];
@@ -118,11 +158,11 @@ does_one {a = a} {held = held} {after} cycle (Some e) (Ok u) turn gives faults =
     whole = (refl, f);
     steps = f;
     stands = x.2;
-    grew = subst (Grows held after) (sym (append-nil (entry_bytes (at_cycle cycle e)))) gives;
+    grew = one_grew s (at_cycle cycle e) (epoch_after now.devices.epoch e) held after (written_epoch now s x.0 a cycle e g x.1 x.2) gives;
   };
 }
 does_one cycle None (Err u) turn gives faults = absurd gives
-does_one {a = a} cycle (Some e) (Err u) turn gives faults = record {
+does_one {a = a} {now = now} cycle (Some e) (Err u) turn gives faults = record {
   faults = faults;
   shown = λ s g st. let x = turn.shown s g st in let f = one_step s x.0 a (at_cycle cycle e ∷ []) x.1 in record {
     done = a ∷ [];
@@ -137,7 +177,7 @@ does_one {a = a} cycle (Some e) (Err u) turn gives faults = record {
     steps = f;
     front = gives.front;
     rest = gives.rest;
-    parts = gives.parts;
+    parts = ap (λ (n : ℕ). entry_bytes Two n (at_cycle cycle e)) (sym (written_epoch now s x.0 a cycle e g x.1 x.2)) ∙ gives.parts;
     appended = gives.appended;
   };
 }
@@ -168,7 +208,7 @@ does_then {a = a} {b} {c} {k} {l} {n} (Ok w) follows f g = record {
         whole = follows s x.state y.state x.actions y.actions x.out y.out good st x.whole x.steps y.whole y.steps;
         steps = steps_then s x.state y.state x.actions y.actions x.out y.out x.steps y.steps;
         stands = y.stands;
-        grew = rw (log_append x.out y.out) (Grows-Grows a b c (log_bytes x.out) (log_bytes y.out) x.grew y.grew);
+        grew = grew_then s x.state x.actions x.out y.out a b c good x.steps x.grew y.grew;
       };
 }
 does_then {R = R} {a = a} {b} {c} {k} {l} {n} (Err w) follows f g = record {
@@ -191,9 +231,8 @@ does_then {R = R} {a = a} {b} {c} {k} {l} {n} (Err w) follows f g = record {
             (steps_then s x.state y.state x.actions y.done x.out (y.given ++ y.next ∷ []) x.steps y.steps);
         front = y.front;
         rest = y.rest;
-        parts = y.parts;
-        appended = subst (Grows a c) (sym (ap (λ z. z ++ y.front) (log_append x.out y.given) ∙ append_assoc (log_bytes x.out) (log_bytes y.given) y.front))
-            (Grows-Grows a b c (log_bytes x.out) (log_bytes y.given ++ y.front) x.grew y.appended);
+        parts = parts_then s x.state x.actions x.out y.given y.next (y.front ++ y.rest) good x.steps y.parts;
+        appended = front_then_front s x.state x.actions x.out y.given y.front a b c good x.steps x.grew y.appended;
       };
 }
 
@@ -259,11 +298,41 @@ pub talk_steps : (s mid t : State) (a b : Action) (cycle : ℕ) (e f : Entry) �
     → Steps s (a ∷ b ∷ []) (at_cycle cycle e ∷ at_cycle cycle f ∷ []) t
 talk_steps s mid t a b cycle e f g h = (at_cycle cycle e ∷ [], at_cycle cycle f ∷ [], mid, g, refl, one_step mid t b (at_cycle cycle f ∷ []) h)
 
+-- the epoch of two entries that are no resets
+abbrev pub IsNoReset : Entry → Type 0
+IsNoReset e = (n : ℕ) → epoch_after n e ≡ n
+
+pub two_epoch : (now : Machine) (s mid t : State) (a b : Action) (cycle : ℕ) (e f : Entry) → IsGood s → Step s a (at_most cycle (Some e)) mid → Step mid b (at_most cycle (Some f)) t
+    → StandsFor now t → IsNoReset e → IsNoReset f → now.devices.epoch ≡ epoch_of s.account.latest
+two_epoch now s mid t a b cycle e f g first last st plain other =
+    let after = step_epoch mid t b (at_most cycle (Some f)) (step_good s a (at_most cycle (Some e)) mid g first) last in
+    let before = step_epoch s mid a (at_most cycle (Some e)) g first in
+    st.devices.epoch ∙ after ∙ other (epoch_of mid.account.latest) ∙ before ∙ plain (epoch_of s.account.latest)
+
+pub two_grew : (s : State) (n cycle : ℕ) (e f : Entry) (held mid after : Option (List ℕ)) → n ≡ epoch_of s.account.latest → IsNoReset e → IsNoReset f
+    → Grows held mid (entry_bytes Two (epoch_after n e) (at_cycle cycle e)) → Grows mid after (entry_bytes Two (epoch_after n f) (at_cycle cycle f))
+    → Grows held after (log_bytes (epoch_of s.account.latest) (at_cycle cycle e ∷ at_cycle cycle f ∷ []))
+two_grew s n cycle e f held mid after is plain other first last =
+    let k : ℕ = epoch_of s.account.latest in
+    let x : List ℕ = entry_bytes Two (epoch_after k e) (at_cycle cycle e) in
+    let y : List ℕ = entry_bytes Two (epoch_after (epoch_after k e) f) (at_cycle cycle f) in
+    let P : ℕ → Type 0 = λ z. Grows held mid (entry_bytes Two (epoch_after z e) (at_cycle cycle e)) in
+    let Q : ℕ → Type 0 = λ z. Grows mid after (entry_bytes Two (epoch_after z f) (at_cycle cycle f)) in
+    subst (λ z. Grows held after (x ++ z)) (sym (append-nil y)) (Grows-Grows held mid after x y (subst P is first) (subst Q (is ∙ sym (plain k)) last))
+
+pub two_front : (s : State) (n cycle : ℕ) (e : Entry) (front : List ℕ) (held mid after : Option (List ℕ)) → n ≡ epoch_of s.account.latest
+    → Grows held mid (entry_bytes Two (epoch_after n e) (at_cycle cycle e)) → Grows mid after front → Grows held after (log_bytes (epoch_of s.account.latest) (at_cycle cycle e ∷ []) ++ front)
+two_front s n cycle e front held mid after is first last =
+    let k : ℕ = epoch_of s.account.latest in
+    let x : List ℕ = entry_bytes Two (epoch_after k e) (at_cycle cycle e) in
+    let P : ℕ → Type 0 = λ z. Grows held mid (entry_bytes Two (epoch_after z e) (at_cycle cycle e)) in
+    subst (λ z. Grows held after (z ++ front)) (sym (append-nil x)) (Grows-Grows held mid after x front (subst P is first) last)
+
 -- both entries were written, or the one that was cut off
 pub does_asked : {T E U F : Type 0} {a b : Action} {m now : Machine} {held after : Option (List ℕ)} {k l n : ℕ} {u : T} (mid : Option (List ℕ)) (cycle : ℕ) (e f : Entry) (r : Result U F)
-    → Talks a b m now cycle e f → Gives {T = T} {E = E} held mid (Ok u) cycle (Some e) → CountsFaults {T = T} {E = E} k l (Ok u) → Gives mid after r cycle (Some f) → CountsFaults l n r
+    → Talks a b m now cycle e f → IsNoReset e → IsNoReset f → Gives {T = T} {E = E} held mid (Ok u) cycle now.devices.epoch (Some e) → CountsFaults {T = T} {E = E} k l (Ok u) → Gives mid after r cycle now.devices.epoch (Some f) → CountsFaults l n r
     → Does (Acts (a ∷ b ∷ [])) m now held after k n r
-does_asked {a = a} {b} {held = held} {after} {k} {l} {n} mid cycle e f (Ok w) talk gives faults given also = record {
+does_asked {a = a} {b} {now = now} {held = held} {after} {k} {l} {n} mid cycle e f (Ok w) talk plain other gives faults given also = record {
   faults = faults_then k l n (Ok w) faults.same also;
   shown = λ s g st. let x = talk.shown s g st in let both = talk_steps s x.0 x.1 a b cycle e f x.2 x.3 in record {
     actions = a ∷ b ∷ [];
@@ -272,11 +341,10 @@ does_asked {a = a} {b} {held = held} {after} {k} {l} {n} mid cycle e f (Ok w) ta
     whole = (refl, both);
     steps = both;
     stands = x.4;
-    grew = subst (λ z. Grows held after (entry_bytes (at_cycle cycle e) ++ z)) (sym (append-nil (entry_bytes (at_cycle cycle f))))
-        (Grows-Grows held mid after (entry_bytes (at_cycle cycle e)) (entry_bytes (at_cycle cycle f)) gives given);
+    grew = two_grew s now.devices.epoch cycle e f held mid after (two_epoch now s x.0 x.1 a b cycle e f g x.2 x.3 x.4 plain other) plain other gives given;
   };
 }
-does_asked {a = a} {b} {held = held} {after} {k} {l} {n} mid cycle e f (Err w) talk gives faults given also = record {
+does_asked {a = a} {b} {now = now} {held = held} {after} {k} {l} {n} mid cycle e f (Err w) talk plain other gives faults given also = record {
   faults = faults_then k l n (Err w) faults.same also;
   shown = λ s g st. let x = talk.shown s g st in let both = talk_steps s x.0 x.1 a b cycle e f x.2 x.3 in record {
     done = a ∷ b ∷ [];
@@ -291,18 +359,17 @@ does_asked {a = a} {b} {held = held} {after} {k} {l} {n} mid cycle e f (Err w) t
     steps = both;
     front = given.front;
     rest = given.rest;
-    parts = given.parts;
-    appended = subst (λ z. Grows held after (z ++ given.front)) (sym (append-nil (entry_bytes (at_cycle cycle e))))
-        (Grows-Grows held mid after (entry_bytes (at_cycle cycle e)) given.front gives given.appended);
+    parts = ap (λ (z : ℕ). entry_bytes Two (epoch_after z f) (at_cycle cycle f)) (plain (epoch_of s.account.latest) ∙ sym (two_epoch now s x.0 x.1 a b cycle e f g x.2 x.3 x.4 plain other)) ∙ given.parts;
+    appended = two_front s now.devices.epoch cycle e given.front held mid after (two_epoch now s x.0 x.1 a b cycle e f g x.2 x.3 x.4 plain other) gives given.appended;
   };
 }
 
 -- the request was cut off
 pub does_unasked : {U F V G : Type 0} {a b : Action} {m now : Machine} {held after : Option (List ℕ)} {k l : ℕ} (cycle : ℕ) (e f : Entry) (q : Result U F) (r : Result V G)
-    → Talks a b m now cycle e f → IsErr q → IsErr r → Gives held after q cycle (Some e) → CountsFaults k l q → Does (Acts (a ∷ b ∷ [])) m now held after k l r
-does_unasked cycle e f (Ok u) r talk is was gives faults = let no : ⊥ = grind (arith, is) in absurd no
-does_unasked cycle e f (Err w) (Ok v) talk is was gives faults = let no : ⊥ = grind (arith, was) in absurd no
-does_unasked {a = a} {b} cycle e f (Err w) (Err v) talk is was gives faults = record {
+    → Talks a b m now cycle e f → IsNoReset e → IsNoReset f → IsErr q → IsErr r → Gives held after q cycle now.devices.epoch (Some e) → CountsFaults k l q → Does (Acts (a ∷ b ∷ [])) m now held after k l r
+does_unasked cycle e f (Ok u) r talk plain other is was gives faults = let no : ⊥ = grind (arith, is) in absurd no
+does_unasked cycle e f (Err w) (Ok v) talk plain other is was gives faults = let no : ⊥ = grind (arith, was) in absurd no
+does_unasked {a = a} {b} {now = now} cycle e f (Err w) (Err v) talk plain other is was gives faults = record {
   faults = record { cause = record { later = faults.cause.later; failed = faults.cause.failed }; same = tt };
   shown = λ s g st. let x = talk.shown s g st in let both = talk_steps s x.0 x.1 a b cycle e f x.2 x.3 in record {
     done = a ∷ [];
@@ -317,7 +384,7 @@ does_unasked {a = a} {b} cycle e f (Err w) (Err v) talk is was gives faults = re
     steps = one_step s x.0 a (at_cycle cycle e ∷ []) x.2;
     front = gives.front;
     rest = gives.rest;
-    parts = gives.parts;
+    parts = ap (λ (z : ℕ). entry_bytes Two (epoch_after z e) (at_cycle cycle e)) (sym (two_epoch now s x.0 x.1 a b cycle e f g x.2 x.3 x.4 plain other)) ∙ gives.parts;
     appended = gives.appended;
   };
 }

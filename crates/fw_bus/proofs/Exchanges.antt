@@ -19,7 +19,7 @@ use Rattle.fw_cmp.specs.declared.stage.Stage.{Stage}
 use Rattle.fw_cmp.specs.declared.request.Access.{Access}
 use Rattle.fw_cmp.specs.declared.request.Target.{Target}
 use Rattle.fw_cmp.specs.declared.request.Target.TheVariants as target
-use Rattle.fw_cmp.specs.Controllers.{IsStanding, CurrentFits, RunsFitting}
+use Rattle.fw_cmp.specs.Controllers.{ControllerState, IsStanding, CurrentFits, RunsFitting}
 use Rattle.fw_cmp.specs.Nodes as Told
 use Rattle.fw_cmp.specs.Requests.{standing_in, addressee_of, request_at}
 use Rattle.fw_step.specs.Controllers.{IsDirectory}
@@ -37,6 +37,8 @@ use Rattle.fw_run.proofs.Hears.{Heard, heard_of, half_hears, access_heard}
 use Rattle.fw_run.proofs.Responses.{heard_node}
 use Rattle.fw_run.proofs.Words.{device_of_number}
 use Rattle.fw_tree.proofs.ReachLaws.{sound_made}
+use Rattle.fw_cmp.specs.Losses.{Awaits}
+use Rattle.fw_bus.proofs.Heard.{stands_here, state_same}
 use Rattle.fw_bus.specs.declared.machine.Machine.{Machine}
 use Rattle.fw_bus.specs.Stands.{IsNodeAt, StandsFor, is_linked_in, is_living_in}
 use Rattle.fw_bus.specs.Tables.{states_of}
@@ -91,13 +93,10 @@ pub record Standing (m : Machine) (s : State) (d : ℕ) (a : Access) : Type 0 wh
 
 -- where a request stands, by the machine
 pub standing_of : (m : Machine) (s : State) (d : ℕ) (a : Access) → IsGood s → StandsFor m s → IsTrue (is_living_in m d)
-    → IsStanding (states_of m.controllers d).current → Some a ≡ standing_in (states_of m.controllers d).current → Standing m s d a
+    → Awaits (states_of m.controllers d) → Some a ≡ standing_in (states_of m.controllers d).state.current → Standing m s d a
 standing_of m s d a g st lives stands asks =
-    go (s.controllers d).current refl (subst (λ f. IsStanding (f d).current) same stands) (asks ∙ ap (λ f. standing_in (f d).current) same)
+    go (s.controllers d).current refl (stands_here m s d st stands) (asks ∙ ap (λ (c : ControllerState). standing_in c.current) (state_same m s d st stands.0))
   where
-    same : states_of m.controllers ≡ s.controllers
-    same = st.controllers.table.states_are
-
     living : IsTrue (is_living s d)
     living = sym (living_same m s d g st) ∙ lives
 

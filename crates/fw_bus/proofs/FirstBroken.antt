@@ -13,8 +13,9 @@ use Rattle.fw_run.specs.declared.order.Order.TheVariants as Orders
 use Rattle.fw_run.specs.declared.order.Access.{Access}
 use Rattle.fw_run.specs.declared.order.Access.TheVariants.{Read, Swap}
 use Rattle.fw_run.specs.declared.rule.RuleFault.{RuleFault}
-use Rattle.fw_run.specs.declared.rule.RuleFault.TheVariants.{UnknownName, TooMany, NoPort, PortUsed, Loop, NotController, Guarded, NoRegister, Limit, TableFull, Busy, NoSuchConnection, NotOwnPlug, OffBus}
+use Rattle.fw_run.specs.declared.rule.RuleFault.TheVariants.{UnknownName, TooMany, NoPort, PortUsed, Loop, NotController, Guarded, NoRegister, Limit, TableFull, Busy, NoSuchConnection, NotOwnPlug, NothingStands, OffBus}
 use Rattle.fw_run.specs.State.{State, epoch_of, is_linked, is_living, living, manager_in}
+use Rattle.fw_run.specs.HalfSteps.{has_request}
 use Rattle.fw_run.specs.Spaces.{read_at}
 use Rattle.fw_run.specs.Rules.{Breaks, Decides, Ends, HasNoManager, IsEnd, IsNamed, IsNot, IsShown, is_declared, is_joining, rank}
 use Rattle.fw_run.proofs.OneLog.{one_order}
@@ -84,7 +85,7 @@ one_fault p x y Tree.Loop Tree.Loop h k = refl
 
 -- a cable breaks a rule of the cabling, or the limit of bus resets
 cable_breaks : (s : State) (a b : List ℕ × ℕ) (x y : End) → IsEnd s a x → IsEnd s b y → (g : RuleFault) → ((f : TreeFault) → g ≡ tree_rule f → IsFault s.declared.topology x y f → ⊥)
-    → (g ≡ Limit → 10000 ≤ epoch_of s.account.latest → IsTrue (is_joining s x y) → ⊥) → Breaks s (Commands.Cable a b) g → ⊥
+    → (g ≡ Limit → 10000 ≤ s.resets → IsTrue (is_joining s x y) → ⊥) → Breaks s (Commands.Cable a b) g → ⊥
 cable_breaks s a b x y p q UnknownName fits few h = all_known s (a.0 ∷ b.0 ∷ []) ((x.device, p.0), ((y.device, q.0), tt)) h
 cable_breaks s a b x y p q NoPort fits few h = fits Tree.NoPort refl (of_ends s a b x y (λ x y. IsFault s.declared.topology x y Tree.NoPort) p q h)
 cable_breaks s a b x y p q PortUsed fits few h = fits Tree.PortUsed refl (of_ends s a b x y (λ x y. IsFault s.declared.topology x y Tree.PortUsed) p q h)
@@ -108,15 +109,15 @@ cable_refused s a b x y p q f h = (cable_fault s a b x y p q f h, λ g lt. cable
     other : (g : RuleFault) → rank g < rank (tree_rule f) → (k : TreeFault) → g ≡ tree_rule k → IsFault s.declared.topology x y k → ⊥
     other g lt k e is = let same : rank (tree_rule f) ≡ rank (tree_rule k) = ap (λ f. rank (tree_rule f)) (one_fault s.declared.topology x y f k h is) in is_another (tree_rule f) g (tree_rule k) lt (omega arith) e
 
-    limit : (g : RuleFault) → rank g < rank (tree_rule f) → g ≡ Limit → 10000 ≤ epoch_of s.account.latest → IsTrue (is_joining s x y) → ⊥
+    limit : (g : RuleFault) → rank g < rank (tree_rule f) → g ≡ Limit → 10000 ≤ s.resets → IsTrue (is_joining s x y) → ⊥
     limit g lt e most joins = let low = tree_rule_low f in is_another (tree_rule f) g Limit lt (omega arith) e
 
 pub cable_at_limit : (s : State) (a b : List ℕ × ℕ) (x y : End) → IsEnd s a x → IsEnd s b y → ((f : TreeFault) → IsFault s.declared.topology x y f → ⊥)
-    → 10000 ≤ epoch_of s.account.latest → IsTrue (is_joining s x y) → Decides s (Commands.Cable a b) (Err Limit)
+    → 10000 ≤ s.resets → IsTrue (is_joining s x y) → Decides s (Commands.Cable a b) (Err Limit)
 cable_at_limit s a b x y p q fits most joins = ((most, (x, y, p, q, joins)), λ g lt. cable_breaks s a b x y p q g (λ f e. fits f) (λ e most joins. is_another Limit g Limit lt (omega arith) e))
 
 pub cable_ordered : (s : State) (a b : List ℕ × ℕ) (x y : End) → IsEnd s a x → IsEnd s b y → ((f : TreeFault) → IsFault s.declared.topology x y f → ⊥)
-    → (10000 ≤ epoch_of s.account.latest → IsTrue (is_joining s x y) → ⊥) → Decides s (Commands.Cable a b) (Ok (Orders.Cable x y))
+    → (10000 ≤ s.resets → IsTrue (is_joining s x y) → ⊥) → Decides s (Commands.Cable a b) (Ok (Orders.Cable x y))
 cable_ordered s a b x y p q fits few = ((x, y, p, q, refl), λ g. cable_breaks s a b x y p q g (λ f e. fits f) (λ e. few))
 
 -- ---- transactions
@@ -167,6 +168,37 @@ transaction_ordered s from to (Read offset) d e p q living linked free = ((d, e,
 transaction_ordered s from to (Swap offset argument new) d e p q living linked free =
     ((d, e, p, q, refl), λ g. transaction_breaks s from to (Swap offset argument new) d e p q living g (λ same. linked) (λ same. free))
 
+-- ---- lost responses
+
+-- a lost response of a living controller breaks no rule but that nothing stands, and the limit
+loss_breaks : (s : State) (name : List ℕ) (d : ℕ) → IsNamed s name d → IsTrue (is_living s d) → (g : RuleFault) → (g ≡ NothingStands → IsTrue (has_request (s.controllers d).current))
+    → (g ≡ Limit → 10000 ≤ s.resets → ⊥) → Breaks s (Commands.Lose name) g → ⊥
+loss_breaks s name d p living UnknownName stands few h = all_known s (name ∷ []) ((d, p), tt) h
+loss_breaks s name d p living NotController stands few h = is_so s (is_living s) name d p living h
+loss_breaks s name d p living NothingStands stands few h = is_so s (λ e. has_request (s.controllers e).current) name d p (stands refl) h
+loss_breaks s name d p living Limit stands few h = few refl h
+loss_breaks s name d p living NotOwnPlug stands few h = h.2
+loss_breaks s name d p living NoSuchConnection stands few h = h.2
+loss_breaks s name d p living TableFull stands few h = h.2
+loss_breaks s name d p living Busy stands few h = h.2
+loss_breaks s name d p living g stands few h = h
+
+pub loss_of_nothing : (s : State) (name : List ℕ) (d : ℕ) → IsNamed s name d → IsTrue (is_living s d) → IsFalse (has_request (s.controllers d).current)
+    → Decides s (Commands.Lose name) (Err NothingStands)
+loss_of_nothing s name d p living none = (
+  (d, p, none),
+  λ g lt. loss_breaks s name d p living g
+      (λ same. absurd (is_another NothingStands g NothingStands lt (omega arith) same)) (λ same most. is_another NothingStands g Limit lt (omega arith) same),
+)
+
+pub loss_at_limit : (s : State) (name : List ℕ) (d : ℕ) → IsNamed s name d → IsTrue (is_living s d) → IsTrue (has_request (s.controllers d).current) → 10000 ≤ s.resets
+    → Decides s (Commands.Lose name) (Err Limit)
+loss_at_limit s name d p living stands most = (most, λ g lt. loss_breaks s name d p living g (λ same. stands) (λ same past. is_another Limit g Limit lt (omega arith) same))
+
+pub loss_ordered : (s : State) (name : List ℕ) (d : ℕ) → IsNamed s name d → IsTrue (is_living s d) → IsTrue (has_request (s.controllers d).current) → s.resets < 10000
+    → Decides s (Commands.Lose name) (Ok (Orders.Lose d))
+loss_ordered s name d p living stands few = ((d, p, refl), λ g. loss_breaks s name d p living g (λ same. stands) (λ same most. omega (arith, few, most)))
+
 -- ---- registers that are shown
 
 known_shown : (s : State) (name : Option (List ℕ)) (offset d : ℕ) → IsShown s name d → Breaks s (Commands.Show name offset) UnknownName → ⊥
@@ -211,7 +243,7 @@ show_no_register s name offset d is linked off =
 pub show_no_manager : (s : State) (offset : ℕ) → manager_in s.account.latest ≡ None → Decides s (Commands.Show None offset) (Err NoRegister)
 show_no_manager s offset none = (inl none, go)
   where
-    go : (g : RuleFault) → rank g < 15 → Breaks s (Commands.Show None offset) g → ⊥
+    go : (g : RuleFault) → rank g < 16 → Breaks s (Commands.Show None offset) g → ⊥
     go UnknownName lt h = false≢true h
     go NoRegister lt h = absurd (omega arith)
     go NotOwnPlug lt h = h.2
@@ -224,7 +256,7 @@ show_no_manager s offset none = (inl none, go)
 pub show_off : (s : State) (name : List ℕ) (offset d : ℕ) → IsNamed s name d → IsFalse (is_linked s d) → Decides s (Commands.Show (Some name) offset) (Err OffBus)
 show_off s name offset d is off = ((d, is, off), go)
   where
-    go : (g : RuleFault) → rank g < 9 → Breaks s (Commands.Show (Some name) offset) g → ⊥
+    go : (g : RuleFault) → rank g < 10 → Breaks s (Commands.Show (Some name) offset) g → ⊥
     go UnknownName lt h = all_known s (name ∷ []) ((d, is), tt) h
     go OffBus lt h = absurd (omega arith)
     go NoRegister lt h = absurd (omega arith)

@@ -1,9 +1,12 @@
 -- The calls by which a frame goes out: what the devices give, the node that it goes to, and that node's answer.
-use Rattle.std.proofs.Common.{◌≡◌, ℕ, ◌<◌, length, slice_set, true, Option, Some, None, option_map, is_some, refl, ap, sym, subst, ◌∙◌, arith, IsTrue}
+use Rattle.std.proofs.Common.{◌≡◌, ℕ, ◌<◌, length, slice_set, Bool, true, false, cond, ◌==◌, Option, Some, None, option_map, is_some, refl, ap, sym, subst, ◌∙◌, arith, IsTrue}
 use Rattle.std.specs.Prelude.{IsSome}
 use Rattle.std.proofs.lemmas.List.{length-set}
 use Rattle.std.proofs.lemmas.Option.{same_Some}
+use Rattle.std.specs.Int.{from_be_bytes, w32}
 use Rattle.fw_async.specs.declared.packet.Packet.{Packet}
+use Rattle.fw_async.specs.declared.packet.Packet.TheVariants.{WriteQuadlet, WriteBlock}
+use Rattle.fw_fcp.specs.Frames.{spelling}
 use Rattle.fw_base.specs.Devices.{has_link}
 use Rattle.fw_entry.specs.declared.entry.Entry.TheVariants.{Async}
 use Rattle.fw_fcp.specs.declared.frame.Frame.{Frame}
@@ -47,6 +50,19 @@ pub outgoing : (m : Machine) (d : ℕ) (taken : Network) (packet : Packet) → d
 outgoing m d taken packet low e is =
     let t = told_of (Fcp.frame_packet (number_of (node_at m.devices.nodes d).number)) (Fcp.next_frame (node_at m.devices.nodes d)) packet e in
     record { low = low; told = t.0; next = t.1; packet_is = t.2; taken_is = is }
+
+-- it asks something of its node
+either_asks : (b : Bool) (p q : Packet) → IsSome (request_in p) → IsSome (request_in q) → IsSome (request_in (cond b p q))
+either_asks true p q f g = f
+either_asks false p q f g = g
+
+frame_asks : (from : ℕ) (told : ℕ × Frame) → IsSome (request_in (Fcp.frame_packet from told))
+frame_asks from told =
+    let bytes = spelling told.1 in
+    either_asks (length bytes == 4) (WriteQuadlet (Fcp.frame_head from told.0) 0xFFFF_F000_0D00 (from_be_bytes w32 bytes)) (WriteBlock (Fcp.frame_head from told.0) 0xFFFF_F000_0D00 bytes) refl refl
+
+pub outgoing_asks : {m : Machine} {d : ℕ} {taken : Network} {packet : Packet} → Outgoing m d taken packet → IsSome (request_in packet)
+outgoing_asks x = subst (λ p. IsSome (request_in p)) (sym x.packet_is) (frame_asks _ x.told)
 
 -- ---- the node that it goes to
 

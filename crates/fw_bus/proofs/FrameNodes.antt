@@ -80,7 +80,7 @@ deck_stands m s f d n st low keeps rests decks = record {
     epoch = st.devices.epoch;
     manager = st.devices.manager;
   };
-  clock = record { cycle = st.clock.cycle; reclaiming = st.clock.reclaiming; half_steps = st.clock.half_steps; written = st.clock.written };
+  clock = record { cycle = st.clock.cycle; reclaiming = st.clock.reclaiming; half_steps = st.clock.half_steps; written = st.clock.written; resets = st.clock.resets };
   controllers = record {
     table = record { count_is = st.controllers.table.count_is; states_are = st.controllers.table.states_are; dead_are = st.controllers.table.dead_are };
     directory = st.controllers.directory;
@@ -191,7 +191,7 @@ written_stands m s d b offset bytes g st on = record {
     epoch = st.devices.epoch;
     manager = st.devices.manager;
   };
-  clock = record { cycle = st.clock.cycle; reclaiming = st.clock.reclaiming; half_steps = st.clock.half_steps; written = st.clock.written };
+  clock = record { cycle = st.clock.cycle; reclaiming = st.clock.reclaiming; half_steps = st.clock.half_steps; written = st.clock.written; resets = st.clock.resets };
   controllers = record { table = st.controllers.table; directory = st.controllers.directory };
   wire = record { each = st.wire.each };
   streams = record { size = st.streams.size; each = st.streams.each };

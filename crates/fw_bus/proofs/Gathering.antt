@@ -9,13 +9,14 @@ use Rattle.fw_outside.proofs.Parts.{Grows-nothing}
 use Rattle.fw_base.specs.declared.plug.PlugAt.{PlugAt}
 use Rattle.fw_entry.specs.declared.entry.Entry.TheVariants.{Iso}
 use Rattle.fw_entry.specs.declared.entry.Timed.{Timed}
-use Rattle.fw_entry.specs.Log.{entry_bytes}
+use Rattle.fw_entry.specs.Log.{epoch_after, latest_epoch, entry_bytes}
+use Rattle.fw_entry.specs.declared.version.Version.TheVariants.{Two}
 use Rattle.fw_run.specs.Actions.{Action, SendPacket, Steps}
 use Rattle.fw_run.specs.Carrying.{SendsPackets}
 use Rattle.fw_run.specs.Desks.{DeskRelations}
 use Rattle.fw_run.specs.Given.{AreGiven}
 use Rattle.fw_run.specs.Giving.{at_cycle, log_bytes}
-use Rattle.fw_run.specs.State.{State}
+use Rattle.fw_run.specs.State.{State, epoch_of}
 use Rattle.fw_run.specs.Streams.{bytes_of, stream_packet, talkers_to}
 use Rattle.fw_run.proofs.Given.{given_append}
 use Rattle.fw_run.proofs.Runs.{steps_then}
@@ -50,8 +51,8 @@ front_past (y ∷ a) b (x ∷ f) r e few =
 
 -- ---- a front of the packets
 
--- the first packets, and a front of the next one, are these bytes
-record Front (s : State) (xs : List Action) (f : List ℕ) : Type 0 where
+-- the first packets, and a front of the next one, are these bytes, where this is the epoch of the latest reset
+record Front (n : ℕ) (s : State) (xs : List Action) (f : List ℕ) : Type 0 where
   done : List Action
   later : List Action
   all : xs ≡ done ++ later
@@ -61,8 +62,8 @@ record Front (s : State) (xs : List Action) (f : List ℕ) : Type 0 where
   steps : Steps s done (given ++ next ∷ []) state
   front : List ℕ
   rest : List ℕ
-  parts : entry_bytes next ≡ front ++ rest
-  is : f ≡ log_bytes given ++ front
+  parts : entry_bytes Two (epoch_after (latest_epoch n given) next.what) next ≡ front ++ rest
+  is : f ≡ log_bytes n given ++ front
 
 -- where nobody sends nothing is written
 none_out : (ps : List PlugAt) (s t : State) (xs : List Action) (out : List Timed) → SendsPackets ps s xs out t → ps ≡ [] → out ≡ []
@@ -70,10 +71,10 @@ none_out [] s t xs out f e = f.1
 none_out (p ∷ ps) s t xs out f e = let no : ⊥ = cc e in absurd no
 
 -- a front of the bytes of a packet and of those behind it: of those it is known what their fronts are
-front_one : (p : PlugAt) (ps : List PlugAt) (s t : State) (xs : List Action) (out : List Timed) (x : SendsPackets (p ∷ ps) s xs out t) (f rest : List ℕ)
-    → log_bytes out ≡ f ++ rest
-    → ((g : List ℕ) → log_bytes x.4 ≡ g ++ rest → (ps ≡ [] → ⊥) → Front x.1 x.2 g) → Front s xs f
-front_one p ps s t xs out x f rest e behind = go (cases_lt (length (entry_bytes packet)) (length f))
+front_one : (n : ℕ) (p : PlugAt) (ps : List PlugAt) (s t : State) (xs : List Action) (out : List Timed) (x : SendsPackets (p ∷ ps) s xs out t) (f rest : List ℕ)
+    → log_bytes n out ≡ f ++ rest
+    → ((g : List ℕ) → log_bytes n x.4 ≡ g ++ rest → (ps ≡ [] → ⊥) → Front n x.1 x.2 g) → Front n s xs f
+front_one n p ps s t xs out x f rest e behind = go (cases_lt (length (entry_bytes Two n packet)) (length f))
   where
     packet : Timed
     packet = at_cycle s.clock.cycle (Iso (stream_packet s p (bytes_of x.0)))
@@ -84,17 +85,17 @@ front_one p ps s t xs out x f rest e behind = go (cases_lt (length (entry_bytes 
     first : Steps s (SendPacket p x.0 ∷ []) (packet ∷ []) x.1
     first = subst (λ o. Steps s (SendPacket p x.0 ∷ []) o x.1) one x.5
 
-    bytes : entry_bytes packet ++ log_bytes x.4 ≡ f ++ rest
-    bytes = sym (ap log_bytes (x.8 ∙ ap (λ o. o ++ x.4) one)) ∙ e
+    bytes : entry_bytes Two n packet ++ log_bytes n x.4 ≡ f ++ rest
+    bytes = sym (ap (log_bytes n) (x.8 ∙ ap (λ o. o ++ x.4) one)) ∙ e
 
-    go : (length (entry_bytes packet) < length f) ⊎ (length f ≤ length (entry_bytes packet)) → Front s xs f
+    go : (length (entry_bytes Two n packet) < length f) ⊎ (length f ≤ length (entry_bytes Two n packet)) → Front n s xs f
     go (inl more) =
-        let z = front_past (entry_bytes packet) (log_bytes x.4) f rest bytes (omega (arith, more)) in
+        let z = front_past (entry_bytes Two n packet) (log_bytes n x.4) f rest bytes (omega (arith, more)) in
         let long = ap (λ (l : List ℕ). length l) z.1 in
         let size = ap (λ (l : List ℕ). length l) z.2 in
         let there : ps ≡ [] → ⊥ = λ none. (
-        let empty : length (log_bytes x.4) ≡ 0 = ap (λ o. length (log_bytes o)) (none_out ps x.1 t x.2 x.4 x.6 none) in
-        let no : ⊥ = omega (arith, more, empty, long, size, length-append (entry_bytes packet) z.0, length-append z.0 rest) in no) in
+        let empty : length (log_bytes n x.4) ≡ 0 = ap (λ o. length (log_bytes n o)) (none_out ps x.1 t x.2 x.4 x.6 none) in
+        let no : ⊥ = omega (arith, more, empty, long, size, length-append (entry_bytes Two n packet) z.0, length-append z.0 rest) in no) in
         let w = behind z.0 z.2 there in record {
           done = SendPacket p x.0 ∷ w.done;
           later = w.later;
@@ -106,10 +107,10 @@ front_one p ps s t xs out x f rest e behind = go (cases_lt (length (entry_bytes 
           front = w.front;
           rest = w.rest;
           parts = w.parts;
-          is = z.1 ∙ (ap (λ l. entry_bytes packet ++ l) w.is ∙ sym (append_assoc (entry_bytes packet) (log_bytes w.given) w.front));
+          is = z.1 ∙ (ap (λ l. entry_bytes Two n packet ++ l) w.is ∙ sym (append_assoc (entry_bytes Two n packet) (log_bytes n w.given) w.front));
         }
     go (inr few) =
-        let z = front_within (entry_bytes packet) (log_bytes x.4) f rest bytes few in record {
+        let z = front_within (entry_bytes Two n packet) (log_bytes n x.4) f rest bytes few in record {
           done = SendPacket p x.0 ∷ [];
           later = x.2;
           all = x.7;
@@ -124,10 +125,10 @@ front_one p ps s t xs out x f rest e behind = go (cases_lt (length (entry_bytes 
         }
 
 -- each front of the bytes of packets is that of the first of them, with a front of the next
-front_of : (ps : List PlugAt) (s t : State) (xs : List Action) (out : List Timed) → SendsPackets ps s xs out t → (f rest : List ℕ) → log_bytes out ≡ f ++ rest
-    → (ps ≡ [] → ⊥) → Front s xs f
-front_of [] s t xs out x f rest e some = absurd (some refl)
-front_of (p ∷ ps) s t xs out x f rest e some = front_one p ps s t xs out x f rest e (λ g is more. front_of ps x.1 t x.2 x.4 x.6 g rest is more)
+front_of : (n : ℕ) (ps : List PlugAt) (s t : State) (xs : List Action) (out : List Timed) → SendsPackets ps s xs out t → (f rest : List ℕ) → log_bytes n out ≡ f ++ rest
+    → (ps ≡ [] → ⊥) → Front n s xs f
+front_of n [] s t xs out x f rest e some = absurd (some refl)
+front_of n (p ∷ ps) s t xs out x f rest e some = front_one n p ps s t xs out x f rest e (λ g is more. front_of n ps x.1 t x.2 x.4 x.6 g rest is more)
 
 -- ---- the write
 
@@ -176,8 +177,8 @@ packets_written {D = D} {a = a} {b} (Err w) d some gives faults = record {
   shown = λ s g st known.
       let x = d.shown s g st known in
       let ps = talkers_to 64 s.account in
-      let there : ps ≡ [] → ⊥ = λ e. some (x.grew ∙ ap log_bytes (none_out ps s x.state x.actions x.out x.whole.0 e)) in
-      let z = front_of ps s x.state x.actions x.out x.whole.0 gives.front gives.rest (sym x.grew ∙ gives.parts) there in (
+      let there : ps ≡ [] → ⊥ = λ e. some (x.grew ∙ ap (log_bytes (epoch_of s.account.latest)) (none_out ps s x.state x.actions x.out x.whole.0 e)) in
+      let z = front_of (epoch_of s.account.latest) ps s x.state x.actions x.out x.whole.0 gives.front gives.rest (sym x.grew ∙ gives.parts) there in (
         record {
           done = z.done;
           later = z.later;

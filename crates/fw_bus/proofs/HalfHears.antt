@@ -1,5 +1,5 @@
 -- The half step in which a request stands: the node that it went to carries it out, and the controller hears the reply.
-use Rattle.std.proofs.Common.{◌≡◌, ℕ, zero, suc, List, [], ◌∷◌, slice_set, Option, Some, None, unwrap_or, refl, ap, sym, subst, ◌∙◌, IsTrue}
+use Rattle.std.proofs.Common.{◌≡◌, ℕ, zero, suc, List, [], ◌∷◌, slice_set, Option, Some, None, unwrap_or, refl, ap, sym, subst, ◌∙◌, IsTrue, IsFalse}
 use Rattle.std.proofs.lemmas.List.{get_or-set_other, length-set}
 use Rattle.std.proofs.lemmas.Option.{same_Some, none-some}
 use Rattle.fw_base.specs.declared.device.DeviceKind.TheVariants.{Relay}
@@ -25,7 +25,7 @@ use Rattle.fw_node.specs.Space as Spaces
 use Rattle.fw_node.specs.State.{NodeState, first_state, space_of, after_request}
 use Rattle.fw_devices.specs.Network.{Network, kinds_of, node_at}
 use Rattle.fw_devices.specs.Entries.{node_device}
-use Rattle.fw_run.specs.State.{State, number_in}
+use Rattle.fw_run.specs.State.{State, number_in, is_deaf}
 use Rattle.fw_run.specs.Spaces.{space_at, space_of_device, space_of_node, reply_from}
 use Rattle.fw_run.specs.HalfSteps.{half, taken, after_half}
 use Rattle.fw_run.specs.Good.{IsGood}
@@ -33,11 +33,16 @@ use Rattle.fw_run.proofs.HalfSteps.{half_good}
 use Rattle.fw_run.proofs.Hears.{HalfHears, half_hears, access_heard, reply_heard, carried_bus}
 use Rattle.fw_run.proofs.Turns.{living_linked}
 use Rattle.fw_run.proofs.Words.{node_space_of}
+use Rattle.fw_cmp.specs.Losses.{Awaits, after_answer}
+use Rattle.fw_run.specs.Truth.{controller_at}
+use Rattle.fw_run.proofs.Apart.{controllers_of, all_hear}
+use Rattle.fw_bus.proofs.Heard.{quiet_here}
 use Rattle.fw_bus.specs.declared.machine.Machine.{Machine}
 use Rattle.fw_bus.specs.Doings.{Takes}
 use Rattle.fw_bus.specs.Lingering.{HasLingering}
 use Rattle.fw_bus.specs.Stands.{HasNodes, StandsFor, is_living_in}
 use Rattle.fw_async.specs.Wire.{without}
+use Rattle.fw_bus.specs.Serving.{Sent, nodes_after}
 use Rattle.fw_bus.specs.Streaming.{HasStreams, looked_at}
 use Rattle.fw_bus.specs.Wires.{HasWire}
 use Rattle.fw_bus.specs.Tables.{ControllerTable, IsTable, count_of, states_of, dead_of}
@@ -56,16 +61,6 @@ use Rattle.fw_bus.proofs.Counts.{streams_look}
 use Rattle.fw_bus.proofs.HalfAnswers.{account_heard, words_heard, reply_below}
 
 -- ---- the response
-
--- what the machine did: the packet of the request that stands went to the node of its addressee, which answered
-pub record Sent (m : Machine) (d : ℕ) (a : Access) (to device own : ℕ) (packet response : Packet) : Type 0 where
-  pub asks : Some a ≡ standing_in (states_of m.controllers d).current
-  pub goes : Some to ≡ addressee_of m.directory a.target
-  pub at : Some device ≡ node_device m.devices.latest.nodes to
-  pub own_is : (node_at m.devices.nodes d).number ≡ Some own
-  pub packet_is : packet ≡ packet_of (request_head own to 0) (request_of a)
-  pub answered : (n : ℕ) → (node_at m.devices.nodes device).number ≡ Some n
-      → response_of (space_of n m.cycle (node_at m.devices.nodes device)) packet ≡ Some response
 
 -- the run's half step has that response, and its controller hears the reply in it
 pub record Answered (m : Machine) (s : State) (d : ℕ) (a : Access) (to device : ℕ) (response : Packet) : Type 0 where
@@ -87,7 +82,7 @@ node_answers s device to h q g at =
 
 -- the machine's exchange is that of the run
 pub answered_of : (m : Machine) (s : State) (d : ℕ) (a : Access) (to device own : ℕ) (packet response : Packet) → IsGood s → StandsFor m s
-    → IsTrue (is_living_in m d) → IsStanding (states_of m.controllers d).current → Sent m d a to device own packet response
+    → IsTrue (is_living_in m d) → Awaits (states_of m.controllers d) → Sent m d a to device own packet response
     → Answered m s d a to device response
 answered_of m s d a to device own packet response g st lives standing sent =
     record { exchange = x; hears = h; response_is = response_is; reply_is = ap reply_in response_is ∙ reply_is }
@@ -143,10 +138,6 @@ kinds_set (n ∷ nodes) zero None = refl
 kinds_set (n ∷ nodes) zero (Some r) = refl
 kinds_set (n ∷ nodes) (suc d) o = ap (λ ks. n.kind ∷ ks) (kinds_set nodes d o)
 
--- the nodes once the target has carried the request out
-abbrev pub nodes_after : List NodeState → ℕ → Packet → List NodeState
-nodes_after nodes device packet = slice_set nodes device (after_request (request_in packet) (node_at nodes device))
-
 -- the machine then
 abbrev pub machine_after : Machine → ControllerTable → ℕ → ℕ → Packet → Machine
 machine_after m k device own packet = record m {
@@ -158,18 +149,18 @@ machine_after m k device own packet = record m {
 
 -- it stands for the state after the half step
 hears_stands : (m : Machine) (s : State) (k : ControllerTable) (d : ℕ) (a : Access) (to device own : ℕ) (packet response : Packet) (r : Reply) → IsGood s
-    → IsGood (after_half s d) → StandsFor m s → number_in s.account.latest d ≡ Some own → Sent m d a to device own packet response
+    → IsGood (after_half s d) → StandsFor m s → IsFalse (is_deaf s d) → number_in s.account.latest d ≡ Some own → Sent m d a to device own packet response
     → Answered m s d a to device response → Some r ≡ reply_in response
-    → IsTable k (count_of m.controllers) (update (states_of m.controllers) d (after_hear (states_of m.controllers d) r)) (dead_of m.controllers)
+    → IsTable k (count_of m.controllers) (update (states_of m.controllers) d (after_answer (states_of m.controllers d) r)) (dead_of m.controllers)
     → StandsFor (machine_after m k device own packet) (after_half s d)
-hears_stands m s k d a to device own packet response r g after st place sent z heard table =
-    subst (λ y. StandsFor now (taken s d y)) (sym h.half_is) (subst (λ l. StandsFor now (state_with s l f)) (sym (ap (λ o. unwrap_or o s.account) h.leads))
-    (stands_with m s (nodes_after m.devices.nodes device packet) k l f (without own m.wire)
+hears_stands m s k d a to device own packet response r g after st quiet place sent z heard table =
+    subst (λ y. StandsFor now (taken s d y)) (sym h.half_is) (subst (λ l. StandsFor now (state_with s l f asked)) (sym (ap (λ o. unwrap_or o s.account) h.leads))
+    (stands_with m s (nodes_after m.devices.nodes device packet) k l f asked (without own m.wire)
     (looked_at device (nodes_after m.devices.nodes device packet) m.streams) st (record { latest = bus.0; reclaiming = bus.1 })
     (kinds_set m.devices.nodes device (request_in packet)) nodes lingering
     (decks_requested m.devices.nodes s device (request_in packet) (exchange_within m s d a to device g st x) st.devices.decks)
-    (table_with m s k d (after_hear (states_of m.controllers d) r) (after_hear (s.controllers d) reply_) st
-    (λ i. after_hear (st.controllers.table.states_are i d) (reply_is i)) table) wire streams))
+    (table_with m s (state_with s l f asked) k d (after_answer (states_of m.controllers d) r) (after_answer (controller_at s d) reply_) st
+    (λ i. after_answer (st.controllers.table.states_are i d) (reply_is i)) all table) wire streams))
   where
     x : Exchange m s d a to device
     x = z.exchange
@@ -192,55 +183,63 @@ hears_stands m s k d a to device own packet response r g after st place sent z h
     f : ℕ → ControllerState
     f = update s.controllers d (after_hear (s.controllers d) reply_)
 
+    asked : ℕ → ℕ
+    asked = update s.asked_at d (s.asked_at d)
+
+    -- the table of the run, by the account that the response leads to
+    all : controllers_of (state_with s l f asked) ≡ update (controllers_of s) d (after_answer (controller_at s d) reply_)
+    all = subst (λ o. controllers_of (state_with s (unwrap_or o s.account) f asked) ≡ update (controllers_of s) d (after_answer (controller_at s d) reply_)) h.leads
+        (subst (λ y. controllers_of (taken s d y) ≡ update (controllers_of s) d (after_answer (controller_at s d) reply_)) h.half_is (all_hear s d x.job x.stage g quiet x.current x.heard))
+
     bus : (l.latest ≡ s.account.latest) × (l.reclaiming ≡ s.account.reclaiming)
     bus = carried_bus d x.job x.stage reply_ s.account
 
     rests : standing_in (after_hear (s.controllers d) reply_).current ≡ None
     rests = ap (λ c. standing_in (heard_then c reply_)) x.current
 
-    wire : HasWire (without own m.wire) (state_with s l f)
-    wire = wire_take m.wire s (state_with s l f) d own (after_hear (s.controllers d) reply_) g
-        (record { latest = bus.0; told = directory_same s (state_with s l f) bus.0 refl; controllers = refl }) place rests st.wire
+    wire : HasWire (without own m.wire) (state_with s l f asked)
+    wire = wire_take m.wire s (state_with s l f asked) d own (after_hear (s.controllers d) reply_) g
+        (record { latest = bus.0; told = directory_same s (state_with s l f asked) bus.0 refl; controllers = refl }) place rests st.wire
 
     request_is : request_in packet ≡ Some (request_at (offset_of x.heard.target) (swap_of x.job x.stage))
     request_is = ap request_in sent.packet_is ∙ (asks_request (request_head own to 0) (request_of a) ∙ ap (λ y. Some (request_of y)) x.access)
 
-    nodes : HasNodes (nodes_after m.devices.nodes device packet) (state_with s l f)
-    nodes = subst (λ o. HasNodes (slice_set m.devices.nodes device (after_request o (node_at m.devices.nodes device))) (state_with s l f)) (sym request_is)
-        (nodes_answer m.devices.nodes s l f device to x.heard.target (swap_of x.job x.stage) g st.devices.nodes
+    nodes : HasNodes (nodes_after m.devices.nodes device packet) (state_with s l f asked)
+    nodes = subst (λ o. HasNodes (slice_set m.devices.nodes device (after_request o (node_at m.devices.nodes device))) (state_with s l f asked)) (sym request_is)
+        (nodes_answer m.devices.nodes s l f asked device to x.heard.target (swap_of x.job x.stage) g st.devices.nodes
         (exchange_addresses m s d a to device g x) (exchange_within m s d a to device g st x) bus.0 (words_heard s d x.job x.stage g x.current x.heard h))
 
     -- a swap that changes the word of an output plug ends its lingering, in the node as in the account
     linger : LingerUnchanged s.account l
     linger = entry_lingers s.account l (Async h.response.packet) g.reclaims.step.sound h.leads
 
-    lingering : HasLingering (nodes_after m.devices.nodes device packet) (state_with s l f)
-    lingering = requested m.devices.nodes s (state_with s l f) device (request_in packet) g st.devices.nodes nodes
+    lingering : HasLingering (nodes_after m.devices.nodes device packet) (state_with s l f asked)
+    lingering = requested m.devices.nodes s (state_with s l f asked) device (request_in packet) g st.devices.nodes nodes
         (exchange_within m s d a to device g st x) bus.0 linger st.devices.lingering
 
-    good : IsGood (state_with s l f)
-    good = subst (λ o. IsGood (state_with s (unwrap_or o s.account) f)) h.leads (subst (λ y. IsGood (taken s d y)) h.half_is after)
+    good : IsGood (state_with s l f asked)
+    good = subst (λ o. IsGood (state_with s (unwrap_or o s.account) f asked)) h.leads (subst (λ y. IsGood (taken s d y)) h.half_is after)
 
-    streams : HasStreams (looked_at device (nodes_after m.devices.nodes device packet) m.streams) (state_with s l f)
+    streams : HasStreams (looked_at device (nodes_after m.devices.nodes device packet) m.streams) (state_with s l f asked)
     streams =
-        streams_look m.devices.nodes (nodes_after m.devices.nodes device packet) m.streams s (state_with s l f) device g good st.devices.nodes nodes
+        streams_look m.devices.nodes (nodes_after m.devices.nodes device packet) m.streams s (state_with s l f asked) device g good st.devices.nodes nodes
         st.devices.lingering lingering (length-set m.devices.nodes device _) (exchange_within m s d a to device g st x)
         (λ c ne. get_or-set_other m.devices.nodes device c _ (first_state Relay 0 0) ne) refl st.streams
 
 -- the half step of the machine is that of the run
 pub takes_hears : (m : Machine) (n : Network) (k : ControllerTable) (d : ℕ) (a : Access) (to device own : ℕ) (packet response : Packet) (r : Reply)
-    → IsTrue (is_living_in m d) → IsStanding (states_of m.controllers d).current → Sent m d a to device own packet response
+    → IsTrue (is_living_in m d) → Awaits (states_of m.controllers d) → Sent m d a to device own packet response
     → n ≡ record m.devices { nodes = nodes_after m.devices.nodes device packet } → Some r ≡ reply_in response
-    → IsTable k (count_of m.controllers) (update (states_of m.controllers) d (after_hear (states_of m.controllers d) r)) (dead_of m.controllers)
+    → IsTable k (count_of m.controllers) (update (states_of m.controllers) d (after_answer (states_of m.controllers d) r)) (dead_of m.controllers)
     → Takes half m (record m { devices = n; controllers = k; wire = without own m.wire; streams = looked_at device n.nodes m.streams })
     d (Some (Async response))
 takes_hears m n k d a to device own packet response r lives standing sent registers heard table = λ s g st.
     let z = answered_of m s d a to device own packet response g st lives standing sent in
-    let after = half_good s d g (sym (living_same m s d g st) ∙ lives) in
+    let after = half_good s d g (sym (living_same m s d g st) ∙ lives) (quiet_here m s d st standing.0) in
     let P : Network → Type 0 = λ v.
     StandsFor (record m { devices = v; controllers = k; wire = without own m.wire; streams = looked_at device v.nodes m.streams }) (after_half s d) in (
       ap (λ p. Some (Async p)) z.response_is ∙ sym (ap (λ y. y.says) z.hears.half_is),
-      subst P (sym registers) (hears_stands m s k d a to device own packet response r g after st
+      subst P (sym registers) (hears_stands m s k d a to device own packet response r g after st (quiet_here m s d st standing.0)
           (own_number m s d own g st lives sent.own_is) sent z heard table),
     )
 

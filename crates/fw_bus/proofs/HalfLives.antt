@@ -1,5 +1,5 @@
 -- A half step leaves the bus, and which controllers live.
-use Rattle.std.proofs.Common.{◌≡◌, ℕ, ◌&&◌, not, true, Option, is_some, unwrap_or, refl, ap, sym, subst, ◌∙◌, IsTrue}
+use Rattle.std.proofs.Common.{◌≡◌, ℕ, ◌&&◌, not, true, Option, is_some, unwrap_or, refl, ap, sym, subst, ◌∙◌, IsTrue, IsFalse}
 use Rattle.fw_entry.specs.declared.entry.Entry.{Entry}
 use Rattle.fw_cmp.specs.declared.current.Current.{Current}
 use Rattle.fw_cmp.specs.declared.current.Current.TheVariants.{Nothing, Asking, Hearing, Overtaken}
@@ -13,6 +13,8 @@ use Rattle.fw_bus.specs.declared.machine.Machine.{Machine}
 use Rattle.fw_bus.specs.Doings.{Takes}
 use Rattle.fw_bus.specs.Stands.{IsReady, is_living_in}
 use Rattle.fw_bus.proofs.HalfTurns.{asks_is, asks_leaves}
+use Rattle.fw_bus.specs.Tables.{states_of}
+use Rattle.fw_bus.proofs.Heard.{quiet_here}
 use Rattle.fw_bus.proofs.Living.{living_same}
 
 -- the bus is the same after any half step
@@ -33,10 +35,10 @@ half_latest s d g lives = go (s.controllers d).current refl
         ∙ (ap (λ o. (unwrap_or o s.account).latest) h.leads ∙ (carried_bus d j stage (reply_heard s d j stage x) s.account).0)
 
 -- so the same controllers live
-pub living_stays : (m now : Machine) (d : ℕ) (e : Option Entry) → IsReady m → IsTrue (is_living_in m d) → Takes half m now d e → (k : ℕ)
+pub living_stays : (m now : Machine) (d : ℕ) (e : Option Entry) → IsReady m → IsTrue (is_living_in m d) → IsFalse (states_of m.controllers d).lost → Takes half m now d e → (k : ℕ)
     → is_living_in now k ≡ is_living_in m k
-living_stays m now d e ready lives takes k =
+living_stays m now d e ready lives quiet takes k =
     let s = ready.state in
     let living : is_living s d ≡ true = sym (living_same m s d ready.good ready.stands) ∙ lives in
     let same : is_living (after_half s d) k ≡ is_living s k = ap (λ o. is_some (linked_number o k) && not (s.dead k)) (half_latest s d ready.good living) in
-    living_same now (after_half s d) k (half_good s d ready.good living) (takes s ready.good ready.stands).1 ∙ (same ∙ sym (living_same m s k ready.good ready.stands))
+    living_same now (after_half s d) k (half_good s d ready.good living (quiet_here m s d ready.stands quiet)) (takes s ready.good ready.stands).1 ∙ (same ∙ sym (living_same m s k ready.good ready.stands))

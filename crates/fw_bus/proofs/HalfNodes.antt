@@ -52,21 +52,21 @@ node_set nodes s t d n h names low here others =
 -- ---- the node that answers
 
 -- the state with another account, by which plugs talk, and other controllers
-abbrev pub state_with : State → Account → (ℕ → ControllerState) → State
-state_with s m f = record s { account = m; controllers = f; streams = while_talking m s.streams }
+abbrev pub state_with : State → Account → (ℕ → ControllerState) → (ℕ → ℕ) → State
+state_with s m f asked = record s { account = m; controllers = f; asked_at = asked; streams = while_talking m s.streams }
 
 -- it has the registers of the account after the answer
-answers_here : (s : State) (m : Account) (f : ℕ → ControllerState) (d n : ℕ) (t : Target) (w : Option Swap) (node : NodeState) → IsGood s → Addresses s d n t
+answers_here : (s : State) (m : Account) (f : ℕ → ControllerState) (asked : ℕ → ℕ) (d n : ℕ) (t : Target) (w : Option Swap) (node : NodeState) → IsGood s → Addresses s d n t
     → m.latest ≡ s.account.latest → IsAnswered s.account m t w → HasSpace node (space_at s d n)
-    → HasSpace (after_request (Some (request_at (offset_of t) w)) node) (space_at (state_with s m f) d n)
-answers_here s m f d n t w node g a latest x h =
-    space_as (after_request (Some r) node) (space_after (space_at s d n) r) (space_at (state_with s m f) d n)
+    → HasSpace (after_request (Some (request_at (offset_of t) w)) node) (space_at (state_with s m f asked) d n)
+answers_here s m f asked d n t w node g a latest x h =
+    space_as (after_request (Some r) node) (space_after (space_at s d n) r) (space_at (state_with s m f asked) d n)
     (space_kept node (space_at s d n) r h) refl refl refl refl
     (λ k lt. let few = (plugs_few (kind_at s.declared.kinds d)).0 in
     follows s.account m t w (OutputPlug (at_plug d k)) x tt (λ e. output k lt (same_output s.account.latest d n k t a.has a.small (omega arith) e)))
     (λ k lt. let few = (plugs_few (kind_at s.declared.kinds d)).1 in
     follows s.account m t w (InputPlug (at_plug d k)) x tt (λ e. input k lt (same_input s.account.latest d n k t a.has a.small (omega arith) e)))
-    (ap (λ o. cond (is_manager o n) (Some (manager_words (state_with s m f))) None) latest ∙ manager (is_manager s.account.latest n) refl)
+    (ap (λ o. cond (is_manager o n) (Some (manager_words (state_with s m f asked))) None) latest ∙ manager (is_manager s.account.latest n) refl)
   where
     r : Request
     r = request_at (offset_of t) w
@@ -106,7 +106,7 @@ answers_here s m f d n t w node g a latest x h =
     channels half (target.Channels base) own e = managed s.account.latest n own
     channels half target.BandwidthAvailable own e = let no : ⊥ = cc in absurd no
 
-    words : is_manager s.account.latest n ≡ true → manager_words (state_with s m f) ≡ words_after (manager_words s) r
+    words : is_manager s.account.latest n ≡ true → manager_words (state_with s m f asked) ≡ words_after (manager_words s) r
     words own =
         let id = sym (passes t w 0xFFFF_F000_021C s.bus_manager_id (no_manager_id t)) in
         let units = follows s.account m t w BandwidthAvailable x tt (λ e. let same = same_bandwidth t e in (same, bandwidth t own same)) in
@@ -117,20 +117,20 @@ answers_here s m f d n t w node g a latest x h =
         λ i. record { bus_manager_id = id i; bandwidth_available = units i; channels_available_hi = high i; channels_available_lo = low i }
 
     manager : (b : Bool) → is_manager s.account.latest n ≡ b
-        → cond b (Some (manager_words (state_with s m f))) None ≡ option_map (λ q. words_after q r) (cond b (Some (manager_words s)) None)
+        → cond b (Some (manager_words (state_with s m f asked))) None ≡ option_map (λ q. words_after q r) (cond b (Some (manager_words s)) None)
     manager true own = ap (λ q. Some q) (words own)
     manager false own = refl
 
 -- ---- all other nodes
 
 -- they keep the registers that they have
-answers_elsewhere : (s : State) (m : Account) (f : ℕ → ControllerState) (d n c : ℕ) (t : Target) (w : Option Swap) (o : Option ℕ) (node : NodeState)
+answers_elsewhere : (s : State) (m : Account) (f : ℕ → ControllerState) (asked : ℕ → ℕ) (d n c : ℕ) (t : Target) (w : Option Swap) (o : Option ℕ) (node : NodeState)
     → IsGood s → Addresses s d n t → m.latest ≡ s.account.latest → IsAnswered s.account m t w
-    → c ≢ d → number_in s.account.latest c ≡ o → IsNodeAt o s c node → IsNodeAt o (state_with s m f) c node
-answers_elsewhere s m f d n c t w o node g a latest x ne at is =
-    node_as s (state_with s m f) c o node refl refl (λ k lt. x.others (OutputPlug (at_plug c k)) tt (output k t a.has))
+    → c ≢ d → number_in s.account.latest c ≡ o → IsNodeAt o s c node → IsNodeAt o (state_with s m f asked) c node
+answers_elsewhere s m f asked d n c t w o node g a latest x ne at is =
+    node_as s (state_with s m f asked) c o node refl refl (λ k lt. x.others (OutputPlug (at_plug c k)) tt (output k t a.has))
     (λ k lt. x.others (InputPlug (at_plug c k)) tt (input k t a.has))
-    (λ k e. ap (λ z. cond (is_manager z k) (Some (manager_words (state_with s m f))) None) latest ∙ manager k e (is_manager s.account.latest k) refl) is
+    (λ k e. ap (λ z. cond (is_manager z k) (Some (manager_words (state_with s m f asked))) None) latest ∙ manager k e (is_manager s.account.latest k) refl) is
   where
     output : (k : ℕ) (t : Target) → HasTarget s.account.latest d n t → OutputPlug (at_plug c k) ≢ register_at t
     output k (target.OutputPlug p) has e = let same : at_plug c k ≡ p = cc in ne (ap (λ (q : PlugAt). q.device) same ∙ has)
@@ -163,7 +163,7 @@ answers_elsewhere s m f d n c t w o node g a latest x ne at is =
     channels k half e own target.BandwidthAvailable has same = apart k e own has
 
     manager : (k : ℕ) → o ≡ Some k → (b : Bool) → is_manager s.account.latest k ≡ b
-        → cond b (Some (manager_words (state_with s m f))) None ≡ cond b (Some (manager_words s)) None
+        → cond b (Some (manager_words (state_with s m f asked))) None ≡ cond b (Some (manager_words s)) None
     manager k e true own =
         let units = x.others BandwidthAvailable tt (bandwidth k e own t a.has) in
         let high = x.others (ChannelsAvailable 0) (inl refl) (channels k 0 e own t a.has) in
@@ -174,15 +174,15 @@ answers_elsewhere s m f d n c t w o node g a latest x ne at is =
 -- ---- all nodes
 
 -- so each node has the registers of the account after the answer
-pub nodes_answer : (nodes : List NodeState) (s : State) (m : Account) (f : ℕ → ControllerState) (d n : ℕ) (t : Target) (w : Option Swap) → IsGood s
+pub nodes_answer : (nodes : List NodeState) (s : State) (m : Account) (f : ℕ → ControllerState) (asked : ℕ → ℕ) (d n : ℕ) (t : Target) (w : Option Swap) → IsGood s
     → HasNodes nodes s → Addresses s d n t → d < length nodes → m.latest ≡ s.account.latest → IsAnswered s.account m t w
-    → HasNodes (slice_set nodes d (after_request (Some (request_at (offset_of t) w)) (node_at nodes d))) (state_with s m f)
-nodes_answer nodes s m f d n t w g h a low latest x =
+    → HasNodes (slice_set nodes d (after_request (Some (request_at (offset_of t) w)) (node_at nodes d))) (state_with s m f asked)
+nodes_answer nodes s m f asked d n t w g h a low latest x =
     node_set nodes s u d _ h refl low here (λ c ne lt. subst (λ o. IsNodeAt (number_in o c) u c (node_at nodes c)) (sym latest)
-    (answers_elsewhere s m f d n c t w (number_in s.account.latest c) (node_at nodes c) g a latest x ne refl (h.each c lt)))
+    (answers_elsewhere s m f asked d n c t w (number_in s.account.latest c) (node_at nodes c) g a latest x ne refl (h.each c lt)))
   where
     u : State
-    u = state_with s m f
+    u = state_with s m f asked
 
     before : HasSpace (node_at nodes d) (space_at s d n)
     before = subst (λ o. IsNodeAt o s d (node_at nodes d)) a.number (h.each d low)
@@ -190,4 +190,4 @@ nodes_answer nodes s m f d n t w g h a low latest x =
     here : IsNodeAt (number_in m.latest d) u d (after_request (Some (request_at (offset_of t) w)) (node_at nodes d))
     here =
         subst (λ o. IsNodeAt o u d (after_request (Some (request_at (offset_of t) w)) (node_at nodes d))) (sym (ap (λ o. number_in o d) latest ∙ a.number))
-        (answers_here s m f d n t w (node_at nodes d) g a latest x before)
+        (answers_here s m f asked d n t w (node_at nodes d) g a latest x before)

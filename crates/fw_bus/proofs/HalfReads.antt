@@ -8,7 +8,7 @@ use Rattle.fw_csr.specs.declared.request.Request.{Request}
 use Rattle.fw_csr.specs.declared.request.Request.TheVariants as Asks
 use Rattle.fw_async.specs.Async.{spelling, Fits}
 use Rattle.fw_async.specs.Reader.{Spells}
-use Rattle.fw_async.specs.Wire.{bytes_from}
+use Rattle.fw_async.specs.Wire.{Pairs, bytes_from, without}
 use Rattle.fw_ledger.specs.Words.{node_of}
 use Rattle.fw_cmp.specs.declared.current.Current.{Current}
 use Rattle.fw_cmp.specs.declared.current.Current.TheVariants.{Nothing, Asking, Hearing, Overtaken}
@@ -23,18 +23,21 @@ use Rattle.fw_step.specs.Requests.{PlugNumberFits, procedure_head}
 use Rattle.fw_csr.specs.declared.reply.Reply.{Reply}
 use Rattle.fw_node.specs.Packets.{reply_in, packet_of, request_head, response_of, IsRequest, IsServed}
 use Rattle.fw_node.specs.State.{space_of}
-use Rattle.fw_devices.specs.Network.{node_at}
+use Rattle.fw_devices.specs.Network.{Network, node_at}
 use Rattle.fw_devices.specs.Entries.{node_device}
 use Rattle.fw_run.specs.State.{State, directory_of, is_living}
 use Rattle.fw_run.specs.Good.{IsGood}
 use Rattle.fw_run.proofs.Fitting.{procedure_fits, request_fits}
 use Rattle.fw_run.proofs.Hears.{heard_of, half_hears}
+use Rattle.fw_cmp.specs.Losses.{Awaits}
+use Rattle.fw_bus.proofs.Heard.{stands_here, state_same}
 use Rattle.fw_bus.specs.declared.machine.Machine.{Machine}
 use Rattle.fw_bus.specs.Stands.{StandsFor, IsReady, is_living_in}
+use Rattle.fw_bus.specs.Streaming.{looked_at}
 use Rattle.fw_bus.specs.Tables.{states_of}
 use Rattle.fw_bus.specs.Wires.{packet_for}
 use Rattle.fw_bus.proofs.Exchanges.{Exchange, standing_of, addressee_is, device_is, exchange_of, exchange_within, exchange_addresses, exchange_linked, asks_request}
-use Rattle.fw_bus.proofs.HalfHears.{Sent}
+use Rattle.fw_bus.specs.Serving.{Sent, nodes_after}
 use Rattle.fw_bus.proofs.HalfWires.{own_number, own_place}
 use Rattle.fw_bus.proofs.Latest.{number_low}
 use Rattle.fw_bus.proofs.Living.{living_same}
@@ -47,31 +50,28 @@ use Rattle.fw_bus.proofs.Wires.{stands_at}
 pub record Went (m : Machine) (d device : ℕ) : Type 0 where
   pub access : Access
   pub to : ℕ
-  pub asks : Some access ≡ standing_in (states_of m.controllers d).current
+  pub asks : Some access ≡ standing_in (states_of m.controllers d).state.current
   pub goes : Some to ≡ addressee_of m.directory access.target
   pub at : Some device ≡ node_device m.devices.latest.nodes to
 
 -- a request that stands asks something
-standing_some : (m : Machine) (s : State) (d : ℕ) → IsGood s → StandsFor m s → IsTrue (is_living_in m d) → IsStanding (states_of m.controllers d).current
-    → (a : Access) × (standing_in (states_of m.controllers d).current ≡ Some a)
-standing_some m s d g st lives stands = go (s.controllers d).current refl (subst (λ f. IsStanding (f d).current) same stands)
+standing_some : (m : Machine) (s : State) (d : ℕ) → IsGood s → StandsFor m s → IsTrue (is_living_in m d) → Awaits (states_of m.controllers d)
+    → (a : Access) × (standing_in (states_of m.controllers d).state.current ≡ Some a)
+standing_some m s d g st lives stands = go (s.controllers d).current refl (stands_here m s d st stands)
   where
-    same : states_of m.controllers ≡ s.controllers
-    same = st.controllers.table.states_are
-
     living : IsTrue (is_living s d)
     living = sym (living_same m s d g st) ∙ lives
 
-    go : (c : Current) → (s.controllers d).current ≡ c → IsStanding c → (a : Access) × (standing_in (states_of m.controllers d).current ≡ Some a)
+    go : (c : Current) → (s.controllers d).current ≡ c → IsStanding c → (a : Access) × (standing_in (states_of m.controllers d).state.current ≡ Some a)
     go Nothing e h = absurd h
     go (Asking j stage) e h = absurd h
     go (Overtaken i o) e h = absurd h
     go (Hearing j stage) e h =
         let x = heard_of s d j stage g living e in
-        (_, ap (λ f. standing_in (f d).current) same ∙ (ap standing_in e ∙ (half_hears s d j stage g e x).access))
+        (_, ap (λ (c : ControllerState). standing_in c.current) (state_same m s d st stands.0) ∙ (ap standing_in e ∙ (half_hears s d j stage g e x).access))
 
 -- it went to the node of a device
-pub went_there : (m : Machine) (s : State) (d : ℕ) → IsGood s → StandsFor m s → IsTrue (is_living_in m d) → IsStanding (states_of m.controllers d).current
+pub went_there : (m : Machine) (s : State) (d : ℕ) → IsGood s → StandsFor m s → IsTrue (is_living_in m d) → Awaits (states_of m.controllers d)
     → (device : ℕ) × Went m d device
 went_there m s d g st lives stands =
     let a = standing_some m s d g st lives stands in
@@ -99,7 +99,7 @@ offset_below (Channels base) f = go (base == 0)
 pub record Known (m : Machine) (d device own : ℕ) : Type 0 where
   pub ready : IsReady m
   pub lives : IsTrue (is_living_in m d)
-  pub stands : IsStanding (states_of m.controllers d).current
+  pub stands : Awaits (states_of m.controllers d)
   pub went : Went m d device
   pub own_is : (node_at m.devices.nodes d).number ≡ Some own
 
@@ -130,7 +130,7 @@ wire_has m d device own k =
     let place = own_number m s d own g st k.lives k.own_is in
     let node : node_of s.account.latest d ≡ own = same_Some _ own (sym (own_place s d (sym (living_same m s d g st) ∙ k.lives)) ∙ place) in
     let asks : standing_in (s.controllers d).current ≡ Some k.went.access =
-    ap (λ (f : ℕ → ControllerState). standing_in (f d).current) (sym st.controllers.table.states_are) ∙ sym k.went.asks in
+    ap (λ (c : ControllerState). standing_in c.current) (sym (state_same m s d st k.stands.0)) ∙ sym k.went.asks in
     let goes : addressee_of (directory_of s) k.went.access.target ≡ Some k.went.to =
     ap (λ (x : Directory). addressee_of x k.went.access.target) (sym st.controllers.directory) ∙ sym k.went.goes in
     st.wire.each own ∙ ap (option_map spelling) (stands_at s d own g place ∙ (ap (packet_for s.account.latest (directory_of s) d) asks
@@ -217,3 +217,16 @@ response_written m d device own out reply k written =
       spells = found.spells;
       carries = found.carries;
     }
+
+-- ---- what has become of the machine
+
+pub after_served : (m : Machine) (n : Network) (w : Pairs) (counts : List ℕ) (device own : ℕ) (packet : Packet) → n ≡ record m.devices { nodes = nodes_after m.devices.nodes device packet }
+    → w ≡ without own m.wire → counts ≡ looked_at device n.nodes m.streams
+    → record m { devices = n; wire = w; streams = counts } ≡ record m {
+      devices = record m.devices { nodes = nodes_after m.devices.nodes device packet };
+      wire = without own m.wire;
+      streams = looked_at device (nodes_after m.devices.nodes device packet) m.streams;
+    }
+after_served m n w counts device own packet is taken looked =
+    let same : counts ≡ looked_at device (nodes_after m.devices.nodes device packet) m.streams = looked ∙ ap (λ (x : Network). looked_at device x.nodes m.streams) is in
+    λ i. record m { devices = is i; wire = taken i; streams = same i }

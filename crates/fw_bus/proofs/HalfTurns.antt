@@ -1,5 +1,5 @@
 -- The machine after a half step, and the half step in which no request stands: the controller says what it does next.
-use Rattle.std.proofs.Common.{◌≡◌, ◌⊎◌, inl, inr, ℕ, ◌<◌, length, List, Option, Some, None, IfSome, unwrap_or, refl, ap, sym, subst, ◌∙◌, arith, IsTrue}
+use Rattle.std.proofs.Common.{◌≡◌, ◌⊎◌, inl, inr, ℕ, ◌<◌, length, List, Option, Some, None, IfSome, unwrap_or, refl, ap, sym, subst, ◌∙◌, arith, IsTrue, IsFalse}
 use Rattle.std.proofs.lemmas.Option.{same_Some}
 use Rattle.fw_base.specs.declared.plug.PlugAt.{PlugAt}
 use Rattle.fw_base.specs.Tables.{update, at_plug}
@@ -13,7 +13,7 @@ use Rattle.fw_ledger.specs.Words.{Register, BandwidthAvailable, ChannelsAvailabl
 use Rattle.fw_cmp.specs.declared.current.Current.{Current}
 use Rattle.fw_cmp.specs.declared.current.Current.TheVariants.{Nothing, Asking, Hearing, Overtaken}
 use Rattle.fw_cmp.specs.declared.outcome.Next.{Next}
-use Rattle.fw_cmp.specs.declared.outcome.Next.TheVariants.{Send, Idle, Waiting}
+use Rattle.fw_cmp.specs.declared.outcome.Next.TheVariants.{Send, Idle, Waiting, Deaf, Force}
 use Rattle.fw_cmp.specs.declared.request.Target.TheVariants as target
 use Rattle.fw_cmp.specs.Controllers.{ControllerState, IsHeard}
 use Rattle.fw_cmp.specs.Nodes.{HasNodeNumbers}
@@ -24,7 +24,7 @@ use Rattle.fw_step.specs.Controllers.{IsDirectory}
 use Rattle.fw_node.specs.Packets.{packet_of, request_head}
 use Rattle.fw_node.specs.State.{NodeState}
 use Rattle.fw_devices.specs.Network.{kinds_of, no_entry, node_at}
-use Rattle.fw_run.specs.State.{State, entered_by, epoch_of, directory_of, is_living, list_to, linked_number, manager_in}
+use Rattle.fw_run.specs.State.{State, entered_by, epoch_of, directory_of, is_living, list_to, linked_number, manager_in, is_deaf}
 use Rattle.fw_run.specs.HalfSteps.{said, asks, half, half_of, taken, after_half}
 use Rattle.fw_run.specs.Good.{IsGood}
 use Rattle.fw_run.proofs.Directories.{told}
@@ -32,6 +32,10 @@ use Rattle.fw_run.proofs.Fitting.{EntryFits, half_fits}
 use Rattle.fw_run.proofs.Leads.{IsLinked, linked_of}
 use Rattle.fw_run.proofs.Responses.{node_of_target}
 use Rattle.fw_run.proofs.Turns.{Turns, sends, rests, turns, living_linked}
+use Rattle.fw_cmp.specs.Losses.{Listening, turn_of, after_turn}
+use Rattle.fw_run.specs.Truth.{controller_at}
+use Rattle.fw_run.proofs.Apart.{controllers_of, all_turn}
+use Rattle.fw_bus.proofs.Heard.{heard_here, quiet_here, next_same}
 use Rattle.fw_bus.specs.declared.machine.Machine.{Machine}
 use Rattle.fw_bus.specs.Doings.{Takes}
 use Rattle.fw_bus.specs.Lingering.{HasLingering}
@@ -39,7 +43,7 @@ use Rattle.fw_bus.specs.Stands.{HasNodes, HasDecks, StandsFor, IsReady, is_livin
 use Rattle.fw_async.specs.Wire.{Pairs}
 use Rattle.fw_bus.specs.Streaming.{HasStreams}
 use Rattle.fw_bus.specs.Wires.{HasWire}
-use Rattle.fw_bus.specs.Tables.{ControllerTable, IsTable, count_of, states_of, dead_of}
+use Rattle.fw_bus.specs.Tables.{ControllerTable, IsTable, count_of, states_of, dead_of, Listens}
 use Rattle.fw_bus.proofs.HalfNodes.{state_with}
 use Rattle.fw_bus.proofs.Latest.{number_low}
 use Rattle.fw_bus.proofs.DeckNodes.{decks_same}
@@ -56,35 +60,36 @@ pub record SameBus (l m : Account) : Type 0 where
   pub reclaiming : m.reclaiming ≡ l.reclaiming
 
 -- the table with one other controller
-pub table_with : (m : Machine) (s : State) (k : ControllerTable) (d : ℕ) (c e : ControllerState) → StandsFor m s → c ≡ e
-    → IsTable k (count_of m.controllers) (update (states_of m.controllers) d c) (dead_of m.controllers)
-    → IsTable k (length s.declared.names) (update s.controllers d e) s.dead
-table_with m s k d c e st same h = let t = st.controllers.table in record {
-  count_is = h.count_is ∙ t.count_is;
-  states_are = h.states_are ∙ (λ i. update (t.states_are i) d (same i));
-  dead_are = h.dead_are ∙ t.dead_are;
+pub table_with : (m : Machine) (s t : State) (k : ControllerTable) (d : ℕ) (x y : Listening) → StandsFor m s → x ≡ y
+    → controllers_of t ≡ update (controllers_of s) d y
+    → IsTable k (count_of m.controllers) (update (states_of m.controllers) d x) (dead_of m.controllers)
+    → IsTable k (length s.declared.names) (λ e. controller_at t e) s.dead
+table_with m s t k d x y st same all h = let u = st.controllers.table in record {
+  count_is = h.count_is ∙ u.count_is;
+  states_are = h.states_are ∙ ((λ i. update (u.states_are i) d (same i)) ∙ sym all);
+  dead_are = h.dead_are ∙ u.dead_are;
 }
 
 -- the machine with these nodes and controllers stands for the state with this account
-pub stands_with : (m : Machine) (s : State) (nodes : List NodeState) (k : ControllerTable) (l : Account) (f : ℕ → ControllerState) (w : Pairs) (c : List ℕ)
-    → StandsFor m s → SameBus s.account l → kinds_of nodes ≡ kinds_of m.devices.nodes → HasNodes nodes (state_with s l f)
-    → HasLingering nodes (state_with s l f) → HasDecks nodes s → IsTable k (length s.declared.names) f s.dead
-    → HasWire w (state_with s l f) → HasStreams c (state_with s l f)
-    → StandsFor (record m { devices = record m.devices { nodes = nodes }; controllers = k; wire = w; streams = c }) (state_with s l f)
-stands_with m s nodes k l f w c st same kinds h linger decks table wire streams = record {
+pub stands_with : (m : Machine) (s : State) (nodes : List NodeState) (k : ControllerTable) (l : Account) (f : ℕ → ControllerState) (asked_at : ℕ → ℕ) (w : Pairs) (c : List ℕ)
+    → StandsFor m s → SameBus s.account l → kinds_of nodes ≡ kinds_of m.devices.nodes → HasNodes nodes (state_with s l f asked_at)
+    → HasLingering nodes (state_with s l f asked_at) → HasDecks nodes s → IsTable k (length s.declared.names) (λ e. controller_at (state_with s l f asked_at) e) s.dead
+    → HasWire w (state_with s l f asked_at) → HasStreams c (state_with s l f asked_at)
+    → StandsFor (record m { devices = record m.devices { nodes = nodes }; controllers = k; wire = w; streams = c }) (state_with s l f asked_at)
+stands_with m s nodes k l f asked_at w c st same kinds h linger decks table wire streams = record {
   devices = record {
     topology = st.devices.topology;
     names = st.devices.names;
     kinds = kinds ∙ st.devices.kinds;
     nodes = h;
     lingering = linger;
-    decks = decks_same nodes s (state_with s l f) refl refl decks;
+    decks = decks_same nodes s (state_with s l f asked_at) refl refl decks;
     latest = st.devices.latest ∙ sym (ap (λ o. unwrap_or o no_entry) same.latest);
     epoch = st.devices.epoch ∙ sym (ap epoch_of same.latest);
     manager = st.devices.manager ∙ sym (ap manager_device same.latest);
   };
   clock =
-      record { cycle = st.clock.cycle; reclaiming = st.clock.reclaiming ∙ sym same.reclaiming; half_steps = st.clock.half_steps; written = st.clock.written };
+      record { cycle = st.clock.cycle; reclaiming = st.clock.reclaiming ∙ sym same.reclaiming; half_steps = st.clock.half_steps; written = st.clock.written; resets = st.clock.resets };
   controllers =
       record {
         table = table;
@@ -147,44 +152,40 @@ asks_leaves s d g lives heard = go (turns s d x.number x.entry g x.is x.shows x.
     go (rests out is) = subst (SameShown s.account) (sym is)
         (record { bus = record { latest = refl; reclaiming = refl }; words = λ r. refl; linger = λ p. refl; talk = λ p. refl })
 
--- what the controller answers is the same by the machine and by the run
-pub next_same : (m : Machine) (s : State) (d : ℕ) → StandsFor m s
-    → next m.cycle m.directory (states_of m.controllers d) ≡ next s.clock.cycle (directory_of s) (s.controllers d)
-next_same m s d st = λ i. next (st.clock.cycle i) (st.controllers.directory i) (st.controllers.table.states_are i d)
-
 -- the machine stands for the state after it
 asks_stands : (m : Machine) (s : State) (k : ControllerTable) (w : Pairs) (d : ℕ) → IsGood s → StandsFor m s → IsTrue (is_living s d)
-    → IsHeard (s.controllers d).current
+    → IsFalse (is_deaf s d) → IsHeard (s.controllers d).current
     → IsTable k (count_of m.controllers)
-    (update (states_of m.controllers) d (after_next m.cycle m.directory (states_of m.controllers d))) (dead_of m.controllers)
+    (update (states_of m.controllers) d (after_turn m.cycle m.directory (states_of m.controllers d))) (dead_of m.controllers)
     → HasWire w (after_half s d) → StandsFor (record m { controllers = k; wire = w }) (after_half s d)
-asks_stands m s k w d g st lives heard table wire =
+asks_stands m s k w d g st lives quiet heard table wire =
     let l : Account = entered_by s.account (asks s d).says in
     let f : ℕ → ControllerState = update s.controllers d (after_next s.clock.cycle (directory_of s) (s.controllers d)) in
+    let asked_at : ℕ → ℕ = update s.asked_at d (asks s d).asked_at in
     let same = asks_leaves s d g lives heard in
-    let t = st.controllers.table in
-    let becomes : after_next m.cycle m.directory (states_of m.controllers d) ≡ after_next s.clock.cycle (directory_of s) (s.controllers d) =
-    λ i. after_next (st.clock.cycle i) (st.controllers.directory i) (t.states_are i d) in
-    let nodes = nodes_same m.devices.nodes s (state_with s l f)
+    let becomes : after_turn m.cycle m.directory (states_of m.controllers d) ≡ after_turn s.clock.cycle (directory_of s) (controller_at s d) =
+    λ i. after_turn (st.clock.cycle i) (st.controllers.directory i) (st.controllers.table.states_are i d) in
+    let all = subst (λ h. controllers_of (taken s d h) ≡ update (controllers_of s) d (after_turn s.clock.cycle (directory_of s) (controller_at s d))) (asks_is s d heard) (all_turn s d quiet heard) in
+    let nodes = nodes_same m.devices.nodes s (state_with s l f asked_at)
     (record { names = refl; devices = refl; kinds = refl; latest = same.bus.latest; bus_manager_id = refl; words = same.words }) st.devices.nodes in
     subst (λ h. StandsFor (record m { controllers = k; wire = w }) (taken s d h)) (sym (asks_is s d heard))
-    (stands_with m s m.devices.nodes k l f w m.streams st same.bus refl nodes
-    (lingering_same m.devices.nodes s (state_with s l f) same.linger st.devices.lingering) st.devices.decks (table_with m s k d _ _ st becomes table)
+    (stands_with m s m.devices.nodes k l f asked_at w m.streams st same.bus refl nodes
+    (lingering_same m.devices.nodes s (state_with s l f asked_at) same.linger st.devices.lingering) st.devices.decks (table_with m s (taken s d (asks s d)) k d _ _ st becomes all table)
     (subst (λ h. HasWire w (taken s d h)) (asks_is s d heard) wire)
-    (streams_stay m.streams s (state_with s l f) g refl (λ k. same.talk (at_plug k 0)) st.streams))
+    (streams_stay m.streams s (state_with s l f asked_at) g refl (λ k. same.talk (at_plug k 0)) st.streams))
 
 -- the controller says what it says in the run
 pub takes_asks : (m : Machine) (k : ControllerTable) (w : Pairs) (d : ℕ) (e : Option Entry) → IsTrue (is_living_in m d)
-    → IsHeard (states_of m.controllers d).current
+    → Listens (states_of m.controllers d)
     → IsTable k (count_of m.controllers)
-    (update (states_of m.controllers) d (after_next m.cycle m.directory (states_of m.controllers d))) (dead_of m.controllers)
-    → ((s : State) → IsGood s → StandsFor m s → e ≡ said s d (next m.cycle m.directory (states_of m.controllers d)))
+    (update (states_of m.controllers) d (after_turn m.cycle m.directory (states_of m.controllers d))) (dead_of m.controllers)
+    → ((s : State) → IsGood s → StandsFor m s → e ≡ said s d (turn_of m.cycle m.directory (states_of m.controllers d)))
     → ((s : State) → IsGood s → StandsFor m s → HasWire w (after_half s d))
     → Takes half m (record m { controllers = k; wire = w }) d e
 takes_asks m k w d e lives heard table says wires = λ s g st.
-    let own : IsHeard (s.controllers d).current = subst (λ f. IsHeard (f d).current) st.controllers.table.states_are heard in
+    let own : IsHeard (s.controllers d).current = heard_here m s d st heard in
     let living = sym (living_same m s d g st) ∙ lives in
-    (says s g st ∙ (ap (said s d) (next_same m s d st) ∙ sym (ap (λ h. h.says) (asks_is s d own))), asks_stands m s k w d g st living own table (wires s g st))
+    (says s g st ∙ (ap (said s d) (next_same m s d st heard.0) ∙ sym (ap (λ h. h.says) (asks_is s d own))), asks_stands m s k w d g st living (quiet_here m s d st heard.0) own table (wires s g st))
 
 -- the packet of a request that goes out
 pub request_says : (m : Machine) (s : State) (d to own : ℕ) (q : Request) (p : Packet) (x : Next) → IsGood s → StandsFor m s → IsTrue (is_living_in m d)
@@ -196,10 +197,15 @@ request_says m s d to own q p x g st lives is number packet =
     let place : own ≡ node_of s.account.latest d = same_Some own (node_of s.account.latest d) (sym number ∙ on.0) in
     ap (λ y. Some (Async y)) (packet ∙ ap (λ n. packet_of (request_head n to 0) q) place) ∙ sym (ap (said s d) is)
 
--- the controller has nothing to do, or waits
-pub rests_says : (s : State) (d : ℕ) (x : Next) → (x ≡ Idle) ⊎ ((until : ℕ) × (x ≡ Waiting until)) → None ≡ said s d x
+-- the controller has nothing to do, or waits, or cannot hear
+abbrev pub IsSilent : Next → Type 0
+IsSilent x = (x ≡ Idle) ⊎ (((until : ℕ) × (x ≡ Waiting until)) ⊎ (((until : ℕ) × (x ≡ Deaf until)) ⊎ (x ≡ Force)))
+
+pub rests_says : (s : State) (d : ℕ) (x : Next) → IsSilent x → None ≡ said s d x
 rests_says s d x (inl is) = sym (ap (said s d) is)
-rests_says s d x (inr w) = sym (ap (said s d) w.1)
+rests_says s d x (inr (inl w)) = sym (ap (said s d) w.1)
+rests_says s d x (inr (inr (inl w))) = sym (ap (said s d) w.1)
+rests_says s d x (inr (inr (inr is))) = sym (ap (said s d) is)
 
 -- ---- what a half step leaves
 

@@ -28,12 +28,14 @@ use Rattle.fw_run.specs.State.{State, directory_of, is_living, number_in}
 use Rattle.fw_run.specs.HalfSteps.{asks, half, taken, after_half}
 use Rattle.fw_run.specs.Good.{IsGood}
 use Rattle.fw_run.proofs.Turns.{living_linked}
+use Rattle.fw_cmp.specs.Losses.{turn_of, after_turn}
+use Rattle.fw_bus.proofs.Heard.{heard_here, next_same}
 use Rattle.fw_bus.specs.declared.machine.Machine.{Machine}
 use Rattle.fw_bus.specs.Doings.{Takes}
 use Rattle.fw_bus.specs.Stands.{StandsFor, IsReady, is_living_in}
-use Rattle.fw_bus.specs.Tables.{ControllerTable, IsTable, count_of, states_of, dead_of}
+use Rattle.fw_bus.specs.Tables.{ControllerTable, IsTable, count_of, states_of, dead_of, Listens}
 use Rattle.fw_bus.specs.Wires.{HasWire, packet_for}
-use Rattle.fw_bus.proofs.HalfTurns.{asks_is, asks_leaves, next_same, takes_asks, request_says, entry_fits}
+use Rattle.fw_bus.proofs.HalfTurns.{asks_is, asks_leaves, takes_asks, request_says, entry_fits}
 use Rattle.fw_bus.proofs.Latest.{on_number}
 use Rattle.fw_bus.proofs.Living.{living_same}
 use Rattle.fw_bus.proofs.Nodes.{linked_on, number_of_node, on_within}
@@ -109,10 +111,10 @@ own_number m s d own g st lives number =
     sym (number_of_node m.devices.nodes s d st.devices.nodes (on_within m.devices.nodes s d st.devices.nodes g (linked_on s d (living_linked s d living)))) ∙ number
 
 -- it has no pair while no request of it stands
-pub own_free : (m : Machine) (s : State) (d own : ℕ) → IsGood s → StandsFor m s → IsHeard (states_of m.controllers d).current
+pub own_free : (m : Machine) (s : State) (d own : ℕ) → IsGood s → StandsFor m s → Listens (states_of m.controllers d)
     → number_in s.account.latest d ≡ Some own → bytes_from own m.wire ≡ None
 own_free m s d own g st heard at =
-    let here : IsHeard (s.controllers d).current = subst (λ (f : ℕ → ControllerState). IsHeard (f d).current) st.controllers.table.states_are heard in
+    let here : IsHeard (s.controllers d).current = heard_here m s d st heard in
     st.wire.each own ∙ ap (option_map spelling) (stands_at s d own g at ∙ ap (packet_for s.account.latest (directory_of s) d) (heard_stands (s.controllers d).current here))
 
 -- ---- the wire after it
@@ -124,16 +126,16 @@ asks_become s d g lives heard =
     record { latest = latest; told = directory_same s (taken s d (asks s d)) latest refl; controllers = refl }
 
 -- a request that goes out
-pub sent_wire : (m : Machine) (d to own : ℕ) (q : Request) (p : Packet) → IsTrue (is_living_in m d) → IsHeard (states_of m.controllers d).current → to < 63
-    → next m.cycle m.directory (states_of m.controllers d) ≡ Send to q → (node_at m.devices.nodes d).number ≡ Some own → p ≡ packet_of (request_head own to 0) q
+pub sent_wire : (m : Machine) (d to own : ℕ) (q : Request) (p : Packet) → IsTrue (is_living_in m d) → Listens (states_of m.controllers d) → to < 63
+    → turn_of m.cycle m.directory (states_of m.controllers d) ≡ Send to q → (node_at m.devices.nodes d).number ≡ Some own → p ≡ packet_of (request_head own to 0) q
     → (s : State) → IsGood s → StandsFor m s → HasWire (m.wire ++ (own, spelling p) ∷ []) (after_half s d)
 sent_wire m d to own q p lives heard low says number is s g st =
     let living : IsTrue (is_living s d) = sym (living_same m s d g st) ∙ lives in
-    let here : IsHeard (s.controllers d).current = subst (λ (f : ℕ → ControllerState). IsHeard (f d).current) st.controllers.table.states_are heard in
+    let here : IsHeard (s.controllers d).current = heard_here m s d st heard in
     let at = own_number m s d own g st lives number in
     let node : node_of s.account.latest d ≡ own = same_Some (node_of s.account.latest d) own (sym (own_place s d living) ∙ at) in
     let c = ready s.clock.cycle (directory_of s) (s.controllers d) in
-    let says_here : next s.clock.cycle (directory_of s) (s.controllers d) ≡ Send to q = sym (next_same m s d st) ∙ says in
+    let says_here : next s.clock.cycle (directory_of s) (s.controllers d) ≡ Send to q = sym (next_same m s d st heard.0) ∙ says in
     let stands = said_stands s.account.latest s.clock.cycle (directory_of s) d c c.current to q (ready_heard s.clock.cycle (directory_of s) (s.controllers d) here) low says_here in
     let goes = stands ∙ ap (λ (n : ℕ). Some (packet_of (procedure_head to n) q)) node ∙ ap (λ (x : Packet). Some x) (sym is) in
     subst (λ h. HasWire (m.wire ++ (own, spelling p) ∷ []) (taken s d h)) (sym (asks_is s d here))
@@ -141,14 +143,14 @@ sent_wire m d to own q p lives heard low says number is s g st =
     (own_free m s d own g st heard at) st.wire)
 
 -- none goes out
-pub quiet_wire : (m : Machine) (d : ℕ) → IsTrue (is_living_in m d) → IsHeard (states_of m.controllers d).current
-    → is_sent (next m.cycle m.directory (states_of m.controllers d)) ≡ false
+pub quiet_wire : (m : Machine) (d : ℕ) → IsTrue (is_living_in m d) → Listens (states_of m.controllers d)
+    → is_sent (turn_of m.cycle m.directory (states_of m.controllers d)) ≡ false
     → (s : State) → IsGood s → StandsFor m s → HasWire m.wire (after_half s d)
 quiet_wire m d lives heard quiet s g st =
     let living : IsTrue (is_living s d) = sym (living_same m s d g st) ∙ lives in
-    let here : IsHeard (s.controllers d).current = subst (λ (f : ℕ → ControllerState). IsHeard (f d).current) st.controllers.table.states_are heard in
+    let here : IsHeard (s.controllers d).current = heard_here m s d st heard in
     let c = ready s.clock.cycle (directory_of s) (s.controllers d) in
-    let quiet_here : is_sent (next s.clock.cycle (directory_of s) (s.controllers d)) ≡ false = ap is_sent (sym (next_same m s d st)) ∙ quiet in
+    let quiet_here : is_sent (next s.clock.cycle (directory_of s) (s.controllers d)) ≡ false = ap is_sent (sym (next_same m s d st heard.0)) ∙ quiet in
     let none = unsaid_stands s.clock.cycle (directory_of s) c c.current (ready_heard s.clock.cycle (directory_of s) (s.controllers d) here) quiet_here in
     subst (λ h. HasWire m.wire (taken s d h)) (sym (asks_is s d here))
     (wire_kept m.wire s (taken s d (asks s d)) d (node_of s.account.latest d) (after_next s.clock.cycle (directory_of s) (s.controllers d)) g
@@ -159,9 +161,9 @@ quiet_wire m d lives heard quiet s g st =
 -- what the machine has then
 pub record Sends (m : Machine) (d to own : ℕ) (k : ControllerTable) (q : Request) (p : Packet) : Type 0 where
   pub lives : IsTrue (is_living_in m d)
-  pub heard : IsHeard (states_of m.controllers d).current
-  pub table : IsTable k (count_of m.controllers) (update (states_of m.controllers) d (after_next m.cycle m.directory (states_of m.controllers d))) (dead_of m.controllers)
-  pub says : next m.cycle m.directory (states_of m.controllers d) ≡ Send to q
+  pub heard : Listens (states_of m.controllers d)
+  pub table : IsTable k (count_of m.controllers) (update (states_of m.controllers) d (after_turn m.cycle m.directory (states_of m.controllers d))) (dead_of m.controllers)
+  pub says : turn_of m.cycle m.directory (states_of m.controllers d) ≡ Send to q
   pub low : to < 63
   pub number : (node_at m.devices.nodes d).number ≡ Some own
   pub packet : p ≡ packet_of (request_head own to 0) q
@@ -170,7 +172,7 @@ pub sends_takes : {m : Machine} {d to own : ℕ} {k : ControllerTable} {q : Requ
     → Takes half m (record m { controllers = k; wire = m.wire ++ (own, spelling p) ∷ [] }) d (Some (Async p))
 sends_takes {m} {d} {to} {own} {k} {q} {p} x =
     takes_asks m k (m.wire ++ (own, spelling p) ∷ []) d (Some (Async p)) x.lives x.heard x.table
-    (λ s g st. request_says m s d to own q p (next m.cycle m.directory (states_of m.controllers d)) g st x.lives x.says x.number x.packet)
+    (λ s g st. request_says m s d to own q p (turn_of m.cycle m.directory (states_of m.controllers d)) g st x.lives x.says x.number x.packet)
     (sent_wire m d to own q p x.lives x.heard x.low x.says x.number x.packet)
 
 pub sends_fits : {m : Machine} {d to own : ℕ} {k : ControllerTable} {q : Request} {p : Packet} → IsReady m → Sends m d to own k q p → Fits p

@@ -13,6 +13,7 @@ pub mod Resets
 pub mod Tables
 pub mod Doings
 pub mod Living
+pub mod Heard
 pub mod Standing
 pub mod Swaps
 pub mod Places
@@ -28,12 +29,15 @@ pub mod HalfLives
 pub mod Deaths
 pub mod LifeTurns
 pub mod LifeOrders
+pub mod Served
+pub mod Losing
 pub mod ShowTurns
 pub mod Asked
 pub mod AskTurns
 pub mod Halves
 pub mod Idles
 pub mod StepTurns
+pub mod DeafTurns
 pub mod Times
 pub mod Rounding
 pub mod Calm

@@ -18,19 +18,18 @@ use Rattle.fw_bus.specs.Stands.{StandsFor, is_living_in}
 use Rattle.fw_bus.specs.Tables.{states_of, dead_of}
 use Rattle.fw_bus.proofs.Doings.{Follows, GoesOn, acts_follow, one_step}
 use Rattle.fw_bus.proofs.Living.{living_same}
-use Rattle.fw_bus.proofs.LifeTurns.{heard_request}
+use Rattle.fw_cmp.specs.Losses.{MayTurn}
+use Rattle.fw_bus.proofs.LifeTurns.{may_rest}
 
 -- ---- what a death is
 
 -- the order, where no request is to be carried out
-pub dies_at : (m : Machine) (d : ℕ) (late : Bool) → (late ≡ true → IsHeard (states_of m.controllers d).current)
+pub dies_at : (m : Machine) (d : ℕ) (late : Bool) → (late ≡ true → MayTurn (states_of m.controllers d))
     → (s t : State) (xs : List Action) (out : List Timed) → IsGood s → StandsFor m s → Acts (Die d ∷ []) s xs out t → Steps s xs out t
     → Carries s (Orders.Die d late) xs out t
 dies_at m d false quiet s t xs out g st f p = subst (λ z. Carries s (Orders.Die d false) z out t) (sym f.0) (dies f.1)
 dies_at m d true quiet s t xs out g st f p =
-    let same : states_of m.controllers d ≡ s.controllers d = ap (λ (c : ℕ → ControllerState). c d) st.controllers.table.states_are in
-    let rests = heard_request (s.controllers d).current (subst (λ (c : ControllerState). IsHeard c.current) same (quiet refl)) in
-    subst (λ z. Carries s (Orders.Die d true) z out t) (sym f.0) (dies_idle rests f.1)
+    subst (λ z. Carries s (Orders.Die d true) z out t) (sym f.0) (dies_idle (may_rest m s d g st (quiet refl)) f.1)
 
 -- the request is carried out, and then it dies
 pub late_follows : (m : Machine) (d : ℕ) → Follows m (Acts (CarryOut d ∷ [])) (Acts (Die d ∷ [])) (λ s. Carries s (Orders.Die d true))

@@ -20,7 +20,7 @@ use Rattle.fw_run.specs.Entries.{died, started}
 use Rattle.fw_run.specs.State.{State, is_living, is_linked}
 use Rattle.fw_run.specs.HalfSteps.{half, has_request, after_half, with_controller}
 use Rattle.fw_run.specs.Actions.{StartConnection, StartBreak, Die, CarryOut, Start, slot_of, start_of, with_connection, after_death, after_start, with_new_controller}
-use Rattle.fw_run.specs.Good.{IsGood}
+use Rattle.fw_run.specs.Good.{IsGood, Asks}
 use Rattle.fw_run.proofs.Counting.{deaths_keep}
 use Rattle.fw_run.proofs.Turns.{living_linked}
 use Rattle.fw_bus.specs.declared.machine.Machine.{Machine}
@@ -37,6 +37,12 @@ use Rattle.fw_bus.proofs.Deaths.{death_words}
 use Rattle.fw_bus.proofs.Living.{linked_low, linked_same, living_same}
 use Rattle.fw_bus.proofs.Nodes.{SameNodes}
 use Rattle.fw_bus.proofs.Standing.{devices_same, directory_same}
+use Rattle.fw_cmp.specs.Losses.{Listening, first_listening, with_state, Awaits, MayTurn}
+use Rattle.fw_cmp.specs.declared.stage.Stage.{Stage}
+use Rattle.fw_cmp.specs.declared.outcome.StartFault.{StartFault}
+use Rattle.fw_run.proofs.Truth.{start_same, breaks_as}
+use Rattle.fw_run.proofs.Apart.{controllers_of, all_start, all_break, all_die, all_start_again}
+use Rattle.fw_bus.proofs.Heard.{at_same, lost_same, stands_here, heard_here, listens_of}
 use Rattle.fw_bus.proofs.Counts.{streams_same}
 
 -- ---- another table of controllers
@@ -53,22 +59,24 @@ same_account l = record { latest = refl; reclaiming = refl; words = λ r. refl; 
 
 -- the machine whose table is another one stands for the state whose controllers are those
 pub table_stands : (m : Machine) (s : State) (table : ControllerTable)
-    (f : (ℕ → ControllerState) → ℕ → ControllerState) (h : (ℕ → Bool) → ℕ → Bool) (l : Account) (w : Pairs) (c : PlugAt → ℕ)
-    → StandsFor m s → SameAccount s.account l → IsTable table (count_of m.controllers) (f (states_of m.controllers)) (h (dead_of m.controllers))
-    → HasWire w (record s { controllers = f s.controllers; dead = h s.dead; account = l; streams = c }) → ((p : PlugAt) → c p ≡ s.streams p)
-    → StandsFor (record m { controllers = table; wire = w }) (record s { controllers = f s.controllers; dead = h s.dead; account = l; streams = c })
-table_stands m s table f h l w c st same is wire counts = record {
+    (f : ℕ → ControllerState) (a : ℕ → ℕ) (o : ℕ → Option Stage) (k : (ℕ → Listening) → ℕ → Listening) (h : (ℕ → Bool) → ℕ → Bool) (l : Account) (w : Pairs) (c : PlugAt → ℕ)
+    → StandsFor m s → SameAccount s.account l → IsTable table (count_of m.controllers) (k (states_of m.controllers)) (h (dead_of m.controllers))
+    → controllers_of (record s { controllers = f; asked_at = a; lost = o; dead = h s.dead; account = l; streams = c }) ≡ k (controllers_of s)
+    → HasWire w (record s { controllers = f; asked_at = a; lost = o; dead = h s.dead; account = l; streams = c }) → ((p : PlugAt) → c p ≡ s.streams p)
+    → StandsFor (record m { controllers = table; wire = w }) (record s { controllers = f; asked_at = a; lost = o; dead = h s.dead; account = l; streams = c })
+table_stands m s table f a o k h l w c st same is all wire counts = record {
   devices = devices_same m.devices s t kept refl refl same.linger st.devices;
   clock = record {
     cycle = st.clock.cycle;
     reclaiming = st.clock.reclaiming ∙ sym same.reclaiming;
     half_steps = st.clock.half_steps;
     written = st.clock.written;
+    resets = st.clock.resets;
   };
   controllers = record {
     table = record {
       count_is = is.count_is ∙ st.controllers.table.count_is;
-      states_are = is.states_are ∙ ap f st.controllers.table.states_are;
+      states_are = is.states_are ∙ (ap k st.controllers.table.states_are ∙ sym all);
       dead_are = is.dead_are ∙ ap h st.controllers.table.dead_are;
     };
     directory = st.controllers.directory ∙ sym (directory_same s t same.latest refl);
@@ -80,7 +88,7 @@ table_stands m s table f h l w c st same is wire counts = record {
 }
   where
     t : State
-    t = record s { controllers = f s.controllers; dead = h s.dead; account = l; streams = c }
+    t = record s { controllers = f; asked_at = a; lost = o; dead = h s.dead; account = l; streams = c }
 
     kept : SameNodes s t
     kept = record { names = refl; devices = refl; kinds = refl; latest = same.latest; bus_manager_id = refl; words = same.words }
@@ -92,21 +100,21 @@ accepted_at (Ok i) ok = (i, refl)
 accepted_at (Err e) ok = let no : ⊥ = grind (arith, ok) in absurd no
 
 -- the controllers after a connection was asked for
-abbrev pub connected : ℕ → Wanted → (ℕ → ControllerState) → ℕ → ControllerState
-connected d w c = update c d (given (start_of d w (c d)) (slot_of w) (c d))
+abbrev pub connected : ℕ → Wanted → (ℕ → Listening) → ℕ → Listening
+connected d w c = update c d (with_state (c d) (given (start_of d w (c d).state) (slot_of w) (c d).state))
 
 pub connect_turns : (m : Machine) (table : ControllerTable) (d : ℕ) (w : Wanted)
-    → IsTrue (is_living_in m d) → SlotFits (slot_of w) → IsOk (start_of d w (states_of m.controllers d))
+    → IsTrue (is_living_in m d) → SlotFits (slot_of w) → IsOk (start_of d w (states_of m.controllers d).state)
     → IsTable table (count_of m.controllers) (connected d w (states_of m.controllers)) (dead_of m.controllers)
     → Turns (StartConnection d w) m (record m { controllers = table }) m.cycle None
 connect_turns m table d w lives slot ok is = record {
   shown = λ s g st.
-      let same : states_of m.controllers d ≡ s.controllers d = ap (λ (c : ℕ → ControllerState). c d) st.controllers.table.states_are in
-      let accepted : IsOk (start_of d w (s.controllers d)) = subst (λ c. IsOk (start_of d w c)) same ok in
+      let same : start_of d w (states_of m.controllers d).state ≡ start_of d w (s.controllers d) = ap (λ (c : Listening). start_of d w c.state) (at_same m s d st) ∙ start_same d w (s.controllers d) (s.lost d) in
+      let accepted : IsOk (start_of d w (s.controllers d)) = subst (λ (o : Result ℕ StartFault). IsOk o) same ok in
       let living : IsTrue (is_living s d) = subst IsTrue (living_same m s d g st) lives in (
         with_connection s d w,
         (st.answered, (living, slot, accepted_at (start_of d w (s.controllers d)) accepted, refl, refl)),
-        table_stands m s table (connected d w) (λ x. x) s.account m.wire s.streams st (same_account s.account) is
+        table_stands m s table (with_connection s d w).controllers s.asked_at s.lost (connected d w) (λ x. x) s.account m.wire s.streams st (same_account s.account) is (all_start s d w)
             (wire_same m.wire s (with_connection s d w) refl refl
             (same_currents s.controllers d (given (start_of d w (s.controllers d)) (slot_of w) (s.controllers d))
             (given_current (start_of d w (s.controllers d)) (slot_of w) (s.controllers d))) st.wire)
@@ -115,20 +123,20 @@ connect_turns m table d w lives slot ok is = record {
 }
 
 -- the controllers after a break was asked for
-abbrev pub broken : ℕ → ℕ → (ℕ → ControllerState) → ℕ → ControllerState
-broken d i c = update c d (break_started (c d) i)
+abbrev pub broken : ℕ → ℕ → (ℕ → Listening) → ℕ → Listening
+broken d i c = update c d (with_state (c d) (break_started (c d).state i))
 
-pub break_turns : (m : Machine) (table : ControllerTable) (d i : ℕ) → IsTrue (is_living_in m d) → break_fault (states_of m.controllers d) i ≡ None
+pub break_turns : (m : Machine) (table : ControllerTable) (d i : ℕ) → IsTrue (is_living_in m d) → break_fault (states_of m.controllers d).state i ≡ None
     → IsTable table (count_of m.controllers) (broken d i (states_of m.controllers)) (dead_of m.controllers)
     → Turns (StartBreak d i) m (record m { controllers = table }) m.cycle None
 break_turns m table d i lives ok is = record {
   shown = λ s g st.
-      let same : states_of m.controllers d ≡ s.controllers d = ap (λ (c : ℕ → ControllerState). c d) st.controllers.table.states_are in
-      let accepted : break_fault (s.controllers d) i ≡ None = subst (λ c. break_fault c i ≡ None) same ok in
+      let same : break_fault (states_of m.controllers d).state i ≡ break_fault (s.controllers d) i = ap (λ (c : Listening). break_fault c.state i) (at_same m s d st) ∙ breaks_as s d i in
+      let accepted : break_fault (s.controllers d) i ≡ None = sym same ∙ ok in
       let living : IsTrue (is_living s d) = subst IsTrue (living_same m s d g st) lives in (
         with_controller s d (break_started (s.controllers d) i),
         (st.answered, (living, accepted, refl, refl)),
-        table_stands m s table (broken d i) (λ x. x) s.account m.wire s.streams st (same_account s.account) is
+        table_stands m s table (with_controller s d (break_started (s.controllers d) i)).controllers s.asked_at s.lost (broken d i) (λ x. x) s.account m.wire s.streams st (same_account s.account) is (all_break s d i)
             (wire_same m.wire s (with_controller s d (break_started (s.controllers d) i)) refl refl
             (same_currents s.controllers d (break_started (s.controllers d) i) (break_current (s.controllers d) i)) st.wire)
             (λ p. refl),
@@ -142,8 +150,8 @@ death_same : (l : Account) (d : ℕ) → d < 63 → SameAccount l (account_after
 death_same l d lt = record { latest = refl; reclaiming = refl; words = death_words l d lt; linger = λ p. refl }
 
 -- the controllers where that of a device has just started
-abbrev pub renewed : ℕ → (ℕ → ControllerState) → ℕ → ControllerState
-renewed d c = update c d new_controller
+abbrev pub renewed : ℕ → (ℕ → Listening) → ℕ → Listening
+renewed d c = update c d first_listening
 
 abbrev pub marked : ℕ → Bool → (ℕ → Bool) → ℕ → Bool
 marked d b c = update c d b
@@ -159,7 +167,7 @@ death_turns m table d own e lives number entry is = record {
       let same = death_same s.account d (linked_low s d g (living_linked s d living)) in (
         after_death s d,
         (st.answered, (living, out, refl)),
-        table_stands m s table (renewed d) (marked d true) (account_after_death d s.account) (without own m.wire) (after_death s d).streams st same is
+        table_stands m s table (after_death s d).controllers (after_death s d).asked_at (after_death s d).lost (renewed d) (marked d true) (account_after_death d s.account) (without own m.wire) (after_death s d).streams st same is (all_die s d)
             (wire_take m.wire s (after_death s d) d own new_controller g
             (record { latest = same.latest; told = directory_same s (after_death s d) same.latest refl; controllers = refl })
             (own_number m s d own g st lives number) refl st.wire)
@@ -187,7 +195,7 @@ start_turns m table d e on was entry is = record {
       let out : at_most m.cycle (Some e) ≡ at_most s.clock.cycle (Some (started d)) = (λ i. at_most (st.clock.cycle i) (Some (entry i))) in (
         after_start s d,
         (st.answered, (linked, dead, out, refl)),
-        table_stands m s table (renewed d) (marked d false) s.account m.wire s.streams st (same_account s.account) is
+        table_stands m s table (after_start s d).controllers (after_start s d).asked_at (after_start s d).lost (renewed d) (marked d false) s.account m.wire s.streams st (same_account s.account) is (all_start_again s d)
             (wire_same m.wire s (with_new_controller s d false) refl refl
             (same_currents s.controllers d new_controller (sym (ap (λ (x : ControllerState). x.current) (unused s d g dead)))) st.wire)
             (λ p. refl),
@@ -196,7 +204,7 @@ start_turns m table d e on was entry is = record {
 
 -- ---- the request that stands
 
-stands_request : (x : Current) → IsStanding x → IsTrue (has_request x)
+pub stands_request : (x : Current) → IsStanding x → IsTrue (has_request x)
 stands_request Nothing h = absurd h
 stands_request (Asking j stage) h = absurd h
 stands_request (Hearing j stage) h = refl
@@ -208,14 +216,27 @@ heard_request (Asking j stage) h = refl
 heard_request (Hearing j stage) h = absurd h
 heard_request (Overtaken i o) h = refl
 
+-- none stands of one that may turn
+pub may_rest : (m : Machine) (s : State) (d : ℕ) → IsGood s → StandsFor m s → MayTurn (states_of m.controllers d) → IsFalse (has_request (s.controllers d).current)
+may_rest m s d g st may = go (states_of m.controllers d).lost refl
+  where
+    asking : (c : Current) → Asks c → IsFalse (has_request c)
+    asking Nothing h = refl
+    asking (Asking j stage) h = refl
+    asking (Hearing j stage) h = absurd h
+    asking (Overtaken i o) h = refl
+
+    go : (b : Bool) → (states_of m.controllers d).lost ≡ b → IsFalse (has_request (s.controllers d).current)
+    go true e = asking (s.controllers d).current (g.losses.asks d (sym (lost_same m s d st) ∙ e))
+    go false e = heard_request (s.controllers d).current (heard_here m s d st (listens_of (states_of m.controllers d) may e))
+
 -- it is carried out
 pub carry_turns : (m now : Machine) (d : ℕ) (e : Option Entry)
-    → IsTrue (is_living_in m d) → IsStanding (states_of m.controllers d).current → Takes half m now d e → Turns (CarryOut d) m now m.cycle e
+    → IsTrue (is_living_in m d) → Awaits (states_of m.controllers d) → Takes half m now d e → Turns (CarryOut d) m now m.cycle e
 carry_turns m now d e lives stands takes = record {
   shown = λ s g st.
       let living : IsTrue (is_living s d) = subst IsTrue (living_same m s d g st) lives in
-      let same : states_of m.controllers d ≡ s.controllers d = ap (λ (c : ℕ → ControllerState). c d) st.controllers.table.states_are in
-      let standing : IsStanding (s.controllers d).current = subst (λ (c : ControllerState). IsStanding c.current) same stands in
+      let standing : IsStanding (s.controllers d).current = stands_here m s d st stands in
       let request : IsTrue (has_request (s.controllers d).current) = stands_request (s.controllers d).current standing in
       let x = takes s g st in
       let said = x.0 in

@@ -1,5 +1,5 @@
 -- Which nodes have a link, and which controllers live: by the machine and by the run.
-use Rattle.std.proofs.Common.{◌≡◌, ℕ, ◌<◌, ◌&&◌, ◌||◌, ◌==◌, not, length, Bool, true, false, cond, Option, Some, None, is_some, refl, ap, sym, subst, ◌∙◌, arith, IsTrue}
+use Rattle.std.proofs.Common.{◌≡◌, inl, inr, nat_lt, ℕ, ◌<◌, ◌&&◌, ◌||◌, ◌==◌, not, length, Bool, true, false, cond, Option, Some, None, is_some, refl, ap, sym, subst, ◌∙◌, arith, IsTrue, IsFalse}
 use Rattle.fw_base.specs.declared.device.DeviceKind.{DeviceKind}
 use Rattle.fw_base.specs.declared.device.DeviceKind.TheVariants.{Relay, Deck, Camcorder, Computer}
 use Rattle.fw_base.specs.Devices.{code_of, has_link}
@@ -8,6 +8,8 @@ use Rattle.fw_base.proofs.Tables.{IsFirst, find_to_is}
 use Rattle.fw_cmp.specs.declared.current.Current.{Current}
 use Rattle.fw_cmp.specs.declared.current.Current.TheVariants.{Nothing, Asking, Hearing, Overtaken}
 use Rattle.fw_cmp.specs.Controllers.{IsHeard, IsStanding}
+use Rattle.fw_cmp.specs.Losses.{Listening, MayTurn, Awaits, turn_of, deaf_turn, deaf_until}
+use Rattle.fw_cmp.specs.declared.outcome.Next.TheVariants.{Deaf, Force}
 use Rattle.fw_cmp.specs.Turns.{next, is_busy}
 use Rattle.fw_entry.specs.declared.entry.ResetEntry.{ResetEntry}
 use Rattle.fw_devices.specs.Network.{Network, is_node, kind_at}
@@ -17,6 +19,8 @@ use Rattle.fw_run.specs.Good.{IsGood, IsLatest}
 use Rattle.fw_run.specs.HalfSteps.{has_request, is_busy_at, is_unsettled}
 use Rattle.fw_run.proofs.Buses.{linked_small}
 use Rattle.fw_run.proofs.Leads.{linked_of}
+use Rattle.fw_run.proofs.Idle.{deaf_busy}
+use Rattle.fw_run.proofs.Truth.{quiet_at}
 use Rattle.fw_bus.specs.declared.machine.Machine.{Machine}
 use Rattle.fw_bus.specs.Stands.{HasDevices, IsReady, StandsFor, is_linked_in, is_living_in, living_in}
 use Rattle.fw_bus.specs.Tables.{count_of, dead_of, states_of}
@@ -105,29 +109,42 @@ living_there m d r lives = linked_there m d r (living_in_linked m d lives)
 -- ---- whether there is something to do
 
 -- what the controller says of itself
-pub busy_same : (m : Machine) (s : State) (d : ℕ) (r : Bool) → StandsFor m s
-    → (IsHeard (states_of m.controllers d).current → r ≡ is_busy (next m.cycle m.directory (states_of m.controllers d)))
-    → (IsStanding (states_of m.controllers d).current → IsTrue r) → r ≡ is_busy_at s d
-busy_same m s d r st heard stands =
-    go (states_of m.controllers d).current refl heard stands ∙ (λ i. has_request (same i d).current || is_busy (next (cycle i) (directory i) (same i d)))
+pub busy_same : (m : Machine) (s : State) (d : ℕ) (r : Bool) → IsGood s → StandsFor m s
+    → (MayTurn (states_of m.controllers d) → r ≡ is_busy (turn_of m.cycle m.directory (states_of m.controllers d)))
+    → (Awaits (states_of m.controllers d) → IsTrue r) → r ≡ is_busy_at s d
+busy_same m s d r g st turns awaits = by_loss (states_of m.controllers d).lost refl
   where
-    same : states_of m.controllers ≡ s.controllers
-    same = st.controllers.table.states_are
+    x : Listening
+    x = states_of m.controllers d
 
-    cycle : m.cycle ≡ s.clock.cycle
-    cycle = st.clock.cycle
+    waits : (b : Bool) (until : ℕ) → is_busy (cond b (Deaf until) Force) ≡ true
+    waits true until = refl
+    waits false until = refl
 
-    directory : m.directory ≡ directory_of s
-    directory = st.controllers.directory
+    -- one that has lost a response is busy
+    by_deaf : IsTrue x.lost → r ≡ is_busy_at s d
+    by_deaf e =
+        let busy : is_busy (turn_of m.cycle m.directory x) ≡ true =
+        ap (λ b. is_busy (cond b (deaf_turn m.cycle (deaf_until x)) (next m.cycle m.directory x.state))) e ∙ waits (nat_lt m.cycle (deaf_until x)) (deaf_until x) in
+        turns (inl e) ∙ (busy ∙ sym (deaf_busy s d g (sym (ap (λ (c : ℕ → Listening). (c d).lost) st.controllers.table.states_are) ∙ e)))
 
-    busy : Bool
-    busy = is_busy (next m.cycle m.directory (states_of m.controllers d))
+    -- one that has not is as the run has it
+    same : IsFalse x.lost → x ≡ record { state = s.controllers d; asked_at = s.asked_at d; lost = false }
+    same e = ap (λ (c : ℕ → Listening). c d) st.controllers.table.states_are ∙ quiet_at s d (sym (ap (λ (c : ℕ → Listening). (c d).lost) st.controllers.table.states_are) ∙ e)
 
-    go : (x : Current) → (states_of m.controllers d).current ≡ x → (IsHeard x → r ≡ busy) → (IsStanding x → IsTrue r) → r ≡ (has_request x || busy)
-    go Nothing e h k = h tt
-    go (Asking j stage) e h k = h tt
-    go (Hearing j stage) e h k = k tt
-    go (Overtaken slot outcome) e h k = h tt
+    heard : IsFalse x.lost → (c : Current) → x.state.current ≡ c → r ≡ (has_request c || is_busy (turn_of m.cycle m.directory x))
+    heard e Nothing f = turns (inr (subst IsHeard (sym f) tt))
+    heard e (Asking j stage) f = turns (inr (subst IsHeard (sym f) tt))
+    heard e (Hearing j stage) f = awaits (e, subst IsStanding (sym f) tt)
+    heard e (Overtaken slot outcome) f = turns (inr (subst IsHeard (sym f) tt))
+
+    by_loss : (b : Bool) → x.lost ≡ b → r ≡ is_busy_at s d
+    by_loss true e = by_deaf e
+    by_loss false e =
+        let is = same e in
+        let cycle = st.clock.cycle in
+        let directory = st.controllers.directory in
+        heard e x.state.current refl ∙ (λ i. has_request (is i).state.current || is_busy (turn_of (cycle i) (directory i) (is i)))
 
 -- a living controller that has something to do
 pub unsettled_at : (s : State) (d : ℕ) → d < length s.declared.names → is_living s d ≡ true → is_busy_at s d ≡ true → is_unsettled s ≡ true

@@ -1,5 +1,5 @@
 -- Cables that come to the machine are those of the run.
-use Rattle.std.proofs.Common.{◌≡◌, ℕ, ◌<◌, ◌&&◌, not, nat_le, List, [], ◌∷◌, Bool, true, false, Option, None, Some, cond, refl, ap, sym, subst, ◌∙◌, arith, length, IsTrue, IsFalse}
+use Rattle.std.proofs.Common.{◌≡◌, ℕ, ◌+◌, ◌<◌, ◌&&◌, not, nat_le, List, [], ◌∷◌, Bool, true, false, Option, None, Some, cond, refl, ap, sym, subst, ◌∙◌, arith, length, IsTrue, IsFalse}
 use Rattle.std.proofs.lemmas.Bool.Decides.{nat_tests}
 use Rattle.std.specs.declared.result.Result.{Result}
 use Rattle.fw_entry.specs.declared.entry.Entry.TheVariants.{Reset}
@@ -13,7 +13,7 @@ use Rattle.fw_devices.specs.Network.{Network, kinds_of, is_node}
 use Rattle.fw_devices.proofs.JoinLaws.{bus_grows}
 use Rattle.fw_run.specs.Giving.{at_most}
 use Rattle.fw_run.specs.State.{State, is_on}
-use Rattle.fw_run.specs.Actions.{AddCable, Step, Resets, Joins, with_topology}
+use Rattle.fw_run.specs.Actions.{AddCable, Step, Resets, Joins, with_topology, Begins, counting}
 use Rattle.fw_run.specs.Good.{IsGood}
 use Rattle.fw_run.proofs.Cables.{cabled_declared}
 use Rattle.fw_bus.specs.declared.machine.Machine.{Machine}
@@ -27,7 +27,8 @@ use Rattle.fw_bus.proofs.Lingers.{lingering_same}
 use Rattle.fw_bus.proofs.Nodes.{SameNodes, is_node_same, nodes_same}
 use Rattle.fw_bus.proofs.Renumbered.{extends_cabled}
 use Rattle.fw_bus.proofs.Began.{MayBegin}
-use Rattle.fw_bus.proofs.ResetTurns.{reset_of, some_nodes, ready_on}
+use Rattle.fw_bus.proofs.ResetTurns.{reset_of, some_nodes, ready_on, counting_in, few_epochs}
+use Rattle.fw_bus.proofs.Standing.{resets_stand}
 use Rattle.fw_bus.proofs.Doings.{does_one}
 
 -- what a cable between these ends makes of the devices, of which the first is on the bus or not, and the second
@@ -59,7 +60,7 @@ joined_stands m s devices a b x y st j = record {
     epoch = ap (λ (n : Network). n.epoch) j.same ∙ st.devices.epoch;
     manager = ap (λ (n : Network). n.manager) j.same ∙ st.devices.manager;
   };
-  clock = record { cycle = st.clock.cycle; reclaiming = st.clock.reclaiming; half_steps = st.clock.half_steps; written = st.clock.written };
+  clock = record { cycle = st.clock.cycle; reclaiming = st.clock.reclaiming; half_steps = st.clock.half_steps; written = st.clock.written; resets = st.clock.resets };
   controllers = record { table = st.controllers.table; directory = st.controllers.directory };
   wire = record { each = st.wire.each };
   streams = record { size = st.streams.size; each = st.streams.each };
@@ -93,9 +94,9 @@ joins_by m s devices a b x y out t g st j joins =
     (subst (λ q. Joins x q a.device b.device (with_topology s devices.topology) out t) second joins)
 
 -- where one end is on the bus and the other is off, the end on the bus begins a bus reset
-join_resets : (m now : Machine) (devices : Network) (a b : End) (x y : Bool) (i : ℕ) → IsCable m devices a b x y → m.devices.epoch < 10000
-    → ((s : State) (out : List Timed) (t : State) → Resets s i out t → Joins x y a.device b.device s out t) → IsTrue (is_node m.devices.nodes i)
-    → BeginsReset (with_devices m devices) now i → Turns (AddCable a b) m now m.cycle (Some (Reset now.devices.latest))
+join_resets : (m now : Machine) (devices : Network) (a b : End) (x y : Bool) (i : ℕ) → IsCable m devices a b x y → m.resets < 10000
+    → ((s : State) (out : List Timed) (t : State) → Begins s i out t → Joins x y a.device b.device s out t) → IsTrue (is_node m.devices.nodes i)
+    → BeginsReset (counting_in (with_devices m devices)) now i → Turns (AddCable a b) m now m.cycle (Some (Reset now.devices.latest))
 join_resets m now devices a b x y i j few joins node begins = record { shown = shown_ }
   where
     shown_ : (s : State) → IsGood s → StandsFor m s
@@ -103,18 +104,19 @@ join_resets m now devices a b x y i j few joins node begins = record { shown = s
     shown_ s g st =
         let js = joined_in m s devices.topology a b st j.joined in
         let s1 = with_topology s devices.topology in
-        let may : MayBegin (with_devices m devices) s s1 i = record {
+        let low : s.resets < 10000 = let resets = st.clock.resets in omega (arith, resets, few) in
+        let may : MayBegin (counting_in (with_devices m devices)) s (counting s1) i = record {
           is_good = g;
           action = AddCable a b;
-          begins = λ out t r. (st.answered, (devices.topology, js, joins_by m s devices a b x y out t g st j (joins s1 out t r)));
-          extends = extends_cabled s devices.topology;
-          stands = joined_stands m s devices a b x y st j;
+          begins = λ out t r. (st.answered, (devices.topology, js, joins_by m s devices a b x y out t g st j (joins s1 out t (low, r))));
+          extends = record { account = refl; cycle = refl; decks = refl; streams = refl; kinds = λ d lt. refl };
+          stands = resets_stand (with_devices m devices) s1 (m.resets + 1) (s.resets + 1) (ap (λ n. n + 1) st.clock.resets) (joined_stands m s devices a b x y st j);
           declared = cabled_declared s.declared devices.topology a b js g.declared;
           some = subst (λ (ns : List NodeState). 0 < length ns) (sym (ap (λ (n : Network). n.nodes) j.same)) (some_nodes m s i g st node);
           more = let n = ap (λ (fs : List PhyFacts). length fs) js.same in omega (arith, n);
           walks = bus_grows s.declared.topology devices.topology a b js g.declared.made;
         } in
-        let r = reset_of (with_devices m devices) now s s1 i may begins (subst (λ n. n < 10000) (sym (ap (λ (n : Network). n.epoch) j.same)) few) in
+        let r = reset_of (counting_in (with_devices m devices)) now s (counting s1) i may begins (subst (λ n. n < 10000) (sym (ap (λ (n : Network). n.epoch) j.same)) (few_epochs m s g st few)) in
         (r.state, may.begins (at_most m.cycle (Some (Reset now.devices.latest))) r.state r.resets, r.stands)
 
 -- where both are off nothing else happens; both on the bus they cannot be
@@ -130,9 +132,9 @@ join_silent m devices a b x y j joins = record { shown = shown_ }
 
 -- the entry of the bus reset was written, or cut off
 pub join_does : {T E : Type 0} {held after : Option (List ℕ)} {k l : ℕ}
-    (m now : Machine) (devices : Network) (a b : End) (x y : Bool) (i : ℕ) (r : Result T E) → IsCable m devices a b x y → m.devices.epoch < 10000
-    → ((s : State) (out : List Timed) (t : State) → Resets s i out t → Joins x y a.device b.device s out t) → IsTrue (is_node m.devices.nodes i)
-    → GivesReset (with_devices m devices) now i held after k l r → Does (Acts (AddCable a b ∷ [])) m now held after k l r
+    (m now : Machine) (devices : Network) (a b : End) (x y : Bool) (i : ℕ) (r : Result T E) → IsCable m devices a b x y → m.resets < 10000
+    → ((s : State) (out : List Timed) (t : State) → Begins s i out t → Joins x y a.device b.device s out t) → IsTrue (is_node m.devices.nodes i)
+    → GivesReset (counting_in (with_devices m devices)) now i held after k l r → Does (Acts (AddCable a b ∷ [])) m now held after k l r
 join_does m now devices a b x y i r j few joins node h =
     does_one m.cycle (Some (Reset now.devices.latest)) r (join_resets m now devices a b x y i j few joins node h.begins) h.gives h.faults
 
@@ -146,9 +148,9 @@ ready_joined {m} devices a b d r j node =
 
 -- fewer bus resets than there may be, where the cable begins one
 pub few_of : (m : Machine) (a b : End) (x y : Bool) → is_node m.devices.nodes a.device ≡ x → is_node m.devices.nodes b.device ≡ y → cond x (not y) y ≡ true
-    → IsFalse (joins_in m a b && nat_le 10000 m.devices.epoch) → m.devices.epoch < 10000
+    → IsFalse (joins_in m a b && nat_le 10000 m.resets) → m.resets < 10000
 few_of m a b x y ea eb joins h =
     let on : ℕ → Bool = is_node m.devices.nodes in
     let joining : joins_in m a b ≡ true = ap (λ z. cond z (not (on b.device)) (on b.device)) ea ∙ (ap (λ z. cond x (not z) z) eb ∙ joins) in
-    let small : nat_le 10000 m.devices.epoch ≡ false = sym (ap (λ z. z && nat_le 10000 m.devices.epoch) joining) ∙ h in
+    let small : nat_le 10000 m.resets ≡ false = sym (ap (λ z. z && nat_le 10000 m.resets) joining) ∙ h in
     grind (arith, nat_tests)

@@ -12,7 +12,7 @@ use Rattle.fw_devices.specs.Network.{with_device, facts_of}
 use Rattle.fw_run.specs.Giving.{at_most}
 use Rattle.fw_run.specs.State.{State, epoch_of}
 use Rattle.fw_run.specs.State as States
-use Rattle.fw_run.specs.Actions.{AddDevice, Step, Declares, Resets}
+use Rattle.fw_run.specs.Actions.{AddDevice, Step, Declares, Resets, beginning}
 use Rattle.fw_run.specs.Good.{IsGood, IsLatest}
 use Rattle.fw_run.proofs.Declares.{MayDeclare, more_declared}
 use Rattle.fw_bus.specs.declared.machine.Machine.{Machine}
@@ -27,6 +27,7 @@ use Rattle.fw_bus.proofs.Nodes.{nodes_declared}
 use Rattle.fw_bus.proofs.Renumbered.{extends_declared}
 use Rattle.fw_bus.proofs.Began.{MayBegin}
 use Rattle.fw_bus.proofs.ResetTurns.{reset_of}
+use Rattle.fw_bus.proofs.Standing.{resets_stand}
 use Rattle.fw_bus.proofs.Doings.{does_one}
 
 -- ---- a device more
@@ -64,7 +65,7 @@ declared_stands m s table name kind ports speed g st more = record {
     epoch = st.devices.epoch;
     manager = st.devices.manager;
   };
-  clock = record { cycle = st.clock.cycle; reclaiming = st.clock.reclaiming; half_steps = st.clock.half_steps; written = st.clock.written };
+  clock = record { cycle = st.clock.cycle; reclaiming = st.clock.reclaiming; half_steps = st.clock.half_steps; written = st.clock.written; resets = st.clock.resets };
   controllers = record {
     table = record {
       count_is = more.count_is ∙ (ap (λ k. k + 1) st.controllers.table.count_is ∙ sym (length-append s.declared.names (name ∷ [])));
@@ -99,31 +100,31 @@ may_declare m s ports speed g st may = record {
 -- the first device begins the first bus reset
 first_turns : (m now : Machine) (table : ControllerTable) (name : List ℕ) (kind : DeviceKind) (ports speed : ℕ) → m.devices.names ≡ [] → MayAdd m ports speed
     → IsOneMore m table → m.devices.epoch < 10000
-    → BeginsReset (with_device_in m table name kind ports speed) now 0 → Turns (AddDevice name kind ports speed) m now m.cycle (Some (Reset now.devices.latest))
+    → BeginsReset (record (with_device_in m table name kind ports speed) { resets = 1 }) now 0 → Turns (AddDevice name kind ports speed) m now m.cycle (Some (Reset now.devices.latest))
 first_turns m now table name kind ports speed none may more few b = record { shown = shown_ }
   where
     new : Machine
-    new = with_device_in m table name kind ports speed
+    new = record (with_device_in m table name kind ports speed) { resets = 1 }
 
     shown_ : (s : State) → IsGood s → StandsFor m s
         → (t : State) × Step s (AddDevice name kind ports speed) (at_most m.cycle (Some (Reset now.devices.latest))) t × StandsFor now t
     shown_ s g st =
         let names : s.declared.names ≡ [] = sym st.devices.names ∙ none in
         let d = may_declare m s ports speed g st may in
-        let declares = λ (out : List Timed) (t : State) (r : Resets (declared_in s name kind ports speed) 0 out t).
+        let declares = λ (out : List Timed) (t : State) (r : Resets (beginning (declared_in s name kind ports speed)) 0 out t).
         subst (λ (xs : List (List ℕ)). Declares xs (declared_in s name kind ports speed) out t) (sym names) r in
-        let begin : MayBegin new s (declared_in s name kind ports speed) 0 = record {
+        let begin : MayBegin new s (beginning (declared_in s name kind ports speed)) 0 = record {
           is_good = g;
           action = AddDevice name kind ports speed;
           begins = λ out t r. (st.answered, (d.room, may.some, may.most, may.fast, declares out t r));
-          extends = extends_declared s name kind ports speed g;
-          stands = declared_stands m s table name kind ports speed g st more;
+          extends = let x = extends_declared s name kind ports speed g in record { account = refl; cycle = refl; decks = refl; streams = refl; kinds = x.kinds };
+          stands = resets_stand (with_device_in m table name kind ports speed) (declared_in s name kind ports speed) 1 1 refl (declared_stands m s table name kind ports speed g st more);
           declared = more_declared s name kind ports speed d;
           some = let n = length-append m.devices.nodes (Nodes.first_state kind (length m.devices.names) speed ∷ []) in omega (arith, n);
           more = let n = length-append s.declared.topology.devices (facts_of kind ports speed ∷ []) in omega (arith, n);
           walks = λ c on. on;
         } in
-        let r = reset_of new now s (declared_in s name kind ports speed) 0 begin b few in
+        let r = reset_of new now s (beginning (declared_in s name kind ports speed)) 0 begin b few in
         (r.state, begin.begins (at_most m.cycle (Some (Reset now.devices.latest))) r.state r.resets, r.stands)
 
 -- any other is off
@@ -150,7 +151,7 @@ later_turns m table name kind ports speed there may more = record { shown = show
 pub first_does : {T E : Type 0} {held after : Option (List ℕ)} {k l : ℕ}
     (m now : Machine) (table : ControllerTable) (name : List ℕ) (kind : DeviceKind) (ports speed : ℕ) (r : Result T E)
     → m.devices.names ≡ [] → MayAdd m ports speed → IsOneMore m table → m.devices.epoch < 10000
-    → GivesReset (with_device_in m table name kind ports speed) now 0 held after k l r
+    → GivesReset (record (with_device_in m table name kind ports speed) { resets = 1 }) now 0 held after k l r
     → Does (Acts (AddDevice name kind ports speed ∷ [])) m now held after k l r
 first_does m now table name kind ports speed r none may more few h =
     does_one m.cycle (Some (Reset now.devices.latest)) r (first_turns m now table name kind ports speed none may more few h.begins) h.gives h.faults

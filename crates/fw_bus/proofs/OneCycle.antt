@@ -121,7 +121,7 @@ begin_few {m = m} {mid} root r few d is =
 pub begins : {T E U F : Type 0} {m mid : Machine} {a b c : Option (List ℕ)} {k l n : ℕ} {u : T} {r : Result U F} (root : ℕ) (packet : Packet) → IsReady m
     → (0 < length m.devices.nodes → m.written < 8000) → Does {T = T} {E = E} Comes m mid a b k l (Ok u)
     → ((s : State) → IsGood s → StandsFor mid s → root_of s.account.latest ≡ Some root) → packet ≡ cycle_start root mid.cycle
-    → Gives b c r mid.cycle (Some (Async packet)) → CountsFaults l n r → Does Begins m (started mid) a c k n r
+    → Gives b c r mid.cycle mid.devices.epoch (Some (Async packet)) → CountsFaults l n r → Does Begins m (started mid) a c k n r
 begins {m = m} {mid} {r = r} root packet ready few d is same gives faults =
     does_then r (begin_follows {m = m}) d
     (does_one mid.cycle (Some (Async packet)) r (start_turns mid (started mid) root packet is (begin_few root ready few d is) same refl) gives faults)

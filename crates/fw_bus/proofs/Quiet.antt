@@ -9,8 +9,8 @@ use Rattle.fw_entry.specs.declared.entry.Timed.{Timed}
 use Rattle.fw_fcp.specs.declared.frame.Frame.{Frame}
 use Rattle.fw_script.specs.declared.command.Command.{Command}
 use Rattle.fw_run.specs.declared.order.Order.{Order}
-use Rattle.fw_run.specs.Actions.{Action, AddDevice, AddCable, ResetBus, StartConnection, StartBreak, HalfStep, Rest, Unsettled, Pass, EndSecond, Die, CarryOut, Start, Ask, Answer, ShowWord, SendCommand, SendFrame, Receive, InsertTape, EjectTape, StartCycle, SendPacket, Finish, Resets, Declares, Joins, Step, Steps}
-use Rattle.fw_run.specs.Carrying.{times, half_steps_of, next_cycle, SendsPackets, HasCycle, HasCycles, Rounds, none, round, rest, SendsAll, quiet, sends, Carries, declares, joins, resets, connects, breaks, steps, settled, unsettled, waits, waits_over, writes_cycles, dies, dies_late, dies_idle, starts, goes_on, transacts, shows, commanded, inserts, ejects, ejects_nothing, ends}
+use Rattle.fw_run.specs.Actions.{Action, AddDevice, AddCable, ResetBus, StartConnection, StartBreak, HalfStep, Rest, Unsettled, Pass, EndSecond, Die, CarryOut, Start, Ask, Answer, ShowWord, SendCommand, SendFrame, Receive, InsertTape, EjectTape, StartCycle, SendPacket, Finish, Resets, Declares, Joins, Step, Steps, Lose, TellLoss, beginning, counting, counted}
+use Rattle.fw_run.specs.Carrying.{times, half_steps_of, next_cycle, SendsPackets, HasCycle, HasCycles, Rounds, none, round, rest, SendsAll, quiet, sends, Carries, declares, joins, resets, connects, breaks, steps, settled, unsettled, waits, waits_over, writes_cycles, dies, dies_late, dies_idle, starts, goes_on, transacts, shows, commanded, inserts, ejects, ejects_nothing, ends, loses}
 use Rattle.std.proofs.lemmas.Option.{same_Some}
 use Rattle.fw_run.specs.Decks.{DeckState, FrameWrite, Obeyed, after_frame, next_frame}
 use Rattle.fw_run.specs.Frames.{decks_after, command_write}
@@ -20,6 +20,7 @@ use Rattle.fw_run.specs.Streams.{talkers}
 use Rattle.fw_run.proofs.Turns.{update_new, update_others}
 use Rattle.fw_bus.specs.Framing.{IsQuiet}
 use Rattle.fw_bus.specs.declared.machine.Machine.{Machine}
+use Rattle.fw_run.proofs.Taking.{Taken, listens, keeps_deaf, forces_reset, taken_as}
 use Rattle.fw_bus.specs.Stands.{StandsFor}
 
 -- no response waits
@@ -62,28 +63,35 @@ resets_quiet : (s t : State) (d : ℕ) (out : List Timed) → Resets s d out t �
 resets_quiet s t d out x = as_is t _ x.state_is (λ c. refl)
 
 declares_quiet : (names : List (List ℕ)) (s t : State) (out : List Timed) → AreQuiet s → Declares names s out t → AreQuiet t
-declares_quiet [] s t out q x = resets_quiet s t 0 out x
+declares_quiet [] s t out q x = resets_quiet (beginning s) t 0 out x
 declares_quiet (n ∷ names) s t out q x = as_is t s x.1 q
 
 joins_quiet : (a b : Bool) (c d : ℕ) (s t : State) (out : List Timed) → AreQuiet s → Joins a b c d s out t → AreQuiet t
-joins_quiet true false c d s t out q x = resets_quiet s t c out x
-joins_quiet false true c d s t out q x = resets_quiet s t d out x
+joins_quiet true false c d s t out q x = resets_quiet (counting s) t c out x.1
+joins_quiet false true c d s t out q x = resets_quiet (counting s) t d out x.1
 joins_quiet true true c d s t out q x = as_is t s x.1 q
 joins_quiet false false c d s t out q x = as_is t s x.1 q
+
+taken_quiet : (s : State) (d : ℕ) (out : List Timed) (t : State) → AreQuiet s → Taken s d out t → AreQuiet t
+taken_quiet s d out t q (listens hears said is) = as_is t _ is q
+taken_quiet s d out t q (keeps_deaf deaf said is) = as_is t _ is q
+taken_quiet s d out t q (forces_reset deaf r) = resets_quiet (counted s 1) t d out r
 
 step_quiet : (s : State) (a : Action) (out : List Timed) (t : State) → IsCalm a → AreQuiet s → Step s a out t → AreQuiet t
 step_quiet s (AddDevice name kind ports speed) out t calm q x = declares_quiet s.declared.names _ t out q x.1.4
 step_quiet s (AddCable a b) out t calm q x = joins_quiet (is_on s a.device) (is_on s b.device) a.device b.device _ t out q x.1.2
-step_quiet s (ResetBus d) out t calm q x = resets_quiet s t d out x.1.1
+step_quiet s (ResetBus d) out t calm q x = resets_quiet (counting s) t d out x.1.1.1
 step_quiet s (StartConnection d w) out t calm q x = as_is t _ x.1.4 q
 step_quiet s (StartBreak d i) out t calm q x = as_is t _ x.1.3 q
-step_quiet s (HalfStep d) out t calm q x = as_is t _ x.1.3 q
+step_quiet s (HalfStep d) out t calm q x = taken_quiet s d out t q (taken_as s d out t x.1.2)
 step_quiet s (Rest n) out t calm q x = as_is t _ x.1.3 q
 step_quiet s Unsettled out t calm q x = as_is t _ x.1.2 q
 step_quiet s (Pass n) out t calm q x = as_is t _ x.1.3 (λ d. q d)
 step_quiet s EndSecond out t calm q x = as_is t _ x.1.4 (λ d. q d)
 step_quiet s (Die d) out t calm q x = as_is t _ x.1.2 q
 step_quiet s (CarryOut d) out t calm q x = as_is t _ x.1.3 q
+step_quiet s (Lose d) out t calm q x = as_is t _ x.1.4 q
+step_quiet s (TellLoss d) out t calm q x = as_is t _ x.1.2 q
 step_quiet s (Start d) out t calm q x = as_is t _ x.1.3 q
 step_quiet s (Ask y) out t calm q x = as_is t _ x.1.4 q
 step_quiet s Answer out t calm q x = as_is t _ x.state_is q
@@ -212,6 +220,7 @@ carries_quiet s o xs out t q (writes_cycles {n = n} f) = cycles_quiet n s xs out
 carries_quiet s o xs out t q (dies f) = steps_quiet s xs out t (tt, tt) q f
 carries_quiet s o xs out t q (dies_late f) = steps_quiet s xs out t (tt, (tt, tt)) q f
 carries_quiet s o xs out t q (dies_idle e f) = steps_quiet s xs out t (tt, tt) q f
+carries_quiet s o xs out t q (loses f) = steps_quiet s xs out t (tt, (tt, tt)) q f
 carries_quiet s o xs out t q (starts f) = steps_quiet s xs out t (tt, tt) q f
 carries_quiet s o xs out t q (goes_on e) = q
 carries_quiet s o xs out t q (transacts f) = steps_quiet s xs out t (tt, (tt, tt)) q f

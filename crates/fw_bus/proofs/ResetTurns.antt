@@ -1,13 +1,13 @@
 -- A bus reset of the machine is one of the run.
-use Rattle.std.proofs.Common.{◌≡◌, ℕ, ◌<◌, ◌≤◌, ◌^◌, List, [], ◌∷◌, Option, Some, refl, ap, sym, subst, ◌∙◌, arith, length, IsTrue}
+use Rattle.std.proofs.Common.{◌≡◌, ℕ, ◌+◌, ◌<◌, ◌≤◌, ◌^◌, List, [], ◌∷◌, Option, Some, refl, ap, sym, subst, ◌∙◌, arith, length, IsTrue}
 use Rattle.std.specs.declared.result.Result.{Result}
 use Rattle.fw_entry.specs.declared.entry.Entry.TheVariants.{Reset}
 use Rattle.fw_tree.specs.Cables.{IsOnBus}
 use Rattle.fw_tree.specs.Topology.{Topology}
 use Rattle.fw_devices.specs.Network.{is_node}
 use Rattle.fw_run.specs.Giving.{at_most}
-use Rattle.fw_run.specs.State.{State, is_on}
-use Rattle.fw_run.specs.Actions.{ResetBus, Resets, after_reset_entry}
+use Rattle.fw_run.specs.State.{State, is_on, is_deaf}
+use Rattle.fw_run.specs.Actions.{ResetBus, Resets, after_reset_entry, counting}
 use Rattle.fw_run.specs.Good.{IsGood}
 use Rattle.fw_run.proofs.Cables.{on_is_bus, on_some}
 use Rattle.fw_bus.specs.declared.machine.Machine.{Machine}
@@ -20,6 +20,7 @@ use Rattle.fw_bus.specs.Doings.{Turns, Does, Acts}
 use Rattle.fw_bus.proofs.Nodes.{is_node_same, on_within}
 use Rattle.fw_bus.proofs.Renumbered.{extends_cabled, manager_reset, kinds_reset}
 use Rattle.fw_bus.proofs.Doings.{does_one}
+use Rattle.fw_bus.proofs.Standing.{resets_stand}
 use Rattle.fw_bus.proofs.Began.{MayBegin, first_is, resets_now, nodes_now, lingering_now, decks_now, directory_now, table_now, streams_now}
 
 -- ---- the state after it
@@ -47,10 +48,11 @@ reset_stands m now good s i may b few =
         reclaiming = ap (λ (z : Machine). z.reclaiming) b.after ∙ first_is m.devices.nodes good s may.is_good may.extends.account st.devices.nodes may.some;
         half_steps = ap (λ (z : Machine). z.half_steps) b.after ∙ st.clock.half_steps;
         written = ap (λ (z : Machine). z.written) b.after ∙ st.clock.written;
+        resets = ap (λ (z : Machine). z.resets) b.after ∙ st.clock.resets;
       };
       controllers = record { table = table_now m now s i st b; directory = directory_now m now good s i may b };
       wire = subst (λ (w : Pairs). HasWire w t) (sym (ap (λ (z : Machine). z.wire) b.after))
-          (wire_empty t (λ d. reset_stands_none now.devices.latest.epoch (s.controllers d)));
+          (wire_empty t (λ d. reset_stands_none now.devices.latest.epoch (is_deaf s d) (s.controllers d)));
       streams = streams_now m now good s i may b few;
       answered = st.answered;
       unsent = refl;
@@ -84,24 +86,33 @@ within m s d g st node = on_within m.devices.nodes s d st.devices.nodes g (on_of
 pub some_nodes : (m : Machine) (s : State) (d : ℕ) → IsGood s → StandsFor m s → IsTrue (is_node m.devices.nodes d) → 0 < length m.devices.nodes
 some_nodes m s d g st node = let lt = within m s d g st node in omega (arith, lt)
 
+-- a bus reset that counts
+abbrev pub counting_in : Machine → Machine
+counting_in m = record m { resets = m.resets + 1 }
+
+-- fewer came than count
+pub few_epochs : (m : Machine) (s : State) → IsGood s → StandsFor m s → m.resets < 10000 → m.devices.epoch < 10000
+few_epochs m s g st few = let came = g.losses.came in let epoch = st.devices.epoch in let resets = st.clock.resets in omega (arith, came, epoch, resets, few)
+
 -- the bus reset of the machine is the action of the run
-pub reset_turns : (m now : Machine) (d : ℕ) → IsTrue (is_node m.devices.nodes d) → m.devices.epoch < 10000 → BeginsReset m now d
+pub reset_turns : (m now : Machine) (d : ℕ) → IsTrue (is_node m.devices.nodes d) → m.resets < 10000 → BeginsReset (counting_in m) now d
     → Turns (ResetBus d) m now m.cycle (Some (Reset now.devices.latest))
 reset_turns m now d node few b = record {
   shown = λ s g st.
-      let may : MayBegin m s s d = record {
+      let low : s.resets < 10000 = let resets = st.clock.resets in omega (arith, resets, few) in
+      let may : MayBegin (counting_in m) s (counting s) d = record {
         is_good = g;
         action = ResetBus d;
-        begins = λ out t r. (st.answered, (on_of m s d g st node, r));
-        extends = extends_cabled s s.declared.topology;
-        stands = st;
+        begins = λ out t r. (st.answered, (on_of m s d g st node, (low, r)));
+        extends = record { account = refl; cycle = refl; decks = refl; streams = refl; kinds = λ d lt. refl };
+        stands = resets_stand m s (m.resets + 1) (s.resets + 1) (ap (λ n. n + 1) st.clock.resets) st;
         declared = g.declared;
         some = some_nodes m s d g st node;
         more = omega arith;
         walks = λ c on. on;
       } in
-      let r = reset_of m now s s d may b few in
-      (r.state, (st.answered, (on_of m s d g st node, r.resets)), r.stands);
+      let r = reset_of (counting_in m) now s (counting s) d may b (few_epochs m s g st few) in
+      (r.state, (st.answered, (on_of m s d g st node, (low, r.resets))), r.stands);
 }
 
 -- ---- what a bus reset of the code asks
@@ -116,6 +127,10 @@ ready_on {m} d r node =
 pub ready_declared : {m : Machine} (d : ℕ) → IsReady m → IsTrue (is_node m.devices.nodes d) → d < length m.devices.nodes
 ready_declared {m} d r node = within m r.state d r.good r.stands node
 
+-- fewer bus resets came than count
+pub ready_few : {m : Machine} → IsReady m → m.resets < 10000 → m.devices.epoch < 10000
+ready_few {m} r few = few_epochs m r.state r.good r.stands few
+
 -- the cycles of a run are few
 pub ready_cycle : {m : Machine} → IsReady m → m.cycle ≤ 2 ^ 52
 ready_cycle r = subst (λ c. c ≤ 2 ^ 52) (sym r.stands.clock.cycle) r.good.time.cycle
@@ -128,6 +143,6 @@ same_cycle b = ap (λ (z : Machine). z.cycle) b.after
 
 -- the entry of the bus reset was written, or cut off
 pub reset_does : {T E : Type 0} {held after : Option (List ℕ)} {k l : ℕ} (m now : Machine) (d : ℕ) (r : Result T E) → IsTrue (is_node m.devices.nodes d)
-    → m.devices.epoch < 10000
-    → GivesReset m now d held after k l r → Does (Acts (ResetBus d ∷ [])) m now held after k l r
+    → m.resets < 10000
+    → GivesReset (counting_in m) now d held after k l r → Does (Acts (ResetBus d ∷ [])) m now held after k l r
 reset_does m now d r node few h = does_one m.cycle (Some (Reset now.devices.latest)) r (reset_turns m now d node few h.begins) h.gives h.faults

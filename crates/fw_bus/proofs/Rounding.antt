@@ -99,7 +99,7 @@ round_goes_on m j le few s u xs a g st p f =
     let steps = st.clock.half_steps in
     let size : length (living_in m) ≡ length (numbers_to j (is_living s)) + length rest.0 =
     ap (λ (z : List ℕ). length z) (living_list m s g st ∙ split) ∙ length-append (numbers_to j (is_living s)) rest.0 in
-    let r = halves_given rest.0 u after.good after.answered (all_live_still s u rest.0 after.stays lives) (omega (arith, few, given, steps, size)) in
+    let r = halves_given rest.0 u after.good after.answered (all_live_still s u _ rest.0 after lives) (omega (arith, few, given, steps, size)) in
     let both : xs ++ half_steps_of rest.0 ≡ half_steps_of (numbers_to count (is_living s)) =
     ap (λ z. z ++ half_steps_of rest.0) p.0 ∙ (sym (halves_append (numbers_to j (is_living s)) rest.0) ∙ sym (ap half_steps_of split)) in (
       half_steps_of rest.0,

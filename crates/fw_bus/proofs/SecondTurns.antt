@@ -2,6 +2,7 @@
 use Rattle.std.proofs.Common.{◌≡◌, ℕ, ◌+◌, ◌<◌, ◌≤◌, ◌^◌, length, map, List, [], ◌∷◌, true, Option, Some, None, refl, ap, sym, subst, ◌∙◌, arith, IsTrue}
 use Rattle.fw_node.specs.State.{NodeState}
 use Rattle.fw_node.specs.State as Nodes
+use Rattle.fw_cmp.specs.Losses.{after_end}
 use Rattle.fw_cmp.specs.Resets.{after_second as controller_second}
 use Rattle.std.proofs.lemmas.List.{length-map}
 use Rattle.fw_devices.specs.Decks.{passed}
@@ -86,7 +87,7 @@ pass_turns m now n few before is = record { shown = shown_ }
     stands : (s : State) → IsGood s → StandsFor m s → StandsFor (passed_by m n) (after_cycles s n)
     stands s g st = record {
       devices = devices_pass n m.devices s st.devices;
-      clock = record { cycle = ap (λ c. c + n) st.clock.cycle; reclaiming = st.clock.reclaiming; half_steps = st.clock.half_steps; written = st.clock.written };
+      clock = record { cycle = ap (λ c. c + n) st.clock.cycle; reclaiming = st.clock.reclaiming; half_steps = st.clock.half_steps; written = st.clock.written; resets = st.clock.resets };
       controllers = record { table = st.controllers.table; directory = st.controllers.directory };
       wire = record { each = st.wire.each };
       streams = streams_pass n m.devices.nodes m.streams s g st.devices.nodes st.devices.lingering st.devices.decks st.streams;
@@ -176,11 +177,12 @@ rests_stands m now s g good st r =
         reclaiming = ap (λ (z : Machine). z.reclaiming) r.after;
         half_steps = ap (λ (z : Machine). z.half_steps) r.after ∙ st.clock.half_steps;
         written = ap (λ (z : Machine). z.written) r.after ∙ st.clock.written;
+        resets = ap (λ (z : Machine). z.resets) r.after ∙ st.clock.resets;
       };
       controllers = record {
         table = record {
           count_is = r.table.count_is ∙ st.controllers.table.count_is;
-          states_are = r.table.states_are ∙ (λ i d. controller_second (states i d));
+          states_are = r.table.states_are ∙ (λ i d. after_end (states i d));
           dead_are = r.table.dead_are ∙ st.controllers.table.dead_are;
         };
         directory = ap (λ (z : Machine). z.directory) r.after ∙ st.controllers.directory;

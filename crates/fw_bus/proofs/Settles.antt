@@ -20,6 +20,7 @@ use Rattle.fw_bus.specs.Doings.{Acts, Does, LooksBack, OneRound, RoundsFirst, So
 use Rattle.fw_bus.proofs.Doings.{GoesOn, Follows, does_as, does_cut, does_nothing, does_then, no_faults, one_step}
 use Rattle.fw_bus.proofs.Halves.{halves_after, living_still, rounds_given}
 use Rattle.fw_bus.proofs.Living.{living_list}
+use Rattle.fw_run.proofs.Taking.{Taken, listens, keeps_deaf, forces_reset, taken_as}
 use Rattle.fw_bus.proofs.Standing.{counted_stands}
 
 -- ---- rounds one after another
@@ -31,7 +32,7 @@ rounds_follow : {m : Machine} (i : ℕ) → Follows m (RoundsFirst i) OneRound (
 rounds_follow i s mid t xs ys a b g st p f q h =
     let good = steps_good s mid xs a g f in
     let after = halves_after (living mid) mid b t good p.2 q.1 in
-    let still : living t ≡ living s = living_still mid t after.stays ∙ p.0 in
+    let still : living t ≡ living s = living_still mid t _ after ∙ p.0 in
     let count = after.half_steps in
     let before = p.1 in
     let size : length (living mid) ≡ length (living s) = ap (λ (z : List ℕ). length z) p.0 in
@@ -152,9 +153,14 @@ pub settle_then : {T E U F : Type 0} (n : ℕ) {m mid now : Machine} {a b c : Op
 settle_then n r d e = does_then r (settles n) d e
 
 -- half steps leave no transaction open
+taken_answered : (s : State) (d : ℕ) (out : List Timed) (t : State) → s.transaction ≡ None → Taken s d out t → t.transaction ≡ None
+taken_answered s d out t quiet (listens hears said is) = ap (λ (z : State). z.transaction) is ∙ quiet
+taken_answered s d out t quiet (keeps_deaf deaf said is) = ap (λ (z : State). z.transaction) is ∙ quiet
+taken_answered s d out t quiet (forces_reset deaf r) = ap (λ (z : State). z.transaction) r.state_is ∙ quiet
+
 halves_answered : (ds : List ℕ) (s : State) (out : List Timed) (t : State) → s.transaction ≡ None → Steps s (half_steps_of ds) out t → t.transaction ≡ None
 halves_answered [] s out t quiet f = ap (λ (z : State). z.transaction) f.1 ∙ quiet
-halves_answered (d ∷ ds) s out t quiet f = halves_answered ds f.2 f.1 t (ap (λ (z : State). z.transaction) f.3.1.3 ∙ quiet) f.5
+halves_answered (d ∷ ds) s out t quiet f = halves_answered ds f.2 f.1 t (taken_answered s d f.0 f.2 quiet (taken_as s d f.0 f.2 f.3.1.2)) f.5
 
 rounds_answered : (n : ℕ) (s : State) (xs : List Action) (out : List Timed) (t : State) → s.transaction ≡ None → Rounds n s xs out t → t.transaction ≡ None
 rounds_answered n s xs out t quiet Rounds.none = quiet

@@ -120,12 +120,12 @@ joins_same m s x y g st =
     λ i. cond (p i) (not (q i)) (q i)
 
 -- it begins no bus reset, or there are few
-pub few_resets : (m : Machine) (s : State) (x y : End) → IsGood s → StandsFor m s → IsFalse (joins_in m x y && nat_le 10000 m.devices.epoch)
-    → 10000 ≤ epoch_of s.account.latest → IsTrue (is_joining s x y) → ⊥
+pub few_resets : (m : Machine) (s : State) (x y : End) → IsGood s → StandsFor m s → IsFalse (joins_in m x y && nat_le 10000 m.resets)
+    → 10000 ≤ s.resets → IsTrue (is_joining s x y) → ⊥
 few_resets m s x y g st few most joins =
     let begins : joins_in m x y ≡ true = joins_same m s x y g st ∙ joins in
-    let epoch = st.devices.epoch in
-    let many : nat_le 10000 m.devices.epoch ≡ true = grind (arith, nat_tests) in
+    let resets = st.clock.resets in
+    let many : nat_le 10000 m.resets ≡ true = grind (arith, nat_tests) in
     true≢false (sym (λ i. begins i && many i) ∙ few)
 
 -- ---- what a command names

@@ -34,7 +34,23 @@ pub counted_stands : (m : Machine) (s : State) (k : ℕ) → StandsFor m s → S
 counted_stands m s k st = record {
   devices = devices_same m.devices s (counted s k)
       (record { names = refl; devices = refl; kinds = refl; latest = refl; bus_manager_id = refl; words = λ r. refl }) refl refl (λ p. refl) st.devices;
-  clock = record { cycle = st.clock.cycle; reclaiming = st.clock.reclaiming; half_steps = ap (λ n. n + k) st.clock.half_steps; written = st.clock.written };
+  clock = record { cycle = st.clock.cycle; reclaiming = st.clock.reclaiming; half_steps = ap (λ n. n + k) st.clock.half_steps; written = st.clock.written; resets = st.clock.resets };
+  controllers = record {
+    table = record { count_is = st.controllers.table.count_is; states_are = st.controllers.table.states_are; dead_are = st.controllers.table.dead_are };
+    directory = st.controllers.directory;
+  };
+  wire = record { each = st.wire.each };
+  streams = record { size = st.streams.size; each = st.streams.each };
+  answered = st.answered;
+  unsent = st.unsent;
+}
+
+-- another number of bus resets counts
+pub resets_stand : (m : Machine) (s : State) (j k : ℕ) → j ≡ k → StandsFor m s → StandsFor (record m { resets = j }) (record s { resets = k })
+resets_stand m s j k same st = record {
+  devices = devices_same m.devices s (record s { resets = k })
+      (record { names = refl; devices = refl; kinds = refl; latest = refl; bus_manager_id = refl; words = λ r. refl }) refl refl (λ p. refl) st.devices;
+  clock = record { cycle = st.clock.cycle; reclaiming = st.clock.reclaiming; half_steps = st.clock.half_steps; written = st.clock.written; resets = same };
   controllers = record {
     table = record { count_is = st.controllers.table.count_is; states_are = st.controllers.table.states_are; dead_are = st.controllers.table.dead_are };
     directory = st.controllers.directory;

@@ -5,7 +5,8 @@ use Rattle.std.proofs.lemmas.Bool.Decides.{nat_tests}
 use Rattle.std.proofs.lemmas.List.{get_or-set_same, get_or-set_other, get_or-map, get_or-replicate, length-replicate, get_or_past, get_or_read, length-map, length-append, length-set, get_or_append_left, get_or_push, length-drop, length-take, get_or-take, drop_all, drop_more, map_more, append-nil}
 use Rattle.fw_base.specs.Tables.{update}
 use Rattle.fw_cmp.specs.declared.connection.Slot.TheVariants.{Free}
-use Rattle.fw_cmp.specs.Controllers.{ControllerState, first_state as new_controller, is_restoring}
+use Rattle.fw_cmp.specs.Controllers.{is_restoring}
+use Rattle.fw_cmp.specs.Losses.{Listening, first_listening}
 use Rattle.fw_cmp.specs.Causes.{IsAtRest}
 use Rattle.fw_bus.specs.Tables.{AreCalm, AreFresh, AreMarked, ControllerTable, IsTable, count_of, states_of, dead_of}
 
@@ -60,16 +61,16 @@ push_is_same xs e = λ i. λ k. push_at xs e k i
 -- ---- tables
 
 -- the controller of a device is another one
-pub states_set : (t : ControllerTable) (d : ℕ) (x : ControllerState) → d < count_of t
+pub states_set : (t : ControllerTable) (d : ℕ) (x : Listening) → d < count_of t
     → states_of (record t { list = slice_set t.list d x }) ≡ update (states_of t) d x
-states_set t d x lt = set_is_update t.list d x new_controller lt
+states_set t d x lt = set_is_update t.list d x first_listening lt
 
 -- so it is with what is said of its death
 pub dead_set : (t : ControllerTable) (d : ℕ) (x : Bool) → d < length t.flags → dead_of (record t { flags = slice_set t.flags d x }) ≡ update (dead_of t) d x
 dead_set t d x lt = set_is_update t.flags d x false lt
 
 -- the table after a change of one controller, which was found there
-pub table_set : (t : ControllerTable) (list : List ControllerState) (flags : List Bool) (d i : ℕ) (f : ControllerState → ControllerState) (x y : ControllerState)
+pub table_set : (t : ControllerTable) (list : List Listening) (flags : List Bool) (d i : ℕ) (f : Listening → Listening) (x y : Listening)
     → record { list = list; flags = flags } ≡ t → d < count_of t → i ≡ d → x ≡ slice_index_or list i x → y ≡ f x
     → IsTable (record { list = slice_set list i y; flags = flags }) (count_of t) (update (states_of t) d (f (states_of t d))) (dead_of t)
 table_set t list flags d i f x y is lt same found changed = subst Goes is (record {
@@ -89,15 +90,15 @@ table_set t list flags d i f x y is lt same found changed = subst Goes is (recor
     within = let size : count_of u ≡ count_of t = ap count_of is in omega (arith, size, lt)
 
     there : x ≡ states_of u d
-    there = get_or_read list i x (omega (arith, within, same)) found new_controller ∙ ap (λ k. get_or list k new_controller) same
+    there = get_or_read list i x (omega (arith, within, same)) found first_listening ∙ ap (λ k. get_or list k first_listening) same
 
 -- the table after a change of each controller that leaves one that has just started
-pub table_map : (t : ControllerTable) (list before : List ControllerState) (flags : List Bool) (f : ControllerState → ControllerState)
-    → record { list = before; flags = flags } ≡ t → list ≡ map f before → f new_controller ≡ new_controller
+pub table_map : (t : ControllerTable) (list before : List Listening) (flags : List Bool) (f : Listening → Listening)
+    → record { list = before; flags = flags } ≡ t → list ≡ map f before → f first_listening ≡ first_listening
     → IsTable (record { list = list; flags = flags }) (count_of t) (λ d. f (states_of t d)) (dead_of t)
 table_map t list before flags f same is fixed = subst Goes same (record {
   count_is = ap length is ∙ length-map before f;
-  states_are = (λ i. states_of (record { list = is i; flags = flags })) ∙ map_is_each f before new_controller fixed;
+  states_are = (λ i. states_of (record { list = is i; flags = flags })) ∙ map_is_each f before first_listening fixed;
   dead_are = refl;
 })
   where
@@ -105,8 +106,8 @@ table_map t list before flags f same is fixed = subst Goes same (record {
     Goes w = IsTable (record { list = list; flags = flags }) (count_of w) (λ d. f (states_of w d)) (dead_of w)
 
 -- one device more, whose controller has just started
-pub table_push : (t : ControllerTable) → IsTable (record { list = t.list ++ new_controller ∷ []; flags = t.flags }) (count_of t + 1) (states_of t) (dead_of t)
-table_push t = record { count_is = length-append t.list (new_controller ∷ []); states_are = push_is_same t.list new_controller; dead_are = refl }
+pub table_push : (t : ControllerTable) → IsTable (record { list = t.list ++ first_listening ∷ []; flags = t.flags }) (count_of t + 1) (states_of t) (dead_of t)
+table_push t = record { count_is = length-append t.list (first_listening ∷ []); states_are = push_is_same t.list first_listening; dead_are = refl }
 
 -- a list of which nothing is true
 none_dead : (n k : ℕ) → get_or (replicate n false) k false ≡ false
@@ -119,27 +120,27 @@ none_dead n k = go (cases_lt k n)
 -- ---- controllers that are marked
 
 -- one is changed, and so is its mark
-pub marked_set : (says : ControllerState → Type 0) (marks : List Bool) (list : List ControllerState) (d : ℕ) (b : Bool) (y : ControllerState) → AreMarked says marks list → d < length list
+pub marked_set : (says : Listening → Type 0) (marks : List Bool) (list : List Listening) (d : ℕ) (b : Bool) (y : Listening) → AreMarked says marks list → d < length list
     → length list ≤ 63 → (IsTrue b → says y) → AreMarked says (slice_set marks d b) (slice_set list d y)
 marked_set says marks list d b y h lt few is = record { size = length-set marks d b ∙ h.size; each = each }
   where
     low : d < length marks
     low = let size = h.size in omega (arith, lt, few, size)
 
-    each : (k : ℕ) → IsTrue (slice_index_or (slice_set marks d b) k false) → says (slice_index_or (slice_set list d y) k new_controller)
+    each : (k : ℕ) → IsTrue (slice_index_or (slice_set marks d b) k false) → says (slice_index_or (slice_set list d y) k first_listening)
     each k marked = go (cases_eq k d)
       where
-        go : (k ≡ d) ⊎ (k ≢ d) → says (slice_index_or (slice_set list d y) k new_controller)
+        go : (k ≡ d) ⊎ (k ≢ d) → says (slice_index_or (slice_set list d y) k first_listening)
         go (inl same) =
             let mark : IsTrue b = sym (get_or-set_same marks d b false low) ∙ subst (λ j. IsTrue (slice_index_or (slice_set marks d b) j false)) same marked in
-            subst (λ j. says (slice_index_or (slice_set list d y) j new_controller)) (sym same)
-            (subst says (sym (get_or-set_same list d y new_controller lt)) (is mark))
+            subst (λ j. says (slice_index_or (slice_set list d y) j first_listening)) (sym same)
+            (subst says (sym (get_or-set_same list d y first_listening lt)) (is mark))
         go (inr other) =
             let mark = sym (get_or-set_other marks d k b false other) ∙ marked in
-            subst says (sym (get_or-set_other list d k y new_controller other)) (h.each k mark)
+            subst says (sym (get_or-set_other list d k y first_listening other)) (h.each k mark)
 
 -- the same, where the two places are found to be the device's
-pub marked_put : (says : ControllerState → Type 0) (marks : List Bool) (list : List ControllerState) (d i j : ℕ) (b : Bool) (y : ControllerState) → AreMarked says marks list → d < length list
+pub marked_put : (says : Listening → Type 0) (marks : List Bool) (list : List Listening) (d i j : ℕ) (b : Bool) (y : Listening) → AreMarked says marks list → d < length list
     → length list ≤ 63 → i ≡ d → j ≡ d → (IsTrue b → says y) → AreMarked says (slice_set marks j b) (slice_set list i y)
 marked_put says marks list d i j b y h lt few at_list at_mark is = rw (at_list, at_mark) (marked_set says marks list d b y h lt few is)
 
@@ -148,16 +149,16 @@ pub unmarked : (y : Type 0) → IsTrue false → y
 unmarked y h = absurd (false≢true h)
 
 -- there are none yet, and each is marked
-pub marked_none : (says : ControllerState → Type 0) (marks : List Bool) (list : List ControllerState) → says new_controller → marks ≡ replicate 256 true → list ≡ [] → AreMarked says marks list
+pub marked_none : (says : Listening → Type 0) (marks : List Bool) (list : List Listening) → says first_listening → marks ≡ replicate 256 true → list ≡ [] → AreMarked says marks list
 marked_none says marks list new is none = subst (λ (ms : List Bool). AreMarked says ms list) (sym is)
-    (record { size = length-replicate 256 true; each = λ k marked. subst (λ (xs : List ControllerState). says (slice_index_or xs k new_controller)) (sym none) new })
+    (record { size = length-replicate 256 true; each = λ k marked. subst (λ (xs : List Listening). says (slice_index_or xs k first_listening)) (sym none) new })
 
 -- one more, which is new
-pub marked_push : (says : ControllerState → Type 0) (marks : List Bool) (list : List ControllerState) → AreMarked says marks list → AreMarked says marks (list ++ new_controller ∷ [])
-marked_push says marks list h = record { size = h.size; each = λ k marked. subst says (sym (push_at list new_controller k)) (h.each k marked) }
+pub marked_push : (says : Listening → Type 0) (marks : List Bool) (list : List Listening) → AreMarked says marks list → AreMarked says marks (list ++ first_listening ∷ [])
+marked_push says marks list h = record { size = h.size; each = λ k marked. subst says (sym (push_at list first_listening k)) (h.each k marked) }
 
 -- a new one has nothing to do
-pub new_rests : IsAtRest new_controller
+pub new_rests : IsAtRest first_listening.state
 new_rests = record { no_job = record { current = refl; restoring = λ i. free 32 i }; waiting = refl }
   where
     free : (n i : ℕ) → is_restoring (slice_index_or (replicate n Free) i Free) ≡ false
@@ -165,12 +166,12 @@ new_rests = record { no_job = record { current = refl; restoring = λ i. free 32
     free (suc n) zero = refl
     free (suc n) (suc i) = free n i
 
-pub fresh_calm : (marks : List Bool) (list : List ControllerState) → AreFresh marks list → AreCalm marks list
-fresh_calm marks list h = record { size = h.size; each = λ k marked. subst IsAtRest (sym (h.each k marked)) new_rests }
+pub fresh_calm : (marks : List Bool) (list : List Listening) → AreFresh marks list → AreCalm marks list
+fresh_calm marks list h = record { size = h.size; each = λ k marked. subst (λ (c : Listening). IsAtRest c.state) (sym (h.each k marked)) new_rests }
 
 -- all are changed, which leaves a new one as it is
-pub fresh_map : (f : ControllerState → ControllerState) (marks : List Bool) (list : List ControllerState) → f new_controller ≡ new_controller → AreFresh marks list → AreFresh marks (map f list)
-fresh_map f marks list fixed h = record { size = h.size; each = λ k marked. map_at f list new_controller k fixed ∙ (ap f (h.each k marked) ∙ fixed) }
+pub fresh_map : (f : Listening → Listening) (marks : List Bool) (list : List Listening) → f first_listening ≡ first_listening → AreFresh marks list → AreFresh marks (map f list)
+fresh_map f marks list fixed h = record { size = h.size; each = λ k marked. map_at f list first_listening k fixed ∙ (ap f (h.each k marked) ∙ fixed) }
 
 -- an element that the change leaves as it is may be left out of it
 pub map_skip : {A : Type 0} (f : A → A) (xs ys : List A) (i : ℕ) (e : A) → i < length xs → f (get_or xs i e) ≡ get_or xs i e → ys ≡ map f (take i xs) ++ drop i xs → ys ≡ map f (take (i + 1) xs) ++ drop (i + 1) xs
@@ -180,8 +181,8 @@ map_skip f xs ys i e lt same is =
     ∙ ap (λ l. l ++ drop (i + 1) xs) (ap (λ x. front ++ x ∷ []) (sym same) ∙ sym (map_more f xs i e lt))
 
 -- a change that leaves a new controller as it is, of all controllers, may leave out those that are marked as new
-pub fresh_skip : (f : ControllerState → ControllerState) (marks : List Bool) (xs ys : List ControllerState) (i : ℕ) → f new_controller ≡ new_controller → AreFresh marks xs → i < length xs → slice_index_or marks i false ≡ true → ys ≡ map f (take i xs) ++ drop i xs → ys ≡ map f (take (i + 1) xs) ++ drop (i + 1) xs
-fresh_skip f marks xs ys i fixed h lt marked is = map_skip f xs ys i new_controller lt (ap f (h.each i marked) ∙ (fixed ∙ sym (h.each i marked))) is
+pub fresh_skip : (f : Listening → Listening) (marks : List Bool) (xs ys : List Listening) (i : ℕ) → f first_listening ≡ first_listening → AreFresh marks xs → i < length xs → slice_index_or marks i false ≡ true → ys ≡ map f (take i xs) ++ drop i xs → ys ≡ map f (take (i + 1) xs) ++ drop (i + 1) xs
+fresh_skip f marks xs ys i fixed h lt marked is = map_skip f xs ys i first_listening lt (ap f (h.each i marked) ∙ (fixed ∙ sym (h.each i marked))) is
 
 -- ---- a list that is written back
 
@@ -200,28 +201,28 @@ few_after n most new old same few =
     omega (arith, front, all, rest, same, few)
 
 -- what marks say is so of it, where it is so of what was written
-marked_take : (says : ControllerState → Type 0) (marks : List Bool) (n : ℕ) (list : List ControllerState) → says new_controller → AreMarked says marks list → AreMarked says marks (take n list)
+marked_take : (says : Listening → Type 0) (marks : List Bool) (n : ℕ) (list : List Listening) → says first_listening → AreMarked says marks list → AreMarked says marks (take n list)
 marked_take says marks n list new h = record { size = h.size; each = λ k marked. go k marked (cases_lt k n) }
   where
-    go : (k : ℕ) → IsTrue (slice_index_or marks k false) → (k < n) ⊎ (n ≤ k) → says (slice_index_or (take n list) k new_controller)
-    go k marked (inl lt) = subst says (sym (get_or-take n list k new_controller lt)) (h.each k marked)
-    go k marked (inr past) = let far : length (take n list) ≤ k = omega (arith, length-take n list, past) in subst says (sym (get_or_past (take n list) k new_controller far)) new
+    go : (k : ℕ) → IsTrue (slice_index_or marks k false) → (k < n) ⊎ (n ≤ k) → says (slice_index_or (take n list) k first_listening)
+    go k marked (inl lt) = subst says (sym (get_or-take n list k first_listening lt)) (h.each k marked)
+    go k marked (inr past) = let far : length (take n list) ≤ k = omega (arith, length-take n list, past) in subst says (sym (get_or_past (take n list) k first_listening far)) new
 
 -- a change of all, which leaves a new one as it is, is written back
-pub fresh_after : (f : ControllerState → ControllerState) (marks : List Bool) (n : ℕ) (new old : List ControllerState) → f new_controller ≡ new_controller → new ≡ map f old → AreFresh marks old
+pub fresh_after : (f : Listening → Listening) (marks : List Bool) (n : ℕ) (new old : List Listening) → f first_listening ≡ first_listening → new ≡ map f old → AreFresh marks old
     → AreFresh marks (take n (new ++ drop (length new) old))
 fresh_after f marks n new old fixed is h =
     let size : length new ≡ length old = ap length is ∙ length-map old f in
     let all : new ++ drop (length new) old ≡ new = ap (λ l. new ++ l) (drop_all (length new) old (omega (arith, size))) ∙ append-nil new in
-    subst (λ (xs : List ControllerState). AreFresh marks (take n xs)) (sym all)
-    (marked_take (λ c. c ≡ new_controller) marks n new refl (subst (λ (xs : List ControllerState). AreFresh marks xs) (sym is) (fresh_map f marks old fixed h)))
+    subst (λ (xs : List Listening). AreFresh marks (take n xs)) (sym all)
+    (marked_take (λ c. c ≡ first_listening) marks n new refl (subst (λ (xs : List Listening). AreFresh marks xs) (sym is) (fresh_map f marks old fixed h)))
 
 -- ---- no devices
 
-pub table_none : (list : List ControllerState) (n : ℕ) → list ≡ []
-    → IsTable (record { list = list; flags = replicate n false }) 0 (λ d. new_controller) (λ d. false)
+pub table_none : (list : List Listening) (n : ℕ) → list ≡ []
+    → IsTable (record { list = list; flags = replicate n false }) 0 (λ d. first_listening) (λ d. false)
 table_none list n is = record {
   count_is = ap length is;
-  states_are = (λ i. λ k. get_or (is i) k new_controller);
+  states_are = (λ i. λ k. get_or (is i) k first_listening);
   dead_are = λ i. λ k. none_dead n k i;
 }

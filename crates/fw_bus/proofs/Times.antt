@@ -12,7 +12,7 @@ use Rattle.fw_bus.specs.declared.machine.Machine.{Machine}
 use Rattle.fw_bus.specs.Stands.{is_living_in}
 use Rattle.fw_bus.specs.Doings.{Acts, Does}
 use Rattle.fw_bus.proofs.Doings.{GoesOn, acts_follow, does_cut, does_none, does_then}
-use Rattle.fw_bus.proofs.Halves.{After, halves_after, times_given, lives_still}
+use Rattle.fw_bus.proofs.Halves.{After, halves_after, times_given}
 use Rattle.fw_bus.proofs.Living.{living_same}
 use Rattle.fw_run.proofs.Runs.{steps_then}
 
@@ -59,7 +59,7 @@ times_go_on m d j count le lives few s u xs a g st p f =
     let steps = st.clock.half_steps in
     let after = times_after j d s a u g quiet p.1 in
     let given = after.half_steps in
-    let living : IsTrue (is_living u d) = lives_still s u d after.stays ∙ (sym (living_same m s d g st) ∙ lives) in
+    let living : IsTrue (is_living u d) = after.lives d ∙ (sym (living_same m s d g st) ∙ lives) in
     let r = times_given (count - j) u d after.good after.answered living (omega (arith, le, few, steps, given)) in
     let sum : j + (count - j) ≡ count = omega (arith, le) in
     let all : times j (HalfStep d) ++ times (count - j) (HalfStep d) ≡ times count (HalfStep d) = times_add j (count - j) (HalfStep d) ∙ ap (λ n. times n (HalfStep d)) sum in

@@ -1,5 +1,5 @@
 -- What a bus reset, a death, and what controllers are asked for make of the wire.
-use Rattle.std.proofs.Common.{◌≡◌, ◌≢◌, ◌⊎◌, inl, inr, ℕ, [], true, Option, Some, None, option_map, refl, ap, sym, ◌∙◌}
+use Rattle.std.proofs.Common.{◌≡◌, ◌≢◌, ◌⊎◌, inl, inr, ℕ, [], Bool, true, false, Option, Some, None, option_map, refl, ap, sym, ◌∙◌}
 use Rattle.std.proofs.lemmas.Bool.{cases_eq}
 use Rattle.std.specs.Prelude.{Ok, Err}
 use Rattle.std.specs.declared.result.Result.{Result}
@@ -17,7 +17,7 @@ use Rattle.fw_cmp.specs.declared.stage.Stage.{Stage}
 use Rattle.fw_cmp.specs.declared.stage.Stage.TheVariants.{Begin, ReadOutput, ReadChannels, SwapChannels, ReadBandwidth, SwapBandwidth, ConnectOutput, OverlayOutput, ReadInput, ConnectInput, ReadInputToLeave, LeaveInput, ReadOutputToLeave, LeaveOutput, ReadBandwidthToRelease, RaiseBandwidth, ReadChannelsToRelease, RestoreChannel, Made, Ended}
 use Rattle.fw_cmp.specs.Controllers.{ControllerState}
 use Rattle.fw_cmp.specs.Requests.{access_of, standing_in}
-use Rattle.fw_cmp.specs.Resets.{interrupted, decided, overtaken, current_reset, after_reset}
+use Rattle.fw_cmp.specs.Resets.{interrupted, decided, overtaken, current_reset, lost_reset, state_reset}
 use Rattle.fw_cmp.specs.Starts.{started, with_task, break_fault, break_started}
 use Rattle.fw_run.specs.State.{State, device_in, directory_of}
 use Rattle.fw_run.proofs.Turns.{update_new, update_others}
@@ -78,8 +78,16 @@ wire_empty t quiet = record { each = λ n. sym (ap (option_map spelling) (go (de
     go None = refl
     go (Some d) = ap (packet_for t.account.latest (directory_of t) d) (quiet d)
 
-pub reset_stands_none : (epoch : ℕ) (c : ControllerState) → standing_in (after_reset epoch c).current ≡ None
-reset_stands_none epoch c = reset_quiet epoch c c.current refl
+-- nor where the job counts as one whose answer was not heard
+lost_quiet : (epoch : ℕ) (c : ControllerState) (x : Current) → c.current ≡ x → standing_in (lost_reset epoch c x).current ≡ None
+lost_quiet epoch c Nothing e = ap standing_in e
+lost_quiet epoch c (Overtaken i o) e = ap standing_in e
+lost_quiet epoch c (Asking j s) e = interrupted_quiet epoch c j
+lost_quiet epoch c (Hearing j s) e = interrupted_quiet epoch c j
+
+pub reset_stands_none : (epoch : ℕ) (lost : Bool) (c : ControllerState) → standing_in (state_reset epoch lost c).current ≡ None
+reset_stands_none epoch true c = lost_quiet epoch c c.current refl
+reset_stands_none epoch false c = reset_quiet epoch c c.current refl
 
 -- ---- what a controller is asked for leaves what it is at
 

@@ -5,6 +5,7 @@ use Rattle.fw_outside.specs.Outside.{Grows}
 use Rattle.fw_entry.specs.declared.entry.Timed.{Timed}
 use Rattle.fw_node.specs.State.{NodeState, HasSpace}
 use Rattle.fw_entry.specs.Log.{header_bytes, LogOpens, LogSpells}
+use Rattle.fw_entry.specs.declared.version.Version.TheVariants.{Two}
 use Rattle.fw_script.specs.declared.command.Command.{Command}
 use Rattle.fw_script.specs.declared.command.Command.TheVariants.{End}
 use Rattle.fw_bus.specs.declared.machine.Machine.{Machine}
@@ -14,7 +15,7 @@ use Rattle.fw_run.specs.declared.order.Order.TheVariants.{Settle}
 use Rattle.fw_bus.specs.declared.BusFault.{BusFault}
 use Rattle.fw_bus.specs.declared.BusFault.TheVariants.{Refused, WriteFault}
 use Rattle.fw_run.specs.Giving.{log_bytes}
-use Rattle.fw_run.specs.State.{State, number_in}
+use Rattle.fw_run.specs.State.{State, number_in, epoch_of}
 use Rattle.fw_run.specs.Spaces.{space_at}
 use Rattle.fw_run.specs.Rules.{Decides}
 use Rattle.fw_run.specs.Actions.{Action}
@@ -55,15 +56,15 @@ pub record Goes (D : DeskRelations) (commands : List Command) (actions : List Ac
   pub given : AreGiven D more
   pub run : Run (commands ++ c ∷ []) (actions ++ more) (log ++ out) state
   pub stands : StandsFor now.machine state
-  pub grew : Grows held after (log_bytes out)
+  pub grew : Grows held after (log_bytes (epoch_of s.account.latest) out)
   pub sound : IsSoundThroughout (actions ++ more) (log ++ out)
   -- what was whole before a bus reset is whole again where its second is over
   pub restored : ComesBack (actions ++ more) (log ++ out)
   -- given right after a bus reset that begins a second, enough rounds leave no connection to be restored
   pub settles : BeginsSecond s → (rounds : ℕ) → order ≡ Settle rounds → 64 * (to_restore s + 1) ≤ rounds → (d i : ℕ) → IsFalse (is_restoring (slot_at (state.controllers d) i))
   -- what was written so far is a log, which lacks its end alone until the end of the script
-  pub opens : HasNoEnd commands → LogOpens (log ++ out) (header_bytes ++ log_bytes (log ++ out))
-  pub whole : HasNoEnd commands → c ≡ End → LogSpells (log ++ out) (header_bytes ++ log_bytes (log ++ out))
+  pub opens : HasNoEnd commands → LogOpens (log ++ out) Two (header_bytes Two ++ log_bytes 0 (log ++ out))
+  pub whole : HasNoEnd commands → c ≡ End → LogSpells (log ++ out) Two (header_bytes Two ++ log_bytes 0 (log ++ out))
   pub fresh : IsFalse now.spent
 
 -- It was cut off by the sink: the entries given so far, and a front of the next. With what this desk gives the order was carried out so far.
@@ -74,7 +75,7 @@ pub record Stops (D : DeskRelations) (commands : List Command) (actions : List A
   pub given : AreGiven D cut.done
   pub sound : IsSoundThroughout (actions ++ cut.done) (log ++ (cut.given ++ cut.next ∷ []))
   pub restored : ComesBack (actions ++ cut.done) (log ++ (cut.given ++ cut.next ∷ []))
-  pub opens : HasNoEnd commands → LogOpens (log ++ (cut.given ++ cut.next ∷ [])) (header_bytes ++ log_bytes (log ++ (cut.given ++ cut.next ∷ [])))
+  pub opens : HasNoEnd commands → LogOpens (log ++ (cut.given ++ cut.next ∷ [])) Two (header_bytes Two ++ log_bytes 0 (log ++ (cut.given ++ cut.next ∷ [])))
   pub spent : IsTrue now.spent
 
 abbrev pub Applies : {T : Type 0} → DeskRelations → List Command → List Action → List Timed → State → Command → Standing → Option (List ℕ) → Option (List ℕ) → Result T BusFault → Type 0

@@ -4,9 +4,10 @@ use Rattle.std.specs.declared.result.Result.{Result}
 use Rattle.fw_outside.specs.Outside.{Grows}
 use Rattle.fw_entry.specs.declared.entry.Entry.{Entry}
 use Rattle.fw_entry.specs.declared.entry.Timed.{Timed}
-use Rattle.fw_entry.specs.Log.{entry_bytes}
+use Rattle.fw_entry.specs.Log.{epoch_after, latest_epoch, entry_bytes}
+use Rattle.fw_entry.specs.declared.version.Version.TheVariants.{Two}
 use Rattle.fw_run.specs.Giving.{at_most, log_bytes, Gives}
-use Rattle.fw_run.specs.State.{State, is_living, living, numbers_to}
+use Rattle.fw_run.specs.State.{State, epoch_of, is_living, living, numbers_to}
 use Rattle.fw_run.specs.HalfSteps.{HalfStep as Half, after_half, is_unsettled}
 use Rattle.fw_run.specs.Actions.{Action, Unsettled, Step, Steps}
 use Rattle.fw_run.specs.Carrying.{half_steps_of, Rounds}
@@ -62,7 +63,7 @@ Takes step m now d e = (s : State) → IsGood s → StandsFor m s → (e ≡ (st
 pub record Speaks {T E : Type 0} (step : State → ℕ → Half) (m now : Machine) (d : ℕ) (held after : Option (List ℕ)) (count counts : ℕ) (result : Result T E) : Type 0 where
   pub entry : Option Entry
   pub takes : Takes step m now d entry
-  pub gives : Gives held after result now.cycle entry
+  pub gives : Gives held after result now.cycle now.devices.epoch entry
   pub faults : CountsFaults count counts result
 
 -- ---- what a call did
@@ -82,8 +83,8 @@ pub record Cut (P : List Action → List Timed → State → Type 0) (s : State)
   pub steps : Steps s done (given ++ next ∷ []) state
   pub front : List ℕ
   pub rest : List ℕ
-  pub parts : entry_bytes next ≡ front ++ rest
-  pub appended : Grows held after (log_bytes given ++ front)
+  pub parts : entry_bytes Two (epoch_after (latest_epoch (epoch_of s.account.latest) given) next.what) next ≡ front ++ rest
+  pub appended : Grows held after (log_bytes (epoch_of s.account.latest) given ++ front)
 
 -- all was done and written
 pub record Done (P : List Action → List Timed → State → Type 0) (s : State) (now : Machine) (held after : Option (List ℕ)) : Type 0 where
@@ -93,7 +94,7 @@ pub record Done (P : List Action → List Timed → State → Type 0) (s : State
   pub whole : P actions out state
   pub steps : Steps s actions out state
   pub stands : StandsFor now state
-  pub grew : Grows held after (log_bytes out)
+  pub grew : Grows held after (log_bytes (epoch_of s.account.latest) out)
 
 -- all was done and written, or it was cut off
 abbrev pub Ends : {T E : Type 0} → (List Action → List Timed → State → Type 0) → State → Machine → Option (List ℕ) → Option (List ℕ) → Result T E → Type 0

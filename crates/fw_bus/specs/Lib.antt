@@ -10,4 +10,5 @@ pub mod Resetting
 pub mod Transacting
 pub mod Buses
 pub mod Streaming
+pub mod Serving
 pub mod Cycling

@@ -7,6 +7,7 @@ use Rattle.fw_tree.specs.Topology.{Topology, IsFault}
 use Rattle.fw_script.specs.declared.command.Command.{Command}
 use Rattle.fw_script.specs.Form.{HasForm}
 use Rattle.fw_cmp.specs.Fits.{SlotFits}
+use Rattle.fw_cmp.specs.Losses.{Awaits}
 use Rattle.fw_cmp.specs.Starts.{break_fault}
 use Rattle.fw_base.specs.Devices.{has_unit}
 use Rattle.fw_devices.specs.Network.{Network, is_node, kind_at, kinds_of, device_named}
@@ -58,10 +59,10 @@ rule_of Refusals.NotOwnPlug = NotOwnPlug
 
 -- a new connection of a device's controller is ordered, or that controller does not live, or refuses it
 abbrev pub ConnectionDecided : Machine → ℕ → Wanted → Result Order RuleFault → Type 0
-ConnectionDecided m d w (Ok o) = (o ≡ Orders.Connect d w) × IsTrue (is_living_in m d) × IsOk (start_of d w (states_of m.controllers d))
+ConnectionDecided m d w (Ok o) = (o ≡ Orders.Connect d w) × IsTrue (is_living_in m d) × IsOk (start_of d w (states_of m.controllers d).state)
 ConnectionDecided m d w (Err rule) =
     ((rule ≡ NotController) × IsFalse (is_living_in m d))
-    ⊎ ((f : StartFault) × (rule ≡ rule_of f) × IsTrue (is_living_in m d) × (start_of d w (states_of m.controllers d) ≡ Err f))
+    ⊎ ((f : StartFault) × (rule ≡ rule_of f) × IsTrue (is_living_in m d) × (start_of d w (states_of m.controllers d).state ≡ Err f))
 
 -- a deck or a camcorder, on the bus or off
 abbrev pub has_deck_in : Network → ℕ → Bool
@@ -81,15 +82,16 @@ command_of from to (Swap offset argument new) = Commands.Swap from to offset arg
 
 abbrev pub MayCarry : Machine → Order → Type 0
 MayCarry m (Orders.Declare name kind ports speed) = (length m.devices.names < 63) × (1 ≤ ports) × (ports ≤ 27) × (speed ≤ 2)
-MayCarry m (Orders.Cable a b) = CanJoin m.devices.topology a b × IsFalse (joins_in m a b && nat_le 10000 m.devices.epoch)
-MayCarry m (Orders.Reset d) = IsTrue (is_node m.devices.nodes d) × (m.devices.epoch < 10000)
-MayCarry m (Orders.Connect d w) = IsTrue (is_living_in m d) × SlotFits (slot_of w) × IsOk (start_of d w (states_of m.controllers d))
-MayCarry m (Orders.Break d slot) = IsTrue (is_living_in m d) × (break_fault (states_of m.controllers d) slot ≡ None)
+MayCarry m (Orders.Cable a b) = CanJoin m.devices.topology a b × IsFalse (joins_in m a b && nat_le 10000 m.resets)
+MayCarry m (Orders.Reset d) = IsTrue (is_node m.devices.nodes d) × (m.resets < 10000)
+MayCarry m (Orders.Connect d w) = IsTrue (is_living_in m d) × SlotFits (slot_of w) × IsOk (start_of d w (states_of m.controllers d).state)
+MayCarry m (Orders.Break d slot) = IsTrue (is_living_in m d) × (break_fault (states_of m.controllers d).state slot ≡ None)
 MayCarry m (Orders.Step d count) = IsTrue (is_living_in m d) × (m.half_steps + count ≤ 4000000)
 MayCarry m (Orders.Settle rounds) = m.half_steps + rounds * length (living_in m) ≤ 4000000
 MayCarry m (Orders.Wait cycles) = m.cycle + cycles ≤ 2 ^ 52
 MayCarry m (Orders.Cycles count) = (m.cycle + count ≤ 2 ^ 52) × (0 < length m.devices.nodes → m.written + count ≤ 8000)
 MayCarry m (Orders.Die d late) = IsTrue (is_living_in m d)
+MayCarry m (Orders.Lose d) = IsTrue (is_living_in m d) × Awaits (states_of m.controllers d) × (m.resets < 10000)
 MayCarry m (Orders.Start d) = IsTrue (is_linked_in m.devices d)
 MayCarry m (Orders.Transact x) = IsTrue (is_living_in m x.from) × IsTrue (is_linked_in m.devices x.to) × IsFalse (is_guarded x.access) × AccessFits x.access
 MayCarry m (Orders.Command a b bytes) = IsTrue (is_living_in m a) × IsTrue (is_linked_in m.devices b) × (length bytes ≤ 512)

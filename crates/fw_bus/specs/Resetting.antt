@@ -2,7 +2,7 @@
 use Rattle.std.specs.Prelude.{ℕ, ◌≡◌, ◌+◌, List, [], Bool, Option, Some, None, false, map, if◌then◌else◌}
 use Rattle.std.specs.declared.result.Result.{Result}
 use Rattle.fw_entry.specs.declared.entry.Entry.TheVariants.{Reset}
-use Rattle.fw_cmp.specs.Resets.{after_reset as controller_reset, after_second as controller_second}
+use Rattle.fw_cmp.specs.Losses.{after_bus_reset as controller_reset, after_end as controller_second}
 use Rattle.fw_cmp.specs.declared.directory.Directory.{Directory}
 use Rattle.fw_node.specs.State.{after_second}
 use Rattle.fw_devices.specs.Decks.{passed}
@@ -40,7 +40,7 @@ pub record BeginsReset (m now : Machine) (initiator : ℕ) : Type 0 where
 -- its entry was written, or cut off
 pub record GivesReset {T E : Type 0} (m now : Machine) (initiator : ℕ) (held after : Option (List ℕ)) (count counts : ℕ) (result : Result T E) : Type 0 where
   pub begins : BeginsReset m now initiator
-  pub gives : Gives held after result m.cycle (Some (Reset now.devices.latest))
+  pub gives : Gives held after result m.cycle now.devices.epoch (Some (Reset now.devices.latest))
   pub faults : CountsFaults count counts result
 
 -- cycles go by for the tapes of all devices

@@ -1,6 +1,7 @@
 -- What the bus keeps, against a state of a run: a record a part.
-use Rattle.std.specs.Prelude.{ℕ, ◌≡◌, ◌+◌, ◌<◌, ◌≤◌, ◌&&◌, not, List, Bool, length, Option, Some, None, unwrap_or}
+use Rattle.std.specs.Prelude.{ℕ, ◌≡◌, ◌+◌, ◌<◌, ◌≤◌, ◌⊎◌, ◌&&◌, not, List, Bool, length, Option, Some, None, unwrap_or, IsTrue, IsFalse}
 use Rattle.fw_base.specs.Devices.{has_link}
+use Rattle.fw_cmp.specs.Causes.{IsAtRest}
 use Rattle.fw_csr.specs.declared.request.Request.TheVariants as Asks
 use Rattle.fw_csr.specs.declared.reply.Reply.{Reply}
 use Rattle.fw_entry.specs.declared.entry.ResetEntry.{ResetEntry}
@@ -16,11 +17,12 @@ use Rattle.fw_run.specs.State.{State, number_in, epoch_of, numbers_to, directory
 use Rattle.fw_run.specs.Decks.{first_deck}
 use Rattle.fw_run.specs.Units.{HasDeck}
 use Rattle.fw_run.specs.Spaces.{space_at}
+use Rattle.fw_run.specs.Truth.{controller_at}
 use Rattle.fw_run.specs.Good.{IsGood}
 use Rattle.fw_run.specs.Numbers.{HasNumbers}
 use Rattle.fw_bus.specs.Lingering.{HasLingering}
 use Rattle.fw_bus.specs.Streaming.{HasStreams}
-use Rattle.fw_bus.specs.Tables.{IsTable, dead_of}
+use Rattle.fw_bus.specs.Tables.{IsTable, dead_of, states_of}
 use Rattle.fw_bus.specs.Wires.{HasWire}
 
 -- ---- devices
@@ -63,9 +65,11 @@ pub record HasClock (m : Machine) (s : State) : Type 0 where
   pub reclaiming : m.reclaiming ≡ s.account.reclaiming
   pub half_steps : m.half_steps ≡ s.half_steps
   pub written : m.written ≡ s.written
+  pub resets : m.resets ≡ s.resets
 
 pub record HasControllers (m : Machine) (s : State) : Type 0 where
-  pub table : IsTable m.controllers (length s.declared.names) s.controllers s.dead
+  -- as they are: the state has one that has lost a response as one that heard it
+  pub table : IsTable m.controllers (length s.declared.names) (λ d. controller_at s d) s.dead
   pub directory : m.directory ≡ directory_of s
 
 -- ---- the whole
@@ -104,3 +108,10 @@ living_in m = numbers_to (length m.devices.names) (is_living_in m)
 -- what a quadlet read of a register of a device is answered
 abbrev pub read_in : Machine → ℕ → ℕ → Reply
 read_in m d offset = let n = node_at m.devices.nodes d in (answer_of (space_of (unwrap_or n.number 0) m.cycle n) (Asks.Read (first_address + offset))).reply
+
+-- A round need not look at the controllers from there on: it looks at all, or none has lost a response, and of those each that lives
+-- has nothing to do. Where one has lost a response it may force a bus reset on the way, after which each may have something to do.
+abbrev pub EndsAt : Machine → ℕ → Type 0
+EndsAt m end =
+    (end ≡ length m.devices.names)
+    ⊎ (((d : ℕ) → IsFalse (states_of m.controllers d).lost) × ((d : ℕ) → end ≤ d → d < length m.devices.names → IsTrue (is_living_in m d) → IsAtRest (states_of m.controllers d).state))

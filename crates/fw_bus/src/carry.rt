@@ -43,6 +43,7 @@ impl Machine {
             Order::Wait(cycles) => self.wait(*cycles, room, sink),
             Order::Cycles(count) => self.cycles(*count, desk, room, sink),
             Order::Die(device, late) => self.die(*device, *late, room, sink),
+            Order::Lose(device) => self.lose(*device, room, sink),
             Order::Start(device) => self.start(*device, room, sink),
             Order::Transact(transaction) => self.transact(*transaction, room, sink),
             Order::Command(from, to, bytes) => { self.command(*from, *to, bytes, desk, room, sink) }
@@ -51,7 +52,7 @@ impl Machine {
             }
             Order::Eject(device) => self.eject(*device, room, sink),
             Order::Show(device, offset) => self.show(*device, *offset, room, sink),
-            Order::End => give(self.cycle, Some(Entry::End), room, sink),
+            Order::End => give(&self.devices, self.cycle, Some(Entry::End), room, sink),
         }
     }
 }

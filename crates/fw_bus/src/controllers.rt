@@ -1,15 +1,14 @@
 //! The controllers of the declared devices.
 
-ghost use Rattle.std.specs.Prelude.{◌≡◌, ◌<◌, ◌≤◌, ◌+◌, IfOk, IfErr, IfSome, IsOk, IsTrue, Err, None, true, false, length, map, replicate};
+ghost use Rattle.std.specs.Prelude.{◌≡◌, ◌<◌, ◌≤◌, ◌+◌, ◌^◌, IfOk, IfErr, IfSome, IsOk, IsTrue, IsFalse, ℕ, Err, None, true, false, length, map, replicate};
 ghost use Rattle.fw_base.specs.Tables.{update};
 ghost use Rattle.fw_cmp.specs.Causes.{IsAtRest};
-ghost use Rattle.fw_cmp.specs.Controllers.{first_state as new_controller, IsHeard, IsStanding};
 ghost use Rattle.fw_cmp.specs.Fits.{SlotFits};
 ghost use Rattle.fw_cmp.specs.Holdings.{CanGoOn};
+ghost use Rattle.fw_cmp.specs.Losses.{first_listening, Awaits, MayTurn, turn_of, after_turn, after_answer, after_loss, after_bus_reset, after_end, with_state};
 ghost use Rattle.fw_cmp.specs.Nodes.{HasNodeNumbers};
-ghost use Rattle.fw_cmp.specs.Resets.{after_hear, after_reset, after_second};
 ghost use Rattle.fw_cmp.specs.Starts.{break_fault, break_started, started};
-ghost use Rattle.fw_cmp.specs.Turns.{addressee_in, next, after_next};
+ghost use Rattle.fw_cmp.specs.Turns.{addressee_in};
 ghost use Rattle.fw_run.specs.Actions.{slot_of, start_of};
 ghost use Rattle.fw_bus.specs.Tables.{AreFresh, IsTable, count_of, dead_of, states_of};
 
@@ -51,7 +50,7 @@ impl Model for Controllers {
 impl Controllers {
     /// No controllers. The memory for 63 is taken here, and no later call takes any.
     pub fn new(alloc: Global) -> Result<Controllers, AllocError>
-        ensures { IfOk result (λ c. IsTable c 0 (λ d. new_controller) (λ d. false)) }
+        ensures { IfOk result (λ c. IsTable c 0 (λ d. first_listening) (λ d. false)) }
     {
         Ok(Controllers {
             list: Vec::with_capacity(alloc, MOST)?,
@@ -89,7 +88,7 @@ impl Controllers {
 
     /// Whether the controller of a device is known to have nothing to do.
     pub fn is_calm(&self, device: u8) -> bool
-        ensures { IsTrue result → IsAtRest (states_of self.now device) }
+        ensures { IsTrue result → IsAtRest (states_of self.now device).state }
     {
         match self.calm.get(usize::from(device)) {
             Some(calm) => *calm,
@@ -97,15 +96,28 @@ impl Controllers {
         }
     }
 
+    /// Whether the controller of some device has lost a response.
+    pub fn has_deaf(&self) -> bool
+        ensures { IsFalse result → (d : ℕ) → IsFalse (states_of self.now d).lost }
+    {
+        for device in 0..self.list.len() {
+            if self.list[device].is_deaf() {
+                return true;
+            }
+        }
+        false
+    }
+
     /// What the controller of a device does next (`Controller::next`).
     #[inline(always)]
     pub fn next(&mut self, device: u8, now: u64, directory: &Directory) -> Next
         requires device { device < count_of self.old }
-        requires heard { IsHeard (states_of self.old device).current }
+        requires heard { MayTurn (states_of self.old device) }
+        requires now { now ≤ 2 ^ 52 }
         requires nodes { HasNodeNumbers directory.now }
-        requires reached { CanGoOn directory.now (states_of self.old device) }
-        ensures answer { result ≡ next now directory.now (states_of self.old device) }
-        ensures state { IsTable self.new (count_of self.old) (update (states_of self.old) device (after_next now directory.now (states_of self.old device))) (dead_of self.old) }
+        requires reached { IsFalse (states_of self.old device).lost → CanGoOn directory.now (states_of self.old device).state }
+        ensures answer { result ≡ turn_of now directory.now (states_of self.old device) }
+        ensures state { IsTable self.new (count_of self.old) (update (states_of self.old) device (after_turn now directory.now (states_of self.old device))) (dead_of self.old) }
         ensures addressee { IfSome (addressee_in result) (λ to. to < 63) }
     {
         let next = self.list[usize::from(device)].next(now, directory);
@@ -118,10 +130,21 @@ impl Controllers {
     #[inline(always)]
     pub fn hear(&mut self, device: u8, reply: &Reply)
         requires device { device < count_of self.old }
-        requires stands { IsStanding (states_of self.old device).current }
-        ensures { IsTable self.new (count_of self.old) (update (states_of self.old) device (after_hear (states_of self.old device) reply.now)) (dead_of self.old) }
+        requires stands { Awaits (states_of self.old device) }
+        ensures { IsTable self.new (count_of self.old) (update (states_of self.old) device (after_answer (states_of self.old device) reply.now)) (dead_of self.old) }
     {
         self.list[usize::from(device)].hear(reply);
+        self.calm[usize::from(device)] = false;
+        self.fresh[usize::from(device)] = false;
+    }
+
+    /// The response to the request that stands is lost (`Controller::lose`).
+    pub fn lose(&mut self, device: u8)
+        requires device { device < count_of self.old }
+        requires stands { Awaits (states_of self.old device) }
+        ensures { IsTable self.new (count_of self.old) (update (states_of self.old) device (after_loss (states_of self.old device))) (dead_of self.old) }
+    {
+        self.list[usize::from(device)].lose();
         self.calm[usize::from(device)] = false;
         self.fresh[usize::from(device)] = false;
     }
@@ -129,8 +152,8 @@ impl Controllers {
     /// Whether the controller of a device would refuse a connection, and why.
     pub fn check(&self, device: u8, wanted: &Wanted) -> Result<(), StartFault>
         requires { device < count_of self.now }
-        ensures accepted { IfOk result (λ _. IsOk (start_of device wanted.now (states_of self.now device))) }
-        ensures refused { IfErr result (λ f. start_of device wanted.now (states_of self.now device) ≡ Err f) }
+        ensures accepted { IfOk result (λ _. IsOk (start_of device wanted.now (states_of self.now device).state)) }
+        ensures refused { IfErr result (λ f. start_of device wanted.now (states_of self.now device).state ≡ Err f) }
     {
         let is_own = match wanted {
             Wanted::PlugToPlug(..) => true,
@@ -147,8 +170,8 @@ impl Controllers {
     pub fn connect(&mut self, device: u8, wanted: &Wanted)
         requires device { device < count_of self.old }
         requires slot { SlotFits (slot_of wanted.now) }
-        requires accepted { IsOk (start_of device wanted.now (states_of self.old device)) }
-        ensures { IsTable self.new (count_of self.old) (update (states_of self.old) device (started (start_of device wanted.now (states_of self.old device)) (slot_of wanted.now) (states_of self.old device))) (dead_of self.old) }
+        requires accepted { IsOk (start_of device wanted.now (states_of self.old device).state) }
+        ensures { IsTable self.new (count_of self.old) (update (states_of self.old) device (with_state (states_of self.old device) (started (start_of device wanted.now (states_of self.old device).state) (slot_of wanted.now) (states_of self.old device).state))) (dead_of self.old) }
     {
         let controller = &mut self.list[usize::from(device)];
         let started = match *wanted {
@@ -168,8 +191,8 @@ impl Controllers {
     /// The controller of a device is asked for a break that it does not refuse.
     pub fn break_connection(&mut self, device: u8, slot: u8)
         requires device { device < count_of self.old }
-        requires accepted { break_fault (states_of self.old device) slot ≡ None }
-        ensures { IsTable self.new (count_of self.old) (update (states_of self.old) device (break_started (states_of self.old device) slot)) (dead_of self.old) }
+        requires accepted { break_fault (states_of self.old device).state slot ≡ None }
+        ensures { IsTable self.new (count_of self.old) (update (states_of self.old) device (with_state (states_of self.old device) (break_started (states_of self.old device).state slot))) (dead_of self.old) }
     {
         let _ = self.list[usize::from(device)].start_break(slot);
         self.calm[usize::from(device)] = false;
@@ -178,7 +201,7 @@ impl Controllers {
 
     /// A bus reset that begins this epoch, for each controller.
     pub fn reset(&mut self, epoch: u32)
-        ensures { IsTable self.new (count_of self.old) (λ d. after_reset epoch (states_of self.old d)) (dead_of self.old) }
+        ensures { IsTable self.new (count_of self.old) (λ d. after_bus_reset epoch (states_of self.old d)) (dead_of self.old) }
     {
         reset_each(&mut self.list, &self.fresh, epoch);
         self.calm = self.fresh;
@@ -186,7 +209,7 @@ impl Controllers {
 
     /// The reclaim second is over, for each controller.
     pub fn second_over(&mut self)
-        ensures { IsTable self.new (count_of self.old) (λ d. after_second (states_of self.old d)) (dead_of self.old) }
+        ensures { IsTable self.new (count_of self.old) (λ d. after_end (states_of self.old d)) (dead_of self.old) }
     {
         end_second(&mut self.list, &self.fresh);
         self.calm = self.fresh;
@@ -195,7 +218,7 @@ impl Controllers {
     /// The controller of a device dies: it forgets its slots and jobs.
     pub fn die(&mut self, device: u8)
         requires { device < count_of self.old }
-        ensures { IsTable self.new (count_of self.old) (update (states_of self.old) device new_controller) (update (dead_of self.old) device true) }
+        ensures { IsTable self.new (count_of self.old) (update (states_of self.old) device first_listening) (update (dead_of self.old) device true) }
     {
         self.list[usize::from(device)] = Controller::new();
         self.dead[usize::from(device)] = true;
@@ -206,7 +229,7 @@ impl Controllers {
     /// The controller of a device starts.
     pub fn start(&mut self, device: u8)
         requires { device < count_of self.old }
-        ensures { IsTable self.new (count_of self.old) (update (states_of self.old) device new_controller) (update (dead_of self.old) device false) }
+        ensures { IsTable self.new (count_of self.old) (update (states_of self.old) device first_listening) (update (dead_of self.old) device false) }
     {
         self.list[usize::from(device)] = Controller::new();
         self.dead[usize::from(device)] = false;
@@ -219,7 +242,7 @@ impl Controllers {
 fn reset_each(list: &mut [Controller], fresh: &[bool; PLACES], epoch: u32)
     requires few { length list.old ≤ 63 }
     requires fresh { AreFresh fresh.now list.old }
-    ensures { list.new ≡ map (after_reset epoch) list.old }
+    ensures { list.new ≡ map (after_bus_reset epoch) list.old }
 {
     for (device, controller) in list.iter_mut().enumerate() {
         if !fresh[device] {
@@ -232,7 +255,7 @@ fn reset_each(list: &mut [Controller], fresh: &[bool; PLACES], epoch: u32)
 fn end_second(list: &mut [Controller], fresh: &[bool; PLACES])
     requires few { length list.old ≤ 63 }
     requires fresh { AreFresh fresh.now list.old }
-    ensures { list.new ≡ map after_second list.old }
+    ensures { list.new ≡ map after_end list.old }
 {
     for (device, controller) in list.iter_mut().enumerate() {
         if !fresh[device] {
@@ -254,6 +277,7 @@ fn is_idle(next: &Next) -> bool
 {
     match next {
         Next::Idle => true,
-        Next::Send { .. } | Next::End { .. } | Next::Waiting { .. } => false,
+        Next::Send { .. } | Next::End { .. } => false,
+        Next::Waiting { .. } | Next::Deaf { .. } | Next::Force => false,
     }
 }

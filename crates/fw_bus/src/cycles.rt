@@ -105,9 +105,9 @@ impl Machine {
         requires desk { AnyBlock (F.pre desk.now.blocks) }
         requires declared { device < length self.now.devices.nodes }
         requires talks { talking_on (node_at self.now.devices.nodes device) ≡ Some channel }
-        requires room { length room.old + 504 ≤ 32256 }
+        requires room { length room.old + 508 ≤ 32512 }
         ensures puts { Puts (HadSent before.now) (record { blocks = F.post desk.now.blocks; vendor = H.post desk.now.vendor }) (Sends device) self.now room.old room.new }
-        ensures size { length room.new ≤ length room.old + 504 }
+        ensures size { length room.new ≤ length room.old + 508 }
     {
         let mut talker = before.talker(device, channel);
         let own = self.number(device);
@@ -117,11 +117,11 @@ impl Machine {
             Some(place) => {
                 let bytes = desk.block(place.tape, place.frame, place.block);
                 let packet = talker.cycle(own, fifty, Some(&bytes));
-                room.put(self.cycle, &packet);
+                room.put(self.devices.epoch(), self.cycle, &packet);
             }
             None => {
                 let packet = talker.cycle(own, fifty, None);
-                room.put(self.cycle, &packet);
+                room.put(self.devices.epoch(), self.cycle, &packet);
             }
         }
     }
@@ -196,7 +196,7 @@ impl Machine {
         };
         self.written += 1;
         let start = cycle_start(root, self.cycle);
-        give_async(self.cycle, &start, &mut room.packet, sink)?;
+        give_async(&self.devices, self.cycle, &start, &mut room.packet, sink)?;
         self.send_packets(talkers, &before, desk, room, sink)
     }
 

@@ -56,6 +56,15 @@ pub fn started(device: u8) -> Entry<'static>
     event_of(event::STARTED, device)
 }
 
+/// The controller of a device has not heard the response to its request.
+pub fn lost(device: u8) -> Entry<'static>
+    requires { device < 63 }
+    ensures value { result ≡ Entries.lost device }
+    ensures fits { Fits result }
+{
+    event_of(event::LOST, device)
+}
+
 /// A tape was put into a deck or camcorder.
 pub fn inserted(device: u8, tape: u16, system: TapeSystem) -> Entry<'static>
     requires { device < 63 }

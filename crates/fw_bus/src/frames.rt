@@ -106,8 +106,20 @@ impl Machine {
     {
         let request = self.command_packet(from, to, bytes.as_slice());
         let response = self.devices.answer_frame(to, self.cycle, &request, desk);
-        give(self.cycle, Some(Entry::Async(request)), room, sink)?;
-        give(self.cycle, Some(Entry::Async(response)), room, sink)
+        give(
+            &self.devices,
+            self.cycle,
+            Some(Entry::Async(request)),
+            room,
+            sink,
+        )?;
+        give(
+            &self.devices,
+            self.cycle,
+            Some(Entry::Async(response)),
+            room,
+            sink,
+        )
     }
 
     /// Carries a command out whole: it is written, and then the device sends what it has to send, the response first.
@@ -165,8 +177,20 @@ impl Machine {
         };
         let to = self.addressee(&frame);
         let response = self.devices.answer(to, self.cycle, &frame);
-        give(self.cycle, Some(Entry::Async(frame)), room, sink)?;
-        give(self.cycle, Some(Entry::Async(response)), room, sink)?;
+        give(
+            &self.devices,
+            self.cycle,
+            Some(Entry::Async(frame)),
+            room,
+            sink,
+        )?;
+        give(
+            &self.devices,
+            self.cycle,
+            Some(Entry::Async(response)),
+            room,
+            sink,
+        )?;
         Ok(true)
     }
 

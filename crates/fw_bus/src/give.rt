@@ -9,22 +9,28 @@ ghost use Rattle.fw_run.specs.Giving.{Gives};
 
 use crate::room::Room;
 use fw_async::PacketRoom;
-use fw_entry::{Entry, Timed, write_async, write_entry};
+use fw_devices::Devices;
+use fw_entry::{Entry, Timed, Version, epoch_after, write_async, write_entry};
 use fw_outside::{Failed, Sink};
 
-/// Writes an entry of this cycle, where there is one.
+/// Writes an entry of this cycle, where there is one, with the epoch of the latest bus reset.
 pub(crate) fn give<K: Sink>(
+    devices: &Devices,
     cycle: u64,
     what: Option<Entry<'_>>,
     room: &mut Room,
     sink: &mut K,
 ) -> Result<(), Failed>
     requires { IfSome what Fits }
-    ensures bytes { Gives (K.held sink.old) (K.held sink.new) result cycle what.entry }
+    ensures bytes { Gives (K.held sink.old) (K.held sink.new) result cycle devices.now.epoch what.entry }
     ensures faults { CountsFaults (K.faults sink.old) (K.faults sink.new) result }
 {
     match what {
-        Some(what) => write_entry(&Timed { cycle, what }, &mut room.entry, sink),
+        Some(what) => {
+            let epoch = epoch_after(devices.epoch(), &what);
+            let entry = Timed { cycle, what };
+            write_entry(Version::Two, epoch, &entry, &mut room.entry, sink)
+        }
         None => Ok(()),
     }
 }
@@ -32,28 +38,30 @@ pub(crate) fn give<K: Sink>(
 /// Writes the entry of a packet of this cycle, which is in the room.
 #[inline(always)]
 pub(crate) fn give_packet<K: Sink>(
+    devices: &Devices,
     cycle: u64,
     packet: &mut PacketRoom,
     sink: &mut K,
 ) -> Result<(), Failed>
     requires { IsPacket packet.old }
-    ensures bytes { (p : Packet) → Spells p packet.old → Gives (K.held sink.old) (K.held sink.new) result cycle (Some (Async p)) }
+    ensures bytes { (p : Packet) → Spells p packet.old → Gives (K.held sink.old) (K.held sink.new) result cycle devices.now.epoch (Some (Async p)) }
     ensures faults { CountsFaults (K.faults sink.old) (K.faults sink.new) result }
 {
-    write_async(cycle, packet, sink)
+    write_async(devices.epoch(), cycle, packet, sink)
 }
 
 /// Writes the entry of a packet of this cycle, which is put together in the room.
 pub(crate) fn give_async<K: Sink>(
+    devices: &Devices,
     cycle: u64,
     packet: &fw_async::Packet,
     room: &mut PacketRoom,
     sink: &mut K,
 ) -> Result<(), Failed>
     requires { PacketFits packet.now }
-    ensures bytes { Gives (K.held sink.old) (K.held sink.new) result cycle (Some (Async packet.now)) }
+    ensures bytes { Gives (K.held sink.old) (K.held sink.new) result cycle devices.now.epoch (Some (Async packet.now)) }
     ensures faults { CountsFaults (K.faults sink.old) (K.faults sink.new) result }
 {
     room.put(packet);
-    give_packet(cycle, room, sink)
+    give_packet(devices, cycle, room, sink)
 }

@@ -1,17 +1,17 @@
 //! What commands ask of controllers: connections, breaks, their deaths and starts.
 
 ghost use Rattle.std.specs.Prelude.{◌≡◌, ◌<◌, [], ◌∷◌, None, IsOk, IsTrue, true};
-ghost use Rattle.fw_cmp.specs.Controllers.{IsStanding};
+ghost use Rattle.fw_cmp.specs.Losses.{Awaits};
 ghost use Rattle.fw_cmp.specs.Fits.{SlotFits};
 ghost use Rattle.fw_cmp.specs.Starts.{break_fault};
 ghost use Rattle.fw_run.specs.Actions.{CarryOut, Die as Dies, StartConnection, StartBreak, slot_of, start_of};
 ghost use Rattle.fw_run.specs.Carrying.{Carries};
-ghost use Rattle.fw_run.specs.declared.order.Order.TheVariants.{Die, Start};
+ghost use Rattle.fw_run.specs.declared.order.Order.TheVariants.{Die, Lose, Start};
 ghost use Rattle.fw_bus.specs.Doings.{Acts, Does};
 ghost use Rattle.fw_bus.specs.Stands.{IsReady, is_linked_in, is_living_in};
 ghost use Rattle.fw_bus.specs.Tables.{states_of};
 
-use crate::entries::{died, started};
+use crate::entries::{died, lost, started};
 use crate::give::give;
 use crate::machine::Machine;
 use crate::room::Room;
@@ -29,7 +29,7 @@ impl Machine {
         requires ready { IsReady self.old }
         requires living { IsTrue (is_living_in self.old device) }
         requires slot { SlotFits (slot_of wanted.now) }
-        requires accepted { IsOk (start_of device wanted.now (states_of self.old.controllers device)) }
+        requires accepted { IsOk (start_of device wanted.now (states_of self.old.controllers device).state) }
         ensures does { Does (Acts (StartConnection device wanted.now ∷ [])) self.old self.new (K.held sink.old) (K.held sink.new) (K.faults sink.old) (K.faults sink.new) result }
     {
         self.controllers.connect(device, wanted);
@@ -45,7 +45,7 @@ impl Machine {
     ) -> Result<(), Failed>
         requires ready { IsReady self.old }
         requires living { IsTrue (is_living_in self.old device) }
-        requires accepted { break_fault (states_of self.old.controllers device) slot ≡ None }
+        requires accepted { break_fault (states_of self.old.controllers device).state slot ≡ None }
         ensures does { Does (Acts (StartBreak device slot ∷ [])) self.old self.new (K.held sink.old) (K.held sink.new) (K.faults sink.old) (K.faults sink.new) result }
     {
         self.controllers.break_connection(device, slot);
@@ -61,11 +61,28 @@ impl Machine {
     ) -> Result<(), Failed>
         requires ready { IsReady self.old }
         requires living { IsTrue (is_living_in self.old device) }
-        requires standing { IsStanding (states_of self.old.controllers device).current }
+        requires standing { Awaits (states_of self.old.controllers device) }
         ensures does { Does (Acts (CarryOut device ∷ [])) self.old self.new (K.held sink.old) (K.held sink.new) (K.faults sink.old) (K.faults sink.new) result }
         ensures living { IsTrue (is_living_in self.new device) }
     {
-        self.turn(device, room, sink)
+        self.hear(device, room, sink)
+    }
+
+    /// The request that stands of a device's controller is carried out, and the controller does not hear the response.
+    pub(crate) fn lose<K: Sink>(
+        &mut self,
+        device: u8,
+        room: &mut Room,
+        sink: &mut K,
+    ) -> Result<(), Failed>
+        requires ready { IsReady self.old }
+        requires living { IsTrue (is_living_in self.old device) }
+        requires standing { Awaits (states_of self.old.controllers device) }
+        requires few { self.old.resets < 10000 }
+        ensures does { Does (λ s. Carries s (Lose device)) self.old self.new (K.held sink.old) (K.held sink.new) (K.faults sink.old) (K.faults sink.new) result }
+    {
+        self.lose_response(device, room, sink)?;
+        give(&self.devices, self.cycle, Some(lost(device)), room, sink)
     }
 
     /// A device's controller stops.
@@ -77,7 +94,7 @@ impl Machine {
         self.controllers.die(device);
         let own = self.number(device);
         self.wire.remove(own);
-        give(self.cycle, Some(died(device)), room, sink)
+        give(&self.devices, self.cycle, Some(died(device)), room, sink)
     }
 
     /// The request that stands of a device's controller is carried out, and then the controller stops.
@@ -89,7 +106,7 @@ impl Machine {
     ) -> Result<(), Failed>
         requires ready { IsReady self.old }
         requires living { IsTrue (is_living_in self.old device) }
-        requires standing { IsStanding (states_of self.old.controllers device).current }
+        requires standing { Awaits (states_of self.old.controllers device) }
         ensures { Does (λ s. Carries s (Die device true)) self.old self.new (K.held sink.old) (K.held sink.new) (K.faults sink.old) (K.faults sink.new) result }
     {
         self.carry_request(device, room, sink)?;
@@ -130,6 +147,6 @@ impl Machine {
             return Ok(());
         }
         self.controllers.start(device);
-        give(self.cycle, Some(started(device)), room, sink)
+        give(&self.devices, self.cycle, Some(started(device)), room, sink)
     }
 }

@@ -28,6 +28,8 @@ pub struct Machine {
     pub cycle: u64,
     /// Whether the second after the latest bus reset runs, in which only flows that talked before it are allocated again.
     pub reclaiming: bool,
+    /// How many bus resets commands began, and how many responses they lost; a bus reset that a controller forces was counted then.
+    pub resets: u32,
     /// How many half steps were given.
     pub half_steps: u32,
     /// How many cycles were written.
@@ -52,6 +54,7 @@ impl Machine {
             },
             cycle: 0,
             reclaiming: false,
+            resets: 0,
             half_steps: 0,
             written: 0,
             streams: Streams::new(),

@@ -62,7 +62,7 @@ impl Machine {
     }
 
     /// A bus reset, whose entry is written.
-    fn give_reset<K: Sink>(
+    pub(crate) fn give_reset<K: Sink>(
         &mut self,
         initiator: u8,
         room: &mut Room,
@@ -76,6 +76,7 @@ impl Machine {
     {
         self.begin_reset(initiator);
         give(
+            &self.devices,
             self.cycle,
             Some(Entry::Reset(self.devices.latest())),
             room,
@@ -92,9 +93,10 @@ impl Machine {
     ) -> Result<(), Failed>
         requires ready { IsReady self.old }
         requires on { IsTrue (is_node self.old.devices.nodes device) }
-        requires few { self.old.devices.epoch < 10000 }
+        requires few { self.old.resets < 10000 }
         ensures does { Does (Acts (ResetBus device ∷ [])) self.old self.new (K.held sink.old) (K.held sink.new) (K.faults sink.old) (K.faults sink.new) result }
     {
+        self.resets += 1;
         self.give_reset(device, room, sink)
     }
 
@@ -119,6 +121,7 @@ impl Machine {
         self.devices.add(name, kind, ports, speed);
         self.controllers.add();
         if is_first {
+            self.resets = 1;
             self.give_reset(0, room, sink)
         } else {
             Ok(())
@@ -135,15 +138,21 @@ impl Machine {
     ) -> Result<(), Failed>
         requires ready { IsReady self.old }
         requires free { CanJoin self.old.devices.topology a b }
-        requires few { IsFalse (joins_in self.old a b && nat_le 10000 self.old.devices.epoch) }
+        requires few { IsFalse (joins_in self.old a b && nat_le 10000 self.old.resets) }
         ensures does { Does (Acts (AddCable a b ∷ [])) self.old self.new (K.held sink.old) (K.held sink.new) (K.faults sink.old) (K.faults sink.new) result }
     {
         let first_is_on = self.is_on(a.device);
         let second_is_on = self.is_on(b.device);
         self.devices.join(a, b);
         match (first_is_on, second_is_on) {
-            (true, false) => self.give_reset(a.device, room, sink),
-            (false, true) => self.give_reset(b.device, room, sink),
+            (true, false) => {
+                self.resets += 1;
+                self.give_reset(a.device, room, sink)
+            }
+            (false, true) => {
+                self.resets += 1;
+                self.give_reset(b.device, room, sink)
+            }
             _ => Ok(()),
         }
     }

@@ -90,10 +90,11 @@ impl Machine {
         }
     }
 
+    /// No further bus reset may come, and no further response be lost.
     fn has_most_resets(&self) -> bool
-        ensures { result ≡ nat_le 10000 self.now.devices.epoch }
+        ensures { result ≡ nat_le 10000 self.now.resets }
     {
-        self.devices.epoch() >= MOST_RESETS
+        self.resets >= MOST_RESETS
     }
 
     fn decide_reset(&self, name: &Name) -> Result<Order<'static>, RuleFault>
@@ -189,6 +190,7 @@ impl Machine {
             Command::Wait(cycles) => self.decide_wait(*cycles),
             Command::Cycles(count) => self.decide_cycles(*count),
             Command::Die(name, late) => self.decide_death(name, *late),
+            Command::Lose(name) => self.decide_loss(name),
             Command::Start(name) => self.decide_start(name),
             Command::Read(from, to, offset) => {
                 self.decide_transaction(from, to, Access::Read(*offset))

@@ -46,7 +46,7 @@ impl Machine {
         self.cycle += 1;
         self.reclaiming = false;
         self.controllers.second_over();
-        give(self.cycle, Some(second_over()), room, sink)
+        give(&self.devices, self.cycle, Some(second_over()), room, sink)
     }
 
     /// Cycles go by unwritten. Where the second of the latest bus reset is over on the way, that is written at its own cycle.

@@ -1,6 +1,6 @@
 //! Half steps, rounds of them, and what is written after a `settle`.
 
-ghost use Rattle.std.specs.Prelude.{◌≡◌, ◌≤◌, ◌<◌, ◌+◌, ◌*◌, ◌-◌, ℕ, [], ◌∷◌, IfOk, IsTrue, IsFalse, false, length, slice_index_or};
+ghost use Rattle.std.specs.Prelude.{◌≡◌, ◌≢◌, ◌⊎◌, ◌≤◌, ◌<◌, ◌+◌, ◌*◌, ◌-◌, ℕ, [], ◌∷◌, IfOk, IsTrue, IsFalse, false, length, slice_index_or};
 ghost use Rattle.fw_cmp.specs.Causes.{IsAtRest};
 ghost use Rattle.fw_run.specs.Actions.{HalfStep};
 ghost use Rattle.fw_run.specs.Carrying.{times, Carries};
@@ -9,13 +9,14 @@ ghost use Rattle.fw_run.specs.HalfSteps.{is_unsettled};
 ghost use Rattle.fw_run.specs.State.{State};
 ghost use Rattle.fw_run.specs.declared.order.Order.TheVariants.{Settle};
 ghost use Rattle.fw_bus.specs.Doings.{Acts, Does, LooksBack, OneRound, SomeRounds};
-ghost use Rattle.fw_bus.specs.Stands.{IsReady, StandsFor, is_living_in, living_in};
+ghost use Rattle.fw_bus.specs.Stands.{EndsAt, IsReady, StandsFor, is_living_in, living_in};
 ghost use Rattle.fw_bus.specs.Tables.{states_of};
 
 use crate::entries::unsettled;
 use crate::give::give;
 use crate::machine::Machine;
 use crate::room::Room;
+use fw_cmp::Next;
 use fw_outside::{Failed, Sink};
 
 impl Machine {
@@ -38,9 +39,36 @@ impl Machine {
             self.half_steps += 1;
             return Ok(());
         }
+        if self.controllers.get(device).is_deaf() {
+            return self.deaf_step(device, room, sink);
+        }
         let result = self.turn(device, room, sink);
         self.half_steps += 1;
         result
+    }
+
+    /// One half step of a device's controller that has lost a response: it waits, or forces a bus reset.
+    fn deaf_step<K: Sink>(
+        &mut self,
+        device: u8,
+        room: &mut Room,
+        sink: &mut K,
+    ) -> Result<(), Failed>
+        requires ready { IsReady self.old }
+        requires living { IsTrue (is_living_in self.old device) }
+        requires deaf { IsTrue (states_of self.old.controllers device).lost }
+        requires few { self.old.half_steps < 4000000 }
+        ensures does { Does (Acts (HalfStep device ∷ [])) self.old self.new (K.held sink.old) (K.held sink.new) (K.faults sink.old) (K.faults sink.new) result }
+        ensures living { (d : ℕ) → is_living_in self.new d ≡ is_living_in self.old d }
+        ensures names { self.new.devices.names ≡ self.old.devices.names }
+        ensures count { self.new.half_steps ≡ self.old.half_steps + 1 }
+    {
+        self.half_steps += 1;
+        if is_force(&self.controllers.next(device, self.cycle, &self.directory)) {
+            self.give_reset(device, room, sink)
+        } else {
+            Ok(())
+        }
     }
 
     /// Half steps of a device's controller.
@@ -68,7 +96,7 @@ impl Machine {
         requires most { end ≤ 63 }
         requires marks { (d : ℕ) → d < end → slice_index_or living.now d false ≡ is_living_in self.now d }
         ensures within { result ≤ end }
-        ensures calm { (d : ℕ) → result ≤ d → d < end → IsTrue (is_living_in self.now d) → IsAtRest (states_of self.now.controllers d) }
+        ensures calm { (d : ℕ) → result ≤ d → d < end → IsTrue (is_living_in self.now d) → IsAtRest (states_of self.now.controllers d).state }
     {
         for passed in 0..end {
             let last = end - 1 - passed;
@@ -80,6 +108,23 @@ impl Machine {
             }
         }
         0
+    }
+
+    /// Where the controllers end that a round has to look at. Where one has lost a response it may force a bus reset on the way,
+    /// after which each may have something to do.
+    fn round_end(&self, living: &[bool; 63], end: u8) -> u8
+        requires most { end ≤ 63 }
+        requires marks { (d : ℕ) → d < end → slice_index_or living.now d false ≡ is_living_in self.now d }
+        requires enough { end ≤ length self.now.devices.names }
+        requires rest { (d : ℕ) → end ≤ d → d < length self.now.devices.names → IsTrue (is_living_in self.now d) → IsAtRest (states_of self.now.controllers d).state }
+        ensures within { result ≤ length self.now.devices.names }
+        ensures ends { EndsAt self.now result }
+    {
+        if self.controllers.has_deaf() {
+            self.devices.count()
+        } else {
+            self.busy_end(living, end)
+        }
     }
 
     /// One round: each living controller, in order of declaration, takes one half step. `living` marks those, and `each` is
@@ -97,7 +142,7 @@ impl Machine {
         requires each { each ≡ length (living_in self.old) }
         requires most { end ≤ 63 }
         requires within { end ≤ length self.old.devices.names }
-        requires calm { (d : ℕ) → end ≤ d → d < length self.old.devices.names → IsTrue (is_living_in self.old d) → IsAtRest (states_of self.old.controllers d) }
+        requires ends { EndsAt self.old end }
         requires few { self.old.half_steps + length (living_in self.old) ≤ 4000000 }
         ensures does { Does OneRound self.old self.new (K.held sink.old) (K.held sink.new) (K.faults sink.old) (K.faults sink.new) result }
         ensures living { (d : ℕ) → is_living_in self.new d ≡ is_living_in self.old d }
@@ -139,7 +184,7 @@ impl Machine {
                 self.rest(count - i);
                 return Ok(());
             }
-            end = self.busy_end(&living, end);
+            end = self.round_end(&living, end);
             self.round(&living, each, end, room, sink)?;
         }
         Ok(())
@@ -151,7 +196,7 @@ impl Machine {
         ensures does { Does LooksBack self.old self.new (K.held sink.old) (K.held sink.new) (K.faults sink.old) (K.faults sink.new) result }
     {
         if self.is_unsettled() {
-            give(self.cycle, Some(unsettled()), room, sink)
+            give(&self.devices, self.cycle, Some(unsettled()), room, sink)
         } else {
             Ok(())
         }
@@ -170,5 +215,16 @@ impl Machine {
     {
         self.rounds(count, room, sink)?;
         self.tell_unsettled(room, sink)
+    }
+}
+
+/// Whether the controller forces a bus reset.
+fn is_force(next: &Next) -> bool
+    ensures forces { IsTrue result → next.now ≡ Next.Force }
+    ensures waits { IsFalse result → next.now ≢ Next.Force }
+{
+    match next {
+        Next::Force => true,
+        _ => false,
     }
 }

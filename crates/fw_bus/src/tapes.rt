@@ -30,7 +30,13 @@ impl Machine {
         ensures does { Does (λ s. Carries s (Insert device tape system)) self.old self.new (K.held sink.old) (K.held sink.new) (K.faults sink.old) (K.faults sink.new) result }
     {
         self.devices.insert(device, tape, system);
-        give(self.cycle, Some(inserted(device, tape, system)), room, sink)?;
+        give(
+            &self.devices,
+            self.cycle,
+            Some(inserted(device, tape, system)),
+            room,
+            sink,
+        )?;
         self.send_frames(device, room, sink)
     }
 
@@ -49,7 +55,7 @@ impl Machine {
         if !self.devices.eject(device) {
             return Ok(());
         }
-        give(self.cycle, Some(ejected(device)), room, sink)?;
+        give(&self.devices, self.cycle, Some(ejected(device)), room, sink)?;
         self.send_frames(device, room, sink)
     }
 }

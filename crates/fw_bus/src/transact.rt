@@ -86,8 +86,20 @@ impl Machine {
     {
         let request = self.request(transaction);
         let response = self.devices.answer(transaction.to, self.cycle, &request);
-        give(self.cycle, Some(Entry::Async(request)), room, sink)?;
-        give(self.cycle, Some(Entry::Async(response)), room, sink)
+        give(
+            &self.devices,
+            self.cycle,
+            Some(Entry::Async(request)),
+            room,
+            sink,
+        )?;
+        give(
+            &self.devices,
+            self.cycle,
+            Some(Entry::Async(response)),
+            room,
+            sink,
+        )
     }
 
     /// What a quadlet read of a register of a device would be answered.
@@ -116,6 +128,6 @@ impl Machine {
     {
         let reply = self.read(device, offset);
         let entry = shown_entry(device, offset, reply.value);
-        give(self.cycle, Some(entry), room, sink)
+        give(&self.devices, self.cycle, Some(entry), room, sink)
     }
 }

@@ -11,8 +11,6 @@ mod listener;
 mod packet;
 mod read;
 mod talker;
-#[cfg(test)]
-mod tests;
 mod write;
 
 pub use block::Block;

@@ -28,7 +28,7 @@ use Rattle.fw_cmp.specs.Holdings.{IsReached, StageReached, CurrentReached, CanGo
 use Rattle.fw_cmp.specs.Requests.{access_of}
 use Rattle.fw_cmp.specs.Starts.{IsMaking, OkWithin, free_slot, is_crowded, start_at, start, started, with_task, break_started, break_fault}
 use Rattle.fw_cmp.specs.Stages.{hear, refuse, hear_reply}
-use Rattle.fw_cmp.specs.Resets.{after_hear, heard, overtaken, current_reset, slot_reset, after_reset, slot_over, after_second}
+use Rattle.fw_cmp.specs.Resets.{after_hear, heard, overtaken, current_reset, slot_reset, after_reset, slot_over, after_second, lost_reset, after_lost_reset, state_reset}
 use Rattle.fw_cmp.specs.Turns.{ended, after_asking, after_answer, after_next, picked, resumed_current}
 use Rattle.fw_cmp.proofs.Ended.{after_stop}
 use Rattle.fw_cmp.proofs.Fitting.{slot_here, slot_elsewhere}
@@ -212,6 +212,25 @@ reset_goes_on d epoch c =
       standing = λ i conn f e. absurd (reset_standing (slot_at r i) conn f (sym (slot_at_reset r.slots i) ∙ e));
       current = current_reset_reached d epoch c.slots c.waiting c.current;
     }
+
+lost_reset_reached : (d : Directory) (epoch : ℕ) (ss : List Slot) (ts : List Task) (cur : Current) → CurrentReached d (lost_reset epoch (record { slots = ss; waiting = ts; current = cur }) cur).current
+lost_reset_reached d epoch ss ts Nothing = tt
+lost_reset_reached d epoch ss ts (Asking j s) = interrupted_reached d epoch (record { slots = ss; waiting = ts; current = Asking j s }) j j.purpose
+lost_reset_reached d epoch ss ts (Hearing j s) = interrupted_reached d epoch (record { slots = ss; waiting = ts; current = Hearing j s }) j j.purpose
+lost_reset_reached d epoch ss ts (Overtaken i o) = tt
+
+-- the same where the response to its request was lost
+pub lost_reset_goes_on : (d : Directory) (epoch : ℕ) (c : ControllerState) → CanGoOn d (after_lost_reset epoch c)
+lost_reset_goes_on d epoch c =
+    let r : ControllerState = lost_reset epoch c c.current in
+    record {
+      standing = λ i conn f e. absurd (reset_standing (slot_at r i) conn f (sym (slot_at_reset r.slots i) ∙ e));
+      current = lost_reset_reached d epoch c.slots c.waiting c.current;
+    }
+
+pub state_reset_goes_on : (d : Directory) (epoch : ℕ) (lost : Bool) (c : ControllerState) → CanGoOn d (state_reset epoch lost c)
+state_reset_goes_on d epoch true c = lost_reset_goes_on d epoch c
+state_reset_goes_on d epoch false c = reset_goes_on d epoch c
 
 -- at first a controller can go on at each bus
 pub first_goes_on : (d : Directory) → CanGoOn d first_state

@@ -15,3 +15,4 @@ pub mod Outcomes
 pub mod OfAnswers
 pub mod Starting
 pub mod Turning
+pub mod Losses

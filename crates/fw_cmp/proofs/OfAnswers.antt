@@ -23,7 +23,7 @@ use Rattle.fw_cmp.specs.Answers.{decision_of, Decides, DecidedBy, IsOfAnswers, I
 use Rattle.fw_cmp.specs.Connections.{is_listen}
 use Rattle.fw_cmp.specs.Controllers.{ControllerState, slot_at, with_slot}
 use Rattle.fw_cmp.specs.Requests.{access_of}
-use Rattle.fw_cmp.specs.Resets.{heard, after_hear, overtaken, current_reset, after_reset}
+use Rattle.fw_cmp.specs.Resets.{heard, after_hear, overtaken, current_reset, after_reset, lost_reset, after_lost_reset, state_reset}
 use Rattle.fw_cmp.specs.Stages.{hear_reply}
 use Rattle.fw_cmp.specs.Turns.{current_for, own_flow, absent_of, begin_managed, begin_present, begin_making, begin_leaving, begin_breaking, is_late, begun, resumed, resumed_current, picked, after_asking, after_answer, after_next}
 use Rattle.fw_cmp.proofs.Deciding.{answer_decides}
@@ -154,3 +154,14 @@ reset_kept epoch c (Overtaken i o) h = h
 
 pub reset_decides : (epoch : ℕ) (c : ControllerState) → IsDecidedByAnswers c.current → IsDecidedByAnswers (after_reset epoch c).current
 reset_decides epoch c h = reset_kept epoch c c.current h
+
+-- the same where the response to the request was lost
+lost_kept : (epoch : ℕ) (c : ControllerState) (cur : Current) → IsDecidedByAnswers c.current → IsDecidedByAnswers (lost_reset epoch c cur).current
+lost_kept epoch c Nothing h = h
+lost_kept epoch c (Asking j s) h = interrupted_kept epoch c j j.purpose
+lost_kept epoch c (Hearing j s) h = interrupted_kept epoch c j j.purpose
+lost_kept epoch c (Overtaken i o) h = h
+
+pub state_decides : (epoch : ℕ) (lost : Bool) (c : ControllerState) → IsDecidedByAnswers c.current → IsDecidedByAnswers (state_reset epoch lost c).current
+state_decides epoch true c h = lost_kept epoch c c.current h
+state_decides epoch false c h = reset_decides epoch c h

@@ -20,7 +20,7 @@ use Rattle.fw_cmp.specs.Controllers.{ControllerState, slot_at, with_slot, is_mak
 use Rattle.fw_cmp.specs.Fits.{SlotFits}
 use Rattle.fw_cmp.specs.Turns.{made_outcome}
 use Rattle.fw_cmp.specs.declared.outcome.Outcome.TheVariants.{Reset}
-use Rattle.fw_cmp.specs.Resets.{overtaken, current_reset, slot_reset, slots_reset, after_reset, slot_over, after_second}
+use Rattle.fw_cmp.specs.Resets.{overtaken, current_reset, lost_reset, slot_reset, slots_reset, after_reset, after_lost_reset, state_reset, slot_over, after_second}
 use Rattle.fw_cmp.proofs.Ended.{purpose_or, connection_or, make_count, break_count, WaitsBeside, beside, after_stop, stop_fits}
 use Rattle.fw_cmp.proofs.Jobs.{same_count}
 use Rattle.fw_cmp.proofs.Fitting.{slot_here, slot_elsewhere}
@@ -99,6 +99,15 @@ current_reset_fits epoch ss ts (Hearing j t) h =
     let runs : RunsFitting (record { slots = ss; waiting = ts; current = Hearing j t }) j t = h.current in
     overtaken_fits epoch (record { slots = ss; waiting = ts; current = Hearing j t }) j t h runs (λ i. settled ts j t t i (get_or ss i Free) (h.jobs i)) (λ i s r. record { makes = r.makes; breaks = r.breaks; gone = r.gone }) (λ d r. r)
 current_reset_fits epoch ss ts (Overtaken i o) h = h
+
+-- the same where the response to its request was lost
+lost_fits : (epoch : ℕ) (ss : List Slot) (ts : List Task) (cur : Current) → Fits (record { slots = ss; waiting = ts; current = cur }) → Fits (lost_reset epoch (record { slots = ss; waiting = ts; current = cur }) cur)
+lost_fits epoch ss ts Nothing h = h
+lost_fits epoch ss ts (Asking j t) h = interrupted_fits epoch (record { slots = ss; waiting = ts; current = Asking j t }) j t h h.current h.jobs j.purpose refl
+lost_fits epoch ss ts (Hearing j t) h =
+    let runs : RunsFitting (record { slots = ss; waiting = ts; current = Hearing j t }) j t = h.current in
+    interrupted_fits epoch (record { slots = ss; waiting = ts; current = Hearing j t }) j t h runs (λ i. settled ts j t t i (get_or ss i Free) (h.jobs i)) j.purpose refl
+lost_fits epoch ss ts (Overtaken i o) h = h
 
 -- ---- the slots after it
 
@@ -192,6 +201,15 @@ current_reset_moved epoch ss ts (Hearing j t) h =
     overtaken_moved epoch (record { slots = ss; waiting = ts; current = Hearing j t }) j t (omega (arith, h.slots, runs.job.slot)) runs.of_slot (λ d e. e)
 current_reset_moved epoch ss ts (Overtaken i o) h = tt
 
+lost_moved : (epoch : ℕ) (ss : List Slot) (ts : List Task) (cur : Current) → Fits (record { slots = ss; waiting = ts; current = cur }) → let r : ControllerState = lost_reset epoch (record { slots = ss; waiting = ts; current = cur }) cur in IsMoved r r.current
+lost_moved epoch ss ts Nothing h = tt
+lost_moved epoch ss ts (Asking j t) h = interrupted_moved epoch (record { slots = ss; waiting = ts; current = Asking j t }) j h.current.of_slot j.purpose refl
+lost_moved epoch ss ts (Hearing j t) h = interrupted_moved epoch (record { slots = ss; waiting = ts; current = Hearing j t }) j h.current.of_slot j.purpose refl
+lost_moved epoch ss ts (Overtaken i o) h = tt
+
+pub lost_reset_fits : (epoch : ℕ) (c : ControllerState) → Fits c → Fits (after_lost_reset epoch c)
+lost_reset_fits epoch c h = slots_reset_fits (lost_reset epoch c c.current) (lost_moved epoch c.slots c.waiting c.current h) (lost_fits epoch c.slots c.waiting c.current h)
+
 pub reset_fits : (epoch : ℕ) (c : ControllerState) → Fits c → Fits (after_reset epoch c)
 reset_fits epoch c h = slots_reset_fits (current_reset epoch c c.current) (current_reset_moved epoch c.slots c.waiting c.current h) (current_reset_fits epoch c.slots c.waiting c.current h)
 
@@ -217,8 +235,18 @@ current_reset_waiting epoch c (Asking j t) = overtaken_waiting epoch c j t
 current_reset_waiting epoch c (Hearing j t) = overtaken_waiting epoch c j t
 current_reset_waiting epoch c (Overtaken i o) = refl
 
+pub lost_reset_waiting : (epoch : ℕ) (c : ControllerState) (cur : Current) → (lost_reset epoch c cur).waiting ≡ c.waiting
+lost_reset_waiting epoch c Nothing = refl
+lost_reset_waiting epoch c (Asking j t) = interrupted_waiting epoch c j j.purpose
+lost_reset_waiting epoch c (Hearing j t) = interrupted_waiting epoch c j j.purpose
+lost_reset_waiting epoch c (Overtaken i o) = refl
+
 pub is_slots_reset : (r : ControllerState) (ss us : List Slot) (ts : List Task) (cur : Current) → us ≡ map slot_reset ss → ss ≡ r.slots → ts ≡ r.waiting → cur ≡ r.current → record { slots = us; waiting = ts; current = cur } ≡ slots_reset r
 is_slots_reset r ss us ts cur a b d e = cc
+
+pub state_reset_fits : (epoch : ℕ) (lost : Bool) (c : ControllerState) → Fits c → Fits (state_reset epoch lost c)
+state_reset_fits epoch true c h = lost_reset_fits epoch c h
+state_reset_fits epoch false c h = reset_fits epoch c h
 
 -- ---- the end of the reclaim second
 

@@ -14,3 +14,4 @@ pub mod Resets
 pub mod Answers
 pub mod Causes
 pub mod Outcomes
+pub mod Losses

@@ -1,5 +1,5 @@
 -- What an answer, a bus reset and the end of the reclaim second do to a controller.
-use Rattle.std.specs.Prelude.{ℕ, true, false, map}
+use Rattle.std.specs.Prelude.{ℕ, Bool, true, false, map}
 use Rattle.fw_csr.specs.declared.reply.Reply.{Reply}
 use Rattle.fw_cmp.specs.declared.connection.Slot.{Slot}
 use Rattle.fw_cmp.specs.declared.connection.Slot.TheVariants.{Free, Making, Standing, Restoring, Gone}
@@ -68,6 +68,21 @@ slots_reset c = record c { slots = map slot_reset c.slots }
 
 abbrev pub after_reset : ℕ → ControllerState → ControllerState
 after_reset epoch c = slots_reset (current_reset epoch c c.current)
+
+-- The same where the response to the request was lost: its job counts as one whose answer was not heard, so it is not decided.
+abbrev pub lost_reset : ℕ → ControllerState → Current → ControllerState
+lost_reset epoch c Nothing = c
+lost_reset epoch c (Asking j s) = interrupted epoch c j
+lost_reset epoch c (Hearing j s) = interrupted epoch c j
+lost_reset epoch c (Overtaken i o) = c
+
+abbrev pub after_lost_reset : ℕ → ControllerState → ControllerState
+after_lost_reset epoch c = slots_reset (lost_reset epoch c c.current)
+
+-- a bus reset, by whether the response was lost
+abbrev pub state_reset : ℕ → Bool → ControllerState → ControllerState
+state_reset epoch true c = after_lost_reset epoch c
+state_reset epoch false c = after_reset epoch c
 
 -- ---- the end of the reclaim second
 

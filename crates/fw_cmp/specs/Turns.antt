@@ -18,7 +18,7 @@ use Rattle.fw_cmp.specs.declared.job.Ending.TheVariants as ending
 use Rattle.fw_cmp.specs.declared.outcome.Outcome.{Outcome}
 use Rattle.fw_cmp.specs.declared.outcome.Outcome.TheVariants as outcome
 use Rattle.fw_cmp.specs.declared.outcome.Next.{Next}
-use Rattle.fw_cmp.specs.declared.outcome.Next.TheVariants.{Send, End, Idle, Waiting}
+use Rattle.fw_cmp.specs.declared.outcome.Next.TheVariants.{Send, End, Idle, Waiting, Deaf, Force}
 use Rattle.fw_cmp.specs.declared.request.Access.{Access}
 use Rattle.fw_cmp.specs.declared.stage.Stage.{Stage}
 use Rattle.fw_cmp.specs.declared.stage.Stage.TheVariants.{Begin, ReadOutput, ReadChannels, SwapChannels, OverlayOutput, ReadInput, ConnectInput, ReadInputToLeave, ReadOutputToLeave, Made, Ended}
@@ -249,3 +249,5 @@ is_busy (Send to r) = true
 is_busy (End i o) = true
 is_busy Idle = false
 is_busy (Waiting until) = false
+is_busy (Deaf until) = true
+is_busy Force = true

@@ -1,90 +1,54 @@
-ghost use Rattle.std.specs.Prelude.{◌≡◌, ◌<◌, Err, if◌then◌else◌, List, []};
-ghost use Rattle.fw_cmp.specs.declared.current.Task.{Task as TaskRecord};
-ghost use Rattle.fw_cmp.specs.declared.outcome.StartFault.TheVariants.{NotOwnPlug};
-ghost use Rattle.fw_cmp.specs.Controllers.{ControllerState, Fits, CurrentFits, first_state, IsHeard, IsStanding, break_waits};
-ghost use Rattle.fw_cmp.specs.Fits.{PlugFits, AskedFits, SlotFits, JobFits};
-ghost use Rattle.fw_cmp.specs.Starts.{IsMaking, OkWithin, start, start_own, started, connect_slot, broadcast_slot, listen_slot, start_break, break_started, break_fault, can_break};
+ghost use Rattle.std.specs.Prelude.{◌≡◌, ◌<◌, ◌≤◌, ◌^◌, ◌↔◌, ℕ, IsTrue, IsFalse, IfSome};
 ghost use Rattle.fw_cmp.specs.declared.directory.Directory.{Directory as BusDirectory};
+ghost use Rattle.fw_cmp.specs.Causes.{IsAtRest, IsHeldBack};
+ghost use Rattle.fw_cmp.specs.Fits.{PlugFits, AskedFits};
 ghost use Rattle.fw_cmp.specs.Holdings.{CanGoOn};
-ghost use Rattle.fw_cmp.specs.Resets.{after_hear, after_reset, after_second, current_reset, interrupted};
+ghost use Rattle.fw_cmp.specs.Losses.{ListeningFits, first_listening, MayTurn, Awaits, deaf_turn, deaf_until, turn_of, after_turn, with_state, after_answer, after_loss, after_bus_reset, after_end, IsDeafUntil, IsToForce};
+ghost use Rattle.fw_cmp.specs.Nodes.{HasNodeNumbers};
+ghost use Rattle.fw_cmp.specs.Outcomes.{EndsWithCause};
+ghost use Rattle.fw_cmp.specs.Starts.{OkWithin, start, start_own, started, connect_slot, broadcast_slot, listen_slot, start_break, break_started, break_fault};
+ghost use Rattle.fw_cmp.specs.Turns.{addressee_in, is_busy};
 
-use crate::{Connection, Current, Job, Outcome, Purpose, Slot, Stage, StartFault, Task, slots};
-use arrayvec::ArrayVec;
+use crate::agenda::Agenda;
+use crate::{Directory, Next, StartFault};
 use fw_base::PlugAt;
 use fw_csr::Reply;
 use std::marker::Model;
 
-/// The channel of a first broadcast connection (IEC 61883-1, broadcast channel base).
-const BROADCAST_CHANNEL: u8 = 63;
+/// How many cycles a controller waits for a response (SPLIT_TIMEOUT; own use).
+const SPLIT_TIMEOUT: u64 = 800;
 
-/// A connection controller: its slots, at most eight waiting jobs, and the current one.
+/// A connection controller: its slots and jobs, and whether it has lost the response to its request.
 #[derive(Debug, Drop)]
 pub struct Controller {
-    pub(crate) slots: [Slot; 32],
-    pub(crate) waiting: ArrayVec<Task, 8>,
-    pub(crate) current: Current,
+    agenda: Agenda,
+    /// The cycle of its latest request.
+    asked_at: u64,
+    /// The response to that was lost, and no bus reset has come since.
+    lost: bool,
 }
 
 impl Model for Controller {
-    ghost use Rattle.fw_cmp.specs.Controllers.{ControllerState, Fits};
+    ghost use Rattle.fw_cmp.specs.Losses.{Listening, ListeningFits};
 
-    ghost Value = { ControllerState };
+    ghost Value = { Listening };
 
-    ghost view = { λ c. record { slots = c.slots; waiting = c.waiting.items; current = c.current } };
+    ghost view = { λ c. record { state = c.agenda; asked_at = c.asked_at; lost = c.lost } };
 
-    ghost invariant = { λ c. Fits (record { slots = c.slots; waiting = c.waiting.items; current = c.current }) };
-}
-
-/// What a bus reset makes of the current job, and of its slot.
-fn overtake(epoch: u32, slots: &mut [Slot; 32], current: Current) -> Current
-    requires { CurrentFits (record { slots = slots.old; waiting = []; current = current }) current }
-    ensures current { (ts : List TaskRecord) → result ≡ (current_reset epoch (record { slots = slots.old; waiting = ts; current = current }) current).current }
-    ensures slots { (ts : List TaskRecord) → slots.new ≡ (current_reset epoch (record { slots = slots.old; waiting = ts; current = current }) current).slots }
-{
-    match current {
-        Current::Asking(job, stage) | Current::Hearing(job, stage) => match stage {
-            Stage::Made(flow) => {
-                slots[job.slot as usize] = Slot::Restoring(job.connection, flow, false);
-                Current::Overtaken(job.slot, job.made(flow))
-            }
-            Stage::Ended(_) => {
-                if let Purpose::Break = job.purpose {
-                    slots[job.slot as usize] = Slot::Gone(job.connection);
-                }
-                current
-            }
-            _ => interrupt(epoch, slots, job),
-        },
-        Current::Nothing | Current::Overtaken(..) => current,
-    }
-}
-
-/// What a bus reset makes of a job that no answer has decided: a restoring begins again.
-fn interrupt(epoch: u32, slots: &mut [Slot; 32], job: Job) -> Current
-    requires { JobFits job }
-    ensures current { (c : ControllerState) → result ≡ (interrupted epoch c job).current }
-    ensures slots { (c : ControllerState) → c.slots ≡ slots.old → slots.new ≡ (interrupted epoch c job).slots }
-{
-    match job.purpose {
-        Purpose::Restore => Current::Asking(job, Stage::Begin),
-        Purpose::Make | Purpose::Break => {
-            slots[job.slot as usize] = Slot::Free;
-            Current::Overtaken(job.slot, Outcome::Reset(epoch))
-        }
-    }
+    ghost invariant = { λ c. ListeningFits (record { state = c.agenda; asked_at = c.asked_at; lost = c.lost }) };
 }
 
 impl Controller {
     /// A controller with free slots and no jobs.
     pub fn new() -> Controller
-        ensures state { result ≡ first_state }
-        ensures fits { Fits result }
-        ensures goes_on { (d : BusDirectory) → CanGoOn d result }
+        ensures state { result ≡ first_listening }
+        ensures fits { ListeningFits result }
+        ensures goes_on { (d : BusDirectory) → CanGoOn d result.state }
     {
         Controller {
-            slots: [Slot::Free; 32],
-            waiting: ArrayVec::new(),
-            current: Current::Nothing,
+            agenda: Agenda::new(),
+            asked_at: 0,
+            lost: false,
         }
     }
 
@@ -101,159 +65,167 @@ impl Controller {
         requires into { PlugFits into }
         requires channel { AskedFits channel }
         requires overhead { overhead < 16 }
-        ensures answer { result ≡ start self.old }
-        ensures state { self.new ≡ started result (connect_slot out into channel overhead) self.old }
-        ensures fits { Fits self.new }
-        ensures goes_on { (d : BusDirectory) → CanGoOn d self.old → CanGoOn d self.new }
+        ensures answer { result ≡ start self.old.state }
+        ensures state { self.new ≡ with_state self.old (started result (connect_slot out into channel overhead) self.old.state) }
+        ensures fits { ListeningFits self.new }
+        ensures goes_on { (d : BusDirectory) → CanGoOn d self.old.state → CanGoOn d self.new.state }
     {
-        let connection = Connection::PlugToPlug {
-            output: out,
-            input: into,
-        };
-        self.start(true, Slot::Making(connection, channel, overhead))
+        self.agenda.start_connect(out, into, channel, overhead)
     }
 
     /// Starts a broadcast-out connection of an output plug of the controller's own device, and answers its slot.
     pub fn start_broadcast(&mut self, own: u8, out: PlugAt, overhead: u8) -> Result<u8, StartFault>
         requires out { PlugFits out }
         requires overhead { overhead < 16 }
-        ensures answer { result ≡ start_own own out self.old }
-        ensures state { self.new ≡ started result (broadcast_slot out overhead) self.old }
-        ensures fits { Fits self.new }
-        ensures goes_on { (d : BusDirectory) → CanGoOn d self.old → CanGoOn d self.new }
+        ensures answer { result ≡ start_own own out self.old.state }
+        ensures state { self.new ≡ with_state self.old (started result (broadcast_slot out overhead) self.old.state) }
+        ensures fits { ListeningFits self.new }
+        ensures goes_on { (d : BusDirectory) → CanGoOn d self.old.state → CanGoOn d self.new.state }
     {
-        let connection = Connection::BroadcastOut { output: out };
-        self.start(
-            out.device == own,
-            Slot::Making(connection, Some(BROADCAST_CHANNEL), overhead),
-        )
+        self.agenda.start_broadcast(own, out, overhead)
     }
 
     /// Starts a broadcast-in connection of an input plug of the controller's own device, and answers its slot.
     pub fn start_listen(&mut self, own: u8, into: PlugAt) -> Result<u8, StartFault>
         requires into { PlugFits into }
-        ensures answer { result ≡ start_own own into self.old }
-        ensures state { self.new ≡ started result (listen_slot into) self.old }
-        ensures fits { Fits self.new }
-        ensures goes_on { (d : BusDirectory) → CanGoOn d self.old → CanGoOn d self.new }
+        ensures answer { result ≡ start_own own into self.old.state }
+        ensures state { self.new ≡ with_state self.old (started result (listen_slot into) self.old.state) }
+        ensures fits { ListeningFits self.new }
+        ensures goes_on { (d : BusDirectory) → CanGoOn d self.old.state → CanGoOn d self.new.state }
     {
-        let connection = Connection::BroadcastIn { input: into };
-        self.start(
-            into.device == own,
-            Slot::Making(connection, Some(BROADCAST_CHANNEL), 0),
-        )
+        self.agenda.start_listen(own, into)
     }
 
     /// The slot that a new connection would take, the lowest free one, or why it would be refused: `TableFull` before
     /// `Busy`. A broadcast connection of another device's plug is refused before both.
     pub fn check_start(&self) -> Result<u8, StartFault>
-        ensures answer { result ≡ start self.now }
+        ensures answer { result ≡ start self.now.state }
         ensures within { OkWithin result }
     {
-        let Some(free) = slots::first_free(&self.slots) else {
-            return Err(StartFault::TableFull);
-        };
-        if self.waiting.is_full() {
-            return Err(StartFault::Busy);
-        }
-        Ok(free)
-    }
-
-    /// A new connection takes the lowest free slot, and waits. A broadcast connection is one of the controller's own
-    /// plug.
-    fn start(&mut self, is_own: bool, slot: Slot) -> Result<u8, StartFault>
-        requires slot { SlotFits slot }
-        requires making { IsMaking slot }
-        ensures answer { result ≡ (if is_own then start self.old else Err NotOwnPlug) }
-        ensures state { self.new ≡ started result slot self.old }
-        ensures fits { Fits self.new }
-        ensures goes_on { (d : BusDirectory) → CanGoOn d self.old → CanGoOn d self.new }
-    {
-        let free = self.check_start();
-        if !is_own {
-            return Err(StartFault::NotOwnPlug);
-        }
-        let free = free?;
-        self.slots[free as usize] = slot;
-        self.waiting.push(Task {
-            slot: free,
-            breaks: false,
-        });
-        Ok(free)
+        self.agenda.check_start()
     }
 
     /// Starts a break of the connection in this slot.
     pub fn start_break(&mut self, slot: u8) -> Result<(), StartFault>
-        ensures answer { result ≡ start_break self.old slot }
-        ensures state { self.new ≡ break_started self.old slot }
-        ensures fits { Fits self.new }
-        ensures goes_on { (d : BusDirectory) → CanGoOn d self.old → CanGoOn d self.new }
+        ensures answer { result ≡ start_break self.old.state slot }
+        ensures state { self.new ≡ with_state self.old (break_started self.old.state slot) }
+        ensures fits { ListeningFits self.new }
+        ensures goes_on { (d : BusDirectory) → CanGoOn d self.old.state → CanGoOn d self.new.state }
     {
-        if let Some(fault) = self.check_break(slot) {
-            return Err(fault);
-        }
-        self.waiting.push(Task { slot, breaks: true });
-        Ok(())
+        self.agenda.start_break(slot)
     }
 
     /// Why `start_break` would refuse a break of the connection in this slot. None where it would not.
     pub fn check_break(&self, slot: u8) -> Option<StartFault>
-        ensures { result ≡ break_fault self.now slot }
+        ensures { result ≡ break_fault self.now.state slot }
     {
-        if !self.can_break(slot) {
-            Some(StartFault::NoSuchConnection)
-        } else if self.waiting.is_full() {
-            Some(StartFault::Busy)
+        self.agenda.check_break(slot)
+    }
+
+    /// What the controller does next in this cycle. The directory is that of each call since the latest bus reset. One that
+    /// has lost a response keeps its stage and sends nothing.
+    pub fn next(&mut self, now: u64, directory: &Directory) -> Next
+        requires heard { MayTurn self.old }
+        requires now { now ≤ 2 ^ 52 }
+        requires nodes { HasNodeNumbers directory.now }
+        requires reached { IsFalse self.old.lost → CanGoOn directory.now self.old.state }
+        ensures answer { result ≡ turn_of now directory.now self.old }
+        ensures state { self.new ≡ after_turn now directory.now self.old }
+        ensures fits { ListeningFits self.new }
+        ensures goes_on { CanGoOn directory.now self.old.state → CanGoOn directory.now self.new.state }
+
+        ensures idle { (result ≡ Next.Idle) ↔ IsAtRest self.old.state }
+        ensures waiting { (until : ℕ) → (result ≡ Next.Waiting until) ↔ (IsHeldBack now directory.now self.old.state × (until ≡ directory.now.over_at)) }
+        ensures deaf { (until : ℕ) → (result ≡ Next.Deaf until) ↔ IsDeafUntil now self.old until }
+        ensures force { (result ≡ Next.Force) ↔ IsToForce now self.old }
+        ensures ended { EndsWithCause now directory.now self.old.state result }
+        ensures addressee { IfSome (addressee_in result) (λ to. to < 63) }
+    {
+        if self.lost {
+            return self.deaf(now);
+        }
+        let next = self.agenda.next(now, directory);
+        if let Next::Send { .. } = &next {
+            self.asked_at = now;
+        }
+        next
+    }
+
+    /// A response was lost: the controller waits for its split timeout, and then forces a bus reset.
+    fn deaf(&self, now: u64) -> Next
+        ensures { result ≡ deaf_turn now (deaf_until self.now) }
+    {
+        let until = self.asked_at + SPLIT_TIMEOUT;
+        if now < until {
+            Next::Deaf { until }
         } else {
-            None
+            Next::Force
         }
     }
 
-    /// The slot's connection stands or is to be restored, and no break of it waits or is current.
-    fn can_break(&self, slot: u8) -> bool
-        ensures { result ≡ can_break self.now slot }
+    /// Whether a request stands, whose reply is still to be heard.
+    pub fn has_request(&self) -> bool
+        ensures standing { IsTrue result ↔ Awaits self.now }
+        ensures heard { IsFalse result ↔ MayTurn self.now }
     {
-        let Some(held) = self.slots.get(slot as usize) else {
-            return false;
-        };
-        held.is_breakable() && !(self.break_waits(slot) || self.current.breaks(slot))
+        !self.lost && self.agenda.has_request()
     }
 
-    /// A break of the slot waits.
-    pub(crate) fn break_waits(&self, slot: u8) -> bool
-        ensures { result ≡ break_waits self.now slot }
+    /// Whether a response was lost, and no bus reset has come since.
+    pub fn is_deaf(&self) -> bool
+        ensures { result ≡ self.now.lost }
     {
-        self.waiting.iter().any(|t| t.breaks && t.slot == slot)
+        self.lost
+    }
+
+    /// Whether the controller has something to do: a request stands, or `next` would be neither Idle nor Waiting.
+    pub fn busy(&self, now: u64, directory: &Directory) -> bool
+        ensures heard { MayTurn self.now → result ≡ is_busy (turn_of now directory.now self.now) }
+        ensures standing { Awaits self.now → IsTrue result }
+    {
+        self.lost || self.agenda.busy(now, directory)
     }
 
     /// Hears the reply to the request that stands.
     pub fn hear(&mut self, r: &Reply)
-        requires { IsStanding self.old.current }
-        ensures state { self.new ≡ after_hear self.old r.now }
-        ensures fits { Fits self.new }
-        ensures goes_on { (d : BusDirectory) → CanGoOn d self.old → CanGoOn d self.new }
+        requires { Awaits self.old }
+        ensures state { self.new ≡ after_answer self.old r.now }
+        ensures fits { ListeningFits self.new }
+        ensures goes_on { (d : BusDirectory) → CanGoOn d self.old.state → CanGoOn d self.new.state }
     {
-        if let Current::Hearing(job, stage) = &self.current {
-            self.current = Current::Asking(*job, job.hear(stage, r));
-        }
+        self.agenda.hear(r);
     }
 
-    /// A bus reset that begins this epoch.
-    pub fn reset(&mut self, epoch: u32)
-        ensures state { self.new ≡ after_reset epoch self.old }
-        ensures fits { Fits self.new }
-        ensures goes_on { (d : BusDirectory) → CanGoOn d self.new }
+    /// The response to the request that stands is lost.
+    pub fn lose(&mut self)
+        requires { Awaits self.old }
+        ensures state { self.new ≡ after_loss self.old }
+        ensures fits { ListeningFits self.new }
+        ensures goes_on { (d : BusDirectory) → CanGoOn d self.old.state → CanGoOn d self.new.state }
     {
-        self.current = overtake(epoch, &mut self.slots, self.current);
-        slots::reset(&mut self.slots);
+        self.lost = true;
+    }
+
+    /// A bus reset that begins this epoch. A job whose last response was lost counts as one whose answer was not heard.
+    pub fn reset(&mut self, epoch: u32)
+        ensures state { self.new ≡ after_bus_reset epoch self.old }
+        ensures fits { ListeningFits self.new }
+        ensures goes_on { (d : BusDirectory) → CanGoOn d self.new.state }
+    {
+        if self.lost {
+            self.agenda.reset_unheard(epoch);
+        } else {
+            self.agenda.reset(epoch);
+        }
+        self.lost = false;
     }
 
     /// The reclaim second is over: so is the own second of each slot that is to be restored.
     pub fn second_over(&mut self)
-        ensures state { self.new ≡ after_second self.old }
-        ensures fits { Fits self.new }
-        ensures goes_on { (d : BusDirectory) → CanGoOn d self.old → CanGoOn d self.new }
+        ensures state { self.new ≡ after_end self.old }
+        ensures fits { ListeningFits self.new }
+        ensures goes_on { (d : BusDirectory) → CanGoOn d self.old.state → CanGoOn d self.new.state }
     {
-        slots::second_over(&mut self.slots);
+        self.agenda.second_over();
     }
 }

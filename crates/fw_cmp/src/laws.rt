@@ -1,6 +1,6 @@
 ghost use Rattle.fw_cmp.specs.declared.outcome.StartFault.TheVariants.{TableFull, Busy, NoSuchConnection};
 ghost use Rattle.fw_cmp.specs.Refusals.{IsFull, HasFree, TakesSlot};
-ghost use Rattle.std.specs.Prelude.{◌≡◌, ◌⊎◌, ◌↔◌, ◌≤◌, Ok, Err, length, ◌<◌, ◌+◌, ◌-◌, ◌^◌, ℕ, true, false, Some, IfSome};
+ghost use Rattle.std.specs.Prelude.{◌≡◌, ◌⊎◌, ◌↔◌, ◌≤◌, Ok, Err, length, ◌<◌, ◌+◌, ◌-◌, ◌^◌, ℕ, Bool, true, false, Some, IfSome};
 ghost use Rattle.fw_cmp.specs.declared.job.Job.{Job as JobRecord};
 ghost use Rattle.fw_cmp.specs.declared.stage.Stage.{Stage as StageRecord};
 ghost use Rattle.fw_cmp.specs.Answers.{decision_of, DecidedBy, IsDecidedByAnswers};
@@ -12,7 +12,7 @@ ghost use Rattle.fw_cmp.specs.declared.connection.Slot.{Slot as SlotRecord};
 ghost use Rattle.fw_cmp.specs.declared.directory.Directory.{Directory as BusDirectory};
 ghost use Rattle.fw_cmp.specs.Controllers.{ControllerState, Fits, first_state};
 ghost use Rattle.fw_cmp.specs.Holdings.{CanGoOn};
-ghost use Rattle.fw_cmp.specs.Resets.{after_hear, after_reset, after_second};
+ghost use Rattle.fw_cmp.specs.Resets.{after_hear, state_reset, after_second};
 ghost use Rattle.fw_cmp.specs.Starts.{IsMaking, start, started, start_break, can_break, break_started};
 ghost use Rattle.fw_cmp.specs.Turns.{after_next};
 ghost use Rattle.fw_cmp.specs.Plugs.{has_broadcast, counter_of, channel_of, overhead_of, one_more, one_less, with_channel, with_overhead, units_with, remainder_of};
@@ -29,14 +29,14 @@ pub fn starts_are_refused_by_the_rules()
 {}
 
 /// A bus at which a controller can go on is one at which it can go on after each of its steps; at first, and after a bus
-/// reset, each bus is.
+/// reset, whether it had lost a response or not, each bus is.
 pub fn controllers_go_on()
     ensures first { (d : BusDirectory) → CanGoOn d first_state }
     ensures connection { (d : BusDirectory) (c : ControllerState) (s : SlotRecord) → Fits c → IsMaking s → CanGoOn d c → CanGoOn d (started (start c) s c) }
     ensures breaking { (d : BusDirectory) (c : ControllerState) (i : ℕ) → CanGoOn d c → CanGoOn d (break_started c i) }
     ensures turn { (now : ℕ) (d : BusDirectory) (c : ControllerState) → Fits c → CanGoOn d c → CanGoOn d (after_next now d c) }
     ensures answer { (d : BusDirectory) (c : ControllerState) (r : ReplyRecord) → CanGoOn d c → CanGoOn d (after_hear c r) }
-    ensures reset { (d : BusDirectory) (epoch : ℕ) (c : ControllerState) → CanGoOn d (after_reset epoch c) }
+    ensures reset { (d : BusDirectory) (epoch : ℕ) (lost : Bool) (c : ControllerState) → CanGoOn d (state_reset epoch lost c) }
     ensures second { (d : BusDirectory) (c : ControllerState) → CanGoOn d c → CanGoOn d (after_second c) }
 {}
 
@@ -54,7 +54,7 @@ pub fn the_directory_decides_only_as_a_job_begins()
     ensures first { IsDecidedByAnswers first_state.current }
     ensures turn { (now : ℕ) (d : BusDirectory) (c : ControllerState) → IsDecidedByAnswers c.current → IsDecidedByAnswers (after_next now d c).current }
     ensures answer { (c : ControllerState) (r : ReplyRecord) → IsDecidedByAnswers c.current → IsDecidedByAnswers (after_hear c r).current }
-    ensures reset { (epoch : ℕ) (c : ControllerState) → IsDecidedByAnswers c.current → IsDecidedByAnswers (after_reset epoch c).current }
+    ensures reset { (epoch : ℕ) (lost : Bool) (c : ControllerState) → IsDecidedByAnswers c.current → IsDecidedByAnswers (state_reset epoch lost c).current }
     ensures second { (c : ControllerState) → (after_second c).current ≡ c.current }
 {}
 

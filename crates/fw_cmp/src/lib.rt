@@ -2,6 +2,7 @@
 //! a job asks of a register, and what follows the answer.
 #![tactic(auto)]
 
+mod agenda;
 mod begin;
 mod connection;
 mod controller;
@@ -34,6 +35,3 @@ pub use laws::{
 pub use outcome::{Next, Outcome, StartFault};
 pub use request::{Access, Target};
 pub use stage::Stage;
-
-#[cfg(test)]
-mod tests;

@@ -41,6 +41,10 @@ pub enum Next {
     Idle,
     /// A new connection is not begun before this cycle, at which the reclaim second is over.
     Waiting { until: u64 },
+    /// The response to its request was lost: it does nothing before this cycle.
+    Deaf { until: u64 },
+    /// The response to its request was lost, and the split timeout is over: it forces a bus reset.
+    Force,
 }
 
 /// Why a job is refused.

@@ -13,7 +13,8 @@ ghost use Rattle.fw_cmp.specs.Requests.{addressee_of, standing_in};
 ghost use Rattle.fw_cmp.specs.Turns.{addressee_in, picked, can_pick, current_for, resumed_current, going, is_break, slot_after, ended, sending, rests, answer_of, after_answer, next, after_next, is_busy};
 ghost use Rattle.fw_cmp.specs.declared.current.Current.TheVariants.{Asking, Nothing};
 
-use crate::{Access, Controller, Current, Directory, Job, Next, Slot, Stage, Task, slots};
+use crate::agenda::Agenda;
+use crate::{Access, Current, Directory, Job, Next, Slot, Stage, Task, slots};
 use arrayvec::ArrayVec;
 
 /// The request goes to the node of its register.
@@ -101,8 +102,8 @@ fn resume(directory: &Directory, slots: &[Slot; 32], current: Current) -> Curren
     }
 }
 
-impl Controller {
-    /// What the controller does next in this cycle. The directory is that of each call since the latest bus reset.
+impl Agenda {
+    /// What the controller does next in this cycle, where it hears. The directory is that of each call since the latest bus reset.
     pub fn next(&mut self, now: u64, directory: &Directory) -> Next
         requires heard { IsHeard self.old.current }
         requires nodes { HasNodeNumbers directory.now }

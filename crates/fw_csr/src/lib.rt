@@ -17,6 +17,3 @@ pub use register::{REGISTER_SPACE, Register};
 pub use reply::{Reply, ResponseCode};
 pub use request::{Request, Swap};
 pub use word::Word;
-
-#[cfg(test)]
-mod tests;

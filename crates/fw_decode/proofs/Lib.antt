@@ -1,6 +1,6 @@
-pub mod Texts
-pub mod Gatherings
+pub mod WordLaws
 pub mod Passings
-pub mod Printings
-pub mod Decodings
-pub mod Completions
+pub mod Rewritings
+pub mod Audits
+pub mod TreeLaws
+pub mod Conversions

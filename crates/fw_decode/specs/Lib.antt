@@ -1,3 +1,8 @@
-pub mod Decode
-pub mod Outputs
-pub mod Pieces
+pub mod Texts
+pub mod TextLaws
+pub mod Silences
+pub mod Verdicts
+pub mod Trees
+pub mod Maps
+pub mod Words
+pub mod Converting

@@ -1,17 +1,33 @@
-//! The words that read a log: `decode` writes the line of each entry, `dv` a line for each channel that carries streams.
+//! The words that read a log: `decode` writes the line of each entry, `explain` tells it in words, `json` as an object with every
+//! field; `dv` writes a line for each channel that carries streams, `convert` the log in another version, `audit` whether its registers ran as a sound account, and `map` the tree of its last bus reset,
+//! as text or as a graph.
 //!
-//! A log is read in pieces of 4,096 bytes at most. What an entry gives is gathered as the entry ends, and written once a piece,
-//! before more is read; room for it is made once, so memory does not grow with the log. The first fault that is met decides how
-//! a call ends. A further word is a further `Output`.
+//! Each word is a `Reading` of a file of its own, and `fw_reading` has the loop. A further word is a further `Reading`, a case of
+//! `LogWord` and of the definitions by the word.
 #![tactic(auto)]
 
-mod calls;
-mod ending;
-mod output;
-mod piece;
-mod read_log;
-#[cfg(test)]
-mod tests;
+mod drawing;
+mod explanation;
+mod last_tree;
+mod laws;
+mod lines;
+mod mapping;
+mod objects;
+mod refusal;
+mod rewriting;
+mod streams;
+mod verdict;
+mod word;
 
-pub use calls::{decode, dv};
-pub use ending::LogEnding;
+pub use drawing::map_graph;
+pub use explanation::explain;
+pub use fw_reading::{LogEnding, Stop};
+pub use laws::{logs_convert_back, sound_logs_are_vouched};
+pub use lines::decode;
+pub use mapping::map;
+pub use objects::json;
+pub use refusal::{LogRefusal, NoMap, Unsound};
+pub use rewriting::convert;
+pub use streams::dv;
+pub use verdict::audit;
+pub use word::{LogWord, read_as};

@@ -10,6 +10,3 @@ mod talkers;
 pub use devices::Devices;
 pub use laws::{cables_extend_the_bus, reset_entries_show_the_bus};
 pub use talkers::Talkers;
-
-#[cfg(test)]
-mod tests;

@@ -15,9 +15,9 @@ pub entry_behind : (old head heads front now block all : List ℕ) → front ≡
 entry_behind old head heads front now block all e f g =
     g ∙ ap (λ t. t ++ block) (f ∙ ap (λ t. old ++ t) e) ∙ append_assoc old (head ++ heads) block ∙ ap (λ t. old ++ t) (append_assoc head heads block)
 
--- twelve bytes, and then as many over the zeros behind them
-pub twelve_twice : (a b x y zeros : List ℕ) → x ≡ a → y ≡ b → length x ≡ 12 → length zeros ≡ 12 → put_mid 12 12 (x ++ zeros) y ≡ a ++ b
-twelve_twice a b x y zeros e f n m =
-    let past : length (x ++ zeros) ≤ 24 = omega (arith, length-append x zeros, n, m) in
-    ap (λ l. l ++ (y ++ drop 12 (drop 12 (x ++ zeros)))) (take_at x zeros 12 n)
-    ∙ (ap (λ l. x ++ (y ++ l)) (drop-drop 12 12 (x ++ zeros) ∙ drop_all 24 (x ++ zeros) past) ∙ (ap (λ l. x ++ l) (append-nil y ∙ f) ∙ ap (λ l. l ++ b) e))
+-- sixteen bytes, and then twelve over the zeros behind them
+pub twelve_behind : (a b x y zeros : List ℕ) → x ≡ a → y ≡ b → length x ≡ 16 → length zeros ≡ 12 → put_mid 16 12 (x ++ zeros) y ≡ a ++ b
+twelve_behind a b x y zeros e f n m =
+    let past : length (x ++ zeros) ≤ 28 = omega (arith, length-append x zeros, n, m) in
+    ap (λ l. l ++ (y ++ drop 12 (drop 16 (x ++ zeros)))) (take_at x zeros 16 n)
+    ∙ (ap (λ l. x ++ (y ++ l)) (drop-drop 12 16 (x ++ zeros) ∙ drop_all 28 (x ++ zeros) past) ∙ (ap (λ l. x ++ l) (append-nil y ∙ f) ∙ ap (λ l. l ++ b) e))

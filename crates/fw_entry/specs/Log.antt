@@ -16,14 +16,24 @@ use Rattle.fw_entry.specs.declared.entry.ShownEntry.{ShownEntry}
 use Rattle.fw_entry.specs.declared.entry.Entry.{Entry}
 use Rattle.fw_entry.specs.declared.entry.Entry.TheVariants.{Reset, Async as AsyncEntry, Iso as IsoEntry, Event, Outcome, Shown, End}
 use Rattle.fw_entry.specs.declared.entry.Timed.{Timed}
+use Rattle.fw_entry.specs.declared.version.Version.{Version}
+use Rattle.fw_entry.specs.declared.version.Version.TheVariants.{One, Two}
 
 -- the bytes of quadlets
 abbrev pub quads : List ℕ → List ℕ
 quads qs = flat_map (to_be_bytes w32) qs
 
--- what each log begins with
-abbrev pub header_bytes : List ℕ
-header_bytes = quads (825440564 ∷ 1 ∷ 0 ∷ 0 ∷ [])
+-- the number by which a header names a version, and the version of a number
+abbrev pub number_of : Version → ℕ
+number_of One = 1
+number_of Two = 2
+
+abbrev pub version_of : ℕ → Option Version
+version_of n = if n == 1 then Some One else if n == 2 then Some Two else None
+
+-- what each log of a version begins with
+abbrev pub header_bytes : Version → List ℕ
+header_bytes v = quads (825440564 ∷ number_of v ∷ 0 ∷ 0 ∷ [])
 
 -- the quadlet of a node: device, output plugs, input plugs and kind code, 8 bits each
 abbrev pub node_quad : NodeRow → ℕ
@@ -70,22 +80,55 @@ body (Outcome o) = quads (outcome_quads o)
 body (Shown s) = quads (shown_quads s)
 body End = []
 
--- kind, zero, the body's length in quadlets, and the cycle
-abbrev pub entry_head : ℕ → ℕ → ℕ → List ℕ
-entry_head kind len cycle = kind ∷ 0 ∷ (to_be_bytes w16 len ++ to_be_bytes w64 cycle)
+-- how many bytes the epoch takes in an entry's head, and how many the head
+abbrev pub epoch_size : Version → ℕ
+epoch_size One = 0
+epoch_size Two = 4
 
--- the one list of bytes that the entry is
-abbrev pub entry_bytes : Timed → List ℕ
-entry_bytes t = entry_head (kind_of t.what) (length (body t.what) / 4) t.cycle ++ body t.what
+abbrev pub head_size : Version → ℕ
+head_size v = 12 + epoch_size v
+
+-- the epoch in an entry's head, which version 1 does not have
+abbrev pub epoch_bytes : Version → ℕ → List ℕ
+epoch_bytes One epoch = []
+epoch_bytes Two epoch = to_be_bytes w32 epoch
+
+-- kind, zero, the body's length in quadlets, the epoch where there is one, and the cycle
+abbrev pub entry_head : Version → ℕ → ℕ → ℕ → ℕ → List ℕ
+entry_head v epoch kind len cycle = kind ∷ 0 ∷ (to_be_bytes w16 len ++ (epoch_bytes v epoch ++ to_be_bytes w64 cycle))
+
+-- the one list of bytes that the entry is, where this is the epoch of the latest reset up to and including it
+abbrev pub entry_bytes : Version → ℕ → Timed → List ℕ
+entry_bytes v epoch t = entry_head v epoch (kind_of t.what) (length (body t.what) / 4) t.cycle ++ body t.what
+
+-- the epoch of the latest reset up to and including an entry, where this is that of the latest before it, or 0 where there is none
+abbrev pub epoch_after : ℕ → Entry → ℕ
+epoch_after epoch (Reset r) = r.epoch
+epoch_after epoch (AsyncEntry p) = epoch
+epoch_after epoch (IsoEntry p) = epoch
+epoch_after epoch (Event e) = epoch
+epoch_after epoch (Outcome o) = epoch
+epoch_after epoch (Shown s) = epoch
+epoch_after epoch End = epoch
+
+-- the epoch of the latest reset behind entries
+abbrev pub latest_epoch : ℕ → List Timed → ℕ
+latest_epoch epoch [] = epoch
+latest_epoch epoch (t ∷ ts) = latest_epoch (epoch_after epoch t.what) ts
+
+-- the bytes of entries, one behind the other, where this is the epoch of the latest reset before them
+abbrev pub entries_bytes : Version → ℕ → List Timed → List ℕ
+entries_bytes v epoch [] = []
+entries_bytes v epoch (t ∷ ts) = entry_bytes v (epoch_after epoch t.what) t ++ entries_bytes v (epoch_after epoch t.what) ts
 
 -- code, device, tape and system of an event
 abbrev pub is_event : ℕ → ℕ → ℕ → ℕ → Bool
 is_event code device tape system =
-    nat_le 1 code && nat_le code 6
-    && (if (code == 1) || (code == 6) then device == 255 else true)
+    nat_le 1 code && nat_le code 11
+    && (if (code == 1) || (code == 6) || (code == 8) then device == 255 else true)
     && (if code == 4 then (system == 525) || (system == 625) else (tape == 0) && (system == 0))
 
--- The event may be written: codes 1 and 6 have no device, and code 4 has a tape of one of two systems.
+-- The event may be written: codes 1, 6 and 8 have no device, and code 4 has a tape of one of two systems.
 pub record EventFits (e : EventEntry) : Type 0 where
   pub device : e.device < 2 ^ 8
   pub tape : e.tape < 2 ^ 16
@@ -191,11 +234,11 @@ HasEnd [] = ⊥
 HasEnd (t ∷ []) = IsTrue (is_end t.what)
 HasEnd (t ∷ u ∷ us) = HasEnd (u ∷ us)
 
--- the bytes of a log whose end may be missing, and of a whole log
-pub record LogOpens (entries : List Timed) (bytes : List ℕ) : Type 0 where
+-- the bytes of a log of this version whose end may be missing, and of a whole log
+pub record LogOpens (entries : List Timed) (version : Version) (bytes : List ℕ) : Type 0 where
   pub order : InOrder 0 entries
-  pub same : header_bytes ++ flat_map entry_bytes entries ≡ bytes
+  pub same : header_bytes version ++ entries_bytes version 0 entries ≡ bytes
 
-pub record LogSpells (entries : List Timed) (bytes : List ℕ) : Type 0 where
-  pub opens : LogOpens entries bytes
+pub record LogSpells (entries : List Timed) (version : Version) (bytes : List ℕ) : Type 0 where
+  pub opens : LogOpens entries version bytes
   pub ends : HasEnd entries

@@ -32,6 +32,16 @@ pub mod event {
     pub const EJECTED: u8 = 5;
     /// The bus did not come to rest in the time that was given; it has no device.
     pub const UNSETTLED: u8 = 6;
+    /// The response to a controller's request was lost: the controller did not hear it.
+    pub const LOST: u8 = 7;
+    /// Channel 31 is withheld from the bus, so that it is never free; the event has no device.
+    pub const WITHHELD: u8 = 8;
+    /// A candidate became the bus manager.
+    pub const ELECTED: u8 = 9;
+    /// A candidate found another bus manager in office.
+    pub const DEFEATED: u8 = 10;
+    /// The reel was tied to a deck, which records on it what it hears.
+    pub const DUBBING: u8 = 11;
 }
 
 /// The codes of outcomes, each with what its value is.

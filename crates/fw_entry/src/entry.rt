@@ -1,4 +1,5 @@
 ghost use Rattle.std.specs.Prelude.{◌≡◌};
+ghost use Rattle.fw_entry.specs.Log.{epoch_after};
 
 use crate::NodeList;
 use fw_async::Packet;
@@ -81,9 +82,10 @@ impl<'a> fmt::Debug for BorrowedReset<'a> {
 /// Something that happened on the bus without a packet (own).
 #[derive(Clone, Copy, Debug, PartialEq, Eq)]
 pub struct EventEntry {
-    /// 1 second over, 2 controller died, 3 controller started, 4 tape inserted, 5 tape ejected, 6 unsettled.
+    /// 1 second over, 2 controller died, 3 controller started, 4 tape inserted, 5 tape ejected, 6 unsettled,
+    /// 7 response lost, 8 channel 31 withheld, 9 bus manager elected, 10 candidate defeated, 11 dubbing.
     pub code: u8,
-    /// The number of the device, 255 where the event has none, as for codes 1 and 6.
+    /// The number of the device, 255 where the event has none, as for codes 1, 6 and 8.
     pub device: u8,
     /// The number of the inserted tape; 0 for other codes.
     pub tape: u16,
@@ -142,4 +144,16 @@ pub struct Timed<'a> {
     pub cycle: u64,
     /// What is recorded.
     pub what: Entry<'a>,
+}
+
+/// The epoch of the latest bus reset up to and including an entry, where this is that of the latest before it, or 0 where there is
+/// none.
+pub fn epoch_after(epoch: u32, what: &Entry) -> u32
+    ensures value { result ≡ epoch_after epoch what.now }
+    ensures latest { result ≡ epoch_after result what.now }
+{
+    match what {
+        Entry::Reset(r) => r.get().epoch,
+        _ => epoch,
+    }
 }

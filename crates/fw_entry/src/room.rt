@@ -2,19 +2,20 @@ ghost use Rattle.std.specs.Prelude.{◌≡◌, ◌≤◌, ◌+◌, [], ◌++◌,
 ghost use Rattle.fw_cip.specs.Iso.{Fits};
 ghost use Rattle.fw_entry.specs.Log.{entry_bytes};
 ghost use Rattle.fw_entry.specs.declared.entry.Entry.TheVariants.{Iso};
+ghost use Rattle.fw_entry.specs.declared.version.Version.TheVariants.{Two};
 
 use crate::codes::kind;
-use crate::write::head_of;
+use crate::write::long_head;
 use fw_cip::{IsoPacket, heads_of, iso_length};
 use fw_words::Bytes;
 use std::alloc::{AllocError, Global};
 use std::marker::Model;
 
 /// How many bytes the entries of a packet with a block on each of the 64 channels have.
-const ALL: usize = 32256;
+const ALL: usize = 32512;
 
-/// The bytes of one entry: at most the 12 of its head and the 569 quadlets of a reset.
-pub(crate) type EntryBytes = Bytes<2288>;
+/// The bytes of one entry: at most the 16 of its head and the 569 quadlets of a reset.
+pub(crate) type EntryBytes = Bytes<2292>;
 
 /// Memory in which an entry is put together before it is written. It is made once and used again for each entry.
 #[derive(Debug, Drop)]
@@ -31,7 +32,7 @@ impl EntryRoom {
     }
 }
 
-/// Room for the entries of the isochronous packets of one cycle, one behind the other: of each the 12 bytes of its head, the 12 of
+/// Room for the entries of version 2 of the isochronous packets of one cycle, one behind the other: of each the 16 bytes of its head, the 12 of
 /// the packet's headers, and a block. It is made once and used again for each cycle.
 #[derive(Drop)]
 pub struct CycleRoom {
@@ -47,7 +48,7 @@ impl Model for CycleRoom {
 
     ghost view = { λ r. take r.length r.bytes };
 
-    ghost invariant = { λ r. r.length ≤ 32256 };
+    ghost invariant = { λ r. r.length ≤ 32512 };
 }
 
 impl CycleRoom {
@@ -75,17 +76,17 @@ impl CycleRoom {
         self.length = 0;
     }
 
-    /// Puts the entry of a packet behind the others.
+    /// Puts the entry of a packet behind the others, where this is the epoch of the latest bus reset.
     #[inline(always)]
     #[tactic(auto, using(crate::proofs::SizeLaws::iso_few))]
-    pub fn put(&mut self, cycle: u64, p: &IsoPacket)
+    pub fn put(&mut self, epoch: u32, cycle: u64, p: &IsoPacket)
         requires fits { Fits p.now }
-        requires room { length self.old + 504 ≤ 32256 }
-        ensures bytes { self.new ≡ self.old ++ entry_bytes (record { cycle = cycle; what = Iso p.now }) }
-        ensures size { length self.new ≤ length self.old + 504 }
+        requires room { length self.old + 508 ≤ 32512 }
+        ensures bytes { self.new ≡ self.old ++ entry_bytes Two epoch (record { cycle = cycle; what = Iso p.now }) }
+        ensures size { length self.new ≤ length self.old + 508 }
     {
         let quadlets = (iso_length(p) / 4) as u16;
-        self.extend(&joined(head_of(kind::ISO, quadlets, cycle), heads_of(p)));
+        self.extend(&joined(long_head(kind::ISO, quadlets, epoch, cycle), heads_of(p)));
         if let Some(block) = &p.block {
             self.extend(block.as_slice());
         }
@@ -93,7 +94,7 @@ impl CycleRoom {
 
     #[inline(always)]
     fn extend(&mut self, more: &[u8])
-        requires { length self.old + length more.now ≤ 32256 }
+        requires { length self.old + length more.now ≤ 32512 }
         ensures { self.new ≡ self.old ++ more.now }
     {
         write_over(&mut self.bytes, self.length, more);
@@ -103,19 +104,19 @@ impl CycleRoom {
 
 // The one behind the other.
 #[inline(always)]
-fn joined(head: [u8; 12], heads: [u8; 12]) -> [u8; 24]
+fn joined(head: [u8; 16], heads: [u8; 12]) -> [u8; 28]
     ensures { result ≡ head ++ heads }
 {
-    let mut both = [0; 24];
-    both[..12].copy_from_slice(&head);
-    both[12..].copy_from_slice(&heads);
+    let mut both = [0; 28];
+    both[..16].copy_from_slice(&head);
+    both[16..].copy_from_slice(&heads);
     both
 }
 
 // Writes over the bytes from `at` on.
 #[inline(always)]
 fn write_over(out: &mut [u8; ALL], at: usize, more: &[u8])
-    requires { at + length more.now ≤ 32256 }
+    requires { at + length more.now ≤ 32512 }
     ensures { take (at + length more.now) out.new ≡ take at out.old ++ more.now }
 {
     out[at..at + more.len()].copy_from_slice(more);

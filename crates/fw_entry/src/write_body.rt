@@ -18,7 +18,7 @@ use fw_words::{Quadlet, put_quadlet, with_field};
 const NO_MANAGER: u8 = 255;
 
 fn put_quad(out: &mut EntryBytes, q: u32)
-    requires { length out.old + 4 ≤ 2288 }
+    requires { length out.old + 4 ≤ 2292 }
     ensures { out.new ≡ out.old ++ to_be_bytes w32 q }
 {
     out.append(&put_quadlet(Quadlet(q)));
@@ -32,7 +32,7 @@ fn event_quadlets(e: &EventEntry) -> u16
 
 fn put_event(e: &EventEntry, out: &mut EntryBytes)
     requires fits { EventFits e.now }
-    requires begun { length out.old ≤ 12 }
+    requires begun { length out.old ≤ 16 }
     ensures { out.new ≡ out.old ++ quads (event_quads e.now) }
 {
     let first = with_field(u32::from(e.code), 8, u32::from(e.device));
@@ -44,7 +44,7 @@ fn put_event(e: &EventEntry, out: &mut EntryBytes)
 
 fn put_outcome(o: &OutcomeEntry, out: &mut EntryBytes)
     requires fits { OutcomeFits o.now }
-    requires begun { length out.old ≤ 12 }
+    requires begun { length out.old ≤ 16 }
     ensures { out.new ≡ out.old ++ quads (outcome_quads o.now) }
 {
     let first = with_field(u32::from(o.code), 8, u32::from(o.device));
@@ -55,7 +55,7 @@ fn put_outcome(o: &OutcomeEntry, out: &mut EntryBytes)
 
 fn put_shown(s: &ShownEntry, out: &mut EntryBytes)
     requires fits { ShownFits s.now }
-    requires begun { length out.old ≤ 12 }
+    requires begun { length out.old ≤ 16 }
     ensures { out.new ≡ out.old ++ quads (shown_quads s.now) }
 {
     let first = with_field(u32::from(s.device), 8, 0);
@@ -74,7 +74,7 @@ fn node_quad(r: &NodeRow) -> u32
 
 fn put_nodes(rows: &[NodeRow], out: &mut EntryBytes)
     requires fits { All RowFits rows.now }
-    requires room { length out.old + 4 * length rows.now ≤ 2288 }
+    requires room { length out.old + 4 * length rows.now ≤ 2292 }
     ensures written { out.new ≡ out.old ++ quads (map node_quad rows.now) }
     ensures size { length out.new ≡ length out.old + 4 * length rows.now }
 {
@@ -85,7 +85,7 @@ fn put_nodes(rows: &[NodeRow], out: &mut EntryBytes)
 
 fn put_ids(ids: &[PhyPacket], out: &mut EntryBytes)
     requires fits { All Phy.Fits ids.now }
-    requires room { length out.old + 8 * length ids.now ≤ 2288 }
+    requires room { length out.old + 8 * length ids.now ≤ 2292 }
     ensures { out.new ≡ out.old ++ flat_map Phy.spelling ids.now }
 {
     for packet in ids {
@@ -108,7 +108,7 @@ fn reset_quadlets(r: &ResetEntry) -> u16
 
 fn put_reset(r: &ResetEntry, out: &mut EntryBytes)
     requires fits { ResetFits r.now }
-    requires begun { length out.old ≤ 12 }
+    requires begun { length out.old ≤ 16 }
     ensures { out.new ≡ out.old ++ (quads (reset_quads r.now) ++ flat_map Phy.spelling r.now.ids) }
 {
     let rows = r.nodes.as_slice();
@@ -142,7 +142,7 @@ pub(crate) fn body_quadlets(what: &Entry) -> u16
 #[tactic(auto, using(crate::proofs::SizeLaws::iso_few))]
 pub(crate) fn put_body(what: &Entry, out: &mut EntryBytes)
     requires fits { Fits what.now }
-    requires begun { length out.old ≤ 12 }
+    requires begun { length out.old ≤ 16 }
     ensures { out.new ≡ out.old ++ body what.now }
 {
     match what {

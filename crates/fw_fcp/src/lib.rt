@@ -27,6 +27,3 @@ pub enum FrameFault {
     /// The command type or response code is this one, which is reserved: 5, 6, 7 or E hexadecimal.
     ReservedType(u8),
 }
-
-#[cfg(test)]
-mod tests;

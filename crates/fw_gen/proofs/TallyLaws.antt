@@ -5,7 +5,8 @@ use Rattle.std.proofs.lemmas.Grind.{flat_map-append}
 use Rattle.std.proofs.lemmas.List.Sums.{sum_by-append}
 use Rattle.std.proofs.Math.Seq.{take-append_seam, drop-append_seam}
 use Rattle.std.specs.List.{All, count_by}
-use Rattle.fw_entry.specs.Log.{body, kind_of, entry_bytes, TimedFits}
+use Rattle.fw_entry.specs.Log.{body, kind_of, epoch_after, entry_bytes, entries_bytes, TimedFits}
+use Rattle.fw_entry.specs.declared.version.Version.TheVariants.{Two}
 use Rattle.fw_entry.specs.declared.entry.Entry.{Entry}
 use Rattle.fw_entry.specs.declared.entry.Entry.TheVariants as Entries
 use Rattle.fw_entry.specs.declared.entry.Timed.{Timed}
@@ -26,9 +27,9 @@ by_length : (n q a b : ℕ) → n ≡ 4 * q → q < 65536 → a ≡ n / 4 / 256 
 by_length n q a b e small f g = omega (arith, e, small, f, g)
 
 -- an entry's size, by the two bytes of its length
-pub size_of_first : (t : Timed) (log more : List ℕ) (a b : ℕ) → TimedFits t → log ≡ entry_bytes t ++ more → a ≡ get_or log 2 0 → b ≡ get_or log 3 0
-    → 12 + 4 * (256 * a + b) ≡ length (entry_bytes t)
-size_of_first t log more a b f e high low =
+pub size_of_first : (epoch : ℕ) (t : Timed) (log more : List ℕ) (a b : ℕ) → TimedFits t → log ≡ entry_bytes Two epoch t ++ more → a ≡ get_or log 2 0 → b ≡ get_or log 3 0
+    → 16 + 4 * (256 * a + b) ≡ length (entry_bytes Two epoch t)
+size_of_first epoch t log more a b f e high low =
     let h = has_length t.what f.entry in
     let size = by_length (length (body t.what)) h.quadlets a b h.size (few_quadlets (kind_of t.what) h.quadlets h.right)
     (high ∙ ap (λ (l : List ℕ). get_or l 2 0) e) (low ∙ ap (λ (l : List ℕ). get_or l 3 0) e) in
@@ -88,9 +89,10 @@ counts_shown log t w old new e h is =
 pub record Walked (log more : List Timed) (rest : List ℕ) (tally : Tally) : Type 0 where
   pub done : List Timed
   pub left : List Timed
+  pub epoch : ℕ
   pub parts : more ≡ done ++ left
   pub fit : All TimedFits left
-  pub bytes : rest ≡ flat_map entry_bytes left
+  pub bytes : rest ≡ entries_bytes Two epoch left
   pub counts : Counts (log ++ done) tally
 
 first_fits : (t : Timed) (ts : List Timed) → All TimedFits (t ∷ ts) → TimedFits t
@@ -101,49 +103,52 @@ others_fit t ts fit = λ k d h. fit (suc k) d (omega (arith, h))
 
 -- the next entry was counted
 pub walked_more : {log more : List Timed} {rest : List ℕ} {tally : Tally} (o : Option ℕ) (size : ℕ) (front back : List ℕ) (counted : Counted) (next : Tally) (w : Walked log more rest tally)
-    → o ≡ Some size → ((t : Timed) (x : List ℕ) → TimedFits t → rest ≡ entry_bytes t ++ x → o ≡ Some (length (entry_bytes t))) → (rest ≡ [] → o ≡ None)
-    → front ≡ take size rest → back ≡ drop size rest → ((t : Timed) → TimedFits t → front ≡ entry_bytes t → counted ≡ counted_in t.what)
+    → o ≡ Some size → ((n : ℕ) (t : Timed) (x : List ℕ) → TimedFits t → rest ≡ entry_bytes Two n t ++ x → o ≡ Some (length (entry_bytes Two n t))) → (rest ≡ [] → o ≡ None)
+    → front ≡ take size rest → back ≡ drop size rest → ((n : ℕ) (t : Timed) → TimedFits t → front ≡ entry_bytes Two n t → counted ≡ counted_in t.what)
     → ((so : List Timed) (t : Timed) → counted ≡ counted_in t.what → Counts so tally → Counts (so ++ t ∷ []) next) → Walked log more back next
 walked_more {log} {more} {rest} {tally} o size front back counted next w is first none cut_front cut_back reads counts = by w.left w.parts w.fit w.bytes
   where
-    by : (left : List Timed) → more ≡ w.done ++ left → All TimedFits left → rest ≡ flat_map entry_bytes left → Walked log more back next
+    by : (left : List Timed) → more ≡ w.done ++ left → All TimedFits left → rest ≡ entries_bytes Two w.epoch left → Walked log more back next
     by [] parts fit bytes = let wrong : Some size ≡ None = sym is ∙ none bytes in cc wrong
     by (t ∷ ts) parts fit bytes =
-        let same : Some size ≡ Some (length (entry_bytes t)) = sym is ∙ first t (flat_map entry_bytes ts) (first_fits t ts fit) bytes in
-        let long : size ≡ length (entry_bytes t) = cc same in
-        let head : front ≡ entry_bytes t = cut_front ∙ ap (λ (n : ℕ). take n rest) long ∙ ap (λ (l : List ℕ). take (length (entry_bytes t)) l) bytes ∙ take-append_seam (entry_bytes t) (flat_map entry_bytes ts) in
-        let behind : back ≡ flat_map entry_bytes ts = cut_back ∙ ap (λ (n : ℕ). drop n rest) long ∙ ap (λ (l : List ℕ). drop (length (entry_bytes t)) l) bytes ∙ drop-append_seam (entry_bytes t) (flat_map entry_bytes ts) in
+        let n : ℕ = epoch_after w.epoch t.what in
+        let same : Some size ≡ Some (length (entry_bytes Two n t)) = sym is ∙ first n t (entries_bytes Two n ts) (first_fits t ts fit) bytes in
+        let long : size ≡ length (entry_bytes Two n t) = cc same in
+        let head : front ≡ entry_bytes Two n t = cut_front ∙ ap (λ (k : ℕ). take k rest) long ∙ ap (λ (l : List ℕ). take (length (entry_bytes Two n t)) l) bytes ∙ take-append_seam (entry_bytes Two n t) (entries_bytes Two n ts) in
+        let behind : back ≡ entries_bytes Two n ts = cut_back ∙ ap (λ (k : ℕ). drop k rest) long ∙ ap (λ (l : List ℕ). drop (length (entry_bytes Two n t)) l) bytes ∙ drop-append_seam (entry_bytes Two n t) (entries_bytes Two n ts) in
         record {
           done = w.done ++ t ∷ [];
           left = ts;
+          epoch = n;
           parts = parts ∙ sym (append_assoc w.done (t ∷ []) ts);
           fit = others_fit t ts fit;
           bytes = behind;
-          counts = subst (λ (l : List Timed). Counts l next) (append_assoc log w.done (t ∷ [])) (counts (log ++ w.done) t (reads t (first_fits t ts fit) head) w.counts);
+          counts = subst (λ (l : List Timed). Counts l next) (append_assoc log w.done (t ∷ [])) (counts (log ++ w.done) t (reads n t (first_fits t ts fit) head) w.counts);
         }
 
 -- no entry is left
 pub walked_all : {log more : List Timed} {rest : List ℕ} {tally : Tally} (o : Option ℕ) (w : Walked log more rest tally)
-    → o ≡ None → ((t : Timed) (x : List ℕ) → TimedFits t → rest ≡ entry_bytes t ++ x → o ≡ Some (length (entry_bytes t))) → Counts (log ++ more) tally
+    → o ≡ None → ((n : ℕ) (t : Timed) (x : List ℕ) → TimedFits t → rest ≡ entry_bytes Two n t ++ x → o ≡ Some (length (entry_bytes Two n t))) → Counts (log ++ more) tally
 walked_all {log} {more} {rest} {tally} o w is first = by w.left w.parts w.fit w.bytes
   where
-    by : (left : List Timed) → more ≡ w.done ++ left → All TimedFits left → rest ≡ flat_map entry_bytes left → Counts (log ++ more) tally
+    by : (left : List Timed) → more ≡ w.done ++ left → All TimedFits left → rest ≡ entries_bytes Two w.epoch left → Counts (log ++ more) tally
     by [] parts fit bytes = subst (λ (l : List Timed). Counts (log ++ l) tally) (sym (parts ∙ append-nil w.done)) w.counts
-    by (t ∷ ts) parts fit bytes = let wrong : None ≡ Some (length (entry_bytes t)) = sym is ∙ first t (flat_map entry_bytes ts) (first_fits t ts fit) bytes in cc wrong
+    by (t ∷ ts) parts fit bytes = let n : ℕ = epoch_after w.epoch t.what in let wrong : None ≡ Some (length (entry_bytes Two n t)) = sym is ∙ first n t (entries_bytes Two n ts) (first_fits t ts fit) bytes in cc wrong
 
 -- a count is full only behind so many entries
 pub walked_full : {log more : List Timed} {rest : List ℕ} {tally : Tally} (o : Option ℕ) (size : ℕ) (front : List ℕ) (counted : Counted) (w : Walked log more rest tally)
-    → o ≡ Some size → ((t : Timed) (x : List ℕ) → TimedFits t → rest ≡ entry_bytes t ++ x → o ≡ Some (length (entry_bytes t))) → (rest ≡ [] → o ≡ None)
-    → front ≡ take size rest → ((t : Timed) → TimedFits t → front ≡ entry_bytes t → counted ≡ counted_in t.what)
+    → o ≡ Some size → ((n : ℕ) (t : Timed) (x : List ℕ) → TimedFits t → rest ≡ entry_bytes Two n t ++ x → o ≡ Some (length (entry_bytes Two n t))) → (rest ≡ [] → o ≡ None)
+    → front ≡ take size rest → ((n : ℕ) (t : Timed) → TimedFits t → front ≡ entry_bytes Two n t → counted ≡ counted_in t.what)
     → ((so : List Timed) (t : Timed) → counted ≡ counted_in t.what → Counts so tally → 2 ^ 64 ≤ length so + 1) → 2 ^ 64 ≤ length (log ++ more)
 walked_full {log} {more} {rest} {tally} o size front counted w is first none cut_front reads full = by w.left w.parts w.fit w.bytes
   where
-    by : (left : List Timed) → more ≡ w.done ++ left → All TimedFits left → rest ≡ flat_map entry_bytes left → 2 ^ 64 ≤ length (log ++ more)
+    by : (left : List Timed) → more ≡ w.done ++ left → All TimedFits left → rest ≡ entries_bytes Two w.epoch left → 2 ^ 64 ≤ length (log ++ more)
     by [] parts fit bytes = let wrong : Some size ≡ None = sym is ∙ none bytes in cc wrong
     by (t ∷ ts) parts fit bytes =
-        let same : Some size ≡ Some (length (entry_bytes t)) = sym is ∙ first t (flat_map entry_bytes ts) (first_fits t ts fit) bytes in
-        let long : size ≡ length (entry_bytes t) = cc same in
-        let head : front ≡ entry_bytes t = cut_front ∙ ap (λ (n : ℕ). take n rest) long ∙ ap (λ (l : List ℕ). take (length (entry_bytes t)) l) bytes ∙ take-append_seam (entry_bytes t) (flat_map entry_bytes ts) in
-        let many = full (log ++ w.done) t (reads t (first_fits t ts fit) head) w.counts in
+        let n : ℕ = epoch_after w.epoch t.what in
+        let same : Some size ≡ Some (length (entry_bytes Two n t)) = sym is ∙ first n t (entries_bytes Two n ts) (first_fits t ts fit) bytes in
+        let long : size ≡ length (entry_bytes Two n t) = cc same in
+        let head : front ≡ entry_bytes Two n t = cut_front ∙ ap (λ (k : ℕ). take k rest) long ∙ ap (λ (l : List ℕ). take (length (entry_bytes Two n t)) l) bytes ∙ take-append_seam (entry_bytes Two n t) (entries_bytes Two n ts) in
+        let many = full (log ++ w.done) t (reads n t (first_fits t ts fit) head) w.counts in
         let size : length more ≡ length (w.done ++ t ∷ ts) = ap (λ (l : List Timed). length l) parts in
         omega (arith, many, size, length-append log more, length-append log w.done, length-append w.done (t ∷ ts))

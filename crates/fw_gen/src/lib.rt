@@ -10,6 +10,3 @@ pub use grow_sink::GrowSink;
 pub use script_source::ScriptSource;
 pub use seed::gen_script;
 pub use tally::{CountFull, Tally};
-
-#[cfg(test)]
-mod tests;

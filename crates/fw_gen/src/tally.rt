@@ -1,8 +1,9 @@
 //! What is counted of a log.
 
-ghost use Rattle.std.specs.Prelude.{◌≡◌, ◌+◌, ◌*◌, ◌^◌, ◌<◌, ◌≤◌, ◌++◌, ◌∷◌, [], List, ℕ, length, flat_map, Some, None, IfSome, IfOk, OnOk, OnErr, MatchResult, string_bytes};
+ghost use Rattle.std.specs.Prelude.{◌≡◌, ◌+◌, ◌*◌, ◌^◌, ◌<◌, ◌≤◌, ◌++◌, ◌∷◌, [], List, ℕ, length, Some, None, IfSome, IfOk, OnOk, OnErr, MatchResult, string_bytes};
 ghost use Rattle.std.specs.List.{All};
-ghost use Rattle.fw_entry.specs.Log.{entry_bytes, TimedFits};
+ghost use Rattle.fw_entry.specs.Log.{entry_bytes, entries_bytes, TimedFits};
+ghost use Rattle.fw_entry.specs.declared.version.Version.TheVariants.{Two};
 ghost use Rattle.fw_entry.specs.declared.entry.Timed.{Timed};
 ghost use Rattle.fw_gen.specs.Summary.{number_line, summary_of, counted_outcome, counted_in, Counts};
 
@@ -13,8 +14,8 @@ use std::alloc::{AllocError, Global};
 /// How many devices each script that a seed makes has.
 const DEVICES: u64 = 60;
 
-/// How many bytes of an entry stand before its body.
-const HEAD: usize = 12;
+/// How many bytes of an entry of version 2 stand before its body.
+const HEAD: usize = 16;
 
 /// A count stands at 2^64 - 1, and one more is due.
 #[derive(Clone, Copy, Debug, PartialEq, Eq)]
@@ -39,9 +40,9 @@ pub enum Counted {
 
 // How many bytes the first entry takes, where they are all there.
 fn entry_size(log: &[u8]) -> Option<usize>
-    ensures first { (t : Timed) (more : List ℕ) → TimedFits t → log.now ≡ entry_bytes t ++ more → result ≡ Some (length (entry_bytes t)) }
+    ensures first { (epoch : ℕ) (t : Timed) (more : List ℕ) → TimedFits t → log.now ≡ entry_bytes Two epoch t ++ more → result ≡ Some (length (entry_bytes Two epoch t)) }
     ensures none { log.now ≡ [] → result ≡ None }
-    ensures within { IfSome result (λ n. (12 ≤ n) × (n ≤ length log.now)) }
+    ensures within { IfSome result (λ n. (16 ≤ n) × (n ≤ length log.now)) }
 {
     if log.len() < HEAD {
         return None;
@@ -64,8 +65,8 @@ fn counted_outcome(code: u8) -> Counted
 
 // What is counted of an entry.
 fn counted_in(entry: &[u8]) -> Counted
-    requires { 12 ≤ length entry.now }
-    ensures { (t : Timed) → TimedFits t → entry.now ≡ entry_bytes t → result ≡ counted_in t.what }
+    requires { 16 ≤ length entry.now }
+    ensures { (epoch : ℕ) (t : Timed) → TimedFits t → entry.now ≡ entry_bytes Two epoch t → result ≡ counted_in t.what }
 {
     match entry[0] {
         kind::RESET => Counted::Reset,
@@ -122,9 +123,9 @@ impl Tally {
         Ok(more)
     }
 
-    /// Counts the entries whose bytes these are. An error comes only where a count passes 2^64 - 1.
+    /// Counts the entries whose bytes these are, of version 2, whatever the epoch before them. An error comes only where a count passes 2^64 - 1.
     pub fn take(&mut self, bytes: &[u8]) -> Result<(), CountFull>
-        ensures { (log more : List Timed) → All TimedFits more → bytes.now ≡ flat_map entry_bytes more → Counts log self.old
+        ensures { (epoch : ℕ) (log more : List Timed) → All TimedFits more → bytes.now ≡ entries_bytes Two epoch more → Counts log self.old
             → MatchResult result (λ u. Counts (log ++ more) self.new) (λ e. 2 ^ 64 ≤ length (log ++ more)) }
     {
         let mut rest = bytes;

@@ -2,7 +2,7 @@
 use Rattle.fw_base.specs.declared.plug.PlugAt.{PlugAt}
 use Rattle.fw_entry.specs.declared.entry.ResetEntry.{ResetEntry}
 use Rattle.fw_entry.specs.declared.nodes.NodeRow.{NodeRow}
-use Rattle.std.specs.Prelude.{ℕ, ◌+◌, ◌-◌, ◌*◌, ◌/◌, ◌%◌, ◌^◌, ◌==◌, nat_le, nat_lt, Bool, false, ◌&&◌, if◌then◌else◌, Option, Some, None, slice_get, option_map}
+use Rattle.std.specs.Prelude.{ℕ, ◌+◌, ◌-◌, ◌*◌, ◌/◌, ◌%◌, ◌^◌, ◌==◌, nat_le, nat_lt, Bool, false, ◌&&◌, if◌then◌else◌, Option, Some, None, length, slice_get, option_map}
 use Rattle.std.specs.Option.{option_or}
 use Rattle.fw_base.specs.Tables.{sum_to, at_plug}
 use Rattle.fw_ledger.specs.Account.{Account, is_free, is_there, counter, remainder}
@@ -89,6 +89,15 @@ is_node n (Some m) = m == n
 abbrev pub node_of : Option ResetEntry → ℕ → ℕ
 node_of None d = 0
 node_of (Some r) d = node_of_device r.nodes d
+
+-- the node ID of the node with this number, where there are so many nodes
+abbrev pub id_below : ℕ → ℕ → Option ℕ
+id_below count n = if nat_lt n count then Some (first_id + n) else None
+
+-- the node ID of a device, where it is a node
+abbrev pub id_in : Option ResetEntry → ℕ → Option ℕ
+id_in None d = None
+id_in (Some r) d = id_below (length r.nodes) (node_of_device r.nodes d)
 
 -- the register of the account that stands at an offset of node n
 abbrev pub register_at : Option ResetEntry → ℕ → ℕ → Option Register

@@ -1,12 +1,15 @@
-ghost use Rattle.std.specs.Prelude.{◌≡◌, ◌+◌, ◌-◌, ◌*◌, ◌/◌, ◌%◌, ◌^◌, ◌<◌, ℕ, IfOk, IsOkAnd, Some, None, if◌then◌else◌};
+ghost use Rattle.std.specs.Prelude.{◌≡◌, ◌+◌, ◌-◌, ◌*◌, ◌/◌, ◌%◌, ◌^◌, ◌<◌, ℕ, IfOk, IfErr, IfSome, IsOkAnd, Some, None, if◌then◌else◌};
+ghost use Rattle.std.specs.Option.{option_map};
 ghost use Rattle.fw_entry.specs.Log.{Fits};
+ghost use Rattle.fw_entry.specs.Network.{device_of_id};
 ghost use Rattle.fw_ledger.specs.Account.{Account, is_free};
 ghost use Rattle.fw_ledger.specs.Fold.{no_account, next_account};
 ghost use Rattle.fw_ledger.specs.Network.{is_output, is_input};
-ghost use Rattle.fw_ledger.specs.Words.{BandwidthAvailable, ChannelsAvailable, OutputPlug, InputPlug, word_of};
-ghost use Rattle.fw_ledger.specs.Stands.{StandsFor, Follows};
+ghost use Rattle.fw_ledger.specs.Words.{BandwidthAvailable, ChannelsAvailable, OutputPlug, InputPlug, word_of, register_of, id_in};
+ghost use Rattle.fw_ledger.specs.Stands.{StandsFor, AskedFor, Follows};
 
-use crate::tables::Tables;
+use crate::renew::id_of_device;
+use crate::tables::{Asked, Tables};
 use fw_base::PlugAt;
 use fw_entry::Timed;
 use fw_plug::{InWord, OutWord};
@@ -45,7 +48,8 @@ impl Ledger {
     /// taken.
     pub fn take(&mut self, t: &Timed) -> Result<bool, AllocError>
         requires fits { Fits t.now.what }
-        ensures { (l : Account) → StandsFor self.old l → IsOkAnd result (λ taken. Follows taken self.old self.new (next_account l t.now.what)) }
+        ensures taken { (l : Account) → StandsFor self.old l → IsOkAnd result (λ taken. Follows taken self.old self.new (next_account l t.now.what)) }
+        ensures memory { IfErr result (λ e. self.new ≡ self.old) }
     {
         let taken = self.tables.take_entry(&t.what);
         Ok(taken)
@@ -79,5 +83,43 @@ impl Ledger {
         ensures { (l : Account) → StandsFor self.now l → result ≡ (if is_input l.latest p then Some (record { 0 = word_of l (InputPlug p) }) else None) }
     {
         Some(InWord(self.tables.in_word(p)?))
+    }
+
+    /// Whether a reclaim second runs.
+    pub fn reclaims(&self) -> bool
+        ensures { (l : Account) → StandsFor self.now l → result ≡ l.reclaiming }
+    {
+        self.tables.reclaiming
+    }
+
+    /// The device that has a node ID. None exactly where the latest reset entry has no such node.
+    pub fn device(&self, id: u16) -> Option<u8>
+        ensures device { (l : Account) → StandsFor self.now l → result ≡ device_of_id l.latest id }
+        ensures within { IfSome result (λ d. d < 63) }
+    {
+        self.tables.device(id)
+    }
+
+    /// The node ID of a device. None exactly where it is no node of the latest reset entry.
+    pub fn id(&self, device: u8) -> Option<u16>
+        ensures { (l : Account) → StandsFor self.now l → result ≡ id_in l.latest device }
+    {
+        id_of_device(self.tables.nodes.as_slice(), device)
+    }
+
+    /// The request of the controller of this device that is outstanding.
+    pub fn outstanding(&self, device: u8) -> Asked
+        requires { device < 63 }
+        ensures { (l : Account) → StandsFor self.now l → AskedFor result (l.outstanding device) }
+    {
+        self.tables.outstanding(device)
+    }
+
+    /// The word of the register of the account that stands at an address of a node. None exactly where none does.
+    pub fn word(&self, id: u16, address: u64) -> Option<u32>
+        ensures { (l : Account) → StandsFor self.now l → result ≡ option_map (word_of l) (register_of l.latest id address) }
+    {
+        let register = self.tables.register_at(id, address)?;
+        Some(self.tables.word(register))
     }
 }

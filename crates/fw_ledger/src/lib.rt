@@ -45,13 +45,7 @@ mod tables;
 mod units;
 
 pub use ledger::Ledger;
-
-#[cfg(test)]
-mod account_tests;
-#[cfg(test)]
-mod decks;
-#[cfg(test)]
-mod swap_tests;
+pub use tables::Asked;
 
 /// Each move and each event keeps the account sound, and so does each entry in the grammar of the log: at every prefix of a
 /// list of entries that has an account, there is one, and it is sound. In a sound account no channel has two talkers, and

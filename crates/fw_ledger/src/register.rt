@@ -3,11 +3,11 @@
 ghost use Rattle.std.specs.Prelude.{◌≡◌, IfSome, if◌then◌else◌, None};
 ghost use Rattle.std.specs.Option.{option_map};
 ghost use Rattle.fw_ledger.specs.Account.{Account};
-ghost use Rattle.fw_ledger.specs.Words.{is_node, manager_register, plug_number, first_output, first_input, output_register, input_register, plug_register, register_of};
+ghost use Rattle.fw_ledger.specs.Words.{is_node, manager_register, plug_number, first_output, first_input, output_register, input_register, plug_register, register_of, word_of};
 ghost use Rattle.fw_ledger.specs.Stands.{Stands, StandsFor};
 ghost use Rattle.fw_ledger.specs.Swaps.{IsThere, register_named};
 
-use crate::place::{plug_number, row_at};
+use crate::place::{plug_number, row_at, word_at};
 use crate::tables::Tables;
 use fw_base::PlugAt;
 use fw_entry::NodeRow;
@@ -105,6 +105,21 @@ fn managed(node: u16, manager: Option<u8>, offset: u64) -> Option<Register>
 }
 
 impl Tables {
+    /// The word of a register of the account.
+    pub fn word(&self, register: Register) -> u32
+        requires stands { Stands self.now }
+        requires there { IsThere register self.now }
+        ensures { (l : Account) → StandsFor self.now l → result ≡ word_of l (register_named register) }
+    {
+        match register {
+            Register::Bandwidth => self.left,
+            Register::HighChannels => self.high,
+            Register::LowChannels => self.low,
+            Register::Output(p) => word_at(&self.outputs, p),
+            Register::Input(p) => word_at(&self.inputs, p),
+        }
+    }
+
     /// The register of the account that a node ID and an address name. None where another register stands there, or
     /// none.
     pub fn register_at(&self, id: u16, address: u64) -> Option<Register>

@@ -1,7 +1,8 @@
 //! What a bus reset leaves of the registers of plugs.
 
-ghost use Rattle.std.specs.Prelude.{◌≡◌, ◌<◌, ◌/◌, ◌%◌, ℕ, length, slice_index, slice_index_or, false};
+ghost use Rattle.std.specs.Prelude.{◌≡◌, ◌<◌, ◌≤◌, ◌/◌, ◌%◌, ℕ, length, slice_index, slice_index_or, false};
 ghost use Rattle.fw_entry.specs.Network.{speed_of, node_of_device};
+ghost use Rattle.fw_ledger.specs.Words.{id_below};
 ghost use Rattle.fw_ledger.specs.Resets.{without_connections, first_output, first_input, rate_of, renewed_output, renewed_input, goes_on};
 
 use crate::place::has_plug;
@@ -50,6 +51,19 @@ fn node_of_device(nodes: &[NodeRow], device: u8) -> usize
         }
     }
     nodes.len()
+}
+
+/// The node ID of a device, where it is a node.
+pub fn id_of_device(nodes: &[NodeRow], device: u8) -> Option<u16>
+    requires { length nodes.now ≤ 63 }
+    ensures { result ≡ id_below (length nodes.now) (node_of_device nodes.now device) }
+{
+    let node = node_of_device(nodes, device);
+    if node < nodes.len() {
+        Some(0xffc0 + node as u16)
+    } else {
+        None
+    }
 }
 
 // The plug that has a place.

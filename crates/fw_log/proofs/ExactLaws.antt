@@ -1,5 +1,5 @@
 -- What a reader makes of a piece is the only thing that it can be.
-use Rattle.std.proofs.Common.{◌≡◌, inl, inr, ℕ, ◌+◌, ◌-◌, ◌≤◌, ◌<◌, List, [], ◌++◌, flat_map, length, take, drop}
+use Rattle.std.proofs.Common.{◌≡◌, inl, inr, ℕ, ◌+◌, ◌-◌, ◌≤◌, ◌<◌, List, [], ◌++◌, flat_map, get_or, length, take, drop}
 use Rattle.std.proofs.Common.{Option, Some, None, Result, Ok, Err, IfOk, arith, refl, ap, sym, subst, ◌∙◌, length-append}
 use Rattle.std.proofs.lemmas.Bool.{cases_lt}
 use Rattle.std.proofs.lemmas.List.{append-nil, take_all, take-take, length-take-le, take-append-drop}
@@ -13,10 +13,11 @@ use Rattle.fw_phy.specs.Phy.{spelling}
 use Rattle.fw_cip.specs.Iso.{iso_fault}
 use Rattle.fw_cip.proofs.SpelledLaws.{spelled_none as iso_clear}
 use Rattle.fw_log.specs.Bodies.{IsBody, BodyRefused, PacketRefuses, refusal}
-use Rattle.fw_log.specs.Reading.{IsPending, Spells, Faulty, WrongBody, need, skip, fault_at}
+use Rattle.fw_entry.specs.Log.{epoch_after, head_size, body}
+use Rattle.fw_entry.specs.declared.version.Version.{Version}
+use Rattle.fw_log.specs.Reading.{IsPending, Spells, Faulty, WrongBody, EntryRefused, HasEpoch, need, skip, version_at, fault_at}
 use Rattle.fw_log.specs.Stands.{Position}
-use Rattle.fw_log.specs.Reader.{State, Feeds, FeedsTo, Counts, bytes_given, total, EndsEntry, ShowsFault, EndsNothing}
-use Rattle.fw_entry.specs.Log.{entry_bytes}
+use Rattle.fw_log.specs.Reader.{State, Feeds, FeedsTo, Counts, body_given, total, EndsEntry, ShowsFault, EndsNothing}
 use Rattle.fw_entry.specs.declared.entry.Entry.{Entry}
 use Rattle.fw_entry.specs.declared.entry.Timed.{Timed}
 use Rattle.fw_log.specs.declared.read.LogFed.{LogFed}
@@ -29,7 +30,7 @@ use Rattle.fw_log.proofs.IdsLaws.{ids_clear}
 use Rattle.fw_log.proofs.ResetLaws.{reset_in, body_has, shape_of}
 use Rattle.fw_log.proofs.FeedLaws.{further, stays}
 use Rattle.fw_log.proofs.StayLaws.{need_done, no_complete_front}
-use Rattle.fw_log.proofs.SameLaws.{spelled_clear, spelled_complete, same_spelled, spelled_body}
+use Rattle.fw_log.proofs.SameLaws.{spelled_clear, spelled_complete, same_spelled, same_body, spelled_body, spelled_epoch}
 
 -- a packet is refused at one byte, and for one reason
 front_of : (k : ℕ) (bytes : List ℕ) → bytes ≡ take k bytes ++ drop k bytes
@@ -83,8 +84,29 @@ not_refused kind bytes e (Packet f) b h = packet_in bytes e (as_body kind 2 byte
 not_refused kind bytes e (Iso f) b h = iso_in bytes e (as_body kind 3 bytes e h.0 b) (λ p fits same. cc (h.1, ap iso_fault (sym same), iso_clear p fits))
 not_refused kind bytes e Fields b h = h.0 e b
 
+-- an entry is refused for one reason, and none that is an entry's, with the epoch that is its
+entry_once : (v : Version) (epoch : ℕ) (e : List ℕ) (f g : BodyFault) → EntryRefused v epoch e f → EntryRefused v epoch e g → f ≡ g
+entry_once v epoch e f g (inl a) (inl b) = refused_once _ _ f g a b
+entry_once v epoch e f g (inl a) (inr b) = absurd (not_refused _ _ b.1.entry f b.1.body a)
+entry_once v epoch e f g (inr a) (inl b) = absurd (not_refused _ _ a.1.entry g a.1.body b)
+entry_once v epoch e f g (inr a) (inr b) = a.0 ∙ sym b.0
+
+entry_right : (v : Version) (epoch : ℕ) (e : List ℕ) (what : Entry) (f : BodyFault) → IsBody (get_or e 0 0) (drop (head_size v) e) what → HasEpoch v (epoch_after epoch what) e → EntryRefused v epoch e f → ⊥
+entry_right v epoch e what f b own (inl a) = not_refused _ _ what f b a
+entry_right v epoch e what f b own (inr a) =
+    let o = a.1 in
+    let same : o.entry ≡ what = same_body o.entry what o.body.fits b.fits (o.body.kind ∙ sym b.kind) (o.body.same ∙ sym b.same) in
+    let P : Entry → Type 0 = λ x. HasEpoch v (epoch_after epoch x) e in
+    o.other (subst P (sym same) own)
+
+refused_at : (s : Position) (bytes : List ℕ) (f : LogFault) (w : WrongBody s bytes f) → EntryRefused (version_at s bytes) s.epoch (drop (skip s.start) bytes) w.why
+refused_at s bytes f w = let P : Version → Type 0 = λ v. EntryRefused v s.epoch (drop (skip s.start) bytes) w.why in subst P (sym w.here) w.refused
+
 wrong_once : (s : Position) (bytes : List ℕ) (f g : LogFault) → WrongBody s bytes f → WrongBody s bytes g → f ≡ g
-wrong_once s bytes f g h k = h.is ∙ ap (λ w. fault_at (s.start + (skip s.start + 12)) (BadBody w)) (refused_once _ _ h.why k.why h.refused k.refused) ∙ sym k.is
+wrong_once s bytes f g h k =
+    let v : h.version ≡ k.version = sym h.here ∙ k.here in
+    h.is ∙ ap (λ w. fault_at (s.start + (skip s.start + head_size h.version)) (BadBody w)) (entry_once (version_at s bytes) s.epoch (drop (skip s.start) bytes) h.why k.why (refused_at s bytes f h) (refused_at s bytes g k))
+    ∙ ap (λ w. fault_at (s.start + (skip s.start + head_size w)) (BadBody k.why)) v ∙ sym k.is
 
 faulty_once : (s : Position) (bytes : List ℕ) (f g : LogFault) → Faulty s bytes f → Faulty s bytes g → f ≡ g
 faulty_once s bytes f g (inl a) (inl b) = cc (a, b)
@@ -94,7 +116,8 @@ faulty_once s bytes f g (inr a) (inr b) = wrong_once s bytes f g a.wrong b.wrong
 
 pub not_faulty : {A : Type 0} (s : Position) (t : Timed) (bytes : List ℕ) (f : LogFault) → Spells s t bytes → Faulty s bytes f → A
 not_faulty s t bytes f h (inl a) = cc (a, spelled_clear s t bytes h)
-not_faulty s t bytes f h (inr b) = absurd (not_refused _ _ t.what b.wrong.why (spelled_body s t bytes h) b.wrong.refused)
+not_faulty s t bytes f h (inr b) =
+    absurd (entry_right (version_at s bytes) s.epoch (drop (skip s.start) bytes) t.what b.wrong.why (spelled_body s t bytes h) (spelled_epoch s t bytes h) (refused_at s bytes f b.wrong))
 
 -- a whole entry has no front that is whole, pending bytes have none, and a fault stays
 complete_once : (s : Position) (old piece : List ℕ) (i k : ℕ) → i ≤ k → k ≤ length piece → length (old ++ take i piece) ≡ need s (old ++ take i piece) → length (old ++ take k piece) ≡ need s (old ++ take k piece) → i ≡ k
@@ -139,19 +162,19 @@ gave_to s old piece used (Some u) new k t h e =
     record { count = count; this = ap Some (same_spelled s u t (old ++ take k piece) (subst P count h.0.spells) e.spells) }
 
 same_fed : (n k : ℕ) (o p : Option Timed) (x y : List ℕ) → n ≡ k → o ≡ p → x ≡ y →
-    let r : Result LogFed LogFault = Ok (record { used = n; entry = o; bytes = x }) in
-    let q : Result LogFed LogFault = Ok (record { used = k; entry = p; bytes = y }) in r ≡ q
+    let r : Result LogFed LogFault = Ok (record { used = n; entry = o; body = x }) in
+    let q : Result LogFed LogFault = Ok (record { used = k; entry = p; body = y }) in r ≡ q
 same_fed n k o p x y a b c =
-    ap (λ (z : ℕ). let r : Result LogFed LogFault = Ok (record { used = z; entry = o; bytes = x }) in r) a
-    ∙ ap (λ (z : Option Timed). let r : Result LogFed LogFault = Ok (record { used = k; entry = z; bytes = x }) in r) b
-    ∙ ap (λ (z : List ℕ). let r : Result LogFed LogFault = Ok (record { used = k; entry = p; bytes = z }) in r) c
+    ap (λ (z : ℕ). let r : Result LogFed LogFault = Ok (record { used = z; entry = o; body = x }) in r) a
+    ∙ ap (λ (z : Option Timed). let r : Result LogFed LogFault = Ok (record { used = k; entry = z; body = x }) in r) b
+    ∙ ap (λ (z : List ℕ). let r : Result LogFed LogFault = Ok (record { used = k; entry = p; body = z }) in r) c
 
 -- where a front of the piece ends an entry, that entry is given
 pub gives_entry : (s : Position) (old piece : List ℕ) (r : Result LogFed LogFault) (new : State) → Feeds s old piece r new →
-    (k : ℕ) (t : Timed) → EndsEntry s old piece k t → r ≡ Ok (record { used = k; entry = Some t; bytes = entry_bytes t })
+    (k : ℕ) (t : Timed) → EndsEntry s old piece k t → r ≡ Ok (record { used = k; entry = Some t; body = body t.what })
 gives_entry s old piece (Ok fed) new h k t e =
     let g = gave_to s old piece fed.used fed.entry new k t h.0 e in
-    same_fed fed.used k fed.entry (Some t) fed.bytes (entry_bytes t) g.count g.this (h.1 ∙ ap bytes_given g.this)
+    same_fed fed.used k fed.entry (Some t) fed.body (body t.what) g.count g.this (h.1 ∙ ap body_given g.this)
 gives_entry s old piece (Err f) new h k t e =
     elim (cases_lt h.0.0 k) [
       | inl less ↦ entry_faulty s old piece (h.0.0 + 1) k f t (omega arith) e.within h.0.1.shown e.spells
@@ -191,10 +214,10 @@ none_to s old piece used (Some t) new h e = absurd (e.no_entry used t h.0.within
 
 -- where no part is refused and no entry ends, all is taken
 pub gives_none : (s : Position) (old piece : List ℕ) (r : Result LogFed LogFault) (new : State) → Feeds s old piece r new →
-    EndsNothing s old piece → r ≡ Ok (record { used = length piece; entry = None; bytes = [] })
+    EndsNothing s old piece → r ≡ Ok (record { used = length piece; entry = None; body = [] })
 gives_none s old piece (Ok fed) new h e =
     let g = none_to s old piece fed.used fed.entry new h.0 e in
-    same_fed fed.used (length piece) fed.entry None fed.bytes [] g.count g.none (h.1 ∙ ap bytes_given g.none)
+    same_fed fed.used (length piece) fed.entry None fed.body [] g.count g.none (h.1 ∙ ap body_given g.none)
 gives_none s old piece (Err f) new h e = absurd (e.no_fault (h.0.0 + 1) f (omega (arith, h.0.1.within)) h.0.1.shown)
 
 counts_to : (old : State) (piece : List ℕ) (used : ℕ) (entry : Option Timed) (new : State) → FeedsTo old.stand old.taken piece used entry new → IsPending old.stand old.taken → (total new ≡ total old + used) × (used ≤ length piece) × (0 < length piece → 0 < used)
@@ -217,8 +240,8 @@ pub counts : (old : State) (piece : List ℕ) (r : Result LogFed LogFault) (new 
 counts old piece (Ok fed) new h pending = counts_to old piece fed.used fed.entry new h.0 pending
 counts old piece (Err f) new h pending = tt
 
--- the bytes that are given are the entry's
-pub bytes_are : (s : Position) (old piece : List ℕ) (r : Result LogFed LogFault) (new : State) → Feeds s old piece r new →
-    IfOk r (λ fed. fed.bytes ≡ bytes_given fed.entry)
-bytes_are s old piece (Ok fed) new h = h.1
-bytes_are s old piece (Err f) new h = tt
+-- the body that is given is the entry's
+pub body_is : (s : Position) (old piece : List ℕ) (r : Result LogFed LogFault) (new : State) → Feeds s old piece r new →
+    IfOk r (λ fed. fed.body ≡ body_given fed.entry)
+body_is s old piece (Ok fed) new h = h.1
+body_is s old piece (Err f) new h = tt

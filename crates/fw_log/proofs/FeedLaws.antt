@@ -1,12 +1,13 @@
 -- One part more of a piece.
 use Rattle.std.proofs.Common.{◌≡◌, ℕ, ◌+◌, ◌-◌, ◌*◌, ◌≤◌, List, ◌++◌, length, take, drop, nat_lt, Option, Some, None, IfNone, arith, ap, sym, ◌∙◌, if◌then◌else◌, append_assoc, take-add}
 use Rattle.std.proofs.lemmas.Bool.Decides.{nat_tests}
-use Rattle.fw_log.specs.Reading.{IsPending, head_fault, need, length_of, skip}
+use Rattle.fw_entry.specs.Log.{epoch_size, head_size}
+use Rattle.fw_log.specs.Reading.{IsPending, head_fault, need, length_of, version_at, skip}
 use Rattle.fw_log.specs.Reader.{HoldsPending}
 use Rattle.fw_log.specs.Stands.{Position}
 use Rattle.fw_log.specs.declared.LogFault.{LogFault}
 use Rattle.fw_log.proofs.EntryLaws.{size_within}
-use Rattle.fw_log.proofs.StayLaws.{head_stays}
+use Rattle.fw_log.proofs.StayLaws.{epoch_few, head_stays}
 
 pub pending_of : (s : Position) (taken : List ℕ) (fault : Option LogFault) → fault ≡ None → HoldsPending s taken fault → IsPending s taken
 pending_of s taken None e h = h
@@ -17,14 +18,14 @@ if_none_by None P h = h
 if_none_by (Some x) P h = tt
 
 -- there is room for the longest entry, and the header before it
-most : (k n m : ℕ) → k ≤ 16 → (4 ≤ n → m ≤ 569) → k + (if nat_lt n 4 then 12 else 12 + 4 * m) ≤ 2304
-most k n m le few = grind (arith, nat_tests, few)
+most : (h k n m : ℕ) → h ≤ 16 → k ≤ 16 → (4 ≤ n → m ≤ 569) → k + (if nat_lt n 4 then h else h + 4 * m) ≤ 2308
+most h k n m head le few = grind (arith, nat_tests, few)
 
 skip_most : (start : ℕ) → skip start ≤ 16
 skip_most start = grind (arith, nat_tests)
 
-pub need_most : (s : Position) (taken : List ℕ) → IsPending s taken → need s taken ≤ 2304
-need_most s taken h = most (skip s.start) (length (drop (skip s.start) taken)) (length_of (drop (skip s.start) taken)) (skip_most s.start) (size_within s taken h.no_fault)
+pub need_most : (s : Position) (taken : List ℕ) → IsPending s taken → need s taken ≤ 2308
+need_most s taken h = let size = epoch_few (version_at s taken) in most (head_size (version_at s taken)) (skip s.start) (length (drop (skip s.start) taken)) (length_of (drop (skip s.start) taken)) (omega (arith, size)) (skip_most s.start) (size_within s taken h.no_fault)
 
 -- what lies between two places of a piece
 pub further : (old piece : List ℕ) (i k : ℕ) → i ≤ k → old ++ take k piece ≡ (old ++ take i piece) ++ take (k - i) (drop i piece)

@@ -2,34 +2,40 @@
 use Rattle.std.proofs.Common.{◌≡◌, inl, inr, ℕ, zero, suc, ◌+◌, ◌-◌, ◌*◌, ◌≤◌, ◌<◌, List, [], ◌∷◌, ◌++◌, ◌==◌, get_or, length, take, drop, nat_lt, nat_le, Bool, true, false, Option, Some, None, Result, Ok, Err, arith, refl, ap, sym, subst, ◌∙◌, if◌then◌else◌, length-append, length-drop, length-take, append-nil}
 use Rattle.std.proofs.lemmas.Bool.{cases_lt}
 use Rattle.std.proofs.lemmas.Bool.Decides.{nat_tests}
-use Rattle.std.proofs.lemmas.List.{take-append-drop, take-append-le, drop-append-le, length-take-le, take-take, take_all}
+use Rattle.std.proofs.lemmas.List.{take-append-drop, take-append-le, drop-append-le, length-take-le, take-take, take_all, drop-drop}
 use Rattle.std.proofs.Math.Seq.{take-append-add}
 use Rattle.fw_words.specs.Quadlet.{quadlet_at}
 use Rattle.fw_async.specs.Async.{AreBytes}
-use Rattle.fw_entry.specs.Log.{entry_bytes}
-use Rattle.fw_log.specs.Reading.{tested, fault_at, length_of, cycle_of, is_kind, is_length, entry_fault, header_fault, head_fault, skip, entry_need, need, IsPending, IsComplete, Spells, Faulty, WrongBody}
+use Rattle.std.specs.Option.{is_some}
+use Rattle.fw_entry.specs.Log.{version_of, epoch_size, head_size, body}
+use Rattle.fw_entry.specs.declared.version.Version.{Version}
+use Rattle.fw_entry.specs.declared.version.Version.TheVariants.{One, Two}
+use Rattle.fw_log.specs.Reading.{tested, fault_at, length_of, cycle_at, cycle_of, is_kind, is_length, is_epoch, epoch_fault, cycle_fault, entry_fault, header_fault, head_fault, skip, version_in, version_at, entry_need, need, IsPending, IsComplete, Spells, Faulty, WrongBody}
 use Rattle.fw_log.specs.Reader.{State, HoldsPending, Ends, Finds, Joins, FindsIn, ShowsFault, EndsEntry}
 use Rattle.fw_log.specs.Stands.{Position}
+use Rattle.fw_entry.specs.declared.entry.Timed.{Timed}
 use Rattle.fw_log.specs.declared.LogFault.{LogFault}
-use Rattle.fw_log.specs.declared.LogWhy.TheVariants.{AfterEnd}
+use Rattle.fw_log.specs.declared.LogWhy.TheVariants.{AfterEnd, TimeBack, BadEpoch}
 use Rattle.fw_log.specs.declared.first.Found.{Found}
 use Rattle.fw_log.proofs.ByteLaws.{are_bytes_part, quadlet_at-append}
 use Rattle.fw_log.proofs.EntryLaws.{complete_head}
-use Rattle.fw_log.proofs.SameLaws.{spelled_complete}
+use Rattle.fw_log.proofs.SameLaws.{spelled_complete, spelled_body}
 use Rattle.fw_log.proofs.FeedLaws.{further, stays, need_most}
-use Rattle.fw_log.proofs.StayLaws.{head_stays, need_least, no_complete_front, length_of-append, cycle_of-append, kind_append, length_append}
+use Rattle.fw_log.proofs.StayLaws.{head_stays, need_least, need_head, no_complete_front, length_of-append, cycle_of-append, kind_append, length_append, epoch_append, version_in_same, version_same}
 
 -- Where an entry's length is known, what follows does not change how many bytes it takes.
-same_by : (n m l k : ℕ) → 4 ≤ n → n ≤ m → k ≡ l → (if nat_lt m 4 then 12 else 12 + 4 * k) ≡ (if nat_lt n 4 then 12 else 12 + 4 * l)
-same_by n m l k enough le same = grind (arith, nat_tests)
+same_by : (h n m l k : ℕ) → 4 ≤ n → n ≤ m → k ≡ l → (if nat_lt m 4 then h else h + 4 * k) ≡ (if nat_lt n 4 then h else h + 4 * l)
+same_by h n m l k enough le same = grind (arith, nat_tests)
 
 need_same : (s : Position) (front more : List ℕ) → skip s.start + 4 ≤ length front → need s (front ++ more) ≡ need s front
 need_same s front more enough =
+    let v : Version = version_at s front in
     let cut : drop (skip s.start) (front ++ more) ≡ drop (skip s.start) front ++ more = drop-append-le (skip s.start) front more (omega arith) in
     let long : 4 ≤ length (drop (skip s.start) front) = omega (arith, length-drop (skip s.start) front) in
     let le : length (drop (skip s.start) front) ≤ length (drop (skip s.start) front ++ more) = omega (arith, length-append (drop (skip s.start) front) more) in
-    ap (λ e. skip s.start + entry_need e) cut
-    ∙ ap (λ n. skip s.start + n) (same_by (length (drop (skip s.start) front)) (length (drop (skip s.start) front ++ more)) (length_of (drop (skip s.start) front)) (length_of (drop (skip s.start) front ++ more)) long le (length_of-append (drop (skip s.start) front) more long))
+    ap (λ w. skip s.start + entry_need w (drop (skip s.start) (front ++ more))) (version_same s front more (omega arith))
+    ∙ ap (λ e. skip s.start + entry_need v e) cut
+    ∙ ap (λ n. skip s.start + n) (same_by (head_size v) (length (drop (skip s.start) front)) (length (drop (skip s.start) front ++ more)) (length_of (drop (skip s.start) front)) (length_of (drop (skip s.start) front ++ more)) long le (length_of-append (drop (skip s.start) front) more long))
 
 -- What no fault shows in, none shows in a front of.
 clear_by : (s : Position) (front more : List ℕ) (o : Option LogFault) → head_fault s front ≡ o → head_fault s (front ++ more) ≡ None → head_fault s front ≡ None
@@ -50,35 +56,54 @@ front_pending s front more some clear complete = record {
 tested_same : (n m k : ℕ) (ok again : Bool) (f : LogFault) (x y : Option LogFault) → k ≤ n → n ≤ m → again ≡ ok → y ≡ x → tested m k again f y ≡ tested n k ok f x
 tested_same n m k ok again f x y enough le same others = rw (same, others) (grind (arith, nat_tests))
 
-entry_same : (place last : ℕ) (e more : List ℕ) → 12 ≤ length e → entry_fault place last (e ++ more) ≡ entry_fault place last e
-entry_same place last e more enough =
+cycle_same : (v : Version) (place last : ℕ) (e more : List ℕ) → head_size v ≤ length e → cycle_fault v place last (e ++ more) ≡ cycle_fault v place last e
+cycle_same v place last e more enough =
+    tested_same (length e) (length (e ++ more)) (head_size v) (nat_le last (cycle_of v e)) _ (fault_at (place + cycle_at v) TimeBack) None None enough (omega (arith, length-append e more))
+    (ap (nat_le last) (cycle_of-append v e more enough)) refl
+
+epoch_same : (v : Version) (epoch place last : ℕ) (e more : List ℕ) → head_size v ≤ length e
+    → epoch_fault v epoch place (e ++ more) (cycle_fault v place last (e ++ more)) ≡ epoch_fault v epoch place e (cycle_fault v place last e)
+epoch_same One epoch place last e more enough = cycle_same One place last e more enough
+epoch_same Two epoch place last e more enough =
+    let long : 8 ≤ length e = omega (arith, enough) in
+    ap (λ q. tested (length (e ++ more)) 8 (is_epoch epoch (e ++ more)) (fault_at (place + 4) (BadEpoch q)) (cycle_fault Two place last (e ++ more))) (quadlet_at-append e more 4 long)
+    ∙ tested_same (length e) (length (e ++ more)) 8 (is_epoch epoch e) _ (fault_at (place + 4) (BadEpoch (quadlet_at e 4))) _ _ long (omega (arith, length-append e more))
+    (epoch_append epoch e more long) (cycle_same Two place last e more enough)
+
+entry_same : (v : Version) (epoch place last : ℕ) (e more : List ℕ) → head_size v ≤ length e → entry_fault v epoch place last (e ++ more) ≡ entry_fault v epoch place last e
+entry_same v epoch place last e more enough =
     let le : length e ≤ length (e ++ more) = omega (arith, length-append e more) in
-    tested_same (length e) (length (e ++ more)) 2 (is_kind (get_or e 0 0) (get_or e 1 0)) _ _ _ _ (omega arith) le (kind_append e more (omega arith))
-    (tested_same (length e) (length (e ++ more)) 4 (is_length (get_or e 0 0) (length_of e)) _ _ _ _ (omega arith) le (length_append e more (omega arith))
-    (tested_same (length e) (length (e ++ more)) 12 (nat_le last (cycle_of e)) _ _ None None enough le (ap (nat_le last) (cycle_of-append e more enough)) refl))
+    tested_same (length e) (length (e ++ more)) 2 (is_kind (get_or e 0 0) (get_or e 1 0)) _ _ _ _ (omega (arith, enough)) le (kind_append e more (omega (arith, enough)))
+    (tested_same (length e) (length (e ++ more)) 4 (is_length (get_or e 0 0) (length_of e)) _ _ _ _ (omega (arith, enough)) le (length_append e more (omega (arith, enough)))
+    (epoch_same v epoch place last e more enough))
 
-header_same : (last : ℕ) (bytes more : List ℕ) → 28 ≤ length bytes → header_fault (bytes ++ more) (entry_fault 16 last (drop 16 (bytes ++ more))) ≡ header_fault bytes (entry_fault 16 last (drop 16 bytes))
-header_same last bytes more enough =
+header_same : (epoch last : ℕ) (bytes more : List ℕ) → 16 + head_size (version_in bytes) ≤ length bytes
+    → header_fault (bytes ++ more) (entry_fault (version_in (bytes ++ more)) epoch 16 last (drop 16 (bytes ++ more))) ≡ header_fault bytes (entry_fault (version_in bytes) epoch 16 last (drop 16 bytes))
+header_same epoch last bytes more enough =
+    let v : Version = version_in bytes in
+    let long : 16 ≤ length bytes = omega (arith, enough) in
     let le : length bytes ≤ length (bytes ++ more) = omega (arith, length-append bytes more) in
-    let rest : entry_fault 16 last (drop 16 (bytes ++ more)) ≡ entry_fault 16 last (drop 16 bytes) =
-    ap (entry_fault 16 last) (drop-append-le 16 bytes more (omega arith)) ∙ entry_same 16 last (drop 16 bytes) more (omega (arith, length-drop 16 bytes)) in
-    tested_same (length bytes) (length (bytes ++ more)) 4 (quadlet_at bytes 0 == 825440564) _ _ _ _ (omega arith) le (ap (λ q. q == 825440564) (quadlet_at-append bytes more 0 (omega arith)))
-    (tested_same (length bytes) (length (bytes ++ more)) 8 (quadlet_at bytes 4 == 1) _ _ _ _ (omega arith) le (ap (λ q. q == 1) (quadlet_at-append bytes more 4 (omega arith)))
-    (tested_same (length bytes) (length (bytes ++ more)) 12 (quadlet_at bytes 8 == 0) _ _ _ _ (omega arith) le (ap (λ q. q == 0) (quadlet_at-append bytes more 8 (omega arith)))
-    (tested_same (length bytes) (length (bytes ++ more)) 16 (quadlet_at bytes 12 == 0) _ _ _ _ (omega arith) le (ap (λ q. q == 0) (quadlet_at-append bytes more 12 (omega arith))) rest)))
+    let rest : entry_fault (version_in (bytes ++ more)) epoch 16 last (drop 16 (bytes ++ more)) ≡ entry_fault v epoch 16 last (drop 16 bytes) =
+    ap (λ w. entry_fault w epoch 16 last (drop 16 (bytes ++ more))) (version_in_same bytes more (omega (arith, long)))
+    ∙ ap (entry_fault v epoch 16 last) (drop-append-le 16 bytes more long) ∙ entry_same v epoch 16 last (drop 16 bytes) more (omega (arith, enough, length-drop 16 bytes)) in
+    tested_same (length bytes) (length (bytes ++ more)) 4 (quadlet_at bytes 0 == 825440564) _ _ _ _ (omega (arith, long)) le (ap (λ q. q == 825440564) (quadlet_at-append bytes more 0 (omega (arith, long))))
+    (tested_same (length bytes) (length (bytes ++ more)) 8 (is_some (version_of (quadlet_at bytes 4))) _ _ _ _ (omega (arith, long)) le (ap (λ q. is_some (version_of q)) (quadlet_at-append bytes more 4 (omega (arith, long))))
+    (tested_same (length bytes) (length (bytes ++ more)) 12 (quadlet_at bytes 8 == 0) _ _ _ _ (omega (arith, long)) le (ap (λ q. q == 0) (quadlet_at-append bytes more 8 (omega (arith, long))))
+    (tested_same (length bytes) (length (bytes ++ more)) 16 (quadlet_at bytes 12 == 0) _ _ _ _ long le (ap (λ q. q == 0) (quadlet_at-append bytes more 12 long)) rest)))
 
-settled_by : (ended first : Bool) (start last : ℕ) (bytes more : List ℕ) → (if first then 16 else 0) + 12 ≤ length bytes
-    → (if ended then (if length bytes == 0 then None else Some (fault_at start AfterEnd)) else if first then header_fault bytes (entry_fault 16 last (drop 16 bytes)) else entry_fault start last bytes) ≡ None
-    → (if ended then (if length (bytes ++ more) == 0 then None else Some (fault_at start AfterEnd)) else if first then header_fault (bytes ++ more) (entry_fault 16 last (drop 16 (bytes ++ more))) else entry_fault start last (bytes ++ more)) ≡ None
-settled_by true first start last bytes more enough h = by (if first then 16 else 0) (length bytes) (fault_at start AfterEnd) enough h
+settled_by : (ended first : Bool) (v : Version) (epoch start last : ℕ) (bytes more : List ℕ) → (if first then 16 else 0) + head_size (if first then version_in bytes else v) ≤ length bytes
+    → (if ended then (if length bytes == 0 then None else Some (fault_at start AfterEnd)) else if first then header_fault bytes (entry_fault (version_in bytes) epoch 16 last (drop 16 bytes)) else entry_fault v epoch start last bytes) ≡ None
+    → (if ended then (if length (bytes ++ more) == 0 then None else Some (fault_at start AfterEnd)) else if first then header_fault (bytes ++ more) (entry_fault (version_in (bytes ++ more)) epoch 16 last (drop 16 (bytes ++ more))) else entry_fault v epoch start last (bytes ++ more)) ≡ None
+settled_by true first v epoch start last bytes more enough h = by (length bytes) (fault_at start AfterEnd) (omega (arith, enough)) h
   where
-    by : {A : Type 0} (k n : ℕ) (f : LogFault) → k + 12 ≤ n → (if n == 0 then None else Some f) ≡ None → A
-    by k n f enough h = absurd (grind (arith, nat_tests))
-settled_by false true start last bytes more enough h = header_same last bytes more enough ∙ h
-settled_by false false start last bytes more enough h = entry_same start last bytes more enough ∙ h
+    by : {A : Type 0} (n : ℕ) (f : LogFault) → 12 ≤ n → (if n == 0 then None else Some f) ≡ None → A
+    by n f enough h = absurd (grind (arith, nat_tests))
+settled_by false true v epoch start last bytes more enough h = header_same epoch last bytes more (omega (arith, enough)) ∙ h
+settled_by false false v epoch start last bytes more enough h = entry_same v epoch start last bytes more (omega (arith, enough)) ∙ h
 
 head_settled : (s : Position) (bytes more : List ℕ) → need s bytes ≤ length bytes → head_fault s bytes ≡ None → head_fault s (bytes ++ more) ≡ None
-head_settled s bytes more complete clear = let low = need_least s bytes in settled_by s.ended (s.start == 0) s.start s.last bytes more (omega arith) clear
+head_settled s bytes more complete clear =
+    let low = need_head s bytes in settled_by s.ended (s.start == 0) s.version s.epoch s.start s.last bytes more (omega (arith, low, complete)) clear
 
 -- A fault of the head comes with one byte of the piece.
 still_pending : (s : Position) (old piece : List ℕ) (n : ℕ) (f : LogFault) → head_fault s (old ++ take n piece) ≡ None → head_fault s (old ++ take (suc n) piece) ≡ Some f → IsPending s (old ++ take n piece)
@@ -135,8 +160,20 @@ first_of s bytes n h =
       some = omega (arith, h.1);
     }
 
-pub first_complete : (s : Position) (bytes : List ℕ) (n : ℕ) → AreBytes bytes → Ends s bytes (Ok (Some n)) → IsComplete s (take n bytes)
-first_complete s bytes n fit h = let e = first_of s bytes n h in complete_head s (take n bytes) (are_bytes_part bytes n 0 fit) e.clear e.whole
+pub first_complete : (v : Version) (s : Position) (bytes : List ℕ) (n : ℕ) → AreBytes bytes → v ≡ version_at s (take n bytes) → Ends s bytes (Ok (Some n)) → IsComplete v s (take n bytes)
+first_complete v s bytes n fit is h =
+    let e = first_of s bytes n h in
+    let P : Version → Type 0 = λ w. IsComplete w s (take n bytes) in
+    subst P (sym is) (complete_head s (take n bytes) (are_bytes_part bytes n 0 fit) e.clear e.whole)
+
+-- the body of the entry that is given
+pub body_behind : (v : Version) (s : Position) (bytes rest : List ℕ) (t : Timed) (at head : ℕ) → v ≡ version_at s bytes → at ≡ skip s.start → head ≡ head_size v
+    → rest ≡ drop (at + head) bytes → Spells s t bytes → rest ≡ body t.what
+body_behind v s bytes rest t at head is here size after h =
+    let e : version_at s bytes ≡ v = sym is in
+    after ∙ ap (λ n. drop (n + head) bytes) here ∙ ap (λ n. drop (skip s.start + n) bytes) size
+    ∙ sym (drop-drop (head_size v) (skip s.start) bytes ∙ ap (λ n. drop n bytes) (omega arith))
+    ∙ ap (λ w. drop (head_size w) (drop (skip s.start) bytes)) (sym e) ∙ sym (spelled_body s t bytes h).same
 
 -- a body that is refused is refused with its last byte
 pub first_wrong : (s : Position) (bytes : List ℕ) (n : ℕ) (f : LogFault) → Ends s bytes (Ok (Some n)) → WrongBody s (take n bytes) f → (k : ℕ) × ShowsFault s [] bytes k f
@@ -201,7 +238,8 @@ pub record KeptEntry (s : Position) (old piece : List ℕ) (found : Found) : Typ
   pub ends : EndsEntry s old piece (found.end - length old) found.entry
   pub size : length (old ++ take (found.end - length old) piece) ≡ found.end
   pub some : 0 < found.end
-  pub bytes : found.bytes ≡ entry_bytes found.entry
+  pub body : found.body ≡ body found.entry.what
+  pub version : found.version ≡ version_at s (old ++ take (found.end - length old) piece)
 
 pub kept_entry : (s : Position) (old piece : List ℕ) (found : Found) → IsPending s old → FindsIn s old piece (Ok (Some found)) → KeptEntry s old piece found
 kept_entry s old piece found pending h =
@@ -219,13 +257,14 @@ kept_entry s old piece found pending h =
       some =
           let whole : List ℕ = take found.end (old ++ take h.count piece) in
           omega (arith, length-take found.end (old ++ take h.count piece), spelled_complete s found.entry whole h.finds.1, need_least s whole);
-      bytes = h.finds.2;
+      body = h.finds.2;
+      version = h.finds.3 ∙ ap (version_at s) (joined old piece h.count found.end past (omega (arith, h.finds.0, size)));
     }
 
 -- all of the piece is a part of an entry, and there is room for it
 pub record KeptPart (s : Position) (old piece : List ℕ) : Type 0 where
   pub pending : IsPending s (old ++ piece)
-  pub room : length old + length piece ≤ 2304
+  pub room : length old + length piece ≤ 2308
 
 pub kept_part : (s : Position) (old piece : List ℕ) → FindsIn s old piece (Ok None) → KeptPart s old piece
 kept_part s old piece h =
@@ -267,10 +306,14 @@ same_state s t a b f g d e h =
     ∙ ap (λ (z : List ℕ). let x : State = record { stand = t; taken = z; fault = f } in x) e
     ∙ ap (λ (z : Option LogFault). let x : State = record { stand = t; taken = b; fault = z } in x) h
 
-pub same_stand : (a b last : ℕ) (x y : Bool) → a ≡ b → x ≡ y → let s : Position = record { start = a; last = last; ended = x } in let t : Position = record { start = b; last = last; ended = y } in s ≡ t
-same_stand a b last x y e g =
-    ap (λ (z : ℕ). let s : Position = record { start = z; last = last; ended = x } in s) e
-    ∙ ap (λ (z : Bool). let s : Position = record { start = b; last = last; ended = z } in s) g
+pub same_stand : (a b last : ℕ) (x y : Bool) (v w : Version) (n m : ℕ) → a ≡ b → x ≡ y → v ≡ w → n ≡ m →
+    let s : Position = record { start = a; last = last; ended = x; version = v; epoch = n } in
+    let t : Position = record { start = b; last = last; ended = y; version = w; epoch = m } in s ≡ t
+same_stand a b last x y v w n m e g k l =
+    ap (λ (z : ℕ). let s : Position = record { start = z; last = last; ended = x; version = v; epoch = n } in s) e
+    ∙ ap (λ (z : Bool). let s : Position = record { start = b; last = last; ended = z; version = v; epoch = n } in s) g
+    ∙ ap (λ (z : Version). let s : Position = record { start = b; last = last; ended = y; version = z; epoch = n } in s) k
+    ∙ ap (λ (z : ℕ). let s : Position = record { start = b; last = last; ended = y; version = w; epoch = z } in s) l
 
 -- the piece alone, or what was kept and as much of the piece as there is room for
 pub joins_none : (old piece : List ℕ) → length old ≡ 0 → Joins old piece piece
@@ -285,12 +328,12 @@ joins_none old piece none = record {
     empty [] h = refl
     empty (x ∷ xs) h = absurd (omega arith)
 
-pub joins_both : (old piece bytes : List ℕ) → bytes ≡ old ++ take (2304 - length old) piece → Joins old piece bytes
+pub joins_both : (old piece bytes : List ℕ) → bytes ≡ old ++ take (2308 - length old) piece → Joins old piece bytes
 joins_both old piece bytes same = record {
-  count = length piece - (length piece - (2304 - length old));
+  count = length piece - (length piece - (2308 - length old));
   within = omega arith;
   enough = λ less. omega arith;
-  same = same ∙ ap (λ x. old ++ x) (at_most (2304 - length old) piece);
+  same = same ∙ ap (λ x. old ++ x) (at_most (2308 - length old) piece);
 }
   where
     at_most : (n : ℕ) (xs : List ℕ) → take n xs ≡ take (length xs - (length xs - n)) xs

@@ -1,19 +1,23 @@
 -- Entries that are passed over.
-use Rattle.std.proofs.Common.{◌≡◌, ℕ, ◌+◌, ◌-◌, ◌≤◌, ◌<◌, List, [], ◌++◌, get_or, length, take, drop, Bool, false, Option, Some, None, Ok, Result}
+use Rattle.std.proofs.Common.{◌≡◌, ℕ, ◌+◌, ◌-◌, ◌≤◌, ◌<◌, List, [], ◌++◌, ◌==◌, inl, inr, ◌⊎◌, get_or, length, take, drop, Bool, true, false, Option, Some, None, Ok, Result}
 use Rattle.std.proofs.Common.{IfSome, IsSome, refl, ap, sym, subst, ◌∙◌, arith}
 use Rattle.std.specs.Option.{is_some}
 use Rattle.fw_async.specs.Async.{AreBytes}
 use Rattle.fw_async.specs.Reader.{IsPacket}
-use Rattle.fw_entry.specs.Log.{quads, event_quads, outcome_quads, shown_quads, EventFits, OutcomeFits, ShownFits, entry_bytes, is_end}
+use Rattle.fw_entry.specs.Log.{quads, event_quads, outcome_quads, shown_quads, EventFits, OutcomeFits, ShownFits, kind_of, body, epoch_after, head_size, reset_quads, is_end}
+use Rattle.fw_words.specs.Quadlet.{quadlet_at}
+use Rattle.fw_entry.specs.declared.version.Version.{Version}
+use Rattle.fw_entry.specs.declared.version.Version.TheVariants.{One, Two}
 use Rattle.fw_entry.specs.declared.entry.Entry.{Entry}
 use Rattle.fw_entry.specs.declared.entry.Entry.TheVariants.{Reset, Async, Iso, Event, Outcome, Shown, End}
 use Rattle.fw_entry.specs.declared.entry.EventEntry.{EventEntry}
 use Rattle.fw_entry.specs.declared.entry.OutcomeEntry.{OutcomeEntry}
 use Rattle.fw_entry.specs.declared.entry.ShownEntry.{ShownEntry}
 use Rattle.fw_entry.specs.declared.entry.Timed.{Timed}
+use Rattle.fw_log.specs.Bodies.{IsBody}
 use Rattle.fw_log.specs.Plain.{IsReset}
-use Rattle.fw_log.specs.Passing.{IsPassed, IsPlain, PassesFirst, CountsUp, PassesOn}
-use Rattle.fw_log.specs.Reading.{cycle_of, skip, IsComplete, IsPending}
+use Rattle.fw_log.specs.Passing.{IsPassed, IsPlain, IsPlainEpoch, PassesFirst, CountsUp, PassesOn}
+use Rattle.fw_log.specs.Reading.{cycle_of, skip, version_at, is_own_epoch, HeadFits, HasEpoch, IsComplete, IsPending}
 use Rattle.fw_log.specs.Reader.{State, HoldsPending, EndsEntry, Ends, Joins, Feeds, after}
 use Rattle.fw_log.specs.History.{HasRead}
 use Rattle.fw_log.specs.Stands.{Position}
@@ -22,7 +26,8 @@ use Rattle.fw_log.specs.declared.first.Found.{Found}
 use Rattle.fw_log.specs.declared.first.Passed.{Passed}
 use Rattle.fw_log.specs.declared.read.LogFed.{LogFed}
 use Rattle.fw_log.proofs.ByteLaws.{are_bytes_part}
-use Rattle.fw_log.proofs.EntryLaws.{complete_ok}
+use Rattle.fw_log.proofs.EntryLaws.{complete_ok, own_epoch}
+use Rattle.fw_log.proofs.IdsLaws.{back}
 use Rattle.fw_log.proofs.ExactLaws.{counts}
 use Rattle.fw_log.proofs.FeedLaws.{pending_of}
 use Rattle.fw_log.proofs.FindLaws.{found_in, kept_entry, same_state, same_stand}
@@ -50,17 +55,48 @@ pub plain_shown : (k : ℕ) (bytes : List ℕ) (r : Option ShownEntry)
 plain_shown k bytes None e h some = cc some
 plain_shown k bytes (Some o) e h some = record { entry = Shown o; is = record { fits = h.0; kind = sym e; same = h.1 }; passed = tt }
 
+-- the epoch behind an entry that is passed over, which its head has
+record PlainEpoch (v : Version) (epoch : ℕ) (e : List ℕ) (what : Entry) (n : ℕ) : Type 0 where
+  pub behind : n ≡ epoch_after epoch what
+  pub own : HasEpoch v (epoch_after epoch what) e
+
+-- of an entry that is no reset
+other : (v : Version) (epoch last n : ℕ) (e more : List ℕ) (what : Entry) → HeadFits v epoch last e → IsBody (get_or e 0 0) more what → IsPlainEpoch v epoch e more n
+    → (kind_of what ≡ 1 → ⊥) → is_own_epoch v what e ≡ true → epoch_after epoch what ≡ epoch → PlainEpoch v epoch e what n
+other v epoch last n e more what h b (inl p) apart own same = absurd (apart (b.kind ∙ p.0))
+other v epoch last n e more what h b (inr p) apart own same = record { behind = p.1 ∙ sym same; own = own_epoch v epoch e what h.latest b.kind own }
+
+plain_epoch : (v : Version) (epoch last n : ℕ) (e more : List ℕ) (what : Entry) → HeadFits v epoch last e → IsBody (get_or e 0 0) more what → IsPlainEpoch v epoch e more n → PlainEpoch v epoch e what n
+plain_epoch v epoch last n e more (Reset r) h b (inl p) =
+    let first : quadlet_at more 0 ≡ r.epoch = ap (λ x. quadlet_at x 0) (sym b.same) ∙ back r.epoch [] b.fits.epoch in
+    let is : n ≡ r.epoch = sym p.1 ∙ first in
+    let P : ℕ → Type 0 = λ k. HasEpoch v k e in
+    record { behind = is; own = subst P is p.2 }
+plain_epoch v epoch last n e more (Reset r) h b (inr p) = absurd (p.0 (sym b.kind))
+plain_epoch v epoch last n e more (Async x) h b p = other v epoch last n e more (Async x) h b p (λ k. cc k) refl refl
+plain_epoch v epoch last n e more (Iso x) h b p = other v epoch last n e more (Iso x) h b p (λ k. cc k) refl refl
+plain_epoch v epoch last n e more (Event x) h b p = other v epoch last n e more (Event x) h b p (λ k. cc k) refl refl
+plain_epoch v epoch last n e more (Outcome x) h b p = other v epoch last n e more (Outcome x) h b p (λ k. cc k) refl refl
+plain_epoch v epoch last n e more (Shown x) h b p = other v epoch last n e more (Shown x) h b p (λ k. cc k) refl refl
+plain_epoch v epoch last n e more End h b p = other v epoch last n e more End h b p (λ k. cc k) refl refl
+
 -- the entry that a whole front of bytes is
-pub passes_first : (s : Position) (bytes e more : List ℕ) (n cycle : ℕ) → AreBytes bytes → Ends s bytes (Ok (Some n))
-    → e ≡ drop (skip s.start) (take n bytes) → more ≡ drop 12 e → IsComplete s (take n bytes)
-    → cycle ≡ cycle_of e → IsPlain (get_or e 0 0) more → PassesFirst s bytes (record { end = n; cycle = cycle })
-passes_first s bytes e more n cycle fit ends is after w c plain = record {
-  entry = record { cycle = cycle; what = plain.entry };
-  passed = plain.passed;
-  cycle = refl;
-  within = ends.2;
-  spells = complete_ok s (take n bytes) e more (record { cycle = cycle; what = plain.entry }) (are_bytes_part bytes n 0 fit) is after w c plain.is;
-}
+pub passes_first : (v : Version) (s : Position) (bytes e more : List ℕ) (n cycle epoch : ℕ) → AreBytes bytes → Ends s bytes (Ok (Some n))
+    → e ≡ drop (skip s.start) (take n bytes) → more ≡ drop (head_size v) e → IsComplete v s (take n bytes)
+    → cycle ≡ cycle_of v e → IsPlainEpoch v s.epoch e more epoch → IsPlain (get_or e 0 0) more
+    → PassesFirst s bytes (record { end = n; cycle = cycle; version = v; epoch = epoch })
+passes_first v s bytes e more n cycle epoch fit ends is after w c latest plain =
+    let P : List ℕ → Type 0 = HeadFits v s.epoch s.last in
+    let b = plain_epoch v s.epoch s.last epoch e more plain.entry (subst P (sym is) w.head) plain.is latest in
+    record {
+      entry = record { cycle = cycle; what = plain.entry };
+      passed = plain.passed;
+      cycle = refl;
+      version = sym w.here;
+      epoch = b.behind;
+      within = ends.2;
+      spells = complete_ok v s (take n bytes) e more (record { cycle = cycle; what = plain.entry }) (are_bytes_part bytes n 0 fit) is after w c b.own plain.is;
+    }
 
 not_end : (e : Entry) → IsPassed e → is_end e ≡ false
 not_end (Reset r) h = refl
@@ -76,6 +112,8 @@ pub record EndsPassed (s : Position) (old piece : List ℕ) (p : Passed) : Type 
   pub entry : Timed
   pub passed : IsPassed entry.what
   pub cycle : entry.cycle ≡ p.cycle
+  pub version : p.version ≡ version_at s (old ++ take (p.end - length old) piece)
+  pub epoch : p.epoch ≡ epoch_after s.epoch entry.what
   pub past : length old ≤ p.end
   pub some : 0 < p.end
   pub ends : EndsEntry s old piece (p.end - length old) entry
@@ -84,9 +122,19 @@ pub record EndsPassed (s : Position) (old piece : List ℕ) (p : Passed) : Type 
 ends_at : (s t : Position) (old kept piece bytes : List ℕ) (p : Passed) → IsPending s old → t ≡ s → kept ≡ old
     → Joins kept piece bytes → PassesFirst t bytes p → EndsPassed s old piece p
 ends_at s t old kept piece bytes p pending e g j h =
-    let found : Found = record { end = p.end; bytes = entry_bytes h.entry; entry = h.entry } in
-    let k = kept_entry s old piece found pending (found_in s t old kept piece bytes (Ok (Some found)) e g j (h.within, h.spells, refl)) in
-    record { entry = h.entry; passed = h.passed; cycle = h.cycle; past = k.past; some = k.some; ends = k.ends; size = k.size }
+    let found : Found = record { end = p.end; version = p.version; body = body h.entry.what; entry = h.entry } in
+    let k = kept_entry s old piece found pending (found_in s t old kept piece bytes (Ok (Some found)) e g j (h.within, h.spells, refl, h.version)) in
+    record {
+      entry = h.entry;
+      passed = h.passed;
+      cycle = h.cycle;
+      version = k.version;
+      epoch = h.epoch ∙ ap (λ (x : Position). epoch_after x.epoch h.entry.what) e;
+      past = k.past;
+      some = k.some;
+      ends = k.ends;
+      size = k.size;
+    }
 
 -- of a reader without a fault, in the bytes at hand
 pub ends_passed : (r : State) (stand : Position) (taken kept piece bytes : List ℕ) (fault : Option LogFault) (p : Passed)
@@ -99,21 +147,24 @@ ends_passed r stand taken kept piece bytes fault p is holds clear same j h =
 
 -- what the reader gives where the entry is not passed over
 abbrev pub fed : ℕ → Timed → Result LogFed LogFault
-fed used t = Ok (record { used = used; entry = Some t; bytes = entry_bytes t })
+fed used t = Ok (record { used = used; entry = Some t; body = body t.what })
 
 -- the reader stands behind it
 pub behind_passed : (r : State) (piece : List ℕ) (p : Passed) (e : EndsPassed r.stand r.taken piece p) (n start : ℕ) (stand : Position) (taken : List ℕ)
     (fault : Option LogFault) → n ≡ length r.taken → start ≡ r.stand.start
-    → stand ≡ record { start = start + p.end; last = p.cycle; ended = false } → taken ≡ [] → fault ≡ None
+    → stand ≡ record { start = start + p.end; last = p.cycle; ended = false; version = p.version; epoch = p.epoch } → taken ≡ [] → fault ≡ None
     → Feeds r.stand r.taken piece (fed (p.end - n) e.entry) (record { stand = stand; taken = taken; fault = fault })
 behind_passed r piece p e n start stand taken fault same from stands none clear =
     let P : ℕ → Type 0 = λ m. EndsEntry r.stand r.taken piece (p.end - m) e.entry in
     let cut : length (r.taken ++ take (p.end - n) piece) ≡ p.end = ap (λ (m : ℕ). length (r.taken ++ take (p.end - m) piece)) same ∙ e.size in
-    let last : record { start = start + p.end; last = p.cycle; ended = false } ≡ (after r.stand (r.taken ++ take (p.end - n) piece) e.entry).stand =
-    ap (λ c. let x : Position = record { start = start + p.end; last = c; ended = false } in x) (sym e.cycle)
+    let last : record { start = start + p.end; last = p.cycle; ended = false; version = p.version; epoch = p.epoch } ≡ (after r.stand (r.taken ++ take (p.end - n) piece) e.entry).stand =
+    ap (λ c. let x : Position = record { start = start + p.end; last = c; ended = false; version = p.version; epoch = p.epoch } in x) (sym e.cycle)
     ∙ same_stand (start + p.end) (r.stand.start + length (r.taken ++ take (p.end - n) piece)) e.entry.cycle false (is_end e.entry.what)
+    p.version (version_at r.stand (r.taken ++ take (p.end - n) piece)) p.epoch (epoch_after r.stand.epoch e.entry.what)
     (omega (arith, from, cut))
-    (sym (not_end e.entry.what e.passed)) in
+    (sym (not_end e.entry.what e.passed))
+    (e.version ∙ ap (λ (m : ℕ). version_at r.stand (r.taken ++ take (p.end - m) piece)) (sym same))
+    e.epoch in
     ((subst P (sym same) e.ends, same_state stand _ taken [] fault None (stands ∙ last) none clear), refl)
 
 pub counts_up : (r new : State) (stand : Position) (taken piece : List ℕ) (fault : Option LogFault) (used : ℕ) (t : Timed)

@@ -1,10 +1,13 @@
 -- Entries that are passed over.
-use Rattle.std.specs.Prelude.{◌≡◌, ℕ, ◌+◌, ◌≤◌, ◌<◌, List, [], ◌∷◌, ◌++◌, length, take}
+use Rattle.std.specs.Prelude.{◌≡◌, ◌⊎◌, ℕ, ◌+◌, ◌≤◌, ◌<◌, slice_index, List, [], ◌∷◌, ◌++◌, length, take}
 use Rattle.fw_entry.specs.declared.entry.Entry.{Entry}
 use Rattle.fw_entry.specs.declared.entry.Entry.TheVariants.{Reset, Async, Iso, Event, Outcome, Shown, End}
 use Rattle.fw_entry.specs.declared.entry.Timed.{Timed}
 use Rattle.fw_log.specs.Bodies.{IsBody}
-use Rattle.fw_log.specs.Reading.{Spells}
+use Rattle.fw_entry.specs.Log.{epoch_after}
+use Rattle.fw_entry.specs.declared.version.Version.{Version}
+use Rattle.fw_words.specs.Quadlet.{quadlet_at}
+use Rattle.fw_log.specs.Reading.{version_at, HasEpoch, Spells}
 use Rattle.fw_log.specs.Reader.{State, total}
 use Rattle.fw_log.specs.History.{HasRead}
 use Rattle.fw_log.specs.Stands.{Position}
@@ -26,11 +29,17 @@ pub record IsPlain (kind : ℕ) (bytes : List ℕ) : Type 0 where
   pub is : IsBody kind bytes entry
   pub passed : IsPassed entry
 
--- the bytes begin with some entry that may be passed over, with this end and cycle
+-- the epoch of a reset, which its body begins with and its head has, or that of the latest before another entry
+abbrev pub IsPlainEpoch : Version → ℕ → List ℕ → List ℕ → ℕ → Type 0
+IsPlainEpoch v epoch e bytes n = ((slice_index e 0 ≡ 1) × (quadlet_at bytes 0 ≡ n) × HasEpoch v n e) ⊎ ((slice_index e 0 ≡ 1 → ⊥) × (n ≡ epoch))
+
+-- the bytes begin with some entry that may be passed over, with this end and cycle, of this version and with this epoch behind it
 pub record PassesFirst (s : Position) (bytes : List ℕ) (p : Passed) : Type 0 where
   pub entry : Timed
   pub passed : IsPassed entry.what
   pub cycle : entry.cycle ≡ p.cycle
+  pub version : p.version ≡ version_at s (take p.end bytes)
+  pub epoch : p.epoch ≡ epoch_after s.epoch entry.what
   pub within : p.end ≤ length bytes
   pub spells : Spells s entry (take p.end bytes)
 

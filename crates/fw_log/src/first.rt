@@ -1,23 +1,26 @@
 //! The entry that some bytes begin with.
 
-ghost use Rattle.std.specs.Prelude.{◌≡◌, ◌≤◌, ◌<◌, ◌+◌, ◌^◌, length, take, drop, IfSome};
+ghost use Rattle.std.specs.Prelude.{◌≡◌, ◌≤◌, ◌<◌, ◌+◌, ◌^◌, length, slice_index, take, drop, IfSome};
 ghost use Rattle.fw_log.specs.Stands.{position};
-ghost use Rattle.fw_log.specs.Reading.{IsComplete};
+ghost use Rattle.fw_log.specs.Reading.{fault_at, is_own_epoch, IsComplete};
+ghost use Rattle.fw_entry.specs.Log.{head_size};
 ghost use Rattle.fw_log.specs.Reader.{EntryJudges, Ends, Finds, Joins};
-ghost use Rattle.fw_log.specs.Passing.{PassesFirst};
+ghost use Rattle.fw_log.specs.Passing.{IsPlainEpoch, PassesFirst};
 
+use crate::codes::kind;
 use crate::plain::is_plain_body;
 use crate::read_body::entry_of;
 use crate::read_head::{head_fault, whole_end};
-use crate::stand::{BODY_AT, Stand, cycle_of, need, rest, skip};
-use crate::{LogFault, LogWhy, ResetEntry, Timed};
-use fw_words::{Bytes, Data};
+use crate::stand::{EPOCH_AT, Stand, cycle_of, need, rest, skip, version_at};
+use crate::{BodyFault, Entry, LogFault, LogWhy, ResetEntry, Timed, Version};
+use fw_words::{Bytes, Data, quadlet_at};
 
-/// An entry that bytes begin with, where it ends, and its bytes without the header.
+/// An entry that bytes begin with, where it ends, the bytes of its body, and the version of the log.
 #[derive(Debug, Drop)]
 pub struct Found<'a> {
     pub end: usize,
-    pub bytes: Data<'a>,
+    pub version: Version,
+    pub body: Data<'a>,
     pub entry: Timed<'a>,
 }
 
@@ -40,25 +43,51 @@ fn end_of(stand: Stand, bytes: &[u8]) -> Result<Option<usize>, LogFault>
     }
 }
 
+// The epoch in a bus reset's head is its own; that of other entries was judged with the head.
+fn is_own_epoch(version: Version, what: &Entry, e: &[u8]) -> bool
+    requires { head_size version ≤ length e.now }
+    ensures { result ≡ is_own_epoch version what.now e.now }
+{
+    match (version, what) {
+        (Version::Two, Entry::Reset(r)) => quadlet_at(e, EPOCH_AT).0 == r.get().epoch,
+        _ => true,
+    }
+}
+
+fn bad_body(place: u64, why: BodyFault) -> LogFault
+    ensures { result ≡ fault_at place (LogWhy.BadBody why) }
+{
+    LogFault {
+        place,
+        why: LogWhy::BadBody(why),
+    }
+}
+
 // The entry that the bytes are, or why its body is none.
 fn complete_entry<'a>(
     stand: Stand,
+    version: Version,
     bytes: &'a [u8],
     room: &'a mut ResetEntry,
 ) -> Result<Timed<'a>, LogFault>
     requires room { (position stand).start + length bytes.now < 2 ^ 64 }
-    requires head { IsComplete (position stand) bytes.now }
+    requires head { IsComplete version (position stand) bytes.now }
     ensures { EntryJudges (position stand) bytes.now result }
 {
     let at = skip(stand);
     let entry = rest(bytes, at);
-    let cycle = cycle_of(entry);
-    match entry_of(entry[0], rest(entry, BODY_AT), room) {
-        Ok(what) => Ok(Timed { cycle, what }),
-        Err(why) => Err(LogFault {
-            place: stand.start() + (at + BODY_AT) as u64,
-            why: LogWhy::BadBody(why),
-        }),
+    let head = version.head_size();
+    let cycle = cycle_of(version, entry);
+    let place = stand.start() + (at + head) as u64;
+    match entry_of(entry[0], rest(entry, head), room) {
+        Ok(what) => {
+            if is_own_epoch(version, &what, entry) {
+                Ok(Timed { cycle, what })
+            } else {
+                Err(bad_body(place, BodyFault::Fields))
+            }
+        }
+        Err(why) => Err(bad_body(place, why)),
     }
 }
 
@@ -77,20 +106,42 @@ pub(crate) fn first_entry<'a>(
         Err(fault) => return Err(fault),
     };
     let whole = &bytes[..end];
-    match complete_entry(stand, whole, room) {
+    let version = version_at(stand, whole);
+    match complete_entry(stand, version, whole, room) {
         Ok(entry) => Ok(Some(Found {
             end,
-            bytes: Data::new(rest(whole, skip(stand))),
+            version,
+            body: Data::new(rest(whole, skip(stand) + version.head_size())),
             entry,
         })),
         Err(fault) => Err(fault),
     }
 }
 
-/// An entry that is passed over: where it ends, and its cycle.
+/// An entry that is passed over: where it ends, its cycle, the version of the log, and the epoch of the latest bus reset up to and
+/// including it.
 pub(crate) struct Passed {
     pub end: usize,
     pub cycle: u64,
+    pub version: Version,
+    pub epoch: u32,
+}
+
+// The epoch of a bus reset, which its body begins with, or that of the latest before another entry; none where it is not the one
+// in the entry's head.
+fn plain_epoch(version: Version, epoch: u32, e: &[u8], body: &[u8]) -> Option<u32>
+    requires head { head_size version ≤ length e.now }
+    requires body { slice_index e.now 0 ≡ 1 → 4 ≤ length body.now }
+    ensures { IfSome result (IsPlainEpoch version epoch e.now body.now) }
+{
+    if e[0] != kind::RESET {
+        return Some(epoch);
+    }
+    let own = quadlet_at(body, 0).0;
+    match version {
+        Version::Two if quadlet_at(e, EPOCH_AT).0 != own => None,
+        _ => Some(own),
+    }
 }
 
 /// The entry that the bytes begin with, if it is whole and right at the first look, and may be passed over.
@@ -98,19 +149,24 @@ pub(crate) fn plain_entry(stand: Stand, bytes: &[u8]) -> Option<Passed>
     ensures { IfSome result (PassesFirst (position stand) bytes.now) }
 {
     let end = whole_end(stand, bytes)?;
-    let entry = rest(&bytes[..end], skip(stand));
-    if !is_plain_body(entry[0], rest(entry, BODY_AT)) {
+    let whole = &bytes[..end];
+    let version = version_at(stand, whole);
+    let entry = rest(whole, skip(stand));
+    let body = rest(entry, version.head_size());
+    if !is_plain_body(entry[0], body) {
         return None;
     }
     Some(Passed {
         end,
-        cycle: cycle_of(entry),
+        cycle: cycle_of(version, entry),
+        version,
+        epoch: plain_epoch(version, stand.epoch(), entry, body)?,
     })
 }
 
 /// The piece, where nothing was kept, or else what was kept and as much of the piece as there is room for.
-pub(crate) fn at_hand<'a>(taken: &[u8], piece: &'a [u8], room: &'a mut Bytes<2304>) -> &'a [u8]
-    requires { length taken.now ≤ 2304 }
+pub(crate) fn at_hand<'a>(taken: &[u8], piece: &'a [u8], room: &'a mut Bytes<2308>) -> &'a [u8]
+    requires { length taken.now ≤ 2308 }
     ensures { Joins taken.now piece.now result.now }
 {
     if taken.is_empty() {

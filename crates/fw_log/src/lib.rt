@@ -1,11 +1,8 @@
 //! A reader of logs: entries from bytes that come in any pieces, exactly where there are some.
 #![tactic(auto)]
 
-#[cfg(test)]
-mod change_tests;
 mod first;
-#[cfg(test)]
-mod kind_tests;
+pub mod laws;
 mod plain;
 mod plain_reset;
 mod read;
@@ -14,14 +11,12 @@ mod read_head;
 mod read_reset;
 mod room;
 mod stand;
-#[cfg(test)]
-mod tests;
 
 use fw_async::PacketFault;
 use fw_cip::IsoFault;
 pub use fw_entry::{
     BorrowedReset, Entry, EntryRoom, EventEntry, NodeList, NodeRow, OutcomeEntry, ResetEntry,
-    ShownEntry, Timed, body_of, codes, write_entry, write_header,
+    ShownEntry, Timed, Version, body_of, codes, epoch_after, head_of, write_entry, write_header,
 };
 use fw_phy::PhyFault;
 pub use read::{LogFed, LogReader};
@@ -40,12 +35,12 @@ pub enum BodyFault {
     Fields,
 }
 
-/// Why bytes are no log, in the order of the tests of each part.
+/// Why bytes are no log, in the order of the tests of each part, but for the last, which comes behind `BadLength`.
 #[derive(Clone, Copy, Debug, PartialEq, Eq)]
 pub enum LogWhy {
     /// A byte follows the end entry; the place is that byte's.
     AfterEnd,
-    /// A quadlet of the header is not as it must be; the place is that quadlet's.
+    /// A quadlet of the header is not as it must be, the second neither 1 nor 2; the place is that quadlet's.
     BadHeader,
     /// The kind is not 1 to 7, or the byte after it is not 0; the place is the entry's.
     BadKind,
@@ -59,6 +54,9 @@ pub enum LogWhy {
     Cut,
     /// The input ended after the header or an entry that is not the end; the place is the input's length.
     NoEnd,
+    /// In version 2 the epoch in the head of an entry that is no bus reset is not that of the latest bus reset, or 0 where there is
+    /// none: the epoch that stands there; the place is the epoch's. It is tested before the cycle.
+    BadEpoch(u32),
 }
 
 /// Why bytes are no log, and the place of the first byte of what is refused, counted from 0.

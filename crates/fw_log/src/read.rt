@@ -1,14 +1,16 @@
 //! A reader of logs.
 
 ghost use Rattle.std.specs.Prelude.{ℕ, ◌≡◌, ◌≤◌, ◌<◌, ◌+◌, ◌-◌, ◌*◌, ◌^◌, ◌++◌, ◌∷◌, [], List, length, take, drop};
-ghost use Rattle.std.specs.Prelude.{IfSome, IfNone, IfOk, Some, None, Ok, Err, false};
+ghost use Rattle.std.specs.Prelude.{IfSome, IfNone, IfOk, IfErr, Some, None, Ok, Err, false};
 ghost use Rattle.std.specs.Result.{result_err};
-ghost use Rattle.fw_entry.specs.Log.{is_end, entry_bytes, LogOpens};
+ghost use Rattle.fw_entry.specs.Log.{is_end, body, epoch_after, LogOpens};
+ghost use Rattle.fw_entry.specs.declared.version.Version.{Version as AVersion};
+ghost use Rattle.fw_entry.specs.declared.version.Version.TheVariants.{One};
 ghost use Rattle.fw_log.specs.Stands.{position};
 ghost use Rattle.fw_log.specs.Reading.{IsPending};
-ghost use Rattle.fw_log.specs.Reader.{State, total, with_bytes, FindsIn};
-ghost use Rattle.fw_log.specs.Reader.{EndsEntry, EndsNothing, ShowsFault, Feeds, Counts, bytes_given, finish_of};
-ghost use Rattle.fw_log.specs.History.{stand_after, HasRead, ReadsOn, GivesNext, Finishes};
+ghost use Rattle.fw_log.specs.Reader.{State, total, with_bytes, version_read, known, Keeps, Remembers, FindsIn};
+ghost use Rattle.fw_log.specs.Reader.{EndsEntry, EndsNothing, ShowsFault, Feeds, Counts, body_given, finish_of};
+ghost use Rattle.fw_log.specs.History.{stand_after, HasRead, ReadsOn, Names, GivesNext, Finishes};
 ghost use Rattle.fw_log.specs.Passing.{CountsUp, PassesOn};
 ghost use Rattle.fw_log.specs.declared.LogFault.{LogFault};
 ghost use Rattle.fw_entry.specs.declared.entry.Timed.{Timed};
@@ -16,8 +18,8 @@ ghost use Rattle.fw_entry.specs.declared.entry.Timed.{Timed};
 use crate::codes::kind;
 use crate::first::{Found, Passed, at_hand, first_entry, plain_entry};
 use crate::stand::{Stand, skip};
-use crate::{Entry, LogFault, LogWhy, Room, Timed};
-use fw_words::{Bytes, Data};
+use crate::{Entry, LogFault, LogWhy, Room, Timed, Version, epoch_after};
+use fw_words::{Bytes, Data, quadlet_at};
 use std::alloc::{AllocError, Global};
 use std::marker::Model;
 use std::num::NonZero;
@@ -29,40 +31,80 @@ pub struct LogFed<'a> {
     pub used: usize,
     /// The entry that ended with them, if one did.
     pub entry: Option<Timed<'a>>,
-    /// The bytes of that entry, without the header of the log; empty where none ended.
-    pub bytes: Data<'a>,
+    /// The bytes of that entry's body; empty where none ended.
+    pub body: Data<'a>,
 }
 
 // Where a reader stands behind an entry that ends at this place and is not the end.
-fn going_on(place: u64, last: u64) -> Stand
+fn going_on(place: u64, last: u64, version: Version, epoch: u32) -> Stand
     requires { 0 < place }
-    ensures { position result ≡ record { start = place; last = last; ended = false } }
+    ensures { position result ≡ record { start = place; last = last; ended = false; version = version; epoch = epoch } }
 {
     let Some(past) = NonZero::<u64>::new(place) else {
         unreachable!()
     };
-    Stand::Entries { past, last }
+    Stand::Entries {
+        past,
+        last,
+        version,
+        epoch,
+    }
 }
 
-// Where a reader stands behind an entry that ends at this place.
-fn behind(place: u64, entry: &Timed) -> Stand
+// Where a reader stands behind an entry that ends at this place, where this is the epoch of the latest bus reset before it.
+fn behind(place: u64, version: Version, epoch: u32, entry: &Timed) -> Stand
     requires { 0 < place }
-    ensures { position result ≡ record { start = place; last = entry.now.cycle; ended = is_end entry.now.what } }
+    ensures { position result ≡ record { start = place; last = entry.now.cycle; ended = is_end entry.now.what; version = version; epoch = epoch_after epoch entry.now.what } }
 {
     let Some(past) = NonZero::<u64>::new(place) else {
         unreachable!()
     };
     let last = entry.cycle;
     match entry.what {
-        Entry::End => Stand::Ended { past, last },
-        _ => Stand::Entries { past, last },
+        Entry::End => Stand::Ended {
+            past,
+            last,
+            version,
+            epoch,
+        },
+        _ => Stand::Entries {
+            past,
+            last,
+            version,
+            epoch: epoch_after(epoch, &entry.what),
+        },
+    }
+}
+
+// How many bytes of the header name its version, behind a fixed quadlet.
+const VERSION_END: usize = 8;
+
+// The version that a header names, where its first two quadlets are there and right.
+fn version_read(bytes: &[u8]) -> Option<Version>
+    ensures { result ≡ version_read bytes.now }
+{
+    if bytes.len() >= VERSION_END && quadlet_at(bytes, 0).0 == 0x31333934 {
+        Version::of_number(quadlet_at(bytes, 4).0)
+    } else {
+        None
+    }
+}
+
+// Takes as many bytes of a header as name its version, as far as they are there.
+fn remember(taken: &mut Bytes<2308>, stand: Stand, piece: &[u8])
+    ensures { Keeps (position stand).start taken.old piece.now taken.new }
+{
+    let count = taken.as_slice().len();
+    if matches!(stand, Stand::Header) && count < VERSION_END {
+        let more = (VERSION_END - count).min(piece.len());
+        taken.append(&piece[..more]);
     }
 }
 
 /// Reads the entries of a log from bytes that come in any pieces.
 #[derive(Debug, Drop)]
 pub struct LogReader {
-    taken: Box<Bytes<2304>>,
+    taken: Box<Bytes<2308>>,
     stand: Stand,
     fault: Option<LogFault>,
 }
@@ -81,7 +123,7 @@ impl Model for LogReader {
 impl LogReader {
     /// No byte was taken. It makes the room for a header and the longest entry; no other call takes memory.
     pub fn new(alloc: Global) -> Result<Self, AllocError>
-        ensures stand { IfOk result (λ r. r ≡ with_bytes (stand_after []) []) }
+        ensures stand { IfOk result (λ r. r ≡ with_bytes (stand_after One []) []) }
         ensures begins { IfOk result (HasRead [] []) }
     {
         Ok(LogReader {
@@ -101,11 +143,13 @@ impl LogReader {
         requires pending { IsPending self.old.stand self.old.taken }
         requires room { self.old.stand.start + length self.old.taken + length piece.now < 2 ^ 64 }
         requires found { FindsIn self.old.stand self.old.taken piece.now found }
-        ensures { Feeds self.old.stand self.old.taken piece.now result self.new }
+        ensures fed { Feeds self.old.stand self.old.taken piece.now result self.new }
+        ensures remembers { IfErr result (λ f. Remembers self.old.stand self.old.taken piece.now self.new) }
     {
         match found {
             Err(fault) => {
                 self.fault = Some(fault);
+                remember(&mut self.taken, self.stand, piece);
                 Err(fault)
             }
             Ok(None) => {
@@ -113,18 +157,24 @@ impl LogReader {
                 Ok(LogFed {
                     used: piece.len(),
                     entry: None,
-                    bytes: Data::new(&[]),
+                    body: Data::new(&[]),
                 })
             }
             Ok(Some(found)) => {
-                let Found { end, bytes, entry } = found;
+                let Found {
+                    end,
+                    version,
+                    body,
+                    entry,
+                } = found;
                 let used = end - self.taken.as_slice().len();
-                self.stand = behind(self.stand.start() + end as u64, &entry);
+                let place = self.stand.start() + end as u64;
+                self.stand = behind(place, version, self.stand.epoch(), &entry);
                 self.taken.clear();
                 Ok(LogFed {
                     used,
                     entry: Some(entry),
-                    bytes,
+                    body,
                 })
             }
         }
@@ -140,7 +190,8 @@ impl LogReader {
         requires fresh { self.old.fault ≡ None }
         requires pending { IsPending self.old.stand self.old.taken }
         requires room { self.old.stand.start + length self.old.taken + length piece.now < 2 ^ 64 }
-        ensures { Feeds self.old.stand self.old.taken piece.now result self.new }
+        ensures fed { Feeds self.old.stand self.old.taken piece.now result self.new }
+        ensures remembers { IfErr result (λ f. Remembers self.old.stand self.old.taken piece.now self.new) }
     {
         let bytes = at_hand(self.taken.as_slice(), piece, &mut room.bytes);
         let found = first_entry(self.stand, bytes, &mut room.reset);
@@ -148,8 +199,8 @@ impl LogReader {
     }
 
     /// Takes bytes up to the end of one entry, or all of the piece where no entry ends in it. The parts of a log are
-    /// each quadlet of its header, and of an entry its kind with the zero behind it, its length, its cycle and its
-    /// body, and a byte behind the end. A fault comes in the call in which the last byte of a refused part is taken;
+    /// each quadlet of its header, and of an entry its kind with the zero behind it, its length, in version 2 its epoch, its
+    /// cycle and its body, and a byte behind the end. A fault comes in the call in which the last byte of a refused part is taken;
     /// no log begins with the bytes up to there. After a fault each call answers that fault. The entry refers to the
     /// piece and to the room.
     pub fn feed<'a>(&mut self, piece: &'a [u8], room: &'a mut Room) -> Result<LogFed<'a>, LogFault>
@@ -158,25 +209,44 @@ impl LogReader {
         ensures fresh { IfNone self.old.fault (Feeds self.old.stand self.old.taken piece.now result self.new) }
 
         ensures counts { Counts self.old piece.now result self.new }
-        ensures bytes { IfOk result (λ fed. fed.bytes ≡ bytes_given fed.entry) }
+        ensures body { IfOk result (λ fed. fed.body ≡ body_given fed.entry) }
 
         // An entry, none and a fault come exactly where the bytes since the last entry make them.
         ensures entry { IfNone self.old.fault ((k : ℕ) → (t : Timed) → EndsEntry self.old.stand self.old.taken piece.now k t
-            → result ≡ Ok (record { used = k; entry = Some t; bytes = entry_bytes t })) }
+            → result ≡ Ok (record { used = k; entry = Some t; body = body t.what })) }
         ensures none { IfNone self.old.fault (EndsNothing self.old.stand self.old.taken piece.now
-            → result ≡ Ok (record { used = length piece.now; entry = None; bytes = [] })) }
+            → result ≡ Ok (record { used = length piece.now; entry = None; body = [] })) }
         ensures fault { IfNone self.old.fault ((k : ℕ) → (f : LogFault) → ShowsFault self.old.stand self.old.taken piece.now k f → result ≡ Err f) }
 
         // All that was fed since the reader began is the entries that were given and a part of one more; a fault comes
         // only where no log goes on, and of a log each entry that is given is the next.
         ensures history { (entries : List Timed) → (bytes : List ℕ) → HasRead entries bytes self.old → ReadsOn entries bytes piece.now result self.new }
-        ensures log { (entries all : List Timed) → (bytes more : List ℕ) → HasRead entries bytes self.old
-            → LogOpens all (bytes ++ (piece.now ++ more)) → GivesNext all entries result }
+        ensures version { (entries : List Timed) → (bytes : List ℕ) → HasRead entries bytes self.old → Names bytes piece.now result self.new }
+        ensures log { (entries all : List Timed) → (v : AVersion) → (bytes more : List ℕ) → HasRead entries bytes self.old
+            → LogOpens all v (bytes ++ (piece.now ++ more)) → GivesNext all entries result }
     {
         match self.fault {
             Some(fault) => Err(fault),
             None => self.feed_fresh(piece, room),
         }
+    }
+
+    // The version, as far as it is known.
+    fn known(&self) -> Option<Version>
+        ensures { result ≡ known self.now }
+    {
+        match self.stand {
+            Stand::Header => version_read(self.taken.as_slice()),
+            Stand::Entries { version, .. } | Stand::Ended { version, .. } => Some(version),
+        }
+    }
+
+    /// The version of the log: none exactly where fewer than eight bytes were taken, or one of the two quadlets of them was refused.
+    pub fn version(&self) -> Option<Version>
+        ensures known { result ≡ known self.now }
+        ensures read { (entries : List Timed) → (bytes : List ℕ) → HasRead entries bytes self.now → result ≡ version_read bytes }
+    {
+        self.known()
     }
 
     // Whether what comes next is an isochronous packet. It is not passed over, so that what was kept of it is not put before
@@ -202,9 +272,14 @@ impl LogReader {
             return None;
         }
         let bytes = at_hand(self.taken.as_slice(), piece, &mut room.bytes);
-        let Passed { end, cycle } = plain_entry(self.stand, bytes)?;
+        let Passed {
+            end,
+            cycle,
+            version,
+            epoch,
+        } = plain_entry(self.stand, bytes)?;
         let used = end - self.taken.as_slice().len();
-        self.stand = going_on(self.stand.start() + end as u64, cycle);
+        self.stand = going_on(self.stand.start() + end as u64, cycle, version, epoch);
         self.taken.clear();
         Some(used)
     }

@@ -7,7 +7,7 @@ ghost use Rattle.fw_entry.specs.declared.entry.OutcomeEntry.{OutcomeEntry};
 ghost use Rattle.fw_entry.specs.declared.entry.ShownEntry.{ShownEntry};
 ghost use Rattle.fw_entry.specs.Log.{quads, event_quads, outcome_quads, shown_quads, is_event, is_outcome, EventFits, OutcomeFits, ShownFits};
 ghost use Rattle.fw_entry.specs.declared.codes.TheConstants.{LINES_525, LINES_625};
-ghost use Rattle.fw_entry.specs.declared.codes.event.TheConstants.{INSERTED};
+ghost use Rattle.fw_entry.specs.declared.codes.event.TheConstants.{SECOND_OVER, INSERTED, UNSETTLED, WITHHELD};
 ghost use Rattle.fw_log.specs.Reading.{is_kind, is_length};
 ghost use Rattle.fw_log.specs.Bodies.{PacketJudges, ResetJudges, BodyJudges};
 
@@ -63,13 +63,20 @@ pub(crate) fn shown_of(body: &[u8]) -> Option<ShownEntry>
     })
 }
 
+// Events of this code have no device.
+fn has_no_device(code: u8) -> bool
+    ensures { result ≡ (code == SECOND_OVER) || (code == UNSETTLED) || (code == WITHHELD) }
+{
+    code == event::SECOND_OVER || code == event::UNSETTLED || code == event::WITHHELD
+}
+
 // The event may have this device.
 fn is_event_of(code: u8, device: u8) -> bool
     ensures { result ≡ is_event code device 0 (if code == INSERTED then LINES_525 else 0) }
 {
     event::SECOND_OVER <= code
-        && code <= event::UNSETTLED
-        && (device == NO_DEVICE || (code != event::SECOND_OVER && code != event::UNSETTLED))
+        && code <= event::DUBBING
+        && (device == NO_DEVICE || !has_no_device(code))
 }
 
 fn is_system(system: u16) -> bool

@@ -3,11 +3,16 @@
 ghost use Rattle.std.specs.Prelude.{ℕ, ◌≡◌, ◌≤◌, ◌<◌, ◌+◌, ◌-◌, ◌*◌, ◌/◌, ◌%◌, ◌^◌, ◌++◌, ◌∷◌, [], length, take, drop};
 ghost use Rattle.std.specs.Prelude.{None, Some, Ok, IfSome, ◌==◌, if◌then◌else◌};
 ghost use Rattle.fw_log.specs.Stands.{position};
-ghost use Rattle.fw_log.specs.Reading.{length_of, cycle_of, is_kind, is_length, entry_fault, header_fault, head_fault, fault_at};
+ghost use Rattle.fw_log.specs.Reading.{length_of, cycle_of, is_kind, is_length, is_epoch, has_epoch, epoch_fault, cycle_fault, entry_fault, header_fault, head_fault, fault_at};
+ghost use Rattle.fw_entry.specs.Log.{head_size};
+ghost use Rattle.fw_entry.specs.declared.version.Version.TheVariants.{Two};
 ghost use Rattle.fw_log.specs.Reader.{Ends};
 
-use crate::stand::{BODY_AT, CYCLE_AT, HEADER_SIZE, LENGTH_AT, Stand, cycle_of, length_of, rest};
-use crate::{LogFault, LogWhy, codes};
+use crate::stand::{
+    CYCLE, EPOCH_AT, EPOCH_END, HEADER_SIZE, LENGTH_AT, LENGTH_END, Stand, cycle_of, length_of,
+    rest, version_at,
+};
+use crate::{LogFault, LogWhy, Version, codes};
 use fw_words::quadlet_at;
 
 fn is_kind(kind: u8, low: u8) -> bool
@@ -29,9 +34,60 @@ fn is_length(kind: u8, len: usize) -> bool
     }
 }
 
-fn entry_fault(place: u64, last: u64, e: &[u8]) -> Option<LogFault>
+// The epoch in the head is that of the latest bus reset; that of a bus reset is judged with its body.
+fn is_epoch(epoch: u32, e: &[u8]) -> bool
+    requires { 8 ≤ length e.now }
+    ensures { result ≡ is_epoch epoch e.now }
+{
+    e[0] == codes::kind::RESET || quadlet_at(e, EPOCH_AT).0 == epoch
+}
+
+// The same, of a whole head.
+fn has_epoch(version: Version, epoch: u32, e: &[u8]) -> bool
+    requires { head_size version ≤ length e.now }
+    ensures { result ≡ has_epoch version epoch e.now }
+{
+    match version {
+        Version::One => true,
+        Version::Two => is_epoch(epoch, e),
+    }
+}
+
+// The fault of the cycle.
+fn cycle_fault(version: Version, place: u64, last: u64, e: &[u8]) -> Option<LogFault>
     requires { place + length e.now < 2 ^ 64 }
-    ensures { result ≡ entry_fault place last e.now }
+    ensures { result ≡ cycle_fault version place last e.now }
+{
+    let head = version.head_size();
+    if e.len() < head || cycle_of(version, e) >= last {
+        return None;
+    }
+    Some(LogFault {
+        place: place + (head - CYCLE) as u64,
+        why: LogWhy::TimeBack,
+    })
+}
+
+// The fault of the epoch in version 2, or that of the cycle behind it.
+fn epoch_fault(epoch: u32, place: u64, last: u64, e: &[u8]) -> Option<LogFault>
+    requires { place + length e.now < 2 ^ 64 }
+    ensures { result ≡ epoch_fault Two epoch place e.now (cycle_fault Two place last e.now) }
+{
+    if e.len() < EPOCH_END {
+        return None;
+    }
+    if !is_epoch(epoch, e) {
+        return Some(LogFault {
+            place: place + EPOCH_AT as u64,
+            why: LogWhy::BadEpoch(quadlet_at(e, EPOCH_AT).0),
+        });
+    }
+    cycle_fault(Version::Two, place, last, e)
+}
+
+fn entry_fault(version: Version, epoch: u32, place: u64, last: u64, e: &[u8]) -> Option<LogFault>
+    requires { place + length e.now < 2 ^ 64 }
+    ensures { result ≡ entry_fault version epoch place last e.now }
 {
     if e.len() < LENGTH_AT {
         return None;
@@ -43,7 +99,7 @@ fn entry_fault(place: u64, last: u64, e: &[u8]) -> Option<LogFault>
             why: LogWhy::BadKind,
         });
     }
-    if e.len() < CYCLE_AT {
+    if e.len() < LENGTH_END {
         return None;
     }
     if !is_length(kind, length_of(e)) {
@@ -52,16 +108,10 @@ fn entry_fault(place: u64, last: u64, e: &[u8]) -> Option<LogFault>
             why: LogWhy::BadLength,
         });
     }
-    if e.len() < BODY_AT {
-        return None;
+    match version {
+        Version::One => cycle_fault(version, place, last, e),
+        Version::Two => epoch_fault(epoch, place, last, e),
     }
-    if cycle_of(e) < last {
-        return Some(LogFault {
-            place: place + CYCLE_AT as u64,
-            why: LogWhy::TimeBack,
-        });
-    }
-    None
 }
 
 fn bad_header(place: u64) -> LogFault
@@ -86,7 +136,7 @@ fn header_fault(bytes: &[u8]) -> Option<LogFault>
     if bytes.len() < 8 {
         return None;
     }
-    if quadlet_at(bytes, 4).0 != 1 {
+    if Version::of_number(quadlet_at(bytes, 4).0).is_none() {
         return Some(bad_header(4));
     }
     if bytes.len() < 12 {
@@ -122,17 +172,28 @@ fn after_end(place: u64, bytes: &[u8]) -> Option<LogFault>
 pub(crate) fn whole_end(stand: Stand, bytes: &[u8]) -> Option<usize>
     ensures { IfSome result (λ n. Ends (position stand) bytes.now (Ok (Some n))) }
 {
-    let Stand::Entries { last, .. } = stand else {
+    let Stand::Entries {
+        last,
+        version,
+        epoch,
+        ..
+    } = stand
+    else {
         return None;
     };
-    if bytes.len() < BODY_AT {
+    let head = version.head_size();
+    if bytes.len() < head {
         return None;
     }
     let quadlets = length_of(bytes);
-    if !is_kind(bytes[0], bytes[1]) || !is_length(bytes[0], quadlets) || cycle_of(bytes) < last {
+    if !is_kind(bytes[0], bytes[1])
+        || !is_length(bytes[0], quadlets)
+        || !has_epoch(version, epoch, bytes)
+        || cycle_of(version, bytes) < last
+    {
         return None;
     }
-    let end = BODY_AT + 4 * quadlets;
+    let end = head + 4 * quadlets;
     if bytes.len() < end { None } else { Some(end) }
 }
 
@@ -144,9 +205,20 @@ pub(crate) fn head_fault(stand: Stand, bytes: &[u8]) -> Option<LogFault>
     match stand {
         Stand::Header => match header_fault(bytes) {
             Some(fault) => Some(fault),
-            None => entry_fault(HEADER_SIZE as u64, 0, rest(bytes, HEADER_SIZE)),
+            None => entry_fault(
+                version_at(stand, bytes),
+                0,
+                HEADER_SIZE as u64,
+                0,
+                rest(bytes, HEADER_SIZE),
+            ),
         },
-        Stand::Entries { past, last } => entry_fault(past.get(), last, bytes),
+        Stand::Entries {
+            past,
+            last,
+            version,
+            epoch,
+        } => { entry_fault(version, epoch, past.get(), last, bytes) }
         Stand::Ended { past, .. } => after_end(past.get(), bytes),
     }
 }

@@ -6,7 +6,7 @@ use std::alloc::{AllocError, Global};
 /// Memory for what an entry refers to that a reader gives: a reset, and the bytes of an entry that came in pieces.
 #[derive(Debug, Drop)]
 pub struct Room {
-    pub(crate) bytes: Box<Bytes<2304>>,
+    pub(crate) bytes: Box<Bytes<2308>>,
     pub(crate) reset: Box<ResetEntry>,
 }
 

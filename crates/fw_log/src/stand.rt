@@ -2,8 +2,11 @@
 
 ghost use Rattle.std.specs.Prelude.{◌≡◌, ◌≤◌, ◌+◌, ◌*◌, length, take, drop};
 ghost use Rattle.fw_log.specs.Stands.{position};
-ghost use Rattle.fw_log.specs.Reading.{length_of, cycle_of, skip, entry_need, need};
+ghost use Rattle.fw_log.specs.Reading.{length_of, cycle_of, skip, version_in, version_at, entry_need, need};
+ghost use Rattle.fw_entry.specs.Log.{head_size};
 
+use crate::Version;
+use fw_words::quadlet_at;
 use std::num::NonZero;
 
 /// How many bytes the header has.
@@ -12,21 +15,38 @@ pub(crate) const HEADER_SIZE: usize = 16;
 /// Where an entry's length begins, behind its kind and a zero byte.
 pub(crate) const LENGTH_AT: usize = 2;
 
-/// Where an entry's cycle begins.
-pub(crate) const CYCLE_AT: usize = 4;
+/// Where an entry's length ends.
+pub(crate) const LENGTH_END: usize = 4;
 
-/// Where an entry's body begins.
-pub(crate) const BODY_AT: usize = 12;
+/// Where an entry's epoch begins, in version 2.
+pub(crate) const EPOCH_AT: usize = 4;
 
-/// Where a reader stands. `past` is the place of the first byte behind the last entry, `last` the cycle of that entry.
+/// Where an entry's epoch ends, in version 2.
+pub(crate) const EPOCH_END: usize = 8;
+
+/// How many bytes a cycle has, in front of the body.
+pub(crate) const CYCLE: usize = 8;
+
+/// Where a reader stands. `past` is the place of the first byte behind the last entry, `last` the cycle of that entry, `epoch` that
+/// of the latest bus reset among the entries, or 0.
 #[derive(Clone, Copy, Debug, PartialEq, Eq)]
 pub enum Stand {
     /// The header is to come, and the first entry behind it.
     Header,
     /// An entry is to come.
-    Entries { past: NonZero<u64>, last: u64 },
+    Entries {
+        past: NonZero<u64>,
+        last: u64,
+        version: Version,
+        epoch: u32,
+    },
     /// The end was read.
-    Ended { past: NonZero<u64>, last: u64 },
+    Ended {
+        past: NonZero<u64>,
+        last: u64,
+        version: Version,
+        epoch: u32,
+    },
 }
 
 impl Stand {
@@ -37,6 +57,16 @@ impl Stand {
         match self {
             Stand::Header => 0,
             Stand::Entries { past, .. } | Stand::Ended { past, .. } => past.get(),
+        }
+    }
+
+    /// The epoch of the latest bus reset that was read, or 0.
+    pub(crate) fn epoch(self) -> u32
+        ensures { result ≡ (position self).epoch }
+    {
+        match self {
+            Stand::Header => 0,
+            Stand::Entries { epoch, .. } | Stand::Ended { epoch, .. } => epoch,
         }
     }
 }
@@ -57,13 +87,34 @@ pub(crate) fn length_of(e: &[u8]) -> usize
 }
 
 /// The cycle of an entry.
-pub(crate) fn cycle_of(e: &[u8]) -> u64
-    requires { 12 ≤ length e.now }
-    ensures { result ≡ cycle_of e.now }
+pub(crate) fn cycle_of(version: Version, e: &[u8]) -> u64
+    requires { head_size version ≤ length e.now }
+    ensures { result ≡ cycle_of version e.now }
 {
-    match e[CYCLE_AT..].first_chunk::<8>() {
+    match e[version.head_size() - CYCLE..].first_chunk::<8>() {
         Some(eight) => u64::from_be_bytes(*eight),
         None => unreachable!(),
+    }
+}
+
+// The version that a header names, as far as it is there.
+fn version_in(bytes: &[u8]) -> Version
+    ensures { result ≡ version_in bytes.now }
+{
+    if bytes.len() >= 8 && quadlet_at(bytes, 4).0 == 2 {
+        Version::Two
+    } else {
+        Version::One
+    }
+}
+
+/// The version of the log, as far as it is known.
+pub(crate) fn version_at(stand: Stand, bytes: &[u8]) -> Version
+    ensures { result ≡ version_at (position stand) bytes.now }
+{
+    match stand {
+        Stand::Header => version_in(bytes),
+        Stand::Entries { version, .. } | Stand::Ended { version, .. } => version,
     }
 }
 
@@ -77,13 +128,13 @@ pub(crate) fn skip(stand: Stand) -> usize
     }
 }
 
-fn entry_need(e: &[u8]) -> usize
-    ensures { result ≡ entry_need e.now }
+fn entry_need(version: Version, e: &[u8]) -> usize
+    ensures { result ≡ entry_need version e.now }
 {
-    if e.len() < CYCLE_AT {
-        BODY_AT
+    if e.len() < LENGTH_END {
+        version.head_size()
     } else {
-        BODY_AT + 4 * length_of(e)
+        version.head_size() + 4 * length_of(e)
     }
 }
 
@@ -92,5 +143,5 @@ pub(crate) fn need(stand: Stand, bytes: &[u8]) -> usize
     ensures { result ≡ need (position stand) bytes.now }
 {
     let at = skip(stand);
-    at + entry_need(rest(bytes, at))
+    at + entry_need(version_at(stand, bytes), rest(bytes, at))
 }

@@ -15,6 +15,3 @@ pub use node::Node;
 pub use offset::{cycle_time, node_id};
 pub use request::{put_request, request_packet};
 pub use response::reply_in;
-
-#[cfg(test)]
-mod tests;

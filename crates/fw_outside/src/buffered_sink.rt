@@ -1,7 +1,7 @@
 ghost use Rattle.std.specs.Prelude.{◌≡◌, ◌≤◌, ◌+◌, ◌++◌, length, take, None, OnOk, OnErr};
 ghost use Rattle.std.specs.Io.KnownBytes.{Appends};
 ghost use Rattle.fw_outside.specs.Gathering.{gathered};
-ghost use Rattle.fw_outside.specs.Outside.{HasCause, Writes, counted};
+ghost use Rattle.fw_outside.specs.Outside.{AppendsPart, HasCause, Writes, counted};
 
 use crate::{Failed, Sink, StdSink};
 use std::io::Write;
@@ -23,7 +23,9 @@ pub struct BufferedSink<W: Write> {
 impl<W: Write> BufferedSink<W> {
     /// A sink that writes to `inner`.
     pub fn new(inner: W) -> BufferedSink<W>
-        ensures { result.inner.faults ≡ 0 }
+        ensures inner { result.inner.inner ≡ inner }
+        ensures empty { result.length ≡ 0 }
+        ensures faults { result.inner.faults ≡ 0 }
     {
         BufferedSink {
             inner: StdSink::new(inner),
@@ -35,7 +37,8 @@ impl<W: Write> BufferedSink<W> {
     /// Passes on what is kept back, here and by the writer. Where it fails, some of it may not have been passed on.
     pub fn flush(&mut self) -> Result<(), Failed>
         ensures passed { OnOk result (Appends (W.contents self.old.inner.inner) (W.contents self.new.inner.inner) (take self.old.length self.old.bytes)) }
-        ensures empty { OnOk result (self.new.length ≡ 0) }
+        ensures front { OnErr result (AppendsPart (W.contents self.old.inner.inner) (W.contents self.new.inner.inner) (take self.old.length self.old.bytes)) }
+        ensures empty { self.new.length ≡ 0 }
         ensures same { OnOk result (self.new.inner.faults ≡ self.old.inner.faults) }
         ensures risen { OnErr result (self.new.inner.faults ≡ counted self.old.inner.faults) }
     {
@@ -46,6 +49,7 @@ impl<W: Write> BufferedSink<W> {
     /// Passes on what is kept back here.
     fn pass_on(&mut self) -> Result<(), Failed>
         ensures passed { OnOk result (Appends (W.contents self.old.inner.inner) (W.contents self.new.inner.inner) (take self.old.length self.old.bytes)) }
+        ensures front { OnErr result (AppendsPart (W.contents self.old.inner.inner) (W.contents self.new.inner.inner) (take self.old.length self.old.bytes)) }
         ensures empty { self.new.length ≡ 0 }
         ensures cause { HasCause self.old.inner.faults self.new.inner.faults result }
         ensures same { OnOk result (self.new.inner.faults ≡ self.old.inner.faults) }
@@ -67,10 +71,13 @@ impl<W: Write> BufferedSink<W> {
     }
 
     /// Writes a piece that does not fit: what is kept back is passed on before it.
+    #[tactic(auto, using(crate::proofs::Knowns::part_then, crate::proofs::Knowns::then_part))]
     #[cold]
     #[inline(never)]
     fn write_behind(&mut self, piece: &[u8]) -> Result<(), Failed>
         ensures passed { OnOk result (Appends (gathered (W.contents self.old.inner.inner) self.old.bytes self.old.length) (gathered (W.contents self.new.inner.inner) self.new.bytes self.new.length) piece.now) }
+        ensures front { OnErr result (AppendsPart (W.contents self.old.inner.inner) (W.contents self.new.inner.inner) (take self.old.length self.old.bytes ++ piece.now)) }
+        ensures lost { OnErr result (self.new.length ≡ 0) }
         ensures cause { HasCause self.old.inner.faults self.new.inner.faults result }
         ensures same { OnOk result (self.new.inner.faults ≡ self.old.inner.faults) }
         ensures risen { OnErr result (self.new.inner.faults ≡ counted self.old.inner.faults) }
@@ -92,6 +99,8 @@ impl<W: Write> Sink for BufferedSink<W> {
     fn write(&mut self, piece: &[u8]) -> Result<(), Failed>
         ensures bytes { Writes None None result piece.now }
         ensures passed { OnOk result (Appends (gathered (W.contents self.old.inner.inner) self.old.bytes self.old.length) (gathered (W.contents self.new.inner.inner) self.new.bytes self.new.length) piece.now) }
+        ensures front { OnErr result (AppendsPart (W.contents self.old.inner.inner) (W.contents self.new.inner.inner) (take self.old.length self.old.bytes ++ piece.now)) }
+        ensures lost { OnErr result (self.new.length ≡ 0) }
         ensures cause { HasCause self.old.inner.faults self.new.inner.faults result }
         ensures same { OnOk result (self.new.inner.faults ≡ self.old.inner.faults) }
         ensures risen { OnErr result (self.new.inner.faults ≡ counted self.old.inner.faults) }

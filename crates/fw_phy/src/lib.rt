@@ -25,6 +25,3 @@ pub enum PhyFault {
     /// this one too. Bit 0 is the most significant.
     Reserved(u8),
 }
-
-#[cfg(test)]
-mod tests;

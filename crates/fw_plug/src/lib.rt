@@ -13,6 +13,3 @@ pub use bandwidth::units;
 pub use laws::{input_words_are_their_fields, output_words_are_their_fields};
 pub use plugs::{IMPR, IPCR, OMPR, OPCR, Plugs};
 pub use word::{InWord, OutWord};
-
-#[cfg(test)]
-mod tests;

@@ -22,13 +22,13 @@ use Rattle.fw_cmp.specs.Connections.{kind_of, output_of, input_of}
 use Rattle.fw_cmp.specs.Controllers.{ControllerState, slot_at, with_slot}
 use Rattle.fw_cmp.specs.declared.outcome.Outcome.TheVariants.{Reset}
 use Rattle.fw_cmp.specs.Holdings.{outputs_held, inputs_held, current_outputs, current_inputs}
-use Rattle.fw_cmp.specs.Resets.{decided, overtaken, current_reset, slot_reset, slots_reset, after_reset}
+use Rattle.fw_cmp.specs.Resets.{decided, overtaken, current_reset, lost_reset, slot_reset, slots_reset, after_reset, after_lost_reset, state_reset}
 use Rattle.fw_reclaim.specs.Due.{IsAtSlot}
 use Rattle.fw_reclaim.specs.Restores.{KeepsFlow, IsRestorable, Restores, MatchesFor, CourseFor, CurrentMatches, CurrentCourse}
 use Rattle.fw_reclaim.proofs.Slots.{slot_set_same, slot_mapped}
 use Rattle.fw_reclaim.specs.Worlds.{IsAtWork, Grows}
 use Rattle.fw_reclaim.specs.Seats.{Output, Input}
-use Rattle.fw_reclaim.proofs.ResetSlots.{Origin, Stood, WasOwn, JustMade, origin}
+use Rattle.fw_reclaim.proofs.ResetSlots.{Origin, Stood, WasOwn, JustMade, origin, lost_origin}
 use Rattle.fw_reclaim.proofs.Resets.{stood_restorable, stays_own}
 use Rattle.fw_reclaim.proofs.Frames.{within, output_counted, input_counted, has_at_output, has_at_input, output_has, input_has}
 use Rattle.fw_reclaim.proofs.Kept.{Seated, standing_used}
@@ -203,10 +203,32 @@ current_goes epoch l r d c h = go c.current refl h.at_slot h.restores.matches
     go (Hearing j s) e at m = working_goes epoch c j s (omega (arith, h.slots)) m (λ n is. not_lost l c j n h.restores (ended_at_work j s n is (inr e))) (λ n is. ended_at_work j s n is (inr e))
     go (Overtaken k o) e at m = subst (λ x. GoesOn (slots_reset c) x) (sym e) (tt, tt)
 
-pub restores_reset : (epoch : ℕ) (l : Account) (r : ResetEntry) (d : ℕ) (c : ControllerState) → MeetsReset l r d c → Restores (account_reset r l) (after_reset epoch c)
-restores_reset epoch l r d c h = record {
+-- the same where the response to its request was lost
+lost_goes : (epoch : ℕ) (l : Account) (r : ResetEntry) (d : ℕ) (c : ControllerState) → MeetsReset l r d c → GoesOn (after_lost_reset epoch c) (after_lost_reset epoch c).current
+lost_goes epoch l r d c h = go c.current refl h.at_slot h.restores.matches
+  where
+    go : (cur : Current) → c.current ≡ cur → IsAtSlot cur → CurrentMatches c cur → GoesOn (slots_reset (lost_reset epoch c cur)) (lost_reset epoch c cur).current
+    go Nothing e at m = subst (λ x. GoesOn (slots_reset c) x) (sym e) (tt, tt)
+    go (Asking j s) e at m = interrupted_goes epoch c j j.purpose refl m
+    go (Hearing j s) e at m = interrupted_goes epoch c j j.purpose refl m
+    go (Overtaken k o) e at m = subst (λ x. GoesOn (slots_reset c) x) (sym e) (tt, tt)
+
+restores_heard : (epoch : ℕ) (l : Account) (r : ResetEntry) (d : ℕ) (c : ControllerState) → MeetsReset l r d c → Restores (account_reset r l) (after_reset epoch c)
+restores_heard epoch l r d c h = record {
   matches = (current_goes epoch l r d c h).0;
   standing = λ i conn f e idle. absurd (never_standing (slot_at (current_reset epoch c c.current) i) conn f (sym (slot_mapped (current_reset epoch c c.current) slot_reset i refl) ∙ e));
   restoring = λ i conn f e. origin_restorable l r d c i conn f h (origin epoch c i conn f h.slots h.at_slot h.restores.matches e);
   course = λ runs. (current_goes epoch l r d c h).1;
 }
+
+restores_lost : (epoch : ℕ) (l : Account) (r : ResetEntry) (d : ℕ) (c : ControllerState) → MeetsReset l r d c → Restores (account_reset r l) (after_lost_reset epoch c)
+restores_lost epoch l r d c h = record {
+  matches = (lost_goes epoch l r d c h).0;
+  standing = λ i conn f e idle. absurd (never_standing (slot_at (lost_reset epoch c c.current) i) conn f (sym (slot_mapped (lost_reset epoch c c.current) slot_reset i refl) ∙ e));
+  restoring = λ i conn f e. origin_restorable l r d c i conn f h (lost_origin epoch c i conn f h.slots h.at_slot h.restores.matches e);
+  course = λ runs. (lost_goes epoch l r d c h).1;
+}
+
+pub restores_reset : (epoch : ℕ) (lost : Bool) (l : Account) (r : ResetEntry) (d : ℕ) (c : ControllerState) → MeetsReset l r d c → Restores (account_reset r l) (state_reset epoch lost c)
+restores_reset epoch true l r d c h = restores_lost epoch l r d c h
+restores_reset epoch false l r d c h = restores_heard epoch l r d c h

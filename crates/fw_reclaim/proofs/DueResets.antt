@@ -18,7 +18,7 @@ use Rattle.fw_cmp.specs.declared.stage.Stage.{Stage}
 use Rattle.fw_cmp.specs.declared.stage.Stage.TheVariants.{Begin, Made, Ended}
 use Rattle.fw_cmp.specs.Controllers.{ControllerState, slot_at, count_of}
 use Rattle.fw_cmp.specs.Holdings.{is_current_slot}
-use Rattle.fw_cmp.specs.Resets.{overtaken, current_reset, slot_reset, slots_reset, after_reset}
+use Rattle.fw_cmp.specs.Resets.{interrupted, overtaken, current_reset, lost_reset, slot_reset, slots_reset, after_reset, after_lost_reset, state_reset}
 use Rattle.fw_reclaim.specs.Seats.{Side, Output, Input}
 use Rattle.fw_reclaim.specs.Due.{IsAtSlot, due_to, slot_due, has_plug, is_at, reclaims_at}
 use Rattle.fw_reclaim.specs.Restores.{MatchesFor, CurrentMatches}
@@ -26,7 +26,7 @@ use Rattle.fw_reclaim.proofs.AfterReset.{interrupted_for, decided_for, decided_c
 use Rattle.fw_reclaim.proofs.Due.{resting, working, due_less, due_resting, due_asking}
 use Rattle.fw_reclaim.proofs.DueHeard.{own_share, nowhere, over_reclaims, making_reclaims}
 use Rattle.fw_reclaim.proofs.DueSteps.{own_due, other_due, restoring_share, made_share}
-use Rattle.fw_reclaim.proofs.ResetSlots.{overtaken_other}
+use Rattle.fw_reclaim.proofs.ResetSlots.{interrupted_other, overtaken_other}
 use Rattle.fw_reclaim.specs.Worlds.{IsAtWork}
 use Rattle.fw_reclaim.proofs.Slots.{slot_set_same, slot_mapped}
 
@@ -146,11 +146,43 @@ work_less epoch c side j s kind q at slot lt few m = after_less c (overtaken epo
         let less = reset_share side (slot_at c i) kind q in
         omega arith
 
-pub due_reset : (epoch : ℕ) (c : ControllerState) (side : Side) (kind : ConnectionKind) (q : PlugAt) → length c.slots ≡ 32 → IsAtSlot c.current → CurrentMatches c c.current → due_to (after_reset epoch c) side kind q ≤ due_to c side kind q
-due_reset epoch c side kind q few at m = go c.current refl at m
+heard_less : (epoch : ℕ) (c : ControllerState) (side : Side) (kind : ConnectionKind) (q : PlugAt) → length c.slots ≡ 32 → IsAtSlot c.current → CurrentMatches c c.current → due_to (after_reset epoch c) side kind q ≤ due_to c side kind q
+heard_less epoch c side kind q few at m = go c.current refl at m
   where
     go : (x : Current) → c.current ≡ x → IsAtSlot x → CurrentMatches c x → due_to (slots_reset (current_reset epoch c x)) side kind q ≤ due_to c side kind q
     go Nothing e lt m = resting_less c side kind q at (λ i. ap (λ x. is_current_slot x i) e)
     go (Asking j s) e lt m = work_less epoch c side j s kind q (inl e) at lt few m
     go (Hearing j s) e lt m = work_less epoch c side j s kind q (inr e) at lt few m
     go (Overtaken k o) e lt m = resting_less c side kind q at (λ i. ap (λ x. is_current_slot x i) e)
+
+-- ---- the same where the response to its request was lost
+
+lost_work : (epoch : ℕ) (c : ControllerState) (side : Side) (j : Job) (s : Stage) (kind : ConnectionKind) (q : PlugAt) → IsAtWork c.current j s → IsAtSlot c.current → j.slot < 32 → length c.slots ≡ 32 → MatchesFor j.purpose j (slot_at c j.slot) → due_to (slots_reset (interrupted epoch c j)) side kind q ≤ due_to c side kind q
+lost_work epoch c side j s kind q at slot lt few m = after_less c (interrupted epoch c j) side kind q slot (slot_of_interrupted epoch c j j.purpose lt) (λ i. go i (cases_eq i j.slot))
+  where
+    own : slot_due side (interrupted epoch c j).current (slot_reset (slot_at (interrupted epoch c j) j.slot)) j.slot kind q ≤ working side j s (slot_at c j.slot) kind q
+    own = interrupted_less epoch c side j s kind q j.purpose (omega arith) m
+
+    go : (i : ℕ) → (i ≡ j.slot) ⊎ (i ≢ j.slot) → slot_due side (interrupted epoch c j).current (slot_reset (slot_at (interrupted epoch c j) i)) i kind q ≤ slot_due side c.current (slot_at c i) i kind q
+    go i (inl is) =
+        let old = own_due side c.current j s (slot_at c j.slot) j.slot kind q at refl in
+        let here : slot_due side (interrupted epoch c j).current (slot_reset (slot_at (interrupted epoch c j) j.slot)) j.slot kind q ≤ slot_due side c.current (slot_at c j.slot) j.slot kind q = omega (arith, own) in
+        subst (λ k. slot_due side (interrupted epoch c j).current (slot_reset (slot_at (interrupted epoch c j) k)) k kind q ≤ slot_due side c.current (slot_at c k) k kind q) (sym is) here
+    go i (inr ne) =
+        let new : slot_due side (interrupted epoch c j).current (slot_reset (slot_at (interrupted epoch c j) i)) i kind q ≡ resting side (slot_reset (slot_at c i)) kind q = due_resting side (interrupted epoch c j).current _ i kind q (idle_interrupted epoch c j j.purpose i ne) ∙ ap (λ x. resting side (slot_reset x) kind q) (interrupted_other epoch c j j.purpose i refl ne) in
+        let old = other_due side c.current j s (slot_at c i) i kind q at ne in
+        let less = reset_share side (slot_at c i) kind q in
+        omega arith
+
+lost_less : (epoch : ℕ) (c : ControllerState) (side : Side) (kind : ConnectionKind) (q : PlugAt) → length c.slots ≡ 32 → IsAtSlot c.current → CurrentMatches c c.current → due_to (after_lost_reset epoch c) side kind q ≤ due_to c side kind q
+lost_less epoch c side kind q few at m = go c.current refl at m
+  where
+    go : (x : Current) → c.current ≡ x → IsAtSlot x → CurrentMatches c x → due_to (slots_reset (lost_reset epoch c x)) side kind q ≤ due_to c side kind q
+    go Nothing e lt m = resting_less c side kind q at (λ i. ap (λ x. is_current_slot x i) e)
+    go (Asking j s) e lt m = lost_work epoch c side j s kind q (inl e) at lt few m
+    go (Hearing j s) e lt m = lost_work epoch c side j s kind q (inr e) at lt few m
+    go (Overtaken k o) e lt m = resting_less c side kind q at (λ i. ap (λ x. is_current_slot x i) e)
+
+pub due_reset : (epoch : ℕ) (lost : Bool) (c : ControllerState) (side : Side) (kind : ConnectionKind) (q : PlugAt) → length c.slots ≡ 32 → IsAtSlot c.current → CurrentMatches c c.current → due_to (state_reset epoch lost c) side kind q ≤ due_to c side kind q
+due_reset epoch true c side kind q few at m = lost_less epoch c side kind q few at m
+due_reset epoch false c side kind q few at m = heard_less epoch c side kind q few at m

@@ -21,7 +21,7 @@ use Rattle.fw_cmp.specs.declared.job.Job.{Job}
 use Rattle.fw_cmp.specs.declared.outcome.StartFault.{StartFault}
 use Rattle.fw_cmp.specs.Controllers.{ControllerState, first_state, slot_at, with_slot, is_making}
 use Rattle.fw_cmp.specs.Holdings.{is_current_slot}
-use Rattle.fw_cmp.specs.Resets.{after_hear, after_reset, heard}
+use Rattle.fw_cmp.specs.Resets.{after_hear, state_reset, heard}
 use Rattle.fw_cmp.specs.Stages.{hear_reply}
 use Rattle.fw_cmp.specs.Starts.{started, break_started, break_fault, with_task}
 use Rattle.fw_cmp.specs.Turns.{after_next}
@@ -116,13 +116,13 @@ answer_less w v c r h t runs later k = one_less w v c (after_hear (w.controllers
     course : CurrentCourse (w.controllers c) (w.controllers c).current → CourseFor t.job.purpose (slot_at (w.controllers c) t.job.slot) t.stage
     course o = subst (λ x. CurrentCourse (w.controllers c) x) t.current o
 
-reset_less : (w v : World) (entry : ResetEntry) (epoch : ℕ) → CanReclaim w → IsReset w entry epoch v → NoMoreDue w v
-reset_less w v entry epoch h t c side kind q =
-    let new : due_in v.controllers c side kind q ≡ due_to (after_reset epoch (w.controllers c)) side kind q = ap (λ x. due_to x side kind q) (t.each c) in
-    omega (arith, due_reset epoch (w.controllers c) side kind q (facts_in w c h).slots (facts_in w c h).at_slot (h.each c).matches)
+reset_less : (w v : World) (entry : ResetEntry) (epoch : ℕ) (lost : ℕ → Bool) → CanReclaim w → IsReset w entry epoch lost v → NoMoreDue w v
+reset_less w v entry epoch lost h t c side kind q =
+    let new : due_in v.controllers c side kind q ≡ due_to (state_reset epoch (lost c) (w.controllers c)) side kind q = ap (λ x. due_to x side kind q) (t.each c) in
+    omega (arith, due_reset epoch (lost c) (w.controllers c) side kind q (facts_in w c h).slots (facts_in w c h).at_slot (h.each c).matches)
 
-reset_orphans : (w v : World) (entry : ResetEntry) (epoch : ℕ) → IsReset w entry epoch v → NoMoreOrphans w.account v.account
-reset_orphans w v entry epoch t side kind q = let new : orphaned_of kind (connections_at v.account side q) ≡ 0 = ap (λ x. orphaned_of kind (connections_at x side q)) t.account ∙ none side kind in omega arith
+reset_orphans : (w v : World) (entry : ResetEntry) (epoch : ℕ) (lost : ℕ → Bool) → IsReset w entry epoch lost v → NoMoreOrphans w.account v.account
+reset_orphans w v entry epoch lost t side kind q = let new : orphaned_of kind (connections_at v.account side q) ≡ 0 = ap (λ x. orphaned_of kind (connections_at x side q)) t.account ∙ none side kind in omega arith
   where
     none : (side : Side) (kind : ConnectionKind) → orphaned_of kind (connections_at (account_reset entry w.account) side q) ≡ 0
     none Output PointToPoint = refl
@@ -200,7 +200,7 @@ own_after w v c x b each = subst (λ y. Restores v.account y) b.new (each c)
 pub inside : (w v : World) (x : Change) → CanReclaim w → Happens w x v → ((e : ℕ) → Restores v.account (v.controllers e)) → v.account.reclaiming ≡ true → Fits v.account (due_in v.controllers)
 inside w v (Turn c now) h t each runs = less_fits w v h (turn_orphans w c now v.account t.says) (turn_less w v c now h t (ran w.account v.account (turn_agrees w c now v.account t.says).reclaiming runs))
 inside w v (Answer c r) h t each runs = less_fits w v h (carried_orphans w v c r h t) (answer_less w v c r h t (ran w.account v.account ((ended_agrees (carried w c r v t) v.account c t.account).reclaiming ∙ (answer_leaves w v c r h t).reclaiming) runs) runs (own_after w v c (after_hear (w.controllers c) r) t.becomes each))
-inside w v (BusReset entry epoch) h t each runs = less_fits w v h (reset_orphans w v entry epoch t) (reset_less w v entry epoch h t)
+inside w v (BusReset entry epoch lost) h t each runs = less_fits w v h (reset_orphans w v entry epoch lost t) (reset_less w v entry epoch lost h t)
 inside w v SecondOver h t each runs = absurd (grind (arith, ap (λ (a : Account). a.reclaiming) t.account, runs))
 inside w v (Death c) h t each runs = death_fits w v c h t
 inside w v (NewConnection c i slot) h t each runs = less_fits w v h (same_orphans w.account v.account t.account) (one_less w v c (started (Ok i) slot (w.controllers c)) t.becomes (λ side kind q. new_less (w.controllers c) i slot side kind q (facts_in w c h).slots (takes_free (w.controllers c) i t.starts).0 (facts_in w c h).at_slot (takes_free (w.controllers c) i t.starts).1 (making_is slot t.making) (h.each c).matches))

@@ -1,7 +1,7 @@
 -- What a change of the whole leaves to each controller: it keeps what its connections rest on.
 use Rattle.fw_base.specs.declared.plug.PlugAt.{PlugAt}
 use Rattle.fw_base.specs.declared.plug.ConnectionKind.{ConnectionKind}
-use Rattle.std.proofs.Common.{◌≡◌, ◌≢◌, ◌⊎◌, inl, inr, ℕ, ◌<◌, ◌≤◌, false, refl, sym, ap, subst, ◌∙◌, arith}
+use Rattle.std.proofs.Common.{◌≡◌, ◌≢◌, ◌⊎◌, inl, inr, ℕ, ◌<◌, ◌≤◌, false, refl, sym, ap, subst, ◌∙◌, arith, Bool}
 use Rattle.std.specs.Prelude.{Ok}
 use Rattle.std.proofs.lemmas.Bool.{cases_eq}
 use Rattle.std.proofs.lemmas.Bool.Decides.{nat_tests}
@@ -185,8 +185,8 @@ answer_keeps w v c r h t = one_changes w v c (after_hear (w.controllers c) r) t.
 
 -- ---- bus resets, and the end of the second
 
-reset_keeps : (w v : World) (entry : ResetEntry) (epoch : ℕ) → CanReclaim w → IsReset w entry epoch v → IsSound v.account → (e : ℕ) → Restores v.account (v.controllers e)
-reset_keeps w v entry epoch h t sound e = subst (λ a. Restores a (v.controllers e)) (sym t.account) (subst (λ y. Restores (account_reset entry w.account) y) (sym (t.each e)) (restores_reset epoch w.account entry e (w.controllers e) (record { sound = h.step.sound; after = subst (λ a. IsSound a) t.account sound; grows = t.grows; slots = x.slots; at_slot = x.at_slot; seated = x.seated; made = x.made; restores = h.each e })))
+reset_keeps : (w v : World) (entry : ResetEntry) (epoch : ℕ) (lost : ℕ → Bool) → CanReclaim w → IsReset w entry epoch lost v → IsSound v.account → (e : ℕ) → Restores v.account (v.controllers e)
+reset_keeps w v entry epoch lost h t sound e = subst (λ a. Restores a (v.controllers e)) (sym t.account) (subst (λ y. Restores (account_reset entry w.account) y) (sym (t.each e)) (restores_reset epoch (lost e) w.account entry e (w.controllers e) (record { sound = h.step.sound; after = subst (λ a. IsSound a) t.account sound; grows = t.grows; slots = x.slots; at_slot = x.at_slot; seated = x.seated; made = x.made; restores = h.each e })))
   where
     x : Facts w.account e (w.controllers e)
     x = facts_in w e h
@@ -214,7 +214,7 @@ break_keeps w v c i h t = one_changes w v c (break_started (w.controllers c) i) 
 pub restores_after : (w v : World) (x : Change) → CanReclaim w → Happens w x v → IsSound v.account → (e : ℕ) → Restores v.account (v.controllers e)
 restores_after w v (Turn c now) h t sound = turn_keeps w v c now h t
 restores_after w v (Answer c r) h t sound = answer_keeps w v c r h t
-restores_after w v (BusReset entry epoch) h t sound = reset_keeps w v entry epoch h t sound
+restores_after w v (BusReset entry epoch lost) h t sound = reset_keeps w v entry epoch lost h t sound
 restores_after w v SecondOver h t sound = second_keeps w v h t
 restores_after w v (Death c) h t sound = death_keeps w v c h t
 restores_after w v (NewConnection c i slot) h t sound = new_keeps w v c i slot h t

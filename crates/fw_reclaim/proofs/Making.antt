@@ -19,7 +19,7 @@ use Rattle.fw_cmp.specs.declared.stage.Stage.TheVariants.{Begin, Made, Ended}
 use Rattle.fw_cmp.specs.Controllers.{ControllerState, first_state, slot_at}
 use Rattle.fw_cmp.specs.Fits.{StageFits}
 use Rattle.fw_cmp.specs.Requests.{access_of}
-use Rattle.fw_cmp.specs.Resets.{heard, after_hear, overtaken, current_reset, after_reset}
+use Rattle.fw_cmp.specs.Resets.{heard, after_hear, overtaken, current_reset, lost_reset, after_reset, after_lost_reset, state_reset}
 use Rattle.fw_cmp.specs.Starts.{started, break_started, break_fault, with_task}
 use Rattle.fw_cmp.specs.Turns.{current_for, takes_task, takes_waiting, takes_next, to_restore, waiting_break, is_empty, resumed, after_asking, after_answer, after_next}
 use Rattle.fw_step.specs.Together.{Becomes}
@@ -112,6 +112,20 @@ reset_makes epoch c m = go c.current
     go (Hearing j s) = overtaken_makes epoch c j s m
     go (Overtaken k o) = m
 
+-- the same where the response to its request was lost
+lost_makes : (epoch : ℕ) (c : ControllerState) → CurrentMakes c.current → CurrentMakes (after_lost_reset epoch c).current
+lost_makes epoch c m = go c.current
+  where
+    go : (x : Current) → CurrentMakes (lost_reset epoch c x).current
+    go Nothing = m
+    go (Asking j s) = interrupted_makes epoch c j j.purpose refl
+    go (Hearing j s) = interrupted_makes epoch c j j.purpose refl
+    go (Overtaken k o) = m
+
+state_makes : (epoch : ℕ) (lost : Bool) (c : ControllerState) → CurrentMakes c.current → CurrentMakes (state_reset epoch lost c).current
+state_makes epoch true c m = lost_makes epoch c m
+state_makes epoch false c m = reset_makes epoch c m
+
 break_makes : (c : ControllerState) (i : ℕ) → CurrentMakes c.current → CurrentMakes (break_started c i).current
 break_makes c i m = go (break_fault c i)
   where
@@ -131,7 +145,7 @@ one_makes w v c x b own before e = go (cases_eq e c)
 pub makes_after : (w v : World) (x : Change) → CanReclaim w → Happens w x v → (e : ℕ) → CurrentMakes (v.controllers e).current
 makes_after w v (Turn c now) h t = one_makes w v c (after_next now w.directory (w.controllers c)) t.becomes (turn_makes now w.directory (w.controllers c) (h.makes c)) h.makes
 makes_after w v (Answer c r) h t = one_makes w v c (after_hear (w.controllers c) r) t.becomes (heard_makes (w.controllers c).current r (λ j s e. (facts_in w c h).stage j s (inr e)) (h.makes c)) h.makes
-makes_after w v (BusReset entry epoch) h t = λ e. subst (λ y. CurrentMakes y.current) (sym (t.each e)) (reset_makes epoch (w.controllers e) (h.makes e))
+makes_after w v (BusReset entry epoch lost) h t = λ e. subst (λ y. CurrentMakes y.current) (sym (t.each e)) (state_makes epoch (lost e) (w.controllers e) (h.makes e))
 makes_after w v SecondOver h t = λ e. subst (λ y. CurrentMakes y.current) (sym (t.each e)) (h.makes e)
 makes_after w v (Death c) h t = one_makes w v c first_state t.becomes tt h.makes
 makes_after w v (NewConnection c i slot) h t = one_makes w v c (started (Ok i) slot (w.controllers c)) t.becomes (h.makes c) h.makes

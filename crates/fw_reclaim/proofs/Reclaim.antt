@@ -1,5 +1,5 @@
 -- The reclaim theorem.
-use Rattle.std.proofs.Common.{◌≡◌, ◌≢◌, ◌⊎◌, inl, inr, ℕ, true, false, Option, Some, None, List, [], ◌∷◌, sym, ap, subst, ◌∙◌, arith}
+use Rattle.std.proofs.Common.{◌≡◌, ◌≢◌, ◌⊎◌, inl, inr, ℕ, Bool, true, false, Option, Some, None, List, [], ◌∷◌, sym, ap, subst, ◌∙◌, arith}
 use Rattle.std.specs.Prelude.{Ok}
 use Rattle.std.proofs.lemmas.Bool.{cases_eq}
 use Rattle.std.proofs.lemmas.Bool.Decides.{nat_tests}
@@ -12,12 +12,13 @@ use Rattle.fw_cmp.specs.declared.connection.Slot.{Slot}
 use Rattle.fw_cmp.specs.declared.connection.Slot.TheVariants.{Free, Standing, Restoring}
 use Rattle.fw_cmp.specs.declared.outcome.StartFault.{StartFault}
 use Rattle.fw_cmp.specs.Controllers.{ControllerState, first_state, slot_at, with_slot, is_restoring, breaks_slot}
+use Rattle.fw_cmp.specs.Holdings.{is_current_slot}
 use Rattle.fw_cmp.specs.Resets.{after_hear}
 use Rattle.fw_cmp.specs.Starts.{started, break_started, break_fault, with_task}
 use Rattle.fw_cmp.specs.Turns.{after_next}
 use Rattle.fw_step.specs.Together.{Becomes}
 use Rattle.fw_reclaim.specs.Restores.{Restores}
-use Rattle.fw_reclaim.specs.Whole.{IsComplete, Stands, IsUnbroken, HasFinished, IsHarmless, AreHarmless, Reclaims}
+use Rattle.fw_reclaim.specs.Whole.{IsComplete, Stands, IsUnbroken, HasFinished, IsHarmless, AreHarmless, Reclaims, is_unheard}
 use Rattle.fw_reclaim.specs.Worlds.{World, CanReclaim, IsReset, Change, Turn, Answer, BusReset, SecondOver, Death, NewConnection, BreakOf, Elsewhere, Happens, Path}
 use Rattle.fw_reclaim.proofs.AfterReset.{begun_in_second}
 use Rattle.fw_reclaim.proofs.Given.{takes_free}
@@ -27,6 +28,7 @@ use Rattle.fw_reclaim.proofs.SafeResets.{safe_reset, whole_reset, stands_idle}
 use Rattle.fw_reclaim.proofs.Slots.{slot_set_other}
 use Rattle.fw_reclaim.proofs.Complete.{complete_of, whole_of}
 use Rattle.fw_reclaim.proofs.Together.{goes_on_reclaiming}
+use Rattle.fw_reclaim.proofs.Wholes.{whole_connected}
 
 -- ---- what is asked for
 
@@ -54,7 +56,7 @@ safe_break c k i conn f ne safe = go (break_fault c k)
 runs_on : (w v : World) (x : Change) (c i : ℕ) → CanReclaim w → Happens w x v → IsHarmless c i x → w.account.reclaiming ≡ true → v.account.reclaiming ≡ true
 runs_on w v (Turn d now) c i h t ok runs = (turn_agrees w d now v.account t.says).reclaiming ∙ runs
 runs_on w v (Answer d r) c i h t ok runs = (ended_agrees (carried w d r v t) v.account d t.account).reclaiming ∙ ((answer_leaves w v d r h t).reclaiming ∙ runs)
-runs_on w v (BusReset entry epoch) c i h t ok runs = ap (λ (a : Account). a.reclaiming) t.account ∙ begun_in_second w.account h.step.sound runs
+runs_on w v (BusReset entry epoch lost) c i h t ok runs = ap (λ (a : Account). a.reclaiming) t.account ∙ begun_in_second w.account h.step.sound runs
 runs_on w v SecondOver c i h t ok runs = absurd ok
 runs_on w v (Death d) c i h t ok runs = ap (λ (a : Account). a.reclaiming) t.account ∙ runs
 runs_on w v (NewConnection d k slot) c i h t ok runs = ap (λ (a : Account). a.reclaiming) t.account ∙ runs
@@ -72,7 +74,7 @@ changed w v d c i after conn f b keeps safe = go (cases_eq c d)
 safe_after : (w v : World) (x : Change) (c i : ℕ) (conn : Connection) (f : Flow) → CanReclaim w → w.account.reclaiming ≡ true → Happens w x v → IsHarmless c i x → IsSafe (w.controllers c) i conn f → IsSafe (v.controllers c) i conn f
 safe_after w v (Turn d now) c i conn f h runs t ok safe = changed w v d c i (after_next now w.directory (w.controllers d)) conn f t.becomes (λ e s. safe_turn w.account now w.directory (w.controllers d) i conn f (record { runs = runs; meets = turn_meets w v d now h t; stage = (facts_in w d h).stage }) s) safe
 safe_after w v (Answer d r) c i conn f h runs t ok safe = changed w v d c i (after_hear (w.controllers d) r) conn f t.becomes (λ e s. safe_heard (w.controllers d) r i conn f s) safe
-safe_after w v (BusReset entry epoch) c i conn f h runs t ok safe = subst (λ z. IsSafe z i conn f) (sym (t.each c)) (safe_reset epoch w.account (w.controllers c) i conn f (h.each c) (facts_in w c h).slots (facts_in w c h).at_slot safe)
+safe_after w v (BusReset entry epoch lost) c i conn f h runs t ok safe = subst (λ z. IsSafe z i conn f) (sym (t.each c)) (safe_reset epoch (lost c) w.account (w.controllers c) i conn f (h.each c) (facts_in w c h).slots (facts_in w c h).at_slot safe)
 safe_after w v SecondOver c i conn f h runs t ok safe = absurd ok
 safe_after w v (Death d) c i conn f h runs t ok safe = changed w v d c i first_state conn f t.becomes (λ e s. absurd (ok e)) safe
 safe_after w v (NewConnection d k slot) c i conn f h runs t ok safe = changed w v d c i (started (Ok k) slot (w.controllers d)) conn f t.becomes (λ e s. safe_new (w.controllers d) k slot i conn f (takes_free (w.controllers d) k t.starts).1 s) safe
@@ -95,29 +97,40 @@ safe_path w [] v c i conn f h runs p ok safe = subst (λ y. LeadsTo y c i conn f
 safe_path w (x ∷ changes) v c i conn f h runs p ok safe = safe_path p.0 changes v c i conn f (goes_on_reclaiming w p.0 x h p.1) (runs_on w p.0 x c i h p.1 ok.0 runs) p.2 ok.1 (safe_after w p.0 x c i conn f h runs p.1 ok.0 safe)
 
 -- a connection that is not to be restored any more stands
-whole_again : (l : Account) (c : ControllerState) (i : ℕ) (conn : Connection) (f : Flow) → Restores l c → HasFinished c → IsSafe c i conn f → IsComplete c i conn f
+pub record StandsAlone (c : ControllerState) (i : ℕ) (conn : Connection) (f : Flow) : Type 0 where
+  pub slot : slot_at c i ≡ Standing conn f
+  pub idle : is_current_slot c.current i ≡ false
+
+whole_again : (l : Account) (c : ControllerState) (i : ℕ) (conn : Connection) (f : Flow) → Restores l c → HasFinished c → IsSafe c i conn f → StandsAlone c i conn f
 whole_again l c i conn f r done safe = go safe.slot
   where
-    go : (slot_at c i ≡ Standing conn f) ⊎ (slot_at c i ≡ Restoring conn f false) → IsComplete c i conn f
-    go (inl e) = Stands e (stands_idle c i conn f r.matches safe.unbroken.runs e)
+    go : (slot_at c i ≡ Standing conn f) ⊎ (slot_at c i ≡ Restoring conn f false) → StandsAlone c i conn f
+    go (inl e) = record { slot = e; idle = stands_idle c i conn f r.matches safe.unbroken.runs e }
     go (inr e) = let still : is_restoring (slot_at c i) ≡ true = ap is_restoring e in absurd (grind (arith, still, done i))
 
 -- the second runs where a connection is safe that is to be restored
 second_of : (u : World) (c i : ℕ) (conn : Connection) (f : Flow) → CanReclaim u → slot_at (u.controllers c) i ≡ Restoring conn f false → u.account.reclaiming ≡ true
 second_of u c i conn f h own = ((h.each c).restoring i conn f own).second
 
+-- the end of the second
+pub record EndsWhole (v : World) (c i : ℕ) (conn : Connection) (f : Flow) : Type 0 where
+  pub can : CanReclaim v
+  pub stands : StandsAlone (v.controllers c) i conn f
+  pub unbroken : IsUnbroken (v.controllers c) i
+
 -- what was complete before the reset is complete at the end, as it was
-completes : (w u v : World) (entry : ResetEntry) (epoch : ℕ) (changes : List Change) (c i : ℕ) (conn : Connection) (f : Flow) → CanReclaim w → IsReset w entry epoch u → Path u changes v → IsComplete (w.controllers c) i conn f → IsUnbroken (w.controllers c) i → AreHarmless c i changes → HasFinished (v.controllers c) → CanReclaim v × IsComplete (v.controllers c) i conn f
-completes w u v entry epoch changes c i conn f h t p complete unbroken ok done =
-    let after = goes_on_reclaiming w u (BusReset entry epoch) h t in
-    let begun = whole_reset epoch (w.controllers c) i conn f (facts_in w c h).slots (facts_in w c h).at_slot unbroken complete in
+completes : (w u v : World) (entry : ResetEntry) (epoch : ℕ) (lost : ℕ → Bool) (changes : List Change) (c i : ℕ) (conn : Connection) (f : Flow) → CanReclaim w → IsReset w entry epoch lost u → Path u changes v → IsComplete (w.controllers c) i conn f → IsUnbroken (w.controllers c) i → is_unheard (lost c) (w.controllers c) i ≡ false → AreHarmless c i changes → HasFinished (v.controllers c) → EndsWhole v c i conn f
+completes w u v entry epoch lost changes c i conn f h t p complete unbroken heard ok done =
+    let after = goes_on_reclaiming w u (BusReset entry epoch lost) h t in
+    let begun = whole_reset epoch (lost c) (w.controllers c) i conn f (facts_in w c h).slots (facts_in w c h).at_slot unbroken heard complete in
     let own : slot_at (u.controllers c) i ≡ Restoring conn f false = ap (λ z. slot_at z i) (t.each c) ∙ begun.slot in
     let start : IsSafe (u.controllers c) i conn f = record { slot = inr own; unbroken = subst (λ z. IsUnbroken z i) (sym (t.each c)) begun.unbroken } in
     let end = safe_path u changes v c i conn f after (second_of u c i conn f after own) p ok start in
-    (end.can, whole_again v.account (v.controllers c) i conn f (end.can.each c) done end.safe)
+    record { can = end.can; stands = whole_again v.account (v.controllers c) i conn f (end.can.each c) done end.safe; unbroken = end.safe.unbroken }
 
-pub reclaims : (w u v : World) (entry : ResetEntry) (epoch : ℕ) (changes : List Change) → CanReclaim w → IsReset w entry epoch u → Path u changes v → Reclaims w changes v
-reclaims w u v entry epoch changes h t p c i conn f whole unbroken ok done =
+pub reclaims : (w u v : World) (entry : ResetEntry) (epoch : ℕ) (lost : ℕ → Bool) (changes : List Change) → CanReclaim w → IsReset w entry epoch lost u → Path u changes v → Reclaims w lost changes v
+reclaims w u v entry epoch lost changes h t p c i conn f whole unbroken heard ok done =
     let before = complete_of w c i conn f h unbroken whole in
-    let end = completes w u v entry epoch changes c i conn before.flow h t p before.complete unbroken ok done in
-    whole_of v c i conn f before.flow end.0 end.1 before.agrees
+    let end = completes w u v entry epoch lost changes c i conn before.flow h t p before.complete unbroken heard ok done in
+    let again = whole_of v c i conn f before.flow end.can (Stands end.stands.slot end.stands.idle) before.agrees in
+    (again, whole_connected v c i conn f end.can end.unbroken again, end.stands.idle)

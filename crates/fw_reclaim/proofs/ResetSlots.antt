@@ -15,7 +15,7 @@ use Rattle.fw_cmp.specs.declared.stage.Stage.{Stage}
 use Rattle.fw_cmp.specs.declared.stage.Stage.TheVariants.{Made, Ended}
 use Rattle.fw_cmp.specs.Controllers.{ControllerState, slot_at}
 use Rattle.fw_cmp.specs.Holdings.{is_current_slot}
-use Rattle.fw_cmp.specs.Resets.{interrupted, decided, overtaken, current_reset, slot_reset, after_reset}
+use Rattle.fw_cmp.specs.Resets.{interrupted, decided, overtaken, current_reset, lost_reset, slot_reset, after_reset, after_lost_reset}
 use Rattle.fw_reclaim.specs.Due.{IsAtSlot}
 use Rattle.fw_reclaim.specs.Worlds.{IsAtWork}
 use Rattle.fw_reclaim.specs.Restores.{MatchesFor, CurrentMatches}
@@ -23,7 +23,7 @@ use Rattle.fw_reclaim.proofs.Slots.{slot_set_same, slot_set_other, slot_mapped}
 
 -- ---- the current job's slot, and the others
 
-interrupted_other : (epoch : ℕ) (c : ControllerState) (j : Job) (why : Purpose) (i : ℕ) → j.purpose ≡ why → i ≢ j.slot → slot_at (interrupted epoch c j) i ≡ slot_at c i
+pub interrupted_other : (epoch : ℕ) (c : ControllerState) (j : Job) (why : Purpose) (i : ℕ) → j.purpose ≡ why → i ≢ j.slot → slot_at (interrupted epoch c j) i ≡ slot_at c i
 interrupted_other epoch c j Make i e ne = rw e (slot_set_other c j.slot i Free ne)
 interrupted_other epoch c j Restore i e ne = rw e refl
 interrupted_other epoch c j Break i e ne = rw e (slot_set_other c j.slot i Free ne)
@@ -113,4 +113,30 @@ origin epoch c i conn f few at m is = go c.current refl at m (sym (slot_mapped (
     go Nothing e at m is = resting_origin c i conn f (ap (λ x. is_current_slot x i) e) is
     go (Asking j s) e at m is = working_origin epoch c j s i conn f (inl e) (omega arith) m is
     go (Hearing j s) e at m is = working_origin epoch c j s i conn f (inr e) (omega arith) m is
+    go (Overtaken k o) e at m is = resting_origin c i conn f (ap (λ x. is_current_slot x i) e) is
+
+-- ---- the same where the response to the request was lost
+
+lost_working : (epoch : ℕ) (c : ControllerState) (j : Job) (s : Stage) (i : ℕ) (conn : Connection) (f : Flow) → IsAtWork c.current j s → j.slot < length c.slots → MatchesFor j.purpose j (slot_at c j.slot) → slot_reset (slot_at (interrupted epoch c j) i) ≡ Restoring conn f false → Origin c i conn f
+lost_working epoch c j s i conn f at lt m is = go (cases_eq i j.slot)
+  where
+    own : i ≡ j.slot → IsBack c j s conn f → Origin c i conn f
+    own e (inl was) = WasOwn (ap (slot_at c) e ∙ was)
+    own e (inr made) = JustMade j (made_at_work c.current j s f at made.0) (sym e) made.1
+
+    other : i ≢ j.slot → (slot_at c i ≡ Standing conn f) ⊎ (slot_at c i ≡ Restoring conn f false) → Origin c i conn f
+    other ne (inl stood) = Stood stood (idle_slot c.current j s i at ne)
+    other ne (inr was) = WasOwn was
+
+    go : (i ≡ j.slot) ⊎ (i ≢ j.slot) → Origin c i conn f
+    go (inl e) = own e (interrupted_own epoch c j s j.purpose conn f refl lt m (ap (λ k. slot_reset (slot_at (interrupted epoch c j) k)) (sym e) ∙ is))
+    go (inr ne) = other ne (reset_twice (slot_at c i) conn f (ap slot_reset (sym (interrupted_other epoch c j j.purpose i refl ne)) ∙ is))
+
+pub lost_origin : (epoch : ℕ) (c : ControllerState) (i : ℕ) (conn : Connection) (f : Flow) → length c.slots ≡ 32 → IsAtSlot c.current → CurrentMatches c c.current → slot_at (after_lost_reset epoch c) i ≡ Restoring conn f false → Origin c i conn f
+lost_origin epoch c i conn f few at m is = go c.current refl at m (sym (slot_mapped (lost_reset epoch c c.current) slot_reset i refl) ∙ is)
+  where
+    go : (cur : Current) → c.current ≡ cur → IsAtSlot cur → CurrentMatches c cur → slot_reset (slot_at (lost_reset epoch c cur) i) ≡ Restoring conn f false → Origin c i conn f
+    go Nothing e at m is = resting_origin c i conn f (ap (λ x. is_current_slot x i) e) is
+    go (Asking j s) e at m is = lost_working epoch c j s i conn f (inl e) (omega arith) m is
+    go (Hearing j s) e at m is = lost_working epoch c j s i conn f (inr e) (omega arith) m is
     go (Overtaken k o) e at m is = resting_origin c i conn f (ap (λ x. is_current_slot x i) e) is

@@ -1,5 +1,5 @@
 -- A connection that no break is asked of is not lost at a bus reset.
-use Rattle.std.proofs.Common.{◌≡◌, ◌≢◌, ◌⊎◌, inl, inr, ℕ, ◌<◌, false, length, refl, sym, ap, subst, ◌∙◌, arith, eqb}
+use Rattle.std.proofs.Common.{◌≡◌, ◌≢◌, ◌⊎◌, inl, inr, ℕ, ◌<◌, Bool, true, false, length, refl, sym, ap, subst, ◌∙◌, arith, eqb}
 use Rattle.std.proofs.lemmas.Bool.{cases_eq}
 use Rattle.std.proofs.lemmas.Bool.Decides.{nat_tests}
 use Rattle.std.specs.List.{list_any}
@@ -17,13 +17,13 @@ use Rattle.fw_cmp.specs.declared.stage.Stage.{Stage}
 use Rattle.fw_cmp.specs.declared.stage.Stage.TheVariants.{Made, Ended}
 use Rattle.fw_cmp.specs.Controllers.{ControllerState, slot_at, breaks_slot, is_break_at, break_runs, restoring_job}
 use Rattle.fw_cmp.specs.Holdings.{is_current_slot}
-use Rattle.fw_cmp.specs.Resets.{overtaken, interrupted, current_reset, slot_reset, after_reset}
+use Rattle.fw_cmp.specs.Resets.{overtaken, interrupted, current_reset, lost_reset, slot_reset, after_reset, after_lost_reset, state_reset}
 use Rattle.fw_reclaim.specs.Due.{IsAtSlot}
 use Rattle.fw_reclaim.specs.Restores.{Restores, MatchesFor, CourseFor, IsOnCourse, CurrentMatches, CurrentCourse}
-use Rattle.fw_reclaim.specs.Whole.{IsUnbroken, IsComplete, Stands, IsMade}
+use Rattle.fw_reclaim.specs.Whole.{IsUnbroken, IsComplete, Stands, IsMade, is_unheard}
 use Rattle.fw_reclaim.specs.Worlds.{IsAtWork}
 use Rattle.fw_reclaim.proofs.AfterReset.{interrupted_for, decided_for, decided_current}
-use Rattle.fw_reclaim.proofs.ResetSlots.{overtaken_other}
+use Rattle.fw_reclaim.proofs.ResetSlots.{interrupted_other, overtaken_other}
 use Rattle.fw_reclaim.proofs.Safe.{IsSafe, stands_broken, safe_restores, on_course, breaks_is}
 use Rattle.fw_reclaim.proofs.Slots.{slot_set_same, slot_mapped}
 
@@ -90,7 +90,7 @@ reset_runs epoch c i e = go c.current e
     go (Hearing j s) b = overtaken_runs epoch c j s i e b
     go (Overtaken k o) b = e
 
-pub unbroken_after : (epoch : ℕ) (c : ControllerState) (i : ℕ) → IsUnbroken c i → IsUnbroken (after_reset epoch c) i
+unbroken_after : (epoch : ℕ) (c : ControllerState) (i : ℕ) → IsUnbroken c i → IsUnbroken (after_reset epoch c) i
 unbroken_after epoch c i u = record {
   waits = ap (λ w. list_any (breaks_slot i) w) (reset_waits epoch c c.current) ∙ u.waits;
   runs = reset_runs epoch c i u.runs;
@@ -134,8 +134,8 @@ own_reset epoch l c i conn f r few at unbroken own = go c.current at unbroken r.
     go (Hearing j s) at b m o = work j s at b m o
     go (Overtaken k o') at b m o = own
 
-pub safe_reset : (epoch : ℕ) (l : Account) (c : ControllerState) (i : ℕ) (conn : Connection) (f : Flow) → Restores l c → length c.slots ≡ 32 → IsAtSlot c.current → IsSafe c i conn f → IsSafe (after_reset epoch c) i conn f
-safe_reset epoch l c i conn f r few at safe = record { slot = inr (go safe.slot); unbroken = unbroken_after epoch c i safe.unbroken }
+heard_safe : (epoch : ℕ) (l : Account) (c : ControllerState) (i : ℕ) (conn : Connection) (f : Flow) → Restores l c → length c.slots ≡ 32 → IsAtSlot c.current → IsSafe c i conn f → IsSafe (after_reset epoch c) i conn f
+heard_safe epoch l c i conn f r few at safe = record { slot = inr (go safe.slot); unbroken = unbroken_after epoch c i safe.unbroken }
   where
     go : (slot_at c i ≡ Standing conn f) ⊎ (slot_at c i ≡ Restoring conn f false) → slot_at (after_reset epoch c) i ≡ Restoring conn f false
     go (inl e) = after_slot epoch c i (Standing conn f) (Restoring conn f false) (idle_slot epoch c c.current i (stands_idle c i conn f r.matches safe.unbroken.runs e) ∙ e) refl
@@ -152,9 +152,81 @@ pub record IsOwn (c : ControllerState) (i : ℕ) (conn : Connection) (f : Flow) 
   pub slot : slot_at c i ≡ Restoring conn f false
   pub unbroken : IsUnbroken c i
 
-pub whole_reset : (epoch : ℕ) (c : ControllerState) (i : ℕ) (conn : Connection) (f : Flow) → length c.slots ≡ 32 → IsAtSlot c.current → IsUnbroken c i → IsComplete c i conn f → IsOwn (after_reset epoch c) i conn f
-whole_reset epoch c i conn f few at u (Stands e idle) = record { slot = after_slot epoch c i (Standing conn f) (Restoring conn f false) (idle_slot epoch c c.current i idle ∙ e) refl; unbroken = unbroken_after epoch c i u }
-whole_reset epoch c i conn f few at u (IsMade j work slot same) = record {
+heard_whole : (epoch : ℕ) (c : ControllerState) (i : ℕ) (conn : Connection) (f : Flow) → length c.slots ≡ 32 → IsAtSlot c.current → IsUnbroken c i → IsComplete c i conn f → IsOwn (after_reset epoch c) i conn f
+heard_whole epoch c i conn f few at u (Stands e idle) = record { slot = after_slot epoch c i (Standing conn f) (Restoring conn f false) (idle_slot epoch c c.current i idle ∙ e) refl; unbroken = unbroken_after epoch c i u }
+heard_whole epoch c i conn f few at u (IsMade j work slot same) = record {
   slot = after_slot epoch c i (Restoring conn f false) (Restoring conn f false) (subst (λ k. slot_at (current_reset epoch c c.current) k ≡ Restoring conn f false) slot (made_reset epoch c j f few at work ∙ ap (λ x. Restoring x f false) same)) refl;
   unbroken = unbroken_after epoch c i u;
 }
+
+-- ---- the same where the response to the request was lost
+
+lost_idle : (epoch : ℕ) (c : ControllerState) (x : Current) (i : ℕ) → is_current_slot x i ≡ false → slot_at (lost_reset epoch c x) i ≡ slot_at c i
+lost_idle epoch c Nothing i e = refl
+lost_idle epoch c (Asking j s) i e = interrupted_other epoch c j j.purpose i refl (λ at. grind (arith, nat_tests, e, at))
+lost_idle epoch c (Hearing j s) i e = interrupted_other epoch c j j.purpose i refl (λ at. grind (arith, nat_tests, e, at))
+lost_idle epoch c (Overtaken k o) i e = refl
+
+lost_slot : (epoch : ℕ) (c : ControllerState) (i : ℕ) (x y : Slot) → slot_at (lost_reset epoch c c.current) i ≡ x → slot_reset x ≡ y → slot_at (after_lost_reset epoch c) i ≡ y
+lost_slot epoch c i x y e r = slot_mapped (lost_reset epoch c c.current) slot_reset i refl ∙ (ap slot_reset e ∙ r)
+
+lost_waits : (epoch : ℕ) (c : ControllerState) (x : Current) → (lost_reset epoch c x).waiting ≡ c.waiting
+lost_waits epoch c Nothing = refl
+lost_waits epoch c (Asking j s) = interrupted_waits epoch c j j.purpose
+lost_waits epoch c (Hearing j s) = interrupted_waits epoch c j j.purpose
+lost_waits epoch c (Overtaken k o) = refl
+
+lost_runs : (epoch : ℕ) (c : ControllerState) (i : ℕ) → break_runs c.current i ≡ false → break_runs (lost_reset epoch c c.current).current i ≡ false
+lost_runs epoch c i e = go c.current e
+  where
+    go : (x : Current) → break_runs x i ≡ false → break_runs (lost_reset epoch c x).current i ≡ false
+    go Nothing b = e
+    go (Asking j s) b = interrupted_runs epoch c j j.purpose i b
+    go (Hearing j s) b = interrupted_runs epoch c j j.purpose i b
+    go (Overtaken k o) b = e
+
+lost_unbroken : (epoch : ℕ) (c : ControllerState) (i : ℕ) → IsUnbroken c i → IsUnbroken (after_lost_reset epoch c) i
+lost_unbroken epoch c i u = record {
+  waits = ap (λ w. list_any (breaks_slot i) w) (lost_waits epoch c c.current) ∙ u.waits;
+  runs = lost_runs epoch c i u.runs;
+}
+
+-- a connection that is to be restored stays so
+lost_own : (epoch : ℕ) (l : Account) (c : ControllerState) (i : ℕ) (conn : Connection) (f : Flow) → Restores l c → break_runs c.current i ≡ false → slot_at c i ≡ Restoring conn f false → slot_at (lost_reset epoch c c.current) i ≡ Restoring conn f false
+lost_own epoch l c i conn f r unbroken own = go c.current unbroken r.matches
+  where
+    work : (j : Job) → is_break_at j i ≡ false → MatchesFor j.purpose j (slot_at c j.slot) → slot_at (interrupted epoch c j) i ≡ Restoring conn f false
+    work j b m = by (cases_eq i j.slot)
+      where
+        by : (i ≡ j.slot) ⊎ (i ≢ j.slot) → slot_at (interrupted epoch c j) i ≡ Restoring conn f false
+        by (inl e) =
+            let is = safe_restores c j i conn f (inr own) (sym e) b m in
+            ap (slot_at (interrupted epoch c j)) e ∙ (interrupted_stays epoch c j (ap (λ (k : Job). k.purpose) is.1) ∙ is.0)
+        by (inr ne) = interrupted_other epoch c j j.purpose i refl ne ∙ own
+
+    go : (x : Current) → break_runs x i ≡ false → CurrentMatches c x → slot_at (lost_reset epoch c x) i ≡ Restoring conn f false
+    go Nothing b m = own
+    go (Asking j s) b m = work j b m
+    go (Hearing j s) b m = work j b m
+    go (Overtaken k o') b m = own
+
+lost_safe : (epoch : ℕ) (l : Account) (c : ControllerState) (i : ℕ) (conn : Connection) (f : Flow) → Restores l c → IsSafe c i conn f → IsSafe (after_lost_reset epoch c) i conn f
+lost_safe epoch l c i conn f r safe = record { slot = inr (go safe.slot); unbroken = lost_unbroken epoch c i safe.unbroken }
+  where
+    go : (slot_at c i ≡ Standing conn f) ⊎ (slot_at c i ≡ Restoring conn f false) → slot_at (after_lost_reset epoch c) i ≡ Restoring conn f false
+    go (inl e) = lost_slot epoch c i (Standing conn f) (Restoring conn f false) (lost_idle epoch c c.current i (stands_idle c i conn f r.matches safe.unbroken.runs e) ∙ e) refl
+    go (inr e) = lost_slot epoch c i (Restoring conn f false) (Restoring conn f false) (lost_own epoch l c i conn f r safe.unbroken.runs e) refl
+
+pub safe_reset : (epoch : ℕ) (lost : Bool) (l : Account) (c : ControllerState) (i : ℕ) (conn : Connection) (f : Flow) → Restores l c → length c.slots ≡ 32 → IsAtSlot c.current → IsSafe c i conn f → IsSafe (state_reset epoch lost c) i conn f
+safe_reset epoch true l c i conn f r few at safe = lost_safe epoch l c i conn f r safe
+safe_reset epoch false l c i conn f r few at safe = heard_safe epoch l c i conn f r few at safe
+
+-- a connection that was whole as far as its controller had heard: no job was at its slot
+lost_whole : (epoch : ℕ) (c : ControllerState) (i : ℕ) (conn : Connection) (f : Flow) → is_current_slot c.current i ≡ false → IsUnbroken c i → IsComplete c i conn f → IsOwn (after_lost_reset epoch c) i conn f
+lost_whole epoch c i conn f idle u (Stands e _) = record { slot = lost_slot epoch c i (Standing conn f) (Restoring conn f false) (lost_idle epoch c c.current i idle ∙ e) refl; unbroken = lost_unbroken epoch c i u }
+lost_whole epoch c i conn f idle u (IsMade j (inl work) slot same) = absurd (grind (arith, nat_tests, sym (ap (λ x. is_current_slot x i) work) ∙ idle, slot))
+lost_whole epoch c i conn f idle u (IsMade j (inr work) slot same) = absurd (grind (arith, nat_tests, sym (ap (λ x. is_current_slot x i) work) ∙ idle, slot))
+
+pub whole_reset : (epoch : ℕ) (lost : Bool) (c : ControllerState) (i : ℕ) (conn : Connection) (f : Flow) → length c.slots ≡ 32 → IsAtSlot c.current → IsUnbroken c i → is_unheard lost c i ≡ false → IsComplete c i conn f → IsOwn (state_reset epoch lost c) i conn f
+whole_reset epoch true c i conn f few at u heard complete = lost_whole epoch c i conn f heard u complete
+whole_reset epoch false c i conn f few at u heard complete = heard_whole epoch c i conn f few at u complete

@@ -34,7 +34,7 @@ turn_happens w v c now t (inr x) = rests c now t.told t.heard x.outstanding x.ac
 happens : (w v : World) (x : Change) → Happens w x v → StepHappens w.directory v.directory w.account w.controllers v.account v.controllers ⊎ (v ≡ w)
 happens w v (Turn c now) t = inl (turn_happens w v c now t t.says)
 happens w v (Answer c r) t = inl (hears c t.job t.stage t.target r t.device t.current t.asked t.answer t.account t.becomes t.directory)
-happens w v (BusReset entry epoch) t = inl (resets entry epoch t.network (λ p e. t.grows.outputs p e) t.account t.each)
+happens w v (BusReset entry epoch lost) t = inl (resets entry epoch lost t.network (λ p e. t.grows.outputs p e) t.account t.each)
 happens w v SecondOver t = inl (second t.account t.each t.directory)
 happens w v (Death c) t = inl (dies c t.account t.becomes t.directory)
 happens w v (NewConnection c i slot) t = inl (given c (started (Ok i) slot (w.controllers c)) (connection i slot t.starts t.making t.fits refl) t.account t.becomes t.directory)
@@ -53,7 +53,7 @@ in_step_after w v x h t = go (happens w v x t)
 unused_after : (w v : World) (x : Change) → CanReclaim w → Happens w x v → (e : ℕ) → 63 ≤ e → IsUnused (v.controllers e)
 unused_after w v (Turn c now) h t = beyond_after w.controllers v.controllers c (after_next now w.directory (w.controllers c)) t.device t.becomes h.beyond
 unused_after w v (Answer c r) h t = beyond_after w.controllers v.controllers c (after_hear (w.controllers c) r) t.device t.becomes h.beyond
-unused_after w v (BusReset entry epoch) h t = λ e far. subst (λ x. IsUnused x) (sym (t.each e)) (reset_unused epoch (w.controllers e) (h.beyond e far))
+unused_after w v (BusReset entry epoch lost) h t = λ e far. subst (λ x. IsUnused x) (sym (t.each e)) (reset_unused epoch (lost e) (w.controllers e) (h.beyond e far))
 unused_after w v SecondOver h t = λ e far. subst (λ x. IsUnused x) (sym (t.each e)) (second_unused (w.controllers e) (h.beyond e far))
 unused_after w v (Death c) h t = beyond_after w.controllers v.controllers c first_state t.device t.becomes h.beyond
 unused_after w v (NewConnection c i slot) h t = beyond_after w.controllers v.controllers c (started (Ok i) slot (w.controllers c)) t.device t.becomes h.beyond

@@ -1,12 +1,12 @@
 -- Controllers with no connection and no job: those beyond the devices.
 use Rattle.fw_base.specs.declared.plug.PlugAt.{PlugAt}
 use Rattle.fw_base.specs.declared.plug.ConnectionKind.{ConnectionKind}
-use Rattle.std.proofs.Common.{◌≡◌, ℕ, ◌<◌, ◌≤◌, refl, sym, ap, subst, ◌∙◌, arith}
+use Rattle.std.proofs.Common.{◌≡◌, ℕ, ◌<◌, ◌≤◌, Bool, true, false, refl, sym, ap, subst, ◌∙◌, arith}
 use Rattle.fw_base.proofs.Tables.{sum_to_same, sum_to_zero}
 use Rattle.fw_cmp.specs.declared.connection.Slot.TheVariants.{Free}
 use Rattle.fw_cmp.specs.Controllers.{ControllerState, first_state, slot_at}
 use Rattle.fw_cmp.specs.Holdings.{is_current_slot}
-use Rattle.fw_cmp.specs.Resets.{slot_reset, slot_over, after_reset, after_second, current_reset, slots_reset}
+use Rattle.fw_cmp.specs.Resets.{slot_reset, slot_over, after_second, current_reset, lost_reset, slots_reset, state_reset}
 use Rattle.fw_step.specs.Together.{Becomes}
 use Rattle.fw_reclaim.specs.Due.{IsAtSlot, held_by, due_to, slot_due}
 use Rattle.fw_reclaim.specs.Seats.{Side, Output, Input}
@@ -29,8 +29,9 @@ nothing_held c side kind q u = omega (arith, nothing_due c side kind q u)
 pub first_unused : IsUnused first_state
 first_unused = record { free = free_slots; idle = refl }
 
-pub reset_unused : (epoch : ℕ) (c : ControllerState) → IsUnused c → IsUnused (after_reset epoch c)
-reset_unused epoch c u = subst (λ x. IsUnused (slots_reset (current_reset epoch c x))) (sym u.idle) (record { free = λ i. slot_mapped c slot_reset i refl ∙ ap slot_reset (u.free i); idle = u.idle })
+pub reset_unused : (epoch : ℕ) (lost : Bool) (c : ControllerState) → IsUnused c → IsUnused (state_reset epoch lost c)
+reset_unused epoch true c u = subst (λ x. IsUnused (slots_reset (lost_reset epoch c x))) (sym u.idle) (record { free = λ i. slot_mapped c slot_reset i refl ∙ ap slot_reset (u.free i); idle = u.idle })
+reset_unused epoch false c u = subst (λ x. IsUnused (slots_reset (current_reset epoch c x))) (sym u.idle) (record { free = λ i. slot_mapped c slot_reset i refl ∙ ap slot_reset (u.free i); idle = u.idle })
 
 pub second_unused : (c : ControllerState) → IsUnused c → IsUnused (after_second c)
 second_unused c u = record { free = λ i. slot_mapped c slot_over i refl ∙ ap slot_over (u.free i); idle = u.idle }

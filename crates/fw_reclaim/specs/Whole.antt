@@ -1,6 +1,6 @@
 -- Whole connections, and the reclaim theorem: what was whole before the bus reset that opened a reclaim second is whole again
 -- at its end.
-use Rattle.std.specs.Prelude.{ℕ, ◌≡◌, ◌≢◌, ◌⊎◌, Bool, true, false, if◌then◌else◌, Option, Some, None, List, [], ◌∷◌, ⊤}
+use Rattle.std.specs.Prelude.{ℕ, ◌≡◌, ◌≢◌, ◌⊎◌, Bool, true, false, ◌&&◌, if◌then◌else◌, Option, Some, None, List, [], ◌∷◌, ⊤}
 use Rattle.fw_cmp.specs.declared.connection.Connection.{Connection}
 use Rattle.fw_cmp.specs.declared.connection.Flow.{Flow}
 use Rattle.fw_cmp.specs.declared.connection.Slot.{Slot}
@@ -19,6 +19,7 @@ use Rattle.fw_cmp.specs.Turns.{next}
 use Rattle.fw_base.specs.declared.plug.PlugAt.{PlugAt}
 use Rattle.fw_cmp.specs.Connections.{output_of, input_of}
 use Rattle.fw_step.specs.InStep.{IsFlow}
+use Rattle.fw_step.specs.Together.{IsWhole as IsThere}
 use Rattle.fw_reclaim.specs.Due.{is_at}
 use Rattle.fw_reclaim.specs.Seats.{Side, Output, Input}
 use Rattle.fw_reclaim.specs.Worlds.{World, Change, SecondOver, Death, BreakOf, IsAtWork}
@@ -83,16 +84,22 @@ abbrev pub AreHarmless : ℕ → ℕ → List Change → Type 0
 AreHarmless c i [] = ⊤
 AreHarmless c i (x ∷ changes) = IsHarmless c i x × AreHarmless c i changes
 
+-- the last response to the job at this slot was lost: the controller does not know what has come of the connection
+abbrev pub is_unheard : Bool → ControllerState → ℕ → Bool
+is_unheard lost c i = lost && is_current_slot c.current i
+
 -- From world w a bus reset begins a reclaim second, or begins it anew, and changes follow up to world v, in that second. A
--- connection that was whole in w, of which no break waited or was current, is whole in v, in its slot and on the same channel
--- and units, where its controller lived on and has finished restoring, and no break of the connection was accepted.
-abbrev pub Reclaims : World → List Change → World → Type 0
-Reclaims w changes v =
+-- connection that was whole in w, as far as its controller had heard, and of which no break waited or was current, is whole in v,
+-- in its slot and on the same channel and units, where its controller lived on and has finished restoring, and no break of the
+-- connection was accepted; and it is there in the account. No job is at its slot then.
+abbrev pub Reclaims : World → (ℕ → Bool) → List Change → World → Type 0
+Reclaims w lost changes v =
     (c i : ℕ) (conn : Connection) (f : Flow)
     → IsWhole w c i conn f → IsUnbroken (w.controllers c) i
+    → is_unheard (lost c) (w.controllers c) i ≡ false
     → AreHarmless c i changes
     → HasFinished (v.controllers c)
-    → IsWhole v c i conn f
+    → IsWhole v c i conn f × IsThere v.account c conn f × (is_current_slot (v.controllers c).current i ≡ false)
 
 -- the outcome that is written is that of a job that a bus reset has taken off its slot
 abbrev pub is_overtaken : Current → Bool

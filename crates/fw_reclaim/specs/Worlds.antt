@@ -1,5 +1,5 @@
 -- The account and all controllers, and what happens to them.
-use Rattle.std.specs.Prelude.{ℕ, ◌≡◌, ◌<◌, ◌≤◌, ◌⊎◌, Option, Some, None, List, [], ◌∷◌, Ok, true, IsSome}
+use Rattle.std.specs.Prelude.{ℕ, ◌≡◌, ◌<◌, ◌≤◌, ◌⊎◌, Bool, Option, Some, None, List, [], ◌∷◌, Ok, true, IsSome}
 use Rattle.fw_base.specs.declared.plug.PlugAt.{PlugAt}
 use Rattle.fw_csr.specs.declared.reply.Reply.{Reply}
 use Rattle.fw_entry.specs.declared.entry.ResetEntry.{ResetEntry}
@@ -20,7 +20,7 @@ use Rattle.fw_cmp.specs.Controllers.{ControllerState, first_state, slot_at, IsHe
 use Rattle.fw_cmp.specs.Fits.{SlotFits}
 use Rattle.fw_cmp.specs.Nodes.{node_of}
 use Rattle.fw_cmp.specs.Requests.{target_of}
-use Rattle.fw_cmp.specs.Resets.{after_hear, after_reset, after_second}
+use Rattle.fw_cmp.specs.Resets.{after_hear, state_reset, after_second}
 use Rattle.fw_cmp.specs.Starts.{IsMaking, start, started, break_fault, break_started}
 use Rattle.fw_cmp.specs.Turns.{after_next}
 use Rattle.fw_step.specs.Controllers.{IsDirectory}
@@ -107,12 +107,13 @@ pub record Grows (l : Account) (r : ResetEntry) : Type 0 where
   pub inputs : (q : PlugAt) → is_input l.latest q ≡ true → is_input (Some r) q ≡ true
   pub manager : has_manager l.latest ≡ true → has_manager (Some r) ≡ true
 
--- a bus reset, with a new directory
-pub record IsReset (w : World) (entry : ResetEntry) (epoch : ℕ) (v : World) : Type 0 where
+-- A bus reset, with a new directory. A controller that lost a response stands in a world as one that heard it; the bus reset is told
+-- of which that is so, since their jobs count as ones whose answer was not heard.
+pub record IsReset (w : World) (entry : ResetEntry) (epoch : ℕ) (lost : ℕ → Bool) (v : World) : Type 0 where
   pub network : IsNetwork entry
   pub grows : Grows w.account entry
   pub account : v.account ≡ account_reset entry w.account
-  pub each : (c : ℕ) → v.controllers c ≡ after_reset epoch (w.controllers c)
+  pub each : (c : ℕ) → v.controllers c ≡ state_reset epoch (lost c) (w.controllers c)
 
 -- the reclaim second is over
 pub record EndsSecond (w : World) (v : World) : Type 0 where
@@ -147,7 +148,7 @@ pub record AsksBreak (w : World) (c i : ℕ) (v : World) : Type 0 where
 pub data Change : Type 0 where
   Turn : (c now : ℕ) → Change
   Answer : (c : ℕ) → (r : Reply) → Change
-  BusReset : (entry : ResetEntry) → (epoch : ℕ) → Change
+  BusReset : (entry : ResetEntry) → (epoch : ℕ) → (lost : ℕ → Bool) → Change
   SecondOver : Change
   Death : (c : ℕ) → Change
   NewConnection : (c i : ℕ) → (slot : Slot) → Change
@@ -157,7 +158,7 @@ pub data Change : Type 0 where
 abbrev pub Happens : World → Change → World → Type 0
 Happens w (Turn c now) v = TakesTurn w c now v
 Happens w (Answer c r) v = HearsAnswer w c r v
-Happens w (BusReset entry epoch) v = IsReset w entry epoch v
+Happens w (BusReset entry epoch lost) v = IsReset w entry epoch lost v
 Happens w SecondOver v = EndsSecond w v
 Happens w (Death c) v = Dies w c v
 Happens w (NewConnection c i slot) v = AsksNew w c i slot v

@@ -1,4 +1,4 @@
-ghost use Rattle.std.specs.Prelude.{◌≡◌, Some, true, List, ℕ};
+ghost use Rattle.std.specs.Prelude.{◌≡◌, Bool, Some, true, List, ℕ};
 ghost use Rattle.fw_csr.specs.declared.reply.Reply.{Reply};
 ghost use Rattle.fw_entry.specs.declared.entry.ResetEntry.{ResetEntry};
 ghost use Rattle.fw_ledger.specs.Account.{Account};
@@ -44,10 +44,10 @@ pub fn restorings_succeed()
 {}
 
 /// The connections that were whole just before the bus reset that opened a reclaim second are whole at its end, in their
-/// slots and on the same channels and units: those whose controller lived on and has finished restoring, and of which no
-/// break waited or was current, and none was accepted since.
+/// slots and on the same channels and units: those whose controller lived on and has finished restoring, had heard that
+/// they were made, and of which no break waited or was current, and none was accepted since.
 pub fn connections_come_back()
-    ensures { (w u v : World) (entry : ResetEntry) (epoch : ℕ) (changes : List Change) → CanReclaim w → IsReset w entry epoch u → Path u changes v → Reclaims w changes v }
+    ensures { (w u v : World) (entry : ResetEntry) (epoch : ℕ) (lost : ℕ → Bool) (changes : List Change) → CanReclaim w → IsReset w entry epoch lost u → Path u changes v → Reclaims w lost changes v }
 {}
 
 /// A whole connection of which no break is current is there in the account: its controller has a connection of its kind at

@@ -15,4 +15,4 @@ pub can_settle : (dir : Directory) (r : ResetEntry) (epoch : ℕ) (l : Account) 
 can_settle dir r epoch l before at b step inputs = record { step = step; second = b.later; living = living_after_reset r l; inputs = inputs }
 
 pub all_reset : (r : ResetEntry) (epoch : ℕ) (l : Account) (before at : ℕ → ControllerState) → BeginsSecond epoch l before at → AllReset (situation_of (after_reset r l) at)
-all_reset r epoch l before at b = λ k lt. record { epoch = epoch; before = before k; fits = b.fits k; no_break = b.no_break k; stands = b.stands k; is = b.each k }
+all_reset r epoch l before at b = λ k lt. record { epoch = epoch; lost = b.lost k; before = before k; fits = b.fits k; no_break = b.no_break k; stands = b.stands k; is = b.each k }

@@ -105,7 +105,7 @@ enough n now d ks s t lt r round le h = none_to_restore t (omega (arith, done, r
 -- ---- right after a bus reset
 
 after_reset : (c : ControllerState) → WasReset c → AfterReset c
-after_reset c w = subst (λ (x : ControllerState). AfterReset x) (sym w.is) (reset_is w.epoch w.before w.no_break w.fits.current w.stands)
+after_reset c w = subst (λ (x : ControllerState). AfterReset x) (sym w.is) (reset_is w.epoch w.lost w.before w.no_break w.fits.current w.stands)
 
 pub enough_after_reset : (n : ℕ) (now : ℕ) (d : Directory) (ks : List ℕ) (s t : Situation) → now < d.over_at → AllReset s → IsRound ks s → 64 * (connections_to_restore s + 1) ≤ n → TakeHalfSteps now d (rounds n ks) s t → NoneToRestore t
 enough_after_reset n now d ks s t lt reset round le h =

@@ -16,7 +16,7 @@ use Rattle.fw_cmp.specs.declared.stage.Stage.TheVariants.{Begin, Made, Ended}
 use Rattle.fw_cmp.specs.Controllers.{ControllerState, slot_at, with_slot, is_restoring, CurrentFits, Fits, first_state, job_for}
 use Rattle.fw_cmp.specs.Decisions.{restores}
 use Rattle.fw_cmp.specs.Requests.{target_of}
-use Rattle.fw_cmp.specs.Resets.{after_reset, current_reset, overtaken, interrupted, decided, slots_reset, slot_reset}
+use Rattle.fw_cmp.specs.Resets.{after_reset, after_lost_reset, state_reset, current_reset, lost_reset, overtaken, interrupted, decided, slots_reset, slot_reset}
 use Rattle.fw_cmp.specs.Turns.{waiting_break}
 use Rattle.fw_rounds.specs.Distance.{is_over}
 use Rattle.fw_rounds.specs.Remaining.{remaining}
@@ -127,11 +127,19 @@ pub record AfterReset (c : ControllerState) : Type 0 where
   pub restores : OnlyRestores c
   pub few : to_come c ≤ 7 * to_restore_of c
 
-pub reset_is : (epoch : ℕ) (c : ControllerState) → waiting_break c ≡ None → CurrentFits c c.current → AsksWhatStands c.current → AfterReset (after_reset epoch c)
-reset_is epoch c none own stands = go (current_reset epoch c c.current) (current_is epoch c c.current none own stands)
-  where
-    go : (x : ControllerState) → IsReset x → AfterReset (slots_reset x)
-    go x r = record { restores = record { no_break = r.no_break; current = r.current }; few = seven_each (slots_reset x) r.few }
+-- the same where the response to its request was lost
+lost_is : (epoch : ℕ) (c : ControllerState) (current : Current) → waiting_break c ≡ None → CurrentFits c current → IsReset (lost_reset epoch (record c { current = current }) current)
+lost_is epoch c Nothing none own = record { no_break = none; current = tt; few = λ i. omega arith }
+lost_is epoch c (Asking j s) none own = interrupted_is epoch (record c { current = Asking j s }) j none own.of_slot
+lost_is epoch c (Hearing j s) none own = interrupted_is epoch (record c { current = Hearing j s }) j none own.of_slot
+lost_is epoch c (Overtaken k o) none own = record { no_break = none; current = tt; few = λ i. omega arith }
+
+slots_done : (x : ControllerState) → IsReset x → AfterReset (slots_reset x)
+slots_done x r = record { restores = record { no_break = r.no_break; current = r.current }; few = seven_each (slots_reset x) r.few }
+
+pub reset_is : (epoch : ℕ) (lost : Bool) (c : ControllerState) → waiting_break c ≡ None → CurrentFits c c.current → AsksWhatStands c.current → AfterReset (state_reset epoch lost c)
+reset_is epoch true c none own stands = slots_done (lost_reset epoch c c.current) (lost_is epoch c c.current none own)
+reset_is epoch false c none own stands = slots_done (current_reset epoch c c.current) (current_is epoch c c.current none own stands)
 
 -- ---- all controllers
 
@@ -141,7 +149,7 @@ unfolding sum_to
 first_has_none = refl
 
 pub first_was_reset : (epoch : ℕ) → Fits first_state → WasReset first_state
-first_was_reset epoch f = record { epoch = epoch; before = first_state; fits = f; no_break = refl; stands = tt; is = refl }
+first_was_reset epoch f = record { epoch = epoch; lost = false; before = first_state; fits = f; no_break = refl; stands = tt; is = refl }
 
 pub few_of_all : (at : ℕ → ControllerState) → ((k : ℕ) → k < 63 → AfterReset (at k)) → sum_to 63 (λ k. to_come (at k)) ≤ 7 * sum_to 63 (λ k. to_restore_of (at k))
 few_of_all at r = seven_times 63 (λ k. to_come (at k)) (λ k. to_restore_of (at k)) (λ k lt. (r k lt).few)

@@ -15,7 +15,7 @@ use Rattle.fw_cmp.specs.declared.job.Purpose.{Purpose}
 use Rattle.fw_cmp.specs.declared.job.Purpose.TheVariants.{Make, Restore, Break}
 use Rattle.fw_cmp.specs.declared.outcome.Outcome.TheVariants.{Reset}
 use Rattle.fw_cmp.specs.declared.stage.Stage.TheVariants.{Begin, Made, Ended}
-use Rattle.fw_cmp.specs.Resets.{after_reset, current_reset, overtaken, interrupted, decided}
+use Rattle.fw_cmp.specs.Resets.{after_reset, after_lost_reset, state_reset, current_reset, lost_reset, overtaken, interrupted, decided}
 use Rattle.fw_rounds.specs.HalfSteps.{AsksWhatStands}
 use Rattle.fw_rounds.proofs.Within.{asking}
 
@@ -107,5 +107,12 @@ current_stands epoch c (Asking j s) h = overtaken_stands epoch (asking c j s) j 
 current_stands epoch c (Hearing j s) h = overtaken_stands epoch (record c { current = Hearing j s }) j s h
 current_stands epoch c (Overtaken i o) h = tt
 
-pub reset_stands : (epoch : ℕ) (c : ControllerState) → AsksWhatStands c.current → AsksWhatStands (after_reset epoch c).current
-reset_stands epoch c h = current_stands epoch c c.current h
+lost_stands : (epoch : ℕ) (c : ControllerState) (current : Current) → AsksWhatStands (lost_reset epoch (record c { current = current }) current).current
+lost_stands epoch c Nothing = tt
+lost_stands epoch c (Asking j s) = interrupted_stands epoch (record c { current = Asking j s }) j
+lost_stands epoch c (Hearing j s) = interrupted_stands epoch (record c { current = Hearing j s }) j
+lost_stands epoch c (Overtaken i o) = tt
+
+pub reset_stands : (epoch : ℕ) (lost : Bool) (c : ControllerState) → AsksWhatStands c.current → AsksWhatStands (state_reset epoch lost c).current
+reset_stands epoch true c h = lost_stands epoch c c.current
+reset_stands epoch false c h = current_stands epoch c c.current h

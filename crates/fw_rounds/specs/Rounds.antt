@@ -1,5 +1,5 @@
 -- Rounds of half steps of many controllers, and what is still to come of all of them.
-use Rattle.std.specs.Prelude.{ℕ, zero, suc, ◌+◌, ◌≡◌, ◌≢◌, ◌==◌, ◌<◌, if◌then◌else◌, List, [], ◌∷◌, ◌++◌, Some, None, IsFalse}
+use Rattle.std.specs.Prelude.{ℕ, zero, suc, ◌+◌, ◌≡◌, ◌≢◌, ◌==◌, ◌<◌, Bool, if◌then◌else◌, List, [], ◌∷◌, ◌++◌, Some, None, IsFalse}
 use Rattle.fw_base.specs.Tables.{sum_to}
 use Rattle.fw_plug.specs.Words.{flag}
 use Rattle.fw_cmp.specs.declared.directory.Directory.{Directory}
@@ -8,7 +8,7 @@ use Rattle.fw_cmp.specs.declared.request.Target.{Target}
 use Rattle.fw_cmp.specs.Controllers.{ControllerState, slot_at, is_restoring, Fits}
 use Rattle.fw_cmp.specs.Holdings.{pending_at}
 use Rattle.fw_rounds.specs.HalfSteps.{after_half_step, progresses, to_come, OnlyRestores, AsksWhatStands, CurrentKnows, Waits}
-use Rattle.fw_cmp.specs.Resets.{after_reset}
+use Rattle.fw_cmp.specs.Resets.{state_reset}
 use Rattle.fw_cmp.specs.Turns.{waiting_break}
 
 -- the words of the registers, and the controllers by device; a device without a living one has the first state
@@ -71,14 +71,15 @@ connections_to_restore s = sum_to 63 (λ k. to_restore_of (s.at k))
 abbrev pub NoneToRestore : Situation → Type 0
 NoneToRestore s = (k i : ℕ) → k < 63 → i < 32 → IsFalse (is_restoring (slot_at (s.at k) i))
 
--- a controller right after a bus reset, which met no waiting break
+-- a controller right after a bus reset, which met no waiting break; it may have lost the response to its request before
 pub record WasReset (c : ControllerState) : Type 0 where
   pub epoch : ℕ
+  pub lost : Bool
   pub before : ControllerState
   pub fits : Fits before
   pub no_break : waiting_break before ≡ None
   pub stands : AsksWhatStands before.current
-  pub is : c ≡ after_reset epoch before
+  pub is : c ≡ state_reset epoch lost before
 
 abbrev pub AllReset : Situation → Type 0
 AllReset s = (k : ℕ) → k < 63 → WasReset (s.at k)

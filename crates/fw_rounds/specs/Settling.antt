@@ -1,5 +1,5 @@
 -- Half steps of controllers over the account, one after another, as rounds take them.
-use Rattle.std.specs.Prelude.{ℕ, ◌≡◌, ◌<◌, false, Some, None, List, [], ◌∷◌, IsTrue, IsSome}
+use Rattle.std.specs.Prelude.{ℕ, ◌≡◌, ◌<◌, Bool, false, Some, None, List, [], ◌∷◌, IsTrue, IsSome}
 use Rattle.fw_base.specs.declared.plug.PlugAt.{PlugAt}
 use Rattle.fw_csr.specs.declared.reply.Reply.{Reply}
 use Rattle.fw_ledger.specs.Account.{Account, Request}
@@ -16,7 +16,7 @@ use Rattle.fw_cmp.specs.declared.stage.Stage.{Stage}
 use Rattle.fw_cmp.specs.Connections.{input_of}
 use Rattle.fw_cmp.specs.Controllers.{ControllerState, slot_at, IsHeard, Fits}
 use Rattle.fw_cmp.specs.Requests.{target_of}
-use Rattle.fw_cmp.specs.Resets.{after_hear, after_reset as controller_reset}
+use Rattle.fw_cmp.specs.Resets.{after_hear, state_reset as controller_reset}
 use Rattle.fw_cmp.specs.Turns.{after_next, waiting_break}
 use Rattle.fw_step.specs.Moves.{carried_out}
 use Rattle.fw_step.specs.Registers.{IsAnswer}
@@ -55,4 +55,5 @@ pub record BeginsSecond (epoch : ℕ) (l : Account) (before at : ℕ → Control
   pub fits : (k : ℕ) → Fits (before k)
   pub no_break : (k : ℕ) → waiting_break (before k) ≡ None
   pub stands : (k : ℕ) → AsksWhatStands (before k).current
-  pub each : (k : ℕ) → at k ≡ controller_reset epoch (before k)
+  pub lost : ℕ → Bool  -- which of them had lost a response
+  pub each : (k : ℕ) → at k ≡ controller_reset epoch (lost k) (before k)

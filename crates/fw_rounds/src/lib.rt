@@ -2,7 +2,7 @@
 //! from its next success over registers that stand still, progress of all within eight rounds, and the count.
 #![tactic(auto)]
 
-ghost use Rattle.std.specs.Prelude.{◌≡◌, ◌≢◌, ◌+◌, ◌*◌, ◌<◌, ◌≤◌, ◌⊎◌, ℕ, List, Some, None, slice_get, IsTrue, IsFalse};
+ghost use Rattle.std.specs.Prelude.{◌≡◌, ◌≢◌, ◌+◌, ◌*◌, ◌<◌, ◌≤◌, ◌⊎◌, ℕ, Bool, List, Some, None, slice_get, IsTrue, IsFalse};
 ghost use Rattle.fw_csr.specs.declared.reply.Reply.{Reply};
 ghost use Rattle.fw_plug.specs.Words.{flag};
 ghost use Rattle.fw_base.specs.declared.plug.PlugAt.{PlugAt};
@@ -16,7 +16,7 @@ ghost use Rattle.fw_cmp.specs.declared.request.Target.{Target};
 ghost use Rattle.fw_cmp.specs.declared.stage.Stage.{Stage};
 ghost use Rattle.fw_cmp.specs.Controllers.{ControllerState, slot_at, is_restoring, CurrentFits, Fits, IsHeard, first_state};
 ghost use Rattle.fw_cmp.specs.Stages.{hear};
-ghost use Rattle.fw_cmp.specs.Resets.{after_hear, after_reset};
+ghost use Rattle.fw_cmp.specs.Resets.{after_hear, state_reset};
 ghost use Rattle.fw_cmp.specs.Turns.{after_next};
 ghost use Rattle.fw_step.specs.Moves.{carried_out};
 ghost use Rattle.fw_step.specs.Registers.{IsAnswer};
@@ -84,7 +84,7 @@ pub fn only_living_controllers_allocate()
 /// A request stands only of a stage that makes one: what comes next begins it, and a bus reset leaves it so.
 pub fn requests_stand_of_their_stage()
     ensures next { (now : ℕ) (d : Directory) (c : ControllerState) → IsHeard c.current → AsksWhatStands (after_next now d c).current }
-    ensures reset { (epoch : ℕ) (c : ControllerState) → AsksWhatStands c.current → AsksWhatStands (after_reset epoch c).current }
+    ensures reset { (epoch : ℕ) (lost : Bool) (c : ControllerState) → AsksWhatStands c.current → AsksWhatStands (state_reset epoch lost c).current }
 {}
 
 /// A controller that has just started has nothing to restore, and is as a bus reset leaves it. So a round takes in each

@@ -1,5 +1,5 @@
 -- The account goes along the entries of actions, each answer is its word, and each front of what they write is reached.
-use Rattle.std.proofs.Common.{◌≡◌, ◌⊎◌, inl, inr, ℕ, ◌≤◌, cond, Bool, true, false, List, [], ◌∷◌, ◌++◌, Option, Some, None, refl, ap, sym, subst, ◌∙◌, arith, IsTrue}
+use Rattle.std.proofs.Common.{◌≡◌, ◌⊎◌, inl, inr, ℕ, ◌≤◌, cond, Bool, true, false, List, [], ◌∷◌, ◌++◌, Option, Some, None, refl, ap, sym, subst, ◌∙◌, arith, IsTrue, ◌+◌}
 use Rattle.std.specs.Prelude.{⊤}
 use Rattle.fw_async.specs.declared.packet.Packet.{Packet}
 use Rattle.fw_entry.specs.declared.entry.Entry.{Entry}
@@ -11,13 +11,13 @@ use Rattle.fw_ledger.specs.Events.{after_second as account_second}
 use Rattle.fw_ledger.specs.Fold.{account_from, next_account, entries_of}
 use Rattle.fw_run.specs.declared.order.Transaction.{Transaction}
 use Rattle.fw_run.specs.Giving.{at_most, at_cycle}
-use Rattle.fw_run.specs.Entries.{second_over, died, started, inserted, ejected, unsettled}
+use Rattle.fw_run.specs.Entries.{second_over, died, started, inserted, ejected, unsettled, lost}
 use Rattle.fw_entry.specs.declared.entry.Entry.TheVariants.{End as EndEntry}
-use Rattle.fw_run.specs.State.{State, Declared, is_on, with_device}
+use Rattle.fw_run.specs.State.{State, Declared, is_on, with_device, is_living}
 use Rattle.fw_run.specs.Frames.{command_write, response_write}
 use Rattle.fw_run.specs.Spaces.{answer_packet, target_node, transaction_head, access_request}
 use Rattle.fw_run.specs.Streams.{bytes_of, cycle_start, stream_packet}
-use Rattle.fw_run.specs.Actions.{Action, AddDevice, AddCable, ResetBus, StartConnection, StartBreak, HalfStep, Rest, Unsettled, Pass, EndSecond, Die, CarryOut, Start, Ask, Answer, ShowWord, SendCommand, SendFrame, Receive, InsertTape, EjectTape, StartCycle, SendPacket, Finish, Answers, Declares, Joins, with_topology, Step, Steps}
+use Rattle.fw_run.specs.Actions.{Action, AddDevice, AddCable, ResetBus, StartConnection, StartBreak, HalfStep, Rest, Unsettled, Pass, EndSecond, Die, CarryOut, Lose, TellLoss, Start, Ask, Answer, ShowWord, SendCommand, SendFrame, Receive, InsertTape, EjectTape, StartCycle, SendPacket, Finish, Answers, Declares, Joins, with_topology, Step, Steps, counting, counted}
 use Rattle.fw_run.specs.Good.{IsGood}
 use Rattle.fw_run.specs.Headline.{IsAnswered, IsReadIn}
 use Rattle.fw_run.proofs.Leads.{NextIs, entered_next}
@@ -25,16 +25,17 @@ use Rattle.fw_run.proofs.Led.{Led, Says, IsAsked, unread, led_says, led_silent, 
 use Rattle.fw_run.proofs.Steps.{step_good}
 use Rattle.fw_run.proofs.FrameWrites.{write_led, received_led}
 use Rattle.fw_run.proofs.Transactions.{ask_led, answer_led, show_led, read_pair}
+use Rattle.fw_run.proofs.Taking.{Taken, listens, keeps_deaf, forces_reset, taken_as}
 
 -- ---- devices and cables
 
 declare_led : (s : State) (names : List (List ℕ)) (n : Declared) (out : List Timed) (t : State) → Declares names (record s { declared = n }) out t → Led s out t
-declare_led s [] n out t r = reset_led s n 0 out t r
+declare_led s [] n out t r = reset_led s n 1 s.half_steps 0 out t r
 declare_led s (x ∷ names) n out t r = led_silent s out t r.0 (ap (λ (z : State). z.account) r.1) (let same = ap (λ (z : State). z.clock.cycle) r.1 in omega (arith, same))
 
 join_led : (x y : Bool) (a b : ℕ) (s : State) (g : Topology) (out : List Timed) (t : State) → Joins x y a b (with_topology s g) out t → Led s out t
-join_led true false a b s g out t r = reset_led s (record s.declared { topology = g }) a out t r
-join_led false true a b s g out t r = reset_led s (record s.declared { topology = g }) b out t r
+join_led true false a b s g out t r = reset_led s (record s.declared { topology = g }) (s.resets + 1) s.half_steps a out t r.1
+join_led false true a b s g out t r = reset_led s (record s.declared { topology = g }) (s.resets + 1) s.half_steps b out t r.1
 join_led true true a b s g out t r = led_silent s out t r.0 (ap (λ (z : State). z.account) r.1) (let same = ap (λ (z : State). z.clock.cycle) r.1 in omega (arith, same))
 join_led false false a b s g out t r = led_silent s out t r.0 (ap (λ (z : State). z.account) r.1) (let same = ap (λ (z : State). z.clock.cycle) r.1 in omega (arith, same))
 
@@ -53,31 +54,38 @@ event s u e out t is same next says later =
 second_next : (l : Account) → IsTrue l.reclaiming → next_account l second_over ≡ Some (account_second l)
 second_next l runs = ap (λ b. cond b (Some (account_second l)) None) runs
 
+taken_led : (s : State) (d : ℕ) (out : List Timed) (t : State) → IsGood s → IsTrue (is_living s d) → Taken s d out t → Led s out t
+taken_led s d out t g lives (listens quiet said is) = half_led s d out t g lives said (ap (λ (z : State). z.account) is) (ap (λ (z : State). z.clock) is)
+taken_led s d out t g lives (keeps_deaf deaf said is) = still s _ out t said is refl (omega arith)
+taken_led s d out t g lives (forces_reset deaf r) = reset_led s s.declared s.resets (s.half_steps + 1) d out t r
+
 pub step_led : (s t : State) (a : Action) (out : List Timed) → IsGood s → Step s a out t → Led s out t
 step_led s t (AddDevice name kind ports speed) out g x = declare_led s s.declared.names (with_device s.declared name kind ports speed) out t x.1.4
 step_led s t (AddCable a b) out g x = join_led (is_on s a.device) (is_on s b.device) a.device b.device s x.1.0 out t x.1.2
-step_led s t (ResetBus d) out g x = reset_led s s.declared d out t x.1.1
+step_led s t (ResetBus d) out g x = reset_led s s.declared (s.resets + 1) s.half_steps d out t x.1.1.1
 step_led s t (StartConnection d w) out g x = still s _ out t x.1.3 x.1.4 refl (omega arith)
 step_led s t (StartBreak d i) out g x = still s _ out t x.1.2 x.1.3 refl (omega arith)
-step_led s t (HalfStep d) out g x = half_led s d out t g x.1.0 x.1.2 (ap (λ (z : State). z.account) x.1.3) (ap (λ (z : State). z.clock) x.1.3)
+step_led s t (HalfStep d) out g x = taken_led s d out t g x.1.0 (taken_as s d out t x.1.2)
 step_led s t (Rest n) out g x = still s _ out t x.1.2 x.1.3 refl (omega arith)
-step_led s t Unsettled out g x = event s _ unsettled out t x.1.1 x.1.2 refl (tt, λ u. tt) (omega arith)
+step_led s t Unsettled out g x = event s _ unsettled out t x.1.1 x.1.2 refl ((tt, tt), λ u. tt) (omega arith)
 step_led s t (Pass n) out g x = still s _ out t x.1.2 x.1.3 refl (omega arith)
-step_led s t EndSecond out g x = event s _ second_over out t x.1.3 x.1.4 (entered_next s.account _ second_over (second_next s.account x.1.1)) (tt, λ u. tt) (omega arith)
-step_led s t (Die d) out g x = event s _ (died d) out t x.1.1 x.1.2 refl (tt, λ u. tt) (omega arith)
+step_led s t EndSecond out g x = event s _ second_over out t x.1.3 x.1.4 (entered_next s.account _ second_over (second_next s.account x.1.1)) ((tt, tt), λ u. tt) (omega arith)
+step_led s t (Die d) out g x = event s _ (died d) out t x.1.1 x.1.2 refl ((tt, tt), λ u. tt) (omega arith)
 step_led s t (CarryOut d) out g x = half_led s d out t g x.1.0 x.1.2 (ap (λ (z : State). z.account) x.1.3) (ap (λ (z : State). z.clock) x.1.3)
-step_led s t (Start d) out g x = event s _ (started d) out t x.1.2 x.1.3 refl (tt, λ u. tt) (omega arith)
+step_led s t (Lose d) out g x = half_led s d out t g x.1.0 x.1.3 (ap (λ (z : State). z.account) x.1.4) (ap (λ (z : State). z.clock) x.1.4)
+step_led s t (TellLoss d) out g x = event s _ (lost d) out t x.1.1 x.1.2 refl ((tt, tt), λ u. tt) (omega arith)
+step_led s t (Start d) out g x = event s _ (started d) out t x.1.2 x.1.3 refl ((tt, tt), λ u. tt) (omega arith)
 step_led s t (Ask y) out g x = ask_led s y out t x.1.1 x.1.3 x.1.4
 step_led s t Answer out g x = answer_led s out t x
-step_led s t (ShowWord d offset) out g x = show_led s d offset out t g x.1.0 x.1.3 x.1.4
+step_led s t (ShowWord d offset) out g x = show_led s d offset out t g x.1.0 x.1.2 x.1.3 x.1.4
 step_led s t (SendCommand a b bytes) out g x = write_led s (command_write a b bytes) _ out t x.1.3 x.1.4 refl refl
 step_led s t (SendFrame d) out g x = let y = x.1 in write_led s (response_write d y.to y.told.1) _ out t y.out_is y.state_is refl refl
 step_led s t (Receive o) out g x = received_led s o out t x.1
-step_led s t (InsertTape d tape system) out g x = event s _ (inserted d tape system) out t x.1.3 x.1.4 refl (tt, λ u. tt) (omega arith)
-step_led s t (EjectTape d) out g x = event s _ (ejected d) out t x.1.3 x.1.4 refl (tt, λ u. tt) (omega arith)
-step_led s t StartCycle out g x = event s _ (Async (cycle_start x.1.1.0.root s.clock.cycle)) out t x.1.1.2 x.1.2 refl (tt, unread s.account (cycle_start x.1.1.0.root s.clock.cycle) (λ q. tt)) (omega arith)
-step_led s t (SendPacket p block) out g x = event s _ (Iso (stream_packet s p (bytes_of block))) out t x.1.2 x.1.3 refl (tt, λ u. tt) (omega arith)
-step_led s t Finish out g x = event s _ EndEntry out t x.1.0 x.1.1 refl (tt, λ u. tt) (omega arith)
+step_led s t (InsertTape d tape system) out g x = event s _ (inserted d tape system) out t x.1.3 x.1.4 refl ((tt, tt), λ u. tt) (omega arith)
+step_led s t (EjectTape d) out g x = event s _ (ejected d) out t x.1.3 x.1.4 refl ((tt, tt), λ u. tt) (omega arith)
+step_led s t StartCycle out g x = event s _ (Async (cycle_start x.1.1.0.root s.clock.cycle)) out t x.1.1.2 x.1.2 refl ((tt, tt), unread s.account (cycle_start x.1.1.0.root s.clock.cycle) (λ q. tt)) (omega arith)
+step_led s t (SendPacket p block) out g x = event s _ (Iso (stream_packet s p (bytes_of block))) out t x.1.2 x.1.3 refl ((tt, tt), λ u. tt) (omega arith)
+step_led s t Finish out g x = event s _ EndEntry out t x.1.0 x.1.1 refl ((tt, tt), λ u. tt) (omega arith)
 
 -- ---- what follows an entry
 
@@ -103,6 +111,8 @@ only_answer t x (Pass n) out v waits f = absurd (clash t.transaction x waits f.0
 only_answer t x EndSecond out v waits f = absurd (clash t.transaction x waits f.0)
 only_answer t x (Die d) out v waits f = absurd (clash t.transaction x waits f.0)
 only_answer t x (CarryOut d) out v waits f = absurd (clash t.transaction x waits f.0)
+only_answer t x (Lose d) out v waits f = absurd (clash t.transaction x waits f.0)
+only_answer t x (TellLoss d) out v waits f = absurd (clash t.transaction x waits f.0)
 only_answer t x (Start d) out v waits f = absurd (clash t.transaction x waits f.0)
 only_answer t x (Ask y) out v waits f = absurd (clash t.transaction x waits f.0)
 only_answer t x (ShowWord d offset) out v waits f = absurd (clash t.transaction x waits f.0)

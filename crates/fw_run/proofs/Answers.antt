@@ -34,7 +34,7 @@ pub answered : (p : Space) (offset : ℕ) (w : Option Swap) (v : ℕ) → Spaces
 answered p offset None v here = rw here refl
 answered p offset (Some swap) v here = rw here refl
 
-refused : (p : Space) (offset : ℕ) (w : Option Swap) → Spaces.register_at p offset ≡ None → (answer_of p (request_at offset w)).reply ≡ record { rcode = 7; value = 0 }
+pub refused : (p : Space) (offset : ℕ) (w : Option Swap) → Spaces.register_at p offset ≡ None → (answer_of p (request_at offset w)).reply ≡ record { rcode = 7; value = 0 }
 refused p offset None here = rw here refl
 refused p offset (Some swap) here = rw here refl
 
@@ -57,7 +57,7 @@ output_there s k few there =
     let g : (offset == 0xFFFF_F000_0904 + 4 * k) ≡ true = grind (arith, nat_tests) in
     rw (a, b, c, d, e, f, g, there) refl
 
-output_missing : (s : Space) (k : ℕ) → k < 31 → nat_lt k (output_plugs_of s.kind) ≡ false → Spaces.register_at s (0xFFFF_F000_0904 + 4 * k) ≡ None
+pub output_missing : (s : Space) (k : ℕ) → k < 31 → nat_lt k (output_plugs_of s.kind) ≡ false → Spaces.register_at s (0xFFFF_F000_0904 + 4 * k) ≡ None
 output_missing s k few there =
     let offset : ℕ = 0xFFFF_F000_0904 + 4 * k in
     let a : lies_within 0xFFFF_F000_021C 0xFFFF_F000_0228 offset ≡ false = grind (arith, nat_tests) in
@@ -81,7 +81,7 @@ input_there s k few there =
     let g : (offset == 0xFFFF_F000_0984 + 4 * k) ≡ true = grind (arith, nat_tests) in
     rw (a, b, c, d, e, f, g, there) refl
 
-input_missing : (s : Space) (k : ℕ) → k < 31 → nat_lt k (input_plugs_of s.kind) ≡ false → Spaces.register_at s (0xFFFF_F000_0984 + 4 * k) ≡ None
+pub input_missing : (s : Space) (k : ℕ) → k < 31 → nat_lt k (input_plugs_of s.kind) ≡ false → Spaces.register_at s (0xFFFF_F000_0984 + 4 * k) ≡ None
 input_missing s k few there =
     let offset : ℕ = 0xFFFF_F000_0984 + 4 * k in
     let a : lies_within 0xFFFF_F000_021C 0xFFFF_F000_0228 offset ≡ false = grind (arith, nat_tests) in

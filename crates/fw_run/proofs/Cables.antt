@@ -1,5 +1,5 @@
 -- A cable, and a bus reset that a device begins, lead from a good state to a good state.
-use Rattle.std.proofs.Common.{◌≡◌, ◌↔◌, ℕ, ◌<◌, List, length, Bool, true, false, Option, Some, None, refl, ap, sym, subst, ◌∙◌, arith, is_some, IsTrue}
+use Rattle.std.proofs.Common.{◌≡◌, ◌↔◌, ℕ, ◌<◌, List, length, Bool, true, false, Option, Some, None, refl, ap, sym, subst, ◌∙◌, arith, is_some, IsTrue, not, ◌&&◌}
 use Rattle.fw_entry.specs.declared.entry.ResetEntry.{ResetEntry}
 use Rattle.fw_entry.specs.declared.entry.Timed.{Timed}
 use Rattle.fw_tree.specs.declared.facts.End.{End}
@@ -12,11 +12,14 @@ use Rattle.fw_devices.specs.Entries.{node_number, row_of}
 use Rattle.fw_devices.specs.Resets.{Shows}
 use Rattle.fw_devices.proofs.BusLaws.{bus_stays, on_bus_declared}
 use Rattle.fw_devices.proofs.JoinLaws.{bus_grows}
-use Rattle.fw_run.specs.State.{State, Declared, is_on, number_in}
-use Rattle.fw_run.specs.Actions.{Resets, Joins, with_topology}
+use Rattle.fw_run.specs.State.{State, Declared, is_on, number_in, is_living, is_linked, is_deaf, linked_number, with_link}
+use Rattle.fw_run.specs.Actions.{Resets, Joins, with_topology, counting, counted, Begins}
 use Rattle.fw_run.specs.Good.{IsGood, IsLatest, AreDeclared}
 use Rattle.fw_run.proofs.Networks.{shows_cabled, never_both}
+use Rattle.fw_run.proofs.OffCables.{entry_cabled}
 use Rattle.fw_run.proofs.Resets.{MayReset, reset_good}
+use Rattle.fw_run.proofs.Times.{counting_good, counted_good}
+use Rattle.fw_entry.specs.declared.nodes.NodeRow.{NodeRow}
 
 -- ---- which devices are on the bus
 
@@ -55,9 +58,10 @@ cabled_declared n u a b j h = record {
   named = h.named ∙ ap (λ (xs : List PhyFacts). length xs) (sym j.same);
 }
 
-pub cabled_may : (s : State) (u : Topology) (a b : End) → IsGood s → IsJoined s.declared.topology u a b → 0 < length s.declared.names → MayReset s (record s.declared { topology = u })
-cabled_may s u a b g j some = record {
-  good = g;
+pub cabled_may : (s : State) (u : Topology) (a b : End) → IsGood s → IsJoined s.declared.topology u a b → 0 < length s.declared.names → s.resets < 10000 → MayReset (counting s) (record s.declared { topology = u })
+cabled_may s u a b g j some few = record {
+  good = counting_good s g few;
+  counted = omega (arith, g.losses.came);
   declared = cabled_declared s.declared u a b j g.declared;
   some = some;
   kinds = λ e is. refl;
@@ -73,6 +77,7 @@ cabled_good s u a b g j off_a off_b = record {
   stands = g.stands;
   unused = g.unused;
   time = record { second = g.time.second; over_at = g.time.over_at; cycle = g.time.cycle };
+  losses = g.losses;
   half_steps = g.half_steps;
   written = g.written;
   decks = g.decks;
@@ -88,14 +93,15 @@ cabled_good s u a b g j off_a off_b = record {
       h.2,
       h.3,
       h.4,
+      (h.5.0, entry_cabled s.declared.topology u a b s.declared.kinds e.epoch h.5.0 e j (λ on. off_a ((on_is_bus s g h.0 a.device).1 on)) (λ on. off_b ((on_is_bus s g h.0 b.device).1 on)) h.5.1),
     )
 
 pub cable_good : (s : State) (u : Topology) (a b : End) (out : List Timed) (t : State) → IsGood s → IsJoined s.declared.topology u a b → Joins (is_on s a.device) (is_on s b.device) a.device b.device (with_topology s u) out t → IsGood t
 cable_good s u a b out t g j h = go (is_on s a.device) (is_on s b.device) refl refl h
   where
     go : (x y : Bool) → is_on s a.device ≡ x → is_on s b.device ≡ y → Joins x y a.device b.device (with_topology s u) out t → IsGood t
-    go true false on_a off_b r = reset_good s (record s.declared { topology = u }) a.device out t (cabled_may s u a b g j (on_some s a.device g on_a)) r
-    go false true off_a on_b r = reset_good s (record s.declared { topology = u }) b.device out t (cabled_may s u a b g j (on_some s b.device g on_b)) r
+    go true false on_a off_b r = reset_good (counting s) (record s.declared { topology = u }) a.device out t (cabled_may s u a b g j (on_some s a.device g on_a) r.0) r.1
+    go false true off_a on_b r = reset_good (counting s) (record s.declared { topology = u }) b.device out t (cabled_may s u a b g j (on_some s b.device g on_b) r.0) r.1
     go true true on_a on_b r =
         let some = on_some s a.device g on_a in
         absurd (never_both s.declared.topology u a b g.declared.made j ((on_is_bus s g some a.device).0 on_a) ((on_is_bus s g some b.device).0 on_b))
@@ -103,8 +109,28 @@ cable_good s u a b out t g j h = go (is_on s a.device) (is_on s b.device) refl r
 
 -- ---- a bus reset that a device begins
 
-pub begun_may : (s : State) (d : ℕ) → IsGood s → IsTrue (is_on s d) → MayReset s s.declared
-begun_may s d g on = record { good = g; declared = g.declared; some = on_some s d g on; kinds = λ e is. refl; stays = λ e is k walk. walk }
+pub begun_may : (s : State) (d : ℕ) → IsGood s → IsTrue (is_on s d) → s.resets < 10000 → MayReset (counting s) s.declared
+begun_may s d g on few = record { good = counting_good s g few; counted = omega (arith, g.losses.came); declared = g.declared; some = on_some s d g on; kinds = λ e is. refl; stays = λ e is k walk. walk }
 
-pub begun_good : (s : State) (d : ℕ) (out : List Timed) (t : State) → IsGood s → IsTrue (is_on s d) → Resets s d out t → IsGood t
-begun_good s d out t g on r = reset_good s s.declared d out t (begun_may s d g on) r
+pub begun_good : (s : State) (d : ℕ) (out : List Timed) (t : State) → IsGood s → IsTrue (is_on s d) → Begins s d out t → IsGood t
+begun_good s d out t g on r = reset_good (counting s) s.declared d out t (begun_may s d g on r.0) r.1
+
+-- ---- a bus reset that a controller forces
+
+-- a living controller's device is on the bus
+pub living_on : (s : State) (d : ℕ) → IsTrue (is_living s d) → IsTrue (is_on s d)
+living_on s d lives = go s.account.latest (first (is_linked s d) (not (s.dead d)) lives)
+  where
+    first : (a b : Bool) → (a && b) ≡ true → a ≡ true
+    first a b e = grind (arith, e)
+
+    of_node : (rows : List NodeRow) (n : Option ℕ) → is_some (with_link rows n) ≡ true → is_some n ≡ true
+    of_node rows None e = e
+    of_node rows (Some n) e = refl
+
+    go : (o : Option ResetEntry) → is_some (linked_number o d) ≡ true → is_some (number_in o d) ≡ true
+    go None e = e
+    go (Some r) e = of_node r.nodes (node_number r.nodes d) e
+
+pub forced_may : (s : State) (d : ℕ) → IsGood s → IsTrue (is_living s d) → IsTrue (is_deaf s d) → s.half_steps < 4000000 → MayReset (counted s 1) s.declared
+forced_may s d g lives deaf few = record { good = counted_good s 1 g (omega (arith, few)); counted = g.losses.counted d deaf; declared = g.declared; some = on_some s d g (living_on s d lives); kinds = λ e is. refl; stays = λ e is k walk. walk }

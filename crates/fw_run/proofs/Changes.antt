@@ -1,5 +1,5 @@
 -- Each action is a change of the account and all controllers, as the reclaim theorem speaks of them.
-use Rattle.std.proofs.Common.{◌≡◌, inl, inr, ℕ, ◌&&◌, not, List, [], ◌∷◌, Bool, true, false, Option, None, Ok, unwrap_or, refl, ap, sym, subst, arith, IsTrue}
+use Rattle.std.proofs.Common.{◌≡◌, inl, inr, ℕ, ◌&&◌, not, List, [], ◌∷◌, Bool, true, false, Option, None, Ok, unwrap_or, refl, ap, sym, subst, arith, IsTrue, ◌<◌}
 use Rattle.fw_entry.specs.declared.entry.ResetEntry.{ResetEntry}
 use Rattle.fw_entry.specs.declared.entry.Timed.{Timed}
 use Rattle.fw_tree.specs.declared.facts.End.{End}
@@ -19,13 +19,13 @@ use Rattle.fw_reclaim.specs.Worlds.{World, Change, Turn, Answer as Answered, Bus
 use Rattle.fw_reclaim.specs.Worlds as Worlds
 use Rattle.fw_reclaim.specs.Whole as Whole
 use Rattle.fw_run.specs.declared.order.Wanted.{Wanted}
-use Rattle.fw_run.specs.State.{State, Declared, list_to, linked_number, manager_in, is_on, is_linked, is_living, directory_of, with_device}
+use Rattle.fw_run.specs.State.{State, Declared, list_to, linked_number, manager_in, is_on, is_linked, is_living, directory_of, with_device, is_deaf}
 use Rattle.fw_run.specs.HalfSteps.{asks, taken, half_of, after_half, with_controller}
-use Rattle.fw_run.specs.Actions.{Action, AddDevice, AddCable, ResetBus, StartConnection, StartBreak, HalfStep, Rest, Unsettled, Pass, EndSecond, Die, CarryOut, Start, Ask, Answer, ShowWord, SendCommand, SendFrame, Receive, InsertTape, EjectTape, StartCycle, SendPacket, Finish, Resets, Declares, Joins, with_topology, slot_of, start_of, with_connection, after_cycles, after_second, after_death, after_start, counted, Step, Steps}
+use Rattle.fw_run.specs.Actions.{Action, AddDevice, AddCable, ResetBus, StartConnection, StartBreak, HalfStep, Rest, Unsettled, Pass, EndSecond, Die, CarryOut, Lose, TellLoss, Start, Ask, Answer, ShowWord, SendCommand, SendFrame, Receive, InsertTape, EjectTape, StartCycle, SendPacket, Finish, Resets, Declares, Joins, with_topology, slot_of, start_of, with_connection, after_cycles, after_second, after_death, after_start, counted, Step, Steps, counting, beginning, after_loss}
 use Rattle.fw_run.specs.Good.{IsGood, world_of}
 use Rattle.fw_run.specs.Reclaiming.{IsHarmless, AreHarmless}
 use Rattle.fw_run.proofs.Buses.{linked_small, shows_bus}
-use Rattle.fw_run.proofs.Cables.{on_some, cabled_may, begun_may}
+use Rattle.fw_run.proofs.Cables.{on_some, cabled_may, begun_may, forced_may}
 use Rattle.fw_run.proofs.Declares.{first_may}
 use Rattle.fw_run.proofs.Directories.{told}
 use Rattle.fw_run.proofs.Events.{living_small, starts_is, makes}
@@ -36,6 +36,7 @@ use Rattle.fw_run.proofs.Resets.{MayReset, declaring, reset_change}
 use Rattle.fw_run.proofs.Steps.{step_good}
 use Rattle.fw_run.proofs.Times.{second_ends}
 use Rattle.fw_run.proofs.Turns.{Turns, sends, rests, turns, with_account, becomes, living_linked}
+use Rattle.fw_run.proofs.Taking.{Taken, listens, keeps_deaf, forces_reset, taken_as}
 
 -- what controllers are told where this is the latest reset entry
 abbrev told_by : State → Option ResetEntry → Directory
@@ -119,22 +120,26 @@ half_change s d a g lives = go (s.controllers d).current refl
 
 -- ---- bus resets
 
-pub reset_is : (s : State) (n : Declared) (initiator : ℕ) (out : List Timed) (t : State) → MayReset s n → (r : Resets (declaring s n) initiator out t) → IsReset (world_of s) r.entry r.entry.epoch (world_of t)
-reset_is s n initiator out t m r = subst (λ (z : State). IsReset (world_of s) r.entry r.entry.epoch (world_of z)) (sym r.state_is) (reset_change s n initiator out t m r)
+pub reset_is : (s : State) (n : Declared) (initiator : ℕ) (out : List Timed) (t : State) → MayReset s n → (r : Resets (declaring s n) initiator out t) → IsReset (world_of s) r.entry r.entry.epoch (is_deaf s) (world_of t)
+reset_is s n initiator out t m r = subst (λ (z : State). IsReset (world_of s) r.entry r.entry.epoch (is_deaf s) (world_of z)) (sym r.state_is) (reset_change s n initiator out t m r)
 
 resets : (s : State) (a : Action) (n : Declared) (initiator : ℕ) (out : List Timed) (t : State) → MayReset s n → Resets (declaring s n) initiator out t → IsChange s a t
-resets s a n initiator out t m r = record { change = BusReset r.entry r.entry.epoch; happens = reset_is s n initiator out t m r; harmless = λ d i h. tt }
+resets s a n initiator out t m r = record { change = BusReset r.entry r.entry.epoch (is_deaf s); happens = reset_is s n initiator out t m r; harmless = λ d i h. tt }
 
-declare_change : (s : State) (a : Action) (names : List (List ℕ)) (n : Declared) (out : List Timed) (t : State) → (names ≡ [] → MayReset s n) → Declares names (declaring s n) out t → IsChange s a t
-declare_change s a [] n out t m r = resets s a n 0 out t (m refl) r
+-- one that counts, or that comes in a half step
+again : (s u : State) (a : Action) (t : State) → world_of u ≡ world_of s → IsChange u a t → IsChange s a t
+again s u a t same c = record { change = c.change; happens = subst (λ w. Worlds.Happens w c.change (world_of t)) same c.happens; harmless = c.harmless }
+
+declare_change : (s : State) (a : Action) (names : List (List ℕ)) (n : Declared) (out : List Timed) (t : State) → (names ≡ [] → MayReset (beginning s) n) → Declares names (declaring s n) out t → IsChange s a t
+declare_change s a [] n out t m r = again s (beginning s) a t refl (resets (beginning s) a n 0 out t (m refl) r)
 declare_change s a (x ∷ names) n out t m r = elsewhere s a t (ap world_of r.1)
 
 join_change : (s : State) (act : Action) (u : Topology) (a b : End) (out : List Timed) (t : State) → IsGood s → IsJoined s.declared.topology u a b → Joins (is_on s a.device) (is_on s b.device) a.device b.device (with_topology s u) out t → IsChange s act t
 join_change s act u a b out t g j h = go (is_on s a.device) (is_on s b.device) refl refl h
   where
     go : (x y : Bool) → is_on s a.device ≡ x → is_on s b.device ≡ y → Joins x y a.device b.device (with_topology s u) out t → IsChange s act t
-    go true false on_a off_b r = resets s act (record s.declared { topology = u }) a.device out t (cabled_may s u a b g j (on_some s a.device g on_a)) r
-    go false true off_a on_b r = resets s act (record s.declared { topology = u }) b.device out t (cabled_may s u a b g j (on_some s b.device g on_b)) r
+    go true false on_a off_b r = again s (counting s) act t refl (resets (counting s) act (record s.declared { topology = u }) a.device out t (cabled_may s u a b g j (on_some s a.device g on_a) r.0) r.1)
+    go false true off_a on_b r = again s (counting s) act t refl (resets (counting s) act (record s.declared { topology = u }) b.device out t (cabled_may s u a b g j (on_some s b.device g on_b) r.0) r.1)
     go true true on_a on_b r = elsewhere s act t (ap world_of r.1)
     go false false off_a off_b r = elsewhere s act t (ap world_of r.1)
 
@@ -179,19 +184,26 @@ second_change s runs = record {
 moved : (s u t : State) (a : Action) → t ≡ u → IsChange s a u → IsChange s a t
 moved s u t a is c = subst (IsChange s a) (sym is) c
 
+taken_change : (s : State) (d : ℕ) (out : List Timed) (t : State) → IsGood s → IsTrue (is_living s d) → s.half_steps < 4000000 → Taken s d out t → IsChange s (HalfStep d) t
+taken_change s d out t g lives few (listens quiet said is) = let c = half_change s d (HalfStep d) g lives in moved s (counted (after_half s d) 1) t (HalfStep d) is (record { change = c.change; happens = c.happens; harmless = c.harmless })
+taken_change s d out t g lives few (keeps_deaf deaf said is) = elsewhere s (HalfStep d) t (ap world_of is)
+taken_change s d out t g lives few (forces_reset deaf r) = again s (counted s 1) (HalfStep d) t refl (resets (counted s 1) (HalfStep d) s.declared d out t (forced_may s d g lives deaf few) r)
+
 pub step_change : (s : State) (a : Action) (out : List Timed) (t : State) → IsGood s → Step s a out t → IsChange s a t
 step_change s (AddDevice name kind ports speed) out t g x = declare_change s (AddDevice name kind ports speed) s.declared.names (with_device s.declared name kind ports speed) out t (λ empty. first_may s name kind ports speed (record { good = g; room = x.1.0; some = x.1.1; most = x.1.2; fast = x.1.3 }) empty) x.1.4
 step_change s (AddCable a b) out t g x = join_change s (AddCable a b) x.1.0 a b out t g x.1.1 x.1.2
-step_change s (ResetBus d) out t g x = resets s (ResetBus d) s.declared d out t (begun_may s d g x.1.0) x.1.1
+step_change s (ResetBus d) out t g x = again s (counting s) (ResetBus d) t refl (resets (counting s) (ResetBus d) s.declared d out t (begun_may s d g x.1.0 x.1.1.0) x.1.1.1)
 step_change s (StartConnection d w) out t g x = moved s _ t (StartConnection d w) x.1.4 (start_change s d x.1.2.0 w g x.1.0 x.1.1 x.1.2.1)
 step_change s (StartBreak d i) out t g x = moved s _ t (StartBreak d i) x.1.3 (break_change s d i g x.1.0 x.1.1)
-step_change s (HalfStep d) out t g x = let c = half_change s d (HalfStep d) g x.1.0 in moved s (counted (after_half s d) 1) t (HalfStep d) x.1.3 (record { change = c.change; happens = c.happens; harmless = c.harmless })
+step_change s (HalfStep d) out t g x = taken_change s d out t g x.1.0 x.1.1 (taken_as s d out t x.1.2)
 step_change s (Rest n) out t g x = elsewhere s (Rest n) t (ap world_of x.1.3)
 step_change s Unsettled out t g x = elsewhere s Unsettled t (ap world_of x.1.2)
 step_change s (Pass n) out t g x = elsewhere s (Pass n) t (ap world_of x.1.3)
 step_change s EndSecond out t g x = moved s _ t EndSecond x.1.4 (second_change s x.1.1)
 step_change s (Die d) out t g x = moved s _ t (Die d) x.1.2 (death_change s d g x.1.0)
 step_change s (CarryOut d) out t g x = moved s _ t (CarryOut d) x.1.3 (half_change s d (CarryOut d) g x.1.0)
+step_change s (Lose d) out t g x = let c = half_change s d (Lose d) g x.1.0 in moved s (after_loss s d) t (Lose d) x.1.4 (record { change = c.change; happens = c.happens; harmless = c.harmless })
+step_change s (TellLoss d) out t g x = elsewhere s (TellLoss d) t (ap world_of x.1.2)
 step_change s (Start d) out t g x = moved s _ t (Start d) x.1.3 (start_again s d g x.1.1)
 step_change s (Ask y) out t g x = elsewhere s (Ask y) t (ap world_of x.1.4)
 step_change s Answer out t g x = elsewhere s Answer t (ap world_of x.state_is)

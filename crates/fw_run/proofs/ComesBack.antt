@@ -14,5 +14,6 @@ comes_back actions log s run = record {
       let x = second_at actions log front rest s t run is over in
       let back = run_reclaims x.before x.after x.during x.second in
       (x.before, x.during, x.after, x.second, (x.done, x.run), back, x.all, x.on, (x.later, x.first));
+  each = λ done later during front before after is steps x parts. run_reclaims before after during x;
   outcomes = λ done later front u is steps runs. restores_in_second done front u steps runs;
 }

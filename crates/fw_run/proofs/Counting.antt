@@ -22,7 +22,7 @@ use Rattle.fw_run.specs.Giving.{at_cycle}
 use Rattle.fw_run.specs.Entries.{second_over}
 use Rattle.fw_run.specs.State.{State, entered, while_talking, is_on, with_device}
 use Rattle.fw_run.specs.Streams.{bytes_of, tape_at, sent_before, stream_packet}
-use Rattle.fw_run.specs.Actions.{Action, AddDevice, AddCable, ResetBus, StartConnection, StartBreak, HalfStep, Rest, Unsettled, Pass, EndSecond, Die}
+use Rattle.fw_run.specs.Actions.{Action, AddDevice, AddCable, ResetBus, StartConnection, StartBreak, HalfStep, Rest, Unsettled, Pass, EndSecond, Die, counting, beginning, counted, Lose, TellLoss}
 use Rattle.fw_run.specs.Actions.{CarryOut, Start, Ask, Answer, ShowWord, SendCommand, SendFrame, Receive, InsertTape, EjectTape, StartCycle, SendPacket, Finish}
 use Rattle.fw_run.specs.Actions.{Declares, Joins, Step, after_cycles, after_second, after_reset_entry, with_topology}
 use Rattle.fw_run.specs.Carrying.{next_cycle, SendsPackets}
@@ -36,6 +36,7 @@ use Rattle.fw_run.proofs.Resets.{declaring}
 use Rattle.fw_run.proofs.Seconds.{opens_over}
 use Rattle.fw_run.proofs.Steps.{step_good}
 use Rattle.fw_run.proofs.Times.{second_ends}
+use Rattle.fw_run.proofs.Taking.{Taken, listens, keeps_deaf, forces_reset, taken_as}
 
 -- ---- each action
 
@@ -96,28 +97,35 @@ counts_step s a out t g x p = go a x
     good a x = step_good s a out t g x
 
     declares : (a : Action) (names : List (List ℕ)) (u : State) → IsGood t → u.streams p ≡ s.streams p → u.account ≡ s.account → Declares names u out t → given_in a s p ≡ 0 → CountsThrough a s t p
-    declares a [] u h same account r none = keeps a s t (after_reset_entry u r.entry) p g h r.state_is (ap (λ k. cond (talks (entered u.account (Reset r.entry)) p) k 0) same) none
+    declares a [] u h same account r none = keeps a s t (after_reset_entry (beginning u) r.entry) p g h r.state_is (ap (λ k. cond (talks (entered u.account (Reset r.entry)) p) k 0) same) none
     declares a (y ∷ ys) u h same account r none = stays a s t u p g h r.1 same none
 
     joins : (a : Action) (x y : Bool) (c d : ℕ) (u : State) → IsGood t → u.streams p ≡ s.streams p → Joins x y c d u out t → given_in a s p ≡ 0 → CountsThrough a s t p
-    joins a true false c d u h same r none = keeps a s t (after_reset_entry u r.entry) p g h r.state_is (ap (λ k. cond (talks (entered u.account (Reset r.entry)) p) k 0) same) none
-    joins a false true c d u h same r none = keeps a s t (after_reset_entry u r.entry) p g h r.state_is (ap (λ k. cond (talks (entered u.account (Reset r.entry)) p) k 0) same) none
+    joins a true false c d u h same r none = keeps a s t (after_reset_entry (counting u) r.1.entry) p g h r.1.state_is (ap (λ k. cond (talks (entered u.account (Reset r.1.entry)) p) k 0) same) none
+    joins a false true c d u h same r none = keeps a s t (after_reset_entry (counting u) r.1.entry) p g h r.1.state_is (ap (λ k. cond (talks (entered u.account (Reset r.1.entry)) p) k 0) same) none
     joins a true true c d u h same r none = stays a s t u p g h r.1 same none
     joins a false false c d u h same r none = stays a s t u p g h r.1 same none
+
+    taken_ : (d : ℕ) → IsGood t → Taken s d out t → CountsThrough (HalfStep d) s t p
+    taken_ d h (listens quiet said is) = keeps (HalfStep d) s t _ p g h is refl refl
+    taken_ d h (keeps_deaf deaf said is) = stays (HalfStep d) s t _ p g h is refl refl
+    taken_ d h (forces_reset deaf r) = keeps (HalfStep d) s t (after_reset_entry (counted s 1) r.entry) p g h r.state_is refl refl
 
     go : (a : Action) → Step s a out t → CountsThrough a s t p
     go (AddDevice name kind ports speed) x = declares (AddDevice name kind ports speed) s.declared.names (declaring s (with_device s.declared name kind ports speed)) (good (AddDevice name kind ports speed) x) refl refl x.1.4 refl
     go (AddCable c d) x = joins (AddCable c d) (is_on s c.device) (is_on s d.device) c.device d.device (with_topology s x.1.0) (good (AddCable c d) x) refl x.1.2 refl
-    go (ResetBus d) x = let r = x.1.1 in keeps (ResetBus d) s t (after_reset_entry s r.entry) p g (good (ResetBus d) x) r.state_is refl refl
+    go (ResetBus d) x = let r = x.1.1.1 in keeps (ResetBus d) s t (after_reset_entry (counting s) r.entry) p g (good (ResetBus d) x) r.state_is refl refl
     go (StartConnection d w) x = stays (StartConnection d w) s t _ p g (good (StartConnection d w) x) x.1.4 refl refl
     go (StartBreak d i) x = stays (StartBreak d i) s t _ p g (good (StartBreak d i) x) x.1.3 refl refl
-    go (HalfStep d) x = keeps (HalfStep d) s t _ p g (good (HalfStep d) x) x.1.3 refl refl
+    go (HalfStep d) x = taken_ d (good (HalfStep d) x) (taken_as s d out t x.1.2)
     go (Rest n) x = stays (Rest n) s t _ p g (good (Rest n) x) x.1.3 refl refl
     go Unsettled x = stays Unsettled s t _ p g (good Unsettled x) x.1.2 refl refl
     go (Pass n) x = passes s n t p (good (Pass n) x) x.1.3
     go EndSecond x = ends s t p (good EndSecond x) x.1.1 x.1.4
     go (Die d) x = keeps (Die d) s t _ p g (good (Die d) x) x.1.2 refl refl
     go (CarryOut d) x = keeps (CarryOut d) s t _ p g (good (CarryOut d) x) x.1.3 refl refl
+    go (Lose d) x = keeps (Lose d) s t _ p g (good (Lose d) x) x.1.4 refl refl
+    go (TellLoss d) x = stays (TellLoss d) s t _ p g (good (TellLoss d) x) x.1.2 refl refl
     go (Start d) x = stays (Start d) s t _ p g (good (Start d) x) x.1.3 refl refl
     go (Ask y) x = stays (Ask y) s t _ p g (good (Ask y) x) x.1.4 refl refl
     go Answer x = stays Answer s t _ p g (good Answer x) x.state_is refl refl

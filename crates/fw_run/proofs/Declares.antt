@@ -7,11 +7,13 @@ use Rattle.fw_devices.specs.Network.{facts_of, kind_at}
 use Rattle.fw_devices.specs.Entries.{row_of}
 use Rattle.fw_devices.specs.Resets.{Shows}
 use Rattle.fw_base.specs.Devices.{is_contender}
-use Rattle.fw_run.specs.State.{State, with_device}
-use Rattle.fw_run.specs.Actions.{Declares}
+use Rattle.fw_run.specs.State.{State, with_device, epoch_of}
+use Rattle.fw_run.specs.Actions.{Declares, beginning}
 use Rattle.fw_run.specs.Good.{IsGood, IsLatest, AreDeclared, ManagerContends}
+use Rattle.fw_run.proofs.NextEntry.{entry_more}
 use Rattle.fw_run.proofs.Networks.{one_more, kind_before, kinds_more, made_more, shows_more}
 use Rattle.fw_run.proofs.Resets.{MayReset, reset_good}
+use Rattle.fw_run.proofs.Times.{beginning_good}
 
 -- a device that may be declared
 pub record MayDeclare (s : State) (ports speed : ℕ) : Type 0 where
@@ -43,6 +45,7 @@ more_good s name kind ports speed m some = record {
   stands = m.good.stands;
   unused = m.good.unused;
   time = record { second = m.good.time.second; over_at = m.good.time.over_at; cycle = m.good.time.cycle };
+  losses = m.good.losses;
   half_steps = m.good.half_steps;
   written = m.good.written;
   decks = m.good.decks;
@@ -60,12 +63,14 @@ more_good s name kind ports speed m some = record {
       h.2,
       still_contends s kind e m.good.declared.kinds.size h.1 h.3,
       h.4,
+      (h.5.0, entry_more s.declared.topology s.declared.kinds kind (facts_of kind ports speed) e.epoch h.5.0 e m.good.declared.made m.good.declared.kinds.size h.5.1),
     )
 
 -- the first one begins a bus reset
-pub first_may : (s : State) (name : List ℕ) (kind : DeviceKind) (ports speed : ℕ) → MayDeclare s ports speed → s.declared.names ≡ [] → MayReset s (with_device s.declared name kind ports speed)
+pub first_may : (s : State) (name : List ℕ) (kind : DeviceKind) (ports speed : ℕ) → MayDeclare s ports speed → s.declared.names ≡ [] → MayReset (beginning s) (with_device s.declared name kind ports speed)
 first_may s name kind ports speed m none = record {
-  good = m.good;
+  good = beginning_good s m.good (no_epoch s.account.latest refl m.good.latest);
+  counted = let e = no_epoch s.account.latest refl m.good.latest in omega (arith, e);
   declared = more_declared s name kind ports speed m;
   some = let e = one_more s.declared.names name in omega (arith, e);
   kinds = λ e is. absurd (never e is m.good.latest);
@@ -75,9 +80,13 @@ first_may s name kind ports speed m none = record {
     never : (e : ResetEntry) → s.account.latest ≡ Some e → IsLatest s.account.latest s → ⊥
     never e is h = let some = (subst (λ o. IsLatest o s) is h).0 in omega (arith, some, ap (λ (xs : List (List ℕ)). length xs) none)
 
+    no_epoch : (o : Option ResetEntry) → s.account.latest ≡ o → IsLatest o s → epoch_of o ≡ 0
+    no_epoch None is h = refl
+    no_epoch (Some e) is h = absurd (never e is m.good.latest)
+
 pub declare_good : (s : State) (name : List ℕ) (kind : DeviceKind) (ports speed : ℕ) (out : List Timed) (t : State) → MayDeclare s ports speed → Declares s.declared.names (record s { declared = with_device s.declared name kind ports speed }) out t → IsGood t
 declare_good s name kind ports speed out t m h = go s.declared.names refl h
   where
     go : (names : List (List ℕ)) → s.declared.names ≡ names → Declares names (record s { declared = with_device s.declared name kind ports speed }) out t → IsGood t
-    go [] none r = reset_good s (with_device s.declared name kind ports speed) 0 out t (first_may s name kind ports speed m none) r
+    go [] none r = reset_good (beginning s) (with_device s.declared name kind ports speed) 0 out t (first_may s name kind ports speed m none) r
     go (x ∷ names) more r = subst IsGood (sym r.1) (more_good s name kind ports speed m (let e = ap (λ (xs : List (List ℕ)). length xs) more in omega (arith, e)))

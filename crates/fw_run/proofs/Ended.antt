@@ -9,7 +9,7 @@ use Rattle.fw_entry.specs.Log.{is_end}
 use Rattle.fw_cmp.specs.declared.current.Current.{Current}
 use Rattle.fw_cmp.specs.declared.current.Current.TheVariants.{Nothing, Asking, Hearing, Overtaken}
 use Rattle.fw_cmp.specs.declared.outcome.Next.{Next}
-use Rattle.fw_cmp.specs.declared.outcome.Next.TheVariants.{Send, End as EndOf, Idle, Waiting}
+use Rattle.fw_cmp.specs.declared.outcome.Next.TheVariants.{Send, End as EndOf, Idle, Waiting, Deaf, Force}
 use Rattle.fw_cmp.specs.declared.request.Access.{Access}
 use Rattle.fw_cmp.specs.Requests.{access_of, request_of, addressee_of}
 use Rattle.fw_cmp.specs.Turns.{next}
@@ -19,7 +19,7 @@ use Rattle.fw_script.specs.declared.command.Command.TheVariants as Commands
 use Rattle.fw_run.specs.declared.order.Order.{Order}
 use Rattle.fw_run.specs.declared.order.Order.TheVariants as order
 use Rattle.fw_run.specs.Giving.{at_most}
-use Rattle.fw_run.specs.Entries.{second_over, died, started, inserted, ejected, unsettled, shown_entry}
+use Rattle.fw_run.specs.Entries.{second_over, died, started, inserted, ejected, unsettled, shown_entry, lost}
 use Rattle.fw_run.specs.State.{State, is_on, living, with_device, directory_of}
 use Rattle.fw_run.specs.Frames.{command_write, response_write, frame_packet}
 use Rattle.fw_run.specs.Spaces.{transaction_head, access_request, answer_packet, read_at}
@@ -27,12 +27,13 @@ use Rattle.fw_run.specs.HalfSteps.{head_from, said, hears, hears_from, half, hal
 use Rattle.fw_base.specs.declared.plug.PlugAt.{PlugAt}
 use Rattle.fw_entry.specs.declared.entry.ResetEntry.{ResetEntry}
 use Rattle.fw_run.specs.Streams.{bytes_of, cycle_start, stream_packet, talkers}
-use Rattle.fw_run.specs.Actions.{Action, AddDevice, AddCable, ResetBus, StartConnection, StartBreak, HalfStep, Rest, Unsettled, Pass, EndSecond, Die, CarryOut, Start, Ask, Answer, ShowWord, SendCommand, SendFrame, Receive, InsertTape, EjectTape, StartCycle, SendPacket, Finish, Declares, Joins, with_topology, Step, Steps}
-use Rattle.fw_run.specs.Carrying.{times, half_steps_of, Rounds, none, round, rest, Carries, declares, joins, resets, connects, breaks, steps, settled, unsettled as not_settled, waits, waits_over, writes_cycles, next_cycle, SendsPackets, HasCycle, HasCycles, dies, dies_late, dies_idle, starts, goes_on, transacts, shows, commanded, inserts, ejects, ejects_nothing, SendsAll, quiet, sends, ends}
+use Rattle.fw_run.specs.Actions.{Action, AddDevice, AddCable, ResetBus, StartConnection, StartBreak, HalfStep, Rest, Unsettled, Pass, EndSecond, Die, CarryOut, Lose, TellLoss, Start, Ask, Answer, ShowWord, SendCommand, SendFrame, Receive, InsertTape, EjectTape, StartCycle, SendPacket, Finish, Declares, Joins, with_topology, Step, Steps}
+use Rattle.fw_run.specs.Carrying.{times, half_steps_of, Rounds, none, round, rest, Carries, declares, joins, resets, connects, breaks, steps, settled, unsettled as not_settled, waits, waits_over, writes_cycles, next_cycle, SendsPackets, HasCycle, HasCycles, dies, dies_late, dies_idle, loses, starts, goes_on, transacts, shows, commanded, inserts, ejects, ejects_nothing, SendsAll, quiet, sends, ends}
 use Rattle.fw_run.specs.Rules.{IsOrder}
 use Rattle.fw_run.specs.Runs.{Run, begun, and_then}
 use Rattle.fw_run.specs.Logs.{HasNoEnd}
 use Rattle.fw_run.proofs.Runs.{carries_steps}
+use Rattle.fw_run.proofs.Taking.{Taken, listens, keeps_deaf, forces_reset, taken_as}
 
 -- ---- entries
 
@@ -65,6 +66,8 @@ half_unended s d = go (s.controllers d).current
     said_on (EndOf i o) = refl
     said_on Idle = tt
     said_on (Waiting until) = tt
+    said_on (Deaf until) = tt
+    said_on Force = tt
 
     packet_on : (o : Option Packet) → GoesOn (option_map Async o)
     packet_on None = tt
@@ -99,24 +102,31 @@ declares_unended [] s t out r = most_unended s.clock.cycle (Some (Reset r.entry)
 declares_unended (x ∷ names) s t out r = none_unended out r.0
 
 joins_unended : (x y : Bool) (a b : ℕ) (s t : State) (out : List Timed) → Joins x y a b s out t → IsUnended out
-joins_unended true false a b s t out r = most_unended s.clock.cycle (Some (Reset r.entry)) out refl r.out_is
-joins_unended false true a b s t out r = most_unended s.clock.cycle (Some (Reset r.entry)) out refl r.out_is
+joins_unended true false a b s t out r = most_unended s.clock.cycle (Some (Reset r.1.entry)) out refl r.1.out_is
+joins_unended false true a b s t out r = most_unended s.clock.cycle (Some (Reset r.1.entry)) out refl r.1.out_is
 joins_unended true true a b s t out r = none_unended out r.0
 joins_unended false false a b s t out r = none_unended out r.0
+
+taken_unended : (s : State) (d : ℕ) (out : List Timed) (t : State) → Taken s d out t → IsUnended out
+taken_unended s d out t (listens heard out_is is) = most_unended s.clock.cycle (half s d).says out (half_unended s d) out_is
+taken_unended s d out t (keeps_deaf deaf out_is is) = none_unended out out_is
+taken_unended s d out t (forces_reset deaf r) = most_unended s.clock.cycle (Some (Reset r.entry)) out refl r.out_is
 
 step_unended : (s t : State) (a : Action) (out : List Timed) → IsNoFinish a → Step s a out t → IsUnended out
 step_unended s t (AddDevice name kind ports speed) out nf x = declares_unended s.declared.names (record s { declared = with_device s.declared name kind ports speed }) t out x.1.4
 step_unended s t (AddCable a b) out nf x = joins_unended (is_on s a.device) (is_on s b.device) a.device b.device (with_topology s x.1.0) t out x.1.2
-step_unended s t (ResetBus d) out nf x = let r = x.1.1 in most_unended s.clock.cycle (Some (Reset r.entry)) out refl r.out_is
+step_unended s t (ResetBus d) out nf x = let r = x.1.1.1 in most_unended s.clock.cycle (Some (Reset r.entry)) out refl r.out_is
 step_unended s t (StartConnection d w) out nf x = none_unended out x.1.3
 step_unended s t (StartBreak d i) out nf x = none_unended out x.1.2
-step_unended s t (HalfStep d) out nf x = most_unended s.clock.cycle (half s d).says out (half_unended s d) x.1.2
+step_unended s t (HalfStep d) out nf x = taken_unended s d out t (taken_as s d out t x.1.2)
 step_unended s t (Rest n) out nf x = none_unended out x.1.2
 step_unended s t Unsettled out nf x = most_unended s.clock.cycle (Some unsettled) out refl x.1.1
 step_unended s t (Pass n) out nf x = none_unended out x.1.2
 step_unended s t EndSecond out nf x = most_unended (s.clock.cycle + 1) (Some second_over) out refl x.1.3
 step_unended s t (Die d) out nf x = most_unended s.clock.cycle (Some (died d)) out refl x.1.1
 step_unended s t (CarryOut d) out nf x = most_unended s.clock.cycle (half s d).says out (half_unended s d) x.1.2
+step_unended s t (Lose d) out nf x = most_unended s.clock.cycle (half s d).says out (half_unended s d) x.1.3
+step_unended s t (TellLoss d) out nf x = most_unended s.clock.cycle (Some (lost d)) out refl x.1.1
 step_unended s t (Start d) out nf x = most_unended s.clock.cycle (Some (started d)) out refl x.1.2
 step_unended s t (Ask y) out nf x = most_unended s.clock.cycle (Some (Async (packet_of (transaction_head s y) (access_request y.access)))) out refl x.1.3
 step_unended s t Answer out nf x = most_unended s.clock.cycle (Some (Async x.response)) out refl x.out_is
@@ -197,6 +207,7 @@ no_finish s o xs out t on (writes_cycles {n = n} f) = no_finish_cycles n s xs ou
 no_finish s o xs out t on (dies f) = (tt, tt)
 no_finish s o xs out t on (dies_late f) = (tt, (tt, tt))
 no_finish s o xs out t on (dies_idle e f) = (tt, tt)
+no_finish s o xs out t on (loses f) = (tt, (tt, tt))
 no_finish s o xs out t on (starts f) = (tt, tt)
 no_finish s o xs out t on (goes_on e) = tt
 no_finish s o xs out t on (transacts f) = (tt, (tt, tt))
@@ -223,6 +234,7 @@ end_or_none (order.Settle n) = inl tt
 end_or_none (order.Wait n) = inl tt
 end_or_none (order.Cycles n) = inl tt
 end_or_none (order.Die d late) = inl tt
+end_or_none (order.Lose d) = inl tt
 end_or_none (order.Start d) = inl tt
 end_or_none (order.Transact x) = inl tt
 end_or_none (order.Show d offset) = inl tt
@@ -245,6 +257,7 @@ order_no_end s (Commands.Settle rounds) o ne f = is_no_end o _ f tt
 order_no_end s (Commands.Wait cycles) o ne f = is_no_end o _ f tt
 order_no_end s (Commands.Cycles count) o ne f = is_no_end o _ f tt
 order_no_end s (Commands.Die name late) o ne f = is_no_end o _ f.2 tt
+order_no_end s (Commands.Lose name) o ne f = is_no_end o _ f.2 tt
 order_no_end s (Commands.Start name) o ne f = is_no_end o _ f.2 tt
 order_no_end s (Commands.Command name other frame) o ne f = is_no_end o _ f.4 tt
 order_no_end s (Commands.Read name other offset) o ne f = is_no_end o _ f.4 tt

@@ -30,7 +30,7 @@ use Rattle.fw_cmp.specs.Decisions.{restores, goes_on, give_back, leave_output, i
 use Rattle.fw_cmp.specs.Fits.{ConnectionFits, JobFits, StageFits}
 use Rattle.fw_cmp.specs.Nodes.{node_of}
 use Rattle.fw_cmp.specs.Plugs.{is_full, has_broadcast, counter_of, channel_of, is_bit, shows_connection, one_less, remainder_of, half_of}
-use Rattle.fw_cmp.specs.Resets.{heard, after_hear, interrupted, decided, overtaken, current_reset, after_reset}
+use Rattle.fw_cmp.specs.Resets.{heard, after_hear, interrupted, decided, overtaken, current_reset, after_reset, lost_reset, after_lost_reset, state_reset}
 use Rattle.fw_cmp.specs.Stages.{hear, refuse, hear_reply}
 use Rattle.fw_cmp.specs.Turns.{without_node, absent_of, begin_managed, begin_present, begin_making, begin_leaving, begin_breaking, begin, begun, is_late, resumed_current, picked, ready, after_asking, after_next, current_for}
 use Rattle.fw_cmp.specs.Requests.{access_of}
@@ -269,11 +269,25 @@ overtaken_shows epoch c j (Made g) low h f = made_shows g.channel (restores j) h
 overtaken_shows epoch c j (Ended e) low h f = decided_shows c j f
 overtaken_shows epoch c j _ low h f = interrupted_shows epoch c j low
 
-pub reset_shows : (epoch : ℕ) (c : ControllerState) → epoch < 2 ^ 32 → CurrentShows c.current → CurrentShows (after_reset epoch c).current
-reset_shows epoch c low f = go c.current refl f
+heard_shows_ : (epoch : ℕ) (c : ControllerState) → epoch < 2 ^ 32 → CurrentShows c.current → CurrentShows (after_reset epoch c).current
+heard_shows_ epoch c low f = go c.current refl f
   where
     go : (cur : Current) → c.current ≡ cur → CurrentShows cur → CurrentShows (current_reset epoch c cur).current
     go Nothing e h = subst CurrentShows (sym e) tt
     go (Overtaken i o) e h = subst CurrentShows (sym e) h
     go (Asking j s) e h = overtaken_shows epoch c j s low h (subst CurrentShows (sym e) h)
     go (Hearing j s) e h = overtaken_shows epoch c j s low h (subst CurrentShows (sym e) h)
+
+-- the same where the response to its request was lost
+unheard_shows : (epoch : ℕ) (c : ControllerState) → epoch < 2 ^ 32 → CurrentShows c.current → CurrentShows (after_lost_reset epoch c).current
+unheard_shows epoch c low f = go c.current refl f
+  where
+    go : (cur : Current) → c.current ≡ cur → CurrentShows cur → CurrentShows (lost_reset epoch c cur).current
+    go Nothing e h = subst CurrentShows (sym e) tt
+    go (Overtaken i o) e h = subst CurrentShows (sym e) h
+    go (Asking j s) e h = interrupted_shows epoch c j low
+    go (Hearing j s) e h = interrupted_shows epoch c j low
+
+pub reset_shows : (epoch : ℕ) (lost : Bool) (c : ControllerState) → epoch < 2 ^ 32 → CurrentShows c.current → CurrentShows (state_reset epoch lost c).current
+reset_shows epoch true c low f = unheard_shows epoch c low f
+reset_shows epoch false c low f = heard_shows_ epoch c low f

@@ -20,7 +20,7 @@ use Rattle.fw_run.specs.Actions.{slot_of, start_of, with_connection, after_death
 use Rattle.fw_run.specs.Good.{IsGood, IsLatest, world_of}
 use Rattle.fw_run.proofs.Buses.{linked_small}
 use Rattle.fw_run.proofs.Counts.{silent}
-use Rattle.fw_run.proofs.Turns.{becomes, each_of, living_linked, update_new, update_others}
+use Rattle.fw_run.proofs.Turns.{becomes, each_of, living_linked, update_new, update_others, new_losses, kept_losses}
 
 -- ---- devices
 
@@ -39,14 +39,15 @@ living_small s d g lives = of_latest s.account.latest refl (living_linked s d li
 -- ---- a controller that is asked for something
 
 -- the state where one controller changes
-changed_good : (s : State) (d : ℕ) (c : ControllerState) → IsGood s → IsTrue (is_living s d) → AsksWhatStands c.current → CanReclaim (world_of (with_controller s d c)) → IsGood (with_controller s d c)
-changed_good s d c g lives stands reclaims = record {
+changed_good : (s : State) (d : ℕ) (c : ControllerState) → IsGood s → IsTrue (is_living s d) → AsksWhatStands c.current → c.current ≡ (s.controllers d).current → CanReclaim (world_of (with_controller s d c)) → IsGood (with_controller s d c)
+changed_good s d c g lives stands same reclaims = record {
   declared = g.declared;
   latest = latest_ s.account.latest g.latest;
   reclaims = reclaims;
   stands = each_of (λ x. AsksWhatStands x.current) s.controllers d c stands g.stands;
   unused = λ k off. unused k off (cases_eq k d);
   time = record { second = g.time.second; over_at = g.time.over_at; cycle = g.time.cycle };
+  losses = kept_losses s d c g same;
   half_steps = g.half_steps;
   written = g.written;
   decks = g.decks;
@@ -76,7 +77,7 @@ makes (BroadcastOut out overhead) = tt
 makes (BroadcastIn into) = tt
 
 pub start_good : (s : State) (d i : ℕ) (w : Wanted) → IsGood s → IsTrue (is_living s d) → SlotFits (slot_of w) → start_of d w (s.controllers d) ≡ Ok i → IsGood (with_connection s d w)
-start_good s d i w g lives fits is = subst (λ r. IsGood (with_controller s d (started r (slot_of w) (s.controllers d)))) (sym is) (changed_good s d c g lives (g.stands d) reclaims)
+start_good s d i w g lives fits is = subst (λ r. IsGood (with_controller s d (started r (slot_of w) (s.controllers d)))) (sym is) (changed_good s d c g lives (g.stands d) refl reclaims)
   where
     c : ControllerState
     c = started (Ok i) (slot_of w) (s.controllers d)
@@ -88,7 +89,7 @@ pub break_current : (c : ControllerState) (i : ℕ) → break_fault c i ≡ None
 break_current c i e = ap (λ o. (elim o as (λ _. ControllerState) [ None ↦ with_task c (record { slot = i; breaks = true }) | Some fault ↦ c ]).current) e
 
 pub break_good : (s : State) (d i : ℕ) → IsGood s → IsTrue (is_living s d) → break_fault (s.controllers d) i ≡ None → IsGood (with_controller s d (break_started (s.controllers d) i))
-break_good s d i g lives accepted = changed_good s d c g lives (subst (λ x. AsksWhatStands x) (sym (break_current (s.controllers d) i accepted)) (g.stands d)) (goes_on_reclaiming (world_of s) (world_of (with_controller s d c)) (BreakOf d i) g.reclaims (record { device = living_small s d g lives; accepted = accepted; account = refl; becomes = becomes s.controllers d c; directory = refl }))
+break_good s d i g lives accepted = changed_good s d c g lives (subst (λ x. AsksWhatStands x) (sym (break_current (s.controllers d) i accepted)) (g.stands d)) (break_current (s.controllers d) i accepted) (goes_on_reclaiming (world_of s) (world_of (with_controller s d c)) (BreakOf d i) g.reclaims (record { device = living_small s d g lives; accepted = accepted; account = refl; becomes = becomes s.controllers d c; directory = refl }))
   where
     c : ControllerState
     c = break_started (s.controllers d) i
@@ -103,6 +104,7 @@ death_good s d g lives = record {
   stands = each_of (λ x. AsksWhatStands x.current) s.controllers d new_controller tt g.stands;
   unused = λ k off. unused k off (cases_eq k d);
   time = record { second = g.time.second; over_at = g.time.over_at; cycle = g.time.cycle };
+  losses = new_losses s d new_controller g;
   half_steps = g.half_steps;
   written = g.written;
   decks = g.decks;

@@ -44,8 +44,8 @@ by_next l h true offset bytes = refl
 by_next l h false offset bytes = refl
 
 by_says : (l : Account) (h : Head) (b : Bool) (offset : ℕ) (bytes : List ℕ) → Says l (Some (AsyncEntry (packet_of h (write_by b offset bytes))))
-by_says l h true offset bytes = (tt, unread l (packet_of h (write_by true offset bytes)) (λ q. tt))
-by_says l h false offset bytes = (tt, unread l (packet_of h (write_by false offset bytes)) (λ q. tt))
+by_says l h true offset bytes = ((tt, tt), unread l (packet_of h (write_by true offset bytes)) (λ q. tt))
+by_says l h false offset bytes = ((tt, tt), unread l (packet_of h (write_by false offset bytes)) (λ q. tt))
 
 pub write_led : (s : State) (w : FrameWrite) (u : State) (out : List Timed) (t : State) → out ≡ at_most s.clock.cycle (Some (AsyncEntry (frame_packet s w))) → t ≡ u → u.account ≡ s.account → u.clock.cycle ≡ s.clock.cycle → Led s out t
 write_led s w u out t is to account cycle =
@@ -111,7 +111,7 @@ answer_is s o out t x =
 pub received_led : (s : State) (o : Option Obeyed) (out : List Timed) (t : State) → Receives s o out t → Led s out t
 received_led s o out t x = led_now s (Some (AsyncEntry x.response)) out t (ap (λ (z : State). z.clock.cycle) x.state_is) x.out_is
     (subst (λ p. next_account s.account (AsyncEntry p) ≡ Some t.account) (answer_is s o out t x) (ap (λ (z : State). Some z.account) (sym x.state_is)))
-    (subst (λ p. Says s.account (Some (AsyncEntry p))) (answer_is s o out t x) (tt, unread s.account (answer_to s x.write) (λ q. tt)))
+    (subst (λ p. Says s.account (Some (AsyncEntry p))) (answer_is s o out t x) ((tt, tt), unread s.account (answer_to s x.write) (λ q. tt)))
 
 register_low : (o : Option Register) (b : Bool) (offset : ℕ) (bytes : List ℕ) → (reply o (write_by b offset bytes)).rcode < 2 ^ 4
 register_low None true offset bytes = omega arith

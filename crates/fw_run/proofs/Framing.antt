@@ -31,6 +31,7 @@ with_frame_good s decks w g h = record {
   stands = g.stands;
   unused = g.unused;
   time = record { second = g.time.second; over_at = g.time.over_at; cycle = g.time.cycle };
+  losses = g.losses;
   half_steps = g.half_steps;
   written = g.written;
   decks = h;

@@ -3,7 +3,7 @@ use Rattle.std.proofs.Common.{ℕ, zero, suc, List, [], ◌∷◌, ◌++◌}
 use Rattle.fw_entry.specs.declared.entry.Timed.{Timed}
 use Rattle.fw_run.specs.declared.order.Order.{Order}
 use Rattle.fw_run.specs.Actions.{Action, HalfStep, Unsettled}
-use Rattle.fw_run.specs.Carrying.{times, half_steps_of, Rounds, none, round, rest, SendsAll, quiet, sends, Carries, declares, joins, resets, connects, breaks, steps, settled, unsettled, waits, waits_over, writes_cycles, dies, dies_late, dies_idle, starts, goes_on, transacts, shows, commanded, inserts, ejects, ejects_nothing, ends}
+use Rattle.fw_run.specs.Carrying.{times, half_steps_of, Rounds, none, round, rest, SendsAll, quiet, sends, Carries, declares, joins, resets, connects, breaks, steps, settled, unsettled, waits, waits_over, writes_cycles, dies, dies_late, dies_idle, loses, starts, goes_on, transacts, shows, commanded, inserts, ejects, ejects_nothing, ends}
 use Rattle.fw_run.specs.Desks.{DeskRelations}
 use Rattle.fw_run.specs.Given.{IsGiven, AreGiven, AsksNoDesk}
 use Rattle.fw_run.specs.State.{State, living}
@@ -50,6 +50,7 @@ carries_given D s o xs out t on (writes_cycles f) = absurd on
 carries_given D s o xs out t on (dies f) = (tt, tt)
 carries_given D s o xs out t on (dies_late f) = (tt, (tt, tt))
 carries_given D s o xs out t on (dies_idle e f) = (tt, tt)
+carries_given D s o xs out t on (loses f) = (tt, (tt, tt))
 carries_given D s o xs out t on (starts f) = (tt, tt)
 carries_given D s o xs out t on (goes_on e) = tt
 carries_given D s o xs out t on (transacts f) = (tt, (tt, tt))

@@ -39,14 +39,14 @@ use Rattle.fw_reclaim.proofs.Together.{goes_on_reclaiming}
 use Rattle.fw_rounds.specs.HalfSteps.{AsksWhatStands}
 use Rattle.fw_node.specs.Packets.{packet_of}
 use Rattle.fw_run.specs.Spaces.{reply_from}
-use Rattle.fw_run.specs.State.{State, while_talking, list_to, linked_number, manager_in, directory_of, is_living}
+use Rattle.fw_run.specs.State.{State, while_talking, list_to, linked_number, manager_in, directory_of, is_living, is_deaf, epoch_of}
 use Rattle.fw_run.specs.HalfSteps.{half_of, half, hears, hears_from, taken, after_half}
-use Rattle.fw_run.specs.Good.{IsGood, IsLatest, IsDeck, world_of}
+use Rattle.fw_run.specs.Good.{IsGood, IsLatest, IsDeck, world_of, AreLosses}
 use Rattle.fw_run.proofs.Answers.{nodes_answer}
 use Rattle.fw_run.proofs.Buses.{linked_at, linked_small}
 use Rattle.fw_run.proofs.Counts.{silent}
 use Rattle.fw_run.proofs.Directories.{told}
-use Rattle.fw_run.proofs.Turns.{becomes, each_of, living_linked, update_others}
+use Rattle.fw_run.proofs.Turns.{becomes, each_of, living_linked, update_others, quiet_losses}
 
 -- ---- the response
 
@@ -65,7 +65,7 @@ responds to n offset (Some swap) r = record { packet = LockReply (procedure_head
 
 -- ---- what an answer leaves of the account
 
-moved_bus : (d : ℕ) (p : PlugAt) (m : Move) (l : Account) → ((after d p m l).latest ≡ l.latest) × ((after d p m l).reclaiming ≡ l.reclaiming)
+pub moved_bus : (d : ℕ) (p : PlugAt) (m : Move) (l : Account) → ((after d p m l).latest ≡ l.latest) × ((after d p m l).reclaiming ≡ l.reclaiming)
 moved_bus d p (AllocateChannel ch) l = (refl, refl)
 moved_bus d p (AllocateUnits ch u) l = (refl, refl)
 moved_bus d p (ConnectFirst kind ch overhead) l = (refl, refl)
@@ -91,6 +91,7 @@ abbrev answered : State → ℕ → Job → Stage → Reply → State
 answered s d j stage r = record s {
   account = ended d (carried_out d j stage r s.account);
   controllers = update s.controllers d (after_hear (s.controllers d) r);
+  asked_at = update s.asked_at d (s.asked_at d);
   streams = while_talking (ended d (carried_out d j stage r s.account)) s.streams;
 }
 
@@ -100,8 +101,8 @@ pub record Asked (s : State) (d : ℕ) (j : Job) (stage : Stage) (t : Target) (t
   pub target : target_of j stage ≡ Some t
   pub answer : IsAnswer s.account t r
 
-answered_good : (s : State) (d n to : ℕ) (e : ResetEntry) (j : Job) (stage : Stage) (t : Target) (r : Reply) → IsGood s → IsTrue (is_living s d) → s.account.latest ≡ Some e → IsLatest (Some e) s → linked_number (Some e) d ≡ Some n → Asked s d j stage t to r → IsGood (answered s d j stage r)
-answered_good s d n to e j stage t r g lives is h number x = record {
+answered_good : (s : State) (d n to : ℕ) (e : ResetEntry) (j : Job) (stage : Stage) (t : Target) (r : Reply) → IsGood s → IsTrue (is_living s d) → IsFalse (is_deaf s d) → s.account.latest ≡ Some e → IsLatest (Some e) s → linked_number (Some e) d ≡ Some n → Asked s d j stage t to r → IsGood (answered s d j stage r)
+answered_good s d n to e j stage t r g lives quiet is h number x = record {
   declared = g.declared;
   latest = subst (λ o. IsLatest o u) (sym (latest ∙ is)) h;
   reclaims = goes_on_reclaiming (world_of s) (world_of u) (Answer d r) g.reclaims (record {
@@ -119,6 +120,7 @@ answered_good s d n to e j stage t r g lives is h number x = record {
   stands = each_of (λ c. AsksWhatStands c.current) s.controllers d (after_hear (s.controllers d) r) (subst (λ c. AsksWhatStands (heard c r)) (sym x.current) tt) g.stands;
   unused = λ k off. unused k (sym (ap (λ o. is_some (linked_number o k) && not (s.dead k)) latest) ∙ off) (cases_eq k d);
   time = record { second = λ runs. g.time.second (sym (carried_bus d j stage r s.account).1 ∙ runs); over_at = g.time.over_at; cycle = g.time.cycle };
+  losses = subst (λ o. AreLosses s.lost u.controllers s.resets (epoch_of o)) (sym latest) (quiet_losses s d (after_hear (s.controllers d) r) g quiet);
   half_steps = g.half_steps;
   written = g.written;
   decks = λ k. subst (λ o. IsDeck o s.clock.cycle k (s.decks k)) (sym latest) (g.decks k);
@@ -138,7 +140,7 @@ answered_good s d n to e j stage t r g lives is h number x = record {
 -- ---- the half step
 
 abbrev pub with_answer : State → ℕ → Reply → Account → State
-with_answer s d r l = record s { account = l; controllers = update s.controllers d (after_hear (s.controllers d) r); streams = while_talking l s.streams }
+with_answer s d r l = record s { account = l; controllers = update s.controllers d (after_hear (s.controllers d) r); asked_at = update s.asked_at d (s.asked_at d); streams = while_talking l s.streams }
 
 -- a request that stands, whose controller's device and addressee are nodes
 pub record Heard (s : State) (d : ℕ) (j : Job) (stage : Stage) : Type 0 where
@@ -164,7 +166,7 @@ pub record HalfHears (s : State) (d : ℕ) (j : Job) (stage : Stage) (x : Heard 
   pub access : access_of j stage ≡ Some (access_heard s d j stage x)
   pub answer : IsAnswer s.account x.target (reply_heard s d j stage x)
   pub response : Responds x.to (node_of s.account.latest d) (offset_of x.target) (swap_of j stage) (reply_heard s d j stage x)
-  pub half_is : half s d ≡ record { says = Some (Async response.packet); controller = after_hear (s.controllers d) (reply_heard s d j stage x) }
+  pub half_is : half s d ≡ record { says = Some (Async response.packet); controller = after_hear (s.controllers d) (reply_heard s d j stage x); asked_at = s.asked_at d }
   pub leads : next_account s.account (Async response.packet) ≡ Some (ended d (carried_out d j stage (reply_heard s d j stage x) s.account))
 
 pub half_hears : (s : State) (d : ℕ) (j : Job) (stage : Stage) → IsGood s → (s.controllers d).current ≡ Hearing j stage → (x : Heard s d j stage) → HalfHears s d j stage x
@@ -199,8 +201,8 @@ half_hears s d j stage g current x = record { access = access; answer = answer; 
     response : Responds x.to place (offset_of t) (swap_of j stage) r
     response = responds x.to place (offset_of t) (swap_of j stage) r
 
-    half_is : half s d ≡ record { says = Some (Async response.packet); controller = after_hear (s.controllers d) r }
-    half_is = ap (half_of s d) current ∙ (ap (hears s d) access ∙ (ap (λ o. hears_from s d o a) x.goes ∙ ap (λ o. record { says = option_map Async o; controller = after_hear (s.controllers d) r }) response.sent))
+    half_is : half s d ≡ record { says = Some (Async response.packet); controller = after_hear (s.controllers d) r; asked_at = s.asked_at d }
+    half_is = ap (half_of s d) current ∙ (ap (hears s d) access ∙ (ap (λ o. hears_from s d o a) x.goes ∙ ap (λ o. record { says = option_map Async o; controller = after_hear (s.controllers d) r; asked_at = s.asked_at d }) response.sent))
 
     row : row_of_node s.account.latest place ≡ Some (row_of d (kind_at s.declared.kinds d))
     row = subst (λ o. row_of_node o (node_of o d) ≡ Some (row_of d (kind_at s.declared.kinds d))) (sym x.is) (linked_at s x.entry d x.number x.shows.1 x.linked)
@@ -210,10 +212,10 @@ half_hears s d j stage g current x = record { access = access; answer = answer; 
         answer_leads (directory_of s) s.account s.controllers s.clock.cycle place x.to (row_of d (kind_at s.declared.kinds d)) j stage a r response.packet g.reclaims.step dir
         (linked_small s x.entry d x.number x.shows.1 x.linked) row current access x.goes answer response.is
 
-heard_good : (s : State) (d : ℕ) (j : Job) (stage : Stage) → IsGood s → IsTrue (is_living s d) → (s.controllers d).current ≡ Hearing j stage → (x : Heard s d j stage) → HalfHears s d j stage x → IsGood (after_half s d)
-heard_good s d j stage g lives current x h =
+heard_good : (s : State) (d : ℕ) (j : Job) (stage : Stage) → IsGood s → IsTrue (is_living s d) → IsFalse (is_deaf s d) → (s.controllers d).current ≡ Hearing j stage → (x : Heard s d j stage) → HalfHears s d j stage x → IsGood (after_half s d)
+heard_good s d j stage g lives quiet current x h =
     subst (λ z. IsGood (taken s d z)) (sym h.half_is) (subst (λ l. IsGood (with_answer s d r l)) (sym (ap (λ o. unwrap_or o s.account) h.leads))
-    (answered_good s d x.number x.to x.entry j stage x.target r g lives x.is x.shows x.linked (record { current = current; target = x.asked; answer = h.answer })))
+    (answered_good s d x.number x.to x.entry j stage x.target r g lives quiet x.is x.shows x.linked (record { current = current; target = x.asked; answer = h.answer })))
   where
     r : Reply
     r = reply_heard s d j stage x
@@ -247,5 +249,5 @@ heard_of s d j stage g lives current = of_latest s.account.latest refl (living_l
     of_latest None is on h = absurd (grind (arith, on))
     of_latest (Some e) is on h = of_number e is h (linked_number (Some e) d) refl on
 
-pub hears_good : (s : State) (d : ℕ) (j : Job) (stage : Stage) → IsGood s → IsTrue (is_living s d) → (s.controllers d).current ≡ Hearing j stage → IsGood (after_half s d)
-hears_good s d j stage g lives current = let x = heard_of s d j stage g lives current in heard_good s d j stage g lives current x (half_hears s d j stage g current x)
+pub hears_good : (s : State) (d : ℕ) (j : Job) (stage : Stage) → IsGood s → IsTrue (is_living s d) → IsFalse (is_deaf s d) → (s.controllers d).current ≡ Hearing j stage → IsGood (after_half s d)
+hears_good s d j stage g lives quiet current = let x = heard_of s d j stage g lives current in heard_good s d j stage g lives quiet current x (half_hears s d j stage g current x)

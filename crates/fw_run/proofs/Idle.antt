@@ -1,25 +1,28 @@
 -- Rounds in which no controller has anything to do change nothing, and write nothing.
-use Rattle.std.proofs.Common.{◌≡◌, ℕ, zero, suc, ◌+◌, ◌*◌, ◌<◌, ◌&&◌, ◌||◌, List, [], ◌∷◌, ◌++◌, length, cond, Bool, true, false, Option, Some, None, is_some, refl, ap, sym, subst, ◌∙◌, arith}
+use Rattle.std.proofs.Common.{◌≡◌, ℕ, zero, suc, ◌+◌, ◌*◌, ◌<◌, ◌&&◌, ◌||◌, List, [], ◌∷◌, ◌++◌, length, cond, Bool, true, false, Option, Some, None, is_some, refl, ap, sym, subst, ◌∙◌, arith, ◌≢◌, IsTrue}
 use Rattle.std.specs.Prelude.{⊤}
-use Rattle.fw_base.specs.Tables.{find_to}
+use Rattle.fw_base.specs.Tables.{find_to, update}
 use Rattle.fw_base.proofs.Tables.{IsFirst, find_to_is}
 use Rattle.fw_entry.specs.declared.entry.Timed.{Timed}
 use Rattle.fw_cmp.specs.declared.current.Current.{Current}
 use Rattle.fw_cmp.specs.declared.current.Current.TheVariants.{Nothing, Asking, Hearing, Overtaken}
 use Rattle.fw_cmp.specs.declared.outcome.Next.{Next}
-use Rattle.fw_cmp.specs.declared.outcome.Next.TheVariants.{Send, End, Idle, Waiting}
+use Rattle.fw_cmp.specs.declared.outcome.Next.TheVariants.{Send, End, Idle, Waiting, Deaf, Force}
 use Rattle.fw_cmp.specs.Controllers.{IsHeard}
 use Rattle.fw_cmp.specs.Turns.{next, is_busy}
 use Rattle.fw_cmp.proofs.Resting.{idle_stays}
 use Rattle.fw_run.specs.Giving.{at_most}
-use Rattle.fw_run.specs.State.{State, while_talking, numbers_to, is_living, living, directory_of}
+use Rattle.fw_run.specs.State.{State, while_talking, numbers_to, is_living, living, directory_of, is_deaf}
 use Rattle.fw_run.specs.HalfSteps.{HalfStep as Half, said, asks, half, half_of, taken, after_half, has_request, is_busy_at, is_unsettled}
 use Rattle.fw_run.specs.Actions.{Action, HalfStep, Rest, Step, Steps, counted}
 use Rattle.fw_run.specs.Carrying.{half_steps_of, Rounds, none, round, rest}
-use Rattle.fw_run.specs.Good.{IsGood}
+use Rattle.fw_run.specs.Good.{IsGood, Asks}
 use Rattle.fw_run.proofs.Counts.{same_counts}
 use Rattle.fw_run.proofs.Others.{same_table}
 use Rattle.fw_run.proofs.Steps.{step_good, steps_good}
+use Rattle.fw_run.proofs.Taking.{Taken, listens, keeps_deaf, forces_reset, taken_as}
+use Rattle.fw_cmp.specs.Losses.{asked_by}
+use Rattle.fw_cmp.proofs.Busy.{job_busy}
 
 -- ---- a half step of a controller that has nothing to do
 
@@ -28,18 +31,29 @@ says_none s d (Send to q) e = absurd (grind (arith, e))
 says_none s d (End i o) e = absurd (grind (arith, e))
 says_none s d Idle e = refl
 says_none s d (Waiting until) e = refl
+says_none s d (Deaf until) e = absurd (grind (arith, e))
+says_none s d Force e = absurd (grind (arith, e))
 
-asks_idle : (s : State) (d : ℕ) → IsGood s → IsHeard (s.controllers d).current → is_busy (next s.clock.cycle (directory_of s) (s.controllers d)) ≡ false → asks s d ≡ record { says = None; controller = s.controllers d }
+asked_none : (now before : ℕ) (x : Next) → is_busy x ≡ false → asked_by now before x ≡ before
+asked_none now before (Send to q) e = absurd (grind (arith, e))
+asked_none now before (End i o) e = refl
+asked_none now before Idle e = refl
+asked_none now before (Waiting until) e = refl
+asked_none now before (Deaf until) e = refl
+asked_none now before Force e = refl
+
+asks_idle : (s : State) (d : ℕ) → IsGood s → IsHeard (s.controllers d).current → is_busy (next s.clock.cycle (directory_of s) (s.controllers d)) ≡ false → asks s d ≡ record { says = None; controller = s.controllers d; asked_at = s.asked_at d }
 asks_idle s d g heard idle =
     let says = says_none s d (next s.clock.cycle (directory_of s) (s.controllers d)) idle in
     let stays = idle_stays s.clock.cycle (directory_of s) (s.controllers d) (g.reclaims.step.fits d) heard idle in
-    λ i. record { says = says i; controller = stays i }
+    let asked = asked_none s.clock.cycle (s.asked_at d) (next s.clock.cycle (directory_of s) (s.controllers d)) idle in
+    λ i. record { says = says i; controller = stays i; asked_at = asked i }
 
-pub half_idle : (s : State) (d : ℕ) → IsGood s → is_busy_at s d ≡ false → half s d ≡ record { says = None; controller = s.controllers d }
+pub half_idle : (s : State) (d : ℕ) → IsGood s → is_busy_at s d ≡ false → half s d ≡ record { says = None; controller = s.controllers d; asked_at = s.asked_at d }
 half_idle s d g idle = go (s.controllers d).current refl
   where
     Quiet : Current → Type 0
-    Quiet c = half_of s d c ≡ record { says = None; controller = s.controllers d }
+    Quiet c = half_of s d c ≡ record { says = None; controller = s.controllers d; asked_at = s.asked_at d }
 
     either : (a b : Bool) → (a || b) ≡ false → (a ≡ false) × (b ≡ false)
     either false false e = (refl, refl)
@@ -61,7 +75,8 @@ half_idle s d g idle = go (s.controllers d).current refl
 pub half_stays : (s : State) (d : ℕ) → IsGood s → is_busy_at s d ≡ false → after_half s d ≡ s
 half_stays s d g idle =
     ap (taken s d) (half_idle s d g idle)
-    ∙ (ap (λ f. record s { controllers = f; streams = while_talking s.account s.streams }) (same_table s.controllers d (s.controllers d) refl)
+    ∙ (ap (λ f. record s { controllers = f; asked_at = update s.asked_at d (s.asked_at d); streams = while_talking s.account s.streams }) (same_table s.controllers d (s.controllers d) refl)
+    ∙ ap (λ f. record s { asked_at = f; streams = while_talking s.account s.streams }) (same_table s.asked_at d (s.asked_at d) refl)
     ∙ ap (λ c. record s { streams = c }) (same_counts s.account s.streams g.streams))
 
 -- ---- the living controllers
@@ -106,8 +121,37 @@ idle_counted : (s : State) (n : ℕ) (ds : List ℕ) → AreIdle s ds → AreIdl
 idle_counted s n [] h = tt
 idle_counted s n (d ∷ ds) h = (h.0, idle_counted s n ds h.1)
 
+-- one that has lost a response is busy
+pub deaf_busy : (s : State) (d : ℕ) → IsGood s → IsTrue (is_deaf s d) → is_busy_at s d ≡ true
+deaf_busy s d g deaf = go (s.controllers d).current refl (g.losses.asks d deaf)
+  where
+    turns : Bool
+    turns = is_busy (next s.clock.cycle (directory_of s) (s.controllers d))
+
+    go : (c : Current) → (s.controllers d).current ≡ c → Asks c → (has_request (s.controllers d).current || turns) ≡ true
+    go Nothing e asks = absurd asks
+    go (Asking j stage) e asks =
+        let on : turns ≡ true = job_busy s.clock.cycle (directory_of s) (s.controllers d).slots (s.controllers d).waiting (s.controllers d).current (subst (λ x. x ≢ Nothing) (sym e) (λ f. cc f)) (subst IsHeard (sym e) tt) in
+        grind (arith, on)
+    go (Hearing j stage) e asks = absurd asks
+    go (Overtaken k o) e asks = absurd asks
+
 idle_step : (s : State) (d : ℕ) (out : List Timed) (t : State) → IsGood s → is_busy_at s d ≡ false → Step s (HalfStep d) out t → (out ≡ []) × (t ≡ counted s 1)
-idle_step s d out t g idle f = (f.1.2 ∙ ap (λ (h : Half). at_most s.clock.cycle h.says) (half_idle s d g idle), f.1.3 ∙ ap (λ z. counted z 1) (half_stays s d g idle))
+idle_step s d out t g idle f = go (taken_as s d out t f.1.2)
+  where
+    busy : (c : Current) → (s.controllers d).current ≡ c → Asks c → ⊥
+    busy Nothing e asks = asks
+    busy (Asking j stage) e asks =
+        let on : is_busy (next s.clock.cycle (directory_of s) (s.controllers d)) ≡ true = job_busy s.clock.cycle (directory_of s) (s.controllers d).slots (s.controllers d).waiting (s.controllers d).current (subst (λ x. x ≢ Nothing) (sym e) (λ f. cc f)) (subst IsHeard (sym e) tt) in
+        let off = idle in
+        grind (arith, on, off)
+    busy (Hearing j stage) e asks = asks
+    busy (Overtaken k o) e asks = asks
+
+    go : Taken s d out t → (out ≡ []) × (t ≡ counted s 1)
+    go (listens quiet said is) = (said ∙ ap (λ (h : Half). at_most s.clock.cycle h.says) (half_idle s d g idle), is ∙ ap (λ z. counted z 1) (half_stays s d g idle))
+    go (keeps_deaf deaf said is) = (said, is)
+    go (forces_reset deaf r) = absurd (busy (s.controllers d).current refl (g.losses.asks d deaf))
 
 idle_steps : (s : State) (ds : List ℕ) (out : List Timed) (t : State) → IsGood s → AreIdle s ds → Steps s (half_steps_of ds) out t → (out ≡ []) × (t ≡ counted s (length ds))
 idle_steps s [] out t g idle f = (f.0, f.1 ∙ counted_by s s.half_steps (s.half_steps + 0) (omega arith))

@@ -18,10 +18,10 @@ use Rattle.fw_cmp.specs.Starts.{started as given, break_started}
 use Rattle.fw_run.specs.declared.order.Access.{Access}
 use Rattle.fw_run.specs.declared.order.Access.TheVariants.{Read, Swap}
 use Rattle.fw_run.specs.declared.order.Transaction.{Transaction}
-use Rattle.fw_run.specs.State.{State, Declared, first_state, directory_of, is_on, is_linked, is_living, with_device}
+use Rattle.fw_run.specs.State.{State, Declared, first_state, directory_of, is_on, is_linked, is_living, with_device, is_deaf}
 use Rattle.fw_run.specs.Spaces.{access_request, target_node, is_manager, bus_manager_id_after}
 use Rattle.fw_run.specs.HalfSteps.{HalfStep as Half, asks, half, half_of, after_half}
-use Rattle.fw_run.specs.Actions.{Action, AddDevice, AddCable, ResetBus, StartConnection, StartBreak, HalfStep, Rest, Unsettled, Pass, EndSecond, Die, CarryOut, Start, Ask, Answer, ShowWord, SendCommand, SendFrame, Receive, InsertTape, EjectTape, StartCycle, SendPacket, Finish, Resets, Declares, Joins, with_topology, after_reset_entry, slot_of, start_of, Step}
+use Rattle.fw_run.specs.Actions.{Action, AddDevice, AddCable, ResetBus, StartConnection, StartBreak, HalfStep, Rest, Unsettled, Pass, EndSecond, Die, CarryOut, Lose, TellLoss, Start, Ask, Answer, ShowWord, SendCommand, SendFrame, Receive, InsertTape, EjectTape, StartCycle, SendPacket, Finish, Resets, Declares, Joins, with_topology, after_reset_entry, slot_of, start_of, Step, counting, beginning, counted}
 use Rattle.fw_run.specs.Good.{IsGood}
 use Rattle.fw_run.specs.Numbers.{CurrentShows, HasNumbers}
 use Rattle.fw_run.proofs.Endings.{next_shows, hears_shows, reset_shows}
@@ -30,6 +30,7 @@ use Rattle.fw_run.proofs.Fitting.{heard_fits}
 use Rattle.fw_run.proofs.Hears.{heard_of, half_hears, reply_heard}
 use Rattle.fw_run.proofs.Resets.{declaring}
 use Rattle.fw_run.proofs.Turns.{each_of}
+use Rattle.fw_run.proofs.Taking.{Taken, listens, keeps_deaf, forces_reset, taken_as}
 
 pub first_numbers : HasNumbers first_state
 first_numbers = record { shows = λ d. tt; bus_manager_id = omega arith; asks = λ x waits. absurd (cc waits) }
@@ -53,15 +54,18 @@ reset_numbers s n initiator out t b none r =
     let is = r.is_entry.epoch_is in
     let few = r.few in
     let low : r.entry.epoch < 2 ^ 32 = omega (arith, is, few) in
-    subst HasNumbers (sym r.state_is) (numbers_of s (after_reset_entry (declaring s n) r.entry) none refl (omega arith) (λ d. reset_shows r.entry.epoch (s.controllers d) low (b.shows d)))
+    subst HasNumbers (sym r.state_is) (numbers_of s (after_reset_entry (declaring s n) r.entry) none refl (omega arith) (λ d. reset_shows r.entry.epoch (is_deaf s d) (s.controllers d) low (b.shows d)))
+
+counting_numbers : (s : State) → HasNumbers s → HasNumbers (counting s)
+counting_numbers s b = record { shows = b.shows; bus_manager_id = b.bus_manager_id; asks = b.asks }
 
 declare_numbers : (s : State) (names : List (List ℕ)) (n : Declared) (out : List Timed) (t : State) → HasNumbers s → s.transaction ≡ None → Declares names (declaring s n) out t → HasNumbers t
-declare_numbers s [] n out t b none r = reset_numbers s n 0 out t b none r
+declare_numbers s [] n out t b none r = reset_numbers (beginning s) n 0 out t (record { shows = b.shows; bus_manager_id = b.bus_manager_id; asks = b.asks }) none r
 declare_numbers s (x ∷ names) n out t b none r = subst HasNumbers (sym r.1) (numbers_of s (declaring s n) none refl b.bus_manager_id b.shows)
 
 join_numbers : (x y : Bool) (a b : ℕ) (s : State) (g : Topology) (out : List Timed) (t : State) → HasNumbers s → s.transaction ≡ None → Joins x y a b (with_topology s g) out t → HasNumbers t
-join_numbers true false a b s g out t h none r = reset_numbers s (record s.declared { topology = g }) a out t h none r
-join_numbers false true a b s g out t h none r = reset_numbers s (record s.declared { topology = g }) b out t h none r
+join_numbers true false a b s g out t h none r = reset_numbers (counting s) (record s.declared { topology = g }) a out t (counting_numbers s h) none r.1
+join_numbers false true a b s g out t h none r = reset_numbers (counting s) (record s.declared { topology = g }) b out t (counting_numbers s h) none r.1
 join_numbers true true a b s g out t h none r = subst HasNumbers (sym r.1) (numbers_of s (with_topology s g) none refl h.bus_manager_id h.shows)
 join_numbers false false a b s g out t h none r = subst HasNumbers (sym r.1) (numbers_of s (with_topology s g) none refl h.bus_manager_id h.shows)
 
@@ -119,21 +123,28 @@ id_below s x b = either (is_manager s.account.latest (target_node s x)) _ s.bus_
 same_numbers : (s u t : State) → HasNumbers s → s.transaction ≡ None → u.transaction ≡ s.transaction → u.bus_manager_id ≡ s.bus_manager_id → u.controllers ≡ s.controllers → t ≡ u → HasNumbers t
 same_numbers s u t b none x id controllers is = subst HasNumbers (sym is) (numbers_of s u none x (subst (λ k. k < 2 ^ 32) (sym id) b.bus_manager_id) (subst (λ (f : ℕ → ControllerState). (d : ℕ) → CurrentShows (f d).current) (sym controllers) b.shows))
 
+taken_numbers : (s : State) (d : ℕ) (out : List Timed) (t : State) → IsGood s → HasNumbers s → s.transaction ≡ None → IsTrue (is_living s d) → Taken s d out t → HasNumbers t
+taken_numbers s d out t g b none lives (listens quiet said is) = let h = half_numbers s d g b none lives in subst HasNumbers (sym is) (numbers_of s _ none refl h.bus_manager_id h.shows)
+taken_numbers s d out t g b none lives (keeps_deaf deaf said is) = same_numbers s _ t b none refl refl refl is
+taken_numbers s d out t g b none lives (forces_reset deaf r) = reset_numbers (counted s 1) s.declared d out t (numbers_of s (counted s 1) none refl b.bus_manager_id b.shows) none r
+
 pub step_numbers : (s : State) (a : Action) (out : List Timed) (t : State) → IsGood s → HasNumbers s → Step s a out t → HasNumbers t
 step_numbers s (AddDevice name kind ports speed) out t g b x = declare_numbers s s.declared.names (with_device s.declared name kind ports speed) out t b x.0 x.1.4
 step_numbers s (AddCable p q) out t g b x = join_numbers (is_on s p.device) (is_on s q.device) p.device q.device s x.1.0 out t b x.0 x.1.2
-step_numbers s (ResetBus d) out t g b x = reset_numbers s s.declared d out t b x.0 x.1.1
+step_numbers s (ResetBus d) out t g b x = reset_numbers (counting s) s.declared d out t (counting_numbers s b) x.0 x.1.1.1
 step_numbers s (StartConnection d w) out t g b x =
     subst HasNumbers (sym x.1.4) (numbers_of s _ x.0 refl b.bus_manager_id
     (one_shows s d (given (start_of d w (s.controllers d)) (slot_of w) (s.controllers d)) b (subst CurrentShows (sym (given_current (start_of d w (s.controllers d)) (slot_of w) (s.controllers d))) (b.shows d))))
 step_numbers s (StartBreak d i) out t g b x = subst HasNumbers (sym x.1.3) (numbers_of s _ x.0 refl b.bus_manager_id (one_shows s d (break_started (s.controllers d) i) b (subst CurrentShows (sym (break_current (s.controllers d) i x.1.1)) (b.shows d))))
-step_numbers s (HalfStep d) out t g b x = let h = half_numbers s d g b x.0 x.1.0 in subst HasNumbers (sym x.1.3) (numbers_of s _ x.0 refl h.bus_manager_id h.shows)
+step_numbers s (HalfStep d) out t g b x = taken_numbers s d out t g b x.0 x.1.0 (taken_as s d out t x.1.2)
 step_numbers s (Rest n) out t g b x = same_numbers s _ t b x.0 refl refl refl x.1.3
 step_numbers s Unsettled out t g b x = same_numbers s _ t b x.0 refl refl refl x.1.2
 step_numbers s (Pass n) out t g b x = same_numbers s _ t b x.0 refl refl refl x.1.3
 step_numbers s EndSecond out t g b x = subst HasNumbers (sym x.1.4) (numbers_of s _ x.0 refl b.bus_manager_id b.shows)
 step_numbers s (Die d) out t g b x = subst HasNumbers (sym x.1.2) (numbers_of s _ x.0 refl b.bus_manager_id (one_shows s d new_controller b tt))
 step_numbers s (CarryOut d) out t g b x = subst HasNumbers (sym x.1.3) (half_numbers s d g b x.0 x.1.0)
+step_numbers s (Lose d) out t g b x = let h = half_numbers s d g b x.0 x.1.0 in subst HasNumbers (sym x.1.4) (numbers_of s _ x.0 refl h.bus_manager_id h.shows)
+step_numbers s (TellLoss d) out t g b x = same_numbers s _ t b x.0 refl refl refl x.1.2
 step_numbers s (Start d) out t g b x = subst HasNumbers (sym x.1.3) (numbers_of s _ x.0 refl b.bus_manager_id (one_shows s d new_controller b tt))
 step_numbers s (Ask y) out t g b x = subst HasNumbers (sym x.1.4) (record { shows = b.shows; bus_manager_id = b.bus_manager_id; asks = λ z waits. let same : y ≡ z = cc in subst (λ (w : Transaction). IsTrue (is_linked s w.to)) same x.1.1 })
 step_numbers s Answer out t g b x = subst HasNumbers (sym x.state_is) (record { shows = b.shows; bus_manager_id = id_below s x.transaction b; asks = λ z waits. absurd (cc waits) })

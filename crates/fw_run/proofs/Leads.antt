@@ -12,7 +12,7 @@ use Rattle.fw_ledger.specs.Words.{node_of}
 use Rattle.fw_cmp.specs.declared.current.Current.{Current}
 use Rattle.fw_cmp.specs.declared.current.Current.TheVariants.{Nothing, Asking, Hearing, Overtaken}
 use Rattle.fw_cmp.specs.declared.outcome.Next.{Next}
-use Rattle.fw_cmp.specs.declared.outcome.Next.TheVariants.{Send, End, Idle, Waiting}
+use Rattle.fw_cmp.specs.declared.outcome.Next.TheVariants.{Send, End, Idle, Waiting, Deaf, Force}
 use Rattle.fw_cmp.specs.declared.request.Access.{Access}
 use Rattle.fw_cmp.specs.Controllers.{IsHeard}
 use Rattle.fw_cmp.specs.Requests.{offset_of, request_of}
@@ -82,6 +82,8 @@ turn_next s d g x heard = go (next s.clock.cycle (directory_of s) (s.controllers
     go (End i o) f = subst Writes (sym f) refl
     go Idle f = subst Writes (sym f) refl
     go (Waiting until) f = subst Writes (sym f) refl
+    go (Deaf until) f = subst Writes (sym f) refl
+    go Force f = subst Writes (sym f) refl
 
 -- ---- the half step
 

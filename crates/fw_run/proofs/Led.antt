@@ -14,10 +14,10 @@ use Rattle.fw_ledger.specs.Account.{Account}
 use Rattle.fw_cmp.specs.declared.current.Current.{Current}
 use Rattle.fw_cmp.specs.declared.current.Current.TheVariants.{Nothing, Asking, Hearing, Overtaken}
 use Rattle.fw_cmp.specs.declared.outcome.Next.{Next}
-use Rattle.fw_cmp.specs.declared.outcome.Next.TheVariants.{Send, End as EndOf, Idle, Waiting}
+use Rattle.fw_cmp.specs.declared.outcome.Next.TheVariants.{Send, End as EndOf, Idle, Waiting, Deaf, Force}
 use Rattle.fw_cmp.specs.declared.request.Access.{Access}
 use Rattle.fw_cmp.specs.Controllers.{IsHeard}
-use Rattle.fw_cmp.specs.Requests.{offset_of, request_of, request_at}
+use Rattle.fw_cmp.specs.Requests.{offset_of, request_of, request_at, swap_bytes}
 use Rattle.fw_cmp.specs.Turns.{next, after_next}
 use Rattle.fw_node.specs.Packets.{packet_of}
 use Rattle.fw_step.specs.Requests.{Tells, IsResponse, procedure_head}
@@ -105,6 +105,18 @@ unlabelled l h offset (CycleStart k o time) other = tt
 unlabelled l h offset (Lock k o function bytes) other = tt
 unlabelled l h offset (LockReply k rcode function bytes) other = tt
 
+unlabelled_swap : (l : Account) (h : Head) (offset function : ℕ) (bytes : List ℕ) (q : Packet) → (h.tl ≡ 1 → ⊥) → IsReadBy l (Lock h offset function bytes) q
+unlabelled_swap l h offset function bytes (LockReply k rcode swapped old) other = λ label complete register at. absurd (other label)
+unlabelled_swap l h offset function bytes (WriteQuadlet k o value) other = tt
+unlabelled_swap l h offset function bytes (WriteBlock k o more) other = tt
+unlabelled_swap l h offset function bytes (WriteReply k rcode) other = tt
+unlabelled_swap l h offset function bytes (ReadQuadlet k o) other = tt
+unlabelled_swap l h offset function bytes (ReadBlock k o len) other = tt
+unlabelled_swap l h offset function bytes (ReadQuadletReply k rcode value) other = tt
+unlabelled_swap l h offset function bytes (ReadBlockReply k rcode more) other = tt
+unlabelled_swap l h offset function bytes (CycleStart k o time) other = tt
+unlabelled_swap l h offset function bytes (Lock k o f more) other = tt
+
 -- a packet that asks for nothing
 pub unread : (l : Account) (p : Packet) → ((q : Packet) → IsReadBy l p q) → (u : Entry) → IsReadIn l (Async p) u
 unread l p not (Async q) = not q
@@ -116,8 +128,8 @@ unread l p not (Shown s) = tt
 unread l p not End = tt
 
 request_says : (l : Account) (to source offset : ℕ) (w : Option Swap) → Says l (Some (Async (packet_of (procedure_head to source) (request_at offset w))))
-request_says l to source offset None = (tt, unread l (ReadQuadlet (procedure_head to source) offset) (λ q. unlabelled l (procedure_head to source) offset q (λ e. absurd (omega (arith, e)))))
-request_says l to source offset (Some swap) = (tt, unread l (packet_of (procedure_head to source) (request_at offset (Some swap))) (λ q. tt))
+request_says l to source offset None = ((tt, tt), unread l (ReadQuadlet (procedure_head to source) offset) (λ q. unlabelled l (procedure_head to source) offset q (λ e. absurd (omega (arith, e)))))
+request_says l to source offset (Some swap) = ((tt, tt), unread l (packet_of (procedure_head to source) (request_at offset (Some swap))) (λ q. unlabelled_swap l (procedure_head to source) offset 2 (swap_bytes swap) q (λ e. absurd (omega (arith, e)))))
 
 response_unread : (l : Account) (h : Head) (w : Option Swap) (r : Reply) (p q : Packet) → IsResponse h w r p → IsReadBy l p q
 response_unread l h None r p q is = subst (λ z. IsReadBy l z q) (sym is) tt
@@ -139,9 +151,11 @@ asks_says s d g heard = go (next s.clock.cycle (directory_of s) (s.controllers d
 
     go : (y : Next) → next s.clock.cycle (directory_of s) (s.controllers d) ≡ y → Ok (next s.clock.cycle (directory_of s) (s.controllers d))
     go (Send to q) f = let w = tells.sent to q f in subst Ok (sym f) (sends to q w.0 w.1)
-    go (EndOf i o) f = subst Ok (sym f) (tt, λ u. tt)
+    go (EndOf i o) f = subst Ok (sym f) ((tt, tt), λ u. tt)
     go Idle f = subst Ok (sym f) tt
     go (Waiting until) f = subst Ok (sym f) tt
+    go (Deaf until) f = subst Ok (sym f) tt
+    go Force f = subst Ok (sym f) tt
 
 pub half_says : (s : State) (d : ℕ) → IsGood s → IsTrue (is_living s d) → Says s.account (half s d).says
 half_says s d g lives = go (s.controllers d).current refl
@@ -168,6 +182,6 @@ half_led s d out t g lives is account clock =
 
 -- ---- bus resets
 
-pub reset_led : (s : State) (n : Declared) (initiator : ℕ) (out : List Timed) (t : State) → Resets (declaring s n) initiator out t → Led s out t
-reset_led s n initiator out t r =
-    led_now s (Some (Reset r.entry)) out t (ap (λ (x : State). x.clock.cycle) r.state_is) r.out_is (ap (λ (x : State). Some x.account) (sym r.state_is)) (tt, λ u. tt)
+pub reset_led : (s : State) (n : Declared) (counts given : ℕ) (initiator : ℕ) (out : List Timed) (t : State) → Resets (record s { declared = n; resets = counts; half_steps = given }) initiator out t → Led s out t
+reset_led s n counts given initiator out t r =
+    led_now s (Some (Reset r.entry)) out t (ap (λ (x : State). x.clock.cycle) r.state_is) r.out_is (ap (λ (x : State). Some x.account) (sym r.state_is)) ((tt, tt), λ u. tt)

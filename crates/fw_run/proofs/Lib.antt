@@ -11,12 +11,15 @@ pub mod Hears
 pub mod HalfSteps
 pub mod Others
 pub mod Networks
+pub mod NextEntry
+pub mod OffCables
 pub mod Grows
 pub mod Resets
 pub mod Cables
 pub mod Declares
 pub mod Leads
 pub mod Words
+pub mod Watched
 pub mod Responses
 pub mod Led
 pub mod Transactions
@@ -26,8 +29,10 @@ pub mod Commands
 pub mod SendsAll
 pub mod Given
 pub mod FrameWrites
+pub mod Taking
 pub mod Steps
 pub mod Along
+pub mod Epochs
 pub mod Endings
 pub mod Bounds
 pub mod Fitting
@@ -35,6 +40,7 @@ pub mod Kept
 pub mod StreamFits
 pub mod Spans
 pub mod Sounds
+pub mod Audits
 pub mod Runs
 pub mod Ended
 pub mod Idle
@@ -56,3 +62,7 @@ pub mod Lingers
 pub mod Talkers
 pub mod Counting
 pub mod CanWrite
+pub mod Forced
+pub mod Truth
+pub mod Recovery
+pub mod Apart

@@ -19,7 +19,7 @@ use Rattle.fw_ledger.proofs.Network.{any_at}
 use Rattle.fw_cmp.specs.declared.current.Current.{Current}
 use Rattle.fw_cmp.specs.declared.current.Current.TheVariants.{Nothing, Asking, Hearing, Overtaken}
 use Rattle.fw_cmp.specs.declared.outcome.Next.{Next}
-use Rattle.fw_cmp.specs.declared.outcome.Next.TheVariants.{Send, End as EndOf, Idle, Waiting}
+use Rattle.fw_cmp.specs.declared.outcome.Next.TheVariants.{Send, End as EndOf, Idle, Waiting, Deaf, Force}
 use Rattle.fw_cmp.specs.declared.request.Access.{Access}
 use Rattle.fw_cmp.specs.Requests.{access_of, addressee_of, request_of}
 use Rattle.fw_cmp.specs.Turns.{next}
@@ -33,16 +33,17 @@ use Rattle.fw_run.specs.Giving.{at_most}
 use Rattle.fw_run.specs.State.{State, directory_of, number_in, is_on, is_living}
 use Rattle.fw_run.specs.Spaces.{answer_packet}
 use Rattle.fw_run.specs.HalfSteps.{head_from, said, hears, hears_from, half, half_of, after_half}
-use Rattle.fw_run.specs.Actions.{Action, AddDevice, AddCable, ResetBus, StartConnection, StartBreak, HalfStep, Rest, Unsettled, Pass, EndSecond, Die}
+use Rattle.fw_run.specs.Actions.{Action, AddDevice, AddCable, ResetBus, StartConnection, StartBreak, HalfStep, Rest, Unsettled, Pass, EndSecond, Die, Lose, TellLoss}
 use Rattle.fw_run.specs.Actions.{CarryOut, Start, Ask, Answer, ShowWord, SendCommand, SendFrame, Receive, InsertTape, EjectTape, StartCycle, SendPacket, Finish, Step}
 use Rattle.fw_run.specs.Good.{IsGood, IsLatest}
-use Rattle.fw_run.specs.Lingering.{LingerBy, LingerThrough}
+use Rattle.fw_run.specs.Lingering.{LingerBy, LingerThrough, LingerHalf}
 use Rattle.fw_run.proofs.Along.{step_led}
 use Rattle.fw_run.proofs.Buses.{row_place}
 use Rattle.fw_run.proofs.Leads.{NextIs, half_next}
 use Rattle.fw_run.proofs.Led.{Led}
 use Rattle.fw_run.proofs.Times.{second_ends}
 use Rattle.fw_run.proofs.Words.{number_of_on}
+use Rattle.fw_run.proofs.Taking.{Taken, listens, keeps_deaf, forces_reset, taken_as}
 
 -- ---- by an entry, or none
 
@@ -89,6 +90,8 @@ says_half s d = go (s.controllers d).current
     said_half (EndOf slot outcome) = tt
     said_half Idle = tt
     said_half (Waiting until) = tt
+    said_half (Deaf until) = tt
+    said_half Force = tt
 
     packet : (o : Option Packet) → IsOfHalf (option_map Async o)
     packet None = tt
@@ -117,13 +120,36 @@ half_lingers s d g lives = of_half s.account (after_half s d).account (half s d)
 leads_to : (P : Account → Type 0) (t u : State) → t ≡ u → P u.account → P t.account
 leads_to P t u e h = subst (λ (z : State). P z.account) (sym e) h
 
+-- by the entry that a half step writes, which is no bus reset
+unforced : (l m : Account) (cycle : ℕ) (o : Option Entry) → IsOfHalf o → LingerUnchanged l m → LingerHalf (at_most cycle o) l m
+unforced l m cycle None h f = f
+unforced l m cycle (Some (Async p)) h f = f
+unforced l m cycle (Some (Outcome x)) h f = f
+unforced l m cycle (Some (Reset r)) h f = absurd h
+unforced l m cycle (Some (Iso p)) h f = absurd h
+unforced l m cycle (Some (Event x)) h f = absurd h
+unforced l m cycle (Some (Shown x)) h f = absurd h
+unforced l m cycle (Some End) h f = absurd h
+
+-- that of a bus reset
+by_force : (cycle : ℕ) (e : ResetEntry) (out : List Timed) (l m : Account) → out ≡ at_most cycle (Some (Reset e)) → LingerBy out l m → LingerHalf out l m
+by_force cycle e out l m is h = subst (λ o. LingerHalf o l m) (sym is) (subst (λ o. LingerBy o l m) is h)
+
+still_linger : (l : Account) → LingerUnchanged l l
+still_linger l p = grind (arith, nat_tests)
+
+taken_lingers : (s : State) (d : ℕ) (out : List Timed) (t : State) → IsGood s → IsTrue (is_living s d) → Led s out t → Taken s d out t → LingerHalf out s.account t.account
+taken_lingers s d out t g lives w (listens quiet said is) = subst (λ o. LingerHalf o s.account t.account) (sym said) (unforced s.account t.account s.clock.cycle (half s d).says (says_half s d) (leads_to (LingerUnchanged s.account) t _ is (half_lingers s d g lives)))
+taken_lingers s d out t g lives w (keeps_deaf deaf said is) = subst (λ o. LingerHalf o s.account t.account) (sym said) (leads_to (LingerUnchanged s.account) t _ is (still_linger s.account))
+taken_lingers s d out t g lives w (forces_reset deaf r) = by_force s.clock.cycle r.entry out s.account t.account r.out_is (by_entry s t out g w)
+
 pub step_lingers : (s : State) (a : Action) (out : List Timed) (t : State) → IsGood s → Step s a out t → LingerThrough a out s.account t.account
 step_lingers s (AddDevice name kind ports speed) out t g x = by_entry s t out g (step_led s t (AddDevice name kind ports speed) out g x)
 step_lingers s (AddCable a b) out t g x = by_entry s t out g (step_led s t (AddCable a b) out g x)
 step_lingers s (ResetBus d) out t g x = by_entry s t out g (step_led s t (ResetBus d) out g x)
 step_lingers s (StartConnection d w) out t g x = leads_to (SameLinger s.account) t _ x.1.4 (λ p. refl)
 step_lingers s (StartBreak d i) out t g x = leads_to (SameLinger s.account) t _ x.1.3 (λ p. refl)
-step_lingers s (HalfStep d) out t g x = leads_to (LingerUnchanged s.account) t _ x.1.3 (half_lingers s d g x.1.0)
+step_lingers s (HalfStep d) out t g x = taken_lingers s d out t g x.1.0 (step_led s t (HalfStep d) out g x) (taken_as s d out t x.1.2)
 step_lingers s (Rest n) out t g x = leads_to (SameLinger s.account) t _ x.1.3 (λ p. refl)
 step_lingers s Unsettled out t g x = leads_to (SameLinger s.account) t _ x.1.2 (λ p. refl)
 step_lingers s (Pass n) out t g x = leads_to (SameLinger s.account) t _ x.1.3 (λ p. refl)
@@ -131,6 +157,8 @@ step_lingers s EndSecond out t g x =
     let P : Account → Type 0 = λ l. (p : PlugAt) → l.continues p ≡ false in leads_to P t _ x.1.4 (subst P (sym (second_ends s.account x.1.1)) (λ p. refl))
 step_lingers s (Die d) out t g x = leads_to (SameLinger s.account) t _ x.1.2 (λ p. refl)
 step_lingers s (CarryOut d) out t g x = leads_to (LingerUnchanged s.account) t _ x.1.3 (half_lingers s d g x.1.0)
+step_lingers s (Lose d) out t g x = leads_to (LingerUnchanged s.account) t _ x.1.4 (half_lingers s d g x.1.0)
+step_lingers s (TellLoss d) out t g x = leads_to (SameLinger s.account) t _ x.1.2 (λ p. refl)
 step_lingers s (Start d) out t g x = leads_to (SameLinger s.account) t _ x.1.3 (λ p. refl)
 step_lingers s (Ask y) out t g x = leads_to (SameLinger s.account) t _ x.1.4 (λ p. refl)
 step_lingers s Answer out t g x = leads_to (SameLinger s.account) t _ x.state_is (λ p. refl)

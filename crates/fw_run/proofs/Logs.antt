@@ -3,6 +3,7 @@ use Rattle.std.proofs.Common.{◌≡◌, ℕ, ◌≤◌, List, [], ◌∷◌, �
 use Rattle.fw_entry.specs.declared.entry.Entry.{Entry}
 use Rattle.fw_entry.specs.declared.entry.Entry.TheVariants.{Reset, Async, Iso, Event, Outcome, Shown, End}
 use Rattle.fw_entry.specs.declared.entry.Timed.{Timed}
+use Rattle.fw_entry.specs.declared.version.Version.TheVariants.{Two}
 use Rattle.fw_entry.specs.Log.{header_bytes, InOrder, EndsAt, HasEnd, LogOpens, LogSpells, is_end}
 use Rattle.fw_script.specs.declared.command.Command.{Command}
 use Rattle.fw_script.specs.declared.command.Command.TheVariants as Commands
@@ -11,7 +12,7 @@ use Rattle.fw_run.specs.declared.order.Order.TheVariants as Orders
 use Rattle.fw_run.specs.Giving.{at_cycle, at_most, log_bytes}
 use Rattle.fw_run.specs.State.{State, first_state}
 use Rattle.fw_run.specs.Actions.{Action, Finish, Steps}
-use Rattle.fw_run.specs.Carrying.{Carries, writes_cycles, declares, joins, resets, connects, breaks, steps, settled, unsettled as not_settled, waits, waits_over, dies, dies_late, dies_idle, starts, goes_on, transacts, shows, commanded, inserts, ejects, ejects_nothing, ends}
+use Rattle.fw_run.specs.Carrying.{Carries, writes_cycles, declares, joins, resets, connects, breaks, steps, settled, unsettled as not_settled, waits, waits_over, dies, dies_late, dies_idle, loses, starts, goes_on, transacts, shows, commanded, inserts, ejects, ejects_nothing, ends}
 use Rattle.fw_run.specs.Runs.{Run}
 use Rattle.fw_run.specs.Logs.{HasNoEnd}
 use Rattle.fw_run.specs.Good.{IsGood}
@@ -54,7 +55,7 @@ in_order c d [] (e ∷ u ∷ us) span un few = absurd (omega (arith, few))
 in_order c d (e ∷ front) back span un few = (span.0, span.1, ends_at e.what (front ++ back) un.0, in_order e.cycle d front back span.2 un.1 few)
 
 opens_of : (actions : List Action) (front back : List Timed) (s : State) → Steps first_state actions (front ++ back) s → IsUnended front → length back ≤ 1
-    → LogOpens (front ++ back) (header_bytes ++ log_bytes (front ++ back))
+    → LogOpens (front ++ back) Two (header_bytes Two ++ log_bytes 0 (front ++ back))
 opens_of actions front back s f un few = record { order = in_order 0 s.clock.cycle front back (steps_span first_state s actions (front ++ back) first_good first_numbers f) un few; same = refl }
 
 -- a front of a log is a log without its end
@@ -72,7 +73,7 @@ order_front : (c : ℕ) (front rest : List Timed) → InOrder c (front ++ rest) 
 order_front c [] rest f = tt
 order_front c (e ∷ front) rest f = (f.0, f.1, ends_front e.what front rest f.2, order_front e.cycle front rest f.3)
 
-pub opens_front : (front rest : List Timed) (bytes : List ℕ) → LogOpens (front ++ rest) bytes → LogOpens front (header_bytes ++ log_bytes front)
+pub opens_front : (front rest : List Timed) (bytes : List ℕ) → LogOpens (front ++ rest) Two bytes → LogOpens front Two (header_bytes Two ++ log_bytes 0 front)
 opens_front front rest bytes f = record { order = order_front 0 front rest f.order; same = refl }
 
 -- ---- runs
@@ -82,13 +83,13 @@ empty_behind [] = refl
 empty_behind (x ∷ xs) = ap (λ z. x ∷ z) (empty_behind xs)
 
 -- steps of actions none of which is the end
-steps_open : (actions : List Action) (log : List Timed) (s : State) → Steps first_state actions log s → IsUnended log → LogOpens log (header_bytes ++ log_bytes log)
+steps_open : (actions : List Action) (log : List Timed) (s : State) → Steps first_state actions log s → IsUnended log → LogOpens log Two (header_bytes Two ++ log_bytes 0 log)
 steps_open actions log s f un =
     let same = empty_behind log in
-    subst (λ z. LogOpens z (header_bytes ++ log_bytes z)) (sym same) (opens_of actions log [] s (subst (λ z. Steps first_state actions z s) same f) un (omega arith))
+    subst (λ z. LogOpens z Two (header_bytes Two ++ log_bytes 0 z)) (sym same) (opens_of actions log [] s (subst (λ z. Steps first_state actions z s) same f) un (omega arith))
 
 pub run_opens : (commands : List Command) (actions : List Action) (log : List Timed) (s : State) → Run commands actions log s → HasNoEnd commands
-    → LogOpens log (header_bytes ++ log_bytes log)
+    → LogOpens log Two (header_bytes Two ++ log_bytes 0 log)
 run_opens commands actions log s r none = steps_open actions log s (run_steps commands actions log s r) (run_unended commands actions log s r none)
 
 -- what the end of the script writes
@@ -103,12 +104,12 @@ finished s t o xs out is f =
     g.4 ∙ (ap (λ z. z ++ g.1) g.3.1.0 ∙ ap (λ z. at_cycle s.clock.cycle End ∷ z) g.5.0)
 
 pub run_spells : (commands : List Command) (actions : List Action) (log : List Timed) (s : State) → Run (commands ++ Commands.End ∷ []) actions log s
-    → HasNoEnd commands → LogSpells log (header_bytes ++ log_bytes log)
+    → HasNoEnd commands → LogSpells log Two (header_bytes Two ++ log_bytes 0 log)
 run_spells commands actions log s r none =
     let w = last_of (commands ++ Commands.End ∷ []) commands Commands.End actions log s r refl in
     let last = finished w.state s w.order w.more w.out w.decided.0 (carried w.state w.order w.more w.out s w.carries) in
     let is : log ≡ w.front ++ at_cycle w.state.clock.cycle End ∷ [] = w.log_is ∙ ap (λ z. w.front ++ z) last in
-    subst (λ z. LogSpells z (header_bytes ++ log_bytes z)) (sym is) (record {
+    subst (λ z. LogSpells z Two (header_bytes Two ++ log_bytes 0 z)) (sym is) (record {
       opens = opens_of actions w.front (at_cycle w.state.clock.cycle End ∷ []) s (subst (λ z. Steps first_state actions z s) is (run_steps (commands ++ Commands.End ∷ []) actions log s r)) (run_unended commands w.early w.front w.state w.run none) (omega arith);
       ends = has_end w.front w.state.clock.cycle;
     })
@@ -154,6 +155,7 @@ end_actions s o xs out t (writes_cycles f) is = absurd (cc is)
 end_actions s o xs out t (dies f) is = absurd (cc is)
 end_actions s o xs out t (dies_late f) is = absurd (cc is)
 end_actions s o xs out t (dies_idle e f) is = absurd (cc is)
+end_actions s o xs out t (loses f) is = absurd (cc is)
 end_actions s o xs out t (starts f) is = absurd (cc is)
 end_actions s o xs out t (goes_on e) is = absurd (cc is)
 end_actions s o xs out t (transacts f) is = absurd (cc is)
@@ -166,7 +168,7 @@ end_actions s o xs out t (ends f) is = refl
 
 -- entries of a front of an order's actions
 pub cut_opens : (commands : List Command) (actions done later : List Action) (log out more : List Timed) (s t u : State) (o : Order) → Run commands actions log s
-    → HasNoEnd commands → Carries s o (done ++ later) more u → Steps s done out t → LogOpens (log ++ out) (header_bytes ++ log_bytes (log ++ out))
+    → HasNoEnd commands → Carries s o (done ++ later) more u → Steps s done out t → LogOpens (log ++ out) Two (header_bytes Two ++ log_bytes 0 (log ++ out))
 cut_opens commands actions done later log out more s t u o r none is f = go (end_or_none o)
   where
     un : IsUnended log
@@ -175,7 +177,7 @@ cut_opens commands actions done later log out more s t u o r none is f = go (end
     steps_ : Steps first_state (actions ++ done) (log ++ out) t
     steps_ = steps_then first_state s t actions done log out (run_steps commands actions log s r) f
 
-    go : IsNoEnd o ⊎ (o ≡ Orders.End) → LogOpens (log ++ out) (header_bytes ++ log_bytes (log ++ out))
+    go : IsNoEnd o ⊎ (o ≡ Orders.End) → LogOpens (log ++ out) Two (header_bytes Two ++ log_bytes 0 (log ++ out))
     go (inl continues) = steps_open (actions ++ done) (log ++ out) t steps_ (unended_then log out un (steps_unended s t done out (finish_front done later (no_finish s o (done ++ later) more u continues is)) f))
     go (inr ended) =
         let few = front_few done later (sym (end_actions s o (done ++ later) more u is ended)) in

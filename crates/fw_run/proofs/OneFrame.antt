@@ -6,11 +6,11 @@ use Rattle.fw_fcp.specs.declared.frame.Frame.{Frame}
 use Rattle.fw_fcp.specs.Frames.{Fits, spelling}
 use Rattle.fw_tape.specs.declared.row.TapeRow.TheVariants.{Eject, Enter, TransportState, TimeCode}
 use Rattle.fw_avc.specs.declared.row.UnitRow.TheVariants.{UnitInfo, SubunitInfo, PlugInfo, SetPower, PowerState, VendorDependent}
-use Rattle.fw_avc.specs.Replies.{Ruling, Repeat, CarryOut, OfUnit, OfTape, Makes, IsResponse, IsVendorResponse, ruling}
+use Rattle.fw_avc.specs.Replies.{company, Ruling, Repeat, CarryOut, OfUnit, OfTape, Makes, IsResponse, IsVendorResponse, ruling}
 use Rattle.fw_avc.specs.State.{UnitState}
 use Rattle.fw_node.specs.Fcp.{IsCommand}
 use Rattle.fw_run.specs.Decks.{Obeyed, FrameWrite}
-use Rattle.fw_run.specs.Desks.{desk_of}
+use Rattle.fw_run.specs.Desks.{DeskRelations, IsFunction}
 use Rattle.fw_run.specs.Frames.{request_of, IsFollowedBy, Receives}
 use Rattle.fw_run.specs.Given.{IsGiven}
 use Rattle.fw_run.specs.Actions.{Receive}
@@ -33,53 +33,53 @@ one_frame f g a b e =
 
 -- ---- one response
 
-one_made : (blocks : ℕ → ℕ → ℕ → List ℕ) (vendor : ℕ → ℕ → ℕ) (asked xs ys : List ℕ) → Makes (desk_of blocks vendor).vendor asked xs → Makes (desk_of blocks vendor).vendor asked ys → xs ≡ ys
-one_made blocks vendor [] [] [] f g = refl
-one_made blocks vendor [] [] (y ∷ ys) f g = absurd g
-one_made blocks vendor [] (x ∷ xs) ys f g = absurd f
-one_made blocks vendor (a ∷ asked) [] ys f g = absurd f
-one_made blocks vendor (a ∷ asked) (x ∷ xs) [] f g = absurd g
-one_made blocks vendor (a ∷ asked) (x ∷ xs) (y ∷ ys) f g =
-    let first : x ≡ y = f.0 ∙ sym g.0 in
-    let rest = one_made blocks vendor asked xs ys f.1 g.1 in
+one_made : (D : DeskRelations) (only : IsFunction D) (asked xs ys : List ℕ) → Makes D.vendor asked xs → Makes D.vendor asked ys → xs ≡ ys
+one_made D only [] [] [] f g = refl
+one_made D only [] [] (y ∷ ys) f g = absurd g
+one_made D only [] (x ∷ xs) ys f g = absurd f
+one_made D only (a ∷ asked) [] ys f g = absurd f
+one_made D only (a ∷ asked) (x ∷ xs) [] f g = absurd g
+one_made D only (a ∷ asked) (x ∷ xs) (y ∷ ys) f g =
+    let first : x ≡ y = only.bytes company a x y f.0 g.0 in
+    let rest = one_made D only asked xs ys f.1 g.1 in
     λ i. first i ∷ rest i
 
-one_vendor : (blocks : ℕ → ℕ → ℕ → List ℕ) (vendor : ℕ → ℕ → ℕ) (f r q : Frame) → IsVendorResponse (desk_of blocks vendor).vendor f r → IsVendorResponse (desk_of blocks vendor).vendor f q → r ≡ q
-one_vendor blocks vendor f r q a b =
-    let bytes = one_made blocks vendor (drop 3 f.operands) a.bytes b.bytes a.made b.made in
+one_vendor : (D : DeskRelations) (only : IsFunction D) (f r q : Frame) → IsVendorResponse D.vendor f r → IsVendorResponse D.vendor f q → r ≡ q
+one_vendor D only f r q a b =
+    let bytes = one_made D only (drop 3 f.operands) a.bytes b.bytes a.made b.made in
     a.frame ∙ (ap (λ (xs : List ℕ). record f { code = 9; operands = 0xA0 ∷ 0xB0 ∷ 0xC0 ∷ xs }) bytes ∙ sym b.frame)
 
-pub one_response : (blocks : ℕ → ℕ → ℕ → List ℕ) (vendor : ℕ → ℕ → ℕ) (u : UnitState) (f : Frame) (rule : Ruling) (r q : Frame) → IsResponse (desk_of blocks vendor).vendor u f rule r → IsResponse (desk_of blocks vendor).vendor u f rule q → r ≡ q
-one_response blocks vendor u f (Repeat code) r q a b = a ∙ sym b
-one_response blocks vendor u f (CarryOut (OfUnit UnitInfo)) r q a b = a ∙ sym b
-one_response blocks vendor u f (CarryOut (OfUnit SubunitInfo)) r q a b = a ∙ sym b
-one_response blocks vendor u f (CarryOut (OfUnit PlugInfo)) r q a b = a ∙ sym b
-one_response blocks vendor u f (CarryOut (OfUnit (SetPower on))) r q a b = a ∙ sym b
-one_response blocks vendor u f (CarryOut (OfUnit PowerState)) r q a b = a ∙ sym b
-one_response blocks vendor u f (CarryOut (OfUnit VendorDependent)) r q a b = one_vendor blocks vendor f r q a b
-one_response blocks vendor u f (CarryOut (OfTape TransportState)) r q a b = a ∙ sym b
-one_response blocks vendor u f (CarryOut (OfTape TimeCode)) r q a b = a ∙ sym b
-one_response blocks vendor u f (CarryOut (OfTape Eject)) r q a b = a ∙ sym b
-one_response blocks vendor u f (CarryOut (OfTape (Enter t))) r q a b = a ∙ sym b
+pub one_response : (D : DeskRelations) (only : IsFunction D) (u : UnitState) (f : Frame) (rule : Ruling) (r q : Frame) → IsResponse D.vendor u f rule r → IsResponse D.vendor u f rule q → r ≡ q
+one_response D only u f (Repeat code) r q a b = a ∙ sym b
+one_response D only u f (CarryOut (OfUnit UnitInfo)) r q a b = a ∙ sym b
+one_response D only u f (CarryOut (OfUnit SubunitInfo)) r q a b = a ∙ sym b
+one_response D only u f (CarryOut (OfUnit PlugInfo)) r q a b = a ∙ sym b
+one_response D only u f (CarryOut (OfUnit (SetPower on))) r q a b = a ∙ sym b
+one_response D only u f (CarryOut (OfUnit PowerState)) r q a b = a ∙ sym b
+one_response D only u f (CarryOut (OfUnit VendorDependent)) r q a b = one_vendor D only f r q a b
+one_response D only u f (CarryOut (OfTape TransportState)) r q a b = a ∙ sym b
+one_response D only u f (CarryOut (OfTape TimeCode)) r q a b = a ∙ sym b
+one_response D only u f (CarryOut (OfTape Eject)) r q a b = a ∙ sym b
+one_response D only u f (CarryOut (OfTape (Enter t))) r q a b = a ∙ sym b
 
 -- ---- what follows from a write
 
 one_command : (w : FrameWrite) (f g : Frame) → IsCommand (Some (request_of w)) f → IsCommand (Some (request_of w)) g → f ≡ g
 one_command w f g a b = one_frame f g a.fits b.fits (same_Some (spelling f) (spelling g) (sym a.written ∙ b.written))
 
-one_followed : (blocks : ℕ → ℕ → ℕ → List ℕ) (vendor : ℕ → ℕ → ℕ) (s : State) (w : FrameWrite) (x y : Option Obeyed) → IsFollowedBy s w x → IsFollowedBy s w y → IsGiven (desk_of blocks vendor) (Receive x) → IsGiven (desk_of blocks vendor) (Receive y) → x ≡ y
-one_followed blocks vendor s w None None f g given other = refl
-one_followed blocks vendor s w None (Some y) f g given other = absurd (f g.0 y.command g.1)
-one_followed blocks vendor s w (Some x) None f g given other = absurd (g f.0 x.command f.1)
-one_followed blocks vendor s w (Some x) (Some y) f g given other =
+one_followed : (D : DeskRelations) (only : IsFunction D) (s : State) (w : FrameWrite) (x y : Option Obeyed) → IsFollowedBy s w x → IsFollowedBy s w y → IsGiven D (Receive x) → IsGiven D (Receive y) → x ≡ y
+one_followed D only s w None None f g given other = refl
+one_followed D only s w None (Some y) f g given other = absurd (f g.0 y.command g.1)
+one_followed D only s w (Some x) None f g given other = absurd (g f.0 x.command f.1)
+one_followed D only s w (Some x) (Some y) f g given other =
     let unit : x.unit ≡ y.unit = f.2 ∙ sym g.2 in
     let command : x.command ≡ y.command = one_command w x.command y.command f.1 g.1 in
-    let moved : IsResponse (desk_of blocks vendor).vendor x.unit x.command (ruling x.unit x.command) y.response
-    = subst (λ c. IsResponse (desk_of blocks vendor).vendor x.unit c (ruling x.unit c) y.response) (sym command) (subst (λ u. IsResponse (desk_of blocks vendor).vendor u y.command (ruling u y.command) y.response) (sym unit) other) in
-    let response = one_response blocks vendor x.unit x.command (ruling x.unit x.command) x.response y.response given moved in
+    let moved : IsResponse D.vendor x.unit x.command (ruling x.unit x.command) y.response
+    = subst (λ c. IsResponse D.vendor x.unit c (ruling x.unit c) y.response) (sym command) (subst (λ u. IsResponse D.vendor u y.command (ruling u y.command) y.response) (sym unit) other) in
+    let response = one_response D only x.unit x.command (ruling x.unit x.command) x.response y.response given moved in
     λ i. Some (record { unit = unit i; command = command i; response = response i })
 
-pub one_obeyed : (blocks : ℕ → ℕ → ℕ → List ℕ) (vendor : ℕ → ℕ → ℕ) (s t u : State) (x y : Option Obeyed) (out other : List Timed) → Receives s x out t → Receives s y other u → IsGiven (desk_of blocks vendor) (Receive x) → IsGiven (desk_of blocks vendor) (Receive y) → x ≡ y
-one_obeyed blocks vendor s t u x y out other f g given after =
+pub one_obeyed : (D : DeskRelations) (only : IsFunction D) (s t u : State) (x y : Option Obeyed) (out other : List Timed) → Receives s x out t → Receives s y other u → IsGiven D (Receive x) → IsGiven D (Receive y) → x ≡ y
+one_obeyed D only s t u x y out other f g given after =
     let same : g.write ≡ f.write = same_Some g.write f.write (sym g.waits ∙ f.waits) in
-    one_followed blocks vendor s f.write x y f.followed (subst (λ w. IsFollowedBy s w y) same g.followed) given after
+    one_followed D only s f.write x y f.followed (subst (λ w. IsFollowedBy s w y) same g.followed) given after

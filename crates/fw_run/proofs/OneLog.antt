@@ -16,7 +16,7 @@ use Rattle.fw_run.specs.Actions.{Action}
 use Rattle.fw_run.specs.Carrying.{Carries}
 use Rattle.fw_run.specs.Rules.{IsNamed, IsEnd, IsOrder, IsShown, plug_of, system_with, Transacts, Decides}
 use Rattle.fw_run.specs.Runs.{Run, begun, and_then}
-use Rattle.fw_run.specs.Desks.{desk_of}
+use Rattle.fw_run.specs.Desks.{DeskRelations, IsFunction}
 use Rattle.fw_run.specs.Given.{AreGiven}
 use Rattle.fw_run.specs.Good.{IsGood}
 use Rattle.fw_run.proofs.Given.{given_append}
@@ -81,6 +81,7 @@ one_order s (Commands.Settle rounds) o p f g = f ∙ sym g
 one_order s (Commands.Wait cycles) o p f g = f ∙ sym g
 one_order s (Commands.Cycles count) o p f g = f ∙ sym g
 one_order s (Commands.Die name late) o p f g = f.2 ∙ (ap (λ d. order.Die d late) (one_name s name f.0 g.0 f.1 g.1) ∙ sym g.2)
+one_order s (Commands.Lose name) o p f g = f.2 ∙ (ap order.Lose (one_name s name f.0 g.0 f.1 g.1) ∙ sym g.2)
 one_order s (Commands.Start name) o p f g = f.2 ∙ (ap order.Start (one_name s name f.0 g.0 f.1 g.1) ∙ sym g.2)
 one_order s (Commands.Command name other frame) o p f g =
     let from = one_name s name f.0 g.0 f.2 g.2 in
@@ -150,23 +151,23 @@ run_good : (commands : List Command) (actions : List Action) (log : List Timed) 
 run_good commands actions log s r = steps_good first_state s actions log first_good (run_steps commands actions log s r)
 
 -- they need not be the same actions: where nobody has anything to do, rounds may be taken one after another, or at once
-pub one_run : (blocks : ℕ → ℕ → ℕ → List ℕ) (vendor : ℕ → ℕ → ℕ) (commands : List Command) (actions others : List Action) (log other : List Timed) (s t : State) → Run commands actions log s → Run commands others other t
-    → AreGiven (desk_of blocks vendor) actions → AreGiven (desk_of blocks vendor) others → Same log s other t
-one_run blocks vendor commands actions others log other s t begun g v w = nothing_done commands others other t g refl
-one_run blocks vendor commands actions others log other s t (and_then {commands = cs} {actions = xs} {log = front} {s = mid} r c o more out u decided f) g v w =
-    go (last_of commands cs c others other t g refl) (λ others other t g w. one_run blocks vendor cs xs others front other mid t r g (given_append (desk_of blocks vendor) xs more v).0 w)
+pub one_run : (D : DeskRelations) (only : IsFunction D) (commands : List Command) (actions others : List Action) (log other : List Timed) (s t : State) → Run commands actions log s → Run commands others other t
+    → AreGiven D actions → AreGiven D others → Same log s other t
+one_run D only commands actions others log other s t begun g v w = nothing_done commands others other t g refl
+one_run D only commands actions others log other s t (and_then {commands = cs} {actions = xs} {log = front} {s = mid} r c o more out u decided f) g v w =
+    go (last_of commands cs c others other t g refl) (λ others other t g w. one_run D only cs xs others front other mid t r g (given_append D xs more v).0 w)
   where
-    go : Last cs c others other t → ((others : List Action) (other : List Timed) (t : State) → Run cs others other t → AreGiven (desk_of blocks vendor) others → Same front mid other t) → Same (front ++ out) u other t
+    go : Last cs c others other t → ((others : List Action) (other : List Timed) (t : State) → Run cs others other t → AreGiven D others → Same front mid other t) → Same (front ++ out) u other t
     go l same_before =
-        let given = given_append (desk_of blocks vendor) l.early l.more (subst (AreGiven (desk_of blocks vendor)) l.actions_are w) in
+        let given = given_append D l.early l.more (subst (AreGiven D) l.actions_are w) in
         let before = same_before l.early l.front l.state l.run given.0 in
         let order : o ≡ l.order = one_order mid c o l.order decided.0 (subst (λ z. IsOrder z c l.order) (sym before.1) l.decided.0) in
         let here : CarriedBy mid l.order l.more l.out t = subst (λ z. CarriedBy z l.order l.more l.out t) (sym before.1) (carried l.state l.order l.more l.out t l.carries) in
-        let result = one_carried blocks vendor mid o more l.more out l.out u t (run_good cs xs front mid r) (given_append (desk_of blocks vendor) xs more v).1 given.1 (carried mid o more out u f) (subst (λ z. CarriedBy mid z l.more l.out t) (sym order) here) in
+        let result = one_carried D only mid o more l.more out l.out u t (run_good cs xs front mid r) (given_append D xs more v).1 given.1 (carried mid o more out u f) (subst (λ z. CarriedBy mid z l.more l.out t) (sym order) here) in
         (ap (λ z. z ++ out) before.0 ∙ (ap (λ z. l.front ++ z) result.0 ∙ sym l.log_is), result.1)
 
 -- ---- what decides
 
-pub one_carries : (blocks : ℕ → ℕ → ℕ → List ℕ) (vendor : ℕ → ℕ → ℕ) (s : State) (o : Order) (actions others : List Action) (out other : List Timed) (t u : State) → IsGood s → Carries s o actions out t → Carries s o others other u
-    → AreGiven (desk_of blocks vendor) actions → AreGiven (desk_of blocks vendor) others → (out ≡ other) × (t ≡ u)
-one_carries blocks vendor s o actions others out other t u g f h v w = one_carried blocks vendor s o actions others out other t u g v w (carried s o actions out t f) (carried s o others other u h)
+pub one_carries : (D : DeskRelations) (only : IsFunction D) (s : State) (o : Order) (actions others : List Action) (out other : List Timed) (t u : State) → IsGood s → Carries s o actions out t → Carries s o others other u
+    → AreGiven D actions → AreGiven D others → (out ≡ other) × (t ≡ u)
+one_carries D only s o actions others out other t u g f h v w = one_carried D only s o actions others out other t u g v w (carried s o actions out t f) (carried s o others other u h)

@@ -5,10 +5,10 @@ use Rattle.fw_run.specs.declared.order.Order.{Order}
 use Rattle.fw_run.specs.declared.order.Order.TheVariants as order
 use Rattle.fw_run.specs.State.{State, living}
 use Rattle.fw_run.specs.HalfSteps.{has_request, is_unsettled}
-use Rattle.fw_run.specs.Actions.{Action, AddDevice, AddCable, ResetBus, StartConnection, StartBreak, HalfStep, Unsettled, Pass, EndSecond, Die, CarryOut, Start, Ask, Answer, ShowWord, SendCommand, SendFrame, Receive, InsertTape, EjectTape, Finish, Steps}
-use Rattle.fw_run.specs.Carrying.{times, half_steps_of, Rounds, Carries, declares, joins, resets, connects, breaks, steps, settled, unsettled as not_settled, waits, waits_over, writes_cycles, HasCycles, dies, dies_late, dies_idle, starts, goes_on, transacts, shows, commanded, inserts, ejects, ejects_nothing, SendsAll, quiet, sends, ends}
+use Rattle.fw_run.specs.Actions.{Action, AddDevice, AddCable, ResetBus, StartConnection, StartBreak, HalfStep, Unsettled, Pass, EndSecond, Die, CarryOut, Lose, TellLoss, Start, Ask, Answer, ShowWord, SendCommand, SendFrame, Receive, InsertTape, EjectTape, Finish, Steps}
+use Rattle.fw_run.specs.Carrying.{times, half_steps_of, Rounds, Carries, declares, joins, resets, connects, breaks, steps, settled, unsettled as not_settled, waits, waits_over, writes_cycles, HasCycles, dies, dies_late, dies_idle, loses, starts, goes_on, transacts, shows, commanded, inserts, ejects, ejects_nothing, SendsAll, quiet, sends, ends}
 use Rattle.fw_run.specs.Decks.{Obeyed}
-use Rattle.fw_run.specs.Desks.{DeskRelations, desk_of}
+use Rattle.fw_run.specs.Desks.{DeskRelations, IsFunction}
 use Rattle.fw_run.specs.Frames.{next_told, Sends, Receives}
 use Rattle.fw_run.specs.Given.{IsGiven, AreGiven}
 use Rattle.fw_run.specs.Good.{IsGood}
@@ -72,6 +72,7 @@ CarriedBy s (order.Wait n) ys out t = Steps s (Pass n ∷ []) out t ⊎ ((before
 CarriedBy s (order.Cycles n) ys out t = HasCycles n s ys out t
 CarriedBy s (order.Die d false) ys out t = Steps s (Die d ∷ []) out t
 CarriedBy s (order.Die d true) ys out t = Steps s (CarryOut d ∷ Die d ∷ []) out t ⊎ (IsFalse (has_request (s.controllers d).current) × Steps s (Die d ∷ []) out t)
+CarriedBy s (order.Lose d) ys out t = Steps s (Lose d ∷ TellLoss d ∷ []) out t
 CarriedBy s (order.Start d) ys out t = Steps s (Start d ∷ []) out t ⊎ (IsFalse (s.dead d) × (out ≡ []) × (t ≡ s))
 CarriedBy s (order.Transact x) ys out t = Steps s (Ask x ∷ Answer ∷ []) out t
 CarriedBy s (order.Show d offset) ys out t = Steps s (ShowWord d offset ∷ []) out t
@@ -100,6 +101,7 @@ carried s o xs out t (writes_cycles f) = f
 carried s o xs out t (dies f) = f
 carried s o xs out t (dies_late f) = inl f
 carried s o xs out t (dies_idle e f) = inr (e, f)
+carried s o xs out t (loses f) = f
 carried s o xs out t (starts f) = inl f
 carried s o xs out t (goes_on e) = inr (e, refl, refl)
 carried s o xs out t (transacts f) = f
@@ -133,11 +135,11 @@ one_then d s m n t u done xs ys first first2 rest rest2 good f g h k =
     (ap (λ z. z ++ rest) now.0 ∙ ap (λ z. first2 ++ z) later.0, later.1)
 
 -- what follows from a command is the same, where the vendor makes one thing of each byte
-same_obeyed : (blocks : ℕ → ℕ → ℕ → List ℕ) (vendor : ℕ → ℕ → ℕ) (s m n : State) (a b : ℕ) (bytes : List ℕ) (x y : Option Obeyed) (first first2 : List Timed) → IsGood s → Steps s (SendCommand a b bytes ∷ Receive x ∷ []) first m → Steps s (SendCommand a b bytes ∷ Receive y ∷ []) first2 n
-    → IsGiven (desk_of blocks vendor) (Receive x) → IsGiven (desk_of blocks vendor) (Receive y) → x ≡ y
-same_obeyed blocks vendor s m n a b bytes x y first first2 good f g given other =
+same_obeyed : (D : DeskRelations) (only : IsFunction D) (s m n : State) (a b : ℕ) (bytes : List ℕ) (x y : Option Obeyed) (first first2 : List Timed) → IsGood s → Steps s (SendCommand a b bytes ∷ Receive x ∷ []) first m → Steps s (SendCommand a b bytes ∷ Receive y ∷ []) first2 n
+    → IsGiven D (Receive x) → IsGiven D (Receive y) → x ≡ y
+same_obeyed D only s m n a b bytes x y first first2 good f g given other =
     let sent = one_step s f.2 g.2 (SendCommand a b bytes) f.0 g.0 good f.3 g.3 in
-    one_obeyed blocks vendor f.2 f.5.2 g.5.2 x y f.5.0 g.5.0 f.5.3.1 (subst (λ z. Receives z y g.5.0 g.5.2) (sym sent.1) g.5.3.1) given other
+    one_obeyed D only f.2 f.5.2 g.5.2 x y f.5.0 g.5.0 f.5.3.1 (subst (λ z. Receives z y g.5.0 g.5.2) (sym sent.1) g.5.3.1) given other
 
 given_second : (D : DeskRelations) (xs more : List Action) (a b : Action) → xs ≡ a ∷ b ∷ more → AreGiven D xs → IsGiven D b
 given_second D xs more a b e f = (subst (AreGiven D) e f).1.0
@@ -161,14 +163,14 @@ over_same s before other xs ys out out2 t u f g =
 both_ways : (b : Bool) → b ≡ true → b ≡ false → ⊥
 both_ways b x y = let clash : true ≡ false = sym x ∙ y in cc clash
 
-pub one_carried : (blocks : ℕ → ℕ → ℕ → List ℕ) (vendor : ℕ → ℕ → ℕ) (s : State) (o : Order) (xs ys : List Action) (out other : List Timed) (t u : State) → IsGood s → AreGiven (desk_of blocks vendor) xs → AreGiven (desk_of blocks vendor) ys → CarriedBy s o xs out t → CarriedBy s o ys other u → Same out t other u
-one_carried blocks vendor s (order.Declare name kind ports speed) xs ys out other t u g give gave f h = one_steps s t u (AddDevice name kind ports speed ∷ []) out other g f h
-one_carried blocks vendor s (order.Cable a b) xs ys out other t u g give gave f h = one_steps s t u (AddCable a b ∷ []) out other g f h
-one_carried blocks vendor s (order.Reset d) xs ys out other t u g give gave f h = one_steps s t u (ResetBus d ∷ []) out other g f h
-one_carried blocks vendor s (order.Connect d w) xs ys out other t u g give gave f h = one_steps s t u (StartConnection d w ∷ []) out other g f h
-one_carried blocks vendor s (order.Break d i) xs ys out other t u g give gave f h = one_steps s t u (StartBreak d i ∷ []) out other g f h
-one_carried blocks vendor s (order.Step d count) xs ys out other t u g give gave f h = one_steps s t u (times count (HalfStep d)) out other g f h
-one_carried blocks vendor s (order.Settle n) xs ys out other t u g give gave f h = go f.4 h.4
+pub one_carried : (D : DeskRelations) (only : IsFunction D) (s : State) (o : Order) (xs ys : List Action) (out other : List Timed) (t u : State) → IsGood s → AreGiven D xs → AreGiven D ys → CarriedBy s o xs out t → CarriedBy s o ys other u → Same out t other u
+one_carried D only s (order.Declare name kind ports speed) xs ys out other t u g give gave f h = one_steps s t u (AddDevice name kind ports speed ∷ []) out other g f h
+one_carried D only s (order.Cable a b) xs ys out other t u g give gave f h = one_steps s t u (AddCable a b ∷ []) out other g f h
+one_carried D only s (order.Reset d) xs ys out other t u g give gave f h = one_steps s t u (ResetBus d ∷ []) out other g f h
+one_carried D only s (order.Connect d w) xs ys out other t u g give gave f h = one_steps s t u (StartConnection d w ∷ []) out other g f h
+one_carried D only s (order.Break d i) xs ys out other t u g give gave f h = one_steps s t u (StartBreak d i ∷ []) out other g f h
+one_carried D only s (order.Step d count) xs ys out other t u g give gave f h = one_steps s t u (times count (HalfStep d)) out other g f h
+one_carried D only s (order.Settle n) xs ys out other t u g give gave f h = go f.4 h.4
   where
     same : Same f.2 f.1 h.2 h.1
     same = one_rounds_at n s f.1 h.1 f.0 h.0 f.2 h.2 g f.3 h.3
@@ -183,38 +185,39 @@ one_carried blocks vendor s (order.Settle n) xs ys out other t u g give gave f h
     go (inr a) (inr b) =
         let last = one_steps f.1 t u (Unsettled ∷ []) a.0 b.0 good a.1 (subst (λ z. Steps z (Unsettled ∷ []) b.0 u) (sym same.1) b.1) in
         (a.2 ∙ (ap (λ z. z ++ a.0) same.0 ∙ (ap (λ z. h.2 ++ z) last.0 ∙ sym b.2)), last.1)
-one_carried blocks vendor s (order.Wait n) xs ys out other t u g give gave (inl f) (inl h) = one_steps s t u (Pass n ∷ []) out other g f h
-one_carried blocks vendor s (order.Wait n) xs ys out other t u g give gave (inl f) (inr h) = absurd (over_before s n h.0 h.1 out other t u h.2 f h.3)
-one_carried blocks vendor s (order.Wait n) xs ys out other t u g give gave (inr f) (inl h) = absurd (over_before s n f.0 f.1 other out u t f.2 h f.3)
-one_carried blocks vendor s (order.Wait n) xs ys out other t u g give gave (inr f) (inr h) =
+one_carried D only s (order.Wait n) xs ys out other t u g give gave (inl f) (inl h) = one_steps s t u (Pass n ∷ []) out other g f h
+one_carried D only s (order.Wait n) xs ys out other t u g give gave (inl f) (inr h) = absurd (over_before s n h.0 h.1 out other t u h.2 f h.3)
+one_carried D only s (order.Wait n) xs ys out other t u g give gave (inr f) (inl h) = absurd (over_before s n f.0 f.1 other out u t f.2 h f.3)
+one_carried D only s (order.Wait n) xs ys out other t u g give gave (inr f) (inr h) =
     let before : h.0 ≡ f.0 = over_same s h.0 f.0 (Pass h.1 ∷ []) (Pass f.1 ∷ []) other out u t h.3 f.3 in
     let sum = sym h.2 ∙ f.2 in
     let after : h.1 ≡ f.1 = omega (arith, before, sum) in
     let moved : Steps s (Pass f.0 ∷ EndSecond ∷ Pass h.1 ∷ []) other u = subst (λ k. Steps s (Pass k ∷ EndSecond ∷ Pass h.1 ∷ []) other u) before h.3 in
     one_steps s t u (Pass f.0 ∷ EndSecond ∷ Pass f.1 ∷ []) out other g f.3 (subst (λ k. Steps s (Pass f.0 ∷ EndSecond ∷ Pass k ∷ []) other u) after moved)
-one_carried blocks vendor s (order.Cycles n) xs ys out other t u g give gave f h = one_cycles blocks vendor n s t u xs ys out other g give gave f h
-one_carried blocks vendor s (order.Die d false) xs ys out other t u g give gave f h = one_steps s t u (Die d ∷ []) out other g f h
-one_carried blocks vendor s (order.Die d true) xs ys out other t u g give gave (inl f) (inl h) = one_steps s t u (CarryOut d ∷ Die d ∷ []) out other g f h
-one_carried blocks vendor s (order.Die d true) xs ys out other t u g give gave (inl f) (inr h) = absurd (both_ways (has_request (s.controllers d).current) f.3.1.1 h.0)
-one_carried blocks vendor s (order.Die d true) xs ys out other t u g give gave (inr f) (inl h) = absurd (both_ways (has_request (s.controllers d).current) h.3.1.1 f.0)
-one_carried blocks vendor s (order.Die d true) xs ys out other t u g give gave (inr f) (inr h) = one_steps s t u (Die d ∷ []) out other g f.1 h.1
-one_carried blocks vendor s (order.Start d) xs ys out other t u g give gave (inl f) (inl h) = one_steps s t u (Start d ∷ []) out other g f h
-one_carried blocks vendor s (order.Start d) xs ys out other t u g give gave (inl f) (inr h) = absurd (both_ways (s.dead d) f.3.1.1 h.0)
-one_carried blocks vendor s (order.Start d) xs ys out other t u g give gave (inr f) (inl h) = absurd (both_ways (s.dead d) h.3.1.1 f.0)
-one_carried blocks vendor s (order.Start d) xs ys out other t u g give gave (inr f) (inr h) = (f.1 ∙ sym h.1, f.2 ∙ sym h.2)
-one_carried blocks vendor s (order.Transact x) xs ys out other t u g give gave f h = one_steps s t u (Ask x ∷ Answer ∷ []) out other g f h
-one_carried blocks vendor s (order.Show d offset) xs ys out other t u g give gave f h = one_steps s t u (ShowWord d offset ∷ []) out other g f h
-one_carried blocks vendor s (order.Command a b bytes) xs ys out other t u g give gave f h =
-    let same : h.0 ≡ f.0 = same_obeyed blocks vendor s h.1 f.1 a b bytes h.0 f.0 h.3 f.3 g h.5 f.5 (given_second (desk_of blocks vendor) ys h.2 (SendCommand a b bytes) (Receive h.0) h.7 gave) (given_second (desk_of blocks vendor) xs f.2 (SendCommand a b bytes) (Receive f.0) f.7 give) in
+one_carried D only s (order.Cycles n) xs ys out other t u g give gave f h = one_cycles D only n s t u xs ys out other g give gave f h
+one_carried D only s (order.Die d false) xs ys out other t u g give gave f h = one_steps s t u (Die d ∷ []) out other g f h
+one_carried D only s (order.Die d true) xs ys out other t u g give gave (inl f) (inl h) = one_steps s t u (CarryOut d ∷ Die d ∷ []) out other g f h
+one_carried D only s (order.Die d true) xs ys out other t u g give gave (inl f) (inr h) = absurd (both_ways (has_request (s.controllers d).current) f.3.1.1 h.0)
+one_carried D only s (order.Die d true) xs ys out other t u g give gave (inr f) (inl h) = absurd (both_ways (has_request (s.controllers d).current) h.3.1.1 f.0)
+one_carried D only s (order.Die d true) xs ys out other t u g give gave (inr f) (inr h) = one_steps s t u (Die d ∷ []) out other g f.1 h.1
+one_carried D only s (order.Lose d) xs ys out other t u g give gave f h = one_steps s t u (Lose d ∷ TellLoss d ∷ []) out other g f h
+one_carried D only s (order.Start d) xs ys out other t u g give gave (inl f) (inl h) = one_steps s t u (Start d ∷ []) out other g f h
+one_carried D only s (order.Start d) xs ys out other t u g give gave (inl f) (inr h) = absurd (both_ways (s.dead d) f.3.1.1 h.0)
+one_carried D only s (order.Start d) xs ys out other t u g give gave (inr f) (inl h) = absurd (both_ways (s.dead d) h.3.1.1 f.0)
+one_carried D only s (order.Start d) xs ys out other t u g give gave (inr f) (inr h) = (f.1 ∙ sym h.1, f.2 ∙ sym h.2)
+one_carried D only s (order.Transact x) xs ys out other t u g give gave f h = one_steps s t u (Ask x ∷ Answer ∷ []) out other g f h
+one_carried D only s (order.Show d offset) xs ys out other t u g give gave f h = one_steps s t u (ShowWord d offset ∷ []) out other g f h
+one_carried D only s (order.Command a b bytes) xs ys out other t u g give gave f h =
+    let same : h.0 ≡ f.0 = same_obeyed D only s h.1 f.1 a b bytes h.0 f.0 h.3 f.3 g h.5 f.5 (given_second D ys h.2 (SendCommand a b bytes) (Receive h.0) h.7 gave) (given_second D xs f.2 (SendCommand a b bytes) (Receive f.0) f.7 give) in
     let r = one_then b s f.1 h.1 t u (SendCommand a b bytes ∷ Receive f.0 ∷ []) f.2 h.2 f.3 h.3 f.4 h.4 g f.5 (subst (λ o. Steps s (SendCommand a b bytes ∷ Receive o ∷ []) h.3 h.1) same h.5) f.6 h.6 in
     (f.8 ∙ (r.0 ∙ sym h.8), r.1)
-one_carried blocks vendor s (order.Insert d tape system) xs ys out other t u g give gave f h =
+one_carried D only s (order.Insert d tape system) xs ys out other t u g give gave f h =
     let r = one_then d s f.0 h.0 t u (InsertTape d tape system ∷ []) f.1 h.1 f.2 h.2 f.3 h.3 g f.4 h.4 f.5 h.5 in
     (f.6 ∙ (r.0 ∙ sym h.6), r.1)
-one_carried blocks vendor s (order.Eject d) xs ys out other t u g give gave (inl f) (inl h) =
+one_carried D only s (order.Eject d) xs ys out other t u g give gave (inl f) (inl h) =
     let r = one_then d s f.0 h.0 t u (EjectTape d ∷ []) f.1 h.1 f.2 h.2 f.3 h.3 g f.4 h.4 f.5 h.5 in
     (f.6 ∙ (r.0 ∙ sym h.6), r.1)
-one_carried blocks vendor s (order.Eject d) xs ys out other t u g give gave (inl f) (inr h) = absurd (both_ways (is_some (s.decks d).unit.tape) f.4.3.1.2 h.0)
-one_carried blocks vendor s (order.Eject d) xs ys out other t u g give gave (inr f) (inl h) = absurd (both_ways (is_some (s.decks d).unit.tape) h.4.3.1.2 f.0)
-one_carried blocks vendor s (order.Eject d) xs ys out other t u g give gave (inr f) (inr h) = (f.1 ∙ sym h.1, f.2 ∙ sym h.2)
-one_carried blocks vendor s order.End xs ys out other t u g give gave f h = one_steps s t u (Finish ∷ []) out other g f h
+one_carried D only s (order.Eject d) xs ys out other t u g give gave (inl f) (inr h) = absurd (both_ways (is_some (s.decks d).unit.tape) f.4.3.1.2 h.0)
+one_carried D only s (order.Eject d) xs ys out other t u g give gave (inr f) (inl h) = absurd (both_ways (is_some (s.decks d).unit.tape) h.4.3.1.2 f.0)
+one_carried D only s (order.Eject d) xs ys out other t u g give gave (inr f) (inr h) = (f.1 ∙ sym h.1, f.2 ∙ sym h.2)
+one_carried D only s order.End xs ys out other t u g give gave f h = one_steps s t u (Finish ∷ []) out other g f h

@@ -12,10 +12,10 @@ use Rattle.fw_tree.proofs.ReachLaws.{sound_made}
 use Rattle.fw_devices.specs.Network.{facts_of}
 use Rattle.fw_run.specs.declared.order.Transaction.{Transaction}
 use Rattle.fw_run.specs.Giving.{at_most}
-use Rattle.fw_run.specs.State.{State, epoch_of, is_on, device_in, with_device}
+use Rattle.fw_run.specs.State.{State, epoch_of, is_on, device_in, with_device, is_deaf}
 use Rattle.fw_run.specs.Spaces.{answer_packet, target_node, transaction_head, access_request, bus_manager_id_after}
 use Rattle.fw_run.specs.Streams.{cycle_start}
-use Rattle.fw_run.specs.Actions.{Action, AddDevice, AddCable, ResetBus, StartConnection, StartBreak, HalfStep, Rest, Unsettled, Pass, EndSecond, Die, CarryOut, Start, Ask, Answer, ShowWord, SendCommand, SendFrame, Receive, InsertTape, EjectTape, StartCycle, SendPacket, Finish, Resets, Declares, Joins, Answers, after_reset_entry, with_topology, Step, Steps}
+use Rattle.fw_run.specs.Actions.{Action, AddDevice, AddCable, ResetBus, StartConnection, StartBreak, HalfStep, Rest, Unsettled, Pass, EndSecond, Die, CarryOut, Lose, TellLoss, Start, Ask, Answer, ShowWord, SendCommand, SendFrame, Receive, InsertTape, EjectTape, StartCycle, SendPacket, Finish, Resets, Declares, Joins, Answers, after_reset_entry, with_topology, Step, Steps, counting, beginning, counted, Takes}
 use Rattle.fw_base.specs.Tables.{update}
 use Rattle.fw_fcp.specs.declared.frame.Frame.{Frame}
 use Rattle.fw_ledger.specs.Words.{node_of}
@@ -25,6 +25,7 @@ use Rattle.fw_run.specs.Good.{IsGood}
 use Rattle.fw_run.proofs.Networks.{made_more}
 use Rattle.fw_run.proofs.Steps.{step_good}
 use Rattle.fw_run.proofs.OneReset.{one_entry}
+use Rattle.fw_run.specs.HalfSteps.{is_waiting}
 
 -- ---- actions
 
@@ -40,12 +41,12 @@ one_resets s t u initiator out other made f g =
     )
 
 one_declares : (names : List (List ℕ)) (s t u : State) (out other : List Timed) → Made s.declared.topology → Declares names s out t → Declares names s other u → Same out t other u
-one_declares [] s t u out other made f g = one_resets s t u 0 out other made f g
+one_declares [] s t u out other made f g = one_resets (beginning s) t u 0 out other made f g
 one_declares (x ∷ names) s t u out other made f g = (f.0 ∙ sym g.0, f.1 ∙ sym g.1)
 
 one_joins : (x y : Bool) (a b : ℕ) (s t u : State) (out other : List Timed) → Made s.declared.topology → Joins x y a b s out t → Joins x y a b s other u → Same out t other u
-one_joins true false a b s t u out other made f g = one_resets s t u a out other made f g
-one_joins false true a b s t u out other made f g = one_resets s t u b out other made f g
+one_joins true false a b s t u out other made f g = one_resets (counting s) t u a out other made f.1 g.1
+one_joins false true a b s t u out other made f g = one_resets (counting s) t u b out other made f.1 g.1
 one_joins true true a b s t u out other made f g = (f.0 ∙ sym g.0, f.1 ∙ sym g.1)
 one_joins false false a b s t u out other made f g = (f.0 ∙ sym g.0, f.1 ∙ sym g.1)
 
@@ -91,6 +92,11 @@ one_receives s t u o out other f g = (
     response : f.response ≡ g.response
     response = same_Some f.response g.response (sym f.answered ∙ (ap (λ (w : FrameWrite). answer_packet s (node_of s.account.latest w.to) (frame_head s w) (request_of w)) write ∙ g.answered))
 
+one_takes : (b w : Bool) (s t u : State) (d : ℕ) (out other : List Timed) → IsGood s → Takes b w s d out t → Takes b w s d other u → Same out t other u
+one_takes false w s t u d out other good f g = (f.0 ∙ sym g.0, f.1 ∙ sym g.1)
+one_takes true true s t u d out other good f g = (f.0 ∙ sym g.0, f.1 ∙ sym g.1)
+one_takes true false s t u d out other good f g = one_resets (counted s 1) t u d out other good.declared.made f g
+
 pub one_step : (s t u : State) (a : Action) (out other : List Timed) → IsGood s → Step s a out t → Step s a other u → Same out t other u
 one_step s t u (AddDevice name kind ports speed) out other good f g =
     one_declares s.declared.names (record s { declared = with_device s.declared name kind ports speed }) t u out other
@@ -101,16 +107,18 @@ one_step s t u (AddCable a b) out other good f g =
     let same : y.0 ≡ x.0 = one_topology s.declared.topology y.0 x.0 a b y.1 x.1 in
     one_joins (is_on s a.device) (is_on s b.device) a.device b.device (with_topology s x.0) t u out other (Topologies.cable good.declared.made a b x.1) x.2
     (subst (λ (p : Topology). Joins (is_on s a.device) (is_on s b.device) a.device b.device (with_topology s p) other u) same y.2)
-one_step s t u (ResetBus d) out other good f g = one_resets s t u d out other good.declared.made f.1.1 g.1.1
+one_step s t u (ResetBus d) out other good f g = one_resets (counting s) t u d out other good.declared.made f.1.1.1 g.1.1.1
 one_step s t u (StartConnection d w) out other good f g = (f.1.3 ∙ sym g.1.3, f.1.4 ∙ sym g.1.4)
 one_step s t u (StartBreak d i) out other good f g = (f.1.2 ∙ sym g.1.2, f.1.3 ∙ sym g.1.3)
-one_step s t u (HalfStep d) out other good f g = (f.1.2 ∙ sym g.1.2, f.1.3 ∙ sym g.1.3)
+one_step s t u (HalfStep d) out other good f g = one_takes (is_deaf s d) (is_waiting s d) s t u d out other good f.1.2 g.1.2
 one_step s t u (Rest n) out other good f g = (f.1.2 ∙ sym g.1.2, f.1.3 ∙ sym g.1.3)
 one_step s t u Unsettled out other good f g = (f.1.1 ∙ sym g.1.1, f.1.2 ∙ sym g.1.2)
 one_step s t u (Pass n) out other good f g = (f.1.2 ∙ sym g.1.2, f.1.3 ∙ sym g.1.3)
 one_step s t u EndSecond out other good f g = (f.1.3 ∙ sym g.1.3, f.1.4 ∙ sym g.1.4)
 one_step s t u (Die d) out other good f g = (f.1.1 ∙ sym g.1.1, f.1.2 ∙ sym g.1.2)
 one_step s t u (CarryOut d) out other good f g = (f.1.2 ∙ sym g.1.2, f.1.3 ∙ sym g.1.3)
+one_step s t u (Lose d) out other good f g = (f.1.3 ∙ sym g.1.3, f.1.4 ∙ sym g.1.4)
+one_step s t u (TellLoss d) out other good f g = (f.1.1 ∙ sym g.1.1, f.1.2 ∙ sym g.1.2)
 one_step s t u (Start d) out other good f g = (f.1.2 ∙ sym g.1.2, f.1.3 ∙ sym g.1.3)
 one_step s t u (Ask x) out other good f g = (f.1.3 ∙ sym g.1.3, f.1.4 ∙ sym g.1.4)
 one_step s t u Answer out other good f g = one_answers s t u out other f g

@@ -9,11 +9,11 @@ use Rattle.fw_cmp.specs.Controllers.{ControllerState, first_state as new_control
 use Rattle.fw_reclaim.specs.Worlds.{CanReclaim}
 use Rattle.fw_rounds.specs.HalfSteps.{AsksWhatStands}
 use Rattle.fw_run.specs.declared.order.Transaction.{Transaction}
-use Rattle.fw_run.specs.Entries.{unsettled}
+use Rattle.fw_run.specs.Entries.{unsettled, lost}
 use Rattle.fw_run.specs.State.{State, entered, is_linked, is_living, directory_of}
 use Rattle.fw_run.specs.Actions.{after_start}
 use Rattle.fw_run.specs.Good.{IsGood, IsLatest}
-use Rattle.fw_run.proofs.Turns.{each_of, update_new, update_others}
+use Rattle.fw_run.proofs.Turns.{each_of, update_new, update_others, new_losses}
 
 -- ---- entries that change nothing
 
@@ -23,10 +23,13 @@ unsettled_good s g = g
 pub finish_good : (s : State) → IsGood s → IsGood (record s { account = entered s.account EndEntry })
 finish_good s g = g
 
+pub told_good : (s : State) (d : ℕ) → IsGood s → IsGood (record s { account = entered s.account (lost d) })
+told_good s d g = g
+
 -- ---- transactions of the script
 
 pub transaction_good : (s : State) (x : Option Transaction) (id : ℕ) → IsGood s → IsGood (record s { transaction = x; bus_manager_id = id })
-transaction_good s x id g = record { declared = g.declared; latest = latest_ s.account.latest g.latest; reclaims = g.reclaims; stands = g.stands; unused = g.unused; time = record { second = g.time.second; over_at = g.time.over_at; cycle = g.time.cycle }; half_steps = g.half_steps; written = g.written; decks = g.decks; streams = g.streams }
+transaction_good s x id g = record { declared = g.declared; latest = latest_ s.account.latest g.latest; reclaims = g.reclaims; stands = g.stands; unused = g.unused; time = record { second = g.time.second; over_at = g.time.over_at; cycle = g.time.cycle }; losses = g.losses; half_steps = g.half_steps; written = g.written; decks = g.decks; streams = g.streams }
   where
     latest_ : (o : Option ResetEntry) → IsLatest o s → IsLatest o (record s { transaction = x; bus_manager_id = id })
     latest_ None h = h
@@ -35,7 +38,7 @@ transaction_good s x id g = record { declared = g.declared; latest = latest_ s.a
 -- ---- a controller that starts
 
 -- that of a dead one has just started already
-pub same_table : (f : ℕ → ControllerState) (d : ℕ) (x : ControllerState) → f d ≡ x → update f d x ≡ f
+pub same_table : {A : Type 0} → (f : ℕ → A) (d : ℕ) (x : A) → f d ≡ x → update f d x ≡ f
 same_table f d x e = fun_ext (λ k. go k (cases_eq k d))
   where
     go : (k : ℕ) → (k ≡ d) ⊎ (k ≢ d) → update f d x k ≡ f k
@@ -50,6 +53,7 @@ start_good s d g dead = record {
   stands = each_of (λ c. AsksWhatStands c.current) s.controllers d new_controller tt g.stands;
   unused = λ k off. unused k off (cases_eq k d);
   time = record { second = g.time.second; over_at = g.time.over_at; cycle = g.time.cycle };
+  losses = new_losses s d new_controller g;
   half_steps = g.half_steps;
   written = g.written;
   decks = g.decks;

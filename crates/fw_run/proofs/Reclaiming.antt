@@ -1,5 +1,5 @@
 -- The reclaim theorem over a run.
-use Rattle.std.proofs.Common.{◌≡◌, ℕ, ◌+◌, ◌==◌, List, [], ◌∷◌, Bool, true, false, Option, Some, None, option_map, refl, ap, sym, subst, ◌∙◌, IsTrue}
+use Rattle.std.proofs.Common.{◌≡◌, ℕ, ◌+◌, ◌==◌, List, [], ◌∷◌, Bool, true, false, Option, Some, None, option_map, refl, ap, sym, subst, ◌∙◌, IsTrue, ◌<◌, ◌&&◌, arith}
 use Rattle.fw_base.specs.Tables.{find_to}
 use Rattle.fw_async.specs.declared.packet.Packet.{Packet}
 use Rattle.fw_entry.specs.declared.entry.Entry.TheVariants.{Reset, Async, Iso, End as EndEntry}
@@ -11,7 +11,7 @@ use Rattle.fw_cmp.specs.declared.current.Current.TheVariants.{Nothing, Asking, H
 use Rattle.fw_cmp.specs.declared.directory.Directory.{Directory}
 use Rattle.fw_cmp.specs.declared.job.Job.{Job}
 use Rattle.fw_cmp.specs.declared.outcome.Next.{Next}
-use Rattle.fw_cmp.specs.declared.outcome.Next.TheVariants.{Send, End, Idle, Waiting}
+use Rattle.fw_cmp.specs.declared.outcome.Next.TheVariants.{Send, End, Idle, Waiting, Deaf, Force}
 use Rattle.fw_cmp.specs.declared.outcome.Outcome.{Outcome}
 use Rattle.fw_cmp.specs.declared.request.Access.{Access}
 use Rattle.fw_cmp.specs.declared.stage.Stage.{Stage}
@@ -25,16 +25,16 @@ use Rattle.fw_reclaim.proofs.Living.{turn_meets, facts_in}
 use Rattle.fw_reclaim.proofs.Outcomes.{ends_restored}
 use Rattle.fw_reclaim.proofs.Reclaim.{reclaims}
 use Rattle.fw_run.specs.Giving.{at_cycle, at_most}
-use Rattle.fw_run.specs.Entries.{second_over, died, started, inserted, ejected, unsettled, shown_entry}
-use Rattle.fw_run.specs.State.{State, Declared, first_state, is_on, is_living, directory_of, with_device}
+use Rattle.fw_run.specs.Entries.{second_over, died, started, inserted, ejected, unsettled, shown_entry, lost}
+use Rattle.fw_run.specs.State.{State, Declared, first_state, is_on, is_living, directory_of, with_device, is_deaf}
 use Rattle.fw_run.specs.Frames.{command_write, response_write, frame_packet}
 use Rattle.fw_run.specs.Spaces.{answer_packet, transaction_head, access_request, read_at}
 use Rattle.fw_run.specs.HalfSteps.{head_from, said, asks, taken, hears, hears_from, half, half_of}
 use Rattle.fw_run.specs.Streams.{bytes_of, cycle_start, stream_packet}
-use Rattle.fw_run.specs.Actions.{Action, AddDevice, AddCable, ResetBus, StartConnection, StartBreak, HalfStep, Rest, Unsettled, Pass, EndSecond, Die, CarryOut, Start, Ask, Answer, ShowWord, SendCommand, SendFrame, Receive, InsertTape, EjectTape, StartCycle, SendPacket, Finish, Resets, Declares, Joins, with_topology, Step}
+use Rattle.fw_run.specs.Actions.{Action, AddDevice, AddCable, ResetBus, StartConnection, StartBreak, HalfStep, Rest, Unsettled, Pass, EndSecond, Die, CarryOut, Lose, TellLoss, Start, Ask, Answer, ShowWord, SendCommand, SendFrame, Receive, InsertTape, EjectTape, StartCycle, SendPacket, Finish, Resets, Declares, Joins, with_topology, Step, counting, beginning, counted}
 use Rattle.fw_run.specs.Good.{IsGood, world_of}
 use Rattle.fw_run.specs.Reclaiming.{Reclaims, RestoresInSecond}
-use Rattle.fw_run.proofs.Cables.{on_some, cabled_may, begun_may}
+use Rattle.fw_run.proofs.Cables.{on_some, cabled_may, begun_may, forced_may}
 use Rattle.fw_run.proofs.Changes.{turn_change, reset_is, steps_path}
 use Rattle.fw_run.proofs.Declares.{first_may}
 use Rattle.fw_run.proofs.Leads.{linked_of}
@@ -42,6 +42,8 @@ use Rattle.fw_run.proofs.Resets.{MayReset, declaring}
 use Rattle.fw_run.proofs.Steps.{step_good, steps_good}
 use Rattle.fw_run.proofs.Times.{first_good}
 use Rattle.fw_run.proofs.Turns.{living_linked}
+use Rattle.fw_run.proofs.Taking.{Taken, listens, keeps_deaf, forces_reset, taken_as}
+use Rattle.fw_cmp.specs.Holdings.{is_current_slot}
 
 -- ---- entries of bus resets
 
@@ -62,6 +64,8 @@ half_no_reset s d c = go (s.controllers d).current
     said_no (End i o) = refl
     said_no Idle = refl
     said_no (Waiting until) = refl
+    said_no (Deaf until) = refl
+    said_no Force = refl
 
     packet_no : (o : Option Packet) → opens_reset (at_most c (option_map Async o)) ≡ false
     packet_no None = refl
@@ -85,10 +89,21 @@ half_no_reset s d c = go (s.controllers d).current
 
 pub record BusResets (s t : State) : Type 0 where
   pub entry : ResetEntry
-  pub is : IsReset (world_of s) entry entry.epoch (world_of t)
+  pub is : IsReset (world_of s) entry entry.epoch (is_deaf s) (world_of t)
+  -- each controller has heard what there was to hear
+  pub quiet : (d : ℕ) → is_deaf t d ≡ false
 
 begins_one : (s : State) (n : Declared) (initiator : ℕ) (out : List Timed) (t : State) → MayReset s n → Resets (declaring s n) initiator out t → BusResets s t
-begins_one s n initiator out t m r = record { entry = r.entry; is = reset_is s n initiator out t m r }
+begins_one s n initiator out t m r = record { entry = r.entry; is = reset_is s n initiator out t m r; quiet = λ d. ap (λ (z : State). is_deaf z d) r.state_is }
+
+-- the same, where the state before it was counted
+as_before : (s u t : State) → world_of u ≡ world_of s → is_deaf u ≡ is_deaf s → BusResets u t → BusResets s t
+as_before s u t same deaf r = record { entry = r.entry; is = subst (λ w. IsReset w r.entry r.entry.epoch (is_deaf s) (world_of t)) same (subst (λ lost. IsReset (world_of u) r.entry r.entry.epoch lost (world_of t)) deaf r.is); quiet = r.quiet }
+
+taken_resets : (s : State) (d : ℕ) (e : ResetEntry) (c : ℕ) (t : State) → IsGood s → IsTrue (is_living s d) → s.half_steps < 4000000 → Taken s d (at_cycle c (Reset e) ∷ []) t → BusResets s t
+taken_resets s d e c t g lives few (listens quiet said is) = absurd (never c e (at_most s.clock.cycle (half s d).says) said (half_no_reset s d s.clock.cycle))
+taken_resets s d e c t g lives few (keeps_deaf deaf said is) = absurd (never c e [] said refl)
+taken_resets s d e c t g lives few (forces_reset deaf r) = as_before s (counted s 1) t refl refl (begins_one (counted s 1) s.declared d _ t (forced_may s d g lives deaf few) r)
 
 pub bus_resets : (s t : State) (a : Action) (e : ResetEntry) (c : ℕ) → IsGood s → Step s a (at_cycle c (Reset e) ∷ []) t → BusResets s t
 bus_resets s t (AddDevice name kind ports speed) e c g x = go s.declared.names refl x.1.4
@@ -97,7 +112,7 @@ bus_resets s t (AddDevice name kind ports speed) e c g x = go s.declared.names r
     n = with_device s.declared name kind ports speed
 
     go : (names : List (List ℕ)) → s.declared.names ≡ names → Declares names (declaring s n) (at_cycle c (Reset e) ∷ []) t → BusResets s t
-    go [] empty r = begins_one s n 0 _ t (first_may s name kind ports speed (record { good = g; room = x.1.0; some = x.1.1; most = x.1.2; fast = x.1.3 }) empty) r
+    go [] empty r = as_before s (beginning s) t refl refl (begins_one (beginning s) n 0 _ t (first_may s name kind ports speed (record { good = g; room = x.1.0; some = x.1.1; most = x.1.2; fast = x.1.3 }) empty) r)
     go (y ∷ names) more r = absurd (never c e [] r.0 refl)
 bus_resets s t (AddCable a b) e c g x = go (is_on s a.device) (is_on s b.device) refl refl x.1.2
   where
@@ -105,20 +120,22 @@ bus_resets s t (AddCable a b) e c g x = go (is_on s a.device) (is_on s b.device)
     n = record s.declared { topology = x.1.0 }
 
     go : (y z : Bool) → is_on s a.device ≡ y → is_on s b.device ≡ z → Joins y z a.device b.device (with_topology s x.1.0) (at_cycle c (Reset e) ∷ []) t → BusResets s t
-    go true false on_a off_b r = begins_one s n a.device _ t (cabled_may s x.1.0 a b g x.1.1 (on_some s a.device g on_a)) r
-    go false true off_a on_b r = begins_one s n b.device _ t (cabled_may s x.1.0 a b g x.1.1 (on_some s b.device g on_b)) r
+    go true false on_a off_b r = as_before s (counting s) t refl refl (begins_one (counting s) n a.device _ t (cabled_may s x.1.0 a b g x.1.1 (on_some s a.device g on_a) r.0) r.1)
+    go false true off_a on_b r = as_before s (counting s) t refl refl (begins_one (counting s) n b.device _ t (cabled_may s x.1.0 a b g x.1.1 (on_some s b.device g on_b) r.0) r.1)
     go true true on_a on_b r = absurd (never c e [] r.0 refl)
     go false false off_a off_b r = absurd (never c e [] r.0 refl)
-bus_resets s t (ResetBus d) e c g x = begins_one s s.declared d _ t (begun_may s d g x.1.0) x.1.1
+bus_resets s t (ResetBus d) e c g x = as_before s (counting s) t refl refl (begins_one (counting s) s.declared d _ t (begun_may s d g x.1.0 x.1.1.0) x.1.1.1)
 bus_resets s t (StartConnection d w) e c g x = absurd (never c e [] x.1.3 refl)
 bus_resets s t (StartBreak d i) e c g x = absurd (never c e [] x.1.2 refl)
-bus_resets s t (HalfStep d) e c g x = absurd (never c e (at_most s.clock.cycle (half s d).says) x.1.2 (half_no_reset s d s.clock.cycle))
+bus_resets s t (HalfStep d) e c g x = taken_resets s d e c t g x.1.0 x.1.1 (taken_as s d _ t x.1.2)
 bus_resets s t (Rest n) e c g x = absurd (never c e [] x.1.2 refl)
 bus_resets s t Unsettled e c g x = absurd (never c e (at_most s.clock.cycle (Some unsettled)) x.1.1 refl)
 bus_resets s t (Pass n) e c g x = absurd (never c e [] x.1.2 refl)
 bus_resets s t EndSecond e c g x = absurd (never c e (at_most (s.clock.cycle + 1) (Some second_over)) x.1.3 refl)
 bus_resets s t (Die d) e c g x = absurd (never c e (at_most s.clock.cycle (Some (died d))) x.1.1 refl)
 bus_resets s t (CarryOut d) e c g x = absurd (never c e (at_most s.clock.cycle (half s d).says) x.1.2 (half_no_reset s d s.clock.cycle))
+bus_resets s t (Lose d) e c g x = absurd (never c e (at_most s.clock.cycle (half s d).says) x.1.3 (half_no_reset s d s.clock.cycle))
+bus_resets s t (TellLoss d) e c g x = absurd (never c e (at_most s.clock.cycle (Some (lost d))) x.1.1 refl)
 bus_resets s t (Start d) e c g x = absurd (never c e (at_most s.clock.cycle (Some (started d))) x.1.2 refl)
 bus_resets s t (Ask y) e c g x = absurd (never c e (at_most s.clock.cycle (Some (Async (packet_of (transaction_head s y) (access_request y.access))))) x.1.3 refl)
 bus_resets s t Answer e c g x = absurd (never c e (at_most s.clock.cycle (Some (Async x.response))) x.out_is refl)
@@ -140,7 +157,11 @@ run_reclaims before after during x d i conn f whole unbroken ok done =
     let r = bus_resets before x.opened x.reset x.opens.entry before.clock.cycle g x.opens.step in
     let opened = step_good before x.reset (at_cycle before.clock.cycle (Reset x.opens.entry) ∷ []) x.opened g x.opens.step in
     let p = steps_path x.opened during x.out after opened x.steps in
-    reclaims (world_of before) (world_of x.opened) (world_of after) r.entry r.entry.epoch p.changes g.reclaims r.is p.path d i conn f whole unbroken (p.harmless d i ok) done
+    let back = reclaims (world_of before) (world_of x.opened) (world_of after) r.entry r.entry.epoch (is_deaf before) p.changes g.reclaims r.is p.path d i conn f whole.whole unbroken whole.heard (p.harmless d i ok) done in
+    (record { whole = back.0; heard = known (is_deaf after d) (is_current_slot (after.controllers d).current i) back.2 }, back.1)
+  where
+    known : (a b : Bool) → b ≡ false → (a && b) ≡ false
+    known a b e = grind (arith, e)
 
 -- ---- while a second runs
 

@@ -1,17 +1,18 @@
 -- A bus reset leads from a good state to a good state.
-use Rattle.std.proofs.Common.{◌≡◌, ℕ, ◌+◌, ◌<◌, ◌≤◌, ◌&&◌, not, List, length, Bool, true, false, Option, Some, None, is_some, refl, ap, sym, subst, cond, arith, IsTrue, IsFalse}
+use Rattle.std.proofs.Common.{◌≡◌, ℕ, ◌+◌, ◌<◌, ◌≤◌, ◌&&◌, not, List, length, Bool, true, false, Option, Some, None, is_some, refl, ap, sym, subst, cond, arith, IsTrue, IsFalse, ◌∙◌}
 use Rattle.fw_entry.specs.declared.entry.ResetEntry.{ResetEntry}
 use Rattle.fw_entry.specs.declared.entry.Timed.{Timed}
 use Rattle.fw_tree.specs.Cables.{IsOnBus}
 use Rattle.fw_cmp.specs.Controllers.{first_state as new_controller}
-use Rattle.fw_cmp.specs.Resets.{after_reset as controller_reset}
+use Rattle.fw_cmp.specs.Resets.{state_reset as controller_reset}
+use Rattle.fw_devices.specs.Entries.{IsResetEntry}
 use Rattle.fw_devices.specs.Resets.{Shows}
 use Rattle.fw_devices.proofs.EntryLaws.{entry_shows, entry_fits}
 use Rattle.fw_reclaim.specs.Worlds.{BusReset, Grows}
 use Rattle.fw_reclaim.specs.Worlds as Worlds
 use Rattle.fw_reclaim.proofs.Together.{goes_on_reclaiming}
 use Rattle.fw_rounds.proofs.Stands.{reset_stands}
-use Rattle.fw_run.specs.State.{State, Declared, epoch_of, linked_number, is_living}
+use Rattle.fw_run.specs.State.{State, Declared, epoch_of, linked_number, is_living, is_deaf}
 use Rattle.fw_run.specs.Actions.{Resets, after_reset_entry}
 use Rattle.fw_run.specs.Good.{IsGood, IsLatest, AreDeclared, ManagerContends, world_of}
 use Rattle.fw_run.proofs.Decks.{reset_is}
@@ -26,6 +27,7 @@ declaring s n = record s { declared = n }
 -- A bus reset may begin: each device of the bus stays on it, with its kind.
 pub record MayReset (s : State) (n : Declared) : Type 0 where
   pub good : IsGood s
+  pub counted : epoch_of s.account.latest < s.resets
   pub declared : AreDeclared n
   pub some : 0 < length n.names
   pub kinds : (e : ResetEntry) → s.account.latest ≡ Some e → n.kinds ≡ s.declared.kinds
@@ -55,7 +57,7 @@ reset_grows s n initiator out t m r = go s.account.latest refl m.good.latest
         (subst (λ kinds. ManagerContends kinds e) (sym (m.kinds e is)) h.3)
 
 -- the bus reset, as what happens to all controllers
-pub reset_change : (s : State) (n : Declared) (initiator : ℕ) (out : List Timed) (t : State) → MayReset s n → (r : Resets (declaring s n) initiator out t) → Worlds.IsReset (world_of s) r.entry r.entry.epoch (world_of (after_reset_entry (declaring s n) r.entry))
+pub reset_change : (s : State) (n : Declared) (initiator : ℕ) (out : List Timed) (t : State) → MayReset s n → (r : Resets (declaring s n) initiator out t) → Worlds.IsReset (world_of s) r.entry r.entry.epoch (is_deaf s) (world_of (after_reset_entry (declaring s n) r.entry))
 reset_change s n initiator out t m r = record {
   network = (reset_shows s n initiator out t m r).network;
   grows = reset_grows s n initiator out t m r;
@@ -65,7 +67,7 @@ reset_change s n initiator out t m r = record {
 
 -- ---- who has a link, and who lives
 
-still_linked : (s : State) (n : Declared) (initiator : ℕ) (out : List Timed) (t : State) → MayReset s n → (r : Resets (declaring s n) initiator out t) → (d : ℕ) → IsTrue (is_some (linked_number s.account.latest d)) → IsTrue (is_some (linked_number (Some r.entry) d))
+pub still_linked : (s : State) (n : Declared) (initiator : ℕ) (out : List Timed) (t : State) → MayReset s n → (r : Resets (declaring s n) initiator out t) → (d : ℕ) → IsTrue (is_some (linked_number s.account.latest d)) → IsTrue (is_some (linked_number (Some r.entry) d))
 still_linked s n initiator out t m r d on = go s.account.latest refl m.good.latest on
   where
     go : (o : Option ResetEntry) → s.account.latest ≡ o → IsLatest o s → IsTrue (is_some (linked_number o d)) → IsTrue (is_some (linked_number (Some r.entry) d))
@@ -94,14 +96,19 @@ within : (b : Bool) (n : ℕ) → cond b (n + 8000) n ≤ n + 8000
 within true n = omega arith
 within false n = omega arith
 
+reset_new : (epoch : ℕ) (lost : Bool) → controller_reset epoch lost new_controller ≡ new_controller
+reset_new epoch true = refl
+reset_new epoch false = refl
+
 pub reset_good : (s : State) (n : Declared) (initiator : ℕ) (out : List Timed) (t : State) → MayReset s n → Resets (declaring s n) initiator out t → IsGood t
 reset_good s n initiator out t m r = subst IsGood (sym r.state_is) (record {
   declared = m.declared;
-  latest = (m.some, reset_shows s n initiator out t m r, few, manager_contends n.topology n.kinds (epoch_of s.account.latest + 1) initiator e r.is_entry (reset_shows s n initiator out t m r) m.declared.kinds, root);
-  reclaims = goes_on_reclaiming (world_of s) (world_of u) (BusReset e e.epoch) m.good.reclaims (reset_change s n initiator out t m r);
-  stands = λ d. reset_stands e.epoch (s.controllers d) (m.good.stands d);
+  latest = (m.some, reset_shows s n initiator out t m r, few, manager_contends n.topology n.kinds (epoch_of s.account.latest + 1) initiator e r.is_entry (reset_shows s n initiator out t m r) m.declared.kinds, root, (initiator, own));
+  reclaims = goes_on_reclaiming (world_of s) (world_of u) (BusReset e e.epoch (is_deaf s)) m.good.reclaims (reset_change s n initiator out t m r);
+  stands = λ d. reset_stands e.epoch (is_deaf s d) (s.controllers d) (m.good.stands d);
   unused = λ d off. unused d (is_living s d) refl off;
   time = record { second = begins (is_some s.account.latest) s.clock.cycle; over_at = within (is_some s.account.latest) s.clock.cycle; cycle = m.good.time.cycle };
+  losses = record { asks = λ d on. absurd (grind arith); counted = λ d on. absurd (grind arith); came = came; few = m.good.losses.few };
   half_steps = m.good.half_steps;
   written = m.good.written;
   decks = λ d. reset_is s.account.latest (Some e) s.clock.cycle d (s.decks d) (still_linked s n initiator out t m r d) (m.good.decks d);
@@ -120,6 +127,12 @@ reset_good s n initiator out t m r = subst IsGood (sym r.state_is) (record {
     few : e.epoch ≤ 10000
     few = let is = r.is_entry.epoch_is in let few = r.few in omega (arith, is, few)
 
-    unused : (d : ℕ) (b : Bool) → is_living s d ≡ b → IsFalse (is_living u d) → controller_reset e.epoch (s.controllers d) ≡ new_controller
+    own : IsResetEntry n.topology n.kinds e.epoch initiator e
+    own = subst (λ k. IsResetEntry n.topology n.kinds k initiator e) (sym r.is_entry.epoch_is) r.is_entry
+
+    came : e.epoch ≤ s.resets
+    came = let is = r.is_entry.epoch_is in let counted = m.counted in omega (arith, is, counted)
+
+    unused : (d : ℕ) (b : Bool) → is_living s d ≡ b → IsFalse (is_living u d) → controller_reset e.epoch (is_deaf s d) (s.controllers d) ≡ new_controller
     unused d true lives off = absurd (let on = still_living s n initiator out t m r d lives in grind (arith, on, off))
-    unused d false rests off = ap (controller_reset e.epoch) (m.good.unused d rests)
+    unused d false rests off = ap (controller_reset e.epoch (is_deaf s d)) (m.good.unused d rests) ∙ reset_new e.epoch (is_deaf s d)

@@ -28,6 +28,7 @@ use Rattle.fw_run.specs.Good.{IsGood, IsLatest}
 use Rattle.fw_run.proofs.Directories.{told}
 use Rattle.fw_run.proofs.Hears.{Responds, Heard, HalfHears, reply_heard}
 use Rattle.fw_run.proofs.Leads.{IsLinked, own_row}
+use Rattle.fw_run.proofs.Watched.{reply_watched}
 use Rattle.fw_run.proofs.Words.{answers_word, register_below}
 
 -- ---- nodes
@@ -90,7 +91,10 @@ shows_reply l source to (Some swap) r offset x word = subst (λ p. IsShownWord l
     go false t = rw t tt
 
 pub heard_shows : (s : State) (d : ℕ) (j : Job) (stage : Stage) → IsGood s → IsLinked s d → (s.controllers d).current ≡ Hearing j stage → (x : Heard s d j stage) → (h : HalfHears s d j stage x) → IsAnswered s.account (Async h.response.packet)
-heard_shows s d j stage g own current x h = shows_reply s.account (node_of s.account.latest d) x.to (swap_of j stage) r (offset_of x.target) h.response word
+heard_shows s d j stage g own current x h = (
+  shows_reply s.account (node_of s.account.latest d) x.to (swap_of j stage) r (offset_of x.target) h.response word,
+  reply_watched s node.device x.to (node_of s.account.latest d) d (swap_of j stage) (offset_of x.target) h.response g node.number (own_device s d own) asked,
+)
   where
     r : Reply
     r = reply_heard s d j stage x

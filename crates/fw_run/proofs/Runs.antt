@@ -3,14 +3,16 @@ use Rattle.std.proofs.Common.{◌≡◌, ℕ, zero, suc, Option, Some, List, [],
 use Rattle.fw_base.specs.declared.plug.PlugAt.{PlugAt}
 use Rattle.fw_entry.specs.declared.entry.ResetEntry.{ResetEntry}
 use Rattle.fw_entry.specs.declared.entry.Timed.{Timed}
-use Rattle.fw_entry.specs.Log.{entry_bytes}
+use Rattle.fw_entry.specs.Log.{latest_epoch}
+use Rattle.fw_entry.specs.declared.version.Version.TheVariants.{Two}
+use Rattle.fw_entry.proofs.LogLaws.{entries_append}
 use Rattle.fw_script.specs.declared.command.Command.{Command}
 use Rattle.fw_run.specs.declared.order.Order.{Order}
 use Rattle.fw_run.specs.Giving.{log_bytes}
 use Rattle.fw_run.specs.Streams.{talkers}
 use Rattle.fw_run.specs.State.{State, first_state, living}
 use Rattle.fw_run.specs.Actions.{Action, Unsettled, SendCommand, SendFrame, Receive, InsertTape, EjectTape, StartCycle, SendPacket, Steps}
-use Rattle.fw_run.specs.Carrying.{half_steps_of, Rounds, none, round, rest, Carries, declares, joins, resets, connects, breaks, steps, settled, unsettled, waits, waits_over, writes_cycles, next_cycle, SendsPackets, HasCycle, HasCycles, dies, dies_late, dies_idle, starts, goes_on, transacts, shows, commanded, inserts, ejects, ejects_nothing, SendsAll, quiet, sends, ends}
+use Rattle.fw_run.specs.Carrying.{half_steps_of, Rounds, none, round, rest, Carries, declares, joins, resets, connects, breaks, steps, settled, unsettled, waits, waits_over, writes_cycles, next_cycle, SendsPackets, HasCycle, HasCycles, dies, dies_late, dies_idle, loses, starts, goes_on, transacts, shows, commanded, inserts, ejects, ejects_nothing, SendsAll, quiet, sends, ends}
 use Rattle.fw_run.specs.Runs.{Run, begun, and_then}
 
 pub steps_then : (s t u : State) (xs ys : List Action) (a b : List Timed) → Steps s xs a t → Steps t ys b u → Steps s (xs ++ ys) (a ++ b) u
@@ -60,6 +62,7 @@ carries_steps s o actions out t (writes_cycles {n = n} f) = cycles_steps n s act
 carries_steps s o actions out t (dies f) = f
 carries_steps s o actions out t (dies_late f) = f
 carries_steps s o actions out t (dies_idle e f) = f
+carries_steps s o actions out t (loses f) = f
 carries_steps s o actions out t (starts f) = f
 carries_steps s o actions out t (goes_on e) = (refl, refl)
 carries_steps s o actions out t (transacts f) = f
@@ -70,9 +73,8 @@ carries_steps s o actions out t (ejects {d = d} m more first last f g) = steps_t
 carries_steps s o actions out t (ejects_nothing e) = (refl, refl)
 carries_steps s o actions out t (ends f) = f
 
-pub log_append : (xs ys : List Timed) → log_bytes (xs ++ ys) ≡ log_bytes xs ++ log_bytes ys
-log_append [] ys = refl
-log_append (x ∷ xs) ys = ap (λ z. entry_bytes x ++ z) (log_append xs ys) ∙ sym (append_assoc (entry_bytes x) (log_bytes xs) (log_bytes ys))
+pub log_append : (epoch : ℕ) (xs ys : List Timed) → log_bytes epoch (xs ++ ys) ≡ log_bytes epoch xs ++ log_bytes (latest_epoch epoch xs) ys
+log_append epoch xs ys = entries_append Two epoch xs ys
 
 -- a run is its actions, one after another
 pub run_steps : (commands : List Command) (actions : List Action) (log : List Timed) (s : State) → Run commands actions log s → Steps first_state actions log s

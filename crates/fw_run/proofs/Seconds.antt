@@ -9,19 +9,19 @@ use Rattle.fw_ledger.specs.Account.{Account}
 use Rattle.fw_cmp.specs.declared.current.Current.{Current}
 use Rattle.fw_cmp.specs.declared.current.Current.TheVariants.{Nothing, Asking, Hearing, Overtaken}
 use Rattle.fw_cmp.specs.declared.outcome.Next.{Next}
-use Rattle.fw_cmp.specs.declared.outcome.Next.TheVariants.{Send, End, Idle, Waiting}
+use Rattle.fw_cmp.specs.declared.outcome.Next.TheVariants.{Send, End, Idle, Waiting, Deaf, Force}
 use Rattle.fw_cmp.specs.declared.request.Access.{Access}
 use Rattle.fw_cmp.specs.Requests.{access_of, request_of, addressee_of}
 use Rattle.fw_cmp.specs.Turns.{next}
 use Rattle.fw_node.specs.Packets.{packet_of}
 use Rattle.fw_run.specs.Giving.{at_cycle, at_most}
-use Rattle.fw_run.specs.Entries.{second_over, died, started, inserted, ejected, unsettled, shown_entry}
-use Rattle.fw_run.specs.State.{State, Declared, first_state, is_on, directory_of, with_device}
+use Rattle.fw_run.specs.Entries.{second_over, died, started, inserted, ejected, unsettled, shown_entry, lost}
+use Rattle.fw_run.specs.State.{State, Declared, first_state, is_on, directory_of, with_device, is_living}
 use Rattle.fw_run.specs.Frames.{command_write, response_write, frame_packet}
 use Rattle.fw_run.specs.Spaces.{answer_packet, transaction_head, access_request, read_at}
 use Rattle.fw_run.specs.HalfSteps.{head_from, said, hears, hears_from, half, half_of}
 use Rattle.fw_run.specs.Streams.{bytes_of, cycle_start, stream_packet}
-use Rattle.fw_run.specs.Actions.{Action, AddDevice, AddCable, ResetBus, StartConnection, StartBreak, HalfStep, Rest, Unsettled, Pass, EndSecond, Die, CarryOut, Start, Ask, Answer, ShowWord, SendCommand, SendFrame, Receive, InsertTape, EjectTape, StartCycle, SendPacket, Finish, Resets, Declares, Joins, with_topology, Step, Steps}
+use Rattle.fw_run.specs.Actions.{Action, AddDevice, AddCable, ResetBus, StartConnection, StartBreak, HalfStep, Rest, Unsettled, Pass, EndSecond, Die, CarryOut, Lose, TellLoss, Start, Ask, Answer, ShowWord, SendCommand, SendFrame, Receive, InsertTape, EjectTape, StartCycle, SendPacket, Finish, Resets, Declares, Joins, with_topology, Step, Steps, counting, beginning, counted}
 use Rattle.fw_run.specs.Good.{IsGood}
 use Rattle.fw_run.specs.Reclaiming.{IsBusReset, GoesOn, IsSecond, EndsAreSeconds}
 use Rattle.fw_run.proofs.Along.{step_led}
@@ -30,6 +30,7 @@ use Rattle.fw_run.proofs.Resets.{declaring}
 use Rattle.fw_run.proofs.Settling.{half_turn}
 use Rattle.fw_run.proofs.Steps.{step_good}
 use Rattle.fw_run.proofs.Times.{first_good, second_ends}
+use Rattle.fw_run.proofs.Taking.{Taken, listens, keeps_deaf, forces_reset, taken_as}
 
 -- ---- which action begins a second
 
@@ -37,32 +38,39 @@ use Rattle.fw_run.proofs.Times.{first_good, second_ends}
 as_before : (s u t : State) → t ≡ u → u.account.reclaiming ≡ s.account.reclaiming → IsTrue t.account.reclaiming → IsTrue s.account.reclaiming
 as_before s u t is same runs = sym (ap (λ (z : State). z.account.reclaiming) is ∙ same) ∙ runs
 
-resets_begin : (s : State) (a : Action) (n : Declared) (initiator : ℕ) (out : List Timed) (t : State) → Step s a out t → Resets (declaring s n) initiator out t → IsBusReset s a t ⊎ (IsTrue t.account.reclaiming → IsTrue s.account.reclaiming)
-resets_begin s a n initiator out t x r = inl (record { entry = r.entry; step = subst (λ o. Step s a o t) r.out_is x })
+resets_begin : (s u : State) (a : Action) (n : Declared) (initiator : ℕ) (out : List Timed) (t : State) → Step s a out t → u.clock.cycle ≡ s.clock.cycle → Resets (declaring u n) initiator out t → IsBusReset s a t ⊎ (IsTrue t.account.reclaiming → IsTrue s.account.reclaiming)
+resets_begin s u a n initiator out t x same r = inl (record { entry = r.entry; step = subst (λ o. Step s a o t) (r.out_is ∙ ap (λ c. at_most c (Some (Reset r.entry))) same) x })
+
+taken_begins : (s : State) (d : ℕ) (out : List Timed) (t : State) → IsGood s → Step s (HalfStep d) out t → IsTrue (is_living s d) → Taken s d out t → IsBusReset s (HalfStep d) t ⊎ (IsTrue t.account.reclaiming → IsTrue s.account.reclaiming)
+taken_begins s d out t g x lives (listens quiet said is) = inr (as_before s _ t is (half_turn s d g lives).1.reclaiming)
+taken_begins s d out t g x lives (keeps_deaf deaf said is) = inr (as_before s _ t is refl)
+taken_begins s d out t g x lives (forces_reset deaf r) = resets_begin s (counted s 1) (HalfStep d) s.declared d out t x refl r
 
 begins : (s : State) (a : Action) (out : List Timed) (t : State) → IsGood s → Step s a out t → IsBusReset s a t ⊎ (IsTrue t.account.reclaiming → IsTrue s.account.reclaiming)
 begins s (AddDevice name kind ports speed) out t g x = go s.declared.names x.1.4
   where
     go : (names : List (List ℕ)) → Declares names (declaring s (with_device s.declared name kind ports speed)) out t → IsBusReset s (AddDevice name kind ports speed) t ⊎ (IsTrue t.account.reclaiming → IsTrue s.account.reclaiming)
-    go [] r = resets_begin s (AddDevice name kind ports speed) (with_device s.declared name kind ports speed) 0 out t x r
+    go [] r = resets_begin s (beginning s) (AddDevice name kind ports speed) (with_device s.declared name kind ports speed) 0 out t x refl r
     go (y ∷ names) r = inr (as_before s _ t r.1 refl)
 begins s (AddCable a b) out t g x = go (is_on s a.device) (is_on s b.device) x.1.2
   where
     go : (y z : Bool) → Joins y z a.device b.device (with_topology s x.1.0) out t → IsBusReset s (AddCable a b) t ⊎ (IsTrue t.account.reclaiming → IsTrue s.account.reclaiming)
-    go true false r = resets_begin s (AddCable a b) (record s.declared { topology = x.1.0 }) a.device out t x r
-    go false true r = resets_begin s (AddCable a b) (record s.declared { topology = x.1.0 }) b.device out t x r
+    go true false r = resets_begin s (counting s) (AddCable a b) (record s.declared { topology = x.1.0 }) a.device out t x refl r.1
+    go false true r = resets_begin s (counting s) (AddCable a b) (record s.declared { topology = x.1.0 }) b.device out t x refl r.1
     go true true r = inr (as_before s _ t r.1 refl)
     go false false r = inr (as_before s _ t r.1 refl)
-begins s (ResetBus d) out t g x = resets_begin s (ResetBus d) s.declared d out t x x.1.1
+begins s (ResetBus d) out t g x = resets_begin s (counting s) (ResetBus d) s.declared d out t x refl x.1.1.1
 begins s (StartConnection d w) out t g x = inr (as_before s _ t x.1.4 refl)
 begins s (StartBreak d i) out t g x = inr (as_before s _ t x.1.3 refl)
-begins s (HalfStep d) out t g x = inr (as_before s _ t x.1.3 (half_turn s d g x.1.0).1.reclaiming)
+begins s (HalfStep d) out t g x = taken_begins s d out t g x x.1.0 (taken_as s d out t x.1.2)
 begins s (Rest n) out t g x = inr (as_before s _ t x.1.3 refl)
 begins s Unsettled out t g x = inr (as_before s _ t x.1.2 refl)
 begins s (Pass n) out t g x = inr (as_before s _ t x.1.3 refl)
 begins s EndSecond out t g x = inr (λ runs. x.1.1)
 begins s (Die d) out t g x = inr (as_before s _ t x.1.2 refl)
 begins s (CarryOut d) out t g x = inr (as_before s _ t x.1.3 (half_turn s d g x.1.0).1.reclaiming)
+begins s (Lose d) out t g x = inr (as_before s _ t x.1.4 (half_turn s d g x.1.0).1.reclaiming)
+begins s (TellLoss d) out t g x = inr (as_before s _ t x.1.2 refl)
 begins s (Start d) out t g x = inr (as_before s _ t x.1.3 refl)
 begins s (Ask y) out t g x = inr (as_before s _ t x.1.4 refl)
 begins s Answer out t g x = inr (as_before s _ t x.state_is refl)
@@ -96,6 +104,8 @@ goes_on s Unsettled xs out t x runs on = on
 goes_on s (Pass n) xs out t x runs on = on
 goes_on s (Die d) xs out t x runs on = on
 goes_on s (CarryOut d) xs out t x runs on = on
+goes_on s (Lose d) xs out t x runs on = on
+goes_on s (TellLoss d) xs out t x runs on = on
 goes_on s (Start d) xs out t x runs on = on
 goes_on s (Ask y) xs out t x runs on = on
 goes_on s Answer xs out t x runs on = on
@@ -188,6 +198,8 @@ half_no_over s d c = go (s.controllers d).current
     said_no (End i o) = refl
     said_no Idle = refl
     said_no (Waiting until) = refl
+    said_no (Deaf until) = refl
+    said_no Force = refl
 
     packet_no : (o : Option Packet) → opens_over (at_most c (option_map Async o)) ≡ false
     packet_no None = refl
@@ -210,6 +222,11 @@ half_no_over s d c = go (s.controllers d).current
 never : (out others : List Timed) → opens_over out ≡ true → out ≡ others → opens_over others ≡ false → ⊥
 never out others over is f = let clash : true ≡ false = sym over ∙ (ap opens_over is ∙ f) in cc clash
 
+taken_no_over : (s : State) (d : ℕ) (out : List Timed) (t : State) → opens_over out ≡ true → Taken s d out t → ⊥
+taken_no_over s d out t over (listens quiet said is) = never out (at_most s.clock.cycle (half s d).says) over said (half_no_over s d s.clock.cycle)
+taken_no_over s d out t over (keeps_deaf deaf said is) = never out [] over said refl
+taken_no_over s d out t over (forces_reset deaf r) = never out (at_most s.clock.cycle (Some (Reset r.entry))) over r.out_is refl
+
 -- it is the end of the second
 ends_it : (s : State) (a : Action) (out : List Timed) (t : State) → Step s a out t → opens_over out ≡ true → Step s EndSecond out t
 ends_it s EndSecond out t x over = x
@@ -221,19 +238,21 @@ ends_it s (AddDevice name kind ports speed) out t x over = go s.declared.names x
 ends_it s (AddCable a b) out t x over = go (is_on s a.device) (is_on s b.device) x.1.2
   where
     go : (y z : Bool) → Joins y z a.device b.device (with_topology s x.1.0) out t → Step s EndSecond out t
-    go true false r = absurd (never out (at_most s.clock.cycle (Some (Reset r.entry))) over r.out_is refl)
-    go false true r = absurd (never out (at_most s.clock.cycle (Some (Reset r.entry))) over r.out_is refl)
+    go true false r = absurd (never out (at_most s.clock.cycle (Some (Reset r.1.entry))) over r.1.out_is refl)
+    go false true r = absurd (never out (at_most s.clock.cycle (Some (Reset r.1.entry))) over r.1.out_is refl)
     go true true r = absurd (never out [] over r.0 refl)
     go false false r = absurd (never out [] over r.0 refl)
-ends_it s (ResetBus d) out t x over = let r = x.1.1 in absurd (never out (at_most s.clock.cycle (Some (Reset r.entry))) over r.out_is refl)
+ends_it s (ResetBus d) out t x over = let r = x.1.1.1 in absurd (never out (at_most s.clock.cycle (Some (Reset r.entry))) over r.out_is refl)
 ends_it s (StartConnection d w) out t x over = absurd (never out [] over x.1.3 refl)
 ends_it s (StartBreak d i) out t x over = absurd (never out [] over x.1.2 refl)
-ends_it s (HalfStep d) out t x over = absurd (never out (at_most s.clock.cycle (half s d).says) over x.1.2 (half_no_over s d s.clock.cycle))
+ends_it s (HalfStep d) out t x over = absurd (taken_no_over s d out t over (taken_as s d out t x.1.2))
 ends_it s (Rest n) out t x over = absurd (never out [] over x.1.2 refl)
 ends_it s Unsettled out t x over = absurd (never out (at_most s.clock.cycle (Some unsettled)) over x.1.1 refl)
 ends_it s (Pass n) out t x over = absurd (never out [] over x.1.2 refl)
 ends_it s (Die d) out t x over = absurd (never out (at_most s.clock.cycle (Some (died d))) over x.1.1 refl)
 ends_it s (CarryOut d) out t x over = absurd (never out (at_most s.clock.cycle (half s d).says) over x.1.2 (half_no_over s d s.clock.cycle))
+ends_it s (Lose d) out t x over = absurd (never out (at_most s.clock.cycle (half s d).says) over x.1.3 (half_no_over s d s.clock.cycle))
+ends_it s (TellLoss d) out t x over = absurd (never out (at_most s.clock.cycle (Some (lost d))) over x.1.1 refl)
 ends_it s (Start d) out t x over = absurd (never out (at_most s.clock.cycle (Some (started d))) over x.1.2 refl)
 ends_it s (Ask y) out t x over = absurd (never out (at_most s.clock.cycle (Some (Async (packet_of (transaction_head s y) (access_request y.access))))) over x.1.3 refl)
 ends_it s Answer out t x over = absurd (never out (at_most s.clock.cycle (Some (Async x.response))) over x.out_is refl)
@@ -359,4 +378,4 @@ second_at actions log front rest s t f is over = go (opened_of first_state w.aft
 pub ends_are_seconds : EndsAreSeconds
 ends_are_seconds actions log front rest s t f is over =
     let x = second_at actions log front rest s t f is over in
-    (x.before, x.during, x.after, x.second, (x.done, x.run))
+    (x.before, x.during, x.after, x.second, (x.done, x.run), x.all, x.on, (x.later, x.first))

@@ -1,5 +1,5 @@
 -- Enough rounds, over a run: after them no connection is to be restored.
-use Rattle.std.proofs.Common.{◌≡◌, ◌≢◌, ◌⊎◌, inl, inr, ℕ, zero, suc, ◌+◌, ◌<◌, ◌≤◌, ◌&&◌, ◌||◌, not, List, [], ◌∷◌, ◌++◌, length, cond, Bool, true, false, None, is_some, unwrap_or, position, refl, ap, sym, subst, ◌∙◌, arith, IsTrue, IsFalse}
+use Rattle.std.proofs.Common.{◌≡◌, ◌≢◌, ◌⊎◌, inl, inr, ℕ, zero, suc, ◌+◌, ◌<◌, ◌≤◌, ◌&&◌, ◌||◌, not, List, [], ◌∷◌, ◌++◌, length, cond, Bool, true, false, None, is_some, unwrap_or, position, refl, ap, sym, subst, ◌∙◌, arith, IsTrue, IsFalse, Option}
 use Rattle.std.proofs.lemmas.Bool.{cases_lt, cases_eq}
 use Rattle.std.proofs.lemmas.Bool.Decides.{nat_tests}
 use Rattle.std.proofs.lemmas.List.{get_or_past, get_or-replicate, length-replicate}
@@ -14,13 +14,13 @@ use Rattle.fw_cmp.specs.declared.job.Job.{Job}
 use Rattle.fw_cmp.specs.declared.job.Purpose.{Purpose}
 use Rattle.fw_cmp.specs.declared.job.Purpose.TheVariants.{Make, Restore, Break}
 use Rattle.fw_cmp.specs.declared.outcome.Next.{Next}
-use Rattle.fw_cmp.specs.declared.outcome.Next.TheVariants.{Send, End, Idle, Waiting}
+use Rattle.fw_cmp.specs.declared.outcome.Next.TheVariants.{Send, End, Idle, Waiting, Deaf, Force}
 use Rattle.fw_cmp.specs.declared.outcome.Outcome.TheVariants as outcome
 use Rattle.fw_cmp.specs.declared.stage.Stage.{Stage}
 use Rattle.fw_cmp.specs.declared.stage.Stage.TheVariants.{Begin, Made, Ended}
 use Rattle.fw_cmp.specs.declared.connection.Slot.TheVariants.{Gone}
 use Rattle.fw_cmp.specs.Controllers.{ControllerState, first_state as new_controller, slot_at, with_slot, is_restoring, IsHeard, Fits}
-use Rattle.fw_cmp.specs.Resets.{after_hear, after_reset as controller_reset, current_reset, overtaken, interrupted, decided}
+use Rattle.fw_cmp.specs.Resets.{after_hear, state_reset as controller_reset, current_reset, lost_reset, overtaken, interrupted, decided}
 use Rattle.fw_cmp.specs.Turns.{next, after_next, is_busy, waiting_break, is_break}
 use Rattle.fw_cmp.proofs.Resting.{idle_means, waiting_means}
 use Rattle.fw_rounds.specs.Accounts.{situation_of}
@@ -34,7 +34,7 @@ use Rattle.fw_rounds.proofs.Beginning.{can_settle, all_reset}
 use Rattle.fw_rounds.proofs.Settling.{settle_restores}
 use Rattle.fw_run.specs.declared.order.Order.TheVariants.{Settle}
 use Rattle.fw_run.specs.Giving.{at_cycle}
-use Rattle.fw_run.specs.State.{State, Clock, first_state, numbers_to, linked_number, is_living, living, list_to, manager_in, directory_of}
+use Rattle.fw_run.specs.State.{State, Clock, first_state, numbers_to, linked_number, is_living, living, list_to, manager_in, directory_of, is_deaf}
 use Rattle.fw_run.specs.HalfSteps.{asks, taken, half_of, after_half, has_request, is_unsettled}
 use Rattle.fw_run.specs.Actions.{Action, HalfStep, Unsettled, Steps, counted}
 use Rattle.fw_run.specs.Carrying.{half_steps_of, Rounds}
@@ -53,6 +53,7 @@ use Rattle.fw_run.proofs.Reclaiming.{BusResets, bus_resets}
 use Rattle.fw_run.proofs.Steps.{step_good, steps_good}
 use Rattle.fw_run.proofs.Times.{first_good}
 use Rattle.fw_run.proofs.Turns.{Turns, sends, rests, turns, becomes, living_linked}
+use Rattle.fw_run.proofs.Taking.{Taken, listens, keeps_deaf, forces_reset, taken_as}
 
 -- ---- a half step
 
@@ -66,6 +67,7 @@ pub record Stays (s t : State) : Type 0 where
   pub clock : t.clock ≡ s.clock
   pub dead : t.dead ≡ s.dead
   pub declared : t.declared ≡ s.declared
+  pub lost : t.lost ≡ s.lost
 
 turn_half : (s : State) (d : ℕ) → IsGood s → (x : IsLinked s d) → IsHeard (s.controllers d).current → HalfTurns s d (taken s d (asks s d)) × Stays s (taken s d (asks s d))
 turn_half s d g x heard = go (turns s d x.number x.entry g x.is x.shows x.linked heard)
@@ -73,11 +75,11 @@ turn_half s d g x heard = go (turns s d x.number x.entry g x.is x.shows x.linked
     go : Turns s d → HalfTurn s.clock.cycle (directory_of s) d s.account s.controllers (taken s d (asks s d)).account (taken s d (asks s d)).controllers × Stays s (taken s d (asks s d))
     go (sends request out leads) = (
       turn_asks request (told s x.entry x.is x.shows.1 g.time.second) heard out leads (becomes s.controllers d (after_next s.clock.cycle (directory_of s) (s.controllers d))),
-      record { latest = ap (λ (l : Account). l.latest) leads; reclaiming = ap (λ (l : Account). l.reclaiming) leads; clock = refl; dead = refl; declared = refl },
+      record { latest = ap (λ (l : Account). l.latest) leads; reclaiming = ap (λ (l : Account). l.reclaiming) leads; clock = refl; dead = refl; declared = refl; lost = refl },
     )
     go (rests out leads) = (
       turn_rests (told s x.entry x.is x.shows.1 g.time.second) heard out leads (becomes s.controllers d (after_next s.clock.cycle (directory_of s) (s.controllers d))),
-      record { latest = ap (λ (l : Account). l.latest) leads; reclaiming = ap (λ (l : Account). l.reclaiming) leads; clock = refl; dead = refl; declared = refl },
+      record { latest = ap (λ (l : Account). l.latest) leads; reclaiming = ap (λ (l : Account). l.reclaiming) leads; clock = refl; dead = refl; declared = refl; lost = refl },
     )
 
 pub half_turn : (s : State) (d : ℕ) → IsGood s → IsTrue (is_living s d) → HalfTurns s d (after_half s d) × Stays s (after_half s d)
@@ -101,16 +103,16 @@ half_turn s d g lives = go (s.controllers d).current refl
         let bus = carried_bus d j stage r s.account in
         subst (λ y. Both (taken s d y)) (sym h.half_is) (
           turn_hears j stage x.target r e x.asked h.answer account (becomes s.controllers d (after_hear (s.controllers d) r)),
-          record { latest = ap (λ (l : Account). l.latest) account ∙ bus.0; reclaiming = ap (λ (l : Account). l.reclaiming) account ∙ bus.1; clock = refl; dead = refl; declared = refl },
+          record { latest = ap (λ (l : Account). l.latest) account ∙ bus.0; reclaiming = ap (λ (l : Account). l.reclaiming) account ∙ bus.1; clock = refl; dead = refl; declared = refl; lost = refl },
         )
 
 -- ---- half steps of a round
 
 stays_here : (s : State) → Stays s s
-stays_here s = record { latest = refl; reclaiming = refl; clock = refl; dead = refl; declared = refl }
+stays_here s = record { latest = refl; reclaiming = refl; clock = refl; dead = refl; declared = refl; lost = refl }
 
 stays_then : (s t u : State) → Stays s t → Stays t u → Stays s u
-stays_then s t u f g = record { latest = g.latest ∙ f.latest; reclaiming = g.reclaiming ∙ f.reclaiming; clock = g.clock ∙ f.clock; dead = g.dead ∙ f.dead; declared = g.declared ∙ f.declared }
+stays_then s t u f g = record { latest = g.latest ∙ f.latest; reclaiming = g.reclaiming ∙ f.reclaiming; clock = g.clock ∙ f.clock; dead = g.dead ∙ f.dead; declared = g.declared ∙ f.declared; lost = g.lost ∙ f.lost }
 
 -- what controllers are told, and who lives, stays
 told_still : (s t : State) → Stays s t → directory_of t ≡ directory_of s
@@ -130,14 +132,26 @@ moved_back s m t ds h f =
 
 -- the half step of one controller
 step_turn : (s : State) (d : ℕ) (t : State) → IsGood s → IsTrue (is_living s d) → t ≡ counted (after_half s d) 1 → HalfTurns s d t × Stays s t
-step_turn s d t g lives is = subst (λ z. HalfTurns s d z × Stays s z) (sym is) (let h = half_turn s d g lives in (h.0, record { latest = h.1.latest; reclaiming = h.1.reclaiming; clock = h.1.clock; dead = h.1.dead; declared = h.1.declared }))
+step_turn s d t g lives is = subst (λ z. HalfTurns s d z × Stays s z) (sym is) (let h = half_turn s d g lives in (h.0, record { latest = h.1.latest; reclaiming = h.1.reclaiming; clock = h.1.clock; dead = h.1.dead; declared = h.1.declared; lost = h.1.lost }))
 
-round_settles : (ds : List ℕ) (s : State) (out : List Timed) (t : State) → IsGood s → Steps s (half_steps_of ds) out t → Settled s ds t × Stays s t
+-- each controller has heard what there was to hear
+abbrev AllHear : State → Type 0
+AllHear s = (d : ℕ) → is_deaf s d ≡ false
+
+hear_still : (s t : State) → Stays s t → AllHear s → AllHear t
+hear_still s t h quiet d = ap (λ (lost : ℕ → Option Stage). is_some (lost d)) h.lost ∙ quiet d
+
+taken_heard : (s : State) (d : ℕ) (out : List Timed) (t : State) → is_deaf s d ≡ false → Taken s d out t → t ≡ counted (after_half s d) 1
+taken_heard s d out t quiet (listens heard said is) = is
+taken_heard s d out t quiet (keeps_deaf deaf said is) = absurd (grind (arith, quiet, deaf))
+taken_heard s d out t quiet (forces_reset deaf r) = absurd (grind (arith, quiet, deaf))
+
+round_settles : (ds : List ℕ) (s : State) (out : List Timed) (t : State) → IsGood s → AllHear s → Steps s (half_steps_of ds) out t → Settled s ds t × Stays s t
 unfolding Settles
-round_settles [] s out t g f = ((ap (λ (z : State). z.account) (sym f.1), ap (λ (z : State). z.controllers) (sym f.1)), subst (Stays s) (sym f.1) (stays_here s))
-round_settles (d ∷ ds) s out t g f =
-    let turn = step_turn s d f.2 g f.3.1.0 f.3.1.3 in
-    let rest = round_settles ds f.2 f.1 t (step_good s (HalfStep d) f.0 f.2 g f.3) f.5 in
+round_settles [] s out t g quiet f = ((ap (λ (z : State). z.account) (sym f.1), ap (λ (z : State). z.controllers) (sym f.1)), subst (Stays s) (sym f.1) (stays_here s))
+round_settles (d ∷ ds) s out t g quiet f =
+    let turn = step_turn s d f.2 g f.3.1.0 (taken_heard s d f.0 f.2 (quiet d) (taken_as s d f.0 f.2 f.3.1.2)) in
+    let rest = round_settles ds f.2 f.1 t (step_good s (HalfStep d) f.0 f.2 g f.3) (hear_still s f.2 turn.1 quiet) f.5 in
     ((living_small s d g f.3.1.0, (f.2.account, f.2.controllers, turn.0, moved_back s f.2 t ds turn.1 rest.0)), stays_then s f.2 t turn.1 rest.1)
 
 settles_append : (now : ℕ) (dir : Directory) (xs ys : List ℕ) (l m n : Account) (at mid end : ℕ → ControllerState) → Settles now dir xs l at m mid → Settles now dir ys m mid n end → Settles now dir (xs ++ ys) l at n end
@@ -161,6 +175,8 @@ quiet_restored : (now : ℕ) (dir : Directory) (c : ControllerState) → Fits c 
 quiet_restored now dir c fits heard (Send to q) e idle = absurd (grind (arith, idle))
 quiet_restored now dir c fits heard (End k o) e idle = absurd (grind (arith, idle))
 quiet_restored now dir c fits heard Idle e idle = (idle_means now dir c fits heard e).no_job.restoring
+quiet_restored now dir c fits heard (Deaf until) e idle = absurd (grind (arith, idle))
+quiet_restored now dir c fits heard Force e idle = absurd (grind (arith, idle))
 quiet_restored now dir c fits heard (Waiting until) e idle = (waiting_means now dir c until fits heard e).0.no_job.restoring
 
 -- a living controller's device is declared
@@ -199,7 +215,7 @@ data Ends (n : ℕ) (s t : State) : Type 0 where
   idles : AllRestored t → Ends n s t
 
 RoundsEnd : ℕ → Type 0
-RoundsEnd n = (s t : State) (xs : List Action) (out : List Timed) → IsGood s → Rounds n s xs out t → Ends n s t
+RoundsEnd n = (s t : State) (xs : List Action) (out : List Timed) → IsGood s → AllHear s → Rounds n s xs out t → Ends n s t
 
 no_rounds : (s t : State) → t ≡ s → Settled s (rounds 0 (living s)) t
 unfolding Settles rounds
@@ -211,14 +227,14 @@ more_rounds k s m t f h later =
     settles_append s.clock.cycle (directory_of s) (living s) (rounds k (living s)) s.account m.account t.account s.controllers m.controllers t.controllers f
     (subst (λ ks. Settles s.clock.cycle (directory_of s) (rounds k ks) m.account m.controllers t.account t.controllers) (living_still s m h) (moved_back s m t (rounds k (living m)) h later))
 
-ends_by : (n : ℕ) (s t : State) (out : List Timed) → IsGood s → ((k : ℕ) → n ≡ suc k → RoundsEnd k) → RoundsAre n s out t → Ends n s t
+ends_by : (n : ℕ) (s t : State) (out : List Timed) → IsGood s → AllHear s → ((k : ℕ) → n ≡ suc k → RoundsEnd k) → RoundsAre n s out t → Ends n s t
 unfolding RoundsEnd
-ends_by n s t out g later (are_none z empty is) = subst (λ k. Ends k s t) (sym z) (goes (no_rounds s t is))
-ends_by n s t out g later (are_rest f) = idles (λ d i. ap (λ (x : State). is_restoring (slot_at (x.controllers d) i)) (f.5.1 ∙ f.3.1.3) ∙ idle_restored s g f.3.1.0 d i)
-ends_by n s t out g later (are_round k m more first last z f h is) = go (later k z m t more last (steps_good s m (half_steps_of (living s)) first g f) h)
+ends_by n s t out g quiet later (are_none z empty is) = subst (λ k. Ends k s t) (sym z) (goes (no_rounds s t is))
+ends_by n s t out g quiet later (are_rest f) = idles (λ d i. ap (λ (x : State). is_restoring (slot_at (x.controllers d) i)) (f.5.1 ∙ f.3.1.3) ∙ idle_restored s g f.3.1.0 d i)
+ends_by n s t out g quiet later (are_round k m more first last z f h is) = go (later k z m t more last (steps_good s m (half_steps_of (living s)) first g f) (hear_still s m now.1 quiet) h)
   where
     now : Settled s (living s) m × Stays s m
-    now = round_settles (living s) s first m g f
+    now = round_settles (living s) s first m g quiet f
 
     go : Ends k m t → Ends n s t
     go (goes x) = subst (λ j. Ends j s t) (sym z) (goes (more_rounds k s m t now.0 now.1 x))
@@ -226,10 +242,10 @@ ends_by n s t out g later (are_round k m more first last z f h is) = go (later k
 
 rounds_end : (n : ℕ) → RoundsEnd n
 unfolding RoundsEnd
-rounds_end zero = λ s t xs out g f. ends_by 0 s t out g (λ k e. absurd (omega (arith, e))) (rounds_are 0 s xs out t f)
-rounds_end (suc n) = λ s t xs out g f. ends_by (suc n) s t out g (λ k e. let same : n ≡ k = omega (arith, e) in subst RoundsEnd same (rounds_end n)) (rounds_are (suc n) s xs out t f)
+rounds_end zero = λ s t xs out g quiet f. ends_by 0 s t out g quiet (λ k e. absurd (omega (arith, e))) (rounds_are 0 s xs out t f)
+rounds_end (suc n) = λ s t xs out g quiet f. ends_by (suc n) s t out g quiet (λ k e. let same : n ≡ k = omega (arith, e) in subst RoundsEnd same (rounds_end n)) (rounds_are (suc n) s xs out t f)
 
-end_of : (n : ℕ) (s t : State) (xs : List Action) (out : List Timed) → IsGood s → Rounds n s xs out t → Ends n s t
+end_of : (n : ℕ) (s t : State) (xs : List Action) (out : List Timed) → IsGood s → AllHear s → Rounds n s xs out t → Ends n s t
 unfolding RoundsEnd
 end_of n = rounds_end n
 
@@ -290,8 +306,15 @@ overtaken_waiting epoch c j (Made f) = refl
 overtaken_waiting epoch c j (Ended e) = decided_waiting c j
 overtaken_waiting epoch c j _ = interrupted_waiting epoch c j
 
-reset_waiting : (epoch : ℕ) (c : ControllerState) → (controller_reset epoch c).waiting ≡ c.waiting
-reset_waiting epoch c = go c.current
+reset_waiting : (epoch : ℕ) (lost : Bool) (c : ControllerState) → (controller_reset epoch lost c).waiting ≡ c.waiting
+reset_waiting epoch true c = go c.current
+  where
+    go : (cur : Current) → (lost_reset epoch c cur).waiting ≡ c.waiting
+    go Nothing = refl
+    go (Asking j s) = interrupted_waiting epoch c j
+    go (Hearing j s) = interrupted_waiting epoch c j
+    go (Overtaken i o) = refl
+reset_waiting epoch false c = go c.current
   where
     go : (cur : Current) → (current_reset epoch c cur).waiting ≡ c.waiting
     go Nothing = refl
@@ -303,8 +326,9 @@ begins : (before s : State) → IsGood before → (r : BusResets before s) → I
 begins before s g r runs calm = record {
   later = sym (ap (λ (l : Account). l.reclaiming) r.is.account) ∙ runs;
   fits = g.reclaims.step.fits;
-  no_break = λ d. sym (ap (position is_break) (reset_waiting r.entry.epoch (before.controllers d))) ∙ (sym (ap waiting_break (r.is.each d)) ∙ calm d);
+  no_break = λ d. sym (ap (position is_break) (reset_waiting r.entry.epoch (is_deaf before d) (before.controllers d))) ∙ (sym (ap waiting_break (r.is.each d)) ∙ calm d);
   stands = g.stands;
+  lost = is_deaf before;
   each = r.is.each;
 }
 
@@ -354,7 +378,7 @@ enough s t n actions out x many f = go c.4
     restored (goes h) = all_of c.1 gm (settle_restores n s.clock.cycle (directory_of s) (living s) s.account c.1.account s.controllers c.1.controllers (g.time.second x.second) (can x.before s gb g r x.second x.no_break) reset (is_round s g) many h)
 
     all : AllRestored c.1
-    all = restored (end_of n s c.1 c.0 c.2 g c.3)
+    all = restored (end_of n s c.1 c.0 c.2 g r.quiet c.3)
 
     same : (m : State) → t.controllers ≡ m.controllers → AllRestored m → AllRestored t
     same m e h = subst (λ (u : ℕ → ControllerState). (d i : ℕ) → IsFalse (is_restoring (slot_at (u d) i))) (sym e) h

@@ -63,7 +63,7 @@ input_in_space s k few there =
 
 -- ---- by cases on the account's register
 
-same_test : (o : Option ℕ) (n : ℕ) → is_number o n ≡ is_node n o
+pub same_test : (o : Option ℕ) (n : ℕ) → is_number o n ≡ is_node n o
 same_test None n = refl
 same_test (Some m) n = refl
 

@@ -22,13 +22,13 @@ use Rattle.fw_run.specs.declared.order.Access.{Access}
 use Rattle.fw_run.specs.declared.order.Access.TheVariants.{Read, Swap}
 use Rattle.fw_run.specs.declared.order.Transaction.{Transaction}
 use Rattle.fw_run.specs.Giving.{at_most}
-use Rattle.fw_run.specs.Entries.{second_over, died, started, inserted, ejected, lines_of, unsettled, shown_entry}
-use Rattle.fw_run.specs.State.{State, Declared, epoch_of, is_on, is_linked, with_device}
+use Rattle.fw_run.specs.Entries.{second_over, died, started, inserted, ejected, lines_of, unsettled, shown_entry, lost}
+use Rattle.fw_run.specs.State.{State, Declared, epoch_of, is_on, is_linked, with_device, is_living, is_deaf}
 use Rattle.fw_run.specs.Frames.{command_write, response_write, frame_packet}
 use Rattle.fw_run.specs.Spaces.{script_head, access_request, target_node, transaction_head, answer_packet, read_at, reply_from}
 use Rattle.fw_run.specs.HalfSteps.{half}
 use Rattle.fw_run.specs.Streams.{bytes_of, cycle_start, stream_packet}
-use Rattle.fw_run.specs.Actions.{Action, AddDevice, AddCable, ResetBus, StartConnection, StartBreak, HalfStep, Rest, Unsettled, Pass, EndSecond, Die, CarryOut, Start, Ask, Answer, ShowWord, SendCommand, SendFrame, Receive, InsertTape, EjectTape, StartCycle, SendPacket, Finish, Resets, Declares, Joins, AccessFits, with_topology, Step, Steps}
+use Rattle.fw_run.specs.Actions.{Action, AddDevice, AddCable, ResetBus, StartConnection, StartBreak, HalfStep, Rest, Unsettled, Pass, EndSecond, Die, CarryOut, Lose, TellLoss, Start, Ask, Answer, ShowWord, SendCommand, SendFrame, Receive, InsertTape, EjectTape, StartCycle, SendPacket, Finish, Resets, Declares, Joins, AccessFits, with_topology, Step, Steps, counting, beginning, counted}
 use Rattle.fw_run.specs.Good.{IsGood, AreDeclared}
 use Rattle.fw_run.specs.Numbers.{HasNumbers}
 use Rattle.fw_run.proofs.Along.{step_led}
@@ -47,6 +47,8 @@ use Rattle.fw_run.proofs.Steps.{step_good}
 use Rattle.fw_run.proofs.FrameWrites.{write_fits, sendable_fits, received_fits}
 use Rattle.fw_run.proofs.Framing.{told_sendable}
 use Rattle.fw_run.proofs.Transactions.{linked_number_of}
+use Rattle.fw_run.proofs.Taking.{Taken, listens, keeps_deaf, forces_reset, taken_as}
+use Rattle.fw_run.proofs.HalfSteps.{deaf_lives}
 
 -- ---- entries that may be written
 
@@ -70,12 +72,12 @@ reset_fits s n initiator out t d r =
     most_fit s.clock.cycle (Some (Reset r.entry)) out r.out_is (entry_fits n.topology n.kinds (epoch_of s.account.latest + 1) initiator r.entry d.made d.kinds low r.is_entry)
 
 declare_fits : (s : State) (names : List (List ℕ)) (n : Declared) (out : List Timed) (t : State) → AreDeclared n → Declares names (declaring s n) out t → AllFit out
-declare_fits s [] n out t d r = reset_fits s n 0 out t d r
+declare_fits s [] n out t d r = reset_fits (beginning s) n 0 out t d r
 declare_fits s (x ∷ names) n out t d r = none_fit out r.0
 
 join_fits : (x y : Bool) (a b : ℕ) (s : State) (g : Topology) (out : List Timed) (t : State) → AreDeclared (record s.declared { topology = g }) → Joins x y a b (with_topology s g) out t → AllFit out
-join_fits true false a b s g out t d r = reset_fits s (record s.declared { topology = g }) a out t d r
-join_fits false true a b s g out t d r = reset_fits s (record s.declared { topology = g }) b out t d r
+join_fits true false a b s g out t d r = reset_fits (counting s) (record s.declared { topology = g }) a out t d r.1
+join_fits false true a b s g out t d r = reset_fits (counting s) (record s.declared { topology = g }) b out t d r.1
 join_fits true true a b s g out t d r = none_fit out r.0
 join_fits false false a b s g out t d r = none_fit out r.0
 
@@ -130,19 +132,26 @@ inserted_shape : (d tape : ℕ) (system : TapeSystem) → IsTrue (is_event INSER
 inserted_shape d tape Lines525 = refl
 inserted_shape d tape Lines625 = refl
 
+taken_fits : (s : State) (d : ℕ) (out : List Timed) (t : State) → IsGood s → HasNumbers s → IsTrue (is_living s d) → Taken s d out t → AllFit out
+taken_fits s d out t g b lives (listens quiet said is) = most_fit s.clock.cycle (half s d).says out said (half_fits s d g b lives)
+taken_fits s d out t g b lives (keeps_deaf deaf said is) = none_fit out said
+taken_fits s d out t g b lives (forces_reset deaf r) = reset_fits (counted s 1) s.declared d out t g.declared r
+
 pub step_fits : (s : State) (a : Action) (out : List Timed) (t : State) → IsGood s → HasNumbers s → Step s a out t → AllFit out
 step_fits s (AddDevice name kind ports speed) out t g b x = declare_fits s s.declared.names (with_device s.declared name kind ports speed) out t (more_declared s name kind ports speed (record { good = g; room = x.1.0; some = x.1.1; most = x.1.2; fast = x.1.3 })) x.1.4
 step_fits s (AddCable p q) out t g b x = join_fits (is_on s p.device) (is_on s q.device) p.device q.device s x.1.0 out t (cabled_declared s.declared x.1.0 p q x.1.1 g.declared) x.1.2
-step_fits s (ResetBus d) out t g b x = reset_fits s s.declared d out t g.declared x.1.1
+step_fits s (ResetBus d) out t g b x = reset_fits (counting s) s.declared d out t g.declared x.1.1.1
 step_fits s (StartConnection d w) out t g b x = none_fit out x.1.3
 step_fits s (StartBreak d i) out t g b x = none_fit out x.1.2
-step_fits s (HalfStep d) out t g b x = most_fit s.clock.cycle (half s d).says out x.1.2 (half_fits s d g b x.1.0)
+step_fits s (HalfStep d) out t g b x = taken_fits s d out t g b x.1.0 (taken_as s d out t x.1.2)
 step_fits s (Rest n) out t g b x = none_fit out x.1.2
 step_fits s Unsettled out t g b x = most_fit s.clock.cycle (Some unsettled) out x.1.1 (record { device = omega arith; tape = omega arith; shape = refl })
 step_fits s (Pass n) out t g b x = none_fit out x.1.2
 step_fits s EndSecond out t g b x = most_fit (s.clock.cycle + 1) (Some second_over) out x.1.3 (record { device = omega arith; tape = omega arith; shape = refl })
 step_fits s (Die d) out t g b x = most_fit s.clock.cycle (Some (died d)) out x.1.1 (record { device = let few = living_small s d g x.1.0 in omega (arith, few); tape = omega arith; shape = refl })
 step_fits s (CarryOut d) out t g b x = most_fit s.clock.cycle (half s d).says out x.1.2 (half_fits s d g b x.1.0)
+step_fits s (Lose d) out t g b x = most_fit s.clock.cycle (half s d).says out x.1.3 (half_fits s d g b x.1.0)
+step_fits s (TellLoss d) out t g b x = most_fit s.clock.cycle (Some (lost d)) out x.1.1 (record { device = let few = living_small s d g (deaf_lives s d g x.1.0) in omega (arith, few); tape = omega arith; shape = refl })
 step_fits s (Start d) out t g b x = most_fit s.clock.cycle (Some (started d)) out x.1.2 (record { device = let few = linked_few s d g x.1.0 in omega (arith, few); tape = omega arith; shape = refl })
 step_fits s (Ask y) out t g b x = most_fit s.clock.cycle (Some (AsyncEntry (packet_of (transaction_head s y) (access_request y.access)))) out x.1.3 (ask_fits s y g x.1.2)
 step_fits s Answer out t g b x = most_fit s.clock.cycle (Some (AsyncEntry x.response)) out x.out_is (answer_fits s x.transaction x.response g b (b.asks x.transaction x.waits) x.answered)

@@ -8,8 +8,8 @@ use Rattle.fw_cmp.specs.Resets.{after_second as controller_second}
 use Rattle.fw_reclaim.specs.Worlds.{SecondOver}
 use Rattle.fw_reclaim.proofs.Together.{first_reclaims, goes_on_reclaiming}
 use Rattle.fw_run.specs.Entries.{second_over}
-use Rattle.fw_run.specs.State.{State, first_state, entered, while_talking, directory_of}
-use Rattle.fw_run.specs.Actions.{after_cycles, after_second, counted}
+use Rattle.fw_run.specs.State.{State, first_state, entered, while_talking, directory_of, epoch_of}
+use Rattle.fw_run.specs.Actions.{after_cycles, after_second, counted, counting, beginning}
 use Rattle.fw_run.specs.Good.{IsGood, IsLatest, world_of}
 use Rattle.fw_tape.specs.Blocks.{blocks_among}
 use Rattle.fw_run.proofs.Counts.{silent}
@@ -25,6 +25,7 @@ first_good = record {
   stands = λ d. tt;
   unused = λ d off. refl;
   time = record { second = λ runs. absurd (grind arith); over_at = omega arith; cycle = omega arith };
+  losses = record { asks = λ d on. absurd (grind arith); counted = λ d on. absurd (grind arith); came = omega arith; few = omega arith };
   half_steps = omega arith;
   written = omega arith;
   decks = first_is;
@@ -34,23 +35,39 @@ first_good = record {
 -- ---- half steps that do nothing
 
 pub counted_good : (s : State) (n : ℕ) → IsGood s → s.half_steps + n ≤ 4000000 → IsGood (counted s n)
-counted_good s n g few = record { declared = g.declared; latest = latest_ s.account.latest g.latest; reclaims = g.reclaims; stands = g.stands; unused = g.unused; time = record { second = g.time.second; over_at = g.time.over_at; cycle = g.time.cycle }; half_steps = few; written = g.written; decks = g.decks; streams = g.streams }
+counted_good s n g few = record { declared = g.declared; latest = latest_ s.account.latest g.latest; reclaims = g.reclaims; stands = g.stands; unused = g.unused; time = record { second = g.time.second; over_at = g.time.over_at; cycle = g.time.cycle }; losses = g.losses; half_steps = few; written = g.written; decks = g.decks; streams = g.streams }
   where
     latest_ : (o : Option ResetEntry) → IsLatest o s → IsLatest o (counted s n)
+    latest_ None h = h
+    latest_ (Some e) h = h
+
+-- ---- a bus reset counts
+
+pub beginning_good : (s : State) → IsGood s → epoch_of s.account.latest ≡ 0 → IsGood (beginning s)
+beginning_good s g none = record { declared = g.declared; latest = latest_ s.account.latest g.latest; reclaims = g.reclaims; stands = g.stands; unused = g.unused; time = record { second = g.time.second; over_at = g.time.over_at; cycle = g.time.cycle }; losses = record { asks = g.losses.asks; counted = λ d on. omega (arith, none); came = omega (arith, none); few = omega arith }; half_steps = g.half_steps; written = g.written; decks = g.decks; streams = g.streams }
+  where
+    latest_ : (o : Option ResetEntry) → IsLatest o s → IsLatest o (beginning s)
+    latest_ None h = h
+    latest_ (Some e) h = h
+
+pub counting_good : (s : State) → IsGood s → s.resets < 10000 → IsGood (counting s)
+counting_good s g few = record { declared = g.declared; latest = latest_ s.account.latest g.latest; reclaims = g.reclaims; stands = g.stands; unused = g.unused; time = record { second = g.time.second; over_at = g.time.over_at; cycle = g.time.cycle }; losses = record { asks = g.losses.asks; counted = λ d on. omega (arith, g.losses.counted d on); came = omega (arith, g.losses.came); few = omega (arith, few) }; half_steps = g.half_steps; written = g.written; decks = g.decks; streams = g.streams }
+  where
+    latest_ : (o : Option ResetEntry) → IsLatest o s → IsLatest o (counting s)
     latest_ None h = h
     latest_ (Some e) h = h
 
 -- ---- cycles
 
 pub written_good : (s : State) → IsGood s → s.written < 8000 → IsGood (record s { written = s.written + 1 })
-written_good s g few = record { declared = g.declared; latest = latest_ s.account.latest g.latest; reclaims = g.reclaims; stands = g.stands; unused = g.unused; time = record { second = g.time.second; over_at = g.time.over_at; cycle = g.time.cycle }; half_steps = g.half_steps; written = omega (arith, few); decks = g.decks; streams = g.streams }
+written_good s g few = record { declared = g.declared; latest = latest_ s.account.latest g.latest; reclaims = g.reclaims; stands = g.stands; unused = g.unused; time = record { second = g.time.second; over_at = g.time.over_at; cycle = g.time.cycle }; losses = g.losses; half_steps = g.half_steps; written = omega (arith, few); decks = g.decks; streams = g.streams }
   where
     latest_ : (o : Option ResetEntry) → IsLatest o s → IsLatest o (record s { written = s.written + 1 })
     latest_ None h = h
     latest_ (Some e) h = h
 
 pub pass_good : (s : State) (n : ℕ) → IsGood s → s.clock.cycle + n ≤ 2 ^ 52 → (IsTrue s.account.reclaiming → s.clock.cycle + n < s.clock.over_at) → IsGood (after_cycles s n)
-pass_good s n g small second = record { declared = g.declared; latest = latest_ s.account.latest g.latest; reclaims = g.reclaims; stands = g.stands; unused = g.unused; time = record { second = second; over_at = omega (arith, g.time.over_at); cycle = small }; half_steps = g.half_steps; written = g.written; decks = λ d. passed_is s.account.latest s.clock.cycle n d (s.decks d) (g.decks d); streams = silent s.account (λ p. s.streams p + blocks_among (s.decks p.device).unit.tape n) }
+pass_good s n g small second = record { declared = g.declared; latest = latest_ s.account.latest g.latest; reclaims = g.reclaims; stands = g.stands; unused = g.unused; time = record { second = second; over_at = omega (arith, g.time.over_at); cycle = small }; losses = g.losses; half_steps = g.half_steps; written = g.written; decks = λ d. passed_is s.account.latest s.clock.cycle n d (s.decks d) (g.decks d); streams = silent s.account (λ p. s.streams p + blocks_among (s.decks p.device).unit.tape n) }
   where
     latest_ : (o : Option ResetEntry) → IsLatest o s → IsLatest o (after_cycles s n)
     latest_ None h = h
@@ -73,6 +90,7 @@ over_good s g small = record {
   stands = g.stands;
   unused = λ d off. ap controller_second (g.unused d off);
   time = record { second = λ runs. absurd (grind arith); over_at = omega (arith, g.time.over_at); cycle = small };
+  losses = record { asks = g.losses.asks; counted = g.losses.counted; came = g.losses.came; few = g.losses.few };
   half_steps = g.half_steps;
   written = g.written;
   decks = λ d. passed_is s.account.latest s.clock.cycle 1 d (s.decks d) (g.decks d);

@@ -19,13 +19,14 @@ use Rattle.fw_run.specs.Entries.{shown_entry}
 use Rattle.fw_run.specs.State.{State, number_in, is_linked}
 use Rattle.fw_run.specs.Spaces.{space_of_device, reply_from, read_at, answer_packet, script_head, access_request, target_node, transaction_head}
 use Rattle.fw_run.specs.Actions.{Answers}
-use Rattle.fw_run.specs.Headline.{IsAnswered, IsReadBy, IsReadIn}
+use Rattle.fw_run.specs.Headline.{HasWords, IsAnswered, IsReadBy, IsReadIn}
 use Rattle.fw_run.specs.Good.{IsGood}
 use Rattle.fw_run.proofs.Answers.{answered}
 use Rattle.fw_run.proofs.Directories.{linked_number_is}
 use Rattle.fw_run.proofs.Leads.{linked_of}
 use Rattle.fw_run.proofs.Led.{Led, Says, led_now, unread}
 use Rattle.fw_run.proofs.Shown.{space_shows}
+use Rattle.fw_run.proofs.Watched.{shown_watched}
 use Rattle.fw_run.proofs.Words.{number_of_on, answers_word}
 
 -- ---- a device with a link has its number
@@ -43,8 +44,8 @@ asked_next l to from (Read offset) = refl
 asked_next l to from (Swap offset argument new) = refl
 
 asked_shows : (l : Account) (to from : ℕ) (a : Access) → IsAnswered l (Async (packet_of (script_head to from) (access_request a)))
-asked_shows l to from (Read offset) = tt
-asked_shows l to from (Swap offset argument new) = tt
+asked_shows l to from (Read offset) = (tt, tt)
+asked_shows l to from (Swap offset argument new) = (tt, tt)
 
 pub ask_led : (s : State) (x : Transaction) (out : List Timed) (t : State) → IsTrue (is_linked s x.to) → out ≡ at_most s.clock.cycle (Some (Async (packet_of (transaction_head s x) (access_request x.access)))) → t ≡ record s { transaction = Some x } → Led s out t
 ask_led s x out t on is to = record {
@@ -77,8 +78,8 @@ answered_next l n to from (Read offset) r = refl
 answered_next l n to from (Swap offset argument new) r = refl
 
 answered_says : (l : Account) (n to from : ℕ) (a : Access) (r : Reply) → Says l (Some (Async (access_response n (script_head to from) a r)))
-answered_says l n to from (Read offset) r = (tt, unread l (access_response n (script_head to from) (Read offset) r) (λ q. tt))
-answered_says l n to from (Swap offset argument new) r = (tt, unread l (access_response n (script_head to from) (Swap offset argument new) r) (λ q. tt))
+answered_says l n to from (Read offset) r = ((tt, tt), unread l (access_response n (script_head to from) (Read offset) r) (λ q. tt))
+answered_says l n to from (Swap offset argument new) r = ((tt, tt), unread l (access_response n (script_head to from) (Swap offset argument new) r) (λ q. tt))
 
 -- the packet that answers a transaction
 pub response_is : (s : State) (x : Transaction) (p : Packet) → answer_packet s (target_node s x) (transaction_head s x) (access_request x.access) ≡ Some p
@@ -116,14 +117,16 @@ read_pair s x p g on is = subst (λ q. IsReadIn s.account (Async (packet_of (tra
 
     go : (a : Access) → IsReadBy s.account (packet_of (transaction_head s x) (access_request a)) (access_response n (transaction_head s x) a (reply_from s n (access_request a)))
     go (Read offset) = λ label complete register at. ap (λ (r : Reply). r.value) (answers_word s x.to n (first_address + offset) None register g (linked_number_of s x.to g on) at)
-    go (Swap offset argument new) = tt
+    go (Swap offset argument new) = λ label complete register at.
+        let shown = answers_word s x.to n (first_address + offset) (Some (record { argument = argument; new = new })) register g (linked_number_of s x.to g on) at in
+        ap old_bytes shown
 
 -- ---- a shown word
 
-pub show_led : (s : State) (d offset : ℕ) (out : List Timed) (t : State) → IsGood s → IsTrue (is_linked s d) → out ≡ at_most s.clock.cycle (Some (shown_entry d offset (read_at s d offset).value)) → t ≡ s → Led s out t
-show_led s d offset out t g on is to = led_now s (Some (shown_entry d offset (read_at s d offset).value)) out t (ap (λ (z : State). z.clock.cycle) to) is (ap (λ (z : State). Some z.account) (sym to)) (shows, λ u. tt)
+pub show_led : (s : State) (d offset : ℕ) (out : List Timed) (t : State) → IsGood s → IsTrue (is_linked s d) → (read_at s d offset).rcode ≡ 0 → out ≡ at_most s.clock.cycle (Some (shown_entry d offset (read_at s d offset).value)) → t ≡ s → Led s out t
+show_led s d offset out t g on complete is to = led_now s (Some (shown_entry d offset (read_at s d offset).value)) out t (ap (λ (z : State). z.clock.cycle) to) is (ap (λ (z : State). Some z.account) (sym to)) ((shows, shown_watched s d offset g (linked_number_of s d g on) complete), λ u. tt)
   where
-    shows : IsAnswered s.account (shown_entry d offset (read_at s d offset).value)
+    shows : HasWords s.account (shown_entry d offset (read_at s d offset).value)
     shows = λ w at. go (register_at s.account.latest (node_of s.account.latest d) offset) w refl at
       where
         go : (o : Option Register) (w : ℕ) → register_at s.account.latest (node_of s.account.latest d) offset ≡ o → option_map (word_of s.account) o ≡ Some w → (read_at s d offset).value ≡ w

@@ -1,5 +1,5 @@
 -- The half step of a controller of which no request stands leads from a good state to a good state.
-use Rattle.std.proofs.Common.{◌≡◌, ◌≢◌, ◌⊎◌, inl, inr, ℕ, true, Option, Some, None, is_some, unwrap_or, refl, ap, sym, subst, ◌∙◌, arith, IsTrue, IsFalse}
+use Rattle.std.proofs.Common.{◌≡◌, ◌≢◌, ◌⊎◌, inl, inr, ℕ, true, Option, Some, None, is_some, unwrap_or, refl, ap, sym, subst, ◌∙◌, arith, IsTrue, IsFalse, false, ◌<◌}
 use Rattle.std.proofs.lemmas.Bool.{cases_eq}
 use Rattle.std.proofs.lemmas.Bool.Decides.{nat_tests}
 use Rattle.fw_base.specs.declared.plug.PlugAt.{PlugAt}
@@ -14,7 +14,7 @@ use Rattle.fw_ledger.specs.Packets.{asked}
 use Rattle.fw_entry.specs.Network.{row_of_node}
 use Rattle.fw_ledger.specs.Words.{node_of}
 use Rattle.fw_cmp.specs.declared.outcome.Next.{Next}
-use Rattle.fw_cmp.specs.declared.outcome.Next.TheVariants.{Send, End, Idle, Waiting}
+use Rattle.fw_cmp.specs.declared.outcome.Next.TheVariants.{Send, End, Idle, Waiting, Deaf, Force}
 use Rattle.fw_cmp.specs.declared.request.Access.{Access}
 use Rattle.fw_cmp.specs.Controllers.{ControllerState, first_state as new_controller, IsHeard}
 use Rattle.fw_cmp.specs.Requests.{offset_of, request_at, request_of}
@@ -29,9 +29,9 @@ use Rattle.fw_reclaim.proofs.Together.{goes_on_reclaiming}
 use Rattle.fw_rounds.specs.HalfSteps.{AsksWhatStands}
 use Rattle.fw_rounds.proofs.Stands.{next_stands}
 use Rattle.fw_node.specs.Packets.{packet_of}
-use Rattle.fw_run.specs.State.{State, entered_by, while_talking, linked_number, directory_of, is_living}
+use Rattle.fw_run.specs.State.{State, entered_by, while_talking, linked_number, directory_of, is_living, is_deaf, epoch_of}
 use Rattle.fw_run.specs.HalfSteps.{head_from, said, asks, taken}
-use Rattle.fw_run.specs.Good.{IsGood, IsLatest, world_of}
+use Rattle.fw_run.specs.Good.{IsGood, IsLatest, world_of, AreLosses, Asks}
 use Rattle.fw_run.proofs.Buses.{shows_bus, linked_at, linked_small}
 use Rattle.fw_run.proofs.Counts.{silent}
 use Rattle.fw_run.proofs.Directories.{told}
@@ -61,6 +61,41 @@ each_of P f d x new old k = go (cases_eq k d)
     go (inl e) = subst P (sym (ap (update f d x) e ∙ update_new f d x)) new
     go (inr ne) = subst P (sym (update_others f d x k ne)) (old k)
 
+-- one that has lost no response changes, and the others still ask
+pub quiet_losses : (s : State) (d : ℕ) (c : ControllerState) → IsGood s → IsFalse (is_deaf s d) → AreLosses s.lost (update s.controllers d c) s.resets (epoch_of s.account.latest)
+quiet_losses s d c g quiet = record { asks = λ k on. go k on (cases_eq k d); counted = g.losses.counted; came = g.losses.came; few = g.losses.few }
+  where
+    go : (k : ℕ) → IsTrue (is_deaf s k) → (k ≡ d) ⊎ (k ≢ d) → Asks (update s.controllers d c k).current
+    go k on (inl same) = let off : is_deaf s k ≡ false = ap (is_deaf s) same ∙ quiet in absurd (grind (arith, on, off))
+    go k on (inr ne) = subst (λ (x : ControllerState). Asks x.current) (sym (update_others s.controllers d c k ne)) (g.losses.asks k on)
+
+-- the controller of device d is new, or keeps what it asks
+pub new_losses : (s : State) (d : ℕ) (c : ControllerState) → IsGood s → AreLosses (update s.lost d None) (update s.controllers d c) s.resets (epoch_of s.account.latest)
+new_losses s d c g = record { asks = λ k on. go k on (cases_eq k d); counted = λ k on. lost k on (cases_eq k d); came = g.losses.came; few = g.losses.few }
+  where
+    off : (k : ℕ) → k ≡ d → is_some (update s.lost d None k) ≡ false
+    off k same = ap (λ x. is_some (update s.lost d None x)) same ∙ ap is_some (update_new s.lost d None)
+
+    still : (k : ℕ) → k ≢ d → IsTrue (is_some (update s.lost d None k)) → IsTrue (is_deaf s k)
+    still k ne on = sym (ap is_some (update_others s.lost d None k ne)) ∙ on
+
+    go : (k : ℕ) → IsTrue (is_some (update s.lost d None k)) → (k ≡ d) ⊎ (k ≢ d) → Asks (update s.controllers d c k).current
+    go k on (inl same) = absurd (let none = off k same in grind (arith, on, none))
+    go k on (inr ne) = subst (λ (x : ControllerState). Asks x.current) (sym (update_others s.controllers d c k ne)) (g.losses.asks k (still k ne on))
+
+    lost : (k : ℕ) → IsTrue (is_some (update s.lost d None k)) → (k ≡ d) ⊎ (k ≢ d) → epoch_of s.account.latest < s.resets
+    lost k on (inl same) = absurd (let none = off k same in grind (arith, on, none))
+    lost k on (inr ne) = g.losses.counted k (still k ne on)
+
+pub kept_losses : (s : State) (d : ℕ) (c : ControllerState) → IsGood s → c.current ≡ (s.controllers d).current → AreLosses s.lost (update s.controllers d c) s.resets (epoch_of s.account.latest)
+kept_losses s d c g same = record { asks = λ k on. go k on (cases_eq k d); counted = g.losses.counted; came = g.losses.came; few = g.losses.few }
+  where
+    go : (k : ℕ) → IsTrue (is_deaf s k) → (k ≡ d) ⊎ (k ≢ d) → Asks (update s.controllers d c k).current
+    go k on (inl e) =
+        let is : (update s.controllers d c k).current ≡ (s.controllers k).current = ap (λ x. (update s.controllers d c x).current) e ∙ (ap (λ (x : ControllerState). x.current) (update_new s.controllers d c) ∙ (same ∙ ap (λ x. (s.controllers x).current) (sym e))) in
+        subst Asks (sym is) (g.losses.asks k on)
+    go k on (inr ne) = subst (λ (x : ControllerState). Asks x.current) (sym (update_others s.controllers d c k ne)) (g.losses.asks k on)
+
 -- ---- the state after it
 
 -- what a turn changes of the account
@@ -71,14 +106,15 @@ abbrev turned : State → ℕ → (ℕ → Option PlugAt) → (ℕ → Option Re
 turned s d a o = record s {
   account = marked s.account a o;
   controllers = update s.controllers d (after_next s.clock.cycle (directory_of s) (s.controllers d));
+  asked_at = update s.asked_at d (asks s d).asked_at;
   streams = while_talking (marked s.account a o) s.streams;
 }
 
 latest_turned : (s : State) (d : ℕ) (a : ℕ → Option PlugAt) (o : ℕ → Option Request) (e : ResetEntry) → s.account.latest ≡ Some e → IsLatest (Some e) s → IsLatest s.account.latest (turned s d a o)
 latest_turned s d a o e is h = subst (λ x. IsLatest x (turned s d a o)) (sym is) h
 
-turned_good : (s : State) (d n : ℕ) (e : ResetEntry) (a : ℕ → Option PlugAt) (o : ℕ → Option Request) → IsGood s → IsTrue (is_living s d) → s.account.latest ≡ Some e → IsLatest (Some e) s → linked_number (Some e) d ≡ Some n → IsHeard (s.controllers d).current → SendsRequest (world_of s) d s.clock.cycle (marked s.account a o) ⊎ SendsNothing (world_of s) d s.clock.cycle (marked s.account a o) → IsGood (turned s d a o)
-turned_good s d n e a o g lives is h number heard says = record {
+turned_good : (s : State) (d n : ℕ) (e : ResetEntry) (a : ℕ → Option PlugAt) (o : ℕ → Option Request) → IsGood s → IsTrue (is_living s d) → IsFalse (is_deaf s d) → s.account.latest ≡ Some e → IsLatest (Some e) s → linked_number (Some e) d ≡ Some n → IsHeard (s.controllers d).current → SendsRequest (world_of s) d s.clock.cycle (marked s.account a o) ⊎ SendsNothing (world_of s) d s.clock.cycle (marked s.account a o) → IsGood (turned s d a o)
+turned_good s d n e a o g lives quiet is h number heard says = record {
   declared = g.declared;
   latest = latest_turned s d a o e is h;
   reclaims = goes_on_reclaiming (world_of s) (world_of (turned s d a o)) (Turn d s.clock.cycle) g.reclaims (record {
@@ -93,6 +129,7 @@ turned_good s d n e a o g lives is h number heard says = record {
   stands = each_of (λ c. AsksWhatStands c.current) s.controllers d (after_next s.clock.cycle (directory_of s) (s.controllers d)) (next_stands s.clock.cycle (directory_of s) (s.controllers d) heard) g.stands;
   unused = λ k off. unused k off (cases_eq k d);
   time = record { second = g.time.second; over_at = g.time.over_at; cycle = g.time.cycle };
+  losses = quiet_losses s d (after_next s.clock.cycle (directory_of s) (s.controllers d)) g quiet;
   half_steps = g.half_steps;
   written = g.written;
   decks = g.decks;
@@ -130,20 +167,22 @@ turns s d n e g is h number heard = go (next s.clock.cycle (directory_of s) (s.c
     go (End i o) f = rests (tells.unsent (ap is_sent f)) (ap (λ x. entered_by s.account (said s d x)) f)
     go Idle f = rests (tells.unsent (ap is_sent f)) (ap (λ x. entered_by s.account (said s d x)) f)
     go (Waiting until) f = rests (tells.unsent (ap is_sent f)) (ap (λ x. entered_by s.account (said s d x)) f)
+    go (Deaf until) f = rests (tells.unsent (ap is_sent f)) (ap (λ x. entered_by s.account (said s d x)) f)
+    go Force f = rests (tells.unsent (ap is_sent f)) (ap (λ x. entered_by s.account (said s d x)) f)
 
 -- the state with this account
 abbrev pub with_account : State → ℕ → Account → State
-with_account s d l = record s { account = l; controllers = update s.controllers d (after_next s.clock.cycle (directory_of s) (s.controllers d)); streams = while_talking l s.streams }
+with_account s d l = record s { account = l; controllers = update s.controllers d (after_next s.clock.cycle (directory_of s) (s.controllers d)); asked_at = update s.asked_at d (asks s d).asked_at; streams = while_talking l s.streams }
 
 pub living_linked : (s : State) (d : ℕ) → IsTrue (is_living s d) → IsTrue (is_some (linked_number s.account.latest d))
 living_linked s d lives = grind (arith, lives)
 
-pub turn_good : (s : State) (d : ℕ) → IsGood s → IsTrue (is_living s d) → IsHeard (s.controllers d).current → IsGood (taken s d (asks s d))
-turn_good s d g lives heard = of_latest s.account.latest refl
+pub turn_good : (s : State) (d : ℕ) → IsGood s → IsTrue (is_living s d) → IsFalse (is_deaf s d) → IsHeard (s.controllers d).current → IsGood (taken s d (asks s d))
+turn_good s d g lives quiet heard = of_latest s.account.latest refl
   where
     done : (n : ℕ) (e : ResetEntry) → s.account.latest ≡ Some e → IsLatest (Some e) s → linked_number (Some e) d ≡ Some n → Turns s d → IsGood (taken s d (asks s d))
-    done n e is h number (sends request out leads) = subst (λ l. IsGood (with_account s d l)) (sym leads) (turned_good s d n e (asked d request s.account).addressed (asked d request s.account).outstanding g lives is h number heard (inl (record { request = request; outstanding = out; account = refl })))
-    done n e is h number (rests out leads) = subst (λ l. IsGood (with_account s d l)) (sym leads) (turned_good s d n e s.account.addressed s.account.outstanding g lives is h number heard (inr (record { outstanding = out; account = refl })))
+    done n e is h number (sends request out leads) = subst (λ l. IsGood (with_account s d l)) (sym leads) (turned_good s d n e (asked d request s.account).addressed (asked d request s.account).outstanding g lives quiet is h number heard (inl (record { request = request; outstanding = out; account = refl })))
+    done n e is h number (rests out leads) = subst (λ l. IsGood (with_account s d l)) (sym leads) (turned_good s d n e s.account.addressed s.account.outstanding g lives quiet is h number heard (inr (record { outstanding = out; account = refl })))
 
     of_number : (e : ResetEntry) → s.account.latest ≡ Some e → (o : Option ℕ) → linked_number (Some e) d ≡ o → IsTrue (is_some o) → IsGood (taken s d (asks s d))
     of_number e is None f on = absurd (grind arith)

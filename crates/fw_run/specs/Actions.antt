@@ -15,7 +15,10 @@ use Rattle.fw_cmp.specs.declared.connection.Slot.{Slot}
 use Rattle.fw_cmp.specs.declared.outcome.StartFault.{StartFault}
 use Rattle.fw_cmp.specs.Controllers.{ControllerState, first_state as new_controller}
 use Rattle.fw_cmp.specs.Fits.{SlotFits}
-use Rattle.fw_cmp.specs.Resets.{after_reset as controller_reset, after_second as controller_second}
+use Rattle.fw_cmp.specs.declared.current.Current.{Current}
+use Rattle.fw_cmp.specs.declared.current.Current.TheVariants.{Nothing, Asking, Hearing, Overtaken}
+use Rattle.fw_cmp.specs.declared.stage.Stage.{Stage}
+use Rattle.fw_cmp.specs.Resets.{state_reset as controller_reset, after_second as controller_second}
 use Rattle.fw_cmp.specs.Starts.{start, start_own, started as given, connect_slot, broadcast_slot, listen_slot, break_fault, break_started}
 use Rattle.fw_run.specs.declared.order.Access.{Access}
 use Rattle.fw_run.specs.declared.order.Access.TheVariants.{Read, Swap}
@@ -23,8 +26,8 @@ use Rattle.fw_run.specs.declared.order.Transaction.{Transaction}
 use Rattle.fw_run.specs.declared.order.Wanted.{Wanted}
 use Rattle.fw_run.specs.declared.order.Wanted.TheVariants.{PlugToPlug, BroadcastOut, BroadcastIn}
 use Rattle.fw_run.specs.Giving.{at_most}
-use Rattle.fw_run.specs.Entries.{second_over, died, started, inserted as inserted_entry, ejected, unsettled, shown_entry}
-use Rattle.fw_run.specs.State.{State, with_device, entered, while_talking, epoch_of, is_on, is_linked, has_deck, is_living}
+use Rattle.fw_run.specs.Entries.{second_over, died, started, inserted as inserted_entry, ejected, unsettled, lost, shown_entry}
+use Rattle.fw_run.specs.State.{State, with_device, entered, while_talking, epoch_of, is_on, is_linked, is_deaf, has_deck, is_living}
 use Rattle.fw_run.specs.Decks.{Obeyed, with_tape, passed as deck_passed, after_reset as deck_reset}
 use Rattle.fw_run.specs.Frames.{Sends, Receives, request_of, command_write, frame_packet}
 use Rattle.fw_tape.specs.declared.cassette.Cassette.{Cassette}
@@ -35,7 +38,7 @@ use Rattle.fw_ledger.specs.Account.{talks}
 use Rattle.fw_run.specs.Streams.{GivenBlock, GivesBlock, bytes_of, cycle_start, stream_packet}
 use Rattle.fw_node.specs.Packets.{packet_of, RequestFits}
 use Rattle.fw_run.specs.Spaces.{answer_packet, transaction_head, target_node, access_request, read_at, bus_manager_id_after}
-use Rattle.fw_run.specs.HalfSteps.{half, has_request, with_controller, after_half, is_unsettled}
+use Rattle.fw_run.specs.HalfSteps.{half, has_request, with_controller, after_half, is_waiting, is_unsettled}
 
 pub data Action : Type 0 where
   AddDevice : (name : List ℕ) → (kind : DeviceKind) → (ports speed : ℕ) → Action
@@ -50,6 +53,8 @@ pub data Action : Type 0 where
   EndSecond : Action  -- one cycle goes by, and the second of the latest bus reset is over
   Die : (device : ℕ) → Action
   CarryOut : (device : ℕ) → Action  -- the standing request of a controller that is about to die is carried out
+  Lose : (device : ℕ) → Action  -- the standing request of a controller is carried out, and the controller does not hear the response
+  TellLoss : (device : ℕ) → Action  -- that is told
   Start : (device : ℕ) → Action
   Ask : (transaction : Transaction) → Action
   Answer : Action
@@ -66,13 +71,15 @@ pub data Action : Type 0 where
 -- ---- bus resets
 
 -- The state after a bus reset: the manager's registers are as at first, the second begins, but for the first bus reset, before which
--- nothing can have been connected (own), each controller hears of it, and the decks forget who asked to be told of changes.
+-- nothing can have been connected (own), each controller hears of it, and the decks forget who asked to be told of changes. A job whose
+-- last response was lost counts as one whose answer was not heard.
 abbrev pub after_reset_entry : State → ResetEntry → State
 after_reset_entry s e = record s {
   clock = record { cycle = s.clock.cycle; over_at = if is_some s.account.latest then s.clock.cycle + 8000 else s.clock.cycle };
   account = entered s.account (Reset e);
   bus_manager_id = 0x3F;
-  controllers = λ d. controller_reset e.epoch (s.controllers d);
+  controllers = λ d. controller_reset e.epoch (is_deaf s d) (s.controllers d);
+  lost = λ d. None;
   decks = λ d. deck_reset (s.decks d);
   frame = None;
   streams = while_talking (entered s.account (Reset e)) s.streams;
@@ -86,15 +93,27 @@ pub record Resets (s : State) (initiator : ℕ) (out : List Timed) (t : State) :
   pub out_is : out ≡ at_most s.clock.cycle (Some (Reset entry))
   pub state_is : t ≡ after_reset_entry s entry
 
+-- one that counts
+abbrev pub counting : State → State
+counting s = record s { resets = s.resets + 1 }
+
+-- A command begins a bus reset, which counts.
+abbrev pub Begins : State → ℕ → List Timed → State → Type 0
+Begins s initiator out t = (s.resets < 10000) × Resets (counting s) initiator out t
+
+-- before the first bus reset none counted
+abbrev pub beginning : State → State
+beginning s = record s { resets = 1 }
+
 -- the first device begins the first bus reset
 abbrev pub Declares : List (List ℕ) → State → List Timed → State → Type 0
-Declares [] s out t = Resets s 0 out t
+Declares [] s out t = Resets (beginning s) 0 out t
 Declares (x ∷ names) s out t = (out ≡ []) × (t ≡ s)
 
 -- where a cable joins a device that is off to the bus, the end that was on the bus begins a bus reset (own)
 abbrev pub Joins : Bool → Bool → ℕ → ℕ → State → List Timed → State → Type 0
-Joins true false a b s out t = Resets s a out t
-Joins false true a b s out t = Resets s b out t
+Joins true false a b s out t = Begins s a out t
+Joins false true a b s out t = Begins s b out t
 Joins true true a b s out t = (out ≡ []) × (t ≡ s)
 Joins false false a b s out t = (out ≡ []) × (t ≡ s)
 
@@ -123,7 +142,7 @@ with_connection s d w = with_controller s d (given (start_of d w (s.controllers 
 
 -- the controller of device d has just started
 abbrev pub with_new_controller : State → ℕ → Bool → State
-with_new_controller s d is_dead = record s { controllers = update s.controllers d new_controller; dead = update s.dead d is_dead }
+with_new_controller s d is_dead = record s { controllers = update s.controllers d new_controller; asked_at = update s.asked_at d 0; lost = update s.lost d None; dead = update s.dead d is_dead }
 
 abbrev pub after_death : State → ℕ → State
 after_death s d = record (with_new_controller s d true) { account = entered s.account (died d); streams = while_talking (entered s.account (died d)) s.streams }
@@ -159,6 +178,26 @@ with_cassette s d tape = record s { decks = update s.decks d (with_tape tape (s.
 abbrev pub counted : State → ℕ → State
 counted s n = record s { half_steps = s.half_steps + n }
 
+-- ---- half steps, and lost responses
+
+-- the stage of a request that stands
+abbrev pub stage_of : Current → Option Stage
+stage_of Nothing = None
+stage_of (Asking j stage) = None
+stage_of (Hearing j stage) = Some stage
+stage_of (Overtaken slot outcome) = None
+
+-- The state after a response was lost: the request has been carried out, and the controller keeps its stage. It counts as a bus reset.
+abbrev pub after_loss : State → ℕ → State
+after_loss s d = record (after_half s d) { lost = update s.lost d (stage_of (s.controllers d).current); resets = s.resets + 1 }
+
+-- A half step, of a controller that hears, of one that has lost a response and still waits, or of one that forces a bus reset, which
+-- does not count again.
+abbrev pub Takes : Bool → Bool → State → ℕ → List Timed → State → Type 0
+Takes false waiting s d out t = (out ≡ at_most s.clock.cycle (half s d).says) × (t ≡ counted (after_half s d) 1)
+Takes true true s d out t = (out ≡ []) × (t ≡ counted s 1)
+Takes true false s d out t = Resets (counted s 1) d out t
+
 -- ---- actions
 
 -- an access that may be written
@@ -174,13 +213,13 @@ Happens s (AddDevice name kind ports speed) out t =
     × Declares s.declared.names (record s { declared = with_device s.declared name kind ports speed }) out t
 Happens s (AddCable a b) out t =
     (g : Topology) × IsJoined s.declared.topology g a b × Joins (is_on s a.device) (is_on s b.device) a.device b.device (with_topology s g) out t
-Happens s (ResetBus d) out t = IsTrue (is_on s d) × Resets s d out t
+Happens s (ResetBus d) out t = IsTrue (is_on s d) × Begins s d out t
 Happens s (StartConnection d w) out t =
     IsTrue (is_living s d) × SlotFits (slot_of w) × ((i : ℕ) × (start_of d w (s.controllers d) ≡ Ok i)) × (out ≡ []) × (t ≡ with_connection s d w)
 Happens s (StartBreak d i) out t =
     IsTrue (is_living s d) × (break_fault (s.controllers d) i ≡ None) × (out ≡ []) × (t ≡ with_controller s d (break_started (s.controllers d) i))
 Happens s (HalfStep d) out t =
-    IsTrue (is_living s d) × (s.half_steps < 4000000) × (out ≡ at_most s.clock.cycle (half s d).says) × (t ≡ counted (after_half s d) 1)
+    IsTrue (is_living s d) × (s.half_steps < 4000000) × Takes (is_deaf s d) (is_waiting s d) s d out t
 Happens s (Rest n) out t = IsFalse (is_unsettled s) × (s.half_steps + n ≤ 4000000) × (out ≡ []) × (t ≡ counted s n)
 Happens s Unsettled out t = IsTrue (is_unsettled s) × (out ≡ at_most s.clock.cycle (Some unsettled)) × (t ≡ record s { account = entered s.account unsettled })
 Happens s (Pass n) out t =
@@ -191,6 +230,10 @@ Happens s EndSecond out t =
 Happens s (Die d) out t = IsTrue (is_living s d) × (out ≡ at_most s.clock.cycle (Some (died d))) × (t ≡ after_death s d)
 Happens s (CarryOut d) out t =
     IsTrue (is_living s d) × IsTrue (has_request (s.controllers d).current) × (out ≡ at_most s.clock.cycle (half s d).says) × (t ≡ after_half s d)
+Happens s (Lose d) out t =
+    IsTrue (is_living s d) × IsTrue (has_request (s.controllers d).current) × (s.resets < 10000)
+    × (out ≡ at_most s.clock.cycle (half s d).says) × (t ≡ after_loss s d)
+Happens s (TellLoss d) out t = IsTrue (is_deaf s d) × (out ≡ at_most s.clock.cycle (Some (lost d))) × (t ≡ record s { account = entered s.account (lost d) })
 Happens s (Start d) out t = IsTrue (is_linked s d) × IsTrue (s.dead d) × (out ≡ at_most s.clock.cycle (Some (started d))) × (t ≡ after_start s d)
 Happens s (Ask x) out t =
     IsTrue (is_living s x.from) × IsTrue (is_linked s x.to) × AccessFits x.access

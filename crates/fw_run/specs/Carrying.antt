@@ -16,7 +16,7 @@ use Rattle.fw_run.specs.Streams.{GivenBlock, talkers}
 use Rattle.fw_run.specs.State.{State, living}
 use Rattle.fw_run.specs.HalfSteps.{has_request, is_unsettled}
 use Rattle.fw_run.specs.Actions.{Action, AddDevice, AddCable, ResetBus, StartConnection, StartBreak, HalfStep, Rest, Unsettled, Pass, EndSecond, Steps}
-use Rattle.fw_run.specs.Actions.{Die, CarryOut, Start, Ask, Answer, ShowWord, SendCommand, SendFrame, Receive, InsertTape, EjectTape, StartCycle, SendPacket, Finish}
+use Rattle.fw_run.specs.Actions.{Die, CarryOut, Lose, TellLoss, Start, Ask, Answer, ShowWord, SendCommand, SendFrame, Receive, InsertTape, EjectTape, StartCycle, SendPacket, Finish}
 
 -- the same action so many times
 unfoldable pub times : ℕ → Action → List Action
@@ -105,6 +105,9 @@ pub data Carries : State → Order → List Action → List Timed → State → 
       → Steps s (CarryOut d ∷ Die d ∷ []) out t → Carries s (Orders.Die d true) (CarryOut d ∷ Die d ∷ []) out t
   dies_idle : {s t : State} {d : ℕ} {out : List Timed}
       → IsFalse (has_request (s.controllers d).current) → Steps s (Die d ∷ []) out t → Carries s (Orders.Die d true) (Die d ∷ []) out t
+  -- the response is written, and then the event
+  loses : {s t : State} {d : ℕ} {out : List Timed}
+      → Steps s (Lose d ∷ TellLoss d ∷ []) out t → Carries s (Orders.Lose d) (Lose d ∷ TellLoss d ∷ []) out t
   -- a living controller goes on
   starts : {s t : State} {d : ℕ} {out : List Timed} → Steps s (Start d ∷ []) out t → Carries s (Orders.Start d) (Start d ∷ []) out t
   goes_on : {s : State} {d : ℕ} → IsFalse (s.dead d) → Carries s (Orders.Start d) [] [] s

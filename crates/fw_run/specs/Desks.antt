@@ -14,6 +14,7 @@ AnyVendor company byte made = ⊤
 abbrev pub AnyBlocks : BlockRelation
 AnyBlocks tape frame block bytes = ⊤
 
--- the desk that gives the bytes of one function for each block, and whose vendor makes one thing of each byte
-abbrev pub desk_of : (ℕ → ℕ → ℕ → List ℕ) → (ℕ → ℕ → ℕ) → DeskRelations
-desk_of blocks vendor = record { blocks = λ tape frame block bytes. bytes ≡ blocks tape frame block; vendor = λ company byte made. made ≡ vendor company byte }
+-- a desk that gives one block for each place, and whose vendor makes one thing of each byte
+pub record IsFunction (D : DeskRelations) : Type 0 where
+  pub blocks : (tape frame block : ℕ) (x y : List ℕ) → D.blocks tape frame block x → D.blocks tape frame block y → x ≡ y
+  pub bytes : (company byte x y : ℕ) → D.vendor company byte x → D.vendor company byte y → x ≡ y

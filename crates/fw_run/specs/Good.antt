@@ -8,9 +8,12 @@ use Rattle.fw_base.specs.Devices.{is_contender}
 use Rattle.fw_base.specs.declared.plug.PlugAt.{PlugAt}
 use Rattle.fw_ledger.specs.Account.{talks}
 use Rattle.fw_devices.specs.Network.{AreKinds, kind_at}
-use Rattle.fw_devices.specs.Entries.{node_number}
+use Rattle.fw_devices.specs.Entries.{IsResetEntry, node_number}
 use Rattle.fw_devices.specs.Resets.{Shows}
-use Rattle.fw_cmp.specs.Controllers.{first_state as new_controller}
+use Rattle.fw_cmp.specs.declared.current.Current.{Current}
+use Rattle.fw_cmp.specs.declared.current.Current.TheVariants.{Asking}
+use Rattle.fw_cmp.specs.declared.stage.Stage.{Stage}
+use Rattle.fw_cmp.specs.Controllers.{ControllerState, first_state as new_controller}
 use Rattle.fw_reclaim.specs.Worlds.{World, CanReclaim}
 use Rattle.fw_rounds.specs.HalfSteps.{AsksWhatStands}
 use Rattle.fw_fcp.specs.declared.frame.Frame.{Frame}
@@ -18,9 +21,9 @@ use Rattle.fw_tape.specs.declared.cassette.Cassette.{Cassette}
 use Rattle.fw_avc.specs.declared.notify.Kept.{Kept}
 use Rattle.fw_node.specs.Fcp.{IsSendable}
 use Rattle.fw_run.specs.Decks.{DeckState, IsAtRest}
-use Rattle.fw_run.specs.State.{State, Declared, device_in, linked_number, directory_of, is_living}
+use Rattle.fw_run.specs.State.{State, Declared, device_in, linked_number, directory_of, epoch_of, is_living}
 
--- the account, all controllers, and what they know of the bus
+-- the account, all controllers, and what they know of the bus; one that has lost a response as one that heard it
 abbrev pub world_of : State → World
 world_of s = record { account = s.account; controllers = s.controllers; directory = directory_of s }
 
@@ -34,10 +37,16 @@ pub record AreDeclared (n : Declared) : Type 0 where
 abbrev pub ManagerContends : List DeviceKind → ResetEntry → Type 0
 ManagerContends kinds e = (n : ℕ) → e.manager ≡ Some n → (d : ℕ) × (node_number e.nodes d ≡ Some n) × IsTrue (is_contender (kind_at kinds d))
 
--- before the first device there is nothing, and then the latest reset entry shows the bus
+-- the entry is one of a bus reset of this cabling, whichever device began it
+abbrev pub IsEntryOf : Declared → ResetEntry → Type 0
+IsEntryOf n e = (d : ℕ) × IsResetEntry n.topology n.kinds e.epoch d e
+
+-- before the first device there is nothing, and then the latest reset entry shows the bus, and is still one of its cabling
 abbrev pub IsLatest : Option ResetEntry → State → Type 0
 IsLatest None s = (s.declared.names ≡ []) × (s.account ≡ no_account)
-IsLatest (Some e) s = (0 < length s.declared.names) × Shows s.declared.topology s.declared.kinds e × (e.epoch ≤ 10000) × ManagerContends s.declared.kinds e × (e.root < length e.nodes)
+IsLatest (Some e) s =
+    (0 < length s.declared.names) × Shows s.declared.topology s.declared.kinds e × (e.epoch ≤ 10000) × ManagerContends s.declared.kinds e × (e.root < length e.nodes)
+    × IsEntryOf s.declared e
 
 -- the second of the latest bus reset is over exactly when its end is written
 pub record IsTimed (s : State) : Type 0 where
@@ -73,6 +82,21 @@ pub record IsDeck (latest : Option ResetEntry) (cycle device : ℕ) (k : DeckSta
   pub moved : HasMovedWithin cycle k.unit.tape
   pub off : IsFalse (is_some (linked_number latest device)) → IsAtRest k
 
+-- ---- lost responses
+
+-- the job asks, and waits for no answer
+abbrev pub Asks : Current → Type 0
+Asks (Asking j stage) = ⊤
+Asks _ = ⊥
+
+-- A controller that has lost a response stands as one that has heard it, so its job asks; and the bus reset that it is to force was
+-- counted. No more bus resets came than count, and those are within the limit.
+pub record AreLosses (lost : ℕ → Option Stage) (controllers : ℕ → ControllerState) (resets epoch : ℕ) : Type 0 where
+  pub asks : (d : ℕ) → IsTrue (is_some (lost d)) → Asks (controllers d).current
+  pub counted : (d : ℕ) → IsTrue (is_some (lost d)) → epoch < resets
+  pub came : epoch ≤ resets
+  pub few : resets ≤ 10000
+
 -- ---- the whole
 
 pub record IsGood (s : State) : Type 0 where
@@ -85,6 +109,7 @@ pub record IsGood (s : State) : Type 0 where
   -- a device without a living controller has one that has just started
   pub unused : (d : ℕ) → IsFalse (is_living s d) → s.controllers d ≡ new_controller
   pub time : IsTimed s
+  pub losses : AreLosses s.lost s.controllers s.resets (epoch_of s.account.latest)
   pub half_steps : s.half_steps ≤ 4000000
   pub written : s.written ≤ 8000
   pub decks : (d : ℕ) → IsDeck s.account.latest s.clock.cycle d (s.decks d)

@@ -1,5 +1,5 @@
 -- A half step of a controller: its request is carried out and it hears the answer, or it says what it does next.
-use Rattle.std.specs.Prelude.{ℕ, ◌||◌, ◌&&◌, Bool, true, false, Option, Some, None, is_some, length}
+use Rattle.std.specs.Prelude.{ℕ, ◌+◌, ◌||◌, ◌&&◌, nat_lt, Bool, true, false, Option, Some, None, is_some, length}
 use Rattle.std.specs.Option.{option_map}
 use Rattle.fw_base.specs.Tables.{update, find_to}
 use Rattle.fw_async.specs.declared.packet.Head.{Head}
@@ -9,10 +9,11 @@ use Rattle.fw_ledger.specs.Words.{node_of}
 use Rattle.fw_cmp.specs.declared.current.Current.{Current}
 use Rattle.fw_cmp.specs.declared.current.Current.TheVariants.{Nothing, Asking, Hearing, Overtaken}
 use Rattle.fw_cmp.specs.declared.outcome.Next.{Next}
-use Rattle.fw_cmp.specs.declared.outcome.Next.TheVariants.{Send, End, Idle, Waiting}
+use Rattle.fw_cmp.specs.declared.outcome.Next.TheVariants.{Send, End, Idle, Waiting, Deaf, Force}
 use Rattle.fw_cmp.specs.declared.request.Access.{Access}
 use Rattle.fw_cmp.specs.Controllers.{ControllerState}
 use Rattle.fw_cmp.specs.Requests.{access_of, request_of, addressee_of}
+use Rattle.fw_cmp.specs.Losses.{asked_by, split_timeout}
 use Rattle.fw_cmp.specs.Resets.{after_hear}
 use Rattle.fw_cmp.specs.Turns.{next, after_next, is_busy}
 use Rattle.fw_step.specs.Requests.{procedure_head}
@@ -21,10 +22,11 @@ use Rattle.fw_run.specs.Entries.{outcome_entry}
 use Rattle.fw_node.specs.Packets.{packet_of}
 use Rattle.fw_run.specs.Spaces.{reply_from, answer_packet}
 
--- what is written, and the controller then
+-- what is written, the controller then, and the cycle of its latest request
 pub record HalfStep : Type 0 where
   pub says : Option Entry
   pub controller : ControllerState
+  pub asked_at : ℕ
 
 -- a packet of the controller of device d to a node
 abbrev pub head_from : State → ℕ → ℕ → Head
@@ -37,27 +39,31 @@ said s d (Send to q) = Some (Async (packet_of (head_from s d to) q))
 said s d (End slot outcome) = Some (outcome_entry d slot outcome)
 said s d Idle = None
 said s d (Waiting until) = None
+said s d (Deaf until) = None
+said s d Force = None
 
 abbrev pub asks : State → ℕ → HalfStep
 asks s d = record {
   says = said s d (next s.clock.cycle (directory_of s) (s.controllers d));
   controller = after_next s.clock.cycle (directory_of s) (s.controllers d);
+  asked_at = asked_by s.clock.cycle (s.asked_at d) (next s.clock.cycle (directory_of s) (s.controllers d));
 }
 
 -- ---- a request stands: the node that it went to carries it out
 
 abbrev pub hears_from : State → ℕ → Option ℕ → Access → HalfStep
-hears_from s d None a = record { says = None; controller = s.controllers d }
+hears_from s d None a = record { says = None; controller = s.controllers d; asked_at = s.asked_at d }
 hears_from s d (Some to) a = record {
   says = option_map Async (answer_packet s to (head_from s d to) (request_of a));
   controller = after_hear (s.controllers d) (reply_from s to (request_of a));
+  asked_at = s.asked_at d;
 }
 
 abbrev pub hears : State → ℕ → Option Access → HalfStep
-hears s d None = record { says = None; controller = s.controllers d }
+hears s d None = record { says = None; controller = s.controllers d; asked_at = s.asked_at d }
 hears s d (Some a) = hears_from s d (addressee_of (directory_of s) a.target) a
 
--- ---- the half step
+-- ---- the half step of one that hears
 
 abbrev pub half_of : State → ℕ → Current → HalfStep
 half_of s d Nothing = asks s d
@@ -77,11 +83,18 @@ abbrev pub taken : State → ℕ → HalfStep → State
 taken s d h = record s {
   account = entered_by s.account h.says;
   controllers = update s.controllers d h.controller;
+  asked_at = update s.asked_at d h.asked_at;
   streams = while_talking (entered_by s.account h.says) s.streams;
 }
 
 abbrev pub after_half : State → ℕ → State
 after_half s d = taken s d (half s d)
+
+-- ---- the half step of one that has lost a response
+
+-- it is deaf: so many cycles have not gone by since its request, and it does nothing; then it forces a bus reset
+abbrev pub is_waiting : State → ℕ → Bool
+is_waiting s d = nat_lt s.clock.cycle (s.asked_at d + split_timeout)
 
 -- ---- whether there is something to do
 
@@ -91,7 +104,7 @@ has_request (Asking j stage) = false
 has_request (Hearing j stage) = true
 has_request (Overtaken slot outcome) = false
 
--- the controller of device d has something to do, or waits for an answer
+-- the controller of device d has something to do, or waits for an answer; one that has lost a response has a job, and so has to do
 abbrev pub is_busy_at : State → ℕ → Bool
 is_busy_at s d = has_request (s.controllers d).current || is_busy (next s.clock.cycle (directory_of s) (s.controllers d))
 

@@ -1,5 +1,6 @@
 -- What holds in each state of a run, and of each answer in its log.
 use Rattle.std.specs.Prelude.{ℕ, ◌≡◌, ◌<◌, ◌==◌, ◌≤◌, ◌&&◌, ◌↔◌, List, ◌∷◌, ◌++◌, Option, Some, None, length, if◌then◌else◌, IsTrue, ⊤}
+use Rattle.std.specs.Int.{to_be_bytes, w32}
 use Rattle.fw_words.specs.Quadlet.{quadlet_at}
 use Rattle.fw_async.specs.declared.packet.Packet.{Packet}
 use Rattle.fw_async.specs.declared.packet.Packet.TheVariants.{WriteQuadlet, WriteBlock, WriteReply, CycleStart, Lock, LockReply}
@@ -16,6 +17,7 @@ use Rattle.fw_entry.specs.Network.{device_of_id}
 use Rattle.fw_ledger.specs.Words.{Register, register_of, word_of, word_of_device}
 use Rattle.fw_ledger.specs.Fold.{account_of, entries_of}
 use Rattle.fw_ledger.specs.Sound.{IsSound, IsConflictFree}
+use Rattle.fw_audit.specs.Looked.{looked, ShowsWords}
 use Rattle.fw_cmp.specs.declared.connection.Connection.{Connection}
 use Rattle.fw_cmp.specs.declared.connection.Flow.{Flow}
 use Rattle.fw_cmp.specs.declared.connection.Slot.TheVariants.{Standing}
@@ -66,22 +68,29 @@ IsShownWord l (Some shown) =
 abbrev pub IsWordOf : Account → ShownEntry → Type 0
 IsWordOf l s = (word : ℕ) → word_of_device l s.device s.offset ≡ Some word → s.word ≡ word
 
+abbrev pub HasWords : Account → Entry → Type 0
+HasWords l (Async p) = IsShownWord l (shown_in p)
+HasWords l (Reset r) = ⊤
+HasWords l (Iso p) = ⊤
+HasWords l (Event e) = ⊤
+HasWords l (Outcome o) = ⊤
+HasWords l (Shown s) = IsWordOf l s
+HasWords l End = ⊤
+
+-- what an entry shows of registers of the account is their words; and where a watched register is answered or shown, it is there
 abbrev pub IsAnswered : Account → Entry → Type 0
-IsAnswered l (Async p) = IsShownWord l (shown_in p)
-IsAnswered l (Reset r) = ⊤
-IsAnswered l (Iso p) = ⊤
-IsAnswered l (Event e) = ⊤
-IsAnswered l (Outcome o) = ⊤
-IsAnswered l (Shown s) = IsWordOf l s
-IsAnswered l End = ⊤
+IsAnswered l e = HasWords l e × ShowsWords l (looked e)
 
 -- ---- answers to the script
 
--- a complete response to a quadlet read of the script shows the account's word, where the account has the register
+-- a complete response to a quadlet read of the script, or to a swap, shows the account's word, where the account has the register
 abbrev pub IsReadBy : Account → Packet → Packet → Type 0
 IsReadBy l (ReadQuadlet h offset) (ReadQuadletReply k rcode value) =
     h.tl ≡ 1 → rcode ≡ 0
     → (register : Register) → register_of l.latest h.destination offset ≡ Some register → value ≡ word_of l register
+IsReadBy l (Lock h offset function bytes) (LockReply k rcode swapped old) =
+    h.tl ≡ 1 → rcode ≡ 0
+    → (register : Register) → register_of l.latest h.destination offset ≡ Some register → old ≡ to_be_bytes w32 (word_of l register)
 IsReadBy l _ _ = ⊤
 
 -- two entries that follow each other

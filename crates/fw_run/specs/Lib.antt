@@ -21,3 +21,6 @@ pub mod Reclaiming
 pub mod Settling
 pub mod Lingering
 pub mod Cycles
+pub mod OneLog
+pub mod Truth
+pub mod Recovery

@@ -1,13 +1,14 @@
 -- The reclaim theorem over a run: what was whole before the bus reset that opened a second is whole at its end.
-use Rattle.std.specs.Prelude.{ℕ, ◌≡◌, ◌≢◌, ◌⊎◌, List, [], ◌∷◌, ◌++◌, IsTrue, ⊤}
+use Rattle.std.specs.Prelude.{ℕ, ◌≡◌, ◌≢◌, ◌⊎◌, List, [], ◌∷◌, ◌++◌, IsTrue, IsFalse, ⊤}
 use Rattle.fw_entry.specs.declared.entry.Timed.{Timed}
 use Rattle.fw_cmp.specs.declared.connection.Connection.{Connection}
 use Rattle.fw_cmp.specs.declared.connection.Flow.{Flow}
 use Rattle.fw_entry.specs.declared.entry.Entry.TheVariants.{Reset}
 use Rattle.fw_entry.specs.declared.entry.ResetEntry.{ResetEntry}
-use Rattle.fw_reclaim.specs.Whole.{IsWhole, IsUnbroken, HasFinished, EndsRestored}
+use Rattle.fw_step.specs.Together.{IsWhole as IsThere}
+use Rattle.fw_reclaim.specs.Whole.{IsWhole, IsUnbroken, HasFinished, EndsRestored, is_unheard}
 use Rattle.fw_run.specs.Giving.{at_cycle}
-use Rattle.fw_run.specs.State.{State, first_state, directory_of}
+use Rattle.fw_run.specs.State.{State, first_state, directory_of, is_deaf}
 use Rattle.fw_run.specs.Entries.{second_over}
 use Rattle.fw_run.specs.Actions.{Action, StartBreak, EndSecond, Die, Step, Steps}
 use Rattle.fw_run.specs.Good.{world_of}
@@ -49,13 +50,19 @@ pub record IsSecond (before : State) (during : List Action) (after : State) : Ty
   pub end : State
   pub ends : Step after EndSecond last end
 
+-- A connection of a controller is whole: it is there at each of its plugs, and the controller has heard so, as far as its job has come.
+pub record IsKnownWhole (s : State) (d i : ℕ) (conn : Connection) (f : Flow) : Type 0 where
+  pub whole : IsWhole (world_of s) d i conn f
+  pub heard : IsFalse (is_unheard (is_deaf s d) (s.controllers d) i)
+
 -- The connections that were whole before the bus reset that opened a second, of which no break waited or was current then and
 -- none was accepted since, and whose controller has lived on and has finished restoring, are whole at the second's end: in their
--- slots, on the same channels and with the same units.
+-- slots, on the same channels and with the same units, and they are there in the account.
 abbrev pub AreBack : State → List Action → State → Type 0
 AreBack before during after =
-    (d i : ℕ) (conn : Connection) (f : Flow) → IsWhole (world_of before) d i conn f → IsUnbroken (before.controllers d) i
-    → AreHarmless d i during → HasFinished (after.controllers d) → IsWhole (world_of after) d i conn f
+    (d i : ℕ) (conn : Connection) (f : Flow) → IsKnownWhole before d i conn f → IsUnbroken (before.controllers d) i
+    → AreHarmless d i during → HasFinished (after.controllers d)
+    → IsKnownWhole after d i conn f × IsThere after.account d conn f
 
 -- they are back at the end of each second of a run
 abbrev pub Reclaims : Type 0
@@ -72,8 +79,9 @@ abbrev pub EndsAreSeconds : Type 0
 EndsAreSeconds =
     (actions : List Action) (log front rest : List Timed) (s : State) (t : Timed) → Steps first_state actions log s
     → log ≡ front ++ t ∷ rest → t.what ≡ second_over
-    → (before : State) × (during : List Action) × (after : State) × IsSecond before during after
-    × ((done : List Action) × Steps first_state done front after)
+    → (before : State) × (during : List Action) × (after : State) × (x : IsSecond before during after)
+    × (y : (done : List Action) × Steps first_state done front after)
+    × (y.0 ≡ x.actions ++ x.reset ∷ during) × GoesOn during × ((later : List Action) × (actions ≡ y.0 ++ later))
 
 -- The seconds of a run: at the end of each that its log tells, the connections that were whole before the bus reset that opened it
 -- are back; and while a second runs no restoring of a slot whose own second runs ends in any other way than with its connection.
@@ -84,5 +92,8 @@ pub record ComesBack (actions : List Action) (log : List Timed) : Type 0 where
       → (before : State) × (during : List Action) × (after : State) × (x : IsSecond before during after)
       × (y : (done : List Action) × Steps first_state done front after) × AreBack before during after
       × (y.0 ≡ x.actions ++ x.reset ∷ during) × GoesOn during × ((later : List Action) × (actions ≡ y.0 ++ later))
+  -- of each bus reset of such a second, whichever opened it or began it anew
+  pub each : (done later during : List Action) (front : List Timed) (before after : State) → actions ≡ done ++ later → Steps first_state done front after
+      → (x : IsSecond before during after) → done ≡ x.actions ++ x.reset ∷ during → AreBack before during after
   pub outcomes : (done later : List Action) (front : List Timed) (s : State) → actions ≡ done ++ later → Steps first_state done front s
       → IsTrue s.account.reclaiming → (d : ℕ) → EndsRestored s.clock.cycle (directory_of s) (s.controllers d)

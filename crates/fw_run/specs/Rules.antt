@@ -27,8 +27,9 @@ use Rattle.fw_run.specs.declared.order.Order.{Order}
 use Rattle.fw_run.specs.declared.order.Order.TheVariants as order
 use Rattle.fw_run.specs.declared.rule.RuleFault.{RuleFault}
 use Rattle.fw_run.specs.declared.rule.RuleFault.TheVariants.{UnknownName, NameTaken, TooMany, NoPort, PortUsed, Loop, NotController, OffBus}
-use Rattle.fw_run.specs.declared.rule.RuleFault.TheVariants.{Guarded, NoRegister, Limit, TableFull, Busy, NoSuchConnection, NotOwnPlug, NoDeck}
-use Rattle.fw_run.specs.State.{State, device_in, manager_in, epoch_of, is_on, is_linked, has_deck, is_living, living}
+use Rattle.fw_run.specs.declared.rule.RuleFault.TheVariants.{Guarded, NoRegister, Limit, TableFull, Busy, NoSuchConnection, NotOwnPlug, NoDeck, NothingStands}
+use Rattle.fw_run.specs.State.{State, device_in, manager_in, is_on, is_linked, has_deck, is_living, living}
+use Rattle.fw_run.specs.HalfSteps.{has_request}
 use Rattle.fw_run.specs.Spaces.{read_at}
 use Rattle.fw_run.specs.Actions.{start_of}
 
@@ -55,6 +56,7 @@ names_of (Commands.Settle rounds) = []
 names_of (Commands.Wait cycles) = []
 names_of (Commands.Cycles count) = []
 names_of (Commands.Die name late) = name ∷ []
+names_of (Commands.Lose name) = name ∷ []
 names_of (Commands.Start name) = name ∷ []
 names_of (Commands.Command name other frame) = name ∷ other ∷ []
 names_of (Commands.Read name other offset) = name ∷ other ∷ []
@@ -73,6 +75,7 @@ controller_of (Commands.Listen name into) = Some name
 controller_of (Commands.Break name slot) = Some name
 controller_of (Commands.Step name count) = Some name
 controller_of (Commands.Die name late) = Some name
+controller_of (Commands.Lose name) = Some name
 controller_of (Commands.Command name other frame) = Some name
 controller_of (Commands.Read name other offset) = Some name
 controller_of (Commands.Swap name other offset argument new) = Some name
@@ -155,8 +158,9 @@ HasNoRegister s _ = ⊥
 -- ---- limits
 
 abbrev pub PassesLimit : State → Command → Type 0
-PassesLimit s (Commands.Cable a b) = (10000 ≤ epoch_of s.account.latest) × Ends s (Commands.Cable a b) (λ x y. IsTrue (is_joining s x y))
-PassesLimit s (Commands.Reset name) = 10000 ≤ epoch_of s.account.latest
+PassesLimit s (Commands.Cable a b) = (10000 ≤ s.resets) × Ends s (Commands.Cable a b) (λ x y. IsTrue (is_joining s x y))
+PassesLimit s (Commands.Reset name) = 10000 ≤ s.resets
+PassesLimit s (Commands.Lose name) = 10000 ≤ s.resets
 PassesLimit s (Commands.Step name count) = 4000000 < s.half_steps + count
 PassesLimit s (Commands.Settle rounds) = 4000000 < s.half_steps + rounds * length (living s)
 PassesLimit s (Commands.Wait cycles) = 2 ^ 52 < s.clock.cycle + cycles
@@ -190,6 +194,11 @@ abbrev pub IsGuarded : Command → Type 0
 IsGuarded (Commands.Swap name other offset argument new) = IsTrue (is_guarded_at offset)
 IsGuarded _ = ⊥
 
+-- no request stands whose response could be lost
+abbrev pub HasNothing : State → Command → Type 0
+HasNothing s (Commands.Lose name) = IsNot s (λ d. has_request (s.controllers d).current) (Some name)
+HasNothing s _ = ⊥
+
 -- A command breaks a rule.
 abbrev pub Breaks : State → Command → RuleFault → Type 0
 Breaks s c UnknownName = IsTrue (list_any (λ name. not (is_declared s name)) (names_of c))
@@ -200,6 +209,7 @@ Breaks s c NoPort = HasTreeFault s Tree.NoPort c
 Breaks s c PortUsed = HasTreeFault s Tree.PortUsed c
 Breaks s c Loop = HasTreeFault s Tree.Loop c
 Breaks s c NotController = HasNoController s c
+Breaks s c NothingStands = HasNothing s c
 Breaks s c OffBus = IsOff s c
 Breaks s c NotOwnPlug = IsRefused s c Refusals.NotOwnPlug
 Breaks s c NoSuchConnection = IsRefused s c Refusals.NoSuchConnection
@@ -219,14 +229,15 @@ rank NoPort = 5
 rank PortUsed = 6
 rank Loop = 7
 rank NotController = 8
-rank OffBus = 9
-rank NotOwnPlug = 10
-rank NoSuchConnection = 11
-rank TableFull = 12
-rank Busy = 13
-rank Guarded = 14
-rank NoRegister = 15
-rank Limit = 16
+rank NothingStands = 9
+rank OffBus = 10
+rank NotOwnPlug = 11
+rank NoSuchConnection = 12
+rank TableFull = 13
+rank Busy = 14
+rank Guarded = 15
+rank NoRegister = 16
+rank Limit = 17
 
 -- ---- orders
 
@@ -252,6 +263,7 @@ IsOrder s (Commands.Settle rounds) o = o ≡ order.Settle rounds
 IsOrder s (Commands.Wait cycles) o = o ≡ order.Wait cycles
 IsOrder s (Commands.Cycles count) o = o ≡ order.Cycles count
 IsOrder s (Commands.Die name late) o = (d : ℕ) × IsNamed s name d × (o ≡ order.Die d late)
+IsOrder s (Commands.Lose name) o = (d : ℕ) × IsNamed s name d × (o ≡ order.Lose d)
 IsOrder s (Commands.Start name) o = (d : ℕ) × IsNamed s name d × (o ≡ order.Start d)
 IsOrder s (Commands.Read name other offset) o = Transacts s name other (Read offset) o
 IsOrder s (Commands.Swap name other offset argument new) o = Transacts s name other (Swap offset argument new) o

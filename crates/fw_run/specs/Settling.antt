@@ -37,8 +37,9 @@ HasEnoughRounds =
     → 64 * (to_restore s + 1) ≤ rounds → Carries s (Settle rounds) actions out t
     → (d i : ℕ) → IsFalse (is_restoring (slot_at (t.controllers d) i))
 
--- a `settle` of a script, from the state that the commands before it lead to
-pub record SettlesAt (front : List Command) (rounds : ℕ) : Type 0 where
+-- a `settle` of a script, from the state that the commands before it lead to; what they and it do and write is a front of the run's
+-- actions and of its log
+pub record SettlesAt (front : List Command) (rounds : ℕ) (all : List Action) (whole_log : List Timed) : Type 0 where
   pub actions : List Action
   pub log : List Timed
   pub before : State
@@ -48,9 +49,14 @@ pub record SettlesAt (front : List Command) (rounds : ℕ) : Type 0 where
   pub after : State
   pub carries : Carries before (Settle rounds) more out after
   pub whole : Run (front ++ Commands.Settle rounds ∷ []) (actions ++ more) (log ++ out) after
+  pub later : List Action
+  pub all_is : all ≡ (actions ++ more) ++ later
+  pub behind : List Timed
+  pub log_is : whole_log ≡ (log ++ out) ++ behind
   -- given right after a bus reset that begins a second, at which no break waits, enough rounds leave no connection to be restored
   pub enough : BeginsSecond before → 64 * (to_restore before + 1) ≤ rounds → (d i : ℕ) → IsFalse (is_restoring (slot_at (after.controllers d) i))
 
 -- each `settle` of a script is one
-abbrev pub RoundsSuffice : List Command → Type 0
-RoundsSuffice commands = (front later : List Command) (rounds : ℕ) → commands ≡ front ++ Commands.Settle rounds ∷ later → SettlesAt front rounds
+abbrev pub RoundsSuffice : List Command → List Action → List Timed → Type 0
+RoundsSuffice commands actions log =
+    (front later : List Command) (rounds : ℕ) → commands ≡ front ++ Commands.Settle rounds ∷ later → SettlesAt front rounds actions log

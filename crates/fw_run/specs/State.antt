@@ -15,6 +15,7 @@ use Rattle.fw_devices.specs.Network.{facts_of, kind_at}
 use Rattle.fw_devices.specs.Entries.{node_number, node_device}
 use Rattle.fw_cmp.specs.Controllers.{ControllerState, first_state as new_controller}
 use Rattle.fw_cmp.specs.declared.directory.Directory.{Directory}
+use Rattle.fw_cmp.specs.declared.stage.Stage.{Stage}
 use Rattle.fw_run.specs.declared.order.Transaction.{Transaction}
 use Rattle.fw_run.specs.Decks.{DeckState, FrameWrite, first_deck}
 
@@ -35,8 +36,15 @@ pub record State : Type 0 where
   pub written : ℕ  -- the cycles that `cycles` has written
   pub account : Account  -- of the entries so far
   pub bus_manager_id : ℕ  -- the word of BUS_MANAGER_ID
-  -- by device; that of a device that has none, or whose controller died, is one that has just started
+  -- By device; that of a device that has none, or whose controller died, is one that has just started. One that has lost the
+  -- response to its request stands here as one that heard it: so what it has allocated is that of its slots and its stage.
   pub controllers : ℕ → ControllerState
+  pub asked_at : ℕ → ℕ  -- by device, the cycle of the latest request of its controller
+  -- by device, the stage at which its controller in truth still stands that has lost a response since the latest bus reset
+  pub lost : ℕ → Option Stage
+  -- How many bus resets commands began, and how many responses they lost. A bus reset that a controller forces was counted as its
+  -- response was lost.
+  pub resets : ℕ
   pub dead : ℕ → Bool  -- the controller died, and was not started again
   pub transaction : Option Transaction  -- a transaction of the script whose request was written, and that is not answered yet
   pub decks : ℕ → DeckState  -- by device; that of a device that has no unit is as at first
@@ -55,6 +63,9 @@ first_state = record {
   account = no_account;
   bus_manager_id = 0x3F;
   controllers = λ d. new_controller;
+  asked_at = λ d. 0;
+  lost = λ d. None;
+  resets = 0;
   dead = λ d. false;
   transaction = None;
   decks = λ d. first_deck;
@@ -145,6 +156,10 @@ has_deck s d = has_unit (kind_at s.declared.kinds d)
 -- a device on the bus that has a link, and whose controller has not died
 abbrev pub is_living : State → ℕ → Bool
 is_living s d = is_linked s d && not (s.dead d)
+
+-- the controller has lost a response since the latest bus reset
+abbrev pub is_deaf : State → ℕ → Bool
+is_deaf s d = is_some (s.lost d)
 
 -- the living controllers, in order of declaration
 abbrev pub living : State → List ℕ

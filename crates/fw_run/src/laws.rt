@@ -19,15 +19,20 @@ ghost use Rattle.fw_run.specs.Settling.{HasEnoughRounds, RoundsSuffice};
 ghost use Rattle.fw_run.specs.Giving.{log_bytes};
 ghost use Rattle.fw_run.specs.Rules.{Decides};
 ghost use Rattle.fw_entry.specs.Log.{header_bytes, LogOpens, LogSpells};
+ghost use Rattle.fw_entry.specs.declared.version.Version.TheVariants.{Two};
 ghost use Rattle.fw_script.specs.declared.command.Command.TheVariants.{End};
 ghost use Rattle.fw_run.specs.declared.order.Order.{Order};
 ghost use Rattle.fw_run.specs.declared.rule.RuleFault.{RuleFault};
 ghost use Rattle.std.specs.declared.result.Result.{Result};
 ghost use Rattle.fw_script.specs.declared.command.Command.{Command};
-ghost use Rattle.fw_run.specs.Desks.{desk_of};
+ghost use Rattle.fw_run.specs.OneLog.{RunsHaveOneLog, OrdersHaveOneResult};
 ghost use Rattle.fw_run.specs.Given.{AreGiven};
 ghost use Rattle.fw_run.specs.Good.{IsGood};
 ghost use Rattle.fw_run.specs.Headline.{IsSoundThroughout};
+ghost use Rattle.fw_ledger.specs.Fold.{entries_of};
+ghost use Rattle.fw_audit.specs.Audited.{IsAudited};
+
+use fw_tape::Desk;
 
 /// The node that a controller's request goes to answers it with the account's word, or refuses where it has no such
 /// register.
@@ -50,31 +55,36 @@ pub fn runs_are_sound()
     ensures runs { (commands : List Command) (actions : List Action) (log : List Timed) (s : State) → Run commands actions log s → Steps first_state actions log s }
 {}
 
-/// What a run writes is a log: each entry is in the grammar, cycles never fall, and nothing follows the end. Commands of which
+/// An audit finds no fault in the log of a run: no entry has one, over the account of the entries before it.
+pub fn runs_are_audited()
+    ensures steps { (actions : List Action) (log : List Timed) (s : State) → Steps first_state actions log s → IsAudited (entries_of log) }
+    ensures sound { (actions : List Action) (log : List Timed) → IsSoundThroughout actions log → IsAudited (entries_of log) }
+{}
+
+/// What a run writes is a log of version 2: each entry is in the grammar, cycles never fall, and nothing follows the end. Commands of which
 /// none ends the script write a log that lacks its end alone, and with the end behind them a whole one. What a run wrote that
 /// was cut off inside its next command, whichever it is, is a log that may lack its end, and so is each front of a log.
 pub fn runs_are_logs()
     ensures opens { (commands : List Command) (actions : List Action) (log : List Timed) (s : State) → Run commands actions log s → HasNoEnd commands
-        → LogOpens log (header_bytes ++ log_bytes log) }
+        → LogOpens log Two (header_bytes Two ++ log_bytes 0 log) }
     ensures whole { (commands : List Command) (actions : List Action) (log : List Timed) (s : State) → Run (commands ++ End ∷ []) actions log s
-        → HasNoEnd commands → LogSpells log (header_bytes ++ log_bytes log) }
+        → HasNoEnd commands → LogSpells log Two (header_bytes Two ++ log_bytes 0 log) }
     ensures cut { (commands : List Command) (actions done later : List Action) (log out more : List Timed) (s t u : State) (o : Order) → Run commands actions log s
         → HasNoEnd commands → Carries s o (done ++ later) more u → Steps s done out t
-        → LogOpens (log ++ out) (header_bytes ++ log_bytes (log ++ out)) }
-    ensures fronts { (front rest : List Timed) (bytes : List ℕ) → LogOpens (front ++ rest) bytes → LogOpens front (header_bytes ++ log_bytes front) }
+        → LogOpens (log ++ out) Two (header_bytes Two ++ log_bytes 0 (log ++ out)) }
+    ensures fronts { (front rest : List Timed) (bytes : List ℕ) → LogOpens (front ++ rest) Two bytes → LogOpens front Two (header_bytes Two ++ log_bytes 0 front) }
 {}
 
-/// A script has one log, where a desk gives one block for each place and the vendor makes one thing of each byte: two runs of the same commands then write the same
-/// entries, and lead to the same state. A command has one answer, its order or the first rule that it breaks, and in a good state
-/// an order has one result, where the desk does so.
-pub fn runs_have_one_log()
-    ensures logs { (blocks : ℕ → ℕ → ℕ → List ℕ) (vendor : ℕ → ℕ → ℕ) (commands : List Command) (actions others : List Action) (log other : List Timed) (s t : State) → Run commands actions log s
-        → Run commands others other t → AreGiven (desk_of blocks vendor) actions → AreGiven (desk_of blocks vendor) others → (log ≡ other) × (s ≡ t) }
+/// A script has one log, where the desk gives one block for each place and the vendor makes one thing of each byte: two runs of
+/// the same commands then write the same entries, and lead to the same state. A command has one answer, its order or the first
+/// rule that it breaks, and in a good state an order has one result, where the desk does so.
+pub fn runs_have_one_log<F: Fn(u16, u32, u16) -> [u8; 480], H: Fn(u32, u8) -> u8>(desk: &Desk<F, H>)
+    ensures logs { RunsHaveOneLog (record { blocks = F.post desk.now.blocks; vendor = H.post desk.now.vendor }) }
     ensures orders { (s : State) (c : Command) (r q : Result Order RuleFault) → Decides s c r → Decides s c q → r ≡ q }
-    ensures results { (blocks : ℕ → ℕ → ℕ → List ℕ) (vendor : ℕ → ℕ → ℕ) (s : State) (o : Order) (actions others : List Action) (out other : List Timed) (t u : State) → IsGood s
-        → Carries s o actions out t → Carries s o others other u → AreGiven (desk_of blocks vendor) actions → AreGiven (desk_of blocks vendor) others
-        → (out ≡ other) × (t ≡ u) }
-{}
+    ensures results { OrdersHaveOneResult (record { blocks = F.post desk.now.blocks; vendor = H.post desk.now.vendor }) }
+{
+    let _ = desk;
+}
 
 /// The connections that were whole before the bus reset that opened a reclaim second are whole at its end: those whose
 /// controller lived on and has finished restoring, and of which no break waited or was current, and none was accepted since.
@@ -92,5 +102,5 @@ pub fn connections_come_back()
 /// a script takes its rounds from the state that the commands before it lead to, and so they are enough where it comes there.
 pub fn rounds_are_enough()
     ensures laws { HasEnoughRounds }
-    ensures runs { (commands : List Command) (actions : List Action) (log : List Timed) (s : State) → Run commands actions log s → RoundsSuffice commands }
+    ensures runs { (commands : List Command) (actions : List Action) (log : List Timed) (s : State) → Run commands actions log s → RoundsSuffice commands actions log }
 {}

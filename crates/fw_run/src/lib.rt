@@ -7,6 +7,7 @@
 mod deck_laws;
 mod laws;
 mod lingering;
+mod losses;
 mod order;
 mod rule;
 mod streams;
@@ -14,9 +15,10 @@ mod streams;
 pub use deck_laws::{commands_are_followed, decks_tell_linked_nodes, nodes_keep_decks};
 pub use laws::{
     actions_leave_states_good, connections_come_back, nodes_answer_by_the_account,
-    rounds_are_enough, runs_are_logs, runs_are_sound, runs_have_one_log,
+    rounds_are_enough, runs_are_audited, runs_are_logs, runs_are_sound, runs_have_one_log,
 };
 pub use lingering::plugs_linger_through_runs;
+pub use losses::{lost_responses_are_not_heard, lost_swaps_come_right};
 pub use order::{Access, Order, Transaction, Wanted};
 pub use rule::RuleFault;
 pub use streams::{counts_follow_who_talks, cycles_can_be_written, cycles_have_a_packet_a_talker};

@@ -57,6 +57,8 @@ pub enum Order<'a> {
     Cycles(u32),
     /// The device's controller dies: true where its standing request is carried out before.
     Die(u8, bool),
+    /// The standing request of the device's controller is carried out, and the controller does not hear the response.
+    Lose(u8),
     /// The device's controller starts.
     Start(u8),
     /// A transaction, carried out whole.

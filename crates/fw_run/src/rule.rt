@@ -13,7 +13,7 @@ pub enum RuleFault {
     PortUsed,
     /// `cable`: the two devices are connected already, or are one.
     Loop,
-    /// `connect`, `broadcast`, `listen`, `break`, `step`, `die`, `command`, `read`, `swap`: the first device has no
+    /// `connect`, `broadcast`, `listen`, `break`, `step`, `die`, `lose`, `command`, `read`, `swap`: the first device has no
     /// living controller. `start`: it is a relay, or off.
     NotController,
     /// `swap` at a register that only controllers' procedures swap: those of channels and units, and of plugs.
@@ -22,7 +22,8 @@ pub enum RuleFault {
     /// be complete.
     NoRegister,
     /// More than 8,000 written cycles, 10,000 bus resets or 4,000,000 half steps, or a cycle number above 2 to the power 52.
-    /// The command that would pass a limit is refused whole.
+    /// A lost response counts as a bus reset, and the one that its controller forces then does not count. The command that
+    /// would pass a limit is refused whole.
     Limit,
     /// All 32 slots of the controller are in use.
     TableFull,
@@ -36,4 +37,6 @@ pub enum RuleFault {
     OffBus,
     /// `insert`, `eject`: the device is a computer or a relay, which has no tape.
     NoDeck,
+    /// `lose`: no request of the controller's procedure stands.
+    NothingStands,
 }

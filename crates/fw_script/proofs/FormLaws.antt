@@ -3,7 +3,7 @@ use Rattle.std.proofs.Common.{◌≡◌, ℕ, List, Option, IsSome, true, false,
 use Rattle.fw_script.specs.Form.{HasArguments, HasForm, Words1, Words2, Words3, Words4, Words5}
 use Rattle.fw_script.specs.Words.{name_in, number_in, place_in, kind_in, speed_in, channel_in, system_in, shown_in, offset_in, word_in, frame_in, late_in}
 use Rattle.fw_script.specs.declared.keyword.Keyword.{Keyword}
-use Rattle.fw_script.specs.declared.keyword.Keyword.TheVariants.{Device, Cable, Reset, Connect, Broadcast, Listen, Break, Step, Settle, Wait, Cycles, Die, Start, Command as CommandWord, Read, Swap, Insert, Eject, Show, End}
+use Rattle.fw_script.specs.declared.keyword.Keyword.TheVariants.{Device, Cable, Reset, Connect, Broadcast, Listen, Break, Step, Settle, Wait, Cycles, Die, Lose, Start, Command as CommandWord, Read, Swap, Insert, Eject, Show, End}
 use Rattle.fw_script.specs.declared.command.Command.{Command}
 use Rattle.fw_script.specs.declared.command.Command.TheVariants as Commands
 
@@ -46,6 +46,7 @@ same_arguments Die ws c d (inl h) (inl e) = same1 name_in (λ n. Commands.Die n 
 same_arguments Die ws c d (inl h) (inr e) = cc
 same_arguments Die ws c d (inr h) (inl e) = cc
 same_arguments Die ws c d (inr h) (inr e) = same2 name_in late_in (λ n late. Commands.Die n true) ws c d h e
+same_arguments Lose ws c d h e = same1 name_in (λ u. Commands.Lose u) ws c d h e
 same_arguments Start ws c d h e = same1 name_in (λ u. Commands.Start u) ws c d h e
 same_arguments CommandWord ws c d h e = same3 name_in name_in frame_in (λ u v w. Commands.Command u v w) ws c d h e
 same_arguments Read ws c d h e = same3 name_in name_in offset_in (λ u v w. Commands.Read u v w) ws c d h e

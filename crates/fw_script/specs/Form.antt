@@ -4,7 +4,7 @@ use Rattle.fw_script.specs.Pieces.{pieces}
 use Rattle.fw_script.specs.Words.{name_in, number_in, place_in, kind_in, speed_in, channel_in, system_in, shown_in, offset_in, word_in, frame_in, late_in}
 use Rattle.fw_script.specs.Keyword.{keyword_in}
 use Rattle.fw_script.specs.declared.keyword.Keyword.{Keyword}
-use Rattle.fw_script.specs.declared.keyword.Keyword.TheVariants.{Device, Cable, Reset, Connect, Broadcast, Listen, Break, Step, Settle, Wait, Cycles, Die, Start, Command as CommandWord, Read, Swap, Insert, Eject, Show, End}
+use Rattle.fw_script.specs.declared.keyword.Keyword.TheVariants.{Device, Cable, Reset, Connect, Broadcast, Listen, Break, Step, Settle, Wait, Cycles, Die, Lose, Start, Command as CommandWord, Read, Swap, Insert, Eject, Show, End}
 use Rattle.fw_script.specs.declared.command.Command.{Command}
 use Rattle.fw_script.specs.declared.command.Command.TheVariants as Commands
 
@@ -42,6 +42,7 @@ HasArguments Settle ws c = Words1 ws (number_in 1 200000) (λ rounds. c ≡ Comm
 HasArguments Wait ws c = Words1 ws (number_in 0 1000000000) (λ cycles. c ≡ Commands.Wait cycles)
 HasArguments Cycles ws c = Words1 ws (number_in 1 8000) (λ count. c ≡ Commands.Cycles count)
 HasArguments Die ws c = Words1 ws name_in (λ name. c ≡ Commands.Die name false) ⊎ Words2 ws name_in late_in (λ name late. c ≡ Commands.Die name true)
+HasArguments Lose ws c = Words1 ws name_in (λ name. c ≡ Commands.Lose name)
 HasArguments Start ws c = Words1 ws name_in (λ name. c ≡ Commands.Start name)
 HasArguments CommandWord ws c = Words3 ws name_in name_in frame_in (λ sender target frame. c ≡ Commands.Command sender target frame)
 HasArguments Read ws c = Words3 ws name_in name_in offset_in (λ sender target offset. c ≡ Commands.Read sender target offset)

@@ -2,7 +2,7 @@
 use Rattle.std.specs.Prelude.{ℕ, List, Option, Some, None, codes, if◌then◌else◌}
 use Rattle.fw_script.specs.Words.{is}
 use Rattle.fw_script.specs.declared.keyword.Keyword.{Keyword}
-use Rattle.fw_script.specs.declared.keyword.Keyword.TheVariants.{Device, Cable, Reset, Connect, Broadcast, Listen, Break, Step, Settle, Wait, Cycles, Die, Start, Command, Read, Swap, Insert, Eject, Show, End}
+use Rattle.fw_script.specs.declared.keyword.Keyword.TheVariants.{Device, Cable, Reset, Connect, Broadcast, Listen, Break, Step, Settle, Wait, Cycles, Die, Lose, Start, Command, Read, Swap, Insert, Eject, Show, End}
 
 -- the keyword that the word is
 abbrev pub keyword_in : List ℕ → Option Keyword
@@ -19,6 +19,7 @@ keyword_in w =
     else if is (codes "wait") w then Some Wait
     else if is (codes "cycles") w then Some Cycles
     else if is (codes "die") w then Some Die
+    else if is (codes "lose") w then Some Lose
     else if is (codes "start") w then Some Start
     else if is (codes "command") w then Some Command
     else if is (codes "read") w then Some Read
@@ -41,6 +42,7 @@ abbrev pub of_four : List ℕ → Option Keyword
 of_four w =
     if is (codes "step") w then Some Step
     else if is (codes "wait") w then Some Wait
+    else if is (codes "lose") w then Some Lose
     else if is (codes "read") w then Some Read
     else if is (codes "swap") w then Some Swap
     else if is (codes "show") w then Some Show

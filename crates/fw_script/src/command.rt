@@ -30,6 +30,8 @@ pub enum Command {
     Cycles(u32),
     /// `die NAME` or `die NAME late`: true for `late`.
     Die(Name, bool),
+    /// `lose NAME`.
+    Lose(Name),
     /// `start NAME`.
     Start(Name),
     /// `command NAME NAME HEX`: the bytes of a frame.

@@ -102,6 +102,17 @@ pub(crate) fn die(words: &mut Pieces, out: &mut Command) -> Option<()>
     Some(())
 }
 
+/// `lose NAME`
+pub(crate) fn lose(words: &mut Pieces, out: &mut Command) -> Option<()>
+    ensures found { IfSome result (λ u. HasArguments Keyword.Lose words.old out.new) }
+    ensures only { (c : Command) → HasArguments Keyword.Lose words.old c → IsSome result × (out.new ≡ c) }
+{
+    let name = name(words.next()?)?;
+    words.end()?;
+    *out = Command::Lose(name);
+    Some(())
+}
+
 /// `start NAME`
 pub(crate) fn start(words: &mut Pieces, out: &mut Command) -> Option<()>
     ensures found { IfSome result (λ u. HasArguments Keyword.Start words.old out.new) }

@@ -5,7 +5,7 @@ ghost use Rattle.fw_script.specs.Form.{HasArguments, HasForm};
 ghost use Rattle.fw_script.specs.declared.command.Command.{Command};
 
 use crate::Command;
-use crate::controller_forms::{break_, broadcast, connect, die, listen, settle, start, step};
+use crate::controller_forms::{break_, broadcast, connect, die, listen, lose, settle, start, step};
 use crate::cut::Pieces;
 use crate::device_forms::{cable, device, eject, insert, reset, show};
 use crate::keyword::{Keyword, keyword_of};
@@ -29,6 +29,7 @@ fn arguments(keyword: Keyword, words: &mut Pieces, out: &mut Command) -> Option<
         Keyword::Wait => wait(words, out),
         Keyword::Cycles => cycles(words, out),
         Keyword::Die => die(words, out),
+        Keyword::Lose => lose(words, out),
         Keyword::Start => start(words, out),
         Keyword::Command => command(words, out),
         Keyword::Read => read(words, out),

@@ -20,6 +20,7 @@ pub(crate) enum Keyword {
     Wait,
     Cycles,
     Die,
+    Lose,
     Start,
     Command,
     Read,
@@ -51,6 +52,8 @@ fn of_four(word: &[u8]) -> Option<Keyword>
         Some(Keyword::Step)
     } else if is(word, b"wait") {
         Some(Keyword::Wait)
+    } else if is(word, b"lose") {
+        Some(Keyword::Lose)
     } else if is(word, b"read") {
         Some(Keyword::Read)
     } else if is(word, b"swap") {

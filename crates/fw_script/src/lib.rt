@@ -46,6 +46,3 @@ pub enum ScriptFault {
     #[error("TooLong")]
     TooLong,
 }
-
-#[cfg(test)]
-mod tests;

@@ -2,7 +2,8 @@
 use Rattle.std.proofs.Common.{◌≡◌, ◌≢◌, ℕ, ◌≤◌, List, [], ◌++◌, length, Option, Some, refl, ap, sym, subst, ◌∙◌, arith}
 use Rattle.std.specs.Prelude.{IsFalse}
 use Rattle.fw_outside.specs.Outside.{Rose}
-use Rattle.fw_entry.specs.Log.{header_bytes}
+use Rattle.fw_entry.specs.Log.{header_bytes, latest_epoch}
+use Rattle.fw_entry.specs.declared.version.Version.TheVariants.{Two}
 use Rattle.fw_entry.specs.declared.entry.Timed.{Timed}
 use Rattle.fw_script.specs.Reading.{Reading, unread}
 use Rattle.fw_run.specs.Giving.{log_bytes}
@@ -35,8 +36,8 @@ pub counting_first : {D : DeskRelations} (script now held : List ℕ) (reader : 
     → now ≡ script → held ≡ [] → Counts [] tally → IsCounting D script now held reader bus tally
 unfolding going_first
 counting_first {D} script now held reader bus tally new stands fresh same empty counts = record {
-  written = header_bytes;
-  going = subst (λ (x : List ℕ). Going D (Some script) (Some x) (Some []) (Some header_bytes) reader bus) (sym same) (going_first (Some script) (Some []) (Some header_bytes) reader bus new stands fresh refl);
+  written = header_bytes Two;
+  going = subst (λ (x : List ℕ). Going D (Some script) (Some x) (Some []) (Some (header_bytes Two)) reader bus) (sym same) (going_first (Some script) (Some []) (Some (header_bytes Two)) reader bus new stands fresh refl);
   counts = counts;
   empty = empty;
 }
@@ -47,8 +48,8 @@ kept_elsewhere written held held' empty bytes h = ap (λ (l : List ℕ). written
 
 -- what the sink holds are the entries of one command
 pub given_alone : {D : DeskRelations} {script now held : List ℕ} {reader : Reading} {bus : Standing} {tally : Tally} (i : IsCounting D script now held reader bus tally) (now' held' : List ℕ) (reader' : Reading) (bus' : Standing)
-    → (d : Carried D (Some script) (Some now') (Some []) (Some (i.written ++ held')) (Some held) (Some held') i.going.log reader reader' bus') → held' ≡ log_bytes d.out
-given_alone i now' held' reader' bus' d = d.wrote ∙ ap (λ (l : List ℕ). l ++ log_bytes d.out) i.empty
+    → (d : Carried D (Some script) (Some now') (Some []) (Some (i.written ++ held')) (Some held) (Some held') i.going.log reader reader' bus') → held' ≡ log_bytes (latest_epoch 0 i.going.log) d.out
+given_alone i now' held' reader' bus' d = d.wrote ∙ ap (λ (l : List ℕ). l ++ log_bytes (latest_epoch 0 i.going.log) d.out) i.empty
 
 -- and were counted
 pub counting_more : {D : DeskRelations} {script now held : List ℕ} {reader : Reading} {bus : Standing} {tally : Tally} (i : IsCounting D script now held reader bus tally) (now' held' empty : List ℕ) (reader' : Reading) (bus' : Standing) (tally' : Tally)

@@ -1,8 +1,11 @@
 -- What was logged, by the ending.
 use Rattle.std.proofs.Common.{◌≡◌, ◌≢◌, ℕ, ◌+◌, ◌≤◌, List, [], ◌∷◌, ◌++◌, length, true, Option, Some, None, Ok, Err, refl, ap, sym, ◌∙◌, subst, append_assoc, append-nil, arith}
-use Rattle.fw_outside.specs.Outside.{AppendsFront, Rose}
+use Rattle.fw_outside.specs.Outside.{AppendsFront, Grows, Rose}
 use Rattle.fw_outside.proofs.Parts.{Grows-Grows}
-use Rattle.fw_entry.specs.Log.{header_bytes, entry_bytes, LogOpens}
+use Rattle.fw_entry.specs.Log.{header_bytes, epoch_after, latest_epoch, entry_bytes, LogOpens}
+use Rattle.fw_entry.specs.declared.version.Version.TheVariants.{Two}
+use Rattle.fw_entry.proofs.LogLaws.{entries_push}
+use Rattle.fw_run.proofs.Epochs.{run_epoch}
 use Rattle.fw_script.specs.Reading.{Reading, Advances, IsHeld, with_taken}
 use Rattle.fw_script.specs.Script.{IsScript}
 use Rattle.fw_script.specs.Script.Says.{refuses}
@@ -18,6 +21,7 @@ use Rattle.fw_run.specs.State.{first_state}
 use Rattle.fw_run.specs.Rules.{Decides}
 use Rattle.fw_run.specs.Runs.{Run, begun}
 use Rattle.fw_run.proofs.Runs.{log_append, run_steps}
+use Rattle.fw_run.proofs.Audits.{run_audited, sound_audited}
 use Rattle.fw_run.proofs.ComesBack.{comes_back}
 use Rattle.fw_run.proofs.Sounds.{sound_throughout}
 use Rattle.fw_run.proofs.Suffice.{rounds_suffice}
@@ -38,7 +42,7 @@ use Rattle.fw_simulate.proofs.Goings.{given_before, given_no_end, ended_before, 
 
 -- what was carried out so far
 abbrev logs_run : {D : DeskRelations} {left now held after : Option (List ℕ)} {reader : Reading} {bus : Standing} (g : Going D left now held after reader bus)
-    → LogOpens g.log (header_bytes ++ log_bytes g.log) → LogsRun D held after g.commands
+    → LogOpens g.log Two (header_bytes Two ++ log_bytes 0 g.log) → LogsRun D held after g.commands
 logs_run g opens = record {
   actions = g.actions;
   log = g.log;
@@ -46,6 +50,7 @@ logs_run g opens = record {
   run = g.run;
   given = g.given;
   sound = sound_throughout g.actions g.log g.state (run_steps g.commands g.actions g.log g.state g.run);
+  audited = run_audited g.actions g.log g.state (run_steps g.commands g.actions g.log g.state g.run);
   restored = comes_back g.actions g.log g.state (run_steps g.commands g.actions g.log g.state g.run);
   rounds = rounds_suffice g.commands g.actions g.log g.state g.run;
   opens = opens;
@@ -77,6 +82,7 @@ logged_all {D} {left} {mid} {held} {held1} {old} left' new g a =
         run = g.run;
         given = g.given;
         sound = sound_throughout g.actions g.log g.state (run_steps g.commands g.actions g.log g.state g.run);
+        audited = run_audited g.actions g.log g.state (run_steps g.commands g.actions g.log g.state g.run);
         restored = comes_back g.actions g.log g.state (run_steps g.commands g.actions g.log g.state g.run);
         rounds = rounds_suffice g.commands g.actions g.log g.state g.run;
         opens = whole.opens;
@@ -149,7 +155,7 @@ command_refused {D} {left} {mid} {held} {held1} {old} left' new c f g a few d =
 -- ---- the run was cut off
 
 -- not even the header was written
-pub part_header : {D : DeskRelations} (left held held' : Option (List ℕ)) → AppendsFront held held' header_bytes → PartLogged D left left held held'
+pub part_header : {D : DeskRelations} (left held held' : Option (List ℕ)) → AppendsFront held held' (header_bytes Two) → PartLogged D left left held held'
 part_header left held held' wrote =
     let t = takes_nothing left in
     record {
@@ -169,10 +175,11 @@ part_header left held held' wrote =
       after = first_state;
       steps = (refl, refl);
       sound = sound_throughout [] [] first_state (run_steps [] [] [] first_state begun);
+      audited = run_audited [] [] first_state (run_steps [] [] [] first_state begun);
       restored = comes_back [] [] first_state (run_steps [] [] [] first_state begun);
       rounds = rounds_suffice [] [] [] first_state begun;
       opens = run_opens [] [] [] first_state begun tt;
-      grew = subst (λ (bytes : List ℕ). AppendsFront held held' bytes) (sym (append-nil header_bytes)) wrote;
+      grew = subst (λ (bytes : List ℕ). AppendsFront held held' bytes) (sym (append-nil (header_bytes Two))) wrote;
     }
 
 -- the source failed
@@ -203,15 +210,19 @@ part_stopped {D} {left} {mid} {held} {held1} {old} left' held2 new bus' c g a d 
   after = x.state;
   steps = x.steps;
   sound = d.sound;
+  audited = sound_audited (g.actions ++ x.done) (g.log ++ (x.given ++ x.next ∷ [])) d.sound;
   restored = d.restored;
   rounds = rounds_suffice g.commands g.actions g.log g.state g.run;
   opens = d.opens (given_no_end (given_before old.stage a.known new (Ok (Some c)) (some_command c) g.read a.gives).0);
   grew = record {
-    front = (header_bytes ++ log_bytes g.log) ++ (log_bytes x.given ++ x.front);
+    front = (header_bytes Two ++ log_bytes 0 g.log) ++ (log_bytes n x.given ++ x.front);
     rest = x.rest;
-    parts = ap (λ (z : List ℕ). header_bytes ++ z) (log_append g.log (x.given ++ x.next ∷ []) ∙ ap (λ (z : List ℕ). log_bytes g.log ++ z) (log_append x.given (x.next ∷ []) ∙ ap (λ (z : List ℕ). log_bytes x.given ++ z) (append-nil (entry_bytes x.next) ∙ x.parts)))
-        ∙ regroup header_bytes (log_bytes g.log) (log_bytes x.given) x.front x.rest;
-    appended = Grows-Grows held held1 held2 (header_bytes ++ log_bytes g.log) (log_bytes x.given ++ x.front) g.grew x.appended;
+    parts = ap (λ (z : List ℕ). header_bytes Two ++ z) (log_append 0 g.log (x.given ++ x.next ∷ []) ∙ ap (λ (z : List ℕ). log_bytes 0 g.log ++ z)
+        (entries_push Two n x.given x.next ∙ ap (λ (z : List ℕ). log_bytes n x.given ++ z)
+        (ap (λ (k : ℕ). entry_bytes Two (epoch_after (latest_epoch k x.given) x.next.what) x.next) (sym (run_epoch g.commands g.actions g.log g.state g.run)) ∙ x.parts)))
+        ∙ regroup (header_bytes Two) (log_bytes 0 g.log) (log_bytes n x.given) x.front x.rest;
+    appended = Grows-Grows held held1 held2 (header_bytes Two ++ log_bytes 0 g.log) (log_bytes n x.given ++ x.front) g.grew
+        (subst (λ (k : ℕ). Grows held1 held2 (log_bytes k x.given ++ x.front)) (run_epoch g.commands g.actions g.log g.state g.run) x.appended);
   };
 }
   where
@@ -220,6 +231,9 @@ part_stopped {D} {left} {mid} {held} {held1} {old} left' held2 new bus' c g a d 
 
     x : Cut (Carries g.state d.order) g.state held1 held2
     x = d.cut
+
+    n : ℕ
+    n = latest_epoch 0 g.log
 
     regroup : (a b c d e : List ℕ) → a ++ (b ++ (c ++ (d ++ e))) ≡ ((a ++ b) ++ (c ++ d)) ++ e
     regroup a b c d e = simp append_assoc

@@ -3,7 +3,9 @@ use Rattle.std.proofs.Common.{◌≡◌, ◌≢◌, ◌⊎◌, inl, inr, ℕ, �
 use Rattle.std.specs.Prelude.{IsFalse}
 use Rattle.fw_outside.specs.Outside.{Takes, Grows, IsAtEnd}
 use Rattle.fw_outside.proofs.Parts.{Takes-Takes, Takes-nothing, Grows-Grows}
-use Rattle.fw_entry.specs.Log.{header_bytes}
+use Rattle.fw_entry.specs.Log.{header_bytes, latest_epoch}
+use Rattle.fw_entry.specs.declared.version.Version.TheVariants.{Two}
+use Rattle.fw_run.proofs.Epochs.{run_epoch}
 use Rattle.fw_script.specs.Reading.{Reading, Answer, Gives, GivesNext, Advances, unread, with_taken}
 use Rattle.fw_script.specs.Script.{Tells, start_of}
 use Rattle.fw_script.specs.Leading.{Leads, BeginsWith, TakesFrom, HasRead}
@@ -159,7 +161,7 @@ still_ended left mid left' given old new h a =
 
 -- ---- the bus
 
-unfoldable pub going_first : {D : DeskRelations} (left held after : Option (List ℕ)) (reader : Reading) (bus : Standing) → reader ≡ unread → StandsFor bus.machine first_state → IsFalse bus.spent → Grows held after header_bytes → Going D left left held after reader bus
+unfoldable pub going_first : {D : DeskRelations} (left held after : Option (List ℕ)) (reader : Reading) (bus : Standing) → reader ≡ unread → StandsFor bus.machine first_state → IsFalse bus.spent → Grows held after (header_bytes Two) → Going D left left held after reader bus
 going_first left held after reader bus new stands fresh header = record {
   commands = [];
   actions = [];
@@ -169,7 +171,7 @@ going_first left held after reader bus new stands fresh header = record {
   given = tt;
   stands = stands;
   fresh = fresh;
-  grew = subst (λ (bytes : List ℕ). Grows held after bytes) (sym (append-nil header_bytes)) header;
+  grew = subst (λ (bytes : List ℕ). Grows held after bytes) (sym (append-nil (header_bytes Two))) header;
   read = subst (λ (p : Reading). IsReading p.stage left left [] p) (sym new) (read_nothing left);
 }
 
@@ -188,8 +190,9 @@ going_more {D} {left} {mid} {held} {held1} {old} {bus} left' held2 new bus' c g 
       stands = d.stands;
       fresh = d.fresh;
       grew = subst (λ (bytes : List ℕ). Grows held held2 bytes)
-          (append_assoc header_bytes (log_bytes g.log) (log_bytes d.out) ∙ ap (λ (bytes : List ℕ). header_bytes ++ bytes) (sym (log_append g.log d.out)))
-          (Grows-Grows held held1 held2 (header_bytes ++ log_bytes g.log) (log_bytes d.out) g.grew d.grew);
+          (append_assoc (header_bytes Two) (log_bytes 0 g.log) (log_bytes (latest_epoch 0 g.log) d.out) ∙ ap (λ (bytes : List ℕ). header_bytes Two ++ bytes) (sym (log_append 0 g.log d.out)))
+          (Grows-Grows held held1 held2 (header_bytes Two ++ log_bytes 0 g.log) (log_bytes (latest_epoch 0 g.log) d.out) g.grew
+          (subst (λ (n : ℕ). Grows held1 held2 (log_bytes n d.out)) (run_epoch g.commands g.actions g.log g.state g.run) d.grew));
       read = reads_on left mid left' g.commands old new c before.0 a before.1;
     }
 

@@ -3,6 +3,8 @@ use Rattle.std.proofs.Common.{◌≡◌, ℕ, List, [], ◌∷◌, ◌++◌, Opt
 use Rattle.std.proofs.lemmas.List.Elements.{All-cons}
 use Rattle.std.specs.List.{All}
 use Rattle.fw_outside.specs.Outside.{Grows}
+use Rattle.fw_run.specs.Giving.{log_bytes}
+use Rattle.fw_run.proofs.Epochs.{run_epoch}
 use Rattle.fw_outside.proofs.Parts.{Grows-nothing}
 use Rattle.fw_entry.specs.Log.{TimedFits}
 use Rattle.fw_entry.specs.declared.entry.Timed.{Timed}
@@ -102,11 +104,11 @@ pub carried : {D : DeskRelations} {left mid held after written written' : Option
     → Mirrors written written' after after' → Advances old new mid left' (Ok (Some c)) → Goes D g.commands g.actions g.log g.state c bus' written written'
     → Carried D left left' held after' written written' g.log old new bus'
 unfolding going_more goes_there
-carried {after = after} left' after' new bus' c g m a d = record {
+carried {after = after} {written = written} {written' = written'} left' after' new bus' c g m a d = record {
   going = going_more left' after' new bus' c g a (goes_there after after' m d);
   out = d.out;
   longer = refl;
   fit = fit_behind g.log d.out d.sound.fits;
-  wrote = d.grew;
+  wrote = subst (λ (n : ℕ). Grows written written' (log_bytes n d.out)) (run_epoch g.commands g.actions g.log g.state g.run) d.grew;
   shorter = going_shorter left' new c g a;
 }

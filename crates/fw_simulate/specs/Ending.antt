@@ -2,6 +2,7 @@
 use Rattle.std.specs.Prelude.{◌≡◌, ℕ, ◌+◌, ◌<◌, ◌≤◌, List, [], ◌++◌, length, Option, Some, None, Ok, Err}
 use Rattle.fw_outside.specs.Outside.{Takes, Grows, IsAtEnd, AppendsFront}
 use Rattle.fw_entry.specs.Log.{header_bytes, LogOpens, LogSpells}
+use Rattle.fw_entry.specs.declared.version.Version.TheVariants.{Two}
 use Rattle.fw_entry.specs.declared.entry.Timed.{Timed}
 use Rattle.fw_script.specs.Script.{IsScript}
 use Rattle.fw_script.specs.Leading.{BeginsWith, IsOnLine, TakesFrom, LinesSay}
@@ -19,6 +20,8 @@ use Rattle.fw_run.specs.Desks.{DeskRelations}
 use Rattle.fw_run.specs.Given.{AreGiven}
 use Rattle.fw_run.specs.Runs.{Run}
 use Rattle.fw_run.specs.Headline.{IsSoundThroughout}
+use Rattle.fw_ledger.specs.Fold.{entries_of}
+use Rattle.fw_audit.specs.Audited.{IsAudited}
 use Rattle.fw_run.specs.Reclaiming.{ComesBack}
 use Rattle.fw_run.specs.Settling.{RoundsSuffice}
 use Rattle.fw_simulate.specs.declared.ending.RunEnding.{RunEnding}
@@ -29,8 +32,8 @@ use Rattle.fw_simulate.specs.declared.ending.Refusal.TheVariants.{BadLine, LineT
 use Rattle.fw_simulate.specs.Scripts.{FaultsAt, beyond}
 
 -- The commands were carried out, with what the desk gives; the header and the log of their run were written. It is a log that
--- lacks at most its end, and it is sound throughout; what was whole before a bus reset is whole again where its second is over, and
--- enough rounds suffice for that.
+-- lacks at most its end, it is sound throughout, and an audit finds no fault in it; what was whole before a bus reset is whole again
+-- where its second is over, and enough rounds suffice for that.
 pub record LogsRun (D : DeskRelations) (held held' : Option (List ℕ)) (commands : List Command) : Type 0 where
   pub actions : List Action
   pub log : List Timed
@@ -38,10 +41,11 @@ pub record LogsRun (D : DeskRelations) (held held' : Option (List ℕ)) (command
   pub run : Run commands actions log state
   pub given : AreGiven D actions
   pub sound : IsSoundThroughout actions log
+  pub audited : IsAudited (entries_of log)
   pub restored : ComesBack actions log
-  pub rounds : RoundsSuffice commands
-  pub opens : LogOpens log (header_bytes ++ log_bytes log)
-  pub grew : Grows held held' (header_bytes ++ log_bytes log)
+  pub rounds : RoundsSuffice commands actions log
+  pub opens : LogOpens log Two (header_bytes Two ++ log_bytes 0 log)
+  pub grew : Grows held held' (header_bytes Two ++ log_bytes 0 log)
 
 -- These bytes were taken, to the end of the input, and no line of them is refused. The log is that of their commands, and
 -- whole.
@@ -52,7 +56,7 @@ pub record Logged (D : DeskRelations) (left left' held held' : Option (List ℕ)
   pub commands : List Command
   pub says : IsScript script commands None
   pub logged : LogsRun D held held' commands
-  pub whole : LogSpells logged.log (header_bytes ++ log_bytes logged.log)
+  pub whole : LogSpells logged.log Two (header_bytes Two ++ log_bytes 0 logged.log)
 
 -- The script's first refused line has this fault and this number, and few bytes behind it were taken. The log is that of the
 -- commands before it.
@@ -132,10 +136,11 @@ pub record PartLogged (D : DeskRelations) (left left' held held' : Option (List 
   pub after : State
   pub steps : Steps state done out after
   pub sound : IsSoundThroughout (actions ++ done) (log ++ out)
+  pub audited : IsAudited (entries_of (log ++ out))
   pub restored : ComesBack (actions ++ done) (log ++ out)
-  pub rounds : RoundsSuffice commands
-  pub opens : LogOpens (log ++ out) (header_bytes ++ log_bytes (log ++ out))
-  pub grew : AppendsFront held held' (header_bytes ++ log_bytes (log ++ out))
+  pub rounds : RoundsSuffice commands actions log
+  pub opens : LogOpens (log ++ out) Two (header_bytes Two ++ log_bytes 0 (log ++ out))
+  pub grew : AppendsFront held held' (header_bytes Two ++ log_bytes 0 (log ++ out))
 
 -- what each ending says; memory is wanted before anything is read or written
 abbrev pub Runs : DeskRelations → Option (List ℕ) → Option (List ℕ) → Option (List ℕ) → Option (List ℕ) → RunEnding → Type 0

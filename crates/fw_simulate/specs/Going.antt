@@ -2,7 +2,8 @@
 use Rattle.std.specs.Prelude.{◌≡◌, ℕ, ◌+◌, ◌-◌, ◌<◌, List, [], ◌∷◌, ◌++◌, true, Option, Some, None, IsFalse}
 use Rattle.std.specs.List.{All}
 use Rattle.fw_outside.specs.Outside.{Takes, Grows, IsAtEnd}
-use Rattle.fw_entry.specs.Log.{header_bytes, TimedFits}
+use Rattle.fw_entry.specs.Log.{header_bytes, latest_epoch, TimedFits}
+use Rattle.fw_entry.specs.declared.version.Version.TheVariants.{Two}
 use Rattle.fw_entry.specs.declared.entry.Timed.{Timed}
 use Rattle.fw_script.specs.Reading.{Reading}
 use Rattle.fw_script.specs.Script.{IsScript}
@@ -63,7 +64,7 @@ pub record Going (D : DeskRelations) (left now held after : Option (List ℕ)) (
   pub given : AreGiven D actions
   pub stands : StandsFor bus.machine state
   pub fresh : IsFalse bus.spent
-  pub grew : Grows held after (header_bytes ++ log_bytes log)
+  pub grew : Grows held after (header_bytes Two ++ log_bytes 0 log)
   pub read : IsReading reader.stage left now commands reader
 
 -- some run is under way
@@ -83,7 +84,7 @@ pub record Carried (D : DeskRelations) (left now' held after' written written' :
   pub out : List Timed
   pub longer : going.log ≡ log ++ out
   pub fit : All TimedFits out
-  pub wrote : Grows written written' (log_bytes out)
+  pub wrote : Grows written written' (log_bytes (latest_epoch 0 log) out)
   pub shorter : to_read reader' < to_read reader
 
 -- The run ended with this log so far: what was logged is that, where the script was read to its end.

@@ -7,7 +7,7 @@ ghost use Rattle.fw_simulate.specs.Scripts.{IsValid, IsNoRefusal};
 use crate::ending::RunEnding;
 use crate::step::carry_next;
 use fw_bus::Bus;
-use fw_entry::write_header;
+use fw_entry::{Version, write_header};
 use fw_outside::{Sink, Source};
 use fw_script::ScriptReader;
 use fw_tape::Desk;
@@ -35,7 +35,7 @@ pub fn run<S: Source, K: Sink, F: Fn(u16, u32, u16) -> [u8; 480], H: Fn(u32, u8)
     let Ok(mut reader) = ScriptReader::new(alloc) else {
         return RunEnding::NoMemory;
     };
-    let Ok(()) = write_header(sink) else {
+    let Ok(()) = write_header(Version::Two, sink) else {
         return RunEnding::WriteFault;
     };
     loop {

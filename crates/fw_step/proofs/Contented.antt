@@ -19,7 +19,7 @@ use Rattle.fw_cmp.specs.declared.stage.Stage.{Stage}
 use Rattle.fw_cmp.specs.declared.stage.Stage.TheVariants.{Begin, Made, Ended}
 use Rattle.fw_cmp.specs.Controllers.{ControllerState, slot_at, with_slot, job_for, restoring_job, breaking_job, Fits}
 use Rattle.fw_cmp.specs.Requests.{target_of}
-use Rattle.fw_cmp.specs.Resets.{after_hear, slots_reset, slot_reset, slot_over, overtaken, after_reset as controller_reset, after_second as second_over}
+use Rattle.fw_cmp.specs.Resets.{after_hear, slots_reset, slot_reset, slot_over, overtaken, lost_reset, state_reset, after_reset as controller_reset, after_second as second_over}
 use Rattle.fw_cmp.specs.Stages.{hear_reply}
 use Rattle.fw_cmp.specs.Starts.{IsMaking, started}
 use Rattle.fw_step.specs.Controllers.{ControllerInStep}
@@ -145,6 +145,17 @@ reset_content l d epoch c (Asking j s) full x h = asking_reset epoch c j s x.cur
 reset_content l d epoch c (Hearing j s) full x h = hearing_reset epoch c j s x.current.slot (omega (arith, x.current.within)) h
 reset_content l d epoch c (Overtaken i o) full x h = h
 
+-- the same where the response to its request was lost
+lost_content : (epoch : ℕ) (c : ControllerState) (current : Current) → IsContent c current → IsContent (slots_reset (lost_reset epoch (record c { current = current }) current)) (lost_reset epoch (record c { current = current }) current).current
+lost_content epoch c Nothing h = tt
+lost_content epoch c (Asking j s) h = interrupted_content j.purpose epoch (record c { current = Asking j s }) j
+lost_content epoch c (Hearing j s) h = interrupted_content j.purpose epoch (record c { current = Hearing j s }) j
+lost_content epoch c (Overtaken i o) h = h
+
+state_content : (l : Account) (d epoch : ℕ) (lost : Bool) (c : ControllerState) → length c.slots ≡ 32 → ControllerInStep l d c → IsContent c c.current → IsContent (state_reset epoch lost c) (state_reset epoch lost c).current
+state_content l d epoch true c full x h = lost_content epoch c c.current h
+state_content l d epoch false c full x h = reset_content l d epoch c c.current full x h
+
 -- ---- whatever happens
 
 abbrev pub AreContent : (ℕ → ControllerState) → Type 0
@@ -165,6 +176,6 @@ stay_content dir new l m before after x (hears d j s t r lt e f a is b same) h =
     let here : IsContent (before d) (Asking j (hear_reply j s r)) = hear_content l d (before d) j s t r x.sound (subst Fits hearing_is (x.fits d)) (subst (ControllerInStep l d) hearing_is (x.each d)) f a (subst (IsContent (before d)) e (h d)) in
     becomes_content before after d _ (subst (λ y. Becomes before d (after_hear y r) after) hearing_is b) here h
 stay_content dir new l m before after x (given d c is e b same) h = becomes_content before after d c b (given_content (before d) c (x.fits d) is (h d)) h
-stay_content dir new l m before after x (resets r epoch network grows is each) h = λ d. subst (λ y. IsContent y y.current) (sym (each d)) (reset_content l d epoch (before d) (before d).current (x.fits d).slots (x.each d) (h d))
+stay_content dir new l m before after x (resets r epoch lost network grows is each) h = λ d. subst (λ y. IsContent y y.current) (sym (each d)) (state_content l d epoch (lost d) (before d) (x.fits d).slots (x.each d) (h d))
 stay_content dir new l m before after x (second is each same) h = λ d. subst (λ y. IsContent y y.current) (sym (each d)) (second_content (before d) (h d))
 stay_content dir new l m before after x (dies d is b same) h = becomes_content before after d _ b tt h

@@ -20,7 +20,7 @@ use Rattle.fw_cmp.specs.declared.stage.Stage.{Stage}
 use Rattle.fw_cmp.specs.declared.stage.Stage.TheVariants.{Begin, Made, Ended}
 use Rattle.fw_cmp.specs.Controllers.{ControllerState, slot_at, with_slot, job_for, making_job, restoring_job, breaking_job}
 use Rattle.fw_cmp.specs.Holdings.{is_current_slot}
-use Rattle.fw_cmp.specs.Resets.{slot_reset, slots_reset, interrupted, decided, overtaken, after_reset as reset}
+use Rattle.fw_cmp.specs.Resets.{slot_reset, slots_reset, interrupted, decided, overtaken, lost_reset, state_reset, after_reset as reset}
 use Rattle.fw_cmp.specs.Turns.{made_outcome}
 use Rattle.fw_step.specs.InStep.{Others, IsInStep}
 use Rattle.fw_step.specs.Controllers.{SlotInStep, ControllerInStep}
@@ -188,5 +188,29 @@ reset_by r l d epoch c (Hearing j s) sound grows full x = job_done r l d epoch c
 }) x.current.step
 reset_by r l d epoch c (Overtaken i o) sound grows full x = reset_done r l d c (Overtaken i o) tt (λ k. rest_told r l d (record c { current = Overtaken i o }) sound grows full x k refl)
 
-pub reset_in_step : (r : ResetEntry) (l : Account) (d epoch : ℕ) (c : ControllerState) → IsSound l → Grows l r → length c.slots ≡ 32 → ControllerInStep l d c → ControllerInStep (after_reset r l) d (reset epoch c)
-reset_in_step r l d epoch c sound grows full x = reset_by r l d epoch c c.current sound grows full x
+-- the same where the response to its request was lost
+lost_by : (r : ResetEntry) (l : Account) (d epoch : ℕ) (c : ControllerState) (current : Current) → IsSound l → Grows l r → length c.slots ≡ 32 → ControllerInStep l d (record c { current = current }) → ControllerInStep (after_reset r l) d (slots_reset (lost_reset epoch (record c { current = current }) current))
+lost_by r l d epoch c Nothing sound grows full x = reset_by r l d epoch c Nothing sound grows full x
+lost_by r l d epoch c (Asking j s) sound grows full x = interrupted_done r l d epoch (record c { current = Asking j s }) j (record {
+  sound = sound;
+  grows = grows;
+  full = full;
+  within = x.current.within;
+  slot = x.current.slot;
+  own = own_is l d (record c { current = Asking j s }) j.slot x (grind (arith, nat_tests));
+  rest = rest_told r l d (record c { current = Asking j s }) sound grows full x;
+})
+lost_by r l d epoch c (Hearing j s) sound grows full x = interrupted_done r l d epoch (record c { current = Hearing j s }) j (record {
+  sound = sound;
+  grows = grows;
+  full = full;
+  within = x.current.within;
+  slot = x.current.slot;
+  own = own_is l d (record c { current = Hearing j s }) j.slot x (grind (arith, nat_tests));
+  rest = rest_told r l d (record c { current = Hearing j s }) sound grows full x;
+})
+lost_by r l d epoch c (Overtaken i o) sound grows full x = reset_by r l d epoch c (Overtaken i o) sound grows full x
+
+pub reset_in_step : (r : ResetEntry) (l : Account) (d epoch : ℕ) (lost : Bool) (c : ControllerState) → IsSound l → Grows l r → length c.slots ≡ 32 → ControllerInStep l d c → ControllerInStep (after_reset r l) d (state_reset epoch lost c)
+reset_in_step r l d epoch true c sound grows full x = lost_by r l d epoch c c.current sound grows full x
+reset_in_step r l d epoch false c sound grows full x = reset_by r l d epoch c c.current sound grows full x

@@ -1,5 +1,5 @@
 -- The requests for whose answer controllers wait.
-use Rattle.std.proofs.Common.{◌≡◌, ◌≢◌, ℕ, None, refl, ap, ◌∙◌, arith}
+use Rattle.std.proofs.Common.{◌≡◌, ◌≢◌, ℕ, Bool, true, false, None, refl, ap, ◌∙◌, arith}
 use Rattle.std.proofs.lemmas.Bool.Decides.{nat_tests}
 use Rattle.fw_base.specs.declared.plug.PlugAt.{PlugAt}
 use Rattle.fw_base.specs.Tables.{update}
@@ -16,7 +16,7 @@ use Rattle.fw_cmp.specs.declared.outcome.Outcome.TheVariants.{Reset}
 use Rattle.fw_cmp.specs.declared.stage.Stage.{Stage}
 use Rattle.fw_cmp.specs.declared.stage.Stage.TheVariants.{Begin, Made, Ended}
 use Rattle.fw_cmp.specs.Controllers.{ControllerState, with_slot, IsHeard}
-use Rattle.fw_cmp.specs.Resets.{interrupted, decided, overtaken, after_reset as controller_reset}
+use Rattle.fw_cmp.specs.Resets.{interrupted, decided, overtaken, lost_reset, state_reset, after_reset as controller_reset}
 use Rattle.fw_step.specs.Requests.{outstanding_of}
 use Rattle.fw_step.specs.Together.{IsGiven, connection, break}
 use Rattle.fw_step.proofs.Carried.{IsCarried, still, moved}
@@ -85,11 +85,22 @@ hearing_reset dir epoch c j (Made f) = refl
 hearing_reset dir epoch c j (Ended e) = decided_quiet dir (record c { current = Hearing j (Ended e) }) j refl
 hearing_reset dir epoch c j s = interrupted_quiet dir epoch (record c { current = Hearing j s }) j
 
-pub reset_outstanding : (dir : Directory) (epoch : ℕ) (c : ControllerState) (current : Current) → outstanding_of dir (controller_reset epoch (record c { current = current })).current ≡ None
-reset_outstanding dir epoch c Nothing = refl
-reset_outstanding dir epoch c (Asking j s) = asking_reset dir epoch c j s
-reset_outstanding dir epoch c (Hearing j s) = hearing_reset dir epoch c j s
-reset_outstanding dir epoch c (Overtaken i o) = refl
+current_outstanding : (dir : Directory) (epoch : ℕ) (c : ControllerState) (current : Current) → outstanding_of dir (controller_reset epoch (record c { current = current })).current ≡ None
+current_outstanding dir epoch c Nothing = refl
+current_outstanding dir epoch c (Asking j s) = asking_reset dir epoch c j s
+current_outstanding dir epoch c (Hearing j s) = hearing_reset dir epoch c j s
+current_outstanding dir epoch c (Overtaken i o) = refl
+
+-- the same where the response to its request was lost
+lost_outstanding : (dir : Directory) (epoch : ℕ) (c : ControllerState) (current : Current) → outstanding_of dir (lost_reset epoch (record c { current = current }) current).current ≡ None
+lost_outstanding dir epoch c Nothing = refl
+lost_outstanding dir epoch c (Asking j s) = interrupted_quiet dir epoch (record c { current = Asking j s }) j
+lost_outstanding dir epoch c (Hearing j s) = interrupted_quiet dir epoch (record c { current = Hearing j s }) j
+lost_outstanding dir epoch c (Overtaken i o) = refl
+
+pub reset_outstanding : (dir : Directory) (epoch : ℕ) (lost : Bool) (c : ControllerState) → outstanding_of dir (state_reset epoch lost c).current ≡ None
+reset_outstanding dir epoch true c = lost_outstanding dir epoch c c.current
+reset_outstanding dir epoch false c = current_outstanding dir epoch c c.current
 
 -- ---- a job that is given
 

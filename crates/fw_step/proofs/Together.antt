@@ -35,10 +35,10 @@ use Rattle.fw_cmp.specs.Connections.{output_of}
 use Rattle.fw_cmp.specs.declared.request.Target.TheVariants.{OutputPlug, InputPlug, Channels, BandwidthAvailable}
 use Rattle.fw_cmp.specs.Controllers.{ControllerState, first_state, slot_at, Fits}
 use Rattle.fw_cmp.proofs.Fitting.{first_fits}
-use Rattle.fw_cmp.proofs.Overtaken.{reset_fits, second_fits}
+use Rattle.fw_cmp.proofs.Overtaken.{state_reset_fits, second_fits}
 use Rattle.fw_cmp.specs.Holdings.{is_current_slot, CanGoOn}
 use Rattle.fw_cmp.specs.Requests.{target_of}
-use Rattle.fw_cmp.specs.Resets.{after_hear, after_reset as controller_reset}
+use Rattle.fw_cmp.specs.Resets.{after_hear, state_reset as controller_reset}
 use Rattle.fw_step.specs.Holding.{no_holding, connections_of, Holds, Keeps, Leaves}
 use Rattle.fw_step.specs.Registers.{register_at, stands, IsAnswer}
 use Rattle.fw_step.specs.Moves.{carried_out}
@@ -49,7 +49,7 @@ use Rattle.fw_step.proofs.Events.{asked_keeps, asked_leaves, ended_keeps, ended_
 use Rattle.fw_step.proofs.Fits.{next_fits, heard_fits}
 use Rattle.fw_step.proofs.Goes.{keeps_self}
 use Rattle.fw_step.specs.Requests.{outstanding_of}
-use Rattle.fw_cmp.proofs.GoingOn.{next_goes_on, hear_goes_on, second_goes_on, reset_goes_on, first_goes_on}
+use Rattle.fw_cmp.proofs.GoingOn.{next_goes_on, hear_goes_on, second_goes_on, state_reset_goes_on, first_goes_on}
 use Rattle.fw_step.proofs.Given.{given_fits, given_in_step, given_goes_on}
 use Rattle.fw_step.proofs.Standing.{update_here, update_there, carried_outstanding, heard_none, reset_outstanding, given_current}
 use Rattle.fw_cmp.specs.declared.directory.Directory.{Directory}
@@ -120,14 +120,14 @@ leaves_self : (k : ℕ) (l : Account) → Leaves k l l
 leaves_self k l = record { holding = λ h has. has; addressed = refl }
 
 -- a reset, with which another directory may come
-reset_together : (dir new : Directory) (l m : Account) (before after : ℕ → ControllerState) → AreInStep dir l before → (r : ResetEntry) (epoch : ℕ) → IsNetwork r → KeepsPlugs l r → m ≡ after_reset r l → ((d : ℕ) → after d ≡ controller_reset epoch (before d)) → AreInStep new m after
-reset_together dir new l m before after x r epoch network grows is each =
+reset_together : (dir new : Directory) (l m : Account) (before after : ℕ → ControllerState) → AreInStep dir l before → (r : ResetEntry) (epoch : ℕ) (lost : ℕ → Bool) → IsNetwork r → KeepsPlugs l r → m ≡ after_reset r l → ((d : ℕ) → after d ≡ controller_reset epoch (lost d) (before d)) → AreInStep new m after
+reset_together dir new l m before after x r epoch lost network grows is each =
     subst (λ y. AreInStep new y after) (sym is) (record {
       sound = reset_keeps r l network x.sound;
-      fits = λ d. subst Fits (sym (each d)) (reset_fits epoch (before d) (x.fits d));
-      each = λ d. subst (ControllerInStep (after_reset r l) d) (sym (each d)) (reset_in_step r l d epoch (before d) x.sound grows (x.fits d).slots (x.each d));
-      goes_on = λ d. subst (CanGoOn new) (sym (each d)) (reset_goes_on new epoch (before d));
-      requests = λ d. sym (ap (λ (y : ControllerState). outstanding_of new y.current) (each d) ∙ reset_outstanding new epoch (before d) (before d).current);
+      fits = λ d. subst Fits (sym (each d)) (state_reset_fits epoch (lost d) (before d) (x.fits d));
+      each = λ d. subst (ControllerInStep (after_reset r l) d) (sym (each d)) (reset_in_step r l d epoch (lost d) (before d) x.sound grows (x.fits d).slots (x.each d));
+      goes_on = λ d. subst (CanGoOn new) (sym (each d)) (state_reset_goes_on new epoch (lost d) (before d));
+      requests = λ d. sym (ap (λ (y : ControllerState). outstanding_of new y.current) (each d) ∙ reset_outstanding new epoch (lost d) (before d));
     })
 
 -- each thing that leaves the directory
@@ -156,7 +156,7 @@ happens_by dir l m before after n x (second is each same) =
 happens_by dir l m before after n x (dies d is b same) =
     subst (λ y. AreInStep dir y after) (sym is) (turn_of dir l (after_death d l) before after d first_state x (death_sound d l x.sound) (death_keeps d l) (λ k ne. death_leaves d k l ne) (λ y. y) b first_fits (first_in_step (after_death d l) d (dead_holds d l))
     (first_goes_on dir) (update_here l.outstanding d None) (λ k ne. update_there l.outstanding d k None ne))
-happens_by dir l m before after n x (resets r epoch network grows is each) = reset_together dir dir l m before after x r epoch network grows is each
+happens_by dir l m before after n x (resets r epoch lost network grows is each) = reset_together dir dir l m before after x r epoch lost network grows is each
 
 pub stay_in_step : (dir new : Directory) (l m : Account) (before after : ℕ → ControllerState) → AreInStep dir l before → Happens dir new l before m after → AreInStep new m after
 stay_in_step dir new l m before after x (asks d now request told heard out is b same) = subst (λ y. AreInStep y m after) (sym same) (happens_by dir l m before after d x (asks d now request told heard out is b refl))
@@ -165,7 +165,7 @@ stay_in_step dir new l m before after x (hears d j s t r lt e f a is b same) = s
 stay_in_step dir new l m before after x (given d c is e b same) = subst (λ y. AreInStep y m after) (sym same) (happens_by dir l m before after d x (given d c is e b refl))
 stay_in_step dir new l m before after x (second is each same) = subst (λ y. AreInStep y m after) (sym same) (happens_by dir l m before after 0 x (second is each refl))
 stay_in_step dir new l m before after x (dies d is b same) = subst (λ y. AreInStep y m after) (sym same) (happens_by dir l m before after d x (dies d is b refl))
-stay_in_step dir new l m before after x (resets r epoch network grows is each) = reset_together dir new l m before after x r epoch network grows is each
+stay_in_step dir new l m before after x (resets r epoch lost network grows is each) = reset_together dir new l m before after x r epoch lost network grows is each
 
 -- ---- what each controller has
 

@@ -1,5 +1,5 @@
 -- All controllers of a bus in step with one account, and what may happen to them.
-use Rattle.std.specs.Prelude.{ℕ, ◌≡◌, ◌≢◌, ◌<◌, Some, None, Ok, [], IsTrue, IsFalse}
+use Rattle.std.specs.Prelude.{ℕ, ◌≡◌, ◌≢◌, ◌<◌, Bool, Some, None, Ok, [], IsTrue, IsFalse}
 use Rattle.fw_base.specs.declared.plug.PlugAt.{PlugAt}
 use Rattle.fw_csr.specs.declared.reply.Reply.{Reply}
 use Rattle.fw_entry.specs.declared.entry.ResetEntry.{ResetEntry}
@@ -22,7 +22,7 @@ use Rattle.fw_cmp.specs.Controllers.{ControllerState, first_state, slot_at, is_r
 use Rattle.fw_cmp.specs.Fits.{SlotFits}
 use Rattle.fw_cmp.specs.Starts.{IsMaking, start, started, break_fault, break_started}
 use Rattle.fw_cmp.specs.Requests.{target_of}
-use Rattle.fw_cmp.specs.Resets.{after_hear, after_reset as controller_reset, after_second as second_over}
+use Rattle.fw_cmp.specs.Resets.{after_hear, state_reset as controller_reset, after_second as second_over}
 use Rattle.fw_cmp.specs.Turns.{after_next}
 use Rattle.fw_step.specs.Holding.{connections_of}
 use Rattle.fw_step.specs.InStep.{IsFlow}
@@ -59,13 +59,14 @@ pub data IsGiven (before after : ControllerState) : Type 0 where
 
 -- What happens: half steps of one controller (its request goes out, it hears the answer, or it ends its job or does
 -- nothing), a job that is given to one, a bus reset, the end of the reclaim second, and a controller's death. A new
--- directory comes with a bus reset alone.
+-- directory comes with a bus reset alone. A controller that lost a response stands here as one that heard it, and the bus reset
+-- says of which that is so: their jobs count as ones whose answer was not heard.
 pub data Happens (dir new : Directory) (l : Account) (before : ℕ → ControllerState) (m : Account) (after : ℕ → ControllerState) : Type 0 where
   asks : (d now : ℕ) (request : Request) → IsDirectory l now dir → IsHeard (before d).current → outstanding_of dir (after_next now dir (before d)).current ≡ Some request → m ≡ asked d request l → Becomes before d (after_next now dir (before d)) after → new ≡ dir → Happens dir new l before m after
   rests : (d now : ℕ) → IsDirectory l now dir → IsHeard (before d).current → outstanding_of dir (after_next now dir (before d)).current ≡ None → m ≡ l → Becomes before d (after_next now dir (before d)) after → new ≡ dir → Happens dir new l before m after
   hears : (d : ℕ) (j : Job) (s : Stage) (t : Target) (r : Reply) → d < 63 → (before d).current ≡ Hearing j s → target_of j s ≡ Some t → IsAnswer l t r → m ≡ ended d (carried_out d j s r l) → Becomes before d (after_hear (before d) r) after → new ≡ dir → Happens dir new l before m after
   given : (d : ℕ) (c : ControllerState) → IsGiven (before d) c → m ≡ l → Becomes before d c after → new ≡ dir → Happens dir new l before m after
-  resets : (r : ResetEntry) (epoch : ℕ) → IsNetwork r → KeepsPlugs l r → m ≡ after_reset r l → ((d : ℕ) → after d ≡ controller_reset epoch (before d)) → Happens dir new l before m after
+  resets : (r : ResetEntry) (epoch : ℕ) (lost : ℕ → Bool) → IsNetwork r → KeepsPlugs l r → m ≡ after_reset r l → ((d : ℕ) → after d ≡ controller_reset epoch (lost d) (before d)) → Happens dir new l before m after
   second : m ≡ after_second l → ((d : ℕ) → after d ≡ second_over (before d)) → new ≡ dir → Happens dir new l before m after
   dies : (d : ℕ) → m ≡ after_death d l → Becomes before d first_state after → new ≡ dir → Happens dir new l before m after
 

@@ -19,6 +19,3 @@ pub use row::TapeRow;
 pub use system::TapeSystem;
 pub use tape::Tape;
 pub use transport::Transport;
-
-#[cfg(test)]
-mod tests;

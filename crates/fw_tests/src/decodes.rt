@@ -1,8 +1,8 @@
 //! How far a damaged log is read.
 
 use crate::calls::{NONE, call_over, read_on};
-use crate::vectors::ONE_DECK;
 use fw_outside::MemSource;
+use fw_vectors::ONE_DECK;
 use std::test::Fail;
 
 #[test]

@@ -4,9 +4,8 @@
 //! were written before it.
 
 use crate::calls::{Ended, Failing, NONE, call, call_in_drops, front};
-use crate::vectors::{
-    ONE_DECK, ONE_DECK_LINES, ORDINARY_SESSION, OVERLAY_AND_TWO_BREAKS, SECOND_RESET_IN_THE_SECOND,
-    Vector,
+use fw_vectors::{
+    ONE_DECK, ORDINARY_SESSION, OVERLAY_AND_TWO_BREAKS, SECOND_RESET_IN_THE_SECOND, Vector,
 };
 use std::alloc::{AllocError, Global};
 use std::test::Fail;
@@ -30,7 +29,7 @@ const SESSIONS: &[(Vector, &[usize])] = &[
     ),
 ];
 
-// The ends of a log's header and of each of its entries, whose heads have 12 bytes, with the length of the body in quadlets.
+// The ends of a log's header and of each of its entries, whose heads have 16 bytes, with the length of the body in quadlets.
 fn ends_of_entries(alloc: Global, log: &[u8]) -> Result<Vec<usize>, AllocError> {
     let mut ends = Vec::new(alloc);
     let mut end: usize = 16;
@@ -40,7 +39,7 @@ fn ends_of_entries(alloc: Global, log: &[u8]) -> Result<Vec<usize>, AllocError> 
             break;
         };
         let quadlets = usize::from(*high) * 256 + usize::from(*low);
-        end = end.saturating_add(12 + 4 * quadlets);
+        end = end.saturating_add(16 + 4 * quadlets);
     }
     Ok(ends)
 }
@@ -120,7 +119,7 @@ fn each_write_of_a_run_fails_in_turn(rt: HostRuntime) -> Result<(), Fail> {
 fn each_read_and_each_write_of_a_decoding_fails_in_turn(rt: HostRuntime) -> Result<(), Fail> {
     let alloc = rt.alloc();
     let log = hex::decode(alloc, ONE_DECK.log)?;
-    let text = ONE_DECK_LINES.as_bytes();
+    let text = ONE_DECK.text.as_bytes();
     let ends = ends_of_entries(alloc, &log)?;
     let lines = ends_of_lines(alloc, text)?;
     assert_eq!(rt; ends.len(), lines.len());

@@ -12,6 +12,8 @@ mod faults;
 #[cfg(test)]
 mod halts;
 #[cfg(test)]
+mod losses;
+#[cfg(test)]
 mod nodes;
 #[cfg(test)]
 mod program;
@@ -23,5 +25,3 @@ mod runs;
 mod seeds;
 #[cfg(test)]
 mod streams;
-#[cfg(test)]
-mod vectors;

@@ -1,20 +1,26 @@
 //! How the program ends: its status, and what its standard error gets.
 
 use crate::calls::{NONE, call};
-use crate::vectors::{ONE_DECK, SKIPPED_LINES};
 use fw_outside::{Failed, MemSink};
 use fw_tool::close;
+use fw_vectors::{ONE_DECK, SKIPPED_LINES};
 use std::test::Fail;
 
 #[test]
 fn words_that_are_no_form_read_and_write_nothing(rt: HostRuntime) -> Result<(), Fail> {
     let alloc = rt.alloc();
-    let cases: [&[&str]; 5] = [
+    let cases: [&[&str]; 11] = [
         &[],
         &["run", "x"],
         &["walk"],
         &["run "],
         &["decode", "decode"],
+        &["convert"],
+        &["convert", "3"],
+        &["convert", "1", "2"],
+        &["explain", "x"],
+        &["map", "png"],
+        &["gen", "007"],
     ];
     for words in cases {
         let ended = call(alloc, words, ONE_DECK.script.as_bytes(), NONE)?;

@@ -1,37 +1,25 @@
 //! Scripts that are run into memory, and scripts that are refused.
 
-use crate::calls::{Failing, NONE, call, call_over, front, read_on};
-use crate::vectors::{
-    FIVE_HALF_STEPS, NO_PLUG, ONE_DECK, SKIPPED_LINES, SWAP_AND_READ, VECTORS, Vector,
-};
+use crate::calls::{Failing, NONE, call, call_over, call_with_room, front, read_on};
 use fw_outside::MemSource;
+use fw_vectors::{ONE_DECK, SWAP_AND_READ, VECTORS, Vector};
 use std::alloc::{AllocError, Global};
 use std::test::Fail;
 
 #[test]
-fn scripts_give_their_logs(rt: HostRuntime) -> Result<(), Fail> {
-    let alloc = rt.alloc();
-    for vector in [
-        ONE_DECK,
-        FIVE_HALF_STEPS,
-        SKIPPED_LINES,
-        SWAP_AND_READ,
-        NO_PLUG,
-    ] {
-        let log = hex::decode(alloc, vector.log)?;
-        let ended = call(alloc, &["run"], vector.script.as_bytes(), NONE)?;
-        assert!(rt; ended.is(0, "", &log), "{}", vector.script);
-    }
-    Ok(())
-}
-
-#[test]
-fn scripts_of_controllers_give_their_logs(rt: HostRuntime) -> Result<(), Fail> {
+fn scripts_give_their_logs_and_these_their_text(rt: HostRuntime) -> Result<(), Fail> {
     let alloc = rt.alloc();
     for vector in VECTORS {
         let log = hex::decode(alloc, vector.log)?;
         let ended = call(alloc, &["run"], vector.script.as_bytes(), NONE)?;
         assert!(rt; ended.is(0, "", &log), "{}", vector.script);
+        let mut source = MemSource::new(log, Vec::new(alloc));
+        let lines = call_with_room(alloc, &["decode"], &mut source, NONE, 40_000)?;
+        assert!(rt;
+            lines.is(0, "", vector.text.as_bytes()),
+            "{}",
+            vector.script
+        );
     }
     Ok(())
 }
@@ -80,51 +68,56 @@ const REFUSED: &[(Pieces, &str, Option<(Vector, usize)>)] = &[
         "line 1: NoRegister\n",
         Some((ONE_DECK, 16)),
     ),
-    ((DECK, "", 0, ""), "line 2: NoEnd\n", Some((ONE_DECK, 48))),
+    ((DECK, "", 0, ""), "line 2: NoEnd\n", Some((ONE_DECK, 52))),
     (
         (DECK, "", 0, DECK),
         "line 2: NameTaken\n",
-        Some((ONE_DECK, 48)),
+        Some((ONE_DECK, 52)),
     ),
     (
         (DECK, "", 0, "broadcast a b.0 0\n"),
         "line 2: UnknownName\n",
-        Some((ONE_DECK, 48)),
+        Some((ONE_DECK, 52)),
     ),
     (
         (DECK, "", 0, "broadcast d d.0 0\nstep d 13\nend\nend\n"),
         "line 5: BadLine\n",
-        Some((ONE_DECK, 428)),
+        Some((ONE_DECK, 484)),
     ),
     (
         (PAIR, "", 0, "cable a.0 b.0\n"),
         "line 4: PortUsed\n",
-        Some((SWAP_AND_READ, 92)),
+        Some((SWAP_AND_READ, 100)),
     ),
     (
         (BUS, "", 0, "swap a b 220 00001333 00000000\n"),
         "line 5: Guarded\n",
-        Some((SWAP_AND_READ, 108)),
+        Some((SWAP_AND_READ, 120)),
     ),
     (
         (BUS, "", 0, "broadcast a b.0 0\n"),
         "line 5: NotOwnPlug\n",
-        Some((SWAP_AND_READ, 108)),
+        Some((SWAP_AND_READ, 120)),
     ),
     (
         (BUS, "", 0, "listen a b.0\n"),
         "line 5: NotOwnPlug\n",
-        Some((SWAP_AND_READ, 108)),
+        Some((SWAP_AND_READ, 120)),
     ),
     (
         (BUS, "", 0, "break a 0\n"),
         "line 5: NoSuchConnection\n",
-        Some((SWAP_AND_READ, 108)),
+        Some((SWAP_AND_READ, 120)),
+    ),
+    (
+        (BUS, "", 0, "lose a\n"),
+        "line 5: NothingStands\n",
+        Some((SWAP_AND_READ, 120)),
     ),
     (
         (BUS, "", 0, "read a c 220\n"),
         "line 5: UnknownName\n",
-        Some((SWAP_AND_READ, 108)),
+        Some((SWAP_AND_READ, 120)),
     ),
     ((TRIANGLE, "", 0, "cable r.1 p.1\n"), "line 6: Loop\n", None),
     (
@@ -214,7 +207,7 @@ const AT_LIMITS: &[(Pieces, u32, u8, &str, usize, usize)] = &[
         1904,
     ),
     // The first line is carried out before the second read, which fails.
-    ((DECK, "#\n", 3000, "end\n"), 2, 5, "read fault\n", 48, 0),
+    ((DECK, "#\n", 3000, "end\n"), 2, 5, "read fault\n", 52, 0),
 ];
 
 #[test]

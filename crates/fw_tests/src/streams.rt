@@ -1,8 +1,8 @@
 //! Written cycles: what `dv` reports of them, and how many may be written.
 
 use crate::calls::{NONE, call, call_with_room};
-use crate::vectors::{ORDINARY_SESSION, ORDINARY_SESSION_625};
 use fw_outside::MemSource;
+use fw_vectors::{ORDINARY_SESSION, ORDINARY_SESSION_625};
 use std::test::Fail;
 
 #[test]

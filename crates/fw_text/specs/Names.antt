@@ -18,7 +18,8 @@ packet_name (LockReply h rcode function bytes) = codes "lock-reply"
 
 -- the names of the event codes from 1 on
 abbrev pub event_names : List (List ℕ)
-event_names = codes "second-over" ∷ codes "died" ∷ codes "started" ∷ codes "inserted" ∷ codes "ejected" ∷ codes "unsettled" ∷ []
+event_names = codes "second-over" ∷ codes "died" ∷ codes "started" ∷ codes "inserted" ∷ codes "ejected" ∷ codes "unsettled"
+    ∷ codes "lost" ∷ codes "withheld" ∷ codes "elected" ∷ codes "defeated" ∷ codes "dubbing" ∷ []
 
 -- the name of an event code
 abbrev pub event_name : ℕ → List ℕ

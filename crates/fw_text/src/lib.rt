@@ -22,10 +22,9 @@ mod pairs;
 mod quadlets;
 mod report;
 mod room;
-#[cfg(test)]
-mod tests;
 mod text;
 
+pub use quadlets::quadlet_word;
 pub use report::StreamReport;
 pub use room::{LineRoom, put_entry, put_entry_from};
 pub use text::entry_text;

@@ -27,7 +27,7 @@ pub(crate) fn packet_name(p: &Packet) -> &'static str
 // The name of an event's code.
 pub(crate) fn event_name(code: u8) -> &'static str
     requires low { 1 ≤ code }
-    requires high { code ≤ 6 }
+    requires high { code ≤ 11 }
     ensures { result.now ≡ event_name code }
 {
     match code {
@@ -36,7 +36,12 @@ pub(crate) fn event_name(code: u8) -> &'static str
         event::STARTED => "started",
         event::INSERTED => "inserted",
         event::EJECTED => "ejected",
-        _ => "unsettled",
+        event::UNSETTLED => "unsettled",
+        event::LOST => "lost",
+        event::WITHHELD => "withheld",
+        event::ELECTED => "elected",
+        event::DEFEATED => "defeated",
+        _ => "dubbing",
     }
 }
 

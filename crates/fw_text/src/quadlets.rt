@@ -38,6 +38,13 @@ fn word_of(pairs: &Pairs, q: u32) -> [u8; 9]
     [b' ', a, b, c, d, e, f, g, h]
 }
 
+/// A space, and the eight lower-case hexadecimal digits of a quadlet.
+pub fn quadlet_word(q: u32) -> [u8; 9]
+    ensures { result ≡ quadlet_text q }
+{
+    word_of(&Pairs::new(), q)
+}
+
 // Appends a space and the quadlet.
 pub(crate) fn put_quadlet(text: &mut Vec<u8>, pairs: &Pairs, q: u32) -> Result<(), AllocError>
     ensures { OnOk result (text.new.items ≡ text.old.items ++ quadlet_text q) }

@@ -1,8 +1,12 @@
 -- Where nothing is refused and nothing fails, all is done.
-use Rattle.std.proofs.Common.{◌≡◌, ◌≢◌, ◌⊎◌, inl, inr, ℕ, List, Option, refl, subst}
-use Rattle.fw_decode.specs.Decode.{IsNoRefusal as IsNoLogRefusal, ReadCount as LogReadCount, WriteCount as LogWriteCount}
-use Rattle.fw_decode.specs.declared.ending.LogEnding.{LogEnding}
-use Rattle.fw_decode.specs.declared.ending.LogEnding.TheVariants as LogEndings
+use Rattle.std.proofs.Common.{◌≡◌, ◌≢◌, ◌⊎◌, inl, inr, ℕ, List, Option, refl, sym, subst}
+use Rattle.fw_outside.specs.Stops.{ReadCount as StopReadCount, WriteCount as StopWriteCount}
+use Rattle.fw_outside.specs.declared.stop.Stop.TheVariants.{ReadFault, WriteFault, TooLong, NoMemory}
+use Rattle.fw_reading.specs.Endings.{stop_of, IsNoRefusal as IsNoLogRefusal}
+use Rattle.fw_reading.specs.declared.ending.LogEnding.{LogEnding}
+use Rattle.fw_reading.specs.declared.ending.LogEnding.TheVariants as LogEndings
+use Rattle.fw_decode.specs.declared.refusal.LogRefusal.{LogRefusal}
+use Rattle.fw_decode.specs.declared.refusal.LogRefusal.TheVariants as Refusals
 use Rattle.fw_run.specs.Desks.{DeskRelations}
 use Rattle.fw_simulate.specs.Counts.{ReadCount, WriteCount}
 use Rattle.fw_simulate.specs.Scripts.{IsNoRefusal}
@@ -10,18 +14,14 @@ use Rattle.fw_simulate.specs.Sums.{Sums}
 use Rattle.fw_simulate.specs.declared.ending.RunEnding.{RunEnding}
 use Rattle.fw_simulate.specs.declared.ending.RunEnding.TheVariants as RunEndings
 use Rattle.fw_tool.specs.declared.ending.Ending.{Ending}
-use Rattle.fw_tool.specs.declared.ending.Ending.TheVariants.{ReadFault, WriteFault}
+use Rattle.fw_tool.specs.declared.ending.Ending.TheVariants.{Stopped}
 use Rattle.fw_tool.specs.Faults.{FirstFault}
 use Rattle.fw_tool.specs.Logs.{by_log}
 use Rattle.fw_tool.specs.Runs.{by_run}
-use Rattle.fw_tool.specs.Notes.{status_of}
-
--- the status is that of an ending that is done, or of want of memory
-abbrev pub IsDoneOrUnmet : Ending → Type 0
-IsDoneOrUnmet e = (status_of e ≡ 0) ⊎ (status_of e ≡ 8)
+use Rattle.fw_tool.specs.Completing.{IsDoneOrUnmet}
 
 -- a script that is not refused, where nothing fails
-pub run_completes : (e : RunEnding) → IsNoRefusal e → by_run e ≢ ReadFault → by_run e ≢ WriteFault → IsDoneOrUnmet (by_run e)
+pub run_completes : (e : RunEnding) → IsNoRefusal e → by_run e ≢ Stopped ReadFault → by_run e ≢ Stopped WriteFault → IsDoneOrUnmet (by_run e)
 run_completes RunEndings.Done n r w = inl refl
 run_completes (RunEndings.Refused f) n r w = absurd n
 run_completes RunEndings.ReadFault n r w = absurd (r refl)
@@ -51,7 +51,7 @@ first_of_seed D seed held held' read written written' RunEndings.NoMemory d w = 
 pub seed_same : (D : DeskRelations) (held held' : Option (List ℕ)) (e : RunEnding) (n m : ℕ) → n ≡ m → Sums D n held held' e → Sums D m held held' e
 seed_same D held held' e n m same d = subst (λ (k : ℕ). Sums D k held held' e) same d
 
-never_read : (D : DeskRelations) (seed : ℕ) (held held' : Option (List ℕ)) (e : RunEnding) → Sums D seed held held' e → by_run e ≢ ReadFault
+never_read : (D : DeskRelations) (seed : ℕ) (held held' : Option (List ℕ)) (e : RunEnding) → Sums D seed held held' e → by_run e ≢ Stopped ReadFault
 never_read D seed held held' RunEndings.Done d is = cc
 never_read D seed held held' (RunEndings.Refused f) d is = cc
 never_read D seed held held' RunEndings.ReadFault d is = d
@@ -59,23 +59,32 @@ never_read D seed held held' RunEndings.WriteFault d is = cc
 never_read D seed held held' RunEndings.TooLong d is = cc
 never_read D seed held held' RunEndings.NoMemory d is = cc
 
-pub seed_completes : (D : DeskRelations) (seed : ℕ) (held held' : Option (List ℕ)) (e : RunEnding) → Sums D seed held held' e → IsNoRefusal e → by_run e ≢ WriteFault → IsDoneOrUnmet (by_run e)
+pub seed_completes : (D : DeskRelations) (seed : ℕ) (held held' : Option (List ℕ)) (e : RunEnding) → Sums D seed held held' e → IsNoRefusal e → by_run e ≢ Stopped WriteFault → IsDoneOrUnmet (by_run e)
 seed_completes D seed held held' e d n w = run_completes e n (never_read D seed held held' e d) w
 
 -- a log that is not refused, where nothing fails
-pub log_completes : (e : LogEnding) → IsNoLogRefusal e → by_log e ≢ ReadFault → by_log e ≢ WriteFault → IsDoneOrUnmet (by_log e)
+pub log_completes : (e : LogEnding LogRefusal) → IsNoLogRefusal e → by_log e ≢ Stopped ReadFault → by_log e ≢ Stopped WriteFault → IsDoneOrUnmet (by_log e)
 log_completes LogEndings.Done n r w = inl refl
 log_completes (LogEndings.NoLog f) n r w = absurd n
-log_completes LogEndings.ReadFault n r w = absurd (r refl)
-log_completes LogEndings.WriteFault n r w = absurd (w refl)
-log_completes LogEndings.TooLong n r w = absurd n
-log_completes LogEndings.NoMemory n r w = inr refl
+log_completes (LogEndings.Refused (Refusals.Audit u)) n r w = absurd n
+log_completes (LogEndings.Refused (Refusals.Map m)) n r w = absurd n
+log_completes (LogEndings.Stopped ReadFault) n r w = absurd (r refl)
+log_completes (LogEndings.Stopped WriteFault) n r w = absurd (w refl)
+log_completes (LogEndings.Stopped TooLong) n r w = absurd n
+log_completes (LogEndings.Stopped NoMemory) n r w = inr refl
 
 -- the counts of a word that reads a log
-pub first_of_log : (read read' written written' : ℕ) (e : LogEnding) → LogReadCount read read' e → LogWriteCount written written' e → FirstFault read read' written written' (by_log e)
+pub first_of_log : (read read' written written' : ℕ) (e : LogEnding LogRefusal) → StopReadCount read read' (stop_of e) → StopWriteCount written written' (stop_of e) → FirstFault read read' written written' (by_log e)
 first_of_log read read' written written' LogEndings.Done r w = (r, w)
 first_of_log read read' written written' (LogEndings.NoLog f) r w = (r, w)
-first_of_log read read' written written' LogEndings.ReadFault r w = (r, w)
-first_of_log read read' written written' LogEndings.WriteFault r w = (r, w)
-first_of_log read read' written written' LogEndings.TooLong r w = (r, w)
-first_of_log read read' written written' LogEndings.NoMemory r w = (r, w)
+first_of_log read read' written written' (LogEndings.Refused (Refusals.Audit u)) r w = (r, w)
+first_of_log read read' written written' (LogEndings.Refused (Refusals.Map m)) r w = (r, w)
+first_of_log read read' written written' (LogEndings.Stopped s) r w = (r, w)
+
+-- ---- of the ending that was answered
+
+pub done_or_unmet : {ending came : Ending} → ending ≡ came → (came ≢ Stopped ReadFault → came ≢ Stopped WriteFault → IsDoneOrUnmet came) → ending ≢ Stopped ReadFault → ending ≢ Stopped WriteFault → IsDoneOrUnmet ending
+done_or_unmet {ending} {came} is done = let P : Ending → Type 0 = λ e. e ≢ Stopped ReadFault → e ≢ Stopped WriteFault → IsDoneOrUnmet e in subst P (sym is) done
+
+pub done_unwritten : {ending came : Ending} → ending ≡ came → (came ≢ Stopped WriteFault → IsDoneOrUnmet came) → ending ≢ Stopped WriteFault → IsDoneOrUnmet ending
+done_unwritten {ending} {came} is done = let P : Ending → Type 0 = λ e. e ≢ Stopped WriteFault → IsDoneOrUnmet e in subst P (sym is) done

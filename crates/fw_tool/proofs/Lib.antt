@@ -1,3 +1,5 @@
 pub mod Tellings
 pub mod Completions
 pub mod WordLaws
+pub mod Servings
+pub mod Doings

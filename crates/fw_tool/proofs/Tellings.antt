@@ -2,10 +2,11 @@
 use Rattle.std.proofs.Common.{◌≡◌, ◌≢◌, ◌⊎◌, inl, inr, ℕ, List, Option, ap, sym, subst, ◌∙◌, arith}
 use Rattle.fw_outside.specs.Outside.{Rose}
 use Rattle.fw_tool.specs.declared.ending.Ending.{Ending}
-use Rattle.fw_tool.specs.declared.ending.Ending.TheVariants.{Done, Usage, Refused, NoLog, ReadFault, WriteFault, TooLong, NoMemory}
+use Rattle.fw_outside.specs.declared.stop.Stop.TheVariants.{ReadFault, WriteFault, TooLong, NoMemory}
+use Rattle.fw_tool.specs.declared.ending.Ending.TheVariants.{Done, Usage, Refused, NoLog, Stopped, Unsound, NoMap}
 use Rattle.fw_tool.specs.Faults.{FirstFault, IsFirstFaults}
 use Rattle.fw_tool.specs.Notes.{IsTold, IsPassedOn, note_of, status_of}
-use Rattle.fw_tool.proofs.Completions.{IsDoneOrUnmet}
+use Rattle.fw_tool.specs.Completing.{IsDoneOrUnmet}
 
 module _ {N : Type 0} (held : N → Option (List ℕ)) (faults : N → ℕ) (old new : N) (status read read' written written' : ℕ) where
   abbrev First : Type 0
@@ -36,34 +37,36 @@ module _ {N : Type 0} (held : N → Option (List ℕ)) (faults : N → ℕ) (old
   first_by_status Usage f t = no_fault (note_of Usage) 2 (λ x. cc x) (λ x. cc x) f t
   first_by_status (Refused r) f t = no_fault (note_of (Refused r)) 3 (λ x. cc x) (λ x. cc x) f t
   first_by_status (NoLog l) f t = no_fault (note_of (NoLog l)) 4 (λ x. cc x) (λ x. cc x) f t
-  first_by_status TooLong f t = no_fault (note_of TooLong) 7 (λ x. cc x) (λ x. cc x) f t
-  first_by_status NoMemory f t = no_fault (note_of NoMemory) 8 (λ x. cc x) (λ x. cc x) f t
-  first_by_status ReadFault f (inl a) = record {
+  first_by_status (Unsound u) f t = no_fault (note_of (Unsound u)) 9 (λ x. cc x) (λ x. cc x) f t
+  first_by_status (NoMap m) f t = no_fault (note_of (NoMap m)) 10 (λ x. cc x) (λ x. cc x) f t
+  first_by_status (Stopped TooLong) f t = no_fault (note_of (Stopped TooLong)) 7 (λ x. cc x) (λ x. cc x) f t
+  first_by_status (Stopped NoMemory) f t = no_fault (note_of (Stopped NoMemory)) 8 (λ x. cc x) (λ x. cc x) f t
+  first_by_status (Stopped ReadFault) f (inl a) = record {
     no_fault = λ p q. absurd (p a.0);
     read_fault = λ s. (f.0, f.1, a.2);
     write_fault = λ s. absurd (omega (arith, a.0, s));
   }
-  first_by_status ReadFault f (inr a) = record {
+  first_by_status (Stopped ReadFault) f (inr a) = record {
     no_fault = λ p q. absurd (q a.0);
     read_fault = λ s. absurd (omega (arith, a.0, s));
     write_fault = λ s. inr (a.2, inr f.1);
   }
-  first_by_status WriteFault f (inl a) = record {
+  first_by_status (Stopped WriteFault) f (inl a) = record {
     no_fault = λ p q. absurd (q a.0);
     read_fault = λ s. absurd (omega (arith, a.0, s));
     write_fault = λ s. inl (f.0, f.1, a.2);
   }
-  first_by_status WriteFault f (inr a) = record {
+  first_by_status (Stopped WriteFault) f (inr a) = record {
     no_fault = λ p q. absurd (q a.0);
     read_fault = λ s. absurd (omega (arith, a.0, s));
     write_fault = λ s. inr (a.2, inl f.0);
   }
 
   -- where the source's count did not rise no read failed
-  unread : (e : Ending) → FirstFault read read' written written' e → (Rose read read' → ⊥) → e ≢ ReadFault
+  unread : (e : Ending) → FirstFault read read' written written' e → (Rose read read' → ⊥) → e ≢ Stopped ReadFault
   unread e f none is = let R : Ending → Type 0 = FirstFault read read' written written' in none (subst R is f).0
 
-  unwritten : (e : Ending) → FirstFault read read' written written' e → (Rose written written' → ⊥) → e ≢ WriteFault
+  unwritten : (e : Ending) → FirstFault read read' written written' e → (Rose written written' → ⊥) → e ≢ Stopped WriteFault
   unwritten e f none is = let R : Ending → Type 0 = FirstFault read read' written written' in none (subst R is f).1
 
   -- where the notes did not fail the status is the ending's
@@ -75,25 +78,29 @@ module _ {N : Type 0} (held : N → Option (List ℕ)) (faults : N → ℕ) (old
   its_own (Refused r) (inr a) none = absurd (none a.2)
   its_own (NoLog l) (inl a) none = a.0
   its_own (NoLog l) (inr a) none = absurd (none a.2)
-  its_own ReadFault (inl a) none = a.0
-  its_own ReadFault (inr a) none = absurd (none a.2)
-  its_own WriteFault (inl a) none = a.0
-  its_own WriteFault (inr a) none = absurd (none a.2)
-  its_own TooLong (inl a) none = a.0
-  its_own TooLong (inr a) none = absurd (none a.2)
-  its_own NoMemory (inl a) none = a.0
-  its_own NoMemory (inr a) none = absurd (none a.2)
+  its_own (Unsound u) (inl a) none = a.0
+  its_own (Unsound u) (inr a) none = absurd (none a.2)
+  its_own (NoMap m) (inl a) none = a.0
+  its_own (NoMap m) (inr a) none = absurd (none a.2)
+  its_own (Stopped ReadFault) (inl a) none = a.0
+  its_own (Stopped ReadFault) (inr a) none = absurd (none a.2)
+  its_own (Stopped WriteFault) (inl a) none = a.0
+  its_own (Stopped WriteFault) (inr a) none = absurd (none a.2)
+  its_own (Stopped TooLong) (inl a) none = a.0
+  its_own (Stopped TooLong) (inr a) none = absurd (none a.2)
+  its_own (Stopped NoMemory) (inl a) none = a.0
+  its_own (Stopped NoMemory) (inr a) none = absurd (none a.2)
 
   completes : (e : Ending) → IsDoneOrUnmet e → Told e → (Rose (faults old) (faults new) → ⊥) → (status ≡ 0) ⊎ (status ≡ 8)
   completes e (inl z) t none = inl (its_own e t none ∙ z)
   completes e (inr z) t none = inr (its_own e t none ∙ z)
 
   -- where no write failed, of a call that reads nothing
-  pub quiet_writes : (e : Ending) → FirstFault read read' written written' e → (e ≢ WriteFault → IsDoneOrUnmet e) → Told e
+  pub quiet_writes : (e : Ending) → FirstFault read read' written written' e → (e ≢ Stopped WriteFault → IsDoneOrUnmet e) → Told e
       → (Rose written written' → ⊥) → (Rose (faults old) (faults new) → ⊥) → (status ≡ 0) ⊎ (status ≡ 8)
   quiet_writes e f done t w n = completes e (done (unwritten e f w)) t n
 
   -- where no count rose
-  pub quiet_status : (e : Ending) → FirstFault read read' written written' e → (e ≢ ReadFault → e ≢ WriteFault → IsDoneOrUnmet e) → Told e
+  pub quiet_status : (e : Ending) → FirstFault read read' written written' e → (e ≢ Stopped ReadFault → e ≢ Stopped WriteFault → IsDoneOrUnmet e) → Told e
       → (Rose read read' → ⊥) → (Rose written written' → ⊥) → (Rose (faults old) (faults new) → ⊥) → (status ≡ 0) ⊎ (status ≡ 8)
   quiet_status e f done t r w n = completes e (done (unread e f r) (unwritten e f w)) t n

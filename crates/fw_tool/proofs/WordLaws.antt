@@ -1,26 +1,53 @@
--- No words have two forms.
+-- The words of the command line.
 use Rattle.std.specs.declared.alloc.Global.{Global}
-use Rattle.std.proofs.Common.{◌≡◌, ℕ, ◌<◌, ◌^◌, List, [], ◌∷◌, Result, Ok, arith, decimal}
-use Rattle.std.specs.Prelude.{String}
+use Rattle.std.proofs.Common.{◌≡◌, ◌≤◌, ◌<◌, ◌^◌, ℕ, length, String, List, [], ◌∷◌, None, Result, Ok, arith, decimal}
 use Rattle.std.proofs.lemmas.Fmt.{parse-decimal}
 use Rattle.std.specs.Str.Parse.{ParsesUnsigned}
-use Rattle.fw_tool.specs.Words.{IsRun, IsDecode, IsDv, IsGen}
-
-pub run_is_not_gen : (words : List (String Global)) (seed : ℕ) → IsRun words → IsGen words seed → ⊥
-run_is_not_gen [] seed a b = b
-run_is_not_gen (w ∷ []) seed a b = b
-run_is_not_gen (w ∷ v ∷ ws) seed a b = a
-
-pub decode_is_not_gen : (words : List (String Global)) (seed : ℕ) → IsDecode words → IsGen words seed → ⊥
-decode_is_not_gen [] seed a b = b
-decode_is_not_gen (w ∷ []) seed a b = b
-decode_is_not_gen (w ∷ v ∷ ws) seed a b = a
-
-pub dv_is_not_gen : (words : List (String Global)) (seed : ℕ) → IsDv words → IsGen words seed → ⊥
-dv_is_not_gen [] seed a b = b
-dv_is_not_gen (w ∷ []) seed a b = b
-dv_is_not_gen (w ∷ v ∷ ws) seed a b = a
+use Rattle.fw_entry.specs.declared.entry.Timed.{Timed}
+use Rattle.fw_entry.specs.declared.version.Version.TheVariants.{One, Two}
+use Rattle.fw_decode.specs.Words.{Accepts}
+use Rattle.fw_decode.specs.Verdicts.{IsSoundLog}
+use Rattle.fw_decode.specs.declared.word.LogWord.{LogWord}
+use Rattle.fw_decode.specs.declared.word.LogWord.TheVariants.{Decode, Explain, Json, Dv, Convert, Audit, Map, Graph}
+use Rattle.fw_tool.specs.Laws.{HasItsTree}
+use Rattle.fw_tool.specs.Words.{spelling, HasSeed, Names, texts}
+use Rattle.fw_tool.specs.declared.words.Word.{Word}
+use Rattle.fw_tool.specs.declared.words.Word.TheVariants.{Run, Gen, Log}
 
 -- the number that a decimal text is read as
 pub read_back : {E : Type 0} (n : ℕ) (text : List ℕ) (r : Result ℕ E) → n < 2 ^ 32 → text ≡ decimal n → ParsesUnsigned 32 10 text r → r ≡ Ok n
 read_back n text r small is parses = parse-decimal 32 n text r small (omega (arith, small)) is parses
+
+-- ---- words of no form
+
+pub names_none : (words : List (List ℕ)) → ((w : Word) → words ≡ spelling w → HasSeed w → ⊥) → Names words None
+names_none words none w = (λ e. cc e, λ h. absurd (none w h.0 h.1))
+
+-- no form has three words
+pub many_words : (words : List (String Global)) → 3 ≤ length words → (w : Word) → texts words ≡ spelling w → HasSeed w → ⊥
+many_words [] many w e h = omega (arith, many)
+many_words (a ∷ []) many w e h = omega (arith, many)
+many_words (a ∷ b ∷ []) many w e h = omega (arith, many)
+many_words (a ∷ b ∷ c ∷ more) many Run e h = cc e
+many_words (a ∷ b ∷ c ∷ more) many (Gen seed) e h = cc e
+many_words (a ∷ b ∷ c ∷ more) many (Log Decode) e h = cc e
+many_words (a ∷ b ∷ c ∷ more) many (Log Explain) e h = cc e
+many_words (a ∷ b ∷ c ∷ more) many (Log Json) e h = cc e
+many_words (a ∷ b ∷ c ∷ more) many (Log Dv) e h = cc e
+many_words (a ∷ b ∷ c ∷ more) many (Log (Convert One)) e h = cc e
+many_words (a ∷ b ∷ c ∷ more) many (Log (Convert Two)) e h = cc e
+many_words (a ∷ b ∷ c ∷ more) many (Log Audit) e h = cc e
+many_words (a ∷ b ∷ c ∷ more) many (Log Map) e h = cc e
+many_words (a ∷ b ∷ c ∷ more) many (Log Graph) e h = cc e
+
+-- ---- the logs of runs
+
+pub run_accepted : (word : LogWord) (entries : List Timed) → IsSoundLog entries → HasItsTree word entries → Accepts word entries
+run_accepted Decode entries sound tree = tt
+run_accepted Explain entries sound tree = tt
+run_accepted Json entries sound tree = tt
+run_accepted Dv entries sound tree = tt
+run_accepted (Convert v) entries sound tree = tt
+run_accepted Audit entries sound tree = sound
+run_accepted Map entries sound tree = tree
+run_accepted Graph entries sound tree = tree

@@ -1,17 +1,34 @@
 -- What holds of the words together.
-use Rattle.std.specs.Prelude.{ℕ, ◌≤◌, List, ◌++◌, length, Option, Some}
+use Rattle.std.specs.Prelude.{⊤, ℕ, ◌≤◌, List, ◌++◌, length, Option, Some}
 use Rattle.fw_entry.specs.Log.{header_bytes}
+use Rattle.fw_entry.specs.declared.version.Version.TheVariants.{Two}
 use Rattle.fw_entry.specs.declared.entry.Timed.{Timed}
 use Rattle.fw_run.specs.Desks.{DeskRelations}
 use Rattle.fw_run.specs.Giving.{log_bytes}
-use Rattle.fw_decode.specs.Decode.{limit, Reads, IsNoRefusal}
-use Rattle.fw_decode.specs.declared.ending.LogEnding.{LogEnding}
+use Rattle.fw_reading.specs.Endings.{limit, Reads, IsNoRefusal}
+use Rattle.fw_reading.specs.declared.ending.LogEnding.{LogEnding}
+use Rattle.fw_decode.specs.Words.{form_by, rules_by}
+use Rattle.fw_decode.specs.declared.refusal.LogRefusal.{LogRefusal}
+use Rattle.fw_decode.specs.Maps.{HasTree}
+use Rattle.fw_decode.specs.declared.word.LogWord.{LogWord}
+use Rattle.fw_decode.specs.declared.word.LogWord.TheVariants.{Decode, Explain, Json, Dv, Convert, Audit, Map, Graph}
 use Rattle.fw_simulate.specs.Ending.{Logged}
 
--- where a source tells the log of a whole run over a desk, within the limit of logs, no word that reads it refuses it, whatever it
--- writes of it
+-- a map is asked only of a log whose last bus reset has a tree
+abbrev pub HasItsTree : LogWord → List Timed → Type 0
+HasItsTree Decode log = ⊤
+HasItsTree Explain log = ⊤
+HasItsTree Json log = ⊤
+HasItsTree Dv log = ⊤
+HasItsTree (Convert version) log = ⊤
+HasItsTree Audit log = ⊤
+HasItsTree Map log = HasTree log
+HasItsTree Graph log = HasTree log
+
+-- where a source tells the log of a whole run over a desk, within the limit of logs, no word that reads it refuses it: an audit finds
+-- no fault in it, and it has its map where its last bus reset has a tree
 abbrev pub WholeLogsAreRead : DeskRelations → Type 0
 WholeLogsAreRead D = (left left' held held' : Option (List ℕ)) (ran : Logged D left left' held held')
-    → length (header_bytes ++ log_bytes ran.logged.log) ≤ limit
-    → (text whole : List Timed → List ℕ) (told' kept kept' : Option (List ℕ)) (e : LogEnding)
-    → Reads text whole (Some (header_bytes ++ log_bytes ran.logged.log)) told' kept kept' e → IsNoRefusal e
+    → length (header_bytes Two ++ log_bytes 0 ran.logged.log) ≤ limit
+    → (word : LogWord) → HasItsTree word ran.logged.log → (told' kept kept' : Option (List ℕ)) (e : LogEnding LogRefusal)
+    → Reads (form_by word) (rules_by word) (Some (header_bytes Two ++ log_bytes 0 ran.logged.log)) told' kept kept' e → IsNoRefusal e

@@ -4,3 +4,5 @@ pub mod Words
 pub mod Logs
 pub mod Runs
 pub mod Laws
+pub mod Serving
+pub mod Completing

@@ -2,24 +2,45 @@
 use Rattle.std.specs.Prelude.{◌≡◌, ℕ, ◌⊎◌, List, [], ◌∷◌, ◌++◌, codes, decimal}
 use Rattle.std.specs.declared.option.Option.{Option}
 use Rattle.fw_outside.specs.Outside.{Grows, AppendsFront, Rose}
+use Rattle.fw_outside.specs.declared.stop.Stop.{Stop}
+use Rattle.fw_outside.specs.declared.stop.Stop.TheVariants.{ReadFault, WriteFault, TooLong, NoMemory}
 use Rattle.fw_log.specs.declared.LogWhy.{LogWhy}
-use Rattle.fw_log.specs.declared.LogWhy.TheVariants.{AfterEnd, BadHeader, BadKind, BadLength, TimeBack, BadBody, Cut, NoEnd as NoLogEnd}
+use Rattle.fw_log.specs.declared.LogWhy.TheVariants.{AfterEnd, BadHeader, BadKind, BadLength, TimeBack, BadBody, Cut, NoEnd as NoLogEnd, BadEpoch}
 use Rattle.fw_tool.specs.declared.ending.Ending.{Ending}
-use Rattle.fw_tool.specs.declared.ending.Ending.TheVariants.{Done, Usage, Refused, NoLog, ReadFault, WriteFault, TooLong, NoMemory}
+use Rattle.fw_tool.specs.declared.ending.Ending.TheVariants.{Done, Usage, Refused, NoLog, Stopped, Unsound, NoMap}
+use Rattle.fw_audit.specs.declared.fault.AuditFault.{AuditFault}
+use Rattle.fw_audit.specs.declared.fault.AuditFault.TheVariants.{NoNode, Overlap, Orphan, NotAllowed, WrongWord, NoMove, NoEvent}
+use Rattle.fw_map.specs.declared.MapWhy.{MapWhy}
+use Rattle.fw_map.specs.declared.MapWhy.TheVariants.{Parents, Missing, Left, Root}
+use Rattle.fw_text.specs.Line.{quadlet_text}
+use Rattle.fw_decode.specs.declared.refusal.NoMap.{NoMap as Unmapped}
+use Rattle.fw_decode.specs.declared.refusal.NoMap.TheVariants.{NoReset, NoTree}
 use Rattle.fw_run.specs.declared.rule.RuleFault.{RuleFault}
-use Rattle.fw_run.specs.declared.rule.RuleFault.TheVariants.{UnknownName, NameTaken, TooMany, NoPort, PortUsed, Loop, NotController, Guarded, NoRegister, Limit, TableFull, Busy, NoSuchConnection, NotOwnPlug, OffBus, NoDeck}
+use Rattle.fw_run.specs.declared.rule.RuleFault.TheVariants.{UnknownName, NameTaken, TooMany, NoPort, PortUsed, Loop, NotController, Guarded, NoRegister, Limit, TableFull, Busy, NoSuchConnection, NotOwnPlug, OffBus, NoDeck, NothingStands}
 use Rattle.fw_simulate.specs.declared.ending.Refusal.{Refusal}
 use Rattle.fw_simulate.specs.declared.ending.Refusal.TheVariants.{BadLine, LineTooLong, NoEnd, Rule}
+
+-- the status and the note of a call that stopped
+abbrev pub stop_status : Stop → ℕ
+stop_status ReadFault = 5
+stop_status WriteFault = 6
+stop_status TooLong = 7
+stop_status NoMemory = 8
+
+abbrev pub stop_note : Stop → List ℕ
+stop_note ReadFault = codes "read fault" ++ 10 ∷ []
+stop_note WriteFault = codes "write fault" ++ 10 ∷ []
+stop_note TooLong = codes "too long" ++ 10 ∷ []
+stop_note NoMemory = codes "no memory" ++ 10 ∷ []
 
 abbrev pub status_of : Ending → ℕ
 status_of Done = 0
 status_of Usage = 2
 status_of (Refused _) = 3
 status_of (NoLog _) = 4
-status_of ReadFault = 5
-status_of WriteFault = 6
-status_of TooLong = 7
-status_of NoMemory = 8
+status_of (Stopped stop) = stop_status stop
+status_of (Unsound _) = 9
+status_of (NoMap _) = 10
 
 abbrev pub rule_of : RuleFault → List ℕ
 rule_of UnknownName = codes ": UnknownName" ++ 10 ∷ []
@@ -38,6 +59,7 @@ rule_of NoSuchConnection = codes ": NoSuchConnection" ++ 10 ∷ []
 rule_of NotOwnPlug = codes ": NotOwnPlug" ++ 10 ∷ []
 rule_of OffBus = codes ": OffBus" ++ 10 ∷ []
 rule_of NoDeck = codes ": NoDeck" ++ 10 ∷ []
+rule_of NothingStands = codes ": NothingStands" ++ 10 ∷ []
 
 abbrev pub name_of : Refusal → List ℕ
 name_of BadLine = codes ": BadLine" ++ 10 ∷ []
@@ -54,16 +76,45 @@ why_of TimeBack = codes ": TimeBack" ++ 10 ∷ []
 why_of (BadBody _) = codes ": BadBody" ++ 10 ∷ []
 why_of Cut = codes ": Cut" ++ 10 ∷ []
 why_of NoLogEnd = codes ": NoEnd" ++ 10 ∷ []
+why_of (BadEpoch _) = codes ": BadEpoch" ++ 10 ∷ []
+
+abbrev pub fault_of : AuditFault → List ℕ
+fault_of (NoNode _) = codes ": NoNode"
+fault_of (Overlap _) = codes ": Overlap"
+fault_of (Orphan _) = codes ": Orphan"
+fault_of (NotAllowed _ _) = codes ": NotAllowed"
+fault_of (WrongWord _ _) = codes ": WrongWord"
+fault_of (NoMove _ _) = codes ": NoMove"
+fault_of (NoEvent _) = codes ": NoEvent"
+
+-- the values of a fault, each as eight hexadecimal digits
+abbrev pub values_of : AuditFault → List ℕ
+values_of (NoNode id) = quadlet_text id
+values_of (Overlap id) = quadlet_text id
+values_of (Orphan id) = quadlet_text id
+values_of (NotAllowed id offset) = quadlet_text id ++ quadlet_text offset
+values_of (WrongWord found expected) = quadlet_text found ++ quadlet_text expected
+values_of (NoMove old value) = quadlet_text old ++ quadlet_text value
+values_of (NoEvent code) = quadlet_text code
+
+abbrev pub tree_why_of : MapWhy → List ℕ
+tree_why_of Parents = codes ": Parents" ++ 10 ∷ []
+tree_why_of Missing = codes ": Missing" ++ 10 ∷ []
+tree_why_of Left = codes ": Left" ++ 10 ∷ []
+tree_why_of Root = codes ": Root" ++ 10 ∷ []
+
+abbrev pub map_note : Unmapped → List ℕ
+map_note NoReset = codes "no reset" ++ 10 ∷ []
+map_note (NoTree fault) = codes "node " ++ decimal fault.node ++ tree_why_of fault.why
 
 abbrev pub note_of : Ending → List ℕ
 note_of Done = []
 note_of Usage = codes "usage" ++ 10 ∷ []
 note_of (Refused r) = codes "line " ++ decimal r.line ++ name_of r.why
 note_of (NoLog fault) = codes "byte " ++ decimal fault.place ++ why_of fault.why
-note_of ReadFault = codes "read fault" ++ 10 ∷ []
-note_of WriteFault = codes "write fault" ++ 10 ∷ []
-note_of TooLong = codes "too long" ++ 10 ∷ []
-note_of NoMemory = codes "no memory" ++ 10 ∷ []
+note_of (Stopped stop) = stop_note stop
+note_of (Unsound u) = codes "entry " ++ decimal u.entry ++ fault_of u.fault ++ values_of u.fault ++ 10 ∷ []
+note_of (NoMap no_map) = map_note no_map
 
 -- A note was written and the status is the one that was given, or the note could not be written and the status is 6.
 abbrev pub IsPassedOn : {N : Type 0} → (N → Option (List ℕ)) → (N → ℕ) → N → N → List ℕ → ℕ → ℕ → Type 0

@@ -1,5 +1,7 @@
 use crate::Refused;
+use fw_decode::{NoMap, Unsound};
 use fw_log::LogFault;
+use fw_outside::Stop;
 
 /// How a call ends. It is the table of statuses: each ending has its status and its note, which is one line on the notes.
 #[derive(Clone, Copy, Debug, PartialEq, Eq)]
@@ -13,12 +15,14 @@ pub enum Ending {
     Refused(Refused),
     /// 4, `byte N: NAME`: the bytes are no log; the first refused part is at byte N. What the entries before it give was written.
     NoLog(LogFault),
-    /// 5, `read fault`: the source failed. What the input up to there gives was written.
-    ReadFault,
-    /// 6, `write fault`: the sink failed. A front of what the input gives was written.
-    WriteFault,
-    /// 7, `too long`: the script passes 1,048,576 bytes, or the log 268,435,456, and nothing within that limit is refused.
-    TooLong,
-    /// 8, `no memory`: memory was refused.
-    NoMemory,
+    /// 5, `read fault`: the source failed. What the input up to there gives was written. 6, `write fault`: the sink failed. A front
+    /// of what the input gives was written. 7, `too long`: the script passes 1,048,576 bytes, or the log 268,435,456, and nothing
+    /// within that limit is refused. 8, `no memory`: memory was refused.
+    Stopped(Stop),
+    /// 9, `entry N: NAME VALUES`: entry N of the log, counted from 0, is the first that has a fault, and this is its first fault, with
+    /// its values as eight hexadecimal digits each. Nothing was written.
+    Unsound(Unsound),
+    /// 10, `no reset`, or `node N: NAME`: the log has no bus reset, or no tree has the self-ID packets of its last one, and node N is
+    /// the first that shows it. Nothing was written.
+    NoMap(NoMap),
 }

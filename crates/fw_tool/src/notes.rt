@@ -1,16 +1,21 @@
 ghost use Rattle.std.specs.Prelude.{◌≡◌, ◌≢◌, ◌⊎◌, ◌+◌, ◌<◌, ◌≤◌, ◌++◌, length, IsOk, IsErr};
 ghost use Rattle.arrayvec.specs.ArrayVec.{array_vec_len};
-ghost use Rattle.fw_tool.specs.Notes.{status_of, rule_of, name_of, why_of, note_of, IsTold, IsPassedOn};
+ghost use Rattle.fw_text.specs.Line.{quadlet_text};
+ghost use Rattle.fw_tool.specs.Notes.{status_of, stop_status, stop_note, fault_of, values_of, tree_why_of, map_note, rule_of, name_of, why_of, note_of, IsTold, IsPassedOn};
 
 use crate::Refusal;
 use crate::ending::Ending;
 use arrayvec::ArrayVec;
+use fw_audit::AuditFault;
 use fw_bus::RuleFault;
+use fw_decode::NoMap;
 use fw_log::LogWhy;
-use fw_outside::{Failed, Sink};
+use fw_map::MapWhy;
+use fw_outside::{Failed, Sink, Stop};
+use fw_text::quadlet_word;
 use itoa::Buffer;
 
-/// Room for any note, in bytes: the longest has 37, that of a place of twenty digits.
+/// Room for any note, in bytes: the longest has 57, that of an entry of twenty digits with two values.
 pub const NOTE_ROOM: usize = 64;
 
 /// A note.
@@ -46,6 +51,7 @@ fn rule(fault: RuleFault) -> &'static [u8]
         RuleFault::NotOwnPlug => b": NotOwnPlug\n",
         RuleFault::OffBus => b": OffBus\n",
         RuleFault::NoDeck => b": NoDeck\n",
+        RuleFault::NothingStands => b": NothingStands\n",
     }
 }
 
@@ -73,6 +79,99 @@ fn log_why(why: LogWhy) -> &'static [u8]
         LogWhy::BadBody(_) => b": BadBody\n",
         LogWhy::Cut => b": Cut\n",
         LogWhy::NoEnd => b": NoEnd\n",
+        LogWhy::BadEpoch(_) => b": BadEpoch\n",
+    }
+}
+
+fn fault_name(fault: AuditFault) -> &'static [u8]
+    ensures name { result.now ≡ fault_of fault }
+    ensures short { length result.now ≤ 12 }
+{
+    match fault {
+        AuditFault::NoNode(_) => b": NoNode",
+        AuditFault::Overlap(_) => b": Overlap",
+        AuditFault::Orphan(_) => b": Orphan",
+        AuditFault::NotAllowed(_, _) => b": NotAllowed",
+        AuditFault::WrongWord(_, _) => b": WrongWord",
+        AuditFault::NoMove(_, _) => b": NoMove",
+        AuditFault::NoEvent(_) => b": NoEvent",
+    }
+}
+
+/// Appends a value of a fault.
+fn put_value(note: &mut Note, value: u32)
+    requires { array_vec_len note.old + 9 ≤ 64 }
+    ensures bytes { note.new.items ≡ note.old.items ++ quadlet_text value }
+    ensures len { array_vec_len note.new ≡ array_vec_len note.old + 9 }
+{
+    put(note, &quadlet_word(value));
+}
+
+/// Appends two values.
+fn put_values(note: &mut Note, first: u32, second: u32)
+    requires { array_vec_len note.old + 18 ≤ 64 }
+    ensures bytes { note.new.items ≡ note.old.items ++ (quadlet_text first ++ quadlet_text second) }
+    ensures len { array_vec_len note.new ≡ array_vec_len note.old + 18 }
+{
+    put_value(note, first);
+    put_value(note, second);
+}
+
+/// Appends the values of a fault.
+fn put_fault(note: &mut Note, fault: AuditFault)
+    requires { array_vec_len note.old + 18 ≤ 64 }
+    ensures bytes { note.new.items ≡ note.old.items ++ values_of fault }
+    ensures len { array_vec_len note.new ≤ array_vec_len note.old + 18 }
+{
+    match fault {
+        AuditFault::NoNode(id) => put_value(note, u32::from(id)),
+        AuditFault::Overlap(id) => put_value(note, u32::from(id)),
+        AuditFault::Orphan(id) => put_value(note, u32::from(id)),
+        AuditFault::NotAllowed(id, offset) => {
+            put_values(note, u32::from(id), u32::from(offset));
+        }
+        AuditFault::WrongWord(found, expected) => put_values(note, found, expected),
+        AuditFault::NoMove(old, new) => put_values(note, old, new),
+        AuditFault::NoEvent(code) => put_value(note, u32::from(code)),
+    }
+}
+
+fn tree_why(why: MapWhy) -> &'static [u8]
+    ensures name { result.now ≡ tree_why_of why }
+    ensures short { length result.now ≤ 10 }
+{
+    match why {
+        MapWhy::Parents => b": Parents\n",
+        MapWhy::Missing => b": Missing\n",
+        MapWhy::Left => b": Left\n",
+        MapWhy::Root => b": Root\n",
+    }
+}
+
+/// Appends why a log has no map.
+fn put_no_map(note: &mut Note, no_map: NoMap)
+    requires { array_vec_len note.old + 40 ≤ 64 }
+    ensures { note.new.items ≡ note.old.items ++ map_note no_map }
+{
+    match no_map {
+        NoMap::NoReset => put(note, b"no reset\n"),
+        NoMap::NoTree(fault) => {
+            put(note, b"node ");
+            put(note, Buffer::new().format(fault.node).as_bytes());
+            put(note, tree_why(fault.why));
+        }
+    }
+}
+
+fn stop_note(stop: Stop) -> &'static [u8]
+    ensures name { result.now ≡ stop_note stop }
+    ensures short { length result.now ≤ 19 }
+{
+    match stop {
+        Stop::ReadFault => b"read fault\n",
+        Stop::WriteFault => b"write fault\n",
+        Stop::TooLong => b"too long\n",
+        Stop::NoMemory => b"no memory\n",
     }
 }
 
@@ -94,10 +193,15 @@ fn note(ending: Ending) -> Note
             put(&mut note, Buffer::new().format(fault.place).as_bytes());
             put(&mut note, log_why(fault.why));
         }
-        Ending::ReadFault => put(&mut note, b"read fault\n"),
-        Ending::WriteFault => put(&mut note, b"write fault\n"),
-        Ending::TooLong => put(&mut note, b"too long\n"),
-        Ending::NoMemory => put(&mut note, b"no memory\n"),
+        Ending::Stopped(stop) => put(&mut note, stop_note(stop)),
+        Ending::Unsound(flaw) => {
+            put(&mut note, b"entry ");
+            put(&mut note, Buffer::new().format(flaw.entry).as_bytes());
+            put(&mut note, fault_name(flaw.fault));
+            put_fault(&mut note, flaw.fault);
+            put(&mut note, b"\n");
+        }
+        Ending::NoMap(no_map) => put_no_map(&mut note, no_map),
     }
     note
 }
@@ -110,10 +214,20 @@ fn status(ending: Ending) -> u8
         Ending::Usage => 2,
         Ending::Refused(_) => 3,
         Ending::NoLog(_) => 4,
-        Ending::ReadFault => 5,
-        Ending::WriteFault => 6,
-        Ending::TooLong => 7,
-        Ending::NoMemory => 8,
+        Ending::Stopped(stop) => stop_status(stop),
+        Ending::Unsound(_) => 9,
+        Ending::NoMap(_) => 10,
+    }
+}
+
+fn stop_status(stop: Stop) -> u8
+    ensures { result ≡ stop_status stop }
+{
+    match stop {
+        Stop::ReadFault => 5,
+        Stop::WriteFault => 6,
+        Stop::TooLong => 7,
+        Stop::NoMemory => 8,
     }
 }
 
@@ -144,11 +258,11 @@ pub fn tell<N: Sink>(ending: Ending, notes: &mut N) -> u8
 /// note says, and is told in its place.
 pub fn close<N: Sink>(status: u8, note: &[u8], flushed: Result<(), Failed>, notes: &mut N) -> u8
     ensures passed { IsOk flushed ⊎ (status ≡ 6) → IsPassedOn N.held N.faults notes.old notes.new note.now status result }
-    ensures told { IsErr flushed → status ≢ 6 → IsTold N.held N.faults notes.old notes.new Ending.WriteFault result }
+    ensures told { IsErr flushed → status ≢ 6 → IsTold N.held N.faults notes.old notes.new (Ending.Stopped Stop.WriteFault) result }
     ensures failed { IsErr flushed → result ≡ 6 }
 {
     match flushed {
-        Err(Failed) if status != 6 => tell(Ending::WriteFault, notes),
+        Err(Failed) if status != 6 => tell(Ending::Stopped(Stop::WriteFault), notes),
         _ => pass_on(status, note, notes),
     }
 }

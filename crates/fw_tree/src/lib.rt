@@ -40,8 +40,3 @@ pub enum TreeFault {
     #[error("Loop")]
     Loop,
 }
-
-#[cfg(test)]
-mod fixtures;
-#[cfg(test)]
-mod tests;

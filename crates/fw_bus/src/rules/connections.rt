@@ -137,6 +137,24 @@ impl Machine {
         Ok(Order::Die(device, late))
     }
 
+    pub(super) fn decide_loss(&self, name: &Name) -> Result<Order<'static>, RuleFault>
+        requires ready { IsReady self.now }
+        ensures decided { Decided self.now (Commands.Lose name.now) result }
+        ensures may { IfOk result (MayCarry self.now) }
+    {
+        let device = self.known(name)?;
+        if !self.is_living(device) {
+            return Err(RuleFault::NotController);
+        }
+        if !self.controllers.get(device).has_request() {
+            return Err(RuleFault::NothingStands);
+        }
+        if self.has_most_resets() {
+            return Err(RuleFault::Limit);
+        }
+        Ok(Order::Lose(device))
+    }
+
     pub(super) fn decide_start(&self, name: &Name) -> Result<Order<'static>, RuleFault>
         ensures decided { Decided self.now (Commands.Start name.now) result }
         ensures may { IfOk result (MayCarry self.now) }

@@ -1,4 +1,4 @@
-use Rattle.fw_cmp.proofs.GoingOn.{first_goes_on, connection_goes_on, break_goes_on, next_goes_on, hear_goes_on, reset_goes_on, second_goes_on}
+use Rattle.fw_cmp.proofs.GoingOn.{first_goes_on, connection_goes_on, break_goes_on, next_goes_on, hear_goes_on, state_reset_goes_on, second_goes_on}
 use Rattle.fw_cmp.proofs.laws.controllers_go_on.Goals as goal
 
 pub returns-clause-first : goal.returns-clause-first
@@ -17,7 +17,7 @@ pub returns-clause-answer : goal.returns-clause-answer
 returns-clause-answer c = hear_goes_on
 
 pub returns-clause-reset : goal.returns-clause-reset
-returns-clause-reset c = reset_goes_on
+returns-clause-reset c = state_reset_goes_on
 
 pub returns-clause-second : goal.returns-clause-second
 returns-clause-second c = second_goes_on

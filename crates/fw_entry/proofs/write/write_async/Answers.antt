@@ -1,13 +1,14 @@
 use Rattle.std.proofs.Common.{◌/◌, ◌++◌, List, ℕ, length, ap, sym, ◌∙◌}
 use Rattle.fw_entry.specs.declared.entry.Entry.TheVariants.{Async}
 use Rattle.fw_entry.specs.Log.{entry_head, entry_bytes}
+use Rattle.fw_entry.specs.declared.version.Version.TheVariants.{Two}
 use Rattle.fw_entry.proofs.WriteLaws.{writes_same}
 use Rattle.fw_entry.proofs.write.write_async.Goals as goal
 
 pub returns-clause-bytes : goal.returns-clause-bytes
 returns-clause-bytes g c = λ p s.
     let packet = c.args.packet.now in
-    let head = c.head_of.ensures ∙ ap (λ (b : List ℕ). entry_head 2 (length b / 4) c.args.cycle) c.as_slice.ensures in
-    writes_same (g.K.Sink.held c.args.sink.now) (g.K.Sink.held c.write.new.self) c.write.result c.behind.result.now (entry_bytes (record { cycle = c.args.cycle; what = Async p }))
-    (c.behind.ensures ∙ (ap (λ (h : List ℕ). h ++ packet) head ∙ ap (λ b. entry_head 2 (length b / 4) c.args.cycle ++ b) (sym s.same)))
+    let head = c.long_head.ensures ∙ ap (λ (b : List ℕ). entry_head Two c.args.epoch 2 (length b / 4) c.args.cycle) c.as_slice.ensures in
+    writes_same (g.K.Sink.held c.args.sink.now) (g.K.Sink.held c.write.new.self) c.write.result c.behind.result.now (entry_bytes Two c.args.epoch (record { cycle = c.args.cycle; what = Async p }))
+    (c.behind.ensures ∙ (ap (λ (h : List ℕ). h ++ packet) head ∙ ap (λ b. entry_head Two c.args.epoch 2 (length b / 4) c.args.cycle ++ b) (sym s.same)))
     c.write.ensures.bytes

@@ -1,4 +1,4 @@
-use Rattle.fw_script.specs.declared.keyword.Keyword.TheVariants.{Device, Cable, Reset, Connect, Broadcast, Listen, Break, Step, Settle, Wait, Cycles, Die, Start, Command, Read, Swap, Insert, Eject, Show, End}
+use Rattle.fw_script.specs.declared.keyword.Keyword.TheVariants.{Device, Cable, Reset, Connect, Broadcast, Listen, Break, Step, Settle, Wait, Cycles, Die, Lose, Start, Command, Read, Swap, Insert, Eject, Show, End}
 use Rattle.fw_script.proofs.FormLaws.{of_keyword}
 use Rattle.fw_script.proofs.form.arguments.Goals as goal
 
@@ -37,6 +37,9 @@ returns-in-Cycles-clause-only c = of_keyword c.args.keyword Cycles c.args.words.
 
 pub returns-in-Die-clause-only : goal.returns-in-Die-clause-only
 returns-in-Die-clause-only c = of_keyword c.args.keyword Die c.args.words.now c.die.result c.die.new.out c.in-Die.is c.die.ensures.only
+
+pub returns-in-Lose-clause-only : goal.returns-in-Lose-clause-only
+returns-in-Lose-clause-only c = of_keyword c.args.keyword Lose c.args.words.now c.lose.result c.lose.new.out c.in-Lose.is c.lose.ensures.only
 
 pub returns-in-Start-clause-only : goal.returns-in-Start-clause-only
 returns-in-Start-clause-only c = of_keyword c.args.keyword Start c.args.words.now c.start.result c.start.new.out c.in-Start.is c.start.ensures.only

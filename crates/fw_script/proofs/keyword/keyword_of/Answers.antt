@@ -1,6 +1,12 @@
 use Rattle.std.proofs.Common.{sym, ◌∙◌}
-use Rattle.fw_script.proofs.KeywordLaws.{by_three}
+use Rattle.fw_script.proofs.KeywordLaws.{by_three, by_four, by_five}
 use Rattle.fw_script.proofs.keyword.keyword_of.Goals as goal
 
 pub returns-in-3 : goal.returns-in-3
 returns-in-3 c = c.of_three.ensures ∙ sym (by_three c.args.word.now c.in-3.is)
+
+pub returns-in-4 : goal.returns-in-4
+returns-in-4 c = c.of_four.ensures ∙ sym (by_four c.args.word.now c.in-4.is)
+
+pub returns-in-5 : goal.returns-in-5
+returns-in-5 c = c.of_five.ensures ∙ sym (by_five c.args.word.now c.in-5.is)

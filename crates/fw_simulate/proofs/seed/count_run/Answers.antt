@@ -1,4 +1,5 @@
 use Rattle.std.proofs.Common.{List, ℕ, [], ◌++◌, Some, ◌∙◌, rules}
+use Rattle.fw_entry.specs.Log.{latest_epoch}
 use Rattle.fw_run.specs.Desks.{DeskRelations}
 use Rattle.fw_simulate.proofs.Countings.{counting_first, kept_elsewhere, given_alone, counting_more, counted_ends}
 use Rattle.fw_simulate.proofs.seed.count_run.Given as given
@@ -17,7 +18,7 @@ loop-ending-preserved g c =
     let d = c.in_default-carry_next.ensures.goes (Some c.args.script.items) (Some []) (Some i.written) (Some (i.written ++ held)) (kept_elsewhere i.written c.loop-ending.sink.held held i.empty) i.going in
     let same = given_alone {D = D} i c.carry_next.new.source held c.carry_next.new.reader c.carry_next.new.bus d in
     counting_more {D = D} i c.carry_next.new.source held c.clear.new.self.held c.carry_next.new.reader c.carry_next.new.bus c.take.new.self d
-    (c.in-Ok-take.ensures i.going.log d.out d.fit (c.as_slice.ensures ∙ same) i.counts) c.clear.ensures.held
+    (c.in-Ok-take.ensures (latest_epoch 0 i.going.log) i.going.log d.out d.fit (c.as_slice.ensures ∙ same) i.counts) c.clear.ensures.held
 
 pub loop-ending-smaller : goal.loop-ending-smaller
 loop-ending-smaller g c =

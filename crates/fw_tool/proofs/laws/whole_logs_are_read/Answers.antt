@@ -1,9 +1,14 @@
 use Rattle.std.proofs.Common.{◌++◌, Some, refl}
 use Rattle.fw_entry.specs.Log.{header_bytes}
+use Rattle.fw_entry.specs.declared.version.Version.TheVariants.{Two}
 use Rattle.fw_run.specs.Giving.{log_bytes}
-use Rattle.fw_decode.proofs.Completions.{is_complete}
+use Rattle.fw_reading.proofs.Completions.{is_complete}
+use Rattle.fw_decode.specs.Words.{form_by, rules_by}
+use Rattle.fw_decode.proofs.WordLaws.{accepts_by}
+use Rattle.fw_tool.proofs.WordLaws.{run_accepted}
 use Rattle.fw_tool.proofs.laws.whole_logs_are_read.Goals as goal
 
 pub returns : goal.returns
-returns g c left left' held held' ran short text whole told' kept kept' e reads =
-    is_complete text whole (Some (header_bytes ++ log_bytes ran.logged.log)) told' kept kept' e reads ran.logged.log (header_bytes ++ log_bytes ran.logged.log) refl ran.whole short
+returns g c left left' held held' ran short word tree told' kept kept' e reads =
+    let bytes = header_bytes Two ++ log_bytes 0 ran.logged.log in
+    is_complete (form_by word) (rules_by word) (Some bytes) told' kept kept' e reads ran.logged.log bytes refl (record { version = Two; spells = ran.whole }) short (accepts_by word ran.logged.log (run_accepted word ran.logged.log ran.logged.audited tree))

@@ -10,12 +10,23 @@ use Rattle.fw_step.specs.Requests.{is_sent}
 use Rattle.fw_run.specs.HalfSteps.{half, said}
 use Rattle.fw_bus.specs.Doings.{Takes}
 use Rattle.fw_bus.proofs.Doings.{no_faults}
-use Rattle.fw_bus.proofs.HalfTurns.{takes_asks, rests_says, node_numbers}
+use Rattle.fw_bus.proofs.HalfTurns.{IsSilent, takes_asks, rests_says, node_numbers}
+use Rattle.fw_bus.proofs.ResetTurns.{ready_cycle}
 use Rattle.fw_bus.proofs.HalfWires.{Sends, sends_takes, sends_fits, sends_free, quiet_wire}
+use Rattle.fw_bus.proofs.Heard.{reached_here}
 use Rattle.fw_bus.proofs.machine.Machine.ask.Goals as goal
 
 pub next-requires-clause-nodes : goal.next-requires-clause-nodes
 next-requires-clause-nodes g c = let r = c.requires.ready in node_numbers c.args.self.now r.state c.args.device r.good r.stands c.requires.living
+
+pub next-requires-clause-heard : goal.next-requires-clause-heard
+next-requires-clause-heard g c = inr c.requires.heard.1
+
+pub next-requires-clause-reached : goal.next-requires-clause-reached
+next-requires-clause-reached g c = let r = c.requires.ready in reached_here c.args.self.now r.state c.args.device r.good r.stands
+
+pub next-requires-clause-now : goal.next-requires-clause-now
+next-requires-clause-now g c = ready_cycle c.requires.ready
 
 -- ---- a request goes out
 
@@ -110,9 +121,15 @@ returns-in-End-clause-speaks g c = record {
 
 -- ---- nothing to do
 
+silent : (x : Next) → IsSilent x → is_sent x ≡ false
+silent x (inl e) = ap is_sent e
+silent x (inr (inl w)) = ap is_sent w.1
+silent x (inr (inr (inl w))) = ap is_sent w.1
+silent x (inr (inr (inr e))) = ap is_sent e
+
 pub returns-in-Idle-clause-speaks : goal.returns-in-Idle-clause-speaks
 returns-in-Idle-clause-speaks g c =
-    let quiet : is_sent c.next.result ≡ false = elim c.in-Idle.is [ inl e ↦ ap is_sent e | inr w ↦ ap is_sent w.1 ] in
+    let quiet : is_sent c.next.result ≡ false = silent c.next.result c.in-Idle.is in
     record {
       entry = None;
       takes = takes_asks c.args.self.now c.next.new.self c.args.self.now.wire c.args.device _ c.requires.living c.requires.heard c.next.ensures.state

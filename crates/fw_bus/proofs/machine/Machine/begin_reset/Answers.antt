@@ -1,5 +1,5 @@
 use Rattle.std.proofs.Common.{◌≡◌, ◌∙◌, ap, rules}
-use Rattle.fw_cmp.specs.Resets.{after_reset as controller_reset}
+use Rattle.fw_cmp.specs.Losses.{after_bus_reset as controller_reset}
 use Rattle.fw_devices.specs.Network.{is_node}
 use Rattle.fw_bus.specs.Resetting.{directory_in}
 use Rattle.fw_bus.specs.Tables.{states_of}

@@ -22,13 +22,13 @@ loop-passed-preserved-then-not-living-from c =
     let last = c.args.end - 1 - c.loop-passed.passed in
     let below : last < c.args.end = omega (arith, c.loop-passed-test.true) in
     let off : is_living_in c.args.self.now last ≡ false = sym (c.requires.marks last below) ∙ (ap (λ (i : ℕ). slice_index_or c.args.living.now i false) (sym c.from.ensures) ∙ c.if-not-living-from.true) in
-    passed_more c.args.end c.loop-passed.passed last (λ d. IsTrue (is_living_in c.args.self.now d) → IsAtRest (states_of c.args.self.now.controllers d))
+    passed_more c.args.end c.loop-passed.passed last (λ d. IsTrue (is_living_in c.args.self.now d) → IsAtRest (states_of c.args.self.now.controllers d).state)
     (omega (arith, c.loop-passed-test.true)) c.loop-passed.invariant (λ lives. absurd (let clash : true ≡ false = sym lives ∙ off in cc clash))
 
 pub loop-passed-preserved : goal.loop-passed-preserved
 loop-passed-preserved c =
     let last = c.args.end - 1 - c.loop-passed.passed in
-    passed_more c.args.end c.loop-passed.passed last (λ d. IsTrue (is_living_in c.args.self.now d) → IsAtRest (states_of c.args.self.now.controllers d))
+    passed_more c.args.end c.loop-passed.passed last (λ d. IsTrue (is_living_in c.args.self.now d) → IsAtRest (states_of c.args.self.now.controllers d).state)
     (omega (arith, c.loop-passed-test.true)) c.loop-passed.invariant (λ lives. c.is_calm.ensures c.if-not-is_calm.false)
 
 pub returns-then-not-is_calm-clause-calm : goal.returns-then-not-is_calm-clause-calm

@@ -6,4 +6,4 @@ use Rattle.fw_bus.proofs.machine.Machine.busy_end.Given as goal
 
 -- of those that were passed, none that lives has anything to do
 abbrev pub invariant-loop-passed : goal.invariant-loop-passed
-invariant-loop-passed l = (d : ℕ) → l.end ≤ d + l.passed → d < l.end → IsTrue (is_living_in l.self d) → IsAtRest (states_of l.self.controllers d)
+invariant-loop-passed l = (d : ℕ) → l.end ≤ d + l.passed → d < l.end → IsTrue (is_living_in l.self d) → IsAtRest (states_of l.self.controllers d).state

@@ -39,6 +39,9 @@ returns-in-Wait g c = record { does = rw c.in-Wait.is (by_desk _ tt c.wait.ensur
 pub returns-in-Die : goal.returns-in-Die
 returns-in-Die g c = record { does = rw c.in-Die.is (by_desk _ tt c.die.ensures.does) }
 
+pub returns-in-Lose : goal.returns-in-Lose
+returns-in-Lose g c = record { does = rw c.in-Lose.is (by_desk _ tt c.lose.ensures.does) }
+
 pub returns-in-Start : goal.returns-in-Start
 returns-in-Start g c = record { does = rw c.in-Start.is (by_desk _ tt c.start.ensures.does) }
 

@@ -6,8 +6,8 @@ use Rattle.fw_bus.proofs.machine.Machine.carry_request.Goals as goal
 
 pub returns-clause-does : goal.returns-clause-does
 returns-clause-does g c =
-    let x = c.turn.ensures.speaks in
-    does_one c.args.self.now.cycle x.entry c.turn.result
-    (carry_turns c.args.self.now c.turn.new.self c.args.device x.entry c.requires.living c.requires.standing x.takes)
-    (subst (λ k. Gives (g.K.Sink.held c.args.sink.now) (g.K.Sink.held c.turn.new.sink) c.turn.result k x.entry) c.turn.ensures.time x.gives)
+    let x = c.hear.ensures.speaks in
+    does_one c.args.self.now.cycle x.entry c.hear.result
+    (carry_turns c.args.self.now c.hear.new.self c.args.device x.entry c.requires.living c.requires.standing x.takes)
+    (subst (λ k. Gives (g.K.Sink.held c.args.sink.now) (g.K.Sink.held c.hear.new.sink) c.hear.result k c.hear.new.self.devices.epoch x.entry) c.hear.ensures.time x.gives)
     x.faults

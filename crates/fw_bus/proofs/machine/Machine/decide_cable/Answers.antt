@@ -47,9 +47,9 @@ returns-then-has_most_resets-clause-decided c = λ s g st.
     let x : End = record { device = c.in_ok-known.field-0; port = a.1 } in
     let y : End = record { device = c.in_ok-known-2.field-0; port = b.1 } in
     let joins : joins_in m x y ≡ true = search rules in
-    let most : nat_le 10000 m.devices.epoch ≡ true = search rules in
+    let most : nat_le 10000 m.resets ≡ true = search rules in
     cable_at_limit s a b x y (is_named m s a.0 x.device st c.in_ok-known.ensures.device, refl) (is_named m s b.0 y.device st c.in_ok-known-2.ensures.device, refl)
-    (λ f h. c.in-Ok.ensures.free f (fault_back m s x y f st h)) (let epoch = st.devices.epoch in grind arith) (sym (joins_same m s x y g st) ∙ joins)
+    (λ f h. c.in-Ok.ensures.free f (fault_back m s x y f st h)) (let resets = st.clock.resets in grind arith) (sym (joins_same m s x y g st) ∙ joins)
 
 pub returns-else-begins_reset-clause-decided : goal.returns-else-begins_reset-clause-decided
 returns-else-begins_reset-clause-decided c = λ s g st.
@@ -58,6 +58,6 @@ returns-else-begins_reset-clause-decided c = λ s g st.
     let b = c.args.b.now in
     let x : End = record { device = c.in_ok-known.field-0; port = a.1 } in
     let y : End = record { device = c.in_ok-known-2.field-0; port = b.1 } in
-    let few : IsFalse (joins_in m x y && nat_le 10000 m.devices.epoch) = search rules in
+    let few : IsFalse (joins_in m x y && nat_le 10000 m.resets) = search rules in
     cable_ordered s a b x y (is_named m s a.0 x.device st c.in_ok-known.ensures.device, refl) (is_named m s b.0 y.device st c.in_ok-known-2.ensures.device, refl)
     (λ f h. c.in-Ok.ensures.free f (fault_back m s x y f st h)) (few_resets m s x y g st few)

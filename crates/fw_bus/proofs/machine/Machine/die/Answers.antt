@@ -1,6 +1,6 @@
 use Rattle.std.proofs.Common.{◌≡◌, true, sym, subst, ◌∙◌}
 use Rattle.std.proofs.lemmas.Bool.{false≢true}
-use Rattle.fw_cmp.specs.Controllers.{ControllerState, IsHeard}
+use Rattle.fw_cmp.specs.Losses.{MayTurn}
 use Rattle.fw_bus.specs.Tables.{states_of}
 use Rattle.fw_bus.proofs.Doings.{does_when}
 use Rattle.fw_bus.proofs.LifeOrders.{dies_at}
@@ -11,8 +11,8 @@ use Rattle.fw_bus.proofs.machine.Machine.die.Goals.{else-late-via-then-late+else
 pub returns-else-late : goal.returns-else-late
 returns-else-late g c = record { does = does_when (dies_at c.args.self.now c.args.device c.args.late quiet) c.stop.ensures }
   where
-    quiet : c.args.late ≡ true → IsHeard (states_of c.args.self.now.controllers c.args.device).current
+    quiet : c.args.late ≡ true → MayTurn (states_of c.args.self.now.controllers c.args.device)
     quiet late = elim c.else-late.branch [
-      | else-late-via-then-late+else-has_request w ↦ subst (λ (x : ControllerState). IsHeard x.current) w.get.ensures (w.has_request.ensures.heard.0 w.if-has_request.false)
+      | else-late-via-then-late+else-has_request w ↦ subst MayTurn w.get.ensures (w.has_request.ensures.heard.0 w.if-has_request.false)
       | else-late-via-else-late w ↦ absurd (false≢true (sym w.if-late.false ∙ late))
     ]

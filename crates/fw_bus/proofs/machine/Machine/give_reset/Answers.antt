@@ -13,6 +13,6 @@ returns g c =
     let gives = rw c.latest.ensures at c.give.ensures.bytes in
     record {
       begins = c.begin_reset.ensures.begins;
-      gives = subst (λ n. Gives (g.K.Sink.held c.args.sink.now) (g.K.Sink.held c.give.new.sink) c.give.result n (Some (Reset now.devices.latest))) same gives;
+      gives = subst (λ n. Gives (g.K.Sink.held c.args.sink.now) (g.K.Sink.held c.give.new.sink) c.give.result n now.devices.epoch (Some (Reset now.devices.latest))) same gives;
       faults = c.give.ensures.faults;
     }

@@ -1,241 +1,34 @@
-use Rattle.std.proofs.Common.{◌≡◌, ◌<◌, ◌%◌, ℕ, List, Bor, option_map, length, IsTrue, Some, ap, sym, subst, arith, ◌∙◌, refl, is_some}
-use Rattle.std.proofs.lemmas.List.{length-set}
-use Rattle.std.proofs.lemmas.Option.{same_Some}
-use Rattle.fw_async.specs.Wire.{Pairs}
-use Rattle.fw_base.specs.Devices.{has_link}
+use Rattle.std.proofs.Common.{ap, refl, Some}
+use Rattle.fw_devices.specs.Network.{Network}
 use Rattle.fw_entry.specs.declared.entry.Entry.TheVariants.{Async}
-use Rattle.fw_node.specs.Packets.{IsServed}
-use Rattle.fw_node.specs.State.{space_of}
-use Rattle.fw_devices.specs.Network.{Network, node_at}
-use Rattle.fw_run.specs.HalfSteps.{half}
-use Rattle.fw_bus.specs.Doings.{Takes}
-use Rattle.fw_bus.specs.Streaming.{looked_at}
-use Rattle.fw_bus.proofs.HalfHears.{nodes_after, takes_hears}
+use Rattle.fw_bus.specs.declared.machine.Machine.{Machine}
 use Rattle.fw_bus.proofs.HalfLives.{living_stays}
-use Rattle.fw_bus.proofs.HalfReads.{Known, went_packet, went_there, request_read, some_taken, is_request, goes_to, device_within, device_number, device_linked, response_written}
-use Rattle.fw_bus.proofs.Streaming.{few_nodes}
+use Rattle.fw_bus.proofs.Served.{served_within, served_awaits, served_hears}
 use Rattle.fw_bus.proofs.machine.Machine.hear.Goals as goal
 
-pub destination_at-requires : goal.destination_at-requires
-destination_at-requires g c =
-    let m = c.args.self.now in
-    let d = c.args.device in
-    let own = c.number-own.result in
-    let r = c.requires.ready in
-    let there = went_there m r.state d r.good r.stands c.requires.living c.requires.standing in
-    let k : Known m d there.0 own = record {
-      ready = r;
-      lives = c.requires.living;
-      stands = c.requires.standing;
-      went = there.1;
-      own_is = c.number-own.ensures.value;
-    } in
-    let got = ap (option_map (λ (b : Bor (List ℕ)). b.now)) (sym c.in-Some.is) ∙ c.get.ensures in
-    let read = request_read m d there.0 own c.in-Some.bytes.now k got in
-    record { packet = went_packet own k.went; spells = read }
+pub hear-requires-clause-device : goal.hear-requires-clause-device
+hear-requires-clause-device g c = served_within _ _ _ _ _ c.requires.ready c.requires.living c.in-Some.ensures
 
-pub serve-reply-requires-clause-request : goal.serve-reply-requires-clause-request
-serve-reply-requires-clause-request g c =
-    let m = c.args.self.now in
-    let d = c.args.device in
-    let own = c.number-own.result in
-    let r = c.requires.ready in
-    let there = went_there m r.state d r.good r.stands c.requires.living c.requires.standing in
-    let k : Known m d there.0 own = record {
-      ready = r;
-      lives = c.requires.living;
-      stands = c.requires.standing;
-      went = there.1;
-      own_is = c.number-own.ensures.value;
-    } in
-    let got = ap (option_map (λ (b : Bor (List ℕ)). b.now)) (sym c.in-Some.is) ∙ c.get.ensures in
-    is_request m d there.0 own c.in-Some.bytes.now k got
-
-pub serve-reply-requires-clause-declared : goal.serve-reply-requires-clause-declared
-serve-reply-requires-clause-declared g c =
-    let m = c.args.self.now in
-    let d = c.args.device in
-    let own = c.number-own.result in
-    let r = c.requires.ready in
-    let there = went_there m r.state d r.good r.stands c.requires.living c.requires.standing in
-    let k : Known m d there.0 own = record {
-      ready = r;
-      lives = c.requires.living;
-      stands = c.requires.standing;
-      went = there.1;
-      own_is = c.number-own.ensures.value;
-    } in
-    let got = ap (option_map (λ (b : Bor (List ℕ)). b.now)) (sym c.in-Some.is) ∙ c.get.ensures in
-    let read = request_read m d there.0 own c.in-Some.bytes.now k got in
-    let at = c.device_at.ensures ∙ goes_to m d there.0 own c.number_in.result k (c.number_in.ensures ∙ ap (λ (i : ℕ). i % 64) (c.destination_at.ensures (went_packet own k.went) read)) in
-    let same : there.0 ≡ c.in-Some-device_at.target = same_Some there.0 c.in-Some-device_at.target (sym at ∙ c.in-Some-device_at.is) in
-    subst (λ (t : ℕ). t < length m.devices.nodes) same (device_within m d there.0 own k)
-
-pub serve-reply-requires-clause-number : goal.serve-reply-requires-clause-number
-serve-reply-requires-clause-number g c =
-    let m = c.args.self.now in
-    let d = c.args.device in
-    let own = c.number-own.result in
-    let r = c.requires.ready in
-    let there = went_there m r.state d r.good r.stands c.requires.living c.requires.standing in
-    let k : Known m d there.0 own = record {
-      ready = r;
-      lives = c.requires.living;
-      stands = c.requires.standing;
-      went = there.1;
-      own_is = c.number-own.ensures.value;
-    } in
-    let got = ap (option_map (λ (b : Bor (List ℕ)). b.now)) (sym c.in-Some.is) ∙ c.get.ensures in
-    let read = request_read m d there.0 own c.in-Some.bytes.now k got in
-    let at = c.device_at.ensures ∙ goes_to m d there.0 own c.number_in.result k (c.number_in.ensures ∙ ap (λ (i : ℕ). i % 64) (c.destination_at.ensures (went_packet own k.went) read)) in
-    let same : there.0 ≡ c.in-Some-device_at.target = same_Some there.0 c.in-Some-device_at.target (sym at ∙ c.in-Some-device_at.is) in
-    subst (λ (t : ℕ). IsTrue (is_some (node_at m.devices.nodes t).number)) same (ap is_some (device_number m d there.0 own k))
-
-pub serve-reply-requires-clause-link : goal.serve-reply-requires-clause-link
-serve-reply-requires-clause-link g c =
-    let m = c.args.self.now in
-    let d = c.args.device in
-    let own = c.number-own.result in
-    let r = c.requires.ready in
-    let there = went_there m r.state d r.good r.stands c.requires.living c.requires.standing in
-    let k : Known m d there.0 own = record {
-      ready = r;
-      lives = c.requires.living;
-      stands = c.requires.standing;
-      went = there.1;
-      own_is = c.number-own.ensures.value;
-    } in
-    let got = ap (option_map (λ (b : Bor (List ℕ)). b.now)) (sym c.in-Some.is) ∙ c.get.ensures in
-    let read = request_read m d there.0 own c.in-Some.bytes.now k got in
-    let at = c.device_at.ensures ∙ goes_to m d there.0 own c.number_in.result k (c.number_in.ensures ∙ ap (λ (i : ℕ). i % 64) (c.destination_at.ensures (went_packet own k.went) read)) in
-    let same : there.0 ≡ c.in-Some-device_at.target = same_Some there.0 c.in-Some-device_at.target (sym at ∙ c.in-Some-device_at.is) in
-    subst (λ (t : ℕ). IsTrue (has_link (node_at m.devices.nodes t).kind)) same (device_linked m d there.0 own k)
-
-pub look-requires : goal.look-requires
-look-requires g c =
-    let m = c.args.self.now in
-    let d = c.args.device in
-    let own = c.number-own.result in
-    let r = c.requires.ready in
-    let there = went_there m r.state d r.good r.stands c.requires.living c.requires.standing in
-    let k : Known m d there.0 own = record {
-      ready = r;
-      lives = c.requires.living;
-      stands = c.requires.standing;
-      went = there.1;
-      own_is = c.number-own.ensures.value;
-    } in
-    let got = ap (option_map (λ (b : Bor (List ℕ)). b.now)) (sym c.in-Some.is) ∙ c.get.ensures in
-    let read = request_read m d there.0 own c.in-Some.bytes.now k got in
-    let at = c.device_at.ensures ∙ goes_to m d there.0 own c.number_in.result k (c.number_in.ensures ∙ ap (λ (i : ℕ). i % 64) (c.destination_at.ensures (went_packet own k.went) read)) in
-    let same : there.0 ≡ c.in-Some-device_at.target = same_Some there.0 c.in-Some-device_at.target (sym at ∙ c.in-Some-device_at.is) in
-    let registers = c.serve-reply.ensures.registers (went_packet own k.went) read in
-    let size = ap (λ (n : Network). length n.nodes) registers ∙ length-set m.devices.nodes c.in-Some-device_at.target _ in
-    let low = device_within m d there.0 own k in
-    let most = few_nodes m.devices.nodes r.state r.good r.stands.devices.nodes in
-    omega (arith, size, low, most, same)
+pub hear-requires-clause-stands : goal.hear-requires-clause-stands
+hear-requires-clause-stands g c = served_awaits _ _ _ _ _ c.requires.standing c.in-Some.ensures
 
 pub give_packet-requires : goal.give_packet-requires
-give_packet-requires g c =
-    let m = c.args.self.now in
-    let d = c.args.device in
-    let own = c.number-own.result in
-    let r = c.requires.ready in
-    let there = went_there m r.state d r.good r.stands c.requires.living c.requires.standing in
-    let k : Known m d there.0 own = record {
-      ready = r;
-      lives = c.requires.living;
-      stands = c.requires.standing;
-      went = there.1;
-      own_is = c.number-own.ensures.value;
-    } in
-    let got = ap (option_map (λ (b : Bor (List ℕ)). b.now)) (sym c.in-Some.is) ∙ c.get.ensures in
-    let read = request_read m d there.0 own c.in-Some.bytes.now k got in
-    let at = c.device_at.ensures ∙ goes_to m d there.0 own c.number_in.result k (c.number_in.ensures ∙ ap (λ (i : ℕ). i % 64) (c.destination_at.ensures (went_packet own k.went) read)) in
-    let same : there.0 ≡ c.in-Some-device_at.target = same_Some there.0 c.in-Some-device_at.target (sym at ∙ c.in-Some-device_at.is) in
-    let response = response_written m d there.0 own c.serve-reply.new.out c.serve-reply.result k
-    (λ n e. subst (λ (t : ℕ). IsServed (space_of n m.cycle (node_at m.devices.nodes t)) (went_packet own k.went) c.serve-reply.new.out c.serve-reply.result) (sym same)
-    (c.serve-reply.ensures.response (went_packet own k.went) read n (subst (λ (t : ℕ). (node_at m.devices.nodes t).number ≡ Some n) same e))) in
-    record { packet = response.packet; spells = response.spells }
+give_packet-requires g c = record { packet = c.in-Some.ensures.response; spells = c.in-Some.ensures.spells }
 
 pub returns : goal.returns
 returns g c =
-    let m = c.args.self.now in
-    let d = c.args.device in
-    let own = c.number-own.result in
-    let r = c.requires.ready in
-    let there = went_there m r.state d r.good r.stands c.requires.living c.requires.standing in
-    let k : Known m d there.0 own = record {
-      ready = r;
-      lives = c.requires.living;
-      stands = c.requires.standing;
-      went = there.1;
-      own_is = c.number-own.ensures.value;
-    } in
-    let got = ap (option_map (λ (b : Bor (List ℕ)). b.now)) (sym c.in-Some.is) ∙ c.get.ensures in
-    let read = request_read m d there.0 own c.in-Some.bytes.now k got in
-    let at = c.device_at.ensures ∙ goes_to m d there.0 own c.number_in.result k (c.number_in.ensures ∙ ap (λ (i : ℕ). i % 64) (c.destination_at.ensures (went_packet own k.went) read)) in
-    let same : there.0 ≡ c.in-Some-device_at.target = same_Some there.0 c.in-Some-device_at.target (sym at ∙ c.in-Some-device_at.is) in
-    let response = response_written m d there.0 own c.serve-reply.new.out c.serve-reply.result k
-    (λ n e. subst (λ (t : ℕ). IsServed (space_of n m.cycle (node_at m.devices.nodes t)) (went_packet own k.went) c.serve-reply.new.out c.serve-reply.result) (sym same)
-    (c.serve-reply.ensures.response (went_packet own k.went) read n (subst (λ (t : ℕ). (node_at m.devices.nodes t).number ≡ Some n) same e))) in
-    let registers : c.serve-reply.new.self ≡ record m.devices { nodes = nodes_after m.devices.nodes there.0 (went_packet own k.went) } =
-    subst (λ (t : ℕ). c.serve-reply.new.self ≡ record m.devices { nodes = nodes_after m.devices.nodes t (went_packet own k.went) }) (sym same) (c.serve-reply.ensures.registers (went_packet own k.went) read) in
-    let P : Pairs → List ℕ → Type 0 = λ w counts.
-    Takes half m (record m { devices = c.serve-reply.new.self; controllers = c.hear.new.self; wire = w; streams = counts }) d (Some (Async response.packet)) in
-    let stood = takes_hears m c.serve-reply.new.self c.hear.new.self d k.went.access k.went.to there.0 own (went_packet own k.went) response.packet
-    c.serve-reply.result c.requires.living c.requires.standing response.sent registers (sym response.carries) c.hear.ensures in
-    let looked = subst (λ (t : ℕ). c.look.new.self ≡ looked_at t c.serve-reply.new.self.nodes m.streams) (sym same) c.look.ensures in
-    let takes = subst (P c.remove.new.self) (sym looked)
-    (subst (λ w. P w (looked_at there.0 c.serve-reply.new.self.nodes m.streams)) (sym c.remove.ensures) stood) in
-    let now = record m { devices = c.serve-reply.new.self; controllers = c.hear.new.self; wire = c.remove.new.self; streams = c.look.new.self } in
+    let m : Machine = c.args.self.now in
+    let s = c.in-Some.ensures in
+    let takes = served_hears m _ c.hear.new.self c.args.device _ _ c.requires.living c.requires.standing s c.hear.ensures in
     record {
       speaks = record {
-        entry = Some (Async response.packet);
+        entry = Some (Async s.response);
         takes = takes;
-        gives = c.give_packet.ensures.bytes response.packet response.spells;
+        gives = c.give_packet.ensures.bytes s.response s.spells;
         faults = c.give_packet.ensures.faults;
       };
-      living = living_stays m now d (Some (Async response.packet)) c.requires.ready c.requires.living takes;
-      time = refl;
-      half_steps = refl;
-      names = ap (λ (n : Network). n.names) registers;
+      living = living_stays m _ c.args.device (Some (Async s.response)) c.requires.ready c.requires.living c.requires.standing.0 takes;
+      time = ap (λ (z : Machine). z.cycle) s.after;
+      half_steps = ap (λ (z : Machine). z.half_steps) s.after;
+      names = ap (λ (z : Machine). z.devices.names) s.after;
     }
-
--- ---- what cannot be: no bytes, no device at the node that they go to
-
-pub returns-in_default-clause-speaks : goal.returns-in_default-clause-speaks
-returns-in_default-clause-speaks g c =
-    let m = c.args.self.now in
-    let d = c.args.device in
-    let own = c.number-own.result in
-    let r = c.requires.ready in
-    let there = went_there m r.state d r.good r.stands c.requires.living c.requires.standing in
-    let k : Known m d there.0 own = record {
-      ready = r;
-      lives = c.requires.living;
-      stands = c.requires.standing;
-      went = there.1;
-      own_is = c.number-own.ensures.value;
-    } in
-    let w = some_taken (λ (b : Bor (List ℕ)). b.now) c.get.result m d there.0 own k c.get.ensures in
-    absurd (c.in_default.not-Some w.0 w.1)
-
-pub returns-in_default-device_at-clause-speaks : goal.returns-in_default-device_at-clause-speaks
-returns-in_default-device_at-clause-speaks g c =
-    let m = c.args.self.now in
-    let d = c.args.device in
-    let own = c.number-own.result in
-    let r = c.requires.ready in
-    let there = went_there m r.state d r.good r.stands c.requires.living c.requires.standing in
-    let k : Known m d there.0 own = record {
-      ready = r;
-      lives = c.requires.living;
-      stands = c.requires.standing;
-      went = there.1;
-      own_is = c.number-own.ensures.value;
-    } in
-    let got = ap (option_map (λ (b : Bor (List ℕ)). b.now)) (sym c.in-Some.is) ∙ c.get.ensures in
-    let read = request_read m d there.0 own c.in-Some.bytes.now k got in
-    let at = c.device_at.ensures ∙ goes_to m d there.0 own c.number_in.result k (c.number_in.ensures ∙ ap (λ (i : ℕ). i % 64) (c.destination_at.ensures (went_packet own k.went) read)) in
-    absurd (c.in_default-device_at.not-Some there.0 at)

@@ -20,7 +20,7 @@ returns-then-is_busy c = λ s g st.
 
 pub loop-device-preserved-then-is_calm : goal.loop-device-preserved-then-is_calm
 loop-device-preserved-then-is_calm c = λ s g st. below_more (λ d. (is_living s d && is_busy_at s d) ≡ false) c.loop-device.device (c.loop-device.invariant s g st)
-    (rests (is_living s c.loop-device.device) (is_busy_at s c.loop-device.device) (rest_busy c.args.self.now s c.loop-device.device st (c.is_calm.ensures c.if-is_calm.true)))
+    (rests (is_living s c.loop-device.device) (is_busy_at s c.loop-device.device) (rest_busy c.args.self.now s c.loop-device.device g st (c.is_calm.ensures c.if-is_calm.true)))
   where
     rests : (a b : Bool) → b ≡ false → (a && b) ≡ false
     rests true b e = e

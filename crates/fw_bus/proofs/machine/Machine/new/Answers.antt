@@ -28,7 +28,7 @@ pub returns : goal.returns
 unfolding list_to
 returns c = record {
   devices = subst (λ (n : Network). HasDevices n first_state) (sym c.in_ok-new.ensures) nothing_stands;
-  clock = record { cycle = refl; reclaiming = refl; half_steps = refl; written = refl };
+  clock = record { cycle = refl; reclaiming = refl; half_steps = refl; written = refl; resets = refl };
   controllers = record { table = c.in_ok-new-2.ensures; directory = refl };
   wire = subst (λ (w : Pairs). HasWire w first_state) (sym c.new-3.ensures) (wire_empty first_state (λ d. refl));
   streams = subst (λ (counts : List ℕ). HasStreams counts first_state) (sym c.new-4.ensures) nothing_sent;

@@ -1,4 +1,7 @@
-use Rattle.std.proofs.Common.{◌≡◌, Some, None, refl}
+use Rattle.std.proofs.Common.{◌≡◌, ◌++◌, ◌∙◌, ℕ, Some, None, refl, ap}
+use Rattle.fw_entry.specs.Log.{entry_bytes}
+use Rattle.fw_entry.specs.declared.entry.Entry.TheVariants.{Iso}
+use Rattle.fw_entry.specs.declared.version.Version.TheVariants.{Two}
 use Rattle.fw_bus.specs.Streaming.{count_at}
 use Rattle.fw_bus.proofs.CycleTurns.{ready_talker, gives_none, gives_some, packet_done, packet_fits, packet_same}
 use Rattle.fw_bus.proofs.Doings.{no_faults}
@@ -31,7 +34,7 @@ returns-in-Some g c =
         packet_is = packet_same _ _ made c.talker-talker.ensures.channel c.fifty-fifty.ensures refl;
         fits = packet_fits _ _ c.requires.ready c.requires.declared c.requires.talks c.talker-talker.ensures.channel c.number-own.ensures.range
             c.cycle-packet.ensures.fits;
-      }) c.put.ensures.bytes (no_faults 0 (tt {0}));
+      }) (c.put.ensures.bytes ∙ ap (λ (n : ℕ). c.args.room.now ++ entry_bytes Two n (record { cycle = c.args.self.now.cycle; what = Iso c.cycle-packet.result })) c.epoch.ensures) (no_faults 0 (tt {0}));
       size = c.put.ensures.size;
     }
 
@@ -47,6 +50,6 @@ returns-in-None g c =
         packet_is = packet_same _ _ made c.talker-talker.ensures.channel c.fifty-fifty.ensures refl;
         fits = packet_fits _ _ c.requires.ready c.requires.declared c.requires.talks c.talker-talker.ensures.channel c.number-own.ensures.range
             c.cycle-packet-in-None.ensures.fits;
-      }) c.put-in-None.ensures.bytes (no_faults 0 (tt {0}));
+      }) (c.put-in-None.ensures.bytes ∙ ap (λ (n : ℕ). c.args.room.now ++ entry_bytes Two n (record { cycle = c.args.self.now.cycle; what = Iso c.cycle-packet-in-None.result })) c.epoch-in-None.ensures) (no_faults 0 (tt {0}));
       size = c.put-in-None.ensures.size;
     }

@@ -1,7 +1,7 @@
-use Rattle.std.proofs.Common.{refl, ℕ, slice_index_or, arith, sym, ◌∙◌, ◌≡◌, ◌≤◌, ◌+◌, length, true, false, cond, ap}
+use Rattle.std.proofs.Common.{subst, refl, ℕ, slice_index_or, arith, sym, ◌∙◌, ◌≡◌, ◌≤◌, ◌+◌, length, true, false, cond, ap}
 use Rattle.std.specs.Prelude.{Err}
 use Rattle.fw_run.specs.State.{numbers_to}
-use Rattle.fw_bus.specs.Stands.{is_living_in, living_in}
+use Rattle.fw_bus.specs.Stands.{EndsAt, is_living_in, living_in}
 use Rattle.fw_bus.proofs.Doings.{ready_after}
 use Rattle.fw_bus.proofs.Calm.{round_rests}
 use Rattle.fw_bus.proofs.Rounding.{round_none, round_skips, round_then, round_cut, count_none, count_more, count_front}
@@ -34,7 +34,7 @@ returns g c =
     let few : c.args.self.now.half_steps + c.args.each ≤ 4000000 = omega (arith, after, c.requires.few) in
     let within : c.loop-device.device ≤ length c.args.self.now.devices.names = omega (arith, at_end, c.requires.within) in
     record {
-      does = round_rests c.loop-device.device _ c.requires.ready within after few c.loop-device.invariant.living (λ d low lt lives. c.requires.calm d (omega (arith, low, at_end)) lt lives) c.loop-device.invariant.count c.loop-device.invariant.does;
+      does = round_rests c.loop-device.device _ c.requires.ready within after few c.loop-device.invariant.living (subst (EndsAt c.args.self.now) (sym at_end) c.requires.ends) c.loop-device.invariant.count c.loop-device.invariant.does;
       living = c.loop-device.invariant.living;
       names = c.loop-device.invariant.names;
       count = after;

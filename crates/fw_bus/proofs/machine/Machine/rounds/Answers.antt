@@ -1,8 +1,8 @@
-use Rattle.std.proofs.Common.{refl, rules, arith, sym, ap, ◌∙◌, ◌≡◌, ◌+◌, ◌*◌, length, List, ℕ, true}
+use Rattle.std.proofs.Common.{inl, inr, refl, rules, arith, sym, ap, ◌∙◌, ◌≡◌, ◌+◌, ◌*◌, length, List, ℕ, true}
 use Rattle.std.specs.Prelude.{Err}
 use Rattle.fw_bus.specs.Stands.{living_in}
 use Rattle.fw_bus.proofs.Doings.{ready_after}
-use Rattle.fw_bus.proofs.Calm.{calm_after, calm_from}
+use Rattle.fw_bus.proofs.Calm.{calm_after}
 use Rattle.fw_bus.proofs.Settles.{rounds_none, rounds_then, rounds_all, rounds_rest, rounds_cut, living_kept, rounds_within, round_within}
 use Rattle.fw_bus.proofs.machine.Machine.rounds.Goals as goal
 
@@ -33,21 +33,29 @@ round-requires-clause-each g c =
     c.mark_living-each.ensures.count ∙ sym (ap (λ (z : List ℕ). length z) (living_kept c.args.self.now c.loop-i.self c.loop-i.invariant.names c.loop-i.invariant.living))
 
 pub round-requires-clause-within : goal.round-requires-clause-within
-round-requires-clause-within g c =
-    let names = ap (λ (z : List (List ℕ)). length z) c.loop-i.invariant.names in
-    omega (arith, names, c.busy_end-end.ensures.within, c.loop-i.invariant.within)
+round-requires-clause-within g c = c.round_end-end.ensures.within
 
 pub round-requires-clause-most : goal.round-requires-clause-most
-round-requires-clause-most g c = omega (arith, c.busy_end-end.ensures.within, c.loop-i.invariant.most)
+round-requires-clause-most g c =
+    let names = ap (λ (z : List (List ℕ)). length z) c.loop-i.invariant.names in
+    omega (arith, names, c.round_end-end.ensures.within, c.loop-i.invariant.few)
 
-pub round-requires-clause-calm : goal.round-requires-clause-calm
-round-requires-clause-calm g c = calm_from c.loop-i.end c.busy_end-end.result (length c.loop-i.self.devices.names) c.loop-i.self c.busy_end-end.ensures.calm c.loop-i.invariant.calm
+pub round-requires-clause-ends : goal.round-requires-clause-ends
+round-requires-clause-ends g c = c.round_end-end.ensures.ends
 
-pub busy_end-end-requires-clause-most : goal.busy_end-end-requires-clause-most
-busy_end-end-requires-clause-most g c = c.loop-i.invariant.most
+pub round_end-end-requires-clause-enough : goal.round_end-end-requires-clause-enough
+round_end-end-requires-clause-enough g c =
+    let names = ap (λ (z : List (List ℕ)). length z) c.loop-i.invariant.names in
+    omega (arith, names, c.loop-i.invariant.within)
 
-pub busy_end-end-requires-clause-marks : goal.busy_end-end-requires-clause-marks
-busy_end-end-requires-clause-marks g c = λ d lt.
+pub round_end-end-requires-clause-rest : goal.round_end-end-requires-clause-rest
+round_end-end-requires-clause-rest g c = c.loop-i.invariant.calm
+
+pub round_end-end-requires-clause-most : goal.round_end-end-requires-clause-most
+round_end-end-requires-clause-most g c = c.loop-i.invariant.most
+
+pub round_end-end-requires-clause-marks : goal.round_end-end-requires-clause-marks
+round_end-end-requires-clause-marks g c = λ d lt.
     c.mark_living-each.ensures.marks d (omega (arith, lt, c.loop-i.invariant.within)) ∙ sym (c.loop-i.invariant.living d)
 
 pub loop-i-init : goal.loop-i-init
@@ -56,6 +64,7 @@ loop-i-init g c = record {
   living = λ d. refl;
   names = refl;
   most = c.count-end.ensures.most;
+  few = omega (arith, c.count-end.ensures.value, c.count-end.ensures.most);
   within = omega (arith, c.count-end.ensures.value);
   calm = λ d low lt. absurd (omega (arith, low, lt, c.count-end.ensures.value));
   does = rounds_none _ _ _ _;
@@ -81,12 +90,15 @@ loop-i-preserved g c =
       count = let count = c.loop-i.invariant.count in let one = c.in_ok-round.ensures.count in let size = ap (λ (z : List ℕ). length z) still in omega (arith, count, one, more, size);
       living = λ d. c.in_ok-round.ensures.living d ∙ c.loop-i.invariant.living d;
       names = c.in_ok-round.ensures.names ∙ c.loop-i.invariant.names;
-      most = omega (arith, c.busy_end-end.ensures.within, c.loop-i.invariant.most);
-      within = omega (arith, c.busy_end-end.ensures.within, c.loop-i.invariant.within);
+      most = let names = ap (λ (z : List (List ℕ)). length z) c.loop-i.invariant.names in omega (arith, names, c.round_end-end.ensures.within, c.loop-i.invariant.few);
+      few = c.loop-i.invariant.few;
+      within = let names = ap (λ (z : List (List ℕ)). length z) c.loop-i.invariant.names in omega (arith, names, c.round_end-end.ensures.within);
       calm = λ d low lt lives.
           let names = ap (λ (z : List (List ℕ)). length z) c.in_ok-round.ensures.names in
-          calm_after d (ready_after c.requires.ready c.loop-i.invariant.does) c.in_ok-round.ensures.does
-          (calm_from c.loop-i.end c.busy_end-end.result (length c.loop-i.self.devices.names) c.loop-i.self c.busy_end-end.ensures.calm c.loop-i.invariant.calm d low (omega (arith, lt, names))
-          (sym (c.in_ok-round.ensures.living d) ∙ lives));
+          elim c.round_end-end.ensures.ends [
+            | inl is ↦ absurd (omega (arith, low, lt, names, is))
+            | inr h ↦ calm_after d (ready_after c.requires.ready c.loop-i.invariant.does) h.0 c.in_ok-round.ensures.does
+                (h.1 d low (omega (arith, lt, names)) (sym (c.in_ok-round.ensures.living d) ∙ lives))
+          ];
       does = rounds_then _ c.loop-i.invariant.does c.in_ok-round.ensures.does;
     }

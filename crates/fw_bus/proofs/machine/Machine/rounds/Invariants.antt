@@ -11,6 +11,7 @@ invariant-loop-i g l = record {
   living : (d : ℕ) → is_living_in l.self d ≡ is_living_in l.fn.self d;
   names : l.self.devices.names ≡ l.fn.self.devices.names;
   most : l.end ≤ 63;
+  few : length l.fn.self.devices.names ≤ 63;
   within : l.end ≤ length l.fn.self.devices.names;
   calm : CalmFrom l.end (length l.self.devices.names) l.self;
   does : Does {E = Failed} (RoundsFirst l.i) l.fn.self l.self (g.K.Sink.held l.fn.sink) (g.K.Sink.held l.sink) (g.K.Sink.faults l.fn.sink) (g.K.Sink.faults l.sink) (Ok (tt {0}));

@@ -4,7 +4,7 @@ use Rattle.std.specs.Prelude.{Err, Ok}
 use Rattle.fw_node.specs.Fcp.{frame_packet, number_of}
 use Rattle.fw_devices.specs.Network.{node_at}
 use Rattle.fw_bus.proofs.Doings.{does_asked, does_unasked}
-use Rattle.fw_bus.proofs.FrameCalls.{addressed_to, answered, answered_fewer, answered_talks, outgoing, reaches}
+use Rattle.fw_bus.proofs.FrameCalls.{addressed_to, answered, answered_fewer, answered_talks, outgoing, outgoing_asks, reaches}
 use Rattle.fw_bus.proofs.Sending.{sends_none, sends_one, sends_cut}
 use Rattle.fw_bus.proofs.machine.Machine.send_frame.Goals as goal
 
@@ -15,6 +15,11 @@ addressee-to-requires g c =
     record { frame = addressed_to c.requires.ready out }
 
 -- ---- the node answers
+
+pub answer-response-requires-clause-request : goal.answer-response-requires-clause-request
+answer-response-requires-clause-request g c =
+    let packet = sym c.in-Some.is ∙ c.outgoing.ensures.packet in
+    outgoing_asks (outgoing c.args.self.now c.args.device c.outgoing.new.self c.in-Some.frame c.requires.declared packet c.outgoing.ensures.node)
 
 pub answer-response-requires-clause-declared : goal.answer-response-requires-clause-declared
 answer-response-requires-clause-declared g c =
@@ -50,7 +55,7 @@ returns-in_err-give-clause-does g c =
     let out = outgoing c.args.self.now c.args.device c.outgoing.new.self c.in-Some.frame c.requires.declared packet c.outgoing.ensures.node in
     let talks = answered_talks (answered c.requires.ready out c.addressee-to.ensures c.answer-response.ensures.response c.answer-response.ensures.registers) in
     let failed = c.from_residual.ensures.0 in
-    let did = does_unasked _ _ _ (Err _) c.from_residual.result talks refl failed c.in_err-give.ensures.bytes c.in_err-give.ensures.faults in
+    let did = does_unasked _ _ _ (Err _) c.from_residual.result talks (λ n. refl) (λ n. refl) refl failed c.in_err-give.ensures.bytes c.in_err-give.ensures.faults in
     sends_cut c.args.device _ _ failed failed did
 
 pub returns-in_err-give-2-clause-does : goal.returns-in_err-give-2-clause-does
@@ -59,7 +64,7 @@ returns-in_err-give-2-clause-does g c =
     let out = outgoing c.args.self.now c.args.device c.outgoing.new.self c.in-Some.frame c.requires.declared packet c.outgoing.ensures.node in
     let talks = answered_talks (answered c.requires.ready out c.addressee-to.ensures c.answer-response.ensures.response c.answer-response.ensures.registers) in
     let given = c.in_ok-give.ensures in
-    let did = does_asked _ _ _ _ (Err _) talks given.bytes given.faults c.in_err-give-2.ensures.bytes c.in_err-give-2.ensures.faults in
+    let did = does_asked _ _ _ _ (Err _) talks (λ n. refl) (λ n. refl) given.bytes given.faults c.in_err-give-2.ensures.bytes c.in_err-give-2.ensures.faults in
     sends_cut c.args.device _ _ refl c.from_residual-in_err-give-2.ensures.0 did
 
 pub returns-clause-does : goal.returns-clause-does
@@ -68,7 +73,7 @@ returns-clause-does g c =
     let out = outgoing c.args.self.now c.args.device c.outgoing.new.self c.in-Some.frame c.requires.declared packet c.outgoing.ensures.node in
     let talks = answered_talks (answered c.requires.ready out c.addressee-to.ensures c.answer-response.ensures.response c.answer-response.ensures.registers) in
     let given = c.in_ok-give.ensures in
-    let did = does_asked _ _ _ _ (Ok _) talks given.bytes given.faults c.in_ok-give-2.ensures.bytes c.in_ok-give-2.ensures.faults in
+    let did = does_asked _ _ _ _ (Ok _) talks (λ n. refl) (λ n. refl) given.bytes given.faults c.in_ok-give-2.ensures.bytes c.in_ok-give-2.ensures.faults in
     sends_one c.args.device did
 
 pub returns-clause-fewer : goal.returns-clause-fewer

@@ -1,15 +1,18 @@
-use Rattle.std.proofs.Common.{refl}
+use Rattle.std.proofs.Common.{ap, refl}
 use Rattle.std.specs.Prelude.{Err}
+use Rattle.fw_devices.specs.Network.{Network}
 use Rattle.fw_bus.proofs.AskTurns.{transact_talks}
 use Rattle.fw_bus.proofs.Doings.{does_asked, does_unasked}
 use Rattle.fw_bus.proofs.machine.Machine.transact.Goals as goal
 
 pub returns-in_err-give : goal.returns-in_err-give
 returns-in_err-give g c =
-    let talk = transact_talks c.args.self.now _ c.args.transaction _ _ c.requires.from c.requires.to c.requires.free c.requires.access c.request-request.ensures.value c.answer-response.ensures.response refl in
-    record { does = rw c.answer-response.ensures.registers (does_unasked _ _ _ (Err _) _ talk refl c.from_residual.ensures.0 c.in_err-give.ensures.bytes c.in_err-give.ensures.faults) }
+    let is = ap (λ (d : Network). record c.args.self.now { devices = d }) c.answer-response.ensures.registers in
+    let talk = transact_talks c.args.self.now _ c.args.transaction _ _ c.requires.from c.requires.to c.requires.free c.requires.access c.request-request.ensures.value c.answer-response.ensures.response is in
+    record { does = does_unasked _ _ _ (Err _) _ talk (λ n. refl) (λ n. refl) refl c.from_residual.ensures.0 c.in_err-give.ensures.bytes c.in_err-give.ensures.faults }
 
 pub returns : goal.returns
 returns g c =
-    let talk = transact_talks c.args.self.now _ c.args.transaction _ _ c.requires.from c.requires.to c.requires.free c.requires.access c.request-request.ensures.value c.answer-response.ensures.response refl in
-    record { does = rw c.answer-response.ensures.registers (does_asked _ _ _ _ _ talk c.in_ok-give.ensures.bytes c.in_ok-give.ensures.faults c.give-2.ensures.bytes c.give-2.ensures.faults) }
+    let is = ap (λ (d : Network). record c.args.self.now { devices = d }) c.answer-response.ensures.registers in
+    let talk = transact_talks c.args.self.now _ c.args.transaction _ _ c.requires.from c.requires.to c.requires.free c.requires.access c.request-request.ensures.value c.answer-response.ensures.response is in
+    record { does = does_asked _ _ _ _ _ talk (λ n. refl) (λ n. refl) c.in_ok-give.ensures.bytes c.in_ok-give.ensures.faults c.give-2.ensures.bytes c.give-2.ensures.faults }

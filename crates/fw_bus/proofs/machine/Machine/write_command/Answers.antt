@@ -10,7 +10,7 @@ returns-in_err-give-clause-does g c =
     let asked = c.answer_frame-response.ensures in
     let told = command_talks D c.args.self.now _ c.args.from c.args.to c.args.bytes.now _ _ _ c.requires.from c.requires.to
     (record { write = rw c.as_slice.ensures at c.command_packet-request.ensures.value; fits = c.command_packet-request.ensures.fits; answers = asked.response; followed = asked.node }) asked.others in
-    does_commands D _ _ _ (does_unexchanged _ _ _ _ c.from_residual.result told refl c.from_residual.ensures.0 c.in_err-give.ensures.bytes c.in_err-give.ensures.faults)
+    does_commands D _ _ _ (does_unexchanged _ _ _ _ c.from_residual.result told (λ n. refl) (λ n. refl) refl c.from_residual.ensures.0 c.in_err-give.ensures.bytes c.in_err-give.ensures.faults)
 
 pub returns-clause-does : goal.returns-clause-does
 returns-clause-does g c =
@@ -18,4 +18,4 @@ returns-clause-does g c =
     let asked = c.answer_frame-response.ensures in
     let told = command_talks D c.args.self.now _ c.args.from c.args.to c.args.bytes.now _ _ _ c.requires.from c.requires.to
     (record { write = rw c.as_slice.ensures at c.command_packet-request.ensures.value; fits = c.command_packet-request.ensures.fits; answers = asked.response; followed = asked.node }) asked.others in
-    does_commands D _ _ _ (does_exchanged _ _ _ _ _ told c.in_ok-give.ensures.bytes c.in_ok-give.ensures.faults c.give-2.ensures.bytes c.give-2.ensures.faults)
+    does_commands D _ _ _ (does_exchanged _ _ _ _ _ told (λ n. refl) (λ n. refl) c.in_ok-give.ensures.bytes c.in_ok-give.ensures.faults c.give-2.ensures.bytes c.give-2.ensures.faults)

@@ -1,44 +1,36 @@
-use Rattle.std.proofs.Common.{◌≡◌, ap, sym, subst, ◌∙◌}
-use Rattle.fw_cmp.specs.declared.outcome.Next.TheVariants.{Waiting}
-use Rattle.fw_cmp.specs.Turns.{picked, going, ready, answer_of, after_answer, next, after_next}
-use Rattle.fw_cmp.specs.Holdings.{CurrentReached, CanGoOn}
-use Rattle.fw_cmp.proofs.GoingOn.{next_goes_on}
-use Rattle.fw_cmp.specs.declared.outcome.Next.{Next}
+use Rattle.std.proofs.Common.{◌≡◌, ℕ, false, ap, sym, subst, ◌∙◌, arith}
+use Rattle.fw_cmp.specs.declared.outcome.Next.TheVariants.{Idle, Waiting}
+use Rattle.fw_cmp.specs.Controllers.{ControllerState}
+use Rattle.fw_cmp.specs.Causes.{IsAtRest, IsHeldBack}
+use Rattle.fw_cmp.specs.Losses.{Listening, turn_of, after_turn}
+use Rattle.fw_cmp.specs.Holdings.{CanGoOn}
 use Rattle.fw_cmp.specs.Outcomes.{EndsWithCause}
-use Rattle.fw_cmp.proofs.Outcomes.{ends_with_cause}
-use Rattle.fw_cmp.specs.Controllers.{ControllerState, Fits}
-use Rattle.fw_cmp.proofs.Going.{going_reached}
-use Rattle.fw_cmp.proofs.Picking.{picked_goes_on}
-use Rattle.fw_cmp.proofs.Resting.{idle_means, rest_idles, waiting_means, held_back_waits}
+use Rattle.fw_cmp.proofs.Losses.{unlost, rested, never_deaf, never_forces}
 use Rattle.fw_cmp.proofs.controller.Controller.next.Goals as goal
 
-pub answer-requires-clause-reached : goal.answer-requires-clause-reached
-answer-requires-clause-reached c =
-    let goes_on : CanGoOn c.args.directory.now c.take.new.self = subst (λ (s : ControllerState). CanGoOn c.args.directory.now s) (sym c.take.ensures.state) (picked_goes_on c.args.now c.args.directory.now c.args.self.now c.requires.reached) in
-    subst (λ (s : ControllerState). CurrentReached c.args.directory.now s.current) (sym c.go_on.ensures.state) (going_reached c.args.directory.now c.take.new.self c.take.ensures.fits goes_on)
+abbrev before : goal.In_default → Listening
+before c = record { state = c.self.inside.agenda; asked_at = c.self.inside.asked_at; lost = c.self.inside.lost }
 
-is : (c : goal.After-answer) → c.answer.result ≡ next c.args.now c.args.directory.now c.args.self.now
-is c = c.answer.ensures.answer ∙ ap (λ (s : ControllerState). answer_of c.args.now c.args.directory.now s) (c.go_on.ensures.state ∙ ap (λ (s : ControllerState). going c.args.directory.now s) c.take.ensures.state)
+pub next-next-requires-clause-reached : goal.next-next-requires-clause-reached
+next-next-requires-clause-reached c =
+    let unlost_now : c.args.self.now.lost ≡ false = ap (λ (x : Listening). x.lost) (sym c.self.view_is) ∙ c.if-self.false in
+    subst (CanGoOn c.args.directory.now) (sym (ap (λ (x : Listening). x.state) c.self.view_is)) (c.requires.reached unlost_now)
 
-after : (c : goal.After-answer) → c.answer.new.self ≡ after_next c.args.now c.args.directory.now c.args.self.now
-after c = c.answer.ensures.state ∙ ap after_answer (c.go_on.ensures.state ∙ ap (λ (s : ControllerState). going c.args.directory.now s) c.take.ensures.state)
+pub returns-in_default : goal.returns-in_default
+returns-in_default c =
+    let unlost_now : c.args.self.now.lost ≡ false = ap (λ (x : Listening). x.lost) (sym c.self.view_is) ∙ c.if-self.false in
+    record {
+      answer = c.next-next.ensures.answer ∙ (sym (unlost c.args.now c.args.directory.now (before c) c.if-self.false) ∙ ap (turn_of c.args.now c.args.directory.now) c.self.view_is);
+      state = ap (λ (s : ControllerState). record (before c) { state = s }) c.next-next.ensures.state ∙ (sym (rested c.args.now c.args.directory.now (before c) c.if-self.false (λ to r e. c.in_default.not-Send to r (c.next-next.ensures.answer ∙ e))) ∙ ap (after_turn c.args.now c.args.directory.now) c.self.view_is);
+      fits = record { state = c.next-next.ensures.fits; asked_at = c.self.invariant.asked_at; lost = λ l. absurd (grind (arith, l, c.if-self.false)) };
+      goes_on = λ h. c.next-next.ensures.goes_on;
+      idle = subst (λ (x : Listening). (c.next-next.result ≡ Idle → IsAtRest x.state) × (IsAtRest x.state → c.next-next.result ≡ Idle)) c.self.view_is c.next-next.ensures.idle;
+      waiting = λ until. subst (λ (x : Listening). (c.next-next.result ≡ Waiting until → IsHeldBack c.args.now c.args.directory.now x.state × (until ≡ c.args.directory.now.over_at)) × (IsHeldBack c.args.now c.args.directory.now x.state × (until ≡ c.args.directory.now.over_at) → c.next-next.result ≡ Waiting until)) c.self.view_is (c.next-next.ensures.waiting until);
+      deaf = λ until. (λ e. absurd (never_deaf c.args.now c.args.directory.now c.self.inside.agenda until (sym c.next-next.ensures.answer ∙ e)), λ h. absurd (grind (arith, h.lost, unlost_now)));
+      force = (λ e. absurd (never_forces c.args.now c.args.directory.now c.self.inside.agenda (sym c.next-next.ensures.answer ∙ e)), λ h. absurd (grind (arith, h.lost, unlost_now)));
+      ended = subst (λ (x : Listening). EndsWithCause c.args.now c.args.directory.now x.state c.next-next.result) c.self.view_is c.next-next.ensures.ended;
+      addressee = c.next-next.ensures.addressee;
+    }
 
-pub returns-clause-answer : goal.returns-clause-answer
-returns-clause-answer c = is c
-
-pub returns-clause-state : goal.returns-clause-state
-returns-clause-state c = after c
-
-pub returns-clause-idle : goal.returns-clause-idle
-returns-clause-idle c = (λ e. idle_means c.args.now c.args.directory.now c.args.self.now c.take.ensures.before c.requires.heard (sym (is c) ∙ e), λ h. is c ∙ rest_idles c.args.now c.args.directory.now c.args.self.now h)
-
-pub returns-clause-waiting : goal.returns-clause-waiting
-returns-clause-waiting c until = (λ e. waiting_means c.args.now c.args.directory.now c.args.self.now until c.take.ensures.before c.requires.heard (sym (is c) ∙ e), λ h. is c ∙ held_back_waits c.args.now c.args.directory.now c.args.self.now h.0 ∙ ap Waiting (sym h.1))
-
-pub returns-clause-ended : goal.returns-clause-ended
-returns-clause-ended c =
-    let fits : Fits (ready c.args.now c.args.directory.now c.args.self.now) = subst (λ (s : ControllerState). Fits s) (c.go_on.ensures.state ∙ ap (λ (s : ControllerState). going c.args.directory.now s) c.take.ensures.state) c.go_on.ensures.fits in
-    subst (λ (n : Next). EndsWithCause c.args.now c.args.directory.now c.args.self.now n) (sym (is c)) (ends_with_cause c.args.now c.args.directory.now c.args.self.now fits)
-
-pub returns-clause-goes_on : goal.returns-clause-goes_on
-returns-clause-goes_on c = subst (λ (s : ControllerState). CanGoOn c.args.directory.now s) (sym (after c)) (next_goes_on c.args.now c.args.directory.now c.args.self.now c.take.ensures.before c.requires.reached)
+pub returns-in-Send-clause-waiting : goal.returns-in-Send-clause-waiting
+returns-in-Send-clause-waiting c until = subst (λ (x : Listening). (c.next-next.result ≡ Waiting until → IsHeldBack c.args.now c.args.directory.now x.state × (until ≡ c.args.directory.now.over_at)) × (IsHeldBack c.args.now c.args.directory.now x.state × (until ≡ c.args.directory.now.over_at) → c.next-next.result ≡ Waiting until)) c.self.view_is (c.next-next.ensures.waiting until)

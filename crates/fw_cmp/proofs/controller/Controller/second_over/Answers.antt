@@ -1,19 +1,7 @@
 use Rattle.std.proofs.Common.{sym, subst}
 use Rattle.fw_cmp.specs.Holdings.{CanGoOn}
-use Rattle.fw_cmp.proofs.GoingOn.{second_goes_on}
-use Rattle.fw_cmp.specs.Controllers.{ControllerState}
-use Rattle.fw_cmp.proofs.Overtaken.{second_fits}
+use Rattle.fw_cmp.specs.Losses.{Listening}
 use Rattle.fw_cmp.proofs.controller.Controller.second_over.Goals as goal
 
-pub invariant_of-self : goal.invariant_of-self
-invariant_of-self c =
-    let now : ControllerState = record { slots = c.self.inside.slots; waiting = c.self.inside.waiting.items; current = c.self.inside.current } in
-    rw c.second_over.ensures (second_fits now c.self.invariant)
-
-pub returns-clause-fits : goal.returns-clause-fits
-returns-clause-fits c = invariant_of-self c
-
 pub returns-clause-goes_on : goal.returns-clause-goes_on
-returns-clause-goes_on c d h =
-    let now : ControllerState = record { slots = c.self.inside.slots; waiting = c.self.inside.waiting.items; current = c.self.inside.current } in
-    rw c.second_over.ensures (second_goes_on d now (subst (λ (s : ControllerState). CanGoOn d s) (sym c.self.view_is) h))
+returns-clause-goes_on c d h = c.second_over.ensures.goes_on d (subst (λ (x : Listening). CanGoOn d x.state) (sym c.self.view_is) h)

@@ -1,15 +1,18 @@
-use Rattle.std.proofs.Common.{◌≡◌, true, ◌<◌, length, None, sym, subst}
-use Rattle.fw_cmp.specs.Controllers.{ControllerState}
-use Rattle.fw_cmp.specs.Starts.{break_fault, can_break}
-use Rattle.fw_cmp.proofs.Fitting.{can_break_fits}
-use Rattle.fw_cmp.proofs.Starting.{no_fault_means}
+use Rattle.std.proofs.Common.{◌≡◌, sym, subst, ap, ◌∙◌}
+use Rattle.fw_cmp.specs.declared.current.Current.{Current}
+use Rattle.fw_cmp.specs.Controllers.{ControllerState, IsStanding}
+use Rattle.fw_cmp.specs.Holdings.{CanGoOn}
+use Rattle.fw_cmp.specs.Losses.{Listening}
+use Rattle.fw_cmp.proofs.Losses.{break_current}
 use Rattle.fw_cmp.proofs.controller.Controller.start_break.Goals as goal
 
 pub invariant_of-self : goal.invariant_of-self
 invariant_of-self c =
-    let now : ControllerState = record { slots = c.self.inside.slots; waiting = c.self.inside.waiting.items; current = c.self.inside.current } in
-    let parts : (can_break now c.args.slot ≡ true) × (length now.waiting < 8) = no_fault_means now c.args.slot (subst (λ (s : ControllerState). break_fault s c.args.slot ≡ None) (sym c.self.view_is) (sym c.in_default.ensures)) in
-    rw c.push.ensures.items (can_break_fits now c.args.slot c.self.invariant parts.0 parts.1)
+    let same : c.start_break.new.self.current ≡ c.self.inside.agenda.current = ap (λ (x : ControllerState). x.current) c.start_break.ensures.state ∙ break_current c.self.inside.agenda c.args.slot in
+    record { state = c.start_break.ensures.fits; asked_at = c.self.invariant.asked_at; lost = λ l. subst IsStanding (sym same) (c.self.invariant.lost l) }
 
 pub returns-clause-fits : goal.returns-clause-fits
 returns-clause-fits c = invariant_of-self c
+
+pub returns-clause-goes_on : goal.returns-clause-goes_on
+returns-clause-goes_on c d h = c.start_break.ensures.goes_on d (subst (λ (x : Listening). CanGoOn d x.state) (sym c.self.view_is) h)

@@ -1,5 +1,8 @@
-use Rattle.std.proofs.Common.{◌≡◌, ◌-◌, ℕ, length, arith, ap, ◌∙◌}
-use Rattle.fw_log.specs.Stands.{position}
+use Rattle.std.proofs.Common.{◌≡◌, ◌-◌, ℕ, List, length, arith, ap, sym, subst, ◌∙◌}
+use Rattle.fw_log.specs.Stands.{Position, position}
+use Rattle.fw_log.specs.Reading.{IsPending}
+use Rattle.fw_log.proofs.FindLaws.{holds_by}
+use Rattle.fw_log.proofs.HistoryLaws.{nothing_pending}
 use Rattle.fw_log.specs.Reader.{State, Feeds}
 use Rattle.fw_log.proofs.PassLaws.{EndsPassed, ends_passed, fed, behind_passed, counts_up, passes_on, without_fault}
 use Rattle.fw_log.proofs.read.LogReader.pass.Goals as goal
@@ -53,3 +56,10 @@ pub returns-clause-history : goal.returns-clause-history
 returns-clause-history c =
     let x = (goal.at.returns-clause-history c).After-clear in
     passes_on c.args.self.now (new x) c.args.piece.now c.in_ok-end.field-0 (after x) (used x) (feeds x)
+
+pub invariant_of-self : goal.invariant_of-self
+invariant_of-self c =
+    let s : Position = position c.going_on-self-inside.result in
+    let P : List ℕ → Type 0 = IsPending s in
+    holds_by s c.clear.new.self c.self.inside.fault (without_fault c.self.inside.fault c.is_some.result c.is_some.ensures c.if-is_some.false)
+    (subst P (sym c.clear.ensures) (nothing_pending s))

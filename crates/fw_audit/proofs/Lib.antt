@@ -1,0 +1,5 @@
+pub mod Refusals
+pub mod Responses
+pub mod Verdicts
+pub mod Vouched
+pub mod Audits

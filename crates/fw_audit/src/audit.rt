@@ -1,0 +1,67 @@
+ghost use Rattle.std.specs.Prelude.{◌≡◌, ◌++◌, ◌∷◌, [], List, Option, Some, None, IfOk, IfErr, IsOkAnd};
+ghost use Rattle.fw_entry.specs.declared.entry.Entry.{Entry as LogEntry};
+ghost use Rattle.fw_entry.specs.Log.{Fits};
+ghost use Rattle.fw_ledger.specs.Account.{Account};
+ghost use Rattle.fw_ledger.specs.Stands.{StandsFor};
+ghost use Rattle.fw_audit.specs.Looked.{looked};
+ghost use Rattle.fw_audit.specs.Faults.{IsVerdict};
+ghost use Rattle.fw_audit.specs.Judged.{verdict};
+ghost use Rattle.fw_audit.specs.Audited.{Found, StandsAfter};
+ghost use Rattle.fw_audit.specs.declared.fault.AuditFault.{AuditFault as Fault};
+
+use crate::fault::AuditFault;
+use crate::judge::{judge, swap_refused};
+use fw_entry::{Entry, Timed};
+use fw_ledger::Ledger;
+use std::alloc::{AllocError, Global};
+
+/// What was found of the entries that were taken so far.
+#[derive(Drop)]
+pub struct Audit {
+    ledger: Ledger,
+    fault: Option<AuditFault>,
+}
+
+// The ledger takes an entry, unless it has a fault.
+fn take_entry(ledger: &mut Ledger, t: &Timed) -> Result<Option<AuditFault>, AllocError>
+    requires fits { Fits t.now.what }
+    ensures found { (l : Account) → StandsFor ledger.old l → IsOkAnd result (λ f. f ≡ verdict l t.now.what) }
+    ensures taken { (l : Account) → StandsFor ledger.old l → IfOk result (λ f. f ≡ None → StandsAfter ledger.new l t.now.what) }
+    ensures memory { IfErr result (λ e. ledger.new ≡ ledger.old) }
+{
+    if let Some(fault) = judge(ledger, &t.what) {
+        return Ok(Some(fault));
+    }
+    if ledger.take(t)? {
+        return Ok(None);
+    }
+    Ok(swap_refused(ledger, &t.what))
+}
+
+impl Audit {
+    /// The audit of no entries. All memory is taken here.
+    pub fn new(alloc: Global) -> Result<Audit, AllocError>
+        ensures { IfOk result (λ a. (a.fault ≡ None) × Found [] a None) }
+    {
+        Ok(Audit {
+            ledger: Ledger::new(alloc)?,
+            fault: None,
+        })
+    }
+
+    /// Takes an entry, and answers the first fault that it has, over the account of the entries before: None exactly where it
+    /// has none. After a fault it answers that fault at each call. After want of memory, of which it takes none, it is unchanged.
+    pub fn take(&mut self, t: &Timed) -> Result<Option<AuditFault>, AllocError>
+        requires fits { Fits t.now.what }
+        ensures kept { (f : Fault) → self.old.fault ≡ Some f → (result ≡ Ok (Some f)) × (self.new ≡ self.old) }
+        ensures first { (l : Account) → self.old.fault ≡ None → StandsFor self.old.ledger l → IsOkAnd result (IsVerdict l (looked t.now.what)) }
+        ensures found { (entries : List LogEntry) → self.old.fault ≡ None → Found entries self.old None
+            → IsOkAnd result (λ f. (f ≡ self.new.fault) × Found (entries ++ t.now.what ∷ []) self.new f) }
+        ensures memory { IfErr result (λ e. self.new ≡ self.old) }
+    {
+        if self.fault.is_none() {
+            self.fault = take_entry(&mut self.ledger, t)?;
+        }
+        Ok(self.fault)
+    }
+}

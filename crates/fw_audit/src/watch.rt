@@ -1,0 +1,39 @@
+//! Which registers are watched.
+
+ghost use Rattle.std.specs.Prelude.{◌≡◌, ◌<◌, ◌≤◌, ℕ, IfSome};
+ghost use Rattle.fw_audit.specs.Looked.{is_plug_offset, is_watched};
+ghost use Rattle.fw_audit.specs.Judged.{watched_offset};
+
+// An offset of the 31 plug registers that begin at one.
+fn is_plug_offset(first: u64, offset: u64) -> bool
+    requires { first < 4096 }
+    ensures { result ≡ is_plug_offset first offset }
+{
+    first <= offset && offset < first + 124 && (offset - first) % 4 == 0
+}
+
+/// A register of the account stands at this offset, on some node.
+pub fn is_watched(offset: u64) -> bool
+    ensures { result ≡ is_watched offset }
+{
+    offset == 0x220
+        || offset == 0x224
+        || offset == 0x228
+        || is_plug_offset(0x904, offset)
+        || is_plug_offset(0x984, offset)
+}
+
+/// The watched offset that an address is, if any.
+pub fn watched_offset(address: u64) -> Option<u16>
+    ensures { result ≡ watched_offset address }
+{
+    if address < 0xffff_f000_0000 {
+        return None;
+    }
+    let offset = address - 0xffff_f000_0000;
+    if is_watched(offset) {
+        Some(offset as u16)
+    } else {
+        None
+    }
+}

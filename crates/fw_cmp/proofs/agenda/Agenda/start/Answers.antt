@@ -1,0 +1,26 @@
+use Rattle.std.proofs.Common.{◌≡◌, Ok, sym, subst}
+use Rattle.fw_cmp.specs.Controllers.{ControllerState}
+use Rattle.fw_cmp.specs.Holdings.{CanGoOn}
+use Rattle.fw_cmp.specs.Refusals.{TakesSlot}
+use Rattle.fw_cmp.specs.Starts.{start}
+use Rattle.fw_cmp.proofs.Fitting.{start_fits}
+use Rattle.fw_cmp.proofs.GoingOn.{start_goes_on}
+use Rattle.fw_cmp.proofs.Starting.{taken_slot}
+use Rattle.fw_cmp.proofs.agenda.Agenda.start.Goals as goal
+
+abbrev before : goal.After-push → ControllerState
+before c = record { slots = c.self.inside.slots; waiting = c.self.inside.waiting.items; current = c.self.inside.current }
+
+takes : (c : goal.After-push) → TakesSlot (before c) c.in_ok-free.free
+takes c = taken_slot (before c) c.in_ok-free.free (subst (λ (s : ControllerState). start s ≡ Ok c.in_ok-free.free) (sym c.self.view_is) (sym c.in_ok-free.ensures.answer))
+
+pub invariant_of-self : goal.invariant_of-self
+invariant_of-self c =
+    let slot : TakesSlot (before c) c.in_ok-free.free = takes c in
+    rw c.push.ensures.items (start_fits (before c) c.in_ok-free.free c.args.slot c.self.invariant slot.within slot.free slot.room c.requires.slot c.requires.making)
+
+pub returns-clause-fits : goal.returns-clause-fits
+returns-clause-fits c = invariant_of-self c
+
+pub returns-clause-goes_on : goal.returns-clause-goes_on
+returns-clause-goes_on c d h = rw c.push.ensures.items (start_goes_on d (before c) (Ok c.in_ok-free.free) c.args.slot c.requires.making c.in_ok-free.ensures.within c.self.invariant.slots (subst (λ (s : ControllerState). CanGoOn d s) (sym c.self.view_is) h))

@@ -1,0 +1,79 @@
+//! `explain`: each entry in words, as it ends.
+
+ghost use Rattle.std.specs.Prelude.{◌≡◌, ℕ, List, ⊤};
+ghost use Rattle.fw_outside.specs.Stops.{ReadCount, WriteCount};
+ghost use Rattle.fw_reading.specs.Endings.{stop_of, Reads, IsComplete};
+ghost use Rattle.fw_decode.specs.Texts.{explained_form, nothing};
+ghost use Rattle.fw_decode.specs.Silences.{never_refused};
+
+use fw_explain::Explainer;
+use fw_log::Timed;
+use fw_outside::{Failed, Sink, Source};
+use fw_reading::{Closing, LogEnding, Reading, Stop, read_log};
+use std::alloc::{AllocError, Global};
+use std::convert::Infallible;
+
+// The lines of entries in words, and the requests that stand behind them.
+#[derive(Drop)]
+struct Explanation {
+    explainer: Explainer,
+}
+
+impl Reading for Explanation {
+    type Refusal = Infallible;
+
+    ghost use Rattle.fw_explain.specs.Requests.{standing};
+    ghost use Rattle.fw_decode.specs.TextLaws.{explained_each};
+
+    ghost form = { λ s. explained_form };
+
+    ghost rules = { never_refused nothing };
+
+    ghost took = { λ s entries. s.explainer.requests ≡ standing entries };
+
+    ghost gathered = { λ s. s.explainer.text };
+
+    fn open<K: Sink>(&self, _sink: &mut K) -> Result<(), Failed> {
+        Ok(())
+    }
+
+    fn take(&mut self, entry: &Timed, _bytes: &[u8]) -> Result<Option<Infallible>, AllocError> {
+        self.explainer.put(entry)?;
+        Ok(None)
+    }
+
+    fn gathered(&self) -> &[u8] {
+        self.explainer.as_slice()
+    }
+
+    fn clear(&mut self) {
+        self.explainer.clear();
+    }
+
+    fn close(&self, alloc: Global) -> Result<Closing<Infallible>, AllocError> {
+        Ok(Closing::Text(String::new(alloc)))
+    }
+
+    ghost each = { λ s. explained_each };
+
+    ghost accepted = { λ s entries t. tt };
+}
+
+/// Reads a log, and writes each entry in words in a line of its own; a response is told by the request that it answers.
+///
+/// The lines of the entries that ended are written before more is read, as those of `decode` are.
+pub fn explain<S: Source, K: Sink>(
+    alloc: Global,
+    source: &mut S,
+    sink: &mut K,
+) -> LogEnding<Infallible>
+    ensures reads { Reads explained_form (never_refused nothing) (S.left source.old) (S.left source.new) (K.held sink.old) (K.held sink.new) result }
+    ensures read_count { ReadCount (S.faults source.old) (S.faults source.new) (stop_of result) }
+    ensures write_count { WriteCount (K.faults sink.old) (K.faults sink.new) (stop_of result) }
+    ensures complete { IsComplete (λ entries. ⊤) (S.left source.old) result }
+{
+    match Explainer::new(alloc) {
+        Ok(explainer) => read_log(alloc, Explanation { explainer }, source, sink),
+        Err(_) => LogEnding::Stopped(Stop::NoMemory),
+    }
+}

@@ -1,0 +1,75 @@
+//! `map`: the tree of the last bus reset of a log, as text.
+
+ghost use Rattle.std.specs.Prelude.{ℕ, List, []};
+ghost use Rattle.fw_outside.specs.Stops.{ReadCount, WriteCount};
+ghost use Rattle.fw_reading.specs.Endings.{stop_of, Reads, IsComplete};
+ghost use Rattle.fw_decode.specs.Texts.{silent_form};
+ghost use Rattle.fw_decode.specs.Maps.{HasTree, map_rules};
+
+use crate::NoMap;
+use crate::last_tree::LastTree;
+use fw_log::Timed;
+use fw_map::tree_text;
+use fw_outside::{Failed, Sink, Source};
+use fw_reading::{Closing, LogEnding, Reading, read_log};
+use std::alloc::{AllocError, Global};
+
+// The tree that is to be written.
+#[derive(Drop)]
+struct Mapping {
+    last: LastTree,
+}
+
+impl Reading for Mapping {
+    type Refusal = NoMap;
+
+    ghost use Rattle.fw_decode.specs.TextLaws.{silent_each};
+    ghost use Rattle.fw_decode.specs.Trees.{IsLastTree};
+
+    ghost form = { λ m. silent_form };
+
+    ghost rules = { map_rules };
+
+    ghost took = { λ m entries. IsLastTree entries m.last };
+
+    ghost gathered = { λ m. [] };
+
+    fn open<K: Sink>(&self, _sink: &mut K) -> Result<(), Failed> {
+        Ok(())
+    }
+
+    fn take(&mut self, entry: &Timed, _bytes: &[u8]) -> Result<Option<NoMap>, AllocError> {
+        self.last.take(entry);
+        Ok(None)
+    }
+
+    fn gathered(&self) -> &[u8] {
+        &[]
+    }
+
+    fn clear(&mut self) {}
+
+    fn close(&self, alloc: Global) -> Result<Closing<NoMap>, AllocError> {
+        match &self.last {
+            LastTree::NoReset => Ok(Closing::Refused(NoMap::NoReset)),
+            LastTree::NoTree(fault) => Ok(Closing::Refused(NoMap::NoTree(*fault))),
+            LastTree::Found(tree) => Ok(Closing::Text(tree_text(alloc, tree)?)),
+        }
+    }
+
+    ghost each = { λ m. silent_each };
+
+    ghost accepted = { λ m entries t. tt };
+}
+
+/// Reads a log, and writes at its end the tree of its last bus reset, and the speeds between its nodes (`fw_map::tree_text`). Nothing
+/// is written before, nor where the log has no bus reset or no tree has the packets of the last one.
+pub fn map<S: Source, K: Sink>(alloc: Global, source: &mut S, sink: &mut K) -> LogEnding<NoMap>
+    ensures reads { Reads silent_form map_rules (S.left source.old) (S.left source.new) (K.held sink.old) (K.held sink.new) result }
+    ensures read_count { ReadCount (S.faults source.old) (S.faults source.new) (stop_of result) }
+    ensures write_count { WriteCount (K.faults sink.old) (K.faults sink.new) (stop_of result) }
+    ensures complete { IsComplete HasTree (S.left source.old) result }
+{
+    let last = LastTree::NoReset;
+    read_log(alloc, Mapping { last }, source, sink)
+}

@@ -1,0 +1,29 @@
+use fw_audit::AuditFault;
+use fw_map::MapFault;
+
+/// The first entry of a log that has a fault, and the first fault that it has.
+#[derive(Clone, Copy, Debug, PartialEq, Eq)]
+pub struct Unsound {
+    /// The number of the entry, from 0.
+    pub entry: u64,
+    /// What is wrong with it.
+    pub fault: AuditFault,
+}
+
+/// Why a log has no map.
+#[derive(Clone, Copy, Debug, PartialEq, Eq)]
+pub enum NoMap {
+    /// It has no bus reset.
+    NoReset,
+    /// No tree has the self-ID packets of its last bus reset: the first fault.
+    NoTree(MapFault),
+}
+
+/// Why a word refuses a log.
+#[derive(Clone, Copy, Debug, PartialEq, Eq)]
+pub enum LogRefusal {
+    /// An audit finds a fault at an entry.
+    Audit(Unsound),
+    /// The log has no map.
+    Map(NoMap),
+}

@@ -1,0 +1,310 @@
+-- The line of an entry in words (own): its cycle, and what it records, by the requests that stand before it.
+use Rattle.std.specs.Prelude.{ℕ, zero, suc, ◌+◌, ◌*◌, ◌/◌, ◌%◌, ◌^◌, ◌==◌, ◌&&◌, ◌||◌, Bool, true, false, List, [], ◌∷◌, ◌++◌, length, flat_map, slice_get, slice_index, codes, decimal, Option, Some, None, if◌then◌else◌}
+use Rattle.std.specs.Option.{is_some}
+use Rattle.std.specs.Int.{to_be_bytes, w32}
+use Rattle.fw_words.specs.Quadlet.{quadlet_at}
+use Rattle.fw_phy.specs.declared.packet.PhyPacket.{PhyPacket}
+use Rattle.fw_phy.specs.declared.packet.PhyPacket.TheVariants.{SelfId as FirstPacket, SelfIdMore as FurtherPacket, Config, LinkOn}
+use Rattle.fw_phy.specs.declared.packet.SelfId.{SelfId}
+use Rattle.fw_async.specs.Heads.{head_of}
+use Rattle.fw_async.specs.declared.packet.Head.{Head}
+use Rattle.fw_async.specs.declared.packet.Packet.{Packet}
+use Rattle.fw_async.specs.declared.packet.Packet.TheVariants.{WriteQuadlet, WriteBlock, WriteReply, ReadQuadlet, ReadBlock, ReadQuadletReply, ReadBlockReply, CycleStart, Lock, LockReply}
+use Rattle.fw_cip.specs.declared.packet.CipHeader.{CipHeader}
+use Rattle.fw_cip.specs.declared.packet.IsoPacket.{IsoPacket}
+use Rattle.fw_csr.specs.declared.request.Swap.{Swap}
+use Rattle.fw_csr.specs.Requests.{quadlet_swap}
+use Rattle.fw_entry.specs.declared.nodes.NodeRow.{NodeRow}
+use Rattle.fw_entry.specs.declared.entry.ResetEntry.{ResetEntry}
+use Rattle.fw_entry.specs.declared.entry.EventEntry.{EventEntry}
+use Rattle.fw_entry.specs.declared.entry.OutcomeEntry.{OutcomeEntry}
+use Rattle.fw_entry.specs.declared.entry.ShownEntry.{ShownEntry}
+use Rattle.fw_entry.specs.declared.entry.Entry.{Entry}
+use Rattle.fw_entry.specs.declared.entry.Entry.TheVariants.{Reset, Async, Iso, Event, Outcome, Shown, End}
+use Rattle.fw_entry.specs.declared.entry.Timed.{Timed}
+use Rattle.fw_names.specs.Texts.{hex, blank_hex, quadlet_text, quadlets_text, named}
+use Rattle.fw_names.specs.Names.{tcode_name, rcode_name, function_name, speed_name, port_name, device_name, system_name, format_name, event_name, event_saying, outcome_name, node_text}
+use Rattle.fw_registers.specs.declared.register.Register.{Register}
+use Rattle.fw_registers.specs.declared.register.Register.TheVariants.{FcpCommand, FcpResponse}
+use Rattle.fw_registers.specs.declared.place.Place.{Place}
+use Rattle.fw_registers.specs.declared.place.Place.TheVariants.{Named, Unnamed}
+use Rattle.fw_registers.specs.declared.told.Told.TheVariants.{Word as TheWord, Swap as TheSwap}
+use Rattle.fw_registers.specs.Places.{place_of}
+use Rattle.fw_registers.specs.Words.{place_text, told_text, word_text}
+use Rattle.fw_frames.specs.Frames.{frame_text}
+use Rattle.fw_explain.specs.declared.asked.Answer.TheVariants.{Write as WriteResponse, ReadQuadlet as ReadQuadletResponse, ReadBlock as ReadBlockResponse, Lock as LockResponse}
+use Rattle.fw_explain.specs.declared.asked.Asked.{Asked}
+use Rattle.fw_explain.specs.Requests.{answered}
+
+-- a port of a node, unless it is not there
+unfoldable pub port_text : ℕ → ℕ → List ℕ
+port_text number port = if port == 0 then [] else codes ", port " ++ decimal number ++ codes " " ++ named (port_name port) (codes "code") port
+
+-- the first n ports of a packet, the first of which has this number
+unfoldable pub first_ports : ℕ → List ℕ → ℕ → List ℕ
+first_ports first ports zero = []
+first_ports first ports (suc n) = first_ports first ports n ++ port_text (first + n) (slice_index ports n)
+
+-- all ports of a packet
+abbrev pub ports_text : ℕ → List ℕ → List ℕ
+ports_text first ports = first_ports first ports (length ports)
+
+-- the device that a node is, its kind, and its plugs
+unfoldable pub row_text : Option NodeRow → List ℕ
+row_text None = []
+row_text (Some row) = codes "device " ++ decimal row.device ++ codes " " ++ named (device_name row.kind) (codes "kind") row.kind
+    ++ codes ", plugs " ++ decimal row.outs ++ codes " out " ++ decimal row.ins ++ codes " in, "
+
+-- a flag as words, or none
+unfoldable pub flag_text : Bool → List ℕ → List ℕ → List ℕ
+flag_text flag shown hidden = if flag then shown else hidden
+
+-- the speed of a node
+unfoldable pub speed_text : ℕ → List ℕ
+speed_text speed = named (speed_name speed) (codes "speed") speed
+
+-- whether a node's link is active, whether it may become resource manager, and its gap count
+unfoldable pub link_text : Bool → List ℕ
+link_text link = flag_text link (codes ", link") (codes ", no link")
+
+unfoldable pub contender_text : Bool → List ℕ
+contender_text contender = flag_text contender (codes ", contender") []
+
+unfoldable pub gap_text : ℕ → List ℕ
+gap_text gap = codes ", gap " ++ decimal gap
+
+-- what a node says of itself
+unfoldable pub self_text : SelfId → List ℕ
+self_text s = speed_text s.speed ++ link_text s.link ++ contender_text s.contender ++ gap_text s.gap ++ ports_text 0 s.ports
+
+-- the number of a node
+unfoldable pub number_text : ℕ → List ℕ
+number_text number = codes "; node " ++ decimal number ++ codes ": "
+
+-- the first self-ID packet of a node: its device and what it says of itself
+unfoldable pub first_id_text : List NodeRow → SelfId → List ℕ
+first_id_text rows s = number_text s.phy ++ row_text (slice_get rows s.phy) ++ self_text s
+
+-- a self-ID packet: the node, its device and what it says, or further ports
+unfoldable pub id_text : List NodeRow → PhyPacket → List ℕ
+id_text rows (FirstPacket s) = first_id_text rows s
+id_text rows (FurtherPacket s) = ports_text (3 + 8 * s.number) s.ports
+id_text rows (Config root force_root set_gap gap) = []
+id_text rows (LinkOn phy) = []
+
+-- the node that is the isochronous resource manager, or that there is none
+unfoldable pub manager_text : Option ℕ → List ℕ
+manager_text None = codes "none"
+manager_text (Some node) = codes "node " ++ decimal node
+
+-- the number of a bus reset, its root, the resource manager and the initiator
+unfoldable pub epoch_text : ℕ → List ℕ
+epoch_text epoch = codes "bus reset epoch " ++ decimal epoch
+
+unfoldable pub root_text : ℕ → List ℕ
+root_text root = codes ", root node " ++ decimal root
+
+unfoldable pub resource_manager_text : Option ℕ → List ℕ
+resource_manager_text manager = codes ", resource manager " ++ manager_text manager
+
+unfoldable pub initiator_text : ℕ → List ℕ
+initiator_text initiator = codes ", initiator node " ++ decimal initiator
+
+-- a bus reset, with the self-ID packets
+unfoldable pub reset_text : ResetEntry → List ℕ
+reset_text r = epoch_text r.epoch ++ root_text r.root ++ resource_manager_text r.manager ++ initiator_text r.initiator ++ flat_map (id_text r.nodes) r.ids
+
+-- frames are written there
+unfoldable pub takes_frames : Place → Bool
+takes_frames (Named FcpCommand index) = true
+takes_frames (Named FcpResponse index) = true
+takes_frames _ = false
+
+-- a block: how many bytes, and their digits
+unfoldable pub block_text : List ℕ → List ℕ
+block_text bytes = codes " data_length " ++ decimal (length bytes) ++ blank_hex bytes
+
+-- a quadlet and a block that are written to a place
+unfoldable pub written_quadlet : Place → ℕ → List ℕ
+written_quadlet place value = if takes_frames place then frame_text (to_be_bytes w32 value) else word_text place value
+
+unfoldable pub written_block : Place → List ℕ → List ℕ
+written_block place bytes = if takes_frames place then frame_text bytes else block_text bytes
+
+-- where a request is
+unfoldable pub at_text : Place → List ℕ
+at_text place = codes " " ++ place_text place
+
+-- a lock's function
+unfoldable pub function_text : ℕ → List ℕ
+function_text function = codes " " ++ named (function_name function) (codes "extended_tcode") function
+
+-- the two words of a swap, and what it changes
+unfoldable pub swap_text : Place → Swap → List ℕ
+swap_text place s = quadlet_text s.argument ++ codes " to" ++ quadlet_text s.new ++ told_text (TheSwap s.argument s.new) place
+
+-- a lock request: of a quadlet compare_swap its two words and what it changes, of another its quadlets
+unfoldable pub lock_text : Place → ℕ → List ℕ → Option Swap → List ℕ
+lock_text place function bytes None = function_text function ++ at_text place ++ quadlets_text bytes
+lock_text place function bytes (Some s) = function_text function ++ at_text place ++ swap_text place s
+
+-- the response code
+unfoldable pub rcode_text : ℕ → List ℕ
+rcode_text rcode = codes " " ++ named (rcode_name rcode) (codes "rcode") rcode
+
+-- where the request was that a response answers
+unfoldable pub asked_text : Option Asked → List ℕ
+asked_text None = []
+asked_text (Some q) = at_text (place_of q.offset)
+
+-- no request that stands is answered
+unfoldable pub unasked_text : Option Asked → List ℕ
+unasked_text None = codes ", no request in this log"
+unasked_text (Some q) = []
+
+-- what a response brings, where it is complete
+abbrev pub complete_text : ℕ → List ℕ → List ℕ
+complete_text rcode brought = if rcode == 0 then brought else []
+
+-- a response: its code, where the request was, and what it brings
+unfoldable pub response_text : Option Asked → ℕ → List ℕ → List ℕ
+response_text q rcode brought = rcode_text rcode ++ asked_text q ++ complete_text rcode brought ++ unasked_text q
+
+-- the word that a read brings
+unfoldable pub read_text : Option Asked → ℕ → List ℕ
+read_text None value = quadlet_text value
+read_text (Some q) value = word_text (place_of q.offset) value
+
+-- what a quadlet compare_swap did that found this word: it was made where the word is its argument
+unfoldable pub made_text : Place → Swap → ℕ → List ℕ
+made_text place s old =
+    if old == s.argument then codes ", swap made" ++ told_text (TheSwap s.argument s.new) place else codes ", no swap" ++ told_text (TheWord old) place
+
+-- the word that a swap found, and what it did
+unfoldable pub swapped_text : Place → Swap → ℕ → List ℕ
+swapped_text place s old = quadlet_text old ++ made_text place s old
+
+-- what a lock brings of a quadlet compare_swap, or of another lock: the old value
+unfoldable pub found_text : Place → Option Swap → ℕ → List ℕ → List ℕ
+found_text place None function bytes = quadlets_text bytes
+found_text place (Some s) function bytes =
+    if (function == 2) && (length bytes == 4) then swapped_text place s (quadlet_at bytes 0) else quadlets_text bytes
+
+unfoldable pub old_text : Option Asked → ℕ → List ℕ → List ℕ
+old_text None function bytes = quadlets_text bytes
+old_text (Some q) function bytes = found_text (place_of q.offset) q.swap function bytes
+
+-- a lock response
+unfoldable pub locked_text : Option Asked → ℕ → ℕ → List ℕ → List ℕ
+locked_text q rcode function bytes =
+    rcode_text rcode ++ function_text function ++ asked_text q ++ complete_text rcode (old_text q function bytes) ++ unasked_text q
+
+-- what stands behind the name of a response, by the requests that stand before it
+unfoldable pub response_details : List Asked → Packet → List ℕ
+response_details list (WriteReply h rcode) = response_text (answered WriteResponse h list) rcode []
+response_details list (ReadQuadletReply h rcode value) = response_text (answered ReadQuadletResponse h list) rcode (read_text (answered ReadQuadletResponse h list) value)
+response_details list (ReadBlockReply h rcode bytes) = response_text (answered ReadBlockResponse h list) rcode (block_text bytes)
+response_details list (LockReply h rcode function bytes) = locked_text (answered LockResponse h list) rcode function bytes
+response_details list _ = []
+
+-- what stands behind the name of a packet, by the requests that stand before it
+unfoldable pub details : List Asked → Packet → List ℕ
+details list (WriteQuadlet h offset value) = at_text (place_of offset) ++ written_quadlet (place_of offset) value
+details list (WriteBlock h offset bytes) = at_text (place_of offset) ++ written_block (place_of offset) bytes
+details list (ReadQuadlet h offset) = at_text (place_of offset)
+details list (ReadBlock h offset len) = at_text (place_of offset) ++ codes " data_length " ++ decimal len
+details list (CycleStart h offset time) = at_text (place_of offset) ++ word_text (place_of offset) time
+details list (Lock h offset function bytes) = lock_text (place_of offset) function bytes (quadlet_swap function bytes)
+details list response = response_details list response
+
+-- from whom a packet goes to whom, and its label
+unfoldable pub head_text : Head → List ℕ
+head_text h = node_text h.source ++ codes " to " ++ node_text h.destination ++ codes " label " ++ decimal h.tl
+
+-- an asynchronous packet: from whom to whom, its label and its name, and what stands behind
+unfoldable pub packet_text : List Asked → Packet → List ℕ
+packet_text list p = head_text (head_of p) ++ codes " " ++ tcode_name p ++ details list p
+
+-- the format of an isochronous packet with its time stamp, or FMT and FDF
+unfoldable pub format_text : Option (List ℕ) → CipHeader → List ℕ
+format_text (Some name) cip = name ++ codes " SYT " ++ hex 4 (cip.fdf % 2 ^ 16)
+format_text None cip = codes "FMT " ++ decimal cip.fmt ++ codes " FDF " ++ hex 6 cip.fdf
+
+-- whether a packet has a block
+unfoldable pub block_word : Bool → List ℕ
+block_word has = if has then codes " block" else codes " empty"
+
+-- the stream that a packet is of: its channel, SID and DBC
+unfoldable pub stream_text : IsoPacket → List ℕ
+stream_text p = codes "isochronous channel " ++ decimal p.channel ++ codes " SID " ++ decimal p.cip.sid ++ codes " DBC " ++ decimal p.cip.dbc
+
+-- an isochronous packet: its channel, SID, DBC and format, and whether it has a block
+unfoldable pub iso_text : IsoPacket → List ℕ
+iso_text p = stream_text p ++ codes " " ++ format_text (format_name p.cip) p.cip ++ block_word (is_some p.block)
+
+-- the device of an event, where it has one
+unfoldable pub device_text : ℕ → List ℕ
+device_text device = if device == 255 then [] else codes " device " ++ decimal device
+
+-- what an event says
+unfoldable pub saying_text : Option (List ℕ) → List ℕ
+saying_text None = []
+saying_text (Some saying) = saying
+
+-- the tape and the system that are inserted
+unfoldable pub tape_text : EventEntry → List ℕ
+tape_text e = if e.code == 4 then codes " tape " ++ decimal e.tape ++ codes ", system " ++ named (system_name e.system) (codes "lines") e.system else []
+
+-- an event: its name, its device, and what it says
+unfoldable pub event_text : EventEntry → List ℕ
+event_text e = codes "event " ++ named (event_name e.code) (codes "code") e.code ++ device_text e.device ++ codes ": " ++ saying_text (event_saying e.code) ++ tape_text e
+
+-- the value of an outcome, by its code
+unfoldable pub value_text : ℕ → ℕ → List ℕ
+value_text code value =
+    if (code == 1) || (code == 3) then codes ", channel " ++ decimal value
+    else if code == 4 then codes ", CHANNELS_AVAILABLE" ++ quadlet_text value
+    else if code == 5 then codes ", units left " ++ decimal value
+    else if (code == 6) || (code == 7) then codes ", plug word" ++ quadlet_text value
+    else if code == 8 then codes ", answer" ++ rcode_text value
+    else if code == 10 then codes ", missing device " ++ decimal value
+    else if code == 11 then codes ", epoch " ++ decimal value
+    else if code == 12 then codes ", at cycle " ++ decimal value
+    else []
+
+-- the name of an outcome, and its device and slot
+unfoldable pub ended_text : ℕ → List ℕ
+ended_text code = codes "outcome " ++ named (outcome_name code) (codes "code") code
+
+unfoldable pub slot_text : ℕ → ℕ → List ℕ
+slot_text device slot = codes " device " ++ decimal device ++ codes " slot " ++ decimal slot
+
+-- an outcome: its name, device and slot, and its value
+unfoldable pub outcome_text : OutcomeEntry → List ℕ
+outcome_text o = ended_text o.code ++ slot_text o.device o.slot ++ value_text o.code o.value
+
+-- where a shown word stands, by its offset from FFFF F000 0000 on
+abbrev pub shown_place : ShownEntry → Place
+shown_place s = place_of (0xFFFF_F000_0000 + s.offset)
+
+-- the device that shows a word
+unfoldable pub shown_device : ℕ → List ℕ
+shown_device device = codes "shown device " ++ decimal device
+
+-- a shown word: its device, where it stands, and what it says
+unfoldable pub shown_text : ShownEntry → List ℕ
+shown_text s = shown_device s.device ++ at_text (shown_place s) ++ word_text (shown_place s) s.word
+
+-- what an entry records
+unfoldable pub what_text : List Asked → Entry → List ℕ
+what_text list (Reset r) = reset_text r
+what_text list (Async p) = packet_text list p
+what_text list (Iso p) = iso_text p
+what_text list (Event e) = event_text e
+what_text list (Outcome o) = outcome_text o
+what_text list (Shown s) = shown_text s
+what_text list End = codes "end"
+
+-- the line of an entry: its cycle, what it records, and a line feed
+abbrev pub line : List Asked → Timed → List ℕ
+line list t = decimal t.cycle ++ codes " " ++ what_text list t.what ++ 10 ∷ []

@@ -1,0 +1,17 @@
+//! The entries of a log in words, a line each: the cycle, and then what happened. A response is told by the request that it
+//! answers, so the requests that stand are kept from entry to entry.
+#![tactic(auto)]
+
+mod asked;
+mod events;
+mod explainer;
+mod line;
+mod lines;
+mod lock;
+mod packet;
+mod parts;
+mod requests;
+mod reset;
+
+pub use asked::{Answer, Asked};
+pub use explainer::Explainer;

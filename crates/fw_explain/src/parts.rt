@@ -1,0 +1,42 @@
+//! Words with what stands behind them.
+
+ghost use Rattle.std.specs.Prelude.{◌≡◌, ◌++◌, OnOk, decimal};
+ghost use Rattle.fw_names.specs.Texts.{quadlet_text};
+ghost use Rattle.fw_explain.specs.Lines.{flag_text};
+
+use fw_names::{Pairs, put_number, put_quadlet, put_word};
+use std::alloc::AllocError;
+
+// Appends a word and a number.
+pub(crate) fn put_part(text: &mut Vec<u8>, word: &str, n: u64) -> Result<(), AllocError>
+    ensures { OnOk result (text.new.items ≡ text.old.items ++ (word.now ++ decimal n)) }
+{
+    put_word(text, word)?;
+    put_number(text, n)
+}
+
+// Appends a word and a quadlet.
+pub(crate) fn put_word_part(
+    text: &mut Vec<u8>,
+    pairs: &Pairs,
+    word: &str,
+    quadlet: u32,
+) -> Result<(), AllocError>
+    ensures { OnOk result (text.new.items ≡ text.old.items ++ (word.now ++ quadlet_text quadlet)) }
+{
+    put_word(text, word)?;
+    put_quadlet(text, pairs, quadlet)
+}
+
+// Appends one word or another.
+#[tactic(auto, unfolding(crate::specs::Lines::flag_text))]
+pub(crate) fn put_flag(
+    text: &mut Vec<u8>,
+    flag: bool,
+    yes: &str,
+    no: &str,
+) -> Result<(), AllocError>
+    ensures { OnOk result (text.new.items ≡ text.old.items ++ flag_text flag yes.now no.now) }
+{
+    put_word(text, if flag { yes } else { no })
+}

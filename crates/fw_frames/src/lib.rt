@@ -1,0 +1,9 @@
+//! AV/C frames in words: who is addressed, what is commanded or answered, and the operands that have words (AV/C General 3.0; AV/C
+//! Tape Recorder/Player Subunit 2.1).
+#![tactic(auto)]
+
+mod frame;
+mod names;
+mod operands;
+
+pub use frame::put_frame;

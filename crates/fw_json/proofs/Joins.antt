@@ -1,0 +1,55 @@
+-- Pieces of text, one behind another.
+use Rattle.std.proofs.Common.{◌≡◌, refl, ap, sym, ◌∙◌, ℕ, suc, List, [], ◌∷◌, ◌++◌, decimal, Option, append_assoc}
+use Rattle.std.specs.List.{join_with_byte}
+use Rattle.std.proofs.lemmas.List.{append-nil}
+use Rattle.fw_json.specs.Values.{field, code, comma, array}
+
+-- one piece behind another
+pub then : (before after last a b : List ℕ) → after ≡ before ++ a → last ≡ after ++ b → last ≡ before ++ (a ++ b)
+then before after last a b e f = f ∙ ap (λ (t : List ℕ). t ++ b) e ∙ append_assoc before a b
+
+-- a value behind its key
+pub keyed : (before after last key value : List ℕ) → after ≡ before ++ key → last ≡ after ++ value → last ≡ before ++ field key value
+unfolding field
+keyed before after last key value e f = then before after last key value e f
+
+-- a piece of what is the same
+pub moved : {X : Type 0} (f : X → List ℕ) (before last : List ℕ) (x y : X) → x ≡ y → last ≡ before ++ f x → last ≡ before ++ f y
+moved f before last x y e t = t ∙ ap (λ z. before ++ f z) e
+
+-- a number by another that is the same
+pub counted : (before last key : List ℕ) (m n : ℕ) → m ≡ n → last ≡ before ++ field key (decimal m) → last ≡ before ++ field key (decimal n)
+counted before last key m n e f = f ∙ ap (λ (k : ℕ). before ++ field key (decimal k)) e
+
+-- a code by another that is the same, and its name by its table
+pub coded : (before last key : List ℕ) (m n : ℕ) (name_key : List ℕ) (x y : Option (List ℕ)) → m ≡ n → x ≡ y
+    → last ≡ before ++ code key m name_key x → last ≡ before ++ code key n name_key y
+coded before last key m n name_key x y e g f =
+    f ∙ ap (λ (k : ℕ). before ++ code key k name_key x) e ∙ ap (λ (z : Option (List ℕ)). before ++ code key n name_key z) g
+
+-- the values of a list from the n-th on, each with what stands before it
+abbrev pub row : ℕ → List (List ℕ) → List ℕ
+row n [] = []
+row n (v ∷ vs) = comma n ++ v ++ row (suc n) vs
+
+behind : (v : List ℕ) (vs : List (List ℕ)) (n : ℕ) → join_with_byte 44 (v ∷ vs) ≡ v ++ row (suc n) vs
+behind v [] n = sym (append-nil v)
+behind v (w ∷ ws) n = ap (λ (t : List ℕ). v ++ (44 ∷ t)) (behind w ws (suc n))
+
+pub joined : (values : List (List ℕ)) → join_with_byte 44 values ≡ row 0 values
+joined [] = refl
+joined (v ∷ vs) = behind v vs 0
+
+-- a value more, and what stands before it
+pub row_more : (t after last v : List ℕ) (vs : List (List ℕ)) (n : ℕ) → after ≡ t ++ comma n → last ≡ after ++ v
+    → last ++ row (suc n) vs ≡ t ++ row n (v ∷ vs)
+row_more t after last v vs n e f =
+    ap (λ (x : List ℕ). x ++ row (suc n) vs) (then t after last (comma n) v e f) ∙ append_assoc t (comma n ++ v) (row (suc n) vs)
+
+-- all values between brackets
+pub closed : (before opened t last : List ℕ) (values : List (List ℕ)) → opened ≡ before ++ (91 ∷ []) → t ++ [] ≡ opened ++ row 0 values
+    → last ≡ t ++ (93 ∷ []) → last ≡ before ++ array values
+unfolding array
+closed before opened t last values e f g =
+    let rows : t ≡ opened ++ join_with_byte 44 values = sym (append-nil t) ∙ f ∙ ap (λ (x : List ℕ). opened ++ x) (sym (joined values)) in
+    then before t last ((91 ∷ []) ++ join_with_byte 44 values) (93 ∷ []) (then before opened t (91 ∷ []) (join_with_byte 44 values) e rows) g

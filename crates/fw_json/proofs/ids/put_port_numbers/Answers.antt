@@ -1,0 +1,12 @@
+use Rattle.std.proofs.Common.{◌≡◌, ◌++◌, ◌∙◌, ℕ, List, [], ap, sym, arith, map, drop, decimal}
+use Rattle.std.proofs.lemmas.Result.{on_ok_weaker}
+use Rattle.std.proofs.Math.ListN.{drop_of_length-le}
+use Rattle.fw_json.proofs.Joins.{row, closed}
+use Rattle.fw_json.proofs.ids.put_port_numbers.Goals as goal
+
+pub returns : goal.returns
+returns c =
+    let ended : drop c.loop-place.place c.args.ports.now ≡ [] =
+    drop_of_length-le c.args.ports.now (omega (arith, c.loop-place-test.false, c.loop-place.auto.place-end)) in
+    let rows = ap (λ (xs : List ℕ). c.loop-place.text.items ++ row c.loop-place.place (map decimal xs)) (sym ended) ∙ c.loop-place.invariant in
+    on_ok_weaker c.put_word-2.result (λ piece. closed _ _ _ _ (map decimal c.args.ports.now) c.in_ok-put_word.ensures rows piece) c.put_word-2.ensures

@@ -1,0 +1,14 @@
+use Rattle.std.proofs.Common.{◌≡◌, ◌++◌, ◌∙◌, List, [], ap, sym, arith, drop}
+use Rattle.std.proofs.lemmas.Result.{on_ok_weaker}
+use Rattle.std.proofs.Math.ListN.{drop_of_length-le}
+use Rattle.fw_json.specs.Ids.{node_objects}
+use Rattle.fw_entry.specs.declared.nodes.NodeRow.{NodeRow}
+use Rattle.fw_json.proofs.Joins.{row, closed}
+use Rattle.fw_json.proofs.reset.put_nodes.Goals as goal
+
+pub returns : goal.returns
+returns c =
+    let ended : drop c.loop-node.node c.args.rows.now ≡ [] =
+    drop_of_length-le c.args.rows.now (omega (arith, c.loop-node-test.false, c.loop-node.auto.node-end)) in
+    let rows = ap (λ (xs : List NodeRow). c.loop-node.text.items ++ row c.loop-node.node (node_objects c.loop-node.node xs)) (sym ended) ∙ c.loop-node.invariant in
+    on_ok_weaker c.put_word-2.result (λ piece. closed _ _ _ _ (node_objects 0 c.args.rows.now) c.in_ok-put_word.ensures rows piece) c.put_word-2.ensures

@@ -1,0 +1,18 @@
+//! The entries of a log as JSON (RFC 8259), one object a line, with every field (own).
+//!
+//! Keys come in a fixed order, with no spaces between tokens, and each key of a kind is always there. The line depends on the
+//! entry alone. A code stands under two keys: its number, and its name in its table, `null` where that has none. Numbers are
+//! decimal; quadlets, offsets, node_IDs and bytes are texts of lower-case hexadecimal digits, the most significant first. A cycle
+//! from 2^53 on is a text of its decimal digits, since readers of JSON hold greater numbers rounded.
+#![tactic(auto)]
+
+mod entry;
+mod front;
+mod ids;
+mod iso;
+mod packet;
+mod reset;
+mod room;
+mod values;
+
+pub use room::{ObjectRoom, put_object};

@@ -1,0 +1,155 @@
+//! The fields of an asynchronous packet.
+
+ghost use Rattle.std.specs.Prelude.{◌≡◌, ◌++◌, OnOk, codes, decimal};
+ghost use Rattle.fw_async.specs.Heads.{head_of};
+ghost use Rattle.fw_json.specs.Values.{field};
+ghost use Rattle.fw_json.specs.Objects.{head_fields, place_fields, rcode_fields, target_fields, quadlet_field, block_fields, lock_fields, data_fields, packet_fields};
+
+use crate::values::{put_code, put_count, put_data, put_eight, put_four, put_twelve};
+use fw_async::{Head, Packet};
+use fw_names::{Pairs, function_name, rcode_name, retry_name, tcode, tcode_name};
+use std::alloc::AllocError;
+
+// What a packet begins with.
+fn head_of<'p>(p: &'p Packet) -> &'p Head
+    ensures { result.now ≡ head_of p.now }
+{
+    match p {
+        Packet::WriteQuadlet { head, .. } => head,
+        Packet::WriteBlock { head, .. } => head,
+        Packet::WriteReply { head, .. } => head,
+        Packet::ReadQuadlet { head, .. } => head,
+        Packet::ReadBlock { head, .. } => head,
+        Packet::ReadQuadletReply { head, .. } => head,
+        Packet::ReadBlockReply { head, .. } => head,
+        Packet::CycleStart { head, .. } => head,
+        Packet::Lock { head, .. } => head,
+        Packet::LockReply { head, .. } => head,
+    }
+}
+
+fn put_head(text: &mut Vec<u8>, pairs: &Pairs, h: &Head) -> Result<(), AllocError>
+    ensures { OnOk result (text.new.items ≡ text.old.items ++ head_fields h.now) }
+{
+    put_four(text, pairs, r#","dst_id":"#, h.destination)?;
+    put_count(text, r#","tlabel":"#, u64::from(h.tl))?;
+    put_code(
+        text,
+        r#","retry":"#,
+        u64::from(h.rt),
+        r#","retry_name":"#,
+        retry_name(h.rt),
+    )?;
+    put_count(text, r#","priority":"#, u64::from(h.pri))?;
+    put_four(text, pairs, r#","src_id":"#, h.source)
+}
+
+fn put_place(text: &mut Vec<u8>, pairs: &Pairs, offset: u64) -> Result<(), AllocError>
+    ensures { OnOk result (text.new.items ≡ text.old.items ++ place_fields offset) }
+{
+    put_twelve(text, pairs, r#","offset":"#, offset)
+}
+
+fn put_rcode(text: &mut Vec<u8>, rcode: u8) -> Result<(), AllocError>
+    ensures { OnOk result (text.new.items ≡ text.old.items ++ rcode_fields rcode) }
+{
+    put_code(
+        text,
+        r#","rcode":"#,
+        u64::from(rcode),
+        r#","rcode_name":"#,
+        rcode_name(rcode),
+    )
+}
+
+fn put_target(text: &mut Vec<u8>, pairs: &Pairs, p: &Packet) -> Result<(), AllocError>
+    ensures { OnOk result (text.new.items ≡ text.old.items ++ target_fields p.now) }
+{
+    match p {
+        Packet::WriteQuadlet { offset, .. } => put_place(text, pairs, *offset),
+        Packet::WriteBlock { offset, .. } => put_place(text, pairs, *offset),
+        Packet::WriteReply { rcode, .. } => put_rcode(text, *rcode),
+        Packet::ReadQuadlet { offset, .. } => put_place(text, pairs, *offset),
+        Packet::ReadBlock { offset, .. } => put_place(text, pairs, *offset),
+        Packet::ReadQuadletReply { rcode, .. } => put_rcode(text, *rcode),
+        Packet::ReadBlockReply { rcode, .. } => put_rcode(text, *rcode),
+        Packet::CycleStart { offset, .. } => put_place(text, pairs, *offset),
+        Packet::Lock { offset, .. } => put_place(text, pairs, *offset),
+        Packet::LockReply { rcode, .. } => put_rcode(text, *rcode),
+    }
+}
+
+fn put_quadlet(text: &mut Vec<u8>, pairs: &Pairs, value: u32) -> Result<(), AllocError>
+    ensures { OnOk result (text.new.items ≡ text.old.items ++ quadlet_field value) }
+{
+    put_eight(text, pairs, r#","data":"#, value)
+}
+
+fn put_block(text: &mut Vec<u8>, pairs: &Pairs, bytes: &[u8]) -> Result<(), AllocError>
+    ensures { OnOk result (text.new.items ≡ text.old.items ++ block_fields bytes.now) }
+{
+    put_count(text, r#","data_length":"#, bytes.len() as u64)?;
+    put_data(text, pairs, r#","data":"#, bytes)
+}
+
+fn put_lock(text: &mut Vec<u8>, pairs: &Pairs, function: u8, bytes: &[u8]) -> Result<(), AllocError>
+    ensures { OnOk result (text.new.items ≡ text.old.items ++ lock_fields function bytes.now) }
+{
+    put_count(text, r#","data_length":"#, bytes.len() as u64)?;
+    put_code(
+        text,
+        r#","extended_tcode":"#,
+        u64::from(function),
+        r#","extended_tcode_name":"#,
+        function_name(function),
+    )?;
+    put_data(text, pairs, r#","data":"#, bytes)
+}
+
+fn put_length(text: &mut Vec<u8>, length: u16) -> Result<(), AllocError>
+    ensures { OnOk result (text.new.items ≡ text.old.items ++ field (codes ",\"data_length\":") (decimal length)) }
+{
+    put_count(text, r#","data_length":"#, u64::from(length))
+}
+
+fn put_contents(text: &mut Vec<u8>, pairs: &Pairs, p: &Packet) -> Result<(), AllocError>
+    ensures { OnOk result (text.new.items ≡ text.old.items ++ data_fields p.now) }
+{
+    match p {
+        Packet::WriteQuadlet { value, .. } => put_quadlet(text, pairs, *value),
+        Packet::WriteBlock { bytes, .. } => put_block(text, pairs, bytes.as_slice()),
+        Packet::WriteReply { .. } => Ok(()),
+        Packet::ReadQuadlet { .. } => Ok(()),
+        Packet::ReadBlock { length, .. } => put_length(text, *length),
+        Packet::ReadQuadletReply { value, .. } => put_quadlet(text, pairs, *value),
+        Packet::ReadBlockReply { bytes, .. } => put_block(text, pairs, bytes.as_slice()),
+        Packet::CycleStart { time, .. } => put_quadlet(text, pairs, *time),
+        Packet::Lock {
+            function,
+            bytes,
+            ..
+        } => put_lock(text, pairs, *function, bytes.as_slice()),
+        Packet::LockReply {
+            function,
+            bytes,
+            ..
+        } => put_lock(text, pairs, *function, bytes.as_slice()),
+    }
+}
+
+// Appends the fields of an asynchronous packet.
+pub(crate) fn put_packet(text: &mut Vec<u8>, pairs: &Pairs, p: &Packet) -> Result<(), AllocError>
+    ensures { OnOk result (text.new.items ≡ text.old.items ++ packet_fields p.now) }
+{
+    let name = Some(tcode_name(p));
+    put_code(
+        text,
+        r#","tcode":"#,
+        u64::from(tcode(p)),
+        r#","tcode_name":"#,
+        name,
+    )?;
+    put_head(text, pairs, head_of(p))?;
+    put_target(text, pairs, p)?;
+    put_contents(text, pairs, p)
+}

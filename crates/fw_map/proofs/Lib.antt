@@ -1,0 +1,14 @@
+pub mod BuiltLaws
+pub mod CablingLaws
+pub mod FieldLaws
+pub mod JoinLaws
+pub mod NodeLaws
+pub mod OrderLaws
+pub mod RebuildLaws
+pub mod PacketLaws
+pub mod PathLaws
+pub mod RowLaws
+pub mod ShapeLaws
+pub mod TextLaws
+pub mod WalkLaws
+pub mod GraphLaws

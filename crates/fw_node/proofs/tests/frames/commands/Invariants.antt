@@ -1,6 +1,0 @@
-use Rattle.std.proofs.Common.{◌≡◌, None, IsSome, IsTrue}
-use Rattle.fw_base.specs.Devices.{has_link}
-use Rattle.fw_node.proofs.tests.frames.commands.Given as goal
-
-abbrev pub invariant-loop-packet : goal.invariant-loop-packet
-invariant-loop-packet g l = record { number : IsSome l.node.number; link : IsTrue (has_link l.node.kind); given : l.node.waiting ≡ None }

@@ -1,0 +1,4 @@
+pub mod Readings
+pub mod Endings
+pub mod Pieces
+pub mod Widening

@@ -1,0 +1,55 @@
+-- What a word makes of the entries of a log.
+use Rattle.std.specs.Prelude.{◌≡◌, ℕ, List, [], ◌∷◌, ◌++◌, Option, Some, None, string_bytes}
+use Rattle.fw_entry.specs.declared.entry.Timed.{Timed}
+use Rattle.fw_log.specs.History.{HasRead}
+use Rattle.fw_log.specs.Reader.{State}
+use Rattle.fw_reading.specs.declared.ending.Closing.{Closing}
+use Rattle.fw_reading.specs.declared.ending.Closing.TheVariants.{Text as ClosesBy, Refused}
+
+-- what is written of entries, behind others, as they end
+abbrev pub Text : Type 0
+Text = List Timed → List Timed → List ℕ
+
+-- a text that is that of each entry, one after another
+pub record IsEach (text : Text) : Type 0 where
+  pub none : (xs : List Timed) → text xs [] ≡ []
+  pub more : (xs ys zs : List Timed) → text xs (ys ++ zs) ≡ text xs ys ++ text (xs ++ ys) zs
+
+-- what a word writes while a log is read: this once the header was taken whole, and this of entries as they end
+pub record Form : Type 0 where
+  pub head : List ℕ
+  pub text : Text
+
+-- what is written of entries up to the last of them
+abbrev pub written : Form → List Timed → List ℕ
+written form entries = form.head ++ form.text [] entries
+
+-- what a word makes of entries besides: it goes on behind these; it refuses the log with this at the last of these; at the end of a
+-- log of these it writes this; and it refuses a log of these with this
+pub record Rules (R : Type 0) : Type 1 where
+  pub accepts : List Timed → Type 0
+  pub rejects : List Timed → R → Type 0
+  pub closes : List Timed → List ℕ → Type 0
+  pub refuses : List Timed → R → Type 0
+
+-- a log that a word does not refuse, at none of its entries and not at its end
+pub record IsAccepted {R : Type 0} (rules : Rules R) (entries : List Timed) : Type 0 where
+  pub entry : (front rest : List Timed) (refusal : R) → entries ≡ front ++ rest → rules.rejects front refusal → ⊥
+  pub end : (refusal : R) → rules.refuses entries refusal → ⊥
+
+-- One entry more was taken, and its text was gathered; or the log is refused at it, and nothing was.
+abbrev pub TakesEntry : {R : Type 0} → Text → (List Timed → R → Type 0) → (List Timed → Type 0) → List ℕ → List ℕ → List Timed → Timed → Option R → Type 0
+TakesEntry text rejects Took old new entries entry None = Took (entries ++ entry ∷ []) × (new ≡ old ++ text entries (entry ∷ []))
+TakesEntry text rejects Took old new entries entry (Some refusal) = rejects (entries ++ entry ∷ []) refusal × (new ≡ old)
+
+-- one entry more was read and taken, and it has no text
+pub record Passes (text : Text) (Took : List Timed → Type 0) (entries : List Timed) (bytes : List ℕ) (reader : State) : Type 0 where
+  pub entry : Timed
+  pub read : HasRead (entries ++ entry ∷ []) bytes reader
+  pub took : Took (entries ++ entry ∷ [])
+  pub silent : text entries (entry ∷ []) ≡ []
+
+-- what is made of the end of a log
+abbrev pub Closes : {R : Type 0} → Rules R → List Timed → Closing R → Type 0
+Closes rules entries (ClosesBy text) = rules.closes entries (string_bytes text)
+Closes rules entries (Refused refusal) = rules.refuses entries refusal

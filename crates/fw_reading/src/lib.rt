@@ -1,0 +1,16 @@
+//! One loop over logs: what a word makes of the entries of a log is a `Reading`, and `read_log` reads the log for it.
+//!
+//! A log is read in pieces of 4,096 bytes at most. What an entry gives is gathered as the entry ends, and written once a piece,
+//! before more is read; room for it is made once, so memory does not grow with the log. The first fault that is met decides how
+//! a call ends.
+#![tactic(auto)]
+
+mod ending;
+mod log;
+mod piece;
+mod reading;
+
+pub use ending::{Closing, LogEnding};
+pub use fw_outside::Stop;
+pub use log::read_log;
+pub use reading::Reading;

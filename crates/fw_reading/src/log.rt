@@ -1,0 +1,120 @@
+//! A log, from its first byte to its end.
+
+ghost use Rattle.std.specs.Prelude.{ℕ, ◌≡◌, ◌<◌, ◌^◌, List, [], None};
+ghost use Rattle.fw_outside.specs.Stops.{ReadCount, WriteCount};
+ghost use Rattle.fw_entry.specs.declared.entry.Timed.{Timed as TimedEntry};
+ghost use Rattle.fw_log.specs.History.{HasRead};
+ghost use Rattle.fw_log.specs.Reader.{total};
+ghost use Rattle.fw_reading.specs.Endings.{stop_of, Reads, IsComplete};
+ghost use Rattle.fw_reading.specs.Readings.{IsAccepted};
+ghost use Rattle.fw_reading.specs.Pieces.{EndsLog};
+
+use crate::piece::{print, print_bytes};
+use crate::{Closing, LogEnding, Reading};
+use fw_log::{LogReader, Room};
+use fw_outside::{Sink, Source, Stop};
+use std::alloc::Global;
+
+/// How many bytes of a log are read at most.
+const LIMIT: usize = 268_435_456;
+
+/// How many bytes are asked for at a time.
+const PIECE: usize = 4096;
+
+// How a log ends whose input has ended.
+fn end_log<O: Reading, K: Sink>(
+    alloc: Global,
+    reader: &LogReader,
+    output: &O,
+    sink: &mut K,
+) -> LogEnding<O::Refusal>
+    requires room { total reader.now < 2 ^ 64 }
+    requires begun { (entries : List TimedEntry) × O.took output.now entries }
+    ensures ends { (entries : List TimedEntry) → (bytes : List ℕ) → HasRead entries bytes reader.now → O.took output.now entries
+        → EndsLog O.rules entries bytes reader.now (K.held sink.old) (K.held sink.new) result }
+    ensures counts { WriteCount (K.faults sink.old) (K.faults sink.new) (stop_of result) }
+{
+    if let Err(fault) = reader.finish() {
+        return LogEnding::NoLog(fault);
+    }
+    let Ok(closing) = output.close(alloc) else {
+        return LogEnding::Stopped(Stop::NoMemory);
+    };
+    let text = match closing {
+        Closing::Text(text) => text,
+        Closing::Refused(refusal) => return LogEnding::Refused(refusal),
+    };
+    match print(text.as_bytes(), sink) {
+        Ok(()) => LogEnding::Done,
+        Err(_) => LogEnding::Stopped(Stop::WriteFault),
+    }
+}
+
+// Reads a log from its first byte on.
+fn read_pieces<O: Reading, S: Source, K: Sink>(
+    alloc: Global,
+    reader: &mut LogReader,
+    room: &mut Room,
+    mut output: O,
+    source: &mut S,
+    sink: &mut K,
+) -> LogEnding<O::Refusal>
+    requires begins { HasRead [] [] reader.old }
+    requires took { O.took output [] }
+    requires empty { O.gathered output ≡ [] }
+    ensures reads { Reads (O.form output) O.rules (S.left source.old) (S.left source.new) (K.held sink.old) (K.held sink.new) result }
+    ensures read_count { ReadCount (S.faults source.old) (S.faults source.new) (stop_of result) }
+    ensures write_count { WriteCount (K.faults sink.old) (K.faults sink.new) (stop_of result) }
+{
+    let mut piece = [0; PIECE];
+    let mut left = LIMIT;
+    loop {
+        let Ok(count) = source.read(&mut piece) else {
+            return LogEnding::Stopped(Stop::ReadFault);
+        };
+        if count == 0 {
+            return end_log(alloc, reader, &output, sink);
+        }
+        let within = count.min(left);
+        if let Err(ending) = print_bytes(
+            reader,
+            room,
+            &mut output,
+            LIMIT - left,
+            &piece[..within],
+            sink,
+        ) {
+            return ending;
+        }
+        if within < count {
+            return LogEnding::Stopped(Stop::TooLong);
+        }
+        left -= count;
+    }
+}
+
+/// Reads a log to its end, and writes what a word makes of it.
+///
+/// What the entries give that ended is written before more is read. A call takes at most 4,095 bytes behind the byte that shows a
+/// fault of the log, and 4,096 behind an entry that is refused.
+pub fn read_log<O: Reading, S: Source, K: Sink>(
+    alloc: Global,
+    output: O,
+    source: &mut S,
+    sink: &mut K,
+) -> LogEnding<O::Refusal>
+    requires took { O.took output [] }
+    requires empty { O.gathered output ≡ [] }
+    ensures reads { Reads (O.form output) O.rules (S.left source.old) (S.left source.new) (K.held sink.old) (K.held sink.new) result }
+    ensures read_count { ReadCount (S.faults source.old) (S.faults source.new) (stop_of result) }
+    ensures write_count { WriteCount (K.faults sink.old) (K.faults sink.new) (stop_of result) }
+    ensures complete { IsComplete (IsAccepted O.rules) (S.left source.old) result }
+{
+    let Ok(mut reader) = LogReader::new(alloc) else {
+        return LogEnding::Stopped(Stop::NoMemory);
+    };
+    let Ok(mut room) = Room::new(alloc) else {
+        return LogEnding::Stopped(Stop::NoMemory);
+    };
+    read_pieces(alloc, &mut reader, &mut room, output, source, sink)
+}

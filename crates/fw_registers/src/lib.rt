@@ -1,0 +1,16 @@
+//! The registers of a node by name, and what their words and swaps say (IEEE 1212; IEEE 1394-1995, 8.3.2; IEC 61883-1, 7 and 9).
+#![tactic(auto)]
+
+mod channels;
+mod fields;
+mod offset;
+mod place;
+mod register;
+mod shown;
+mod text;
+mod told;
+
+pub use place::Place;
+pub use register::Register;
+pub use text::{put_place, put_register_word, put_told};
+pub use told::Told;

@@ -1,0 +1,43 @@
+//! Offsets of registers, beside those that their own crates have.
+
+use fw_csr::REGISTER_SPACE;
+
+pub const STATE_CLEAR: u64 = REGISTER_SPACE;
+
+pub const STATE_SET: u64 = REGISTER_SPACE + 0x004;
+
+pub const NODE_IDS: u64 = REGISTER_SPACE + 0x008;
+
+pub const RESET_START: u64 = REGISTER_SPACE + 0x00C;
+
+pub const SPLIT_TIMEOUT_HI: u64 = REGISTER_SPACE + 0x018;
+
+pub const SPLIT_TIMEOUT_LO: u64 = REGISTER_SPACE + 0x01C;
+
+pub const CYCLE_TIME: u64 = REGISTER_SPACE + 0x200;
+
+pub const BUS_TIME: u64 = REGISTER_SPACE + 0x204;
+
+pub const BUSY_TIMEOUT: u64 = REGISTER_SPACE + 0x210;
+
+pub const PRIORITY_BUDGET: u64 = REGISTER_SPACE + 0x218;
+
+pub const MAINT_UTILITY: u64 = REGISTER_SPACE + 0x230;
+
+pub const BROADCAST_CHANNEL: u64 = REGISTER_SPACE + 0x234;
+
+pub const CONFIG_ROM: u64 = REGISTER_SPACE + 0x400;
+
+pub const BUS_NAME: u64 = REGISTER_SPACE + 0x404;
+
+pub const BUS_OPTIONS: u64 = REGISTER_SPACE + 0x408;
+
+pub const EUI_64_HI: u64 = REGISTER_SPACE + 0x40C;
+
+pub const EUI_64_LO: u64 = REGISTER_SPACE + 0x410;
+
+pub const FCP_COMMAND: u64 = REGISTER_SPACE + 0xB00;
+
+pub const FCP_RESPONSE: u64 = REGISTER_SPACE + 0xD00;
+
+pub const TOPOLOGY_MAP: u64 = REGISTER_SPACE + 0x1000;

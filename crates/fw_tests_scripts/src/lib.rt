@@ -1,0 +1,13 @@
+//! Tests of scripts, and of trees of cables. Nothing stands on this crate.
+#![tactic(auto)]
+
+#[cfg(test)]
+mod cablings;
+#[cfg(test)]
+mod forms;
+#[cfg(test)]
+mod maps;
+#[cfg(test)]
+mod scripts;
+#[cfg(test)]
+mod trees;

@@ -1,0 +1,84 @@
+use Rattle.std.proofs.Common.{◌≡◌, ℕ, List, Option, ap, sym, subst, ◌∙◌}
+use Rattle.fw_run.specs.Desks.{DeskRelations}
+use Rattle.fw_reading.specs.Endings.{Reads}
+use Rattle.fw_decode.specs.Words.{form_by, rules_by}
+use Rattle.fw_simulate.specs.Ending.{Runs}
+use Rattle.fw_simulate.specs.Sums.{Sums}
+use Rattle.fw_tool.specs.declared.ending.Ending.{Ending}
+use Rattle.fw_tool.specs.declared.ending.Ending.TheVariants.{Usage}
+use Rattle.fw_tool.specs.Faults.{FirstFault}
+use Rattle.fw_tool.specs.Logs.{by_log}
+use Rattle.fw_tool.specs.Runs.{by_run}
+use Rattle.fw_tool.proofs.Servings.{closes}
+use Rattle.fw_tool.proofs.session.serve.Given as given
+use Rattle.fw_tool.proofs.session.serve.Goals as goal
+
+pub returns-clause-run : goal.returns-clause-run
+returns-clause-run g c form =
+    let D : DeskRelations = record { blocks = given.F-post g c.args.desk.now.blocks; vendor = given.H-post g c.args.desk.now.vendor } in
+    let (e, is, runs) = c.carry_out-ending.ensures.run form in
+    let F : Ending → Type 0 = FirstFault (g.S.Source.faults c.args.source.now) (g.S.Source.faults c.carry_out-ending.new.source) (g.K.Sink.faults c.args.sink.now) (g.K.Sink.faults c.carry_out-ending.new.sink) in
+    let P : Option (List ℕ) → Type 0 = λ h. Runs D (g.S.Source.left c.args.source.now) (g.S.Source.left c.carry_out-ending.new.source) (g.K.Sink.held c.args.sink.now) h e in (
+      e,
+      c.closed.result,
+      subst P (sym c.pass_all-flushed.ensures.held) runs,
+      record {
+        before = g.K.Sink.faults c.carry_out-ending.new.sink;
+        first = subst F is c.carry_out-ending.ensures.first;
+        flushed = closes c.pass_all-flushed.result c.carry_out-ending.result (by_run e) c.closed.result _ _ _ is c.closed.ensures c.pass_all-flushed.ensures.empty c.pass_all-flushed.ensures.same c.pass_all-flushed.ensures.risen;
+      },
+      c.tell.ensures,
+    )
+
+pub returns-clause-logs : goal.returns-clause-logs
+returns-clause-logs g c word form =
+    let (e, is, reads) = c.carry_out-ending.ensures.logs word form in
+    let F : Ending → Type 0 = FirstFault (g.S.Source.faults c.args.source.now) (g.S.Source.faults c.carry_out-ending.new.source) (g.K.Sink.faults c.args.sink.now) (g.K.Sink.faults c.carry_out-ending.new.sink) in
+    let P : Option (List ℕ) → Type 0 = λ h. Reads (form_by word) (rules_by word) (g.S.Source.left c.args.source.now) (g.S.Source.left c.carry_out-ending.new.source) (g.K.Sink.held c.args.sink.now) h e in (
+      e,
+      c.closed.result,
+      subst P (sym c.pass_all-flushed.ensures.held) reads,
+      record {
+        before = g.K.Sink.faults c.carry_out-ending.new.sink;
+        first = subst F is c.carry_out-ending.ensures.first;
+        flushed = closes c.pass_all-flushed.result c.carry_out-ending.result (by_log e) c.closed.result _ _ _ is c.closed.ensures c.pass_all-flushed.ensures.empty c.pass_all-flushed.ensures.same c.pass_all-flushed.ensures.risen;
+      },
+      c.tell.ensures,
+    )
+
+pub returns-clause-sums : goal.returns-clause-sums
+returns-clause-sums g c seed form =
+    let D : DeskRelations = record { blocks = given.F-post g c.args.desk.now.blocks; vendor = given.H-post g c.args.desk.now.vendor } in
+    let (stays, (e, is, sums)) = c.carry_out-ending.ensures.sums seed form in
+    let F : Ending → Type 0 = FirstFault (g.S.Source.faults c.args.source.now) (g.S.Source.faults c.carry_out-ending.new.source) (g.K.Sink.faults c.args.sink.now) (g.K.Sink.faults c.carry_out-ending.new.sink) in
+    let P : Option (List ℕ) → Type 0 = λ h. Sums D seed (g.K.Sink.held c.args.sink.now) h e in (
+      stays,
+      (
+        e,
+        c.closed.result,
+        subst P (sym c.pass_all-flushed.ensures.held) sums,
+        record {
+          before = g.K.Sink.faults c.carry_out-ending.new.sink;
+          first = subst F is c.carry_out-ending.ensures.first;
+          flushed = closes c.pass_all-flushed.result c.carry_out-ending.result (by_run e) c.closed.result _ _ _ is c.closed.ensures c.pass_all-flushed.ensures.empty c.pass_all-flushed.ensures.same c.pass_all-flushed.ensures.risen;
+        },
+        c.tell.ensures,
+      ),
+    )
+
+pub returns-clause-usage : goal.returns-clause-usage
+returns-clause-usage g c form =
+    let (stays, same, is) = c.carry_out-ending.ensures.usage form in
+    let F : Ending → Type 0 = FirstFault (g.S.Source.faults c.args.source.now) (g.S.Source.faults c.carry_out-ending.new.source) (g.K.Sink.faults c.args.sink.now) (g.K.Sink.faults c.carry_out-ending.new.sink) in (
+      stays,
+      c.pass_all-flushed.ensures.held ∙ ap (λ s. g.K.Sink.held s) same,
+      (
+        c.closed.result,
+        record {
+          before = g.K.Sink.faults c.carry_out-ending.new.sink;
+          first = subst F is c.carry_out-ending.ensures.first;
+          flushed = closes c.pass_all-flushed.result c.carry_out-ending.result Usage c.closed.result _ _ _ is c.closed.ensures c.pass_all-flushed.ensures.empty c.pass_all-flushed.ensures.same c.pass_all-flushed.ensures.risen;
+        },
+        c.tell.ensures,
+      ),
+    )

@@ -1,0 +1,107 @@
+//! The forms of the words of the command line.
+
+ghost use Rattle.std.specs.Prelude.{◌≡◌, ◌↔◌, ◌<◌, ◌^◌, ◌∷◌, [], ℕ, Some, codes, decimal};
+ghost use Rattle.fw_tool.specs.Words.{Names, IsWord};
+ghost use Rattle.fw_tool.specs.declared.words.Word.{Word as AWord};
+
+use crate::words::Word;
+use fw_decode::LogWord;
+use fw_log::Version;
+use itoa::Buffer;
+
+/// The number of 32 bits that a word is, in decimal digits without a leading zero.
+fn number_in(word: &str) -> Option<u32>
+    ensures { (n : ℕ) → (result ≡ Some n) ↔ ((word.now ≡ decimal n) × (n < 2 ^ 32)) }
+{
+    let Ok(number) = word.parse::<u32>() else {
+        return None;
+    };
+    if Buffer::new().format(number) == word {
+        Some(number)
+    } else {
+        None
+    }
+}
+
+// What one word says.
+fn one_word(word: &str) -> Option<Word>
+    ensures { Names (word.now ∷ []) result }
+{
+    if word == "run" {
+        Some(Word::Run)
+    } else if word == "decode" {
+        Some(Word::Log(LogWord::Decode))
+    } else if word == "explain" {
+        Some(Word::Log(LogWord::Explain))
+    } else if word == "json" {
+        Some(Word::Log(LogWord::Json))
+    } else if word == "dv" {
+        Some(Word::Log(LogWord::Dv))
+    } else if word == "audit" {
+        Some(Word::Log(LogWord::Audit))
+    } else if word == "map" {
+        Some(Word::Log(LogWord::Map))
+    } else {
+        None
+    }
+}
+
+// What the word `gen` and a word behind it say.
+fn seed_of(word: &str) -> Option<Word>
+    ensures { Names (codes "gen" ∷ word.now ∷ []) result }
+{
+    let Some(seed) = number_in(word) else {
+        return None;
+    };
+    Some(Word::Gen(seed))
+}
+
+// What the word `convert` and a word behind it say.
+fn version_of(word: &str) -> Option<Word>
+    ensures { Names (codes "convert" ∷ word.now ∷ []) result }
+{
+    if word == "1" {
+        Some(Word::Log(LogWord::Convert(Version::One)))
+    } else if word == "2" {
+        Some(Word::Log(LogWord::Convert(Version::Two)))
+    } else {
+        None
+    }
+}
+
+// What the word `map` and a word behind it say.
+fn drawing_of(word: &str) -> Option<Word>
+    ensures { Names (codes "map" ∷ word.now ∷ []) result }
+{
+    if word == "dot" {
+        Some(Word::Log(LogWord::Graph))
+    } else {
+        None
+    }
+}
+
+// What two words say.
+fn two_words(word: &str, more: &str) -> Option<Word>
+    ensures { Names (word.now ∷ more.now ∷ []) result }
+{
+    if word == "gen" {
+        seed_of(more)
+    } else if word == "convert" {
+        version_of(more)
+    } else if word == "map" {
+        drawing_of(more)
+    } else {
+        None
+    }
+}
+
+/// What the words say, where they are of one of the forms.
+pub(crate) fn word_of(words: &[String]) -> Option<Word>
+    ensures { (w : AWord) → (result ≡ Some w) ↔ IsWord words.now w }
+{
+    match words {
+        [word] => one_word(word.as_str()),
+        [word, more] => two_words(word.as_str(), more.as_str()),
+        _ => None,
+    }
+}
