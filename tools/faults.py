@@ -16,7 +16,7 @@ sys.dont_write_bytecode = True
 from traced import Change, run  # noqa: E402
 
 ROOT = pathlib.Path(__file__).resolve().parent.parent
-EXAMPLES = sorted((ROOT / "examples").glob("*.script"))
+EXAMPLES = sorted(it for it in (ROOT / "examples").glob("*.script") if not it.with_suffix(".note").exists())
 
 # A script with a refused line, and what is due then.
 REFUSED = b"device a deck 1 100\nshow manager 220\nend\nend\n"
@@ -116,6 +116,7 @@ def main(program):
     report.section("a note that fails", notes(program))
     # The last flush is met before the note of the refused line is written.
     report.section("the log of a refused line", transfers(program, ["run"], REFUSED, 1, WRITE_FAULT))
+    report.section("help: writes", transfers(program, ["help"], b"", 1, WRITE_FAULT))
     for name, script in sessions():
         log = run(program, ["run"], script)
         report.section(f"{name} runs", [("run", (log.status, log.errors) == (0, b""), log)])

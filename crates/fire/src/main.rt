@@ -4,12 +4,9 @@
 ghost use Rattle.std.specs.Prelude.{◌≡◌, ◌⊎◌, IfErr};
 ghost use Rattle.fw_tool.specs.declared.ending.Ending.{Ending as AnEnding};
 
-mod desk;
-mod program;
-
 use fw_outside::{BufferedSink, StdSink, StdSource, Stop};
+use fw_program::program;
 use fw_tool::{Ending, tell};
-use program::program;
 use std::env;
 use std::io::ErrorKind;
 use std::process::ExitCode;

@@ -143,7 +143,7 @@ pub entry_refusal : (e : Entry) (l : Account) → ((id address : ℕ) (register 
 entry_refusal (Reset r) l at x = absurd x
 entry_refusal (Async p) l at x = packet_refusal p l at x
 entry_refusal (Iso p) l at x = absurd x
-entry_refusal (Event v) l at x = NoEventOf v.code (refl, x.0, x.1)
+entry_refusal (Event v) l at x = NoEventOf v.code (refl, x)
 entry_refusal (Outcome o) l at x = absurd x
 entry_refusal (Shown s) l at x = absurd x
 entry_refusal End l at x = absurd x
@@ -268,7 +268,7 @@ event_refused v l (NoNodeOf id f) = absurd f
 event_refused v l (OverlapOf id f) = absurd f
 event_refused v l (OrphanOf id f) = absurd f
 event_refused v l (NoMoveOf old new f) = absurd f
-event_refused v l (NoEventOf code f) = (f.0 ∙ f.1, f.2)
+event_refused v l (NoEventOf code f) = f.1
 
 shown_refused : (s : ShownEntry) (l : Account) → IsRefusal l (Shows s) → ⊥
 shown_refused s l (NoNodeOf id f) = f

@@ -1,14 +1,15 @@
 -- The tests find the first fault of what is looked at, but for a swap that is no move.
-use Rattle.fw_entry.specs.declared.codes.event.TheConstants.{SECOND_OVER}
+use Rattle.fw_entry.specs.declared.codes.event.TheConstants.{SECOND_OVER, WITHHELD}
 use Rattle.fw_entry.specs.declared.entry.EventEntry.{EventEntry}
 use Rattle.fw_entry.specs.declared.entry.ShownEntry.{ShownEntry}
 use Rattle.fw_entry.specs.declared.entry.ResetEntry.{ResetEntry}
-use Rattle.std.proofs.Common.{◌≡◌, ◌≢◌, ◌<◌, ◌≤◌, ℕ, ◌+◌, ◌-◌, ◌==◌, ◌&&◌, nat_le, not, Bool, true, false, Option, Some, None, is_some, option_map, unwrap_or, List, length, refl, ap, sym, subst, ◌∙◌, true≢false, arith, cond, IsTrue, IsFalse}
+use Rattle.std.proofs.Common.{◌≡◌, ◌≢◌, ◌<◌, ◌≤◌, ℕ, ◌+◌, ◌-◌, ◌==◌, ◌&&◌, ◌||◌, nat_le, not, Bool, true, false, Option, Some, None, is_some, option_map, unwrap_or, List, length, refl, ap, sym, subst, ◌∙◌, true≢false, arith, cond, IsTrue, IsFalse}
 use Rattle.std.proofs.lemmas.Bool.Decides.{nat_tests}
 use Rattle.std.proofs.lemmas.Option.{same_Some}
 use Rattle.fw_entry.specs.Network.{device_of_id}
 use Rattle.fw_ledger.specs.Account.{Account, Operation, Reads, Locks, Request}
 use Rattle.fw_ledger.specs.Packets.{is_reply_to}
+use Rattle.fw_ledger.specs.Refused.{IsEventRefused, NoSecond, TooLate}
 use Rattle.fw_ledger.specs.Stands.{is_quadlet_swap}
 use Rattle.fw_ledger.specs.Words.{Register, register_of, word_of, first_address, id_in}
 use Rattle.fw_audit.specs.Looked.{Response, Looked, Asks, Replies, Shows, Happens, Other, is_watched, register_by, register_shown, IsAnswer, IsWatchedAnswer}
@@ -355,7 +356,7 @@ shown_judged l s = test (is_watched s.offset) refl
 -- ---- events
 
 pub event_judged : (l : Account) (e : EventEntry) → IsJudged l (Happens e) (judged_event l e)
-event_judged l e = test (e.code == SECOND_OVER) l.reclaiming refl refl
+event_judged l e = test (e.code == SECOND_OVER) l.reclaiming (e.code == WITHHELD) l.latest refl refl refl refl
   where
     clear : ((k : ℕ) → HasFault l (Happens e) (NoEvent k) → ⊥) → (g : AuditFault) → IsFalse (is_no_move g) → HasFault l (Happens e) g → ⊥
     clear never (NoNode k) n h = h
@@ -375,10 +376,28 @@ event_judged l e = test (e.code == SECOND_OVER) l.reclaiming refl refl
     below (NoMove a b) lt h = h
     below (NoEvent k) lt h = omega arith
 
-    test : (a b : Bool) → (e.code == SECOND_OVER) ≡ a → l.reclaiming ≡ b → IsJudged l (Happens e) (cond (a && not b) (Some (NoEvent e.code)) None)
-    test true false s t = ((refl, grind (arith, nat_tests), t), below)
-    test true true s t = clear (λ k h. true≢false (sym t ∙ h.2))
-    test false b s t = clear (λ k h. true≢false (sym (ap (λ v. v == SECOND_OVER) (h.0 ∙ h.1)) ∙ s))
+    second : (b : Bool) → (e.code == SECOND_OVER) ≡ b → e.code ≡ SECOND_OVER → b ≡ true
+    second b s is = grind (arith, nat_tests)
+
+    late : (b : Bool) → (e.code == WITHHELD) ≡ b → e.code ≡ WITHHELD → b ≡ true
+    late b s is = grind (arith, nat_tests)
+
+    -- it is no such event
+    never : (a b c : Bool) (o : Option ResetEntry) → (e.code == SECOND_OVER) ≡ a → l.reclaiming ≡ b → (e.code == WITHHELD) ≡ c → l.latest ≡ o
+        → ((a && not b) || (c && is_some o)) ≡ false → IsEventRefused e l → ⊥
+    never a b c o s t u v none (NoSecond is runs) = absurd (grind (arith, second a s is, sym t ∙ runs))
+    never a b c None s t u v none (TooLate is some) = some v
+    never a b c (Some r) s t u v none (TooLate is some) = absurd (grind (arith, late c u is))
+
+    test : (a b c : Bool) (o : Option ResetEntry) → (e.code == SECOND_OVER) ≡ a → l.reclaiming ≡ b → (e.code == WITHHELD) ≡ c → l.latest ≡ o
+        → IsJudged l (Happens e) (cond ((a && not b) || (c && is_some o)) (Some (NoEvent e.code)) None)
+    test true false c o s t u v = ((refl, NoSecond (grind (arith, nat_tests)) t), below)
+    test true true true (Some r) s t u v = ((refl, TooLate (grind (arith, nat_tests)) (λ f. absurd (let g = sym v ∙ f in cc))), below)
+    test false b true (Some r) s t u v = ((refl, TooLate (grind (arith, nat_tests)) (λ f. absurd (let g = sym v ∙ f in cc))), below)
+    test true true true None s t u v = clear (λ k h. never true true true None s t u v refl h.1)
+    test true true false o s t u v = clear (λ k h. never true true false o s t u v refl h.1)
+    test false b true None s t u v = clear (λ k h. never false b true None s t u v refl h.1)
+    test false b false o s t u v = clear (λ k h. never false b false o s t u v refl h.1)
 
 -- ---- whatever is looked at
 

@@ -1,6 +1,5 @@
 -- The faults of an entry, over the account of the entries before it, and the order in which they are tested.
 use Rattle.fw_base.specs.declared.plug.PlugAt.{PlugAt}
-use Rattle.fw_entry.specs.declared.codes.event.TheConstants.{SECOND_OVER}
 use Rattle.fw_entry.specs.declared.entry.ResetEntry.{ResetEntry}
 use Rattle.std.specs.Prelude.{◌≡◌, ◌≢◌, ◌<◌, ℕ, Option, Some, None, List, length, unwrap_or, IsTrue, IsFalse}
 use Rattle.fw_words.specs.Quadlet.{quadlet_at}
@@ -8,6 +7,7 @@ use Rattle.fw_entry.specs.Network.{device_of_id}
 use Rattle.fw_ledger.specs.Account.{Account, Locks, Request}
 use Rattle.fw_ledger.specs.Decode.{IsMove}
 use Rattle.fw_ledger.specs.Moves.{Move}
+use Rattle.fw_ledger.specs.Refused.{IsEventRefused}
 use Rattle.fw_ledger.specs.Stands.{is_quadlet_swap}
 use Rattle.fw_ledger.specs.Words.{Register, register_of, word_of, id_in}
 use Rattle.fw_audit.specs.Looked.{Response, Looked, Asks, Replies, Shows, Happens, Other, is_watched, register_shown, IsAnswer, IsWatchedAnswer}
@@ -87,9 +87,9 @@ abbrev pub IsNoMove : Account → Looked → ℕ → ℕ → Type 0
 IsNoMove l (Replies r) old new = IsBadSwap l r old new
 IsNoMove l _ old new = ⊥
 
--- a second is over where none runs
+-- a second is over where none runs, or channel 31 is withheld behind a reset entry
 abbrev pub IsNoEvent : Account → Looked → ℕ → Type 0
-IsNoEvent l (Happens e) code = (e.code ≡ code) × (code ≡ SECOND_OVER) × IsFalse l.reclaiming
+IsNoEvent l (Happens e) code = (e.code ≡ code) × IsEventRefused e l
 IsNoEvent l _ code = ⊥
 
 -- The entry has this fault.

@@ -1,11 +1,11 @@
 -- The verdict on an entry, as tests in their order.
-use Rattle.fw_entry.specs.declared.codes.event.TheConstants.{SECOND_OVER}
+use Rattle.fw_entry.specs.declared.codes.event.TheConstants.{SECOND_OVER, WITHHELD}
 use Rattle.fw_async.specs.declared.packet.Packet.{Packet}
 use Rattle.fw_async.specs.declared.packet.Packet.TheVariants.{WriteQuadlet, WriteBlock, WriteReply, ReadQuadlet, ReadBlock, ReadQuadletReply, ReadBlockReply, CycleStart, Lock, LockReply}
 use Rattle.fw_entry.specs.declared.entry.Entry.{Entry}
 use Rattle.fw_entry.specs.declared.entry.EventEntry.{EventEntry}
 use Rattle.fw_entry.specs.declared.entry.ShownEntry.{ShownEntry}
-use Rattle.std.specs.Prelude.{ℕ, ◌-◌, ◌==◌, nat_le, Bool, not, ◌&&◌, Option, Some, None, List, is_some, option_map, if◌then◌else◌}
+use Rattle.std.specs.Prelude.{ℕ, ◌-◌, ◌==◌, nat_le, Bool, not, ◌&&◌, ◌||◌, Option, Some, None, List, is_some, option_map, if◌then◌else◌}
 use Rattle.fw_words.specs.Quadlet.{quadlet_at}
 use Rattle.fw_entry.specs.Network.{device_of_id}
 use Rattle.fw_ledger.specs.Account.{Account, Operation, Reads, Locks, Request}
@@ -72,7 +72,7 @@ abbrev pub judged_shown : Account → ShownEntry → Option AuditFault
 judged_shown l s = if is_watched s.offset then judged_word (shown_id l.latest s.device) s.offset s.word (option_map (word_of l) (register_shown l.latest s)) else None
 
 abbrev pub judged_event : Account → EventEntry → Option AuditFault
-judged_event l e = if (e.code == SECOND_OVER) && not l.reclaiming then Some (NoEvent e.code) else None
+judged_event l e = if ((e.code == SECOND_OVER) && not l.reclaiming) || ((e.code == WITHHELD) && is_some l.latest) then Some (NoEvent e.code) else None
 
 -- ---- entries
 

@@ -12,7 +12,7 @@ ghost use Rattle.fw_audit.specs.Judged.{judged, judged_request, judged_quadlet, 
 use crate::fault::AuditFault;
 use crate::watch::{is_watched, watched_offset};
 use fw_async::{Head, Packet};
-use fw_entry::codes::event::SECOND_OVER;
+use fw_entry::codes::event::{SECOND_OVER, WITHHELD};
 use fw_entry::{Entry, EventEntry, ShownEntry};
 use fw_ledger::{Asked, Ledger};
 use fw_words::quadlet_at;
@@ -217,7 +217,9 @@ fn judge_shown(ledger: &Ledger, shown: &ShownEntry) -> Option<AuditFault>
 fn judge_event(ledger: &Ledger, event: &EventEntry) -> Option<AuditFault>
     ensures { (l : Account) → StandsFor ledger.now l → result ≡ judged l (Happens event.now) }
 {
-    if event.code == SECOND_OVER && !ledger.reclaims() {
+    let no_second = event.code == SECOND_OVER && !ledger.reclaims();
+    let too_late = event.code == WITHHELD && ledger.has_reset();
+    if no_second || too_late {
         Some(AuditFault::NoEvent(event.code))
     } else {
         None

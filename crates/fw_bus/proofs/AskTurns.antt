@@ -65,6 +65,7 @@ answered_stands m s x g st to free = record {
     latest = st.devices.latest;
     epoch = st.devices.epoch;
     manager = st.devices.manager;
+    withheld = st.devices.withheld;
   };
   clock = record { cycle = st.clock.cycle; reclaiming = st.clock.reclaiming; half_steps = st.clock.half_steps; written = st.clock.written; resets = st.clock.resets };
   controllers = record { table = st.controllers.table; directory = st.controllers.directory };

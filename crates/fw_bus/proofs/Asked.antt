@@ -75,10 +75,10 @@ nodes_set nodes s t d n h names low here others = record { size = length-set nod
     go c (inl e) lt =
         let P : ℕ → Type 0 = λ c. IsNodeAt (number_in t.account.latest c) t c (node_at (slice_set nodes d n) c) in
         let Q : NodeState → Type 0 = IsNodeAt (number_in t.account.latest d) t d in
-        subst P (sym e) (subst Q (sym (get_or-set_same nodes d n (first_state Relay 0 0) low)) here)
+        subst P (sym e) (subst Q (sym (get_or-set_same nodes d n (first_state Relay 0 0 false) low)) here)
     go c (inr ne) lt =
         let Q : NodeState → Type 0 = IsNodeAt (number_in t.account.latest c) t c in
-        subst Q (sym (get_or-set_other nodes d c n (first_state Relay 0 0) ne)) (others c ne lt)
+        subst Q (sym (get_or-set_other nodes d c n (first_state Relay 0 0 false) ne)) (others c ne lt)
 
 manager_one : (o : Option ResetEntry) (m n : ℕ) → is_manager o m ≡ true → is_manager o n ≡ true → m ≡ n
 manager_one None m n a b = grind arith
@@ -115,7 +115,7 @@ asked_here s x n free h =
         let bandwidth = sym (kept x.access 0x220 0xFFFF_F000_0220 (manager_words s).bandwidth_available free refl refl) in
         let high = sym (kept x.access 0x224 0xFFFF_F000_0224 (manager_words s).channels_available_hi free refl refl) in
         let low = sym (kept x.access 0x228 0xFFFF_F000_0228 (manager_words s).channels_available_lo free refl refl) in
-        λ i. Some (record { bus_manager_id = after_at 0xFFFF_F000_021C r s.bus_manager_id; bandwidth_available = bandwidth i; channels_available_hi = high i; channels_available_lo = low i })
+        λ i. Some (record { bus_manager_id = after_at 0xFFFF_F000_021C r s.bus_manager_id; bandwidth_available = bandwidth i; channels_available_hi = high i; channels_available_lo = low i; withheld = s.account.withheld })
     go false = refl
 
 -- a node of another device keeps its registers, since it is not the manager where that one is

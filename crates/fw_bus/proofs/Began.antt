@@ -92,7 +92,7 @@ nodes_now m now good s i may b =
     let g = may.is_good in
     let shows = shows_now m now good s i may b in
     let on = λ (d : ℕ) (is : IsTrue (is_on s d)). subst (λ (l : Account). IsTrue (is_some (number_in l.latest d))) may.extends.account is in
-    nodes_reset m.devices now.devices good s i now.devices.latest g may.extends may.stands.devices.nodes b.reset shows
+    nodes_reset m.devices now.devices good s i now.devices.latest g may.extends may.stands.devices.nodes may.stands.devices.withheld b.reset shows
     (λ d is. stays_on good s.declared.topology s.declared.kinds now.devices.latest g shows may.more may.walks d (on d is))
 
 -- and its plugs that were active linger

@@ -1,5 +1,5 @@
 -- Controllers that have nothing to do, while half steps are taken.
-use Rattle.std.proofs.Common.{◌≡◌, ◌≢◌, ◌⊎◌, inl, inr, ℕ, zero, suc, ◌+◌, ◌-◌, ◌<◌, ◌≤◌, List, [], ◌∷◌, length, Bool, true, false, cond, Option, None, refl, ap, sym, subst, ◌∙◌, arith, IsTrue, IsFalse}
+use Rattle.std.proofs.Common.{◌≡◌, ◌≢◌, ◌⊎◌, inl, inr, ℕ, zero, suc, ◌+◌, ◌-◌, ◌<◌, ◌≤◌, List, [], ◌∷◌, length, Bool, true, false, cond, Option, refl, ap, sym, subst, ◌∙◌, arith, IsTrue, IsFalse}
 use Rattle.std.specs.Prelude.{Ok}
 use Rattle.std.proofs.lemmas.Bool.{cases_eq, cases_lt}
 use Rattle.std.proofs.lemmas.Bool.Decides.{nat_tests}
@@ -8,13 +8,13 @@ use Rattle.fw_entry.specs.declared.entry.Timed.{Timed}
 use Rattle.fw_cmp.specs.Causes.{IsAtRest}
 use Rattle.fw_run.specs.State.{State, is_deaf, is_living, living, numbers_to}
 use Rattle.fw_run.specs.HalfSteps.{half, after_half, is_busy_at}
-use Rattle.fw_run.specs.Actions.{Action, Steps, counted}
+use Rattle.fw_run.specs.Actions.{Action, Steps}
 use Rattle.fw_run.specs.Carrying.{half_steps_of}
 use Rattle.fw_run.specs.Good.{IsGood}
 use Rattle.fw_run.proofs.Idle.{half_stays}
 use Rattle.fw_bus.specs.declared.machine.Machine.{Machine}
 use Rattle.fw_bus.specs.Doings.{Deed, Does, RoundTo, OneRound}
-use Rattle.fw_bus.specs.Stands.{EndsAt, IsReady, StandsFor, is_living_in, living_in}
+use Rattle.fw_bus.specs.Stands.{EndsAt, IsReady, is_living_in, living_in}
 use Rattle.fw_bus.specs.Tables.{states_of}
 use Rattle.fw_bus.proofs.Doings.{does_silent}
 use Rattle.fw_bus.proofs.Halves.{half_leaves}

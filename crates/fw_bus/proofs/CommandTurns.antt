@@ -1,11 +1,9 @@
 -- Commands to units: of the machine and of the run.
-use Rattle.std.proofs.Common.{◌≡◌, ◌≢◌, ℕ, ◌<◌, ◌≤◌, zero, suc, List, [], ◌∷◌, ◌++◌, length, slice_set, is_some, Bool, true, false, ◌==◌, Option, Some, None, refl, ap, sym, subst, ◌∙◌, arith, append-nil, IsTrue}
+use Rattle.std.proofs.Common.{◌≡◌, ◌≢◌, ℕ, ◌<◌, ◌≤◌, zero, suc, List, [], ◌∷◌, ◌++◌, length, slice_set, is_some, Bool, true, false, ◌==◌, Option, Some, None, refl, ap, sym, subst, ◌∙◌, arith, IsTrue}
 use Rattle.std.specs.Prelude.{Ok, Err, IsErr}
 use Rattle.std.specs.declared.result.Result.{Result}
 use Rattle.std.proofs.lemmas.List.{get_or-set_same, length-set}
 use Rattle.std.proofs.lemmas.Option.{same_Some}
-use Rattle.fw_outside.specs.Outside.{Grows}
-use Rattle.fw_outside.proofs.Parts.{Grows-Grows}
 use Rattle.fw_async.specs.Async.{Fits}
 use Rattle.fw_async.specs.declared.packet.Packet.{Packet}
 use Rattle.fw_entry.specs.Log.{epoch_after, entry_bytes}
@@ -197,7 +195,7 @@ command_talks D m devices a b bytes packet response n from to x is = record { sh
         let m1 : Machine = with_node m b before in
         let st1 : StandsFor m1 s = written_stands m s b (length bytes == 4) 0xFFFF_F000_0B00 bytes g st on in
         let low1 : b < length m1.devices.nodes = let size = length-set m.devices.nodes b before in omega (arith, low, size) in
-        let here : node_at m1.devices.nodes b ≡ before = get_or-set_same m.devices.nodes b before (first_state Relay 0 0) low in
+        let here : node_at m1.devices.nodes b ≡ before = get_or-set_same m.devices.nodes b before (first_state Relay 0 0 false) low in
         let keeps : KeepsRegisters (node_at m1.devices.nodes b) n = subst (λ z. KeepsRegisters z n) (sym here) followed.rest in
         let decks : HasDecks (slice_set m1.devices.nodes b n) t = decks_set m1.devices.nodes s t b n low1 st1.devices.decks y.deck
         (λ c ne z. subst (HasDeck (node_at m1.devices.nodes c) (has_deck s c)) (sym (after_others mid w y.obeyed c ne)) z) (λ c ne. after_others mid w y.obeyed c ne) in

@@ -124,12 +124,13 @@ start_turns m now root packet roots few same is = record { shown = shown_ }
         names = st.devices.names;
         kinds = st.devices.kinds;
         nodes = nodes_same m.devices.nodes s (record s { written = s.written + 1 })
-            (record { names = refl; devices = refl; kinds = refl; latest = refl; bus_manager_id = refl; words = λ r. refl }) st.devices.nodes;
+            (record { names = refl; devices = refl; kinds = refl; latest = refl; bus_manager_id = refl; words = λ r. refl; withheld = refl }) st.devices.nodes;
         lingering = record { each = st.devices.lingering.each };
         decks = record { each = st.devices.decks.each; others = st.devices.decks.others };
         latest = st.devices.latest;
         epoch = st.devices.epoch;
         manager = st.devices.manager;
+        withheld = st.devices.withheld;
       };
       clock = record { cycle = st.clock.cycle; reclaiming = st.clock.reclaiming; half_steps = st.clock.half_steps; written = ap (λ k. k + 1) st.clock.written; resets = st.clock.resets };
       controllers = record { table = st.controllers.table; directory = st.controllers.directory };

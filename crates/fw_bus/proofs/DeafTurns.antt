@@ -1,18 +1,17 @@
 -- Half steps of a controller that has lost a response: it waits, or forces a bus reset.
-use Rattle.std.proofs.Common.{◌≡◌, ◌≢◌, ℕ, ◌+◌, ◌<◌, ◌&&◌, not, nat_lt, Bool, true, false, cond, List, [], Option, None, Some, refl, ap, sym, subst, ◌∙◌, arith, IsTrue}
+use Rattle.std.proofs.Common.{◌≡◌, ◌≢◌, ℕ, ◌+◌, ◌<◌, ◌&&◌, Bool, true, false, cond, List, [], Option, None, Some, refl, ap, sym, subst, ◌∙◌, arith, IsTrue}
 use Rattle.fw_base.specs.Tables.{update}
 use Rattle.fw_entry.specs.declared.entry.Entry.{Entry}
 use Rattle.fw_entry.specs.declared.entry.Entry.TheVariants.{Reset}
 use Rattle.fw_entry.specs.declared.entry.Timed.{Timed}
 use Rattle.fw_cmp.specs.declared.directory.Directory.{Directory}
-use Rattle.fw_cmp.specs.declared.outcome.Next.{Next}
 use Rattle.fw_cmp.specs.declared.outcome.Next.TheVariants.{Deaf, Force}
 use Rattle.fw_cmp.specs.Losses.{Listening, turn_of, deaf_turn, deaf_until, after_turn, asked_by, split_timeout}
 use Rattle.fw_cmp.specs.Turns.{next, after_next}
 use Rattle.fw_devices.specs.Network.{is_node, kind_at, kinds_of}
 use Rattle.fw_base.specs.Devices.{has_link}
 use Rattle.fw_run.specs.Giving.{at_most}
-use Rattle.fw_run.specs.State.{State, directory_of, is_deaf, is_living}
+use Rattle.fw_run.specs.State.{State, is_deaf, is_living}
 use Rattle.fw_run.specs.HalfSteps.{is_waiting}
 use Rattle.fw_run.specs.Actions.{HalfStep, Resets, Step, Takes, counted}
 use Rattle.fw_run.specs.Good.{IsGood}
@@ -20,7 +19,7 @@ use Rattle.fw_run.proofs.Others.{same_table}
 use Rattle.fw_bus.specs.declared.machine.Machine.{Machine}
 use Rattle.fw_bus.specs.Doings.{Turns}
 use Rattle.fw_bus.specs.Resetting.{BeginsReset}
-use Rattle.fw_bus.specs.Stands.{IsReady, StandsFor, is_linked_in, is_living_in}
+use Rattle.fw_bus.specs.Stands.{IsReady, StandsFor, is_living_in}
 use Rattle.fw_bus.specs.Tables.{ControllerTable, IsTable, count_of, states_of, dead_of}
 use Rattle.fw_bus.proofs.Began.{MayBegin}
 use Rattle.fw_bus.proofs.Halves.{half_leaves}

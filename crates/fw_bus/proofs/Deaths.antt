@@ -1,9 +1,9 @@
 -- What a controller's death leaves of the account: the words of registers are the same, since its units, channels and connections stay.
-use Rattle.std.proofs.Common.{◌≡◌, ℕ, ◌+◌, ◌-◌, ◌<◌, Option, Some, None, refl, ap, arith}
+use Rattle.std.proofs.Common.{◌≡◌, ℕ, ◌+◌, ◌-◌, ◌<◌, ◌&&◌, not, Option, Some, None, refl, ap, arith}
 use Rattle.std.proofs.lemmas.Bool.Decides.{nat_tests}
 use Rattle.fw_base.specs.Tables.{update}
 use Rattle.fw_base.proofs.Tables.{sum_to_changed, sum_to_same}
-use Rattle.fw_ledger.specs.Account.{Account, Allocation, Connections, Owner, Of, Dead, total, counter, is_free, is_there, allocated}
+use Rattle.fw_ledger.specs.Account.{Account, Allocation, Connections, Owner, Of, Dead, total, counter, is_free, is_there, is_withheld, allocated}
 use Rattle.fw_ledger.specs.Events.{after_death, orphaned_allocation, orphaned_connections, orphaned_owner}
 use Rattle.fw_ledger.specs.Words.{Register, BandwidthAvailable, ChannelsAvailable, OutputPlug, InputPlug, bits_word, word_of}
 use Rattle.fw_plug.specs.Words.{in_word, out_word}
@@ -37,7 +37,7 @@ counter_same c s lt = let e = sum_to_changed 63 c (update s.counts c 0) s.counts
 
 pub death_words : (l : Account) (c : ℕ) → c < 63 → (r : Register) → word_of (after_death c l) r ≡ word_of l r
 death_words l c lt BandwidthAvailable = ap (λ n. 4915 - n) (total_same c l.allocations)
-death_words l c lt (ChannelsAvailable base) = λ j. bits_word (λ i. free_same c (l.allocations (base + i)) j)
+death_words l c lt (ChannelsAvailable base) = λ j. bits_word (λ i. free_same c (l.allocations (base + i)) j && not (is_withheld l.withheld (base + i)))
 death_words l c lt (OutputPlug p) =
     let count = counter_same c (l.outputs p) lt in
     let there = there_same c (l.outputs p).broadcast in

@@ -51,10 +51,10 @@ decks_set nodes s t d n low h here elsewhere same = record {
     go c (inl e) lt =
         let P : ℕ → Type 0 = λ c. HasDeck (node_at (slice_set nodes d n) c) (has_deck t c) (t.decks c) in
         let Q : NodeState → Type 0 = λ m. HasDeck m (has_deck t d) (t.decks d) in
-        subst P (sym e) (subst Q (sym (get_or-set_same nodes d n (Nodes.first_state Relay 0 0) low)) here)
+        subst P (sym e) (subst Q (sym (get_or-set_same nodes d n (Nodes.first_state Relay 0 0 false) low)) here)
     go c (inr ne) lt =
         let Q : NodeState → Type 0 = λ m. HasDeck m (has_deck t c) (t.decks c) in
-        subst Q (sym (get_or-set_other nodes d c n (Nodes.first_state Relay 0 0) ne)) (elsewhere c ne (h.each c lt))
+        subst Q (sym (get_or-set_other nodes d c n (Nodes.first_state Relay 0 0 false) ne)) (elsewhere c ne (h.each c lt))
 
 -- a request is no command
 pub decks_requested : (nodes : List NodeState) (s : State) (d : ℕ) (o : Option Request) → d < length nodes → HasDecks nodes s
@@ -69,7 +69,7 @@ decks_requested nodes s d o low h = decks_set nodes s s d (after_request o (node
 
 -- each node by itself
 pub mapped_at : (f : NodeState → NodeState) (nodes : List NodeState) (d : ℕ) → d < length nodes → node_at (map f nodes) d ≡ f (node_at nodes d)
-mapped_at f nodes d lt = get_or-map f nodes d (Nodes.first_state Relay 0 0) (Nodes.first_state Relay 0 0) lt
+mapped_at f nodes d lt = get_or-map f nodes d (Nodes.first_state Relay 0 0 false) (Nodes.first_state Relay 0 0 false) lt
 
 pub decks_mapped : (f : NodeState → NodeState) (nodes : List NodeState) (s t : State) → HasDecks nodes s
     → ((d : ℕ) (n : NodeState) → HasDeck n (has_deck s d) (s.decks d) → HasDeck (f n) (has_deck t d) (t.decks d))
@@ -151,16 +151,16 @@ decks_reset old new s initiator e rests h r stays = record {
 
 -- ---- a device more
 
-pub decks_declared : (nodes : List NodeState) (s : State) (name : List ℕ) (kind : DeviceKind) (ports speed : ℕ) → length nodes ≡ length s.declared.names
+pub decks_declared : (nodes : List NodeState) (s : State) (name : List ℕ) (kind : DeviceKind) (ports speed : ℕ) (withheld : Bool) → length nodes ≡ length s.declared.names
     → IsGood s → HasDecks nodes s
-    → HasDecks (nodes ++ Nodes.first_state kind (length s.declared.names) speed ∷ []) (record s { declared = with_device s.declared name kind ports speed })
-decks_declared nodes s name kind ports speed size g h = record {
+    → HasDecks (nodes ++ Nodes.first_state kind (length s.declared.names) speed withheld ∷ []) (record s { declared = with_device s.declared name kind ports speed })
+decks_declared nodes s name kind ports speed withheld size g h = record {
   each = λ d lt. go d lt (cases_lt d (length nodes));
   others = λ d past. h.others d (let grown = length-append nodes (new ∷ []) in omega (arith, past, grown));
 }
   where
     new : NodeState
-    new = Nodes.first_state kind (length s.declared.names) speed
+    new = Nodes.first_state kind (length s.declared.names) speed withheld
 
     t : State
     t = record s { declared = with_device s.declared name kind ports speed }
@@ -171,7 +171,7 @@ decks_declared nodes s name kind ports speed size g h = record {
         let same = g.declared.kinds.size in
         let k = get_or_append_left s.declared.kinds (kind ∷ []) Relay d (omega (arith, low, size, named, same)) in
         let Q : NodeState → Type 0 = λ m. HasDeck m (has_deck t d) (s.decks d) in
-        subst Q (sym (get_or_append_left nodes (new ∷ []) (Nodes.first_state Relay 0 0) d low))
+        subst Q (sym (get_or_append_left nodes (new ∷ []) (Nodes.first_state Relay 0 0 false) d low))
         (subst (λ x. HasDeck (node_at nodes d) (has_unit x) (s.decks d)) (sym k) (h.each d low))
     go d lt (inr past) =
         let named = g.declared.named in
@@ -180,9 +180,9 @@ decks_declared nodes s name kind ports speed size g h = record {
         let here : length nodes ≡ d = omega (arith, lt, past, grown) in
         let k : kind_at t.declared.kinds d ≡ kind = get_or_push s.declared.kinds kind Relay d (omega (arith, here, size, named, same)) in
         let Q : NodeState → Type 0 = λ m. HasDeck m (has_deck t d) (s.decks d) in
-        subst Q (sym (get_or_push nodes new (Nodes.first_state Relay 0 0) d here))
+        subst Q (sym (get_or_push nodes new (Nodes.first_state Relay 0 0 false) d here))
         (subst (λ x. HasDeck new (has_unit x) (s.decks d)) (sym k)
-        (subst (λ x. HasDeck new (has_unit kind) x) (sym (h.others d past)) (first_kept kind (length s.declared.names) speed)))
+        (subst (λ x. HasDeck new (has_unit kind) x) (sym (h.others d past)) (first_kept kind (length s.declared.names) speed withheld)))
 
 pub rests_good : (good s : State) → IsGood good → s.account ≡ good.account → s.decks ≡ good.decks → (d : ℕ) → number_in s.account.latest d ≡ None
     → IsAtRest (s.decks d)

@@ -1,9 +1,8 @@
 -- What was done with what a desk gave: one call after another.
-use Rattle.std.proofs.Common.{ℕ, List, [], ◌∷◌, ◌++◌, Option, Some, refl, ap, sym, subst, ◌∙◌, append_assoc, append-nil, arith}
+use Rattle.std.proofs.Common.{ℕ, List, [], ◌∷◌, ◌++◌, Option, Some, refl, ap, sym, subst, ◌∙◌, append_assoc, arith}
 use Rattle.std.specs.Prelude.{Ok, Err, IsErr}
 use Rattle.std.specs.declared.result.Result.{Result}
-use Rattle.fw_outside.specs.Outside.{Grows}
-use Rattle.fw_outside.proofs.Parts.{Grows-Grows, Grows-nothing}
+use Rattle.fw_outside.proofs.Parts.{Grows-nothing}
 use Rattle.fw_base.specs.Tables.{at_plug}
 use Rattle.fw_entry.specs.declared.entry.Entry.{Entry}
 use Rattle.fw_entry.specs.declared.entry.Timed.{Timed}
@@ -12,12 +11,12 @@ use Rattle.fw_entry.specs.declared.version.Version.TheVariants.{Two}
 use Rattle.fw_run.specs.Actions.{Action, SendPacket, Step, Steps}
 use Rattle.fw_run.specs.Desks.{DeskRelations}
 use Rattle.fw_run.specs.Given.{IsGiven, AreGiven}
-use Rattle.fw_run.specs.Giving.{at_cycle, at_most, log_bytes, Gives}
+use Rattle.fw_run.specs.Giving.{at_cycle, at_most, Gives}
 use Rattle.fw_run.specs.Good.{IsGood}
 use Rattle.fw_run.specs.State.{State}
 use Rattle.fw_run.specs.Streams.{GivenBlock}
 use Rattle.fw_run.proofs.Given.{given_then, given_append}
-use Rattle.fw_run.proofs.Runs.{steps_then, log_append}
+use Rattle.fw_run.proofs.Runs.{steps_then}
 use Rattle.fw_run.proofs.Steps.{steps_good}
 use Rattle.fw_bus.specs.declared.machine.Machine.{Machine}
 use Rattle.fw_bus.specs.Cycling.{DoesWhere, Sends}

@@ -6,7 +6,7 @@ use Rattle.fw_outside.specs.Outside.{Grows}
 use Rattle.fw_outside.proofs.Parts.{Grows-Grows, Grows-nothing}
 use Rattle.fw_entry.specs.declared.entry.Entry.{Entry}
 use Rattle.fw_entry.specs.declared.entry.Timed.{Timed}
-use Rattle.fw_entry.specs.Log.{epoch_after, latest_epoch, entry_bytes, entries_bytes}
+use Rattle.fw_entry.specs.Log.{epoch_after, latest_epoch, entry_bytes}
 use Rattle.fw_entry.specs.declared.version.Version.TheVariants.{Two}
 use Rattle.fw_entry.proofs.LogLaws.{latest_append}
 use Rattle.fw_run.proofs.Epochs.{step_epoch, steps_epoch, entry_epoch}

@@ -13,8 +13,8 @@ use Rattle.fw_run.specs.declared.order.Order.TheVariants as Orders
 use Rattle.fw_run.specs.declared.order.Access.{Access}
 use Rattle.fw_run.specs.declared.order.Access.TheVariants.{Read, Swap}
 use Rattle.fw_run.specs.declared.rule.RuleFault.{RuleFault}
-use Rattle.fw_run.specs.declared.rule.RuleFault.TheVariants.{UnknownName, TooMany, NoPort, PortUsed, Loop, NotController, Guarded, NoRegister, Limit, TableFull, Busy, NoSuchConnection, NotOwnPlug, NothingStands, OffBus}
-use Rattle.fw_run.specs.State.{State, epoch_of, is_linked, is_living, living, manager_in}
+use Rattle.fw_run.specs.declared.rule.RuleFault.TheVariants.{UnknownName, TooMany, NoPort, PortUsed, Loop, NotController, Guarded, NoRegister, Limit, TableFull, Busy, NoSuchConnection, NotOwnPlug, NothingStands, OffBus, TooLate}
+use Rattle.fw_run.specs.State.{State, is_linked, is_living, living, manager_in}
 use Rattle.fw_run.specs.HalfSteps.{has_request}
 use Rattle.fw_run.specs.Spaces.{read_at}
 use Rattle.fw_run.specs.Rules.{Breaks, Decides, Ends, HasNoManager, IsEnd, IsNamed, IsNot, IsShown, is_declared, is_joining, rank}
@@ -42,6 +42,23 @@ all_known s (name ∷ names) known h = all_known s names known.1 (sym (ap (λ o.
 -- a rule of a lower rank is another one
 pub is_another : (f g k : RuleFault) → rank g < rank f → rank f ≤ rank k → g ≡ k → ⊥
 is_another f g k lt le e = let same : rank g ≡ rank k = ap rank e in omega arith
+
+-- ---- a channel that is withheld
+
+withhold_breaks : (s : State) (g : RuleFault) → (g ≡ TooLate → 0 < length s.declared.names → ⊥) → Breaks s Commands.Withhold g → ⊥
+withhold_breaks s UnknownName first h = all_known s [] tt h
+withhold_breaks s TooLate first h = first refl h
+withhold_breaks s NotOwnPlug first h = h.2
+withhold_breaks s NoSuchConnection first h = h.2
+withhold_breaks s TableFull first h = h.2
+withhold_breaks s Busy first h = h.2
+withhold_breaks s g first h = h
+
+pub withhold_late : (s : State) → 0 < length s.declared.names → Decides s Commands.Withhold (Err TooLate)
+withhold_late s late = (late, λ g lt. withhold_breaks s g (λ same. absurd (is_another TooLate g TooLate lt (omega arith) same)))
+
+pub withhold_ordered : (s : State) → s.declared.names ≡ [] → Decides s Commands.Withhold (Ok Orders.Withhold)
+withhold_ordered s none = (refl, λ g. withhold_breaks s g (λ same some. omega (arith, ap (λ (xs : List (List ℕ)). length xs) none, some)))
 
 -- ---- cables
 

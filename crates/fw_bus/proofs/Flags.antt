@@ -113,7 +113,7 @@ first_flag (suc count) zero = refl
 first_flag (suc count) (suc k) = first_flag count k
 
 pub first_size : (kind : DeviceKind) (device rate : ℕ)
-    → length (Nodes.first_state kind device rate).plugs.lingering_outputs ≡ length (Nodes.first_state kind device rate).plugs.outputs
+    → length (Nodes.first_state kind device rate false).plugs.lingering_outputs ≡ length (Nodes.first_state kind device rate false).plugs.outputs
 first_size kind device rate = length-replicate (output_plugs_of kind) false ∙ sym (length-replicate (output_plugs_of kind) (first_out_word rate))
 
 -- and it is not connected
@@ -123,8 +123,8 @@ first_word_rests rate low =
     let counter : field (first_out_word rate) 2 7 ≡ 0 = omega (arith, low) in
     grind (arith, nat_tests, broadcast, counter)
 
-pub first_rests : (kind : DeviceKind) (device rate k : ℕ) → rate < 4 → k < length (Nodes.first_state kind device rate).plugs.outputs
-    → (let p = (Nodes.first_state kind device rate).plugs in is_active (slice_index p.outputs k) (slice_index_or p.lingering_outputs k false) ≡ false)
+pub first_rests : (kind : DeviceKind) (device rate k : ℕ) → rate < 4 → k < length (Nodes.first_state kind device rate false).plugs.outputs
+    → (let p = (Nodes.first_state kind device rate false).plugs in is_active (slice_index p.outputs k) (slice_index_or p.lingering_outputs k false) ≡ false)
 first_rests kind device rate k low lt =
     let n : ℕ = output_plugs_of kind in
     let size = length-replicate n (first_out_word rate) in

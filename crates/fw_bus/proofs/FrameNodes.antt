@@ -57,9 +57,9 @@ lingering_set nodes s d n low same h = record { each = λ c lt. go c (cases_eq c
     go : (c : ℕ) → (c ≡ d) ⊎ (c ≢ d) → c < length nodes → LingersAs (node_at (slice_set nodes d n) c) c s.account
     go c (inl e) lt =
         let P : ℕ → Type 0 = λ c. LingersAs (node_at (slice_set nodes d n) c) c s.account in
-        subst P (sym e) (subst (λ m. LingersAs m d s.account) (sym (get_or-set_same nodes d n (Nodes.first_state Relay 0 0) low))
+        subst P (sym e) (subst (λ m. LingersAs m d s.account) (sym (get_or-set_same nodes d n (Nodes.first_state Relay 0 0 false) low))
         (lingers_kept (node_at nodes d) n d s.account same (h.each d low)))
-    go c (inr ne) lt = subst (λ m. LingersAs m c s.account) (sym (get_or-set_other nodes d c n (Nodes.first_state Relay 0 0) ne)) (h.each c lt)
+    go c (inr ne) lt = subst (λ m. LingersAs m c s.account) (sym (get_or-set_other nodes d c n (Nodes.first_state Relay 0 0 false) ne)) (h.each c lt)
 
 -- a node keeps its registers
 abbrev pub KeepsRegisters : NodeState → NodeState → Type 0
@@ -79,6 +79,7 @@ deck_stands m s f d n st low keeps rests decks = record {
     latest = st.devices.latest;
     epoch = st.devices.epoch;
     manager = st.devices.manager;
+    withheld = st.devices.withheld;
   };
   clock = record { cycle = st.clock.cycle; reclaiming = st.clock.reclaiming; half_steps = st.clock.half_steps; written = st.clock.written; resets = st.clock.resets };
   controllers = record {
@@ -149,7 +150,7 @@ words_leave b offset bytes w =
     let units = write_leaves b offset 0xFFFF_F000_0220 w.bandwidth_available bytes in
     let high = write_leaves b offset 0xFFFF_F000_0224 w.channels_available_hi bytes in
     let low = write_leaves b offset 0xFFFF_F000_0228 w.channels_available_lo bytes in
-    λ i. record { bus_manager_id = id i; bandwidth_available = units i; channels_available_hi = high i; channels_available_lo = low i }
+    λ i. record { bus_manager_id = id i; bandwidth_available = units i; channels_available_hi = high i; channels_available_lo = low i; withheld = w.withheld }
 
 written_here : (s : State) (d number : ℕ) (n : NodeState) (b : Bool) (offset : ℕ) (bytes : List ℕ) → HasSpace n (space_at s d number)
     → HasSpace (after_request (Some (write_by b offset bytes)) n) (space_at s d number)
@@ -190,6 +191,7 @@ written_stands m s d b offset bytes g st on = record {
     latest = st.devices.latest;
     epoch = st.devices.epoch;
     manager = st.devices.manager;
+    withheld = st.devices.withheld;
   };
   clock = record { cycle = st.clock.cycle; reclaiming = st.clock.reclaiming; half_steps = st.clock.half_steps; written = st.clock.written; resets = st.clock.resets };
   controllers = record { table = st.controllers.table; directory = st.controllers.directory };

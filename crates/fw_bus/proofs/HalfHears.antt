@@ -1,5 +1,5 @@
 -- The half step in which a request stands: the node that it went to carries it out, and the controller hears the reply.
-use Rattle.std.proofs.Common.{◌≡◌, ℕ, zero, suc, List, [], ◌∷◌, slice_set, Option, Some, None, unwrap_or, refl, ap, sym, subst, ◌∙◌, IsTrue, IsFalse}
+use Rattle.std.proofs.Common.{◌≡◌, ℕ, zero, suc, List, [], ◌∷◌, slice_set, Option, Some, None, unwrap_or, false, refl, ap, sym, subst, ◌∙◌, IsTrue, IsFalse}
 use Rattle.std.proofs.lemmas.List.{get_or-set_other, length-set}
 use Rattle.std.proofs.lemmas.Option.{same_Some, none-some}
 use Rattle.fw_base.specs.declared.device.DeviceKind.TheVariants.{Relay}
@@ -13,8 +13,8 @@ use Rattle.fw_entry.specs.declared.entry.Entry.TheVariants.{Async}
 use Rattle.fw_ledger.specs.Account.{Account}
 use Rattle.fw_ledger.specs.Words.{node_of}
 use Rattle.fw_cmp.specs.declared.request.Access.{Access}
-use Rattle.fw_cmp.specs.Controllers.{ControllerState, IsStanding}
-use Rattle.fw_cmp.specs.Requests.{offset_of, swap_of, standing_in, addressee_of, request_at, request_of}
+use Rattle.fw_cmp.specs.Controllers.{ControllerState}
+use Rattle.fw_cmp.specs.Requests.{offset_of, swap_of, standing_in, request_at, request_of}
 use Rattle.fw_cmp.specs.Resets.{heard as heard_then, after_hear}
 use Rattle.fw_step.specs.Lingering.{LingerUnchanged}
 use Rattle.fw_step.specs.Requests.{procedure_head}
@@ -24,13 +24,12 @@ use Rattle.fw_node.specs.Space.{Space, answer_of}
 use Rattle.fw_node.specs.Space as Spaces
 use Rattle.fw_node.specs.State.{NodeState, first_state, space_of, after_request}
 use Rattle.fw_devices.specs.Network.{Network, kinds_of, node_at}
-use Rattle.fw_devices.specs.Entries.{node_device}
 use Rattle.fw_run.specs.State.{State, number_in, is_deaf}
 use Rattle.fw_run.specs.Spaces.{space_at, space_of_device, space_of_node, reply_from}
 use Rattle.fw_run.specs.HalfSteps.{half, taken, after_half}
 use Rattle.fw_run.specs.Good.{IsGood}
 use Rattle.fw_run.proofs.HalfSteps.{half_good}
-use Rattle.fw_run.proofs.Hears.{HalfHears, half_hears, access_heard, reply_heard, carried_bus}
+use Rattle.fw_run.proofs.Hears.{HalfHears, half_hears, access_heard, reply_heard, carried_bus, carried_withheld}
 use Rattle.fw_run.proofs.Turns.{living_linked}
 use Rattle.fw_run.proofs.Words.{node_space_of}
 use Rattle.fw_cmp.specs.Losses.{Awaits, after_answer}
@@ -156,7 +155,7 @@ hears_stands : (m : Machine) (s : State) (k : ControllerTable) (d : ℕ) (a : Ac
 hears_stands m s k d a to device own packet response r g after st quiet place sent z heard table =
     subst (λ y. StandsFor now (taken s d y)) (sym h.half_is) (subst (λ l. StandsFor now (state_with s l f asked)) (sym (ap (λ o. unwrap_or o s.account) h.leads))
     (stands_with m s (nodes_after m.devices.nodes device packet) k l f asked (without own m.wire)
-    (looked_at device (nodes_after m.devices.nodes device packet) m.streams) st (record { latest = bus.0; reclaiming = bus.1 })
+    (looked_at device (nodes_after m.devices.nodes device packet) m.streams) st (record { latest = bus.0; reclaiming = bus.1; withheld = withheld })
     (kinds_set m.devices.nodes device (request_in packet)) nodes lingering
     (decks_requested m.devices.nodes s device (request_in packet) (exchange_within m s d a to device g st x) st.devices.decks)
     (table_with m s (state_with s l f asked) k d (after_answer (states_of m.controllers d) r) (after_answer (controller_at s d) reply_) st
@@ -194,6 +193,9 @@ hears_stands m s k d a to device own packet response r g after st quiet place se
     bus : (l.latest ≡ s.account.latest) × (l.reclaiming ≡ s.account.reclaiming)
     bus = carried_bus d x.job x.stage reply_ s.account
 
+    withheld : l.withheld ≡ s.account.withheld
+    withheld = carried_withheld d x.job x.stage reply_ s.account
+
     rests : standing_in (after_hear (s.controllers d) reply_).current ≡ None
     rests = ap (λ c. standing_in (heard_then c reply_)) x.current
 
@@ -207,7 +209,7 @@ hears_stands m s k d a to device own packet response r g after st quiet place se
     nodes : HasNodes (nodes_after m.devices.nodes device packet) (state_with s l f asked)
     nodes = subst (λ o. HasNodes (slice_set m.devices.nodes device (after_request o (node_at m.devices.nodes device))) (state_with s l f asked)) (sym request_is)
         (nodes_answer m.devices.nodes s l f asked device to x.heard.target (swap_of x.job x.stage) g st.devices.nodes
-        (exchange_addresses m s d a to device g x) (exchange_within m s d a to device g st x) bus.0 (words_heard s d x.job x.stage g x.current x.heard h))
+        (exchange_addresses m s d a to device g x) (exchange_within m s d a to device g st x) bus.0 withheld (words_heard s d x.job x.stage g x.current x.heard h))
 
     -- a swap that changes the word of an output plug ends its lingering, in the node as in the account
     linger : LingerUnchanged s.account l
@@ -224,7 +226,7 @@ hears_stands m s k d a to device own packet response r g after st quiet place se
     streams =
         streams_look m.devices.nodes (nodes_after m.devices.nodes device packet) m.streams s (state_with s l f asked) device g good st.devices.nodes nodes
         st.devices.lingering lingering (length-set m.devices.nodes device _) (exchange_within m s d a to device g st x)
-        (λ c ne. get_or-set_other m.devices.nodes device c _ (first_state Relay 0 0) ne) refl st.streams
+        (λ c ne. get_or-set_other m.devices.nodes device c _ (first_state Relay 0 0 false) ne) refl st.streams
 
 -- the half step of the machine is that of the run
 pub takes_hears : (m : Machine) (n : Network) (k : ControllerTable) (d : ℕ) (a : Access) (to device own : ℕ) (packet response : Packet) (r : Reply)

@@ -44,10 +44,10 @@ node_set nodes s t d n h names low here others =
     go c (inl e) lt =
         let P : ℕ → Type 0 = λ c. IsNodeAt (number_in t.account.latest c) t c (node_at (slice_set nodes d n) c) in
         let Q : NodeState → Type 0 = IsNodeAt (number_in t.account.latest d) t d in
-        subst P (sym e) (subst Q (sym (get_or-set_same nodes d n (first_state Relay 0 0) low)) here)
+        subst P (sym e) (subst Q (sym (get_or-set_same nodes d n (first_state Relay 0 0 false) low)) here)
     go c (inr ne) lt =
         let Q : NodeState → Type 0 = IsNodeAt (number_in t.account.latest c) t c in
-        subst Q (sym (get_or-set_other nodes d c n (first_state Relay 0 0) ne)) (others c ne lt)
+        subst Q (sym (get_or-set_other nodes d c n (first_state Relay 0 0 false) ne)) (others c ne lt)
 
 -- ---- the node that answers
 
@@ -57,9 +57,9 @@ state_with s m f asked = record s { account = m; controllers = f; asked_at = ask
 
 -- it has the registers of the account after the answer
 answers_here : (s : State) (m : Account) (f : ℕ → ControllerState) (asked : ℕ → ℕ) (d n : ℕ) (t : Target) (w : Option Swap) (node : NodeState) → IsGood s → Addresses s d n t
-    → m.latest ≡ s.account.latest → IsAnswered s.account m t w → HasSpace node (space_at s d n)
+    → m.latest ≡ s.account.latest → m.withheld ≡ s.account.withheld → IsAnswered s.account m t w → HasSpace node (space_at s d n)
     → HasSpace (after_request (Some (request_at (offset_of t) w)) node) (space_at (state_with s m f asked) d n)
-answers_here s m f asked d n t w node g a latest x h =
+answers_here s m f asked d n t w node g a latest withheld x h =
     space_as (after_request (Some r) node) (space_after (space_at s d n) r) (space_at (state_with s m f asked) d n)
     (space_kept node (space_at s d n) r h) refl refl refl refl
     (λ k lt. let few = (plugs_few (kind_at s.declared.kinds d)).0 in
@@ -114,7 +114,7 @@ answers_here s m f asked d n t w node g a latest x h =
         (λ e. let same = same_half 0 t (inl refl) a.register e in (same, channels 0 t own same)) in
         let low = follows s.account m t w (ChannelsAvailable 32) x (inr refl)
         (λ e. let same = same_half 32 t (inr refl) a.register e in (same, channels 32 t own same)) in
-        λ i. record { bus_manager_id = id i; bandwidth_available = units i; channels_available_hi = high i; channels_available_lo = low i }
+        λ i. record { bus_manager_id = id i; bandwidth_available = units i; channels_available_hi = high i; channels_available_lo = low i; withheld = withheld i }
 
     manager : (b : Bool) → is_manager s.account.latest n ≡ b
         → cond b (Some (manager_words (state_with s m f asked))) None ≡ option_map (λ q. words_after q r) (cond b (Some (manager_words s)) None)
@@ -125,9 +125,9 @@ answers_here s m f asked d n t w node g a latest x h =
 
 -- they keep the registers that they have
 answers_elsewhere : (s : State) (m : Account) (f : ℕ → ControllerState) (asked : ℕ → ℕ) (d n c : ℕ) (t : Target) (w : Option Swap) (o : Option ℕ) (node : NodeState)
-    → IsGood s → Addresses s d n t → m.latest ≡ s.account.latest → IsAnswered s.account m t w
+    → IsGood s → Addresses s d n t → m.latest ≡ s.account.latest → m.withheld ≡ s.account.withheld → IsAnswered s.account m t w
     → c ≢ d → number_in s.account.latest c ≡ o → IsNodeAt o s c node → IsNodeAt o (state_with s m f asked) c node
-answers_elsewhere s m f asked d n c t w o node g a latest x ne at is =
+answers_elsewhere s m f asked d n c t w o node g a latest withheld x ne at is =
     node_as s (state_with s m f asked) c o node refl refl (λ k lt. x.others (OutputPlug (at_plug c k)) tt (output k t a.has))
     (λ k lt. x.others (InputPlug (at_plug c k)) tt (input k t a.has))
     (λ k e. ap (λ z. cond (is_manager z k) (Some (manager_words (state_with s m f asked))) None) latest ∙ manager k e (is_manager s.account.latest k) refl) is
@@ -168,18 +168,18 @@ answers_elsewhere s m f asked d n c t w o node g a latest x ne at is =
         let units = x.others BandwidthAvailable tt (bandwidth k e own t a.has) in
         let high = x.others (ChannelsAvailable 0) (inl refl) (channels k 0 e own t a.has) in
         let low = x.others (ChannelsAvailable 32) (inr refl) (channels k 32 e own t a.has) in
-        λ i. Some (record { bus_manager_id = s.bus_manager_id; bandwidth_available = units i; channels_available_hi = high i; channels_available_lo = low i })
+        λ i. Some (record { bus_manager_id = s.bus_manager_id; bandwidth_available = units i; channels_available_hi = high i; channels_available_lo = low i; withheld = withheld i })
     manager k e false own = refl
 
 -- ---- all nodes
 
 -- so each node has the registers of the account after the answer
 pub nodes_answer : (nodes : List NodeState) (s : State) (m : Account) (f : ℕ → ControllerState) (asked : ℕ → ℕ) (d n : ℕ) (t : Target) (w : Option Swap) → IsGood s
-    → HasNodes nodes s → Addresses s d n t → d < length nodes → m.latest ≡ s.account.latest → IsAnswered s.account m t w
+    → HasNodes nodes s → Addresses s d n t → d < length nodes → m.latest ≡ s.account.latest → m.withheld ≡ s.account.withheld → IsAnswered s.account m t w
     → HasNodes (slice_set nodes d (after_request (Some (request_at (offset_of t) w)) (node_at nodes d))) (state_with s m f asked)
-nodes_answer nodes s m f asked d n t w g h a low latest x =
+nodes_answer nodes s m f asked d n t w g h a low latest withheld x =
     node_set nodes s u d _ h refl low here (λ c ne lt. subst (λ o. IsNodeAt (number_in o c) u c (node_at nodes c)) (sym latest)
-    (answers_elsewhere s m f asked d n c t w (number_in s.account.latest c) (node_at nodes c) g a latest x ne refl (h.each c lt)))
+    (answers_elsewhere s m f asked d n c t w (number_in s.account.latest c) (node_at nodes c) g a latest withheld x ne refl (h.each c lt)))
   where
     u : State
     u = state_with s m f asked
@@ -190,4 +190,4 @@ nodes_answer nodes s m f asked d n t w g h a low latest x =
     here : IsNodeAt (number_in m.latest d) u d (after_request (Some (request_at (offset_of t) w)) (node_at nodes d))
     here =
         subst (λ o. IsNodeAt o u d (after_request (Some (request_at (offset_of t) w)) (node_at nodes d))) (sym (ap (λ o. number_in o d) latest ∙ a.number))
-        (answers_here s m f asked d n t w (node_at nodes d) g a latest x before)
+        (answers_here s m f asked d n t w (node_at nodes d) g a latest withheld x before)

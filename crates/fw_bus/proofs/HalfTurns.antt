@@ -18,7 +18,7 @@ use Rattle.fw_cmp.specs.declared.request.Target.TheVariants as target
 use Rattle.fw_cmp.specs.Controllers.{ControllerState, IsHeard}
 use Rattle.fw_cmp.specs.Nodes.{HasNodeNumbers}
 use Rattle.fw_cmp.specs.Nodes as Told
-use Rattle.fw_cmp.specs.Turns.{next, after_next}
+use Rattle.fw_cmp.specs.Turns.{after_next}
 use Rattle.fw_step.specs.Lingering.{SameLinger}
 use Rattle.fw_step.specs.Controllers.{IsDirectory}
 use Rattle.fw_node.specs.Packets.{packet_of, request_head}
@@ -58,6 +58,7 @@ use Rattle.fw_bus.proofs.Counts.{streams_stay}
 pub record SameBus (l m : Account) : Type 0 where
   pub latest : m.latest ≡ l.latest
   pub reclaiming : m.reclaiming ≡ l.reclaiming
+  pub withheld : m.withheld ≡ l.withheld
 
 -- the table with one other controller
 pub table_with : (m : Machine) (s t : State) (k : ControllerTable) (d : ℕ) (x y : Listening) → StandsFor m s → x ≡ y
@@ -87,6 +88,7 @@ stands_with m s nodes k l f asked_at w c st same kinds h linger decks table wire
     latest = st.devices.latest ∙ sym (ap (λ o. unwrap_or o no_entry) same.latest);
     epoch = st.devices.epoch ∙ sym (ap epoch_of same.latest);
     manager = st.devices.manager ∙ sym (ap manager_device same.latest);
+    withheld = st.devices.withheld ∙ sym same.withheld;
   };
   clock =
       record { cycle = st.clock.cycle; reclaiming = st.clock.reclaiming ∙ sym same.reclaiming; half_steps = st.clock.half_steps; written = st.clock.written; resets = st.clock.resets };
@@ -148,9 +150,9 @@ asks_leaves s d g lives heard = go (turns s d x.number x.entry g x.is x.shows x.
     go : Turns s d → SameShown s.account (entered_by s.account (asks s d).says)
     go (sends q out is) =
         subst (SameShown s.account) (sym is)
-        (record { bus = record { latest = refl; reclaiming = refl }; words = λ r. asked_words d q s.account r; linger = λ p. refl; talk = λ p. refl })
+        (record { bus = record { latest = refl; reclaiming = refl; withheld = refl }; words = λ r. asked_words d q s.account r; linger = λ p. refl; talk = λ p. refl })
     go (rests out is) = subst (SameShown s.account) (sym is)
-        (record { bus = record { latest = refl; reclaiming = refl }; words = λ r. refl; linger = λ p. refl; talk = λ p. refl })
+        (record { bus = record { latest = refl; reclaiming = refl; withheld = refl }; words = λ r. refl; linger = λ p. refl; talk = λ p. refl })
 
 -- the machine stands for the state after it
 asks_stands : (m : Machine) (s : State) (k : ControllerTable) (w : Pairs) (d : ℕ) → IsGood s → StandsFor m s → IsTrue (is_living s d)
@@ -167,7 +169,7 @@ asks_stands m s k w d g st lives quiet heard table wire =
     λ i. after_turn (st.clock.cycle i) (st.controllers.directory i) (st.controllers.table.states_are i d) in
     let all = subst (λ h. controllers_of (taken s d h) ≡ update (controllers_of s) d (after_turn s.clock.cycle (directory_of s) (controller_at s d))) (asks_is s d heard) (all_turn s d quiet heard) in
     let nodes = nodes_same m.devices.nodes s (state_with s l f asked_at)
-    (record { names = refl; devices = refl; kinds = refl; latest = same.bus.latest; bus_manager_id = refl; words = same.words }) st.devices.nodes in
+    (record { names = refl; devices = refl; kinds = refl; latest = same.bus.latest; bus_manager_id = refl; words = same.words; withheld = same.bus.withheld }) st.devices.nodes in
     subst (λ h. StandsFor (record m { controllers = k; wire = w }) (taken s d h)) (sym (asks_is s d heard))
     (stands_with m s m.devices.nodes k l f asked_at w m.streams st same.bus refl nodes
     (lingering_same m.devices.nodes s (state_with s l f asked_at) same.linger st.devices.lingering) st.devices.decks (table_with m s (taken s d (asks s d)) k d _ _ st becomes all table)

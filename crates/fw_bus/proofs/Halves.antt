@@ -3,7 +3,7 @@ use Rattle.std.proofs.Common.{◌≡◌, ℕ, zero, suc, ◌+◌, ◌*◌, ◌<�
 use Rattle.std.specs.Prelude.{⊤}
 use Rattle.fw_entry.specs.declared.entry.Timed.{Timed}
 use Rattle.fw_run.specs.Giving.{at_most}
-use Rattle.fw_run.specs.State.{State, is_deaf, is_living, epoch_of, linked_number, living, numbers_to}
+use Rattle.fw_run.specs.State.{State, is_deaf, is_living, linked_number, living, numbers_to}
 use Rattle.fw_run.specs.HalfSteps.{half, after_half, is_waiting}
 use Rattle.fw_run.specs.Actions.{Action, HalfStep, Resets, Step, Steps, Takes, after_reset_entry, counted}
 use Rattle.fw_run.specs.Carrying.{times, half_steps_of, Rounds, round}

@@ -1,5 +1,5 @@
 -- A controller that has lost no response is by the machine as the run has it.
-use Rattle.std.proofs.Common.{◌≡◌, ◌⊎◌, inl, inr, ℕ, Bool, true, false, refl, ap, sym, subst, ◌∙◌, arith, IsTrue, IsFalse}
+use Rattle.std.proofs.Common.{◌≡◌, inl, inr, ℕ, false, ap, sym, subst, ◌∙◌, arith, IsFalse}
 use Rattle.fw_cmp.specs.Controllers.{ControllerState, IsHeard, IsStanding}
 use Rattle.fw_cmp.specs.Losses.{Listening, MayTurn, Awaits, turn_of}
 use Rattle.fw_cmp.specs.Turns.{next}

@@ -28,6 +28,7 @@ pub mod HalfReads
 pub mod HalfLives
 pub mod Deaths
 pub mod LifeTurns
+pub mod Withholds
 pub mod LifeOrders
 pub mod Served
 pub mod Losing

@@ -2,7 +2,6 @@
 use Rattle.std.proofs.Common.{◌≡◌, ℕ, ◌&&◌, not, List, [], ◌∷◌, ◌++◌, Bool, true, false, Some, None, is_some, refl, ap, sym, subst, ◌∙◌, IsTrue}
 use Rattle.std.specs.Prelude.{IsFalse}
 use Rattle.fw_entry.specs.declared.entry.Timed.{Timed}
-use Rattle.fw_cmp.specs.Controllers.{ControllerState, IsHeard}
 use Rattle.fw_run.specs.declared.order.Order.TheVariants as Orders
 use Rattle.fw_run.specs.Giving.{at_most}
 use Rattle.fw_run.specs.Entries.{died}

@@ -51,11 +51,12 @@ use Rattle.fw_bus.proofs.Counts.{streams_same}
 pub record SameAccount (l k : Account) : Type 0 where
   pub latest : k.latest ≡ l.latest
   pub reclaiming : k.reclaiming ≡ l.reclaiming
+  pub withheld : k.withheld ≡ l.withheld
   pub words : (r : Register) → word_of k r ≡ word_of l r
   pub linger : SameLinger l k
 
 pub same_account : (l : Account) → SameAccount l l
-same_account l = record { latest = refl; reclaiming = refl; words = λ r. refl; linger = λ p. refl }
+same_account l = record { latest = refl; reclaiming = refl; withheld = refl; words = λ r. refl; linger = λ p. refl }
 
 -- the machine whose table is another one stands for the state whose controllers are those
 pub table_stands : (m : Machine) (s : State) (table : ControllerTable)
@@ -91,7 +92,7 @@ table_stands m s table f a o k h l w c st same is all wire counts = record {
     t = record s { controllers = f; asked_at = a; lost = o; dead = h s.dead; account = l; streams = c }
 
     kept : SameNodes s t
-    kept = record { names = refl; devices = refl; kinds = refl; latest = same.latest; bus_manager_id = refl; words = same.words }
+    kept = record { names = refl; devices = refl; kinds = refl; latest = same.latest; bus_manager_id = refl; words = same.words; withheld = same.withheld }
 
 -- ---- a new connection, and a break
 
@@ -147,7 +148,7 @@ break_turns m table d i lives ok is = record {
 
 -- a death leaves the words of registers
 death_same : (l : Account) (d : ℕ) → d < 63 → SameAccount l (account_after_death d l)
-death_same l d lt = record { latest = refl; reclaiming = refl; words = death_words l d lt; linger = λ p. refl }
+death_same l d lt = record { latest = refl; reclaiming = refl; withheld = refl; words = death_words l d lt; linger = λ p. refl }
 
 -- the controllers where that of a device has just started
 abbrev pub renewed : ℕ → (ℕ → Listening) → ℕ → Listening

@@ -49,9 +49,9 @@ quiet_off s d k g off = rests (has_connection (s.account.outputs (at_plug d k)))
     rests a b e = grind (arith, e)
 
 -- a device that is as it was declared but for its unit, where no plug of it goes on
-first_lingers : (u : Option UnitState) (kind : DeviceKind) (device rate d : ℕ) (l : Account)
-    → ((k : ℕ) → l.continues (at_plug d k) ≡ false) → LingersAs (record (Nodes.first_state kind device rate) { unit = u }) d l
-first_lingers u kind device rate d l none = record { size = first_size kind device rate; flags = λ k lt. first_flag (output_plugs_of kind) k ∙ sym (none k) }
+first_lingers : (u : Option UnitState) (kind : DeviceKind) (device rate : ℕ) (withheld : Bool) (d : ℕ) (l : Account)
+    → ((k : ℕ) → l.continues (at_plug d k) ≡ false) → LingersAs (record (Nodes.first_state kind device rate withheld) { unit = u }) d l
+first_lingers u kind device rate withheld d l none = record { size = first_size kind device rate; flags = λ k lt. first_flag (output_plugs_of kind) k ∙ sym (none k) }
 
 -- a node has the words of the account
 abbrev ShowsWords : NodeState → ℕ → Account → Type 0
@@ -85,7 +85,7 @@ nodes_unchanged nodes now s t g before later size latest linger leaves h =
     go d low lt None off =
         let is = subst (λ o. IsNodeAt o t d (node_at now d)) (ap (λ o. number_in o d) latest ∙ off) (later.each d lt) in
         subst (λ n. LingersAs n d t.account) (sym is)
-        (first_lingers (node_at now d).unit (kind_at t.declared.kinds d) d (facts_at t.declared.topology.devices d).speed d t.account
+        (first_lingers (node_at now d).unit (kind_at t.declared.kinds d) d (facts_at t.declared.topology.devices d).speed (node_at now d).withheld d t.account
         (λ k. linger (at_plug d k) ∙ quiet _ _ _ (quiet_off s d k g off)))
     go d low lt (Some n) at =
         let was = subst (λ o. IsNodeAt o s d (node_at nodes d)) at (before.each d low) in
@@ -107,10 +107,10 @@ requested nodes s t d o g before later low latest linger h =
     leaves c lt (inl e) =
         let P : ℕ → Type 0 = λ c. LeavesFlags (node_at nodes c) (node_at (slice_set nodes d new) c) in
         subst P (sym e)
-        (subst (λ n. LeavesFlags (node_at nodes d) n) (sym (get_or-set_same nodes d new (Nodes.first_state Relay 0 0) low))
+        (subst (λ n. LeavesFlags (node_at nodes d) n) (sym (get_or-set_same nodes d new (Nodes.first_state Relay 0 0 false) low))
         (request_flags o (node_at nodes d) (h.each d low).size))
     leaves c lt (inr ne) =
-        subst (λ n. LeavesFlags (node_at nodes c) n) (sym (get_or-set_other nodes d c new (Nodes.first_state Relay 0 0) ne)) (same_flags (node_at nodes c))
+        subst (λ n. LeavesFlags (node_at nodes c) n) (sym (get_or-set_other nodes d c new (Nodes.first_state Relay 0 0 false) ne)) (same_flags (node_at nodes c))
 
 -- ---- what touches no plug
 
@@ -131,21 +131,21 @@ lingers_kept n m d l same h = subst (λ p. LingersAs (record m { plugs = p }) d 
 
 -- ---- a device more
 
-pub lingering_declared : (nodes : List NodeState) (s : State) (name : List ℕ) (kind : DeviceKind) (ports speed : ℕ) → IsGood s → HasNodes nodes s
+pub lingering_declared : (nodes : List NodeState) (s : State) (name : List ℕ) (kind : DeviceKind) (ports speed : ℕ) (withheld : Bool) → IsGood s → HasNodes nodes s
     → HasLingering nodes s
-    → HasLingering (nodes ++ Nodes.first_state kind (length s.declared.names) speed ∷ []) (record s { declared = with_device s.declared name kind ports speed })
-lingering_declared nodes s name kind ports speed g at h = record { each = λ d lt. go d lt (cases_lt d (length nodes)) }
+    → HasLingering (nodes ++ Nodes.first_state kind (length s.declared.names) speed withheld ∷ []) (record s { declared = with_device s.declared name kind ports speed })
+lingering_declared nodes s name kind ports speed withheld g at h = record { each = λ d lt. go d lt (cases_lt d (length nodes)) }
   where
     new : NodeState
-    new = Nodes.first_state kind (length s.declared.names) speed
+    new = Nodes.first_state kind (length s.declared.names) speed withheld
 
     go : (d : ℕ) → d < length (nodes ++ new ∷ []) → (d < length nodes) ⊎ (length nodes ≤ d) → LingersAs (node_at (nodes ++ new ∷ []) d) d s.account
-    go d lt (inl low) = subst (λ n. LingersAs n d s.account) (sym (get_or_append_left nodes (new ∷ []) (Nodes.first_state Relay 0 0) d low)) (h.each d low)
+    go d lt (inl low) = subst (λ n. LingersAs n d s.account) (sym (get_or_append_left nodes (new ∷ []) (Nodes.first_state Relay 0 0 false) d low)) (h.each d low)
     go d lt (inr past) =
         let size = at.size in
         let here : length nodes ≡ d = omega (arith, lt, past, length-append nodes (new ∷ [])) in
-        subst (λ n. LingersAs n d s.account) (sym (get_or_push nodes new (Nodes.first_state Relay 0 0) d here))
-        (first_lingers (Nodes.first_unit kind) kind (length s.declared.names) speed d s.account
+        subst (λ n. LingersAs n d s.account) (sym (get_or_push nodes new (Nodes.first_state Relay 0 0 false) d here))
+        (first_lingers (Nodes.first_unit kind) kind (length s.declared.names) speed withheld d s.account
         (λ k. quiet_off s d k g (undeclared_off s d g (omega (arith, here, size)))))
 
 -- ---- a bus reset
@@ -203,12 +203,12 @@ lingering_reset old new s0 s initiator e g x at r shows stays h = record {
     go d None off (Some n) on is had = absurd (false≢true (sym (ap is_some off) ∙ stays d (ap is_some on)))
     go d None off None gone is had =
         subst (λ n. LingersAs n d m) (sym is)
-        (first_lingers (node_at old.nodes d).unit (kind_at s.declared.kinds d) d (facts_at s.declared.topology.devices d).speed d m (λ k. joins d k gone))
+        (first_lingers (node_at old.nodes d).unit (kind_at s.declared.kinds d) d (facts_at s.declared.topology.devices d).speed (node_at old.nodes d).withheld d m (λ k. joins d k gone))
     go d (Some k) on None gone is had =
         let rate : ℕ = (facts_at s.declared.topology.devices d).speed in
         let kind : DeviceKind = kind_at s.declared.kinds d in
         subst (λ n. LingersAs (Nodes.after_reset k (is_number e.manager k) n) d m) (sym is)
-        (flags (record (Nodes.first_state kind d rate) { unit = (node_at old.nodes d).unit }) (first_size kind d rate) k (is_number e.manager k) d
+        (flags (record (Nodes.first_state kind d rate (node_at old.nodes d).withheld) { unit = (node_at old.nodes d).unit }) (first_size kind d rate) k (is_number e.manager k) d
         (λ j lt. first_rests kind d rate j (low_speed d k on) lt ∙ sym (joins d j gone)))
     go d (Some k) on (Some n) at_n is had =
         flags (node_at old.nodes d) had.size k (is_number e.manager k) d

@@ -14,7 +14,7 @@ use Rattle.fw_cmp.specs.Turns.{next, is_busy}
 use Rattle.fw_entry.specs.declared.entry.ResetEntry.{ResetEntry}
 use Rattle.fw_devices.specs.Network.{Network, is_node, kind_at}
 use Rattle.fw_devices.specs.Entries.{node_number}
-use Rattle.fw_run.specs.State.{State, directory_of, is_on, is_linked, is_living, is_relay, living, linked_number, number_in, numbers_to, with_link}
+use Rattle.fw_run.specs.State.{State, is_on, is_linked, is_living, is_relay, living, linked_number, number_in, numbers_to, with_link}
 use Rattle.fw_run.specs.Good.{IsGood, IsLatest}
 use Rattle.fw_run.specs.HalfSteps.{has_request, is_busy_at, is_unsettled}
 use Rattle.fw_run.proofs.Buses.{linked_small}

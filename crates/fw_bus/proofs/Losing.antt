@@ -1,13 +1,11 @@
 -- A lost response: the machine carries the request out and its controller keeps its stage, as in the run.
-use Rattle.std.proofs.Common.{◌≡◌, ◌≢◌, ℕ, ◌+◌, ◌<◌, List, [], ◌∷◌, ◌++◌, length, slice_set, true, Option, Some, None, is_some, refl, ap, sym, subst, ◌∙◌, arith, IsTrue, IsFalse}
+use Rattle.std.proofs.Common.{◌≡◌, ℕ, ◌+◌, ◌<◌, List, [], ◌∷◌, ◌++◌, length, slice_set, true, Option, Some, None, is_some, refl, ap, sym, subst, ◌∙◌, arith, IsTrue}
 use Rattle.std.proofs.lemmas.List.{length-set}
 use Rattle.fw_async.specs.declared.packet.Packet.{Packet}
 use Rattle.fw_async.specs.Wire.{without}
 use Rattle.fw_base.specs.Tables.{update}
 use Rattle.fw_csr.specs.declared.reply.Reply.{Reply}
-use Rattle.fw_entry.specs.declared.entry.Entry.{Entry}
 use Rattle.fw_entry.specs.declared.entry.Entry.TheVariants.{Async}
-use Rattle.fw_entry.specs.declared.entry.Timed.{Timed}
 use Rattle.fw_cmp.specs.declared.request.Access.{Access}
 use Rattle.fw_cmp.specs.declared.stage.Stage.{Stage}
 use Rattle.fw_cmp.specs.Losses.{Listening, Awaits, after_answer, after_loss as unheard}
@@ -20,9 +18,8 @@ use Rattle.fw_run.specs.State.{State, entered, is_deaf, is_living}
 use Rattle.fw_run.specs.HalfSteps.{half, after_half, has_request}
 use Rattle.fw_cmp.specs.declared.current.Current.{Current}
 use Rattle.fw_cmp.specs.declared.current.Current.TheVariants.{Nothing, Asking, Hearing, Overtaken}
-use Rattle.fw_run.specs.Actions.{Action, Lose, TellLoss, after_loss, stage_of, Step, Steps}
+use Rattle.fw_run.specs.Actions.{Lose, TellLoss, after_loss, stage_of}
 use Rattle.fw_run.specs.Carrying.{Carries, loses}
-use Rattle.fw_run.specs.Good.{IsGood}
 use Rattle.fw_run.specs.Truth.{controller_at}
 use Rattle.fw_run.proofs.Apart.{all_lose}
 use Rattle.fw_run.proofs.Turns.{living_linked, update_new}
@@ -50,7 +47,7 @@ unheard_stands : (m : Machine) (t : State) (k : ControllerTable) (j r : ℕ) (o 
     → StandsFor (record m { controllers = k; resets = j }) (record t { lost = o; resets = r })
 unheard_stands m t k j r o same st table = record {
   devices = devices_same m.devices t (record t { lost = o; resets = r })
-      (record { names = refl; devices = refl; kinds = refl; latest = refl; bus_manager_id = refl; words = λ r. refl }) refl refl (λ p. refl) st.devices;
+      (record { names = refl; devices = refl; kinds = refl; latest = refl; bus_manager_id = refl; words = λ r. refl; withheld = refl }) refl refl (λ p. refl) st.devices;
   clock = record { cycle = st.clock.cycle; reclaiming = st.clock.reclaiming; half_steps = st.clock.half_steps; written = st.clock.written; resets = same };
   controllers = record { table = table; directory = st.controllers.directory };
   wire = record { each = st.wire.each };

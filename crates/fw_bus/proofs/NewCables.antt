@@ -13,7 +13,7 @@ use Rattle.fw_devices.specs.Network.{Network, kinds_of, is_node}
 use Rattle.fw_devices.proofs.JoinLaws.{bus_grows}
 use Rattle.fw_run.specs.Giving.{at_most}
 use Rattle.fw_run.specs.State.{State, is_on}
-use Rattle.fw_run.specs.Actions.{AddCable, Step, Resets, Joins, with_topology, Begins, counting}
+use Rattle.fw_run.specs.Actions.{AddCable, Step, Joins, with_topology, Begins, counting}
 use Rattle.fw_run.specs.Good.{IsGood}
 use Rattle.fw_run.proofs.Cables.{cabled_declared}
 use Rattle.fw_bus.specs.declared.machine.Machine.{Machine}
@@ -25,7 +25,6 @@ use Rattle.fw_bus.specs.Doings.{Turns, Does, Acts}
 use Rattle.fw_bus.proofs.DeckNodes.{decks_same}
 use Rattle.fw_bus.proofs.Lingers.{lingering_same}
 use Rattle.fw_bus.proofs.Nodes.{SameNodes, is_node_same, nodes_same}
-use Rattle.fw_bus.proofs.Renumbered.{extends_cabled}
 use Rattle.fw_bus.proofs.Began.{MayBegin}
 use Rattle.fw_bus.proofs.ResetTurns.{reset_of, some_nodes, ready_on, counting_in, few_epochs}
 use Rattle.fw_bus.proofs.Standing.{resets_stand}
@@ -59,6 +58,7 @@ joined_stands m s devices a b x y st j = record {
     latest = ap (λ (n : Network). n.latest) j.same ∙ st.devices.latest;
     epoch = ap (λ (n : Network). n.epoch) j.same ∙ st.devices.epoch;
     manager = ap (λ (n : Network). n.manager) j.same ∙ st.devices.manager;
+    withheld = ap (λ (n : Network). n.withheld) j.same ∙ st.devices.withheld;
   };
   clock = record { cycle = st.clock.cycle; reclaiming = st.clock.reclaiming; half_steps = st.clock.half_steps; written = st.clock.written; resets = st.clock.resets };
   controllers = record { table = st.controllers.table; directory = st.controllers.directory };
@@ -76,6 +76,7 @@ joined_stands m s devices a b x y st j = record {
       latest = refl;
       bus_manager_id = refl;
       words = λ r. refl;
+      withheld = refl;
     }
 
 -- the cable joins two ports of the run too

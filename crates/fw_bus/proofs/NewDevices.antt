@@ -53,17 +53,18 @@ declared_stands m s table name kind ports speed g st more = record {
     topology = ap (λ (t : Topology). record { devices = t.devices ++ facts_of kind ports speed ∷ []; cables = t.cables }) st.devices.topology;
     names = ap (λ (xs : List (List ℕ)). xs ++ name ∷ []) st.devices.names;
     kinds = map-append _ m.devices.nodes _ ∙ ap (λ (ks : List DeviceKind). ks ++ kind ∷ []) st.devices.kinds;
-    nodes = subst (λ n. HasNodes (m.devices.nodes ++ Nodes.first_state kind n speed ∷ []) (declared_in s name kind ports speed))
-        (ap (λ (xs : List (List ℕ)). length xs) (sym st.devices.names)) (nodes_declared m.devices.nodes s name kind ports speed g st.devices.nodes);
-    lingering = subst (λ n. HasLingering (m.devices.nodes ++ Nodes.first_state kind n speed ∷ []) (declared_in s name kind ports speed))
+    nodes = subst (λ n. HasNodes (m.devices.nodes ++ Nodes.first_state kind n speed m.devices.withheld ∷ []) (declared_in s name kind ports speed))
+        (ap (λ (xs : List (List ℕ)). length xs) (sym st.devices.names)) (nodes_declared m.devices.nodes s name kind ports speed m.devices.withheld g st.devices.nodes);
+    lingering = subst (λ n. HasLingering (m.devices.nodes ++ Nodes.first_state kind n speed m.devices.withheld ∷ []) (declared_in s name kind ports speed))
         (ap (λ (xs : List (List ℕ)). length xs) (sym st.devices.names))
-        (lingering_declared m.devices.nodes s name kind ports speed g st.devices.nodes st.devices.lingering);
-    decks = subst (λ n. HasDecks (m.devices.nodes ++ Nodes.first_state kind n speed ∷ []) (declared_in s name kind ports speed))
+        (lingering_declared m.devices.nodes s name kind ports speed m.devices.withheld g st.devices.nodes st.devices.lingering);
+    decks = subst (λ n. HasDecks (m.devices.nodes ++ Nodes.first_state kind n speed m.devices.withheld ∷ []) (declared_in s name kind ports speed))
         (ap (λ (xs : List (List ℕ)). length xs) (sym st.devices.names))
-        (decks_declared m.devices.nodes s name kind ports speed st.devices.nodes.size g st.devices.decks);
+        (decks_declared m.devices.nodes s name kind ports speed m.devices.withheld st.devices.nodes.size g st.devices.decks);
     latest = st.devices.latest;
     epoch = st.devices.epoch;
     manager = st.devices.manager;
+    withheld = st.devices.withheld;
   };
   clock = record { cycle = st.clock.cycle; reclaiming = st.clock.reclaiming; half_steps = st.clock.half_steps; written = st.clock.written; resets = st.clock.resets };
   controllers = record {
@@ -120,7 +121,7 @@ first_turns m now table name kind ports speed none may more few b = record { sho
           extends = let x = extends_declared s name kind ports speed g in record { account = refl; cycle = refl; decks = refl; streams = refl; kinds = x.kinds };
           stands = resets_stand (with_device_in m table name kind ports speed) (declared_in s name kind ports speed) 1 1 refl (declared_stands m s table name kind ports speed g st more);
           declared = more_declared s name kind ports speed d;
-          some = let n = length-append m.devices.nodes (Nodes.first_state kind (length m.devices.names) speed ∷ []) in omega (arith, n);
+          some = let n = length-append m.devices.nodes (Nodes.first_state kind (length m.devices.names) speed m.devices.withheld ∷ []) in omega (arith, n);
           more = let n = length-append s.declared.topology.devices (facts_of kind ports speed ∷ []) in omega (arith, n);
           walks = λ c on. on;
         } in

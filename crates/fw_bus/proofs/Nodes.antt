@@ -1,5 +1,5 @@
 -- What the nodes of devices keep, against the account.
-use Rattle.std.proofs.Common.{◌≡◌, ℕ, ◌+◌, ◌<◌, ◌≤◌, List, [], ◌∷◌, ◌++◌, length, true, false, cond, nat_lt, ◌&&◌, Option, Some, None, is_some, refl, ap, sym, subst, ◌∙◌, arith, IsTrue, ◌⊎◌, inl, inr, unwrap_or}
+use Rattle.std.proofs.Common.{Bool, ◌≡◌, ℕ, ◌+◌, ◌<◌, ◌≤◌, List, [], ◌∷◌, ◌++◌, length, true, false, cond, nat_lt, ◌&&◌, Option, Some, None, is_some, refl, ap, sym, subst, ◌∙◌, arith, IsTrue, ◌⊎◌, inl, inr, unwrap_or}
 use Rattle.std.proofs.lemmas.Bool.{cases_lt}
 use Rattle.std.proofs.lemmas.Bool.Decides.{nat_tests}
 use Rattle.std.proofs.lemmas.List.{get_or_append_left, get_or_push, length-append}
@@ -45,6 +45,7 @@ pub record SameNodes (s t : State) : Type 0 where
   pub latest : t.account.latest ≡ s.account.latest
   pub bus_manager_id : t.bus_manager_id ≡ s.bus_manager_id
   pub words : (r : Register) → word_of t.account r ≡ word_of s.account r
+  pub withheld : t.account.withheld ≡ s.account.withheld
 
 -- the words of the manager, where it is the node
 abbrev pub manager_by : Option ResetEntry → ℕ → ManagerWords → Option ManagerWords
@@ -57,8 +58,9 @@ same_manager s t n same =
     let bandwidth = sym (same.words BandwidthAvailable) in
     let high = sym (same.words (ChannelsAvailable 0)) in
     let low = sym (same.words (ChannelsAvailable 32)) in
+    let withheld = sym same.withheld in
     λ i. manager_by (latest i) n
-    (record { bus_manager_id = id i; bandwidth_available = bandwidth i; channels_available_hi = high i; channels_available_lo = low i })
+    (record { bus_manager_id = id i; bandwidth_available = bandwidth i; channels_available_hi = high i; channels_available_lo = low i; withheld = withheld i })
 
 -- a node's registers are those of another space that agrees at the plugs that are there
 pub space_as : (n : NodeState) (a b : Space) → HasSpace n a → b.number ≡ a.number → b.kind ≡ a.kind → b.device ≡ a.device → b.rate ≡ a.rate
@@ -85,7 +87,7 @@ pub node_as : (s t : State) (d : ℕ) (o : Option ℕ) (n : NodeState) → kind_
     → ((k : ℕ) → k < output_plugs_of (kind_at s.declared.kinds d) → word_of t.account (OutputPlug (at_plug d k)) ≡ word_of s.account (OutputPlug (at_plug d k)))
     → ((k : ℕ) → k < input_plugs_of (kind_at s.declared.kinds d) → word_of t.account (InputPlug (at_plug d k)) ≡ word_of s.account (InputPlug (at_plug d k)))
     → ((m : ℕ) → o ≡ Some m → (space_at t d m).manager ≡ (space_at s d m).manager) → IsNodeAt o s d n → IsNodeAt o t d n
-node_as s t d None n kind speed outputs inputs manager is = is ∙ (λ i. record (Nodes.first_state (sym kind i) d (sym speed i)) { unit = n.unit })
+node_as s t d None n kind speed outputs inputs manager is = is ∙ (λ i. record (Nodes.first_state (sym kind i) d (sym speed i) n.withheld) { unit = n.unit })
 node_as s t d (Some m) n kind speed outputs inputs manager is =
     space_as n (space_at s d m) (space_at t d m) is refl kind refl speed outputs inputs (manager m refl)
 
@@ -104,15 +106,15 @@ nodes_same nodes s t same h = record {
 -- ---- one device more
 
 -- a device that is declared has its node beside those of the others, which stay
-pub nodes_declared : (nodes : List NodeState) (s : State) (name : List ℕ) (kind : DeviceKind) (ports speed : ℕ) → IsGood s → HasNodes nodes s
-    → HasNodes (nodes ++ Nodes.first_state kind (length s.declared.names) speed ∷ []) (record s { declared = with_device s.declared name kind ports speed })
-nodes_declared nodes s name kind ports speed g h = record {
+pub nodes_declared : (nodes : List NodeState) (s : State) (name : List ℕ) (kind : DeviceKind) (ports speed : ℕ) (withheld : Bool) → IsGood s → HasNodes nodes s
+    → HasNodes (nodes ++ Nodes.first_state kind (length s.declared.names) speed withheld ∷ []) (record s { declared = with_device s.declared name kind ports speed })
+nodes_declared nodes s name kind ports speed withheld g h = record {
   size = let size = h.size in omega (arith, length-append nodes (new ∷ []), length-append s.declared.names (name ∷ []));
   each = λ d lt. go d lt (cases_lt d (length nodes));
 }
   where
     new : NodeState
-    new = Nodes.first_state kind (length s.declared.names) speed
+    new = Nodes.first_state kind (length s.declared.names) speed withheld
 
     facts : PhyFacts
     facts = facts_of kind ports speed
@@ -129,7 +131,7 @@ nodes_declared nodes s name kind ports speed g h = record {
         let k = get_or_append_left s.declared.kinds (kind ∷ []) Relay d (omega arith) in
         let v = get_or_append_left s.declared.topology.devices (facts ∷ []) no_facts d (omega arith) in
         let P : NodeState → Type 0 = IsNodeAt (number_in s.account.latest d) t d in
-        subst P (sym (get_or_append_left nodes (new ∷ []) (Nodes.first_state Relay 0 0) d low))
+        subst P (sym (get_or_append_left nodes (new ∷ []) (Nodes.first_state Relay 0 0 false) d low))
         (node_as s t d (number_in s.account.latest d) (node_at nodes d) k (ap (λ (f : PhyFacts). f.speed) v) (λ j below. refl) (λ j below. refl)
         (λ m is. refl) (h.each d low))
     go d lt (inr past) =
@@ -141,8 +143,8 @@ nodes_declared nodes s name kind ports speed g h = record {
         let v : facts_at t.declared.topology.devices d ≡ facts = get_or_push s.declared.topology.devices facts no_facts d (omega arith) in
         let P : Option ℕ → Type 0 = λ o. IsNodeAt o t d (node_at (nodes ++ new ∷ []) d) in
         subst P (sym (undeclared_off s d g (omega arith)))
-        (let is = get_or_push nodes new (Nodes.first_state Relay 0 0) d (omega arith) in
-        is ∙ (λ i. record (Nodes.first_state (sym k i) (sym here i) (sym v i).speed) { unit = (sym is i).unit }))
+        (let is = get_or_push nodes new (Nodes.first_state Relay 0 0 false) d (omega arith) in
+        is ∙ (λ i. record (Nodes.first_state (sym k i) (sym here i) (sym v i).speed (sym is i).withheld) { unit = (sym is i).unit }))
 
 -- ---- only units change
 
@@ -150,8 +152,9 @@ nodes_declared nodes s name kind ports speed g h = record {
 pub node_kept : (o : Option ℕ) (s : State) (d : ℕ) (n m : NodeState) → m ≡ record n { unit = m.unit; waiting = m.waiting } → (o ≡ None → m.waiting ≡ None)
     → IsNodeAt o s d n → IsNodeAt o s d m
 node_kept None s d n m same none is =
-    let first = Nodes.first_state (kind_at s.declared.kinds d) d (facts_at s.declared.topology.devices d).speed in
-    same ∙ ((λ i. record (is i) { unit = m.unit; waiting = m.waiting }) ∙ (λ i. record first { unit = m.unit; waiting = none refl i }))
+    let withheld : n.withheld ≡ m.withheld = sym (ap (λ (x : NodeState). x.withheld) same) in
+    same ∙ ((λ i. record (is i) { unit = m.unit; waiting = m.waiting })
+    ∙ (λ i. record (Nodes.first_state (kind_at s.declared.kinds d) d (facts_at s.declared.topology.devices d).speed (withheld i)) { unit = m.unit; waiting = none refl i }))
 node_kept (Some number) s d n m same none is =
     subst (λ z. HasSpace z (space_at s d number)) (sym same)
     (record {

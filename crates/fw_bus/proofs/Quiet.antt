@@ -9,8 +9,8 @@ use Rattle.fw_entry.specs.declared.entry.Timed.{Timed}
 use Rattle.fw_fcp.specs.declared.frame.Frame.{Frame}
 use Rattle.fw_script.specs.declared.command.Command.{Command}
 use Rattle.fw_run.specs.declared.order.Order.{Order}
-use Rattle.fw_run.specs.Actions.{Action, AddDevice, AddCable, ResetBus, StartConnection, StartBreak, HalfStep, Rest, Unsettled, Pass, EndSecond, Die, CarryOut, Start, Ask, Answer, ShowWord, SendCommand, SendFrame, Receive, InsertTape, EjectTape, StartCycle, SendPacket, Finish, Resets, Declares, Joins, Step, Steps, Lose, TellLoss, beginning, counting, counted}
-use Rattle.fw_run.specs.Carrying.{times, half_steps_of, next_cycle, SendsPackets, HasCycle, HasCycles, Rounds, none, round, rest, SendsAll, quiet, sends, Carries, declares, joins, resets, connects, breaks, steps, settled, unsettled, waits, waits_over, writes_cycles, dies, dies_late, dies_idle, starts, goes_on, transacts, shows, commanded, inserts, ejects, ejects_nothing, ends, loses}
+use Rattle.fw_run.specs.Actions.{Action, Withhold, AddDevice, AddCable, ResetBus, StartConnection, StartBreak, HalfStep, Rest, Unsettled, Pass, EndSecond, Die, CarryOut, Start, Ask, Answer, ShowWord, SendCommand, SendFrame, Receive, InsertTape, EjectTape, StartCycle, SendPacket, Finish, Resets, Declares, Joins, Step, Steps, Lose, TellLoss, beginning, counting, counted}
+use Rattle.fw_run.specs.Carrying.{times, half_steps_of, next_cycle, SendsPackets, HasCycle, HasCycles, Rounds, none, round, rest, SendsAll, quiet, sends, Carries, withholds, withholds_already, declares, joins, resets, connects, breaks, steps, settled, unsettled, waits, waits_over, writes_cycles, dies, dies_late, dies_idle, starts, goes_on, transacts, shows, commanded, inserts, ejects, ejects_nothing, ends, loses}
 use Rattle.std.proofs.lemmas.Option.{same_Some}
 use Rattle.fw_run.specs.Decks.{DeckState, FrameWrite, Obeyed, after_frame, next_frame}
 use Rattle.fw_run.specs.Frames.{decks_after, command_write}
@@ -78,6 +78,7 @@ taken_quiet s d out t q (keeps_deaf deaf said is) = as_is t _ is q
 taken_quiet s d out t q (forces_reset deaf r) = resets_quiet (counted s 1) t d out r
 
 step_quiet : (s : State) (a : Action) (out : List Timed) (t : State) → IsCalm a → AreQuiet s → Step s a out t → AreQuiet t
+step_quiet s Withhold out t calm q x = as_is t _ x.1.3 q
 step_quiet s (AddDevice name kind ports speed) out t calm q x = declares_quiet s.declared.names _ t out q x.1.4
 step_quiet s (AddCable a b) out t calm q x = joins_quiet (is_on s a.device) (is_on s b.device) a.device b.device _ t out q x.1.2
 step_quiet s (ResetBus d) out t calm q x = resets_quiet (counting s) t d out x.1.1.1
@@ -206,6 +207,8 @@ cycles_quiet zero s xs out t q f = as_is t s f.2 q
 cycles_quiet (suc n) s xs out t q f = cycles_quiet n f.0 f.2 f.4 t (cycle_quiet s.account.latest s f.1 f.3 f.0 q f.5) f.6
 
 carries_quiet : (s : State) (o : Order) (xs : List Action) (out : List Timed) (t : State) → AreQuiet s → Carries s o xs out t → AreQuiet t
+carries_quiet s o xs out t q (withholds f) = steps_quiet s xs out t (tt, tt) q f
+carries_quiet s o xs out t q (withholds_already e) = q
 carries_quiet s o xs out t q (declares f) = steps_quiet s xs out t (tt, tt) q f
 carries_quiet s o xs out t q (joins f) = steps_quiet s xs out t (tt, tt) q f
 carries_quiet s o xs out t q (resets f) = steps_quiet s xs out t (tt, tt) q f

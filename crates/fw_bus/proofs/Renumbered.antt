@@ -1,5 +1,5 @@
 -- A bus reset keeps what nodes keep against the account.
-use Rattle.std.proofs.Common.{◌≡◌, ℕ, ◌<◌, ◌≤◌, List, [], ◌∷◌, length, map, get_or, slice_index, cond, Option, Some, None, is_some, refl, ap, sym, subst, ◌∙◌, arith, IsTrue}
+use Rattle.std.proofs.Common.{◌≡◌, ℕ, ◌<◌, ◌≤◌, List, [], ◌∷◌, length, map, get_or, slice_index, cond, Bool, false, Option, Some, None, is_some, refl, ap, sym, subst, ◌∙◌, arith, IsTrue}
 use Rattle.std.proofs.lemmas.Bool.{false≢true}
 use Rattle.std.proofs.lemmas.List.{get_or-replicate, get_or_append_left, length-map, length-replicate, ext_get_or}
 use Rattle.std.proofs.lemmas.List as Lists
@@ -17,7 +17,7 @@ use Rattle.fw_ledger.specs.Events.{after_reset}
 use Rattle.fw_entry.specs.Network.{speed_of}
 use Rattle.fw_ledger.specs.Network.{declared}
 use Rattle.fw_ledger.specs.Words.{OutputPlug, InputPlug, word_of, node_of}
-use Rattle.fw_ledger.proofs.Resets.{reset_remainder, reset_channels}
+use Rattle.fw_ledger.proofs.Resets.{reset_remainder, reset_high, reset_low}
 use Rattle.fw_tree.specs.Cables.{IsOnBus}
 use Rattle.fw_tree.specs.SelfIds.{facts_at}
 use Rattle.fw_tree.specs.Topology.{Topology}
@@ -58,13 +58,14 @@ extends_cabled s t = record { account = refl; cycle = refl; decks = refl; stream
 -- ---- the manager
 
 -- its registers are as at first
-reset_manager : (s : State) (e : ResetEntry) (d k : ℕ) → cond (is_number e.manager k) (Some initial_words) None ≡ (space_at (after_reset_entry s e) d k).manager
-reset_manager s e d k =
+reset_manager : (s : State) (e : ResetEntry) (d k : ℕ) (withheld : Bool) → withheld ≡ s.account.withheld
+    → cond (is_number e.manager k) (Some (initial_words withheld)) None ≡ (space_at (after_reset_entry s e) d k).manager
+reset_manager s e d k withheld same =
     let bandwidth = sym (reset_remainder e s.account) in
-    let high = sym (reset_channels e s.account 0) in
-    let low = sym (reset_channels e s.account 32) in
+    let high = ap (λ (b : Bool). cond b 0xFFFF_FFFE 0xFFFF_FFFF) same ∙ sym (reset_high e s.account) in
+    let low = sym (reset_low e s.account) in
     λ i. cond (is_number e.manager k)
-    (Some (record { bus_manager_id = 0x3F; bandwidth_available = bandwidth i; channels_available_hi = high i; channels_available_lo = low i })) None
+    (Some (record { bus_manager_id = 0x3F; bandwidth_available = bandwidth i; channels_available_hi = high i; channels_available_lo = low i; withheld = same i })) None
 
 -- ---- the words of a device that was a node
 
@@ -127,9 +128,9 @@ cleared_at words k lt = Lists.get_or-map disconnected words k 0 0 lt
 
 -- the node that a device is by the entry
 renumbered : (s0 s : State) (e : ResetEntry) (d k : ℕ) (n : NodeState) (o : Option ℕ) → IsGood s0 → Extends s0 s
-    → Shows s.declared.topology s.declared.kinds e → node_number e.nodes d ≡ Some k → number_in s.account.latest d ≡ o → IsNodeAt o s d n
+    → Shows s.declared.topology s.declared.kinds e → node_number e.nodes d ≡ Some k → number_in s.account.latest d ≡ o → n.withheld ≡ s.account.withheld → IsNodeAt o s d n
     → HasSpace (Nodes.after_reset k (is_number e.manager k) n) (space_at (after_reset_entry s e) d k)
-renumbered s0 s e d k n None g x shows at was is =
+renumbered s0 s e d k n None g x shows at was same is =
     let P : NodeState → Type 0 = λ n. HasSpace (Nodes.after_reset k (is_number e.manager k) n) (space_at (after_reset_entry s e) d k) in
     subst P (sym is) (fresh n.unit)
   where
@@ -144,7 +145,7 @@ renumbered s0 s e d k n None g x shows at was is =
 
     -- whatever its unit keeps
     fresh : (u : Option UnitState)
-        → HasSpace (Nodes.after_reset k (is_number e.manager k) (record (Nodes.first_state (kind_at s.declared.kinds d) d rate) { unit = u }))
+        → HasSpace (Nodes.after_reset k (is_number e.manager k) (record (Nodes.first_state (kind_at s.declared.kinds d) d rate n.withheld) { unit = u }))
         (space_at (after_reset_entry s e) d k)
     fresh u = record {
       number = refl;
@@ -159,9 +160,9 @@ renumbered s0 s e d k n None g x shows at was is =
       input_words = λ j lt.
           cleared_at _ j (let size = length-replicate ins first_in_word in omega arith) ∙ ap disconnected (get_or-replicate ins j first_in_word 0 lt)
           ∙ new_input s0 s e d j g x was;
-      manager = reset_manager s e d k;
+      manager = reset_manager s e d k n.withheld same;
     }
-renumbered s0 s e d k n (Some m) g x shows at was is = record {
+renumbered s0 s e d k n (Some m) g x shows at was same is = record {
   number = refl;
   kind = is.kind;
   device = is.device;
@@ -172,7 +173,7 @@ renumbered s0 s e d k n (Some m) g x shows at was is = record {
       ∙ kept_output s0 s e d m j g x was lt;
   input_words = λ j lt. cleared_at n.plugs.inputs j (let size = is.inputs in omega arith) ∙ ap disconnected (is.input_words j lt)
       ∙ kept_input s0 s e d m j g x was lt;
-  manager = reset_manager s e d k;
+  manager = reset_manager s e d k n.withheld same;
 }
 
 -- ---- the whole
@@ -191,21 +192,21 @@ stays_on s t kinds e g shows more walks d on = go s.account.latest g.latest on
     go (Some x) h on = (shows.nodes d (omega (arith, low))).1 (walks d ((h.1.nodes d low).0 on))
 
 -- Where each device that is on the bus is on it by the entry too, the nodes of its bus reset are those of the account after it.
-pub nodes_reset : (old new : Network) (s0 s : State) (initiator : ℕ) (e : ResetEntry) → IsGood s0 → Extends s0 s → HasNodes old.nodes s
+pub nodes_reset : (old new : Network) (s0 s : State) (initiator : ℕ) (e : ResetEntry) → IsGood s0 → Extends s0 s → HasNodes old.nodes s → old.withheld ≡ s.account.withheld
     → IsReset old new initiator e → Shows s.declared.topology s.declared.kinds e
     → ((d : ℕ) → IsTrue (is_on s d) → IsTrue (is_some (node_number e.nodes d))) → HasNodes new.nodes (after_reset_entry s e)
-nodes_reset old new s0 s initiator e g x h r shows stays = record {
+nodes_reset old new s0 s initiator e g x h withheld r shows stays = record {
   size = r.size ∙ h.size;
   each = λ d lt. let size = r.size in let low : d < length old.nodes = omega arith in
       let P : NodeState → Type 0 = IsNodeAt (node_number e.nodes d) (after_reset_entry s e) d in
-      subst P (sym (r.nodes d low)) (go d (node_number e.nodes d) refl (number_in s.account.latest d) refl (h.each d low));
+      subst P (sym (r.nodes d low)) (go d (node_number e.nodes d) refl (number_in s.account.latest d) refl (r.withhold d low ∙ withheld) (h.each d low));
 }
   where
-    go : (d : ℕ) (now : Option ℕ) → node_number e.nodes d ≡ now → (was : Option ℕ) → number_in s.account.latest d ≡ was → IsNodeAt was s d (node_at old.nodes d)
+    go : (d : ℕ) (now : Option ℕ) → node_number e.nodes d ≡ now → (was : Option ℕ) → number_in s.account.latest d ≡ was → (node_at old.nodes d).withheld ≡ s.account.withheld → IsNodeAt was s d (node_at old.nodes d)
         → IsNodeAt now (after_reset_entry s e) d (numbered now e.manager (node_at old.nodes d))
-    go d None at None was is = is
-    go d None at (Some m) was is = absurd (false≢true (sym (ap is_some at) ∙ stays d (ap is_some was)))
-    go d (Some k) at o was is = renumbered s0 s e d k (node_at old.nodes d) o g x shows at was is
+    go d None at None was same is = is
+    go d None at (Some m) was same is = absurd (false≢true (sym (ap is_some at) ∙ stays d (ap is_some was)))
+    go d (Some k) at o was same is = renumbered s0 s e d k (node_at old.nodes d) o g x shows at was same is
 
 -- the manager is the one that the entry shows
 pub manager_reset : (old new : Network) (initiator : ℕ) (e : ResetEntry) → IsReset old new initiator e → new.manager ≡ manager_device (Some e)
@@ -224,6 +225,6 @@ kinds_reset old new initiator e r =
     each : (d : ℕ) → d < length (kinds_of new.nodes) → get_or (kinds_of new.nodes) d Relay ≡ get_or (kinds_of old.nodes) d Relay
     each d lt =
         let low : d < length old.nodes = omega (arith, r.size, length-map new.nodes (λ (n : NodeState). n.kind)) in
-        Plain.get_or-map (λ (n : NodeState). n.kind) new.nodes d (Nodes.first_state Relay 0 0) ∙ ap (λ (n : NodeState). n.kind) (r.nodes d low)
+        Plain.get_or-map (λ (n : NodeState). n.kind) new.nodes d (Nodes.first_state Relay 0 0 false) ∙ ap (λ (n : NodeState). n.kind) (r.nodes d low)
         ∙ stays (node_number e.nodes d) e.manager (node_at old.nodes d)
-        ∙ sym (Plain.get_or-map (λ (n : NodeState). n.kind) old.nodes d (Nodes.first_state Relay 0 0))
+        ∙ sym (Plain.get_or-map (λ (n : NodeState). n.kind) old.nodes d (Nodes.first_state Relay 0 0 false))

@@ -18,7 +18,7 @@ use Rattle.fw_bus.specs.Wires.{HasWire}
 use Rattle.fw_bus.proofs.WireResets.{wire_empty, reset_stands_none}
 use Rattle.fw_bus.specs.Doings.{Turns, Does, Acts}
 use Rattle.fw_bus.proofs.Nodes.{is_node_same, on_within}
-use Rattle.fw_bus.proofs.Renumbered.{extends_cabled, manager_reset, kinds_reset}
+use Rattle.fw_bus.proofs.Renumbered.{manager_reset, kinds_reset}
 use Rattle.fw_bus.proofs.Doings.{does_one}
 use Rattle.fw_bus.proofs.Standing.{resets_stand}
 use Rattle.fw_bus.proofs.Began.{MayBegin, first_is, resets_now, nodes_now, lingering_now, decks_now, directory_now, table_now, streams_now}
@@ -42,6 +42,7 @@ reset_stands m now good s i may b few =
         latest = refl;
         epoch = b.reset.epoch ∙ sym b.reset.entry.epoch_is;
         manager = manager_reset m.devices now.devices i now.devices.latest b.reset;
+        withheld = b.reset.withheld ∙ st.devices.withheld;
       };
       clock = record {
         cycle = ap (λ (z : Machine). z.cycle) b.after ∙ st.clock.cycle;

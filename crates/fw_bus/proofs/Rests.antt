@@ -28,18 +28,18 @@ none_linger zero = refl
 none_linger (suc n) = ap (λ ls. false ∷ ls) (none_linger n)
 
 -- so it leaves such a device as it is
-first_rests : (kind : DeviceKind) (device rate : ℕ) → Nodes.after_second (Nodes.first_state kind device rate) ≡ Nodes.first_state kind device rate
-first_rests kind device rate =
+first_rests : (kind : DeviceKind) (device rate : ℕ) (withheld : Bool) → Nodes.after_second (Nodes.first_state kind device rate withheld) ≡ Nodes.first_state kind device rate withheld
+first_rests kind device rate withheld =
     let outputs = none_linger (output_plugs_of kind) in
     let inputs = none_linger (input_plugs_of kind) in
     let words = first_words (output_plugs_of kind) (input_plugs_of kind) rate in
-    λ i. record (Nodes.first_state kind device rate) { plugs = record words { lingering_outputs = outputs i; lingering_inputs = inputs i } }
+    λ i. record (Nodes.first_state kind device rate withheld) { plugs = record words { lingering_outputs = outputs i; lingering_inputs = inputs i } }
 
 -- the node of each device keeps what it has against the account
 node_rests : (o : Option ℕ) (s : State) (d : ℕ) (n : NodeState) → IsNodeAt o s d n → IsNodeAt o s d (Nodes.after_second n)
 node_rests None s d n is =
     ap Nodes.after_second is
-    ∙ ap (λ (m : NodeState). record m { unit = n.unit }) (first_rests (kind_at s.declared.kinds d) d (facts_at s.declared.topology.devices d).speed)
+    ∙ ap (λ (m : NodeState). record m { unit = n.unit }) (first_rests (kind_at s.declared.kinds d) d (facts_at s.declared.topology.devices d).speed n.withheld)
 node_rests (Some number) s d n is = record {
   number = is.number;
   kind = is.kind;

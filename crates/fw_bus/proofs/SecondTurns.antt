@@ -70,10 +70,11 @@ devices_pass cycles n s h = record {
   latest = h.latest;
   epoch = h.epoch;
   manager = h.manager;
+  withheld = h.withheld;
 }
   where
     keeps : SameNodes s (after_cycles s cycles)
-    keeps = record { names = refl; devices = refl; kinds = refl; latest = refl; bus_manager_id = refl; words = λ r. refl }
+    keeps = record { names = refl; devices = refl; kinds = refl; latest = refl; bus_manager_id = refl; words = λ r. refl; withheld = refl }
 
 -- the machine after it
 abbrev pub passed_by : Machine → ℕ → Machine
@@ -131,6 +132,7 @@ devices_rest n s h = record {
   latest = h.latest;
   epoch = h.epoch;
   manager = h.manager;
+  withheld = h.withheld;
 }
   where
     t : State
@@ -141,7 +143,7 @@ devices_rest n s h = record {
     }
 
     keeps : SameNodes s t
-    keeps = record { names = refl; devices = refl; kinds = refl; latest = refl; bus_manager_id = refl; words = λ r. same_words s.account r }
+    keeps = record { names = refl; devices = refl; kinds = refl; latest = refl; bus_manager_id = refl; words = λ r. same_words s.account r; withheld = refl }
 
 -- they do after a cycle, in which tapes move
 devices_end : (n : Network) (s : State) → HasDevices n s → HasDevices (passed_in 1 (rested n)) (over s (account_second s.account))
@@ -156,7 +158,7 @@ streams_over m s g good st =
     let t : State = heard s (account_second s.account) in
     let h = devices_rest m.devices s st.devices in
     let keeps : SameNodes t (after_cycles t 1) =
-    record { names = refl; devices = refl; kinds = refl; latest = refl; bus_manager_id = refl; words = λ r. refl } in
+    record { names = refl; devices = refl; kinds = refl; latest = refl; bus_manager_id = refl; words = λ r. refl; withheld = refl } in
     let nodes = map Nodes.after_second m.devices.nodes in
     streams_end nodes m.devices.nodes m.streams s t g good st.devices.nodes (length-map m.devices.nodes Nodes.after_second)
     (nodes_same nodes t (after_cycles t 1) keeps h.nodes)

@@ -102,7 +102,7 @@ pub frames_fewer : (nodes : List NodeState) (d to : ℕ) (told : ℕ × Frame) (
 frames_fewer nodes d to told o low there next =
     let less = frames_less (node_at nodes d) told next in
     let same = kept (cases_eq d to) in
-    let here = ap frames_of (get_or-set_same nodes d (Fcp.after_frame (node_at nodes d)) (first_state Relay 0 0) low) in
+    let here = ap frames_of (get_or-set_same nodes d (Fcp.after_frame (node_at nodes d)) (first_state Relay 0 0 false) low) in
     omega (arith, less, same, here)
   where
     taken : List NodeState
@@ -114,9 +114,9 @@ frames_fewer nodes d to told o low there next =
     kept : (d ≡ to) ⊎ (d ≢ to) → frames_of (node_at (slice_set taken to (after_request o (node_at taken to))) d) ≡ frames_of (node_at taken d)
     kept (inl e) =
         ap (λ k. frames_of (node_at (slice_set taken to (after_request o (node_at taken to))) k)) e
-        ∙ (ap frames_of (get_or-set_same taken to (after_request o (node_at taken to)) (first_state Relay 0 0) size)
+        ∙ (ap frames_of (get_or-set_same taken to (after_request o (node_at taken to)) (first_state Relay 0 0 false) size)
         ∙ (asked_frames o (node_at taken to) ∙ ap (λ k. frames_of (node_at taken k)) (sym e)))
-    kept (inr ne) = ap frames_of (get_or-set_other taken to d (after_request o (node_at taken to)) (first_state Relay 0 0) ne)
+    kept (inr ne) = ap frames_of (get_or-set_other taken to d (after_request o (node_at taken to)) (first_state Relay 0 0 false) ne)
 
 -- ---- all of them
 

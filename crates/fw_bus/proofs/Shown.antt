@@ -17,7 +17,7 @@ use Rattle.fw_script.specs.declared.command.Command.TheVariants as Commands
 use Rattle.fw_devices.specs.Network.{device_named, kind_at}
 use Rattle.fw_devices.specs.Entries.{device_of, node_device}
 use Rattle.fw_run.specs.declared.rule.RuleFault.TheVariants.{OffBus}
-use Rattle.fw_run.specs.State.{State, device_in, epoch_of, is_linked, is_relay, linked_number, manager_in, with_link}
+use Rattle.fw_run.specs.State.{State, device_in, is_linked, is_relay, linked_number, manager_in, with_link}
 use Rattle.fw_run.specs.Good.{IsGood, IsLatest}
 use Rattle.fw_run.specs.Spaces.{read_at}
 use Rattle.fw_run.specs.Rules.{Decides, IsShown, is_joining}

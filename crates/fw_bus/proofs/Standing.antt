@@ -23,6 +23,7 @@ devices_same n s t same declared decks linger h = record {
   latest = h.latest ∙ sym (ap (λ o. unwrap_or o no_entry) same.latest);
   epoch = h.epoch ∙ sym (ap epoch_of same.latest);
   manager = h.manager ∙ sym (ap manager_device same.latest);
+  withheld = h.withheld ∙ sym same.withheld;
 }
 
 -- what controllers are told is the same where the latest entry and its cycle are
@@ -33,7 +34,7 @@ directory_same s t latest cycle = λ i. record { node = list_to 63 (linked_numbe
 pub counted_stands : (m : Machine) (s : State) (k : ℕ) → StandsFor m s → StandsFor (record m { half_steps = m.half_steps + k }) (counted s k)
 counted_stands m s k st = record {
   devices = devices_same m.devices s (counted s k)
-      (record { names = refl; devices = refl; kinds = refl; latest = refl; bus_manager_id = refl; words = λ r. refl }) refl refl (λ p. refl) st.devices;
+      (record { names = refl; devices = refl; kinds = refl; latest = refl; bus_manager_id = refl; words = λ r. refl; withheld = refl }) refl refl (λ p. refl) st.devices;
   clock = record { cycle = st.clock.cycle; reclaiming = st.clock.reclaiming; half_steps = ap (λ n. n + k) st.clock.half_steps; written = st.clock.written; resets = st.clock.resets };
   controllers = record {
     table = record { count_is = st.controllers.table.count_is; states_are = st.controllers.table.states_are; dead_are = st.controllers.table.dead_are };
@@ -49,7 +50,7 @@ counted_stands m s k st = record {
 pub resets_stand : (m : Machine) (s : State) (j k : ℕ) → j ≡ k → StandsFor m s → StandsFor (record m { resets = j }) (record s { resets = k })
 resets_stand m s j k same st = record {
   devices = devices_same m.devices s (record s { resets = k })
-      (record { names = refl; devices = refl; kinds = refl; latest = refl; bus_manager_id = refl; words = λ r. refl }) refl refl (λ p. refl) st.devices;
+      (record { names = refl; devices = refl; kinds = refl; latest = refl; bus_manager_id = refl; words = λ r. refl; withheld = refl }) refl refl (λ p. refl) st.devices;
   clock = record { cycle = st.clock.cycle; reclaiming = st.clock.reclaiming; half_steps = st.clock.half_steps; written = st.clock.written; resets = same };
   controllers = record {
     table = record { count_is = st.controllers.table.count_is; states_are = st.controllers.table.states_are; dead_are = st.controllers.table.dead_are };

@@ -58,12 +58,12 @@ pub undeclared_silent : (nodes : List NodeState) (s : State) (d : ℕ) → IsGoo
 undeclared_silent nodes s d g h past = off_talks s d 0 g (ap is_some (undeclared_off s d g (let size = h.size in omega (arith, past, size))))
 
 -- nor that of one that is as it was declared, whatever its unit keeps
-first_silent : (u : Option UnitState) (kind : DeviceKind) (device rate : ℕ) → rate < 4
-    → Plugs.talks (record (Nodes.first_state kind device rate) { unit = u }) ≡ false
-first_silent u Relay device rate low = refl
-first_silent u Deck device rate low = first_rests Deck device rate 0 low (omega arith)
-first_silent u Camcorder device rate low = first_rests Camcorder device rate 0 low (omega arith)
-first_silent u Computer device rate low = refl
+first_silent : (u : Option UnitState) (kind : DeviceKind) (device rate : ℕ) (withheld : Bool) → rate < 4
+    → Plugs.talks (record (Nodes.first_state kind device rate withheld) { unit = u }) ≡ false
+first_silent u Relay device rate withheld low = refl
+first_silent u Deck device rate withheld low = first_rests Deck device rate 0 low (omega arith)
+first_silent u Camcorder device rate withheld low = first_rests Camcorder device rate 0 low (omega arith)
+first_silent u Computer device rate withheld low = refl
 
 -- the speeds of devices are few
 low_speed : (s : State) (d : ℕ) → IsGood s → (facts_at s.declared.topology.devices d).speed < 4
@@ -91,7 +91,7 @@ talks_same nodes s d g h linger low = go (number_in s.account.latest d) refl (h.
     go : (o : Option ℕ) → number_in s.account.latest d ≡ o → IsNodeAt o s d n → Plugs.talks n ≡ talks s.account (at_plug d 0)
     go None off is =
         ap Plugs.talks is
-        ∙ (first_silent n.unit (kind_at s.declared.kinds d) d (facts_at s.declared.topology.devices d).speed (low_speed s d g)
+        ∙ (first_silent n.unit (kind_at s.declared.kinds d) d (facts_at s.declared.topology.devices d).speed n.withheld (low_speed s d g)
         ∙ sym (off_talks s d 0 g (ap is_some off)))
     go (Some number) at is = there number at is.outputs (cases_lt 0 (length n.plugs.outputs))
 

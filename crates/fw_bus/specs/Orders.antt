@@ -1,5 +1,5 @@
 -- What carrying an order out asks of the machine.
-use Rattle.std.specs.Prelude.{ℕ, ◌≡◌, ◌+◌, ◌*◌, ◌<◌, ◌≤◌, ◌^◌, ◌&&◌, not, nat_le, if◌then◌else◌, Bool, false, List, length, Some, None, Ok, Err, ◌⊎◌, IsOk, IsTrue, IsFalse, ⊤}
+use Rattle.std.specs.Prelude.{ℕ, ◌≡◌, ◌+◌, ◌*◌, ◌<◌, ◌≤◌, ◌^◌, ◌&&◌, not, nat_le, if◌then◌else◌, Bool, false, List, [], length, Some, None, Ok, Err, ◌⊎◌, IsOk, IsTrue, IsFalse, ⊤}
 use Rattle.std.specs.declared.result.Result.{Result}
 use Rattle.fw_tree.specs.declared.facts.End.{End}
 use Rattle.fw_tree.specs.declared.TreeFault.{TreeFault}
@@ -81,6 +81,7 @@ command_of from to (Read offset) = Commands.Read from to offset
 command_of from to (Swap offset argument new) = Commands.Swap from to offset argument new
 
 abbrev pub MayCarry : Machine → Order → Type 0
+MayCarry m Orders.Withhold = m.devices.names ≡ []
 MayCarry m (Orders.Declare name kind ports speed) = (length m.devices.names < 63) × (1 ≤ ports) × (ports ≤ 27) × (speed ≤ 2)
 MayCarry m (Orders.Cable a b) = CanJoin m.devices.topology a b × IsFalse (joins_in m a b && nat_le 10000 m.resets)
 MayCarry m (Orders.Reset d) = IsTrue (is_node m.devices.nodes d) × (m.resets < 10000)

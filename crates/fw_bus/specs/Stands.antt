@@ -29,7 +29,7 @@ use Rattle.fw_bus.specs.Wires.{HasWire}
 
 -- a node on the bus has the registers of the account; a device that is off is as it was declared, but for the unit
 abbrev pub IsNodeAt : Option ℕ → State → ℕ → NodeState → Type 0
-IsNodeAt None s d n = n ≡ record (Nodes.first_state (kind_at s.declared.kinds d) d (facts_at s.declared.topology.devices d).speed) { unit = n.unit }
+IsNodeAt None s d n = n ≡ record (Nodes.first_state (kind_at s.declared.kinds d) d (facts_at s.declared.topology.devices d).speed n.withheld) { unit = n.unit }
 IsNodeAt (Some number) s d n = HasSpace n (space_at s d number)
 
 -- each device's node
@@ -57,6 +57,7 @@ pub record HasDevices (n : Network) (s : State) : Type 0 where
   pub latest : n.latest ≡ unwrap_or s.account.latest no_entry
   pub epoch : n.epoch ≡ epoch_of s.account.latest
   pub manager : n.manager ≡ manager_device s.account.latest
+  pub withheld : n.withheld ≡ s.account.withheld
 
 -- ---- time and controllers
 

@@ -31,6 +31,7 @@ impl Machine {
             self.old self.new (K.held sink.old) (K.held sink.new) (K.faults sink.old) (K.faults sink.new) result }
     {
         match order {
+            Order::Withhold => self.withhold(room, sink),
             Order::Declare(name, kind, ports, speed) => {
                 self.declare(name, *kind, *ports, *speed, room, sink)
             }

@@ -38,6 +38,14 @@ pub fn unsettled() -> Entry<'static>
     event_of(event::UNSETTLED, NO_DEVICE)
 }
 
+/// The bus withholds channel 31.
+pub fn withheld() -> Entry<'static>
+    ensures value { result ≡ Entries.withheld }
+    ensures fits { Fits result }
+{
+    event_of(event::WITHHELD, NO_DEVICE)
+}
+
 /// The controller of a device died.
 pub fn died(device: u8) -> Entry<'static>
     requires { device < 63 }

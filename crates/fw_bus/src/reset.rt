@@ -2,6 +2,8 @@
 
 ghost use Rattle.std.specs.Prelude.{◌≡◌, ◌≤◌, ◌<◌, ◌+◌, ◌&&◌, ◌^◌, [], ◌∷◌, nat_le, IsTrue, IsFalse, length};
 ghost use Rattle.fw_run.specs.Actions.{AddDevice, AddCable, ResetBus};
+ghost use Rattle.fw_run.specs.Carrying.{Carries};
+ghost use Rattle.fw_run.specs.declared.order.Order.TheVariants.{Withhold};
 ghost use Rattle.fw_bus.specs.Doings.{Acts, Does};
 ghost use Rattle.fw_bus.specs.Orders.{CanJoin, joins_in};
 ghost use Rattle.fw_bus.specs.Resetting.{BeginsReset, GivesReset, directory_in};
@@ -10,6 +12,7 @@ ghost use Rattle.fw_entry.specs.Log.{ResetFits};
 ghost use Rattle.fw_tree.specs.Cables.{IsOnBus};
 ghost use Rattle.fw_devices.specs.Network.{is_node};
 
+use crate::entries::withheld;
 use crate::give::give;
 use crate::machine::{Machine, SECOND};
 use crate::room::Room;
@@ -98,6 +101,19 @@ impl Machine {
     {
         self.resets += 1;
         self.give_reset(device, room, sink)
+    }
+
+    /// The bus withholds channel 31. Where it does so already, nothing is written.
+    pub(crate) fn withhold<K: Sink>(&mut self, room: &mut Room, sink: &mut K) -> Result<(), Failed>
+        requires ready { IsReady self.old }
+        requires first { self.old.devices.names ≡ [] }
+        ensures does { Does (λ s. Carries s Withhold) self.old self.new (K.held sink.old) (K.held sink.new) (K.faults sink.old) (K.faults sink.new) result }
+    {
+        if self.devices.withholds() {
+            return Ok(());
+        }
+        self.devices.withhold();
+        give(&self.devices, self.cycle, Some(withheld()), room, sink)
     }
 
     /// A device more. The first begins the first bus reset; each other is off.

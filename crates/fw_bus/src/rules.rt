@@ -39,6 +39,18 @@ impl Machine {
         self.devices.find(name).ok_or(RuleFault::UnknownName)
     }
 
+    fn decide_withhold(&self) -> Result<Order<'static>, RuleFault>
+        ensures decided { Decided self.now Commands.Withhold result }
+        ensures may { IfOk result (MayCarry self.now) }
+    {
+        let is_first = self.devices.count() == 0;
+        if is_first {
+            Ok(Order::Withhold)
+        } else {
+            Err(RuleFault::TooLate)
+        }
+    }
+
     fn decide_device(
         &self,
         name: &Name,
@@ -172,6 +184,7 @@ impl Machine {
         ensures may { IfOk result (MayCarry self.now) }
     {
         match c {
+            Command::Withhold => self.decide_withhold(),
             Command::Device(name, kind, ports, speed) => {
                 self.decide_device(name, *kind, *ports, *speed)
             }

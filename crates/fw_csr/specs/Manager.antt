@@ -1,5 +1,5 @@
 -- The registers of the isochronous resource manager (IEEE 1394-1995, 8.3.2.3), by offset.
-use Rattle.std.specs.Prelude.{ℕ, ◌==◌, Option, Some, None, if◌then◌else◌}
+use Rattle.std.specs.Prelude.{ℕ, ◌==◌, Bool, Option, Some, None, if◌then◌else◌}
 use Rattle.fw_csr.specs.Requests.{offset_of}
 use Rattle.fw_csr.specs.Replies.{word_after}
 use Rattle.fw_csr.specs.declared.request.Request.{Request}
@@ -11,10 +11,18 @@ pub record ManagerWords : Type 0 where
   pub bandwidth_available : ℕ
   pub channels_available_hi : ℕ
   pub channels_available_lo : ℕ
+  -- whether the bus withholds channel 31
+  pub withheld : Bool
 
--- no bus manager, all units and all channels
-abbrev pub initial_words : ManagerWords
-initial_words = record { bus_manager_id = 0x3F; bandwidth_available = 4915; channels_available_hi = 0xFFFF_FFFF; channels_available_lo = 0xFFFF_FFFF }
+-- no bus manager, all units, and all channels but 31 where the bus withholds it
+abbrev pub initial_words : Bool → ManagerWords
+initial_words withheld = record {
+  bus_manager_id = 0x3F;
+  bandwidth_available = 4915;
+  channels_available_hi = if withheld then 0xFFFF_FFFE else 0xFFFF_FFFF;
+  channels_available_lo = 0xFFFF_FFFF;
+  withheld = withheld;
+}
 
 -- each can be read and swapped
 abbrev pub register_at : ManagerWords → ℕ → Option Register
@@ -29,11 +37,12 @@ register_at m offset =
 abbrev pub after_at : ℕ → Request → ℕ → ℕ
 after_at offset r word = if offset_of r == offset then word_after word r else word
 
--- the four words after a request
+-- the four words after a request; whether channel 31 is withheld stays
 abbrev pub words_after : ManagerWords → Request → ManagerWords
 words_after m r = record {
   bus_manager_id = after_at 0xFFFF_F000_021C r m.bus_manager_id;
   bandwidth_available = after_at 0xFFFF_F000_0220 r m.bandwidth_available;
   channels_available_hi = after_at 0xFFFF_F000_0224 r m.channels_available_hi;
   channels_available_lo = after_at 0xFFFF_F000_0228 r m.channels_available_lo;
+  withheld = m.withheld;
 }

@@ -21,14 +21,19 @@ const NO_BUS_MANAGER: u32 = 0x3F;
 const ALL_UNITS: u32 = 4915;
 /// Each bit is 1: each of 32 channels is free.
 const ALL_CHANNELS: u32 = 0xFFFF_FFFF;
+/// The bit of channel 31 is 0, and each other 1.
+const ALL_BUT_CHANNEL_31: u32 = 0xFFFF_FFFE;
 
-/// The registers of the isochronous resource manager (IEEE 1394-1995, 8.3.2.3).
+/// The registers of the isochronous resource manager (IEEE 1394-1995, 8.3.2.3). On a bus that withholds channel 31, which
+/// IEEE 1394a keeps for broadcast by default, the channel is not free at any bus reset.
 #[derive(Debug, PartialEq, Eq, Drop)]
 pub struct Manager {
     bus_manager_id: Word,
     bandwidth_available: Word,
     channels_available_hi: Word,
     channels_available_lo: Word,
+    /// Whether the bus withholds channel 31.
+    withhold: bool,
 }
 
 impl Model for Manager {
@@ -41,6 +46,7 @@ impl Model for Manager {
       bandwidth_available = m.bandwidth_available;
       channels_available_hi = m.channels_available_hi;
       channels_available_lo = m.channels_available_lo;
+      withheld = m.withhold;
     } };
 
     ghost inverse = { λ w. record {
@@ -48,27 +54,34 @@ impl Model for Manager {
       bandwidth_available = w.bandwidth_available;
       channels_available_hi = w.channels_available_hi;
       channels_available_lo = w.channels_available_lo;
+      withhold = w.withheld;
     } };
 }
 
 impl Manager {
-    /// The registers with their initial values.
-    pub fn new() -> Manager
-        ensures { result ≡ initial_words }
+    /// The registers with their initial values, on a bus that withholds channel 31 where `withhold` is true.
+    pub fn new(withhold: bool) -> Manager
+        ensures { result ≡ initial_words withhold }
     {
+        let high = if withhold {
+            ALL_BUT_CHANNEL_31
+        } else {
+            ALL_CHANNELS
+        };
         Manager {
             bus_manager_id: Word::new(NO_BUS_MANAGER),
             bandwidth_available: Word::new(ALL_UNITS),
-            channels_available_hi: Word::new(ALL_CHANNELS),
+            channels_available_hi: Word::new(high),
             channels_available_lo: Word::new(ALL_CHANNELS),
+            withhold,
         }
     }
 
-    /// A bus reset: each register takes its initial value.
+    /// A bus reset: each register takes its initial value, by whether the bus withholds channel 31.
     pub fn reset(&mut self)
-        ensures { self.new ≡ initial_words }
+        ensures { self.new ≡ initial_words self.old.withheld }
     {
-        *self = Manager::new();
+        *self = Manager::new(self.withhold);
     }
 
     /// Carries a request out: address_error where it is at none of the four registers, type_error where it is no

@@ -6,10 +6,10 @@ ghost use Rattle.fw_reading.specs.Endings.{stop_of, Reads, IsComplete};
 ghost use Rattle.fw_decode.specs.Texts.{lines_form, nothing};
 ghost use Rattle.fw_decode.specs.Silences.{never_refused};
 
-use fw_log::Timed;
+use fw_log::{LogReader, Room, Timed};
 use fw_outside::{Failed, Sink, Source};
 use fw_reading::{Closing, LogEnding, Reading, Stop, read_log};
-use fw_text::{LineRoom, put_entry_from};
+use fw_text::{LineRoom, put_entry_from, put_packet_from};
 use std::alloc::{AllocError, Global};
 use std::convert::Infallible;
 
@@ -39,6 +39,20 @@ impl Reading for Lines {
     fn take(&mut self, entry: &Timed, bytes: &[u8]) -> Result<Option<Infallible>, AllocError> {
         put_entry_from(&mut self.room, entry, bytes)?;
         Ok(None)
+    }
+
+    // The line of a packet of a usual form is made of its bytes.
+    fn pass(
+        &mut self,
+        reader: &mut LogReader,
+        room: &mut Room,
+        piece: &[u8],
+    ) -> Result<Option<usize>, AllocError> {
+        let Some(packet) = reader.pass_packet(piece, room) else {
+            return Ok(None);
+        };
+        put_packet_from(&mut self.room, packet.cycle, packet.bytes.as_slice())?;
+        Ok(Some(packet.used))
     }
 
     fn gathered(&self) -> &[u8] {

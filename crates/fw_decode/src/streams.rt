@@ -44,8 +44,13 @@ impl Reading for Streams {
     }
 
     // Entries of no stream have no part in the report.
-    fn pass(&self, reader: &mut LogReader, room: &mut Room, piece: &[u8]) -> Option<usize> {
-        reader.pass(piece, room)
+    fn pass(
+        &mut self,
+        reader: &mut LogReader,
+        room: &mut Room,
+        piece: &[u8],
+    ) -> Result<Option<usize>, AllocError> {
+        Ok(reader.pass(piece, room))
     }
 
     fn gathered(&self) -> &[u8] {

@@ -1,5 +1,5 @@
 -- Frames and tapes leave each device what it is.
-use Rattle.std.proofs.Common.{◌<◌, ◌≤◌, ◌+◌, ◌∙◌, ℕ, List, length, arith, length-set, get_or-set_other, map, slice_set, Bool, Option, Some, None, option_map, refl, ap, sym, subst}
+use Rattle.std.proofs.Common.{false, ◌<◌, ◌≤◌, ◌+◌, ◌∙◌, ℕ, List, length, arith, length-set, get_or-set_other, map, slice_set, Bool, Option, Some, None, option_map, refl, ap, sym, subst}
 use Rattle.std.proofs.lemmas.List.{length-map}
 use Rattle.fw_base.specs.declared.device.DeviceKind.TheVariants.{Relay}
 use Rattle.fw_csr.specs.declared.request.Request.{Request}
@@ -22,30 +22,30 @@ use Rattle.fw_devices.proofs.ResetLaws.{found_same}
 pub same_followed : (V : VendorRelation) (from : ℕ) (r : Option Request) (m n : NodeState) → HasFollowed V from r (after_request r m) n → IsSameDevice m n
 same_followed V from r m n h =
     let s = same_after r m in
-    record { kind = ap (λ (x : NodeState). x.kind) h.rest ∙ s.kind; device = ap (λ (x : NodeState). x.device) h.rest ∙ s.device; rate = ap (λ (x : NodeState). x.plugs.rate) h.rest ∙ s.rate }
+    record { kind = ap (λ (x : NodeState). x.kind) h.rest ∙ s.kind; device = ap (λ (x : NodeState). x.device) h.rest ∙ s.device; rate = ap (λ (x : NodeState). x.plugs.rate) h.rest ∙ s.rate; withheld = ap (λ (x : NodeState). x.withheld) h.rest ∙ s.withheld }
 
 pub same_sent : (m : NodeState) → IsSameDevice m (after_frame m)
 same_sent m = go m.waiting
   where
     go : (o : Option (ℕ × Frame)) → IsSameDevice m (elim o as (λ _. NodeState) [ Some told ↦ record m { waiting = None } | None ↦ record m { unit = option_map after_notice m.unit } ])
-    go (Some told) = record { kind = refl; device = refl; rate = refl }
-    go None = record { kind = refl; device = refl; rate = refl }
+    go (Some told) = record { kind = refl; device = refl; rate = refl; withheld = refl }
+    go None = record { kind = refl; device = refl; rate = refl; withheld = refl }
 
 pub same_tape : (tape : Option Cassette) (m : NodeState) → IsSameDevice m (with_tape tape m)
-same_tape tape m = record { kind = refl; device = refl; rate = refl }
+same_tape tape m = record { kind = refl; device = refl; rate = refl; withheld = refl }
 
 -- ---- all of them
 
 pub same_passed : (cycles : ℕ) (nodes : List NodeState) → AreSameDevices nodes (map (passed cycles) nodes)
 same_passed cycles nodes = record {
   size = length-map nodes (passed cycles);
-  each = λ d low. let P : NodeState → Type 0 = IsSameDevice (node_at nodes d) in subst P (sym (node_mapped (passed cycles) nodes d low)) (record { kind = refl; device = refl; rate = refl });
+  each = λ d low. let P : NodeState → Type 0 = IsSameDevice (node_at nodes d) in subst P (sym (node_mapped (passed cycles) nodes d low)) (record { kind = refl; device = refl; rate = refl; withheld = refl });
 }
 
 -- what is kept of a network stays, where its nodes are of the same devices
 pub kept_same : (n : Network) (room : ℕ) (current : Bool) (numbering : Numbering) (nodes : List NodeState) → IsKept n room current numbering → AreSameDevices n.nodes nodes → IsKept (record n { nodes = nodes }) room current numbering
 kept_same n room current numbering nodes h same = record {
-  network = network_kept n (record n { nodes = nodes }) h.network refl refl same;
+  network = network_kept n (record n { nodes = nodes }) h.network refl refl refl same;
   few = h.few;
   same = same.size ∙ h.same;
   nodes_room = h.nodes_room;
@@ -58,4 +58,4 @@ pub left_set : (cycles : ℕ) (nodes : List NodeState) (i : ℕ) (x : NodeState)
 left_set cycles nodes i x left d above low =
     let size = length-set nodes i x in
     let M : NodeState → Type 0 = λ n. MayPass cycles (tape_of n) in
-    subst M (sym (get_or-set_other nodes i d x (first_state Relay 0 0) (λ e. absurd (omega (arith, above, e))))) (left d (omega (arith, above)) (omega (arith, low, size)))
+    subst M (sym (get_or-set_other nodes i d x (first_state Relay 0 0 false) (λ e. absurd (omega (arith, above, e))))) (left d (omega (arith, above)) (omega (arith, low, size)))

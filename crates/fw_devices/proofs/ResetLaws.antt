@@ -19,7 +19,7 @@ use Rattle.fw_tree.proofs.ReachLaws.{sound_made}
 use Rattle.fw_tree.proofs.SelfIdLaws.{begun as packets_begun}
 use Rattle.fw_node.specs.State.{NodeState}
 use Rattle.fw_devices.specs.declared.bus.Bus.{Bus}
-use Rattle.fw_devices.specs.Network.{Network, kinds_of, kind_at, node_at}
+use Rattle.fw_devices.specs.Network.{Network, IsNetwork, kinds_of, kind_at, node_at}
 use Rattle.fw_devices.specs.Entries.{IsResetEntry, begun, row_of, number_of, device_of}
 use Rattle.fw_devices.specs.Resets.{IsReset, numbered}
 use Rattle.fw_devices.specs.Kept.{IsFound}
@@ -70,14 +70,16 @@ manager_of t n (Some d) kinds rows m each = sym (ap (device_of rows) m.1.numbere
 rows_of : (old : Network) (initiator : ℕ) (n : Numbering) (manager : Option ℕ) (nodes : List NodeState) (e : ResetEntry) → Steps old initiator n manager nodes e → AreRows n.number (kinds_of old.nodes) e.nodes
 rows_of old initiator n manager nodes e s = record { nodes = rw s.size s.numbering.nodes; each = s.rows }
 
-pub is_reset : (old : Network) (initiator : ℕ) (n : Numbering) (manager : Option ℕ) (nodes : List NodeState) (e : ResetEntry) → Steps old initiator n manager nodes e
-    → IsReset old (record { topology = old.topology; names = old.names; nodes = nodes; epoch = e.epoch; manager = manager; latest = e }) initiator e
-is_reset old initiator n manager nodes e s =
+pub is_reset : (old : Network) (initiator : ℕ) (n : Numbering) (manager : Option ℕ) (nodes : List NodeState) (e : ResetEntry) → IsNetwork old → Steps old initiator n manager nodes e
+    → IsReset old (record { topology = old.topology; names = old.names; nodes = nodes; epoch = e.epoch; manager = manager; latest = e; withheld = old.withheld }) initiator e
+is_reset old initiator n manager nodes e kept s =
     let rows = rows_of old initiator n manager nodes e s in
     record {
       entry = entry_of old initiator n manager nodes e s;
       topology = refl;
       names = refl;
+      withheld = refl;
+      withhold = kept.withhold;
       epoch = s.epoch;
       manager = manager_of old.topology n manager (kinds_of old.nodes) e.nodes s.manages s.rows ∙ ap (device_of e.nodes) (sym s.manager_is);
       size = s.same;
@@ -86,8 +88,8 @@ is_reset old initiator n manager nodes e s =
 
 -- each node is of the device that it was of
 same_numbered : (o manager : Option ℕ) (n : NodeState) → IsSameDevice n (numbered o manager n)
-same_numbered None manager n = record { kind = refl; device = refl; rate = refl }
-same_numbered (Some k) manager n = record { kind = refl; device = refl; rate = refl }
+same_numbered None manager n = record { kind = refl; device = refl; rate = refl; withheld = refl }
+same_numbered (Some k) manager n = record { kind = refl; device = refl; rate = refl; withheld = refl }
 
 pub same_devices : (old : Network) (initiator : ℕ) (n : Numbering) (manager : Option ℕ) (nodes : List NodeState) (e : ResetEntry) → Steps old initiator n manager nodes e → AreSameDevices old.nodes nodes
 same_devices old initiator n manager nodes e s = record {

@@ -18,13 +18,14 @@ pub record Network : Type 0 where
   pub epoch : ℕ  -- of the latest bus reset, 0 before the first
   pub manager : Option ℕ  -- the device that is the isochronous resource manager since the latest bus reset
   pub latest : ResetEntry  -- the entry of the latest bus reset
+  pub withheld : Bool  -- whether the bus withholds channel 31
 
 -- where no bus reset came yet
 abbrev pub no_entry : ResetEntry
 no_entry = record { epoch = 0; root = 0; manager = None; initiator = 0; nodes = []; ids = [] }
 
 abbrev pub no_devices : Network
-no_devices = record { topology = record { devices = []; cables = no_cables }; names = []; nodes = []; epoch = 0; manager = None; latest = no_entry }
+no_devices = record { topology = record { devices = []; cables = no_cables }; names = []; nodes = []; epoch = 0; manager = None; latest = no_entry; withheld = false }
 
 -- the kind of each device
 abbrev pub kinds_of : List NodeState → List DeviceKind
@@ -60,12 +61,12 @@ abbrev pub with_device : Network → List ℕ → DeviceKind → ℕ → ℕ →
 with_device n name kind ports speed = record n {
   topology = record { devices = n.topology.devices ++ facts_of kind ports speed ∷ []; cables = n.topology.cables };
   names = n.names ++ name ∷ [];
-  nodes = n.nodes ++ first_state kind (length n.names) speed ∷ [];
+  nodes = n.nodes ++ first_state kind (length n.names) speed n.withheld ∷ [];
 }
 
 -- what is kept of a device
 abbrev pub node_at : List NodeState → ℕ → NodeState
-node_at nodes d = slice_index_or nodes d (first_state Relay 0 0)
+node_at nodes d = slice_index_or nodes d (first_state Relay 0 0 false)
 
 -- what is true of each network: the lists are of the same devices
 pub record IsNetwork (n : Network) : Type 0 where
@@ -74,6 +75,7 @@ pub record IsNetwork (n : Network) : Type 0 where
   pub kinds : AreKinds n.topology.devices (kinds_of n.nodes)
   pub numbers : (d : ℕ) → d < length n.nodes → (node_at n.nodes d).device ≡ d
   pub rates : (d : ℕ) → d < length n.nodes → (node_at n.nodes d).plugs.rate ≡ (facts_at n.topology.devices d).speed
+  pub withhold : (d : ℕ) → d < length n.nodes → (node_at n.nodes d).withheld ≡ n.withheld
 
 -- the device is a node since the latest bus reset
 abbrev pub is_node : List NodeState → ℕ → Bool

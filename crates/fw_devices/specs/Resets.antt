@@ -23,6 +23,8 @@ pub record IsReset (old new : Network) (initiator : ℕ) (e : ResetEntry) : Type
   pub entry : IsResetEntry old.topology (kinds_of old.nodes) (old.epoch + 1) initiator e
   pub topology : new.topology ≡ old.topology
   pub names : new.names ≡ old.names
+  pub withheld : new.withheld ≡ old.withheld
+  pub withhold : (d : ℕ) → d < length old.nodes → (node_at old.nodes d).withheld ≡ old.withheld  -- each node's registers
   pub epoch : new.epoch ≡ old.epoch + 1
   pub manager : new.manager ≡ device_of e.nodes e.manager
   pub size : length new.nodes ≡ length old.nodes

@@ -25,6 +25,8 @@ pub struct Devices {
     names: Names,
     nodes: Vec<Node>,
     bus: Bus,
+    /// Whether the bus withholds channel 31.
+    withhold: bool,
 }
 
 impl Model for Devices {
@@ -34,9 +36,9 @@ impl Model for Devices {
 
     ghost Value = { Network };
 
-    ghost view = { λ d. record { topology = d.cabling; names = d.names; nodes = d.nodes.items; epoch = d.bus.entry.epoch; manager = d.bus.manager; latest = d.bus.entry } };
+    ghost view = { λ d. record { topology = d.cabling; names = d.names; nodes = d.nodes.items; epoch = d.bus.entry.epoch; manager = d.bus.manager; latest = d.bus.entry; withheld = d.withhold } };
 
-    ghost invariant = { λ d. IsKept (record { topology = d.cabling; names = d.names; nodes = d.nodes.items; epoch = d.bus.entry.epoch; manager = d.bus.manager; latest = d.bus.entry })
+    ghost invariant = { λ d. IsKept (record { topology = d.cabling; names = d.names; nodes = d.nodes.items; epoch = d.bus.entry.epoch; manager = d.bus.manager; latest = d.bus.entry; withheld = d.withhold })
         (vec_capacity d.nodes) d.bus.current d.bus.numbering };
 }
 
@@ -50,6 +52,7 @@ impl Devices {
             names: Names::new(alloc)?,
             nodes: Vec::with_capacity(alloc, MOST)?,
             bus: Bus::new(),
+            withhold: false,
         })
     }
 

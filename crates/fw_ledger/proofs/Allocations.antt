@@ -8,6 +8,7 @@ use Rattle.fw_ledger.specs.Moves.{AllocateChannel, AllocateUnits, ReleaseUnits, 
 use Rattle.fw_ledger.specs.Sound.{IsSound}
 use Rattle.fw_base.proofs.Tables.{sum_to_changed}
 use Rattle.fw_ledger.proofs.Network.{not_both}
+use Rattle.fw_ledger.proofs.Open.{open_is, not_withheld}
 
 -- the units that are allocated, after a change at one channel
 pub total_changed : (allocations : ℕ → Option Allocation) (ch : ℕ) (x : Option Allocation) → ch < 64 → total (update allocations ch x) + allocated (allocations ch) ≡ total allocations + allocated x
@@ -37,6 +38,8 @@ allocate_channel c p ch l s h = record {
   range = s.range;
   settings_fit = s.settings_fit;
   channels_fit = s.channels_fit;
+  withheld_unallocated = λ d w. grind (arith, nat_tests, s.withheld_unallocated d w, (open_is l.withheld l.allocations ch h.available).1);
+  withheld_unclaimed = s.withheld_unclaimed;
   begins = λ e. absurd (not_both _ p ((s.begins e).addressed c) h.addressed);
   inputs_there = s.inputs_there;
 }
@@ -64,6 +67,8 @@ allocate_units c p ch u l s h = record {
   range = s.range;
   settings_fit = s.settings_fit;
   channels_fit = s.channels_fit;
+  withheld_unallocated = λ d w. grind (arith, nat_tests, s.withheld_unallocated d w, not_withheld l ch _ s h.channel);
+  withheld_unclaimed = s.withheld_unclaimed;
   begins = λ e. absurd (not_both _ p ((s.begins e).addressed c) h.addressed);
   inputs_there = s.inputs_there;
 }
@@ -90,6 +95,8 @@ release_channel c p ch l s h = record {
   range = s.range;
   settings_fit = s.settings_fit;
   channels_fit = s.channels_fit;
+  withheld_unallocated = λ d w. grind (arith, nat_tests, s.withheld_unallocated d w);
+  withheld_unclaimed = s.withheld_unclaimed;
   begins = λ e. absurd (not_both _ _ ((s.begins e).allocations ch) h.held);
   inputs_there = s.inputs_there;
 }
@@ -116,6 +123,8 @@ release_units c p ch u l s h = record {
   range = s.range;
   settings_fit = s.settings_fit;
   channels_fit = s.channels_fit;
+  withheld_unallocated = λ d w. grind (arith, nat_tests, s.withheld_unallocated d w, not_withheld l ch _ s h.held);
+  withheld_unclaimed = s.withheld_unclaimed;
   begins = λ e. absurd (not_both _ _ ((s.begins e).allocations ch) h.held);
   inputs_there = s.inputs_there;
 }

@@ -6,7 +6,7 @@ use Rattle.std.specs.Option.{option_or}
 use Rattle.std.proofs.lemmas.Bool.Decides.{nat_tests}
 use Rattle.fw_base.specs.Tables.{at_plug}
 use Rattle.fw_plug.specs.Words.{flag}
-use Rattle.fw_ledger.specs.Account.{Account, is_there, is_free}
+use Rattle.fw_ledger.specs.Account.{Account, is_there, is_open}
 use Rattle.fw_ledger.specs.Network.{is_output, is_input, is_output_of, is_input_of}
 use Rattle.fw_ledger.specs.Words.{Register, BandwidthAvailable, ChannelsAvailable, OutputPlug, InputPlug, is_node, manager_register, plug_number, first_output, first_input, output_register, input_register, plug_register, register_at, word_at, word_of}
 use Rattle.fw_ledger.specs.Sound.{IsSound}
@@ -71,7 +71,7 @@ register_there (Some r) n offset v e = go (or_cases (cond (is_node n r.manager) 
 
 pub word_below : (l : Account) (v : Register) → IsSound l → IsThere l.latest v → word_of l v < 2 ^ 32
 word_below l BandwidthAvailable s t = omega arith
-word_below l (ChannelsAvailable base) s t = bits_below 32 (λ i. is_free (l.allocations (base + (31 - i))))
+word_below l (ChannelsAvailable base) s t = bits_below 32 (λ i. is_open l.withheld l.allocations (base + (31 - i)))
 word_below l (OutputPlug p) s t =
     let c = s.counts p in
     let f = s.settings_fit p t in

@@ -1,13 +1,13 @@
 -- Swaps of CHANNELS_AVAILABLE.
 use Rattle.fw_base.specs.declared.plug.PlugAt.{PlugAt}
-use Rattle.std.proofs.Common.{◌≡◌, ◌≢◌, ◌<◌, ◌+◌, ◌-◌, ◌*◌, ◌^◌, inl, inr, ◌==◌, ◌&&◌, nat_lt, ℕ, true, false, Option, Some, None, length, slice_set, Vec, Global, cond, refl, sym, ◌∙◌, ap, arith, length-set}
+use Rattle.std.proofs.Common.{◌≡◌, ◌≢◌, ◌<◌, ◌+◌, ◌-◌, ◌*◌, ◌^◌, inl, inr, ◌==◌, ◌&&◌, not, nat_lt, ℕ, true, false, Option, Some, None, length, slice_set, Vec, Global, cond, refl, sym, ◌∙◌, ap, arith, length-set}
 use Rattle.std.proofs.lemmas.Bool.Decides.{nat_tests}
 use Rattle.std.proofs.lemmas.Bool.{false≢true}
 use Rattle.fw_base.specs.Tables.{update}
 use Rattle.fw_base.proofs.Tables.{sum_to_same}
 use Rattle.fw_words.specs.Quadlet.{field}
 use Rattle.fw_plug.specs.Words.{flag}
-use Rattle.fw_ledger.specs.Account.{Holder, Pending, Connected, Orphaned, Account, Allocation, allocated, is_free, is_pending_of}
+use Rattle.fw_ledger.specs.Account.{Holder, Pending, Connected, Orphaned, Account, Allocation, allocated, is_free, is_open, is_withheld, is_pending_of}
 use Rattle.fw_ledger.specs.Moves.{Move, AllocateChannel, ReleaseChannel, with_allocation}
 use Rattle.fw_ledger.specs.Words.{ChannelsAvailable, word_of, channel_word}
 use Rattle.fw_ledger.specs.Decode.{IsMove, can, decoded, changed_bit, at_addressed, held_for, allowed}
@@ -20,6 +20,7 @@ use Rattle.fw_ledger.specs.declared.tables.Tables.{Tables}
 use Rattle.fw_ledger.proofs.Allocations.{total_changed}
 use Rattle.fw_ledger.proofs.Moves.{moves_keep}
 use Rattle.fw_ledger.proofs.Tests.{can_is, can_from}
+use Rattle.fw_ledger.proofs.Open.{open_is, opens, taken, same_open, not_withheld}
 use Rattle.fw_ledger.proofs.Words.{word_without}
 use Rattle.fw_ledger.proofs.Related.{related_set, update_same, update_other}
 use Rattle.fw_ledger.proofs.Swapping.{swap_taken, swap_refused}
@@ -31,28 +32,34 @@ pub half_is : (t : Tables) (l : Account) (base : ℕ) → StandsFor t l → IsHa
 half_is t l base h (inl e) = rw e h.resources.high
 half_is t l base h (inr e) = rw e h.resources.low
 
--- a channel that was free is allocated
-channel_cleared : (l : Account) (base i : ℕ) (x : Allocation) → l.allocations (base + i) ≡ None → i < 32
+-- a channel that was open is allocated
+channel_cleared : (l : Account) (base i : ℕ) (x : Allocation) → is_open l.withheld l.allocations (base + i) ≡ true → i < 32
     → channel_word l base ≡ channel_word (with_allocation (base + i) (Some x) l) base + 2 ^ (31 - i)
-channel_cleared l base i x free lt =
-    word_without (λ k. is_free (l.allocations (base + k))) (λ k. is_free (update l.allocations (base + i) (Some x) (base + k))) i lt (rw free refl)
-    (ap is_free (update_same l.allocations (base + i) (base + i) (Some x) refl))
-    (λ j ne. ap is_free (sym (update_other l.allocations (base + i) (base + j) (Some x) (λ e. ne (omega arith)))))
+channel_cleared l base i x was lt =
+    let now : ℕ → Option Allocation = update l.allocations (base + i) (Some x) in
+    word_without (λ k. is_open l.withheld l.allocations (base + k)) (λ k. is_open l.withheld now (base + k)) i lt was
+    (taken l.withheld now (base + i) x (update_same l.allocations (base + i) (base + i) (Some x) refl))
+    (λ j ne. same_open l.withheld l.allocations now (base + j)
+    (ap is_free (sym (update_other l.allocations (base + i) (base + j) (Some x) (λ e. ne (omega arith))))))
 
--- one that was allocated becomes free
-channel_given : (l : Account) (base i : ℕ) (x : Allocation) → l.allocations (base + i) ≡ Some x → i < 32
+-- one that was allocated becomes open
+channel_given : (l : Account) (base i : ℕ) (x : Allocation) → IsSound l → l.allocations (base + i) ≡ Some x → i < 32
     → channel_word (with_allocation (base + i) None l) base ≡ channel_word l base + 2 ^ (31 - i)
-channel_given l base i x held lt =
-    word_without (λ k. is_free (update l.allocations (base + i) None (base + k))) (λ k. is_free (l.allocations (base + k))) i lt
-    (ap is_free (update_same l.allocations (base + i) (base + i) None refl)) (rw held refl)
-    (λ j ne. ap is_free (update_other l.allocations (base + i) (base + j) None (λ e. ne (omega arith))))
+channel_given l base i x s held lt =
+    let now : ℕ → Option Allocation = update l.allocations (base + i) None in
+    word_without (λ k. is_open l.withheld now (base + k)) (λ k. is_open l.withheld l.allocations (base + k)) i lt
+    (opens l.withheld now (base + i) (update_same l.allocations (base + i) (base + i) None refl) (not_withheld l (base + i) x s held))
+    (taken l.withheld l.allocations (base + i) x held)
+    (λ j ne. same_open l.withheld now l.allocations (base + j)
+    (ap is_free (update_other l.allocations (base + i) (base + j) None (λ e. ne (omega arith)))))
 
 -- the other half keeps its word
 other_half : (l : Account) (ch base : ℕ) (a : Option Allocation) → ((j : ℕ) → j < 32 → base + j ≢ ch)
     → channel_word l base ≡ channel_word (with_allocation ch a l) base
 other_half l ch base a apart =
-    sum_to_same 32 (λ i. flag (is_free (l.allocations (base + (31 - i)))) * 2 ^ i) (λ i. flag (is_free (update l.allocations ch a (base + (31 - i)))) * 2 ^ i)
-    (λ j lt. ap (λ o. flag (is_free o) * 2 ^ j) (sym (update_other l.allocations ch (base + (31 - j)) a (apart (31 - j) (omega arith)))))
+    sum_to_same 32 (λ i. flag (is_open l.withheld l.allocations (base + (31 - i))) * 2 ^ i)
+    (λ i. flag (is_open l.withheld (update l.allocations ch a) (base + (31 - i))) * 2 ^ i)
+    (λ j lt. ap (λ o. flag (is_free o && not (is_withheld l.withheld (base + (31 - j)))) * 2 ^ j) (sym (update_other l.allocations ch (base + (31 - j)) a (apart (31 - j) (omega arith)))))
 
 half_high : (b word high : ℕ) (f : ℕ → ℕ) → IsHalf b → word ≡ f b → (b ≡ 32 → high ≡ f 0) → cond (b == 0) word high ≡ f 0
 half_high b word high f (inl e) here there = let t : (b == 0) ≡ true = grind (arith, nat_tests) in rw t (here ∙ ap f e)
@@ -91,6 +98,7 @@ channel_stands t l base i word x a charges h half lt is units later sound e =
       };
       latest = h.latest;
       plugs = h.plugs;
+      withheld = h.withheld;
       resources = record {
         left = omega arith;
         high = half_high base word t.high (channel_word (with_allocation (base + i) a l)) half (sym later)
@@ -130,11 +138,12 @@ channel_follows t l c base i new p charges h lt half low addressed may less e =
     let x : Allocation = record { holder = Pending c p; units = 0 } in
     let able = can_is c p m l h.sound may in
     let is = half_is t l base h half in
-    let cleared = channel_cleared l base i x able.free low in
+    let free = (open_is l.withheld l.allocations (base + i) able.available).0 in
+    let cleared = channel_cleared l base i x able.available low in
     let k : IsMove c p m (ChannelsAvailable base) (half_of base t) new l = record
     { can = able; place = ap (λ b. ChannelsAvailable b) (half_register base i half low); before = sym is; later = omega arith } in
     rw addressed (swap_taken t _ l c p m (ChannelsAvailable base) (half_of base t) new k
-    (channel_stands t l base i new (PendingCharge c p 0) (Some x) charges h half low refl (rw able.free refl) k.later (moves_keep c p m l lt h.sound able) e))
+    (channel_stands t l base i new (PendingCharge c p 0) (Some x) charges h half low refl (rw free refl) k.later (moves_keep c p m l lt h.sound able) e))
 
 pub channel_denied : (t : Tables) (l : Account) (c base i new : ℕ) (p : PlugAt) → StandsFor t l → IsHalf base → i < 32 → l.addressed c ≡ Some p
     → (can c p (AllocateChannel (base + i)) l ≡ true → half_of base t ≡ new + 2 ^ (31 - i) → ⊥)
@@ -145,7 +154,7 @@ channel_denied t l c base i new p h half low addressed never =
   where
     less : IsMove c p (AllocateChannel (base + i)) (ChannelsAvailable base) (half_of base t) new l → half_of base t ≡ new + 2 ^ (31 - i)
     less k =
-        let cleared = channel_cleared l base i (record { holder = Pending c p; units = 0 }) k.can.free low in
+        let cleared = channel_cleared l base i (record { holder = Pending c p; units = 0 }) k.can.available low in
         let before = k.before in
         let later = k.later in
         omega arith
@@ -176,7 +185,7 @@ release_follows t l c base i new charges h lt half low has more e =
     let m : Move = ReleaseChannel (base + i) in
     let own = no_units_is c (l.allocations (base + i)) has in
     let is = half_is t l base h half in
-    let given = channel_given l base i (record { holder = Pending c own.0; units = 0 }) own.1 low in
+    let given = channel_given l base i (record { holder = Pending c own.0; units = 0 }) h.sound own.1 low in
     let k : IsMove c own.0 m (ChannelsAvailable base) (half_of base t) new l = record {
       can = record { within = h.sound.bounded (base + i) _ own.1; held = own.1 };
       place = ap (λ b. ChannelsAvailable b) (half_register base i half low);
@@ -197,7 +206,7 @@ release_denied t l c base i new h half low never =
   where
     more : (p : PlugAt) → IsMove c p (ReleaseChannel (base + i)) (ChannelsAvailable base) (half_of base t) new l → new ≡ half_of base t + 2 ^ (31 - i)
     more p k =
-        let given = channel_given l base i (record { holder = Pending c p; units = 0 }) k.can.held low in
+        let given = channel_given l base i (record { holder = Pending c p; units = 0 }) h.sound k.can.held low in
         let before = k.before in
         let later = k.later in
         omega arith

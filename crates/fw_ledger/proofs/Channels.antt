@@ -4,7 +4,7 @@ use Rattle.std.proofs.lemmas.Bool.{cases_lt}
 use Rattle.std.specs.Int.{bit_at}
 use Rattle.std.proofs.lemmas.Nat.Bits.{bit_at_cat_low, bit_at_cat_high}
 use Rattle.fw_plug.specs.Words.{flag}
-use Rattle.fw_ledger.specs.Account.{Allocation, Account, is_free}
+use Rattle.fw_ledger.specs.Account.{Allocation, Account, is_open}
 use Rattle.fw_ledger.specs.Words.{bits_word}
 use Rattle.fw_ledger.specs.Stands.{ResourcesFor, StandsFor}
 use Rattle.fw_ledger.specs.declared.tables.Charge.{Charge}
@@ -16,8 +16,9 @@ pub word_fits : (free : ℕ → Bool) → bits_word free < 2 ^ 32
 word_fits free = bits_below 32 (λ i. free (31 - i))
 
 -- the words of a table fit 32 bits
-pub halves_fit : (units high low : ℕ) (charges : List Charge) (allocations : ℕ → Option Allocation) → ResourcesFor units high low charges allocations → (units < 2 ^ 32) × (high < 2 ^ 32) × (low < 2 ^ 32)
-halves_fit units high low charges allocations h = (omega (arith, h.left), rw h.high (word_fits (λ i. is_free (allocations (0 + i)))), rw h.low (word_fits (λ i. is_free (allocations (32 + i)))))
+pub halves_fit : (withheld : Bool) (units high low : ℕ) (charges : List Charge) (allocations : ℕ → Option Allocation) → ResourcesFor withheld units high low charges allocations → (units < 2 ^ 32) × (high < 2 ^ 32) × (low < 2 ^ 32)
+halves_fit withheld units high low charges allocations h =
+    (omega (arith, h.left), rw h.high (word_fits (λ i. is_open withheld allocations (0 + i))), rw h.low (word_fits (λ i. is_open withheld allocations (32 + i))))
 
 -- bit 63 - ch of both halves is that of channel ch
 pub channel_bit : (free : ℕ → Bool) (ch : ℕ) → ch < 64 → bit_at (bits_word (λ i. free (0 + i)) * 2 ^ 32 + bits_word (λ i. free (32 + i))) (63 - ch) ≡ flag (free ch)
@@ -40,7 +41,7 @@ pub shifted : (a : ℕ) → a < 2 ^ 32 → a * 4294967296 % 18446744073709551616
 shifted a lt = omega arith
 
 -- the number of both halves that a ledger tells
-pub free_bits : (t : Tables) (l : Account) (ch : ℕ) → StandsFor t l → ch < 64 → bit_at (t.high * 4294967296 % 18446744073709551616 + t.low) (63 - ch) ≡ flag (is_free (l.allocations ch))
+pub free_bits : (t : Tables) (l : Account) (ch : ℕ) → StandsFor t l → ch < 64 → bit_at (t.high * 4294967296 % 18446744073709551616 + t.low) (63 - ch) ≡ flag (is_open l.withheld l.allocations ch)
 free_bits t l ch h lt =
-    let f = halves_fit t.left t.high t.low t.charges.items l.allocations h.resources in
-    rw (shifted t.high f.1, h.resources.high, h.resources.low) (channel_bit (λ i. is_free (l.allocations i)) ch lt)
+    let f = halves_fit l.withheld t.left t.high t.low t.charges.items l.allocations h.resources in
+    rw (shifted t.high f.1, h.resources.high, h.resources.low) (channel_bit (λ i. is_open l.withheld l.allocations i) ch lt)

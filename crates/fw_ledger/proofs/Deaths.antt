@@ -32,7 +32,7 @@ orphaned_there c None = refl
 orphaned_there c (Some (Of d)) = refl
 orphaned_there c (Some Dead) = refl
 
-orphaned_has : (c : ℕ) (s : Connections) → NoneBeyond s → has_connection (orphaned_connections c s) ≡ has_connection s
+pub orphaned_has : (c : ℕ) (s : Connections) → NoneBeyond s → has_connection (orphaned_connections c s) ≡ has_connection s
 orphaned_has c s none = grind (arith, orphaned_counter c s none, orphaned_there c s.broadcast)
 
 -- what an allocation was before the death
@@ -94,6 +94,8 @@ death_keeps c l s = record {
   range = s.range;
   settings_fit = s.settings_fit;
   channels_fit = s.channels_fit;
+  withheld_unallocated = λ d w. rw (s.withheld_unallocated d w) refl;
+  withheld_unclaimed = s.withheld_unclaimed;
 }
   where
     beyond_out : (q : PlugAt) → NoneBeyond (l.outputs q)

@@ -9,7 +9,7 @@ use Rattle.fw_base.proofs.Tables.{update_plug_same, same_plug-true, same_plug_se
 use Rattle.fw_words.specs.Quadlet.{field}
 use Rattle.fw_plug.specs.Words.{OutFields, InFields, Settings, out_fields, in_fields, out_word, in_word}
 use Rattle.fw_plug.proofs.Words.{fields_of_word, in_fields_of_word}
-use Rattle.fw_ledger.specs.Account.{Pending, Connections, Account, counter, has_connection, is_there, is_free}
+use Rattle.fw_ledger.specs.Account.{Pending, Allocation, Connections, Account, counter, has_connection, is_there, is_open}
 use Rattle.fw_ledger.specs.Network.{is_output, is_input}
 use Rattle.fw_ledger.specs.Moves.{Move, AllocateChannel, AllocateUnits, ConnectFirst, ConnectOverlaid, ConnectInput, DisconnectInput, DisconnectOutput, ReleaseUnits, ReleaseChannel, Can, after, add_connection, drop_connection}
 use Rattle.fw_ledger.specs.Words.{Register, BandwidthAvailable, ChannelsAvailable, OutputPlug, InputPlug, bits_word, channel_word, fields_at, input_fields_at, word_of}
@@ -19,6 +19,7 @@ use Rattle.fw_ledger.proofs.Connections.{had_connection}
 use Rattle.fw_ledger.proofs.Network.{not_both}
 use Rattle.fw_ledger.proofs.Tests.{can_is, can_from}
 use Rattle.fw_ledger.proofs.Moves.{moves_keep}
+use Rattle.fw_ledger.proofs.Open.{opens, taken, not_withheld}
 use Rattle.fw_ledger.proofs.Words.{free_bit}
 use Rattle.fw_ledger.proofs.Decode.{pending_is, units_allocated, units_released, changed_at, more, fewer, kind_added, kind_dropped, empty_has_room}
 
@@ -26,20 +27,21 @@ use Rattle.fw_ledger.proofs.Decode.{pending_is, units_allocated, units_released,
 
 channel_allocated : (l : Account) (c : ℕ) (p : PlugAt) (ch base i : ℕ) → Can c p (AllocateChannel ch) l → i < 32 → base + i ≡ ch → channel_move c base (channel_word l base) (changed_bit (channel_word l base) (channel_word (after c p (AllocateChannel ch) l) base)) l ≡ Some (p, AllocateChannel ch)
 channel_allocated l c p ch base i h lt at =
-    let free : ℕ → Bool = λ k. is_free (l.allocations (base + k)) in
-    let now : ℕ → Bool = λ k. is_free (update l.allocations ch (Some (record { holder = Pending c p; units = 0 })) (base + k)) in
-    let was : free i ≡ true = rw (at, h.free) refl in
+    let free : ℕ → Bool = λ k. is_open l.withheld l.allocations (base + k) in
+    let now : ℕ → Bool = λ k. is_open l.withheld (update l.allocations ch (Some (record { holder = Pending c p; units = 0 }))) (base + k) in
+    let was : free i ≡ true = rw at h.available in
     let is : now i ≡ false = grind (arith, nat_tests) in
     let bit = changed_at free now i lt (λ e. true≢false (sym was ∙ e ∙ is)) (λ j ne. grind (arith, nat_tests)) in
     let one : (field (bits_word free) i i == 1) ≡ true = rw (free_bit free i lt, was) refl in
     rw bit (rw one (rw h.addressed (ap (λ k. Some (p, AllocateChannel k)) at)))
 
-channel_released : (l : Account) (c : ℕ) (p : PlugAt) (ch base i : ℕ) → Can c p (ReleaseChannel ch) l → i < 32 → base + i ≡ ch → channel_move c base (channel_word l base) (changed_bit (channel_word l base) (channel_word (after c p (ReleaseChannel ch) l) base)) l ≡ Some (p, ReleaseChannel ch)
-channel_released l c p ch base i h lt at =
-    let free : ℕ → Bool = λ k. is_free (l.allocations (base + k)) in
-    let now : ℕ → Bool = λ k. is_free (update l.allocations ch None (base + k)) in
-    let was : free i ≡ false = rw (at, h.held) refl in
-    let is : now i ≡ true = grind (arith, nat_tests) in
+channel_released : (l : Account) (c : ℕ) (p : PlugAt) (ch base i : ℕ) → IsSound l → Can c p (ReleaseChannel ch) l → i < 32 → base + i ≡ ch → channel_move c base (channel_word l base) (changed_bit (channel_word l base) (channel_word (after c p (ReleaseChannel ch) l) base)) l ≡ Some (p, ReleaseChannel ch)
+channel_released l c p ch base i s h lt at =
+    let given : ℕ → Option Allocation = update l.allocations ch None in
+    let free : ℕ → Bool = λ k. is_open l.withheld l.allocations (base + k) in
+    let now : ℕ → Bool = λ k. is_open l.withheld given (base + k) in
+    let was : free i ≡ false = rw at (taken l.withheld l.allocations ch _ h.held) in
+    let is : now i ≡ true = rw at (opens l.withheld given ch (grind (arith, nat_tests)) (not_withheld l ch _ s h.held)) in
     let bit = changed_at free now i lt (λ e. true≢false (sym is ∙ sym e ∙ was)) (λ j ne. grind (arith, nat_tests)) in
     let one : (field (bits_word free) i i == 1) ≡ false = rw (free_bit free i lt, was) refl in
     rw bit (rw one (rw (at, h.held) refl))
@@ -129,8 +131,8 @@ move_decoded c p (ReleaseUnits ch u) l lt s h = rw (pending_is l c p ch u s h.he
 move_decoded c p (ReleaseChannel ch) l lt s h = go (nat_lt ch 32) refl
   where
     go : (b : Bool) → nat_lt ch 32 ≡ b → decoded l c (ChannelsAvailable (cond {A = ℕ} b 0 32)) (channel_word l (cond {A = ℕ} b 0 32)) (channel_word (after c p (ReleaseChannel ch) l) (cond {A = ℕ} b 0 32)) ≡ Some (p, ReleaseChannel ch)
-    go true e = channel_released l c p ch 0 ch h (grind (arith, nat_tests)) (omega arith)
-    go false e = let within = h.within in channel_released l c p ch 32 (ch - 32) h (omega arith) (grind (arith, nat_tests))
+    go true e = channel_released l c p ch 0 ch s h (grind (arith, nat_tests)) (omega arith)
+    go false e = let within = h.within in channel_released l c p ch 32 (ch - 32) s h (omega arith) (grind (arith, nat_tests))
 
 pub same_register_self : (r : Register) → same_register r r ≡ true
 same_register_self BandwidthAvailable = refl

@@ -1,15 +1,15 @@
--- A reset and the end of a reclaim second keep the account sound.
+-- A reset, the end of a reclaim second and the withholding of channel 31 keep the account sound.
 use Rattle.fw_base.specs.declared.plug.PlugAt.{PlugAt}
-use Rattle.std.proofs.Common.{◌≡◌, ℕ, ◌-◌, ◌^◌, ◌<◌, ◌≤◌, Bool, true, false, Option, Some, None, is_some, refl, sym, ◌∙◌, true≢false, arith}
+use Rattle.std.proofs.Common.{◌≡◌, ℕ, ◌-◌, ◌^◌, ◌<◌, ◌≤◌, Bool, true, false, Option, Some, None, is_some, refl, sym, ◌∙◌, subst, true≢false, arith}
 use Rattle.std.proofs.lemmas.Bool.Decides.{nat_tests}
 use Rattle.std.proofs.Common.{pow_pos, ◌&&◌, ◌==◌, if◌then◌else◌}
 use Rattle.fw_base.specs.Tables.{find_plug}
-use Rattle.fw_ledger.specs.Account.{Connected, Flow, Account, reclaimable_total, flow_units, has_connection, allocated, talks}
+use Rattle.fw_ledger.specs.Account.{Connected, Flow, Account, reclaimable_total, flow_units, has_connection, allocated, talks, is_withheld}
 use Rattle.fw_plug.specs.Words.{Settings, units_of, FitsRegister}
-use Rattle.fw_ledger.specs.Events.{no_connections, talker_at, after_reset, after_second, flow_of}
+use Rattle.fw_ledger.specs.Events.{no_connections, talker_at, after_reset, after_second, after_withholding, flow_of}
 use Rattle.fw_entry.specs.Network.{IsNetwork}
 use Rattle.fw_ledger.specs.Network.{is_output, declared}
-use Rattle.fw_ledger.proofs.Network.{no_outputs, output_in_range, declared_fits}
+use Rattle.fw_ledger.proofs.Network.{not_both, no_outputs, output_in_range, declared_fits}
 use Rattle.fw_entry.specs.declared.entry.ResetEntry.{ResetEntry}
 use Rattle.std.proofs.lemmas.Bool.{false≢true}
 use Rattle.fw_ledger.specs.Sound.{IsSound}
@@ -45,6 +45,8 @@ second_ends l s = record {
   range = s.range;
   settings_fit = s.settings_fit;
   channels_fit = s.channels_fit;
+  withheld_unallocated = s.withheld_unallocated;
+  withheld_unclaimed = λ ch w. refl;
 }
 
 -- with no second, who talks has a connection
@@ -132,6 +134,15 @@ reclaimable_none false l s e n = λ ch. go (talker_at l ch) ch (talker_at_is l c
     go None ch f = refl
     go (Some g) ch f = absurd (no_outputs l.latest g.plug n (s.there g.plug f.0))
 
+reclaimable_withheld : (b : Bool) (l : Account) → IsSound l → l.reclaiming ≡ b → (ch : ℕ) → is_withheld l.withheld ch ≡ true → reclaimable_after b l ch ≡ None
+reclaimable_withheld true l s e = s.withheld_unclaimed
+reclaimable_withheld false l s e = λ ch w. go ch w (talker_at l ch) (talker_at_is l ch s)
+  where
+    go : (ch : ℕ) → is_withheld l.withheld ch ≡ true → (o : Option Flow) → IsTalker l ch o → o ≡ None
+    go ch w None t = refl
+    go ch w (Some g) t = absurd (not_both _ _ (s.withheld_unallocated ch w)
+        (subst (λ k. l.allocations k ≡ Some (record { holder = Connected g.plug; units = units_of (l.settings g.plug) })) t.1 (talker_is_allocated l g.plug s e t.0)))
+
 kept_after : (b : Bool) (k d : Settings) → (b ≡ true → FitsRegister k) → FitsRegister d → FitsRegister (if b then k else d)
 kept_after true k d f g = f refl
 kept_after false k d f g = g
@@ -162,6 +173,43 @@ reset_keeps r l fits s = record {
   range = fits.range;
   settings_fit = λ q t. kept_after (is_output l.latest q) (l.settings q) (declared r q) (s.settings_fit q) (declared_fits r q fits);
   channels_fit = λ q t. grind (arith, s.channels_fit q);
+  withheld_unallocated = λ ch w. refl;
+  withheld_unclaimed = reclaimable_withheld l.reclaiming l s refl;
+}
+
+-- before the first reset nothing is allocated that could be withheld
+pub withholding_keeps : (l : Account) → l.latest ≡ None → IsSound l → IsSound (after_withholding l)
+withholding_keeps l first s = let none = s.begins first in record {
+  load = s.load;
+  bounded = s.bounded;
+  allocated = s.allocated;
+  connected = s.connected;
+  one_pending = s.one_pending;
+  for_addressed = s.for_addressed;
+  reclaimable_once = s.reclaimable_once;
+  reclaimable_load = s.reclaimable_load;
+  reclaimable_bounded = s.reclaimable_bounded;
+  reclaimable_ends = s.reclaimable_ends;
+  withheld_unallocated = λ ch w. none.allocations ch;
+  withheld_unclaimed = λ ch w. s.reclaimable_ends none.no_second ch;
+  begins = λ e. record {
+    no_second = none.no_second;
+    allocations = none.allocations;
+    outputs = none.outputs;
+    inputs = none.inputs;
+    continues = none.continues;
+    addressed = none.addressed;
+    outstanding = none.outstanding;
+  };
+  there = s.there;
+  inputs_there = s.inputs_there;
+  continuing = s.continuing;
+  reclaimed = s.reclaimed;
+  counts = s.counts;
+  controllers = s.controllers;
+  range = s.range;
+  settings_fit = s.settings_fit;
+  channels_fit = s.channels_fit;
 }
 
 -- after a reset each flow that talked is reclaimable

@@ -9,17 +9,17 @@ use Rattle.fw_phy.specs.Phy as Phy
 use Rattle.fw_entry.specs.Log.{Fits, ResetFits, RowFits}
 use Rattle.std.specs.List.{All}
 use Rattle.std.proofs.lemmas.Option.{slice_get_within, get_or_from_slice_get}
-use Rattle.std.proofs.Common.{◌≡◌, ℕ, suc, subst, ◌^◌, ◌<◌, ◌==◌, Bool, true, false, Option, Some, None, List, [], ◌∷◌, ◌++◌, refl, sym, ◌∙◌, arith, cond}
+use Rattle.std.proofs.Common.{◌≡◌, ℕ, suc, subst, ◌^◌, ◌<◌, ◌==◌, Bool, true, false, Option, Some, None, is_some, List, [], ◌∷◌, ◌++◌, refl, sym, ◌∙◌, arith, cond}
 use Rattle.std.proofs.lemmas.Bool.Decides.{nat_tests}
 use Rattle.std.proofs.lemmas.Bool.{false≢true}
 use Rattle.fw_ledger.specs.Account.{Account, has_connection}
 use Rattle.fw_entry.specs.Network.{IsNetwork, speed_of}
-use Rattle.fw_ledger.specs.Events.{no_connections, after_reset, after_second, after_death}
+use Rattle.fw_ledger.specs.Events.{no_connections, after_reset, after_second, after_death, after_withholding}
 use Rattle.fw_ledger.specs.Fold.{no_account, after_event, next_account, next_of, account_from, account_of}
 use Rattle.fw_ledger.specs.Sound.{IsSound}
 use Rattle.fw_base.proofs.Tables.{sum_to_zero}
 use Rattle.fw_ledger.proofs.Network.{not_both}
-use Rattle.fw_ledger.proofs.Events.{reset_keeps, second_ends}
+use Rattle.fw_ledger.proofs.Events.{reset_keeps, second_ends, withholding_keeps}
 use Rattle.fw_ledger.proofs.Deaths.{death_keeps}
 pub use Rattle.fw_ledger.proofs.Packets.{asked_keeps, ended_keeps, device_below}
 use Rattle.fw_ledger.proofs.Packets.{packet_keeps, unchanged}
@@ -27,7 +27,7 @@ use Rattle.fw_ledger.proofs.Packets.{packet_keeps, unchanged}
 -- ---- entries
 
 event_keeps : (e : EventEntry) (l m : Account) → IsSound l → after_event e l ≡ Some m → IsSound m
-event_keeps e l m s f = go (e.code == 1) (e.code == 2) f
+event_keeps e l m s f = go (e.code == 1) (e.code == 2) (e.code == 8) f
   where
     over : (b : Bool) → cond b (Some (after_second l)) None ≡ Some m → IsSound m
     over true g = let same : after_second l ≡ m = cc in rw (← same) (second_ends l s)
@@ -36,10 +36,16 @@ event_keeps e l m s f = go (e.code == 1) (e.code == 2) f
     died : Some (after_death e.device l) ≡ Some m → IsSound m
     died g = let same : after_death e.device l ≡ m = cc in rw (← same) (death_keeps e.device l s)
 
-    go : (a b : Bool) → cond a (cond l.reclaiming (Some (after_second l)) None) (cond b (Some (after_death e.device l)) (Some l)) ≡ Some m → IsSound m
-    go true b g = over l.reclaiming g
-    go false true g = died g
-    go false false g = unchanged l m s g
+    withheld : (o : Option ResetEntry) → l.latest ≡ o → cond (is_some o) None (Some (after_withholding l)) ≡ Some m → IsSound m
+    withheld None first g = let same : after_withholding l ≡ m = cc in rw (← same) (withholding_keeps l first s)
+    withheld (Some r) first g = absurd (not_both None m refl g)
+
+    go : (a b c : Bool) → cond a (cond l.reclaiming (Some (after_second l)) None)
+        (cond b (Some (after_death e.device l)) (cond c (cond (is_some l.latest) None (Some (after_withholding l))) (Some l))) ≡ Some m → IsSound m
+    go true b c g = over l.reclaiming g
+    go false true c g = died g
+    go false false true g = withheld l.latest refl g
+    go false false false g = unchanged l m s g
 
 -- a reset entry of the log is in range
 speeds_fit : (n : ℕ) (ps : List PhyPacket) → All Phy.Fits ps → speed_of n ps < 4
@@ -106,6 +112,8 @@ starts_sound = record {
   range = λ n row e. absurd (not_both None row refl e);
   settings_fit = λ p t. absurd (false≢true t);
   channels_fit = λ p t. absurd (false≢true t);
+  withheld_unallocated = λ ch w. refl;
+  withheld_unclaimed = λ ch w. refl;
 }
 
 -- entries in two parts

@@ -82,6 +82,7 @@ inputs_stand t l p word x s channels h is here seat keeps sound = record {
   };
   latest = h.latest;
   plugs = h.plugs;
+  withheld = h.withheld;
   resources = h.resources;
   second = record { runs = h.second.runs; reclaimable = h.second.reclaimable; continues = h.second.continues };
   outputs = h.outputs;

@@ -1,5 +1,6 @@
 pub mod Network
 pub mod Connections
+pub mod Open
 pub mod Allocations
 pub mod Moves
 pub mod Events

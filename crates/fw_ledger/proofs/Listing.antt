@@ -1,6 +1,6 @@
 -- The list of what is allocated has the units and channels of the registers; and with nothing pending, all is for flows.
 use Rattle.fw_base.specs.declared.plug.PlugAt.{PlugAt}
-use Rattle.std.proofs.Common.{◌≡◌, ◌⊎◌, inl, inr, ℕ, zero, suc, ◌+◌, ◌<◌, ◌≤◌, ◌==◌, ◌||◌, ◌↔◌, nat_lt, not, Bool, true, false, Option, Some, None, [], ◌∷◌, count_by, refl, sym, ◌∙◌, true≢false, arith, cond}
+use Rattle.std.proofs.Common.{◌&&◌, ◌≡◌, ◌⊎◌, inl, inr, ℕ, zero, suc, ◌+◌, ◌<◌, ◌≤◌, ◌==◌, ◌||◌, ◌↔◌, nat_lt, not, Bool, true, false, Option, Some, None, [], ◌∷◌, count_by, refl, sym, ◌∙◌, true≢false, arith, cond}
 use Rattle.std.proofs.lemmas.Bool.Decides.{nat_tests}
 use Rattle.std.proofs.lemmas.Bool.{cases_lt}
 use Rattle.std.proofs.lemmas.List.Folds.{list_any-append}
@@ -8,7 +8,7 @@ use Rattle.std.proofs.lemmas.List.Sums.{sum_by-append}
 use Rattle.fw_base.specs.Tables.{sum_to}
 use Rattle.fw_words.specs.Quadlet.{field}
 use Rattle.fw_plug.specs.Words.{flag, units_of}
-use Rattle.fw_ledger.specs.Account.{Holder, Pending, Connected, Orphaned, Allocation, Account, total, allocated, is_free, is_pending, has_connection}
+use Rattle.fw_ledger.specs.Account.{Holder, Pending, Connected, Orphaned, Allocation, Account, total, allocated, is_free, is_open, is_withheld, is_pending, has_connection}
 use Rattle.fw_ledger.specs.Moves.{HasNoPending}
 use Rattle.fw_ledger.specs.Words.{word_of, BandwidthAvailable, ChannelsAvailable}
 use Rattle.fw_ledger.specs.Listing.{Channel, Units, resources_at, resources_below, resources, units_in, is_channel, is_channel_of, is_units_of, listed_units, lists_channel, IsAllocatedForFlows}
@@ -55,16 +55,18 @@ channel_listed_below ch (suc n) f = list_any-append (is_channel ch) (resources_b
     go (inl lt) a b = grind (arith, nat_tests)
     go (inr le) a b = grind (arith, nat_tests)
 
-flag_not : (b : Bool) → flag b ≡ cond {A = ℕ} (not b) 0 1
-flag_not true = refl
-flag_not false = refl
+flag_open : (free withheld : Bool) → flag (free && not withheld) ≡ cond {A = ℕ} (not free || withheld) 0 1
+flag_open true true = refl
+flag_open true false = refl
+flag_open false withheld = refl
 
--- a channel's bit is 0 exactly where the list names the channel
-pub channel_listed : (l : Account) (base i : ℕ) → i < 32 → base + i < 64 → field (word_of l (ChannelsAvailable base)) i i ≡ cond {A = ℕ} (lists_channel (base + i) (resources l)) 0 1
+-- a channel's bit is 0 exactly where the list names the channel, or it is withheld
+pub channel_listed : (l : Account) (base i : ℕ) → i < 32 → base + i < 64
+    → field (word_of l (ChannelsAvailable base)) i i ≡ cond {A = ℕ} (lists_channel (base + i) (resources l) || is_withheld l.withheld (base + i)) 0 1
 channel_listed l base i lt within =
     let t : nat_lt (base + i) 64 ≡ true = grind (arith, nat_tests) in
     let e : lists_channel (base + i) (resources l) ≡ not (is_free (l.allocations (base + i))) = channel_listed_below (base + i) 64 l.allocations ∙ rw t refl in
-    free_bit (λ k. is_free (l.allocations (base + k))) i lt ∙ rw e (flag_not (is_free (l.allocations (base + i))))
+    free_bit (λ k. is_open l.withheld l.allocations (base + k)) i lt ∙ rw e (flag_open (is_free (l.allocations (base + i))) (is_withheld l.withheld (base + i)))
 
 -- ---- each channel once, and units only with a channel of their holder
 

@@ -12,6 +12,7 @@ use Rattle.fw_base.proofs.Tables.{update_plug_at}
 use Rattle.std.proofs.lemmas.Bool.{false≢true}
 use Rattle.fw_ledger.specs.Network.{is_input}
 use Rattle.fw_ledger.proofs.Network.{not_both, no_inputs}
+use Rattle.fw_ledger.proofs.Open.{not_withheld}
 use Rattle.fw_ledger.proofs.Connections.{has_connection_added, room_after, had_connection, fewer_connections, NoneBeyond, none_beyond_added, none_beyond_dropped}
 pub use Rattle.fw_ledger.proofs.Allocations.{total_changed}
 use Rattle.fw_ledger.proofs.Allocations.{allocate_channel, allocate_units, release_channel, release_units}
@@ -37,6 +38,8 @@ with_other_connections p new l s had has most beyond = record {
   range = s.range;
   settings_fit = s.settings_fit;
   channels_fit = s.channels_fit;
+  withheld_unallocated = s.withheld_unallocated;
+  withheld_unclaimed = s.withheld_unclaimed;
   begins = λ e. absurd (false≢true (sym ((s.begins e).outputs p) ∙ had));
   inputs_there = s.inputs_there;
 }
@@ -73,6 +76,8 @@ connect_first c p kind ch overhead l lt s h =
       range = s.range;
       settings_fit = λ q t. grind (arith, keeps q, s.settings_fit q t, s.settings_fit p h.is_plug);
       channels_fit = s.channels_fit;
+      withheld_unallocated = λ d w. grind (arith, nat_tests, s.withheld_unallocated d w, not_withheld l ch _ s h.held);
+      withheld_unclaimed = s.withheld_unclaimed;
       begins = λ e. absurd (not_both _ _ ((s.begins e).allocations ch) h.held);
       inputs_there = s.inputs_there;
     }
@@ -103,6 +108,8 @@ disconnect_last c p new l s had gone most beyond none addressed =
       range = s.range;
       settings_fit = s.settings_fit;
       channels_fit = s.channels_fit;
+      withheld_unallocated = λ d w. grind (arith, nat_tests, s.withheld_unallocated d w, not_withheld l (l.settings p).channel _ s own);
+      withheld_unclaimed = s.withheld_unclaimed;
       begins = λ e. absurd (false≢true (sym ((s.begins e).outputs p) ∙ had));
       inputs_there = s.inputs_there;
     }
@@ -150,6 +157,8 @@ with_input p new channels l s is most beyond fit =
       range = s.range;
       settings_fit = s.settings_fit;
       channels_fit = fit;
+      withheld_unallocated = s.withheld_unallocated;
+      withheld_unclaimed = s.withheld_unclaimed;
     }
 
 connect_input : (c : ℕ) (p : PlugAt) (kind : ConnectionKind) (ch : ℕ) (l : Account) → c < 63 → IsSound l → CanConnectInput c p kind ch l → IsSound (after c p (ConnectInput kind ch) l)

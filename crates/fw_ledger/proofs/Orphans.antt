@@ -8,7 +8,7 @@ use Rattle.std.proofs.lemmas.List.{with_items_is}
 use Rattle.fw_base.specs.Tables.{update}
 use Rattle.fw_base.proofs.Tables.{sum_to_same}
 use Rattle.fw_plug.specs.Words.{flag}
-use Rattle.fw_ledger.specs.Account.{Account, Allocation, Connections, is_free}
+use Rattle.fw_ledger.specs.Account.{Account, Allocation, Connections, is_free, is_open}
 use Rattle.fw_ledger.specs.Network.{is_output, is_input}
 use Rattle.fw_ledger.specs.Events.{after_death, orphaned_allocation, orphaned_connections, orphaned_owner}
 use Rattle.fw_ledger.specs.Words.{bits_word}
@@ -24,6 +24,7 @@ use Rattle.fw_ledger.specs.declared.tables.Asked.{Asked}
 use Rattle.fw_ledger.specs.declared.tables.Asked.TheVariants.{Nothing as NotAsked}
 use Rattle.fw_ledger.proofs.Deaths.{death_keeps, orphaned_total, orphaned_counter, orphaned_there}
 use Rattle.fw_ledger.proofs.Connections.{NoneBeyond}
+use Rattle.fw_ledger.proofs.Open.{same_open}
 use Rattle.fw_ledger.proofs.Network.{output_in_range}
 use Rattle.fw_ledger.proofs.Plugs.{input_in_range, place_low}
 use Rattle.fw_ledger.proofs.Related.{related_set, update_same, update_other}
@@ -59,15 +60,18 @@ owner_orphaned c Nobody = refl
 owner_orphaned c (Controller d) = grind (arith, nat_tests)
 owner_orphaned c Died = refl
 
-resources_orphaned : (c units high low : ℕ) (charges after : List Charge) (allocations : ℕ → Option Allocation) → length charges ≡ 64
-    → after ≡ map (orphaned_charge c) charges → ResourcesFor units high low charges allocations
-    → ResourcesFor units high low after (λ ch. orphaned_allocation c (allocations ch))
-resources_orphaned c units high low charges after allocations size e h = record {
+resources_orphaned : (withheld : Bool) (c units high low : ℕ) (charges after : List Charge) (allocations : ℕ → Option Allocation) → length charges ≡ 64
+    → after ≡ map (orphaned_charge c) charges → ResourcesFor withheld units high low charges allocations
+    → ResourcesFor withheld units high low after (λ ch. orphaned_allocation c (allocations ch))
+resources_orphaned withheld c units high low charges after allocations size e h = record {
   left = h.left ∙ ap (λ n. 4915 - n) (sym (orphaned_total c allocations));
-  high = h.high ∙ bits_same _ _ (λ i. orphaned_free c (allocations (0 + i)));
-  low = h.low ∙ bits_same _ _ (λ i. orphaned_free c (allocations (32 + i)));
+  high = h.high ∙ bits_same _ _ (λ i. still (0 + i));
+  low = h.low ∙ bits_same _ _ (λ i. still (32 + i));
   charges = λ ch lt. rw (e, map_at (orphaned_charge c) charges ch Free (omega arith), charge_orphaned c (get_or charges ch Free), h.charges ch lt) refl;
 }
+  where
+    still : (k : ℕ) → is_open withheld allocations k ≡ is_open withheld (λ ch. orphaned_allocation c (allocations ch)) k
+    still k = same_open withheld allocations (λ ch. orphaned_allocation c (allocations ch)) k (orphaned_free c (allocations k))
 
 seats_orphaned : (c : ℕ) (x : Seats) (s : Connections) → SeatsFor x s → SeatsFor (orphaned_seats c x) (orphaned_connections c s)
 seats_orphaned c x s h = record {
@@ -131,7 +135,8 @@ death_stands t l c charges outputs inputs requests h at_charges at_outputs at_in
   };
   latest = h.latest;
   plugs = h.plugs;
-  resources = resources_orphaned c t.left t.high t.low t.charges.items charges.items l.allocations h.sizes.charges at_charges h.resources;
+  withheld = h.withheld;
+  resources = resources_orphaned l.withheld c t.left t.high t.low t.charges.items charges.items l.allocations h.sizes.charges at_charges h.resources;
   second = record { runs = h.second.runs; reclaimable = h.second.reclaimable; continues = h.second.continues };
   outputs = outputs_orphaned c t.outputs.items t.output_seats.items outputs.items l h.sizes.output_seats at_outputs
       (λ p d le. (h.sound.controllers p d le).0) (λ p is. place_low p (output_in_range l.latest p h.sound.range is)) h.outputs;

@@ -75,7 +75,7 @@ outputs_set t l p word x s settings h is here seat keeps = record {
 outputs_stand : (t : Tables) (l : Account) (charges : Vec Charge Global) (words : Vec ℕ Global) (seats : Vec Seats Global) (continues : Vec Bool Global)
     (a : ℕ → Option Allocation) (o : PlugAt → Connections) (k : PlugAt → Settings) (g : PlugAt → Bool) → StandsFor t l
     → length charges.items ≡ 64 → length words.items ≡ 1953 → length seats.items ≡ 1953 → length continues.items ≡ 1953
-    → ResourcesFor t.left t.high t.low charges.items a → OutputsFor words.items seats.items l.latest o k
+    → ResourcesFor l.withheld t.left t.high t.low charges.items a → OutputsFor words.items seats.items l.latest o k
     → SecondFor t.reclaiming t.reclaimable.items continues.items (record l { allocations = a; outputs = o; settings = k; continues = g })
     → IsSound (record l { allocations = a; outputs = o; settings = k; continues = g })
     → StandsFor (record t { charges = charges; outputs = words; output_seats = seats; continues = continues })
@@ -94,6 +94,7 @@ outputs_stand t l charges words seats continues a o k g h charge_size word_size 
   };
   latest = h.latest;
   plugs = h.plugs;
+  withheld = h.withheld;
   resources = resources;
   second = second;
   outputs = outputs;
@@ -239,7 +240,7 @@ first_follows t l c p kind new x h lt is none same holds seat made at =
     (made_connected p ch l) (update_plug l.outputs p s) (update_plug l.settings p now) (update_plug l.continues p false) h
     (length-set t.charges.items ch _ ∙ h.sizes.charges) (words_size t l p new h) (seats_size t l p x h)
     (length-set t.continues.items (place p) false ∙ h.sizes.continues)
-    (charge_set t.left t.high t.low t.left t.charges.items l.allocations ch (ConnectedCharge p (units new)) a h.sizes.charges (ap is_free held)
+    (charge_set l.withheld t.left t.high t.low t.left t.charges.items l.allocations ch (ConnectedCharge p (units new)) a h.sizes.charges (ap is_free held)
     (ap (λ u. Some (record { holder = Connected p; units = u })) (sym own)) (omega arith) h.resources)
     (outputs_set t l p new x s (update_plug l.settings p now) h is word seat (λ q ne. plug_other l.settings p now q ne))
     (record { runs = h.second.runs; reclaimable = h.second.reclaimable; continues = λ runs. ended_there runs }) (moves_keep c p m l lt h.sound k.can)))
@@ -397,7 +398,7 @@ last_follows t l c p kind new x h lt is has less none may seat made eq =
     (outputs_stand t l (with_item t.charges ch (PendingCharge c p (units w))) (with_item t.outputs (place p) new) (with_item t.output_seats (place p) x)
     t.continues (made_pending c p ch l) (update_plug l.outputs p s) l.settings l.continues h
     (length-set t.charges.items ch _ ∙ h.sizes.charges) (words_size t l p new h) (seats_size t l p x h) h.sizes.continues
-    (charge_set t.left t.high t.low t.left t.charges.items l.allocations ch (PendingCharge c p (units w)) a h.sizes.charges (ap is_free own)
+    (charge_set l.withheld t.left t.high t.low t.left t.charges.items l.allocations ch (PendingCharge c p (units w)) a h.sizes.charges (ap is_free own)
     (ap (λ u. Some (record { holder = Pending c p; units = u })) cost) (omega arith) h.resources)
     (outputs_set t l p new x s l.settings h is word seat (λ q ne. refl))
     (record { runs = h.second.runs; reclaimable = h.second.reclaimable; continues = h.second.continues })

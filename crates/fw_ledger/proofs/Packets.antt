@@ -54,6 +54,8 @@ other_requests l outstanding addressed same first s = record {
   range = s.range;
   settings_fit = s.settings_fit;
   channels_fit = s.channels_fit;
+  withheld_unallocated = s.withheld_unallocated;
+  withheld_unclaimed = s.withheld_unclaimed;
 }
 
 pub asked_keeps : (c : ℕ) (request : Request) (l : Account) → (l.latest ≡ None → ⊥) → IsSound l → IsSound (asked c request l)

@@ -4,9 +4,10 @@ use Rattle.fw_async.specs.declared.packet.Head.{Head}
 use Rattle.fw_async.specs.declared.packet.Packet.{Packet}
 use Rattle.fw_async.specs.declared.packet.Packet.TheVariants.{WriteQuadlet, WriteBlock, WriteReply, ReadQuadlet, ReadBlock, ReadQuadletReply, ReadBlockReply, CycleStart, Lock, LockReply}
 use Rattle.fw_entry.specs.declared.entry.EventEntry.{EventEntry}
+use Rattle.fw_entry.specs.declared.entry.ResetEntry.{ResetEntry}
 use Rattle.fw_entry.specs.declared.entry.Entry.{Entry}
 use Rattle.fw_entry.specs.declared.entry.Entry.TheVariants.{Reset, Async, Iso, Event, Outcome, Shown, End}
-use Rattle.std.proofs.Common.{◌≡◌, ◌≢◌, ℕ, ◌==◌, ◌&&◌, ◌↔◌, Bool, true, false, Option, Some, None, is_none, List, length, refl, sym, subst, ◌∙◌, true≢false, arith, cond}
+use Rattle.std.proofs.Common.{◌≡◌, ◌≢◌, ℕ, ◌==◌, ◌&&◌, ◌↔◌, Bool, true, false, Option, Some, None, is_none, is_some, List, length, refl, sym, subst, ◌∙◌, true≢false, arith, cond}
 use Rattle.std.proofs.lemmas.Bool.Decides.{nat_tests}
 use Rattle.fw_words.specs.Quadlet.{quadlet_at}
 use Rattle.fw_ledger.specs.Account.{Account, Operation, Reads, Locks, Request}
@@ -14,10 +15,10 @@ use Rattle.fw_entry.specs.Network.{device_of_id}
 use Rattle.fw_ledger.specs.Moves.{Move, after}
 use Rattle.fw_ledger.specs.Words.{Register, register_of}
 use Rattle.fw_ledger.specs.Decode.{IsMove, move_at}
-use Rattle.fw_ledger.specs.Events.{after_second, after_death}
+use Rattle.fw_ledger.specs.Events.{after_second, after_death, after_withholding}
 use Rattle.fw_ledger.specs.Packets.{asked, asked_by, ended, is_reply_to, is_swapped, moved, swapped, replied, replied_to, answered, after_request, after_reply, after_packet, Reply, Read, Locked}
 use Rattle.fw_ledger.specs.Fold.{after_event, next_account}
-use Rattle.fw_ledger.specs.Refused.{IsRequestRefused, NoNode, Overlap, Ends, IsReplyRefused, NoReceiver, NoRequest, OtherNode, IsReadRefused, OtherKind, IsLockRefused, WasRead, OtherFunction, NoMove, IsPacketRefused, IsRefused}
+use Rattle.fw_ledger.specs.Refused.{IsRequestRefused, NoNode, Overlap, Ends, IsReplyRefused, NoReceiver, NoRequest, OtherNode, IsReadRefused, OtherKind, IsLockRefused, WasRead, OtherFunction, NoMove, IsPacketRefused, IsEventRefused, NoSecond, TooLate, IsRefused}
 use Rattle.fw_ledger.specs.Sound.{IsSound}
 use Rattle.fw_ledger.proofs.Network.{not_both}
 use Rattle.fw_ledger.proofs.Decoded.{move_at_is, move_found}
@@ -201,17 +202,35 @@ refused_packet (CycleStart h offset time) l s r = absurd r
 refused_packet (Lock h offset function bytes) l s r = refused_request h offset (Locks function bytes) l r
 refused_packet (LockReply h rcode function bytes) l s r = refused_lock h rcode function bytes l s r
 
-event_refused : (v : EventEntry) (l : Account) → after_event v l ≡ None → (v.code ≡ 1) × (l.reclaiming ≡ false)
-event_refused v l e = go (v.code == 1) (v.code == 2) refl e
+event_refused : (v : EventEntry) (l : Account) → after_event v l ≡ None → IsEventRefused v l
+event_refused v l e = go (v.code == 1) (v.code == 2) (v.code == 8) refl refl e
   where
     over : (b : Bool) → l.reclaiming ≡ b → cond b (Some (after_second l)) None ≡ None → l.reclaiming ≡ false
     over true r f = absurd (some_is (after_second l) f)
     over false r f = r
 
-    go : (a b : Bool) → (v.code == 1) ≡ a → cond a (cond l.reclaiming (Some (after_second l)) None) (cond b (Some (after_death v.device l)) (Some l)) ≡ None → (v.code ≡ 1) × (l.reclaiming ≡ false)
-    go true b t f = (number_is v.code 1 t, over l.reclaiming refl f)
-    go false true t f = absurd (some_is (after_death v.device l) f)
-    go false false t f = absurd (some_is l f)
+    late : (o : Option ResetEntry) → cond (is_some o) None (Some (after_withholding l)) ≡ None → o ≢ None
+    late None f same = some_is (after_withholding l) f
+    late (Some r) f same = some_is r same
+
+    go : (a b c : Bool) → (v.code == 1) ≡ a → (v.code == 8) ≡ c → cond a (cond l.reclaiming (Some (after_second l)) None)
+        (cond b (Some (after_death v.device l)) (cond c (cond (is_some l.latest) None (Some (after_withholding l))) (Some l))) ≡ None → IsEventRefused v l
+    go true b c t u f = NoSecond (number_is v.code 1 t) (over l.reclaiming refl f)
+    go false true c t u f = absurd (some_is (after_death v.device l) f)
+    go false false true t u f = TooLate (number_is v.code 8 u) (late l.latest f)
+    go false false false t u f = absurd (some_is l f)
+
+-- where there is a reset entry
+has_reset : (o : Option ResetEntry) → o ≢ None → is_some o ≡ true
+has_reset None some = absurd (some refl)
+has_reset (Some r) some = refl
+
+refused_event : (v : EventEntry) (l : Account) → IsEventRefused v l → after_event v l ≡ None
+refused_event v l (NoSecond code none) = rw (number_same v.code 1 code) (rw none refl)
+refused_event v l (TooLate code late) =
+    let first : (v.code == 1) ≡ false = grind (arith, nat_tests) in
+    let second : (v.code == 2) ≡ false = grind (arith, nat_tests) in
+    rw (first, second, number_same v.code 8 code, has_reset l.latest late) refl
 
 entry_refused : (l : Account) (e : Entry) → IsSound l → next_account l e ≡ None → IsRefused e l
 entry_refused l (Reset r) s e = cc
@@ -226,7 +245,7 @@ refused_entry : (l : Account) (e : Entry) → IsSound l → IsRefused e l → ne
 refused_entry l (Reset r) s x = absurd x
 refused_entry l (Async p) s x = refused_packet p l s x
 refused_entry l (Iso p) s x = absurd x
-refused_entry l (Event v) s x = rw (number_same v.code 1 x.0) (rw x.1 refl)
+refused_entry l (Event v) s x = refused_event v l x
 refused_entry l (Outcome o) s x = absurd x
 refused_entry l (Shown v) s x = absurd x
 refused_entry l End s x = absurd x

@@ -36,6 +36,7 @@ ended_stands t l c requests h e = record {
   };
   latest = h.latest;
   plugs = h.plugs;
+  withheld = h.withheld;
   resources = h.resources;
   second = record { runs = h.second.runs; reclaimable = h.second.reclaimable; continues = h.second.continues };
   outputs = h.outputs;

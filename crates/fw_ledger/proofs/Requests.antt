@@ -47,6 +47,7 @@ asked_stands t l c request a x plugs requests h lt started at_plugs at_requests 
   };
   latest = h.latest;
   plugs = h.plugs;
+  withheld = h.withheld;
   resources = h.resources;
   second = record { runs = h.second.runs; reclaimable = h.second.reclaimable; continues = h.second.continues };
   outputs = h.outputs;

@@ -23,7 +23,8 @@ use Rattle.fw_entry.specs.declared.nodes.NodeRow.{NodeRow}
 use Rattle.fw_ledger.proofs.Events.{IsTalker, talker_at_is, talker_is_allocated, reset_reclaimable, reset_keeps}
 use Rattle.fw_ledger.proofs.Network.{output_in_range}
 use Rattle.fw_ledger.proofs.Plugs.{input_in_range, place_low}
-use Rattle.fw_ledger.proofs.Starts.{copy_at, channels_start}
+use Rattle.fw_ledger.proofs.Starts.{copy_at}
+use Rattle.fw_ledger.proofs.Open.{high_starts, low_starts}
 use Rattle.fw_ledger.proofs.ResetWords.{place_device, place_plug, output_disconnected, input_disconnected, output_connected}
 
 -- ---- the flows that may be allocated again
@@ -72,7 +73,8 @@ started_is started manager nodes (Some r) h = h.0
 pub record IsReset (t : Tables) (r : ResetEntry) (new : Tables) : Type 0 where
   pub latest : (new.started ≡ true) × (new.manager ≡ r.manager) × (new.nodes ≡ r.nodes)
   pub reclaiming : new.reclaiming ≡ t.started
-  pub words : (new.left ≡ 4915) × (new.high ≡ 4294967295) × (new.low ≡ 4294967295)
+  pub withheld : new.withheld ≡ t.withheld
+  pub words : (new.left ≡ 4915) × (new.high ≡ cond t.withheld 4294967294 4294967295) × (new.low ≡ 4294967295)
   pub plugs : HasNewPlugs t r new
   pub charge_size : length new.charges.items ≡ 64
   pub charges : (ch : ℕ) → ch < 64 → charge_at new.charges.items ch ≡ Free
@@ -193,10 +195,11 @@ reset_stands t l r new h net x = record {
   };
   latest = x.latest;
   plugs = record { outs = x.plugs.outs; ins = x.plugs.ins };
+  withheld = x.withheld ∙ h.withheld;
   resources = record {
     left = x.words.0 ∙ sym (ap (λ m. 4915 - m) (sum_to_zero 64));
-    high = x.words.1 ∙ sym (channels_start 0);
-    low = x.words.2 ∙ sym (channels_start 32);
+    high = x.words.1 ∙ ap (λ b. cond {A = ℕ} b 4294967294 4294967295) h.withheld ∙ sym (high_starts l.withheld);
+    low = x.words.2 ∙ sym (low_starts l.withheld);
     charges = λ ch lt. rw (x.charges ch lt) refl;
   };
   second = second_reset t l r new h net x;

@@ -2,7 +2,7 @@
 use Rattle.fw_base.specs.declared.plug.PlugAt.{PlugAt}
 use Rattle.fw_entry.specs.declared.entry.ResetEntry.{ResetEntry}
 use Rattle.fw_entry.specs.declared.entry.Entry.TheVariants.{Reset}
-use Rattle.std.proofs.Common.{◌≡◌, ℕ, ◌-◌, ◌^◌, false, Some, None, [], ◌∷◌, refl, arith}
+use Rattle.std.proofs.Common.{◌≡◌, ℕ, false, Some, None, [], ◌∷◌, cond, refl, arith}
 use Rattle.std.proofs.lemmas.Bool.Decides.{nat_tests}
 use Rattle.fw_base.specs.Tables.{sum_to}
 use Rattle.fw_base.proofs.Tables.{sum_to_zero}
@@ -15,6 +15,7 @@ use Rattle.fw_ledger.specs.Fold.{no_account, account_of}
 use Rattle.fw_ledger.specs.Sound.{IsSound}
 use Rattle.fw_ledger.proofs.Events.{reset_keeps}
 use Rattle.fw_ledger.proofs.Fold.{starts_sound}
+use Rattle.fw_ledger.proofs.Open.{high_starts, low_starts}
 
 pub no_connection_at_first : has_connection no_connections ≡ false
 no_connection_at_first = grind (arith, nat_tests, sum_to_zero 63)
@@ -22,9 +23,11 @@ no_connection_at_first = grind (arith, nat_tests, sum_to_zero 63)
 pub reset_remainder : (r : ResetEntry) (l : Account) → word_of (after_reset r l) BandwidthAvailable ≡ 4915
 reset_remainder r l = omega (arith, sum_to_zero 64)
 
-pub reset_channels : (r : ResetEntry) (l : Account) (base : ℕ) → word_of (after_reset r l) (ChannelsAvailable base) ≡ 2 ^ 32 - 1
-unfolding sum_to
-reset_channels r l base = refl
+pub reset_high : (r : ResetEntry) (l : Account) → word_of (after_reset r l) (ChannelsAvailable 0) ≡ cond l.withheld 0xFFFF_FFFE 0xFFFF_FFFF
+reset_high r l = high_starts l.withheld
+
+pub reset_low : (r : ResetEntry) (l : Account) → word_of (after_reset r l) (ChannelsAvailable 32) ≡ 0xFFFF_FFFF
+reset_low r l = low_starts l.withheld
 
 pub reset_output : (r : ResetEntry) (l : Account) (p : PlugAt) → fields_at (after_reset r l) p ≡ record { broadcast = false; counter = 0; settings = (after_reset r l).settings p }
 unfolding sum_to

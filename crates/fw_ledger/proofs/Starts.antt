@@ -4,9 +4,7 @@ use Rattle.std.proofs.lemmas.List.{length-replicate}
 use Rattle.std.proofs.lemmas.Bool.{false≢true}
 use Rattle.std.proofs.lemmas.Bool.Decides.{nat_tests}
 use Rattle.fw_base.proofs.Tables.{sum_to_zero}
-use Rattle.fw_base.specs.Tables.{sum_to}
 use Rattle.fw_ledger.specs.Fold.{no_account}
-use Rattle.fw_ledger.specs.Words.{channel_word}
 use Rattle.fw_ledger.specs.Stands.{StandsFor, no_seats}
 use Rattle.fw_ledger.specs.declared.tables.Tables.{Tables}
 use Rattle.fw_ledger.specs.declared.tables.Charge.TheVariants.{Free}
@@ -14,6 +12,7 @@ use Rattle.fw_ledger.specs.declared.tables.Reclaimable.TheVariants.{Nothing as N
 use Rattle.fw_ledger.specs.declared.tables.Addressed.TheVariants.{Nowhere}
 use Rattle.fw_ledger.specs.declared.tables.Asked.TheVariants.{Nothing as NotAsked}
 use Rattle.fw_ledger.proofs.Fold.{starts_sound}
+use Rattle.fw_ledger.proofs.Open.{high_starts, low_starts}
 
 -- each place of the copies has the value
 pub copy_at : {A : Type 0} (n i : ℕ) (v : A) → get_or (replicate n v) i v ≡ v
@@ -21,17 +20,13 @@ copy_at zero i v = refl
 copy_at (suc n) zero v = refl
 copy_at (suc n) (suc i) v = copy_at n i v
 
--- all channels are free at first
-pub channels_start : (base : ℕ) → channel_word no_account base ≡ 4294967295
-unfolding sum_to
-channels_start base = refl
-
 -- the tables of no entries
 pub record IsNew (t : Tables) : Type 0 where
   pub started : t.started ≡ false
   pub manager : t.manager ≡ None
   pub nodes : t.nodes ≡ []
   pub reclaiming : t.reclaiming ≡ false
+  pub withheld : t.withheld ≡ false
   pub left : t.left ≡ 4915
   pub high : t.high ≡ 4294967295
   pub low : t.low ≡ 4294967295
@@ -74,10 +69,11 @@ starts_stand t n = record {
   };
   latest = (n.started, n.manager, n.nodes);
   plugs = record { outs = λ p. rw (n.outs, no_count p.device) (no_plug p.plug); ins = λ p. rw (n.ins, no_count p.device) (no_plug p.plug) };
+  withheld = n.withheld;
   resources = record {
     left = n.left ∙ sym (ap (λ m. 4915 - m) (sum_to_zero 64));
-    high = n.high ∙ sym (channels_start 0);
-    low = n.low ∙ sym (channels_start 32);
+    high = n.high ∙ sym (high_starts false);
+    low = n.low ∙ sym (low_starts false);
     charges = λ ch lt. rw (n.charges, copy_at 64 ch Free) refl;
   };
   second = record {

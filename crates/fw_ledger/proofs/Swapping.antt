@@ -5,7 +5,7 @@ use Rattle.std.proofs.lemmas.Bool.{cases_eq}
 use Rattle.std.proofs.lemmas.Bool.Decides.{nat_tests}
 use Rattle.fw_base.specs.Tables.{update, same_plug}
 use Rattle.fw_base.proofs.Tables.{same_plug-true, same_plug_self}
-use Rattle.fw_ledger.specs.Account.{Account, Allocation, is_free, total}
+use Rattle.fw_ledger.specs.Account.{Account, Allocation, is_free, is_open, total}
 use Rattle.fw_ledger.specs.Moves.{Move, after}
 use Rattle.fw_ledger.specs.Words.{Register, word_of}
 use Rattle.fw_ledger.specs.Decode.{IsMove, can, allowed, decoded, move_at, register_of_move, same_register}
@@ -17,6 +17,7 @@ use Rattle.fw_ledger.specs.declared.tables.Charge.TheVariants.{Free}
 use Rattle.fw_ledger.specs.declared.tables.Tables.{Tables}
 use Rattle.fw_ledger.proofs.Tests.{can_from}
 use Rattle.fw_ledger.proofs.Decoded.{allowed_is, same_register_self}
+use Rattle.fw_ledger.proofs.Open.{same_open}
 use Rattle.fw_ledger.proofs.Orphans.{bits_same}
 use Rattle.fw_ledger.proofs.Related.{related_set, update_same, update_other}
 use Rattle.fw_ledger.proofs.ResetWords.{place_device, place_plug}
@@ -72,18 +73,18 @@ follows_stand taken t new l (Some m) h f = (m, f.1)
 -- ---- tables that are written at one place
 
 -- another charge of an allocated channel
-pub charge_set : (units upper lower now : ℕ) (table : List Charge) (allocations : ℕ → Option Allocation) (ch : ℕ) (x : Charge) (a : Allocation)
+pub charge_set : (withheld : Bool) (units upper lower now : ℕ) (table : List Charge) (allocations : ℕ → Option Allocation) (ch : ℕ) (x : Charge) (a : Allocation)
     → length table ≡ 64 → is_free (allocations ch) ≡ false → allocation_of x ≡ Some a → now ≡ 4915 - total (update allocations ch (Some a))
-    → ResourcesFor units upper lower table allocations → ResourcesFor now upper lower (set table ch x) (update allocations ch (Some a))
-charge_set units upper lower now table allocations ch x a size busy is left h = record {
+    → ResourcesFor withheld units upper lower table allocations → ResourcesFor withheld now upper lower (set table ch x) (update allocations ch (Some a))
+charge_set withheld units upper lower now table allocations ch x a size busy is left h = record {
   left = left;
   high = h.high ∙ bits_same _ _ (λ i. still (0 + i));
   low = h.low ∙ bits_same _ _ (λ i. still (32 + i));
   charges = related_set (λ y o. allocation_of y ≡ o) table ch x Free 64 allocations (Some a) size is h.charges;
 }
   where
-    still : (k : ℕ) → is_free (allocations k) ≡ is_free (update allocations ch (Some a) k)
-    still k = go (cases_eq k ch)
+    still : (k : ℕ) → is_open withheld allocations k ≡ is_open withheld (update allocations ch (Some a)) k
+    still k = same_open withheld allocations (update allocations ch (Some a)) k (go (cases_eq k ch))
       where
         go : (k ≡ ch) ⊎ (k ≢ ch) → is_free (allocations k) ≡ is_free (update allocations ch (Some a) k)
         go (inl e) = rw (update_same allocations ch k (Some a) e, e) busy

@@ -2,15 +2,16 @@
 use Rattle.fw_base.specs.declared.plug.PlugAt.{PlugAt}
 use Rattle.fw_base.specs.declared.plug.ConnectionKind.{ConnectionKind}
 use Rattle.fw_base.specs.declared.plug.ConnectionKind.TheVariants.{PointToPoint, Broadcast}
-use Rattle.std.proofs.Common.{◌≡◌, ℕ, Bool, true, false, not, ◌&&◌, ◌||◌, ◌==◌, Option, Some, None, is_some, refl, sym, ◌∙◌, true≢false, arith}
+use Rattle.std.proofs.Common.{◌≡◌, ◌<◌, ℕ, nat_lt, Bool, true, false, not, ◌&&◌, ◌||◌, ◌==◌, Option, Some, None, is_some, refl, sym, ◌∙◌, true≢false, arith}
 use Rattle.std.proofs.lemmas.Bool.Decides.{nat_tests}
 use Rattle.std.proofs.lemmas.Bool.{false≢true}
 use Rattle.fw_base.specs.Tables.{same_plug}
 use Rattle.fw_base.proofs.Tables.{same_plug-true, same_plug_self, find_to_is, IsFirst}
-use Rattle.fw_ledger.specs.Account.{Holder, Pending, Connected, Orphaned, Allocation, Owner, Of, Dead, Connections, Flow, Account, is_free, is_there, is_pending, is_pending_of, plug_of, pending_channel, has_pending, has_connection}
+use Rattle.fw_ledger.specs.Account.{Holder, Pending, Connected, Orphaned, Allocation, Owner, Of, Dead, Connections, Flow, Account, is_free, is_open, is_there, is_pending, is_pending_of, plug_of, pending_channel, has_pending, has_connection}
 use Rattle.fw_plug.specs.Words.{units_of}
 use Rattle.fw_ledger.specs.Moves.{Move, AllocateChannel, AllocateUnits, ConnectFirst, ConnectOverlaid, ConnectInput, DisconnectInput, DisconnectOutput, ReleaseUnits, ReleaseChannel, Can, HasNoPending, HasRoom, HasConnection, drop_connection}
 use Rattle.fw_ledger.specs.Decode.{is_plug, is_flow_of, is_flow, is_held, is_owner, has_room, has_connection_of, can}
+use Rattle.fw_ledger.specs.Network.{is_output}
 use Rattle.fw_ledger.specs.Sound.{IsSound}
 
 pub is_plug-true : (p : PlugAt) (o : Option PlugAt) → is_plug p o ≡ true → o ≡ Some p
@@ -64,14 +65,28 @@ none_pending l c s e = λ ch. go ch (pending_channel c l.allocations) (find_to_i
     go ch None f e None at = rw at refl
     go ch None f e (Some x) at = f ch (s.bounded ch x at)
 
+all_five : (a b c d e : Bool) → (a && b && c && d && e) ≡ true → (a ≡ true) × (b ≡ true) × (c ≡ true) × (d ≡ true) × (e ≡ true)
+all_five a b c d e h = (grind arith, grind arith, grind arith, grind arith, grind arith)
+
+below_is : (n k : ℕ) → nat_lt n k ≡ true → n < k
+below_is n k e = grind (arith, nat_tests)
+
+not_is : (b : Bool) → not b ≡ true → b ≡ false
+not_is b e = grind arith
+
+then_is : (a b : Bool) → (not a || b) ≡ true → a ≡ true → b ≡ true
+then_is a b e t = grind arith
+
 pub can_is : (c : ℕ) (p : PlugAt) (m : Move) (l : Account) → IsSound l → can c p m l ≡ true → Can c p m l
-can_is c p (AllocateChannel ch) l s e = record {
-  addressed = is_plug-true p (l.addressed c) (grind arith);
-  within = grind (arith, nat_tests);
-  free = is_free-true (l.allocations ch) (grind arith);
-  no_pending = none_pending l c s (grind arith);
-  reclaims = λ t. is_flow_of-true p (l.reclaimable ch) (grind arith);
-}
+can_is c p (AllocateChannel ch) l s e =
+    let all = all_five (is_plug p (l.addressed c)) (nat_lt ch 64) (is_open l.withheld l.allocations ch) (not (has_pending c l.allocations)) (not l.reclaiming || is_flow_of p (l.reclaimable ch)) e in
+    record {
+      addressed = is_plug-true p (l.addressed c) all.0;
+      within = below_is ch 64 all.1;
+      available = all.2;
+      no_pending = none_pending l c s (not_is (has_pending c l.allocations) all.3);
+      reclaims = λ t. is_flow_of-true p (l.reclaimable ch) (then_is l.reclaiming (is_flow_of p (l.reclaimable ch)) all.4 t);
+    }
 can_is c p (AllocateUnits ch u) l s e = record {
   addressed = is_plug-true p (l.addressed c) (grind arith);
   within = grind (arith, nat_tests);
@@ -80,13 +95,16 @@ can_is c p (AllocateUnits ch u) l s e = record {
   channel = is_held-true c p 0 (l.allocations ch) (grind arith);
   reclaims = λ t. is_flow-true p u (l.reclaimable ch) (grind arith);
 }
-can_is c p (ConnectFirst kind ch overhead) l s e = record {
-  is_plug = grind arith;
-  empty = grind arith;
-  within = grind (arith, nat_tests);
-  small = grind (arith, nat_tests);
-  held = is_held-true c p (units_of (record { channel = ch; rate = (l.settings p).rate; overhead = overhead })) (l.allocations ch) (grind arith);
-}
+can_is c p (ConnectFirst kind ch overhead) l s e =
+    let u : ℕ = units_of (record { channel = ch; rate = (l.settings p).rate; overhead = overhead }) in
+    let all = all_five (is_output l.latest p) (not (has_connection (l.outputs p))) (nat_lt ch 64) (nat_lt overhead 16) (is_held c p u (l.allocations ch)) e in
+    record {
+      is_plug = all.0;
+      empty = not_is (has_connection (l.outputs p)) all.1;
+      within = below_is ch 64 all.2;
+      small = below_is overhead 16 all.3;
+      held = is_held-true c p u (l.allocations ch) all.4;
+    }
 can_is c p (ConnectOverlaid kind) l s e = record { connected = grind arith; room = has_room-true kind (l.outputs p) (grind arith) }
 can_is c p (ConnectInput kind ch) l s e = record { is_plug = grind arith; within = grind (arith, nat_tests); room = has_room-true kind (l.inputs p) (grind arith); stays = λ t. grind (arith, nat_tests) }
 can_is c p (DisconnectInput kind) l s e = record { has = has_connection_of-true c kind (l.inputs p) e }
@@ -143,7 +161,7 @@ or_else false b h = h refl
 pub can_from : (c : ℕ) (p : PlugAt) (m : Move) (l : Account) → Can c p m l → can c p m l ≡ true
 can_from c p (AllocateChannel ch) l h =
     let within = h.within in
-    let free : is_free (l.allocations ch) ≡ true = rw h.free refl in
+    let available = h.available in
     let again = either l.reclaiming (is_flow_of p (l.reclaimable ch)) (λ t. let r = h.reclaims t in is_flow_of_self p r.0 (l.reclaimable ch) r.1) in
     grind (arith, nat_tests, is_plug_self p (l.addressed c) h.addressed, no_pending_found l c h.no_pending)
 can_from c p (AllocateUnits ch u) l h =

@@ -67,7 +67,8 @@ units_stand t l c new u x charges h held sound later e = record {
   };
   latest = h.latest;
   plugs = h.plugs;
-  resources = rw e (charge_set t.left t.high t.low new t.charges.items l.allocations x.channel (PendingCharge c x.plug u)
+  withheld = h.withheld;
+  resources = rw e (charge_set l.withheld t.left t.high t.low new t.charges.items l.allocations x.channel (PendingCharge c x.plug u)
       (record { holder = Pending c x.plug; units = u }) h.sizes.charges (rw held.1 refl) refl (sym later) h.resources);
   second = record { runs = h.second.runs; reclaimable = h.second.reclaimable; continues = h.second.continues };
   outputs = h.outputs;

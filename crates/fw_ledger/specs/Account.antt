@@ -1,7 +1,7 @@
 -- The account of channels, bandwidth units and plug connections that the transactions of a log make.
 use Rattle.fw_base.specs.declared.plug.PlugAt.{PlugAt}
 use Rattle.fw_entry.specs.declared.entry.ResetEntry.{ResetEntry}
-use Rattle.std.specs.Prelude.{ℕ, ◌+◌, ◌-◌, ◌==◌, nat_lt, Bool, true, false, ◌||◌, Option, Some, None, is_some, List}
+use Rattle.std.specs.Prelude.{ℕ, ◌+◌, ◌-◌, ◌==◌, nat_lt, Bool, true, false, not, ◌&&◌, ◌||◌, Option, Some, None, is_some, List}
 use Rattle.fw_base.specs.Tables.{find_to, sum_to}
 use Rattle.fw_plug.specs.Words.{Settings}
 
@@ -48,6 +48,7 @@ pub record Request : Type 0 where
 -- Controllers and plugs are named by device.
 pub record Account : Type 0 where
   pub latest : Option ResetEntry  -- the latest reset entry
+  pub withheld : Bool  -- whether the bus withholds channel 31, so that it is never free
   pub reclaiming : Bool  -- whether a reclaim second runs
   pub allocations : ℕ → Option Allocation  -- by channel
   pub outputs : PlugAt → Connections
@@ -85,6 +86,14 @@ remainder l = 4915 - total l.allocations
 abbrev pub is_free : Option Allocation → Bool
 is_free None = true
 is_free (Some x) = false
+
+-- whether a channel is withheld; none but 31 ever is (IEEE 1394a keeps it for broadcast by default)
+abbrev pub is_withheld : Bool → ℕ → Bool
+is_withheld withheld ch = withheld && (ch == 31)
+
+-- whether a channel is open, so that it can be allocated: it is free, and not withheld
+abbrev pub is_open : Bool → (ℕ → Option Allocation) → ℕ → Bool
+is_open withheld allocations ch = is_free (allocations ch) && not (is_withheld withheld ch)
 
 -- how many point-to-point connections a plug has
 abbrev pub counter : Connections → ℕ

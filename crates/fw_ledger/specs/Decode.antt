@@ -6,7 +6,7 @@ use Rattle.std.specs.Prelude.{◌≡◌, ℕ, ◌+◌, ◌-◌, ◌==◌, nat_lt
 use Rattle.fw_base.specs.Tables.{find_to, same_plug}
 use Rattle.fw_words.specs.Quadlet.{field}
 use Rattle.fw_plug.specs.Words.{OutFields, out_fields, InFields, in_fields, units_of}
-use Rattle.fw_ledger.specs.Account.{Allocation, Owner, Of, Dead, Connections, Flow, Account, remainder, counter, has_connection, is_there, is_free, pending_channel, has_pending, is_pending_of, plug_of}
+use Rattle.fw_ledger.specs.Account.{Allocation, Owner, Of, Dead, Connections, Flow, Account, remainder, counter, has_connection, is_there, is_open, pending_channel, has_pending, is_pending_of, plug_of}
 use Rattle.fw_ledger.specs.Network.{is_output, is_input}
 use Rattle.fw_ledger.specs.Moves.{Move, AllocateChannel, AllocateUnits, ConnectFirst, ConnectOverlaid, ConnectInput, DisconnectInput, DisconnectOutput, ReleaseUnits, ReleaseChannel, Can, after, drop_connection}
 use Rattle.fw_ledger.specs.Words.{Register, BandwidthAvailable, ChannelsAvailable, OutputPlug, InputPlug, word_of}
@@ -71,7 +71,7 @@ has_connection_of c Broadcast s = is_owner c s.broadcast
 
 -- controller c may make the move at plug p, where no channel from 64 on is allocated
 abbrev pub can : ℕ → PlugAt → Move → Account → Bool
-can c p (AllocateChannel ch) l = is_plug p (l.addressed c) && nat_lt ch 64 && is_free (l.allocations ch) && not (has_pending c l.allocations) && (not l.reclaiming || is_flow_of p (l.reclaimable ch))
+can c p (AllocateChannel ch) l = is_plug p (l.addressed c) && nat_lt ch 64 && is_open l.withheld l.allocations ch && not (has_pending c l.allocations) && (not l.reclaiming || is_flow_of p (l.reclaimable ch))
 can c p (AllocateUnits ch u) l = is_plug p (l.addressed c) && nat_lt ch 64 && nat_lt 0 u && nat_le u (remainder l) && is_held c p 0 (l.allocations ch) && (not l.reclaiming || is_flow p u (l.reclaimable ch))
 can c p (ConnectFirst kind ch overhead) l = is_output l.latest p && not (has_connection (l.outputs p)) && nat_lt ch 64 && nat_lt overhead 16 && is_held c p (units_of (record { channel = ch; rate = (l.settings p).rate; overhead = overhead })) (l.allocations ch)
 can c p (ConnectOverlaid kind) l = has_connection (l.outputs p) && has_room kind (l.outputs p)

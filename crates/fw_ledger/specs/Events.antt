@@ -1,7 +1,7 @@
--- What a reset, the end of a reclaim second and a controller's death do to the account.
+-- What a reset, the end of a reclaim second, a controller's death and the withholding of channel 31 do to the account.
 use Rattle.fw_base.specs.declared.plug.PlugAt.{PlugAt}
 use Rattle.fw_entry.specs.declared.entry.ResetEntry.{ResetEntry}
-use Rattle.std.specs.Prelude.{ℕ, ◌+◌, ◌==◌, false, ◌&&◌, if◌then◌else◌, Option, Some, None, is_some}
+use Rattle.std.specs.Prelude.{ℕ, ◌+◌, ◌==◌, true, false, ◌&&◌, if◌then◌else◌, Option, Some, None, is_some}
 use Rattle.fw_base.specs.Tables.{update, find_plug}
 use Rattle.fw_ledger.specs.Account.{Holder, Pending, Connected, Orphaned, Allocation, Owner, Of, Dead, Connections, Flow, Account, talks}
 use Rattle.fw_ledger.specs.Network.{is_output, is_input, declared}
@@ -26,6 +26,7 @@ talker_at l ch = flow_of l.settings (find_plug (λ p. talks l p && ((l.settings 
 abbrev pub after_reset : ResetEntry → Account → Account
 after_reset r l = record {
   latest = Some r;
+  withheld = l.withheld;
   reclaiming = is_some l.latest;
   allocations = λ ch. None;
   outputs = λ p. no_connections;
@@ -41,6 +42,10 @@ after_reset r l = record {
 -- the reclaim second is over
 abbrev pub after_second : Account → Account
 after_second l = record l { reclaiming = false; continues = λ p. false; reclaimable = λ ch. None }
+
+-- channel 31 is withheld from now on
+abbrev pub after_withholding : Account → Account
+after_withholding l = record l { withheld = true }
 
 -- ---- controller c died
 

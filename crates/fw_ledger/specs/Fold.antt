@@ -1,18 +1,19 @@
 -- The account of a list of entries of a log.
-use Rattle.fw_entry.specs.declared.codes.event.TheConstants.{SECOND_OVER, DIED}
+use Rattle.fw_entry.specs.declared.codes.event.TheConstants.{SECOND_OVER, DIED, WITHHELD}
 use Rattle.fw_entry.specs.declared.entry.EventEntry.{EventEntry}
 use Rattle.fw_entry.specs.declared.entry.Entry.{Entry}
 use Rattle.fw_entry.specs.declared.entry.Timed.{Timed}
 use Rattle.fw_entry.specs.declared.entry.Entry.TheVariants.{Reset, Async, Iso, Event, Outcome, Shown, End}
-use Rattle.std.specs.Prelude.{◌==◌, false, if◌then◌else◌, Option, Some, None, List, [], ◌∷◌, map}
+use Rattle.std.specs.Prelude.{◌==◌, false, if◌then◌else◌, Option, Some, None, is_some, List, [], ◌∷◌, map}
 use Rattle.fw_ledger.specs.Account.{Account}
-use Rattle.fw_ledger.specs.Events.{no_connections, after_reset, after_second, after_death}
+use Rattle.fw_ledger.specs.Events.{no_connections, after_reset, after_second, after_death, after_withholding}
 use Rattle.fw_ledger.specs.Packets.{after_packet}
 
 -- the account of no entries
 abbrev pub no_account : Account
 no_account = record {
   latest = None;
+  withheld = false;
   reclaiming = false;
   allocations = λ ch. None;
   outputs = λ p. no_connections;
@@ -25,11 +26,13 @@ no_account = record {
   outstanding = λ c. None;
 }
 
--- second over, where one runs, and the death of a controller; any other event changes nothing
+-- second over, where one runs, the death of a controller, and channel 31 withheld, before the first reset; any other event
+-- changes nothing
 abbrev pub after_event : EventEntry → Account → Option Account
 after_event e l =
     if e.code == SECOND_OVER then (if l.reclaiming then Some (after_second l) else None)
     else if e.code == DIED then Some (after_death e.device l)
+    else if e.code == WITHHELD then (if is_some l.latest then None else Some (after_withholding l))
     else Some l
 
 -- the account after one entry more, where there is one

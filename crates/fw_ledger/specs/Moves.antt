@@ -4,7 +4,7 @@ use Rattle.fw_base.specs.declared.plug.ConnectionKind.{ConnectionKind}
 use Rattle.fw_base.specs.declared.plug.ConnectionKind.TheVariants.{PointToPoint, Broadcast}
 use Rattle.std.specs.Prelude.{◌≡◌, ◌<◌, ◌≤◌, ℕ, ◌+◌, ◌-◌, false, if◌then◌else◌, Option, Some, None, IsTrue, IsFalse}
 use Rattle.fw_base.specs.Tables.{update, update_plug}
-use Rattle.fw_ledger.specs.Account.{Pending, Connected, Allocation, Of, Connections, Account, remainder, counter, has_connection, is_pending, allocated}
+use Rattle.fw_ledger.specs.Account.{Pending, Connected, Allocation, Of, Connections, Account, remainder, counter, has_connection, is_pending, allocated, is_open}
 use Rattle.fw_ledger.specs.Network.{is_output, is_input}
 use Rattle.fw_plug.specs.Words.{units_of}
 
@@ -62,11 +62,11 @@ pub data Move : Type 0 where
   ReleaseUnits : (ch : ℕ) → (u : ℕ) → Move
   ReleaseChannel : (ch : ℕ) → Move
 
--- the channel is free, and c has no allocation that waits for its connection
+-- the channel is open, and c has no allocation that waits for its connection
 pub record CanAllocateChannel (c : ℕ) (p : PlugAt) (ch : ℕ) (l : Account) : Type 0 where
   pub addressed : l.addressed c ≡ Some p
   pub within : ch < 64
-  pub free : l.allocations ch ≡ None
+  pub available : IsTrue (is_open l.withheld l.allocations ch)
   pub no_pending : HasNoPending c l.allocations
   pub reclaims : IsTrue l.reclaiming → (u : ℕ) × (l.reclaimable ch ≡ Some (record { plug = p; units = u }))
 

@@ -1,10 +1,11 @@
 -- The entries that no account allows.
-use Rattle.fw_entry.specs.declared.codes.event.TheConstants.{SECOND_OVER}
+use Rattle.fw_entry.specs.declared.codes.event.TheConstants.{SECOND_OVER, WITHHELD}
 use Rattle.fw_base.specs.declared.plug.PlugAt.{PlugAt}
 use Rattle.fw_async.specs.declared.packet.Head.{Head}
 use Rattle.fw_async.specs.declared.packet.Packet.{Packet}
 use Rattle.fw_async.specs.declared.packet.Packet.TheVariants.{WriteQuadlet, WriteBlock, WriteReply, ReadQuadlet, ReadBlock, ReadQuadletReply, ReadBlockReply, CycleStart, Lock, LockReply}
 use Rattle.fw_entry.specs.declared.entry.Entry.{Entry}
+use Rattle.fw_entry.specs.declared.entry.EventEntry.{EventEntry}
 use Rattle.fw_entry.specs.declared.entry.Entry.TheVariants.{Reset, Async, Iso, Event, Outcome, Shown, End}
 use Rattle.std.specs.Prelude.{◌≡◌, ◌≢◌, ℕ, Some, None, List, length, IsFalse}
 use Rattle.fw_words.specs.Quadlet.{quadlet_at}
@@ -65,12 +66,17 @@ IsPacketRefused (CycleStart h offset time) l = ⊥
 IsPacketRefused (Lock h offset function bytes) l = IsRequestRefused h l
 IsPacketRefused (LockReply h rcode function bytes) l = IsLockRefused h rcode function bytes l
 
--- the entry has no account after it: such a packet, or a reclaim second that is over where none runs
+-- an event that ends a reclaim second where none runs, or withholds channel 31 behind a reset entry
+pub data IsEventRefused (e : EventEntry) (l : Account) : Type 0 where
+  NoSecond : e.code ≡ SECOND_OVER → IsFalse l.reclaiming → IsEventRefused e l
+  TooLate : e.code ≡ WITHHELD → l.latest ≢ None → IsEventRefused e l
+
+-- the entry has no account after it: such a packet, or such an event
 abbrev pub IsRefused : Entry → Account → Type 0
 IsRefused (Reset r) l = ⊥
 IsRefused (Async p) l = IsPacketRefused p l
 IsRefused (Iso p) l = ⊥
-IsRefused (Event e) l = (e.code ≡ SECOND_OVER) × IsFalse l.reclaiming
+IsRefused (Event e) l = IsEventRefused e l
 IsRefused (Outcome o) l = ⊥
 IsRefused (Shown s) l = ⊥
 IsRefused End l = ⊥

@@ -2,7 +2,7 @@
 use Rattle.fw_base.specs.declared.plug.PlugAt.{PlugAt}
 use Rattle.fw_base.specs.Tables.{sum_plugs}
 use Rattle.std.specs.Prelude.{◌≡◌, ◌<◌, ◌≤◌, ◌⊎◌, ℕ, true, if◌then◌else◌, Some, None, IsTrue, IsFalse}
-use Rattle.fw_ledger.specs.Account.{Pending, Connected, Allocation, Flow, Account, total, reclaimable_total, counter, has_connection, is_pending, plug_of, talks}
+use Rattle.fw_ledger.specs.Account.{Pending, Connected, Allocation, Flow, Account, total, reclaimable_total, counter, has_connection, is_pending, plug_of, talks, is_withheld}
 use Rattle.fw_entry.specs.Network.{HasRange}
 use Rattle.fw_ledger.specs.Network.{is_output, is_input}
 use Rattle.fw_plug.specs.Words.{units_of, FitsRegister}
@@ -36,6 +36,9 @@ pub record IsSound (l : Account) : Type 0 where
   pub reclaimable_load : reclaimable_total l.reclaimable ≤ 4915
   pub reclaimable_bounded : (ch : ℕ) (f : Flow) → l.reclaimable ch ≡ Some f → ch < 64
   pub reclaimable_ends : IsFalse l.reclaiming → (ch : ℕ) → l.reclaimable ch ≡ None
+  -- a channel that is withheld is not allocated, and no flow on it is reclaimable
+  pub withheld_unallocated : (ch : ℕ) → IsTrue (is_withheld l.withheld ch) → l.allocations ch ≡ None
+  pub withheld_unclaimed : (ch : ℕ) → IsTrue (is_withheld l.withheld ch) → l.reclaimable ch ≡ None
   -- before the first reset entry there is nothing
   pub begins : l.latest ≡ None → IsEmpty l
   -- A plug that is connected or goes on talking is one of the latest reset entry; one that goes on has no connection, and is

@@ -7,7 +7,7 @@ use Rattle.fw_entry.specs.Network.{first_id}
 use Rattle.std.specs.Option.{option_map}
 use Rattle.fw_words.specs.Quadlet.{quadlet_at}
 use Rattle.fw_plug.specs.Words.{Settings, out_word, in_word}
-use Rattle.fw_ledger.specs.Account.{Pending, Connected, Orphaned, Allocation, Owner, Of, Dead, Connections, Flow, Reads, Locks, Request, Account, total, is_free, is_there, counter}
+use Rattle.fw_ledger.specs.Account.{Pending, Connected, Orphaned, Allocation, Owner, Of, Dead, Connections, Flow, Reads, Locks, Request, Account, total, is_open, is_there, counter}
 use Rattle.fw_ledger.specs.Network.{is_output, is_input}
 use Rattle.fw_ledger.specs.Words.{bits_word}
 use Rattle.fw_ledger.specs.Sound.{IsSound}
@@ -131,10 +131,10 @@ pub record PlugsFor (out_counts in_counts : List ℕ) (latest : Option ResetEntr
   pub ins : (p : PlugAt) → is_input latest p ≡ nat_lt p.plug (slice_index in_counts p.device)
 
 -- the registers of the resource manager, and what is allocated
-pub record ResourcesFor (units upper lower : ℕ) (table : List Charge) (allocations : ℕ → Option Allocation) : Type 0 where
+pub record ResourcesFor (withheld : Bool) (units upper lower : ℕ) (table : List Charge) (allocations : ℕ → Option Allocation) : Type 0 where
   pub left : units ≡ 4915 - total allocations
-  pub high : upper ≡ bits_word (λ i. is_free (allocations (0 + i)))
-  pub low : lower ≡ bits_word (λ i. is_free (allocations (32 + i)))
+  pub high : upper ≡ bits_word (λ i. is_open withheld allocations (0 + i))
+  pub low : lower ≡ bits_word (λ i. is_open withheld allocations (32 + i))
   pub charges : (ch : ℕ) → ch < 64 → allocation_of (charge_at table ch) ≡ allocations ch
 
 -- What goes on and what may be allocated again counts only while a reclaim second runs.
@@ -176,7 +176,8 @@ pub record StandsFor (t : Tables) (l : Account) : Type 0 where
   pub sizes : HasSizes t
   pub latest : ShowsReset t.started t.manager t.nodes l.latest
   pub plugs : PlugsFor t.outs t.ins l.latest
-  pub resources : ResourcesFor t.left t.high t.low t.charges.items l.allocations
+  pub withheld : t.withheld ≡ l.withheld
+  pub resources : ResourcesFor l.withheld t.left t.high t.low t.charges.items l.allocations
   pub second : SecondFor t.reclaiming t.reclaimable.items t.continues.items l
   pub outputs : OutputsFor t.outputs.items t.output_seats.items l.latest l.outputs l.settings
   pub inputs : InputsFor t.inputs.items t.input_seats.items l.latest l.inputs l.input_channel

@@ -5,7 +5,7 @@ use Rattle.fw_entry.specs.declared.nodes.NodeRow.{NodeRow}
 use Rattle.std.specs.Prelude.{ℕ, ◌+◌, ◌-◌, ◌*◌, ◌/◌, ◌%◌, ◌^◌, ◌==◌, nat_le, nat_lt, Bool, false, ◌&&◌, if◌then◌else◌, Option, Some, None, length, slice_get, option_map}
 use Rattle.std.specs.Option.{option_or}
 use Rattle.fw_base.specs.Tables.{sum_to, at_plug}
-use Rattle.fw_ledger.specs.Account.{Account, is_free, is_there, counter, remainder}
+use Rattle.fw_ledger.specs.Account.{Account, is_open, is_there, counter, remainder}
 use Rattle.fw_entry.specs.Network.{first_id, row_of_id, node_of_device}
 use Rattle.fw_plug.specs.Words.{OutFields, out_word, InFields, in_word, flag}
 
@@ -27,14 +27,14 @@ fields_at l p = record { broadcast = is_there (l.outputs p).broadcast; counter =
 abbrev pub input_fields_at : Account → PlugAt → InFields
 input_fields_at l p = record { broadcast = is_there (l.inputs p).broadcast; counter = counter (l.inputs p); channel = l.input_channel p }
 
--- the word whose bit i is 1 exactly where free i (summed from the lowest bit on)
+-- the word whose bit i is 1 exactly where open_at i (summed from the lowest bit on)
 abbrev pub bits_word : (ℕ → Bool) → ℕ
-bits_word free = sum_to 32 (λ i. flag (free (31 - i)) * 2 ^ i)
+bits_word open_at = sum_to 32 (λ i. flag (open_at (31 - i)) * 2 ^ i)
 
--- CHANNELS_AVAILABLE: bit i, of the half that begins with this channel, is 1 exactly where channel base + i is free
+-- CHANNELS_AVAILABLE: bit i, of the half that begins with this channel, is 1 exactly where channel base + i is open
 -- (IEEE 1394-1995, CHANNELS_AVAILABLE)
 abbrev pub channel_word : Account → ℕ → ℕ
-channel_word l base = bits_word (λ i. is_free (l.allocations (base + i)))
+channel_word l base = bits_word (λ i. is_open l.withheld l.allocations (base + i))
 
 -- the word of a register
 abbrev pub word_of : Account → Register → ℕ

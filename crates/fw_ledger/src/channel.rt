@@ -1,7 +1,7 @@
 //! Swaps of CHANNELS_AVAILABLE.
 
 ghost use Rattle.std.specs.Prelude.{◌≡◌, ◌<◌, ◌+◌, ◌-◌, ◌^◌, ◌==◌, IfSome, Some};
-ghost use Rattle.fw_ledger.specs.Account.{Account};
+ghost use Rattle.fw_ledger.specs.Account.{Account, is_withheld};
 ghost use Rattle.fw_ledger.specs.Moves.{AllocateChannel, ReleaseChannel};
 ghost use Rattle.fw_ledger.specs.Words.{ChannelsAvailable};
 ghost use Rattle.fw_ledger.specs.Decode.{can, changed_bit, at_addressed, held_for, allowed, move_at};
@@ -12,6 +12,9 @@ use crate::held::{charge_at, holds_no_units, is_free};
 use crate::tables::{Addressed, Charge, Tables};
 use fw_base::PlugAt;
 use fw_words::Quadlet;
+
+/// The channel that a bus may withhold.
+const CHANNEL_31: u8 = 31;
 
 // The first bit that changes.
 fn changed_bit(argument: u32, new: u32) -> Option<u8>
@@ -60,6 +63,13 @@ impl Tables {
         }
     }
 
+    // The bus withholds the channel.
+    fn is_withheld(&self, channel: u8) -> bool
+        ensures { result ≡ is_withheld self.now.withheld channel }
+    {
+        self.withheld && channel == CHANNEL_31
+    }
+
     // Controller `c` may allocate the channel for the plug that it last addressed.
     fn may_allocate(&self, c: u8, p: PlugAt, channel: u8) -> bool
         requires stands { Stands self.now }
@@ -67,10 +77,11 @@ impl Tables {
         requires channel { channel < 64 }
         ensures { (l : Account) → StandsFor self.now l → l.addressed c ≡ Some p → result ≡ can c p (AllocateChannel channel) l }
     {
-        let channel = usize::from(channel);
-        is_free(charge_at(&self.charges, channel))
+        let place = usize::from(channel);
+        is_free(charge_at(&self.charges, place))
+            && !self.is_withheld(channel)
             && !self.holds(c)
-            && self.may_reclaim_channel(channel, p)
+            && self.may_reclaim_channel(place, p)
     }
 
     // Controller `c` clears the bit of a channel.

@@ -9,7 +9,7 @@ ghost use Rattle.fw_ledger.specs.Stands.{Stands, StandsFor, Follows};
 
 use crate::tables::Tables;
 use fw_async::Packet;
-use fw_entry::codes::event::{DIED, SECOND_OVER};
+use fw_entry::codes::event::{DIED, SECOND_OVER, WITHHELD};
 use fw_entry::{Entry, EventEntry};
 
 impl Tables {
@@ -20,6 +20,9 @@ impl Tables {
     {
         if e.code == SECOND_OVER {
             return self.take_second();
+        }
+        if e.code == WITHHELD {
+            return self.take_withholding();
         }
         if e.code == DIED {
             self.take_death(e.device);

@@ -1,13 +1,13 @@
-//! The end of a reclaim second, and the death of a controller.
+//! The end of a reclaim second, the death of a controller, and a channel that is withheld.
 
-ghost use Rattle.std.specs.Prelude.{◌≡◌, ◌<◌, Some, None, length, map, if◌then◌else◌};
+ghost use Rattle.std.specs.Prelude.{◌≡◌, ◌<◌, Some, None, is_some, length, map, if◌then◌else◌};
 ghost use Rattle.fw_base.specs.Tables.{update};
 ghost use Rattle.fw_ledger.specs.Account.{Account};
-ghost use Rattle.fw_ledger.specs.Events.{after_second, after_death};
+ghost use Rattle.fw_ledger.specs.Events.{after_second, after_death, after_withholding};
 ghost use Rattle.fw_ledger.specs.Stands.{Stands, StandsFor, Follows};
 ghost use Rattle.fw_ledger.specs.Deaths.{orphaned_charge, orphaned_seats};
 
-use crate::tables::{Asked, Broadcaster, Charge, Seats, Tables};
+use crate::tables::{Asked, Broadcaster, Charge, Seats, Tables, first_high};
 
 // The charge after the death of controller `c`.
 fn orphaned_charge(charge: Charge, c: u8) -> Charge
@@ -65,6 +65,19 @@ impl Tables {
             return false;
         }
         self.reclaiming = false;
+        true
+    }
+
+    /// Channel 31 is withheld from now on. It is refused behind a reset entry.
+    pub fn take_withholding(&mut self) -> bool
+        requires stands { Stands self.old }
+        ensures { (l : Account) → StandsFor self.old l → Follows result self.old self.new (if is_some l.latest then None else Some (after_withholding l)) }
+    {
+        if self.started {
+            return false;
+        }
+        self.withheld = true;
+        self.high = first_high(true);
         true
     }
 

@@ -1,8 +1,8 @@
-ghost use Rattle.std.specs.Prelude.{◌≡◌, ◌+◌, ◌-◌, ◌*◌, ◌/◌, ◌%◌, ◌^◌, ◌<◌, ℕ, IfOk, IfErr, IfSome, IsOkAnd, Some, None, if◌then◌else◌};
+ghost use Rattle.std.specs.Prelude.{◌≡◌, ◌+◌, ◌-◌, ◌*◌, ◌/◌, ◌%◌, ◌^◌, ◌<◌, ℕ, IfOk, IfErr, IfSome, IsOkAnd, Some, None, is_some, if◌then◌else◌};
 ghost use Rattle.std.specs.Option.{option_map};
 ghost use Rattle.fw_entry.specs.Log.{Fits};
 ghost use Rattle.fw_entry.specs.Network.{device_of_id};
-ghost use Rattle.fw_ledger.specs.Account.{Account, is_free};
+ghost use Rattle.fw_ledger.specs.Account.{Account, is_open};
 ghost use Rattle.fw_ledger.specs.Fold.{no_account, next_account};
 ghost use Rattle.fw_ledger.specs.Network.{is_output, is_input};
 ghost use Rattle.fw_ledger.specs.Words.{BandwidthAvailable, ChannelsAvailable, OutputPlug, InputPlug, word_of, register_of, id_in};
@@ -62,11 +62,11 @@ impl Ledger {
         self.tables.left
     }
 
-    /// The channels that are free: CHANNELS_AVAILABLE_HI in the upper 32 bits, LO in the lower. Bit 63 - c is 1 exactly where
-    /// channel c is free.
+    /// The channels that are open: CHANNELS_AVAILABLE_HI in the upper 32 bits, LO in the lower. Bit 63 - c is 1 exactly where
+    /// channel c is free and the bus does not withhold it.
     pub fn free_channels(&self) -> u64
         ensures words { (l : Account) → StandsFor self.now l → result ≡ word_of l (ChannelsAvailable 0) * 2 ^ 32 + word_of l (ChannelsAvailable 32) }
-        ensures bits { (l : Account) (ch : ℕ) → StandsFor self.now l → ch < 64 → (result / 2 ^ (63 - ch)) % 2 ≡ (if is_free (l.allocations ch) then 1 else 0) }
+        ensures bits { (l : Account) (ch : ℕ) → StandsFor self.now l → ch < 64 → (result / 2 ^ (63 - ch)) % 2 ≡ (if is_open l.withheld l.allocations ch then 1 else 0) }
     {
         (u64::from(self.tables.high) << 32) + u64::from(self.tables.low)
     }
@@ -83,6 +83,13 @@ impl Ledger {
         ensures { (l : Account) → StandsFor self.now l → result ≡ (if is_input l.latest p then Some (record { 0 = word_of l (InputPlug p) }) else None) }
     {
         Some(InWord(self.tables.in_word(p)?))
+    }
+
+    /// Whether a reset entry was taken.
+    pub fn has_reset(&self) -> bool
+        ensures { (l : Account) → StandsFor self.now l → result ≡ is_some l.latest }
+    {
+        self.tables.started
     }
 
     /// Whether a reclaim second runs.

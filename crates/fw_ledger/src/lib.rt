@@ -3,19 +3,19 @@
 //! file do nothing: their contracts are the laws.
 #![tactic(auto)]
 
-ghost use Rattle.std.specs.Prelude.{◌≡◌, ◌<◌, ◌≤◌, ◌+◌, ◌^◌, ◌++◌, ◌↔◌, [], ◌∷◌, ℕ, Bool, List, count_by, Some, None, if◌then◌else◌, IsTrue};
+ghost use Rattle.std.specs.Prelude.{◌≡◌, ◌<◌, ◌≤◌, ◌+◌, ◌^◌, ◌++◌, ◌↔◌, [], ◌∷◌, ◌||◌, ℕ, Bool, List, count_by, Some, None, if◌then◌else◌, IsTrue, IsFalse};
 ghost use Rattle.std.specs.List.{All};
 ghost use Rattle.fw_base.specs.declared.plug.PlugAt.{PlugAt};
 ghost use Rattle.fw_entry.specs.declared.entry.ResetEntry.{ResetEntry};
 ghost use Rattle.fw_entry.specs.declared.entry.Entry.{Entry};
 ghost use Rattle.fw_entry.specs.Log.{Fits};
-ghost use Rattle.fw_ledger.specs.Account.{Account, Holder};
+ghost use Rattle.fw_ledger.specs.Account.{Account, Holder, is_withheld, talks};
 ghost use Rattle.fw_entry.specs.Network.{IsNetwork};
 ghost use Rattle.fw_plug.specs.Words.{out_fields, in_fields};
 ghost use Rattle.fw_words.specs.Quadlet.{field};
 ghost use Rattle.fw_ledger.specs.Network.{is_output, is_input};
 ghost use Rattle.fw_ledger.specs.Moves.{Move, Can, after, HasNoPending};
-ghost use Rattle.fw_ledger.specs.Events.{after_reset, after_second, after_death};
+ghost use Rattle.fw_ledger.specs.Events.{after_reset, after_second, after_death, after_withholding};
 ghost use Rattle.fw_ledger.specs.Words.{Register, BandwidthAvailable, ChannelsAvailable, OutputPlug, InputPlug, word_of, word_at, fields_at, input_fields_at};
 ghost use Rattle.fw_ledger.specs.Decode.{IsMove, move_at};
 ghost use Rattle.fw_ledger.specs.Fold.{next_account, account_of};
@@ -55,6 +55,7 @@ pub fn account_stays_sound()
     ensures reset { (r : ResetEntry) (l : Account) → IsNetwork r → IsSound l → IsSound (after_reset r l) }
     ensures second { (l : Account) → IsSound l → IsSound (after_second l) }
     ensures death { (c : ℕ) (l : Account) → IsSound l → IsSound (after_death c l) }
+    ensures withholding { (l : Account) → l.latest ≡ None → IsSound l → IsSound (after_withholding l) }
     ensures entries { (l m : Account) (e : Entry) → Fits e → IsSound l → next_account l e ≡ Some m → IsSound m }
     ensures prefixes { (before later : List Entry) (m : Account) → All Fits before → account_of (before ++ later) ≡ Some m → (k : Account) × (account_of before ≡ Some k) × IsSound k }
     ensures shared { (l : Account) → IsSound l → IsConflictFree l }
@@ -68,19 +69,28 @@ pub fn moves_are_found()
 
 /// A sound account has no next one exactly after the entries that are refused: a request of no node or beside an
 /// outstanding one, a response that is to no outstanding request, a compare_swap that changes a register of the account and
-/// is no move, and the end of a reclaim second where none runs.
+/// is no move, the end of a reclaim second where none runs, and channel 31 withheld behind a reset entry.
 pub fn entries_are_refused()
     ensures { (l : Account) (e : Entry) → IsSound l → (next_account l e ≡ None) ↔ IsRefused e l }
 {}
 
 /// What the registers of a sound account say, each in 32 bits: the units that are left beside those of the list of all that
-/// is allocated, a bit that is 1 exactly for a channel that the list does not name, and the fields of the plug registers.
+/// is allocated, a bit that is 1 exactly for a channel that the list does not name and that is not withheld, and the fields of
+/// the plug registers.
 pub fn registers_tell()
     ensures below { (l : Account) (n offset word : ℕ) → IsSound l → word_at l n offset ≡ Some word → word < 2 ^ 32 }
     ensures units { (l : Account) → IsSound l → listed_units (resources l) + word_of l BandwidthAvailable ≡ 4915 }
-    ensures channels { (l : Account) (base i : ℕ) → i < 32 → base + i < 64 → field (word_of l (ChannelsAvailable base)) i i ≡ (if lists_channel (base + i) (resources l) then 0 else 1) }
+    ensures channels { (l : Account) (base i : ℕ) → i < 32 → base + i < 64 → field (word_of l (ChannelsAvailable base)) i i ≡ (if lists_channel (base + i) (resources l) || is_withheld l.withheld (base + i) then 0 else 1) }
     ensures outputs { (l : Account) (p : PlugAt) → IsSound l → IsTrue (is_output l.latest p) → out_fields (word_of l (OutputPlug p)) ≡ fields_at l p }
     ensures inputs { (l : Account) (p : PlugAt) → IsSound l → IsTrue (is_input l.latest p) → in_fields (word_of l (InputPlug p)) ≡ input_fields_at l p }
+{}
+
+/// What a bus withholds is not used there: nothing is allocated with the channel, no flow on it may be allocated again, and no
+/// output plug talks on it.
+pub fn withheld_channels_are_unused()
+    ensures allocations { (l : Account) (ch : ℕ) → IsSound l → IsTrue (is_withheld l.withheld ch) → l.allocations ch ≡ None }
+    ensures flows { (l : Account) (ch : ℕ) → IsSound l → IsTrue (is_withheld l.withheld ch) → l.reclaimable ch ≡ None }
+    ensures talkers { (l : Account) (p : PlugAt) → IsSound l → IsTrue (talks l p) → IsFalse (is_withheld l.withheld (l.settings p).channel) }
 {}
 
 /// The list of all that is allocated has each channel once, and for each kind of holder no more entries of units than of

@@ -7,7 +7,7 @@ ghost use Rattle.fw_ledger.specs.Stands.{Stands, StandsFor};
 
 use crate::counts::{disconnect, forget, free, ins_of, outs_of, renew_flows, same_nodes};
 use crate::renew::{go_on, renew_inputs, renew_outputs};
-use crate::tables::Tables;
+use crate::tables::{Tables, first_high};
 use fw_entry::ResetEntry;
 
 impl Tables {
@@ -45,7 +45,7 @@ impl Tables {
         self.manager = r.manager;
         self.nodes = same_nodes(nodes);
         self.left = 4915;
-        self.high = u32::MAX;
+        self.high = first_high(self.withheld);
         self.low = u32::MAX;
     }
 }

@@ -1,6 +1,6 @@
 //! The tables that stand for the account.
 
-ghost use Rattle.std.specs.Prelude.{◌≡◌, IfOk};
+ghost use Rattle.std.specs.Prelude.{◌≡◌, IfOk, if◌then◌else◌};
 ghost use Rattle.fw_ledger.specs.Fold.{no_account};
 ghost use Rattle.fw_ledger.specs.Stands.{StandsFor, no_seats};
 
@@ -100,6 +100,8 @@ pub struct Tables {
     pub started: bool,
     pub manager: Option<u8>,
     pub nodes: NodeList,
+    /// The bus withholds channel 31.
+    pub withheld: bool,
     pub reclaiming: bool,
     /// BANDWIDTH_AVAILABLE, and both halves of CHANNELS_AVAILABLE.
     pub left: u32,
@@ -133,6 +135,13 @@ pub fn empty() -> Seats
     }
 }
 
+/// CHANNELS_AVAILABLE_HI while nothing is allocated: the bit of channel 31, the lowest, is 0 where the bus withholds it.
+pub fn first_high(withheld: bool) -> u32
+    ensures { result ≡ (if withheld then 0xFFFF_FFFE else 0xFFFF_FFFF) }
+{
+    if withheld { 0xFFFF_FFFE } else { u32::MAX }
+}
+
 impl Tables {
     /// The tables of no entries.
     pub fn new(alloc: Global) -> Result<Tables, AllocError>
@@ -142,9 +151,10 @@ impl Tables {
             started: false,
             manager: None,
             nodes: NodeList::new(),
+            withheld: false,
             reclaiming: false,
             left: 4915,
-            high: u32::MAX,
+            high: first_high(false),
             low: u32::MAX,
             charges: vec![in alloc; Charge::Free; 64]?,
             reclaimable: vec![in alloc; Reclaimable::Nothing; 64]?,

@@ -9,12 +9,12 @@ use Rattle.fw_words.specs.Quadlet.{quadlet_at}
 use Rattle.fw_async.specs.Async.{AreBytes}
 use Rattle.fw_log.proofs.ByteLaws.{are_bytes_part, peel}
 use Rattle.std.specs.Option.{is_some}
-use Rattle.fw_entry.specs.Log.{number_of, version_of, epoch_size, head_size, epoch_bytes, epoch_after, header_bytes, entry_head, entry_bytes, body, kind_of}
+use Rattle.fw_entry.specs.Log.{number_of, version_of, head_size, epoch_bytes, epoch_after, header_bytes, entry_head, entry_bytes, body, kind_of}
 use Rattle.fw_entry.specs.declared.version.Version.{Version}
 use Rattle.fw_entry.specs.declared.version.Version.TheVariants.{One, Two}
 use Rattle.fw_entry.specs.declared.entry.Entry.{Entry}
 use Rattle.fw_entry.specs.declared.entry.Entry.TheVariants.{Reset, Async, Iso, Event, Outcome, Shown, End}
-use Rattle.fw_log.specs.Reading.{tested, header_fault, entry_fault, epoch_fault, cycle_fault, head_fault, fault_at, skip, version_in, version_at, header_at, need, entry_need, length_of, cycle_at, cycle_of, is_kind, is_length, is_epoch, has_epoch, is_written, is_own_epoch, HasEpoch, EpochFits, OtherEpoch, EntryRefused, HeadFits, IsComplete, Spells, WrongBody}
+use Rattle.fw_log.specs.Reading.{tested, header_fault, entry_fault, epoch_fault, cycle_fault, head_fault, fault_at, skip, version_in, version_at, header_at, need, entry_need, length_of, cycle_at, cycle_of, is_kind, is_length, is_epoch, has_epoch, is_written, is_own_epoch, HasEpoch, EpochFits, EntryRefused, HeadFits, IsComplete, Spells, WrongBody}
 use Rattle.fw_log.specs.Stands.{Position}
 use Rattle.fw_log.specs.Bodies.{IsBody, BodyRefused}
 use Rattle.fw_log.specs.declared.LogFault.{LogFault}

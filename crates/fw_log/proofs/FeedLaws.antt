@@ -1,7 +1,7 @@
 -- One part more of a piece.
 use Rattle.std.proofs.Common.{◌≡◌, ℕ, ◌+◌, ◌-◌, ◌*◌, ◌≤◌, List, ◌++◌, length, take, drop, nat_lt, Option, Some, None, IfNone, arith, ap, sym, ◌∙◌, if◌then◌else◌, append_assoc, take-add}
 use Rattle.std.proofs.lemmas.Bool.Decides.{nat_tests}
-use Rattle.fw_entry.specs.Log.{epoch_size, head_size}
+use Rattle.fw_entry.specs.Log.{head_size}
 use Rattle.fw_log.specs.Reading.{IsPending, head_fault, need, length_of, version_at, skip}
 use Rattle.fw_log.specs.Reader.{HoldsPending}
 use Rattle.fw_log.specs.Stands.{Position}

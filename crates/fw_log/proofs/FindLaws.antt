@@ -7,7 +7,7 @@ use Rattle.std.proofs.Math.Seq.{take-append-add}
 use Rattle.fw_words.specs.Quadlet.{quadlet_at}
 use Rattle.fw_async.specs.Async.{AreBytes}
 use Rattle.std.specs.Option.{is_some}
-use Rattle.fw_entry.specs.Log.{version_of, epoch_size, head_size, body}
+use Rattle.fw_entry.specs.Log.{version_of, head_size, body}
 use Rattle.fw_entry.specs.declared.version.Version.{Version}
 use Rattle.fw_entry.specs.declared.version.Version.TheVariants.{One, Two}
 use Rattle.fw_log.specs.Reading.{tested, fault_at, length_of, cycle_at, cycle_of, is_kind, is_length, is_epoch, epoch_fault, cycle_fault, entry_fault, header_fault, head_fault, skip, version_in, version_at, entry_need, need, IsPending, IsComplete, Spells, Faulty, WrongBody}

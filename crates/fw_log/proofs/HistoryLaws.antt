@@ -5,7 +5,7 @@ use Rattle.std.proofs.lemmas.Bool.Decides.{nat_tests}
 use Rattle.std.proofs.lemmas.List.{append-nil, append_cancel_left, take_at, drop_at, take-append-drop, take-append-le, take-take, length-take-le, nil_from_length}
 use Rattle.std.specs.Result.{result_err}
 use Rattle.fw_entry.proofs.LogLaws.{latest_append, entries_push}
-use Rattle.fw_entry.specs.Log.{Fits, header_bytes, head_size, epoch_after, latest_epoch, entry_bytes, entries_bytes, is_end, EndsAt, InOrder, HasEnd, TimedFits, LogOpens, LogSpells}
+use Rattle.fw_entry.specs.Log.{Fits, header_bytes, epoch_after, latest_epoch, entry_bytes, entries_bytes, is_end, EndsAt, InOrder, HasEnd, TimedFits, LogOpens}
 use Rattle.fw_entry.specs.declared.version.Version.{Version}
 use Rattle.fw_entry.specs.declared.version.Version.TheVariants.{One, Two}
 use Rattle.fw_log.specs.Reading.{IsPending, Spells, EpochFits, Faulty, length_of, header_fault, entry_fault, head_fault, skip, version_in, version_at, header_at, fault_at}

@@ -1,13 +1,13 @@
 -- Entries that are passed over.
-use Rattle.std.proofs.Common.{◌≡◌, ℕ, ◌+◌, ◌-◌, ◌≤◌, ◌<◌, List, [], ◌++◌, ◌==◌, inl, inr, ◌⊎◌, get_or, length, take, drop, Bool, true, false, Option, Some, None, Ok, Result}
+use Rattle.std.proofs.Common.{◌≡◌, ℕ, ◌+◌, ◌-◌, ◌≤◌, ◌<◌, List, [], ◌++◌, inl, inr, get_or, length, take, drop, Bool, true, false, Option, Some, None, Ok, Result}
 use Rattle.std.proofs.Common.{IfSome, IsSome, refl, ap, sym, subst, ◌∙◌, arith}
 use Rattle.std.specs.Option.{is_some}
 use Rattle.fw_async.specs.Async.{AreBytes}
 use Rattle.fw_async.specs.Reader.{IsPacket}
-use Rattle.fw_entry.specs.Log.{quads, event_quads, outcome_quads, shown_quads, EventFits, OutcomeFits, ShownFits, kind_of, body, epoch_after, head_size, reset_quads, is_end}
+use Rattle.fw_async.specs.Reader as Packets
+use Rattle.fw_entry.specs.Log.{quads, event_quads, outcome_quads, shown_quads, EventFits, OutcomeFits, ShownFits, kind_of, body, epoch_after, head_size, is_end}
 use Rattle.fw_words.specs.Quadlet.{quadlet_at}
 use Rattle.fw_entry.specs.declared.version.Version.{Version}
-use Rattle.fw_entry.specs.declared.version.Version.TheVariants.{One, Two}
 use Rattle.fw_entry.specs.declared.entry.Entry.{Entry}
 use Rattle.fw_entry.specs.declared.entry.Entry.TheVariants.{Reset, Async, Iso, Event, Outcome, Shown, End}
 use Rattle.fw_entry.specs.declared.entry.EventEntry.{EventEntry}
@@ -16,7 +16,7 @@ use Rattle.fw_entry.specs.declared.entry.ShownEntry.{ShownEntry}
 use Rattle.fw_entry.specs.declared.entry.Timed.{Timed}
 use Rattle.fw_log.specs.Bodies.{IsBody}
 use Rattle.fw_log.specs.Plain.{IsReset}
-use Rattle.fw_log.specs.Passing.{IsPassed, IsPlain, IsPlainEpoch, PassesFirst, CountsUp, PassesOn}
+use Rattle.fw_log.specs.Passing.{IsPassed, IsPlain, IsPlainEpoch, PassesFirst, PacketFirst, CountsUp, PassesOn, PassesPacket}
 use Rattle.fw_log.specs.Reading.{cycle_of, skip, version_at, is_own_epoch, HeadFits, HasEpoch, IsComplete, IsPending}
 use Rattle.fw_log.specs.Reader.{State, HoldsPending, EndsEntry, Ends, Joins, Feeds, after}
 use Rattle.fw_log.specs.History.{HasRead}
@@ -24,6 +24,7 @@ use Rattle.fw_log.specs.Stands.{Position}
 use Rattle.fw_log.specs.declared.LogFault.{LogFault}
 use Rattle.fw_log.specs.declared.first.Found.{Found}
 use Rattle.fw_log.specs.declared.first.Passed.{Passed}
+use Rattle.fw_log.specs.declared.first.PlainPacket.{PlainPacket}
 use Rattle.fw_log.specs.declared.read.LogFed.{LogFed}
 use Rattle.fw_log.proofs.ByteLaws.{are_bytes_part}
 use Rattle.fw_log.proofs.EntryLaws.{complete_ok, own_epoch}
@@ -98,6 +99,21 @@ passes_first v s bytes e more n cycle epoch fit ends is after w c latest plain =
       spells = complete_ok v s (take n bytes) e more (record { cycle = cycle; what = plain.entry }) (are_bytes_part bytes n 0 fit) is after w c b.own plain.is;
     }
 
+-- the packet whose entry a whole front of bytes is
+pub packet_first : (v : Version) (s : Position) (bytes e more given : List ℕ) (n cycle epoch : ℕ) → AreBytes bytes → Ends s bytes (Ok (Some n))
+    → e ≡ drop (skip s.start) (take n bytes) → more ≡ drop (head_size v) e → IsComplete v s (take n bytes)
+    → cycle ≡ cycle_of v e → epoch ≡ s.epoch → (get_or e 0 0 ≡ 2) × IsPacket more → given ≡ more
+    → PacketFirst s bytes (record { passed = record { end = n; cycle = cycle; version = v; epoch = epoch }; bytes = given })
+unfolding passes_first plain_async
+packet_first v s bytes e more given n cycle epoch fit ends is after w c latest plain same =
+    let apart : get_or e 0 0 ≡ 1 → ⊥ = λ k. let two : 1 ≡ 2 = sym k ∙ plain.0 in cc two in
+    record {
+      first = passes_first v s bytes e more n cycle epoch fit ends is after w c (inr (apart, latest)) (plain_async (get_or e 0 0) more plain.0 plain.1);
+      packet = plain.1.packet;
+      is = refl;
+      spells = let P : List ℕ → Type 0 = Packets.Spells plain.1.packet in subst P (sym same) plain.1.spells;
+    }
+
 not_end : (e : Entry) → IsPassed e → is_end e ≡ false
 not_end (Reset r) h = refl
 not_end (Async p) h = refl
@@ -145,6 +161,13 @@ ends_passed r stand taken kept piece bytes fault p is holds clear same j h =
     ends_at r.stand stand r.taken kept piece bytes p (subst P is (pending_of stand taken fault clear holds)) (ap (λ (x : State). x.stand) is)
     (same ∙ ap (λ (x : State). x.taken) is) j h
 
+-- it is the entry that the bytes at hand begin with
+pub same_entry : (r : State) (stand : Position) (taken kept piece bytes : List ℕ) (fault : Option LogFault) (p : Passed)
+    (is : record { stand = stand; taken = taken; fault = fault } ≡ r) (holds : HoldsPending stand taken fault) (clear : fault ≡ None) (same : kept ≡ taken)
+    (j : Joins kept piece bytes) (h : PassesFirst stand bytes p) → (ends_passed r stand taken kept piece bytes fault p is holds clear same j h).entry ≡ h.entry
+unfolding ends_passed ends_at
+same_entry r stand taken kept piece bytes fault p is holds clear same j h = refl
+
 -- what the reader gives where the entry is not passed over
 abbrev pub fed : ℕ → Timed → Result LogFed LogFault
 fed used t = Ok (record { used = used; entry = Some t; body = body t.what })
@@ -180,6 +203,19 @@ pub passes_on : (r new : State) (piece : List ℕ) (p : Passed) (e : EndsPassed 
     → (entries : List Timed) (bytes : List ℕ) → HasRead entries bytes r → PassesOn entries (bytes ++ take used piece) new
 passes_on r new piece p e used f entries bytes h =
     record { entry = e.entry; passed = e.passed; read = reads_on entries bytes piece r new (fed used e.entry) h f }
+
+pub passes_packet : (r new : State) (piece : List ℕ) (s : Position) (all : List ℕ) (p : PlainPacket) (x : PacketFirst s all p)
+    (e : EndsPassed r.stand r.taken piece p.passed) → e.entry ≡ x.first.entry → (used : ℕ) → Feeds r.stand r.taken piece (fed used e.entry) new
+    → (entries : List Timed) (bytes : List ℕ) → HasRead entries bytes r
+    → PassesPacket entries (bytes ++ take used piece) new (record { used = used; cycle = p.passed.cycle; bytes = p.bytes })
+unfolding passes_on
+passes_packet r new piece s all p x e same used f entries bytes h = record {
+  on = passes_on r new piece p.passed e used f entries bytes h;
+  packet = x.packet;
+  cycle = e.cycle;
+  is = ap (λ (t : Timed). t.what) same ∙ x.is;
+  spells = x.spells;
+}
 
 pub without_fault : (o : Option LogFault) (b : Bool) → b ≡ is_some o → b ≡ false → o ≡ None
 without_fault None b e h = refl

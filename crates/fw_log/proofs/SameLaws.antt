@@ -11,7 +11,7 @@ use Rattle.fw_cip.proofs.SameLaws.{same_packet as same_iso}
 use Rattle.std.specs.Option.{is_some}
 use Rattle.fw_entry.specs.declared.version.Version.{Version}
 use Rattle.fw_entry.specs.declared.version.Version.TheVariants.{One, Two}
-use Rattle.fw_entry.specs.Log.{number_of, version_of, epoch_size, head_size, epoch_after, header_bytes, entry_head, quads, event_quads, outcome_quads, shown_quads, is_event, EventFits, OutcomeFits, ShownFits, is_outcome, Fits, TimedFits, kind_of, body, entry_bytes}
+use Rattle.fw_entry.specs.Log.{number_of, version_of, head_size, epoch_after, header_bytes, entry_head, quads, event_quads, outcome_quads, shown_quads, is_event, EventFits, OutcomeFits, ShownFits, is_outcome, Fits, TimedFits, kind_of, body, entry_bytes}
 use Rattle.fw_log.specs.Bodies.{IsBody}
 use Rattle.fw_log.specs.Reading.{tested, fault_at, length_of, cycle_at, cycle_of, is_kind, is_length, is_epoch, epoch_fault, cycle_fault, entry_fault, header_fault, head_fault, skip, version_in, version_at, header_at, entry_need, need, HasEpoch, EpochFits, Spells}
 use Rattle.fw_log.specs.Stands.{Position}

@@ -5,16 +5,16 @@ use Rattle.std.specs.Option.{is_some}
 use Rattle.fw_log.specs.declared.LogWhy.TheVariants.{BadHeader}
 use Rattle.std.proofs.lemmas.Bool.{cases_lt}
 use Rattle.std.proofs.lemmas.Bool.Decides.{nat_tests}
-use Rattle.std.proofs.lemmas.List.{append-nil, take-append-drop, take_all}
+use Rattle.std.proofs.lemmas.List.{take-append-drop, take_all}
 use Rattle.fw_words.specs.Quadlet.{quadlet_at}
-use Rattle.fw_entry.specs.Log.{version_of, header_bytes, latest_epoch, epoch_after, entry_bytes, entries_bytes}
+use Rattle.fw_entry.specs.Log.{version_of, header_bytes, entries_bytes}
 use Rattle.fw_entry.specs.declared.version.Version.{Version}
 use Rattle.fw_entry.specs.declared.version.Version.TheVariants.{One, Two}
 use Rattle.fw_entry.specs.declared.entry.Timed.{Timed}
 use Rattle.fw_log.specs.declared.read.LogFed.{LogFed}
 use Rattle.fw_log.specs.declared.LogFault.{LogFault}
 use Rattle.fw_log.specs.Stands.{Position}
-use Rattle.fw_log.specs.Reading.{tested, fault_at, header_fault, head_fault, Faulty, need}
+use Rattle.fw_log.specs.Reading.{tested, fault_at, Faulty}
 use Rattle.fw_log.specs.Reader.{State, ShowsFault, Feeds, Remembers, version_read, known}
 use Rattle.fw_log.specs.History.{bytes_of, stand_after, HasRead, Names}
 use Rattle.fw_log.proofs.ByteLaws.{quadlet_at-append}

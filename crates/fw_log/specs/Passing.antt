@@ -11,7 +11,11 @@ use Rattle.fw_log.specs.Reading.{version_at, HasEpoch, Spells}
 use Rattle.fw_log.specs.Reader.{State, total}
 use Rattle.fw_log.specs.History.{HasRead}
 use Rattle.fw_log.specs.Stands.{Position}
+use Rattle.fw_async.specs.Reader as Packets
+use Rattle.fw_async.specs.declared.packet.Packet.{Packet}
 use Rattle.fw_log.specs.declared.first.Passed.{Passed}
+use Rattle.fw_log.specs.declared.first.PlainPacket.{PlainPacket}
+use Rattle.fw_log.specs.declared.read.PassedPacket.{PassedPacket}
 
 -- an entry that may be passed over: it is of no stream, and others may follow
 abbrev pub IsPassed : Entry → Type 0
@@ -54,3 +58,18 @@ pub record PassesOn (entries : List Timed) (bytes : List ℕ) (new : State) : Ty
   pub entry : Timed
   pub passed : IsPassed entry.what
   pub read : HasRead (entries ++ entry ∷ []) bytes new
+
+-- the bytes begin with the entry of an asynchronous packet, with this end, cycle and bytes
+pub record PacketFirst (s : Position) (bytes : List ℕ) (p : PlainPacket) : Type 0 where
+  pub first : PassesFirst s bytes p.passed
+  pub packet : Packet
+  pub is : first.entry.what ≡ Async packet
+  pub spells : Packets.Spells packet p.bytes
+
+-- one entry more was read, that of an asynchronous packet with this cycle and these bytes
+pub record PassesPacket (entries : List Timed) (bytes : List ℕ) (new : State) (p : PassedPacket) : Type 0 where
+  pub on : PassesOn entries bytes new
+  pub packet : Packet
+  pub cycle : on.entry.cycle ≡ p.cycle
+  pub is : on.entry.what ≡ Async packet
+  pub spells : Packets.Spells packet p.bytes

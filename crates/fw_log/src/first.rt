@@ -5,10 +5,10 @@ ghost use Rattle.fw_log.specs.Stands.{position};
 ghost use Rattle.fw_log.specs.Reading.{fault_at, is_own_epoch, IsComplete};
 ghost use Rattle.fw_entry.specs.Log.{head_size};
 ghost use Rattle.fw_log.specs.Reader.{EntryJudges, Ends, Finds, Joins};
-ghost use Rattle.fw_log.specs.Passing.{IsPlainEpoch, PassesFirst};
+ghost use Rattle.fw_log.specs.Passing.{IsPlainEpoch, PacketFirst, PassesFirst};
 
 use crate::codes::kind;
-use crate::plain::is_plain_body;
+use crate::plain::{is_plain_async, is_plain_body};
 use crate::read_body::entry_of;
 use crate::read_head::{head_fault, whole_end};
 use crate::stand::{EPOCH_AT, Stand, cycle_of, need, rest, skip, version_at};
@@ -120,7 +120,8 @@ pub(crate) fn first_entry<'a>(
 
 /// An entry that is passed over: where it ends, its cycle, the version of the log, and the epoch of the latest bus reset up to and
 /// including it.
-pub(crate) struct Passed {
+#[derive(Drop)]
+pub struct Passed {
     pub end: usize,
     pub cycle: u64,
     pub version: Version,
@@ -142,6 +143,36 @@ fn plain_epoch(version: Version, epoch: u32, e: &[u8], body: &[u8]) -> Option<u3
         Version::Two if quadlet_at(e, EPOCH_AT).0 != own => None,
         _ => Some(own),
     }
+}
+
+/// An asynchronous packet that is passed over: its entry, and its bytes.
+#[derive(Drop)]
+pub struct PlainPacket<'a> {
+    pub passed: Passed,
+    pub bytes: Data<'a>,
+}
+
+/// The asynchronous packet whose entry the bytes begin with, if that is whole and right at the first look.
+pub(crate) fn plain_packet<'a>(stand: Stand, bytes: &'a [u8]) -> Option<PlainPacket<'a>>
+    ensures { IfSome result (PacketFirst (position stand) bytes.now) }
+{
+    let end = whole_end(stand, bytes)?;
+    let whole = &bytes[..end];
+    let version = version_at(stand, whole);
+    let entry = rest(whole, skip(stand));
+    let body = rest(entry, version.head_size());
+    if !is_plain_async(entry[0], body) {
+        return None;
+    }
+    Some(PlainPacket {
+        passed: Passed {
+            end,
+            cycle: cycle_of(version, entry),
+            version,
+            epoch: stand.epoch(),
+        },
+        bytes: Data::new(body),
+    })
 }
 
 /// The entry that the bytes begin with, if it is whole and right at the first look, and may be passed over.

@@ -6,6 +6,7 @@
 ghost use Rattle.std.specs.Prelude.{ℕ, ◌≡◌, ◌*◌, ◌≤◌, IsTrue, length, true};
 ghost use Rattle.fw_log.specs.Reading.{is_kind, is_length};
 ghost use Rattle.fw_log.specs.Plain.{has_zeros, is_whole_block, is_plain_packet};
+ghost use Rattle.fw_async.specs.Reader.{IsPacket};
 ghost use Rattle.fw_log.specs.Passing.{IsPlain};
 
 use crate::codes::kind;
@@ -67,6 +68,18 @@ pub(crate) fn is_plain_packet(bytes: &[u8]) -> bool
         WRITE_QUADLET | CYCLE_START => count == 16,
         WRITE_BLOCK => is_whole_block(bytes),
         WRITE_REPLY => count == 12 && has_zeros(bytes),
+        _ => false,
+    }
+}
+
+/// Whether the body is that of an asynchronous packet of one of the usual forms.
+pub(crate) fn is_plain_async(kind: u8, body: &[u8]) -> bool
+    requires kind { is_kind kind 0 ≡ true }
+    requires size { (n : ℕ) × (length body.now ≡ 4 * n) × (is_length kind n ≡ true) }
+    ensures { IsTrue result → (kind ≡ 2) × IsPacket body.now }
+{
+    match kind {
+        kind::ASYNC => is_plain_packet(body),
         _ => false,
     }
 }

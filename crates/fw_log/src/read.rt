@@ -6,17 +6,18 @@ ghost use Rattle.std.specs.Result.{result_err};
 ghost use Rattle.fw_entry.specs.Log.{is_end, body, epoch_after, LogOpens};
 ghost use Rattle.fw_entry.specs.declared.version.Version.{Version as AVersion};
 ghost use Rattle.fw_entry.specs.declared.version.Version.TheVariants.{One};
+ghost use Rattle.fw_async.specs.Reader.{IsPacket};
 ghost use Rattle.fw_log.specs.Stands.{position};
 ghost use Rattle.fw_log.specs.Reading.{IsPending};
 ghost use Rattle.fw_log.specs.Reader.{State, total, with_bytes, version_read, known, Keeps, Remembers, FindsIn};
 ghost use Rattle.fw_log.specs.Reader.{EndsEntry, EndsNothing, ShowsFault, Feeds, Counts, body_given, finish_of};
 ghost use Rattle.fw_log.specs.History.{stand_after, HasRead, ReadsOn, Names, GivesNext, Finishes};
-ghost use Rattle.fw_log.specs.Passing.{CountsUp, PassesOn};
+ghost use Rattle.fw_log.specs.Passing.{CountsUp, PassesOn, PassesPacket};
 ghost use Rattle.fw_log.specs.declared.LogFault.{LogFault};
 ghost use Rattle.fw_entry.specs.declared.entry.Timed.{Timed};
 
 use crate::codes::kind;
-use crate::first::{Found, Passed, at_hand, first_entry, plain_entry};
+use crate::first::{Found, Passed, PlainPacket, at_hand, first_entry, plain_entry, plain_packet};
 use crate::stand::{Stand, skip};
 use crate::{Entry, LogFault, LogWhy, Room, Timed, Version, epoch_after};
 use fw_words::{Bytes, Data, quadlet_at};
@@ -33,6 +34,17 @@ pub struct LogFed<'a> {
     pub entry: Option<Timed<'a>>,
     /// The bytes of that entry's body; empty where none ended.
     pub body: Data<'a>,
+}
+
+/// An asynchronous packet that was passed over.
+#[derive(Debug, Drop)]
+pub struct PassedPacket<'a> {
+    /// How many bytes of the piece were taken.
+    pub used: usize,
+    /// The cycle of its entry.
+    pub cycle: u64,
+    /// Its bytes.
+    pub bytes: Data<'a>,
 }
 
 // Where a reader stands behind an entry that ends at this place and is not the end.
@@ -249,12 +261,11 @@ impl LogReader {
         self.known()
     }
 
-    // Whether what comes next is an isochronous packet. It is not passed over, so that what was kept of it is not put before
-    // the piece twice.
-    fn meets_iso(&self, piece: &[u8]) -> bool {
+    // Whether what comes next is of this kind, behind the header: what is kept of it is not put before the piece in vain.
+    fn meets(&self, piece: &[u8], kind: u8) -> bool {
         let taken = self.taken.as_slice();
         let bytes = if taken.is_empty() { piece } else { taken };
-        bytes.first() == Some(&kind::ISO)
+        bytes.first() == Some(&kind)
     }
 
     /// Takes bytes up to the end of one entry, as `feed` does, and answers how many, where the entry is right at the first look
@@ -268,7 +279,7 @@ impl LogReader {
         ensures history { (entries : List Timed) → (bytes : List ℕ) → HasRead entries bytes self.old
             → IfSome result (λ n. PassesOn entries (bytes ++ take n piece.now) self.new) }
     {
-        if self.fault.is_some() || self.meets_iso(piece) {
+        if self.fault.is_some() || self.meets(piece, kind::ISO) {
             return None;
         }
         let bytes = at_hand(self.taken.as_slice(), piece, &mut room.bytes);
@@ -282,6 +293,38 @@ impl LogReader {
         self.stand = going_on(self.stand.start() + end as u64, cycle, version, epoch);
         self.taken.clear();
         Some(used)
+    }
+
+    /// As `pass`, of an asynchronous packet: its bytes are given, and no packet is made of them.
+    pub fn pass_packet<'a>(
+        &mut self,
+        piece: &'a [u8],
+        room: &'a mut Room,
+    ) -> Option<PassedPacket<'a>>
+        requires { self.old.fault ≡ None → total self.old + length piece.now < 2 ^ 64 }
+        ensures kept { IfNone result (self.new ≡ self.old) }
+        ensures fresh { IfSome result (λ p. self.new.fault ≡ None) }
+        ensures counts { IfSome result (λ p. CountsUp self.old piece.now self.new p.used) }
+        ensures packet { IfSome result (λ p. IsPacket p.bytes) }
+        ensures history { (entries : List Timed) → (bytes : List ℕ) → HasRead entries bytes self.old
+            → IfSome result (λ p. PassesPacket entries (bytes ++ take p.used piece.now) self.new p) }
+    {
+        if self.fault.is_some() || !self.meets(piece, kind::ASYNC) {
+            return None;
+        }
+        let bytes = at_hand(self.taken.as_slice(), piece, &mut room.bytes);
+        let PlainPacket { passed, bytes } = plain_packet(self.stand, bytes)?;
+        let Passed {
+            end,
+            cycle,
+            version,
+            epoch,
+        } = passed;
+        let used = end - self.taken.as_slice().len();
+        let past = self.stand.start() + end as u64;
+        self.stand = going_on(past, cycle, version, epoch);
+        self.taken.clear();
+        Some(PassedPacket { used, cycle, bytes })
     }
 
     // The fault that the input's end is, where it is one.

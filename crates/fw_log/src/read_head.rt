@@ -169,6 +169,7 @@ fn after_end(place: u64, bytes: &[u8]) -> Option<LogFault>
 
 /// Where the entry ends that the bytes begin with, behind others, where all of it is there and the parts before its body are
 /// right.
+#[inline(always)]
 pub(crate) fn whole_end(stand: Stand, bytes: &[u8]) -> Option<usize>
     ensures { IfSome result (λ n. Ends (position stand) bytes.now (Ok (Some n))) }
 {

@@ -16,6 +16,8 @@ use Rattle.fw_node.specs.Space.{Space}
 pub record NodeState : Type 0 where
   pub kind : DeviceKind
   pub device : ℕ
+  -- whether the bus withholds channel 31
+  pub withheld : Bool
   -- the node's number since the latest bus reset; none came yet where there is none
   pub number : Option ℕ
   pub plugs : PlugWords
@@ -30,11 +32,20 @@ pub record NodeState : Type 0 where
 abbrev pub first_unit : DeviceKind → Option UnitState
 first_unit kind = if has_unit kind then Some (Units.first_state (output_plugs_of kind) (input_plugs_of kind)) else None
 
-abbrev pub first_state : DeviceKind → ℕ → ℕ → NodeState
-first_state kind device rate = record { kind = kind; device = device; number = None; plugs = first_words (output_plugs_of kind) (input_plugs_of kind) rate; manager = None; unit = first_unit kind; waiting = None }
+abbrev pub first_state : DeviceKind → ℕ → ℕ → Bool → NodeState
+first_state kind device rate withheld = record {
+  kind = kind;
+  device = device;
+  withheld = withheld;
+  number = None;
+  plugs = first_words (output_plugs_of kind) (input_plugs_of kind) rate;
+  manager = None;
+  unit = first_unit kind;
+  waiting = None;
+}
 
 abbrev pub after_reset : ℕ → Bool → NodeState → NodeState
-after_reset number manager n = record n { number = Some number; plugs = reset_words n.plugs; manager = if manager then Some initial_words else None; unit = option_map Units.after_reset n.unit; waiting = None }
+after_reset number manager n = record n { number = Some number; plugs = reset_words n.plugs; manager = if manager then Some (initial_words n.withheld) else None; unit = option_map Units.after_reset n.unit; waiting = None }
 
 -- the second after a bus reset is over
 abbrev pub after_second : NodeState → NodeState

@@ -28,6 +28,8 @@ use std::marker::Model;
 pub struct Node {
     kind: DeviceKind,
     device: u8,
+    /// Whether the bus withholds channel 31.
+    withhold: bool,
     pub(crate) number: Option<u8>,
     plugs: Plugs,
     manager: Option<Manager>,
@@ -45,20 +47,21 @@ impl Model for Node {
 
     ghost Value = { NodeState };
 
-    ghost view = { λ n. record { kind = n.kind; device = n.device; number = n.number; plugs = n.plugs; manager = n.manager; unit = n.unit; waiting = n.waiting } };
+    ghost view = { λ n. record { kind = n.kind; device = n.device; withheld = n.withhold; number = n.number; plugs = n.plugs; manager = n.manager; unit = n.unit; waiting = n.waiting } };
 
     ghost invariant = { λ n. ForSome n.number (λ number. number ≤ 62) × (length n.plugs.outputs ≡ output_plugs_of n.kind) × (length n.plugs.inputs ≡ input_plugs_of n.kind) × (is_some n.unit ≡ has_unit n.kind) × ForSome n.waiting (λ told. Fits told.1) };
 }
 
 impl Node {
     /// Device `device`, 0 to 62 in order of declaration, of the kind with this code (`DeviceKind::code`), at data rate 0,
-    /// 1 or 2 for 100, 200 or 400 Mbit/s. It is no node of a bus until a bus reset.
-    pub fn new(kind: u8, device: u8, rate: u8) -> Node
+    /// 1 or 2 for 100, 200 or 400 Mbit/s, on a bus that withholds channel 31 where `withhold` is true. It is no node of a
+    /// bus until a bus reset.
+    pub fn new(kind: u8, device: u8, rate: u8, withhold: bool) -> Node
         requires kind { kind ≤ 3 }
         requires device { device ≤ 62 }
         requires rate { rate ≤ 2 }
         ensures kind { code_of result.kind ≡ kind }
-        ensures state { result ≡ first_state result.kind device rate }
+        ensures state { result ≡ first_state result.kind device rate withhold }
     {
         let kind = match DeviceKind::from_code(kind) {
             Some(kind) => kind,
@@ -67,6 +70,7 @@ impl Node {
         Node {
             kind,
             device,
+            withhold,
             number: None,
             plugs: Plugs::new(kind.output_plugs(), kind.input_plugs(), rate),
             manager: None,
@@ -76,14 +80,18 @@ impl Node {
     }
 
     /// A bus reset, at which the node gets its number, and where `manager` is true becomes the isochronous resource
-    /// manager with registers at their initial values.
+    /// manager with registers at their initial values; channel 31 is not free then where the bus withholds it.
     pub fn reset(&mut self, number: u8, manager: bool)
         requires { number ≤ 62 }
         ensures { self.new ≡ after_reset number manager self.old }
     {
         self.number = Some(number);
         self.plugs.reset();
-        self.manager = if manager { Some(Manager::new()) } else { None };
+        self.manager = if manager {
+            Some(Manager::new(self.withhold))
+        } else {
+            None
+        };
         self.waiting.clear();
         if let Some(unit) = &mut self.unit {
             unit.reset();

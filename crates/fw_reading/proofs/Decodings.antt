@@ -1,11 +1,11 @@
 -- What was read of a log, by the ending.
-use Rattle.std.proofs.Common.{◌≡◌, ◌⊎◌, inl, inr, ℕ, ◌+◌, ◌-◌, ◌≤◌, ◌<◌, List, [], ◌∷◌, ◌++◌, length, take, drop}
+use Rattle.std.proofs.Common.{◌≡◌, inl, inr, ℕ, ◌+◌, ◌-◌, ◌≤◌, ◌<◌, List, [], ◌++◌, length, take, drop}
 use Rattle.std.proofs.Common.{Option, Some, None, Ok, Err, arith, refl, ap, sym, subst, ◌∙◌, append_assoc, length-append}
 use Rattle.std.proofs.lemmas.List.{append-nil, take-append-drop, take-take, length-take-le, length-drop}
-use Rattle.fw_outside.specs.Outside.{Takes, Grows, IsAtEnd, AppendsFront}
+use Rattle.fw_outside.specs.Outside.{Takes, Grows, IsAtEnd}
 use Rattle.fw_outside.specs.Stops.{ReadCount}
 use Rattle.fw_outside.specs.declared.stop.Stop.TheVariants.{ReadFault, WriteFault, TooLong, NoMemory}
-use Rattle.fw_outside.proofs.Parts.{Takes-Takes, Takes-nothing, Grows-Grows, Grows-nothing, then_front}
+use Rattle.fw_outside.proofs.Parts.{Takes-Takes, Takes-nothing, Grows-Grows, then_front}
 use Rattle.fw_entry.specs.Log.{header_bytes, entries_bytes}
 use Rattle.fw_entry.specs.declared.version.Version.TheVariants.{One}
 use Rattle.fw_entry.specs.declared.entry.Timed.{Timed}
@@ -15,11 +15,11 @@ use Rattle.fw_log.specs.History.{bytes_of, stand_after, HasRead, IsLog, Finishes
 use Rattle.fw_log.specs.Stands.{Position}
 use Rattle.fw_log.specs.declared.LogFault.{LogFault}
 use Rattle.fw_reading.specs.Readings.{Form, Rules, IsEach, written}
-use Rattle.fw_reading.specs.Endings.{opened, limit, piece_size, stop_of, Begins, IsRead, Decoded, Faulted, Rejected, RefusedWhole, PassedLimit, Interrupted, PartRead, PartClosed, Reads}
+use Rattle.fw_reading.specs.Endings.{opened, limit, piece_size, stop_of, IsRead, Decoded, Faulted, Rejected, RefusedWhole, PassedLimit, Interrupted, PartRead, PartClosed, Reads}
 use Rattle.fw_reading.specs.declared.ending.LogEnding.{LogEnding}
 use Rattle.fw_reading.specs.declared.ending.LogEnding.TheVariants.{Done, NoLog, Refused, Stopped}
 use Rattle.fw_reading.specs.Pieces.{PrintsMore, PrintsTo, PrintsLast, PrintsFront, StopsAt, DecodedTo, ClosesLog, ClosesPart, EndsLog}
-use Rattle.fw_reading.proofs.Texts.{nothing_grew, grows_due, front_due, opened_is, none_before, some_behind, front_of_none, front_of_all}
+use Rattle.fw_reading.proofs.Texts.{nothing_grew, grows_due, front_due, opened_is, none_before, front_of_none, front_of_all}
 use Rattle.fw_reading.proofs.Printings.{begins_of}
 
 -- how many bytes a reader has taken

@@ -1,6 +1,6 @@
 -- The entries of a piece are taken, and their text is gathered.
-use Rattle.std.proofs.Common.{◌≡◌, ℕ, ◌+◌, ◌-◌, ◌/◌, ◌^◌, ◌≤◌, ◌<◌, List, [], ◌∷◌, ◌++◌, length, take, drop}
-use Rattle.std.proofs.Common.{Option, Some, None, Ok, Err, IfNone, arith, refl, ap, sym, subst, ◌∙◌, append_assoc, length-append, take-add}
+use Rattle.std.proofs.Common.{◌≡◌, ℕ, ◌+◌, ◌-◌, ◌^◌, ◌<◌, List, [], ◌∷◌, ◌++◌, length, take, drop}
+use Rattle.std.proofs.Common.{Option, Some, None, Ok, Err, IfNone, IfSome, arith, refl, ap, sym, subst, ◌∙◌, append_assoc, length-append, take-add}
 use Rattle.std.proofs.lemmas.List.{append-nil, take_at, drop_at, take_all, take-append-drop, nil_from_length, length-drop}
 use Rattle.fw_entry.specs.Log.{Fits, body}
 use Rattle.fw_entry.specs.declared.entry.Timed.{Timed}
@@ -12,7 +12,6 @@ use Rattle.fw_log.specs.declared.read.LogFed.{LogFed}
 use Rattle.fw_log.specs.declared.LogFault.{LogFault}
 use Rattle.fw_log.proofs.HistoryLaws.{dead}
 use Rattle.fw_reading.specs.Readings.{Text, Rules, IsEach, TakesEntry, Passes}
-use Rattle.fw_reading.specs.Endings.{Begins}
 use Rattle.fw_reading.specs.Pieces.{Gathers, GathersUpTo, GathersToLast, GatheredTo}
 use Rattle.fw_reading.proofs.Texts.{few_by}
 
@@ -233,13 +232,27 @@ gathered_rest {text} e {Took} {old} {now} {entries} {bytes} {piece} {rest} {r} n
     gathered_all (gathered_none e new fed p f h is) (omega (arith, all, length-drop fed.used rest))
 
 -- an entry that was passed over
-pub gathered_passed : {text : Text} (e : IsEach text) {Took : List Timed → Type 0} {old now : List ℕ} {entries : List Timed}
+pub gathered_passed : {text : Text} (e : IsEach text) {Took Took' : List Timed → Type 0} {old now now' : List ℕ} {entries : List Timed}
     {bytes piece rest : List ℕ} {r : State} (new : State) (used : ℕ) (p : GatheredTo text Took old now entries bytes piece rest r)
-    → Passes text Took (entries ++ p.gathers.more) ((bytes ++ p.done) ++ take used rest) new → GatheredTo text Took old now entries bytes piece (drop used rest) new
-gathered_passed {text} e {Took} {old} {now} {entries} {bytes} {piece} {rest} new used p h =
+    → Passes text Took' now now' (entries ++ p.gathers.more) ((bytes ++ p.done) ++ take used rest) new → GatheredTo text Took' old now' entries bytes piece (drop used rest) new
+gathered_passed {text} e {Took} {Took'} {old} {now} {now'} {entries} {bytes} {piece} {rest} new used p h =
     let P : List Timed → Type 0 = λ es. HasRead es ((bytes ++ p.done) ++ take used rest) new in
     let line = append_assoc entries p.gathers.more (h.entry ∷ []) in
-    next e new used (h.entry ∷ []) p (subst P line h.read) (subst Took line h.took) (sym (append-nil now) ∙ ap (λ (x : List ℕ). now ++ x) (sym h.silent))
+    next e new used (h.entry ∷ []) p (subst P line h.read) (subst Took' line h.took) h.gathered
+
+-- ---- what a pass answers
+
+pub when_none : {A B : Type 0} (o : Option A) → o ≡ None → IfNone o B → B
+when_none None e h = h
+when_none (Some v) e h = cc e
+
+pub when_some : {A : Type 0} (o : Option A) (v : A) (P : A → Type 0) → o ≡ Some v → IfSome o P → P v
+when_some None v P e h = cc e
+when_some (Some u) v P e h = let same : u ≡ v = cc e in subst P same h
+
+-- one fact by two equations
+pub by_both : {A B : Type 0} (P : A → B → Type 0) {x y : A} {u v : B} → x ≡ y → u ≡ v → P y v → P x u
+by_both P {x} {y} {u} {v} a b h = subst (λ z. P z u) (sym a) (subst (P y) (sym b) h)
 
 -- ---- what was made of an entry
 

@@ -16,8 +16,8 @@ use Rattle.fw_reading.specs.Readings.{Text, Form, Rules, IsEach}
 use Rattle.fw_reading.specs.Endings.{Begins, Refuses, opened, stop_of}
 use Rattle.fw_reading.specs.declared.ending.LogEnding.{LogEnding}
 use Rattle.fw_reading.specs.declared.ending.LogEnding.TheVariants.{Done, NoLog, Refused, Stopped}
-use Rattle.fw_reading.specs.Pieces.{TakesPiece, Gathers, GathersUpTo, GathersToLast, Prints, PrintsUpTo, PrintsToLast, PrintsPart, Stops, PrintsPiece, opening, PrintsMore, PrintsTo, PrintsLast, PrintsFront, StopsAt, PrintsBytes}
-use Rattle.fw_reading.proofs.Texts.{front_of_none, some_behind}
+use Rattle.fw_reading.specs.Pieces.{TakesPiece, Gathers, GathersUpTo, GathersToLast, Prints, PrintsUpTo, PrintsToLast, PrintsPart, Stops, PrintsPiece, opening, PrintsTo, PrintsFront, StopsAt, PrintsBytes}
+use Rattle.fw_reading.proofs.Texts.{front_of_none}
 
 abbrev pub begins_of : {entries : List Timed} {bytes : List ℕ} {r : State} → HasRead entries bytes r → Begins entries r.taken bytes
 begins_of h = record { version = h.version; order = h.order; same = h.same }

@@ -8,7 +8,7 @@ use Rattle.fw_entry.specs.Log.{header_bytes, epoch_after, entry_bytes, entries_b
 use Rattle.fw_entry.specs.declared.version.Version.{Version}
 use Rattle.fw_entry.specs.declared.entry.Timed.{Timed}
 use Rattle.fw_log.specs.History.{bytes_of}
-use Rattle.fw_reading.specs.Readings.{Text, Form, IsEach}
+use Rattle.fw_reading.specs.Readings.{Text, IsEach}
 use Rattle.fw_reading.specs.Endings.{opened}
 use Rattle.fw_reading.specs.Pieces.{opening}
 

@@ -1,11 +1,11 @@
 -- What was read, with the refusal as one of more words.
-use Rattle.std.proofs.Common.{◌≡◌, ◌⊎◌, inl, inr, ℕ, List, Option, refl, sym, subst}
+use Rattle.std.proofs.Common.{◌≡◌, inl, inr, ℕ, List, Option, refl, sym, subst}
 use Rattle.fw_outside.specs.Stops.{ReadCount, WriteCount}
 use Rattle.fw_outside.specs.declared.stop.Stop.{Stop}
 use Rattle.fw_outside.specs.declared.stop.Stop.TheVariants.{ReadFault, WriteFault, TooLong, NoMemory}
 use Rattle.fw_entry.specs.declared.entry.Timed.{Timed}
 use Rattle.fw_reading.specs.Readings.{Form, Rules}
-use Rattle.fw_reading.specs.Endings.{Decoded, Faulted, Rejected, RefusedWhole, PassedLimit, Interrupted, PartRead, PartClosed, Reads, stop_of, IsNoRefusal, IsComplete}
+use Rattle.fw_reading.specs.Endings.{Reads, stop_of, IsNoRefusal, IsComplete}
 use Rattle.fw_reading.specs.Widening.{ending_as, Covers}
 use Rattle.fw_reading.specs.declared.ending.LogEnding.{LogEnding}
 use Rattle.fw_reading.specs.declared.ending.LogEnding.TheVariants.{Done, NoLog, Refused, Stopped}

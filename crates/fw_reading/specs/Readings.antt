@@ -42,12 +42,12 @@ abbrev pub TakesEntry : {R : Type 0} → Text → (List Timed → R → Type 0) 
 TakesEntry text rejects Took old new entries entry None = Took (entries ++ entry ∷ []) × (new ≡ old ++ text entries (entry ∷ []))
 TakesEntry text rejects Took old new entries entry (Some refusal) = rejects (entries ++ entry ∷ []) refusal × (new ≡ old)
 
--- one entry more was read and taken, and it has no text
-pub record Passes (text : Text) (Took : List Timed → Type 0) (entries : List Timed) (bytes : List ℕ) (reader : State) : Type 0 where
+-- one entry more was read and taken, and its text was gathered
+pub record Passes (text : Text) (Took : List Timed → Type 0) (old new : List ℕ) (entries : List Timed) (bytes : List ℕ) (reader : State) : Type 0 where
   pub entry : Timed
   pub read : HasRead (entries ++ entry ∷ []) bytes reader
   pub took : Took (entries ++ entry ∷ [])
-  pub silent : text entries (entry ∷ []) ≡ []
+  pub gathered : new ≡ old ++ text entries (entry ∷ [])
 
 -- what is made of the end of a log
 abbrev pub Closes : {R : Type 0} → Rules R → List Timed → Closing R → Type 0

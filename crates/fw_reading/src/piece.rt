@@ -30,7 +30,7 @@ fn take_entries<O: Reading>(
 {
     let mut rest = piece;
     while !rest.is_empty() {
-        if let Some(used) = output.pass(reader, room, rest) {
+        if let Some(used) = output.pass(reader, room, rest)? {
             rest = &rest[used..];
             continue;
         }

@@ -46,17 +46,23 @@ pub trait Reading: Drop {
         ensures took { (entries : List TimedEntry) → length entries + 1 < 2 ^ 64 → took self.old entries
             → IfOk result (TakesEntry (form self.old).text rules.rejects (took self.new) (gathered self.old) (gathered self.new) entries entry.now) };
 
-    /// Takes the entry that ends in a piece and of which nothing is made, and answers how many bytes of the piece it took. Where
-    /// it takes none, the entry is to be read.
-    fn pass(&self, reader: &mut LogReader, room: &mut Room, piece: &[u8]) -> Option<usize>
+    /// Takes the entry that ends in a piece from its bytes, where no value need be made of it, and answers how many bytes of the
+    /// piece it took. Where it takes none, the entry is to be read. An error says that memory ran out.
+    fn pass(
+        &mut self,
+        reader: &mut LogReader,
+        room: &mut Room,
+        piece: &[u8],
+    ) -> Result<Option<usize>, AllocError>
         requires { total reader.old + length piece.now < 2 ^ 64 }
-        ensures kept { IfNone result (reader.new ≡ reader.old) }
-        ensures fresh { IfSome result (λ n. reader.new.fault ≡ None) }
-        ensures counts { IfSome result (CountsUp reader.old piece.now reader.new) }
-        ensures history { (entries : List TimedEntry) → (bytes : List ℕ) → HasRead entries bytes reader.old → took self.now entries
-            → IfSome result (λ n. Passes (form self.now).text (took self.now) entries (bytes ++ take n piece.now) reader.new) }
+        ensures same { form self.new ≡ form self.old }
+        ensures kept { IfOk result (λ used. IfNone used ((reader.new ≡ reader.old) × (self.new ≡ self.old))) }
+        ensures fresh { IfOk result (λ used. IfSome used (λ n. reader.new.fault ≡ None)) }
+        ensures counts { IfOk result (λ used. IfSome used (CountsUp reader.old piece.now reader.new)) }
+        ensures history { (entries : List TimedEntry) → (bytes : List ℕ) → HasRead entries bytes reader.old → took self.old entries
+            → IfOk result (λ used. IfSome used (λ n. Passes (form self.old).text (took self.new) (gathered self.old) (gathered self.new) entries (bytes ++ take n piece.now) reader.new)) }
     {
-        None
+        Ok(None)
     }
 
     /// The text that was gathered.

@@ -29,7 +29,7 @@ use Rattle.fw_step.specs.Together.{Becomes}
 use Rattle.fw_reclaim.specs.Due.{due_to, held_in, due_in, slot_due, IsAtSlot}
 use Rattle.fw_reclaim.specs.Restores.{Restores, Carries, Unchanged, Moved, MatchesFor, CourseFor, CurrentMatches, CurrentCourse}
 use Rattle.fw_reclaim.specs.Seats.{Side, Output, Input, Fits, connections_at, orphaned_of, AreSeated}
-use Rattle.fw_reclaim.specs.Worlds.{World, CanReclaim, SendsRequest, SendsNothing, TakesTurn, HearsAnswer, IsReset, Dies, Change, Turn, Answer, BusReset, SecondOver, Death, NewConnection, BreakOf, Elsewhere, Happens}
+use Rattle.fw_reclaim.specs.Worlds.{World, CanReclaim, SendsRequest, SendsNothing, TakesTurn, HearsAnswer, IsReset, Dies, Change, Turn, Answer, BusReset, SecondOver, Death, NewConnection, BreakOf, Withholding, Elsewhere, Happens}
 use Rattle.fw_reclaim.proofs.Due.{resting, due_less, due_resting}
 use Rattle.fw_reclaim.proofs.DueHeard.{working_heard}
 use Rattle.fw_reclaim.proofs.DueResets.{due_reset}
@@ -205,6 +205,7 @@ inside w v SecondOver h t each runs = absurd (grind (arith, ap (λ (a : Account)
 inside w v (Death c) h t each runs = death_fits w v c h t
 inside w v (NewConnection c i slot) h t each runs = less_fits w v h (same_orphans w.account v.account t.account) (one_less w v c (started (Ok i) slot (w.controllers c)) t.becomes (λ side kind q. new_less (w.controllers c) i slot side kind q (facts_in w c h).slots (takes_free (w.controllers c) i t.starts).0 (facts_in w c h).at_slot (takes_free (w.controllers c) i t.starts).1 (making_is slot t.making) (h.each c).matches))
 inside w v (BreakOf c i) h t each runs = less_fits w v h (same_orphans w.account v.account t.account) (one_less w v c (break_started (w.controllers c) i) t.becomes (λ side kind q. break_same (w.controllers c) i side kind q))
+inside w v Withholding h t each runs = absurd (let none = (h.step.sound.begins t.first).no_second in grind (arith, ap (λ (a : Account). a.reclaiming) t.account, runs, none))
 inside w v Elsewhere h t each runs = subst (λ y. Fits y.account (due_in y.controllers)) (sym t) h.fits
 
 pub fits_after : (w v : World) (x : Change) → CanReclaim w → Happens w x v → IsSound v.account → AreSeated v.account (held_in v.controllers) → ((e : ℕ) → Restores v.account (v.controllers e)) → Fits v.account (due_in v.controllers)

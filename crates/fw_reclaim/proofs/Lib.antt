@@ -36,3 +36,6 @@ pub mod Wholes
 pub mod Makings
 pub mod Making
 pub mod Complete
+pub mod AvoidsHeard
+pub mod AvoidsTurns
+pub mod Avoiding

@@ -8,7 +8,7 @@ use Rattle.std.proofs.lemmas.Bool.Decides.{nat_tests}
 use Rattle.fw_csr.specs.declared.reply.Reply.{Reply}
 use Rattle.fw_entry.specs.declared.entry.ResetEntry.{ResetEntry}
 use Rattle.fw_ledger.specs.Account.{Account}
-use Rattle.fw_ledger.specs.Events.{after_reset as account_reset, after_second as account_second, after_death}
+use Rattle.fw_ledger.specs.Events.{after_reset as account_reset, after_second as account_second, after_death, after_withholding}
 use Rattle.fw_ledger.specs.Network.{is_output, is_input}
 use Rattle.fw_ledger.specs.Packets.{ended}
 use Rattle.fw_ledger.specs.Sound.{IsSound}
@@ -32,7 +32,7 @@ use Rattle.fw_step.specs.Together.{Becomes}
 use Rattle.fw_reclaim.specs.Due.{held_in, due_in, IsAtSlot}
 use Rattle.fw_reclaim.specs.Restores.{KeepsFlow, IsRestorable, LeavesPlugs, Restores, Carries, CurrentMatches, CurrentCourse}
 use Rattle.fw_reclaim.specs.Seats.{Side, Output, Input, AreSeated, number_of, most}
-use Rattle.fw_reclaim.specs.Worlds.{World, CanReclaim, SendsRequest, SendsNothing, TakesTurn, HearsAnswer, IsReset, EndsSecond, Dies, AsksNew, AsksBreak, Change, Turn, Answer, BusReset, SecondOver, Death, NewConnection, BreakOf, Elsewhere, Happens}
+use Rattle.fw_reclaim.specs.Worlds.{World, CanReclaim, SendsRequest, SendsNothing, TakesTurn, HearsAnswer, IsReset, EndsSecond, Withholds, Dies, AsksNew, AsksBreak, Change, Turn, Answer, BusReset, SecondOver, Death, NewConnection, BreakOf, Withholding, Elsewhere, Happens}
 use Rattle.fw_reclaim.proofs.AfterReset.{restores_reset}
 use Rattle.fw_reclaim.proofs.Courses.{MayGoOn}
 use Rattle.fw_reclaim.proofs.Events.{restores_second, restores_started, restores_first, restores_break}
@@ -95,6 +95,9 @@ ended_agrees l m c e = subst (λ y. Agrees l y) (sym e) (record { settings = λ 
 
 death_agrees : (l : Account) (c : ℕ) → Agrees l (after_death c l)
 death_agrees l c = record { settings = λ q. refl; channels = λ q. refl; latest = refl; reclaiming = refl; reclaimable = λ ch. refl }
+
+withholding_agrees : (l : Account) → Agrees l (after_withholding l)
+withholding_agrees l = record { settings = λ q. refl; channels = λ q. refl; latest = refl; reclaiming = refl; reclaimable = λ ch. refl }
 
 -- ---- one controller changes
 
@@ -199,6 +202,11 @@ second_keeps w v h t e = subst (λ a. Restores a (v.controllers e)) (sym t.accou
 death_keeps : (w v : World) (c : ℕ) → CanReclaim w → Dies w c v → (e : ℕ) → Restores v.account (v.controllers e)
 death_keeps w v c h t = one_changes w v c first_state t.becomes (restores_first v.account) (λ e ne. subst (λ a. Restores a (w.controllers e)) (sym t.account) (agreed w.account (after_death c w.account) (w.controllers e) (death_agrees w.account c) (h.each e)))
 
+withholding_keeps : (w v : World) → CanReclaim w → Withholds w v → (e : ℕ) → Restores v.account (v.controllers e)
+withholding_keeps w v h t e =
+    subst (λ a. Restores a (v.controllers e)) (sym t.account)
+    (subst (Restores (after_withholding w.account)) (sym (t.each e)) (agreed w.account (after_withholding w.account) (w.controllers e) (withholding_agrees w.account) (h.each e)))
+
 new_keeps : (w v : World) (c i : ℕ) (slot : Slot) → CanReclaim w → AsksNew w c i slot v → (e : ℕ) → Restores v.account (v.controllers e)
 new_keeps w v c i slot h t = one_changes w v c (started (Ok i) slot (w.controllers c)) t.becomes (agreed w.account v.account (started (Ok i) slot (w.controllers c)) agrees (restores_started w.account (w.controllers c) i slot (facts_in w c h).slots (takes_free (w.controllers c) i t.starts).0 (takes_free (w.controllers c) i t.starts).1 (making_is slot t.making) (h.each c))) (λ e ne. agreed w.account v.account (w.controllers e) agrees (h.each e))
   where
@@ -219,4 +227,5 @@ restores_after w v SecondOver h t sound = second_keeps w v h t
 restores_after w v (Death c) h t sound = death_keeps w v c h t
 restores_after w v (NewConnection c i slot) h t sound = new_keeps w v c i slot h t
 restores_after w v (BreakOf c i) h t sound = break_keeps w v c i h t
+restores_after w v Withholding h t sound = withholding_keeps w v h t
 restores_after w v Elsewhere h t sound = λ e. subst (λ y. Restores y.account (y.controllers e)) (sym t) (h.each e)

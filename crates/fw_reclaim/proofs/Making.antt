@@ -24,7 +24,7 @@ use Rattle.fw_cmp.specs.Starts.{started, break_started, break_fault, with_task}
 use Rattle.fw_cmp.specs.Turns.{current_for, takes_task, takes_waiting, takes_next, to_restore, waiting_break, is_empty, resumed, after_asking, after_answer, after_next}
 use Rattle.fw_step.specs.Together.{Becomes}
 use Rattle.fw_reclaim.specs.Makings.{MakesFor, CurrentMakes}
-use Rattle.fw_reclaim.specs.Worlds.{World, CanReclaim, Change, Turn, Answer, BusReset, SecondOver, Death, NewConnection, BreakOf, Elsewhere, Happens}
+use Rattle.fw_reclaim.specs.Worlds.{World, CanReclaim, Change, Turn, Answer, BusReset, SecondOver, Death, NewConnection, BreakOf, Withholding, Elsewhere, Happens}
 use Rattle.fw_reclaim.proofs.AfterReset.{interrupted_for, decided_current}
 use Rattle.fw_reclaim.proofs.Living.{facts_in}
 use Rattle.fw_reclaim.proofs.Makings.{making_heard, making_resumed}
@@ -150,4 +150,5 @@ makes_after w v SecondOver h t = λ e. subst (λ y. CurrentMakes y.current) (sym
 makes_after w v (Death c) h t = one_makes w v c first_state t.becomes tt h.makes
 makes_after w v (NewConnection c i slot) h t = one_makes w v c (started (Ok i) slot (w.controllers c)) t.becomes (h.makes c) h.makes
 makes_after w v (BreakOf c i) h t = one_makes w v c (break_started (w.controllers c) i) t.becomes (break_makes (w.controllers c) i (h.makes c)) h.makes
+makes_after w v Withholding h t = λ e. subst (λ y. CurrentMakes y.current) (sym (t.each e)) (h.makes e)
 makes_after w v Elsewhere h t = λ e. subst (λ y. CurrentMakes (y.controllers e).current) (sym t) (h.makes e)

@@ -19,7 +19,7 @@ use Rattle.fw_cmp.specs.Turns.{after_next}
 use Rattle.fw_step.specs.Together.{Becomes}
 use Rattle.fw_reclaim.specs.Restores.{Restores}
 use Rattle.fw_reclaim.specs.Whole.{IsComplete, Stands, IsUnbroken, HasFinished, IsHarmless, AreHarmless, Reclaims, is_unheard}
-use Rattle.fw_reclaim.specs.Worlds.{World, CanReclaim, IsReset, Change, Turn, Answer, BusReset, SecondOver, Death, NewConnection, BreakOf, Elsewhere, Happens, Path}
+use Rattle.fw_reclaim.specs.Worlds.{World, CanReclaim, IsReset, Change, Turn, Answer, BusReset, SecondOver, Death, NewConnection, BreakOf, Withholding, Elsewhere, Happens, Path}
 use Rattle.fw_reclaim.proofs.AfterReset.{begun_in_second}
 use Rattle.fw_reclaim.proofs.Given.{takes_free}
 use Rattle.fw_reclaim.proofs.Living.{turn_agrees, ended_agrees, answer_leaves, carried, facts_in, turn_meets}
@@ -61,6 +61,7 @@ runs_on w v SecondOver c i h t ok runs = absurd ok
 runs_on w v (Death d) c i h t ok runs = ap (λ (a : Account). a.reclaiming) t.account ∙ runs
 runs_on w v (NewConnection d k slot) c i h t ok runs = ap (λ (a : Account). a.reclaiming) t.account ∙ runs
 runs_on w v (BreakOf d k) c i h t ok runs = ap (λ (a : Account). a.reclaiming) t.account ∙ runs
+runs_on w v Withholding c i h t ok runs = ap (λ (a : Account). a.reclaiming) t.account ∙ runs
 runs_on w v Elsewhere c i h t ok runs = ap (λ (y : World). y.account.reclaiming) t ∙ runs
 
 -- the controller that changes, or another
@@ -83,6 +84,7 @@ safe_after w v (BreakOf d k) c i conn f h runs t ok safe = changed w v d c i (br
     go : (d ≢ c) ⊎ (k ≢ i) → d ≡ c → IsSafe (w.controllers d) i conn f → IsSafe (break_started (w.controllers d) k) i conn f
     go (inl other) e s = absurd (other e)
     go (inr ne) e s = safe_break (w.controllers d) k i conn f ne s
+safe_after w v Withholding c i conn f h runs t ok safe = subst (λ z. IsSafe z i conn f) (sym (t.each c)) safe
 safe_after w v Elsewhere c i conn f h runs t ok safe = subst (λ y. IsSafe (y.controllers c) i conn f) (sym t) safe
 
 -- ---- up to the end of the second

@@ -12,12 +12,12 @@ use Rattle.fw_cmp.specs.Resets.{after_hear}
 use Rattle.fw_cmp.specs.Starts.{started, break_started}
 use Rattle.fw_cmp.specs.Turns.{after_next}
 use Rattle.std.specs.Prelude.{Ok}
-use Rattle.fw_step.specs.Together.{AreInStep, Happens as StepHappens, asks, rests, hears, given, resets, second, dies, connection, break}
+use Rattle.fw_step.specs.Together.{AreInStep, Happens as StepHappens, asks, rests, hears, given, resets, second, dies, withholds, connection, break}
 use Rattle.fw_step.proofs.Together.{stay_in_step, first_step}
 use Rattle.fw_reclaim.specs.Due.{held_in, due_in}
 use Rattle.fw_reclaim.specs.Restores.{Restores}
 use Rattle.fw_reclaim.specs.Seats.{Side, Output, Input, AreSeated, most, orphaned_of, connections_at}
-use Rattle.fw_reclaim.specs.Worlds.{World, CanReclaim, IsUnused, SendsRequest, SendsNothing, TakesTurn, Change, Turn, Answer, BusReset, SecondOver, Death, NewConnection, BreakOf, Elsewhere, Happens}
+use Rattle.fw_reclaim.specs.Worlds.{World, CanReclaim, IsUnused, SendsRequest, SendsNothing, TakesTurn, Change, Turn, Answer, BusReset, SecondOver, Death, NewConnection, BreakOf, Withholding, Elsewhere, Happens}
 use Rattle.fw_reclaim.proofs.Events.{restores_first}
 use Rattle.fw_reclaim.proofs.Facts.{facts}
 use Rattle.fw_reclaim.proofs.Fitting.{fits_after}
@@ -39,6 +39,7 @@ happens w v SecondOver t = inl (second t.account t.each t.directory)
 happens w v (Death c) t = inl (dies c t.account t.becomes t.directory)
 happens w v (NewConnection c i slot) t = inl (given c (started (Ok i) slot (w.controllers c)) (connection i slot t.starts t.making t.fits refl) t.account t.becomes t.directory)
 happens w v (BreakOf c i) t = inl (given c (break_started (w.controllers c) i) (break i t.accepted refl) t.account t.becomes t.directory)
+happens w v Withholding t = inl (withholds t.first t.account t.each t.directory)
 happens w v Elsewhere t = inr t
 
 -- all controllers stay in step
@@ -58,6 +59,7 @@ unused_after w v SecondOver h t = λ e far. subst (λ x. IsUnused x) (sym (t.eac
 unused_after w v (Death c) h t = beyond_after w.controllers v.controllers c first_state t.device t.becomes h.beyond
 unused_after w v (NewConnection c i slot) h t = beyond_after w.controllers v.controllers c (started (Ok i) slot (w.controllers c)) t.device t.becomes h.beyond
 unused_after w v (BreakOf c i) h t = beyond_after w.controllers v.controllers c (break_started (w.controllers c) i) t.device t.becomes h.beyond
+unused_after w v Withholding h t = λ e far. subst (λ x. IsUnused x) (sym (t.each e)) (h.beyond e far)
 unused_after w v Elsewhere h t = λ e far. subst (λ y. IsUnused (y.controllers e)) (sym t) (h.beyond e far)
 
 -- each change leaves all that reclaiming rests on

@@ -5,3 +5,4 @@ pub mod Makings
 pub mod Worlds
 pub mod Whole
 pub mod Rooms
+pub mod Avoids

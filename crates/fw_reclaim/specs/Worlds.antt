@@ -4,7 +4,7 @@ use Rattle.fw_base.specs.declared.plug.PlugAt.{PlugAt}
 use Rattle.fw_csr.specs.declared.reply.Reply.{Reply}
 use Rattle.fw_entry.specs.declared.entry.ResetEntry.{ResetEntry}
 use Rattle.fw_ledger.specs.Account.{Account, Request}
-use Rattle.fw_ledger.specs.Events.{after_reset as account_reset, after_second as account_second, after_death}
+use Rattle.fw_ledger.specs.Events.{after_reset as account_reset, after_second as account_second, after_death, after_withholding}
 use Rattle.fw_entry.specs.Network.{IsNetwork}
 use Rattle.fw_ledger.specs.Network.{is_output, is_input}
 use Rattle.fw_ledger.specs.Packets.{asked, ended}
@@ -127,6 +127,14 @@ pub record Dies (w : World) (c : ℕ) (v : World) : Type 0 where
   pub becomes : Becomes w.controllers c first_state v.controllers
   pub directory : v.directory ≡ w.directory
 
+-- channel 31 is withheld, before the first bus reset: no controller has done anything yet
+pub record Withholds (w : World) (v : World) : Type 0 where
+  pub first : w.account.latest ≡ None
+  pub unused : (c : ℕ) → w.controllers c ≡ first_state
+  pub account : v.account ≡ after_withholding w.account
+  pub each : (c : ℕ) → v.controllers c ≡ w.controllers c
+  pub directory : v.directory ≡ w.directory
+
 -- a new connection is asked for: it takes the lowest free slot
 pub record AsksNew (w : World) (c i : ℕ) (slot : Slot) (v : World) : Type 0 where
   pub device : c < 63
@@ -153,6 +161,7 @@ pub data Change : Type 0 where
   Death : (c : ℕ) → Change
   NewConnection : (c i : ℕ) → (slot : Slot) → Change
   BreakOf : (c i : ℕ) → Change
+  Withholding : Change
   Elsewhere : Change  -- nothing of this changes
 
 abbrev pub Happens : World → Change → World → Type 0
@@ -163,6 +172,7 @@ Happens w SecondOver v = EndsSecond w v
 Happens w (Death c) v = Dies w c v
 Happens w (NewConnection c i slot) v = AsksNew w c i slot v
 Happens w (BreakOf c i) v = AsksBreak w c i v
+Happens w Withholding v = Withholds w v
 Happens w Elsewhere v = v ≡ w
 
 -- changes one after another

@@ -1,4 +1,4 @@
-ghost use Rattle.std.specs.Prelude.{◌≡◌, Bool, Some, true, List, ℕ};
+ghost use Rattle.std.specs.Prelude.{◌≡◌, Bool, Some, true, List, ℕ, IsTrue};
 ghost use Rattle.fw_csr.specs.declared.reply.Reply.{Reply};
 ghost use Rattle.fw_entry.specs.declared.entry.ResetEntry.{ResetEntry};
 ghost use Rattle.fw_ledger.specs.Account.{Account};
@@ -13,6 +13,7 @@ ghost use Rattle.fw_cmp.specs.Requests.{target_of};
 ghost use Rattle.fw_cmp.specs.Stages.{hear_reply};
 ghost use Rattle.fw_step.specs.Registers.{IsAnswer};
 ghost use Rattle.fw_step.specs.Together.{IsWhole as IsThere};
+ghost use Rattle.fw_reclaim.specs.Avoids.{AvoidsWithheld, AsksElsewhere};
 ghost use Rattle.fw_reclaim.specs.Restores.{IsOnCourse};
 ghost use Rattle.fw_reclaim.specs.Rooms.{IsRestoring, HasRoomForAll, AreOnOneChannel};
 ghost use Rattle.fw_reclaim.specs.Whole.{IsWhole, IsUnbroken, Reclaims, EndsRestored};
@@ -54,4 +55,13 @@ pub fn connections_come_back()
 /// each of its plugs, and they are set to its channel, its overhead_ID and its units.
 pub fn whole_connections_are_there()
     ensures { (w : World) (c i : ℕ) (conn : Connection) (f : Flow) → CanReclaim w → IsUnbroken (w.controllers c) i → IsWhole w c i conn f → IsThere w.account c conn f }
+{}
+
+/// No controller has a connection on a channel that the bus withholds, or a job that makes one there, and no input plug is
+/// connected on it: that is so before the first device, and each change leaves it so, where nobody asks to listen on such a
+/// channel. (A first broadcast-in connection is on channel 63.) What a bus withholds it withholds from then on.
+pub fn withheld_channels_are_avoided()
+    ensures first { (d : Directory) → AvoidsWithheld (record { account = no_account; controllers = λ c. first_state; directory = d }) }
+    ensures changes { (w v : World) (x : Change) → CanReclaim w → AsksElsewhere w x → Happens w x v → AvoidsWithheld w → AvoidsWithheld v }
+    ensures stays { (w v : World) (x : Change) → CanReclaim w → Happens w x v → IsTrue w.account.withheld → IsTrue v.account.withheld }
 {}

@@ -7,5 +7,5 @@ mod laws;
 
 pub use laws::{
     connections_come_back, plugs_have_room, reclaiming_goes_on, restorings_stay_on_course,
-    restorings_succeed, whole_connections_are_there,
+    restorings_succeed, whole_connections_are_there, withheld_channels_are_avoided,
 };

@@ -1,16 +1,17 @@
 -- The account tells who holds the channel that a slot waits for.
-use Rattle.std.proofs.Common.{◌≡◌, ℕ, ◌+◌, ◌-◌, ◌<◌, true, false, Option, Some, None, eqb, refl, ap, sym, subst, ◌∙◌, arith, ◌||◌, not}
+use Rattle.std.proofs.Common.{◌≡◌, ℕ, ◌+◌, ◌-◌, ◌<◌, true, false, Bool, Option, Some, None, eqb, refl, ap, sym, subst, ◌∙◌, arith, ◌&&◌, ◌||◌, not, true≢false}
 use Rattle.std.proofs.lemmas.Bool.Decides.{nat_tests}
 use Rattle.std.specs.Option.{option_map}
 use Rattle.fw_base.specs.declared.plug.PlugAt.{PlugAt}
 use Rattle.fw_plug.specs.Words.{OutFields, is_connected}
 use Rattle.fw_plug.proofs.Words.{fields_of_word}
-use Rattle.fw_ledger.specs.Account.{Account, Allocation, Holder, Pending, Connected, Orphaned, is_free, is_pending, has_connection, counter, is_there}
+use Rattle.fw_ledger.specs.Account.{Account, Allocation, Holder, Pending, Connected, Orphaned, Flow, is_free, is_withheld, is_pending, has_connection, counter, is_there}
 use Rattle.fw_ledger.specs.Network.{is_output}
 use Rattle.fw_ledger.specs.Sound.{IsSound}
-use Rattle.fw_ledger.specs.Words.{fields_at, channel_word, word_of}
+use Rattle.fw_ledger.specs.Words.{fields_at, word_of}
 use Rattle.fw_ledger.specs.Words as word
-use Rattle.fw_ledger.proofs.Words.{free_bit}
+use Rattle.fw_ledger.proofs.Open.{not_claimed}
+use Rattle.fw_step.proofs.Registers.{open_shown}
 use Rattle.fw_cmp.specs.declared.connection.Connection.{Connection}
 use Rattle.fw_cmp.specs.declared.connection.Connection.TheVariants.{PlugToPlug, BroadcastOut, BroadcastIn}
 use Rattle.fw_cmp.specs.declared.connection.Slot.{Slot}
@@ -22,7 +23,6 @@ use Rattle.fw_cmp.specs.declared.request.Target.TheVariants.{OutputPlug}
 use Rattle.fw_cmp.specs.Connections.{output_of, is_listen}
 use Rattle.fw_cmp.specs.Controllers.{ControllerState}
 use Rattle.fw_cmp.specs.Holdings.{pending_of, pending_at, is_current_slot}
-use Rattle.fw_cmp.specs.Plugs.{half_of}
 use Rattle.fw_step.specs.Controllers.{CurrentInStep, SlotInStep, IsToRestore}
 use Rattle.fw_step.specs.Holding.{HasReserved}
 use Rattle.fw_step.specs.InStep.{reservation}
@@ -42,13 +42,16 @@ unconnected l p s there e =
     let w : (is_there (l.outputs p).broadcast || not (eqb (counter (l.outputs p)) 0)) ≡ false = sym (connected_word l p s there) ∙ e in
     grind (arith, nat_tests)
 
--- a channel that its register shows as taken is allocated
-taken : (l : Account) (ch : ℕ) → ch < 64 → is_channel_free (words_of l) ch ≡ false → is_free (l.allocations ch) ≡ false
-taken l ch lt e =
-    let half = free_bit (λ i. is_free (l.allocations (half_of ch + i))) (ch - half_of ch) (grind (arith, nat_tests)) in
-    let at : half_of ch + (ch - half_of ch) ≡ ch = grind (arith, nat_tests) in
-    let bit : is_free (l.allocations (half_of ch + (ch - half_of ch))) ≡ false = grind (arith, nat_tests, half) in
-    rw at at bit
+-- a channel that its register shows as taken, and that a flow may have again, is allocated: it is not withheld
+taken : (l : Account) (ch : ℕ) (f : Flow) → IsSound l → l.reclaimable ch ≡ Some f → is_channel_free (words_of l) ch ≡ false → is_free (l.allocations ch) ≡ false
+taken l ch f s listed e =
+    let shown = open_shown l ch (s.reclaimable_bounded ch f listed) in
+    closed (is_free (l.allocations ch)) (is_withheld l.withheld ch) (not_claimed l ch f s listed) (sym shown ∙ e)
+  where
+    closed : (free withheld : Bool) → withheld ≡ false → (free && not withheld) ≡ false → free ≡ false
+    closed true true w e = absurd (true≢false w)
+    closed true false w e = e
+    closed false withheld w e = refl
 
 allocation_of : (o : Option Allocation) → is_free o ≡ false → (x : Allocation) × (o ≡ Some x)
 allocation_of None e = absurd (grind arith)
@@ -119,5 +122,5 @@ holder_of l s k a lt w = go (output_is w.connection waits.0)
     go o =
         let listed = (place.listed o.0 o.1 refl).1 in
         let open_plug : is_connected (word_of l (word.OutputPlug o.0)) ≡ false = subst (λ (x : Option PlugAt). is_connected (shown (words_of l) (option_map OutputPlug x)) ≡ false) o.1 waits.1 in
-        let x = allocation_of (l.allocations w.flow.channel) (taken l w.flow.channel (a.sound.reclaimable_bounded _ _ listed) waits.2) in
+        let x = allocation_of (l.allocations w.flow.channel) (taken l w.flow.channel _ a.sound listed waits.2) in
         holder_at l s o.0 w.flow.channel w.flow.units x.0.units x.0.holder a listed (unconnected l o.0 a.sound (place.found o.0 o.1) open_plug) x.1

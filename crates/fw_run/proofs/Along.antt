@@ -11,13 +11,13 @@ use Rattle.fw_ledger.specs.Events.{after_second as account_second}
 use Rattle.fw_ledger.specs.Fold.{account_from, next_account, entries_of}
 use Rattle.fw_run.specs.declared.order.Transaction.{Transaction}
 use Rattle.fw_run.specs.Giving.{at_most, at_cycle}
-use Rattle.fw_run.specs.Entries.{second_over, died, started, inserted, ejected, unsettled, lost}
+use Rattle.fw_run.specs.Entries.{second_over, died, started, inserted, ejected, unsettled, lost, withheld}
 use Rattle.fw_entry.specs.declared.entry.Entry.TheVariants.{End as EndEntry}
 use Rattle.fw_run.specs.State.{State, Declared, is_on, with_device, is_living}
 use Rattle.fw_run.specs.Frames.{command_write, response_write}
 use Rattle.fw_run.specs.Spaces.{answer_packet, target_node, transaction_head, access_request}
 use Rattle.fw_run.specs.Streams.{bytes_of, cycle_start, stream_packet}
-use Rattle.fw_run.specs.Actions.{Action, AddDevice, AddCable, ResetBus, StartConnection, StartBreak, HalfStep, Rest, Unsettled, Pass, EndSecond, Die, CarryOut, Lose, TellLoss, Start, Ask, Answer, ShowWord, SendCommand, SendFrame, Receive, InsertTape, EjectTape, StartCycle, SendPacket, Finish, Answers, Declares, Joins, with_topology, Step, Steps, counting, counted}
+use Rattle.fw_run.specs.Actions.{Action, Withhold, AddDevice, AddCable, ResetBus, StartConnection, StartBreak, HalfStep, Rest, Unsettled, Pass, EndSecond, Die, CarryOut, Lose, TellLoss, Start, Ask, Answer, ShowWord, SendCommand, SendFrame, Receive, InsertTape, EjectTape, StartCycle, SendPacket, Finish, Answers, Declares, Joins, with_topology, Step, Steps, counting, counted}
 use Rattle.fw_run.specs.Good.{IsGood}
 use Rattle.fw_run.specs.Headline.{IsAnswered, IsReadIn}
 use Rattle.fw_run.proofs.Leads.{NextIs, entered_next}
@@ -26,6 +26,7 @@ use Rattle.fw_run.proofs.Steps.{step_good}
 use Rattle.fw_run.proofs.FrameWrites.{write_led, received_led}
 use Rattle.fw_run.proofs.Transactions.{ask_led, answer_led, show_led, read_pair}
 use Rattle.fw_run.proofs.Taking.{Taken, listens, keeps_deaf, forces_reset, taken_as}
+use Rattle.fw_run.proofs.Withholds.{none_before, withheld_next}
 
 -- ---- devices and cables
 
@@ -60,6 +61,7 @@ taken_led s d out t g lives (keeps_deaf deaf said is) = still s _ out t said is 
 taken_led s d out t g lives (forces_reset deaf r) = reset_led s s.declared s.resets (s.half_steps + 1) d out t r
 
 pub step_led : (s t : State) (a : Action) (out : List Timed) → IsGood s → Step s a out t → Led s out t
+step_led s t Withhold out g x = event s _ withheld out t x.1.2 x.1.3 (entered_next s.account _ withheld (withheld_next s.account (none_before s g x.1.0))) ((tt, tt), λ u. tt) (omega arith)
 step_led s t (AddDevice name kind ports speed) out g x = declare_led s s.declared.names (with_device s.declared name kind ports speed) out t x.1.4
 step_led s t (AddCable a b) out g x = join_led (is_on s a.device) (is_on s b.device) a.device b.device s x.1.0 out t x.1.2
 step_led s t (ResetBus d) out g x = reset_led s s.declared (s.resets + 1) s.half_steps d out t x.1.1.1
@@ -99,6 +101,7 @@ clash o x some none = let wrong : Some x ≡ None = sym some ∙ none in cc wron
 -- no other action comes while a transaction waits
 only_answer : (t : State) (x : Transaction) (a : Action) (out : List Timed) (v : State) → t.transaction ≡ Some x → Step t a out v → Answers t out v
 only_answer t x Answer out v waits f = f
+only_answer t x Withhold out v waits f = absurd (clash t.transaction x waits f.0)
 only_answer t x (AddDevice name kind ports speed) out v waits f = absurd (clash t.transaction x waits f.0)
 only_answer t x (AddCable a b) out v waits f = absurd (clash t.transaction x waits f.0)
 only_answer t x (ResetBus d) out v waits f = absurd (clash t.transaction x waits f.0)

@@ -15,13 +15,15 @@ use Rattle.fw_cmp.specs.Fits.{SlotFits}
 use Rattle.fw_cmp.specs.Resets.{after_hear}
 use Rattle.fw_cmp.specs.Starts.{started as given, break_fault, break_started}
 use Rattle.fw_cmp.specs.Turns.{after_next}
-use Rattle.fw_reclaim.specs.Worlds.{World, Change, Turn, Answer as Answered, BusReset, SecondOver, Death, NewConnection, BreakOf, Elsewhere, TakesTurn, HearsAnswer, IsReset, Path}
+use Rattle.fw_reclaim.specs.Worlds.{World, Change, Turn, Answer as Answered, BusReset, SecondOver, Death, NewConnection, BreakOf, Withholding, Elsewhere, TakesTurn, HearsAnswer, IsReset, Path}
 use Rattle.fw_reclaim.specs.Worlds as Worlds
+use Rattle.fw_reclaim.specs.Avoids.{AsksElsewhere}
 use Rattle.fw_reclaim.specs.Whole as Whole
 use Rattle.fw_run.specs.declared.order.Wanted.{Wanted}
-use Rattle.fw_run.specs.State.{State, Declared, list_to, linked_number, manager_in, is_on, is_linked, is_living, directory_of, with_device, is_deaf}
+use Rattle.fw_run.specs.Entries.{withheld}
+use Rattle.fw_run.specs.State.{State, Declared, entered, list_to, linked_number, manager_in, is_on, is_linked, is_living, directory_of, with_device, is_deaf}
 use Rattle.fw_run.specs.HalfSteps.{asks, taken, half_of, after_half, with_controller}
-use Rattle.fw_run.specs.Actions.{Action, AddDevice, AddCable, ResetBus, StartConnection, StartBreak, HalfStep, Rest, Unsettled, Pass, EndSecond, Die, CarryOut, Lose, TellLoss, Start, Ask, Answer, ShowWord, SendCommand, SendFrame, Receive, InsertTape, EjectTape, StartCycle, SendPacket, Finish, Resets, Declares, Joins, with_topology, slot_of, start_of, with_connection, after_cycles, after_second, after_death, after_start, counted, Step, Steps, counting, beginning, after_loss}
+use Rattle.fw_run.specs.Actions.{Action, Withhold, AddDevice, AddCable, ResetBus, StartConnection, StartBreak, HalfStep, Rest, Unsettled, Pass, EndSecond, Die, CarryOut, Lose, TellLoss, Start, Ask, Answer, ShowWord, SendCommand, SendFrame, Receive, InsertTape, EjectTape, StartCycle, SendPacket, Finish, Resets, Declares, Joins, with_topology, slot_of, start_of, with_connection, after_cycles, after_second, after_death, after_start, counted, Step, Steps, counting, beginning, after_loss}
 use Rattle.fw_run.specs.Good.{IsGood, world_of}
 use Rattle.fw_run.specs.Reclaiming.{IsHarmless, AreHarmless}
 use Rattle.fw_run.proofs.Buses.{linked_small, shows_bus}
@@ -36,6 +38,7 @@ use Rattle.fw_run.proofs.Resets.{MayReset, declaring, reset_change}
 use Rattle.fw_run.proofs.Steps.{step_good}
 use Rattle.fw_run.proofs.Times.{second_ends}
 use Rattle.fw_run.proofs.Turns.{Turns, sends, rests, turns, with_account, becomes, living_linked}
+use Rattle.fw_run.proofs.Withholds.{none_before, withholding_is, withholds_is, slot_avoids}
 use Rattle.fw_run.proofs.Taking.{Taken, listens, keeps_deaf, forces_reset, taken_as}
 
 -- what controllers are told where this is the latest reset entry
@@ -93,9 +96,10 @@ pub record IsChange (s : State) (a : Action) (t : State) : Type 0 where
   pub change : Change
   pub happens : Worlds.Happens (world_of s) change (world_of t)
   pub harmless : (d i : ℕ) → IsHarmless d i a → Whole.IsHarmless d i change
+  pub avoids : AsksElsewhere (world_of s) change
 
 elsewhere : (s : State) (a : Action) (t : State) → world_of t ≡ world_of s → IsChange s a t
-elsewhere s a t same = record { change = Elsewhere; happens = same; harmless = λ d i h. tt }
+elsewhere s a t same = record { change = Elsewhere; happens = same; harmless = λ d i h. tt; avoids = tt }
 
 pub half_change : (s : State) (d : ℕ) (a : Action) → IsGood s → IsTrue (is_living s d) → IsChange s a (after_half s d)
 half_change s d a g lives = go (s.controllers d).current refl
@@ -106,6 +110,7 @@ half_change s d a g lives = go (s.controllers d).current refl
       happens = subst (λ x. TakesTurn (world_of s) d s.clock.cycle (world_of (taken s d (half_of s d x)))) (sym e)
           (subst (λ y. TakesTurn (world_of s) d s.clock.cycle (world_of (taken s d y))) (sym is) (turn_change s d g (linked_of s d g (living_linked s d lives)) (subst IsHeard (sym e) heard)));
       harmless = λ e i h. tt;
+      avoids = tt;
     }
 
     go : (c : Current) → (s.controllers d).current ≡ c → IsChange s a (after_half s d)
@@ -116,6 +121,7 @@ half_change s d a g lives = go (s.controllers d).current refl
       change = Answered d (reply_heard s d j stage x);
       happens = answer_change s d j stage g e x (half_hears s d j stage g e x);
       harmless = λ e i h. tt;
+      avoids = tt;
     }
 
 -- ---- bus resets
@@ -124,11 +130,11 @@ pub reset_is : (s : State) (n : Declared) (initiator : ℕ) (out : List Timed) (
 reset_is s n initiator out t m r = subst (λ (z : State). IsReset (world_of s) r.entry r.entry.epoch (is_deaf s) (world_of z)) (sym r.state_is) (reset_change s n initiator out t m r)
 
 resets : (s : State) (a : Action) (n : Declared) (initiator : ℕ) (out : List Timed) (t : State) → MayReset s n → Resets (declaring s n) initiator out t → IsChange s a t
-resets s a n initiator out t m r = record { change = BusReset r.entry r.entry.epoch (is_deaf s); happens = reset_is s n initiator out t m r; harmless = λ d i h. tt }
+resets s a n initiator out t m r = record { change = BusReset r.entry r.entry.epoch (is_deaf s); happens = reset_is s n initiator out t m r; harmless = λ d i h. tt; avoids = tt }
 
 -- one that counts, or that comes in a half step
 again : (s u : State) (a : Action) (t : State) → world_of u ≡ world_of s → IsChange u a t → IsChange s a t
-again s u a t same c = record { change = c.change; happens = subst (λ w. Worlds.Happens w c.change (world_of t)) same c.happens; harmless = c.harmless }
+again s u a t same c = record { change = c.change; happens = subst (λ w. Worlds.Happens w c.change (world_of t)) same c.happens; harmless = c.harmless; avoids = subst (λ w. AsksElsewhere w c.change) same c.avoids }
 
 declare_change : (s : State) (a : Action) (names : List (List ℕ)) (n : Declared) (out : List Timed) (t : State) → (names ≡ [] → MayReset (beginning s) n) → Declares names (declaring s n) out t → IsChange s a t
 declare_change s a [] n out t m r = again s (beginning s) a t refl (resets (beginning s) a n 0 out t (m refl) r)
@@ -150,6 +156,7 @@ start_change s d i w g lives fits is = subst (λ r. IsChange s (StartConnection 
   change = NewConnection d i (slot_of w);
   happens = record { device = living_small s d g lives; starts = starts_is d i w (s.controllers d) is; making = makes w; fits = fits; account = refl; becomes = becomes s.controllers d (given (Ok i) (slot_of w) (s.controllers d)); directory = refl };
   harmless = λ e k h. tt;
+  avoids = λ ch withheld. slot_avoids s.account.withheld ch w withheld;
 })
 
 break_change : (s : State) (d i : ℕ) → IsGood s → IsTrue (is_living s d) → break_fault (s.controllers d) i ≡ None → IsChange s (StartBreak d i) (with_controller s d (break_started (s.controllers d) i))
@@ -157,6 +164,7 @@ break_change s d i g lives accepted = record {
   change = BreakOf d i;
   happens = record { device = living_small s d g lives; accepted = accepted; account = refl; becomes = becomes s.controllers d (break_started (s.controllers d) i); directory = refl };
   harmless = λ e k h. h;
+  avoids = tt;
 }
 
 death_change : (s : State) (d : ℕ) → IsGood s → IsTrue (is_living s d) → IsChange s (Die d) (after_death s d)
@@ -164,6 +172,7 @@ death_change s d g lives = record {
   change = Death d;
   happens = record { device = living_small s d g lives; account = refl; becomes = becomes s.controllers d new_controller; directory = refl };
   harmless = λ e k h. h;
+  avoids = tt;
 }
 
 start_again : (s : State) (d : ℕ) → IsGood s → IsTrue (s.dead d) → IsChange s (Start d) (after_start s d)
@@ -177,7 +186,18 @@ second_change s runs = record {
   change = SecondOver;
   happens = record { account = second_ends s.account runs; each = λ d. refl; directory = ap (λ (l : Account). told_by s l.latest) (second_ends s.account runs) };
   harmless = λ d i h. absurd h;
+  avoids = tt;
 }
+
+-- ---- a channel that is withheld
+
+withhold_change : (s : State) → IsGood s → s.declared.names ≡ [] → IsChange s Withhold (record s { account = entered s.account withheld })
+withhold_change s g empty = subst (λ l. IsChange s Withhold (record s { account = l })) (sym (withholding_is s.account (none_before s g empty))) (record {
+  change = Withholding;
+  happens = withholds_is s g empty;
+  harmless = λ d i h. tt;
+  avoids = tt;
+})
 
 -- ---- each action
 
@@ -185,11 +205,12 @@ moved : (s u t : State) (a : Action) → t ≡ u → IsChange s a u → IsChange
 moved s u t a is c = subst (IsChange s a) (sym is) c
 
 taken_change : (s : State) (d : ℕ) (out : List Timed) (t : State) → IsGood s → IsTrue (is_living s d) → s.half_steps < 4000000 → Taken s d out t → IsChange s (HalfStep d) t
-taken_change s d out t g lives few (listens quiet said is) = let c = half_change s d (HalfStep d) g lives in moved s (counted (after_half s d) 1) t (HalfStep d) is (record { change = c.change; happens = c.happens; harmless = c.harmless })
+taken_change s d out t g lives few (listens quiet said is) = let c = half_change s d (HalfStep d) g lives in moved s (counted (after_half s d) 1) t (HalfStep d) is (record { change = c.change; happens = c.happens; harmless = c.harmless; avoids = c.avoids })
 taken_change s d out t g lives few (keeps_deaf deaf said is) = elsewhere s (HalfStep d) t (ap world_of is)
 taken_change s d out t g lives few (forces_reset deaf r) = again s (counted s 1) (HalfStep d) t refl (resets (counted s 1) (HalfStep d) s.declared d out t (forced_may s d g lives deaf few) r)
 
 pub step_change : (s : State) (a : Action) (out : List Timed) (t : State) → IsGood s → Step s a out t → IsChange s a t
+step_change s Withhold out t g x = moved s _ t Withhold x.1.3 (withhold_change s g x.1.0)
 step_change s (AddDevice name kind ports speed) out t g x = declare_change s (AddDevice name kind ports speed) s.declared.names (with_device s.declared name kind ports speed) out t (λ empty. first_may s name kind ports speed (record { good = g; room = x.1.0; some = x.1.1; most = x.1.2; fast = x.1.3 }) empty) x.1.4
 step_change s (AddCable a b) out t g x = join_change s (AddCable a b) x.1.0 a b out t g x.1.1 x.1.2
 step_change s (ResetBus d) out t g x = again s (counting s) (ResetBus d) t refl (resets (counting s) (ResetBus d) s.declared d out t (begun_may s d g x.1.0 x.1.1.0) x.1.1.1)
@@ -202,7 +223,7 @@ step_change s (Pass n) out t g x = elsewhere s (Pass n) t (ap world_of x.1.3)
 step_change s EndSecond out t g x = moved s _ t EndSecond x.1.4 (second_change s x.1.1)
 step_change s (Die d) out t g x = moved s _ t (Die d) x.1.2 (death_change s d g x.1.0)
 step_change s (CarryOut d) out t g x = moved s _ t (CarryOut d) x.1.3 (half_change s d (CarryOut d) g x.1.0)
-step_change s (Lose d) out t g x = let c = half_change s d (Lose d) g x.1.0 in moved s (after_loss s d) t (Lose d) x.1.4 (record { change = c.change; happens = c.happens; harmless = c.harmless })
+step_change s (Lose d) out t g x = let c = half_change s d (Lose d) g x.1.0 in moved s (after_loss s d) t (Lose d) x.1.4 (record { change = c.change; happens = c.happens; harmless = c.harmless; avoids = c.avoids })
 step_change s (TellLoss d) out t g x = elsewhere s (TellLoss d) t (ap world_of x.1.2)
 step_change s (Start d) out t g x = moved s _ t (Start d) x.1.3 (start_again s d g x.1.1)
 step_change s (Ask y) out t g x = elsewhere s (Ask y) t (ap world_of x.1.4)

@@ -22,7 +22,7 @@ use Rattle.fw_run.specs.Giving.{at_cycle}
 use Rattle.fw_run.specs.Entries.{second_over}
 use Rattle.fw_run.specs.State.{State, entered, while_talking, is_on, with_device}
 use Rattle.fw_run.specs.Streams.{bytes_of, tape_at, sent_before, stream_packet}
-use Rattle.fw_run.specs.Actions.{Action, AddDevice, AddCable, ResetBus, StartConnection, StartBreak, HalfStep, Rest, Unsettled, Pass, EndSecond, Die, counting, beginning, counted, Lose, TellLoss}
+use Rattle.fw_run.specs.Actions.{Action, Withhold, AddDevice, AddCable, ResetBus, StartConnection, StartBreak, HalfStep, Rest, Unsettled, Pass, EndSecond, Die, counting, beginning, counted, Lose, TellLoss}
 use Rattle.fw_run.specs.Actions.{CarryOut, Start, Ask, Answer, ShowWord, SendCommand, SendFrame, Receive, InsertTape, EjectTape, StartCycle, SendPacket, Finish}
 use Rattle.fw_run.specs.Actions.{Declares, Joins, Step, after_cycles, after_second, after_reset_entry, with_topology}
 use Rattle.fw_run.specs.Carrying.{next_cycle, SendsPackets}
@@ -112,6 +112,7 @@ counts_step s a out t g x p = go a x
     taken_ d h (forces_reset deaf r) = keeps (HalfStep d) s t (after_reset_entry (counted s 1) r.entry) p g h r.state_is refl refl
 
     go : (a : Action) → Step s a out t → CountsThrough a s t p
+    go Withhold x = stays Withhold s t _ p g (good Withhold x) x.1.3 refl refl
     go (AddDevice name kind ports speed) x = declares (AddDevice name kind ports speed) s.declared.names (declaring s (with_device s.declared name kind ports speed)) (good (AddDevice name kind ports speed) x) refl refl x.1.4 refl
     go (AddCable c d) x = joins (AddCable c d) (is_on s c.device) (is_on s d.device) c.device d.device (with_topology s x.1.0) (good (AddCable c d) x) refl x.1.2 refl
     go (ResetBus d) x = let r = x.1.1.1 in keeps (ResetBus d) s t (after_reset_entry (counting s) r.entry) p g (good (ResetBus d) x) r.state_is refl refl

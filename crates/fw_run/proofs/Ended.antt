@@ -19,7 +19,7 @@ use Rattle.fw_script.specs.declared.command.Command.TheVariants as Commands
 use Rattle.fw_run.specs.declared.order.Order.{Order}
 use Rattle.fw_run.specs.declared.order.Order.TheVariants as order
 use Rattle.fw_run.specs.Giving.{at_most}
-use Rattle.fw_run.specs.Entries.{second_over, died, started, inserted, ejected, unsettled, shown_entry, lost}
+use Rattle.fw_run.specs.Entries.{second_over, died, started, inserted, ejected, unsettled, shown_entry, lost, withheld}
 use Rattle.fw_run.specs.State.{State, is_on, living, with_device, directory_of}
 use Rattle.fw_run.specs.Frames.{command_write, response_write, frame_packet}
 use Rattle.fw_run.specs.Spaces.{transaction_head, access_request, answer_packet, read_at}
@@ -27,8 +27,8 @@ use Rattle.fw_run.specs.HalfSteps.{head_from, said, hears, hears_from, half, hal
 use Rattle.fw_base.specs.declared.plug.PlugAt.{PlugAt}
 use Rattle.fw_entry.specs.declared.entry.ResetEntry.{ResetEntry}
 use Rattle.fw_run.specs.Streams.{bytes_of, cycle_start, stream_packet, talkers}
-use Rattle.fw_run.specs.Actions.{Action, AddDevice, AddCable, ResetBus, StartConnection, StartBreak, HalfStep, Rest, Unsettled, Pass, EndSecond, Die, CarryOut, Lose, TellLoss, Start, Ask, Answer, ShowWord, SendCommand, SendFrame, Receive, InsertTape, EjectTape, StartCycle, SendPacket, Finish, Declares, Joins, with_topology, Step, Steps}
-use Rattle.fw_run.specs.Carrying.{times, half_steps_of, Rounds, none, round, rest, Carries, declares, joins, resets, connects, breaks, steps, settled, unsettled as not_settled, waits, waits_over, writes_cycles, next_cycle, SendsPackets, HasCycle, HasCycles, dies, dies_late, dies_idle, loses, starts, goes_on, transacts, shows, commanded, inserts, ejects, ejects_nothing, SendsAll, quiet, sends, ends}
+use Rattle.fw_run.specs.Actions.{Action, Withhold, AddDevice, AddCable, ResetBus, StartConnection, StartBreak, HalfStep, Rest, Unsettled, Pass, EndSecond, Die, CarryOut, Lose, TellLoss, Start, Ask, Answer, ShowWord, SendCommand, SendFrame, Receive, InsertTape, EjectTape, StartCycle, SendPacket, Finish, Declares, Joins, with_topology, Step, Steps}
+use Rattle.fw_run.specs.Carrying.{times, half_steps_of, Rounds, none, round, rest, Carries, withholds, withholds_already, declares, joins, resets, connects, breaks, steps, settled, unsettled as not_settled, waits, waits_over, writes_cycles, next_cycle, SendsPackets, HasCycle, HasCycles, dies, dies_late, dies_idle, loses, starts, goes_on, transacts, shows, commanded, inserts, ejects, ejects_nothing, SendsAll, quiet, sends, ends}
 use Rattle.fw_run.specs.Rules.{IsOrder}
 use Rattle.fw_run.specs.Runs.{Run, begun, and_then}
 use Rattle.fw_run.specs.Logs.{HasNoEnd}
@@ -113,6 +113,7 @@ taken_unended s d out t (keeps_deaf deaf out_is is) = none_unended out out_is
 taken_unended s d out t (forces_reset deaf r) = most_unended s.clock.cycle (Some (Reset r.entry)) out refl r.out_is
 
 step_unended : (s t : State) (a : Action) (out : List Timed) → IsNoFinish a → Step s a out t → IsUnended out
+step_unended s t Withhold out nf x = most_unended s.clock.cycle (Some withheld) out refl x.1.2
 step_unended s t (AddDevice name kind ports speed) out nf x = declares_unended s.declared.names (record s { declared = with_device s.declared name kind ports speed }) t out x.1.4
 step_unended s t (AddCable a b) out nf x = joins_unended (is_on s a.device) (is_on s b.device) a.device b.device (with_topology s x.1.0) t out x.1.2
 step_unended s t (ResetBus d) out nf x = let r = x.1.1.1 in most_unended s.clock.cycle (Some (Reset r.entry)) out refl r.out_is
@@ -193,6 +194,8 @@ no_finish_cycles zero s xs out t f = subst HasNoFinish (sym f.0) tt
 no_finish_cycles (suc n) s xs out t f = subst HasNoFinish (sym f.7) (no_finish_append f.1 f.2 (no_finish_cycle s.account.latest s f.1 f.3 f.0 f.5) (no_finish_cycles n f.0 f.2 f.4 t f.6))
 
 pub no_finish : (s : State) (o : Order) (xs : List Action) (out : List Timed) (t : State) → IsNoEnd o → Carries s o xs out t → HasNoFinish xs
+no_finish s o xs out t on (withholds f) = (tt, tt)
+no_finish s o xs out t on (withholds_already e) = tt
 no_finish s o xs out t on (declares f) = (tt, tt)
 no_finish s o xs out t on (joins f) = (tt, tt)
 no_finish s o xs out t on (resets f) = (tt, tt)
@@ -221,6 +224,7 @@ no_finish s o xs out t on (ends f) = absurd on
 -- the order is the end, or it is not
 pub end_or_none : (o : Order) → IsNoEnd o ⊎ (o ≡ order.End)
 end_or_none order.End = inr refl
+end_or_none order.Withhold = inl tt
 end_or_none (order.Command a b bytes) = inl tt
 end_or_none (order.Insert d tape system) = inl tt
 end_or_none (order.Eject d) = inl tt
@@ -245,6 +249,7 @@ is_no_end : (o p : Order) → o ≡ p → IsNoEnd p → IsNoEnd o
 is_no_end o p e f = subst IsNoEnd (sym e) f
 
 pub order_no_end : (s : State) (c : Command) (o : Order) → c ≢ Commands.End → IsOrder s c o → IsNoEnd o
+order_no_end s Commands.Withhold o ne f = is_no_end o _ f tt
 order_no_end s (Commands.Device name kind ports speed) o ne f = is_no_end o _ f tt
 order_no_end s (Commands.Cable a b) o ne f = is_no_end o _ f.4 tt
 order_no_end s (Commands.Reset name) o ne f = is_no_end o _ f.2 tt

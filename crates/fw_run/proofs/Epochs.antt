@@ -1,5 +1,5 @@
 -- The epoch of a state is that of the latest reset among the entries that led to it.
-use Rattle.std.proofs.Common.{◌≡◌, ℕ, ◌==◌, ◌&&◌, cond, Bool, true, false, List, [], ◌∷◌, ◌++◌, length, Option, Some, None, is_none, refl, ap, sym, subst, ◌∙◌}
+use Rattle.std.proofs.Common.{◌≡◌, ℕ, ◌==◌, ◌&&◌, cond, Bool, true, false, List, [], ◌∷◌, ◌++◌, length, Option, Some, None, is_none, is_some, refl, ap, sym, subst, ◌∙◌}
 use Rattle.fw_words.specs.Quadlet.{quadlet_at}
 use Rattle.fw_base.specs.declared.plug.PlugAt.{PlugAt}
 use Rattle.fw_async.specs.declared.packet.Head.{Head}
@@ -13,7 +13,7 @@ use Rattle.fw_entry.specs.declared.entry.Timed.{Timed}
 use Rattle.fw_entry.specs.declared.entry.EventEntry.{EventEntry}
 use Rattle.fw_entry.proofs.LogLaws.{latest_append}
 use Rattle.fw_ledger.specs.Account.{Account, Operation, Reads, Locks, Request}
-use Rattle.fw_ledger.specs.Events.{after_reset, after_second, after_death}
+use Rattle.fw_ledger.specs.Events.{after_reset, after_second, after_death, after_withholding}
 use Rattle.fw_ledger.specs.Fold.{next_account, after_event}
 use Rattle.fw_ledger.specs.Moves.{Move, after}
 use Rattle.fw_ledger.specs.Words.{Register, register_of}
@@ -95,7 +95,8 @@ packet_leads (LockReply h rcode function bytes) l = reply_leads h (Locked functi
 event_leads : (e : EventEntry) (l : Account) → SameBus l (after_event e l)
 event_leads e l =
     cond_leads (e.code == 1) l _ _ (cond_leads l.reclaiming l _ _ (some_leads l (after_second l) refl) (none_leads l))
-    (cond_leads (e.code == 2) l _ _ (some_leads l (after_death e.device l) refl) (some_leads l l refl))
+    (cond_leads (e.code == 2) l _ _ (some_leads l (after_death e.device l) refl)
+    (cond_leads (e.code == 8) l _ _ (cond_leads (is_some l.latest) l _ _ (none_leads l) (some_leads l (after_withholding l) refl)) (some_leads l l refl)))
 
 -- the epoch of the account that an entry leads to
 same_epoch : (l : Account) (o : Option Account) (m : Account) → SameBus l o → o ≡ Some m → epoch_of m.latest ≡ epoch_of l.latest

@@ -3,7 +3,7 @@ use Rattle.std.proofs.Common.{ℕ, zero, suc, List, [], ◌∷◌, ◌++◌}
 use Rattle.fw_entry.specs.declared.entry.Timed.{Timed}
 use Rattle.fw_run.specs.declared.order.Order.{Order}
 use Rattle.fw_run.specs.Actions.{Action, HalfStep, Unsettled}
-use Rattle.fw_run.specs.Carrying.{times, half_steps_of, Rounds, none, round, rest, SendsAll, quiet, sends, Carries, declares, joins, resets, connects, breaks, steps, settled, unsettled, waits, waits_over, writes_cycles, dies, dies_late, dies_idle, loses, starts, goes_on, transacts, shows, commanded, inserts, ejects, ejects_nothing, ends}
+use Rattle.fw_run.specs.Carrying.{times, half_steps_of, Rounds, none, round, rest, SendsAll, quiet, sends, Carries, withholds, withholds_already, declares, joins, resets, connects, breaks, steps, settled, unsettled, waits, waits_over, writes_cycles, dies, dies_late, dies_idle, loses, starts, goes_on, transacts, shows, commanded, inserts, ejects, ejects_nothing, ends}
 use Rattle.fw_run.specs.Desks.{DeskRelations}
 use Rattle.fw_run.specs.Given.{IsGiven, AreGiven, AsksNoDesk}
 use Rattle.fw_run.specs.State.{State, living}
@@ -36,6 +36,8 @@ all_given D d s xs out t (quiet e) = tt
 all_given D d s xs out t (sends m more first last f g) = (tt, (tt, all_given D d m more last t g))
 
 pub carries_given : (D : DeskRelations) (s : State) (o : Order) (xs : List Action) (out : List Timed) (t : State) → AsksNoDesk o → Carries s o xs out t → AreGiven D xs
+carries_given D s o xs out t on (withholds f) = (tt, tt)
+carries_given D s o xs out t on (withholds_already e) = tt
 carries_given D s o xs out t on (declares f) = (tt, tt)
 carries_given D s o xs out t on (joins f) = (tt, tt)
 carries_given D s o xs out t on (resets f) = (tt, tt)

@@ -76,6 +76,26 @@ moved_bus d p (DisconnectOutput kind) l = (refl, refl)
 moved_bus d p (ReleaseUnits ch u) l = (refl, refl)
 moved_bus d p (ReleaseChannel ch) l = (refl, refl)
 
+-- what is withheld
+moved_withheld : (d : ℕ) (p : PlugAt) (m : Move) (l : Account) → (after d p m l).withheld ≡ l.withheld
+moved_withheld d p (AllocateChannel ch) l = refl
+moved_withheld d p (AllocateUnits ch u) l = refl
+moved_withheld d p (ConnectFirst kind ch overhead) l = refl
+moved_withheld d p (ConnectOverlaid kind) l = refl
+moved_withheld d p (ConnectInput kind ch) l = refl
+moved_withheld d p (DisconnectInput kind) l = refl
+moved_withheld d p (DisconnectOutput kind) l = refl
+moved_withheld d p (ReleaseUnits ch u) l = refl
+moved_withheld d p (ReleaseChannel ch) l = refl
+
+pub carried_withheld : (d : ℕ) (j : Job) (s : Stage) (r : Reply) (l : Account) → (carried_out d j s r l).withheld ≡ l.withheld
+carried_withheld d j s r l = go (succeeds (swap_of j s) r) (move_of j s)
+  where
+    go : (b : Bool) (m : Option (PlugAt × Move)) → (cond b (after_move d m l) l).withheld ≡ l.withheld
+    go false m = refl
+    go true None = refl
+    go true (Some x) = moved_withheld d x.0 x.1 l
+
 -- the bus, and whether a second runs
 pub carried_bus : (d : ℕ) (j : Job) (s : Stage) (r : Reply) (l : Account) → ((carried_out d j s r l).latest ≡ l.latest) × ((carried_out d j s r l).reclaiming ≡ l.reclaiming)
 carried_bus d j s r l = go (succeeds (swap_of j s) r) (move_of j s)

@@ -21,7 +21,7 @@ use Rattle.fw_run.specs.declared.order.Transaction.{Transaction}
 use Rattle.fw_run.specs.State.{State, Declared, first_state, directory_of, is_on, is_linked, is_living, with_device, is_deaf}
 use Rattle.fw_run.specs.Spaces.{access_request, target_node, is_manager, bus_manager_id_after}
 use Rattle.fw_run.specs.HalfSteps.{HalfStep as Half, asks, half, half_of, after_half}
-use Rattle.fw_run.specs.Actions.{Action, AddDevice, AddCable, ResetBus, StartConnection, StartBreak, HalfStep, Rest, Unsettled, Pass, EndSecond, Die, CarryOut, Lose, TellLoss, Start, Ask, Answer, ShowWord, SendCommand, SendFrame, Receive, InsertTape, EjectTape, StartCycle, SendPacket, Finish, Resets, Declares, Joins, with_topology, after_reset_entry, slot_of, start_of, Step, counting, beginning, counted}
+use Rattle.fw_run.specs.Actions.{Action, Withhold, AddDevice, AddCable, ResetBus, StartConnection, StartBreak, HalfStep, Rest, Unsettled, Pass, EndSecond, Die, CarryOut, Lose, TellLoss, Start, Ask, Answer, ShowWord, SendCommand, SendFrame, Receive, InsertTape, EjectTape, StartCycle, SendPacket, Finish, Resets, Declares, Joins, with_topology, after_reset_entry, slot_of, start_of, Step, counting, beginning, counted}
 use Rattle.fw_run.specs.Good.{IsGood}
 use Rattle.fw_run.specs.Numbers.{CurrentShows, HasNumbers}
 use Rattle.fw_run.proofs.Endings.{next_shows, hears_shows, reset_shows}
@@ -129,6 +129,7 @@ taken_numbers s d out t g b none lives (keeps_deaf deaf said is) = same_numbers 
 taken_numbers s d out t g b none lives (forces_reset deaf r) = reset_numbers (counted s 1) s.declared d out t (numbers_of s (counted s 1) none refl b.bus_manager_id b.shows) none r
 
 pub step_numbers : (s : State) (a : Action) (out : List Timed) (t : State) → IsGood s → HasNumbers s → Step s a out t → HasNumbers t
+step_numbers s Withhold out t g b x = same_numbers s _ t b x.0 refl refl refl x.1.3
 step_numbers s (AddDevice name kind ports speed) out t g b x = declare_numbers s s.declared.names (with_device s.declared name kind ports speed) out t b x.0 x.1.4
 step_numbers s (AddCable p q) out t g b x = join_numbers (is_on s p.device) (is_on s q.device) p.device q.device s x.1.0 out t b x.0 x.1.2
 step_numbers s (ResetBus d) out t g b x = reset_numbers (counting s) s.declared d out t (counting_numbers s b) x.0 x.1.1.1

@@ -30,6 +30,7 @@ pub mod SendsAll
 pub mod Given
 pub mod FrameWrites
 pub mod Taking
+pub mod Withholds
 pub mod Steps
 pub mod Along
 pub mod Epochs
@@ -52,6 +53,7 @@ pub mod OneResult
 pub mod OneLog
 pub mod Logs
 pub mod Changes
+pub mod Avoids
 pub mod Reclaiming
 pub mod Settling
 pub mod Rules

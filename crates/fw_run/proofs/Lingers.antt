@@ -33,7 +33,7 @@ use Rattle.fw_run.specs.Giving.{at_most}
 use Rattle.fw_run.specs.State.{State, directory_of, number_in, is_on, is_living}
 use Rattle.fw_run.specs.Spaces.{answer_packet}
 use Rattle.fw_run.specs.HalfSteps.{head_from, said, hears, hears_from, half, half_of, after_half}
-use Rattle.fw_run.specs.Actions.{Action, AddDevice, AddCable, ResetBus, StartConnection, StartBreak, HalfStep, Rest, Unsettled, Pass, EndSecond, Die, Lose, TellLoss}
+use Rattle.fw_run.specs.Actions.{Action, Withhold, AddDevice, AddCable, ResetBus, StartConnection, StartBreak, HalfStep, Rest, Unsettled, Pass, EndSecond, Die, Lose, TellLoss}
 use Rattle.fw_run.specs.Actions.{CarryOut, Start, Ask, Answer, ShowWord, SendCommand, SendFrame, Receive, InsertTape, EjectTape, StartCycle, SendPacket, Finish, Step}
 use Rattle.fw_run.specs.Good.{IsGood, IsLatest}
 use Rattle.fw_run.specs.Lingering.{LingerBy, LingerThrough, LingerHalf}
@@ -44,6 +44,7 @@ use Rattle.fw_run.proofs.Led.{Led}
 use Rattle.fw_run.proofs.Times.{second_ends}
 use Rattle.fw_run.proofs.Words.{number_of_on}
 use Rattle.fw_run.proofs.Taking.{Taken, listens, keeps_deaf, forces_reset, taken_as}
+use Rattle.fw_run.proofs.Withholds.{withholding_keeps}
 
 -- ---- by an entry, or none
 
@@ -144,6 +145,7 @@ taken_lingers s d out t g lives w (keeps_deaf deaf said is) = subst (λ o. Linge
 taken_lingers s d out t g lives w (forces_reset deaf r) = by_force s.clock.cycle r.entry out s.account t.account r.out_is (by_entry s t out g w)
 
 pub step_lingers : (s : State) (a : Action) (out : List Timed) (t : State) → IsGood s → Step s a out t → LingerThrough a out s.account t.account
+step_lingers s Withhold out t g x = leads_to (SameLinger s.account) t _ x.1.3 (λ p. withholding_keeps (λ (l : Account). l.continues p) s.account refl)
 step_lingers s (AddDevice name kind ports speed) out t g x = by_entry s t out g (step_led s t (AddDevice name kind ports speed) out g x)
 step_lingers s (AddCable a b) out t g x = by_entry s t out g (step_led s t (AddCable a b) out g x)
 step_lingers s (ResetBus d) out t g x = by_entry s t out g (step_led s t (ResetBus d) out g x)

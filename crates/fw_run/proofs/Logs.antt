@@ -12,7 +12,7 @@ use Rattle.fw_run.specs.declared.order.Order.TheVariants as Orders
 use Rattle.fw_run.specs.Giving.{at_cycle, at_most, log_bytes}
 use Rattle.fw_run.specs.State.{State, first_state}
 use Rattle.fw_run.specs.Actions.{Action, Finish, Steps}
-use Rattle.fw_run.specs.Carrying.{Carries, writes_cycles, declares, joins, resets, connects, breaks, steps, settled, unsettled as not_settled, waits, waits_over, dies, dies_late, dies_idle, loses, starts, goes_on, transacts, shows, commanded, inserts, ejects, ejects_nothing, ends}
+use Rattle.fw_run.specs.Carrying.{Carries, writes_cycles, withholds, withholds_already, declares, joins, resets, connects, breaks, steps, settled, unsettled as not_settled, waits, waits_over, dies, dies_late, dies_idle, loses, starts, goes_on, transacts, shows, commanded, inserts, ejects, ejects_nothing, ends}
 use Rattle.fw_run.specs.Runs.{Run}
 use Rattle.fw_run.specs.Logs.{HasNoEnd}
 use Rattle.fw_run.specs.Good.{IsGood}
@@ -141,6 +141,8 @@ front_few done later e = let same : 1 ≡ length (done ++ later) = ap (λ (z : L
 
 -- the end is one action
 end_actions : (s : State) (o : Order) (xs : List Action) (out : List Timed) (t : State) → Carries s o xs out t → o ≡ Orders.End → xs ≡ Finish ∷ []
+end_actions s o xs out t (withholds f) is = absurd (cc is)
+end_actions s o xs out t (withholds_already e) is = absurd (cc is)
 end_actions s o xs out t (declares f) is = absurd (cc is)
 end_actions s o xs out t (joins f) is = absurd (cc is)
 end_actions s o xs out t (resets f) is = absurd (cc is)

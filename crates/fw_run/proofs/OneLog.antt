@@ -53,6 +53,7 @@ one_connect : (d e : ℕ) (v w : Wanted) → d ≡ e → v ≡ w → order.Conne
 one_connect d e v w f g = λ i. order.Connect (f i) (g i)
 
 pub one_order : (s : State) (c : Command) (o p : Order) → IsOrder s c o → IsOrder s c p → o ≡ p
+one_order s Commands.Withhold o p f g = f ∙ sym g
 one_order s (Commands.Device name kind ports speed) o p f g = f ∙ sym g
 one_order s (Commands.Cable a b) o p f g =
     let x = one_end s a f.0 g.0 f.2 g.2 in

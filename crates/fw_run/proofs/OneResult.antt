@@ -5,8 +5,8 @@ use Rattle.fw_run.specs.declared.order.Order.{Order}
 use Rattle.fw_run.specs.declared.order.Order.TheVariants as order
 use Rattle.fw_run.specs.State.{State, living}
 use Rattle.fw_run.specs.HalfSteps.{has_request, is_unsettled}
-use Rattle.fw_run.specs.Actions.{Action, AddDevice, AddCable, ResetBus, StartConnection, StartBreak, HalfStep, Unsettled, Pass, EndSecond, Die, CarryOut, Lose, TellLoss, Start, Ask, Answer, ShowWord, SendCommand, SendFrame, Receive, InsertTape, EjectTape, Finish, Steps}
-use Rattle.fw_run.specs.Carrying.{times, half_steps_of, Rounds, Carries, declares, joins, resets, connects, breaks, steps, settled, unsettled as not_settled, waits, waits_over, writes_cycles, HasCycles, dies, dies_late, dies_idle, loses, starts, goes_on, transacts, shows, commanded, inserts, ejects, ejects_nothing, SendsAll, quiet, sends, ends}
+use Rattle.fw_run.specs.Actions.{Action, Withhold, AddDevice, AddCable, ResetBus, StartConnection, StartBreak, HalfStep, Unsettled, Pass, EndSecond, Die, CarryOut, Lose, TellLoss, Start, Ask, Answer, ShowWord, SendCommand, SendFrame, Receive, InsertTape, EjectTape, Finish, Steps}
+use Rattle.fw_run.specs.Carrying.{times, half_steps_of, Rounds, Carries, withholds, withholds_already, declares, joins, resets, connects, breaks, steps, settled, unsettled as not_settled, waits, waits_over, writes_cycles, HasCycles, dies, dies_late, dies_idle, loses, starts, goes_on, transacts, shows, commanded, inserts, ejects, ejects_nothing, SendsAll, quiet, sends, ends}
 use Rattle.fw_run.specs.Decks.{Obeyed}
 use Rattle.fw_run.specs.Desks.{DeskRelations, IsFunction}
 use Rattle.fw_run.specs.Frames.{next_told, Sends, Receives}
@@ -59,6 +59,7 @@ one_rounds_at n = one_rounds n
 
 -- what an order does, by the order
 abbrev pub CarriedBy : State → Order → List Action → List Timed → State → Type 0
+CarriedBy s order.Withhold ys out t = Steps s (Withhold ∷ []) out t ⊎ (IsTrue s.account.withheld × (out ≡ []) × (t ≡ s))
 CarriedBy s (order.Declare name kind ports speed) ys out t = Steps s (AddDevice name kind ports speed ∷ []) out t
 CarriedBy s (order.Cable a b) ys out t = Steps s (AddCable a b ∷ []) out t
 CarriedBy s (order.Reset d) ys out t = Steps s (ResetBus d ∷ []) out t
@@ -87,6 +88,8 @@ CarriedBy s (order.Eject d) ys out t =
 CarriedBy s order.End ys out t = Steps s (Finish ∷ []) out t
 
 pub carried : (s : State) (o : Order) (xs : List Action) (out : List Timed) (t : State) → Carries s o xs out t → CarriedBy s o xs out t
+carried s o xs out t (withholds f) = inl f
+carried s o xs out t (withholds_already e) = inr (e, refl, refl)
 carried s o xs out t (declares f) = f
 carried s o xs out t (joins f) = f
 carried s o xs out t (resets f) = f
@@ -164,6 +167,10 @@ both_ways : (b : Bool) → b ≡ true → b ≡ false → ⊥
 both_ways b x y = let clash : true ≡ false = sym x ∙ y in cc clash
 
 pub one_carried : (D : DeskRelations) (only : IsFunction D) (s : State) (o : Order) (xs ys : List Action) (out other : List Timed) (t u : State) → IsGood s → AreGiven D xs → AreGiven D ys → CarriedBy s o xs out t → CarriedBy s o ys other u → Same out t other u
+one_carried D only s order.Withhold xs ys out other t u g give gave (inl f) (inl h) = one_steps s t u (Withhold ∷ []) out other g f h
+one_carried D only s order.Withhold xs ys out other t u g give gave (inl f) (inr h) = absurd (both_ways s.account.withheld h.0 f.3.1.1)
+one_carried D only s order.Withhold xs ys out other t u g give gave (inr f) (inl h) = absurd (both_ways s.account.withheld f.0 h.3.1.1)
+one_carried D only s order.Withhold xs ys out other t u g give gave (inr f) (inr h) = (f.1 ∙ sym h.1, f.2 ∙ sym h.2)
 one_carried D only s (order.Declare name kind ports speed) xs ys out other t u g give gave f h = one_steps s t u (AddDevice name kind ports speed ∷ []) out other g f h
 one_carried D only s (order.Cable a b) xs ys out other t u g give gave f h = one_steps s t u (AddCable a b ∷ []) out other g f h
 one_carried D only s (order.Reset d) xs ys out other t u g give gave f h = one_steps s t u (ResetBus d ∷ []) out other g f h

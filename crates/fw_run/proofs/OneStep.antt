@@ -15,7 +15,7 @@ use Rattle.fw_run.specs.Giving.{at_most}
 use Rattle.fw_run.specs.State.{State, epoch_of, is_on, device_in, with_device, is_deaf}
 use Rattle.fw_run.specs.Spaces.{answer_packet, target_node, transaction_head, access_request, bus_manager_id_after}
 use Rattle.fw_run.specs.Streams.{cycle_start}
-use Rattle.fw_run.specs.Actions.{Action, AddDevice, AddCable, ResetBus, StartConnection, StartBreak, HalfStep, Rest, Unsettled, Pass, EndSecond, Die, CarryOut, Lose, TellLoss, Start, Ask, Answer, ShowWord, SendCommand, SendFrame, Receive, InsertTape, EjectTape, StartCycle, SendPacket, Finish, Resets, Declares, Joins, Answers, after_reset_entry, with_topology, Step, Steps, counting, beginning, counted, Takes}
+use Rattle.fw_run.specs.Actions.{Action, Withhold, AddDevice, AddCable, ResetBus, StartConnection, StartBreak, HalfStep, Rest, Unsettled, Pass, EndSecond, Die, CarryOut, Lose, TellLoss, Start, Ask, Answer, ShowWord, SendCommand, SendFrame, Receive, InsertTape, EjectTape, StartCycle, SendPacket, Finish, Resets, Declares, Joins, Answers, after_reset_entry, with_topology, Step, Steps, counting, beginning, counted, Takes}
 use Rattle.fw_base.specs.Tables.{update}
 use Rattle.fw_fcp.specs.declared.frame.Frame.{Frame}
 use Rattle.fw_ledger.specs.Words.{node_of}
@@ -98,6 +98,7 @@ one_takes true true s t u d out other good f g = (f.0 ∙ sym g.0, f.1 ∙ sym g
 one_takes true false s t u d out other good f g = one_resets (counted s 1) t u d out other good.declared.made f g
 
 pub one_step : (s t u : State) (a : Action) (out other : List Timed) → IsGood s → Step s a out t → Step s a other u → Same out t other u
+one_step s t u Withhold out other good f g = (f.1.2 ∙ sym g.1.2, f.1.3 ∙ sym g.1.3)
 one_step s t u (AddDevice name kind ports speed) out other good f g =
     one_declares s.declared.names (record s { declared = with_device s.declared name kind ports speed }) t u out other
     (made_more s.declared.topology (facts_of kind ports speed) good.declared.made (subst (λ n. n < 63) good.declared.named f.1.0) (let some = f.1.1 in omega (arith, some)) f.1.2 f.1.3) f.1.4 g.1.4

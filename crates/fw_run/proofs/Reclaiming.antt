@@ -25,13 +25,13 @@ use Rattle.fw_reclaim.proofs.Living.{turn_meets, facts_in}
 use Rattle.fw_reclaim.proofs.Outcomes.{ends_restored}
 use Rattle.fw_reclaim.proofs.Reclaim.{reclaims}
 use Rattle.fw_run.specs.Giving.{at_cycle, at_most}
-use Rattle.fw_run.specs.Entries.{second_over, died, started, inserted, ejected, unsettled, shown_entry, lost}
+use Rattle.fw_run.specs.Entries.{second_over, died, started, inserted, ejected, unsettled, shown_entry, lost, withheld}
 use Rattle.fw_run.specs.State.{State, Declared, first_state, is_on, is_living, directory_of, with_device, is_deaf}
 use Rattle.fw_run.specs.Frames.{command_write, response_write, frame_packet}
 use Rattle.fw_run.specs.Spaces.{answer_packet, transaction_head, access_request, read_at}
 use Rattle.fw_run.specs.HalfSteps.{head_from, said, asks, taken, hears, hears_from, half, half_of}
 use Rattle.fw_run.specs.Streams.{bytes_of, cycle_start, stream_packet}
-use Rattle.fw_run.specs.Actions.{Action, AddDevice, AddCable, ResetBus, StartConnection, StartBreak, HalfStep, Rest, Unsettled, Pass, EndSecond, Die, CarryOut, Lose, TellLoss, Start, Ask, Answer, ShowWord, SendCommand, SendFrame, Receive, InsertTape, EjectTape, StartCycle, SendPacket, Finish, Resets, Declares, Joins, with_topology, Step, counting, beginning, counted}
+use Rattle.fw_run.specs.Actions.{Action, Withhold, AddDevice, AddCable, ResetBus, StartConnection, StartBreak, HalfStep, Rest, Unsettled, Pass, EndSecond, Die, CarryOut, Lose, TellLoss, Start, Ask, Answer, ShowWord, SendCommand, SendFrame, Receive, InsertTape, EjectTape, StartCycle, SendPacket, Finish, Resets, Declares, Joins, with_topology, Step, counting, beginning, counted}
 use Rattle.fw_run.specs.Good.{IsGood, world_of}
 use Rattle.fw_run.specs.Reclaiming.{Reclaims, RestoresInSecond}
 use Rattle.fw_run.proofs.Cables.{on_some, cabled_may, begun_may, forced_may}
@@ -106,6 +106,7 @@ taken_resets s d e c t g lives few (keeps_deaf deaf said is) = absurd (never c e
 taken_resets s d e c t g lives few (forces_reset deaf r) = as_before s (counted s 1) t refl refl (begins_one (counted s 1) s.declared d _ t (forced_may s d g lives deaf few) r)
 
 pub bus_resets : (s t : State) (a : Action) (e : ResetEntry) (c : ℕ) → IsGood s → Step s a (at_cycle c (Reset e) ∷ []) t → BusResets s t
+bus_resets s t Withhold e c g x = absurd (never c e (at_most s.clock.cycle (Some withheld)) x.1.2 refl)
 bus_resets s t (AddDevice name kind ports speed) e c g x = go s.declared.names refl x.1.4
   where
     n : Declared

@@ -12,7 +12,7 @@ use Rattle.fw_run.specs.Giving.{log_bytes}
 use Rattle.fw_run.specs.Streams.{talkers}
 use Rattle.fw_run.specs.State.{State, first_state, living}
 use Rattle.fw_run.specs.Actions.{Action, Unsettled, SendCommand, SendFrame, Receive, InsertTape, EjectTape, StartCycle, SendPacket, Steps}
-use Rattle.fw_run.specs.Carrying.{half_steps_of, Rounds, none, round, rest, Carries, declares, joins, resets, connects, breaks, steps, settled, unsettled, waits, waits_over, writes_cycles, next_cycle, SendsPackets, HasCycle, HasCycles, dies, dies_late, dies_idle, loses, starts, goes_on, transacts, shows, commanded, inserts, ejects, ejects_nothing, SendsAll, quiet, sends, ends}
+use Rattle.fw_run.specs.Carrying.{half_steps_of, Rounds, none, round, rest, Carries, withholds, withholds_already, declares, joins, resets, connects, breaks, steps, settled, unsettled, waits, waits_over, writes_cycles, next_cycle, SendsPackets, HasCycle, HasCycles, dies, dies_late, dies_idle, loses, starts, goes_on, transacts, shows, commanded, inserts, ejects, ejects_nothing, SendsAll, quiet, sends, ends}
 use Rattle.fw_run.specs.Runs.{Run, begun, and_then}
 
 pub steps_then : (s t u : State) (xs ys : List Action) (a b : List Timed) → Steps s xs a t → Steps t ys b u → Steps s (xs ++ ys) (a ++ b) u
@@ -48,6 +48,8 @@ cycles_steps (suc n) s actions out t f =
     (subst (λ o. Steps s (f.1 ++ f.2) o t) (sym f.8) (steps_then s f.0 t f.1 f.2 f.3 f.4 (cycle_steps s.account.latest s f.1 f.3 f.0 f.5) (cycles_steps n f.0 f.2 f.4 t f.6)))
 
 pub carries_steps : (s : State) (o : Order) (actions : List Action) (out : List Timed) (t : State) → Carries s o actions out t → Steps s actions out t
+carries_steps s o actions out t (withholds f) = f
+carries_steps s o actions out t (withholds_already e) = (refl, refl)
 carries_steps s o actions out t (declares f) = f
 carries_steps s o actions out t (joins f) = f
 carries_steps s o actions out t (resets f) = f

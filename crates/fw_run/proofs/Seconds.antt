@@ -15,13 +15,13 @@ use Rattle.fw_cmp.specs.Requests.{access_of, request_of, addressee_of}
 use Rattle.fw_cmp.specs.Turns.{next}
 use Rattle.fw_node.specs.Packets.{packet_of}
 use Rattle.fw_run.specs.Giving.{at_cycle, at_most}
-use Rattle.fw_run.specs.Entries.{second_over, died, started, inserted, ejected, unsettled, shown_entry, lost}
+use Rattle.fw_run.specs.Entries.{second_over, died, started, inserted, ejected, unsettled, shown_entry, lost, withheld}
 use Rattle.fw_run.specs.State.{State, Declared, first_state, is_on, directory_of, with_device, is_living}
 use Rattle.fw_run.specs.Frames.{command_write, response_write, frame_packet}
 use Rattle.fw_run.specs.Spaces.{answer_packet, transaction_head, access_request, read_at}
 use Rattle.fw_run.specs.HalfSteps.{head_from, said, hears, hears_from, half, half_of}
 use Rattle.fw_run.specs.Streams.{bytes_of, cycle_start, stream_packet}
-use Rattle.fw_run.specs.Actions.{Action, AddDevice, AddCable, ResetBus, StartConnection, StartBreak, HalfStep, Rest, Unsettled, Pass, EndSecond, Die, CarryOut, Lose, TellLoss, Start, Ask, Answer, ShowWord, SendCommand, SendFrame, Receive, InsertTape, EjectTape, StartCycle, SendPacket, Finish, Resets, Declares, Joins, with_topology, Step, Steps, counting, beginning, counted}
+use Rattle.fw_run.specs.Actions.{Action, Withhold, AddDevice, AddCable, ResetBus, StartConnection, StartBreak, HalfStep, Rest, Unsettled, Pass, EndSecond, Die, CarryOut, Lose, TellLoss, Start, Ask, Answer, ShowWord, SendCommand, SendFrame, Receive, InsertTape, EjectTape, StartCycle, SendPacket, Finish, Resets, Declares, Joins, with_topology, Step, Steps, counting, beginning, counted}
 use Rattle.fw_run.specs.Good.{IsGood}
 use Rattle.fw_run.specs.Reclaiming.{IsBusReset, GoesOn, IsSecond, EndsAreSeconds}
 use Rattle.fw_run.proofs.Along.{step_led}
@@ -31,6 +31,7 @@ use Rattle.fw_run.proofs.Settling.{half_turn}
 use Rattle.fw_run.proofs.Steps.{step_good}
 use Rattle.fw_run.proofs.Times.{first_good, second_ends}
 use Rattle.fw_run.proofs.Taking.{Taken, listens, keeps_deaf, forces_reset, taken_as}
+use Rattle.fw_run.proofs.Withholds.{withholding_keeps}
 
 -- ---- which action begins a second
 
@@ -47,6 +48,7 @@ taken_begins s d out t g x lives (keeps_deaf deaf said is) = inr (as_before s _ 
 taken_begins s d out t g x lives (forces_reset deaf r) = resets_begin s (counted s 1) (HalfStep d) s.declared d out t x refl r
 
 begins : (s : State) (a : Action) (out : List Timed) (t : State) → IsGood s → Step s a out t → IsBusReset s a t ⊎ (IsTrue t.account.reclaiming → IsTrue s.account.reclaiming)
+begins s Withhold out t g x = inr (as_before s _ t x.1.3 (withholding_keeps (λ (l : Account). l.reclaiming) s.account refl))
 begins s (AddDevice name kind ports speed) out t g x = go s.declared.names x.1.4
   where
     go : (names : List (List ℕ)) → Declares names (declaring s (with_device s.declared name kind ports speed)) out t → IsBusReset s (AddDevice name kind ports speed) t ⊎ (IsTrue t.account.reclaiming → IsTrue s.account.reclaiming)
@@ -93,6 +95,7 @@ goes_on s EndSecond xs out t x runs on =
     let ended : t.account.reclaiming ≡ false = ap (λ (z : State). z.account.reclaiming) x.1.4 ∙ ap (λ (l : Account). l.reclaiming) (second_ends s.account x.1.1) in
     let wrong : true ≡ false = sym runs ∙ ended in
     cc wrong
+goes_on s Withhold xs out t x runs on = on
 goes_on s (AddDevice name kind ports speed) xs out t x runs on = on
 goes_on s (AddCable a b) xs out t x runs on = on
 goes_on s (ResetBus d) xs out t x runs on = on
@@ -230,6 +233,7 @@ taken_no_over s d out t over (forces_reset deaf r) = never out (at_most s.clock.
 -- it is the end of the second
 ends_it : (s : State) (a : Action) (out : List Timed) (t : State) → Step s a out t → opens_over out ≡ true → Step s EndSecond out t
 ends_it s EndSecond out t x over = x
+ends_it s Withhold out t x over = absurd (never out (at_most s.clock.cycle (Some withheld)) over x.1.2 refl)
 ends_it s (AddDevice name kind ports speed) out t x over = go s.declared.names x.1.4
   where
     go : (names : List (List ℕ)) → Declares names (declaring s (with_device s.declared name kind ports speed)) out t → Step s EndSecond out t

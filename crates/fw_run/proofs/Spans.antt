@@ -22,13 +22,13 @@ use Rattle.fw_run.specs.declared.order.Access.{Access}
 use Rattle.fw_run.specs.declared.order.Access.TheVariants.{Read, Swap}
 use Rattle.fw_run.specs.declared.order.Transaction.{Transaction}
 use Rattle.fw_run.specs.Giving.{at_most}
-use Rattle.fw_run.specs.Entries.{second_over, died, started, inserted, ejected, lines_of, unsettled, shown_entry, lost}
+use Rattle.fw_run.specs.Entries.{second_over, died, started, inserted, ejected, lines_of, unsettled, shown_entry, lost, withheld}
 use Rattle.fw_run.specs.State.{State, Declared, epoch_of, is_on, is_linked, with_device, is_living, is_deaf}
 use Rattle.fw_run.specs.Frames.{command_write, response_write, frame_packet}
 use Rattle.fw_run.specs.Spaces.{script_head, access_request, target_node, transaction_head, answer_packet, read_at, reply_from}
 use Rattle.fw_run.specs.HalfSteps.{half}
 use Rattle.fw_run.specs.Streams.{bytes_of, cycle_start, stream_packet}
-use Rattle.fw_run.specs.Actions.{Action, AddDevice, AddCable, ResetBus, StartConnection, StartBreak, HalfStep, Rest, Unsettled, Pass, EndSecond, Die, CarryOut, Lose, TellLoss, Start, Ask, Answer, ShowWord, SendCommand, SendFrame, Receive, InsertTape, EjectTape, StartCycle, SendPacket, Finish, Resets, Declares, Joins, AccessFits, with_topology, Step, Steps, counting, beginning, counted}
+use Rattle.fw_run.specs.Actions.{Action, Withhold, AddDevice, AddCable, ResetBus, StartConnection, StartBreak, HalfStep, Rest, Unsettled, Pass, EndSecond, Die, CarryOut, Lose, TellLoss, Start, Ask, Answer, ShowWord, SendCommand, SendFrame, Receive, InsertTape, EjectTape, StartCycle, SendPacket, Finish, Resets, Declares, Joins, AccessFits, with_topology, Step, Steps, counting, beginning, counted}
 use Rattle.fw_run.specs.Good.{IsGood, AreDeclared}
 use Rattle.fw_run.specs.Numbers.{HasNumbers}
 use Rattle.fw_run.proofs.Along.{step_led}
@@ -138,6 +138,7 @@ taken_fits s d out t g b lives (keeps_deaf deaf said is) = none_fit out said
 taken_fits s d out t g b lives (forces_reset deaf r) = reset_fits (counted s 1) s.declared d out t g.declared r
 
 pub step_fits : (s : State) (a : Action) (out : List Timed) (t : State) → IsGood s → HasNumbers s → Step s a out t → AllFit out
+step_fits s Withhold out t g b x = most_fit s.clock.cycle (Some withheld) out x.1.2 (record { device = omega arith; tape = omega arith; shape = refl })
 step_fits s (AddDevice name kind ports speed) out t g b x = declare_fits s s.declared.names (with_device s.declared name kind ports speed) out t (more_declared s name kind ports speed (record { good = g; room = x.1.0; some = x.1.1; most = x.1.2; fast = x.1.3 })) x.1.4
 step_fits s (AddCable p q) out t g b x = join_fits (is_on s p.device) (is_on s q.device) p.device q.device s x.1.0 out t (cabled_declared s.declared x.1.0 p q x.1.1 g.declared) x.1.2
 step_fits s (ResetBus d) out t g b x = reset_fits (counting s) s.declared d out t g.declared x.1.1.1

@@ -3,7 +3,7 @@ use Rattle.std.proofs.Common.{List, [], ◌∷◌, None, Some, sym, subst, arith
 use Rattle.fw_entry.specs.declared.entry.Timed.{Timed}
 use Rattle.fw_run.specs.State.{State, is_living}
 use Rattle.fw_run.specs.HalfSteps.{after_half}
-use Rattle.fw_run.specs.Actions.{Action, AddDevice, AddCable, ResetBus, StartConnection, StartBreak, HalfStep, Rest, Unsettled, Pass, EndSecond, Die, CarryOut, Lose, TellLoss, Start, Ask, Answer, ShowWord, SendCommand, SendFrame, Receive, InsertTape, EjectTape, StartCycle, SendPacket, Finish, Step, Steps, counted}
+use Rattle.fw_run.specs.Actions.{Action, Withhold, AddDevice, AddCable, ResetBus, StartConnection, StartBreak, HalfStep, Rest, Unsettled, Pass, EndSecond, Die, CarryOut, Lose, TellLoss, Start, Ask, Answer, ShowWord, SendCommand, SendFrame, Receive, InsertTape, EjectTape, StartCycle, SendPacket, Finish, Step, Steps, counted}
 use Rattle.fw_run.specs.Frames.{command_write}
 use Rattle.fw_run.specs.Spaces.{bus_manager_id_after}
 use Rattle.fw_run.specs.Good.{IsGood}
@@ -16,6 +16,7 @@ use Rattle.fw_run.proofs.Others.{start_good, transaction_good, unsettled_good, t
 use Rattle.fw_run.proofs.Times.{written_good, pass_good, second_good, counted_good}
 use Rattle.fw_run.proofs.Resets.{reset_good}
 use Rattle.fw_run.proofs.Taking.{Taken, listens, keeps_deaf, forces_reset, taken_as}
+use Rattle.fw_run.proofs.Withholds.{withhold_good}
 
 taken_good : (s : State) (d : ℕ) (out : List Timed) (t : State) → IsGood s → IsTrue (is_living s d) → s.half_steps < 4000000 → Taken s d out t → IsGood t
 taken_good s d out t g lives few (listens quiet said is) = subst IsGood (sym is) (counted_good (after_half s d) 1 (half_good s d g lives quiet) (omega (arith, few)))
@@ -23,6 +24,7 @@ taken_good s d out t g lives few (keeps_deaf deaf said is) = subst IsGood (sym i
 taken_good s d out t g lives few (forces_reset deaf r) = reset_good (counted s 1) s.declared d out t (forced_may s d g lives deaf few) r
 
 pub step_good : (s : State) (a : Action) (out : List Timed) (t : State) → IsGood s → Step s a out t → IsGood t
+step_good s Withhold out t g x = subst IsGood (sym x.1.3) (withhold_good s g x.1.0)
 step_good s (AddDevice name kind ports speed) out t g x = declare_good s name kind ports speed out t (record { good = g; room = x.1.0; some = x.1.1; most = x.1.2; fast = x.1.3 }) x.1.4
 step_good s (AddCable a b) out t g x = cable_good s x.1.0 a b out t g x.1.1 x.1.2
 step_good s (ResetBus d) out t g x = begun_good s d out t g x.1.0 x.1.1

@@ -36,11 +36,11 @@ use Rattle.fw_run.proofs.Words.{number_of_on}
 
 -- ---- what happens to a node and its deck
 
-pub first_kept : (kind : DeviceKind) (d rate : ℕ) → HasDeck (Nodes.first_state kind d rate) (has_unit kind) first_deck
-first_kept Relay d rate = record { unit = refl; waiting = refl }
-first_kept Deck d rate = record { unit = refl; waiting = refl }
-first_kept Camcorder d rate = record { unit = refl; waiting = refl }
-first_kept Computer d rate = record { unit = refl; waiting = refl }
+pub first_kept : (kind : DeviceKind) (d rate : ℕ) (withheld : Bool) → HasDeck (Nodes.first_state kind d rate withheld) (has_unit kind) first_deck
+first_kept Relay d rate withheld = record { unit = refl; waiting = refl }
+first_kept Deck d rate withheld = record { unit = refl; waiting = refl }
+first_kept Camcorder d rate withheld = record { unit = refl; waiting = refl }
+first_kept Computer d rate withheld = record { unit = refl; waiting = refl }
 
 pub reset_kept : (number : ℕ) (manager b : Bool) (n : NodeState) (k : DeckState) → HasDeck n b k → HasDeck (Nodes.after_reset number manager n) b (after_reset k)
 reset_kept number manager true n k h = record { unit = λ i. (Nodes.after_reset number manager (record n { unit = h.unit i })).unit; waiting = refl }

@@ -26,7 +26,7 @@ use Rattle.fw_run.specs.declared.order.Transaction.{Transaction}
 use Rattle.fw_run.specs.declared.order.Wanted.{Wanted}
 use Rattle.fw_run.specs.declared.order.Wanted.TheVariants.{PlugToPlug, BroadcastOut, BroadcastIn}
 use Rattle.fw_run.specs.Giving.{at_most}
-use Rattle.fw_run.specs.Entries.{second_over, died, started, inserted as inserted_entry, ejected, unsettled, lost, shown_entry}
+use Rattle.fw_run.specs.Entries.{second_over, died, started, inserted as inserted_entry, ejected, unsettled, lost, withheld, shown_entry}
 use Rattle.fw_run.specs.State.{State, with_device, entered, while_talking, epoch_of, is_on, is_linked, is_deaf, has_deck, is_living}
 use Rattle.fw_run.specs.Decks.{Obeyed, with_tape, passed as deck_passed, after_reset as deck_reset}
 use Rattle.fw_run.specs.Frames.{Sends, Receives, request_of, command_write, frame_packet}
@@ -41,6 +41,7 @@ use Rattle.fw_run.specs.Spaces.{answer_packet, transaction_head, target_node, ac
 use Rattle.fw_run.specs.HalfSteps.{half, has_request, with_controller, after_half, is_waiting, is_unsettled}
 
 pub data Action : Type 0 where
+  Withhold : Action  -- the bus withholds channel 31 from now on
   AddDevice : (name : List ℕ) → (kind : DeviceKind) → (ports speed : ℕ) → Action
   AddCable : (a b : End) → Action
   ResetBus : (device : ℕ) → Action
@@ -208,6 +209,8 @@ AccessFits (Swap offset argument new) = (offset < 2 ^ 12) × (argument < 2 ^ 32)
 -- One action while no transaction of the script waits for its answer: what it writes, and the state after it. While the second of
 -- the latest bus reset runs its end has not come yet, so in each state it is not over.
 abbrev pub Happens : State → Action → List Timed → State → Type 0
+Happens s Withhold out t =
+    (s.declared.names ≡ []) × IsFalse s.account.withheld × (out ≡ at_most s.clock.cycle (Some withheld)) × (t ≡ record s { account = entered s.account withheld })
 Happens s (AddDevice name kind ports speed) out t =
     (length s.declared.names < 63) × (1 ≤ ports) × (ports ≤ 27) × (speed ≤ 2)
     × Declares s.declared.names (record s { declared = with_device s.declared name kind ports speed }) out t

@@ -1,5 +1,5 @@
 -- What a command that breaks no rule does: its actions, all that they write, and the state that they lead to.
-use Rattle.std.specs.Prelude.{ℕ, zero, suc, ◌≡◌, ◌+◌, ◌*◌, ◌==◌, ◌&&◌, if◌then◌else◌, List, [], ◌∷◌, ◌++◌, length, map, Option, Some, None, is_some, true, false, IsFalse}
+use Rattle.std.specs.Prelude.{ℕ, zero, suc, ◌≡◌, ◌+◌, ◌*◌, ◌==◌, ◌&&◌, if◌then◌else◌, List, [], ◌∷◌, ◌++◌, length, map, Option, Some, None, is_some, true, false, IsTrue, IsFalse}
 use Rattle.fw_base.specs.declared.device.DeviceKind.{DeviceKind}
 use Rattle.fw_base.specs.declared.plug.PlugAt.{PlugAt}
 use Rattle.fw_entry.specs.declared.entry.ResetEntry.{ResetEntry}
@@ -15,7 +15,7 @@ use Rattle.fw_run.specs.Frames.{next_told}
 use Rattle.fw_run.specs.Streams.{GivenBlock, talkers}
 use Rattle.fw_run.specs.State.{State, living}
 use Rattle.fw_run.specs.HalfSteps.{has_request, is_unsettled}
-use Rattle.fw_run.specs.Actions.{Action, AddDevice, AddCable, ResetBus, StartConnection, StartBreak, HalfStep, Rest, Unsettled, Pass, EndSecond, Steps}
+use Rattle.fw_run.specs.Actions.{Action, Withhold, AddDevice, AddCable, ResetBus, StartConnection, StartBreak, HalfStep, Rest, Unsettled, Pass, EndSecond, Steps}
 use Rattle.fw_run.specs.Actions.{Die, CarryOut, Lose, TellLoss, Start, Ask, Answer, ShowWord, SendCommand, SendFrame, Receive, InsertTape, EjectTape, StartCycle, SendPacket, Finish}
 
 -- the same action so many times
@@ -79,6 +79,9 @@ HasCycles (suc n) s actions out t =
 
 -- A constructor an order, and two where the state decides.
 pub data Carries : State → Order → List Action → List Timed → State → Type 0 where
+  withholds : {s t : State} {out : List Timed} → Steps s (Withhold ∷ []) out t → Carries s Orders.Withhold (Withhold ∷ []) out t
+  -- a bus that withholds the channel goes on
+  withholds_already : {s : State} → IsTrue s.account.withheld → Carries s Orders.Withhold [] [] s
   declares : {s t : State} {name : List ℕ} {kind : DeviceKind} {ports speed : ℕ} {out : List Timed}
       → Steps s (AddDevice name kind ports speed ∷ []) out t → Carries s (Orders.Declare name kind ports speed) (AddDevice name kind ports speed ∷ []) out t
   joins : {s t : State} {a b : End} {out : List Timed} → Steps s (AddCable a b ∷ []) out t → Carries s (Orders.Cable a b) (AddCable a b ∷ []) out t

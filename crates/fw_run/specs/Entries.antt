@@ -1,7 +1,7 @@
 -- The entries of events and of outcomes.
 use Rattle.std.specs.Prelude.{ℕ, ◌%◌, ◌^◌}
 use Rattle.fw_entry.specs.declared.codes.TheConstants.{NO_DEVICE, LINES_525, LINES_625}
-use Rattle.fw_entry.specs.declared.codes.event.TheConstants.{SECOND_OVER, DIED, STARTED, INSERTED, EJECTED, UNSETTLED, LOST}
+use Rattle.fw_entry.specs.declared.codes.event.TheConstants.{SECOND_OVER, DIED, STARTED, INSERTED, EJECTED, UNSETTLED, LOST, WITHHELD}
 use Rattle.fw_entry.specs.declared.codes.outcome.TheConstants as Codes
 use Rattle.fw_entry.specs.declared.entry.Entry.{Entry}
 use Rattle.fw_entry.specs.declared.entry.Entry.TheVariants.{Event, Outcome as OutcomeOf, Shown}
@@ -33,6 +33,10 @@ unsettled = event_of UNSETTLED NO_DEVICE
 -- a controller has not heard the response to its request
 abbrev pub lost : ℕ → Entry
 lost d = event_of LOST d
+
+-- the bus withholds channel 31
+abbrev pub withheld : Entry
+withheld = event_of WITHHELD NO_DEVICE
 
 -- how many lines a picture of a television system has
 abbrev pub lines_of : TapeSystem → ℕ

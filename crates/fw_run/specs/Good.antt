@@ -41,9 +41,9 @@ ManagerContends kinds e = (n : ℕ) → e.manager ≡ Some n → (d : ℕ) × (n
 abbrev pub IsEntryOf : Declared → ResetEntry → Type 0
 IsEntryOf n e = (d : ℕ) × IsResetEntry n.topology n.kinds e.epoch d e
 
--- before the first device there is nothing, and then the latest reset entry shows the bus, and is still one of its cabling
+-- before the first device there is nothing but what the bus withholds, and then the latest reset entry shows the bus, and is still one of its cabling
 abbrev pub IsLatest : Option ResetEntry → State → Type 0
-IsLatest None s = (s.declared.names ≡ []) × (s.account ≡ no_account)
+IsLatest None s = (s.declared.names ≡ []) × (s.account ≡ record no_account { withheld = s.account.withheld })
 IsLatest (Some e) s =
     (0 < length s.declared.names) × Shows s.declared.topology s.declared.kinds e × (e.epoch ≤ 10000) × ManagerContends s.declared.kinds e × (e.root < length e.nodes)
     × IsEntryOf s.declared e

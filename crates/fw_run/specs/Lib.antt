@@ -24,3 +24,4 @@ pub mod Cycles
 pub mod OneLog
 pub mod Truth
 pub mod Recovery
+pub mod Withheld

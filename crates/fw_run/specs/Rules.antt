@@ -27,7 +27,7 @@ use Rattle.fw_run.specs.declared.order.Order.{Order}
 use Rattle.fw_run.specs.declared.order.Order.TheVariants as order
 use Rattle.fw_run.specs.declared.rule.RuleFault.{RuleFault}
 use Rattle.fw_run.specs.declared.rule.RuleFault.TheVariants.{UnknownName, NameTaken, TooMany, NoPort, PortUsed, Loop, NotController, OffBus}
-use Rattle.fw_run.specs.declared.rule.RuleFault.TheVariants.{Guarded, NoRegister, Limit, TableFull, Busy, NoSuchConnection, NotOwnPlug, NoDeck, NothingStands}
+use Rattle.fw_run.specs.declared.rule.RuleFault.TheVariants.{Guarded, NoRegister, Limit, TableFull, Busy, NoSuchConnection, NotOwnPlug, NoDeck, NothingStands, TooLate}
 use Rattle.fw_run.specs.State.{State, device_in, manager_in, is_on, is_linked, has_deck, is_living, living}
 use Rattle.fw_run.specs.HalfSteps.{has_request}
 use Rattle.fw_run.specs.Spaces.{read_at}
@@ -44,6 +44,7 @@ is_declared s name = is_some (device_named s.declared.names name)
 
 -- the declared devices that a command names, from left to right
 abbrev pub names_of : Command → List (List ℕ)
+names_of Commands.Withhold = []
 names_of (Commands.Device name kind ports speed) = []
 names_of (Commands.Cable a b) = a.0 ∷ b.0 ∷ []
 names_of (Commands.Reset name) = name ∷ []
@@ -199,6 +200,11 @@ abbrev pub HasNothing : State → Command → Type 0
 HasNothing s (Commands.Lose name) = IsNot s (λ d. has_request (s.controllers d).current) (Some name)
 HasNothing s _ = ⊥
 
+-- a device is declared before the channel is withheld
+abbrev pub IsTooLate : State → Command → Type 0
+IsTooLate s Commands.Withhold = 0 < length s.declared.names
+IsTooLate s _ = ⊥
+
 -- A command breaks a rule.
 abbrev pub Breaks : State → Command → RuleFault → Type 0
 Breaks s c UnknownName = IsTrue (list_any (λ name. not (is_declared s name)) (names_of c))
@@ -218,6 +224,7 @@ Breaks s c Busy = IsRefused s c Refusals.Busy
 Breaks s c Guarded = IsGuarded c
 Breaks s c NoRegister = HasNoRegister s c
 Breaks s c Limit = PassesLimit s c
+Breaks s c TooLate = IsTooLate s c
 
 -- the order in which they are tested
 abbrev pub rank : RuleFault → ℕ
@@ -238,6 +245,7 @@ rank Busy = 14
 rank Guarded = 15
 rank NoRegister = 16
 rank Limit = 17
+rank TooLate = 18
 
 -- ---- orders
 
@@ -254,6 +262,7 @@ Transacts s name other access o = (d e : ℕ) × IsNamed s name d × IsNamed s o
 
 -- a command, with its devices by number
 abbrev pub IsOrder : State → Command → Order → Type 0
+IsOrder s Commands.Withhold o = o ≡ order.Withhold
 IsOrder s (Commands.Device name kind ports speed) o = o ≡ order.Declare name (kind_with kind) ports speed
 IsOrder s (Commands.Cable a b) o = Ends s (Commands.Cable a b) (λ x y. o ≡ order.Cable x y)
 IsOrder s (Commands.Reset name) o = (d : ℕ) × IsNamed s name d × (o ≡ order.Reset d)

@@ -30,6 +30,7 @@ manager_words s = record {
   bandwidth_available = word_of s.account BandwidthAvailable;
   channels_available_hi = word_of s.account (ChannelsAvailable 0);
   channels_available_lo = word_of s.account (ChannelsAvailable 32);
+  withheld = s.account.withheld;
 }
 
 -- node n is the isochronous resource manager

@@ -41,7 +41,7 @@ pub fn decks_tell_linked_nodes()
 /// tapes go in and out and time goes by, and as frames are sent. A deck that is off stays as it is at a bus reset, and one that
 /// has nothing to send as it is asked for a frame.
 pub fn nodes_keep_decks()
-    ensures first { (kind : DeviceKind) (d rate : ℕ) → HasDeck (first_state kind d rate) (has_unit kind) first_deck }
+    ensures first { (kind : DeviceKind) (d rate : ℕ) (withheld : Bool) → HasDeck (first_state kind d rate withheld) (has_unit kind) first_deck }
     ensures requests { (r : Request) (b : Bool) (n : NodeState) (k : DeckState) → HasDeck n b k → HasDeck (after_request (Some r) n) b k }
     ensures resets { (number : ℕ) (manager b : Bool) (n : NodeState) (k : DeckState) → HasDeck n b k → HasDeck (node_after_reset number manager n) b (after_reset k) }
     ensures rests { (b : Bool) (n : NodeState) (k : DeckState) → IsAtRest k → HasDeck n b k → HasDeck n b (after_reset k) }

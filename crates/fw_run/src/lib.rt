@@ -11,6 +11,7 @@ mod losses;
 mod order;
 mod rule;
 mod streams;
+mod withholding;
 
 pub use deck_laws::{commands_are_followed, decks_tell_linked_nodes, nodes_keep_decks};
 pub use laws::{
@@ -22,3 +23,4 @@ pub use losses::{lost_responses_are_not_heard, lost_swaps_come_right};
 pub use order::{Access, Order, Transaction, Wanted};
 pub use rule::RuleFault;
 pub use streams::{counts_follow_who_talks, cycles_can_be_written, cycles_have_a_packet_a_talker};
+pub use withholding::withheld_channels_stay_unused;

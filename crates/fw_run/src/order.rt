@@ -37,6 +37,8 @@ pub enum Wanted {
 /// the command.
 #[derive(Debug, PartialEq, Eq, Drop)]
 pub enum Order<'a> {
+    /// The bus withholds channel 31: it cannot be allocated.
+    Withhold,
     /// A device more: its name, its kind, its ports (1 to 27) and its speed (0, 1, 2 for 100, 200, 400 Mbit/s).
     Declare(Name, DeviceKind, u8, u8),
     /// A cable between two ports.

@@ -39,4 +39,6 @@ pub enum RuleFault {
     NoDeck,
     /// `lose`: no request of the controller's procedure stands.
     NothingStands,
+    /// `withhold`: a device is declared.
+    TooLate,
 }

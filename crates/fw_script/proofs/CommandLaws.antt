@@ -13,7 +13,7 @@ use Rattle.fw_script.specs.Form.{HasArguments, HasForm}
 use Rattle.fw_script.specs.Words.{both, channel_in, is, is_decimal, name_in, only_if, or_none, number_in, offset_in, place_by, place_in, some_in}
 use Rattle.fw_script.specs.Pieces.{pieces}
 use Rattle.fw_script.specs.declared.keyword.Keyword.{Keyword}
-use Rattle.fw_script.specs.declared.keyword.Keyword.TheVariants.{Device, Cable, Reset, Connect, Broadcast, Listen, Break, Step, Settle, Wait, Cycles, Die, Lose, Start, Command as CommandWord, Read, Swap, Insert, Eject, Show, End}
+use Rattle.fw_script.specs.declared.keyword.Keyword.TheVariants.{Device, Cable, Reset, Connect, Broadcast, Listen, Break, Step, Settle, Wait, Cycles, Die, Lose, Start, Command as CommandWord, Read, Swap, Insert, Eject, Show, Withhold, End}
 use Rattle.fw_script.specs.declared.command.Command.{Command}
 use Rattle.fw_script.specs.declared.command.Command.TheVariants as Commands
 
@@ -166,6 +166,7 @@ arguments_fit Start ws c h = fits_as c (Commands.Start h.1) h.4 tt
 arguments_fit CommandWord ws c h = fits_as c (Commands.Command h.3 h.4 h.5) h.10 tt
 arguments_fit Insert ws c h = fits_as c (Commands.Insert h.3 h.4 h.5) h.10 tt
 arguments_fit Eject ws c h = fits_as c (Commands.Eject h.1) h.4 tt
+arguments_fit Withhold ws c h = fits_as c Commands.Withhold h.1 tt
 arguments_fit End ws c h = fits_as c Commands.End h.1 tt
 
 pub command_fits : (c : Command) (line : List ℕ) → HasForm c line → CommandFits c

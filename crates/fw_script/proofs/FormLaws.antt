@@ -3,7 +3,7 @@ use Rattle.std.proofs.Common.{◌≡◌, ℕ, List, Option, IsSome, true, false,
 use Rattle.fw_script.specs.Form.{HasArguments, HasForm, Words1, Words2, Words3, Words4, Words5}
 use Rattle.fw_script.specs.Words.{name_in, number_in, place_in, kind_in, speed_in, channel_in, system_in, shown_in, offset_in, word_in, frame_in, late_in}
 use Rattle.fw_script.specs.declared.keyword.Keyword.{Keyword}
-use Rattle.fw_script.specs.declared.keyword.Keyword.TheVariants.{Device, Cable, Reset, Connect, Broadcast, Listen, Break, Step, Settle, Wait, Cycles, Die, Lose, Start, Command as CommandWord, Read, Swap, Insert, Eject, Show, End}
+use Rattle.fw_script.specs.declared.keyword.Keyword.TheVariants.{Device, Cable, Reset, Connect, Broadcast, Listen, Break, Step, Settle, Wait, Cycles, Die, Lose, Start, Command as CommandWord, Read, Swap, Insert, Eject, Show, Withhold, End}
 use Rattle.fw_script.specs.declared.command.Command.{Command}
 use Rattle.fw_script.specs.declared.command.Command.TheVariants as Commands
 
@@ -54,6 +54,7 @@ same_arguments Swap ws c d h e = same5 name_in name_in offset_in word_in word_in
 same_arguments Insert ws c d h e = same3 name_in (number_in 0 65535) system_in (λ u v w. Commands.Insert u v w) ws c d h e
 same_arguments Eject ws c d h e = same1 name_in (λ u. Commands.Eject u) ws c d h e
 same_arguments Show ws c d h e = same2 shown_in offset_in (λ u v. Commands.Show u v) ws c d h e
+same_arguments Withhold ws c d h e = h.1 ∙ sym e.1
 same_arguments End ws c d h e = h.1 ∙ sym e.1
 
 -- a line is one command at most

@@ -2,7 +2,7 @@
 use Rattle.std.specs.Prelude.{ℕ, List, Option, Some, None, codes, if◌then◌else◌}
 use Rattle.fw_script.specs.Words.{is}
 use Rattle.fw_script.specs.declared.keyword.Keyword.{Keyword}
-use Rattle.fw_script.specs.declared.keyword.Keyword.TheVariants.{Device, Cable, Reset, Connect, Broadcast, Listen, Break, Step, Settle, Wait, Cycles, Die, Lose, Start, Command, Read, Swap, Insert, Eject, Show, End}
+use Rattle.fw_script.specs.declared.keyword.Keyword.TheVariants.{Device, Cable, Reset, Connect, Broadcast, Listen, Break, Step, Settle, Wait, Cycles, Die, Lose, Start, Command, Read, Swap, Insert, Eject, Show, Withhold, End}
 
 -- the keyword that the word is
 abbrev pub keyword_in : List ℕ → Option Keyword
@@ -27,6 +27,7 @@ keyword_in w =
     else if is (codes "insert") w then Some Insert
     else if is (codes "eject") w then Some Eject
     else if is (codes "show") w then Some Show
+    else if is (codes "withhold") w then Some Withhold
     else if is (codes "end") w then Some End
     else None
 

@@ -46,6 +46,8 @@ pub enum Command {
     Eject(Name),
     /// `show NAME OFF`: no name for `manager`.
     Show(Option<Name>, u16),
+    /// `withhold`: the bus withholds channel 31.
+    Withhold,
     /// `end`.
     End,
 }

@@ -1,4 +1,4 @@
-//! Lines on devices, cables, tapes and registers.
+//! Lines on devices, cables, tapes, registers and the bus.
 
 ghost use Rattle.std.specs.Prelude.{◌≡◌, IsSome, IfSome};
 ghost use Rattle.fw_script.specs.Form.{HasArguments};
@@ -81,5 +81,15 @@ pub(crate) fn show(words: &mut Pieces, out: &mut Command) -> Option<()>
     let offset = offset(words.next()?)?;
     words.end()?;
     *out = Command::Show(name, offset);
+    Some(())
+}
+
+/// `withhold`
+pub(crate) fn withhold(words: &mut Pieces, out: &mut Command) -> Option<()>
+    ensures found { IfSome result (λ u. HasArguments Keyword.Withhold words.old out.new) }
+    ensures only { (c : Command) → HasArguments Keyword.Withhold words.old c → IsSome result × (out.new ≡ c) }
+{
+    words.end()?;
+    *out = Command::Withhold;
     Some(())
 }

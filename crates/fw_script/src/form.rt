@@ -7,7 +7,7 @@ ghost use Rattle.fw_script.specs.declared.command.Command.{Command};
 use crate::Command;
 use crate::controller_forms::{break_, broadcast, connect, die, listen, lose, settle, start, step};
 use crate::cut::Pieces;
-use crate::device_forms::{cable, device, eject, insert, reset, show};
+use crate::device_forms::{cable, device, eject, insert, reset, show, withhold};
 use crate::keyword::{Keyword, keyword_of};
 use crate::transaction_forms::{command, cycles, end, read, swap, wait};
 
@@ -37,6 +37,7 @@ fn arguments(keyword: Keyword, words: &mut Pieces, out: &mut Command) -> Option<
         Keyword::Insert => insert(words, out),
         Keyword::Eject => eject(words, out),
         Keyword::Show => show(words, out),
+        Keyword::Withhold => withhold(words, out),
         Keyword::End => end(words, out),
     }
 }

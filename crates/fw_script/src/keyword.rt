@@ -28,6 +28,7 @@ pub(crate) enum Keyword {
     Insert,
     Eject,
     Show,
+    Withhold,
     End,
 }
 
@@ -126,6 +127,7 @@ pub(crate) fn keyword_of(word: &[u8]) -> Option<Keyword>
         5 => of_five(word),
         6 => of_six(word),
         7 => of_seven(word),
+        8 if is(word, b"withhold") => Some(Keyword::Withhold),
         9 if is(word, b"broadcast") => Some(Keyword::Broadcast),
         _ => None,
     }

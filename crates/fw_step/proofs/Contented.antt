@@ -24,7 +24,7 @@ use Rattle.fw_cmp.specs.Stages.{hear_reply}
 use Rattle.fw_cmp.specs.Starts.{IsMaking, started}
 use Rattle.fw_step.specs.Controllers.{ControllerInStep}
 use Rattle.fw_step.specs.Registers.{IsAnswer}
-use Rattle.fw_step.specs.Together.{AreInStep, Happens, asks, rests, hears, given, resets, second, dies, Becomes, IsGiven, connection, break}
+use Rattle.fw_step.specs.Together.{AreInStep, Happens, asks, rests, hears, given, resets, second, dies, withholds, Becomes, IsGiven, connection, break}
 use Rattle.fw_step.specs.Wants.{is_own, IsContent}
 use Rattle.fw_step.proofs.Carried.{hearing}
 use Rattle.fw_step.proofs.Given.{slot_taken, break_is_task}
@@ -179,3 +179,4 @@ stay_content dir new l m before after x (given d c is e b same) h = becomes_cont
 stay_content dir new l m before after x (resets r epoch lost network grows is each) h = λ d. subst (λ y. IsContent y y.current) (sym (each d)) (state_content l d epoch (lost d) (before d) (x.fits d).slots (x.each d) (h d))
 stay_content dir new l m before after x (second is each same) h = λ d. subst (λ y. IsContent y y.current) (sym (each d)) (second_content (before d) (h d))
 stay_content dir new l m before after x (dies d is b same) h = becomes_content before after d _ b tt h
+stay_content dir new l m before after x (withholds first is each same) h = λ d. subst (λ y. IsContent y y.current) (sym (each d)) (h d)

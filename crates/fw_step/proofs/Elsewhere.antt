@@ -7,13 +7,14 @@ use Rattle.fw_base.specs.Tables.{update, update_plug}
 use Rattle.fw_base.proofs.Tables.{update_plug_at, sum_to_same}
 use Rattle.fw_plug.specs.Words.{flag}
 use Rattle.fw_plug.specs.Words.{units_of}
-use Rattle.fw_ledger.specs.Account.{Connected, Allocation, Account, total, allocated, remainder, has_connection, is_free}
+use Rattle.fw_ledger.specs.Account.{Connected, Allocation, Account, total, allocated, remainder, has_connection, is_free, is_open}
 use Rattle.fw_ledger.specs.Moves.{Move, AllocateChannel, AllocateUnits, ConnectFirst, ConnectOverlaid, ConnectInput, DisconnectInput, DisconnectOutput, ReleaseUnits, ReleaseChannel, Can, after, drop_connection, made_pending}
 use Rattle.fw_ledger.specs.Sound.{IsSound}
 use Rattle.fw_ledger.specs.Words.{Register, BandwidthAvailable, ChannelsAvailable, OutputPlug, InputPlug, word_of, bits_word, channel_word}
 use Rattle.fw_ledger.specs.Decode.{register_of_move}
 use Rattle.fw_ledger.proofs.Connections.{had_connection}
 use Rattle.fw_ledger.proofs.Moves.{total_changed}
+use Rattle.fw_ledger.proofs.Open.{open_is, same_open}
 use Rattle.fw_cmp.specs.Plugs.{half_of}
 use Rattle.fw_step.specs.InStep.{IsRegister}
 use Rattle.fw_step.proofs.Words.{output_word, input_word}
@@ -24,15 +25,19 @@ bits_same : (f g : ℕ → Bool) → ((i : ℕ) → i < 32 → f i ≡ g i) → 
 bits_same f g same = sum_to_same 32 (λ i. flag (f (31 - i)) * 2 ^ i) (λ i. flag (g (31 - i)) * 2 ^ i) (λ i lt. ap (λ b. flag b * 2 ^ i) (same (31 - i) (omega arith)))
 
 -- a channel stays free, or stays taken
-half_same : (l : Account) (ch : ℕ) (x : Option Allocation) (base : ℕ) → is_free x ≡ is_free (l.allocations ch) → bits_word (λ i. is_free (update l.allocations ch x (base + i))) ≡ channel_word l base
-half_same l ch x base e = bits_same (λ i. is_free (update l.allocations ch x (base + i))) (λ i. is_free (l.allocations (base + i))) (λ i lt. go i (cases_eq (base + i) ch))
+half_same : (l : Account) (ch : ℕ) (x : Option Allocation) (base : ℕ) → is_free x ≡ is_free (l.allocations ch) → bits_word (λ i. is_open l.withheld (update l.allocations ch x) (base + i)) ≡ channel_word l base
+half_same l ch x base e =
+    bits_same (λ i. is_open l.withheld (update l.allocations ch x) (base + i)) (λ i. is_open l.withheld l.allocations (base + i))
+    (λ i lt. same_open l.withheld (update l.allocations ch x) l.allocations (base + i) (go i (cases_eq (base + i) ch)))
   where
     go : (i : ℕ) → (base + i ≡ ch) ⊎ (base + i ≢ ch) → is_free (update l.allocations ch x (base + i)) ≡ is_free (l.allocations (base + i))
     go i (inl same) = grind (arith, nat_tests)
     go i (inr ne) = grind (arith, nat_tests)
 
-other_half : (l : Account) (ch : ℕ) (x : Option Allocation) (base : ℕ) → (base ≡ 0) ⊎ (base ≡ 32) → ChannelsAvailable base ≢ ChannelsAvailable (half_of ch) → bits_word (λ i. is_free (update l.allocations ch x (base + i))) ≡ channel_word l base
-other_half l ch x base half ne = bits_same (λ i. is_free (update l.allocations ch x (base + i))) (λ i. is_free (l.allocations (base + i))) (λ i il. grind (arith, nat_tests, apart i il))
+other_half : (l : Account) (ch : ℕ) (x : Option Allocation) (base : ℕ) → (base ≡ 0) ⊎ (base ≡ 32) → ChannelsAvailable base ≢ ChannelsAvailable (half_of ch) → bits_word (λ i. is_open l.withheld (update l.allocations ch x) (base + i)) ≡ channel_word l base
+other_half l ch x base half ne =
+    bits_same (λ i. is_open l.withheld (update l.allocations ch x) (base + i)) (λ i. is_open l.withheld l.allocations (base + i))
+    (λ i il. same_open l.withheld (update l.allocations ch x) l.allocations (base + i) (grind (arith, nat_tests, apart i il)))
   where
     at : (i : ℕ) → i < 32 → base + i ≡ ch → (base ≡ 0) ⊎ (base ≡ 32) → base ≡ half_of ch
     at i il e (inl z) = grind (arith, nat_tests)
@@ -56,7 +61,7 @@ other_input : (p q : PlugAt) → InputPlug q ≢ InputPlug p → q ≢ p
 other_input p q ne e = ne (ap InputPlug e)
 
 pub move_elsewhere : (c : ℕ) (p : PlugAt) (m : Move) (l : Account) (r : Register) → c < 63 → IsSound l → Can c p m l → IsRegister r → r ≢ register_of_move p m → word_of (after c p m l) r ≡ word_of l r
-move_elsewhere c p (AllocateChannel ch) l BandwidthAvailable lt s h is ne = rest_same l ch _ h.within (rw h.free refl)
+move_elsewhere c p (AllocateChannel ch) l BandwidthAvailable lt s h is ne = rest_same l ch _ h.within (rw (open_is l.withheld l.allocations ch h.available).0 refl)
 move_elsewhere c p (AllocateChannel ch) l (ChannelsAvailable base) lt s h is ne = other_half l ch _ base is ne
 move_elsewhere c p (AllocateChannel ch) l (OutputPlug q) lt s h is ne = refl
 move_elsewhere c p (AllocateChannel ch) l (InputPlug q) lt s h is ne = refl

@@ -6,7 +6,7 @@ use Rattle.std.proofs.Common.{◌≡◌, ◌≢◌, ℕ, false, Option, Some, No
 use Rattle.std.proofs.lemmas.Bool.Decides.{nat_tests}
 use Rattle.fw_entry.specs.declared.entry.ResetEntry.{ResetEntry}
 use Rattle.fw_ledger.specs.Account.{Holder, Pending, Connected, Orphaned, Allocation, Owner, Of, Dead, Connections, Account, Request, is_pending, is_pending_of}
-use Rattle.fw_ledger.specs.Events.{after_reset, after_second, after_death, orphaned_allocation, orphaned_holder, orphaned_connections, orphaned_owner}
+use Rattle.fw_ledger.specs.Events.{after_reset, after_second, after_death, orphaned_allocation, orphaned_holder, orphaned_connections, orphaned_owner, after_withholding}
 use Rattle.fw_ledger.specs.Packets.{asked, addressed_after, ended}
 use Rattle.fw_ledger.specs.Words.{output_addressed}
 use Rattle.fw_step.specs.Holding.{Reservation, no_holding, is_of, connections_of, HasReserved, Holds, Keeps, Leaves}
@@ -77,6 +77,14 @@ second_keeps l = record { rates = λ q. refl; settings = λ q h. refl; channels 
 
 pub second_leaves : (d : ℕ) (l : Account) → Leaves d l (after_second l)
 second_leaves d l = record { holding = λ h has. record { reserved = has.reserved; outputs = has.outputs; inputs = has.inputs }; addressed = refl }
+
+-- ---- channel 31 is withheld
+
+pub withholding_keeps : (l : Account) → Keeps l (after_withholding l)
+withholding_keeps l = record { rates = λ q. refl; settings = λ q h. refl; channels = λ q h. refl; latest = refl; reclaims = λ r. (r, λ ch. refl) }
+
+pub withholding_leaves : (d : ℕ) (l : Account) → Leaves d l (after_withholding l)
+withholding_leaves d l = record { holding = λ h has. record { reserved = has.reserved; outputs = has.outputs; inputs = has.inputs }; addressed = refl }
 
 -- ---- requests and responses
 

@@ -10,6 +10,7 @@ use Rattle.fw_ledger.specs.Account.{Pending, Connected, Allocation, Account, has
 use Rattle.fw_ledger.specs.Moves.{Move, AllocateChannel, AllocateUnits, ConnectFirst, ConnectOverlaid, ConnectInput, DisconnectInput, DisconnectOutput, ReleaseUnits, ReleaseChannel, Can, after, with_allocation, drop_connection, made_pending}
 use Rattle.fw_ledger.specs.Sound.{IsSound}
 use Rattle.fw_ledger.proofs.Connections.{had_connection}
+use Rattle.fw_ledger.proofs.Open.{open_is}
 use Rattle.fw_step.specs.Holding.{Reservation, Holding, HasReserved, Holds, holding_after, plug_reservation, Keeps, Leaves}
 use Rattle.fw_step.proofs.Counts.{table_added, table_dropped, table_added_other, table_dropped_other, room_of_empty}
 
@@ -94,7 +95,7 @@ allocation_leaves l d ch x old new = record {
 }
 
 pub move_leaves : (c d : ℕ) (p : PlugAt) (m : Move) (l : Account) → c < 63 → d ≢ c → IsSound l → Can c p m l → Leaves d l (after c p m l)
-move_leaves c d p (AllocateChannel ch) l lt ne s can = allocation_leaves l d ch _ (rw can.free refl) (grind (arith, nat_tests))
+move_leaves c d p (AllocateChannel ch) l lt ne s can = allocation_leaves l d ch _ (rw (open_is l.withheld l.allocations ch can.available).0 refl) (grind (arith, nat_tests))
 move_leaves c d p (AllocateUnits ch u) l lt ne s can = allocation_leaves l d ch _ (rw can.channel (grind (arith, nat_tests))) (grind (arith, nat_tests))
 move_leaves c d p (ReleaseUnits ch u) l lt ne s can = allocation_leaves l d ch _ (rw can.held (grind (arith, nat_tests))) (grind (arith, nat_tests))
 move_leaves c d p (ReleaseChannel ch) l lt ne s can = allocation_leaves l d ch _ (rw can.held (grind (arith, nat_tests))) refl

@@ -1,5 +1,5 @@
 -- Which output plugs linger after each entry of a log.
-use Rattle.std.proofs.Common.{◌≡◌, ℕ, ◌<◌, ◌==◌, ◌&&◌, cond, Bool, true, false, Option, Some, None, refl, ap, sym, subst, arith, is_none}
+use Rattle.std.proofs.Common.{◌≡◌, ℕ, ◌<◌, ◌==◌, ◌&&◌, cond, Bool, true, false, Option, Some, None, is_some, refl, ap, sym, subst, arith, is_none}
 use Rattle.std.proofs.lemmas.Bool.Decides.{nat_tests}
 use Rattle.fw_base.specs.declared.plug.PlugAt.{PlugAt}
 use Rattle.fw_async.specs.declared.packet.Head.{Head}
@@ -14,7 +14,7 @@ use Rattle.fw_entry.specs.Network.{device_of_id}
 use Rattle.fw_words.specs.Quadlet.{quadlet_at}
 use Rattle.fw_ledger.specs.Account.{Account, Operation, Reads, Locks, Request, talks}
 use Rattle.fw_ledger.specs.Decode.{move_at}
-use Rattle.fw_ledger.specs.Events.{after_reset, after_second, after_death}
+use Rattle.fw_ledger.specs.Events.{after_reset, after_second, after_death, after_withholding}
 use Rattle.fw_ledger.specs.Fold.{next_account, after_event}
 use Rattle.fw_ledger.specs.Moves.{Move, after}
 use Rattle.fw_ledger.specs.Network.{is_output}
@@ -125,23 +125,29 @@ same_flags l m e q = let same : l ≡ m = cc in ap (λ (x : Account). x.continue
 
 event_lingers : (e : EventEntry) (l m : Account) → after_event e l ≡ Some m → LingerAfter (Event e) l m
 event_lingers e l m f =
-    (λ code. over (e.code == 1) (e.code == 2) (grind (arith, nat_tests, code)) f, λ other. rest (e.code == 1) (e.code == 2) (grind (arith, nat_tests, other)) f)
+    (λ code. over (e.code == 1) (e.code == 2) (e.code == 8) (grind (arith, nat_tests, code)) f, λ other. rest (e.code == 1) (e.code == 2) (e.code == 8) (grind (arith, nat_tests, other)) f)
   where
-    by : Bool → Bool → Option Account
-    by a b = cond a (cond l.reclaiming (Some (after_second l)) None) (cond b (Some (after_death e.device l)) (Some l))
+    by : Bool → Bool → Bool → Option Account
+    by a b c = cond a (cond l.reclaiming (Some (after_second l)) None)
+        (cond b (Some (after_death e.device l)) (cond c (cond (is_some l.latest) None (Some (after_withholding l))) (Some l)))
 
     ends : (b : Bool) → cond b (Some (after_second l)) None ≡ Some m → (q : PlugAt) → m.continues q ≡ false
     ends true g q = let same : after_second l ≡ m = cc in ap (λ (x : Account). x.continues q) (sym same)
     ends false g q = absurd (not_both None m refl g)
 
-    over : (a b : Bool) → a ≡ true → by a b ≡ Some m → (q : PlugAt) → m.continues q ≡ false
-    over false b t g q = absurd (grind (arith, t))
-    over true b t g q = ends l.reclaiming g q
+    over : (a b c : Bool) → a ≡ true → by a b c ≡ Some m → (q : PlugAt) → m.continues q ≡ false
+    over false b c t g q = absurd (grind (arith, t))
+    over true b c t g q = ends l.reclaiming g q
 
-    rest : (a b : Bool) → a ≡ false → by a b ≡ Some m → (q : PlugAt) → m.continues q ≡ l.continues q
-    rest true b t g q = absurd (grind (arith, t))
-    rest false true t g q = let same : after_death e.device l ≡ m = cc in ap (λ (x : Account). x.continues q) (sym same)
-    rest false false t g q = same_flags l m g q
+    withheld : (b : Bool) → cond b None (Some (after_withholding l)) ≡ Some m → (q : PlugAt) → m.continues q ≡ l.continues q
+    withheld true g q = absurd (not_both None m refl g)
+    withheld false g q = let same : after_withholding l ≡ m = cc in ap (λ (x : Account). x.continues q) (sym same)
+
+    rest : (a b c : Bool) → a ≡ false → by a b c ≡ Some m → (q : PlugAt) → m.continues q ≡ l.continues q
+    rest true b c t g q = absurd (grind (arith, t))
+    rest false true c t g q = let same : after_death e.device l ≡ m = cc in ap (λ (x : Account). x.continues q) (sym same)
+    rest false false true t g q = withheld (is_some l.latest) g q
+    rest false false false t g q = same_flags l m g q
 
 pub entry_lingers : (l m : Account) (e : Entry) → IsSound l → next_account l e ≡ Some m → LingerAfter e l m
 entry_lingers l m (Reset r) s f = let same : after_reset r l ≡ m = cc in subst (LingerActive r l) same (reset_lingers r l s)

@@ -25,7 +25,7 @@ use Rattle.fw_step.specs.Registers.{stands, has_manager}
 use Rattle.fw_step.specs.Moves.{at_plug, after_move}
 use Rattle.fw_step.specs.InStep.{Others, reservation, units_at, MayReclaim, works, IsInStep, HalfStep}
 use Rattle.fw_step.proofs.Words.{output_word, units_shown, remainder_shown}
-use Rattle.fw_step.proofs.Registers.{free_is, bit_cleared, remainder_less}
+use Rattle.fw_step.proofs.Registers.{open_is, bit_cleared, remainder_less}
 use Rattle.fw_step.proofs.Decisions.{some_units, NeedsAre, ended_next, out_next, channel_next, units_next, allocated_next, funded_next}
 use Rattle.fw_step.proofs.Goes.{IsSeen, stays}
 use Rattle.fw_step.proofs.Answers.{IsComplete, complete, heard, was_refused, swapped, has_output_plug, same_plug_is, seen_is}
@@ -76,7 +76,7 @@ can_allocate_channel : (l : Account) (c : ℕ) (j : Job) (ch arg w : ℕ) (other
 can_allocate_channel l c j ch arg w others p r x e v = record {
   addressed = x.step.addressed p e refl;
   within = x.stage.1;
-  free = free_is l ch x.stage.1 (rw v x.stage.3);
+  available = open_is l ch x.stage.1 (rw v x.stage.3);
   no_pending = x.step.holds.reserved;
   reclaims = λ runs. (_, reclaim_is l p j ch (x.step.reclaims p e runs refl) (x.step.knows p e).0);
 }
@@ -87,7 +87,7 @@ swap_channels l c j ch arg w others p r x e = record {
     plug = p;
     move = AllocateChannel ch;
     move_is = ap (λ o. at_plug o (AllocateChannel ch)) e;
-    is_move = record { can = can; place = refl; before = v; later = bit_cleared l c p ch can.within can.free (rw v x.stage.3) ∙ ap (λ y. without_bit y (ch - half_of ch)) v };
+    is_move = record { can = can; place = refl; before = v; later = bit_cleared l c p ch can.within can.available (rw v x.stage.3) ∙ ap (λ y. without_bit y (ch - half_of ch)) v };
   });
   step = swapped l (after_move c (at_plug (output_of j.connection) (AllocateChannel ch)) l) c j (SwapChannels ch arg w) (ReadBandwidth ch w) (decide_channel j j.asked (half_of ch) w) others (Channels (half_of ch)) r arg is
       (λ v. subst (λ o. IsInStep (after_move c (at_plug o (AllocateChannel ch)) l) c j (ReadBandwidth ch w) false others) (sym e) (done (can_allocate_channel l c j ch arg w others p r x e (sym v))))

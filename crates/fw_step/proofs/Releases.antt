@@ -171,7 +171,7 @@ restore_channel l c j next ch arg others p r x e = record {
     plug = p;
     move = ReleaseChannel ch;
     move_is = ap (λ o. at_plug o (ReleaseChannel ch)) e;
-    is_move = record { can = can; place = refl; before = v; later = bit_set l c p ch 0 can.within can.held ∙ ap (λ y. with_bit y (ch - half_of ch)) v };
+    is_move = record { can = can; place = refl; before = v; later = bit_set l c p ch 0 x.sound can.within can.held ∙ ap (λ y. with_bit y (ch - half_of ch)) v };
   });
   step = swapped l (after_move c (at_plug (output_of j.connection) (ReleaseChannel ch)) l) c j (RestoreChannel next ch arg) (goes_on next) (λ v. RestoreChannel next ch v) others (Channels (half_of ch)) r arg is
       (λ v. subst (λ o. IsInStep (after_move c (at_plug o (ReleaseChannel ch)) l) c j (goes_on next) false others) (sym e) done)

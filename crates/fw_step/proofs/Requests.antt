@@ -12,7 +12,7 @@ use Rattle.fw_entry.specs.declared.entry.Entry.TheVariants.{Async}
 use Rattle.fw_entry.specs.declared.entry.ResetEntry.{ResetEntry}
 use Rattle.fw_entry.specs.declared.nodes.NodeRow.{NodeRow}
 use Rattle.fw_base.specs.Tables.{at_plug}
-use Rattle.fw_ledger.specs.Account.{Account, is_free}
+use Rattle.fw_ledger.specs.Account.{Account, is_open}
 use Rattle.fw_ledger.specs.Fold.{next_account}
 use Rattle.fw_ledger.specs.Moves.{Move, after}
 use Rattle.fw_ledger.specs.Decode.{IsMove}
@@ -119,7 +119,7 @@ request_leads l n to row a at free = go a.swap
 register_below : (l : Account) (t : Target) → IsSound l → stands l.latest t ≡ true → word_of l (register_at t) < 2 ^ 32
 register_below l (OutputPlug p) s f = word_below l (register_at (OutputPlug p)) s f
 register_below l (InputPlug p) s f = word_below l (register_at (InputPlug p)) s f
-register_below l (Channels base) s f = bits_below 32 (λ i. is_free (l.allocations (base + (31 - i))))
+register_below l (Channels base) s f = bits_below 32 (λ i. is_open l.withheld l.allocations (base + (31 - i)))
 register_below l BandwidthAvailable s f = word_below l (register_at BandwidthAvailable) s tt
 
 -- a complete answer comes from a register that stands

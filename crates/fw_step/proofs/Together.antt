@@ -9,8 +9,8 @@ use Rattle.fw_ledger.proofs.Words.{bits_below}
 use Rattle.fw_ledger.specs.Words.{word_of}
 use Rattle.fw_csr.specs.declared.reply.Reply.{Reply}
 use Rattle.fw_entry.specs.declared.entry.ResetEntry.{ResetEntry}
-use Rattle.fw_ledger.specs.Account.{Account, is_free as is_channel_free}
-use Rattle.fw_ledger.specs.Events.{after_reset, after_second, after_death}
+use Rattle.fw_ledger.specs.Account.{Account, is_open}
+use Rattle.fw_ledger.specs.Events.{after_reset, after_second, after_death, after_withholding}
 use Rattle.fw_ledger.specs.Events.{no_connections}
 use Rattle.fw_ledger.specs.Fold.{no_account}
 use Rattle.fw_ledger.specs.Listing.{IsAllocatedForFlows}
@@ -20,7 +20,7 @@ use Rattle.fw_ledger.specs.Moves.{HasNoPending}
 use Rattle.fw_entry.specs.Network.{IsNetwork}
 use Rattle.fw_ledger.specs.Packets.{asked, ended}
 use Rattle.fw_ledger.specs.Sound.{IsSound}
-use Rattle.fw_ledger.proofs.Events.{reset_keeps, second_ends}
+use Rattle.fw_ledger.proofs.Events.{reset_keeps, second_ends, withholding_keeps as withholding_sound}
 use Rattle.fw_ledger.proofs.Deaths.{death_keeps as death_sound}
 use Rattle.fw_ledger.proofs.Packets.{asked_keeps as asked_sound, ended_keeps as ended_sound}
 use Rattle.fw_cmp.specs.declared.connection.Connection.{Connection}
@@ -43,9 +43,9 @@ use Rattle.fw_step.specs.Holding.{no_holding, connections_of, Holds, Keeps, Leav
 use Rattle.fw_step.specs.Registers.{register_at, stands, IsAnswer}
 use Rattle.fw_step.specs.Moves.{carried_out}
 use Rattle.fw_step.specs.Controllers.{holding_of, StandsAt, IsToRestore, CurrentInStep, SlotInStep, ControllerInStep}
-use Rattle.fw_step.specs.Together.{AreInStep, Becomes, KeepsPlugs, Happens, asks, rests, hears, given, resets, second, dies, AreSettled, IsWhole}
+use Rattle.fw_step.specs.Together.{AreInStep, Becomes, KeepsPlugs, Happens, asks, rests, hears, given, resets, second, dies, withholds, AreSettled, IsWhole}
 use Rattle.fw_step.proofs.Carried.{carried_is, carried_sound, carried_keeps, carried_leaves, carried_reclaims, hearing, hear_half, hear_in_step}
-use Rattle.fw_step.proofs.Events.{asked_keeps, asked_leaves, ended_keeps, ended_leaves, death_keeps, death_leaves, dead_holds}
+use Rattle.fw_step.proofs.Events.{asked_keeps, asked_leaves, ended_keeps, ended_leaves, death_keeps, death_leaves, dead_holds, withholding_keeps, withholding_leaves}
 use Rattle.fw_step.proofs.Fits.{next_fits, heard_fits}
 use Rattle.fw_step.proofs.Goes.{keeps_self}
 use Rattle.fw_step.specs.Requests.{outstanding_of}
@@ -95,7 +95,7 @@ answer_below l t r s a e = go (stands l.latest t) refl
     below : (t : Target) → stands l.latest t ≡ true → word_of l (register_at t) < 2 ^ 32
     below (OutputPlug p) f = word_below l (register_at (OutputPlug p)) s f
     below (InputPlug p) f = word_below l (register_at (InputPlug p)) s f
-    below (Channels base) f = bits_below 32 (λ i. is_channel_free (l.allocations (base + (31 - i))))
+    below (Channels base) f = bits_below 32 (λ i. is_open l.withheld l.allocations (base + (31 - i)))
     below BandwidthAvailable f = word_below l (register_at BandwidthAvailable) s tt
 
     go : (b : Bool) → stands l.latest t ≡ b → r.value < 2 ^ 32
@@ -156,6 +156,14 @@ happens_by dir l m before after n x (second is each same) =
 happens_by dir l m before after n x (dies d is b same) =
     subst (λ y. AreInStep dir y after) (sym is) (turn_of dir l (after_death d l) before after d first_state x (death_sound d l x.sound) (death_keeps d l) (λ k ne. death_leaves d k l ne) (λ y. y) b first_fits (first_in_step (after_death d l) d (dead_holds d l))
     (first_goes_on dir) (update_here l.outstanding d None) (λ k ne. update_there l.outstanding d k None ne))
+happens_by dir l m before after n x (withholds first is each same) =
+    subst (λ y. AreInStep dir y after) (sym is) (record {
+      sound = withholding_sound l first x.sound;
+      fits = λ d. subst Fits (sym (each d)) (x.fits d);
+      each = λ d. subst (ControllerInStep (after_withholding l) d) (sym (each d)) (kept_in_step l (after_withholding l) d (before d) x.sound (x.fits d).slots (withholding_keeps l) (withholding_leaves d l) (λ y. y) (x.each d));
+      goes_on = λ d. subst (CanGoOn dir) (sym (each d)) (x.goes_on d);
+      requests = λ d. x.requests d ∙ ap (λ (y : ControllerState). outstanding_of dir y.current) (sym (each d));
+    })
 happens_by dir l m before after n x (resets r epoch lost network grows is each) = reset_together dir dir l m before after x r epoch lost network grows is each
 
 pub stay_in_step : (dir new : Directory) (l m : Account) (before after : ℕ → ControllerState) → AreInStep dir l before → Happens dir new l before m after → AreInStep new m after
@@ -165,6 +173,7 @@ stay_in_step dir new l m before after x (hears d j s t r lt e f a is b same) = s
 stay_in_step dir new l m before after x (given d c is e b same) = subst (λ y. AreInStep y m after) (sym same) (happens_by dir l m before after d x (given d c is e b refl))
 stay_in_step dir new l m before after x (second is each same) = subst (λ y. AreInStep y m after) (sym same) (happens_by dir l m before after 0 x (second is each refl))
 stay_in_step dir new l m before after x (dies d is b same) = subst (λ y. AreInStep y m after) (sym same) (happens_by dir l m before after d x (dies d is b refl))
+stay_in_step dir new l m before after x (withholds first is each same) = subst (λ y. AreInStep y m after) (sym same) (happens_by dir l m before after 0 x (withholds first is each refl))
 stay_in_step dir new l m before after x (resets r epoch lost network grows is each) = reset_together dir new l m before after x r epoch lost network grows is each
 
 -- ---- what each controller has

@@ -4,7 +4,7 @@ use Rattle.fw_base.specs.declared.plug.PlugAt.{PlugAt}
 use Rattle.fw_csr.specs.declared.reply.Reply.{Reply}
 use Rattle.fw_entry.specs.declared.entry.ResetEntry.{ResetEntry}
 use Rattle.fw_ledger.specs.Account.{Account, Request}
-use Rattle.fw_ledger.specs.Events.{after_reset, after_second, after_death}
+use Rattle.fw_ledger.specs.Events.{after_reset, after_second, after_death, after_withholding}
 use Rattle.fw_entry.specs.Network.{IsNetwork}
 use Rattle.fw_ledger.specs.Network.{is_output}
 use Rattle.fw_ledger.specs.Packets.{asked, ended}
@@ -58,9 +58,9 @@ pub data IsGiven (before after : ControllerState) : Type 0 where
   break : (i : ℕ) → break_fault before i ≡ None → after ≡ break_started before i → IsGiven before after
 
 -- What happens: half steps of one controller (its request goes out, it hears the answer, or it ends its job or does
--- nothing), a job that is given to one, a bus reset, the end of the reclaim second, and a controller's death. A new
--- directory comes with a bus reset alone. A controller that lost a response stands here as one that heard it, and the bus reset
--- says of which that is so: their jobs count as ones whose answer was not heard.
+-- nothing), a job that is given to one, a bus reset, the end of the reclaim second, a controller's death, and before the
+-- first bus reset the withholding of channel 31. A new directory comes with a bus reset alone. A controller that lost a response
+-- stands here as one that heard it, and the bus reset says of which that is so: their jobs count as ones whose answer was not heard.
 pub data Happens (dir new : Directory) (l : Account) (before : ℕ → ControllerState) (m : Account) (after : ℕ → ControllerState) : Type 0 where
   asks : (d now : ℕ) (request : Request) → IsDirectory l now dir → IsHeard (before d).current → outstanding_of dir (after_next now dir (before d)).current ≡ Some request → m ≡ asked d request l → Becomes before d (after_next now dir (before d)) after → new ≡ dir → Happens dir new l before m after
   rests : (d now : ℕ) → IsDirectory l now dir → IsHeard (before d).current → outstanding_of dir (after_next now dir (before d)).current ≡ None → m ≡ l → Becomes before d (after_next now dir (before d)) after → new ≡ dir → Happens dir new l before m after
@@ -69,6 +69,7 @@ pub data Happens (dir new : Directory) (l : Account) (before : ℕ → Controlle
   resets : (r : ResetEntry) (epoch : ℕ) (lost : ℕ → Bool) → IsNetwork r → KeepsPlugs l r → m ≡ after_reset r l → ((d : ℕ) → after d ≡ controller_reset epoch (lost d) (before d)) → Happens dir new l before m after
   second : m ≡ after_second l → ((d : ℕ) → after d ≡ second_over (before d)) → new ≡ dir → Happens dir new l before m after
   dies : (d : ℕ) → m ≡ after_death d l → Becomes before d first_state after → new ≡ dir → Happens dir new l before m after
+  withholds : l.latest ≡ None → m ≡ after_withholding l → ((d : ℕ) → after d ≡ before d) → new ≡ dir → Happens dir new l before m after
 
 -- ---- settled
 

@@ -1,8 +1,7 @@
 //! Calls of `fire` over memory.
 
-ghost use Rattle.std.specs.Prelude.{None};
-
-use fw_outside::{Failed, MemSink, MemSource, Source};
+use fw_outside::{MemSink, MemSource, Source};
+use fw_program::{block_of, inverted};
 use fw_tape::Desk;
 use fw_tool::{NOTE_ROOM, fire};
 use std::alloc::{AllocError, Global};
@@ -37,18 +36,6 @@ pub(crate) const NONE: Failing<'static> = Failing {
     writes: &[],
     notes: &[],
 };
-
-// What the program's tapes have recorded: byte j of a block is tape + 3 frame + 5 block + 7 j, modulo 256.
-fn recorded(tape: u16, frame: u32, block: u16) -> [u8; 480] {
-    let first = u64::from(tape) + 3 * u64::from(frame) + 5 * u64::from(block);
-    let mut next = (first % 256) as u8;
-    let mut bytes = [0; 480];
-    for byte in &mut bytes {
-        *byte = next;
-        next = next.wrapping_add(7);
-    }
-    bytes
-}
 
 /// A call over a source that gives all that is asked for.
 pub(crate) fn call(
@@ -85,7 +72,7 @@ pub(crate) fn call_with_room<S: Source>(
     }
     let mut output = MemSink::new(alloc, room, failing.writes.to_vec(alloc)?)?;
     let mut notes = MemSink::new(alloc, NOTE_ROOM, failing.notes.to_vec(alloc)?)?;
-    let desk = Desk::new(recorded, |_: u32, byte: u8| !byte);
+    let desk = Desk::new(block_of, |_: u32, byte: u8| inverted(byte));
     let status = fire(alloc, &list, source, &mut output, &mut notes, &desk);
     Ok(Ended {
         status,
@@ -104,51 +91,6 @@ pub(crate) fn read_on(source: &mut MemSource) -> usize {
         }
     }
     count
-}
-
-/// A source that gives one byte at a time. The read that would follow so many bytes fails.
-#[derive(Drop)]
-pub(crate) struct Drops {
-    pub(crate) bytes: Vec<u8>,
-    pub(crate) at: usize,
-    pub(crate) fails_at: usize,
-    pub(crate) faults: u64,
-}
-
-impl Source for Drops {
-    ghost left = { λ _. None };
-
-    ghost faults = { λ s. s.faults };
-
-    fn read(&mut self, into: &mut [u8]) -> Result<usize, Failed> {
-        if self.at == self.fails_at {
-            self.faults = self.faults.saturating_add(1);
-            return Err(Failed);
-        }
-        if self.at >= self.bytes.len() {
-            return Ok(0);
-        }
-        into[0] = self.bytes[self.at];
-        self.at += 1;
-        Ok(1)
-    }
-}
-
-/// A call over a source that gives one byte at a time, and fails behind so many.
-pub(crate) fn call_in_drops(
-    alloc: Global,
-    word: &str,
-    input: &[u8],
-    fails_at: usize,
-    failing: Failing<'_>,
-) -> Result<Ended, AllocError> {
-    let mut source = Drops {
-        bytes: input.to_vec(alloc)?,
-        at: 0,
-        fails_at,
-        faults: 0,
-    };
-    call_over(alloc, &[word], &mut source, failing)
 }
 
 /// The first bytes, as many as there are up to a count.

@@ -4,11 +4,11 @@
 #[cfg(test)]
 mod calls;
 #[cfg(test)]
+mod channels;
+#[cfg(test)]
 mod decks;
 #[cfg(test)]
 mod decodes;
-#[cfg(test)]
-mod faults;
 #[cfg(test)]
 mod halts;
 #[cfg(test)]

@@ -1,15 +1,18 @@
 //! How the program ends: its status, and what its standard error gets.
 
-use crate::calls::{NONE, call};
-use fw_outside::{Failed, MemSink};
-use fw_tool::close;
-use fw_vectors::{ONE_DECK, SKIPPED_LINES};
+ghost use Rattle.std.specs.Prelude.{None, []};
+
+use crate::calls::{Failing, NONE, call, front};
+use fw_outside::{Failed, MemSink, MemSource, Sink};
+use fw_program::program;
+use fw_tool::{Flush, NOTE_ROOM};
+use fw_vectors::ONE_DECK;
 use std::test::Fail;
 
 #[test]
 fn words_that_are_no_form_read_and_write_nothing(rt: HostRuntime) -> Result<(), Fail> {
     let alloc = rt.alloc();
-    let cases: [&[&str]; 11] = [
+    let cases: [&[&str]; 15] = [
         &[],
         &["run", "x"],
         &["walk"],
@@ -21,6 +24,10 @@ fn words_that_are_no_form_read_and_write_nothing(rt: HostRuntime) -> Result<(), 
         &["explain", "x"],
         &["map", "png"],
         &["gen", "007"],
+        &["help", "help"],
+        &["--version", "1"],
+        &["-v"],
+        &["--help "],
     ];
     for words in cases {
         let ended = call(alloc, words, ONE_DECK.script.as_bytes(), NONE)?;
@@ -32,26 +39,84 @@ fn words_that_are_no_form_read_and_write_nothing(rt: HostRuntime) -> Result<(), 
 }
 
 #[test]
+fn the_program_says_what_it_is(rt: HostRuntime) -> Result<(), Fail> {
+    let alloc = rt.alloc();
+    let failing = Failing {
+        writes: &[1],
+        ..NONE
+    };
+    for (words, first) in [
+        (["version", "--version", "-V"], "fire 1.0\n"),
+        (["help", "--help", "-h"], "fire simulates a FireWire"),
+    ] {
+        for word in words {
+            let ended = call(alloc, &[word], ONE_DECK.script.as_bytes(), NONE)?;
+            assert!(rt;
+                ended.status == 0 && ended.notes.as_slice().is_empty(),
+                "{word}"
+            );
+            assert!(rt;
+                front(ended.output.as_slice(), first.len()) == first.as_bytes(),
+                "{word}"
+            );
+            let cut = call(alloc, &[word], b"", failing)?;
+            assert!(rt; cut.is(6, "write fault\n", b""), "{word}");
+        }
+    }
+    Ok(())
+}
+
+/// A sink that takes what it is given. Its last flush fails, where it is to.
+#[derive(Drop)]
+struct LastFlush {
+    fails: bool,
+    faults: u64,
+}
+
+impl Sink for LastFlush {
+    ghost held = { λ _. None };
+
+    ghost faults = { λ s. s.faults };
+
+    fn write(&mut self, _piece: &[u8]) -> Result<(), Failed> {
+        Ok(())
+    }
+}
+
+impl Flush for LastFlush {
+    ghost kept = { λ _. [] };
+
+    fn pass_all(&mut self) -> Result<(), Failed> {
+        if self.fails {
+            self.faults = self.faults.saturating_add(1);
+            return Err(Failed);
+        }
+        Ok(())
+    }
+}
+
+#[test]
 fn the_last_flush_decides_before_the_note(rt: HostRuntime) -> Result<(), Fail> {
     let alloc = rt.alloc();
-    let whole = SKIPPED_LINES.script;
-    let cases: [(&[&str], &str, u8, &str); 4] = [
-        (&[], whole, 2, "usage\n"),
-        (&["run"], "x\n", 3, "line 1: BadLine\n"),
-        (&["decode"], "wxyz", 4, "byte 0: BadHeader\n"),
-        (&["run"], whole, 0, ""),
+    let cases = [
+        ("walk", "", 2, "usage\n"),
+        ("run", "x\n", 3, "line 1: BadLine\n"),
+        ("decode", "wxyz", 4, "byte 0: BadHeader\n"),
+        ("run", "end\n", 0, ""),
     ];
-    for (words, input, status, note) in cases {
-        let ended = call(alloc, words, input.as_bytes(), NONE)?;
-        for (flushed, failing, result, told) in [
-            (Ok(()), 0, status, note),
-            (Err(Failed), 0, 6, "write fault\n"),
-            (Err(Failed), 1, 6, ""),
+    for (word, input, status, note) in cases {
+        let words = [word.to_string(alloc)?].to_vec(alloc)?;
+        for (fails, failing, result, told) in [
+            (false, 0, status, note),
+            (true, 0, 6, "write fault\n"),
+            (true, 1, 6, ""),
         ] {
-            let mut errors = MemSink::new(alloc, 64, [failing].to_vec(alloc)?)?;
-            let ending = close(ended.status, ended.notes.as_slice(), flushed, &mut errors);
+            let mut source = MemSource::new(input.as_bytes().to_vec(alloc)?, Vec::new(alloc));
+            let mut sink = LastFlush { fails, faults: 0 };
+            let mut notes = MemSink::new(alloc, NOTE_ROOM, [failing].to_vec(alloc)?)?;
+            let ending = program(alloc, &words, &mut source, &mut sink, &mut notes);
             assert_eq!(rt; ending, result, "{note}");
-            assert_eq!(rt; errors.as_slice(), told.as_bytes(), "{note}");
+            assert_eq!(rt; notes.as_slice(), told.as_bytes(), "{note}");
         }
     }
     Ok(())

@@ -1,28 +1,10 @@
-//! Scripts that are run into memory, and scripts that are refused.
+//! Scripts that are refused, and how far they are read.
 
 use crate::calls::{Failing, NONE, call, call_over, call_with_room, front, read_on};
 use fw_outside::MemSource;
-use fw_vectors::{ONE_DECK, SWAP_AND_READ, VECTORS, Vector};
+use fw_vectors::{ONE_DECK, SWAP_AND_READ, Vector};
 use std::alloc::{AllocError, Global};
 use std::test::Fail;
-
-#[test]
-fn scripts_give_their_logs_and_these_their_text(rt: HostRuntime) -> Result<(), Fail> {
-    let alloc = rt.alloc();
-    for vector in VECTORS {
-        let log = hex::decode(alloc, vector.log)?;
-        let ended = call(alloc, &["run"], vector.script.as_bytes(), NONE)?;
-        assert!(rt; ended.is(0, "", &log), "{}", vector.script);
-        let mut source = MemSource::new(log, Vec::new(alloc));
-        let lines = call_with_room(alloc, &["decode"], &mut source, NONE, 40_000)?;
-        assert!(rt;
-            lines.is(0, "", vector.text.as_bytes()),
-            "{}",
-            vector.script
-        );
-    }
-    Ok(())
-}
 
 const DECK: &str = "device d deck 1 100\n";
 
@@ -112,6 +94,11 @@ const REFUSED: &[(Pieces, &str, Option<(Vector, usize)>)] = &[
     (
         (BUS, "", 0, "lose a\n"),
         "line 5: NothingStands\n",
+        Some((SWAP_AND_READ, 120)),
+    ),
+    (
+        (BUS, "", 0, "withhold\n"),
+        "line 5: TooLate\n",
         Some((SWAP_AND_READ, 120)),
     ),
     (

@@ -1,29 +1,8 @@
-//! Written cycles: what `dv` reports of them, and how many may be written.
+//! Written cycles: which go by, and how many may be written.
 
 use crate::calls::{NONE, call, call_with_room};
 use fw_outside::MemSource;
-use fw_vectors::{ORDINARY_SESSION, ORDINARY_SESSION_625};
 use std::test::Fail;
-
-#[test]
-fn streams_are_reported(rt: HostRuntime) -> Result<(), Fail> {
-    let alloc = rt.alloc();
-    for (vector, report) in [
-        (
-            ORDINARY_SESSION,
-            "channel 0 packets 16 blocks 14 empty 2 gaps 0\n",
-        ),
-        (
-            ORDINARY_SESSION_625,
-            "channel 0 packets 16 blocks 15 empty 1 gaps 0\n",
-        ),
-    ] {
-        let log = hex::decode(alloc, vector.log)?;
-        let ended = call(alloc, &["dv"], &log, NONE)?;
-        assert!(rt; ended.is(0, "", report.as_bytes()), "{report}");
-    }
-    Ok(())
-}
 
 // Before the first device cycles are not written and not counted: 16,000 go by, and then 8,000 are still to be written.
 const BEFORE: &str = "cycles 8000\ncycles 8000\ndevice d deck 1 100\ncycles 1\nend\n";

@@ -16,6 +16,8 @@ const SECOND_RESET: Line = (1, &[2, 0x0000_0001, 0x0001_0101, 0x807F_0842, 0x7F8
 
 const SECOND_OVER: Line = (4, &[0x01FF_0000]);
 
+const WITHHELD: Line = (4, &[0x08FF_0000]);
+
 /// The deck makes a broadcast connection.
 const ASK_OUTPUT: Line = (2, &[0xFFC0_0140, 0xFFC0_FFFF, 0xF000_0904]);
 
@@ -111,7 +113,7 @@ const SOUND: [&[Line]; 3] = [
 ];
 
 /// Logs of which the last entry has this fault, and no entry before it one.
-const UNSOUND: [(&[Line], AuditFault); 25] = [
+const UNSOUND: [(&[Line], AuditFault); 26] = [
     // 1: before a bus reset, and no node of the latest one; a request and a response.
     (&[ASK_OUTPUT], AuditFault::NoNode(0xFFC0)),
     (
@@ -276,13 +278,14 @@ const UNSOUND: [(&[Line], AuditFault); 25] = [
         &[RESET, SWAP_OUTPUT, OUTPUT_SWAPPED],
         AuditFault::NoMove(0x803F_007A, 0xC03F_007A),
     ),
-    // 7: no second runs before a bus reset or behind the first, and none twice.
+    // 7: no second runs before a bus reset or behind the first, and none twice. A channel is withheld before the first bus reset.
     (&[SECOND_OVER], AuditFault::NoEvent(1)),
     (&[RESET, SECOND_OVER], AuditFault::NoEvent(1)),
     (
         &[RESET, SECOND_RESET, SECOND_OVER, SECOND_OVER],
         AuditFault::NoEvent(1),
     ),
+    (&[WITHHELD, RESET, WITHHELD], AuditFault::NoEvent(8)),
 ];
 
 /// What the audit of a log answers to its last entry; to each before it none.

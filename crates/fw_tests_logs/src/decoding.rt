@@ -3,21 +3,11 @@
 use fw_decode::{LogEnding, Stop, decode, dv};
 use fw_log::{BodyFault, LogFault, LogWhy};
 use fw_outside::{MemSink, MemSource};
-use fw_vectors::{IN_VERSION_1, ONE_DECK, ONE_DECK_IN_VERSION_1, SECOND_OVER_ENDS_THE_FLOW};
+use fw_vectors::{ONE_DECK, ONE_DECK_IN_VERSION_1, SECOND_OVER_ENDS_THE_FLOW};
 use std::alloc::{AllocError, Global};
 use std::convert::Infallible;
 use std::process::Abort;
 use std::test::Fail;
-
-// The reports of the sessions of which there are logs of both versions: in the last a flow talks on after a bus reset until the second
-// is over.
-const REPORTS: [&str; 5] = [
-    "",
-    "",
-    "",
-    "",
-    "channel 0 packets 1 blocks 0 empty 1 gaps 0\n",
-];
 
 // Entries of other logs, whose names the logs above have not.
 const OTHER_NAMES: &str = "\
@@ -95,19 +85,6 @@ fn gives(
     let ended = read(alloc, log, call)?;
     assert!(rt; ended.ending == LogEnding::Done);
     assert!(rt; ended.sink.as_slice() == output.as_bytes(), "{output}");
-    Ok(())
-}
-
-#[test]
-fn each_log_has_its_text_and_its_report(rt: HostRuntime) -> Result<(), Fail> {
-    let alloc = rt.alloc();
-    for ((vector, one), report) in IN_VERSION_1.iter().zip(&REPORTS) {
-        for text in [*one, vector.log] {
-            let log = hex::decode(alloc, text)?;
-            gives(&rt, alloc, &log, LINES, vector.text)?;
-            gives(&rt, alloc, &log, REPORT, report)?;
-        }
-    }
     Ok(())
 }
 

@@ -25,8 +25,9 @@ fn said(alloc: Global, line: &[u8]) -> Result<Result<Option<Command>, ScriptFaul
 }
 
 /// Lines and what they say, where `a` is the device's name.
-fn lines(a: Name) -> [(&'static [u8], Command); 27] {
+fn lines(a: Name) -> [(&'static [u8], Command); 29] {
     [
+        (b"withhold", Command::Withhold),
         (b"device a relay 1 100", Command::Device(a, 0, 1, 0)),
         (b"device a deck 2 200", Command::Device(a, 1, 2, 1)),
         (b"device a camcorder 27 400", Command::Device(a, 2, 27, 2)),
@@ -51,6 +52,7 @@ fn lines(a: Name) -> [(&'static [u8], Command); 27] {
         (b"cycles 8000", Command::Cycles(8000)),
         (b"die a", Command::Die(a, false)),
         (b"die a late", Command::Die(a, true)),
+        (b"lose a", Command::Lose(a)),
         (b"start a", Command::Start(a)),
         (b"read a a fC4", Command::Read(a, a, 0xfc4)),
         (
@@ -99,11 +101,11 @@ fn names_and_frames_are_read(rt: HostRuntime) -> Result<(), Fail> {
 // Lines that are no command: another first word; a word missing, or one too many; a value out of its range; numbers and
 // places with more than their digits; names that are none; words that are not parted by one space.
 const NO_COMMANDS: &str = "\
-    End|end end|ends|a|no a|device|device a|device a deck|device a deck 1|device a deck 1 100 1|\
+    End|end end|ends|a|no a|withhold a|withholds|device|device a|device a deck|device a deck 1|device a deck 1 100 1|\
     device  a deck 1 100|cable|cable a.0|cable a.0 a.1 a.2|reset|reset a a|connect a a.0 a.0 any|\
     connect a a.0 any 0|connect a a.0 a.0 any 0 0|broadcast a a.0|broadcast a 0|broadcast a a.0 0 0|listen a|\
     listen a a.0 a.0|break a|break a 0 0|step a|step 1|step a 1 1|settle|settle 1 1|wait|wait 1 1|cycles|cycles 1 1|\
-    die|die a a|die a late late|die a a late|start|start a a|command a a|command a 00|command a a 00 00|read a a|\
+    die|die a a|die a late late|die a a late|lose|lose a a|start|start a a|command a a|command a 00|command a a 00 00|read a a|\
     read a 904|read a a 904 904|swap a a 904 00000000|swap a 904 00000000 00000000|\
     swap a a 904 00000000 00000000 00000000|insert a 0|insert a 525|insert a 0 525 525|eject|eject a a|show a|\
     show 904|show a 904 904|device a deck 0 100|device a deck 28 100|device a deck 1 300|device a bridge 1 100|\

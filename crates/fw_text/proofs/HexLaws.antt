@@ -1,5 +1,5 @@
 -- The digits of quadlets and offsets, from the first on.
-use Rattle.std.proofs.Common.{◌≡◌, refl, ap, sym, ◌∙◌, inl, inr, ℕ, zero, suc, ◌+◌, ◌/◌, ◌%◌, ◌^◌, ◌<◌, false, List, [], ◌∷◌, length, get_or, arith}
+use Rattle.std.proofs.Common.{◌≡◌, refl, ap, sym, ◌∙◌, inl, inr, ℕ, zero, suc, ◌+◌, ◌*◌, ◌/◌, ◌%◌, ◌^◌, ◌<◌, false, List, [], ◌∷◌, ◌++◌, length, get_or, arith}
 use Rattle.std.proofs.lemmas.Bool.{cases_order}
 use Rattle.std.proofs.lemmas.List.{get_or-set_same, get_or-set_other}
 use Rattle.std.proofs.Math.ListN.{set}
@@ -26,6 +26,22 @@ eight_digits n =
     let f : n / 16 / 16 / 16 / 16 / 16 / 16 ≡ n / 2 ^ 24 = omega arith in
     let g : n / 16 / 16 / 16 / 16 / 16 / 16 / 16 ≡ n / 2 ^ 24 / 16 = omega arith in
     rw (g, f, e, d, c, b) refl
+
+-- the digits of a quadlet's bytes
+pub four_bytes : (a b c d : ℕ) → a < 256 → b < 256 → c < 256 → d < 256
+    → hex 8 (a * 16777216 + b * 65536 + c * 256 + d) ≡ byte_digits a ++ byte_digits b ++ byte_digits c ++ byte_digits d
+four_bytes a b c d fa fb fc fd =
+    let n : ℕ = a * 16777216 + b * 65536 + c * 256 + d in
+    let x : n / 2 ^ 24 ≡ a = omega (arith, fb, fc, fd) in
+    let y : n / 2 ^ 16 ≡ 256 * a + b = omega (arith, fc, fd) in
+    let z : n / 2 ^ 8 ≡ 65536 * a + 256 * b + c = omega (arith, fd) in
+    let y1 : (256 * a + b) / 16 % 16 ≡ b / 16 % 16 = omega arith in
+    let y2 : (256 * a + b) % 16 ≡ b % 16 = omega arith in
+    let z1 : (65536 * a + 256 * b + c) / 16 % 16 ≡ c / 16 % 16 = omega arith in
+    let z2 : (65536 * a + 256 * b + c) % 16 ≡ c % 16 = omega arith in
+    let d1 : n / 16 % 16 ≡ d / 16 % 16 = omega arith in
+    let d2 : n % 16 ≡ d % 16 = omega arith in
+    eight_digits n ∙ rw (x, y, z, y1, y2, z1, z2, d1, d2) refl
 
 -- the digits in order
 pub glyph_at : (n d : ℕ) → n < 16 → get_or (48 ∷ 49 ∷ 50 ∷ 51 ∷ 52 ∷ 53 ∷ 54 ∷ 55 ∷ 56 ∷ 57 ∷ 97 ∷ 98 ∷ 99 ∷ 100 ∷ 101 ∷ 102 ∷ []) n d ≡ digit_glyph false n

@@ -2,3 +2,5 @@ pub mod HexLaws
 pub mod BodyLaws
 pub mod AsciiLaws
 pub mod TallyLaws
+pub mod PacketLaws
+pub mod RowLaws

@@ -15,6 +15,7 @@
 //! The report of a log's streams has a line for each channel that has isochronous packets.
 #![tactic(auto)]
 
+mod cycle_row;
 mod line;
 mod lines;
 mod names;
@@ -22,9 +23,11 @@ mod pairs;
 mod quadlets;
 mod report;
 mod room;
+mod rows;
 mod text;
+mod text_room;
 
 pub use quadlets::quadlet_word;
 pub use report::StreamReport;
-pub use room::{LineRoom, put_entry, put_entry_from};
+pub use room::{LineRoom, put_entry, put_entry_from, put_packet_from};
 pub use text::entry_text;

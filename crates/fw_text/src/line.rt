@@ -11,14 +11,15 @@ ghost use Rattle.fw_text.specs.Line.{manager_text, reset_text, packet_text, iso_
 use crate::names::{event_name, outcome_name, packet_name};
 use crate::pairs::Pairs;
 use crate::quadlets::{put_ids, put_number, put_offset, put_quadlet, put_quadlets, put_word};
+use crate::text_room::TextRoom;
 use fw_async::Packet;
 use fw_cip::IsoPacket;
 use fw_entry::codes::{NO_DEVICE, event};
 use fw_entry::{Entry, EventEntry, OutcomeEntry, ResetEntry, ShownEntry};
 use std::alloc::AllocError;
 
-fn put_manager(text: &mut Vec<u8>, manager: Option<u8>) -> Result<(), AllocError>
-    ensures { OnOk result (text.new.items ≡ text.old.items ++ manager_text manager) }
+fn put_manager(text: &mut TextRoom, manager: Option<u8>) -> Result<(), AllocError>
+    ensures { OnOk result (text.new ≡ text.old ++ manager_text manager) }
 {
     match manager {
         Some(node) => put_number(text, u64::from(node)),
@@ -35,14 +36,14 @@ fn ids_part<'a>(r: &ResetEntry, bytes: &'a [u8]) -> &'a [u8]
 }
 
 fn put_reset(
-    text: &mut Vec<u8>,
+    text: &mut TextRoom,
     pairs: &Pairs,
     r: &ResetEntry,
     bytes: &[u8],
 ) -> Result<(), AllocError>
     requires fits { ResetFits r.now }
     requires bytes { bytes.now ≡ body (Entries.Reset r.now) }
-    ensures { OnOk result (text.new.items ≡ text.old.items ++ reset_text r.now) }
+    ensures { OnOk result (text.new ≡ text.old ++ reset_text r.now) }
 {
     put_word(text, "reset ")?;
     put_number(text, u64::from(r.epoch))?;
@@ -57,9 +58,14 @@ fn put_reset(
 }
 
 // The quadlets of a packet are those of its entry's body.
-fn put_packet(text: &mut Vec<u8>, pairs: &Pairs, p: &Packet, bytes: &[u8]) -> Result<(), AllocError>
+fn put_packet(
+    text: &mut TextRoom,
+    pairs: &Pairs,
+    p: &Packet,
+    bytes: &[u8],
+) -> Result<(), AllocError>
     requires { bytes.now ≡ Packets.spelling p.now }
-    ensures { OnOk result (text.new.items ≡ text.old.items ++ packet_text p.now) }
+    ensures { OnOk result (text.new ≡ text.old ++ packet_text p.now) }
 {
     put_word(text, "async ")?;
     put_word(text, packet_name(p))?;
@@ -67,8 +73,8 @@ fn put_packet(text: &mut Vec<u8>, pairs: &Pairs, p: &Packet, bytes: &[u8]) -> Re
 }
 
 // Appends a space and a number.
-fn put_part(text: &mut Vec<u8>, n: u64) -> Result<(), AllocError>
-    ensures { OnOk result (text.new.items ≡ text.old.items ++ codes " " ++ decimal n) }
+fn put_part(text: &mut TextRoom, n: u64) -> Result<(), AllocError>
+    ensures { OnOk result (text.new ≡ text.old ++ codes " " ++ decimal n) }
 {
     put_word(text, " ")?;
     put_number(text, n)
@@ -84,8 +90,8 @@ fn data_length(p: &IsoPacket) -> u16
     }
 }
 
-fn put_iso(text: &mut Vec<u8>, p: &IsoPacket) -> Result<(), AllocError>
-    ensures { OnOk result (text.new.items ≡ text.old.items ++ iso_text p.now) }
+fn put_iso(text: &mut TextRoom, p: &IsoPacket) -> Result<(), AllocError>
+    ensures { OnOk result (text.new ≡ text.old ++ iso_text p.now) }
 {
     put_word(text, "iso")?;
     put_part(text, u64::from(p.channel))?;
@@ -93,8 +99,8 @@ fn put_iso(text: &mut Vec<u8>, p: &IsoPacket) -> Result<(), AllocError>
     put_part(text, u64::from(p.cip.dbc))
 }
 
-fn put_device(text: &mut Vec<u8>, device: u8) -> Result<(), AllocError>
-    ensures { OnOk result (text.new.items ≡ text.old.items ++ device_text device) }
+fn put_device(text: &mut TextRoom, device: u8) -> Result<(), AllocError>
+    ensures { OnOk result (text.new ≡ text.old ++ device_text device) }
 {
     if device == NO_DEVICE {
         return Ok(());
@@ -102,8 +108,8 @@ fn put_device(text: &mut Vec<u8>, device: u8) -> Result<(), AllocError>
     put_part(text, u64::from(device))
 }
 
-fn put_tape(text: &mut Vec<u8>, e: &EventEntry) -> Result<(), AllocError>
-    ensures { OnOk result (text.new.items ≡ text.old.items ++ tape_text e.now) }
+fn put_tape(text: &mut TextRoom, e: &EventEntry) -> Result<(), AllocError>
+    ensures { OnOk result (text.new ≡ text.old ++ tape_text e.now) }
 {
     if e.code != event::INSERTED {
         return Ok(());
@@ -112,9 +118,9 @@ fn put_tape(text: &mut Vec<u8>, e: &EventEntry) -> Result<(), AllocError>
     put_part(text, u64::from(e.system))
 }
 
-fn put_event(text: &mut Vec<u8>, e: &EventEntry) -> Result<(), AllocError>
+fn put_event(text: &mut TextRoom, e: &EventEntry) -> Result<(), AllocError>
     requires { EventFits e.now }
-    ensures { OnOk result (text.new.items ≡ text.old.items ++ event_text e.now) }
+    ensures { OnOk result (text.new ≡ text.old ++ event_text e.now) }
 {
     put_word(text, "event ")?;
     put_word(text, event_name(e.code))?;
@@ -122,9 +128,9 @@ fn put_event(text: &mut Vec<u8>, e: &EventEntry) -> Result<(), AllocError>
     put_tape(text, e)
 }
 
-fn put_outcome(text: &mut Vec<u8>, pairs: &Pairs, o: &OutcomeEntry) -> Result<(), AllocError>
+fn put_outcome(text: &mut TextRoom, pairs: &Pairs, o: &OutcomeEntry) -> Result<(), AllocError>
     requires { OutcomeFits o.now }
-    ensures { OnOk result (text.new.items ≡ text.old.items ++ outcome_text o.now) }
+    ensures { OnOk result (text.new ≡ text.old ++ outcome_text o.now) }
 {
     put_word(text, "outcome ")?;
     put_word(text, outcome_name(o.code))?;
@@ -133,9 +139,9 @@ fn put_outcome(text: &mut Vec<u8>, pairs: &Pairs, o: &OutcomeEntry) -> Result<()
     put_quadlet(text, pairs, o.value)
 }
 
-fn put_shown(text: &mut Vec<u8>, pairs: &Pairs, s: &ShownEntry) -> Result<(), AllocError>
+fn put_shown(text: &mut TextRoom, pairs: &Pairs, s: &ShownEntry) -> Result<(), AllocError>
     requires { ShownFits s.now }
-    ensures { OnOk result (text.new.items ≡ text.old.items ++ shown_text s.now) }
+    ensures { OnOk result (text.new ≡ text.old ++ shown_text s.now) }
 {
     put_word(text, "shown ")?;
     put_number(text, u64::from(s.device))?;
@@ -145,14 +151,14 @@ fn put_shown(text: &mut Vec<u8>, pairs: &Pairs, s: &ShownEntry) -> Result<(), Al
 
 // Appends what is recorded; the bytes are the entry's body.
 pub(crate) fn put_what(
-    text: &mut Vec<u8>,
+    text: &mut TextRoom,
     pairs: &Pairs,
     what: &Entry,
     bytes: &[u8],
 ) -> Result<(), AllocError>
     requires fits { Fits what.now }
     requires bytes { bytes.now ≡ body what.now }
-    ensures { OnOk result (text.new.items ≡ text.old.items ++ what_text what.now) }
+    ensures { OnOk result (text.new ≡ text.old ++ what_text what.now) }
 {
     match what {
         Entry::Reset(reset) => put_reset(text, pairs, reset.get(), bytes),

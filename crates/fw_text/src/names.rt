@@ -1,8 +1,10 @@
 //! The names of packets, events and outcomes.
 
-ghost use Rattle.std.specs.Prelude.{◌≡◌, ◌≤◌};
-ghost use Rattle.fw_text.specs.Names.{packet_name, event_name, outcome_name};
+ghost use Rattle.std.specs.Prelude.{◌≡◌, ◌≤◌, ◌++◌, codes};
+ghost use Rattle.fw_async.specs.declared.packet.Packet.{Packet as APacket};
+ghost use Rattle.fw_text.specs.Names.{packet_name, tcode_in, event_name, outcome_name};
 
+use crate::rows::Row;
 use fw_async::Packet;
 use fw_entry::codes::{event, outcome};
 
@@ -21,6 +23,24 @@ pub(crate) fn packet_name(p: &Packet) -> &'static str
         Packet::CycleStart { .. } => "cycle-start",
         Packet::Lock { .. } => "lock",
         Packet::LockReply { .. } => "lock-reply",
+    }
+}
+
+// What the line of a packet of this transaction code begins with, behind its cycle.
+pub(crate) fn word_by_code(code: u32) -> Row<'static>
+    ensures { (p : APacket) → code ≡ tcode_in p → result ≡ codes "async " ++ packet_name p }
+{
+    match code {
+        0 => Row::new(b"async write-quadlet     ", 19),
+        1 => Row::new(b"async write-block       ", 17),
+        2 => Row::new(b"async write-reply       ", 17),
+        4 => Row::new(b"async read-quadlet      ", 18),
+        5 => Row::new(b"async read-block        ", 16),
+        6 => Row::new(b"async read-quadlet-reply", 24),
+        7 => Row::new(b"async read-block-reply  ", 22),
+        8 => Row::new(b"async cycle-start       ", 17),
+        9 => Row::new(b"async lock              ", 10),
+        _ => Row::new(b"async lock-reply        ", 16),
     }
 }
 

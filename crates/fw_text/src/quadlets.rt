@@ -6,24 +6,25 @@ ghost use Rattle.fw_phy.specs.Phy.{Fits as PhyFits, spelling};
 ghost use Rattle.fw_text.specs.Line.{quadlet_text, quadlets_text, offset_text, id_text};
 
 use crate::pairs::Pairs;
+use crate::text_room::TextRoom;
 use fw_phy::PhyPacket;
 use fw_words::{get_quadlet, quadlet_at};
 use itoa::Buffer;
 use std::alloc::AllocError;
 
 // Appends a word.
-pub(crate) fn put_word(text: &mut Vec<u8>, word: &str) -> Result<(), AllocError>
-    ensures { OnOk result (text.new.items ≡ text.old.items ++ word.now) }
+pub(crate) fn put_word(text: &mut TextRoom, word: &str) -> Result<(), AllocError>
+    ensures { OnOk result (text.new ≡ text.old ++ word.now) }
 {
-    text.extend_from_slice(word.as_bytes())
+    text.put(word.as_bytes())
 }
 
 // Appends a number in decimal digits.
-pub(crate) fn put_number(text: &mut Vec<u8>, n: u64) -> Result<(), AllocError>
-    ensures { OnOk result (text.new.items ≡ text.old.items ++ decimal n) }
+pub(crate) fn put_number(text: &mut TextRoom, n: u64) -> Result<(), AllocError>
+    ensures { OnOk result (text.new ≡ text.old ++ decimal n) }
 {
     let mut buffer = Buffer::new();
-    text.extend_from_slice(buffer.format(n).as_bytes())
+    text.put(buffer.format(n).as_bytes())
 }
 
 // A space, and the digits of a quadlet.
@@ -46,10 +47,10 @@ pub fn quadlet_word(q: u32) -> [u8; 9]
 }
 
 // Appends a space and the quadlet.
-pub(crate) fn put_quadlet(text: &mut Vec<u8>, pairs: &Pairs, q: u32) -> Result<(), AllocError>
-    ensures { OnOk result (text.new.items ≡ text.old.items ++ quadlet_text q) }
+pub(crate) fn put_quadlet(text: &mut TextRoom, pairs: &Pairs, q: u32) -> Result<(), AllocError>
+    ensures { OnOk result (text.new ≡ text.old ++ quadlet_text q) }
 {
-    text.extend_from_slice(&word_of(pairs, q))
+    text.put(&word_of(pairs, q))
 }
 
 // A space, and the three digits of an offset.
@@ -63,19 +64,19 @@ fn offset_of(pairs: &Pairs, offset: u32) -> [u8; 4]
 }
 
 // Appends a space and the offset.
-pub(crate) fn put_offset(text: &mut Vec<u8>, pairs: &Pairs, offset: u16) -> Result<(), AllocError>
-    ensures { OnOk result (text.new.items ≡ text.old.items ++ offset_text offset) }
+pub(crate) fn put_offset(text: &mut TextRoom, pairs: &Pairs, offset: u16) -> Result<(), AllocError>
+    ensures { OnOk result (text.new ≡ text.old ++ offset_text offset) }
 {
-    text.extend_from_slice(&offset_of(pairs, u32::from(offset)))
+    text.put(&offset_of(pairs, u32::from(offset)))
 }
 
 // Appends all whole quadlets of some bytes.
 pub(crate) fn put_quadlets(
-    text: &mut Vec<u8>,
+    text: &mut TextRoom,
     pairs: &Pairs,
     bytes: &[u8],
 ) -> Result<(), AllocError>
-    ensures { OnOk result (text.new.items ≡ text.old.items ++ quadlets_text bytes.now) }
+    ensures { OnOk result (text.new ≡ text.old ++ quadlets_text bytes.now) }
 {
     let mut rest = bytes;
     while let Some((four, more)) = rest.split_first_chunk::<4>() {
@@ -87,13 +88,13 @@ pub(crate) fn put_quadlets(
 
 // Appends the first quadlet of each packet, from the bytes of them all.
 pub(crate) fn put_ids(
-    text: &mut Vec<u8>,
+    text: &mut TextRoom,
     pairs: &Pairs,
     ids: &[PhyPacket],
     bytes: &[u8],
 ) -> Result<(), AllocError>
     requires { bytes.now ≡ flat_map spelling ids.now }
-    ensures { OnOk result (text.new.items ≡ text.old.items ++ flat_map id_text ids.now) }
+    ensures { OnOk result (text.new ≡ text.old ++ flat_map id_text ids.now) }
 {
     for i in 0..ids.len() {
         put_quadlet(text, pairs, quadlet_at(bytes, 8 * i).0)?;

@@ -1,6 +1,9 @@
 //! Lines, and room for what they are made from.
 
 ghost use Rattle.std.specs.Prelude.{◌≡◌, ◌++◌, [], IfOk, OnOk, OnErr};
+ghost use Rattle.fw_async.specs.Reader.{IsPacket, Spells};
+ghost use Rattle.fw_async.specs.declared.packet.Packet.{Packet};
+ghost use Rattle.fw_entry.specs.declared.entry.Entry.TheVariants.{Async};
 ghost use Rattle.fw_entry.specs.Log.{Fits, body};
 ghost use Rattle.fw_text.specs.Line.{entry_line};
 
@@ -59,6 +62,15 @@ pub fn put_entry_from(room: &mut LineRoom, t: &Timed, bytes: &[u8]) -> Result<()
     ensures emptied { OnErr result (room.new ≡ []) }
 {
     room.lines.put(t, bytes)
+}
+
+/// Appends the line of the entry of an asynchronous packet of this cycle, from the packet's bytes, as `put_entry` does.
+pub fn put_packet_from(room: &mut LineRoom, cycle: u64, bytes: &[u8]) -> Result<(), AllocError>
+    requires { IsPacket bytes.now }
+    ensures line { (p : Packet) → Spells p bytes.now → OnOk result (room.new ≡ room.old ++ entry_line (record { cycle = cycle; what = Async p })) }
+    ensures emptied { OnErr result (room.new ≡ []) }
+{
+    room.lines.put_packet(cycle, bytes)
 }
 
 /// Appends the line of an entry, with its line feed. An error says that memory ran out, and comes for nothing else; the room

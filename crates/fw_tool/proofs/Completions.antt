@@ -1,5 +1,5 @@
 -- Where nothing is refused and nothing fails, all is done.
-use Rattle.std.proofs.Common.{◌≡◌, ◌≢◌, ◌⊎◌, inl, inr, ℕ, List, Option, refl, sym, subst}
+use Rattle.std.proofs.Common.{◌≡◌, ◌≢◌, inl, inr, ℕ, List, Option, refl, sym, subst}
 use Rattle.fw_outside.specs.Stops.{ReadCount as StopReadCount, WriteCount as StopWriteCount}
 use Rattle.fw_outside.specs.declared.stop.Stop.TheVariants.{ReadFault, WriteFault, TooLong, NoMemory}
 use Rattle.fw_reading.specs.Endings.{stop_of, IsNoRefusal as IsNoLogRefusal}

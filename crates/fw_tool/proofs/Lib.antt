@@ -3,3 +3,4 @@ pub mod Completions
 pub mod WordLaws
 pub mod Servings
 pub mod Doings
+pub mod RunTrees

@@ -4,6 +4,7 @@ use Rattle.fw_outside.specs.Outside.{Rose}
 use Rattle.fw_tool.specs.declared.ending.Ending.{Ending}
 use Rattle.fw_outside.specs.declared.stop.Stop.TheVariants.{ReadFault, WriteFault, TooLong, NoMemory}
 use Rattle.fw_tool.specs.declared.ending.Ending.TheVariants.{Done, Usage, Refused, NoLog, Stopped, Unsound, NoMap}
+use Rattle.fw_tool.specs.About.{IsSaid}
 use Rattle.fw_tool.specs.Faults.{FirstFault, IsFirstFaults}
 use Rattle.fw_tool.specs.Notes.{IsTold, IsPassedOn, note_of, status_of}
 use Rattle.fw_tool.specs.Completing.{IsDoneOrUnmet}
@@ -104,3 +105,8 @@ module _ {N : Type 0} (held : N → Option (List ℕ)) (faults : N → ℕ) (old
   pub quiet_status : (e : Ending) → FirstFault read read' written written' e → (e ≢ Stopped ReadFault → e ≢ Stopped WriteFault → IsDoneOrUnmet e) → Told e
       → (Rose read read' → ⊥) → (Rose written written' → ⊥) → (Rose (faults old) (faults new) → ⊥) → (status ≡ 0) ⊎ (status ≡ 8)
   quiet_status e f done t r w n = completes e (done (unread e f r) (unwritten e f w)) t n
+
+  -- a text was written where no write failed, and nothing is noted
+  pub said_status : (held held' : Option (List ℕ)) (text : List ℕ) (e : Ending) → IsSaid held held' text e → FirstFault read read' written written' e → Told e → (Rose written written' → ⊥) → status ≡ 0
+  said_status held held' text e (inl said) f t none = (subst Told said.0 t).0
+  said_status held held' text e (inr said) f t none = absurd (unwritten e f none said.0)

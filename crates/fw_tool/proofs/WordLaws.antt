@@ -1,18 +1,22 @@
 -- The words of the command line.
 use Rattle.std.specs.declared.alloc.Global.{Global}
-use Rattle.std.proofs.Common.{◌≡◌, ◌≤◌, ◌<◌, ◌^◌, ℕ, length, String, List, [], ◌∷◌, None, Result, Ok, arith, decimal}
+use Rattle.std.proofs.Common.{◌≡◌, ◌≢◌, ◌≤◌, ◌<◌, ◌^◌, inl, inr, ℕ, length, String, List, [], ◌∷◌, Option, Some, None, Result, Ok, refl, arith, decimal}
 use Rattle.std.proofs.lemmas.Fmt.{parse-decimal}
 use Rattle.std.specs.Str.Parse.{ParsesUnsigned}
+use Rattle.fw_entry.specs.declared.entry.ResetEntry.{ResetEntry}
 use Rattle.fw_entry.specs.declared.entry.Timed.{Timed}
 use Rattle.fw_entry.specs.declared.version.Version.TheVariants.{One, Two}
 use Rattle.fw_decode.specs.Words.{Accepts}
 use Rattle.fw_decode.specs.Verdicts.{IsSoundLog}
 use Rattle.fw_decode.specs.declared.word.LogWord.{LogWord}
 use Rattle.fw_decode.specs.declared.word.LogWord.TheVariants.{Decode, Explain, Json, Dv, Convert, Audit, Map, Graph}
-use Rattle.fw_tool.specs.Laws.{HasItsTree}
-use Rattle.fw_tool.specs.Words.{spelling, HasSeed, Names, texts}
+use Rattle.fw_decode.specs.Maps.{HasTree}
+use Rattle.fw_decode.specs.Trees.{last_reset}
+use Rattle.fw_tool.specs.Laws.{HasItsReset}
+use Rattle.fw_tool.specs.Words.{Spells, HasSeed, Names, texts}
+use Rattle.fw_tool.specs.declared.about.About.TheVariants.{Help, Version}
 use Rattle.fw_tool.specs.declared.words.Word.{Word}
-use Rattle.fw_tool.specs.declared.words.Word.TheVariants.{Run, Gen, Log}
+use Rattle.fw_tool.specs.declared.words.Word.TheVariants.{Run, Gen, Log, About}
 
 -- the number that a decimal text is read as
 pub read_back : {E : Type 0} (n : ℕ) (text : List ℕ) (r : Result ℕ E) → n < 2 ^ 32 → text ≡ decimal n → ParsesUnsigned 32 10 text r → r ≡ Ok n
@@ -20,11 +24,11 @@ read_back n text r small is parses = parse-decimal 32 n text r small (omega (ari
 
 -- ---- words of no form
 
-pub names_none : (words : List (List ℕ)) → ((w : Word) → words ≡ spelling w → HasSeed w → ⊥) → Names words None
+pub names_none : (words : List (List ℕ)) → ((w : Word) → Spells w words → HasSeed w → ⊥) → Names words None
 names_none words none w = (λ e. cc e, λ h. absurd (none w h.0 h.1))
 
 -- no form has three words
-pub many_words : (words : List (String Global)) → 3 ≤ length words → (w : Word) → texts words ≡ spelling w → HasSeed w → ⊥
+pub many_words : (words : List (String Global)) → 3 ≤ length words → (w : Word) → Spells w (texts words) → HasSeed w → ⊥
 many_words [] many w e h = omega (arith, many)
 many_words (a ∷ []) many w e h = omega (arith, many)
 many_words (a ∷ b ∷ []) many w e h = omega (arith, many)
@@ -39,15 +43,26 @@ many_words (a ∷ b ∷ c ∷ more) many (Log (Convert Two)) e h = cc e
 many_words (a ∷ b ∷ c ∷ more) many (Log Audit) e h = cc e
 many_words (a ∷ b ∷ c ∷ more) many (Log Map) e h = cc e
 many_words (a ∷ b ∷ c ∷ more) many (Log Graph) e h = cc e
+many_words (a ∷ b ∷ c ∷ more) many (About Help) (inl e) h = cc e
+many_words (a ∷ b ∷ c ∷ more) many (About Help) (inr (inl e)) h = cc e
+many_words (a ∷ b ∷ c ∷ more) many (About Help) (inr (inr e)) h = cc e
+many_words (a ∷ b ∷ c ∷ more) many (About Version) (inl e) h = cc e
+many_words (a ∷ b ∷ c ∷ more) many (About Version) (inr (inl e)) h = cc e
+many_words (a ∷ b ∷ c ∷ more) many (About Version) (inr (inr e)) h = cc e
 
 -- ---- the logs of runs
 
-pub run_accepted : (word : LogWord) (entries : List Timed) → IsSoundLog entries → HasItsTree word entries → Accepts word entries
-run_accepted Decode entries sound tree = tt
-run_accepted Explain entries sound tree = tt
-run_accepted Json entries sound tree = tt
-run_accepted Dv entries sound tree = tt
-run_accepted (Convert v) entries sound tree = tt
-run_accepted Audit entries sound tree = sound
-run_accepted Map entries sound tree = tree
-run_accepted Graph entries sound tree = tree
+some_reset : (o : Option ResetEntry) → o ≢ None → (r : ResetEntry) × (o ≡ Some r)
+some_reset None some = absurd (some refl)
+some_reset (Some r) some = (r, refl)
+
+pub run_accepted : (word : LogWord) (entries : List Timed) → IsSoundLog entries → ((r : ResetEntry) → last_reset entries ≡ Some r → HasTree entries) → HasItsReset word entries
+    → Accepts word entries
+run_accepted Decode entries sound trees has = tt
+run_accepted Explain entries sound trees has = tt
+run_accepted Json entries sound trees has = tt
+run_accepted Dv entries sound trees has = tt
+run_accepted (Convert v) entries sound trees has = tt
+run_accepted Audit entries sound trees has = sound
+run_accepted Map entries sound trees has = let r = some_reset (last_reset entries) has in trees r.0 r.1
+run_accepted Graph entries sound trees has = let r = some_reset (last_reset entries) has in trees r.0 r.1

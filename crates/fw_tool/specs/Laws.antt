@@ -1,5 +1,5 @@
 -- What holds of the words together.
-use Rattle.std.specs.Prelude.{⊤, ℕ, ◌≤◌, List, ◌++◌, length, Option, Some}
+use Rattle.std.specs.Prelude.{◌≢◌, ⊤, ℕ, ◌≤◌, List, ◌++◌, length, Option, Some, None}
 use Rattle.fw_entry.specs.Log.{header_bytes}
 use Rattle.fw_entry.specs.declared.version.Version.TheVariants.{Two}
 use Rattle.fw_entry.specs.declared.entry.Timed.{Timed}
@@ -9,26 +9,26 @@ use Rattle.fw_reading.specs.Endings.{limit, Reads, IsNoRefusal}
 use Rattle.fw_reading.specs.declared.ending.LogEnding.{LogEnding}
 use Rattle.fw_decode.specs.Words.{form_by, rules_by}
 use Rattle.fw_decode.specs.declared.refusal.LogRefusal.{LogRefusal}
-use Rattle.fw_decode.specs.Maps.{HasTree}
+use Rattle.fw_decode.specs.Trees.{last_reset}
 use Rattle.fw_decode.specs.declared.word.LogWord.{LogWord}
 use Rattle.fw_decode.specs.declared.word.LogWord.TheVariants.{Decode, Explain, Json, Dv, Convert, Audit, Map, Graph}
 use Rattle.fw_simulate.specs.Ending.{Logged}
 
--- a map is asked only of a log whose last bus reset has a tree
-abbrev pub HasItsTree : LogWord → List Timed → Type 0
-HasItsTree Decode log = ⊤
-HasItsTree Explain log = ⊤
-HasItsTree Json log = ⊤
-HasItsTree Dv log = ⊤
-HasItsTree (Convert version) log = ⊤
-HasItsTree Audit log = ⊤
-HasItsTree Map log = HasTree log
-HasItsTree Graph log = HasTree log
+-- a map is asked only of a log with a bus reset
+abbrev pub HasItsReset : LogWord → List Timed → Type 0
+HasItsReset Decode log = ⊤
+HasItsReset Explain log = ⊤
+HasItsReset Json log = ⊤
+HasItsReset Dv log = ⊤
+HasItsReset (Convert version) log = ⊤
+HasItsReset Audit log = ⊤
+HasItsReset Map log = last_reset log ≢ None
+HasItsReset Graph log = last_reset log ≢ None
 
 -- where a source tells the log of a whole run over a desk, within the limit of logs, no word that reads it refuses it: an audit finds
--- no fault in it, and it has its map where its last bus reset has a tree
+-- no fault in it, and it has its map where it has a bus reset: so it has one as soon as a device was declared
 abbrev pub WholeLogsAreRead : DeskRelations → Type 0
 WholeLogsAreRead D = (left left' held held' : Option (List ℕ)) (ran : Logged D left left' held held')
     → length (header_bytes Two ++ log_bytes 0 ran.logged.log) ≤ limit
-    → (word : LogWord) → HasItsTree word ran.logged.log → (told' kept kept' : Option (List ℕ)) (e : LogEnding LogRefusal)
+    → (word : LogWord) → HasItsReset word ran.logged.log → (told' kept kept' : Option (List ℕ)) (e : LogEnding LogRefusal)
     → Reads (form_by word) (rules_by word) (Some (header_bytes Two ++ log_bytes 0 ran.logged.log)) told' kept kept' e → IsNoRefusal e

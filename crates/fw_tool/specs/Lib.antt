@@ -1,6 +1,7 @@
 pub mod Faults
 pub mod Notes
 pub mod Words
+pub mod About
 pub mod Logs
 pub mod Runs
 pub mod Laws

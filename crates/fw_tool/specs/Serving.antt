@@ -1,5 +1,5 @@
 -- How a call ends behind its last flush.
-use Rattle.std.specs.Prelude.{◌≡◌, ◌⊎◌, ◌≢◌, ℕ, List, [], Ok, Err}
+use Rattle.std.specs.Prelude.{◌≡◌, ◌⊎◌, ℕ, List, [], Ok, Err}
 use Rattle.std.specs.declared.result.Result.{Result}
 use Rattle.fw_outside.specs.Outside.{Rose}
 use Rattle.fw_tool.specs.declared.ending.Ending.{Ending}

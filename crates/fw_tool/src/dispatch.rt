@@ -14,14 +14,17 @@ ghost use Rattle.fw_simulate.specs.Scripts.{IsValid};
 ghost use Rattle.fw_simulate.specs.Sums.{Sums};
 ghost use Rattle.fw_simulate.specs.declared.ending.RunEnding.{RunEnding};
 ghost use Rattle.fw_tape.specs.Desks.{AnyBlock, AnyVendorByte};
+ghost use Rattle.fw_tool.specs.About.{about_text, IsSaid};
 ghost use Rattle.fw_tool.specs.Completing.{IsDoneOrUnmet};
 ghost use Rattle.fw_tool.specs.Faults.{FirstFault};
 ghost use Rattle.fw_tool.specs.Logs.{by_log};
 ghost use Rattle.fw_tool.specs.Runs.{by_run};
 ghost use Rattle.fw_tool.specs.Words.{IsWord, IsListed};
+ghost use Rattle.fw_tool.specs.declared.about.About.{About as AnAbout};
 ghost use Rattle.fw_tool.specs.declared.ending.Ending.{Ending as AnEnding};
 ghost use Rattle.fw_tool.specs.declared.words.Word.{Word as AWord};
 
+use crate::about::say;
 use crate::ending::Ending;
 use crate::forms::word_of;
 use crate::logs::ending_of_log;
@@ -48,6 +51,8 @@ pub(crate) fn carry_out<
         × Sums (record { blocks = F.post desk.now.blocks; vendor = H.post desk.now.vendor }) seed (K.held sink.old) (K.held sink.new) e) }
     ensures logs { (word : LogWord) → IsWord words.now (AWord.Log word) → (e : LogEnding LogRefusal) × (result ≡ by_log e)
         × Reads (form_by word) (rules_by word) (S.left source.old) (S.left source.new) (K.held sink.old) (K.held sink.new) e }
+    ensures about { (about : AnAbout) → IsWord words.now (AWord.About about) → (source.new ≡ source.old)
+        × IsSaid (K.held sink.old) (K.held sink.new) (about_text about) result }
     ensures usage { (IsListed words.now → ⊥) → (source.new ≡ source.old) × (sink.new ≡ sink.old) × (result ≡ AnEnding.Usage) }
     ensures first { FirstFault (S.faults source.old) (S.faults source.new) (K.faults sink.old) (K.faults sink.new) result }
     ensures complete { (script : List ℕ) → S.left source.old ≡ Some script → IsValid script → IsWord words.now AWord.Run
@@ -64,5 +69,6 @@ pub(crate) fn carry_out<
         Word::Run => ending_of_run(run(alloc, source, sink, desk)),
         Word::Gen(seed) => ending_of_run(run_seed(alloc, seed, sink, desk)),
         Word::Log(word) => ending_of_log(read_as(alloc, word, source, sink)),
+        Word::About(about) => say(about, sink),
     }
 }

@@ -1,9 +1,11 @@
 //! The forms of the words of the command line.
 
 ghost use Rattle.std.specs.Prelude.{◌≡◌, ◌↔◌, ◌<◌, ◌^◌, ◌∷◌, [], ℕ, Some, codes, decimal};
-ghost use Rattle.fw_tool.specs.Words.{Names, IsWord};
+ghost use Rattle.fw_tool.specs.Words.{Names, IsWord, Spells};
+ghost use Rattle.fw_tool.specs.declared.about.About.{About as AnAbout};
 ghost use Rattle.fw_tool.specs.declared.words.Word.{Word as AWord};
 
+use crate::about::About;
 use crate::words::Word;
 use fw_decode::LogWord;
 use fw_log::Version;
@@ -18,6 +20,19 @@ fn number_in(word: &str) -> Option<u32>
     };
     if Buffer::new().format(number) == word {
         Some(number)
+    } else {
+        None
+    }
+}
+
+// What one word has the program say of itself.
+fn about_of(word: &str) -> Option<About>
+    ensures { (about : AnAbout) → (result ≡ Some about) ↔ Spells (AWord.About about) (word.now ∷ []) }
+{
+    if word == "help" || word == "--help" || word == "-h" {
+        Some(About::Help)
+    } else if word == "version" || word == "--version" || word == "-V" {
+        Some(About::Version)
     } else {
         None
     }
@@ -42,7 +57,7 @@ fn one_word(word: &str) -> Option<Word>
     } else if word == "map" {
         Some(Word::Log(LogWord::Map))
     } else {
-        None
+        about_of(word).map(Word::About)
     }
 }
 

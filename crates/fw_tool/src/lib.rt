@@ -1,6 +1,7 @@
-//! The program's top call: scripts in, logs and notes out; logs in, text and notes out; a seed in, a summary and notes out.
+//! The program's top call: scripts in, logs and notes out; logs in, text and notes out; a seed in, a summary and notes out; what the program says of itself.
 #![tactic(auto)]
 
+mod about;
 mod dispatch;
 mod ending;
 mod forms;
@@ -12,13 +13,14 @@ mod session;
 mod top;
 mod words;
 
+pub use about::About;
 pub use ending::Ending;
 pub use fw_decode::{LogWord, NoMap, Unsound};
 pub use fw_gen::{GrowSink, gen_script};
 pub use fw_simulate::{Refusal, Refused};
 pub use fw_text::entry_text;
 pub use laws::whole_logs_are_read;
-pub use notes::{NOTE_ROOM, close, tell};
+pub use notes::{NOTE_ROOM, tell};
 pub use session::{Flush, serve};
 pub use top::fire;
 pub use words::Word;

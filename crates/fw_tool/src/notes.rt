@@ -1,4 +1,4 @@
-ghost use Rattle.std.specs.Prelude.{◌≡◌, ◌≢◌, ◌⊎◌, ◌+◌, ◌<◌, ◌≤◌, ◌++◌, length, IsOk, IsErr};
+ghost use Rattle.std.specs.Prelude.{◌≡◌, ◌+◌, ◌<◌, ◌≤◌, ◌++◌, length};
 ghost use Rattle.arrayvec.specs.ArrayVec.{array_vec_len};
 ghost use Rattle.fw_text.specs.Line.{quadlet_text};
 ghost use Rattle.fw_tool.specs.Notes.{status_of, stop_status, stop_note, fault_of, values_of, tree_why_of, map_note, rule_of, name_of, why_of, note_of, IsTold, IsPassedOn};
@@ -52,6 +52,7 @@ fn rule(fault: RuleFault) -> &'static [u8]
         RuleFault::OffBus => b": OffBus\n",
         RuleFault::NoDeck => b": NoDeck\n",
         RuleFault::NothingStands => b": NothingStands\n",
+        RuleFault::TooLate => b": TooLate\n",
     }
 }
 
@@ -250,19 +251,4 @@ pub fn tell<N: Sink>(ending: Ending, notes: &mut N) -> u8
         return 0;
     }
     pass_on(status(ending), note(ending).as_slice(), notes)
-}
-
-/// Ends the program: passes the note of a call on, and answers its status, or 6 where the note was not written.
-///
-/// `flushed` is what the last flush of the sink answered. A write fault that only it shows was met before all that the
-/// note says, and is told in its place.
-pub fn close<N: Sink>(status: u8, note: &[u8], flushed: Result<(), Failed>, notes: &mut N) -> u8
-    ensures passed { IsOk flushed ⊎ (status ≡ 6) → IsPassedOn N.held N.faults notes.old notes.new note.now status result }
-    ensures told { IsErr flushed → status ≢ 6 → IsTold N.held N.faults notes.old notes.new (Ending.Stopped Stop.WriteFault) result }
-    ensures failed { IsErr flushed → result ≡ 6 }
-{
-    match flushed {
-        Err(Failed) if status != 6 => tell(Ending::Stopped(Stop::WriteFault), notes),
-        _ => pass_on(status, note, notes),
-    }
 }

@@ -11,18 +11,20 @@ ghost use Rattle.fw_simulate.specs.Ending.{Runs};
 ghost use Rattle.fw_simulate.specs.Sums.{Sums};
 ghost use Rattle.fw_simulate.specs.declared.ending.RunEnding.{RunEnding};
 ghost use Rattle.fw_tape.specs.Desks.{AnyBlock, AnyVendorByte};
+ghost use Rattle.fw_tool.specs.About.{about_text, IsSaid};
 ghost use Rattle.fw_tool.specs.Notes.{IsTold};
 ghost use Rattle.fw_tool.specs.Logs.{by_log};
 ghost use Rattle.fw_tool.specs.Runs.{by_run};
 ghost use Rattle.fw_tool.specs.Serving.{closed, IsClosed};
 ghost use Rattle.fw_tool.specs.Words.{IsWord, IsListed};
+ghost use Rattle.fw_tool.specs.declared.about.About.{About as AnAbout};
 ghost use Rattle.fw_tool.specs.declared.ending.Ending.{Ending as AnEnding};
 ghost use Rattle.fw_tool.specs.declared.words.Word.{Word as AWord};
 
 use crate::dispatch::carry_out;
 use crate::ending::Ending;
 use crate::notes::tell;
-use fw_outside::{BufferedSink, Failed, Sink, Source, Stop};
+use fw_outside::{BufferedSink, Failed, MemSink, Sink, Source, Stop};
 use fw_tape::Desk;
 use std::alloc::Global;
 use std::io::Write;
@@ -45,6 +47,14 @@ impl<W: Write> Flush for BufferedSink<W> {
 
     fn pass_all(&mut self) -> Result<(), Failed> {
         self.flush()
+    }
+}
+
+impl Flush for MemSink {
+    ghost kept = { λ _. [] };
+
+    fn pass_all(&mut self) -> Result<(), Failed> {
+        Ok(())
     }
 }
 
@@ -81,6 +91,10 @@ pub fn serve<S: Source, K: Flush, N: Sink, F: Fn(u16, u32, u16) -> [u8; 480], H:
         × Reads (form_by word) (rules_by word) (S.left source.old) (S.left source.new) (K.held sink.old) (K.held sink.new) e
         × IsClosed (S.faults source.old) (S.faults source.new) (K.faults sink.old) (K.faults sink.new) (K.kept sink.new) (by_log e) told
         × IsTold N.held N.faults notes.old notes.new told result }
+    ensures about { (about : AnAbout) → IsWord words.now (AWord.About about) → (source.new ≡ source.old) × ((e : AnEnding) × (told : AnEnding)
+        × IsSaid (K.held sink.old) (K.held sink.new) (about_text about) e
+        × IsClosed (S.faults source.old) (S.faults source.new) (K.faults sink.old) (K.faults sink.new) (K.kept sink.new) e told
+        × IsTold N.held N.faults notes.old notes.new told result) }
     ensures usage { (IsListed words.now → ⊥) → (source.new ≡ source.old) × (K.held sink.new ≡ K.held sink.old) × ((told : AnEnding)
         × IsClosed (S.faults source.old) (S.faults source.new) (K.faults sink.old) (K.faults sink.new) (K.kept sink.new) AnEnding.Usage told
         × IsTold N.held N.faults notes.old notes.new told result) }

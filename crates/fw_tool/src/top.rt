@@ -13,11 +13,14 @@ ghost use Rattle.fw_simulate.specs.Scripts.{IsValid};
 ghost use Rattle.fw_simulate.specs.Sums.{Sums};
 ghost use Rattle.fw_simulate.specs.declared.ending.RunEnding.{RunEnding};
 ghost use Rattle.fw_tape.specs.Desks.{AnyBlock, AnyVendorByte};
+ghost use Rattle.fw_tool.specs.About.{about_text, IsSaid};
 ghost use Rattle.fw_tool.specs.Faults.{FirstFault, IsFirstFaults};
 ghost use Rattle.fw_tool.specs.Notes.{IsTold};
 ghost use Rattle.fw_tool.specs.Logs.{by_log};
 ghost use Rattle.fw_tool.specs.Runs.{by_run};
 ghost use Rattle.fw_tool.specs.Words.{IsWord, IsListed};
+ghost use Rattle.fw_tool.specs.declared.about.About.{About as AnAbout};
+ghost use Rattle.fw_tool.specs.declared.ending.Ending.{Ending as AnEnding};
 ghost use Rattle.fw_tool.specs.declared.words.Word.{Word as AWord};
 
 use crate::dispatch::carry_out;
@@ -33,6 +36,8 @@ use std::alloc::Global;
 /// The word `run` reads a script of at most 1,048,576 bytes, carries out its commands, and writes their log; the blocks of tapes,
 /// and what a vendor makes of a byte of a command, come from the desk. The words `gen NUMBER` run the script that the number makes,
 /// from 0 to 4,294,967,295, and write six lines that count what its log holds.
+///
+/// `help` and `version`, with `--help`, `-h`, `--version` and `-V`, write what the program says of itself, and read nothing.
 ///
 /// The other words read a log of at most 268,435,456 bytes. `decode` writes one line for each entry as the entry ends, and `dv` at the
 /// log's end one line for each channel that has isochronous packets; `convert 1` and `convert 2` write the entries as a log of that
@@ -67,6 +72,12 @@ pub fn fire<S: Source, K: Sink, N: Sink, F: Fn(u16, u32, u16) -> [u8; 480], H: F
         × FirstFault (S.faults source.old) (S.faults source.new) (K.faults sink.old) (K.faults sink.new) (by_log e)
         × IsTold N.held N.faults notes.old notes.new (by_log e) result }
 
+    // `help` and `version` take nothing from the source, and write their text whole, or a front of it where the sink failed.
+    ensures about { (about : AnAbout) → IsWord words.now (AWord.About about) → (source.new ≡ source.old) × ((e : AnEnding)
+        × IsSaid (K.held sink.old) (K.held sink.new) (about_text about) e
+        × FirstFault (S.faults source.old) (S.faults source.new) (K.faults sink.old) (K.faults sink.new) e
+        × IsTold N.held N.faults notes.old notes.new e result) }
+
     // Other words read and write nothing but their note.
     ensures usage { (IsListed words.now → ⊥) → (source.new ≡ source.old) × (sink.new ≡ sink.old)
         × IsTold N.held N.faults notes.old notes.new Ending.Usage result }
@@ -76,7 +87,7 @@ pub fn fire<S: Source, K: Sink, N: Sink, F: Fn(u16, u32, u16) -> [u8; 480], H: F
         (N.faults notes.old) (N.faults notes.new) }
 
     // A script of which no line is refused, be it a seed's, and a log within the limit that the word does not refuse, end with 0, or
-    // 8 for want of memory, where no count rose.
+    // 8 for want of memory, where no count rose. `help` and `version` end with 0 there.
     ensures complete { (script : List ℕ) → S.left source.old ≡ Some script → IsValid script → IsWord words.now AWord.Run
         → (Rose (S.faults source.old) (S.faults source.new) → ⊥) → (Rose (K.faults sink.old) (K.faults sink.new) → ⊥)
         → (Rose (N.faults notes.old) (N.faults notes.new) → ⊥) → (result ≡ 0) ⊎ (result ≡ 8) }
@@ -86,6 +97,8 @@ pub fn fire<S: Source, K: Sink, N: Sink, F: Fn(u16, u32, u16) -> [u8; 480], H: F
         → (entries : List Timed) → (bytes : List ℕ) → S.left source.old ≡ Some bytes → IsLog entries bytes → length bytes ≤ limit → Accepts word entries
         → (Rose (S.faults source.old) (S.faults source.new) → ⊥) → (Rose (K.faults sink.old) (K.faults sink.new) → ⊥)
         → (Rose (N.faults notes.old) (N.faults notes.new) → ⊥) → (result ≡ 0) ⊎ (result ≡ 8) }
+    ensures complete_about { (about : AnAbout) → IsWord words.now (AWord.About about)
+        → (Rose (K.faults sink.old) (K.faults sink.new) → ⊥) → result ≡ 0 }
 {
     let ending = carry_out(alloc, words, source, sink, desk);
     tell(ending, notes)

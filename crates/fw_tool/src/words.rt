@@ -1,5 +1,6 @@
 //! The words of the command line.
 
+use crate::about::About;
 use fw_decode::LogWord;
 
 /// What the words of the command line say.
@@ -11,4 +12,6 @@ pub enum Word {
     Gen(u32),
     /// `decode`, `explain`, `json`, `dv`, `convert 1`, `convert 2`, `audit`, `map` or `map dot`: to read a log.
     Log(LogWord),
+    /// `help` or `version`, in their spellings: to say so of the program itself.
+    About(About),
 }

@@ -1,6 +1,6 @@
 //! Devices and cables that are declared.
 
-ghost use Rattle.std.specs.Prelude.{◌≡◌, ◌<◌, ◌≤◌, length, IfErr, OnOk};
+ghost use Rattle.std.specs.Prelude.{◌≡◌, ◌<◌, ◌≤◌, true, [], length, IfErr, OnOk};
 ghost use Rattle.fw_tree.specs.declared.TreeFault.{TreeFault};
 ghost use Rattle.fw_tree.specs.Topology.{IsFault, IsJoined};
 ghost use Rattle.fw_node.specs.State.{first_state};
@@ -25,12 +25,12 @@ fn facts_of(kind: DeviceKind, ports: u8, speed: u8) -> PhyFacts
 }
 
 // A device of this kind, which is no node yet.
-fn first_node(kind: DeviceKind, device: u8, speed: u8) -> Node
+fn first_node(kind: DeviceKind, device: u8, speed: u8, withhold: bool) -> Node
     requires device { device ≤ 62 }
     requires speed { speed ≤ 2 }
-    ensures { result ≡ first_state kind device speed }
+    ensures { result ≡ first_state kind device speed withhold }
 {
-    Node::new(kind.code(), device, speed)
+    Node::new(kind.code(), device, speed, withhold)
 }
 
 impl Devices {
@@ -49,7 +49,24 @@ impl Devices {
         };
         self.bus.current = false;
         self.names.push(name);
-        self.nodes.push(first_node(kind, device, speed)).unwrap();
+        self.nodes
+            .push(first_node(kind, device, speed, self.withhold))
+            .unwrap();
+    }
+
+    /// The bus withholds channel 31 from now on: it is not free after any bus reset. No device is declared yet.
+    pub fn withhold(&mut self)
+        requires first { self.old.names ≡ [] }
+        ensures { self.new ≡ record self.old { withheld = true } }
+    {
+        self.withhold = true;
+    }
+
+    /// Whether the bus withholds channel 31.
+    pub fn withholds(&self) -> bool
+        ensures { result ≡ self.now.withheld }
+    {
+        self.withhold
     }
 
     /// What `Cabling::join` would answer of a cable between two ports.

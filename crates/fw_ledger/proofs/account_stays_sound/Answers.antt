@@ -1,6 +1,6 @@
 -- Each clause is a lemma.
 use Rattle.fw_ledger.proofs.Moves.{moves_keep}
-use Rattle.fw_ledger.proofs.Events.{reset_keeps, second_ends}
+use Rattle.fw_ledger.proofs.Events.{reset_keeps, second_ends, withholding_keeps}
 use Rattle.fw_ledger.proofs.Deaths.{death_keeps}
 use Rattle.fw_ledger.proofs.Shared.{is_conflict_free}
 use Rattle.fw_ledger.proofs.Fold.{next_keeps, prefix_sound}
@@ -17,6 +17,9 @@ returns-clause-second c = second_ends
 
 pub returns-clause-death : goal.returns-clause-death
 returns-clause-death c = death_keeps
+
+pub returns-clause-withholding : goal.returns-clause-withholding
+returns-clause-withholding c = withholding_keeps
 
 pub returns-clause-entries : goal.returns-clause-entries
 returns-clause-entries c = next_keeps

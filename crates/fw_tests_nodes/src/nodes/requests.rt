@@ -26,7 +26,7 @@ pub fn node_of(kind: DeviceKind) -> Node
         DeviceKind::Computer => (62, 2, 62, false),
         _ => (5, 0, 1, true),
     };
-    let mut node = Node::new(kind.code(), device, rate);
+    let mut node = Node::new(kind.code(), device, rate, false);
     node.reset(number, manager);
     node
 }

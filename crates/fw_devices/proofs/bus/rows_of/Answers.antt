@@ -1,4 +1,4 @@
-use Rattle.std.proofs.Common.{◌≡◌, ◌<◌, ◌+◌, ◌++◌, ◌∷◌, [], ◌∙◌, inl, inr, ℕ, List, Option, Some, length, slice_get, arith, ap, sym, subst}
+use Rattle.std.proofs.Common.{false, ◌≡◌, ◌<◌, ◌+◌, ◌++◌, ◌∷◌, [], ◌∙◌, inl, inr, ℕ, List, Option, Some, length, slice_get, arith, ap, sym, subst}
 use Rattle.std.proofs.lemmas.Bool.{cases_lt}
 use Rattle.std.proofs.lemmas.List.{length_push, get_or_append_left, get_or_push, get_or_read}
 use Rattle.std.proofs.lemmas.Option.{slice_get-get_or}
@@ -37,7 +37,7 @@ loop-n-preserved c =
     let device = device_at c.devices_of-devices.result c.loop-n.n in
     let at = c.devices_of-devices.ensures.devices c.loop-n.n c.loop-n-test.true in
     let low = c.requires.declared device c.loop-n.n at in
-    let kind : c.kind.result ≡ kind_at (kinds_of nodes) device = c.kind.ensures ∙ ap kind_of (get_or_read nodes device c.index-nodes-device.result low c.index-nodes-device.is (first_state Relay 0 0)) ∙ sym (kind_of_node nodes device) in
+    let kind : c.kind.result ≡ kind_at (kinds_of nodes) device = c.kind.ensures ∙ ap kind_of (get_or_read nodes device c.index-nodes-device.result low c.index-nodes-device.is (first_state Relay 0 0 false)) ∙ sym (kind_of_node nodes device) in
     let row : c.row_of.result ≡ row_of device (kind_at (kinds_of nodes) device) = c.row_of.ensures ∙ ap (row_of device) kind in
     let rows : c.push.new.self ≡ c.loop-n.rows ++ row_of device (kind_at (kinds_of nodes) device) ∷ [] = c.push.ensures ∙ ap (λ r. c.loop-n.rows ++ r ∷ []) row in
     let P : List NodeRow → Type 0 = λ xs. (d k : ℕ) → number_at number d ≡ Some k → k < c.loop-n.n + 1 → slice_get xs k ≡ Some (row_of d (kind_at (kinds_of nodes) d)) in

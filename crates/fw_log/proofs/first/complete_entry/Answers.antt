@@ -1,7 +1,7 @@
-use Rattle.std.proofs.Common.{◌≡◌, ℕ, ◌+◌, List, drop, arith, ap, subst, sym, ◌∙◌}
+use Rattle.std.proofs.Common.{◌≡◌, ℕ, ◌+◌, drop, arith, ap, subst, sym, ◌∙◌}
 use Rattle.fw_entry.specs.Log.{head_size}
 use Rattle.fw_log.specs.Stands.{position}
-use Rattle.fw_log.specs.Reading.{IsComplete, WrongBody, skip, fault_at}
+use Rattle.fw_log.specs.Reading.{WrongBody, skip, fault_at}
 use Rattle.fw_log.specs.declared.BodyFault.TheVariants.{Fields}
 use Rattle.fw_log.specs.declared.LogWhy.TheVariants.{BadBody}
 use Rattle.fw_log.specs.declared.LogFault.{LogFault}

@@ -1,4 +1,4 @@
-use Rattle.std.proofs.Common.{refl, sym, ◌∙◌, ap, List, ◌++◌, ◌≡◌}
+use Rattle.std.proofs.Common.{refl, sym, ◌∙◌, ap, List, ◌++◌}
 use Rattle.fw_entry.specs.Log.{header_bytes, entries_bytes}
 use Rattle.fw_entry.specs.declared.entry.Timed.{Timed}
 use Rattle.fw_log.proofs.HistoryLaws.{one_log}

@@ -1,6 +1,6 @@
 use Rattle.std.proofs.Common.{drop, ap, sym, ◌∙◌}
 use Rattle.fw_log.specs.Stands.{position}
-use Rattle.fw_log.specs.Reading.{entry_fault, head_fault, header_fault, version_in, version_at}
+use Rattle.fw_log.specs.Reading.{entry_fault, head_fault, header_fault, version_at}
 use Rattle.fw_entry.specs.declared.version.Version.{Version}
 use Rattle.fw_log.specs.declared.stand.Stand.{Stand}
 use Rattle.fw_log.proofs.HeadLaws.{after_header}

@@ -1,4 +1,4 @@
-use Rattle.std.proofs.Common.{◌≡◌, ◌∙◌, List, ℕ, refl, sym, subst, ap, string_bytes}
+use Rattle.std.proofs.Common.{List, ℕ, refl, subst, string_bytes}
 use Rattle.fw_outside.specs.Outside.{Grows, AppendsFront}
 use Rattle.fw_reading.proofs.Closings.{closed_by, refused_by}
 use Rattle.fw_reading.proofs.log.end_log.Goals as goal

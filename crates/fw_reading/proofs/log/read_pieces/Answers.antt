@@ -2,7 +2,6 @@ use Rattle.std.proofs.Common.{rules, ◌≡◌, ◌-◌, ◌≤◌, ◌<◌, ◌
 use Rattle.std.proofs.lemmas.List.{length-take-le, length-drop}
 use Rattle.fw_outside.specs.Outside.{Takes}
 use Rattle.fw_outside.proofs.Parts.{end_from_zero}
-use Rattle.fw_entry.specs.declared.entry.Timed.{Timed}
 use Rattle.fw_reading.specs.Readings.{Form}
 use Rattle.fw_reading.specs.Pieces.{DecodedTo, StopsAt, PrintsMore}
 use Rattle.fw_reading.proofs.Printings.{stops_at_read}

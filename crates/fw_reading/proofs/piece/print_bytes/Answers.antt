@@ -1,7 +1,6 @@
-use Rattle.std.proofs.Common.{rules, ◌≡◌, ◌+◌, ◌≤◌, ◌<◌, ◌++◌, ◌∙◌, List, ℕ, length, take, drop, arith, refl, ap, sym, subst, length-append}
+use Rattle.std.proofs.Common.{rules, ◌≡◌, ◌<◌, ◌++◌, List, ℕ, length, arith, subst, length-append}
 use Rattle.fw_outside.specs.Outside.{Grows, AppendsFront}
 use Rattle.fw_entry.specs.declared.entry.Timed.{Timed}
-use Rattle.fw_log.specs.Reader.{total}
 use Rattle.fw_log.specs.History.{HasRead}
 use Rattle.fw_reading.specs.Readings.{Form}
 use Rattle.fw_reading.specs.Pieces.{PrintsPiece, PrintsBytes}

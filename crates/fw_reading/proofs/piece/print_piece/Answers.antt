@@ -1,4 +1,4 @@
-use Rattle.fw_reading.proofs.Printings.{printed_nothing, written_part, written_stop, written, stop_counts}
+use Rattle.fw_reading.proofs.Printings.{printed_nothing, written_part, written_stop, written}
 use Rattle.fw_reading.proofs.piece.print_piece.Goals as goal
 
 pub returns-in_default-clause-text : goal.returns-in_default-clause-text

@@ -1,4 +1,4 @@
-use Rattle.fw_script.specs.declared.keyword.Keyword.TheVariants.{Device, Cable, Reset, Connect, Broadcast, Listen, Break, Step, Settle, Wait, Cycles, Die, Lose, Start, Command, Read, Swap, Insert, Eject, Show, End}
+use Rattle.fw_script.specs.declared.keyword.Keyword.TheVariants.{Device, Cable, Reset, Connect, Broadcast, Listen, Break, Step, Settle, Wait, Cycles, Die, Lose, Start, Command, Read, Swap, Insert, Eject, Show, Withhold, End}
 use Rattle.fw_script.proofs.FormLaws.{of_keyword}
 use Rattle.fw_script.proofs.form.arguments.Goals as goal
 
@@ -61,6 +61,9 @@ returns-in-Eject-clause-only c = of_keyword c.args.keyword Eject c.args.words.no
 
 pub returns-in-Show-clause-only : goal.returns-in-Show-clause-only
 returns-in-Show-clause-only c = of_keyword c.args.keyword Show c.args.words.now c.show.result c.show.new.out c.in-Show.is c.show.ensures.only
+
+pub returns-in-Withhold-clause-only : goal.returns-in-Withhold-clause-only
+returns-in-Withhold-clause-only c = of_keyword c.args.keyword Withhold c.args.words.now c.withhold.result c.withhold.new.out c.in-Withhold.is c.withhold.ensures.only
 
 pub returns-in-End-clause-only : goal.returns-in-End-clause-only
 returns-in-End-clause-only c = of_keyword c.args.keyword End c.args.words.now c.end.result c.end.new.out c.in-End.is c.end.ensures.only

@@ -14,5 +14,5 @@ loop-i-preserved c =
     let before : List ℕ = flat_map id_text (take i c.args.ids.now) in
     let q : c.quadlet_at.result.0 ≡ quadlet_at _ (8 * i) = c.quadlet_at.ensures.value ∙ ap (λ (b : List ℕ). quadlet_at b (8 * i)) c.requires in
     c.in_ok-put_quadlet.ensures ∙ ap (λ (t : List ℕ). t ++ quadlet_text c.quadlet_at.result.0) c.loop-i.invariant
-    ∙ append_assoc c.args.text.now.items before (quadlet_text c.quadlet_at.result.0)
-    ∙ ap (λ (x : List ℕ). c.args.text.now.items ++ x) (ap (λ (n : ℕ). before ++ quadlet_text n) q ∙ sym (ids_next c.args.ids.now i within))
+    ∙ append_assoc c.args.text.now before (quadlet_text c.quadlet_at.result.0)
+    ∙ ap (λ (x : List ℕ). c.args.text.now ++ x) (ap (λ (n : ℕ). before ++ quadlet_text n) q ∙ sym (ids_next c.args.ids.now i within))

@@ -3,4 +3,4 @@ use Rattle.fw_text.specs.Line.{id_text}
 use Rattle.fw_text.proofs.quadlets.put_ids.Given as goal
 
 abbrev pub invariant-loop-i : goal.invariant-loop-i
-invariant-loop-i l = l.text.items ≡ l.initial.text.items ++ flat_map id_text (take l.i l.ids)
+invariant-loop-i l = l.text ≡ l.initial.text ++ flat_map id_text (take l.i l.ids)

@@ -1,4 +1,4 @@
-use Rattle.std.proofs.Common.{◌≡◌, ℕ, List, Option, ap, sym, subst, ◌∙◌}
+use Rattle.std.proofs.Common.{ℕ, List, Option, ap, refl, sym, subst, ◌∙◌}
 use Rattle.fw_run.specs.Desks.{DeskRelations}
 use Rattle.fw_reading.specs.Endings.{Reads}
 use Rattle.fw_decode.specs.Words.{form_by, rules_by}
@@ -6,6 +6,7 @@ use Rattle.fw_simulate.specs.Ending.{Runs}
 use Rattle.fw_simulate.specs.Sums.{Sums}
 use Rattle.fw_tool.specs.declared.ending.Ending.{Ending}
 use Rattle.fw_tool.specs.declared.ending.Ending.TheVariants.{Usage}
+use Rattle.fw_tool.specs.About.{about_text, IsSaid}
 use Rattle.fw_tool.specs.Faults.{FirstFault}
 use Rattle.fw_tool.specs.Logs.{by_log}
 use Rattle.fw_tool.specs.Runs.{by_run}
@@ -61,6 +62,24 @@ returns-clause-sums g c seed form =
           before = g.K.Sink.faults c.carry_out-ending.new.sink;
           first = subst F is c.carry_out-ending.ensures.first;
           flushed = closes c.pass_all-flushed.result c.carry_out-ending.result (by_run e) c.closed.result _ _ _ is c.closed.ensures c.pass_all-flushed.ensures.empty c.pass_all-flushed.ensures.same c.pass_all-flushed.ensures.risen;
+        },
+        c.tell.ensures,
+      ),
+    )
+
+pub returns-clause-about : goal.returns-clause-about
+returns-clause-about g c about form =
+    let (stays, said) = c.carry_out-ending.ensures.about about form in
+    let P : Option (List ℕ) → Type 0 = λ h. IsSaid (g.K.Sink.held c.args.sink.now) h (about_text about) c.carry_out-ending.result in (
+      stays,
+      (
+        c.carry_out-ending.result,
+        c.closed.result,
+        subst P (sym c.pass_all-flushed.ensures.held) said,
+        record {
+          before = g.K.Sink.faults c.carry_out-ending.new.sink;
+          first = c.carry_out-ending.ensures.first;
+          flushed = closes c.pass_all-flushed.result c.carry_out-ending.result c.carry_out-ending.result c.closed.result _ _ _ refl c.closed.ensures c.pass_all-flushed.ensures.empty c.pass_all-flushed.ensures.same c.pass_all-flushed.ensures.risen;
         },
         c.tell.ensures,
       ),

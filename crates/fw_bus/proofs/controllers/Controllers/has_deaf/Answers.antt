@@ -1,4 +1,4 @@
-use Rattle.std.proofs.Common.{◌≡◌, ◌<◌, ◌≤◌, ◌⊎◌, inl, inr, ℕ, List, length, false, ap, sym, ◌∙◌, arith, below_more, IsFalse}
+use Rattle.std.proofs.Common.{◌<◌, ◌≤◌, ◌⊎◌, inl, inr, ℕ, List, length, ap, sym, ◌∙◌, arith, below_more, IsFalse}
 use Rattle.std.proofs.lemmas.Bool.{cases_lt}
 use Rattle.std.proofs.lemmas.List.{get_or_past, get_or_read}
 use Rattle.fw_cmp.specs.Losses.{Listening, first_listening}

@@ -1,4 +1,4 @@
-use Rattle.std.proofs.Common.{◌≡◌, ◌<◌, ℕ, List, Bool, true, false, cond, refl, length, rules, arith, sym, subst, ap, ◌∙◌, IsTrue}
+use Rattle.std.proofs.Common.{◌≡◌, ◌<◌, ℕ, List, Bool, true, false, cond, refl, length, rules, arith, sym, subst, ap, IsTrue}
 use Rattle.fw_cmp.specs.Losses.{Listening, first_listening, after_turn, asked_by}
 use Rattle.fw_cmp.specs.Turns.{next, after_next}
 use Rattle.fw_cmp.specs.declared.directory.Directory.{Directory}

@@ -30,6 +30,9 @@ returns-in-Show g c = record { does = rw c.in-Show.is (carried _ _ tt (λ s t ou
 pub returns-in-End : goal.returns-in-End
 returns-in-End g c = record { does = rw c.in-End.is (carried _ _ tt (λ s t out f. Carries.ends f) (does_one _ _ _ (finish_turns _) c.give.ensures.bytes c.give.ensures.faults)) }
 
+pub returns-in-Withhold : goal.returns-in-Withhold
+returns-in-Withhold g c = record { does = rw c.in-Withhold.is (by_desk _ tt c.withhold.ensures.does) }
+
 pub returns-in-Settle : goal.returns-in-Settle
 returns-in-Settle g c = record { does = rw c.in-Settle.is (by_desk _ tt c.settle.ensures.does) }
 

@@ -1,6 +1,5 @@
-use Rattle.std.proofs.Common.{◌≡◌, ◌∙◌, inl, Some, refl, ap, sym, arith, IsTrue}
+use Rattle.std.proofs.Common.{◌∙◌, inl, Some, refl, ap, sym, arith}
 use Rattle.fw_entry.specs.declared.entry.Entry.TheVariants.{Reset}
-use Rattle.fw_devices.specs.Network.{Network}
 use Rattle.fw_bus.specs.declared.machine.Machine.{Machine}
 use Rattle.fw_bus.proofs.Doings.{does_one, does_silent}
 use Rattle.fw_bus.proofs.DeafTurns.{deaf_forces, deaf_waits, forced_few, living_half, living_node}

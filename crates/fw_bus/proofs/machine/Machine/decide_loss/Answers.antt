@@ -1,8 +1,7 @@
 -- A lost response is decided of the controller of the device that has the name.
-use Rattle.std.proofs.Common.{◌≡◌, ◌<◌, ◌≤◌, nat_le, true, false, arith, rules, subst, sym, ◌∙◌, IsTrue, IsFalse}
+use Rattle.std.proofs.Common.{◌≡◌, ◌<◌, ◌≤◌, nat_le, true, false, arith, subst, sym, ◌∙◌}
 use Rattle.std.proofs.lemmas.Bool.Decides.{nat_tests}
 use Rattle.fw_cmp.specs.Losses.{Awaits, MayTurn}
-use Rattle.fw_run.specs.HalfSteps.{has_request}
 use Rattle.fw_bus.specs.Stands.{is_living_in}
 use Rattle.fw_bus.specs.Tables.{states_of}
 use Rattle.fw_bus.proofs.Connections.{is_named}

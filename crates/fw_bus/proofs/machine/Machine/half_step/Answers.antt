@@ -1,4 +1,4 @@
-use Rattle.std.proofs.Common.{◌≡◌, ◌∙◌, ap, sym, refl, IsFalse}
+use Rattle.std.proofs.Common.{◌∙◌, ap, sym, IsFalse}
 use Rattle.fw_bus.proofs.Doings.{does_one, does_silent}
 use Rattle.fw_bus.proofs.StepTurns.{idle_turns, step_turns}
 use Rattle.fw_cmp.specs.Losses.{Listening}

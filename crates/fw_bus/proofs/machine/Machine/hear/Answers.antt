@@ -1,5 +1,4 @@
-use Rattle.std.proofs.Common.{ap, refl, Some}
-use Rattle.fw_devices.specs.Network.{Network}
+use Rattle.std.proofs.Common.{ap, Some}
 use Rattle.fw_entry.specs.declared.entry.Entry.TheVariants.{Async}
 use Rattle.fw_bus.specs.declared.machine.Machine.{Machine}
 use Rattle.fw_bus.proofs.HalfLives.{living_stays}

@@ -21,6 +21,7 @@ nothing_stands = record {
   latest = refl;
   epoch = refl;
   manager = refl;
+  withheld = refl;
 }
 
 -- and no controller is told of a node

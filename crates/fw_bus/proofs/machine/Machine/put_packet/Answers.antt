@@ -1,4 +1,4 @@
-use Rattle.std.proofs.Common.{◌≡◌, ◌++◌, ◌∙◌, ℕ, Some, None, refl, ap}
+use Rattle.std.proofs.Common.{◌++◌, ◌∙◌, ℕ, Some, None, refl, ap}
 use Rattle.fw_entry.specs.Log.{entry_bytes}
 use Rattle.fw_entry.specs.declared.entry.Entry.TheVariants.{Iso}
 use Rattle.fw_entry.specs.declared.version.Version.TheVariants.{Two}

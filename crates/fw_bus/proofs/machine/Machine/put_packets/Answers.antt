@@ -1,5 +1,4 @@
-use Rattle.std.proofs.Common.{◌≡◌, ◌+◌, ◌*◌, ◌<◌, ◌≤◌, ◌∙◌, ℕ, List, [], ap, subst, sym, length, arith}
-use Rattle.fw_bus.specs.Cycling.{Puts, SendsTo, HadSent}
+use Rattle.std.proofs.Common.{◌∙◌, sym, arith}
 use Rattle.fw_bus.proofs.Packets.{packets_none, packets_skip, packets_then, packets_whole}
 use Rattle.fw_bus.proofs.machine.Machine.put_packets.Goals as goal
 use Rattle.fw_bus.proofs.machine.Machine.put_packets.Goals.{in-Some, in_default}

@@ -1,4 +1,4 @@
-use Rattle.std.proofs.Common.{inl, inr, refl, rules, arith, sym, ap, ◌∙◌, ◌≡◌, ◌+◌, ◌*◌, length, List, ℕ, true}
+use Rattle.std.proofs.Common.{inl, inr, refl, rules, arith, sym, ap, ◌∙◌, ◌≡◌, ◌+◌, ◌*◌, length, List, ℕ}
 use Rattle.std.specs.Prelude.{Err}
 use Rattle.fw_bus.specs.Stands.{living_in}
 use Rattle.fw_bus.proofs.Doings.{ready_after}

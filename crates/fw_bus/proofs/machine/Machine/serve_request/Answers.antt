@@ -1,4 +1,4 @@
-use Rattle.std.proofs.Common.{◌≡◌, ◌<◌, ◌%◌, ℕ, List, Bor, option_map, length, IsTrue, Some, ap, sym, subst, arith, ◌∙◌, refl, is_some}
+use Rattle.std.proofs.Common.{◌≡◌, ◌<◌, ◌%◌, ℕ, List, Bor, option_map, length, IsTrue, Some, ap, sym, subst, arith, ◌∙◌, is_some}
 use Rattle.std.proofs.lemmas.List.{length-set}
 use Rattle.std.proofs.lemmas.Option.{same_Some}
 use Rattle.fw_base.specs.Devices.{has_link}

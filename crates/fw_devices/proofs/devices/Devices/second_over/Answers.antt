@@ -14,7 +14,7 @@ invariant_of-self c =
     let size : length c.end_second.new.nodes ≡ length nodes = ap length made ∙ same.size in
     let written : (with_items c.self.inside.nodes c.end_second.new.nodes).items ≡ map after_second nodes = with_items_is c.self.inside.nodes c.end_second.new.nodes (let long = c.self.inside.nodes.ok.0 in omega arith) ∙ made in
     rw written (record {
-      network = network_kept _ _ c.self.invariant.network refl refl same;
+      network = network_kept _ _ c.self.invariant.network refl refl refl same;
       few = c.self.invariant.few;
       same = same.size ∙ c.self.invariant.same;
       nodes_room = c.self.invariant.nodes_room;

@@ -13,7 +13,7 @@ invariant_of-self c =
     let after = c.serve.ensures.registers asked.packet asked.spells in
     let same = same_set c.self.inside.nodes.items c.from.result c.index_mut.result.now c.serve.new.self low c.index_mut.ensures.value (subst P (sym after) (same_after (request_in asked.packet) c.index_mut.result.now)) in
     record {
-      network = network_kept _ _ c.self.invariant.network refl refl same;
+      network = network_kept _ _ c.self.invariant.network refl refl refl same;
       few = c.self.invariant.few;
       same = same.size ∙ c.self.invariant.same;
       nodes_room = c.self.invariant.nodes_room;

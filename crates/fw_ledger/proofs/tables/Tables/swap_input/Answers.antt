@@ -1,7 +1,16 @@
 use Rattle.std.proofs.Common.{◌≡◌, sym, ◌∙◌, ap, rules}
+use Rattle.fw_ledger.specs.Words.{InputPlug}
 use Rattle.fw_ledger.specs.Stands.{word_at}
-use Rattle.fw_ledger.proofs.InputSwaps.{input_made, input_left}
+use Rattle.fw_ledger.proofs.InputSwaps.{is_there_input, input_made, input_left}
+use Rattle.fw_ledger.proofs.Swapping.{swap_other}
 use Rattle.fw_ledger.proofs.tables.Tables.swap_input.Goals as goal
+
+pub returns-then-argument-word_at : goal.returns-then-argument-word_at
+returns-then-argument-word_at c = λ l h.
+    let t = c.args.self.now in
+    let p = c.args.p in
+    let word = c.word_at.ensures ∙ ap (λ ws. word_at ws p) c.deref.ensures.value ∙ h.inputs.words p (is_there_input t l p h c.requires.there) in
+    swap_other t l c.args.c (InputPlug p) c.args.argument c.args.new h.sound (λ e. c.if-argument-word_at.true (sym e ∙ sym word))
 
 pub returns-then-is_more : goal.returns-then-is_more
 returns-then-is_more c = λ l h.

@@ -31,7 +31,8 @@ returns c = λ l h.
     reset_stands t l r _ h (fits_network r c.requires.fits) (record {
       latest = (refl, refl, c.same_nodes-self.ensures ∙ c.as_slice-nodes.ensures.value);
       reclaiming = refl;
-      words = (refl, refl, refl);
+      withheld = refl;
+      words = (refl, c.first_high-self.ensures, refl);
       plugs = record {
         outs = λ p. ap (list_any (is_output_of p)) (sym c.as_slice-nodes.ensures.value) ∙ c.outs_of-outs.ensures p;
         ins = λ p. ap (list_any (is_input_of p)) (sym c.as_slice-nodes.ensures.value) ∙ c.ins_of-self.ensures p;

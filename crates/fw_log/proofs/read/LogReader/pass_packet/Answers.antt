@@ -1,0 +1,74 @@
+use Rattle.std.proofs.Common.{◌≡◌, ◌-◌, ℕ, List, length, arith, ap, sym, subst, ◌∙◌}
+use Rattle.fw_log.specs.Stands.{Position, position}
+use Rattle.fw_log.specs.Reading.{IsPending}
+use Rattle.fw_log.proofs.FindLaws.{holds_by}
+use Rattle.fw_log.proofs.HistoryLaws.{nothing_pending}
+use Rattle.fw_log.specs.Reader.{State, Feeds}
+use Rattle.fw_log.proofs.PassLaws.{EndsPassed, ends_passed, fed, behind_passed, counts_up, passes_packet, same_entry, without_fault}
+use Rattle.fw_log.proofs.read.LogReader.pass_packet.Goals as goal
+use Rattle.fw_log.proofs.read.LogReader.pass_packet.Goals.{After-as_slice-2, After-clear}
+
+-- the entry that ends, before the reader changes and after
+before : (c : After-as_slice-2) → EndsPassed c.args.self.now.stand c.args.self.now.taken c.args.piece.now (c.in_ok-passed.field-0.passed)
+before c =
+    let clear = without_fault c.self.inside.fault c.is_some.result c.is_some.ensures c.if-is_some.false in
+    ends_passed c.args.self.now (position c.self.inside.stand) c.self.inside.taken.value c.as_slice.result.now c.args.piece.now c.at_hand-bytes.result.now
+    c.self.inside.fault (c.in_ok-passed.field-0.passed) c.self.view_is c.self.invariant clear (c.as_slice.ensures.value ∙ c.deref.ensures)
+    c.at_hand-bytes.ensures c.in_ok-passed.ensures.first
+
+after : (c : After-clear) → EndsPassed c.args.self.now.stand c.args.self.now.taken c.args.piece.now (c.in_ok-passed.field-0.passed)
+after c =
+    let clear = without_fault c.self.inside.fault c.is_some.result c.is_some.ensures c.if-is_some.false in
+    ends_passed c.args.self.now (position c.self.inside.stand) c.self.inside.taken.value c.as_slice.result.now c.args.piece.now c.at_hand-bytes.result.now
+    c.self.inside.fault (c.in_ok-passed.field-0.passed) c.self.view_is c.self.invariant clear (c.as_slice.ensures.value ∙ c.deref.ensures)
+    c.at_hand-bytes.ensures c.in_ok-passed.ensures.first
+
+abbrev new : After-clear → State
+new c = record { stand = position c.going_on-self-inside.result; taken = c.clear.new.self; fault = c.self.inside.fault }
+
+abbrev used : After-clear → ℕ
+used c = c.in_ok-passed.field-0.passed.end - length c.as_slice-2.result.now
+
+feeds : (c : After-clear) → Feeds c.args.self.now.stand c.args.self.now.taken c.args.piece.now (fed (used c) (after c).entry) (new c)
+feeds c =
+    let size : length c.as_slice-2.result.now ≡ length c.args.self.now.taken =
+    ap length (c.as_slice-2.ensures.value ∙ c.deref-2.ensures ∙ ap (λ (r : State). r.taken) c.self.view_is) in
+    behind_passed c.args.self.now c.args.piece.now (c.in_ok-passed.field-0.passed) (after c) (length c.as_slice-2.result.now) c.start.result
+    (position c.going_on-self-inside.result) c.clear.new.self c.self.inside.fault size (c.start.ensures ∙ ap (λ (r : State). r.stand.start) c.self.view_is)
+    c.going_on-self-inside.ensures c.clear.ensures (without_fault c.self.inside.fault c.is_some.result c.is_some.ensures c.if-is_some.false)
+
+pub overflow_sub-used : goal.overflow_sub-used
+overflow_sub-used c =
+    let size : length c.as_slice-2.result.now ≡ length c.args.self.now.taken =
+    ap length (c.as_slice-2.ensures.value ∙ c.deref-2.ensures ∙ ap (λ (r : State). r.taken) c.self.view_is) in
+    omega (arith, size, (before c).past)
+
+pub going_on-self-inside-requires : goal.going_on-self-inside-requires
+going_on-self-inside-requires c = omega (arith, (before (goal.at.going_on-self-inside-requires c).After-as_slice-2).some)
+
+pub returns-clause-counts : goal.returns-clause-counts
+returns-clause-counts c =
+    let x = (goal.at.returns-clause-counts c).After-clear in
+    counts_up c.args.self.now (new x) (position c.self.inside.stand) c.self.inside.taken.value c.args.piece.now c.self.inside.fault (used x) (after x).entry
+    c.self.view_is c.self.invariant (without_fault c.self.inside.fault c.is_some.result c.is_some.ensures c.if-is_some.false) (feeds x)
+
+pub returns-clause-packet : goal.returns-clause-packet
+returns-clause-packet c = record { packet = c.in_ok-passed.ensures.packet; spells = c.in_ok-passed.ensures.spells }
+
+pub returns-clause-history : goal.returns-clause-history
+unfolding after
+returns-clause-history c =
+    let x = (goal.at.returns-clause-history c).After-clear in
+    let clear = without_fault c.self.inside.fault c.is_some.result c.is_some.ensures c.if-is_some.false in
+    let same = same_entry c.args.self.now (position c.self.inside.stand) c.self.inside.taken.value c.as_slice.result.now c.args.piece.now c.at_hand-bytes.result.now
+    c.self.inside.fault (c.in_ok-passed.field-0.passed) c.self.view_is c.self.invariant clear (c.as_slice.ensures.value ∙ c.deref.ensures)
+    c.at_hand-bytes.ensures c.in_ok-passed.ensures.first in
+    passes_packet c.args.self.now (new x) c.args.piece.now (position c.self.inside.stand) c.at_hand-bytes.result.now c.in_ok-passed.field-0 c.in_ok-passed.ensures
+    (after x) same (used x) (feeds x)
+
+pub invariant_of-self : goal.invariant_of-self
+invariant_of-self c =
+    let s : Position = position c.going_on-self-inside.result in
+    let P : List ℕ → Type 0 = IsPending s in
+    holds_by s c.clear.new.self c.self.inside.fault (without_fault c.self.inside.fault c.is_some.result c.is_some.ensures c.if-is_some.false)
+    (subst P (sym c.clear.ensures) (nothing_pending s))

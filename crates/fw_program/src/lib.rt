@@ -1,0 +1,8 @@
+//! The program as one call: its desk, and the top call with it.
+#![tactic(auto)]
+
+mod call;
+mod desk;
+
+pub use call::program;
+pub use desk::{block_of, inverted};

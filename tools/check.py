@@ -1,0 +1,131 @@
+#!/usr/bin/env python3
+"""Compares what people read with what the program does: its help, the examples, README's commands, and JSON by another parser.
+
+    tools/check.py [PROGRAM]
+
+PROGRAM is crates/fire/out/fire, which ./fire builds. This is run by hand, needs Python 3.8, and takes some seconds. The status is 0
+where all holds, 1 where something does not, and 2 where there is no program.
+"""
+
+import pathlib
+import re
+import subprocess
+import sys
+
+sys.dont_write_bytecode = True
+
+from log_of_json import log_of  # noqa: E402
+
+ROOT = pathlib.Path(__file__).resolve().parent.parent
+EXAMPLES = ROOT / "examples"
+HELP = ROOT / "docs/help.txt"
+VERSION_AT = 7  # the byte of a log that has its version
+
+# What a log without its end is told with: `explain` tells its entries first.
+CUT_OFF = 4
+
+# What completes words and what the manual pages say of them; each word of the help stands in both.
+COMPLETION = ROOT / "tools/completion.bash"
+MANUAL = ROOT / "docs/man/fire.1"
+
+wrong = 0
+
+
+def due(what, holds):
+    """Tells what does not hold."""
+    global wrong
+    if not holds:
+        wrong += 1
+        print(f"WRONG {what}")
+
+
+def run(program, words, data=b""):
+    ended = subprocess.run([program, *words], input=data, capture_output=True, check=False)
+    return ended.returncode, ended.stdout, ended.stderr
+
+
+def forms():
+    """The forms of words that the help lists."""
+    return re.findall(r"^  ([a-z]+(?: [a-zA-Z0-9]+)?) {2,}", HELP.read_text(), re.M)
+
+
+def check_help(program):
+    """The program's help and version are the launcher's, which needs no build, and the manual and the completion have each word."""
+    text = HELP.read_bytes()
+    for word in ("help", "--help", "-h"):
+        due(f"help of the program: {word}", run(program, [word]) == (0, text, b""))
+        due(f"help of the launcher: {word}", run(ROOT / "fire", [word]) == (0, text, b""))
+    for word in ("version", "--version", "-V"):
+        due(f"version: {word}", run(program, [word]) == run(ROOT / "fire", [word]))
+    due("no words", run(program, []) == (2, b"", b"usage\n"))
+    due("no words of the launcher", run(ROOT / "fire", []) == (2, b"", text))
+    manual, completion = MANUAL.read_text(), COMPLETION.read_text()
+    for form in forms():
+        word = form.split()[0]
+        due(f"{MANUAL.name} has no {form}", re.search(rf'^\.B[RI]? "?{word}\b', manual, re.M))
+        due(f"{COMPLETION.name} has no {form}", re.search(rf"\b{word}\b", completion))
+
+
+def check_example(program, script):
+    """A script ends as it says, and its log and the words of that stand beside it, where they do."""
+    log, words, note = (script.with_suffix(end) for end in (".log", ".txt", ".note"))
+    told = note.read_bytes() if note.exists() else b""
+    status, written, errors = run(program, ["run"], script.read_bytes())
+    due(f"{script.name}: status {status}, {errors!r}", (status, errors) == (3 if told else 0, told))
+    if log.exists():
+        due(f"{log.name} is no log of {script.name}", written == log.read_bytes())
+        ended = run(program, ["explain"], written)
+        due(f"{words.name} is not what explains {log.name}", ended[:2] == (CUT_OFF if told else 0, words.read_bytes()))
+    if not told:
+        status, verdict, _ = run(program, ["audit"], written)
+        due(f"{script.name}: {verdict!r}", status == 0 and verdict.startswith(b"sound "))
+    return written
+
+
+def check_log(program, what, log):
+    """Its objects are read by Python's parser, and make the same log again; so does converting it there and back."""
+    status, lines, _ = run(program, ["json"], log)
+    lines = lines.decode("ascii").splitlines()
+    due(f"{what}: the objects make another log", log_of(lines, log[VERSION_AT]) == log)
+    if status == 0:
+        other = 3 - log[VERSION_AT]
+        converted = run(program, ["convert", str(other)], log)[1]
+        due(f"{what}: converted to {other}", log_of(lines, other) == converted)
+        due(f"{what}: converted back", run(program, ["convert", str(3 - other)], converted)[1] == log)
+
+
+def logs_of_sessions():
+    """The logs of the sessions that the gate runs."""
+    for log in sorted((ROOT / "crates/fire_sessions/data").glob("*/log*")):
+        yield f"{log.parent.name}/{log.name}", log.read_bytes()
+
+
+def check_readme(program):
+    """Each command in README that is shown with what it writes writes that."""
+    shown = re.findall(r"^    \$ (.*)\n((?:    (?!\$ ).*\n)*)", (ROOT / "README.md").read_text(), re.M)
+    due("README shows no command", shown)
+    for command, output in shown:
+        line = command.replace("./fire", str(program))
+        ended = subprocess.run(["sh", "-c", line], cwd=ROOT, capture_output=True, text=True, check=False)
+        due(f"README: {command}", ended.stdout == re.sub(r"(?m)^    ", "", output))
+
+
+def main(words):
+    program = pathlib.Path(words[0] if words else ROOT / "crates/fire/out/fire").resolve()
+    if not program.is_file():
+        print(f"there is no program {program}: ./fire builds it", file=sys.stderr)
+        return 2
+    check_help(program)
+    scripts = sorted(EXAMPLES.glob("*.script"))
+    for script in scripts:
+        check_log(program, script.stem, check_example(program, script))
+    kept = list(logs_of_sessions())
+    for what, log in kept:
+        check_log(program, what, log)
+    check_readme(program)
+    print(f"{len(scripts)} examples and {len(kept)} logs of sessions: {wrong} wrong")
+    return 1 if wrong else 0
+
+
+if __name__ == "__main__":
+    sys.exit(main(sys.argv[1:]))
