@@ -18,7 +18,7 @@ from log_of_json import log_of  # noqa: E402
 
 ROOT = pathlib.Path(__file__).resolve().parent.parent
 EXAMPLES = ROOT / "examples"
-HELP = ROOT / "docs/help.txt"
+HELP = ROOT / "crates/fire_sessions/data/help.txt"
 VERSION_AT = 7  # the byte of a log that has its version
 
 # What a log without its end is told with: `explain` tells its entries first.

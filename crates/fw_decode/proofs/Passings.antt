@@ -1,12 +1,12 @@
--- Entries that are passed over: they change no report, and the line of a packet is made of its bytes.
+-- Entries that are passed over: they change no report, and their line is made of their body.
 use Rattle.std.proofs.Common.{◌≡◌, ℕ, List, [], ◌∷◌, ◌++◌, Option, Some, None, IfSome, refl, ap, sym, subst, ◌∙◌}
 use Rattle.fw_cip.specs.declared.packet.IsoPacket.{IsoPacket}
 use Rattle.fw_entry.specs.declared.entry.Entry.{Entry}
-use Rattle.fw_entry.specs.declared.entry.Entry.TheVariants.{Async, Iso}
+use Rattle.fw_entry.specs.declared.entry.Entry.TheVariants.{Iso}
 use Rattle.fw_entry.specs.declared.entry.Timed.{Timed}
-use Rattle.fw_log.specs.Passing.{IsPassed, PassesOn, PassesPacket}
+use Rattle.fw_log.specs.Passing.{IsPassed, PassesOn, PassesBody}
 use Rattle.fw_log.specs.Reader.{State}
-use Rattle.fw_log.specs.declared.read.PassedPacket.{PassedPacket}
+use Rattle.fw_log.specs.declared.read.PassedBody.{PassedBody}
 use Rattle.fw_reading.specs.Readings.{Passes}
 use Rattle.fw_text.specs.declared.report.Channel.{Channel}
 use Rattle.fw_text.specs.Tallies.{Reports}
@@ -25,9 +25,8 @@ report_passes report (Some n) entries bytes new reports h =
     let more = reports_other entries h.entry report (λ p. not_iso h.entry.what p h.passed) reports in
     record { entry = h.entry; read = h.read; took = more; gathered = refl }
 
-pub line_passes : (room new : List ℕ) (entries : List Timed) (bytes : List ℕ) (reader : State) (p : PassedPacket) (x : PassesPacket entries bytes reader p)
-    → new ≡ room ++ entry_line (record { cycle = p.cycle; what = Async x.packet }) → Passes lines_form.text (λ es. Unit {0}) room new entries bytes reader
+pub line_passes : (room new : List ℕ) (entries : List Timed) (bytes : List ℕ) (reader : State) (p : PassedBody) (x : PassesBody entries bytes reader p)
+    → new ≡ room ++ entry_line (record { cycle = p.cycle; what = x.entry.what }) → Passes lines_form.text (λ es. Unit {0}) room new entries bytes reader
 line_passes room new entries bytes reader p x is =
-    let cycle = ap (λ (n : ℕ). entry_line (record { cycle = n; what = Async x.packet })) (sym x.cycle) in
-    let what = ap (λ (w : Entry). entry_line (record { cycle = x.on.entry.cycle; what = w })) (sym x.is) in
-    record { entry = x.on.entry; read = x.on.read; took = tt; gathered = is ∙ ap (λ (l : List ℕ). room ++ l) (cycle ∙ what ∙ lines_one x.on.entry) }
+    let cycle = ap (λ (n : ℕ). entry_line (record { cycle = n; what = x.entry.what })) (sym x.cycle) in
+    record { entry = x.entry; read = x.read; took = tt; gathered = is ∙ ap (λ (l : List ℕ). room ++ l) (cycle ∙ lines_one x.entry) }

@@ -1,15 +1,18 @@
 //! `decode`: the line of each entry, as it ends.
 
-ghost use Rattle.std.specs.Prelude.{ℕ, List, ⊤};
+ghost use Rattle.std.specs.Prelude.{◌≡◌, ◌++◌, ℕ, List, OnOk, ⊤};
 ghost use Rattle.fw_outside.specs.Stops.{ReadCount, WriteCount};
+ghost use Rattle.fw_entry.specs.declared.entry.Entry.{Entry};
+ghost use Rattle.fw_log.specs.Passing.{Makes};
+ghost use Rattle.fw_text.specs.Line.{entry_line};
 ghost use Rattle.fw_reading.specs.Endings.{stop_of, Reads, IsComplete};
 ghost use Rattle.fw_decode.specs.Texts.{lines_form, nothing};
 ghost use Rattle.fw_decode.specs.Silences.{never_refused};
 
-use fw_log::{LogReader, Room, Timed};
+use fw_log::{LogReader, PlainBody, Room, Timed};
 use fw_outside::{Failed, Sink, Source};
 use fw_reading::{Closing, LogEnding, Reading, Stop, read_log};
-use fw_text::{LineRoom, put_entry_from, put_packet_from};
+use fw_text::{LineRoom, put_entry_from, put_iso_from, put_packet_from, put_reset_from};
 use std::alloc::{AllocError, Global};
 use std::convert::Infallible;
 
@@ -17,6 +20,18 @@ use std::convert::Infallible;
 #[derive(Drop)]
 struct Lines {
     room: LineRoom,
+}
+
+// Appends the line of an entry of this cycle that has this body.
+fn put_body(room: &mut LineRoom, cycle: u64, body: &PlainBody) -> Result<(), AllocError>
+    requires { (e : Entry) × Makes body.now e }
+    ensures { (e : Entry) → Makes body.now e → OnOk result (room.new ≡ room.old ++ entry_line (record { cycle = cycle; what = e })) }
+{
+    match body {
+        PlainBody::Packet(bytes) => put_packet_from(room, cycle, bytes.as_slice()),
+        PlainBody::Iso(packet) => put_iso_from(room, cycle, packet),
+        PlainBody::Reset(bytes) => put_reset_from(room, cycle, bytes.as_slice()),
+    }
 }
 
 impl Reading for Lines {
@@ -41,18 +56,18 @@ impl Reading for Lines {
         Ok(None)
     }
 
-    // The line of a packet of a usual form is made of its bytes.
+    // The line of a packet or a bus reset of a usual form is made of its body.
     fn pass(
         &mut self,
         reader: &mut LogReader,
         room: &mut Room,
         piece: &[u8],
     ) -> Result<Option<usize>, AllocError> {
-        let Some(packet) = reader.pass_packet(piece, room) else {
+        let Some(passed) = reader.pass_body(piece, room) else {
             return Ok(None);
         };
-        put_packet_from(&mut self.room, packet.cycle, packet.bytes.as_slice())?;
-        Ok(Some(packet.used))
+        put_body(&mut self.room, passed.cycle, &passed.body)?;
+        Ok(Some(passed.used))
     }
 
     fn gathered(&self) -> &[u8] {

@@ -4,7 +4,8 @@ use Rattle.std.proofs.Common.{IfSome, IsSome, refl, ap, sym, subst, ◌∙◌, a
 use Rattle.std.specs.Option.{is_some}
 use Rattle.fw_async.specs.Async.{AreBytes}
 use Rattle.fw_async.specs.Reader.{IsPacket}
-use Rattle.fw_async.specs.Reader as Packets
+use Rattle.fw_cip.specs.Iso.{Fits as IsoFits, spelling as iso_spelling}
+use Rattle.fw_cip.specs.declared.packet.IsoPacket.{IsoPacket}
 use Rattle.fw_entry.specs.Log.{quads, event_quads, outcome_quads, shown_quads, EventFits, OutcomeFits, ShownFits, kind_of, body, epoch_after, head_size, is_end}
 use Rattle.fw_words.specs.Quadlet.{quadlet_at}
 use Rattle.fw_entry.specs.declared.version.Version.{Version}
@@ -16,7 +17,7 @@ use Rattle.fw_entry.specs.declared.entry.ShownEntry.{ShownEntry}
 use Rattle.fw_entry.specs.declared.entry.Timed.{Timed}
 use Rattle.fw_log.specs.Bodies.{IsBody}
 use Rattle.fw_log.specs.Plain.{IsReset}
-use Rattle.fw_log.specs.Passing.{IsPassed, IsPlain, IsPlainEpoch, PassesFirst, PacketFirst, CountsUp, PassesOn, PassesPacket}
+use Rattle.fw_log.specs.Passing.{IsPassed, IsPlain, IsPlainBody, IsPlainEpoch, IsFirst, PassesFirst, BodyFirst, CountsUp, PassesOn, PassesBody}
 use Rattle.fw_log.specs.Reading.{cycle_of, skip, version_at, is_own_epoch, HeadFits, HasEpoch, IsComplete, IsPending}
 use Rattle.fw_log.specs.Reader.{State, HoldsPending, EndsEntry, Ends, Joins, Feeds, after}
 use Rattle.fw_log.specs.History.{HasRead}
@@ -24,7 +25,9 @@ use Rattle.fw_log.specs.Stands.{Position}
 use Rattle.fw_log.specs.declared.LogFault.{LogFault}
 use Rattle.fw_log.specs.declared.first.Found.{Found}
 use Rattle.fw_log.specs.declared.first.Passed.{Passed}
-use Rattle.fw_log.specs.declared.first.PlainPacket.{PlainPacket}
+use Rattle.fw_log.specs.declared.first.PlainEntry.{PlainEntry}
+use Rattle.fw_log.specs.declared.plain.PlainBody.{PlainBody}
+use Rattle.fw_log.specs.declared.plain.PlainBody.TheVariants as PlainBodies
 use Rattle.fw_log.specs.declared.read.LogFed.{LogFed}
 use Rattle.fw_log.proofs.ByteLaws.{are_bytes_part}
 use Rattle.fw_log.proofs.EntryLaws.{complete_ok, own_epoch}
@@ -81,38 +84,25 @@ plain_epoch v epoch last n e more (Outcome x) h b p = other v epoch last n e mor
 plain_epoch v epoch last n e more (Shown x) h b p = other v epoch last n e more (Shown x) h b p (λ k. cc k) refl refl
 plain_epoch v epoch last n e more End h b p = other v epoch last n e more End h b p (λ k. cc k) refl refl
 
--- the entry that a whole front of bytes is
-pub passes_first : (v : Version) (s : Position) (bytes e more : List ℕ) (n cycle epoch : ℕ) → AreBytes bytes → Ends s bytes (Ok (Some n))
-    → e ≡ drop (skip s.start) (take n bytes) → more ≡ drop (head_size v) e → IsComplete v s (take n bytes)
-    → cycle ≡ cycle_of v e → IsPlainEpoch v s.epoch e more epoch → IsPlain (get_or e 0 0) more
-    → PassesFirst s bytes (record { end = n; cycle = cycle; version = v; epoch = epoch })
-passes_first v s bytes e more n cycle epoch fit ends is after w c latest plain =
-    let P : List ℕ → Type 0 = HeadFits v s.epoch s.last in
-    let b = plain_epoch v s.epoch s.last epoch e more plain.entry (subst P (sym is) w.head) plain.is latest in
-    record {
-      entry = record { cycle = cycle; what = plain.entry };
-      passed = plain.passed;
-      cycle = refl;
-      version = sym w.here;
-      epoch = b.behind;
-      within = ends.2;
-      spells = complete_ok v s (take n bytes) e more (record { cycle = cycle; what = plain.entry }) (are_bytes_part bytes n 0 fit) is after w c b.own plain.is;
-    }
+-- bodies that are given
+pub body_reset : (k : ℕ) (bytes given : List ℕ) → k ≡ 1 → IsReset bytes → given ≡ bytes → IsPlainBody k bytes (PlainBodies.Reset given)
+body_reset k bytes given e h g = record {
+  entry = Reset h.reset;
+  is = record { fits = h.fits; kind = sym e; same = h.same };
+  goes_on = refl;
+  made = (h.reset, refl, h.fits, h.same ∙ sym g);
+}
 
--- the packet whose entry a whole front of bytes is
-pub packet_first : (v : Version) (s : Position) (bytes e more given : List ℕ) (n cycle epoch : ℕ) → AreBytes bytes → Ends s bytes (Ok (Some n))
-    → e ≡ drop (skip s.start) (take n bytes) → more ≡ drop (head_size v) e → IsComplete v s (take n bytes)
-    → cycle ≡ cycle_of v e → epoch ≡ s.epoch → (get_or e 0 0 ≡ 2) × IsPacket more → given ≡ more
-    → PacketFirst s bytes (record { passed = record { end = n; cycle = cycle; version = v; epoch = epoch }; bytes = given })
-unfolding passes_first plain_async
-packet_first v s bytes e more given n cycle epoch fit ends is after w c latest plain same =
-    let apart : get_or e 0 0 ≡ 1 → ⊥ = λ k. let two : 1 ≡ 2 = sym k ∙ plain.0 in cc two in
-    record {
-      first = passes_first v s bytes e more n cycle epoch fit ends is after w c (inr (apart, latest)) (plain_async (get_or e 0 0) more plain.0 plain.1);
-      packet = plain.1.packet;
-      is = refl;
-      spells = let P : List ℕ → Type 0 = Packets.Spells plain.1.packet in subst P (sym same) plain.1.spells;
-    }
+pub body_packet : (k : ℕ) (bytes given : List ℕ) → k ≡ 2 → IsPacket bytes → given ≡ bytes → IsPlainBody k bytes (PlainBodies.Packet given)
+body_packet k bytes given e h g = record {
+  entry = Async h.packet;
+  is = record { fits = h.spells.fits; kind = sym e; same = h.spells.same };
+  goes_on = refl;
+  made = (h.packet, refl, record { fits = h.spells.fits; same = h.spells.same ∙ sym g });
+}
+
+pub body_iso : (k : ℕ) (bytes : List ℕ) (p : IsoPacket) → k ≡ 3 → IsoFits p → iso_spelling p ≡ bytes → IsPlainBody k bytes (PlainBodies.Iso p)
+body_iso k bytes p e fits same = record { entry = Iso p; is = record { fits = fits; kind = sym e; same = same }; goes_on = refl; made = refl }
 
 not_end : (e : Entry) → IsPassed e → is_end e ≡ false
 not_end (Reset r) h = refl
@@ -123,10 +113,46 @@ not_end (Outcome o) h = refl
 not_end (Shown s) h = refl
 not_end End h = absurd h
 
--- the entry that is passed over ends in the piece
-pub record EndsPassed (s : Position) (old piece : List ℕ) (p : Passed) : Type 0 where
-  pub entry : Timed
-  pub passed : IsPassed entry.what
+-- the entry that a whole front of bytes is
+is_first : (v : Version) (s : Position) (bytes e more : List ℕ) (n cycle epoch : ℕ) (what : Entry) → AreBytes bytes → Ends s bytes (Ok (Some n))
+    → e ≡ drop (skip s.start) (take n bytes) → more ≡ drop (head_size v) e → IsComplete v s (take n bytes)
+    → cycle ≡ cycle_of v e → IsPlainEpoch v s.epoch e more epoch → IsBody (get_or e 0 0) more what → is_end what ≡ false
+    → IsFirst s bytes (record { cycle = cycle; what = what }) (record { end = n; cycle = cycle; version = v; epoch = epoch })
+is_first v s bytes e more n cycle epoch what fit ends is after w c latest own goes_on =
+    let P : List ℕ → Type 0 = HeadFits v s.epoch s.last in
+    let b = plain_epoch v s.epoch s.last epoch e more what (subst P (sym is) w.head) own latest in
+    record {
+      goes_on = goes_on;
+      cycle = refl;
+      version = sym w.here;
+      epoch = b.behind;
+      within = ends.2;
+      spells = complete_ok v s (take n bytes) e more (record { cycle = cycle; what = what }) (are_bytes_part bytes n 0 fit) is after w c b.own own;
+    }
+
+pub passes_first : (v : Version) (s : Position) (bytes e more : List ℕ) (n cycle epoch : ℕ) → AreBytes bytes → Ends s bytes (Ok (Some n))
+    → e ≡ drop (skip s.start) (take n bytes) → more ≡ drop (head_size v) e → IsComplete v s (take n bytes)
+    → cycle ≡ cycle_of v e → IsPlainEpoch v s.epoch e more epoch → IsPlain (get_or e 0 0) more
+    → PassesFirst s bytes (record { end = n; cycle = cycle; version = v; epoch = epoch })
+passes_first v s bytes e more n cycle epoch fit ends is after w c latest plain = record {
+  entry = record { cycle = cycle; what = plain.entry };
+  passed = plain.passed;
+  first = is_first v s bytes e more n cycle epoch plain.entry fit ends is after w c latest plain.is (not_end plain.entry plain.passed);
+}
+
+pub body_first : (v : Version) (s : Position) (bytes e more : List ℕ) (b : PlainBody) (n cycle epoch : ℕ) → AreBytes bytes → Ends s bytes (Ok (Some n))
+    → e ≡ drop (skip s.start) (take n bytes) → more ≡ drop (head_size v) e → IsComplete v s (take n bytes)
+    → cycle ≡ cycle_of v e → IsPlainEpoch v s.epoch e more epoch → IsPlainBody (get_or e 0 0) more b
+    → BodyFirst s bytes (record { passed = record { end = n; cycle = cycle; version = v; epoch = epoch }; body = b })
+body_first v s bytes e more b n cycle epoch fit ends is after w c latest plain = record {
+  entry = record { cycle = cycle; what = plain.entry };
+  made = plain.made;
+  first = is_first v s bytes e more n cycle epoch plain.entry fit ends is after w c latest plain.is plain.goes_on;
+}
+
+-- the entry ends in the piece
+pub record EndsPassed (s : Position) (old piece : List ℕ) (p : Passed) (entry : Timed) : Type 0 where
+  pub goes_on : is_end entry.what ≡ false
   pub cycle : entry.cycle ≡ p.cycle
   pub version : p.version ≡ version_at s (old ++ take (p.end - length old) piece)
   pub epoch : p.epoch ≡ epoch_after s.epoch entry.what
@@ -135,17 +161,16 @@ pub record EndsPassed (s : Position) (old piece : List ℕ) (p : Passed) : Type 
   pub ends : EndsEntry s old piece (p.end - length old) entry
   pub size : length (old ++ take (p.end - length old) piece) ≡ p.end
 
-ends_at : (s t : Position) (old kept piece bytes : List ℕ) (p : Passed) → IsPending s old → t ≡ s → kept ≡ old
-    → Joins kept piece bytes → PassesFirst t bytes p → EndsPassed s old piece p
-ends_at s t old kept piece bytes p pending e g j h =
-    let found : Found = record { end = p.end; version = p.version; body = body h.entry.what; entry = h.entry } in
+ends_at : (s t : Position) (old kept piece bytes : List ℕ) (p : Passed) (entry : Timed) → IsPending s old → t ≡ s → kept ≡ old
+    → Joins kept piece bytes → IsFirst t bytes entry p → EndsPassed s old piece p entry
+ends_at s t old kept piece bytes p entry pending e g j h =
+    let found : Found = record { end = p.end; version = p.version; body = body entry.what; entry = entry } in
     let k = kept_entry s old piece found pending (found_in s t old kept piece bytes (Ok (Some found)) e g j (h.within, h.spells, refl, h.version)) in
     record {
-      entry = h.entry;
-      passed = h.passed;
+      goes_on = h.goes_on;
       cycle = h.cycle;
       version = k.version;
-      epoch = h.epoch ∙ ap (λ (x : Position). epoch_after x.epoch h.entry.what) e;
+      epoch = h.epoch ∙ ap (λ (x : Position). epoch_after x.epoch entry.what) e;
       past = k.past;
       some = k.some;
       ends = k.ends;
@@ -153,39 +178,32 @@ ends_at s t old kept piece bytes p pending e g j h =
     }
 
 -- of a reader without a fault, in the bytes at hand
-pub ends_passed : (r : State) (stand : Position) (taken kept piece bytes : List ℕ) (fault : Option LogFault) (p : Passed)
+pub ends_passed : (r : State) (stand : Position) (taken kept piece bytes : List ℕ) (fault : Option LogFault) (p : Passed) (entry : Timed)
     → record { stand = stand; taken = taken; fault = fault } ≡ r → HoldsPending stand taken fault → fault ≡ None → kept ≡ taken
-    → Joins kept piece bytes → PassesFirst stand bytes p → EndsPassed r.stand r.taken piece p
-ends_passed r stand taken kept piece bytes fault p is holds clear same j h =
+    → Joins kept piece bytes → IsFirst stand bytes entry p → EndsPassed r.stand r.taken piece p entry
+ends_passed r stand taken kept piece bytes fault p entry is holds clear same j h =
     let P : State → Type 0 = λ x. IsPending x.stand x.taken in
-    ends_at r.stand stand r.taken kept piece bytes p (subst P is (pending_of stand taken fault clear holds)) (ap (λ (x : State). x.stand) is)
+    ends_at r.stand stand r.taken kept piece bytes p entry (subst P is (pending_of stand taken fault clear holds)) (ap (λ (x : State). x.stand) is)
     (same ∙ ap (λ (x : State). x.taken) is) j h
-
--- it is the entry that the bytes at hand begin with
-pub same_entry : (r : State) (stand : Position) (taken kept piece bytes : List ℕ) (fault : Option LogFault) (p : Passed)
-    (is : record { stand = stand; taken = taken; fault = fault } ≡ r) (holds : HoldsPending stand taken fault) (clear : fault ≡ None) (same : kept ≡ taken)
-    (j : Joins kept piece bytes) (h : PassesFirst stand bytes p) → (ends_passed r stand taken kept piece bytes fault p is holds clear same j h).entry ≡ h.entry
-unfolding ends_passed ends_at
-same_entry r stand taken kept piece bytes fault p is holds clear same j h = refl
 
 -- what the reader gives where the entry is not passed over
 abbrev pub fed : ℕ → Timed → Result LogFed LogFault
 fed used t = Ok (record { used = used; entry = Some t; body = body t.what })
 
 -- the reader stands behind it
-pub behind_passed : (r : State) (piece : List ℕ) (p : Passed) (e : EndsPassed r.stand r.taken piece p) (n start : ℕ) (stand : Position) (taken : List ℕ)
+pub behind_passed : (r : State) (piece : List ℕ) (p : Passed) (entry : Timed) (e : EndsPassed r.stand r.taken piece p entry) (n start : ℕ) (stand : Position) (taken : List ℕ)
     (fault : Option LogFault) → n ≡ length r.taken → start ≡ r.stand.start
     → stand ≡ record { start = start + p.end; last = p.cycle; ended = false; version = p.version; epoch = p.epoch } → taken ≡ [] → fault ≡ None
-    → Feeds r.stand r.taken piece (fed (p.end - n) e.entry) (record { stand = stand; taken = taken; fault = fault })
-behind_passed r piece p e n start stand taken fault same from stands none clear =
-    let P : ℕ → Type 0 = λ m. EndsEntry r.stand r.taken piece (p.end - m) e.entry in
+    → Feeds r.stand r.taken piece (fed (p.end - n) entry) (record { stand = stand; taken = taken; fault = fault })
+behind_passed r piece p entry e n start stand taken fault same from stands none clear =
+    let P : ℕ → Type 0 = λ m. EndsEntry r.stand r.taken piece (p.end - m) entry in
     let cut : length (r.taken ++ take (p.end - n) piece) ≡ p.end = ap (λ (m : ℕ). length (r.taken ++ take (p.end - m) piece)) same ∙ e.size in
-    let last : record { start = start + p.end; last = p.cycle; ended = false; version = p.version; epoch = p.epoch } ≡ (after r.stand (r.taken ++ take (p.end - n) piece) e.entry).stand =
+    let last : record { start = start + p.end; last = p.cycle; ended = false; version = p.version; epoch = p.epoch } ≡ (after r.stand (r.taken ++ take (p.end - n) piece) entry).stand =
     ap (λ c. let x : Position = record { start = start + p.end; last = c; ended = false; version = p.version; epoch = p.epoch } in x) (sym e.cycle)
-    ∙ same_stand (start + p.end) (r.stand.start + length (r.taken ++ take (p.end - n) piece)) e.entry.cycle false (is_end e.entry.what)
-    p.version (version_at r.stand (r.taken ++ take (p.end - n) piece)) p.epoch (epoch_after r.stand.epoch e.entry.what)
+    ∙ same_stand (start + p.end) (r.stand.start + length (r.taken ++ take (p.end - n) piece)) entry.cycle false (is_end entry.what)
+    p.version (version_at r.stand (r.taken ++ take (p.end - n) piece)) p.epoch (epoch_after r.stand.epoch entry.what)
     (omega (arith, from, cut))
-    (sym (not_end e.entry.what e.passed))
+    (sym e.goes_on)
     (e.version ∙ ap (λ (m : ℕ). version_at r.stand (r.taken ++ take (p.end - m) piece)) (sym same))
     e.epoch in
     ((subst P (sym same) e.ends, same_state stand _ taken [] fault None (stands ∙ last) none clear), refl)
@@ -198,23 +216,18 @@ counts_up r new stand taken piece fault used t is holds clear f =
     let c = counts r piece (fed used t) new f (subst P is (pending_of stand taken fault clear holds)) in
     record { total = c.0; within = c.1; some = c.2 }
 
-pub passes_on : (r new : State) (piece : List ℕ) (p : Passed) (e : EndsPassed r.stand r.taken piece p) (used : ℕ)
-    → Feeds r.stand r.taken piece (fed used e.entry) new
+pub passes_on : (r new : State) (piece : List ℕ) (entry : Timed) → IsPassed entry.what → (used : ℕ) → Feeds r.stand r.taken piece (fed used entry) new
     → (entries : List Timed) (bytes : List ℕ) → HasRead entries bytes r → PassesOn entries (bytes ++ take used piece) new
-passes_on r new piece p e used f entries bytes h =
-    record { entry = e.entry; passed = e.passed; read = reads_on entries bytes piece r new (fed used e.entry) h f }
+passes_on r new piece entry passed used f entries bytes h = record { entry = entry; passed = passed; read = reads_on entries bytes piece r new (fed used entry) h f }
 
-pub passes_packet : (r new : State) (piece : List ℕ) (s : Position) (all : List ℕ) (p : PlainPacket) (x : PacketFirst s all p)
-    (e : EndsPassed r.stand r.taken piece p.passed) → e.entry ≡ x.first.entry → (used : ℕ) → Feeds r.stand r.taken piece (fed used e.entry) new
-    → (entries : List Timed) (bytes : List ℕ) → HasRead entries bytes r
-    → PassesPacket entries (bytes ++ take used piece) new (record { used = used; cycle = p.passed.cycle; bytes = p.bytes })
-unfolding passes_on
-passes_packet r new piece s all p x e same used f entries bytes h = record {
-  on = passes_on r new piece p.passed e used f entries bytes h;
-  packet = x.packet;
-  cycle = e.cycle;
-  is = ap (λ (t : Timed). t.what) same ∙ x.is;
-  spells = x.spells;
+pub passes_body : (r new : State) (piece : List ℕ) (s : Position) (all : List ℕ) (p : PlainEntry) (x : BodyFirst s all p) (used : ℕ)
+    → Feeds r.stand r.taken piece (fed used x.entry) new → (entries : List Timed) (bytes : List ℕ) → HasRead entries bytes r
+    → PassesBody entries (bytes ++ take used piece) new (record { used = used; cycle = p.passed.cycle; body = p.body })
+passes_body r new piece s all p x used f entries bytes h = record {
+  entry = x.entry;
+  cycle = x.first.cycle;
+  made = x.made;
+  read = reads_on entries bytes piece r new (fed used x.entry) h f;
 }
 
 pub without_fault : (o : Option LogFault) (b : Bool) → b ≡ is_some o → b ≡ false → o ≡ None

@@ -1,10 +1,11 @@
 -- Entries that are passed over.
-use Rattle.std.specs.Prelude.{◌≡◌, ◌⊎◌, ℕ, ◌+◌, ◌≤◌, ◌<◌, slice_index, List, [], ◌∷◌, ◌++◌, length, take}
+use Rattle.std.specs.Prelude.{◌≡◌, false, ◌⊎◌, ℕ, ◌+◌, ◌≤◌, ◌<◌, slice_index, List, [], ◌∷◌, ◌++◌, length, take}
 use Rattle.fw_entry.specs.declared.entry.Entry.{Entry}
 use Rattle.fw_entry.specs.declared.entry.Entry.TheVariants.{Reset, Async, Iso, Event, Outcome, Shown, End}
 use Rattle.fw_entry.specs.declared.entry.Timed.{Timed}
 use Rattle.fw_log.specs.Bodies.{IsBody}
-use Rattle.fw_entry.specs.Log.{epoch_after}
+use Rattle.fw_entry.specs.Log.{epoch_after, is_end, body, ResetFits}
+use Rattle.fw_entry.specs.declared.entry.ResetEntry.{ResetEntry}
 use Rattle.fw_entry.specs.declared.version.Version.{Version}
 use Rattle.fw_words.specs.Quadlet.{quadlet_at}
 use Rattle.fw_log.specs.Reading.{version_at, HasEpoch, Spells}
@@ -14,8 +15,10 @@ use Rattle.fw_log.specs.Stands.{Position}
 use Rattle.fw_async.specs.Reader as Packets
 use Rattle.fw_async.specs.declared.packet.Packet.{Packet}
 use Rattle.fw_log.specs.declared.first.Passed.{Passed}
-use Rattle.fw_log.specs.declared.first.PlainPacket.{PlainPacket}
-use Rattle.fw_log.specs.declared.read.PassedPacket.{PassedPacket}
+use Rattle.fw_log.specs.declared.first.PlainEntry.{PlainEntry}
+use Rattle.fw_log.specs.declared.plain.PlainBody.{PlainBody}
+use Rattle.fw_log.specs.declared.plain.PlainBody.TheVariants as PlainBodies
+use Rattle.fw_log.specs.declared.read.PassedBody.{PassedBody}
 
 -- an entry that may be passed over: it is of no stream, and others may follow
 abbrev pub IsPassed : Entry → Type 0
@@ -37,15 +40,20 @@ pub record IsPlain (kind : ℕ) (bytes : List ℕ) : Type 0 where
 abbrev pub IsPlainEpoch : Version → ℕ → List ℕ → List ℕ → ℕ → Type 0
 IsPlainEpoch v epoch e bytes n = ((slice_index e 0 ≡ 1) × (quadlet_at bytes 0 ≡ n) × HasEpoch v n e) ⊎ ((slice_index e 0 ≡ 1 → ⊥) × (n ≡ epoch))
 
--- the bytes begin with some entry that may be passed over, with this end and cycle, of this version and with this epoch behind it
-pub record PassesFirst (s : Position) (bytes : List ℕ) (p : Passed) : Type 0 where
-  pub entry : Timed
-  pub passed : IsPassed entry.what
+-- the bytes begin with this entry, which is not the end, with this end and cycle, of this version and with this epoch behind it
+pub record IsFirst (s : Position) (bytes : List ℕ) (entry : Timed) (p : Passed) : Type 0 where
+  pub goes_on : is_end entry.what ≡ false
   pub cycle : entry.cycle ≡ p.cycle
   pub version : p.version ≡ version_at s (take p.end bytes)
   pub epoch : p.epoch ≡ epoch_after s.epoch entry.what
   pub within : p.end ≤ length bytes
   pub spells : Spells s entry (take p.end bytes)
+
+-- the bytes begin with some entry that may be passed over
+pub record PassesFirst (s : Position) (bytes : List ℕ) (p : Passed) : Type 0 where
+  pub entry : Timed
+  pub passed : IsPassed entry.what
+  pub first : IsFirst s bytes entry p
 
 -- so many bytes of a piece were taken, and some where there are any
 pub record CountsUp (old : State) (piece : List ℕ) (new : State) (used : ℕ) : Type 0 where
@@ -59,17 +67,28 @@ pub record PassesOn (entries : List Timed) (bytes : List ℕ) (new : State) : Ty
   pub passed : IsPassed entry.what
   pub read : HasRead (entries ++ entry ∷ []) bytes new
 
--- the bytes begin with the entry of an asynchronous packet, with this end, cycle and bytes
-pub record PacketFirst (s : Position) (bytes : List ℕ) (p : PlainPacket) : Type 0 where
-  pub first : PassesFirst s bytes p.passed
-  pub packet : Packet
-  pub is : first.entry.what ≡ Async packet
-  pub spells : Packets.Spells packet p.bytes
+-- the entry has this body: these are the bytes of its packet, this its packet, or these the bytes of a bus reset
+abbrev pub Makes : PlainBody → Entry → Type 0
+Makes (PlainBodies.Packet bytes) e = (p : Packet) × (e ≡ Async p) × Packets.Spells p bytes
+Makes (PlainBodies.Iso p) e = e ≡ Iso p
+Makes (PlainBodies.Reset bytes) e = (r : ResetEntry) × (e ≡ Reset r) × ResetFits r × (body (Reset r) ≡ bytes)
 
--- one entry more was read, that of an asynchronous packet with this cycle and these bytes
-pub record PassesPacket (entries : List Timed) (bytes : List ℕ) (new : State) (p : PassedPacket) : Type 0 where
-  pub on : PassesOn entries bytes new
-  pub packet : Packet
-  pub cycle : on.entry.cycle ≡ p.cycle
-  pub is : on.entry.what ≡ Async packet
-  pub spells : Packets.Spells packet p.bytes
+-- the bytes are this body of some entry of this kind, which is not the end
+pub record IsPlainBody (kind : ℕ) (bytes : List ℕ) (b : PlainBody) : Type 0 where
+  pub entry : Entry
+  pub is : IsBody kind bytes entry
+  pub goes_on : is_end entry ≡ false
+  pub made : Makes b entry
+
+-- the bytes begin with some entry that has this body
+pub record BodyFirst (s : Position) (bytes : List ℕ) (p : PlainEntry) : Type 0 where
+  pub entry : Timed
+  pub made : Makes p.body entry.what
+  pub first : IsFirst s bytes entry p.passed
+
+-- one entry more was read, of this cycle and with this body
+pub record PassesBody (entries : List Timed) (bytes : List ℕ) (new : State) (p : PassedBody) : Type 0 where
+  pub entry : Timed
+  pub cycle : entry.cycle ≡ p.cycle
+  pub made : Makes p.body entry.what
+  pub read : HasRead (entries ++ entry ∷ []) bytes new

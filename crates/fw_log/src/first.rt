@@ -5,10 +5,10 @@ ghost use Rattle.fw_log.specs.Stands.{position};
 ghost use Rattle.fw_log.specs.Reading.{fault_at, is_own_epoch, IsComplete};
 ghost use Rattle.fw_entry.specs.Log.{head_size};
 ghost use Rattle.fw_log.specs.Reader.{EntryJudges, Ends, Finds, Joins};
-ghost use Rattle.fw_log.specs.Passing.{IsPlainEpoch, PacketFirst, PassesFirst};
+ghost use Rattle.fw_log.specs.Passing.{BodyFirst, IsPlainEpoch, PassesFirst};
 
 use crate::codes::kind;
-use crate::plain::{is_plain_async, is_plain_body};
+use crate::plain::{PlainBody, is_plain_body, plain_body};
 use crate::read_body::entry_of;
 use crate::read_head::{head_fault, whole_end};
 use crate::stand::{EPOCH_AT, Stand, cycle_of, need, rest, skip, version_at};
@@ -145,33 +145,31 @@ fn plain_epoch(version: Version, epoch: u32, e: &[u8], body: &[u8]) -> Option<u3
     }
 }
 
-/// An asynchronous packet that is passed over: its entry, and its bytes.
+/// An entry that is given as its body.
 #[derive(Drop)]
-pub struct PlainPacket<'a> {
+pub struct PlainEntry<'a> {
     pub passed: Passed,
-    pub bytes: Data<'a>,
+    pub body: PlainBody<'a>,
 }
 
-/// The asynchronous packet whose entry the bytes begin with, if that is whole and right at the first look.
-pub(crate) fn plain_packet<'a>(stand: Stand, bytes: &'a [u8]) -> Option<PlainPacket<'a>>
-    ensures { IfSome result (PacketFirst (position stand) bytes.now) }
+/// The body of the entry that the bytes begin with, if that is a packet's or a bus reset's, whole and right at the first look.
+pub(crate) fn plain_bodied<'a>(stand: Stand, bytes: &'a [u8]) -> Option<PlainEntry<'a>>
+    ensures { IfSome result (BodyFirst (position stand) bytes.now) }
 {
     let end = whole_end(stand, bytes)?;
     let whole = &bytes[..end];
     let version = version_at(stand, whole);
     let entry = rest(whole, skip(stand));
-    let body = rest(entry, version.head_size());
-    if !is_plain_async(entry[0], body) {
-        return None;
-    }
-    Some(PlainPacket {
+    let content = rest(entry, version.head_size());
+    let body = plain_body(entry[0], content)?;
+    Some(PlainEntry {
         passed: Passed {
             end,
             cycle: cycle_of(version, entry),
             version,
-            epoch: stand.epoch(),
+            epoch: plain_epoch(version, stand.epoch(), entry, content)?,
         },
-        bytes: Data::new(body),
+        body,
     })
 }
 

@@ -19,7 +19,8 @@ pub use fw_entry::{
     ShownEntry, Timed, Version, body_of, codes, epoch_after, head_of, write_entry, write_header,
 };
 use fw_phy::PhyFault;
-pub use read::{LogFed, LogReader, PassedPacket};
+pub use plain::PlainBody;
+pub use read::{LogFed, LogReader, PassedBody};
 pub use room::Room;
 
 /// Why a body is of no entry of its kind.

@@ -3,16 +3,16 @@
 //! Of other bodies nothing is said here, and the readers of their kinds judge them: those that are wrong, and rare forms, as
 //! blocks with padding, reads of blocks, and locks but compare_swap of a quadlet.
 
-ghost use Rattle.std.specs.Prelude.{ℕ, ◌≡◌, ◌*◌, ◌≤◌, IsTrue, length, true};
+ghost use Rattle.std.specs.Prelude.{ℕ, ◌≡◌, ◌*◌, ◌≤◌, IsTrue, IfSome, length, true};
 ghost use Rattle.fw_log.specs.Reading.{is_kind, is_length};
 ghost use Rattle.fw_log.specs.Plain.{has_zeros, is_whole_block, is_plain_packet};
-ghost use Rattle.fw_async.specs.Reader.{IsPacket};
-ghost use Rattle.fw_log.specs.Passing.{IsPlain};
+ghost use Rattle.fw_log.specs.Passing.{IsPlain, IsPlainBody};
 
 use crate::codes::kind;
 use crate::plain_reset::is_plain_reset;
 use crate::read_body::{event_of, outcome_of, shown_of};
-use fw_words::quadlet_at;
+use fw_cip::{IsoPacket, read_iso};
+use fw_words::{Data, quadlet_at};
 
 // Transaction codes.
 const WRITE_QUADLET: u32 = 0;
@@ -72,15 +72,41 @@ pub(crate) fn is_plain_packet(bytes: &[u8]) -> bool
     }
 }
 
-/// Whether the body is that of an asynchronous packet of one of the usual forms.
-pub(crate) fn is_plain_async(kind: u8, body: &[u8]) -> bool
+/// The body of an entry that is given without a value made of it.
+#[derive(Debug, Drop)]
+pub enum PlainBody<'a> {
+    /// The bytes of an asynchronous packet.
+    Packet(Data<'a>),
+    /// An isochronous packet.
+    Iso(IsoPacket<'a>),
+    /// The bytes of a bus reset.
+    Reset(Data<'a>),
+}
+
+/// The body of a packet or a bus reset, where it is right at the first look.
+pub(crate) fn plain_body<'a>(kind: u8, bytes: &'a [u8]) -> Option<PlainBody<'a>>
     requires kind { is_kind kind 0 ≡ true }
-    requires size { (n : ℕ) × (length body.now ≡ 4 * n) × (is_length kind n ≡ true) }
-    ensures { IsTrue result → (kind ≡ 2) × IsPacket body.now }
+    requires size { (n : ℕ) × (length bytes.now ≡ 4 * n) × (is_length kind n ≡ true) }
+    ensures { IfSome result (IsPlainBody kind bytes.now) }
 {
     match kind {
-        kind::ASYNC => is_plain_packet(body),
-        _ => false,
+        kind::RESET => {
+            if !is_plain_reset(bytes) {
+                return None;
+            }
+            Some(PlainBody::Reset(Data::new(bytes)))
+        }
+        kind::ASYNC => {
+            if !is_plain_packet(bytes) {
+                return None;
+            }
+            Some(PlainBody::Packet(Data::new(bytes)))
+        }
+        kind::ISO => match read_iso(bytes) {
+            Ok(packet) => Some(PlainBody::Iso(packet)),
+            Err(_) => None,
+        },
+        _ => None,
     }
 }
 

@@ -6,18 +6,19 @@ ghost use Rattle.std.specs.Result.{result_err};
 ghost use Rattle.fw_entry.specs.Log.{is_end, body, epoch_after, LogOpens};
 ghost use Rattle.fw_entry.specs.declared.version.Version.{Version as AVersion};
 ghost use Rattle.fw_entry.specs.declared.version.Version.TheVariants.{One};
-ghost use Rattle.fw_async.specs.Reader.{IsPacket};
+ghost use Rattle.fw_entry.specs.declared.entry.Entry.{Entry as AnEntry};
 ghost use Rattle.fw_log.specs.Stands.{position};
 ghost use Rattle.fw_log.specs.Reading.{IsPending};
 ghost use Rattle.fw_log.specs.Reader.{State, total, with_bytes, version_read, known, Keeps, Remembers, FindsIn};
 ghost use Rattle.fw_log.specs.Reader.{EndsEntry, EndsNothing, ShowsFault, Feeds, Counts, body_given, finish_of};
 ghost use Rattle.fw_log.specs.History.{stand_after, HasRead, ReadsOn, Names, GivesNext, Finishes};
-ghost use Rattle.fw_log.specs.Passing.{CountsUp, PassesOn, PassesPacket};
+ghost use Rattle.fw_log.specs.Passing.{CountsUp, Makes, PassesBody, PassesOn};
 ghost use Rattle.fw_log.specs.declared.LogFault.{LogFault};
 ghost use Rattle.fw_entry.specs.declared.entry.Timed.{Timed};
 
 use crate::codes::kind;
-use crate::first::{Found, Passed, PlainPacket, at_hand, first_entry, plain_entry, plain_packet};
+use crate::first::{Found, Passed, PlainEntry, at_hand, first_entry, plain_bodied, plain_entry};
+use crate::plain::PlainBody;
 use crate::stand::{Stand, skip};
 use crate::{Entry, LogFault, LogWhy, Room, Timed, Version, epoch_after};
 use fw_words::{Bytes, Data, quadlet_at};
@@ -36,15 +37,15 @@ pub struct LogFed<'a> {
     pub body: Data<'a>,
 }
 
-/// An asynchronous packet that was passed over.
+/// An entry that was given as its body.
 #[derive(Debug, Drop)]
-pub struct PassedPacket<'a> {
+pub struct PassedBody<'a> {
     /// How many bytes of the piece were taken.
     pub used: usize,
-    /// The cycle of its entry.
+    /// The cycle of the entry.
     pub cycle: u64,
-    /// Its bytes.
-    pub bytes: Data<'a>,
+    /// The body.
+    pub body: PlainBody<'a>,
 }
 
 // Where a reader stands behind an entry that ends at this place and is not the end.
@@ -261,11 +262,20 @@ impl LogReader {
         self.known()
     }
 
-    // Whether what comes next is of this kind, behind the header: what is kept of it is not put before the piece in vain.
-    fn meets(&self, piece: &[u8], kind: u8) -> bool {
+    // The first byte of what comes next: behind the header it is the kind of an entry. What is kept of an entry that is to be read is
+    // not put before the piece twice.
+    fn next_kind(&self, piece: &[u8]) -> Option<u8> {
         let taken = self.taken.as_slice();
         let bytes = if taken.is_empty() { piece } else { taken };
-        bytes.first() == Some(&kind)
+        bytes.first().copied()
+    }
+
+    // Whether what comes next may be given as its body.
+    fn meets_body(&self, piece: &[u8]) -> bool {
+        matches!(
+            self.next_kind(piece),
+            Some(kind::RESET | kind::ASYNC | kind::ISO)
+        )
     }
 
     /// Takes bytes up to the end of one entry, as `feed` does, and answers how many, where the entry is right at the first look
@@ -279,7 +289,7 @@ impl LogReader {
         ensures history { (entries : List Timed) → (bytes : List ℕ) → HasRead entries bytes self.old
             → IfSome result (λ n. PassesOn entries (bytes ++ take n piece.now) self.new) }
     {
-        if self.fault.is_some() || self.meets(piece, kind::ISO) {
+        if self.fault.is_some() || self.next_kind(piece) == Some(kind::ISO) {
             return None;
         }
         let bytes = at_hand(self.taken.as_slice(), piece, &mut room.bytes);
@@ -295,25 +305,21 @@ impl LogReader {
         Some(used)
     }
 
-    /// As `pass`, of an asynchronous packet: its bytes are given, and no packet is made of them.
-    pub fn pass_packet<'a>(
-        &mut self,
-        piece: &'a [u8],
-        room: &'a mut Room,
-    ) -> Option<PassedPacket<'a>>
+    /// As `pass`, of packets and bus resets: the body is given, and no entry is made of it.
+    pub fn pass_body<'a>(&mut self, piece: &'a [u8], room: &'a mut Room) -> Option<PassedBody<'a>>
         requires { self.old.fault ≡ None → total self.old + length piece.now < 2 ^ 64 }
         ensures kept { IfNone result (self.new ≡ self.old) }
         ensures fresh { IfSome result (λ p. self.new.fault ≡ None) }
         ensures counts { IfSome result (λ p. CountsUp self.old piece.now self.new p.used) }
-        ensures packet { IfSome result (λ p. IsPacket p.bytes) }
+        ensures body { IfSome result (λ p. (e : AnEntry) × Makes p.body e) }
         ensures history { (entries : List Timed) → (bytes : List ℕ) → HasRead entries bytes self.old
-            → IfSome result (λ p. PassesPacket entries (bytes ++ take p.used piece.now) self.new p) }
+            → IfSome result (λ p. PassesBody entries (bytes ++ take p.used piece.now) self.new p) }
     {
-        if self.fault.is_some() || !self.meets(piece, kind::ASYNC) {
+        if self.fault.is_some() || !self.meets_body(piece) {
             return None;
         }
         let bytes = at_hand(self.taken.as_slice(), piece, &mut room.bytes);
-        let PlainPacket { passed, bytes } = plain_packet(self.stand, bytes)?;
+        let PlainEntry { passed, body } = plain_bodied(self.stand, bytes)?;
         let Passed {
             end,
             cycle,
@@ -324,7 +330,7 @@ impl LogReader {
         let past = self.stand.start() + end as u64;
         self.stand = going_on(past, cycle, version, epoch);
         self.taken.clear();
-        Some(PassedPacket { used, cycle, bytes })
+        Some(PassedBody { used, cycle, body })
     }
 
     // The fault that the input's end is, where it is one.

@@ -5,4 +5,3 @@ mod call;
 mod desk;
 
 pub use call::program;
-pub use desk::{block_of, inverted};

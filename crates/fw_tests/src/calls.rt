@@ -1,9 +1,8 @@
-//! Calls of `fire` over memory.
+//! Calls of the program over memory.
 
 use fw_outside::{MemSink, MemSource, Source};
-use fw_program::{block_of, inverted};
-use fw_tape::Desk;
-use fw_tool::{NOTE_ROOM, fire};
+use fw_program::program;
+use fw_tool::NOTE_ROOM;
 use std::alloc::{AllocError, Global};
 
 /// How a call ended.
@@ -72,8 +71,7 @@ pub(crate) fn call_with_room<S: Source>(
     }
     let mut output = MemSink::new(alloc, room, failing.writes.to_vec(alloc)?)?;
     let mut notes = MemSink::new(alloc, NOTE_ROOM, failing.notes.to_vec(alloc)?)?;
-    let desk = Desk::new(block_of, |_: u32, byte: u8| inverted(byte));
-    let status = fire(alloc, &list, source, &mut output, &mut notes, &desk);
+    let status = program(alloc, &list, source, &mut output, &mut notes);
     Ok(Ended {
         status,
         output,

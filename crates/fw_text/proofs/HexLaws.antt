@@ -1,10 +1,10 @@
 -- The digits of quadlets and offsets, from the first on.
-use Rattle.std.proofs.Common.{◌≡◌, refl, ap, sym, ◌∙◌, inl, inr, ℕ, zero, suc, ◌+◌, ◌*◌, ◌/◌, ◌%◌, ◌^◌, ◌<◌, false, List, [], ◌∷◌, ◌++◌, length, get_or, arith}
+use Rattle.std.proofs.Common.{◌≡◌, ◌≢◌, refl, ap, sym, ◌∙◌, inl, inr, ℕ, zero, suc, ◌+◌, ◌*◌, ◌/◌, ◌%◌, ◌^◌, ◌<◌, false, List, [], ◌∷◌, ◌++◌, length, get_or, arith}
 use Rattle.std.proofs.lemmas.Bool.{cases_order}
 use Rattle.std.proofs.lemmas.List.{get_or-set_same, get_or-set_other}
 use Rattle.std.proofs.Math.ListN.{set}
 use Rattle.std.specs.Fmt.{digit_glyph}
-use Rattle.fw_text.specs.Digits.{byte_digits, IsTable}
+use Rattle.fw_text.specs.Digits.{byte_digits, IsTable, IsNumber, IsNumbers}
 use Rattle.fw_text.specs.Line.{hex}
 
 abbrev glyph : ℕ → ℕ
@@ -84,3 +84,18 @@ table_at n table t =
     let high : n % 256 / 16 % 16 ≡ n / 16 % 16 = omega arith in
     let low : n % 256 % 16 ≡ n % 16 = omega arith in
     t (n % 256) (omega arith) ∙ ap (λ x. digit_glyph false x ∷ digit_glyph false (n % 256 % 16) ∷ []) high ∙ ap (λ x. digit_glyph false (n / 16 % 16) ∷ digit_glyph false x ∷ []) low
+
+-- one number more in the tables
+pub numbers_more : (n size : ℕ) (rows : List (List ℕ)) (sizes row : List ℕ) → n < 256 → length rows ≡ 256 → length sizes ≡ 256 → IsNumbers n rows sizes → IsNumber n row size
+    → IsNumbers (n + 1) (set rows n row) (set sizes n size)
+numbers_more n size rows sizes row few long wide t new i within = elim (cases_order i n) [
+  | inl same ↦
+      let first : get_or (set rows n row) i [] ≡ row = ap (λ k. get_or (set rows n row) k []) same ∙ get_or-set_same rows n row [] (omega (arith, few, long)) in
+      let second : get_or (set sizes n size) i 0 ≡ size = ap (λ k. get_or (set sizes n size) k 0) same ∙ get_or-set_same sizes n size 0 (omega (arith, few, wide)) in
+      rw (first, second, same) new
+  | inr other ↦
+      let apart : i ≢ n = λ e. omega (arith, e, other) in
+      let first : get_or (set rows n row) i [] ≡ get_or rows i [] = get_or-set_other rows n i row [] apart in
+      let second : get_or (set sizes n size) i 0 ≡ get_or sizes i 0 = get_or-set_other sizes n i size 0 apart in
+      rw (first, second) (t i (omega (arith, within, other)))
+]

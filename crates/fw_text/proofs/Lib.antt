@@ -4,3 +4,5 @@ pub mod AsciiLaws
 pub mod TallyLaws
 pub mod PacketLaws
 pub mod RowLaws
+pub mod ResetLaws
+pub mod LengthLaws

@@ -1,5 +1,6 @@
 pub mod Names
 pub mod Digits
 pub mod Line
+pub mod Resets
 pub mod Report
 pub mod Tallies

@@ -19,15 +19,20 @@ mod cycle_row;
 mod line;
 mod lines;
 mod names;
+mod numbers;
 mod pairs;
 mod quadlets;
 mod report;
+mod resets;
 mod room;
 mod rows;
+mod tables;
 mod text;
 mod text_room;
 
 pub use quadlets::quadlet_word;
 pub use report::StreamReport;
-pub use room::{LineRoom, put_entry, put_entry_from, put_packet_from};
+pub use room::{
+    LineRoom, put_entry, put_entry_from, put_iso_from, put_packet_from, put_reset_from,
+};
 pub use text::entry_text;

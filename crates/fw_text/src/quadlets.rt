@@ -5,6 +5,7 @@ ghost use Rattle.std.specs.List.{All};
 ghost use Rattle.fw_phy.specs.Phy.{Fits as PhyFits, spelling};
 ghost use Rattle.fw_text.specs.Line.{quadlet_text, quadlets_text, offset_text, id_text};
 
+use crate::numbers::Numbers;
 use crate::pairs::Pairs;
 use crate::text_room::TextRoom;
 use fw_phy::PhyPacket;
@@ -19,17 +20,29 @@ pub(crate) fn put_word(text: &mut TextRoom, word: &str) -> Result<(), AllocError
     text.put(word.as_bytes())
 }
 
-// Appends a number in decimal digits.
-pub(crate) fn put_number(text: &mut TextRoom, n: u64) -> Result<(), AllocError>
+// Appends a number below 256 in decimal digits.
+#[inline(always)]
+pub(crate) fn put_small(text: &mut TextRoom, numbers: &Numbers, n: u8) -> Result<(), AllocError>
     ensures { OnOk result (text.new ≡ text.old ++ decimal n) }
 {
+    let (few, size) = numbers.of(n);
+    text.put_few(few, size)
+}
+
+// Appends a number in decimal digits.
+pub(crate) fn put_number(text: &mut TextRoom, numbers: &Numbers, n: u64) -> Result<(), AllocError>
+    ensures { OnOk result (text.new ≡ text.old ++ decimal n) }
+{
+    if n < 256 {
+        return put_small(text, numbers, n as u8);
+    }
     let mut buffer = Buffer::new();
     text.put(buffer.format(n).as_bytes())
 }
 
 // A space, and the digits of a quadlet.
 #[tactic(auto, using(crate::proofs::HexLaws::eight_digits))]
-fn word_of(pairs: &Pairs, q: u32) -> [u8; 9]
+pub(crate) fn word_of(pairs: &Pairs, q: u32) -> [u8; 9]
     ensures { result ≡ quadlet_text q }
 {
     let [a, b] = pairs.of(q >> 24);

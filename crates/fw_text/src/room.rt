@@ -3,11 +3,14 @@
 ghost use Rattle.std.specs.Prelude.{◌≡◌, ◌++◌, [], IfOk, OnOk, OnErr};
 ghost use Rattle.fw_async.specs.Reader.{IsPacket, Spells};
 ghost use Rattle.fw_async.specs.declared.packet.Packet.{Packet};
-ghost use Rattle.fw_entry.specs.declared.entry.Entry.TheVariants.{Async};
-ghost use Rattle.fw_entry.specs.Log.{Fits, body};
+ghost use Rattle.fw_entry.specs.declared.entry.Entry.TheVariants.{Async, Iso, Reset};
+ghost use Rattle.fw_entry.specs.declared.entry.ResetEntry.{ResetEntry};
+ghost use Rattle.fw_text.specs.Resets.{IsResetBody};
+ghost use Rattle.fw_entry.specs.Log.{Fits, ResetFits, body};
 ghost use Rattle.fw_text.specs.Line.{entry_line};
 
 use crate::lines::Lines;
+use fw_cip::IsoPacket;
 use fw_entry::{EntryRoom, Timed, body_of};
 use std::alloc::{AllocError, Global};
 use std::marker::Model;
@@ -71,6 +74,23 @@ pub fn put_packet_from(room: &mut LineRoom, cycle: u64, bytes: &[u8]) -> Result<
     ensures emptied { OnErr result (room.new ≡ []) }
 {
     room.lines.put_packet(cycle, bytes)
+}
+
+/// Appends the line of the entry of an isochronous packet of this cycle, as `put_entry` does.
+pub fn put_iso_from(room: &mut LineRoom, cycle: u64, packet: &IsoPacket) -> Result<(), AllocError>
+    ensures line { OnOk result (room.new ≡ room.old ++ entry_line (record { cycle = cycle; what = Iso packet.now })) }
+    ensures emptied { OnErr result (room.new ≡ []) }
+{
+    room.lines.put_iso(cycle, packet)
+}
+
+/// Appends the line of the entry of a bus reset of this cycle, from the bytes of its body, as `put_entry` does.
+pub fn put_reset_from(room: &mut LineRoom, cycle: u64, bytes: &[u8]) -> Result<(), AllocError>
+    requires { IsResetBody bytes.now }
+    ensures line { (r : ResetEntry) → ResetFits r → body (Reset r) ≡ bytes.now → OnOk result (room.new ≡ room.old ++ entry_line (record { cycle = cycle; what = Reset r })) }
+    ensures emptied { OnErr result (room.new ≡ []) }
+{
+    room.lines.put_reset(cycle, bytes)
 }
 
 /// Appends the line of an entry, with its line feed. An error says that memory ran out, and comes for nothing else; the room

@@ -1,10 +1,15 @@
 //! Rows and words that are written over the bytes of a room.
 
-ghost use Rattle.std.specs.Prelude.{◌≡◌, ◌≤◌, ◌+◌, ◌*◌, ◌/◌, ◌++◌, length, take};
-ghost use Rattle.fw_text.specs.Line.{quadlet_text, quadlets_text};
+ghost use Rattle.std.specs.Prelude.{◌≡◌, ◌≤◌, ◌+◌, ◌*◌, ◌/◌, ◌++◌, List, flat_map, length, take};
+ghost use Rattle.fw_phy.specs.Phy.{spelling};
+ghost use Rattle.fw_phy.specs.declared.packet.PhyPacket.{PhyPacket};
+ghost use Rattle.fw_text.specs.Line.{id_text, quadlet_text, quadlets_text};
 ghost use Rattle.std.specs.Int.{from_be_bytes, w32};
 
+use crate::numbers::FEW;
 use crate::pairs::Pairs;
+use crate::quadlets::word_of;
+use fw_words::quadlet_at;
 use std::marker::Model;
 
 /// How many bytes a row has.
@@ -65,6 +70,19 @@ fn write_word(out: &mut [u8], at: usize, word: [u8; WORD])
     out[at..at + WORD].copy_from_slice(&word);
 }
 
+/// Writes a few bytes over those from `at` on, and answers where the first so many end.
+#[inline(always)]
+pub(crate) fn write_few(out: &mut [u8], at: usize, few: [u8; FEW], size: usize) -> usize
+    requires within { size ≤ 4 }
+    requires room { at + 4 ≤ length out.old }
+    ensures size { length out.new ≡ length out.old }
+    ensures end { result ≡ at + size }
+    ensures text { take result out.new ≡ take at out.old ++ take size few }
+{
+    out[at..at + FEW].copy_from_slice(&few);
+    at + size
+}
+
 // A space, and the digits of four bytes.
 #[inline(always)]
 fn word_from(pairs: &Pairs, four: &[u8; 4]) -> [u8; WORD]
@@ -92,6 +110,22 @@ pub(crate) fn write_quadlets(out: &mut [u8], at: usize, pairs: &Pairs, bytes: &[
         write_word(out, end, word_from(pairs, four));
         end += WORD;
         rest = more;
+    }
+    end
+}
+
+/// Writes the first quadlet of each eight bytes over the bytes from `at` on, and answers where they end.
+#[inline(always)]
+pub(crate) fn write_ids(out: &mut [u8], at: usize, pairs: &Pairs, bytes: &[u8]) -> usize
+    requires { at + 9 * (length bytes.now / 8) ≤ length out.old }
+    ensures size { length out.new ≡ length out.old }
+    ensures end { result ≡ at + 9 * (length bytes.now / 8) }
+    ensures text { (ids : List PhyPacket) → bytes.now ≡ flat_map spelling ids → take result out.new ≡ take at out.old ++ flat_map id_text ids }
+{
+    let mut end = at;
+    for i in 0..bytes.len() / 8 {
+        write_word(out, end, word_of(pairs, quadlet_at(bytes, 8 * i).0));
+        end += WORD;
     }
     end
 }

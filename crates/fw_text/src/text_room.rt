@@ -1,10 +1,13 @@
 //! Text that is appended to in place.
 
-ghost use Rattle.std.specs.Prelude.{◌≡◌, ◌≤◌, ◌+◌, ◌++◌, ◌∷◌, [], length, IfOk, OnOk, take};
-ghost use Rattle.fw_text.specs.Line.{quadlets_text};
+ghost use Rattle.std.specs.Prelude.{◌≡◌, ◌≤◌, ◌+◌, ◌++◌, ◌∷◌, [], List, flat_map, length, IfOk, OnOk, take};
+ghost use Rattle.fw_phy.specs.Phy.{spelling};
+ghost use Rattle.fw_phy.specs.declared.packet.PhyPacket.{PhyPacket};
+ghost use Rattle.fw_text.specs.Line.{id_text, quadlets_text};
 
+use crate::numbers::FEW;
 use crate::pairs::Pairs;
-use crate::rows::{ROW, Row, WORD, write_quadlets, write_row};
+use crate::rows::{ROW, Row, WORD, write_few, write_ids, write_quadlets, write_row};
 use std::alloc::{AllocError, Global};
 use std::marker::Model;
 
@@ -91,6 +94,32 @@ impl TextRoom {
             grow(&mut self.bytes, ROW)?;
         }
         self.filled = write_row(&mut self.bytes, self.filled, row);
+        Ok(())
+    }
+
+    /// Appends the first so many of a few bytes.
+    #[inline(always)]
+    pub(crate) fn put_few(&mut self, few: [u8; FEW], size: usize) -> Result<(), AllocError>
+        requires { size ≤ 4 }
+        ensures { OnOk result (self.new ≡ self.old ++ take size few) }
+    {
+        if self.bytes.len() - self.filled < FEW {
+            grow(&mut self.bytes, FEW)?;
+        }
+        self.filled = write_few(&mut self.bytes, self.filled, few, size);
+        Ok(())
+    }
+
+    /// Appends the first quadlet of each eight bytes.
+    #[inline(always)]
+    pub(crate) fn put_ids(&mut self, pairs: &Pairs, bytes: &[u8]) -> Result<(), AllocError>
+        ensures { (ids : List PhyPacket) → bytes.now ≡ flat_map spelling ids → OnOk result (self.new ≡ self.old ++ flat_map id_text ids) }
+    {
+        let room = WORD * (bytes.len() / 8);
+        if self.bytes.len() - self.filled < room {
+            grow(&mut self.bytes, room)?;
+        }
+        self.filled = write_ids(&mut self.bytes, self.filled, pairs, bytes);
         Ok(())
     }
 

@@ -9,19 +9,19 @@ use Rattle.fw_log.proofs.read.LogReader.pass.Goals as goal
 use Rattle.fw_log.proofs.read.LogReader.pass.Goals.{After-as_slice-2, After-clear}
 
 -- the entry that ends, before the reader changes and after
-before : (c : After-as_slice-2) → EndsPassed c.args.self.now.stand c.args.self.now.taken c.args.piece.now c.in_ok-end.field-0
+before : (c : After-as_slice-2) → EndsPassed c.args.self.now.stand c.args.self.now.taken c.args.piece.now c.in_ok-end.field-0 c.in_ok-end.ensures.entry
 before c =
     let clear = without_fault c.self.inside.fault c.is_some.result c.is_some.ensures c.if-is_some.false in
     ends_passed c.args.self.now (position c.self.inside.stand) c.self.inside.taken.value c.as_slice.result.now c.args.piece.now c.at_hand-bytes.result.now
-    c.self.inside.fault c.in_ok-end.field-0 c.self.view_is c.self.invariant clear (c.as_slice.ensures.value ∙ c.deref.ensures)
-    c.at_hand-bytes.ensures c.in_ok-end.ensures
+    c.self.inside.fault c.in_ok-end.field-0 c.in_ok-end.ensures.entry c.self.view_is c.self.invariant clear (c.as_slice.ensures.value ∙ c.deref.ensures)
+    c.at_hand-bytes.ensures c.in_ok-end.ensures.first
 
-after : (c : After-clear) → EndsPassed c.args.self.now.stand c.args.self.now.taken c.args.piece.now c.in_ok-end.field-0
+after : (c : After-clear) → EndsPassed c.args.self.now.stand c.args.self.now.taken c.args.piece.now c.in_ok-end.field-0 c.in_ok-end.ensures.entry
 after c =
     let clear = without_fault c.self.inside.fault c.is_some.result c.is_some.ensures c.if-is_some.false in
     ends_passed c.args.self.now (position c.self.inside.stand) c.self.inside.taken.value c.as_slice.result.now c.args.piece.now c.at_hand-bytes.result.now
-    c.self.inside.fault c.in_ok-end.field-0 c.self.view_is c.self.invariant clear (c.as_slice.ensures.value ∙ c.deref.ensures)
-    c.at_hand-bytes.ensures c.in_ok-end.ensures
+    c.self.inside.fault c.in_ok-end.field-0 c.in_ok-end.ensures.entry c.self.view_is c.self.invariant clear (c.as_slice.ensures.value ∙ c.deref.ensures)
+    c.at_hand-bytes.ensures c.in_ok-end.ensures.first
 
 abbrev new : After-clear → State
 new c = record { stand = position c.going_on-self-inside.result; taken = c.clear.new.self; fault = c.self.inside.fault }
@@ -29,11 +29,11 @@ new c = record { stand = position c.going_on-self-inside.result; taken = c.clear
 abbrev used : After-clear → ℕ
 used c = c.in_ok-end.field-0.end - length c.as_slice-2.result.now
 
-feeds : (c : After-clear) → Feeds c.args.self.now.stand c.args.self.now.taken c.args.piece.now (fed (used c) (after c).entry) (new c)
+feeds : (c : After-clear) → Feeds c.args.self.now.stand c.args.self.now.taken c.args.piece.now (fed (used c) c.in_ok-end.ensures.entry) (new c)
 feeds c =
     let size : length c.as_slice-2.result.now ≡ length c.args.self.now.taken =
     ap length (c.as_slice-2.ensures.value ∙ c.deref-2.ensures ∙ ap (λ (r : State). r.taken) c.self.view_is) in
-    behind_passed c.args.self.now c.args.piece.now c.in_ok-end.field-0 (after c) (length c.as_slice-2.result.now) c.start.result
+    behind_passed c.args.self.now c.args.piece.now c.in_ok-end.field-0 c.in_ok-end.ensures.entry (after c) (length c.as_slice-2.result.now) c.start.result
     (position c.going_on-self-inside.result) c.clear.new.self c.self.inside.fault size (c.start.ensures ∙ ap (λ (r : State). r.stand.start) c.self.view_is)
     c.going_on-self-inside.ensures c.clear.ensures (without_fault c.self.inside.fault c.is_some.result c.is_some.ensures c.if-is_some.false)
 
@@ -49,13 +49,13 @@ going_on-self-inside-requires c = omega (arith, (before (goal.at.going_on-self-i
 pub returns-clause-counts : goal.returns-clause-counts
 returns-clause-counts c =
     let x = (goal.at.returns-clause-counts c).After-clear in
-    counts_up c.args.self.now (new x) (position c.self.inside.stand) c.self.inside.taken.value c.args.piece.now c.self.inside.fault (used x) (after x).entry
+    counts_up c.args.self.now (new x) (position c.self.inside.stand) c.self.inside.taken.value c.args.piece.now c.self.inside.fault (used x) c.in_ok-end.ensures.entry
     c.self.view_is c.self.invariant (without_fault c.self.inside.fault c.is_some.result c.is_some.ensures c.if-is_some.false) (feeds x)
 
 pub returns-clause-history : goal.returns-clause-history
 returns-clause-history c =
     let x = (goal.at.returns-clause-history c).After-clear in
-    passes_on c.args.self.now (new x) c.args.piece.now c.in_ok-end.field-0 (after x) (used x) (feeds x)
+    passes_on c.args.self.now (new x) c.args.piece.now c.in_ok-end.ensures.entry c.in_ok-end.ensures.passed (used x) (feeds x)
 
 pub invariant_of-self : goal.invariant_of-self
 invariant_of-self c =

@@ -3,7 +3,7 @@ use Rattle.std.proofs.lemmas.List.{take_all, length-drop}
 use Rattle.fw_phy.specs.Phy.{spelling}
 use Rattle.fw_entry.specs.Log.{quads, reset_quads}
 use Rattle.fw_text.proofs.BodyLaws.{ids_from, length-nodes}
-use Rattle.fw_text.proofs.line.ids_part.Goals as goal
+use Rattle.fw_text.proofs.resets.ids_part.Goals as goal
 
 pub slice_bounds-result-count : goal.slice_bounds-result-count
 slice_bounds-result-count c = omega (arith, ap length c.as_slice.ensures.value, ap length c.requires, length-nodes c.args.r.now, length-append (quads (reset_quads c.args.r.now)) (flat_map spelling c.args.r.now.ids))

@@ -4,23 +4,23 @@ use Rattle.fw_log.specs.Reading.{IsPending}
 use Rattle.fw_log.proofs.FindLaws.{holds_by}
 use Rattle.fw_log.proofs.HistoryLaws.{nothing_pending}
 use Rattle.fw_log.specs.Reader.{State, Feeds}
-use Rattle.fw_log.proofs.PassLaws.{EndsPassed, ends_passed, fed, behind_passed, counts_up, passes_packet, same_entry, without_fault}
-use Rattle.fw_log.proofs.read.LogReader.pass_packet.Goals as goal
-use Rattle.fw_log.proofs.read.LogReader.pass_packet.Goals.{After-as_slice-2, After-clear}
+use Rattle.fw_log.proofs.PassLaws.{EndsPassed, ends_passed, fed, behind_passed, counts_up, passes_body, without_fault}
+use Rattle.fw_log.proofs.read.LogReader.pass_body.Goals as goal
+use Rattle.fw_log.proofs.read.LogReader.pass_body.Goals.{After-as_slice-2, After-clear}
 
 -- the entry that ends, before the reader changes and after
-before : (c : After-as_slice-2) → EndsPassed c.args.self.now.stand c.args.self.now.taken c.args.piece.now (c.in_ok-passed.field-0.passed)
+before : (c : After-as_slice-2) → EndsPassed c.args.self.now.stand c.args.self.now.taken c.args.piece.now (c.in_ok-passed.field-0.passed) c.in_ok-passed.ensures.entry
 before c =
     let clear = without_fault c.self.inside.fault c.is_some.result c.is_some.ensures c.if-is_some.false in
     ends_passed c.args.self.now (position c.self.inside.stand) c.self.inside.taken.value c.as_slice.result.now c.args.piece.now c.at_hand-bytes.result.now
-    c.self.inside.fault (c.in_ok-passed.field-0.passed) c.self.view_is c.self.invariant clear (c.as_slice.ensures.value ∙ c.deref.ensures)
+    c.self.inside.fault (c.in_ok-passed.field-0.passed) c.in_ok-passed.ensures.entry c.self.view_is c.self.invariant clear (c.as_slice.ensures.value ∙ c.deref.ensures)
     c.at_hand-bytes.ensures c.in_ok-passed.ensures.first
 
-after : (c : After-clear) → EndsPassed c.args.self.now.stand c.args.self.now.taken c.args.piece.now (c.in_ok-passed.field-0.passed)
+after : (c : After-clear) → EndsPassed c.args.self.now.stand c.args.self.now.taken c.args.piece.now (c.in_ok-passed.field-0.passed) c.in_ok-passed.ensures.entry
 after c =
     let clear = without_fault c.self.inside.fault c.is_some.result c.is_some.ensures c.if-is_some.false in
     ends_passed c.args.self.now (position c.self.inside.stand) c.self.inside.taken.value c.as_slice.result.now c.args.piece.now c.at_hand-bytes.result.now
-    c.self.inside.fault (c.in_ok-passed.field-0.passed) c.self.view_is c.self.invariant clear (c.as_slice.ensures.value ∙ c.deref.ensures)
+    c.self.inside.fault (c.in_ok-passed.field-0.passed) c.in_ok-passed.ensures.entry c.self.view_is c.self.invariant clear (c.as_slice.ensures.value ∙ c.deref.ensures)
     c.at_hand-bytes.ensures c.in_ok-passed.ensures.first
 
 abbrev new : After-clear → State
@@ -29,11 +29,11 @@ new c = record { stand = position c.going_on-self-inside.result; taken = c.clear
 abbrev used : After-clear → ℕ
 used c = c.in_ok-passed.field-0.passed.end - length c.as_slice-2.result.now
 
-feeds : (c : After-clear) → Feeds c.args.self.now.stand c.args.self.now.taken c.args.piece.now (fed (used c) (after c).entry) (new c)
+feeds : (c : After-clear) → Feeds c.args.self.now.stand c.args.self.now.taken c.args.piece.now (fed (used c) c.in_ok-passed.ensures.entry) (new c)
 feeds c =
     let size : length c.as_slice-2.result.now ≡ length c.args.self.now.taken =
     ap length (c.as_slice-2.ensures.value ∙ c.deref-2.ensures ∙ ap (λ (r : State). r.taken) c.self.view_is) in
-    behind_passed c.args.self.now c.args.piece.now (c.in_ok-passed.field-0.passed) (after c) (length c.as_slice-2.result.now) c.start.result
+    behind_passed c.args.self.now c.args.piece.now (c.in_ok-passed.field-0.passed) c.in_ok-passed.ensures.entry (after c) (length c.as_slice-2.result.now) c.start.result
     (position c.going_on-self-inside.result) c.clear.new.self c.self.inside.fault size (c.start.ensures ∙ ap (λ (r : State). r.stand.start) c.self.view_is)
     c.going_on-self-inside.ensures c.clear.ensures (without_fault c.self.inside.fault c.is_some.result c.is_some.ensures c.if-is_some.false)
 
@@ -49,22 +49,16 @@ going_on-self-inside-requires c = omega (arith, (before (goal.at.going_on-self-i
 pub returns-clause-counts : goal.returns-clause-counts
 returns-clause-counts c =
     let x = (goal.at.returns-clause-counts c).After-clear in
-    counts_up c.args.self.now (new x) (position c.self.inside.stand) c.self.inside.taken.value c.args.piece.now c.self.inside.fault (used x) (after x).entry
+    counts_up c.args.self.now (new x) (position c.self.inside.stand) c.self.inside.taken.value c.args.piece.now c.self.inside.fault (used x) c.in_ok-passed.ensures.entry
     c.self.view_is c.self.invariant (without_fault c.self.inside.fault c.is_some.result c.is_some.ensures c.if-is_some.false) (feeds x)
 
-pub returns-clause-packet : goal.returns-clause-packet
-returns-clause-packet c = record { packet = c.in_ok-passed.ensures.packet; spells = c.in_ok-passed.ensures.spells }
+pub returns-clause-body : goal.returns-clause-body
+returns-clause-body c = (c.in_ok-passed.ensures.entry.what, c.in_ok-passed.ensures.made)
 
 pub returns-clause-history : goal.returns-clause-history
-unfolding after
 returns-clause-history c =
     let x = (goal.at.returns-clause-history c).After-clear in
-    let clear = without_fault c.self.inside.fault c.is_some.result c.is_some.ensures c.if-is_some.false in
-    let same = same_entry c.args.self.now (position c.self.inside.stand) c.self.inside.taken.value c.as_slice.result.now c.args.piece.now c.at_hand-bytes.result.now
-    c.self.inside.fault (c.in_ok-passed.field-0.passed) c.self.view_is c.self.invariant clear (c.as_slice.ensures.value ∙ c.deref.ensures)
-    c.at_hand-bytes.ensures c.in_ok-passed.ensures.first in
-    passes_packet c.args.self.now (new x) c.args.piece.now (position c.self.inside.stand) c.at_hand-bytes.result.now c.in_ok-passed.field-0 c.in_ok-passed.ensures
-    (after x) same (used x) (feeds x)
+    passes_body c.args.self.now (new x) c.args.piece.now (position c.self.inside.stand) c.at_hand-bytes.result.now c.in_ok-passed.field-0 c.in_ok-passed.ensures (used x) (feeds x)
 
 pub invariant_of-self : goal.invariant_of-self
 invariant_of-self c =

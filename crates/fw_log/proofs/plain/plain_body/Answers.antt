@@ -1,0 +1,16 @@
+use Rattle.std.proofs.Common.{arith, sym, ◌∙◌}
+use Rattle.fw_log.proofs.PlainLaws.{plain_packet}
+use Rattle.fw_log.proofs.PassLaws.{body_reset, body_packet, body_iso}
+use Rattle.fw_log.proofs.plain.plain_body.Goals as goal
+
+pub returns-else-not-is_plain_reset : goal.returns-else-not-is_plain_reset
+returns-else-not-is_plain_reset c = body_reset c.args.kind c.args.bytes.now c.new.result c.in-1.is (c.is_plain_reset.ensures c.if-not-is_plain_reset.false) c.new.ensures
+
+pub returns-else-not-is_plain_packet : goal.returns-else-not-is_plain_packet
+returns-else-not-is_plain_packet c =
+    body_packet c.args.kind c.args.bytes.now c.new-in-2.result c.in-2.is
+    (plain_packet c.args.bytes.now c.requires.size.0 (λ i. omega (arith, c.type_inv.bytes i)) c.requires.size.1 (sym c.is_plain_packet.ensures ∙ c.if-not-is_plain_packet.false))
+    c.new-in-2.ensures
+
+pub returns-in-Ok : goal.returns-in-Ok
+returns-in-Ok c = body_iso c.args.kind c.args.bytes.now c.in-Ok.packet c.in-3.is c.in-Ok.ensures.found.0 c.in-Ok.ensures.found.1
