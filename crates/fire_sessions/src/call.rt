@@ -1,5 +1,7 @@
 //! A call of the program over memory.
 
+ghost use Rattle.std.specs.Prelude.{◌≡◌, ◌↔◌, [], IsTrue};
+
 use fw_outside::{MemSink, Source};
 use fw_program::program;
 use std::alloc::{AllocError, Global};
@@ -9,25 +11,45 @@ const NOTE_ROOM: usize = 4096;
 
 /// How a call ended: its status, what it wrote, and what it told.
 #[derive(Drop)]
-pub struct Ended {
-    pub status: u8,
-    pub output: MemSink,
-    pub notes: MemSink,
+pub(crate) struct Ended {
+    status: u8,
+    output: MemSink,
+    notes: MemSink,
 }
 
 impl Ended {
     /// Whether it ended with this status, this note and this output. A note is one line, and none is told where it is empty.
-    pub fn is(&self, status: u8, note: &str, output: &[u8]) -> bool {
-        let told = match self.notes.as_slice().strip_suffix(b"\n") {
-            Some(line) => !line.is_empty() && line == note.as_bytes(),
-            None => self.notes.as_slice().is_empty() && note.is_empty(),
-        };
-        told && self.status == status && self.output.as_slice() == output
+    pub(crate) fn is(&self, status: u8, note: &str, output: &[u8]) -> bool
+        ensures { IsTrue result → (self.now.status ≡ status) × (self.now.output.held ≡ output.now) }
+    {
+        self.status == status && self.output.as_slice() == output && self.has_told(note)
+    }
+
+    /// Whether it did all that was asked, and told nothing.
+    pub(crate) fn is_done(&self) -> bool
+        ensures { IsTrue result ↔ ((self.now.status ≡ 0) × (self.now.notes.held ≡ [])) }
+    {
+        self.status == 0 && self.notes.as_slice().is_empty()
+    }
+
+    /// What it wrote.
+    pub(crate) fn output(&self) -> &[u8]
+        ensures { result.now ≡ self.now.output.held }
+    {
+        self.output.as_slice()
+    }
+
+    fn has_told(&self, note: &str) -> bool {
+        match self.notes.as_slice() {
+            [] => note.is_empty(),
+            [line @ .., b'\n'] => !note.is_empty() && line == note.as_bytes(),
+            _ => false,
+        }
     }
 }
 
 /// Does what the words say, over a source, into a room of so many bytes. The writes with these numbers fail, the first being number 1.
-pub fn call<S: Source>(
+pub(crate) fn call<S: Source>(
     alloc: Global,
     words: &str,
     source: &mut S,

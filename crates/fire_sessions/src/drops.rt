@@ -6,11 +6,11 @@ use fw_outside::{Failed, Source};
 
 /// A source that gives one byte at a time. The read that would follow so many bytes fails.
 #[derive(Drop)]
-pub struct Drops<'a> {
-    pub bytes: &'a [u8],
-    pub at: usize,
-    pub fails_at: usize,
-    pub faults: u64,
+pub(crate) struct Drops<'a> {
+    pub(crate) bytes: &'a [u8],
+    pub(crate) at: usize,
+    pub(crate) fails_at: usize,
+    pub(crate) faults: u64,
 }
 
 impl Source for Drops<'_> {

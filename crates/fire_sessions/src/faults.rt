@@ -8,7 +8,7 @@ use std::{fs, io};
 
 /// A row of the table: `WORD < INPUT > OUTPUT`, and behind ` : ` how many pieces of the output are written behind none of the input's
 /// pieces, behind the first, and so on; without it, one for each entry of a log. The pieces of a log are its header and its entries,
-/// those of other files their lines.
+/// those of a reel its blocks, those of other files their lines.
 #[derive(Clone, Copy)]
 struct Row<'a> {
     word: &'a str,
@@ -46,6 +46,8 @@ impl<'a> Row<'a> {
 fn ends_of(alloc: Global, name: &str, bytes: &[u8]) -> Result<Vec<usize>, AllocError> {
     if name.ends_with("/log") {
         ends_of_entries(alloc, bytes)
+    } else if name.ends_with("/dub") {
+        ends_of_blocks(alloc, bytes)
     } else {
         ends_of_lines(alloc, bytes)
     }
@@ -63,6 +65,17 @@ fn ends_of_entries(alloc: Global, log: &[u8]) -> Result<Vec<usize>, AllocError> 
         };
         let quadlets = usize::from(*high) * 256 + usize::from(*low);
         end = end.saturating_add(16 + 4 * quadlets);
+    }
+    Ok(ends)
+}
+
+// A block has 480 bytes.
+fn ends_of_blocks(alloc: Global, reel: &[u8]) -> Result<Vec<usize>, AllocError> {
+    let mut ends = Vec::new(alloc);
+    ends.push(0)?;
+    for block in reel.chunks(480) {
+        let end = ends.last().copied().unwrap_or(0);
+        ends.push(block.len().saturating_add(end))?;
     }
     Ok(ends)
 }
@@ -146,7 +159,7 @@ fn writes_fail(
 }
 
 /// Makes the calls of a row, and answers whether each ended, told and wrote as it should.
-pub fn holds(rt: &HostRuntime, line: &str) -> io::Result<bool> {
+pub(crate) fn holds(rt: &HostRuntime, line: &str) -> io::Result<bool> {
     let alloc = rt.alloc();
     let Some(row) = Row::of(line) else {
         return Ok(false);

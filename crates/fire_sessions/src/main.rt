@@ -1,55 +1,50 @@
 //! Makes the program's calls over whole sessions as they are known from outside, and compares status, note and output with what the tables
-//! in `data` tell: `calls.txt` has a call a line, `faults.txt` calls of which each read and each write fails in turn.
+//! in `data` tell (`data/README.md`). The rows of `wrong.txt` are wrong on purpose, so that what finds nothing otherwise is itself found.
 #![tactic(auto)]
 
 mod call;
 mod drops;
+mod dubs;
 mod faults;
+mod lines;
 mod sessions;
+mod table;
+mod tally;
 
+use crate::table::{Table, is_row};
+use crate::tally::Tally;
 use std::process::ExitCode;
 use std::{fs, io};
 
-/// A table, by its file.
-#[derive(Clone, Copy)]
-enum Table {
-    Calls,
-    Faults,
-}
+const WRONG: &str = "wrong.txt";
 
-impl Table {
-    fn file(self) -> &'static str {
-        match self {
-            Table::Calls => "calls.txt",
-            Table::Faults => "faults.txt",
-        }
-    }
-
-    fn holds(self, rt: &HostRuntime, line: &str) -> io::Result<bool> {
-        match self {
-            Table::Calls => sessions::holds(rt, line),
-            Table::Faults => faults::holds(rt, line),
-        }
+/// Whether a row `TABLE: ROW` names a table, and this row of it is told apart from those that hold.
+fn is_told_apart(rt: &HostRuntime, line: &str) -> io::Result<bool> {
+    let Some((file, row)) = line.split_once(": ") else {
+        return Ok(false);
+    };
+    match Table::of(file) {
+        Some(table) => Ok(!table.holds(rt, row)?),
+        None => Ok(false),
     }
 }
 
 fn main(rt: HostRuntime) -> io::Result<ExitCode> {
     let mut is_well = true;
-    for table in [Table::Calls, Table::Faults] {
-        let mut rows: u64 = 0;
-        let mut wrong: u64 = 0;
-        let lines = fs::read_to_string(&rt, table.file())?;
-        for line in lines.lines() {
-            rows = rows.saturating_add(1);
-            if !table.holds(&rt, line)? {
-                wrong = wrong.saturating_add(1);
-                println!(rt; "otherwise: {line}")?;
-            }
+    for table in Table::ALL {
+        let text = fs::read_to_string(&rt, table.file())?;
+        let mut tally = Tally::NEW;
+        for row in text.lines().filter(|line| is_row(line)) {
+            tally.count(&rt, row, table.holds(&rt, row)?)?;
         }
-        let file = table.file();
-        println!(rt; "{file}: {rows} rows, {wrong} otherwise")?;
-        is_well = is_well && wrong == 0;
+        is_well = tally.tell(&rt, table.file())? && is_well;
     }
+    let text = fs::read_to_string(&rt, WRONG)?;
+    let mut tally = Tally::NEW;
+    for row in text.lines().filter(|line| is_row(line)) {
+        tally.count(&rt, row, is_told_apart(&rt, row)?)?;
+    }
+    is_well = tally.tell(&rt, WRONG)? && is_well;
     Ok(if is_well {
         ExitCode::SUCCESS
     } else {

@@ -5,10 +5,10 @@ use fw_outside::MemSource;
 use std::{fs, io};
 
 /// What a word has room for whose output another word reads, in bytes.
-const BETWEEN: usize = 1_000_000;
+const BETWEEN: usize = 4_000_000;
 
 /// A row of the table: `WORDS < INPUT > OUTPUT`, and ` : STATUS NOTE` behind it where the status is not 0. Input and output are names
-/// of files. In place of one call there may be two, `WORDS | WORDS`: the second reads what the first writes, which ends with 0.
+/// of files. In place of one call there may be two, `WORDS | WORDS`: the second reads what the first writes, which ends with 0 and no note.
 #[derive(Clone, Copy)]
 struct Row<'a> {
     words: &'a str,
@@ -35,7 +35,7 @@ impl<'a> Row<'a> {
 }
 
 /// Makes the calls of a row, and answers whether the last one ended, told and wrote what the row says.
-pub fn holds(rt: &HostRuntime, line: &str) -> io::Result<bool> {
+pub(crate) fn holds(rt: &HostRuntime, line: &str) -> io::Result<bool> {
     let alloc = rt.alloc();
     let Some(row) = Row::of(line) else {
         return Ok(false);
@@ -50,7 +50,7 @@ pub fn holds(rt: &HostRuntime, line: &str) -> io::Result<bool> {
         return Ok(ended.is(status, row.note, &expected));
     };
     let between = call(alloc, first, &mut source, BETWEEN, &[])?;
-    let mut source = MemSource::new(between.output.as_slice().to_vec(alloc)?, Vec::new(alloc));
+    let mut source = MemSource::new(between.output().to_vec(alloc)?, Vec::new(alloc));
     let ended = call(alloc, second, &mut source, expected.len(), &[])?;
-    Ok(between.status == 0 && ended.is(status, row.note, &expected))
+    Ok(between.is_done() && ended.is(status, row.note, &expected))
 }

@@ -2,11 +2,11 @@
 use Rattle.fw_entry.specs.declared.entry.Entry.{Entry}
 use Rattle.std.proofs.Common.{◌≡◌, ◌⊎◌, inl, inr, Bool, true, false, true≢false, Option, Some, None, List, [], ◌∷◌, ◌++◌, refl, ap, sym, subst, ◌∙◌, append_assoc}
 use Rattle.std.proofs.lemmas.Option.{same_Some}
-use Rattle.fw_ledger.specs.Account.{Account}
-use Rattle.fw_ledger.specs.Fold.{no_account, next_account, account_from, account_of}
+use Rattle.fw_account.specs.Account.{Account}
+use Rattle.fw_account.specs.Fold.{no_account, next_account, account_from, account_of}
 use Rattle.fw_ledger.specs.Stands.{StandsFor, Follows as LedgerFollows}
 use Rattle.fw_ledger.specs.declared.tables.Tables.{Tables}
-use Rattle.fw_ledger.proofs.Fold.{account_from-append}
+use Rattle.fw_account.proofs.Fold.{account_from-append}
 use Rattle.fw_audit.specs.Looked.{looked}
 use Rattle.fw_audit.specs.Faults.{HasNoFault, IsVerdict}
 use Rattle.fw_audit.specs.Judged.{judged, unmoved, found_after, verdict}

@@ -12,14 +12,14 @@ use Rattle.std.proofs.lemmas.Bool.Decides.{nat_tests}
 use Rattle.std.proofs.lemmas.Option.{same_Some}
 use Rattle.fw_words.specs.Quadlet.{quadlet_at}
 use Rattle.fw_entry.specs.Network.{device_of_id}
-use Rattle.fw_ledger.specs.Account.{Account, Operation, Reads, Locks, Request}
-use Rattle.fw_ledger.specs.Decode.{IsMove}
-use Rattle.fw_ledger.specs.Fold.{next_account}
-use Rattle.fw_ledger.specs.Moves.{Move}
-use Rattle.fw_ledger.specs.Packets.{Reply, Read, Locked, is_reply_to}
-use Rattle.fw_ledger.specs.Refused.{IsRequestRefused, NoNode, Overlap, Ends, IsReplyRefused, NoReceiver, NoRequest, OtherNode, IsReadRefused, OtherKind, IsLockRefused, WasRead, OtherFunction, NoMove, IsSwap, IsPacketRefused, IsRefused}
-use Rattle.fw_ledger.specs.Sound.{IsSound}
-use Rattle.fw_ledger.specs.Words.{Register, register_of, first_address}
+use Rattle.fw_account.specs.Account.{Account, Operation, Reads, Locks, Request}
+use Rattle.fw_account.specs.Decode.{IsMove}
+use Rattle.fw_account.specs.Fold.{next_account}
+use Rattle.fw_account.specs.Moves.{Move}
+use Rattle.fw_account.specs.Packets.{Reply, Read, Locked, is_reply_to}
+use Rattle.fw_account.specs.Refused.{IsRequestRefused, NoNode, Overlap, Ends, IsReplyRefused, NoReceiver, NoRequest, OtherNode, IsReadRefused, OtherKind, IsLockRefused, WasRead, OtherFunction, NoMove, IsSwap, IsPacketRefused, IsRefused}
+use Rattle.fw_account.specs.Sound.{IsSound}
+use Rattle.fw_account.specs.Words.{Register, register_of, first_address}
 use Rattle.fw_audit.specs.Looked.{Response, Looked, Asks, Replies, Shows, Happens, Other, labelled, looked, looked_packet, quadlet_in, IsAnswer, is_watched, IsWatchedAnswer}
 use Rattle.fw_audit.specs.Faults.{HasNoNode, Overlaps, IsOrphan, IsBadSwap, IsNoMove, IsNoEvent}
 

@@ -7,11 +7,10 @@ use Rattle.std.proofs.Common.{◌≡◌, ◌≢◌, ◌<◌, ◌≤◌, ℕ, ◌
 use Rattle.std.proofs.lemmas.Bool.Decides.{nat_tests}
 use Rattle.std.proofs.lemmas.Option.{same_Some}
 use Rattle.fw_entry.specs.Network.{device_of_id}
-use Rattle.fw_ledger.specs.Account.{Account, Operation, Reads, Locks, Request}
-use Rattle.fw_ledger.specs.Packets.{is_reply_to}
-use Rattle.fw_ledger.specs.Refused.{IsEventRefused, NoSecond, TooLate}
-use Rattle.fw_ledger.specs.Stands.{is_quadlet_swap}
-use Rattle.fw_ledger.specs.Words.{Register, register_of, word_of, first_address, id_in}
+use Rattle.fw_account.specs.Account.{Account, Operation, Reads, Locks, Request}
+use Rattle.fw_account.specs.Packets.{is_quadlet_swap, is_reply_to}
+use Rattle.fw_account.specs.Refused.{IsEventRefused, NoSecond, TooLate}
+use Rattle.fw_account.specs.Words.{Register, register_of, word_of, first_address, id_in}
 use Rattle.fw_audit.specs.Looked.{Response, Looked, Asks, Replies, Shows, Happens, Other, is_watched, register_by, register_shown, IsAnswer, IsWatchedAnswer}
 use Rattle.fw_audit.specs.Faults.{HasFault, HasNoNode, IsOrphan, IsBadAnswer, NoRegister, NoSwap, NoQuadlet, IsNotAllowed, IsWrongAnswer, IsWrongWord, rank, shown_id}
 use Rattle.fw_audit.specs.Judged.{judged, judged_request, judged_response, judged_reply, judged_answer, judged_quadlet, judged_at, judged_word, judged_shown, judged_event, not_allowed, watched_offset}

@@ -9,13 +9,13 @@ use Rattle.std.proofs.lemmas.Bool.Decides.{nat_tests}
 use Rattle.std.proofs.lemmas.Option.{same_Some}
 use Rattle.fw_words.specs.Quadlet.{quadlet_at}
 use Rattle.fw_entry.specs.Network.{first_id}
-use Rattle.fw_ledger.specs.Account.{Account, Operation, Reads, Locks, Request}
-use Rattle.fw_ledger.specs.Fold.{next_account}
-use Rattle.fw_ledger.specs.Refused.{IsRefused}
-use Rattle.fw_ledger.specs.Sound.{IsSound}
-use Rattle.fw_ledger.specs.Stands.{is_quadlet_swap}
-use Rattle.fw_ledger.specs.Words.{Register, BandwidthAvailable, ChannelsAvailable, register_of, register_at, word_of, manager_register, plug_register, output_register, input_register, plug_number, first_output, first_input, first_address, is_node}
-use Rattle.fw_ledger.proofs.Refused.{refused_exactly}
+use Rattle.fw_account.specs.Account.{Account, Operation, Reads, Locks, Request}
+use Rattle.fw_account.specs.Fold.{next_account}
+use Rattle.fw_account.specs.Refused.{IsRefused}
+use Rattle.fw_account.specs.Sound.{IsSound}
+use Rattle.fw_account.specs.Packets.{is_quadlet_swap}
+use Rattle.fw_account.specs.Words.{Register, BandwidthAvailable, ChannelsAvailable, register_of, register_at, word_of, manager_register, plug_register, output_register, input_register, plug_number, first_output, first_input, first_address, is_node}
+use Rattle.fw_account.proofs.Refused.{refused_exactly}
 use Rattle.fw_audit.specs.Looked.{Response, Looked, Asks, Replies, Shows, Happens, Other, looked, is_plug_offset, is_watched, register_shown, IsAnswer, IsWatchedAnswer, IsQuadlet, ShowsWords}
 use Rattle.fw_audit.specs.Faults.{HasFault, HasNoFault, IsVerdict, IsNoMove, IsBadAnswer, NoRegister, NoSwap, NoQuadlet, rank}
 use Rattle.fw_audit.specs.Judged.{judged, unmoved, no_move, no_move_by, no_move_of, found_after, verdict}

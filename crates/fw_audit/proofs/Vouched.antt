@@ -5,11 +5,11 @@ use Rattle.std.specs.List.{All}
 use Rattle.std.proofs.lemmas.List.Elements.{All-nil, All-cons, All-head, All-tail}
 use Rattle.std.proofs.lemmas.Option.{same_Some}
 use Rattle.std.proofs.Common.{◌≡◌, ◌↔◌, Option, Some, None, List, [], ◌∷◌, ◌++◌, refl, ap, sym, subst, ◌∙◌, append_assoc}
-use Rattle.fw_ledger.specs.Account.{Account}
-use Rattle.fw_ledger.specs.Fold.{no_account, next_account, account_from, account_of}
-use Rattle.fw_ledger.specs.Sound.{IsSound, IsConflictFree}
-use Rattle.fw_ledger.proofs.Fold.{account_from-append, account_sound, next_keeps, starts_sound}
-use Rattle.fw_ledger.proofs.Shared.{is_conflict_free}
+use Rattle.fw_account.specs.Account.{Account}
+use Rattle.fw_account.specs.Fold.{no_account, next_account, account_from, account_of}
+use Rattle.fw_account.specs.Sound.{IsSound, IsConflictFree}
+use Rattle.fw_account.proofs.Fold.{account_from-append, account_sound, next_keeps, starts_sound}
+use Rattle.fw_account.proofs.Shared.{is_conflict_free}
 use Rattle.fw_audit.specs.Looked.{looked, ShowsWords}
 use Rattle.fw_audit.specs.Faults.{HasNoFault, IsVerdict}
 use Rattle.fw_audit.specs.Audited.{IsAudited, IsVouched}

@@ -1,9 +1,9 @@
 -- What an audit says of the entries of a log.
 use Rattle.fw_entry.specs.declared.entry.Entry.{Entry}
 use Rattle.std.specs.Prelude.{◌≡◌, ◌⊎◌, Option, Some, None, List, [], ◌∷◌, ◌++◌}
-use Rattle.fw_ledger.specs.Account.{Account}
-use Rattle.fw_ledger.specs.Fold.{next_account, account_of}
-use Rattle.fw_ledger.specs.Sound.{IsSound, IsConflictFree}
+use Rattle.fw_account.specs.Account.{Account}
+use Rattle.fw_account.specs.Fold.{next_account, account_of}
+use Rattle.fw_account.specs.Sound.{IsSound, IsConflictFree}
 use Rattle.fw_ledger.specs.Stands.{StandsFor}
 use Rattle.fw_ledger.specs.declared.tables.Tables.{Tables}
 use Rattle.fw_audit.specs.Looked.{looked, ShowsWords}

@@ -4,12 +4,12 @@ use Rattle.fw_entry.specs.declared.entry.ResetEntry.{ResetEntry}
 use Rattle.std.specs.Prelude.{◌≡◌, ◌≢◌, ◌<◌, ℕ, Option, Some, None, List, length, unwrap_or, IsTrue, IsFalse}
 use Rattle.fw_words.specs.Quadlet.{quadlet_at}
 use Rattle.fw_entry.specs.Network.{device_of_id}
-use Rattle.fw_ledger.specs.Account.{Account, Locks, Request}
-use Rattle.fw_ledger.specs.Decode.{IsMove}
-use Rattle.fw_ledger.specs.Moves.{Move}
-use Rattle.fw_ledger.specs.Refused.{IsEventRefused}
-use Rattle.fw_ledger.specs.Stands.{is_quadlet_swap}
-use Rattle.fw_ledger.specs.Words.{Register, register_of, word_of, id_in}
+use Rattle.fw_account.specs.Account.{Account, Locks, Request}
+use Rattle.fw_account.specs.Decode.{IsMove}
+use Rattle.fw_account.specs.Moves.{Move}
+use Rattle.fw_account.specs.Packets.{is_quadlet_swap}
+use Rattle.fw_account.specs.Refused.{IsEventRefused}
+use Rattle.fw_account.specs.Words.{Register, register_of, word_of, id_in}
 use Rattle.fw_audit.specs.Looked.{Response, Looked, Asks, Replies, Shows, Happens, Other, is_watched, register_shown, IsAnswer, IsWatchedAnswer}
 use Rattle.fw_audit.specs.declared.fault.AuditFault.{AuditFault}
 use Rattle.fw_audit.specs.declared.fault.AuditFault.TheVariants.{NoNode, Overlap, Orphan, NotAllowed, WrongWord, NoMove, NoEvent}

@@ -8,11 +8,10 @@ use Rattle.fw_entry.specs.declared.entry.ShownEntry.{ShownEntry}
 use Rattle.std.specs.Prelude.{ℕ, ◌-◌, ◌==◌, nat_le, Bool, not, ◌&&◌, ◌||◌, Option, Some, None, List, is_some, option_map, if◌then◌else◌}
 use Rattle.fw_words.specs.Quadlet.{quadlet_at}
 use Rattle.fw_entry.specs.Network.{device_of_id}
-use Rattle.fw_ledger.specs.Account.{Account, Operation, Reads, Locks, Request}
-use Rattle.fw_ledger.specs.Fold.{next_account}
-use Rattle.fw_ledger.specs.Packets.{is_reply_to}
-use Rattle.fw_ledger.specs.Stands.{is_quadlet_swap}
-use Rattle.fw_ledger.specs.Words.{Register, register_of, word_of, first_address, id_in}
+use Rattle.fw_account.specs.Account.{Account, Operation, Reads, Locks, Request}
+use Rattle.fw_account.specs.Fold.{next_account}
+use Rattle.fw_account.specs.Packets.{is_quadlet_swap, is_reply_to}
+use Rattle.fw_account.specs.Words.{Register, register_of, word_of, first_address, id_in}
 use Rattle.fw_audit.specs.Looked.{Response, Looked, Asks, Replies, Shows, Happens, Other, looked, is_watched, register_shown}
 use Rattle.fw_audit.specs.Faults.{shown_id}
 use Rattle.fw_audit.specs.declared.fault.AuditFault.{AuditFault}

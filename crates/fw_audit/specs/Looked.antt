@@ -10,10 +10,9 @@ use Rattle.fw_entry.specs.declared.entry.ShownEntry.{ShownEntry}
 use Rattle.std.specs.Prelude.{◌≡◌, ℕ, ◌+◌, ◌-◌, ◌%◌, ◌==◌, nat_le, nat_lt, Bool, false, ◌&&◌, ◌||◌, Option, Some, None, List, length, if◌then◌else◌, IsTrue, ⊤}
 use Rattle.fw_words.specs.Quadlet.{quadlet_at}
 use Rattle.fw_entry.specs.Network.{device_of_id}
-use Rattle.fw_ledger.specs.Account.{Account, Operation, Reads, Locks, Request}
-use Rattle.fw_ledger.specs.Packets.{Reply, Read, Locked, is_reply_to}
-use Rattle.fw_ledger.specs.Stands.{is_quadlet_swap}
-use Rattle.fw_ledger.specs.Words.{Register, register_of, word_of, first_address, first_output, first_input, id_in}
+use Rattle.fw_account.specs.Account.{Account, Operation, Reads, Locks, Request}
+use Rattle.fw_account.specs.Packets.{Reply, Read, Locked, is_quadlet_swap, is_reply_to}
+use Rattle.fw_account.specs.Words.{Register, register_of, word_of, first_address, first_output, first_input, id_in}
 
 -- ---- what is looked at
 

@@ -1,7 +1,7 @@
 ghost use Rattle.std.specs.Prelude.{◌≡◌, ◌++◌, ◌∷◌, [], List, Option, Some, None, IfOk, IfErr, IsOkAnd};
 ghost use Rattle.fw_entry.specs.declared.entry.Entry.{Entry as LogEntry};
 ghost use Rattle.fw_entry.specs.Log.{Fits};
-ghost use Rattle.fw_ledger.specs.Account.{Account};
+ghost use Rattle.fw_account.specs.Account.{Account};
 ghost use Rattle.fw_ledger.specs.Stands.{StandsFor};
 ghost use Rattle.fw_audit.specs.Looked.{looked};
 ghost use Rattle.fw_audit.specs.Faults.{IsVerdict};

@@ -2,9 +2,9 @@
 
 ghost use Rattle.std.specs.Prelude.{◌≡◌, ℕ, Option, Some, None, option_map};
 ghost use Rattle.fw_entry.specs.Network.{device_of_id};
-ghost use Rattle.fw_ledger.specs.Account.{Account, Request, Reads};
-ghost use Rattle.fw_ledger.specs.Packets.{Read, Locked};
-ghost use Rattle.fw_ledger.specs.Words.{register_of, word_of};
+ghost use Rattle.fw_account.specs.Account.{Account, Request, Reads};
+ghost use Rattle.fw_account.specs.Packets.{Read, Locked};
+ghost use Rattle.fw_account.specs.Words.{register_of, word_of};
 ghost use Rattle.fw_ledger.specs.Stands.{StandsFor, AskedFor};
 ghost use Rattle.fw_audit.specs.Looked.{Replies, Shows, Happens, labelled, looked, looked_packet, quadlet_in};
 ghost use Rattle.fw_audit.specs.Judged.{judged, judged_request, judged_quadlet, judged_reply, judged_response, judged_word, watched_offset, not_allowed as no_quadlet, no_move_of, no_move_by, unmoved};

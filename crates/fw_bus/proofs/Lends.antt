@@ -5,10 +5,10 @@ use Rattle.fw_devices.specs.Network.{is_node, node_at}
 use Rattle.fw_run.specs.State.{State, is_on, number_in}
 use Rattle.fw_run.specs.Good.{IsGood}
 use Rattle.fw_bus.specs.Buses.{Lends, LendsAt}
-use Rattle.fw_bus.specs.Lingering.{HasLingering}
-use Rattle.fw_bus.specs.Stands.{IsNodeAt, HasNodes}
-use Rattle.fw_bus.proofs.Lingers.{node_talks}
-use Rattle.fw_bus.proofs.Nodes.{is_node_same, on_within}
+use Rattle.fw_machine.specs.Lingering.{HasLingering}
+use Rattle.fw_machine.specs.Stands.{IsNodeAt, HasNodes}
+use Rattle.fw_machine.proofs.Lingers.{node_talks}
+use Rattle.fw_machine.proofs.Nodes.{is_node_same, on_within}
 
 -- the node of the device, where there is one
 pub lends : (s : State) (nodes : List NodeState) (d : ℕ) (o : Option NodeState) → IsGood s → HasNodes nodes s → HasLingering nodes s → (is_node nodes d ≡ false → o ≡ None) → (is_node nodes d ≡ true → o ≡ Some (node_at nodes d)) → Lends s d o

@@ -9,8 +9,9 @@ use Rattle.fw_entry.specs.declared.entry.Timed.{Timed}
 use Rattle.fw_fcp.specs.declared.frame.Frame.{Frame}
 use Rattle.fw_script.specs.declared.command.Command.{Command}
 use Rattle.fw_run.specs.declared.order.Order.{Order}
-use Rattle.fw_run.specs.Actions.{Action, Withhold, AddDevice, AddCable, ResetBus, StartConnection, StartBreak, HalfStep, Rest, Unsettled, Pass, EndSecond, Die, CarryOut, Start, Ask, Answer, ShowWord, SendCommand, SendFrame, Receive, InsertTape, EjectTape, StartCycle, SendPacket, Finish, Resets, Declares, Joins, Step, Steps, Lose, TellLoss, beginning, counting, counted}
-use Rattle.fw_run.specs.Carrying.{times, half_steps_of, next_cycle, SendsPackets, HasCycle, HasCycles, Rounds, none, round, rest, SendsAll, quiet, sends, Carries, withholds, withholds_already, declares, joins, resets, connects, breaks, steps, settled, unsettled, waits, waits_over, writes_cycles, dies, dies_late, dies_idle, starts, goes_on, transacts, shows, commanded, inserts, ejects, ejects_nothing, ends, loses}
+use Rattle.fw_run.specs.Recording.{heard_in}
+use Rattle.fw_run.specs.Actions.{Action, Withhold, AddDevice, AddCable, ResetBus, StartConnection, StartBreak, HalfStep, Rest, Unsettled, Pass, EndSecond, Die, CarryOut, Start, Ask, Answer, ShowWord, SendCommand, SendFrame, Receive, InsertTape, EjectTape, StartCycle, SendPacket, Finish, Resets, Declares, Joins, Step, Steps, Lose, TellLoss, beginning, counting, counted, BecomeCandidate, Contend, TieReel, KeepBlock}
+use Rattle.fw_run.specs.Carrying.{times, half_steps_of, next_cycle, SendsPackets, HasCycle, HasCycles, Rounds, none, round, rest, SendsAll, quiet, sends, Carries, withholds, withholds_already, declares, joins, resets, connects, breaks, steps, settled, unsettled, waits, waits_over, writes_cycles, dies, dies_late, dies_idle, starts, goes_on, transacts, shows, commanded, inserts, ejects, ejects_nothing, ends, loses, becomes_candidate, stays_candidate, contends, dubs}
 use Rattle.std.proofs.lemmas.Option.{same_Some}
 use Rattle.fw_run.specs.Decks.{DeckState, FrameWrite, Obeyed, after_frame, next_frame}
 use Rattle.fw_run.specs.Frames.{decks_after, command_write}
@@ -18,10 +19,10 @@ use Rattle.fw_run.specs.Runs.{Run, begun, and_then}
 use Rattle.fw_run.specs.State.{State, has_deck, is_on, living}
 use Rattle.fw_run.specs.Streams.{talkers}
 use Rattle.fw_run.proofs.Turns.{update_new, update_others}
-use Rattle.fw_bus.specs.Framing.{IsQuiet}
-use Rattle.fw_bus.specs.declared.machine.Machine.{Machine}
+use Rattle.fw_carry.specs.Framing.{IsQuiet}
+use Rattle.fw_machine.specs.declared.machine.Machine.{Machine}
 use Rattle.fw_run.proofs.Taking.{Taken, listens, keeps_deaf, forces_reset, taken_as}
-use Rattle.fw_bus.specs.Stands.{StandsFor}
+use Rattle.fw_machine.specs.Stands.{StandsFor}
 
 -- no response waits
 abbrev pub AreQuiet : State → Type 0
@@ -105,6 +106,10 @@ step_quiet s (InsertTape d tape system) out t calm q x = as_is t _ x.1.4 (update
 step_quiet s (EjectTape d) out t calm q x = as_is t _ x.1.4 (update_quiet s.decks d _ q (q d))
 step_quiet s StartCycle out t calm q x = as_is t _ x.1.2 q
 step_quiet s (SendPacket p block) out t calm q x = as_is t s x.1.3 q
+step_quiet s (BecomeCandidate d) out t calm q x = as_is t _ x.1.4 q
+step_quiet s (Contend d) out t calm q x = as_is t _ x.1.state_is q
+step_quiet s (TieReel d) out t calm q x = as_is t _ x.1.4 q
+step_quiet s (KeepBlock block) out t calm q x = as_is t _ x.1.1 q
 step_quiet s Finish out t calm q x = as_is t _ x.1.1 q
 
 steps_quiet : (s : State) (actions : List Action) (out : List Timed) (t : State) → AreCalm actions → AreQuiet s → Steps s actions out t → AreQuiet t
@@ -117,10 +122,10 @@ calm_then : (xs ys : List Action) → AreCalm xs → AreCalm ys → AreCalm (xs 
 calm_then [] ys f g = g
 calm_then (x ∷ xs) ys f g = (f.0, calm_then xs ys f.1 g)
 
-calm_times : (n d : ℕ) → AreCalm (times n (HalfStep d))
+calm_times : (n : ℕ) (a : Action) → IsCalm a → AreCalm (times n a)
 unfolding times
-calm_times zero d = tt
-calm_times (suc n) d = calm_then (times n (HalfStep d)) (HalfStep d ∷ []) (calm_times n d) (tt, tt)
+calm_times zero a calm = tt
+calm_times (suc n) a calm = calm_then (times n a) (a ∷ []) (calm_times n a calm) (calm, tt)
 
 calm_halves : (ds : List ℕ) → AreCalm (half_steps_of ds)
 calm_halves [] = tt
@@ -199,7 +204,9 @@ packets_quiet (p ∷ plugs) s xs out t q f = packets_quiet plugs f.1 f.2 f.4 t (
 cycle_quiet : (o : Option ResetEntry) (s : State) (xs : List Action) (out : List Timed) (t : State) → AreQuiet s → HasCycle o s xs out t → AreQuiet t
 cycle_quiet None s xs out t q f = steps_quiet s (next_cycle s ∷ []) out t (calm_cycle s, tt) q f.0
 cycle_quiet (Some e) s xs out t q f =
-    packets_quiet (talkers f.mid.account) f.mid f.packets f.last t (steps_quiet s (next_cycle s ∷ StartCycle ∷ []) f.first f.mid (calm_cycle s, (tt, tt)) q f.comes) f.sends
+    let w = f.writes in
+    let begun = steps_quiet s (next_cycle s ∷ StartCycle ∷ []) w.first w.mid (calm_cycle s, (tt, tt)) q w.comes in
+    steps_quiet f.sent (KeepBlock (heard_in f.sent out) ∷ []) [] t (tt, tt) (packets_quiet (talkers w.mid.account) w.mid w.packets w.last f.sent begun w.sends) f.keeps
 
 cycles_quiet : (n : ℕ) (s : State) (xs : List Action) (out : List Timed) (t : State) → AreQuiet s → HasCycles n s xs out t → AreQuiet t
 unfolding HasCycles
@@ -214,7 +221,7 @@ carries_quiet s o xs out t q (joins f) = steps_quiet s xs out t (tt, tt) q f
 carries_quiet s o xs out t q (resets f) = steps_quiet s xs out t (tt, tt) q f
 carries_quiet s o xs out t q (connects f) = steps_quiet s xs out t (tt, tt) q f
 carries_quiet s o xs out t q (breaks f) = steps_quiet s xs out t (tt, tt) q f
-carries_quiet s o xs out t q (steps {d = d} {count = n} f) = steps_quiet s xs out t (calm_times n d) q f
+carries_quiet s o xs out t q (steps {d = d} {count = n} f) = steps_quiet s xs out t (calm_times n (HalfStep d) tt) q f
 carries_quiet s o xs out t q (settled {n = k} f e) = rounds_quiet k s xs out t q f
 carries_quiet s o xs out t q (unsettled {n = k} m more first last f g) = steps_quiet m (Unsettled ∷ []) last t (tt, tt) (rounds_quiet k s more first m q f) g
 carries_quiet s o xs out t q (waits f) = steps_quiet s xs out t (tt, tt) q f
@@ -232,6 +239,10 @@ carries_quiet s o xs out t q (commanded {a = a} {b = b} {bytes = bytes} x m more
 carries_quiet s o xs out t q (inserts {d = d} {tape = tape} {system = system} m more first last f g) = all_quiet d m more last t (but_all d m (steps_quiet s (InsertTape d tape system ∷ []) first m (tt, tt) q f)) g
 carries_quiet s o xs out t q (ejects {d = d} m more first last f g) = all_quiet d m more last t (but_all d m (steps_quiet s (EjectTape d ∷ []) first m (tt, tt) q f)) g
 carries_quiet s o xs out t q (ejects_nothing e) = q
+carries_quiet s o xs out t q (becomes_candidate f) = steps_quiet s xs out t (tt, tt) q f
+carries_quiet s o xs out t q (stays_candidate e) = q
+carries_quiet s o xs out t q (contends {d = d} {count = n} f) = steps_quiet s xs out t (calm_times n (Contend d) tt) q f
+carries_quiet s o xs out t q (dubs f) = steps_quiet s xs out t (tt, tt) q f
 carries_quiet s o xs out t q (ends f) = steps_quiet s xs out t (tt, tt) q f
 
 -- ---- a run

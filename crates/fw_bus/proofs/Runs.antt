@@ -11,6 +11,7 @@ use Rattle.fw_run.specs.Desks.{DeskRelations}
 use Rattle.fw_run.specs.Runs.{Run, and_then}
 use Rattle.fw_run.specs.Good.{IsGood}
 use Rattle.fw_run.proofs.ComesBack.{comes_back}
+use Rattle.fw_run.proofs.Elected.{elects_one}
 use Rattle.fw_run.proofs.Kept.{first_numbers}
 use Rattle.fw_run.proofs.Runs.{run_steps, steps_then}
 use Rattle.fw_run.proofs.Sounds.{sound_throughout}
@@ -18,12 +19,12 @@ use Rattle.fw_run.proofs.Logs.{cut_opens, run_spells}
 use Rattle.fw_run.proofs.Settling.{enough}
 use Rattle.fw_run.proofs.Steps.{steps_good}
 use Rattle.fw_run.proofs.Times.{first_good}
-use Rattle.fw_bus.specs.declared.machine.Machine.{Machine}
-use Rattle.fw_bus.specs.Stands.{IsReady, StandsFor}
-use Rattle.fw_bus.specs.Framing.{DoesBy, IsQuiet}
-use Rattle.fw_bus.specs.Orders.{Decided}
+use Rattle.fw_machine.specs.declared.machine.Machine.{Machine}
+use Rattle.fw_machine.specs.Stands.{IsReady, StandsFor}
+use Rattle.fw_carry.specs.Framing.{DoesBy, IsQuiet}
+use Rattle.fw_rules.specs.Decisions.{Decided}
 use Rattle.fw_bus.specs.Buses.{IsReached, Goes, Stops}
-use Rattle.fw_bus.proofs.Doings.{steps_numbers}
+use Rattle.fw_carry.proofs.Doings.{steps_numbers}
 use Rattle.fw_bus.proofs.Quiet.{run_quiet, quiet_of}
 
 -- the state of a run is good, so a machine that stands for one is ready
@@ -78,6 +79,7 @@ goes c o spent un decided d commands actions log s r st =
       grew = x.grew;
       sound = sound_throughout (actions ++ x.actions) (log ++ x.out) x.state (run_steps (commands ++ c ∷ []) (actions ++ x.actions) (log ++ x.out) x.state more);
       restored = comes_back (actions ++ x.actions) (log ++ x.out) x.state (run_steps (commands ++ c ∷ []) (actions ++ x.actions) (log ++ x.out) x.state more);
+      elected = elects_one (actions ++ x.actions) (log ++ x.out) x.state (run_steps (commands ++ c ∷ []) (actions ++ x.actions) (log ++ x.out) x.state more);
       settles = λ begins rounds ordered many. enough s x.state rounds x.actions x.out begins many (subst (λ z. Carries s z x.actions x.out x.state) ordered x.whole.0);
       opens = λ none. cut_opens commands actions x.actions [] log x.out x.out s x.state x.state o r none (subst (λ z. Carries s o z x.out x.state) (sym (append-nil x.actions)) x.whole.0) x.steps;
       whole = λ none end. run_spells commands (actions ++ x.actions) (log ++ x.out) x.state (subst (λ z. Run (commands ++ z ∷ []) (actions ++ x.actions) (log ++ x.out) x.state) end more) none;
@@ -99,6 +101,7 @@ stops c o spent is decided d commands actions log s r st =
       given = cut.1;
       sound = sound_throughout (actions ++ x.done) (log ++ given) x.state (steps_then first_state s x.state actions x.done log given (run_steps commands actions log s r) x.steps);
       restored = comes_back (actions ++ x.done) (log ++ given) x.state (steps_then first_state s x.state actions x.done log given (run_steps commands actions log s r) x.steps);
+      elected = elects_one (actions ++ x.done) (log ++ given) x.state (steps_then first_state s x.state actions x.done log given (run_steps commands actions log s r) x.steps);
       opens = λ none. cut_opens commands actions x.done x.later log given x.all s x.state x.last o r none x.whole x.steps;
       spent = is;
     }

@@ -8,7 +8,7 @@ use Rattle.fw_entry.specs.Log.{header_bytes, LogOpens, LogSpells}
 use Rattle.fw_entry.specs.declared.version.Version.TheVariants.{Two}
 use Rattle.fw_script.specs.declared.command.Command.{Command}
 use Rattle.fw_script.specs.declared.command.Command.TheVariants.{End}
-use Rattle.fw_bus.specs.declared.machine.Machine.{Machine}
+use Rattle.fw_machine.specs.declared.machine.Machine.{Machine}
 use Rattle.fw_cmp.specs.Controllers.{is_restoring, slot_at}
 use Rattle.fw_run.specs.declared.order.Order.{Order}
 use Rattle.fw_run.specs.declared.order.Order.TheVariants.{Settle}
@@ -23,10 +23,11 @@ use Rattle.fw_run.specs.Carrying.{Carries}
 use Rattle.fw_run.specs.Desks.{DeskRelations}
 use Rattle.fw_run.specs.Given.{AreGiven}
 use Rattle.fw_run.specs.Runs.{Run}
-use Rattle.fw_bus.specs.Lingering.{TalksAs}
-use Rattle.fw_bus.specs.Stands.{StandsFor}
-use Rattle.fw_bus.specs.Doings.{Cut}
+use Rattle.fw_machine.specs.Lingering.{TalksAs}
+use Rattle.fw_machine.specs.Stands.{StandsFor}
+use Rattle.fw_carry.specs.Doings.{Cut}
 use Rattle.fw_run.specs.Headline.{IsSoundThroughout}
+use Rattle.fw_run.specs.Elected.{ElectsOne}
 use Rattle.fw_run.specs.Reclaiming.{ComesBack}
 use Rattle.fw_run.specs.Settling.{BeginsSecond, to_restore}
 use Rattle.fw_run.specs.Logs.{HasNoEnd}
@@ -60,6 +61,8 @@ pub record Goes (D : DeskRelations) (commands : List Command) (actions : List Ac
   pub sound : IsSoundThroughout (actions ++ more) (log ++ out)
   -- what was whole before a bus reset is whole again where its second is over
   pub restored : ComesBack (actions ++ more) (log ++ out)
+  -- between two bus resets one device at most is elected bus manager, and it is the winner
+  pub elected : ElectsOne (actions ++ more) (log ++ out)
   -- given right after a bus reset that begins a second, enough rounds leave no connection to be restored
   pub settles : BeginsSecond s → (rounds : ℕ) → order ≡ Settle rounds → 64 * (to_restore s + 1) ≤ rounds → (d i : ℕ) → IsFalse (is_restoring (slot_at (state.controllers d) i))
   -- what was written so far is a log, which lacks its end alone until the end of the script
@@ -75,6 +78,7 @@ pub record Stops (D : DeskRelations) (commands : List Command) (actions : List A
   pub given : AreGiven D cut.done
   pub sound : IsSoundThroughout (actions ++ cut.done) (log ++ (cut.given ++ cut.next ∷ []))
   pub restored : ComesBack (actions ++ cut.done) (log ++ (cut.given ++ cut.next ∷ []))
+  pub elected : ElectsOne (actions ++ cut.done) (log ++ (cut.given ++ cut.next ∷ []))
   pub opens : HasNoEnd commands → LogOpens (log ++ (cut.given ++ cut.next ∷ [])) Two (header_bytes Two ++ log_bytes 0 (log ++ (cut.given ++ cut.next ∷ [])))
   pub spent : IsTrue now.spent
 

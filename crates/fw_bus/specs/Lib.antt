@@ -1,14 +1,1 @@
-pub mod Faults
-pub mod Tables
-pub mod Wires
-pub mod Lingering
-pub mod Stands
-pub mod Doings
-pub mod Framing
-pub mod Orders
-pub mod Resetting
-pub mod Transacting
 pub mod Buses
-pub mod Streaming
-pub mod Serving
-pub mod Cycling

@@ -3,11 +3,13 @@ ghost use Rattle.std.specs.Option.{option_map};
 ghost use Rattle.fw_outside.specs.Outside.{Rose};
 
 use crate::BusFault;
-use crate::machine::Machine;
-use crate::room::Room;
 use fw_async::Wire;
+use fw_carry::carry_out;
+use fw_dub::Reel;
+use fw_machine::{Machine, Room};
 use fw_node::Node;
 use fw_outside::{Failed, Sink};
+use fw_rules::decide;
 use fw_script::Command;
 use fw_tape::Desk;
 use std::alloc::{AllocError, Global};
@@ -39,9 +41,9 @@ impl Bus {
     ghost use Rattle.fw_run.specs.Actions.{Action};
     ghost use Rattle.fw_run.specs.Runs.{Run};
     ghost use Rattle.fw_tape.specs.Desks.{AnyBlock, AnyVendorByte};
-    ghost use Rattle.fw_bus.specs.Orders.{IsCommand};
-    ghost use Rattle.fw_bus.specs.Stands.{StandsFor};
-    ghost use Rattle.fw_bus.specs.Wires.{HasWire};
+    ghost use Rattle.fw_rules.specs.Decisions.{IsCommand};
+    ghost use Rattle.fw_machine.specs.Stands.{StandsFor};
+    ghost use Rattle.fw_machine.specs.Wires.{HasWire};
     ghost use Rattle.fw_bus.specs.Buses.{Applies, Lends, WhereRefused, WhereFailed};
 
     /// A bus without a device, at cycle 0. It takes all the memory that its calls need.
@@ -82,6 +84,15 @@ impl Bus {
         &self.machine.wire
     }
 
+    /// The reel of the bus: the blocks that the tied deck has recorded since it was tied.
+    pub fn reel(&self) -> &Reel
+        requires spent { IsFalse self.now.spent }
+        ensures lent { (commands : List Line) (actions : List Action) (log : List TimedEntry) (s : State) → Run commands actions log s → StandsFor self.now.machine s
+            → result.now ≡ s.dub.reel }
+    {
+        &self.machine.reel
+    }
+
     /// Carries out a command, and writes what happens; the blocks of tapes, and what a vendor makes of a byte, come from the desk. `Refused` comes exactly
     /// where a rule holds of the command, with the first; then nothing is changed or written. Where the sink fails, it holds the
     /// entries given so far and a front of the next, its count of faults rose, and the bus is spent.
@@ -102,11 +113,11 @@ impl Bus {
         ensures failed { IfErr result (λ e. WhereFailed e (IsTrue self.new.spent × Rose (K.faults sink.old) (K.faults sink.new))) }
         ensures later { K.faults sink.old ≤ K.faults sink.new }
     {
-        let order = match self.machine.decide(c) {
+        let order = match decide(&self.machine, c) {
             Ok(order) => order,
             Err(rule) => return Err(BusFault::Refused(rule)),
         };
-        match self.machine.carry_out(&order, desk, &mut self.room, sink) {
+        match carry_out(&mut self.machine, &order, desk, &mut self.room, sink) {
             Ok(()) => Ok(()),
             Err(Failed) => {
                 self.spent = true;

@@ -5,23 +5,6 @@
 #![tactic(auto)]
 
 mod bus;
-mod carry;
-mod controllers;
-mod cycles;
-mod entries;
-mod frames;
-mod give;
-mod half;
-mod lives;
-mod machine;
-mod reset;
-mod room;
-mod rules;
-mod second;
-mod steps;
-mod streams;
-mod tapes;
-mod transact;
 
 pub use bus::Bus;
 pub use fw_run::RuleFault;

@@ -1,11 +1,11 @@
 -- What a verdict says of one entry more.
-use Rattle.std.proofs.Common.{◌≡◌, ℕ, ◌+◌, Option, Some, None, List, [], ◌∷◌, ◌++◌, length, refl, ap, sym, subst, ◌∙◌, arith, length-append}
+use Rattle.std.proofs.Common.{◌≡◌, ℕ, ◌+◌, Option, Some, None, List, [], ◌∷◌, ◌++◌, refl, ap, sym, subst, ◌∙◌, arith, length-append}
 use Rattle.std.specs.List.{All}
 use Rattle.std.proofs.lemmas.List.Elements.{All-nil, All-cons}
 use Rattle.fw_entry.specs.Log.{Fits, InOrder}
 use Rattle.fw_entry.specs.declared.entry.Entry.{Entry}
 use Rattle.fw_entry.specs.declared.entry.Timed.{Timed}
-use Rattle.fw_ledger.specs.Fold.{entries_of}
+use Rattle.fw_account.specs.Fold.{entries_of}
 use Rattle.fw_audit.specs.Audited.{EndsFaulty, Found}
 use Rattle.fw_audit.specs.declared.audit.Audit.{Audit}
 use Rattle.fw_audit.specs.declared.fault.AuditFault.{AuditFault}

@@ -1,5 +1,5 @@
 -- Converting there and back.
-use Rattle.std.proofs.Common.{◌≡◌, ℕ, List, [], ◌++◌, Option, Some, refl, ap, sym, subst, ◌∙◌}
+use Rattle.std.proofs.Common.{◌≡◌, ℕ, List, ◌++◌, ap, sym, subst, ◌∙◌}
 use Rattle.std.proofs.lemmas.List.{append-nil}
 use Rattle.fw_entry.specs.Log.{header_bytes, entries_bytes, LogOpens, LogSpells}
 use Rattle.fw_entry.specs.declared.entry.Timed.{Timed}

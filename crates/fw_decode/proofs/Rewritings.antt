@@ -1,7 +1,7 @@
 -- One entry more in a version.
 use Rattle.std.proofs.Common.{◌≡◌, ℕ, List, [], ◌∷◌, ◌++◌, ap, sym, ◌∙◌}
 use Rattle.std.proofs.lemmas.List.{append-nil}
-use Rattle.fw_entry.specs.Log.{epoch_after, latest_epoch, entry_bytes, entries_bytes}
+use Rattle.fw_entry.specs.Log.{epoch_after, latest_epoch, entry_bytes}
 use Rattle.fw_entry.specs.declared.entry.Timed.{Timed}
 use Rattle.fw_entry.proofs.LogLaws.{latest_append}
 use Rattle.fw_decode.specs.Texts.{Rewritten, log_form}

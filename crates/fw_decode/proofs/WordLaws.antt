@@ -1,13 +1,13 @@
 -- Logs that the words do not refuse, and refusals as one of any word's.
-use Rattle.std.proofs.Common.{◌≡◌, ◌⊎◌, ℕ, List, ◌++◌, Option, Some, None, ap, sym, subst, ◌∙◌}
+use Rattle.std.proofs.Common.{◌≡◌, ℕ, List, ◌++◌, Some, None, ap, sym, subst, ◌∙◌}
 use Rattle.fw_entry.specs.declared.entry.ResetEntry.{ResetEntry}
 use Rattle.fw_entry.specs.declared.entry.Timed.{Timed}
-use Rattle.fw_ledger.specs.Fold.{entries_of}
+use Rattle.fw_account.specs.Fold.{entries_of}
 use Rattle.fw_audit.specs.Audited.{IsAudited}
 use Rattle.fw_audit.proofs.Audits.{never_audited}
 use Rattle.fw_map.specs.Trees.{HasPackets}
 use Rattle.fw_text.specs.Report.{report_text}
-use Rattle.fw_reading.specs.Readings.{Rules, IsAccepted}
+use Rattle.fw_reading.specs.Readings.{IsAccepted}
 use Rattle.fw_reading.specs.Widening.{Covers}
 use Rattle.fw_decode.specs.Texts.{nothing}
 use Rattle.fw_decode.specs.Silences.{never_refused}

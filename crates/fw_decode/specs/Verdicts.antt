@@ -1,7 +1,7 @@
 -- What an audit makes of a log.
-use Rattle.std.specs.Prelude.{◌≡◌, ◌+◌, List, ◌++◌, Option, Some, None, length}
+use Rattle.std.specs.Prelude.{◌≡◌, ◌+◌, List, Option, Some, None, length}
 use Rattle.fw_entry.specs.declared.entry.Timed.{Timed}
-use Rattle.fw_ledger.specs.Fold.{entries_of}
+use Rattle.fw_account.specs.Fold.{entries_of}
 use Rattle.fw_audit.specs.Audited.{IsAudited, EndsFaulty, Found}
 use Rattle.fw_reading.specs.Readings.{Rules}
 use Rattle.fw_decode.specs.Texts.{count_text}

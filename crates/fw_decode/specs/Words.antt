@@ -5,7 +5,6 @@ use Rattle.fw_entry.specs.declared.entry.Timed.{Timed}
 use Rattle.fw_text.specs.Report.{report_text}
 use Rattle.fw_reading.specs.Readings.{Form, Rules}
 use Rattle.fw_decode.specs.Texts.{nothing, lines_form, explained_form, objects_form, silent_form, log_form}
-use Rattle.fw_decode.specs.Silences.{never_refused}
 use Rattle.fw_decode.specs.Verdicts.{audit_rules, IsSoundLog}
 use Rattle.fw_decode.specs.Maps.{map_rules, graph_rules, HasTree}
 use Rattle.fw_decode.specs.declared.refusal.LogRefusal.{LogRefusal}

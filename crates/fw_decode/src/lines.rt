@@ -3,13 +3,13 @@
 ghost use Rattle.std.specs.Prelude.{◌≡◌, ◌++◌, ℕ, List, OnOk, ⊤};
 ghost use Rattle.fw_outside.specs.Stops.{ReadCount, WriteCount};
 ghost use Rattle.fw_entry.specs.declared.entry.Entry.{Entry};
-ghost use Rattle.fw_log.specs.Passing.{Makes};
+ghost use Rattle.fw_log.specs.Passing.{HasBody};
 ghost use Rattle.fw_text.specs.Line.{entry_line};
 ghost use Rattle.fw_reading.specs.Endings.{stop_of, Reads, IsComplete};
 ghost use Rattle.fw_decode.specs.Texts.{lines_form, nothing};
 ghost use Rattle.fw_decode.specs.Silences.{never_refused};
 
-use fw_log::{LogReader, PlainBody, Room, Timed};
+use fw_log::{LogReader, PlainBody, Room, Timed, whole_iso};
 use fw_outside::{Failed, Sink, Source};
 use fw_reading::{Closing, LogEnding, Reading, Stop, read_log};
 use fw_text::{LineRoom, put_entry_from, put_iso_from, put_packet_from, put_reset_from};
@@ -24,12 +24,12 @@ struct Lines {
 
 // Appends the line of an entry of this cycle that has this body.
 fn put_body(room: &mut LineRoom, cycle: u64, body: &PlainBody) -> Result<(), AllocError>
-    requires { (e : Entry) × Makes body.now e }
-    ensures { (e : Entry) → Makes body.now e → OnOk result (room.new ≡ room.old ++ entry_line (record { cycle = cycle; what = e })) }
+    requires { (e : Entry) × HasBody body.now e }
+    ensures { (e : Entry) → HasBody body.now e → OnOk result (room.new ≡ room.old ++ entry_line (record { cycle = cycle; what = e })) }
 {
     match body {
         PlainBody::Packet(bytes) => put_packet_from(room, cycle, bytes.as_slice()),
-        PlainBody::Iso(packet) => put_iso_from(room, cycle, packet),
+        PlainBody::Iso(bytes) => put_iso_from(room, cycle, &whole_iso(bytes.as_slice())),
         PlainBody::Reset(bytes) => put_reset_from(room, cycle, bytes.as_slice()),
     }
 }

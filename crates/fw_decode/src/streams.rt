@@ -7,7 +7,7 @@ ghost use Rattle.fw_reading.specs.Endings.{stop_of, Reads, IsComplete};
 ghost use Rattle.fw_decode.specs.Texts.{silent_form};
 ghost use Rattle.fw_decode.specs.Silences.{never_refused};
 
-use fw_log::{LogReader, Room, Timed};
+use fw_log::{LogReader, PlainBody, Room, Timed, whole_iso};
 use fw_outside::{Failed, Sink, Source};
 use fw_reading::{Closing, LogEnding, Reading, read_log};
 use fw_text::StreamReport;
@@ -43,14 +43,20 @@ impl Reading for Streams {
         Ok(None)
     }
 
-    // Entries of no stream have no part in the report.
+    // Entries of no stream have no part in the report; of an isochronous packet it takes what it counts.
     fn pass(
         &mut self,
         reader: &mut LogReader,
         room: &mut Room,
         piece: &[u8],
     ) -> Result<Option<usize>, AllocError> {
-        Ok(reader.pass(piece, room))
+        let Some(passed) = reader.pass_body(piece, room) else {
+            return Ok(reader.pass(piece, room));
+        };
+        if let PlainBody::Iso(bytes) = &passed.body {
+            self.report.take_packet(&whole_iso(bytes.as_slice()));
+        }
+        Ok(Some(passed.used))
     }
 
     fn gathered(&self) -> &[u8] {

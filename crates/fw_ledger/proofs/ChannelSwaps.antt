@@ -7,21 +7,21 @@ use Rattle.fw_base.specs.Tables.{update}
 use Rattle.fw_base.proofs.Tables.{sum_to_same}
 use Rattle.fw_words.specs.Quadlet.{field}
 use Rattle.fw_plug.specs.Words.{flag}
-use Rattle.fw_ledger.specs.Account.{Holder, Pending, Connected, Orphaned, Account, Allocation, allocated, is_free, is_open, is_withheld, is_pending_of}
-use Rattle.fw_ledger.specs.Moves.{Move, AllocateChannel, ReleaseChannel, with_allocation}
-use Rattle.fw_ledger.specs.Words.{ChannelsAvailable, word_of, channel_word}
-use Rattle.fw_ledger.specs.Decode.{IsMove, can, decoded, changed_bit, at_addressed, held_for, allowed}
-use Rattle.fw_ledger.specs.Sound.{IsSound}
+use Rattle.fw_account.specs.Account.{Holder, Pending, Connected, Orphaned, Account, Allocation, allocated, is_free, is_open, is_withheld, is_pending_of}
+use Rattle.fw_account.specs.Moves.{Move, AllocateChannel, ReleaseChannel, with_allocation}
+use Rattle.fw_account.specs.Words.{ChannelsAvailable, word_of, channel_word}
+use Rattle.fw_account.specs.Decode.{IsMove, can, decoded, changed_bit, at_addressed, held_for, allowed}
+use Rattle.fw_account.specs.Sound.{IsSound}
 use Rattle.fw_ledger.specs.Stands.{StandsFor, Follows, allocation_of}
 use Rattle.fw_ledger.specs.Swaps.{IsHalf, half_of, with_half, holds_no_units, moved_by}
 use Rattle.fw_ledger.specs.declared.tables.Charge.{Charge}
 use Rattle.fw_ledger.specs.declared.tables.Charge.TheVariants.{Free, Pending as PendingCharge}
 use Rattle.fw_ledger.specs.declared.tables.Tables.{Tables}
-use Rattle.fw_ledger.proofs.Allocations.{total_changed}
-use Rattle.fw_ledger.proofs.Moves.{moves_keep}
-use Rattle.fw_ledger.proofs.Tests.{can_is, can_from}
-use Rattle.fw_ledger.proofs.Open.{open_is, opens, taken, same_open, not_withheld}
-use Rattle.fw_ledger.proofs.Words.{word_without}
+use Rattle.fw_account.proofs.Allocations.{total_changed}
+use Rattle.fw_account.proofs.Moves.{moves_keep}
+use Rattle.fw_account.proofs.Tests.{can_is, can_from}
+use Rattle.fw_account.proofs.Open.{open_is, opens, taken, same_open, not_withheld}
+use Rattle.fw_account.proofs.Words.{word_without}
 use Rattle.fw_ledger.proofs.Related.{related_set, update_same, update_other}
 use Rattle.fw_ledger.proofs.Swapping.{swap_taken, swap_refused}
 

@@ -4,12 +4,12 @@ use Rattle.std.proofs.lemmas.Bool.{cases_lt}
 use Rattle.std.specs.Int.{bit_at}
 use Rattle.std.proofs.lemmas.Nat.Bits.{bit_at_cat_low, bit_at_cat_high}
 use Rattle.fw_plug.specs.Words.{flag}
-use Rattle.fw_ledger.specs.Account.{Allocation, Account, is_open}
-use Rattle.fw_ledger.specs.Words.{bits_word}
+use Rattle.fw_account.specs.Account.{Allocation, Account, is_open}
+use Rattle.fw_account.specs.Words.{bits_word}
 use Rattle.fw_ledger.specs.Stands.{ResourcesFor, StandsFor}
 use Rattle.fw_ledger.specs.declared.tables.Charge.{Charge}
 use Rattle.fw_ledger.specs.declared.tables.Tables.{Tables}
-use Rattle.fw_ledger.proofs.Words.{bits_below, bit_is}
+use Rattle.fw_account.proofs.Words.{bits_below, bit_is}
 
 -- a half's word has 32 bits
 pub word_fits : (free : ℕ → Bool) → bits_word free < 2 ^ 32

@@ -4,11 +4,11 @@ use Rattle.std.proofs.Common.{◌≡◌, ◌==◌, ◌&&◌, ℕ, Bool, true, fa
 use Rattle.std.proofs.lemmas.Bool.Decides.{nat_tests}
 use Rattle.std.proofs.lemmas.Bool.{false≢true}
 use Rattle.fw_words.specs.Quadlet.{quadlet_at}
-use Rattle.fw_ledger.specs.Account.{Account, Request, Locks, Reads}
-use Rattle.fw_ledger.specs.Moves.{Move}
-use Rattle.fw_ledger.specs.Words.{Register, register_of}
-use Rattle.fw_ledger.specs.Decode.{move_at}
-use Rattle.fw_ledger.specs.Packets.{Reply, Locked, ended, is_swapped, swapped, moved, replied, replied_to, answered}
+use Rattle.fw_account.specs.Account.{Account, Request, Locks, Reads}
+use Rattle.fw_account.specs.Moves.{Move}
+use Rattle.fw_account.specs.Words.{Register, register_of}
+use Rattle.fw_account.specs.Decode.{move_at}
+use Rattle.fw_account.specs.Packets.{Reply, Locked, ended, is_swapped, swapped, moved, replied, replied_to, answered}
 use Rattle.fw_ledger.specs.Stands.{StandsFor, AskedFor, Follows}
 use Rattle.fw_ledger.specs.Swaps.{account_after, moved_by, shows_argument}
 use Rattle.fw_ledger.specs.declared.tables.Tables.{Tables}

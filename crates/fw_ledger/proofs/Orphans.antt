@@ -8,10 +8,10 @@ use Rattle.std.proofs.lemmas.List.{with_items_is}
 use Rattle.fw_base.specs.Tables.{update}
 use Rattle.fw_base.proofs.Tables.{sum_to_same}
 use Rattle.fw_plug.specs.Words.{flag}
-use Rattle.fw_ledger.specs.Account.{Account, Allocation, Connections, is_free, is_open}
-use Rattle.fw_ledger.specs.Network.{is_output, is_input}
-use Rattle.fw_ledger.specs.Events.{after_death, orphaned_allocation, orphaned_connections, orphaned_owner}
-use Rattle.fw_ledger.specs.Words.{bits_word}
+use Rattle.fw_account.specs.Account.{Account, Allocation, Connections, is_free, is_open}
+use Rattle.fw_account.specs.Network.{is_output, is_input}
+use Rattle.fw_account.specs.Events.{after_death, orphaned_allocation, orphaned_connections, orphaned_owner}
+use Rattle.fw_account.specs.Words.{bits_word}
 use Rattle.fw_ledger.specs.Deaths.{orphaned_charge, orphaned_seats, orphaned_broadcaster}
 use Rattle.fw_ledger.specs.Stands.{StandsFor, ResourcesFor, SeatsFor, OutputsFor, InputsFor, AskedFor, allocation_of, owner_of, asked_at, seats_at, no_seats, place}
 use Rattle.fw_ledger.specs.declared.tables.Tables.{Tables}
@@ -22,10 +22,10 @@ use Rattle.fw_ledger.specs.declared.tables.Broadcaster.TheVariants.{Nobody, Cont
 use Rattle.fw_ledger.specs.declared.tables.Seats.{Seats}
 use Rattle.fw_ledger.specs.declared.tables.Asked.{Asked}
 use Rattle.fw_ledger.specs.declared.tables.Asked.TheVariants.{Nothing as NotAsked}
-use Rattle.fw_ledger.proofs.Deaths.{death_keeps, orphaned_total, orphaned_counter, orphaned_there}
-use Rattle.fw_ledger.proofs.Connections.{NoneBeyond}
-use Rattle.fw_ledger.proofs.Open.{same_open}
-use Rattle.fw_ledger.proofs.Network.{output_in_range}
+use Rattle.fw_account.proofs.Deaths.{death_keeps, orphaned_total, orphaned_counter, orphaned_there}
+use Rattle.fw_account.proofs.Connections.{NoneBeyond}
+use Rattle.fw_account.proofs.Open.{same_open}
+use Rattle.fw_account.proofs.Network.{output_in_range}
 use Rattle.fw_ledger.proofs.Plugs.{input_in_range, place_low}
 use Rattle.fw_ledger.proofs.Related.{related_set, update_same, update_other}
 

@@ -10,14 +10,14 @@ use Rattle.fw_words.specs.Quadlet.{field}
 use Rattle.fw_plug.specs.Words.{OutFields, InFields, FitsRegister, flag, out_word, in_word, out_fields, in_fields, is_connected, units_of}
 use Rattle.fw_plug.specs.Units.{units}
 use Rattle.fw_plug.proofs.Words.{fields_of_word, in_fields_of_word}
-use Rattle.fw_ledger.specs.Account.{Connections, counter, has_connection, is_there}
-use Rattle.fw_ledger.specs.Moves.{HasRoom, HasConnection, add_connection, drop_connection}
-use Rattle.fw_ledger.specs.Decode.{has_room}
+use Rattle.fw_account.specs.Account.{Connections, counter, has_connection, is_there}
+use Rattle.fw_account.specs.Moves.{HasRoom, HasConnection, add_connection, drop_connection}
+use Rattle.fw_account.specs.Decode.{has_room}
 use Rattle.fw_ledger.specs.Stands.{SeatsFor, owner_of}
 use Rattle.fw_ledger.specs.Swaps.{Shows, shows_room, connection_value, is_broadcast}
 use Rattle.fw_ledger.specs.declared.tables.Broadcaster.{Broadcaster}
 use Rattle.fw_ledger.specs.declared.tables.Seats.{Seats}
-use Rattle.fw_ledger.proofs.Connections.{counter_changed}
+use Rattle.fw_account.proofs.Connections.{counter_changed}
 use Rattle.fw_ledger.proofs.Related.{related_set}
 
 -- another plug keeps what it has

@@ -5,15 +5,15 @@ use Rattle.fw_entry.specs.declared.nodes.NodeRow.{NodeRow}
 use Rattle.std.proofs.Common.{◌≡◌, ◌<◌, ◌-◌, ℕ, zero, suc, Bool, true, false, nat_lt, nat_le, Option, Some, None, List, [], slice_get, slice_index, cond, if◌then◌else◌, refl, ◌∙◌, ap, arith}
 use Rattle.std.proofs.lemmas.Bool.Decides.{nat_tests}
 use Rattle.fw_entry.specs.Network.{first_id, row_of_id}
-use Rattle.fw_ledger.specs.Account.{Account, is_pending, pending_channel}
-use Rattle.fw_ledger.specs.Network.{is_output, is_input}
-use Rattle.fw_ledger.specs.Words.{OutputPlug, InputPlug, word_of}
+use Rattle.fw_account.specs.Account.{Account, is_pending, pending_channel}
+use Rattle.fw_account.specs.Network.{is_output, is_input}
+use Rattle.fw_account.specs.Words.{OutputPlug, InputPlug, word_of}
 use Rattle.fw_ledger.specs.Stands.{word_at, StandsFor, ShowsReset, place, row_at, allocation_of, charge_at}
 use Rattle.fw_ledger.specs.declared.tables.Tables.{Tables}
 use Rattle.fw_entry.specs.Network.{HasRange}
 use Rattle.std.proofs.lemmas.Bool.{false≢true}
-use Rattle.fw_ledger.specs.Network.{is_input_of}
-use Rattle.fw_ledger.proofs.Network.{output_in_range, any_place}
+use Rattle.fw_account.specs.Network.{is_input_of}
+use Rattle.fw_account.proofs.Network.{output_in_range, any_place}
 use Rattle.fw_base.specs.Tables.{find_to}
 
 -- the place of a plug on a device below 63, with a number below 31

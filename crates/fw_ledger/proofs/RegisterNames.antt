@@ -5,15 +5,15 @@ use Rattle.std.proofs.Common.{◌≡◌, ◌≤◌, ◌-◌, ◌&&◌, ℕ, Bool
 use Rattle.std.specs.Option.{option_or}
 use Rattle.std.proofs.lemmas.Bool.Decides.{nat_tests}
 use Rattle.fw_entry.specs.Network.{first_id}
-use Rattle.fw_ledger.specs.Account.{Account}
-use Rattle.fw_ledger.specs.Words.{Register, is_node, manager_register, plug_register, register_at, register_of, first_address}
+use Rattle.fw_account.specs.Account.{Account}
+use Rattle.fw_account.specs.Words.{Register, is_node, manager_register, plug_register, register_at, register_of, first_address}
 use Rattle.fw_ledger.specs.Stands.{StandsFor, ShowsReset, row_at}
 use Rattle.fw_ledger.specs.Swaps.{register_named, IsThere}
 use Rattle.fw_ledger.specs.declared.register.Register.{Register as RegisterName}
 use Rattle.fw_ledger.specs.declared.register.Register.TheVariants.{Bandwidth, HighChannels, LowChannels, Output, Input}
 use Rattle.fw_ledger.specs.declared.tables.Tables.{Tables}
-use Rattle.fw_ledger.proofs.Bounds.{register_there}
-use Rattle.fw_ledger.proofs.Network.{not_both}
+use Rattle.fw_account.proofs.Bounds.{register_there}
+use Rattle.fw_account.proofs.Network.{not_both}
 
 -- no register has an address below those of the nodes, or before the register space
 pub no_register : (latest : Option ResetEntry) (id address : ℕ) → (nat_le first_id id && nat_le first_address address) ≡ false

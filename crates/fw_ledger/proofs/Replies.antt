@@ -1,14 +1,14 @@
 -- The tables after packets with and without label 0, and after the response to a read request.
 use Rattle.std.proofs.Common.{◌≡◌, ◌≢◌, ◌==◌, ◌&&◌, ℕ, Bool, true, false, Option, Some, None, length, slice_set, Vec, Global, cond, refl, ◌∙◌, ap, arith, length-set}
 use Rattle.std.proofs.lemmas.Bool.Decides.{nat_tests}
-use Rattle.fw_ledger.specs.Account.{Account}
-use Rattle.fw_ledger.specs.Packets.{Read as ReadReply, answered, ended}
+use Rattle.fw_account.specs.Account.{Account}
+use Rattle.fw_account.specs.Packets.{Read as ReadReply, answered, ended}
 use Rattle.fw_ledger.specs.Stands.{StandsFor, AskedFor, Follows, is_read_of}
 use Rattle.fw_ledger.specs.declared.tables.Tables.{Tables}
 use Rattle.fw_ledger.specs.declared.tables.Asked.{Asked}
 use Rattle.fw_ledger.specs.declared.tables.Asked.TheVariants.{Nothing as NotAsked, Read, Swap, Lock}
 use Rattle.fw_ledger.proofs.Related.{related_set}
-use Rattle.fw_ledger.proofs.Packets.{ended_keeps}
+use Rattle.fw_account.proofs.Packets.{ended_keeps}
 
 -- a packet with another label changes nothing
 pub other_label : (t : Tables) (l : Account) (label : ℕ) (o : Option Account) → StandsFor t l → label ≢ 0 → Follows true t t (cond (label == 0) o (Some l))

@@ -1,9 +1,9 @@
 -- The tables after a request.
 use Rattle.fw_base.specs.declared.plug.PlugAt.{PlugAt}
 use Rattle.std.proofs.Common.{◌≡◌, ◌≢◌, ◌<◌, ℕ, Bool, true, false, not, Option, Some, None, length, slice_set, Vec, Global, cond, get_or-set_same, get_or-set_other, ◌⊎◌, inl, inr, is_none, is_some, refl, sym, ◌∙◌, ap, rules, IfSome, length-set}
-use Rattle.fw_ledger.specs.Account.{Account, Request, has_pending, is_pending}
-use Rattle.fw_ledger.specs.Packets.{asked, asked_by, addressed_after}
-use Rattle.fw_ledger.specs.Words.{output_addressed}
+use Rattle.fw_account.specs.Account.{Account, Request, has_pending, is_pending}
+use Rattle.fw_account.specs.Packets.{asked, asked_by, addressed_after}
+use Rattle.fw_account.specs.Words.{output_addressed}
 use Rattle.fw_ledger.specs.Stands.{StandsFor, AskedFor, Follows, plug_of, addressed_at, is_asked, device_at, allocation_of, charge_at}
 use Rattle.fw_ledger.specs.declared.tables.Tables.{Tables}
 use Rattle.fw_ledger.specs.declared.tables.Addressed.{Addressed}
@@ -17,7 +17,7 @@ use Rattle.fw_entry.specs.declared.nodes.NodeRow.{NodeRow}
 use Rattle.fw_entry.specs.Network.{device_of_id}
 use Rattle.fw_ledger.proofs.Plugs.{row_is, pending_is_found}
 use Rattle.fw_ledger.proofs.Related.{related_set, update_same, update_other}
-use Rattle.fw_ledger.proofs.Packets.{asked_keeps, device_below}
+use Rattle.fw_account.proofs.Packets.{asked_keeps, device_below}
 
 -- a request of controller c at this output plug changes what c addressed, and nothing else
 addressed_else : (c d : ℕ) (o : Option PlugAt) (l : Account) → d ≢ c → addressed_after c o l d ≡ l.addressed d

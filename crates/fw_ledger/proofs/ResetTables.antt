@@ -6,12 +6,12 @@ use Rattle.std.proofs.lemmas.Bool.Decides.{nat_tests}
 use Rattle.fw_base.proofs.Tables.{sum_to_zero}
 use Rattle.fw_plug.specs.Words.{units_of, out_word, in_word, is_connected}
 use Rattle.fw_entry.specs.Network.{IsNetwork}
-use Rattle.fw_ledger.specs.Account.{Account, Allocation, Flow, Connected as ConnectedHolder, Pending as PendingHolder, Orphaned as OrphanedHolder, talks, has_connection, counter, is_there}
-use Rattle.fw_ledger.specs.Network.{is_output, is_input, declared}
-use Rattle.fw_ledger.specs.Events.{after_reset, talker_at, no_connections}
-use Rattle.fw_ledger.specs.Words.{fields_at, input_fields_at}
-use Rattle.fw_ledger.specs.Resets.{without_connections, first_output, first_input, rate_of, talker}
-use Rattle.fw_ledger.specs.Sound.{IsSound}
+use Rattle.fw_account.specs.Account.{Account, Allocation, Flow, Connected as ConnectedHolder, Pending as PendingHolder, Orphaned as OrphanedHolder, talks, has_connection, counter, is_there}
+use Rattle.fw_account.specs.Network.{is_output, is_input, declared}
+use Rattle.fw_account.specs.Events.{after_reset, talker_at, no_connections}
+use Rattle.fw_account.specs.Words.{fields_at, input_fields_at}
+use Rattle.fw_ledger.specs.Resets.{first_high, without_connections, first_output, first_input, rate_of, talker}
+use Rattle.fw_account.specs.Sound.{IsSound}
 use Rattle.fw_ledger.specs.Renewed.{HasNewPlugs, AreEmpty}
 use Rattle.fw_ledger.specs.Stands.{StandsFor, ShowsReset, asked_at, OutputsFor, InputsFor, SeatsFor, SecondFor, flow_of, allocation_of, charge_at, reclaimable_at, continues_at, word_at, seats_at, place}
 use Rattle.fw_ledger.specs.declared.tables.Tables.{Tables}
@@ -20,11 +20,11 @@ use Rattle.fw_ledger.specs.declared.tables.Charge.TheVariants.{Free, Pending, Co
 use Rattle.fw_ledger.specs.declared.tables.Seats.{Seats}
 use Rattle.fw_ledger.specs.declared.tables.Asked.TheVariants.{Nothing as NotAsked}
 use Rattle.fw_entry.specs.declared.nodes.NodeRow.{NodeRow}
-use Rattle.fw_ledger.proofs.Events.{IsTalker, talker_at_is, talker_is_allocated, reset_reclaimable, reset_keeps}
-use Rattle.fw_ledger.proofs.Network.{output_in_range}
+use Rattle.fw_account.proofs.Events.{IsTalker, talker_at_is, talker_is_allocated, reset_reclaimable, reset_keeps}
+use Rattle.fw_account.proofs.Network.{output_in_range}
 use Rattle.fw_ledger.proofs.Plugs.{input_in_range, place_low}
 use Rattle.fw_ledger.proofs.Starts.{copy_at}
-use Rattle.fw_ledger.proofs.Open.{high_starts, low_starts}
+use Rattle.fw_account.proofs.Open.{low_starts}
 use Rattle.fw_ledger.proofs.ResetWords.{place_device, place_plug, output_disconnected, input_disconnected, output_connected}
 
 -- ---- the flows that may be allocated again
@@ -74,7 +74,7 @@ pub record IsReset (t : Tables) (r : ResetEntry) (new : Tables) : Type 0 where
   pub latest : (new.started ≡ true) × (new.manager ≡ r.manager) × (new.nodes ≡ r.nodes)
   pub reclaiming : new.reclaiming ≡ t.started
   pub withheld : new.withheld ≡ t.withheld
-  pub words : (new.left ≡ 4915) × (new.high ≡ cond t.withheld 4294967294 4294967295) × (new.low ≡ 4294967295)
+  pub words : (new.left ≡ 4915) × (new.high ≡ first_high t.withheld) × (new.low ≡ 4294967295)
   pub plugs : HasNewPlugs t r new
   pub charge_size : length new.charges.items ≡ 64
   pub charges : (ch : ℕ) → ch < 64 → charge_at new.charges.items ch ≡ Free
@@ -198,7 +198,7 @@ reset_stands t l r new h net x = record {
   withheld = x.withheld ∙ h.withheld;
   resources = record {
     left = x.words.0 ∙ sym (ap (λ m. 4915 - m) (sum_to_zero 64));
-    high = x.words.1 ∙ ap (λ b. cond {A = ℕ} b 4294967294 4294967295) h.withheld ∙ sym (high_starts l.withheld);
+    high = x.words.1 ∙ ap first_high h.withheld;
     low = x.words.2 ∙ sym (low_starts l.withheld);
     charges = λ ch lt. rw (x.charges ch lt) refl;
   };

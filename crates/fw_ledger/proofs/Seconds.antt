@@ -2,13 +2,14 @@
 use Rattle.std.proofs.Common.{◌≡◌, ◌+◌, ℕ, Bool, true, false, Option, Some, None, is_some, cond, refl, sym, ap, subst, ◌∙◌}
 use Rattle.std.proofs.lemmas.Bool.{false≢true}
 use Rattle.fw_entry.specs.declared.entry.ResetEntry.{ResetEntry}
-use Rattle.fw_ledger.specs.Account.{Account, is_free, is_open}
-use Rattle.fw_ledger.specs.Events.{after_second, after_withholding}
-use Rattle.fw_ledger.specs.Words.{bits_word}
+use Rattle.fw_account.specs.Account.{Account, is_free, is_open}
+use Rattle.fw_account.specs.Events.{after_second, after_withholding}
+use Rattle.fw_account.specs.Words.{bits_word}
+use Rattle.fw_ledger.specs.Resets.{first_high}
 use Rattle.fw_ledger.specs.Stands.{StandsFor, Follows, ShowsReset}
 use Rattle.fw_ledger.specs.declared.tables.Tables.{Tables}
-use Rattle.fw_ledger.proofs.Events.{second_ends, withholding_keeps}
-use Rattle.fw_ledger.proofs.Open.{same_open, high_starts, low_starts}
+use Rattle.fw_account.proofs.Events.{second_ends, withholding_keeps}
+use Rattle.fw_account.proofs.Open.{same_open, low_starts}
 use Rattle.fw_ledger.proofs.Orphans.{bits_same}
 
 second_stands : (t : Tables) (l : Account) → StandsFor t l → StandsFor (record t { reclaiming = false }) (after_second l)
@@ -50,7 +51,7 @@ none_open : (withheld : Bool) (l : Account) (base : ℕ) → ((ch : ℕ) → l.a
     → bits_word (λ i. is_open withheld l.allocations (base + i)) ≡ bits_word (λ i. is_open withheld (λ ch. None) (base + i))
 none_open withheld l base none = bits_same _ _ (λ i. same_open withheld l.allocations (λ ch. None) (base + i) (ap is_free (none (base + i))))
 
-withholding_stands : (t : Tables) (l : Account) (word : ℕ) → StandsFor t l → l.latest ≡ None → word ≡ 4294967294
+withholding_stands : (t : Tables) (l : Account) (word : ℕ) → StandsFor t l → l.latest ≡ None → word ≡ first_high true
     → StandsFor (record t { withheld = true; high = word }) (after_withholding l)
 withholding_stands t l word h first e = let none = (h.sound.begins first).allocations in record {
   sizes = record {
@@ -69,7 +70,7 @@ withholding_stands t l word h first e = let none = (h.sound.begins first).alloca
   withheld = refl;
   resources = record {
     left = h.resources.left;
-    high = e ∙ sym (high_starts true) ∙ sym (none_open true l 0 none);
+    high = e ∙ sym (none_open true l 0 none);
     low = h.resources.low ∙ none_open l.withheld l 32 none ∙ low_starts l.withheld ∙ sym (low_starts true) ∙ sym (none_open true l 32 none);
     charges = h.resources.charges;
   };
@@ -81,7 +82,7 @@ withholding_stands t l word h first e = let none = (h.sound.begins first).alloca
 }
 
 -- no reset entry came yet
-pub withholding_follows : (t : Tables) (l : Account) (word : ℕ) → StandsFor t l → t.started ≡ false → word ≡ 4294967294
+pub withholding_follows : (t : Tables) (l : Account) (word : ℕ) → StandsFor t l → t.started ≡ false → word ≡ first_high true
     → Follows true t (record t { withheld = true; high = word }) (cond (is_some l.latest) None (Some (after_withholding l)))
 withholding_follows t l word h first e = go l.latest refl
   where

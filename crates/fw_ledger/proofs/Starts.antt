@@ -4,15 +4,16 @@ use Rattle.std.proofs.lemmas.List.{length-replicate}
 use Rattle.std.proofs.lemmas.Bool.{false≢true}
 use Rattle.std.proofs.lemmas.Bool.Decides.{nat_tests}
 use Rattle.fw_base.proofs.Tables.{sum_to_zero}
-use Rattle.fw_ledger.specs.Fold.{no_account}
+use Rattle.fw_account.specs.Fold.{no_account}
+use Rattle.fw_ledger.specs.Resets.{first_high}
 use Rattle.fw_ledger.specs.Stands.{StandsFor, no_seats}
 use Rattle.fw_ledger.specs.declared.tables.Tables.{Tables}
 use Rattle.fw_ledger.specs.declared.tables.Charge.TheVariants.{Free}
 use Rattle.fw_ledger.specs.declared.tables.Reclaimable.TheVariants.{Nothing as NoFlow}
 use Rattle.fw_ledger.specs.declared.tables.Addressed.TheVariants.{Nowhere}
 use Rattle.fw_ledger.specs.declared.tables.Asked.TheVariants.{Nothing as NotAsked}
-use Rattle.fw_ledger.proofs.Fold.{starts_sound}
-use Rattle.fw_ledger.proofs.Open.{high_starts, low_starts}
+use Rattle.fw_account.proofs.Fold.{starts_sound}
+use Rattle.fw_account.proofs.Open.{low_starts}
 
 -- each place of the copies has the value
 pub copy_at : {A : Type 0} (n i : ℕ) (v : A) → get_or (replicate n v) i v ≡ v
@@ -28,7 +29,7 @@ pub record IsNew (t : Tables) : Type 0 where
   pub reclaiming : t.reclaiming ≡ false
   pub withheld : t.withheld ≡ false
   pub left : t.left ≡ 4915
-  pub high : t.high ≡ 4294967295
+  pub high : t.high ≡ first_high false
   pub low : t.low ≡ 4294967295
   pub charges : t.charges.items ≡ replicate 64 Free
   pub reclaimable : t.reclaimable.items ≡ replicate 64 NoFlow
@@ -72,7 +73,7 @@ starts_stand t n = record {
   withheld = n.withheld;
   resources = record {
     left = n.left ∙ sym (ap (λ m. 4915 - m) (sum_to_zero 64));
-    high = n.high ∙ sym (high_starts false);
+    high = n.high;
     low = n.low ∙ sym (low_starts false);
     charges = λ ch lt. rw (n.charges, copy_at 64 ch Free) refl;
   };

@@ -5,19 +5,19 @@ use Rattle.std.proofs.lemmas.Bool.{cases_eq}
 use Rattle.std.proofs.lemmas.Bool.Decides.{nat_tests}
 use Rattle.fw_base.specs.Tables.{update, same_plug}
 use Rattle.fw_base.proofs.Tables.{same_plug-true, same_plug_self}
-use Rattle.fw_ledger.specs.Account.{Account, Allocation, is_free, is_open, total}
-use Rattle.fw_ledger.specs.Moves.{Move, after}
-use Rattle.fw_ledger.specs.Words.{Register, word_of}
-use Rattle.fw_ledger.specs.Decode.{IsMove, can, allowed, decoded, move_at, register_of_move, same_register}
-use Rattle.fw_ledger.specs.Sound.{IsSound}
+use Rattle.fw_account.specs.Account.{Account, Allocation, is_free, is_open, total}
+use Rattle.fw_account.specs.Moves.{Move, after}
+use Rattle.fw_account.specs.Words.{Register, word_of}
+use Rattle.fw_account.specs.Decode.{IsMove, can, allowed, decoded, move_at, register_of_move, same_register}
+use Rattle.fw_account.specs.Sound.{IsSound}
 use Rattle.fw_ledger.specs.Stands.{StandsFor, Follows, ResourcesFor, allocation_of, place}
 use Rattle.fw_ledger.specs.Swaps.{moved_by}
 use Rattle.fw_ledger.specs.declared.tables.Charge.{Charge}
 use Rattle.fw_ledger.specs.declared.tables.Charge.TheVariants.{Free}
 use Rattle.fw_ledger.specs.declared.tables.Tables.{Tables}
-use Rattle.fw_ledger.proofs.Tests.{can_from}
-use Rattle.fw_ledger.proofs.Decoded.{allowed_is, same_register_self}
-use Rattle.fw_ledger.proofs.Open.{same_open}
+use Rattle.fw_account.proofs.Tests.{can_from}
+use Rattle.fw_account.proofs.Decoded.{allowed_is, same_register_self}
+use Rattle.fw_account.proofs.Open.{same_open}
 use Rattle.fw_ledger.proofs.Orphans.{bits_same}
 use Rattle.fw_ledger.proofs.Related.{related_set, update_same, update_other}
 use Rattle.fw_ledger.proofs.ResetWords.{place_device, place_plug}

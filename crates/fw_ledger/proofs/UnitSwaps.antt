@@ -3,21 +3,21 @@ use Rattle.std.proofs.Common.{◌≡◌, ◌≢◌, ◌<◌, ◌≤◌, ◌-◌,
 use Rattle.std.proofs.lemmas.Bool.Decides.{nat_tests}
 use Rattle.fw_base.specs.Tables.{find_to}
 use Rattle.fw_base.proofs.Tables.{find_to_is, IsFirst}
-use Rattle.fw_ledger.specs.Account.{Pending, Account, allocated, is_pending}
-use Rattle.fw_ledger.specs.Moves.{AllocateUnits, ReleaseUnits, with_allocation}
-use Rattle.fw_ledger.specs.Words.{BandwidthAvailable, word_of}
-use Rattle.fw_ledger.specs.Decode.{IsMove, is_flow, decoded, units_move, allowed, move_at}
-use Rattle.fw_ledger.specs.Sound.{IsSound}
+use Rattle.fw_account.specs.Account.{Pending, Account, allocated, is_pending}
+use Rattle.fw_account.specs.Moves.{AllocateUnits, ReleaseUnits, with_allocation}
+use Rattle.fw_account.specs.Words.{BandwidthAvailable, word_of}
+use Rattle.fw_account.specs.Decode.{IsMove, is_flow, decoded, units_move, allowed, move_at}
+use Rattle.fw_account.specs.Sound.{IsSound}
 use Rattle.fw_ledger.specs.Stands.{StandsFor, Follows, allocation_of, charge_at}
 use Rattle.fw_ledger.specs.Swaps.{IsHeld, held_of, moved_by}
 use Rattle.fw_ledger.specs.declared.held.Held.{Held}
 use Rattle.fw_ledger.specs.declared.tables.Charge.{Charge}
 use Rattle.fw_ledger.specs.declared.tables.Charge.TheVariants.{Free, Pending as PendingCharge, Connected, Orphaned}
 use Rattle.fw_ledger.specs.declared.tables.Tables.{Tables}
-use Rattle.fw_ledger.proofs.Allocations.{total_changed}
-use Rattle.fw_ledger.proofs.Decode.{pending_is}
-use Rattle.fw_ledger.proofs.Moves.{moves_keep}
-use Rattle.fw_ledger.proofs.Tests.{is_flow-true, is_flow_self, either}
+use Rattle.fw_account.proofs.Allocations.{total_changed}
+use Rattle.fw_account.proofs.Decode.{pending_is}
+use Rattle.fw_account.proofs.Moves.{moves_keep}
+use Rattle.fw_account.proofs.Tests.{is_flow-true, is_flow_self, either}
 use Rattle.fw_ledger.proofs.Swapping.{swap_taken, swap_refused, swap_decoded, charge_set}
 
 -- ---- what a controller holds

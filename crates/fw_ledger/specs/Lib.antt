@@ -1,15 +1,3 @@
-pub mod Account
-pub mod Network
-pub mod Moves
-pub mod Events
-pub mod Words
-pub mod Decode
-pub mod Packets
-pub mod Fold
-pub mod Refused
-pub mod Sound
-pub mod Listing
-pub mod Example
 pub mod Stands
 pub mod Deaths
 pub mod Resets

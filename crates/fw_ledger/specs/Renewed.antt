@@ -3,7 +3,7 @@ use Rattle.fw_base.specs.declared.plug.PlugAt.{PlugAt}
 use Rattle.fw_entry.specs.declared.entry.ResetEntry.{ResetEntry}
 use Rattle.std.specs.Prelude.{◌≡◌, ◌<◌, ◌/◌, ◌%◌, ℕ, nat_lt, false, List, length, slice_index, slice_index_or}
 use Rattle.std.specs.List.{list_any}
-use Rattle.fw_ledger.specs.Network.{is_output_of, is_input_of}
+use Rattle.fw_account.specs.Network.{is_output_of, is_input_of}
 use Rattle.fw_ledger.specs.Resets.{renewed_output, renewed_input, goes_on}
 use Rattle.fw_ledger.specs.Stands.{no_seats}
 use Rattle.fw_ledger.specs.declared.tables.Seats.{Seats}

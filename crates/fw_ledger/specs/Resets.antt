@@ -1,23 +1,30 @@
 -- What a bus reset does to the places of the tables.
 use Rattle.fw_entry.specs.declared.nodes.NodeRow.{NodeRow}
 use Rattle.fw_phy.specs.declared.packet.PhyPacket.{PhyPacket}
-use Rattle.std.specs.Prelude.{ℕ, ◌+◌, ◌^◌, nat_lt, Bool, false, ◌&&◌, ◌||◌, List, slice_index, if◌then◌else◌}
+use Rattle.std.specs.Prelude.{ℕ, ◌+◌, ◌^◌, nat_lt, Bool, false, ◌&&◌, ◌||◌, None, List, slice_index, if◌then◌else◌}
 use Rattle.fw_words.specs.Quadlet.{field}
 use Rattle.fw_plug.specs.Words.{is_connected, out_word, in_word}
 use Rattle.fw_entry.specs.Network.{speed_of, node_of_device}
+use Rattle.fw_account.specs.Account.{is_open}
+use Rattle.fw_account.specs.Words.{bits_word}
 use Rattle.fw_ledger.specs.declared.tables.Charge.{Charge}
 use Rattle.fw_ledger.specs.declared.tables.Charge.TheVariants.{Free, Pending, Connected, Orphaned}
 use Rattle.fw_ledger.specs.declared.tables.Reclaimable.{Reclaimable}
 use Rattle.fw_ledger.specs.declared.tables.Reclaimable.TheVariants.{Nothing, Flow}
 
+-- CHANNELS_AVAILABLE_HI where nothing is allocated
+abbrev pub first_high : Bool → ℕ
+first_high withheld = bits_word (λ i. is_open withheld (λ ch. None) (0 + i))
+
 -- a plug's word without its connections
 abbrev pub without_connections : ℕ → ℕ
 without_connections word = 2 ^ 31 + field word 8 31
 
--- the word of a new output plug, and of a new input plug
+-- the word of a new output plug of a device with this speed
 abbrev pub first_output : ℕ → ℕ
 first_output rate = out_word (record { broadcast = false; counter = 0; settings = record { channel = 63; rate = rate; overhead = 0 } })
 
+-- the word of a new input plug
 abbrev pub first_input : ℕ
 first_input = in_word (record { broadcast = false; counter = 0; channel = 63 })
 
@@ -30,6 +37,7 @@ abbrev pub renewed_output : List ℕ → List ℕ → List NodeRow → List PhyP
 renewed_output before now nodes ids d n word =
     if nat_lt n (slice_index before d) then without_connections word else if nat_lt n (slice_index now d) then first_output (rate_of nodes ids d) else word
 
+-- the word of input plug n of device d, where the devices had these numbers of plugs
 abbrev pub renewed_input : List ℕ → ℕ → ℕ → ℕ → ℕ
 renewed_input before d n word = if nat_lt n (slice_index before d) then without_connections word else first_input
 

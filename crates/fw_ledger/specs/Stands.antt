@@ -2,15 +2,16 @@
 use Rattle.fw_base.specs.declared.plug.PlugAt.{PlugAt}
 use Rattle.fw_entry.specs.declared.entry.ResetEntry.{ResetEntry}
 use Rattle.fw_entry.specs.declared.nodes.NodeRow.{NodeRow}
-use Rattle.std.specs.Prelude.{◌≡◌, ◌<◌, ℕ, ◌+◌, ◌-◌, ◌*◌, ◌==◌, nat_lt, nat_le, slice_get, Bool, true, false, ◌&&◌, Option, Some, None, List, [], length, replicate, slice_index, slice_index_or, if◌then◌else◌, IsTrue}
+use Rattle.std.specs.Prelude.{◌≡◌, ◌<◌, ℕ, ◌+◌, ◌-◌, ◌*◌, ◌==◌, nat_lt, nat_le, slice_get, Bool, true, false, Option, Some, None, List, [], length, replicate, slice_index, slice_index_or, if◌then◌else◌, IsTrue}
 use Rattle.fw_entry.specs.Network.{first_id}
 use Rattle.std.specs.Option.{option_map}
 use Rattle.fw_words.specs.Quadlet.{quadlet_at}
 use Rattle.fw_plug.specs.Words.{Settings, out_word, in_word}
-use Rattle.fw_ledger.specs.Account.{Pending, Connected, Orphaned, Allocation, Owner, Of, Dead, Connections, Flow, Reads, Locks, Request, Account, total, is_open, is_there, counter}
-use Rattle.fw_ledger.specs.Network.{is_output, is_input}
-use Rattle.fw_ledger.specs.Words.{bits_word}
-use Rattle.fw_ledger.specs.Sound.{IsSound}
+use Rattle.fw_account.specs.Account.{Pending, Connected, Orphaned, Allocation, Owner, Of, Dead, Connections, Flow, Reads, Locks, Request, Account, total, is_open, is_there, counter}
+use Rattle.fw_account.specs.Network.{is_output, is_input}
+use Rattle.fw_account.specs.Packets.{is_quadlet_swap}
+use Rattle.fw_account.specs.Words.{bits_word}
+use Rattle.fw_account.specs.Sound.{IsSound}
 use Rattle.fw_ledger.specs.declared.tables.Charge.{Charge}
 use Rattle.fw_ledger.specs.declared.tables.Charge.TheVariants.{Free, Pending as PendingCharge, Connected as ConnectedCharge, Orphaned as OrphanedCharge}
 use Rattle.fw_ledger.specs.declared.tables.Reclaimable.{Reclaimable}
@@ -49,10 +50,6 @@ owner_of Nobody = None
 owner_of (Controller c) = Some (Of c)
 owner_of Died = Some Dead
 
--- a quadlet compare_swap: two quadlets
-abbrev pub is_quadlet_swap : ℕ → List ℕ → Bool
-is_quadlet_swap function bytes = (function == 2) && (length bytes == 8)
-
 -- the request
 abbrev pub AskedFor : Asked → Option Request → Type 0
 AskedFor NotAsked o = o ≡ None
@@ -88,27 +85,35 @@ pub record SeatsFor (t : Seats) (s : Connections) : Type 0 where
 abbrev pub place : PlugAt → ℕ
 place p = p.device * 31 + p.plug
 
+-- no connections: no counts, and nobody has the broadcast connection
 abbrev pub no_seats : Seats
 no_seats = record { counts = replicate 63 0; broadcaster = Nobody }
 
+-- the charge of a channel
 abbrev pub charge_at : List Charge → ℕ → Charge
 charge_at charges ch = slice_index_or charges ch Free
 
+-- the flow of a channel that may be allocated again
 abbrev pub reclaimable_at : List Reclaimable → ℕ → Reclaimable
 reclaimable_at flows ch = slice_index_or flows ch NoFlow
 
+-- what a controller addressed last
 abbrev pub addressed_at : List Addressed → ℕ → Addressed
 addressed_at addressed c = slice_index_or addressed c Nowhere
 
+-- the request of a controller
 abbrev pub asked_at : List Asked → ℕ → Asked
 asked_at asked c = slice_index_or asked c NotAsked
 
+-- whose the connections of a plug are
 abbrev pub seats_at : List Seats → PlugAt → Seats
 seats_at seats p = slice_index_or seats (place p) no_seats
 
+-- the word of a plug
 abbrev pub word_at : List ℕ → PlugAt → ℕ
 word_at words p = slice_index words (place p)
 
+-- whether an output plug goes on talking
 abbrev pub continues_at : List Bool → PlugAt → Bool
 continues_at continues p = slice_index_or continues (place p) false
 

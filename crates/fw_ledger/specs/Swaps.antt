@@ -5,9 +5,9 @@ use Rattle.fw_base.specs.declared.plug.PlugAt.{PlugAt}
 use Rattle.fw_words.specs.Quadlet.{field, quadlet_at}
 use Rattle.fw_plug.specs.Words.{OutFields, Settings, is_connected}
 use Rattle.std.specs.Prelude.{◌≡◌, ◌<◌, ◌⊎◌, ◌+◌, ◌-◌, ◌*◌, ℕ, ◌==◌, nat_lt, Bool, true, false, not, ◌&&◌, ◌||◌, IsTrue, List, length, slice_index, if◌then◌else◌, Option, Some, None}
-use Rattle.fw_ledger.specs.Account.{Pending, Allocation, Connections, Account, is_there, is_pending_of, counter, pending_channel}
-use Rattle.fw_ledger.specs.Moves.{Move, after}
-use Rattle.fw_ledger.specs.Words.{Register, BandwidthAvailable, ChannelsAvailable, OutputPlug, InputPlug}
+use Rattle.fw_account.specs.Account.{Pending, Allocation, Connections, Account, is_there, is_pending_of, counter, pending_channel}
+use Rattle.fw_account.specs.Moves.{Move, after}
+use Rattle.fw_account.specs.Words.{Register, BandwidthAvailable, ChannelsAvailable, OutputPlug, InputPlug}
 use Rattle.fw_ledger.specs.declared.register.Register.{Register as RegisterName}
 use Rattle.fw_ledger.specs.declared.register.Register.TheVariants.{Bandwidth, HighChannels, LowChannels, Output, Input}
 use Rattle.fw_ledger.specs.declared.held.Held.{Held}
@@ -56,9 +56,11 @@ holds_no_units c (Some x) = is_pending_of c x.holder && (x.units == 0)
 abbrev pub IsHalf : ℕ → Type 0
 IsHalf base = (base ≡ 0) ⊎ (base ≡ 32)
 
+-- the word of that half
 abbrev pub half_of : ℕ → Tables → ℕ
 half_of base t = if base == 0 then t.high else t.low
 
+-- the tables with another word of it
 abbrev pub with_half : ℕ → ℕ → Tables → Tables
 with_half base word t = record t { high = (if base == 0 then word else t.high); low = (if base == 0 then t.low else word) }
 
@@ -79,11 +81,12 @@ pub record Shows (word : ℕ) (s : Connections) : Type 0 where
   pub broadcast : (field word 1 1 == 1) ≡ is_there s.broadcast
   pub counter : field word 2 7 ≡ counter s
 
--- the fields of an output plug, and of an input plug, with one connection of the kind and no other
+-- whether it is the broadcast connection
 abbrev pub is_broadcast : ConnectionKind → Bool
 is_broadcast PointToPoint = false
 is_broadcast Broadcast = true
 
+-- the fields of an output plug with one connection of the kind and no other
 abbrev pub connected_once : ConnectionKind → Settings → OutFields
 connected_once kind k = record { broadcast = is_broadcast kind; counter = (if is_broadcast kind then 0 else 1); settings = k }
 

@@ -1,10 +1,10 @@
 //! Swaps of CHANNELS_AVAILABLE.
 
 ghost use Rattle.std.specs.Prelude.{◌≡◌, ◌<◌, ◌+◌, ◌-◌, ◌^◌, ◌==◌, IfSome, Some};
-ghost use Rattle.fw_ledger.specs.Account.{Account, is_withheld};
-ghost use Rattle.fw_ledger.specs.Moves.{AllocateChannel, ReleaseChannel};
-ghost use Rattle.fw_ledger.specs.Words.{ChannelsAvailable};
-ghost use Rattle.fw_ledger.specs.Decode.{can, changed_bit, at_addressed, held_for, allowed, move_at};
+ghost use Rattle.fw_account.specs.Account.{Account, is_withheld};
+ghost use Rattle.fw_account.specs.Moves.{AllocateChannel, ReleaseChannel};
+ghost use Rattle.fw_account.specs.Words.{ChannelsAvailable};
+ghost use Rattle.fw_account.specs.Decode.{can, changed_bit, at_addressed, held_for, allowed, move_at};
 ghost use Rattle.fw_ledger.specs.Stands.{Stands, StandsFor, Follows};
 ghost use Rattle.fw_ledger.specs.Swaps.{IsHalf, half_of, with_half, moved_by};
 

@@ -2,9 +2,9 @@
 
 ghost use Rattle.std.specs.Prelude.{◌≡◌, ◌<◌, ◌≤◌, length, slice_index};
 ghost use Rattle.fw_plug.specs.Words.{out_fields, out_word};
-ghost use Rattle.fw_ledger.specs.Account.{Connections};
-ghost use Rattle.fw_ledger.specs.Moves.{add_connection, drop_connection};
-ghost use Rattle.fw_ledger.specs.Decode.{is_more, kind_of, is_owner, has_connection_of};
+ghost use Rattle.fw_account.specs.Account.{Connections};
+ghost use Rattle.fw_account.specs.Moves.{add_connection, drop_connection};
+ghost use Rattle.fw_account.specs.Decode.{is_more, kind_of, is_owner, has_connection_of};
 ghost use Rattle.fw_ledger.specs.Stands.{SeatsFor, owner_of, place, seats_at};
 ghost use Rattle.fw_ledger.specs.Swaps.{connection_value, connected_once, shows_room};
 

@@ -4,7 +4,7 @@ ghost use Rattle.std.specs.Prelude.{◌≡◌, ◌<◌, ◌≤◌, ℕ, length, 
 ghost use Rattle.std.specs.List.{list_any, All};
 ghost use Rattle.fw_base.specs.declared.plug.PlugAt.{PlugAt};
 ghost use Rattle.fw_entry.specs.Log.{RowFits};
-ghost use Rattle.fw_ledger.specs.Network.{is_output_of, is_input_of};
+ghost use Rattle.fw_account.specs.Network.{is_output_of, is_input_of};
 ghost use Rattle.fw_ledger.specs.Resets.{talker};
 ghost use Rattle.fw_ledger.specs.Stands.{charge_at, reclaimable_at, asked_at, no_seats};
 

@@ -2,9 +2,9 @@
 
 ghost use Rattle.std.specs.Prelude.{◌≡◌};
 ghost use Rattle.fw_entry.specs.Log.{Fits};
-ghost use Rattle.fw_ledger.specs.Account.{Account};
-ghost use Rattle.fw_ledger.specs.Fold.{after_event, next_account};
-ghost use Rattle.fw_ledger.specs.Packets.{after_packet};
+ghost use Rattle.fw_account.specs.Account.{Account};
+ghost use Rattle.fw_account.specs.Fold.{after_event, next_account};
+ghost use Rattle.fw_account.specs.Packets.{after_packet};
 ghost use Rattle.fw_ledger.specs.Stands.{Stands, StandsFor, Follows};
 
 use crate::tables::Tables;

@@ -2,8 +2,8 @@
 
 ghost use Rattle.std.specs.Prelude.{◌≡◌, ◌<◌, Some, None, is_some, length, map, if◌then◌else◌};
 ghost use Rattle.fw_base.specs.Tables.{update};
-ghost use Rattle.fw_ledger.specs.Account.{Account};
-ghost use Rattle.fw_ledger.specs.Events.{after_second, after_death, after_withholding};
+ghost use Rattle.fw_account.specs.Account.{Account};
+ghost use Rattle.fw_account.specs.Events.{after_second, after_death, after_withholding};
 ghost use Rattle.fw_ledger.specs.Stands.{Stands, StandsFor, Follows};
 ghost use Rattle.fw_ledger.specs.Deaths.{orphaned_charge, orphaned_seats};
 

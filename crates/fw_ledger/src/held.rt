@@ -2,8 +2,8 @@
 
 ghost use Rattle.std.specs.Prelude.{◌≡◌, ◌<◌, ◌||◌, not, length};
 ghost use Rattle.fw_base.specs.Tables.{same_plug};
-ghost use Rattle.fw_ledger.specs.Account.{Account, is_free};
-ghost use Rattle.fw_ledger.specs.Decode.{is_flow, is_flow_of, is_held};
+ghost use Rattle.fw_account.specs.Account.{Account, is_free};
+ghost use Rattle.fw_account.specs.Decode.{is_flow, is_flow_of, is_held};
 ghost use Rattle.fw_ledger.specs.Stands.{Stands, StandsFor, allocation_of, flow_of, charge_at, reclaimable_at};
 ghost use Rattle.fw_ledger.specs.Swaps.{IsHeld, held_of, holds_no_units};
 

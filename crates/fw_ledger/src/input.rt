@@ -3,10 +3,10 @@
 ghost use Rattle.std.specs.Prelude.{◌≡◌, ◌<◌, nat_lt, slice_index, Some, IsTrue};
 ghost use Rattle.std.specs.Vec.{with_item};
 ghost use Rattle.fw_plug.specs.Words.{in_fields};
-ghost use Rattle.fw_ledger.specs.Account.{Account};
-ghost use Rattle.fw_ledger.specs.Moves.{ConnectInput, DisconnectInput};
-ghost use Rattle.fw_ledger.specs.Words.{InputPlug};
-ghost use Rattle.fw_ledger.specs.Decode.{allowed, move_at};
+ghost use Rattle.fw_account.specs.Account.{Account};
+ghost use Rattle.fw_account.specs.Moves.{ConnectInput, DisconnectInput};
+ghost use Rattle.fw_account.specs.Words.{InputPlug};
+ghost use Rattle.fw_account.specs.Decode.{allowed, move_at};
 ghost use Rattle.fw_ledger.specs.Stands.{Stands, StandsFor, Follows, place, word_at};
 ghost use Rattle.fw_ledger.specs.Swaps.{moved_by, with_channel, keeps_channel};
 

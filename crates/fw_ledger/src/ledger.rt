@@ -2,10 +2,10 @@ ghost use Rattle.std.specs.Prelude.{◌≡◌, ◌+◌, ◌-◌, ◌*◌, ◌/�
 ghost use Rattle.std.specs.Option.{option_map};
 ghost use Rattle.fw_entry.specs.Log.{Fits};
 ghost use Rattle.fw_entry.specs.Network.{device_of_id};
-ghost use Rattle.fw_ledger.specs.Account.{Account, is_open};
-ghost use Rattle.fw_ledger.specs.Fold.{no_account, next_account};
-ghost use Rattle.fw_ledger.specs.Network.{is_output, is_input};
-ghost use Rattle.fw_ledger.specs.Words.{BandwidthAvailable, ChannelsAvailable, OutputPlug, InputPlug, word_of, register_of, id_in};
+ghost use Rattle.fw_account.specs.Account.{Account, is_open};
+ghost use Rattle.fw_account.specs.Fold.{no_account, next_account};
+ghost use Rattle.fw_account.specs.Network.{is_output, is_input};
+ghost use Rattle.fw_account.specs.Words.{BandwidthAvailable, ChannelsAvailable, OutputPlug, InputPlug, word_of, register_of, id_in};
 ghost use Rattle.fw_ledger.specs.Stands.{StandsFor, AskedFor, Follows};
 
 use crate::renew::id_of_device;

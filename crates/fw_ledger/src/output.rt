@@ -3,10 +3,10 @@
 ghost use Rattle.std.specs.Prelude.{◌≡◌, ◌<◌, ◌&&◌, not, nat_lt, slice_index, Some, IsTrue, IsFalse};
 ghost use Rattle.std.specs.Vec.{with_item};
 ghost use Rattle.fw_plug.specs.Words.{out_fields, is_connected};
-ghost use Rattle.fw_ledger.specs.Account.{Account, has_pending};
-ghost use Rattle.fw_ledger.specs.Moves.{ConnectFirst, ConnectOverlaid, DisconnectOutput};
-ghost use Rattle.fw_ledger.specs.Words.{OutputPlug};
-ghost use Rattle.fw_ledger.specs.Decode.{is_plug, allowed, move_at};
+ghost use Rattle.fw_account.specs.Account.{Account, has_pending};
+ghost use Rattle.fw_account.specs.Moves.{ConnectFirst, ConnectOverlaid, DisconnectOutput};
+ghost use Rattle.fw_account.specs.Words.{OutputPlug};
+ghost use Rattle.fw_account.specs.Decode.{is_plug, allowed, move_at};
 ghost use Rattle.fw_ledger.specs.Stands.{Stands, StandsFor, Follows, plug_of, place, word_at};
 ghost use Rattle.fw_ledger.specs.Swaps.{moved_by};
 

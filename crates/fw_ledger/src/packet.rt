@@ -1,8 +1,8 @@
 //! Packets.
 
 ghost use Rattle.std.specs.Prelude.{◌≡◌, Some};
-ghost use Rattle.fw_ledger.specs.Account.{Account, Reads, Locks};
-ghost use Rattle.fw_ledger.specs.Packets.{Read, after_request, after_reply, answered};
+ghost use Rattle.fw_account.specs.Account.{Account, Reads, Locks};
+ghost use Rattle.fw_account.specs.Packets.{Read, after_request, after_reply, answered};
 ghost use Rattle.fw_entry.specs.Network.{device_of_id};
 ghost use Rattle.fw_ledger.specs.Stands.{Stands, StandsFor, AskedFor, Follows, is_read_of};
 

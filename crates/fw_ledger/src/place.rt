@@ -4,8 +4,8 @@ ghost use Rattle.std.specs.Prelude.{◌≡◌, ◌<◌, ◌≤◌, ◌+◌, ◌-
 ghost use Rattle.std.specs.Option.{option_map};
 ghost use Rattle.fw_base.specs.Tables.{find_to};
 ghost use Rattle.fw_entry.specs.Network.{first_id};
-ghost use Rattle.fw_ledger.specs.Account.{is_pending};
-ghost use Rattle.fw_ledger.specs.Words.{plug_number, output_of, first_address};
+ghost use Rattle.fw_account.specs.Account.{is_pending};
+ghost use Rattle.fw_account.specs.Words.{plug_number, output_of, first_address};
 ghost use Rattle.fw_ledger.specs.Stands.{allocation_of, charge_at, place, word_at, row_at};
 
 use crate::tables::Charge;

@@ -3,9 +3,9 @@
 ghost use Rattle.std.specs.Prelude.{◌≡◌, ◌<◌, IfSome, Some, None, is_some, length, if◌then◌else◌};
 ghost use Rattle.std.specs.Option.{option_map};
 ghost use Rattle.fw_entry.specs.Network.{device_of_id};
-ghost use Rattle.fw_ledger.specs.Account.{Account, has_pending};
-ghost use Rattle.fw_ledger.specs.Network.{is_output, is_input};
-ghost use Rattle.fw_ledger.specs.Words.{OutputPlug, InputPlug, word_of};
+ghost use Rattle.fw_account.specs.Account.{Account, has_pending};
+ghost use Rattle.fw_account.specs.Network.{is_output, is_input};
+ghost use Rattle.fw_account.specs.Words.{OutputPlug, InputPlug, word_of};
 ghost use Rattle.fw_ledger.specs.Stands.{Stands, StandsFor, AskedFor, plug_of, is_asked, addressed_at, asked_at, device_at};
 
 use crate::place::{has_plug, pending_channel, row_at, word_at};

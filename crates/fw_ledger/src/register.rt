@@ -2,8 +2,8 @@
 
 ghost use Rattle.std.specs.Prelude.{◌≡◌, IfSome, if◌then◌else◌, None};
 ghost use Rattle.std.specs.Option.{option_map};
-ghost use Rattle.fw_ledger.specs.Account.{Account};
-ghost use Rattle.fw_ledger.specs.Words.{is_node, manager_register, plug_number, first_output, first_input, output_register, input_register, plug_register, register_of, word_of};
+ghost use Rattle.fw_account.specs.Account.{Account};
+ghost use Rattle.fw_account.specs.Words.{is_node, manager_register, plug_number, first_output, first_input, output_register, input_register, plug_register, register_of, word_of};
 ghost use Rattle.fw_ledger.specs.Stands.{Stands, StandsFor};
 ghost use Rattle.fw_ledger.specs.Swaps.{IsThere, register_named};
 

@@ -2,9 +2,9 @@
 
 ghost use Rattle.std.specs.Prelude.{◌≡◌, ◌<◌, Some};
 ghost use Rattle.fw_entry.specs.Network.{device_of_id};
-ghost use Rattle.fw_ledger.specs.Account.{Account, Operation};
-ghost use Rattle.fw_ledger.specs.Packets.{asked_by, addressed_after};
-ghost use Rattle.fw_ledger.specs.Words.{output_of, output_addressed, first_address};
+ghost use Rattle.fw_account.specs.Account.{Account, Operation};
+ghost use Rattle.fw_account.specs.Packets.{asked_by, addressed_after};
+ghost use Rattle.fw_account.specs.Words.{output_of, output_addressed, first_address};
 ghost use Rattle.fw_ledger.specs.Stands.{Stands, StandsFor, AskedFor, Follows, plug_of};
 
 use crate::place::{plug_number, row_at};

@@ -1,8 +1,8 @@
 //! Bus resets.
 
 ghost use Rattle.fw_entry.specs.Log.{ResetFits};
-ghost use Rattle.fw_ledger.specs.Account.{Account};
-ghost use Rattle.fw_ledger.specs.Events.{after_reset};
+ghost use Rattle.fw_account.specs.Account.{Account};
+ghost use Rattle.fw_account.specs.Events.{after_reset};
 ghost use Rattle.fw_ledger.specs.Stands.{Stands, StandsFor};
 
 use crate::counts::{disconnect, forget, free, ins_of, outs_of, renew_flows, same_nodes};

@@ -2,10 +2,10 @@
 
 ghost use Rattle.std.specs.Prelude.{◌≡◌, ◌<◌};
 ghost use Rattle.fw_entry.specs.Network.{device_of_id};
-ghost use Rattle.fw_ledger.specs.Account.{Account};
-ghost use Rattle.fw_ledger.specs.Words.{register_of};
-ghost use Rattle.fw_ledger.specs.Decode.{move_at};
-ghost use Rattle.fw_ledger.specs.Packets.{Locked, ended, replied_to, after_reply};
+ghost use Rattle.fw_account.specs.Account.{Account};
+ghost use Rattle.fw_account.specs.Words.{register_of};
+ghost use Rattle.fw_account.specs.Decode.{move_at};
+ghost use Rattle.fw_account.specs.Packets.{Locked, ended, replied_to, after_reply};
 ghost use Rattle.fw_ledger.specs.Stands.{Stands, StandsFor, Follows};
 ghost use Rattle.fw_ledger.specs.Swaps.{IsThere, register_named, moved_by, account_after, shows_argument};
 

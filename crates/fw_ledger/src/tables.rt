@@ -1,7 +1,8 @@
 //! The tables that stand for the account.
 
-ghost use Rattle.std.specs.Prelude.{◌≡◌, IfOk, if◌then◌else◌};
-ghost use Rattle.fw_ledger.specs.Fold.{no_account};
+ghost use Rattle.std.specs.Prelude.{◌≡◌, IfOk};
+ghost use Rattle.fw_account.specs.Fold.{no_account};
+ghost use Rattle.fw_ledger.specs.Resets.{first_high};
 ghost use Rattle.fw_ledger.specs.Stands.{StandsFor, no_seats};
 
 use fw_base::PlugAt;
@@ -135,11 +136,11 @@ pub fn empty() -> Seats
     }
 }
 
-/// CHANNELS_AVAILABLE_HI while nothing is allocated: the bit of channel 31, the lowest, is 0 where the bus withholds it.
+/// CHANNELS_AVAILABLE_HI where nothing is allocated: the lowest bit, that of channel 31, is 0 where the bus withholds it.
 pub fn first_high(withheld: bool) -> u32
-    ensures { result ≡ (if withheld then 0xFFFF_FFFE else 0xFFFF_FFFF) }
+    ensures { result ≡ first_high withheld }
 {
-    if withheld { 0xFFFF_FFFE } else { u32::MAX }
+    u32::MAX - u32::from(withheld)
 }
 
 impl Tables {

@@ -1,10 +1,10 @@
 //! Swaps of BANDWIDTH_AVAILABLE.
 
 ghost use Rattle.std.specs.Prelude.{◌≡◌, ◌<◌, ◌≤◌, ◌-◌, Some};
-ghost use Rattle.fw_ledger.specs.Account.{Account};
-ghost use Rattle.fw_ledger.specs.Moves.{AllocateUnits, ReleaseUnits};
-ghost use Rattle.fw_ledger.specs.Words.{BandwidthAvailable};
-ghost use Rattle.fw_ledger.specs.Decode.{allowed, move_at};
+ghost use Rattle.fw_account.specs.Account.{Account};
+ghost use Rattle.fw_account.specs.Moves.{AllocateUnits, ReleaseUnits};
+ghost use Rattle.fw_account.specs.Words.{BandwidthAvailable};
+ghost use Rattle.fw_account.specs.Decode.{allowed, move_at};
 ghost use Rattle.fw_ledger.specs.Stands.{Stands, StandsFor, Follows};
 ghost use Rattle.fw_ledger.specs.Swaps.{IsHeld, moved_by};
 

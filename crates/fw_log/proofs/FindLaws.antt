@@ -1,5 +1,5 @@
 -- What is found in bytes at hand.
-use Rattle.std.proofs.Common.{◌≡◌, inl, inr, ℕ, zero, suc, ◌+◌, ◌-◌, ◌*◌, ◌≤◌, ◌<◌, List, [], ◌∷◌, ◌++◌, ◌==◌, get_or, length, take, drop, nat_lt, nat_le, Bool, true, false, Option, Some, None, Result, Ok, Err, arith, refl, ap, sym, subst, ◌∙◌, if◌then◌else◌, length-append, length-drop, length-take, append-nil}
+use Rattle.std.proofs.Common.{◌≡◌, ◌⊎◌, inl, inr, ℕ, zero, suc, ◌+◌, ◌-◌, ◌*◌, ◌≤◌, ◌<◌, List, [], ◌∷◌, ◌++◌, ◌==◌, get_or, length, take, drop, nat_lt, nat_le, Bool, true, false, Option, Some, None, Result, Ok, Err, arith, refl, ap, sym, subst, ◌∙◌, if◌then◌else◌, length-append, length-drop, length-take, append-nil}
 use Rattle.std.proofs.lemmas.Bool.{cases_lt}
 use Rattle.std.proofs.lemmas.Bool.Decides.{nat_tests}
 use Rattle.std.proofs.lemmas.List.{take-append-drop, take-append-le, drop-append-le, length-take-le, take-take, take_all, drop-drop}
@@ -271,7 +271,10 @@ kept_part s old piece h =
     let size = length_joined old piece h.count h.within in
     let most = need_most s (old ++ take h.count piece) h.finds in
     let all : h.count ≡ length piece = elim (cases_lt h.count (length piece)) [
-      | inl less ↦ absurd (omega (arith, h.enough less, size, most, h.finds.not_complete))
+      | inl less ↦ absurd (elim (h.enough less) [
+        | inl full ↦ omega (arith, full, size, most, h.finds.not_complete)
+        | inr there ↦ omega (arith, there, h.finds.not_complete)
+      ])
       | inr more ↦ omega (arith, h.within)
     ] in
     let e : old ++ take h.count piece ≡ old ++ piece = ap (λ t. old ++ t) (take_all h.count piece (omega arith)) in
@@ -315,9 +318,9 @@ same_stand a b last x y v w n m e g k l =
     ∙ ap (λ (z : Version). let s : Position = record { start = b; last = last; ended = y; version = z; epoch = n } in s) k
     ∙ ap (λ (z : ℕ). let s : Position = record { start = b; last = last; ended = y; version = w; epoch = z } in s) l
 
--- the piece alone, or what was kept and as much of the piece as there is room for
-pub joins_none : (old piece : List ℕ) → length old ≡ 0 → Joins old piece piece
-joins_none old piece none = record {
+-- the piece alone, or what was kept and as much of the piece as there is room for, or as the entry takes
+pub joins_none : (s : Position) (old piece : List ℕ) → length old ≡ 0 → Joins s old piece piece
+joins_none s old piece none = record {
   count = length piece;
   within = omega arith;
   enough = λ less. absurd (omega arith);
@@ -328,12 +331,19 @@ joins_none old piece none = record {
     empty [] h = refl
     empty (x ∷ xs) h = absurd (omega arith)
 
-pub joins_both : (old piece bytes : List ℕ) → bytes ≡ old ++ take (2308 - length old) piece → Joins old piece bytes
-joins_both old piece bytes same = record {
-  count = length piece - (length piece - (2308 - length old));
+pub joins_both : (s : Position) (old piece bytes : List ℕ) (whole : ℕ) → length old ≤ whole → (whole ≡ 2308) ⊎ ((skip s.start + 4 ≤ length old) × (whole ≡ need s old))
+    → bytes ≡ old ++ take (whole - length old) piece → Joins s old piece bytes
+joins_both s old piece bytes whole low known same = record {
+  count = length piece - (length piece - (whole - length old));
   within = omega arith;
-  enough = λ less. omega arith;
-  same = same ∙ ap (λ x. old ++ x) (at_most (2308 - length old) piece);
+  enough = λ less. elim known [
+    | inl full ↦ inl (omega (arith, full, low, less))
+    | inr head ↦
+        let needs : need s bytes ≡ whole = ap (need s) same ∙ need_same s old (take (whole - length old) piece) head.0 ∙ sym head.1 in
+        let size : length bytes ≡ length old + (whole - length old) = ap length same ∙ length_joined old piece (whole - length old) (omega (arith, less)) in
+        inr (omega (arith, needs, size, low))
+  ];
+  same = same ∙ ap (λ x. old ++ x) (at_most (whole - length old) piece);
 }
   where
     at_most : (n : ℕ) (xs : List ℕ) → take n xs ≡ take (length xs - (length xs - n)) xs
@@ -343,9 +353,11 @@ joins_both old piece bytes same = record {
     ]
 
 -- what was found in the bytes at hand
-pub found_in : (s t : Position) (old kept piece bytes : List ℕ) (r : Result (Option Found) LogFault) → t ≡ s → kept ≡ old → Joins kept piece bytes → Finds t bytes r → FindsIn s old piece r
+pub found_in : (s t : Position) (old kept piece bytes : List ℕ) (r : Result (Option Found) LogFault) → t ≡ s → kept ≡ old → Joins t kept piece bytes → Finds t bytes r → FindsIn s old piece r
 found_in s t old kept piece bytes r e g j h =
     let P : Position → Type 0 = λ x. Finds x bytes r in
     let Q : List ℕ → Type 0 = λ x. Finds s x r in
     let R : List ℕ → Type 0 = λ x. FindsIn s x piece r in
-    subst R g (record { count = j.count; within = j.within; enough = j.enough; finds = subst Q j.same (subst P e h) })
+    let D : Position → Type 0 = λ x. j.count < length piece → (2308 ≤ length kept + j.count) ⊎ (need x bytes ≤ length bytes) in
+    let E : List ℕ → Type 0 = λ x. j.count < length piece → (2308 ≤ length kept + j.count) ⊎ (need s x ≤ length x) in
+    subst R g (record { count = j.count; within = j.within; enough = subst E j.same (subst D e j.enough); finds = subst Q j.same (subst P e h) })

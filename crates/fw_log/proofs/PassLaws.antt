@@ -1,6 +1,7 @@
 -- Entries that are passed over.
-use Rattle.std.proofs.Common.{◌≡◌, ℕ, ◌+◌, ◌-◌, ◌≤◌, ◌<◌, List, [], ◌++◌, inl, inr, get_or, length, take, drop, Bool, true, false, Option, Some, None, Ok, Result}
+use Rattle.std.proofs.Common.{◌≡◌, ℕ, ◌+◌, ◌-◌, ◌*◌, ◌≤◌, ◌<◌, List, [], ◌++◌, inl, inr, get_or, length, take, drop, Bool, true, false, Option, Some, None, Ok, Result}
 use Rattle.std.proofs.Common.{IfSome, IsSome, refl, ap, sym, subst, ◌∙◌, arith}
+use Rattle.std.proofs.lemmas.Bool.Decides.{nat_tests}
 use Rattle.std.specs.Option.{is_some}
 use Rattle.fw_async.specs.Async.{AreBytes}
 use Rattle.fw_async.specs.Reader.{IsPacket}
@@ -17,8 +18,8 @@ use Rattle.fw_entry.specs.declared.entry.ShownEntry.{ShownEntry}
 use Rattle.fw_entry.specs.declared.entry.Timed.{Timed}
 use Rattle.fw_log.specs.Bodies.{IsBody}
 use Rattle.fw_log.specs.Plain.{IsReset}
-use Rattle.fw_log.specs.Passing.{IsPassed, IsPlain, IsPlainBody, IsPlainEpoch, IsFirst, PassesFirst, BodyFirst, CountsUp, PassesOn, PassesBody}
-use Rattle.fw_log.specs.Reading.{cycle_of, skip, version_at, is_own_epoch, HeadFits, HasEpoch, IsComplete, IsPending}
+use Rattle.fw_log.specs.Passing.{IsPassed, IsPlain, IsPlainBody, IsPlainEpoch, IsFirst, HeadFirst, PassesFirst, BodyFirst, CountsUp, PassesOn, PassesBody}
+use Rattle.fw_log.specs.Reading.{is_length, cycle_of, skip, version_at, is_own_epoch, HeadFits, HasEpoch, IsComplete, IsPending}
 use Rattle.fw_log.specs.Reader.{State, HoldsPending, EndsEntry, Ends, Joins, Feeds, after}
 use Rattle.fw_log.specs.History.{HasRead}
 use Rattle.fw_log.specs.Stands.{Position}
@@ -26,11 +27,12 @@ use Rattle.fw_log.specs.declared.LogFault.{LogFault}
 use Rattle.fw_log.specs.declared.first.Found.{Found}
 use Rattle.fw_log.specs.declared.first.Passed.{Passed}
 use Rattle.fw_log.specs.declared.first.PlainEntry.{PlainEntry}
+use Rattle.fw_log.specs.declared.first.PlainHead.{PlainHead}
 use Rattle.fw_log.specs.declared.plain.PlainBody.{PlainBody}
 use Rattle.fw_log.specs.declared.plain.PlainBody.TheVariants as PlainBodies
 use Rattle.fw_log.specs.declared.read.LogFed.{LogFed}
 use Rattle.fw_log.proofs.ByteLaws.{are_bytes_part}
-use Rattle.fw_log.proofs.EntryLaws.{complete_ok, own_epoch}
+use Rattle.fw_log.proofs.EntryLaws.{complete_ok, own_epoch, kind_of_complete, size_of_complete}
 use Rattle.fw_log.proofs.IdsLaws.{back}
 use Rattle.fw_log.proofs.ExactLaws.{counts}
 use Rattle.fw_log.proofs.FeedLaws.{pending_of}
@@ -101,8 +103,13 @@ body_packet k bytes given e h g = record {
   made = (h.packet, refl, record { fits = h.spells.fits; same = h.spells.same ∙ sym g });
 }
 
-pub body_iso : (k : ℕ) (bytes : List ℕ) (p : IsoPacket) → k ≡ 3 → IsoFits p → iso_spelling p ≡ bytes → IsPlainBody k bytes (PlainBodies.Iso p)
-body_iso k bytes p e fits same = record { entry = Iso p; is = record { fits = fits; kind = sym e; same = same }; goes_on = refl; made = refl }
+pub body_iso : (k : ℕ) (bytes given : List ℕ) (p : IsoPacket) → k ≡ 3 → IsoFits p → iso_spelling p ≡ bytes → given ≡ bytes → IsPlainBody k bytes (PlainBodies.Iso given)
+body_iso k bytes given p e fits same g = record {
+  entry = Iso p;
+  is = record { fits = fits; kind = sym e; same = same };
+  goes_on = refl;
+  made = (p, refl, fits, same ∙ sym g);
+}
 
 not_end : (e : Entry) → IsPassed e → is_end e ≡ false
 not_end (Reset r) h = refl
@@ -130,25 +137,44 @@ is_first v s bytes e more n cycle epoch what fit ends is after w c latest own go
       spells = complete_ok v s (take n bytes) e more (record { cycle = cycle; what = what }) (are_bytes_part bytes n 0 fit) is after w c b.own own;
     }
 
-pub passes_first : (v : Version) (s : Position) (bytes e more : List ℕ) (n cycle epoch : ℕ) → AreBytes bytes → Ends s bytes (Ok (Some n))
+-- the head of an entry, before its body was looked at
+pub head_first : (v : Version) (s : Position) (bytes e more given : List ℕ) (n cycle epoch : ℕ) → AreBytes bytes → Ends s bytes (Ok (Some n))
     → e ≡ drop (skip s.start) (take n bytes) → more ≡ drop (head_size v) e → IsComplete v s (take n bytes)
-    → cycle ≡ cycle_of v e → IsPlainEpoch v s.epoch e more epoch → IsPlain (get_or e 0 0) more
-    → PassesFirst s bytes (record { end = n; cycle = cycle; version = v; epoch = epoch })
-passes_first v s bytes e more n cycle epoch fit ends is after w c latest plain = record {
-  entry = record { cycle = cycle; what = plain.entry };
-  passed = plain.passed;
-  first = is_first v s bytes e more n cycle epoch plain.entry fit ends is after w c latest plain.is (not_end plain.entry plain.passed);
-}
+    → cycle ≡ cycle_of v e → IsPlainEpoch v s.epoch e more epoch → given ≡ more
+    → HeadFirst s bytes (record { passed = record { end = n; cycle = cycle; version = v; epoch = epoch }; kind = get_or e 0 0; content = given })
+head_first v s bytes e more given n cycle epoch fit ends is after w c latest same =
+    let P : List ℕ → Type 0 = λ x. IsPlainEpoch v s.epoch e x epoch in
+    record {
+      kind = kind_of_complete v s (take n bytes) e is w;
+      size = size_of_complete v s (take n bytes) e given is (same ∙ after) w;
+      first = λ what own goes_on. is_first v s bytes e given n cycle epoch what fit ends is (same ∙ after) w c (subst P (sym same) latest) own goes_on;
+    }
 
-pub body_first : (v : Version) (s : Position) (bytes e more : List ℕ) (b : PlainBody) (n cycle epoch : ℕ) → AreBytes bytes → Ends s bytes (Ok (Some n))
-    → e ≡ drop (skip s.start) (take n bytes) → more ≡ drop (head_size v) e → IsComplete v s (take n bytes)
-    → cycle ≡ cycle_of v e → IsPlainEpoch v s.epoch e more epoch → IsPlainBody (get_or e 0 0) more b
-    → BodyFirst s bytes (record { passed = record { end = n; cycle = cycle; version = v; epoch = epoch }; body = b })
-body_first v s bytes e more b n cycle epoch fit ends is after w c latest plain = record {
-  entry = record { cycle = cycle; what = plain.entry };
-  made = plain.made;
-  first = is_first v s bytes e more n cycle epoch plain.entry fit ends is after w c latest plain.is plain.goes_on;
-}
+-- a reset has the quadlet of its epoch
+pub reset_long : (kind n : ℕ) (more : List ℕ) → length more ≡ 4 * n → is_length kind n ≡ true → kind ≡ 1 → 4 ≤ length more
+reset_long kind n more size fits e = omega (arith, size, five n (sym (ap (λ k. is_length k n) e) ∙ fits))
+  where
+    five : (n : ℕ) → is_length 1 n ≡ true → 5 ≤ n
+    five n h = grind (arith, nat_tests)
+
+pub passes_first : (s : Position) (bytes given : List ℕ) (h : PlainHead) → HeadFirst s bytes h → given ≡ h.content → IsPlain h.kind given → PassesFirst s bytes h.passed
+passes_first s bytes given h first same plain =
+    let P : List ℕ → Type 0 = λ x. IsBody h.kind x plain.entry in
+    record {
+      entry = record { cycle = h.passed.cycle; what = plain.entry };
+      passed = plain.passed;
+      first = first.first plain.entry (subst P same plain.is) (not_end plain.entry plain.passed);
+    }
+
+pub body_first : (s : Position) (bytes given : List ℕ) (h : PlainHead) (b : PlainBody) → HeadFirst s bytes h → given ≡ h.content → IsPlainBody h.kind given b
+    → BodyFirst s bytes (record { passed = h.passed; body = b })
+body_first s bytes given h b first same plain =
+    let P : List ℕ → Type 0 = λ x. IsBody h.kind x plain.entry in
+    record {
+      entry = record { cycle = h.passed.cycle; what = plain.entry };
+      made = plain.made;
+      first = first.first plain.entry (subst P same plain.is) plain.goes_on;
+    }
 
 -- the entry ends in the piece
 pub record EndsPassed (s : Position) (old piece : List ℕ) (p : Passed) (entry : Timed) : Type 0 where
@@ -162,7 +188,7 @@ pub record EndsPassed (s : Position) (old piece : List ℕ) (p : Passed) (entry 
   pub size : length (old ++ take (p.end - length old) piece) ≡ p.end
 
 ends_at : (s t : Position) (old kept piece bytes : List ℕ) (p : Passed) (entry : Timed) → IsPending s old → t ≡ s → kept ≡ old
-    → Joins kept piece bytes → IsFirst t bytes entry p → EndsPassed s old piece p entry
+    → Joins t kept piece bytes → IsFirst t bytes entry p → EndsPassed s old piece p entry
 ends_at s t old kept piece bytes p entry pending e g j h =
     let found : Found = record { end = p.end; version = p.version; body = body entry.what; entry = entry } in
     let k = kept_entry s old piece found pending (found_in s t old kept piece bytes (Ok (Some found)) e g j (h.within, h.spells, refl, h.version)) in
@@ -180,7 +206,7 @@ ends_at s t old kept piece bytes p entry pending e g j h =
 -- of a reader without a fault, in the bytes at hand
 pub ends_passed : (r : State) (stand : Position) (taken kept piece bytes : List ℕ) (fault : Option LogFault) (p : Passed) (entry : Timed)
     → record { stand = stand; taken = taken; fault = fault } ≡ r → HoldsPending stand taken fault → fault ≡ None → kept ≡ taken
-    → Joins kept piece bytes → IsFirst stand bytes entry p → EndsPassed r.stand r.taken piece p entry
+    → Joins stand kept piece bytes → IsFirst stand bytes entry p → EndsPassed r.stand r.taken piece p entry
 ends_passed r stand taken kept piece bytes fault p entry is holds clear same j h =
     let P : State → Type 0 = λ x. IsPending x.stand x.taken in
     ends_at r.stand stand r.taken kept piece bytes p entry (subst P is (pending_of stand taken fault clear holds)) (ap (λ (x : State). x.stand) is)

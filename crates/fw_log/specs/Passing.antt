@@ -1,5 +1,5 @@
 -- Entries that are passed over.
-use Rattle.std.specs.Prelude.{◌≡◌, false, ◌⊎◌, ℕ, ◌+◌, ◌≤◌, ◌<◌, slice_index, List, [], ◌∷◌, ◌++◌, length, take}
+use Rattle.std.specs.Prelude.{◌≡◌, true, false, ◌⊎◌, ℕ, ◌+◌, ◌*◌, ◌≤◌, ◌<◌, slice_index, List, [], ◌∷◌, ◌++◌, length, take}
 use Rattle.fw_entry.specs.declared.entry.Entry.{Entry}
 use Rattle.fw_entry.specs.declared.entry.Entry.TheVariants.{Reset, Async, Iso, Event, Outcome, Shown, End}
 use Rattle.fw_entry.specs.declared.entry.Timed.{Timed}
@@ -8,17 +8,20 @@ use Rattle.fw_entry.specs.Log.{epoch_after, is_end, body, ResetFits}
 use Rattle.fw_entry.specs.declared.entry.ResetEntry.{ResetEntry}
 use Rattle.fw_entry.specs.declared.version.Version.{Version}
 use Rattle.fw_words.specs.Quadlet.{quadlet_at}
-use Rattle.fw_log.specs.Reading.{version_at, HasEpoch, Spells}
+use Rattle.fw_log.specs.Reading.{is_kind, is_length, version_at, HasEpoch, Spells}
 use Rattle.fw_log.specs.Reader.{State, total}
 use Rattle.fw_log.specs.History.{HasRead}
 use Rattle.fw_log.specs.Stands.{Position}
 use Rattle.fw_async.specs.Reader as Packets
+use Rattle.fw_cip.specs.Iso.{Fits as IsoFits, spelling as iso_spelling}
+use Rattle.fw_cip.specs.declared.packet.IsoPacket.{IsoPacket}
 use Rattle.fw_async.specs.declared.packet.Packet.{Packet}
 use Rattle.fw_log.specs.declared.first.Passed.{Passed}
+use Rattle.fw_log.specs.declared.first.PlainHead.{PlainHead}
 use Rattle.fw_log.specs.declared.first.PlainEntry.{PlainEntry}
 use Rattle.fw_log.specs.declared.plain.PlainBody.{PlainBody}
 use Rattle.fw_log.specs.declared.plain.PlainBody.TheVariants as PlainBodies
-use Rattle.fw_log.specs.declared.read.PassedBody.{PassedBody}
+use Rattle.fw_log.specs.declared.passing.PassedBody.{PassedBody}
 
 -- an entry that may be passed over: it is of no stream, and others may follow
 abbrev pub IsPassed : Entry → Type 0
@@ -49,6 +52,12 @@ pub record IsFirst (s : Position) (bytes : List ℕ) (entry : Timed) (p : Passed
   pub within : p.end ≤ length bytes
   pub spells : Spells s entry (take p.end bytes)
 
+-- the bytes begin with the head of an entry, and any entry but the end that has the body behind it is that entry
+pub record HeadFirst (s : Position) (bytes : List ℕ) (h : PlainHead) : Type 0 where
+  pub kind : is_kind h.kind 0 ≡ true
+  pub size : (n : ℕ) × (length h.content ≡ 4 * n) × (is_length h.kind n ≡ true)
+  pub first : (what : Entry) → IsBody h.kind h.content what → is_end what ≡ false → IsFirst s bytes (record { cycle = h.passed.cycle; what = what }) h.passed
+
 -- the bytes begin with some entry that may be passed over
 pub record PassesFirst (s : Position) (bytes : List ℕ) (p : Passed) : Type 0 where
   pub entry : Timed
@@ -67,28 +76,28 @@ pub record PassesOn (entries : List Timed) (bytes : List ℕ) (new : State) : Ty
   pub passed : IsPassed entry.what
   pub read : HasRead (entries ++ entry ∷ []) bytes new
 
--- the entry has this body: these are the bytes of its packet, this its packet, or these the bytes of a bus reset
-abbrev pub Makes : PlainBody → Entry → Type 0
-Makes (PlainBodies.Packet bytes) e = (p : Packet) × (e ≡ Async p) × Packets.Spells p bytes
-Makes (PlainBodies.Iso p) e = e ≡ Iso p
-Makes (PlainBodies.Reset bytes) e = (r : ResetEntry) × (e ≡ Reset r) × ResetFits r × (body (Reset r) ≡ bytes)
+-- the entry has this body: these are the bytes of its packet, of its isochronous packet, or of its bus reset
+abbrev pub HasBody : PlainBody → Entry → Type 0
+HasBody (PlainBodies.Packet bytes) e = (p : Packet) × (e ≡ Async p) × Packets.Spells p bytes
+HasBody (PlainBodies.Iso bytes) e = (p : IsoPacket) × (e ≡ Iso p) × IsoFits p × (iso_spelling p ≡ bytes)
+HasBody (PlainBodies.Reset bytes) e = (r : ResetEntry) × (e ≡ Reset r) × ResetFits r × (body (Reset r) ≡ bytes)
 
 -- the bytes are this body of some entry of this kind, which is not the end
 pub record IsPlainBody (kind : ℕ) (bytes : List ℕ) (b : PlainBody) : Type 0 where
   pub entry : Entry
   pub is : IsBody kind bytes entry
   pub goes_on : is_end entry ≡ false
-  pub made : Makes b entry
+  pub made : HasBody b entry
 
 -- the bytes begin with some entry that has this body
 pub record BodyFirst (s : Position) (bytes : List ℕ) (p : PlainEntry) : Type 0 where
   pub entry : Timed
-  pub made : Makes p.body entry.what
+  pub made : HasBody p.body entry.what
   pub first : IsFirst s bytes entry p.passed
 
 -- one entry more was read, of this cycle and with this body
 pub record PassesBody (entries : List Timed) (bytes : List ℕ) (new : State) (p : PassedBody) : Type 0 where
   pub entry : Timed
   pub cycle : entry.cycle ≡ p.cycle
-  pub made : Makes p.body entry.what
+  pub made : HasBody p.body entry.what
   pub read : HasRead (entries ++ entry ∷ []) bytes new

@@ -76,18 +76,18 @@ Finds s bytes (Ok (Some found)) =
     × (found.version ≡ version_at s (take found.end bytes))
 Finds s bytes (Err f) = (k : ℕ) × ShowsFault s [] bytes k f
 
--- The bytes are what was kept and a front of the piece, which is all of it or has room for the longest entry.
-pub record Joins (old piece bytes : List ℕ) : Type 0 where
+-- The bytes are what was kept and a front of the piece, which is all of it, or has room for the longest entry, or has all of this one.
+pub record Joins (s : Position) (old piece bytes : List ℕ) : Type 0 where
   pub count : ℕ
   pub within : count ≤ length piece
-  pub enough : count < length piece → 2308 ≤ length old + count
+  pub enough : count < length piece → (2308 ≤ length old + count) ⊎ (need s bytes ≤ length bytes)
   pub same : bytes ≡ old ++ take count piece
 
--- It was found in what was kept and a front of the piece, which is all of it or has room for the longest entry.
+-- It was found in what was kept and a front of the piece, which is all of it, or has room for the longest entry, or has all of this one.
 pub record FindsIn (s : Position) (old piece : List ℕ) (found : Result (Option Found) LogFault) : Type 0 where
   pub count : ℕ
   pub within : count ≤ length piece
-  pub enough : count < length piece → 2308 ≤ length old + count
+  pub enough : count < length piece → (2308 ≤ length old + count) ⊎ (need s (old ++ take count piece) ≤ length (old ++ take count piece))
   pub finds : Finds s (old ++ take count piece) found
 
 -- no part that was taken whole is refused, and the bytes end no entry

@@ -1,19 +1,20 @@
 //! The entry that some bytes begin with.
 
-ghost use Rattle.std.specs.Prelude.{◌≡◌, ◌≤◌, ◌<◌, ◌+◌, ◌^◌, length, slice_index, take, drop, IfSome};
+ghost use Rattle.std.specs.Prelude.{◌≡◌, ◌⊎◌, ◌≤◌, ◌<◌, ◌+◌, ◌^◌, length, slice_index, take, drop, IfSome};
 ghost use Rattle.fw_log.specs.Stands.{position};
-ghost use Rattle.fw_log.specs.Reading.{fault_at, is_own_epoch, IsComplete};
+ghost use Rattle.fw_log.specs.Reading.{fault_at, is_own_epoch, skip, need, IsComplete, IsPending};
 ghost use Rattle.fw_entry.specs.Log.{head_size};
 ghost use Rattle.fw_log.specs.Reader.{EntryJudges, Ends, Finds, Joins};
-ghost use Rattle.fw_log.specs.Passing.{BodyFirst, IsPlainEpoch, PassesFirst};
+ghost use Rattle.fw_log.specs.Passing.{BodyFirst, HeadFirst, IsPlainEpoch, PassesFirst};
 
 use crate::codes::kind;
+use crate::held::{Held, ROOM};
 use crate::plain::{PlainBody, is_plain_body, plain_body};
 use crate::read_body::entry_of;
 use crate::read_head::{head_fault, whole_end};
-use crate::stand::{EPOCH_AT, Stand, cycle_of, need, rest, skip, version_at};
+use crate::stand::{EPOCH_AT, LENGTH_END, Stand, cycle_of, need, rest, skip, version_at};
 use crate::{BodyFault, Entry, LogFault, LogWhy, ResetEntry, Timed, Version};
-use fw_words::{Bytes, Data, quadlet_at};
+use fw_words::{Data, quadlet_at};
 
 /// An entry that bytes begin with, where it ends, the bytes of its body, and the version of the log.
 #[derive(Debug, Drop)]
@@ -145,6 +146,37 @@ fn plain_epoch(version: Version, epoch: u32, e: &[u8], body: &[u8]) -> Option<u3
     }
 }
 
+/// The head of an entry, all parts of which are right, and the bytes of the body behind it.
+#[derive(Drop)]
+pub struct PlainHead<'a> {
+    pub passed: Passed,
+    pub kind: u8,
+    pub content: Data<'a>,
+}
+
+// The head of the entry that the bytes begin with, if the entry is whole and its head right at the first look.
+#[inline(always)]
+fn plain_head<'a>(stand: Stand, bytes: &'a [u8]) -> Option<PlainHead<'a>>
+    ensures { IfSome result (HeadFirst (position stand) bytes.now) }
+{
+    let end = whole_end(stand, bytes)?;
+    let whole = &bytes[..end];
+    let version = version_at(stand, whole);
+    let entry = rest(whole, skip(stand));
+    let content = &entry[version.head_size()..];
+    let epoch = plain_epoch(version, stand.epoch(), entry, content)?;
+    Some(PlainHead {
+        passed: Passed {
+            end,
+            cycle: cycle_of(version, entry),
+            version,
+            epoch,
+        },
+        kind: entry[0],
+        content: Data::new(content),
+    })
+}
+
 /// An entry that is given as its body.
 #[derive(Drop)]
 pub struct PlainEntry<'a> {
@@ -153,22 +185,14 @@ pub struct PlainEntry<'a> {
 }
 
 /// The body of the entry that the bytes begin with, if that is a packet's or a bus reset's, whole and right at the first look.
+#[inline(always)]
 pub(crate) fn plain_bodied<'a>(stand: Stand, bytes: &'a [u8]) -> Option<PlainEntry<'a>>
     ensures { IfSome result (BodyFirst (position stand) bytes.now) }
 {
-    let end = whole_end(stand, bytes)?;
-    let whole = &bytes[..end];
-    let version = version_at(stand, whole);
-    let entry = rest(whole, skip(stand));
-    let content = rest(entry, version.head_size());
-    let body = plain_body(entry[0], content)?;
+    let head = plain_head(stand, bytes)?;
+    let body = plain_body(head.kind, head.content.as_slice())?;
     Some(PlainEntry {
-        passed: Passed {
-            end,
-            cycle: cycle_of(version, entry),
-            version,
-            epoch: plain_epoch(version, stand.epoch(), entry, content)?,
-        },
+        passed: head.passed,
         body,
     })
 }
@@ -177,30 +201,42 @@ pub(crate) fn plain_bodied<'a>(stand: Stand, bytes: &'a [u8]) -> Option<PlainEnt
 pub(crate) fn plain_entry(stand: Stand, bytes: &[u8]) -> Option<Passed>
     ensures { IfSome result (PassesFirst (position stand) bytes.now) }
 {
-    let end = whole_end(stand, bytes)?;
-    let whole = &bytes[..end];
-    let version = version_at(stand, whole);
-    let entry = rest(whole, skip(stand));
-    let body = rest(entry, version.head_size());
-    if !is_plain_body(entry[0], body) {
+    let head = plain_head(stand, bytes)?;
+    if !is_plain_body(head.kind, head.content.as_slice()) {
         return None;
     }
-    Some(Passed {
-        end,
-        cycle: cycle_of(version, entry),
-        version,
-        epoch: plain_epoch(version, stand.epoch(), entry, body)?,
-    })
+    Some(head.passed)
 }
 
-/// The piece, where nothing was kept, or else what was kept and as much of the piece as there is room for.
-pub(crate) fn at_hand<'a>(taken: &[u8], piece: &'a [u8], room: &'a mut Bytes<2308>) -> &'a [u8]
-    requires { length taken.now ≤ 2308 }
-    ensures { Joins taken.now piece.now result.now }
+// How many bytes the entry takes, where its length was kept, or else how many there is room for.
+fn whole_size(stand: Stand, taken: &[u8]) -> usize
+    requires few { length taken.now ≤ 2308 }
+    requires pending { IsPending (position stand) taken.now }
+    ensures front { length taken.now ≤ result }
+    ensures room { result ≤ 2308 }
+    ensures known { (result ≡ 2308) ⊎ ((skip (position stand).start + 4 ≤ length taken.now) × (result ≡ need (position stand) taken.now)) }
+{
+    if taken.len() < skip(stand) + LENGTH_END {
+        return ROOM;
+    }
+    need(stand, taken)
+}
+
+/// The piece, where nothing was kept, or else what was kept and as much of the piece as the entry takes; as there is room for, where
+/// its length is not known yet.
+pub(crate) fn at_hand<'a>(
+    stand: Stand,
+    taken: &[u8],
+    piece: &'a [u8],
+    room: &'a mut Held,
+) -> &'a [u8]
+    requires few { length taken.now ≤ 2308 }
+    requires pending { IsPending (position stand) taken.now }
+    ensures { Joins (position stand) taken.now piece.now result.now }
 {
     if taken.is_empty() {
         return piece;
     }
-    room.join(taken, piece);
+    room.join(taken, piece, whole_size(stand, taken));
     room.as_slice()
 }

@@ -2,8 +2,11 @@
 #![tactic(auto)]
 
 mod first;
+mod held;
 pub mod laws;
+mod passing;
 mod plain;
+mod plain_iso;
 mod plain_reset;
 mod read;
 mod read_body;
@@ -11,6 +14,7 @@ mod read_head;
 mod read_reset;
 mod room;
 mod stand;
+mod version;
 
 use fw_async::PacketFault;
 use fw_cip::IsoFault;
@@ -19,8 +23,10 @@ pub use fw_entry::{
     ShownEntry, Timed, Version, body_of, codes, epoch_after, head_of, write_entry, write_header,
 };
 use fw_phy::PhyFault;
+pub use passing::PassedBody;
 pub use plain::PlainBody;
-pub use read::{LogFed, LogReader, PassedBody};
+pub use plain_iso::whole_iso;
+pub use read::{LogFed, LogReader};
 pub use room::Room;
 
 /// Why a body is of no entry of its kind.

@@ -9,9 +9,9 @@ ghost use Rattle.fw_log.specs.Plain.{has_zeros, is_whole_block, is_plain_packet}
 ghost use Rattle.fw_log.specs.Passing.{IsPlain, IsPlainBody};
 
 use crate::codes::kind;
+use crate::plain_iso::plain_iso;
 use crate::plain_reset::is_plain_reset;
 use crate::read_body::{event_of, outcome_of, shown_of};
-use fw_cip::{IsoPacket, read_iso};
 use fw_words::{Data, quadlet_at};
 
 // Transaction codes.
@@ -55,6 +55,7 @@ fn is_whole_block(bytes: &[u8]) -> bool
 }
 
 /// Whether the bytes are an asynchronous packet of one of the usual forms.
+#[inline(always)]
 pub(crate) fn is_plain_packet(bytes: &[u8]) -> bool
     requires { 12 ≤ length bytes.now }
     ensures { result ≡ is_plain_packet bytes.now }
@@ -77,13 +78,14 @@ pub(crate) fn is_plain_packet(bytes: &[u8]) -> bool
 pub enum PlainBody<'a> {
     /// The bytes of an asynchronous packet.
     Packet(Data<'a>),
-    /// An isochronous packet.
-    Iso(IsoPacket<'a>),
+    /// The bytes of an isochronous packet.
+    Iso(Data<'a>),
     /// The bytes of a bus reset.
     Reset(Data<'a>),
 }
 
 /// The body of a packet or a bus reset, where it is right at the first look.
+#[inline(always)]
 pub(crate) fn plain_body<'a>(kind: u8, bytes: &'a [u8]) -> Option<PlainBody<'a>>
     requires kind { is_kind kind 0 ≡ true }
     requires size { (n : ℕ) × (length bytes.now ≡ 4 * n) × (is_length kind n ≡ true) }
@@ -102,9 +104,9 @@ pub(crate) fn plain_body<'a>(kind: u8, bytes: &'a [u8]) -> Option<PlainBody<'a>>
             }
             Some(PlainBody::Packet(Data::new(bytes)))
         }
-        kind::ISO => match read_iso(bytes) {
-            Ok(packet) => Some(PlainBody::Iso(packet)),
-            Err(_) => None,
+        kind::ISO => match plain_iso(bytes) {
+            Some(_) => Some(PlainBody::Iso(Data::new(bytes))),
+            None => None,
         },
         _ => None,
     }

@@ -6,22 +6,20 @@ ghost use Rattle.std.specs.Result.{result_err};
 ghost use Rattle.fw_entry.specs.Log.{is_end, body, epoch_after, LogOpens};
 ghost use Rattle.fw_entry.specs.declared.version.Version.{Version as AVersion};
 ghost use Rattle.fw_entry.specs.declared.version.Version.TheVariants.{One};
-ghost use Rattle.fw_entry.specs.declared.entry.Entry.{Entry as AnEntry};
 ghost use Rattle.fw_log.specs.Stands.{position};
 ghost use Rattle.fw_log.specs.Reading.{IsPending};
 ghost use Rattle.fw_log.specs.Reader.{State, total, with_bytes, version_read, known, Keeps, Remembers, FindsIn};
 ghost use Rattle.fw_log.specs.Reader.{EndsEntry, EndsNothing, ShowsFault, Feeds, Counts, body_given, finish_of};
 ghost use Rattle.fw_log.specs.History.{stand_after, HasRead, ReadsOn, Names, GivesNext, Finishes};
-ghost use Rattle.fw_log.specs.Passing.{CountsUp, Makes, PassesBody, PassesOn};
 ghost use Rattle.fw_log.specs.declared.LogFault.{LogFault};
 ghost use Rattle.fw_entry.specs.declared.entry.Timed.{Timed};
 
-use crate::codes::kind;
-use crate::first::{Found, Passed, PlainEntry, at_hand, first_entry, plain_bodied, plain_entry};
-use crate::plain::PlainBody;
+use crate::first::{Found, at_hand, first_entry};
+use crate::held::Held;
 use crate::stand::{Stand, skip};
+use crate::version::{remember, version_read};
 use crate::{Entry, LogFault, LogWhy, Room, Timed, Version, epoch_after};
-use fw_words::{Bytes, Data, quadlet_at};
+use fw_words::Data;
 use std::alloc::{AllocError, Global};
 use std::marker::Model;
 use std::num::NonZero;
@@ -35,33 +33,6 @@ pub struct LogFed<'a> {
     pub entry: Option<Timed<'a>>,
     /// The bytes of that entry's body; empty where none ended.
     pub body: Data<'a>,
-}
-
-/// An entry that was given as its body.
-#[derive(Debug, Drop)]
-pub struct PassedBody<'a> {
-    /// How many bytes of the piece were taken.
-    pub used: usize,
-    /// The cycle of the entry.
-    pub cycle: u64,
-    /// The body.
-    pub body: PlainBody<'a>,
-}
-
-// Where a reader stands behind an entry that ends at this place and is not the end.
-fn going_on(place: u64, last: u64, version: Version, epoch: u32) -> Stand
-    requires { 0 < place }
-    ensures { position result ≡ record { start = place; last = last; ended = false; version = version; epoch = epoch } }
-{
-    let Some(past) = NonZero::<u64>::new(place) else {
-        unreachable!()
-    };
-    Stand::Entries {
-        past,
-        last,
-        version,
-        epoch,
-    }
 }
 
 // Where a reader stands behind an entry that ends at this place, where this is the epoch of the latest bus reset before it.
@@ -89,37 +60,12 @@ fn behind(place: u64, version: Version, epoch: u32, entry: &Timed) -> Stand
     }
 }
 
-// How many bytes of the header name its version, behind a fixed quadlet.
-const VERSION_END: usize = 8;
-
-// The version that a header names, where its first two quadlets are there and right.
-fn version_read(bytes: &[u8]) -> Option<Version>
-    ensures { result ≡ version_read bytes.now }
-{
-    if bytes.len() >= VERSION_END && quadlet_at(bytes, 0).0 == 0x31333934 {
-        Version::of_number(quadlet_at(bytes, 4).0)
-    } else {
-        None
-    }
-}
-
-// Takes as many bytes of a header as name its version, as far as they are there.
-fn remember(taken: &mut Bytes<2308>, stand: Stand, piece: &[u8])
-    ensures { Keeps (position stand).start taken.old piece.now taken.new }
-{
-    let count = taken.as_slice().len();
-    if matches!(stand, Stand::Header) && count < VERSION_END {
-        let more = (VERSION_END - count).min(piece.len());
-        taken.append(&piece[..more]);
-    }
-}
-
 /// Reads the entries of a log from bytes that come in any pieces.
 #[derive(Debug, Drop)]
 pub struct LogReader {
-    taken: Box<Bytes<2308>>,
-    stand: Stand,
-    fault: Option<LogFault>,
+    pub(crate) taken: Box<Held>,
+    pub(crate) stand: Stand,
+    pub(crate) fault: Option<LogFault>,
 }
 
 impl Model for LogReader {
@@ -140,7 +86,7 @@ impl LogReader {
         ensures begins { IfOk result (HasRead [] []) }
     {
         Ok(LogReader {
-            taken: Box::new(alloc, Bytes::new())?,
+            taken: Box::new(alloc, Held::new())?,
             stand: Stand::Header,
             fault: None,
         })
@@ -206,7 +152,7 @@ impl LogReader {
         ensures fed { Feeds self.old.stand self.old.taken piece.now result self.new }
         ensures remembers { IfErr result (λ f. Remembers self.old.stand self.old.taken piece.now self.new) }
     {
-        let bytes = at_hand(self.taken.as_slice(), piece, &mut room.bytes);
+        let bytes = at_hand(self.stand, self.taken.as_slice(), piece, &mut room.bytes);
         let found = first_entry(self.stand, bytes, &mut room.reset);
         self.keep(found, piece)
     }
@@ -260,77 +206,6 @@ impl LogReader {
         ensures read { (entries : List Timed) → (bytes : List ℕ) → HasRead entries bytes self.now → result ≡ version_read bytes }
     {
         self.known()
-    }
-
-    // The first byte of what comes next: behind the header it is the kind of an entry. What is kept of an entry that is to be read is
-    // not put before the piece twice.
-    fn next_kind(&self, piece: &[u8]) -> Option<u8> {
-        let taken = self.taken.as_slice();
-        let bytes = if taken.is_empty() { piece } else { taken };
-        bytes.first().copied()
-    }
-
-    // Whether what comes next may be given as its body.
-    fn meets_body(&self, piece: &[u8]) -> bool {
-        matches!(
-            self.next_kind(piece),
-            Some(kind::RESET | kind::ASYNC | kind::ISO)
-        )
-    }
-
-    /// Takes bytes up to the end of one entry, as `feed` does, and answers how many, where the entry is right at the first look
-    /// and is neither an isochronous packet nor the end. It is judged and not given: a report of the streams has no use for it.
-    /// Where it takes none, `feed` says what comes.
-    pub fn pass(&mut self, piece: &[u8], room: &mut Room) -> Option<usize>
-        requires { self.old.fault ≡ None → total self.old + length piece.now < 2 ^ 64 }
-        ensures kept { IfNone result (self.new ≡ self.old) }
-        ensures fresh { IfSome result (λ n. self.new.fault ≡ None) }
-        ensures counts { IfSome result (CountsUp self.old piece.now self.new) }
-        ensures history { (entries : List Timed) → (bytes : List ℕ) → HasRead entries bytes self.old
-            → IfSome result (λ n. PassesOn entries (bytes ++ take n piece.now) self.new) }
-    {
-        if self.fault.is_some() || self.next_kind(piece) == Some(kind::ISO) {
-            return None;
-        }
-        let bytes = at_hand(self.taken.as_slice(), piece, &mut room.bytes);
-        let Passed {
-            end,
-            cycle,
-            version,
-            epoch,
-        } = plain_entry(self.stand, bytes)?;
-        let used = end - self.taken.as_slice().len();
-        self.stand = going_on(self.stand.start() + end as u64, cycle, version, epoch);
-        self.taken.clear();
-        Some(used)
-    }
-
-    /// As `pass`, of packets and bus resets: the body is given, and no entry is made of it.
-    pub fn pass_body<'a>(&mut self, piece: &'a [u8], room: &'a mut Room) -> Option<PassedBody<'a>>
-        requires { self.old.fault ≡ None → total self.old + length piece.now < 2 ^ 64 }
-        ensures kept { IfNone result (self.new ≡ self.old) }
-        ensures fresh { IfSome result (λ p. self.new.fault ≡ None) }
-        ensures counts { IfSome result (λ p. CountsUp self.old piece.now self.new p.used) }
-        ensures body { IfSome result (λ p. (e : AnEntry) × Makes p.body e) }
-        ensures history { (entries : List Timed) → (bytes : List ℕ) → HasRead entries bytes self.old
-            → IfSome result (λ p. PassesBody entries (bytes ++ take p.used piece.now) self.new p) }
-    {
-        if self.fault.is_some() || !self.meets_body(piece) {
-            return None;
-        }
-        let bytes = at_hand(self.taken.as_slice(), piece, &mut room.bytes);
-        let PlainEntry { passed, body } = plain_bodied(self.stand, bytes)?;
-        let Passed {
-            end,
-            cycle,
-            version,
-            epoch,
-        } = passed;
-        let used = end - self.taken.as_slice().len();
-        let past = self.stand.start() + end as u64;
-        self.stand = going_on(past, cycle, version, epoch);
-        self.taken.clear();
-        Some(PassedBody { used, cycle, body })
     }
 
     // The fault that the input's end is, where it is one.

@@ -1,7 +1,7 @@
 //! What the bytes of an entry show before its body.
 
 ghost use Rattle.std.specs.Prelude.{ℕ, ◌≡◌, ◌≤◌, ◌<◌, ◌+◌, ◌-◌, ◌*◌, ◌/◌, ◌%◌, ◌^◌, ◌++◌, ◌∷◌, [], length, take, drop};
-ghost use Rattle.std.specs.Prelude.{None, Some, Ok, IfSome, ◌==◌, if◌then◌else◌};
+ghost use Rattle.std.specs.Prelude.{None, Some, Ok, IfSome, ◌==◌, ◌&&◌, if◌then◌else◌};
 ghost use Rattle.fw_log.specs.Stands.{position};
 ghost use Rattle.fw_log.specs.Reading.{length_of, cycle_of, is_kind, is_length, is_epoch, has_epoch, epoch_fault, cycle_fault, entry_fault, header_fault, head_fault, fault_at};
 ghost use Rattle.fw_entry.specs.Log.{head_size};
@@ -31,6 +31,24 @@ fn is_length(kind: u8, len: usize) -> bool
         codes::kind::EVENT => len == 1 || len == 2,
         codes::kind::END => len == 0,
         _ => len == 2,
+    }
+}
+
+// Both at once, as one look at the kind decides them.
+fn begins_entry(kind: u8, low: u8, len: usize) -> bool
+    ensures { result ≡ (is_kind kind low && is_length kind len) }
+{
+    if low != 0 {
+        return false;
+    }
+    match kind {
+        codes::kind::RESET => 5 <= len && len <= 569,
+        codes::kind::ASYNC => 3 <= len && len <= 132,
+        codes::kind::ISO => len == 3 || len == 123,
+        codes::kind::EVENT => len == 1 || len == 2,
+        codes::kind::OUTCOME | codes::kind::SHOWN => len == 2,
+        codes::kind::END => len == 0,
+        _ => false,
     }
 }
 
@@ -187,8 +205,7 @@ pub(crate) fn whole_end(stand: Stand, bytes: &[u8]) -> Option<usize>
         return None;
     }
     let quadlets = length_of(bytes);
-    if !is_kind(bytes[0], bytes[1])
-        || !is_length(bytes[0], quadlets)
+    if !begins_entry(bytes[0], bytes[1], quadlets)
         || !has_epoch(version, epoch, bytes)
         || cycle_of(version, bytes) < last
     {

@@ -1,12 +1,12 @@
+use crate::held::Held;
 use crate::{NodeList, ResetEntry};
 use fw_phy::SelfIds;
-use fw_words::Bytes;
 use std::alloc::{AllocError, Global};
 
 /// Memory for what an entry refers to that a reader gives: a reset, and the bytes of an entry that came in pieces.
 #[derive(Debug, Drop)]
 pub struct Room {
-    pub(crate) bytes: Box<Bytes<2308>>,
+    pub(crate) bytes: Box<Held>,
     pub(crate) reset: Box<ResetEntry>,
 }
 
@@ -14,7 +14,7 @@ impl Room {
     /// Room for one entry.
     pub fn new(alloc: Global) -> Result<Room, AllocError> {
         Ok(Room {
-            bytes: Box::new(alloc, Bytes::new())?,
+            bytes: Box::new(alloc, Held::new())?,
             reset: Box::new(alloc, no_reset())?,
         })
     }

@@ -2,9 +2,9 @@
 use Rattle.fw_base.specs.declared.plug.PlugAt.{PlugAt}
 use Rattle.std.proofs.Common.{◌≡◌, inl, inr, ℕ, ◌<◌, Bool, true, false, Option, Some, None, length, is_some, refl, sym, ap, subst, ◌∙◌, arith}
 use Rattle.fw_entry.specs.declared.entry.ResetEntry.{ResetEntry}
-use Rattle.fw_ledger.specs.Account.{Account, has_connection}
-use Rattle.fw_ledger.specs.Events.{after_reset as account_reset}
-use Rattle.fw_ledger.specs.Sound.{IsSound}
+use Rattle.fw_account.specs.Account.{Account, has_connection}
+use Rattle.fw_account.specs.Events.{after_reset as account_reset}
+use Rattle.fw_account.specs.Sound.{IsSound}
 use Rattle.fw_cmp.specs.declared.connection.Connection.{Connection}
 use Rattle.fw_cmp.specs.declared.connection.Connection.TheVariants.{PlugToPlug, BroadcastOut, BroadcastIn}
 use Rattle.fw_cmp.specs.declared.connection.Flow.{Flow}

@@ -6,10 +6,10 @@ use Rattle.std.proofs.Common.{◌≡◌, ℕ, ◌-◌, ◌<◌, Bool, true, fals
 use Rattle.std.specs.Prelude.{⊤}
 use Rattle.std.proofs.lemmas.Bool.Decides.{nat_tests}
 use Rattle.fw_plug.specs.Words.{Settings, is_connected, flag}
-use Rattle.fw_ledger.specs.Account.{Account, Pending, Connections, has_connection, is_there, remainder}
-use Rattle.fw_ledger.specs.Network.{is_output, is_input}
-use Rattle.fw_ledger.specs.Sound.{IsSound}
-use Rattle.fw_ledger.proofs.Reclaims.{units_fit}
+use Rattle.fw_account.specs.Account.{Account, Pending, Connections, has_connection, is_there, remainder}
+use Rattle.fw_account.specs.Network.{is_output, is_input}
+use Rattle.fw_account.specs.Sound.{IsSound}
+use Rattle.fw_account.proofs.Reclaims.{units_fit}
 use Rattle.fw_cmp.specs.Controllers.{restoring_job}
 use Rattle.fw_cmp.specs.declared.connection.Connection.{Connection}
 use Rattle.fw_cmp.specs.declared.connection.Connection.TheVariants.{PlugToPlug, BroadcastOut, BroadcastIn}

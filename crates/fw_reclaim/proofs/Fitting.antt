@@ -8,11 +8,11 @@ use Rattle.std.proofs.lemmas.Bool.{cases_eq}
 use Rattle.std.proofs.lemmas.Bool.Decides.{nat_tests}
 use Rattle.fw_csr.specs.declared.reply.Reply.{Reply}
 use Rattle.fw_entry.specs.declared.entry.ResetEntry.{ResetEntry}
-use Rattle.fw_ledger.specs.Account.{Account}
-use Rattle.fw_ledger.specs.Events.{after_reset as account_reset}
-use Rattle.fw_ledger.specs.Moves.{after}
-use Rattle.fw_ledger.specs.Packets.{ended}
-use Rattle.fw_ledger.specs.Sound.{IsSound}
+use Rattle.fw_account.specs.Account.{Account}
+use Rattle.fw_account.specs.Events.{after_reset as account_reset}
+use Rattle.fw_account.specs.Moves.{after}
+use Rattle.fw_account.specs.Packets.{ended}
+use Rattle.fw_account.specs.Sound.{IsSound}
 use Rattle.fw_cmp.specs.declared.connection.Slot.{Slot}
 use Rattle.fw_cmp.specs.declared.connection.Slot.TheVariants.{Free, Making}
 use Rattle.fw_cmp.specs.declared.current.Current.{Current}

@@ -5,8 +5,8 @@ use Rattle.std.specs.Prelude.{IsTrue}
 use Rattle.std.proofs.lemmas.Bool.Decides.{nat_tests}
 use Rattle.std.specs.Option.{option_map}
 use Rattle.fw_csr.specs.declared.reply.Reply.{Reply}
-use Rattle.fw_ledger.specs.Account.{Account, Pending, remainder}
-use Rattle.fw_ledger.specs.Words.{word_of}
+use Rattle.fw_account.specs.Account.{Account, Pending, remainder}
+use Rattle.fw_account.specs.Words.{word_of}
 use Rattle.fw_cmp.specs.Controllers.{restoring_job}
 use Rattle.fw_cmp.specs.declared.connection.Connection.{Connection}
 use Rattle.fw_cmp.specs.declared.connection.Connection.TheVariants.{PlugToPlug, BroadcastOut, BroadcastIn}

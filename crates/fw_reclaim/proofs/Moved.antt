@@ -4,8 +4,8 @@ use Rattle.std.proofs.Common.{◌≡◌, ◌≢◌, ◌⊎◌, inl, inr, ℕ, Bo
 use Rattle.fw_base.specs.Tables.{update_plug}
 use Rattle.fw_base.proofs.Tables.{update_plug_at}
 use Rattle.fw_plug.specs.Words.{Settings}
-use Rattle.fw_ledger.specs.Account.{Account, has_connection}
-use Rattle.fw_ledger.specs.Moves.{Move, AllocateChannel, AllocateUnits, ConnectFirst, ConnectOverlaid, ConnectInput as JoinInput, DisconnectInput, DisconnectOutput, ReleaseUnits, ReleaseChannel, Can, after}
+use Rattle.fw_account.specs.Account.{Account, has_connection}
+use Rattle.fw_account.specs.Moves.{Move, AllocateChannel, AllocateUnits, ConnectFirst, ConnectOverlaid, ConnectInput as JoinInput, DisconnectInput, DisconnectOutput, ReleaseUnits, ReleaseChannel, Can, after}
 use Rattle.fw_cmp.specs.Controllers.{restoring_job}
 use Rattle.fw_cmp.specs.declared.connection.Connection.{Connection}
 use Rattle.fw_cmp.specs.declared.connection.Flow.{Flow}

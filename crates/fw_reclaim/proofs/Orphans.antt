@@ -5,8 +5,8 @@ use Rattle.fw_base.specs.declared.plug.ConnectionKind.TheVariants.{PointToPoint,
 use Rattle.std.proofs.Common.{◌≡◌, ℕ, ◌≤◌, Bool, true, false, refl, sym, subst, arith, cond}
 use Rattle.fw_base.specs.Tables.{same_plug, update_plug}
 use Rattle.fw_base.proofs.Tables.{same_plug-true}
-use Rattle.fw_ledger.specs.Account.{Account, Connections}
-use Rattle.fw_ledger.specs.Moves.{Move, AllocateChannel, AllocateUnits, ConnectFirst, ConnectOverlaid, ConnectInput, DisconnectInput, DisconnectOutput, ReleaseUnits, ReleaseChannel, after, add_connection, drop_connection}
+use Rattle.fw_account.specs.Account.{Account, Connections}
+use Rattle.fw_account.specs.Moves.{Move, AllocateChannel, AllocateUnits, ConnectFirst, ConnectOverlaid, ConnectInput, DisconnectInput, DisconnectOutput, ReleaseUnits, ReleaseChannel, after, add_connection, drop_connection}
 use Rattle.fw_reclaim.specs.Seats.{Side, Output, Input, connections_at, orphaned_of}
 
 added : (c : ℕ) (own kind : ConnectionKind) (s : Connections) → orphaned_of kind (add_connection c own s) ≤ orphaned_of kind s

@@ -1,6 +1,6 @@
 -- How a restoring in its own second ends.
 use Rattle.std.proofs.Common.{◌≡◌, inl, ℕ, false, Option, Some, None, List, [], ◌∷◌, refl, sym, ap, subst, ◌∙◌, arith}
-use Rattle.fw_ledger.specs.Account.{Account}
+use Rattle.fw_account.specs.Account.{Account}
 use Rattle.fw_cmp.specs.declared.connection.Connection.{Connection}
 use Rattle.fw_cmp.specs.declared.connection.Flow.{Flow}
 use Rattle.fw_cmp.specs.declared.connection.Slot.TheVariants.{Restoring}

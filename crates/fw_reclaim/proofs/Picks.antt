@@ -8,7 +8,7 @@ use Rattle.std.specs.Prelude.{remove, ⊤}
 use Rattle.std.specs.List.{list_any}
 use Rattle.std.proofs.lemmas.List.Folds.{list_any_at}
 use Rattle.fw_base.proofs.Tables.{IsFirst, find_to_is}
-use Rattle.fw_ledger.specs.Account.{Account}
+use Rattle.fw_account.specs.Account.{Account}
 use Rattle.fw_cmp.specs.declared.connection.Slot.{Slot}
 use Rattle.fw_cmp.specs.declared.connection.Slot.TheVariants.{Free, Making, Standing, Restoring, Gone}
 use Rattle.fw_cmp.specs.declared.current.Current.TheVariants.{Nothing, Asking}

@@ -2,10 +2,10 @@
 use Rattle.fw_base.specs.declared.plug.PlugAt.{PlugAt}
 use Rattle.std.proofs.Common.{◌≡◌, true, Some, is_some, sym, ap, subst, ◌∙◌, arith, cond, ◌||◌}
 use Rattle.fw_entry.specs.declared.entry.ResetEntry.{ResetEntry}
-use Rattle.fw_ledger.specs.Account.{Account, has_connection, talks}
-use Rattle.fw_ledger.specs.Events.{after_reset as account_reset, talker_at}
-use Rattle.fw_ledger.specs.Network.{is_output, is_input, declared}
-use Rattle.fw_ledger.specs.Sound.{IsSound}
+use Rattle.fw_account.specs.Account.{Account, has_connection, talks}
+use Rattle.fw_account.specs.Events.{after_reset as account_reset, talker_at}
+use Rattle.fw_account.specs.Network.{is_output, is_input, declared}
+use Rattle.fw_account.specs.Sound.{IsSound}
 use Rattle.fw_cmp.specs.declared.connection.Connection.{Connection}
 use Rattle.fw_cmp.specs.declared.connection.Flow.{Flow}
 use Rattle.fw_cmp.specs.Connections.{output_of, input_of}

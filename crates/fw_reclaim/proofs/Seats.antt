@@ -8,9 +8,9 @@ use Rattle.std.proofs.lemmas.Bool.{cases_lt, cases_eq}
 use Rattle.fw_base.specs.Tables.{sum_to}
 use Rattle.fw_plug.specs.Words.{flag}
 use Rattle.fw_base.proofs.Tables.{sum_to_same, sum_to_le, sum_to_changed, sum_to_zero}
-use Rattle.fw_ledger.specs.Account.{Account, Owner, Of, Dead, Connections, is_there}
-use Rattle.fw_ledger.specs.Sound.{IsSound}
-use Rattle.fw_ledger.specs.Events.{after_death, orphaned_connections, orphaned_owner}
+use Rattle.fw_account.specs.Account.{Account, Owner, Of, Dead, Connections, is_there}
+use Rattle.fw_account.specs.Sound.{IsSound}
+use Rattle.fw_account.specs.Events.{after_death, orphaned_connections, orphaned_owner}
 use Rattle.fw_step.specs.Holding.{connections_of, is_of}
 use Rattle.fw_reclaim.specs.Seats.{Side, Output, Input, Due, Fits, AreSeated, connections_at, most, number_of, orphaned_of, is_dead}
 

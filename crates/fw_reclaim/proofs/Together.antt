@@ -5,7 +5,7 @@ use Rattle.fw_base.specs.declared.plug.ConnectionKind.{ConnectionKind}
 use Rattle.fw_base.specs.declared.plug.ConnectionKind.TheVariants.{PointToPoint, Broadcast}
 use Rattle.fw_base.specs.Tables.{sum_to}
 use Rattle.fw_base.proofs.Tables.{sum_to_same, sum_to_zero}
-use Rattle.fw_ledger.specs.Fold.{no_account}
+use Rattle.fw_account.specs.Fold.{no_account}
 use Rattle.fw_cmp.specs.declared.directory.Directory.{Directory}
 use Rattle.fw_cmp.specs.Controllers.{first_state}
 use Rattle.fw_cmp.specs.Resets.{after_hear}

@@ -1,8 +1,8 @@
 -- What a controller rests on that is to restore connections after a bus reset.
 use Rattle.std.specs.Prelude.{ℕ, slice_get, ◌≡◌, ◌⊎◌, Bool, true, false, Some, IsTrue, IsFalse, ⊤}
 use Rattle.fw_base.specs.declared.plug.PlugAt.{PlugAt}
-use Rattle.fw_ledger.specs.Account.{Account, has_connection}
-use Rattle.fw_ledger.specs.Network.{is_output, is_input}
+use Rattle.fw_account.specs.Account.{Account, has_connection}
+use Rattle.fw_account.specs.Network.{is_output, is_input}
 use Rattle.fw_cmp.specs.declared.connection.Connection.{Connection}
 use Rattle.fw_cmp.specs.declared.connection.Flow.{Flow}
 use Rattle.fw_cmp.specs.declared.connection.Slot.{Slot}
@@ -23,7 +23,7 @@ use Rattle.fw_cmp.specs.Holdings.{is_current_slot}
 use Rattle.fw_step.specs.InStep.{IsFlow}
 use Rattle.fw_step.specs.Registers.{has_manager}
 use Rattle.fw_step.specs.Moves.{move_of}
-use Rattle.fw_ledger.specs.Moves.{Move, Can, after}
+use Rattle.fw_account.specs.Moves.{Move, Can, after}
 
 -- ---- a connection and the account
 

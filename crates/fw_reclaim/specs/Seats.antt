@@ -5,7 +5,7 @@ use Rattle.fw_base.specs.declared.plug.ConnectionKind.TheVariants.{PointToPoint,
 use Rattle.std.specs.Prelude.{◌≡◌, ◌≤◌, ℕ, ◌+◌, Bool, true, false, Option, Some, None}
 use Rattle.fw_base.specs.Tables.{sum_to}
 use Rattle.fw_plug.specs.Words.{flag}
-use Rattle.fw_ledger.specs.Account.{Account, Owner, Of, Dead, Connections, counter, is_there}
+use Rattle.fw_account.specs.Account.{Account, Owner, Of, Dead, Connections, counter, is_there}
 use Rattle.fw_step.specs.Holding.{connections_of}
 
 -- output plugs, or input plugs

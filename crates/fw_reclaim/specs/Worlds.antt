@@ -3,11 +3,11 @@ use Rattle.std.specs.Prelude.{ℕ, ◌≡◌, ◌<◌, ◌≤◌, ◌⊎◌, Boo
 use Rattle.fw_base.specs.declared.plug.PlugAt.{PlugAt}
 use Rattle.fw_csr.specs.declared.reply.Reply.{Reply}
 use Rattle.fw_entry.specs.declared.entry.ResetEntry.{ResetEntry}
-use Rattle.fw_ledger.specs.Account.{Account, Request}
-use Rattle.fw_ledger.specs.Events.{after_reset as account_reset, after_second as account_second, after_death, after_withholding}
+use Rattle.fw_account.specs.Account.{Account, Request}
+use Rattle.fw_account.specs.Events.{after_reset as account_reset, after_second as account_second, after_death, after_withholding}
 use Rattle.fw_entry.specs.Network.{IsNetwork}
-use Rattle.fw_ledger.specs.Network.{is_output, is_input}
-use Rattle.fw_ledger.specs.Packets.{asked, ended}
+use Rattle.fw_account.specs.Network.{is_output, is_input}
+use Rattle.fw_account.specs.Packets.{asked, ended}
 use Rattle.fw_cmp.specs.declared.connection.Slot.{Slot}
 use Rattle.fw_cmp.specs.declared.connection.Slot.TheVariants.{Free}
 use Rattle.fw_cmp.specs.declared.current.Current.{Current}

@@ -1,8 +1,8 @@
 ghost use Rattle.std.specs.Prelude.{◌≡◌, Bool, Some, true, List, ℕ, IsTrue};
 ghost use Rattle.fw_csr.specs.declared.reply.Reply.{Reply};
 ghost use Rattle.fw_entry.specs.declared.entry.ResetEntry.{ResetEntry};
-ghost use Rattle.fw_ledger.specs.Account.{Account};
-ghost use Rattle.fw_ledger.specs.Fold.{no_account};
+ghost use Rattle.fw_account.specs.Account.{Account};
+ghost use Rattle.fw_account.specs.Fold.{no_account};
 ghost use Rattle.fw_cmp.specs.declared.connection.Connection.{Connection};
 ghost use Rattle.fw_cmp.specs.declared.connection.Flow.{Flow};
 ghost use Rattle.fw_cmp.specs.declared.directory.Directory.{Directory};

@@ -5,12 +5,12 @@ use Rattle.std.specs.Option.{option_map}
 use Rattle.fw_base.specs.declared.plug.PlugAt.{PlugAt}
 use Rattle.fw_plug.specs.Words.{OutFields, is_connected}
 use Rattle.fw_plug.proofs.Words.{fields_of_word}
-use Rattle.fw_ledger.specs.Account.{Account, Allocation, Holder, Pending, Connected, Orphaned, Flow, is_free, is_withheld, is_pending, has_connection, counter, is_there}
-use Rattle.fw_ledger.specs.Network.{is_output}
-use Rattle.fw_ledger.specs.Sound.{IsSound}
-use Rattle.fw_ledger.specs.Words.{fields_at, word_of}
-use Rattle.fw_ledger.specs.Words as word
-use Rattle.fw_ledger.proofs.Open.{not_claimed}
+use Rattle.fw_account.specs.Account.{Account, Allocation, Holder, Pending, Connected, Orphaned, Flow, is_free, is_withheld, is_pending, has_connection, counter, is_there}
+use Rattle.fw_account.specs.Network.{is_output}
+use Rattle.fw_account.specs.Sound.{IsSound}
+use Rattle.fw_account.specs.Words.{fields_at, word_of}
+use Rattle.fw_account.specs.Words as word
+use Rattle.fw_account.proofs.Open.{not_claimed}
 use Rattle.fw_step.proofs.Registers.{open_shown}
 use Rattle.fw_cmp.specs.declared.connection.Connection.{Connection}
 use Rattle.fw_cmp.specs.declared.connection.Connection.TheVariants.{PlugToPlug, BroadcastOut, BroadcastIn}

@@ -1,8 +1,8 @@
 -- A bus reset that begins a reclaim second leaves controllers that can settle.
 use Rattle.std.proofs.Common.{ℕ}
 use Rattle.fw_entry.specs.declared.entry.ResetEntry.{ResetEntry}
-use Rattle.fw_ledger.specs.Account.{Account}
-use Rattle.fw_ledger.specs.Events.{after_reset}
+use Rattle.fw_account.specs.Account.{Account}
+use Rattle.fw_account.specs.Events.{after_reset}
 use Rattle.fw_cmp.specs.declared.directory.Directory.{Directory}
 use Rattle.fw_cmp.specs.Controllers.{ControllerState}
 use Rattle.fw_step.specs.Together.{AreInStep}

@@ -4,11 +4,11 @@ use Rattle.std.proofs.lemmas.Bool.Decides.{nat_tests}
 use Rattle.std.specs.Option.{option_map}
 use Rattle.fw_base.specs.declared.plug.PlugAt.{PlugAt}
 use Rattle.fw_plug.specs.Words.{is_connected}
-use Rattle.fw_ledger.specs.Account.{Account, Pending, has_connection, counter, is_there}
-use Rattle.fw_ledger.specs.Network.{is_output}
-use Rattle.fw_ledger.specs.Sound.{IsSound}
-use Rattle.fw_ledger.specs.Words.{word_of}
-use Rattle.fw_ledger.specs.Words as word
+use Rattle.fw_account.specs.Account.{Account, Pending, has_connection, counter, is_there}
+use Rattle.fw_account.specs.Network.{is_output}
+use Rattle.fw_account.specs.Sound.{IsSound}
+use Rattle.fw_account.specs.Words.{word_of}
+use Rattle.fw_account.specs.Words as word
 use Rattle.fw_cmp.specs.declared.current.Current.{Current}
 use Rattle.fw_cmp.specs.declared.current.Current.TheVariants.{Nothing, Asking, Hearing, Overtaken}
 use Rattle.fw_cmp.specs.declared.job.Job.{Job}

@@ -3,9 +3,9 @@ use Rattle.std.proofs.Common.{◌≡◌, ◌≢◌, ℕ, ◌<◌, Bool, true, fa
 use Rattle.fw_base.specs.Tables.{update}
 use Rattle.fw_base.specs.declared.plug.PlugAt.{PlugAt}
 use Rattle.fw_entry.specs.declared.entry.ResetEntry.{ResetEntry}
-use Rattle.fw_ledger.specs.Account.{Account, Allocation, Pending, Connected, Orphaned, has_connection, allocated}
-use Rattle.fw_ledger.specs.Events.{after_reset}
-use Rattle.fw_ledger.specs.Moves.{Move, AllocateChannel, AllocateUnits, ConnectFirst, ConnectOverlaid, ConnectInput, DisconnectInput, DisconnectOutput, ReleaseUnits, ReleaseChannel, after, made_pending, drop_connection}
+use Rattle.fw_account.specs.Account.{Account, Allocation, Pending, Connected, Orphaned, has_connection, allocated}
+use Rattle.fw_account.specs.Events.{after_reset}
+use Rattle.fw_account.specs.Moves.{Move, AllocateChannel, AllocateUnits, ConnectFirst, ConnectOverlaid, ConnectInput, DisconnectInput, DisconnectOutput, ReleaseUnits, ReleaseChannel, after, made_pending, drop_connection}
 use Rattle.fw_rounds.specs.Accounts.{OnlyLiving}
 
 pub living_after_reset : (r : ResetEntry) (l : Account) → OnlyLiving (after_reset r l).allocations

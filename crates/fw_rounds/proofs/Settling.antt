@@ -4,10 +4,10 @@ use Rattle.std.proofs.Math.Path.{fun_ext}
 use Rattle.std.proofs.lemmas.Bool.{cases_eq}
 use Rattle.fw_base.specs.declared.plug.PlugAt.{PlugAt}
 use Rattle.fw_csr.specs.declared.reply.Reply.{Reply}
-use Rattle.fw_ledger.specs.Account.{Account, Request}
-use Rattle.fw_ledger.specs.Moves.{Move, DisconnectOutput, after}
-use Rattle.fw_ledger.specs.Network.{is_input}
-use Rattle.fw_ledger.specs.Packets.{asked, ended}
+use Rattle.fw_account.specs.Account.{Account, Request}
+use Rattle.fw_account.specs.Moves.{Move, DisconnectOutput, after}
+use Rattle.fw_account.specs.Network.{is_input}
+use Rattle.fw_account.specs.Packets.{asked, ended}
 use Rattle.fw_cmp.specs.declared.connection.Connection.{Connection}
 use Rattle.fw_cmp.specs.declared.connection.Flow.{Flow}
 use Rattle.fw_cmp.specs.declared.connection.Slot.{Slot}

@@ -1,9 +1,9 @@
 -- The controllers and the registers as the account of a reclaim second has them.
 use Rattle.std.specs.Prelude.{ℕ, ◌≡◌, ◌≢◌, ◌<◌, Option, Some, IsTrue}
 use Rattle.fw_base.specs.declared.plug.PlugAt.{PlugAt}
-use Rattle.fw_ledger.specs.Account.{Account, Allocation, Pending, Orphaned}
-use Rattle.fw_ledger.specs.Sound.{IsSound}
-use Rattle.fw_ledger.specs.Words.{word_of}
+use Rattle.fw_account.specs.Account.{Account, Allocation, Pending, Orphaned}
+use Rattle.fw_account.specs.Sound.{IsSound}
+use Rattle.fw_account.specs.Words.{word_of}
 use Rattle.fw_cmp.specs.declared.request.Target.{Target}
 use Rattle.fw_cmp.specs.declared.current.Current.TheVariants.{Hearing}
 use Rattle.fw_cmp.specs.declared.job.Job.{Job}

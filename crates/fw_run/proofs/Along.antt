@@ -6,20 +6,21 @@ use Rattle.fw_entry.specs.declared.entry.Entry.{Entry}
 use Rattle.fw_entry.specs.declared.entry.Entry.TheVariants.{Async, Iso}
 use Rattle.fw_entry.specs.declared.entry.Timed.{Timed}
 use Rattle.fw_tree.specs.Topology.{Topology}
-use Rattle.fw_ledger.specs.Account.{Account}
-use Rattle.fw_ledger.specs.Events.{after_second as account_second}
-use Rattle.fw_ledger.specs.Fold.{account_from, next_account, entries_of}
+use Rattle.fw_account.specs.Account.{Account}
+use Rattle.fw_account.specs.Events.{after_second as account_second}
+use Rattle.fw_account.specs.Fold.{account_from, next_account, entries_of}
 use Rattle.fw_run.specs.declared.order.Transaction.{Transaction}
 use Rattle.fw_run.specs.Giving.{at_most, at_cycle}
-use Rattle.fw_run.specs.Entries.{second_over, died, started, inserted, ejected, unsettled, lost, withheld}
+use Rattle.fw_run.specs.Entries.{second_over, died, started, inserted, ejected, unsettled, lost, withheld, dubbing}
 use Rattle.fw_entry.specs.declared.entry.Entry.TheVariants.{End as EndEntry}
 use Rattle.fw_run.specs.State.{State, Declared, is_on, with_device, is_living}
 use Rattle.fw_run.specs.Frames.{command_write, response_write}
 use Rattle.fw_run.specs.Spaces.{answer_packet, target_node, transaction_head, access_request}
 use Rattle.fw_run.specs.Streams.{bytes_of, cycle_start, stream_packet}
-use Rattle.fw_run.specs.Actions.{Action, Withhold, AddDevice, AddCable, ResetBus, StartConnection, StartBreak, HalfStep, Rest, Unsettled, Pass, EndSecond, Die, CarryOut, Lose, TellLoss, Start, Ask, Answer, ShowWord, SendCommand, SendFrame, Receive, InsertTape, EjectTape, StartCycle, SendPacket, Finish, Answers, Declares, Joins, with_topology, Step, Steps, counting, counted}
+use Rattle.fw_run.specs.Actions.{Action, Withhold, AddDevice, AddCable, ResetBus, StartConnection, StartBreak, HalfStep, Rest, Unsettled, Pass, EndSecond, Die, CarryOut, Lose, TellLoss, Start, Ask, Answer, ShowWord, SendCommand, SendFrame, Receive, InsertTape, EjectTape, StartCycle, SendPacket, BecomeCandidate, Contend, TieReel, KeepBlock, Finish, Answers, Declares, Joins, with_topology, Step, Steps}
 use Rattle.fw_run.specs.Good.{IsGood}
 use Rattle.fw_run.specs.Headline.{IsAnswered, IsReadIn}
+use Rattle.fw_run.proofs.Bidding.{bids_led}
 use Rattle.fw_run.proofs.Leads.{NextIs, entered_next}
 use Rattle.fw_run.proofs.Led.{Led, Says, IsAsked, unread, led_says, led_silent, half_led, reset_led}
 use Rattle.fw_run.proofs.Steps.{step_good}
@@ -87,6 +88,10 @@ step_led s t (InsertTape d tape system) out g x = event s _ (inserted d tape sys
 step_led s t (EjectTape d) out g x = event s _ (ejected d) out t x.1.3 x.1.4 refl ((tt, tt), λ u. tt) (omega arith)
 step_led s t StartCycle out g x = event s _ (Async (cycle_start x.1.1.0.root s.clock.cycle)) out t x.1.1.2 x.1.2 refl ((tt, tt), unread s.account (cycle_start x.1.1.0.root s.clock.cycle) (λ q. tt)) (omega arith)
 step_led s t (SendPacket p block) out g x = event s _ (Iso (stream_packet s p (bytes_of block))) out t x.1.2 x.1.3 refl ((tt, tt), λ u. tt) (omega arith)
+step_led s t (BecomeCandidate d) out g x = still s _ out t x.1.3 x.1.4 refl (omega arith)
+step_led s t (Contend d) out g x = bids_led s d out t x.1
+step_led s t (TieReel d) out g x = event s _ (dubbing d) out t x.1.3 x.1.4 refl ((tt, tt), λ u. tt) (omega arith)
+step_led s t (KeepBlock block) out g x = still s _ out t x.1.0 x.1.1 refl (omega arith)
 step_led s t Finish out g x = event s _ EndEntry out t x.1.0 x.1.1 refl ((tt, tt), λ u. tt) (omega arith)
 
 -- ---- what follows an entry
@@ -126,6 +131,10 @@ only_answer t x (InsertTape d tape system) out v waits f = absurd (clash t.trans
 only_answer t x (EjectTape d) out v waits f = absurd (clash t.transaction x waits f.0)
 only_answer t x StartCycle out v waits f = absurd (clash t.transaction x waits f.0)
 only_answer t x (SendPacket p block) out v waits f = absurd (clash t.transaction x waits f.0)
+only_answer t x (BecomeCandidate d) out v waits f = absurd (clash t.transaction x waits f.0)
+only_answer t x (Contend d) out v waits f = absurd (clash t.transaction x waits f.0)
+only_answer t x (TieReel d) out v waits f = absurd (clash t.transaction x waits f.0)
+only_answer t x (KeepBlock block) out v waits f = absurd (clash t.transaction x waits f.0)
 only_answer t x Finish out v waits f = absurd (clash t.transaction x waits f.0)
 
 -- the packet that answers a transaction

@@ -11,10 +11,10 @@ use Rattle.fw_entry.specs.declared.nodes.NodeRow.{NodeRow}
 use Rattle.fw_cmp.specs.declared.request.Target.{Target}
 use Rattle.fw_cmp.specs.declared.request.Target.TheVariants.{OutputPlug, InputPlug, Channels, BandwidthAvailable}
 use Rattle.fw_cmp.specs.Requests.{offset_of, request_at}
-use Rattle.fw_ledger.specs.Account.{Account}
-use Rattle.fw_ledger.specs.Network.{is_output, is_input, is_output_of, is_input_of}
-use Rattle.fw_ledger.specs.Words.{ChannelsAvailable, word_of}
-use Rattle.fw_ledger.proofs.Network.{any_at}
+use Rattle.fw_account.specs.Account.{Account}
+use Rattle.fw_account.specs.Network.{is_output, is_input, is_output_of, is_input_of}
+use Rattle.fw_account.specs.Words.{ChannelsAvailable, word_of}
+use Rattle.fw_account.proofs.Network.{any_at}
 use Rattle.fw_devices.specs.Network.{kind_at}
 use Rattle.fw_devices.specs.Entries.{row_of, is_number}
 use Rattle.fw_devices.specs.Resets.{Shows}
@@ -143,7 +143,7 @@ inputs_are s e n row p h at same = go (nat_lt p.plug (input_plugs_of (kind_at s.
 node_space : (s : State) (e : ResetEntry) (n d : ℕ) (row : NodeRow) → s.account.latest ≡ Some e → slice_get e.nodes n ≡ Some row → row.device ≡ d → space_of_node s n ≡ space_at s d n
 node_space s e n d row is at same = ap (λ o. space_at s (unwrap_or o 0) n) (ap (λ o. device_in o n) is ∙ (ap (option_map (λ (r : NodeRow). r.device)) at ∙ ap (λ k. Some k) same))
 
-managed : (s : State) (e : ResetEntry) (n d : ℕ) → s.account.latest ≡ Some e → e.manager ≡ Some n → (space_at s d n).manager ≡ Some (manager_words s)
+pub managed : (s : State) (e : ResetEntry) (n d : ℕ) → s.account.latest ≡ Some e → e.manager ≡ Some n → (space_at s d n).manager ≡ Some (manager_words s)
 managed s e n d is manager = ap (λ o. cond (is_number o n) (Some (manager_words s)) None) (ap manager_in is ∙ manager) ∙ ap (λ b. cond b (Some (manager_words s)) None) (own n)
   where
     own : (n : ℕ) → (n == n) ≡ true

@@ -1,13 +1,12 @@
 -- What happens to one controller leaves all others as they are: so goes the table of all.
-use Rattle.std.proofs.Common.{◌≡◌, ◌≢◌, ◌⊎◌, inl, inr, ℕ, false, is_some, refl, ap, sym, ◌∙◌, IsTrue, IsFalse, Some, None}
+use Rattle.std.proofs.Common.{◌≡◌, ◌≢◌, ◌⊎◌, inl, inr, ℕ, false, is_some, refl, ap, sym, ◌∙◌, IsTrue, IsFalse, None}
 use Rattle.std.proofs.lemmas.Bool.{cases_eq}
 use Rattle.fw_base.specs.Tables.{update}
-use Rattle.fw_csr.specs.declared.reply.Reply.{Reply}
 use Rattle.fw_entry.specs.declared.entry.ResetEntry.{ResetEntry}
 use Rattle.fw_cmp.specs.declared.current.Current.TheVariants.{Hearing}
 use Rattle.fw_cmp.specs.declared.job.Job.{Job}
 use Rattle.fw_cmp.specs.declared.stage.Stage.{Stage}
-use Rattle.fw_cmp.specs.Controllers.{ControllerState, IsHeard, first_state as new_controller}
+use Rattle.fw_cmp.specs.Controllers.{IsHeard, first_state as new_controller}
 use Rattle.fw_cmp.specs.Losses.{Listening, first_listening, after_turn, after_answer, after_loss as lost, after_bus_reset, with_state}
 use Rattle.fw_cmp.specs.Starts.{started, break_started}
 use Rattle.fw_run.specs.declared.order.Wanted.{Wanted}

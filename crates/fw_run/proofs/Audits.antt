@@ -1,10 +1,10 @@
 -- The log of a run has no fault.
-use Rattle.std.proofs.Common.{◌≡◌, List, [], ◌∷◌, ◌++◌, Option, Some, refl, ap, sym, subst, ◌∙◌}
+use Rattle.std.proofs.Common.{◌≡◌, List, [], ◌∷◌, ◌++◌, Some, refl, ap, sym, subst, ◌∙◌}
 use Rattle.fw_entry.specs.declared.entry.Entry.{Entry}
 use Rattle.fw_entry.specs.declared.entry.Timed.{Timed}
-use Rattle.fw_ledger.specs.Account.{Account}
-use Rattle.fw_ledger.specs.Fold.{account_of, entries_of}
-use Rattle.fw_ledger.specs.Sound.{IsSound, IsConflictFree}
+use Rattle.fw_account.specs.Account.{Account}
+use Rattle.fw_account.specs.Fold.{account_of, entries_of}
+use Rattle.fw_account.specs.Sound.{IsSound, IsConflictFree}
 use Rattle.fw_audit.specs.Looked.{looked, ShowsWords}
 use Rattle.fw_audit.specs.Audited.{IsAudited, IsVouched}
 use Rattle.fw_audit.proofs.Vouched.{vouched_audited}

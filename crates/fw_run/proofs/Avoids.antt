@@ -1,8 +1,8 @@
 -- No connection of a run has a channel that the bus withholds, and what is withheld stays so.
 use Rattle.std.proofs.Common.{◌≡◌, ◌≢◌, ℕ, List, [], ◌∷◌, Bool, true, false, sym, subst, ap, ◌∙◌, arith, IsTrue}
 use Rattle.fw_entry.specs.declared.entry.Timed.{Timed}
-use Rattle.fw_ledger.specs.Account.{is_withheld}
-use Rattle.fw_ledger.proofs.Open.{talks_apart}
+use Rattle.fw_account.specs.Account.{is_withheld}
+use Rattle.fw_account.proofs.Open.{talks_apart}
 use Rattle.fw_reclaim.specs.Avoids.{AvoidsWithheld}
 use Rattle.fw_reclaim.proofs.Avoiding.{first_avoided, avoids_after, stays_withheld}
 use Rattle.fw_run.specs.Actions.{Action, Step, Steps}

@@ -24,10 +24,10 @@ use Rattle.fw_entry.specs.declared.nodes.NodeRow.{NodeRow}
 use Rattle.fw_entry.specs.Log.{devices}
 use Rattle.fw_tree.proofs.ReachLaws.{sound_made}
 use Rattle.fw_entry.specs.Network.{node_of_device}
-use Rattle.fw_ledger.specs.Network.{is_output, is_input, is_output_of, is_input_of}
-use Rattle.fw_ledger.specs.Words.{BandwidthAvailable, ChannelsAvailable, OutputPlug, InputPlug, node_of}
-use Rattle.fw_ledger.proofs.Network.{any_at}
-use Rattle.fw_ledger.proofs.Bounds.{word_below}
+use Rattle.fw_account.specs.Network.{is_output, is_input, is_output_of, is_input_of}
+use Rattle.fw_account.specs.Words.{BandwidthAvailable, ChannelsAvailable, OutputPlug, InputPlug, node_of}
+use Rattle.fw_account.proofs.Network.{any_at}
+use Rattle.fw_account.proofs.Bounds.{word_below}
 use Rattle.fw_node.specs.Contents.{node_ids, cycle_time, capabilities}
 use Rattle.fw_node.specs.Space.{Space, answer_of, register_at, manager_register_at, core_register_at, plug_table, lies_within}
 use Rattle.fw_plug.specs.Plugs as Plugs

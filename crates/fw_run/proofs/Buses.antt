@@ -10,8 +10,8 @@ use Rattle.fw_entry.specs.declared.entry.ResetEntry.{ResetEntry}
 use Rattle.fw_entry.specs.declared.nodes.NodeRow.{NodeRow}
 use Rattle.fw_cmp.specs.Nodes.{node_of as told_node}
 use Rattle.fw_entry.specs.Network.{node_of_device, row_of_node}
-use Rattle.fw_ledger.specs.Network.{is_output, is_input, is_output_of, is_input_of}
-use Rattle.fw_ledger.specs.Words.{node_of}
+use Rattle.fw_account.specs.Network.{is_output, is_input, is_output_of, is_input_of}
+use Rattle.fw_account.specs.Words.{node_of}
 use Rattle.fw_step.specs.Registers.{has_manager}
 use Rattle.fw_devices.specs.Network.{kind_at}
 use Rattle.fw_devices.specs.Entries.{node_number, row_of}

@@ -9,15 +9,16 @@ use Rattle.fw_entry.specs.declared.entry.ResetEntry.{ResetEntry}
 use Rattle.fw_entry.specs.declared.entry.Timed.{Timed}
 use Rattle.fw_tape.specs.declared.cassette.BlockPlace.{BlockPlace}
 use Rattle.fw_tape.specs.Blocks.{block_now}
-use Rattle.fw_ledger.specs.Account.{Account, talks}
+use Rattle.fw_account.specs.Account.{Account, talks}
 use Rattle.fw_run.specs.Giving.{at_most, at_cycle}
 use Rattle.fw_run.specs.Entries.{second_over}
 use Rattle.fw_run.specs.State.{State}
 use Rattle.fw_run.specs.Streams.{GivenBlock, GivesBlock, bytes_of, tape_at, cycle_start, stream_packet, talkers}
-use Rattle.fw_run.specs.Actions.{Action, Pass, EndSecond, StartCycle, SendPacket, Step, Steps, after_cycles, after_second}
+use Rattle.fw_run.specs.Actions.{Action, Pass, EndSecond, StartCycle, SendPacket, KeepBlock, Step, Steps, after_cycles, after_second}
 use Rattle.fw_run.specs.Carrying.{next_cycle, HasCycle, HasCycles}
 use Rattle.fw_run.specs.Cycles.{AllTalk, CanSendPackets, MayWrite, CanWriteCycles}
 use Rattle.fw_run.specs.Good.{IsGood}
+use Rattle.fw_run.specs.Recording.{heard_in, with_block}
 use Rattle.fw_run.proofs.Runs.{cycle_steps}
 use Rattle.fw_run.proofs.Steps.{steps_good}
 use Rattle.fw_run.proofs.Talkers.{member_talks}
@@ -162,19 +163,27 @@ can_cycle s g none low few = go s.account.latest refl
         let mid : State = record c.after { written = c.after.written + 1 } in
         let less : c.after.written < 8000 = let w = few (subst (λ o. IsTrue (is_some o)) (sym is) refl) in let same = c.written in omega (arith, w, same) in
         let sent = can_send (talkers mid.account) mid c.none (talkers_talk mid) in
+        let out = (c.out ++ start) ++ sent.out in
+        let block = heard_in mid out in
         record {
-          actions = next_cycle s ∷ StartCycle ∷ sent.actions;
-          out = (c.out ++ start) ++ sent.out;
-          after = mid;
-          has = subst (λ o. HasCycle o s (next_cycle s ∷ StartCycle ∷ sent.actions) ((c.out ++ start) ++ sent.out) mid) (sym is) (record {
-            mid = mid;
-            packets = sent.actions;
-            first = c.out ++ start;
-            last = sent.out;
-            comes = (c.out, start, c.after, c.step, refl, (start, [], mid, (c.none, (less, (e, c.latest ∙ is, refl), refl)), refl, (refl, refl)));
-            sends = sent.sends;
+          actions = (next_cycle s ∷ StartCycle ∷ sent.actions) ++ KeepBlock block ∷ [];
+          out = out;
+          after = with_block mid block;
+          has = subst (λ o. HasCycle o s ((next_cycle s ∷ StartCycle ∷ sent.actions) ++ KeepBlock block ∷ []) out (with_block mid block)) (sym is) (record {
+            sent = mid;
+            written = next_cycle s ∷ StartCycle ∷ sent.actions;
+            writes = record {
+              mid = mid;
+              packets = sent.actions;
+              first = c.out ++ start;
+              last = sent.out;
+              comes = (c.out, start, c.after, c.step, refl, (start, [], mid, (c.none, (less, (e, c.latest ∙ is, refl), refl)), refl, (refl, refl)));
+              sends = sent.sends;
+              actions_are = refl;
+              out_is = refl;
+            };
+            keeps = ([], [], with_block mid block, (c.none, (refl, refl)), refl, (refl, refl));
             actions_are = refl;
-            out_is = refl;
           });
           cycle = c.cycle;
           latest = c.latest;

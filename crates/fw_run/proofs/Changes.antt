@@ -4,7 +4,7 @@ use Rattle.fw_entry.specs.declared.entry.ResetEntry.{ResetEntry}
 use Rattle.fw_entry.specs.declared.entry.Timed.{Timed}
 use Rattle.fw_tree.specs.declared.facts.End.{End}
 use Rattle.fw_tree.specs.Topology.{Topology, IsJoined}
-use Rattle.fw_ledger.specs.Account.{Account}
+use Rattle.fw_account.specs.Account.{Account}
 use Rattle.fw_cmp.specs.declared.current.Current.{Current}
 use Rattle.fw_cmp.specs.declared.current.Current.TheVariants.{Nothing, Asking, Hearing, Overtaken}
 use Rattle.fw_cmp.specs.declared.directory.Directory.{Directory}
@@ -23,7 +23,7 @@ use Rattle.fw_run.specs.declared.order.Wanted.{Wanted}
 use Rattle.fw_run.specs.Entries.{withheld}
 use Rattle.fw_run.specs.State.{State, Declared, entered, list_to, linked_number, manager_in, is_on, is_linked, is_living, directory_of, with_device, is_deaf}
 use Rattle.fw_run.specs.HalfSteps.{asks, taken, half_of, after_half, with_controller}
-use Rattle.fw_run.specs.Actions.{Action, Withhold, AddDevice, AddCable, ResetBus, StartConnection, StartBreak, HalfStep, Rest, Unsettled, Pass, EndSecond, Die, CarryOut, Lose, TellLoss, Start, Ask, Answer, ShowWord, SendCommand, SendFrame, Receive, InsertTape, EjectTape, StartCycle, SendPacket, Finish, Resets, Declares, Joins, with_topology, slot_of, start_of, with_connection, after_cycles, after_second, after_death, after_start, counted, Step, Steps, counting, beginning, after_loss}
+use Rattle.fw_run.specs.Actions.{Action, Withhold, AddDevice, AddCable, ResetBus, StartConnection, StartBreak, HalfStep, Rest, Unsettled, Pass, EndSecond, Die, CarryOut, Lose, TellLoss, Start, Ask, Answer, ShowWord, SendCommand, SendFrame, Receive, InsertTape, EjectTape, StartCycle, SendPacket, BecomeCandidate, Contend, TieReel, KeepBlock, Finish, Resets, Declares, Joins, with_topology, slot_of, start_of, with_connection, after_cycles, after_second, after_death, after_start, counted, Step, Steps, counting, beginning, after_loss}
 use Rattle.fw_run.specs.Good.{IsGood, world_of}
 use Rattle.fw_run.specs.Reclaiming.{IsHarmless, AreHarmless}
 use Rattle.fw_run.proofs.Buses.{linked_small, shows_bus}
@@ -236,6 +236,10 @@ step_change s (InsertTape d tape system) out t g x = elsewhere s (InsertTape d t
 step_change s (EjectTape d) out t g x = elsewhere s (EjectTape d) t (ap world_of x.1.4)
 step_change s StartCycle out t g x = elsewhere s StartCycle t (ap world_of x.1.2)
 step_change s (SendPacket p block) out t g x = elsewhere s (SendPacket p block) t (ap world_of x.1.3)
+step_change s (BecomeCandidate d) out t g x = elsewhere s (BecomeCandidate d) t (ap world_of x.1.4)
+step_change s (Contend d) out t g x = elsewhere s (Contend d) t (ap world_of x.1.state_is)
+step_change s (TieReel d) out t g x = elsewhere s (TieReel d) t (ap world_of x.1.4)
+step_change s (KeepBlock block) out t g x = elsewhere s (KeepBlock block) t (ap world_of x.1.1)
 step_change s Finish out t g x = elsewhere s Finish t (ap world_of x.1.1)
 
 -- ---- actions

@@ -10,7 +10,7 @@ use Rattle.fw_tape.specs.declared.row.TapeRow.TheVariants.{Eject, Enter, Transpo
 use Rattle.fw_avc.specs.declared.row.UnitRow.TheVariants.{UnitInfo, SubunitInfo, PlugInfo, SetPower, PowerState, VendorDependent}
 use Rattle.fw_avc.specs.Replies.{Ruling, Repeat, CarryOut, OfUnit, OfTape, Makes, IsResponse, ruling, unit_after}
 use Rattle.fw_avc.specs.State.{UnitState}
-use Rattle.fw_ledger.specs.Words.{node_of}
+use Rattle.fw_account.specs.Words.{node_of}
 use Rattle.fw_node.specs.Fcp.{command_bytes, IsCommand, HasFollowed}
 use Rattle.fw_node.specs.State.{NodeState}
 use Rattle.fw_run.specs.Decks.{DeckState, FrameWrite, after_command}

@@ -13,17 +13,17 @@ use Rattle.fw_tape.specs.declared.cassette.Cassette.{Cassette}
 use Rattle.fw_tape.specs.Blocks.{block_now, blocks_among}
 use Rattle.fw_tape.specs.Motion.{passed_on}
 use Rattle.fw_tape.proofs.BlockLaws.{given_now, counted_one}
-use Rattle.fw_ledger.specs.Account.{Account, Connections, Owner, Of, Dead, counter, is_there, has_connection, talks}
-use Rattle.fw_ledger.specs.Events.{no_connections, orphaned_connections, orphaned_owner, after_reset as account_reset, after_death as account_death}
-use Rattle.fw_ledger.specs.Network.{is_output}
-use Rattle.fw_ledger.specs.Sound.{IsSound}
+use Rattle.fw_account.specs.Account.{Account, Connections, Owner, Of, Dead, counter, is_there, has_connection, talks}
+use Rattle.fw_account.specs.Events.{no_connections, orphaned_connections, orphaned_owner, after_reset as account_reset, after_death as account_death}
+use Rattle.fw_account.specs.Network.{is_output}
+use Rattle.fw_account.specs.Sound.{IsSound}
 use Rattle.fw_reclaim.specs.Worlds.{Grows}
 use Rattle.fw_run.specs.Giving.{at_cycle}
 use Rattle.fw_run.specs.Entries.{second_over}
 use Rattle.fw_run.specs.State.{State, entered, while_talking, is_on, with_device}
 use Rattle.fw_run.specs.Streams.{bytes_of, tape_at, sent_before, stream_packet}
 use Rattle.fw_run.specs.Actions.{Action, Withhold, AddDevice, AddCable, ResetBus, StartConnection, StartBreak, HalfStep, Rest, Unsettled, Pass, EndSecond, Die, counting, beginning, counted, Lose, TellLoss}
-use Rattle.fw_run.specs.Actions.{CarryOut, Start, Ask, Answer, ShowWord, SendCommand, SendFrame, Receive, InsertTape, EjectTape, StartCycle, SendPacket, Finish}
+use Rattle.fw_run.specs.Actions.{CarryOut, Start, Ask, Answer, ShowWord, SendCommand, SendFrame, Receive, InsertTape, EjectTape, StartCycle, SendPacket, BecomeCandidate, Contend, TieReel, KeepBlock, Finish}
 use Rattle.fw_run.specs.Actions.{Declares, Joins, Step, after_cycles, after_second, after_reset_entry, with_topology}
 use Rattle.fw_run.specs.Carrying.{next_cycle, SendsPackets}
 use Rattle.fw_run.specs.Cycles.{given_in, CountsThrough, ArePackets}
@@ -138,6 +138,10 @@ counts_step s a out t g x p = go a x
     go (EjectTape d) x = stays (EjectTape d) s t _ p g (good (EjectTape d) x) x.1.4 refl refl
     go StartCycle x = stays StartCycle s t _ p g (good StartCycle x) x.1.2 refl refl
     go (SendPacket q block) x = stays (SendPacket q block) s t s p g (good (SendPacket q block) x) x.1.3 refl refl
+    go (BecomeCandidate d) x = stays (BecomeCandidate d) s t _ p g (good (BecomeCandidate d) x) x.1.4 refl refl
+    go (Contend d) x = stays (Contend d) s t _ p g (good (Contend d) x) x.1.state_is refl refl
+    go (TieReel d) x = stays (TieReel d) s t _ p g (good (TieReel d) x) x.1.4 refl refl
+    go (KeepBlock block) x = stays (KeepBlock block) s t _ p g (good (KeepBlock block) x) x.1.1 refl refl
     go Finish x = stays Finish s t _ p g (good Finish x) x.1.1 refl refl
 
 -- ---- bus resets and deaths

@@ -2,7 +2,7 @@
 use Rattle.std.proofs.Common.{◌≡◌, ℕ, cond, Bool, true, false, refl, ap, sym, ◌∙◌, IsTrue, IsFalse}
 use Rattle.std.proofs.Math.Path.{fun_ext}
 use Rattle.fw_base.specs.declared.plug.PlugAt.{PlugAt}
-use Rattle.fw_ledger.specs.Account.{Account, talks}
+use Rattle.fw_account.specs.Account.{Account, talks}
 use Rattle.fw_run.specs.State.{while_talking}
 
 pub silent : (l : Account) (counts : PlugAt → ℕ) (p : PlugAt) → IsFalse (talks l p) → while_talking l counts p ≡ 0

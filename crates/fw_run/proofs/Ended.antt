@@ -19,7 +19,7 @@ use Rattle.fw_script.specs.declared.command.Command.TheVariants as Commands
 use Rattle.fw_run.specs.declared.order.Order.{Order}
 use Rattle.fw_run.specs.declared.order.Order.TheVariants as order
 use Rattle.fw_run.specs.Giving.{at_most}
-use Rattle.fw_run.specs.Entries.{second_over, died, started, inserted, ejected, unsettled, shown_entry, lost, withheld}
+use Rattle.fw_run.specs.Entries.{second_over, died, started, inserted, ejected, unsettled, shown_entry, lost, withheld, dubbing}
 use Rattle.fw_run.specs.State.{State, is_on, living, with_device, directory_of}
 use Rattle.fw_run.specs.Frames.{command_write, response_write, frame_packet}
 use Rattle.fw_run.specs.Spaces.{transaction_head, access_request, answer_packet, read_at}
@@ -27,11 +27,17 @@ use Rattle.fw_run.specs.HalfSteps.{head_from, said, hears, hears_from, half, hal
 use Rattle.fw_base.specs.declared.plug.PlugAt.{PlugAt}
 use Rattle.fw_entry.specs.declared.entry.ResetEntry.{ResetEntry}
 use Rattle.fw_run.specs.Streams.{bytes_of, cycle_start, stream_packet, talkers}
-use Rattle.fw_run.specs.Actions.{Action, Withhold, AddDevice, AddCable, ResetBus, StartConnection, StartBreak, HalfStep, Rest, Unsettled, Pass, EndSecond, Die, CarryOut, Lose, TellLoss, Start, Ask, Answer, ShowWord, SendCommand, SendFrame, Receive, InsertTape, EjectTape, StartCycle, SendPacket, Finish, Declares, Joins, with_topology, Step, Steps}
-use Rattle.fw_run.specs.Carrying.{times, half_steps_of, Rounds, none, round, rest, Carries, withholds, withholds_already, declares, joins, resets, connects, breaks, steps, settled, unsettled as not_settled, waits, waits_over, writes_cycles, next_cycle, SendsPackets, HasCycle, HasCycles, dies, dies_late, dies_idle, loses, starts, goes_on, transacts, shows, commanded, inserts, ejects, ejects_nothing, SendsAll, quiet, sends, ends}
+use Rattle.fw_run.specs.Actions.{Action, Withhold, AddDevice, AddCable, ResetBus, StartConnection, StartBreak, HalfStep, Rest, Unsettled, Pass, EndSecond, Die, CarryOut, Lose, TellLoss, Start, Ask, Answer, ShowWord, SendCommand, SendFrame, Receive, InsertTape, EjectTape, StartCycle, SendPacket, BecomeCandidate, Contend, TieReel, KeepBlock, Finish, Declares, Joins, with_topology, Step, Steps}
+use Rattle.fw_run.specs.Carrying.{times, half_steps_of, Rounds, none, round, rest, Carries, withholds, withholds_already, declares, joins, resets, connects, breaks, steps, settled, unsettled as not_settled, waits, waits_over, writes_cycles, next_cycle, SendsPackets, HasCycle, HasCycles, dies, dies_late, dies_idle, loses, starts, goes_on, transacts, shows, commanded, inserts, ejects, ejects_nothing, SendsAll, quiet, sends, becomes_candidate, stays_candidate, contends, dubs, ends}
 use Rattle.fw_run.specs.Rules.{IsOrder}
 use Rattle.fw_run.specs.Runs.{Run, begun, and_then}
 use Rattle.fw_run.specs.Logs.{HasNoEnd}
+use Rattle.fw_manager.specs.Bids.{CandidateState, stage_in}
+use Rattle.fw_manager.specs.declared.bid.Bid.TheVariants.{Elected, Defeated}
+use Rattle.fw_manager.specs.declared.candidate.Stage.{Stage as BidStage}
+use Rattle.fw_manager.specs.declared.candidate.Stage.TheVariants.{Fresh, Asked, Heard, Answered}
+use Rattle.fw_run.specs.Bidding.{bid_said, bid_at, bid_step, epoch_at}
+use Rattle.fw_run.specs.Recording.{heard_in}
 use Rattle.fw_run.proofs.Runs.{carries_steps}
 use Rattle.fw_run.proofs.Taking.{Taken, listens, keeps_deaf, forces_reset, taken_as}
 
@@ -87,6 +93,19 @@ half_unended s d = go (s.controllers d).current
     go (Hearing j stage) = heard (access_of j stage)
     go (Overtaken i o) = said_on (next s.clock.cycle (directory_of s) (s.controllers d))
 
+bid_unended : (s : State) (d manager : ℕ) (c : CandidateState) → GoesOn (bid_step s d manager c).says
+bid_unended s d manager c = go (stage_in (epoch_at s) c)
+  where
+    ends_so : (b : Bool) (word : ℕ) → GoesOn (bid_said s d (cond b Elected (Defeated word)))
+    ends_so true word = refl
+    ends_so false word = refl
+
+    go : (stage : BidStage) → GoesOn (bid_at s d manager c stage).says
+    go Fresh = refl
+    go Asked = refl
+    go (Heard word) = ends_so (word == 0x3F) word
+    go Answered = tt
+
 -- ---- actions
 
 abbrev pub IsNoFinish : Action → Type 0
@@ -139,6 +158,10 @@ step_unended s t (InsertTape d tape system) out nf x = most_unended s.clock.cycl
 step_unended s t (EjectTape d) out nf x = most_unended s.clock.cycle (Some (ejected d)) out refl x.1.3
 step_unended s t StartCycle out nf x = most_unended s.clock.cycle (Some (Async (cycle_start x.1.1.0.root s.clock.cycle))) out refl x.1.1.2
 step_unended s t (SendPacket p block) out nf x = most_unended s.clock.cycle (Some (Iso (stream_packet s p (bytes_of block)))) out refl x.1.2
+step_unended s t (BecomeCandidate d) out nf x = none_unended out x.1.3
+step_unended s t (Contend d) out nf x = let y = x.1 in most_unended s.clock.cycle (bid_step s d y.manager y.candidate).says out (bid_unended s d y.manager y.candidate) y.out_is
+step_unended s t (TieReel d) out nf x = most_unended s.clock.cycle (Some (dubbing d)) out refl x.1.3
+step_unended s t (KeepBlock block) out nf x = none_unended out x.1.0
 step_unended s t Finish out nf x = absurd nf
 
 pub steps_unended : (s t : State) (actions : List Action) (out : List Timed) → HasNoFinish actions → Steps s actions out t → IsUnended out
@@ -186,7 +209,10 @@ no_finish_packets (p ∷ plugs) s xs out t f = subst HasNoFinish (sym f.7) (tt, 
 
 no_finish_cycle : (o : Option ResetEntry) (s : State) (xs : List Action) (out : List Timed) (t : State) → HasCycle o s xs out t → HasNoFinish xs
 no_finish_cycle None s xs out t f = subst HasNoFinish (sym f.1) (no_finish_next s, tt)
-no_finish_cycle (Some e) s xs out t f = subst HasNoFinish (sym f.actions_are) (no_finish_next s, (tt, no_finish_packets (talkers f.mid.account) f.mid f.packets f.last t f.sends))
+no_finish_cycle (Some e) s xs out t f =
+    let w = f.writes in
+    subst HasNoFinish (sym f.actions_are) (no_finish_append f.written (KeepBlock (heard_in f.sent out) ∷ [])
+    (subst HasNoFinish (sym w.actions_are) (no_finish_next s, (tt, no_finish_packets (talkers w.mid.account) w.mid w.packets w.last f.sent w.sends))) (tt, tt))
 
 no_finish_cycles : (n : ℕ) (s : State) (xs : List Action) (out : List Timed) (t : State) → HasCycles n s xs out t → HasNoFinish xs
 unfolding HasCycles
@@ -219,6 +245,10 @@ no_finish s o xs out t on (commanded {b = b} x m more first last f g) = (tt, (tt
 no_finish s o xs out t on (inserts {d = d} m more first last f g) = (tt, no_finish_all d m more last t g)
 no_finish s o xs out t on (ejects {d = d} m more first last f g) = (tt, no_finish_all d m more last t g)
 no_finish s o xs out t on (ejects_nothing e) = tt
+no_finish s o xs out t on (becomes_candidate f) = (tt, tt)
+no_finish s o xs out t on (stays_candidate e) = tt
+no_finish s o xs out t on (contends {d = d} {count = n} f) = no_finish_times n (Contend d) tt
+no_finish s o xs out t on (dubs f) = (tt, tt)
 no_finish s o xs out t on (ends f) = absurd on
 
 -- the order is the end, or it is not
@@ -242,6 +272,9 @@ end_or_none (order.Lose d) = inl tt
 end_or_none (order.Start d) = inl tt
 end_or_none (order.Transact x) = inl tt
 end_or_none (order.Show d offset) = inl tt
+end_or_none (order.Candidate d) = inl tt
+end_or_none (order.Contend d count) = inl tt
+end_or_none (order.Dub d) = inl tt
 
 -- ---- commands
 
@@ -270,6 +303,9 @@ order_no_end s (Commands.Swap name other offset argument new) o ne f = is_no_end
 order_no_end s (Commands.Insert name tape system) o ne f = is_no_end o _ f.2 tt
 order_no_end s (Commands.Eject name) o ne f = is_no_end o _ f.2 tt
 order_no_end s (Commands.Show name offset) o ne f = is_no_end o _ f.2 tt
+order_no_end s (Commands.Candidate name) o ne f = is_no_end o _ f.2 tt
+order_no_end s (Commands.Contend name count) o ne f = is_no_end o _ f.2 tt
+order_no_end s (Commands.Dub name) o ne f = is_no_end o _ f.2 tt
 order_no_end s Commands.End o ne f = absurd (ne refl)
 
 -- ---- runs

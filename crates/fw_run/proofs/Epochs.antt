@@ -1,5 +1,5 @@
 -- The epoch of a state is that of the latest reset among the entries that led to it.
-use Rattle.std.proofs.Common.{◌≡◌, ℕ, ◌==◌, ◌&&◌, cond, Bool, true, false, List, [], ◌∷◌, ◌++◌, length, Option, Some, None, is_none, is_some, refl, ap, sym, subst, ◌∙◌}
+use Rattle.std.proofs.Common.{◌≡◌, ℕ, ◌==◌, ◌&&◌, cond, Bool, true, false, List, [], ◌∷◌, Option, Some, None, is_none, is_some, refl, ap, sym, ◌∙◌}
 use Rattle.fw_words.specs.Quadlet.{quadlet_at}
 use Rattle.fw_base.specs.declared.plug.PlugAt.{PlugAt}
 use Rattle.fw_async.specs.declared.packet.Head.{Head}
@@ -12,13 +12,13 @@ use Rattle.fw_entry.specs.declared.entry.Entry.TheVariants.{Reset, Async, Iso, E
 use Rattle.fw_entry.specs.declared.entry.Timed.{Timed}
 use Rattle.fw_entry.specs.declared.entry.EventEntry.{EventEntry}
 use Rattle.fw_entry.proofs.LogLaws.{latest_append}
-use Rattle.fw_ledger.specs.Account.{Account, Operation, Reads, Locks, Request}
-use Rattle.fw_ledger.specs.Events.{after_reset, after_second, after_death, after_withholding}
-use Rattle.fw_ledger.specs.Fold.{next_account, after_event}
-use Rattle.fw_ledger.specs.Moves.{Move, after}
-use Rattle.fw_ledger.specs.Words.{Register, register_of}
-use Rattle.fw_ledger.specs.Decode.{move_at}
-use Rattle.fw_ledger.specs.Packets.{Reply, Read, Locked, asked, asked_by, ended, is_reply_to, is_swapped, moved, swapped, replied, replied_to, answered, after_request, after_reply, after_packet}
+use Rattle.fw_account.specs.Account.{Account, Operation, Reads, Locks, Request}
+use Rattle.fw_account.specs.Events.{after_reset, after_second, after_death, after_withholding}
+use Rattle.fw_account.specs.Fold.{next_account, after_event}
+use Rattle.fw_account.specs.Moves.{Move}
+use Rattle.fw_account.specs.Words.{Register, register_of}
+use Rattle.fw_account.specs.Decode.{move_at}
+use Rattle.fw_account.specs.Packets.{Reply, Read, Locked, asked_by, is_reply_to, is_swapped, moved, swapped, replied, replied_to, answered, after_request, after_reply, after_packet}
 use Rattle.fw_run.specs.Actions.{Action, Step, Steps}
 use Rattle.fw_run.specs.Good.{IsGood}
 use Rattle.fw_run.specs.Giving.{at_most}
@@ -30,7 +30,6 @@ use Rattle.fw_run.proofs.Times.{first_good}
 use Rattle.fw_run.proofs.Along.{step_led}
 use Rattle.fw_run.proofs.Hears.{moved_bus}
 use Rattle.fw_run.proofs.Leads.{NextIs}
-use Rattle.fw_run.proofs.Led.{Led}
 use Rattle.fw_run.proofs.Steps.{step_good}
 
 -- an account that some entry leads to, where there is one, has the bus of the one before

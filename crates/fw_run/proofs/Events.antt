@@ -3,7 +3,7 @@ use Rattle.std.proofs.Common.{◌≡◌, ◌≢◌, ◌⊎◌, inl, inr, ℕ, �
 use Rattle.std.proofs.lemmas.Bool.{cases_eq}
 use Rattle.fw_base.specs.Tables.{update}
 use Rattle.fw_entry.specs.declared.entry.ResetEntry.{ResetEntry}
-use Rattle.fw_ledger.specs.Account.{Account}
+use Rattle.fw_account.specs.Account.{Account}
 use Rattle.fw_cmp.specs.declared.outcome.StartFault.TheVariants.{NotOwnPlug}
 use Rattle.fw_cmp.specs.Controllers.{ControllerState, first_state as new_controller}
 use Rattle.fw_cmp.specs.Fits.{SlotFits}

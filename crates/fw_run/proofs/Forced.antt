@@ -1,8 +1,8 @@
 -- A bus reset that a controller forces can come, and finds the same cables, so it leaves all that live living.
-use Rattle.std.proofs.Common.{◌≡◌, ◌≢◌, ◌⊎◌, inl, inr, ℕ, ◌<◌, ◌&&◌, not, List, length, Bool, true, false, Option, Some, None, is_some, refl, ap, sym, ◌∙◌, arith, IsTrue}
+use Rattle.std.proofs.Common.{◌≡◌, ℕ, ◌<◌, ◌&&◌, not, List, length, Bool, true, false, Option, Some, None, is_some, refl, ap, sym, ◌∙◌, arith, IsTrue}
 use Rattle.fw_entry.specs.declared.entry.ResetEntry.{ResetEntry}
 use Rattle.fw_entry.specs.declared.entry.Timed.{Timed}
-use Rattle.fw_run.specs.Actions.{Resets, after_reset_entry, counted}
+use Rattle.fw_run.specs.Actions.{Resets, counted}
 use Rattle.fw_run.specs.Good.{IsGood, IsLatest}
 use Rattle.fw_run.specs.State.{State, epoch_of, linked_number, is_on, is_living, is_deaf}
 use Rattle.fw_run.proofs.Cables.{forced_may, living_on, on_is_bus, on_some}

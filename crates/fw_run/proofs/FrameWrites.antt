@@ -16,9 +16,9 @@ use Rattle.fw_csr.specs.Replies.{reply}
 use Rattle.fw_entry.specs.declared.entry.Entry.TheVariants.{Async as AsyncEntry}
 use Rattle.fw_entry.specs.declared.entry.Timed.{Timed}
 use Rattle.fw_entry.specs.Log.{Fits}
-use Rattle.fw_ledger.specs.Account.{Account}
-use Rattle.fw_ledger.specs.Fold.{next_account}
-use Rattle.fw_ledger.specs.Words.{node_of}
+use Rattle.fw_account.specs.Account.{Account}
+use Rattle.fw_account.specs.Fold.{next_account}
+use Rattle.fw_account.specs.Words.{node_of}
 use Rattle.fw_node.specs.Packets.{packet_of, response_head, response_to, RequestFits}
 use Rattle.fw_node.specs.Space.{Space, answer_of, register_at}
 use Rattle.fw_fcp.specs.declared.frame.Frame.{Frame}

@@ -6,7 +6,7 @@ use Rattle.fw_entry.specs.declared.entry.Timed.{Timed}
 use Rattle.fw_entry.specs.declared.nodes.NodeRow.{NodeRow}
 use Rattle.fw_tape.specs.declared.system.TapeSystem.{TapeSystem}
 use Rattle.fw_tape.specs.Motion.{inserted}
-use Rattle.fw_ledger.specs.Words.{node_of}
+use Rattle.fw_account.specs.Words.{node_of}
 use Rattle.fw_devices.specs.Entries.{node_number}
 use Rattle.fw_run.specs.Actions.{with_cassette}
 use Rattle.fw_fcp.specs.declared.frame.Frame.{Frame}

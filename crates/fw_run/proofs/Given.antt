@@ -2,8 +2,8 @@
 use Rattle.std.proofs.Common.{ℕ, zero, suc, List, [], ◌∷◌, ◌++◌}
 use Rattle.fw_entry.specs.declared.entry.Timed.{Timed}
 use Rattle.fw_run.specs.declared.order.Order.{Order}
-use Rattle.fw_run.specs.Actions.{Action, HalfStep, Unsettled}
-use Rattle.fw_run.specs.Carrying.{times, half_steps_of, Rounds, none, round, rest, SendsAll, quiet, sends, Carries, withholds, withholds_already, declares, joins, resets, connects, breaks, steps, settled, unsettled, waits, waits_over, writes_cycles, dies, dies_late, dies_idle, loses, starts, goes_on, transacts, shows, commanded, inserts, ejects, ejects_nothing, ends}
+use Rattle.fw_run.specs.Actions.{Action, HalfStep, Contend, Unsettled}
+use Rattle.fw_run.specs.Carrying.{times, half_steps_of, Rounds, none, round, rest, SendsAll, quiet, sends, Carries, withholds, withholds_already, declares, joins, resets, connects, breaks, steps, settled, unsettled, waits, waits_over, writes_cycles, dies, dies_late, dies_idle, loses, starts, goes_on, transacts, shows, commanded, inserts, ejects, ejects_nothing, becomes_candidate, stays_candidate, contends, dubs, ends}
 use Rattle.fw_run.specs.Desks.{DeskRelations}
 use Rattle.fw_run.specs.Given.{IsGiven, AreGiven, AsksNoDesk}
 use Rattle.fw_run.specs.State.{State, living}
@@ -61,4 +61,8 @@ carries_given D s o xs out t on (commanded x m more first last f g) = absurd on
 carries_given D s o xs out t on (inserts {d = d} m more first last f g) = (tt, all_given D d m more last t g)
 carries_given D s o xs out t on (ejects {d = d} m more first last f g) = (tt, all_given D d m more last t g)
 carries_given D s o xs out t on (ejects_nothing e) = tt
+carries_given D s o xs out t on (becomes_candidate f) = (tt, tt)
+carries_given D s o xs out t on (stays_candidate e) = tt
+carries_given D s o xs out t on (contends {d = d} {count = n} f) = given_times D n (Contend d) tt
+carries_given D s o xs out t on (dubs f) = (tt, tt)
 carries_given D s o xs out t on (ends f) = (tt, tt)

@@ -10,9 +10,9 @@ use Rattle.fw_tree.specs.Cables.{IsOnBus}
 use Rattle.fw_tree.specs.Numbering.{IsManager, Contends}
 use Rattle.fw_tree.specs.Numbers.{number_at}
 use Rattle.fw_tree.specs.Topology.{Topology, Made}
-use Rattle.fw_ledger.specs.Account.{Account}
-use Rattle.fw_ledger.specs.Network.{is_output, is_input, is_output_of, is_input_of}
-use Rattle.fw_ledger.proofs.Network.{any_at}
+use Rattle.fw_account.specs.Account.{Account}
+use Rattle.fw_account.specs.Network.{is_output, is_input, is_output_of, is_input_of}
+use Rattle.fw_account.proofs.Network.{any_at}
 use Rattle.fw_step.specs.Registers.{has_manager}
 use Rattle.fw_devices.specs.Network.{AreKinds, kind_at}
 use Rattle.fw_devices.specs.Entries.{IsResetEntry, node_number, number_of, row_of}
@@ -91,7 +91,7 @@ grows_input t u kinds e f h p on =
 
 -- ---- the manager
 
-contender_links : (kind : DeviceKind) → is_contender kind ≡ true → has_link kind ≡ true
+pub contender_links : (kind : DeviceKind) → is_contender kind ≡ true → has_link kind ≡ true
 contender_links Relay e = absurd (grind arith)
 contender_links Deck e = refl
 contender_links Camcorder e = absurd (grind arith)

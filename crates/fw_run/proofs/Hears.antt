@@ -10,12 +10,12 @@ use Rattle.fw_csr.specs.declared.reply.Reply.{Reply}
 use Rattle.fw_csr.specs.declared.request.Swap.{Swap}
 use Rattle.fw_entry.specs.declared.entry.Entry.TheVariants.{Async}
 use Rattle.fw_entry.specs.declared.entry.ResetEntry.{ResetEntry}
-use Rattle.fw_ledger.specs.Account.{Account}
-use Rattle.fw_ledger.specs.Moves.{Move, AllocateChannel, AllocateUnits, ConnectFirst, ConnectOverlaid, ConnectInput, DisconnectInput, DisconnectOutput, ReleaseUnits, ReleaseChannel, after}
+use Rattle.fw_account.specs.Account.{Account}
+use Rattle.fw_account.specs.Moves.{Move, AllocateChannel, AllocateUnits, ConnectFirst, ConnectOverlaid, ConnectInput, DisconnectInput, DisconnectOutput, ReleaseUnits, ReleaseChannel, after}
 use Rattle.fw_entry.specs.Network.{row_of_node}
-use Rattle.fw_ledger.specs.Fold.{next_account}
-use Rattle.fw_ledger.specs.Packets.{ended}
-use Rattle.fw_ledger.specs.Words.{node_of}
+use Rattle.fw_account.specs.Fold.{next_account}
+use Rattle.fw_account.specs.Packets.{ended}
+use Rattle.fw_account.specs.Words.{node_of}
 use Rattle.fw_cmp.specs.declared.current.Current.TheVariants.{Hearing}
 use Rattle.fw_cmp.specs.declared.job.Job.{Job}
 use Rattle.fw_cmp.specs.declared.request.Access.{Access}
@@ -41,6 +41,7 @@ use Rattle.fw_node.specs.Packets.{packet_of}
 use Rattle.fw_run.specs.Spaces.{reply_from}
 use Rattle.fw_run.specs.State.{State, while_talking, list_to, linked_number, manager_in, directory_of, is_living, is_deaf, epoch_of}
 use Rattle.fw_run.specs.HalfSteps.{half_of, half, hears, hears_from, taken, after_half}
+use Rattle.fw_run.specs.Dubs.{dub_between}
 use Rattle.fw_run.specs.Good.{IsGood, IsLatest, IsDeck, world_of, AreLosses}
 use Rattle.fw_run.proofs.Answers.{nodes_answer}
 use Rattle.fw_run.proofs.Buses.{linked_at, linked_small}
@@ -113,6 +114,7 @@ answered s d j stage r = record s {
   controllers = update s.controllers d (after_hear (s.controllers d) r);
   asked_at = update s.asked_at d (s.asked_at d);
   streams = while_talking (ended d (carried_out d j stage r s.account)) s.streams;
+  dub = dub_between s.account (ended d (carried_out d j stage r s.account)) s.dub;
 }
 
 -- a request that stands: its register, and the node that it went to
@@ -160,7 +162,7 @@ answered_good s d n to e j stage t r g lives quiet is h number x = record {
 -- ---- the half step
 
 abbrev pub with_answer : State → ℕ → Reply → Account → State
-with_answer s d r l = record s { account = l; controllers = update s.controllers d (after_hear (s.controllers d) r); asked_at = update s.asked_at d (s.asked_at d); streams = while_talking l s.streams }
+with_answer s d r l = record s { account = l; controllers = update s.controllers d (after_hear (s.controllers d) r); asked_at = update s.asked_at d (s.asked_at d); streams = while_talking l s.streams; dub = dub_between s.account l s.dub }
 
 -- a request that stands, whose controller's device and addressee are nodes
 pub record Heard (s : State) (d : ℕ) (j : Job) (stage : Stage) : Type 0 where

@@ -11,6 +11,8 @@ use Rattle.fw_cmp.specs.declared.outcome.Next.TheVariants.{Send, End, Idle, Wait
 use Rattle.fw_cmp.specs.Controllers.{IsHeard}
 use Rattle.fw_cmp.specs.Turns.{next, is_busy}
 use Rattle.fw_cmp.proofs.Resting.{idle_stays}
+use Rattle.fw_run.specs.Dubs.{dub_between}
+use Rattle.fw_run.proofs.Beside.{same_dub}
 use Rattle.fw_run.specs.Giving.{at_most}
 use Rattle.fw_run.specs.State.{State, while_talking, numbers_to, is_living, living, directory_of, is_deaf}
 use Rattle.fw_run.specs.HalfSteps.{HalfStep as Half, said, asks, half, half_of, taken, after_half, has_request, is_busy_at, is_unsettled}
@@ -75,9 +77,10 @@ half_idle s d g idle = go (s.controllers d).current refl
 pub half_stays : (s : State) (d : ℕ) → IsGood s → is_busy_at s d ≡ false → after_half s d ≡ s
 half_stays s d g idle =
     ap (taken s d) (half_idle s d g idle)
-    ∙ (ap (λ f. record s { controllers = f; asked_at = update s.asked_at d (s.asked_at d); streams = while_talking s.account s.streams }) (same_table s.controllers d (s.controllers d) refl)
-    ∙ ap (λ f. record s { asked_at = f; streams = while_talking s.account s.streams }) (same_table s.asked_at d (s.asked_at d) refl)
-    ∙ ap (λ c. record s { streams = c }) (same_counts s.account s.streams g.streams))
+    ∙ (ap (λ f. record s { controllers = f; asked_at = update s.asked_at d (s.asked_at d); streams = while_talking s.account s.streams; dub = dub_between s.account s.account s.dub }) (same_table s.controllers d (s.controllers d) refl)
+    ∙ (ap (λ f. record s { asked_at = f; streams = while_talking s.account s.streams; dub = dub_between s.account s.account s.dub }) (same_table s.asked_at d (s.asked_at d) refl)
+    ∙ (ap (λ c. record s { streams = c; dub = dub_between s.account s.account s.dub }) (same_counts s.account s.streams g.streams)
+    ∙ ap (λ k. record s { dub = k }) (same_dub s.account s.dub))))
 
 -- ---- the living controllers
 

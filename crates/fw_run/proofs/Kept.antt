@@ -8,7 +8,7 @@ use Rattle.fw_words.specs.Quadlet.{quadlet_at}
 use Rattle.fw_csr.specs.Manager.{after_at}
 use Rattle.fw_entry.specs.declared.entry.Timed.{Timed}
 use Rattle.fw_tree.specs.Topology.{Topology}
-use Rattle.fw_ledger.specs.Words.{first_address}
+use Rattle.fw_account.specs.Words.{first_address}
 use Rattle.fw_cmp.specs.declared.connection.Slot.{Slot}
 use Rattle.fw_cmp.specs.declared.current.Current.{Current}
 use Rattle.fw_cmp.specs.declared.current.Current.TheVariants.{Nothing, Asking, Hearing, Overtaken}
@@ -21,7 +21,7 @@ use Rattle.fw_run.specs.declared.order.Transaction.{Transaction}
 use Rattle.fw_run.specs.State.{State, Declared, first_state, directory_of, is_on, is_linked, is_living, with_device, is_deaf}
 use Rattle.fw_run.specs.Spaces.{access_request, target_node, is_manager, bus_manager_id_after}
 use Rattle.fw_run.specs.HalfSteps.{HalfStep as Half, asks, half, half_of, after_half}
-use Rattle.fw_run.specs.Actions.{Action, Withhold, AddDevice, AddCable, ResetBus, StartConnection, StartBreak, HalfStep, Rest, Unsettled, Pass, EndSecond, Die, CarryOut, Lose, TellLoss, Start, Ask, Answer, ShowWord, SendCommand, SendFrame, Receive, InsertTape, EjectTape, StartCycle, SendPacket, Finish, Resets, Declares, Joins, with_topology, after_reset_entry, slot_of, start_of, Step, counting, beginning, counted}
+use Rattle.fw_run.specs.Actions.{Action, Withhold, AddDevice, AddCable, ResetBus, StartConnection, StartBreak, HalfStep, Rest, Unsettled, Pass, EndSecond, Die, CarryOut, Lose, TellLoss, Start, Ask, Answer, ShowWord, SendCommand, SendFrame, Receive, InsertTape, EjectTape, StartCycle, SendPacket, BecomeCandidate, Contend, TieReel, KeepBlock, Finish, Resets, Declares, Joins, with_topology, after_reset_entry, slot_of, start_of, Step, counting, beginning, counted}
 use Rattle.fw_run.specs.Good.{IsGood}
 use Rattle.fw_run.specs.Numbers.{CurrentShows, HasNumbers}
 use Rattle.fw_run.proofs.Endings.{next_shows, hears_shows, reset_shows}
@@ -29,6 +29,8 @@ use Rattle.fw_run.proofs.Events.{break_current}
 use Rattle.fw_run.proofs.Fitting.{heard_fits}
 use Rattle.fw_run.proofs.Hears.{heard_of, half_hears, reply_heard}
 use Rattle.fw_run.proofs.Resets.{declaring}
+use Rattle.fw_run.specs.Bidding.{bid_step, bidden}
+use Rattle.fw_run.proofs.Bidding.{bid_below}
 use Rattle.fw_run.proofs.Turns.{each_of}
 use Rattle.fw_run.proofs.Taking.{Taken, listens, keeps_deaf, forces_reset, taken_as}
 
@@ -157,4 +159,8 @@ step_numbers s (InsertTape d tape system) out t g b x = same_numbers s _ t b x.0
 step_numbers s (EjectTape d) out t g b x = same_numbers s _ t b x.0 refl refl refl x.1.4
 step_numbers s StartCycle out t g b x = same_numbers s _ t b x.0 refl refl refl x.1.2
 step_numbers s (SendPacket p block) out t g b x = subst HasNumbers (sym x.1.3) b
+step_numbers s (BecomeCandidate d) out t g b x = same_numbers s _ t b x.0 refl refl refl x.1.4
+step_numbers s (Contend d) out t g b x = let y = x.1 in subst HasNumbers (sym y.state_is) (numbers_of s (bidden s d (bid_step s d y.manager y.candidate)) x.0 refl (bid_below s d y.manager y.candidate b.bus_manager_id) b.shows)
+step_numbers s (TieReel d) out t g b x = same_numbers s _ t b x.0 refl refl refl x.1.4
+step_numbers s (KeepBlock block) out t g b x = same_numbers s _ t b x.0 refl refl refl x.1.1
 step_numbers s Finish out t g b x = same_numbers s _ t b x.0 refl refl refl x.1.1

@@ -10,7 +10,7 @@ use Rattle.fw_csr.specs.declared.reply.Reply.{Reply}
 use Rattle.fw_entry.specs.declared.entry.Entry.{Entry}
 use Rattle.fw_entry.specs.declared.entry.Entry.TheVariants.{Reset, Async, Iso, Event, Outcome, Shown, End}
 use Rattle.fw_entry.specs.declared.entry.Timed.{Timed}
-use Rattle.fw_ledger.specs.Account.{Account}
+use Rattle.fw_account.specs.Account.{Account}
 use Rattle.fw_cmp.specs.declared.current.Current.{Current}
 use Rattle.fw_cmp.specs.declared.current.Current.TheVariants.{Nothing, Asking, Hearing, Overtaken}
 use Rattle.fw_cmp.specs.declared.outcome.Next.{Next}
@@ -32,7 +32,6 @@ use Rattle.fw_run.specs.Headline.{IsAnswered, IsReadBy, IsReadIn}
 use Rattle.fw_run.specs.Good.{IsGood}
 use Rattle.fw_run.proofs.Hears.{heard_of, half_hears}
 use Rattle.fw_run.proofs.Leads.{NextIs, linked_of, half_next}
-use Rattle.fw_run.proofs.Resets.{declaring}
 use Rattle.fw_run.proofs.Responses.{heard_shows}
 use Rattle.fw_run.proofs.Turns.{living_linked}
 
@@ -105,7 +104,7 @@ unlabelled l h offset (CycleStart k o time) other = tt
 unlabelled l h offset (Lock k o function bytes) other = tt
 unlabelled l h offset (LockReply k rcode function bytes) other = tt
 
-unlabelled_swap : (l : Account) (h : Head) (offset function : ℕ) (bytes : List ℕ) (q : Packet) → (h.tl ≡ 1 → ⊥) → IsReadBy l (Lock h offset function bytes) q
+pub unlabelled_swap : (l : Account) (h : Head) (offset function : ℕ) (bytes : List ℕ) (q : Packet) → (h.tl ≡ 1 → ⊥) → IsReadBy l (Lock h offset function bytes) q
 unlabelled_swap l h offset function bytes (LockReply k rcode swapped old) other = λ label complete register at. absurd (other label)
 unlabelled_swap l h offset function bytes (WriteQuadlet k o value) other = tt
 unlabelled_swap l h offset function bytes (WriteBlock k o more) other = tt

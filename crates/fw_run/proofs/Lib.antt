@@ -28,6 +28,7 @@ pub mod Units
 pub mod Commands
 pub mod SendsAll
 pub mod Given
+pub mod Beside
 pub mod FrameWrites
 pub mod Taking
 pub mod Withholds
@@ -37,6 +38,7 @@ pub mod Epochs
 pub mod Endings
 pub mod Bounds
 pub mod Fitting
+pub mod Bidding
 pub mod Kept
 pub mod StreamFits
 pub mod Spans
@@ -58,6 +60,12 @@ pub mod Reclaiming
 pub mod Settling
 pub mod Rules
 pub mod Seconds
+pub mod Plain
+pub mod Contending
+pub mod Elected
+pub mod Candidates
+pub mod Hearing
+pub mod Around
 pub mod ComesBack
 pub mod Suffice
 pub mod Lingers
@@ -68,3 +76,5 @@ pub mod Forced
 pub mod Truth
 pub mod Recovery
 pub mod Apart
+pub mod Recorded
+pub mod Reels

@@ -11,11 +11,11 @@ use Rattle.fw_entry.specs.declared.entry.Entry.{Entry}
 use Rattle.fw_entry.specs.declared.entry.Entry.TheVariants.{Reset, Async, Iso, Event, Outcome, Shown, End}
 use Rattle.fw_entry.specs.declared.entry.ResetEntry.{ResetEntry}
 use Rattle.fw_entry.specs.declared.entry.Timed.{Timed}
-use Rattle.fw_ledger.specs.Account.{Account, talks}
-use Rattle.fw_ledger.specs.Network.{is_output, is_output_of}
-use Rattle.fw_ledger.specs.Sound.{IsSound}
-use Rattle.fw_ledger.specs.Words.{OutputPlug, word_of, node_of}
-use Rattle.fw_ledger.proofs.Network.{any_at}
+use Rattle.fw_account.specs.Account.{Account, talks}
+use Rattle.fw_account.specs.Network.{is_output, is_output_of}
+use Rattle.fw_account.specs.Sound.{IsSound}
+use Rattle.fw_account.specs.Words.{OutputPlug, word_of, node_of}
+use Rattle.fw_account.proofs.Network.{any_at}
 use Rattle.fw_cmp.specs.declared.current.Current.{Current}
 use Rattle.fw_cmp.specs.declared.current.Current.TheVariants.{Nothing, Asking, Hearing, Overtaken}
 use Rattle.fw_cmp.specs.declared.outcome.Next.{Next}
@@ -34,7 +34,7 @@ use Rattle.fw_run.specs.State.{State, directory_of, number_in, is_on, is_living}
 use Rattle.fw_run.specs.Spaces.{answer_packet}
 use Rattle.fw_run.specs.HalfSteps.{head_from, said, hears, hears_from, half, half_of, after_half}
 use Rattle.fw_run.specs.Actions.{Action, Withhold, AddDevice, AddCable, ResetBus, StartConnection, StartBreak, HalfStep, Rest, Unsettled, Pass, EndSecond, Die, Lose, TellLoss}
-use Rattle.fw_run.specs.Actions.{CarryOut, Start, Ask, Answer, ShowWord, SendCommand, SendFrame, Receive, InsertTape, EjectTape, StartCycle, SendPacket, Finish, Step}
+use Rattle.fw_run.specs.Actions.{CarryOut, Start, Ask, Answer, ShowWord, SendCommand, SendFrame, Receive, InsertTape, EjectTape, StartCycle, SendPacket, BecomeCandidate, Contend, TieReel, KeepBlock, Finish, Step}
 use Rattle.fw_run.specs.Good.{IsGood, IsLatest}
 use Rattle.fw_run.specs.Lingering.{LingerBy, LingerThrough, LingerHalf}
 use Rattle.fw_run.proofs.Along.{step_led}
@@ -172,6 +172,10 @@ step_lingers s (InsertTape d tape system) out t g x = leads_to (SameLinger s.acc
 step_lingers s (EjectTape d) out t g x = leads_to (SameLinger s.account) t _ x.1.4 (λ p. refl)
 step_lingers s StartCycle out t g x = leads_to (SameLinger s.account) t _ x.1.2 (λ p. refl)
 step_lingers s (SendPacket p block) out t g x = leads_to (SameLinger s.account) t s x.1.3 (λ p. refl)
+step_lingers s (BecomeCandidate d) out t g x = leads_to (SameLinger s.account) t _ x.1.4 (λ p. refl)
+step_lingers s (Contend d) out t g x = leads_to (SameLinger s.account) t _ x.1.state_is (λ p. refl)
+step_lingers s (TieReel d) out t g x = leads_to (SameLinger s.account) t _ x.1.4 (λ p. refl)
+step_lingers s (KeepBlock block) out t g x = leads_to (SameLinger s.account) t _ x.1.1 (λ p. refl)
 step_lingers s Finish out t g x = leads_to (SameLinger s.account) t _ x.1.1 (λ p. refl)
 
 -- ---- devices on the bus and off it

@@ -12,7 +12,7 @@ use Rattle.fw_run.specs.declared.order.Order.TheVariants as Orders
 use Rattle.fw_run.specs.Giving.{at_cycle, at_most, log_bytes}
 use Rattle.fw_run.specs.State.{State, first_state}
 use Rattle.fw_run.specs.Actions.{Action, Finish, Steps}
-use Rattle.fw_run.specs.Carrying.{Carries, writes_cycles, withholds, withholds_already, declares, joins, resets, connects, breaks, steps, settled, unsettled as not_settled, waits, waits_over, dies, dies_late, dies_idle, loses, starts, goes_on, transacts, shows, commanded, inserts, ejects, ejects_nothing, ends}
+use Rattle.fw_run.specs.Carrying.{Carries, writes_cycles, withholds, withholds_already, declares, joins, resets, connects, breaks, steps, settled, unsettled as not_settled, waits, waits_over, dies, dies_late, dies_idle, loses, starts, goes_on, transacts, shows, commanded, inserts, ejects, ejects_nothing, becomes_candidate, stays_candidate, contends, dubs, ends}
 use Rattle.fw_run.specs.Runs.{Run}
 use Rattle.fw_run.specs.Logs.{HasNoEnd}
 use Rattle.fw_run.specs.Good.{IsGood}
@@ -166,6 +166,10 @@ end_actions s o xs out t (commanded x m more first last f g) is = absurd (cc is)
 end_actions s o xs out t (inserts m more first last f g) is = absurd (cc is)
 end_actions s o xs out t (ejects m more first last f g) is = absurd (cc is)
 end_actions s o xs out t (ejects_nothing e) is = absurd (cc is)
+end_actions s o xs out t (becomes_candidate f) is = absurd (cc is)
+end_actions s o xs out t (stays_candidate e) is = absurd (cc is)
+end_actions s o xs out t (contends f) is = absurd (cc is)
+end_actions s o xs out t (dubs f) is = absurd (cc is)
 end_actions s o xs out t (ends f) is = refl
 
 -- entries of a front of an order's actions

@@ -1,15 +1,14 @@
 -- A bus reset can come again: the next entry, of the same cabling, which another device began; and devices that are off change no entry.
-use Rattle.std.proofs.Common.{◌≡◌, ℕ, suc, ◌+◌, ◌<◌, ◌==◌, List, [], ◌∷◌, ◌++◌, length, map, slice_index_or, Option, Some, None, refl, ap, sym, subst, ◌∙◌, arith}
+use Rattle.std.proofs.Common.{◌≡◌, ℕ, ◌+◌, ◌<◌, ◌==◌, List, [], ◌∷◌, ◌++◌, length, map, slice_index_or, Option, Some, None, refl, ap, sym, ◌∙◌, arith}
 use Rattle.std.proofs.lemmas.List.{get_or_append_left, length-append}
 use Rattle.fw_base.specs.declared.device.DeviceKind.{DeviceKind}
 use Rattle.fw_base.specs.declared.device.DeviceKind.TheVariants.{Relay}
 use Rattle.fw_entry.specs.declared.entry.ResetEntry.{ResetEntry}
-use Rattle.fw_entry.specs.declared.nodes.NodeRow.{NodeRow}
 use Rattle.fw_phy.specs.declared.packet.PhyPacket.{PhyPacket}
 use Rattle.fw_phy.specs.Phy.{begun_by}
 use Rattle.fw_tree.specs.declared.facts.PhyFacts.{PhyFacts}
 use Rattle.fw_tree.specs.Cables.{Peers, IsOnBus}
-use Rattle.fw_tree.specs.Numbering.{IsNumbering, IsManager, Contends}
+use Rattle.fw_tree.specs.Numbering.{IsManager, Contends}
 use Rattle.fw_tree.specs.Numbers.{number_at}
 use Rattle.fw_tree.specs.SelfIds.{ArePackets, no_node, node, node_packets, facts_at}
 use Rattle.fw_tree.specs.Topology.{Topology, Made}

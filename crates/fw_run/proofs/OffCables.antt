@@ -1,16 +1,15 @@
 -- A cable between two devices that are off changes no entry: the devices of the bus number themselves as before.
-use Rattle.std.proofs.Common.{◌≡◌, ◌≢◌, inl, inr, ℕ, zero, suc, ◌+◌, ◌<◌, ◌==◌, ◌&&◌, not, List, [], ◌∷◌, ◌++◌, length, slice_index_or, slice_set, count_by, cond, Bool, true, Option, Some, None, refl, ap, ap₂, sym, subst, ◌∙◌, get_or-set_other}
+use Rattle.std.proofs.Common.{◌≡◌, ◌≢◌, inl, inr, ℕ, zero, suc, ◌+◌, ◌==◌, ◌&&◌, not, List, [], ◌∷◌, ◌++◌, slice_index_or, slice_set, count_by, cond, Bool, Option, Some, None, refl, ap, ap₂, sym, subst, ◌∙◌, get_or-set_other}
 use Rattle.std.proofs.lemmas.List.Sums.{sum_by-cons}
 use Rattle.fw_base.specs.declared.device.DeviceKind.{DeviceKind}
 use Rattle.fw_entry.specs.declared.entry.ResetEntry.{ResetEntry}
 use Rattle.fw_phy.specs.declared.packet.PhyPacket.{PhyPacket}
 use Rattle.fw_tree.specs.declared.facts.End.{End}
 use Rattle.fw_tree.specs.declared.facts.PhyFacts.{PhyFacts}
-use Rattle.fw_tree.specs.Cables.{Peers, peer, LeadsTo, Walk, here, along, IsOnBus}
-use Rattle.fw_tree.specs.Numbering.{IsNumbering, IsManager}
-use Rattle.fw_tree.specs.Numbers.{LeadsDown, at_root, down_to, AreNumbers, AreParents, IsParentPort, number_at, has_number}
+use Rattle.fw_tree.specs.Cables.{Peers, peer, LeadsTo, here, along, IsOnBus}
+use Rattle.fw_tree.specs.Numbers.{LeadsDown, at_root, down_to, AreNumbers, AreParents, IsParentPort, number_at}
 use Rattle.fw_tree.specs.Parents.{IsTheRoot}
-use Rattle.fw_tree.specs.Rounds.{is_open, open_count, stays, LeavesBy, Tie, WinsTie, IsRoot, HasParent}
+use Rattle.fw_tree.specs.Rounds.{is_open, open_count, stays, LeavesBy, WinsTie, IsRoot, HasParent}
 use Rattle.fw_tree.specs.SelfIds.{ArePackets, no_node, node, node_packets, facts_at}
 use Rattle.fw_tree.specs.Topology.{Topology, IsJoined, put, with_cable}
 use Rattle.fw_tree.proofs.CountLaws.{there}

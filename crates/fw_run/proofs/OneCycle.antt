@@ -7,13 +7,14 @@ use Rattle.fw_entry.specs.declared.entry.Timed.{Timed}
 use Rattle.fw_tape.specs.declared.cassette.BlockPlace.{BlockPlace}
 use Rattle.fw_run.specs.State.{State}
 use Rattle.fw_run.specs.Streams.{GivenBlock, GivesBlock, talkers}
-use Rattle.fw_run.specs.Actions.{Action, StartCycle, SendPacket, Steps}
-use Rattle.fw_run.specs.Carrying.{next_cycle, SendsPackets, HasCycle, HasCycles}
+use Rattle.fw_run.specs.Actions.{Action, StartCycle, SendPacket, KeepBlock, Steps}
+use Rattle.fw_run.specs.Recording.{heard_in}
+use Rattle.fw_run.specs.Carrying.{next_cycle, SendsPackets, WritesCycle, HasCycle, HasCycles}
 use Rattle.fw_run.specs.Desks.{DeskRelations, IsFunction}
 use Rattle.fw_run.specs.Given.{IsGiven, AreGiven}
 use Rattle.fw_run.specs.Good.{IsGood}
 use Rattle.fw_run.proofs.Given.{given_append}
-use Rattle.fw_run.proofs.Runs.{cycle_steps}
+use Rattle.fw_run.proofs.Runs.{cycle_steps, writes_steps}
 use Rattle.fw_run.proofs.Steps.{steps_good}
 use Rattle.fw_run.proofs.OneStep.{Same, one_steps}
 
@@ -40,10 +41,9 @@ one_packets D only (p ∷ plugs) s t u xs ys out other g give gave f h =
     let later = one_packets D only plugs f.1 t u f.2 h.2 f.4 h.4 good given.1 given2.1 f.6 (subst (λ z. SendsPackets plugs z h.2 h.4 u) (sym now.1) h.6) in
     (f.8 ∙ (ap (λ z. z ++ f.4) now.0 ∙ (ap (λ z. h.3 ++ z) later.0 ∙ sym h.8)), later.1)
 
-one_cycle : (D : DeskRelations) (only : IsFunction D) (o : Option ResetEntry) (s t u : State) (xs ys : List Action) (out other : List Timed) → IsGood s
-    → AreGiven D xs → AreGiven D ys → HasCycle o s xs out t → HasCycle o s ys other u → Same out t other u
-one_cycle D only None s t u xs ys out other g give gave f h = one_steps s t u (next_cycle s ∷ []) out other g f.0 h.0
-one_cycle D only (Some e) s t u xs ys out other g give gave f h =
+one_write : (D : DeskRelations) (only : IsFunction D) (s t u : State) (xs ys : List Action) (out other : List Timed) → IsGood s
+    → AreGiven D xs → AreGiven D ys → WritesCycle s xs out t → WritesCycle s ys other u → Same out t other u
+one_write D only s t u xs ys out other g give gave f h =
     let given = (subst (AreGiven D) f.actions_are give).1.1 in
     let given2 = (subst (AreGiven D) h.actions_are gave).1.1 in
     let now = one_steps s f.mid h.mid (next_cycle s ∷ StartCycle ∷ []) f.first h.first g f.comes h.comes in
@@ -51,6 +51,19 @@ one_cycle D only (Some e) s t u xs ys out other g give gave f h =
     let sends = subst (λ (z : State). SendsPackets (talkers z.account) z h.packets h.last u) (sym now.1) h.sends in
     let later = one_packets D only (talkers f.mid.account) f.mid t u f.packets h.packets f.last h.last good given given2 f.sends sends in
     (f.out_is ∙ (ap (λ z. z ++ f.last) now.0 ∙ (ap (λ z. h.first ++ z) later.0 ∙ sym h.out_is)), later.1)
+
+one_cycle : (D : DeskRelations) (only : IsFunction D) (o : Option ResetEntry) (s t u : State) (xs ys : List Action) (out other : List Timed) → IsGood s
+    → AreGiven D xs → AreGiven D ys → HasCycle o s xs out t → HasCycle o s ys other u → Same out t other u
+one_cycle D only None s t u xs ys out other g give gave f h = one_steps s t u (next_cycle s ∷ []) out other g f.0 h.0
+one_cycle D only (Some e) s t u xs ys out other g give gave f h =
+    let given = (given_append D f.written (KeepBlock (heard_in f.sent out) ∷ []) (subst (AreGiven D) f.actions_are give)).0 in
+    let given2 = (given_append D h.written (KeepBlock (heard_in h.sent other) ∷ []) (subst (AreGiven D) h.actions_are gave)).0 in
+    let sent = one_write D only s f.sent h.sent f.written h.written out other g given given2 f.writes h.writes in
+    let good : IsGood f.sent = steps_good s f.sent f.written out g (writes_steps s f.written out f.sent f.writes) in
+    let keeps : Steps f.sent (KeepBlock (heard_in f.sent out) ∷ []) [] u =
+    subst (λ z. Steps z (KeepBlock (heard_in z out) ∷ []) [] u) (sym sent.1) (subst (λ o. Steps h.sent (KeepBlock (heard_in h.sent o) ∷ []) [] u) (sym sent.0) h.keeps) in
+    let kept = one_steps f.sent t u (KeepBlock (heard_in f.sent out) ∷ []) [] [] good f.keeps keeps in
+    (sent.0, kept.1)
 
 pub one_cycles : (D : DeskRelations) (only : IsFunction D) (n : ℕ) (s t u : State) (xs ys : List Action) (out other : List Timed) → IsGood s
     → AreGiven D xs → AreGiven D ys → HasCycles n s xs out t → HasCycles n s ys other u → Same out t other u

@@ -93,6 +93,9 @@ one_order s (Commands.Swap name other offset argument new) o p f g = one_transac
 one_order s (Commands.Insert name tape system) o p f g = f.2 ∙ (ap (λ d. order.Insert d tape (system_with system)) (one_name s name f.0 g.0 f.1 g.1) ∙ sym g.2)
 one_order s (Commands.Eject name) o p f g = f.2 ∙ (ap order.Eject (one_name s name f.0 g.0 f.1 g.1) ∙ sym g.2)
 one_order s (Commands.Show name offset) o p f g = f.2 ∙ (ap (λ d. order.Show d offset) (one_shown s name f.0 g.0 f.1 g.1) ∙ sym g.2)
+one_order s (Commands.Candidate name) o p f g = f.2 ∙ (ap order.Candidate (one_name s name f.0 g.0 f.1 g.1) ∙ sym g.2)
+one_order s (Commands.Contend name count) o p f g = f.2 ∙ (ap (λ d. order.Contend d count) (one_name s name f.0 g.0 f.1 g.1) ∙ sym g.2)
+one_order s (Commands.Dub name) o p f g = f.2 ∙ (ap order.Dub (one_name s name f.0 g.0 f.1 g.1) ∙ sym g.2)
 one_order s Commands.End o p f g = f ∙ sym g
 
 -- ---- the last command of a run

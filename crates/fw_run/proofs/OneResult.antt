@@ -5,13 +5,14 @@ use Rattle.fw_run.specs.declared.order.Order.{Order}
 use Rattle.fw_run.specs.declared.order.Order.TheVariants as order
 use Rattle.fw_run.specs.State.{State, living}
 use Rattle.fw_run.specs.HalfSteps.{has_request, is_unsettled}
-use Rattle.fw_run.specs.Actions.{Action, Withhold, AddDevice, AddCable, ResetBus, StartConnection, StartBreak, HalfStep, Unsettled, Pass, EndSecond, Die, CarryOut, Lose, TellLoss, Start, Ask, Answer, ShowWord, SendCommand, SendFrame, Receive, InsertTape, EjectTape, Finish, Steps}
-use Rattle.fw_run.specs.Carrying.{times, half_steps_of, Rounds, Carries, withholds, withholds_already, declares, joins, resets, connects, breaks, steps, settled, unsettled as not_settled, waits, waits_over, writes_cycles, HasCycles, dies, dies_late, dies_idle, loses, starts, goes_on, transacts, shows, commanded, inserts, ejects, ejects_nothing, SendsAll, quiet, sends, ends}
+use Rattle.fw_run.specs.Actions.{Action, Withhold, AddDevice, AddCable, ResetBus, StartConnection, StartBreak, HalfStep, Unsettled, Pass, EndSecond, Die, CarryOut, Lose, TellLoss, Start, Ask, Answer, ShowWord, SendCommand, SendFrame, Receive, InsertTape, EjectTape, BecomeCandidate, Contend, TieReel, Finish, Steps}
+use Rattle.fw_run.specs.Carrying.{times, half_steps_of, Rounds, Carries, withholds, withholds_already, declares, joins, resets, connects, breaks, steps, settled, unsettled as not_settled, waits, waits_over, writes_cycles, HasCycles, dies, dies_late, dies_idle, loses, starts, goes_on, transacts, shows, commanded, inserts, ejects, ejects_nothing, SendsAll, quiet, sends, becomes_candidate, stays_candidate, contends, dubs, ends}
 use Rattle.fw_run.specs.Decks.{Obeyed}
 use Rattle.fw_run.specs.Desks.{DeskRelations, IsFunction}
 use Rattle.fw_run.specs.Frames.{next_told, Sends, Receives}
 use Rattle.fw_run.specs.Given.{IsGiven, AreGiven}
 use Rattle.fw_run.specs.Good.{IsGood}
+use Rattle.fw_run.specs.Bidding.{is_candidate}
 use Rattle.fw_run.proofs.Idle.{RoundsAre, are_none, are_round, are_rest, rounds_are, idle_rounds}
 use Rattle.fw_run.proofs.Runs.{rounds_steps}
 use Rattle.fw_run.proofs.Steps.{steps_good}
@@ -85,6 +86,9 @@ CarriedBy s (order.Insert d tape system) ys out t = (m : State) × (more : List 
 CarriedBy s (order.Eject d) ys out t =
     ((m : State) × (more : List Action) × (first : List Timed) × (rest : List Timed) × Steps s (EjectTape d ∷ []) first m × SendsAll d m more rest t × (out ≡ first ++ rest))
     ⊎ (IsFalse (is_some (s.decks d).unit.tape) × (out ≡ []) × (t ≡ s))
+CarriedBy s (order.Candidate d) ys out t = Steps s (BecomeCandidate d ∷ []) out t ⊎ (IsTrue (is_candidate s d) × (out ≡ []) × (t ≡ s))
+CarriedBy s (order.Contend d count) ys out t = Steps s (times count (Contend d)) out t
+CarriedBy s (order.Dub d) ys out t = Steps s (TieReel d ∷ []) out t
 CarriedBy s order.End ys out t = Steps s (Finish ∷ []) out t
 
 pub carried : (s : State) (o : Order) (xs : List Action) (out : List Timed) (t : State) → Carries s o xs out t → CarriedBy s o xs out t
@@ -113,6 +117,10 @@ carried s o xs out t (commanded x m more first last f g) = (x, m, more, first, l
 carried s o xs out t (inserts m more first last f g) = (m, more, first, last, f, g, refl)
 carried s o xs out t (ejects m more first last f g) = inl (m, more, first, last, f, g, refl)
 carried s o xs out t (ejects_nothing e) = inr (e, refl, refl)
+carried s o xs out t (becomes_candidate f) = inl f
+carried s o xs out t (stays_candidate e) = inr (e, refl, refl)
+carried s o xs out t (contends f) = f
+carried s o xs out t (dubs f) = f
 carried s o xs out t (ends f) = f
 
 -- ---- the frames that a device sends
@@ -227,4 +235,10 @@ one_carried D only s (order.Eject d) xs ys out other t u g give gave (inl f) (in
 one_carried D only s (order.Eject d) xs ys out other t u g give gave (inl f) (inr h) = absurd (both_ways (is_some (s.decks d).unit.tape) f.4.3.1.2 h.0)
 one_carried D only s (order.Eject d) xs ys out other t u g give gave (inr f) (inl h) = absurd (both_ways (is_some (s.decks d).unit.tape) h.4.3.1.2 f.0)
 one_carried D only s (order.Eject d) xs ys out other t u g give gave (inr f) (inr h) = (f.1 ∙ sym h.1, f.2 ∙ sym h.2)
+one_carried D only s (order.Candidate d) xs ys out other t u g give gave (inl f) (inl h) = one_steps s t u (BecomeCandidate d ∷ []) out other g f h
+one_carried D only s (order.Candidate d) xs ys out other t u g give gave (inl f) (inr h) = absurd (both_ways (is_candidate s d) h.0 f.3.1.2)
+one_carried D only s (order.Candidate d) xs ys out other t u g give gave (inr f) (inl h) = absurd (both_ways (is_candidate s d) f.0 h.3.1.2)
+one_carried D only s (order.Candidate d) xs ys out other t u g give gave (inr f) (inr h) = (f.1 ∙ sym h.1, f.2 ∙ sym h.2)
+one_carried D only s (order.Contend d count) xs ys out other t u g give gave f h = one_steps s t u (times count (Contend d)) out other g f h
+one_carried D only s (order.Dub d) xs ys out other t u g give gave f h = one_steps s t u (TieReel d ∷ []) out other g f h
 one_carried D only s order.End xs ys out other t u g give gave f h = one_steps s t u (Finish ∷ []) out other g f h

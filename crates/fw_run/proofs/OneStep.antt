@@ -15,12 +15,13 @@ use Rattle.fw_run.specs.Giving.{at_most}
 use Rattle.fw_run.specs.State.{State, epoch_of, is_on, device_in, with_device, is_deaf}
 use Rattle.fw_run.specs.Spaces.{answer_packet, target_node, transaction_head, access_request, bus_manager_id_after}
 use Rattle.fw_run.specs.Streams.{cycle_start}
-use Rattle.fw_run.specs.Actions.{Action, Withhold, AddDevice, AddCable, ResetBus, StartConnection, StartBreak, HalfStep, Rest, Unsettled, Pass, EndSecond, Die, CarryOut, Lose, TellLoss, Start, Ask, Answer, ShowWord, SendCommand, SendFrame, Receive, InsertTape, EjectTape, StartCycle, SendPacket, Finish, Resets, Declares, Joins, Answers, after_reset_entry, with_topology, Step, Steps, counting, beginning, counted, Takes}
+use Rattle.fw_run.specs.Actions.{Action, Withhold, AddDevice, AddCable, ResetBus, StartConnection, StartBreak, HalfStep, Rest, Unsettled, Pass, EndSecond, Die, CarryOut, Lose, TellLoss, Start, Ask, Answer, ShowWord, SendCommand, SendFrame, Receive, InsertTape, EjectTape, StartCycle, SendPacket, BecomeCandidate, Contend, TieReel, KeepBlock, Finish, Resets, Declares, Joins, Answers, after_reset_entry, with_topology, Step, Steps, counting, beginning, counted, Takes}
 use Rattle.fw_base.specs.Tables.{update}
 use Rattle.fw_fcp.specs.declared.frame.Frame.{Frame}
-use Rattle.fw_ledger.specs.Words.{node_of}
+use Rattle.fw_account.specs.Words.{node_of}
 use Rattle.fw_run.specs.Decks.{Obeyed, FrameWrite, after_frame}
 use Rattle.fw_run.specs.Frames.{request_of, frame_head, frame_packet, response_write, decks_after, Sends, Receives}
+use Rattle.fw_run.specs.Bidding.{Bids, bid_step, bidden}
 use Rattle.fw_run.specs.Good.{IsGood}
 use Rattle.fw_run.proofs.Networks.{made_more}
 use Rattle.fw_run.proofs.Steps.{step_good}
@@ -97,6 +98,18 @@ one_takes false w s t u d out other good f g = (f.0 ∙ sym g.0, f.1 ∙ sym g.1
 one_takes true true s t u d out other good f g = (f.0 ∙ sym g.0, f.1 ∙ sym g.1)
 one_takes true false s t u d out other good f g = one_resets (counted s 1) t u d out other good.declared.made f g
 
+one_bids : (s t u : State) (d : ℕ) (out other : List Timed) → Bids s d out t → Bids s d other u → Same out t other u
+one_bids s t u d out other f g = (
+  f.out_is ∙ ((λ i. at_most s.clock.cycle (bid_step s d (manager i) (candidate i)).says) ∙ sym g.out_is),
+  f.state_is ∙ ((λ i. bidden s d (bid_step s d (manager i) (candidate i))) ∙ sym g.state_is),
+)
+  where
+    candidate : f.candidate ≡ g.candidate
+    candidate = same_Some f.candidate g.candidate (sym f.is ∙ g.is)
+
+    manager : f.manager ≡ g.manager
+    manager = same_Some f.manager g.manager (sym f.manages ∙ g.manages)
+
 pub one_step : (s t u : State) (a : Action) (out other : List Timed) → IsGood s → Step s a out t → Step s a other u → Same out t other u
 one_step s t u Withhold out other good f g = (f.1.2 ∙ sym g.1.2, f.1.3 ∙ sym g.1.3)
 one_step s t u (AddDevice name kind ports speed) out other good f g =
@@ -133,6 +146,10 @@ one_step s t u StartCycle out other good f g =
     let same : f.1.1.0 ≡ g.1.1.0 = same_Some f.1.1.0 g.1.1.0 (sym f.1.1.1 ∙ g.1.1.1) in
     (f.1.1.2 ∙ (ap (λ (e : ResetEntry). at_most s.clock.cycle (Some (Async (cycle_start e.root s.clock.cycle)))) same ∙ sym g.1.1.2), f.1.2 ∙ sym g.1.2)
 one_step s t u (SendPacket p block) out other good f g = (f.1.2 ∙ sym g.1.2, f.1.3 ∙ sym g.1.3)
+one_step s t u (BecomeCandidate d) out other good f g = (f.1.3 ∙ sym g.1.3, f.1.4 ∙ sym g.1.4)
+one_step s t u (Contend d) out other good f g = one_bids s t u d out other f.1 g.1
+one_step s t u (TieReel d) out other good f g = (f.1.3 ∙ sym g.1.3, f.1.4 ∙ sym g.1.4)
+one_step s t u (KeepBlock block) out other good f g = (f.1.0 ∙ sym g.1.0, f.1.1 ∙ sym g.1.1)
 one_step s t u Finish out other good f g = (f.1.0 ∙ sym g.1.0, f.1.1 ∙ sym g.1.1)
 
 pub one_steps : (s t u : State) (actions : List Action) (out other : List Timed) → IsGood s → Steps s actions out t → Steps s actions other u → Same out t other u

@@ -5,7 +5,7 @@ use Rattle.std.proofs.Math.Path.{fun_ext}
 use Rattle.fw_base.specs.Tables.{update}
 use Rattle.fw_entry.specs.declared.entry.Entry.TheVariants.{End as EndEntry}
 use Rattle.fw_entry.specs.declared.entry.ResetEntry.{ResetEntry}
-use Rattle.fw_cmp.specs.Controllers.{ControllerState, first_state as new_controller}
+use Rattle.fw_cmp.specs.Controllers.{first_state as new_controller}
 use Rattle.fw_reclaim.specs.Worlds.{CanReclaim}
 use Rattle.fw_rounds.specs.HalfSteps.{AsksWhatStands}
 use Rattle.fw_run.specs.declared.order.Transaction.{Transaction}

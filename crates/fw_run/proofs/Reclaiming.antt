@@ -1,5 +1,5 @@
 -- The reclaim theorem over a run.
-use Rattle.std.proofs.Common.{◌≡◌, ℕ, ◌+◌, ◌==◌, List, [], ◌∷◌, Bool, true, false, Option, Some, None, option_map, refl, ap, sym, subst, ◌∙◌, IsTrue, ◌<◌, ◌&&◌, arith}
+use Rattle.std.proofs.Common.{◌≡◌, ℕ, ◌+◌, ◌==◌, List, [], ◌∷◌, Bool, true, false, Option, Some, None, option_map, refl, ap, sym, subst, ◌∙◌, IsTrue, ◌<◌, ◌&&◌, arith, cond}
 use Rattle.fw_base.specs.Tables.{find_to}
 use Rattle.fw_async.specs.declared.packet.Packet.{Packet}
 use Rattle.fw_entry.specs.declared.entry.Entry.TheVariants.{Reset, Async, Iso, End as EndEntry}
@@ -25,13 +25,18 @@ use Rattle.fw_reclaim.proofs.Living.{turn_meets, facts_in}
 use Rattle.fw_reclaim.proofs.Outcomes.{ends_restored}
 use Rattle.fw_reclaim.proofs.Reclaim.{reclaims}
 use Rattle.fw_run.specs.Giving.{at_cycle, at_most}
-use Rattle.fw_run.specs.Entries.{second_over, died, started, inserted, ejected, unsettled, shown_entry, lost, withheld}
+use Rattle.fw_run.specs.Entries.{second_over, died, started, inserted, ejected, unsettled, shown_entry, lost, withheld, dubbing}
 use Rattle.fw_run.specs.State.{State, Declared, first_state, is_on, is_living, directory_of, with_device, is_deaf}
 use Rattle.fw_run.specs.Frames.{command_write, response_write, frame_packet}
 use Rattle.fw_run.specs.Spaces.{answer_packet, transaction_head, access_request, read_at}
 use Rattle.fw_run.specs.HalfSteps.{head_from, said, asks, taken, hears, hears_from, half, half_of}
 use Rattle.fw_run.specs.Streams.{bytes_of, cycle_start, stream_packet}
-use Rattle.fw_run.specs.Actions.{Action, Withhold, AddDevice, AddCable, ResetBus, StartConnection, StartBreak, HalfStep, Rest, Unsettled, Pass, EndSecond, Die, CarryOut, Lose, TellLoss, Start, Ask, Answer, ShowWord, SendCommand, SendFrame, Receive, InsertTape, EjectTape, StartCycle, SendPacket, Finish, Resets, Declares, Joins, with_topology, Step, counting, beginning, counted}
+use Rattle.fw_run.specs.Actions.{Action, Withhold, AddDevice, AddCable, ResetBus, StartConnection, StartBreak, HalfStep, Rest, Unsettled, Pass, EndSecond, Die, CarryOut, Lose, TellLoss, Start, Ask, Answer, ShowWord, SendCommand, SendFrame, Receive, InsertTape, EjectTape, StartCycle, SendPacket, BecomeCandidate, Contend, TieReel, KeepBlock, Finish, Resets, Declares, Joins, with_topology, Step, counting, beginning, counted}
+use Rattle.fw_manager.specs.Bids.{CandidateState, stage_in}
+use Rattle.fw_manager.specs.declared.bid.Bid.TheVariants.{Elected, Defeated}
+use Rattle.fw_manager.specs.declared.candidate.Stage.{Stage as BidStage}
+use Rattle.fw_manager.specs.declared.candidate.Stage.TheVariants.{Fresh, Asked, Heard, Answered}
+use Rattle.fw_run.specs.Bidding.{bid_said, bid_at, bid_step, epoch_at}
 use Rattle.fw_run.specs.Good.{IsGood, world_of}
 use Rattle.fw_run.specs.Reclaiming.{Reclaims, RestoresInSecond}
 use Rattle.fw_run.proofs.Cables.{on_some, cabled_may, begun_may, forced_may}
@@ -84,6 +89,19 @@ half_no_reset s d c = go (s.controllers d).current
     go (Asking j stage) = said_no (next s.clock.cycle (directory_of s) (s.controllers d))
     go (Hearing j stage) = heard (access_of j stage)
     go (Overtaken i o) = said_no (next s.clock.cycle (directory_of s) (s.controllers d))
+
+bid_no_reset : (s : State) (d manager : ℕ) (x : CandidateState) (c : ℕ) → opens_reset (at_most c (bid_step s d manager x).says) ≡ false
+bid_no_reset s d manager x c = go (stage_in (epoch_at s) x)
+  where
+    ends_so : (b : Bool) (word : ℕ) → opens_reset (at_most c (bid_said s d (cond b Elected (Defeated word)))) ≡ false
+    ends_so true word = refl
+    ends_so false word = refl
+
+    go : (stage : BidStage) → opens_reset (at_most c (bid_at s d manager x stage).says) ≡ false
+    go Fresh = refl
+    go Asked = refl
+    go (Heard word) = ends_so (word == 0x3F) word
+    go Answered = refl
 
 -- ---- an action that is a bus reset
 
@@ -148,6 +166,10 @@ bus_resets s t (InsertTape d tape system) e c g x = absurd (never c e (at_most s
 bus_resets s t (EjectTape d) e c g x = absurd (never c e (at_most s.clock.cycle (Some (ejected d))) x.1.3 refl)
 bus_resets s t StartCycle e c g x = absurd (never c e (at_most s.clock.cycle (Some (Async (cycle_start x.1.1.0.root s.clock.cycle)))) x.1.1.2 refl)
 bus_resets s t (SendPacket p block) e c g x = absurd (never c e (at_most s.clock.cycle (Some (Iso (stream_packet s p (bytes_of block))))) x.1.2 refl)
+bus_resets s t (BecomeCandidate d) e c g x = absurd (never c e [] x.1.3 refl)
+bus_resets s t (Contend d) e c g x = let y = x.1 in absurd (never c e (at_most s.clock.cycle (bid_step s d y.manager y.candidate).says) y.out_is (bid_no_reset s d y.manager y.candidate s.clock.cycle))
+bus_resets s t (TieReel d) e c g x = absurd (never c e (at_most s.clock.cycle (Some (dubbing d))) x.1.3 refl)
+bus_resets s t (KeepBlock block) e c g x = absurd (never c e [] x.1.0 refl)
 bus_resets s t Finish e c g x = absurd (never c e (at_most s.clock.cycle (Some EndEntry)) x.1.0 refl)
 
 -- ---- the reclaim theorem

@@ -1,5 +1,5 @@
 -- What comes of what a swap took whose response was lost.
-use Rattle.std.proofs.Common.{◌≡◌, ◌≢◌, ◌⊎◌, inl, inr, ℕ, zero, suc, ◌+◌, ◌<◌, ◌&&◌, ◌||◌, not, nat_lt, List, Bool, true, false, cond, Option, Some, None, is_some, refl, ap, sym, subst, ◌∙◌, arith, IsTrue, IsFalse}
+use Rattle.std.proofs.Common.{◌≡◌, ◌≢◌, ◌⊎◌, inl, inr, ℕ, zero, suc, ◌+◌, ◌<◌, ◌&&◌, ◌||◌, not, nat_lt, List, Bool, true, false, cond, Option, Some, None, refl, ap, sym, subst, ◌∙◌, arith, IsTrue, IsFalse}
 use Rattle.std.proofs.lemmas.Bool.Decides.{nat_tests}
 use Rattle.fw_base.specs.declared.plug.PlugAt.{PlugAt}
 use Rattle.fw_base.specs.declared.plug.ConnectionKind.{ConnectionKind}
@@ -8,16 +8,14 @@ use Rattle.fw_base.specs.Tables.{sum_to}
 use Rattle.fw_base.proofs.Tables.{same_plug-true, sum_to_some}
 use Rattle.fw_entry.specs.declared.entry.Timed.{Timed}
 use Rattle.fw_plug.specs.Words.{units_of}
-use Rattle.fw_ledger.specs.Account.{Account, Allocation, Connected, Orphaned, Owner, Of, Dead, Connections, counter, is_there, has_connection}
+use Rattle.fw_account.specs.Account.{Account, Allocation, Connected, Orphaned, Owner, Of, Dead, Connections, counter, is_there, has_connection}
 use Rattle.fw_cmp.specs.declared.connection.Slot.{Slot}
 use Rattle.fw_cmp.specs.declared.connection.Slot.TheVariants.{Free, Making, Standing, Restoring, Gone}
-use Rattle.fw_cmp.specs.declared.current.Current.{Current}
-use Rattle.fw_cmp.specs.declared.current.Current.TheVariants.{Nothing, Asking, Hearing, Overtaken}
 use Rattle.fw_cmp.specs.Connections.{output_of, kind_of}
 use Rattle.fw_cmp.specs.Controllers.{ControllerState, slot_at, count_of}
 use Rattle.fw_cmp.specs.Holdings.{is_plug, same_kind, is_current_slot, stands_at_output}
 use Rattle.fw_cmp.specs.Losses.{Listening}
-use Rattle.fw_step.specs.Controllers.{ControllerInStep, CurrentInStep}
+use Rattle.fw_step.specs.Controllers.{CurrentInStep}
 use Rattle.fw_step.specs.Holding.{connections_of, is_of}
 use Rattle.fw_step.specs.Together.{AreInStep, AreSettled}
 use Rattle.fw_step.proofs.Together.{settled, whole}

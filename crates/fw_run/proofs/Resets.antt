@@ -76,7 +76,7 @@ still_linked s n initiator out t m r d on = go s.account.latest refl m.good.late
         let a = number_there (linked_number (Some e) d) there in
         ap is_some (stays_linked s.declared.topology n.topology n.kinds e r.entry (reset_follows s n initiator out t m r e is h) d a.number a.is).is
 
-still_living : (s : State) (n : Declared) (initiator : ℕ) (out : List Timed) (t : State) → MayReset s n → (r : Resets (declaring s n) initiator out t) → (d : ℕ) → IsTrue (is_living s d) → IsTrue (is_living (after_reset_entry (declaring s n) r.entry) d)
+pub still_living : (s : State) (n : Declared) (initiator : ℕ) (out : List Timed) (t : State) → MayReset s n → (r : Resets (declaring s n) initiator out t) → (d : ℕ) → IsTrue (is_living s d) → IsTrue (is_living (after_reset_entry (declaring s n) r.entry) d)
 still_living s n initiator out t m r d lives = both (is_some (linked_number (Some r.entry) d)) (not (s.dead d)) (still_linked s n initiator out t m r d (living_linked s d lives)) (second (is_some (linked_number s.account.latest d)) (not (s.dead d)) lives)
   where
     both : (a b : Bool) → a ≡ true → b ≡ true → (a && b) ≡ true

@@ -12,8 +12,8 @@ use Rattle.fw_entry.specs.declared.entry.Entry.TheVariants.{Async}
 use Rattle.fw_entry.specs.declared.entry.ResetEntry.{ResetEntry}
 use Rattle.fw_entry.specs.declared.nodes.NodeRow.{NodeRow}
 use Rattle.fw_entry.specs.Network.{first_id, row_of_id, row_of_node, device_of_id}
-use Rattle.fw_ledger.specs.Account.{Account, Request}
-use Rattle.fw_ledger.specs.Words.{Register, word_of, register_of, node_of}
+use Rattle.fw_account.specs.Account.{Account, Request}
+use Rattle.fw_account.specs.Words.{Register, word_of, register_of, node_of}
 use Rattle.fw_cmp.specs.declared.current.Current.TheVariants.{Hearing}
 use Rattle.fw_cmp.specs.declared.job.Job.{Job}
 use Rattle.fw_cmp.specs.declared.request.Target.{Target}

@@ -6,7 +6,7 @@ use Rattle.std.proofs.lemmas.Bool.{cases_lt}
 use Rattle.fw_script.specs.declared.command.Command.{Command}
 use Rattle.fw_run.specs.declared.order.Order.{Order}
 use Rattle.fw_run.specs.declared.rule.RuleFault.{RuleFault}
-use Rattle.fw_run.specs.declared.rule.RuleFault.TheVariants.{UnknownName, NameTaken, TooMany, NoPort, PortUsed, Loop, NotController, Guarded, NoRegister, Limit, TableFull, Busy, NoSuchConnection, NotOwnPlug, OffBus, NoDeck, NothingStands, TooLate}
+use Rattle.fw_run.specs.declared.rule.RuleFault.TheVariants.{UnknownName, NameTaken, TooMany, NoPort, PortUsed, Loop, NotController, Guarded, NoRegister, Limit, TableFull, Busy, NoSuchConnection, NotOwnPlug, OffBus, NoDeck, NothingStands, TooLate, NotCapable, NotCandidate}
 use Rattle.fw_run.specs.State.{State}
 use Rattle.fw_run.specs.Rules.{rank, Decides}
 use Rattle.fw_run.proofs.OneLog.{one_order}
@@ -15,7 +15,7 @@ use Rattle.fw_run.proofs.OneLog.{one_order}
 abbrev ranked : ℕ → RuleFault
 ranked n =
     cond (n == 1) UnknownName (cond (n == 2) NameTaken (cond (n == 3) TooMany (cond (n == 4) NoDeck (cond (n == 5) NoPort (cond (n == 6) PortUsed (cond (n == 7) Loop
-    (cond (n == 8) NotController (cond (n == 9) NothingStands (cond (n == 10) OffBus (cond (n == 11) NotOwnPlug (cond (n == 12) NoSuchConnection (cond (n == 13) TableFull (cond (n == 14) Busy (cond (n == 15) Guarded (cond (n == 16) NoRegister (cond (n == 17) Limit TooLate))))))))))))))))
+    (cond (n == 8) NotController (cond (n == 9) NothingStands (cond (n == 10) OffBus (cond (n == 11) NotOwnPlug (cond (n == 12) NoSuchConnection (cond (n == 13) TableFull (cond (n == 14) Busy (cond (n == 15) NotCapable (cond (n == 16) NotCandidate (cond (n == 17) Guarded (cond (n == 18) NoRegister (cond (n == 19) Limit TooLate))))))))))))))))))
 
 ranked_back : (f : RuleFault) → ranked (rank f) ≡ f
 ranked_back UnknownName = refl
@@ -32,6 +32,8 @@ ranked_back NotOwnPlug = refl
 ranked_back NoSuchConnection = refl
 ranked_back TableFull = refl
 ranked_back Busy = refl
+ranked_back NotCapable = refl
+ranked_back NotCandidate = refl
 ranked_back Guarded = refl
 ranked_back NoRegister = refl
 ranked_back Limit = refl

@@ -11,8 +11,9 @@ use Rattle.fw_run.specs.declared.order.Order.{Order}
 use Rattle.fw_run.specs.Giving.{log_bytes}
 use Rattle.fw_run.specs.Streams.{talkers}
 use Rattle.fw_run.specs.State.{State, first_state, living}
-use Rattle.fw_run.specs.Actions.{Action, Unsettled, SendCommand, SendFrame, Receive, InsertTape, EjectTape, StartCycle, SendPacket, Steps}
-use Rattle.fw_run.specs.Carrying.{half_steps_of, Rounds, none, round, rest, Carries, withholds, withholds_already, declares, joins, resets, connects, breaks, steps, settled, unsettled, waits, waits_over, writes_cycles, next_cycle, SendsPackets, HasCycle, HasCycles, dies, dies_late, dies_idle, loses, starts, goes_on, transacts, shows, commanded, inserts, ejects, ejects_nothing, SendsAll, quiet, sends, ends}
+use Rattle.fw_run.specs.Actions.{Action, Unsettled, SendCommand, SendFrame, Receive, InsertTape, EjectTape, StartCycle, SendPacket, KeepBlock, Steps}
+use Rattle.fw_run.specs.Recording.{heard_in}
+use Rattle.fw_run.specs.Carrying.{half_steps_of, Rounds, none, round, rest, Carries, withholds, withholds_already, declares, joins, resets, connects, breaks, steps, settled, unsettled, waits, waits_over, writes_cycles, next_cycle, SendsPackets, WritesCycle, HasCycle, HasCycles, dies, dies_late, dies_idle, loses, starts, goes_on, transacts, shows, commanded, inserts, ejects, ejects_nothing, SendsAll, quiet, sends, becomes_candidate, stays_candidate, contends, dubs, ends}
 use Rattle.fw_run.specs.Runs.{Run, begun, and_then}
 
 pub steps_then : (s t u : State) (xs ys : List Action) (a b : List Timed) → Steps s xs a t → Steps t ys b u → Steps s (xs ++ ys) (a ++ b) u
@@ -33,12 +34,23 @@ packets_steps [] s actions out t f = subst (λ xs. Steps s xs out t) (sym f.0) (
 packets_steps (p ∷ plugs) s actions out t f =
     subst (λ xs. Steps s xs out t) (sym f.7) (subst (λ o. Steps s (SendPacket p f.0 ∷ f.2) o t) (sym f.8) (steps_then s f.1 t (SendPacket p f.0 ∷ []) f.2 f.3 f.4 f.5 (packets_steps plugs f.1 f.2 f.4 t f.6)))
 
-pub cycle_steps : (o : Option ResetEntry) (s : State) (actions : List Action) (out : List Timed) (t : State) → HasCycle o s actions out t → Steps s actions out t
-cycle_steps None s actions out t f = subst (λ xs. Steps s xs out t) (sym f.1) f.0
-cycle_steps (Some e) s actions out t f =
+pub writes_steps : (s : State) (actions : List Action) (out : List Timed) (t : State) → WritesCycle s actions out t → Steps s actions out t
+writes_steps s actions out t f =
     subst (λ xs. Steps s xs out t) (sym f.actions_are)
     (subst (λ o. Steps s (next_cycle s ∷ StartCycle ∷ f.packets) o t) (sym f.out_is)
     (steps_then s f.mid t (next_cycle s ∷ StartCycle ∷ []) f.packets f.first f.last f.comes (packets_steps (talkers f.mid.account) f.mid f.packets f.last t f.sends)))
+
+nothing_behind : (xs : List Timed) → xs ++ [] ≡ xs
+nothing_behind [] = refl
+nothing_behind (x ∷ xs) = ap (λ z. x ∷ z) (nothing_behind xs)
+
+pub cycle_steps : (o : Option ResetEntry) (s : State) (actions : List Action) (out : List Timed) (t : State) → HasCycle o s actions out t → Steps s actions out t
+cycle_steps None s actions out t f = subst (λ xs. Steps s xs out t) (sym f.1) f.0
+cycle_steps (Some e) s actions out t f =
+    let keeps = KeepBlock (heard_in f.sent out) ∷ [] in
+    subst (λ xs. Steps s xs out t) (sym f.actions_are)
+    (subst (λ o. Steps s (f.written ++ keeps) o t) (nothing_behind out)
+    (steps_then s f.sent t f.written keeps out [] (writes_steps s f.written out f.sent f.writes) f.keeps))
 
 cycles_steps : (n : ℕ) (s : State) (actions : List Action) (out : List Timed) (t : State) → HasCycles n s actions out t → Steps s actions out t
 unfolding HasCycles
@@ -73,6 +85,10 @@ carries_steps s o actions out t (commanded {a = a} {b = b} {bytes = bytes} x m m
 carries_steps s o actions out t (inserts {d = d} {tape = tape} {system = system} m more first last f g) = steps_then s m t (InsertTape d tape system ∷ []) more first last f (all_steps d m more last t g)
 carries_steps s o actions out t (ejects {d = d} m more first last f g) = steps_then s m t (EjectTape d ∷ []) more first last f (all_steps d m more last t g)
 carries_steps s o actions out t (ejects_nothing e) = (refl, refl)
+carries_steps s o actions out t (becomes_candidate f) = f
+carries_steps s o actions out t (stays_candidate e) = (refl, refl)
+carries_steps s o actions out t (contends f) = f
+carries_steps s o actions out t (dubs f) = f
 carries_steps s o actions out t (ends f) = f
 
 pub log_append : (epoch : ℕ) (xs ys : List Timed) → log_bytes epoch (xs ++ ys) ≡ log_bytes epoch xs ++ log_bytes (latest_epoch epoch xs) ys

@@ -1,11 +1,11 @@
 -- Each end of a second in a log is one of a second of the run.
-use Rattle.std.proofs.Common.{◌≡◌, ◌⊎◌, inl, inr, ℕ, ◌==◌, List, [], ◌∷◌, ◌++◌, Bool, true, false, Option, Some, None, option_map, refl, ap, sym, subst, ◌∙◌, IsTrue}
+use Rattle.std.proofs.Common.{◌≡◌, ◌⊎◌, inl, inr, ℕ, ◌==◌, List, [], ◌∷◌, ◌++◌, Bool, true, false, Option, Some, None, option_map, refl, ap, sym, subst, ◌∙◌, IsTrue, cond}
 use Rattle.fw_async.specs.declared.packet.Packet.{Packet}
 use Rattle.fw_entry.specs.declared.codes.event.TheConstants.{SECOND_OVER}
 use Rattle.fw_entry.specs.declared.entry.Entry.{Entry}
 use Rattle.fw_entry.specs.declared.entry.Entry.TheVariants.{Reset, Async, Iso, Event, Outcome, Shown, End as EndEntry}
 use Rattle.fw_entry.specs.declared.entry.Timed.{Timed}
-use Rattle.fw_ledger.specs.Account.{Account}
+use Rattle.fw_account.specs.Account.{Account}
 use Rattle.fw_cmp.specs.declared.current.Current.{Current}
 use Rattle.fw_cmp.specs.declared.current.Current.TheVariants.{Nothing, Asking, Hearing, Overtaken}
 use Rattle.fw_cmp.specs.declared.outcome.Next.{Next}
@@ -15,13 +15,18 @@ use Rattle.fw_cmp.specs.Requests.{access_of, request_of, addressee_of}
 use Rattle.fw_cmp.specs.Turns.{next}
 use Rattle.fw_node.specs.Packets.{packet_of}
 use Rattle.fw_run.specs.Giving.{at_cycle, at_most}
-use Rattle.fw_run.specs.Entries.{second_over, died, started, inserted, ejected, unsettled, shown_entry, lost, withheld}
+use Rattle.fw_run.specs.Entries.{second_over, died, started, inserted, ejected, unsettled, shown_entry, lost, withheld, dubbing}
 use Rattle.fw_run.specs.State.{State, Declared, first_state, is_on, directory_of, with_device, is_living}
 use Rattle.fw_run.specs.Frames.{command_write, response_write, frame_packet}
 use Rattle.fw_run.specs.Spaces.{answer_packet, transaction_head, access_request, read_at}
 use Rattle.fw_run.specs.HalfSteps.{head_from, said, hears, hears_from, half, half_of}
 use Rattle.fw_run.specs.Streams.{bytes_of, cycle_start, stream_packet}
-use Rattle.fw_run.specs.Actions.{Action, Withhold, AddDevice, AddCable, ResetBus, StartConnection, StartBreak, HalfStep, Rest, Unsettled, Pass, EndSecond, Die, CarryOut, Lose, TellLoss, Start, Ask, Answer, ShowWord, SendCommand, SendFrame, Receive, InsertTape, EjectTape, StartCycle, SendPacket, Finish, Resets, Declares, Joins, with_topology, Step, Steps, counting, beginning, counted}
+use Rattle.fw_run.specs.Actions.{Action, Withhold, AddDevice, AddCable, ResetBus, StartConnection, StartBreak, HalfStep, Rest, Unsettled, Pass, EndSecond, Die, CarryOut, Lose, TellLoss, Start, Ask, Answer, ShowWord, SendCommand, SendFrame, Receive, InsertTape, EjectTape, StartCycle, SendPacket, BecomeCandidate, Contend, TieReel, KeepBlock, Finish, Resets, Declares, Joins, with_topology, Step, Steps, counting, beginning, counted}
+use Rattle.fw_manager.specs.Bids.{CandidateState, stage_in}
+use Rattle.fw_manager.specs.declared.bid.Bid.TheVariants.{Elected, Defeated}
+use Rattle.fw_manager.specs.declared.candidate.Stage.{Stage as BidStage}
+use Rattle.fw_manager.specs.declared.candidate.Stage.TheVariants.{Fresh, Asked, Heard, Answered}
+use Rattle.fw_run.specs.Bidding.{bid_said, bid_at, bid_step, epoch_at}
 use Rattle.fw_run.specs.Good.{IsGood}
 use Rattle.fw_run.specs.Reclaiming.{IsBusReset, GoesOn, IsSecond, EndsAreSeconds}
 use Rattle.fw_run.proofs.Along.{step_led}
@@ -84,6 +89,10 @@ begins s (InsertTape d tape system) out t g x = inr (as_before s _ t x.1.4 refl)
 begins s (EjectTape d) out t g x = inr (as_before s _ t x.1.4 refl)
 begins s StartCycle out t g x = inr (as_before s _ t x.1.2 refl)
 begins s (SendPacket p block) out t g x = inr (as_before s s t x.1.3 refl)
+begins s (BecomeCandidate d) out t g x = inr (as_before s _ t x.1.4 refl)
+begins s (Contend d) out t g x = inr (as_before s _ t x.1.state_is refl)
+begins s (TieReel d) out t g x = inr (as_before s _ t x.1.4 refl)
+begins s (KeepBlock block) out t g x = inr (as_before s _ t x.1.1 refl)
 begins s Finish out t g x = inr (as_before s _ t x.1.1 refl)
 
 -- ---- the bus reset behind a state in which a second runs
@@ -120,6 +129,10 @@ goes_on s (InsertTape d tape system) xs out t x runs on = on
 goes_on s (EjectTape d) xs out t x runs on = on
 goes_on s StartCycle xs out t x runs on = on
 goes_on s (SendPacket p block) xs out t x runs on = on
+goes_on s (BecomeCandidate d) xs out t x runs on = on
+goes_on s (Contend d) xs out t x runs on = on
+goes_on s (TieReel d) xs out t x runs on = on
+goes_on s (KeepBlock block) xs out t x runs on = on
 goes_on s Finish xs out t x runs on = on
 
 -- actions with a bus reset among them, since which no second ended
@@ -222,6 +235,19 @@ half_no_over s d c = go (s.controllers d).current
     go (Hearing j stage) = heard (access_of j stage)
     go (Overtaken i o) = said_no (next s.clock.cycle (directory_of s) (s.controllers d))
 
+bid_no_over : (s : State) (d manager : ℕ) (x : CandidateState) (c : ℕ) → opens_over (at_most c (bid_step s d manager x).says) ≡ false
+bid_no_over s d manager x c = go (stage_in (epoch_at s) x)
+  where
+    ends_so : (b : Bool) (word : ℕ) → opens_over (at_most c (bid_said s d (cond b Elected (Defeated word)))) ≡ false
+    ends_so true word = refl
+    ends_so false word = refl
+
+    go : (stage : BidStage) → opens_over (at_most c (bid_at s d manager x stage).says) ≡ false
+    go Fresh = refl
+    go Asked = refl
+    go (Heard word) = ends_so (word == 0x3F) word
+    go Answered = refl
+
 never : (out others : List Timed) → opens_over out ≡ true → out ≡ others → opens_over others ≡ false → ⊥
 never out others over is f = let clash : true ≡ false = sym over ∙ (ap opens_over is ∙ f) in cc clash
 
@@ -268,6 +294,10 @@ ends_it s (InsertTape d tape system) out t x over = absurd (never out (at_most s
 ends_it s (EjectTape d) out t x over = absurd (never out (at_most s.clock.cycle (Some (ejected d))) over x.1.3 refl)
 ends_it s StartCycle out t x over = absurd (never out (at_most s.clock.cycle (Some (Async (cycle_start x.1.1.0.root s.clock.cycle)))) over x.1.1.2 refl)
 ends_it s (SendPacket p block) out t x over = absurd (never out (at_most s.clock.cycle (Some (Iso (stream_packet s p (bytes_of block))))) over x.1.2 refl)
+ends_it s (BecomeCandidate d) out t x over = absurd (never out [] over x.1.3 refl)
+ends_it s (Contend d) out t x over = let y = x.1 in absurd (never out (at_most s.clock.cycle (bid_step s d y.manager y.candidate).says) over y.out_is (bid_no_over s d y.manager y.candidate s.clock.cycle))
+ends_it s (TieReel d) out t x over = absurd (never out (at_most s.clock.cycle (Some (dubbing d))) over x.1.3 refl)
+ends_it s (KeepBlock block) out t x over = absurd (never out [] over x.1.0 refl)
 ends_it s Finish out t x over = absurd (never out (at_most s.clock.cycle (Some EndEntry)) over x.1.0 refl)
 
 -- ---- where a log has the end of a second

@@ -5,7 +5,7 @@ use Rattle.std.proofs.lemmas.Bool.Decides.{nat_tests}
 use Rattle.std.proofs.lemmas.List.{get_or_past, get_or-replicate, length-replicate}
 use Rattle.fw_entry.specs.declared.entry.Entry.TheVariants.{Reset}
 use Rattle.fw_entry.specs.declared.entry.Timed.{Timed}
-use Rattle.fw_ledger.specs.Account.{Account}
+use Rattle.fw_account.specs.Account.{Account}
 use Rattle.fw_cmp.specs.declared.connection.Slot.TheVariants.{Free}
 use Rattle.fw_cmp.specs.declared.current.Current.{Current}
 use Rattle.fw_cmp.specs.declared.current.Current.TheVariants.{Nothing, Asking, Hearing, Overtaken}

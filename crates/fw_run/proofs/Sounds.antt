@@ -6,8 +6,8 @@ use Rattle.fw_cmp.specs.declared.connection.Flow.{Flow}
 use Rattle.fw_cmp.specs.declared.connection.Slot.TheVariants.{Standing}
 use Rattle.fw_cmp.specs.Controllers.{slot_at}
 use Rattle.fw_cmp.specs.Holdings.{is_current_slot}
-use Rattle.fw_ledger.specs.Fold.{no_account}
-use Rattle.fw_ledger.proofs.Shared.{is_conflict_free}
+use Rattle.fw_account.specs.Fold.{no_account}
+use Rattle.fw_account.proofs.Shared.{is_conflict_free}
 use Rattle.fw_step.specs.Together.{AreSettled, IsWhole}
 use Rattle.fw_step.proofs.Together.{settled, whole}
 use Rattle.fw_run.specs.State.{State, first_state, directory_of}

@@ -14,7 +14,7 @@ use Rattle.fw_tape.specs.declared.system.TapeSystem.{TapeSystem}
 use Rattle.fw_tape.specs.declared.system.TapeSystem.TheVariants.{Lines525, Lines625}
 use Rattle.fw_tree.proofs.ReachLaws.{sound_made}
 use Rattle.fw_tree.specs.Topology.{Topology}
-use Rattle.fw_ledger.specs.Words.{node_of, first_address}
+use Rattle.fw_account.specs.Words.{node_of, first_address}
 use Rattle.fw_cmp.specs.Requests.{request_at}
 use Rattle.fw_devices.proofs.EntryLaws.{entry_fits}
 use Rattle.fw_node.specs.Packets.{packet_of}
@@ -22,16 +22,18 @@ use Rattle.fw_run.specs.declared.order.Access.{Access}
 use Rattle.fw_run.specs.declared.order.Access.TheVariants.{Read, Swap}
 use Rattle.fw_run.specs.declared.order.Transaction.{Transaction}
 use Rattle.fw_run.specs.Giving.{at_most}
-use Rattle.fw_run.specs.Entries.{second_over, died, started, inserted, ejected, lines_of, unsettled, shown_entry, lost, withheld}
-use Rattle.fw_run.specs.State.{State, Declared, epoch_of, is_on, is_linked, with_device, is_living, is_deaf}
+use Rattle.fw_run.specs.Entries.{second_over, died, started, inserted, ejected, dubbing, lines_of, unsettled, shown_entry, lost, withheld}
+use Rattle.fw_run.specs.State.{State, Declared, epoch_of, is_on, is_linked, with_device, is_living}
 use Rattle.fw_run.specs.Frames.{command_write, response_write, frame_packet}
 use Rattle.fw_run.specs.Spaces.{script_head, access_request, target_node, transaction_head, answer_packet, read_at, reply_from}
 use Rattle.fw_run.specs.HalfSteps.{half}
 use Rattle.fw_run.specs.Streams.{bytes_of, cycle_start, stream_packet}
-use Rattle.fw_run.specs.Actions.{Action, Withhold, AddDevice, AddCable, ResetBus, StartConnection, StartBreak, HalfStep, Rest, Unsettled, Pass, EndSecond, Die, CarryOut, Lose, TellLoss, Start, Ask, Answer, ShowWord, SendCommand, SendFrame, Receive, InsertTape, EjectTape, StartCycle, SendPacket, Finish, Resets, Declares, Joins, AccessFits, with_topology, Step, Steps, counting, beginning, counted}
+use Rattle.fw_run.specs.Actions.{Action, Withhold, AddDevice, AddCable, ResetBus, StartConnection, StartBreak, HalfStep, Rest, Unsettled, Pass, EndSecond, Die, CarryOut, Lose, TellLoss, Start, Ask, Answer, ShowWord, SendCommand, SendFrame, Receive, InsertTape, EjectTape, StartCycle, SendPacket, BecomeCandidate, Contend, TieReel, KeepBlock, Finish, Resets, Declares, Joins, AccessFits, with_topology, Step, Steps, counting, beginning, counted}
 use Rattle.fw_run.specs.Good.{IsGood, AreDeclared}
 use Rattle.fw_run.specs.Numbers.{HasNumbers}
+use Rattle.fw_run.specs.Bidding.{bid_step}
 use Rattle.fw_run.proofs.Along.{step_led}
+use Rattle.fw_run.proofs.Bidding.{bid_fits}
 use Rattle.fw_run.proofs.Bounds.{node_few, space_fits, node_fits}
 use Rattle.fw_run.proofs.Buses.{linked_small}
 use Rattle.fw_run.proofs.Cables.{cabled_declared}
@@ -168,6 +170,10 @@ step_fits s (InsertTape d tape system) out t g b x = most_fit s.clock.cycle (Som
 step_fits s (EjectTape d) out t g b x = most_fit s.clock.cycle (Some (ejected d)) out x.1.3 (record { device = declared_few s d g x.1.0; tape = omega arith; shape = refl })
 step_fits s StartCycle out t g b x = most_fit s.clock.cycle (Some (AsyncEntry (cycle_start x.1.1.0.root s.clock.cycle))) out x.1.1.2 (start_fits s x.1.1.0 g x.1.1.1)
 step_fits s (SendPacket p block) out t g b x = most_fit s.clock.cycle (Some (IsoEntry (stream_packet s p (bytes_of block)))) out x.1.2 (packet_fits s p block g x.1.0 x.1.1)
+step_fits s (BecomeCandidate d) out t g b x = none_fit out x.1.3
+step_fits s (Contend d) out t g b x = let y = x.1 in most_fit s.clock.cycle (bid_step s d y.manager y.candidate).says out y.out_is (bid_fits s d y.manager y.candidate g b y.lives y.manages)
+step_fits s (TieReel d) out t g b x = most_fit s.clock.cycle (Some (dubbing d)) out x.1.3 (record { device = declared_few s d g x.1.0; tape = omega arith; shape = refl })
+step_fits s (KeepBlock block) out t g b x = none_fit out x.1.0
 step_fits s Finish out t g b x = most_fit s.clock.cycle (Some EndEntry) out x.1.0 tt
 
 -- ---- actions

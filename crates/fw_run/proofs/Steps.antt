@@ -1,12 +1,14 @@
 -- Each action leads from a good state to a good state.
-use Rattle.std.proofs.Common.{List, [], ◌∷◌, None, Some, sym, subst, arith, ℕ, ◌<◌, IsTrue}
+use Rattle.std.proofs.Common.{List, [], ◌∷◌, None, Some, sym, subst, arith, ℕ, ◌<◌, IsTrue, ◌+◌}
 use Rattle.fw_entry.specs.declared.entry.Timed.{Timed}
 use Rattle.fw_run.specs.State.{State, is_living}
 use Rattle.fw_run.specs.HalfSteps.{after_half}
-use Rattle.fw_run.specs.Actions.{Action, Withhold, AddDevice, AddCable, ResetBus, StartConnection, StartBreak, HalfStep, Rest, Unsettled, Pass, EndSecond, Die, CarryOut, Lose, TellLoss, Start, Ask, Answer, ShowWord, SendCommand, SendFrame, Receive, InsertTape, EjectTape, StartCycle, SendPacket, Finish, Step, Steps, counted}
+use Rattle.fw_run.specs.Actions.{Action, Withhold, AddDevice, AddCable, ResetBus, StartConnection, StartBreak, HalfStep, Rest, Unsettled, Pass, EndSecond, Die, CarryOut, Lose, TellLoss, Start, Ask, Answer, ShowWord, SendCommand, SendFrame, Receive, InsertTape, EjectTape, StartCycle, SendPacket, BecomeCandidate, Contend, TieReel, KeepBlock, Finish, Step, Steps, counted}
 use Rattle.fw_run.specs.Frames.{command_write}
 use Rattle.fw_run.specs.Spaces.{bus_manager_id_after}
 use Rattle.fw_run.specs.Good.{IsGood}
+use Rattle.fw_run.specs.Elections.{with_new_candidate}
+use Rattle.fw_run.proofs.Beside.{beside_good}
 use Rattle.fw_run.proofs.Cables.{cable_good, begun_good, forced_may}
 use Rattle.fw_run.proofs.Declares.{declare_good}
 use Rattle.fw_run.proofs.Events.{start_good as connection_good, break_good, death_good}
@@ -50,6 +52,10 @@ step_good s (InsertTape d tape system) out t g x = subst IsGood (sym x.1.4) (ins
 step_good s (EjectTape d) out t g x = subst IsGood (sym x.1.4) (eject_good s d g)
 step_good s StartCycle out t g x = subst IsGood (sym x.1.2) (written_good s g x.1.0)
 step_good s (SendPacket p block) out t g x = subst IsGood (sym x.1.3) g
+step_good s (BecomeCandidate d) out t g x = subst IsGood (sym x.1.4) (beside_good s s.bus_manager_id s.half_steps (with_new_candidate s.election d) s.dub g g.half_steps)
+step_good s (Contend d) out t g x = subst IsGood (sym x.1.state_is) (let few = x.1.few in beside_good s _ (s.half_steps + 1) _ s.dub g (omega (arith, few)))
+step_good s (TieReel d) out t g x = subst IsGood (sym x.1.4) (beside_good s s.bus_manager_id s.half_steps s.election _ g g.half_steps)
+step_good s (KeepBlock block) out t g x = subst IsGood (sym x.1.1) (beside_good s s.bus_manager_id s.half_steps s.election _ g g.half_steps)
 step_good s Finish out t g x = subst IsGood (sym x.1.1) (finish_good s g)
 
 pub steps_good : (s t : State) (xs : List Action) (out : List Timed) → IsGood s → Steps s xs out t → IsGood t

@@ -7,7 +7,7 @@ use Rattle.fw_cip.specs.Iso.{IsBlock, data_length, header_layout, second_layout}
 use Rattle.fw_cip.specs.Streams.{fdf_of}
 use Rattle.fw_words.specs.Layout.{FitWidths}
 use Rattle.fw_entry.specs.declared.entry.ResetEntry.{ResetEntry}
-use Rattle.fw_ledger.specs.Account.{talks}
+use Rattle.fw_account.specs.Account.{talks}
 use Rattle.fw_run.specs.State.{State}
 use Rattle.fw_run.specs.Streams.{GivenBlock, GivesBlock, bytes_of, tape_at, cycle_start, stream_packet}
 use Rattle.fw_tape.specs.Motion.{is_fifty}

@@ -5,10 +5,10 @@ use Rattle.std.proofs.lemmas.Bool.{cases_lt}
 use Rattle.fw_base.specs.declared.plug.PlugAt.{PlugAt}
 use Rattle.fw_base.specs.Tables.{find_plug}
 use Rattle.fw_base.proofs.Tables.{find_plug_is, IsFirstPlug}
-use Rattle.fw_ledger.specs.Account.{Account, talks}
-use Rattle.fw_ledger.specs.Sound.{IsSound, IsConflictFree}
-use Rattle.fw_ledger.proofs.Network.{output_in_range}
-use Rattle.fw_ledger.proofs.Shared.{is_conflict_free}
+use Rattle.fw_account.specs.Account.{Account, talks}
+use Rattle.fw_account.specs.Sound.{IsSound, IsConflictFree}
+use Rattle.fw_account.proofs.Network.{output_in_range}
+use Rattle.fw_account.proofs.Shared.{is_conflict_free}
 use Rattle.fw_run.specs.State.{State}
 use Rattle.fw_run.specs.Streams.{talker_on, those, talkers_to, talkers}
 use Rattle.fw_run.specs.Good.{IsGood}

@@ -1,12 +1,13 @@
 -- What lets time pass leads from a good state to a good state, and so does what writes an event alone.
 use Rattle.std.proofs.Common.{◌≡◌, ℕ, ◌+◌, ◌<◌, ◌≤◌, ◌^◌, cond, Option, Some, None, refl, ap, sym, subst, arith, unwrap_or, IsTrue}
 use Rattle.fw_entry.specs.declared.entry.ResetEntry.{ResetEntry}
-use Rattle.fw_ledger.specs.Account.{Account}
-use Rattle.fw_ledger.specs.Events.{after_second as account_second}
+use Rattle.fw_account.specs.Account.{Account}
+use Rattle.fw_account.specs.Events.{after_second as account_second}
 use Rattle.fw_tree.specs.Topology as Topologies
 use Rattle.fw_cmp.specs.Resets.{after_second as controller_second}
 use Rattle.fw_reclaim.specs.Worlds.{SecondOver}
 use Rattle.fw_reclaim.proofs.Together.{first_reclaims, goes_on_reclaiming}
+use Rattle.fw_run.specs.Dubs.{dub_after_second}
 use Rattle.fw_run.specs.Entries.{second_over}
 use Rattle.fw_run.specs.State.{State, first_state, entered, while_talking, directory_of, epoch_of}
 use Rattle.fw_run.specs.Actions.{after_cycles, after_second, counted, counting, beginning}
@@ -77,7 +78,7 @@ pass_good s n g small second = record { declared = g.declared; latest = latest_ 
 
 -- the state after it, with this account
 abbrev over : State → Account → State
-over s l = after_cycles (record s { account = l; controllers = λ d. controller_second (s.controllers d); streams = while_talking l s.streams }) 1
+over s l = after_cycles (record s { account = l; controllers = λ d. controller_second (s.controllers d); streams = while_talking l s.streams; dub = dub_after_second s.dub }) 1
 
 pub second_ends : (l : Account) → IsTrue l.reclaiming → entered l second_over ≡ account_second l
 second_ends l runs = ap (λ b. unwrap_or (cond b (Some (account_second l)) None) l) runs

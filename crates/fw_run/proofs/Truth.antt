@@ -1,27 +1,24 @@
 -- Controllers as they are go by their own definitions.
-use Rattle.std.proofs.Common.{◌≡◌, ◌≢◌, ◌⊎◌, inl, inr, ℕ, Bool, true, false, Option, Some, None, is_some, cond, refl, ap, sym, subst, ◌∙◌, arith, IsTrue, IsFalse, ◌==◌}
+use Rattle.std.proofs.Common.{◌≡◌, ℕ, Bool, true, false, Option, Some, None, is_some, cond, refl, ap, sym, ◌∙◌, arith, IsTrue, ◌==◌}
 use Rattle.std.specs.Prelude.{Ok, Err}
 use Rattle.std.specs.declared.result.Result.{Result}
-use Rattle.fw_base.specs.Tables.{update}
 use Rattle.fw_csr.specs.declared.reply.Reply.{Reply}
 use Rattle.fw_entry.specs.declared.entry.ResetEntry.{ResetEntry}
 use Rattle.fw_cmp.specs.declared.current.Current.{Current}
 use Rattle.fw_cmp.specs.declared.current.Current.TheVariants.{Nothing, Asking, Hearing, Overtaken}
 use Rattle.fw_cmp.specs.declared.connection.Slot.{Slot}
-use Rattle.fw_cmp.specs.declared.directory.Directory.{Directory}
 use Rattle.fw_cmp.specs.declared.job.Job.{Job}
-use Rattle.fw_cmp.specs.declared.outcome.Next.{Next}
 use Rattle.fw_cmp.specs.declared.outcome.StartFault.{StartFault}
 use Rattle.fw_cmp.specs.declared.stage.Stage.{Stage}
 use Rattle.fw_cmp.specs.Controllers.{ControllerState, IsHeard, first_state as new_controller}
-use Rattle.fw_cmp.specs.Losses.{Listening, first_listening, turn_of, deaf_turn, deaf_until, asked_by, after_turn, after_loss as lost, after_bus_reset, after_end, with_state}
-use Rattle.fw_cmp.specs.Resets.{after_hear, heard, state_reset, after_reset, after_lost_reset, lost_reset, slots_reset}
+use Rattle.fw_cmp.specs.Losses.{first_listening, turn_of, deaf_turn, deaf_until, after_turn, after_loss as lost, after_bus_reset, with_state}
+use Rattle.fw_cmp.specs.Resets.{after_hear, heard, state_reset, after_reset, after_lost_reset}
 use Rattle.fw_cmp.specs.Starts.{start, started, break_fault, break_started, with_task, start_at, free_slot}
-use Rattle.fw_cmp.specs.Turns.{next, after_next}
+use Rattle.fw_cmp.specs.Turns.{next}
 use Rattle.fw_run.specs.declared.order.Wanted.{Wanted}
 use Rattle.fw_run.specs.declared.order.Wanted.TheVariants.{PlugToPlug, BroadcastOut, BroadcastIn}
-use Rattle.fw_run.specs.Actions.{stage_of, after_loss, after_reset_entry, after_second, after_death, with_connection, slot_of, start_of}
-use Rattle.fw_run.specs.Good.{IsGood, Asks}
+use Rattle.fw_run.specs.Actions.{stage_of, after_loss, after_reset_entry, after_death, with_connection, slot_of, start_of}
+use Rattle.fw_run.specs.Good.{IsGood}
 use Rattle.fw_run.specs.HalfSteps.{HalfStep, half, half_of, asks, after_half, has_request, with_controller}
 use Rattle.fw_run.specs.State.{State, directory_of, is_deaf, is_living}
 use Rattle.fw_run.specs.Truth.{standing, in_truth, controller_at, deaf_says}

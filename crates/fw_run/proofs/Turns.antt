@@ -9,10 +9,10 @@ use Rattle.fw_csr.specs.declared.request.Request.{Request as Asked}
 use Rattle.fw_csr.specs.declared.request.Swap.{Swap}
 use Rattle.fw_entry.specs.declared.entry.Entry.TheVariants.{Async}
 use Rattle.fw_entry.specs.declared.entry.ResetEntry.{ResetEntry}
-use Rattle.fw_ledger.specs.Account.{Account, Request}
-use Rattle.fw_ledger.specs.Packets.{asked}
+use Rattle.fw_account.specs.Account.{Account, Request}
+use Rattle.fw_account.specs.Packets.{asked}
 use Rattle.fw_entry.specs.Network.{row_of_node}
-use Rattle.fw_ledger.specs.Words.{node_of}
+use Rattle.fw_account.specs.Words.{node_of}
 use Rattle.fw_cmp.specs.declared.outcome.Next.{Next}
 use Rattle.fw_cmp.specs.declared.outcome.Next.TheVariants.{Send, End, Idle, Waiting, Deaf, Force}
 use Rattle.fw_cmp.specs.declared.request.Access.{Access}
@@ -29,6 +29,7 @@ use Rattle.fw_reclaim.proofs.Together.{goes_on_reclaiming}
 use Rattle.fw_rounds.specs.HalfSteps.{AsksWhatStands}
 use Rattle.fw_rounds.proofs.Stands.{next_stands}
 use Rattle.fw_node.specs.Packets.{packet_of}
+use Rattle.fw_run.specs.Dubs.{dub_between}
 use Rattle.fw_run.specs.State.{State, entered_by, while_talking, linked_number, directory_of, is_living, is_deaf, epoch_of}
 use Rattle.fw_run.specs.HalfSteps.{head_from, said, asks, taken}
 use Rattle.fw_run.specs.Good.{IsGood, IsLatest, world_of, AreLosses, Asks}
@@ -108,6 +109,7 @@ turned s d a o = record s {
   controllers = update s.controllers d (after_next s.clock.cycle (directory_of s) (s.controllers d));
   asked_at = update s.asked_at d (asks s d).asked_at;
   streams = while_talking (marked s.account a o) s.streams;
+  dub = dub_between s.account (marked s.account a o) s.dub;
 }
 
 latest_turned : (s : State) (d : ℕ) (a : ℕ → Option PlugAt) (o : ℕ → Option Request) (e : ResetEntry) → s.account.latest ≡ Some e → IsLatest (Some e) s → IsLatest s.account.latest (turned s d a o)
@@ -172,7 +174,7 @@ turns s d n e g is h number heard = go (next s.clock.cycle (directory_of s) (s.c
 
 -- the state with this account
 abbrev pub with_account : State → ℕ → Account → State
-with_account s d l = record s { account = l; controllers = update s.controllers d (after_next s.clock.cycle (directory_of s) (s.controllers d)); asked_at = update s.asked_at d (asks s d).asked_at; streams = while_talking l s.streams }
+with_account s d l = record s { account = l; controllers = update s.controllers d (after_next s.clock.cycle (directory_of s) (s.controllers d)); asked_at = update s.asked_at d (asks s d).asked_at; streams = while_talking l s.streams; dub = dub_between s.account l s.dub }
 
 pub living_linked : (s : State) (d : ℕ) → IsTrue (is_living s d) → IsTrue (is_some (linked_number s.account.latest d))
 living_linked s d lives = grind (arith, lives)

@@ -14,7 +14,7 @@ use Rattle.fw_tape.specs.Motion.{MayPass}
 use Rattle.fw_avc.specs.Notices.{notice_of, after_notice}
 use Rattle.fw_avc.specs.Laws.{Tells}
 use Rattle.fw_avc.proofs.TellLaws.{tells}
-use Rattle.fw_ledger.specs.Words.{node_of}
+use Rattle.fw_account.specs.Words.{node_of}
 use Rattle.fw_node.specs.Fcp as Fcp
 use Rattle.fw_node.specs.Packets.{packet_of}
 use Rattle.fw_node.specs.State as Nodes

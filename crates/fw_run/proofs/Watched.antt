@@ -1,30 +1,28 @@
 -- A watched register that is answered or shown is there, and its word is the account's.
-use Rattle.std.proofs.Common.{◌≡◌, ◌⊎◌, inl, inr, ℕ, ◌+◌, ◌-◌, ◌*◌, ◌/◌, ◌^◌, ◌<◌, ◌==◌, ◌&&◌, ◌||◌, nat_lt, length, cond, Bool, true, false, List, Option, Some, None, slice_get, refl, ap, sym, subst, ◌∙◌, true≢false, arith, IsTrue}
+use Rattle.std.proofs.Common.{◌≡◌, ℕ, ◌+◌, ◌-◌, ◌*◌, ◌/◌, ◌^◌, ◌<◌, ◌==◌, ◌||◌, nat_lt, length, cond, Bool, true, false, Option, Some, None, slice_get, refl, ap, sym, subst, ◌∙◌, true≢false, arith, IsTrue}
 use Rattle.std.specs.Option.{option_or}
 use Rattle.std.specs.Int.{to_be_bytes, w32}
 use Rattle.std.proofs.lemmas.Nat.{from_be_bytes-to_be_bytes_4}
 use Rattle.std.proofs.lemmas.Bool.Decides.{nat_tests}
 use Rattle.std.proofs.lemmas.Option.{same_Some}
-use Rattle.fw_words.specs.Quadlet.{quadlet_at}
 use Rattle.fw_base.specs.Devices.{output_plugs_of, input_plugs_of}
 use Rattle.fw_base.specs.Tables.{at_plug}
 use Rattle.fw_csr.specs.declared.reply.Reply.{Reply}
 use Rattle.fw_csr.specs.declared.request.Swap.{Swap}
 use Rattle.fw_entry.specs.declared.entry.Entry.TheVariants.{Async}
 use Rattle.fw_entry.specs.declared.entry.ResetEntry.{ResetEntry}
-use Rattle.fw_entry.specs.declared.entry.ShownEntry.{ShownEntry}
 use Rattle.fw_entry.specs.declared.nodes.NodeRow.{NodeRow}
 use Rattle.fw_entry.specs.Network.{first_id, node_of_device, device_of_id}
-use Rattle.fw_ledger.specs.Account.{Account, Request}
-use Rattle.fw_ledger.specs.Packets.{Read, Locked}
-use Rattle.fw_ledger.specs.Words.{Register, BandwidthAvailable, ChannelsAvailable, OutputPlug, InputPlug, word_of, register_at, register_of, manager_register, plug_register, output_register, input_register, plug_number, first_output, first_input, first_address, is_node, node_of, id_in}
-use Rattle.fw_ledger.proofs.Places.{register_at_address}
-use Rattle.fw_audit.specs.Looked.{Response, Looked, Replies, Shows, looked, quadlet_in, is_plug_offset, is_watched, register_by, register_shown, IsWatchedAnswer, IsQuadlet, ShowsWords}
-use Rattle.fw_cmp.specs.Requests.{request_at, swap_bytes}
+use Rattle.fw_account.specs.Account.{Request}
+use Rattle.fw_account.specs.Packets.{Read, Locked}
+use Rattle.fw_account.specs.Words.{Register, BandwidthAvailable, ChannelsAvailable, OutputPlug, InputPlug, word_of, register_at, register_of, manager_register, plug_register, output_register, input_register, plug_number, first_output, first_input, first_address, is_node, node_of, id_in}
+use Rattle.fw_account.proofs.Places.{register_at_address}
+use Rattle.fw_audit.specs.Looked.{Response, Replies, looked, quadlet_in, is_plug_offset, is_watched, register_by, IsQuadlet, ShowsWords}
+use Rattle.fw_cmp.specs.Requests.{request_at}
 use Rattle.fw_node.specs.Space as Spaces
 use Rattle.fw_devices.specs.Network.{kind_at}
 use Rattle.fw_devices.specs.Entries.{row_of}
-use Rattle.fw_step.specs.Requests.{procedure_head, operation_of}
+use Rattle.fw_step.specs.Requests.{operation_of}
 use Rattle.fw_run.specs.Entries.{shown_entry}
 use Rattle.fw_run.specs.State.{State, number_in}
 use Rattle.fw_run.specs.Spaces.{space_at, space_of_device, reply_from, read_at, is_manager, manager_words}

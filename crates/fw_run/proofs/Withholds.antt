@@ -1,10 +1,10 @@
 -- Before the first device channel 31 may be withheld, which leads from a good state to a good state.
-use Rattle.std.proofs.Common.{◌≡◌, ◌≢◌, ℕ, ◌<◌, ◌&&◌, ◌==◌, not, cond, List, [], length, Bool, true, false, Option, Some, None, is_some, unwrap_or, refl, ap, sym, subst, ◌∙◌, arith, IsTrue}
+use Rattle.std.proofs.Common.{◌≡◌, ℕ, ◌&&◌, not, cond, List, [], length, Bool, true, false, Option, Some, None, is_some, unwrap_or, refl, ap, sym, subst, arith, IsTrue}
 use Rattle.std.proofs.lemmas.Bool.Decides.{nat_tests}
 use Rattle.fw_entry.specs.declared.entry.ResetEntry.{ResetEntry}
-use Rattle.fw_ledger.specs.Account.{Account, is_withheld}
-use Rattle.fw_ledger.specs.Events.{after_withholding}
-use Rattle.fw_ledger.specs.Fold.{next_account}
+use Rattle.fw_account.specs.Account.{Account, is_withheld}
+use Rattle.fw_account.specs.Events.{after_withholding}
+use Rattle.fw_account.specs.Fold.{next_account}
 use Rattle.fw_cmp.specs.Controllers.{first_state as new_controller}
 use Rattle.fw_reclaim.specs.Avoids.{SlotAvoids}
 use Rattle.fw_reclaim.specs.Worlds.{Withholds, Withholding}
@@ -13,7 +13,7 @@ use Rattle.fw_run.specs.declared.order.Wanted.{Wanted}
 use Rattle.fw_run.specs.declared.order.Wanted.TheVariants.{PlugToPlug, BroadcastOut, BroadcastIn}
 use Rattle.fw_run.specs.Actions.{slot_of}
 use Rattle.fw_run.specs.Entries.{withheld}
-use Rattle.fw_run.specs.State.{State, entered, linked_number, is_living}
+use Rattle.fw_run.specs.State.{State, entered, linked_number}
 use Rattle.fw_run.specs.Good.{IsGood, IsLatest, world_of}
 
 -- ---- the account

@@ -6,9 +6,9 @@ use Rattle.fw_csr.specs.declared.request.Swap.{Swap}
 use Rattle.fw_entry.specs.declared.entry.ResetEntry.{ResetEntry}
 use Rattle.fw_entry.specs.declared.nodes.NodeRow.{NodeRow}
 use Rattle.fw_entry.specs.Network.{first_id, node_of_device}
-use Rattle.fw_ledger.specs.Words.{Register, word_of, register_at, register_of, node_of, first_address}
-use Rattle.fw_ledger.proofs.Bounds.{register_there, word_below}
-use Rattle.fw_ledger.proofs.Places.{register_at_address}
+use Rattle.fw_account.specs.Words.{Register, word_of, register_at, register_of, node_of, first_address}
+use Rattle.fw_account.proofs.Bounds.{register_there, word_below}
+use Rattle.fw_account.proofs.Places.{register_at_address}
 use Rattle.fw_cmp.specs.Requests.{request_at}
 use Rattle.fw_node.specs.Space as Spaces
 use Rattle.fw_node.specs.Space.{answer_of}

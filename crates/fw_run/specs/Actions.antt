@@ -1,5 +1,5 @@
 -- Actions: what commands do, each of which writes one entry at most.
-use Rattle.std.specs.Prelude.{ℕ, ◌≡◌, ◌+◌, ◌^◌, ◌<◌, ◌≤◌, List, [], ◌∷◌, ◌++◌, length, Bool, true, false, Option, Some, None, Ok, is_some, if◌then◌else◌, IsTrue, IsFalse}
+use Rattle.std.specs.Prelude.{ℕ, ◌≡◌, ◌==◌, ◌+◌, ◌^◌, ◌<◌, ◌≤◌, ⊤, List, [], ◌∷◌, ◌++◌, length, Bool, true, false, Option, Some, None, Ok, is_some, if◌then◌else◌, IsTrue, IsFalse}
 use Rattle.std.specs.declared.result.Result.{Result}
 use Rattle.fw_base.specs.declared.device.DeviceKind.{DeviceKind}
 use Rattle.fw_base.specs.Tables.{update}
@@ -26,7 +26,12 @@ use Rattle.fw_run.specs.declared.order.Transaction.{Transaction}
 use Rattle.fw_run.specs.declared.order.Wanted.{Wanted}
 use Rattle.fw_run.specs.declared.order.Wanted.TheVariants.{PlugToPlug, BroadcastOut, BroadcastIn}
 use Rattle.fw_run.specs.Giving.{at_most}
-use Rattle.fw_run.specs.Entries.{second_over, died, started, inserted as inserted_entry, ejected, unsettled, lost, withheld, shown_entry}
+use Rattle.fw_run.specs.Entries.{second_over, died, started, inserted as inserted_entry, ejected, dubbing, unsettled, lost, withheld, shown_entry}
+use Rattle.fw_devices.specs.Network.{kind_at}
+use Rattle.fw_run.specs.Elections.{Election, is_capable, with_candidate, with_new_candidate}
+use Rattle.fw_run.specs.Dubs.{dub_after_reset, dub_after_second}
+use Rattle.fw_run.specs.Bidding.{Bids, is_candidate}
+use Rattle.fw_run.specs.Recording.{tied_to, with_block}
 use Rattle.fw_run.specs.State.{State, with_device, entered, while_talking, epoch_of, is_on, is_linked, is_deaf, has_deck, is_living}
 use Rattle.fw_run.specs.Decks.{Obeyed, with_tape, passed as deck_passed, after_reset as deck_reset}
 use Rattle.fw_run.specs.Frames.{Sends, Receives, request_of, command_write, frame_packet}
@@ -34,7 +39,7 @@ use Rattle.fw_tape.specs.declared.cassette.Cassette.{Cassette}
 use Rattle.fw_tape.specs.declared.system.TapeSystem.{TapeSystem}
 use Rattle.fw_tape.specs.Motion.{inserted}
 use Rattle.fw_tape.specs.Blocks.{blocks_among}
-use Rattle.fw_ledger.specs.Account.{talks}
+use Rattle.fw_account.specs.Account.{talks}
 use Rattle.fw_run.specs.Streams.{GivenBlock, GivesBlock, bytes_of, cycle_start, stream_packet}
 use Rattle.fw_node.specs.Packets.{packet_of, RequestFits}
 use Rattle.fw_run.specs.Spaces.{answer_packet, transaction_head, target_node, access_request, read_at, bus_manager_id_after}
@@ -67,6 +72,10 @@ pub data Action : Type 0 where
   EjectTape : (device : ℕ) → Action
   StartCycle : Action  -- the root writes the cycle start of the cycle that has come
   SendPacket : (plug : PlugAt) → (block : Option GivenBlock) → Action  -- an output plug sends its packet of the cycle, with this block or empty
+  BecomeCandidate : (device : ℕ) → Action  -- a computer becomes a candidate for the bus manager
+  Contend : (device : ℕ) → Action  -- a half step of a candidate
+  TieReel : (device : ℕ) → Action  -- the reel is emptied, and tied to a deck
+  KeepBlock : (block : Option (List ℕ)) → Action  -- what the tied deck has heard in the cycle that was written goes onto the reel
   Finish : Action
 
 -- ---- bus resets
@@ -84,6 +93,7 @@ after_reset_entry s e = record s {
   decks = λ d. deck_reset (s.decks d);
   frame = None;
   streams = while_talking (entered s.account (Reset e)) s.streams;
+  dub = dub_after_reset s.account s.dub;
 }
 
 -- A device on the bus begins a bus reset, of which there are at most 10,000.
@@ -146,7 +156,7 @@ abbrev pub with_new_controller : State → ℕ → Bool → State
 with_new_controller s d is_dead = record s { controllers = update s.controllers d new_controller; asked_at = update s.asked_at d 0; lost = update s.lost d None; dead = update s.dead d is_dead }
 
 abbrev pub after_death : State → ℕ → State
-after_death s d = record (with_new_controller s d true) { account = entered s.account (died d); streams = while_talking (entered s.account (died d)) s.streams }
+after_death s d = record (with_new_controller s d true) { account = entered s.account (died d); streams = while_talking (entered s.account (died d)) s.streams; election = with_candidate s.election d None }
 
 abbrev pub after_start : State → ℕ → State
 after_start s d = record (with_new_controller s d false) { account = entered s.account (started d) }
@@ -167,6 +177,7 @@ after_second s = record s {
   account = entered s.account second_over;
   controllers = λ d. controller_second (s.controllers d);
   streams = while_talking (entered s.account second_over) s.streams;
+  dub = dub_after_second s.dub;
 }
 
 -- ---- tapes
@@ -206,6 +217,11 @@ abbrev pub AccessFits : Access → Type 0
 AccessFits (Read offset) = offset < 2 ^ 12
 AccessFits (Swap offset argument new) = (offset < 2 ^ 12) × (argument < 2 ^ 32) × (new < 2 ^ 32)
 
+-- from the first candidate on the script does not swap BUS_MANAGER_ID
+abbrev pub IsSpared : Election → Access → Type 0
+IsSpared e (Read offset) = ⊤
+IsSpared e (Swap offset argument new) = IsTrue e.begun → IsFalse (offset == 0x21C)
+
 -- One action while no transaction of the script waits for its answer: what it writes, and the state after it. While the second of
 -- the latest bus reset runs its end has not come yet, so in each state it is not over.
 abbrev pub Happens : State → Action → List Timed → State → Type 0
@@ -241,6 +257,7 @@ Happens s (Start d) out t = IsTrue (is_linked s d) × IsTrue (s.dead d) × (out 
 Happens s (Ask x) out t =
     IsTrue (is_living s x.from) × IsTrue (is_linked s x.to) × AccessFits x.access
     × (out ≡ at_most s.clock.cycle (Some (Async (packet_of (transaction_head s x) (access_request x.access))))) × (t ≡ record s { transaction = Some x })
+    × IsSpared s.election x.access
 Happens s Answer out t = ⊥
 Happens s (ShowWord d offset) out t =
     IsTrue (is_linked s d) × (offset < 2 ^ 12) × ((read_at s d offset).rcode ≡ 0)
@@ -261,6 +278,12 @@ Happens s StartCycle out t =
     × (t ≡ record s { written = s.written + 1 })
 Happens s (SendPacket p block) out t =
     IsTrue (talks s.account p) × GivesBlock s p block × (out ≡ at_most s.clock.cycle (Some (Iso (stream_packet s p (bytes_of block))))) × (t ≡ s)
+Happens s (BecomeCandidate d) out t =
+    IsTrue (is_living s d) × IsTrue (is_capable (kind_at s.declared.kinds d)) × IsFalse (is_candidate s d) × (out ≡ []) × (t ≡ record s { election = with_new_candidate s.election d })
+Happens s (Contend d) out t = Bids s d out t
+Happens s (TieReel d) out t =
+    (d < length s.declared.names) × IsTrue (has_deck s d) × IsTrue (is_on s d) × (out ≡ at_most s.clock.cycle (Some (dubbing d))) × (t ≡ tied_to s d)
+Happens s (KeepBlock block) out t = (out ≡ []) × (t ≡ with_block s block)
 Happens s Finish out t = (out ≡ at_most s.clock.cycle (Some EndEntry)) × (t ≡ record s { account = entered s.account EndEntry })
 
 -- the node that a transaction of the script asked answers it

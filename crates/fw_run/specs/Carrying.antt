@@ -14,9 +14,11 @@ use Rattle.fw_run.specs.Decks.{Obeyed}
 use Rattle.fw_run.specs.Frames.{next_told}
 use Rattle.fw_run.specs.Streams.{GivenBlock, talkers}
 use Rattle.fw_run.specs.State.{State, living}
+use Rattle.fw_run.specs.Bidding.{is_candidate}
+use Rattle.fw_run.specs.Recording.{heard_in}
 use Rattle.fw_run.specs.HalfSteps.{has_request, is_unsettled}
 use Rattle.fw_run.specs.Actions.{Action, Withhold, AddDevice, AddCable, ResetBus, StartConnection, StartBreak, HalfStep, Rest, Unsettled, Pass, EndSecond, Steps}
-use Rattle.fw_run.specs.Actions.{Die, CarryOut, Lose, TellLoss, Start, Ask, Answer, ShowWord, SendCommand, SendFrame, Receive, InsertTape, EjectTape, StartCycle, SendPacket, Finish}
+use Rattle.fw_run.specs.Actions.{Die, CarryOut, Lose, TellLoss, Start, Ask, Answer, ShowWord, SendCommand, SendFrame, Receive, InsertTape, EjectTape, StartCycle, SendPacket, BecomeCandidate, Contend, TieReel, KeepBlock, Finish}
 
 -- the same action so many times
 unfoldable pub times : ℕ → Action → List Action
@@ -65,10 +67,18 @@ pub record WritesCycle (s : State) (actions : List Action) (out : List Timed) (t
   pub actions_are : actions ≡ next_cycle s ∷ StartCycle ∷ packets
   pub out_is : out ≡ first ++ last
 
+-- and what a deck records of it goes onto the reel
+pub record KeepsCycle (s : State) (actions : List Action) (out : List Timed) (t : State) : Type 0 where
+  pub sent : State
+  pub written : List Action
+  pub writes : WritesCycle s written out sent
+  pub keeps : Steps sent (KeepBlock (heard_in sent out) ∷ []) [] t
+  pub actions_are : actions ≡ written ++ KeepBlock (heard_in sent out) ∷ []
+
 -- before the first device it only comes
 abbrev pub HasCycle : Option ResetEntry → State → List Action → List Timed → State → Type 0
 HasCycle None s actions out t = Steps s (next_cycle s ∷ []) out t × (actions ≡ next_cycle s ∷ [])
-HasCycle (Some e) s actions out t = WritesCycle s actions out t
+HasCycle (Some e) s actions out t = KeepsCycle s actions out t
 
 -- so many cycles, one after another
 unfoldable pub HasCycles : ℕ → State → List Action → List Timed → State → Type 0
@@ -130,4 +140,11 @@ pub data Carries : State → Order → List Action → List Timed → State → 
       → Carries s (Orders.Eject d) (EjectTape d ∷ actions) (first ++ rest) t
   -- without a tape nothing changes
   ejects_nothing : {s : State} {d : ℕ} → IsFalse (is_some (s.decks d).unit.tape) → Carries s (Orders.Eject d) [] [] s
+  -- a candidate stays one
+  becomes_candidate : {s t : State} {d : ℕ} {out : List Timed}
+      → Steps s (BecomeCandidate d ∷ []) out t → Carries s (Orders.Candidate d) (BecomeCandidate d ∷ []) out t
+  stays_candidate : {s : State} {d : ℕ} → IsTrue (is_candidate s d) → Carries s (Orders.Candidate d) [] [] s
+  contends : {s t : State} {d count : ℕ} {out : List Timed}
+      → Steps s (times count (Contend d)) out t → Carries s (Orders.Contend d count) (times count (Contend d)) out t
+  dubs : {s t : State} {d : ℕ} {out : List Timed} → Steps s (TieReel d ∷ []) out t → Carries s (Orders.Dub d) (TieReel d ∷ []) out t
   ends : {s t : State} {out : List Timed} → Steps s (Finish ∷ []) out t → Carries s Orders.End (Finish ∷ []) out t

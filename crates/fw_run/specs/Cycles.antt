@@ -3,7 +3,7 @@ use Rattle.std.specs.Prelude.{ℕ, ◌≡◌, ◌+◌, ◌^◌, ◌≤◌, ⊤, 
 use Rattle.fw_base.specs.declared.plug.PlugAt.{PlugAt}
 use Rattle.fw_entry.specs.declared.entry.Entry.TheVariants.{Iso}
 use Rattle.fw_entry.specs.declared.entry.Timed.{Timed}
-use Rattle.fw_ledger.specs.Account.{talks}
+use Rattle.fw_account.specs.Account.{talks}
 use Rattle.fw_tape.specs.Blocks.{blocks_among}
 use Rattle.fw_run.specs.Giving.{at_cycle}
 use Rattle.fw_run.specs.State.{State}

@@ -1,7 +1,7 @@
 -- The entries of events and of outcomes.
 use Rattle.std.specs.Prelude.{ℕ, ◌%◌, ◌^◌}
 use Rattle.fw_entry.specs.declared.codes.TheConstants.{NO_DEVICE, LINES_525, LINES_625}
-use Rattle.fw_entry.specs.declared.codes.event.TheConstants.{SECOND_OVER, DIED, STARTED, INSERTED, EJECTED, UNSETTLED, LOST, WITHHELD}
+use Rattle.fw_entry.specs.declared.codes.event.TheConstants.{SECOND_OVER, DIED, STARTED, INSERTED, EJECTED, UNSETTLED, LOST, WITHHELD, ELECTED, DEFEATED, DUBBING}
 use Rattle.fw_entry.specs.declared.codes.outcome.TheConstants as Codes
 use Rattle.fw_entry.specs.declared.entry.Entry.{Entry}
 use Rattle.fw_entry.specs.declared.entry.Entry.TheVariants.{Event, Outcome as OutcomeOf, Shown}
@@ -48,6 +48,17 @@ inserted d tape system = Event (record { code = INSERTED; device = d; tape = tap
 
 abbrev pub ejected : ℕ → Entry
 ejected d = event_of EJECTED d
+
+-- the candidate of device d is the bus manager, or found another one
+abbrev pub elected : ℕ → Entry
+elected d = event_of ELECTED d
+
+abbrev pub defeated : ℕ → Entry
+defeated d = event_of DEFEATED d
+
+-- the reel is empty, and has the recording of device d from now on
+abbrev pub dubbing : ℕ → Entry
+dubbing d = event_of DUBBING d
 
 -- ---- outcomes
 

@@ -11,7 +11,7 @@ use Rattle.fw_entry.specs.declared.entry.Timed.{Timed}
 use Rattle.fw_fcp.specs.declared.frame.Frame.{Frame}
 use Rattle.fw_fcp.specs.Frames.{spelling}
 use Rattle.fw_avc.specs.Replies.{IsResponse, ruling}
-use Rattle.fw_ledger.specs.Words.{node_of}
+use Rattle.fw_account.specs.Words.{node_of}
 use Rattle.fw_node.specs.Fcp.{IsCommand, IsSendable}
 use Rattle.fw_node.specs.Packets.{packet_of}
 use Rattle.fw_run.specs.Decks.{DeckState, Obeyed, FrameWrite, next_frame, after_frame, after_command}

@@ -2,11 +2,11 @@
 use Rattle.std.specs.Prelude.{ℕ, ◌+◌, ◌<◌, ◌≤◌, ◌^◌, ◌≡◌, List, [], ◌∷◌, length, Option, Some, None, is_some, IsTrue, IsFalse, ⊤}
 use Rattle.fw_entry.specs.declared.entry.ResetEntry.{ResetEntry}
 use Rattle.fw_tree.specs.Topology.{Made}
-use Rattle.fw_ledger.specs.Fold.{no_account}
+use Rattle.fw_account.specs.Fold.{no_account}
 use Rattle.fw_base.specs.declared.device.DeviceKind.{DeviceKind}
 use Rattle.fw_base.specs.Devices.{is_contender}
 use Rattle.fw_base.specs.declared.plug.PlugAt.{PlugAt}
-use Rattle.fw_ledger.specs.Account.{talks}
+use Rattle.fw_account.specs.Account.{talks}
 use Rattle.fw_devices.specs.Network.{AreKinds, kind_at}
 use Rattle.fw_devices.specs.Entries.{IsResetEntry, node_number}
 use Rattle.fw_devices.specs.Resets.{Shows}

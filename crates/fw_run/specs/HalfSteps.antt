@@ -5,7 +5,7 @@ use Rattle.fw_base.specs.Tables.{update, find_to}
 use Rattle.fw_async.specs.declared.packet.Head.{Head}
 use Rattle.fw_entry.specs.declared.entry.Entry.{Entry}
 use Rattle.fw_entry.specs.declared.entry.Entry.TheVariants.{Async}
-use Rattle.fw_ledger.specs.Words.{node_of}
+use Rattle.fw_account.specs.Words.{node_of}
 use Rattle.fw_cmp.specs.declared.current.Current.{Current}
 use Rattle.fw_cmp.specs.declared.current.Current.TheVariants.{Nothing, Asking, Hearing, Overtaken}
 use Rattle.fw_cmp.specs.declared.outcome.Next.{Next}
@@ -18,6 +18,7 @@ use Rattle.fw_cmp.specs.Resets.{after_hear}
 use Rattle.fw_cmp.specs.Turns.{next, after_next, is_busy}
 use Rattle.fw_step.specs.Requests.{procedure_head}
 use Rattle.fw_run.specs.State.{State, entered_by, while_talking, directory_of, is_living}
+use Rattle.fw_run.specs.Dubs.{dub_between}
 use Rattle.fw_run.specs.Entries.{outcome_entry}
 use Rattle.fw_node.specs.Packets.{packet_of}
 use Rattle.fw_run.specs.Spaces.{reply_from, answer_packet}
@@ -85,6 +86,7 @@ taken s d h = record s {
   controllers = update s.controllers d h.controller;
   asked_at = update s.asked_at d h.asked_at;
   streams = while_talking (entered_by s.account h.says) s.streams;
+  dub = dub_between s.account (entered_by s.account h.says) s.dub;
 }
 
 abbrev pub after_half : State → ℕ → State

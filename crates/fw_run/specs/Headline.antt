@@ -11,12 +11,12 @@ use Rattle.fw_entry.specs.declared.entry.ShownEntry.{ShownEntry}
 use Rattle.fw_entry.specs.declared.entry.Timed.{Timed}
 use Rattle.fw_entry.specs.Log.{TimedFits}
 use Rattle.fw_tree.specs.Cables.{IsOnBus}
-use Rattle.fw_ledger.specs.Account.{Account, Request}
-use Rattle.fw_ledger.specs.Listing.{IsAllocatedForFlows}
+use Rattle.fw_account.specs.Account.{Account, Request}
+use Rattle.fw_account.specs.Listing.{IsAllocatedForFlows}
 use Rattle.fw_entry.specs.Network.{device_of_id}
-use Rattle.fw_ledger.specs.Words.{Register, register_of, word_of, word_of_device}
-use Rattle.fw_ledger.specs.Fold.{account_of, entries_of}
-use Rattle.fw_ledger.specs.Sound.{IsSound, IsConflictFree}
+use Rattle.fw_account.specs.Words.{Register, register_of, word_of, word_of_device}
+use Rattle.fw_account.specs.Fold.{account_of, entries_of}
+use Rattle.fw_account.specs.Sound.{IsSound, IsConflictFree}
 use Rattle.fw_audit.specs.Looked.{looked, ShowsWords}
 use Rattle.fw_cmp.specs.declared.connection.Connection.{Connection}
 use Rattle.fw_cmp.specs.declared.connection.Flow.{Flow}

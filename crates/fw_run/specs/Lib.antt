@@ -1,12 +1,16 @@
 pub mod Giving
 pub mod Decks
 pub mod Desks
+pub mod Elections
+pub mod Dubs
 pub mod State
 pub mod Entries
 pub mod Spaces
 pub mod HalfSteps
 pub mod Frames
 pub mod Streams
+pub mod Bidding
+pub mod Recording
 pub mod Actions
 pub mod Given
 pub mod Units
@@ -25,3 +29,8 @@ pub mod OneLog
 pub mod Truth
 pub mod Recovery
 pub mod Withheld
+pub mod Elected
+pub mod Candidates
+pub mod Recorded
+pub mod Hearing
+pub mod Beside

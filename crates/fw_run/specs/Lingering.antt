@@ -3,7 +3,7 @@ use Rattle.std.specs.Prelude.{List, [], ◌∷◌}
 use Rattle.fw_entry.specs.declared.entry.Timed.{Timed}
 use Rattle.fw_entry.specs.declared.entry.Entry.{Entry}
 use Rattle.fw_entry.specs.declared.entry.Entry.TheVariants.{Reset}
-use Rattle.fw_ledger.specs.Account.{Account}
+use Rattle.fw_account.specs.Account.{Account}
 use Rattle.fw_step.specs.Lingering.{NoneLingers, SameLinger, LingerUnchanged, LingerActive, LingerAfter}
 use Rattle.fw_run.specs.Actions.{Action, AddDevice, AddCable, ResetBus, HalfStep, EndSecond, CarryOut, Lose}
 

@@ -2,8 +2,8 @@
 use Rattle.std.specs.Prelude.{ℕ, ◌≡◌, ◌<◌, ◌⊎◌, Some, None, IsFalse}
 use Rattle.fw_base.specs.declared.plug.PlugAt.{PlugAt}
 use Rattle.fw_plug.specs.Words.{units_of}
-use Rattle.fw_ledger.specs.Account.{Account, Allocation, Connected, Orphaned, Dead}
-use Rattle.fw_ledger.specs.Events.{no_connections}
+use Rattle.fw_account.specs.Account.{Account, Allocation, Connected, Orphaned, Dead}
+use Rattle.fw_account.specs.Events.{no_connections}
 use Rattle.fw_cmp.specs.declared.connection.Connection.{Connection}
 use Rattle.fw_cmp.specs.declared.connection.Flow.{Flow}
 use Rattle.fw_cmp.specs.declared.connection.Slot.TheVariants.{Standing}

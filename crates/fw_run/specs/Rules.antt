@@ -15,7 +15,9 @@ use Rattle.fw_tree.specs.declared.TreeFault.TheVariants as Tree
 use Rattle.fw_tree.specs.Topology.{IsFault}
 use Rattle.fw_script.specs.declared.command.Command.{Command}
 use Rattle.fw_script.specs.declared.command.Command.TheVariants as Commands
-use Rattle.fw_devices.specs.Network.{device_named}
+use Rattle.fw_devices.specs.Network.{device_named, kind_at}
+use Rattle.fw_run.specs.Elections.{is_capable}
+use Rattle.fw_run.specs.Bidding.{is_candidate}
 use Rattle.fw_cmp.specs.declared.outcome.StartFault.{StartFault}
 use Rattle.fw_cmp.specs.declared.outcome.StartFault.TheVariants as Refusals
 use Rattle.fw_cmp.specs.Starts.{break_fault}
@@ -27,7 +29,7 @@ use Rattle.fw_run.specs.declared.order.Order.{Order}
 use Rattle.fw_run.specs.declared.order.Order.TheVariants as order
 use Rattle.fw_run.specs.declared.rule.RuleFault.{RuleFault}
 use Rattle.fw_run.specs.declared.rule.RuleFault.TheVariants.{UnknownName, NameTaken, TooMany, NoPort, PortUsed, Loop, NotController, OffBus}
-use Rattle.fw_run.specs.declared.rule.RuleFault.TheVariants.{Guarded, NoRegister, Limit, TableFull, Busy, NoSuchConnection, NotOwnPlug, NoDeck, NothingStands, TooLate}
+use Rattle.fw_run.specs.declared.rule.RuleFault.TheVariants.{Guarded, NoRegister, Limit, TableFull, Busy, NoSuchConnection, NotOwnPlug, NoDeck, NothingStands, TooLate, NotCapable, NotCandidate}
 use Rattle.fw_run.specs.State.{State, device_in, manager_in, is_on, is_linked, has_deck, is_living, living}
 use Rattle.fw_run.specs.HalfSteps.{has_request}
 use Rattle.fw_run.specs.Spaces.{read_at}
@@ -66,6 +68,9 @@ names_of (Commands.Insert name tape system) = name ∷ []
 names_of (Commands.Eject name) = name ∷ []
 names_of (Commands.Show None offset) = []
 names_of (Commands.Show (Some name) offset) = name ∷ []
+names_of (Commands.Candidate name) = name ∷ []
+names_of (Commands.Contend name count) = name ∷ []
+names_of (Commands.Dub name) = name ∷ []
 names_of Commands.End = []
 
 -- the device whose controller a command needs
@@ -80,6 +85,8 @@ controller_of (Commands.Lose name) = Some name
 controller_of (Commands.Command name other frame) = Some name
 controller_of (Commands.Read name other offset) = Some name
 controller_of (Commands.Swap name other offset argument new) = Some name
+controller_of (Commands.Candidate name) = Some name
+controller_of (Commands.Contend name count) = Some name
 controller_of _ = None
 
 -- the device whose node a command needs
@@ -94,6 +101,7 @@ node_of _ = None
 abbrev pub deck_of : Command → Option (List ℕ)
 deck_of (Commands.Insert name tape system) = Some name
 deck_of (Commands.Eject name) = Some name
+deck_of (Commands.Dub name) = Some name
 deck_of _ = None
 
 -- the device with this name, if any, is not so
@@ -143,6 +151,10 @@ abbrev pub is_guarded_at : ℕ → Bool
 is_guarded_at offset =
     (offset == 0x220) || (offset == 0x224) || (offset == 0x228) || (nat_le 0x904 offset && nat_le offset 0x97C) || (nat_le 0x984 offset && nat_le offset 0x9FC)
 
+-- and BUS_MANAGER_ID from the first candidate on
+abbrev pub is_guarded_in : Bool → ℕ → Bool
+is_guarded_in begun offset = is_guarded_at offset || (begun && (offset == 0x21C))
+
 -- the device whose register is shown
 abbrev pub IsShown : State → Option (List ℕ) → ℕ → Type 0
 IsShown s None d = (n : ℕ) × (manager_in s.account.latest ≡ Some n) × (device_in s.account.latest n ≡ Some d)
@@ -163,6 +175,7 @@ PassesLimit s (Commands.Cable a b) = (10000 ≤ s.resets) × Ends s (Commands.Ca
 PassesLimit s (Commands.Reset name) = 10000 ≤ s.resets
 PassesLimit s (Commands.Lose name) = 10000 ≤ s.resets
 PassesLimit s (Commands.Step name count) = 4000000 < s.half_steps + count
+PassesLimit s (Commands.Contend name count) = 4000000 < s.half_steps + count
 PassesLimit s (Commands.Settle rounds) = 4000000 < s.half_steps + rounds * length (living s)
 PassesLimit s (Commands.Wait cycles) = 2 ^ 52 < s.clock.cycle + cycles
 PassesLimit s (Commands.Cycles count) = (2 ^ 52 < s.clock.cycle + count) ⊎ (IsTrue (is_some s.account.latest) × (8000 < s.written + count))
@@ -188,12 +201,22 @@ HasNoController s c = IsNot s (is_living s) (controller_of c)
 
 abbrev pub IsOff : State → Command → Type 0
 IsOff s (Commands.Reset name) = IsNot s (is_on s) (Some name)
+IsOff s (Commands.Dub name) = IsNot s (is_on s) (Some name)
 IsOff s c = IsNot s (is_linked s) (node_of c)
 
--- only controllers' procedures swap there (own)
-abbrev pub IsGuarded : Command → Type 0
-IsGuarded (Commands.Swap name other offset argument new) = IsTrue (is_guarded_at offset)
-IsGuarded _ = ⊥
+-- only controllers' procedures, and candidates, swap there (own)
+abbrev pub IsGuarded : State → Command → Type 0
+IsGuarded s (Commands.Swap name other offset argument new) = IsTrue (is_guarded_in s.election.begun offset)
+IsGuarded s _ = ⊥
+
+-- no computer
+abbrev pub IsNotCapable : State → Command → Type 0
+IsNotCapable s (Commands.Candidate name) = IsNot s (λ d. is_capable (kind_at s.declared.kinds d)) (Some name)
+IsNotCapable s _ = ⊥
+
+abbrev pub IsNoCandidate : State → Command → Type 0
+IsNoCandidate s (Commands.Contend name count) = IsNot s (is_candidate s) (Some name)
+IsNoCandidate s _ = ⊥
 
 -- no request stands whose response could be lost
 abbrev pub HasNothing : State → Command → Type 0
@@ -216,12 +239,14 @@ Breaks s c PortUsed = HasTreeFault s Tree.PortUsed c
 Breaks s c Loop = HasTreeFault s Tree.Loop c
 Breaks s c NotController = HasNoController s c
 Breaks s c NothingStands = HasNothing s c
+Breaks s c NotCapable = IsNotCapable s c
+Breaks s c NotCandidate = IsNoCandidate s c
 Breaks s c OffBus = IsOff s c
 Breaks s c NotOwnPlug = IsRefused s c Refusals.NotOwnPlug
 Breaks s c NoSuchConnection = IsRefused s c Refusals.NoSuchConnection
 Breaks s c TableFull = IsRefused s c Refusals.TableFull
 Breaks s c Busy = IsRefused s c Refusals.Busy
-Breaks s c Guarded = IsGuarded c
+Breaks s c Guarded = IsGuarded s c
 Breaks s c NoRegister = HasNoRegister s c
 Breaks s c Limit = PassesLimit s c
 Breaks s c TooLate = IsTooLate s c
@@ -242,10 +267,12 @@ rank NotOwnPlug = 11
 rank NoSuchConnection = 12
 rank TableFull = 13
 rank Busy = 14
-rank Guarded = 15
-rank NoRegister = 16
-rank Limit = 17
-rank TooLate = 18
+rank NotCapable = 15
+rank NotCandidate = 16
+rank Guarded = 17
+rank NoRegister = 18
+rank Limit = 19
+rank TooLate = 20
 
 -- ---- orders
 
@@ -280,6 +307,9 @@ IsOrder s (Commands.Command name other frame) o = (d e : ℕ) × IsNamed s name 
 IsOrder s (Commands.Insert name tape system) o = (d : ℕ) × IsNamed s name d × (o ≡ order.Insert d tape (system_with system))
 IsOrder s (Commands.Eject name) o = (d : ℕ) × IsNamed s name d × (o ≡ order.Eject d)
 IsOrder s (Commands.Show name offset) o = (d : ℕ) × IsShown s name d × (o ≡ order.Show d offset)
+IsOrder s (Commands.Candidate name) o = (d : ℕ) × IsNamed s name d × (o ≡ order.Candidate d)
+IsOrder s (Commands.Contend name count) o = (d : ℕ) × IsNamed s name d × (o ≡ order.Contend d count)
+IsOrder s (Commands.Dub name) o = (d : ℕ) × IsNamed s name d × (o ≡ order.Dub d)
 IsOrder s Commands.End o = o ≡ order.End
 IsOrder s c o = (d : ℕ) × (w : Wanted) × IsWanted s c d w × (o ≡ order.Connect d w)
 

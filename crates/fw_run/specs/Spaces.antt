@@ -10,7 +10,7 @@ use Rattle.fw_csr.specs.declared.request.Request.TheVariants as Asks
 use Rattle.fw_csr.specs.declared.reply.Reply.{Reply}
 use Rattle.fw_csr.specs.Manager.{ManagerWords, after_at}
 use Rattle.fw_tree.specs.SelfIds.{facts_at}
-use Rattle.fw_ledger.specs.Words.{BandwidthAvailable, ChannelsAvailable, OutputPlug, InputPlug, word_of, node_of, first_address}
+use Rattle.fw_account.specs.Words.{BandwidthAvailable, ChannelsAvailable, OutputPlug, InputPlug, word_of, node_of, first_address}
 use Rattle.fw_node.specs.Contents.{node_id}
 use Rattle.fw_node.specs.Space.{Space, answer_of}
 use Rattle.fw_node.specs.Packets.{packet_of, response_to}

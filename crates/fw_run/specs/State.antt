@@ -9,8 +9,8 @@ use Rattle.fw_entry.specs.declared.entry.Entry.{Entry}
 use Rattle.fw_entry.specs.declared.entry.ResetEntry.{ResetEntry}
 use Rattle.fw_entry.specs.declared.nodes.NodeRow.{NodeRow}
 use Rattle.fw_tree.specs.Topology.{Topology, no_cables}
-use Rattle.fw_ledger.specs.Account.{Account, talks}
-use Rattle.fw_ledger.specs.Fold.{no_account, next_account}
+use Rattle.fw_account.specs.Account.{Account, talks}
+use Rattle.fw_account.specs.Fold.{no_account, next_account}
 use Rattle.fw_devices.specs.Network.{facts_of, kind_at}
 use Rattle.fw_devices.specs.Entries.{node_number, node_device}
 use Rattle.fw_cmp.specs.Controllers.{ControllerState, first_state as new_controller}
@@ -18,6 +18,8 @@ use Rattle.fw_cmp.specs.declared.directory.Directory.{Directory}
 use Rattle.fw_cmp.specs.declared.stage.Stage.{Stage}
 use Rattle.fw_run.specs.declared.order.Transaction.{Transaction}
 use Rattle.fw_run.specs.Decks.{DeckState, FrameWrite, first_deck}
+use Rattle.fw_run.specs.Elections.{Election, no_election}
+use Rattle.fw_run.specs.Dubs.{Dub, no_dub}
 
 -- The devices, in order of declaration, which are their numbers, and the cables between them.
 pub record Declared : Type 0 where
@@ -50,6 +52,8 @@ pub record State : Type 0 where
   pub decks : ℕ → DeckState  -- by device; that of a device that has no unit is as at first
   pub frame : Option FrameWrite  -- a frame that was written, and whose write is not answered yet
   pub streams : PlugAt → ℕ  -- how many data packets each output plug has sent since it began to talk; 0 where it does not talk
+  pub election : Election  -- who is a candidate for the bus manager
+  pub dub : Dub  -- what a deck records
 
 abbrev pub nothing_declared : Declared
 nothing_declared = record { names = []; kinds = []; topology = record { devices = []; cables = no_cables } }
@@ -71,6 +75,8 @@ first_state = record {
   decks = λ d. first_deck;
   frame = None;
   streams = λ p. 0;
+  election = no_election;
+  dub = no_dub;
 }
 
 -- the account with one entry more, where it has one

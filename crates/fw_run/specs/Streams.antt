@@ -12,8 +12,8 @@ use Rattle.fw_tape.specs.declared.cassette.BlockPlace.{BlockPlace}
 use Rattle.fw_tape.specs.declared.cassette.Cassette.{Cassette}
 use Rattle.fw_tape.specs.Blocks.{block_now}
 use Rattle.fw_tape.specs.Motion.{is_fifty}
-use Rattle.fw_ledger.specs.Account.{Account, talks}
-use Rattle.fw_ledger.specs.Words.{node_of}
+use Rattle.fw_account.specs.Account.{Account, talks}
+use Rattle.fw_account.specs.Words.{node_of}
 use Rattle.fw_node.specs.Contents.{node_id, cycle_time}
 use Rattle.fw_run.specs.State.{State}
 

@@ -1,7 +1,7 @@
 -- The units of nodes against the decks of a run.
 use Rattle.std.specs.Prelude.{ℕ, ◌≡◌, List, Bool, Option, Some, None, IsTrue, if◌then◌else◌}
 use Rattle.fw_fcp.specs.declared.frame.Frame.{Frame}
-use Rattle.fw_ledger.specs.Words.{node_of}
+use Rattle.fw_account.specs.Words.{node_of}
 use Rattle.fw_entry.specs.declared.entry.Timed.{Timed}
 use Rattle.fw_node.specs.Fcp.{IsSendable}
 use Rattle.fw_node.specs.State.{NodeState}

@@ -1,7 +1,7 @@
 -- A channel that nothing on the bus has.
 use Rattle.std.specs.Prelude.{ℕ, ◌≡◌, ◌≢◌, None, IsTrue}
 use Rattle.fw_base.specs.declared.plug.PlugAt.{PlugAt}
-use Rattle.fw_ledger.specs.Account.{talks, has_connection}
+use Rattle.fw_account.specs.Account.{talks, has_connection}
 use Rattle.fw_reclaim.specs.Avoids.{Avoids}
 use Rattle.fw_run.specs.State.{State}
 

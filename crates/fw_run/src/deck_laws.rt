@@ -5,7 +5,7 @@ ghost use Rattle.fw_csr.specs.declared.request.Request.{Request};
 ghost use Rattle.fw_fcp.specs.declared.frame.Frame.{Frame};
 ghost use Rattle.fw_tape.specs.declared.cassette.Cassette.{Cassette};
 ghost use Rattle.fw_tape.specs.Motion.{MayPass};
-ghost use Rattle.fw_ledger.specs.Words.{node_of};
+ghost use Rattle.fw_account.specs.Words.{node_of};
 ghost use Rattle.fw_node.specs.Fcp.{HasFollowed, frame_packet as packet_of_frame, next_frame as next_of_node, after_frame as node_after_frame};
 ghost use Rattle.fw_async.specs.Async.{Fits};
 ghost use Rattle.fw_node.specs.Packets.{RequestFits};

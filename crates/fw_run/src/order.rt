@@ -73,6 +73,12 @@ pub enum Order<'a> {
     Eject(u8),
     /// The word that stands at an offset of a device is shown.
     Show(u8, u16),
+    /// The computer becomes a candidate for the bus manager.
+    Candidate(u8),
+    /// Half steps of the candidate, 1 to 10,000.
+    Contend(u8, u32),
+    /// The reel is emptied, and tied to this deck.
+    Dub(u8),
     /// The end of the script.
     End,
 }

@@ -13,10 +13,11 @@ pub enum RuleFault {
     PortUsed,
     /// `cable`: the two devices are connected already, or are one.
     Loop,
-    /// `connect`, `broadcast`, `listen`, `break`, `step`, `die`, `lose`, `command`, `read`, `swap`: the first device has no
-    /// living controller. `start`: it is a relay, or off.
+    /// `connect`, `broadcast`, `listen`, `break`, `step`, `die`, `lose`, `command`, `read`, `swap`, `candidate`, `contend`: the
+    /// first device has no living controller. `start`: it is a relay, or off.
     NotController,
-    /// `swap` at a register that only controllers' procedures swap: those of channels and units, and of plugs.
+    /// `swap` at a register that only controllers' procedures swap: those of channels and units, and of plugs;
+    /// and BUS_MANAGER_ID from the first candidate on.
     Guarded,
     /// `show`: there is no isochronous resource manager where it is asked for, or a quadlet read of the register would not
     /// be complete.
@@ -33,12 +34,16 @@ pub enum RuleFault {
     NoSuchConnection,
     /// `broadcast`, `listen`: the plug is another device's.
     NotOwnPlug,
-    /// `reset`: the device is off. `command`, `read`, `swap`: the second device is off or a relay. `show`: the device is.
+    /// `reset`, `dub`: the device is off. `command`, `read`, `swap`: the second device is off or a relay. `show`: the device is.
     OffBus,
-    /// `insert`, `eject`: the device is a computer or a relay, which has no tape.
+    /// `insert`, `eject`, `dub`: the device is a computer or a relay, which has no tape.
     NoDeck,
     /// `lose`: no request of the controller's procedure stands.
     NothingStands,
     /// `withhold`: a device is declared.
     TooLate,
+    /// `candidate`: the device is no computer, and so has not the capabilities of a bus manager.
+    NotCapable,
+    /// `contend`: the device is no candidate for the bus manager.
+    NotCandidate,
 }

@@ -1,6 +1,6 @@
 ghost use Rattle.std.specs.Prelude.{List, ℕ, IsTrue};
 ghost use Rattle.fw_entry.specs.declared.entry.Timed.{Timed};
-ghost use Rattle.fw_ledger.specs.Account.{is_withheld};
+ghost use Rattle.fw_account.specs.Account.{is_withheld};
 ghost use Rattle.fw_run.specs.Actions.{Action, Steps};
 ghost use Rattle.fw_run.specs.State.{State, first_state};
 ghost use Rattle.fw_run.specs.Withheld.{IsUnused};

@@ -13,7 +13,7 @@ use Rattle.fw_script.specs.Form.{HasArguments, HasForm}
 use Rattle.fw_script.specs.Words.{both, channel_in, is, is_decimal, name_in, only_if, or_none, number_in, offset_in, place_by, place_in, some_in}
 use Rattle.fw_script.specs.Pieces.{pieces}
 use Rattle.fw_script.specs.declared.keyword.Keyword.{Keyword}
-use Rattle.fw_script.specs.declared.keyword.Keyword.TheVariants.{Device, Cable, Reset, Connect, Broadcast, Listen, Break, Step, Settle, Wait, Cycles, Die, Lose, Start, Command as CommandWord, Read, Swap, Insert, Eject, Show, Withhold, End}
+use Rattle.fw_script.specs.declared.keyword.Keyword.TheVariants.{Device, Cable, Reset, Connect, Broadcast, Listen, Break, Step, Settle, Wait, Cycles, Die, Lose, Start, Command as CommandWord, Read, Swap, Insert, Eject, Show, Withhold, Candidate, Contend, Dub, End}
 use Rattle.fw_script.specs.declared.command.Command.{Command}
 use Rattle.fw_script.specs.declared.command.Command.TheVariants as Commands
 
@@ -24,6 +24,7 @@ CommandFits (Commands.Connect name output input channel overhead) = (output.1 < 
 CommandFits (Commands.Broadcast name output overhead) = (output.1 < 31) × (overhead < 16)
 CommandFits (Commands.Listen name input) = input.1 < 31
 CommandFits (Commands.Step name count) = count ≤ 10000
+CommandFits (Commands.Contend name count) = count ≤ 10000
 CommandFits (Commands.Settle rounds) = rounds ≤ 200000
 CommandFits (Commands.Read a b offset) = offset < 2 ^ 12
 CommandFits (Commands.Swap a b offset argument new) = offset < 2 ^ 12
@@ -167,6 +168,9 @@ arguments_fit CommandWord ws c h = fits_as c (Commands.Command h.3 h.4 h.5) h.10
 arguments_fit Insert ws c h = fits_as c (Commands.Insert h.3 h.4 h.5) h.10 tt
 arguments_fit Eject ws c h = fits_as c (Commands.Eject h.1) h.4 tt
 arguments_fit Withhold ws c h = fits_as c Commands.Withhold h.1 tt
+arguments_fit Candidate ws c h = fits_as c (Commands.Candidate h.1) h.4 tt
+arguments_fit Contend ws c h = fits_as c (Commands.Contend h.2 h.3) h.7 (number_range 1 10000 h.1 h.3 h.6).1
+arguments_fit Dub ws c h = fits_as c (Commands.Dub h.1) h.4 tt
 arguments_fit End ws c h = fits_as c Commands.End h.1 tt
 
 pub command_fits : (c : Command) (line : List ℕ) → HasForm c line → CommandFits c

@@ -3,7 +3,7 @@ use Rattle.std.proofs.Common.{◌≡◌, ℕ, List, Option, IsSome, true, false,
 use Rattle.fw_script.specs.Form.{HasArguments, HasForm, Words1, Words2, Words3, Words4, Words5}
 use Rattle.fw_script.specs.Words.{name_in, number_in, place_in, kind_in, speed_in, channel_in, system_in, shown_in, offset_in, word_in, frame_in, late_in}
 use Rattle.fw_script.specs.declared.keyword.Keyword.{Keyword}
-use Rattle.fw_script.specs.declared.keyword.Keyword.TheVariants.{Device, Cable, Reset, Connect, Broadcast, Listen, Break, Step, Settle, Wait, Cycles, Die, Lose, Start, Command as CommandWord, Read, Swap, Insert, Eject, Show, Withhold, End}
+use Rattle.fw_script.specs.declared.keyword.Keyword.TheVariants.{Device, Cable, Reset, Connect, Broadcast, Listen, Break, Step, Settle, Wait, Cycles, Die, Lose, Start, Command as CommandWord, Read, Swap, Insert, Eject, Show, Withhold, Candidate, Contend, Dub, End}
 use Rattle.fw_script.specs.declared.command.Command.{Command}
 use Rattle.fw_script.specs.declared.command.Command.TheVariants as Commands
 
@@ -55,6 +55,9 @@ same_arguments Insert ws c d h e = same3 name_in (number_in 0 65535) system_in (
 same_arguments Eject ws c d h e = same1 name_in (λ u. Commands.Eject u) ws c d h e
 same_arguments Show ws c d h e = same2 shown_in offset_in (λ u v. Commands.Show u v) ws c d h e
 same_arguments Withhold ws c d h e = h.1 ∙ sym e.1
+same_arguments Candidate ws c d h e = same1 name_in (λ u. Commands.Candidate u) ws c d h e
+same_arguments Contend ws c d h e = same2 name_in (number_in 1 10000) (λ u v. Commands.Contend u v) ws c d h e
+same_arguments Dub ws c d h e = same1 name_in (λ u. Commands.Dub u) ws c d h e
 same_arguments End ws c d h e = h.1 ∙ sym e.1
 
 -- a line is one command at most

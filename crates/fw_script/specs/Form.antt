@@ -4,7 +4,7 @@ use Rattle.fw_script.specs.Pieces.{pieces}
 use Rattle.fw_script.specs.Words.{name_in, number_in, place_in, kind_in, speed_in, channel_in, system_in, shown_in, offset_in, word_in, frame_in, late_in}
 use Rattle.fw_script.specs.Keyword.{keyword_in}
 use Rattle.fw_script.specs.declared.keyword.Keyword.{Keyword}
-use Rattle.fw_script.specs.declared.keyword.Keyword.TheVariants.{Device, Cable, Reset, Connect, Broadcast, Listen, Break, Step, Settle, Wait, Cycles, Die, Lose, Start, Command as CommandWord, Read, Swap, Insert, Eject, Show, Withhold, End}
+use Rattle.fw_script.specs.declared.keyword.Keyword.TheVariants.{Device, Cable, Reset, Connect, Broadcast, Listen, Break, Step, Settle, Wait, Cycles, Die, Lose, Start, Command as CommandWord, Read, Swap, Insert, Eject, Show, Withhold, Candidate, Contend, Dub, End}
 use Rattle.fw_script.specs.declared.command.Command.{Command}
 use Rattle.fw_script.specs.declared.command.Command.TheVariants as Commands
 
@@ -51,6 +51,9 @@ HasArguments Insert ws c = Words3 ws name_in (number_in 0 65535) system_in (λ n
 HasArguments Eject ws c = Words1 ws name_in (λ name. c ≡ Commands.Eject name)
 HasArguments Show ws c = Words2 ws shown_in offset_in (λ name offset. c ≡ Commands.Show name offset)
 HasArguments Withhold ws c = (ws ≡ []) × (c ≡ Commands.Withhold)
+HasArguments Candidate ws c = Words1 ws name_in (λ name. c ≡ Commands.Candidate name)
+HasArguments Contend ws c = Words2 ws name_in (number_in 1 10000) (λ name count. c ≡ Commands.Contend name count)
+HasArguments Dub ws c = Words1 ws name_in (λ name. c ≡ Commands.Dub name)
 HasArguments End ws c = (ws ≡ []) × (c ≡ Commands.End)
 
 -- the line, whose words are parted by one space, is the command (own)

@@ -2,7 +2,7 @@
 use Rattle.std.specs.Prelude.{ℕ, List, Option, Some, None, codes, if◌then◌else◌}
 use Rattle.fw_script.specs.Words.{is}
 use Rattle.fw_script.specs.declared.keyword.Keyword.{Keyword}
-use Rattle.fw_script.specs.declared.keyword.Keyword.TheVariants.{Device, Cable, Reset, Connect, Broadcast, Listen, Break, Step, Settle, Wait, Cycles, Die, Lose, Start, Command, Read, Swap, Insert, Eject, Show, Withhold, End}
+use Rattle.fw_script.specs.declared.keyword.Keyword.TheVariants.{Device, Cable, Reset, Connect, Broadcast, Listen, Break, Step, Settle, Wait, Cycles, Die, Lose, Start, Command, Read, Swap, Insert, Eject, Show, Withhold, Candidate, Contend, Dub, End}
 
 -- the keyword that the word is
 abbrev pub keyword_in : List ℕ → Option Keyword
@@ -28,6 +28,9 @@ keyword_in w =
     else if is (codes "eject") w then Some Eject
     else if is (codes "show") w then Some Show
     else if is (codes "withhold") w then Some Withhold
+    else if is (codes "candidate") w then Some Candidate
+    else if is (codes "contend") w then Some Contend
+    else if is (codes "dub") w then Some Dub
     else if is (codes "end") w then Some End
     else None
 
@@ -35,6 +38,7 @@ keyword_in w =
 abbrev pub of_three : List ℕ → Option Keyword
 of_three w =
     if is (codes "die") w then Some Die
+    else if is (codes "dub") w then Some Dub
     else if is (codes "end") w then Some End
     else None
 
@@ -74,4 +78,12 @@ abbrev pub of_seven : List ℕ → Option Keyword
 of_seven w =
     if is (codes "connect") w then Some Connect
     else if is (codes "command") w then Some Command
+    else if is (codes "contend") w then Some Contend
+    else None
+
+-- the same, of the keywords of nine letters
+abbrev pub of_nine : List ℕ → Option Keyword
+of_nine w =
+    if is (codes "broadcast") w then Some Broadcast
+    else if is (codes "candidate") w then Some Candidate
     else None

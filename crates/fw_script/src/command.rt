@@ -48,6 +48,12 @@ pub enum Command {
     Show(Option<Name>, u16),
     /// `withhold`: the bus withholds channel 31.
     Withhold,
+    /// `candidate NAME`.
+    Candidate(Name),
+    /// `contend NAME COUNT`.
+    Contend(Name, u32),
+    /// `dub NAME`.
+    Dub(Name),
     /// `end`.
     End,
 }

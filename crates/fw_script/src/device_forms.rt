@@ -72,6 +72,17 @@ pub(crate) fn eject(words: &mut Pieces, out: &mut Command) -> Option<()>
     Some(())
 }
 
+/// `dub NAME`
+pub(crate) fn dub(words: &mut Pieces, out: &mut Command) -> Option<()>
+    ensures found { IfSome result (λ u. HasArguments Keyword.Dub words.old out.new) }
+    ensures only { (c : Command) → HasArguments Keyword.Dub words.old c → IsSome result × (out.new ≡ c) }
+{
+    let name = name(words.next()?)?;
+    words.end()?;
+    *out = Command::Dub(name);
+    Some(())
+}
+
 /// `show NAME OFF`
 pub(crate) fn show(words: &mut Pieces, out: &mut Command) -> Option<()>
     ensures found { IfSome result (λ u. HasArguments Keyword.Show words.old out.new) }

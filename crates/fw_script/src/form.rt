@@ -5,9 +5,10 @@ ghost use Rattle.fw_script.specs.Form.{HasArguments, HasForm};
 ghost use Rattle.fw_script.specs.declared.command.Command.{Command};
 
 use crate::Command;
+use crate::candidate_forms::{candidate, contend};
 use crate::controller_forms::{break_, broadcast, connect, die, listen, lose, settle, start, step};
 use crate::cut::Pieces;
-use crate::device_forms::{cable, device, eject, insert, reset, show, withhold};
+use crate::device_forms::{cable, device, dub, eject, insert, reset, show, withhold};
 use crate::keyword::{Keyword, keyword_of};
 use crate::transaction_forms::{command, cycles, end, read, swap, wait};
 
@@ -38,6 +39,9 @@ fn arguments(keyword: Keyword, words: &mut Pieces, out: &mut Command) -> Option<
         Keyword::Eject => eject(words, out),
         Keyword::Show => show(words, out),
         Keyword::Withhold => withhold(words, out),
+        Keyword::Candidate => candidate(words, out),
+        Keyword::Contend => contend(words, out),
+        Keyword::Dub => dub(words, out),
         Keyword::End => end(words, out),
     }
 }

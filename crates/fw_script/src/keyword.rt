@@ -1,7 +1,7 @@
 //! The first words of lines.
 
 ghost use Rattle.std.specs.Prelude.{◌≡◌};
-ghost use Rattle.fw_script.specs.Keyword.{keyword_in, of_three, of_four, of_five, of_six, of_seven};
+ghost use Rattle.fw_script.specs.Keyword.{keyword_in, of_three, of_four, of_five, of_six, of_seven, of_nine};
 
 use crate::words::is;
 
@@ -29,6 +29,9 @@ pub(crate) enum Keyword {
     Eject,
     Show,
     Withhold,
+    Candidate,
+    Contend,
+    Dub,
     End,
 }
 
@@ -38,6 +41,8 @@ fn of_three(word: &[u8]) -> Option<Keyword>
 {
     if is(word, b"die") {
         Some(Keyword::Die)
+    } else if is(word, b"dub") {
+        Some(Keyword::Dub)
     } else if is(word, b"end") {
         Some(Keyword::End)
     } else {
@@ -112,6 +117,21 @@ fn of_seven(word: &[u8]) -> Option<Keyword>
         Some(Keyword::Connect)
     } else if is(word, b"command") {
         Some(Keyword::Command)
+    } else if is(word, b"contend") {
+        Some(Keyword::Contend)
+    } else {
+        None
+    }
+}
+
+/// The keyword of nine letters that the word is.
+fn of_nine(word: &[u8]) -> Option<Keyword>
+    ensures { result ≡ of_nine word.now }
+{
+    if is(word, b"broadcast") {
+        Some(Keyword::Broadcast)
+    } else if is(word, b"candidate") {
+        Some(Keyword::Candidate)
     } else {
         None
     }
@@ -128,7 +148,7 @@ pub(crate) fn keyword_of(word: &[u8]) -> Option<Keyword>
         6 => of_six(word),
         7 => of_seven(word),
         8 if is(word, b"withhold") => Some(Keyword::Withhold),
-        9 if is(word, b"broadcast") => Some(Keyword::Broadcast),
+        9 => of_nine(word),
         _ => None,
     }
 }

@@ -4,6 +4,7 @@
 //! are skipped. All other lines have one of twenty forms, whose words are parted by one space. The language is own.
 #![tactic(auto)]
 
+mod candidate_forms;
 mod codes;
 mod command;
 mod controller_forms;

@@ -7,7 +7,7 @@ use Rattle.fw_script.specs.declared.command.Command.{Command}
 use Rattle.fw_script.specs.declared.command.Command.TheVariants.{End}
 use Rattle.fw_script.proofs.ScriptLaws.{says_once, says_after, says_behind}
 use Rattle.fw_run.specs.declared.rule.RuleFault.{RuleFault}
-use Rattle.fw_run.specs.declared.rule.RuleFault.TheVariants.{UnknownName, NameTaken, TooMany, NoPort, PortUsed, Loop, NotController, Guarded, NoRegister, Limit, TableFull, Busy, NoSuchConnection, NotOwnPlug, OffBus, NoDeck, NothingStands, TooLate}
+use Rattle.fw_run.specs.declared.rule.RuleFault.TheVariants.{UnknownName, NameTaken, TooMany, NoPort, PortUsed, Loop, NotController, Guarded, NoRegister, Limit, TableFull, Busy, NoSuchConnection, NotOwnPlug, OffBus, NoDeck, NothingStands, TooLate, NotCapable, NotCandidate}
 use Rattle.fw_run.specs.State.{State}
 use Rattle.fw_run.specs.Desks.{DeskRelations}
 use Rattle.fw_run.specs.Rules.{Decides}
@@ -37,6 +37,8 @@ end_allowed s Loop d = d.0
 end_allowed s NotController d = d.0
 end_allowed s NothingStands d = d.0
 end_allowed s OffBus d = d.0
+end_allowed s NotCapable d = d.0
+end_allowed s NotCandidate d = d.0
 end_allowed s TooLate d = d.0
 end_allowed s NoDeck d = d.0
 end_allowed s NotOwnPlug d = d.0.2

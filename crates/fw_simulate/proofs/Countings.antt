@@ -9,18 +9,19 @@ use Rattle.fw_script.specs.Reading.{Reading, unread}
 use Rattle.fw_run.specs.Giving.{log_bytes}
 use Rattle.fw_run.specs.Desks.{DeskRelations}
 use Rattle.fw_run.specs.State.{first_state}
-use Rattle.fw_bus.specs.Stands.{StandsFor}
+use Rattle.fw_machine.specs.Stands.{StandsFor}
 use Rattle.fw_bus.specs.Buses.{Standing}
 use Rattle.fw_gen.specs.Gen.{script_of}
 use Rattle.fw_gen.specs.Summary.{Counts}
 use Rattle.fw_gen.specs.declared.tally.Tally.{Tally}
 use Rattle.fw_simulate.specs.Counts.{ReadCount, WriteCount}
 use Rattle.fw_simulate.specs.Ending.{PassesScriptLimit}
-use Rattle.fw_simulate.specs.Going.{Going, Mirrors, Carried, Ends}
+use Rattle.fw_simulate.specs.Going.{Going, Carried, Ends}
 use Rattle.fw_simulate.specs.Scripts.{IsValid, IsNoRefusal}
 use Rattle.fw_simulate.specs.Sums.{in_memory, Counted, HasCounted, Sums, Summed, log_of}
 use Rattle.fw_simulate.specs.declared.ending.RunEnding.{RunEnding}
 use Rattle.fw_simulate.specs.declared.ending.RunEnding.TheVariants.{Done, Refused, ReadFault, WriteFault, TooLong, NoMemory}
+use Rattle.fw_simulate.proofs.Steps.{Mirrors}
 use Rattle.fw_simulate.proofs.Goings.{going_first}
 use Rattle.fw_simulate.proofs.Completions.{never_refused}
 
@@ -67,20 +68,20 @@ within : {D : DeskRelations} (script : List ℕ) (left' held held' : Option (Lis
 within script left' held held' short d = let same : length script ≡ length d.refused.script = ap (λ (l : List ℕ). length l) d.refused.takes.told in omega (arith, short, d.long, same)
 
 -- how the counted run ends
-pub counted_ends : (D : DeskRelations) (script now written : List ℕ) (log : List Timed) (tally : Tally) (e : RunEnding) → length script ≤ 1048576 → Counts log tally → ReadCount 0 0 e
-    → Ends D (Some script) (Some now) (Some []) (Some written) log e → Counted D script tally (in_memory e)
-counted_ends D script now written log tally Done short counts read d = record {
-  was = record { left = now; written = written; ran = d.0 };
-  counts = subst (λ (l : List Timed). Counts l tally) (sym d.1) counts;
+pub counted_ends : (D : DeskRelations) (script now written : List ℕ) (log : List Timed) (bus : Standing) (tally : Tally) (e : RunEnding) → length script ≤ 1048576 → Counts log tally → ReadCount 0 0 e
+    → Ends D (Some script) (Some now) (Some []) (Some written) log bus e → Counted D script tally (in_memory e)
+counted_ends D script now written log bus tally Done short counts read d = record {
+  was = record { left = now; written = written; ran = d.all };
+  counts = subst (λ (l : List Timed). Counts l tally) (sym d.same) counts;
 }
-counted_ends D script now written log tally (Refused r) short counts read d = record { left = Some now; written = written; refuses = d }
-counted_ends D script now written log tally ReadFault short counts read d = none read
+counted_ends D script now written log bus tally (Refused r) short counts read d = record { left = Some now; written = written; refuses = d }
+counted_ends D script now written log bus tally ReadFault short counts read d = none read
   where
     none : Rose 0 0 → ⊥
     none h = omega (arith, h)
-counted_ends D script now written log tally WriteFault short counts read d = tt
-counted_ends D script now written log tally TooLong short counts read d = within script (Some now) (Some []) (Some written) short d
-counted_ends D script now written log tally NoMemory short counts read d = tt
+counted_ends D script now written log bus tally WriteFault short counts read d = tt
+counted_ends D script now written log bus tally TooLong short counts read d = within script (Some now) (Some []) (Some written) short d
+counted_ends D script now written log bus tally NoMemory short counts read d = tt
 
 -- ---- the summary
 

@@ -23,10 +23,11 @@ use Rattle.fw_run.specs.Runs.{Run, begun}
 use Rattle.fw_run.proofs.Runs.{log_append, run_steps}
 use Rattle.fw_run.proofs.Audits.{run_audited, sound_audited}
 use Rattle.fw_run.proofs.ComesBack.{comes_back}
+use Rattle.fw_run.proofs.Elected.{elects_one}
 use Rattle.fw_run.proofs.Sounds.{sound_throughout}
 use Rattle.fw_run.proofs.Suffice.{rounds_suffice}
 use Rattle.fw_run.proofs.Logs.{run_opens, run_spells}
-use Rattle.fw_bus.specs.Doings.{Cut}
+use Rattle.fw_carry.specs.Doings.{Cut}
 use Rattle.fw_run.specs.Desks.{DeskRelations}
 use Rattle.fw_bus.specs.Buses.{Standing, Stops}
 use Rattle.fw_run.specs.Carrying.{Carries}
@@ -52,6 +53,7 @@ logs_run g opens = record {
   sound = sound_throughout g.actions g.log g.state (run_steps g.commands g.actions g.log g.state g.run);
   audited = run_audited g.actions g.log g.state (run_steps g.commands g.actions g.log g.state g.run);
   restored = comes_back g.actions g.log g.state (run_steps g.commands g.actions g.log g.state g.run);
+  elected = elects_one g.actions g.log g.state (run_steps g.commands g.actions g.log g.state g.run);
   rounds = rounds_suffice g.commands g.actions g.log g.state g.run;
   opens = opens;
   grew = g.grew;
@@ -84,6 +86,7 @@ logged_all {D} {left} {mid} {held} {held1} {old} left' new g a =
         sound = sound_throughout g.actions g.log g.state (run_steps g.commands g.actions g.log g.state g.run);
         audited = run_audited g.actions g.log g.state (run_steps g.commands g.actions g.log g.state g.run);
         restored = comes_back g.actions g.log g.state (run_steps g.commands g.actions g.log g.state g.run);
+        elected = elects_one g.actions g.log g.state (run_steps g.commands g.actions g.log g.state g.run);
         rounds = rounds_suffice g.commands g.actions g.log g.state g.run;
         opens = whole.opens;
         grew = g.grew;
@@ -93,9 +96,9 @@ logged_all {D} {left} {mid} {held} {held1} {old} left' new g a =
 
 -- its log is the one so far
 pub logged_with : {D : DeskRelations} {left mid held held1 : Option (List ℕ)} {old : Reading} {bus : Standing} (left' : Option (List ℕ)) (new : Reading) (g : Going D left mid held held1 old bus)
-    → Advances old new mid left' (Ok None) → Ends D left left' held held1 g.log Endings.Done
+    → Advances old new mid left' (Ok None) → Ends D left left' held held1 g.log bus Endings.Done
 unfolding logged_all
-logged_with left' new g a = (logged_all left' new g a, refl)
+logged_with left' new g a = record { all = logged_all left' new g a; same = refl; stands = g.stands; fresh = g.fresh }
 
 -- ---- a line is refused
 
@@ -177,6 +180,7 @@ part_header left held held' wrote =
       sound = sound_throughout [] [] first_state (run_steps [] [] [] first_state begun);
       audited = run_audited [] [] first_state (run_steps [] [] [] first_state begun);
       restored = comes_back [] [] first_state (run_steps [] [] [] first_state begun);
+      elected = elects_one [] [] first_state (run_steps [] [] [] first_state begun);
       rounds = rounds_suffice [] [] [] first_state begun;
       opens = run_opens [] [] [] first_state begun tt;
       grew = subst (λ (bytes : List ℕ). AppendsFront held held' bytes) (sym (append-nil (header_bytes Two))) wrote;
@@ -212,6 +216,7 @@ part_stopped {D} {left} {mid} {held} {held1} {old} left' held2 new bus' c g a d 
   sound = d.sound;
   audited = sound_audited (g.actions ++ x.done) (g.log ++ (x.given ++ x.next ∷ [])) d.sound;
   restored = d.restored;
+  elected = d.elected;
   rounds = rounds_suffice g.commands g.actions g.log g.state g.run;
   opens = d.opens (given_no_end (given_before old.stage a.known new (Ok (Some c)) (some_command c) g.read a.gives).0);
   grew = record {
@@ -252,25 +257,25 @@ fault_runs left' new Fault.TooLong g a few =
     record { line = new.line; refused = r; long = (script_limit r.script r.commands _ r.says).0 refl }
 
 -- that is how the run ends
-fault_ends : (D : DeskRelations) (left left' held held' : Option (List ℕ)) (log : List Timed) (f : ScriptFault) (line : ℕ) → Runs D left left' held held' (ending_by f line) → Ends D left left' held held' log (ending_by f line)
-fault_ends D left left' held held' log Fault.BadLine line r = r
-fault_ends D left left' held held' log Fault.LineTooLong line r = r
-fault_ends D left left' held held' log Fault.NoEnd line r = r
-fault_ends D left left' held held' log Fault.ReadFault line r = r
-fault_ends D left left' held held' log Fault.TooLong line r = r
+fault_ends : (D : DeskRelations) (left left' held held' : Option (List ℕ)) (log : List Timed) (bus : Standing) (f : ScriptFault) (line : ℕ) → Runs D left left' held held' (ending_by f line) → Ends D left left' held held' log bus (ending_by f line)
+fault_ends D left left' held held' log bus Fault.BadLine line r = r
+fault_ends D left left' held held' log bus Fault.LineTooLong line r = r
+fault_ends D left left' held held' log bus Fault.NoEnd line r = r
+fault_ends D left left' held held' log bus Fault.ReadFault line r = r
+fault_ends D left left' held held' log bus Fault.TooLong line r = r
 
 pub faulted : {D : DeskRelations} {left mid held held1 : Option (List ℕ)} {old : Reading} {bus : Standing} (left' : Option (List ℕ)) (new : Reading) (f : ScriptFault) (g : Going D left mid held held1 old bus)
-    → Advances old new mid left' (Err f) → IsHeld (Err f) new → Ends D left left' held held1 g.log (ending_by f new.line)
-faulted {D} {left} {mid} {held} {held1} left' new f g a few = fault_ends D left left' held held1 g.log f new.line (fault_runs left' new f g a few)
+    → Advances old new mid left' (Err f) → IsHeld (Err f) new → Ends D left left' held held1 g.log bus (ending_by f new.line)
+faulted {D} {left} {mid} {held} {held1} {bus = bus} left' new f g a few = fault_ends D left left' held held1 g.log bus f new.line (fault_runs left' new f g a few)
 
-pub ends_runs : {D : DeskRelations} {left mid held held1 : Option (List ℕ)} {old : Reading} {bus : Standing} (left' held' : Option (List ℕ)) (g : Going D left mid held held1 old bus) (e : RunEnding)
-    → Ends D left left' held held' g.log e → Runs D left left' held held' e
-ends_runs left' held' g Endings.Done d = d.0
-ends_runs left' held' g (Endings.Refused r) d = d
-ends_runs left' held' g Endings.ReadFault d = d
-ends_runs left' held' g Endings.WriteFault d = d
-ends_runs left' held' g Endings.TooLong d = d
-ends_runs left' held' g Endings.NoMemory d = d
+pub ends_runs : {D : DeskRelations} {left mid held held1 : Option (List ℕ)} {old : Reading} {bus : Standing} (left' held' : Option (List ℕ)) (g : Going D left mid held held1 old bus) (after : Standing) (e : RunEnding)
+    → Ends D left left' held held' g.log after e → Runs D left left' held held' e
+ends_runs left' held' g after Endings.Done d = d.all
+ends_runs left' held' g after (Endings.Refused r) d = d
+ends_runs left' held' g after Endings.ReadFault d = d
+ends_runs left' held' g after Endings.WriteFault d = d
+ends_runs left' held' g after Endings.TooLong d = d
+ends_runs left' held' g after Endings.NoMemory d = d
 
 -- by the fault, whose count rose
 pub read_fault_counts : (old new : ℕ) (f : ScriptFault) (line : ℕ)

@@ -10,7 +10,7 @@ use Rattle.fw_script.specs.declared.command.Command.{Command}
 use Rattle.fw_script.specs.declared.command.Command.TheVariants as Commands
 use Rattle.fw_script.specs.declared.command.Command.TheVariants.{End}
 use Rattle.fw_script.specs.declared.stage.Stage.TheVariants as Stages
-use Rattle.fw_bus.specs.Orders.{IsCommand}
+use Rattle.fw_rules.specs.Decisions.{IsCommand}
 use Rattle.fw_script.specs.Leading.{Leads}
 use Rattle.fw_script.specs.Leading.Leads.{nothing, and_then}
 use Rattle.fw_run.specs.Logs.{HasNoEnd}
@@ -38,6 +38,9 @@ is_end (Commands.Swap a b d e f) = inr (λ x. cc)
 is_end (Commands.Insert a b d) = inr (λ x. cc)
 is_end (Commands.Eject a) = inr (λ x. cc)
 is_end (Commands.Show a b) = inr (λ x. cc)
+is_end (Commands.Candidate a) = inr (λ x. cc)
+is_end (Commands.Contend a b) = inr (λ x. cc)
+is_end (Commands.Dub a) = inr (λ x. cc)
 is_end End = inl refl
 
 -- what an option holds

@@ -5,3 +5,4 @@ pub mod Endings
 pub mod Steps
 pub mod Completions
 pub mod Countings
+pub mod Dubbings

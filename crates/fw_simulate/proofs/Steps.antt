@@ -5,36 +5,36 @@ use Rattle.std.specs.List.{All}
 use Rattle.fw_outside.specs.Outside.{Grows}
 use Rattle.fw_run.specs.Giving.{log_bytes}
 use Rattle.fw_run.proofs.Epochs.{run_epoch}
-use Rattle.fw_outside.proofs.Parts.{Grows-nothing}
 use Rattle.fw_entry.specs.Log.{TimedFits}
 use Rattle.fw_entry.specs.declared.entry.Timed.{Timed}
 use Rattle.fw_script.specs.Reading.{Reading, Advances}
 use Rattle.fw_script.specs.declared.command.Command.{Command}
-use Rattle.fw_run.specs.State.{State}
+use Rattle.fw_run.specs.State.{State, epoch_of}
 use Rattle.fw_run.specs.declared.rule.RuleFault.{RuleFault}
 use Rattle.fw_simulate.specs.declared.ending.RunEnding.{RunEnding}
 use Rattle.fw_run.specs.Actions.{Action}
 use Rattle.fw_run.specs.Desks.{DeskRelations}
 use Rattle.fw_bus.specs.Buses.{Standing, Goes, Stops}
-use Rattle.fw_bus.specs.Doings.{Cut}
+use Rattle.fw_carry.specs.Doings.{Cut}
 use Rattle.fw_simulate.specs.Ending.{RefusesCommand}
-use Rattle.fw_simulate.specs.Going.{Going, Mirrors, Carried, Ends}
+use Rattle.fw_simulate.specs.Going.{Going, Carried, Ends}
 use Rattle.fw_simulate.proofs.Goings.{going_more, going_shorter}
 
+-- a place grows by all that a sink grows by
+abbrev pub Mirrors : Option (List ℕ) → Option (List ℕ) → Option (List ℕ) → Option (List ℕ) → Type 0
+Mirrors written written' after after' = (bytes : List ℕ) → Grows written written' bytes → Grows after after' bytes
+
 -- a place that grows by nothing stays
-grown_by_none : (after after' : Option (List ℕ)) → Grows after after' [] → after' ≡ after
+pub grown_by_none : (after after' : Option (List ℕ)) → Grows after after' [] → after' ≡ after
 grown_by_none None None h = refl
 grown_by_none None (Some ys) h = absurd h
 grown_by_none (Some xs) None h = absurd h
 grown_by_none (Some xs) (Some ys) h = ap (λ (l : List ℕ). Some l) (h ∙ append-nil xs)
 
-pub still : (written after after' : Option (List ℕ)) → Mirrors written written after after' → after' ≡ after
-still written after after' m = grown_by_none after after' (m [] (Grows-nothing written))
-
 -- how the run ends with a log at a place, where nothing more was written
 pub ends_there : {D : DeskRelations} {left mid held after : Option (List ℕ)} {old : Reading} {bus : Standing} (left' : Option (List ℕ)) {after' : Option (List ℕ)} (g : Going D left mid held after old bus) (e : RunEnding)
-    → after' ≡ after → Ends D left left' held after g.log e → Ends D left left' held after' g.log e
-ends_there {D} {left} {mid} {held} left' g e same h = subst (λ (x : Option (List ℕ)). Ends D left left' held x g.log e) (sym same) h
+    → after' ≡ after → Ends D left left' held after g.log bus e → Ends D left left' held after' g.log bus e
+ends_there {D} {left} {mid} {held} {bus = bus} left' g e same h = subst (λ (x : Option (List ℕ)). Ends D left left' held x g.log bus e) (sym same) h
 
 pub refused_there : {D : DeskRelations} (left left' held : Option (List ℕ)) {after after' : Option (List ℕ)} (rule : RuleFault) (line : ℕ) → after' ≡ after
     → RefusesCommand D left left' held after rule line → RefusesCommand D left left' held after' rule line
@@ -42,8 +42,8 @@ refused_there {D} left left' held rule line same h = subst (λ (x : Option (List
 
 -- the same of another place
 pub goes_there : {D : DeskRelations} {commands : List Command} {actions : List Action} {log : List Timed} {s : State} {c : Command} {now : Standing} {written written' : Option (List ℕ)} (after after' : Option (List ℕ))
-    → Mirrors written written' after after' → Goes D commands actions log s c now written written' → Goes D commands actions log s c now after after'
-goes_there after after' m d = record {
+    → (d : Goes D commands actions log s c now written written') → Grows after after' (log_bytes (epoch_of s.account.latest) d.out) → Goes D commands actions log s c now after after'
+goes_there after after' d grew = record {
   order = d.order;
   decided = d.decided;
   more = d.more;
@@ -53,17 +53,19 @@ goes_there after after' m d = record {
   given = d.given;
   run = d.run;
   stands = d.stands;
-  grew = m _ d.grew;
+  grew = grew;
   sound = d.sound;
   restored = d.restored;
+  elected = d.elected;
   settles = d.settles;
   opens = d.opens;
   whole = d.whole;
   fresh = d.fresh;
 }
 
-cut_there : {P : List Action → List Timed → State → Type 0} {s : State} {written written' : Option (List ℕ)} (after after' : Option (List ℕ)) → Mirrors written written' after after' → Cut P s written written' → Cut P s after after'
-cut_there after after' m x = record {
+cut_there : {P : List Action → List Timed → State → Type 0} {s : State} {written written' : Option (List ℕ)} (after after' : Option (List ℕ)) → (x : Cut P s written written')
+    → Grows after after' (log_bytes (epoch_of s.account.latest) x.given ++ x.front) → Cut P s after after'
+cut_there after after' x appended = record {
   done = x.done;
   later = x.later;
   all = x.all;
@@ -77,19 +79,20 @@ cut_there after after' m x = record {
   front = x.front;
   rest = x.rest;
   parts = x.parts;
-  appended = m _ x.appended;
+  appended = appended;
 }
 
 pub stops_there : {D : DeskRelations} {commands : List Command} {actions : List Action} {log : List Timed} {s : State} {c : Command} {now : Standing} {written written' : Option (List ℕ)} (after after' : Option (List ℕ))
-    → Mirrors written written' after after' → Stops D commands actions log s c now written written' → Stops D commands actions log s c now after after'
+    → (d : Stops D commands actions log s c now written written') → Grows after after' (log_bytes (epoch_of s.account.latest) d.cut.given ++ d.cut.front) → Stops D commands actions log s c now after after'
 unfolding cut_there
-stops_there after after' m d = record {
+stops_there after after' d appended = record {
   order = d.order;
   decided = d.decided;
-  cut = cut_there after after' m d.cut;
+  cut = cut_there after after' d.cut appended;
   given = d.given;
   sound = d.sound;
   restored = d.restored;
+  elected = d.elected;
   opens = d.opens;
   spent = d.spent;
 }
@@ -101,11 +104,11 @@ fit_behind log (t ∷ ts) h = All-cons TimedFits t ts (h log ts t refl) (fit_beh
 
 -- a command more was carried out
 pub carried : {D : DeskRelations} {left mid held after written written' : Option (List ℕ)} {old : Reading} {bus : Standing} (left' after' : Option (List ℕ)) (new : Reading) (bus' : Standing) (c : Command) (g : Going D left mid held after old bus)
-    → Mirrors written written' after after' → Advances old new mid left' (Ok (Some c)) → Goes D g.commands g.actions g.log g.state c bus' written written'
-    → Carried D left left' held after' written written' g.log old new bus'
+    → Advances old new mid left' (Ok (Some c)) → (d : Goes D g.commands g.actions g.log g.state c bus' written written')
+    → Grows after after' (log_bytes (epoch_of g.state.account.latest) d.out) → Carried D left left' held after' written written' g.log old new bus'
 unfolding going_more goes_there
-carried {after = after} {written = written} {written' = written'} left' after' new bus' c g m a d = record {
-  going = going_more left' after' new bus' c g a (goes_there after after' m d);
+carried {after = after} {written = written} {written' = written'} left' after' new bus' c g a d grew = record {
+  going = going_more left' after' new bus' c g a (goes_there after after' d grew);
   out = d.out;
   longer = refl;
   fit = fit_behind g.log d.out d.sound.fits;

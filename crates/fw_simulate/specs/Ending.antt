@@ -20,8 +20,9 @@ use Rattle.fw_run.specs.Desks.{DeskRelations}
 use Rattle.fw_run.specs.Given.{AreGiven}
 use Rattle.fw_run.specs.Runs.{Run}
 use Rattle.fw_run.specs.Headline.{IsSoundThroughout}
-use Rattle.fw_ledger.specs.Fold.{entries_of}
+use Rattle.fw_account.specs.Fold.{entries_of}
 use Rattle.fw_audit.specs.Audited.{IsAudited}
+use Rattle.fw_run.specs.Elected.{ElectsOne}
 use Rattle.fw_run.specs.Reclaiming.{ComesBack}
 use Rattle.fw_run.specs.Settling.{RoundsSuffice}
 use Rattle.fw_simulate.specs.declared.ending.RunEnding.{RunEnding}
@@ -33,7 +34,7 @@ use Rattle.fw_simulate.specs.Scripts.{FaultsAt, beyond}
 
 -- The commands were carried out, with what the desk gives; the header and the log of their run were written. It is a log that
 -- lacks at most its end, it is sound throughout, and an audit finds no fault in it; what was whole before a bus reset is whole again
--- where its second is over, and enough rounds suffice for that.
+-- where its second is over, and enough rounds suffice for that. Between two bus resets one device at most is elected bus manager.
 pub record LogsRun (D : DeskRelations) (held held' : Option (List ℕ)) (commands : List Command) : Type 0 where
   pub actions : List Action
   pub log : List Timed
@@ -43,6 +44,7 @@ pub record LogsRun (D : DeskRelations) (held held' : Option (List ℕ)) (command
   pub sound : IsSoundThroughout actions log
   pub audited : IsAudited (entries_of log)
   pub restored : ComesBack actions log
+  pub elected : ElectsOne actions log
   pub rounds : RoundsSuffice commands actions log
   pub opens : LogOpens log Two (header_bytes Two ++ log_bytes 0 log)
   pub grew : Grows held held' (header_bytes Two ++ log_bytes 0 log)
@@ -138,6 +140,7 @@ pub record PartLogged (D : DeskRelations) (left left' held held' : Option (List 
   pub sound : IsSoundThroughout (actions ++ done) (log ++ out)
   pub audited : IsAudited (entries_of (log ++ out))
   pub restored : ComesBack (actions ++ done) (log ++ out)
+  pub elected : ElectsOne (actions ++ done) (log ++ out)
   pub rounds : RoundsSuffice commands actions log
   pub opens : LogOpens (log ++ out) Two (header_bytes Two ++ log_bytes 0 (log ++ out))
   pub grew : AppendsFront held held' (header_bytes Two ++ log_bytes 0 (log ++ out))

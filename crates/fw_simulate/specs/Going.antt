@@ -19,7 +19,7 @@ use Rattle.fw_run.specs.Actions.{Action}
 use Rattle.fw_run.specs.Desks.{DeskRelations}
 use Rattle.fw_run.specs.Given.{AreGiven}
 use Rattle.fw_run.specs.Runs.{Run}
-use Rattle.fw_bus.specs.Stands.{StandsFor}
+use Rattle.fw_machine.specs.Stands.{StandsFor}
 use Rattle.fw_bus.specs.Buses.{Standing}
 use Rattle.fw_simulate.specs.Ending.{Logged, Runs}
 use Rattle.fw_simulate.specs.declared.ending.RunEnding.{RunEnding}
@@ -74,10 +74,6 @@ pub record IsUnderWay (D : DeskRelations) (now : Option (List ℕ)) (reader : Re
   pub after : Option (List ℕ)
   pub going : Going D left now held after reader bus
 
--- a place grows by all that a sink grows by
-abbrev pub Mirrors : Option (List ℕ) → Option (List ℕ) → Option (List ℕ) → Option (List ℕ) → Type 0
-Mirrors written written' after after' = (bytes : List ℕ) → Grows written written' bytes → Grows after after' bytes
-
 -- One command more was carried out: the run goes on with the entries that were written.
 pub record Carried (D : DeskRelations) (left now' held after' written written' : Option (List ℕ)) (log : List Timed) (reader reader' : Reading) (bus' : Standing) : Type 0 where
   pub going : Going D left now' held after' reader' bus'
@@ -87,13 +83,26 @@ pub record Carried (D : DeskRelations) (left now' held after' written written' :
   pub wrote : Grows written written' (log_bytes (latest_epoch 0 log) out)
   pub shorter : to_read reader' < to_read reader
 
--- The run ended with this log so far: what was logged is that, where the script was read to its end.
-abbrev pub Ends : DeskRelations → Option (List ℕ) → Option (List ℕ) → Option (List ℕ) → Option (List ℕ) → List Timed → RunEnding → Type 0
-Ends D left left' held held' log Endings.Done = (all : Logged D left left' held held') × (all.logged.log ≡ log)
-Ends D left left' held held' log ending = Runs D left left' held held' ending
+-- The script was read to its end: what was logged is the log so far, and the bus stands for the state of that run.
+pub record LoggedAll (D : DeskRelations) (left left' held held' : Option (List ℕ)) (log : List Timed) (bus : Standing) : Type 0 where
+  pub all : Logged D left left' held held'
+  pub same : all.logged.log ≡ log
+  pub stands : StandsFor bus.machine all.logged.state
+  pub fresh : IsFalse bus.spent
+
+-- The run ended with this log so far.
+abbrev pub Ends : DeskRelations → Option (List ℕ) → Option (List ℕ) → Option (List ℕ) → Option (List ℕ) → List Timed → Standing → RunEnding → Type 0
+Ends D left left' held held' log bus Endings.Done = LoggedAll D left left' held held' log bus
+Ends D left left' held held' log bus ending = Runs D left left' held held' ending
 
 -- what a step did: a command more, or the end of the run
 abbrev pub Continues : {D : DeskRelations} {left now held after : Option (List ℕ)} {reader : Reading} {bus : Standing} → Going D left now held after reader bus
     → Option (List ℕ) → Option (List ℕ) → Option (List ℕ) → Option (List ℕ) → Reading → Standing → Option RunEnding → Type 0
 Continues {D} {left} {now} {held} {after} {reader} g now' written written' after' reader' bus' None = Carried D left now' held after' written written' g.log reader reader' bus'
-Continues {D} {left} {now} {held} g now' written written' after' reader' bus' (Some ending) = Ends D left now' held after' g.log ending
+Continues {D} {left} {now} {held} g now' written written' after' reader' bus' (Some ending) = Ends D left now' held after' g.log bus' ending
+
+-- A step, wherever the log is kept: it wrote these bytes, and with them behind what a place held the run goes on or has ended there.
+abbrev pub StepsOn : {D : DeskRelations} {left now held after : Option (List ℕ)} {reader : Reading} {bus : Standing} → Going D left now held after reader bus
+    → Option (List ℕ) → Option (List ℕ) → Option (List ℕ) → Reading → Standing → Option RunEnding → Type 0
+StepsOn {after = after} g now' written written' reader' bus' result =
+    (bytes : List ℕ) × Grows written written' bytes × ((after' : Option (List ℕ)) → Grows after after' bytes → Continues g now' written written' after' reader' bus' result)

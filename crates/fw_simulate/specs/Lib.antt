@@ -3,3 +3,5 @@ pub mod Ending
 pub mod Counts
 pub mod Going
 pub mod Sums
+pub mod Dubs
+pub mod Words

@@ -1,14 +1,18 @@
-//! The words that run a script: `run` reads one and writes the log of its commands, `gen` makes one from a seed, runs it in
-//! memory, and writes a summary of its log.
+//! The words that run a script: `run` reads one and writes the log of its commands, `dub` reads one and writes what was recorded in its
+//! run; `gen` makes one from a seed, runs it in memory, and writes a summary of its log.
 //!
-//! Both carry out command after command by the same step, each command as it is read.
+//! All carry out command after command by the same step, each command as it is read.
 #![tactic(auto)]
 
 mod ending;
+mod recording;
 mod script;
 mod seed;
 mod step;
+mod word;
 
 pub use ending::{Refusal, Refused, RunEnding};
+pub use recording::dub;
 pub use script::run;
 pub use seed::run_seed;
+pub use word::{ScriptWord, run_as};

@@ -19,7 +19,7 @@ use fw_tape::Desk;
 use std::alloc::Global;
 
 // How a run in memory ends: a write there fails only where memory is refused.
-fn in_memory(ending: RunEnding) -> RunEnding
+pub(crate) fn in_memory(ending: RunEnding) -> RunEnding
     ensures { result ≡ in_memory ending }
 {
     match ending {

@@ -5,7 +5,7 @@ ghost use Rattle.std.specs.declared.option.Option.{Option as Maybe};
 ghost use Rattle.fw_tape.specs.Desks.{AnyBlock, AnyVendorByte};
 ghost use Rattle.fw_simulate.specs.Ending.{ending_by};
 ghost use Rattle.fw_simulate.specs.Counts.{ReadsOn, WritesOn};
-ghost use Rattle.fw_simulate.specs.Going.{Going, IsUnderWay, Mirrors, Continues};
+ghost use Rattle.fw_simulate.specs.Going.{Going, IsUnderWay, StepsOn};
 
 use crate::ending::{Refusal, Refused, RunEnding};
 use fw_bus::{Bus, BusFault};
@@ -35,7 +35,7 @@ fn ending_of(fault: ScriptFault, line: u32) -> RunEnding
 /// Reads the next command of a script, and carries it out; the blocks of tapes, and what a vendor makes of a byte, come from the desk.
 /// It answers how the run ends, or None where it goes on.
 ///
-/// A caller may keep elsewhere what the sink was given: the clause speaks of any place that grows as the sink does.
+/// A caller may keep elsewhere what the sink was given, or nowhere: the clause speaks of any place that grows by the bytes that were written.
 pub(crate) fn carry_next<
     S: Source,
     K: Sink,
@@ -51,9 +51,9 @@ pub(crate) fn carry_next<
     requires blocks { AnyBlock (F.pre desk.now.blocks) }
     requires desk { AnyVendorByte (H.pre desk.now.vendor) }
     requires under_way { IsUnderWay (record { blocks = F.post desk.now.blocks; vendor = H.post desk.now.vendor }) (S.left source.old) reader.old bus.old }
-    ensures goes { (left held after after2 : Maybe (List ℕ)) → Mirrors (K.held sink.old) (K.held sink.new) after after2
+    ensures goes { (left held after : Maybe (List ℕ))
         → (g : Going (record { blocks = F.post desk.now.blocks; vendor = H.post desk.now.vendor }) left (S.left source.old) held after reader.old bus.old)
-        → Continues g (S.left source.new) (K.held sink.old) (K.held sink.new) after2 reader.new bus.new result }
+        → StepsOn g (S.left source.new) (K.held sink.old) (K.held sink.new) reader.new bus.new result }
     ensures reads { ReadsOn (S.faults source.old) (S.faults source.new) result }
     ensures writes { WritesOn (K.faults sink.old) (K.faults sink.new) result }
 {

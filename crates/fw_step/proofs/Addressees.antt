@@ -14,7 +14,7 @@ use Rattle.fw_cmp.specs.Plugs.{half_of}
 use Rattle.fw_cmp.specs.Requests.{target_of, addressee_of}
 use Rattle.fw_step.specs.Requests.{IsNodeOf, PlugNumberFits}
 use Rattle.fw_step.proofs.Answers.{mapped}
-use Rattle.fw_ledger.specs.Account.{Account}
+use Rattle.fw_account.specs.Account.{Account}
 use Rattle.fw_cmp.specs.declared.directory.Directory.{Directory}
 use Rattle.fw_cmp.specs.declared.job.Job.{Job}
 use Rattle.fw_cmp.specs.declared.stage.Stage.{Stage}

@@ -6,9 +6,9 @@ use Rattle.std.proofs.Common.{◌≡◌, ◌≢◌, ℕ, Bool, true, false, Opti
 use Rattle.std.proofs.lemmas.Bool.Decides.{nat_tests}
 use Rattle.fw_base.proofs.Tables.{same_plug_self}
 use Rattle.fw_csr.specs.declared.reply.Reply.{Reply}
-use Rattle.fw_ledger.specs.Account.{Account}
-use Rattle.fw_ledger.specs.Moves.{HasConnection}
-use Rattle.fw_ledger.specs.Words.{word_of}
+use Rattle.fw_account.specs.Account.{Account}
+use Rattle.fw_account.specs.Moves.{HasConnection}
+use Rattle.fw_account.specs.Words.{word_of}
 use Rattle.fw_cmp.specs.declared.connection.Connection.{Connection}
 use Rattle.fw_cmp.specs.declared.connection.Connection.TheVariants.{PlugToPlug, BroadcastOut, BroadcastIn}
 use Rattle.fw_cmp.specs.declared.job.Job.{Job}

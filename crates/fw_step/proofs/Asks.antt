@@ -5,10 +5,10 @@ use Rattle.std.proofs.Common.{◌≡◌, ℕ, ◌+◌, Bool, true, false, ◌&&�
 use Rattle.std.proofs.lemmas.Bool.Decides.{nat_tests}
 use Rattle.fw_base.specs.Tables.{find_to, update}
 use Rattle.fw_base.proofs.Tables.{find_to_is, IsFirst}
-use Rattle.fw_ledger.specs.Account.{Allocation, Account, Request, is_pending, has_pending}
-use Rattle.fw_ledger.specs.Moves.{HasNoPending}
-use Rattle.fw_ledger.specs.Packets.{asked, addressed_after}
-use Rattle.fw_ledger.specs.Words.{output_addressed}
+use Rattle.fw_account.specs.Account.{Allocation, Account, Request, is_pending, has_pending}
+use Rattle.fw_account.specs.Moves.{HasNoPending}
+use Rattle.fw_account.specs.Packets.{asked, addressed_after}
+use Rattle.fw_account.specs.Words.{output_addressed}
 use Rattle.fw_cmp.specs.declared.connection.Flow.{Flow}
 use Rattle.fw_cmp.specs.declared.connection.Slot.{Slot}
 use Rattle.fw_cmp.specs.declared.connection.Slot.TheVariants.{Free, Making, Standing, Restoring, Gone}

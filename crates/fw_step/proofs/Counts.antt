@@ -7,9 +7,9 @@ use Rattle.std.proofs.lemmas.Bool.Decides.{nat_tests}
 use Rattle.std.proofs.lemmas.Bool.{cases_lt}
 use Rattle.fw_base.specs.Tables.{same_plug, update_plug}
 use Rattle.fw_base.proofs.Tables.{same_plug-true}
-use Rattle.fw_ledger.specs.Account.{Owner, Of, Dead, Connections, has_connection, is_there}
-use Rattle.fw_ledger.specs.Moves.{HasConnection, HasRoom, add_connection, drop_connection}
-use Rattle.fw_ledger.proofs.Connections.{NoneBeyond, had_connection}
+use Rattle.fw_account.specs.Account.{Owner, Of, Dead, Connections, has_connection, is_there}
+use Rattle.fw_account.specs.Moves.{HasConnection, HasRoom, add_connection, drop_connection}
+use Rattle.fw_account.proofs.Connections.{NoneBeyond, had_connection}
 use Rattle.fw_step.specs.Holding.{Counts, connections_of, same_kind, is_of, with_one, without_one}
 
 pub added : (c : ℕ) (own kind : ConnectionKind) (s : Connections) → HasRoom own s → connections_of c kind (add_connection c own s) ≡ connections_of c kind s + cond (same_kind kind own) 1 0

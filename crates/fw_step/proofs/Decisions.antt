@@ -6,7 +6,7 @@ use Rattle.std.specs.Prelude.{not}
 use Rattle.std.proofs.lemmas.Bool.Decides.{nat_tests}
 use Rattle.fw_base.specs.Tables.{find_to}
 use Rattle.fw_plug.specs.Words.{Settings, units_of, is_connected}
-use Rattle.fw_ledger.specs.Account.{Account}
+use Rattle.fw_account.specs.Account.{Account}
 use Rattle.fw_cmp.specs.declared.connection.Connection.{Connection}
 use Rattle.fw_cmp.specs.declared.connection.Connection.TheVariants.{PlugToPlug, BroadcastOut, BroadcastIn}
 use Rattle.fw_cmp.specs.declared.connection.Flow.{Flow}

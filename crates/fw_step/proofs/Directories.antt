@@ -1,7 +1,7 @@
 -- A directory that agrees with the latest reset entry.
 use Rattle.std.proofs.Common.{◌≡◌, ◌<◌, ℕ, Option, Some, IsTrue, ap, subst, sym, ◌∙◌}
 use Rattle.fw_entry.specs.declared.entry.ResetEntry.{ResetEntry}
-use Rattle.fw_ledger.specs.Account.{Account}
+use Rattle.fw_account.specs.Account.{Account}
 use Rattle.fw_cmp.specs.declared.directory.Directory.{Directory}
 use Rattle.fw_cmp.specs.Nodes.{node_of}
 use Rattle.fw_step.specs.Controllers.{IsDirectory}

@@ -7,14 +7,14 @@ use Rattle.fw_base.specs.Tables.{update, update_plug}
 use Rattle.fw_base.proofs.Tables.{update_plug_at, sum_to_same}
 use Rattle.fw_plug.specs.Words.{flag}
 use Rattle.fw_plug.specs.Words.{units_of}
-use Rattle.fw_ledger.specs.Account.{Connected, Allocation, Account, total, allocated, remainder, has_connection, is_free, is_open}
-use Rattle.fw_ledger.specs.Moves.{Move, AllocateChannel, AllocateUnits, ConnectFirst, ConnectOverlaid, ConnectInput, DisconnectInput, DisconnectOutput, ReleaseUnits, ReleaseChannel, Can, after, drop_connection, made_pending}
-use Rattle.fw_ledger.specs.Sound.{IsSound}
-use Rattle.fw_ledger.specs.Words.{Register, BandwidthAvailable, ChannelsAvailable, OutputPlug, InputPlug, word_of, bits_word, channel_word}
-use Rattle.fw_ledger.specs.Decode.{register_of_move}
-use Rattle.fw_ledger.proofs.Connections.{had_connection}
-use Rattle.fw_ledger.proofs.Moves.{total_changed}
-use Rattle.fw_ledger.proofs.Open.{open_is, same_open}
+use Rattle.fw_account.specs.Account.{Connected, Allocation, Account, total, allocated, remainder, has_connection, is_free, is_open}
+use Rattle.fw_account.specs.Moves.{Move, AllocateChannel, AllocateUnits, ConnectFirst, ConnectOverlaid, ConnectInput, DisconnectInput, DisconnectOutput, ReleaseUnits, ReleaseChannel, Can, after, drop_connection, made_pending}
+use Rattle.fw_account.specs.Sound.{IsSound}
+use Rattle.fw_account.specs.Words.{Register, BandwidthAvailable, ChannelsAvailable, OutputPlug, InputPlug, word_of, bits_word, channel_word}
+use Rattle.fw_account.specs.Decode.{register_of_move}
+use Rattle.fw_account.proofs.Connections.{had_connection}
+use Rattle.fw_account.proofs.Moves.{total_changed}
+use Rattle.fw_account.proofs.Open.{open_is, same_open}
 use Rattle.fw_cmp.specs.Plugs.{half_of}
 use Rattle.fw_step.specs.InStep.{IsRegister}
 use Rattle.fw_step.proofs.Words.{output_word, input_word}

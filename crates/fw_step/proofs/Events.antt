@@ -5,10 +5,10 @@ use Rattle.fw_base.specs.declared.plug.ConnectionKind.TheVariants.{PointToPoint,
 use Rattle.std.proofs.Common.{◌≡◌, ◌≢◌, ℕ, false, Option, Some, None, refl, ◌∙◌, arith, cond}
 use Rattle.std.proofs.lemmas.Bool.Decides.{nat_tests}
 use Rattle.fw_entry.specs.declared.entry.ResetEntry.{ResetEntry}
-use Rattle.fw_ledger.specs.Account.{Holder, Pending, Connected, Orphaned, Allocation, Owner, Of, Dead, Connections, Account, Request, is_pending, is_pending_of}
-use Rattle.fw_ledger.specs.Events.{after_reset, after_second, after_death, orphaned_allocation, orphaned_holder, orphaned_connections, orphaned_owner, after_withholding}
-use Rattle.fw_ledger.specs.Packets.{asked, addressed_after, ended}
-use Rattle.fw_ledger.specs.Words.{output_addressed}
+use Rattle.fw_account.specs.Account.{Holder, Pending, Connected, Orphaned, Allocation, Owner, Of, Dead, Connections, Account, Request, is_pending, is_pending_of}
+use Rattle.fw_account.specs.Events.{after_reset, after_second, after_death, orphaned_allocation, orphaned_holder, orphaned_connections, orphaned_owner, after_withholding}
+use Rattle.fw_account.specs.Packets.{asked, addressed_after, ended}
+use Rattle.fw_account.specs.Words.{output_addressed}
 use Rattle.fw_step.specs.Holding.{Reservation, no_holding, is_of, connections_of, HasReserved, Holds, Keeps, Leaves}
 
 -- ---- deaths

@@ -6,11 +6,11 @@ use Rattle.fw_base.specs.Tables.{update}
 use Rattle.fw_base.proofs.Tables.{sum_to_le}
 use Rattle.fw_csr.specs.declared.reply.Reply.{Reply}
 use Rattle.fw_plug.specs.Words.{Settings}
-use Rattle.fw_ledger.specs.Account.{Account, Pending, Allocation, total, allocated, flow_units, remainder, has_connection}
-use Rattle.fw_ledger.specs.Sound.{IsSound}
-use Rattle.fw_ledger.specs.Words.{word_of}
-use Rattle.fw_ledger.specs.Network.{is_output}
-use Rattle.fw_ledger.proofs.Allocations.{total_changed}
+use Rattle.fw_account.specs.Account.{Account, Pending, Allocation, total, allocated, flow_units, remainder, has_connection}
+use Rattle.fw_account.specs.Sound.{IsSound}
+use Rattle.fw_account.specs.Words.{word_of}
+use Rattle.fw_account.specs.Network.{is_output}
+use Rattle.fw_account.proofs.Allocations.{total_changed}
 use Rattle.fw_cmp.specs.declared.job.Job.{Job}
 use Rattle.fw_cmp.specs.declared.request.Target.{Target}
 use Rattle.fw_cmp.specs.declared.request.Target.TheVariants.{OutputPlug, BandwidthAvailable}

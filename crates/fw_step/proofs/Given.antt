@@ -2,8 +2,8 @@
 use Rattle.std.proofs.Common.{◌≡◌, ℕ, ◌<◌, Bool, true, false, Option, Some, None, Ok, Err, [], ◌∷◌, ◌++◌, length, cond, refl, ap, subst, sym, ◌∙◌, arith}
 use Rattle.std.proofs.lemmas.Bool.Decides.{nat_tests}
 use Rattle.fw_base.proofs.Tables.{find_to_is, IsFirst}
-use Rattle.fw_ledger.specs.Account.{Account}
-use Rattle.fw_ledger.specs.Packets.{asked}
+use Rattle.fw_account.specs.Account.{Account}
+use Rattle.fw_account.specs.Packets.{asked}
 use Rattle.fw_cmp.specs.declared.connection.Slot.{Slot}
 use Rattle.fw_cmp.specs.declared.connection.Slot.TheVariants.{Free, Making, Standing, Restoring, Gone}
 use Rattle.fw_cmp.specs.declared.outcome.StartFault.{StartFault}

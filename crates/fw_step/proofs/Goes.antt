@@ -2,8 +2,8 @@
 use Rattle.fw_base.specs.declared.plug.PlugAt.{PlugAt}
 use Rattle.fw_base.specs.declared.plug.ConnectionKind.{ConnectionKind}
 use Rattle.std.proofs.Common.{◌≡◌, ℕ, ◌+◌, Bool, true, false, Option, Some, refl, ap, subst, sym, ◌∙◌, ◌||◌}
-use Rattle.fw_ledger.specs.Account.{Account}
-use Rattle.fw_ledger.specs.Network.{is_output, is_input}
+use Rattle.fw_account.specs.Account.{Account}
+use Rattle.fw_account.specs.Network.{is_output, is_input}
 use Rattle.fw_cmp.specs.declared.job.Job.{Job}
 use Rattle.fw_cmp.specs.declared.job.Held.{Held}
 use Rattle.fw_cmp.specs.declared.stage.Stage.{Stage}

@@ -6,11 +6,11 @@ use Rattle.std.proofs.lemmas.Bool.{cases_eq}
 use Rattle.fw_base.specs.Tables.{update, update_plug}
 use Rattle.fw_base.proofs.Tables.{update_plug_at}
 use Rattle.fw_plug.specs.Words.{Settings, units_of}
-use Rattle.fw_ledger.specs.Account.{Pending, Connected, Allocation, Account, has_connection, is_pending, allocated}
-use Rattle.fw_ledger.specs.Moves.{Move, AllocateChannel, AllocateUnits, ConnectFirst, ConnectOverlaid, ConnectInput, DisconnectInput, DisconnectOutput, ReleaseUnits, ReleaseChannel, Can, after, with_allocation, drop_connection, made_pending}
-use Rattle.fw_ledger.specs.Sound.{IsSound}
-use Rattle.fw_ledger.proofs.Connections.{had_connection}
-use Rattle.fw_ledger.proofs.Open.{open_is}
+use Rattle.fw_account.specs.Account.{Pending, Connected, Allocation, Account, has_connection, is_pending, allocated}
+use Rattle.fw_account.specs.Moves.{Move, AllocateChannel, AllocateUnits, ConnectFirst, ConnectOverlaid, ConnectInput, DisconnectInput, DisconnectOutput, ReleaseUnits, ReleaseChannel, Can, after, with_allocation, drop_connection, made_pending}
+use Rattle.fw_account.specs.Sound.{IsSound}
+use Rattle.fw_account.proofs.Connections.{had_connection}
+use Rattle.fw_account.proofs.Open.{open_is}
 use Rattle.fw_step.specs.Holding.{Reservation, Holding, HasReserved, Holds, holding_after, plug_reservation, Keeps, Leaves}
 use Rattle.fw_step.proofs.Counts.{table_added, table_dropped, table_added_other, table_dropped_other, room_of_empty}
 

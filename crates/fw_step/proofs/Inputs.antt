@@ -4,12 +4,12 @@ use Rattle.std.proofs.Common.{◌≡◌, ℕ, ◌+◌, ◌<◌, Bool, true, fals
 use Rattle.fw_base.proofs.Tables.{update_plug_same}
 use Rattle.fw_csr.specs.declared.reply.Reply.{Reply}
 use Rattle.fw_plug.specs.Words.{is_connected}
-use Rattle.fw_ledger.specs.Account.{Account, has_connection}
-use Rattle.fw_ledger.specs.Moves.{ConnectInput as ConnectsInput, DisconnectInput, Can, after, HasConnection, add_connection, drop_connection}
-use Rattle.fw_ledger.specs.Network.{is_input}
-use Rattle.fw_ledger.specs.Sound.{IsSound}
-use Rattle.fw_ledger.specs.Words.{word_of}
-use Rattle.fw_ledger.proofs.Connections.{had_connection}
+use Rattle.fw_account.specs.Account.{Account, has_connection}
+use Rattle.fw_account.specs.Moves.{ConnectInput as ConnectsInput, DisconnectInput, Can, after, HasConnection, add_connection, drop_connection}
+use Rattle.fw_account.specs.Network.{is_input}
+use Rattle.fw_account.specs.Sound.{IsSound}
+use Rattle.fw_account.specs.Words.{word_of}
+use Rattle.fw_account.proofs.Connections.{had_connection}
 use Rattle.fw_cmp.specs.declared.connection.Flow.{Flow}
 use Rattle.fw_cmp.specs.declared.job.Job.{Job}
 use Rattle.fw_cmp.specs.declared.job.Ending.TheVariants.{NoPlug}

@@ -15,8 +15,8 @@ use Rattle.fw_cmp.proofs.Ready.{ready_reached}
 use Rattle.fw_step.specs.Requests.{request_to, requested_of, requested, outstanding_of}
 use Rattle.fw_step.proofs.Carried.{hearing}
 use Rattle.fw_step.proofs.Fits.{ready_fits}
-use Rattle.fw_ledger.specs.Account.{Account, Request}
-use Rattle.fw_ledger.specs.Packets.{asked}
+use Rattle.fw_account.specs.Account.{Account, Request}
+use Rattle.fw_account.specs.Packets.{asked}
 use Rattle.fw_cmp.specs.declared.current.Current.{Current}
 use Rattle.fw_cmp.specs.declared.current.Current.TheVariants.{Nothing, Asking, Hearing, Overtaken}
 use Rattle.fw_cmp.specs.declared.current.Task.{Task}
@@ -30,15 +30,15 @@ use Rattle.fw_step.proofs.Turns.{asking}
 use Rattle.fw_step.proofs.Addressees.{target_is, addressee_there, number_at, node_is}
 use Rattle.fw_async.specs.declared.packet.Packet.{Packet}
 use Rattle.fw_csr.specs.declared.request.Swap.{Swap}
-use Rattle.fw_ledger.specs.Sound.{IsSound}
+use Rattle.fw_account.specs.Sound.{IsSound}
 use Rattle.fw_step.specs.Controllers.{others_of}
 use Rattle.fw_step.proofs.StageFits.{half_is}
 use Rattle.fw_csr.specs.declared.reply.Reply.{Reply}
 use Rattle.fw_entry.specs.declared.entry.Entry.TheVariants.{Async}
 use Rattle.fw_entry.specs.declared.nodes.NodeRow.{NodeRow}
-use Rattle.fw_ledger.specs.Fold.{next_account}
+use Rattle.fw_account.specs.Fold.{next_account}
 use Rattle.fw_entry.specs.Network.{row_of_node}
-use Rattle.fw_ledger.specs.Packets.{ended as request_ended}
+use Rattle.fw_account.specs.Packets.{ended as request_ended}
 use Rattle.fw_cmp.specs.declared.outcome.Next.{Next}
 use Rattle.fw_cmp.specs.declared.outcome.Next.TheVariants.{End, Idle, Waiting as WaitsUntil}
 use Rattle.fw_cmp.specs.Requests.{access_of, request_of}

@@ -8,14 +8,14 @@ use Rattle.fw_csr.specs.declared.reply.Reply.{Reply}
 use Rattle.fw_csr.specs.declared.request.Swap.{Swap}
 use Rattle.fw_plug.specs.Plugs.{is_active}
 use Rattle.fw_plug.specs.Words.{is_connected}
-use Rattle.fw_ledger.specs.Account.{Account, has_connection, talks}
-use Rattle.fw_ledger.specs.Moves.{Move, AllocateChannel, AllocateUnits, ConnectFirst, ConnectOverlaid, ConnectInput, DisconnectInput, DisconnectOutput}
-use Rattle.fw_ledger.specs.Moves.{ReleaseUnits, ReleaseChannel, Can, after}
-use Rattle.fw_ledger.specs.Network.{is_output}
-use Rattle.fw_ledger.specs.Sound.{IsSound}
-use Rattle.fw_ledger.specs.Words.{OutputPlug, word_of}
-use Rattle.fw_ledger.proofs.Connections.{has_connection_added, had_connection}
-use Rattle.fw_ledger.proofs.Moves.{moves_keep}
+use Rattle.fw_account.specs.Account.{Account, has_connection, talks}
+use Rattle.fw_account.specs.Moves.{Move, AllocateChannel, AllocateUnits, ConnectFirst, ConnectOverlaid, ConnectInput, DisconnectInput, DisconnectOutput}
+use Rattle.fw_account.specs.Moves.{ReleaseUnits, ReleaseChannel, Can, after}
+use Rattle.fw_account.specs.Network.{is_output}
+use Rattle.fw_account.specs.Sound.{IsSound}
+use Rattle.fw_account.specs.Words.{OutputPlug, word_of}
+use Rattle.fw_account.proofs.Connections.{has_connection_added, had_connection}
+use Rattle.fw_account.proofs.Moves.{moves_keep}
 use Rattle.fw_cmp.specs.declared.job.Job.{Job}
 use Rattle.fw_cmp.specs.declared.request.Target.{Target}
 use Rattle.fw_cmp.specs.declared.stage.Stage.{Stage}
@@ -26,7 +26,7 @@ use Rattle.fw_step.specs.Registers.{succeeds, register_at}
 use Rattle.fw_step.specs.Lingering.{LingerUnchanged}
 use Rattle.fw_step.proofs.Elsewhere.{move_elsewhere}
 use Rattle.fw_step.proofs.Words.{output_shows, shows_connected}
-use Rattle.fw_ledger.specs.Decode.{register_of_move}
+use Rattle.fw_account.specs.Decode.{register_of_move}
 
 -- ---- words and connections
 

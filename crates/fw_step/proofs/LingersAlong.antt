@@ -12,19 +12,19 @@ use Rattle.fw_entry.specs.declared.entry.EventEntry.{EventEntry}
 use Rattle.fw_entry.specs.declared.entry.ResetEntry.{ResetEntry}
 use Rattle.fw_entry.specs.Network.{device_of_id}
 use Rattle.fw_words.specs.Quadlet.{quadlet_at}
-use Rattle.fw_ledger.specs.Account.{Account, Operation, Reads, Locks, Request, talks}
-use Rattle.fw_ledger.specs.Decode.{move_at}
-use Rattle.fw_ledger.specs.Events.{after_reset, after_second, after_death, after_withholding}
-use Rattle.fw_ledger.specs.Fold.{next_account, after_event}
-use Rattle.fw_ledger.specs.Moves.{Move, after}
-use Rattle.fw_ledger.specs.Network.{is_output}
-use Rattle.fw_ledger.specs.Packets.{asked, asked_by, Reply as Replies, Read, Locked, ended, is_reply_to, is_swapped, moved, swapped, replied, replied_to}
-use Rattle.fw_ledger.specs.Packets.{answered, after_request, after_reply, after_packet}
-use Rattle.fw_ledger.specs.Sound.{IsSound}
-use Rattle.fw_ledger.specs.Words.{Register, register_of}
-use Rattle.fw_ledger.proofs.Decoded.{move_at_is}
-use Rattle.fw_ledger.proofs.Network.{not_both}
-use Rattle.fw_ledger.proofs.Packets.{device_below}
+use Rattle.fw_account.specs.Account.{Account, Operation, Reads, Locks, Request, talks}
+use Rattle.fw_account.specs.Decode.{move_at}
+use Rattle.fw_account.specs.Events.{after_reset, after_second, after_death, after_withholding}
+use Rattle.fw_account.specs.Fold.{next_account, after_event}
+use Rattle.fw_account.specs.Moves.{Move, after}
+use Rattle.fw_account.specs.Network.{is_output}
+use Rattle.fw_account.specs.Packets.{asked, asked_by, Reply as Replies, Read, Locked, ended, is_reply_to, is_swapped, moved, swapped, replied, replied_to}
+use Rattle.fw_account.specs.Packets.{answered, after_request, after_reply, after_packet}
+use Rattle.fw_account.specs.Sound.{IsSound}
+use Rattle.fw_account.specs.Words.{Register, register_of}
+use Rattle.fw_account.proofs.Decoded.{move_at_is}
+use Rattle.fw_account.proofs.Network.{not_both}
+use Rattle.fw_account.proofs.Packets.{device_below}
 use Rattle.fw_step.specs.Lingering.{LingerUnchanged, LingerActive, LingerAfter}
 use Rattle.fw_step.proofs.Lingers.{talks_shown, same_account, move_lingers}
 

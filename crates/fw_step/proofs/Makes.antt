@@ -3,11 +3,11 @@ use Rattle.fw_base.specs.declared.plug.PlugAt.{PlugAt}
 use Rattle.std.proofs.Common.{◌≡◌, ℕ, ◌-◌, ◌<◌, Bool, true, false, Option, Some, None, refl, ap, subst, sym, ◌∙◌, arith}
 use Rattle.std.proofs.lemmas.Bool.Decides.{nat_tests}
 use Rattle.fw_csr.specs.declared.reply.Reply.{Reply}
-use Rattle.fw_ledger.specs.Account.{Pending, Account, remainder}
-use Rattle.fw_ledger.specs.Moves.{AllocateChannel, AllocateUnits, Can, after}
-use Rattle.fw_ledger.specs.Network.{is_output}
-use Rattle.fw_ledger.specs.Sound.{IsSound}
-use Rattle.fw_ledger.specs.Words.{channel_word}
+use Rattle.fw_account.specs.Account.{Pending, Account, remainder}
+use Rattle.fw_account.specs.Moves.{AllocateChannel, AllocateUnits, Can, after}
+use Rattle.fw_account.specs.Network.{is_output}
+use Rattle.fw_account.specs.Sound.{IsSound}
+use Rattle.fw_account.specs.Words.{channel_word}
 use Rattle.fw_cmp.specs.declared.job.Job.{Job}
 use Rattle.fw_cmp.specs.declared.job.Held.{Held}
 use Rattle.fw_cmp.specs.declared.job.Ending.TheVariants.{NoPlug}

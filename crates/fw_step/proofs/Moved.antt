@@ -5,11 +5,11 @@ use Rattle.std.proofs.Common.{◌≡◌, ℕ, ◌+◌, ◌<◌, ◌≤◌, Bool,
 use Rattle.fw_csr.specs.declared.request.Swap.{Swap}
 use Rattle.fw_csr.specs.declared.reply.Reply.{Reply}
 use Rattle.fw_plug.specs.Words.{FitsRegister}
-use Rattle.fw_ledger.specs.Account.{Account, counter}
-use Rattle.fw_ledger.specs.Moves.{Move, AllocateChannel, AllocateUnits, ConnectFirst, ConnectOverlaid, ConnectInput, DisconnectInput, DisconnectOutput, ReleaseUnits, ReleaseChannel, Can, after}
-use Rattle.fw_ledger.specs.Network.{is_output, is_input}
-use Rattle.fw_ledger.specs.Sound.{IsSound}
-use Rattle.fw_ledger.specs.Words.{word_of}
+use Rattle.fw_account.specs.Account.{Account, counter}
+use Rattle.fw_account.specs.Moves.{Move, AllocateChannel, AllocateUnits, ConnectFirst, ConnectOverlaid, ConnectInput, DisconnectInput, DisconnectOutput, ReleaseUnits, ReleaseChannel, Can, after}
+use Rattle.fw_account.specs.Network.{is_output, is_input}
+use Rattle.fw_account.specs.Sound.{IsSound}
+use Rattle.fw_account.specs.Words.{word_of}
 use Rattle.fw_cmp.specs.declared.job.Job.{Job}
 use Rattle.fw_cmp.specs.declared.job.Held.{Held}
 use Rattle.fw_cmp.specs.declared.stage.Stage.{Stage}

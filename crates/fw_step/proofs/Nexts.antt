@@ -8,7 +8,7 @@ use Rattle.std.proofs.lemmas.List.Quantifiers.{position-Some}
 use Rattle.std.proofs.lemmas.Option.{slice_get-get_or}
 use Rattle.fw_base.proofs.Tables.{find_to_is, IsFirst}
 use Rattle.fw_entry.specs.declared.entry.ResetEntry.{ResetEntry}
-use Rattle.fw_ledger.specs.Words.{output_addressed}
+use Rattle.fw_account.specs.Words.{output_addressed}
 use Rattle.fw_cmp.specs.declared.request.Access.{Access}
 use Rattle.fw_cmp.specs.declared.request.Target.{Target}
 use Rattle.fw_cmp.specs.Fits.{JobFits, StageFits}
@@ -20,8 +20,8 @@ use Rattle.fw_step.specs.Requests.{IsManager, request_to, requested_of, requeste
 use Rattle.fw_step.proofs.Carried.{hearing}
 use Rattle.fw_step.proofs.Fits.{ready_fits}
 use Rattle.fw_step.proofs.Requests.{plug_is}
-use Rattle.fw_ledger.specs.Account.{Account, Request}
-use Rattle.fw_ledger.specs.Packets.{asked}
+use Rattle.fw_account.specs.Account.{Account, Request}
+use Rattle.fw_account.specs.Packets.{asked}
 use Rattle.fw_cmp.specs.declared.connection.Slot.{Slot}
 use Rattle.fw_cmp.specs.declared.connection.Slot.TheVariants.{Free, Making, Standing, Restoring, Gone}
 use Rattle.fw_cmp.specs.declared.current.Current.{Current}

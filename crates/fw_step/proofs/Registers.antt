@@ -2,16 +2,16 @@
 use Rattle.fw_base.specs.declared.plug.PlugAt.{PlugAt}
 use Rattle.std.proofs.Common.{◌≡◌, ℕ, ◌+◌, ◌-◌, ◌<◌, Bool, true, false, Option, Some, None, refl, sym, ap, ◌∙◌, arith}
 use Rattle.std.proofs.lemmas.Bool.Decides.{nat_tests}
-use Rattle.fw_ledger.specs.Account.{Pending, Allocation, Account, allocated, remainder, is_free, is_open}
-use Rattle.fw_ledger.specs.Moves.{AllocateChannel, AllocateUnits, ReleaseUnits, ReleaseChannel, after}
-use Rattle.fw_ledger.specs.Sound.{IsSound}
-use Rattle.fw_ledger.specs.Words.{channel_word}
+use Rattle.fw_account.specs.Account.{Pending, Allocation, Account, allocated, remainder, is_free, is_open}
+use Rattle.fw_account.specs.Moves.{AllocateChannel, AllocateUnits, ReleaseUnits, ReleaseChannel, after}
+use Rattle.fw_account.specs.Sound.{IsSound}
+use Rattle.fw_account.specs.Words.{channel_word}
 use Rattle.fw_base.specs.Tables.{update}
 use Rattle.fw_plug.specs.Words.{flag}
 use Rattle.fw_words.specs.Quadlet.{field}
-use Rattle.fw_ledger.proofs.Moves.{total_changed}
-use Rattle.fw_ledger.proofs.Open.{opens, taken, same_open, not_withheld}
-use Rattle.fw_ledger.proofs.Words.{free_bit, word_without}
+use Rattle.fw_account.proofs.Moves.{total_changed}
+use Rattle.fw_account.proofs.Open.{opens, taken, same_open, not_withheld}
+use Rattle.fw_account.proofs.Words.{free_bit, word_without}
 use Rattle.fw_cmp.specs.Plugs.{half_of, is_bit, with_bit, without_bit}
 
 bit_shows : (b : Bool) (w i : ℕ) → field w i i ≡ flag b → is_bit w i ≡ b

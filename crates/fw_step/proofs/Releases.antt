@@ -5,12 +5,12 @@ use Rattle.std.proofs.lemmas.Bool.Decides.{nat_tests}
 use Rattle.fw_base.proofs.Tables.{update_plug_same}
 use Rattle.fw_csr.specs.declared.reply.Reply.{Reply}
 use Rattle.fw_plug.specs.Words.{is_connected}
-use Rattle.fw_ledger.specs.Account.{Pending, Account, counter, has_connection, remainder}
-use Rattle.fw_ledger.specs.Moves.{DisconnectOutput, ReleaseUnits, ReleaseChannel, Can, after, HasConnection, drop_connection}
-use Rattle.fw_ledger.specs.Network.{is_output}
-use Rattle.fw_ledger.specs.Sound.{IsSound}
-use Rattle.fw_ledger.specs.Words.{channel_word}
-use Rattle.fw_ledger.proofs.Connections.{had_connection, fewer_connections}
+use Rattle.fw_account.specs.Account.{Pending, Account, counter, has_connection, remainder}
+use Rattle.fw_account.specs.Moves.{DisconnectOutput, ReleaseUnits, ReleaseChannel, Can, after, HasConnection, drop_connection}
+use Rattle.fw_account.specs.Network.{is_output}
+use Rattle.fw_account.specs.Sound.{IsSound}
+use Rattle.fw_account.specs.Words.{channel_word}
+use Rattle.fw_account.proofs.Connections.{had_connection, fewer_connections}
 use Rattle.fw_cmp.specs.declared.job.Job.{Job}
 use Rattle.fw_cmp.specs.declared.job.Then.{Then}
 use Rattle.fw_cmp.specs.declared.job.Then.TheVariants.{EndsAs}

@@ -12,20 +12,20 @@ use Rattle.fw_entry.specs.declared.entry.Entry.TheVariants.{Async}
 use Rattle.fw_entry.specs.declared.entry.ResetEntry.{ResetEntry}
 use Rattle.fw_entry.specs.declared.nodes.NodeRow.{NodeRow}
 use Rattle.fw_base.specs.Tables.{at_plug}
-use Rattle.fw_ledger.specs.Account.{Account, is_open}
-use Rattle.fw_ledger.specs.Fold.{next_account}
-use Rattle.fw_ledger.specs.Moves.{Move, after}
-use Rattle.fw_ledger.specs.Decode.{IsMove}
-use Rattle.fw_ledger.proofs.Moves.{moves_keep}
-use Rattle.fw_ledger.proofs.Words.{bits_below}
+use Rattle.fw_account.specs.Account.{Account, is_open}
+use Rattle.fw_account.specs.Fold.{next_account}
+use Rattle.fw_account.specs.Moves.{Move, after}
+use Rattle.fw_account.specs.Decode.{IsMove}
+use Rattle.fw_account.proofs.Moves.{moves_keep}
+use Rattle.fw_account.proofs.Words.{bits_below}
 use Rattle.fw_entry.specs.Network.{first_id, row_of_node}
-use Rattle.fw_ledger.specs.Network.{is_output, is_input, is_output_of, is_input_of}
-use Rattle.fw_ledger.specs.Packets.{asked, ended}
-use Rattle.fw_ledger.specs.Sound.{IsSound}
-use Rattle.fw_ledger.specs.Words.{first_address, first_output, first_input, register_of, output_addressed, word_of}
-use Rattle.fw_ledger.proofs.Accesses.{after_read_request, after_lock_request, after_read_reply, after_failed_swap, after_refused_lock, after_move as after_moved}
-use Rattle.fw_ledger.proofs.Bounds.{word_below}
-use Rattle.fw_ledger.proofs.Places.{device_at_id, register_at_address, bandwidth_at, channels_high_at, channels_low_at, output_at, input_at, addresses_output, addresses_no_input, addresses_no_manager}
+use Rattle.fw_account.specs.Network.{is_output, is_input, is_output_of, is_input_of}
+use Rattle.fw_account.specs.Packets.{asked, ended}
+use Rattle.fw_account.specs.Sound.{IsSound}
+use Rattle.fw_account.specs.Words.{first_address, first_output, first_input, register_of, output_addressed, word_of}
+use Rattle.fw_account.proofs.Accesses.{after_read_request, after_lock_request, after_read_reply, after_failed_swap, after_refused_lock, after_move as after_moved}
+use Rattle.fw_account.proofs.Bounds.{word_below}
+use Rattle.fw_account.proofs.Places.{device_at_id, register_at_address, bandwidth_at, channels_high_at, channels_low_at, output_at, input_at, addresses_output, addresses_no_input, addresses_no_manager}
 use Rattle.fw_cmp.specs.declared.request.Access.{Access}
 use Rattle.fw_cmp.specs.declared.request.Target.{Target}
 use Rattle.fw_cmp.specs.declared.request.Target.TheVariants.{OutputPlug, InputPlug, Channels, BandwidthAvailable}

@@ -4,11 +4,11 @@ use Rattle.fw_base.specs.declared.plug.ConnectionKind.{ConnectionKind}
 use Rattle.std.proofs.Common.{◌≡◌, ℕ, ◌<◌, Bool, true, false, Option, Some, None, is_some, cond, refl, ap, subst, sym, ◌∙◌, arith}
 use Rattle.fw_entry.specs.declared.entry.ResetEntry.{ResetEntry}
 use Rattle.fw_plug.specs.Words.{Settings}
-use Rattle.fw_ledger.specs.Account.{Account, has_connection, talks}
-use Rattle.fw_ledger.specs.Events.{after_reset}
-use Rattle.fw_ledger.specs.Network.{is_output}
-use Rattle.fw_ledger.specs.Sound.{IsSound}
-use Rattle.fw_ledger.proofs.Events.{reset_reclaimable}
+use Rattle.fw_account.specs.Account.{Account, has_connection, talks}
+use Rattle.fw_account.specs.Events.{after_reset}
+use Rattle.fw_account.specs.Network.{is_output}
+use Rattle.fw_account.specs.Sound.{IsSound}
+use Rattle.fw_account.proofs.Events.{reset_reclaimable}
 use Rattle.fw_cmp.specs.declared.connection.Connection.{Connection}
 use Rattle.fw_cmp.specs.declared.connection.Flow.{Flow}
 use Rattle.fw_cmp.specs.declared.connection.Slot.{Slot}

@@ -2,9 +2,9 @@
 use Rattle.fw_base.specs.declared.plug.PlugAt.{PlugAt}
 use Rattle.std.proofs.Common.{◌≡◌, ℕ, Bool, true, Some, refl, ap, subst, sym, ◌∙◌, arith}
 use Rattle.fw_plug.specs.Words.{Settings}
-use Rattle.fw_ledger.specs.Account.{Account, has_connection}
-use Rattle.fw_ledger.specs.Network.{is_output, is_input}
-use Rattle.fw_ledger.specs.Sound.{IsSound}
+use Rattle.fw_account.specs.Account.{Account, has_connection}
+use Rattle.fw_account.specs.Network.{is_output, is_input}
+use Rattle.fw_account.specs.Sound.{IsSound}
 use Rattle.fw_cmp.specs.declared.job.Job.{Job}
 use Rattle.fw_cmp.specs.declared.stage.Stage.{Stage}
 use Rattle.fw_cmp.specs.declared.stage.Stage.TheVariants.{ReadInput, ConnectInput, ReadInputToLeave, LeaveInput, ReadOutputToLeave, LeaveOutput, Made}

@@ -4,25 +4,25 @@ use Rattle.fw_base.specs.declared.plug.ConnectionKind.{ConnectionKind}
 use Rattle.fw_base.specs.declared.plug.ConnectionKind.TheVariants.{PointToPoint, Broadcast}
 use Rattle.std.proofs.Common.{◌≡◌, ◌≢◌, ℕ, ◌+◌, ◌-◌, ◌^◌, ◌<◌, Bool, true, false, Some, None, refl, ap, subst, sym, ◌∙◌, arith, ◌⊎◌, inl, inr}
 use Rattle.std.proofs.lemmas.Bool.{cases_eq}
-use Rattle.fw_ledger.proofs.Bounds.{word_below}
-use Rattle.fw_ledger.proofs.Words.{bits_below}
-use Rattle.fw_ledger.specs.Words.{word_of}
+use Rattle.fw_account.proofs.Bounds.{word_below}
+use Rattle.fw_account.proofs.Words.{bits_below}
+use Rattle.fw_account.specs.Words.{word_of}
 use Rattle.fw_csr.specs.declared.reply.Reply.{Reply}
 use Rattle.fw_entry.specs.declared.entry.ResetEntry.{ResetEntry}
-use Rattle.fw_ledger.specs.Account.{Account, is_open}
-use Rattle.fw_ledger.specs.Events.{after_reset, after_second, after_death, after_withholding}
-use Rattle.fw_ledger.specs.Events.{no_connections}
-use Rattle.fw_ledger.specs.Fold.{no_account}
-use Rattle.fw_ledger.specs.Listing.{IsAllocatedForFlows}
-use Rattle.fw_ledger.proofs.Listing.{flows_alone}
-use Rattle.fw_ledger.proofs.Fold.{starts_sound}
-use Rattle.fw_ledger.specs.Moves.{HasNoPending}
+use Rattle.fw_account.specs.Account.{Account, is_open}
+use Rattle.fw_account.specs.Events.{after_reset, after_second, after_death, after_withholding}
+use Rattle.fw_account.specs.Events.{no_connections}
+use Rattle.fw_account.specs.Fold.{no_account}
+use Rattle.fw_account.specs.Listing.{IsAllocatedForFlows}
+use Rattle.fw_account.proofs.Listing.{flows_alone}
+use Rattle.fw_account.proofs.Fold.{starts_sound}
+use Rattle.fw_account.specs.Moves.{HasNoPending}
 use Rattle.fw_entry.specs.Network.{IsNetwork}
-use Rattle.fw_ledger.specs.Packets.{asked, ended}
-use Rattle.fw_ledger.specs.Sound.{IsSound}
-use Rattle.fw_ledger.proofs.Events.{reset_keeps, second_ends, withholding_keeps as withholding_sound}
-use Rattle.fw_ledger.proofs.Deaths.{death_keeps as death_sound}
-use Rattle.fw_ledger.proofs.Packets.{asked_keeps as asked_sound, ended_keeps as ended_sound}
+use Rattle.fw_account.specs.Packets.{asked, ended}
+use Rattle.fw_account.specs.Sound.{IsSound}
+use Rattle.fw_account.proofs.Events.{reset_keeps, second_ends, withholding_keeps as withholding_sound}
+use Rattle.fw_account.proofs.Deaths.{death_keeps as death_sound}
+use Rattle.fw_account.proofs.Packets.{asked_keeps as asked_sound, ended_keeps as ended_sound}
 use Rattle.fw_cmp.specs.declared.connection.Connection.{Connection}
 use Rattle.fw_cmp.specs.declared.connection.Flow.{Flow}
 use Rattle.fw_cmp.specs.declared.connection.Slot.TheVariants.{Standing, Restoring}

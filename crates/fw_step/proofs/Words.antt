@@ -7,9 +7,9 @@ use Rattle.fw_base.proofs.Tables.{sum_to_at}
 use Rattle.fw_words.specs.Quadlet.{field}
 use Rattle.fw_plug.specs.Words.{Settings, FitsRegister, OutFields, out_fields, out_word, InFields, in_word, is_connected}
 use Rattle.fw_plug.proofs.Words.{fields_of_word, in_fields_of_word}
-use Rattle.fw_ledger.specs.Account.{Owner, Connections, counter, has_connection, is_there}
-use Rattle.fw_ledger.specs.Moves.{HasConnection, HasRoom, add_connection, drop_connection}
-use Rattle.fw_ledger.proofs.Connections.{counter_changed}
+use Rattle.fw_account.specs.Account.{Owner, Connections, counter, has_connection, is_there}
+use Rattle.fw_account.specs.Moves.{HasConnection, HasRoom, add_connection, drop_connection}
+use Rattle.fw_account.proofs.Connections.{counter_changed}
 use Rattle.fw_cmp.specs.Plugs.{has_broadcast, counter_of, channel_of, overhead_of, is_full, shows_connection, one_more, one_less, with_channel, with_overhead, units_with, remainder_of}
 use Rattle.fw_step.specs.InStep.{units_at}
 

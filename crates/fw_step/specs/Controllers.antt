@@ -1,9 +1,9 @@
 -- A controller in step with the account: what its slots and its current job say that it has, it has, and nothing else.
 use Rattle.std.specs.Prelude.{ℕ, ◌≡◌, ◌≢◌, ◌<◌, Bool, true, false, Some, None, IsTrue, IsFalse, ⊤}
 use Rattle.fw_base.specs.declared.plug.PlugAt.{PlugAt}
-use Rattle.fw_ledger.specs.Account.{Account, Request}
-use Rattle.fw_ledger.specs.Packets.{asked}
-use Rattle.fw_ledger.specs.Network.{is_output}
+use Rattle.fw_account.specs.Account.{Account, Request}
+use Rattle.fw_account.specs.Packets.{asked}
+use Rattle.fw_account.specs.Network.{is_output}
 use Rattle.fw_cmp.specs.declared.connection.Connection.{Connection}
 use Rattle.fw_cmp.specs.declared.connection.Flow.{Flow}
 use Rattle.fw_cmp.specs.declared.connection.Slot.{Slot}

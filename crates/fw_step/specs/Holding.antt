@@ -5,8 +5,8 @@ use Rattle.fw_base.specs.declared.plug.ConnectionKind.TheVariants.{PointToPoint,
 use Rattle.std.specs.Prelude.{ℕ, ◌+◌, ◌-◌, ◌==◌, ◌≡◌, ◌<◌, Bool, true, false, ◌&&◌, if◌then◌else◌, Option, Some, None, IsTrue}
 use Rattle.fw_base.specs.Tables.{same_plug}
 use Rattle.fw_plug.specs.Words.{units_of}
-use Rattle.fw_ledger.specs.Account.{Pending, Allocation, Owner, Of, Dead, Connections, Account, has_connection}
-use Rattle.fw_ledger.specs.Moves.{Move, AllocateChannel, AllocateUnits, ConnectFirst, ConnectOverlaid, ConnectInput, DisconnectInput, DisconnectOutput, ReleaseUnits, ReleaseChannel, HasNoPending, drop_connection}
+use Rattle.fw_account.specs.Account.{Pending, Allocation, Owner, Of, Dead, Connections, Account, has_connection}
+use Rattle.fw_account.specs.Moves.{Move, AllocateChannel, AllocateUnits, ConnectFirst, ConnectOverlaid, ConnectInput, DisconnectInput, DisconnectOutput, ReleaseUnits, ReleaseChannel, HasNoPending, drop_connection}
 
 -- a channel that is allocated for an output plug with no connection yet, or no longer, and the units with it, 0 where there are none
 pub record Reservation : Type 0 where

@@ -4,11 +4,11 @@ use Rattle.fw_base.specs.declared.plug.PlugAt.{PlugAt}
 use Rattle.fw_csr.specs.declared.request.Swap.{Swap}
 use Rattle.fw_csr.specs.declared.reply.Reply.{Reply}
 use Rattle.fw_plug.specs.Words.{Settings, units_of, is_connected}
-use Rattle.fw_ledger.specs.Account.{Account}
-use Rattle.fw_ledger.specs.Network.{is_output, is_input}
-use Rattle.fw_ledger.specs.Decode.{IsMove}
-use Rattle.fw_ledger.specs.Moves.{Move}
-use Rattle.fw_ledger.specs.Words.{Register, BandwidthAvailable, ChannelsAvailable, OutputPlug, InputPlug}
+use Rattle.fw_account.specs.Account.{Account}
+use Rattle.fw_account.specs.Network.{is_output, is_input}
+use Rattle.fw_account.specs.Decode.{IsMove}
+use Rattle.fw_account.specs.Moves.{Move}
+use Rattle.fw_account.specs.Words.{Register, BandwidthAvailable, ChannelsAvailable, OutputPlug, InputPlug}
 use Rattle.fw_cmp.specs.declared.connection.Flow.{Flow}
 use Rattle.fw_cmp.specs.declared.job.Job.{Job}
 use Rattle.fw_cmp.specs.declared.job.Held.{Held}

@@ -6,9 +6,9 @@ use Rattle.fw_entry.specs.declared.entry.Entry.{Entry}
 use Rattle.fw_entry.specs.declared.entry.Entry.TheVariants.{Reset, Async, Event}
 use Rattle.fw_entry.specs.declared.entry.ResetEntry.{ResetEntry}
 use Rattle.fw_plug.specs.Plugs.{is_active}
-use Rattle.fw_ledger.specs.Account.{Account}
-use Rattle.fw_ledger.specs.Network.{is_output}
-use Rattle.fw_ledger.specs.Words.{OutputPlug, word_of}
+use Rattle.fw_account.specs.Account.{Account}
+use Rattle.fw_account.specs.Network.{is_output}
+use Rattle.fw_account.specs.Words.{OutputPlug, word_of}
 
 abbrev pub NoneLingers : Account → Type 0
 NoneLingers l = (p : PlugAt) → IsFalse (l.continues p)

@@ -12,9 +12,10 @@ use std::test::Fail;
 #[test]
 fn words_that_are_no_form_read_and_write_nothing(rt: HostRuntime) -> Result<(), Fail> {
     let alloc = rt.alloc();
-    let cases: [&[&str]; 15] = [
+    let cases: [&[&str]; 25] = [
         &[],
         &["run", "x"],
+        &["dub", "x"],
         &["walk"],
         &["run "],
         &["decode", "decode"],
@@ -23,7 +24,16 @@ fn words_that_are_no_form_read_and_write_nothing(rt: HostRuntime) -> Result<(), 
         &["convert", "1", "2"],
         &["explain", "x"],
         &["map", "png"],
+        &["gen"],
+        &["gen", ""],
+        &["gen", "01"],
         &["gen", "007"],
+        &["gen", "+1"],
+        &["gen", "-1"],
+        &["gen", "1 "],
+        &["gen", "4294967296"],
+        &["gen", "1", "2"],
+        &["1", "gen"],
         &["help", "help"],
         &["--version", "1"],
         &["-v"],
@@ -59,9 +69,11 @@ fn the_program_says_what_it_is(rt: HostRuntime) -> Result<(), Fail> {
                 front(ended.output.as_slice(), first.len()) == first.as_bytes(),
                 "{word}"
             );
-            let cut = call(alloc, &[word], b"", failing)?;
-            assert!(rt; cut.is(6, "write fault\n", b""), "{word}");
         }
+    }
+    for words in [["help"].as_slice(), &["version"], &["gen", "7"]] {
+        let cut = call(alloc, words, b"", failing)?;
+        assert!(rt; cut.is(6, "write fault\n", b""), "{words:?}");
     }
     Ok(())
 }

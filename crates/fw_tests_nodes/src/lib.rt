@@ -1,7 +1,9 @@
-//! Tests of registers and decks: frames, tapes, units, the manager's registers, plugs, nodes and devices. Nothing stands on
-//! this crate.
+//! Tests of registers and decks: frames, tapes, reels, units, the manager's registers, candidates for the bus manager, plugs,
+//! nodes and devices. Nothing stands on this crate.
 #![tactic(auto)]
 
+#[cfg(test)]
+mod candidates;
 #[cfg(test)]
 mod devices;
 #[cfg(test)]
@@ -12,6 +14,8 @@ mod manager;
 mod nodes;
 #[cfg(test)]
 mod plugs;
+#[cfg(test)]
+mod reels;
 #[cfg(test)]
 mod tapes;
 #[cfg(test)]

@@ -25,7 +25,7 @@ fn said(alloc: Global, line: &[u8]) -> Result<Result<Option<Command>, ScriptFaul
 }
 
 /// Lines and what they say, where `a` is the device's name.
-fn lines(a: Name) -> [(&'static [u8], Command); 29] {
+fn lines(a: Name) -> [(&'static [u8], Command); 32] {
     [
         (b"withhold", Command::Withhold),
         (b"device a relay 1 100", Command::Device(a, 0, 1, 0)),
@@ -64,6 +64,9 @@ fn lines(a: Name) -> [(&'static [u8], Command); 29] {
         (b"eject a", Command::Eject(a)),
         (b"show manager 224", Command::Show(None, 0x224)),
         (b"show a 904", Command::Show(Some(a), 0x904)),
+        (b"candidate a", Command::Candidate(a)),
+        (b"contend a 10000", Command::Contend(a, 10_000)),
+        (b"dub a", Command::Dub(a)),
         (b"end", Command::End),
     ]
 }
@@ -118,7 +121,8 @@ const NO_COMMANDS: &str = "\
     cable a.00 a.1|cable a.01 a.1|cable a. a.1|cable .0 a.1|cable a a.1|cable a.0.0 a.1|cable a.-1 a.1|\
     connect a a.0 a.0 00 0|connect a a.0 a.0 any 00|break a 00|step a 01|settle 01|wait 00|cycles 01|\
     insert a 00 525|reset manager|reset any|reset late|reset A|reset 9a|reset a-b|reset a.0|reset abcdefghijklmnopq|\
-    show any 904|cable any.0 a.0|read manager a 904|reset  a";
+    show any 904|cable any.0 a.0|read manager a 904|reset  a|candidate|candidate a a|candidate manager|contend a|\
+    contend a 1 1|contend 1|contend a 0|contend a 10001|contend a 01|dub|dub a a|dub a.0";
 
 /// The same with bytes that part no words, and are in none.
 const NO_WORDS: [&[u8]; 15] = [

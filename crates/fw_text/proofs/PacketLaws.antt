@@ -8,13 +8,14 @@ use Rattle.fw_async.specs.declared.packet.Packet.TheVariants.{WriteQuadlet, Writ
 use Rattle.fw_async.proofs.NeedLaws.{need_most}
 use Rattle.fw_async.proofs.SpelledLaws.{spelled_need, spelled_none, spelled_tcode}
 use Rattle.fw_entry.specs.declared.entry.Entry.TheVariants.{Async}
-use Rattle.fw_text.specs.Names.{tcode_in, packet_name}
+use Rattle.fw_names.specs.Names.{tcode}
+use Rattle.fw_text.specs.Names.{packet_name}
 use Rattle.fw_text.specs.Line.{quadlets_text, entry_line}
 
 pub at_most : (p : Packet) (bytes : List ℕ) → Spells p bytes → length bytes ≤ 528
 at_most p bytes s = omega (arith, ap length s.same, spelled_need p s.fits, need_most (spelling p) (spelled_none p s.fits))
 
-code_of : (p : Packet) → Fits p → tcode_of (spelling p) ≡ tcode_in p
+code_of : (p : Packet) → Fits p → tcode_of (spelling p) ≡ tcode p
 code_of (WriteQuadlet h offset value) f = spelled_tcode 0 h (drop 4 (spelling (WriteQuadlet h offset value))) (omega arith) f.0
 code_of (WriteBlock h offset bytes) f = spelled_tcode 1 h (drop 4 (spelling (WriteBlock h offset bytes))) (omega arith) f.0
 code_of (WriteReply h rcode) f = spelled_tcode 2 h (drop 4 (spelling (WriteReply h rcode))) (omega arith) f.0
@@ -26,7 +27,7 @@ code_of (CycleStart h offset time) f = spelled_tcode 8 h (drop 4 (spelling (Cycl
 code_of (Lock h offset function bytes) f = spelled_tcode 9 h (drop 4 (spelling (Lock h offset function bytes))) (omega arith) f.0
 code_of (LockReply h rcode function bytes) f = spelled_tcode 11 h (drop 4 (spelling (LockReply h rcode function bytes))) (omega arith) f.0
 
-pub code_in : (p : Packet) (bytes : List ℕ) → Spells p bytes → tcode_of bytes ≡ tcode_in p
+pub code_in : (p : Packet) (bytes : List ℕ) → Spells p bytes → tcode_of bytes ≡ tcode p
 code_in p bytes s = ap tcode_of (sym s.same) ∙ code_of p s.fits
 
 -- a cycle, a name and the quadlets are the line of the packet's entry

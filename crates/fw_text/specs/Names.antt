@@ -16,19 +16,6 @@ packet_name (CycleStart h offset time) = codes "cycle-start"
 packet_name (Lock h offset function bytes) = codes "lock"
 packet_name (LockReply h rcode function bytes) = codes "lock-reply"
 
--- the transaction code of a packet
-abbrev pub tcode_in : Packet → ℕ
-tcode_in (WriteQuadlet h offset value) = 0
-tcode_in (WriteBlock h offset bytes) = 1
-tcode_in (WriteReply h rcode) = 2
-tcode_in (ReadQuadlet h offset) = 4
-tcode_in (ReadBlock h offset len) = 5
-tcode_in (ReadQuadletReply h rcode value) = 6
-tcode_in (ReadBlockReply h rcode bytes) = 7
-tcode_in (CycleStart h offset time) = 8
-tcode_in (Lock h offset function bytes) = 9
-tcode_in (LockReply h rcode function bytes) = 11
-
 -- the names of the event codes from 1 on
 abbrev pub event_names : List (List ℕ)
 event_names = codes "second-over" ∷ codes "died" ∷ codes "started" ∷ codes "inserted" ∷ codes "ejected" ∷ codes "unsettled"

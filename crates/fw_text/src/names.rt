@@ -2,7 +2,8 @@
 
 ghost use Rattle.std.specs.Prelude.{◌≡◌, ◌≤◌, ◌++◌, codes};
 ghost use Rattle.fw_async.specs.declared.packet.Packet.{Packet as APacket};
-ghost use Rattle.fw_text.specs.Names.{packet_name, tcode_in, event_name, outcome_name};
+ghost use Rattle.fw_names.specs.Names.{tcode};
+ghost use Rattle.fw_text.specs.Names.{packet_name, event_name, outcome_name};
 
 use crate::rows::Row;
 use fw_async::Packet;
@@ -28,7 +29,7 @@ pub(crate) fn packet_name(p: &Packet) -> &'static str
 
 // What the line of a packet of this transaction code begins with, behind its cycle.
 pub(crate) fn word_by_code(code: u32) -> Row<'static>
-    ensures { (p : APacket) → code ≡ tcode_in p → result ≡ codes "async " ++ packet_name p }
+    ensures { (p : APacket) → code ≡ tcode p → result ≡ codes "async " ++ packet_name p }
 {
     match code {
         0 => Row::new(b"async write-quadlet     ", 19),

@@ -1,7 +1,7 @@
 //! The two hexadecimal digits of each byte.
 
 ghost use Rattle.std.specs.Prelude.{◌≡◌};
-ghost use Rattle.fw_text.specs.Digits.{byte_digits, IsTable};
+ghost use Rattle.fw_names.specs.Digits.{byte_digits, IsTable};
 
 const DIGITS: [u8; 16] = *b"0123456789abcdef";
 

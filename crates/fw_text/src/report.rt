@@ -1,8 +1,10 @@
 //! The report of a log's streams.
 
 ghost use Rattle.std.specs.Prelude.{ℕ, ◌≡◌, ◌+◌, ◌-◌, ◌^◌, ◌<◌, ◌≤◌, ◌++◌, ◌∷◌, [], List, length, IfOk, OnOk, string_bytes};
+ghost use Rattle.fw_cip.specs.Iso.{Fits as IsoFits};
 ghost use Rattle.fw_cip.specs.declared.packet.IsoPacket.{IsoPacket};
 ghost use Rattle.fw_entry.specs.Log.{Fits};
+ghost use Rattle.fw_entry.specs.declared.entry.Entry.TheVariants.{Iso};
 ghost use Rattle.fw_entry.specs.declared.entry.Timed.{Timed};
 ghost use Rattle.fw_text.specs.Report.{counts_text, channel_text, report_text};
 
@@ -110,9 +112,19 @@ impl StreamReport {
         ensures { (entries : List Timed) → length entries + 1 < 2 ^ 64 → Reports entries self.old → Reports (entries ++ entry.now ∷ []) self.new }
     {
         if let Entry::Iso(packet) = &entry.what {
-            let number = usize::from(packet.channel);
-            self.channels[number] = self.channels[number].take(packet);
+            self.take_packet(packet);
         }
+    }
+
+    /// Counts the entry of an isochronous packet more, as `take` does.
+    #[inline(always)]
+    pub fn take_packet(&mut self, packet: &IsoPacket)
+        requires { IsoFits packet.now }
+        ensures { (entries : List Timed) → (entry : Timed) → entry.what ≡ Iso packet.now → length entries + 1 < 2 ^ 64
+            → Reports entries self.old → Reports (entries ++ entry ∷ []) self.new }
+    {
+        let number = usize::from(packet.channel);
+        self.channels[number] = self.channels[number].take(packet);
     }
 
     /// The report's lines: one for each channel that has packets, in order. An error says that memory ran out, and

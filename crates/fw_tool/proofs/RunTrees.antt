@@ -12,9 +12,9 @@ use Rattle.fw_tree.specs.Topology.{Topology, Made}
 use Rattle.fw_map.specs.declared.tree.Tree.{Tree}
 use Rattle.fw_map.specs.Trees.{HasPackets}
 use Rattle.fw_map.specs.Identified.{IsTreeOf}
-use Rattle.fw_ledger.specs.Account.{Account}
-use Rattle.fw_ledger.specs.Events.{after_reset}
-use Rattle.fw_ledger.specs.Fold.{account_from, entries_of, next_account, next_of, no_account}
+use Rattle.fw_account.specs.Account.{Account}
+use Rattle.fw_account.specs.Events.{after_reset}
+use Rattle.fw_account.specs.Fold.{account_from, entries_of, next_account, next_of, no_account}
 use Rattle.fw_run.specs.Actions.{Action, Step, Steps}
 use Rattle.fw_run.specs.Good.{IsGood, IsLatest}
 use Rattle.fw_run.specs.Headline.{IsSoundThroughout}

@@ -10,13 +10,14 @@ use Rattle.fw_decode.specs.Words.{Accepts}
 use Rattle.fw_decode.specs.Verdicts.{IsSoundLog}
 use Rattle.fw_decode.specs.declared.word.LogWord.{LogWord}
 use Rattle.fw_decode.specs.declared.word.LogWord.TheVariants.{Decode, Explain, Json, Dv, Convert, Audit, Map, Graph}
+use Rattle.fw_simulate.specs.declared.word.ScriptWord.TheVariants.{Run, Dub}
 use Rattle.fw_decode.specs.Maps.{HasTree}
 use Rattle.fw_decode.specs.Trees.{last_reset}
 use Rattle.fw_tool.specs.Laws.{HasItsReset}
 use Rattle.fw_tool.specs.Words.{Spells, HasSeed, Names, texts}
 use Rattle.fw_tool.specs.declared.about.About.TheVariants.{Help, Version}
 use Rattle.fw_tool.specs.declared.words.Word.{Word}
-use Rattle.fw_tool.specs.declared.words.Word.TheVariants.{Run, Gen, Log, About}
+use Rattle.fw_tool.specs.declared.words.Word.TheVariants.{Script, Gen, Log, About}
 
 -- the number that a decimal text is read as
 pub read_back : {E : Type 0} (n : ℕ) (text : List ℕ) (r : Result ℕ E) → n < 2 ^ 32 → text ≡ decimal n → ParsesUnsigned 32 10 text r → r ≡ Ok n
@@ -32,7 +33,8 @@ pub many_words : (words : List (String Global)) → 3 ≤ length words → (w : 
 many_words [] many w e h = omega (arith, many)
 many_words (a ∷ []) many w e h = omega (arith, many)
 many_words (a ∷ b ∷ []) many w e h = omega (arith, many)
-many_words (a ∷ b ∷ c ∷ more) many Run e h = cc e
+many_words (a ∷ b ∷ c ∷ more) many (Script Run) e h = cc e
+many_words (a ∷ b ∷ c ∷ more) many (Script Dub) e h = cc e
 many_words (a ∷ b ∷ c ∷ more) many (Gen seed) e h = cc e
 many_words (a ∷ b ∷ c ∷ more) many (Log Decode) e h = cc e
 many_words (a ∷ b ∷ c ∷ more) many (Log Explain) e h = cc e

@@ -27,3 +27,10 @@ pub record IsFirstFaults (status read read' written written' noted noted' : ℕ)
   pub read_fault : status ≡ 5 → Rose read read' × (written' ≡ written) × (noted' ≡ noted)
   pub write_fault : status ≡ 6
       → ((read' ≡ read) × Rose written written' × (noted' ≡ noted)) ⊎ (Rose noted noted' × ((read' ≡ read) ⊎ (written' ≡ written)))
+
+-- The same of a call whose last flush comes behind what the words came to. A write fault that only the flush shows is told in the place of
+-- any other, so the source's count may have risen too.
+pub record IsToldByStatus (status read read' written written' noted noted' : ℕ) : Type 0 where
+  pub no_fault : status ≢ 5 → status ≢ 6 → (read' ≡ read) × (written' ≡ written) × (noted' ≡ noted)
+  pub read_fault : status ≡ 5 → Rose read read' × (written' ≡ written) × (noted' ≡ noted)
+  pub write_fault : status ≡ 6 → (Rose written written' × (noted' ≡ noted)) ⊎ Rose noted noted'

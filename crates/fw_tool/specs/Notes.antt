@@ -16,7 +16,7 @@ use Rattle.fw_text.specs.Line.{quadlet_text}
 use Rattle.fw_decode.specs.declared.refusal.NoMap.{NoMap as Unmapped}
 use Rattle.fw_decode.specs.declared.refusal.NoMap.TheVariants.{NoReset, NoTree}
 use Rattle.fw_run.specs.declared.rule.RuleFault.{RuleFault}
-use Rattle.fw_run.specs.declared.rule.RuleFault.TheVariants.{UnknownName, NameTaken, TooMany, NoPort, PortUsed, Loop, NotController, Guarded, NoRegister, Limit, TableFull, Busy, NoSuchConnection, NotOwnPlug, OffBus, NoDeck, NothingStands, TooLate}
+use Rattle.fw_run.specs.declared.rule.RuleFault.TheVariants.{UnknownName, NameTaken, TooMany, NoPort, PortUsed, Loop, NotController, Guarded, NoRegister, Limit, TableFull, Busy, NoSuchConnection, NotOwnPlug, OffBus, NoDeck, NothingStands, TooLate, NotCapable, NotCandidate}
 use Rattle.fw_simulate.specs.declared.ending.Refusal.{Refusal}
 use Rattle.fw_simulate.specs.declared.ending.Refusal.TheVariants.{BadLine, LineTooLong, NoEnd, Rule}
 
@@ -61,6 +61,8 @@ rule_of OffBus = codes ": OffBus" ++ 10 ∷ []
 rule_of NoDeck = codes ": NoDeck" ++ 10 ∷ []
 rule_of NothingStands = codes ": NothingStands" ++ 10 ∷ []
 rule_of TooLate = codes ": TooLate" ++ 10 ∷ []
+rule_of NotCapable = codes ": NotCapable" ++ 10 ∷ []
+rule_of NotCandidate = codes ": NotCandidate" ++ 10 ∷ []
 
 abbrev pub name_of : Refusal → List ℕ
 name_of BadLine = codes ": BadLine" ++ 10 ∷ []

@@ -9,10 +9,11 @@ ghost use Rattle.fw_decode.specs.Words.{form_by, rules_by, Accepts};
 ghost use Rattle.fw_decode.specs.declared.refusal.LogRefusal.{LogRefusal};
 ghost use Rattle.fw_decode.specs.declared.word.LogWord.{LogWord};
 ghost use Rattle.fw_gen.specs.Gen.{script_of};
-ghost use Rattle.fw_simulate.specs.Ending.{Runs};
 ghost use Rattle.fw_simulate.specs.Scripts.{IsValid};
 ghost use Rattle.fw_simulate.specs.Sums.{Sums};
+ghost use Rattle.fw_simulate.specs.Words.{RunsAs};
 ghost use Rattle.fw_simulate.specs.declared.ending.RunEnding.{RunEnding};
+ghost use Rattle.fw_simulate.specs.declared.word.ScriptWord.{ScriptWord};
 ghost use Rattle.fw_tape.specs.Desks.{AnyBlock, AnyVendorByte};
 ghost use Rattle.fw_tool.specs.About.{about_text, IsSaid};
 ghost use Rattle.fw_tool.specs.Completing.{IsDoneOrUnmet};
@@ -32,7 +33,7 @@ use crate::scripts::ending_of_run;
 use crate::words::Word;
 use fw_decode::read_as;
 use fw_outside::{Sink, Source, Stop};
-use fw_simulate::{run, run_seed};
+use fw_simulate::{run_as, run_seed};
 use fw_tape::Desk;
 use std::alloc::Global;
 
@@ -45,8 +46,8 @@ pub(crate) fn carry_out<
 >(alloc: Global, words: &[String], source: &mut S, sink: &mut K, desk: &Desk<F, H>) -> Ending
     requires blocks { AnyBlock (F.pre desk.now.blocks) }
     requires desk { AnyVendorByte (H.pre desk.now.vendor) }
-    ensures run { IsWord words.now AWord.Run → (e : RunEnding) × (result ≡ by_run e)
-        × Runs (record { blocks = F.post desk.now.blocks; vendor = H.post desk.now.vendor }) (S.left source.old) (S.left source.new) (K.held sink.old) (K.held sink.new) e }
+    ensures scripts { (word : ScriptWord) → IsWord words.now (AWord.Script word) → (e : RunEnding) × (result ≡ by_run e)
+        × RunsAs (record { blocks = F.post desk.now.blocks; vendor = H.post desk.now.vendor }) word (S.left source.old) (S.left source.new) (K.held sink.old) (K.held sink.new) e }
     ensures sums { (seed : ℕ) → IsWord words.now (AWord.Gen seed) → (source.new ≡ source.old) × ((e : RunEnding) × (result ≡ by_run e)
         × Sums (record { blocks = F.post desk.now.blocks; vendor = H.post desk.now.vendor }) seed (K.held sink.old) (K.held sink.new) e) }
     ensures logs { (word : LogWord) → IsWord words.now (AWord.Log word) → (e : LogEnding LogRefusal) × (result ≡ by_log e)
@@ -55,7 +56,7 @@ pub(crate) fn carry_out<
         × IsSaid (K.held sink.old) (K.held sink.new) (about_text about) result }
     ensures usage { (IsListed words.now → ⊥) → (source.new ≡ source.old) × (sink.new ≡ sink.old) × (result ≡ AnEnding.Usage) }
     ensures first { FirstFault (S.faults source.old) (S.faults source.new) (K.faults sink.old) (K.faults sink.new) result }
-    ensures complete { (script : List ℕ) → S.left source.old ≡ Some script → IsValid script → IsWord words.now AWord.Run
+    ensures complete { (word : ScriptWord) → IsWord words.now (AWord.Script word) → (script : List ℕ) → S.left source.old ≡ Some script → IsValid script
         → result ≢ AnEnding.Stopped Stop.ReadFault → result ≢ AnEnding.Stopped Stop.WriteFault → IsDoneOrUnmet result }
     ensures complete_sums { (seed : ℕ) → IsWord words.now (AWord.Gen seed) → IsValid (script_of seed) → result ≢ AnEnding.Stopped Stop.WriteFault → IsDoneOrUnmet result }
     ensures complete_log { (word : LogWord) → IsWord words.now (AWord.Log word)
@@ -66,7 +67,7 @@ pub(crate) fn carry_out<
         return Ending::Usage;
     };
     match word {
-        Word::Run => ending_of_run(run(alloc, source, sink, desk)),
+        Word::Script(word) => ending_of_run(run_as(alloc, word, source, sink, desk)),
         Word::Gen(seed) => ending_of_run(run_seed(alloc, seed, sink, desk)),
         Word::Log(word) => ending_of_log(read_as(alloc, word, source, sink)),
         Word::About(about) => say(about, sink),

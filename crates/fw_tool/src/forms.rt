@@ -9,6 +9,7 @@ use crate::about::About;
 use crate::words::Word;
 use fw_decode::LogWord;
 use fw_log::Version;
+use fw_simulate::ScriptWord;
 use itoa::Buffer;
 
 /// The number of 32 bits that a word is, in decimal digits without a leading zero.
@@ -43,7 +44,9 @@ fn one_word(word: &str) -> Option<Word>
     ensures { Names (word.now ∷ []) result }
 {
     if word == "run" {
-        Some(Word::Run)
+        Some(Word::Script(ScriptWord::Run))
+    } else if word == "dub" {
+        Some(Word::Script(ScriptWord::Dub))
     } else if word == "decode" {
         Some(Word::Log(LogWord::Decode))
     } else if word == "explain" {

@@ -1,4 +1,4 @@
-//! The program's top call: scripts in, logs and notes out; logs in, text and notes out; a seed in, a summary and notes out; what the program says of itself.
+//! The program's top call: scripts in, logs or recordings and notes out; logs in, text and notes out; a seed in, a summary and notes out; what the program says of itself.
 #![tactic(auto)]
 
 mod about;
@@ -17,7 +17,7 @@ pub use about::About;
 pub use ending::Ending;
 pub use fw_decode::{LogWord, NoMap, Unsound};
 pub use fw_gen::{GrowSink, gen_script};
-pub use fw_simulate::{Refusal, Refused};
+pub use fw_simulate::{Refusal, Refused, ScriptWord};
 pub use fw_text::entry_text;
 pub use laws::whole_logs_are_read;
 pub use notes::{NOTE_ROOM, tell};

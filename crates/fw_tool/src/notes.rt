@@ -53,6 +53,8 @@ fn rule(fault: RuleFault) -> &'static [u8]
         RuleFault::NoDeck => b": NoDeck\n",
         RuleFault::NothingStands => b": NothingStands\n",
         RuleFault::TooLate => b": TooLate\n",
+        RuleFault::NotCapable => b": NotCapable\n",
+        RuleFault::NotCandidate => b": NotCandidate\n",
     }
 }
 

@@ -8,10 +8,11 @@ ghost use Rattle.fw_decode.specs.Words.{form_by, rules_by, Accepts};
 ghost use Rattle.fw_decode.specs.declared.refusal.LogRefusal.{LogRefusal};
 ghost use Rattle.fw_decode.specs.declared.word.LogWord.{LogWord};
 ghost use Rattle.fw_gen.specs.Gen.{script_of};
-ghost use Rattle.fw_simulate.specs.Ending.{Runs};
 ghost use Rattle.fw_simulate.specs.Scripts.{IsValid};
 ghost use Rattle.fw_simulate.specs.Sums.{Sums};
+ghost use Rattle.fw_simulate.specs.Words.{RunsAs};
 ghost use Rattle.fw_simulate.specs.declared.ending.RunEnding.{RunEnding};
+ghost use Rattle.fw_simulate.specs.declared.word.ScriptWord.{ScriptWord};
 ghost use Rattle.fw_tape.specs.Desks.{AnyBlock, AnyVendorByte};
 ghost use Rattle.fw_tool.specs.About.{about_text, IsSaid};
 ghost use Rattle.fw_tool.specs.Faults.{FirstFault, IsFirstFaults};
@@ -33,8 +34,9 @@ use std::alloc::Global;
 /// Does what the words of the command line say, and answers the program's status: that of the ending that is met first,
 /// or 6 where its note is not written (`Ending` is the table).
 ///
-/// The word `run` reads a script of at most 1,048,576 bytes, carries out its commands, and writes their log; the blocks of tapes,
-/// and what a vendor makes of a byte of a command, come from the desk. The words `gen NUMBER` run the script that the number makes,
+/// The word `run` reads a script of at most 1,048,576 bytes, carries out its commands, and writes their log; `dub` carries them out
+/// alike, and writes in place of the log the blocks that were recorded, 480 bytes each. The blocks of tapes, and what a vendor makes of
+/// a byte of a command, come from the desk. The words `gen NUMBER` run the script that the number makes,
 /// from 0 to 4,294,967,295, and write six lines that count what its log holds.
 ///
 /// `help` and `version`, with `--help`, `-h`, `--version` and `-V`, write what the program says of itself, and read nothing.
@@ -54,9 +56,10 @@ pub fn fire<S: Source, K: Sink, N: Sink, F: Fn(u16, u32, u16) -> [u8; 480], H: F
     requires blocks { AnyBlock (F.pre desk.now.blocks) }
     requires desk { AnyVendorByte (H.pre desk.now.vendor) }
 
-    // What each ending of `run` says of the bytes that were taken and of the log that was written, and that it was met first.
-    ensures run { IsWord words.now AWord.Run → (e : RunEnding)
-        × Runs (record { blocks = F.post desk.now.blocks; vendor = H.post desk.now.vendor }) (S.left source.old) (S.left source.new) (K.held sink.old) (K.held sink.new) e
+    // What each ending of a word that runs a script says of the bytes that were taken, of the run of their commands and of what was
+    // written, and that it was met first.
+    ensures scripts { (word : ScriptWord) → IsWord words.now (AWord.Script word) → (e : RunEnding)
+        × RunsAs (record { blocks = F.post desk.now.blocks; vendor = H.post desk.now.vendor }) word (S.left source.old) (S.left source.new) (K.held sink.old) (K.held sink.new) e
         × FirstFault (S.faults source.old) (S.faults source.new) (K.faults sink.old) (K.faults sink.new) (by_run e)
         × IsTold N.held N.faults notes.old notes.new (by_run e) result }
 
@@ -88,7 +91,7 @@ pub fn fire<S: Source, K: Sink, N: Sink, F: Fn(u16, u32, u16) -> [u8; 480], H: F
 
     // A script of which no line is refused, be it a seed's, and a log within the limit that the word does not refuse, end with 0, or
     // 8 for want of memory, where no count rose. `help` and `version` end with 0 there.
-    ensures complete { (script : List ℕ) → S.left source.old ≡ Some script → IsValid script → IsWord words.now AWord.Run
+    ensures complete { (word : ScriptWord) → IsWord words.now (AWord.Script word) → (script : List ℕ) → S.left source.old ≡ Some script → IsValid script
         → (Rose (S.faults source.old) (S.faults source.new) → ⊥) → (Rose (K.faults sink.old) (K.faults sink.new) → ⊥)
         → (Rose (N.faults notes.old) (N.faults notes.new) → ⊥) → (result ≡ 0) ⊎ (result ≡ 8) }
     ensures complete_sums { (seed : ℕ) → IsWord words.now (AWord.Gen seed) → IsValid (script_of seed)

@@ -2,12 +2,13 @@
 
 use crate::about::About;
 use fw_decode::LogWord;
+use fw_simulate::ScriptWord;
 
 /// What the words of the command line say.
 #[derive(Clone, Copy, Debug, PartialEq, Eq)]
 pub enum Word {
-    /// `run`: to run the script that is read.
-    Run,
+    /// `run` or `dub`: to run the script that is read.
+    Script(ScriptWord),
     /// `gen NUMBER`: to run the script that the number makes.
     Gen(u32),
     /// `decode`, `explain`, `json`, `dv`, `convert 1`, `convert 2`, `audit`, `map` or `map dot`: to read a log.

@@ -4,6 +4,7 @@
 #![tactic(auto)]
 
 mod cables;
+mod candidates;
 mod decks;
 mod one_deck;
 mod seconds;
@@ -11,6 +12,7 @@ mod two_decks;
 mod version_1;
 
 pub use cables::{ABSENT_DEVICE, JOINED_IN_THE_MIDDLE};
+pub use candidates::CANDIDATES_CONTEND;
 pub use decks::TAPE_TIME_CODE;
 pub use one_deck::ONE_DECK;
 pub use seconds::SECOND_OVER_ENDS_THE_FLOW;

@@ -1,5 +1,5 @@
 use Rattle.std.proofs.Common.{◌≡◌, None, arith}
-use Rattle.fw_ledger.specs.Fold.{next_account}
+use Rattle.fw_account.specs.Fold.{next_account}
 use Rattle.fw_audit.proofs.Audits.{follows_true, refused_found, refused_some}
 use Rattle.fw_audit.proofs.audit.take_entry.Goals as goal
 

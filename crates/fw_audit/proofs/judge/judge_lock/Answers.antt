@@ -1,5 +1,5 @@
 use Rattle.std.proofs.Common.{Some, ap, ◌∙◌}
-use Rattle.fw_ledger.specs.Packets.{Locked}
+use Rattle.fw_account.specs.Packets.{Locked}
 use Rattle.fw_audit.specs.Looked.{quadlet_in}
 use Rattle.fw_audit.specs.Judged.{judged_response}
 use Rattle.fw_audit.proofs.judge.judge_lock.Goals as goal

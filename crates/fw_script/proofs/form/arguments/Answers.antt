@@ -1,4 +1,4 @@
-use Rattle.fw_script.specs.declared.keyword.Keyword.TheVariants.{Device, Cable, Reset, Connect, Broadcast, Listen, Break, Step, Settle, Wait, Cycles, Die, Lose, Start, Command, Read, Swap, Insert, Eject, Show, Withhold, End}
+use Rattle.fw_script.specs.declared.keyword.Keyword.TheVariants.{Device, Cable, Reset, Connect, Broadcast, Listen, Break, Step, Settle, Wait, Cycles, Die, Lose, Start, Command, Read, Swap, Insert, Eject, Show, Withhold, Candidate, Contend, Dub, End}
 use Rattle.fw_script.proofs.FormLaws.{of_keyword}
 use Rattle.fw_script.proofs.form.arguments.Goals as goal
 
@@ -64,6 +64,15 @@ returns-in-Show-clause-only c = of_keyword c.args.keyword Show c.args.words.now 
 
 pub returns-in-Withhold-clause-only : goal.returns-in-Withhold-clause-only
 returns-in-Withhold-clause-only c = of_keyword c.args.keyword Withhold c.args.words.now c.withhold.result c.withhold.new.out c.in-Withhold.is c.withhold.ensures.only
+
+pub returns-in-Candidate-clause-only : goal.returns-in-Candidate-clause-only
+returns-in-Candidate-clause-only c = of_keyword c.args.keyword Candidate c.args.words.now c.candidate.result c.candidate.new.out c.in-Candidate.is c.candidate.ensures.only
+
+pub returns-in-Contend-clause-only : goal.returns-in-Contend-clause-only
+returns-in-Contend-clause-only c = of_keyword c.args.keyword Contend c.args.words.now c.contend.result c.contend.new.out c.in-Contend.is c.contend.ensures.only
+
+pub returns-in-Dub-clause-only : goal.returns-in-Dub-clause-only
+returns-in-Dub-clause-only c = of_keyword c.args.keyword Dub c.args.words.now c.dub.result c.dub.new.out c.in-Dub.is c.dub.ensures.only
 
 pub returns-in-End-clause-only : goal.returns-in-End-clause-only
 returns-in-End-clause-only c = of_keyword c.args.keyword End c.args.words.now c.end.result c.end.new.out c.in-End.is c.end.ensures.only

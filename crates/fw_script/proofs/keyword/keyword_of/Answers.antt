@@ -1,5 +1,5 @@
 use Rattle.std.proofs.Common.{sym, ◌∙◌}
-use Rattle.fw_script.proofs.KeywordLaws.{by_three, by_four, by_five, by_six, by_seven}
+use Rattle.fw_script.proofs.KeywordLaws.{by_three, by_four, by_five, by_six, by_seven, by_nine}
 use Rattle.fw_script.proofs.keyword.keyword_of.Goals as goal
 
 pub returns-in-3 : goal.returns-in-3
@@ -16,3 +16,6 @@ returns-in-6 c = c.of_six.ensures ∙ sym (by_six c.args.word.now c.in-6.is)
 
 pub returns-in-7 : goal.returns-in-7
 returns-in-7 c = c.of_seven.ensures ∙ sym (by_seven c.args.word.now c.in-7.is)
+
+pub returns-in-9 : goal.returns-in-9
+returns-in-9 c = c.of_nine.ensures ∙ sym (by_nine c.args.word.now c.in-9.is)

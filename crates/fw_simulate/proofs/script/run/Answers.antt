@@ -17,22 +17,25 @@ loop-ending-init g c = record {
 pub loop-ending-preserved : goal.loop-ending-preserved
 loop-ending-preserved g c =
     let i = c.loop-ending.invariant in
-    let step = c.in_default-carry_next.ensures.goes (g.S.Source.left c.args.source.now) (g.K.Sink.held c.args.sink.now) (g.K.Sink.held c.loop-ending.sink) (g.K.Sink.held c.carry_next.new.sink) (λ bytes h. h) i.going in
+    let (bytes, wrote, there) = c.in_default-carry_next.ensures.goes (g.S.Source.left c.args.source.now) (g.K.Sink.held c.args.sink.now) (g.K.Sink.held c.loop-ending.sink) i.going in
+    let step = there (g.K.Sink.held c.carry_next.new.sink) wrote in
     record { going = step.going; unread = c.in_default-carry_next.ensures.reads ∙ i.unread; unwritten = c.in_default-carry_next.ensures.writes ∙ i.unwritten }
 
 pub loop-ending-smaller : goal.loop-ending-smaller
 loop-ending-smaller g c =
-    let step = c.in_default-carry_next.ensures.goes (g.S.Source.left c.args.source.now) (g.K.Sink.held c.args.sink.now) (g.K.Sink.held c.loop-ending.sink) (g.K.Sink.held c.carry_next.new.sink) (λ bytes h. h) c.loop-ending.invariant.going in
-    step.shorter
+    let (bytes, wrote, there) = c.in_default-carry_next.ensures.goes (g.S.Source.left c.args.source.now) (g.K.Sink.held c.args.sink.now) (g.K.Sink.held c.loop-ending.sink) c.loop-ending.invariant.going in
+    (there (g.K.Sink.held c.carry_next.new.sink) wrote).shorter
 
 pub returns-in-Some-clause-runs : goal.returns-in-Some-clause-runs
 returns-in-Some-clause-runs g c =
-    ends_runs (g.S.Source.left c.carry_next.new.source) (g.K.Sink.held c.carry_next.new.sink) c.loop-ending.invariant.going c.in-Some.ending
-    (c.in-Some.ensures.goes (g.S.Source.left c.args.source.now) (g.K.Sink.held c.args.sink.now) (g.K.Sink.held c.loop-ending.sink) (g.K.Sink.held c.carry_next.new.sink) (λ bytes h. h) c.loop-ending.invariant.going)
+    let (bytes, wrote, there) = c.in-Some.ensures.goes (g.S.Source.left c.args.source.now) (g.K.Sink.held c.args.sink.now) (g.K.Sink.held c.loop-ending.sink) c.loop-ending.invariant.going in
+    ends_runs (g.S.Source.left c.carry_next.new.source) (g.K.Sink.held c.carry_next.new.sink) c.loop-ending.invariant.going c.carry_next.new.bus c.in-Some.ending
+    (there (g.K.Sink.held c.carry_next.new.sink) wrote)
 
 pub returns-in-Some-clause-complete : goal.returns-in-Some-clause-complete
 returns-in-Some-clause-complete g c script told valid =
+    let (bytes, wrote, there) = c.in-Some.ensures.goes (g.S.Source.left c.args.source.now) (g.K.Sink.held c.args.sink.now) (g.K.Sink.held c.loop-ending.sink) c.loop-ending.invariant.going in
     run_completes _ script (g.S.Source.left c.args.source.now) (g.S.Source.left c.carry_next.new.source) (g.K.Sink.held c.args.sink.now) (g.K.Sink.held c.carry_next.new.sink) c.in-Some.ending
-    (ends_runs (g.S.Source.left c.carry_next.new.source) (g.K.Sink.held c.carry_next.new.sink) c.loop-ending.invariant.going c.in-Some.ending
-    (c.in-Some.ensures.goes (g.S.Source.left c.args.source.now) (g.K.Sink.held c.args.sink.now) (g.K.Sink.held c.loop-ending.sink) (g.K.Sink.held c.carry_next.new.sink) (λ bytes h. h) c.loop-ending.invariant.going))
+    (ends_runs (g.S.Source.left c.carry_next.new.source) (g.K.Sink.held c.carry_next.new.sink) c.loop-ending.invariant.going c.carry_next.new.bus c.in-Some.ending
+    (there (g.K.Sink.held c.carry_next.new.sink) wrote))
     told valid

@@ -15,7 +15,8 @@ loop-ending-preserved g c =
     let D : DeskRelations = record { blocks = given.F-post g c.args.desk.now.blocks; vendor = given.H-post g c.args.desk.now.vendor } in
     let i = c.loop-ending.invariant in
     let held : List ℕ = c.carry_next.new.sink.held in
-    let d = c.in_default-carry_next.ensures.goes (Some c.args.script.items) (Some []) (Some i.written) (Some (i.written ++ held)) (kept_elsewhere i.written c.loop-ending.sink.held held i.empty) i.going in
+    let (bytes, wrote, there) = c.in_default-carry_next.ensures.goes (Some c.args.script.items) (Some []) (Some i.written) i.going in
+    let d = there (Some (i.written ++ held)) (kept_elsewhere i.written c.loop-ending.sink.held held i.empty bytes wrote) in
     let same = given_alone {D = D} i c.carry_next.new.source held c.carry_next.new.reader c.carry_next.new.bus d in
     counting_more {D = D} i c.carry_next.new.source held c.clear.new.self.held c.carry_next.new.reader c.carry_next.new.bus c.take.new.self d
     (c.in-Ok-take.ensures (latest_epoch 0 i.going.log) i.going.log d.out d.fit (c.as_slice.ensures ∙ same) i.counts) c.clear.ensures.held
@@ -24,7 +25,8 @@ pub loop-ending-smaller : goal.loop-ending-smaller
 loop-ending-smaller g c =
     let i = c.loop-ending.invariant in
     let held : List ℕ = c.carry_next.new.sink.held in
-    let d = c.in_default-carry_next.ensures.goes (Some c.args.script.items) (Some []) (Some i.written) (Some (i.written ++ held)) (kept_elsewhere i.written c.loop-ending.sink.held held i.empty) i.going in
+    let (bytes, wrote, there) = c.in_default-carry_next.ensures.goes (Some c.args.script.items) (Some []) (Some i.written) i.going in
+    let d = there (Some (i.written ++ held)) (kept_elsewhere i.written c.loop-ending.sink.held held i.empty bytes wrote) in
     d.shorter
 
 pub returns-in-Some : goal.returns-in-Some
@@ -32,5 +34,6 @@ returns-in-Some g c =
     let D : DeskRelations = record { blocks = given.F-post g c.args.desk.now.blocks; vendor = given.H-post g c.args.desk.now.vendor } in
     let i = c.loop-ending.invariant in
     let held : List ℕ = c.carry_next.new.sink.held in
-    rw c.in_memory.ensures (counted_ends D c.args.script.items c.carry_next.new.source (i.written ++ held) i.going.log c.loop-ending.tally c.in-Some.ending c.requires.short i.counts c.in-Some.ensures.reads
-    (c.in-Some.ensures.goes (Some c.args.script.items) (Some []) (Some i.written) (Some (i.written ++ held)) (kept_elsewhere i.written c.loop-ending.sink.held held i.empty) i.going))
+    let (bytes, wrote, there) = c.in-Some.ensures.goes (Some c.args.script.items) (Some []) (Some i.written) i.going in
+    rw c.in_memory.ensures (counted_ends D c.args.script.items c.carry_next.new.source (i.written ++ held) i.going.log c.carry_next.new.bus c.loop-ending.tally c.in-Some.ending c.requires.short i.counts c.in-Some.ensures.reads
+    (there (Some (i.written ++ held)) (kept_elsewhere i.written c.loop-ending.sink.held held i.empty bytes wrote)))

@@ -1,39 +1,59 @@
+use Rattle.std.proofs.Common.{[], ◌++◌}
+use Rattle.fw_run.specs.Giving.{log_bytes}
+use Rattle.fw_run.specs.State.{epoch_of}
+use Rattle.fw_outside.proofs.Parts.{Grows-nothing}
 use Rattle.fw_simulate.specs.declared.ending.RunEnding.TheVariants as Endings
 use Rattle.fw_simulate.proofs.Goings.{going_form}
 use Rattle.fw_simulate.proofs.Endings.{logged_with, faulted, command_refused, part_stopped}
-use Rattle.fw_simulate.proofs.Steps.{still, ends_there, refused_there, stops_there, carried}
+use Rattle.fw_simulate.proofs.Steps.{grown_by_none, ends_there, refused_there, stops_there, carried}
 use Rattle.fw_simulate.proofs.step.carry_next.Goals as goal
 
 pub returns-in-Ok-None-clause-goes : goal.returns-in-Ok-None-clause-goes
-returns-in-Ok-None-clause-goes g c left held after after2 m i =
-    let left2 = g.S.Source.left c.next.new.source in
-    ends_there left2 i Endings.Done (still (g.K.Sink.held c.args.sink.now) after after2 m) (logged_with left2 c.next.new.self i (rw c.in-Ok-None.field-0-is at c.in-Ok-None.ensures.gives))
+returns-in-Ok-None-clause-goes g c left held after i =
+    let left2 = g.S.Source.left c.next.new.source in (
+      [],
+      Grows-nothing (g.K.Sink.held c.args.sink.now),
+      λ after2 h. ends_there left2 i Endings.Done (grown_by_none after after2 h) (logged_with left2 c.next.new.self i (rw c.in-Ok-None.field-0-is at c.in-Ok-None.ensures.gives)),
+    )
 
 pub returns-in-Err-clause-goes : goal.returns-in-Err-clause-goes
-returns-in-Err-clause-goes g c left held after after2 m i =
-    let left2 = g.S.Source.left c.next.new.source in
-    ends_there left2 i c.ending_of.result (still (g.K.Sink.held c.args.sink.now) after after2 m)
-    (rw (c.ending_of.ensures, c.line.ensures) (faulted left2 c.next.new.self c.in-Err.fault i c.in-Err.ensures.gives c.in-Err.ensures.held))
+returns-in-Err-clause-goes g c left held after i =
+    let left2 = g.S.Source.left c.next.new.source in (
+      [],
+      Grows-nothing (g.K.Sink.held c.args.sink.now),
+      λ after2 h. ends_there left2 i c.ending_of.result (grown_by_none after after2 h)
+          (rw (c.ending_of.ensures, c.line.ensures) (faulted left2 c.next.new.self c.in-Err.fault i c.in-Err.ensures.gives c.in-Err.ensures.held)),
+    )
 
 pub apply-requires-clause-command : goal.apply-requires-clause-command
 apply-requires-clause-command g c = going_form (g.S.Source.left c.next.new.source) c.next.new.self c.in-Ok-Some.command c.requires.under_way.going (rw c.in-Ok-Some.field-0-is at c.in-Ok-Some.ensures.gives)
 
 pub returns-in-Ok-clause-goes : goal.returns-in-Ok-clause-goes
-returns-in-Ok-clause-goes g c left held after after2 m i =
-    carried (g.S.Source.left c.next.new.source) after2 c.next.new.self c.apply.new.self c.in-Ok-Some.command i m
-    (rw c.in-Ok-Some.field-0-is at c.in-Ok-Some.ensures.gives) (c.in-Ok.ensures.run i.commands i.actions i.log i.state i.run i.stands)
+returns-in-Ok-clause-goes g c left held after i =
+    let d = c.in-Ok.ensures.run i.commands i.actions i.log i.state i.run i.stands in (
+      log_bytes (epoch_of i.state.account.latest) d.out,
+      d.grew,
+      λ after2 h. carried (g.S.Source.left c.next.new.source) after2 c.next.new.self c.apply.new.self c.in-Ok-Some.command i
+          (rw c.in-Ok-Some.field-0-is at c.in-Ok-Some.ensures.gives) d h,
+    )
 
 pub returns-in-Err-Refused-clause-goes : goal.returns-in-Err-Refused-clause-goes
-returns-in-Err-Refused-clause-goes g c left held after after2 m i =
+returns-in-Err-Refused-clause-goes g c left held after i =
     let left2 = g.S.Source.left c.next.new.source in
-    let same = rw c.in-Err-Refused.field-0-is at c.in-Err-Refused.ensures.refused in
-    rw (c.refused.ensures, c.line-in-Err-Refused.ensures)
-    (refused_there left left2 held c.in-Err-Refused.rule c.next.new.self.line (still (g.K.Sink.held c.args.sink.now) after after2 (rw same.1 at m))
-    (command_refused left2 c.next.new.self c.in-Ok-Some.command c.in-Err-Refused.rule i
-    (rw c.in-Ok-Some.field-0-is at c.in-Ok-Some.ensures.gives) (rw c.in-Ok-Some.field-0-is at c.in-Ok-Some.ensures.held) (rw c.in-Err-Refused.field-0-is at (c.in-Err-Refused.ensures.run i.commands i.actions i.log i.state i.run i.stands))))
+    let same = rw c.in-Err-Refused.field-0-is at c.in-Err-Refused.ensures.refused in (
+      [],
+      rw same.1 (Grows-nothing (g.K.Sink.held c.args.sink.now)),
+      λ after2 h. rw (c.refused.ensures, c.line-in-Err-Refused.ensures)
+          (refused_there left left2 held c.in-Err-Refused.rule c.next.new.self.line (grown_by_none after after2 h)
+          (command_refused left2 c.next.new.self c.in-Ok-Some.command c.in-Err-Refused.rule i
+          (rw c.in-Ok-Some.field-0-is at c.in-Ok-Some.ensures.gives) (rw c.in-Ok-Some.field-0-is at c.in-Ok-Some.ensures.held) (rw c.in-Err-Refused.field-0-is at (c.in-Err-Refused.ensures.run i.commands i.actions i.log i.state i.run i.stands)))),
+    )
 
 pub returns-in-Err-WriteFault-clause-goes : goal.returns-in-Err-WriteFault-clause-goes
-returns-in-Err-WriteFault-clause-goes g c left held after after2 m i =
-    part_stopped (g.S.Source.left c.next.new.source) after2 c.next.new.self c.apply.new.self c.in-Ok-Some.command i
-    (rw c.in-Ok-Some.field-0-is at c.in-Ok-Some.ensures.gives)
-    (stops_there after after2 m (rw c.in-Err-WriteFault.field-0-is at (c.in-Err-WriteFault.ensures.run i.commands i.actions i.log i.state i.run i.stands)))
+returns-in-Err-WriteFault-clause-goes g c left held after i =
+    let d = rw c.in-Err-WriteFault.field-0-is at (c.in-Err-WriteFault.ensures.run i.commands i.actions i.log i.state i.run i.stands) in (
+      log_bytes (epoch_of i.state.account.latest) d.cut.given ++ d.cut.front,
+      d.cut.appended,
+      λ after2 h. part_stopped (g.S.Source.left c.next.new.source) after2 c.next.new.self c.apply.new.self c.in-Ok-Some.command i
+          (rw c.in-Ok-Some.field-0-is at c.in-Ok-Some.ensures.gives) (stops_there after after2 d h),
+    )

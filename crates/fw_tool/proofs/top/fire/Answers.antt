@@ -6,9 +6,9 @@ use Rattle.fw_tool.specs.Notes.{IsTold}
 use Rattle.fw_tool.proofs.Tellings.{first_by_status, quiet_status, quiet_writes, said_status}
 use Rattle.fw_tool.proofs.top.fire.Goals as goal
 
-pub returns-clause-run : goal.returns-clause-run
-returns-clause-run g c form =
-    let (e, is, runs) = c.carry_out-ending.ensures.run form in
+pub returns-clause-scripts : goal.returns-clause-scripts
+returns-clause-scripts g c word form =
+    let (e, is, runs) = c.carry_out-ending.ensures.scripts word form in
     let F : Ending → Type 0 = FirstFault (g.S.Source.faults c.args.source.now) (g.S.Source.faults c.carry_out-ending.new.source) (g.K.Sink.faults c.args.sink.now) (g.K.Sink.faults c.carry_out-ending.new.sink) in
     let T : Ending → Type 0 = λ x. IsTold g.N.Sink.held g.N.Sink.faults c.args.notes.now c.tell.new.notes x c.tell.result in
     (e, runs, subst F is c.carry_out-ending.ensures.first, subst T is c.tell.ensures)
@@ -43,9 +43,9 @@ returns-clause-first g c =
     first_by_status g.N.Sink.held g.N.Sink.faults c.args.notes.now c.tell.new.notes c.tell.result _ _ _ _ c.carry_out-ending.result c.carry_out-ending.ensures.first c.tell.ensures
 
 pub returns-clause-complete : goal.returns-clause-complete
-returns-clause-complete g c script told valid form read written noted =
+returns-clause-complete g c word form script told valid read written noted =
     quiet_status g.N.Sink.held g.N.Sink.faults c.args.notes.now c.tell.new.notes c.tell.result _ _ _ _ c.carry_out-ending.result c.carry_out-ending.ensures.first
-    (c.carry_out-ending.ensures.complete script told valid form) c.tell.ensures read written noted
+    (c.carry_out-ending.ensures.complete word form script told valid) c.tell.ensures read written noted
 
 pub returns-clause-complete_sums : goal.returns-clause-complete_sums
 returns-clause-complete_sums g c seed form valid written noted =

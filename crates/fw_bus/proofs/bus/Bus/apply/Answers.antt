@@ -1,5 +1,5 @@
 use Rattle.std.proofs.Common.{subst, sym, refl, IsFalse}
-use Rattle.fw_bus.specs.Stands.{StandsFor}
+use Rattle.fw_machine.specs.Stands.{StandsFor}
 use Rattle.fw_bus.proofs.Runs.{goes, stops, quiet_reached, ready_of, reached_more, run_good}
 use Rattle.fw_bus.proofs.bus.Bus.apply.Goals as goal
 

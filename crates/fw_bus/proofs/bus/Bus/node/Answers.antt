@@ -5,10 +5,10 @@ use Rattle.fw_node.specs.State.{NodeState}
 use Rattle.fw_devices.specs.Network.{is_node, node_at}
 use Rattle.fw_run.specs.State.{State}
 use Rattle.fw_run.specs.Good.{IsGood}
-use Rattle.fw_bus.specs.declared.machine.Machine.{Machine}
+use Rattle.fw_machine.specs.declared.machine.Machine.{Machine}
 use Rattle.fw_bus.specs.Buses.{Standing, Lends}
-use Rattle.fw_bus.specs.Lingering.{HasLingering}
-use Rattle.fw_bus.specs.Stands.{HasNodes, StandsFor}
+use Rattle.fw_machine.specs.Lingering.{HasLingering}
+use Rattle.fw_machine.specs.Stands.{HasNodes, StandsFor}
 use Rattle.fw_bus.proofs.Runs.{run_good}
 use Rattle.fw_bus.proofs.Lends.{lends_none, lends_some}
 use Rattle.fw_bus.proofs.bus.Bus.node.Goals as goal

@@ -1,4 +1,4 @@
-use Rattle.std.proofs.Common.{◌≡◌, ap, sym, subst, ◌∙◌}
+use Rattle.std.proofs.Common.{ap, subst, ◌∙◌}
 use Rattle.fw_map.specs.Graphs.{graph_text}
 use Rattle.fw_decode.specs.declared.last_tree.LastTree.{LastTree}
 use Rattle.fw_decode.specs.Trees.{IsLastTree}

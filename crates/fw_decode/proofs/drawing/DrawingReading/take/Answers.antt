@@ -1,5 +1,5 @@
-use Rattle.std.proofs.Common.{refl, ◌++◌, ◌∷◌, [], sym, subst}
-use Rattle.fw_decode.specs.Trees.{IsLastTree, HasRows}
+use Rattle.std.proofs.Common.{refl, sym, subst}
+use Rattle.fw_decode.specs.Trees.{IsLastTree}
 use Rattle.fw_decode.specs.declared.last_tree.LastTree.{LastTree}
 use Rattle.fw_decode.proofs.drawing.DrawingReading.take.Goals as goal
 

@@ -1,4 +1,4 @@
-use Rattle.std.proofs.Common.{sym, subst}
+use Rattle.std.proofs.Common.{subst}
 use Rattle.fw_decode.specs.declared.last_tree.LastTree.{LastTree}
 use Rattle.fw_decode.specs.Trees.{IsLastTree}
 use Rattle.fw_decode.proofs.mapping.MappingReading.close.Goals as goal

@@ -1,5 +1,5 @@
 use Rattle.std.proofs.Common.{◌≡◌, ◌+◌, arith}
-use Rattle.fw_ledger.specs.Fold.{entries_of}
+use Rattle.fw_account.specs.Fold.{entries_of}
 use Rattle.fw_decode.proofs.Audits.{flawed, unflawed}
 use Rattle.fw_decode.proofs.verdict.Verdict.judge.Goals as goal
 

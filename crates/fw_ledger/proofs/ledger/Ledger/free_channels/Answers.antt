@@ -1,7 +1,7 @@
 use Rattle.std.proofs.Common.{◌≡◌, ◌+◌, ◌-◌, ◌*◌, ◌%◌, subst, sym, arith}
 use Rattle.std.specs.Int.{bit_at}
 use Rattle.fw_plug.specs.Words.{flag}
-use Rattle.fw_ledger.specs.Account.{is_open}
+use Rattle.fw_account.specs.Account.{is_open}
 use Rattle.fw_ledger.specs.declared.tables.Tables.{Tables}
 use Rattle.fw_ledger.proofs.Channels.{halves_fit, free_bits}
 use Rattle.fw_ledger.proofs.ledger.Ledger.free_channels.Goals as goal

@@ -1,8 +1,8 @@
 use Rattle.std.proofs.Common.{◌≡◌, ◌+◌, true, false, Some, slice_set, sym, ◌∙◌, ap, subst, rules, true≢false}
 use Rattle.std.specs.Vec.{with_item}
-use Rattle.fw_ledger.specs.Moves.{AllocateChannel}
-use Rattle.fw_ledger.specs.Words.{ChannelsAvailable}
-use Rattle.fw_ledger.specs.Decode.{allowed, at_addressed}
+use Rattle.fw_account.specs.Moves.{AllocateChannel}
+use Rattle.fw_account.specs.Words.{ChannelsAvailable}
+use Rattle.fw_account.specs.Decode.{allowed, at_addressed}
 use Rattle.fw_ledger.specs.Stands.{Follows}
 use Rattle.fw_ledger.specs.Swaps.{half_of, moved_by}
 use Rattle.fw_ledger.specs.declared.tables.Charge.TheVariants.{Pending}

@@ -4,7 +4,7 @@ use Rattle.fw_ledger.specs.Stands.{SeatsFor, place, word_at, seats_at, allocatio
 use Rattle.fw_ledger.specs.declared.tables.Tables.{Tables}
 use Rattle.fw_plug.specs.Words.{out_word, out_fields}
 use Rattle.fw_plug.specs.Units.{units}
-use Rattle.fw_ledger.specs.Decode.{is_held}
+use Rattle.fw_account.specs.Decode.{is_held}
 use Rattle.fw_ledger.specs.Swaps.{connected_once}
 use Rattle.fw_ledger.specs.declared.tables.Charge.TheVariants.{Connected}
 use Rattle.fw_ledger.proofs.Plugs.{output_place}

@@ -1,6 +1,6 @@
 use Rattle.std.proofs.Common.{◌≡◌, true, sym, ◌∙◌, rules}
-use Rattle.fw_ledger.specs.Words.{register_of}
-use Rattle.fw_ledger.specs.Decode.{move_at}
+use Rattle.fw_account.specs.Words.{register_of}
+use Rattle.fw_account.specs.Decode.{move_at}
 use Rattle.fw_ledger.specs.Swaps.{account_after}
 use Rattle.fw_ledger.proofs.Swapping.{follows_stand}
 use Rattle.fw_ledger.proofs.LockReplies.{swap_ended}

@@ -1,6 +1,6 @@
 use Rattle.std.proofs.Common.{◌∙◌, ap, is_some}
 use Rattle.fw_base.specs.Tables.{find_to}
-use Rattle.fw_ledger.specs.Account.{is_pending}
+use Rattle.fw_account.specs.Account.{is_pending}
 use Rattle.fw_ledger.specs.Stands.{allocation_of, charge_at}
 use Rattle.fw_ledger.proofs.Requests.{holds_is}
 use Rattle.fw_ledger.proofs.tables.Tables.holds.Goals as goal

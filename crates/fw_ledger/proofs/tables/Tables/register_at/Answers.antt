@@ -1,6 +1,6 @@
 use Rattle.std.proofs.Common.{◌-◌, if◌then◌else◌, None, ◌∙◌, ap}
 use Rattle.fw_entry.specs.Network.{first_id}
-use Rattle.fw_ledger.specs.Words.{is_node, manager_register, plug_register, first_address}
+use Rattle.fw_account.specs.Words.{is_node, manager_register, plug_register, first_address}
 use Rattle.fw_ledger.specs.Stands.{row_at}
 use Rattle.fw_ledger.proofs.RegisterNames.{register_is, second_found, named_there}
 use Rattle.fw_ledger.proofs.tables.Tables.register_at.Goals as goal

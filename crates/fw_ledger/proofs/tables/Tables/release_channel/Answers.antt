@@ -1,8 +1,8 @@
 use Rattle.std.proofs.Common.{◌≡◌, ◌+◌, ◌-◌, ◌^◌, true, false, slice_set, sym, ◌∙◌, ap, subst, rules, true≢false}
 use Rattle.std.specs.Vec.{with_item}
-use Rattle.fw_ledger.specs.Moves.{ReleaseChannel}
-use Rattle.fw_ledger.specs.Words.{ChannelsAvailable}
-use Rattle.fw_ledger.specs.Decode.{allowed, at_addressed, held_for}
+use Rattle.fw_account.specs.Moves.{ReleaseChannel}
+use Rattle.fw_account.specs.Words.{ChannelsAvailable}
+use Rattle.fw_account.specs.Decode.{allowed, at_addressed, held_for}
 use Rattle.fw_ledger.specs.Stands.{Follows, allocation_of, charge_at}
 use Rattle.fw_ledger.specs.Swaps.{half_of, holds_no_units, moved_by}
 use Rattle.fw_ledger.specs.declared.tables.Charge.TheVariants.{Free}

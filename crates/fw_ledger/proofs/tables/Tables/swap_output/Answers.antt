@@ -1,7 +1,7 @@
 use Rattle.std.proofs.Common.{◌≡◌, true, false, refl, sym, ◌∙◌, ap, rules}
 use Rattle.fw_plug.specs.Words.{out_fields}
-use Rattle.fw_ledger.specs.Moves.{ConnectFirst, ConnectOverlaid, DisconnectOutput}
-use Rattle.fw_ledger.specs.Words.{OutputPlug}
+use Rattle.fw_account.specs.Moves.{ConnectFirst, ConnectOverlaid, DisconnectOutput}
+use Rattle.fw_account.specs.Words.{OutputPlug}
 use Rattle.fw_ledger.specs.Stands.{word_at}
 use Rattle.fw_ledger.proofs.Swapping.{swap_other}
 use Rattle.fw_ledger.proofs.OutputSwaps.{is_there_output, output_follows}

@@ -1,4 +1,4 @@
-use Rattle.fw_ledger.specs.Account.{Locks}
+use Rattle.fw_account.specs.Account.{Locks}
 use Rattle.fw_ledger.proofs.Replies.{other_label, label_zero}
 use Rattle.fw_ledger.proofs.tables.Tables.take_lock.Goals as goal
 

@@ -1,5 +1,5 @@
 use Rattle.std.proofs.Common.{refl}
-use Rattle.fw_ledger.specs.Account.{Reads}
+use Rattle.fw_account.specs.Account.{Reads}
 use Rattle.fw_ledger.proofs.Replies.{other_label, label_zero}
 use Rattle.fw_ledger.proofs.tables.Tables.take_read.Goals as goal
 

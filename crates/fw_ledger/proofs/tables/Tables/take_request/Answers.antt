@@ -1,7 +1,7 @@
 use Rattle.std.proofs.Common.{sym, ◌∙◌, ap, slice_set}
 use Rattle.std.specs.Vec.{with_item}
 use Rattle.fw_ledger.proofs.Requests.{refused_none, refused_beside, asked_follows, asked_stands}
-use Rattle.fw_ledger.proofs.Packets.{device_below, device_started}
+use Rattle.fw_account.proofs.Packets.{device_below, device_started}
 use Rattle.fw_ledger.proofs.tables.Tables.take_request.Goals as goal
 
 pub returns-in-None : goal.returns-in-None

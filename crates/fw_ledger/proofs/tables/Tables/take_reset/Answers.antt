@@ -1,11 +1,11 @@
 use Rattle.std.proofs.Common.{◌≡◌, ◌/◌, ◌%◌, ◌∙◌, ℕ, List, false, refl, sym, ap, cond, length, slice_index, slice_index_or}
 use Rattle.std.specs.List.{list_any}
-use Rattle.fw_ledger.specs.Network.{is_output_of, is_input_of}
+use Rattle.fw_account.specs.Network.{is_output_of, is_input_of}
 use Rattle.fw_ledger.specs.Resets.{renewed_output, renewed_input, goes_on, talker}
 use Rattle.fw_ledger.specs.Stands.{charge_at, reclaimable_at}
 use Rattle.fw_ledger.proofs.ResetTables.{reset_stands}
 use Rattle.fw_ledger.proofs.Orphans.{items_of}
-use Rattle.fw_ledger.proofs.Fold.{fits_network}
+use Rattle.fw_account.proofs.Fold.{fits_network}
 use Rattle.fw_ledger.proofs.tables.Tables.take_reset.Goals as goal
 
 pub renew_outputs-requires-clause-rates : goal.renew_outputs-requires-clause-rates

@@ -1,4 +1,4 @@
-use Rattle.std.proofs.Common.{◌≡◌, ◌+◌, ◌-◌, ◌≤◌, ◌++◌, ℕ, [], length, take, None, Some, arith, refl, ap, sym, subst, ◌∙◌}
+use Rattle.std.proofs.Common.{◌≡◌, ◌+◌, ◌-◌, ◌++◌, ℕ, [], length, take, None, Some, arith, refl, ap, sym, subst, ◌∙◌}
 use Rattle.fw_entry.specs.Log.{epoch_after}
 use Rattle.fw_log.specs.Stands.{position}
 use Rattle.fw_log.specs.Reading.{version_at}
@@ -10,8 +10,7 @@ pub append-requires : goal.append-requires
 append-requires c =
     let part = kept_part c.args.self.now.stand c.args.self.now.taken c.args.piece.now (found_as _ _ _ _ _ None c.in-Ok-None.is c.in-Ok-None.field-0-is c.requires.found) in
     let same : length c.deref_mut-in-Ok-None.result.now ≡ length c.args.self.now.taken = ap length (c.deref_mut-in-Ok-None.ensures.value ∙ ap (λ (r : State). r.taken) c.self.view_is) in
-    let fits : length c.deref_mut-in-Ok-None.result.now + length c.args.piece.now ≤ 2308 = omega (arith, same, part.room) in
-    (omega arith, fits)
+    omega (arith, same, part.room)
 
 pub invariant_of-self-in-Ok-None : goal.invariant_of-self-in-Ok-None
 invariant_of-self-in-Ok-None c =

@@ -1,7 +1,8 @@
-use Rattle.std.proofs.Common.{◌≡◌, ◌-◌, ℕ, List, length, arith, ap, sym, subst, ◌∙◌}
+use Rattle.std.proofs.Common.{◌≡◌, ◌-◌, ℕ, List, length, arith, refl, ap, sym, subst, ◌∙◌}
 use Rattle.fw_log.specs.Stands.{Position, position}
 use Rattle.fw_log.specs.Reading.{IsPending}
-use Rattle.fw_log.proofs.FindLaws.{holds_by}
+use Rattle.fw_log.proofs.FeedLaws.{pending_of}
+use Rattle.fw_log.proofs.FindLaws.{holds_by, pending_at}
 use Rattle.fw_log.proofs.HistoryLaws.{nothing_pending}
 use Rattle.fw_log.specs.Reader.{State, Feeds}
 use Rattle.fw_log.proofs.PassLaws.{EndsPassed, ends_passed, fed, behind_passed, counts_up, passes_body, without_fault}
@@ -36,6 +37,12 @@ feeds c =
     behind_passed c.args.self.now c.args.piece.now (c.in_ok-passed.field-0.passed) c.in_ok-passed.ensures.entry (after c) (length c.as_slice-2.result.now) c.start.result
     (position c.going_on-self-inside.result) c.clear.new.self c.self.inside.fault size (c.start.ensures ∙ ap (λ (r : State). r.stand.start) c.self.view_is)
     c.going_on-self-inside.ensures c.clear.ensures (without_fault c.self.inside.fault c.is_some.result c.is_some.ensures c.if-is_some.false)
+
+pub at_hand-bytes-requires-clause-pending : goal.at_hand-bytes-requires-clause-pending
+at_hand-bytes-requires-clause-pending c =
+    let s : Position = position c.self.inside.stand in
+    let clear = without_fault c.self.inside.fault c.is_some.result c.is_some.ensures c.if-is_some.false in
+    pending_at s s c.self.inside.taken.value c.as_slice.result.now refl (c.as_slice.ensures.value ∙ c.deref.ensures) (pending_of s c.self.inside.taken.value c.self.inside.fault clear c.self.invariant)
 
 pub overflow_sub-used : goal.overflow_sub-used
 overflow_sub-used c =

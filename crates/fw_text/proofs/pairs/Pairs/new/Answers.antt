@@ -1,6 +1,6 @@
 use Rattle.std.proofs.Common.{arith, ◌∙◌}
 use Rattle.std.proofs.lemmas.List.{length-set}
-use Rattle.fw_text.proofs.HexLaws.{table_more}
+use Rattle.fw_names.proofs.HexLaws.{table_more}
 use Rattle.fw_text.proofs.pairs.Pairs.new.Goals as goal
 
 pub loop-byte-preserved : goal.loop-byte-preserved

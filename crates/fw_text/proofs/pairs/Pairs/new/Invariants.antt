@@ -1,5 +1,5 @@
 use Rattle.std.proofs.Common.{◌≡◌, length}
-use Rattle.fw_text.specs.Digits.{IsTable}
+use Rattle.fw_names.specs.Digits.{IsTable}
 use Rattle.fw_text.proofs.pairs.Pairs.new.Given as goal
 
 abbrev pub invariant-loop-byte : goal.invariant-loop-byte

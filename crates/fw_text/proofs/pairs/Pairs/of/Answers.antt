@@ -1,4 +1,4 @@
-use Rattle.fw_text.proofs.HexLaws.{table_at}
+use Rattle.fw_names.proofs.HexLaws.{table_at}
 use Rattle.fw_text.proofs.pairs.Pairs.of.Goals as goal
 
 pub returns : goal.returns

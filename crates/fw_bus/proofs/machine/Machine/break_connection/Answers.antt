@@ -1,9 +1,0 @@
-use Rattle.fw_bus.proofs.Doings.{does_silent}
-use Rattle.fw_bus.proofs.LifeTurns.{break_turns}
-use Rattle.fw_bus.proofs.machine.Machine.break_connection.Goals as goal
-
-pub returns : goal.returns
-returns g c = record {
-  does = does_silent (g.K.Sink.held c.args.sink.now) (g.K.Sink.faults c.args.sink.now) c.args.self.now.cycle tt
-      (break_turns c.args.self.now c.break_connection.new.self c.args.device c.args.slot c.requires.living c.requires.accepted c.break_connection.ensures);
-}

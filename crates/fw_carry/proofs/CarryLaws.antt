@@ -1,0 +1,59 @@
+-- Orders, by the actions that carry them out, with what a desk gives.
+use Rattle.std.proofs.Common.{ℕ, List, Option, Some, refl, ap, sym, subst}
+use Rattle.std.specs.Prelude.{Ok, Err}
+use Rattle.std.specs.declared.result.Result.{Result}
+use Rattle.fw_entry.specs.declared.entry.Entry.TheVariants.{End as EndEntry}
+use Rattle.fw_entry.specs.declared.entry.Timed.{Timed}
+use Rattle.fw_run.specs.Giving.{at_most}
+use Rattle.fw_run.specs.declared.order.Order.{Order}
+use Rattle.fw_run.specs.State.{State, entered}
+use Rattle.fw_run.specs.Actions.{Action, Finish, Steps}
+use Rattle.fw_run.specs.Carrying.{Carries}
+use Rattle.fw_run.specs.Desks.{DeskRelations}
+use Rattle.fw_run.specs.Given.{AsksNoDesk}
+use Rattle.fw_run.proofs.Given.{carries_given, given_append}
+use Rattle.fw_carry.specs.Framing.{CarriesBy, DoesBy}
+use Rattle.fw_machine.specs.declared.machine.Machine.{Machine}
+use Rattle.fw_carry.specs.Doings.{Acts, Does, Turns}
+use Rattle.fw_carry.proofs.Doings.{does_as}
+
+-- where all that was to be done is what the desk gives, so is what was done
+pub given_front : {T E : Type 0} {D : DeskRelations} {m now : Machine} {a b : Option (List ℕ)} {k l : ℕ} {r : Result T E} (o : Order)
+    → Does (CarriesBy D o) m now a b k l r → DoesBy D (λ s. Carries s o) m now a b k l r
+given_front {r = Ok u} o d = record { faults = d.faults; shown = λ s g st. d.shown s g st }
+given_front {D = D} {r = Err u} o d = record {
+  faults = d.faults;
+  shown = λ s g st. let x = d.shown s g st in (
+    record {
+      done = x.done;
+      later = x.later;
+      all = x.all;
+      last = x.last;
+      whole = x.whole.0;
+      goes = x.goes;
+      given = x.given;
+      next = x.next;
+      state = x.state;
+      steps = x.steps;
+      front = x.front;
+      rest = x.rest;
+      parts = x.parts;
+      appended = x.appended;
+    },
+    (given_append D x.done x.later x.whole.1).0,
+  );
+}
+
+-- an order in whose course no desk is asked
+pub by_desk : {T E : Type 0} {D : DeskRelations} {m now : Machine} {a b : Option (List ℕ)} {k l : ℕ} {r : Result T E} (o : Order)
+    → AsksNoDesk o → Does (λ s. Carries s o) m now a b k l r → DoesBy D (λ s. Carries s o) m now a b k l r
+by_desk {D = D} o free d = given_front o (does_as (λ s t ys out p. (p, carries_given D s o ys out t free p)) d)
+
+-- one that is carried out by these actions
+pub carried : {T E : Type 0} {D : DeskRelations} {m now : Machine} {a b : Option (List ℕ)} {k l : ℕ} {r : Result T E} (o : Order) (xs : List Action)
+    → AsksNoDesk o → ((s t : State) (out : List Timed) → Steps s xs out t → Carries s o xs out t) → Does (Acts xs) m now a b k l r → DoesBy D (λ s. Carries s o) m now a b k l r
+carried o xs free by d = by_desk o free (does_as (λ s t ys out p. subst (λ z. Carries s o z out t) (sym p.0) (by s t out p.1)) d)
+
+-- the end of the log
+pub finish_turns : (m : Machine) → Turns Finish m m m.cycle (Some EndEntry)
+finish_turns m = record { shown = λ s g st. (record s { account = entered s.account EndEntry }, (st.answered, (ap (λ c. at_most c (Some EndEntry)) st.clock.cycle, refl)), st) }

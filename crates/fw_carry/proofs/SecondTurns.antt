@@ -1,0 +1,239 @@
+-- Time and the end of the second, of the machine and of the run.
+use Rattle.std.proofs.Common.{◌≡◌, ℕ, ◌+◌, ◌<◌, ◌≤◌, ◌^◌, length, map, List, [], ◌∷◌, true, Option, Some, None, refl, ap, sym, subst, ◌∙◌, arith, IsTrue}
+use Rattle.fw_node.specs.State.{NodeState}
+use Rattle.fw_node.specs.State as Nodes
+use Rattle.fw_cmp.specs.Losses.{after_end}
+use Rattle.fw_cmp.specs.Resets.{after_second as controller_second}
+use Rattle.std.proofs.lemmas.List.{length-map}
+use Rattle.fw_devices.specs.Decks.{passed}
+use Rattle.fw_devices.specs.Network.{Network, kinds_of, node_at}
+use Rattle.fw_account.specs.Account.{Account}
+use Rattle.fw_account.specs.Events.{after_second as account_second}
+use Rattle.fw_run.specs.Giving.{at_most}
+use Rattle.fw_run.specs.Entries.{second_over}
+use Rattle.fw_run.specs.State.{State, number_in, while_talking}
+use Rattle.fw_run.specs.Actions.{Pass, EndSecond, Step, after_cycles, after_second}
+use Rattle.fw_run.specs.Good.{IsGood}
+use Rattle.fw_run.proofs.Times.{second_ends, second_good}
+use Rattle.fw_cmp.specs.declared.directory.Directory.{Directory}
+use Rattle.fw_machine.specs.declared.machine.Machine.{Machine}
+use Rattle.fw_machine.specs.Lingering.{LingersAs, HasLingering}
+use Rattle.fw_carry.specs.Resetting.{RestsAfterSecond, passed_in}
+use Rattle.fw_machine.specs.Stands.{IsNodeAt, HasNodes, HasDevices, StandsFor}
+use Rattle.fw_machine.specs.Streaming.{HasStreams, counted_on}
+use Rattle.fw_carry.specs.Doings.{Turns}
+use Rattle.fw_async.specs.Wire.{Pairs}
+use Rattle.fw_machine.specs.Wires.{HasWire}
+use Rattle.fw_machine.proofs.Lingers.{lingering_same, lingering_rests}
+use Rattle.fw_machine.proofs.DeckNodes.{decks_pass, decks_rest, decks_same, mapped_at}
+use Rattle.fw_machine.proofs.Nodes.{SameNodes, node_kept, nodes_same}
+use Rattle.fw_machine.proofs.Counts.{streams_pass, streams_end}
+use Rattle.fw_carry.proofs.Rests.{same_words, rested_kinds, nodes_rest}
+use Rattle.fw_run.specs.Dubs.{dub_after_second}
+use Rattle.fw_machine.specs.Reels.{HearsAs, HasHearers}
+use Rattle.fw_machine.proofs.Besides.{keeps_beside}
+use Rattle.fw_machine.proofs.Hearing.{hearers_same, hearers_rest}
+
+-- ---- cycles that go by
+
+-- a node whose tape has moved has the registers that it had
+pass_kept : (o : Option ℕ) (cycles : ℕ) (s : State) (d : ℕ) (n : NodeState) → IsNodeAt o s d n → IsNodeAt o s d (passed cycles n)
+pass_kept None cycles s d n is = node_kept None s d n (passed cycles n) refl (λ e. ap (λ (m : NodeState). m.waiting) is) is
+pass_kept (Some number) cycles s d n is = node_kept (Some number) s d n (passed cycles n) refl (λ e. let no : ⊥ = cc e in absurd no) is
+
+pass_kinds : (cycles : ℕ) (nodes : List NodeState) → kinds_of (map (passed cycles) nodes) ≡ kinds_of nodes
+pass_kinds cycles [] = refl
+pass_kinds cycles (n ∷ nodes) = ap (λ ks. n.kind ∷ ks) (pass_kinds cycles nodes)
+
+nodes_pass : (cycles : ℕ) (nodes : List NodeState) (s : State) → HasNodes nodes s → HasNodes (map (passed cycles) nodes) s
+nodes_pass cycles nodes s h = record {
+  size = length-map nodes (passed cycles) ∙ h.size;
+  each = λ d lt.
+      let size = length-map nodes (passed cycles) in
+      let low : d < length nodes = omega (arith, lt, size) in
+      let P : NodeState → Type 0 = IsNodeAt (number_in s.account.latest d) s d in
+      subst P (sym (mapped_at (passed cycles) nodes d low)) (pass_kept (number_in s.account.latest d) cycles s d (node_at nodes d) (h.each d low));
+}
+
+lingering_passes : (cycles : ℕ) (nodes : List NodeState) (s : State) → HasLingering nodes s → HasLingering (map (passed cycles) nodes) s
+lingering_passes cycles nodes s h = record {
+  each = λ d lt.
+      let size = length-map nodes (passed cycles) in
+      let low : d < length nodes = omega (arith, lt, size) in
+      subst (λ n. LingersAs n d s.account) (sym (mapped_at (passed cycles) nodes d low)) (let x = h.each d low in record { size = x.size; flags = x.flags });
+}
+
+hearers_pass : (cycles : ℕ) (nodes : List NodeState) (s : State) → HasHearers nodes s → HasHearers (map (passed cycles) nodes) s
+hearers_pass cycles nodes s h = record {
+  each = λ d lt.
+      let size = length-map nodes (passed cycles) in
+      let low : d < length nodes = omega (arith, lt, size) in
+      subst (λ n. HearsAs n d s.dub) (sym (mapped_at (passed cycles) nodes d low)) (let x = h.each d low in record { size = x.size; flags = x.flags });
+}
+
+devices_pass : (cycles : ℕ) (n : Network) (s : State) → HasDevices n s → HasDevices (passed_in cycles n) (after_cycles s cycles)
+devices_pass cycles n s h = record {
+  topology = h.topology;
+  names = h.names;
+  kinds = pass_kinds cycles n.nodes ∙ h.kinds;
+  nodes = nodes_same (map (passed cycles) n.nodes) s (after_cycles s cycles) keeps (nodes_pass cycles n.nodes s h.nodes);
+  lingering = lingering_same (map (passed cycles) n.nodes) s (after_cycles s cycles) (λ p. refl) (lingering_passes cycles n.nodes s h.lingering);
+  decks = decks_pass cycles n.nodes s h.decks;
+  hearers = hearers_same (map (passed cycles) n.nodes) s (after_cycles s cycles) (λ p. refl) (hearers_pass cycles n.nodes s h.hearers);
+  latest = h.latest;
+  epoch = h.epoch;
+  manager = h.manager;
+  withheld = h.withheld;
+}
+  where
+    keeps : SameNodes s (after_cycles s cycles)
+    keeps = record { names = refl; devices = refl; kinds = refl; latest = refl; bus_manager_id = refl; words = λ r. refl; withheld = refl }
+
+-- the machine after it
+abbrev pub passed_by : Machine → ℕ → Machine
+passed_by m n = record m { devices = passed_in n m.devices; cycle = m.cycle + n; streams = counted_on n m.devices.nodes m.streams }
+
+-- cycles in which the second is not over are the action of the run
+pub pass_turns : (m now : Machine) (n : ℕ) → m.cycle + n ≤ 2 ^ 52 → (m.reclaiming ≡ true → m.cycle + n < m.directory.over_at)
+    → now ≡ passed_by m n → Turns (Pass n) m now m.cycle None
+pass_turns m now n few before is = record { shown = shown_ }
+  where
+    stands : (s : State) → IsGood s → StandsFor m s → StandsFor (passed_by m n) (after_cycles s n)
+    stands s g st = record {
+      devices = devices_pass n m.devices s st.devices;
+      clock = record { cycle = ap (λ c. c + n) st.clock.cycle; reclaiming = st.clock.reclaiming; half_steps = st.clock.half_steps; written = st.clock.written; resets = st.clock.resets };
+      controllers = record { table = st.controllers.table; directory = st.controllers.directory };
+      wire = record { each = st.wire.each };
+      streams = streams_pass n m.devices.nodes m.streams s g st.devices.nodes st.devices.lingering st.devices.decks st.streams;
+      answered = st.answered;
+      unsent = st.unsent;
+      beside = keeps_beside m (passed_by m n) s (after_cycles s n) (record { candidates = refl; bids = refl; tied = refl; reel = refl })
+          (record { names = refl; kinds = refl; election = refl; latest = refl; dead = refl; tied = refl; reel = refl; fewer = λ q e. e }) st.beside;
+    }
+
+    shown_ : (s : State) → IsGood s → StandsFor m s → (t : State) × Step s (Pass n) (at_most m.cycle None) t × StandsFor now t
+    shown_ s g st =
+        let cycle = st.clock.cycle in
+        let over_at : m.directory.over_at ≡ s.clock.over_at = ap (λ (x : Directory). x.over_at) st.controllers.directory in
+        let second : IsTrue s.account.reclaiming → s.clock.cycle + n < s.clock.over_at =
+        λ runs. let b = before (st.clock.reclaiming ∙ runs) in omega (arith, b, cycle, over_at) in
+        let P : Machine → Type 0 = λ x. StandsFor x (after_cycles s n) in
+        (after_cycles s n, (st.answered, (subst (λ c. c + n ≤ 2 ^ 52) cycle few, second, refl, refl)), subst P (sym is) (stands s g st))
+
+-- ---- the second is over
+
+-- the state in which each controller hears of it, with this account
+heard : State → Account → State
+heard s l = record s { account = l; controllers = λ d. controller_second (s.controllers d); streams = while_talking l s.streams; dub = dub_after_second s.dub }
+
+-- the state after its cycle
+over : State → Account → State
+over s l = after_cycles (heard s l) 1
+
+-- the devices after the second
+rested : Network → Network
+rested n = record n { nodes = map Nodes.after_second n.nodes }
+
+-- the devices stand for it
+devices_rest : (n : Network) (s : State) → HasDevices n s → HasDevices (rested n) (heard s (account_second s.account))
+unfolding heard rested
+devices_rest n s h = record {
+  topology = h.topology;
+  names = h.names;
+  kinds = rested_kinds n.nodes ∙ h.kinds;
+  nodes = nodes_rest n.nodes t (nodes_same n.nodes s t keeps h.nodes);
+  lingering = lingering_rests n.nodes s t (λ p. refl) h.lingering;
+  decks = decks_same (map Nodes.after_second n.nodes) s t refl refl (decks_rest n.nodes s h.decks);
+  hearers = hearers_rest n.nodes s t (λ p. refl) h.hearers;
+  latest = h.latest;
+  epoch = h.epoch;
+  manager = h.manager;
+  withheld = h.withheld;
+}
+  where
+    t : State
+    t = record s {
+      account = account_second s.account;
+      controllers = λ d. controller_second (s.controllers d);
+      streams = while_talking (account_second s.account) s.streams;
+      dub = dub_after_second s.dub;
+    }
+
+    keeps : SameNodes s t
+    keeps = record { names = refl; devices = refl; kinds = refl; latest = refl; bus_manager_id = refl; words = λ r. same_words s.account r; withheld = refl }
+
+-- they do after a cycle, in which tapes move
+devices_end : (n : Network) (s : State) → HasDevices n s → HasDevices (passed_in 1 (rested n)) (over s (account_second s.account))
+unfolding over
+devices_end n s h = devices_pass 1 (rested n) (heard s (account_second s.account)) (devices_rest n s h)
+
+-- the plugs that still talk count the blocks of the cycle
+streams_over : (m : Machine) (s : State) → IsGood s → IsGood (over s (account_second s.account)) → StandsFor m s
+    → HasStreams (counted_on 1 (map Nodes.after_second m.devices.nodes) m.streams) (over s (account_second s.account))
+unfolding heard over rested
+streams_over m s g good st =
+    let t : State = heard s (account_second s.account) in
+    let h = devices_rest m.devices s st.devices in
+    let keeps : SameNodes t (after_cycles t 1) =
+    record { names = refl; devices = refl; kinds = refl; latest = refl; bus_manager_id = refl; words = λ r. refl; withheld = refl } in
+    let nodes = map Nodes.after_second m.devices.nodes in
+    streams_end nodes m.devices.nodes m.streams s t g good st.devices.nodes (length-map m.devices.nodes Nodes.after_second)
+    (nodes_same nodes t (after_cycles t 1) keeps h.nodes)
+    (lingering_same nodes t (after_cycles t 1) (λ p. refl) h.lingering) h.decks refl st.streams
+
+-- the machine does
+rests_stands : (m now : Machine) (s : State) → IsGood s → IsGood (over s (account_second s.account)) → StandsFor m s → RestsAfterSecond m now
+    → StandsFor now (over s (account_second s.account))
+unfolding heard over rested
+rests_stands m now s g good st r =
+    let states = st.controllers.table.states_are in
+    let t : State = over s (account_second s.account) in
+    let P : Network → Type 0 = λ n. HasDevices n t in
+    record {
+      devices = subst P (sym (ap (λ (z : Machine). z.devices) r.after)) (devices_end m.devices s st.devices);
+      clock = record {
+        cycle = ap (λ (z : Machine). z.cycle) r.after ∙ ap (λ c. c + 1) st.clock.cycle;
+        reclaiming = ap (λ (z : Machine). z.reclaiming) r.after;
+        half_steps = ap (λ (z : Machine). z.half_steps) r.after ∙ st.clock.half_steps;
+        written = ap (λ (z : Machine). z.written) r.after ∙ st.clock.written;
+        resets = ap (λ (z : Machine). z.resets) r.after ∙ st.clock.resets;
+      };
+      controllers = record {
+        table = record {
+          count_is = r.table.count_is ∙ st.controllers.table.count_is;
+          states_are = r.table.states_are ∙ (λ i d. after_end (states i d));
+          dead_are = r.table.dead_are ∙ st.controllers.table.dead_are;
+        };
+        directory = ap (λ (z : Machine). z.directory) r.after ∙ st.controllers.directory;
+      };
+      wire = subst (λ (w : Pairs). HasWire w t) (sym (ap (λ (z : Machine). z.wire) r.after)) (record { each = st.wire.each });
+      streams = subst (λ (c : List ℕ). HasStreams c t) (sym (ap (λ (z : Machine). z.streams) r.after)) (streams_over m s g good st);
+      answered = st.answered;
+      unsent = st.unsent;
+      beside = keeps_beside m now s t (record {
+        candidates = ap (λ (z : Machine). z.candidates) r.after;
+        bids = ap (λ (z : Machine). z.bids) r.after;
+        tied = ap (λ (z : Machine). z.tied) r.after;
+        reel = ap (λ (z : Machine). z.reel) r.after;
+      }) (record { names = refl; kinds = refl; election = refl; latest = refl; dead = refl; tied = refl; reel = refl; fewer = λ q e. refl }) st.beside;
+    }
+
+-- the end of the second of the machine is the action of the run
+pub second_turns : (m now : Machine) → m.reclaiming ≡ true → m.cycle + 1 ≡ m.directory.over_at → m.cycle + 1 ≤ 2 ^ 52 → RestsAfterSecond m now
+    → Turns EndSecond m now (m.cycle + 1) (Some second_over)
+unfolding heard over
+second_turns m now runs at few r = record { shown = shown_ }
+  where
+    shown_ : (s : State) → IsGood s → StandsFor m s → (t : State) × Step s EndSecond (at_most (m.cycle + 1) (Some second_over)) t × StandsFor now t
+    shown_ s g st =
+        let running : s.account.reclaiming ≡ true = sym st.clock.reclaiming ∙ runs in
+        let cycle = st.clock.cycle in
+        let over_at : s.clock.cycle + 1 ≡ s.clock.over_at = sym (ap (λ c. c + 1) cycle) ∙ (at ∙ ap (λ (x : Directory). x.over_at) st.controllers.directory) in
+        let small : s.clock.cycle + 1 ≤ 2 ^ 52 = subst (λ c. c + 1 ≤ 2 ^ 52) cycle few in
+        let good : IsGood (over s (account_second s.account)) =
+        subst (λ l. IsGood (over s l)) (second_ends s.account running) (second_good s g running small) in
+        let P : Account → Type 0 = λ l. StandsFor now (over s l) in (
+          after_cycles (after_second s) 1,
+          (st.answered, (small, running, over_at, ap (λ c. at_most (c + 1) (Some second_over)) cycle, refl)),
+          subst P (sym (second_ends s.account running)) (rests_stands m now s g good st r),
+        )

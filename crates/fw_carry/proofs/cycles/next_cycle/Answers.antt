@@ -1,0 +1,24 @@
+use Rattle.std.proofs.Common.{◌≡◌, ◌+◌, true, false, ap, sym, ◌∙◌}
+use Rattle.fw_machine.specs.declared.machine.Machine.{Machine}
+use Rattle.fw_carry.proofs.CycleTurns.{comes_over, comes_alone}
+use Rattle.fw_carry.proofs.Packets.{talkers_pass}
+use Rattle.fw_carry.proofs.cycles.next_cycle.Goals as goal
+use Rattle.fw_carry.proofs.cycles.next_cycle.Goals.{else-machine-via-then-machine+else-machine-2, else-machine-via-else-machine}
+
+pub returns-then-machine-2 : goal.returns-then-machine-2
+returns-then-machine-2 g c = record {
+  talkers = c.talkers.ensures;
+  does = comes_over c.if-machine.true (sym c.if-machine-2.true) c.end_second-written.ensures.does;
+}
+
+pub returns-else-machine : goal.returns-else-machine
+returns-else-machine g c =
+    let m = c.args.machine.now in
+    let apart : m.reclaiming ≡ true → m.cycle + 1 ≡ m.directory.over_at → ⊥ = λ runs at. elim c.else-machine.branch [
+      | else-machine-via-then-machine+else-machine-2 w ↦ w.if-machine-2.false (sym at)
+      | else-machine-via-else-machine w ↦ let no : false ≡ true = sym w.if-machine.false ∙ runs in let bad : ⊥ = cc in bad
+    ] in
+    record {
+      talkers = talkers_pass m c.pass.new.machine 1 (ap (λ (z : Machine). z.devices) c.pass.ensures) c.requires.talkers;
+      does = comes_alone _ _ _ _ (tt {0}) c.requires.ready c.requires.few apart c.pass.ensures;
+    }

@@ -1,0 +1,83 @@
+-- proofs/machine/Machine/send_frame/Answers.antt
+use Rattle.std.proofs.Common.{refl, sym, ◌∙◌}
+use Rattle.std.specs.Prelude.{Err, Ok}
+use Rattle.fw_node.specs.Fcp.{frame_packet, number_of}
+use Rattle.fw_devices.specs.Network.{node_at}
+use Rattle.fw_carry.proofs.Doings.{does_asked, does_unasked}
+use Rattle.fw_carry.proofs.FrameCalls.{addressed_to, answered, answered_fewer, answered_talks, outgoing, outgoing_asks, reaches}
+use Rattle.fw_carry.proofs.Sending.{sends_none, sends_one, sends_cut}
+use Rattle.fw_carry.proofs.frames.send_frame.Goals as goal
+
+pub addressee-to-requires : goal.addressee-to-requires
+addressee-to-requires g c =
+    let packet = sym c.in-Some.is ∙ c.outgoing.ensures.packet in
+    let out = outgoing c.args.machine.now c.args.device c.outgoing.new.self c.in-Some.frame c.requires.declared packet c.outgoing.ensures.node in
+    record { frame = addressed_to c.requires.ready out }
+
+-- ---- the node answers
+
+pub answer-response-requires-clause-request : goal.answer-response-requires-clause-request
+answer-response-requires-clause-request g c =
+    let packet = sym c.in-Some.is ∙ c.outgoing.ensures.packet in
+    outgoing_asks (outgoing c.args.machine.now c.args.device c.outgoing.new.self c.in-Some.frame c.requires.declared packet c.outgoing.ensures.node)
+
+pub answer-response-requires-clause-declared : goal.answer-response-requires-clause-declared
+answer-response-requires-clause-declared g c =
+    let packet = sym c.in-Some.is ∙ c.outgoing.ensures.packet in
+    let out = outgoing c.args.machine.now c.args.device c.outgoing.new.self c.in-Some.frame c.requires.declared packet c.outgoing.ensures.node in
+    (reaches c.addressee-to.result c.requires.ready out c.addressee-to.ensures).declared
+
+pub answer-response-requires-clause-number : goal.answer-response-requires-clause-number
+answer-response-requires-clause-number g c =
+    let packet = sym c.in-Some.is ∙ c.outgoing.ensures.packet in
+    let out = outgoing c.args.machine.now c.args.device c.outgoing.new.self c.in-Some.frame c.requires.declared packet c.outgoing.ensures.node in
+    (reaches c.addressee-to.result c.requires.ready out c.addressee-to.ensures).number
+
+pub answer-response-requires-clause-link : goal.answer-response-requires-clause-link
+answer-response-requires-clause-link g c =
+    let packet = sym c.in-Some.is ∙ c.outgoing.ensures.packet in
+    let out = outgoing c.args.machine.now c.args.device c.outgoing.new.self c.in-Some.frame c.requires.declared packet c.outgoing.ensures.node in
+    (reaches c.addressee-to.result c.requires.ready out c.addressee-to.ensures).link
+
+-- ---- no frame
+
+pub returns-in_default-clause-does : goal.returns-in_default-clause-does
+returns-in_default-clause-does g c =
+    let m = c.args.machine.now in
+    sends_none (frame_packet (number_of (node_at m.devices.nodes c.args.device).number)) m c.outgoing.new.self c.args.device _ _ c.requires.declared
+    (sym c.in_default.is ∙ c.outgoing.ensures.packet) c.outgoing.ensures.node
+
+-- ---- a frame
+
+pub returns-in_err-give-clause-does : goal.returns-in_err-give-clause-does
+returns-in_err-give-clause-does g c =
+    let packet = sym c.in-Some.is ∙ c.outgoing.ensures.packet in
+    let out = outgoing c.args.machine.now c.args.device c.outgoing.new.self c.in-Some.frame c.requires.declared packet c.outgoing.ensures.node in
+    let talks = answered_talks (answered c.requires.ready out c.addressee-to.ensures c.answer-response.ensures.response c.answer-response.ensures.registers) in
+    let failed = c.from_residual.ensures.0 in
+    let did = does_unasked _ _ _ (Err _) c.from_residual.result talks (λ n. refl) (λ n. refl) refl failed c.in_err-give.ensures.bytes c.in_err-give.ensures.faults in
+    sends_cut c.args.device _ _ failed failed did
+
+pub returns-in_err-give-2-clause-does : goal.returns-in_err-give-2-clause-does
+returns-in_err-give-2-clause-does g c =
+    let packet = sym c.in-Some.is ∙ c.outgoing.ensures.packet in
+    let out = outgoing c.args.machine.now c.args.device c.outgoing.new.self c.in-Some.frame c.requires.declared packet c.outgoing.ensures.node in
+    let talks = answered_talks (answered c.requires.ready out c.addressee-to.ensures c.answer-response.ensures.response c.answer-response.ensures.registers) in
+    let given = c.in_ok-give.ensures in
+    let did = does_asked _ _ _ _ (Err _) talks (λ n. refl) (λ n. refl) given.bytes given.faults c.in_err-give-2.ensures.bytes c.in_err-give-2.ensures.faults in
+    sends_cut c.args.device _ _ refl c.from_residual-in_err-give-2.ensures.0 did
+
+pub returns-clause-does : goal.returns-clause-does
+returns-clause-does g c =
+    let packet = sym c.in-Some.is ∙ c.outgoing.ensures.packet in
+    let out = outgoing c.args.machine.now c.args.device c.outgoing.new.self c.in-Some.frame c.requires.declared packet c.outgoing.ensures.node in
+    let talks = answered_talks (answered c.requires.ready out c.addressee-to.ensures c.answer-response.ensures.response c.answer-response.ensures.registers) in
+    let given = c.in_ok-give.ensures in
+    let did = does_asked _ _ _ _ (Ok _) talks (λ n. refl) (λ n. refl) given.bytes given.faults c.in_ok-give-2.ensures.bytes c.in_ok-give-2.ensures.faults in
+    sends_one c.args.device did
+
+pub returns-clause-fewer : goal.returns-clause-fewer
+returns-clause-fewer g c =
+    let packet = sym c.in-Some.is ∙ c.outgoing.ensures.packet in
+    let out = outgoing c.args.machine.now c.args.device c.outgoing.new.self c.in-Some.frame c.requires.declared packet c.outgoing.ensures.node in
+    λ sent. answered_fewer (answered c.requires.ready out c.addressee-to.ensures c.answer-response.ensures.response c.answer-response.ensures.registers)

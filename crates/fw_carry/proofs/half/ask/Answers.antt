@@ -1,0 +1,140 @@
+use Rattle.std.proofs.Common.{◌≡◌, ℕ, ◌<◌, inl, inr, List, [], ◌∷◌, ◌++◌, false, Some, None, IfSome, refl, ap, sym, subst, ◌∙◌}
+use Rattle.fw_async.specs.Async.{spelling}
+use Rattle.fw_async.specs.Wire.{Pairs}
+use Rattle.fw_node.specs.Packets.{packet_of, request_head}
+use Rattle.fw_outside.proofs.Parts.{Grows-nothing}
+use Rattle.fw_entry.specs.declared.entry.Entry.TheVariants.{Async}
+use Rattle.fw_cmp.specs.declared.outcome.Next.{Next}
+use Rattle.fw_cmp.specs.Turns.{addressee_in}
+use Rattle.fw_step.specs.Requests.{is_sent}
+use Rattle.fw_run.specs.HalfSteps.{half, said}
+use Rattle.fw_carry.specs.Doings.{Takes}
+use Rattle.fw_carry.proofs.Doings.{no_faults}
+use Rattle.fw_carry.proofs.HalfTurns.{IsSilent, takes_asks, rests_says, node_numbers}
+use Rattle.fw_carry.proofs.ResetTurns.{ready_cycle}
+use Rattle.fw_carry.proofs.HalfWires.{Sends, sends_takes, sends_fits, sends_free, quiet_wire}
+use Rattle.fw_machine.proofs.Heard.{reached_here}
+use Rattle.fw_carry.proofs.half.ask.Goals as goal
+
+pub next-requires-clause-nodes : goal.next-requires-clause-nodes
+next-requires-clause-nodes g c = let r = c.requires.ready in node_numbers c.args.machine.now r.state c.args.device r.good r.stands c.requires.living
+
+pub next-requires-clause-heard : goal.next-requires-clause-heard
+next-requires-clause-heard g c = inr c.requires.heard.1
+
+pub next-requires-clause-reached : goal.next-requires-clause-reached
+next-requires-clause-reached g c = let r = c.requires.ready in reached_here c.args.machine.now r.state c.args.device r.good r.stands
+
+pub next-requires-clause-now : goal.next-requires-clause-now
+next-requires-clause-now g c = ready_cycle c.requires.ready
+
+-- ---- a request goes out
+
+pub put_request-requires-clause-fits : goal.put_request-requires-clause-fits
+put_request-requires-clause-fits g c =
+    let p = packet_of (request_head c.number-own.result c.in-Send.to 0) c.in-Send.request in
+    let x : Sends c.args.machine.now c.args.device c.in-Send.to c.number-own.result c.next.new.self c.in-Send.request p = record {
+      lives = c.requires.living;
+      heard = c.requires.heard;
+      table = c.next.ensures.state;
+      says = sym c.next.ensures.answer ∙ c.in-Send.is;
+      low = subst (λ (x : Next). IfSome (addressee_in x) (λ t. t < 63)) c.in-Send.is c.next.ensures.addressee;
+      number = c.number-own.ensures.value;
+      packet = refl;
+    } in
+    sends_fits c.requires.ready x
+
+pub put_bytes-requires-clause-free : goal.put_bytes-requires-clause-free
+put_bytes-requires-clause-free g c =
+    let p = packet_of (request_head c.number-own.result c.in-Send.to 0) c.in-Send.request in
+    let x : Sends c.args.machine.now c.args.device c.in-Send.to c.number-own.result c.next.new.self c.in-Send.request p = record {
+      lives = c.requires.living;
+      heard = c.requires.heard;
+      table = c.next.ensures.state;
+      says = sym c.next.ensures.answer ∙ c.in-Send.is;
+      low = subst (λ (x : Next). IfSome (addressee_in x) (λ t. t < 63)) c.in-Send.is c.next.ensures.addressee;
+      number = c.number-own.ensures.value;
+      packet = refl;
+    } in
+    sends_free c.requires.ready x
+
+pub put_bytes-requires-clause-packet : goal.put_bytes-requires-clause-packet
+put_bytes-requires-clause-packet g c =
+    let p = packet_of (request_head c.number-own.result c.in-Send.to 0) c.in-Send.request in
+    let x : Sends c.args.machine.now c.args.device c.in-Send.to c.number-own.result c.next.new.self c.in-Send.request p = record {
+      lives = c.requires.living;
+      heard = c.requires.heard;
+      table = c.next.ensures.state;
+      says = sym c.next.ensures.answer ∙ c.in-Send.is;
+      low = subst (λ (x : Next). IfSome (addressee_in x) (λ t. t < 63)) c.in-Send.is c.next.ensures.addressee;
+      number = c.number-own.ensures.value;
+      packet = refl;
+    } in
+    record { packet = p; spells = record { fits = sends_fits c.requires.ready x; same = sym c.put_request.ensures } }
+
+pub give_packet-requires : goal.give_packet-requires
+give_packet-requires g c =
+    let p = packet_of (request_head c.number-own.result c.in-Send.to 0) c.in-Send.request in
+    let x : Sends c.args.machine.now c.args.device c.in-Send.to c.number-own.result c.next.new.self c.in-Send.request p = record {
+      lives = c.requires.living;
+      heard = c.requires.heard;
+      table = c.next.ensures.state;
+      says = sym c.next.ensures.answer ∙ c.in-Send.is;
+      low = subst (λ (x : Next). IfSome (addressee_in x) (λ t. t < 63)) c.in-Send.is c.next.ensures.addressee;
+      number = c.number-own.ensures.value;
+      packet = refl;
+    } in
+    record { packet = p; spells = record { fits = sends_fits c.requires.ready x; same = sym c.put_request.ensures } }
+
+pub returns-in-Send-clause-speaks : goal.returns-in-Send-clause-speaks
+returns-in-Send-clause-speaks g c =
+    let p = packet_of (request_head c.number-own.result c.in-Send.to 0) c.in-Send.request in
+    let x : Sends c.args.machine.now c.args.device c.in-Send.to c.number-own.result c.next.new.self c.in-Send.request p = record {
+      lives = c.requires.living;
+      heard = c.requires.heard;
+      table = c.next.ensures.state;
+      says = sym c.next.ensures.answer ∙ c.in-Send.is;
+      low = subst (λ (x : Next). IfSome (addressee_in x) (λ t. t < 63)) c.in-Send.is c.next.ensures.addressee;
+      number = c.number-own.ensures.value;
+      packet = refl;
+    } in
+    let m = c.args.machine.now in
+    let wire : c.put_bytes.new.self ≡ m.wire ++ (c.number-own.result, spelling p) ∷ [] = c.put_bytes.ensures ∙ ap (λ (b : List ℕ). m.wire ++ (c.number-own.result, b) ∷ []) c.put_request.ensures in
+    record {
+      entry = Some (Async p);
+      takes = subst (λ (w : Pairs). Takes half m (record m { controllers = c.next.new.self; wire = w }) c.args.device (Some (Async p))) (sym wire) (sends_takes x);
+      gives = c.give_packet.ensures.bytes p (record { fits = sends_fits c.requires.ready x; same = sym c.put_request.ensures });
+      faults = c.give_packet.ensures.faults;
+    }
+
+-- ---- the job ends
+
+pub returns-in-End-clause-speaks : goal.returns-in-End-clause-speaks
+returns-in-End-clause-speaks g c = record {
+  entry = Some c.outcome_entry.result;
+  takes = takes_asks c.args.machine.now c.next.new.self c.args.machine.now.wire c.args.device _ c.requires.living c.requires.heard c.next.ensures.state
+      (λ s g st. ap (λ e. Some e) c.outcome_entry.ensures ∙ sym (ap (said s c.args.device) (sym c.next.ensures.answer ∙ c.in-End.is)))
+      (quiet_wire c.args.machine.now c.args.device c.requires.living c.requires.heard (ap is_sent (sym c.next.ensures.answer ∙ c.in-End.is)));
+  gives = c.give.ensures.bytes;
+  faults = c.give.ensures.faults;
+}
+
+-- ---- nothing to do
+
+silent : (x : Next) → IsSilent x → is_sent x ≡ false
+silent x (inl e) = ap is_sent e
+silent x (inr (inl w)) = ap is_sent w.1
+silent x (inr (inr (inl w))) = ap is_sent w.1
+silent x (inr (inr (inr e))) = ap is_sent e
+
+pub returns-in-Idle-clause-speaks : goal.returns-in-Idle-clause-speaks
+returns-in-Idle-clause-speaks g c =
+    let quiet : is_sent c.next.result ≡ false = silent c.next.result c.in-Idle.is in
+    record {
+      entry = None;
+      takes = takes_asks c.args.machine.now c.next.new.self c.args.machine.now.wire c.args.device _ c.requires.living c.requires.heard c.next.ensures.state
+          (λ s g st. subst (λ x. None ≡ said s c.args.device x) c.next.ensures.answer (rests_says s c.args.device c.next.result c.in-Idle.is))
+          (quiet_wire c.args.machine.now c.args.device c.requires.living c.requires.heard (ap is_sent (sym c.next.ensures.answer) ∙ quiet));
+      gives = Grows-nothing (g.K.Sink.held c.args.sink.now);
+      faults = no_faults (g.K.Sink.faults c.args.sink.now) tt;
+    }

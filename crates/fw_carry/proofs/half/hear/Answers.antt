@@ -1,0 +1,33 @@
+use Rattle.std.proofs.Common.{ap, Some}
+use Rattle.fw_entry.specs.declared.entry.Entry.TheVariants.{Async}
+use Rattle.fw_machine.specs.declared.machine.Machine.{Machine}
+use Rattle.fw_carry.proofs.HalfLives.{living_stays}
+use Rattle.fw_carry.proofs.Served.{served_within, served_awaits, served_hears}
+use Rattle.fw_carry.proofs.half.hear.Goals as goal
+
+pub hear-requires-clause-device : goal.hear-requires-clause-device
+hear-requires-clause-device g c = served_within _ _ _ _ _ c.requires.ready c.requires.living c.in-Some.ensures
+
+pub hear-requires-clause-stands : goal.hear-requires-clause-stands
+hear-requires-clause-stands g c = served_awaits _ _ _ _ _ c.requires.standing c.in-Some.ensures
+
+pub give_packet-requires : goal.give_packet-requires
+give_packet-requires g c = record { packet = c.in-Some.ensures.response; spells = c.in-Some.ensures.spells }
+
+pub returns : goal.returns
+returns g c =
+    let m : Machine = c.args.machine.now in
+    let s = c.in-Some.ensures in
+    let takes = served_hears m _ c.hear.new.self c.args.device _ _ c.requires.living c.requires.standing s c.hear.ensures in
+    record {
+      speaks = record {
+        entry = Some (Async s.response);
+        takes = takes;
+        gives = c.give_packet.ensures.bytes s.response s.spells;
+        faults = c.give_packet.ensures.faults;
+      };
+      living = living_stays m _ c.args.device (Some (Async s.response)) c.requires.ready c.requires.living c.requires.standing.0 takes;
+      time = ap (λ (z : Machine). z.cycle) s.after;
+      half_steps = ap (λ (z : Machine). z.half_steps) s.after;
+      names = ap (λ (z : Machine). z.devices.names) s.after;
+    }

@@ -1,0 +1,9 @@
+use Rattle.fw_carry.proofs.Doings.{does_silent}
+use Rattle.fw_carry.proofs.LifeTurns.{break_turns}
+use Rattle.fw_carry.proofs.lives.break_connection.Goals as goal
+
+pub returns : goal.returns
+returns g c = record {
+  does = does_silent (g.K.Sink.held c.args.sink.now) (g.K.Sink.faults c.args.sink.now) c.args.machine.now.cycle tt
+      (break_turns c.args.machine.now c.break_connection.new.self c.args.device c.args.slot c.requires.living c.requires.accepted c.break_connection.ensures);
+}

@@ -1,0 +1,9 @@
+use Rattle.fw_carry.proofs.Doings.{does_silent}
+use Rattle.fw_carry.proofs.LifeTurns.{connect_turns}
+use Rattle.fw_carry.proofs.lives.connect.Goals as goal
+
+pub returns : goal.returns
+returns g c = record {
+  does = does_silent (g.K.Sink.held c.args.sink.now) (g.K.Sink.faults c.args.sink.now) c.args.machine.now.cycle tt
+      (connect_turns c.args.machine.now c.connect.new.self c.args.device c.args.wanted.now c.requires.living c.requires.slot c.requires.accepted c.connect.ensures);
+}

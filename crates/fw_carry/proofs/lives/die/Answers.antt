@@ -1,0 +1,18 @@
+use Rattle.std.proofs.Common.{◌≡◌, true, sym, subst, ◌∙◌}
+use Rattle.std.proofs.lemmas.Bool.{false≢true}
+use Rattle.fw_cmp.specs.Losses.{MayTurn}
+use Rattle.fw_machine.specs.Tables.{states_of}
+use Rattle.fw_carry.proofs.Doings.{does_when}
+use Rattle.fw_carry.proofs.LifeOrders.{dies_at}
+use Rattle.fw_carry.proofs.lives.die.Goals as goal
+use Rattle.fw_carry.proofs.lives.die.Goals.{else-late-via-then-late+else-has_request, else-late-via-else-late}
+
+-- no request stands, or none is to be carried out
+pub returns-else-late : goal.returns-else-late
+returns-else-late g c = record { does = does_when (dies_at c.args.machine.now c.args.device c.args.late quiet) c.stop.ensures }
+  where
+    quiet : c.args.late ≡ true → MayTurn (states_of c.args.machine.now.controllers c.args.device)
+    quiet late = elim c.else-late.branch [
+      | else-late-via-then-late+else-has_request w ↦ subst MayTurn w.get.ensures (w.has_request.ensures.heard.0 w.if-has_request.false)
+      | else-late-via-else-late w ↦ absurd (false≢true (sym w.if-late.false ∙ late))
+    ]

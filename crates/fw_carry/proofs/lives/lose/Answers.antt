@@ -1,0 +1,18 @@
+use Rattle.std.proofs.Common.{refl, Err, Some}
+use Rattle.fw_run.specs.Entries.{lost}
+use Rattle.fw_carry.proofs.Doings.{does_cut, does_one, does_then}
+use Rattle.fw_machine.proofs.Living.{living_there}
+use Rattle.fw_carry.proofs.Losing.{loses_follows, loses_goes, tells_turns}
+use Rattle.fw_carry.proofs.lives.lose.Goals as goal
+
+pub returns-in_err-lose_response : goal.returns-in_err-lose_response
+returns-in_err-lose_response g c =
+    record { does = does_cut (Err c.in_err-lose_response.field-0.0) c.from_residual.result (loses_goes c.args.machine.now c.args.device) refl c.from_residual.ensures.0 c.in_err-lose_response.ensures.does }
+
+pub lost-requires : goal.lost-requires
+lost-requires g c = (living_there c.args.machine.now c.args.device c.requires.ready c.requires.living).low
+
+pub returns : goal.returns
+returns g c =
+    let told = does_one _ (Some (lost c.args.device)) c.give.result (tells_turns _ c.args.device c.in_ok-lose_response.ensures.deaf) (rw c.lost.ensures.value at c.give.ensures.bytes) c.give.ensures.faults in
+    record { does = does_then c.give.result (loses_follows c.args.machine.now c.args.device) c.in_ok-lose_response.ensures.does told }

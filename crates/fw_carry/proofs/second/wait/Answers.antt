@@ -1,0 +1,13 @@
+use Rattle.std.proofs.Common.{◌≡◌, ◌+◌, ◌<◌, true, false, sym, ◌∙◌, arith}
+use Rattle.fw_carry.proofs.Waits.{waits_by}
+use Rattle.fw_carry.proofs.second.wait.Goals as goal
+use Rattle.fw_carry.proofs.second.wait.Goals.{else-machine-via-then-machine+else-machine-last, else-machine-via-else-machine}
+
+pub returns-else-machine : goal.returns-else-machine
+returns-else-machine g c =
+    let m = c.args.machine.now in
+    let before : m.reclaiming ≡ true → m.cycle + c.args.cycles < m.directory.over_at = λ runs. elim c.else-machine.branch [
+      | else-machine-via-then-machine+else-machine-last w ↦ let same = c.from.ensures in let late = w.if-machine-last.false in omega (arith, late, same)
+      | else-machine-via-else-machine w ↦ let no : false ≡ true = sym w.if-machine.false ∙ runs in let bad : ⊥ = cc in absurd bad
+    ] in
+    record { does = waits_by _ _ _ _ _ (tt {0}) c.requires.few before (rw c.from-else-machine.ensures at c.pass.ensures) }

@@ -1,0 +1,37 @@
+-- proofs/machine/Machine/eject/Answers.antt
+use Rattle.std.proofs.Common.{refl, sym, ◌∙◌}
+use Rattle.std.specs.Prelude.{Err, Ok}
+use Rattle.fw_carry.proofs.Doings.{does_one, does_then, ready_after}
+use Rattle.fw_carry.proofs.TapeTurns.{eject_turns, eject_follows, eject_cut, ejects_none, few_devices}
+use Rattle.fw_carry.proofs.tapes.eject.Goals as goal
+
+pub ejected-requires : goal.ejected-requires
+ejected-requires g c = few_devices c.requires.ready c.requires.declared
+
+pub send_frames-requires-clause-ready : goal.send_frames-requires-clause-ready
+send_frames-requires-clause-ready g c =
+    let was = sym c.eject.ensures.was_in ∙ c.if-not-eject.false in
+    let turn = eject_turns c.args.machine.now c.eject.new.self c.args.device _ c.requires.declared c.requires.deck was
+    c.ejected.ensures.value c.eject.ensures.out in
+    ready_after c.requires.ready (does_one _ _ (Ok _) turn c.in_ok-give.ensures.bytes c.in_ok-give.ensures.faults)
+
+pub returns-then-not-eject : goal.returns-then-not-eject
+returns-then-not-eject g c =
+    let none = sym c.eject.ensures.was_in ∙ c.if-not-eject.true in
+    record { does = ejects_none c.args.machine.now c.eject.new.self c.args.device _ _ _ c.requires.declared c.requires.deck none c.eject.ensures.out }
+
+pub returns-in_err-give : goal.returns-in_err-give
+returns-in_err-give g c =
+    let was = sym c.eject.ensures.was_in ∙ c.if-not-eject.false in
+    let turn = eject_turns c.args.machine.now c.eject.new.self c.args.device _ c.requires.declared c.requires.deck was
+    c.ejected.ensures.value c.eject.ensures.out in
+    let did = does_one _ _ (Err _) turn c.in_err-give.ensures.bytes c.in_err-give.ensures.faults in
+    record { does = eject_cut c.args.device _ _ refl c.from_residual.ensures.0 did }
+
+pub returns : goal.returns
+returns g c =
+    let was = sym c.eject.ensures.was_in ∙ c.if-not-eject.false in
+    let turn = eject_turns c.args.machine.now c.eject.new.self c.args.device _ c.requires.declared c.requires.deck was
+    c.ejected.ensures.value c.eject.ensures.out in
+    let did = does_one _ _ (Ok _) turn c.in_ok-give.ensures.bytes c.in_ok-give.ensures.faults in
+    record { does = does_then _ (eject_follows c.args.device) did c.send_frames.ensures.does }

@@ -1,0 +1,35 @@
+-- Half steps of candidates for the bus manager, of the machine.
+use Rattle.std.specs.Prelude.{ℕ, ◌≡◌, ◌<◌, List, Option, Some, IsTrue, IsFalse}
+use Rattle.std.specs.declared.result.Result.{Result}
+use Rattle.fw_entry.specs.declared.entry.Entry.{Entry}
+use Rattle.fw_manager.specs.Bids.{CandidateState, is_standing_in}
+use Rattle.fw_run.specs.Actions.{Contend}
+use Rattle.fw_run.specs.Giving.{Gives}
+use Rattle.fw_machine.specs.Candidates.{candidate_in}
+use Rattle.fw_carry.specs.Doings.{Turns}
+use Rattle.fw_machine.specs.Faults.{CountsFaults}
+use Rattle.fw_machine.specs.declared.machine.Machine.{Machine}
+
+-- the device is a candidate that may take a half step, on a bus whose resource manager is this one
+pub record Contender (m : Machine) (d manager : ℕ) : Type 0 where
+  pub candidate : CandidateState
+  pub is : candidate_in m.candidates d ≡ Some candidate
+  pub manages : m.devices.manager ≡ Some manager
+  pub few : m.half_steps < 4000000
+
+-- its request stands
+pub record BidStands (m : Machine) (d manager : ℕ) : Type 0 where
+  pub contender : Contender m d manager
+  pub stands : IsTrue (is_standing_in m.devices.epoch contender.candidate)
+
+-- no request of it stands
+pub record BidRests (m : Machine) (d manager : ℕ) : Type 0 where
+  pub contender : Contender m d manager
+  pub rests : IsFalse (is_standing_in m.devices.epoch contender.candidate)
+
+-- it took a half step, whose entry, if any, was written, or a front of it
+pub record TakesBid {T E : Type 0} (m now : Machine) (d : ℕ) (held after : Option (List ℕ)) (count counts : ℕ) (result : Result T E) : Type 0 where
+  pub entry : Option Entry
+  pub turns : Turns (Contend d) m now now.cycle entry
+  pub gives : Gives held after result now.cycle now.devices.epoch entry
+  pub faults : CountsFaults count counts result

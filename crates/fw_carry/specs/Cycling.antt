@@ -1,0 +1,121 @@
+-- Cycles that are written: who talks in them, and what a desk gives.
+use Rattle.std.specs.Prelude.{ℕ, ◌≡◌, ◌==◌, ◌≤◌, ◌%◌, List, [], ◌∷◌, Option, Some, None, Ok, is_some, if◌then◌else◌, IsTrue}
+use Rattle.std.specs.declared.result.Result.{Result}
+use Rattle.fw_base.specs.Tables.{at_plug}
+use Rattle.fw_account.specs.Account.{talks}
+use Rattle.fw_run.specs.Actions.{SendPacket, StartCycle}
+use Rattle.fw_run.specs.Carrying.{next_cycle, SendsPackets, HasCycle, HasCycles}
+use Rattle.fw_run.specs.Carrying as Carries
+use Rattle.fw_run.specs.Recording.{block_among, heard_in, records, room_of, tape_in}
+use Rattle.fw_dub.specs.Reels.{kept}
+use Rattle.std.specs.Option.{option_map, option_and_then}
+use Rattle.fw_run.specs.Desks.{DeskRelations}
+use Rattle.fw_run.specs.Good.{IsGood}
+use Rattle.fw_run.specs.State.{State}
+use Rattle.fw_run.specs.Streams.{GivenBlock, bytes_of, sent_before, talkers_to}
+use Rattle.fw_carry.specs.Doings.{Deed, Acts}
+use Rattle.fw_machine.specs.Faults.{CountsFaults}
+use Rattle.fw_carry.specs.Framing.{EndsBy}
+use Rattle.fw_machine.specs.Stands.{StandsFor}
+use Rattle.fw_machine.specs.Streaming.{count_at}
+use Rattle.fw_machine.specs.declared.machine.Machine.{Machine}
+use Rattle.fw_carry.specs.declared.dubs.Recording.{Recording}
+use Rattle.fw_entry.specs.declared.entry.Timed.{Timed}
+
+-- ---- who talks
+
+-- these are the counts before the cycle that has come, of the plugs that talk in it
+pub record HadSent (counts : List ℕ) (s : State) : Type 0 where
+  pub each : (d : ℕ) → IsTrue (talks s.account (at_plug d 0)) → count_at counts d ≡ sent_before s (at_plug d 0) % 256
+
+-- ---- deeds
+
+-- the next cycle comes
+abbrev pub Comes : Deed
+Comes s ys out t = Acts (next_cycle s ∷ []) s ys out t
+
+-- and its cycle start is written
+abbrev pub Begins : Deed
+Begins s ys out t = Acts (next_cycle s ∷ StartCycle ∷ []) s ys out t
+
+-- those that talk on the first n channels send theirs, in order of channel
+abbrev pub SendsTo : ℕ → Deed
+SendsTo n s ys out t = SendsPackets (talkers_to n s.account) s ys out t
+
+-- ---- what is heard of the packets
+
+-- a block that is written on a channel
+abbrev pub hearing : ℕ → List ℕ → Recording → Recording
+hearing channel bytes r = record r { block = if r.channel == channel then Some bytes else r.block }
+
+-- the block of a packet, if it has one, where a deck records
+abbrev pub hearing_of : ℕ → Option (List ℕ) → Option Recording → Option Recording
+hearing_of channel None o = o
+hearing_of channel (Some bytes) o = option_map (hearing channel bytes) o
+
+-- the block on its channel among the entries of a cycle
+abbrev pub heard_among : List Timed → Option Recording → Option Recording
+heard_among out o = option_map (λ (r : Recording). record r { block = block_among r.channel out }) o
+
+-- it is the same but for the block
+abbrev pub unheard : Option Recording → Option Recording
+unheard o = option_map (λ (r : Recording). record r { block = None }) o
+
+-- the output plug of a device sends its packet of the cycle, on this channel
+abbrev pub SendsHeard : ℕ → ℕ → Option Recording → Option Recording → Deed
+SendsHeard d channel old new s ys out t =
+    (block : Option GivenBlock) × Acts (SendPacket (at_plug d 0) block ∷ []) s ys out t × (new ≡ hearing_of channel (bytes_of block) old)
+
+-- those that talk on the first n channels send theirs, and what is recorded of them is heard
+abbrev pub HearsTo : ℕ → Option Recording → Option Recording → Deed
+HearsTo n old new s ys out t =
+    SendsTo n s ys out t × (new ≡ heard_among out old) × ((channel : ℕ) → n ≤ channel → block_among channel out ≡ None)
+
+-- ---- what is recorded of a cycle
+
+-- what a deck records, before anything is written
+abbrev pub recording_of : State → ℕ → Option Recording
+recording_of s d =
+    if records s d then Some (record { channel = s.account.input_channel (at_plug d 0); limit = room_of (tape_in s d); block = None }) else None
+
+abbrev pub recording_by : State → Option ℕ → Option Recording
+recording_by s None = None
+recording_by s (Some d) = recording_of s d
+
+-- what the tied deck records
+abbrev pub recording_in : State → Option Recording
+recording_in s = recording_by s s.dub.tied
+
+-- the block that was heard, if one was
+abbrev pub block_in : Option Recording → Option (List ℕ)
+block_in o = option_and_then (λ (r : Recording). r.block) o
+
+-- all that talk send their packets, and this block is heard
+abbrev pub Hears : Option (List ℕ) → Deed
+Hears block s ys out t = SendsTo 64 s ys out t × (block ≡ heard_in s out)
+
+-- a cycle comes and is written, and this block is heard
+abbrev pub WritesHeard : Option (List ℕ) → Deed
+WritesHeard block s ys out t = IsTrue (is_some s.account.latest) × Carries.WritesCycle s ys out t × (block ≡ heard_in t out)
+
+-- the block goes onto the reel
+abbrev pub reel_after : Option Recording → List (List ℕ) → List (List ℕ)
+reel_after None reel = reel
+reel_after (Some r) reel = elim r.block [ None ↦ reel | Some bytes ↦ kept r.limit bytes reel ]
+
+-- a cycle comes and is written, and so many
+abbrev pub WritesCycle : Deed
+WritesCycle s ys out t = HasCycle s.account.latest s ys out t
+
+abbrev pub WritesCycles : ℕ → Deed
+WritesCycles n s ys out t = HasCycles n s ys out t
+
+-- what a call did with what the desk gave, from any good state that the machine stood for and of which this holds
+pub record DoesWhere {T E : Type 0} (A : State → Type 0) (D : DeskRelations) (P : Deed)
+    (m now : Machine) (held after : Option (List ℕ)) (count counts : ℕ) (result : Result T E) : Type 0 where
+  pub faults : CountsFaults count counts result
+  pub shown : (s : State) → IsGood s → StandsFor m s → A s → EndsBy D (P s) s now held after result
+
+-- in a room stands what this writes: it grew by the entries
+abbrev pub Puts : (State → Type 0) → DeskRelations → Deed → Machine → List ℕ → List ℕ → Type 0
+Puts A D P m old new = DoesWhere {T = Unit {0}} {E = Unit {0}} A D P m m (Some old) (Some new) 0 0 (Ok (tt {0}))

@@ -1,0 +1,152 @@
+//! Half steps of candidates for the bus manager (IEEE 1394-1995, 8.4.2.5).
+
+ghost use Rattle.std.specs.Prelude.{◌≡◌, ◌≤◌, ◌<◌, ◌+◌, [], ◌∷◌, is_some, IsTrue};
+ghost use Rattle.fw_devices.specs.Network.{kind_at, kinds_of};
+ghost use Rattle.fw_run.specs.declared.order.Order.TheVariants.{Candidate};
+ghost use Rattle.fw_run.specs.Actions.{Contend};
+ghost use Rattle.fw_run.specs.Carrying.{times, Carries};
+ghost use Rattle.fw_run.specs.Elections.{is_capable};
+ghost use Rattle.fw_machine.specs.Candidates.{candidate_in};
+ghost use Rattle.fw_carry.specs.Contending.{BidRests, BidStands, TakesBid};
+ghost use Rattle.fw_carry.specs.Doings.{Acts, Does};
+ghost use Rattle.fw_machine.specs.Stands.{IsReady, is_living_in};
+
+use fw_machine::entries::{defeated, elected};
+use fw_machine::{Machine, Room, give, give_packet};
+use fw_manager::Bid;
+use fw_node::put_request;
+use fw_outside::{Failed, Sink};
+
+/// The transaction label of bids (own).
+const BID_LABEL: u8 = 2;
+
+/// A computer becomes a candidate. One that is stays as it is, and nothing is written.
+pub(crate) fn stand<K: Sink>(machine: &mut Machine, device: u8, sink: &mut K) -> Result<(), Failed>
+    requires ready { IsReady machine.old }
+    requires living { IsTrue (is_living_in machine.old device) }
+    requires capable { IsTrue (is_capable (kind_at (kinds_of machine.old.devices.nodes) device)) }
+    ensures does { Does (λ s. Carries s (Candidate device)) machine.old machine.new (K.held sink.old) (K.held sink.new) (K.faults sink.old) (K.faults sink.new) result }
+{
+    let _ = sink;
+    if machine.candidates.is_candidate(device) {
+        return Ok(());
+    }
+    machine.candidates.enter(device);
+    Ok(())
+}
+
+/// The request of a device's candidate stands: the resource manager reads its bytes off the wire and carries it out, and the
+/// candidate hears the word that it found.
+fn hear_bid<K: Sink>(
+    machine: &mut Machine,
+    device: u8,
+    manager: u8,
+    room: &mut Room,
+    sink: &mut K,
+) -> Result<(), Failed>
+    requires ready { IsReady machine.old }
+    requires stands { BidStands machine.old device manager }
+    ensures takes { TakesBid machine.old machine.new device (K.held sink.old) (K.held sink.new) (K.faults sink.old) (K.faults sink.new) result }
+    ensures count { machine.new.half_steps ≡ machine.old.half_steps + 1 }
+{
+    let own = machine.number(device);
+    let Some(bytes) = machine.bids.get(own) else {
+        unreachable!();
+    };
+    let reply = machine
+        .devices
+        .serve(manager, machine.cycle, bytes, &mut room.packet);
+    machine.bids.remove(own);
+    machine.candidates.hear(device, &reply);
+    machine.half_steps += 1;
+    give_packet(&machine.devices, machine.cycle, &mut room.packet, sink)
+}
+
+/// No request of a device's candidate stands: it says what it does next. A request that goes out is put on the wire.
+fn make_bid<K: Sink>(
+    machine: &mut Machine,
+    device: u8,
+    manager: u8,
+    room: &mut Room,
+    sink: &mut K,
+) -> Result<(), Failed>
+    requires ready { IsReady machine.old }
+    requires rests { BidRests machine.old device manager }
+    ensures takes { TakesBid machine.old machine.new device (K.held sink.old) (K.held sink.new) (K.faults sink.old) (K.faults sink.new) result }
+    ensures count { machine.new.half_steps ≡ machine.old.half_steps + 1 }
+{
+    machine.half_steps += 1;
+    let own = machine.number(device);
+    let to = machine.number(manager);
+    match machine
+        .candidates
+        .next(device, machine.devices.epoch(), own, to)
+    {
+        Bid::Send { to, request } => {
+            put_request(own, to, BID_LABEL, &request, &mut room.packet);
+            machine.bids.put_bytes(own, &room.packet);
+            give_packet(&machine.devices, machine.cycle, &mut room.packet, sink)
+        }
+        Bid::Elected => give(
+            &machine.devices,
+            machine.cycle,
+            Some(elected(device)),
+            room,
+            sink,
+        ),
+        Bid::Defeated { .. } => give(
+            &machine.devices,
+            machine.cycle,
+            Some(defeated(device)),
+            room,
+            sink,
+        ),
+        Bid::Done => Ok(()),
+    }
+}
+
+/// One half step of a device's candidate: its request is carried out and it hears the answer, or it says what it does next.
+fn bid_step<K: Sink>(
+    machine: &mut Machine,
+    device: u8,
+    room: &mut Room,
+    sink: &mut K,
+) -> Result<(), Failed>
+    requires ready { IsReady machine.old }
+    requires candidate { IsTrue (is_some (candidate_in machine.old.candidates device)) }
+    requires few { machine.old.half_steps < 4000000 }
+    ensures does { Does (Acts (Contend device ∷ [])) machine.old machine.new (K.held sink.old) (K.held sink.new) (K.faults sink.old) (K.faults sink.new) result }
+    ensures candidate { IsTrue (is_some (candidate_in machine.new.candidates device)) }
+    ensures count { machine.new.half_steps ≡ machine.old.half_steps + 1 }
+{
+    let Some(manager) = machine.devices.manager() else {
+        unreachable!();
+    };
+    if machine
+        .candidates
+        .has_request(device, machine.devices.epoch())
+    {
+        hear_bid(machine, device, manager, room, sink)
+    } else {
+        make_bid(machine, device, manager, room, sink)
+    }
+}
+
+/// Half steps of a device's candidate.
+pub(crate) fn contend<K: Sink>(
+    machine: &mut Machine,
+    device: u8,
+    count: u32,
+    room: &mut Room,
+    sink: &mut K,
+) -> Result<(), Failed>
+    requires ready { IsReady machine.old }
+    requires candidate { IsTrue (is_some (candidate_in machine.old.candidates device)) }
+    requires few { machine.old.half_steps + count ≤ 4000000 }
+    ensures does { Does (Acts (times count (Contend device))) machine.old machine.new (K.held sink.old) (K.held sink.new) (K.faults sink.old) (K.faults sink.new) result }
+{
+    for i in 0..count {
+        bid_step(machine, device, room, sink)?;
+    }
+    Ok(())
+}

@@ -1,0 +1,19 @@
+//! How orders are carried out: what a machine does, half step by half step, and what it writes of it.
+//!
+//! What an order asks of the machine stands with the machine; which command gives it is asked before.
+#![tactic(auto)]
+
+mod bids;
+mod carry;
+mod cycles;
+mod dubs;
+mod frames;
+mod half;
+mod lives;
+mod reset;
+mod second;
+mod steps;
+mod tapes;
+mod transact;
+
+pub use carry::carry_out;

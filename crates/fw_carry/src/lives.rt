@@ -1,0 +1,174 @@
+//! What commands ask of controllers: connections, breaks, their deaths and starts.
+
+ghost use Rattle.std.specs.Prelude.{◌≡◌, ◌<◌, [], ◌∷◌, None, IsOk, IsTrue, true};
+ghost use Rattle.fw_cmp.specs.Losses.{Awaits};
+ghost use Rattle.fw_cmp.specs.Fits.{SlotFits};
+ghost use Rattle.fw_cmp.specs.Starts.{break_fault};
+ghost use Rattle.fw_run.specs.Actions.{CarryOut, Die as Dies, StartConnection, StartBreak, slot_of, start_of};
+ghost use Rattle.fw_run.specs.Carrying.{Carries};
+ghost use Rattle.fw_run.specs.declared.order.Order.TheVariants.{Die, Lose, Start};
+ghost use Rattle.fw_carry.specs.Doings.{Acts, Does};
+ghost use Rattle.fw_machine.specs.Stands.{IsReady, is_linked_in, is_living_in};
+ghost use Rattle.fw_machine.specs.Tables.{states_of};
+
+use crate::half::{hear, lose_response};
+use fw_machine::entries::{died, lost, started};
+use fw_machine::{Machine, Room, give};
+use fw_outside::{Failed, Sink};
+use fw_run::Wanted;
+
+/// A new connection of a device's controller, which does not refuse it. Nothing is written.
+pub(crate) fn connect<K: Sink>(
+    machine: &mut Machine,
+    device: u8,
+    wanted: &Wanted,
+    sink: &mut K,
+) -> Result<(), Failed>
+    requires ready { IsReady machine.old }
+    requires living { IsTrue (is_living_in machine.old device) }
+    requires slot { SlotFits (slot_of wanted.now) }
+    requires accepted { IsOk (start_of device wanted.now (states_of machine.old.controllers device).state) }
+    ensures does { Does (Acts (StartConnection device wanted.now ∷ [])) machine.old machine.new (K.held sink.old) (K.held sink.new) (K.faults sink.old) (K.faults sink.new) result }
+{
+    machine.controllers.connect(device, wanted);
+    Ok(())
+}
+
+/// A break of the connection in a slot of a device's controller, which does not refuse it. Nothing is written.
+pub(crate) fn break_connection<K: Sink>(
+    machine: &mut Machine,
+    device: u8,
+    slot: u8,
+    sink: &mut K,
+) -> Result<(), Failed>
+    requires ready { IsReady machine.old }
+    requires living { IsTrue (is_living_in machine.old device) }
+    requires accepted { break_fault (states_of machine.old.controllers device).state slot ≡ None }
+    ensures does { Does (Acts (StartBreak device slot ∷ [])) machine.old machine.new (K.held sink.old) (K.held sink.new) (K.faults sink.old) (K.faults sink.new) result }
+{
+    machine.controllers.break_connection(device, slot);
+    Ok(())
+}
+
+/// The request that stands of a device's controller is carried out.
+fn carry_request<K: Sink>(
+    machine: &mut Machine,
+    device: u8,
+    room: &mut Room,
+    sink: &mut K,
+) -> Result<(), Failed>
+    requires ready { IsReady machine.old }
+    requires living { IsTrue (is_living_in machine.old device) }
+    requires standing { Awaits (states_of machine.old.controllers device) }
+    ensures does { Does (Acts (CarryOut device ∷ [])) machine.old machine.new (K.held sink.old) (K.held sink.new) (K.faults sink.old) (K.faults sink.new) result }
+    ensures living { IsTrue (is_living_in machine.new device) }
+{
+    hear(machine, device, room, sink)
+}
+
+/// The request that stands of a device's controller is carried out, and the controller does not hear the response.
+pub(crate) fn lose<K: Sink>(
+    machine: &mut Machine,
+    device: u8,
+    room: &mut Room,
+    sink: &mut K,
+) -> Result<(), Failed>
+    requires ready { IsReady machine.old }
+    requires living { IsTrue (is_living_in machine.old device) }
+    requires standing { Awaits (states_of machine.old.controllers device) }
+    requires few { machine.old.resets < 10000 }
+    ensures does { Does (λ s. Carries s (Lose device)) machine.old machine.new (K.held sink.old) (K.held sink.new) (K.faults sink.old) (K.faults sink.new) result }
+{
+    lose_response(machine, device, room, sink)?;
+    give(
+        &machine.devices,
+        machine.cycle,
+        Some(lost(device)),
+        room,
+        sink,
+    )
+}
+
+/// A device's controller stops.
+fn stop<K: Sink>(
+    machine: &mut Machine,
+    device: u8,
+    room: &mut Room,
+    sink: &mut K,
+) -> Result<(), Failed>
+    requires ready { IsReady machine.old }
+    requires living { IsTrue (is_living_in machine.old device) }
+    ensures { Does (Acts (Dies device ∷ [])) machine.old machine.new (K.held sink.old) (K.held sink.new) (K.faults sink.old) (K.faults sink.new) result }
+{
+    machine.controllers.die(device);
+    let own = machine.number(device);
+    machine.wire.remove(own);
+    machine.bids.remove(own);
+    machine.candidates.leave(device);
+    give(
+        &machine.devices,
+        machine.cycle,
+        Some(died(device)),
+        room,
+        sink,
+    )
+}
+
+/// The request that stands of a device's controller is carried out, and then the controller stops.
+fn stop_late<K: Sink>(
+    machine: &mut Machine,
+    device: u8,
+    room: &mut Room,
+    sink: &mut K,
+) -> Result<(), Failed>
+    requires ready { IsReady machine.old }
+    requires living { IsTrue (is_living_in machine.old device) }
+    requires standing { Awaits (states_of machine.old.controllers device) }
+    ensures { Does (λ s. Carries s (Die device true)) machine.old machine.new (K.held sink.old) (K.held sink.new) (K.faults sink.old) (K.faults sink.new) result }
+{
+    carry_request(machine, device, room, sink)?;
+    stop(machine, device, room, sink)
+}
+
+/// A device's controller dies; with `late` the request that stands is carried out before.
+pub(crate) fn die<K: Sink>(
+    machine: &mut Machine,
+    device: u8,
+    late: bool,
+    room: &mut Room,
+    sink: &mut K,
+) -> Result<(), Failed>
+    requires ready { IsReady machine.old }
+    requires living { IsTrue (is_living_in machine.old device) }
+    ensures does { Does (λ s. Carries s (Die device late)) machine.old machine.new (K.held sink.old) (K.held sink.new) (K.faults sink.old) (K.faults sink.new) result }
+{
+    if late && machine.controllers.get(device).has_request() {
+        stop_late(machine, device, room, sink)
+    } else {
+        stop(machine, device, room, sink)
+    }
+}
+
+/// A device's controller starts. A living one goes on, and nothing is written.
+pub(crate) fn start<K: Sink>(
+    machine: &mut Machine,
+    device: u8,
+    room: &mut Room,
+    sink: &mut K,
+) -> Result<(), Failed>
+    requires ready { IsReady machine.old }
+    requires linked { IsTrue (is_linked_in machine.old.devices device) }
+    ensures does { Does (λ s. Carries s (Start device)) machine.old machine.new (K.held sink.old) (K.held sink.new) (K.faults sink.old) (K.faults sink.new) result }
+{
+    if !machine.controllers.is_dead(device) {
+        return Ok(());
+    }
+    machine.controllers.start(device);
+    give(
+        &machine.devices,
+        machine.cycle,
+        Some(started(device)),
+        room,
+        sink,
+    )
+}

@@ -1,0 +1,92 @@
+//! Time, and the end of the second after a bus reset.
+
+ghost use Rattle.std.specs.Prelude.{◌≡◌, ◌≤◌, ◌+◌, ◌-◌, ◌^◌, IsTrue, [], ◌∷◌};
+ghost use Rattle.fw_run.specs.Actions.{EndSecond};
+ghost use Rattle.fw_run.specs.Carrying.{Carries};
+ghost use Rattle.fw_run.specs.declared.order.Order.TheVariants.{Wait};
+ghost use Rattle.fw_carry.specs.Doings.{Acts, Does};
+ghost use Rattle.fw_carry.specs.Resetting.{RestsAfterSecond, passed_in};
+ghost use Rattle.fw_machine.specs.Stands.{IsReady};
+ghost use Rattle.fw_machine.specs.Streaming.{counted_on};
+
+use fw_machine::entries::second_over;
+use fw_machine::{Machine, Room, give};
+use fw_outside::{Failed, Sink};
+
+/// Cycles go by, in which nothing happens but that tapes move, and that each plug that talks counts the blocks that its tape gives.
+pub(crate) fn pass(machine: &mut Machine, cycles: u64)
+    requires ready { IsReady machine.old }
+    requires few { machine.old.cycle + cycles ≤ 2 ^ 52 }
+    ensures { machine.new ≡ record machine.old { devices = passed_in cycles machine.old.devices; cycle = machine.old.cycle + cycles; streams = counted_on cycles machine.old.devices.nodes machine.old.streams } }
+{
+    machine.streams.pass(&machine.devices, cycles);
+    machine.devices.pass(cycles);
+    machine.cycle += cycles;
+}
+
+/// One cycle goes by, and the second of the latest bus reset is over.
+pub(crate) fn end_second<K: Sink>(
+    machine: &mut Machine,
+    room: &mut Room,
+    sink: &mut K,
+) -> Result<(), Failed>
+    requires ready { IsReady machine.old }
+    requires runs { IsTrue machine.old.reclaiming }
+    requires now { machine.old.cycle + 1 ≡ machine.old.directory.over_at }
+    requires few { machine.old.cycle + 1 ≤ 2 ^ 52 }
+    ensures does { Does (Acts (EndSecond ∷ [])) machine.old machine.new (K.held sink.old) (K.held sink.new) (K.faults sink.old) (K.faults sink.new) result }
+    ensures rests { RestsAfterSecond machine.old machine.new }
+{
+    machine.devices.second_over();
+    machine.streams.pass(&machine.devices, 1);
+    machine.devices.pass(1);
+    machine.cycle += 1;
+    machine.reclaiming = false;
+    machine.controllers.second_over();
+    give(
+        &machine.devices,
+        machine.cycle,
+        Some(second_over()),
+        room,
+        sink,
+    )
+}
+
+/// Cycles go by unwritten. Where the second of the latest bus reset is over on the way, that is written at its own cycle.
+pub(crate) fn wait<K: Sink>(
+    machine: &mut Machine,
+    cycles: u32,
+    room: &mut Room,
+    sink: &mut K,
+) -> Result<(), Failed>
+    requires ready { IsReady machine.old }
+    requires few { machine.old.cycle + cycles ≤ 2 ^ 52 }
+    ensures does { Does (λ s. Carries s (Wait cycles)) machine.old machine.new (K.held sink.old) (K.held sink.new) (K.faults sink.old) (K.faults sink.new) result }
+{
+    let last = machine.cycle + u64::from(cycles);
+    if machine.reclaiming && machine.directory.over_at <= last {
+        wait_over(machine, last, room, sink)
+    } else {
+        pass(machine, u64::from(cycles));
+        Ok(())
+    }
+}
+
+/// Cycles go by, and the second is over on the way.
+fn wait_over<K: Sink>(
+    machine: &mut Machine,
+    last: u64,
+    room: &mut Room,
+    sink: &mut K,
+) -> Result<(), Failed>
+    requires ready { IsReady machine.old }
+    requires runs { IsTrue machine.old.reclaiming }
+    requires over { machine.old.directory.over_at ≤ last }
+    requires few { last ≤ 2 ^ 52 }
+    ensures does { Does (λ s. Carries s (Wait (last - machine.old.cycle))) machine.old machine.new (K.held sink.old) (K.held sink.new) (K.faults sink.old) (K.faults sink.new) result }
+{
+    pass(machine, machine.directory.over_at - 1 - machine.cycle);
+    end_second(machine, room, sink)?;
+    pass(machine, last - machine.cycle);
+    Ok(())
+}

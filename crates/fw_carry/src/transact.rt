@@ -1,0 +1,118 @@
+//! Transactions of the script, and registers that are shown.
+
+ghost use Rattle.std.specs.Prelude.{◌≡◌, ◌≤◌, ◌<◌, ◌^◌, ◌++◌, [], ◌∷◌, Some, IsSome, IsTrue, IsFalse};
+ghost use Rattle.fw_run.specs.Actions.{Ask, Answer, AccessFits, ShowWord};
+ghost use Rattle.fw_run.specs.Spaces.{access_request};
+ghost use Rattle.fw_async.specs.Async.{Fits};
+ghost use Rattle.fw_node.specs.Packets.{request_in, RequestFits};
+ghost use Rattle.fw_devices.specs.Network.{is_node};
+ghost use Rattle.fw_carry.specs.Doings.{Acts, Does};
+ghost use Rattle.fw_machine.specs.Orders.{is_guarded_by};
+ghost use Rattle.fw_carry.specs.Transacting.{IsRequest};
+ghost use Rattle.fw_machine.specs.Stands.{IsReady, is_linked_in, is_living_in, read_in};
+
+use fw_async::Packet;
+use fw_csr::{REGISTER_SPACE, Request};
+use fw_entry::Entry;
+use fw_machine::entries::shown_entry;
+use fw_machine::{Machine, Room, give};
+use fw_node::request_packet;
+use fw_outside::{Failed, Sink};
+use fw_run::{Access, Transaction};
+use fw_words::{Bytes16, Quadlet, put_quadlet};
+
+/// The transaction label of the script's transactions (own); those of controllers have 0.
+pub(crate) const SCRIPT_LABEL: u8 = 1;
+
+/// The lock function compare_swap.
+const COMPARE_SWAP: u8 = 2;
+
+/// What an access asks of a node.
+fn request_of(access: Access) -> Request<'static>
+    requires { AccessFits access }
+    ensures value { result ≡ access_request access }
+    ensures fits { RequestFits result }
+{
+    match access {
+        Access::Read(offset) => Request::Read {
+            offset: REGISTER_SPACE + u64::from(offset),
+        },
+        Access::Swap(offset, argument, new) => {
+            let mut bytes = Bytes16::new();
+            bytes.append(&put_quadlet(Quadlet(argument)));
+            bytes.append(&put_quadlet(Quadlet(new)));
+            Request::Lock {
+                offset: REGISTER_SPACE + u64::from(offset),
+                function: COMPARE_SWAP,
+                bytes,
+            }
+        }
+    }
+}
+
+/// The request packet of a transaction.
+fn transaction_packet(machine: &Machine, transaction: Transaction) -> Packet<'static>
+    requires from { IsTrue (is_node machine.now.devices.nodes transaction.from) }
+    requires to { IsTrue (is_node machine.now.devices.nodes transaction.to) }
+    requires access { AccessFits transaction.access }
+    ensures value { IsRequest machine.now.devices.nodes transaction result }
+    ensures fits { Fits result }
+    ensures request { IsSome (request_in result) }
+{
+    let from = machine.number(transaction.from);
+    let to = machine.number(transaction.to);
+    request_packet(from, to, SCRIPT_LABEL, &request_of(transaction.access))
+}
+
+/// Carries a transaction out whole: the request, and the response of the node that it is sent to.
+pub(crate) fn transact<K: Sink>(
+    machine: &mut Machine,
+    transaction: Transaction,
+    room: &mut Room,
+    sink: &mut K,
+) -> Result<(), Failed>
+    requires ready { IsReady machine.old }
+    requires from { IsTrue (is_living_in machine.old transaction.from) }
+    requires to { IsTrue (is_linked_in machine.old.devices transaction.to) }
+    requires free { IsFalse (is_guarded_by machine.old.candidates.begun transaction.access) }
+    requires access { AccessFits transaction.access }
+    ensures does { Does (Acts (Ask transaction ∷ Answer ∷ [])) machine.old machine.new (K.held sink.old) (K.held sink.new) (K.faults sink.old) (K.faults sink.new) result }
+{
+    let request = transaction_packet(machine, transaction);
+    let response = machine
+        .devices
+        .answer(transaction.to, machine.cycle, &request);
+    give(
+        &machine.devices,
+        machine.cycle,
+        Some(Entry::Async(request)),
+        room,
+        sink,
+    )?;
+    give(
+        &machine.devices,
+        machine.cycle,
+        Some(Entry::Async(response)),
+        room,
+        sink,
+    )
+}
+
+/// Shows the word of a register.
+pub(crate) fn show<K: Sink>(
+    machine: &mut Machine,
+    device: u8,
+    offset: u16,
+    room: &mut Room,
+    sink: &mut K,
+) -> Result<(), Failed>
+    requires ready { IsReady machine.old }
+    requires linked { IsTrue (is_linked_in machine.old.devices device) }
+    requires offset { offset < 2 ^ 12 }
+    requires complete { (read_in machine.old device offset).rcode ≡ 0 }
+    ensures does { Does (Acts (ShowWord device offset ∷ [])) machine.old machine.new (K.held sink.old) (K.held sink.new) (K.faults sink.old) (K.faults sink.new) result }
+{
+    let reply = machine.read(device, offset);
+    let entry = shown_entry(device, offset, reply.value);
+    give(&machine.devices, machine.cycle, Some(entry), room, sink)
+}

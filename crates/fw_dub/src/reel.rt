@@ -1,0 +1,80 @@
+ghost use Rattle.std.specs.Prelude.{◌≡◌, ◌≤◌, nat_lt, length, [], IfOk, OnOk};
+ghost use Rattle.fw_outside.specs.Outside.{HasCause, Writes};
+ghost use Rattle.fw_dub.specs.Reels.{kept, bytes_of};
+
+use fw_outside::{Failed, Sink};
+use std::alloc::{AllocError, Global};
+use std::marker::Model;
+
+/// How many bytes a block has.
+pub const BLOCK: usize = 480;
+
+/// The most blocks that a reel keeps: those of 16 frames of the 625 line system.
+pub const MOST_BLOCKS: usize = 4_800;
+
+/// The blocks that were recorded, in order. No call but `new` takes memory.
+#[derive(Drop)]
+pub struct Reel {
+    blocks: Vec<[u8; BLOCK]>,
+}
+
+impl Model for Reel {
+    ghost use Rattle.std.specs.Prelude.{ℕ, List, ◌≤◌, vec_len, vec_capacity};
+
+    ghost Value = { List (List ℕ) };
+
+    ghost view = { λ r. r.blocks.items };
+
+    ghost invariant = { λ r. (vec_len r.blocks ≤ 4800) × (4800 ≤ vec_capacity r.blocks) };
+}
+
+impl Reel {
+    /// An empty reel, with room for all that it may keep.
+    pub fn new(alloc: Global) -> Result<Reel, AllocError>
+        ensures { IfOk result (λ r. r ≡ []) }
+    {
+        Ok(Reel {
+            blocks: Vec::with_capacity(alloc, MOST_BLOCKS)?,
+        })
+    }
+
+    /// Keeps a block behind the others, and answers true, exactly where fewer than `limit` are kept. Else nothing changes.
+    pub fn keep(&mut self, block: &[u8; 480], limit: u16) -> bool
+        requires { limit ≤ 4800 }
+        ensures room { result ≡ nat_lt (length self.old) limit }
+        ensures state { self.new ≡ kept limit block.now self.old }
+    {
+        if self.blocks.len() >= usize::from(limit) {
+            return false;
+        }
+        let _ = self.blocks.push(*block);
+        true
+    }
+
+    /// Empties it.
+    pub fn clear(&mut self)
+        ensures { self.new ≡ [] }
+    {
+        self.blocks.clear();
+    }
+
+    /// How many blocks it keeps.
+    pub fn blocks(&self) -> u16
+        ensures count { result ≡ length self.now }
+        ensures few { result ≤ 4800 }
+    {
+        self.blocks.len() as u16
+    }
+
+    /// Writes all blocks, in order.
+    pub fn write<K: Sink>(&self, sink: &mut K) -> Result<(), Failed>
+        ensures bytes { Writes (K.held sink.old) (K.held sink.new) result (bytes_of self.now) }
+        ensures cause { HasCause (K.faults sink.old) (K.faults sink.new) result }
+        ensures same { OnOk result (K.faults sink.new ≡ K.faults sink.old) }
+    {
+        for block in &self.blocks {
+            sink.write(block)?;
+        }
+        Ok(())
+    }
+}

@@ -1,0 +1,86 @@
+//! The bytes of an entry that came in pieces.
+
+ghost use Rattle.std.specs.Prelude.{◌≡◌, ◌≤◌, ◌+◌, ◌-◌, [], ◌++◌, length, take};
+
+use std::marker::Model;
+
+/// How many bytes the header of a log and the longest entry behind it have.
+pub(crate) const ROOM: usize = 2308;
+
+/// At most as many bytes as a header and an entry have. To drop them touches none of them.
+#[derive(Debug, Drop)]
+pub struct Held {
+    bytes: [u8; ROOM],
+    /// How many bytes are held.
+    length: usize,
+}
+
+impl Model for Held {
+    ghost use Rattle.std.specs.Prelude.{List, ℕ, ◌≤◌, take};
+
+    ghost Value = { List ℕ };
+
+    ghost view = { λ h. take h.length h.bytes };
+
+    ghost invariant = { λ h. h.length ≤ 2308 };
+}
+
+impl Held {
+    /// No bytes.
+    pub(crate) fn new() -> Held
+        ensures { result ≡ [] }
+    {
+        Held {
+            bytes: [0; ROOM],
+            length: 0,
+        }
+    }
+
+    /// Appends all bytes of a slice.
+    pub(crate) fn append(&mut self, more: &[u8])
+        requires { length self.old + length more.now ≤ 2308 }
+        ensures { self.new ≡ self.old ++ more.now }
+    {
+        write_over(&mut self.bytes, self.length, more);
+        self.length += more.len();
+    }
+
+    /// Drops all bytes.
+    pub(crate) fn clear(&mut self)
+        ensures { self.new ≡ [] }
+    {
+        self.length = 0;
+    }
+
+    /// Puts the bytes of two slices in place of what was there, at most so many.
+    pub(crate) fn join(&mut self, front: &[u8], back: &[u8], most: usize)
+        requires front { length front.now ≤ most }
+        requires room { most ≤ 2308 }
+        ensures { self.new ≡ front.now ++ take (most - length front.now) back.now }
+    {
+        self.clear();
+        self.append(front);
+        let room = most - front.len();
+        self.append(if back.len() < room {
+            back
+        } else {
+            &back[..room]
+        });
+    }
+
+    /// All bytes.
+    pub(crate) fn as_slice(&self) -> &[u8]
+        ensures value { result.now ≡ self.now }
+        ensures fits { length self.now ≤ 2308 }
+    {
+        &self.bytes[..self.length]
+    }
+}
+
+// Writes over the bytes from `at` on.
+fn write_over(out: &mut [u8; ROOM], at: usize, more: &[u8])
+    requires { at + length more.now ≤ 2308 }
+    ensures { take (at + length more.now) out.new ≡ take at out.old ++ more.now }
+{
+    out[at..at + more.len()].copy_from_slice(more);
+}

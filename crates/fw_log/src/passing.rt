@@ -1,0 +1,110 @@
+//! Entries that are judged, and not given as values.
+
+ghost use Rattle.std.specs.Prelude.{ℕ, ◌≡◌, ◌<◌, ◌+◌, ◌^◌, ◌++◌, List, length, take, IfSome, IfNone, None, false};
+ghost use Rattle.fw_entry.specs.declared.entry.Entry.{Entry as AnEntry};
+ghost use Rattle.fw_entry.specs.declared.entry.Timed.{Timed};
+ghost use Rattle.fw_log.specs.Stands.{position};
+ghost use Rattle.fw_log.specs.Reader.{total};
+ghost use Rattle.fw_log.specs.History.{HasRead};
+ghost use Rattle.fw_log.specs.Passing.{CountsUp, HasBody, PassesBody, PassesOn};
+
+use crate::codes::kind;
+use crate::first::{Passed, PlainEntry, at_hand, plain_bodied, plain_entry};
+use crate::plain::PlainBody;
+use crate::read::LogReader;
+use crate::stand::Stand;
+use crate::{Room, Version};
+use std::num::NonZero;
+
+/// An entry that was given as its body.
+#[derive(Debug, Drop)]
+pub struct PassedBody<'a> {
+    /// How many bytes of the piece were taken.
+    pub used: usize,
+    /// The cycle of the entry.
+    pub cycle: u64,
+    /// The body.
+    pub body: PlainBody<'a>,
+}
+
+// Where a reader stands behind an entry that ends at this place and is not the end.
+fn going_on(place: u64, last: u64, version: Version, epoch: u32) -> Stand
+    requires { 0 < place }
+    ensures { position result ≡ record { start = place; last = last; ended = false; version = version; epoch = epoch } }
+{
+    let Some(past) = NonZero::<u64>::new(place) else {
+        unreachable!()
+    };
+    Stand::Entries {
+        past,
+        last,
+        version,
+        epoch,
+    }
+}
+
+impl LogReader {
+    // The first byte of what comes next: behind the header it is the kind of an entry. What is kept of an entry that is to be read is
+    // not put before the piece twice.
+    fn next_kind(&self, piece: &[u8]) -> Option<u8> {
+        let taken = self.taken.as_slice();
+        let bytes = if taken.is_empty() { piece } else { taken };
+        bytes.first().copied()
+    }
+
+    /// Takes bytes up to the end of one entry, as `feed` does, and answers how many, where the entry is right at the first look
+    /// and is neither an isochronous packet nor the end. It is judged and not given: a report of the streams has no use for it.
+    /// Where it takes none, `feed` says what comes.
+    pub fn pass(&mut self, piece: &[u8], room: &mut Room) -> Option<usize>
+        requires { self.old.fault ≡ None → total self.old + length piece.now < 2 ^ 64 }
+        ensures kept { IfNone result (self.new ≡ self.old) }
+        ensures fresh { IfSome result (λ n. self.new.fault ≡ None) }
+        ensures counts { IfSome result (CountsUp self.old piece.now self.new) }
+        ensures history { (entries : List Timed) → (bytes : List ℕ) → HasRead entries bytes self.old
+            → IfSome result (λ n. PassesOn entries (bytes ++ take n piece.now) self.new) }
+    {
+        if self.fault.is_some() || self.next_kind(piece) == Some(kind::ISO) {
+            return None;
+        }
+        let bytes = at_hand(self.stand, self.taken.as_slice(), piece, &mut room.bytes);
+        let Passed {
+            end,
+            cycle,
+            version,
+            epoch,
+        } = plain_entry(self.stand, bytes)?;
+        let used = end - self.taken.as_slice().len();
+        self.stand = going_on(self.stand.start() + end as u64, cycle, version, epoch);
+        self.taken.clear();
+        Some(used)
+    }
+
+    /// As `pass`, of packets and bus resets: the body is given, and no entry is made of it.
+    #[inline(always)]
+    pub fn pass_body<'a>(&mut self, piece: &'a [u8], room: &'a mut Room) -> Option<PassedBody<'a>>
+        requires { self.old.fault ≡ None → total self.old + length piece.now < 2 ^ 64 }
+        ensures kept { IfNone result (self.new ≡ self.old) }
+        ensures fresh { IfSome result (λ p. self.new.fault ≡ None) }
+        ensures counts { IfSome result (λ p. CountsUp self.old piece.now self.new p.used) }
+        ensures body { IfSome result (λ p. (e : AnEntry) × HasBody p.body e) }
+        ensures history { (entries : List Timed) → (bytes : List ℕ) → HasRead entries bytes self.old
+            → IfSome result (λ p. PassesBody entries (bytes ++ take p.used piece.now) self.new p) }
+    {
+        if self.fault.is_some() {
+            return None;
+        }
+        let bytes = at_hand(self.stand, self.taken.as_slice(), piece, &mut room.bytes);
+        let PlainEntry { passed, body } = plain_bodied(self.stand, bytes)?;
+        let Passed {
+            end,
+            cycle,
+            version,
+            epoch,
+        } = passed;
+        let used = end - self.taken.as_slice().len();
+        let past = self.stand.start() + end as u64;
+        self.stand = going_on(past, cycle, version, epoch);
+        self.taken.clear();
+        Some(PassedBody { used, cycle, body })
+    }
+}

@@ -1,0 +1,228 @@
+-- Tables of controllers by device: one is changed, one is added, and all are changed.
+use Rattle.std.proofs.Common.{◌≡◌, ◌≢◌, ◌⊎◌, inl, inr, ℕ, zero, suc, take, drop, ◌+◌, ◌<◌, ◌≤◌, List, [], ◌∷◌, ◌++◌, length, map, get_or, set, replicate, slice_index_or, slice_set, cond, ◌==◌, Bool, true, false, refl, ap, sym, subst, ◌∙◌, append_assoc, arith, IsTrue}
+use Rattle.std.proofs.lemmas.Bool.{cases_eq, cases_lt, false≢true}
+use Rattle.std.proofs.lemmas.Bool.Decides.{nat_tests}
+use Rattle.std.proofs.lemmas.List.{get_or-set_same, get_or-set_other, get_or-map, get_or-replicate, length-replicate, get_or_past, get_or_read, length-map, length-append, length-set, get_or_append_left, get_or_push, length-drop, length-take, get_or-take, drop_all, drop_more, map_more, append-nil}
+use Rattle.fw_base.specs.Tables.{update}
+use Rattle.fw_cmp.specs.declared.connection.Slot.TheVariants.{Free}
+use Rattle.fw_cmp.specs.Controllers.{is_restoring}
+use Rattle.fw_cmp.specs.Losses.{Listening, first_listening}
+use Rattle.fw_cmp.specs.Causes.{IsAtRest}
+use Rattle.fw_machine.specs.Tables.{AreCalm, AreFresh, AreMarked, ControllerTable, IsTable, count_of, states_of, dead_of}
+
+-- ---- lists
+
+-- a list with x at d, read at k
+set_at : {A : Type 0} (xs : List A) (d : ℕ) (x e : A) (k : ℕ) → d < length xs → get_or (set xs d x) k e ≡ update (λ j. get_or xs j e) d x k
+set_at xs d x e k lt = go (cases_eq k d)
+  where
+    go : (k ≡ d) ⊎ (k ≢ d) → get_or (set xs d x) k e ≡ cond (k == d) x (get_or xs k e)
+    go (inl same) =
+        let t : (k == d) ≡ true = grind (arith, nat_tests) in
+        subst (λ j. get_or (set xs d x) j e ≡ x) (sym same) (get_or-set_same xs d x e lt) ∙ sym (ap (λ b. cond b x (get_or xs k e)) t)
+    go (inr other) =
+        let t : (k == d) ≡ false = grind (arith, nat_tests) in
+        get_or-set_other xs d k x e other ∙ sym (ap (λ b. cond b x (get_or xs k e)) t)
+
+pub set_is_update : {A : Type 0} (xs : List A) (d : ℕ) (x e : A) → d < length xs
+    → ◌≡◌ {A = ℕ → A} (λ k. get_or (set xs d x) k e) (update (λ k. get_or xs k e) d x)
+set_is_update xs d x e lt = λ i. λ k. set_at xs d x e k lt i
+
+-- a list of which each element is changed, where what is past the end is not
+map_at : {A : Type 0} (f : A → A) (xs : List A) (e : A) (k : ℕ) → f e ≡ e → get_or (map f xs) k e ≡ f (get_or xs k e)
+map_at f xs e k fixed = go (cases_lt k (length xs))
+  where
+    go : (k < length xs) ⊎ (length xs ≤ k) → get_or (map f xs) k e ≡ f (get_or xs k e)
+    go (inl lt) = get_or-map f xs k e e lt
+    go (inr past) =
+        let far : length (map f xs) ≤ k = omega (arith, length-map xs f) in
+        get_or_past (map f xs) k e far ∙ (sym fixed ∙ ap f (sym (get_or_past xs k e past)))
+
+pub map_is_each : {A : Type 0} (f : A → A) (xs : List A) (e : A) → f e ≡ e → ◌≡◌ {A = ℕ → A} (λ k. get_or (map f xs) k e) (λ k. f (get_or xs k e))
+map_is_each f xs e fixed = λ i. λ k. map_at f xs e k fixed i
+
+-- a list with one element more, which is what is past the end
+push_at : {A : Type 0} (xs : List A) (e : A) (k : ℕ) → get_or (xs ++ e ∷ []) k e ≡ get_or xs k e
+push_at xs e k = go (cases_lt k (length xs))
+  where
+    go : (k < length xs) ⊎ (length xs ≤ k) → get_or (xs ++ e ∷ []) k e ≡ get_or xs k e
+    go (inl lt) = get_or_append_left xs (e ∷ []) e k lt
+    go (inr past) = past_end (cases_eq k (length xs))
+      where
+        past_end : (k ≡ length xs) ⊎ (k ≢ length xs) → get_or (xs ++ e ∷ []) k e ≡ get_or xs k e
+        past_end (inl here) = get_or_push xs e e k (sym here) ∙ sym (get_or_past xs k e past)
+        past_end (inr beyond) =
+            let far : length (xs ++ e ∷ []) ≤ k = omega (arith, length-append xs (e ∷ [])) in
+            get_or_past (xs ++ e ∷ []) k e far ∙ sym (get_or_past xs k e past)
+
+pub push_is_same : {A : Type 0} (xs : List A) (e : A) → ◌≡◌ {A = ℕ → A} (λ k. get_or (xs ++ e ∷ []) k e) (λ k. get_or xs k e)
+push_is_same xs e = λ i. λ k. push_at xs e k i
+
+-- ---- tables
+
+-- the controller of a device is another one
+pub states_set : (t : ControllerTable) (d : ℕ) (x : Listening) → d < count_of t
+    → states_of (record t { list = slice_set t.list d x }) ≡ update (states_of t) d x
+states_set t d x lt = set_is_update t.list d x first_listening lt
+
+-- so it is with what is said of its death
+pub dead_set : (t : ControllerTable) (d : ℕ) (x : Bool) → d < length t.flags → dead_of (record t { flags = slice_set t.flags d x }) ≡ update (dead_of t) d x
+dead_set t d x lt = set_is_update t.flags d x false lt
+
+-- the table after a change of one controller, which was found there
+pub table_set : (t : ControllerTable) (list : List Listening) (flags : List Bool) (d i : ℕ) (f : Listening → Listening) (x y : Listening)
+    → record { list = list; flags = flags } ≡ t → d < count_of t → i ≡ d → x ≡ slice_index_or list i x → y ≡ f x
+    → IsTable (record { list = slice_set list i y; flags = flags }) (count_of t) (update (states_of t) d (f (states_of t d))) (dead_of t)
+table_set t list flags d i f x y is lt same found changed = subst Goes is (record {
+  count_is = length-set list i y;
+  states_are = (λ j. states_of (record { list = slice_set list (same j) (changed j); flags = flags }))
+      ∙ (states_set u d (f x) within ∙ (λ j. update (states_of u) d (f (there j))));
+  dead_are = refl;
+})
+  where
+    u : ControllerTable
+    u = record { list = list; flags = flags }
+
+    Goes : ControllerTable → Type 0
+    Goes w = IsTable (record { list = slice_set list i y; flags = flags }) (count_of w) (update (states_of w) d (f (states_of w d))) (dead_of w)
+
+    within : d < count_of u
+    within = let size : count_of u ≡ count_of t = ap count_of is in omega (arith, size, lt)
+
+    there : x ≡ states_of u d
+    there = get_or_read list i x (omega (arith, within, same)) found first_listening ∙ ap (λ k. get_or list k first_listening) same
+
+-- the table after a change of each controller that leaves one that has just started
+pub table_map : (t : ControllerTable) (list before : List Listening) (flags : List Bool) (f : Listening → Listening)
+    → record { list = before; flags = flags } ≡ t → list ≡ map f before → f first_listening ≡ first_listening
+    → IsTable (record { list = list; flags = flags }) (count_of t) (λ d. f (states_of t d)) (dead_of t)
+table_map t list before flags f same is fixed = subst Goes same (record {
+  count_is = ap length is ∙ length-map before f;
+  states_are = (λ i. states_of (record { list = is i; flags = flags })) ∙ map_is_each f before first_listening fixed;
+  dead_are = refl;
+})
+  where
+    Goes : ControllerTable → Type 0
+    Goes w = IsTable (record { list = list; flags = flags }) (count_of w) (λ d. f (states_of w d)) (dead_of w)
+
+-- one device more, whose controller has just started
+pub table_push : (t : ControllerTable) → IsTable (record { list = t.list ++ first_listening ∷ []; flags = t.flags }) (count_of t + 1) (states_of t) (dead_of t)
+table_push t = record { count_is = length-append t.list (first_listening ∷ []); states_are = push_is_same t.list first_listening; dead_are = refl }
+
+-- a list of which nothing is true
+none_dead : (n k : ℕ) → get_or (replicate n false) k false ≡ false
+none_dead n k = go (cases_lt k n)
+  where
+    go : (k < n) ⊎ (n ≤ k) → get_or (replicate n false) k false ≡ false
+    go (inl lt) = get_or-replicate n k false false lt
+    go (inr past) = let far : length (replicate n false) ≤ k = omega (arith, length-replicate n false) in get_or_past (replicate n false) k false far
+
+-- ---- controllers that are marked
+
+-- one is changed, and so is its mark
+pub marked_set : (says : Listening → Type 0) (marks : List Bool) (list : List Listening) (d : ℕ) (b : Bool) (y : Listening) → AreMarked says marks list → d < length list
+    → length list ≤ 63 → (IsTrue b → says y) → AreMarked says (slice_set marks d b) (slice_set list d y)
+marked_set says marks list d b y h lt few is = record { size = length-set marks d b ∙ h.size; each = each }
+  where
+    low : d < length marks
+    low = let size = h.size in omega (arith, lt, few, size)
+
+    each : (k : ℕ) → IsTrue (slice_index_or (slice_set marks d b) k false) → says (slice_index_or (slice_set list d y) k first_listening)
+    each k marked = go (cases_eq k d)
+      where
+        go : (k ≡ d) ⊎ (k ≢ d) → says (slice_index_or (slice_set list d y) k first_listening)
+        go (inl same) =
+            let mark : IsTrue b = sym (get_or-set_same marks d b false low) ∙ subst (λ j. IsTrue (slice_index_or (slice_set marks d b) j false)) same marked in
+            subst (λ j. says (slice_index_or (slice_set list d y) j first_listening)) (sym same)
+            (subst says (sym (get_or-set_same list d y first_listening lt)) (is mark))
+        go (inr other) =
+            let mark = sym (get_or-set_other marks d k b false other) ∙ marked in
+            subst says (sym (get_or-set_other list d k y first_listening other)) (h.each k mark)
+
+-- the same, where the two places are found to be the device's
+pub marked_put : (says : Listening → Type 0) (marks : List Bool) (list : List Listening) (d i j : ℕ) (b : Bool) (y : Listening) → AreMarked says marks list → d < length list
+    → length list ≤ 63 → i ≡ d → j ≡ d → (IsTrue b → says y) → AreMarked says (slice_set marks j b) (slice_set list i y)
+marked_put says marks list d i j b y h lt few at_list at_mark is = rw (at_list, at_mark) (marked_set says marks list d b y h lt few is)
+
+-- no mark says nothing
+pub unmarked : (y : Type 0) → IsTrue false → y
+unmarked y h = absurd (false≢true h)
+
+-- there are none yet, and each is marked
+pub marked_none : (says : Listening → Type 0) (marks : List Bool) (list : List Listening) → says first_listening → marks ≡ replicate 256 true → list ≡ [] → AreMarked says marks list
+marked_none says marks list new is none = subst (λ (ms : List Bool). AreMarked says ms list) (sym is)
+    (record { size = length-replicate 256 true; each = λ k marked. subst (λ (xs : List Listening). says (slice_index_or xs k first_listening)) (sym none) new })
+
+-- one more, which is new
+pub marked_push : (says : Listening → Type 0) (marks : List Bool) (list : List Listening) → AreMarked says marks list → AreMarked says marks (list ++ first_listening ∷ [])
+marked_push says marks list h = record { size = h.size; each = λ k marked. subst says (sym (push_at list first_listening k)) (h.each k marked) }
+
+-- a new one has nothing to do
+pub new_rests : IsAtRest first_listening.state
+new_rests = record { no_job = record { current = refl; restoring = λ i. free 32 i }; waiting = refl }
+  where
+    free : (n i : ℕ) → is_restoring (slice_index_or (replicate n Free) i Free) ≡ false
+    free zero i = refl
+    free (suc n) zero = refl
+    free (suc n) (suc i) = free n i
+
+pub fresh_calm : (marks : List Bool) (list : List Listening) → AreFresh marks list → AreCalm marks list
+fresh_calm marks list h = record { size = h.size; each = λ k marked. subst (λ (c : Listening). IsAtRest c.state) (sym (h.each k marked)) new_rests }
+
+-- all are changed, which leaves a new one as it is
+pub fresh_map : (f : Listening → Listening) (marks : List Bool) (list : List Listening) → f first_listening ≡ first_listening → AreFresh marks list → AreFresh marks (map f list)
+fresh_map f marks list fixed h = record { size = h.size; each = λ k marked. map_at f list first_listening k fixed ∙ (ap f (h.each k marked) ∙ fixed) }
+
+-- an element that the change leaves as it is may be left out of it
+pub map_skip : {A : Type 0} (f : A → A) (xs ys : List A) (i : ℕ) (e : A) → i < length xs → f (get_or xs i e) ≡ get_or xs i e → ys ≡ map f (take i xs) ++ drop i xs → ys ≡ map f (take (i + 1) xs) ++ drop (i + 1) xs
+map_skip f xs ys i e lt same is =
+    let front = map f (take i xs) in
+    is ∙ ap (λ l. front ++ l) (drop_more xs i e lt) ∙ sym (append_assoc front (get_or xs i e ∷ []) (drop (i + 1) xs))
+    ∙ ap (λ l. l ++ drop (i + 1) xs) (ap (λ x. front ++ x ∷ []) (sym same) ∙ sym (map_more f xs i e lt))
+
+-- a change that leaves a new controller as it is, of all controllers, may leave out those that are marked as new
+pub fresh_skip : (f : Listening → Listening) (marks : List Bool) (xs ys : List Listening) (i : ℕ) → f first_listening ≡ first_listening → AreFresh marks xs → i < length xs → slice_index_or marks i false ≡ true → ys ≡ map f (take i xs) ++ drop i xs → ys ≡ map f (take (i + 1) xs) ++ drop (i + 1) xs
+fresh_skip f marks xs ys i fixed h lt marked is = map_skip f xs ys i first_listening lt (ap f (h.each i marked) ∙ (fixed ∙ sym (h.each i marked))) is
+
+-- ---- a list that is written back
+
+take_few : {A : Type 0} (n : ℕ) (xs : List A) → length (take n xs) ≤ length xs
+take_few zero xs = omega arith
+take_few (suc n) [] = omega arith
+take_few (suc n) (x ∷ xs) = let h = take_few n xs in omega (arith, h)
+
+-- it is no longer than it was
+pub few_after : {A : Type 0} (n most : ℕ) (new old : List A) → length new ≡ length old → length old ≤ most
+    → length (take n (new ++ drop (length new) old)) ≤ most
+few_after n most new old same few =
+    let front = take_few n (new ++ drop (length new) old) in
+    let all = length-append new (drop (length new) old) in
+    let rest = length-drop (length new) old in
+    omega (arith, front, all, rest, same, few)
+
+-- what marks say is so of it, where it is so of what was written
+marked_take : (says : Listening → Type 0) (marks : List Bool) (n : ℕ) (list : List Listening) → says first_listening → AreMarked says marks list → AreMarked says marks (take n list)
+marked_take says marks n list new h = record { size = h.size; each = λ k marked. go k marked (cases_lt k n) }
+  where
+    go : (k : ℕ) → IsTrue (slice_index_or marks k false) → (k < n) ⊎ (n ≤ k) → says (slice_index_or (take n list) k first_listening)
+    go k marked (inl lt) = subst says (sym (get_or-take n list k first_listening lt)) (h.each k marked)
+    go k marked (inr past) = let far : length (take n list) ≤ k = omega (arith, length-take n list, past) in subst says (sym (get_or_past (take n list) k first_listening far)) new
+
+-- a change of all, which leaves a new one as it is, is written back
+pub fresh_after : (f : Listening → Listening) (marks : List Bool) (n : ℕ) (new old : List Listening) → f first_listening ≡ first_listening → new ≡ map f old → AreFresh marks old
+    → AreFresh marks (take n (new ++ drop (length new) old))
+fresh_after f marks n new old fixed is h =
+    let size : length new ≡ length old = ap length is ∙ length-map old f in
+    let all : new ++ drop (length new) old ≡ new = ap (λ l. new ++ l) (drop_all (length new) old (omega (arith, size))) ∙ append-nil new in
+    subst (λ (xs : List Listening). AreFresh marks (take n xs)) (sym all)
+    (marked_take (λ c. c ≡ first_listening) marks n new refl (subst (λ (xs : List Listening). AreFresh marks xs) (sym is) (fresh_map f marks old fixed h)))
+
+-- ---- no devices
+
+pub table_none : (list : List Listening) (n : ℕ) → list ≡ []
+    → IsTable (record { list = list; flags = replicate n false }) 0 (λ d. first_listening) (λ d. false)
+table_none list n is = record {
+  count_is = ap length is;
+  states_are = (λ i. λ k. get_or (is i) k first_listening);
+  dead_are = λ i. λ k. none_dead n k i;
+}

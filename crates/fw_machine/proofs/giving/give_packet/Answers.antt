@@ -1,0 +1,14 @@
+use Rattle.std.proofs.Common.{ℕ, List, ap}
+use Rattle.fw_entry.specs.Log.{entry_bytes}
+use Rattle.fw_entry.specs.declared.entry.Entry.TheVariants.{Async}
+use Rattle.fw_entry.specs.declared.version.Version.TheVariants.{Two}
+use Rattle.fw_entry.proofs.WriteLaws.{writes_same}
+use Rattle.fw_run.specs.Giving.{at_cycle}
+use Rattle.fw_machine.proofs.giving.give_packet.Goals as goal
+
+pub returns-clause-bytes : goal.returns-clause-bytes
+returns-clause-bytes g c p spells =
+    let held = g.K.Sink.held c.args.sink.now in
+    let after = g.K.Sink.held c.write_async.new.sink in
+    let bytes : ℕ → List ℕ = λ n. entry_bytes Two n (at_cycle c.args.cycle (Async p)) in
+    writes_same held after c.write_async.result (bytes c.epoch.result) (bytes c.args.devices.now.epoch) (ap bytes c.epoch.ensures) (c.write_async.ensures.bytes p spells)

@@ -1,0 +1,10 @@
+pub mod Faults
+pub mod Tables
+pub mod Wires
+pub mod Lingering
+pub mod Candidates
+pub mod Bids
+pub mod Reels
+pub mod Stands
+pub mod Orders
+pub mod Streaming

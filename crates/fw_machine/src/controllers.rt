@@ -1,0 +1,283 @@
+//! The controllers of the declared devices.
+
+ghost use Rattle.std.specs.Prelude.{◌≡◌, ◌<◌, ◌≤◌, ◌+◌, ◌^◌, IfOk, IfErr, IfSome, IsOk, IsTrue, IsFalse, ℕ, Err, None, true, false, length, map, replicate};
+ghost use Rattle.fw_base.specs.Tables.{update};
+ghost use Rattle.fw_cmp.specs.Causes.{IsAtRest};
+ghost use Rattle.fw_cmp.specs.Fits.{SlotFits};
+ghost use Rattle.fw_cmp.specs.Holdings.{CanGoOn};
+ghost use Rattle.fw_cmp.specs.Losses.{first_listening, Awaits, MayTurn, turn_of, after_turn, after_answer, after_loss, after_bus_reset, after_end, with_state};
+ghost use Rattle.fw_cmp.specs.Nodes.{HasNodeNumbers};
+ghost use Rattle.fw_cmp.specs.Starts.{break_fault, break_started, started};
+ghost use Rattle.fw_cmp.specs.Turns.{addressee_in};
+ghost use Rattle.fw_run.specs.Actions.{slot_of, start_of};
+ghost use Rattle.fw_machine.specs.Tables.{AreFresh, IsTable, count_of, dead_of, states_of};
+
+use fw_cmp::{Controller, Directory, Next, StartFault};
+use fw_csr::Reply;
+use fw_run::Wanted;
+use std::alloc::{AllocError, Global};
+use std::marker::Model;
+
+/// How many devices a bus may have.
+const MOST: usize = 63;
+
+/// How many numbers a `u8` may be, so that a look at a place needs no test.
+const PLACES: usize = 256;
+
+/// The controller of each declared device, by number. That of a device without one is as one that has just started.
+#[derive(Drop)]
+pub struct Controllers {
+    list: Vec<Controller>,
+    /// The controller died, and was not started again.
+    dead: [bool; MOST],
+    /// The controller has nothing to do: it was found to have nothing, or is new, and nothing has happened to it since.
+    calm: [bool; PLACES],
+    /// The controller is as a new one: nothing has happened to it at all, and nothing happens to it at a bus reset.
+    fresh: [bool; PLACES],
+}
+
+impl Model for Controllers {
+    ghost use Rattle.std.specs.Prelude.{vec_capacity};
+    ghost use Rattle.fw_machine.specs.Tables.{AreCalm, AreFresh, ControllerTable, IsRoomy};
+
+    ghost Value = { ControllerTable };
+
+    ghost view = { λ c. record { list = c.list.items; flags = c.dead } };
+
+    ghost invariant = { λ c. IsRoomy (record { list = c.list.items; flags = c.dead }) (vec_capacity c.list) × AreCalm c.calm c.list.items × AreFresh c.fresh c.list.items };
+}
+
+impl Controllers {
+    /// No controllers. The memory for 63 is taken here, and no later call takes any.
+    pub fn new(alloc: Global) -> Result<Controllers, AllocError>
+        ensures { IfOk result (λ c. IsTable c 0 (λ d. first_listening) (λ d. false)) }
+    {
+        Ok(Controllers {
+            list: Vec::with_capacity(alloc, MOST)?,
+            dead: [false; MOST],
+            calm: all_marked(),
+            fresh: all_marked(),
+        })
+    }
+
+    /// One device more.
+    pub fn add(&mut self)
+        requires { count_of self.old < 63 }
+        ensures { IsTable self.new (count_of self.old + 1) (states_of self.old) (dead_of self.old) }
+    {
+        self.list.push(Controller::new()).unwrap();
+    }
+
+    /// The controller of a device.
+    pub fn get(&self, device: u8) -> &Controller
+        requires { device < count_of self.now }
+        ensures { result.now ≡ states_of self.now device }
+    {
+        &self.list[usize::from(device)]
+    }
+
+    /// Whether the controller of a device died, and was not started again.
+    pub fn is_dead(&self, device: u8) -> bool
+        ensures { result ≡ dead_of self.now device }
+    {
+        match self.dead.get(usize::from(device)) {
+            Some(dead) => *dead,
+            None => false,
+        }
+    }
+
+    /// Whether the controller of a device is known to have nothing to do.
+    pub fn is_calm(&self, device: u8) -> bool
+        ensures { IsTrue result → IsAtRest (states_of self.now device).state }
+    {
+        match self.calm.get(usize::from(device)) {
+            Some(calm) => *calm,
+            None => false,
+        }
+    }
+
+    /// Whether the controller of some device has lost a response.
+    pub fn has_deaf(&self) -> bool
+        ensures { IsFalse result → (d : ℕ) → IsFalse (states_of self.now d).lost }
+    {
+        for device in 0..self.list.len() {
+            if self.list[device].is_deaf() {
+                return true;
+            }
+        }
+        false
+    }
+
+    /// What the controller of a device does next (`Controller::next`).
+    #[inline(always)]
+    pub fn next(&mut self, device: u8, now: u64, directory: &Directory) -> Next
+        requires device { device < count_of self.old }
+        requires heard { MayTurn (states_of self.old device) }
+        requires now { now ≤ 2 ^ 52 }
+        requires nodes { HasNodeNumbers directory.now }
+        requires reached { IsFalse (states_of self.old device).lost → CanGoOn directory.now (states_of self.old device).state }
+        ensures answer { result ≡ turn_of now directory.now (states_of self.old device) }
+        ensures state { IsTable self.new (count_of self.old) (update (states_of self.old) device (after_turn now directory.now (states_of self.old device))) (dead_of self.old) }
+        ensures addressee { IfSome (addressee_in result) (λ to. to < 63) }
+    {
+        let next = self.list[usize::from(device)].next(now, directory);
+        self.calm[usize::from(device)] = is_idle(&next);
+        self.fresh[usize::from(device)] = false;
+        next
+    }
+
+    /// The controller of a device hears the reply to the request that stands (`Controller::hear`).
+    #[inline(always)]
+    pub fn hear(&mut self, device: u8, reply: &Reply)
+        requires device { device < count_of self.old }
+        requires stands { Awaits (states_of self.old device) }
+        ensures { IsTable self.new (count_of self.old) (update (states_of self.old) device (after_answer (states_of self.old device) reply.now)) (dead_of self.old) }
+    {
+        self.list[usize::from(device)].hear(reply);
+        self.calm[usize::from(device)] = false;
+        self.fresh[usize::from(device)] = false;
+    }
+
+    /// The response to the request that stands is lost (`Controller::lose`).
+    pub fn lose(&mut self, device: u8)
+        requires device { device < count_of self.old }
+        requires stands { Awaits (states_of self.old device) }
+        ensures { IsTable self.new (count_of self.old) (update (states_of self.old) device (after_loss (states_of self.old device))) (dead_of self.old) }
+    {
+        self.list[usize::from(device)].lose();
+        self.calm[usize::from(device)] = false;
+        self.fresh[usize::from(device)] = false;
+    }
+
+    /// Whether the controller of a device would refuse a connection, and why.
+    pub fn check(&self, device: u8, wanted: &Wanted) -> Result<(), StartFault>
+        requires { device < count_of self.now }
+        ensures accepted { IfOk result (λ _. IsOk (start_of device wanted.now (states_of self.now device).state)) }
+        ensures refused { IfErr result (λ f. start_of device wanted.now (states_of self.now device).state ≡ Err f) }
+    {
+        let is_own = match wanted {
+            Wanted::PlugToPlug(..) => true,
+            Wanted::BroadcastOut(plug, _) | Wanted::BroadcastIn(plug) => plug.device == device,
+        };
+        if !is_own {
+            return Err(StartFault::NotOwnPlug);
+        }
+        self.get(device).check_start()?;
+        Ok(())
+    }
+
+    /// The controller of a device is asked for a connection that it does not refuse.
+    pub fn connect(&mut self, device: u8, wanted: &Wanted)
+        requires device { device < count_of self.old }
+        requires slot { SlotFits (slot_of wanted.now) }
+        requires accepted { IsOk (start_of device wanted.now (states_of self.old device).state) }
+        ensures { IsTable self.new (count_of self.old) (update (states_of self.old) device (with_state (states_of self.old device) (started (start_of device wanted.now (states_of self.old device).state) (slot_of wanted.now) (states_of self.old device).state))) (dead_of self.old) }
+    {
+        let controller = &mut self.list[usize::from(device)];
+        let started = match *wanted {
+            Wanted::PlugToPlug(output, input, channel, overhead) => {
+                controller.start_connect(output, input, channel, overhead)
+            }
+            Wanted::BroadcastOut(output, overhead) => {
+                controller.start_broadcast(device, output, overhead)
+            }
+            Wanted::BroadcastIn(input) => controller.start_listen(device, input),
+        };
+        let _ = started;
+        self.calm[usize::from(device)] = false;
+        self.fresh[usize::from(device)] = false;
+    }
+
+    /// The controller of a device is asked for a break that it does not refuse.
+    pub fn break_connection(&mut self, device: u8, slot: u8)
+        requires device { device < count_of self.old }
+        requires accepted { break_fault (states_of self.old device).state slot ≡ None }
+        ensures { IsTable self.new (count_of self.old) (update (states_of self.old) device (with_state (states_of self.old device) (break_started (states_of self.old device).state slot))) (dead_of self.old) }
+    {
+        let _ = self.list[usize::from(device)].start_break(slot);
+        self.calm[usize::from(device)] = false;
+        self.fresh[usize::from(device)] = false;
+    }
+
+    /// A bus reset that begins this epoch, for each controller.
+    pub fn reset(&mut self, epoch: u32)
+        ensures { IsTable self.new (count_of self.old) (λ d. after_bus_reset epoch (states_of self.old d)) (dead_of self.old) }
+    {
+        reset_each(&mut self.list, &self.fresh, epoch);
+        self.calm = self.fresh;
+    }
+
+    /// The reclaim second is over, for each controller.
+    pub fn second_over(&mut self)
+        ensures { IsTable self.new (count_of self.old) (λ d. after_end (states_of self.old d)) (dead_of self.old) }
+    {
+        end_second(&mut self.list, &self.fresh);
+        self.calm = self.fresh;
+    }
+
+    /// The controller of a device dies: it forgets its slots and jobs.
+    pub fn die(&mut self, device: u8)
+        requires { device < count_of self.old }
+        ensures { IsTable self.new (count_of self.old) (update (states_of self.old) device first_listening) (update (dead_of self.old) device true) }
+    {
+        self.list[usize::from(device)] = Controller::new();
+        self.dead[usize::from(device)] = true;
+        self.calm[usize::from(device)] = false;
+        self.fresh[usize::from(device)] = false;
+    }
+
+    /// The controller of a device starts.
+    pub fn start(&mut self, device: u8)
+        requires { device < count_of self.old }
+        ensures { IsTable self.new (count_of self.old) (update (states_of self.old) device first_listening) (update (dead_of self.old) device false) }
+    {
+        self.list[usize::from(device)] = Controller::new();
+        self.dead[usize::from(device)] = false;
+        self.calm[usize::from(device)] = false;
+        self.fresh[usize::from(device)] = false;
+    }
+}
+
+/// A bus reset that begins this epoch, for each of the controllers: a new one stays as it is.
+fn reset_each(list: &mut [Controller], fresh: &[bool; PLACES], epoch: u32)
+    requires few { length list.old ≤ 63 }
+    requires fresh { AreFresh fresh.now list.old }
+    ensures { list.new ≡ map (after_bus_reset epoch) list.old }
+{
+    for (device, controller) in list.iter_mut().enumerate() {
+        if !fresh[device] {
+            controller.reset(epoch);
+        }
+    }
+}
+
+/// The reclaim second is over, for each of the controllers: a new one stays as it is.
+fn end_second(list: &mut [Controller], fresh: &[bool; PLACES])
+    requires few { length list.old ≤ 63 }
+    requires fresh { AreFresh fresh.now list.old }
+    ensures { list.new ≡ map after_end list.old }
+{
+    for (device, controller) in list.iter_mut().enumerate() {
+        if !fresh[device] {
+            controller.second_over();
+        }
+    }
+}
+
+/// Each place is marked.
+fn all_marked() -> [bool; PLACES]
+    ensures { result ≡ replicate 256 true }
+{
+    [true; PLACES]
+}
+
+/// Whether the controller has nothing to do.
+fn is_idle(next: &Next) -> bool
+    ensures { IsTrue result → next.now ≡ Next.Idle }
+{
+    match next {
+        Next::Idle => true,
+        Next::Send { .. } | Next::End { .. } => false,
+        Next::Waiting { .. } | Next::Deaf { .. } | Next::Force => false,
+    }
+}

@@ -1,0 +1,20 @@
+//! What a simulated bus keeps: devices with their nodes' registers, controllers' stages, candidates, streams and a reel; and the
+//! entries that are written of it.
+//!
+//! It keeps no account of channels and units. `StandsFor` says for which states of a run a machine stands.
+#![tactic(auto)]
+
+mod candidates;
+mod controllers;
+pub mod entries;
+mod giving;
+mod machine;
+mod room;
+mod streams;
+
+pub use candidates::Candidates;
+pub use controllers::Controllers;
+pub use giving::{give, give_async, give_packet};
+pub use machine::{Machine, SECOND};
+pub use room::Room;
+pub use streams::Streams;

@@ -1,0 +1,111 @@
+ghost use Rattle.std.specs.Prelude.{◌≡◌, ◌≢◌, ◌↔◌, ℕ, IsTrue, IsFalse};
+ghost use Rattle.fw_manager.specs.Bids.{first_state, stage_in, next, after_next, after_hear, is_asked, is_standing_in};
+ghost use Rattle.fw_manager.specs.declared.candidate.Stage.TheVariants.{Heard, Answered};
+
+use crate::Bid;
+use fw_csr::{BUS_MANAGER_ID, QuadletAccess, Reply, Swap};
+use std::marker::Model;
+
+/// BUS_MANAGER_ID while there is no bus manager (IEEE 1394-1995, 8.3.2.3.6).
+const NO_BUS_MANAGER: u32 = 0x3F;
+
+/// How far a bid has come.
+#[derive(Clone, Copy, Debug, PartialEq, Eq)]
+pub enum Stage {
+    /// It is still to be made.
+    Fresh,
+    /// Its request stands.
+    Asked,
+    /// The word that its compare_swap found.
+    Heard(u32),
+    /// It has ended.
+    Answered,
+}
+
+/// A candidate: the epoch of its latest bid, and how far that came.
+#[derive(Debug, Drop)]
+pub struct Candidate {
+    epoch: u32,
+    stage: Stage,
+}
+
+impl Model for Candidate {
+    ghost use Rattle.fw_manager.specs.Bids.{CandidateState};
+
+    ghost Value = { CandidateState };
+
+    ghost view = { λ c. record { epoch = c.epoch; stage = c.stage } };
+
+    ghost inverse = { λ c. record { epoch = c.epoch; stage = c.stage } };
+}
+
+impl Candidate {
+    /// A candidate that has made no bid yet.
+    pub fn new() -> Candidate
+        ensures { result ≡ first_state }
+    {
+        Candidate {
+            epoch: 0,
+            stage: Stage::Fresh,
+        }
+    }
+
+    /// What the candidate does next in this epoch, as this node, where `manager` is the isochronous resource manager. A new epoch
+    /// begins its bid anew, and so drops what was asked and heard in another.
+    pub fn next(&mut self, epoch: u32, node: u8, manager: u8) -> Bid
+        requires heard { IsFalse (is_standing_in epoch self.old) }
+        ensures answer { result ≡ next epoch node manager self.old }
+        ensures state { self.new ≡ after_next epoch self.old }
+
+        ensures elected { (result ≡ Bid.Elected) ↔ (stage_in epoch self.old ≡ Heard 0x3F) }
+        ensures defeated { (by : ℕ) → (result ≡ Bid.Defeated by) ↔ ((stage_in epoch self.old ≡ Heard by) × (by ≢ 0x3F)) }
+        ensures done { (result ≡ Bid.Done) ↔ (stage_in epoch self.old ≡ Answered) }
+    {
+        let stage = self.stage_in(epoch);
+        self.epoch = epoch;
+        if let Stage::Fresh = stage {
+            self.stage = Stage::Asked;
+            let swap = Swap {
+                argument: NO_BUS_MANAGER,
+                new: u32::from(node),
+            };
+            return Bid::Send {
+                to: manager,
+                request: QuadletAccess::new(BUS_MANAGER_ID, Some(swap)),
+            };
+        }
+        self.stage = Stage::Answered;
+        match stage {
+            Stage::Heard(NO_BUS_MANAGER) => Bid::Elected,
+            Stage::Heard(by) => Bid::Defeated { by },
+            Stage::Fresh | Stage::Asked | Stage::Answered => Bid::Done,
+        }
+    }
+
+    /// Hears the reply to the request that stands.
+    pub fn hear(&mut self, r: &Reply)
+        requires stands { IsTrue (is_asked self.old.stage) }
+        requires complete { r.now.rcode ≡ 0 }
+        ensures state { self.new ≡ after_hear r.now.value self.old }
+    {
+        self.stage = Stage::Heard(r.value);
+    }
+
+    /// Whether its request of this epoch stands, whose reply is still to be heard.
+    pub fn has_request(&self, epoch: u32) -> bool
+        ensures { result ≡ is_standing_in epoch self.now }
+    {
+        matches!(self.stage_in(epoch), Stage::Asked)
+    }
+
+    /// How far its bid of this epoch has come.
+    fn stage_in(&self, epoch: u32) -> Stage
+        ensures { result ≡ stage_in epoch self.now }
+    {
+        if self.epoch == epoch {
+            self.stage
+        } else {
+            Stage::Fresh
+        }
+    }
+}

@@ -1,0 +1,6 @@
+pub mod LifeRules
+pub mod FirstBroken
+pub mod DeckRules
+pub mod CandidateRules
+pub mod ConnectionRules
+pub mod Shown

@@ -1,0 +1,82 @@
+//! The rules of transactions of the script, and of registers that are shown.
+
+ghost use Rattle.std.specs.Prelude.{◌≡◌, ◌<◌, ◌^◌, IfOk};
+ghost use Rattle.fw_run.specs.Actions.{AccessFits};
+ghost use Rattle.fw_run.specs.Rules.{is_guarded_at};
+ghost use Rattle.fw_script.specs.declared.command.Command.TheVariants as Commands;
+ghost use Rattle.fw_rules.specs.Decisions.{Decided, command_of};
+ghost use Rattle.fw_machine.specs.Orders.{MayCarry, is_guarded_by};
+ghost use Rattle.fw_machine.specs.Stands.{IsReady};
+
+use crate::commands::known;
+use fw_machine::Machine;
+use fw_run::{Access, Order, RuleFault, Transaction};
+use fw_script::Name;
+
+pub(crate) fn decide_transaction(
+    machine: &Machine,
+    from: &Name,
+    to: &Name,
+    access: Access,
+) -> Result<Order<'static>, RuleFault>
+    requires { AccessFits access }
+    ensures decided { Decided machine.now (command_of from.now to.now access) result }
+    ensures may { IfOk result (MayCarry machine.now) }
+{
+    let from = known(machine, from)?;
+    let to = known(machine, to)?;
+    if !machine.is_living(from) {
+        return Err(RuleFault::NotController);
+    }
+    if !machine.is_linked(to) {
+        return Err(RuleFault::OffBus);
+    }
+    if guards(machine, access) {
+        return Err(RuleFault::Guarded);
+    }
+    Ok(Order::Transact(Transaction { from, to, access }))
+}
+
+/// Only controllers' procedures swap at the registers of channels and units, and of plugs (own). From the first candidate on only
+/// candidates swap BUS_MANAGER_ID (own).
+fn guards(machine: &Machine, access: Access) -> bool
+    ensures { result ≡ is_guarded_by machine.now.candidates.begun access }
+{
+    match access {
+        Access::Read(_) => false,
+        Access::Swap(offset, ..) => {
+            is_guarded(offset) || machine.candidates.begun() && offset == 0x21C
+        }
+    }
+}
+
+/// The device whose register is shown; the resource manager where no name stands.
+pub(crate) fn decide_show(
+    machine: &Machine,
+    name: &Option<Name>,
+    offset: u16,
+) -> Result<Order<'static>, RuleFault>
+    requires ready { IsReady machine.now }
+    requires offset { offset < 2 ^ 12 }
+    ensures decided { Decided machine.now (Commands.Show name.now offset) result }
+    ensures may { IfOk result (MayCarry machine.now) }
+{
+    let device = match name {
+        None => machine.devices.manager().ok_or(RuleFault::NoRegister)?,
+        Some(name) => known(machine, name)?,
+    };
+    if !machine.is_linked(device) {
+        return Err(RuleFault::OffBus);
+    }
+    if !machine.read(device, offset).is_complete() {
+        return Err(RuleFault::NoRegister);
+    }
+    Ok(Order::Show(device, offset))
+}
+
+/// The registers of channels and units, and of plugs.
+fn is_guarded(offset: u16) -> bool
+    ensures { result ≡ is_guarded_at offset }
+{
+    matches!(offset, 0x220 | 0x224 | 0x228 | 0x904..=0x97C | 0x984..=0x9FC)
+}

@@ -1,0 +1,230 @@
+-- Candidates are living computers on a bus with a manager, whatever happens.
+use Rattle.std.proofs.Common.{◌≡◌, ◌≢◌, ◌⊎◌, inl, inr, ℕ, ◌<◌, ◌≤◌, ◌&&◌, ◌++◌, not, List, [], ◌∷◌, Bool, true, false, Option, Some, None, is_some, refl, ap, sym, subst, ◌∙◌, arith, IsTrue}
+use Rattle.std.proofs.lemmas.Bool.{cases_eq}
+use Rattle.std.proofs.lemmas.Option.{same_Some}
+use Rattle.fw_base.specs.declared.device.DeviceKind.{DeviceKind}
+use Rattle.fw_base.specs.declared.device.DeviceKind.TheVariants.{Relay, Deck, Camcorder, Computer}
+use Rattle.fw_base.specs.Devices.{is_contender}
+use Rattle.fw_base.specs.Tables.{update}
+use Rattle.fw_entry.specs.declared.entry.ResetEntry.{ResetEntry}
+use Rattle.fw_entry.specs.declared.entry.Timed.{Timed}
+use Rattle.fw_devices.specs.Network.{kind_at}
+use Rattle.fw_devices.specs.Entries.{node_number, row_of}
+use Rattle.fw_run.proofs.Networks.{kind_before}
+use Rattle.fw_account.specs.Account.{Account}
+use Rattle.fw_manager.specs.Bids.{CandidateState, stage_in}
+use Rattle.fw_manager.specs.declared.candidate.Stage.{Stage}
+use Rattle.fw_manager.specs.declared.candidate.Stage.TheVariants.{Fresh, Asked, Heard, Answered}
+use Rattle.fw_run.specs.Bidding.{is_candidate, epoch_at, bid_at, bid_step}
+use Rattle.fw_run.specs.Candidates.{HasCandidates}
+use Rattle.fw_run.specs.Elections.{Election, is_capable}
+use Rattle.fw_run.specs.Good.{IsGood, IsLatest}
+use Rattle.fw_run.specs.State.{State, Declared, epoch_of, first_state, with_device, number_in, manager_in, linked_number, with_link, is_on, is_linked, is_living}
+use Rattle.fw_run.specs.Actions.{Action, Withhold, AddDevice, AddCable, ResetBus, StartConnection, StartBreak, HalfStep, Rest, Unsettled, Pass, EndSecond, Die, CarryOut, Lose, TellLoss, Start, Ask, Answer, ShowWord, SendCommand, SendFrame, Receive, InsertTape, EjectTape, StartCycle, SendPacket, BecomeCandidate, Contend, TieReel, KeepBlock, Finish, Resets, Declares, Joins, after_death, after_start, with_topology, counting, beginning, counted, Step}
+use Rattle.fw_run.proofs.Cables.{cabled_may, begun_may, forced_may, on_some}
+use Rattle.fw_run.proofs.Contending.{each_candidate, no_candidate}
+use Rattle.fw_run.proofs.Declares.{first_may}
+use Rattle.fw_run.proofs.Grows.{Number, number_there, manager_there}
+use Rattle.fw_run.proofs.Resets.{declaring, MayReset, reset_shows, still_living}
+use Rattle.fw_run.proofs.Settling.{half_turn}
+use Rattle.fw_run.proofs.Taking.{Taken, listens, keeps_deaf, forces_reset, taken_as}
+use Rattle.fw_run.proofs.Times.{second_ends}
+use Rattle.fw_run.proofs.Turns.{living_linked, update_new, update_others}
+use Rattle.fw_run.proofs.Withholds.{withholding_keeps}
+
+pub first_candidates : HasCandidates first_state
+first_candidates = record { lives = λ d is. absurd (cc is); capable = λ d is. absurd (cc is); past = λ d c is. absurd (cc is); manages = λ d on. absurd (cc on) }
+
+-- this part is as it was
+pub same_candidates : (s t : State) → t.election ≡ s.election → t.account.latest ≡ s.account.latest → t.dead ≡ s.dead → t.declared.kinds ≡ s.declared.kinds → HasCandidates s → HasCandidates t
+same_candidates s t election latest dead kinds h = record {
+  lives = λ d is. subst (λ o. IsTrue (is_some (linked_number o d) && not (t.dead d))) (sym latest) (subst (λ (f : ℕ → Bool). IsTrue (is_linked s d && not (f d))) (sym dead) (h.lives d (there d is)));
+  capable = λ d is. subst (λ (k : List DeviceKind). IsTrue (is_capable (kind_at k d))) (sym kinds) (h.capable d (there d is));
+  past = λ d c is. subst (λ o. c.epoch ≤ epoch_of o) (sym latest) (h.past d c (sym (ap (λ (x : Election). x.candidates d) election) ∙ is));
+  manages = λ d on contends. subst (λ o. IsTrue (is_some (manager_in o))) (sym latest) (h.manages d (subst (λ o. IsTrue (is_some (number_in o d))) latest on) (subst (λ (k : List DeviceKind). IsTrue (is_contender (kind_at k d))) kinds contends));
+}
+  where
+    there : (d : ℕ) → IsTrue (is_candidate t d) → IsTrue (is_candidate s d)
+    there d is = subst (λ (e : Election). IsTrue (is_some (e.candidates d))) election is
+
+as_it_was : (s u t : State) → u.election ≡ s.election → u.account.latest ≡ s.account.latest → u.dead ≡ s.dead → u.declared.kinds ≡ s.declared.kinds → t ≡ u → HasCandidates s → HasCandidates t
+as_it_was s u t election latest dead kinds is h = subst HasCandidates (sym is) (same_candidates s u election latest dead kinds h)
+
+-- ---- bus resets
+
+resets_candidates : (s : State) (n : Declared) (initiator : ℕ) (out : List Timed) (t : State) → MayReset s n → HasCandidates s → Resets (declaring s n) initiator out t → HasCandidates t
+resets_candidates s n initiator out t m h r = subst HasCandidates (sym r.state_is) (record {
+  lives = λ d is. still_living s n initiator out t m r d (h.lives d is);
+  capable = λ d is. go s.account.latest refl d is (living_linked s d (h.lives d is));
+  past = λ d c is. let before = h.past d c is in let next = r.is_entry.epoch_is in omega (arith, before, next);
+  manages = λ d on contends. manages d (number_there (node_number r.entry.nodes d) on) contends;
+})
+  where
+    go : (o : Option ResetEntry) → s.account.latest ≡ o → (d : ℕ) → IsTrue (is_candidate s d) → IsTrue (is_some (linked_number o d)) → IsTrue (is_capable (kind_at n.kinds d))
+    go None e d is on = absurd (grind (arith, on))
+    go (Some x) e d is on = subst (λ (k : List DeviceKind). IsTrue (is_capable (kind_at k d))) (sym (m.kinds x e)) (h.capable d is)
+
+    manages : (d : ℕ) → Number (node_number r.entry.nodes d) → IsTrue (is_contender (kind_at n.kinds d)) → IsTrue (is_some r.entry.manager)
+    manages d k contends =
+        let shows = reset_shows s n initiator out t m r in
+        manager_there n.topology n.kinds _ initiator r.entry r.is_entry m.declared.kinds d k.number (shows.declared k.number (row_of d (kind_at n.kinds d)) (shows.numbers d k.number k.is)) k.is contends
+
+-- ---- a device more, which is off
+
+-- a device that is a node has been declared, and keeps its kind
+kept_kind : (s : State) (kind : DeviceKind) (d : ℕ) → IsGood s → IsTrue (is_on s d) → kind_at (s.declared.kinds ++ kind ∷ []) d ≡ kind_at s.declared.kinds d
+kept_kind s kind d g on = go s.account.latest g.latest on
+  where
+    go : (o : Option ResetEntry) → IsLatest o s → IsTrue (is_some (number_in o d)) → kind_at (s.declared.kinds ++ kind ∷ []) d ≡ kind_at s.declared.kinds d
+    go None h there = absurd (grind (arith, there))
+    go (Some e) h there =
+        let k = number_there (node_number e.nodes d) there in
+        let low = h.1.declared k.number (row_of d (kind_at s.declared.kinds d)) (h.1.numbers d k.number k.is) in
+        kind_before s.declared.kinds kind d (subst (λ n. d < n) (sym g.declared.kinds.size) low)
+
+linked_on : (s : State) (d : ℕ) → IsTrue (is_linked s d) → IsTrue (is_on s d)
+linked_on s d = go s.account.latest
+  where
+    of_node : (e : ResetEntry) (o : Option ℕ) → node_number e.nodes d ≡ o → IsTrue (is_some (linked_number (Some e) d)) → IsTrue (is_some o)
+    of_node e None at on = absurd (let off : linked_number (Some e) d ≡ None = ap (λ o. with_link e.nodes o) at in grind (arith, off, on))
+    of_node e (Some n) at on = refl
+
+    go : (o : Option ResetEntry) → IsTrue (is_some (linked_number o d)) → IsTrue (is_some (number_in o d))
+    go None on = absurd (grind (arith, on))
+    go (Some e) on = of_node e (node_number e.nodes d) refl on
+
+pub more_candidates : (s : State) (name : List ℕ) (kind : DeviceKind) (ports speed : ℕ) → IsGood s → HasCandidates s → HasCandidates (record s { declared = with_device s.declared name kind ports speed })
+more_candidates s name kind ports speed g h = record {
+  lives = h.lives;
+  capable = λ d is. subst (λ k. IsTrue (is_capable k)) (sym (kept_kind s kind d g (linked_on s d (living_linked s d (h.lives d is))))) (h.capable d is);
+  past = h.past;
+  manages = λ d on contends. h.manages d on (subst (λ k. IsTrue (is_contender k)) (kept_kind s kind d g on) contends);
+}
+
+-- ---- who lives
+
+-- what holds of each candidate but one that is gone
+others_live : (s : State) (d : ℕ) → HasCandidates s → (k : ℕ) → IsTrue (is_candidate (after_death s d) k) → IsTrue (is_living (after_death s d) k) × IsTrue (is_candidate s k)
+others_live s d h k is = go (cases_eq k d)
+  where
+    go : (k ≡ d) ⊎ (k ≢ d) → IsTrue (is_living (after_death s d) k) × IsTrue (is_candidate s k)
+    go (inl same) =
+        let off : update s.election.candidates d None k ≡ None = ap (update s.election.candidates d None) same ∙ update_new s.election.candidates d None in
+        absurd (let no : IsTrue (is_some {T = CandidateState} None) = subst (λ o. IsTrue (is_some o)) off is in cc no)
+    go (inr ne) =
+        let there = subst (λ o. IsTrue (is_some o)) (update_others s.election.candidates d None k ne) is in
+        (subst (λ b. IsTrue (is_linked s k && not b)) (sym (update_others s.dead d true k ne)) (h.lives k there), there)
+
+start_lives : (s : State) (d k : ℕ) → IsTrue (is_living s k) → IsTrue (is_living (after_start s d) k)
+start_lives s d k lives = go (cases_eq k d)
+  where
+    on : (a b : Bool) → a ≡ true → b ≡ false → (a && not b) ≡ true
+    on a b x y = grind (arith, x, y)
+
+    go : (k ≡ d) ⊎ (k ≢ d) → IsTrue (is_living (after_start s d) k)
+    go (inl same) = on (is_linked s k) (update s.dead d false k) (living_linked s k lives) (ap (update s.dead d false) same ∙ update_new s.dead d false)
+    go (inr ne) = subst (λ b. IsTrue (is_linked s k && not b)) (sym (update_others s.dead d false k ne)) lives
+
+-- a candidate more, or one that goes on
+one_candidate : (s u : State) (d : ℕ) (c : CandidateState) → u.election.candidates ≡ update s.election.candidates d (Some c) → u.account.latest ≡ s.account.latest → u.dead ≡ s.dead → u.declared.kinds ≡ s.declared.kinds
+    → c.epoch ≤ epoch_of s.account.latest → IsTrue (is_living s d) → IsTrue (is_capable (kind_at s.declared.kinds d)) → HasCandidates s → HasCandidates u
+one_candidate s u d c candidates latest dead kinds past lives capable h = same_candidates (record s { election = u.election }) u refl latest dead kinds (record {
+  lives = λ k is. (each k (there k is) (cases_eq k d)).0;
+  capable = λ k is. (each k (there k is) (cases_eq k d)).1;
+  past = λ k y is. each_candidate (λ k c. c.epoch ≤ epoch_of s.account.latest) s.election.candidates d (Some c) (λ y is. subst (λ (z : CandidateState). z.epoch ≤ epoch_of s.account.latest) (same_Some c y is) past) (λ k y ne is. h.past k y is) k y (sym (ap (λ (f : ℕ → Option CandidateState). f k) candidates) ∙ is);
+  manages = h.manages;
+})
+  where
+    there : (k : ℕ) → IsTrue (is_some (u.election.candidates k)) → IsTrue (is_some (update s.election.candidates d (Some c) k))
+    there k is = subst (λ (f : ℕ → Option CandidateState). IsTrue (is_some (f k))) candidates is
+
+    each : (k : ℕ) → IsTrue (is_some (update s.election.candidates d (Some c) k)) → (k ≡ d) ⊎ (k ≢ d) → IsTrue (is_living s k) × IsTrue (is_capable (kind_at s.declared.kinds k))
+    each k is (inl same) = subst (λ z. IsTrue (is_living s z) × IsTrue (is_capable (kind_at s.declared.kinds z))) (sym same) (lives, capable)
+    each k is (inr ne) = let old = subst (λ o. IsTrue (is_some o)) (update_others s.election.candidates d (Some c) k ne) is in (h.lives k old, h.capable k old)
+
+-- the bid of a candidate is of no epoch to come
+bid_epoch : (s : State) (d manager : ℕ) (c : CandidateState) → c.epoch ≤ epoch_of s.account.latest → (bid_step s d manager c).candidate.epoch ≤ epoch_of s.account.latest
+bid_epoch s d manager c before = go (stage_in (epoch_at s) c)
+  where
+    go : (stage : Stage) → (bid_at s d manager c stage).candidate.epoch ≤ epoch_of s.account.latest
+    go Fresh = omega arith
+    go Asked = before
+    go (Heard word) = omega arith
+    go Answered = omega arith
+
+-- ---- each action
+
+declares_candidates : (s : State) (name : List ℕ) (kind : DeviceKind) (ports speed : ℕ) (out : List Timed) (t : State) → IsGood s → HasCandidates s
+    → (s.declared.names ≡ [] → MayReset (beginning s) (with_device s.declared name kind ports speed)) → Declares s.declared.names (declaring s (with_device s.declared name kind ports speed)) out t → HasCandidates t
+declares_candidates s name kind ports speed out t g h may = go s.declared.names refl
+  where
+    go : (names : List (List ℕ)) → s.declared.names ≡ names → Declares names (declaring s (with_device s.declared name kind ports speed)) out t → HasCandidates t
+    go [] none r = resets_candidates (beginning s) (with_device s.declared name kind ports speed) 0 out t (may none) (same_candidates s (beginning s) refl refl refl refl h) r
+    go (x ∷ names) more r = subst HasCandidates (sym r.1) (more_candidates s name kind ports speed g h)
+
+counting_candidates : (s : State) → HasCandidates s → HasCandidates (counting s)
+counting_candidates s h = same_candidates s (counting s) refl refl refl refl h
+
+taken_candidates : (s : State) (d : ℕ) (out : List Timed) (t : State) → IsGood s → HasCandidates s → IsTrue (is_living s d) → s.half_steps < 4000000 → Taken s d out t → HasCandidates t
+taken_candidates s d out t g h lives few (listens quiet said is) = as_it_was s _ t refl (half_turn s d g lives).1.latest refl refl is h
+taken_candidates s d out t g h lives few (keeps_deaf deaf said is) = as_it_was s _ t refl refl refl refl is h
+taken_candidates s d out t g h lives few (forces_reset deaf r) =
+    resets_candidates (counted s 1) s.declared d out t (forced_may s d g lives deaf few) (same_candidates s (counted s 1) refl refl refl refl h) r
+
+pub step_candidates : (s : State) (a : Action) (out : List Timed) (t : State) → IsGood s → HasCandidates s → Step s a out t → HasCandidates t
+step_candidates s Withhold out t g h x = as_it_was s _ t refl (withholding_keeps (λ (l : Account). l.latest) s.account refl) refl refl x.1.3 h
+step_candidates s (AddDevice name kind ports speed) out t g h x = declares_candidates s name kind ports speed out t g h (λ empty. first_may s name kind ports speed (record { good = g; room = x.1.0; some = x.1.1; most = x.1.2; fast = x.1.3 }) empty) x.1.4
+step_candidates s (AddCable a b) out t g h x = go (is_on s a.device) (is_on s b.device) refl refl x.1.2
+  where
+    n : Declared
+    n = record s.declared { topology = x.1.0 }
+
+    go : (y z : Bool) → is_on s a.device ≡ y → is_on s b.device ≡ z → Joins y z a.device b.device (with_topology s x.1.0) out t → HasCandidates t
+    go true false on_a off_b r = resets_candidates (counting s) n a.device out t (cabled_may s x.1.0 a b g x.1.1 (on_some s a.device g on_a) r.0) (counting_candidates s h) r.1
+    go false true off_a on_b r = resets_candidates (counting s) n b.device out t (cabled_may s x.1.0 a b g x.1.1 (on_some s b.device g on_b) r.0) (counting_candidates s h) r.1
+    go true true on_a on_b r = as_it_was s _ t refl refl refl refl r.1 h
+    go false false off_a off_b r = as_it_was s _ t refl refl refl refl r.1 h
+step_candidates s (ResetBus d) out t g h x = resets_candidates (counting s) s.declared d out t (begun_may s d g x.1.0 x.1.1.0) (counting_candidates s h) x.1.1.1
+step_candidates s (StartConnection d w) out t g h x = as_it_was s _ t refl refl refl refl x.1.4 h
+step_candidates s (StartBreak d i) out t g h x = as_it_was s _ t refl refl refl refl x.1.3 h
+step_candidates s (HalfStep d) out t g h x = taken_candidates s d out t g h x.1.0 x.1.1 (taken_as s d out t x.1.2)
+step_candidates s (Rest n) out t g h x = as_it_was s _ t refl refl refl refl x.1.3 h
+step_candidates s Unsettled out t g h x = as_it_was s _ t refl refl refl refl x.1.2 h
+step_candidates s (Pass n) out t g h x = as_it_was s _ t refl refl refl refl x.1.3 h
+step_candidates s EndSecond out t g h x = as_it_was s _ t refl (ap (λ (l : Account). l.latest) (second_ends s.account x.1.1)) refl refl x.1.4 h
+step_candidates s (Die d) out t g h x = subst HasCandidates (sym x.1.2) (record { lives = λ k is. (others_live s d h k is).0; capable = λ k is. h.capable k (others_live s d h k is).1; past = each_candidate (λ k c. c.epoch ≤ epoch_of s.account.latest) s.election.candidates d None (λ c is. absurd (no_candidate c is)) (λ k c ne is. h.past k c is); manages = h.manages })
+step_candidates s (CarryOut d) out t g h x = as_it_was s _ t refl (half_turn s d g x.1.0).1.latest refl refl x.1.3 h
+step_candidates s (Lose d) out t g h x = as_it_was s _ t refl (half_turn s d g x.1.0).1.latest refl refl x.1.4 h
+step_candidates s (TellLoss d) out t g h x = as_it_was s _ t refl refl refl refl x.1.2 h
+step_candidates s (Start d) out t g h x = subst HasCandidates (sym x.1.3) (record { lives = λ k is. start_lives s d k (h.lives k is); capable = h.capable; past = h.past; manages = h.manages })
+step_candidates s (Ask y) out t g h x = as_it_was s _ t refl refl refl refl x.1.4 h
+step_candidates s Answer out t g h x = as_it_was s _ t refl refl refl refl x.state_is h
+step_candidates s (ShowWord d offset) out t g h x = as_it_was s s t refl refl refl refl x.1.4 h
+step_candidates s (SendCommand a b bytes) out t g h x = as_it_was s _ t refl refl refl refl x.1.4 h
+step_candidates s (SendFrame d) out t g h x = as_it_was s _ t refl refl refl refl x.1.state_is h
+step_candidates s (Receive o) out t g h x = as_it_was s _ t refl refl refl refl x.1.state_is h
+step_candidates s (InsertTape d tape system) out t g h x = as_it_was s _ t refl refl refl refl x.1.4 h
+step_candidates s (EjectTape d) out t g h x = as_it_was s _ t refl refl refl refl x.1.4 h
+step_candidates s StartCycle out t g h x = as_it_was s _ t refl refl refl refl x.1.2 h
+step_candidates s (SendPacket p block) out t g h x = as_it_was s s t refl refl refl refl x.1.3 h
+step_candidates s (BecomeCandidate d) out t g h x = subst HasCandidates (sym x.1.4) (one_candidate s _ d _ refl refl refl refl (omega arith) x.1.0 x.1.1 h)
+step_candidates s (Contend d) out t g h x =
+    let y = x.1 in
+    let one : IsTrue (is_candidate s d) = ap is_some y.is in
+    subst HasCandidates (sym y.state_is) (one_candidate s _ d _ refl refl refl refl (bid_epoch s d y.manager y.candidate (h.past d y.candidate y.is)) y.lives (h.capable d one) h)
+step_candidates s (TieReel d) out t g h x = as_it_was s _ t refl refl refl refl x.1.4 h
+step_candidates s (KeepBlock block) out t g h x = as_it_was s _ t refl refl refl refl x.1.1 h
+step_candidates s Finish out t g h x = as_it_was s _ t refl refl refl refl x.1.1 h
+
+-- ---- a candidate's half step can be taken
+
+capable_contends : (kind : DeviceKind) → IsTrue (is_capable kind) → IsTrue (is_contender kind)
+capable_contends Relay e = absurd (cc e)
+capable_contends Deck e = absurd (cc e)
+capable_contends Camcorder e = absurd (cc e)
+capable_contends Computer e = refl
+
+-- there is a manager
+pub candidate_manager : (s : State) (d : ℕ) → HasCandidates s → IsTrue (is_candidate s d) → Number (manager_in s.account.latest)
+candidate_manager s d h is =
+    number_there (manager_in s.account.latest) (h.manages d (linked_on s d (living_linked s d (h.lives d is))) (capable_contends (kind_at s.declared.kinds d) (h.capable d is)))

@@ -1,0 +1,183 @@
+-- An input plug of a device that is off hears nothing, whatever happens.
+use Rattle.std.proofs.Common.{◌≡◌, ℕ, ◌<◌, ◌||◌, ◌&&◌, List, [], ◌∷◌, Bool, true, false, Option, Some, None, is_some, refl, ap, sym, subst, ◌∙◌, arith, IsTrue}
+use Rattle.std.proofs.lemmas.Bool.Decides.{nat_tests}
+use Rattle.fw_base.specs.Devices.{input_plugs_of}
+use Rattle.fw_base.specs.declared.device.DeviceKind.{DeviceKind}
+use Rattle.fw_base.specs.declared.plug.PlugAt.{PlugAt}
+use Rattle.fw_base.specs.Tables.{at_plug}
+use Rattle.fw_entry.specs.declared.entry.ResetEntry.{ResetEntry}
+use Rattle.fw_entry.specs.declared.entry.Timed.{Timed}
+use Rattle.fw_devices.specs.Entries.{node_number, row_of}
+use Rattle.fw_devices.specs.Network.{kind_at}
+use Rattle.fw_plug.specs.Plugs.{is_active}
+use Rattle.fw_account.specs.Account.{Account, has_connection}
+use Rattle.fw_account.specs.Network.{is_input, is_input_of}
+use Rattle.fw_account.specs.Sound.{IsSound}
+use Rattle.fw_account.specs.Words.{InputPlug, word_of, node_of}
+use Rattle.fw_account.proofs.Network.{any_at}
+use Rattle.fw_step.proofs.Words.{channel_shown, input_shows, shows_connected}
+use Rattle.fw_words.specs.Quadlet.{field}
+use Rattle.fw_run.specs.Dubs.{hears_in}
+use Rattle.fw_run.specs.Hearing.{HasHearing}
+use Rattle.fw_run.specs.Good.{IsGood, IsLatest}
+use Rattle.fw_run.specs.State.{State, Declared, first_state, with_device, number_in, is_on, is_living}
+use Rattle.fw_run.specs.Actions.{Action, Withhold, AddDevice, AddCable, ResetBus, StartConnection, StartBreak, HalfStep, Rest, Unsettled, Pass, EndSecond, Die, CarryOut, Lose, TellLoss, Start, Ask, Answer, ShowWord, SendCommand, SendFrame, Receive, InsertTape, EjectTape, StartCycle, SendPacket, BecomeCandidate, Contend, TieReel, KeepBlock, Finish, Resets, Declares, Joins, with_topology, counting, beginning, counted, Step}
+use Rattle.fw_run.proofs.Buses.{row_place}
+use Rattle.fw_run.proofs.Cables.{cabled_may, begun_may, forced_may, on_some}
+use Rattle.fw_run.proofs.Declares.{first_may}
+use Rattle.fw_run.proofs.Grows.{stays_node}
+use Rattle.fw_run.proofs.Resets.{declaring, MayReset, reset_follows}
+use Rattle.fw_run.proofs.Settling.{half_turn}
+use Rattle.fw_run.proofs.Taking.{Taken, listens, keeps_deaf, forces_reset, taken_as}
+use Rattle.fw_run.proofs.Times.{second_ends}
+use Rattle.fw_run.proofs.Withholds.{withholding_keeps}
+use Rattle.fw_run.proofs.Words.{number_of_on}
+
+pub first_hearing : HasHearing first_state
+first_hearing = record { quiet = λ d k off. refl }
+
+-- this part is as it was, but for plugs that go on no more
+pub as_it_was : (s u t : State) → ((q : PlugAt) → s.dub.lingers q ≡ false → u.dub.lingers q ≡ false) → u.account.latest ≡ s.account.latest → t ≡ u → HasHearing s → HasHearing t
+as_it_was s u t fewer latest is h = subst HasHearing (sym is) (record {
+  quiet = λ d k off. fewer (at_plug d k) (h.quiet d k (subst (λ o. is_some (number_in o d) ≡ false) latest off));
+})
+
+quiet_and : (a b : Bool) → a ≡ false → (a && b) ≡ false
+quiet_and a b e = grind (arith, e)
+
+-- ---- devices that are off
+
+-- no input plug of a device that is off stands
+gone : (s : State) (d k : ℕ) → IsGood s → is_on s d ≡ false → is_input s.account.latest (at_plug d k) ≡ true → ⊥
+gone s d k g off there = go s.account.latest g.latest off there
+  where
+    go : (o : Option ResetEntry) → IsLatest o s → is_some (number_in o d) ≡ false → is_input o (at_plug d k) ≡ true → ⊥
+    go None h off there = grind (arith, there)
+    go (Some e) h off there =
+        let w = row_place (is_input_of (at_plug d k)) e.nodes there in
+        let device : w.1.device ≡ d = let x = w.3 in grind (arith, nat_tests, x) in
+        let number : number_in (Some e) d ≡ Some w.0 = ap (number_in (Some e)) (sym device) ∙ (h.1.rows w.0 w.1 w.2).1 in
+        let on : is_some (number_in (Some e) d) ≡ true = ap is_some number in
+        grind (arith, on, off)
+
+off_connection : (s : State) (d k : ℕ) → IsGood s → is_on s d ≡ false → has_connection (s.account.inputs (at_plug d k)) ≡ false
+off_connection s d k g off = go (has_connection (s.account.inputs (at_plug d k))) refl
+  where
+    go : (b : Bool) → has_connection (s.account.inputs (at_plug d k)) ≡ b → has_connection (s.account.inputs (at_plug d k)) ≡ false
+    go true e = absurd (gone s d k g off (g.reclaims.step.sound.inputs_there (at_plug d k) e))
+    go false e = e
+
+pub off_hears : (s : State) (d k : ℕ) → IsGood s → HasHearing s → is_on s d ≡ false → hears_in s.account s.dub (at_plug d k) ≡ false
+off_hears s d k g h off = neither _ _ (off_connection s d k g off) (h.quiet d k off)
+  where
+    neither : (a b : Bool) → a ≡ false → b ≡ false → (a || b) ≡ false
+    neither a b x y = grind (arith, x, y)
+
+-- an input plug of a device on the bus stands
+stands : (s : State) (d n k : ℕ) → IsGood s → number_in s.account.latest d ≡ Some n → k < input_plugs_of (kind_at s.declared.kinds d)
+    → is_input s.account.latest (at_plug d k) ≡ true
+stands s d n k g at lt = go s.account.latest g.latest at
+  where
+    go : (o : Option ResetEntry) → IsLatest o s → number_in o d ≡ Some n → is_input o (at_plug d k) ≡ true
+    go None h at = absurd (let z : ⊥ = cc in z)
+    go (Some e) h at = any_at (is_input_of (at_plug d k)) e.nodes n (row_of d (kind_at s.declared.kinds d)) (h.1.numbers d n at) (grind (arith, nat_tests))
+
+-- the word of a plug that stands, and whether it goes on, say whether it hears
+pub hears_by_word : (s : State) (d k : ℕ) → IsGood s → IsTrue (is_on s d) → k < input_plugs_of (kind_at s.declared.kinds d)
+    → is_active (word_of s.account (InputPlug (at_plug d k))) (s.dub.lingers (at_plug d k)) ≡ hears_in s.account s.dub (at_plug d k)
+hears_by_word s d k g on lt = ap (λ b. b || s.dub.lingers (at_plug d k)) (shows_connected (word_of s.account (InputPlug (at_plug d k))) (s.account.inputs (at_plug d k))
+    (input_shows (s.account.inputs (at_plug d k)) (s.account.input_channel (at_plug d k)) (sound.counts (at_plug d k)).1 (sound.channels_fit (at_plug d k) there)))
+  where
+    sound : IsSound s.account
+    sound = g.reclaims.step.sound
+
+    there : is_input s.account.latest (at_plug d k) ≡ true
+    there = stands s d (node_of s.account.latest d) k g (number_of_on s.account.latest d on) lt
+
+-- and its channel
+pub hears_channel : (s : State) (d k : ℕ) → IsGood s → IsTrue (is_on s d) → k < input_plugs_of (kind_at s.declared.kinds d)
+    → field (word_of s.account (InputPlug (at_plug d k))) 10 15 ≡ s.account.input_channel (at_plug d k)
+hears_channel s d k g on lt =
+    let sound : IsSound s.account = g.reclaims.step.sound in
+    let there = stands s d (node_of s.account.latest d) k g (number_of_on s.account.latest d on) lt in
+    channel_shown (s.account.inputs (at_plug d k)) (s.account.input_channel (at_plug d k)) (sound.counts (at_plug d k)).1 (sound.channels_fit (at_plug d k) there)
+
+-- ---- bus resets
+
+-- a device that is off after one was off before it
+was_off : (s : State) (n : Declared) (initiator : ℕ) (out : List Timed) (t : State) → MayReset s n → (r : Resets (declaring s n) initiator out t) → (d : ℕ) → is_some (node_number r.entry.nodes d) ≡ false → is_on s d ≡ false
+was_off s n initiator out t m r d off = go s.account.latest refl m.good.latest (number_in s.account.latest d) refl
+  where
+    go : (o : Option ResetEntry) → s.account.latest ≡ o → IsLatest o s → (k : Option ℕ) → number_in o d ≡ k → is_some (number_in s.account.latest d) ≡ false
+    go None is h k at = ap (λ o. is_some (number_in o d)) is
+    go (Some e) is h None at = ap (λ o. is_some (number_in o d)) is ∙ ap is_some at
+    go (Some e) is h (Some k) at =
+        let there = stays_node s.declared.topology n.topology n.kinds e r.entry (reset_follows s n initiator out t m r e is h) d k at in
+        let on : is_some (node_number r.entry.nodes d) ≡ true = ap is_some there.is in
+        absurd (grind (arith, on, off))
+
+resets_hearing : (s : State) (n : Declared) (initiator : ℕ) (out : List Timed) (t : State) → MayReset s n → HasHearing s → Resets (declaring s n) initiator out t → HasHearing t
+resets_hearing s n initiator out t m h r = subst HasHearing (sym r.state_is) (record {
+  quiet = λ d k off. off_hears s d k m.good h (was_off s n initiator out t m r d off);
+})
+
+-- ---- each action
+
+declares_hearing : (s : State) (name : List ℕ) (kind : DeviceKind) (ports speed : ℕ) (out : List Timed) (t : State) → IsGood s → HasHearing s
+    → (s.declared.names ≡ [] → MayReset (beginning s) (with_device s.declared name kind ports speed)) → Declares s.declared.names (declaring s (with_device s.declared name kind ports speed)) out t → HasHearing t
+declares_hearing s name kind ports speed out t g h may = go s.declared.names refl
+  where
+    go : (names : List (List ℕ)) → s.declared.names ≡ names → Declares names (declaring s (with_device s.declared name kind ports speed)) out t → HasHearing t
+    go [] none r = resets_hearing (beginning s) (with_device s.declared name kind ports speed) 0 out t (may none) (as_it_was s (beginning s) _ (λ q e. e) refl refl h) r
+    go (x ∷ names) more r = as_it_was s _ t (λ q e. e) refl r.1 h
+
+counting_hearing : (s : State) → HasHearing s → HasHearing (counting s)
+counting_hearing s h = as_it_was s (counting s) _ (λ q e. e) refl refl h
+
+taken_hearing : (s : State) (d : ℕ) (out : List Timed) (t : State) → IsGood s → HasHearing s → IsTrue (is_living s d) → s.half_steps < 4000000 → Taken s d out t → HasHearing t
+taken_hearing s d out t g h lives few (listens quiet said is) = as_it_was s _ t (λ q e. quiet_and _ _ e) (half_turn s d g lives).1.latest is h
+taken_hearing s d out t g h lives few (keeps_deaf deaf said is) = as_it_was s _ t (λ q e. e) refl is h
+taken_hearing s d out t g h lives few (forces_reset deaf r) =
+    resets_hearing (counted s 1) s.declared d out t (forced_may s d g lives deaf few) (as_it_was s (counted s 1) _ (λ q e. e) refl refl h) r
+
+pub step_hearing : (s : State) (a : Action) (out : List Timed) (t : State) → IsGood s → HasHearing s → Step s a out t → HasHearing t
+step_hearing s Withhold out t g h x = as_it_was s _ t (λ q e. e) (withholding_keeps (λ (l : Account). l.latest) s.account refl) x.1.3 h
+step_hearing s (AddDevice name kind ports speed) out t g h x = declares_hearing s name kind ports speed out t g h (λ empty. first_may s name kind ports speed (record { good = g; room = x.1.0; some = x.1.1; most = x.1.2; fast = x.1.3 }) empty) x.1.4
+step_hearing s (AddCable a b) out t g h x = go (is_on s a.device) (is_on s b.device) refl refl x.1.2
+  where
+    n : Declared
+    n = record s.declared { topology = x.1.0 }
+
+    go : (y z : Bool) → is_on s a.device ≡ y → is_on s b.device ≡ z → Joins y z a.device b.device (with_topology s x.1.0) out t → HasHearing t
+    go true false on_a off_b r = resets_hearing (counting s) n a.device out t (cabled_may s x.1.0 a b g x.1.1 (on_some s a.device g on_a) r.0) (counting_hearing s h) r.1
+    go false true off_a on_b r = resets_hearing (counting s) n b.device out t (cabled_may s x.1.0 a b g x.1.1 (on_some s b.device g on_b) r.0) (counting_hearing s h) r.1
+    go true true on_a on_b r = as_it_was s _ t (λ q e. e) refl r.1 h
+    go false false off_a off_b r = as_it_was s _ t (λ q e. e) refl r.1 h
+step_hearing s (ResetBus d) out t g h x = resets_hearing (counting s) s.declared d out t (begun_may s d g x.1.0 x.1.1.0) (counting_hearing s h) x.1.1.1
+step_hearing s (StartConnection d w) out t g h x = as_it_was s _ t (λ q e. e) refl x.1.4 h
+step_hearing s (StartBreak d i) out t g h x = as_it_was s _ t (λ q e. e) refl x.1.3 h
+step_hearing s (HalfStep d) out t g h x = taken_hearing s d out t g h x.1.0 x.1.1 (taken_as s d out t x.1.2)
+step_hearing s (Rest n) out t g h x = as_it_was s _ t (λ q e. e) refl x.1.3 h
+step_hearing s Unsettled out t g h x = as_it_was s _ t (λ q e. e) refl x.1.2 h
+step_hearing s (Pass n) out t g h x = as_it_was s _ t (λ q e. e) refl x.1.3 h
+step_hearing s EndSecond out t g h x = as_it_was s _ t (λ q e. refl) (ap (λ (l : Account). l.latest) (second_ends s.account x.1.1)) x.1.4 h
+step_hearing s (Die d) out t g h x = as_it_was s _ t (λ q e. e) refl x.1.2 h
+step_hearing s (CarryOut d) out t g h x = as_it_was s _ t (λ q e. quiet_and _ _ e) (half_turn s d g x.1.0).1.latest x.1.3 h
+step_hearing s (Lose d) out t g h x = as_it_was s _ t (λ q e. quiet_and _ _ e) (half_turn s d g x.1.0).1.latest x.1.4 h
+step_hearing s (TellLoss d) out t g h x = as_it_was s _ t (λ q e. e) refl x.1.2 h
+step_hearing s (Start d) out t g h x = as_it_was s _ t (λ q e. e) refl x.1.3 h
+step_hearing s (Ask y) out t g h x = as_it_was s _ t (λ q e. e) refl x.1.4 h
+step_hearing s Answer out t g h x = as_it_was s _ t (λ q e. e) refl x.state_is h
+step_hearing s (ShowWord d offset) out t g h x = as_it_was s s t (λ q e. e) refl x.1.4 h
+step_hearing s (SendCommand a b bytes) out t g h x = as_it_was s _ t (λ q e. e) refl x.1.4 h
+step_hearing s (SendFrame d) out t g h x = as_it_was s _ t (λ q e. e) refl x.1.state_is h
+step_hearing s (Receive o) out t g h x = as_it_was s _ t (λ q e. e) refl x.1.state_is h
+step_hearing s (InsertTape d tape system) out t g h x = as_it_was s _ t (λ q e. e) refl x.1.4 h
+step_hearing s (EjectTape d) out t g h x = as_it_was s _ t (λ q e. e) refl x.1.4 h
+step_hearing s StartCycle out t g h x = as_it_was s _ t (λ q e. e) refl x.1.2 h
+step_hearing s (SendPacket p block) out t g h x = as_it_was s s t (λ q e. e) refl x.1.3 h
+step_hearing s (BecomeCandidate d) out t g h x = as_it_was s _ t (λ q e. e) refl x.1.4 h
+step_hearing s (Contend d) out t g h x = as_it_was s _ t (λ q e. e) refl x.1.state_is h
+step_hearing s (TieReel d) out t g h x = as_it_was s _ t (λ q e. e) refl x.1.4 h
+step_hearing s (KeepBlock block) out t g h x = as_it_was s _ t (λ q e. e) refl x.1.1 h
+step_hearing s Finish out t g h x = as_it_was s _ t (λ q e. e) refl x.1.1 h

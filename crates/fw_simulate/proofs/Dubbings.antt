@@ -1,0 +1,106 @@
+-- A run in memory whose log is kept nowhere, and its reel.
+use Rattle.std.proofs.Common.{◌≡◌, ◌≢◌, ℕ, List, [], Option, Some, refl, subst}
+use Rattle.std.specs.Prelude.{IsFalse}
+use Rattle.fw_entry.specs.Log.{header_bytes}
+use Rattle.fw_entry.specs.declared.version.Version.TheVariants.{Two}
+use Rattle.fw_entry.specs.declared.entry.Timed.{Timed}
+use Rattle.fw_script.specs.Reading.{Reading, unread}
+use Rattle.fw_run.specs.Desks.{DeskRelations}
+use Rattle.fw_run.specs.State.{first_state}
+use Rattle.fw_run.proofs.Reels.{run_recorded}
+use Rattle.fw_machine.specs.Stands.{StandsFor}
+use Rattle.fw_bus.specs.Buses.{Standing}
+use Rattle.fw_simulate.specs.Counts.{ReadCount, WriteCount}
+use Rattle.fw_simulate.specs.Dubs.{Dubs, HasRecorded, Recorded, WritesReel}
+use Rattle.fw_simulate.specs.Going.{Going, Ends}
+use Rattle.fw_simulate.specs.Scripts.{IsValid, IsNoRefusal}
+use Rattle.fw_simulate.specs.Sums.{in_memory}
+use Rattle.fw_simulate.specs.declared.ending.RunEnding.{RunEnding}
+use Rattle.fw_simulate.specs.declared.ending.RunEnding.TheVariants.{Done, Refused, ReadFault, WriteFault, TooLong, NoMemory}
+use Rattle.fw_simulate.proofs.Completions.{run_completes}
+use Rattle.fw_simulate.proofs.Goings.{going_first}
+
+-- The commands so far were carried out, as over a sink that keeps all their log.
+pub record IsRecording (D : DeskRelations) (left now : Option (List ℕ)) (reader : Reading) (bus : Standing) : Type 0 where
+  pub written : List ℕ
+  pub going : Going D left now (Some []) (Some written) reader bus
+
+pub recording_first : {D : DeskRelations} (left : Option (List ℕ)) (reader : Reading) (bus : Standing) → reader ≡ unread → StandsFor bus.machine first_state → IsFalse bus.spent
+    → IsRecording D left left reader bus
+unfolding going_first
+recording_first left reader bus new stands fresh = record {
+  written = header_bytes Two;
+  going = going_first left (Some []) (Some (header_bytes Two)) reader bus new stands fresh refl;
+}
+
+-- how it ends
+pub recorded_ends : (D : DeskRelations) (left left' : Option (List ℕ)) (written : List ℕ) (log : List Timed) (bus : Standing) (e : RunEnding)
+    → Ends D left left' (Some []) (Some written) log bus e → Recorded D left left' bus (in_memory e)
+recorded_ends D left left' written log bus Done d = record {
+  was = record { written = written; ran = d.all; recorded = run_recorded D _ _ _ _ d.all.logged.run d.all.logged.given };
+  stands = d.stands;
+  fresh = d.fresh;
+}
+recorded_ends D left left' written log bus (Refused r) d = (written, d)
+recorded_ends D left left' written log bus ReadFault d = (written, d)
+recorded_ends D left left' written log bus WriteFault d = tt
+recorded_ends D left left' written log bus TooLong d = (written, d)
+recorded_ends D left left' written log bus NoMemory d = tt
+
+pub reads_in_memory : (old new : ℕ) (e : RunEnding) → ReadCount old new e → ReadCount old new (in_memory e)
+reads_in_memory old new Done r = r
+reads_in_memory old new (Refused x) r = r
+reads_in_memory old new ReadFault r = r
+reads_in_memory old new WriteFault r = r
+reads_in_memory old new TooLong r = r
+reads_in_memory old new NoMemory r = r
+
+-- ---- the word
+
+-- the reel of the run was written, or a front of it
+pub reel_written : (D : DeskRelations) (left left' held held' : Option (List ℕ)) (bus : Standing) (reel : List (List ℕ)) (e : RunEnding) → (h : HasRecorded D left left' bus)
+    → reel ≡ h.was.ran.logged.state.dub.reel → WritesReel reel held held' e → Dubs D left left' held held' e
+reel_written D left left' held held' bus reel e h same w = by e (subst (λ (r : List (List ℕ)). WritesReel r held held' e) same w)
+  where
+    by : (e : RunEnding) → WritesReel h.was.ran.logged.state.dub.reel held held' e → Dubs D left left' held held' e
+    by Done w = (h.was, w)
+    by (Refused r) w = absurd w
+    by ReadFault w = absurd w
+    by WriteFault w = (h.was, w)
+    by TooLong w = absurd w
+    by NoMemory w = absurd w
+
+-- nothing was written where the run did not come to its end
+pub nothing_dubbed : (D : DeskRelations) (left left' held : Option (List ℕ)) (bus : Standing) (e : RunEnding) → e ≢ Done → Recorded D left left' bus e → Dubs D left left' held held e
+nothing_dubbed D left left' held bus Done other d = absurd (other refl)
+nothing_dubbed D left left' held bus (Refused r) other d = (d, refl)
+nothing_dubbed D left left' held bus ReadFault other d = (d, refl)
+nothing_dubbed D left left' held bus WriteFault other d = absurd d
+nothing_dubbed D left left' held bus TooLong other d = (d, refl)
+nothing_dubbed D left left' held bus NoMemory other d = refl
+
+pub no_write_counted : (D : DeskRelations) (left left' : Option (List ℕ)) (bus : Standing) (count : ℕ) (e : RunEnding) → Recorded D left left' bus e → WriteCount count count e
+no_write_counted D left left' bus count Done d = refl
+no_write_counted D left left' bus count (Refused r) d = refl
+no_write_counted D left left' bus count ReadFault d = refl
+no_write_counted D left left' bus count WriteFault d = absurd d
+no_write_counted D left left' bus count TooLong d = refl
+no_write_counted D left left' bus count NoMemory d = refl
+
+-- no line of a valid script is refused
+pub dub_completes : (D : DeskRelations) (script : List ℕ) (left left' held held' : Option (List ℕ)) (e : RunEnding) → Dubs D left left' held held' e → left ≡ Some script → IsValid script → IsNoRefusal e
+dub_completes D script left left' held held' Done d told v = tt
+dub_completes D script left left' held held' (Refused r) d told v = run_completes D script left left' (Some []) (Some d.0.0) (Refused r) d.0.1 told v
+dub_completes D script left left' held held' ReadFault d told v = tt
+dub_completes D script left left' held held' WriteFault d told v = tt
+dub_completes D script left left' held held' TooLong d told v = run_completes D script left left' (Some []) (Some d.0.0) TooLong d.0.1 told v
+dub_completes D script left left' held held' NoMemory d told v = tt
+
+-- reading counts as it did, where the reel is written or not
+pub reads_with : (old new : ℕ) (reel : List (List ℕ)) (held held' : Option (List ℕ)) (e : RunEnding) → new ≡ old → WritesReel reel held held' e → ReadCount old new e
+reads_with old new reel held held' Done same w = same
+reads_with old new reel held held' (Refused r) same w = absurd w
+reads_with old new reel held held' ReadFault same w = absurd w
+reads_with old new reel held held' WriteFault same w = same
+reads_with old new reel held held' TooLong same w = absurd w
+reads_with old new reel held held' NoMemory same w = absurd w

@@ -1,0 +1,18 @@
+use Rattle.std.proofs.Common.{sym, subst}
+use Rattle.fw_run.specs.Desks.{DeskRelations}
+use Rattle.fw_simulate.specs.declared.word.ScriptWord.{ScriptWord}
+use Rattle.fw_simulate.specs.Words.{RunsAs}
+use Rattle.fw_simulate.proofs.word.run_as.Given as given
+use Rattle.fw_simulate.proofs.word.run_as.Goals as goal
+
+pub returns-in-Run-clause-runs : goal.returns-in-Run-clause-runs
+returns-in-Run-clause-runs g c =
+    let D : DeskRelations = record { blocks = given.F-post g c.args.desk.now.blocks; vendor = given.H-post g c.args.desk.now.vendor } in
+    let P : ScriptWord → Type 0 = λ w. RunsAs D w (g.S.Source.left c.args.source.now) (g.S.Source.left c.run.new.source) (g.K.Sink.held c.args.sink.now) (g.K.Sink.held c.run.new.sink) c.run.result in
+    subst P (sym c.in-Run.is) c.run.ensures.runs
+
+pub returns-in-Dub-clause-runs : goal.returns-in-Dub-clause-runs
+returns-in-Dub-clause-runs g c =
+    let D : DeskRelations = record { blocks = given.F-post g c.args.desk.now.blocks; vendor = given.H-post g c.args.desk.now.vendor } in
+    let P : ScriptWord → Type 0 = λ w. RunsAs D w (g.S.Source.left c.args.source.now) (g.S.Source.left c.dub.new.source) (g.K.Sink.held c.args.sink.now) (g.K.Sink.held c.dub.new.sink) c.dub.result in
+    subst P (sym c.in-Dub.is) c.dub.ensures.dubs

@@ -1,0 +1,45 @@
+//! The words that run a script, as one call.
+
+ghost use Rattle.std.specs.Prelude.{◌≡◌, List, ℕ, Some};
+ghost use Rattle.fw_tape.specs.Desks.{AnyBlock, AnyVendorByte};
+ghost use Rattle.fw_simulate.specs.Counts.{ReadCount, WriteCount};
+ghost use Rattle.fw_simulate.specs.Scripts.{IsValid, IsNoRefusal};
+ghost use Rattle.fw_simulate.specs.Words.{RunsAs};
+
+use crate::ending::RunEnding;
+use crate::recording::dub;
+use crate::script::run;
+use fw_outside::{Sink, Source};
+use fw_tape::Desk;
+use std::alloc::Global;
+
+/// A word that runs a script.
+#[derive(Clone, Copy, Debug, PartialEq, Eq)]
+pub enum ScriptWord {
+    /// The log of its commands.
+    Run,
+    /// What the reel has behind its last command.
+    Dub,
+}
+
+/// Runs a script as a word does.
+pub fn run_as<S: Source, K: Sink, F: Fn(u16, u32, u16) -> [u8; 480], H: Fn(u32, u8) -> u8>(
+    alloc: Global,
+    word: ScriptWord,
+    source: &mut S,
+    sink: &mut K,
+    desk: &Desk<F, H>,
+) -> RunEnding
+    requires blocks { AnyBlock (F.pre desk.now.blocks) }
+    requires desk { AnyVendorByte (H.pre desk.now.vendor) }
+    ensures runs { RunsAs (record { blocks = F.post desk.now.blocks; vendor = H.post desk.now.vendor }) word
+        (S.left source.old) (S.left source.new) (K.held sink.old) (K.held sink.new) result }
+    ensures complete { (script : List ℕ) → S.left source.old ≡ Some script → IsValid script → IsNoRefusal result }
+    ensures read_count { ReadCount (S.faults source.old) (S.faults source.new) result }
+    ensures write_count { WriteCount (K.faults sink.old) (K.faults sink.new) result }
+{
+    match word {
+        ScriptWord::Run => run(alloc, source, sink, desk),
+        ScriptWord::Dub => dub(alloc, source, sink, desk),
+    }
+}
