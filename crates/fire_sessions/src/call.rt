@@ -48,20 +48,32 @@ impl Ended {
     }
 }
 
-/// Does what the words say, over a source, into a room of so many bytes. The writes with these numbers fail, the first being number 1.
+/// The numbers of the writes to the output, and of those to the notes, that fail, the first being number 1.
+#[derive(Clone, Copy)]
+pub(crate) struct Failing<'a> {
+    pub(crate) writes: &'a [u32],
+    pub(crate) notes: &'a [u32],
+}
+
+pub(crate) const NONE: Failing<'static> = Failing {
+    writes: &[],
+    notes: &[],
+};
+
+/// Does what the words say, over a source, into a room of so many bytes.
 pub(crate) fn call<S: Source>(
     alloc: Global,
     words: &str,
     source: &mut S,
     room: usize,
-    failing: &[u32],
+    failing: Failing<'_>,
 ) -> Result<Ended, AllocError> {
     let mut list = Vec::new(alloc);
     for word in words.split_whitespace() {
         list.push(word.to_string(alloc)?)?;
     }
-    let mut output = MemSink::new(alloc, room, failing.to_vec(alloc)?)?;
-    let mut notes = MemSink::new(alloc, NOTE_ROOM, Vec::new(alloc))?;
+    let mut output = MemSink::new(alloc, room, failing.writes.to_vec(alloc)?)?;
+    let mut notes = MemSink::new(alloc, NOTE_ROOM, failing.notes.to_vec(alloc)?)?;
     let status = program(alloc, &list, source, &mut output, &mut notes);
     Ok(Ended {
         status,

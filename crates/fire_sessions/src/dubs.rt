@@ -1,6 +1,6 @@
 //! What decks record: how many bytes `dub` writes of a script, the first of them, and their sum.
 
-use crate::call::call;
+use crate::call::{NONE, call};
 use fw_outside::MemSource;
 use std::{fs, io};
 
@@ -48,7 +48,7 @@ pub(crate) fn holds(rt: &HostRuntime, line: &str) -> io::Result<bool> {
         return Ok(false);
     };
     let mut source = MemSource::new(fs::read(rt, row.script)?, Vec::new(alloc));
-    let ended = call(alloc, "dub", &mut source, ROOM, &[])?;
+    let ended = call(alloc, "dub", &mut source, ROOM, NONE)?;
     let reel = ended.output();
     Ok(
         ended.is_done()

@@ -1,7 +1,7 @@
 //! Calls of which each read and each write fails in turn. Behind a failing read stands what the whole lines, or the whole entries, before
 //! it give; behind a failing write what was written before it.
 
-use crate::call::call;
+use crate::call::{Failing, NONE, call};
 use crate::drops::Drops;
 use std::alloc::{AllocError, Global};
 use std::{fs, io};
@@ -120,7 +120,7 @@ fn reads_fail(
             fails_at: taken,
             faults: 0,
         };
-        let ended = call(alloc, row.word, &mut source, output.len(), &[])?;
+        let ended = call(alloc, row.word, &mut source, output.len(), NONE)?;
         if !due.is_some_and(|due| ended.is(5, "read fault", due)) {
             return Ok(false);
         }
@@ -147,7 +147,9 @@ fn writes_fail(
             fails_at: usize::MAX,
             faults: 0,
         };
-        let ended = call(alloc, row.word, &mut source, output.len(), &[write])?;
+        let writes = &[write];
+        let failing = Failing { writes, ..NONE };
+        let ended = call(alloc, row.word, &mut source, output.len(), failing)?;
         if !output
             .get(..end)
             .is_some_and(|due| ended.is(6, "write fault", due))

@@ -1,13 +1,10 @@
 //! Scripts that are put together of pieces, and what the text of their logs tells of outcomes, shown words and bids.
 
-use crate::call::call;
-use crate::table::is_row;
+use crate::call::{NONE, call};
+use crate::pieces::Pieces;
 use fw_outside::MemSource;
 use std::alloc::{AllocError, Global};
-use std::{fs, io};
-
-/// The file of the pieces: a line `NAME:`, and the piece's lines behind it, each behind two spaces.
-const PIECES: &str = "pieces.txt";
+use std::io;
 
 /// What stands for a row's number: in a script for its digits, in the lines for a word, as the text of a log has it.
 const NUMBER: &str = "N";
@@ -16,8 +13,7 @@ const NUMBER: &str = "N";
 const ROOM: usize = 100_000;
 
 /// A row of the table: `PIECES > PIECES`, those of the script and those of the lines that are told, in order; and ` : NUMBERS` behind it
-/// where the row is one for each number. These are parted by spaces; `FROM-TO` stands for all from one to another. A piece is named, or
-/// is a file in a folder.
+/// where the row is one for each number. These are parted by spaces; `FROM-TO` stands for all from one to another.
 #[derive(Clone, Copy)]
 struct Row<'a> {
     script: &'a str,
@@ -47,35 +43,6 @@ fn range_of(numbers: &str) -> Option<(u32, u32)> {
     if from <= to { Some((from, to)) } else { None }
 }
 
-/// Appends the lines of a piece of the table, and answers whether there is one of this name.
-fn put_piece(table: &str, name: &str, text: &mut String) -> Result<bool, AllocError> {
-    let mut is_there = false;
-    let mut is_here = false;
-    for line in table.lines().filter(|line| is_row(line)) {
-        if let Some(found) = line.strip_suffix(":") {
-            is_here = found == name;
-            is_there = is_there || is_here;
-        } else if is_here {
-            text.push_str(line.strip_prefix("  ").unwrap_or(line))?;
-            text.push_str("\n")?;
-        }
-    }
-    Ok(is_there)
-}
-
-/// The text of pieces, in order. None where there is none of one's name.
-fn text_of(rt: &HostRuntime, table: &str, names: &str) -> io::Result<Option<String>> {
-    let mut text = String::new(rt.alloc());
-    for name in names.split_whitespace() {
-        if name.contains("/") {
-            text.push_str(&fs::read_to_string(rt, name)?)?;
-        } else if !put_piece(table, name, &mut text)? {
-            return Ok(None);
-        }
-    }
-    Ok(Some(text))
-}
-
 /// Whether a line tells how a job or a bid ended, what a register showed, or that `settle` left something to do.
 fn tells(line: &str) -> bool {
     line.contains(" outcome ")
@@ -88,9 +55,9 @@ fn tells(line: &str) -> bool {
 /// Whether the log of a script tells these lines, and no others of their kind.
 fn is_told(alloc: Global, script: &str, told: &str) -> Result<bool, AllocError> {
     let mut source = MemSource::new(script.as_bytes().to_vec(alloc)?, Vec::new(alloc));
-    let log = call(alloc, "run", &mut source, ROOM, &[])?;
+    let log = call(alloc, "run", &mut source, ROOM, NONE)?;
     let mut source = MemSource::new(log.output().to_vec(alloc)?, Vec::new(alloc));
-    let text = call(alloc, "decode", &mut source, ROOM, &[])?;
+    let text = call(alloc, "decode", &mut source, ROOM, NONE)?;
     let Ok(lines) = str::from_utf8(text.output()) else {
         return Ok(false);
     };
@@ -131,11 +98,9 @@ pub(crate) fn holds(rt: &HostRuntime, line: &str) -> io::Result<bool> {
     let Some(row) = Row::of(line) else {
         return Ok(false);
     };
-    let table = fs::read_to_string(rt, PIECES)?;
-    let (Some(script), Some(told)) = (
-        text_of(rt, &table, row.script)?,
-        text_of(rt, &table, row.told)?,
-    ) else {
+    let pieces = Pieces::read(rt)?;
+    let (Some(script), Some(told)) = (pieces.text(rt, row.script)?, pieces.text(rt, row.told)?)
+    else {
         return Ok(false);
     };
     Ok(match row.numbers {

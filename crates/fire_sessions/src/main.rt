@@ -7,6 +7,8 @@ mod drops;
 mod dubs;
 mod faults;
 mod lines;
+mod pieces;
+mod refusals;
 mod sessions;
 mod table;
 mod tally;

@@ -1,6 +1,6 @@
 //! Calls over files: what each ends with, tells and writes.
 
-use crate::call::call;
+use crate::call::{NONE, call};
 use fw_outside::MemSource;
 use std::{fs, io};
 
@@ -46,11 +46,11 @@ pub(crate) fn holds(rt: &HostRuntime, line: &str) -> io::Result<bool> {
     let expected = fs::read(rt, row.output)?;
     let mut source = MemSource::new(fs::read(rt, row.input)?, Vec::new(alloc));
     let Some((first, second)) = row.words.split_once(" | ") else {
-        let ended = call(alloc, row.words, &mut source, expected.len(), &[])?;
+        let ended = call(alloc, row.words, &mut source, expected.len(), NONE)?;
         return Ok(ended.is(status, row.note, &expected));
     };
-    let between = call(alloc, first, &mut source, BETWEEN, &[])?;
+    let between = call(alloc, first, &mut source, BETWEEN, NONE)?;
     let mut source = MemSource::new(between.output().to_vec(alloc)?, Vec::new(alloc));
-    let ended = call(alloc, second, &mut source, expected.len(), &[])?;
+    let ended = call(alloc, second, &mut source, expected.len(), NONE)?;
     Ok(between.is_done() && ended.is(status, row.note, &expected))
 }

@@ -1,6 +1,6 @@
 //! The tables of rows.
 
-use crate::{dubs, faults, lines, sessions};
+use crate::{dubs, faults, lines, refusals, sessions};
 use std::io;
 
 /// A table, by its file.
@@ -10,10 +10,17 @@ pub(crate) enum Table {
     Faults,
     Dubs,
     Lines,
+    Refusals,
 }
 
 impl Table {
-    pub(crate) const ALL: [Table; 4] = [Table::Calls, Table::Faults, Table::Dubs, Table::Lines];
+    pub(crate) const ALL: [Table; 5] = [
+        Table::Calls,
+        Table::Faults,
+        Table::Dubs,
+        Table::Lines,
+        Table::Refusals,
+    ];
 
     pub(crate) fn file(self) -> &'static str {
         match self {
@@ -21,6 +28,7 @@ impl Table {
             Table::Faults => "faults.txt",
             Table::Dubs => "dubs.txt",
             Table::Lines => "lines.txt",
+            Table::Refusals => "refusals.txt",
         }
     }
 
@@ -31,6 +39,7 @@ impl Table {
             "faults.txt" => Some(Table::Faults),
             "dubs.txt" => Some(Table::Dubs),
             "lines.txt" => Some(Table::Lines),
+            "refusals.txt" => Some(Table::Refusals),
             _ => None,
         }
     }
@@ -42,6 +51,7 @@ impl Table {
             Table::Faults => faults::holds(rt, row),
             Table::Dubs => dubs::holds(rt, row),
             Table::Lines => lines::holds(rt, row),
+            Table::Refusals => refusals::holds(rt, row),
         }
     }
 }

@@ -1,6 +1,6 @@
 -- The bytes of a packet in its room, behind sixteen others.
 use Rattle.std.proofs.Common.{◌≡◌, ℕ, ◌+◌, ◌≤◌, List, ◌++◌, length, take, drop, arith, ap, sym, ◌∙◌}
-use Rattle.std.proofs.Math.Seq.{take-take}
+use Rattle.std.proofs.Math.Seq.{take-take, take-append-add}
 use Rattle.std.proofs.lemmas.List.{drop-take, drop-append-le, length-take-le, length-drop}
 
 -- more bytes stand behind those that were there
@@ -21,3 +21,8 @@ copied n m from to few within e =
 
 pub stood : (n : ℕ) (bytes : List ℕ) → 16 + n ≤ length bytes → length (take n (drop 16 bytes)) ≡ n
 stood n bytes within = length-take-le n (drop 16 bytes) (omega (arith, length-drop 16 bytes))
+
+-- the first bytes, which were put in front of a packet, and that packet
+pub row_is : (n : ℕ) (put front behind packet : List ℕ) → length put ≡ 16 → put ≡ front → take n behind ≡ packet → take (16 + n) (put ++ behind) ≡ front ++ packet
+row_is n put front behind packet size same is =
+    ap (λ k. take (k + n) (put ++ behind)) (sym size) ∙ (take-append-add put behind n ∙ (ap (λ t. t ++ take n behind) same ∙ ap (λ t. front ++ t) is))

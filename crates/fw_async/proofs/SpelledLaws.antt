@@ -17,7 +17,7 @@ use Rattle.fw_async.specs.declared.packet.Head.{Head}
 use Rattle.fw_async.specs.declared.packet.Packet.{Packet}
 use Rattle.fw_async.specs.declared.packet.Packet.TheVariants.{WriteQuadlet, WriteBlock, WriteReply, ReadQuadlet, ReadBlock, ReadQuadletReply, ReadBlockReply, CycleStart, Lock, LockReply}
 use Rattle.fw_async.proofs.ReadingLaws.{padding_next}
-use Rattle.fw_async.proofs.NeedLaws.{need_of, need_done}
+use Rattle.fw_async.proofs.NeedLaws.{need_of, need_done, need_most}
 
 pub back : (a : ℕ) (rest : List ℕ) → a < 2 ^ 32 → quadlet_at (to_be_bytes w32 a ++ rest) 0 ≡ a
 back a rest h = from_be_bytes-to_be_bytes_4 a h
@@ -232,6 +232,10 @@ spelled_need (LockReply h r f bytes) fits =
     let all = spelling (LockReply h r f bytes) in
     need_at all 11 (spelled_tcode 11 h (drop 4 all) (omega arith) fits.0)
     ∙ need_data (packed (head_fields 11 h) 0) (packed ((16, h.source) ∷ (4, r) ∷ (12, 0) ∷ []) 0) 0 f bytes (reply_few (length bytes) fits.4) (omega (arith, fits.3))
+
+-- No packet is longer than 528 bytes.
+pub spelled_most : (p : Packet) → Fits p → length (spelling p) ≤ 528
+spelled_most p f = omega (arith, need_most (spelling p) (spelled_none p f), spelled_need p f)
 
 no_more : (n : ℕ) (more : List ℕ) → n + length more ≡ n → more ≡ []
 no_more n more e = nil_from_length more (omega arith)

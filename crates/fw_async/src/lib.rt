@@ -30,7 +30,7 @@ pub use quadlets::{QuadletRequest, QuadletSwap, quadlet_request_at};
 pub use reader::{Fed, destination_at, read_packet, whole_packet};
 pub use room::PacketRoom;
 pub use wire::Wire;
-pub use writer::{append_packet, packet_length, write_packet};
+pub use writer::{packet_length, write_packet, write_packet_at};
 
 /// Why bytes are no packet. The variants that one quadlet can show are tested in this order, and each comes as
 /// soon as the quadlet that shows it has been read; `BadPadding` as soon as its byte has.

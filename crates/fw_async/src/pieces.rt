@@ -12,7 +12,7 @@ use std::marker::Model;
 
 /// Reads packets from bytes that come in any pieces. It keeps the bytes since the last packet and the fault that it
 /// answered, and takes no memory besides.
-#[derive(Debug, Drop)]
+#[derive(Drop)]
 pub struct PacketReader {
     taken: Bytes<528>,
     fault: Option<PacketFault>,

@@ -28,14 +28,14 @@ const OLD_SIZE: u32 = 0x0004_0002;
 const NO_OLD_SIZE: u32 = 0x0000_0002;
 
 /// The two quadlets of a compare_swap.
-#[derive(Clone, Copy, Debug, PartialEq, Eq)]
+#[derive(Clone, Copy)]
 pub struct QuadletSwap {
     pub argument: u32,
     pub new: u32,
 }
 
 /// A quadlet read, or a quadlet compare_swap, as its request packet asks it.
-#[derive(Clone, Copy, Debug, PartialEq, Eq)]
+#[derive(Clone, Copy)]
 pub struct QuadletRequest {
     pub head: Head,
     /// The destination_offset, 48 bits.

@@ -17,7 +17,7 @@ use crate::write::{write_block_at, write_quadlet_at, write_reply_at};
 use fw_words::quadlet_at;
 
 /// What a piece gave.
-#[derive(Debug, PartialEq, Eq, Drop)]
+#[derive(Drop)]
 pub struct Fed<'a> {
     /// How many of its bytes were taken: those up to the packet's end, or all.
     pub used: usize,

@@ -8,7 +8,7 @@ ghost use Rattle.fw_async.specs.Tcode.{code_of};
 use crate::header::{first_quadlet, rcode_quadlet, source_quadlet};
 use crate::packet::{Head, Packet};
 use crate::tcode::Tcode;
-use crate::writer::{data_of, front_of, padding_of};
+use crate::writer::{data_of, front_of, padding_of, write_over};
 use fw_words::{Quadlet, put_quadlet};
 use std::marker::Model;
 
@@ -82,6 +82,16 @@ impl PacketRoom {
         &self.bytes[..FRONT + self.length]
     }
 
+    /// As `behind`, of a short packet, and with what stands in the room after it.
+    #[inline(always)]
+    pub fn row_behind<'a>(&'a mut self, front: [u8; 16]) -> &'a [u8; 48]
+        requires { length self.old ≤ 32 }
+        ensures { take (16 + length self.old) result.now ≡ front ++ self.old }
+    {
+        self.bytes[..FRONT].copy_from_slice(&front);
+        row_of(&self.bytes)
+    }
+
     /// Puts a packet in place of what was there.
     pub fn put(&mut self, p: &Packet)
         requires { Fits p.now }
@@ -146,12 +156,15 @@ impl PacketRoom {
     }
 }
 
-// Writes over the bytes from `at` on.
-fn write_over(out: &mut [u8; ALL], at: usize, more: &[u8])
-    requires { at + length more.now ≤ 544 }
-    ensures { take (at + length more.now) out.new ≡ take at out.old ++ more.now }
+// The first bytes, of which those of a short packet are the last.
+#[inline(always)]
+fn row_of(bytes: &[u8; ALL]) -> &[u8; 48]
+    ensures { result.now ≡ take 48 bytes.now }
 {
-    out[at..at + more.len()].copy_from_slice(more);
+    match bytes.first_chunk::<48>() {
+        Some(row) => row,
+        None => unreachable!(),
+    }
 }
 
 // Writes over the bytes at the front.

@@ -2,7 +2,7 @@ ghost use Rattle.std.specs.Prelude.{◌≡◌, ◌<◌, IsTrue, IfSome, IsSome, 
 ghost use Rattle.fw_async.specs.Tcode.{code_of, is_known, is_response, has_data, has_quadlet_3};
 
 /// Transaction codes (IEEE 1394-1995, clause 6.2). Code A is isochronous, and the others are reserved.
-#[derive(Clone, Copy, Debug, PartialEq, Eq)]
+#[derive(Clone, Copy)]
 pub enum Tcode {
     WriteQuadlet = 0,
     WriteBlock = 1,

@@ -8,7 +8,7 @@ use crate::header::{begin_request, begin_response, push_quadlet};
 use crate::packet::Packet;
 use crate::tcode::Tcode;
 use arrayvec::ArrayVec;
-use fw_words::{Bytes, Bytes16, with_field};
+use fw_words::{Bytes16, with_field};
 
 // Quadlets 0 to 2, in place of what `out` held.
 fn begin_packet(p: &Packet, out: &mut Bytes16)
@@ -125,22 +125,6 @@ pub fn packet_length(p: &Packet) -> usize
     front + data + 3 * data % 4
 }
 
-/// Appends a packet's bytes to those that `out` holds, where there is room for them: `packet_length` says how many they
-/// are. The packet's numbers fit their fields, and its data is as long as its kind may have.
-pub fn append_packet<const N: usize>(p: &Packet, out: &mut Bytes<N>)
-    requires fits { Fits p.now }
-    requires room { length out.old + length (spelling p.now) ≤ N }
-    ensures { out.new ≡ out.old ++ spelling p.now }
-{
-    let front = front_of(p);
-    let data = data_of(p);
-    out.append(front.as_slice());
-    if !data.is_empty() {
-        out.append(data);
-        out.append(padding_of(data.len()));
-    }
-}
-
 fn extend(out: &mut ArrayVec<u8, 528>, more: &[u8])
     requires { length out.old.items + length more.now ≤ 528 }
     ensures { out.new.items ≡ out.old.items ++ more.now }
@@ -174,30 +158,44 @@ pub fn write_packet(p: &Packet, out: &mut ArrayVec<u8, 528>)
 }
 
 // Writes over the bytes from `at` on.
-fn write_over(out: &mut [u8; 528], at: usize, more: &[u8])
-    requires { at + length more.now ≤ 528 }
+pub(crate) fn write_over(out: &mut [u8], at: usize, more: &[u8])
+    requires { at + length more.now ≤ length out.old }
     ensures { take (at + length more.now) out.new ≡ take at out.old ++ more.now }
 {
     out[at..at + more.len()].copy_from_slice(more);
 }
 
+/// Writes a packet's bytes over those of `out` from `at` on, where there is room for them, and answers where they end:
+/// `packet_length` says how many they are. The packet's numbers fit their fields, and its data is as long as its kind may
+/// have.
+pub fn write_packet_at(p: &Packet, out: &mut [u8], at: usize) -> usize
+    requires fits { Fits p.now }
+    requires room { at + length (spelling p.now) ≤ length out.old }
+    ensures bytes { take result out.new ≡ take at out.old ++ spelling p.now }
+    ensures end { result ≡ at + length (spelling p.now) }
+{
+    let front = front_of(p);
+    let front = front.as_slice();
+    let data = data_of(p);
+    write_over(out, at, front);
+    let end = at + front.len();
+    if data.is_empty() {
+        return end;
+    }
+    let padding = padding_of(data.len());
+    write_over(out, end, data);
+    let end = end + data.len();
+    write_over(out, end, padding);
+    end + padding.len()
+}
+
 /// Writes a packet's bytes over the front of `out`, and answers how many they are.
+#[tactic(auto, using(crate::proofs::SpelledLaws::spelled_most))]
 pub(crate) fn spell_over(p: &Packet, out: &mut [u8; 528]) -> usize
     requires { Fits p.now }
     ensures bytes { take result out.new ≡ spelling p.now }
     ensures size { result ≡ length (spelling p.now) }
     ensures room { result ≤ 528 }
 {
-    let front = front_of(p);
-    let front = front.as_slice();
-    let data = data_of(p);
-    write_over(out, 0, front);
-    if data.is_empty() {
-        return front.len();
-    }
-    let padding = padding_of(data.len());
-    let end = front.len() + data.len();
-    write_over(out, front.len(), data);
-    write_over(out, end, padding);
-    end + padding.len()
+    write_packet_at(p, out, 0)
 }

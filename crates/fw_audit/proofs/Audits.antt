@@ -7,13 +7,14 @@ use Rattle.fw_account.specs.Fold.{no_account, next_account, account_from, accoun
 use Rattle.fw_ledger.specs.Stands.{StandsFor, Follows as LedgerFollows}
 use Rattle.fw_ledger.specs.declared.tables.Tables.{Tables}
 use Rattle.fw_account.proofs.Fold.{account_from-append}
-use Rattle.fw_audit.specs.Looked.{looked}
-use Rattle.fw_audit.specs.Faults.{HasNoFault, IsVerdict}
-use Rattle.fw_audit.specs.Judged.{judged, unmoved, found_after, verdict}
-use Rattle.fw_audit.specs.Audited.{IsAudited, EndsFaulty, StandsAfter, Follows, Found}
-use Rattle.fw_audit.specs.declared.fault.AuditFault.{AuditFault}
+use Rattle.fw_faults.specs.Looked.{looked}
+use Rattle.fw_faults.specs.Faults.{HasNoFault, IsVerdict}
+use Rattle.fw_faults.specs.Judged.{judged, unmoved, found_after, verdict}
+use Rattle.fw_faults.specs.Audited.{IsAudited, EndsFaulty}
+use Rattle.fw_faults.specs.declared.fault.AuditFault.{AuditFault}
+use Rattle.fw_audit.specs.Found.{StandsAfter, Follows, Found}
 use Rattle.fw_audit.specs.declared.audit.Audit.{Audit}
-use Rattle.fw_audit.proofs.Verdicts.{first_verdict, no_fault}
+use Rattle.fw_faults.proofs.Verdicts.{first_verdict, no_fault}
 
 -- ---- lists
 

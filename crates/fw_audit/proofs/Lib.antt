@@ -1,5 +1,1 @@
-pub mod Refusals
-pub mod Responses
-pub mod Verdicts
-pub mod Vouched
 pub mod Audits

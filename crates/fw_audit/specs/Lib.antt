@@ -1,4 +1,1 @@
-pub mod Looked
-pub mod Faults
-pub mod Judged
-pub mod Audited
+pub mod Found

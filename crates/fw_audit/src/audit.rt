@@ -3,15 +3,15 @@ ghost use Rattle.fw_entry.specs.declared.entry.Entry.{Entry as LogEntry};
 ghost use Rattle.fw_entry.specs.Log.{Fits};
 ghost use Rattle.fw_account.specs.Account.{Account};
 ghost use Rattle.fw_ledger.specs.Stands.{StandsFor};
-ghost use Rattle.fw_audit.specs.Looked.{looked};
-ghost use Rattle.fw_audit.specs.Faults.{IsVerdict};
-ghost use Rattle.fw_audit.specs.Judged.{verdict};
-ghost use Rattle.fw_audit.specs.Audited.{Found, StandsAfter};
-ghost use Rattle.fw_audit.specs.declared.fault.AuditFault.{AuditFault as Fault};
+ghost use Rattle.fw_faults.specs.Looked.{looked};
+ghost use Rattle.fw_faults.specs.Faults.{IsVerdict};
+ghost use Rattle.fw_faults.specs.Judged.{verdict};
+ghost use Rattle.fw_faults.specs.declared.fault.AuditFault.{AuditFault as Fault};
+ghost use Rattle.fw_audit.specs.Found.{Found, StandsAfter};
 
-use crate::fault::AuditFault;
 use crate::judge::{judge, swap_refused};
 use fw_entry::{Entry, Timed};
+use fw_faults::AuditFault;
 use fw_ledger::Ledger;
 use std::alloc::{AllocError, Global};
 

@@ -6,14 +6,14 @@ ghost use Rattle.fw_account.specs.Account.{Account, Request, Reads};
 ghost use Rattle.fw_account.specs.Packets.{Read, Locked};
 ghost use Rattle.fw_account.specs.Words.{register_of, word_of};
 ghost use Rattle.fw_ledger.specs.Stands.{StandsFor, AskedFor};
-ghost use Rattle.fw_audit.specs.Looked.{Replies, Shows, Happens, labelled, looked, looked_packet, quadlet_in};
-ghost use Rattle.fw_audit.specs.Judged.{judged, judged_request, judged_quadlet, judged_reply, judged_response, judged_word, watched_offset, not_allowed as no_quadlet, no_move_of, no_move_by, unmoved};
+ghost use Rattle.fw_faults.specs.Looked.{Replies, Shows, Happens, labelled, looked, looked_packet, quadlet_in};
+ghost use Rattle.fw_faults.specs.Judged.{judged, judged_request, judged_quadlet, judged_reply, judged_response, judged_word, watched_offset, not_allowed as no_quadlet, no_move_of, no_move_by, unmoved};
 
-use crate::fault::AuditFault;
 use crate::watch::{is_watched, watched_offset};
 use fw_async::{Head, Packet};
 use fw_entry::codes::event::{SECOND_OVER, WITHHELD};
 use fw_entry::{Entry, EventEntry, ShownEntry};
+use fw_faults::AuditFault;
 use fw_ledger::{Asked, Ledger};
 use fw_words::quadlet_at;
 

@@ -1,8 +1,8 @@
 //! Which registers are watched.
 
 ghost use Rattle.std.specs.Prelude.{◌≡◌, ◌<◌, ◌≤◌, ℕ, IfSome};
-ghost use Rattle.fw_audit.specs.Looked.{is_plug_offset, is_watched};
-ghost use Rattle.fw_audit.specs.Judged.{watched_offset};
+ghost use Rattle.fw_faults.specs.Looked.{is_plug_offset, is_watched};
+ghost use Rattle.fw_faults.specs.Judged.{watched_offset};
 
 // An offset of the 31 plug registers that begin at one.
 fn is_plug_offset(first: u64, offset: u64) -> bool

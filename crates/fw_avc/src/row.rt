@@ -5,7 +5,7 @@ ghost use Rattle.fw_avc.specs.Rows.{control_rows, status_rows, notify_rows, rows
 use fw_fcp::{CONTROL, NOTIFY, STATUS, is_padding};
 
 /// The rows of the unit's own table of commands.
-#[derive(Clone, Copy, Debug, PartialEq, Eq)]
+#[derive(Clone, Copy)]
 pub enum UnitRow {
     /// UNIT INFO.
     UnitInfo,

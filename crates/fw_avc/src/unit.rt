@@ -13,7 +13,7 @@ use fw_tape::Tape;
 use std::marker::Model;
 
 /// The AV/C unit of a deck or camcorder, with its tape subunit (AV/C General 3.0).
-#[derive(Debug, Drop)]
+#[derive(Drop)]
 pub struct Unit {
     pub(crate) outputs: u8,
     pub(crate) inputs: u8,

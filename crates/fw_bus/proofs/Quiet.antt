@@ -10,19 +10,20 @@ use Rattle.fw_fcp.specs.declared.frame.Frame.{Frame}
 use Rattle.fw_script.specs.declared.command.Command.{Command}
 use Rattle.fw_run.specs.declared.order.Order.{Order}
 use Rattle.fw_run.specs.Recording.{heard_in}
-use Rattle.fw_run.specs.Actions.{Action, Withhold, AddDevice, AddCable, ResetBus, StartConnection, StartBreak, HalfStep, Rest, Unsettled, Pass, EndSecond, Die, CarryOut, Start, Ask, Answer, ShowWord, SendCommand, SendFrame, Receive, InsertTape, EjectTape, StartCycle, SendPacket, Finish, Resets, Declares, Joins, Step, Steps, Lose, TellLoss, beginning, counting, counted, BecomeCandidate, Contend, TieReel, KeepBlock}
+use Rattle.fw_run.specs.Actions.{Action, HalfStep, Rest, Unsettled, Pass, EndSecond, SendCommand, SendFrame, Receive, InsertTape, EjectTape, StartCycle, SendPacket, Step, Steps, Contend, KeepBlock}
 use Rattle.fw_run.specs.Carrying.{times, half_steps_of, next_cycle, SendsPackets, HasCycle, HasCycles, Rounds, none, round, rest, SendsAll, quiet, sends, Carries, withholds, withholds_already, declares, joins, resets, connects, breaks, steps, settled, unsettled, waits, waits_over, writes_cycles, dies, dies_late, dies_idle, starts, goes_on, transacts, shows, commanded, inserts, ejects, ejects_nothing, ends, loses, becomes_candidate, stays_candidate, contends, dubs}
 use Rattle.std.proofs.lemmas.Option.{same_Some}
 use Rattle.fw_run.specs.Decks.{DeckState, FrameWrite, Obeyed, after_frame, next_frame}
 use Rattle.fw_run.specs.Frames.{decks_after, command_write}
 use Rattle.fw_run.specs.Runs.{Run, begun, and_then}
-use Rattle.fw_run.specs.State.{State, has_deck, is_on, living}
+use Rattle.fw_run.specs.State.{State, has_deck, living}
 use Rattle.fw_run.specs.Streams.{talkers}
 use Rattle.fw_run.proofs.Turns.{update_new, update_others}
 use Rattle.fw_carry.specs.Framing.{IsQuiet}
 use Rattle.fw_machine.specs.declared.machine.Machine.{Machine}
-use Rattle.fw_run.proofs.Taking.{Taken, listens, keeps_deaf, forces_reset, taken_as}
 use Rattle.fw_machine.specs.Stands.{StandsFor}
+use Rattle.fw_run.proofs.Alterations.{Allows, Alteration, AtUnits, IsAtUnits, altered}
+use Rattle.fw_run.proofs.Effects.{Effect, altering, effect, resetting}
 
 -- no response waits
 abbrev pub AreQuiet : State → Type 0
@@ -60,57 +61,22 @@ sent_quiet k e = go k.waiting
     go None = refl
     go (Some told) = refl
 
-resets_quiet : (s t : State) (d : ℕ) (out : List Timed) → Resets s d out t → AreQuiet t
-resets_quiet s t d out x = as_is t _ x.state_is (λ c. refl)
-
-declares_quiet : (names : List (List ℕ)) (s t : State) (out : List Timed) → AreQuiet s → Declares names s out t → AreQuiet t
-declares_quiet [] s t out q x = resets_quiet (beginning s) t 0 out x
-declares_quiet (n ∷ names) s t out q x = as_is t s x.1 q
-
-joins_quiet : (a b : Bool) (c d : ℕ) (s t : State) (out : List Timed) → AreQuiet s → Joins a b c d s out t → AreQuiet t
-joins_quiet true false c d s t out q x = resets_quiet (counting s) t c out x.1
-joins_quiet false true c d s t out q x = resets_quiet (counting s) t d out x.1
-joins_quiet true true c d s t out q x = as_is t s x.1 q
-joins_quiet false false c d s t out q x = as_is t s x.1 q
-
-taken_quiet : (s : State) (d : ℕ) (out : List Timed) (t : State) → AreQuiet s → Taken s d out t → AreQuiet t
-taken_quiet s d out t q (listens hears said is) = as_is t _ is q
-taken_quiet s d out t q (keeps_deaf deaf said is) = as_is t _ is q
-taken_quiet s d out t q (forces_reset deaf r) = resets_quiet (counted s 1) t d out r
+-- one that does not touch a unit
+apart_quiet : (s : State) (a : Action) (out : List Timed) (t : State) → (IsAtUnits a → ⊥) → AreQuiet s → Effect s a out t → AreQuiet t
+apart_quiet s a out t apart q (resetting counts half_steps n initiator free begins may r) = as_is t _ r.state_is (λ d. refl)
+apart_quiet s a out t apart q (altering y w out_is is ok) = as_is t _ is (by y ok)
+  where
+    by : (y : Alteration) → Allows s a y → AreQuiet (altered s y)
+    by (AtUnits says decks frame) ok = absurd (apart ok.3)
+    by _ ok = λ d. q d
 
 step_quiet : (s : State) (a : Action) (out : List Timed) (t : State) → IsCalm a → AreQuiet s → Step s a out t → AreQuiet t
-step_quiet s Withhold out t calm q x = as_is t _ x.1.3 q
-step_quiet s (AddDevice name kind ports speed) out t calm q x = declares_quiet s.declared.names _ t out q x.1.4
-step_quiet s (AddCable a b) out t calm q x = joins_quiet (is_on s a.device) (is_on s b.device) a.device b.device _ t out q x.1.2
-step_quiet s (ResetBus d) out t calm q x = resets_quiet (counting s) t d out x.1.1.1
-step_quiet s (StartConnection d w) out t calm q x = as_is t _ x.1.4 q
-step_quiet s (StartBreak d i) out t calm q x = as_is t _ x.1.3 q
-step_quiet s (HalfStep d) out t calm q x = taken_quiet s d out t q (taken_as s d out t x.1.2)
-step_quiet s (Rest n) out t calm q x = as_is t _ x.1.3 q
-step_quiet s Unsettled out t calm q x = as_is t _ x.1.2 q
-step_quiet s (Pass n) out t calm q x = as_is t _ x.1.3 (λ d. q d)
-step_quiet s EndSecond out t calm q x = as_is t _ x.1.4 (λ d. q d)
-step_quiet s (Die d) out t calm q x = as_is t _ x.1.2 q
-step_quiet s (CarryOut d) out t calm q x = as_is t _ x.1.3 q
-step_quiet s (Lose d) out t calm q x = as_is t _ x.1.4 q
-step_quiet s (TellLoss d) out t calm q x = as_is t _ x.1.2 q
-step_quiet s (Start d) out t calm q x = as_is t _ x.1.3 q
-step_quiet s (Ask y) out t calm q x = as_is t _ x.1.4 q
-step_quiet s Answer out t calm q x = as_is t _ x.state_is q
-step_quiet s (ShowWord d offset) out t calm q x = as_is t s x.1.4 q
-step_quiet s (SendCommand a b bytes) out t calm q x = as_is t _ x.1.4 q
 step_quiet s (SendFrame d) out t calm q x = as_is t _ x.1.state_is (update_quiet s.decks d (after_frame (s.decks d)) q (sent_quiet (s.decks d) (q d)))
 step_quiet s (Receive None) out t calm q x = as_is t _ x.1.state_is q
 step_quiet s (Receive (Some y)) out t calm q x = absurd calm
 step_quiet s (InsertTape d tape system) out t calm q x = as_is t _ x.1.4 (update_quiet s.decks d _ q (q d))
 step_quiet s (EjectTape d) out t calm q x = as_is t _ x.1.4 (update_quiet s.decks d _ q (q d))
-step_quiet s StartCycle out t calm q x = as_is t _ x.1.2 q
-step_quiet s (SendPacket p block) out t calm q x = as_is t s x.1.3 q
-step_quiet s (BecomeCandidate d) out t calm q x = as_is t _ x.1.4 q
-step_quiet s (Contend d) out t calm q x = as_is t _ x.1.state_is q
-step_quiet s (TieReel d) out t calm q x = as_is t _ x.1.4 q
-step_quiet s (KeepBlock block) out t calm q x = as_is t _ x.1.1 q
-step_quiet s Finish out t calm q x = as_is t _ x.1.1 q
+step_quiet s a out t calm q x = apart_quiet s a out t (λ no. no) q (effect s a out t x)
 
 steps_quiet : (s : State) (actions : List Action) (out : List Timed) (t : State) → AreCalm actions → AreQuiet s → Steps s actions out t → AreQuiet t
 steps_quiet s [] out t calm q f = as_is t s f.1 q

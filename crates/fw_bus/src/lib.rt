@@ -10,7 +10,7 @@ pub use bus::Bus;
 pub use fw_run::RuleFault;
 
 /// Why a command was not carried out to its end.
-#[derive(Clone, Copy, Debug, PartialEq, Eq)]
+#[derive(Clone, Copy)]
 pub enum BusFault {
     /// A rule forbids the command: nothing is changed or written.
     Refused(RuleFault),

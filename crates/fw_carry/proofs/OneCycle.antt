@@ -1,6 +1,6 @@
 -- A cycle that comes and is written, or is cut off.
 use Rattle.std.proofs.Common.{◌≡◌, ℕ, ◌+◌, ◌%◌, ◌<◌, ◌==◌, ◌&&◌, cond, List, [], ◌∷◌, ◌++◌, length, Bool, true, false, Option, Some, None, is_some, option_map, refl, ap, sym, subst, ◌∙◌, arith, append_assoc, append-nil, IsTrue}
-use Rattle.std.specs.Prelude.{Ok, IsErr}
+use Rattle.std.specs.Prelude.{Ok, Err, IsErr}
 use Rattle.std.specs.declared.result.Result.{Result}
 use Rattle.std.proofs.lemmas.Option.{same_Some}
 use Rattle.fw_async.specs.declared.packet.Packet.{Packet}
@@ -334,6 +334,16 @@ pub cycle_unsent : {T E U F V G : Type 0} {D : DeskRelations} (counts : List ℕ
     → DoesBy D WritesCycle m last a c k n r
 cycle_unsent counts old new {m} q r was err is recorded f g =
     by_where {A = λ s. Unit {0}} (λ s good st. tt) (where_cut q r (keep_goes_on m (block_in new)) was err (sent_heard counts old new q is recorded f g))
+
+-- no deck records: its packets were written, or cut off
+pub cycle_unheard : {T E U F : Type 0} {D : DeskRelations} (counts : List ℕ) (new : Option Recording)
+    {m mid : Machine} {a b c : Option (List ℕ)} {k l n : ℕ} {u : T} (r : Result U F) → m.streams ≡ counts
+    → ((s : State) → IsGood s → StandsFor mid s → None ≡ recording_in s) → unheard new ≡ None
+    → Does {T = T} {E = E} Begins m mid a b k l (Ok u) → DoesWhere (HadSent counts) D (HearsTo 64 None new) mid mid b c l n r
+    → DoesBy D WritesCycle m mid a c k n r
+cycle_unheard counts (Some x) r is recorded none f g = absurd (let wrong : ⊥ = cc in wrong)
+cycle_unheard counts None (Ok w) is recorded none f g = cycle_then counts None None is recorded refl f g
+cycle_unheard counts None (Err w) is recorded none f g = cycle_unsent counts None None (Err w) (Err w) refl refl is recorded f g
 
 -- before the first device it only comes
 alone_is : (s t : State) (xs : List Action) (out : List Timed) → s.account.latest ≡ None → Comes s xs out t → WritesCycle s xs out t

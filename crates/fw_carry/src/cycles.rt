@@ -19,9 +19,10 @@ ghost use Rattle.fw_carry.specs.Cycling.{Comes, DoesWhere, HadSent, HearsTo, Put
 ghost use Rattle.fw_carry.specs.Doings.{Does};
 ghost use Rattle.fw_carry.specs.Framing.{DoesBy};
 ghost use Rattle.fw_machine.specs.Stands.{IsReady, StandsFor};
+ghost use Rattle.fw_machine.specs.Streaming.{AreStillFrom};
 
 use crate::dubs::{Recording, hear_block, keep, recording_on};
-use crate::second::{end_second, pass};
+use crate::second::{end_second, pass_one};
 use fw_async::{Head, Packet};
 use fw_devices::Talkers;
 use fw_entry::CycleRoom;
@@ -55,25 +56,29 @@ fn cycle_start(root: u8, cycle: u64) -> Packet<'static>
 }
 
 /// The next cycle comes: where the second of the latest bus reset is over at it, that is written first. `talkers` are those that
-/// talk before it, and then after it.
+/// talk before it, and then after it; so with `end`, from which on all devices are still.
 fn next_cycle<K: Sink>(
     machine: &mut Machine,
     talkers: &mut Talkers,
+    end: &mut u8,
     room: &mut Room,
     sink: &mut K,
 ) -> Result<(), Failed>
     requires ready { IsReady machine.old }
     requires few { machine.old.cycle + 1 ≤ 2 ^ 52 }
     requires talkers { AreTalkers (length machine.old.devices.nodes) machine.old.devices.nodes talkers.old }
+    requires still { AreStillFrom end.old machine.old.devices.nodes machine.old.streams }
     ensures talkers { AreTalkers (length machine.new.devices.nodes) machine.new.devices.nodes talkers.new }
+    ensures still { AreStillFrom end.new machine.new.devices.nodes machine.new.streams }
     ensures does { Does Comes machine.old machine.new (K.held sink.old) (K.held sink.new) (K.faults sink.old) (K.faults sink.new) result }
 {
     if machine.reclaiming && machine.directory.over_at == machine.cycle + 1 {
         let written = end_second(machine, room, sink);
         *talkers = machine.devices.talkers();
+        *end = machine.streams.end(&machine.devices);
         written
     } else {
-        pass(machine, 1);
+        pass_one(machine, *end);
         Ok(())
     }
 }
@@ -153,6 +158,8 @@ fn put_packets<F: Fn(u16, u32, u16) -> [u8; 480], H: Fn(u32, u8) -> u8>(
 }
 
 /// Each output plug that talks sends its packet of the cycle, in order of channel; they are written with one write.
+// Inlined at each call, where the room is at hand: else blocks go into it by copies.
+#[inline(always)]
 fn send_packets<K: Sink, F: Fn(u16, u32, u16) -> [u8; 480], H: Fn(u32, u8) -> u8>(
     machine: &Machine,
     talkers: &Talkers,
@@ -178,11 +185,11 @@ fn send_packets<K: Sink, F: Fn(u16, u32, u16) -> [u8; 480], H: Fn(u32, u8) -> u8
     sink.write(packets)
 }
 
-/// The next cycle comes and is written. Before the first device it only comes. `talkers` are those that talk before it, and then
-/// after it.
+/// The next cycle comes and is written. Before the first device it only comes. `talkers` and `end` are as in `next_cycle`.
 fn write_cycle<K: Sink, F: Fn(u16, u32, u16) -> [u8; 480], H: Fn(u32, u8) -> u8>(
     machine: &mut Machine,
     talkers: &mut Talkers,
+    end: &mut u8,
     desk: &Desk<F, H>,
     room: &mut Room,
     sink: &mut K,
@@ -192,12 +199,14 @@ fn write_cycle<K: Sink, F: Fn(u16, u32, u16) -> [u8; 480], H: Fn(u32, u8) -> u8>
     requires few { machine.old.cycle + 1 ≤ 2 ^ 52 }
     requires written { 0 < length machine.old.devices.nodes → machine.old.written < 8000 }
     requires talkers { AreTalkers (length machine.old.devices.nodes) machine.old.devices.nodes talkers.old }
+    requires still { AreStillFrom end.old machine.old.devices.nodes machine.old.streams }
     ensures talkers { AreTalkers (length machine.new.devices.nodes) machine.new.devices.nodes talkers.new }
+    ensures still { AreStillFrom end.new machine.new.devices.nodes machine.new.streams }
     ensures does { DoesBy (record { blocks = F.post desk.now.blocks; vendor = H.post desk.now.vendor }) WritesCycle
         machine.old machine.new (K.held sink.old) (K.held sink.new) (K.faults sink.old) (K.faults sink.new) result }
 {
     let before = machine.streams;
-    next_cycle(machine, talkers, room, sink)?;
+    next_cycle(machine, talkers, end, room, sink)?;
     let Some(root) = root(machine) else {
         return Ok(());
     };
@@ -210,7 +219,11 @@ fn write_cycle<K: Sink, F: Fn(u16, u32, u16) -> [u8; 480], H: Fn(u32, u8) -> u8>
         &mut room.packet,
         sink,
     )?;
-    let mut heard = recording_on(machine);
+    // A block is kept for the reel only where a deck records.
+    let Some(recording) = recording_on(machine) else {
+        return send_packets(machine, talkers, &before, desk, &mut None, room, sink);
+    };
+    let mut heard = Some(recording);
     send_packets(machine, talkers, &before, desk, &mut heard, room, sink)?;
     keep(machine, &heard);
     Ok(())
@@ -232,8 +245,9 @@ pub(crate) fn cycles<K: Sink, F: Fn(u16, u32, u16) -> [u8; 480], H: Fn(u32, u8) 
         machine.old machine.new (K.held sink.old) (K.held sink.new) (K.faults sink.old) (K.faults sink.new) result }
 {
     let mut talkers = machine.devices.talkers();
+    let mut end = machine.streams.end(&machine.devices);
     for i in 0..count {
-        write_cycle(machine, &mut talkers, desk, room, sink)?;
+        write_cycle(machine, &mut talkers, &mut end, desk, room, sink)?;
     }
     Ok(())
 }

@@ -102,6 +102,7 @@ pub(crate) fn dub<K: Sink>(
 }
 
 /// What the tied deck records: None where none is tied, it does not record, or its input plug does not hear.
+#[inline(always)]
 pub(crate) fn recording_on(machine: &Machine) -> Option<Recording>
     requires ready { IsReady machine.now }
     ensures value { (s : State) → IsGood s → StandsFor machine.now s → result ≡ recording_in s }

@@ -17,8 +17,7 @@ ghost use Rattle.fw_machine.specs.Stands.{IsReady, is_linked_in, is_living_in};
 use crate::transact::SCRIPT_LABEL;
 use fw_async::Packet;
 use fw_csr::Request;
-use fw_entry::Entry;
-use fw_machine::{Machine, Room, give};
+use fw_machine::{Machine, Room, give_async};
 use fw_node::request_packet;
 use fw_outside::{Failed, Sink};
 use fw_tape::Desk;
@@ -105,18 +104,18 @@ fn write_command<K: Sink, F: Fn(u16, u32, u16) -> [u8; 480], H: Fn(u32, u8) -> u
     let response = machine
         .devices
         .answer_frame(to, machine.cycle, &request, desk);
-    give(
+    give_async(
         &machine.devices,
         machine.cycle,
-        Some(Entry::Async(request)),
-        room,
+        &request,
+        &mut room.packet,
         sink,
     )?;
-    give(
+    give_async(
         &machine.devices,
         machine.cycle,
-        Some(Entry::Async(response)),
-        room,
+        &response,
+        &mut room.packet,
         sink,
     )
 }
@@ -176,18 +175,18 @@ fn send_frame<K: Sink>(
     };
     let to = addressee(machine, &frame);
     let response = machine.devices.answer(to, machine.cycle, &frame);
-    give(
+    give_async(
         &machine.devices,
         machine.cycle,
-        Some(Entry::Async(frame)),
-        room,
+        &frame,
+        &mut room.packet,
         sink,
     )?;
-    give(
+    give_async(
         &machine.devices,
         machine.cycle,
-        Some(Entry::Async(response)),
-        room,
+        &response,
+        &mut room.packet,
         sink,
     )?;
     Ok(true)

@@ -80,6 +80,7 @@ fn ask<K: Sink>(
 }
 
 /// A request stands: it is carried out, and the controller hears the reply in the response.
+#[inline(always)]
 pub(crate) fn hear<K: Sink>(
     machine: &mut Machine,
     device: u8,

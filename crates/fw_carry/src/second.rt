@@ -7,7 +7,7 @@ ghost use Rattle.fw_run.specs.declared.order.Order.TheVariants.{Wait};
 ghost use Rattle.fw_carry.specs.Doings.{Acts, Does};
 ghost use Rattle.fw_carry.specs.Resetting.{RestsAfterSecond, passed_in};
 ghost use Rattle.fw_machine.specs.Stands.{IsReady};
-ghost use Rattle.fw_machine.specs.Streaming.{counted_on};
+ghost use Rattle.fw_machine.specs.Streaming.{AreStillFrom, counted_on};
 
 use fw_machine::entries::second_over;
 use fw_machine::{Machine, Room, give};
@@ -19,9 +19,20 @@ pub(crate) fn pass(machine: &mut Machine, cycles: u64)
     requires few { machine.old.cycle + cycles ≤ 2 ^ 52 }
     ensures { machine.new ≡ record machine.old { devices = passed_in cycles machine.old.devices; cycle = machine.old.cycle + cycles; streams = counted_on cycles machine.old.devices.nodes machine.old.streams } }
 {
-    machine.streams.pass(&machine.devices, cycles);
-    machine.devices.pass(cycles);
+    machine.streams.pass(&mut machine.devices, cycles);
     machine.cycle += cycles;
+}
+
+/// One cycle goes by as in `pass`, where all devices from `end` on are still. They stay so.
+pub(crate) fn pass_one(machine: &mut Machine, end: u8)
+    requires ready { IsReady machine.old }
+    requires few { machine.old.cycle + 1 ≤ 2 ^ 52 }
+    requires still { AreStillFrom end machine.old.devices.nodes machine.old.streams }
+    ensures passed { machine.new ≡ record machine.old { devices = passed_in 1 machine.old.devices; cycle = machine.old.cycle + 1; streams = counted_on 1 machine.old.devices.nodes machine.old.streams } }
+    ensures still { AreStillFrom end machine.new.devices.nodes machine.new.streams }
+{
+    machine.streams.pass_to(end, &mut machine.devices, 1);
+    machine.cycle += 1;
 }
 
 /// One cycle goes by, and the second of the latest bus reset is over.
@@ -38,8 +49,7 @@ pub(crate) fn end_second<K: Sink>(
     ensures rests { RestsAfterSecond machine.old machine.new }
 {
     machine.devices.second_over();
-    machine.streams.pass(&machine.devices, 1);
-    machine.devices.pass(1);
+    machine.streams.pass(&mut machine.devices, 1);
     machine.cycle += 1;
     machine.reclaiming = false;
     machine.controllers.second_over();

@@ -20,6 +20,7 @@ use fw_machine::{Machine, Room, give};
 use fw_outside::{Failed, Sink};
 
 /// One half step of a device's controller, which lives: it writes at most one entry.
+#[inline(always)]
 fn half_step<K: Sink>(
     machine: &mut Machine,
     device: u8,

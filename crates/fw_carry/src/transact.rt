@@ -13,9 +13,8 @@ ghost use Rattle.fw_machine.specs.Stands.{IsReady, is_linked_in, is_living_in, r
 
 use fw_async::Packet;
 use fw_csr::{REGISTER_SPACE, Request};
-use fw_entry::Entry;
 use fw_machine::entries::shown_entry;
-use fw_machine::{Machine, Room, give};
+use fw_machine::{Machine, Room, give, give_async};
 use fw_node::request_packet;
 use fw_outside::{Failed, Sink};
 use fw_run::{Access, Transaction};
@@ -82,18 +81,18 @@ pub(crate) fn transact<K: Sink>(
     let response = machine
         .devices
         .answer(transaction.to, machine.cycle, &request);
-    give(
+    give_async(
         &machine.devices,
         machine.cycle,
-        Some(Entry::Async(request)),
-        room,
+        &request,
+        &mut room.packet,
         sink,
     )?;
-    give(
+    give_async(
         &machine.devices,
         machine.cycle,
-        Some(Entry::Async(response)),
-        room,
+        &response,
+        &mut room.packet,
         sink,
     )
 }

@@ -62,6 +62,12 @@ pub record Fits (p : IsoPacket) : Type 0 where
   pub second : FitWidths (second_layout p.cip)
   pub block : IfSome p.block IsBlock
 
+-- the bytes are those of some packet
+pub record IsSpelled (bytes : List ℕ) : Type 0 where
+  pub packet : IsoPacket
+  pub fits : Fits packet
+  pub same : spelling packet ≡ bytes
+
 -- the tag, the tcode and the first two bits of the CIP quadlets are those of a CIP packet
 abbrev pub is_cip : ℕ → ℕ → ℕ → Bool
 is_cip header first second = (field header 16 17 == 1) && (field header 24 27 == 10) && (field first 0 1 == 0) && (field second 0 1 == 2)

@@ -3,7 +3,6 @@ ghost use Rattle.std.specs.Cmp.Lexicographic.{pointwise, nat_list_eq_equiv};
 ghost use Rattle.std.specs.Cmp.{partial_equiv_from_equiv};
 ghost use Rattle.fw_cip.specs.Iso.{IsBlock};
 
-use std::fmt;
 use std::marker::Model;
 
 /// A block of SD-DVCR, the 480 bytes that one packet carries (IEC 61883-2). They lie elsewhere, and a move of it moves two
@@ -39,12 +38,6 @@ impl<'a> Block<'a> {
         ensures size { length result.now ≡ 480 }
     {
         self.bytes
-    }
-}
-
-impl<'a> fmt::Debug for Block<'a> {
-    fn fmt<W: fmt::Write>(&self, f: &mut fmt::Formatter<W>) -> fmt::Result {
-        f.debug_tuple("Block").field(&self.bytes).finish()
     }
 }
 

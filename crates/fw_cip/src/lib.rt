@@ -17,9 +17,9 @@ pub use block::Block;
 pub use laws::a_stream_is_heard_without_gaps;
 pub use listener::{Heard, Listener};
 pub use packet::{CipHeader, IsoPacket};
-pub use read::read_iso;
+pub use read::{read_iso, whole_iso};
 pub use talker::Talker;
-pub use write::{append_iso, heads_of, iso_length, write_iso};
+pub use write::{heads_of, iso_length, write_iso};
 
 /// Why bytes are no isochronous packet, in the order of the tests.
 #[derive(Clone, Copy, Debug, PartialEq, Eq)]

@@ -22,7 +22,7 @@ pub enum Heard {
 }
 
 /// Follows the packets of one channel.
-#[derive(Clone, Copy, Debug, PartialEq, Eq)]
+#[derive(Clone, Copy)]
 pub struct Listener {
     expected: Option<u8>,
 }

@@ -23,7 +23,7 @@ pub struct CipHeader {
 
 /// An isochronous packet with a CIP header, with a block of data or without one. The block lies elsewhere, so that a
 /// packet is a few words, whatever it carries.
-#[derive(Debug, PartialEq, Eq, Drop)]
+#[derive(PartialEq, Eq, Drop)]
 pub struct IsoPacket<'a> {
     /// The isochronous channel, 6 bits.
     pub channel: u8,

@@ -3,7 +3,7 @@ ghost use Rattle.std.specs.Result.{result_err};
 ghost use Rattle.fw_words.specs.Quadlet.{field, quadlet_at};
 ghost use Rattle.fw_words.specs.Layout.{packed, FitWidths};
 ghost use Rattle.fw_cip.specs.declared.packet.IsoPacket.{IsoPacket};
-ghost use Rattle.fw_cip.specs.Iso.{Fits, IsBlock, spelling, first_layout, second_layout, block_bytes, is_cip, is_size, iso_fault};
+ghost use Rattle.fw_cip.specs.Iso.{Fits, IsBlock, spelling, first_layout, second_layout, block_bytes, is_cip, is_size, iso_fault, IsSpelled};
 
 use crate::{Block, CipHeader, IsoFault, IsoPacket};
 use fw_words::{Quadlet, first_set, quadlet_at};
@@ -11,6 +11,7 @@ use fw_words::{Quadlet, first_set, quadlet_at};
 /// How many bytes the isochronous header and the CIP header have.
 const HEADS_SIZE: usize = 12;
 
+#[inline(always)]
 fn is_cip(header: Quadlet, first: Quadlet, second: Quadlet) -> bool
     ensures { result ≡ is_cip header.0 first.0 second.0 }
 {
@@ -21,6 +22,7 @@ fn is_cip(header: Quadlet, first: Quadlet, second: Quadlet) -> bool
 }
 
 // data_length is that of a packet, and as many bytes are there.
+#[inline(always)]
 fn is_size(size: u32, count: usize) -> bool
     ensures { result ≡ is_size size count }
 {
@@ -28,6 +30,7 @@ fn is_size(size: u32, count: usize) -> bool
 }
 
 // The first fault of the bytes.
+#[inline(always)]
 fn iso_fault(b: &[u8]) -> Option<IsoFault>
     ensures { result ≡ iso_fault b.now }
 {
@@ -50,6 +53,7 @@ fn iso_fault(b: &[u8]) -> Option<IsoFault>
     }
 }
 
+#[inline(always)]
 fn cip_of(first: Quadlet, second: Quadlet) -> CipHeader
     requires first { field first.0 0 1 ≡ 0 }
     requires reserved { field first.0 22 23 ≡ 0 }
@@ -72,6 +76,7 @@ fn cip_of(first: Quadlet, second: Quadlet) -> CipHeader
 }
 
 // The block, where one is there.
+#[inline(always)]
 fn block_of<'a>(b: &'a [u8]) -> Option<Block<'a>>
     requires { IsTrue (is_size (field (quadlet_at b.now 0) 0 15) (length b.now)) }
     ensures fits { IfSome result IsBlock }
@@ -84,6 +89,7 @@ fn block_of<'a>(b: &'a [u8]) -> Option<Block<'a>>
 }
 
 // The packet that bytes without a fault are.
+#[inline(always)]
 #[tactic(auto, unfolding(crate::specs::Iso::three))]
 fn packet_of<'a>(b: &'a [u8]) -> IsoPacket<'a>
     requires { iso_fault b.now ≡ None }
@@ -104,6 +110,7 @@ fn packet_of<'a>(b: &'a [u8]) -> IsoPacket<'a>
 /// The first fault that holds is answered: `Short` under twelve bytes, `NotCip` where the tag, the tcode or the beginnings
 /// of the CIP quadlets are not those of a CIP packet, `Reserved` where a reserved bit of the CIP header is 1, and `BadSize`
 /// where data_length is not 8 or 488 or the bytes are not four more.
+#[inline(always)]
 pub fn read_iso<'a>(b: &'a [u8]) -> Result<IsoPacket<'a>, IsoFault>
     ensures fault { result_err result ≡ iso_fault b.now }
     ensures found { IfOk result (λ p. Fits p × (spelling p ≡ b.now)) }
@@ -113,4 +120,15 @@ pub fn read_iso<'a>(b: &'a [u8]) -> Result<IsoPacket<'a>, IsoFault>
         Some(fault) => Err(fault),
         None => Ok(packet_of(b)),
     }
+}
+
+/// The packet that these bytes are. They are one packet's, and so no fault is looked for: what a caller has no use for is not even
+/// read.
+#[inline(always)]
+pub fn whole_iso<'a>(b: &'a [u8]) -> IsoPacket<'a>
+    requires { IsSpelled b.now }
+    ensures fits { Fits result }
+    ensures same { (p : IsoPacket) → Fits p → spelling p ≡ b.now → result ≡ p }
+{
+    packet_of(b)
 }

@@ -7,7 +7,7 @@ use crate::{Block, CipHeader, IsoPacket};
 use std::marker::Model;
 
 /// Makes the packets of an output plug's stream, from the cycle on in which it begins to talk.
-#[derive(Clone, Copy, Debug, PartialEq, Eq)]
+#[derive(Clone, Copy)]
 pub struct Talker {
     channel: u8,
     dbc: u8,

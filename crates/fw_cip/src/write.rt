@@ -8,7 +8,7 @@ ghost use Rattle.fw_cip.specs.Iso.{Fits, spelling, head_bytes, header_layout, fi
 
 use crate::{CipHeader, IsoPacket};
 use arrayvec::ArrayVec;
-use fw_words::{Bytes, Quadlet, put_quadlet, with_field};
+use fw_words::{Quadlet, put_quadlet, with_field};
 
 // The isochronous header.
 fn header_quadlet(p: &IsoPacket) -> u32
@@ -80,17 +80,6 @@ pub fn iso_length(p: &IsoPacket) -> usize
     ensures { result ≡ length (spelling p.now) }
 {
     12 + block_of(p).len()
-}
-
-/// Appends a packet's bytes to those that `out` holds, where there is room for them: `iso_length` says how many they
-/// are. The packet's numbers fit their fields.
-pub fn append_iso<const N: usize>(p: &IsoPacket, out: &mut Bytes<N>)
-    requires fits { Fits p.now }
-    requires room { length out.old + length (spelling p.now) ≤ N }
-    ensures { out.new ≡ out.old ++ spelling p.now }
-{
-    out.append(&heads_of(p));
-    out.append(block_of(p));
 }
 
 fn extend(out: &mut ArrayVec<u8, 492>, more: &[u8])

@@ -16,3 +16,5 @@ pub mod OfAnswers
 pub mod Starting
 pub mod Turning
 pub mod Losses
+pub mod Works
+pub mod Restoring

@@ -15,3 +15,5 @@ pub mod Answers
 pub mod Causes
 pub mod Outcomes
 pub mod Losses
+pub mod Works
+pub mod Known

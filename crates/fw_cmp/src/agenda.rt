@@ -1,14 +1,15 @@
-ghost use Rattle.std.specs.Prelude.{◌≡◌, ◌<◌, Err, if◌then◌else◌, List, []};
-ghost use Rattle.fw_cmp.specs.declared.current.Task.{Task as TaskRecord};
+ghost use Rattle.std.specs.Prelude.{◌≡◌, ◌<◌, Err, if◌then◌else◌};
 ghost use Rattle.fw_cmp.specs.declared.outcome.StartFault.TheVariants.{NotOwnPlug};
-ghost use Rattle.fw_cmp.specs.Controllers.{ControllerState, Fits, CurrentFits, first_state, IsHeard, IsStanding, break_waits};
-ghost use Rattle.fw_cmp.specs.Fits.{PlugFits, AskedFits, SlotFits, JobFits};
+ghost use Rattle.fw_cmp.specs.Controllers.{Fits, first_state, IsStanding, break_waits};
+ghost use Rattle.fw_cmp.specs.Fits.{PlugFits, AskedFits, SlotFits};
 ghost use Rattle.fw_cmp.specs.Starts.{IsMaking, OkWithin, start, start_own, started, connect_slot, broadcast_slot, listen_slot, start_break, break_started, break_fault, can_break};
 ghost use Rattle.fw_cmp.specs.declared.directory.Directory.{Directory as BusDirectory};
 ghost use Rattle.fw_cmp.specs.Holdings.{CanGoOn};
-ghost use Rattle.fw_cmp.specs.Resets.{after_hear, after_reset, after_lost_reset, after_second, current_reset, lost_reset, interrupted};
+ghost use Rattle.fw_cmp.specs.Resets.{after_hear, after_reset, after_lost_reset, after_second};
 
-use crate::{Connection, Current, Job, Outcome, Purpose, Slot, Stage, StartFault, Task, slots};
+use crate::overtaking::{overtake, overtake_unheard};
+use crate::work::Work;
+use crate::{Connection, Current, Slot, StartFault, Task, slots};
 use arrayvec::ArrayVec;
 use fw_base::PlugAt;
 use fw_csr::Reply;
@@ -18,72 +19,24 @@ use std::marker::Model;
 const BROADCAST_CHANNEL: u8 = 63;
 
 /// The slots of a controller, at most eight waiting jobs, and the current one.
-#[derive(Debug, Drop)]
+#[derive(Drop)]
 pub(crate) struct Agenda {
     pub(crate) slots: [Slot; 32],
     pub(crate) waiting: ArrayVec<Task, 8>,
-    pub(crate) current: Current,
+    pub(crate) current: Work,
+    /// No slot is to be restored: each was looked at, and none was, since the latest bus reset.
+    pub(crate) none_restores: bool,
 }
 
 impl Model for Agenda {
     ghost use Rattle.fw_cmp.specs.Controllers.{ControllerState, Fits};
+    ghost use Rattle.fw_cmp.specs.Known.{NoneToRestore};
 
     ghost Value = { ControllerState };
 
     ghost view = { λ c. record { slots = c.slots; waiting = c.waiting.items; current = c.current } };
 
-    ghost invariant = { λ c. Fits (record { slots = c.slots; waiting = c.waiting.items; current = c.current }) };
-}
-
-/// What a bus reset makes of the current job, and of its slot.
-fn overtake(epoch: u32, slots: &mut [Slot; 32], current: Current) -> Current
-    requires { CurrentFits (record { slots = slots.old; waiting = []; current = current }) current }
-    ensures current { (ts : List TaskRecord) → result ≡ (current_reset epoch (record { slots = slots.old; waiting = ts; current = current }) current).current }
-    ensures slots { (ts : List TaskRecord) → slots.new ≡ (current_reset epoch (record { slots = slots.old; waiting = ts; current = current }) current).slots }
-{
-    match current {
-        Current::Asking(job, stage) | Current::Hearing(job, stage) => match stage {
-            Stage::Made(flow) => {
-                slots[job.slot as usize] = Slot::Restoring(job.connection, flow, false);
-                Current::Overtaken(job.slot, job.made(flow))
-            }
-            Stage::Ended(_) => {
-                if let Purpose::Break = job.purpose {
-                    slots[job.slot as usize] = Slot::Gone(job.connection);
-                }
-                current
-            }
-            _ => interrupt(epoch, slots, job),
-        },
-        Current::Nothing | Current::Overtaken(..) => current,
-    }
-}
-
-/// What a bus reset makes of the current job, and of its slot, where the response to its request was lost.
-fn overtake_unheard(epoch: u32, slots: &mut [Slot; 32], current: Current) -> Current
-    requires { CurrentFits (record { slots = slots.old; waiting = []; current = current }) current }
-    ensures current { (ts : List TaskRecord) → result ≡ (lost_reset epoch (record { slots = slots.old; waiting = ts; current = current }) current).current }
-    ensures slots { (ts : List TaskRecord) → slots.new ≡ (lost_reset epoch (record { slots = slots.old; waiting = ts; current = current }) current).slots }
-{
-    match current {
-        Current::Asking(job, _) | Current::Hearing(job, _) => interrupt(epoch, slots, job),
-        Current::Nothing | Current::Overtaken(..) => current,
-    }
-}
-
-/// What a bus reset makes of a job that no answer has decided: a restoring begins again.
-fn interrupt(epoch: u32, slots: &mut [Slot; 32], job: Job) -> Current
-    requires { JobFits job }
-    ensures current { (c : ControllerState) → result ≡ (interrupted epoch c job).current }
-    ensures slots { (c : ControllerState) → c.slots ≡ slots.old → slots.new ≡ (interrupted epoch c job).slots }
-{
-    match job.purpose {
-        Purpose::Restore => Current::Asking(job, Stage::Begin),
-        Purpose::Make | Purpose::Break => {
-            slots[job.slot as usize] = Slot::Free;
-            Current::Overtaken(job.slot, Outcome::Reset(epoch))
-        }
-    }
+    ghost invariant = { λ c. Fits (record { slots = c.slots; waiting = c.waiting.items; current = c.current }) × NoneToRestore c.none_restores c.slots };
 }
 
 impl Agenda {
@@ -96,7 +49,8 @@ impl Agenda {
         Agenda {
             slots: [Slot::Free; 32],
             waiting: ArrayVec::new(),
-            current: Current::Nothing,
+            current: Work::new(Current::Nothing),
+            none_restores: false,
         }
     }
 
@@ -245,9 +199,7 @@ impl Agenda {
         ensures fits { Fits self.new }
         ensures goes_on { (d : BusDirectory) → CanGoOn d self.old → CanGoOn d self.new }
     {
-        if let Current::Hearing(job, stage) = &self.current {
-            self.current = Current::Asking(*job, job.hear(stage, r));
-        }
+        self.current.hear(r);
     }
 
     /// A bus reset that begins this epoch.
@@ -256,7 +208,9 @@ impl Agenda {
         ensures fits { Fits self.new }
         ensures goes_on { (d : BusDirectory) → CanGoOn d self.new }
     {
-        self.current = overtake(epoch, &mut self.slots, self.current);
+        self.none_restores = false;
+        let current = overtake(epoch, &mut self.slots, self.current.get());
+        self.current = Work::new(current);
         slots::reset(&mut self.slots);
     }
 
@@ -266,7 +220,9 @@ impl Agenda {
         ensures fits { Fits self.new }
         ensures goes_on { (d : BusDirectory) → CanGoOn d self.new }
     {
-        self.current = overtake_unheard(epoch, &mut self.slots, self.current);
+        self.none_restores = false;
+        let current = overtake_unheard(epoch, &mut self.slots, self.current.get());
+        self.current = Work::new(current);
         slots::reset(&mut self.slots);
     }
 
@@ -276,6 +232,7 @@ impl Agenda {
         ensures fits { Fits self.new }
         ensures goes_on { (d : BusDirectory) → CanGoOn d self.old → CanGoOn d self.new }
     {
+        self.none_restores = false;
         slots::second_over(&mut self.slots);
     }
 }

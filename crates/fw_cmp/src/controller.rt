@@ -19,7 +19,7 @@ use std::marker::Model;
 const SPLIT_TIMEOUT: u64 = 800;
 
 /// A connection controller: its slots and jobs, and whether it has lost the response to its request.
-#[derive(Debug, Drop)]
+#[derive(Drop)]
 pub struct Controller {
     agenda: Agenda,
     /// The cycle of its latest request.

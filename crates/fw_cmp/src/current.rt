@@ -1,17 +1,20 @@
 ghost use Rattle.std.specs.Prelude.{◌≡◌};
 ghost use Rattle.fw_cmp.specs.Controllers.{is_break_at, break_runs};
+ghost use Rattle.fw_cmp.specs.Resets.{heard};
+ghost use Rattle.fw_cmp.specs.Works.{CurrentRuns, IsAsking, asked};
 
 use crate::{Job, Outcome, Purpose, Stage};
+use fw_csr::Reply;
 
 /// A job that was asked for and waits: its slot, and whether it breaks the slot's connection or makes it.
-#[derive(Clone, Copy, Debug, Default, PartialEq, Eq)]
+#[derive(Clone, Copy, Default)]
 pub struct Task {
     pub slot: u8,
     pub breaks: bool,
 }
 
 /// What a controller is at.
-#[derive(Clone, Copy, Debug, PartialEq, Eq)]
+#[derive(Clone, Copy)]
 pub enum Current {
     /// No job is current.
     Nothing,
@@ -43,6 +46,19 @@ impl Current {
         match self {
             Current::Asking(job, _) | Current::Hearing(job, _) => job.breaks(slot),
             Current::Nothing | Current::Overtaken(..) => false,
+        }
+    }
+
+    /// The job goes on from the reply to the request of its stage.
+    #[inline(always)]
+    pub(crate) fn hear(&mut self, r: &Reply)
+        requires asking { IsAsking self.old }
+        requires runs { CurrentRuns self.old }
+        ensures state { self.new ≡ heard (asked self.old) r.now }
+        ensures runs { CurrentRuns self.new }
+    {
+        if let Current::Asking(job, stage) = self {
+            *stage = job.hear(stage, r);
         }
     }
 }

@@ -9,7 +9,7 @@ use crate::{Connection, Target};
 use fw_base::PlugAt;
 
 /// What a controller knows of the bus.
-#[derive(Clone, Copy, Debug, PartialEq, Eq)]
+#[derive(Clone, Copy)]
 pub struct Directory {
     /// The node number of each device that is on the bus with its link.
     pub node: [Option<u8>; 63],

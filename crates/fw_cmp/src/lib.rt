@@ -12,8 +12,10 @@ mod hear;
 mod input;
 mod job;
 mod laws;
+mod order;
 mod outcome;
 mod output;
+mod overtaking;
 mod release;
 mod request;
 mod resources;
@@ -21,6 +23,7 @@ mod slots;
 mod stage;
 mod turn;
 mod words;
+mod work;
 
 pub use connection::{Connection, Flow, Slot};
 pub use controller::Controller;

@@ -1,5 +1,5 @@
 ghost use Rattle.std.specs.Prelude.{◌≡◌, ◌<◌};
-ghost use Rattle.fw_cmp.specs.Requests.{offset_of, first_word, input_word, target_of, swap_of, access_of, request_of};
+ghost use Rattle.fw_cmp.specs.Requests.{offset_of, first_word, input_word, target_of, swap_of};
 ghost use Rattle.fw_cmp.specs.Plugs.{is_full};
 ghost use Rattle.fw_cmp.specs.Connections.{kind_of};
 ghost use Rattle.fw_cmp.specs.Fits.{JobFits, StageFits, IsUnconnected};
@@ -11,13 +11,11 @@ use crate::words::{
 };
 use crate::{Job, Stage};
 use fw_base::PlugAt;
-use fw_csr::{
-    BANDWIDTH_AVAILABLE, CHANNELS_AVAILABLE_HI, CHANNELS_AVAILABLE_LO, QuadletAccess, Swap,
-};
+use fw_csr::{BANDWIDTH_AVAILABLE, CHANNELS_AVAILABLE_HI, CHANNELS_AVAILABLE_LO, Swap};
 use fw_plug::{IPCR, OPCR, OutWord};
 
 /// A register that a job asks for: that of a plug, or one of the isochronous resource manager's.
-#[derive(Clone, Copy, Debug, PartialEq, Eq)]
+#[derive(Clone, Copy)]
 pub enum Target {
     OutputPlug(PlugAt),
     InputPlug(PlugAt),
@@ -27,7 +25,7 @@ pub enum Target {
 }
 
 /// What a stage asks of a register: a read, or a quadlet compare_swap.
-#[derive(Clone, Copy, Debug, PartialEq, Eq)]
+#[derive(Clone, Copy)]
 pub struct Access {
     pub target: Target,
     pub swap: Option<Swap>,
@@ -48,33 +46,10 @@ impl Target {
     }
 }
 
-impl Access {
-    /// The request packet's part: a quadlet read, or a lock.
-    #[inline(always)]
-    pub fn request(&self) -> QuadletAccess
-        ensures { result ≡ request_of self.now }
-    {
-        QuadletAccess::new(self.target.offset(), self.swap)
-    }
-}
-
 impl Job {
-    /// What a stage asks; None where it makes no request.
-    #[inline(always)]
-    pub(crate) fn access(&self, stage: &Stage) -> Option<Access>
-        requires job { JobFits self.now }
-        requires fits { StageFits self.now stage.now }
-        ensures { result ≡ access_of self.now stage.now }
-    {
-        let target = self.target(stage)?;
-        Some(Access {
-            target,
-            swap: self.swap(stage),
-        })
-    }
-
     /// The register of a stage's request; None where it makes none.
-    fn target(&self, stage: &Stage) -> Option<Target>
+    #[inline(always)]
+    pub(crate) fn target(&self, stage: &Stage) -> Option<Target>
         ensures { result ≡ target_of self.now stage.now }
     {
         match *stage {
@@ -100,7 +75,8 @@ impl Job {
     }
 
     /// The swap of a stage, where it makes one.
-    fn swap(&self, stage: &Stage) -> Option<Swap>
+    #[inline(always)]
+    pub(crate) fn swap(&self, stage: &Stage) -> Option<Swap>
         requires job { JobFits self.now }
         requires fits { StageFits self.now stage.now }
         ensures { result ≡ swap_of self.now stage.now }

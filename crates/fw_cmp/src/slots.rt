@@ -1,10 +1,11 @@
 //! The slots of a controller: which are free, which are to be restored, and what a bus reset and the end of the reclaim
 //! second make of them.
 
-ghost use Rattle.std.specs.Prelude.{◌≡◌, ◌<◌, length, slice_index_or, map, IfSome, IsTrue};
+ghost use Rattle.std.specs.Prelude.{◌≡◌, ◌<◌, length, slice_index_or, is_some, map, IfSome};
 ghost use Rattle.fw_base.specs.Tables.{find_to};
 ghost use Rattle.fw_cmp.specs.declared.connection.Slot.TheVariants.{Free};
 ghost use Rattle.fw_cmp.specs.Controllers.{is_free, is_restoring, is_breakable, job_for};
+ghost use Rattle.fw_cmp.specs.Known.{NoneToRestore};
 ghost use Rattle.fw_cmp.specs.Resets.{slot_reset, slot_over};
 
 use crate::{Job, Purpose, Slot};
@@ -94,7 +95,7 @@ pub(crate) fn first_free(slots: &[Slot; 32]) -> Option<u8>
 }
 
 /// The lowest slot that is to be restored.
-pub(crate) fn first_restoring(slots: &[Slot; 32]) -> Option<u8>
+fn first_restoring(slots: &[Slot; 32]) -> Option<u8>
     ensures first { result ≡ find_to 32 (λ i. is_restoring (slice_index_or slots.now i Free)) }
     ensures within { IfSome result (λ i. i < 32) }
 {
@@ -104,6 +105,30 @@ pub(crate) fn first_restoring(slots: &[Slot; 32]) -> Option<u8>
         }
     }
     None
+}
+
+/// The lowest slot that is to be restored. Where it is known that there is none, no slot is looked at; and where none is found,
+/// that is known from then on.
+pub(crate) fn to_restore(slots: &[Slot; 32], none: &mut bool) -> Option<u8>
+    requires { NoneToRestore none.old slots.now }
+    ensures first { result ≡ find_to 32 (λ i. is_restoring (slice_index_or slots.now i Free)) }
+    ensures within { IfSome result (λ i. i < 32) }
+    ensures none { NoneToRestore none.new slots.now }
+{
+    if *none {
+        return None;
+    }
+    let lowest = first_restoring(slots);
+    *none = lowest.is_none();
+    lowest
+}
+
+/// Whether a slot is to be restored. Where it is known that none is, no slot is looked at.
+pub(crate) fn has_restoring(slots: &[Slot; 32], none: bool) -> bool
+    requires { NoneToRestore none slots.now }
+    ensures { result ≡ is_some (find_to 32 (λ i. is_restoring (slice_index_or slots.now i Free))) }
+{
+    !none && first_restoring(slots).is_some()
 }
 
 /// A bus reset.

@@ -1,97 +1,54 @@
 //! A controller's turn: which job it is at, and whether it sends the next request, ends or has nothing to do.
 
-ghost use Rattle.std.specs.Prelude.{◌≡◌, ◌<◌, ◌↔◌, ℕ, IsTrue, IsFalse, IsSome, IfSome, length, slice_index_or, position, All, []};
-ghost use Rattle.fw_cmp.specs.declared.connection.Slot.TheVariants.{Free};
-ghost use Rattle.fw_cmp.specs.Controllers.{Fits, CurrentFits, IsHeard, IsStanding};
-ghost use Rattle.fw_cmp.specs.Fits.{TargetFits, SlotFits};
+ghost use Rattle.std.specs.Prelude.{◌≡◌, ◌<◌, ◌↔◌, ℕ, IsTrue, IsFalse, IsSome, IfSome, All, []};
+ghost use Rattle.fw_cmp.specs.Controllers.{Fits, CurrentFits, IsHeard, IsStanding, is_restoring};
+ghost use Rattle.fw_cmp.specs.Fits.{JobFits, SlotFits, StageFits, TargetFits};
 ghost use Rattle.fw_cmp.specs.declared.directory.Directory.{Directory as BusDirectory};
 ghost use Rattle.fw_cmp.specs.Holdings.{CanGoOn, CurrentReached};
 ghost use Rattle.fw_cmp.specs.Causes.{IsAtRest, IsHeldBack};
 ghost use Rattle.fw_cmp.specs.Outcomes.{EndsWithCause};
 ghost use Rattle.fw_cmp.specs.Nodes.{HasNodeNumbers};
-ghost use Rattle.fw_cmp.specs.Requests.{addressee_of, standing_in};
-ghost use Rattle.fw_cmp.specs.Turns.{addressee_in, picked, can_pick, current_for, resumed_current, going, is_break, slot_after, ended, sending, rests, answer_of, after_answer, next, after_next, is_busy};
+ghost use Rattle.fw_cmp.specs.Requests.{access_at, addressee_of, swap_of};
+ghost use Rattle.fw_cmp.specs.Turns.{addressee_in, picked, resumed_current, going, slot_after, ended, sending, rests, answer_of, after_answer, next, after_next, is_busy};
 ghost use Rattle.fw_cmp.specs.declared.current.Current.TheVariants.{Asking, Nothing};
 
 use crate::agenda::Agenda;
-use crate::{Access, Current, Directory, Job, Next, Slot, Stage, Task, slots};
-use arrayvec::ArrayVec;
+use crate::order::{can_pick, pick};
+use crate::work::Work;
+use crate::{Current, Directory, Job, Next, Slot, Stage, Target};
+use fw_csr::QuadletAccess;
 
-/// The request goes to the node of its register.
-fn send(directory: &Directory, access: Access) -> Next
-    requires target { TargetFits access.target }
+/// The request of a stage goes to the node of its register. The register is looked up before the swap is put together, so that
+/// each kind of register is told apart once.
+#[inline(always)]
+fn send(directory: &Directory, job: &Job, stage: &Stage, target: Target) -> Next
+    requires job { JobFits job.now }
+    requires fits { StageFits job.now stage.now }
+    requires target { TargetFits target }
     requires nodes { HasNodeNumbers directory.now }
-    requires reached { IsSome (addressee_of directory.now access.target) }
-    ensures value { result ≡ sending (addressee_of directory.now access.target) access }
+    requires reached { IsSome (addressee_of directory.now target) }
+    ensures value { result ≡ sending (addressee_of directory.now target) (access_at (swap_of job.now stage.now) target) }
     ensures addressee { IfSome (addressee_in result) (λ to. to < 63) }
 {
-    match directory.addressee(access.target) {
+    let addressee = directory.addressee(target);
+    let offset = target.offset();
+    match addressee {
         Some(to) => Next::Send {
             to,
-            request: access.request(),
+            request: QuadletAccess::new(offset, job.swap(stage)),
         },
         None => unreachable!(),
     }
 }
 
-/// The place of the first waiting break.
-fn first_break(waiting: &[Task]) -> Option<usize>
-    ensures first { result ≡ position is_break waiting.now }
-    ensures within { IfSome result (λ k. k < length waiting.now) }
-{
-    waiting.iter().position(|t| t.breaks)
-}
-
-/// The job for what a slot holds becomes the current one.
-fn job_of(slots: &[Slot; 32], slot: u8) -> Current
-    requires { slot < 32 }
-    ensures { result ≡ current_for slot (slice_index_or slots.now slot Free) }
-{
-    match slots[slot as usize].job(slot) {
-        Some(job) => Current::Asking(job, Stage::Begin),
-        None => Current::Nothing,
-    }
-}
-
-/// The next job, taken in the order of jobs: connections to be restored, lowest slot first; then the first waiting
-/// break; then the first other waiting job, where no reclaim second runs.
-fn pick(
-    now: u64,
-    directory: &Directory,
-    slots: &[Slot; 32],
-    waiting: &mut ArrayVec<Task, 8>,
-) -> Current
-    requires slots { All (λ t. t.slot < 32) waiting.old.items }
-    ensures current { result ≡ (picked now directory.now (record { slots = slots.now; waiting = waiting.old.items; current = Nothing })).current }
-    ensures waiting { waiting.new.items ≡ (picked now directory.now (record { slots = slots.now; waiting = waiting.old.items; current = Nothing })).waiting }
-{
-    if let Some(slot) = slots::first_restoring(slots) {
-        return job_of(slots, slot);
-    }
-    let place = match first_break(waiting) {
-        Some(place) => place,
-        None if waiting.is_empty() || now < directory.over_at => return Current::Nothing,
-        None => 0,
-    };
-    let task = waiting.remove(place);
-    job_of(slots, task.slot)
-}
-
-/// A job can be taken in this cycle.
-fn can_pick(now: u64, directory: &Directory, slots: &[Slot; 32], waiting: &[Task]) -> bool
-    ensures { result ≡ can_pick now directory.now slots.now waiting.now }
-{
-    slots::first_restoring(slots).is_some()
-        || first_break(waiting).is_some()
-        || (!waiting.is_empty() && now >= directory.over_at)
-}
-
 /// The current job goes on from its stage: it begins where it has not, and ends where it restores too late.
 fn resume(directory: &Directory, slots: &[Slot; 32], current: Current) -> Current
     requires slots { All SlotFits slots.now }
+    requires heard { IsHeard current }
     requires current { CurrentFits (record { slots = slots.now; waiting = []; current = current }) current }
     ensures value { result ≡ resumed_current (record { slots = slots.now; waiting = []; current = current }) directory.now current }
     ensures fits { CurrentFits (record { slots = slots.now; waiting = []; current = current }) result }
+    ensures heard { IsHeard result }
 {
     match current {
         Current::Asking(job, stage) => {
@@ -128,7 +85,7 @@ impl Agenda {
         ensures standing { IsTrue result ↔ IsStanding self.now.current }
         ensures heard { IsFalse result ↔ IsHeard self.now.current }
     {
-        matches!(self.current, Current::Hearing(..))
+        self.current.stands()
     }
 
     /// Whether the controller has something to do: a request stands, or `next` would be neither Idle nor Waiting.
@@ -136,19 +93,26 @@ impl Agenda {
         ensures heard { IsHeard self.now.current → result ≡ is_busy (next now directory.now self.now) }
         ensures standing { IsStanding self.now.current → IsTrue result }
     {
-        match self.current {
-            Current::Nothing => can_pick(now, directory, &self.slots, &self.waiting),
+        match self.current.get() {
+            Current::Nothing => can_pick(
+                now,
+                directory,
+                &self.slots,
+                self.none_restores,
+                &self.waiting,
+            ),
             _ => true,
         }
     }
 
-    /// A job is current.
+    /// A job is current, whose request does not stand.
     fn has_job(&self) -> bool
+        requires heard { IsHeard self.now.current }
         ensures none { IsFalse result → self.now.current ≡ Nothing }
         ensures some { (now : ℕ) → (d : BusDirectory) → IsTrue result → picked now d self.now ≡ self.now }
         ensures fits { Fits self.now }
     {
-        match &self.current {
+        match self.current.unasked() {
             Current::Nothing => false,
             Current::Asking(..) | Current::Hearing(..) | Current::Overtaken(..) => true,
         }
@@ -156,22 +120,32 @@ impl Agenda {
 
     /// The next job becomes current, where none is.
     fn take(&mut self, now: u64, directory: &Directory)
+        requires heard { IsHeard self.old.current }
         ensures state { self.new ≡ picked now directory.now self.old }
         ensures before { Fits self.old }
         ensures fits { Fits self.new }
+        ensures heard { IsHeard self.new.current }
     {
         if self.has_job() {
             return;
         }
-        self.current = pick(now, directory, &self.slots, &mut self.waiting);
+        let current = pick(
+            now,
+            directory,
+            &self.slots,
+            &mut self.none_restores,
+            &mut self.waiting,
+        );
+        self.current = Work::new(current);
     }
 
     /// The current job goes on from another stage than that at which it stands: it begins, or restores too late.
     fn turns(&self) -> bool
+        requires heard { IsHeard self.now.current }
         ensures stays { (d : BusDirectory) → IsFalse result → going d self.now ≡ self.now }
         ensures fits { Fits self.now }
     {
-        match &self.current {
+        match self.current.unasked() {
             Current::Asking(job, stage) => job.moves_on(&self.slots[job.slot as usize], stage),
             Current::Nothing | Current::Hearing(..) | Current::Overtaken(..) => false,
         }
@@ -179,17 +153,21 @@ impl Agenda {
 
     /// The current job goes on from its stage.
     fn go_on(&mut self, directory: &Directory)
+        requires heard { IsHeard self.old.current }
         ensures state { self.new ≡ going directory.now self.old }
         ensures fits { Fits self.new }
+        ensures heard { IsHeard self.new.current }
     {
         if !self.turns() {
             return;
         }
-        self.current = resume(directory, &self.slots, self.current);
+        let current = resume(directory, &self.slots, *self.current.unasked());
+        self.current = Work::new(current);
     }
 
     /// The request of the current job, or its outcome.
     fn answer(&mut self, now: u64, directory: &Directory) -> Next
+        requires heard { IsHeard self.old.current }
         requires nodes { HasNodeNumbers directory.now }
         requires reached { CurrentReached directory.now self.old.current }
         ensures answer { result ≡ answer_of now directory.now self.old }
@@ -197,12 +175,13 @@ impl Agenda {
         ensures fits { Fits self.new }
         ensures addressee { IfSome (addressee_in result) (λ to. to < 63) }
     {
-        match &self.current {
+        match self.current.unasked() {
             Current::Nothing => self.rest(directory),
-            Current::Asking(job, stage) => match job.access(stage) {
-                Some(access) => {
-                    self.current = Current::Hearing(*job, *stage);
-                    send(directory, access)
+            Current::Asking(job, stage) => match job.target(stage) {
+                Some(target) => {
+                    let next = send(directory, job, stage, target);
+                    self.current.ask();
+                    next
                 }
                 None => {
                     let (job, stage) = (*job, *stage);
@@ -219,7 +198,7 @@ impl Agenda {
                     slot: *slot,
                     outcome: *outcome,
                 };
-                self.current = Current::Nothing;
+                self.current = Work::new(Current::Nothing);
                 end
             }
         }
@@ -245,12 +224,13 @@ impl Agenda {
         ensures fits { Fits self.new }
     {
         self.slots[job.slot as usize] = self.slot_after(job, stage);
-        self.current = Current::Nothing;
+        self.current = Work::new(Current::Nothing);
     }
 
     /// What becomes of the slot of a job that ends.
     fn slot_after(&self, job: Job, stage: Stage) -> Slot
-        ensures { result ≡ slot_after self.now job stage }
+        ensures value { result ≡ slot_after self.now job stage }
+        ensures rests { IsFalse (is_restoring result) }
     {
         match stage {
             Stage::Made(flow) => Slot::Standing(job.connection, flow),

@@ -7,7 +7,7 @@ use crate::{Reply, Request};
 pub const REGISTER_SPACE: u64 = 0xFFFF_F000_0000;
 
 /// What stands at an offset: its word, and which requests are allowed there.
-#[derive(Clone, Copy, Debug, PartialEq, Eq)]
+#[derive(Clone, Copy)]
 pub enum Register {
     /// A word that can only be read.
     ReadOnly(u32),

@@ -3,7 +3,7 @@ ghost use Rattle.fw_csr.specs.Replies.{complete, type_error, address_error};
 
 /// Response codes (IEEE 1394-1995, rcode). The registers here give none but complete, type_error and
 /// address_error (own).
-#[derive(Clone, Copy, Debug, PartialEq, Eq)]
+#[derive(Clone, Copy)]
 pub enum ResponseCode {
     Complete = 0,
     ConflictError = 4,

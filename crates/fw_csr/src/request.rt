@@ -9,7 +9,7 @@ const COMPARE_SWAP: u8 = 2;
 
 /// What a request packet asks of a node, at a 48-bit destination_offset (IEEE 1394-1995, asynchronous packets). The data
 /// of a block lies elsewhere, as in the bytes of its packet.
-#[derive(Debug, PartialEq, Eq, Drop)]
+#[derive(Drop)]
 pub enum Request<'a> {
     /// A quadlet read.
     Read {

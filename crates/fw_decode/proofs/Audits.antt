@@ -6,9 +6,10 @@ use Rattle.fw_entry.specs.Log.{Fits, InOrder}
 use Rattle.fw_entry.specs.declared.entry.Entry.{Entry}
 use Rattle.fw_entry.specs.declared.entry.Timed.{Timed}
 use Rattle.fw_account.specs.Fold.{entries_of}
-use Rattle.fw_audit.specs.Audited.{EndsFaulty, Found}
+use Rattle.fw_faults.specs.Audited.{EndsFaulty}
+use Rattle.fw_audit.specs.Found.{Found}
 use Rattle.fw_audit.specs.declared.audit.Audit.{Audit}
-use Rattle.fw_audit.specs.declared.fault.AuditFault.{AuditFault}
+use Rattle.fw_faults.specs.declared.fault.AuditFault.{AuditFault}
 use Rattle.fw_decode.specs.Verdicts.{Audits, IsUnsound}
 use Rattle.fw_decode.specs.declared.verdict.Verdict.{Verdict}
 

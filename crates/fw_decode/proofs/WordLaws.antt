@@ -3,7 +3,7 @@ use Rattle.std.proofs.Common.{◌≡◌, ℕ, List, ◌++◌, Some, None, ap, sy
 use Rattle.fw_entry.specs.declared.entry.ResetEntry.{ResetEntry}
 use Rattle.fw_entry.specs.declared.entry.Timed.{Timed}
 use Rattle.fw_account.specs.Fold.{entries_of}
-use Rattle.fw_audit.specs.Audited.{IsAudited}
+use Rattle.fw_faults.specs.Audited.{IsAudited}
 use Rattle.fw_audit.proofs.Audits.{never_audited}
 use Rattle.fw_map.specs.Trees.{HasPackets}
 use Rattle.fw_text.specs.Report.{report_text}

@@ -2,7 +2,8 @@
 use Rattle.std.specs.Prelude.{◌≡◌, ◌+◌, List, Option, Some, None, length}
 use Rattle.fw_entry.specs.declared.entry.Timed.{Timed}
 use Rattle.fw_account.specs.Fold.{entries_of}
-use Rattle.fw_audit.specs.Audited.{IsAudited, EndsFaulty, Found}
+use Rattle.fw_faults.specs.Audited.{IsAudited, EndsFaulty}
+use Rattle.fw_audit.specs.Found.{Found}
 use Rattle.fw_reading.specs.Readings.{Rules}
 use Rattle.fw_decode.specs.Texts.{count_text}
 use Rattle.fw_decode.specs.declared.refusal.Unsound.{Unsound}

@@ -8,7 +8,7 @@ use fw_log::{Entry, Timed};
 use fw_map::{MapFault, Tree, rebuild};
 
 /// What is known of the last bus reset of the entries so far.
-#[derive(Clone, Copy, Debug, PartialEq, Eq)]
+#[derive(Clone, Copy)]
 pub(crate) enum LastTree {
     /// There is none.
     NoReset,

@@ -6,7 +6,7 @@ ghost use Rattle.fw_entry.specs.declared.entry.Timed.{Timed};
 ghost use Rattle.fw_entry.specs.declared.version.Version.{Version};
 ghost use Rattle.fw_log.specs.History.{IsLog};
 ghost use Rattle.fw_account.specs.Fold.{entries_of};
-ghost use Rattle.fw_audit.specs.Audited.{IsVouched};
+ghost use Rattle.fw_faults.specs.Audited.{IsVouched};
 ghost use Rattle.fw_decode.specs.Converting.{Converts};
 ghost use Rattle.fw_decode.specs.Verdicts.{IsSoundLog};
 

@@ -9,7 +9,8 @@ ghost use Rattle.fw_reading.specs.Endings.{stop_of, Reads, IsComplete};
 ghost use Rattle.fw_decode.specs.Texts.{lines_form, nothing};
 ghost use Rattle.fw_decode.specs.Silences.{never_refused};
 
-use fw_log::{LogReader, PlainBody, Room, Timed, whole_iso};
+use fw_cip::whole_iso;
+use fw_log::{LogReader, PlainBody, Room, Timed};
 use fw_outside::{Failed, Sink, Source};
 use fw_reading::{Closing, LogEnding, Reading, Stop, read_log};
 use fw_text::{LineRoom, put_entry_from, put_iso_from, put_packet_from, put_reset_from};

@@ -2,7 +2,7 @@ use fw_audit::AuditFault;
 use fw_map::MapFault;
 
 /// The first entry of a log that has a fault, and the first fault that it has.
-#[derive(Clone, Copy, Debug, PartialEq, Eq)]
+#[derive(Clone, Copy)]
 pub struct Unsound {
     /// The number of the entry, from 0.
     pub entry: u64,
@@ -11,7 +11,7 @@ pub struct Unsound {
 }
 
 /// Why a log has no map.
-#[derive(Clone, Copy, Debug, PartialEq, Eq)]
+#[derive(Clone, Copy)]
 pub enum NoMap {
     /// It has no bus reset.
     NoReset,
@@ -20,7 +20,7 @@ pub enum NoMap {
 }
 
 /// Why a word refuses a log.
-#[derive(Clone, Copy, Debug, PartialEq, Eq)]
+#[derive(Clone, Copy)]
 pub enum LogRefusal {
     /// An audit finds a fault at an entry.
     Audit(Unsound),

@@ -7,7 +7,8 @@ ghost use Rattle.fw_reading.specs.Endings.{stop_of, Reads, IsComplete};
 ghost use Rattle.fw_decode.specs.Texts.{silent_form};
 ghost use Rattle.fw_decode.specs.Silences.{never_refused};
 
-use fw_log::{LogReader, PlainBody, Room, Timed, whole_iso};
+use fw_cip::whole_iso;
+use fw_log::{LogReader, PlainBody, Room, Timed};
 use fw_outside::{Failed, Sink, Source};
 use fw_reading::{Closing, LogEnding, Reading, read_log};
 use fw_text::StreamReport;

@@ -16,7 +16,7 @@ use std::alloc::Global;
 use std::convert::Infallible;
 
 /// A word that reads a log.
-#[derive(Clone, Copy, Debug, PartialEq, Eq)]
+#[derive(Clone, Copy)]
 pub enum LogWord {
     /// The line of each entry.
     Decode,

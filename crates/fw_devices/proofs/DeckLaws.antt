@@ -1,20 +1,17 @@
 -- Frames and tapes leave each device what it is.
-use Rattle.std.proofs.Common.{false, ◌<◌, ◌≤◌, ◌+◌, ◌∙◌, ℕ, List, length, arith, length-set, get_or-set_other, map, slice_set, Bool, Option, Some, None, option_map, refl, ap, sym, subst}
-use Rattle.std.proofs.lemmas.List.{length-map}
-use Rattle.fw_base.specs.declared.device.DeviceKind.TheVariants.{Relay}
+use Rattle.std.proofs.Common.{◌∙◌, ℕ, List, Bool, Option, Some, None, option_map, refl, ap}
 use Rattle.fw_csr.specs.declared.request.Request.{Request}
 use Rattle.fw_fcp.specs.declared.frame.Frame.{Frame}
 use Rattle.fw_avc.specs.Notices.{after_notice}
 use Rattle.fw_tape.specs.Desks.{VendorRelation}
-use Rattle.fw_tape.specs.Motion.{MayPass}
 use Rattle.fw_tape.specs.declared.cassette.Cassette.{Cassette}
 use Rattle.fw_tree.specs.declared.numbering.Numbering.{Numbering}
 use Rattle.fw_node.specs.Fcp.{HasFollowed, after_frame}
-use Rattle.fw_node.specs.State.{NodeState, first_state, after_request}
-use Rattle.fw_devices.specs.Decks.{tape_of, with_tape, passed}
+use Rattle.fw_node.specs.State.{NodeState, after_request}
+use Rattle.fw_devices.specs.Decks.{with_tape, passed}
 use Rattle.fw_devices.specs.Kept.{IsKept}
-use Rattle.fw_devices.specs.Network.{Network, node_at}
-use Rattle.fw_devices.proofs.NetworkLaws.{IsSameDevice, AreSameDevices, network_kept, node_mapped, same_after}
+use Rattle.fw_devices.specs.Network.{Network}
+use Rattle.fw_devices.proofs.NetworkLaws.{IsSameDevice, AreSameDevices, network_kept, same_after}
 use Rattle.fw_devices.proofs.ResetLaws.{found_same}
 
 -- ---- one node
@@ -34,13 +31,10 @@ same_sent m = go m.waiting
 pub same_tape : (tape : Option Cassette) (m : NodeState) → IsSameDevice m (with_tape tape m)
 same_tape tape m = record { kind = refl; device = refl; rate = refl; withheld = refl }
 
--- ---- all of them
+pub same_moved : (cycles : ℕ) (m : NodeState) → IsSameDevice m (passed cycles m)
+same_moved cycles m = record { kind = refl; device = refl; rate = refl; withheld = refl }
 
-pub same_passed : (cycles : ℕ) (nodes : List NodeState) → AreSameDevices nodes (map (passed cycles) nodes)
-same_passed cycles nodes = record {
-  size = length-map nodes (passed cycles);
-  each = λ d low. let P : NodeState → Type 0 = IsSameDevice (node_at nodes d) in subst P (sym (node_mapped (passed cycles) nodes d low)) (record { kind = refl; device = refl; rate = refl; withheld = refl });
-}
+-- ---- all of them
 
 -- what is kept of a network stays, where its nodes are of the same devices
 pub kept_same : (n : Network) (room : ℕ) (current : Bool) (numbering : Numbering) (nodes : List NodeState) → IsKept n room current numbering → AreSameDevices n.nodes nodes → IsKept (record n { nodes = nodes }) room current numbering
@@ -51,11 +45,3 @@ kept_same n room current numbering nodes h same = record {
   nodes_room = h.nodes_room;
   found = λ now. found_same _ _ _ _ _ _ same (h.found now);
 }
-
--- the nodes that are left are as they were, where one before them was exchanged
-pub left_set : (cycles : ℕ) (nodes : List NodeState) (i : ℕ) (x : NodeState) → ((d : ℕ) → i ≤ d → d < length nodes → MayPass cycles (tape_of (node_at nodes d)))
-    → (d : ℕ) → i + 1 ≤ d → d < length (slice_set nodes i x) → MayPass cycles (tape_of (node_at (slice_set nodes i x) d))
-left_set cycles nodes i x left d above low =
-    let size = length-set nodes i x in
-    let M : NodeState → Type 0 = λ n. MayPass cycles (tape_of n) in
-    subst M (sym (get_or-set_other nodes i d x (first_state Relay 0 0 false) (λ e. absurd (omega (arith, above, e))))) (left d (omega (arith, above)) (omega (arith, low, size)))

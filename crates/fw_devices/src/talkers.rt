@@ -8,7 +8,7 @@ use std::marker::Model;
 const CHANNELS: usize = 64;
 
 /// The device whose output plug talks on each channel, if one does. Contracts see it as the list of these.
-#[derive(Debug, Drop)]
+#[derive(Drop)]
 pub struct Talkers {
     on: [Option<u8>; CHANNELS],
     /// From this channel on there is none.

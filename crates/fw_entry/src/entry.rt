@@ -5,11 +5,10 @@ use crate::NodeList;
 use fw_async::Packet;
 use fw_cip::IsoPacket;
 use fw_phy::SelfIds;
-use std::fmt;
 use std::marker::Model;
 
 /// A bus reset, and the bus as it is then (own).
-#[derive(Debug, PartialEq, Eq, Drop)]
+#[derive(PartialEq, Eq, Drop)]
 pub struct ResetEntry {
     /// The number of the reset, from 1.
     pub epoch: u32,
@@ -73,14 +72,8 @@ impl<'a> Eq for BorrowedReset<'a> {
     ghost laws = { reset_laws.lawful.laws };
 }
 
-impl<'a> fmt::Debug for BorrowedReset<'a> {
-    fn fmt<W: fmt::Write>(&self, f: &mut fmt::Formatter<W>) -> fmt::Result {
-        f.debug_tuple("BorrowedReset").field(&self.entry).finish()
-    }
-}
-
 /// Something that happened on the bus without a packet (own).
-#[derive(Clone, Copy, Debug, PartialEq, Eq)]
+#[derive(Clone, Copy, PartialEq, Eq)]
 pub struct EventEntry {
     /// 1 second over, 2 controller died, 3 controller started, 4 tape inserted, 5 tape ejected, 6 unsettled,
     /// 7 response lost, 8 channel 31 withheld, 9 bus manager elected, 10 candidate defeated, 11 dubbing.
@@ -94,7 +87,7 @@ pub struct EventEntry {
 }
 
 /// How a procedure of a controller ended (own).
-#[derive(Clone, Copy, Debug, PartialEq, Eq)]
+#[derive(Clone, Copy, PartialEq, Eq)]
 pub struct OutcomeEntry {
     /// 1 connected, 2 broken, 3 restored, 4 no channel, 5 no units, 6 plug full, 7 input busy, 8 no plug,
     /// 9 no manager, 10 absent, 11 reset, 12 late.
@@ -108,7 +101,7 @@ pub struct OutcomeEntry {
 }
 
 /// A word of a register, shown on demand (own).
-#[derive(Clone, Copy, Debug, PartialEq, Eq)]
+#[derive(Clone, Copy, PartialEq, Eq)]
 pub struct ShownEntry {
     /// The number of the device.
     pub device: u8,
@@ -119,7 +112,7 @@ pub struct ShownEntry {
 }
 
 /// What a log records. What is long lies elsewhere, so that an entry is a few words.
-#[derive(Debug, PartialEq, Eq, Drop)]
+#[derive(PartialEq, Eq, Drop)]
 pub enum Entry<'a> {
     /// Kind 1.
     Reset(BorrowedReset<'a>),
@@ -138,7 +131,7 @@ pub enum Entry<'a> {
 }
 
 /// An entry, and its cycle.
-#[derive(Debug, PartialEq, Eq, Drop)]
+#[derive(PartialEq, Eq, Drop)]
 pub struct Timed<'a> {
     /// Isochronous cycles of 125 microseconds since the log began.
     pub cycle: u64,

@@ -8,6 +8,7 @@
 
 pub mod codes;
 mod entry;
+mod entry_room;
 mod nodes;
 mod room;
 mod version;
@@ -17,7 +18,8 @@ mod write_body;
 pub use entry::{
     BorrowedReset, Entry, EventEntry, OutcomeEntry, ResetEntry, ShownEntry, Timed, epoch_after,
 };
+pub use entry_room::EntryRoom;
 pub use nodes::{NodeList, NodeRow};
-pub use room::{CycleRoom, EntryRoom};
+pub use room::CycleRoom;
 pub use version::Version;
 pub use write::{body_of, head_of, write_async, write_entry, write_header};

@@ -1,4 +1,4 @@
-ghost use Rattle.std.specs.Prelude.{◌≡◌, ◌≤◌, ◌+◌, [], ◌++◌, length, take};
+ghost use Rattle.std.specs.Prelude.{◌≡◌, ◌≤◌, ◌+◌, [], ◌++◌, length};
 ghost use Rattle.fw_cip.specs.Iso.{Fits};
 ghost use Rattle.fw_entry.specs.Log.{entry_bytes};
 ghost use Rattle.fw_entry.specs.declared.entry.Entry.TheVariants.{Iso};
@@ -7,30 +7,10 @@ ghost use Rattle.fw_entry.specs.declared.version.Version.TheVariants.{Two};
 use crate::codes::kind;
 use crate::write::long_head;
 use fw_cip::{IsoPacket, heads_of, iso_length};
-use fw_words::Bytes;
-use std::alloc::{AllocError, Global};
 use std::marker::Model;
 
 /// How many bytes the entries of a packet with a block on each of the 64 channels have.
 const ALL: usize = 32512;
-
-/// The bytes of one entry: at most the 16 of its head and the 569 quadlets of a reset.
-pub(crate) type EntryBytes = Bytes<2292>;
-
-/// Memory in which an entry is put together before it is written. It is made once and used again for each entry.
-#[derive(Debug, Drop)]
-pub struct EntryRoom {
-    pub(crate) bytes: Box<EntryBytes>,
-}
-
-impl EntryRoom {
-    /// Room for one entry.
-    pub fn new(alloc: Global) -> Result<EntryRoom, AllocError> {
-        Ok(EntryRoom {
-            bytes: Box::new(alloc, Bytes::new())?,
-        })
-    }
-}
 
 /// Room for the entries of version 2 of the isochronous packets of one cycle, one behind the other: of each the 16 bytes of its head, the 12 of
 /// the packet's headers, and a block. It is made once and used again for each cycle.
@@ -97,8 +77,9 @@ impl CycleRoom {
         requires { length self.old + length more.now ≤ 32512 }
         ensures { self.new ≡ self.old ++ more.now }
     {
-        write_over(&mut self.bytes, self.length, more);
-        self.length += more.len();
+        let end = self.length + more.len();
+        self.bytes[self.length..end].copy_from_slice(more);
+        self.length = end;
     }
 }
 
@@ -111,13 +92,4 @@ fn joined(head: [u8; 16], heads: [u8; 12]) -> [u8; 28]
     both[..16].copy_from_slice(&head);
     both[16..].copy_from_slice(&heads);
     both
-}
-
-// Writes over the bytes from `at` on.
-#[inline(always)]
-fn write_over(out: &mut [u8; ALL], at: usize, more: &[u8])
-    requires { at + length more.now ≤ 32512 }
-    ensures { take (at + length more.now) out.new ≡ take at out.old ++ more.now }
-{
-    out[at..at + more.len()].copy_from_slice(more);
 }

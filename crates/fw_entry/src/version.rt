@@ -4,7 +4,7 @@ ghost use Rattle.std.specs.Prelude.{◌≡◌};
 ghost use Rattle.fw_entry.specs.Log.{number_of, version_of, head_size};
 
 /// Which form the header and the entries of a log have.
-#[derive(Clone, Copy, Debug, PartialEq, Eq)]
+#[derive(Clone, Copy)]
 pub enum Version {
     /// Version 1: the head of an entry has no epoch.
     One,

@@ -9,12 +9,18 @@ ghost use Rattle.fw_entry.specs.Log.{header_bytes, entry_head, entry_bytes, epoc
 ghost use Rattle.fw_entry.specs.declared.version.Version.TheVariants.{One, Two};
 
 use crate::codes::kind;
-use crate::room::EntryBytes;
+use crate::entry_room::EntryBytes;
 use crate::write_body::{body_quadlets, put_body};
 use crate::{Entry, EntryRoom, Timed, Version};
 use fw_async::PacketRoom;
 use fw_outside::{Failed, Sink};
 use fw_words::{Bytes, Quadlet, put_quadlet};
+
+/// How many bytes the head of an entry of version 2 has.
+const HEAD: usize = 16;
+
+/// How many bytes of a packet stand behind such a head in one row of a sink.
+const SHORT: usize = 32;
 
 /// Writes what each log of a version begins with, in one write. An error says that the sink failed; a front of the header may
 /// have been written then.
@@ -67,23 +73,14 @@ pub(crate) fn long_head(kind: u8, quadlets: u16, epoch: u32, cycle: u64) -> [u8;
     head
 }
 
-// An entry's head, behind no bytes.
-fn put_head<const N: usize>(
-    version: Version,
-    epoch: u32,
-    kind: u8,
-    quadlets: u16,
-    cycle: u64,
-    out: &mut Bytes<N>,
-)
-    requires empty { out.old ≡ [] }
-    requires room { 16 ≤ N }
-    ensures { out.new ≡ entry_head version epoch kind quadlets cycle }
+// The bytes of a head.
+fn bytes_of(head: &[u8]) -> Bytes<16>
+    requires { length head.now ≤ 16 }
+    ensures { result ≡ head.now }
 {
-    match version {
-        Version::One => out.append(&short_head(kind, quadlets, cycle)),
-        Version::Two => out.append(&long_head(kind, quadlets, epoch, cycle)),
-    }
+    let mut bytes = Bytes::new();
+    bytes.append(head);
+    bytes
 }
 
 /// What stands before the body of an entry, where this is the epoch of the latest bus reset up to and including it.
@@ -91,16 +88,23 @@ pub fn head_of(version: Version, epoch: u32, t: &Timed) -> Bytes<16>
     requires { Fits t.now.what }
     ensures { result ++ body t.now.what ≡ entry_bytes version epoch t.now }
 {
-    let mut head = Bytes::new();
-    put_head(
-        version,
-        epoch,
-        kind_of(&t.what),
-        body_quadlets(&t.what),
-        t.cycle,
-        &mut head,
-    );
-    head
+    let kind = kind_of(&t.what);
+    let quadlets = body_quadlets(&t.what);
+    match version {
+        Version::One => bytes_of(&short_head(kind, quadlets, t.cycle)),
+        Version::Two => bytes_of(&long_head(kind, quadlets, epoch, t.cycle)),
+    }
+}
+
+// An entry's head, behind no bytes.
+fn put_head(version: Version, epoch: u32, kind: u8, quadlets: u16, cycle: u64, out: &mut EntryBytes)
+    requires { out.old ≡ [] }
+    ensures { out.new ≡ entry_head version epoch kind quadlets cycle }
+{
+    match version {
+        Version::One => out.append(&short_head(kind, quadlets, cycle)),
+        Version::Two => out.append(&long_head(kind, quadlets, epoch, cycle)),
+    }
 }
 
 // An entry, in place of what was there.
@@ -137,12 +141,13 @@ pub fn write_entry<K: Sink>(
     ensures same { OnOk result (K.faults sink.new ≡ K.faults sink.old) }
 {
     put_entry(version, epoch, t, &mut room.bytes);
-    sink.write(room.bytes.as_slice())
+    room.bytes.write_to(sink)
 }
 
 /// Appends the entry of version 2 of an asynchronous packet, in one write, behind whose head the packet stands in its room, so that no byte of
 /// it is copied. An error says that the sink failed; a front of the entry may have been written then. What the room has then does
 /// not matter.
+#[inline(always)]
 pub fn write_async<K: Sink>(
     epoch: u32,
     cycle: u64,
@@ -154,8 +159,12 @@ pub fn write_async<K: Sink>(
     ensures cause { HasCause (K.faults sink.old) (K.faults sink.new) result }
     ensures same { OnOk result (K.faults sink.new ≡ K.faults sink.old) }
 {
-    let quadlets = (packet.as_slice().len() / 4) as u16;
-    sink.write(packet.behind(long_head(kind::ASYNC, quadlets, epoch, cycle)))
+    let count = packet.as_slice().len();
+    let head = long_head(kind::ASYNC, (count / 4) as u16, epoch, cycle);
+    if count <= SHORT {
+        return sink.write_front(packet.row_behind(head), HEAD + count);
+    }
+    sink.write(packet.behind(head))
 }
 
 /// The bytes of the body of an entry, in the room.

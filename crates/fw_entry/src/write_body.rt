@@ -3,14 +3,15 @@
 ghost use Rattle.std.specs.Prelude.{◌≡◌, ◌≤◌, ◌+◌, ◌*◌, ◌/◌, ◌++◌, length, map, flat_map};
 ghost use Rattle.std.specs.Int.{to_be_bytes, w32};
 ghost use Rattle.std.specs.List.{All};
+ghost use Rattle.fw_cip.specs.Iso as Iso;
 ghost use Rattle.fw_phy.specs.Phy as Phy;
 ghost use Rattle.fw_entry.specs.Log.{RowFits, node_quad, manager_byte, ResetFits, reset_quads, quads, event_quads, outcome_quads, shown_quads, EventFits, OutcomeFits, ShownFits, Fits, body};
 
 use crate::codes::event;
-use crate::room::EntryBytes;
+use crate::entry_room::EntryBytes;
 use crate::{Entry, EventEntry, NodeRow, OutcomeEntry, ResetEntry, ShownEntry};
-use fw_async::{append_packet, packet_length};
-use fw_cip::{append_iso, iso_length};
+use fw_async::packet_length;
+use fw_cip::{IsoPacket, heads_of, iso_length};
 use fw_phy::{PhyPacket, write_phy};
 use fw_words::{Quadlet, put_quadlet, with_field};
 
@@ -121,6 +122,18 @@ fn put_reset(r: &ResetEntry, out: &mut EntryBytes)
     put_ids(ids, out);
 }
 
+#[tactic(auto, using(crate::proofs::SizeLaws::iso_few))]
+fn put_iso(p: &IsoPacket, out: &mut EntryBytes)
+    requires fits { Iso.Fits p.now }
+    requires begun { length out.old ≤ 16 }
+    ensures { out.new ≡ out.old ++ Iso.spelling p.now }
+{
+    out.append(&heads_of(p));
+    if let Some(block) = &p.block {
+        out.append(block.as_slice());
+    }
+}
+
 /// How many quadlets the entry's body has.
 #[tactic(auto, using(crate::proofs::SizeLaws::iso_few, crate::proofs::SizeLaws::quadlets_of_reset))]
 pub(crate) fn body_quadlets(what: &Entry) -> u16
@@ -147,8 +160,8 @@ pub(crate) fn put_body(what: &Entry, out: &mut EntryBytes)
 {
     match what {
         Entry::Reset(r) => put_reset(r.get(), out),
-        Entry::Async(p) => append_packet(p, out),
-        Entry::Iso(p) => append_iso(p, out),
+        Entry::Async(p) => out.append_packet(p),
+        Entry::Iso(p) => put_iso(p, out),
         Entry::Event(e) => put_event(e, out),
         Entry::Outcome(o) => put_outcome(o, out),
         Entry::Shown(s) => put_shown(s, out),

@@ -12,7 +12,7 @@ use fw_words::quadlet_at;
 const COMPARE_SWAP: u8 = 2;
 
 /// The kind of response that answers a request (IEEE 1394-1995, transaction codes).
-#[derive(Clone, Copy, Debug, PartialEq, Eq)]
+#[derive(Clone, Copy)]
 pub enum Answer {
     /// A write response.
     Write,
@@ -41,7 +41,7 @@ impl Answer {
 }
 
 /// What is kept of a request until it is answered.
-#[derive(Clone, Copy, Debug, PartialEq, Eq)]
+#[derive(Clone, Copy)]
 pub struct Asked {
     /// The node_ID of who asked.
     pub source: u16,

@@ -11,7 +11,7 @@ use fw_names::{Pairs, put_blank_hex, put_hex2, put_word};
 use std::alloc::AllocError;
 
 /// How the first operands of a frame are told.
-#[derive(Clone, Copy, Debug, PartialEq, Eq)]
+#[derive(Clone, Copy)]
 pub(crate) enum OperandRow {
     /// An absolute time code of a tape: frames, seconds, minutes and hours stand behind the first operand.
     TimeCode,

@@ -18,11 +18,11 @@ const DEVICES: u64 = 60;
 const HEAD: usize = 16;
 
 /// A count stands at 2^64 - 1, and one more is due.
-#[derive(Clone, Copy, Debug, PartialEq, Eq)]
+#[derive(Clone, Copy)]
 pub struct CountFull;
 
 /// What an entry is to a tally.
-#[derive(Clone, Copy, Debug, PartialEq, Eq)]
+#[derive(Clone, Copy)]
 pub enum Counted {
     /// A bus reset.
     Reset,
@@ -83,7 +83,7 @@ fn one_more(count: u64) -> Result<u64, CountFull>
 }
 
 /// Counts the entries of a log.
-#[derive(Clone, Copy, Debug, PartialEq, Eq)]
+#[derive(Clone, Copy)]
 pub struct Tally {
     resets: u64,
     connected: u64,

@@ -12,7 +12,7 @@ use crate::tables::{Charge, Reclaimable, Tables};
 use fw_base::PlugAt;
 
 /// What a controller has allocated and not connected: a channel, the output plug that it is for, and the units with it.
-#[derive(Clone, Copy, Debug, PartialEq, Eq)]
+#[derive(Clone, Copy)]
 pub struct Held {
     pub channel: usize,
     pub plug: PlugAt,

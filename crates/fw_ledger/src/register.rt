@@ -13,7 +13,7 @@ use fw_base::PlugAt;
 use fw_entry::NodeRow;
 
 /// A register of the account.
-#[derive(Clone, Copy, Debug, PartialEq, Eq)]
+#[derive(Clone, Copy)]
 pub enum Register {
     /// BANDWIDTH_AVAILABLE.
     Bandwidth,

@@ -10,7 +10,7 @@ use fw_entry::NodeList;
 use std::alloc::{AllocError, Global};
 
 /// What is allocated of a channel, and to whom.
-#[derive(Clone, Copy, Debug, PartialEq, Eq)]
+#[derive(Clone, Copy)]
 pub enum Charge {
     /// The channel is free.
     Free,
@@ -33,7 +33,7 @@ pub enum Charge {
 }
 
 /// A flow that may be allocated again in the reclaim second.
-#[derive(Clone, Copy, Debug, PartialEq, Eq)]
+#[derive(Clone, Copy)]
 pub enum Reclaimable {
     /// There is none on the channel.
     Nothing,
@@ -42,7 +42,7 @@ pub enum Reclaimable {
 }
 
 /// The output plug that a controller last addressed while it had no Pending allocation.
-#[derive(Clone, Copy, Debug, PartialEq, Eq)]
+#[derive(Clone, Copy)]
 pub enum Addressed {
     /// It addressed none.
     Nowhere,
@@ -51,7 +51,7 @@ pub enum Addressed {
 }
 
 /// Who made the broadcast connection of a plug.
-#[derive(Clone, Copy, Debug, PartialEq, Eq)]
+#[derive(Clone, Copy)]
 pub enum Broadcaster {
     /// There is no broadcast connection.
     Nobody,
@@ -63,14 +63,14 @@ pub enum Broadcaster {
 
 /// Whose the connections of a plug are: how many point-to-point connections each controller has, and the broadcast
 /// connection.
-#[derive(Clone, Copy, Debug, PartialEq, Eq)]
+#[derive(Clone, Copy)]
 pub struct Seats {
     pub counts: [u8; 63],
     pub broadcaster: Broadcaster,
 }
 
 /// An outstanding request: the node ID that it is sent to, the address there, and what it asks for.
-#[derive(Clone, Copy, Debug, PartialEq, Eq)]
+#[derive(Clone, Copy)]
 pub enum Asked {
     /// There is none.
     Nothing,

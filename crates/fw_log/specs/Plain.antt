@@ -5,8 +5,6 @@ use Rattle.fw_words.specs.Quadlet.{field, quadlet_at}
 use Rattle.fw_async.specs.Reading.{tcode_of}
 use Rattle.fw_phy.specs.Phy.{Fits as PhyFits, quadlet_of}
 use Rattle.fw_phy.specs.declared.packet.PhyPacket.{PhyPacket}
-use Rattle.fw_cip.specs.Iso.{Fits as IsoFits, spelling as iso_spelling}
-use Rattle.fw_cip.specs.declared.packet.IsoPacket.{IsoPacket}
 use Rattle.fw_entry.specs.Log.{are_ids, ResetFits, body}
 use Rattle.fw_entry.specs.declared.entry.Entry.TheVariants.{Reset}
 use Rattle.fw_entry.specs.declared.entry.ResetEntry.{ResetEntry}
@@ -33,11 +31,6 @@ is_plain_packet bytes =
     else if t == 1 then is_whole_block bytes
     else if t == 2 then (length bytes == 12) && has_zeros bytes
     else false
-
--- the tag, the tcode, the reserved bits and the first two of each CIP quadlet are those of a CIP packet
-abbrev pub are_heads : ℕ → ℕ → ℕ → Bool
-are_heads header first second =
-    (field header 16 17 == 1) && (field header 24 27 == 10) && (field first 0 1 == 0) && (field first 22 23 == 0) && (field second 0 1 == 2)
 
 -- the bits of a quadlet that say which self-ID packet it is are those of this node's packet behind so many others
 abbrev pub is_next : ℕ → Turn → Bool
@@ -69,12 +62,6 @@ pub record AreIdsOf (count : ℕ) (bytes : List ℕ) : Type 0 where
 abbrev pub are_of_nodes : ℕ → ℕ → Bool
 are_of_nodes q count =
     nat_lt (field q 0 7) count && ((field q 8 15 == 255) || nat_lt (field q 8 15) count) && nat_lt (field q 16 23) count
-
--- the bytes are those of some isochronous packet
-pub record IsIso (bytes : List ℕ) : Type 0 where
-  pub packet : IsoPacket
-  pub fits : IsoFits packet
-  pub same : iso_spelling packet ≡ bytes
 
 -- the bytes are the body of some reset
 pub record IsReset (bytes : List ℕ) : Type 0 where

@@ -17,7 +17,7 @@ use crate::{BodyFault, Entry, LogFault, LogWhy, ResetEntry, Timed, Version};
 use fw_words::{Data, quadlet_at};
 
 /// An entry that bytes begin with, where it ends, the bytes of its body, and the version of the log.
-#[derive(Debug, Drop)]
+#[derive(Drop)]
 pub struct Found<'a> {
     pub end: usize,
     pub version: Version,

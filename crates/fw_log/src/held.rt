@@ -8,7 +8,7 @@ use std::marker::Model;
 pub(crate) const ROOM: usize = 2308;
 
 /// At most as many bytes as a header and an entry have. To drop them touches none of them.
-#[derive(Debug, Drop)]
+#[derive(Drop)]
 pub struct Held {
     bytes: [u8; ROOM],
     /// How many bytes are held.
@@ -41,8 +41,9 @@ impl Held {
         requires { length self.old + length more.now ≤ 2308 }
         ensures { self.new ≡ self.old ++ more.now }
     {
-        write_over(&mut self.bytes, self.length, more);
-        self.length += more.len();
+        let end = self.length + more.len();
+        self.bytes[self.length..end].copy_from_slice(more);
+        self.length = end;
     }
 
     /// Drops all bytes.
@@ -75,12 +76,4 @@ impl Held {
     {
         &self.bytes[..self.length]
     }
-}
-
-// Writes over the bytes from `at` on.
-fn write_over(out: &mut [u8; ROOM], at: usize, more: &[u8])
-    requires { at + length more.now ≤ 2308 }
-    ensures { take (at + length more.now) out.new ≡ take at out.old ++ more.now }
-{
-    out[at..at + more.len()].copy_from_slice(more);
 }

@@ -6,7 +6,6 @@ mod held;
 pub mod laws;
 mod passing;
 mod plain;
-mod plain_iso;
 mod plain_reset;
 mod read;
 mod read_body;
@@ -25,7 +24,6 @@ pub use fw_entry::{
 use fw_phy::PhyFault;
 pub use passing::PassedBody;
 pub use plain::PlainBody;
-pub use plain_iso::whole_iso;
 pub use read::{LogFed, LogReader};
 pub use room::Room;
 

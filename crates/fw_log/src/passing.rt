@@ -17,7 +17,7 @@ use crate::{Room, Version};
 use std::num::NonZero;
 
 /// An entry that was given as its body.
-#[derive(Debug, Drop)]
+#[derive(Drop)]
 pub struct PassedBody<'a> {
     /// How many bytes of the piece were taken.
     pub used: usize,

@@ -9,9 +9,9 @@ ghost use Rattle.fw_log.specs.Plain.{has_zeros, is_whole_block, is_plain_packet}
 ghost use Rattle.fw_log.specs.Passing.{IsPlain, IsPlainBody};
 
 use crate::codes::kind;
-use crate::plain_iso::plain_iso;
 use crate::plain_reset::is_plain_reset;
 use crate::read_body::{event_of, outcome_of, shown_of};
+use fw_cip::read_iso;
 use fw_words::{Data, quadlet_at};
 
 // Transaction codes.
@@ -74,7 +74,7 @@ pub(crate) fn is_plain_packet(bytes: &[u8]) -> bool
 }
 
 /// The body of an entry that is given without a value made of it.
-#[derive(Debug, Drop)]
+#[derive(Drop)]
 pub enum PlainBody<'a> {
     /// The bytes of an asynchronous packet.
     Packet(Data<'a>),
@@ -104,9 +104,9 @@ pub(crate) fn plain_body<'a>(kind: u8, bytes: &'a [u8]) -> Option<PlainBody<'a>>
             }
             Some(PlainBody::Packet(Data::new(bytes)))
         }
-        kind::ISO => match plain_iso(bytes) {
-            Some(_) => Some(PlainBody::Iso(Data::new(bytes))),
-            None => None,
+        kind::ISO => match read_iso(bytes) {
+            Ok(_) => Some(PlainBody::Iso(Data::new(bytes))),
+            Err(_) => None,
         },
         _ => None,
     }

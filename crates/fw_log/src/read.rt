@@ -25,7 +25,7 @@ use std::marker::Model;
 use std::num::NonZero;
 
 /// What a piece gave.
-#[derive(Debug, Drop)]
+#[derive(Drop)]
 pub struct LogFed<'a> {
     /// How many of its bytes were taken.
     pub used: usize,
@@ -61,7 +61,7 @@ fn behind(place: u64, version: Version, epoch: u32, entry: &Timed) -> Stand
 }
 
 /// Reads the entries of a log from bytes that come in any pieces.
-#[derive(Debug, Drop)]
+#[derive(Drop)]
 pub struct LogReader {
     pub(crate) taken: Box<Held>,
     pub(crate) stand: Stand,

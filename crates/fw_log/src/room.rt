@@ -4,7 +4,7 @@ use fw_phy::SelfIds;
 use std::alloc::{AllocError, Global};
 
 /// Memory for what an entry refers to that a reader gives: a reset, and the bytes of an entry that came in pieces.
-#[derive(Debug, Drop)]
+#[derive(Drop)]
 pub struct Room {
     pub(crate) bytes: Box<Held>,
     pub(crate) reset: Box<ResetEntry>,

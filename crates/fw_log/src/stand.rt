@@ -29,7 +29,7 @@ pub(crate) const CYCLE: usize = 8;
 
 /// Where a reader stands. `past` is the place of the first byte behind the last entry, `last` the cycle of that entry, `epoch` that
 /// of the latest bus reset among the entries, or 0.
-#[derive(Clone, Copy, Debug, PartialEq, Eq)]
+#[derive(Clone, Copy)]
 pub enum Stand {
     /// The header is to come, and the first entry behind it.
     Header,

@@ -20,3 +20,5 @@ pub mod Besides
 pub mod Streaming
 pub mod Talking
 pub mod Counts
+pub mod Moving
+pub mod Still

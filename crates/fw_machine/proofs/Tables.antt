@@ -1,5 +1,5 @@
 -- Tables of controllers by device: one is changed, one is added, and all are changed.
-use Rattle.std.proofs.Common.{◌≡◌, ◌≢◌, ◌⊎◌, inl, inr, ℕ, zero, suc, take, drop, ◌+◌, ◌<◌, ◌≤◌, List, [], ◌∷◌, ◌++◌, length, map, get_or, set, replicate, slice_index_or, slice_set, cond, ◌==◌, Bool, true, false, refl, ap, sym, subst, ◌∙◌, append_assoc, arith, IsTrue}
+use Rattle.std.proofs.Common.{◌≡◌, ◌≢◌, ◌⊎◌, inl, inr, ℕ, zero, suc, take, drop, ◌+◌, ◌<◌, ◌≤◌, List, [], ◌∷◌, ◌++◌, length, map, get_or, set, replicate, slice_index_or, slice_set, cond, ◌==◌, Bool, true, false, refl, ap, sym, subst, ◌∙◌, append_assoc, arith, IsTrue, IsFalse}
 use Rattle.std.proofs.lemmas.Bool.{cases_eq, cases_lt, false≢true}
 use Rattle.std.proofs.lemmas.Bool.Decides.{nat_tests}
 use Rattle.std.proofs.lemmas.List.{get_or-set_same, get_or-set_other, get_or-map, get_or-replicate, length-replicate, get_or_past, get_or_read, length-map, length-append, length-set, get_or_append_left, get_or_push, length-drop, length-take, get_or-take, drop_all, drop_more, map_more, append-nil}
@@ -8,7 +8,7 @@ use Rattle.fw_cmp.specs.declared.connection.Slot.TheVariants.{Free}
 use Rattle.fw_cmp.specs.Controllers.{is_restoring}
 use Rattle.fw_cmp.specs.Losses.{Listening, first_listening}
 use Rattle.fw_cmp.specs.Causes.{IsAtRest}
-use Rattle.fw_machine.specs.Tables.{AreCalm, AreFresh, AreMarked, ControllerTable, IsTable, count_of, states_of, dead_of}
+use Rattle.fw_machine.specs.Tables.{AreCalm, AreFresh, AreHearing, AreMarked, ControllerTable, IsTable, count_of, states_of, dead_of}
 
 -- ---- lists
 
@@ -216,6 +216,51 @@ fresh_after f marks n new old fixed is h =
     let all : new ++ drop (length new) old ≡ new = ap (λ l. new ++ l) (drop_all (length new) old (omega (arith, size))) ∙ append-nil new in
     subst (λ (xs : List Listening). AreFresh marks (take n xs)) (sym all)
     (marked_take (λ c. c ≡ first_listening) marks n new refl (subst (λ (xs : List Listening). AreFresh marks xs) (sym is) (fresh_map f marks old fixed h)))
+
+-- ---- controllers of which none has lost a response
+
+-- one is changed, which was found there, and hears where it heard
+pub hearing_put : (deaf : Bool) (list : List Listening) (i : ℕ) (x y : Listening) → AreHearing deaf list → i < length list → x ≡ slice_index_or list i x → (IsFalse x.lost → IsFalse y.lost)
+    → AreHearing deaf (slice_set list i y)
+hearing_put deaf list i x y h lt found keeps = λ none k. go none k (cases_eq k i)
+  where
+    heard : IsFalse deaf → IsFalse x.lost
+    heard none = ap (λ (z : Listening). z.lost) (get_or_read list i x lt found first_listening) ∙ h none i
+
+    go : IsFalse deaf → (k : ℕ) → (k ≡ i) ⊎ (k ≢ i) → IsFalse (slice_index_or (slice_set list i y) k first_listening).lost
+    go none k (inl same) = ap (λ j. (slice_index_or (slice_set list i y) j first_listening).lost) same
+        ∙ (ap (λ (z : Listening). z.lost) (get_or-set_same list i y first_listening lt) ∙ keeps (heard none))
+    go none k (inr other) = ap (λ (z : Listening). z.lost) (get_or-set_other list i k y first_listening other) ∙ h none k
+
+-- one more, which is new
+pub hearing_push : (deaf : Bool) (list : List Listening) → AreHearing deaf list → AreHearing deaf (list ++ first_listening ∷ [])
+hearing_push deaf list h = λ none k. ap (λ (z : Listening). z.lost) (push_at list first_listening k) ∙ h none k
+
+-- so is each of a list of none
+pub hearing_none : (deaf : Bool) (list : List Listening) → list ≡ [] → AreHearing deaf list
+hearing_none deaf list none = λ _ k. ap (λ (xs : List Listening). (slice_index_or xs k first_listening).lost) none
+
+-- all are changed
+pub hearing_map : (before after : Bool) (f : Listening → Listening) (list : List Listening) → f first_listening ≡ first_listening → ((x : Listening) → IsFalse after → (IsFalse before → IsFalse x.lost) → IsFalse (f x).lost)
+    → AreHearing before list → AreHearing after (map f list)
+hearing_map before after f list fixed keeps h = λ none k. ap (λ (z : Listening). z.lost) (map_at f list first_listening k fixed)
+    ∙ keeps (slice_index_or list k first_listening) none (λ quiet. h quiet k)
+
+-- what was written back is heard where what was written is
+hearing_take : (deaf : Bool) (n : ℕ) (list : List Listening) → AreHearing deaf list → AreHearing deaf (take n list)
+hearing_take deaf n list h = λ none k. go none k (cases_lt k n)
+  where
+    go : IsFalse deaf → (k : ℕ) → (k < n) ⊎ (n ≤ k) → IsFalse (slice_index_or (take n list) k first_listening).lost
+    go none k (inl lt) = ap (λ (z : Listening). z.lost) (get_or-take n list k first_listening lt) ∙ h none k
+    go none k (inr past) = let far : length (take n list) ≤ k = omega (arith, length-take n list, past) in ap (λ (z : Listening). z.lost) (get_or_past (take n list) k first_listening far)
+
+-- a change of all is written back
+pub hearing_after : (before after : Bool) (f : Listening → Listening) (n : ℕ) (new old : List Listening) → f first_listening ≡ first_listening → new ≡ map f old
+    → ((x : Listening) → IsFalse after → (IsFalse before → IsFalse x.lost) → IsFalse (f x).lost) → AreHearing before old → AreHearing after (take n (new ++ drop (length new) old))
+hearing_after before after f n new old fixed is keeps h =
+    let size : length new ≡ length old = ap length is ∙ length-map old f in
+    let all : new ++ drop (length new) old ≡ new = ap (λ l. new ++ l) (drop_all (length new) old (omega (arith, size))) ∙ append-nil new in
+    subst (λ (xs : List Listening). AreHearing after (take n xs)) (sym (all ∙ is)) (hearing_take after n (map f old) (hearing_map before after f old fixed keeps h))
 
 -- ---- no devices
 

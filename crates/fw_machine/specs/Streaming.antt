@@ -1,5 +1,5 @@
 -- What the bus counts of the streams of output plugs. A device has one output plug at most, which is number 0 (own).
-use Rattle.std.specs.Prelude.{ℕ, ◌≡◌, ◌+◌, ◌%◌, List, [], ◌∷◌, length, if◌then◌else◌, slice_index_or, slice_set}
+use Rattle.std.specs.Prelude.{ℕ, ◌≡◌, ◌≤◌, ◌<◌, ◌+◌, ◌%◌, List, [], ◌∷◌, length, None, if◌then◌else◌, slice_index_or, slice_set, IsFalse}
 use Rattle.fw_base.specs.Tables.{at_plug}
 use Rattle.fw_tape.specs.Blocks.{blocks_among}
 use Rattle.fw_node.specs.State.{NodeState}
@@ -25,6 +25,17 @@ abbrev pub counted_on : ℕ → List NodeState → List ℕ → List ℕ
 counted_on cycles [] counts = counts
 counted_on cycles (n ∷ nodes) [] = []
 counted_on cycles (n ∷ nodes) (count ∷ counts) = counted_for cycles n count ∷ counted_on cycles nodes counts
+
+-- time changes nothing of it: its plug does not talk, no tape is in, and nothing is counted
+pub record IsStill (n : NodeState) (count : ℕ) : Type 0 where
+  pub silent : IsFalse (talks n)
+  pub empty : tape_of n ≡ None
+  pub none : count ≡ 0
+
+-- so are all devices from there on
+pub record AreStillFrom (end : ℕ) (nodes : List NodeState) (counts : List ℕ) : Type 0 where
+  pub few : end ≤ length nodes
+  pub each : (d : ℕ) → end ≤ d → d < length nodes → IsStill (node_at nodes d) (count_at counts d)
 
 -- the plug of a device begins anew where it does not talk
 abbrev pub looked_at : ℕ → List NodeState → List ℕ → List ℕ

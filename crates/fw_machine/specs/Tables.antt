@@ -43,6 +43,10 @@ AreCalm marks list = AreMarked (λ c. IsAtRest c.state) marks list
 abbrev pub AreFresh : List Bool → List Listening → Type 0
 AreFresh marks list = AreMarked (λ c. c ≡ first_listening) marks list
 
+-- where no response was lost since the latest bus reset, each controller hears
+abbrev pub AreHearing : Bool → List Listening → Type 0
+AreHearing deaf list = IsFalse deaf → (d : ℕ) → IsFalse (slice_index_or list d first_listening).lost
+
 -- what is kept is of 63 devices at most
 pub record IsRoomy (t : ControllerTable) (capacity : ℕ) : Type 0 where
   pub few : count_of t ≤ 63

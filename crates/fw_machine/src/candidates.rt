@@ -6,13 +6,11 @@ ghost use Rattle.fw_manager.specs.Bids.{CandidateState, first_state as new_candi
 ghost use Rattle.fw_run.specs.Elections.{Election, no_election, with_candidate, with_new_candidate};
 ghost use Rattle.fw_machine.specs.Candidates.{HasElection, count_of, candidate_in};
 
+use crate::MOST;
 use fw_csr::Reply;
 use fw_manager::{Bid, Candidate};
 use std::alloc::{AllocError, Global};
 use std::marker::Model;
-
-/// How many devices a bus may have.
-const MOST: usize = 63;
 
 /// The candidate that each declared device is, by number, if it is one.
 #[derive(Drop)]

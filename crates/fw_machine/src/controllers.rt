@@ -1,50 +1,50 @@
 //! The controllers of the declared devices.
 
-ghost use Rattle.std.specs.Prelude.{◌≡◌, ◌<◌, ◌≤◌, ◌+◌, ◌^◌, IfOk, IfErr, IfSome, IsOk, IsTrue, IsFalse, ℕ, Err, None, true, false, length, map, replicate};
+ghost use Rattle.std.specs.Prelude.{◌≡◌, ◌<◌, ◌≤◌, ◌+◌, ◌^◌, IfOk, IfErr, IfSome, IsOk, IsTrue, IsFalse, ℕ, Err, None, true, false, replicate};
 ghost use Rattle.fw_base.specs.Tables.{update};
 ghost use Rattle.fw_cmp.specs.Causes.{IsAtRest};
 ghost use Rattle.fw_cmp.specs.Fits.{SlotFits};
 ghost use Rattle.fw_cmp.specs.Holdings.{CanGoOn};
-ghost use Rattle.fw_cmp.specs.Losses.{first_listening, Awaits, MayTurn, turn_of, after_turn, after_answer, after_loss, after_bus_reset, after_end, with_state};
+ghost use Rattle.fw_cmp.specs.Losses.{first_listening, Awaits, MayTurn, turn_of, after_turn, after_answer, after_loss, with_state};
 ghost use Rattle.fw_cmp.specs.Nodes.{HasNodeNumbers};
 ghost use Rattle.fw_cmp.specs.Starts.{break_fault, break_started, started};
 ghost use Rattle.fw_cmp.specs.Turns.{addressee_in};
 ghost use Rattle.fw_run.specs.Actions.{slot_of, start_of};
-ghost use Rattle.fw_machine.specs.Tables.{AreFresh, IsTable, count_of, dead_of, states_of};
+ghost use Rattle.fw_machine.specs.Tables.{IsTable, count_of, dead_of, states_of};
 
+use crate::MOST;
 use fw_cmp::{Controller, Directory, Next, StartFault};
 use fw_csr::Reply;
 use fw_run::Wanted;
 use std::alloc::{AllocError, Global};
 use std::marker::Model;
 
-/// How many devices a bus may have.
-const MOST: usize = 63;
-
 /// How many numbers a `u8` may be, so that a look at a place needs no test.
-const PLACES: usize = 256;
+pub(crate) const PLACES: usize = 256;
 
 /// The controller of each declared device, by number. That of a device without one is as one that has just started.
 #[derive(Drop)]
 pub struct Controllers {
-    list: Vec<Controller>,
+    pub(crate) list: Vec<Controller>,
     /// The controller died, and was not started again.
-    dead: [bool; MOST],
+    pub(crate) dead: [bool; MOST],
     /// The controller has nothing to do: it was found to have nothing, or is new, and nothing has happened to it since.
-    calm: [bool; PLACES],
+    pub(crate) calm: [bool; PLACES],
     /// The controller is as a new one: nothing has happened to it at all, and nothing happens to it at a bus reset.
-    fresh: [bool; PLACES],
+    pub(crate) fresh: [bool; PLACES],
+    /// A response was lost since the latest bus reset: where none was, no controller is deaf.
+    pub(crate) deaf: bool,
 }
 
 impl Model for Controllers {
     ghost use Rattle.std.specs.Prelude.{vec_capacity};
-    ghost use Rattle.fw_machine.specs.Tables.{AreCalm, AreFresh, ControllerTable, IsRoomy};
+    ghost use Rattle.fw_machine.specs.Tables.{AreCalm, AreFresh, AreHearing, ControllerTable, IsRoomy};
 
     ghost Value = { ControllerTable };
 
     ghost view = { λ c. record { list = c.list.items; flags = c.dead } };
 
-    ghost invariant = { λ c. IsRoomy (record { list = c.list.items; flags = c.dead }) (vec_capacity c.list) × AreCalm c.calm c.list.items × AreFresh c.fresh c.list.items };
+    ghost invariant = { λ c. IsRoomy (record { list = c.list.items; flags = c.dead }) (vec_capacity c.list) × AreCalm c.calm c.list.items × AreFresh c.fresh c.list.items × AreHearing c.deaf c.list.items };
 }
 
 impl Controllers {
@@ -57,6 +57,7 @@ impl Controllers {
             dead: [false; MOST],
             calm: all_marked(),
             fresh: all_marked(),
+            deaf: false,
         })
     }
 
@@ -96,16 +97,11 @@ impl Controllers {
         }
     }
 
-    /// Whether the controller of some device has lost a response.
+    /// Whether the controller of some device may have lost a response.
     pub fn has_deaf(&self) -> bool
         ensures { IsFalse result → (d : ℕ) → IsFalse (states_of self.now d).lost }
     {
-        for device in 0..self.list.len() {
-            if self.list[device].is_deaf() {
-                return true;
-            }
-        }
-        false
+        self.deaf
     }
 
     /// What the controller of a device does next (`Controller::next`).
@@ -145,6 +141,7 @@ impl Controllers {
         ensures { IsTable self.new (count_of self.old) (update (states_of self.old) device (after_loss (states_of self.old device))) (dead_of self.old) }
     {
         self.list[usize::from(device)].lose();
+        self.deaf = true;
         self.calm[usize::from(device)] = false;
         self.fresh[usize::from(device)] = false;
     }
@@ -197,70 +194,6 @@ impl Controllers {
         let _ = self.list[usize::from(device)].start_break(slot);
         self.calm[usize::from(device)] = false;
         self.fresh[usize::from(device)] = false;
-    }
-
-    /// A bus reset that begins this epoch, for each controller.
-    pub fn reset(&mut self, epoch: u32)
-        ensures { IsTable self.new (count_of self.old) (λ d. after_bus_reset epoch (states_of self.old d)) (dead_of self.old) }
-    {
-        reset_each(&mut self.list, &self.fresh, epoch);
-        self.calm = self.fresh;
-    }
-
-    /// The reclaim second is over, for each controller.
-    pub fn second_over(&mut self)
-        ensures { IsTable self.new (count_of self.old) (λ d. after_end (states_of self.old d)) (dead_of self.old) }
-    {
-        end_second(&mut self.list, &self.fresh);
-        self.calm = self.fresh;
-    }
-
-    /// The controller of a device dies: it forgets its slots and jobs.
-    pub fn die(&mut self, device: u8)
-        requires { device < count_of self.old }
-        ensures { IsTable self.new (count_of self.old) (update (states_of self.old) device first_listening) (update (dead_of self.old) device true) }
-    {
-        self.list[usize::from(device)] = Controller::new();
-        self.dead[usize::from(device)] = true;
-        self.calm[usize::from(device)] = false;
-        self.fresh[usize::from(device)] = false;
-    }
-
-    /// The controller of a device starts.
-    pub fn start(&mut self, device: u8)
-        requires { device < count_of self.old }
-        ensures { IsTable self.new (count_of self.old) (update (states_of self.old) device first_listening) (update (dead_of self.old) device false) }
-    {
-        self.list[usize::from(device)] = Controller::new();
-        self.dead[usize::from(device)] = false;
-        self.calm[usize::from(device)] = false;
-        self.fresh[usize::from(device)] = false;
-    }
-}
-
-/// A bus reset that begins this epoch, for each of the controllers: a new one stays as it is.
-fn reset_each(list: &mut [Controller], fresh: &[bool; PLACES], epoch: u32)
-    requires few { length list.old ≤ 63 }
-    requires fresh { AreFresh fresh.now list.old }
-    ensures { list.new ≡ map (after_bus_reset epoch) list.old }
-{
-    for (device, controller) in list.iter_mut().enumerate() {
-        if !fresh[device] {
-            controller.reset(epoch);
-        }
-    }
-}
-
-/// The reclaim second is over, for each of the controllers: a new one stays as it is.
-fn end_second(list: &mut [Controller], fresh: &[bool; PLACES])
-    requires few { length list.old ≤ 63 }
-    requires fresh { AreFresh fresh.now list.old }
-    ensures { list.new ≡ map after_end list.old }
-{
-    for (device, controller) in list.iter_mut().enumerate() {
-        if !fresh[device] {
-            controller.second_over();
-        }
     }
 }
 

@@ -9,6 +9,7 @@ mod controllers;
 pub mod entries;
 mod giving;
 mod machine;
+mod restarts;
 mod room;
 mod streams;
 
@@ -18,3 +19,6 @@ pub use giving::{give, give_async, give_packet};
 pub use machine::{Machine, SECOND};
 pub use room::Room;
 pub use streams::Streams;
+
+/// How many devices a bus may have.
+const MOST: usize = 63;

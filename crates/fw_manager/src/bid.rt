@@ -1,7 +1,7 @@
 use fw_csr::QuadletAccess;
 
 /// What a candidate does next.
-#[derive(Debug, Drop)]
+#[derive(Drop)]
 pub enum Bid {
     /// Its request goes to the node with this number.
     Send { to: u8, request: QuadletAccess },

@@ -10,7 +10,7 @@ use std::marker::Model;
 const NO_BUS_MANAGER: u32 = 0x3F;
 
 /// How far a bid has come.
-#[derive(Clone, Copy, Debug, PartialEq, Eq)]
+#[derive(Clone, Copy)]
 pub enum Stage {
     /// It is still to be made.
     Fresh,
@@ -23,7 +23,7 @@ pub enum Stage {
 }
 
 /// A candidate: the epoch of its latest bid, and how far that came.
-#[derive(Debug, Drop)]
+#[derive(Drop)]
 pub struct Candidate {
     epoch: u32,
     stage: Stage,

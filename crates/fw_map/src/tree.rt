@@ -2,7 +2,7 @@ ghost use Rattle.std.specs.Prelude.{◌≡◌, ◌+◌, ◌<◌, ◌≤◌, ℕ,
 ghost use Rattle.fw_tree.specs.Numbers.{number_at, is_there};
 
 /// Who hangs on whom on a bus. The lists are indexed by node.
-#[derive(Clone, Copy, Debug, PartialEq, Eq)]
+#[derive(Clone, Copy)]
 pub struct Tree {
     /// How many nodes there are.
     pub count: u8,

@@ -24,7 +24,7 @@ use fw_tape::Desk;
 use std::marker::Model;
 
 /// A device as a node of the bus: the registers by which it answers request packets.
-#[derive(Debug, Drop)]
+#[derive(Drop)]
 pub struct Node {
     kind: DeviceKind,
     device: u8,
@@ -172,6 +172,7 @@ impl Node {
 
     /// Carries a request packet to this node out at its registers in cycle `now`, and gives the response packet. A write to
     /// FCP_COMMAND is answered, and nothing follows from it.
+    #[inline(always)]
     pub fn carry_out(&mut self, now: u64, p: &Packet) -> Packet<'static>
         requires request { IsSome (request_in p.now) }
         requires link { IsTrue (has_link self.old.kind) }

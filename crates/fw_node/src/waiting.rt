@@ -18,7 +18,7 @@ use fw_words::Bytes512;
 use std::marker::Model;
 
 /// A frame that waits to be sent, and the number of the node that it goes to. Where none waits, the frame is room for the next.
-#[derive(Debug, Drop)]
+#[derive(Drop)]
 pub(crate) struct Waiting {
     to: Option<u8>,
     frame: Frame,

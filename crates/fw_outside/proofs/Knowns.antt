@@ -1,5 +1,5 @@
 -- What a writer has, where it is known, after two pieces.
-use Rattle.std.proofs.Common.{◌≡◌, ℕ, List, [], ◌++◌, Some, None, Option, sym, ap, ◌∙◌, append_assoc}
+use Rattle.std.proofs.Common.{ℕ, List, ◌++◌, Some, None, Option, sym, ap, ◌∙◌, append_assoc}
 use Rattle.std.specs.Io.KnownBytes.{Appends}
 use Rattle.fw_outside.specs.Outside.{AppendsPart}
 

@@ -2,12 +2,13 @@ ghost use Rattle.std.specs.Prelude.{◌≡◌, ◌≤◌, ◌+◌, ◌++◌, len
 ghost use Rattle.std.specs.Io.KnownBytes.{Appends};
 ghost use Rattle.fw_outside.specs.Gathering.{gathered};
 ghost use Rattle.fw_outside.specs.Outside.{AppendsPart, HasCause, Writes, counted};
+ghost use Rattle.fw_outside.specs.declared.buffered_sink.TheConstants.{ROOM};
 
 use crate::{Failed, Sink, StdSink};
 use std::io::Write;
 
 /// How many bytes a `BufferedSink` keeps back at most.
-const ROOM: usize = 8192;
+const ROOM: usize = 65_536;
 
 /// A `StdSink` that gathers what is written and passes it on once its room is full, so that a short piece is only copied. What it
 /// still keeps back is passed on by `flush`; where the writer fails, it is lost.
@@ -17,7 +18,7 @@ pub struct BufferedSink<W: Write> {
     bytes: [u8; ROOM],
     /// How many bytes are kept back.
     length: usize,
-    ghost within: { length ≤ 8192 },
+    ghost within: { length ≤ ROOM },
 }
 
 impl<W: Write> BufferedSink<W> {
@@ -62,15 +63,28 @@ impl<W: Write> BufferedSink<W> {
 
     /// Keeps a piece back, which fits.
     fn keep(&mut self, piece: &[u8])
-        requires { self.old.length + length piece.now ≤ 8192 }
+        requires { self.old.length + length piece.now ≤ ROOM }
         ensures kept { take self.new.length self.new.bytes ≡ take self.old.length self.old.bytes ++ piece.now }
         ensures inner { self.new.inner ≡ self.old.inner }
     {
-        write_over(&mut self.bytes, self.length, piece);
-        self.length += piece.len();
+        let end = self.length + piece.len();
+        self.bytes[self.length..end].copy_from_slice(piece);
+        self.length = end;
     }
 
-    /// Writes a piece that does not fit: what is kept back is passed on before it.
+    /// Keeps the front of a row back, which fits whole.
+    #[inline(always)]
+    fn keep_front(&mut self, row: &[u8; 48], count: usize)
+        requires count { count ≤ 48 }
+        requires room { self.old.length + 48 ≤ ROOM }
+        ensures kept { take self.new.length self.new.bytes ≡ take self.old.length self.old.bytes ++ take count row.now }
+        ensures inner { self.new.inner ≡ self.old.inner }
+    {
+        self.bytes[self.length..self.length + 48].copy_from_slice(row);
+        self.length += count;
+    }
+
+    /// Writes a piece that may not fit: what is kept back is passed on before it.
     #[tactic(auto, using(crate::proofs::Knowns::part_then, crate::proofs::Knowns::then_part))]
     #[cold]
     #[inline(never)]
@@ -111,12 +125,22 @@ impl<W: Write> Sink for BufferedSink<W> {
         self.keep(piece);
         Ok(())
     }
-}
 
-/// Writes over the bytes from `at` on.
-fn write_over(out: &mut [u8; ROOM], at: usize, piece: &[u8])
-    requires { at + length piece.now ≤ 8192 }
-    ensures { take (at + length piece.now) out.new ≡ take at out.old ++ piece.now }
-{
-    out[at..at + piece.len()].copy_from_slice(piece);
+    #[inline(always)]
+    fn write_front(&mut self, row: &[u8; 48], count: usize) -> Result<(), Failed>
+        requires { count ≤ 48 }
+        ensures bytes { Writes None None result (take count row.now) }
+        ensures passed { OnOk result (Appends (gathered (W.contents self.old.inner.inner) self.old.bytes self.old.length) (gathered (W.contents self.new.inner.inner) self.new.bytes self.new.length) (take count row.now)) }
+        ensures front { OnErr result (AppendsPart (W.contents self.old.inner.inner) (W.contents self.new.inner.inner) (take self.old.length self.old.bytes ++ take count row.now)) }
+        ensures lost { OnErr result (self.new.length ≡ 0) }
+        ensures cause { HasCause self.old.inner.faults self.new.inner.faults result }
+        ensures same { OnOk result (self.new.inner.faults ≡ self.old.inner.faults) }
+        ensures risen { OnErr result (self.new.inner.faults ≡ counted self.old.inner.faults) }
+    {
+        if ROOM - self.length < 48 {
+            return self.write_behind(&row[..count]);
+        }
+        self.keep_front(row, count);
+        Ok(())
+    }
 }

@@ -8,7 +8,7 @@ use fw_csr::{Reply, Request, Word};
 use fw_words::{Quadlet, with_field};
 
 /// A plug with its control register (IEC 61883-1, 7).
-#[derive(Clone, Copy, Debug, PartialEq, Eq)]
+#[derive(Clone, Copy)]
 pub struct Plug {
     pub word: Word,
     /// It goes on talking, or hearing, since a bus reset.

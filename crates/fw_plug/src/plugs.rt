@@ -20,7 +20,7 @@ pub const IMPR: u64 = REGISTER_SPACE + 0x980;
 pub const IPCR: u64 = REGISTER_SPACE + 0x984;
 
 /// The plugs of a device: at most 31 output plugs and at most 31 input plugs, with their registers (IEC 61883-1, 7).
-#[derive(Debug, Drop)]
+#[derive(Drop)]
 pub struct Plugs {
     rate: u8,
     outputs: Row,

@@ -11,7 +11,7 @@ use fw_csr::{Register, Reply, Request};
 use std::marker::Model;
 
 /// At most 31 plugs.
-#[derive(Debug, Drop)]
+#[derive(Drop)]
 pub struct Row {
     plugs: ArrayVec<Plug, 31>,
 }

@@ -5,11 +5,11 @@ ghost use Rattle.fw_plug.specs.Words.{is_connected};
 use fw_words::Quadlet;
 
 /// The word of an output plug control register, oPCR (IEC 61883-1).
-#[derive(Clone, Copy, Debug, PartialEq, Eq)]
+#[derive(Clone, Copy)]
 pub struct OutWord(pub u32);
 
 /// The word of an input plug control register, iPCR (IEC 61883-1).
-#[derive(Clone, Copy, Debug, PartialEq, Eq)]
+#[derive(Clone, Copy)]
 pub struct InWord(pub u32);
 
 impl OutWord {

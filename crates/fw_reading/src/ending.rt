@@ -15,7 +15,7 @@ pub enum LogEnding<R> {
 }
 
 /// What a word makes of the end of a log.
-#[derive(Debug, Drop)]
+#[derive(Drop)]
 pub enum Closing<R> {
     /// What is written there.
     Text(String),

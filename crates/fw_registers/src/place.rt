@@ -10,7 +10,7 @@ use fw_csr::{BANDWIDTH_AVAILABLE, BUS_MANAGER_ID, CHANNELS_AVAILABLE_HI, CHANNEL
 use fw_plug::{IMPR, IPCR, OMPR, OPCR};
 
 /// What stands at an offset of 48 bits in the address space of a node.
-#[derive(Clone, Copy, Debug, PartialEq, Eq)]
+#[derive(Clone, Copy)]
 pub enum Place {
     /// A register, and which of its row it is: 0 for one that stands alone.
     Named(Register, u16),

@@ -3,7 +3,7 @@
 ghost use Rattle.std.specs.Prelude.{◌≡◌};
 
 /// A register of a node, or a row of registers of one kind (IEEE 1212; IEEE 1394-1995, 8.3.2; IEC 61883-1, 7 and 9).
-#[derive(Clone, Copy, Debug, PartialEq, Eq)]
+#[derive(Clone, Copy)]
 pub enum Register {
     /// STATE_CLEAR.
     StateClear,

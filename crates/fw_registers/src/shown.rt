@@ -10,7 +10,7 @@ use std::alloc::AllocError;
 const NO_NODE: u32 = 63;
 
 /// What a field counts, so that a swap takes or adds so many.
-#[derive(Clone, Copy, Debug, PartialEq, Eq)]
+#[derive(Clone, Copy)]
 pub(crate) enum Amount {
     /// Bandwidth allocation units.
     Units,
@@ -54,7 +54,7 @@ impl Amount {
 }
 
 /// How the value of a field is shown.
-#[derive(Clone, Copy, Debug, PartialEq, Eq)]
+#[derive(Clone, Copy)]
 pub(crate) enum Shown {
     /// In decimal digits.
     Decimal,

@@ -9,7 +9,7 @@ use fw_words::Quadlet;
 use std::alloc::AllocError;
 
 /// What is told of a register.
-#[derive(Clone, Copy, Debug, PartialEq, Eq)]
+#[derive(Clone, Copy)]
 pub enum Told {
     /// The word that it holds, or that is written to it.
     Word(u32),

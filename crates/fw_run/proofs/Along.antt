@@ -1,98 +1,57 @@
 -- The account goes along the entries of actions, each answer is its word, and each front of what they write is reached.
-use Rattle.std.proofs.Common.{◌≡◌, ◌⊎◌, inl, inr, ℕ, ◌≤◌, cond, Bool, true, false, List, [], ◌∷◌, ◌++◌, Option, Some, None, refl, ap, sym, subst, ◌∙◌, arith, IsTrue, ◌+◌}
+use Rattle.std.proofs.Common.{◌≡◌, ◌⊎◌, inl, inr, cond, List, [], ◌∷◌, ◌++◌, Option, Some, None, refl, ap, sym, subst, ◌∙◌, arith, IsTrue}
 use Rattle.std.specs.Prelude.{⊤}
 use Rattle.fw_async.specs.declared.packet.Packet.{Packet}
 use Rattle.fw_entry.specs.declared.entry.Entry.{Entry}
-use Rattle.fw_entry.specs.declared.entry.Entry.TheVariants.{Async, Iso}
+use Rattle.fw_entry.specs.declared.entry.Entry.TheVariants.{Async}
 use Rattle.fw_entry.specs.declared.entry.Timed.{Timed}
-use Rattle.fw_tree.specs.Topology.{Topology}
 use Rattle.fw_account.specs.Account.{Account}
 use Rattle.fw_account.specs.Events.{after_second as account_second}
 use Rattle.fw_account.specs.Fold.{account_from, next_account, entries_of}
 use Rattle.fw_run.specs.declared.order.Transaction.{Transaction}
 use Rattle.fw_run.specs.Giving.{at_most, at_cycle}
-use Rattle.fw_run.specs.Entries.{second_over, died, started, inserted, ejected, unsettled, lost, withheld, dubbing}
-use Rattle.fw_entry.specs.declared.entry.Entry.TheVariants.{End as EndEntry}
-use Rattle.fw_run.specs.State.{State, Declared, is_on, with_device, is_living}
-use Rattle.fw_run.specs.Frames.{command_write, response_write}
+use Rattle.fw_run.specs.Entries.{second_over, died, started, withheld, dubbing}
+use Rattle.fw_run.specs.HalfSteps.{half}
+use Rattle.fw_run.specs.State.{State}
 use Rattle.fw_run.specs.Spaces.{answer_packet, target_node, transaction_head, access_request}
-use Rattle.fw_run.specs.Streams.{bytes_of, cycle_start, stream_packet}
-use Rattle.fw_run.specs.Actions.{Action, Withhold, AddDevice, AddCable, ResetBus, StartConnection, StartBreak, HalfStep, Rest, Unsettled, Pass, EndSecond, Die, CarryOut, Lose, TellLoss, Start, Ask, Answer, ShowWord, SendCommand, SendFrame, Receive, InsertTape, EjectTape, StartCycle, SendPacket, BecomeCandidate, Contend, TieReel, KeepBlock, Finish, Answers, Declares, Joins, with_topology, Step, Steps}
+use Rattle.fw_run.specs.Actions.{Action, Answer, Answers, Step, Steps}
+use Rattle.fw_run.specs.Bidding.{bid_step}
 use Rattle.fw_run.specs.Good.{IsGood}
 use Rattle.fw_run.specs.Headline.{IsAnswered, IsReadIn}
-use Rattle.fw_run.proofs.Bidding.{bids_led}
-use Rattle.fw_run.proofs.Leads.{NextIs, entered_next}
-use Rattle.fw_run.proofs.Led.{Led, Says, IsAsked, unread, led_says, led_silent, half_led, reset_led}
+use Rattle.fw_run.proofs.Bidding.{bid_leaves}
+use Rattle.fw_run.proofs.Alterations.{Allows, Alteration, Answered, Asked, AtUnits, Beside, Bid, Died, Halved, Over, Started, Tied, Withheld, altered, told_by}
+use Rattle.fw_run.proofs.Effects.{Effect, altering, effect, resetting}
+use Rattle.fw_run.proofs.Leads.{NextIs, entered_next, half_next}
+use Rattle.fw_run.proofs.Led.{Led, IsAsked, led_says, half_says, reset_led}
 use Rattle.fw_run.proofs.Steps.{step_good}
-use Rattle.fw_run.proofs.FrameWrites.{write_led, received_led}
-use Rattle.fw_run.proofs.Transactions.{ask_led, answer_led, show_led, read_pair}
-use Rattle.fw_run.proofs.Taking.{Taken, listens, keeps_deaf, forces_reset, taken_as}
+use Rattle.fw_run.proofs.Transactions.{ask_led, answer_leaves, read_pair}
 use Rattle.fw_run.proofs.Withholds.{none_before, withheld_next}
 
--- ---- devices and cables
-
-declare_led : (s : State) (names : List (List ℕ)) (n : Declared) (out : List Timed) (t : State) → Declares names (record s { declared = n }) out t → Led s out t
-declare_led s [] n out t r = reset_led s n 1 s.half_steps 0 out t r
-declare_led s (x ∷ names) n out t r = led_silent s out t r.0 (ap (λ (z : State). z.account) r.1) (let same = ap (λ (z : State). z.clock.cycle) r.1 in omega (arith, same))
-
-join_led : (x y : Bool) (a b : ℕ) (s : State) (g : Topology) (out : List Timed) (t : State) → Joins x y a b (with_topology s g) out t → Led s out t
-join_led true false a b s g out t r = reset_led s (record s.declared { topology = g }) (s.resets + 1) s.half_steps a out t r.1
-join_led false true a b s g out t r = reset_led s (record s.declared { topology = g }) (s.resets + 1) s.half_steps b out t r.1
-join_led true true a b s g out t r = led_silent s out t r.0 (ap (λ (z : State). z.account) r.1) (let same = ap (λ (z : State). z.clock.cycle) r.1 in omega (arith, same))
-join_led false false a b s g out t r = led_silent s out t r.0 (ap (λ (z : State). z.account) r.1) (let same = ap (λ (z : State). z.clock.cycle) r.1 in omega (arith, same))
-
 -- ---- each action
-
--- one that writes nothing
-still : (s u : State) (out : List Timed) (t : State) → out ≡ [] → t ≡ u → u.account ≡ s.account → s.clock.cycle ≤ u.clock.cycle → Led s out t
-still s u out t none is same later = led_silent s out t none (ap (λ (z : State). z.account) is ∙ same) (let at = ap (λ (z : State). z.clock.cycle) is in omega (arith, later, at))
-
--- one that writes an entry which shows no word
-event : (s u : State) (e : Entry) (out : List Timed) (t : State) → out ≡ at_most u.clock.cycle (Some e) → t ≡ u → NextIs s.account (Some e) u.account → Says s.account (Some e) → s.clock.cycle ≤ u.clock.cycle → Led s out t
-event s u e out t is same next says later =
-    let at = ap (λ (z : State). z.clock.cycle) same in
-    led_says s (Some e) out t (is ∙ ap (λ c. at_most c (Some e)) (sym at)) (next ∙ ap (λ (z : State). Some z.account) (sym same)) says (omega (arith, later, at))
 
 second_next : (l : Account) → IsTrue l.reclaiming → next_account l second_over ≡ Some (account_second l)
 second_next l runs = ap (λ b. cond b (Some (account_second l)) None) runs
 
-taken_led : (s : State) (d : ℕ) (out : List Timed) (t : State) → IsGood s → IsTrue (is_living s d) → Taken s d out t → Led s out t
-taken_led s d out t g lives (listens quiet said is) = half_led s d out t g lives said (ap (λ (z : State). z.account) is) (ap (λ (z : State). z.clock) is)
-taken_led s d out t g lives (keeps_deaf deaf said is) = still s _ out t said is refl (omega arith)
-taken_led s d out t g lives (forces_reset deaf r) = reset_led s s.declared s.resets (s.half_steps + 1) d out t r
+effect_led : (s t : State) (a : Action) (out : List Timed) → IsGood s → Effect s a out t → Led s out t
+effect_led s t a out g (resetting counts half_steps n initiator free begins may r) = reset_led s n counts half_steps initiator out t r
+effect_led s t a out g (altering y waits said is ok) = subst (λ (z : State). Led s out z) (sym is) (by y said ok)
+  where
+    by : (y : Alteration) → out ≡ at_most (altered s y).clock.cycle (told_by s y) → Allows s a y → Led s out (altered s y)
+    by (Halved d lost resets half_steps) said ok = led_says s (half s d).says out _ said (half_next s d g ok.2) (half_says s d g ok.2) (omega arith)
+    by Over said ok = led_says s (Some second_over) out _ said (entered_next s.account _ second_over (second_next s.account ok.1)) ((tt, tt), λ u. tt) (omega arith)
+    by (Died d) said ok = led_says s (Some (died d)) out _ said refl ((tt, tt), λ u. tt) (omega arith)
+    by (Started d) said ok = led_says s (Some (started d)) out _ said refl ((tt, tt), λ u. tt) (omega arith)
+    by Withheld said ok = led_says s (Some withheld) out _ said (entered_next s.account _ withheld (withheld_next s.account (none_before s g ok.1))) ((tt, tt), λ u. tt) (omega arith)
+    by (Asked x) said ok = ask_led s x out _ ok.2 said refl
+    by (Answered x p) said ok = let leaves = answer_leaves s x p ok.1 in led_says s (Some (Async p)) out _ said leaves.0 leaves.1 (omega arith)
+    by (Bid d manager c) said ok = let leaves = bid_leaves s d manager c in led_says s (bid_step s d manager c).says out _ said leaves.0 leaves.1 (omega arith)
+    by (Tied d) said ok = led_says s (Some (dubbing d)) out _ said refl ((tt, tt), λ u. tt) (omega arith)
+    by (Beside says half_steps written frame) said ok = let leaves = ok.3 g in led_says s says out _ said leaves.0 leaves.1 (omega arith)
+    by (AtUnits says decks frame) said ok = let leaves = ok.4 g in led_says s says out _ said leaves.0 leaves.1 (omega arith)
+    by _ said ok = led_says s None out _ said refl tt (omega arith)
 
 pub step_led : (s t : State) (a : Action) (out : List Timed) → IsGood s → Step s a out t → Led s out t
-step_led s t Withhold out g x = event s _ withheld out t x.1.2 x.1.3 (entered_next s.account _ withheld (withheld_next s.account (none_before s g x.1.0))) ((tt, tt), λ u. tt) (omega arith)
-step_led s t (AddDevice name kind ports speed) out g x = declare_led s s.declared.names (with_device s.declared name kind ports speed) out t x.1.4
-step_led s t (AddCable a b) out g x = join_led (is_on s a.device) (is_on s b.device) a.device b.device s x.1.0 out t x.1.2
-step_led s t (ResetBus d) out g x = reset_led s s.declared (s.resets + 1) s.half_steps d out t x.1.1.1
-step_led s t (StartConnection d w) out g x = still s _ out t x.1.3 x.1.4 refl (omega arith)
-step_led s t (StartBreak d i) out g x = still s _ out t x.1.2 x.1.3 refl (omega arith)
-step_led s t (HalfStep d) out g x = taken_led s d out t g x.1.0 (taken_as s d out t x.1.2)
-step_led s t (Rest n) out g x = still s _ out t x.1.2 x.1.3 refl (omega arith)
-step_led s t Unsettled out g x = event s _ unsettled out t x.1.1 x.1.2 refl ((tt, tt), λ u. tt) (omega arith)
-step_led s t (Pass n) out g x = still s _ out t x.1.2 x.1.3 refl (omega arith)
-step_led s t EndSecond out g x = event s _ second_over out t x.1.3 x.1.4 (entered_next s.account _ second_over (second_next s.account x.1.1)) ((tt, tt), λ u. tt) (omega arith)
-step_led s t (Die d) out g x = event s _ (died d) out t x.1.1 x.1.2 refl ((tt, tt), λ u. tt) (omega arith)
-step_led s t (CarryOut d) out g x = half_led s d out t g x.1.0 x.1.2 (ap (λ (z : State). z.account) x.1.3) (ap (λ (z : State). z.clock) x.1.3)
-step_led s t (Lose d) out g x = half_led s d out t g x.1.0 x.1.3 (ap (λ (z : State). z.account) x.1.4) (ap (λ (z : State). z.clock) x.1.4)
-step_led s t (TellLoss d) out g x = event s _ (lost d) out t x.1.1 x.1.2 refl ((tt, tt), λ u. tt) (omega arith)
-step_led s t (Start d) out g x = event s _ (started d) out t x.1.2 x.1.3 refl ((tt, tt), λ u. tt) (omega arith)
-step_led s t (Ask y) out g x = ask_led s y out t x.1.1 x.1.3 x.1.4
-step_led s t Answer out g x = answer_led s out t x
-step_led s t (ShowWord d offset) out g x = show_led s d offset out t g x.1.0 x.1.2 x.1.3 x.1.4
-step_led s t (SendCommand a b bytes) out g x = write_led s (command_write a b bytes) _ out t x.1.3 x.1.4 refl refl
-step_led s t (SendFrame d) out g x = let y = x.1 in write_led s (response_write d y.to y.told.1) _ out t y.out_is y.state_is refl refl
-step_led s t (Receive o) out g x = received_led s o out t x.1
-step_led s t (InsertTape d tape system) out g x = event s _ (inserted d tape system) out t x.1.3 x.1.4 refl ((tt, tt), λ u. tt) (omega arith)
-step_led s t (EjectTape d) out g x = event s _ (ejected d) out t x.1.3 x.1.4 refl ((tt, tt), λ u. tt) (omega arith)
-step_led s t StartCycle out g x = event s _ (Async (cycle_start x.1.1.0.root s.clock.cycle)) out t x.1.1.2 x.1.2 refl ((tt, tt), unread s.account (cycle_start x.1.1.0.root s.clock.cycle) (λ q. tt)) (omega arith)
-step_led s t (SendPacket p block) out g x = event s _ (Iso (stream_packet s p (bytes_of block))) out t x.1.2 x.1.3 refl ((tt, tt), λ u. tt) (omega arith)
-step_led s t (BecomeCandidate d) out g x = still s _ out t x.1.3 x.1.4 refl (omega arith)
-step_led s t (Contend d) out g x = bids_led s d out t x.1
-step_led s t (TieReel d) out g x = event s _ (dubbing d) out t x.1.3 x.1.4 refl ((tt, tt), λ u. tt) (omega arith)
-step_led s t (KeepBlock block) out g x = still s _ out t x.1.0 x.1.1 refl (omega arith)
-step_led s t Finish out g x = event s _ EndEntry out t x.1.0 x.1.1 refl ((tt, tt), λ u. tt) (omega arith)
+step_led s t a out g x = effect_led s t a out g (effect s a out t x)
 
 -- ---- what follows an entry
 
@@ -106,36 +65,7 @@ clash o x some none = let wrong : Some x ≡ None = sym some ∙ none in cc wron
 -- no other action comes while a transaction waits
 only_answer : (t : State) (x : Transaction) (a : Action) (out : List Timed) (v : State) → t.transaction ≡ Some x → Step t a out v → Answers t out v
 only_answer t x Answer out v waits f = f
-only_answer t x Withhold out v waits f = absurd (clash t.transaction x waits f.0)
-only_answer t x (AddDevice name kind ports speed) out v waits f = absurd (clash t.transaction x waits f.0)
-only_answer t x (AddCable a b) out v waits f = absurd (clash t.transaction x waits f.0)
-only_answer t x (ResetBus d) out v waits f = absurd (clash t.transaction x waits f.0)
-only_answer t x (StartConnection d w) out v waits f = absurd (clash t.transaction x waits f.0)
-only_answer t x (StartBreak d i) out v waits f = absurd (clash t.transaction x waits f.0)
-only_answer t x (HalfStep d) out v waits f = absurd (clash t.transaction x waits f.0)
-only_answer t x (Rest n) out v waits f = absurd (clash t.transaction x waits f.0)
-only_answer t x Unsettled out v waits f = absurd (clash t.transaction x waits f.0)
-only_answer t x (Pass n) out v waits f = absurd (clash t.transaction x waits f.0)
-only_answer t x EndSecond out v waits f = absurd (clash t.transaction x waits f.0)
-only_answer t x (Die d) out v waits f = absurd (clash t.transaction x waits f.0)
-only_answer t x (CarryOut d) out v waits f = absurd (clash t.transaction x waits f.0)
-only_answer t x (Lose d) out v waits f = absurd (clash t.transaction x waits f.0)
-only_answer t x (TellLoss d) out v waits f = absurd (clash t.transaction x waits f.0)
-only_answer t x (Start d) out v waits f = absurd (clash t.transaction x waits f.0)
-only_answer t x (Ask y) out v waits f = absurd (clash t.transaction x waits f.0)
-only_answer t x (ShowWord d offset) out v waits f = absurd (clash t.transaction x waits f.0)
-only_answer t x (SendCommand a b bytes) out v waits f = absurd (clash t.transaction x waits f.0)
-only_answer t x (SendFrame d) out v waits f = absurd (clash t.transaction x waits f.0)
-only_answer t x (Receive o) out v waits f = absurd (clash t.transaction x waits f.0)
-only_answer t x (InsertTape d tape system) out v waits f = absurd (clash t.transaction x waits f.0)
-only_answer t x (EjectTape d) out v waits f = absurd (clash t.transaction x waits f.0)
-only_answer t x StartCycle out v waits f = absurd (clash t.transaction x waits f.0)
-only_answer t x (SendPacket p block) out v waits f = absurd (clash t.transaction x waits f.0)
-only_answer t x (BecomeCandidate d) out v waits f = absurd (clash t.transaction x waits f.0)
-only_answer t x (Contend d) out v waits f = absurd (clash t.transaction x waits f.0)
-only_answer t x (TieReel d) out v waits f = absurd (clash t.transaction x waits f.0)
-only_answer t x (KeepBlock block) out v waits f = absurd (clash t.transaction x waits f.0)
-only_answer t x Finish out v waits f = absurd (clash t.transaction x waits f.0)
+only_answer t x _ out v waits f = absurd (clash t.transaction x waits f.0)
 
 -- the packet that answers a transaction
 abbrev IsResponseTo : State → Transaction → Packet → Type 0

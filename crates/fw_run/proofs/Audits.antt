@@ -5,9 +5,9 @@ use Rattle.fw_entry.specs.declared.entry.Timed.{Timed}
 use Rattle.fw_account.specs.Account.{Account}
 use Rattle.fw_account.specs.Fold.{account_of, entries_of}
 use Rattle.fw_account.specs.Sound.{IsSound, IsConflictFree}
-use Rattle.fw_audit.specs.Looked.{looked, ShowsWords}
-use Rattle.fw_audit.specs.Audited.{IsAudited, IsVouched}
-use Rattle.fw_audit.proofs.Vouched.{vouched_audited}
+use Rattle.fw_faults.specs.Looked.{looked, ShowsWords}
+use Rattle.fw_faults.specs.Audited.{IsAudited, IsVouched}
+use Rattle.fw_faults.proofs.Vouched.{vouched_audited}
 use Rattle.fw_run.specs.State.{State, first_state}
 use Rattle.fw_run.specs.Actions.{Action, Steps}
 use Rattle.fw_run.specs.Headline.{IsSoundThroughout}

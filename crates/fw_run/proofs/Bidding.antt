@@ -1,14 +1,12 @@
 -- A half step of a candidate: what it writes changes nothing of the account, and may be written.
-use Rattle.std.proofs.Common.{◌≡◌, ℕ, ◌≤◌, ◌<◌, ◌^◌, ◌==◌, ◌++◌, cond, Bool, true, false, List, Option, Some, None, refl, ap, sym, subst, ◌∙◌, arith, IsTrue}
+use Rattle.std.proofs.Common.{◌≡◌, ℕ, ◌≤◌, ◌<◌, ◌^◌, ◌==◌, ◌++◌, cond, Bool, true, false, Option, Some, None, refl, ap, ◌∙◌, arith, IsTrue}
 use Rattle.std.specs.Int.{to_be_bytes, w32}
 use Rattle.fw_async.specs.Async.{HeadFits}
 use Rattle.fw_cmp.specs.Requests.{swap_bytes}
 use Rattle.fw_csr.specs.Manager.{after_at}
 use Rattle.fw_csr.specs.declared.request.Swap.{Swap}
-use Rattle.fw_entry.specs.declared.entry.Entry.{Entry}
 use Rattle.fw_entry.specs.declared.entry.Entry.TheVariants.{Async}
 use Rattle.fw_entry.specs.declared.entry.ResetEntry.{ResetEntry}
-use Rattle.fw_entry.specs.declared.entry.Timed.{Timed}
 use Rattle.fw_async.specs.declared.packet.Packet.TheVariants.{LockReply}
 use Rattle.fw_manager.specs.Bids.{CandidateState, stage_in, bid_request}
 use Rattle.fw_manager.specs.declared.bid.Bid.TheVariants.{Elected, Defeated}
@@ -16,7 +14,7 @@ use Rattle.fw_manager.specs.declared.candidate.Stage.{Stage}
 use Rattle.fw_manager.specs.declared.candidate.Stage.TheVariants.{Fresh, Asked, Heard, Answered}
 use Rattle.fw_node.specs.Packets.{packet_of, response_head, old_bytes}
 use Rattle.fw_words.specs.Quadlet.{quadlet_at}
-use Rattle.fw_run.specs.Bidding.{Bids, bid_head, bid_said, bid_at, bid_step, epoch_at, own_node}
+use Rattle.fw_run.specs.Bidding.{bid_head, bid_said, bid_at, bid_step, epoch_at, own_node}
 use Rattle.fw_run.specs.Good.{IsGood, IsLatest}
 use Rattle.fw_run.specs.Numbers.{HasNumbers}
 use Rattle.fw_run.specs.Spaces.{reply_from}
@@ -24,37 +22,29 @@ use Rattle.fw_run.specs.State.{State, number_in, manager_in, is_living}
 use Rattle.fw_run.proofs.Bounds.{node_few, number_few, node_fits, ReplyFits}
 use Rattle.fw_run.proofs.Events.{living_small}
 use Rattle.fw_run.proofs.Fitting.{EntryFits, request_fits, response_fits}
-use Rattle.fw_run.proofs.Leads.{NextIs}
-use Rattle.fw_run.proofs.Led.{Led, Says, led_now, unlabelled_swap, unread}
+use Rattle.fw_run.proofs.Led.{LeavesAccount, unlabelled_swap, unread}
 use Rattle.fw_run.proofs.Responses.{IsNode}
 
 -- ---- the account
 
-abbrev Quiet : State → Option Entry → Type 0
-Quiet s o = NextIs s.account o s.account × Says s.account o
-
-bid_quiet : (s : State) (d manager : ℕ) (c : CandidateState) (stage : Stage) → Quiet s (bid_at s d manager c stage).says
-bid_quiet s d manager c Fresh =
+at_leaves : (s : State) (d manager : ℕ) (c : CandidateState) (stage : Stage) → LeavesAccount s.account (bid_at s d manager c stage).says
+at_leaves s d manager c Fresh =
     let h = bid_head manager (own_node s d) in
     let swap : Swap = record { argument = 0x3F; new = own_node s d } in
     (refl, ((tt, tt), unread s.account (packet_of h (bid_request (own_node s d))) (λ q. unlabelled_swap s.account h 0xFFFF_F000_021C 2 (swap_bytes swap) q (λ e. absurd (omega (arith, e))))))
-bid_quiet s d manager c Asked =
+at_leaves s d manager c Asked =
     let h = response_head manager (bid_head manager (own_node s d)) in
     let r = reply_from s manager (bid_request (own_node s d)) in
     (refl, ((tt, tt), unread s.account (LockReply h r.rcode 2 (old_bytes r)) (λ q. tt)))
-bid_quiet s d manager c (Heard word) = ends (word == 0x3F)
+at_leaves s d manager c (Heard word) = ends (word == 0x3F)
   where
-    ends : (b : Bool) → Quiet s (bid_said s d (cond b Elected (Defeated word)))
+    ends : (b : Bool) → LeavesAccount s.account (bid_said s d (cond b Elected (Defeated word)))
     ends true = (refl, ((tt, tt), λ u. tt))
     ends false = (refl, ((tt, tt), λ u. tt))
-bid_quiet s d manager c Answered = (refl, tt)
+at_leaves s d manager c Answered = (refl, tt)
 
-pub bids_led : (s : State) (d : ℕ) (out : List Timed) (t : State) → Bids s d out t → Led s out t
-bids_led s d out t f =
-    let says = (bid_step s d f.manager f.candidate).says in
-    let quiet = bid_quiet s d f.manager f.candidate (stage_in (epoch_at s) f.candidate) in
-    led_now s says out t (ap (λ (z : State). z.clock.cycle) f.state_is) f.out_is
-    (subst (λ l. NextIs s.account says l) (sym (ap (λ (z : State). z.account) f.state_is)) quiet.0) quiet.1
+pub bid_leaves : (s : State) (d manager : ℕ) (c : CandidateState) → LeavesAccount s.account (bid_step s d manager c).says
+bid_leaves s d manager c = at_leaves s d manager c (stage_in (epoch_at s) c)
 
 -- ---- the manager
 

@@ -18,7 +18,7 @@ use Rattle.fw_csr.specs.Requests.{quadlet_swap}
 use Rattle.fw_cmp.specs.Requests.{request_at, swap_bytes}
 use Rattle.fw_csr.specs.Manager.{ManagerWords}
 use Rattle.fw_csr.specs.Replies.{reply, swap_reply}
-use Rattle.fw_plug.specs.Plugs.{plug_at, plug_register, output_at, input_at, output_master, input_master}
+use Rattle.fw_plug.specs.Plugs.{plug_at, plug_register, output_master, input_master}
 use Rattle.fw_entry.specs.declared.entry.ResetEntry.{ResetEntry}
 use Rattle.fw_entry.specs.declared.nodes.NodeRow.{NodeRow}
 use Rattle.fw_entry.specs.Log.{devices}

@@ -5,7 +5,7 @@ use Rattle.fw_entry.specs.declared.entry.Timed.{Timed}
 use Rattle.fw_tree.specs.declared.facts.End.{End}
 use Rattle.fw_tree.specs.declared.facts.PhyFacts.{PhyFacts}
 use Rattle.fw_tree.specs.Cables.{IsOnBus}
-use Rattle.fw_tree.specs.Topology.{Topology, Made, IsJoined}
+use Rattle.fw_tree.specs.Topology.{Topology, IsJoined}
 use Rattle.fw_tree.specs.Topology as Topologies
 use Rattle.fw_devices.specs.Network.{AreKinds, kind_at}
 use Rattle.fw_devices.specs.Entries.{node_number, row_of}
@@ -47,9 +47,6 @@ on_some s d g on = go s.account.latest refl g.latest on
     go (Some e) is h num = h.0
 
 -- ---- a cable more
-
-cabled : State → Topology → Declared
-cabled s u = record s.declared { topology = u }
 
 pub cabled_declared : (n : Declared) (u : Topology) (a b : End) → IsJoined n.topology u a b → AreDeclared n → AreDeclared (record n { topology = u })
 cabled_declared n u a b j h = record {

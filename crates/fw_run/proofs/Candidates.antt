@@ -20,17 +20,16 @@ use Rattle.fw_run.specs.Candidates.{HasCandidates}
 use Rattle.fw_run.specs.Elections.{Election, is_capable}
 use Rattle.fw_run.specs.Good.{IsGood, IsLatest}
 use Rattle.fw_run.specs.State.{State, Declared, epoch_of, first_state, with_device, number_in, manager_in, linked_number, with_link, is_on, is_linked, is_living}
-use Rattle.fw_run.specs.Actions.{Action, Withhold, AddDevice, AddCable, ResetBus, StartConnection, StartBreak, HalfStep, Rest, Unsettled, Pass, EndSecond, Die, CarryOut, Lose, TellLoss, Start, Ask, Answer, ShowWord, SendCommand, SendFrame, Receive, InsertTape, EjectTape, StartCycle, SendPacket, BecomeCandidate, Contend, TieReel, KeepBlock, Finish, Resets, Declares, Joins, after_death, after_start, with_topology, counting, beginning, counted, Step}
-use Rattle.fw_run.proofs.Cables.{cabled_may, begun_may, forced_may, on_some}
+use Rattle.fw_run.specs.Actions.{Action, Resets, after_death, after_start, Step}
 use Rattle.fw_run.proofs.Contending.{each_candidate, no_candidate}
-use Rattle.fw_run.proofs.Declares.{first_may}
 use Rattle.fw_run.proofs.Grows.{Number, number_there, manager_there}
 use Rattle.fw_run.proofs.Resets.{declaring, MayReset, reset_shows, still_living}
 use Rattle.fw_run.proofs.Settling.{half_turn}
-use Rattle.fw_run.proofs.Taking.{Taken, listens, keeps_deaf, forces_reset, taken_as}
 use Rattle.fw_run.proofs.Times.{second_ends}
 use Rattle.fw_run.proofs.Turns.{living_linked, update_new, update_others}
 use Rattle.fw_run.proofs.Withholds.{withholding_keeps}
+use Rattle.fw_run.proofs.Alterations.{Allows, Alteration, Bid, Candidate, Died, Halved, NewDevice, Over, Started, Withheld, altered}
+use Rattle.fw_run.proofs.Effects.{Effect, altering, effect, numbered, resetting}
 
 pub first_candidates : HasCandidates first_state
 first_candidates = record { lives = λ d is. absurd (cc is); capable = λ d is. absurd (cc is); past = λ d c is. absurd (cc is); manages = λ d on. absurd (cc on) }
@@ -46,9 +45,6 @@ same_candidates s t election latest dead kinds h = record {
   where
     there : (d : ℕ) → IsTrue (is_candidate t d) → IsTrue (is_candidate s d)
     there d is = subst (λ (e : Election). IsTrue (is_some (e.candidates d))) election is
-
-as_it_was : (s u t : State) → u.election ≡ s.election → u.account.latest ≡ s.account.latest → u.dead ≡ s.dead → u.declared.kinds ≡ s.declared.kinds → t ≡ u → HasCandidates s → HasCandidates t
-as_it_was s u t election latest dead kinds is h = subst HasCandidates (sym is) (same_candidates s u election latest dead kinds h)
 
 -- ---- bus resets
 
@@ -154,67 +150,30 @@ bid_epoch s d manager c before = go (stage_in (epoch_at s) c)
 
 -- ---- each action
 
-declares_candidates : (s : State) (name : List ℕ) (kind : DeviceKind) (ports speed : ℕ) (out : List Timed) (t : State) → IsGood s → HasCandidates s
-    → (s.declared.names ≡ [] → MayReset (beginning s) (with_device s.declared name kind ports speed)) → Declares s.declared.names (declaring s (with_device s.declared name kind ports speed)) out t → HasCandidates t
-declares_candidates s name kind ports speed out t g h may = go s.declared.names refl
-  where
-    go : (names : List (List ℕ)) → s.declared.names ≡ names → Declares names (declaring s (with_device s.declared name kind ports speed)) out t → HasCandidates t
-    go [] none r = resets_candidates (beginning s) (with_device s.declared name kind ports speed) 0 out t (may none) (same_candidates s (beginning s) refl refl refl refl h) r
-    go (x ∷ names) more r = subst HasCandidates (sym r.1) (more_candidates s name kind ports speed g h)
-
-counting_candidates : (s : State) → HasCandidates s → HasCandidates (counting s)
-counting_candidates s h = same_candidates s (counting s) refl refl refl refl h
-
-taken_candidates : (s : State) (d : ℕ) (out : List Timed) (t : State) → IsGood s → HasCandidates s → IsTrue (is_living s d) → s.half_steps < 4000000 → Taken s d out t → HasCandidates t
-taken_candidates s d out t g h lives few (listens quiet said is) = as_it_was s _ t refl (half_turn s d g lives).1.latest refl refl is h
-taken_candidates s d out t g h lives few (keeps_deaf deaf said is) = as_it_was s _ t refl refl refl refl is h
-taken_candidates s d out t g h lives few (forces_reset deaf r) =
-    resets_candidates (counted s 1) s.declared d out t (forced_may s d g lives deaf few) (same_candidates s (counted s 1) refl refl refl refl h) r
-
 pub step_candidates : (s : State) (a : Action) (out : List Timed) (t : State) → IsGood s → HasCandidates s → Step s a out t → HasCandidates t
-step_candidates s Withhold out t g h x = as_it_was s _ t refl (withholding_keeps (λ (l : Account). l.latest) s.account refl) refl refl x.1.3 h
-step_candidates s (AddDevice name kind ports speed) out t g h x = declares_candidates s name kind ports speed out t g h (λ empty. first_may s name kind ports speed (record { good = g; room = x.1.0; some = x.1.1; most = x.1.2; fast = x.1.3 }) empty) x.1.4
-step_candidates s (AddCable a b) out t g h x = go (is_on s a.device) (is_on s b.device) refl refl x.1.2
+step_candidates s a out t g h x = go (effect s a out t x)
   where
-    n : Declared
-    n = record s.declared { topology = x.1.0 }
+    by : (y : Alteration) → Allows s a y → HasCandidates (altered s y)
+    by (NewDevice name kind ports speed) ok = more_candidates s name kind ports speed g h
+    by (Halved d lost resets half_steps) ok = same_candidates s _ refl (half_turn s d g ok.2).1.latest refl refl h
+    by Over ok = same_candidates s _ refl (ap (λ (l : Account). l.latest) (second_ends s.account ok.1)) refl refl h
+    by (Died d) ok = record {
+      lives = λ k is. (others_live s d h k is).0;
+      capable = λ k is. h.capable k (others_live s d h k is).1;
+      past = each_candidate (λ k c. c.epoch ≤ epoch_of s.account.latest) s.election.candidates d None (λ c is. absurd (no_candidate c is)) (λ k c ne is. h.past k c is);
+      manages = h.manages;
+    }
+    by (Started d) ok = record { lives = λ k is. start_lives s d k (h.lives k is); capable = h.capable; past = h.past; manages = h.manages }
+    by Withheld ok = same_candidates s _ refl (withholding_keeps (λ (l : Account). l.latest) s.account refl) refl refl h
+    by (Candidate d) ok = one_candidate s _ d _ refl refl refl refl (omega arith) ok.1 ok.2 h
+    by (Bid d manager c) ok =
+        let one : IsTrue (is_candidate s d) = ap is_some ok.2 in
+        one_candidate s _ d _ refl refl refl refl (bid_epoch s d manager c (h.past d c ok.2)) ok.1 (h.capable d one) h
+    by _ ok = same_candidates s _ refl refl refl refl h
 
-    go : (y z : Bool) → is_on s a.device ≡ y → is_on s b.device ≡ z → Joins y z a.device b.device (with_topology s x.1.0) out t → HasCandidates t
-    go true false on_a off_b r = resets_candidates (counting s) n a.device out t (cabled_may s x.1.0 a b g x.1.1 (on_some s a.device g on_a) r.0) (counting_candidates s h) r.1
-    go false true off_a on_b r = resets_candidates (counting s) n b.device out t (cabled_may s x.1.0 a b g x.1.1 (on_some s b.device g on_b) r.0) (counting_candidates s h) r.1
-    go true true on_a on_b r = as_it_was s _ t refl refl refl refl r.1 h
-    go false false off_a off_b r = as_it_was s _ t refl refl refl refl r.1 h
-step_candidates s (ResetBus d) out t g h x = resets_candidates (counting s) s.declared d out t (begun_may s d g x.1.0 x.1.1.0) (counting_candidates s h) x.1.1.1
-step_candidates s (StartConnection d w) out t g h x = as_it_was s _ t refl refl refl refl x.1.4 h
-step_candidates s (StartBreak d i) out t g h x = as_it_was s _ t refl refl refl refl x.1.3 h
-step_candidates s (HalfStep d) out t g h x = taken_candidates s d out t g h x.1.0 x.1.1 (taken_as s d out t x.1.2)
-step_candidates s (Rest n) out t g h x = as_it_was s _ t refl refl refl refl x.1.3 h
-step_candidates s Unsettled out t g h x = as_it_was s _ t refl refl refl refl x.1.2 h
-step_candidates s (Pass n) out t g h x = as_it_was s _ t refl refl refl refl x.1.3 h
-step_candidates s EndSecond out t g h x = as_it_was s _ t refl (ap (λ (l : Account). l.latest) (second_ends s.account x.1.1)) refl refl x.1.4 h
-step_candidates s (Die d) out t g h x = subst HasCandidates (sym x.1.2) (record { lives = λ k is. (others_live s d h k is).0; capable = λ k is. h.capable k (others_live s d h k is).1; past = each_candidate (λ k c. c.epoch ≤ epoch_of s.account.latest) s.election.candidates d None (λ c is. absurd (no_candidate c is)) (λ k c ne is. h.past k c is); manages = h.manages })
-step_candidates s (CarryOut d) out t g h x = as_it_was s _ t refl (half_turn s d g x.1.0).1.latest refl refl x.1.3 h
-step_candidates s (Lose d) out t g h x = as_it_was s _ t refl (half_turn s d g x.1.0).1.latest refl refl x.1.4 h
-step_candidates s (TellLoss d) out t g h x = as_it_was s _ t refl refl refl refl x.1.2 h
-step_candidates s (Start d) out t g h x = subst HasCandidates (sym x.1.3) (record { lives = λ k is. start_lives s d k (h.lives k is); capable = h.capable; past = h.past; manages = h.manages })
-step_candidates s (Ask y) out t g h x = as_it_was s _ t refl refl refl refl x.1.4 h
-step_candidates s Answer out t g h x = as_it_was s _ t refl refl refl refl x.state_is h
-step_candidates s (ShowWord d offset) out t g h x = as_it_was s s t refl refl refl refl x.1.4 h
-step_candidates s (SendCommand a b bytes) out t g h x = as_it_was s _ t refl refl refl refl x.1.4 h
-step_candidates s (SendFrame d) out t g h x = as_it_was s _ t refl refl refl refl x.1.state_is h
-step_candidates s (Receive o) out t g h x = as_it_was s _ t refl refl refl refl x.1.state_is h
-step_candidates s (InsertTape d tape system) out t g h x = as_it_was s _ t refl refl refl refl x.1.4 h
-step_candidates s (EjectTape d) out t g h x = as_it_was s _ t refl refl refl refl x.1.4 h
-step_candidates s StartCycle out t g h x = as_it_was s _ t refl refl refl refl x.1.2 h
-step_candidates s (SendPacket p block) out t g h x = as_it_was s s t refl refl refl refl x.1.3 h
-step_candidates s (BecomeCandidate d) out t g h x = subst HasCandidates (sym x.1.4) (one_candidate s _ d _ refl refl refl refl (omega arith) x.1.0 x.1.1 h)
-step_candidates s (Contend d) out t g h x =
-    let y = x.1 in
-    let one : IsTrue (is_candidate s d) = ap is_some y.is in
-    subst HasCandidates (sym y.state_is) (one_candidate s _ d _ refl refl refl refl (bid_epoch s d y.manager y.candidate (h.past d y.candidate y.is)) y.lives (h.capable d one) h)
-step_candidates s (TieReel d) out t g h x = as_it_was s _ t refl refl refl refl x.1.4 h
-step_candidates s (KeepBlock block) out t g h x = as_it_was s _ t refl refl refl refl x.1.1 h
-step_candidates s Finish out t g h x = as_it_was s _ t refl refl refl refl x.1.1 h
+    go : Effect s a out t → HasCandidates t
+    go (resetting resets half_steps n initiator free begins may r) = resets_candidates (numbered s resets half_steps) n initiator out t (may g) (same_candidates s (numbered s resets half_steps) refl refl refl refl h) r
+    go (altering y waits out_is is ok) = subst HasCandidates (sym is) (by y ok)
 
 -- ---- a candidate's half step can be taken
 

@@ -1,9 +1,7 @@
 -- Each action is a change of the account and all controllers, as the reclaim theorem speaks of them.
-use Rattle.std.proofs.Common.{◌≡◌, inl, inr, ℕ, ◌&&◌, not, List, [], ◌∷◌, Bool, true, false, Option, None, Ok, unwrap_or, refl, ap, sym, subst, arith, IsTrue, ◌<◌}
+use Rattle.std.proofs.Common.{◌≡◌, inl, inr, ℕ, ◌&&◌, not, List, [], ◌∷◌, Bool, true, false, Option, None, Ok, unwrap_or, refl, ap, sym, subst, arith, IsTrue}
 use Rattle.fw_entry.specs.declared.entry.ResetEntry.{ResetEntry}
 use Rattle.fw_entry.specs.declared.entry.Timed.{Timed}
-use Rattle.fw_tree.specs.declared.facts.End.{End}
-use Rattle.fw_tree.specs.Topology.{Topology, IsJoined}
 use Rattle.fw_account.specs.Account.{Account}
 use Rattle.fw_cmp.specs.declared.current.Current.{Current}
 use Rattle.fw_cmp.specs.declared.current.Current.TheVariants.{Nothing, Asking, Hearing, Overtaken}
@@ -15,20 +13,16 @@ use Rattle.fw_cmp.specs.Fits.{SlotFits}
 use Rattle.fw_cmp.specs.Resets.{after_hear}
 use Rattle.fw_cmp.specs.Starts.{started as given, break_fault, break_started}
 use Rattle.fw_cmp.specs.Turns.{after_next}
-use Rattle.fw_reclaim.specs.Worlds.{World, Change, Turn, Answer as Answered, BusReset, SecondOver, Death, NewConnection, BreakOf, Withholding, Elsewhere, TakesTurn, HearsAnswer, IsReset, Path}
-use Rattle.fw_reclaim.specs.Worlds as Worlds
+use Rattle.fw_reclaim.specs.Worlds.{Change, Turn, Answer as Answered, BusReset, SecondOver, Death, NewConnection, BreakOf, Withholding, Elsewhere, TakesTurn, HearsAnswer, IsReset, Path}
 use Rattle.fw_reclaim.specs.Avoids.{AsksElsewhere}
-use Rattle.fw_reclaim.specs.Whole as Whole
 use Rattle.fw_run.specs.declared.order.Wanted.{Wanted}
 use Rattle.fw_run.specs.Entries.{withheld}
-use Rattle.fw_run.specs.State.{State, Declared, entered, list_to, linked_number, manager_in, is_on, is_linked, is_living, directory_of, with_device, is_deaf}
+use Rattle.fw_run.specs.State.{State, Declared, entered, list_to, linked_number, manager_in, is_linked, is_living, directory_of, is_deaf}
 use Rattle.fw_run.specs.HalfSteps.{asks, taken, half_of, after_half, with_controller}
-use Rattle.fw_run.specs.Actions.{Action, Withhold, AddDevice, AddCable, ResetBus, StartConnection, StartBreak, HalfStep, Rest, Unsettled, Pass, EndSecond, Die, CarryOut, Lose, TellLoss, Start, Ask, Answer, ShowWord, SendCommand, SendFrame, Receive, InsertTape, EjectTape, StartCycle, SendPacket, BecomeCandidate, Contend, TieReel, KeepBlock, Finish, Resets, Declares, Joins, with_topology, slot_of, start_of, with_connection, after_cycles, after_second, after_death, after_start, counted, Step, Steps, counting, beginning, after_loss}
+use Rattle.fw_run.specs.Actions.{Action, StartBreak, EndSecond, Die, Resets, slot_of, start_of, with_connection, after_cycles, after_second, after_death, after_start, Step, Steps}
 use Rattle.fw_run.specs.Good.{IsGood, world_of}
 use Rattle.fw_run.specs.Reclaiming.{IsHarmless, AreHarmless}
 use Rattle.fw_run.proofs.Buses.{linked_small, shows_bus}
-use Rattle.fw_run.proofs.Cables.{on_some, cabled_may, begun_may, forced_may}
-use Rattle.fw_run.proofs.Declares.{first_may}
 use Rattle.fw_run.proofs.Directories.{told}
 use Rattle.fw_run.proofs.Events.{living_small, starts_is, makes}
 use Rattle.fw_run.proofs.Hears.{Heard, HalfHears, heard_of, half_hears, reply_heard, with_answer, carried_bus}
@@ -39,7 +33,10 @@ use Rattle.fw_run.proofs.Steps.{step_good}
 use Rattle.fw_run.proofs.Times.{second_ends}
 use Rattle.fw_run.proofs.Turns.{Turns, sends, rests, turns, with_account, becomes, living_linked}
 use Rattle.fw_run.proofs.Withholds.{none_before, withholding_is, withholds_is, slot_avoids}
-use Rattle.fw_run.proofs.Taking.{Taken, listens, keeps_deaf, forces_reset, taken_as}
+use Rattle.fw_run.proofs.Alterations.{Allows, Alteration, Breaks, Connected, Died, Halved, Over, Started, Withheld, altered}
+use Rattle.fw_run.proofs.Effects.{Effect, altering, effect, numbered, resetting}
+use Rattle.fw_reclaim.specs.Worlds as Worlds
+use Rattle.fw_reclaim.specs.Whole as Whole
 
 -- what controllers are told where this is the latest reset entry
 abbrev told_by : State → Option ResetEntry → Directory
@@ -136,23 +133,10 @@ resets s a n initiator out t m r = record { change = BusReset r.entry r.entry.ep
 again : (s u : State) (a : Action) (t : State) → world_of u ≡ world_of s → IsChange u a t → IsChange s a t
 again s u a t same c = record { change = c.change; happens = subst (λ w. Worlds.Happens w c.change (world_of t)) same c.happens; harmless = c.harmless; avoids = subst (λ w. AsksElsewhere w c.change) same c.avoids }
 
-declare_change : (s : State) (a : Action) (names : List (List ℕ)) (n : Declared) (out : List Timed) (t : State) → (names ≡ [] → MayReset (beginning s) n) → Declares names (declaring s n) out t → IsChange s a t
-declare_change s a [] n out t m r = again s (beginning s) a t refl (resets (beginning s) a n 0 out t (m refl) r)
-declare_change s a (x ∷ names) n out t m r = elsewhere s a t (ap world_of r.1)
-
-join_change : (s : State) (act : Action) (u : Topology) (a b : End) (out : List Timed) (t : State) → IsGood s → IsJoined s.declared.topology u a b → Joins (is_on s a.device) (is_on s b.device) a.device b.device (with_topology s u) out t → IsChange s act t
-join_change s act u a b out t g j h = go (is_on s a.device) (is_on s b.device) refl refl h
-  where
-    go : (x y : Bool) → is_on s a.device ≡ x → is_on s b.device ≡ y → Joins x y a.device b.device (with_topology s u) out t → IsChange s act t
-    go true false on_a off_b r = again s (counting s) act t refl (resets (counting s) act (record s.declared { topology = u }) a.device out t (cabled_may s u a b g j (on_some s a.device g on_a) r.0) r.1)
-    go false true off_a on_b r = again s (counting s) act t refl (resets (counting s) act (record s.declared { topology = u }) b.device out t (cabled_may s u a b g j (on_some s b.device g on_b) r.0) r.1)
-    go true true on_a on_b r = elsewhere s act t (ap world_of r.1)
-    go false false off_a off_b r = elsewhere s act t (ap world_of r.1)
-
 -- ---- what controllers are asked for, and deaths
 
-start_change : (s : State) (d i : ℕ) (w : Wanted) → IsGood s → IsTrue (is_living s d) → SlotFits (slot_of w) → start_of d w (s.controllers d) ≡ Ok i → IsChange s (StartConnection d w) (with_connection s d w)
-start_change s d i w g lives fits is = subst (λ r. IsChange s (StartConnection d w) (with_controller s d (given r (slot_of w) (s.controllers d)))) (sym is) (record {
+start_change : (s : State) (a : Action) (d i : ℕ) (w : Wanted) → IsGood s → IsTrue (is_living s d) → SlotFits (slot_of w) → start_of d w (s.controllers d) ≡ Ok i → IsChange s a (with_connection s d w)
+start_change s a d i w g lives fits is = subst (λ r. IsChange s a (with_controller s d (given r (slot_of w) (s.controllers d)))) (sym is) (record {
   change = NewConnection d i (slot_of w);
   happens = record { device = living_small s d g lives; starts = starts_is d i w (s.controllers d) is; making = makes w; fits = fits; account = refl; becomes = becomes s.controllers d (given (Ok i) (slot_of w) (s.controllers d)); directory = refl };
   harmless = λ e k h. tt;
@@ -175,8 +159,8 @@ death_change s d g lives = record {
   avoids = tt;
 }
 
-start_again : (s : State) (d : ℕ) → IsGood s → IsTrue (s.dead d) → IsChange s (Start d) (after_start s d)
-start_again s d g dead = elsewhere s (Start d) (after_start s d) (ap (λ f. record (world_of s) { controllers = f }) (same_table s.controllers d new_controller (g.unused d (rests_ (is_linked s d) (s.dead d) dead))))
+start_again : (s : State) (a : Action) (d : ℕ) → IsGood s → IsTrue (s.dead d) → IsChange s a (after_start s d)
+start_again s a d g dead = elsewhere s a (after_start s d) (ap (λ f. record (world_of s) { controllers = f }) (same_table s.controllers d new_controller (g.unused d (rests_ (is_linked s d) (s.dead d) dead))))
   where
     rests_ : (a b : Bool) → b ≡ true → (a && not b) ≡ false
     rests_ a b e = grind (arith, e)
@@ -191,8 +175,8 @@ second_change s runs = record {
 
 -- ---- a channel that is withheld
 
-withhold_change : (s : State) → IsGood s → s.declared.names ≡ [] → IsChange s Withhold (record s { account = entered s.account withheld })
-withhold_change s g empty = subst (λ l. IsChange s Withhold (record s { account = l })) (sym (withholding_is s.account (none_before s g empty))) (record {
+withhold_change : (s : State) (a : Action) → IsGood s → s.declared.names ≡ [] → IsChange s a (record s { account = entered s.account withheld })
+withhold_change s a g empty = subst (λ l. IsChange s a (record s { account = l })) (sym (withholding_is s.account (none_before s g empty))) (record {
   change = Withholding;
   happens = withholds_is s g empty;
   harmless = λ d i h. tt;
@@ -201,46 +185,26 @@ withhold_change s g empty = subst (λ l. IsChange s Withhold (record s { account
 
 -- ---- each action
 
-moved : (s u t : State) (a : Action) → t ≡ u → IsChange s a u → IsChange s a t
-moved s u t a is c = subst (IsChange s a) (sym is) c
-
-taken_change : (s : State) (d : ℕ) (out : List Timed) (t : State) → IsGood s → IsTrue (is_living s d) → s.half_steps < 4000000 → Taken s d out t → IsChange s (HalfStep d) t
-taken_change s d out t g lives few (listens quiet said is) = let c = half_change s d (HalfStep d) g lives in moved s (counted (after_half s d) 1) t (HalfStep d) is (record { change = c.change; happens = c.happens; harmless = c.harmless; avoids = c.avoids })
-taken_change s d out t g lives few (keeps_deaf deaf said is) = elsewhere s (HalfStep d) t (ap world_of is)
-taken_change s d out t g lives few (forces_reset deaf r) = again s (counted s 1) (HalfStep d) t refl (resets (counted s 1) (HalfStep d) s.declared d out t (forced_may s d g lives deaf few) r)
-
 pub step_change : (s : State) (a : Action) (out : List Timed) (t : State) → IsGood s → Step s a out t → IsChange s a t
-step_change s Withhold out t g x = moved s _ t Withhold x.1.3 (withhold_change s g x.1.0)
-step_change s (AddDevice name kind ports speed) out t g x = declare_change s (AddDevice name kind ports speed) s.declared.names (with_device s.declared name kind ports speed) out t (λ empty. first_may s name kind ports speed (record { good = g; room = x.1.0; some = x.1.1; most = x.1.2; fast = x.1.3 }) empty) x.1.4
-step_change s (AddCable a b) out t g x = join_change s (AddCable a b) x.1.0 a b out t g x.1.1 x.1.2
-step_change s (ResetBus d) out t g x = again s (counting s) (ResetBus d) t refl (resets (counting s) (ResetBus d) s.declared d out t (begun_may s d g x.1.0 x.1.1.0) x.1.1.1)
-step_change s (StartConnection d w) out t g x = moved s _ t (StartConnection d w) x.1.4 (start_change s d x.1.2.0 w g x.1.0 x.1.1 x.1.2.1)
-step_change s (StartBreak d i) out t g x = moved s _ t (StartBreak d i) x.1.3 (break_change s d i g x.1.0 x.1.1)
-step_change s (HalfStep d) out t g x = taken_change s d out t g x.1.0 x.1.1 (taken_as s d out t x.1.2)
-step_change s (Rest n) out t g x = elsewhere s (Rest n) t (ap world_of x.1.3)
-step_change s Unsettled out t g x = elsewhere s Unsettled t (ap world_of x.1.2)
-step_change s (Pass n) out t g x = elsewhere s (Pass n) t (ap world_of x.1.3)
-step_change s EndSecond out t g x = moved s _ t EndSecond x.1.4 (second_change s x.1.1)
-step_change s (Die d) out t g x = moved s _ t (Die d) x.1.2 (death_change s d g x.1.0)
-step_change s (CarryOut d) out t g x = moved s _ t (CarryOut d) x.1.3 (half_change s d (CarryOut d) g x.1.0)
-step_change s (Lose d) out t g x = let c = half_change s d (Lose d) g x.1.0 in moved s (after_loss s d) t (Lose d) x.1.4 (record { change = c.change; happens = c.happens; harmless = c.harmless; avoids = c.avoids })
-step_change s (TellLoss d) out t g x = elsewhere s (TellLoss d) t (ap world_of x.1.2)
-step_change s (Start d) out t g x = moved s _ t (Start d) x.1.3 (start_again s d g x.1.1)
-step_change s (Ask y) out t g x = elsewhere s (Ask y) t (ap world_of x.1.4)
-step_change s Answer out t g x = elsewhere s Answer t (ap world_of x.state_is)
-step_change s (ShowWord d offset) out t g x = elsewhere s (ShowWord d offset) t (ap world_of x.1.4)
-step_change s (SendCommand a b bytes) out t g x = elsewhere s (SendCommand a b bytes) t (ap world_of x.1.4)
-step_change s (SendFrame d) out t g x = elsewhere s (SendFrame d) t (ap world_of x.1.state_is)
-step_change s (Receive o) out t g x = elsewhere s (Receive o) t (ap world_of x.1.state_is)
-step_change s (InsertTape d tape system) out t g x = elsewhere s (InsertTape d tape system) t (ap world_of x.1.4)
-step_change s (EjectTape d) out t g x = elsewhere s (EjectTape d) t (ap world_of x.1.4)
-step_change s StartCycle out t g x = elsewhere s StartCycle t (ap world_of x.1.2)
-step_change s (SendPacket p block) out t g x = elsewhere s (SendPacket p block) t (ap world_of x.1.3)
-step_change s (BecomeCandidate d) out t g x = elsewhere s (BecomeCandidate d) t (ap world_of x.1.4)
-step_change s (Contend d) out t g x = elsewhere s (Contend d) t (ap world_of x.1.state_is)
-step_change s (TieReel d) out t g x = elsewhere s (TieReel d) t (ap world_of x.1.4)
-step_change s (KeepBlock block) out t g x = elsewhere s (KeepBlock block) t (ap world_of x.1.1)
-step_change s Finish out t g x = elsewhere s Finish t (ap world_of x.1.1)
+step_change s a out t g x = go (effect s a out t x)
+  where
+    -- the action is this one
+    if_so : (b : Action) (u : State) → a ≡ b → IsChange s b u → IsChange s a u
+    if_so b u e c = subst (λ z. IsChange s z u) (sym e) c
+
+    by : (y : Alteration) → Allows s a y → IsChange s a (altered s y)
+    by (Halved d lost resets half_steps) ok = let c = half_change s d a g ok.2 in record { change = c.change; happens = c.happens; harmless = c.harmless; avoids = c.avoids }
+    by (Connected d w) ok = start_change s a d ok.1.0 w g ok.2 ok.3 ok.1.1
+    by (Breaks d i) ok = if_so (StartBreak d i) _ ok.1 (break_change s d i g ok.2 ok.3)
+    by Over ok = if_so EndSecond _ ok.0 (second_change s ok.1)
+    by (Died d) ok = if_so (Die d) _ ok.1 (death_change s d g ok.2)
+    by (Started d) ok = start_again s a d g ok.1
+    by Withheld ok = withhold_change s a g ok.1
+    by _ ok = elsewhere s a _ refl
+
+    go : Effect s a out t → IsChange s a t
+    go (resetting counts half_steps n initiator free begins may r) = again s (numbered s counts half_steps) a t refl (resets (numbered s counts half_steps) a n initiator out t (may g) r)
+    go (altering y waits out_is is ok) = subst (IsChange s a) (sym is) (by y ok)
 
 -- ---- actions
 

@@ -1,6 +1,6 @@
 -- Candidates and BUS_MANAGER_ID through the actions of a run: who is elected is the winner.
-use Rattle.std.proofs.Common.{◌≡◌, ◌≢◌, ◌⊎◌, inl, inr, ℕ, ◌+◌, ◌<◌, ◌≤◌, ◌^◌, ◌==◌, ◌++◌, cond, List, [], ◌∷◌, length, Bool, true, false, Option, Some, None, is_some, unwrap_or, refl, ap, sym, subst, ◌∙◌, arith, IsTrue, IsFalse}
-use Rattle.std.specs.Int.{to_be_bytes, from_be_bytes, w32}
+use Rattle.std.proofs.Common.{◌≡◌, ◌≢◌, ◌⊎◌, inl, inr, ℕ, ◌+◌, ◌<◌, ◌≤◌, ◌^◌, ◌==◌, ◌++◌, cond, List, Bool, true, false, Option, Some, None, is_some, unwrap_or, refl, ap, sym, subst, ◌∙◌, arith, IsTrue, IsFalse}
+use Rattle.std.specs.Int.{to_be_bytes, w32}
 use Rattle.std.proofs.lemmas.Bool.{cases_eq}
 use Rattle.std.proofs.lemmas.Bool.Decides.{nat_tests}
 use Rattle.std.proofs.lemmas.Nat.{from_be_bytes-to_be_bytes_4}
@@ -14,50 +14,47 @@ use Rattle.fw_csr.specs.declared.request.Swap.{Swap as Swapping}
 use Rattle.fw_entry.specs.Network.{device_of_id}
 use Rattle.fw_entry.specs.declared.codes.event.TheConstants.{ELECTED, DEFEATED}
 use Rattle.fw_entry.specs.declared.entry.Entry.{Entry}
-use Rattle.fw_entry.specs.declared.entry.Entry.TheVariants.{Reset, Async, Iso, Event, End as EndEntry}
+use Rattle.fw_entry.specs.declared.entry.Entry.TheVariants.{Reset, Async, Event}
 use Rattle.fw_entry.specs.declared.entry.ResetEntry.{ResetEntry}
 use Rattle.fw_entry.specs.declared.entry.Timed.{Timed}
 use Rattle.fw_account.specs.Account.{Account}
-use Rattle.fw_account.specs.Words.{node_of, first_address}
+use Rattle.fw_account.specs.Words.{first_address}
 use Rattle.fw_manager.specs.Bids.{CandidateState, first_state as new_candidate, stage_in, stage_after, bid_request, after_hear}
 use Rattle.fw_manager.specs.declared.bid.Bid.TheVariants.{Elected, Defeated}
 use Rattle.fw_manager.specs.declared.candidate.Stage.{Stage}
 use Rattle.fw_manager.specs.declared.candidate.Stage.TheVariants.{Fresh, Asked, Heard, Answered}
-use Rattle.fw_node.specs.Packets.{packet_of, response_head, old_bytes, old_value}
-use Rattle.fw_tree.specs.Topology.{Topology}
+use Rattle.fw_node.specs.Packets.{response_head, old_bytes, old_value}
 use Rattle.fw_words.specs.Quadlet.{quadlet_at}
 use Rattle.fw_run.specs.declared.order.Access.{Access}
-use Rattle.fw_run.specs.declared.order.Access.TheVariants as Accesses
 use Rattle.fw_run.specs.declared.order.Transaction.{Transaction}
-use Rattle.fw_run.specs.Bidding.{Bids, bid_head, bid_said, bid_asks, bid_hears, bid_at, bid_step, bidden, epoch_at, own_node, word_of_reply, word_shown}
+use Rattle.fw_run.specs.Bidding.{bid_head, bid_said, bid_asks, bid_hears, bid_at, bid_step, bidden, epoch_at, own_node, word_of_reply, word_shown}
 use Rattle.fw_run.specs.Elections.{Election, with_candidate, with_new_candidate}
 use Rattle.fw_run.specs.Elected.{bid_answer, Answers, no_answers, first_won, with_answer, answers_after, id_of, IsBid, HasHeard, Holds, IsElection}
-use Rattle.fw_run.specs.Entries.{elected, defeated, second_over, died, started, inserted, ejected, dubbing, unsettled, lost, withheld, shown_entry}
-use Rattle.fw_run.specs.Decks.{FrameWrite}
-use Rattle.fw_run.specs.Frames.{command_write, response_write, frame_head, frame_packet, request_of}
-use Rattle.fw_run.specs.Streams.{bytes_of, cycle_start, stream_packet}
+use Rattle.fw_run.specs.Entries.{elected, defeated, second_over, died, started, dubbing, withheld}
 use Rattle.fw_run.specs.Giving.{at_most}
 use Rattle.fw_run.specs.Good.{IsGood}
 use Rattle.fw_run.specs.Numbers.{HasNumbers}
-use Rattle.fw_run.specs.Spaces.{reply_from, space_of_node, is_manager, target_node, transaction_head, access_request, bus_manager_id_after, read_at, answer_packet}
-use Rattle.fw_run.specs.State.{State, Declared, first_state, with_device, epoch_of, number_in, manager_in, device_in, linked_number, is_linked, is_living, is_on}
-use Rattle.fw_run.specs.Actions.{Action, Withhold, AddDevice, AddCable, ResetBus, StartConnection, StartBreak, HalfStep, Rest, Unsettled, Pass, EndSecond, Die, CarryOut, Lose, TellLoss, Start, Ask, Answer, ShowWord, SendCommand, SendFrame, Receive, InsertTape, EjectTape, StartCycle, SendPacket, BecomeCandidate, Contend, TieReel, KeepBlock, Finish, Resets, Declares, Joins, IsSpared, after_reset_entry, after_cycles, after_death, with_topology, counting, beginning, counted, Step, Steps}
-use Rattle.fw_run.specs.Actions as Actions
+use Rattle.fw_run.specs.Spaces.{reply_from, space_of_node, is_manager, target_node, transaction_head, access_request, bus_manager_id_after}
+use Rattle.fw_run.specs.State.{State, first_state, epoch_of, number_in, manager_in, device_in, linked_number, is_linked, is_living}
+use Rattle.fw_run.specs.Actions.{Action, Resets, IsSpared, after_reset_entry, after_death, Step}
 use Rattle.fw_run.specs.HalfSteps.{half}
 use Rattle.fw_run.proofs.Answers.{managed, answered}
 use Rattle.fw_run.proofs.Bounds.{few_rows}
 use Rattle.fw_run.proofs.Directories.{linked_number_is}
 use Rattle.fw_run.proofs.Leads.{linked_of}
-use Rattle.fw_run.proofs.Plain.{ArePlain, no_event, request_plain, script_plain, frame_plain, half_plain, BidsOn, plainly}
+use Rattle.fw_run.proofs.Plain.{ArePlain, no_event, request_plain, script_plain, half_plain, BidsOn, plainly}
 use Rattle.fw_run.proofs.Resets.{declaring}
 use Rattle.fw_run.proofs.Responses.{own_device}
 use Rattle.fw_run.proofs.Settling.{half_turn}
-use Rattle.fw_run.proofs.Taking.{Taken, listens, keeps_deaf, forces_reset, taken_as}
 use Rattle.fw_run.proofs.Times.{second_ends}
 use Rattle.fw_run.proofs.Transactions.{response_is}
 use Rattle.fw_run.proofs.Turns.{living_linked, update_new, update_others}
 use Rattle.fw_run.proofs.Withholds.{withholding_keeps}
 use Rattle.fw_run.proofs.Words.{number_of_on}
+use Rattle.fw_run.proofs.Alterations.{Allows, Alteration, Answered as Replied, Asked as Transacted, AtUnits, Beside, Bid, Candidate, Died, Halved, Over, Started, Tied, Waits, Withheld, altered, told_by}
+use Rattle.fw_run.proofs.Effects.{Effect, altering, effect, numbered, resetting}
+use Rattle.fw_run.specs.declared.order.Access.TheVariants as Accesses
+use Rattle.fw_run.specs.Actions as Actions
 
 -- ---- before the first device
 
@@ -140,21 +137,6 @@ reset_bids a s u initiator out t elections id latest none before r =
 
     bid : IsBid a s (Reset e)
     bid = record { elected = λ d is. absurd (no_event (Reset e) _ ELECTED refl is refl); defeated = λ d is. absurd (no_event (Reset e) _ DEFEATED refl is refl); answers = tt }
-
-declare_bids : (a : Answers) (s : State) (names : List (List ℕ)) (n : Declared) (out : List Timed) (t : State) → IsElection a s → s.transaction ≡ None → Declares names (declaring s n) out t → BidsOn a s out t
-declare_bids a s [] n out t h none r = reset_bids a s (beginning (declaring s n)) 0 out t refl refl refl none h r
-declare_bids a s (x ∷ names) n out t h none r = unchanged a s _ t out 0 None h refl refl refl none r.1 r.0 tt
-
-join_bids : (a : Answers) (x y : Bool) (b c : ℕ) (s : State) (g : Topology) (out : List Timed) (t : State) → IsElection a s → s.transaction ≡ None → Joins x y b c (with_topology s g) out t → BidsOn a s out t
-join_bids a true false b c s g out t h none r = reset_bids a s (counting (with_topology s g)) b out t refl refl refl none h r.1
-join_bids a false true b c s g out t h none r = reset_bids a s (counting (with_topology s g)) c out t refl refl refl none h r.1
-join_bids a true true b c s g out t h none r = unchanged a s _ t out 0 None h refl refl refl none r.1 r.0 tt
-join_bids a false false b c s g out t h none r = unchanged a s _ t out 0 None h refl refl refl none r.1 r.0 tt
-
-taken_bids : (a : Answers) (s : State) (d : ℕ) (out : List Timed) (t : State) → IsElection a s → IsGood s → s.transaction ≡ None → IsTrue (is_living s d) → Taken s d out t → BidsOn a s out t
-taken_bids a s d out t h g none lives (listens quiet said is) = unchanged a s _ t out s.clock.cycle (half s d).says h refl refl (half_turn s d g lives).1.latest none is said (half_plain s d g lives)
-taken_bids a s d out t h g none lives (keeps_deaf deaf said is) = unchanged a s _ t out 0 None h refl refl refl none is said tt
-taken_bids a s d out t h g none lives (forces_reset deaf r) = reset_bids a s (counted s 1) d out t refl refl refl none h r
 
 -- ---- one candidate changes
 
@@ -268,9 +250,6 @@ asks_on a s d manager c stage told x = record {
         (λ k c ne is word at. same_heard a s v k word refl (h.heard k word c is at))
 
 -- the word that a bid stores
-swap_first : (n : ℕ) → quadlet_at (to_be_bytes w32 0x3F ++ to_be_bytes w32 n) 0 ≡ 0x3F
-swap_first n = refl
-
 swap_second : (n : ℕ) → n < 2 ^ 32 → quadlet_at (to_be_bytes w32 0x3F ++ to_be_bytes w32 n) 4 ≡ n
 swap_second n lt = from_be_bytes-to_be_bytes_4 n lt
 
@@ -493,11 +472,6 @@ contends a s d manager c Asked e manages x = record { election = election; entri
       answers = λ i word is. sym (ap (λ (z : ℕ × ℕ). z.1) (same_Some (id_of s.account.latest d, v) (i, word) (sym told ∙ is)));
     }
 
-bids_on : (a : Answers) (s : State) (d : ℕ) (out : List Timed) (t : State) → IsElection a s → IsGood s → HasNumbers s → s.transaction ≡ None → Bids s d out t → BidsOn a s out t
-bids_on a s d out t h g b none f =
-    subst (λ z. BidsOn a s z t) (sym f.out_is) (subst (λ z. BidsOn a s (at_most s.clock.cycle (bid_step s d f.manager f.candidate).says) z) (sym f.state_is)
-    (contends a s d f.manager f.candidate (stage_in (epoch_at s) f.candidate) refl f.manages (record { election = h; good = g; numbers = b; free = none; lives = f.lives; is = f.is })))
-
 -- ---- transactions of the script
 
 -- where somebody has won the script does not store in BUS_MANAGER_ID
@@ -549,44 +523,29 @@ answers_on a s out t h f = plainly a s t out s.clock.cycle (Some (Async f.respon
 
 -- ---- each action
 
--- a frame's write, and its answer
-received_plain : (s : State) (w : FrameWrite) (p : Packet) → answer_packet s (node_of s.account.latest w.to) (frame_head s w) (request_of w) ≡ Some p → bid_answer p ≡ None
-received_plain s w p is = frame_plain s (node_of s.account.latest w.to) (frame_head s w) (length w.bytes == 4) w.offset (from_be_bytes w32 w.bytes) w.bytes p is
-
 asked_on : (a : Answers) (s : State) (x : Transaction) → s.transaction ≡ None → IsSpared s.election x.access → IsElection a s → IsElection a (record s { transaction = Some x })
 asked_on a s x none spared h = same_election a s (record s { transaction = Some x }) refl refl refl (λ y waits. subst (λ (z : Transaction). IsSpared s.election z.access) (same_Some x y waits) spared) h
 
 pub step_bids : (a : Answers) (s : State) (x : Action) (out : List Timed) (t : State) → IsElection a s → IsGood s → HasNumbers s → Step s x out t → BidsOn a s out t
-step_bids a s Withhold out t h g b x = unchanged a s _ t out s.clock.cycle (Some withheld) h refl refl (withholding_keeps (λ (l : Account). l.latest) s.account refl) x.0 x.1.3 x.1.2 refl
-step_bids a s (AddDevice name kind ports speed) out t h g b x = declare_bids a s s.declared.names (with_device s.declared name kind ports speed) out t h x.0 x.1.4
-step_bids a s (AddCable p q) out t h g b x = join_bids a (is_on s p.device) (is_on s q.device) p.device q.device s x.1.0 out t h x.0 x.1.2
-step_bids a s (ResetBus d) out t h g b x = reset_bids a s (counting s) d out t refl refl refl x.0 h x.1.1.1
-step_bids a s (StartConnection d w) out t h g b x = unchanged a s _ t out 0 None h refl refl refl x.0 x.1.4 x.1.3 tt
-step_bids a s (StartBreak d i) out t h g b x = unchanged a s _ t out 0 None h refl refl refl x.0 x.1.3 x.1.2 tt
-step_bids a s (HalfStep d) out t h g b x = taken_bids a s d out t h g x.0 x.1.0 (taken_as s d out t x.1.2)
-step_bids a s (Rest n) out t h g b x = unchanged a s _ t out 0 None h refl refl refl x.0 x.1.3 x.1.2 tt
-step_bids a s Unsettled out t h g b x = unchanged a s _ t out s.clock.cycle (Some unsettled) h refl refl refl x.0 x.1.2 x.1.1 refl
-step_bids a s (Pass n) out t h g b x = unchanged a s _ t out 0 None h refl refl refl x.0 x.1.3 x.1.2 tt
-step_bids a s EndSecond out t h g b x = unchanged a s _ t out (s.clock.cycle + 1) (Some second_over) h refl refl (ap (λ (l : Account). l.latest) (second_ends s.account x.1.1)) x.0 x.1.4 x.1.3 refl
-step_bids a s (Die d) out t h g b x = plainly a s t out s.clock.cycle (Some (died d)) x.1.1 refl (subst (IsElection a) (sym x.1.2) (dies a s (after_death s d) d refl refl refl x.0 h))
-step_bids a s (CarryOut d) out t h g b x = unchanged a s _ t out s.clock.cycle (half s d).says h refl refl (half_turn s d g x.1.0).1.latest x.0 x.1.3 x.1.2 (half_plain s d g x.1.0)
-step_bids a s (Lose d) out t h g b x = unchanged a s _ t out s.clock.cycle (half s d).says h refl refl (half_turn s d g x.1.0).1.latest x.0 x.1.4 x.1.3 (half_plain s d g x.1.0)
-step_bids a s (TellLoss d) out t h g b x = unchanged a s _ t out s.clock.cycle (Some (lost d)) h refl refl refl x.0 x.1.2 x.1.1 refl
-step_bids a s (Start d) out t h g b x = unchanged a s _ t out s.clock.cycle (Some (started d)) h refl refl refl x.0 x.1.3 x.1.2 refl
-step_bids a s (Ask y) out t h g b x = plainly a s t out s.clock.cycle (Some (Async (packet_of (transaction_head s y) (access_request y.access)))) x.1.3 (request_plain (transaction_head s y) (access_request y.access)) (subst (IsElection a) (sym x.1.4) (asked_on a s y x.0 x.1.5 h))
-step_bids a s Answer out t h g b x = answers_on a s out t h x
-step_bids a s (ShowWord d offset) out t h g b x = unchanged a s s t out s.clock.cycle (Some (shown_entry d offset (read_at s d offset).value)) h refl refl refl x.0 x.1.4 x.1.3 tt
-step_bids a s (SendCommand c d bytes) out t h g b x = unchanged a s _ t out s.clock.cycle (Some (Async (frame_packet s (command_write c d bytes)))) h refl refl refl x.0 x.1.4 x.1.3 (request_plain (frame_head s (command_write c d bytes)) (request_of (command_write c d bytes)))
-step_bids a s (SendFrame d) out t h g b x =
-    let y = x.1 in
-    unchanged a s _ t out s.clock.cycle (Some (Async (frame_packet s (response_write d y.to y.told.1)))) h refl refl refl x.0 y.state_is y.out_is (request_plain (frame_head s (response_write d y.to y.told.1)) (request_of (response_write d y.to y.told.1)))
-step_bids a s (Receive o) out t h g b x = let y = x.1 in unchanged a s _ t out s.clock.cycle (Some (Async y.response)) h refl refl refl x.0 y.state_is y.out_is (received_plain s y.write y.response y.answered)
-step_bids a s (InsertTape d tape system) out t h g b x = unchanged a s _ t out s.clock.cycle (Some (inserted d tape system)) h refl refl refl x.0 x.1.4 x.1.3 refl
-step_bids a s (EjectTape d) out t h g b x = unchanged a s _ t out s.clock.cycle (Some (ejected d)) h refl refl refl x.0 x.1.4 x.1.3 refl
-step_bids a s StartCycle out t h g b x = unchanged a s _ t out s.clock.cycle (Some (Async (cycle_start x.1.1.0.root s.clock.cycle))) h refl refl refl x.0 x.1.2 x.1.1.2 refl
-step_bids a s (SendPacket p block) out t h g b x = unchanged a s s t out s.clock.cycle (Some (Iso (stream_packet s p (bytes_of block)))) h refl refl refl x.0 x.1.3 x.1.2 tt
-step_bids a s (BecomeCandidate d) out t h g b x = plainly a s t out 0 None x.1.3 tt (subst (IsElection a) (sym x.1.4) (becomes_one a s d x.0 h))
-step_bids a s (Contend d) out t h g b x = bids_on a s d out t h g b x.0 x.1
-step_bids a s (TieReel d) out t h g b x = unchanged a s _ t out s.clock.cycle (Some (dubbing d)) h refl refl refl x.0 x.1.4 x.1.3 refl
-step_bids a s (KeepBlock block) out t h g b x = unchanged a s _ t out 0 None h refl refl refl x.0 x.1.1 x.1.0 tt
-step_bids a s Finish out t h g b x = unchanged a s _ t out s.clock.cycle (Some EndEntry) h refl refl refl x.0 x.1.1 x.1.0 tt
+step_bids a s x out t h g b f = go (effect s x out t f)
+  where
+    by : (y : Alteration) → Waits s y → out ≡ at_most (altered s y).clock.cycle (told_by s y) → t ≡ altered s y → Allows s x y → BidsOn a s out t
+    by (Halved d lost resets half_steps) none out_is is ok = unchanged a s _ t out _ (half s d).says h refl refl (half_turn s d g ok.2).1.latest none is out_is (half_plain s d g ok.2)
+    by Over none out_is is ok = unchanged a s _ t out _ (Some second_over) h refl refl (ap (λ (l : Account). l.latest) (second_ends s.account ok.1)) none is out_is refl
+    by (Died d) none out_is is ok = plainly a s t out _ (Some (died d)) out_is refl (subst (IsElection a) (sym is) (dies a s (after_death s d) d refl refl refl none h))
+    by (Started d) none out_is is ok = unchanged a s _ t out _ (Some (started d)) h refl refl refl none is out_is refl
+    by Withheld none out_is is ok = unchanged a s _ t out _ (Some withheld) h refl refl (withholding_keeps (λ (l : Account). l.latest) s.account refl) none is out_is refl
+    by (Transacted y) none out_is is ok = plainly a s t out _ (told_by s (Transacted y)) out_is (request_plain (transaction_head s y) (access_request y.access)) (subst (IsElection a) (sym is) (asked_on a s y none ok.1 h))
+    by (Replied y response) waits out_is is ok = answers_on a s out t h (record { transaction = y; waits = waits; response = response; answered = ok.1; out_is = out_is; state_is = is })
+    by (Candidate d) none out_is is ok = plainly a s t out 0 None out_is tt (subst (IsElection a) (sym is) (becomes_one a s d none h))
+    by (Bid d manager c) none out_is is ok =
+        subst (λ z. BidsOn a s z t) (sym out_is) (subst (λ z. BidsOn a s (at_most s.clock.cycle (bid_step s d manager c).says) z) (sym is)
+        (contends a s d manager c (stage_in (epoch_at s) c) refl ok.3 (record { election = h; good = g; numbers = b; free = none; lives = ok.1; is = ok.2 })))
+    by (Tied d) none out_is is ok = unchanged a s _ t out _ (Some (dubbing d)) h refl refl refl none is out_is refl
+    by (Beside says half_steps written frame) none out_is is ok = unchanged a s _ t out _ says h refl refl refl none is out_is ok.1
+    by (AtUnits says decks frame) none out_is is ok = unchanged a s _ t out _ says h refl refl refl none is out_is ok.1
+    by _ none out_is is ok = unchanged a s _ t out 0 None h refl refl refl none is out_is tt
+
+    go : Effect s x out t → BidsOn a s out t
+    go (resetting resets half_steps n initiator free begins may r) = reset_bids a s (declaring (numbered s resets half_steps) n) initiator out t refl refl refl free h r
+    go (altering y waits out_is is ok) = by y waits out_is is ok

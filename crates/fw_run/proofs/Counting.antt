@@ -20,11 +20,9 @@ use Rattle.fw_account.specs.Sound.{IsSound}
 use Rattle.fw_reclaim.specs.Worlds.{Grows}
 use Rattle.fw_run.specs.Giving.{at_cycle}
 use Rattle.fw_run.specs.Entries.{second_over}
-use Rattle.fw_run.specs.State.{State, entered, while_talking, is_on, with_device}
+use Rattle.fw_run.specs.State.{State, entered, while_talking}
 use Rattle.fw_run.specs.Streams.{bytes_of, tape_at, sent_before, stream_packet}
-use Rattle.fw_run.specs.Actions.{Action, Withhold, AddDevice, AddCable, ResetBus, StartConnection, StartBreak, HalfStep, Rest, Unsettled, Pass, EndSecond, Die, counting, beginning, counted, Lose, TellLoss}
-use Rattle.fw_run.specs.Actions.{CarryOut, Start, Ask, Answer, ShowWord, SendCommand, SendFrame, Receive, InsertTape, EjectTape, StartCycle, SendPacket, BecomeCandidate, Contend, TieReel, KeepBlock, Finish}
-use Rattle.fw_run.specs.Actions.{Declares, Joins, Step, after_cycles, after_second, after_reset_entry, with_topology}
+use Rattle.fw_run.specs.Actions.{Action, Pass, EndSecond, Die, Step, after_cycles, after_second, after_reset_entry}
 use Rattle.fw_run.specs.Carrying.{next_cycle, SendsPackets}
 use Rattle.fw_run.specs.Cycles.{given_in, CountsThrough, ArePackets}
 use Rattle.fw_run.specs.Good.{IsGood}
@@ -36,7 +34,8 @@ use Rattle.fw_run.proofs.Resets.{declaring}
 use Rattle.fw_run.proofs.Seconds.{opens_over}
 use Rattle.fw_run.proofs.Steps.{step_good}
 use Rattle.fw_run.proofs.Times.{second_ends}
-use Rattle.fw_run.proofs.Taking.{Taken, listens, keeps_deaf, forces_reset, taken_as}
+use Rattle.fw_run.proofs.Alterations.{Allows, Alteration, Died, Halved, IsTimeless, Over, Passed, altered, begun_timeless}
+use Rattle.fw_run.proofs.Effects.{Effect, altering, effect, numbered, resetting}
 
 -- ---- each action
 
@@ -90,59 +89,28 @@ ends s t p good runs is = subst (λ (z : State). CountsThrough EndSecond s z p) 
   silent = (subst IsGood is good).streams p;
 })
 
+-- what gives no blocks
+timeless_gives : (a : Action) (s : State) (p : PlugAt) → IsTimeless a → given_in a s p ≡ 0
+timeless_gives (Pass n) s p moves = absurd moves
+timeless_gives EndSecond s p moves = absurd moves
+timeless_gives _ s p timeless = refl
+
 pub counts_step : (s : State) (a : Action) (out : List Timed) (t : State) → IsGood s → Step s a out t → (p : PlugAt) → CountsThrough a s t p
-counts_step s a out t g x p = go a x
+counts_step s a out t g x p = go (effect s a out t x)
   where
-    good : (a : Action) → Step s a out t → IsGood t
-    good a x = step_good s a out t g x
+    good : IsGood t
+    good = step_good s a out t g x
 
-    declares : (a : Action) (names : List (List ℕ)) (u : State) → IsGood t → u.streams p ≡ s.streams p → u.account ≡ s.account → Declares names u out t → given_in a s p ≡ 0 → CountsThrough a s t p
-    declares a [] u h same account r none = keeps a s t (after_reset_entry (beginning u) r.entry) p g h r.state_is (ap (λ k. cond (talks (entered u.account (Reset r.entry)) p) k 0) same) none
-    declares a (y ∷ ys) u h same account r none = stays a s t u p g h r.1 same none
+    by : (y : Alteration) → Allows s a y → t ≡ altered s y → CountsThrough a s t p
+    by (Halved d lost resets half_steps) ok is = keeps a s t _ p g good is refl (timeless_gives a s p ok.0)
+    by (Passed n) ok is = subst (λ b. CountsThrough b s t p) (sym ok.0) (passes s n t p good is)
+    by Over ok is = subst (λ b. CountsThrough b s t p) (sym ok.0) (ends s t p good ok.1 is)
+    by (Died d) ok is = keeps a s t _ p g good is refl (timeless_gives a s p ok.0)
+    by _ ok is = stays a s t _ p g good is refl (timeless_gives a s p ok.0)
 
-    joins : (a : Action) (x y : Bool) (c d : ℕ) (u : State) → IsGood t → u.streams p ≡ s.streams p → Joins x y c d u out t → given_in a s p ≡ 0 → CountsThrough a s t p
-    joins a true false c d u h same r none = keeps a s t (after_reset_entry (counting u) r.1.entry) p g h r.1.state_is (ap (λ k. cond (talks (entered u.account (Reset r.1.entry)) p) k 0) same) none
-    joins a false true c d u h same r none = keeps a s t (after_reset_entry (counting u) r.1.entry) p g h r.1.state_is (ap (λ k. cond (talks (entered u.account (Reset r.1.entry)) p) k 0) same) none
-    joins a true true c d u h same r none = stays a s t u p g h r.1 same none
-    joins a false false c d u h same r none = stays a s t u p g h r.1 same none
-
-    taken_ : (d : ℕ) → IsGood t → Taken s d out t → CountsThrough (HalfStep d) s t p
-    taken_ d h (listens quiet said is) = keeps (HalfStep d) s t _ p g h is refl refl
-    taken_ d h (keeps_deaf deaf said is) = stays (HalfStep d) s t _ p g h is refl refl
-    taken_ d h (forces_reset deaf r) = keeps (HalfStep d) s t (after_reset_entry (counted s 1) r.entry) p g h r.state_is refl refl
-
-    go : (a : Action) → Step s a out t → CountsThrough a s t p
-    go Withhold x = stays Withhold s t _ p g (good Withhold x) x.1.3 refl refl
-    go (AddDevice name kind ports speed) x = declares (AddDevice name kind ports speed) s.declared.names (declaring s (with_device s.declared name kind ports speed)) (good (AddDevice name kind ports speed) x) refl refl x.1.4 refl
-    go (AddCable c d) x = joins (AddCable c d) (is_on s c.device) (is_on s d.device) c.device d.device (with_topology s x.1.0) (good (AddCable c d) x) refl x.1.2 refl
-    go (ResetBus d) x = let r = x.1.1.1 in keeps (ResetBus d) s t (after_reset_entry (counting s) r.entry) p g (good (ResetBus d) x) r.state_is refl refl
-    go (StartConnection d w) x = stays (StartConnection d w) s t _ p g (good (StartConnection d w) x) x.1.4 refl refl
-    go (StartBreak d i) x = stays (StartBreak d i) s t _ p g (good (StartBreak d i) x) x.1.3 refl refl
-    go (HalfStep d) x = taken_ d (good (HalfStep d) x) (taken_as s d out t x.1.2)
-    go (Rest n) x = stays (Rest n) s t _ p g (good (Rest n) x) x.1.3 refl refl
-    go Unsettled x = stays Unsettled s t _ p g (good Unsettled x) x.1.2 refl refl
-    go (Pass n) x = passes s n t p (good (Pass n) x) x.1.3
-    go EndSecond x = ends s t p (good EndSecond x) x.1.1 x.1.4
-    go (Die d) x = keeps (Die d) s t _ p g (good (Die d) x) x.1.2 refl refl
-    go (CarryOut d) x = keeps (CarryOut d) s t _ p g (good (CarryOut d) x) x.1.3 refl refl
-    go (Lose d) x = keeps (Lose d) s t _ p g (good (Lose d) x) x.1.4 refl refl
-    go (TellLoss d) x = stays (TellLoss d) s t _ p g (good (TellLoss d) x) x.1.2 refl refl
-    go (Start d) x = stays (Start d) s t _ p g (good (Start d) x) x.1.3 refl refl
-    go (Ask y) x = stays (Ask y) s t _ p g (good (Ask y) x) x.1.4 refl refl
-    go Answer x = stays Answer s t _ p g (good Answer x) x.state_is refl refl
-    go (ShowWord d offset) x = stays (ShowWord d offset) s t s p g (good (ShowWord d offset) x) x.1.4 refl refl
-    go (SendCommand c d bytes) x = stays (SendCommand c d bytes) s t _ p g (good (SendCommand c d bytes) x) x.1.4 refl refl
-    go (SendFrame d) x = stays (SendFrame d) s t _ p g (good (SendFrame d) x) x.1.state_is refl refl
-    go (Receive o) x = stays (Receive o) s t _ p g (good (Receive o) x) x.1.state_is refl refl
-    go (InsertTape d tape system) x = stays (InsertTape d tape system) s t _ p g (good (InsertTape d tape system) x) x.1.4 refl refl
-    go (EjectTape d) x = stays (EjectTape d) s t _ p g (good (EjectTape d) x) x.1.4 refl refl
-    go StartCycle x = stays StartCycle s t _ p g (good StartCycle x) x.1.2 refl refl
-    go (SendPacket q block) x = stays (SendPacket q block) s t s p g (good (SendPacket q block) x) x.1.3 refl refl
-    go (BecomeCandidate d) x = stays (BecomeCandidate d) s t _ p g (good (BecomeCandidate d) x) x.1.4 refl refl
-    go (Contend d) x = stays (Contend d) s t _ p g (good (Contend d) x) x.1.state_is refl refl
-    go (TieReel d) x = stays (TieReel d) s t _ p g (good (TieReel d) x) x.1.4 refl refl
-    go (KeepBlock block) x = stays (KeepBlock block) s t _ p g (good (KeepBlock block) x) x.1.1 refl refl
-    go Finish x = stays Finish s t _ p g (good Finish x) x.1.1 refl refl
+    go : Effect s a out t → CountsThrough a s t p
+    go (resetting resets half_steps n initiator free begins may r) = keeps a s t (after_reset_entry (declaring (numbered s resets half_steps) n) r.entry) p g good r.state_is refl (timeless_gives a s p (begun_timeless a begins))
+    go (altering y waits out_is is ok) = by y ok is
 
 -- ---- bus resets and deaths
 

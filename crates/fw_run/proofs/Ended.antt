@@ -1,45 +1,29 @@
 -- Only the end of the script writes the end of the log.
-use Rattle.std.proofs.Common.{◌≡◌, ◌≢◌, ◌⊎◌, inl, inr, ℕ, zero, suc, ◌+◌, List, [], ◌∷◌, ◌++◌, ◌==◌, ◌&&◌, cond, Bool, true, false, Option, Some, None, option_map, refl, sym, subst, IsFalse}
+use Rattle.std.proofs.Common.{◌≡◌, ◌≢◌, ◌⊎◌, inl, inr, ℕ, zero, suc, ◌+◌, List, [], ◌∷◌, ◌++◌, ◌==◌, ◌&&◌, cond, Bool, true, false, Option, Some, None, refl, sym, subst, ◌∙◌, IsFalse}
 use Rattle.std.specs.Prelude.{⊤}
-use Rattle.fw_async.specs.declared.packet.Packet.{Packet}
 use Rattle.fw_entry.specs.declared.entry.Entry.{Entry}
-use Rattle.fw_entry.specs.declared.entry.Entry.TheVariants.{Reset, Async, Iso}
+use Rattle.fw_entry.specs.declared.entry.Entry.TheVariants.{Reset, End as EndEntry}
 use Rattle.fw_entry.specs.declared.entry.Timed.{Timed}
 use Rattle.fw_entry.specs.Log.{is_end}
-use Rattle.fw_cmp.specs.declared.current.Current.{Current}
-use Rattle.fw_cmp.specs.declared.current.Current.TheVariants.{Nothing, Asking, Hearing, Overtaken}
-use Rattle.fw_cmp.specs.declared.outcome.Next.{Next}
-use Rattle.fw_cmp.specs.declared.outcome.Next.TheVariants.{Send, End as EndOf, Idle, Waiting, Deaf, Force}
-use Rattle.fw_cmp.specs.declared.request.Access.{Access}
-use Rattle.fw_cmp.specs.Requests.{access_of, request_of, addressee_of}
-use Rattle.fw_cmp.specs.Turns.{next}
-use Rattle.fw_node.specs.Packets.{packet_of}
 use Rattle.fw_script.specs.declared.command.Command.{Command}
-use Rattle.fw_script.specs.declared.command.Command.TheVariants as Commands
 use Rattle.fw_run.specs.declared.order.Order.{Order}
-use Rattle.fw_run.specs.declared.order.Order.TheVariants as order
 use Rattle.fw_run.specs.Giving.{at_most}
-use Rattle.fw_run.specs.Entries.{second_over, died, started, inserted, ejected, unsettled, shown_entry, lost, withheld, dubbing}
-use Rattle.fw_run.specs.State.{State, is_on, living, with_device, directory_of}
-use Rattle.fw_run.specs.Frames.{command_write, response_write, frame_packet}
-use Rattle.fw_run.specs.Spaces.{transaction_head, access_request, answer_packet, read_at}
-use Rattle.fw_run.specs.HalfSteps.{head_from, said, hears, hears_from, half, half_of}
+use Rattle.fw_run.specs.State.{State, living}
 use Rattle.fw_base.specs.declared.plug.PlugAt.{PlugAt}
 use Rattle.fw_entry.specs.declared.entry.ResetEntry.{ResetEntry}
-use Rattle.fw_run.specs.Streams.{bytes_of, cycle_start, stream_packet, talkers}
-use Rattle.fw_run.specs.Actions.{Action, Withhold, AddDevice, AddCable, ResetBus, StartConnection, StartBreak, HalfStep, Rest, Unsettled, Pass, EndSecond, Die, CarryOut, Lose, TellLoss, Start, Ask, Answer, ShowWord, SendCommand, SendFrame, Receive, InsertTape, EjectTape, StartCycle, SendPacket, BecomeCandidate, Contend, TieReel, KeepBlock, Finish, Declares, Joins, with_topology, Step, Steps}
+use Rattle.fw_run.specs.Streams.{talkers}
+use Rattle.fw_run.specs.Actions.{Action, HalfStep, Unsettled, Pass, EndSecond, Contend, KeepBlock, Finish, Step, Steps}
 use Rattle.fw_run.specs.Carrying.{times, half_steps_of, Rounds, none, round, rest, Carries, withholds, withholds_already, declares, joins, resets, connects, breaks, steps, settled, unsettled as not_settled, waits, waits_over, writes_cycles, next_cycle, SendsPackets, HasCycle, HasCycles, dies, dies_late, dies_idle, loses, starts, goes_on, transacts, shows, commanded, inserts, ejects, ejects_nothing, SendsAll, quiet, sends, becomes_candidate, stays_candidate, contends, dubs, ends}
 use Rattle.fw_run.specs.Rules.{IsOrder}
 use Rattle.fw_run.specs.Runs.{Run, begun, and_then}
 use Rattle.fw_run.specs.Logs.{HasNoEnd}
-use Rattle.fw_manager.specs.Bids.{CandidateState, stage_in}
-use Rattle.fw_manager.specs.declared.bid.Bid.TheVariants.{Elected, Defeated}
-use Rattle.fw_manager.specs.declared.candidate.Stage.{Stage as BidStage}
-use Rattle.fw_manager.specs.declared.candidate.Stage.TheVariants.{Fresh, Asked, Heard, Answered}
-use Rattle.fw_run.specs.Bidding.{bid_said, bid_at, bid_step, epoch_at}
 use Rattle.fw_run.specs.Recording.{heard_in}
 use Rattle.fw_run.proofs.Runs.{carries_steps}
-use Rattle.fw_run.proofs.Taking.{Taken, listens, keeps_deaf, forces_reset, taken_as}
+use Rattle.fw_run.proofs.Marks.{Closes, Ends, Marks, Neither, closes, ends as ends_second, mark, nothing}
+use Rattle.fw_run.proofs.Alterations.{marked, told_by}
+use Rattle.fw_run.proofs.Effects.{Effect, altering, effect, resetting}
+use Rattle.fw_script.specs.declared.command.Command.TheVariants as Commands
+use Rattle.fw_run.specs.declared.order.Order.TheVariants as order
 
 -- ---- entries
 
@@ -64,47 +48,11 @@ most_unended cycle (Some e) out f is = subst IsUnended (sym is) (f, tt)
 none_unended : (out : List Timed) → out ≡ [] → IsUnended out
 none_unended out is = subst IsUnended (sym is) tt
 
-half_unended : (s : State) (d : ℕ) → GoesOn (half s d).says
-half_unended s d = go (s.controllers d).current
-  where
-    said_on : (x : Next) → GoesOn (said s d x)
-    said_on (Send to q) = refl
-    said_on (EndOf i o) = refl
-    said_on Idle = tt
-    said_on (Waiting until) = tt
-    said_on (Deaf until) = tt
-    said_on Force = tt
-
-    packet_on : (o : Option Packet) → GoesOn (option_map Async o)
-    packet_on None = tt
-    packet_on (Some p) = refl
-
-    from : (o : Option ℕ) (a : Access) → GoesOn (hears_from s d o a).says
-    from None a = tt
-    from (Some to) a = packet_on (answer_packet s to (head_from s d to) (request_of a))
-
-    heard : (o : Option Access) → GoesOn (hears s d o).says
-    heard None = tt
-    heard (Some a) = from (addressee_of (directory_of s) a.target) a
-
-    go : (c : Current) → GoesOn (half_of s d c).says
-    go Nothing = said_on (next s.clock.cycle (directory_of s) (s.controllers d))
-    go (Asking j stage) = said_on (next s.clock.cycle (directory_of s) (s.controllers d))
-    go (Hearing j stage) = heard (access_of j stage)
-    go (Overtaken i o) = said_on (next s.clock.cycle (directory_of s) (s.controllers d))
-
-bid_unended : (s : State) (d manager : ℕ) (c : CandidateState) → GoesOn (bid_step s d manager c).says
-bid_unended s d manager c = go (stage_in (epoch_at s) c)
-  where
-    ends_so : (b : Bool) (word : ℕ) → GoesOn (bid_said s d (cond b Elected (Defeated word)))
-    ends_so true word = refl
-    ends_so false word = refl
-
-    go : (stage : BidStage) → GoesOn (bid_at s d manager c stage).says
-    go Fresh = refl
-    go Asked = refl
-    go (Heard word) = ends_so (word == 0x3F) word
-    go Answered = tt
+-- one that is not the end of the log
+other_unended : (o : Option Entry) → (mark o ≡ Closes → ⊥) → GoesOn o
+other_unended None other = tt
+other_unended (Some EndEntry) other = absurd (other refl)
+other_unended (Some _) other = refl
 
 -- ---- actions
 
@@ -116,53 +64,17 @@ abbrev pub HasNoFinish : List Action → Type 0
 HasNoFinish [] = ⊤
 HasNoFinish (a ∷ actions) = IsNoFinish a × HasNoFinish actions
 
-declares_unended : (names : List (List ℕ)) (s t : State) (out : List Timed) → Declares names s out t → IsUnended out
-declares_unended [] s t out r = most_unended s.clock.cycle (Some (Reset r.entry)) out refl r.out_is
-declares_unended (x ∷ names) s t out r = none_unended out r.0
-
-joins_unended : (x y : Bool) (a b : ℕ) (s t : State) (out : List Timed) → Joins x y a b s out t → IsUnended out
-joins_unended true false a b s t out r = most_unended s.clock.cycle (Some (Reset r.1.entry)) out refl r.1.out_is
-joins_unended false true a b s t out r = most_unended s.clock.cycle (Some (Reset r.1.entry)) out refl r.1.out_is
-joins_unended true true a b s t out r = none_unended out r.0
-joins_unended false false a b s t out r = none_unended out r.0
-
-taken_unended : (s : State) (d : ℕ) (out : List Timed) (t : State) → Taken s d out t → IsUnended out
-taken_unended s d out t (listens heard out_is is) = most_unended s.clock.cycle (half s d).says out (half_unended s d) out_is
-taken_unended s d out t (keeps_deaf deaf out_is is) = none_unended out out_is
-taken_unended s d out t (forces_reset deaf r) = most_unended s.clock.cycle (Some (Reset r.entry)) out refl r.out_is
-
 step_unended : (s t : State) (a : Action) (out : List Timed) → IsNoFinish a → Step s a out t → IsUnended out
-step_unended s t Withhold out nf x = most_unended s.clock.cycle (Some withheld) out refl x.1.2
-step_unended s t (AddDevice name kind ports speed) out nf x = declares_unended s.declared.names (record s { declared = with_device s.declared name kind ports speed }) t out x.1.4
-step_unended s t (AddCable a b) out nf x = joins_unended (is_on s a.device) (is_on s b.device) a.device b.device (with_topology s x.1.0) t out x.1.2
-step_unended s t (ResetBus d) out nf x = let r = x.1.1.1 in most_unended s.clock.cycle (Some (Reset r.entry)) out refl r.out_is
-step_unended s t (StartConnection d w) out nf x = none_unended out x.1.3
-step_unended s t (StartBreak d i) out nf x = none_unended out x.1.2
-step_unended s t (HalfStep d) out nf x = taken_unended s d out t (taken_as s d out t x.1.2)
-step_unended s t (Rest n) out nf x = none_unended out x.1.2
-step_unended s t Unsettled out nf x = most_unended s.clock.cycle (Some unsettled) out refl x.1.1
-step_unended s t (Pass n) out nf x = none_unended out x.1.2
-step_unended s t EndSecond out nf x = most_unended (s.clock.cycle + 1) (Some second_over) out refl x.1.3
-step_unended s t (Die d) out nf x = most_unended s.clock.cycle (Some (died d)) out refl x.1.1
-step_unended s t (CarryOut d) out nf x = most_unended s.clock.cycle (half s d).says out (half_unended s d) x.1.2
-step_unended s t (Lose d) out nf x = most_unended s.clock.cycle (half s d).says out (half_unended s d) x.1.3
-step_unended s t (TellLoss d) out nf x = most_unended s.clock.cycle (Some (lost d)) out refl x.1.1
-step_unended s t (Start d) out nf x = most_unended s.clock.cycle (Some (started d)) out refl x.1.2
-step_unended s t (Ask y) out nf x = most_unended s.clock.cycle (Some (Async (packet_of (transaction_head s y) (access_request y.access)))) out refl x.1.3
-step_unended s t Answer out nf x = most_unended s.clock.cycle (Some (Async x.response)) out refl x.out_is
-step_unended s t (ShowWord d offset) out nf x = most_unended s.clock.cycle (Some (shown_entry d offset (read_at s d offset).value)) out refl x.1.3
-step_unended s t (SendCommand a b bytes) out nf x = most_unended s.clock.cycle (Some (Async (frame_packet s (command_write a b bytes)))) out refl x.1.3
-step_unended s t (SendFrame d) out nf x = let y = x.1 in most_unended s.clock.cycle (Some (Async (frame_packet s (response_write d y.to y.told.1)))) out refl y.out_is
-step_unended s t (Receive o) out nf x = let y = x.1 in most_unended s.clock.cycle (Some (Async y.response)) out refl y.out_is
-step_unended s t (InsertTape d tape system) out nf x = most_unended s.clock.cycle (Some (inserted d tape system)) out refl x.1.3
-step_unended s t (EjectTape d) out nf x = most_unended s.clock.cycle (Some (ejected d)) out refl x.1.3
-step_unended s t StartCycle out nf x = most_unended s.clock.cycle (Some (Async (cycle_start x.1.1.0.root s.clock.cycle))) out refl x.1.1.2
-step_unended s t (SendPacket p block) out nf x = most_unended s.clock.cycle (Some (Iso (stream_packet s p (bytes_of block)))) out refl x.1.2
-step_unended s t (BecomeCandidate d) out nf x = none_unended out x.1.3
-step_unended s t (Contend d) out nf x = let y = x.1 in most_unended s.clock.cycle (bid_step s d y.manager y.candidate).says out (bid_unended s d y.manager y.candidate) y.out_is
-step_unended s t (TieReel d) out nf x = most_unended s.clock.cycle (Some (dubbing d)) out refl x.1.3
-step_unended s t (KeepBlock block) out nf x = none_unended out x.1.0
-step_unended s t Finish out nf x = absurd nf
+step_unended s t a out nf x = go (effect s a out t x)
+  where
+    open_ : (o : Option Entry) → Marks a o → mark o ≡ Closes → ⊥
+    open_ o (nothing is) f = let clash : Neither ≡ Closes = sym is ∙ f in cc clash
+    open_ o (ends_second e is) f = let clash : Ends ≡ Closes = sym is ∙ f in cc clash
+    open_ o (closes e is) f = absurd (subst IsNoFinish e nf)
+
+    go : Effect s a out t → IsUnended out
+    go (resetting counts half_steps n initiator free begins may r) = most_unended s.clock.cycle (Some (Reset r.entry)) out refl r.out_is
+    go (altering y w out_is is ok) = most_unended _ (told_by s y) out (other_unended (told_by s y) (open_ (told_by s y) (marked s a y ok))) out_is
 
 pub steps_unended : (s t : State) (actions : List Action) (out : List Timed) → HasNoFinish actions → Steps s actions out t → IsUnended out
 steps_unended s t [] out nf f = none_unended out f.0

@@ -1,5 +1,5 @@
 -- The packets by which frames are written, and those that answer them: the account does not see them, and they may be written.
-use Rattle.std.proofs.Common.{◌≡◌, ℕ, zero, suc, ◌<◌, ◌^◌, ◌==◌, cond, List, ◌∷◌, length, slice_index, Bool, true, false, Option, Some, None, refl, ap, sym, subst, ◌∙◌, arith}
+use Rattle.std.proofs.Common.{◌≡◌, ℕ, zero, suc, ◌<◌, ◌^◌, ◌==◌, cond, List, ◌∷◌, length, slice_index, Bool, true, false, Option, Some, None, refl, sym, subst, ◌∙◌, arith}
 use Rattle.std.specs.Int.{from_be_bytes, w32}
 use Rattle.std.proofs.lemmas.Option.{same_Some}
 use Rattle.fw_async.specs.Async as Async
@@ -17,7 +17,6 @@ use Rattle.fw_entry.specs.declared.entry.Entry.TheVariants.{Async as AsyncEntry}
 use Rattle.fw_entry.specs.declared.entry.Timed.{Timed}
 use Rattle.fw_entry.specs.Log.{Fits}
 use Rattle.fw_account.specs.Account.{Account}
-use Rattle.fw_account.specs.Fold.{next_account}
 use Rattle.fw_account.specs.Words.{node_of}
 use Rattle.fw_node.specs.Packets.{packet_of, response_head, response_to, RequestFits}
 use Rattle.fw_node.specs.Space.{Space, answer_of, register_at}
@@ -26,12 +25,11 @@ use Rattle.fw_fcp.specs.Frames.{spelling}
 use Rattle.fw_node.specs.Fcp.{IsSendable}
 use Rattle.fw_run.specs.Decks.{Obeyed, FrameWrite}
 use Rattle.fw_run.specs.Frames.{request_of, frame_head, frame_packet, response_write, Receives}
-use Rattle.fw_run.specs.Giving.{at_most}
 use Rattle.fw_run.specs.Good.{IsGood}
 use Rattle.fw_run.specs.Spaces.{answer_packet, reply_from, space_of_node}
 use Rattle.fw_run.specs.State.{State}
 use Rattle.fw_run.proofs.Bounds.{node_few}
-use Rattle.fw_run.proofs.Led.{Led, Says, led_now, unread}
+use Rattle.fw_run.proofs.Led.{LeavesAccount, unread}
 
 -- a quadlet write, or a block write
 abbrev pub write_by : Bool → ℕ → List ℕ → Request
@@ -39,19 +37,12 @@ write_by b offset bytes = cond b (Asks.Write offset (from_be_bytes w32 bytes)) (
 
 -- ---- the write
 
-by_next : (l : Account) (h : Head) (b : Bool) (offset : ℕ) (bytes : List ℕ) → next_account l (AsyncEntry (packet_of h (write_by b offset bytes))) ≡ Some l
-by_next l h true offset bytes = refl
-by_next l h false offset bytes = refl
+by_leaves : (l : Account) (h : Head) (b : Bool) (offset : ℕ) (bytes : List ℕ) → LeavesAccount l (Some (AsyncEntry (packet_of h (write_by b offset bytes))))
+by_leaves l h true offset bytes = (refl, ((tt, tt), unread l (packet_of h (write_by true offset bytes)) (λ q. tt)))
+by_leaves l h false offset bytes = (refl, ((tt, tt), unread l (packet_of h (write_by false offset bytes)) (λ q. tt)))
 
-by_says : (l : Account) (h : Head) (b : Bool) (offset : ℕ) (bytes : List ℕ) → Says l (Some (AsyncEntry (packet_of h (write_by b offset bytes))))
-by_says l h true offset bytes = ((tt, tt), unread l (packet_of h (write_by true offset bytes)) (λ q. tt))
-by_says l h false offset bytes = ((tt, tt), unread l (packet_of h (write_by false offset bytes)) (λ q. tt))
-
-pub write_led : (s : State) (w : FrameWrite) (u : State) (out : List Timed) (t : State) → out ≡ at_most s.clock.cycle (Some (AsyncEntry (frame_packet s w))) → t ≡ u → u.account ≡ s.account → u.clock.cycle ≡ s.clock.cycle → Led s out t
-write_led s w u out t is to account cycle =
-    led_now s (Some (AsyncEntry (frame_packet s w))) out t (ap (λ (z : State). z.clock.cycle) to ∙ cycle) is
-    (by_next s.account (frame_head s w) (length w.bytes == 4) w.offset w.bytes ∙ ap (λ a. Some a) (sym (ap (λ (z : State). z.account) to ∙ account)))
-    (by_says s.account (frame_head s w) (length w.bytes == 4) w.offset w.bytes)
+pub write_leaves : (s : State) (w : FrameWrite) → LeavesAccount s.account (Some (AsyncEntry (frame_packet s w)))
+write_leaves s w = by_leaves s.account (frame_head s w) (length w.bytes == 4) w.offset w.bytes
 
 by_fits : (h : Head) (b : Bool) (offset : ℕ) (bytes : List ℕ) → Async.HeadFits h → RequestFits (write_by b offset bytes) → Async.Fits (packet_of h (write_by b offset bytes))
 by_fits h true offset bytes head f = (head, f.0, f.1)
@@ -103,15 +94,15 @@ answer_to s w = WriteReply (response_head (node_of s.account.latest w.to) (frame
 pub write_answered : (s : State) (w : FrameWrite) → answer_packet s (node_of s.account.latest w.to) (frame_head s w) (request_of w) ≡ Some (answer_to s w)
 write_answered s w = by_answered (node_of s.account.latest w.to) (frame_head s w) (length w.bytes == 4) w.offset w.bytes (reply_from s (node_of s.account.latest w.to) (request_of w))
 
-answer_is : (s : State) (o : Option Obeyed) (out : List Timed) (t : State) → (x : Receives s o out t) → answer_to s x.write ≡ x.response
-answer_is s o out t x =
-    let n = node_of s.account.latest x.write.to in
-    same_Some (answer_to s x.write) x.response (sym (by_answered n (frame_head s x.write) (length x.write.bytes == 4) x.write.offset x.write.bytes (reply_from s n (request_of x.write))) ∙ x.answered)
+-- p answers the write w
+abbrev pub IsAnswerTo : State → FrameWrite → Packet → Type 0
+IsAnswerTo s w p = answer_packet s (node_of s.account.latest w.to) (frame_head s w) (request_of w) ≡ Some p
 
-pub received_led : (s : State) (o : Option Obeyed) (out : List Timed) (t : State) → Receives s o out t → Led s out t
-received_led s o out t x = led_now s (Some (AsyncEntry x.response)) out t (ap (λ (z : State). z.clock.cycle) x.state_is) x.out_is
-    (subst (λ p. next_account s.account (AsyncEntry p) ≡ Some t.account) (answer_is s o out t x) (ap (λ (z : State). Some z.account) (sym x.state_is)))
-    (subst (λ p. Says s.account (Some (AsyncEntry p))) (answer_is s o out t x) ((tt, tt), unread s.account (answer_to s x.write) (λ q. tt)))
+answer_is : (s : State) (w : FrameWrite) (p : Packet) → IsAnswerTo s w p → answer_to s w ≡ p
+answer_is s w p is = same_Some (answer_to s w) p (sym (write_answered s w) ∙ is)
+
+pub received_leaves : (s : State) (w : FrameWrite) (p : Packet) → IsAnswerTo s w p → LeavesAccount s.account (Some (AsyncEntry p))
+received_leaves s w p is = subst (λ z. LeavesAccount s.account (Some (AsyncEntry z))) (answer_is s w p is) (refl, ((tt, tt), unread s.account (answer_to s w) (λ q. tt)))
 
 register_low : (o : Option Register) (b : Bool) (offset : ℕ) (bytes : List ℕ) → (reply o (write_by b offset bytes)).rcode < 2 ^ 4
 register_low None true offset bytes = omega arith
@@ -132,4 +123,4 @@ received_fits s o out t g x =
     let n = node_of s.account.latest x.write.to in
     let few = node_few s x.write.to g in
     let head = heads_fit s x.write g in
-    subst Async.Fits (answer_is s o out t x) ((head.4, head.1, omega arith, omega arith, omega (arith, few)), reply_low (space_of_node s n) (length x.write.bytes == 4) x.write.offset x.write.bytes)
+    subst Async.Fits (answer_is s x.write x.response x.answered) ((head.4, head.1, omega arith, omega arith, omega (arith, few)), reply_low (space_of_node s n) (length x.write.bytes == 4) x.write.offset x.write.bytes)

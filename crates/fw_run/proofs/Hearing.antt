@@ -1,8 +1,7 @@
 -- An input plug of a device that is off hears nothing, whatever happens.
-use Rattle.std.proofs.Common.{◌≡◌, ℕ, ◌<◌, ◌||◌, ◌&&◌, List, [], ◌∷◌, Bool, true, false, Option, Some, None, is_some, refl, ap, sym, subst, ◌∙◌, arith, IsTrue}
+use Rattle.std.proofs.Common.{◌≡◌, ℕ, ◌<◌, ◌||◌, ◌&&◌, List, Bool, true, false, Option, Some, None, is_some, refl, ap, sym, subst, ◌∙◌, arith, IsTrue}
 use Rattle.std.proofs.lemmas.Bool.Decides.{nat_tests}
 use Rattle.fw_base.specs.Devices.{input_plugs_of}
-use Rattle.fw_base.specs.declared.device.DeviceKind.{DeviceKind}
 use Rattle.fw_base.specs.declared.plug.PlugAt.{PlugAt}
 use Rattle.fw_base.specs.Tables.{at_plug}
 use Rattle.fw_entry.specs.declared.entry.ResetEntry.{ResetEntry}
@@ -20,18 +19,17 @@ use Rattle.fw_words.specs.Quadlet.{field}
 use Rattle.fw_run.specs.Dubs.{hears_in}
 use Rattle.fw_run.specs.Hearing.{HasHearing}
 use Rattle.fw_run.specs.Good.{IsGood, IsLatest}
-use Rattle.fw_run.specs.State.{State, Declared, first_state, with_device, number_in, is_on, is_living}
-use Rattle.fw_run.specs.Actions.{Action, Withhold, AddDevice, AddCable, ResetBus, StartConnection, StartBreak, HalfStep, Rest, Unsettled, Pass, EndSecond, Die, CarryOut, Lose, TellLoss, Start, Ask, Answer, ShowWord, SendCommand, SendFrame, Receive, InsertTape, EjectTape, StartCycle, SendPacket, BecomeCandidate, Contend, TieReel, KeepBlock, Finish, Resets, Declares, Joins, with_topology, counting, beginning, counted, Step}
+use Rattle.fw_run.specs.State.{State, Declared, first_state, number_in, is_on}
+use Rattle.fw_run.specs.Actions.{Action, Resets, Step}
 use Rattle.fw_run.proofs.Buses.{row_place}
-use Rattle.fw_run.proofs.Cables.{cabled_may, begun_may, forced_may, on_some}
-use Rattle.fw_run.proofs.Declares.{first_may}
 use Rattle.fw_run.proofs.Grows.{stays_node}
 use Rattle.fw_run.proofs.Resets.{declaring, MayReset, reset_follows}
 use Rattle.fw_run.proofs.Settling.{half_turn}
-use Rattle.fw_run.proofs.Taking.{Taken, listens, keeps_deaf, forces_reset, taken_as}
 use Rattle.fw_run.proofs.Times.{second_ends}
 use Rattle.fw_run.proofs.Withholds.{withholding_keeps}
 use Rattle.fw_run.proofs.Words.{number_of_on}
+use Rattle.fw_run.proofs.Alterations.{Allows, Alteration, Halved, Over, Withheld, altered}
+use Rattle.fw_run.proofs.Effects.{Effect, altering, effect, numbered, resetting}
 
 pub first_hearing : HasHearing first_state
 first_hearing = record { quiet = λ d k off. refl }
@@ -123,61 +121,15 @@ resets_hearing s n initiator out t m h r = subst HasHearing (sym r.state_is) (re
 
 -- ---- each action
 
-declares_hearing : (s : State) (name : List ℕ) (kind : DeviceKind) (ports speed : ℕ) (out : List Timed) (t : State) → IsGood s → HasHearing s
-    → (s.declared.names ≡ [] → MayReset (beginning s) (with_device s.declared name kind ports speed)) → Declares s.declared.names (declaring s (with_device s.declared name kind ports speed)) out t → HasHearing t
-declares_hearing s name kind ports speed out t g h may = go s.declared.names refl
-  where
-    go : (names : List (List ℕ)) → s.declared.names ≡ names → Declares names (declaring s (with_device s.declared name kind ports speed)) out t → HasHearing t
-    go [] none r = resets_hearing (beginning s) (with_device s.declared name kind ports speed) 0 out t (may none) (as_it_was s (beginning s) _ (λ q e. e) refl refl h) r
-    go (x ∷ names) more r = as_it_was s _ t (λ q e. e) refl r.1 h
-
-counting_hearing : (s : State) → HasHearing s → HasHearing (counting s)
-counting_hearing s h = as_it_was s (counting s) _ (λ q e. e) refl refl h
-
-taken_hearing : (s : State) (d : ℕ) (out : List Timed) (t : State) → IsGood s → HasHearing s → IsTrue (is_living s d) → s.half_steps < 4000000 → Taken s d out t → HasHearing t
-taken_hearing s d out t g h lives few (listens quiet said is) = as_it_was s _ t (λ q e. quiet_and _ _ e) (half_turn s d g lives).1.latest is h
-taken_hearing s d out t g h lives few (keeps_deaf deaf said is) = as_it_was s _ t (λ q e. e) refl is h
-taken_hearing s d out t g h lives few (forces_reset deaf r) =
-    resets_hearing (counted s 1) s.declared d out t (forced_may s d g lives deaf few) (as_it_was s (counted s 1) _ (λ q e. e) refl refl h) r
-
 pub step_hearing : (s : State) (a : Action) (out : List Timed) (t : State) → IsGood s → HasHearing s → Step s a out t → HasHearing t
-step_hearing s Withhold out t g h x = as_it_was s _ t (λ q e. e) (withholding_keeps (λ (l : Account). l.latest) s.account refl) x.1.3 h
-step_hearing s (AddDevice name kind ports speed) out t g h x = declares_hearing s name kind ports speed out t g h (λ empty. first_may s name kind ports speed (record { good = g; room = x.1.0; some = x.1.1; most = x.1.2; fast = x.1.3 }) empty) x.1.4
-step_hearing s (AddCable a b) out t g h x = go (is_on s a.device) (is_on s b.device) refl refl x.1.2
+step_hearing s a out t g h x = go (effect s a out t x)
   where
-    n : Declared
-    n = record s.declared { topology = x.1.0 }
+    by : (y : Alteration) → Allows s a y → HasHearing (altered s y)
+    by (Halved d lost resets half_steps) ok = as_it_was s _ _ (λ q e. quiet_and _ _ e) (half_turn s d g ok.2).1.latest refl h
+    by Over ok = as_it_was s _ _ (λ q e. refl) (ap (λ (l : Account). l.latest) (second_ends s.account ok.1)) refl h
+    by Withheld ok = as_it_was s _ _ (λ q e. e) (withholding_keeps (λ (l : Account). l.latest) s.account refl) refl h
+    by _ ok = as_it_was s _ _ (λ q e. e) refl refl h
 
-    go : (y z : Bool) → is_on s a.device ≡ y → is_on s b.device ≡ z → Joins y z a.device b.device (with_topology s x.1.0) out t → HasHearing t
-    go true false on_a off_b r = resets_hearing (counting s) n a.device out t (cabled_may s x.1.0 a b g x.1.1 (on_some s a.device g on_a) r.0) (counting_hearing s h) r.1
-    go false true off_a on_b r = resets_hearing (counting s) n b.device out t (cabled_may s x.1.0 a b g x.1.1 (on_some s b.device g on_b) r.0) (counting_hearing s h) r.1
-    go true true on_a on_b r = as_it_was s _ t (λ q e. e) refl r.1 h
-    go false false off_a off_b r = as_it_was s _ t (λ q e. e) refl r.1 h
-step_hearing s (ResetBus d) out t g h x = resets_hearing (counting s) s.declared d out t (begun_may s d g x.1.0 x.1.1.0) (counting_hearing s h) x.1.1.1
-step_hearing s (StartConnection d w) out t g h x = as_it_was s _ t (λ q e. e) refl x.1.4 h
-step_hearing s (StartBreak d i) out t g h x = as_it_was s _ t (λ q e. e) refl x.1.3 h
-step_hearing s (HalfStep d) out t g h x = taken_hearing s d out t g h x.1.0 x.1.1 (taken_as s d out t x.1.2)
-step_hearing s (Rest n) out t g h x = as_it_was s _ t (λ q e. e) refl x.1.3 h
-step_hearing s Unsettled out t g h x = as_it_was s _ t (λ q e. e) refl x.1.2 h
-step_hearing s (Pass n) out t g h x = as_it_was s _ t (λ q e. e) refl x.1.3 h
-step_hearing s EndSecond out t g h x = as_it_was s _ t (λ q e. refl) (ap (λ (l : Account). l.latest) (second_ends s.account x.1.1)) x.1.4 h
-step_hearing s (Die d) out t g h x = as_it_was s _ t (λ q e. e) refl x.1.2 h
-step_hearing s (CarryOut d) out t g h x = as_it_was s _ t (λ q e. quiet_and _ _ e) (half_turn s d g x.1.0).1.latest x.1.3 h
-step_hearing s (Lose d) out t g h x = as_it_was s _ t (λ q e. quiet_and _ _ e) (half_turn s d g x.1.0).1.latest x.1.4 h
-step_hearing s (TellLoss d) out t g h x = as_it_was s _ t (λ q e. e) refl x.1.2 h
-step_hearing s (Start d) out t g h x = as_it_was s _ t (λ q e. e) refl x.1.3 h
-step_hearing s (Ask y) out t g h x = as_it_was s _ t (λ q e. e) refl x.1.4 h
-step_hearing s Answer out t g h x = as_it_was s _ t (λ q e. e) refl x.state_is h
-step_hearing s (ShowWord d offset) out t g h x = as_it_was s s t (λ q e. e) refl x.1.4 h
-step_hearing s (SendCommand a b bytes) out t g h x = as_it_was s _ t (λ q e. e) refl x.1.4 h
-step_hearing s (SendFrame d) out t g h x = as_it_was s _ t (λ q e. e) refl x.1.state_is h
-step_hearing s (Receive o) out t g h x = as_it_was s _ t (λ q e. e) refl x.1.state_is h
-step_hearing s (InsertTape d tape system) out t g h x = as_it_was s _ t (λ q e. e) refl x.1.4 h
-step_hearing s (EjectTape d) out t g h x = as_it_was s _ t (λ q e. e) refl x.1.4 h
-step_hearing s StartCycle out t g h x = as_it_was s _ t (λ q e. e) refl x.1.2 h
-step_hearing s (SendPacket p block) out t g h x = as_it_was s s t (λ q e. e) refl x.1.3 h
-step_hearing s (BecomeCandidate d) out t g h x = as_it_was s _ t (λ q e. e) refl x.1.4 h
-step_hearing s (Contend d) out t g h x = as_it_was s _ t (λ q e. e) refl x.1.state_is h
-step_hearing s (TieReel d) out t g h x = as_it_was s _ t (λ q e. e) refl x.1.4 h
-step_hearing s (KeepBlock block) out t g h x = as_it_was s _ t (λ q e. e) refl x.1.1 h
-step_hearing s Finish out t g h x = as_it_was s _ t (λ q e. e) refl x.1.1 h
+    go : Effect s a out t → HasHearing t
+    go (resetting resets half_steps n initiator free begins may r) = resets_hearing (numbered s resets half_steps) n initiator out t (may g) (as_it_was s (numbered s resets half_steps) _ (λ q e. e) refl refl h) r
+    go (altering y waits out_is is ok) = subst HasHearing (sym is) (by y ok)

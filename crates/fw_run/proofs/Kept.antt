@@ -1,5 +1,5 @@
 -- The numbers that a state keeps stay in their fields.
-use Rattle.std.proofs.Common.{◌≡◌, ℕ, ◌+◌, ◌^◌, ◌<◌, ◌==◌, ◌++◌, List, [], ◌∷◌, Bool, true, false, cond, Some, None, refl, sym, subst, ◌∙◌, arith, IsTrue}
+use Rattle.std.proofs.Common.{◌≡◌, ℕ, ◌+◌, ◌^◌, ◌<◌, ◌==◌, ◌++◌, List, Bool, true, false, cond, Some, None, refl, sym, subst, ◌∙◌, arith, IsTrue}
 use Rattle.std.specs.Prelude.{Ok, Err}
 use Rattle.std.specs.declared.result.Result.{Result}
 use Rattle.std.specs.Int.{to_be_bytes, w32}
@@ -7,7 +7,6 @@ use Rattle.fw_base.specs.Tables.{update}
 use Rattle.fw_words.specs.Quadlet.{quadlet_at}
 use Rattle.fw_csr.specs.Manager.{after_at}
 use Rattle.fw_entry.specs.declared.entry.Timed.{Timed}
-use Rattle.fw_tree.specs.Topology.{Topology}
 use Rattle.fw_account.specs.Words.{first_address}
 use Rattle.fw_cmp.specs.declared.connection.Slot.{Slot}
 use Rattle.fw_cmp.specs.declared.current.Current.{Current}
@@ -18,10 +17,10 @@ use Rattle.fw_cmp.specs.Starts.{started as given, break_started}
 use Rattle.fw_run.specs.declared.order.Access.{Access}
 use Rattle.fw_run.specs.declared.order.Access.TheVariants.{Read, Swap}
 use Rattle.fw_run.specs.declared.order.Transaction.{Transaction}
-use Rattle.fw_run.specs.State.{State, Declared, first_state, directory_of, is_on, is_linked, is_living, with_device, is_deaf}
+use Rattle.fw_run.specs.State.{State, Declared, first_state, directory_of, is_linked, is_living, is_deaf}
 use Rattle.fw_run.specs.Spaces.{access_request, target_node, is_manager, bus_manager_id_after}
 use Rattle.fw_run.specs.HalfSteps.{HalfStep as Half, asks, half, half_of, after_half}
-use Rattle.fw_run.specs.Actions.{Action, Withhold, AddDevice, AddCable, ResetBus, StartConnection, StartBreak, HalfStep, Rest, Unsettled, Pass, EndSecond, Die, CarryOut, Lose, TellLoss, Start, Ask, Answer, ShowWord, SendCommand, SendFrame, Receive, InsertTape, EjectTape, StartCycle, SendPacket, BecomeCandidate, Contend, TieReel, KeepBlock, Finish, Resets, Declares, Joins, with_topology, after_reset_entry, slot_of, start_of, Step, counting, beginning, counted}
+use Rattle.fw_run.specs.Actions.{Action, Resets, after_reset_entry, slot_of, start_of, Step}
 use Rattle.fw_run.specs.Good.{IsGood}
 use Rattle.fw_run.specs.Numbers.{CurrentShows, HasNumbers}
 use Rattle.fw_run.proofs.Endings.{next_shows, hears_shows, reset_shows}
@@ -29,10 +28,10 @@ use Rattle.fw_run.proofs.Events.{break_current}
 use Rattle.fw_run.proofs.Fitting.{heard_fits}
 use Rattle.fw_run.proofs.Hears.{heard_of, half_hears, reply_heard}
 use Rattle.fw_run.proofs.Resets.{declaring}
-use Rattle.fw_run.specs.Bidding.{bid_step, bidden}
 use Rattle.fw_run.proofs.Bidding.{bid_below}
 use Rattle.fw_run.proofs.Turns.{each_of}
-use Rattle.fw_run.proofs.Taking.{Taken, listens, keeps_deaf, forces_reset, taken_as}
+use Rattle.fw_run.proofs.Alterations.{Allows, Alteration, Answered, Asked, Bid, Breaks, Connected, Died, Halved, Started, Waits, altered}
+use Rattle.fw_run.proofs.Effects.{Effect, altering, effect, numbered, resetting}
 
 pub first_numbers : HasNumbers first_state
 first_numbers = record { shows = λ d. tt; bus_manager_id = omega arith; asks = λ x waits. absurd (cc waits) }
@@ -57,19 +56,6 @@ reset_numbers s n initiator out t b none r =
     let few = r.few in
     let low : r.entry.epoch < 2 ^ 32 = omega (arith, is, few) in
     subst HasNumbers (sym r.state_is) (numbers_of s (after_reset_entry (declaring s n) r.entry) none refl (omega arith) (λ d. reset_shows r.entry.epoch (is_deaf s d) (s.controllers d) low (b.shows d)))
-
-counting_numbers : (s : State) → HasNumbers s → HasNumbers (counting s)
-counting_numbers s b = record { shows = b.shows; bus_manager_id = b.bus_manager_id; asks = b.asks }
-
-declare_numbers : (s : State) (names : List (List ℕ)) (n : Declared) (out : List Timed) (t : State) → HasNumbers s → s.transaction ≡ None → Declares names (declaring s n) out t → HasNumbers t
-declare_numbers s [] n out t b none r = reset_numbers (beginning s) n 0 out t (record { shows = b.shows; bus_manager_id = b.bus_manager_id; asks = b.asks }) none r
-declare_numbers s (x ∷ names) n out t b none r = subst HasNumbers (sym r.1) (numbers_of s (declaring s n) none refl b.bus_manager_id b.shows)
-
-join_numbers : (x y : Bool) (a b : ℕ) (s : State) (g : Topology) (out : List Timed) (t : State) → HasNumbers s → s.transaction ≡ None → Joins x y a b (with_topology s g) out t → HasNumbers t
-join_numbers true false a b s g out t h none r = reset_numbers (counting s) (record s.declared { topology = g }) a out t (counting_numbers s h) none r.1
-join_numbers false true a b s g out t h none r = reset_numbers (counting s) (record s.declared { topology = g }) b out t (counting_numbers s h) none r.1
-join_numbers true true a b s g out t h none r = subst HasNumbers (sym r.1) (numbers_of s (with_topology s g) none refl h.bus_manager_id h.shows)
-join_numbers false false a b s g out t h none r = subst HasNumbers (sym r.1) (numbers_of s (with_topology s g) none refl h.bus_manager_id h.shows)
 
 -- ---- half steps
 
@@ -121,46 +107,21 @@ id_below s x b = either (is_manager s.account.latest (target_node s x)) _ s.bus_
 
 -- ---- each action
 
--- where the controllers and BUS_MANAGER_ID stay
-same_numbers : (s u t : State) → HasNumbers s → s.transaction ≡ None → u.transaction ≡ s.transaction → u.bus_manager_id ≡ s.bus_manager_id → u.controllers ≡ s.controllers → t ≡ u → HasNumbers t
-same_numbers s u t b none x id controllers is = subst HasNumbers (sym is) (numbers_of s u none x (subst (λ k. k < 2 ^ 32) (sym id) b.bus_manager_id) (subst (λ (f : ℕ → ControllerState). (d : ℕ) → CurrentShows (f d).current) (sym controllers) b.shows))
-
-taken_numbers : (s : State) (d : ℕ) (out : List Timed) (t : State) → IsGood s → HasNumbers s → s.transaction ≡ None → IsTrue (is_living s d) → Taken s d out t → HasNumbers t
-taken_numbers s d out t g b none lives (listens quiet said is) = let h = half_numbers s d g b none lives in subst HasNumbers (sym is) (numbers_of s _ none refl h.bus_manager_id h.shows)
-taken_numbers s d out t g b none lives (keeps_deaf deaf said is) = same_numbers s _ t b none refl refl refl is
-taken_numbers s d out t g b none lives (forces_reset deaf r) = reset_numbers (counted s 1) s.declared d out t (numbers_of s (counted s 1) none refl b.bus_manager_id b.shows) none r
-
 pub step_numbers : (s : State) (a : Action) (out : List Timed) (t : State) → IsGood s → HasNumbers s → Step s a out t → HasNumbers t
-step_numbers s Withhold out t g b x = same_numbers s _ t b x.0 refl refl refl x.1.3
-step_numbers s (AddDevice name kind ports speed) out t g b x = declare_numbers s s.declared.names (with_device s.declared name kind ports speed) out t b x.0 x.1.4
-step_numbers s (AddCable p q) out t g b x = join_numbers (is_on s p.device) (is_on s q.device) p.device q.device s x.1.0 out t b x.0 x.1.2
-step_numbers s (ResetBus d) out t g b x = reset_numbers (counting s) s.declared d out t (counting_numbers s b) x.0 x.1.1.1
-step_numbers s (StartConnection d w) out t g b x =
-    subst HasNumbers (sym x.1.4) (numbers_of s _ x.0 refl b.bus_manager_id
-    (one_shows s d (given (start_of d w (s.controllers d)) (slot_of w) (s.controllers d)) b (subst CurrentShows (sym (given_current (start_of d w (s.controllers d)) (slot_of w) (s.controllers d))) (b.shows d))))
-step_numbers s (StartBreak d i) out t g b x = subst HasNumbers (sym x.1.3) (numbers_of s _ x.0 refl b.bus_manager_id (one_shows s d (break_started (s.controllers d) i) b (subst CurrentShows (sym (break_current (s.controllers d) i x.1.1)) (b.shows d))))
-step_numbers s (HalfStep d) out t g b x = taken_numbers s d out t g b x.0 x.1.0 (taken_as s d out t x.1.2)
-step_numbers s (Rest n) out t g b x = same_numbers s _ t b x.0 refl refl refl x.1.3
-step_numbers s Unsettled out t g b x = same_numbers s _ t b x.0 refl refl refl x.1.2
-step_numbers s (Pass n) out t g b x = same_numbers s _ t b x.0 refl refl refl x.1.3
-step_numbers s EndSecond out t g b x = subst HasNumbers (sym x.1.4) (numbers_of s _ x.0 refl b.bus_manager_id b.shows)
-step_numbers s (Die d) out t g b x = subst HasNumbers (sym x.1.2) (numbers_of s _ x.0 refl b.bus_manager_id (one_shows s d new_controller b tt))
-step_numbers s (CarryOut d) out t g b x = subst HasNumbers (sym x.1.3) (half_numbers s d g b x.0 x.1.0)
-step_numbers s (Lose d) out t g b x = let h = half_numbers s d g b x.0 x.1.0 in subst HasNumbers (sym x.1.4) (numbers_of s _ x.0 refl h.bus_manager_id h.shows)
-step_numbers s (TellLoss d) out t g b x = same_numbers s _ t b x.0 refl refl refl x.1.2
-step_numbers s (Start d) out t g b x = subst HasNumbers (sym x.1.3) (numbers_of s _ x.0 refl b.bus_manager_id (one_shows s d new_controller b tt))
-step_numbers s (Ask y) out t g b x = subst HasNumbers (sym x.1.4) (record { shows = b.shows; bus_manager_id = b.bus_manager_id; asks = λ z waits. let same : y ≡ z = cc in subst (λ (w : Transaction). IsTrue (is_linked s w.to)) same x.1.1 })
-step_numbers s Answer out t g b x = subst HasNumbers (sym x.state_is) (record { shows = b.shows; bus_manager_id = id_below s x.transaction b; asks = λ z waits. absurd (cc waits) })
-step_numbers s (ShowWord d offset) out t g b x = subst HasNumbers (sym x.1.4) b
-step_numbers s (SendCommand a c bytes) out t g b x = same_numbers s _ t b x.0 refl refl refl x.1.4
-step_numbers s (SendFrame d) out t g b x = same_numbers s _ t b x.0 refl refl refl x.1.state_is
-step_numbers s (Receive o) out t g b x = same_numbers s _ t b x.0 refl refl refl x.1.state_is
-step_numbers s (InsertTape d tape system) out t g b x = same_numbers s _ t b x.0 refl refl refl x.1.4
-step_numbers s (EjectTape d) out t g b x = same_numbers s _ t b x.0 refl refl refl x.1.4
-step_numbers s StartCycle out t g b x = same_numbers s _ t b x.0 refl refl refl x.1.2
-step_numbers s (SendPacket p block) out t g b x = subst HasNumbers (sym x.1.3) b
-step_numbers s (BecomeCandidate d) out t g b x = same_numbers s _ t b x.0 refl refl refl x.1.4
-step_numbers s (Contend d) out t g b x = let y = x.1 in subst HasNumbers (sym y.state_is) (numbers_of s (bidden s d (bid_step s d y.manager y.candidate)) x.0 refl (bid_below s d y.manager y.candidate b.bus_manager_id) b.shows)
-step_numbers s (TieReel d) out t g b x = same_numbers s _ t b x.0 refl refl refl x.1.4
-step_numbers s (KeepBlock block) out t g b x = same_numbers s _ t b x.0 refl refl refl x.1.1
-step_numbers s Finish out t g b x = same_numbers s _ t b x.0 refl refl refl x.1.1
+step_numbers s a out t g b x = go (effect s a out t x)
+  where
+    by : (y : Alteration) → Waits s y → Allows s a y → HasNumbers (altered s y)
+    by (Halved d lost resets half_steps) none ok = let h = half_numbers s d g b none ok.2 in numbers_of s _ none refl h.bus_manager_id h.shows
+    by (Connected d w) none ok =
+        numbers_of s _ none refl b.bus_manager_id (one_shows s d (given (start_of d w (s.controllers d)) (slot_of w) (s.controllers d)) b (subst CurrentShows (sym (given_current (start_of d w (s.controllers d)) (slot_of w) (s.controllers d))) (b.shows d)))
+    by (Breaks d i) none ok = numbers_of s _ none refl b.bus_manager_id (one_shows s d (break_started (s.controllers d) i) b (subst CurrentShows (sym (break_current (s.controllers d) i ok.3)) (b.shows d)))
+    by (Died d) none ok = numbers_of s _ none refl b.bus_manager_id (one_shows s d new_controller b tt)
+    by (Started d) none ok = numbers_of s _ none refl b.bus_manager_id (one_shows s d new_controller b tt)
+    by (Asked y) none ok = record { shows = b.shows; bus_manager_id = b.bus_manager_id; asks = λ z waits. let same : y ≡ z = cc in subst (λ (w : Transaction). IsTrue (is_linked s w.to)) same ok.2 }
+    by (Answered y response) waits ok = record { shows = b.shows; bus_manager_id = id_below s y b; asks = λ z waits. absurd (cc waits) }
+    by (Bid d manager c) none ok = numbers_of s _ none refl (bid_below s d manager c b.bus_manager_id) b.shows
+    by _ none ok = numbers_of s _ none refl b.bus_manager_id b.shows
+
+    go : Effect s a out t → HasNumbers t
+    go (resetting resets half_steps n initiator free begins may r) = reset_numbers (numbered s resets half_steps) n initiator out t (numbers_of s (numbered s resets half_steps) free refl b.bus_manager_id b.shows) free r
+    go (altering y waits out_is is ok) = subst HasNumbers (sym is) (by y waits ok)

@@ -1,5 +1,5 @@
 -- What an action writes: one entry at most, by which the account is led on, and whose word, if it shows one, is the account's.
-use Rattle.std.proofs.Common.{◌≡◌, ◌⊎◌, inl, ℕ, ◌≤◌, List, [], Option, Some, None, refl, ap, sym, subst, ◌∙◌, arith, IsTrue}
+use Rattle.std.proofs.Common.{◌≡◌, ◌⊎◌, inl, ℕ, ◌≤◌, List, Option, Some, None, refl, sym, subst, arith, IsTrue}
 use Rattle.std.specs.Prelude.{⊤}
 use Rattle.fw_async.specs.declared.packet.Head.{Head}
 use Rattle.fw_async.specs.declared.packet.Packet.{Packet}
@@ -24,14 +24,14 @@ use Rattle.fw_step.specs.Requests.{Tells, IsResponse, procedure_head}
 use Rattle.fw_step.proofs.Leads.{turn_tells}
 use Rattle.fw_run.specs.declared.order.Transaction.{Transaction}
 use Rattle.fw_run.specs.Giving.{at_most}
-use Rattle.fw_run.specs.State.{State, Declared, Clock, is_linked, is_living, directory_of}
+use Rattle.fw_run.specs.State.{State, Declared, is_linked, is_living, directory_of}
 use Rattle.fw_run.specs.Spaces.{transaction_head, access_request}
-use Rattle.fw_run.specs.HalfSteps.{HalfStep, said, asks, half, half_of, after_half}
+use Rattle.fw_run.specs.HalfSteps.{HalfStep, said, asks, half, half_of}
 use Rattle.fw_run.specs.Actions.{Resets}
 use Rattle.fw_run.specs.Headline.{IsAnswered, IsReadBy, IsReadIn}
 use Rattle.fw_run.specs.Good.{IsGood}
 use Rattle.fw_run.proofs.Hears.{heard_of, half_hears}
-use Rattle.fw_run.proofs.Leads.{NextIs, linked_of, half_next}
+use Rattle.fw_run.proofs.Leads.{NextIs, linked_of}
 use Rattle.fw_run.proofs.Responses.{heard_shows}
 use Rattle.fw_run.proofs.Turns.{living_linked}
 
@@ -48,6 +48,10 @@ abbrev pub Says : Account → Option Entry → Type 0
 Says l None = ⊤
 Says l (Some e) = IsAnswered l e × ((u : Entry) → IsReadIn l e u)
 
+-- the account stays as it is with it, and the word that it shows, if any, is the account's
+abbrev pub LeavesAccount : Account → Option Entry → Type 0
+LeavesAccount l o = NextIs l o l × Says l o
+
 pub record Led (s : State) (out : List Timed) (t : State) : Type 0 where
   pub entry : Option Entry
   pub is : out ≡ at_most t.clock.cycle entry
@@ -59,7 +63,7 @@ pub record Led (s : State) (out : List Timed) (t : State) : Type 0 where
   -- its cycle is not behind that of the next
   pub later : s.clock.cycle ≤ t.clock.cycle
 
--- ---- what writes nothing, and what writes an entry that asks for nothing
+-- ---- what writes nothing, or an entry that asks for nothing
 
 no_entry : (e : Entry) → None ≡ Some e → ⊥
 no_entry e x = cc x
@@ -81,13 +85,6 @@ led_says s o out t is next says later = record {
   asks = λ e u x. inl (says_unread s.account o e u says x);
   later = later;
 }
-
--- where the cycle stays
-pub led_now : (s : State) (o : Option Entry) (out : List Timed) (t : State) → t.clock.cycle ≡ s.clock.cycle → out ≡ at_most s.clock.cycle o → NextIs s.account o t.account → Says s.account o → Led s out t
-led_now s o out t same is next says = led_says s o out t (is ∙ ap (λ c. at_most c o) (sym same)) next says (omega (arith, same))
-
-pub led_silent : (s : State) (out : List Timed) (t : State) → out ≡ [] → t.account ≡ s.account → s.clock.cycle ≤ t.clock.cycle → Led s out t
-led_silent s out t none same later = led_says s None out t none same tt later
 
 -- ---- packets
 
@@ -175,12 +172,7 @@ half_says s d g lives = go (s.controllers d).current refl
         subst (λ (y : HalfStep). Says s.account y.says) (sym h.half_is)
         (heard_shows s d j stage g (linked_of s d g (living_linked s d lives)) e x h, unread s.account h.response.packet (λ q. response_unread s.account _ _ _ h.response.packet q h.response.is))
 
-pub half_led : (s : State) (d : ℕ) (out : List Timed) (t : State) → IsGood s → IsTrue (is_living s d) → out ≡ at_most s.clock.cycle (half s d).says → t.account ≡ (after_half s d).account → t.clock ≡ s.clock → Led s out t
-half_led s d out t g lives is account clock =
-    led_now s (half s d).says out t (ap (λ (c : Clock). c.cycle) clock) is (subst (NextIs s.account (half s d).says) (sym account) (half_next s d g lives)) (half_says s d g lives)
-
 -- ---- bus resets
 
 pub reset_led : (s : State) (n : Declared) (counts given : ℕ) (initiator : ℕ) (out : List Timed) (t : State) → Resets (record s { declared = n; resets = counts; half_steps = given }) initiator out t → Led s out t
-reset_led s n counts given initiator out t r =
-    led_now s (Some (Reset r.entry)) out t (ap (λ (x : State). x.clock.cycle) r.state_is) r.out_is (ap (λ (x : State). Some x.account) (sym r.state_is)) ((tt, tt), λ u. tt)
+reset_led s n counts given initiator out t r = subst (λ (z : State). Led s out z) (sym r.state_is) (led_says s (Some (Reset r.entry)) out _ r.out_is refl ((tt, tt), λ u. tt) (omega arith))

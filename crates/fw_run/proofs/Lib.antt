@@ -61,6 +61,10 @@ pub mod Settling
 pub mod Rules
 pub mod Seconds
 pub mod Plain
+pub mod Marks
+pub mod Writable
+pub mod Alterations
+pub mod Effects
 pub mod Contending
 pub mod Elected
 pub mod Candidates

@@ -1,6 +1,5 @@
 -- Each action leaves the output plugs that linger as its entry says, and a half step as their words say.
-use Rattle.std.proofs.Common.{◌≡◌, ℕ, ◌<◌, ◌==◌, ◌&&◌, List, Bool, true, false, Option, Some, None, is_some, option_map, refl, ap, sym, subst, ◌∙◌, arith}
-use Rattle.std.proofs.Common.{IsTrue}
+use Rattle.std.proofs.Common.{◌≡◌, ℕ, ◌<◌, ◌==◌, ◌&&◌, List, Bool, true, false, Option, Some, None, is_some, option_map, refl, ap, sym, subst, ◌∙◌, arith, IsTrue}
 use Rattle.std.specs.Prelude.{⊤}
 use Rattle.std.proofs.lemmas.Bool.Decides.{nat_tests}
 use Rattle.fw_base.specs.Devices.{output_plugs_of}
@@ -33,8 +32,7 @@ use Rattle.fw_run.specs.Giving.{at_most}
 use Rattle.fw_run.specs.State.{State, directory_of, number_in, is_on, is_living}
 use Rattle.fw_run.specs.Spaces.{answer_packet}
 use Rattle.fw_run.specs.HalfSteps.{head_from, said, hears, hears_from, half, half_of, after_half}
-use Rattle.fw_run.specs.Actions.{Action, Withhold, AddDevice, AddCable, ResetBus, StartConnection, StartBreak, HalfStep, Rest, Unsettled, Pass, EndSecond, Die, Lose, TellLoss}
-use Rattle.fw_run.specs.Actions.{CarryOut, Start, Ask, Answer, ShowWord, SendCommand, SendFrame, Receive, InsertTape, EjectTape, StartCycle, SendPacket, BecomeCandidate, Contend, TieReel, KeepBlock, Finish, Step}
+use Rattle.fw_run.specs.Actions.{Action, AddDevice, AddCable, ResetBus, HalfStep, Pass, EndSecond, Lose, CarryOut, Step}
 use Rattle.fw_run.specs.Good.{IsGood, IsLatest}
 use Rattle.fw_run.specs.Lingering.{LingerBy, LingerThrough, LingerHalf}
 use Rattle.fw_run.proofs.Along.{step_led}
@@ -45,6 +43,8 @@ use Rattle.fw_run.proofs.Times.{second_ends}
 use Rattle.fw_run.proofs.Words.{number_of_on}
 use Rattle.fw_run.proofs.Taking.{Taken, listens, keeps_deaf, forces_reset, taken_as}
 use Rattle.fw_run.proofs.Withholds.{withholding_keeps}
+use Rattle.fw_run.proofs.Alterations.{Allows, Alteration, Halved, IsHalf, IsTimeless, MayBegin, Over, Withheld, altered}
+use Rattle.fw_run.proofs.Effects.{Effect, altering, effect, resetting}
 
 -- ---- by an entry, or none
 
@@ -144,39 +144,28 @@ taken_lingers s d out t g lives w (listens quiet said is) = subst (λ o. LingerH
 taken_lingers s d out t g lives w (keeps_deaf deaf said is) = subst (λ o. LingerHalf o s.account t.account) (sym said) (leads_to (LingerUnchanged s.account) t _ is (still_linger s.account))
 taken_lingers s d out t g lives w (forces_reset deaf r) = by_force s.clock.cycle r.entry out s.account t.account r.out_is (by_entry s t out g w)
 
+-- one that is no bus reset, no half step and no end of a second
+leaves : (s : State) (a : Action) (out : List Timed) (t : State) → (MayBegin a → ⊥) → (IsHalf a → ⊥) → IsTimeless a → Effect s a out t → SameLinger s.account t.account
+leaves s a out t unbegun whole timeless (resetting resets half_steps n initiator free begins may r) = absurd (unbegun begins)
+leaves s a out t unbegun whole timeless (altering y waits out_is is ok) = leads_to (SameLinger s.account) t _ is (go y ok)
+  where
+    go : (y : Alteration) → Allows s a y → SameLinger s.account (altered s y).account
+    go (Halved d lost resets half_steps) ok = absurd (whole ok.1)
+    go Over ok = absurd (subst IsTimeless ok.0 timeless)
+    go Withheld ok = λ p. withholding_keeps (λ (l : Account). l.continues p) s.account refl
+    go _ ok = λ p. refl
+
 pub step_lingers : (s : State) (a : Action) (out : List Timed) (t : State) → IsGood s → Step s a out t → LingerThrough a out s.account t.account
-step_lingers s Withhold out t g x = leads_to (SameLinger s.account) t _ x.1.3 (λ p. withholding_keeps (λ (l : Account). l.continues p) s.account refl)
 step_lingers s (AddDevice name kind ports speed) out t g x = by_entry s t out g (step_led s t (AddDevice name kind ports speed) out g x)
 step_lingers s (AddCable a b) out t g x = by_entry s t out g (step_led s t (AddCable a b) out g x)
 step_lingers s (ResetBus d) out t g x = by_entry s t out g (step_led s t (ResetBus d) out g x)
-step_lingers s (StartConnection d w) out t g x = leads_to (SameLinger s.account) t _ x.1.4 (λ p. refl)
-step_lingers s (StartBreak d i) out t g x = leads_to (SameLinger s.account) t _ x.1.3 (λ p. refl)
 step_lingers s (HalfStep d) out t g x = taken_lingers s d out t g x.1.0 (step_led s t (HalfStep d) out g x) (taken_as s d out t x.1.2)
-step_lingers s (Rest n) out t g x = leads_to (SameLinger s.account) t _ x.1.3 (λ p. refl)
-step_lingers s Unsettled out t g x = leads_to (SameLinger s.account) t _ x.1.2 (λ p. refl)
+step_lingers s (CarryOut d) out t g x = leads_to (LingerUnchanged s.account) t _ x.1.3 (half_lingers s d g x.1.0)
+step_lingers s (Lose d) out t g x = leads_to (LingerUnchanged s.account) t _ x.1.4 (half_lingers s d g x.1.0)
 step_lingers s (Pass n) out t g x = leads_to (SameLinger s.account) t _ x.1.3 (λ p. refl)
 step_lingers s EndSecond out t g x =
     let P : Account → Type 0 = λ l. (p : PlugAt) → l.continues p ≡ false in leads_to P t _ x.1.4 (subst P (sym (second_ends s.account x.1.1)) (λ p. refl))
-step_lingers s (Die d) out t g x = leads_to (SameLinger s.account) t _ x.1.2 (λ p. refl)
-step_lingers s (CarryOut d) out t g x = leads_to (LingerUnchanged s.account) t _ x.1.3 (half_lingers s d g x.1.0)
-step_lingers s (Lose d) out t g x = leads_to (LingerUnchanged s.account) t _ x.1.4 (half_lingers s d g x.1.0)
-step_lingers s (TellLoss d) out t g x = leads_to (SameLinger s.account) t _ x.1.2 (λ p. refl)
-step_lingers s (Start d) out t g x = leads_to (SameLinger s.account) t _ x.1.3 (λ p. refl)
-step_lingers s (Ask y) out t g x = leads_to (SameLinger s.account) t _ x.1.4 (λ p. refl)
-step_lingers s Answer out t g x = leads_to (SameLinger s.account) t _ x.state_is (λ p. refl)
-step_lingers s (ShowWord d offset) out t g x = leads_to (SameLinger s.account) t s x.1.4 (λ p. refl)
-step_lingers s (SendCommand a b bytes) out t g x = leads_to (SameLinger s.account) t _ x.1.4 (λ p. refl)
-step_lingers s (SendFrame d) out t g x = leads_to (SameLinger s.account) t _ x.1.state_is (λ p. refl)
-step_lingers s (Receive obeyed) out t g x = leads_to (SameLinger s.account) t _ x.1.state_is (λ p. refl)
-step_lingers s (InsertTape d tape system) out t g x = leads_to (SameLinger s.account) t _ x.1.4 (λ p. refl)
-step_lingers s (EjectTape d) out t g x = leads_to (SameLinger s.account) t _ x.1.4 (λ p. refl)
-step_lingers s StartCycle out t g x = leads_to (SameLinger s.account) t _ x.1.2 (λ p. refl)
-step_lingers s (SendPacket p block) out t g x = leads_to (SameLinger s.account) t s x.1.3 (λ p. refl)
-step_lingers s (BecomeCandidate d) out t g x = leads_to (SameLinger s.account) t _ x.1.4 (λ p. refl)
-step_lingers s (Contend d) out t g x = leads_to (SameLinger s.account) t _ x.1.state_is (λ p. refl)
-step_lingers s (TieReel d) out t g x = leads_to (SameLinger s.account) t _ x.1.4 (λ p. refl)
-step_lingers s (KeepBlock block) out t g x = leads_to (SameLinger s.account) t _ x.1.1 (λ p. refl)
-step_lingers s Finish out t g x = leads_to (SameLinger s.account) t _ x.1.1 (λ p. refl)
+step_lingers s a out t g x = leaves s a out t (λ no. no) (λ no. no) tt (effect s a out t x)
 
 -- ---- devices on the bus and off it
 

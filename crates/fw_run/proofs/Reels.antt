@@ -6,7 +6,7 @@ use Rattle.fw_entry.specs.declared.entry.ResetEntry.{ResetEntry}
 use Rattle.fw_entry.specs.declared.entry.Timed.{Timed}
 use Rattle.fw_script.specs.declared.command.Command.{Command}
 use Rattle.fw_run.specs.declared.order.Order.{Order}
-use Rattle.fw_run.specs.Actions.{Action, Withhold, AddDevice, AddCable, ResetBus, StartConnection, StartBreak, HalfStep, Rest, Unsettled, Pass, EndSecond, Die, CarryOut, Lose, TellLoss, Start, Ask, Answer, ShowWord, SendCommand, SendFrame, Receive, InsertTape, EjectTape, StartCycle, SendPacket, BecomeCandidate, Contend, TieReel, KeepBlock, Finish, Declares, Joins, Step, Steps}
+use Rattle.fw_run.specs.Actions.{Action, HalfStep, Unsettled, Pass, EndSecond, Contend, KeepBlock, Step, Steps}
 use Rattle.fw_run.specs.Carrying.{times, half_steps_of, Rounds, none, round, rest, SendsAll, quiet, sends, next_cycle, SendsPackets, KeepsCycle, HasCycle, HasCycles, Carries, withholds, withholds_already, declares, joins, resets, connects, breaks, steps, settled, unsettled, waits, waits_over, writes_cycles, dies, dies_late, dies_idle, loses, starts, goes_on, transacts, shows, commanded, inserts, ejects, ejects_nothing, becomes_candidate, stays_candidate, contends, dubs, ends}
 use Rattle.fw_run.specs.Desks.{DeskRelations}
 use Rattle.fw_run.specs.Given.{AreGiven}
@@ -14,14 +14,15 @@ use Rattle.fw_run.specs.Good.{IsGood}
 use Rattle.fw_run.specs.Recorded.{IsKeptAmong, EachOf, AreRecorded}
 use Rattle.fw_run.specs.Recording.{heard_in, reel_keeping, room_of, tape_in}
 use Rattle.fw_run.specs.Runs.{Run, begun, and_then}
-use Rattle.fw_run.specs.State.{State, first_state, is_on, living}
+use Rattle.fw_run.specs.State.{State, first_state, living}
 use Rattle.fw_run.specs.Streams.{talkers}
 use Rattle.fw_run.proofs.Given.{given_append}
 use Rattle.fw_run.proofs.Recorded.{recorded}
 use Rattle.fw_run.proofs.Runs.{steps_then, writes_steps, cycle_steps, carries_steps, run_steps}
 use Rattle.fw_run.proofs.Steps.{steps_good}
-use Rattle.fw_run.proofs.Taking.{Taken, listens, keeps_deaf, forces_reset, taken_as}
 use Rattle.fw_run.proofs.Times.{first_good}
+use Rattle.fw_run.proofs.Alterations.{Allows, Alteration, Kept, Tied, altered}
+use Rattle.fw_run.proofs.Effects.{Effect, altering, effect, resetting}
 
 -- ---- what actions keep
 
@@ -72,53 +73,17 @@ keeping P s (Some d) (Some bytes) h k = go (nat_lt (length s.dub.reel) (room_of 
 reel_as : (P : List ℕ → Type 0) (s u t : State) → t ≡ u → u.dub.reel ≡ s.dub.reel → EachOf P s.dub.reel → EachOf P t.dub.reel
 reel_as P s u t is same h = subst (λ (z : State). EachOf P z.dub.reel) (sym is) (subst (EachOf P) (sym same) h)
 
-declares_reel : (P : List ℕ → Type 0) (names : List (List ℕ)) (s : State) (out : List Timed) (t : State) → Declares names s out t → EachOf P s.dub.reel → EachOf P t.dub.reel
-declares_reel P [] s out t r h = reel_as P s _ t r.state_is refl h
-declares_reel P (x ∷ names) s out t r h = reel_as P s s t r.1 refl h
-
-joins_reel : (P : List ℕ → Type 0) (y z : Bool) (a b : ℕ) (s : State) (out : List Timed) (t : State) → Joins y z a b s out t → EachOf P s.dub.reel → EachOf P t.dub.reel
-joins_reel P true false a b s out t r h = reel_as P s _ t r.1.state_is refl h
-joins_reel P false true a b s out t r h = reel_as P s _ t r.1.state_is refl h
-joins_reel P true true a b s out t r h = reel_as P s s t r.1 refl h
-joins_reel P false false a b s out t r h = reel_as P s s t r.1 refl h
-
-taken_reel : (P : List ℕ → Type 0) (s : State) (d : ℕ) (out : List Timed) (t : State) → Taken s d out t → EachOf P s.dub.reel → EachOf P t.dub.reel
-taken_reel P s d out t (listens hearing said is) h = reel_as P s _ t is refl h
-taken_reel P s d out t (keeps_deaf deaf said is) h = reel_as P s _ t is refl h
-taken_reel P s d out t (forces_reset deaf r) h = reel_as P s _ t r.state_is refl h
-
 step_reel : (P : List ℕ → Type 0) (s : State) (a : Action) (out : List Timed) (t : State) → Step s a out t → HoldsOf P (kept_by a) → EachOf P s.dub.reel → EachOf P t.dub.reel
-step_reel P s Withhold out t x k h = reel_as P s _ t x.1.3 refl h
-step_reel P s (AddDevice name kind ports speed) out t x k h = declares_reel P s.declared.names _ out t x.1.4 h
-step_reel P s (AddCable a b) out t x k h = joins_reel P (is_on s a.device) (is_on s b.device) a.device b.device _ out t x.1.2 h
-step_reel P s (ResetBus d) out t x k h = reel_as P s _ t x.1.1.1.state_is refl h
-step_reel P s (StartConnection d w) out t x k h = reel_as P s _ t x.1.4 refl h
-step_reel P s (StartBreak d i) out t x k h = reel_as P s _ t x.1.3 refl h
-step_reel P s (HalfStep d) out t x k h = taken_reel P s d out t (taken_as s d out t x.1.2) h
-step_reel P s (Rest n) out t x k h = reel_as P s _ t x.1.3 refl h
-step_reel P s Unsettled out t x k h = reel_as P s _ t x.1.2 refl h
-step_reel P s (Pass n) out t x k h = reel_as P s _ t x.1.3 refl h
-step_reel P s EndSecond out t x k h = reel_as P s _ t x.1.4 refl h
-step_reel P s (Die d) out t x k h = reel_as P s _ t x.1.2 refl h
-step_reel P s (CarryOut d) out t x k h = reel_as P s _ t x.1.3 refl h
-step_reel P s (Lose d) out t x k h = reel_as P s _ t x.1.4 refl h
-step_reel P s (TellLoss d) out t x k h = reel_as P s _ t x.1.2 refl h
-step_reel P s (Start d) out t x k h = reel_as P s _ t x.1.3 refl h
-step_reel P s (Ask y) out t x k h = reel_as P s _ t x.1.4 refl h
-step_reel P s Answer out t x k h = reel_as P s _ t x.state_is refl h
-step_reel P s (ShowWord d offset) out t x k h = reel_as P s s t x.1.4 refl h
-step_reel P s (SendCommand a b bytes) out t x k h = reel_as P s _ t x.1.4 refl h
-step_reel P s (SendFrame d) out t x k h = reel_as P s _ t x.1.state_is refl h
-step_reel P s (Receive o) out t x k h = reel_as P s _ t x.1.state_is refl h
-step_reel P s (InsertTape d tape system) out t x k h = reel_as P s _ t x.1.4 refl h
-step_reel P s (EjectTape d) out t x k h = reel_as P s _ t x.1.4 refl h
-step_reel P s StartCycle out t x k h = reel_as P s _ t x.1.2 refl h
-step_reel P s (SendPacket p block) out t x k h = reel_as P s s t x.1.3 refl h
-step_reel P s (BecomeCandidate d) out t x k h = reel_as P s _ t x.1.4 refl h
-step_reel P s (Contend d) out t x k h = reel_as P s _ t x.1.state_is refl h
-step_reel P s (TieReel d) out t x k h = subst (λ (z : State). EachOf P z.dub.reel) (sym x.1.4) tt
-step_reel P s (KeepBlock block) out t x k h = subst (λ (z : State). EachOf P z.dub.reel) (sym x.1.1) (keeping P s s.dub.tied block h k)
-step_reel P s Finish out t x k h = reel_as P s _ t x.1.1 refl h
+step_reel P s a out t x k h = go (effect s a out t x)
+  where
+    by : (y : Alteration) → Allows s a y → EachOf P (altered s y).dub.reel
+    by (Tied d) ok = tt
+    by (Kept block) ok = keeping P s s.dub.tied block h (subst (λ b. HoldsOf P (kept_by b)) ok.1 k)
+    by _ ok = h
+
+    go : Effect s a out t → EachOf P t.dub.reel
+    go (resetting counts half_steps n initiator free begins may r) = reel_as P s _ t r.state_is refl h
+    go (altering y w out_is is ok) = subst (λ (z : State). EachOf P z.dub.reel) (sym is) (by y ok)
 
 steps_reel : (P : List ℕ → Type 0) (s : State) (actions : List Action) (out : List Timed) (t : State) → Steps s actions out t → AllKept P actions → EachOf P s.dub.reel → EachOf P t.dub.reel
 steps_reel P s [] out t f k h = reel_as P s s t f.1 refl h

@@ -1,42 +1,25 @@
 -- Each end of a second in a log is one of a second of the run.
-use Rattle.std.proofs.Common.{◌≡◌, ◌⊎◌, inl, inr, ℕ, ◌==◌, List, [], ◌∷◌, ◌++◌, Bool, true, false, Option, Some, None, option_map, refl, ap, sym, subst, ◌∙◌, IsTrue, cond}
-use Rattle.fw_async.specs.declared.packet.Packet.{Packet}
+use Rattle.std.proofs.Common.{◌≡◌, ◌⊎◌, inl, inr, ℕ, ◌==◌, List, [], ◌∷◌, ◌++◌, Bool, true, false, Option, Some, None, refl, ap, sym, subst, ◌∙◌, IsTrue}
 use Rattle.fw_entry.specs.declared.codes.event.TheConstants.{SECOND_OVER}
 use Rattle.fw_entry.specs.declared.entry.Entry.{Entry}
 use Rattle.fw_entry.specs.declared.entry.Entry.TheVariants.{Reset, Async, Iso, Event, Outcome, Shown, End as EndEntry}
 use Rattle.fw_entry.specs.declared.entry.Timed.{Timed}
 use Rattle.fw_account.specs.Account.{Account}
-use Rattle.fw_cmp.specs.declared.current.Current.{Current}
-use Rattle.fw_cmp.specs.declared.current.Current.TheVariants.{Nothing, Asking, Hearing, Overtaken}
-use Rattle.fw_cmp.specs.declared.outcome.Next.{Next}
-use Rattle.fw_cmp.specs.declared.outcome.Next.TheVariants.{Send, End, Idle, Waiting, Deaf, Force}
-use Rattle.fw_cmp.specs.declared.request.Access.{Access}
-use Rattle.fw_cmp.specs.Requests.{access_of, request_of, addressee_of}
-use Rattle.fw_cmp.specs.Turns.{next}
-use Rattle.fw_node.specs.Packets.{packet_of}
 use Rattle.fw_run.specs.Giving.{at_cycle, at_most}
-use Rattle.fw_run.specs.Entries.{second_over, died, started, inserted, ejected, unsettled, shown_entry, lost, withheld, dubbing}
-use Rattle.fw_run.specs.State.{State, Declared, first_state, is_on, directory_of, with_device, is_living}
-use Rattle.fw_run.specs.Frames.{command_write, response_write, frame_packet}
-use Rattle.fw_run.specs.Spaces.{answer_packet, transaction_head, access_request, read_at}
-use Rattle.fw_run.specs.HalfSteps.{head_from, said, hears, hears_from, half, half_of}
-use Rattle.fw_run.specs.Streams.{bytes_of, cycle_start, stream_packet}
-use Rattle.fw_run.specs.Actions.{Action, Withhold, AddDevice, AddCable, ResetBus, StartConnection, StartBreak, HalfStep, Rest, Unsettled, Pass, EndSecond, Die, CarryOut, Lose, TellLoss, Start, Ask, Answer, ShowWord, SendCommand, SendFrame, Receive, InsertTape, EjectTape, StartCycle, SendPacket, BecomeCandidate, Contend, TieReel, KeepBlock, Finish, Resets, Declares, Joins, with_topology, Step, Steps, counting, beginning, counted}
-use Rattle.fw_manager.specs.Bids.{CandidateState, stage_in}
-use Rattle.fw_manager.specs.declared.bid.Bid.TheVariants.{Elected, Defeated}
-use Rattle.fw_manager.specs.declared.candidate.Stage.{Stage as BidStage}
-use Rattle.fw_manager.specs.declared.candidate.Stage.TheVariants.{Fresh, Asked, Heard, Answered}
-use Rattle.fw_run.specs.Bidding.{bid_said, bid_at, bid_step, epoch_at}
+use Rattle.fw_run.specs.Entries.{second_over}
+use Rattle.fw_run.specs.State.{State, first_state}
+use Rattle.fw_run.specs.Actions.{Action, EndSecond, Step, Steps}
 use Rattle.fw_run.specs.Good.{IsGood}
 use Rattle.fw_run.specs.Reclaiming.{IsBusReset, GoesOn, IsSecond, EndsAreSeconds}
 use Rattle.fw_run.proofs.Along.{step_led}
 use Rattle.fw_run.proofs.Led.{Led}
-use Rattle.fw_run.proofs.Resets.{declaring}
 use Rattle.fw_run.proofs.Settling.{half_turn}
 use Rattle.fw_run.proofs.Steps.{step_good}
 use Rattle.fw_run.proofs.Times.{first_good, second_ends}
-use Rattle.fw_run.proofs.Taking.{Taken, listens, keeps_deaf, forces_reset, taken_as}
 use Rattle.fw_run.proofs.Withholds.{withholding_keeps}
+use Rattle.fw_run.proofs.Alterations.{Allows, Alteration, Halved, Over, Withheld, altered, marked, told_by}
+use Rattle.fw_run.proofs.Effects.{Effect, altering, effect, resetting}
+use Rattle.fw_run.proofs.Marks.{Ends, Marks, Neither, closes, ends, event_mark, mark, nothing}
 
 -- ---- which action begins a second
 
@@ -44,56 +27,18 @@ use Rattle.fw_run.proofs.Withholds.{withholding_keeps}
 as_before : (s u t : State) → t ≡ u → u.account.reclaiming ≡ s.account.reclaiming → IsTrue t.account.reclaiming → IsTrue s.account.reclaiming
 as_before s u t is same runs = sym (ap (λ (z : State). z.account.reclaiming) is ∙ same) ∙ runs
 
-resets_begin : (s u : State) (a : Action) (n : Declared) (initiator : ℕ) (out : List Timed) (t : State) → Step s a out t → u.clock.cycle ≡ s.clock.cycle → Resets (declaring u n) initiator out t → IsBusReset s a t ⊎ (IsTrue t.account.reclaiming → IsTrue s.account.reclaiming)
-resets_begin s u a n initiator out t x same r = inl (record { entry = r.entry; step = subst (λ o. Step s a o t) (r.out_is ∙ ap (λ c. at_most c (Some (Reset r.entry))) same) x })
-
-taken_begins : (s : State) (d : ℕ) (out : List Timed) (t : State) → IsGood s → Step s (HalfStep d) out t → IsTrue (is_living s d) → Taken s d out t → IsBusReset s (HalfStep d) t ⊎ (IsTrue t.account.reclaiming → IsTrue s.account.reclaiming)
-taken_begins s d out t g x lives (listens quiet said is) = inr (as_before s _ t is (half_turn s d g lives).1.reclaiming)
-taken_begins s d out t g x lives (keeps_deaf deaf said is) = inr (as_before s _ t is refl)
-taken_begins s d out t g x lives (forces_reset deaf r) = resets_begin s (counted s 1) (HalfStep d) s.declared d out t x refl r
-
 begins : (s : State) (a : Action) (out : List Timed) (t : State) → IsGood s → Step s a out t → IsBusReset s a t ⊎ (IsTrue t.account.reclaiming → IsTrue s.account.reclaiming)
-begins s Withhold out t g x = inr (as_before s _ t x.1.3 (withholding_keeps (λ (l : Account). l.reclaiming) s.account refl))
-begins s (AddDevice name kind ports speed) out t g x = go s.declared.names x.1.4
+begins s a out t g x = go (effect s a out t x)
   where
-    go : (names : List (List ℕ)) → Declares names (declaring s (with_device s.declared name kind ports speed)) out t → IsBusReset s (AddDevice name kind ports speed) t ⊎ (IsTrue t.account.reclaiming → IsTrue s.account.reclaiming)
-    go [] r = resets_begin s (beginning s) (AddDevice name kind ports speed) (with_device s.declared name kind ports speed) 0 out t x refl r
-    go (y ∷ names) r = inr (as_before s _ t r.1 refl)
-begins s (AddCable a b) out t g x = go (is_on s a.device) (is_on s b.device) x.1.2
-  where
-    go : (y z : Bool) → Joins y z a.device b.device (with_topology s x.1.0) out t → IsBusReset s (AddCable a b) t ⊎ (IsTrue t.account.reclaiming → IsTrue s.account.reclaiming)
-    go true false r = resets_begin s (counting s) (AddCable a b) (record s.declared { topology = x.1.0 }) a.device out t x refl r.1
-    go false true r = resets_begin s (counting s) (AddCable a b) (record s.declared { topology = x.1.0 }) b.device out t x refl r.1
-    go true true r = inr (as_before s _ t r.1 refl)
-    go false false r = inr (as_before s _ t r.1 refl)
-begins s (ResetBus d) out t g x = resets_begin s (counting s) (ResetBus d) s.declared d out t x refl x.1.1.1
-begins s (StartConnection d w) out t g x = inr (as_before s _ t x.1.4 refl)
-begins s (StartBreak d i) out t g x = inr (as_before s _ t x.1.3 refl)
-begins s (HalfStep d) out t g x = taken_begins s d out t g x x.1.0 (taken_as s d out t x.1.2)
-begins s (Rest n) out t g x = inr (as_before s _ t x.1.3 refl)
-begins s Unsettled out t g x = inr (as_before s _ t x.1.2 refl)
-begins s (Pass n) out t g x = inr (as_before s _ t x.1.3 refl)
-begins s EndSecond out t g x = inr (λ runs. x.1.1)
-begins s (Die d) out t g x = inr (as_before s _ t x.1.2 refl)
-begins s (CarryOut d) out t g x = inr (as_before s _ t x.1.3 (half_turn s d g x.1.0).1.reclaiming)
-begins s (Lose d) out t g x = inr (as_before s _ t x.1.4 (half_turn s d g x.1.0).1.reclaiming)
-begins s (TellLoss d) out t g x = inr (as_before s _ t x.1.2 refl)
-begins s (Start d) out t g x = inr (as_before s _ t x.1.3 refl)
-begins s (Ask y) out t g x = inr (as_before s _ t x.1.4 refl)
-begins s Answer out t g x = inr (as_before s _ t x.state_is refl)
-begins s (ShowWord d offset) out t g x = inr (as_before s s t x.1.4 refl)
-begins s (SendCommand a b bytes) out t g x = inr (as_before s _ t x.1.4 refl)
-begins s (SendFrame d) out t g x = inr (as_before s _ t x.1.state_is refl)
-begins s (Receive o) out t g x = inr (as_before s _ t x.1.state_is refl)
-begins s (InsertTape d tape system) out t g x = inr (as_before s _ t x.1.4 refl)
-begins s (EjectTape d) out t g x = inr (as_before s _ t x.1.4 refl)
-begins s StartCycle out t g x = inr (as_before s _ t x.1.2 refl)
-begins s (SendPacket p block) out t g x = inr (as_before s s t x.1.3 refl)
-begins s (BecomeCandidate d) out t g x = inr (as_before s _ t x.1.4 refl)
-begins s (Contend d) out t g x = inr (as_before s _ t x.1.state_is refl)
-begins s (TieReel d) out t g x = inr (as_before s _ t x.1.4 refl)
-begins s (KeepBlock block) out t g x = inr (as_before s _ t x.1.1 refl)
-begins s Finish out t g x = inr (as_before s _ t x.1.1 refl)
+    before : (y : Alteration) → Allows s a y → (altered s y).account.reclaiming ≡ true → IsTrue s.account.reclaiming
+    before (Halved d lost resets half_steps) ok runs = sym (half_turn s d g ok.2).1.reclaiming ∙ runs
+    before Over ok runs = ok.1
+    before Withheld ok runs = sym (withholding_keeps (λ (l : Account). l.reclaiming) s.account refl) ∙ runs
+    before _ ok runs = runs
+
+    go : Effect s a out t → IsBusReset s a t ⊎ (IsTrue t.account.reclaiming → IsTrue s.account.reclaiming)
+    go (resetting resets half_steps n initiator free may_begin may r) = inl (record { entry = r.entry; step = subst (λ o. Step s a o t) r.out_is x })
+    go (altering y waits out_is is ok) = inr (λ runs. before y ok (subst (λ (z : State). IsTrue z.account.reclaiming) is runs))
 
 -- ---- the bus reset behind a state in which a second runs
 
@@ -104,36 +49,7 @@ goes_on s EndSecond xs out t x runs on =
     let ended : t.account.reclaiming ≡ false = ap (λ (z : State). z.account.reclaiming) x.1.4 ∙ ap (λ (l : Account). l.reclaiming) (second_ends s.account x.1.1) in
     let wrong : true ≡ false = sym runs ∙ ended in
     cc wrong
-goes_on s Withhold xs out t x runs on = on
-goes_on s (AddDevice name kind ports speed) xs out t x runs on = on
-goes_on s (AddCable a b) xs out t x runs on = on
-goes_on s (ResetBus d) xs out t x runs on = on
-goes_on s (StartConnection d w) xs out t x runs on = on
-goes_on s (StartBreak d i) xs out t x runs on = on
-goes_on s (HalfStep d) xs out t x runs on = on
-goes_on s (Rest n) xs out t x runs on = on
-goes_on s Unsettled xs out t x runs on = on
-goes_on s (Pass n) xs out t x runs on = on
-goes_on s (Die d) xs out t x runs on = on
-goes_on s (CarryOut d) xs out t x runs on = on
-goes_on s (Lose d) xs out t x runs on = on
-goes_on s (TellLoss d) xs out t x runs on = on
-goes_on s (Start d) xs out t x runs on = on
-goes_on s (Ask y) xs out t x runs on = on
-goes_on s Answer xs out t x runs on = on
-goes_on s (ShowWord d offset) xs out t x runs on = on
-goes_on s (SendCommand a b bytes) xs out t x runs on = on
-goes_on s (SendFrame d) xs out t x runs on = on
-goes_on s (Receive o) xs out t x runs on = on
-goes_on s (InsertTape d tape system) xs out t x runs on = on
-goes_on s (EjectTape d) xs out t x runs on = on
-goes_on s StartCycle xs out t x runs on = on
-goes_on s (SendPacket p block) xs out t x runs on = on
-goes_on s (BecomeCandidate d) xs out t x runs on = on
-goes_on s (Contend d) xs out t x runs on = on
-goes_on s (TieReel d) xs out t x runs on = on
-goes_on s (KeepBlock block) xs out t x runs on = on
-goes_on s Finish xs out t x runs on = on
+goes_on s _ xs out t x runs on = on
 
 -- actions with a bus reset among them, since which no second ended
 record Opened (s t : State) (xs : List Action) : Type 0 where
@@ -206,99 +122,31 @@ abbrev pub opens_over : List Timed → Bool
 opens_over [] = false
 opens_over (e ∷ es) = is_over e.what
 
-half_no_over : (s : State) (d c : ℕ) → opens_over (at_most c (half s d).says) ≡ false
-half_no_over s d c = go (s.controllers d).current
+-- an entry that ends none
+no_over : (c : ℕ) (o : Option Entry) → mark o ≡ Neither → opens_over (at_most c o) ≡ false
+no_over c (Some (Event e)) is = go (e.code == SECOND_OVER) is
   where
-    said_no : (x : Next) → opens_over (at_most c (said s d x)) ≡ false
-    said_no (Send to q) = refl
-    said_no (End i o) = refl
-    said_no Idle = refl
-    said_no (Waiting until) = refl
-    said_no (Deaf until) = refl
-    said_no Force = refl
-
-    packet_no : (o : Option Packet) → opens_over (at_most c (option_map Async o)) ≡ false
-    packet_no None = refl
-    packet_no (Some p) = refl
-
-    from : (o : Option ℕ) (a : Access) → opens_over (at_most c (hears_from s d o a).says) ≡ false
-    from None a = refl
-    from (Some to) a = packet_no (answer_packet s to (head_from s d to) (request_of a))
-
-    heard : (o : Option Access) → opens_over (at_most c (hears s d o).says) ≡ false
-    heard None = refl
-    heard (Some a) = from (addressee_of (directory_of s) a.target) a
-
-    go : (cur : Current) → opens_over (at_most c (half_of s d cur).says) ≡ false
-    go Nothing = said_no (next s.clock.cycle (directory_of s) (s.controllers d))
-    go (Asking j stage) = said_no (next s.clock.cycle (directory_of s) (s.controllers d))
-    go (Hearing j stage) = heard (access_of j stage)
-    go (Overtaken i o) = said_no (next s.clock.cycle (directory_of s) (s.controllers d))
-
-bid_no_over : (s : State) (d manager : ℕ) (x : CandidateState) (c : ℕ) → opens_over (at_most c (bid_step s d manager x).says) ≡ false
-bid_no_over s d manager x c = go (stage_in (epoch_at s) x)
-  where
-    ends_so : (b : Bool) (word : ℕ) → opens_over (at_most c (bid_said s d (cond b Elected (Defeated word)))) ≡ false
-    ends_so true word = refl
-    ends_so false word = refl
-
-    go : (stage : BidStage) → opens_over (at_most c (bid_at s d manager x stage).says) ≡ false
-    go Fresh = refl
-    go Asked = refl
-    go (Heard word) = ends_so (word == 0x3F) word
-    go Answered = refl
+    go : (b : Bool) → event_mark b ≡ Neither → b ≡ false
+    go true f = let clash : Ends ≡ Neither = f in absurd (cc clash)
+    go false f = refl
+no_over c _ is = refl
 
 never : (out others : List Timed) → opens_over out ≡ true → out ≡ others → opens_over others ≡ false → ⊥
 never out others over is f = let clash : true ≡ false = sym over ∙ (ap opens_over is ∙ f) in cc clash
 
-taken_no_over : (s : State) (d : ℕ) (out : List Timed) (t : State) → opens_over out ≡ true → Taken s d out t → ⊥
-taken_no_over s d out t over (listens quiet said is) = never out (at_most s.clock.cycle (half s d).says) over said (half_no_over s d s.clock.cycle)
-taken_no_over s d out t over (keeps_deaf deaf said is) = never out [] over said refl
-taken_no_over s d out t over (forces_reset deaf r) = never out (at_most s.clock.cycle (Some (Reset r.entry))) over r.out_is refl
-
 -- it is the end of the second
 ends_it : (s : State) (a : Action) (out : List Timed) (t : State) → Step s a out t → opens_over out ≡ true → Step s EndSecond out t
-ends_it s EndSecond out t x over = x
-ends_it s Withhold out t x over = absurd (never out (at_most s.clock.cycle (Some withheld)) over x.1.2 refl)
-ends_it s (AddDevice name kind ports speed) out t x over = go s.declared.names x.1.4
+ends_it s a out t x over = go (effect s a out t x)
   where
-    go : (names : List (List ℕ)) → Declares names (declaring s (with_device s.declared name kind ports speed)) out t → Step s EndSecond out t
-    go [] r = absurd (never out (at_most s.clock.cycle (Some (Reset r.entry))) over r.out_is refl)
-    go (y ∷ names) r = absurd (never out [] over r.0 refl)
-ends_it s (AddCable a b) out t x over = go (is_on s a.device) (is_on s b.device) x.1.2
-  where
-    go : (y z : Bool) → Joins y z a.device b.device (with_topology s x.1.0) out t → Step s EndSecond out t
-    go true false r = absurd (never out (at_most s.clock.cycle (Some (Reset r.1.entry))) over r.1.out_is refl)
-    go false true r = absurd (never out (at_most s.clock.cycle (Some (Reset r.1.entry))) over r.1.out_is refl)
-    go true true r = absurd (never out [] over r.0 refl)
-    go false false r = absurd (never out [] over r.0 refl)
-ends_it s (ResetBus d) out t x over = let r = x.1.1.1 in absurd (never out (at_most s.clock.cycle (Some (Reset r.entry))) over r.out_is refl)
-ends_it s (StartConnection d w) out t x over = absurd (never out [] over x.1.3 refl)
-ends_it s (StartBreak d i) out t x over = absurd (never out [] over x.1.2 refl)
-ends_it s (HalfStep d) out t x over = absurd (taken_no_over s d out t over (taken_as s d out t x.1.2))
-ends_it s (Rest n) out t x over = absurd (never out [] over x.1.2 refl)
-ends_it s Unsettled out t x over = absurd (never out (at_most s.clock.cycle (Some unsettled)) over x.1.1 refl)
-ends_it s (Pass n) out t x over = absurd (never out [] over x.1.2 refl)
-ends_it s (Die d) out t x over = absurd (never out (at_most s.clock.cycle (Some (died d))) over x.1.1 refl)
-ends_it s (CarryOut d) out t x over = absurd (never out (at_most s.clock.cycle (half s d).says) over x.1.2 (half_no_over s d s.clock.cycle))
-ends_it s (Lose d) out t x over = absurd (never out (at_most s.clock.cycle (half s d).says) over x.1.3 (half_no_over s d s.clock.cycle))
-ends_it s (TellLoss d) out t x over = absurd (never out (at_most s.clock.cycle (Some (lost d))) over x.1.1 refl)
-ends_it s (Start d) out t x over = absurd (never out (at_most s.clock.cycle (Some (started d))) over x.1.2 refl)
-ends_it s (Ask y) out t x over = absurd (never out (at_most s.clock.cycle (Some (Async (packet_of (transaction_head s y) (access_request y.access))))) over x.1.3 refl)
-ends_it s Answer out t x over = absurd (never out (at_most s.clock.cycle (Some (Async x.response))) over x.out_is refl)
-ends_it s (ShowWord d offset) out t x over = absurd (never out (at_most s.clock.cycle (Some (shown_entry d offset (read_at s d offset).value))) over x.1.3 refl)
-ends_it s (SendCommand a b bytes) out t x over = absurd (never out (at_most s.clock.cycle (Some (Async (frame_packet s (command_write a b bytes))))) over x.1.3 refl)
-ends_it s (SendFrame d) out t x over = let y = x.1 in absurd (never out (at_most s.clock.cycle (Some (Async (frame_packet s (response_write d y.to y.told.1))))) over y.out_is refl)
-ends_it s (Receive o) out t x over = let y = x.1 in absurd (never out (at_most s.clock.cycle (Some (Async y.response))) over y.out_is refl)
-ends_it s (InsertTape d tape system) out t x over = absurd (never out (at_most s.clock.cycle (Some (inserted d tape system))) over x.1.3 refl)
-ends_it s (EjectTape d) out t x over = absurd (never out (at_most s.clock.cycle (Some (ejected d))) over x.1.3 refl)
-ends_it s StartCycle out t x over = absurd (never out (at_most s.clock.cycle (Some (Async (cycle_start x.1.1.0.root s.clock.cycle)))) over x.1.1.2 refl)
-ends_it s (SendPacket p block) out t x over = absurd (never out (at_most s.clock.cycle (Some (Iso (stream_packet s p (bytes_of block))))) over x.1.2 refl)
-ends_it s (BecomeCandidate d) out t x over = absurd (never out [] over x.1.3 refl)
-ends_it s (Contend d) out t x over = let y = x.1 in absurd (never out (at_most s.clock.cycle (bid_step s d y.manager y.candidate).says) over y.out_is (bid_no_over s d y.manager y.candidate s.clock.cycle))
-ends_it s (TieReel d) out t x over = absurd (never out (at_most s.clock.cycle (Some (dubbing d))) over x.1.3 refl)
-ends_it s (KeepBlock block) out t x over = absurd (never out [] over x.1.0 refl)
-ends_it s Finish out t x over = absurd (never out (at_most s.clock.cycle (Some EndEntry)) over x.1.0 refl)
+    by : (c : ℕ) (o : Option Entry) → out ≡ at_most c o → Marks a o → Step s EndSecond out t
+    by c o is (nothing f) = absurd (never out (at_most c o) over is (no_over c o f))
+    by c o is (ends e f) = subst (λ b. Step s b out t) e x
+    by c (Some EndEntry) is (closes e f) = absurd (never out (at_most c (Some EndEntry)) over is refl)
+    by c _ is (closes e f) = absurd (cc f)
+
+    go : Effect s a out t → Step s EndSecond out t
+    go (resetting resets half_steps n initiator free begins may r) = absurd (never out (at_most s.clock.cycle (Some (Reset r.entry))) over r.out_is refl)
+    go (altering y waits out_is is ok) = by _ (told_by s y) out_is (marked s a y ok)
 
 -- ---- where a log has the end of a second
 

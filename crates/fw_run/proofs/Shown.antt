@@ -5,11 +5,10 @@ use Rattle.std.proofs.lemmas.Bool.Decides.{nat_tests}
 use Rattle.fw_base.specs.Devices.{output_plugs_of, input_plugs_of}
 use Rattle.fw_base.specs.Tables.{at_plug}
 use Rattle.fw_csr.specs.declared.register.Register.TheVariants.{ReadSwap}
-use Rattle.fw_csr.specs.Manager.{ManagerWords}
 use Rattle.fw_csr.specs.Manager as Managers
 use Rattle.fw_entry.specs.declared.entry.ResetEntry.{ResetEntry}
 use Rattle.fw_account.specs.Words.{Register, BandwidthAvailable, ChannelsAvailable, OutputPlug, InputPlug, word_of, register_at, manager_register, plug_register, output_register, input_register, plug_number, first_output, first_input, is_node, first_address}
-use Rattle.fw_node.specs.Space.{Space, lies_within, manager_register_at, plug_table}
+use Rattle.fw_node.specs.Space.{Space, lies_within}
 use Rattle.fw_node.specs.Space as Spaces
 use Rattle.fw_devices.specs.Network.{kind_at}
 use Rattle.fw_devices.specs.Entries.{row_of, is_number}

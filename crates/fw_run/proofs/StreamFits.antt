@@ -3,7 +3,7 @@ use Rattle.std.proofs.Common.{◌≡◌, ◌<◌, [], ◌∷◌, Bool, true, fal
 use Rattle.fw_base.specs.declared.plug.PlugAt.{PlugAt}
 use Rattle.fw_async.specs.Async as Async
 use Rattle.fw_cip.specs.Iso as Iso
-use Rattle.fw_cip.specs.Iso.{IsBlock, data_length, header_layout, second_layout}
+use Rattle.fw_cip.specs.Iso.{IsBlock, header_layout}
 use Rattle.fw_cip.specs.Streams.{fdf_of}
 use Rattle.fw_words.specs.Layout.{FitWidths}
 use Rattle.fw_entry.specs.declared.entry.ResetEntry.{ResetEntry}

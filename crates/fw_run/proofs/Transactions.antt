@@ -18,13 +18,12 @@ use Rattle.fw_run.specs.Giving.{at_most}
 use Rattle.fw_run.specs.Entries.{shown_entry}
 use Rattle.fw_run.specs.State.{State, number_in, is_linked}
 use Rattle.fw_run.specs.Spaces.{space_of_device, reply_from, read_at, answer_packet, script_head, access_request, target_node, transaction_head}
-use Rattle.fw_run.specs.Actions.{Answers}
 use Rattle.fw_run.specs.Headline.{HasWords, IsAnswered, IsReadBy, IsReadIn}
 use Rattle.fw_run.specs.Good.{IsGood}
 use Rattle.fw_run.proofs.Answers.{answered}
 use Rattle.fw_run.proofs.Directories.{linked_number_is}
 use Rattle.fw_run.proofs.Leads.{linked_of}
-use Rattle.fw_run.proofs.Led.{Led, Says, led_now, unread}
+use Rattle.fw_run.proofs.Led.{LeavesAccount, Led, unread}
 use Rattle.fw_run.proofs.Shown.{space_shows}
 use Rattle.fw_run.proofs.Watched.{shown_watched}
 use Rattle.fw_run.proofs.Words.{number_of_on, answers_word}
@@ -73,38 +72,19 @@ pub responds_with : (s : State) (n : ℕ) (h : Head) (a : Access) → answer_pac
 responds_with s n h (Read offset) = refl
 responds_with s n h (Swap offset argument new) = refl
 
-answered_next : (l : Account) (n to from : ℕ) (a : Access) (r : Reply) → next_account l (Async (access_response n (script_head to from) a r)) ≡ Some l
-answered_next l n to from (Read offset) r = refl
-answered_next l n to from (Swap offset argument new) r = refl
-
-answered_says : (l : Account) (n to from : ℕ) (a : Access) (r : Reply) → Says l (Some (Async (access_response n (script_head to from) a r)))
-answered_says l n to from (Read offset) r = ((tt, tt), unread l (access_response n (script_head to from) (Read offset) r) (λ q. tt))
-answered_says l n to from (Swap offset argument new) r = ((tt, tt), unread l (access_response n (script_head to from) (Swap offset argument new) r) (λ q. tt))
+response_leaves : (l : Account) (n to from : ℕ) (a : Access) (r : Reply) → LeavesAccount l (Some (Async (access_response n (script_head to from) a r)))
+response_leaves l n to from (Read offset) r = (refl, ((tt, tt), unread l (access_response n (script_head to from) (Read offset) r) (λ q. tt)))
+response_leaves l n to from (Swap offset argument new) r = (refl, ((tt, tt), unread l (access_response n (script_head to from) (Swap offset argument new) r) (λ q. tt)))
 
 -- the packet that answers a transaction
 pub response_is : (s : State) (x : Transaction) (p : Packet) → answer_packet s (target_node s x) (transaction_head s x) (access_request x.access) ≡ Some p
     → access_response (target_node s x) (transaction_head s x) x.access (reply_from s (target_node s x) (access_request x.access)) ≡ p
 response_is s x p is = let e : Some (access_response (target_node s x) (transaction_head s x) x.access (reply_from s (target_node s x) (access_request x.access))) ≡ Some p = sym (responds_with s (target_node s x) (transaction_head s x) x.access) ∙ is in cc
 
-pub answer_led : (s : State) (out : List Timed) (t : State) → Answers s out t → Led s out t
-answer_led s out t f = led_now s (Some (Async f.response)) out t (ap (λ (z : State). z.clock.cycle) f.state_is) f.out_is
-    (subst (λ p. next_account s.account (Async p) ≡ Some s.account) same (answered_next s.account n n m x.access r) ∙ ap (λ (z : State). Some z.account) (sym f.state_is))
-    (subst (λ p. Says s.account (Some (Async p))) same (answered_says s.account n n m x.access r))
-  where
-    x : Transaction
-    x = f.transaction
-
-    n : ℕ
-    n = target_node s x
-
-    m : ℕ
-    m = node_of s.account.latest x.from
-
-    r : Reply
-    r = reply_from s n (access_request x.access)
-
-    same : access_response n (transaction_head s x) x.access r ≡ f.response
-    same = response_is s x f.response f.answered
+pub answer_leaves : (s : State) (x : Transaction) (p : Packet) → answer_packet s (target_node s x) (transaction_head s x) (access_request x.access) ≡ Some p → LeavesAccount s.account (Some (Async p))
+answer_leaves s x p is =
+    let n = target_node s x in
+    subst (λ z. LeavesAccount s.account (Some (Async z))) (response_is s x p is) (response_leaves s.account n n (node_of s.account.latest x.from) x.access (reply_from s n (access_request x.access)))
 
 -- ---- a read that is answered
 
@@ -123,8 +103,8 @@ read_pair s x p g on is = subst (λ q. IsReadIn s.account (Async (packet_of (tra
 
 -- ---- a shown word
 
-pub show_led : (s : State) (d offset : ℕ) (out : List Timed) (t : State) → IsGood s → IsTrue (is_linked s d) → (read_at s d offset).rcode ≡ 0 → out ≡ at_most s.clock.cycle (Some (shown_entry d offset (read_at s d offset).value)) → t ≡ s → Led s out t
-show_led s d offset out t g on complete is to = led_now s (Some (shown_entry d offset (read_at s d offset).value)) out t (ap (λ (z : State). z.clock.cycle) to) is (ap (λ (z : State). Some z.account) (sym to)) ((shows, shown_watched s d offset g (linked_number_of s d g on) complete), λ u. tt)
+pub shown_leaves : (s : State) (d offset : ℕ) → IsGood s → IsTrue (is_linked s d) → (read_at s d offset).rcode ≡ 0 → LeavesAccount s.account (Some (shown_entry d offset (read_at s d offset).value))
+shown_leaves s d offset g on complete = (refl, ((shows, shown_watched s d offset g (linked_number_of s d g on) complete), λ u. tt))
   where
     shows : HasWords s.account (shown_entry d offset (read_at s d offset).value)
     shows = λ w at. go (register_at s.account.latest (node_of s.account.latest d) offset) w refl at

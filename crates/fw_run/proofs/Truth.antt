@@ -7,7 +7,6 @@ use Rattle.fw_entry.specs.declared.entry.ResetEntry.{ResetEntry}
 use Rattle.fw_cmp.specs.declared.current.Current.{Current}
 use Rattle.fw_cmp.specs.declared.current.Current.TheVariants.{Nothing, Asking, Hearing, Overtaken}
 use Rattle.fw_cmp.specs.declared.connection.Slot.{Slot}
-use Rattle.fw_cmp.specs.declared.job.Job.{Job}
 use Rattle.fw_cmp.specs.declared.outcome.StartFault.{StartFault}
 use Rattle.fw_cmp.specs.declared.stage.Stage.{Stage}
 use Rattle.fw_cmp.specs.Controllers.{ControllerState, IsHeard, first_state as new_controller}
@@ -67,9 +66,6 @@ quiet_turns s d quiet heard = quiet_at (after_half s d) d quiet ∙ (new ∙ sym
         λ i. record { state = c i; asked_at = a i; lost = false }
 
 -- ---- a loss
-
-stage_standing : (j : Job) (stage : Stage) (c : Current) → c ≡ Hearing j stage → stage_of c ≡ Some stage
-stage_standing j stage c e = ap stage_of e
 
 pub loses_as : (s : State) (d : ℕ) → IsGood s → IsTrue (is_living s d) → IsTrue (has_request (s.controllers d).current) → controller_at (after_loss s d) d ≡ lost (controller_at s d)
 loses_as s d g lives stands = go (s.controllers d).current refl stands

@@ -17,7 +17,7 @@ use Rattle.fw_account.specs.Account.{Request}
 use Rattle.fw_account.specs.Packets.{Read, Locked}
 use Rattle.fw_account.specs.Words.{Register, BandwidthAvailable, ChannelsAvailable, OutputPlug, InputPlug, word_of, register_at, register_of, manager_register, plug_register, output_register, input_register, plug_number, first_output, first_input, first_address, is_node, node_of, id_in}
 use Rattle.fw_account.proofs.Places.{register_at_address}
-use Rattle.fw_audit.specs.Looked.{Response, Replies, looked, quadlet_in, is_plug_offset, is_watched, register_by, IsQuadlet, ShowsWords}
+use Rattle.fw_faults.specs.Looked.{Response, Replies, looked, quadlet_in, is_plug_offset, is_watched, register_by, IsQuadlet, ShowsWords}
 use Rattle.fw_cmp.specs.Requests.{request_at}
 use Rattle.fw_node.specs.Space as Spaces
 use Rattle.fw_devices.specs.Network.{kind_at}

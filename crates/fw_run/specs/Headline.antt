@@ -17,7 +17,7 @@ use Rattle.fw_entry.specs.Network.{device_of_id}
 use Rattle.fw_account.specs.Words.{Register, register_of, word_of, word_of_device}
 use Rattle.fw_account.specs.Fold.{account_of, entries_of}
 use Rattle.fw_account.specs.Sound.{IsSound, IsConflictFree}
-use Rattle.fw_audit.specs.Looked.{looked, ShowsWords}
+use Rattle.fw_faults.specs.Looked.{looked, ShowsWords}
 use Rattle.fw_cmp.specs.declared.connection.Connection.{Connection}
 use Rattle.fw_cmp.specs.declared.connection.Flow.{Flow}
 use Rattle.fw_cmp.specs.declared.connection.Slot.TheVariants.{Standing}

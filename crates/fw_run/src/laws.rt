@@ -30,7 +30,7 @@ ghost use Rattle.fw_run.specs.Given.{AreGiven};
 ghost use Rattle.fw_run.specs.Good.{IsGood};
 ghost use Rattle.fw_run.specs.Headline.{IsSoundThroughout};
 ghost use Rattle.fw_account.specs.Fold.{entries_of};
-ghost use Rattle.fw_audit.specs.Audited.{IsAudited};
+ghost use Rattle.fw_faults.specs.Audited.{IsAudited};
 
 use fw_tape::Desk;
 

@@ -5,7 +5,7 @@ use fw_tree::End;
 use fw_words::Data;
 
 /// What a transaction of the script asks of a register, by its offset from FFFF F000 0000, 000 to FFF.
-#[derive(Clone, Copy, Debug, PartialEq, Eq)]
+#[derive(Clone, Copy)]
 pub enum Access {
     /// A quadlet read.
     Read(u16),
@@ -14,7 +14,7 @@ pub enum Access {
 }
 
 /// A transaction of the script, from one device to another, both by number.
-#[derive(Clone, Copy, Debug, PartialEq, Eq)]
+#[derive(Clone, Copy)]
 pub struct Transaction {
     pub from: u8,
     pub to: u8,
@@ -22,7 +22,7 @@ pub struct Transaction {
 }
 
 /// A new connection of a controller, as a command asks for it.
-#[derive(Clone, Copy, Debug, PartialEq, Eq)]
+#[derive(Clone, Copy)]
 pub enum Wanted {
     /// A point-to-point connection of an output plug to an input plug: the channel, none for the lowest free one, and the
     /// overhead_ID.
@@ -35,7 +35,7 @@ pub enum Wanted {
 
 /// A command, with its devices by number: they have their numbers in order of declaration, from 0. The bytes of a frame lie in
 /// the command.
-#[derive(Debug, PartialEq, Eq, Drop)]
+#[derive(Drop)]
 pub enum Order<'a> {
     /// The bus withholds channel 31: it cannot be allocated.
     Withhold,

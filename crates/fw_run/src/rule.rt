@@ -1,5 +1,5 @@
 /// The rules by which commands are refused.
-#[derive(Clone, Copy, Debug, PartialEq, Eq)]
+#[derive(Clone, Copy)]
 pub enum RuleFault {
     /// A named device is not declared.
     UnknownName,

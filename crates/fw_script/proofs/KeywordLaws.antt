@@ -7,7 +7,8 @@ and_false : (b : Bool) → (b && false) ≡ false
 and_false true = refl
 and_false false = refl
 
-other : (t w : List ℕ) → length w ≢ length t → is t w ≡ false
+-- a word of another length is not this text
+pub other : (t w : List ℕ) → length w ≢ length t → is t w ≡ false
 other [] [] e = absurd (e refl)
 other [] (x ∷ w) e = refl
 other (y ∷ t) [] e = refl

@@ -6,7 +6,7 @@ ghost use Rattle.fw_script.specs.Keyword.{keyword_in, of_three, of_four, of_five
 use crate::words::is;
 
 /// The first word of a line.
-#[derive(Clone, Copy, Debug, PartialEq, Eq)]
+#[derive(Clone, Copy)]
 pub(crate) enum Keyword {
     Device,
     Cable,

@@ -14,7 +14,7 @@ pub(crate) const LINE_LIMIT: usize = 256;
 pub(crate) const SCRIPT_LIMIT: usize = 1_048_576;
 
 /// What stands next.
-#[derive(Clone, Copy, Debug, PartialEq, Eq)]
+#[derive(Clone, Copy)]
 pub(crate) enum Front {
     /// A line of `length` bytes, which takes `size` bytes with its line feed, if it has one.
     Line { length: usize, size: usize },
@@ -65,7 +65,7 @@ fn unfed(total: usize, count: usize, whole: bool) -> Front
 }
 
 /// What a line means.
-#[derive(Clone, Copy, Debug, PartialEq, Eq)]
+#[derive(Clone, Copy)]
 pub(crate) enum Meaning {
     /// Nothing: it is empty or a comment.
     Skipped,

@@ -18,7 +18,7 @@ use input::HELD_LIMIT;
 
 /// Reads the commands of a script, line by line. It holds what it took from the source and did not yet read: the front of a
 /// line, of at most 256 bytes, and up to 4,096 bytes that were asked for since. It asks only where no whole line is held.
-#[derive(Debug, Drop)]
+#[derive(Drop)]
 pub struct ScriptReader {
     bytes: Vec<u8>,
     at: usize,

@@ -1,7 +1,7 @@
 //! How far a script was read.
 
 /// What is read next, or that nothing is.
-#[derive(Clone, Copy, Debug, PartialEq, Eq)]
+#[derive(Clone, Copy)]
 pub enum Stage {
     /// Commands, up to `end`.
     Commands,

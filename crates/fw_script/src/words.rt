@@ -9,10 +9,15 @@ ghost use Rattle.fw_script.specs.Words.{is, is_name, is_name_byte, is_taken, nam
 use crate::Name;
 use crate::cut::Pieces;
 
+/// The word is this text. Most words are of another length, which is seen without a call.
 #[inline(always)]
+#[tactic(auto, using(crate::proofs::KeywordLaws::other))]
 pub(crate) fn is(word: &[u8], text: &[u8]) -> bool
     ensures { result ≡ is text.now word.now }
 {
+    if word.len() != text.len() {
+        return false;
+    }
     word == text
 }
 
@@ -50,6 +55,7 @@ fn are_digits(word: &[u8]) -> bool
 }
 
 /// The name that the word is.
+#[inline(always)]
 pub(crate) fn name(word: &[u8]) -> Option<Name>
     ensures { result ≡ name_in word.now }
 {

@@ -21,7 +21,7 @@ use Rattle.fw_run.specs.Given.{AreGiven}
 use Rattle.fw_run.specs.Runs.{Run}
 use Rattle.fw_run.specs.Headline.{IsSoundThroughout}
 use Rattle.fw_account.specs.Fold.{entries_of}
-use Rattle.fw_audit.specs.Audited.{IsAudited}
+use Rattle.fw_faults.specs.Audited.{IsAudited}
 use Rattle.fw_run.specs.Elected.{ElectsOne}
 use Rattle.fw_run.specs.Reclaiming.{ComesBack}
 use Rattle.fw_run.specs.Settling.{RoundsSuffice}

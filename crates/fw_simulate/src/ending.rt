@@ -1,7 +1,7 @@
 use fw_bus::RuleFault;
 
 /// How a call that runs a script ends.
-#[derive(Clone, Copy, Debug, PartialEq, Eq)]
+#[derive(Clone, Copy)]
 pub enum RunEnding {
     /// The script was read to its end, nothing of it was refused, and all that is due was written.
     Done,
@@ -18,14 +18,14 @@ pub enum RunEnding {
 }
 
 /// A refused line, by its number from 1.
-#[derive(Clone, Copy, Debug, PartialEq, Eq)]
+#[derive(Clone, Copy)]
 pub struct Refused {
     pub line: u32,
     pub why: Refusal,
 }
 
 /// Why a line of a script was refused.
-#[derive(Clone, Copy, Debug, PartialEq, Eq)]
+#[derive(Clone, Copy)]
 pub enum Refusal {
     /// The line has none of the forms, or follows `end`.
     BadLine,

@@ -18,7 +18,7 @@ use fw_script::ScriptReader;
 use fw_tape::Desk;
 use std::alloc::Global;
 
-// How a run in memory ends: a write there fails only where memory is refused.
+// How a run ends whose log goes nowhere but to memory: a write there fails only where memory is refused.
 pub(crate) fn in_memory(ending: RunEnding) -> RunEnding
     ensures { result ≡ in_memory ending }
 {

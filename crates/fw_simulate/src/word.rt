@@ -14,7 +14,7 @@ use fw_tape::Desk;
 use std::alloc::Global;
 
 /// A word that runs a script.
-#[derive(Clone, Copy, Debug, PartialEq, Eq)]
+#[derive(Clone, Copy)]
 pub enum ScriptWord {
     /// The log of its commands.
     Run,

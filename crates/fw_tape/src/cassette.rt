@@ -8,7 +8,7 @@ use crate::{TapeSystem, Transport};
 
 /// A tape that is in, and its motion: where it stood when the transport entered its state, and how many cycles it has
 /// moved since then.
-#[derive(Clone, Copy, Debug, PartialEq, Eq)]
+#[derive(Clone, Copy)]
 pub struct Cassette {
     /// The tape's number.
     pub tape: u16,
@@ -21,7 +21,7 @@ pub struct Cassette {
 }
 
 /// Which block of a tape: the tape's number, the frame, and the block's number in the frame.
-#[derive(Clone, Copy, Debug, PartialEq, Eq)]
+#[derive(Clone, Copy)]
 pub struct BlockPlace {
     pub tape: u16,
     pub frame: u32,

@@ -6,7 +6,7 @@ use crate::Transport;
 use fw_fcp::{CONTROL, NOTIFY, STATUS, is_padding};
 
 /// The rows of the tape subunit's table of commands.
-#[derive(Clone, Copy, Debug, PartialEq, Eq)]
+#[derive(Clone, Copy)]
 pub enum TapeRow {
     /// The tape goes out.
     Eject,
@@ -20,6 +20,7 @@ pub enum TapeRow {
 
 impl TapeRow {
     /// The row that a command of this type is, if it is one. An inquiry is read as the control command that it asks for.
+    #[inline(always)]
     pub fn of(code: u8, opcode: u8, operands: &[u8]) -> Option<TapeRow>
         ensures { result ≡ row_of (rows_of code) opcode operands.now }
     {

@@ -11,7 +11,7 @@ use std::marker::Model;
 
 /// A tape subunit: the tape that is in, if there is one, with the state of the transport. Without a tape the transport is
 /// stopped.
-#[derive(Debug, Drop)]
+#[derive(Drop)]
 pub struct Tape {
     cassette: Option<Cassette>,
 }

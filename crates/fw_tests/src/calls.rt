@@ -5,6 +5,9 @@ use fw_program::program;
 use fw_tool::NOTE_ROOM;
 use std::alloc::{AllocError, Global};
 
+/// What the output of a call has room for, in bytes.
+const OUTPUT_ROOM: usize = 20_000;
+
 /// How a call ended.
 #[derive(Drop)]
 pub(crate) struct Ended {
@@ -54,22 +57,11 @@ pub(crate) fn call_over<S: Source>(
     source: &mut S,
     failing: Failing<'_>,
 ) -> Result<Ended, AllocError> {
-    call_with_room(alloc, words, source, failing, 20_000)
-}
-
-/// A call whose output has room for so many bytes.
-pub(crate) fn call_with_room<S: Source>(
-    alloc: Global,
-    words: &[&str],
-    source: &mut S,
-    failing: Failing<'_>,
-    room: usize,
-) -> Result<Ended, AllocError> {
     let mut list = Vec::new(alloc);
     for word in words {
         list.push(word.to_string(alloc)?)?;
     }
-    let mut output = MemSink::new(alloc, room, failing.writes.to_vec(alloc)?)?;
+    let mut output = MemSink::new(alloc, OUTPUT_ROOM, failing.writes.to_vec(alloc)?)?;
     let mut notes = MemSink::new(alloc, NOTE_ROOM, failing.notes.to_vec(alloc)?)?;
     let status = program(alloc, &list, source, &mut output, &mut notes);
     Ok(Ended {

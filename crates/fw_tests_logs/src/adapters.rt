@@ -130,18 +130,18 @@ fn a_writer_may_take_less_than_it_is_given(rt: HostRuntime) -> Result<(), Fail> 
 // A writer is flushed where its sink is, once, and by no write.
 #[test]
 fn a_flush_reaches_the_writer_once(rt: HostRuntime) -> Result<(), Fail> {
-    let mut writer = Writer::new(rt.alloc(), 10_000, 0);
+    let mut writer = Writer::new(rt.alloc(), 100_000, 0);
     let mut sink = StdSink::new(&mut writer);
     assert!(rt; write_through(&mut sink, &[1]).is_ok());
     assert!(rt; sink.flush().is_ok());
     assert!(rt; writer.calls == 1 && writer.flushes == 1);
     let mut sink = BufferedSink::new(&mut writer);
-    assert!(rt; write_through(&mut sink, &[2; 9000]).is_ok());
+    assert!(rt; write_through(&mut sink, &[2; 70_000]).is_ok());
     assert!(rt; write_through(&mut sink, &[3]).is_ok());
     assert!(rt; write_through(&mut sink, &[4]).is_ok());
     assert!(rt; sink.flush().is_ok());
     assert!(rt; writer.calls == 3 && writer.flushes == 2);
-    assert_eq!(rt; writer.held.len(), 9003);
+    assert_eq!(rt; writer.held.len(), 70_003);
     Ok(())
 }
 
@@ -150,7 +150,7 @@ fn a_flush_reaches_the_writer_once(rt: HostRuntime) -> Result<(), Fail> {
 fn what_was_kept_back_is_not_passed_on_twice(rt: HostRuntime) -> Result<(), Fail> {
     let alloc = rt.alloc();
     // By a flush, and by a piece that does not fit behind it.
-    for last in [&[].as_slice(), [5; 9000].as_slice()] {
+    for last in [&[].as_slice(), [5; 70_000].as_slice()] {
         let mut writer = Writer::new(alloc, 2, 2);
         let mut sink = BufferedSink::new(&mut writer);
         assert!(rt; write_through(&mut sink, &[1, 2]).is_ok());

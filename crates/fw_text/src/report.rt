@@ -14,7 +14,7 @@ use std::alloc::{AllocError, Global};
 use std::marker::Model;
 
 /// What a listener of one channel counted.
-#[derive(Clone, Copy, Debug, PartialEq, Eq)]
+#[derive(Clone, Copy)]
 pub struct Channel {
     listener: Listener,
     packets: u64,
@@ -78,7 +78,7 @@ impl Channel {
 }
 
 /// Counts the isochronous packets of a log, channel by channel.
-#[derive(Debug, PartialEq, Eq, Drop)]
+#[derive(Drop)]
 pub struct StreamReport {
     channels: [Channel; 64],
 }

@@ -8,8 +8,8 @@ use Rattle.fw_log.specs.declared.LogWhy.{LogWhy}
 use Rattle.fw_log.specs.declared.LogWhy.TheVariants.{AfterEnd, BadHeader, BadKind, BadLength, TimeBack, BadBody, Cut, NoEnd as NoLogEnd, BadEpoch}
 use Rattle.fw_tool.specs.declared.ending.Ending.{Ending}
 use Rattle.fw_tool.specs.declared.ending.Ending.TheVariants.{Done, Usage, Refused, NoLog, Stopped, Unsound, NoMap}
-use Rattle.fw_audit.specs.declared.fault.AuditFault.{AuditFault}
-use Rattle.fw_audit.specs.declared.fault.AuditFault.TheVariants.{NoNode, Overlap, Orphan, NotAllowed, WrongWord, NoMove, NoEvent}
+use Rattle.fw_faults.specs.declared.fault.AuditFault.{AuditFault}
+use Rattle.fw_faults.specs.declared.fault.AuditFault.TheVariants.{NoNode, Overlap, Orphan, NotAllowed, WrongWord, NoMove, NoEvent}
 use Rattle.fw_map.specs.declared.MapWhy.{MapWhy}
 use Rattle.fw_map.specs.declared.MapWhy.TheVariants.{Parents, Missing, Left, Root}
 use Rattle.fw_text.specs.Line.{quadlet_text}

@@ -8,7 +8,7 @@ use crate::ending::Ending;
 use fw_outside::{Failed, Sink, Stop};
 
 /// What a word has the program say of itself.
-#[derive(Clone, Copy, Debug, PartialEq, Eq)]
+#[derive(Clone, Copy)]
 pub enum About {
     /// `help`, `--help` or `-h`: the words, what each reads and writes, and the statuses.
     Help,

@@ -4,7 +4,7 @@ use fw_log::LogFault;
 use fw_outside::Stop;
 
 /// How a call ends. It is the table of statuses: each ending has its status and its note, which is one line on the notes.
-#[derive(Clone, Copy, Debug, PartialEq, Eq)]
+#[derive(Clone, Copy)]
 pub enum Ending {
     /// 0, no note: the input was read to its end, nothing of it was refused, and all was written.
     Done,

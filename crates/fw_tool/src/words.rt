@@ -5,7 +5,7 @@ use fw_decode::LogWord;
 use fw_simulate::ScriptWord;
 
 /// What the words of the command line say.
-#[derive(Clone, Copy, Debug, PartialEq, Eq)]
+#[derive(Clone, Copy)]
 pub enum Word {
     /// `run` or `dub`: to run the script that is read.
     Script(ScriptWord),

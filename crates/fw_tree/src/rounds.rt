@@ -12,21 +12,21 @@ use crate::walk::mark_peers;
 use crate::{End, PhyFacts};
 
 // A cable of a device: its port, and the far end.
-#[derive(Clone, Copy, Debug)]
+#[derive(Clone, Copy)]
 struct Cable {
     port: u8,
     end: End,
 }
 
 /// The port at which a device's parent is, and the round in which the device left.
-#[derive(Clone, Copy, Debug)]
+#[derive(Clone, Copy)]
 pub struct Parent {
     pub port: u8,
     pub round: u8,
 }
 
 // Who takes part in a round.
-#[derive(Clone, Copy, Debug)]
+#[derive(Clone, Copy)]
 struct Round {
     // The device has not left.
     stays: [bool; 63],

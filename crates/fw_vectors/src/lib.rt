@@ -4,19 +4,15 @@
 #![tactic(auto)]
 
 mod cables;
-mod candidates;
 mod decks;
 mod one_deck;
 mod seconds;
-mod two_decks;
 mod version_1;
 
 pub use cables::{ABSENT_DEVICE, JOINED_IN_THE_MIDDLE};
-pub use candidates::CANDIDATES_CONTEND;
 pub use decks::TAPE_TIME_CODE;
 pub use one_deck::ONE_DECK;
 pub use seconds::SECOND_OVER_ENDS_THE_FLOW;
-pub use two_decks::SWAP_AND_READ;
 pub use version_1::{IN_VERSION_1, ONE_DECK_IN_VERSION_1};
 
 /// A session.

@@ -4,7 +4,7 @@ ghost use Rattle.fw_words.specs.Quadlet.{field, quadlet_at};
 
 /// A word of 32 bits, the unit of all packets and registers. Bit 0 is the most significant
 /// (IEEE 1394-1995, bit and byte order).
-#[derive(Clone, Copy, Debug, PartialEq, Eq)]
+#[derive(Clone, Copy)]
 pub struct Quadlet(pub u32);
 
 impl Quadlet {

@@ -1,9 +1,10 @@
 //! Frames to the units that nodes have and from them, and their tapes.
 
-ghost use Rattle.std.specs.Prelude.{◌≡◌, ◌<◌, ℕ, Some, None, IsSome, IsTrue, IfSome, is_some, length, map, slice_set};
+ghost use Rattle.std.specs.Prelude.{◌≡◌, ◌<◌, ℕ, Some, None, IsSome, IsTrue, IfSome, is_some, length, slice_set};
 ghost use Rattle.std.specs.Option.{option_map};
 ghost use Rattle.fw_async.specs.Async.{Fits};
 ghost use Rattle.fw_base.specs.Devices.{has_link};
+ghost use Rattle.fw_tape.specs.Blocks.{blocks_among};
 ghost use Rattle.fw_tape.specs.Desks.{AnyVendorByte};
 ghost use Rattle.fw_tape.specs.Motion.{inserted, MayPass};
 ghost use Rattle.fw_node.specs.Fcp.{HasFollowed, frame_packet, next_frame, after_frame, number_of};
@@ -41,29 +42,23 @@ fn eject(node: &mut Node) -> bool
     }
 }
 
-// Cycles go by for the tape of a node, where it has one.
-fn pass(node: &mut Node, cycles: u64)
+// Cycles go by for the tape of a node, where it has one. Answers how many blocks it gives in them.
+#[inline(always)]
+fn pass(node: &mut Node, cycles: u64) -> u64
     requires { MayPass cycles (tape_of node.old) }
-    ensures { node.new ≡ passed cycles node.old }
+    ensures blocks { result ≡ blocks_among (tape_of node.old) cycles }
+    ensures moved { node.new ≡ passed cycles node.old }
 {
-    if let Some(unit) = node.unit() {
-        let _ = unit.tape().pass(cycles);
-    }
-}
-
-// Cycles go by for the tape of each of the nodes.
-fn pass_each(nodes: &mut [Node], cycles: u64)
-    requires { (d : ℕ) → d < length nodes.old → MayPass cycles (tape_of (node_at nodes.old d)) }
-    ensures { nodes.new ≡ map (passed cycles) nodes.old }
-{
-    for node in nodes.iter_mut() {
-        pass(node, cycles);
+    match node.unit() {
+        Some(unit) => unit.tape().pass(cycles),
+        None => 0,
     }
 }
 
 impl Devices {
     /// As `answer`, and a command frame that the packet writes to FCP_COMMAND of a deck or camcorder is carried out by its
     /// unit. Its response is the next packet of `outgoing`, which must have given the response to each command before.
+    #[inline(always)]
     pub fn answer_frame<F: Fn(u16, u32, u16) -> [u8; 480], H: Fn(u32, u8) -> u8>(
         &mut self,
         device: u8,
@@ -87,6 +82,7 @@ impl Devices {
 
     /// The packet that the node of a device sends next (`fw_node::Node::outgoing`): the response to the latest command, if it
     /// waits, and then the notices of changes. The bytes of a frame of a block lie in `room`.
+    #[inline(always)]
     pub fn outgoing<'a>(&mut self, device: u8, room: &'a mut Bytes512) -> Option<Packet<'a>>
         requires declared { device < length self.old.nodes }
         ensures packet { result ≡ option_map (frame_packet (number_of (node_at self.old.nodes device).number)) (next_frame (node_at self.old.nodes device)) }
@@ -114,11 +110,15 @@ impl Devices {
         eject(&mut self.nodes[usize::from(device)])
     }
 
-    /// Cycles go by: tapes that play, play in reverse or record move.
-    pub fn pass(&mut self, cycles: u64)
-        requires { (d : ℕ) → d < length self.old.nodes → MayPass cycles (tape_of (node_at self.old.nodes d)) }
-        ensures { self.new ≡ record self.old { nodes = map (passed cycles) self.old.nodes } }
+    /// Cycles go by for the tape of a device, which moves where it plays, plays in reverse or records. Answers how many blocks it
+    /// gives in them.
+    #[inline(always)]
+    pub fn pass(&mut self, device: u8, cycles: u64) -> u64
+        requires declared { device < length self.old.nodes }
+        requires tape { MayPass cycles (tape_of (node_at self.old.nodes device)) }
+        ensures blocks { result ≡ blocks_among (tape_of (node_at self.old.nodes device)) cycles }
+        ensures moved { self.new ≡ record self.old { nodes = slice_set self.old.nodes device (passed cycles (node_at self.old.nodes device)) } }
     {
-        pass_each(&mut self.nodes, cycles);
+        pass(&mut self.nodes[usize::from(device)], cycles)
     }
 }

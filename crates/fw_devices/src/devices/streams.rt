@@ -1,8 +1,8 @@
 //! The streams of output plugs: which of them talk, and the blocks that the tapes of their devices give.
 
-ghost use Rattle.std.specs.Prelude.{◌≡◌, ◌<◌, IfSome, length};
-ghost use Rattle.fw_tape.specs.Blocks.{block_now, blocks_among};
-ghost use Rattle.fw_tape.specs.Motion.{is_fifty, MayPass};
+ghost use Rattle.std.specs.Prelude.{◌≡◌, ◌<◌, IfSome, is_some, length};
+ghost use Rattle.fw_tape.specs.Blocks.{block_now};
+ghost use Rattle.fw_tape.specs.Motion.{is_fifty};
 ghost use Rattle.fw_node.specs.Streams.{talking_on};
 ghost use Rattle.fw_devices.specs.Decks.{tape_of};
 ghost use Rattle.fw_devices.specs.Network.{node_at};
@@ -47,15 +47,15 @@ impl Devices {
         }
     }
 
-    /// How many blocks the tape of a device gives in the next cycles.
-    pub fn blocks_among(&self, device: u8, cycles: u64) -> u64
+    /// A tape is in the device.
+    #[inline(always)]
+    pub fn has_tape(&self, device: u8) -> bool
         requires declared { device < length self.now.nodes }
-        requires tape { MayPass cycles (tape_of (node_at self.now.nodes device)) }
-        ensures { result ≡ blocks_among (tape_of (node_at self.now.nodes device)) cycles }
+        ensures { result ≡ is_some (tape_of (node_at self.now.nodes device)) }
     {
         match self.nodes[usize::from(device)].tape_subunit() {
-            Some(tape) => tape.blocks_among(cycles),
-            None => 0,
+            Some(tape) => tape.cassette().is_some(),
+            None => false,
         }
     }
 

@@ -1,7 +1,7 @@
-use Rattle.std.proofs.Common.{Some, ap, ◌∙◌}
+use Rattle.std.proofs.Common.{ap, ◌∙◌}
 use Rattle.fw_account.specs.Packets.{Locked}
-use Rattle.fw_audit.specs.Looked.{quadlet_in}
-use Rattle.fw_audit.specs.Judged.{judged_response}
+use Rattle.fw_faults.specs.Looked.{quadlet_in}
+use Rattle.fw_faults.specs.Judged.{judged_response}
 use Rattle.fw_audit.proofs.judge.judge_lock.Goals as goal
 
 pub returns-in-Some : goal.returns-in-Some

@@ -6,7 +6,7 @@ use Rattle.fw_carry.proofs.Doings.{ready_after}
 use Rattle.fw_carry.proofs.cycles.cycles.Goals as goal
 
 pub loop-i-init : goal.loop-i-init
-loop-i-init g c = record { done = cycles_none _ _ _ _; talkers = c.talkers-talkers.ensures }
+loop-i-init g c = record { done = cycles_none _ _ _ _; talkers = c.talkers-talkers.ensures; still = c.end-end.ensures }
 
 pub write_cycle-requires-clause-ready : goal.write_cycle-requires-clause-ready
 write_cycle-requires-clause-ready g c = ready_after c.requires.ready (by_does c.loop-i.invariant.done)
@@ -18,7 +18,7 @@ pub write_cycle-requires-clause-written : goal.write_cycle-requires-clause-writt
 write_cycle-requires-clause-written g c = (cycles_may _ _ c.requires.ready c.loop-i-test.true c.requires.few c.requires.written c.loop-i.invariant.done).1
 
 pub loop-i-preserved : goal.loop-i-preserved
-loop-i-preserved g c = record { done = cycles_then _ c.loop-i.invariant.done c.in_ok-write_cycle.ensures.does; talkers = c.in_ok-write_cycle.ensures.talkers }
+loop-i-preserved g c = record { done = cycles_then _ c.loop-i.invariant.done c.in_ok-write_cycle.ensures.does; talkers = c.in_ok-write_cycle.ensures.talkers; still = c.in_ok-write_cycle.ensures.still }
 
 pub returns-in_err-write_cycle : goal.returns-in_err-write_cycle
 returns-in_err-write_cycle g c =

@@ -3,6 +3,7 @@ use Rattle.fw_outside.specs.declared.failed.Failed.{Failed}
 use Rattle.fw_devices.specs.Streams.{AreTalkers}
 use Rattle.fw_carry.specs.Cycling.{WritesCycles}
 use Rattle.fw_carry.specs.Framing.{DoesBy}
+use Rattle.fw_machine.specs.Streaming.{AreStillFrom}
 use Rattle.fw_carry.proofs.cycles.cycles.Given as goal
 
 abbrev pub invariant-loop-i : goal.invariant-loop-i
@@ -10,4 +11,5 @@ invariant-loop-i g l = record {
   done : DoesBy {E = Failed} (record { blocks = goal.F-post g l.desk.blocks; vendor = goal.H-post g l.desk.vendor }) (WritesCycles l.i)
       l.fn.machine l.machine (g.K.Sink.held l.fn.sink) (g.K.Sink.held l.sink) (g.K.Sink.faults l.fn.sink) (g.K.Sink.faults l.sink) (Ok (tt {0}));
   talkers : AreTalkers (length l.machine.devices.nodes) l.machine.devices.nodes l.talkers;
+  still : AreStillFrom l.end l.machine.devices.nodes l.machine.streams;
 }

@@ -8,6 +8,7 @@ use Rattle.fw_carry.proofs.cycles.next_cycle.Goals.{else-machine-via-then-machin
 pub returns-then-machine-2 : goal.returns-then-machine-2
 returns-then-machine-2 g c = record {
   talkers = c.talkers.ensures;
+  still = c.end.ensures;
   does = comes_over c.if-machine.true (sym c.if-machine-2.true) c.end_second-written.ensures.does;
 }
 
@@ -19,6 +20,7 @@ returns-else-machine g c =
       | else-machine-via-else-machine w ↦ let no : false ≡ true = sym w.if-machine.false ∙ runs in let bad : ⊥ = cc in bad
     ] in
     record {
-      talkers = talkers_pass m c.pass.new.machine 1 (ap (λ (z : Machine). z.devices) c.pass.ensures) c.requires.talkers;
-      does = comes_alone _ _ _ _ (tt {0}) c.requires.ready c.requires.few apart c.pass.ensures;
+      talkers = talkers_pass m c.pass_one.new.machine 1 (ap (λ (z : Machine). z.devices) c.pass_one.ensures.passed) c.requires.talkers;
+      still = c.pass_one.ensures.still;
+      does = comes_alone _ _ _ _ (tt {0}) c.requires.ready c.requires.few apart c.pass_one.ensures.passed;
     }

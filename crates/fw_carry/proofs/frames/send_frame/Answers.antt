@@ -49,31 +49,31 @@ returns-in_default-clause-does g c =
 
 -- ---- a frame
 
-pub returns-in_err-give-clause-does : goal.returns-in_err-give-clause-does
-returns-in_err-give-clause-does g c =
+pub returns-in_err-give_async-clause-does : goal.returns-in_err-give_async-clause-does
+returns-in_err-give_async-clause-does g c =
     let packet = sym c.in-Some.is ∙ c.outgoing.ensures.packet in
     let out = outgoing c.args.machine.now c.args.device c.outgoing.new.self c.in-Some.frame c.requires.declared packet c.outgoing.ensures.node in
     let talks = answered_talks (answered c.requires.ready out c.addressee-to.ensures c.answer-response.ensures.response c.answer-response.ensures.registers) in
     let failed = c.from_residual.ensures.0 in
-    let did = does_unasked _ _ _ (Err _) c.from_residual.result talks (λ n. refl) (λ n. refl) refl failed c.in_err-give.ensures.bytes c.in_err-give.ensures.faults in
+    let did = does_unasked _ _ _ (Err _) c.from_residual.result talks (λ n. refl) (λ n. refl) refl failed c.in_err-give_async.ensures.bytes c.in_err-give_async.ensures.faults in
     sends_cut c.args.device _ _ failed failed did
 
-pub returns-in_err-give-2-clause-does : goal.returns-in_err-give-2-clause-does
-returns-in_err-give-2-clause-does g c =
+pub returns-in_err-give_async-2-clause-does : goal.returns-in_err-give_async-2-clause-does
+returns-in_err-give_async-2-clause-does g c =
     let packet = sym c.in-Some.is ∙ c.outgoing.ensures.packet in
     let out = outgoing c.args.machine.now c.args.device c.outgoing.new.self c.in-Some.frame c.requires.declared packet c.outgoing.ensures.node in
     let talks = answered_talks (answered c.requires.ready out c.addressee-to.ensures c.answer-response.ensures.response c.answer-response.ensures.registers) in
-    let given = c.in_ok-give.ensures in
-    let did = does_asked _ _ _ _ (Err _) talks (λ n. refl) (λ n. refl) given.bytes given.faults c.in_err-give-2.ensures.bytes c.in_err-give-2.ensures.faults in
-    sends_cut c.args.device _ _ refl c.from_residual-in_err-give-2.ensures.0 did
+    let given = c.in_ok-give_async.ensures in
+    let did = does_asked _ _ _ _ (Err _) talks (λ n. refl) (λ n. refl) given.bytes given.faults c.in_err-give_async-2.ensures.bytes c.in_err-give_async-2.ensures.faults in
+    sends_cut c.args.device _ _ refl c.from_residual-in_err-give_async-2.ensures.0 did
 
 pub returns-clause-does : goal.returns-clause-does
 returns-clause-does g c =
     let packet = sym c.in-Some.is ∙ c.outgoing.ensures.packet in
     let out = outgoing c.args.machine.now c.args.device c.outgoing.new.self c.in-Some.frame c.requires.declared packet c.outgoing.ensures.node in
     let talks = answered_talks (answered c.requires.ready out c.addressee-to.ensures c.answer-response.ensures.response c.answer-response.ensures.registers) in
-    let given = c.in_ok-give.ensures in
-    let did = does_asked _ _ _ _ (Ok _) talks (λ n. refl) (λ n. refl) given.bytes given.faults c.in_ok-give-2.ensures.bytes c.in_ok-give-2.ensures.faults in
+    let given = c.in_ok-give_async.ensures in
+    let did = does_asked _ _ _ _ (Ok _) talks (λ n. refl) (λ n. refl) given.bytes given.faults c.in_ok-give_async-2.ensures.bytes c.in_ok-give_async-2.ensures.faults in
     sends_one c.args.device did
 
 pub returns-clause-fewer : goal.returns-clause-fewer

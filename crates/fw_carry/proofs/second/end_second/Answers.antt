@@ -10,13 +10,10 @@ use Rattle.fw_carry.proofs.second.end_second.Goals as goal
 pub pass-requires : goal.pass-requires
 pass-requires g c = rested_may_pass c.second_over.new.self c.requires.ready c.requires.few c.second_over.ensures
 
-pub pass-requires-2 : goal.pass-requires-2
-pass-requires-2 g c = rested_may_pass c.second_over.new.self c.requires.ready c.requires.few c.second_over.ensures
-
 pub returns-clause-rests : goal.returns-clause-rests
 returns-clause-rests g c =
-    let devices = c.pass-2.ensures ∙ ap (λ (n : Network). record n { nodes = map (passed 1) n.nodes }) c.second_over.ensures in
-    let streams = c.pass.ensures ∙ ap (λ (n : Network). counted_on 1 n.nodes c.args.machine.now.streams) c.second_over.ensures in
+    let devices = c.pass.ensures.tapes ∙ ap (λ (n : Network). record n { nodes = map (passed 1) n.nodes }) c.second_over.ensures in
+    let streams = c.pass.ensures.counts ∙ ap (λ (n : Network). counted_on 1 n.nodes c.args.machine.now.streams) c.second_over.ensures in
     record {
       table = c.second_over-2.ensures;
       after = λ i. record c.args.machine.now {

@@ -3,6 +3,3 @@ use Rattle.fw_carry.proofs.second.pass.Goals as goal
 
 pub pass-requires : goal.pass-requires
 pass-requires c = tapes_may_pass c.args.cycles c.requires.ready c.requires.few
-
-pub pass-requires-2 : goal.pass-requires-2
-pass-requires-2 c = tapes_may_pass c.args.cycles c.requires.ready c.requires.few

@@ -1,5 +1,5 @@
 use Rattle.fw_account.specs.Fold.{entries_of}
-use Rattle.fw_audit.proofs.Vouched.{audited_vouched}
+use Rattle.fw_faults.proofs.Vouched.{audited_vouched}
 use Rattle.fw_decode.proofs.Audits.{order_fits}
 use Rattle.fw_decode.proofs.laws.sound_logs_are_vouched.Goals as goal
 

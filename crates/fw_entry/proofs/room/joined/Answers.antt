@@ -1,4 +1,4 @@
-use Rattle.std.proofs.Common.{refl, arith, ap, length, List, ℕ, ◌≡◌, ◌∙◌}
+use Rattle.std.proofs.Common.{refl, arith}
 use Rattle.fw_entry.proofs.WriteLaws.{twelve_behind}
 use Rattle.fw_entry.proofs.room.joined.Goals as goal
 

@@ -5,6 +5,6 @@ use Rattle.fw_entry.proofs.write.write_entry.Goals as goal
 
 pub returns-clause-bytes : goal.returns-clause-bytes
 returns-clause-bytes g c =
-    writes_same (g.K.Sink.held c.args.sink.now) (g.K.Sink.held c.write.new.self) c.write.result c.as_slice.result.now (entry_bytes c.args.version c.args.epoch c.args.t.now)
-    (c.as_slice.ensures.value ∙ (c.deref.ensures ∙ c.put_entry.ensures))
-    c.write.ensures.bytes
+    writes_same (g.K.Sink.held c.args.sink.now) (g.K.Sink.held c.write_to.new.sink) c.write_to.result _ (entry_bytes c.args.version c.args.epoch c.args.t.now)
+    (c.deref.ensures ∙ c.put_entry.ensures)
+    c.write_to.ensures.bytes

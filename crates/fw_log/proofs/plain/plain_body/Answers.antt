@@ -1,6 +1,5 @@
 use Rattle.std.proofs.Common.{arith, sym, ◌∙◌}
 use Rattle.fw_log.proofs.PlainLaws.{plain_packet}
-use Rattle.fw_log.proofs.PlainIsoLaws.{iso_lengths}
 use Rattle.fw_log.proofs.PassLaws.{body_reset, body_packet, body_iso}
 use Rattle.fw_log.proofs.plain.plain_body.Goals as goal
 
@@ -13,8 +12,5 @@ returns-else-not-is_plain_packet c =
     (plain_packet c.args.bytes.now c.requires.size.0 (λ i. omega (arith, c.type_inv.bytes i)) c.requires.size.1 (sym c.is_plain_packet.ensures ∙ c.if-not-is_plain_packet.false))
     c.new-in-2.ensures
 
-pub plain_iso-requires : goal.plain_iso-requires
-plain_iso-requires c = iso_lengths c.args.kind c.requires.size.0 c.args.bytes.now c.in-3.is c.requires.size.1 c.requires.size.2
-
-pub returns-in-Some : goal.returns-in-Some
-returns-in-Some c = body_iso c.args.kind c.args.bytes.now c.new-in-Some.result c.in-Some.field-0 c.in-3.is c.in-Some.ensures.0 c.in-Some.ensures.1 c.new-in-Some.ensures
+pub returns-in-Ok : goal.returns-in-Ok
+returns-in-Ok c = body_iso c.args.kind c.args.bytes.now c.new-in-Ok.result c.in-Ok.field-0 c.in-3.is c.in-Ok.ensures.found.0 c.in-Ok.ensures.found.1 c.new-in-Ok.ensures

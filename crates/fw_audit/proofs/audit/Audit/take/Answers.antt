@@ -1,10 +1,10 @@
-use Rattle.std.proofs.Common.{◌≡◌, ◌++◌, ◌∷◌, [], None, refl, sym, subst, arith}
-use Rattle.fw_audit.specs.Looked.{looked}
-use Rattle.fw_audit.specs.Faults.{IsVerdict}
-use Rattle.fw_audit.specs.Audited.{Found}
+use Rattle.std.proofs.Common.{◌++◌, ◌∷◌, [], refl, sym, subst, arith}
+use Rattle.fw_faults.specs.Looked.{looked}
+use Rattle.fw_faults.specs.Faults.{IsVerdict}
+use Rattle.fw_audit.specs.Found.{Found}
 use Rattle.fw_audit.specs.declared.audit.Audit.{Audit}
 use Rattle.fw_audit.proofs.Audits.{found_more}
-use Rattle.fw_audit.proofs.Verdicts.{first_verdict}
+use Rattle.fw_faults.proofs.Verdicts.{first_verdict}
 use Rattle.fw_audit.proofs.audit.Audit.take.Goals as goal
 use Rattle.fw_audit.proofs.audit.Audit.take.Goals.{then-is_none+in_ok-self, else-is_none}
 

@@ -1,3 +1,4 @@
+use Rattle.std.proofs.lemmas.Bool.{false≢true}
 use Rattle.std.proofs.Common.{sym, subst}
 use Rattle.fw_cmp.specs.Holdings.{CanGoOn}
 use Rattle.fw_cmp.proofs.GoingOn.{second_goes_on}
@@ -8,10 +9,10 @@ use Rattle.fw_cmp.proofs.agenda.Agenda.second_over.Goals as goal
 pub invariant_of-self : goal.invariant_of-self
 invariant_of-self c =
     let now : ControllerState = record { slots = c.self.inside.slots; waiting = c.self.inside.waiting.items; current = c.self.inside.current } in
-    rw c.second_over.ensures (second_fits now c.self.invariant)
+    (rw c.second_over.ensures (second_fits now c.self.invariant.0), λ on. absurd (false≢true on))
 
 pub returns-clause-fits : goal.returns-clause-fits
-returns-clause-fits c = invariant_of-self c
+returns-clause-fits c = (invariant_of-self c).0
 
 pub returns-clause-goes_on : goal.returns-clause-goes_on
 returns-clause-goes_on c d h =

@@ -1,3 +1,5 @@
+use Rattle.std.proofs.Common.{arith}
+use Rattle.fw_cmp.proofs.Restoring.{making_rests, none_set}
 use Rattle.std.proofs.Common.{◌≡◌, Ok, sym, subst}
 use Rattle.fw_cmp.specs.Controllers.{ControllerState}
 use Rattle.fw_cmp.specs.Holdings.{CanGoOn}
@@ -17,10 +19,10 @@ takes c = taken_slot (before c) c.in_ok-free.free (subst (λ (s : ControllerStat
 pub invariant_of-self : goal.invariant_of-self
 invariant_of-self c =
     let slot : TakesSlot (before c) c.in_ok-free.free = takes c in
-    rw c.push.ensures.items (start_fits (before c) c.in_ok-free.free c.args.slot c.self.invariant slot.within slot.free slot.room c.requires.slot c.requires.making)
+    (rw c.push.ensures.items (start_fits (before c) c.in_ok-free.free c.args.slot c.self.invariant.0 slot.within slot.free slot.room c.requires.slot c.requires.making), none_set c.self.inside.none_restores c.self.inside.slots c.in_ok-free.free c.args.slot (omega (arith, c.self.invariant.0.slots, slot.within)) (making_rests c.args.slot c.requires.making) c.self.invariant.1)
 
 pub returns-clause-fits : goal.returns-clause-fits
-returns-clause-fits c = invariant_of-self c
+returns-clause-fits c = (invariant_of-self c).0
 
 pub returns-clause-goes_on : goal.returns-clause-goes_on
-returns-clause-goes_on c d h = rw c.push.ensures.items (start_goes_on d (before c) (Ok c.in_ok-free.free) c.args.slot c.requires.making c.in_ok-free.ensures.within c.self.invariant.slots (subst (λ (s : ControllerState). CanGoOn d s) (sym c.self.view_is) h))
+returns-clause-goes_on c d h = rw c.push.ensures.items (start_goes_on d (before c) (Ok c.in_ok-free.free) c.args.slot c.requires.making c.in_ok-free.ensures.within c.self.invariant.0.slots (subst (λ (s : ControllerState). CanGoOn d s) (sym c.self.view_is) h))

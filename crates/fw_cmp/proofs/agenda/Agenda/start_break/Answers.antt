@@ -9,7 +9,7 @@ pub invariant_of-self : goal.invariant_of-self
 invariant_of-self c =
     let now : ControllerState = record { slots = c.self.inside.slots; waiting = c.self.inside.waiting.items; current = c.self.inside.current } in
     let parts : (can_break now c.args.slot ≡ true) × (length now.waiting < 8) = no_fault_means now c.args.slot (subst (λ (s : ControllerState). break_fault s c.args.slot ≡ None) (sym c.self.view_is) (sym c.in_default.ensures)) in
-    rw c.push.ensures.items (can_break_fits now c.args.slot c.self.invariant parts.0 parts.1)
+    (rw c.push.ensures.items (can_break_fits now c.args.slot c.self.invariant.0 parts.0 parts.1), c.self.invariant.1)
 
 pub returns-clause-fits : goal.returns-clause-fits
-returns-clause-fits c = invariant_of-self c
+returns-clause-fits c = (invariant_of-self c).0

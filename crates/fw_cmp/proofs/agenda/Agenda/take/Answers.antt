@@ -1,7 +1,7 @@
 use Rattle.std.proofs.Common.{◌≡◌, ap, sym, subst, ◌∙◌}
 use Rattle.fw_cmp.specs.declared.current.Current.{Current}
 use Rattle.fw_cmp.specs.declared.current.Current.TheVariants.{Nothing}
-use Rattle.fw_cmp.specs.Controllers.{ControllerState, Fits}
+use Rattle.fw_cmp.specs.Controllers.{ControllerState, Fits, IsHeard}
 use Rattle.fw_cmp.specs.Turns.{picked}
 use Rattle.fw_cmp.proofs.Picking.{at_rest, picked_fits}
 use Rattle.fw_cmp.proofs.Ready.{is_picked}
@@ -20,18 +20,18 @@ abbrev before : goal.After-self-1 → ControllerState
 before c = at_rest c.self.inside.slots c.self.inside.waiting.items
 
 abbrev after : goal.After-self-1 → ControllerState
-after c = record { slots = c.self.inside.slots; waiting = c.pick-self-inside.new.waiting.items; current = c.pick-self-inside.result }
+after c = record { slots = c.self.inside.slots; waiting = c.pick-current.new.waiting.items; current = c.new-self-inside.result }
 
 none : (c : goal.After-self-1) → c.self.inside.current ≡ Nothing
 none c = ap (λ (s : ControllerState). s.current) c.self.view_is ∙ c.has_job.ensures.none c.if-has_job.false
 
 is : (c : goal.After-self-1) → after c ≡ picked c.args.now c.args.directory.now (before c)
-is c = is_picked c.args.now c.args.directory.now (before c) c.pick-self-inside.new.waiting.items c.pick-self-inside.result c.pick-self-inside.ensures.current c.pick-self-inside.ensures.waiting
+is c = is_picked c.args.now c.args.directory.now (before c) c.pick-current.new.waiting.items c.new-self-inside.result (c.new-self-inside.ensures ∙ c.pick-current.ensures.current) c.pick-current.ensures.waiting
 
 pub invariant_of-self : goal.invariant_of-self
 invariant_of-self c =
     let now : Current → ControllerState = λ (x : Current). record { slots = c.self.inside.slots; waiting = c.self.inside.waiting.items; current = x } in
-    rw (is c) (picked_fits c.args.now c.args.directory.now (before c) (subst (λ (x : Current). Fits (now x)) (none c) c.self.invariant))
+    (rw (is c) (picked_fits c.args.now c.args.directory.now (before c) (subst (λ (x : Current). Fits (now x)) (none c) c.self.invariant.0)), c.pick-current.ensures.none)
 
 pub returns-clause-state : goal.returns-clause-state
 returns-clause-state c =
@@ -39,7 +39,10 @@ returns-clause-state c =
     is c ∙ ap (λ (s : ControllerState). picked c.args.now c.args.directory.now s) (ap now (sym (none c)) ∙ c.self.view_is)
 
 pub returns-clause-fits : goal.returns-clause-fits
-returns-clause-fits c = invariant_of-self c
+returns-clause-fits c = (invariant_of-self c).0
 
 pub returns-clause-before : goal.returns-clause-before
 returns-clause-before c = c.has_job.ensures.fits
+
+pub returns-clause-heard : goal.returns-clause-heard
+returns-clause-heard c = subst IsHeard (sym c.new-self-inside.ensures) c.pick-current.ensures.heard

@@ -1,5 +1,4 @@
 use Rattle.std.proofs.Common.{◌≡◌, sym, subst, ap, ◌∙◌}
-use Rattle.fw_cmp.specs.declared.current.Current.{Current}
 use Rattle.fw_cmp.specs.Controllers.{ControllerState, IsStanding}
 use Rattle.fw_cmp.specs.Holdings.{CanGoOn}
 use Rattle.fw_cmp.specs.Losses.{Listening}

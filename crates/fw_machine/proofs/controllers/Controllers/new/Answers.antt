@@ -1,7 +1,7 @@
 use Rattle.std.proofs.Common.{◌≡◌, rules, refl}
 use Rattle.fw_cmp.specs.Causes.{IsAtRest}
 use Rattle.fw_cmp.specs.Losses.{Listening, first_listening}
-use Rattle.fw_machine.proofs.Tables.{marked_none, new_rests, table_none}
+use Rattle.fw_machine.proofs.Tables.{hearing_none, marked_none, new_rests, table_none}
 use Rattle.fw_machine.proofs.controllers.Controllers.new.Goals as goal
 
 pub returns : goal.returns
@@ -10,4 +10,4 @@ returns c = table_none c.in_ok-with_capacity.field-0.items 63 c.in_ok-with_capac
 pub invariant_of-result : goal.invariant_of-result
 invariant_of-result c =
     let items = c.in_ok-with_capacity.field-0.items in
-    (search rules, marked_none (λ (x : Listening). IsAtRest x.state) c.all_marked.result items new_rests c.all_marked.ensures c.in_ok-with_capacity.ensures.items, marked_none (λ x. x ≡ first_listening) c.all_marked-2.result items refl c.all_marked-2.ensures c.in_ok-with_capacity.ensures.items)
+    (search rules, marked_none (λ (x : Listening). IsAtRest x.state) c.all_marked.result items new_rests c.all_marked.ensures c.in_ok-with_capacity.ensures.items, marked_none (λ x. x ≡ first_listening) c.all_marked-2.result items refl c.all_marked-2.ensures c.in_ok-with_capacity.ensures.items, hearing_none _ items c.in_ok-with_capacity.ensures.items)

@@ -1,11 +1,11 @@
-use Rattle.std.proofs.Common.{◌≡◌, ◌<◌, ℕ, List, Bool, true, false, cond, refl, length, rules, arith, sym, subst, ap, IsTrue}
+use Rattle.std.proofs.Common.{◌≡◌, ◌<◌, ℕ, List, Bool, true, false, cond, refl, length, rules, arith, sym, subst, ap, ◌∙◌, IsTrue, IsFalse}
 use Rattle.fw_cmp.specs.Losses.{Listening, first_listening, after_turn, asked_by}
 use Rattle.fw_cmp.specs.Turns.{next, after_next}
 use Rattle.fw_cmp.specs.declared.directory.Directory.{Directory}
 use Rattle.fw_cmp.specs.Causes.{IsAtRest}
 use Rattle.fw_cmp.proofs.Resting.{rest_same}
 use Rattle.fw_machine.specs.Tables.{count_of}
-use Rattle.fw_machine.proofs.Tables.{marked_put, table_set, unmarked}
+use Rattle.fw_machine.proofs.Tables.{hearing_put, marked_put, table_set, unmarked}
 use Rattle.fw_machine.proofs.controllers.Controllers.next.Goals as goal
 
 pub returns-clause-state : goal.returns-clause-state
@@ -25,11 +25,18 @@ turn_rests now d x here = go x.lost refl
     go true e = subst (λ b. IsAtRest (cond b x (heard_turn now d x)).state) (sym e) here
     go false e = subst (λ b. IsAtRest (cond b x (heard_turn now d x)).state) (sym e) (subst IsAtRest (sym (rest_same now d x.state here)) here)
 
+-- it hears where it heard
+turn_hears : (now : ℕ) (d : Directory) (x : Listening) → IsFalse x.lost → IsFalse (after_turn now d x).lost
+turn_hears now d x here = subst (λ b. IsFalse (cond b x (heard_turn now d x)).lost) (sym here) here
+
 rests : (c : goal.After-from-3) → IsTrue c.is_idle.result → IsAtRest c.next-next.new.self.state
 rests c on =
     let old : Listening = c.index_mut.result.now in
     let here : IsAtRest old.state = c.next-next.ensures.idle.0 (c.is_idle.ensures on) in
     subst (λ (x : Listening). IsAtRest x.state) (sym c.next-next.ensures.state) (turn_rests c.args.now c.args.directory.now old here)
+
+hears : (c : goal.After-from-3) → IsFalse c.index_mut.result.now.lost → IsFalse c.next-next.new.self.lost
+hears c here = ap (λ (x : Listening). x.lost) c.next-next.ensures.state ∙ turn_hears c.args.now c.args.directory.now c.index_mut.result.now here
 
 pub invariant_of-self : goal.invariant_of-self
 invariant_of-self c =
@@ -40,4 +47,5 @@ invariant_of-self c =
       search rules,
       marked_put (λ (x : Listening). IsAtRest x.state) c.self.inside.calm items c.args.device c.from.result c.from-2.result c.is_idle.result c.next-next.new.self c.self.invariant.1 within few c.from.ensures c.from-2.ensures (rests c),
       marked_put (λ x. x ≡ first_listening) c.self.inside.fresh items c.args.device c.from.result c.from-3.result false c.next-next.new.self c.self.invariant.2 within few c.from.ensures c.from-3.ensures (unmarked _),
+      hearing_put c.self.inside.deaf items c.from.result c.index_mut.result.now c.next-next.new.self c.self.invariant.3 (omega (arith, within, c.from.ensures)) c.index_mut.ensures.value (hears c),
     )

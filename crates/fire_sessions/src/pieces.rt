@@ -1,0 +1,60 @@
+//! The pieces of which scripts, and lines that logs tell, are put together.
+
+use crate::table::is_row;
+use std::alloc::AllocError;
+use std::{fs, io};
+
+/// The file of the pieces: a line `NAME:`, and the piece's lines behind it, each behind two spaces.
+const FILE: &str = "pieces.txt";
+
+/// The text of that file.
+#[derive(Drop)]
+pub(crate) struct Pieces {
+    table: String,
+}
+
+impl Pieces {
+    pub(crate) fn read(rt: &HostRuntime) -> io::Result<Pieces> {
+        Ok(Pieces {
+            table: fs::read_to_string(rt, FILE)?,
+        })
+    }
+
+    /// The text of the pieces that these names, parted by spaces, stand for, in order. A name is that of a piece, of a piece so many
+    /// times, `NAME*COUNT`, or of a file in a folder. None where there is no such piece.
+    pub(crate) fn text(&self, rt: &HostRuntime, names: &str) -> io::Result<Option<String>> {
+        let mut text = String::new(rt.alloc());
+        for name in names.split_whitespace() {
+            if name.contains("/") {
+                text.push_str(&fs::read_to_string(rt, name)?)?;
+                continue;
+            }
+            let (name, count) = name.split_once("*").unwrap_or((name, "1"));
+            let Ok(count) = count.parse::<u32>() else {
+                return Ok(None);
+            };
+            for _ in 0..count {
+                if !self.put(name, &mut text)? {
+                    return Ok(None);
+                }
+            }
+        }
+        Ok(Some(text))
+    }
+
+    /// Appends the lines of the piece of a name, and answers whether there is one.
+    fn put(&self, name: &str, text: &mut String) -> Result<bool, AllocError> {
+        let mut is_there = false;
+        let mut is_here = false;
+        for line in self.table.lines().filter(|line| is_row(line)) {
+            if let Some(found) = line.strip_suffix(":") {
+                is_here = found == name;
+                is_there = is_there || is_here;
+            } else if is_here {
+                text.push_str(line.strip_prefix("  ").unwrap_or(line))?;
+                text.push_str("\n")?;
+            }
+        }
+        Ok(is_there)
+    }
+}

@@ -1,0 +1,26 @@
+-- What an audit has found of the entries that it took.
+use Rattle.fw_entry.specs.declared.entry.Entry.{Entry}
+use Rattle.std.specs.Prelude.{◌≡◌, Option, Some, None, List}
+use Rattle.fw_account.specs.Account.{Account}
+use Rattle.fw_account.specs.Fold.{next_account, account_of}
+use Rattle.fw_ledger.specs.Stands.{StandsFor}
+use Rattle.fw_ledger.specs.declared.tables.Tables.{Tables}
+use Rattle.fw_faults.specs.Audited.{IsAudited, EndsFaulty}
+use Rattle.fw_faults.specs.declared.fault.AuditFault.{AuditFault}
+use Rattle.fw_audit.specs.declared.audit.Audit.{Audit}
+
+-- the tables stand for the account with one entry more
+abbrev pub StandsAfter : Tables → Account → Entry → Type 0
+StandsAfter t l e = (m : Account) × (next_account l e ≡ Some m) × StandsFor t m
+
+-- these entries were taken, and none had a fault
+pub record Follows (entries : List Entry) (a : Audit) : Type 0 where
+  pub account : Account
+  pub is : account_of entries ≡ Some account
+  pub stands : StandsFor a.ledger account
+  pub audited : IsAudited entries
+
+-- the fault so far, and the entries up to the one that has it, or all
+abbrev pub Found : List Entry → Audit → Option AuditFault → Type 0
+Found entries a None = Follows entries a
+Found entries a (Some f) = EndsFaulty entries f

@@ -1,0 +1,35 @@
+-- What a controller is at, kept as what it is at while no request stands, and whether one does.
+use Rattle.std.specs.Prelude.{Bool, true, false, IsTrue, ⊤}
+use Rattle.fw_cmp.specs.declared.current.Current.{Current}
+use Rattle.fw_cmp.specs.declared.current.Current.TheVariants.{Nothing, Asking, Hearing, Overtaken}
+use Rattle.fw_cmp.specs.Controllers.{IsHeard}
+use Rattle.fw_cmp.specs.Fits.{JobFits, StageFits}
+
+-- a job is at a stage, whose request does not stand
+abbrev pub IsAsking : Current → Type 0
+IsAsking (Asking j s) = ⊤
+IsAsking _ = ⊥
+
+-- the request of its stage goes out
+abbrev pub asked : Current → Current
+asked Nothing = Nothing
+asked (Asking j s) = Hearing j s
+asked (Hearing j s) = Hearing j s
+asked (Overtaken i o) = Overtaken i o
+
+-- what it is at, by whether a request stands
+abbrev pub shown : Bool → Current → Current
+shown true x = asked x
+shown false x = x
+
+-- what is kept is what it is at while no request stands, and one stands only where a job is at a stage
+pub record MayStand (stands : Bool) (x : Current) : Type 0 where
+  pub heard : IsHeard x
+  pub asking : IsTrue stands → IsAsking x
+
+-- the job and the stage fit each other, where there is a job
+abbrev pub CurrentRuns : Current → Type 0
+CurrentRuns Nothing = ⊤
+CurrentRuns (Asking j s) = JobFits j × StageFits j s
+CurrentRuns (Hearing j s) = JobFits j × StageFits j s
+CurrentRuns (Overtaken i o) = ⊤

@@ -1,0 +1,107 @@
+ghost use Rattle.std.specs.Prelude.{◌≡◌, ◌↔◌, IsTrue, IsFalse};
+ghost use Rattle.fw_cmp.specs.Controllers.{IsHeard, IsStanding, break_runs};
+ghost use Rattle.fw_cmp.specs.Resets.{heard};
+ghost use Rattle.fw_cmp.specs.Works.{CurrentRuns, IsAsking, asked};
+
+use crate::Current;
+use fw_csr::Reply;
+use std::marker::Model;
+
+/// What a controller is at. A request that goes out changes a flag alone, and its answer the flag and the stage, so that the job
+/// stays where it is kept.
+#[derive(Drop)]
+pub(crate) struct Work {
+    /// What it is at, told as where no request stands.
+    current: Current,
+    /// The request of the job's stage stands.
+    stands: bool,
+}
+
+impl Model for Work {
+    ghost use Rattle.fw_cmp.specs.declared.current.Current.{Current};
+    ghost use Rattle.fw_cmp.specs.Works.{MayStand, shown};
+
+    ghost Value = { Current };
+
+    ghost view = { λ w. shown w.stands w.current };
+
+    ghost invariant = { λ w. MayStand w.stands w.current };
+}
+
+impl Work {
+    /// The controller is at this.
+    pub fn new(current: Current) -> Work
+        ensures { result ≡ current }
+    {
+        if let Current::Hearing(job, stage) = current {
+            return Work {
+                current: Current::Asking(job, stage),
+                stands: true,
+            };
+        }
+        Work {
+            current,
+            stands: false,
+        }
+    }
+
+    /// What it is at.
+    #[inline(always)]
+    pub fn get(&self) -> Current
+        ensures { result ≡ self.now }
+    {
+        if !self.stands {
+            return self.current;
+        }
+        match self.current {
+            Current::Asking(job, stage) => Current::Hearing(job, stage),
+            other => other,
+        }
+    }
+
+    /// Whether a request stands.
+    #[inline(always)]
+    pub fn stands(&self) -> bool
+        ensures standing { IsTrue result ↔ IsStanding self.now }
+        ensures heard { IsFalse result ↔ IsHeard self.now }
+    {
+        self.stands
+    }
+
+    /// What it is at, where no request stands.
+    #[inline(always)]
+    pub fn unasked(&self) -> &Current
+        requires { IsHeard self.now }
+        ensures { result.now ≡ self.now }
+    {
+        &self.current
+    }
+
+    /// A break of the slot is current.
+    pub fn breaks(&self, slot: u8) -> bool
+        ensures { result ≡ break_runs self.now slot }
+    {
+        self.current.breaks(slot)
+    }
+
+    /// The request of the job's stage goes out.
+    #[inline(always)]
+    pub fn ask(&mut self)
+        requires { IsAsking self.old }
+        ensures { self.new ≡ asked self.old }
+    {
+        self.stands = true;
+    }
+
+    /// Hears the reply to the request that stands.
+    #[inline(always)]
+    pub fn hear(&mut self, r: &Reply)
+        requires stands { IsStanding self.old }
+        requires runs { CurrentRuns self.old }
+        ensures state { self.new ≡ heard self.old r.now }
+        ensures runs { CurrentRuns self.new }
+    {
+        self.current.hear(r);
+        self.stands = false;
+    }
+}

@@ -1,0 +1,4 @@
+pub mod Looked
+pub mod Faults
+pub mod Judged
+pub mod Audited

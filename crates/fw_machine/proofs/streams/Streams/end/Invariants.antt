@@ -1,0 +1,11 @@
+use Rattle.std.proofs.Common.{◌≤◌, ◌<◌, ℕ, length}
+use Rattle.fw_devices.specs.Network.{node_at}
+use Rattle.fw_machine.specs.Streaming.{IsStill, count_at}
+use Rattle.fw_machine.proofs.streams.Streams.end.Given as goal
+
+-- of the devices so far those from the end on are still
+abbrev pub invariant-loop-device : goal.invariant-loop-device
+invariant-loop-device l = record {
+  few : l.end ≤ length l.devices.nodes;
+  still : (d : ℕ) → d < l.device → l.end ≤ d → IsStill (node_at l.devices.nodes d) (count_at l.self d);
+}
