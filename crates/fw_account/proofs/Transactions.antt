@@ -17,7 +17,7 @@ use Rattle.fw_account.specs.Sound.{IsSound}
 use Rattle.fw_account.proofs.Places.{device_at_id, register_at_address}
 use Rattle.fw_account.proofs.Accesses.{swap_bytes, after_read_request, after_lock_request, after_read_reply, after_failed_swap, after_refused_lock, after_move}
 
--- the head of a packet with label 0 from one node to another
+-- the head of a packet of a procedure from one node to another
 abbrev pub head_to : ℕ → ℕ → Head
 head_to destination source = record { destination = first_id + destination; tl = 0; rt = 1; pri = 0; source = first_id + source }
 

@@ -1,7 +1,10 @@
 -- The entries of a log: one deck, which is its own resource manager, makes a broadcast connection, and makes it again after a
 -- bus reset.
+use Rattle.fw_csr.specs.declared.offset.TheConstants.{BANDWIDTH_AVAILABLE, CHANNELS_AVAILABLE_LO, OPCR, IPCR}
 use Rattle.fw_entry.specs.declared.codes.event.TheConstants.{SECOND_OVER, DIED}
 use Rattle.fw_entry.specs.declared.codes.TheConstants.{NO_DEVICE}
+use Rattle.fw_base.specs.declared.label.Label.TheVariants.{Procedure}
+use Rattle.fw_base.specs.Labels.{label_code}
 use Rattle.fw_async.specs.declared.packet.Head.{Head}
 use Rattle.fw_async.specs.declared.packet.Packet.TheVariants.{ReadQuadlet, ReadQuadletReply, Lock, LockReply}
 use Rattle.fw_phy.specs.declared.packet.PhyPacket.TheVariants.{SelfId}
@@ -13,9 +16,9 @@ use Rattle.fw_account.specs.Account.{Account}
 use Rattle.fw_account.specs.Words.{BandwidthAvailable, ChannelsAvailable, OutputPlug, InputPlug, word_of}
 use Rattle.fw_account.specs.Fold.{account_of}
 
--- from node 0 to itself, with label 0
+-- from node 0 to itself, in a procedure
 abbrev pub head : Head
-head = record { destination = 0xffc0; tl = 0; rt = 1; pri = 0; source = 0xffc0 }
+head = record { destination = 0xffc0; tl = label_code Procedure; rt = 1; pri = 0; source = 0xffc0 }
 
 -- a compare_swap that succeeds, and a read
 abbrev pub swap : ℕ → ℕ → ℕ → List Entry
@@ -39,10 +42,10 @@ reset epoch = Reset (record {
 -- channel, units and output plug
 abbrev pub connected : List Entry
 connected =
-    read 0xffff_f000_0904 0x803f007a
-    ++ (read 0xffff_f000_0228 0xffffffff ++ (swap 0xffff_f000_0228 0xffffffff 0xfffffffe
-    ++ (read 0xffff_f000_0220 0x1333 ++ (swap 0xffff_f000_0220 0x1333 0x963
-    ++ swap 0xffff_f000_0904 0x803f007a 0xc03f007a))))
+    read OPCR 0x803f007a
+    ++ (read CHANNELS_AVAILABLE_LO 0xffffffff ++ (swap CHANNELS_AVAILABLE_LO 0xffffffff 0xfffffffe
+    ++ (read BANDWIDTH_AVAILABLE 0x1333 ++ (swap BANDWIDTH_AVAILABLE 0x1333 0x963
+    ++ swap OPCR 0x803f007a 0xc03f007a))))
 
 -- how the procedure ended: 1 connected, 3 restored
 abbrev pub outcome : ℕ → Entry
@@ -70,15 +73,15 @@ registers_after es = option_map registers_of (account_of es)
 
 -- in the reclaim second of the second reset, a channel that no flow had
 abbrev pub other_channel : List Entry
-other_channel = first_path ++ reset 2 ∷ (read 0xffff_f000_0904 0x803f007a ++ swap 0xffff_f000_0228 0xffffffff 0xfffffffd)
+other_channel = first_path ++ reset 2 ∷ (read OPCR 0x803f007a ++ swap CHANNELS_AVAILABLE_LO 0xffffffff 0xfffffffd)
 
 -- a connection of the output plug with no channel and units for it
 abbrev pub not_allocated : List Entry
-not_allocated = reset 1 ∷ swap 0xffff_f000_0904 0x803f007a 0xc03f007a
+not_allocated = reset 1 ∷ swap OPCR 0x803f007a 0xc03f007a
 
 -- the deck also listens, on channel 63
 abbrev pub listening : List Entry
-listening = first_path ++ read 0xffff_f000_0984 0x803f0000 ++ swap 0xffff_f000_0984 0x803f0000 0xc03f0000
+listening = first_path ++ read IPCR 0x803f0000 ++ swap IPCR 0x803f0000 0xc03f0000
 
 -- the deck's iPCR after the entries
 abbrev pub input_after : List Entry → Option ℕ

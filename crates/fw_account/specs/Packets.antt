@@ -1,5 +1,7 @@
--- What the account reads of packets: requests and responses for quadlet reads and for locks, with transaction label 0.
+-- What the account reads of packets: requests and responses for quadlet reads and for locks, with the label of procedures.
 use Rattle.fw_base.specs.declared.plug.PlugAt.{PlugAt}
+use Rattle.fw_base.specs.declared.label.Label.TheVariants.{Procedure}
+use Rattle.fw_base.specs.Labels.{label_code}
 use Rattle.fw_async.specs.declared.packet.Head.{Head}
 use Rattle.fw_async.specs.declared.packet.Packet.{Packet}
 use Rattle.fw_async.specs.declared.packet.Packet.TheVariants.{WriteQuadlet, WriteBlock, WriteReply, ReadQuadlet, ReadBlock, ReadQuadletReply, ReadBlockReply, CycleStart, Lock, LockReply}
@@ -90,11 +92,11 @@ answered (Some c) source reply l = replied_to c (l.outstanding c) source reply l
 
 -- the account after a request
 abbrev pub after_request : Head → ℕ → Operation → Account → Option Account
-after_request h address operation l = if h.tl == 0 then asked_by (device_of_id l.latest h.source) (record { target = h.destination; address = address; operation = operation }) l else Some l
+after_request h address operation l = if h.tl == label_code Procedure then asked_by (device_of_id l.latest h.source) (record { target = h.destination; address = address; operation = operation }) l else Some l
 
 -- the account after a response
 abbrev pub after_reply : Head → Reply → Account → Option Account
-after_reply h reply l = if h.tl == 0 then answered (device_of_id l.latest h.destination) h.source reply l else Some l
+after_reply h reply l = if h.tl == label_code Procedure then answered (device_of_id l.latest h.destination) h.source reply l else Some l
 
 -- the account after a packet
 abbrev pub after_packet : Packet → Account → Option Account

@@ -1,6 +1,8 @@
 -- The entries that no account allows.
 use Rattle.fw_entry.specs.declared.codes.event.TheConstants.{SECOND_OVER, WITHHELD}
 use Rattle.fw_base.specs.declared.plug.PlugAt.{PlugAt}
+use Rattle.fw_base.specs.declared.label.Label.TheVariants.{Procedure}
+use Rattle.fw_base.specs.Labels.{label_code}
 use Rattle.fw_async.specs.declared.packet.Head.{Head}
 use Rattle.fw_async.specs.declared.packet.Packet.{Packet}
 use Rattle.fw_async.specs.declared.packet.Packet.TheVariants.{WriteQuadlet, WriteBlock, WriteReply, ReadQuadlet, ReadBlock, ReadQuadletReply, ReadBlockReply, CycleStart, Lock, LockReply}
@@ -15,21 +17,21 @@ use Rattle.fw_account.specs.Moves.{Move}
 use Rattle.fw_account.specs.Words.{Register, register_of}
 use Rattle.fw_account.specs.Decode.{IsMove}
 
--- a request, with label 0, whose requester is no node of the latest reset entry, or has an outstanding request
+-- a request of a procedure whose requester is no node of the latest reset entry, or has an outstanding request
 pub data IsRequestRefused (h : Head) (l : Account) : Type 0 where
-  NoNode : h.tl ≡ 0 → device_of_id l.latest h.source ≡ None → IsRequestRefused h l
-  Overlap : (c : ℕ) → h.tl ≡ 0 → device_of_id l.latest h.source ≡ Some c → l.outstanding c ≢ None → IsRequestRefused h l
+  NoNode : h.tl ≡ label_code Procedure → device_of_id l.latest h.source ≡ None → IsRequestRefused h l
+  Overlap : (c : ℕ) → h.tl ≡ label_code Procedure → device_of_id l.latest h.source ≡ Some c → l.outstanding c ≢ None → IsRequestRefused h l
 
--- a response, with label 0, is sent to controller c, which has this request outstanding
+-- a response of a procedure is sent to controller c, which has this request outstanding
 pub record Ends (h : Head) (c : ℕ) (request : Request) (l : Account) : Type 0 where
-  pub label : h.tl ≡ 0
+  pub label : h.tl ≡ label_code Procedure
   pub device : device_of_id l.latest h.destination ≡ Some c
   pub outstanding : l.outstanding c ≡ Some request
 
 -- a response to a node that is none or has no outstanding request, or that does not come from the node that was asked
 pub data IsReplyRefused (h : Head) (l : Account) : Type 0 where
-  NoReceiver : h.tl ≡ 0 → device_of_id l.latest h.destination ≡ None → IsReplyRefused h l
-  NoRequest : (c : ℕ) → h.tl ≡ 0 → device_of_id l.latest h.destination ≡ Some c → l.outstanding c ≡ None → IsReplyRefused h l
+  NoReceiver : h.tl ≡ label_code Procedure → device_of_id l.latest h.destination ≡ None → IsReplyRefused h l
+  NoRequest : (c : ℕ) → h.tl ≡ label_code Procedure → device_of_id l.latest h.destination ≡ Some c → l.outstanding c ≡ None → IsReplyRefused h l
   OtherNode : (c : ℕ) (request : Request) → Ends h c request l → request.target ≢ h.source → IsReplyRefused h l
 
 -- a response to a quadlet read whose request was a lock

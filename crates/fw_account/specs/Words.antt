@@ -1,4 +1,5 @@
 -- The registers of an account, and where they stand.
+use Rattle.fw_csr.specs.declared.offset.TheConstants.{REGISTER_SPACE}
 use Rattle.fw_base.specs.declared.plug.PlugAt.{PlugAt}
 use Rattle.fw_entry.specs.declared.entry.ResetEntry.{ResetEntry}
 use Rattle.fw_entry.specs.declared.nodes.NodeRow.{NodeRow}
@@ -116,7 +117,7 @@ word_of_device l d offset = word_at l (node_of l.latest d) offset
 
 -- offsets count from FFFF F000 0000 (IEEE 1394-1995, initial register space)
 abbrev pub first_address : ℕ
-first_address = 0xffff_f000_0000
+first_address = REGISTER_SPACE
 
 -- the register that a node ID and an address name
 abbrev pub register_of : Option ResetEntry → ℕ → ℕ → Option Register

@@ -1,13 +1,16 @@
 -- A packet of a transaction of one quadlet, read at once from its bytes.
-use Rattle.std.proofs.Common.{◌≡◌, ℕ, ◌≤◌, List, length, Option, Some, None, IfSome, true, arith, refl, sym, subst, ◌∙◌}
-use Rattle.fw_async.specs.Async.{AreBytes}
+use Rattle.std.proofs.Common.{◌≡◌, ℕ, ◌+◌, ◌≤◌, List, ◌++◌, length, take, drop, true, IsTrue, nat_lt, if◌then◌else◌, arith, refl, ap, sym, subst, ◌∙◌}
+use Rattle.std.proofs.Math.Seq.{take-add}
+use Rattle.std.proofs.lemmas.Bool.Decides.{nat_tests}
+use Rattle.std.proofs.lemmas.List.{drop-drop, length-take-le, length-drop}
+use Rattle.fw_words.specs.Quadlet.{field, quadlet_at}
+use Rattle.fw_async.specs.Async.{AreBytes, is_lock_size, padding}
 use Rattle.fw_async.specs.Reading.{IsComplete, ReadsAs, tcode_of}
 use Rattle.fw_async.specs.Reader.{Spells}
-use Rattle.fw_async.specs.Quadlets.{request_packet}
 use Rattle.fw_async.specs.declared.packet.Packet.{Packet}
-use Rattle.fw_async.specs.declared.quadlets.QuadletRequest.{QuadletRequest}
 use Rattle.fw_async.proofs.ExactLaws.{whole_from_spells, clear_from_spells}
 use Rattle.fw_async.proofs.NeedLaws.{need_least}
+use Rattle.fw_async.proofs.ReadingLaws.{are_bytes_part}
 use Rattle.fw_async.proofs.SameLaws.{same_packet}
 use Rattle.fw_async.proofs.WholeLaws.{is_whole, need_fourth, spells_whole}
 
@@ -30,7 +33,34 @@ read_back t p q bytes fit s kind reads =
     let r = spells_whole bytes q fit (least p bytes s) (whole_from_spells p bytes s) (clear_from_spells p bytes s) (subst P (sym kind) reads) in
     same_packet p q s.fits r.fits (s.same ∙ sym r.same)
 
--- so it asks what was found there
-pub asked : (p q : Packet) (o : Option QuadletRequest) → p ≡ q → IfSome o (λ r. q ≡ request_packet r) → IfSome o (λ r. p ≡ request_packet r)
-asked p q None same h = tt
-asked p q (Some r) same h = same ∙ h
+-- a whole compare_swap of a quadlet has two quadlets of data
+pub swap_end : (bytes : List ℕ) → IsComplete 9 bytes → quadlet_at bytes 12 ≡ 524290 → 24 ≤ length bytes
+swap_end bytes c e = omega (arith, lock_end (length bytes) (field (quadlet_at bytes 12) 0 15) c.all, e)
+  where
+    lock_end : (n len : ℕ) → n ≡ (if nat_lt n 4 then 12 else if nat_lt n 16 then 16 else 16 + len + padding len) → 16 + len ≤ n
+    lock_end n len h = grind (arith, nat_tests)
+
+-- which are these bytes
+pub swap_data : (bytes argument new : List ℕ) → argument ≡ take 4 (drop 16 bytes) → new ≡ take 4 (drop 20 bytes) → argument ++ new ≡ take 8 (drop 16 bytes)
+swap_data bytes argument new first second =
+    ap (λ t. t ++ new) first
+    ∙ (ap (λ t. take 4 (drop 16 bytes) ++ t) (second ∙ ap (take 4) (sym (drop-drop 4 16 bytes)))
+    ∙ sym (take-add 4 4 (drop 16 bytes)))
+
+-- what a packet of a compare_swap asks of its data
+pub record SwapFits (pair : List ℕ) : Type 0 where
+  pub size : length pair ≡ 8
+  pub lock : IsTrue (is_lock_size 2 (length pair))
+  pub bytes : AreBytes pair
+
+pub swap_fits : (bytes pair : List ℕ) → AreBytes bytes → pair ≡ take 8 (drop 16 bytes) → 24 ≤ length bytes → SwapFits pair
+swap_fits bytes pair fit same long =
+    let eight : length (take 8 (drop 16 bytes)) ≡ 8 = length-take-le 8 (drop 16 bytes) (omega (arith, length-drop 16 bytes, long)) in
+    let size : length pair ≡ 8 = ap length same ∙ eight in
+    let P : ℕ → Type 0 = λ n. IsTrue (is_lock_size 2 n) in
+    let Q : List ℕ → Type 0 = λ xs. AreBytes xs in
+    record {
+      size = size;
+      lock = subst P (sym size) refl;
+      bytes = subst Q (sym same) (are_bytes_part bytes 8 16 fit);
+    }

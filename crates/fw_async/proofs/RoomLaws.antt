@@ -1,6 +1,6 @@
 -- The bytes of a packet in its room, behind sixteen others.
 use Rattle.std.proofs.Common.{◌≡◌, ℕ, ◌+◌, ◌≤◌, List, ◌++◌, length, take, drop, arith, ap, sym, ◌∙◌}
-use Rattle.std.proofs.Math.Seq.{take-take, take-append-add}
+use Rattle.std.proofs.Math.Seq.{take-take, take-append-add, take-append_seam}
 use Rattle.std.proofs.lemmas.List.{drop-take, drop-append-le, length-take-le, length-drop}
 
 -- more bytes stand behind those that were there
@@ -14,10 +14,12 @@ appended n old now more within e =
     ∙ (drop-append-le 16 (take (16 + n) old) more front ∙ ap (λ t. t ++ more) (drop-take 16 n old)))
 
 -- the first of those that are copied
-pub copied : (n m : ℕ) (from to : List ℕ) → n ≤ m → m ≤ length from → take (length (take m from)) to ≡ take m from → take n to ≡ take n from
-copied n m from to few within e =
-    let size : length (take m from) ≡ m = length-take-le m from within in
-    sym (take-take n m to few) ∙ (ap (take n) (ap (λ k. take k to) (sym size) ∙ e) ∙ take-take n m from few)
+pub copied : (n m : ℕ) (from to : List ℕ) → n ≤ m → take m to ≡ take m from → take n to ≡ take n from
+copied n m from to few e = sym (take-take n m to few) ∙ (ap (take n) e ∙ take-take n m from few)
+
+-- the front of what is put together is what was put there
+pub front_whole : (n : ℕ) (xs ys : List ℕ) → length xs ≡ n → take n (xs ++ ys) ≡ xs
+front_whole n xs ys size = ap (λ k. take k (xs ++ ys)) (sym size) ∙ take-append_seam xs ys
 
 pub stood : (n : ℕ) (bytes : List ℕ) → 16 + n ≤ length bytes → length (take n (drop 16 bytes)) ≡ n
 stood n bytes within = length-take-le n (drop 16 bytes) (omega (arith, length-drop 16 bytes))

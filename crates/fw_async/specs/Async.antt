@@ -21,6 +21,7 @@ abbrev pub request : ℕ → Head → ℕ → List ℕ → List ℕ → Parts
 request tcode h offset more bytes =
     record { quadlets = packed (head_fields tcode h) 0 ∷ packed ((16, h.source) ∷ (16, offset / 2 ^ 32) ∷ []) 0 ∷ offset % 2 ^ 32 ∷ more; bytes = bytes }
 
+-- the parts of a response packet: its header with the response code, and its data
 abbrev pub response : ℕ → Head → ℕ → List ℕ → List ℕ → Parts
 response tcode h rcode more bytes =
     record { quadlets = packed (head_fields tcode h) 0 ∷ packed ((16, h.source) ∷ (4, rcode) ∷ (12, 0) ∷ []) 0 ∷ 0 ∷ more; bytes = bytes }

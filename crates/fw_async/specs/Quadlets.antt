@@ -7,6 +7,7 @@ use Rattle.fw_async.specs.declared.packet.Packet.TheVariants.{ReadQuadlet, ReadQ
 use Rattle.fw_async.specs.declared.quadlets.QuadletRequest.{QuadletRequest}
 use Rattle.fw_async.specs.declared.quadlets.QuadletSwap.{QuadletSwap}
 
+-- the packet of a quadlet read at an offset, or of a quadlet compare_swap there
 abbrev pub request_with : Head → ℕ → Option QuadletSwap → Packet
 request_with h offset None = ReadQuadlet h offset
 request_with h offset (Some s) = Lock h offset 2 (to_be_bytes w32 s.argument ++ to_be_bytes w32 s.new)
@@ -19,6 +20,7 @@ request_packet q = request_with q.head q.offset q.swap
 abbrev pub read_reply : Head → ℕ → ℕ → Packet
 read_reply h rcode value = ReadQuadletReply h rcode value
 
+-- the bytes of a lock response: the old value, where there is one
 abbrev pub old_value : Option ℕ → List ℕ
 old_value None = []
 old_value (Some old) = to_be_bytes w32 old

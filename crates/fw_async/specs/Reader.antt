@@ -67,6 +67,7 @@ abbrev pub ReadsTo : List ℕ → ℕ → Option Packet → Type 0
 ReadsTo bytes used None = (used ≡ length bytes) × IsPending bytes
 ReadsTo bytes used (Some p) = EndsPacket [] bytes used p
 
+-- what a reader makes of bytes: a packet, a part of one, or a fault
 abbrev pub Reads : List ℕ → Result Fed PacketFault → Type 0
 Reads bytes (Ok fed) = ReadsTo bytes fed.used fed.packet
 Reads bytes (Err f) = (k : ℕ) × ShowsFault [] bytes k f

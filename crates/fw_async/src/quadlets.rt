@@ -1,22 +1,19 @@
 //! The packets of transactions of one quadlet: its read, and its compare_swap.
 
-ghost use Rattle.std.specs.Prelude.{◌≡◌, ◌<◌, ◌^◌, ◌++◌, IfSome};
-ghost use Rattle.std.specs.Int.{to_be_bytes, w32};
+ghost use Rattle.std.specs.Prelude.{◌≡◌, ◌<◌, ◌^◌, IfSome};
+ghost use Rattle.fw_words.specs.Quadlet.{quadlet_at};
 ghost use Rattle.fw_async.specs.Async.{spelling, HeadFits};
 ghost use Rattle.fw_async.specs.Reader.{Spells, IsPacket};
+ghost use Rattle.fw_async.specs.Reading.{IsComplete, ReadsAs};
 ghost use Rattle.fw_async.specs.Quadlets.{request_packet, read_reply, swap_reply};
 ghost use Rattle.fw_async.specs.declared.packet.Packet.{Packet as PacketRecord};
 
 use crate::faults::tcode_at;
-use crate::lock::lock_at;
-use crate::packet::{Head, Packet};
-use crate::read::read_quadlet_at;
+use crate::header::{head_at, offset_at};
+use crate::packet::Head;
 use crate::room::PacketRoom;
 use crate::tcode::Tcode;
-use fw_words::{Bytes16, quadlet_at};
-
-/// The extended_tcode of a compare_swap (IEEE 1394-1995, lock functions).
-const COMPARE_SWAP: u8 = 2;
+use fw_words::quadlet_at;
 
 /// Quadlet 3 of a compare_swap of quadlets: eight bytes of data, and its extended_tcode.
 const SWAP_SIZE: u32 = 0x0008_0002;
@@ -44,45 +41,31 @@ pub struct QuadletRequest {
     pub swap: Option<QuadletSwap>,
 }
 
-// The argument and the new value of a lock with these data.
-fn swap_in(function: u8, bytes: &Bytes16) -> Option<QuadletSwap>
-    ensures { IfSome result (λ s. (function ≡ 2) × (bytes.now ≡ to_be_bytes w32 s.argument ++ to_be_bytes w32 s.new)) }
+// What the bytes of a quadlet read ask.
+fn read_asked_at(bytes: &[u8]) -> QuadletRequest
+    requires { IsComplete 4 bytes.now }
+    ensures { ReadsAs 4 bytes.now (request_packet result) }
 {
-    let bytes = bytes.as_slice();
-    if function == COMPARE_SWAP && bytes.len() == 8 {
-        Some(QuadletSwap {
-            argument: quadlet_at(bytes, 0).0,
-            new: quadlet_at(bytes, 4).0,
-        })
-    } else {
-        None
+    QuadletRequest {
+        head: head_at(bytes),
+        offset: offset_at(bytes),
+        swap: None,
     }
 }
 
-// What the packet asks, where it asks a quadlet.
-fn quadlet_request(p: &Packet) -> Option<QuadletRequest>
-    ensures { IfSome result (λ q. p.now ≡ request_packet q) }
+// What the bytes of a compare_swap of a quadlet ask.
+fn swap_asked_at(bytes: &[u8]) -> QuadletRequest
+    requires complete { IsComplete 9 bytes.now }
+    requires size { quadlet_at bytes.now 12 ≡ 0x00080002 }
+    ensures { ReadsAs 9 bytes.now (request_packet result) }
 {
-    match p {
-        Packet::ReadQuadlet { head, offset } => Some(QuadletRequest {
-            head: *head,
-            offset: *offset,
-            swap: None,
+    QuadletRequest {
+        head: head_at(bytes),
+        offset: offset_at(bytes),
+        swap: Some(QuadletSwap {
+            argument: quadlet_at(bytes, 16).0,
+            new: quadlet_at(bytes, 20).0,
         }),
-        Packet::Lock {
-            head,
-            offset,
-            function,
-            bytes,
-        } => {
-            let swap = swap_in(*function, bytes)?;
-            Some(QuadletRequest {
-                head: *head,
-                offset: *offset,
-                swap: Some(swap),
-            })
-        }
-        _ => None,
     }
 }
 
@@ -92,8 +75,8 @@ pub fn quadlet_request_at(bytes: &[u8]) -> Option<QuadletRequest>
     ensures { (p : PacketRecord) → Spells p bytes.now → IfSome result (λ q. p ≡ request_packet q) }
 {
     match tcode_at(bytes)? {
-        Tcode::ReadQuadlet => quadlet_request(&read_quadlet_at(bytes)),
-        Tcode::Lock if quadlet_at(bytes, 12).0 == SWAP_SIZE => quadlet_request(&lock_at(bytes)),
+        Tcode::ReadQuadlet => Some(read_asked_at(bytes)),
+        Tcode::Lock if quadlet_at(bytes, 12).0 == SWAP_SIZE => Some(swap_asked_at(bytes)),
         _ => None,
     }
 }

@@ -1,14 +1,14 @@
 //! Room for the bytes of one packet.
 
-ghost use Rattle.std.specs.Prelude.{◌≡◌, ◌≤◌, ◌<◌, ◌+◌, ◌^◌, [], ◌++◌, length, take, flat_map};
+ghost use Rattle.std.specs.Prelude.{◌≡◌, ◌≤◌, ◌<◌, ◌+◌, ◌^◌, [], ◌++◌, length, take, drop, flat_map};
 ghost use Rattle.std.specs.Int.{to_be_bytes, w32};
-ghost use Rattle.fw_async.specs.Async.{spelling, Fits, HeadFits, request, response};
+ghost use Rattle.fw_async.specs.Async.{spelling, parts, Fits, HeadFits, request, response};
 ghost use Rattle.fw_async.specs.Tcode.{code_of};
 
 use crate::header::{first_quadlet, rcode_quadlet, source_quadlet};
 use crate::packet::{Head, Packet};
 use crate::tcode::Tcode;
-use crate::writer::{data_of, front_of, padding_of, write_over};
+use crate::writer::{data_of, padding_of, quadlet_3, write_over};
 use fw_words::{Quadlet, put_quadlet};
 use std::marker::Model;
 
@@ -67,7 +67,7 @@ impl PacketRoom {
     {
         // Most packets are short. A copy of a fixed size takes a few moves.
         if self.length <= SHORT {
-            copy_over(&self.bytes[FRONT..FRONT + SHORT], row);
+            copy_short(&self.bytes[FRONT..FRONT + SHORT], row);
         } else {
             copy_over(self.as_slice(), row);
         }
@@ -97,13 +97,49 @@ impl PacketRoom {
         requires { Fits p.now }
         ensures { self.new ≡ spelling p.now }
     {
-        let front = front_of(p);
         let data = data_of(p);
-        self.clear();
-        self.extend(front.as_slice());
+        self.begin(p);
+        self.push_quadlet_3(p);
         if !data.is_empty() {
             self.extend(data);
             self.extend(padding_of(data.len()));
+        }
+    }
+
+    // Quadlets 0 to 2, in place of what was there.
+    fn begin(&mut self, p: &Packet)
+        requires { Fits p.now }
+        ensures { self.new ≡ flat_map (to_be_bytes w32) (take 3 (parts p.now).quadlets) }
+    {
+        use Packet::*;
+        match p {
+            WriteQuadlet { head, offset, .. } => {
+                self.begin_request(Tcode::WriteQuadlet, head, *offset)
+            }
+            WriteBlock { head, offset, .. } => self.begin_request(Tcode::WriteBlock, head, *offset),
+            WriteReply { head, rcode } => self.begin_response(Tcode::WriteReply, head, *rcode),
+            ReadQuadlet { head, offset } => self.begin_request(Tcode::ReadQuadlet, head, *offset),
+            ReadBlock { head, offset, .. } => self.begin_request(Tcode::ReadBlock, head, *offset),
+            ReadQuadletReply { head, rcode, .. } => {
+                self.begin_response(Tcode::ReadQuadletReply, head, *rcode)
+            }
+            ReadBlockReply { head, rcode, .. } => {
+                self.begin_response(Tcode::ReadBlockReply, head, *rcode)
+            }
+            CycleStart { head, offset, .. } => self.begin_request(Tcode::CycleStart, head, *offset),
+            Lock { head, offset, .. } => self.begin_request(Tcode::Lock, head, *offset),
+            LockReply { head, rcode, .. } => self.begin_response(Tcode::LockReply, head, *rcode),
+        }
+    }
+
+    // Quadlet 3, where the packet has one.
+    fn push_quadlet_3(&mut self, p: &Packet)
+        requires fits { Fits p.now }
+        requires begun { length self.old ≡ 12 }
+        ensures { self.new ≡ self.old ++ flat_map (to_be_bytes w32) (drop 3 (parts p.now).quadlets) }
+    {
+        if let Some(quadlet) = quadlet_3(p) {
+            self.push(quadlet);
         }
     }
 
@@ -173,4 +209,16 @@ fn copy_over(bytes: &[u8], row: &mut [u8; 528])
     ensures { take (length bytes.now) row.new ≡ bytes.now }
 {
     row[..bytes.len()].copy_from_slice(bytes);
+}
+
+// Writes so many bytes over the front. One array is moved over another, so that no test is made of whether they overlap.
+#[inline(always)]
+fn copy_short(short: &[u8], row: &mut [u8; 528])
+    requires { length short.now ≡ 32 }
+    ensures { take 32 row.new ≡ short.now }
+{
+    match (short.as_array::<SHORT>(), row.first_chunk_mut::<SHORT>()) {
+        (Some(whole), Some(front)) => *front = *whole,
+        _ => unreachable!(),
+    }
 }

@@ -1,6 +1,6 @@
 //! Packets as bytes: the quadlets at the front, the data, and zeros up to a whole quadlet.
 
-ghost use Rattle.std.specs.Prelude.{◌≡◌, ◌≤◌, ◌+◌, ◌++◌, List, ℕ, [], length, take, drop, flat_map, replicate};
+ghost use Rattle.std.specs.Prelude.{◌≡◌, ◌≤◌, ◌+◌, ◌++◌, ◌∷◌, IfSome, IfNone, List, ℕ, [], length, take, drop, flat_map, replicate};
 ghost use Rattle.std.specs.Int.{to_be_bytes, w32};
 ghost use Rattle.fw_async.specs.Async.{parts, padding, size, spelling, Fits};
 
@@ -43,31 +43,42 @@ fn size_of(bytes: &[u8], low: u8) -> u32
 }
 
 // Quadlet 3, where the packet has one.
+pub(crate) fn quadlet_3(p: &Packet) -> Option<u32>
+    requires { Fits p.now }
+    ensures some { IfSome result (λ q. drop 3 (parts p.now).quadlets ≡ q ∷ []) }
+    ensures none { IfNone result (drop 3 (parts p.now).quadlets ≡ []) }
+{
+    use Packet::*;
+    match p {
+        WriteQuadlet { value, .. } => Some(*value),
+        WriteBlock { bytes, .. } => Some(size_of(bytes.as_slice(), 0)),
+        WriteReply { .. } => None,
+        ReadQuadlet { .. } => None,
+        ReadBlock { length, .. } => Some(with_field(u32::from(*length), 16, 0)),
+        ReadQuadletReply { value, .. } => Some(*value),
+        ReadBlockReply { bytes, .. } => Some(size_of(bytes.as_slice(), 0)),
+        CycleStart { time, .. } => Some(*time),
+        Lock {
+            function,
+            bytes,
+            ..
+        } => Some(size_of(bytes.as_slice(), *function)),
+        LockReply {
+            function,
+            bytes,
+            ..
+        } => Some(size_of(bytes.as_slice(), *function)),
+    }
+}
+
+// Appends quadlet 3, where the packet has one.
 fn push_quadlet_3(p: &Packet, out: &mut Bytes16)
     requires fits { Fits p.now }
     requires begun { length out.old ≡ 12 }
     ensures { out.new ≡ out.old ++ flat_map (to_be_bytes w32) (drop 3 (parts p.now).quadlets) }
 {
-    use Packet::*;
-    match p {
-        WriteQuadlet { value, .. } => push_quadlet(out, *value),
-        WriteBlock { bytes, .. } => push_quadlet(out, size_of(bytes.as_slice(), 0)),
-        WriteReply { .. } => {}
-        ReadQuadlet { .. } => {}
-        ReadBlock { length, .. } => push_quadlet(out, with_field(u32::from(*length), 16, 0)),
-        ReadQuadletReply { value, .. } => push_quadlet(out, *value),
-        ReadBlockReply { bytes, .. } => push_quadlet(out, size_of(bytes.as_slice(), 0)),
-        CycleStart { time, .. } => push_quadlet(out, *time),
-        Lock {
-            function,
-            bytes,
-            ..
-        } => push_quadlet(out, size_of(bytes.as_slice(), *function)),
-        LockReply {
-            function,
-            bytes,
-            ..
-        } => push_quadlet(out, size_of(bytes.as_slice(), *function)),
+    if let Some(quadlet) = quadlet_3(p) {
+        push_quadlet(out, quadlet);
     }
 }
 

@@ -3,7 +3,9 @@
 
 mod audit;
 mod judge;
+mod responses;
 mod watch;
+mod words;
 
 pub use audit::Audit;
 pub use fw_faults::AuditFault;

@@ -4,6 +4,8 @@ ghost use Rattle.std.specs.Prelude.{◌≡◌, ◌<◌, ◌≤◌, ℕ, IfSome};
 ghost use Rattle.fw_faults.specs.Looked.{is_plug_offset, is_watched};
 ghost use Rattle.fw_faults.specs.Judged.{watched_offset};
 
+use fw_csr::REGISTER_SPACE;
+
 // An offset of the 31 plug registers that begin at one.
 fn is_plug_offset(first: u64, offset: u64) -> bool
     requires { first < 4096 }
@@ -27,10 +29,10 @@ pub fn is_watched(offset: u64) -> bool
 pub fn watched_offset(address: u64) -> Option<u16>
     ensures { result ≡ watched_offset address }
 {
-    if address < 0xffff_f000_0000 {
+    if address < REGISTER_SPACE {
         return None;
     }
-    let offset = address - 0xffff_f000_0000;
+    let offset = address - REGISTER_SPACE;
     if is_watched(offset) {
         Some(offset as u16)
     } else {

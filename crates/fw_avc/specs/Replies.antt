@@ -24,10 +24,11 @@ pub data TableRow : Type 0 where
   OfUnit : UnitRow → TableRow
   OfTape : TapeRow → TableRow
 
--- the address of the unit, and that of its tape subunit
+-- the address of the unit
 abbrev pub is_unit : Frame → Bool
 is_unit f = (f.kind == 31) && (f.id == 7)
 
+-- the address of the tape subunit
 abbrev pub is_tape : Frame → Bool
 is_tape f = (f.kind == 4) && (f.id == 0)
 
@@ -126,6 +127,7 @@ IsRowResponse V u f (OfTape TimeCode) r = r ≡ shows f (0x71 ∷ time_of u.tape
 IsRowResponse V u f (OfTape Eject) r = r ≡ record f { code = 9 }
 IsRowResponse V u f (OfTape (Enter transport)) r = r ≡ record f { code = 9 }
 
+-- the response to a command: it is repeated with a response code, or its row of the table is carried out
 abbrev pub IsResponse : VendorRelation → UnitState → Frame → Ruling → Frame → Type 0
 IsResponse V u f (Repeat code) r = r ≡ record f { code = code }
 IsResponse V u f (CarryOut row) r = IsRowResponse V u f row r
@@ -147,5 +149,6 @@ abbrev pub state_after : UnitState → ℕ → Frame → Ruling → UnitState
 state_after u from f (Repeat code) = u
 state_after u from f (CarryOut row) = row_state u from f row
 
+-- the unit after a command frame from a node
 abbrev pub unit_after : UnitState → ℕ → Frame → UnitState
 unit_after u from f = state_after u from f (ruling u f)

@@ -20,6 +20,7 @@ pages = 0x07 ∷ 0x17 ∷ 0x27 ∷ 0x37 ∷ 0x47 ∷ 0x57 ∷ 0x67 ∷ 0x77 ∷ 
 abbrev pub row : ℕ → Pattern → UnitRow → Row UnitRow
 row opcode operands meaning = record { opcode = opcode; operands = operands; meaning = meaning }
 
+-- the CONTROL commands of the unit
 abbrev pub control_rows : List (Row UnitRow)
 control_rows =
     row 0xB2 (byte 0x70 End) (SetPower true)
@@ -27,6 +28,7 @@ control_rows =
     ∷ row 0x00 (byte 0xA0 (byte 0xB0 (byte 0xC0 Rest))) VendorDependent
     ∷ []
 
+-- the STATUS commands of the unit
 abbrev pub status_rows : List (Row UnitRow)
 status_rows =
     row 0x30 (Any any_four) UnitInfo
@@ -35,6 +37,7 @@ status_rows =
     ∷ row 0xB2 (byte 0x7F End) PowerState
     ∷ []
 
+-- the NOTIFY commands of the unit
 abbrev pub notify_rows : List (Row UnitRow)
 notify_rows = row 0xB2 (byte 0x7F End) PowerState ∷ []
 

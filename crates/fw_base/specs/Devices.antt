@@ -3,6 +3,7 @@ use Rattle.std.specs.Prelude.{ℕ, Bool, true, false}
 use Rattle.fw_base.specs.declared.device.DeviceKind.{DeviceKind}
 use Rattle.fw_base.specs.declared.device.DeviceKind.TheVariants.{Relay, Deck, Camcorder, Computer}
 
+-- the number of a kind of device in the log
 abbrev pub code_of : DeviceKind → ℕ
 code_of Relay = 0
 code_of Deck = 1
@@ -30,12 +31,14 @@ has_unit Deck = true
 has_unit Camcorder = true
 has_unit Computer = false
 
+-- how many output plugs a kind of device has
 abbrev pub output_plugs_of : DeviceKind → ℕ
 output_plugs_of Relay = 0
 output_plugs_of Deck = 1
 output_plugs_of Camcorder = 1
 output_plugs_of Computer = 0
 
+-- how many input plugs a kind of device has
 abbrev pub input_plugs_of : DeviceKind → ℕ
 input_plugs_of Relay = 0
 input_plugs_of Deck = 1

@@ -2,6 +2,7 @@
 use Rattle.fw_base.specs.declared.plug.PlugAt.{PlugAt}
 use Rattle.std.specs.Prelude.{ℕ, zero, suc, ◌+◌, ◌==◌, Bool, ◌&&◌, if◌then◌else◌, Option, Some, None, is_some}
 
+-- two plugs are one
 abbrev pub same_plug : PlugAt → PlugAt → Bool
 same_plug p q = (p.device == q.device) && (p.plug == q.plug)
 
@@ -9,6 +10,7 @@ same_plug p q = (p.device == q.device) && (p.plug == q.plug)
 abbrev pub update : {A : Type 0} → (ℕ → A) → ℕ → A → ℕ → A
 update f k v j = if j == k then v else f j
 
+-- the table with v at plug p
 abbrev pub update_plug : {A : Type 0} → (PlugAt → A) → PlugAt → A → PlugAt → A
 update_plug f p v q = if same_plug q p then v else f q
 
@@ -22,13 +24,16 @@ unfoldable pub find_to : ℕ → (ℕ → Bool) → Option ℕ
 find_to zero test = None
 find_to (suc n) test = elim (find_to n test) [ Some k ↦ Some k | None ↦ (if test n then Some n else None) ]
 
+-- the plug of a device, by number
 abbrev pub at_plug : ℕ → ℕ → PlugAt
 at_plug d n = record { device = d; plug = n }
 
+-- the plug of a device, if there is a number of one
 abbrev pub plug_on : ℕ → Option ℕ → Option PlugAt
 plug_on d None = None
 plug_on d (Some n) = Some (at_plug d n)
 
+-- the first plug of a device that passes
 abbrev pub first_of_device : (PlugAt → Bool) → Option ℕ → Option PlugAt
 first_of_device test None = None
 first_of_device test (Some d) = plug_on d (find_to 31 (λ n. test (at_plug d n)))

@@ -82,6 +82,7 @@ pub record Stops (D : DeskRelations) (commands : List Command) (actions : List A
   pub opens : HasNoEnd commands → LogOpens (log ++ (cut.given ++ cut.next ∷ [])) Two (header_bytes Two ++ log_bytes 0 (log ++ (cut.given ++ cut.next ∷ [])))
   pub spent : IsTrue now.spent
 
+-- what a call with a command did: it was carried out, or refused by its first broken rule, or the sink failed
 abbrev pub Applies : {T : Type 0} → DeskRelations → List Command → List Action → List Timed → State → Command → Standing → Option (List ℕ) → Option (List ℕ) → Result T BusFault → Type 0
 Applies D commands actions log s c now held after (Ok _) = Goes D commands actions log s c now held after
 Applies D commands actions log s c now held after (Err (Refused fault)) = Decides s c (Err fault)
@@ -93,14 +94,16 @@ LendsAt None s d o = o ≡ None
 LendsAt (Some number) s d None = ⊥
 LendsAt (Some number) s d (Some n) = HasSpace n (space_at s d number) × TalksAs n d s.account
 
+-- the node of a device on the bus is lent as it stands in the state
 abbrev pub Lends : State → ℕ → Option NodeState → Type 0
 Lends s d o = LendsAt (number_in s.account.latest d) s d o
 
--- what holds after a refusal, and after a fault of the sink
+-- what holds after a refusal
 abbrev pub WhereRefused : BusFault → Type 0 → Type 0
 WhereRefused (Refused fault) holds = holds
 WhereRefused WriteFault holds = ⊤
 
+-- what holds after a fault of the sink
 abbrev pub WhereFailed : BusFault → Type 0 → Type 0
 WhereFailed (Refused fault) holds = ⊤
 WhereFailed WriteFault holds = holds

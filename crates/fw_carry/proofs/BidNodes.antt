@@ -1,14 +1,13 @@
 -- The request of a candidate that stands: its bytes on the wire, the nodes that it goes between, and the answer.
-use Rattle.std.proofs.Common.{◌≡◌, ℕ, ◌<◌, ◌&&◌, ◌==◌, cond, List, length, Bool, true, false, Option, Some, None, is_some, refl, ap, sym, subst, ◌∙◌, arith, IsTrue}
+use Rattle.std.proofs.Common.{◌≡◌, ℕ, ◌%◌, ◌<◌, ◌&&◌, ◌==◌, cond, length, Bool, true, false, Option, Some, None, is_some, refl, ap, sym, subst, ◌∙◌, arith, IsTrue}
 use Rattle.std.specs.Option.{option_map}
-use Rattle.std.proofs.lemmas.Option.{same_Some, none-some}
+use Rattle.std.proofs.lemmas.Option.{none-some}
 use Rattle.fw_async.specs.Async.{Fits, spelling}
-use Rattle.fw_async.specs.Reader.{Spells}
 use Rattle.fw_async.specs.Wire.{bytes_from}
 use Rattle.fw_async.specs.declared.packet.Packet.{Packet}
 use Rattle.fw_base.specs.Devices.{has_link}
 use Rattle.fw_csr.specs.declared.reply.Reply.{Reply}
-use Rattle.fw_devices.specs.Entries.{device_of}
+use Rattle.fw_devices.specs.Entries.{device_of, node_device}
 use Rattle.fw_devices.specs.Network.{is_node, node_at}
 use Rattle.fw_devices.proofs.NetworkLaws.{kind_of_node}
 use Rattle.fw_csr.specs.declared.request.Request.{Request}
@@ -19,7 +18,8 @@ use Rattle.fw_manager.specs.declared.bid.Bid.{Bid}
 use Rattle.fw_manager.specs.declared.bid.Bid.TheVariants.{Send, Elected, Defeated, Done}
 use Rattle.fw_manager.specs.declared.candidate.Stage.{Stage}
 use Rattle.fw_manager.specs.declared.candidate.Stage.TheVariants.{Fresh, Asked, Heard, Answered}
-use Rattle.fw_node.specs.Packets.{IsRequest, old_bytes, old_value, packet_of, reply_in, response_of}
+use Rattle.fw_node.specs.Contents.{node_id}
+use Rattle.fw_node.specs.Packets.{old_bytes, old_value, packet_of, reply_in, response_of}
 use Rattle.fw_node.specs.State.{space_of}
 use Rattle.fw_run.specs.Bidding.{bid_answer_packet, bid_head, epoch_at, is_candidate}
 use Rattle.fw_run.specs.Elections.{Election, with_candidate}
@@ -35,9 +35,12 @@ use Rattle.fw_machine.specs.Bids.{bid_from, packet_of_bid}
 use Rattle.fw_machine.specs.Candidates.{HasElection, candidate_in, CandidateTable}
 use Rattle.fw_machine.specs.Candidates.{count_of as candidates_of}
 use Rattle.fw_carry.specs.Contending.{Contender, BidStands}
+use Rattle.fw_carry.specs.Exchanging.{IsOutstanding}
 use Rattle.fw_machine.specs.Stands.{IsReady, manager_device}
-use Rattle.fw_carry.proofs.Bidding.{Nexts, answers_bid, bidder_lives, known, one_stands, own_place, own_same, seat, to_same}
+use Rattle.fw_carry.proofs.Bidding.{Nexts, answers_bid, bidder_lives, known, manager_number, one_stands, own_place, own_same, seat, to_same}
 use Rattle.fw_carry.proofs.Exchanges.{asks_request}
+use Rattle.fw_carry.proofs.FrameTurns.{device_there}
+use Rattle.fw_machine.proofs.Latest.{number_low}
 use Rattle.fw_machine.proofs.Besides.{candidate_same}
 use Rattle.fw_machine.proofs.Living.{linked_same, living_there}
 use Rattle.fw_machine.proofs.Nodes.{linked_on, on_within}
@@ -192,26 +195,24 @@ wire_has m d manager own to r b own_is to_is =
     ∙ (ap (λ o. option_map spelling (packet_of_bid s.account.latest d o)) z.at ∙ (ap (option_map spelling) (one_stands s.account.latest d z.seat.number k.candidate on z.seat.manages)
     ∙ (λ i. Some (spelling (bid_packet (own_ i) (sym to_ i)))))))
 
-pub bid_read : (m : Machine) (d manager own to : ℕ) (bytes : List ℕ) → IsReady m → BidStands m d manager → (node_at m.devices.nodes d).number ≡ Some own → (node_at m.devices.nodes manager).number ≡ Some to
-    → Some bytes ≡ bytes_from own m.bids → Spells (bid_packet own to) bytes
-bid_read m d manager own to bytes r b own_is to_is is = record {
-  fits = packet_fits m d manager own to r b.contender own_is to_is;
-  same = same_Some _ bytes (sym (wire_has m d manager own to r b own_is to_is) ∙ sym is);
-}
-
-pub bid_asked : (m : Machine) (d manager own to : ℕ) (bytes : List ℕ) → IsReady m → BidStands m d manager → (node_at m.devices.nodes d).number ≡ Some own → (node_at m.devices.nodes manager).number ≡ Some to
-    → Some bytes ≡ bytes_from own m.bids → IsRequest bytes
-bid_asked m d manager own to bytes r b own_is to_is is = record {
-  packet = bid_packet own to;
-  spells = bid_read m d manager own to bytes r b own_is to_is is;
-  asks = ap is_some (asks_request (bid_head to own) (bid_request own));
-}
-
--- so some are there
-pub some_bid : {A : Type 0} (f : A → List ℕ) (o : Option A) (m : Machine) (d manager own to : ℕ) → IsReady m → BidStands m d manager → (node_at m.devices.nodes d).number ≡ Some own
-    → (node_at m.devices.nodes manager).number ≡ Some to → option_map f o ≡ bytes_from own m.bids → (x : A) × (o ≡ Some x)
-some_bid f None m d manager own to r b own_is to_is e = absurd (none-some _ (e ∙ wire_has m d manager own to r b own_is to_is))
-some_bid f (Some x) m d manager own to r b own_is to_is e = (x, refl)
+-- so it stands there, to the manager
+pub bid_outstanding : (m : Machine) (d manager own : ℕ) → (r : IsReady m) → (b : BidStands m d manager) → (node_at m.devices.nodes d).number ≡ Some own
+    → let x = seat m r.state manager r.good r.stands b.contender.manages in IsOutstanding m.devices m.bids own manager (bid_packet own x.number)
+bid_outstanding m d manager own r b own_is =
+    let s = r.state in
+    let x = seat m s manager r.good r.stands b.contender.manages in
+    let to_is = manager_number m s manager r.good r.stands x in
+    let low = number_low s manager x.number r.good x.place in
+    let same : node_id x.number % 64 ≡ x.number = omega (arith, low) in
+    record {
+      stands = wire_has m d manager own x.number r b own_is to_is;
+      fits = packet_fits m d manager own x.number r b.contender own_is to_is;
+      asks = ap is_some (asks_request (bid_head x.number own) (bid_request own));
+      goes = ap (node_device m.devices.latest.nodes) same ∙ device_there m s x.number manager r.stands (device_of_number s manager x.number r.good x.place);
+      declared = manager_within m d manager r b.contender;
+      number = ap is_some to_is;
+      link = manager_linked m d manager r b.contender;
+    }
 
 -- ---- the answer
 

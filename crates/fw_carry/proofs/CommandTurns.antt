@@ -1,16 +1,12 @@
 -- Commands to units: of the machine and of the run.
 use Rattle.std.proofs.Common.{◌≡◌, ◌≢◌, ℕ, ◌<◌, ◌≤◌, zero, suc, List, [], ◌∷◌, ◌++◌, length, slice_set, is_some, Bool, true, false, ◌==◌, Option, Some, None, refl, ap, sym, subst, ◌∙◌, arith, IsTrue}
-use Rattle.std.specs.Prelude.{Ok, Err, IsErr}
+use Rattle.std.specs.Prelude.{IsErr}
 use Rattle.std.specs.declared.result.Result.{Result}
 use Rattle.std.proofs.lemmas.List.{get_or-set_same, length-set}
 use Rattle.std.proofs.lemmas.Option.{same_Some}
 use Rattle.fw_async.specs.Async.{Fits}
 use Rattle.fw_async.specs.declared.packet.Packet.{Packet}
-use Rattle.fw_entry.specs.Log.{epoch_after, entry_bytes}
-use Rattle.fw_entry.specs.declared.version.Version.TheVariants.{Two}
-use Rattle.fw_entry.specs.declared.entry.Entry.{Entry}
 use Rattle.fw_entry.specs.declared.entry.Entry.TheVariants.{Async}
-use Rattle.fw_entry.specs.declared.entry.Timed.{Timed}
 use Rattle.fw_account.specs.Words.{node_of}
 use Rattle.fw_node.specs.Fcp.{HasFollowed}
 use Rattle.fw_node.specs.Packets.{packet_of, request_in, requester, response_of}
@@ -24,10 +20,10 @@ use Rattle.fw_run.specs.Decks.{DeckState, FrameWrite, Obeyed}
 use Rattle.fw_run.specs.Desks.{DeskRelations}
 use Rattle.fw_run.specs.Frames.{command_write, decks_after, frame_head, frame_packet, request_of, write_request}
 use Rattle.fw_run.specs.Given.{IsGiven}
-use Rattle.fw_run.specs.Giving.{at_cycle, at_most, Gives}
+use Rattle.fw_run.specs.Giving.{at_most}
 use Rattle.fw_run.specs.Good.{IsGood}
 use Rattle.fw_run.specs.Spaces.{script_head}
-use Rattle.fw_run.specs.State.{State, epoch_of, has_deck, is_linked, is_living}
+use Rattle.fw_run.specs.State.{State, has_deck, is_linked, is_living}
 use Rattle.fw_run.specs.Units.{HasDeck}
 use Rattle.fw_run.proofs.Commands.{follows_in_run}
 use Rattle.fw_run.proofs.FrameWrites.{fits_write, write_by}
@@ -38,85 +34,16 @@ use Rattle.fw_run.proofs.Turns.{living_linked, update_others}
 use Rattle.fw_run.proofs.Units.{request_kept}
 use Rattle.fw_machine.specs.declared.machine.Machine.{Machine}
 use Rattle.fw_carry.specs.Doings.{Does}
-use Rattle.fw_machine.specs.Faults.{CountsFaults}
 use Rattle.fw_carry.specs.Framing.{CarriesBy, Commands, IsWrite}
 use Rattle.fw_machine.specs.Stands.{HasDecks, StandsFor, is_linked_in, is_living_in}
 use Rattle.fw_machine.proofs.DeckNodes.{decks_set}
-use Rattle.fw_carry.proofs.Doings.{IsNoReset, two_epoch, two_grew, two_front, Follows, GoesOn, does_as, does_cut, faults_then, one_step, talk_steps}
+use Rattle.fw_carry.proofs.Doings.{Follows, GoesOn, does_as, does_cut}
 use Rattle.fw_carry.proofs.Exchanges.{asks_request}
+use Rattle.fw_carry.proofs.ExchangeTurns.{Exchanged, Exchanges}
 use Rattle.fw_carry.proofs.FrameNodes.{KeepsRegisters, with_node, with_decks, deck_stands, answers_request, written_stands}
 use Rattle.fw_machine.proofs.Living.{linked_same, living_same}
 use Rattle.fw_machine.proofs.Nodes.{node_number_is, linked_on, on_within}
 use Rattle.fw_carry.proofs.Sending.{all_steps}
-
--- ---- two entries, of actions that the state decides
-
-pub record Exchanges (P : State → Action → Action → Type 0) (m now : Machine) (cycle : ℕ) (e f : Entry) : Type 0 where
-  pub shown : (s : State) → IsGood s → StandsFor m s
-      → (x y : Action) × P s x y × (mid t : State) × Step s x (at_most cycle (Some e)) mid × Step mid y (at_most cycle (Some f)) t × StandsFor now t
-
-abbrev pub Exchanged : (State → Action → Action → Type 0) → State → List Action → List Timed → State → Type 0
-Exchanged P s ys out t = (x y : Action) × P s x y × (ys ≡ x ∷ y ∷ []) × Steps s (x ∷ y ∷ []) out t
-
-pub does_exchanged : {T E U F : Type 0} {P : State → Action → Action → Type 0} {m now : Machine} {held after : Option (List ℕ)} {k l n : ℕ} {u : T} (mid : Option (List ℕ)) (cycle : ℕ) (e f : Entry) (r : Result U F)
-    → Exchanges P m now cycle e f → IsNoReset e → IsNoReset f → Gives {T = T} {E = E} held mid (Ok u) cycle now.devices.epoch (Some e) → CountsFaults {T = T} {E = E} k l (Ok u) → Gives mid after r cycle now.devices.epoch (Some f) → CountsFaults l n r
-    → Does (Exchanged P) m now held after k n r
-does_exchanged {now = now} {held = held} {after} {k} {l} {n} mid cycle e f (Ok w) talk plain other gives faults given also = record {
-  faults = faults_then k l n (Ok w) faults.same also;
-  shown = λ s g st. let z = talk.shown s g st in let both = talk_steps s z.3 z.4 z.0 z.1 cycle e f z.5 z.6 in record {
-    actions = z.0 ∷ z.1 ∷ [];
-    out = at_cycle cycle e ∷ at_cycle cycle f ∷ [];
-    state = z.4;
-    whole = (z.0, z.1, z.2, refl, both);
-    steps = both;
-    stands = z.7;
-    grew = two_grew s now.devices.epoch cycle e f held mid after (two_epoch now s z.3 z.4 z.0 z.1 cycle e f g z.5 z.6 z.7 plain other) plain other gives given;
-  };
-}
-does_exchanged {now = now} {held = held} {after} {k} {l} {n} mid cycle e f (Err w) talk plain other gives faults given also = record {
-  faults = faults_then k l n (Err w) faults.same also;
-  shown = λ s g st. let z = talk.shown s g st in let both = talk_steps s z.3 z.4 z.0 z.1 cycle e f z.5 z.6 in record {
-    done = z.0 ∷ z.1 ∷ [];
-    later = [];
-    all = at_cycle cycle e ∷ at_cycle cycle f ∷ [];
-    last = z.4;
-    whole = (z.0, z.1, z.2, refl, both);
-    goes = both;
-    given = at_cycle cycle e ∷ [];
-    next = at_cycle cycle f;
-    state = z.4;
-    steps = both;
-    front = given.front;
-    rest = given.rest;
-    parts = ap (λ (n : ℕ). entry_bytes Two (epoch_after n f) (at_cycle cycle f)) (plain (epoch_of s.account.latest) ∙ sym (two_epoch now s z.3 z.4 z.0 z.1 cycle e f g z.5 z.6 z.7 plain other)) ∙ given.parts;
-    appended = two_front s now.devices.epoch cycle e given.front held mid after (two_epoch now s z.3 z.4 z.0 z.1 cycle e f g z.5 z.6 z.7 plain other) gives given.appended;
-  };
-}
-
--- the first was cut off
-pub does_unexchanged : {U F V G : Type 0} {P : State → Action → Action → Type 0} {m now : Machine} {held after : Option (List ℕ)} {k l : ℕ} (cycle : ℕ) (e f : Entry) (q : Result U F) (r : Result V G)
-    → Exchanges P m now cycle e f → IsNoReset e → IsNoReset f → IsErr q → IsErr r → Gives held after q cycle now.devices.epoch (Some e) → CountsFaults k l q → Does (Exchanged P) m now held after k l r
-does_unexchanged cycle e f (Ok u) r talk plain other is was gives faults = let no : ⊥ = grind (arith, is) in absurd no
-does_unexchanged cycle e f (Err w) (Ok v) talk plain other is was gives faults = let no : ⊥ = grind (arith, was) in absurd no
-does_unexchanged {now = now} cycle e f (Err w) (Err v) talk plain other is was gives faults = record {
-  faults = record { cause = record { later = faults.cause.later; failed = faults.cause.failed }; same = tt };
-  shown = λ s g st. let z = talk.shown s g st in let both = talk_steps s z.3 z.4 z.0 z.1 cycle e f z.5 z.6 in record {
-    done = z.0 ∷ [];
-    later = z.1 ∷ [];
-    all = at_cycle cycle e ∷ at_cycle cycle f ∷ [];
-    last = z.4;
-    whole = (z.0, z.1, z.2, refl, both);
-    goes = both;
-    given = [];
-    next = at_cycle cycle e;
-    state = z.3;
-    steps = one_step s z.3 z.0 (at_cycle cycle e ∷ []) z.5;
-    front = gives.front;
-    rest = gives.rest;
-    parts = ap (λ (n : ℕ). entry_bytes Two (epoch_after n e) (at_cycle cycle e)) (sym (two_epoch now s z.3 z.4 z.0 z.1 cycle e f g z.5 z.6 z.7 plain other)) ∙ gives.parts;
-    appended = gives.appended;
-  };
-}
 
 -- ---- the write of a command
 

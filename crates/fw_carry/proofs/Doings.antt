@@ -21,7 +21,7 @@ use Rattle.fw_run.proofs.Kept.{step_numbers}
 use Rattle.fw_machine.specs.declared.machine.Machine.{Machine}
 use Rattle.fw_machine.specs.Faults.{CountsFaults}
 use Rattle.fw_machine.specs.Stands.{IsReady, StandsFor}
-use Rattle.fw_carry.specs.Doings.{Deed, Acts, Turns, Talks, Does}
+use Rattle.fw_carry.specs.Doings.{Deed, Acts, Turns, Does}
 
 -- ---- counts of faults
 
@@ -327,64 +327,3 @@ two_front s n cycle e front held mid after is first last =
     let x : List ℕ = entry_bytes Two (epoch_after k e) (at_cycle cycle e) in
     let P : ℕ → Type 0 = λ z. Grows held mid (entry_bytes Two (epoch_after z e) (at_cycle cycle e)) in
     subst (λ z. Grows held after (z ++ front)) (sym (append-nil x)) (Grows-Grows held mid after x front (subst P is first) last)
-
--- both entries were written, or the one that was cut off
-pub does_asked : {T E U F : Type 0} {a b : Action} {m now : Machine} {held after : Option (List ℕ)} {k l n : ℕ} {u : T} (mid : Option (List ℕ)) (cycle : ℕ) (e f : Entry) (r : Result U F)
-    → Talks a b m now cycle e f → IsNoReset e → IsNoReset f → Gives {T = T} {E = E} held mid (Ok u) cycle now.devices.epoch (Some e) → CountsFaults {T = T} {E = E} k l (Ok u) → Gives mid after r cycle now.devices.epoch (Some f) → CountsFaults l n r
-    → Does (Acts (a ∷ b ∷ [])) m now held after k n r
-does_asked {a = a} {b} {now = now} {held = held} {after} {k} {l} {n} mid cycle e f (Ok w) talk plain other gives faults given also = record {
-  faults = faults_then k l n (Ok w) faults.same also;
-  shown = λ s g st. let x = talk.shown s g st in let both = talk_steps s x.0 x.1 a b cycle e f x.2 x.3 in record {
-    actions = a ∷ b ∷ [];
-    out = at_cycle cycle e ∷ at_cycle cycle f ∷ [];
-    state = x.1;
-    whole = (refl, both);
-    steps = both;
-    stands = x.4;
-    grew = two_grew s now.devices.epoch cycle e f held mid after (two_epoch now s x.0 x.1 a b cycle e f g x.2 x.3 x.4 plain other) plain other gives given;
-  };
-}
-does_asked {a = a} {b} {now = now} {held = held} {after} {k} {l} {n} mid cycle e f (Err w) talk plain other gives faults given also = record {
-  faults = faults_then k l n (Err w) faults.same also;
-  shown = λ s g st. let x = talk.shown s g st in let both = talk_steps s x.0 x.1 a b cycle e f x.2 x.3 in record {
-    done = a ∷ b ∷ [];
-    later = [];
-    all = at_cycle cycle e ∷ at_cycle cycle f ∷ [];
-    last = x.1;
-    whole = (refl, both);
-    goes = both;
-    given = at_cycle cycle e ∷ [];
-    next = at_cycle cycle f;
-    state = x.1;
-    steps = both;
-    front = given.front;
-    rest = given.rest;
-    parts = ap (λ (z : ℕ). entry_bytes Two (epoch_after z f) (at_cycle cycle f)) (plain (epoch_of s.account.latest) ∙ sym (two_epoch now s x.0 x.1 a b cycle e f g x.2 x.3 x.4 plain other)) ∙ given.parts;
-    appended = two_front s now.devices.epoch cycle e given.front held mid after (two_epoch now s x.0 x.1 a b cycle e f g x.2 x.3 x.4 plain other) gives given.appended;
-  };
-}
-
--- the request was cut off
-pub does_unasked : {U F V G : Type 0} {a b : Action} {m now : Machine} {held after : Option (List ℕ)} {k l : ℕ} (cycle : ℕ) (e f : Entry) (q : Result U F) (r : Result V G)
-    → Talks a b m now cycle e f → IsNoReset e → IsNoReset f → IsErr q → IsErr r → Gives held after q cycle now.devices.epoch (Some e) → CountsFaults k l q → Does (Acts (a ∷ b ∷ [])) m now held after k l r
-does_unasked cycle e f (Ok u) r talk plain other is was gives faults = let no : ⊥ = grind (arith, is) in absurd no
-does_unasked cycle e f (Err w) (Ok v) talk plain other is was gives faults = let no : ⊥ = grind (arith, was) in absurd no
-does_unasked {a = a} {b} {now = now} cycle e f (Err w) (Err v) talk plain other is was gives faults = record {
-  faults = record { cause = record { later = faults.cause.later; failed = faults.cause.failed }; same = tt };
-  shown = λ s g st. let x = talk.shown s g st in let both = talk_steps s x.0 x.1 a b cycle e f x.2 x.3 in record {
-    done = a ∷ [];
-    later = b ∷ [];
-    all = at_cycle cycle e ∷ at_cycle cycle f ∷ [];
-    last = x.1;
-    whole = (refl, both);
-    goes = both;
-    given = [];
-    next = at_cycle cycle e;
-    state = x.0;
-    steps = one_step s x.0 a (at_cycle cycle e ∷ []) x.2;
-    front = gives.front;
-    rest = gives.rest;
-    parts = ap (λ (z : ℕ). entry_bytes Two (epoch_after z e) (at_cycle cycle e)) (sym (two_epoch now s x.0 x.1 a b cycle e f g x.2 x.3 x.4 plain other)) ∙ gives.parts;
-    appended = gives.appended;
-  };
-}

@@ -3,6 +3,7 @@ use Rattle.std.proofs.Common.{◌≡◌, ◌&&◌, ◌==◌, Bool, true, false, 
 use Rattle.std.proofs.lemmas.List.{get_or-set_other, length-set}
 use Rattle.std.proofs.lemmas.Option.{same_Some, none-some}
 use Rattle.fw_base.specs.declared.device.DeviceKind.TheVariants.{Relay}
+use Rattle.fw_base.specs.declared.label.Label.TheVariants.{Procedure}
 use Rattle.fw_base.specs.Tables.{update}
 use Rattle.fw_async.specs.declared.packet.Head.{Head}
 use Rattle.fw_async.specs.declared.packet.Packet.{Packet}
@@ -106,7 +107,7 @@ answered_of m s d a to device own packet response g st lives standing sent =
         ∙ (node_number_is m.devices.nodes s d st.devices.nodes g (linked_on s d (living_linked s d (sym (living_same m s d g st) ∙ lives)))).0)
 
     packet_is : packet ≡ packet_of head q
-    packet_is = sent.packet_is ∙ (λ i. packet_of (request_head (place i) (x.to_is i) 0) (request_of (x.access i)))
+    packet_is = sent.packet_is ∙ (λ i. packet_of (request_head (place i) (x.to_is i) Procedure) (request_of (x.access i)))
 
     number : number_in s.account.latest device ≡ Some x.heard.to
     number = x.number ∙ ap (λ n. Some n) x.to_is
@@ -212,7 +213,7 @@ hears_stands m s k d a to device own packet response r g after st quiet place se
         (record { latest = bus.0; told = directory_same s (state_with s l f asked) bus.0 refl; controllers = refl }) place rests st.wire
 
     request_is : request_in packet ≡ Some (request_at (offset_of x.heard.target) (swap_of x.job x.stage))
-    request_is = ap request_in sent.packet_is ∙ (asks_request (request_head own to 0) (request_of a) ∙ ap (λ y. Some (request_of y)) x.access)
+    request_is = ap request_in sent.packet_is ∙ (asks_request (request_head own to Procedure) (request_of a) ∙ ap (λ y. Some (request_of y)) x.access)
 
     nodes : HasNodes (nodes_after m.devices.nodes device packet) (state_with s l f asked)
     nodes = subst (λ o. HasNodes (slice_set m.devices.nodes device (after_request o (node_at m.devices.nodes device))) (state_with s l f asked)) (sym request_is)

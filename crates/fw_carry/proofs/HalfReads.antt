@@ -1,6 +1,6 @@
 -- The request that is read off the wire, and the response that is written.
-use Rattle.std.proofs.Common.{◌≡◌, ℕ, ◌<◌, ◌^◌, ◌%◌, ◌==◌, List, Bool, true, false, cond, option_map, Option, Some, None, is_some, refl, ap, sym, subst, ◌∙◌, arith, IsTrue, length}
-use Rattle.std.proofs.lemmas.Option.{same_Some, none-some}
+use Rattle.std.proofs.Common.{◌≡◌, ℕ, ◌<◌, ◌^◌, ◌%◌, ◌==◌, List, Bool, true, false, cond, option_map, Some, is_some, refl, ap, sym, subst, ◌∙◌, arith, IsTrue, length}
+use Rattle.std.proofs.lemmas.Option.{same_Some}
 use Rattle.fw_async.specs.declared.packet.Head.{Head}
 use Rattle.fw_async.specs.declared.packet.Packet.{Packet}
 use Rattle.fw_async.specs.Heads.{head_of}
@@ -16,12 +16,13 @@ use Rattle.fw_cmp.specs.declared.directory.Directory.{Directory}
 use Rattle.fw_cmp.specs.declared.request.Access.{Access}
 use Rattle.fw_cmp.specs.declared.request.Target.{Target}
 use Rattle.fw_cmp.specs.declared.request.Target.TheVariants.{OutputPlug, InputPlug, Channels, BandwidthAvailable}
+use Rattle.fw_base.specs.declared.label.Label.TheVariants.{Procedure}
 use Rattle.fw_base.specs.Devices.{has_link}
 use Rattle.fw_cmp.specs.Controllers.{ControllerState, IsStanding}
 use Rattle.fw_cmp.specs.Requests.{addressee_of, offset_of, request_of, standing_in}
 use Rattle.fw_step.specs.Requests.{PlugNumberFits, procedure_head}
 use Rattle.fw_csr.specs.declared.reply.Reply.{Reply}
-use Rattle.fw_node.specs.Packets.{reply_in, packet_of, request_head, response_of, IsRequest, IsServed}
+use Rattle.fw_node.specs.Packets.{reply_in, packet_of, request_head, response_of, IsServed}
 use Rattle.fw_node.specs.State.{space_of}
 use Rattle.fw_devices.specs.Network.{Network, node_at}
 use Rattle.fw_devices.specs.Entries.{node_device}
@@ -37,6 +38,7 @@ use Rattle.fw_machine.specs.Streaming.{looked_at}
 use Rattle.fw_machine.specs.Tables.{states_of}
 use Rattle.fw_machine.specs.Wires.{packet_for}
 use Rattle.fw_carry.proofs.Exchanges.{Exchange, standing_of, addressee_is, device_is, exchange_of, exchange_within, exchange_addresses, exchange_linked, asks_request}
+use Rattle.fw_carry.specs.Exchanging.{IsOutstanding}
 use Rattle.fw_carry.specs.Serving.{Sent, nodes_after}
 use Rattle.fw_carry.proofs.HalfWires.{own_number, own_place}
 use Rattle.fw_machine.proofs.Latest.{number_low}
@@ -83,7 +85,7 @@ went_there m s d g st lives stands =
 
 -- the packet
 abbrev pub went_packet : {m : Machine} {d device : ℕ} (own : ℕ) → Went m d device → Packet
-went_packet own w = packet_of (request_head own w.to 0) (request_of w.access)
+went_packet own w = packet_of (request_head own w.to Procedure) (request_of w.access)
 
 offset_below : (t : Target) → PlugNumberFits t → offset_of t < 2 ^ 48
 offset_below (OutputPlug p) f = omega (arith, f)
@@ -121,7 +123,7 @@ packet_fits m d device own k =
     (procedure_fits k.went.to own (omega (arith, to)) (omega (arith, source))) low
 
 -- they lie on the wire
-pub wire_has : (m : Machine) (d device own : ℕ) → (k : Known m d device own) → bytes_from own m.wire ≡ Some (spelling (went_packet own k.went))
+wire_has : (m : Machine) (d device own : ℕ) → (k : Known m d device own) → bytes_from own m.wire ≡ Some (spelling (went_packet own k.went))
 wire_has m d device own k =
     let r = k.ready in
     let s = r.state in
@@ -137,22 +139,6 @@ wire_has m d device own k =
     ∙ (ap (option_map (λ to. packet_of (procedure_head to (node_of s.account.latest d)) (request_of k.went.access))) goes
     ∙ ap (λ (n : ℕ). Some (packet_of (procedure_head k.went.to n) (request_of k.went.access))) node)))
 
--- so what was taken are these
-pub request_read : (m : Machine) (d device own : ℕ) (bytes : List ℕ) → (k : Known m d device own) → Some bytes ≡ bytes_from own m.wire → Spells (went_packet own k.went) bytes
-request_read m d device own bytes k is = record { fits = packet_fits m d device own k; same = same_Some _ bytes (sym (wire_has m d device own k) ∙ sym is) }
-
-pub some_taken : {A : Type 0} (f : A → List ℕ) (o : Option A) (m : Machine) (d device own : ℕ) → Known m d device own → option_map f o ≡ bytes_from own m.wire
-    → (x : A) × (o ≡ Some x)
-some_taken f None m d device own k e = absurd (none-some _ (e ∙ wire_has m d device own k))
-some_taken f (Some x) m d device own k e = (x, refl)
-
-pub is_request : (m : Machine) (d device own : ℕ) (bytes : List ℕ) → (k : Known m d device own) → Some bytes ≡ bytes_from own m.wire → IsRequest bytes
-is_request m d device own bytes k is = record {
-  packet = went_packet own k.went;
-  spells = request_read m d device own bytes k is;
-  asks = ap is_some (asks_request (request_head own k.went.to 0) (request_of k.went.access));
-}
-
 -- ---- the node that they are addressed to
 
 head_back : (h : Head) (q : Request) → head_of (packet_of h q) ≡ h
@@ -163,14 +149,13 @@ head_back h (Asks.WriteBlock offset bytes) = refl
 head_back h (Asks.Lock offset function bytes) = refl
 
 -- the last six bits of the destination are its number
-pub goes_to : (m : Machine) (d device own n : ℕ) → (k : Known m d device own) → n ≡ (head_of (went_packet own k.went)).destination % 64
-    → node_device m.devices.latest.nodes n ≡ Some device
-goes_to m d device own n k is =
+goes_to : (m : Machine) (d device own : ℕ) → (k : Known m d device own) → node_device m.devices.latest.nodes ((head_of (went_packet own k.went)).destination % 64) ≡ Some device
+goes_to m d device own k =
     let r = k.ready in
     let x = exchanged m d device own k in
     let to = number_low r.state device k.went.to r.good x.number in
-    let head = ap (λ (h : Head). h.destination) (head_back (request_head own k.went.to 0) (request_of k.went.access)) in
-    let same : n ≡ k.went.to = omega (arith, is, head, to) in
+    let head = ap (λ (h : Head). h.destination) (head_back (request_head own k.went.to Procedure) (request_of k.went.access)) in
+    let same : (head_of (went_packet own k.went)).destination % 64 ≡ k.went.to = omega (arith, head, to) in
     ap (node_device m.devices.latest.nodes) same ∙ sym k.went.at
 
 -- ---- the node that reads them
@@ -178,16 +163,35 @@ goes_to m d device own n k is =
 pub device_within : (m : Machine) (d device own : ℕ) → Known m d device own → device < length m.devices.nodes
 device_within m d device own k = let r = k.ready in exchange_within m r.state d k.went.access k.went.to device r.good r.stands (exchanged m d device own k)
 
-pub device_number : (m : Machine) (d device own : ℕ) → (k : Known m d device own) → (node_at m.devices.nodes device).number ≡ Some k.went.to
+device_number : (m : Machine) (d device own : ℕ) → (k : Known m d device own) → (node_at m.devices.nodes device).number ≡ Some k.went.to
 device_number m d device own k =
     let r = k.ready in
     number_of_node m.devices.nodes r.state device r.stands.devices.nodes (device_within m d device own k) ∙ (exchanged m d device own k).number
 
 -- it has a link
-pub device_linked : (m : Machine) (d device own : ℕ) → (k : Known m d device own) → IsTrue (has_link (node_at m.devices.nodes device).kind)
+device_linked : (m : Machine) (d device own : ℕ) → (k : Known m d device own) → IsTrue (has_link (node_at m.devices.nodes device).kind)
 device_linked m d device own k =
     let r = k.ready in
     exchange_linked m r.state d k.went.access k.went.to device r.good r.stands (exchanged m d device own k)
+
+-- ---- the request, as it stands on the wire
+
+pub known_at : (m : Machine) (d own : ℕ) → IsReady m → IsTrue (is_living_in m d) → Awaits (states_of m.controllers d) → (node_at m.devices.nodes d).number ≡ Some own
+    → (device : ℕ) × Known m d device own
+known_at m d own r lives stands own_is =
+    let there = went_there m r.state d r.good r.stands lives stands in
+    (there.0, record { ready = r; lives = lives; stands = stands; went = there.1; own_is = own_is })
+
+pub outstanding : (m : Machine) (d device own : ℕ) → (k : Known m d device own) → IsOutstanding m.devices m.wire own device (went_packet own k.went)
+outstanding m d device own k = record {
+  stands = wire_has m d device own k;
+  fits = packet_fits m d device own k;
+  asks = ap is_some (asks_request (request_head own k.went.to Procedure) (request_of k.went.access));
+  goes = goes_to m d device own k;
+  declared = device_within m d device own k;
+  number = ap is_some (device_number m d device own k);
+  link = device_linked m d device own k;
+}
 
 -- ---- the response that it writes
 

@@ -22,6 +22,7 @@ use Rattle.fw_cmp.specs.Nodes as Told
 use Rattle.fw_cmp.specs.Turns.{after_next}
 use Rattle.fw_step.specs.Lingering.{SameLinger}
 use Rattle.fw_step.specs.Controllers.{IsDirectory}
+use Rattle.fw_base.specs.declared.label.Label.TheVariants.{Procedure}
 use Rattle.fw_node.specs.Packets.{packet_of, request_head}
 use Rattle.fw_node.specs.State.{NodeState}
 use Rattle.fw_devices.specs.Network.{kinds_of, no_entry, node_at}
@@ -206,13 +207,13 @@ takes_asks m k w d e lives heard table says wires = λ s g st.
 
 -- the packet of a request that goes out
 pub request_says : (m : Machine) (s : State) (d to own : ℕ) (q : Request) (p : Packet) (x : Next) → IsGood s → StandsFor m s → IsTrue (is_living_in m d)
-    → x ≡ Send to q → (node_at m.devices.nodes d).number ≡ Some own → p ≡ packet_of (request_head own to 0) q
+    → x ≡ Send to q → (node_at m.devices.nodes d).number ≡ Some own → p ≡ packet_of (request_head own to Procedure) q
     → Some (Async p) ≡ said s d x
 request_says m s d to own q p x g st lives is number packet =
     let living = sym (living_same m s d g st) ∙ lives in
     let on = node_number_is m.devices.nodes s d st.devices.nodes g (linked_on s d (living_linked s d living)) in
     let place : own ≡ node_of s.account.latest d = same_Some own (node_of s.account.latest d) (sym number ∙ on.0) in
-    ap (λ y. Some (Async y)) (packet ∙ ap (λ n. packet_of (request_head n to 0) q) place) ∙ sym (ap (said s d) is)
+    ap (λ y. Some (Async y)) (packet ∙ ap (λ n. packet_of (request_head n to Procedure) q) place) ∙ sym (ap (said s d) is)
 
 -- the controller has nothing to do, or waits, or cannot hear
 abbrev pub IsSilent : Next → Type 0

@@ -4,6 +4,7 @@ use Rattle.std.proofs.lemmas.Option.{same_Some, none-some}
 use Rattle.fw_async.specs.declared.packet.Packet.{Packet}
 use Rattle.fw_async.specs.Async.{spelling, Fits}
 use Rattle.fw_async.specs.Reader.{Spells}
+use Rattle.fw_base.specs.declared.label.Label.TheVariants.{Procedure}
 use Rattle.fw_base.specs.Tables.{update}
 use Rattle.fw_entry.specs.declared.entry.Entry.TheVariants.{Async}
 use Rattle.fw_async.specs.Wire.{bytes_from}
@@ -127,7 +128,7 @@ asks_become s d g lives heard =
 
 -- a request that goes out
 pub sent_wire : (m : Machine) (d to own : ℕ) (q : Request) (p : Packet) → IsTrue (is_living_in m d) → Listens (states_of m.controllers d) → to < 63
-    → turn_of m.cycle m.directory (states_of m.controllers d) ≡ Send to q → (node_at m.devices.nodes d).number ≡ Some own → p ≡ packet_of (request_head own to 0) q
+    → turn_of m.cycle m.directory (states_of m.controllers d) ≡ Send to q → (node_at m.devices.nodes d).number ≡ Some own → p ≡ packet_of (request_head own to Procedure) q
     → (s : State) → IsGood s → StandsFor m s → HasWire (m.wire ++ (own, spelling p) ∷ []) (after_half s d)
 sent_wire m d to own q p lives heard low says number is s g st =
     let living : IsTrue (is_living s d) = sym (living_same m s d g st) ∙ lives in
@@ -166,7 +167,7 @@ pub record Sends (m : Machine) (d to own : ℕ) (k : ControllerTable) (q : Reque
   pub says : turn_of m.cycle m.directory (states_of m.controllers d) ≡ Send to q
   pub low : to < 63
   pub number : (node_at m.devices.nodes d).number ≡ Some own
-  pub packet : p ≡ packet_of (request_head own to 0) q
+  pub packet : p ≡ packet_of (request_head own to Procedure) q
 
 pub sends_takes : {m : Machine} {d to own : ℕ} {k : ControllerTable} {q : Request} {p : Packet} → Sends m d to own k q p
     → Takes half m (record m { controllers = k; wire = m.wire ++ (own, spelling p) ∷ [] }) d (Some (Async p))

@@ -6,12 +6,14 @@ pub mod TapeTurns
 pub mod Tying
 pub mod CommandTurns
 pub mod Doings
+pub mod ExchangeTurns
 pub mod Swaps
 pub mod Places
 pub mod HalfNodes
 pub mod HalfTurns
 pub mod HalfWires
 pub mod Exchanges
+pub mod Outstanding
 pub mod HalfHears
 pub mod HalfAnswers
 pub mod HalfReads

@@ -78,6 +78,7 @@ abbrev pub recording_of : State → ℕ → Option Recording
 recording_of s d =
     if records s d then Some (record { channel = s.account.input_channel (at_plug d 0); limit = room_of (tape_in s d); block = None }) else None
 
+-- what the deck tied to the reel records, if there is one
 abbrev pub recording_by : State → Option ℕ → Option Recording
 recording_by s None = None
 recording_by s (Some d) = recording_of s d
@@ -103,10 +104,11 @@ abbrev pub reel_after : Option Recording → List (List ℕ) → List (List ℕ)
 reel_after None reel = reel
 reel_after (Some r) reel = elim r.block [ None ↦ reel | Some bytes ↦ kept r.limit bytes reel ]
 
--- a cycle comes and is written, and so many
+-- a cycle comes and is written
 abbrev pub WritesCycle : Deed
 WritesCycle s ys out t = HasCycle s.account.latest s ys out t
 
+-- so many cycles come and are written
 abbrev pub WritesCycles : ℕ → Deed
 WritesCycles n s ys out t = HasCycles n s ys out t
 

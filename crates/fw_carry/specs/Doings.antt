@@ -28,6 +28,7 @@ Acts xs s ys out t = (ys ≡ xs) × Steps s xs out t
 abbrev pub RoundTo : ℕ → Deed
 RoundTo n s ys out t = (ys ≡ half_steps_of (numbers_to n (is_living s))) × Steps s (half_steps_of (numbers_to n (is_living s))) out t
 
+-- one half step of each living controller, in order of declaration
 abbrev pub OneRound : Deed
 OneRound s ys out t = RoundTo (length s.declared.names) s ys out t
 

@@ -4,4 +4,5 @@ pub mod Framing
 pub mod Resetting
 pub mod Transacting
 pub mod Serving
+pub mod Exchanging
 pub mod Cycling

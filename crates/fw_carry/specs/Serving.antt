@@ -3,6 +3,7 @@ use Rattle.std.specs.Prelude.{ℕ, ◌≡◌, List, Some, slice_set}
 use Rattle.fw_async.specs.Reader.{Spells}
 use Rattle.fw_async.specs.Wire.{without}
 use Rattle.fw_async.specs.declared.packet.Packet.{Packet}
+use Rattle.fw_base.specs.declared.label.Label.TheVariants.{Procedure}
 use Rattle.fw_csr.specs.declared.reply.Reply.{Reply}
 use Rattle.fw_cmp.specs.declared.request.Access.{Access}
 use Rattle.fw_cmp.specs.Requests.{standing_in, addressee_of, request_of}
@@ -20,7 +21,7 @@ pub record Sent (m : Machine) (d : ℕ) (a : Access) (to device own : ℕ) (pack
   pub goes : Some to ≡ addressee_of m.directory a.target
   pub at : Some device ≡ node_device m.devices.latest.nodes to
   pub own_is : (node_at m.devices.nodes d).number ≡ Some own
-  pub packet_is : packet ≡ packet_of (request_head own to 0) (request_of a)
+  pub packet_is : packet ≡ packet_of (request_head own to Procedure) (request_of a)
   pub answered : (n : ℕ) → (node_at m.devices.nodes device).number ≡ Some n
       → response_of (space_of n m.cycle (node_at m.devices.nodes device)) packet ≡ Some response
 

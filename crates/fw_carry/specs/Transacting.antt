@@ -7,6 +7,7 @@ use Rattle.fw_devices.specs.Network.{node_at}
 use Rattle.fw_run.specs.declared.order.Transaction.{Transaction}
 use Rattle.fw_run.specs.Spaces.{access_request, script_head}
 
+-- the packet is the request of a transaction of the script, between the nodes of its devices
 pub record IsRequest (nodes : List NodeState) (x : Transaction) (request : Packet) : Type 0 where
   pub to : ℕ
   pub from : ℕ

@@ -1,6 +1,6 @@
 //! Half steps of candidates for the bus manager (IEEE 1394-1995, 8.4.2.5).
 
-ghost use Rattle.std.specs.Prelude.{◌≡◌, ◌≤◌, ◌<◌, ◌+◌, [], ◌∷◌, is_some, IsTrue};
+ghost use Rattle.std.specs.Prelude.{◌≡◌, ◌≤◌, ◌<◌, ◌+◌, ℕ, [], ◌∷◌, is_some, IsTrue};
 ghost use Rattle.fw_devices.specs.Network.{kind_at, kinds_of};
 ghost use Rattle.fw_run.specs.declared.order.Order.TheVariants.{Candidate};
 ghost use Rattle.fw_run.specs.Actions.{Contend};
@@ -11,14 +11,12 @@ ghost use Rattle.fw_carry.specs.Contending.{BidRests, BidStands, TakesBid};
 ghost use Rattle.fw_carry.specs.Doings.{Acts, Does};
 ghost use Rattle.fw_machine.specs.Stands.{IsReady, is_living_in};
 
+use crate::exchange::{send, serve};
+use fw_base::Label;
 use fw_machine::entries::{defeated, elected};
 use fw_machine::{Machine, Room, give, give_packet};
 use fw_manager::Bid;
-use fw_node::put_request;
 use fw_outside::{Failed, Sink};
-
-/// The transaction label of bids (own).
-const BID_LABEL: u8 = 2;
 
 /// A computer becomes a candidate. One that is stays as it is, and nothing is written.
 pub(crate) fn stand<K: Sink>(machine: &mut Machine, device: u8, sink: &mut K) -> Result<(), Failed>
@@ -35,28 +33,26 @@ pub(crate) fn stand<K: Sink>(machine: &mut Machine, device: u8, sink: &mut K) ->
     Ok(())
 }
 
-/// The request of a device's candidate stands: the resource manager reads its bytes off the wire and carries it out, and the
-/// candidate hears the word that it found.
+/// The request of a device's candidate stands: the resource manager carries it out, and the candidate hears the word that it found.
 fn hear_bid<K: Sink>(
     machine: &mut Machine,
     device: u8,
-    manager: u8,
     room: &mut Room,
     sink: &mut K,
 ) -> Result<(), Failed>
     requires ready { IsReady machine.old }
-    requires stands { BidStands machine.old device manager }
+    requires stands { (manager : ℕ) × BidStands machine.old device manager }
     ensures takes { TakesBid machine.old machine.new device (K.held sink.old) (K.held sink.new) (K.faults sink.old) (K.faults sink.new) result }
     ensures count { machine.new.half_steps ≡ machine.old.half_steps + 1 }
 {
     let own = machine.number(device);
-    let Some(bytes) = machine.bids.get(own) else {
-        unreachable!();
-    };
-    let reply = machine
-        .devices
-        .serve(manager, machine.cycle, bytes, &mut room.packet);
-    machine.bids.remove(own);
+    let (_manager, reply) = serve(
+        &mut machine.devices,
+        machine.cycle,
+        own,
+        &mut machine.bids,
+        &mut room.packet,
+    );
     machine.candidates.hear(device, &reply);
     machine.half_steps += 1;
     give_packet(&machine.devices, machine.cycle, &mut room.packet, sink)
@@ -83,8 +79,14 @@ fn make_bid<K: Sink>(
         .next(device, machine.devices.epoch(), own, to)
     {
         Bid::Send { to, request } => {
-            put_request(own, to, BID_LABEL, &request, &mut room.packet);
-            machine.bids.put_bytes(own, &room.packet);
+            send(
+                own,
+                to,
+                Label::BusManager,
+                &request,
+                &mut machine.bids,
+                &mut room.packet,
+            );
             give_packet(&machine.devices, machine.cycle, &mut room.packet, sink)
         }
         Bid::Elected => give(
@@ -126,7 +128,7 @@ fn bid_step<K: Sink>(
         .candidates
         .has_request(device, machine.devices.epoch())
     {
-        hear_bid(machine, device, manager, room, sink)
+        hear_bid(machine, device, room, sink)
     } else {
         make_bid(machine, device, manager, room, sink)
     }

@@ -24,6 +24,7 @@ ghost use Rattle.fw_machine.specs.Streaming.{AreStillFrom};
 use crate::dubs::{Recording, hear_block, keep, recording_on};
 use crate::second::{end_second, pass_one};
 use fw_async::{Head, Packet};
+use fw_csr::offset::CYCLE_TIME;
 use fw_devices::Talkers;
 use fw_entry::CycleRoom;
 use fw_machine::{Machine, Room, Streams, give_async};
@@ -31,12 +32,10 @@ use fw_node::{cycle_time, node_id};
 use fw_outside::{Failed, Sink};
 use fw_tape::Desk;
 
-/// Where a cycle start is written to: the register CYCLE_TIME (IEEE 1394-1995, 8.3.2.3.1).
-const CYCLE_TIME: u64 = 0xFFFF_F000_0200;
 /// The node ID of a broadcast.
 const BROADCAST: u16 = 0xFFFF;
 
-/// The cycle start of a cycle, a broadcast of the root.
+/// The cycle start of a cycle, a broadcast of the root to CYCLE_TIME (IEEE 1394-1995, 8.3.2.3.1).
 fn cycle_start(root: u8, cycle: u64) -> Packet<'static>
     requires { root < 63 }
     ensures value { result ≡ cycle_start root cycle }

@@ -2,6 +2,7 @@
 
 ghost use Rattle.std.specs.Prelude.{◌≡◌, ◌≤◌, ◌<◌, ◌+◌, ℕ, Some, IsSome, IfOk, IsTrue, length};
 ghost use Rattle.fw_async.specs.Async.{Fits, AreBytes};
+ghost use Rattle.fw_csr.specs.declared.offset.TheConstants.{FCP_COMMAND};
 ghost use Rattle.fw_devices.specs.Entries.{node_device};
 ghost use Rattle.fw_devices.specs.Network.{is_node, node_at};
 ghost use Rattle.fw_node.specs.Packets.{request_in, RequestFits};
@@ -14,22 +15,21 @@ ghost use Rattle.fw_carry.specs.Doings.{Does};
 ghost use Rattle.fw_carry.specs.Framing.{CarriesBy, Commands, SendsNext, IsQuiet, IsWrite, IsFrameTo, frames_of};
 ghost use Rattle.fw_machine.specs.Stands.{IsReady, is_linked_in, is_living_in};
 
-use crate::transact::SCRIPT_LABEL;
+use crate::exchange::exchange;
 use fw_async::Packet;
+use fw_base::Label;
 use fw_csr::Request;
-use fw_machine::{Machine, Room, give_async};
+use fw_csr::offset::FCP_COMMAND;
+use fw_machine::{Machine, Room};
 use fw_node::request_packet;
 use fw_outside::{Failed, Sink};
 use fw_tape::Desk;
 use fw_words::{Bytes512, Data, quadlet_at};
 
-/// The register of a node that commands are written to (IEC 61883-1, 9).
-const FCP_COMMAND: u64 = 0xFFFF_F000_0B00;
-
 /// What writes bytes to FCP_COMMAND: four by a quadlet write, all else by a block write.
 fn command_request(bytes: &[u8]) -> Request<'_>
     requires few { length bytes.now ≤ 512 }
-    ensures value { result ≡ write_request 0xFFFF_F000_0B00 bytes.now }
+    ensures value { result ≡ write_request FCP_COMMAND bytes.now }
     ensures fits { RequestFits result }
 {
     are_bytes(bytes);
@@ -70,13 +70,13 @@ fn command_packet<'a>(machine: &Machine, from: u8, to: u8, bytes: &'a [u8]) -> P
     requires from { IsTrue (is_node machine.now.devices.nodes from) }
     requires to { IsTrue (is_node machine.now.devices.nodes to) }
     requires few { length bytes.now ≤ 512 }
-    ensures value { IsWrite machine.now.devices.nodes from to 0xFFFF_F000_0B00 bytes.now result }
+    ensures value { IsWrite machine.now.devices.nodes from to FCP_COMMAND bytes.now result }
     ensures fits { Fits result }
     ensures request { IsSome (request_in result) }
 {
     let from = machine.number(from);
     let to = machine.number(to);
-    request_packet(from, to, SCRIPT_LABEL, &command_request(bytes))
+    request_packet(from, to, Label::Script, &command_request(bytes))
 }
 
 /// A device writes bytes to FCP_COMMAND of another, which answers the write. Where they are a command to its unit, the unit
@@ -104,20 +104,7 @@ fn write_command<K: Sink, F: Fn(u16, u32, u16) -> [u8; 480], H: Fn(u32, u8) -> u
     let response = machine
         .devices
         .answer_frame(to, machine.cycle, &request, desk);
-    give_async(
-        &machine.devices,
-        machine.cycle,
-        &request,
-        &mut room.packet,
-        sink,
-    )?;
-    give_async(
-        &machine.devices,
-        machine.cycle,
-        &response,
-        &mut room.packet,
-        sink,
-    )
+    exchange(machine, &request, &response, &mut room.packet, sink)
 }
 
 /// Carries a command out whole: it is written, and then the device sends what it has to send, the response first.
@@ -175,20 +162,7 @@ fn send_frame<K: Sink>(
     };
     let to = addressee(machine, &frame);
     let response = machine.devices.answer(to, machine.cycle, &frame);
-    give_async(
-        &machine.devices,
-        machine.cycle,
-        &frame,
-        &mut room.packet,
-        sink,
-    )?;
-    give_async(
-        &machine.devices,
-        machine.cycle,
-        &response,
-        &mut room.packet,
-        sink,
-    )?;
+    exchange(machine, &frame, &response, &mut room.packet, sink)?;
     Ok(true)
 }
 

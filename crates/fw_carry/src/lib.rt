@@ -7,6 +7,7 @@ mod bids;
 mod carry;
 mod cycles;
 mod dubs;
+mod exchange;
 mod frames;
 mod half;
 mod lives;

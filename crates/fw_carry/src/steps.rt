@@ -174,6 +174,24 @@ fn rest(machine: &mut Machine, rounds: u32)
     machine.half_steps += rounds * machine.living();
 }
 
+/// Whether a controller has something to do, or waits for an answer. Mostly the last does that a round has to look at, and only where
+/// it does not all are asked.
+fn is_unsettled(machine: &Machine, living: &[bool; 63], end: u8) -> bool
+    requires ready { IsReady machine.now }
+    requires marks { (d : ℕ) → d < length machine.now.devices.names → slice_index_or living.now d false ≡ is_living_in machine.now d }
+    requires most { end ≤ 63 }
+    requires within { end ≤ length machine.now.devices.names }
+    ensures { (s : State) → IsGood s → StandsFor machine.now s → result ≡ is_unsettled s }
+{
+    if end > 0 && living[usize::from(end - 1)] {
+        let last = machine.controllers.get(end - 1);
+        if last.busy(machine.cycle, &machine.directory) {
+            return true;
+        }
+    }
+    machine.is_unsettled()
+}
+
 /// Rounds. Where no controller has anything to do, all further ones are taken at once.
 fn rounds<K: Sink>(
     machine: &mut Machine,
@@ -189,11 +207,11 @@ fn rounds<K: Sink>(
     let each = machine.mark_living(&mut living);
     let mut end = machine.devices.count();
     for i in 0..count {
-        if !machine.is_unsettled() {
+        end = round_end(machine, &living, end);
+        if !is_unsettled(machine, &living, end) {
             rest(machine, count - i);
             return Ok(());
         }
-        end = round_end(machine, &living, end);
         round(machine, &living, each, end, room, sink)?;
     }
     Ok(())

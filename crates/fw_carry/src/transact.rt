@@ -11,17 +11,16 @@ ghost use Rattle.fw_machine.specs.Orders.{is_guarded_by};
 ghost use Rattle.fw_carry.specs.Transacting.{IsRequest};
 ghost use Rattle.fw_machine.specs.Stands.{IsReady, is_linked_in, is_living_in, read_in};
 
+use crate::exchange::exchange;
 use fw_async::Packet;
+use fw_base::Label;
 use fw_csr::{REGISTER_SPACE, Request};
 use fw_machine::entries::shown_entry;
-use fw_machine::{Machine, Room, give, give_async};
+use fw_machine::{Machine, Room, give};
 use fw_node::request_packet;
 use fw_outside::{Failed, Sink};
 use fw_run::{Access, Transaction};
 use fw_words::{Bytes16, Quadlet, put_quadlet};
-
-/// The transaction label of the script's transactions (own); those of controllers have 0.
-pub(crate) const SCRIPT_LABEL: u8 = 1;
 
 /// The lock function compare_swap.
 const COMPARE_SWAP: u8 = 2;
@@ -60,7 +59,7 @@ fn transaction_packet(machine: &Machine, transaction: Transaction) -> Packet<'st
 {
     let from = machine.number(transaction.from);
     let to = machine.number(transaction.to);
-    request_packet(from, to, SCRIPT_LABEL, &request_of(transaction.access))
+    request_packet(from, to, Label::Script, &request_of(transaction.access))
 }
 
 /// Carries a transaction out whole: the request, and the response of the node that it is sent to.
@@ -81,20 +80,7 @@ pub(crate) fn transact<K: Sink>(
     let response = machine
         .devices
         .answer(transaction.to, machine.cycle, &request);
-    give_async(
-        &machine.devices,
-        machine.cycle,
-        &request,
-        &mut room.packet,
-        sink,
-    )?;
-    give_async(
-        &machine.devices,
-        machine.cycle,
-        &response,
-        &mut room.packet,
-        sink,
-    )
+    exchange(machine, &request, &response, &mut room.packet, sink)
 }
 
 /// Shows the word of a register.

@@ -18,6 +18,7 @@ use Rattle.fw_cmp.specs.Plugs.{has_broadcast, counter_of, channel_of, is_full, h
 
 -- ---- how a job is to end, as far as it is decided
 
+-- the end that a job comes to once what it holds is given back; none where it begins again
 abbrev pub ending_of : Then → Option Ending
 ending_of (EndsAs e) = Some e
 ending_of Again = None
@@ -46,19 +47,23 @@ ShowsNoChannel j None base w = (base ≢ 0) × ((i : ℕ) → i < 32 → is_bit 
 abbrev pub ShowsBusy : Job → Flow → ℕ → Type 0
 ShowsBusy j f w = ((is_listen j.connection ≡ true) × (has_broadcast w ≡ true)) ⊎ ((is_listen j.connection ≡ false) × (is_connected w ≡ true) × (channel_of w ≢ f.channel))
 
+-- the word of the output plug is full, or shows that a restoring has come too late
 abbrev pub DecidesOutput : Job → ℕ → Ending → Type 0
 DecidesOutput j w (PlugFull word) = (word ≡ w) × (is_full (kind_of j.connection) w ≡ true)
 DecidesOutput j w Late = (is_connected w ≡ true) × (is_lost j w ≡ true)
 DecidesOutput j w _ = ⊥
 
+-- the word of a CHANNELS_AVAILABLE register has no channel for the job
 abbrev pub DecidesChannel : Job → ℕ → ℕ → Ending → Type 0
 DecidesChannel j base w (NoChannel word) = (word ≡ w) × ShowsNoChannel j j.asked base w
 DecidesChannel j base w _ = ⊥
 
+-- the word of BANDWIDTH_AVAILABLE has fewer units than the job needs
 abbrev pub DecidesUnits : Job → ℕ → ℕ → Ending → Type 0
 DecidesUnits j plug w (NoUnits left) = (left ≡ remainder_of w) × (left < needs j plug)
 DecidesUnits j plug w _ = ⊥
 
+-- the word of the input plug shows it busy, or its counter at 63
 abbrev pub DecidesInput : Job → Flow → ℕ → Ending → Type 0
 DecidesInput j f w (InputBusy word) = (word ≡ w) × ShowsBusy j f w
 DecidesInput j f w (PlugFull word) = (word ≡ w) × (is_listen j.connection ≡ false) × (counter_of w ≡ 63)

@@ -16,15 +16,18 @@ use Rattle.fw_cmp.specs.declared.stage.Stage.TheVariants.{ReadOutput, ReadChanne
 use Rattle.fw_cmp.specs.Connections.{kind_of, is_listen, is_point_to_point}
 use Rattle.fw_cmp.specs.Plugs.{has_broadcast, counter_of, channel_of, overhead_of, is_full, shows_connection, one_less, units_with, half_of, is_bit, remainder_of}
 
+-- the job makes a connection again after a bus reset
 abbrev pub restores : Job → Bool
 restores j = elim j.purpose [ Make ↦ false | Restore ↦ true | Break ↦ false ]
 
 -- ---- giving back what was taken: units before the channel
 
+-- the stage after all was given back: the job ends, or reads its output plug again
 abbrev pub goes_on : Then → Stage
 goes_on (EndsAs e) = Ended e
 goes_on Again = ReadOutput
 
+-- the stage that gives back what is held, the units first and then the channel
 abbrev pub give_back : Option Held → Then → Stage
 give_back None next = goes_on next
 give_back (Some h) next = if h.units == 0 then ReadChannelsToRelease next h.channel else ReadBandwidthToRelease next h.channel h.units
@@ -35,10 +38,12 @@ leave_output conn e f = if is_listen conn then Ended e else ReadOutputToLeave e 
 
 -- ---- the output plug
 
+-- the job asks for a channel, and this is another
 abbrev pub is_other : Option ℕ → ℕ → Bool
 is_other None ch = false
 is_other (Some c) ch = not (c == ch)
 
+-- the CHANNELS_AVAILABLE register to begin with: that of the asked channel, or the first
 abbrev pub first_half : Option ℕ → ℕ
 first_half None = 0
 first_half (Some ch) = half_of ch
@@ -57,6 +62,7 @@ abbrev pub decide_connected : Job → Option Held → ℕ → Stage
 decide_connected j None w = if is_lost j w then Ended Late else OverlayOutput w
 decide_connected j (Some h) w = give_back (Some h) (if is_lost j w then EndsAs Late else Again)
 
+-- the stage after the word of the output plug: it is full, overlaid, or to be connected first
 abbrev pub decide_out : Job → Option Held → ℕ → Stage
 decide_out j held w =
     if is_full (kind_of j.connection) w then give_back held (EndsAs (PlugFull w))
@@ -79,26 +85,31 @@ abbrev pub units_or : Option ℕ → ℕ → ℕ
 units_or None u = u
 units_or (Some own) u = own
 
+-- the bandwidth units that the job takes at an output plug with this word
 abbrev pub needs : Job → ℕ → ℕ
 needs j w = units_or j.units (units_with j.overhead w)
 
+-- the stage after the word of BANDWIDTH_AVAILABLE: the units are taken, or the channel is given back
 abbrev pub decide_units : Job → ℕ → ℕ → ℕ → Stage
 decide_units j ch w v = if nat_le (needs j w) (remainder_of v) then SwapBandwidth ch (needs j w) v w else ReadChannelsToRelease (EndsAs (NoUnits (remainder_of v))) ch
 
 -- ---- the connection stands at the output plug
 
--- the flow of a first connection, and of an overlaid one
+-- the flow of a first connection: what the job has taken
 abbrev pub first_flow : Job → ℕ → ℕ → Flow
 first_flow j ch u = record { channel = ch; overhead = j.overhead; units = u }
 
+-- the flow of an overlaid connection: what the word of the output plug shows
 abbrev pub overlaid_flow : ℕ → Flow
 overlaid_flow w = record { channel = channel_of w; overhead = overhead_of w; units = units_with (overhead_of w) w }
 
+-- the stage after the output plug is connected: the input plug, unless the connection has none
 abbrev pub output_joined : Job → Flow → Stage
 output_joined j f = if is_point_to_point j.connection then ReadInput f else Made f
 
 -- ---- the input plug
 
+-- the asked channel, or else this one
 abbrev pub channel_or : Option ℕ → ℕ → ℕ
 channel_or None ch = ch
 channel_or (Some own) ch = own
@@ -107,25 +118,31 @@ channel_or (Some own) ch = own
 abbrev pub listen_flow : Job → Flow → ℕ → Flow
 listen_flow j f w = record f { channel = if is_connected w then channel_of w else channel_or j.asked 63 }
 
+-- the stage of a broadcast-in connection after the word of its input plug
 abbrev pub decide_listen : Job → Flow → ℕ → Stage
 decide_listen j f w = if has_broadcast w then Ended (InputBusy w) else ConnectInput (listen_flow j f w) w
 
+-- the stage of a point-to-point connection after the word of its input plug
 abbrev pub decide_point_to_point : Job → Flow → ℕ → Stage
 decide_point_to_point j f w =
     if is_connected w && not (channel_of w == f.channel) then leave_output j.connection (InputBusy w) f
     else (if counter_of w == 63 then leave_output j.connection (PlugFull w) f else ConnectInput f w)
 
+-- the stage after the word of the input plug: it is busy, full, or to be connected
 abbrev pub decide_in : Job → Flow → ℕ → Stage
 decide_in j f w = if is_listen j.connection then decide_listen j f w else decide_point_to_point j f w
 
 -- ---- breaking and giving back
 
+-- the stage after a broken connection has left its input plug: its output plug, if it has one
 abbrev pub input_left : Job → ℕ → ℕ → Stage
 input_left j ch u = if is_listen j.connection then Ended Broken else ReadOutputToLeave Broken ch u
 
+-- the stage of a break after the word of the input plug: the connection is left there, if it still shows one
 abbrev pub decide_leave_in : Job → ℕ → ℕ → ℕ → Stage
 decide_leave_in j ch u v = if shows_connection (kind_of j.connection) v then LeaveInput ch u v else input_left j ch u
 
+-- the stage of a break after the word of the output plug: the connection is left there, if it still shows one
 abbrev pub decide_leave_out : Job → Ending → ℕ → ℕ → ℕ → Stage
 decide_leave_out j e ch u v = if shows_connection (kind_of j.connection) v then LeaveOutput e ch u v else Ended e
 

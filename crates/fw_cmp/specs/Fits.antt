@@ -22,24 +22,29 @@ use Rattle.fw_cmp.specs.Plugs.{is_full, shows_connection, half_of, is_bit, remai
 abbrev pub PlugFits : PlugAt → Type 0
 PlugFits p = (p.device < 63) × (p.plug < 31)
 
+-- the plugs of a connection are in their ranges
 abbrev pub ConnectionFits : Connection → Type 0
 ConnectionFits (PlugToPlug out into) = PlugFits out × PlugFits into
 ConnectionFits (BroadcastOut out) = PlugFits out
 ConnectionFits (BroadcastIn into) = PlugFits into
 
+-- a flow's channel, overhead_ID and units are in their ranges
 pub record FlowFits (f : Flow) : Type 0 where
   pub channel : f.channel < 64
   pub overhead : f.overhead < 16
   pub units : f.units < 2 ^ 32
 
+-- units, where there are any, are a quadlet
 abbrev pub UnitsFit : Option ℕ → Type 0
 UnitsFit None = ⊤
 UnitsFit (Some u) = u < 2 ^ 32
 
+-- the asked channel, if any, is 0 to 63
 abbrev pub AskedFits : Option ℕ → Type 0
 AskedFits None = ⊤
 AskedFits (Some ch) = ch < 64
 
+-- what a slot holds is in its ranges
 abbrev pub SlotFits : Slot → Type 0
 SlotFits Free = ⊤
 SlotFits (Making conn asked overhead) = ConnectionFits conn × AskedFits asked × (overhead < 16)
@@ -47,6 +52,7 @@ SlotFits (Standing conn f) = ConnectionFits conn × FlowFits f
 SlotFits (Restoring conn f over) = ConnectionFits conn × FlowFits f
 SlotFits (Gone conn) = ConnectionFits conn
 
+-- what a job keeps is in its ranges
 pub record JobFits (j : Job) : Type 0 where
   pub slot : j.slot < 32
   pub connection : ConnectionFits j.connection
@@ -69,10 +75,11 @@ AskedWithin (Some ch) base = (base ≤ ch) × (ch < base + 32)
 abbrev pub IsUnconnected : ℕ → Type 0
 IsUnconnected w = (w < 2 ^ 32) × IsFalse (is_connected w)
 
--- the connection has an output plug, and it has an input plug
+-- the connection has an output plug
 abbrev pub HasOutput : Connection → Type 0
 HasOutput conn = IsFalse (is_listen conn)
 
+-- the connection has an input plug
 abbrev pub HasInput : Connection → Type 0
 HasInput (PlugToPlug out into) = ⊤
 HasInput (BroadcastOut out) = ⊥
@@ -110,6 +117,7 @@ abbrev pub HeldFits : Option Held → Type 0
 HeldFits None = ⊤
 HeldFits (Some h) = ResourcesFit h.channel h.units
 
+-- the plug, if there is one, is in its range
 abbrev pub PlugFit : Option PlugAt → Type 0
 PlugFit None = ⊤
 PlugFit (Some p) = PlugFits p

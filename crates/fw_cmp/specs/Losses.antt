@@ -24,6 +24,7 @@ pub record ListeningFits (x : Listening) : Type 0 where
   pub asked_at : x.asked_at ≤ 2 ^ 52
   pub lost : IsTrue x.lost → IsStanding x.state.current
 
+-- a controller that has just started, and has lost nothing
 abbrev pub first_listening : Listening
 first_listening = record { state = first_state; asked_at = 0; lost = false }
 
@@ -45,6 +46,7 @@ Awaits x = IsFalse x.lost × IsStanding x.state.current
 
 -- ---- its turn
 
+-- a controller that has lost a response waits, and then forces a bus reset
 abbrev pub deaf_turn : ℕ → ℕ → Next
 deaf_turn now until = if nat_lt now until then Deaf until else Force
 
@@ -57,23 +59,29 @@ abbrev pub asked_by : ℕ → ℕ → Next → ℕ
 asked_by now before (Send to r) = now
 asked_by now before _ = before
 
+-- the controller after its turn; one that has lost a response stays as it is
 abbrev pub after_turn : ℕ → Directory → Listening → Listening
 after_turn now d x = if x.lost then x else record x { state = after_next now d x.state; asked_at = asked_by now x.asked_at (next now d x.state) }
 
 -- ---- what happens to it
 
+-- the same, with other slots and jobs
 abbrev pub with_state : Listening → ControllerState → Listening
 with_state x c = record x { state = c }
 
+-- the controller after it has heard the response
 abbrev pub after_answer : Listening → Reply → Listening
 after_answer x r = with_state x (after_hear x.state r)
 
+-- the controller after the response to its request was lost
 abbrev pub after_loss : Listening → Listening
 after_loss x = record x { lost = true }
 
+-- the controller after a bus reset, from which on it has lost nothing
 abbrev pub after_bus_reset : ℕ → Listening → Listening
 after_bus_reset epoch x = record x { state = state_reset epoch x.lost x.state; lost = false }
 
+-- the controller after the end of the reclaim second
 abbrev pub after_end : Listening → Listening
 after_end x = with_state x (after_second x.state)
 

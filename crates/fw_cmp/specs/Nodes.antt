@@ -2,6 +2,7 @@
 use Rattle.std.specs.Prelude.{ℕ, ◌<◌, Option, Some, None, slice_get, IfSome}
 use Rattle.fw_cmp.specs.declared.directory.Directory.{Directory}
 
+-- a number, where there is one inside and outside
 abbrev pub joined : Option (Option ℕ) → Option ℕ
 joined None = None
 joined (Some n) = n

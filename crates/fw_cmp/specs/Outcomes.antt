@@ -18,6 +18,7 @@ use Rattle.fw_cmp.specs.Decisions.{restores}
 use Rattle.fw_cmp.specs.Controllers.{ControllerState, slot_at}
 use Rattle.fw_cmp.specs.Turns.{picked, absent_of, is_late}
 
+-- the connection of the slot stands
 abbrev pub is_standing : Slot → Bool
 is_standing (Standing conn f) = true
 is_standing _ = false
@@ -49,9 +50,11 @@ pub record JobEnds (now : ℕ) (d : Directory) (c : ControllerState) (slot : ℕ
   pub of_slot : j.slot ≡ slot
   pub cause : EndsBy now d (slot_at c j.slot) j s o
 
+-- the job of a slot ends with this outcome: a bus reset left it, or it ends so at its stage
 abbrev pub Ends : ℕ → Directory → ControllerState → ℕ → Outcome → Type 0
 Ends now d c slot o = (c.current ≡ Overtaken slot o) ⊎ ((j : Job) × ((s : Stage) × JobEnds now d c slot o j s))
 
+-- where a turn ends a job, the job ends with that outcome
 abbrev pub EndsWithCause : ℕ → Directory → ControllerState → Next → Type 0
 EndsWithCause now d c (End slot o) = Ends now d c slot o
 EndsWithCause now d c _ = ⊤

@@ -7,15 +7,19 @@ use Rattle.fw_base.specs.declared.plug.ConnectionKind.TheVariants.{PointToPoint,
 
 -- ---- plugs: the broadcast bit and the counter are bits 1 and 2 to 7, the channel bits 10 to 15, the overhead_ID bits 18 to 21
 
+-- the broadcast connection counter, bit 1
 abbrev pub has_broadcast : ℕ → Bool
 has_broadcast w = field w 1 1 == 1
 
+-- the point-to-point connection counter, bits 2 to 7
 abbrev pub counter_of : ℕ → ℕ
 counter_of w = field w 2 7
 
+-- the channel number, bits 10 to 15
 abbrev pub channel_of : ℕ → ℕ
 channel_of w = field w 10 15
 
+-- the overhead_ID of an output plug, bits 18 to 21
 abbrev pub overhead_of : ℕ → ℕ
 overhead_of w = field w 18 21
 
@@ -34,17 +38,19 @@ abbrev pub connection_value : ConnectionKind → ℕ
 connection_value PointToPoint = 2 ^ 24
 connection_value Broadcast = 2 ^ 30
 
--- the word with one connection more of the kind, and with one less
+-- the word with one connection more of the kind
 abbrev pub one_more : ConnectionKind → ℕ → ℕ
 one_more k w = w + connection_value k
 
+-- the word with one connection less of the kind
 abbrev pub one_less : ConnectionKind → ℕ → ℕ
 one_less k w = w - connection_value k
 
--- the word with another channel, and with another overhead_ID
+-- the word with another channel
 abbrev pub with_channel : ℕ → ℕ → ℕ
 with_channel w ch = w - channel_of w * 2 ^ 16 + ch * 2 ^ 16
 
+-- the word with another overhead_ID
 abbrev pub with_overhead : ℕ → ℕ → ℕ
 with_overhead w overhead = w - overhead_of w * 2 ^ 10 + overhead * 2 ^ 10
 
@@ -54,17 +60,19 @@ units_with overhead w = overhead_units overhead + (payload_quadlets (field w 22 
 
 -- ---- the isochronous resource manager's registers
 
--- the first channel of the CHANNELS_AVAILABLE register that a channel is in, and the bit of a place there
+-- the first channel of the CHANNELS_AVAILABLE register that a channel is in
 abbrev pub half_of : ℕ → ℕ
 half_of ch = if nat_lt ch 32 then 0 else 32
 
+-- the bit of a place in a word, bit 0 being the most significant
 abbrev pub is_bit : ℕ → ℕ → Bool
 is_bit word i = field word i i == 1
 
--- a word with a bit set, and one with a bit cleared
+-- the word with a bit set
 abbrev pub with_bit : ℕ → ℕ → ℕ
 with_bit word i = if is_bit word i then word else word + 2 ^ (31 - i)
 
+-- the word with a bit cleared
 abbrev pub without_bit : ℕ → ℕ → ℕ
 without_bit word i = if is_bit word i then word - 2 ^ (31 - i) else word
 

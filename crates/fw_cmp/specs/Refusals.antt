@@ -6,6 +6,7 @@ use Rattle.fw_cmp.specs.Controllers.{ControllerState, slot_at, is_free}
 abbrev pub IsFull : ControllerState → Type 0
 IsFull c = (i : ℕ) → i < 32 → is_free (slot_at c i) ≡ false
 
+-- a slot is free
 abbrev pub HasFree : ControllerState → Type 0
 HasFree c = (i : ℕ) × ((i < 32) × (is_free (slot_at c i) ≡ true))
 

@@ -2,6 +2,7 @@
 use Rattle.std.specs.Prelude.{ℕ, ◌+◌, ◌-◌, ◌*◌, ◌==◌, ◌++◌, if◌then◌else◌, Option, Some, None, List}
 use Rattle.std.specs.Int.{to_be_bytes, w32}
 use Rattle.std.specs.Option.{option_map}
+use Rattle.fw_csr.specs.declared.offset.TheConstants.{BANDWIDTH_AVAILABLE, CHANNELS_AVAILABLE_HI, CHANNELS_AVAILABLE_LO, OPCR, IPCR}
 use Rattle.fw_csr.specs.declared.request.Request.{Request}
 use Rattle.fw_csr.specs.declared.request.Request.TheVariants.{Read, Lock}
 use Rattle.fw_csr.specs.declared.request.Swap.{Swap}
@@ -21,9 +22,11 @@ use Rattle.fw_cmp.specs.Nodes.{node_of}
 
 -- ---- the register
 
+-- the oPCR of the job's connection, where it has an output plug
 abbrev pub output_target : Job → Option Target
 output_target j = option_map OutputPlug (output_of j.connection)
 
+-- the iPCR of the job's connection, where it has an input plug
 abbrev pub input_target : Job → Option Target
 input_target j = option_map InputPlug (input_of j.connection)
 
@@ -60,6 +63,7 @@ first_word j ch arg = one_more (kind_of j.connection) (with_overhead (with_chann
 abbrev pub input_word : Job → ℕ → ℕ → ℕ
 input_word j ch arg = one_more (kind_of j.connection) (if is_connected arg then arg else with_channel arg ch)
 
+-- a compare_swap from an argument to a new word
 abbrev pub swapping : ℕ → ℕ → Option Swap
 swapping arg new = Some (record { argument = arg; new = new })
 
@@ -76,6 +80,7 @@ swap_of j (RaiseBandwidth next ch u arg) = swapping arg (arg + u)
 swap_of j (RestoreChannel next ch arg) = swapping arg (with_bit arg (ch - half_of ch))
 swap_of j _ = None
 
+-- a read of a register, or its compare_swap
 abbrev pub access_at : Option Swap → Target → Access
 access_at s t = record { target = t; swap = s }
 
@@ -94,14 +99,16 @@ standing_in (Overtaken i o) = None
 
 -- FFFF F000 0000, and 904, 984 for a device's first plugs, 224 or 228, and 220
 abbrev pub offset_of : Target → ℕ
-offset_of (OutputPlug p) = 0xFFFF_F000_0904 + 4 * p.plug
-offset_of (InputPlug p) = 0xFFFF_F000_0984 + 4 * p.plug
-offset_of (Channels base) = if base == 0 then 0xFFFF_F000_0224 else 0xFFFF_F000_0228
-offset_of BandwidthAvailable = 0xFFFF_F000_0220
+offset_of (OutputPlug p) = OPCR + 4 * p.plug
+offset_of (InputPlug p) = IPCR + 4 * p.plug
+offset_of (Channels base) = if base == 0 then CHANNELS_AVAILABLE_HI else CHANNELS_AVAILABLE_LO
+offset_of BandwidthAvailable = BANDWIDTH_AVAILABLE
 
+-- the bytes of a lock request: the argument, and then the new word
 abbrev pub swap_bytes : Swap → List ℕ
 swap_bytes s = to_be_bytes w32 s.argument ++ to_be_bytes w32 s.new
 
+-- a quadlet read at an offset, or a lock request of function 2 there
 abbrev pub request_at : ℕ → Option Swap → Request
 request_at offset None = Read offset
 request_at offset (Some s) = Lock offset 2 (swap_bytes s)

@@ -16,12 +16,14 @@ use Rattle.fw_cmp.specs.Controllers.{ControllerState, with_slot}
 
 -- ---- an answer to the request that stands
 
+-- the current job after the answer to its request
 abbrev pub heard : Current → Reply → Current
 heard Nothing r = Nothing
 heard (Asking j s) r = Asking j s
 heard (Hearing j s) r = Asking j (hear_reply j s r)
 heard (Overtaken i o) r = Overtaken i o
 
+-- the controller after the answer to its request
 abbrev pub after_hear : ControllerState → Reply → ControllerState
 after_hear c r = record c { current = heard c.current r }
 
@@ -49,6 +51,7 @@ overtaken epoch c j (Made f) = with_slot (record c { current = Overtaken j.slot 
 overtaken epoch c j (Ended e) = decided c j
 overtaken epoch c j _ = interrupted epoch c j
 
+-- the controller after a bus reset, by its current job
 abbrev pub current_reset : ℕ → ControllerState → Current → ControllerState
 current_reset epoch c Nothing = c
 current_reset epoch c (Asking j s) = overtaken epoch c j s
@@ -63,9 +66,11 @@ slot_reset (Standing conn f) = Restoring conn f false
 slot_reset (Restoring conn f over) = Restoring conn f over
 slot_reset (Gone conn) = Gone conn
 
+-- the controller with each connection that stands to be restored
 abbrev pub slots_reset : ControllerState → ControllerState
 slots_reset c = record c { slots = map slot_reset c.slots }
 
+-- the controller after a bus reset that found it with no response lost
 abbrev pub after_reset : ℕ → ControllerState → ControllerState
 after_reset epoch c = slots_reset (current_reset epoch c c.current)
 
@@ -76,6 +81,7 @@ lost_reset epoch c (Asking j s) = interrupted epoch c j
 lost_reset epoch c (Hearing j s) = interrupted epoch c j
 lost_reset epoch c (Overtaken i o) = c
 
+-- the controller after a bus reset that found it with a response lost
 abbrev pub after_lost_reset : ℕ → ControllerState → ControllerState
 after_lost_reset epoch c = slots_reset (lost_reset epoch c c.current)
 
@@ -94,5 +100,6 @@ slot_over (Standing conn f) = Standing conn f
 slot_over (Restoring conn f over) = Restoring conn f true
 slot_over (Gone conn) = Gone conn
 
+-- the controller after the end of the reclaim second
 abbrev pub after_second : ControllerState → ControllerState
 after_second c = record c { slots = map slot_over c.slots }

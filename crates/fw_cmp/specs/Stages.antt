@@ -37,6 +37,7 @@ abbrev pub refuse : Job → Stage → ℕ → Stage
 refuse j (ReadInput f) rcode = leave_output j.connection (NoPlug rcode) f
 refuse j _ rcode = Ended (NoPlug rcode)
 
+-- the stage after an answer, complete or not
 abbrev pub hear_reply : Job → Stage → Reply → Stage
 hear_reply j s r = if r.rcode == 0 then hear j s r.value else refuse j s r.rcode
 

@@ -10,6 +10,7 @@ use Rattle.fw_cmp.specs.declared.outcome.StartFault.{StartFault}
 use Rattle.fw_cmp.specs.declared.outcome.StartFault.TheVariants.{TableFull, Busy, NoSuchConnection, NotOwnPlug}
 use Rattle.fw_cmp.specs.Controllers.{ControllerState, slot_at, with_slot, is_free, is_breakable, break_waits, break_runs}
 
+-- the lowest free slot
 abbrev pub free_slot : ControllerState → Option ℕ
 free_slot c = find_to 32 (λ i. is_free (slot_at c i))
 
@@ -17,6 +18,7 @@ free_slot c = find_to 32 (λ i. is_free (slot_at c i))
 abbrev pub is_crowded : ControllerState → Bool
 is_crowded c = nat_le 8 (length c.waiting)
 
+-- the controller with one job more that waits, behind the others
 abbrev pub with_task : ControllerState → Task → ControllerState
 with_task c t = record c { waiting = c.waiting ++ t ∷ [] }
 
@@ -27,6 +29,7 @@ abbrev pub start_at : Option ℕ → ControllerState → Result ℕ StartFault
 start_at None c = Err TableFull
 start_at (Some i) c = if is_crowded c then Err Busy else Ok i
 
+-- the slot that a new connection takes, or why it is refused
 abbrev pub start : ControllerState → Result ℕ StartFault
 start c = start_at (free_slot c) c
 
@@ -43,9 +46,11 @@ connect_slot out into asked overhead = Making (PlugToPlug out into) asked overhe
 abbrev pub broadcast_slot : PlugAt → ℕ → Slot
 broadcast_slot out overhead = Making (BroadcastOut out) (Some 63) overhead
 
+-- a broadcast-in connection begins with channel 63
 abbrev pub listen_slot : PlugAt → Slot
 listen_slot into = Making (BroadcastIn into) (Some 63) 0
 
+-- the slot holds a connection that is being made
 abbrev pub IsMaking : Slot → Type 0
 IsMaking (Making conn asked overhead) = ⊤
 IsMaking _ = ⊥
@@ -61,14 +66,18 @@ started (Err fault) s c = c
 
 -- ---- a break
 
+-- the slot has a connection, and no break of it waits or is current
 abbrev pub can_break : ControllerState → ℕ → Bool
 can_break c i = is_breakable (slot_at c i) && not (break_waits c i || break_runs c.current i)
 
+-- why a break is refused, if it is
 abbrev pub break_fault : ControllerState → ℕ → Option StartFault
 break_fault c i = if can_break c i then (if is_crowded c then Some Busy else None) else Some NoSuchConnection
 
+-- a break is accepted, or why it is refused
 abbrev pub start_break : ControllerState → ℕ → Result (Unit {0}) StartFault
 start_break c i = elim (break_fault c i) [ None ↦ Ok tt | Some fault ↦ Err fault ]
 
+-- the controller after a break was asked for: unchanged where it was refused
 abbrev pub break_started : ControllerState → ℕ → ControllerState
 break_started c i = elim (break_fault c i) [ None ↦ with_task c (record { slot = i; breaks = true }) | Some fault ↦ c ]

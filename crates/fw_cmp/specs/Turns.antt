@@ -31,10 +31,12 @@ use Rattle.fw_cmp.specs.Controllers.{ControllerState, slot_at, with_slot, is_res
 -- ---- the order of jobs: connections to be restored, lowest slot first; then the first waiting break; then the first other
 -- waiting job, where no reclaim second runs
 
+-- a job that has become current, at its beginning
 abbrev pub job_current : Option Job → Current
 job_current None = Nothing
 job_current (Some j) = Asking j Begin
 
+-- the job for what a slot holds becomes current
 abbrev pub current_for : ℕ → Slot → Current
 current_for i s = job_current (job_for i s)
 
@@ -42,6 +44,7 @@ current_for i s = job_current (job_for i s)
 abbrev pub takes_slot : ControllerState → ℕ → ControllerState
 takes_slot c i = record c { current = current_for i (slot_at c i) }
 
+-- the slot of a waiting job
 abbrev pub slot_of_task : Option Task → ℕ
 slot_of_task None = 0
 slot_of_task (Some t) = t.slot
@@ -50,15 +53,19 @@ slot_of_task (Some t) = t.slot
 abbrev pub takes_task : ControllerState → ℕ → ControllerState
 takes_task c k = takes_slot (record c { waiting = remove c.waiting k }) (slot_of_task (slice_get c.waiting k))
 
+-- the lowest slot whose connection is to be restored
 abbrev pub to_restore : ControllerState → Option ℕ
 to_restore c = find_to 32 (λ i. is_restoring (slot_at c i))
 
+-- a waiting job is a break
 abbrev pub is_break : Task → Bool
 is_break t = t.breaks
 
+-- the place of the first break that waits
 abbrev pub waiting_break : ControllerState → Option ℕ
 waiting_break c = position is_break c.waiting
 
+-- no job waits
 abbrev pub is_empty : List Task → Bool
 is_empty [] = true
 is_empty (t ∷ ts) = false
@@ -67,10 +74,12 @@ is_empty (t ∷ ts) = false
 abbrev pub takes_making : ℕ → Directory → ControllerState → ControllerState
 takes_making now d c = if is_empty c.waiting then c else (if nat_lt now d.over_at then c else takes_task c 0)
 
+-- a waiting break becomes current, or else another waiting job
 abbrev pub takes_waiting : Option ℕ → ℕ → Directory → ControllerState → ControllerState
 takes_waiting (Some k) now d c = takes_task c k
 takes_waiting None now d c = takes_making now d c
 
+-- a connection that is to be restored becomes current, or else a waiting job
 abbrev pub takes_next : Option ℕ → ℕ → Directory → ControllerState → ControllerState
 takes_next (Some i) now d c = takes_slot c i
 takes_next None now d c = takes_waiting (waiting_break c) now d c
@@ -90,9 +99,11 @@ picked now d c = elim c.current [
 
 -- ---- how a job begins
 
+-- the flow that a job asks for, channel 63 where it asks for none
 abbrev pub own_flow : Job → Flow
 own_flow j = record { channel = channel_or j.asked 63; overhead = j.overhead; units = units_or j.units 0 }
 
+-- the device of a plug, where it is not on the bus
 abbrev pub without_node : Directory → Option PlugAt → Option ℕ
 without_node d None = None
 without_node d (Some p) = elim (node_of d p.device) [ None ↦ Some p.device | Some n ↦ None ]
@@ -101,10 +112,12 @@ without_node d (Some p) = elim (node_of d p.device) [ None ↦ Some p.device | S
 abbrev pub absent_of : Directory → Connection → Option ℕ
 absent_of d conn = elim (without_node d (output_of conn)) [ Some device ↦ Some device | None ↦ without_node d (input_of conn) ]
 
+-- a job that needs the isochronous resource manager begins, or ends where the bus has none
 abbrev pub begin_managed : Option ℕ → Stage
 begin_managed None = Ended ending.NoManager
 begin_managed (Some n) = ReadOutput
 
+-- a job whose devices are on the bus begins at its first plug
 abbrev pub begin_present : Directory → Job → Stage
 begin_present d j = if is_listen j.connection then ReadInput (own_flow j) else begin_managed d.manager
 
@@ -123,6 +136,7 @@ abbrev pub begin_breaking : Slot → Stage
 begin_breaking (Standing conn f) = begin_leaving conn f
 begin_breaking _ = Ended ending.Broken
 
+-- the first stage of a job, by its purpose
 abbrev pub begin : Directory → Slot → Job → Stage
 begin d slot j = elim j.purpose [ Make ↦ begin_making d j | Restore ↦ begin_making d j | Break ↦ begin_breaking slot ]
 
@@ -144,6 +158,7 @@ abbrev pub is_over : Slot → Bool
 is_over (Restoring conn f over) = over
 is_over _ = false
 
+-- a restoring whose slot's own second is over, and which has come to nothing yet, is too late
 abbrev pub is_late : Slot → Job → Stage → Bool
 is_late slot j s = restores j && (is_over slot && is_undecided j s)
 
@@ -152,6 +167,7 @@ abbrev pub begun : Directory → Slot → Job → Stage → Stage
 begun d slot j Begin = begin d slot j
 begun d slot j s = s
 
+-- the stage at which a job goes on; a restoring that is too late ends
 abbrev pub resumed : Directory → Slot → Job → Stage → Stage
 resumed d slot j s = if is_late slot j s then Ended ending.Late else begun d slot j s
 
@@ -162,14 +178,17 @@ resumed_current c d (Asking j s) = Asking j (resumed d (slot_at c j.slot) j s)
 resumed_current c d (Hearing j s) = Hearing j s
 resumed_current c d (Overtaken i o) = Overtaken i o
 
+-- the controller with its current job at the stage from which it goes on
 abbrev pub going : Directory → ControllerState → ControllerState
 going d c = record c { current = resumed_current c d c.current }
 
+-- the controller as it takes its turn: with a job, where one is to be had, at the stage from which it goes on
 abbrev pub ready : ℕ → Directory → ControllerState → ControllerState
 ready now d c = going d (picked now d c)
 
 -- ---- how a job ends
 
+-- the outcome that the log names for how a job ended
 abbrev pub outcome_for : ℕ → Ending → Outcome
 outcome_for now ending.Broken = outcome.Broken
 outcome_for now (ending.NoChannel w) = outcome.NoChannel w
@@ -181,6 +200,7 @@ outcome_for now ending.NoManager = outcome.NoManager
 outcome_for now (ending.Absent device) = outcome.Absent device
 outcome_for now ending.Late = outcome.Late now
 
+-- the outcome of a connection that was made, or restored
 abbrev pub made_outcome : Job → Flow → Outcome
 made_outcome j f = if restores j then outcome.Restored f.channel else outcome.Connected f.channel
 
@@ -195,6 +215,7 @@ abbrev pub slot_after : ControllerState → Job → Stage → Slot
 slot_after c j (Made f) = Standing j.connection f
 slot_after c j _ = if restores j && break_waits c j.slot then Gone j.connection else Free
 
+-- the controller after a job that has ended
 abbrev pub ended : ControllerState → Job → Stage → ControllerState
 ended c j s = with_slot (record c { current = Nothing }) j.slot (slot_after c j s)
 
@@ -205,13 +226,16 @@ abbrev pub sending : Option ℕ → Access → Next
 sending None a = Send 63 (request_of a)
 sending (Some to) a = Send to (request_of a)
 
+-- a job sends the request of its stage, or ends where the stage makes none
 abbrev pub asks_or_ends : ℕ → Directory → Job → Stage → Option Access → Next
 asks_or_ends now d j s None = End j.slot (outcome_of now j s)
 asks_or_ends now d j s (Some a) = sending (addressee_of d a.target) a
 
+-- a controller with no current job is idle, or waits for the end of the reclaim second
 abbrev pub rests : Directory → List Task → Next
 rests d waiting = if is_empty waiting then Idle else Waiting d.over_at
 
+-- what a controller with its job at hand does: it sends, ends, waits or is idle
 abbrev pub answer_of : ℕ → Directory → ControllerState → Next
 answer_of now d c = elim c.current [
   | Nothing ↦ rests d c.waiting
@@ -220,10 +244,12 @@ answer_of now d c = elim c.current [
   | Overtaken i o ↦ End i o
 ]
 
+-- the controller after its request went out, or its job ended
 abbrev pub after_asking : ControllerState → Job → Stage → Option Access → ControllerState
 after_asking c j s None = ended c j s
 after_asking c j s (Some a) = record c { current = Hearing j s }
 
+-- the controller after its turn
 abbrev pub after_answer : ControllerState → ControllerState
 after_answer c = elim c.current [
   | Nothing ↦ c
@@ -232,10 +258,11 @@ after_answer c = elim c.current [
   | Overtaken i o ↦ record c { current = Nothing }
 ]
 
--- what a controller does next, in this cycle, and the controller after it
+-- what a controller does next, in this cycle
 abbrev pub next : ℕ → Directory → ControllerState → Next
 next now d c = answer_of now d (ready now d c)
 
+-- the controller after its turn in this cycle
 abbrev pub after_next : ℕ → Directory → ControllerState → ControllerState
 after_next now d c = after_answer (ready now d c)
 
@@ -244,6 +271,7 @@ abbrev pub addressee_in : Next → Option ℕ
 addressee_in (Send to r) = Some to
 addressee_in _ = None
 
+-- a turn in which the controller sends, ends a job or has lost a response
 abbrev pub is_busy : Next → Bool
 is_busy (Send to r) = true
 is_busy (End i o) = true

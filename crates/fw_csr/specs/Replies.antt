@@ -8,12 +8,15 @@ use Rattle.fw_csr.specs.declared.reply.Reply.{Reply}
 use Rattle.fw_csr.specs.declared.register.Register.{Register}
 use Rattle.fw_csr.specs.declared.register.Register.TheVariants.{ReadOnly, ReadSwap, WriteOnly}
 
+-- resp_complete, with the word of the register
 abbrev pub complete : ℕ → Reply
 complete value = record { rcode = 0; value = value }
 
+-- resp_type_error: the register does not allow the request
 abbrev pub type_error : Reply
 type_error = record { rcode = 6; value = 0 }
 
+-- resp_address_error: no register stands at the offset
 abbrev pub address_error : Reply
 address_error = record { rcode = 7; value = 0 }
 

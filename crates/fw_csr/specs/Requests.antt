@@ -6,6 +6,7 @@ use Rattle.fw_csr.specs.declared.request.Request.{Request}
 use Rattle.fw_csr.specs.declared.request.Request.TheVariants.{Read, ReadBlock, Write, WriteBlock, Lock}
 use Rattle.fw_csr.specs.declared.request.Swap.{Swap}
 
+-- the offset that a request is at
 abbrev pub offset_of : Request → ℕ
 offset_of (Read offset) = offset
 offset_of (ReadBlock offset len) = offset

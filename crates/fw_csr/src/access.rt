@@ -1,5 +1,5 @@
 ghost use Rattle.std.specs.Prelude.{◌≡◌};
-ghost use Rattle.fw_csr.specs.Requests.{request_at};
+ghost use Rattle.fw_csr.specs.Requests.{offset_of, request_at};
 
 use crate::Swap;
 use std::marker::Model;
@@ -28,6 +28,13 @@ impl QuadletAccess {
         ensures { result ≡ request_at offset swap }
     {
         QuadletAccess { offset, swap }
+    }
+
+    /// Its offset.
+    pub fn offset(&self) -> u64
+        ensures { result ≡ offset_of self.now }
+    {
+        self.offset
     }
 
     /// Its offset, and the compare_swap; None in a read.

@@ -4,16 +4,19 @@
 
 mod access;
 mod manager;
+pub mod offset;
 mod register;
 mod reply;
 mod request;
 mod word;
 
 pub use access::QuadletAccess;
-pub use manager::{
-    BANDWIDTH_AVAILABLE, BUS_MANAGER_ID, CHANNELS_AVAILABLE_HI, CHANNELS_AVAILABLE_LO, Manager,
+pub use manager::Manager;
+pub use offset::{
+    BANDWIDTH_AVAILABLE, BUS_MANAGER_ID, CHANNELS_AVAILABLE_HI, CHANNELS_AVAILABLE_LO,
+    REGISTER_SPACE,
 };
-pub use register::{REGISTER_SPACE, Register};
+pub use register::Register;
 pub use reply::{Reply, ResponseCode};
 pub use request::{Request, Swap};
 pub use word::Word;

@@ -3,17 +3,11 @@ ghost use Rattle.fw_csr.specs.Replies.{reply};
 ghost use Rattle.fw_csr.specs.Requests.{offset_of};
 ghost use Rattle.fw_csr.specs.Manager.{initial_words, register_at, words_after};
 
-use crate::{REGISTER_SPACE, Register, Reply, Request, Word};
+use crate::offset::{
+    BANDWIDTH_AVAILABLE, BUS_MANAGER_ID, CHANNELS_AVAILABLE_HI, CHANNELS_AVAILABLE_LO,
+};
+use crate::{QuadletAccess, Register, Reply, Request, Word};
 use std::marker::Model;
-
-/// BUS_MANAGER_ID's offset.
-pub const BUS_MANAGER_ID: u64 = REGISTER_SPACE + 0x21C;
-/// BANDWIDTH_AVAILABLE's offset.
-pub const BANDWIDTH_AVAILABLE: u64 = REGISTER_SPACE + 0x220;
-/// CHANNELS_AVAILABLE_HI's offset.
-pub const CHANNELS_AVAILABLE_HI: u64 = REGISTER_SPACE + 0x224;
-/// CHANNELS_AVAILABLE_LO's offset.
-pub const CHANNELS_AVAILABLE_LO: u64 = REGISTER_SPACE + 0x228;
 
 /// BUS_MANAGER_ID while there is no bus manager.
 const NO_BUS_MANAGER: u32 = 0x3F;
@@ -95,6 +89,20 @@ impl Manager {
             BANDWIDTH_AVAILABLE => self.bandwidth_available.answer(r),
             CHANNELS_AVAILABLE_HI => self.channels_available_hi.answer(r),
             CHANNELS_AVAILABLE_LO => self.channels_available_lo.answer(r),
+            _ => Reply::address_error(),
+        }
+    }
+
+    /// As `answer`, of a request for a quadlet.
+    pub fn access(&mut self, a: &QuadletAccess) -> Reply
+        ensures reply { result ≡ reply (register_at self.old (offset_of a.now)) a.now }
+        ensures words { self.new ≡ words_after self.old a.now }
+    {
+        match a.offset() {
+            BUS_MANAGER_ID => self.bus_manager_id.access(a),
+            BANDWIDTH_AVAILABLE => self.bandwidth_available.access(a),
+            CHANNELS_AVAILABLE_HI => self.channels_available_hi.access(a),
+            CHANNELS_AVAILABLE_LO => self.channels_available_lo.access(a),
             _ => Reply::address_error(),
         }
     }

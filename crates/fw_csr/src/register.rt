@@ -1,10 +1,7 @@
 ghost use Rattle.std.specs.Prelude.{◌≡◌};
 ghost use Rattle.fw_csr.specs.Replies.{reply_at};
 
-use crate::{Reply, Request};
-
-/// The destination_offset at which a node's registers begin (IEEE 1394-1995, initial register space).
-pub const REGISTER_SPACE: u64 = 0xFFFF_F000_0000;
+use crate::{QuadletAccess, Reply, Request};
 
 /// What stands at an offset: its word, and which requests are allowed there.
 #[derive(Clone, Copy)]
@@ -32,6 +29,18 @@ impl Register {
             (Register::WriteOnly, Request::Write { .. } | Request::WriteBlock { .. }) => {
                 Reply::complete(0)
             }
+            _ => Reply::type_error(),
+        }
+    }
+
+    /// As `reply`, of a request for a quadlet: no bytes are put together for it.
+    #[tactic(auto, using(crate::proofs::SwapLaws::same_swap))]
+    pub fn access(self, a: &QuadletAccess) -> Reply
+        ensures { result ≡ reply_at self a.now }
+    {
+        match (self, a.parts().1) {
+            (Register::ReadOnly(word) | Register::ReadSwap(word), None) => Reply::complete(word),
+            (Register::ReadSwap(word), Some(_)) => Reply::complete(word),
             _ => Reply::type_error(),
         }
     }

@@ -4,3 +4,5 @@ pub mod Rewritings
 pub mod Audits
 pub mod TreeLaws
 pub mod Conversions
+pub mod WholeLaws
+pub mod WholePassings

@@ -17,6 +17,7 @@ lines_none : lines_of [] ≡ []
 unfolding lines_of
 lines_none = refl
 
+-- the line of one entry is the text of that entry alone
 pub lines_one : (t : Timed) → entry_line t ≡ lines_of (t ∷ [])
 unfolding lines_of
 lines_one t = sym (append-nil (entry_line t))
@@ -26,12 +27,15 @@ unfolding lines_of
 lines_more [] ys = refl
 lines_more (x ∷ xs) ys = ap (λ l. entry_line x ++ l) (lines_more xs ys) ∙ sym (append_assoc (entry_line x) (lines_of xs) (lines_of ys))
 
+-- what `decode` writes is a line for each entry
 pub lines_each : IsEach (lines_form.text)
 lines_each = record { none = λ xs. lines_none; more = λ xs ys zs. lines_more ys zs }
 
+-- a word that writes nothing meanwhile has the empty text for each entry
 pub silent_each : IsEach (silent_form.text)
 silent_each = record { none = λ xs. refl; more = λ xs ys zs. refl }
 
+-- what `convert` writes is the entries in the other version, each in the epoch that it stands in
 pub log_each : (v : Version) → IsEach ((log_form v).text)
 log_each v = record {
   none = λ xs. refl;
@@ -43,6 +47,7 @@ objects_none : objects_of [] ≡ []
 unfolding objects_of
 objects_none = refl
 
+-- the object of one entry is the text of that entry alone
 pub objects_one : (t : Timed) → object t ≡ objects_of (t ∷ [])
 unfolding objects_of
 objects_one t = sym (append-nil (object t))
@@ -52,6 +57,7 @@ unfolding objects_of
 objects_more [] ys = refl
 objects_more (x ∷ xs) ys = ap (λ l. object x ++ l) (objects_more xs ys) ∙ sym (append_assoc (object x) (objects_of xs) (objects_of ys))
 
+-- what `json` writes is an object for each entry
 pub objects_each : IsEach (objects_form.text)
 objects_each = record { none = λ xs. objects_none; more = λ xs ys zs. objects_more ys zs }
 
@@ -63,5 +69,6 @@ explained_more xs (y ∷ ys) zs =
     ap (λ l. line (standing xs) y ++ l) (rest ∙ ap (λ b. explained (xs ++ y ∷ []) ys ++ explained b zs) before)
     ∙ sym (append_assoc (line (standing xs) y) (explained (xs ++ y ∷ []) ys) (explained (xs ++ y ∷ ys) zs))
 
+-- what `explain` writes is a line for each entry, over the entries before it
 pub explained_each : IsEach (explained_form.text)
 explained_each = record { none = λ xs. refl; more = explained_more }

@@ -18,9 +18,11 @@ use Rattle.fw_decode.specs.declared.word.LogWord.TheVariants.{Decode, Explain, J
 abbrev pub of_never : Infallible → LogRefusal
 of_never refusal = elim refusal [ ]
 
+-- the fault that an audit found, as the refusal of any word
 abbrev pub of_audit : Unsound → LogRefusal
 of_audit unsound = Refusals.Audit unsound
 
+-- that no tree was found, as the refusal of any word
 abbrev pub of_map : NoMap → LogRefusal
 of_map no_map = Refusals.Map no_map
 
@@ -33,6 +35,7 @@ abbrev pub RejectsUnsound : List Timed → LogRefusal → Type 0
 RejectsUnsound entries (Refusals.Audit unsound) = audit_rules.rejects entries unsound
 RejectsUnsound entries (Refusals.Map no_map) = ⊥
 
+-- the rules of `audit`, which refuses a log at its first fault
 abbrev pub auditing : Rules LogRefusal
 auditing = record { accepts = audit_rules.accepts; rejects = RejectsUnsound; closes = audit_rules.closes; refuses = λ entries refusal. ⊥ }
 
@@ -41,9 +44,11 @@ abbrev pub RefusesUnmapped : List Timed → LogRefusal → Type 0
 RefusesUnmapped entries (Refusals.Audit unsound) = ⊥
 RefusesUnmapped entries (Refusals.Map no_map) = map_rules.refuses entries no_map
 
+-- the rules of `map`, which writes the tree of the latest bus reset
 abbrev pub mapping : Rules LogRefusal
 mapping = record { accepts = λ entries. ⊤; rejects = λ entries refusal. ⊥; closes = map_rules.closes; refuses = RefusesUnmapped }
 
+-- the rules of `graph`, which draws it
 abbrev pub drawing : Rules LogRefusal
 drawing = record { accepts = λ entries. ⊤; rejects = λ entries refusal. ⊥; closes = graph_rules.closes; refuses = RefusesUnmapped }
 

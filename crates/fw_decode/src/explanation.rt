@@ -1,13 +1,14 @@
 //! `explain`: each entry in words, as it ends.
 
-ghost use Rattle.std.specs.Prelude.{◌≡◌, ℕ, List, ⊤};
+ghost use Rattle.std.specs.Prelude.{◌≡◌, ◌+◌, ◌<◌, ◌^◌, ◌++◌, [], ℕ, List, IfOk, IfSome, IfNone, None, length, take, ⊤};
 ghost use Rattle.fw_outside.specs.Stops.{ReadCount, WriteCount};
 ghost use Rattle.fw_reading.specs.Endings.{stop_of, Reads, IsComplete};
 ghost use Rattle.fw_decode.specs.Texts.{explained_form, nothing};
 ghost use Rattle.fw_decode.specs.Silences.{never_refused};
 
+use crate::whole_entry::WholeRoom;
 use fw_explain::Explainer;
-use fw_log::Timed;
+use fw_log::{LogReader, Room, Timed};
 use fw_outside::{Failed, Sink, Source};
 use fw_reading::{Closing, LogEnding, Reading, Stop, read_log};
 use std::alloc::{AllocError, Global};
@@ -17,6 +18,19 @@ use std::convert::Infallible;
 #[derive(Drop)]
 struct Explanation {
     explainer: Explainer,
+    whole: WholeRoom,
+}
+
+impl Explanation {
+    fn new(alloc: Global) -> Result<Explanation, AllocError>
+        ensures text { IfOk result (λ e. e.explainer.text ≡ []) }
+        ensures requests { IfOk result (λ e. e.explainer.requests ≡ []) }
+    {
+        Ok(Explanation {
+            explainer: Explainer::new(alloc)?,
+            whole: WholeRoom::new(alloc)?,
+        })
+    }
 }
 
 impl Reading for Explanation {
@@ -40,6 +54,24 @@ impl Reading for Explanation {
     fn take(&mut self, entry: &Timed, _bytes: &[u8]) -> Result<Option<Infallible>, AllocError> {
         self.explainer.put(entry)?;
         Ok(None)
+    }
+
+    // No fault of a packet or a bus reset of a usual form is looked for twice.
+    fn pass(
+        &mut self,
+        reader: &mut LogReader,
+        room: &mut Room,
+        piece: &[u8],
+    ) -> Result<Option<usize>, AllocError> {
+        let Some(passed) = reader.pass_body(piece, room) else {
+            return Ok(None);
+        };
+        let entry = Timed {
+            cycle: passed.cycle,
+            what: self.whole.make(&passed.body),
+        };
+        self.explainer.put(&entry)?;
+        Ok(Some(passed.used))
     }
 
     fn gathered(&self) -> &[u8] {
@@ -72,8 +104,8 @@ pub fn explain<S: Source, K: Sink>(
     ensures write_count { WriteCount (K.faults sink.old) (K.faults sink.new) (stop_of result) }
     ensures complete { IsComplete (λ entries. ⊤) (S.left source.old) result }
 {
-    match Explainer::new(alloc) {
-        Ok(explainer) => read_log(alloc, Explanation { explainer }, source, sink),
+    match Explanation::new(alloc) {
+        Ok(explanation) => read_log(alloc, explanation, source, sink),
         Err(_) => LogEnding::Stopped(Stop::NoMemory),
     }
 }

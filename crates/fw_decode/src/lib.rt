@@ -17,6 +17,8 @@ mod refusal;
 mod rewriting;
 mod streams;
 mod verdict;
+mod whole_entry;
+mod whole_reset;
 mod word;
 
 pub use drawing::map_graph;

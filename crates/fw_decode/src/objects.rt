@@ -1,13 +1,14 @@
 //! `json`: each entry as a JSON object, as it ends.
 
-ghost use Rattle.std.specs.Prelude.{ℕ, List, ⊤};
+ghost use Rattle.std.specs.Prelude.{◌≡◌, ◌+◌, ◌<◌, ◌^◌, ◌++◌, [], ℕ, List, IfOk, IfSome, IfNone, None, length, take, ⊤};
 ghost use Rattle.fw_outside.specs.Stops.{ReadCount, WriteCount};
 ghost use Rattle.fw_reading.specs.Endings.{stop_of, Reads, IsComplete};
 ghost use Rattle.fw_decode.specs.Texts.{objects_form, nothing};
 ghost use Rattle.fw_decode.specs.Silences.{never_refused};
 
+use crate::whole_entry::WholeRoom;
 use fw_json::{ObjectRoom, put_object};
-use fw_log::Timed;
+use fw_log::{LogReader, Room, Timed};
 use fw_outside::{Failed, Sink, Source};
 use fw_reading::{Closing, LogEnding, Reading, Stop, read_log};
 use std::alloc::{AllocError, Global};
@@ -17,6 +18,18 @@ use std::convert::Infallible;
 #[derive(Drop)]
 struct Objects {
     room: ObjectRoom,
+    whole: WholeRoom,
+}
+
+impl Objects {
+    fn new(alloc: Global) -> Result<Objects, AllocError>
+        ensures { IfOk result (λ o. o.room ≡ []) }
+    {
+        Ok(Objects {
+            room: ObjectRoom::new(alloc)?,
+            whole: WholeRoom::new(alloc)?,
+        })
+    }
 }
 
 impl Reading for Objects {
@@ -39,6 +52,24 @@ impl Reading for Objects {
     fn take(&mut self, entry: &Timed, _bytes: &[u8]) -> Result<Option<Infallible>, AllocError> {
         put_object(&mut self.room, entry)?;
         Ok(None)
+    }
+
+    // No fault of a packet or a bus reset of a usual form is looked for twice.
+    fn pass(
+        &mut self,
+        reader: &mut LogReader,
+        room: &mut Room,
+        piece: &[u8],
+    ) -> Result<Option<usize>, AllocError> {
+        let Some(passed) = reader.pass_body(piece, room) else {
+            return Ok(None);
+        };
+        let entry = Timed {
+            cycle: passed.cycle,
+            what: self.whole.make(&passed.body),
+        };
+        put_object(&mut self.room, &entry)?;
+        Ok(Some(passed.used))
     }
 
     fn gathered(&self) -> &[u8] {
@@ -71,8 +102,8 @@ pub fn json<S: Source, K: Sink>(
     ensures write_count { WriteCount (K.faults sink.old) (K.faults sink.new) (stop_of result) }
     ensures complete { IsComplete (λ entries. ⊤) (S.left source.old) result }
 {
-    match ObjectRoom::new(alloc) {
-        Ok(room) => read_log(alloc, Objects { room }, source, sink),
+    match Objects::new(alloc) {
+        Ok(objects) => read_log(alloc, objects, source, sink),
         Err(_) => LogEnding::Stopped(Stop::NoMemory),
     }
 }

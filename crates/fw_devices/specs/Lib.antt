@@ -5,3 +5,4 @@ pub mod Kept
 pub mod Names
 pub mod Decks
 pub mod Streams
+pub mod Laws

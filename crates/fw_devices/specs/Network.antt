@@ -24,6 +24,7 @@ pub record Network : Type 0 where
 abbrev pub no_entry : ResetEntry
 no_entry = record { epoch = 0; root = 0; manager = None; initiator = 0; nodes = []; ids = [] }
 
+-- no device is declared
 abbrev pub no_devices : Network
 no_devices = record { topology = record { devices = []; cables = no_cables }; names = []; nodes = []; epoch = 0; manager = None; latest = no_entry; withheld = false }
 

@@ -8,6 +8,10 @@ use Rattle.fw_phy.specs.declared.packet.PhyPacket.TheVariants.{SelfId, SelfIdMor
 use Rattle.std.specs.List.{All}
 use Rattle.fw_async.specs.Async as Async
 use Rattle.fw_cip.specs.Iso as Iso
+use Rattle.fw_entry.specs.declared.codes.TheConstants.{LOG_MAGIC, NO_DEVICE, NO_NODE, LINES_525, LINES_625}
+use Rattle.fw_entry.specs.declared.codes.kind.TheConstants as Kinds
+use Rattle.fw_entry.specs.declared.codes.event.TheConstants as Events
+use Rattle.fw_entry.specs.declared.codes.outcome.TheConstants as Outcomes
 use Rattle.fw_entry.specs.declared.nodes.NodeRow.{NodeRow}
 use Rattle.fw_entry.specs.declared.entry.ResetEntry.{ResetEntry}
 use Rattle.fw_entry.specs.declared.entry.EventEntry.{EventEntry}
@@ -23,25 +27,26 @@ use Rattle.fw_entry.specs.declared.version.Version.TheVariants.{One, Two}
 abbrev pub quads : List ℕ → List ℕ
 quads qs = flat_map (to_be_bytes w32) qs
 
--- the number by which a header names a version, and the version of a number
+-- the number by which a header names a version
 abbrev pub number_of : Version → ℕ
 number_of One = 1
 number_of Two = 2
 
+-- the version with a number in a header
 abbrev pub version_of : ℕ → Option Version
 version_of n = if n == 1 then Some One else if n == 2 then Some Two else None
 
 -- what each log of a version begins with
 abbrev pub header_bytes : Version → List ℕ
-header_bytes v = quads (825440564 ∷ number_of v ∷ 0 ∷ 0 ∷ [])
+header_bytes v = quads (LOG_MAGIC ∷ number_of v ∷ 0 ∷ 0 ∷ [])
 
 -- the quadlet of a node: device, output plugs, input plugs and kind code, 8 bits each
 abbrev pub node_quad : NodeRow → ℕ
 node_quad r = packed ((8, r.device) ∷ (8, r.outs) ∷ (8, r.ins) ∷ (8, r.kind) ∷ []) 0
 
--- the manager's number, or 255 for none
+-- the manager's number, or the one for no node
 abbrev pub manager_byte : Option ℕ → ℕ
-manager_byte None = 255
+manager_byte None = NO_NODE
 manager_byte (Some m) = m
 
 -- the quadlets of a reset before its self-ID packets: epoch, then root, manager, initiator and the number of nodes, then the nodes
@@ -50,7 +55,7 @@ reset_quads r = r.epoch ∷ packed ((8, r.root) ∷ (8, manager_byte r.manager) 
 
 -- a tape that is inserted has a second quadlet
 abbrev pub event_quads : EventEntry → List ℕ
-event_quads e = packed ((8, e.code) ∷ (8, e.device) ∷ (16, 0) ∷ []) 0 ∷ (if e.code == 4 then packed ((16, e.tape) ∷ (16, e.system) ∷ []) 0 ∷ [] else [])
+event_quads e = packed ((8, e.code) ∷ (8, e.device) ∷ (16, 0) ∷ []) 0 ∷ (if e.code == Events.INSERTED then packed ((16, e.tape) ∷ (16, e.system) ∷ []) 0 ∷ [] else [])
 
 -- code, device, slot and zero, then the value
 abbrev pub outcome_quads : OutcomeEntry → List ℕ
@@ -62,13 +67,13 @@ shown_quads s = packed ((8, s.device) ∷ (8, 0) ∷ (16, s.offset) ∷ []) 0 �
 
 -- the kind of an entry
 abbrev pub kind_of : Entry → ℕ
-kind_of (Reset r) = 1
-kind_of (AsyncEntry p) = 2
-kind_of (IsoEntry p) = 3
-kind_of (Event e) = 4
-kind_of (Outcome o) = 5
-kind_of (Shown s) = 6
-kind_of End = 7
+kind_of (Reset r) = Kinds.RESET
+kind_of (AsyncEntry p) = Kinds.ASYNC
+kind_of (IsoEntry p) = Kinds.ISO
+kind_of (Event e) = Kinds.EVENT
+kind_of (Outcome o) = Kinds.OUTCOME
+kind_of (Shown s) = Kinds.SHOWN
+kind_of End = Kinds.END
 
 -- the body of an entry
 abbrev pub body : Entry → List ℕ
@@ -80,11 +85,12 @@ body (Outcome o) = quads (outcome_quads o)
 body (Shown s) = quads (shown_quads s)
 body End = []
 
--- how many bytes the epoch takes in an entry's head, and how many the head
+-- how many bytes the epoch takes in an entry's head
 abbrev pub epoch_size : Version → ℕ
 epoch_size One = 0
 epoch_size Two = 4
 
+-- how many bytes the head of an entry takes: kind, length, in version 2 the epoch, and the cycle
 abbrev pub head_size : Version → ℕ
 head_size v = 12 + epoch_size v
 
@@ -124,11 +130,12 @@ entries_bytes v epoch (t ∷ ts) = entry_bytes v (epoch_after epoch t.what) t ++
 -- code, device, tape and system of an event
 abbrev pub is_event : ℕ → ℕ → ℕ → ℕ → Bool
 is_event code device tape system =
-    nat_le 1 code && nat_le code 11
-    && (if (code == 1) || (code == 6) || (code == 8) then device == 255 else true)
-    && (if code == 4 then (system == 525) || (system == 625) else (tape == 0) && (system == 0))
+    nat_le Events.SECOND_OVER code && nat_le code Events.DUBBING
+    && (if (code == Events.SECOND_OVER) || (code == Events.UNSETTLED) || (code == Events.WITHHELD) then device == NO_DEVICE else true)
+    && (if code == Events.INSERTED then (system == LINES_525) || (system == LINES_625) else (tape == 0) && (system == 0))
 
--- The event may be written: codes 1, 6 and 8 have no device, and code 4 has a tape of one of two systems.
+-- The event may be written: the end of the reclaim second, an unsettled bus and the withholding of channel 31 have no device, and a tape
+-- that is inserted is of one of two systems.
 pub record EventFits (e : EventEntry) : Type 0 where
   pub device : e.device < 2 ^ 8
   pub tape : e.tape < 2 ^ 16
@@ -136,7 +143,8 @@ pub record EventFits (e : EventEntry) : Type 0 where
 
 -- Broken and NoManager have no value
 abbrev pub is_outcome : ℕ → ℕ → Bool
-is_outcome code value = nat_le 1 code && nat_le code 12 && (if (code == 2) || (code == 9) then value == 0 else true)
+is_outcome code value =
+    nat_le Outcomes.CONNECTED code && nat_le code Outcomes.LATE && (if (code == Outcomes.BROKEN) || (code == Outcomes.NO_MANAGER) then value == 0 else true)
 
 -- The outcome may be written.
 pub record OutcomeFits (o : OutcomeEntry) : Type 0 where
@@ -226,7 +234,7 @@ InOrder last (t ∷ ts) = (last ≤ t.cycle) × TimedFits t × EndsAt t.what ts 
 
 -- the entry is the end
 abbrev pub is_end : Entry → Bool
-is_end e = kind_of e == 7
+is_end e = kind_of e == Kinds.END
 
 -- the last entry is the end
 abbrev pub HasEnd : List Timed → Type 0
@@ -234,11 +242,12 @@ HasEnd [] = ⊥
 HasEnd (t ∷ []) = IsTrue (is_end t.what)
 HasEnd (t ∷ u ∷ us) = HasEnd (u ∷ us)
 
--- the bytes of a log of this version whose end may be missing, and of a whole log
+-- the bytes of a log of this version whose end may be missing
 pub record LogOpens (entries : List Timed) (version : Version) (bytes : List ℕ) : Type 0 where
   pub order : InOrder 0 entries
   pub same : header_bytes version ++ entries_bytes version 0 entries ≡ bytes
 
+-- the bytes of a whole log
 pub record LogSpells (entries : List Timed) (version : Version) (bytes : List ℕ) : Type 0 where
   pub opens : LogOpens entries version bytes
   pub ends : HasEnd entries

@@ -72,8 +72,14 @@ pub mod outcome {
     pub const LATE: u8 = 12;
 }
 
+/// What each log begins with: 1394, in ASCII.
+pub const LOG_MAGIC: u32 = 0x3133_3934;
+
 /// The device of an event that has none.
 pub const NO_DEVICE: u8 = 255;
+
+/// What stands in place of the manager's number where a bus reset has found no manager.
+pub const NO_NODE: u8 = 255;
 
 /// How many lines a picture of the 525 line system has: what an inserted tape's system is.
 pub const LINES_525: u16 = 525;

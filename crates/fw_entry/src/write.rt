@@ -8,7 +8,7 @@ ghost use Rattle.fw_entry.specs.declared.entry.Entry.TheVariants.{Async};
 ghost use Rattle.fw_entry.specs.Log.{header_bytes, entry_head, entry_bytes, epoch_after, kind_of, body, Fits, TimedFits};
 ghost use Rattle.fw_entry.specs.declared.version.Version.TheVariants.{One, Two};
 
-use crate::codes::kind;
+use crate::codes::{LOG_MAGIC, kind};
 use crate::entry_room::EntryBytes;
 use crate::write_body::{body_quadlets, put_body};
 use crate::{Entry, EntryRoom, Timed, Version};
@@ -30,7 +30,7 @@ pub fn write_header<K: Sink>(version: Version, sink: &mut K) -> Result<(), Faile
     ensures same { OnOk result (K.faults sink.new ≡ K.faults sink.old) }
 {
     let mut header: Bytes<16> = Bytes::new();
-    header.append(&put_quadlet(Quadlet(0x3133_3934)));
+    header.append(&put_quadlet(Quadlet(LOG_MAGIC)));
     header.append(&put_quadlet(Quadlet(version.number())));
     header.append(&put_quadlet(Quadlet(0)));
     header.append(&put_quadlet(Quadlet(0)));

@@ -7,16 +7,13 @@ ghost use Rattle.fw_cip.specs.Iso as Iso;
 ghost use Rattle.fw_phy.specs.Phy as Phy;
 ghost use Rattle.fw_entry.specs.Log.{RowFits, node_quad, manager_byte, ResetFits, reset_quads, quads, event_quads, outcome_quads, shown_quads, EventFits, OutcomeFits, ShownFits, Fits, body};
 
-use crate::codes::event;
+use crate::codes::{NO_NODE, event};
 use crate::entry_room::EntryBytes;
 use crate::{Entry, EventEntry, NodeRow, OutcomeEntry, ResetEntry, ShownEntry};
 use fw_async::packet_length;
 use fw_cip::{IsoPacket, heads_of, iso_length};
 use fw_phy::{PhyPacket, write_phy};
 use fw_words::{Quadlet, put_quadlet, with_field};
-
-/// What stands in place of the manager's number where there is no manager.
-const NO_MANAGER: u8 = 255;
 
 fn put_quad(out: &mut EntryBytes, q: u32)
     requires { length out.old + 4 ≤ 2292 }
@@ -97,7 +94,7 @@ fn put_ids(ids: &[PhyPacket], out: &mut EntryBytes)
 fn manager_byte(manager: Option<u8>) -> u8
     ensures { result ≡ manager_byte manager }
 {
-    manager.unwrap_or(NO_MANAGER)
+    manager.unwrap_or(NO_NODE)
 }
 
 fn reset_quadlets(r: &ResetEntry) -> u16

@@ -12,6 +12,7 @@ use Rattle.fw_async.specs.declared.packet.Packet.{Packet}
 use Rattle.fw_async.specs.declared.packet.Packet.TheVariants.{WriteQuadlet, WriteBlock, WriteReply, ReadQuadlet, ReadBlock, ReadQuadletReply, ReadBlockReply, CycleStart, Lock, LockReply}
 use Rattle.fw_cip.specs.declared.packet.CipHeader.{CipHeader}
 use Rattle.fw_cip.specs.declared.packet.IsoPacket.{IsoPacket}
+use Rattle.fw_csr.specs.declared.offset.TheConstants.{REGISTER_SPACE}
 use Rattle.fw_csr.specs.declared.request.Swap.{Swap}
 use Rattle.fw_csr.specs.Requests.{quadlet_swap}
 use Rattle.fw_entry.specs.declared.nodes.NodeRow.{NodeRow}
@@ -63,13 +64,15 @@ flag_text flag shown hidden = if flag then shown else hidden
 unfoldable pub speed_text : ℕ → List ℕ
 speed_text speed = named (speed_name speed) (codes "speed") speed
 
--- whether a node's link is active, whether it may become resource manager, and its gap count
+-- whether a node's link is active: the L bit of its self-ID packet
 unfoldable pub link_text : Bool → List ℕ
 link_text link = flag_text link (codes ", link") (codes ", no link")
 
+-- whether the node may become the resource manager: the contender bit of its self-ID packet
 unfoldable pub contender_text : Bool → List ℕ
 contender_text contender = flag_text contender (codes ", contender") []
 
+-- the gap count of a self-ID packet
 unfoldable pub gap_text : ℕ → List ℕ
 gap_text gap = codes ", gap " ++ decimal gap
 
@@ -97,16 +100,19 @@ unfoldable pub manager_text : Option ℕ → List ℕ
 manager_text None = codes "none"
 manager_text (Some node) = codes "node " ++ decimal node
 
--- the number of a bus reset, its root, the resource manager and the initiator
+-- the number of a bus reset
 unfoldable pub epoch_text : ℕ → List ℕ
 epoch_text epoch = codes "bus reset epoch " ++ decimal epoch
 
+-- the root of a bus reset
 unfoldable pub root_text : ℕ → List ℕ
 root_text root = codes ", root node " ++ decimal root
 
+-- the isochronous resource manager that a bus reset has found
 unfoldable pub resource_manager_text : Option ℕ → List ℕ
 resource_manager_text manager = codes ", resource manager " ++ manager_text manager
 
+-- the node that began the bus reset
 unfoldable pub initiator_text : ℕ → List ℕ
 initiator_text initiator = codes ", initiator node " ++ decimal initiator
 
@@ -124,10 +130,11 @@ takes_frames _ = false
 unfoldable pub block_text : List ℕ → List ℕ
 block_text bytes = codes " data_length " ++ decimal (length bytes) ++ blank_hex bytes
 
--- a quadlet and a block that are written to a place
+-- the quadlet that a quadlet write carries to a place
 unfoldable pub written_quadlet : Place → ℕ → List ℕ
 written_quadlet place value = if takes_frames place then frame_text (to_be_bytes w32 value) else word_text place value
 
+-- the bytes that a block write carries to a place
 unfoldable pub written_block : Place → List ℕ → List ℕ
 written_block place bytes = if takes_frames place then frame_text bytes else block_text bytes
 
@@ -190,6 +197,7 @@ found_text place None function bytes = quadlets_text bytes
 found_text place (Some s) function bytes =
     if (function == 2) && (length bytes == 4) then swapped_text place s (quadlet_at bytes 0) else quadlets_text bytes
 
+-- the old word that a lock response shows, by the request that it answers
 unfoldable pub old_text : Option Asked → ℕ → List ℕ → List ℕ
 old_text None function bytes = quadlets_text bytes
 old_text (Some q) function bytes = found_text (place_of q.offset) q.swap function bytes
@@ -272,10 +280,11 @@ value_text code value =
     else if code == 12 then codes ", at cycle " ++ decimal value
     else []
 
--- the name of an outcome, and its device and slot
+-- the name of an outcome
 unfoldable pub ended_text : ℕ → List ℕ
 ended_text code = codes "outcome " ++ named (outcome_name code) (codes "code") code
 
+-- the device and the slot of an outcome
 unfoldable pub slot_text : ℕ → ℕ → List ℕ
 slot_text device slot = codes " device " ++ decimal device ++ codes " slot " ++ decimal slot
 
@@ -285,7 +294,7 @@ outcome_text o = ended_text o.code ++ slot_text o.device o.slot ++ value_text o.
 
 -- where a shown word stands, by its offset from FFFF F000 0000 on
 abbrev pub shown_place : ShownEntry → Place
-shown_place s = place_of (0xFFFF_F000_0000 + s.offset)
+shown_place s = place_of (REGISTER_SPACE + s.offset)
 
 -- the device that shows a word
 unfoldable pub shown_device : ℕ → List ℕ

@@ -61,6 +61,7 @@ latest list = if length list == 257 then drop 1 list else list
 unfoldable pub with_request : Asked → List Asked → List Asked
 with_request q list = latest (without_same q list ++ q ∷ [])
 
+-- the requests that stand behind a packet, where it asks anything
 abbrev pub with_requested : Option Asked → List Asked → List Asked
 with_requested None list = list
 with_requested (Some q) list = with_request q list

@@ -8,6 +8,7 @@ use fw_names::{Pairs, put_number, put_quadlet, put_word};
 use std::alloc::AllocError;
 
 // Appends a word and a number.
+#[inline(always)]
 pub(crate) fn put_part(text: &mut Vec<u8>, word: &str, n: u64) -> Result<(), AllocError>
     ensures { OnOk result (text.new.items ≡ text.old.items ++ (word.now ++ decimal n)) }
 {
@@ -16,6 +17,7 @@ pub(crate) fn put_part(text: &mut Vec<u8>, word: &str, n: u64) -> Result<(), All
 }
 
 // Appends a word and a quadlet.
+#[inline(always)]
 pub(crate) fn put_word_part(
     text: &mut Vec<u8>,
     pairs: &Pairs,
@@ -29,6 +31,7 @@ pub(crate) fn put_word_part(
 }
 
 // Appends one word or another.
+#[inline(always)]
 #[tactic(auto, unfolding(crate::specs::Lines::flag_text))]
 pub(crate) fn put_flag(
     text: &mut Vec<u8>,

@@ -2,7 +2,7 @@
 
 ghost use Rattle.std.specs.Prelude.{◌≡◌, ◌<◌, [], IfSome, length};
 ghost use Rattle.std.specs.List.{position};
-ghost use Rattle.fw_explain.specs.Requests.{answers, without_same, with_request, without_answered, standing_behind, standing_after, answered};
+ghost use Rattle.fw_explain.specs.Requests.{answers, is_same, without_same, with_request, without_answered, standing_behind, standing_after, answered};
 
 use crate::asked::{Answer, Asked};
 use arrayvec::ArrayVec;
@@ -120,9 +120,19 @@ fn retain_others(rows: &mut ArrayVec<Asked, 256>, answer: Answer, head: &Head)
     rows.retain(|q| !q.is_answered(answer, head));
 }
 
-// Keeps the requests that have another source, destination or label than a new one.
+// The place of a request that has the source, destination and label of a new one.
+fn place_of_same(rows: &[Asked], new: &Asked) -> Option<usize>
+    ensures { result ≡ position (is_same new.now) rows.now }
+{
+    rows.iter().position(|q| new.is_same(q))
+}
+
+// Keeps the requests that have another source, destination or label than a new one. Mostly all have, and none is moved then.
 fn retain_apart(rows: &mut ArrayVec<Asked, 256>, new: &Asked)
     ensures { rows.new.items ≡ without_same new.now rows.old.items }
 {
+    let Some(_) = place_of_same(rows.as_slice(), new) else {
+        return;
+    };
     rows.retain(|q| !new.is_same(q));
 }

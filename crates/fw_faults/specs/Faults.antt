@@ -83,6 +83,7 @@ pub record IsBadSwap (l : Account) (r : Response) (old new : ℕ) : Type 0 where
   pub place : register_of l.latest request.target request.address ≡ Some register
   pub none : (p : PlugAt) (m : Move) → IsMove watched.answer.controller p m register old new l → ⊥
 
+-- such a compare_swap is answered
 abbrev pub IsNoMove : Account → Looked → ℕ → ℕ → Type 0
 IsNoMove l (Replies r) old new = IsBadSwap l r old new
 IsNoMove l _ old new = ⊥
@@ -114,6 +115,7 @@ rank (WrongWord found expected) = 5
 rank (NoMove old new) = 6
 rank (NoEvent code) = 7
 
+-- the entry has no fault
 abbrev pub HasNoFault : Account → Looked → Type 0
 HasNoFault l x = (f : AuditFault) → HasFault l x f → ⊥
 

@@ -17,6 +17,7 @@ use Rattle.fw_faults.specs.declared.fault.AuditFault.TheVariants.{NoNode, Overla
 
 -- ---- requests
 
+-- the verdict on a request: its requester is a node that has none outstanding
 abbrev pub judged_request : Account → ℕ → Option ℕ → Option AuditFault
 judged_request l id None = Some (NoNode id)
 judged_request l id (Some c) = if is_some (l.outstanding c) then Some (Overlap id) else None
@@ -27,6 +28,7 @@ judged_request l id (Some c) = if is_some (l.outstanding c) then Some (Overlap i
 abbrev pub watched_offset : ℕ → Option ℕ
 watched_offset address = if nat_le first_address address && is_watched (address - first_address) then Some (address - first_address) else None
 
+-- the answer is not allowed, where its offset is watched
 abbrev pub not_allowed : ℕ → Option ℕ → Option AuditFault
 not_allowed id None = None
 not_allowed id (Some offset) = Some (NotAllowed id offset)
@@ -41,12 +43,14 @@ abbrev pub judged_at : ℕ → ℕ → Option ℕ → Option ℕ → Option Audi
 judged_at id found None expected = None
 judged_at id found (Some offset) expected = judged_word id offset found expected
 
+-- the verdict on a quadlet that a response shows at an address
 abbrev pub judged_quadlet : Account → ℕ → ℕ → ℕ → Option ℕ → Option AuditFault
 judged_quadlet l id target address None = not_allowed id (watched_offset address)
 judged_quadlet l id target address (Some found) = judged_at id found (watched_offset address) (option_map (word_of l) (register_of l.latest target address))
 
 -- ---- responses
 
+-- the verdict on a complete response, by what was asked
 abbrev pub judged_answer : Account → ℕ → ℕ → ℕ → Operation → Option ℕ → Option AuditFault
 judged_answer l id target address Reads word = judged_quadlet l id target address word
 judged_answer l id target address (Locks function bytes) word = if is_quadlet_swap function bytes then judged_quadlet l id target address word else not_allowed id (watched_offset address)
@@ -59,15 +63,18 @@ judged_reply l r (Some q) =
     then (if r.rcode == 0 then judged_answer l r.requester q.target q.address q.operation r.word else None)
     else Some (Orphan r.requester)
 
+-- the verdict on a response: its requester is a node
 abbrev pub judged_response : Account → Response → Option ℕ → Option AuditFault
 judged_response l r None = Some (NoNode r.requester)
 judged_response l r (Some c) = judged_reply l r (l.outstanding c)
 
 -- ---- shown words and events
 
+-- the verdict on a shown word
 abbrev pub judged_shown : Account → ShownEntry → Option AuditFault
 judged_shown l s = if is_watched s.offset then judged_word (shown_id l.latest s.device) s.offset s.word (option_map (word_of l) (register_shown l.latest s)) else None
 
+-- the verdict on an event: a second that is over ran, and channel 31 is withheld before the first bus reset
 abbrev pub judged_event : Account → EventEntry → Option AuditFault
 judged_event l e = if ((e.code == SECOND_OVER) && not l.reclaiming) || ((e.code == WITHHELD) && is_some l.latest) then Some (NoEvent e.code) else None
 
@@ -86,14 +93,17 @@ abbrev pub no_move : Operation → Option AuditFault
 no_move Reads = None
 no_move (Locks function bytes) = if is_quadlet_swap function bytes then Some (NoMove (quadlet_at bytes 0) (quadlet_at bytes 4)) else None
 
+-- the same of the request that stands, if any
 abbrev pub no_move_of : Option Request → Option AuditFault
 no_move_of None = None
 no_move_of (Some q) = no_move q.operation
 
+-- the same of a device's outstanding request
 abbrev pub no_move_by : Account → Option ℕ → Option AuditFault
 no_move_by l None = None
 no_move_by l (Some c) = no_move_of (l.outstanding c)
 
+-- the same of an entry: of responses alone
 abbrev pub unmoved : Account → Looked → Option AuditFault
 unmoved l (Replies r) = no_move_by l (device_of_id l.latest r.requester)
 unmoved l _ = None
@@ -104,5 +114,6 @@ found_after (Some f) next last = Some f
 found_after None (Some m) last = None
 found_after None None last = last
 
+-- the fault of an entry, over the account of the entries before it
 abbrev pub verdict : Account → Entry → Option AuditFault
 verdict l e = found_after (judged l (looked e)) (next_account l e) (unmoved l (looked e))

@@ -8,6 +8,8 @@ use Rattle.fw_entry.specs.declared.entry.EventEntry.{EventEntry}
 use Rattle.fw_entry.specs.declared.entry.ResetEntry.{ResetEntry}
 use Rattle.fw_entry.specs.declared.entry.ShownEntry.{ShownEntry}
 use Rattle.std.specs.Prelude.{◌≡◌, ℕ, ◌+◌, ◌-◌, ◌%◌, ◌==◌, nat_le, nat_lt, Bool, ◌&&◌, ◌||◌, Option, Some, None, List, length, if◌then◌else◌, IsTrue, ⊤}
+use Rattle.fw_base.specs.declared.label.Label.TheVariants.{Procedure}
+use Rattle.fw_base.specs.Labels.{label_code}
 use Rattle.fw_words.specs.Quadlet.{quadlet_at}
 use Rattle.fw_entry.specs.Network.{device_of_id}
 use Rattle.fw_account.specs.Account.{Account, Operation, Reads, Locks, Request}
@@ -16,7 +18,7 @@ use Rattle.fw_account.specs.Words.{Register, register_of, word_of, first_address
 
 -- ---- what is looked at
 
--- a response with label 0 to a quadlet read or to a lock: who asked, who answers, how, and the quadlet that it shows
+-- a response of a procedure to a quadlet read or to a lock: who asked, who answers, how, and the quadlet that it shows
 pub record Response : Type 0 where
   pub requester : ℕ
   pub responder : ℕ
@@ -36,10 +38,11 @@ pub data Looked : Type 0 where
 abbrev pub quadlet_in : List ℕ → Option ℕ
 quadlet_in bytes = if length bytes == 4 then Some (quadlet_at bytes 0) else None
 
--- of packets only those with transaction label 0
+-- of packets only those of procedures
 abbrev pub labelled : Head → Looked → Looked
-labelled h x = if h.tl == 0 then x else Other
+labelled h x = if h.tl == label_code Procedure then x else Other
 
+-- what an audit looks at in a packet: the requests and responses of controllers
 abbrev pub looked_packet : Packet → Looked
 looked_packet (WriteQuadlet h offset value) = Other
 looked_packet (WriteBlock h offset bytes) = Other
@@ -52,6 +55,7 @@ looked_packet (CycleStart h offset time) = Other
 looked_packet (Lock h offset function bytes) = labelled h (Asks h.source)
 looked_packet (LockReply h rcode function bytes) = labelled h (Replies (record { requester = h.destination; responder = h.source; rcode = rcode; reply = Locked function rcode bytes; word = quadlet_in bytes }))
 
+-- what an audit looks at in an entry
 abbrev pub looked : Entry → Looked
 looked (Reset r) = Other
 looked (Async p) = looked_packet p

@@ -1,8 +1,8 @@
 //! The faults of a log's entries over the account, whoever made the log, and what it comes to that there is none: whether the
 //! registers of a log ran as an account that is sound.
 //!
-//! Resets, events and shown words are looked at, and of packets the requests and responses of controllers: those with transaction
-//! label 0 that read a quadlet or lock. The registers of the account are watched: BANDWIDTH_AVAILABLE, both halves of
+//! Resets, events and shown words are looked at, and of packets the requests and responses of controllers: those with the transaction
+//! label of procedures that read a quadlet or lock. The registers of the account are watched: BANDWIDTH_AVAILABLE, both halves of
 //! CHANNELS_AVAILABLE, and the plug control registers. The functions of this file do nothing: their contracts are the laws.
 #![tactic(auto)]
 

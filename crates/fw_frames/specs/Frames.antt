@@ -23,10 +23,11 @@ time_code operands = operand operands 4 ++ codes ":" ++ operand operands 3 ++ co
 abbrev pub company : List ℕ → ℕ → List ℕ
 company operands n = codes "company " ++ operand operands n ++ operand operands (n + 1) ++ operand operands (n + 2)
 
--- numbers of plugs, and a unit's type and company
+-- the operands of PLUG INFO: the numbers of input and output plugs
 abbrev pub plugs : List ℕ → List ℕ
 plugs operands = codes "inputs " ++ operand operands 1 ++ codes " outputs " ++ operand operands 2
 
+-- the operands of UNIT INFO: the unit's type and company
 abbrev pub unit_info : List ℕ → List ℕ
 unit_info operands = codes "type " ++ operand operands 1 ++ codes " " ++ company operands 2
 
@@ -57,6 +58,7 @@ abbrev pub first_name : (ℕ → Option (List ℕ)) → List ℕ → Option (Lis
 first_name table [] = None
 first_name table (first ∷ rest) = table first
 
+-- the first operand by its word, and the others as bytes
 abbrev pub first_text : Option (List ℕ) → List ℕ → List ℕ
 first_text name [] = []
 first_text None (first ∷ rest) = blank_hex (first ∷ rest)
@@ -71,10 +73,11 @@ row_text UnitInfo name operands = operands_as (unit_info operands) 5 operands
 row_text Page name operands = operands_as (codes "page " ++ operand operands 0) 1 operands
 row_text Word name operands = first_text name operands
 
--- the operands of the tape subunit's opcodes, and of those of every address
+-- the operands of the tape subunit's opcodes
 abbrev pub tape_operands : ℕ → List ℕ → List ℕ
 tape_operands opcode operands = row_text (tape_row opcode operands) (first_name (tape_operand_name opcode) operands) operands
 
+-- the operands of the opcodes of every address
 abbrev pub general_operands : ℕ → List ℕ → List ℕ
 general_operands opcode operands = row_text (general_row opcode operands) (first_name (operand_name opcode) operands) operands
 
@@ -87,10 +90,11 @@ abbrev pub opcode_or : Option (List ℕ) → ℕ → List ℕ
 opcode_or (Some name) opcode = name
 opcode_or None opcode = codes "opcode " ++ byte_digits opcode
 
--- an opcode of the tape subunit's own, or one of every address, and its operands
+-- an opcode of the tape subunit's own, and its operands
 abbrev pub tape_text : ℕ → List ℕ → List ℕ
 tape_text opcode operands = opcode_or (tape_opcode_name opcode) opcode ++ tape_operands opcode operands
 
+-- an opcode of every address, and its operands
 abbrev pub general_text : ℕ → List ℕ → List ℕ
 general_text opcode operands = opcode_or (opcode_name opcode) opcode ++ general_operands opcode operands
 

@@ -1,5 +1,6 @@
 -- What is counted of a log (own).
 use Rattle.std.specs.Prelude.{ℕ, ◌==◌, ◌||◌, not, List, [], ◌∷◌, Bool, true, false, flat_map, count_by}
+use Rattle.fw_entry.specs.declared.codes.outcome.TheConstants.{CONNECTED, RESTORED}
 use Rattle.fw_entry.specs.declared.entry.Entry.{Entry}
 use Rattle.fw_entry.specs.declared.entry.Entry.TheVariants.{Reset, Outcome, Shown}
 use Rattle.fw_entry.specs.declared.entry.Timed.{Timed}
@@ -14,15 +15,17 @@ abbrev pub is_outcome : (ℕ → Bool) → Entry → Bool
 is_outcome test (Outcome o) = test o.code
 is_outcome test _ = false
 
--- codes of outcomes: 1 is a connection that was made, 3 one that was restored
+-- the outcome of a connection that was made
 abbrev pub is_connected : ℕ → Bool
-is_connected code = code == 1
+is_connected code = code == CONNECTED
 
+-- the outcome of a connection that was restored
 abbrev pub is_restored : ℕ → Bool
-is_restored code = code == 3
+is_restored code = code == RESTORED
 
+-- an outcome without a connection
 abbrev pub is_other : ℕ → Bool
-is_other code = not ((code == 1) || (code == 3))
+is_other code = not ((code == CONNECTED) || (code == RESTORED))
 
 -- the word that an entry shows
 abbrev pub words_in : Entry → List ℕ

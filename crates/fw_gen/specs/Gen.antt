@@ -58,5 +58,6 @@ connections_text seed (suc j) = connections_text seed j ++ connect_lines (drawn 
 abbrev pub last_lines : List ℕ
 last_lines = line (codes "reset d0") ++ line (codes "settle 4000") ++ line (codes "wait 8000") ++ line (codes "show manager 220") ++ line (codes "end")
 
+-- the script of a seed
 abbrev pub script_of : ℕ → List ℕ
 script_of seed = devices_text seed 59 ++ line (codes "wait 8000") ++ connections_text seed 30 ++ last_lines

@@ -33,9 +33,11 @@ pub record Counts (log : List Timed) (t : Tally) : Type 0 where
 
 -- ---- what an entry is to the counts
 
+-- what an outcome counts as
 abbrev pub counted_outcome : ℕ → Counted
 counted_outcome code = if is_connected code then Connected else if is_restored code then Restored else Refused
 
+-- what an entry counts as
 abbrev pub counted_in : Entry → Counted
 counted_in (Entries.Reset r) = Reset
 counted_in (Entries.Async p) = Nothing

@@ -1,8 +1,8 @@
-ghost use Rattle.std.specs.Prelude.{ℕ, ◌≡◌, ◌<◌, length, min, take, Some, IsOk, IfOk, OnOk};
+ghost use Rattle.std.specs.Prelude.{ℕ, ◌≡◌, ◌<◌, length, min, Some, IsOk, IfOk, OnOk};
 ghost use Rattle.std.specs.Io.{ReadsAtMost};
 ghost use Rattle.fw_outside.specs.Outside.{HasCause, Reads};
 
-use fw_outside::{Failed, Source};
+use fw_outside::{Failed, Source, copy_front};
 use std::marker::Model;
 
 /// A source over bytes in memory, of which no read fails.
@@ -49,14 +49,4 @@ impl Source for ScriptSource {
         self.at += count;
         Ok(count)
     }
-}
-
-// Copies as many bytes as there are and as fit, and answers how many.
-fn copy_front(from: &[u8], into: &mut [u8]) -> usize
-    ensures count { result ≡ min (length into.old) (length from.now) }
-    ensures bytes { take result into.new ≡ take result from.now }
-{
-    let count = into.len().min(from.len());
-    into[..count].copy_from_slice(&from[..count]);
-    count
 }

@@ -1,8 +1,10 @@
 -- Pieces of text, one behind another.
-use Rattle.std.proofs.Common.{◌≡◌, refl, ap, sym, ◌∙◌, ℕ, suc, List, [], ◌∷◌, ◌++◌, decimal, Option, append_assoc}
+use Rattle.std.proofs.Common.{◌≡◌, refl, ap, sym, ◌∙◌, ℕ, suc, ◌+◌, ◌/◌, ◌%◌, ◌≤◌, ◌<◌, List, [], ◌∷◌, ◌++◌, decimal, Option, Some, append_assoc}
+use Rattle.std.proofs.lemmas.Fmt.{decimal_digit}
+use Rattle.fw_names.proofs.DecimalLaws.{two_digits}
 use Rattle.std.specs.List.{join_with_byte}
 use Rattle.std.proofs.lemmas.List.{append-nil}
-use Rattle.fw_json.specs.Values.{field, code, comma, array}
+use Rattle.fw_json.specs.Values.{field, quoted, code, comma, array}
 
 -- one piece behind another
 pub then : (before after last a b : List ℕ) → after ≡ before ++ a → last ≡ after ++ b → last ≡ before ++ (a ++ b)
@@ -26,6 +28,24 @@ pub coded : (before last key : List ℕ) (m n : ℕ) (name_key : List ℕ) (x y 
     → last ≡ before ++ code key m name_key x → last ≡ before ++ code key n name_key y
 coded before last key m n name_key x y e g f =
     f ∙ ap (λ (k : ℕ). before ++ code key k name_key x) e ∙ ap (λ (z : Option (List ℕ)). before ++ code key n name_key z) g
+
+-- a code and its name, which are one text: with the digits of the code
+named_text : (before after key digits : List ℕ) (n : ℕ) (name_key name : List ℕ) → decimal n ≡ digits
+    → after ≡ before ++ (key ++ (digits ++ (name_key ++ (34 ∷ (name ++ 34 ∷ []))))) → after ≡ before ++ code key n name_key (Some name)
+unfolding field code quoted
+named_text before after key digits n name_key name d e =
+    let rest : List ℕ = name_key ++ (34 ∷ (name ++ 34 ∷ [])) in
+    e ∙ ap (λ (t : List ℕ). before ++ t) (sym (append_assoc key digits rest) ∙ ap (λ (t : List ℕ). (key ++ t) ++ rest) (sym d))
+
+-- with a code of one digit
+pub one_text : (before after key : List ℕ) (n : ℕ) (name_key name : List ℕ) → n < 10
+    → after ≡ before ++ (key ++ (48 + n) ∷ (name_key ++ (34 ∷ (name ++ 34 ∷ [])))) → after ≡ before ++ code key n name_key (Some name)
+one_text before after key n name_key name small e = named_text before after key ((48 + n) ∷ []) n name_key name (decimal_digit n small) e
+
+-- with a code of two
+pub longer_text : (before after key : List ℕ) (n : ℕ) (name_key name : List ℕ) → 10 ≤ n → n < 100
+    → after ≡ before ++ (key ++ (48 + n / 10) ∷ (48 + n % 10) ∷ (name_key ++ (34 ∷ (name ++ 34 ∷ [])))) → after ≡ before ++ code key n name_key (Some name)
+longer_text before after key n name_key name large small e = named_text before after key ((48 + n / 10) ∷ (48 + n % 10) ∷ []) n name_key name (two_digits n large small) e
 
 -- the values of a list from the n-th on, each with what stands before it
 abbrev pub row : ℕ → List (List ℕ) → List ℕ

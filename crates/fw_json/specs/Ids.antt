@@ -6,10 +6,11 @@ use Rattle.fw_entry.specs.declared.nodes.NodeRow.{NodeRow}
 use Rattle.fw_names.specs.Names.{speed_name, port_name, device_name}
 use Rattle.fw_json.specs.Values.{field, array, code, name_value, flag_value}
 
--- the ports of a packet, as numbers, and their names
+-- the ports of a self-ID packet, as numbers
 abbrev pub port_numbers : List ℕ → List ℕ
 port_numbers ports = array (map decimal ports)
 
+-- the names of the ports of a self-ID packet
 abbrev pub port_names : List ℕ → List ℕ
 port_names ports = array (map (λ p. name_value (port_name p)) ports)
 

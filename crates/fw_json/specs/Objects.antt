@@ -116,6 +116,7 @@ abbrev pub inserted_fields : EventEntry → List ℕ
 inserted_fields e =
     field (codes ",\"tape\":") (decimal e.tape) ++ code (codes ",\"system\":") e.system (codes ",\"system_name\":") (system_name e.system)
 
+-- the fields of an event beside its device: those of a tape that is inserted
 abbrev pub tape_fields : EventEntry → List ℕ
 tape_fields e = if e.code == 4 then inserted_fields e else []
 

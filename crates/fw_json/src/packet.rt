@@ -1,13 +1,14 @@
 //! The fields of an asynchronous packet.
 
-ghost use Rattle.std.specs.Prelude.{◌≡◌, ◌++◌, OnOk, codes, decimal};
+ghost use Rattle.std.specs.Prelude.{◌≡◌, ◌++◌, OnOk, Some, codes, decimal};
 ghost use Rattle.fw_async.specs.Heads.{head_of};
-ghost use Rattle.fw_json.specs.Values.{field};
+ghost use Rattle.fw_names.specs.Names.{tcode, tcode_name, retry_name};
+ghost use Rattle.fw_json.specs.Values.{field, code};
 ghost use Rattle.fw_json.specs.Objects.{head_fields, place_fields, rcode_fields, target_fields, quadlet_field, block_fields, lock_fields, data_fields, packet_fields};
 
 use crate::values::{put_code, put_count, put_data, put_eight, put_four, put_twelve};
 use fw_async::{Head, Packet};
-use fw_names::{Pairs, function_name, rcode_name, retry_name, tcode, tcode_name};
+use fw_names::{Pairs, function_name, put_word, rcode_name, retry_name};
 use std::alloc::AllocError;
 
 // What a packet begins with.
@@ -28,18 +29,63 @@ fn head_of<'p>(p: &'p Packet) -> &'p Head
     }
 }
 
+// Appends a transaction code and its name: both are one text for each kind of packet.
+#[inline(always)]
+fn put_tcode(text: &mut Vec<u8>, p: &Packet) -> Result<(), AllocError>
+    ensures { OnOk result (text.new.items ≡ text.old.items ++ code (codes ",\"tcode\":") (tcode p.now) (codes ",\"tcode_name\":") (Some (tcode_name p.now))) }
+{
+    match p {
+        Packet::WriteQuadlet { .. } => {
+            put_word(text, r#","tcode":0,"tcode_name":"write_quadlet_request""#)
+        }
+        Packet::WriteBlock { .. } => {
+            put_word(text, r#","tcode":1,"tcode_name":"write_block_request""#)
+        }
+        Packet::WriteReply { .. } => put_word(text, r#","tcode":2,"tcode_name":"write_response""#),
+        Packet::ReadQuadlet { .. } => {
+            put_word(text, r#","tcode":4,"tcode_name":"read_quadlet_request""#)
+        }
+        Packet::ReadBlock { .. } => {
+            put_word(text, r#","tcode":5,"tcode_name":"read_block_request""#)
+        }
+        Packet::ReadQuadletReply { .. } => {
+            put_word(text, r#","tcode":6,"tcode_name":"read_quadlet_response""#)
+        }
+        Packet::ReadBlockReply { .. } => {
+            put_word(text, r#","tcode":7,"tcode_name":"read_block_response""#)
+        }
+        Packet::CycleStart { .. } => put_word(text, r#","tcode":8,"tcode_name":"cycle_start""#),
+        Packet::Lock { .. } => put_word(text, r#","tcode":9,"tcode_name":"lock_request""#),
+        Packet::LockReply { .. } => put_word(text, r#","tcode":11,"tcode_name":"lock_response""#),
+    }
+}
+
+// Appends a retry code and its name: each of two bits has one, and is one text with it.
+#[inline(always)]
+fn put_retry(text: &mut Vec<u8>, rt: u8) -> Result<(), AllocError>
+    ensures { OnOk result (text.new.items ≡ text.old.items ++ code (codes ",\"retry\":") rt (codes ",\"retry_name\":") (retry_name rt)) }
+{
+    match rt {
+        0 => put_word(text, r#","retry":0,"retry_name":"retry_1""#),
+        1 => put_word(text, r#","retry":1,"retry_name":"retry_x""#),
+        2 => put_word(text, r#","retry":2,"retry_name":"retry_a""#),
+        3 => put_word(text, r#","retry":3,"retry_name":"retry_b""#),
+        other => put_code(
+            text,
+            r#","retry":"#,
+            u64::from(other),
+            r#","retry_name":"#,
+            retry_name(other),
+        ),
+    }
+}
+
 fn put_head(text: &mut Vec<u8>, pairs: &Pairs, h: &Head) -> Result<(), AllocError>
     ensures { OnOk result (text.new.items ≡ text.old.items ++ head_fields h.now) }
 {
     put_four(text, pairs, r#","dst_id":"#, h.destination)?;
     put_count(text, r#","tlabel":"#, u64::from(h.tl))?;
-    put_code(
-        text,
-        r#","retry":"#,
-        u64::from(h.rt),
-        r#","retry_name":"#,
-        retry_name(h.rt),
-    )?;
+    put_retry(text, h.rt)?;
     put_count(text, r#","priority":"#, u64::from(h.pri))?;
     put_four(text, pairs, r#","src_id":"#, h.source)
 }
@@ -53,13 +99,17 @@ fn put_place(text: &mut Vec<u8>, pairs: &Pairs, offset: u64) -> Result<(), Alloc
 fn put_rcode(text: &mut Vec<u8>, rcode: u8) -> Result<(), AllocError>
     ensures { OnOk result (text.new.items ≡ text.old.items ++ rcode_fields rcode) }
 {
-    put_code(
-        text,
-        r#","rcode":"#,
-        u64::from(rcode),
-        r#","rcode_name":"#,
-        rcode_name(rcode),
-    )
+    match rcode {
+        // Nearly all responses are complete.
+        0 => put_word(text, r#","rcode":0,"rcode_name":"complete""#),
+        other => put_code(
+            text,
+            r#","rcode":"#,
+            u64::from(other),
+            r#","rcode_name":"#,
+            rcode_name(other),
+        ),
+    }
 }
 
 fn put_target(text: &mut Vec<u8>, pairs: &Pairs, p: &Packet) -> Result<(), AllocError>
@@ -141,14 +191,7 @@ fn put_contents(text: &mut Vec<u8>, pairs: &Pairs, p: &Packet) -> Result<(), All
 pub(crate) fn put_packet(text: &mut Vec<u8>, pairs: &Pairs, p: &Packet) -> Result<(), AllocError>
     ensures { OnOk result (text.new.items ≡ text.old.items ++ packet_fields p.now) }
 {
-    let name = Some(tcode_name(p));
-    put_code(
-        text,
-        r#","tcode":"#,
-        u64::from(tcode(p)),
-        r#","tcode_name":"#,
-        name,
-    )?;
+    put_tcode(text, p)?;
     put_head(text, pairs, head_of(p))?;
     put_target(text, pairs, p)?;
     put_contents(text, pairs, p)

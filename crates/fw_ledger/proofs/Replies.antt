@@ -1,6 +1,7 @@
--- The tables after packets with and without label 0, and after the response to a read request.
-use Rattle.std.proofs.Common.{◌≡◌, ◌≢◌, ◌==◌, ◌&&◌, ℕ, Bool, true, false, Option, Some, None, length, slice_set, Vec, Global, cond, refl, ◌∙◌, ap, arith, length-set}
-use Rattle.std.proofs.lemmas.Bool.Decides.{nat_tests}
+-- The tables after packets of procedures and others, and after the response to a read request.
+use Rattle.std.proofs.Common.{◌≡◌, ◌==◌, ◌&&◌, ℕ, Bool, true, false, Option, Some, None, length, slice_set, Vec, Global, cond, refl, ◌∙◌, ap, arith, length-set}
+use Rattle.fw_base.specs.declared.label.Label.TheVariants.{Procedure}
+use Rattle.fw_base.specs.Labels.{label_code}
 use Rattle.fw_account.specs.Account.{Account}
 use Rattle.fw_account.specs.Packets.{Read as ReadReply, answered, ended}
 use Rattle.fw_ledger.specs.Stands.{StandsFor, AskedFor, Follows, is_read_of}
@@ -10,14 +11,15 @@ use Rattle.fw_ledger.specs.declared.tables.Asked.TheVariants.{Nothing as NotAske
 use Rattle.fw_ledger.proofs.Related.{related_set}
 use Rattle.fw_account.proofs.Packets.{ended_keeps}
 
--- a packet with another label changes nothing
-pub other_label : (t : Tables) (l : Account) (label : ℕ) (o : Option Account) → StandsFor t l → label ≢ 0 → Follows true t t (cond (label == 0) o (Some l))
-other_label t l label o h ne = let e : (label == 0) ≡ false = grind (arith, nat_tests) in rw e (refl, h)
+-- a packet that is not of a procedure changes nothing
+pub other_label : (t : Tables) (l : Account) (label : ℕ) (o : Option Account) → StandsFor t l → (label == label_code Procedure) ≡ false
+    → Follows true t t (cond (label == label_code Procedure) o (Some l))
+other_label t l label o h e = rw e (refl, h)
 
--- a packet with label 0
-pub label_zero : (taken : Bool) (t new : Tables) (l : Account) (label : ℕ) (o : Option Account) → label ≡ 0 → Follows taken t new o
-    → Follows taken t new (cond (label == 0) o (Some l))
-label_zero taken t new l label o e h = let z : (label == 0) ≡ true = grind (arith, nat_tests) in rw z h
+-- a packet of a procedure
+pub procedure_label : (taken : Bool) (t new : Tables) (l : Account) (label : ℕ) (o : Option Account) → (label == label_code Procedure) ≡ true → Follows taken t new o
+    → Follows taken t new (cond (label == label_code Procedure) o (Some l))
+procedure_label taken t new l label o e h = rw e h
 
 -- the tables after the end of a request of controller c
 pub ended_stands : (t : Tables) (l : Account) (c : ℕ) (requests : Vec Asked Global) → StandsFor t l → requests.items ≡ slice_set t.asked.items c NotAsked

@@ -8,6 +8,7 @@ ghost use Rattle.fw_ledger.specs.Stands.{Stands, StandsFor, AskedFor, Follows, i
 
 use crate::tables::{Asked, Tables};
 use fw_async::Head;
+use fw_base::Label;
 use fw_words::quadlet_at;
 
 // What a lock request asks for.
@@ -35,7 +36,7 @@ impl Tables {
         requires stands { Stands self.old }
         ensures { (l : Account) → StandsFor self.old l → Follows result self.old self.new (after_request head.now offset Reads l) }
     {
-        if head.tl != 0 {
+        if !Label::Procedure.marks(head.tl) {
             return true;
         }
         let asked = Asked::Read {
@@ -50,7 +51,7 @@ impl Tables {
         requires stands { Stands self.old }
         ensures { (l : Account) → StandsFor self.old l → Follows result self.old self.new (after_request head.now offset (Locks function bytes.now) l) }
     {
-        if head.tl != 0 {
+        if !Label::Procedure.marks(head.tl) {
             return true;
         }
         let asked = lock_asked(head.destination, offset, function, bytes);
@@ -78,7 +79,7 @@ impl Tables {
         requires stands { Stands self.old }
         ensures { (l : Account) → StandsFor self.old l → Follows result self.old self.new (after_reply head.now Read l) }
     {
-        if head.tl != 0 {
+        if !Label::Procedure.marks(head.tl) {
             return true;
         }
         self.end_read(head.destination, head.source)

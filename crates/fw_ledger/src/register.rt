@@ -10,6 +10,7 @@ ghost use Rattle.fw_ledger.specs.Swaps.{IsThere, register_named};
 use crate::place::{plug_number, row_at, word_at};
 use crate::tables::Tables;
 use fw_base::PlugAt;
+use fw_csr::REGISTER_SPACE;
 use fw_entry::NodeRow;
 
 /// A register of the account.
@@ -127,10 +128,10 @@ impl Tables {
         ensures register { (l : Account) → StandsFor self.now l → option_map register_named result ≡ register_of l.latest id address }
         ensures there { IfSome result (λ register. IsThere register self.now) }
     {
-        if id < 0xffc0 || address < 0xffff_f000_0000 {
+        if id < 0xffc0 || address < REGISTER_SPACE {
             return None;
         }
-        let offset = address - 0xffff_f000_0000;
+        let offset = address - REGISTER_SPACE;
         match managed(id - 0xffc0, self.manager, offset) {
             Some(register) => Some(register),
             None => plug_register(row_at(self.nodes.as_slice(), id), offset),

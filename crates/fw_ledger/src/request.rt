@@ -10,6 +10,7 @@ ghost use Rattle.fw_ledger.specs.Stands.{Stands, StandsFor, AskedFor, Follows, p
 use crate::place::{plug_number, row_at};
 use crate::tables::{Addressed, Asked, Tables};
 use fw_base::PlugAt;
+use fw_csr::REGISTER_SPACE;
 use fw_entry::NodeRow;
 
 /// The output plug whose register stands at an address of this node, also where the node has no such plug.
@@ -29,12 +30,12 @@ impl Tables {
     fn output_addressed(&self, target: u16, address: u64) -> Option<PlugAt>
         ensures { (l : Account) → StandsFor self.now l → result ≡ output_addressed l.latest target address }
     {
-        if address < 0xffff_f000_0000 {
+        if address < REGISTER_SPACE {
             return None;
         }
         output_of(
             row_at(self.nodes.as_slice(), target),
-            address - 0xffff_f000_0000,
+            address - REGISTER_SPACE,
         )
     }
 

@@ -12,6 +12,7 @@ ghost use Rattle.fw_ledger.specs.Swaps.{IsThere, register_named, moved_by, accou
 use crate::register::Register;
 use crate::tables::{Asked, Tables};
 use fw_async::Head;
+use fw_base::Label;
 use fw_words::quadlet_at;
 
 // The response is complete and shows the argument as the old value.
@@ -105,7 +106,7 @@ impl Tables {
         requires stands { Stands self.old }
         ensures { (l : Account) → StandsFor self.old l → Follows result self.old self.new (after_reply head.now (Locked function rcode old.now) l) }
     {
-        if head.tl != 0 {
+        if !Label::Procedure.marks(head.tl) {
             return true;
         }
         match self.device(head.destination) {

@@ -1,6 +1,7 @@
 -- What a reader of logs keeps, and what it makes of the bytes that come.
 use Rattle.std.specs.Prelude.{◌≡◌, ℕ, ◌+◌, ◌==◌, ◌≤◌, ◌<◌, ◌&&◌, ◌⊎◌, nat_le, List, [], ◌++◌, length, take, Option, Some, None, Result, Ok, Err, if◌then◌else◌}
 use Rattle.fw_words.specs.Quadlet.{quadlet_at}
+use Rattle.fw_entry.specs.declared.codes.TheConstants.{LOG_MAGIC}
 use Rattle.fw_entry.specs.Log.{version_of, is_end, body, epoch_after}
 use Rattle.fw_entry.specs.declared.version.Version.{Version}
 use Rattle.fw_log.specs.Reading.{IsPending, Spells, Faulty, WrongBody, skip, version_at, fault_at, head_fault, need}
@@ -23,7 +24,7 @@ total r = r.stand.start + length r.taken
 
 -- the version that the header names, where its first two quadlets were taken and neither is refused
 abbrev pub version_read : List ℕ → Option Version
-version_read bytes = if nat_le 8 (length bytes) && (quadlet_at bytes 0 == 825440564) then version_of (quadlet_at bytes 4) else None
+version_read bytes = if nat_le 8 (length bytes) && (quadlet_at bytes 0 == LOG_MAGIC) then version_of (quadlet_at bytes 4) else None
 
 -- the version of the log, as far as it is known
 abbrev pub known : State → Option Version
@@ -116,6 +117,7 @@ pub record Keeps (start : ℕ) (old piece new : List ℕ) : Type 0 where
   pub taken : new ≡ old ++ take count piece
   pub enough : start ≡ 0 → (length piece ≤ count) ⊎ (8 ≤ length (old ++ take count piece))
 
+-- the reader stays at its entry, and keeps what it took of the piece
 pub record Remembers (s : Position) (old piece : List ℕ) (new : State) : Type 0 where
   pub stand : new.stand ≡ s
   pub kept : Keeps s.start old piece new.taken

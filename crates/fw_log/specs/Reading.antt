@@ -2,6 +2,7 @@
 use Rattle.std.specs.Prelude.{◌≡◌, ℕ, ◌+◌, ◌*◌, ◌^◌, ◌≤◌, ◌<◌, ◌==◌, ◌||◌, ◌&&◌, nat_le, nat_lt, List, [], ◌++◌, Bool, true, false, Option, Some, None, length, slice_index, take, drop, if◌then◌else◌, ◌⊎◌}
 use Rattle.std.specs.Int.{from_be_bytes, w64}
 use Rattle.fw_words.specs.Quadlet.{quadlet_at}
+use Rattle.fw_entry.specs.declared.codes.TheConstants.{LOG_MAGIC}
 use Rattle.fw_entry.specs.Log.{header_bytes, version_of, head_size, epoch_size, epoch_after, entry_bytes, TimedFits}
 use Rattle.fw_entry.specs.declared.version.Version.{Version}
 use Rattle.fw_entry.specs.declared.version.Version.TheVariants.{One, Two}
@@ -26,9 +27,11 @@ fault_at place why = record { place = place; why = why }
 abbrev pub length_at : ℕ
 length_at = 2
 
+-- where the epoch stands in an entry of version 2
 abbrev pub epoch_at : ℕ
 epoch_at = 4
 
+-- where the cycle stands in an entry
 abbrev pub cycle_at : Version → ℕ
 cycle_at v = 4 + epoch_size v
 
@@ -90,7 +93,7 @@ entry_fault v epoch place last e =
 -- the first quadlet of the header that is there and is refused, or what follows
 abbrev pub header_fault : List ℕ → Option LogFault → Option LogFault
 header_fault bytes rest =
-    tested (length bytes) 4 (quadlet_at bytes 0 == 825440564) (fault_at 0 BadHeader)
+    tested (length bytes) 4 (quadlet_at bytes 0 == LOG_MAGIC) (fault_at 0 BadHeader)
     (tested (length bytes) 8 (is_some (version_of (quadlet_at bytes 4))) (fault_at 4 BadHeader)
     (tested (length bytes) 12 (quadlet_at bytes 8 == 0) (fault_at 8 BadHeader)
     (tested (length bytes) 16 (quadlet_at bytes 12 == 0) (fault_at 12 BadHeader) rest)))
@@ -167,6 +170,7 @@ abbrev pub HasEpoch : Version → ℕ → List ℕ → Type 0
 HasEpoch One epoch e = Unit {0}
 HasEpoch Two epoch e = quadlet_at e epoch_at ≡ epoch
 
+-- a test of that
 abbrev pub is_written : Version → ℕ → List ℕ → Bool
 is_written One epoch e = true
 is_written Two epoch e = quadlet_at e epoch_at == epoch

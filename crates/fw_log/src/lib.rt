@@ -10,7 +10,7 @@ mod plain_reset;
 mod read;
 mod read_body;
 mod read_head;
-mod read_reset;
+pub mod read_reset;
 mod room;
 mod stand;
 mod version;

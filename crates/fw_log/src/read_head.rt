@@ -148,7 +148,7 @@ fn header_fault(bytes: &[u8]) -> Option<LogFault>
     if bytes.len() < 4 {
         return None;
     }
-    if quadlet_at(bytes, 0).0 != 0x3133_3934 {
+    if quadlet_at(bytes, 0).0 != codes::LOG_MAGIC {
         return Some(bad_header(0));
     }
     if bytes.len() < 8 {

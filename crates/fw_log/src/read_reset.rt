@@ -155,8 +155,8 @@ fn reset_fits(r: &ResetEntry) -> bool
         && are_ids(r.ids.as_slice(), count)
 }
 
-// How many nodes the body names.
-pub(crate) fn count_of(body: &[u8]) -> usize
+/// How many nodes the body of a reset entry names.
+pub fn count_of(body: &[u8]) -> usize
     requires { 8 ≤ length body.now }
     ensures value { result ≡ count_of body.now }
     ensures small { result < 256 }
@@ -172,8 +172,8 @@ pub(crate) fn has_nodes(body: &[u8]) -> bool
     1 <= count && count <= 63 && 8 + 4 * count <= body.len()
 }
 
-// Puts what the fields are into a reset that has the packets, whatever the rules say.
-fn read_fields(reset: &mut ResetEntry, body: &[u8])
+/// Puts what the fields of a body are into a reset that has its self-ID packets, whatever the rules say.
+pub fn read_fields(reset: &mut ResetEntry, body: &[u8])
     requires nodes { IsTrue (has_nodes body.now) }
     requires some { 8 ≤ length body.now }
     requires ids { AreIds reset.old.ids (drop (ids_at body.now) body.now) }

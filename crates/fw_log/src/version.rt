@@ -5,6 +5,7 @@ ghost use Rattle.fw_log.specs.Stands.{position};
 ghost use Rattle.fw_log.specs.Reader.{version_read, Keeps};
 
 use crate::Version;
+use crate::codes::LOG_MAGIC;
 use crate::held::Held;
 use crate::stand::Stand;
 use fw_words::quadlet_at;
@@ -16,7 +17,7 @@ const VERSION_END: usize = 8;
 pub(crate) fn version_read(bytes: &[u8]) -> Option<Version>
     ensures { result ≡ version_read bytes.now }
 {
-    if bytes.len() >= VERSION_END && quadlet_at(bytes, 0).0 == 0x31333934 {
+    if bytes.len() >= VERSION_END && quadlet_at(bytes, 0).0 == LOG_MAGIC {
         Version::of_number(quadlet_at(bytes, 4).0)
     } else {
         None

@@ -18,6 +18,7 @@ packet_of_bid r d None = None
 packet_of_bid r d (Some c) =
     if is_standing_in (epoch_of r) c then option_map (λ to. packet_of (bid_head to (node_of r d)) (bid_request (node_of r d))) (manager_in r) else None
 
+-- the request that stands of the candidate of a device, if it is one
 abbrev pub bid_from : Option ResetEntry → Election → Option ℕ → Option Packet
 bid_from r e None = None
 bid_from r e (Some d) = packet_of_bid r d (e.candidates d)

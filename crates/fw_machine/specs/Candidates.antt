@@ -3,13 +3,16 @@ use Rattle.std.specs.Prelude.{ℕ, ◌≡◌, ◌<◌, ◌≤◌, List, length, 
 use Rattle.fw_manager.specs.Bids.{CandidateState}
 use Rattle.fw_run.specs.Elections.{Election}
 
+-- the candidates of the declared devices, and whether there ever was one
 pub record CandidateTable : Type 0 where
   pub list : List (Option CandidateState)
   pub begun : Bool
 
+-- how many devices are declared
 abbrev pub count_of : CandidateTable → ℕ
 count_of t = length t.list
 
+-- the candidate of a device, if it is one
 abbrev pub candidate_in : CandidateTable → ℕ → Option CandidateState
 candidate_in t d = slice_index_or t.list d None
 

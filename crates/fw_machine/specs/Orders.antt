@@ -42,6 +42,7 @@ is_guarded_by begun (Swap offset argument new) = is_guarded_in begun offset
 abbrev pub has_deck_in : Network → ℕ → Bool
 has_deck_in n d = has_unit (kind_at (kinds_of n.nodes) d)
 
+-- an order can be carried out on the machine as it is
 abbrev pub MayCarry : Machine → Order → Type 0
 MayCarry m Orders.Withhold = m.devices.names ≡ []
 MayCarry m (Orders.Declare name kind ports speed) = (length m.devices.names < 63) × (1 ≤ ports) × (ports ≤ 27) × (speed ≤ 2)

@@ -51,6 +51,7 @@ abbrev pub manager_device : Option ResetEntry → Option ℕ
 manager_device None = None
 manager_device (Some e) = device_of e.nodes e.manager
 
+-- the bus's devices, their nodes and the latest reset entry are those of the state
 pub record HasDevices (n : Network) (s : State) : Type 0 where
   pub topology : n.topology ≡ s.declared.topology
   pub names : n.names ≡ s.declared.names
@@ -66,6 +67,7 @@ pub record HasDevices (n : Network) (s : State) : Type 0 where
 
 -- ---- time and controllers
 
+-- the cycle, the reclaim second and what was used of the limits are those of the state
 pub record HasClock (m : Machine) (s : State) : Type 0 where
   pub cycle : m.cycle ≡ s.clock.cycle
   pub reclaiming : m.reclaiming ≡ s.account.reclaiming
@@ -73,6 +75,7 @@ pub record HasClock (m : Machine) (s : State) : Type 0 where
   pub written : m.written ≡ s.written
   pub resets : m.resets ≡ s.resets
 
+-- the controllers, and what they are told of the bus, are those of the state
 pub record HasControllers (m : Machine) (s : State) : Type 0 where
   -- as they are: the state has one that has lost a response as one that heard it
   pub table : IsTable m.controllers (length s.declared.names) (λ d. controller_at s d) s.dead
@@ -80,6 +83,7 @@ pub record HasControllers (m : Machine) (s : State) : Type 0 where
 
 -- ---- candidates and a recording
 
+-- the candidates, their requests and the reel are those of the state
 pub record HasBeside (m : Machine) (s : State) : Type 0 where
   pub election : HasElection m.candidates (length s.declared.names) s.election
   pub bids : HasBids m.bids s

@@ -21,6 +21,7 @@ pub record HasStreams (counts : List ℕ) (s : State) : Type 0 where
 abbrev pub counted_for : ℕ → NodeState → ℕ → ℕ
 counted_for cycles n count = if talks n then (count + blocks_among (tape_of n) cycles) % 256 else 0
 
+-- the counts of all devices after so many cycles
 abbrev pub counted_on : ℕ → List NodeState → List ℕ → List ℕ
 counted_on cycles [] counts = counts
 counted_on cycles (n ∷ nodes) [] = []

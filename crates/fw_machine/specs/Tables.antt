@@ -17,6 +17,7 @@ count_of t = length t.list
 abbrev pub states_of : ControllerTable → ℕ → Listening
 states_of t d = slice_index_or t.list d first_listening
 
+-- the controller of a device died
 abbrev pub dead_of : ControllerTable → ℕ → Bool
 dead_of t d = slice_index_or t.flags d false
 

@@ -115,7 +115,8 @@ impl Streams {
         requires few { device < 63 }
         ensures { self.new ≡ looked_at device devices.now.nodes self.old }
     {
-        if devices.talking_on(device).is_none() {
+        // Mostly nothing is counted, and then nothing has to begin anew.
+        if self.counts[usize::from(device)] != 0 && devices.talking_on(device).is_none() {
             self.counts[usize::from(device)] = 0;
         }
     }

@@ -1,5 +1,6 @@
 -- The bid of a candidate: what it asks, and how it ends (IEEE 1394-1995, 8.4.2.5).
 use Rattle.std.specs.Prelude.{ℕ, ◌==◌, Bool, true, false, Some, if◌then◌else◌}
+use Rattle.fw_csr.specs.declared.offset.TheConstants.{BUS_MANAGER_ID}
 use Rattle.fw_csr.specs.Requests.{request_at}
 use Rattle.fw_csr.specs.declared.request.Request.{Request}
 use Rattle.fw_manager.specs.declared.bid.Bid.{Bid}
@@ -20,6 +21,7 @@ first_state = record { epoch = 0; stage = Fresh }
 abbrev pub stage_in : ℕ → CandidateState → Stage
 stage_in epoch c = if c.epoch == epoch then c.stage else Fresh
 
+-- the lock request of the bid stands
 abbrev pub is_asked : Stage → Bool
 is_asked Asked = true
 is_asked Fresh = false
@@ -32,8 +34,9 @@ is_standing_in epoch c = is_asked (stage_in epoch c)
 
 -- the compare_swap of BUS_MANAGER_ID from the word for no bus manager to the number of the candidate's node
 abbrev pub bid_request : ℕ → Request
-bid_request node = request_at 0xFFFF_F000_021C (Some (record { argument = 0x3F; new = node }))
+bid_request node = request_at BUS_MANAGER_ID (Some (record { argument = 0x3F; new = node }))
 
+-- what a candidate does next, by the stage of its bid
 abbrev pub bid_of : ℕ → ℕ → Stage → Bid
 bid_of node manager Fresh = Send manager (bid_request node)
 bid_of node manager Asked = Done
@@ -44,12 +47,14 @@ bid_of node manager Answered = Done
 abbrev pub next : ℕ → ℕ → ℕ → CandidateState → Bid
 next epoch node manager c = bid_of node manager (stage_in epoch c)
 
+-- the stage of a bid after the candidate's turn
 abbrev pub stage_after : Stage → Stage
 stage_after Fresh = Asked
 stage_after Asked = Answered
 stage_after (Heard word) = Answered
 stage_after Answered = Answered
 
+-- the candidate after its turn in an epoch
 abbrev pub after_next : ℕ → CandidateState → CandidateState
 after_next epoch c = record { epoch = epoch; stage = stage_after (stage_in epoch c) }
 

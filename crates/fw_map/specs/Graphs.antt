@@ -5,10 +5,11 @@ use Rattle.fw_tree.specs.Numbers.{number_at}
 use Rattle.fw_map.specs.declared.tree.Tree.{Tree}
 use Rattle.fw_map.specs.Trees.{speed_at}
 
--- a quotation mark, and the escape of a line feed
+-- a quotation mark
 abbrev pub quote : List ℕ
 quote = 34 ∷ []
 
+-- the escape of a line feed in a label
 abbrev pub new_line : List ℕ
 new_line = 92 ∷ 110 ∷ []
 
@@ -44,14 +45,16 @@ abbrev pub edge_by : Tree → ℕ → Option ℕ → Option ℕ → Option ℕ �
 edge_by t n (Some parent) (Some port) (Some own) = cable_line n parent port own (min (speed_at t.sp n) (speed_at t.sp parent))
 edge_by t n _ _ _ = []
 
+-- the line of a node's cable to its parent
 abbrev pub edge_line : Tree → ℕ → List ℕ
 edge_line t n = edge_by t n (number_at t.parent n) (number_at t.parent_port n) (number_at t.own_port n)
 
--- the boxes, and the cables, of the nodes below this one
+-- the lines of the boxes of the nodes below this one
 unfoldable pub box_lines : List NodeRow → ℕ → List ℕ
 box_lines rows zero = []
 box_lines rows (suc n) = box_lines rows n ++ box_line n (slice_get rows n)
 
+-- the lines of the cables of the nodes below this one
 unfoldable pub edge_lines : Tree → ℕ → List ℕ
 edge_lines t zero = []
 edge_lines t (suc n) = edge_lines t n ++ edge_line t n

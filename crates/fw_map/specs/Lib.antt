@@ -6,3 +6,4 @@ pub mod Faults
 pub mod Growing
 pub mod Identified
 pub mod Graphs
+pub mod Laws

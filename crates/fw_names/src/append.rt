@@ -17,13 +17,16 @@ pub fn put_word(text: &mut Vec<u8>, word: &str) -> Result<(), AllocError>
 
 /// Appends a number in decimal digits.
 #[inline(always)]
-#[tactic(auto, using(std::proofs::lemmas::Fmt::decimal_digit))]
+#[tactic(auto, using(std::proofs::lemmas::Fmt::decimal_digit, crate::proofs::DecimalLaws::two_digits))]
 pub fn put_number(text: &mut Vec<u8>, n: u64) -> Result<(), AllocError>
     ensures { OnOk result (text.new.items ≡ text.old.items ++ decimal n) }
 {
-    // Most numbers of a log have one digit.
+    // Most numbers of a log have one digit or two.
     if n < 10 {
         return text.extend_from_slice(&[b'0' + n as u8]);
+    }
+    if n < 100 {
+        return text.extend_from_slice(&[b'0' + (n / 10) as u8, b'0' + (n % 10) as u8]);
     }
     put_long_number(text, n)
 }

@@ -111,6 +111,7 @@ pub fn format_name(cip: &CipHeader) -> Option<&'static str>
 }
 
 /// Appends a node_ID: `broadcast`, `node` and a number on the local bus, or `node_ID` and its four digits.
+#[inline(always)]
 pub fn put_node(text: &mut Vec<u8>, pairs: &Pairs, id: u16) -> Result<(), AllocError>
     ensures { OnOk result (text.new.items ≡ text.old.items ++ node_text id) }
 {

@@ -1,5 +1,5 @@
 -- The reply that a node gives is the one that its response carries.
-use Rattle.std.proofs.Common.{◌≡◌, ℕ, ◌<◌, ◌^◌, List, [], Option, Some, None, IsSome, IfSome, refl, ap, sym, subst, ◌∙◌}
+use Rattle.std.proofs.Common.{◌≡◌, ℕ, ◌<◌, ◌^◌, List, [], Option, Some, None, refl, ap, sym, subst, ◌∙◌}
 use Rattle.std.proofs.lemmas.Option.{same_Some, none-some}
 use Rattle.std.proofs.lemmas.Nat.{from_be_bytes-to_be_bytes_4}
 use Rattle.fw_async.specs.Reader.{Spells}
@@ -13,8 +13,8 @@ use Rattle.fw_csr.specs.declared.reply.Reply.{Reply}
 use Rattle.fw_csr.specs.declared.request.Request.{Request}
 use Rattle.fw_csr.specs.declared.request.Request.TheVariants as Asks
 use Rattle.fw_csr.specs.declared.request.Swap.{Swap}
-use Rattle.fw_node.specs.Packets.{request_in, response_to, response_of, response_with, reply_in, old_bytes, old_value, IsServed}
-use Rattle.fw_node.specs.Space.{Space, answer_of, register_at}
+use Rattle.fw_node.specs.Packets.{request_in, response_to, response_with, reply_in, old_bytes, old_value, IsServed}
+use Rattle.fw_node.specs.Space.{Space, register_at}
 
 -- ---- what stands in a response, by the kind of its request
 

@@ -2,10 +2,13 @@
 use Rattle.std.specs.Prelude.{◌≡◌, ℕ, ◌+◌, ◌%◌, ◌<◌, ◌≤◌, ◌==◌, List, length, Option, Some, None, if◌then◌else◌}
 use Rattle.std.specs.Int.{to_be_bytes, from_be_bytes, w32}
 use Rattle.std.specs.Option.{option_map, option_and_then}
+use Rattle.fw_base.specs.declared.label.Label.TheVariants.{Script}
+use Rattle.fw_base.specs.Labels.{label_code}
 use Rattle.fw_async.specs.Async.{AreBytes}
 use Rattle.fw_async.specs.declared.packet.Head.{Head}
 use Rattle.fw_async.specs.declared.packet.Packet.{Packet}
 use Rattle.fw_async.specs.declared.packet.Packet.TheVariants.{WriteQuadlet, WriteBlock}
+use Rattle.fw_csr.specs.declared.offset.TheConstants.{FCP_COMMAND, FCP_RESPONSE}
 use Rattle.fw_csr.specs.declared.request.Request.{Request}
 use Rattle.fw_csr.specs.declared.request.Request.TheVariants as Asks
 use Rattle.fw_fcp.specs.declared.frame.Frame.{Frame}
@@ -18,8 +21,8 @@ use Rattle.fw_node.specs.State.{NodeState}
 
 -- the bytes that a request writes to FCP_COMMAND
 abbrev pub command_bytes : Request → Option (List ℕ)
-command_bytes (Asks.Write offset value) = if offset == 0xFFFF_F000_0B00 then Some (to_be_bytes w32 value) else None
-command_bytes (Asks.WriteBlock offset bytes) = if offset == 0xFFFF_F000_0B00 then Some bytes else None
+command_bytes (Asks.Write offset value) = if offset == FCP_COMMAND then Some (to_be_bytes w32 value) else None
+command_bytes (Asks.WriteBlock offset bytes) = if offset == FCP_COMMAND then Some bytes else None
 command_bytes _ = None
 
 -- a request writes a frame to FCP_COMMAND that is a command; a frame has no more bytes than a block
@@ -60,19 +63,21 @@ abbrev pub number_of : Option ℕ → ℕ
 number_of None = 63
 number_of (Some number) = number
 
+-- the head of the packets that carry a frame, from one node to another
 abbrev pub frame_head : ℕ → ℕ → Head
-frame_head from to = record { destination = local_id to; tl = 1; rt = 1; pri = 0; source = local_id from }
+frame_head from to = record { destination = local_id to; tl = label_code Script; rt = 1; pri = 0; source = local_id from }
 
 -- the packet by which a node writes a frame to FCP_RESPONSE of another: four bytes by a quadlet write, all else by a block
 abbrev pub frame_packet : ℕ → ℕ × Frame → Packet
 frame_packet from told =
     let bytes = spelling told.1 in
-    if length bytes == 4 then WriteQuadlet (frame_head from told.0) 0xFFFF_F000_0D00 (from_be_bytes w32 bytes)
-    else WriteBlock (frame_head from told.0) 0xFFFF_F000_0D00 bytes
+    if length bytes == 4 then WriteQuadlet (frame_head from told.0) FCP_RESPONSE (from_be_bytes w32 bytes)
+    else WriteBlock (frame_head from told.0) FCP_RESPONSE bytes
 
 -- the frame that is sent next: a response that waits, and then the notices of changes
 abbrev pub next_frame : NodeState → Option (ℕ × Frame)
 next_frame n = elim n.waiting [ Some told ↦ Some told | None ↦ option_and_then notice_of n.unit ]
 
+-- the node after it sent its next frame
 abbrev pub after_frame : NodeState → NodeState
 after_frame n = elim n.waiting [ Some told ↦ record n { waiting = None } | None ↦ record n { unit = option_map after_notice n.unit } ]

@@ -1,6 +1,8 @@
 -- Request packets and the packets that answer them (IEEE 1394-1995, transactions; retry code 01 and priority 0 are own).
 use Rattle.std.specs.Prelude.{◌≡◌, ℕ, ◌%◌, ◌^◌, ◌<◌, ◌≤◌, ◌==◌, IsTrue, IsSome, List, [], length, Option, Some, None, if◌then◌else◌}
 use Rattle.std.specs.Int.{to_be_bytes, w32}
+use Rattle.fw_base.specs.declared.label.Label.{Label}
+use Rattle.fw_base.specs.Labels.{label_code}
 use Rattle.fw_words.specs.Quadlet.{quadlet_at}
 use Rattle.fw_async.specs.Async.{AreBytes, is_lock_size}
 use Rattle.fw_async.specs.Reader.{Spells}
@@ -31,8 +33,8 @@ packet_of h (Asks.WriteBlock offset bytes) = WriteBlock h offset bytes
 packet_of h (Asks.Lock offset function bytes) = Lock h offset function bytes
 
 -- from one node of the local bus to another, under a transaction label
-abbrev pub request_head : ℕ → ℕ → ℕ → Head
-request_head from to label = record { destination = node_id to; tl = label; rt = 1; pri = 0; source = node_id from }
+abbrev pub request_head : ℕ → ℕ → Label → Head
+request_head from to label = record { destination = node_id to; tl = label_code label; rt = 1; pri = 0; source = node_id from }
 
 -- the packet that asks this has a spelling
 abbrev pub RequestFits : Request → Type 0
@@ -83,6 +85,7 @@ reply_in (ReadBlockReply h rcode bytes) = old_value rcode bytes
 reply_in (LockReply h rcode function bytes) = old_value rcode bytes
 reply_in _ = None
 
+-- the packet that answers what a packet asks, if anything
 abbrev pub response_with : Space → Packet → Option Request → Option Packet
 response_with s p None = None
 response_with s p (Some r) = response_to s.number p (answer_of s r).reply

@@ -13,6 +13,7 @@ use Rattle.fw_plug.specs.Plugs.{PlugWords, first_words, reset_words}
 use Rattle.fw_plug.specs.Plugs
 use Rattle.fw_node.specs.Space.{Space}
 
+-- what a node keeps: its plugs, the manager's registers where it is the resource manager, and its AV/C unit
 pub record NodeState : Type 0 where
   pub kind : DeviceKind
   pub device : ℕ
@@ -32,6 +33,7 @@ pub record NodeState : Type 0 where
 abbrev pub first_unit : DeviceKind → Option UnitState
 first_unit kind = if has_unit kind then Some (Units.first_state (output_plugs_of kind) (input_plugs_of kind)) else None
 
+-- a node before the first bus reset that has numbered it
 abbrev pub first_state : DeviceKind → ℕ → ℕ → Bool → NodeState
 first_state kind device rate withheld = record {
   kind = kind;
@@ -44,6 +46,7 @@ first_state kind device rate withheld = record {
   waiting = None;
 }
 
+-- the node after a bus reset that gave it this number, and made it the manager or not
 abbrev pub after_reset : ℕ → Bool → NodeState → NodeState
 after_reset number manager n = record n { number = Some number; plugs = reset_words n.plugs; manager = if manager then Some (initial_words n.withheld) else None; unit = option_map Units.after_reset n.unit; waiting = None }
 
@@ -51,6 +54,7 @@ after_reset number manager n = record n { number = Some number; plugs = reset_wo
 abbrev pub after_second : NodeState → NodeState
 after_second n = record n { plugs = Plugs.after_second n.plugs }
 
+-- the node after a request to its registers
 abbrev pub after_request : Option Request → NodeState → NodeState
 after_request None n = n
 after_request (Some r) n = record n { plugs = Plugs.words_after n.plugs r; manager = option_map (λ m. Manager.words_after m r) n.manager }

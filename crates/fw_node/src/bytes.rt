@@ -6,9 +6,12 @@ ghost use Rattle.fw_async.specs.Quadlets.{request_packet};
 ghost use Rattle.fw_async.specs.Reader.{Spells};
 ghost use Rattle.fw_async.specs.declared.packet.Packet.{Packet as AsyncPacket};
 ghost use Rattle.fw_base.specs.Devices.{has_link};
+ghost use Rattle.fw_csr.specs.Replies.{reply};
+ghost use Rattle.fw_csr.specs.Requests.{offset_of};
 ghost use Rattle.fw_tape.specs.Desks.{AnyVendorByte};
 ghost use Rattle.fw_node.specs.Fcp.{HasFollowed};
 ghost use Rattle.fw_node.specs.Packets.{IsAnswer, IsRequest, IsServed, request_in, requester};
+ghost use Rattle.fw_node.specs.Space.{register_at};
 ghost use Rattle.fw_node.specs.State.{after_request, space_of};
 
 use crate::Node;
@@ -18,7 +21,8 @@ use arrayvec::ArrayVec;
 use fw_async::{
     Packet, PacketRoom, QuadletRequest, quadlet_request_at, whole_packet, write_packet,
 };
-use fw_csr::Reply;
+use fw_csr::offset::{BUS_MANAGER_ID, CHANNELS_AVAILABLE_LO, LAST_PLUG_REGISTER, OMPR};
+use fw_csr::{QuadletAccess, Reply};
 use fw_tape::Desk;
 
 impl Node {
@@ -75,7 +79,7 @@ impl Node {
         ensures response { IsServed (space_of number now self.old) (request_packet asked.now) out.new result }
         ensures registers { self.new ≡ after_request (request_in (request_packet asked.now)) self.old }
     {
-        let reply = self.reply(number, now, &asked_of(asked));
+        let reply = self.access(number, now, &asked_of(asked));
         put_reply(number, asked, reply, out);
         reply
     }
@@ -91,5 +95,25 @@ impl Node {
         let reply = self.reply(number, now, &request_of(p));
         out.put(&response(number, p, reply));
         reply
+    }
+
+    /// As `reply`, of a request for a quadlet: where it is a swap, its eight bytes are not put together to be read again.
+    fn access(&mut self, number: u8, now: u64, a: &QuadletAccess) -> Reply
+        requires { number ≤ 62 }
+        ensures reply { result ≡ reply (register_at (space_of number now self.old) (offset_of a.now)) a.now }
+        ensures registers { self.new ≡ after_request (Some a.now) self.old }
+        ensures code { result.rcode ≤ 7 }
+    {
+        match a.offset() {
+            OMPR..=LAST_PLUG_REGISTER => self.plugs.access(a),
+            BUS_MANAGER_ID..=CHANNELS_AVAILABLE_LO => match &mut self.manager {
+                Some(manager) => manager.access(a),
+                None => Reply::address_error(),
+            },
+            offset => match self.core_register(number, now, offset) {
+                Some(register) => register.access(a),
+                None => Reply::address_error(),
+            },
+        }
     }
 }

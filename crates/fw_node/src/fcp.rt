@@ -13,17 +13,15 @@ ghost use Rattle.fw_node.specs.Lending.{LendsUnit};
 ghost use Rattle.fw_node.specs.Fcp.{command_bytes, IsSendable, HasFollowed, local_id, number_of, frame_head, frame_packet, next_frame, after_frame};
 
 use crate::Node;
-use crate::offset::{FCP_COMMAND, FCP_RESPONSE};
 use crate::response::RETRY_X;
 use fw_async::{Head, Packet};
 use fw_avc::Unit;
+use fw_base::Label;
 use fw_csr::Request;
+use fw_csr::offset::{FCP_COMMAND, FCP_RESPONSE};
 use fw_fcp::{Frame, GENERAL_INQUIRY, read_frame, write_frame};
 use fw_tape::{Desk, Tape};
 use fw_words::{Bytes512, Data, Quadlet, put_quadlet, quadlet_at};
-
-/// The transaction label of FCP responses and notices (own).
-const FRAME_LABEL: u8 = 1;
 
 /// The bytes of the longest frame, which fills a block.
 const LONGEST_FRAME: usize = 512;
@@ -132,7 +130,7 @@ pub(crate) fn frame_packet<'a>(
 {
     let head = Head {
         destination: local_id(to),
-        tl: FRAME_LABEL,
+        tl: Label::Script.code(),
         rt: RETRY_X,
         pri: 0,
         source: local_id(from),

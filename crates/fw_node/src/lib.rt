@@ -5,13 +5,13 @@ mod bytes;
 mod fcp;
 mod laws;
 mod node;
-mod offset;
 mod request;
 mod response;
 mod waiting;
+mod words;
 
 pub use laws::{nodes_answer_as_their_spaces, packets_carry_what_they_are_made_of};
 pub use node::Node;
-pub use offset::{cycle_time, node_id};
 pub use request::{put_request, request_packet};
 pub use response::reply_in;
+pub use words::{cycle_time, node_id};

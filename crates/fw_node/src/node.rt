@@ -11,15 +11,20 @@ ghost use Rattle.fw_node.specs.Space.{answer_of, register_at, core_register_at};
 ghost use Rattle.fw_node.specs.Streams.{talking_on};
 ghost use Rattle.fw_node.specs.State.{first_state, first_unit, after_reset, after_second, after_request, space_of};
 
-use crate::offset::*;
 use crate::request::{request_of, requester};
 use crate::response::response;
 use crate::waiting::Waiting;
+use crate::words::{COMPANY, NAME_1394, SPLIT_TIMEOUT, capabilities, cycle_time, node_ids};
 use fw_async::Packet;
 use fw_avc::Unit;
 use fw_base::DeviceKind;
-use fw_csr::{BUS_MANAGER_ID, CHANNELS_AVAILABLE_LO, Manager, Register, Reply, Request};
-use fw_plug::{OMPR, Plugs};
+use fw_csr::offset::{
+    BUS_MANAGER_ID, BUS_NAME, BUS_OPTIONS, CHANNELS_AVAILABLE_LO, CYCLE_TIME, EUI_64_HI, EUI_64_LO,
+    FCP_COMMAND, FCP_RESPONSE, LAST_PLUG_REGISTER, NODE_IDS, OMPR, SPLIT_TIMEOUT_HI,
+    SPLIT_TIMEOUT_LO,
+};
+use fw_csr::{Manager, Register, Reply, Request};
+use fw_plug::Plugs;
 use fw_tape::Desk;
 use std::marker::Model;
 
@@ -31,8 +36,8 @@ pub struct Node {
     /// Whether the bus withholds channel 31.
     withhold: bool,
     pub(crate) number: Option<u8>,
-    plugs: Plugs,
-    manager: Option<Manager>,
+    pub(crate) plugs: Plugs,
+    pub(crate) manager: Option<Manager>,
     pub(crate) unit: Option<Unit>,
     /// The response to the latest command frame, and the number of the node that it goes to.
     pub(crate) waiting: Waiting,
@@ -237,7 +242,7 @@ impl Node {
     }
 
     /// The register at an offset, of those that each node has.
-    fn core_register(&self, number: u8, now: u64, offset: u64) -> Option<Register>
+    pub(crate) fn core_register(&self, number: u8, now: u64, offset: u64) -> Option<Register>
         requires { number ≤ 62 }
         ensures { result ≡ core_register_at (space_of number now self.now) offset }
     {
@@ -247,9 +252,9 @@ impl Node {
             SPLIT_TIMEOUT_LO => Some(Register::ReadOnly(SPLIT_TIMEOUT)),
             CYCLE_TIME => Some(Register::ReadOnly(cycle_time(now))),
             BUS_NAME => Some(Register::ReadOnly(NAME_1394)),
-            CAPABILITIES => Some(Register::ReadOnly(capabilities(self.kind))),
-            EUI_64_HIGH => Some(Register::ReadOnly(COMPANY)),
-            EUI_64_LOW => Some(Register::ReadOnly(u32::from(self.device))),
+            BUS_OPTIONS => Some(Register::ReadOnly(capabilities(self.kind))),
+            EUI_64_HI => Some(Register::ReadOnly(COMPANY)),
+            EUI_64_LO => Some(Register::ReadOnly(u32::from(self.device))),
             FCP_COMMAND if self.kind.has_unit() => Some(Register::WriteOnly),
             FCP_RESPONSE => Some(Register::WriteOnly),
             _ => None,

@@ -1,20 +1,18 @@
 //! Requests, and the packets that ask them.
 
-ghost use Rattle.std.specs.Prelude.{◌≡◌, ◌≤◌, ◌<◌, ◌++◌, Some, IsSome, IfSome};
+ghost use Rattle.std.specs.Prelude.{◌≡◌, ◌≤◌, ◌++◌, Some, IsSome, IfSome};
 ghost use Rattle.std.specs.Int.{to_be_bytes, w32};
 ghost use Rattle.fw_async.specs.Async.{Fits, spelling};
 ghost use Rattle.fw_async.specs.Quadlets.{request_packet as quadlet_packet};
 ghost use Rattle.fw_csr.specs.Requests.{offset_of};
 ghost use Rattle.fw_node.specs.Packets.{request_in, requester, packet_of, request_head, RequestFits};
 
-use crate::offset::node_id;
 use crate::response::RETRY_X;
+use crate::words::node_id;
 use fw_async::{Head, Packet, PacketRoom, QuadletRequest, QuadletSwap};
+use fw_base::Label;
 use fw_csr::{QuadletAccess, Request, Swap};
-use fw_words::{Bytes, Bytes16, Data, Quadlet, put_quadlet};
-
-/// The extended_tcode of a compare_swap (IEEE 1394-1995, lock functions).
-const COMPARE_SWAP: u8 = 2;
+use fw_words::{Bytes, Bytes16, Data};
 
 /// What a request packet asks.
 pub fn request_of<'a>(p: &Packet<'a>) -> Request<'a>
@@ -78,12 +76,11 @@ fn copy_of(bytes: &Bytes16) -> Bytes16
     copy
 }
 
-/// The packet by which node `from` asks node `to` this, both of the local bus, under a transaction label of six bits.
+/// The packet by which node `from` asks node `to` this, both of the local bus, as a part of this.
 /// It has retry code 1, retry_X, and priority 0 (own).
-pub fn request_packet<'a>(from: u8, to: u8, label: u8, r: &Request<'a>) -> Packet<'a>
+pub fn request_packet<'a>(from: u8, to: u8, label: Label, r: &Request<'a>) -> Packet<'a>
     requires from { from ≤ 62 }
     requires to { to ≤ 62 }
-    requires label { label < 64 }
     ensures packet { result ≡ packet_of (request_head from to label) r.now }
     ensures fits { RequestFits r.now → Fits result }
 {
@@ -115,10 +112,9 @@ pub fn request_packet<'a>(from: u8, to: u8, label: u8, r: &Request<'a>) -> Packe
 
 /// The packet by which node `from` asks node `to` for a quadlet, as bytes, in place of what `out` held: `request_packet`.
 #[inline(always)]
-pub fn put_request(from: u8, to: u8, label: u8, r: &QuadletAccess, out: &mut PacketRoom)
+pub fn put_request(from: u8, to: u8, label: Label, r: &QuadletAccess, out: &mut PacketRoom)
     requires from { from ≤ 62 }
     requires to { to ≤ 62 }
-    requires label { label < 64 }
     requires fits { Fits (packet_of (request_head from to label) r.now) }
     ensures { out.new ≡ spelling (packet_of (request_head from to label) r.now) }
 {
@@ -134,34 +130,25 @@ pub fn put_request(from: u8, to: u8, label: u8, r: &QuadletAccess, out: &mut Pac
 }
 
 /// What the packet of a request of one quadlet asks.
-pub fn asked_of(q: &QuadletRequest) -> Request<'static>
+pub fn asked_of(q: &QuadletRequest) -> QuadletAccess
     ensures { request_in (quadlet_packet q.now) ≡ Some result }
 {
-    let offset = q.offset;
-    match q.swap {
-        None => Request::Read { offset },
-        Some(swap) => {
-            let mut bytes = Bytes16::new();
-            bytes.append(&put_quadlet(Quadlet(swap.argument)));
-            bytes.append(&put_quadlet(Quadlet(swap.new)));
-            Request::Lock {
-                offset,
-                function: COMPARE_SWAP,
-                bytes,
-            }
-        }
-    }
+    let swap = match q.swap {
+        None => None,
+        Some(QuadletSwap { argument, new }) => Some(Swap { argument, new }),
+    };
+    QuadletAccess::new(q.offset, swap)
 }
 
 /// From one node of the local bus to another, under a transaction label.
-fn request_head(from: u8, to: u8, label: u8) -> Head
+fn request_head(from: u8, to: u8, label: Label) -> Head
     requires from { from ≤ 62 }
     requires to { to ≤ 62 }
     ensures { result ≡ request_head from to label }
 {
     Head {
         destination: node_id(to),
-        tl: label,
+        tl: label.code(),
         rt: RETRY_X,
         pri: 0,
         source: node_id(from),

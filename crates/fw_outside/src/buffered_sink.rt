@@ -80,7 +80,7 @@ impl<W: Write> BufferedSink<W> {
         ensures kept { take self.new.length self.new.bytes ≡ take self.old.length self.old.bytes ++ take count row.now }
         ensures inner { self.new.inner ≡ self.old.inner }
     {
-        self.bytes[self.length..self.length + 48].copy_from_slice(row);
+        put_row(&mut self.bytes[self.length..self.length + 48], row);
         self.length += count;
     }
 
@@ -102,6 +102,19 @@ impl<W: Write> BufferedSink<W> {
         }
         self.keep(piece);
         Ok(())
+    }
+}
+
+// Puts a row in place of as many bytes. One array is moved over another, so that no test is made of whether they overlap.
+#[inline(always)]
+fn put_row(room: &mut [u8], row: &[u8; 48])
+    requires { length room.old ≡ 48 }
+    ensures bytes { room.new ≡ row.now }
+    ensures size { length room.new ≡ 48 }
+{
+    match room.as_mut_array::<48>() {
+        Some(room) => *room = *row,
+        None => unreachable!(),
     }
 }
 

@@ -2,6 +2,7 @@
 use Rattle.std.specs.Prelude.{ℕ, ◌+◌, ◌-◌, ◌*◌, ◌/◌, ◌^◌, ◌==◌, ◌&&◌, ◌||◌, nat_lt, Bool, false, List, [], ◌∷◌, length, slice_index, slice_index_or, slice_set, replicate, map, Option, Some, None, if◌then◌else◌}
 use Rattle.fw_words.specs.Quadlet.{field}
 use Rattle.fw_words.specs.Layout.{packed}
+use Rattle.fw_csr.specs.declared.offset.TheConstants.{OMPR, OPCR, IMPR, IPCR}
 use Rattle.fw_csr.specs.Requests.{offset_of}
 use Rattle.fw_csr.specs.Replies.{word_after}
 use Rattle.fw_csr.specs.declared.request.Request.{Request}
@@ -27,9 +28,11 @@ pub record RowWords : Type 0 where
   pub words : List ℕ
   pub lingering : List Bool
 
+-- the words of a row of plugs
 abbrev pub words_of : List Plug → List ℕ
 words_of plugs = map (λ (p : Plug). p.word) plugs
 
+-- which plugs of a row linger
 abbrev pub lingering_of : List Plug → List Bool
 lingering_of plugs = map (λ (p : Plug). p.lingers) plugs
 
@@ -37,9 +40,11 @@ lingering_of plugs = map (λ (p : Plug). p.lingers) plugs
 abbrev pub first_out_word : ℕ → ℕ
 first_out_word rate = packed ((1, 1) ∷ (1, 0) ∷ (6, 0) ∷ (2, 0) ∷ (6, 63) ∷ (2, rate) ∷ (4, 0) ∷ (10, 122) ∷ []) 0
 
+-- the word of an input plug at first: on-line, not connected, on channel 63
 abbrev pub first_in_word : ℕ
 first_in_word = packed ((1, 1) ∷ (1, 0) ∷ (6, 0) ∷ (2, 0) ∷ (6, 63) ∷ (16, 0) ∷ []) 0
 
+-- the plugs of a device at first: none is connected, and none lingers
 abbrev pub first_words : ℕ → ℕ → ℕ → PlugWords
 first_words outs ins rate = record { rate = rate; outputs = replicate outs (first_out_word rate); inputs = replicate ins first_in_word; lingering_outputs = replicate outs false; lingering_inputs = replicate ins false }
 
@@ -51,13 +56,15 @@ pub record PlugTable : Type 0 where
   pub output_word : ℕ → ℕ
   pub input_word : ℕ → ℕ
 
+-- the registers of a device's plugs, as requests see them
 abbrev pub table_of : PlugWords → PlugTable
 table_of p = record { rate = p.rate; outputs = length p.outputs; inputs = length p.inputs; output_word = slice_index p.outputs; input_word = slice_index p.inputs }
 
--- the master plug registers: data rate, broadcast channel base, two extension fields, reserved, and how many plugs there are
+-- the master plug register of the output plugs: data rate, broadcast channel base, extension fields, reserved, and how many plugs there are
 abbrev pub output_master : ℕ → ℕ → ℕ
 output_master rate plugs = packed ((2, rate) ∷ (6, 0x3F) ∷ (8, 0xFF) ∷ (8, 0xFF) ∷ (3, 0) ∷ (5, plugs) ∷ []) 0
 
+-- the master plug register of the input plugs: data rate, extension fields, reserved, and how many plugs there are
 abbrev pub input_master : ℕ → ℕ → ℕ
 input_master rate plugs = packed ((2, rate) ∷ (6, 0) ∷ (8, 0xFF) ∷ (8, 0xFF) ∷ (3, 0) ∷ (5, plugs) ∷ []) 0
 
@@ -70,17 +77,20 @@ abbrev pub plug_register : (ℕ → ℕ) → Option ℕ → Option Register
 plug_register word None = None
 plug_register word (Some n) = Some (ReadSwap (word n))
 
+-- the output plug whose oPCR stands at an offset
 abbrev pub output_at : ℕ → ℕ → Option ℕ
-output_at plugs offset = plug_at 0xFFFF_F000_0904 plugs offset
+output_at plugs offset = plug_at OPCR plugs offset
 
+-- the input plug whose iPCR stands at an offset
 abbrev pub input_at : ℕ → ℕ → Option ℕ
-input_at plugs offset = plug_at 0xFFFF_F000_0984 plugs offset
+input_at plugs offset = plug_at IPCR plugs offset
 
+-- the plug control register at an offset: oMPR, iMPR, an oPCR or an iPCR
 abbrev pub register_at : PlugTable → ℕ → Option Register
 register_at p offset =
-    if offset == 0xFFFF_F000_0900 then Some (ReadOnly (output_master p.rate p.outputs))
-    else if offset == 0xFFFF_F000_0980 then Some (ReadOnly (input_master p.rate p.inputs))
-    else if nat_lt offset 0xFFFF_F000_0980 then plug_register p.output_word (output_at p.outputs offset)
+    if offset == OMPR then Some (ReadOnly (output_master p.rate p.outputs))
+    else if offset == IMPR then Some (ReadOnly (input_master p.rate p.inputs))
+    else if nat_lt offset IMPR then plug_register p.output_word (output_at p.outputs offset)
     else plug_register p.input_word (input_at p.inputs offset)
 
 -- the words of a row after a request at one of them, or at none
@@ -94,6 +104,7 @@ lingering_after None r words lingering = lingering
 lingering_after (Some n) r words lingering =
     slice_set lingering n ((word_after (slice_index words n) r == slice_index words n) && slice_index_or lingering n false)
 
+-- the plugs of a device after a request
 abbrev pub words_after : PlugWords → Request → PlugWords
 words_after p r = record p {
   outputs = after_at (output_at (length p.outputs) (offset_of r)) r p.outputs;
@@ -106,9 +117,11 @@ words_after p r = record p {
 abbrev pub disconnected : ℕ → ℕ
 disconnected w = field w 0 0 * 2 ^ 31 + field w 8 31
 
+-- a plug after a bus reset: not connected, and lingering where it was active
 abbrev pub plug_after_reset : Plug → Plug
 plug_after_reset p = record { word = disconnected p.word; lingers = is_active p.word p.lingers }
 
+-- a plug after the reclaim second, when none lingers
 abbrev pub plug_after_second : Plug → Plug
 plug_after_second p = record p { lingers = false }
 

@@ -24,12 +24,15 @@ pub record OutFields : Type 0 where
   pub counter : ℕ
   pub settings : Settings
 
+-- a bit, by a fact
 abbrev pub flag : Bool → ℕ
 flag b = if b then 1 else 0
 
+-- the word of an oPCR with these fields
 abbrev pub out_word : OutFields → ℕ
 out_word f = 2 ^ 31 + flag f.broadcast * 2 ^ 30 + f.counter * 2 ^ 24 + f.settings.channel * 2 ^ 16 + f.settings.rate * 2 ^ 14 + f.settings.overhead * 2 ^ 10 + 122
 
+-- the fields of the word of an oPCR
 abbrev pub out_fields : ℕ → OutFields
 out_fields w = record {
   broadcast = field w 1 1 == 1;
@@ -43,9 +46,11 @@ pub record InFields : Type 0 where
   pub counter : ℕ
   pub channel : ℕ
 
+-- the word of an iPCR with these fields
 abbrev pub in_word : InFields → ℕ
 in_word f = 2 ^ 31 + flag f.broadcast * 2 ^ 30 + f.counter * 2 ^ 24 + f.channel * 2 ^ 16
 
+-- the fields of the word of an iPCR
 abbrev pub in_fields : ℕ → InFields
 in_fields w = record { broadcast = field w 1 1 == 1; counter = field w 2 7; channel = field w 10 15 }
 

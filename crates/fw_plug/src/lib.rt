@@ -10,6 +10,7 @@ mod row;
 mod word;
 
 pub use bandwidth::units;
+pub use fw_csr::offset::{IMPR, IPCR, OMPR, OPCR};
 pub use laws::{input_words_are_their_fields, output_words_are_their_fields};
-pub use plugs::{IMPR, IPCR, OMPR, OPCR, Plugs};
+pub use plugs::Plugs;
 pub use word::{InWord, OutWord};

@@ -6,18 +6,10 @@ ghost use Rattle.fw_plug.specs.Plugs.{first_words, table_of, register_at, output
 
 use crate::row::Row;
 use crate::{InWord, OutWord};
-use fw_csr::{REGISTER_SPACE, Register, Reply, Request};
+use fw_csr::offset::{IMPR, IPCR, OMPR, OPCR};
+use fw_csr::{QuadletAccess, Register, Reply, Request};
 use fw_words::with_field;
 use std::marker::Model;
-
-/// The output master plug register's offset.
-pub const OMPR: u64 = REGISTER_SPACE + 0x900;
-/// The offset of the first output plug control register; the others follow it, a quadlet each.
-pub const OPCR: u64 = REGISTER_SPACE + 0x904;
-/// The input master plug register's offset.
-pub const IMPR: u64 = REGISTER_SPACE + 0x980;
-/// The offset of the first input plug control register; the others follow it, a quadlet each.
-pub const IPCR: u64 = REGISTER_SPACE + 0x984;
 
 /// The plugs of a device: at most 31 output plugs and at most 31 input plugs, with their registers (IEC 61883-1, 7).
 #[derive(Drop)]
@@ -72,6 +64,19 @@ impl Plugs {
             IMPR => self.input_master().reply(r),
             offset if offset < IMPR => self.outputs.answer(OPCR, r),
             _ => self.inputs.answer(IPCR, r),
+        }
+    }
+
+    /// As `answer`, of a request for a quadlet.
+    pub fn access(&mut self, a: &QuadletAccess) -> Reply
+        ensures reply { result ≡ reply (register_at (table_of self.old) (offset_of a.now)) a.now }
+        ensures words { self.new ≡ words_after self.old a.now }
+    {
+        match a.offset() {
+            OMPR => self.output_master().access(a),
+            IMPR => self.input_master().access(a),
+            offset if offset < IMPR => self.outputs.access(OPCR, a),
+            _ => self.inputs.access(IPCR, a),
         }
     }
 

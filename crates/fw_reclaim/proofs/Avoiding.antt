@@ -227,9 +227,9 @@ all_avoid w v f each same own ch withheld e = subst (Avoids ch) (sym (each e)) (
 
 turn_away : (w v : World) (c now : ℕ) → TakesTurn w c now v → AvoidsWithheld w → AvoidsWithheld v
 turn_away w v c now t h = record {
-  controllers = one_avoids w v c (after_next now w.directory (w.controllers c)) t.becomes (go t.says).0
+  controllers = one_avoids w v c (after_next now w.directory (w.controllers c)) t.turn.becomes (go t.turn.says).0
       (λ ch withheld. turn_avoids ch now w.directory (w.controllers c) (not_last w.account.withheld ch withheld) (h.controllers ch withheld c)) h;
-  inputs = (go t.says).1;
+  inputs = (go t.turn.says).1;
 }
   where
     go : SendsRequest w c now v.account ⊎ SendsNothing w c now v.account → Same w v × InputsAvoid v.account
@@ -312,7 +312,7 @@ same_on : (w v : World) → Same w v → w.account.withheld ≡ true → v.accou
 same_on w v same on = same ∙ on
 
 pub stays_withheld : (w v : World) (x : Change) → CanReclaim w → Happens w x v → w.account.withheld ≡ true → v.account.withheld ≡ true
-stays_withheld w v (Turn c now) can t on = go t.says
+stays_withheld w v (Turn c now) can t on = go t.turn.says
   where
     go : SendsRequest w c now v.account ⊎ SendsNothing w c now v.account → v.account.withheld ≡ true
     go (inl x) = same_on w v (ap (λ (a : Account). a.withheld) x.account) on

@@ -89,7 +89,7 @@ outside v sound seated each over = fits_seats v.account (held_in v.controllers) 
 -- ---- in a second
 
 turn_less : (w v : World) (c now : ℕ) → CanReclaim w → TakesTurn w c now v → w.account.reclaiming ≡ true → NoMoreDue w v
-turn_less w v c now h t runs = one_less w v c (after_next now w.directory (w.controllers c)) t.becomes (λ side kind q. due_next w.account now w.directory (w.controllers c) side kind q runs (turn_meets w v c now h t))
+turn_less w v c now h t runs = one_less w v c (after_next now w.directory (w.controllers c)) t.turn.becomes (λ side kind q. due_next w.account now w.directory (w.controllers c) side kind q runs (turn_meets w v c now h t))
 
 -- the stage after the answer is on its course
 heard_course : (w v : World) (c : ℕ) (r : Reply) → (t : HearsAnswer w c r v) → v.account.reclaiming ≡ true → Restores v.account (after_hear (w.controllers c) r) → CourseFor t.job.purpose (slot_at (w.controllers c) t.job.slot) (hear_reply t.job t.stage r)
@@ -198,7 +198,7 @@ own_after w v c x b each = subst (λ y. Restores v.account y) b.new (each c)
 
 -- in a second
 pub inside : (w v : World) (x : Change) → CanReclaim w → Happens w x v → ((e : ℕ) → Restores v.account (v.controllers e)) → v.account.reclaiming ≡ true → Fits v.account (due_in v.controllers)
-inside w v (Turn c now) h t each runs = less_fits w v h (turn_orphans w c now v.account t.says) (turn_less w v c now h t (ran w.account v.account (turn_agrees w c now v.account t.says).reclaiming runs))
+inside w v (Turn c now) h t each runs = less_fits w v h (turn_orphans w c now v.account t.turn.says) (turn_less w v c now h t (ran w.account v.account (turn_agrees w c now v.account t.turn.says).reclaiming runs))
 inside w v (Answer c r) h t each runs = less_fits w v h (carried_orphans w v c r h t) (answer_less w v c r h t (ran w.account v.account ((ended_agrees (carried w c r v t) v.account c t.account).reclaiming ∙ (answer_leaves w v c r h t).reclaiming) runs) runs (own_after w v c (after_hear (w.controllers c) r) t.becomes each))
 inside w v (BusReset entry epoch lost) h t each runs = less_fits w v h (reset_orphans w v entry epoch lost t) (reset_less w v entry epoch lost h t)
 inside w v SecondOver h t each runs = absurd (grind (arith, ap (λ (a : Account). a.reclaiming) t.account, runs))

@@ -124,16 +124,16 @@ reached w v c now conn f t r = record {
 
 -- what a turn finds
 pub turn_meets : (w v : World) (c now : ℕ) → CanReclaim w → TakesTurn w c now v → MeetsTurn w.account now w.directory (w.controllers c)
-turn_meets w v c now h t = record { slots = x.slots; at_slot = x.at_slot; heard = t.heard; breaks = x.breaks; early = λ runs. grind (arith, nat_tests, t.told.second runs); reached = λ i conn f own. reached w v c now conn f t ((h.each c).restoring i conn f own); made = x.made; restores = h.each c }
+turn_meets w v c now h t = record { slots = x.slots; at_slot = x.at_slot; heard = t.turn.heard; breaks = x.breaks; early = λ runs. grind (arith, nat_tests, t.turn.told.second runs); reached = λ i conn f own. reached w v c now conn f t ((h.each c).restoring i conn f own); made = x.made; restores = h.each c }
   where
     x : Facts w.account c (w.controllers c)
     x = facts_in w c h
 
 turn_keeps : (w v : World) (c now : ℕ) → CanReclaim w → TakesTurn w c now v → (e : ℕ) → Restores v.account (v.controllers e)
-turn_keeps w v c now h t = one_changes w v c (after_next now w.directory (w.controllers c)) t.becomes (agreed w.account v.account (after_next now w.directory (w.controllers c)) agrees (restores_next w.account now w.directory (w.controllers c) (turn_meets w v c now h t))) (λ e ne. agreed w.account v.account (w.controllers e) agrees (h.each e))
+turn_keeps w v c now h t = one_changes w v c (after_next now w.directory (w.controllers c)) t.turn.becomes (agreed w.account v.account (after_next now w.directory (w.controllers c)) agrees (restores_next w.account now w.directory (w.controllers c) (turn_meets w v c now h t))) (λ e ne. agreed w.account v.account (w.controllers e) agrees (h.each e))
   where
     agrees : Agrees w.account v.account
-    agrees = turn_agrees w c now v.account t.says
+    agrees = turn_agrees w c now v.account t.turn.says
 
 -- ---- an answer
 

@@ -143,7 +143,7 @@ one_makes w v c x b own before e = go (cases_eq e c)
     go (inr ne) = subst (λ y. CurrentMakes y.current) (sym (b.others e ne)) (before e)
 
 pub makes_after : (w v : World) (x : Change) → CanReclaim w → Happens w x v → (e : ℕ) → CurrentMakes (v.controllers e).current
-makes_after w v (Turn c now) h t = one_makes w v c (after_next now w.directory (w.controllers c)) t.becomes (turn_makes now w.directory (w.controllers c) (h.makes c)) h.makes
+makes_after w v (Turn c now) h t = one_makes w v c (after_next now w.directory (w.controllers c)) t.turn.becomes (turn_makes now w.directory (w.controllers c) (h.makes c)) h.makes
 makes_after w v (Answer c r) h t = one_makes w v c (after_hear (w.controllers c) r) t.becomes (heard_makes (w.controllers c).current r (λ j s e. (facts_in w c h).stage j s (inr e)) (h.makes c)) h.makes
 makes_after w v (BusReset entry epoch lost) h t = λ e. subst (λ y. CurrentMakes y.current) (sym (t.each e)) (state_makes epoch (lost e) (w.controllers e) (h.makes e))
 makes_after w v SecondOver h t = λ e. subst (λ y. CurrentMakes y.current) (sym (t.each e)) (h.makes e)

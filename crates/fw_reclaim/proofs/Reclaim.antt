@@ -54,7 +54,7 @@ safe_break c k i conn f ne safe = go (break_fault c k)
 
 -- the second goes on
 runs_on : (w v : World) (x : Change) (c i : ℕ) → CanReclaim w → Happens w x v → IsHarmless c i x → w.account.reclaiming ≡ true → v.account.reclaiming ≡ true
-runs_on w v (Turn d now) c i h t ok runs = (turn_agrees w d now v.account t.says).reclaiming ∙ runs
+runs_on w v (Turn d now) c i h t ok runs = (turn_agrees w d now v.account t.turn.says).reclaiming ∙ runs
 runs_on w v (Answer d r) c i h t ok runs = (ended_agrees (carried w d r v t) v.account d t.account).reclaiming ∙ ((answer_leaves w v d r h t).reclaiming ∙ runs)
 runs_on w v (BusReset entry epoch lost) c i h t ok runs = ap (λ (a : Account). a.reclaiming) t.account ∙ begun_in_second w.account h.step.sound runs
 runs_on w v SecondOver c i h t ok runs = absurd ok
@@ -73,7 +73,7 @@ changed w v d c i after conn f b keeps safe = go (cases_eq c d)
     go (inr ne) = subst (λ z. IsSafe z i conn f) (sym (b.others c ne)) safe
 
 safe_after : (w v : World) (x : Change) (c i : ℕ) (conn : Connection) (f : Flow) → CanReclaim w → w.account.reclaiming ≡ true → Happens w x v → IsHarmless c i x → IsSafe (w.controllers c) i conn f → IsSafe (v.controllers c) i conn f
-safe_after w v (Turn d now) c i conn f h runs t ok safe = changed w v d c i (after_next now w.directory (w.controllers d)) conn f t.becomes (λ e s. safe_turn w.account now w.directory (w.controllers d) i conn f (record { runs = runs; meets = turn_meets w v d now h t; stage = (facts_in w d h).stage }) s) safe
+safe_after w v (Turn d now) c i conn f h runs t ok safe = changed w v d c i (after_next now w.directory (w.controllers d)) conn f t.turn.becomes (λ e s. safe_turn w.account now w.directory (w.controllers d) i conn f (record { runs = runs; meets = turn_meets w v d now h t; stage = (facts_in w d h).stage }) s) safe
 safe_after w v (Answer d r) c i conn f h runs t ok safe = changed w v d c i (after_hear (w.controllers d) r) conn f t.becomes (λ e s. safe_heard (w.controllers d) r i conn f s) safe
 safe_after w v (BusReset entry epoch lost) c i conn f h runs t ok safe = subst (λ z. IsSafe z i conn f) (sym (t.each c)) (safe_reset epoch (lost c) w.account (w.controllers c) i conn f (h.each c) (facts_in w c h).slots (facts_in w c h).at_slot safe)
 safe_after w v SecondOver c i conn f h runs t ok safe = absurd ok

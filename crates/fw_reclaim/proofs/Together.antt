@@ -12,12 +12,12 @@ use Rattle.fw_cmp.specs.Resets.{after_hear}
 use Rattle.fw_cmp.specs.Starts.{started, break_started}
 use Rattle.fw_cmp.specs.Turns.{after_next}
 use Rattle.std.specs.Prelude.{Ok}
-use Rattle.fw_step.specs.Together.{AreInStep, Happens as StepHappens, asks, rests, hears, given, resets, second, dies, withholds, connection, break}
+use Rattle.fw_step.specs.Together.{AreInStep, Happens as StepHappens, half_step, turns, hears, given, resets, second, dies, withholds, connection, break}
 use Rattle.fw_step.proofs.Together.{stay_in_step, first_step}
 use Rattle.fw_reclaim.specs.Due.{held_in, due_in}
 use Rattle.fw_reclaim.specs.Restores.{Restores}
 use Rattle.fw_reclaim.specs.Seats.{Side, Output, Input, AreSeated, most, orphaned_of, connections_at}
-use Rattle.fw_reclaim.specs.Worlds.{World, CanReclaim, IsUnused, SendsRequest, SendsNothing, TakesTurn, Change, Turn, Answer, BusReset, SecondOver, Death, NewConnection, BreakOf, Withholding, Elsewhere, Happens}
+use Rattle.fw_reclaim.specs.Worlds.{World, CanReclaim, IsUnused, Change, Turn, Answer, BusReset, SecondOver, Death, NewConnection, BreakOf, Withholding, Elsewhere, Happens}
 use Rattle.fw_reclaim.proofs.Events.{restores_first}
 use Rattle.fw_reclaim.proofs.Facts.{facts}
 use Rattle.fw_reclaim.proofs.Fitting.{fits_after}
@@ -25,21 +25,16 @@ use Rattle.fw_reclaim.proofs.Living.{restores_after}
 use Rattle.fw_reclaim.proofs.Making.{makes_after}
 use Rattle.fw_reclaim.proofs.Unused.{nothing_due, nothing_held, first_unused, reset_unused, second_unused, beyond_after}
 
--- the turn of a controller
-turn_happens : (w v : World) (c now : ℕ) (t : TakesTurn w c now v) → SendsRequest w c now v.account ⊎ SendsNothing w c now v.account → StepHappens w.directory v.directory w.account w.controllers v.account v.controllers
-turn_happens w v c now t (inl x) = asks c now x.request t.told t.heard x.outstanding x.account t.becomes t.directory
-turn_happens w v c now t (inr x) = rests c now t.told t.heard x.outstanding x.account t.becomes t.directory
-
 -- a change is one that keeps all controllers in step, or none
 happens : (w v : World) (x : Change) → Happens w x v → StepHappens w.directory v.directory w.account w.controllers v.account v.controllers ⊎ (v ≡ w)
-happens w v (Turn c now) t = inl (turn_happens w v c now t t.says)
-happens w v (Answer c r) t = inl (hears c t.job t.stage t.target r t.device t.current t.asked t.answer t.account t.becomes t.directory)
-happens w v (BusReset entry epoch lost) t = inl (resets entry epoch lost t.network (λ p e. t.grows.outputs p e) t.account t.each)
-happens w v SecondOver t = inl (second t.account t.each t.directory)
-happens w v (Death c) t = inl (dies c t.account t.becomes t.directory)
-happens w v (NewConnection c i slot) t = inl (given c (started (Ok i) slot (w.controllers c)) (connection i slot t.starts t.making t.fits refl) t.account t.becomes t.directory)
-happens w v (BreakOf c i) t = inl (given c (break_started (w.controllers c) i) (break i t.accepted refl) t.account t.becomes t.directory)
-happens w v Withholding t = inl (withholds t.first t.account t.each t.directory)
+happens w v (Turn c now) t = inl (half_step c now (turns t.turn))
+happens w v (Answer c r) t = inl (half_step c 0 (hears r t))
+happens w v (BusReset entry epoch lost) t = inl (resets entry epoch lost (record { network = t.network; grows = λ p e. t.grows.outputs p e; account = t.account; each = t.each }))
+happens w v SecondOver t = inl (second (record { account = t.account; each = t.each; directory = t.directory }))
+happens w v (Death c) t = inl (dies c (record { account = t.account; becomes = t.becomes; directory = t.directory }))
+happens w v (NewConnection c i slot) t = inl (given c (started (Ok i) slot (w.controllers c)) (record { given = connection i slot t.starts t.making t.fits refl; account = t.account; becomes = t.becomes; directory = t.directory }))
+happens w v (BreakOf c i) t = inl (given c (break_started (w.controllers c) i) (record { given = break i t.accepted refl; account = t.account; becomes = t.becomes; directory = t.directory }))
+happens w v Withholding t = inl (withholds (record { first = t.first; account = t.account; each = t.each; directory = t.directory }))
 happens w v Elsewhere t = inr t
 
 -- all controllers stay in step
@@ -52,7 +47,7 @@ in_step_after w v x h t = go (happens w v x t)
 
 -- the controllers beyond the devices stay as they are
 unused_after : (w v : World) (x : Change) → CanReclaim w → Happens w x v → (e : ℕ) → 63 ≤ e → IsUnused (v.controllers e)
-unused_after w v (Turn c now) h t = beyond_after w.controllers v.controllers c (after_next now w.directory (w.controllers c)) t.device t.becomes h.beyond
+unused_after w v (Turn c now) h t = beyond_after w.controllers v.controllers c (after_next now w.directory (w.controllers c)) t.device t.turn.becomes h.beyond
 unused_after w v (Answer c r) h t = beyond_after w.controllers v.controllers c (after_hear (w.controllers c) r) t.device t.becomes h.beyond
 unused_after w v (BusReset entry epoch lost) h t = λ e far. subst (λ x. IsUnused x) (sym (t.each e)) (reset_unused epoch (lost e) (w.controllers e) (h.beyond e far))
 unused_after w v SecondOver h t = λ e far. subst (λ x. IsUnused x) (sym (t.each e)) (second_unused (w.controllers e) (h.beyond e far))

@@ -40,6 +40,7 @@ StageAvoids ch _ = ⊤
 abbrev pub JobAvoids : ℕ → Job → Type 0
 JobAvoids ch j = IsTrue (is_listen j.connection) → channel_or j.asked 63 ≢ ch
 
+-- the current job asks for another channel, and its stage holds and joins none but others
 abbrev pub CurrentAvoids : ℕ → Current → Type 0
 CurrentAvoids ch Nothing = ⊤
 CurrentAvoids ch (Asking j s) = JobAvoids ch j × StageAvoids ch s

@@ -24,38 +24,47 @@ abbrev pub wanted_by : ControllerState → Side → ConnectionKind → PlugAt �
 wanted_by c Output = outputs_wanted c
 wanted_by c Input = inputs_wanted c
 
+-- the connections of a kind that a controller has at a plug, and those that are still to come back there
 abbrev pub due_to : ControllerState → Side → ConnectionKind → PlugAt → ℕ
 due_to c side kind q = held_by c side kind q + wanted_by c side kind q
 
 -- ---- of all controllers, by device
 
+-- the controllers of a bus, by device
 abbrev pub Controllers : Type 0
 Controllers = ℕ → ControllerState
 
+-- the connections that each controller has at a plug
 abbrev pub held_in : Controllers → Due
 held_in table c = held_by (table c)
 
+-- the connections that each controller has at a plug, and those that are still to come back there
 abbrev pub due_in : Controllers → Due
 due_in table c = due_to (table c)
 
 -- ---- of one slot
 
+-- a connection of this kind has this plug of a side
 abbrev pub has_plug : Side → Connection → ConnectionKind → PlugAt → Bool
 has_plug Output = has_output
 has_plug Input = has_input
 
+-- the job's connection stands at its plug of a side
 abbrev pub is_at : Side → Stage → Bool
 is_at Output = is_at_output
 is_at Input = is_at_input
 
+-- the connection of a slot stands, and has this plug of a side
 abbrev pub stands_at : Side → Slot → ConnectionKind → PlugAt → Bool
 stands_at Output = stands_at_output
 stands_at Input = stands_at_input
 
+-- a connection is to be restored at this plug of a side, while its slot's own second runs
 abbrev pub reclaims_at : Side → Slot → ConnectionKind → PlugAt → Bool
 reclaims_at Output = reclaims_output
 reclaims_at Input = reclaims_input
 
+-- the connection of a slot stands at its plug of a side already, as far as its current job has come
 abbrev pub is_back_at : Side → Current → ℕ → Bool
 is_back_at Output = is_back_at_output
 is_back_at Input = is_back_at_input

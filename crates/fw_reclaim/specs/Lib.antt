@@ -6,3 +6,4 @@ pub mod Worlds
 pub mod Whole
 pub mod Rooms
 pub mod Avoids
+pub mod Laws

@@ -17,11 +17,13 @@ is_making_stage conn (ReadOutputToLeave e ch u) = is_point_to_point conn
 is_making_stage conn (LeaveOutput e ch u arg) = is_point_to_point conn
 is_making_stage conn _ = true
 
+-- a job that makes a connection, or makes it again, is at one of those stages
 abbrev pub MakesFor : Purpose → Connection → Stage → Type 0
 MakesFor Make conn s = IsTrue (is_making_stage conn s)
 MakesFor Restore conn s = IsTrue (is_making_stage conn s)
 MakesFor Break conn s = ⊤
 
+-- so is the current job
 abbrev pub CurrentMakes : Current → Type 0
 CurrentMakes Nothing = ⊤
 CurrentMakes (Asking j s) = MakesFor j.purpose j.connection s

@@ -103,12 +103,14 @@ CourseFor Restore (Restoring conn f true) s = IsTrue (is_still s)
 CourseFor Restore _ s = ⊥
 CourseFor Break slot s = IsTrue (is_leaving s)
 
+-- the current job is for what its slot holds
 abbrev pub CurrentMatches : ControllerState → Current → Type 0
 CurrentMatches c Nothing = ⊤
 CurrentMatches c (Asking j s) = MatchesFor j.purpose j (slot_at c j.slot)
 CurrentMatches c (Hearing j s) = MatchesFor j.purpose j (slot_at c j.slot)
 CurrentMatches c (Overtaken i o) = ⊤
 
+-- the current job does what it may while a reclaim second runs
 abbrev pub CurrentCourse : ControllerState → Current → Type 0
 CurrentCourse c Nothing = ⊤
 CurrentCourse c (Asking j s) = CourseFor j.purpose (slot_at c j.slot) s
@@ -117,6 +119,7 @@ CurrentCourse c (Overtaken i o) = ⊤
 
 -- ---- a controller
 
+-- What a controller has to have for its connections to come back: their plugs are set to their flows, and its job is on its course.
 pub record Restores (l : Account) (c : ControllerState) : Type 0 where
   pub matches : CurrentMatches c c.current
   pub standing : (i : ℕ) (conn : Connection) (f : Flow) → slot_at c i ≡ Standing conn f → is_current_slot c.current i ≡ false → KeepsFlow l conn f

@@ -28,6 +28,7 @@ abbrev pub number_of : ConnectionKind → Connections → ℕ
 number_of PointToPoint s = counter s
 number_of Broadcast s = flag (is_there s.broadcast)
 
+-- the broadcast connection is one whose controller died
 abbrev pub is_dead : Option Owner → Bool
 is_dead None = false
 is_dead (Some (Of d)) = false

@@ -34,6 +34,7 @@ connection_in (Standing conn f) = Some conn
 connection_in (Restoring conn f over) = Some conn
 connection_in (Gone conn) = Some conn
 
+-- the connection of the slot stands
 abbrev pub is_standing : Slot → Bool
 is_standing (Standing conn f) = true
 is_standing _ = false
@@ -80,6 +81,7 @@ IsHarmless c i (Death d) = d ≢ c
 IsHarmless c i (BreakOf d k) = (d ≢ c) ⊎ (k ≢ i)
 IsHarmless c i _ = ⊤
 
+-- none of these changes takes the connection of the slot from the controller
 abbrev pub AreHarmless : ℕ → ℕ → List Change → Type 0
 AreHarmless c i [] = ⊤
 AreHarmless c i (x ∷ changes) = IsHarmless c i x × AreHarmless c i changes

@@ -3,31 +3,25 @@ use Rattle.std.specs.Prelude.{ℕ, ◌≡◌, ◌<◌, ◌≤◌, ◌⊎◌, Boo
 use Rattle.fw_base.specs.declared.plug.PlugAt.{PlugAt}
 use Rattle.fw_csr.specs.declared.reply.Reply.{Reply}
 use Rattle.fw_entry.specs.declared.entry.ResetEntry.{ResetEntry}
-use Rattle.fw_account.specs.Account.{Account, Request}
+use Rattle.fw_account.specs.Account.{Account}
 use Rattle.fw_account.specs.Events.{after_reset as account_reset, after_second as account_second, after_death, after_withholding}
 use Rattle.fw_entry.specs.Network.{IsNetwork}
 use Rattle.fw_account.specs.Network.{is_output, is_input}
-use Rattle.fw_account.specs.Packets.{asked, ended}
 use Rattle.fw_cmp.specs.declared.connection.Slot.{Slot}
 use Rattle.fw_cmp.specs.declared.connection.Slot.TheVariants.{Free}
 use Rattle.fw_cmp.specs.declared.current.Current.{Current}
 use Rattle.fw_cmp.specs.declared.current.Current.TheVariants.{Nothing, Asking, Hearing}
 use Rattle.fw_cmp.specs.declared.directory.Directory.{Directory}
 use Rattle.fw_cmp.specs.declared.job.Job.{Job}
-use Rattle.fw_cmp.specs.declared.request.Target.{Target}
 use Rattle.fw_cmp.specs.declared.stage.Stage.{Stage}
-use Rattle.fw_cmp.specs.Controllers.{ControllerState, first_state, slot_at, IsHeard}
+use Rattle.fw_cmp.specs.Controllers.{ControllerState, first_state, slot_at}
 use Rattle.fw_cmp.specs.Fits.{SlotFits}
 use Rattle.fw_cmp.specs.Nodes.{node_of}
-use Rattle.fw_cmp.specs.Requests.{target_of}
-use Rattle.fw_cmp.specs.Resets.{after_hear, state_reset, after_second}
+use Rattle.fw_cmp.specs.Resets.{state_reset, after_second}
 use Rattle.fw_cmp.specs.Starts.{IsMaking, start, started, break_fault, break_started}
-use Rattle.fw_cmp.specs.Turns.{after_next}
-use Rattle.fw_step.specs.Controllers.{IsDirectory}
-use Rattle.fw_step.specs.Moves.{carried_out}
-use Rattle.fw_step.specs.Registers.{IsAnswer, has_manager}
-use Rattle.fw_step.specs.Requests.{outstanding_of}
+use Rattle.fw_step.specs.Registers.{has_manager}
 use Rattle.fw_step.specs.Together.{AreInStep, Becomes}
+use Rattle.fw_step.specs.Together
 use Rattle.fw_reclaim.specs.Due.{Controllers, due_in}
 use Rattle.fw_reclaim.specs.Makings.{CurrentMakes}
 use Rattle.fw_reclaim.specs.Restores.{Restores}
@@ -51,6 +45,7 @@ pub record IsUnused (c : ControllerState) : Type 0 where
   pub free : (i : ℕ) → slot_at c i ≡ Free
   pub idle : c.current ≡ Nothing
 
+-- All that reclaiming rests on, of the account and all controllers.
 pub record CanReclaim (w : World) : Type 0 where
   pub step : AreInStep w.directory w.account w.controllers
   pub each : (c : ℕ) → Restores w.account (w.controllers c)
@@ -62,15 +57,12 @@ pub record CanReclaim (w : World) : Type 0 where
 -- ---- what happens
 
 -- a turn whose request goes out
-pub record SendsRequest (w : World) (c now : ℕ) (m : Account) : Type 0 where
-  pub request : Request
-  pub outstanding : outstanding_of w.directory (after_next now w.directory (w.controllers c)).current ≡ Some request
-  pub account : m ≡ asked c request w.account
+abbrev pub SendsRequest : World → ℕ → ℕ → Account → Type 0
+SendsRequest w c now m = Together.SendsRequest c now w.directory w.account w.controllers m
 
 -- a turn in which a job ends, or nothing is done
-pub record SendsNothing (w : World) (c now : ℕ) (m : Account) : Type 0 where
-  pub outstanding : outstanding_of w.directory (after_next now w.directory (w.controllers c)).current ≡ None
-  pub account : m ≡ w.account
+abbrev pub SendsNothing : World → ℕ → ℕ → Account → Type 0
+SendsNothing w c now m = Together.SendsNothing c now w.directory w.account w.controllers m
 
 -- the directory has the devices of the plugs on the bus, and the manager where there is one
 pub record ShowsBus (latest : Option ResetEntry) (d : Directory) : Type 0 where
@@ -78,28 +70,15 @@ pub record ShowsBus (latest : Option ResetEntry) (d : Directory) : Type 0 where
   pub inputs : (q : PlugAt) → is_input latest q ≡ true → IsSome (node_of d q.device)
   pub manager : has_manager latest ≡ true → IsSome d.manager
 
--- a controller with no request outstanding takes its turn
+-- the controller of a device takes its turn, with a directory that shows the bus
 pub record TakesTurn (w : World) (c now : ℕ) (v : World) : Type 0 where
   pub device : c < 63
-  pub heard : IsHeard (w.controllers c).current
-  pub told : IsDirectory w.account now w.directory
   pub shows : ShowsBus w.account.latest w.directory
-  pub says : SendsRequest w c now v.account ⊎ SendsNothing w c now v.account
-  pub becomes : Becomes w.controllers c (after_next now w.directory (w.controllers c)) v.controllers
-  pub directory : v.directory ≡ w.directory
+  pub turn : Together.TakesTurn c now w.directory v.directory w.account w.controllers v.account v.controllers
 
 -- its request is carried out, and it hears the answer
-pub record HearsAnswer (w : World) (c : ℕ) (r : Reply) (v : World) : Type 0 where
-  pub device : c < 63
-  pub job : Job
-  pub stage : Stage
-  pub current : (w.controllers c).current ≡ Hearing job stage
-  pub target : Target
-  pub asked : target_of job stage ≡ Some target
-  pub answer : IsAnswer w.account target r
-  pub account : v.account ≡ ended c (carried_out c job stage r w.account)
-  pub becomes : Becomes w.controllers c (after_hear (w.controllers c) r) v.controllers
-  pub directory : v.directory ≡ w.directory
+abbrev pub HearsAnswer : World → ℕ → Reply → World → Type 0
+HearsAnswer w c r v = Together.HearsAnswer c r w.directory v.directory w.account w.controllers v.account v.controllers
 
 -- the bus only grows
 pub record Grows (l : Account) (r : ResetEntry) : Type 0 where
@@ -121,6 +100,7 @@ pub record EndsSecond (w : World) (v : World) : Type 0 where
   pub each : (c : ℕ) → v.controllers c ≡ after_second (w.controllers c)
   pub directory : v.directory ≡ w.directory
 
+-- the controller of a device dies
 pub record Dies (w : World) (c : ℕ) (v : World) : Type 0 where
   pub device : c < 63
   pub account : v.account ≡ after_death c w.account
@@ -153,6 +133,7 @@ pub record AsksBreak (w : World) (c i : ℕ) (v : World) : Type 0 where
   pub becomes : Becomes w.controllers c (break_started (w.controllers c) i) v.controllers
   pub directory : v.directory ≡ w.directory
 
+-- what may happen to the account and the controllers
 pub data Change : Type 0 where
   Turn : (c now : ℕ) → Change
   Answer : (c : ℕ) → (r : Reply) → Change
@@ -164,6 +145,7 @@ pub data Change : Type 0 where
   Withholding : Change
   Elsewhere : Change  -- nothing of this changes
 
+-- the change leads from one world to another
 abbrev pub Happens : World → Change → World → Type 0
 Happens w (Turn c now) v = TakesTurn w c now v
 Happens w (Answer c r) v = HearsAnswer w c r v

@@ -1,5 +1,6 @@
 -- Which register stands at an offset (IEEE 1212; IEEE 1394-1995, 8.3.2; IEC 61883-1, 7 and 9).
 use Rattle.std.specs.Prelude.{ℕ, ◌+◌, ◌-◌, ◌*◌, ◌/◌, ◌%◌, ◌==◌, ◌&&◌, nat_le, nat_lt, List, [], ◌∷◌, Option, Some, None, if◌then◌else◌}
+use Rattle.fw_csr.specs.declared.offset.TheConstants.{REGISTER_SPACE}
 use Rattle.fw_registers.specs.declared.register.Register.{Register}
 use Rattle.fw_registers.specs.declared.register.Register.TheVariants.{StateClear, StateSet, NodeIds, ResetStart, SplitTimeoutHi, SplitTimeoutLo, CycleTime, BusTime, BusyTimeout, PriorityBudget, BusManagerId, BandwidthAvailable, ChannelsAvailableHi, ChannelsAvailableLo, MaintUtility, BroadcastChannel, BusName, BusOptions, Eui64Hi, Eui64Lo, ConfigRom, OutputMasterPlug, OutputPlug, InputMasterPlug, InputPlug, FcpCommand, FcpResponse, TopologyMap}
 use Rattle.fw_registers.specs.declared.place.Place.{Place}
@@ -11,6 +12,7 @@ pub record Row : Type 0 where
   pub quadlets : ℕ
   pub register : Register
 
+-- a row: a register from its first offset on
 abbrev pub row : ℕ → ℕ → Register → Row
 row first quadlets register = record { first = first; quadlets = quadlets; register = register }
 
@@ -41,7 +43,7 @@ index_in start quadlets offset =
 
 -- which quadlet of a row, whose place is counted from FFFF F000 0000 on, begins at an offset
 abbrev pub index_of : Row → ℕ → Option ℕ
-index_of r offset = index_in (0xFFFF_F000_0000 + r.first) r.quadlets offset
+index_of r offset = index_in (REGISTER_SPACE + r.first) r.quadlets offset
 
 -- the register with that index, or else another place
 abbrev pub named_or : Register → Option ℕ → Place → Place

@@ -58,12 +58,13 @@ unfoldable pub place_text : Place → List ℕ
 place_text (Named register index) = register_name register ++ (if is_row register then codes "[" ++ decimal index ++ codes "]" else [])
 place_text (Unnamed offset) = codes "offset " ++ hex 12 offset
 
--- the words for less and for more of an amount
+-- the word for an amount that falls in a register
 abbrev pub less : Amount → List ℕ
 less Units = codes "takes"
 less BroadcastConnections = codes "removes"
 less PointToPointConnections = codes "removes"
 
+-- the word for an amount that rises in a register
 abbrev pub more : Amount → List ℕ
 more Units = codes "gives back"
 more BroadcastConnections = codes "adds"
@@ -82,6 +83,7 @@ pub record Field : Type 0 where
   pub last : ℕ
   pub shown : Shown
 
+-- a field of a register, from its first bit to its last
 abbrev pub field_at : List ℕ → ℕ → ℕ → Shown → Field
 field_at label first last shown = record { label = label; first = first; last = last; shown = shown }
 
@@ -91,6 +93,7 @@ output_plug_fields = field_at (codes "on-line") 0 0 Decimal ∷ field_at (codes 
     ∷ field_at (codes "point-to-point") 2 7 (Counted PointToPointConnections) ∷ field_at (codes "channel") 10 15 Decimal
     ∷ field_at (codes "rate") 16 17 Rate ∷ field_at (codes "overhead_ID") 18 21 Decimal ∷ field_at (codes "payload") 22 31 Decimal ∷ []
 
+-- the fields of an iPCR
 abbrev pub input_plug_fields : List Field
 input_plug_fields = field_at (codes "on-line") 0 0 Decimal ∷ field_at (codes "broadcast") 1 1 (Counted BroadcastConnections)
     ∷ field_at (codes "point-to-point") 2 7 (Counted PointToPointConnections) ∷ field_at (codes "channel") 10 15 Decimal ∷ []

@@ -3,7 +3,6 @@
 
 mod channels;
 mod fields;
-mod offset;
 mod place;
 mod register;
 mod shown;

@@ -4,10 +4,8 @@ ghost use Rattle.std.specs.Prelude.{◌≡◌, ◌≤◌};
 ghost use Rattle.fw_registers.specs.declared.place.Place.{Place};
 ghost use Rattle.fw_registers.specs.Places.{place_of, place_among, core_rows, bus_rows, unit_rows, long_rows, index_in, single_or};
 
-use crate::offset::*;
 use crate::register::Register;
-use fw_csr::{BANDWIDTH_AVAILABLE, BUS_MANAGER_ID, CHANNELS_AVAILABLE_HI, CHANNELS_AVAILABLE_LO};
-use fw_plug::{IMPR, IPCR, OMPR, OPCR};
+use fw_csr::offset::*;
 
 /// What stands at an offset of 48 bits in the address space of a node.
 #[derive(Clone, Copy)]

@@ -18,6 +18,7 @@ pub enum Told {
 }
 
 // Appends a label behind a comma.
+#[inline(always)]
 fn put_label(text: &mut Vec<u8>, label: &str) -> Result<(), AllocError>
     ensures { OnOk result (text.new.items ≡ text.old.items ++ codes ", " ++ label.now ++ codes " ") }
 {
@@ -48,6 +49,7 @@ fn put_difference(text: &mut Vec<u8>, amount: Amount, old: u32, new: u32) -> Res
 }
 
 // Appends the change of a field's value.
+#[inline(never)]
 fn put_change(
     text: &mut Vec<u8>,
     pairs: &Pairs,
@@ -68,6 +70,7 @@ fn put_change(
 }
 
 // Appends what is told of a field: its label and its value, or how a swap changes it where it does.
+#[inline(always)]
 #[tactic(auto, unfolding(crate::specs::Words::told_field))]
 pub(crate) fn put_field(
     text: &mut Vec<u8>,

@@ -26,14 +26,13 @@ use Rattle.fw_cmp.specs.Requests.{target_of, swap_of}
 use Rattle.fw_step.specs.Controllers.{CurrentInStep, JobInStep, SlotInStep, IsToRestore}
 use Rattle.fw_step.specs.Moves.{carried_out, after_move, move_of}
 use Rattle.fw_step.specs.Registers.{succeeds}
-use Rattle.fw_step.specs.Together.{Happens}
-use Rattle.fw_step.specs.Together as together
+use Rattle.fw_step.specs.Together.{SendsRequest, SendsNothing, TakesHalfStep, turns, hears, half_step}
 use Rattle.fw_step.proofs.Together.{stay_in_step}
 use Rattle.fw_rounds.specs.Accounts.{OnlyLiving, words_of, situation_of, Hears}
 use Rattle.fw_rounds.specs.Distance.{has_begun}
 use Rattle.fw_rounds.specs.HalfSteps.{CurrentRestores}
 use Rattle.fw_rounds.specs.Rounds.{HalfStep, AccountSays, TakeHalfSteps, rounds, IsRound, AllRestore, AllReset, NoneToRestore, connections_to_restore}
-use Rattle.fw_rounds.specs.Settling.{HalfTurn, asks, rests, hears, Settles, CanSettle}
+use Rattle.fw_rounds.specs.Settling.{Settles, CanSettle}
 use Rattle.fw_rounds.proofs.Carried.{answer_is_half_step, next_is_half_step}
 use Rattle.fw_rounds.proofs.Enough.{enough_after_reset, all_restore_after_reset}
 use Rattle.fw_rounds.proofs.Knows.{account_says}
@@ -75,12 +74,15 @@ carried_stays k j s r l lt = go (succeeds (swap_of j s) r)
     go true = moved (move_of j s)
     go false = stays_same l
 
-turn_stays_account : (now : ℕ) (dir : Directory) (k : ℕ) (l n : Account) (at mid : ℕ → ControllerState) → k < 63 → HalfTurn now dir k l at n mid → Stays l n
-turn_stays_account now dir k l n at mid lt (asks request dr h o e b) = subst (λ (x : Account). Stays l x) (sym e) (record { latest = refl; reclaiming = refl; living = λ a. a })
-turn_stays_account now dir k l n at mid lt (rests dr h o e b) = subst (λ (x : Account). Stays l x) (sym e) (stays_same l)
-turn_stays_account now dir k l n at mid lt (hears j s t r c q a e b) =
-    let stay = carried_stays k j s r l lt in
-    subst (λ (x : Account). Stays l x) (sym e) (record { latest = stay.latest; reclaiming = stay.reclaiming; living = stay.living })
+turn_stays_account : (now : ℕ) (dir : Directory) (k : ℕ) (l n : Account) (at mid : ℕ → ControllerState) → k < 63 → TakesHalfStep k now dir dir l at n mid → Stays l n
+turn_stays_account now dir k l n at mid lt (turns t) = go t.says
+  where
+    go : SendsRequest k now dir l at n ⊎ SendsNothing k now dir l at n → Stays l n
+    go (inl says) = subst (λ (x : Account). Stays l x) (sym says.account) (record { latest = refl; reclaiming = refl; living = λ a. a })
+    go (inr says) = subst (λ (x : Account). Stays l x) (sym says.account) (stays_same l)
+turn_stays_account now dir k l n at mid lt (hears r t) =
+    let stay = carried_stays k t.job t.stage r l lt in
+    subst (λ (x : Account). Stays l x) (sym t.account) (record { latest = stay.latest; reclaiming = stay.reclaiming; living = stay.living })
 
 -- ---- the words of the registers
 
@@ -103,12 +105,6 @@ words_ended k l = fun_ext go
     go target.BandwidthAvailable = refl
 
 -- ---- a half step
-
--- it is one of those things that may happen
-happens : (now : ℕ) (dir : Directory) (k : ℕ) (l n : Account) (at mid : ℕ → ControllerState) → k < 63 → HalfTurn now dir k l at n mid → Happens dir dir l at n mid
-happens now dir k l n at mid lt (asks request dr h o e b) = together.asks k now request dr h o e b refl
-happens now dir k l n at mid lt (rests dr h o e b) = together.rests k now dr h o e b refl
-happens now dir k l n at mid lt (hears j s t r c q a e b) = together.hears k j s t r lt c q a e b refl
 
 pub record Goes (dir : Directory) (l : Account) (at : ℕ → ControllerState) : Type 0 where
   pub can : CanSettle dir l at
@@ -136,10 +132,14 @@ hears_there dir l at k j s t g lt c q = record { current = c; target = q; stands
     own : Owns (slot_at (at k) j.slot) j s
     own = owns (slot_at (at k) j.slot) j s restores.1
 
-turn_is : (now : ℕ) (dir : Directory) (k : ℕ) (l n : Account) (at mid : ℕ → ControllerState) → Goes dir l at → k < 63 → HalfTurn now dir k l at n mid → HalfStep now dir k (situation_of l at) (situation_of n mid)
-turn_is now dir k l n at mid g lt (asks request dr h o e b) = next_is_half_step now dir k l n at mid h (ap words_of e ∙ words_asked k request l) b
-turn_is now dir k l n at mid g lt (rests dr h o e b) = next_is_half_step now dir k l n at mid h (ap words_of e) b
-turn_is now dir k l n at mid g lt (hears j s t r c q a e b) = answer_is_half_step now dir k l n at mid j s t r (hears_there dir l at k j s t g lt c q) a (ap words_of e ∙ words_ended k (carried_out k j s r l)) b
+turn_is : (now : ℕ) (dir : Directory) (k : ℕ) (l n : Account) (at mid : ℕ → ControllerState) → Goes dir l at → k < 63 → TakesHalfStep k now dir dir l at n mid → HalfStep now dir k (situation_of l at) (situation_of n mid)
+turn_is now dir k l n at mid g lt (turns t) = next_is_half_step now dir k l n at mid t.heard (words t.says) t.becomes
+  where
+    words : SendsRequest k now dir l at n ⊎ SendsNothing k now dir l at n → words_of n ≡ words_of l
+    words (inl says) = ap words_of says.account ∙ words_asked k says.request l
+    words (inr says) = ap words_of says.account
+turn_is now dir k l n at mid g lt (hears r t) =
+    answer_is_half_step now dir k l n at mid t.job t.stage t.target r (hears_there dir l at k t.job t.stage t.target g lt t.current t.asked) t.answer (ap words_of t.account ∙ words_ended k (carried_out k t.job t.stage r l)) t.becomes
 
 -- each slot that is to be restored was so before
 slots_were : (now : ℕ) (dir : Directory) (k : ℕ) (l n : Account) (at mid : ℕ → ControllerState) → now < dir.over_at → AllRestore (situation_of l at) → k < 63 → HalfStep now dir k (situation_of l at) (situation_of n mid) → (e : ℕ) → SlotsStay (at e) (mid e)
@@ -149,10 +149,10 @@ slots_were now dir k l n at mid early r lt h e = go (cases_eq e k)
     go (inl same) = subst (λ (x : ℕ). SlotsStay (at x) (mid x)) (sym same) (subst (λ (x : ControllerState). SlotsStay (at k) x) (sym h.own) (turn_stays (words_of l) now dir (at k) (at k).current early (r k lt).no_break))
     go (inr ne) = subst (λ (x : ControllerState). SlotsStay (at e) x) (sym (h.others e ne)) (λ i is. refl)
 
-goes_on : (now : ℕ) (dir : Directory) (k : ℕ) (l n : Account) (at mid : ℕ → ControllerState) → now < dir.over_at → Goes dir l at → k < 63 → HalfTurn now dir k l at n mid → Goes dir n mid
+goes_on : (now : ℕ) (dir : Directory) (k : ℕ) (l n : Account) (at mid : ℕ → ControllerState) → now < dir.over_at → Goes dir l at → k < 63 → TakesHalfStep k now dir dir l at n mid → Goes dir n mid
 goes_on now dir k l n at mid early g lt t = record {
   can = record {
-    step = stay_in_step dir dir l n at mid g.can.step (happens now dir k l n at mid lt t);
+    step = stay_in_step dir dir l n at mid g.can.step (half_step k now t);
     second = kept.reclaiming ∙ g.can.second;
     living = kept.living g.can.living;
     inputs = inputs;

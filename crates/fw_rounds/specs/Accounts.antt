@@ -14,6 +14,7 @@ use Rattle.fw_step.specs.Controllers.{ControllerInStep}
 use Rattle.fw_step.specs.Registers.{register_at, stands}
 use Rattle.fw_rounds.specs.Rounds.{Situation}
 
+-- the words of the registers that controllers ask for, by the account
 abbrev pub words_of : Account → Target → ℕ
 words_of l t = word_of l (register_at t)
 

@@ -14,6 +14,7 @@ use Rattle.fw_cmp.specs.Stages.{hear}
 
 -- ---- registers that stand still: the word that each one shows
 
+-- the word that a register shows, 0 where there is none
 abbrev pub shown : (Target → ℕ) → Option Target → ℕ
 shown words None = 0
 shown words (Some t) = words t
@@ -41,6 +42,7 @@ abbrev pub is_success : Option Swap → ℕ → Bool
 is_success None v = false
 is_success (Some x) v = v == x.argument
 
+-- the stage's request is a compare_swap that succeeds
 abbrev pub succeeds : (Target → ℕ) → Job → Stage → Bool
 succeeds words j s = is_success (swap_of j s) (answer_of words j s)
 

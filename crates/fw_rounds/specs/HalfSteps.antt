@@ -64,12 +64,14 @@ IsWithin (suc n) words now d c = IsTrue (progresses words now d c) ⊎ IsWithin 
 abbrev pub of_job : Job → Stage → ℕ → ℕ
 of_job j s i = if restores j && (j.slot == i) then remaining s else whole
 
+-- what remains of the restoring of a slot, by the current job
 abbrev pub of_current : Current → ℕ → ℕ
 of_current Nothing i = whole
 of_current (Asking j s) i = of_job j s i
 of_current (Hearing j s) i = of_job j s i
 of_current (Overtaken k o) i = whole
 
+-- what remains of a slot: nothing where it is not to be restored
 abbrev pub of_slot : Current → ℕ → Slot → ℕ
 of_slot current i slot = if is_restoring slot then of_current current i else 0
 
@@ -84,6 +86,7 @@ abbrev pub IsRestoringOf : Slot → Job → Stage → Type 0
 IsRestoringOf (Restoring conn f over) j s = (j ≡ restoring_job j.slot conn f) × (IsTrue (has_begun s) → IsFalse over)
 IsRestoringOf _ j s = ⊥
 
+-- the current job restores what its slot holds, or makes no further request
 abbrev pub CurrentRestores : ControllerState → Current → Type 0
 CurrentRestores c Nothing = ⊤
 CurrentRestores c (Asking j s) = IsTrue (is_over j s) ⊎ IsRestoringOf (slot_at c j.slot) j s
@@ -97,9 +100,11 @@ pub record OnlyRestores (c : ControllerState) : Type 0 where
 
 -- ---- what the account says of a controller
 
+-- the words that a stage keeps are true of the channel and the output plug of its job
 abbrev pub JobKnows : (Target → ℕ) → Job → Stage → Type 0
 JobKnows words j s = HasPlug words j s × ((ch : ℕ) → j.asked ≡ Some ch → Keeps ch s)
 
+-- so are those of the current job
 abbrev pub CurrentKnows : (Target → ℕ) → Current → Type 0
 CurrentKnows words Nothing = ⊤
 CurrentKnows words (Asking j s) = JobKnows words j s

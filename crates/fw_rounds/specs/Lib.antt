@@ -5,3 +5,4 @@ pub mod Rounds
 pub mod Accounts
 pub mod Settling
 pub mod Table
+pub mod Laws

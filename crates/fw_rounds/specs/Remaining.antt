@@ -10,6 +10,7 @@ use Rattle.fw_cmp.specs.declared.stage.Stage.TheVariants.{Begin, ReadOutput, Rea
 abbrev pub whole : ℕ
 whole = 7
 
+-- what remains once all was given back: the outcome alone, or everything again
 abbrev pub remaining_then : Then → ℕ
 remaining_then (EndsAs e) = 1
 remaining_then Again = whole

@@ -57,6 +57,7 @@ IsRound ks s = (k : ℕ) → k < 63 → 0 < to_come (s.at k) → 0 < times k ks
 abbrev pub all_to_come : Situation → ℕ
 all_to_come s = sum_to 63 (λ k. to_come (s.at k))
 
+-- each controller has nothing but connections to restore
 abbrev pub AllRestore : Situation → Type 0
 AllRestore s = (k : ℕ) → k < 63 → OnlyRestores (s.at k)
 
@@ -64,6 +65,7 @@ AllRestore s = (k : ℕ) → k < 63 → OnlyRestores (s.at k)
 abbrev pub to_restore_of : ControllerState → ℕ
 to_restore_of c = sum_to 32 (λ i. flag (is_restoring (slot_at c i)))
 
+-- the connections that all controllers have to restore
 abbrev pub connections_to_restore : Situation → ℕ
 connections_to_restore s = sum_to 63 (λ k. to_restore_of (s.at k))
 
@@ -81,5 +83,6 @@ pub record WasReset (c : ControllerState) : Type 0 where
   pub stands : AsksWhatStands before.current
   pub is : c ≡ state_reset epoch lost before
 
+-- each controller is as a bus reset has left it
 abbrev pub AllReset : Situation → Type 0
 AllReset s = (k : ℕ) → k < 63 → WasReset (s.at k)

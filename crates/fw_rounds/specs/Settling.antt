@@ -1,42 +1,24 @@
 -- Half steps of controllers over the account, one after another, as rounds take them.
 use Rattle.std.specs.Prelude.{ℕ, ◌≡◌, ◌<◌, Bool, false, Some, None, List, [], ◌∷◌, IsTrue, IsSome}
 use Rattle.fw_base.specs.declared.plug.PlugAt.{PlugAt}
-use Rattle.fw_csr.specs.declared.reply.Reply.{Reply}
-use Rattle.fw_account.specs.Account.{Account, Request}
+use Rattle.fw_account.specs.Account.{Account}
 use Rattle.fw_account.specs.Network.{is_input}
-use Rattle.fw_account.specs.Packets.{asked, ended}
 use Rattle.fw_cmp.specs.declared.connection.Connection.{Connection}
 use Rattle.fw_cmp.specs.declared.connection.Flow.{Flow}
 use Rattle.fw_cmp.specs.declared.connection.Slot.TheVariants.{Restoring}
-use Rattle.fw_cmp.specs.declared.current.Current.TheVariants.{Hearing}
 use Rattle.fw_cmp.specs.declared.directory.Directory.{Directory}
-use Rattle.fw_cmp.specs.declared.job.Job.{Job}
-use Rattle.fw_cmp.specs.declared.request.Target.{Target}
-use Rattle.fw_cmp.specs.declared.stage.Stage.{Stage}
 use Rattle.fw_cmp.specs.Connections.{input_of}
-use Rattle.fw_cmp.specs.Controllers.{ControllerState, slot_at, IsHeard, Fits}
-use Rattle.fw_cmp.specs.Requests.{target_of}
-use Rattle.fw_cmp.specs.Resets.{after_hear, state_reset as controller_reset}
-use Rattle.fw_cmp.specs.Turns.{after_next, waiting_break}
-use Rattle.fw_step.specs.Moves.{carried_out}
-use Rattle.fw_step.specs.Registers.{IsAnswer}
-use Rattle.fw_step.specs.Together.{AreInStep, Becomes}
-use Rattle.fw_step.specs.Controllers.{IsDirectory}
-use Rattle.fw_step.specs.Requests.{outstanding_of}
+use Rattle.fw_cmp.specs.Controllers.{ControllerState, slot_at, Fits}
+use Rattle.fw_cmp.specs.Resets.{state_reset as controller_reset}
+use Rattle.fw_cmp.specs.Turns.{waiting_break}
+use Rattle.fw_step.specs.Together.{AreInStep, TakesHalfStep}
 use Rattle.fw_rounds.specs.Accounts.{OnlyLiving}
 use Rattle.fw_rounds.specs.HalfSteps.{AsksWhatStands}
-
--- A half step of controller k, as one of those things that may happen to controllers in step: its request goes out, its job ends
--- or it does nothing, or it hears the answer to its request.
-pub data HalfTurn (now : ℕ) (dir : Directory) (k : ℕ) (l : Account) (before : ℕ → ControllerState) (m : Account) (after : ℕ → ControllerState) : Type 0 where
-  asks : (request : Request) → IsDirectory l now dir → IsHeard (before k).current → outstanding_of dir (after_next now dir (before k)).current ≡ Some request → m ≡ asked k request l → Becomes before k (after_next now dir (before k)) after → HalfTurn now dir k l before m after
-  rests : IsDirectory l now dir → IsHeard (before k).current → outstanding_of dir (after_next now dir (before k)).current ≡ None → m ≡ l → Becomes before k (after_next now dir (before k)) after → HalfTurn now dir k l before m after
-  hears : (j : Job) (s : Stage) (t : Target) (r : Reply) → (before k).current ≡ Hearing j s → target_of j s ≡ Some t → IsAnswer l t r → m ≡ ended k (carried_out k j s r l) → Becomes before k (after_hear (before k) r) after → HalfTurn now dir k l before m after
 
 -- half steps of these controllers, one after another
 unfoldable pub Settles : ℕ → Directory → List ℕ → Account → (ℕ → ControllerState) → Account → (ℕ → ControllerState) → Type 0
 Settles now dir [] l at m after = (l ≡ m) × (at ≡ after)
-Settles now dir (k ∷ ks) l at m after = (k < 63) × ((n : Account) × (mid : ℕ → ControllerState) × HalfTurn now dir k l at n mid × Settles now dir ks n mid m after)
+Settles now dir (k ∷ ks) l at m after = (k < 63) × ((n : Account) × (mid : ℕ → ControllerState) × TakesHalfStep k now dir dir l at n mid × Settles now dir ks n mid m after)
 
 -- the input plugs of what the controllers are to restore, in the slots' own second, are on the bus
 abbrev pub InputsThere : Account → (ℕ → ControllerState) → Type 0

@@ -53,21 +53,25 @@ turn_change s d g x heard = go (turns s d x.number x.entry g x.is x.shows x.link
     go : Turns s d → TakesTurn (world_of s) d s.clock.cycle (world_of (taken s d (asks s d)))
     go (sends request out leads) = subst Leads_ (sym leads) (record {
       device = linked_small s x.entry d x.number x.shows.1 x.linked;
-      heard = heard;
-      told = told s x.entry x.is x.shows.1 g.time.second;
       shows = shows_bus s x.entry x.is x.shows.1;
-      says = inl (record { request = request; outstanding = out; account = refl });
-      becomes = becomes s.controllers d (after_next s.clock.cycle (directory_of s) (s.controllers d));
-      directory = refl;
+      turn = record {
+        heard = heard;
+        told = told s x.entry x.is x.shows.1 g.time.second;
+        says = inl (record { request = request; outstanding = out; account = refl });
+        becomes = becomes s.controllers d (after_next s.clock.cycle (directory_of s) (s.controllers d));
+        directory = refl;
+      };
     })
     go (rests out leads) = subst Leads_ (sym leads) (record {
       device = linked_small s x.entry d x.number x.shows.1 x.linked;
-      heard = heard;
-      told = told s x.entry x.is x.shows.1 g.time.second;
       shows = shows_bus s x.entry x.is x.shows.1;
-      says = inr (record { outstanding = out; account = refl });
-      becomes = becomes s.controllers d (after_next s.clock.cycle (directory_of s) (s.controllers d));
-      directory = refl;
+      turn = record {
+        heard = heard;
+        told = told s x.entry x.is x.shows.1 g.time.second;
+        says = inr (record { outstanding = out; account = refl });
+        becomes = becomes s.controllers d (after_next s.clock.cycle (directory_of s) (s.controllers d));
+        directory = refl;
+      };
     })
 
 answer_change : (s : State) (d : ℕ) (j : Job) (stage : Stage) → IsGood s → (s.controllers d).current ≡ Hearing j stage → (x : Heard s d j stage) → (h : HalfHears s d j stage x) → HearsAnswer (world_of s) d (reply_heard s d j stage x) (world_of (after_half s d))

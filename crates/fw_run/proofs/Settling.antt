@@ -25,11 +25,11 @@ use Rattle.fw_cmp.specs.Turns.{next, after_next, is_busy, waiting_break, is_brea
 use Rattle.fw_cmp.proofs.Resting.{idle_means, waiting_means}
 use Rattle.fw_rounds.specs.Accounts.{situation_of}
 use Rattle.fw_rounds.specs.Rounds.{rounds, times, IsRound, NoneToRestore, AllReset}
-use Rattle.fw_rounds.specs.Settling.{HalfTurn, asks as turn_asks, rests as turn_rests, hears as turn_hears, Settles, CanSettle, InputsThere}
+use Rattle.fw_rounds.specs.Settling.{Settles, CanSettle, InputsThere}
 use Rattle.fw_rounds.specs.Settling as Rounding
 use Rattle.fw_rounds.specs.HalfSteps.{to_come}
 use Rattle.fw_rounds.proofs.Resets.{first_has_none}
-use Rattle.fw_step.specs.Together.{AreInStep}
+use Rattle.fw_step.specs.Together.{AreInStep, SendsRequest, SendsNothing, TakesTurn, TakesHalfStep, turns as takes_turn, hears as hears_answer}
 use Rattle.fw_rounds.proofs.Beginning.{can_settle, all_reset}
 use Rattle.fw_rounds.proofs.Settling.{settle_restores}
 use Rattle.fw_run.specs.declared.order.Order.TheVariants.{Settle}
@@ -58,7 +58,7 @@ use Rattle.fw_run.proofs.Taking.{Taken, listens, keeps_deaf, forces_reset, taken
 -- ---- a half step
 
 abbrev pub HalfTurns : State → ℕ → State → Type 0
-HalfTurns s d t = HalfTurn s.clock.cycle (directory_of s) d s.account s.controllers t.account t.controllers
+HalfTurns s d t = TakesHalfStep d s.clock.cycle (directory_of s) (directory_of s) s.account s.controllers t.account t.controllers
 
 -- the bus stays as it is
 pub record Stays (s t : State) : Type 0 where
@@ -72,13 +72,25 @@ pub record Stays (s t : State) : Type 0 where
 turn_half : (s : State) (d : ℕ) → IsGood s → (x : IsLinked s d) → IsHeard (s.controllers d).current → HalfTurns s d (taken s d (asks s d)) × Stays s (taken s d (asks s d))
 turn_half s d g x heard = go (turns s d x.number x.entry g x.is x.shows x.linked heard)
   where
-    go : Turns s d → HalfTurn s.clock.cycle (directory_of s) d s.account s.controllers (taken s d (asks s d)).account (taken s d (asks s d)).controllers × Stays s (taken s d (asks s d))
+    after : State
+    after = taken s d (asks s d)
+
+    turn_of : SendsRequest d s.clock.cycle (directory_of s) s.account s.controllers after.account ⊎ SendsNothing d s.clock.cycle (directory_of s) s.account s.controllers after.account → TakesTurn d s.clock.cycle (directory_of s) (directory_of s) s.account s.controllers after.account after.controllers
+    turn_of says = record {
+      told = told s x.entry x.is x.shows.1 g.time.second;
+      heard = heard;
+      says = says;
+      becomes = becomes s.controllers d (after_next s.clock.cycle (directory_of s) (s.controllers d));
+      directory = refl;
+    }
+
+    go : Turns s d → HalfTurns s d (taken s d (asks s d)) × Stays s (taken s d (asks s d))
     go (sends request out leads) = (
-      turn_asks request (told s x.entry x.is x.shows.1 g.time.second) heard out leads (becomes s.controllers d (after_next s.clock.cycle (directory_of s) (s.controllers d))),
+      takes_turn (turn_of (inl (record { request = request; outstanding = out; account = leads }))),
       record { latest = ap (λ (l : Account). l.latest) leads; reclaiming = ap (λ (l : Account). l.reclaiming) leads; clock = refl; dead = refl; declared = refl; lost = refl },
     )
     go (rests out leads) = (
-      turn_rests (told s x.entry x.is x.shows.1 g.time.second) heard out leads (becomes s.controllers d (after_next s.clock.cycle (directory_of s) (s.controllers d))),
+      takes_turn (turn_of (inr (record { outstanding = out; account = leads }))),
       record { latest = ap (λ (l : Account). l.latest) leads; reclaiming = ap (λ (l : Account). l.reclaiming) leads; clock = refl; dead = refl; declared = refl; lost = refl },
     )
 
@@ -86,7 +98,7 @@ pub half_turn : (s : State) (d : ℕ) → IsGood s → IsTrue (is_living s d) �
 half_turn s d g lives = go (s.controllers d).current refl
   where
     Both : State → Type 0
-    Both t = HalfTurn s.clock.cycle (directory_of s) d s.account s.controllers t.account t.controllers × Stays s t
+    Both t = HalfTurns s d t × Stays s t
 
     rests_ : (c : Current) → (s.controllers d).current ≡ c → IsHeard c → half_of s d c ≡ asks s d → Both (after_half s d)
     rests_ c e heard is = subst (λ x. Both (taken s d (half_of s d x))) (sym e) (subst (λ y. Both (taken s d y)) (sym is) (turn_half s d g (linked_of s d g (living_linked s d lives)) (subst IsHeard (sym e) heard)))
@@ -102,7 +114,7 @@ half_turn s d g lives = go (s.controllers d).current refl
         let account = ap (λ o. unwrap_or o s.account) h.leads in
         let bus = carried_bus d j stage r s.account in
         subst (λ y. Both (taken s d y)) (sym h.half_is) (
-          turn_hears j stage x.target r e x.asked h.answer account (becomes s.controllers d (after_hear (s.controllers d) r)),
+          hears_answer r (record { device = living_small s d g lives; job = j; stage = stage; current = e; target = x.target; asked = x.asked; answer = h.answer; account = account; becomes = becomes s.controllers d (after_hear (s.controllers d) r); directory = refl }),
           record { latest = ap (λ (l : Account). l.latest) account ∙ bus.0; reclaiming = ap (λ (l : Account). l.reclaiming) account ∙ bus.1; clock = refl; dead = refl; declared = refl; lost = refl },
         )
 

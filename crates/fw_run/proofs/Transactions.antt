@@ -36,7 +36,7 @@ linked_number_of s d g on =
     let number : number_in s.account.latest d ≡ Some x.number = ap (λ o. number_in o d) x.is ∙ linked_number_is x.entry d x.number x.linked in
     number_of_on s.account.latest d (ap is_some number)
 
--- ---- packets with label 1 are no packets of the account
+-- ---- packets of the script are no packets of the account
 
 asked_next : (l : Account) (to from : ℕ) (a : Access) → next_account l (Async (packet_of (script_head to from) (access_request a))) ≡ Some l
 asked_next l to from (Read offset) = refl

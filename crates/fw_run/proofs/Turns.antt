@@ -121,12 +121,14 @@ turned_good s d n e a o g lives quiet is h number heard says = record {
   latest = latest_turned s d a o e is h;
   reclaims = goes_on_reclaiming (world_of s) (world_of (turned s d a o)) (Turn d s.clock.cycle) g.reclaims (record {
     device = linked_small s e d n h.1 number;
-    heard = heard;
-    told = told s e is h.1 g.time.second;
     shows = shows_bus s e is h.1;
-    says = says;
-    becomes = becomes s.controllers d (after_next s.clock.cycle (directory_of s) (s.controllers d));
-    directory = refl;
+    turn = record {
+      heard = heard;
+      told = told s e is h.1 g.time.second;
+      says = says;
+      becomes = becomes s.controllers d (after_next s.clock.cycle (directory_of s) (s.controllers d));
+      directory = refl;
+    };
   });
   stands = each_of (λ c. AsksWhatStands c.current) s.controllers d (after_next s.clock.cycle (directory_of s) (s.controllers d)) (next_stands s.clock.cycle (directory_of s) (s.controllers d) heard) g.stands;
   unused = λ k off. unused k off (cases_eq k d);

@@ -45,6 +45,7 @@ use Rattle.fw_node.specs.Packets.{packet_of, RequestFits}
 use Rattle.fw_run.specs.Spaces.{answer_packet, transaction_head, target_node, access_request, read_at, bus_manager_id_after}
 use Rattle.fw_run.specs.HalfSteps.{half, has_request, with_controller, after_half, is_waiting, is_unsettled}
 
+-- what may be done in a run, one thing after another; each writes one entry at most
 pub data Action : Type 0 where
   Withhold : Action  -- the bus withholds channel 31 from now on
   AddDevice : (name : List ℕ) → (kind : DeviceKind) → (ports speed : ℕ) → Action
@@ -128,6 +129,7 @@ Joins false true a b s out t = Begins s b out t
 Joins true true a b s out t = (out ≡ []) × (t ≡ s)
 Joins false false a b s out t = (out ≡ []) × (t ≡ s)
 
+-- the state with other devices and cables
 abbrev pub with_topology : State → Topology → State
 with_topology s g = record s { declared = record s.declared { topology = g } }
 
@@ -155,9 +157,11 @@ with_connection s d w = with_controller s d (given (start_of d w (s.controllers 
 abbrev pub with_new_controller : State → ℕ → Bool → State
 with_new_controller s d is_dead = record s { controllers = update s.controllers d new_controller; asked_at = update s.asked_at d 0; lost = update s.lost d None; dead = update s.dead d is_dead }
 
+-- the state after the controller of a device died
 abbrev pub after_death : State → ℕ → State
 after_death s d = record (with_new_controller s d true) { account = entered s.account (died d); streams = while_talking (entered s.account (died d)) s.streams; election = with_candidate s.election d None }
 
+-- the state after the controller of a device was started again
 abbrev pub after_start : State → ℕ → State
 after_start s d = record (with_new_controller s d false) { account = entered s.account (started d) }
 

@@ -32,6 +32,7 @@ ArePackets s (p ∷ plugs) out =
 
 -- ---- what is left of cycles that are written can be written
 
+-- each of these output plugs talks
 abbrev pub AllTalk : State → List PlugAt → Type 0
 AllTalk s [] = ⊤
 AllTalk s (p ∷ plugs) = IsTrue (talks s.account p) × AllTalk s plugs
@@ -48,6 +49,7 @@ pub record MayWrite (n : ℕ) (s : State) : Type 0 where
   pub cycle : s.clock.cycle + n ≤ 2 ^ 52
   pub few : IsTrue (is_some s.account.latest) → s.written + n ≤ 8000
 
+-- so many cycles can be written from this state on
 pub record CanWriteCycles (n : ℕ) (s : State) : Type 0 where
   pub actions : List Action
   pub out : List Timed

@@ -12,6 +12,7 @@ use Rattle.fw_avc.specs.State.{UnitState}
 use Rattle.fw_avc.specs.Replies.{unit_after}
 use Rattle.fw_avc.specs.Notices.{notice_of, after_notice}
 
+-- the AV/C unit of a device, and the response that it is to send
 pub record DeckState : Type 0 where
   pub unit : UnitState
   -- the response to the latest command frame, and the number of the node that it goes to
@@ -27,6 +28,7 @@ first_deck = record { unit = Units.first_state (output_plugs_of Deck) (input_plu
 abbrev pub next_frame : DeckState → Option (ℕ × Frame)
 next_frame k = elim k.waiting [ Some told ↦ Some told | None ↦ notice_of k.unit ]
 
+-- the deck after it sent its next frame
 abbrev pub after_frame : DeckState → DeckState
 after_frame k = elim k.waiting [ Some told ↦ record k { waiting = None } | None ↦ record k { unit = after_notice k.unit } ]
 

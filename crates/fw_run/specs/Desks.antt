@@ -11,6 +11,7 @@ pub record DeskRelations : Type 1 where
 abbrev pub AnyVendor : VendorRelation
 AnyVendor company byte made = ⊤
 
+-- a tape may have any bytes in a block
 abbrev pub AnyBlocks : BlockRelation
 AnyBlocks tape frame block bytes = ⊤
 

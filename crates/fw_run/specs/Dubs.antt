@@ -4,11 +4,13 @@ use Rattle.fw_base.specs.declared.plug.PlugAt.{PlugAt}
 use Rattle.fw_account.specs.Account.{Account, has_connection}
 use Rattle.fw_account.specs.Words.{InputPlug, word_of}
 
+-- what a run keeps of a recording
 pub record Dub : Type 0 where
   pub tied : Option ℕ  -- the device whose recording goes onto the reel; none before the first `dub`
   pub lingers : PlugAt → Bool  -- input plugs that go on hearing since a bus reset, with no connection
   pub reel : List (List ℕ)  -- the blocks that were kept since the latest `dub`
 
+-- no device is tied, no plug goes on hearing, and the reel is empty
 abbrev pub no_dub : Dub
 no_dub = record { tied = None; lingers = λ q. false; reel = [] }
 

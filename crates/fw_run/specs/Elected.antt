@@ -2,6 +2,8 @@
 use Rattle.std.specs.Prelude.{ℕ, ◌≡◌, ◌≢◌, ◌==◌, ◌≤◌, ◌<◌, List, [], ◌∷◌, ◌++◌, Option, Some, None, is_some, if◌then◌else◌, IsTrue, IsFalse, ⊤}
 use Rattle.fw_async.specs.declared.packet.Packet.{Packet}
 use Rattle.fw_async.specs.declared.packet.Packet.TheVariants.{WriteQuadlet, WriteBlock, WriteReply, ReadQuadlet, ReadBlock, ReadQuadletReply, ReadBlockReply, CycleStart, Lock, LockReply}
+use Rattle.fw_base.specs.declared.label.Label.TheVariants.{BusManager}
+use Rattle.fw_base.specs.Labels.{label_code}
 use Rattle.fw_base.specs.Tables.{update}
 use Rattle.fw_entry.specs.declared.entry.Entry.{Entry}
 use Rattle.fw_entry.specs.declared.entry.Entry.TheVariants.{Reset, Async, Iso, Event, Outcome, Shown, End}
@@ -20,9 +22,9 @@ use Rattle.fw_run.specs.State.{State, first_state, epoch_of, linked_number, is_l
 
 -- ---- by entries
 
--- the answer to a bid, a lock response with label 2: the node ID that it is sent to, and the old word that it shows
+-- the answer to a bid, a lock response with its label: the node ID that it is sent to, and the old word that it shows
 abbrev pub bid_answer : Packet → Option (ℕ × ℕ)
-bid_answer (LockReply h rcode function bytes) = if h.tl == 2 then Some (h.destination, quadlet_at bytes 0) else None
+bid_answer (LockReply h rcode function bytes) = if h.tl == label_code BusManager then Some (h.destination, quadlet_at bytes 0) else None
 bid_answer (WriteQuadlet h offset value) = None
 bid_answer (WriteBlock h offset bytes) = None
 bid_answer (WriteReply h rcode) = None
@@ -40,17 +42,21 @@ pub record Answers : Type 0 where
   pub winner : Option ℕ
   pub heard : ℕ → Option ℕ
 
+-- no bid is answered yet since this bus reset
 abbrev pub no_answers : Option ResetEntry → Answers
 no_answers reset = record { reset = reset; winner = None; heard = λ id. None }
 
+-- the winner stays; where there is none yet, it is who was shown 3F, the word for no bus manager
 abbrev pub first_won : Option ℕ → ℕ → ℕ → Option ℕ
 first_won (Some winner) id word = Some winner
 first_won None id word = if word == 0x3F then Some id else None
 
+-- the answers with one more
 abbrev pub with_answer : Answers → Option (ℕ × ℕ) → Answers
 with_answer a None = a
 with_answer a (Some x) = record a { winner = first_won a.winner x.0 x.1; heard = update a.heard x.0 (Some x.1) }
 
+-- the answers after one entry more; a bus reset forgets them
 abbrev pub answers_after : Answers → Entry → Answers
 answers_after a (Reset r) = no_answers (Some r)
 answers_after a (Async p) = with_answer a (bid_answer p)
@@ -60,6 +66,7 @@ answers_after a (Outcome o) = a
 answers_after a (Shown s) = a
 answers_after a End = a
 
+-- the answers after these entries more
 abbrev pub answers_from : Answers → List Entry → Answers
 answers_from a [] = a
 answers_from a (e ∷ es) = answers_from (answers_after a e) es
@@ -82,6 +89,7 @@ IsNoReset (Outcome o) = ⊤
 IsNoReset (Shown s) = ⊤
 IsNoReset End = ⊤
 
+-- no bus reset is among the entries of a log
 abbrev pub HasNoReset : List Timed → Type 0
 HasNoReset [] = ⊤
 HasNoReset (t ∷ log) = IsNoReset t.what × HasNoReset log
@@ -119,6 +127,7 @@ pub record Holds (id word : ℕ) : Type 0 where
   pub is : id ≡ node_id word
   pub low : word < 63
 
+-- What a state of a run has of the answers to bids: who has won holds BUS_MANAGER_ID, and each candidate has heard what was answered.
 pub record IsElection (a : Answers) (s : State) : Type 0 where
   pub latest : a.reset ≡ s.account.latest
   -- before the first candidate there is none, and nobody has won

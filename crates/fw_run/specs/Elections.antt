@@ -5,10 +5,12 @@ use Rattle.fw_base.specs.declared.device.DeviceKind.TheVariants.{Relay, Deck, Ca
 use Rattle.fw_base.specs.Tables.{update}
 use Rattle.fw_manager.specs.Bids.{CandidateState, first_state as new_candidate}
 
+-- who is a candidate for the bus manager, by device
 pub record Election : Type 0 where
   pub begun : Bool  -- a computer was made a candidate: from then on the script swaps BUS_MANAGER_ID no more
   pub candidates : ℕ → Option CandidateState  -- by device; none where it is no candidate
 
+-- nobody is a candidate, and nobody was
 abbrev pub no_election : Election
 no_election = record { begun = false; candidates = λ d. None }
 

@@ -13,6 +13,7 @@ use Rattle.fw_cmp.specs.declared.outcome.Outcome.TheVariants.{NoPlug, NoManager,
 
 -- ---- events
 
+-- the entry of an event at a device
 abbrev pub event_of : ℕ → ℕ → Entry
 event_of code device = Event (record { code = code; device = device; tape = 0; system = 0 })
 
@@ -20,9 +21,11 @@ event_of code device = Event (record { code = code; device = device; tape = 0; s
 abbrev pub second_over : Entry
 second_over = event_of SECOND_OVER NO_DEVICE
 
+-- the controller of a device died
 abbrev pub died : ℕ → Entry
 died d = event_of DIED d
 
+-- the controller of a device was started again
 abbrev pub started : ℕ → Entry
 started d = event_of STARTED d
 
@@ -43,16 +46,19 @@ abbrev pub lines_of : TapeSystem → ℕ
 lines_of Lines525 = LINES_525
 lines_of Lines625 = LINES_625
 
+-- a tape of a television system was put into a deck
 abbrev pub inserted : ℕ → ℕ → TapeSystem → Entry
 inserted d tape system = Event (record { code = INSERTED; device = d; tape = tape; system = lines_of system })
 
+-- the tape of a deck was taken out
 abbrev pub ejected : ℕ → Entry
 ejected d = event_of EJECTED d
 
--- the candidate of device d is the bus manager, or found another one
+-- the candidate of device d is the bus manager
 abbrev pub elected : ℕ → Entry
 elected d = event_of ELECTED d
 
+-- the candidate of device d found another bus manager
 abbrev pub defeated : ℕ → Entry
 defeated d = event_of DEFEATED d
 
@@ -83,5 +89,6 @@ outcome_entry d slot o = OutcomeOf (record { code = (coded o).0; device = d; slo
 
 -- ---- shown words
 
+-- a device's register at an offset has this word
 abbrev pub shown_entry : ℕ → ℕ → ℕ → Entry
 shown_entry d offset word = Shown (record { device = d; offset = offset; word = word })

@@ -4,6 +4,7 @@ use Rattle.std.specs.Int.{from_be_bytes, w32}
 use Rattle.fw_base.specs.Tables.{update}
 use Rattle.fw_async.specs.declared.packet.Head.{Head}
 use Rattle.fw_async.specs.declared.packet.Packet.{Packet}
+use Rattle.fw_csr.specs.declared.offset.TheConstants.{FCP_COMMAND, FCP_RESPONSE}
 use Rattle.fw_csr.specs.declared.request.Request.{Request}
 use Rattle.fw_csr.specs.declared.request.Request.TheVariants as Asks
 use Rattle.fw_entry.specs.declared.entry.Entry.TheVariants.{Async}
@@ -26,6 +27,7 @@ use Rattle.fw_run.specs.Spaces.{script_head, answer_packet}
 abbrev pub write_request : ℕ → List ℕ → Request
 write_request offset bytes = if length bytes == 4 then Asks.Write offset (from_be_bytes w32 bytes) else Asks.WriteBlock offset bytes
 
+-- the write request that carries a frame
 abbrev pub request_of : FrameWrite → Request
 request_of w = write_request w.offset w.bytes
 
@@ -33,16 +35,17 @@ request_of w = write_request w.offset w.bytes
 abbrev pub frame_head : State → FrameWrite → Head
 frame_head s w = script_head (node_of s.account.latest w.to) (node_of s.account.latest w.from)
 
+-- the packet that carries a frame
 abbrev pub frame_packet : State → FrameWrite → Packet
 frame_packet s w = packet_of (frame_head s w) (request_of w)
 
 -- to FCP_COMMAND of a device
 abbrev pub command_write : ℕ → ℕ → List ℕ → FrameWrite
-command_write from to bytes = record { from = from; to = to; offset = 0xFFFF_F000_0B00; bytes = bytes }
+command_write from to bytes = record { from = from; to = to; offset = FCP_COMMAND; bytes = bytes }
 
 -- to FCP_RESPONSE of a device
 abbrev pub response_write : ℕ → ℕ → Frame → FrameWrite
-response_write from to response = record { from = from; to = to; offset = 0xFFFF_F000_0D00; bytes = spelling response }
+response_write from to response = record { from = from; to = to; offset = FCP_RESPONSE; bytes = spelling response }
 
 -- ---- a frame that a deck sends
 
@@ -71,6 +74,7 @@ IsFollowedBy s w (Some x) =
     IsTrue (has_deck s w.to) × IsCommand (Some (request_of w)) x.command × (x.unit ≡ (s.decks w.to).unit)
     × IsResponse AnyVendor x.unit x.command (ruling x.unit x.command) x.response × IsSendable x.response
 
+-- the decks after a frame was received: a unit that was commanded keeps its response to send
 abbrev pub decks_after : State → FrameWrite → Option Obeyed → ℕ → DeckState
 decks_after s w None = s.decks
 decks_after s w (Some x) = update s.decks w.to (after_command (node_of s.account.latest w.from) x.command x.response (s.decks w.to))

@@ -12,6 +12,7 @@ IsGiven D (Receive (Some x)) = IsResponse D.vendor x.unit x.command (ruling x.un
 IsGiven D (SendPacket p (Some b)) = D.blocks b.place.tape b.place.frame b.place.block b.bytes
 IsGiven D _ = ⊤
 
+-- the desk gives what these actions took from it
 abbrev pub AreGiven : DeskRelations → List Action → Type 0
 AreGiven D [] = ⊤
 AreGiven D (a ∷ actions) = IsGiven D a × AreGiven D actions

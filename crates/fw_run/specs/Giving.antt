@@ -8,6 +8,7 @@ use Rattle.fw_entry.specs.declared.entry.Timed.{Timed}
 use Rattle.fw_entry.specs.Log.{epoch_after, entry_bytes, entries_bytes}
 use Rattle.fw_entry.specs.declared.version.Version.TheVariants.{Two}
 
+-- an entry with its cycle
 abbrev pub at_cycle : ℕ → Entry → Timed
 at_cycle cycle e = record { cycle = cycle; what = e }
 

@@ -99,6 +99,7 @@ pub record AreLosses (lost : ℕ → Option Stage) (controllers : ℕ → Contro
 
 -- ---- the whole
 
+-- What holds in each state of a run: what is declared, the latest bus reset, the account with all controllers, and each limit.
 pub record IsGood (s : State) : Type 0 where
   pub declared : AreDeclared s.declared
   pub latest : IsLatest s.account.latest s

@@ -35,6 +35,7 @@ head_from s d to = procedure_head to (node_of s.account.latest d)
 
 -- ---- no request stands: what the controller does next
 
+-- what a controller writes in its turn: the request that it sends, or the outcome of its job
 abbrev pub said : State → ℕ → Next → Option Entry
 said s d (Send to q) = Some (Async (packet_of (head_from s d to) q))
 said s d (End slot outcome) = Some (outcome_entry d slot outcome)
@@ -43,6 +44,7 @@ said s d (Waiting until) = None
 said s d (Deaf until) = None
 said s d Force = None
 
+-- the half step of a controller with no request outstanding
 abbrev pub asks : State → ℕ → HalfStep
 asks s d = record {
   says = said s d (next s.clock.cycle (directory_of s) (s.controllers d));
@@ -52,6 +54,7 @@ asks s d = record {
 
 -- ---- a request stands: the node that it went to carries it out
 
+-- the half step of a controller whose request the node that it went to carries out
 abbrev pub hears_from : State → ℕ → Option ℕ → Access → HalfStep
 hears_from s d None a = record { says = None; controller = s.controllers d; asked_at = s.asked_at d }
 hears_from s d (Some to) a = record {
@@ -60,18 +63,21 @@ hears_from s d (Some to) a = record {
   asked_at = s.asked_at d;
 }
 
+-- the half step of a controller whose request stands, by the node that it went to
 abbrev pub hears : State → ℕ → Option Access → HalfStep
 hears s d None = record { says = None; controller = s.controllers d; asked_at = s.asked_at d }
 hears s d (Some a) = hears_from s d (addressee_of (directory_of s) a.target) a
 
 -- ---- the half step of one that hears
 
+-- the half step of a controller, by its current job
 abbrev pub half_of : State → ℕ → Current → HalfStep
 half_of s d Nothing = asks s d
 half_of s d (Asking j stage) = asks s d
 half_of s d (Hearing j stage) = hears s d (access_of j stage)
 half_of s d (Overtaken slot outcome) = asks s d
 
+-- the half step of the controller of a device
 abbrev pub half : State → ℕ → HalfStep
 half s d = half_of s d (s.controllers d).current
 
@@ -89,6 +95,7 @@ taken s d h = record s {
   dub = dub_between s.account (entered_by s.account h.says) s.dub;
 }
 
+-- the state after a half step of the controller of a device
 abbrev pub after_half : State → ℕ → State
 after_half s d = taken s d (half s d)
 
@@ -100,6 +107,7 @@ is_waiting s d = nat_lt s.clock.cycle (s.asked_at d + split_timeout)
 
 -- ---- whether there is something to do
 
+-- a request of the controller is outstanding
 abbrev pub has_request : Current → Bool
 has_request Nothing = false
 has_request (Asking j stage) = false

@@ -1,6 +1,8 @@
 -- What holds in each state of a run, and of each answer in its log.
 use Rattle.std.specs.Prelude.{ℕ, ◌≡◌, ◌<◌, ◌==◌, ◌≤◌, ◌&&◌, ◌↔◌, List, ◌∷◌, ◌++◌, Option, Some, None, length, if◌then◌else◌, IsTrue, ⊤}
 use Rattle.std.specs.Int.{to_be_bytes, w32}
+use Rattle.fw_base.specs.declared.label.Label.TheVariants.{Procedure, Script}
+use Rattle.fw_base.specs.Labels.{label_code}
 use Rattle.fw_words.specs.Quadlet.{quadlet_at}
 use Rattle.fw_async.specs.declared.packet.Packet.{Packet}
 use Rattle.fw_async.specs.declared.packet.Packet.TheVariants.{WriteQuadlet, WriteBlock, WriteReply, CycleStart, Lock, LockReply}
@@ -46,8 +48,8 @@ pub record IsSoundAt (log : List Timed) (s : State) : Type 0 where
 
 -- a word that a complete response to a controller's request shows, and the node that it is sent to
 abbrev pub shown_in : Packet → Option (ℕ × ℕ)
-shown_in (ReadQuadletReply h rcode value) = if (h.tl == 0) && (rcode == 0) then Some (h.destination, value) else None
-shown_in (LockReply h rcode function bytes) = if (h.tl == 0) && (rcode == 0) && (length bytes == 4) then Some (h.destination, quadlet_at bytes 0) else None
+shown_in (ReadQuadletReply h rcode value) = if (h.tl == label_code Procedure) && (rcode == 0) then Some (h.destination, value) else None
+shown_in (LockReply h rcode function bytes) = if (h.tl == label_code Procedure) && (rcode == 0) && (length bytes == 4) then Some (h.destination, quadlet_at bytes 0) else None
 shown_in (WriteQuadlet h offset value) = None
 shown_in (WriteBlock h offset bytes) = None
 shown_in (WriteReply h rcode) = None
@@ -68,6 +70,7 @@ IsShownWord l (Some shown) =
 abbrev pub IsWordOf : Account → ShownEntry → Type 0
 IsWordOf l s = (word : ℕ) → word_of_device l s.device s.offset ≡ Some word → s.word ≡ word
 
+-- the words that an entry shows are those of the account
 abbrev pub HasWords : Account → Entry → Type 0
 HasWords l (Async p) = IsShownWord l (shown_in p)
 HasWords l (Reset r) = ⊤
@@ -86,10 +89,10 @@ IsAnswered l e = HasWords l e × ShowsWords l (looked e)
 -- a complete response to a quadlet read of the script, or to a swap, shows the account's word, where the account has the register
 abbrev pub IsReadBy : Account → Packet → Packet → Type 0
 IsReadBy l (ReadQuadlet h offset) (ReadQuadletReply k rcode value) =
-    h.tl ≡ 1 → rcode ≡ 0
+    h.tl ≡ label_code Script → rcode ≡ 0
     → (register : Register) → register_of l.latest h.destination offset ≡ Some register → value ≡ word_of l register
 IsReadBy l (Lock h offset function bytes) (LockReply k rcode swapped old) =
-    h.tl ≡ 1 → rcode ≡ 0
+    h.tl ≡ label_code Script → rcode ≡ 0
     → (register : Register) → register_of l.latest h.destination offset ≡ Some register → old ≡ to_be_bytes w32 (word_of l register)
 IsReadBy l _ _ = ⊤
 

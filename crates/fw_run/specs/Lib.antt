@@ -34,3 +34,4 @@ pub mod Candidates
 pub mod Recorded
 pub mod Hearing
 pub mod Beside
+pub mod Laws

@@ -23,6 +23,7 @@ EndingShows (NoPlug rcode) = rcode < 2 ^ 32
 EndingShows (Absent device) = device < 2 ^ 32
 EndingShows _ = ⊤
 
+-- so is the value of the end that a job comes to once all is given back
 abbrev pub ThenShows : Then → Type 0
 ThenShows (EndsAs e) = EndingShows e
 ThenShows Again = ⊤
@@ -39,6 +40,7 @@ StageShows (Made f) = f.channel < 2 ^ 32
 StageShows (Ended e) = EndingShows e
 StageShows _ = ⊤
 
+-- so is the value of the outcome that a controller is to write
 abbrev pub CurrentShows : Current → Type 0
 CurrentShows Nothing = ⊤
 CurrentShows (Asking j s) = StageShows s

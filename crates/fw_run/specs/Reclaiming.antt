@@ -26,6 +26,7 @@ IsHarmless d i (StartBreak e k) = (e ≢ d) ⊎ (k ≢ i)
 IsHarmless d i EndSecond = ⊥
 IsHarmless d i _ = ⊤
 
+-- none of these actions takes the connection of the slot from the controller
 abbrev pub AreHarmless : ℕ → ℕ → List Action → Type 0
 AreHarmless d i [] = ⊤
 AreHarmless d i (a ∷ actions) = IsHarmless d i a × AreHarmless d i actions

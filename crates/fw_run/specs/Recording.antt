@@ -17,6 +17,7 @@ use Rattle.fw_run.specs.State.{State, has_deck}
 
 -- ---- the block of a channel, in the entries of a cycle
 
+-- the block of a packet on this channel
 abbrev pub block_of : ℕ → Entry → Option (List ℕ)
 block_of channel (Iso p) = if p.channel == channel then p.block else None
 block_of channel (Reset r) = None
@@ -26,6 +27,7 @@ block_of channel (Outcome o) = None
 block_of channel (Shown s) = None
 block_of channel End = None
 
+-- the first block on this channel among entries
 abbrev pub block_among : ℕ → List Timed → Option (List ℕ)
 block_among channel [] = None
 block_among channel (t ∷ out) = option_or (block_of channel t.what) (block_among channel out)
@@ -37,6 +39,7 @@ abbrev pub room_on : TapeSystem → ℕ
 room_on Lines525 = 4000
 room_on Lines625 = 4800
 
+-- the blocks that the reel may have of a tape; none without a tape
 abbrev pub room_of : Option Cassette → ℕ
 room_of None = 0
 room_of (Some c) = room_on c.system
@@ -65,6 +68,7 @@ abbrev pub heard_by : State → Option ℕ → List Timed → Option (List ℕ)
 heard_by s None out = None
 heard_by s (Some d) out = block_heard s d out
 
+-- of what was written in a cycle, the block that the deck tied to the reel records
 abbrev pub heard_in : State → List Timed → Option (List ℕ)
 heard_in s out = heard_by s s.dub.tied out
 
@@ -73,6 +77,7 @@ abbrev pub reel_keeping : State → Option ℕ → Option (List ℕ) → List (L
 reel_keeping s None block = s.dub.reel
 reel_keeping s (Some d) block = reel_with s d block
 
+-- the state with a block on the reel, where it has room
 abbrev pub with_block : State → Option (List ℕ) → State
 with_block s block = record s { dub = record s.dub { reel = reel_keeping s s.dub.tied block } }
 

@@ -41,6 +41,7 @@ use Rattle.fw_run.specs.Actions.{start_of}
 abbrev pub IsNamed : State → List ℕ → ℕ → Type 0
 IsNamed s name d = device_named s.declared.names name ≡ Some d
 
+-- a device with this name is declared
 abbrev pub is_declared : State → List ℕ → Bool
 is_declared s name = is_some (device_named s.declared.names name)
 
@@ -111,6 +112,7 @@ IsNot s test (Some name) = (d : ℕ) × IsNamed s name d × IsFalse (test d)
 
 -- ---- cables
 
+-- a port of a named device is this end of a cable
 abbrev pub IsEnd : State → List ℕ × ℕ → End → Type 0
 IsEnd s a e = IsNamed s a.0 e.device × (e.port ≡ a.1)
 
@@ -119,6 +121,7 @@ abbrev pub Ends : State → Command → (End → End → Type 0) → Type 0
 Ends s (Commands.Cable a b) P = (x y : End) × IsEnd s a x × IsEnd s b y × P x y
 Ends s _ P = ⊥
 
+-- a cable cannot be put in, for this reason of the cabling
 abbrev pub HasTreeFault : State → TreeFault → Command → Type 0
 HasTreeFault s f c = Ends s c (λ x y. IsFault s.declared.topology x y f)
 
@@ -128,6 +131,7 @@ is_joining s a b = if is_on s a.device then not (is_on s b.device) else is_on s 
 
 -- ---- connections
 
+-- a plug of a device, by number
 abbrev pub plug_of : ℕ → List ℕ × ℕ → PlugAt
 plug_of e plug = at_plug e plug.1
 
@@ -160,16 +164,19 @@ abbrev pub IsShown : State → Option (List ℕ) → ℕ → Type 0
 IsShown s None d = (n : ℕ) × (manager_in s.account.latest ≡ Some n) × (device_in s.account.latest n ≡ Some d)
 IsShown s (Some name) d = IsNamed s name d
 
+-- a register of the manager is asked for, and the bus has none
 abbrev pub HasNoManager : State → Option (List ℕ) → Type 0
 HasNoManager s None = manager_in s.account.latest ≡ None
 HasNoManager s (Some name) = ⊥
 
+-- the register that is to be shown is none
 abbrev pub HasNoRegister : State → Command → Type 0
 HasNoRegister s (Commands.Show name offset) = HasNoManager s name ⊎ ((d : ℕ) × IsShown s name d × IsFalse ((read_at s d offset).rcode == 0))
 HasNoRegister s _ = ⊥
 
 -- ---- limits
 
+-- the command would pass a limit of bus resets, half steps or cycles
 abbrev pub PassesLimit : State → Command → Type 0
 PassesLimit s (Commands.Cable a b) = (10000 ≤ s.resets) × Ends s (Commands.Cable a b) (λ x y. IsTrue (is_joining s x y))
 PassesLimit s (Commands.Reset name) = 10000 ≤ s.resets
@@ -183,10 +190,12 @@ PassesLimit s _ = ⊥
 
 -- ---- the rules
 
+-- the name of a new device is taken
 abbrev pub TakesName : State → Command → Type 0
 TakesName s (Commands.Device name kind ports speed) = IsTrue (is_declared s name)
 TakesName s _ = ⊥
 
+-- the bus has 63 devices already
 abbrev pub IsTooMany : State → Command → Type 0
 IsTooMany s (Commands.Device name kind ports speed) = 63 ≤ length s.declared.names
 IsTooMany s _ = ⊥
@@ -195,10 +204,12 @@ IsTooMany s _ = ⊥
 abbrev pub HasNoDeck : State → Command → Type 0
 HasNoDeck s c = IsNot s (has_deck s) (deck_of c)
 
+-- the device has no living controller, or no link that one could be started at
 abbrev pub HasNoController : State → Command → Type 0
 HasNoController s (Commands.Start name) = IsNot s (is_linked s) (Some name)
 HasNoController s c = IsNot s (is_living s) (controller_of c)
 
+-- the device is off the bus, or has no link where one is needed
 abbrev pub IsOff : State → Command → Type 0
 IsOff s (Commands.Reset name) = IsNot s (is_on s) (Some name)
 IsOff s (Commands.Dub name) = IsNot s (is_on s) (Some name)
@@ -214,6 +225,7 @@ abbrev pub IsNotCapable : State → Command → Type 0
 IsNotCapable s (Commands.Candidate name) = IsNot s (λ d. is_capable (kind_at s.declared.kinds d)) (Some name)
 IsNotCapable s _ = ⊥
 
+-- the device is no candidate for the bus manager
 abbrev pub IsNoCandidate : State → Command → Type 0
 IsNoCandidate s (Commands.Contend name count) = IsNot s (is_candidate s) (Some name)
 IsNoCandidate s _ = ⊥
@@ -284,6 +296,7 @@ kind_with code = if code == 0 then Relay else if code == 1 then Deck else if cod
 abbrev pub system_with : ℕ → TapeSystem
 system_with lines = if lines == 525 then Lines525 else Lines625
 
+-- a transaction from one named device to another, with this access
 abbrev pub Transacts : State → List ℕ → List ℕ → Access → Order → Type 0
 Transacts s name other access o = (d e : ℕ) × IsNamed s name d × IsNamed s other e × (o ≡ order.Transact (record { from = d; to = e; access = access }))
 

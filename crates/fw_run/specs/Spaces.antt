@@ -1,10 +1,13 @@
 -- The registers of the nodes, what a request is answered, and the transactions of the script.
 use Rattle.std.specs.Prelude.{ℕ, ◌+◌, ◌++◌, Bool, Option, Some, None, if◌then◌else◌, unwrap_or}
 use Rattle.std.specs.Int.{to_be_bytes, w32}
+use Rattle.fw_base.specs.declared.label.Label.TheVariants.{Script}
+use Rattle.fw_base.specs.Labels.{label_code}
 use Rattle.fw_base.specs.Tables.{at_plug}
 use Rattle.fw_async.specs.declared.packet.Head.{Head}
 use Rattle.fw_async.specs.declared.packet.Packet.{Packet}
 use Rattle.fw_entry.specs.declared.entry.ResetEntry.{ResetEntry}
+use Rattle.fw_csr.specs.declared.offset.TheConstants.{BUS_MANAGER_ID}
 use Rattle.fw_csr.specs.declared.request.Request.{Request}
 use Rattle.fw_csr.specs.declared.request.Request.TheVariants as Asks
 use Rattle.fw_csr.specs.declared.reply.Reply.{Reply}
@@ -51,10 +54,11 @@ space_at s d n = record {
   manager = if is_manager s.account.latest n then Some (manager_words s) else None;
 }
 
--- the registers of a node, and of a device on the bus
+-- the registers of a node
 abbrev pub space_of_node : State → ℕ → Space
 space_of_node s n = space_at s (unwrap_or (device_in s.account.latest n) 0) n
 
+-- the registers of a device on the bus
 abbrev pub space_of_device : State → ℕ → Space
 space_of_device s d = space_at s d (node_of s.account.latest d)
 
@@ -74,23 +78,24 @@ answer_packet s n h q = response_to n (packet_of h q) (reply_from s n q)
 
 -- ---- transactions of the script
 
--- a packet of the script from one node to another: transaction label 1, retry code 01, priority 0 (own)
+-- a packet of the script from one node to another: retry code 01, priority 0 (own)
 abbrev pub script_head : ℕ → ℕ → Head
-script_head destination source = record { destination = node_id destination; tl = 1; rt = 1; pri = 0; source = node_id source }
+script_head destination source = record { destination = node_id destination; tl = label_code Script; rt = 1; pri = 0; source = node_id source }
 
 -- a quadlet read, or a quadlet compare_swap, at an offset from FFFF F000 0000
 abbrev pub access_request : Access → Request
 access_request (Read offset) = Asks.Read (first_address + offset)
 access_request (Swap offset argument new) = Asks.Lock (first_address + offset) 2 (to_be_bytes w32 argument ++ to_be_bytes w32 new)
 
--- the node that a transaction goes to, and its packets' head
+-- the node that a transaction goes to
 abbrev pub target_node : State → Transaction → ℕ
 target_node s x = node_of s.account.latest x.to
 
+-- the head of a transaction's packets
 abbrev pub transaction_head : State → Transaction → Head
 transaction_head s x = script_head (target_node s x) (node_of s.account.latest x.from)
 
 -- BUS_MANAGER_ID after a transaction
 abbrev pub bus_manager_id_after : State → Transaction → ℕ
 bus_manager_id_after s x =
-    if is_manager s.account.latest (target_node s x) then after_at 0xFFFF_F000_021C (access_request x.access) s.bus_manager_id else s.bus_manager_id
+    if is_manager s.account.latest (target_node s x) then after_at BUS_MANAGER_ID (access_request x.access) s.bus_manager_id else s.bus_manager_id

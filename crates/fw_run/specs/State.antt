@@ -27,10 +27,12 @@ pub record Declared : Type 0 where
   pub kinds : List DeviceKind
   pub topology : Topology
 
+-- the cycle that has come, and when the reclaim second is over
 pub record Clock : Type 0 where
   pub cycle : ℕ
   pub over_at : ℕ  -- the cycle from which on the second of the latest bus reset is over; that of the first one, which begins none
 
+-- What a run has: its devices, the account of its entries, its controllers, decks, candidates and the reel, and what it has used of the limits.
 pub record State : Type 0 where
   pub declared : Declared
   pub clock : Clock
@@ -55,9 +57,11 @@ pub record State : Type 0 where
   pub election : Election  -- who is a candidate for the bus manager
   pub dub : Dub  -- what a deck records
 
+-- no devices and no cables
 abbrev pub nothing_declared : Declared
 nothing_declared = record { names = []; kinds = []; topology = record { devices = []; cables = no_cables } }
 
+-- before the first device: nothing is declared, no bus reset was, and no controller has done anything
 abbrev pub first_state : State
 first_state = record {
   declared = nothing_declared;
@@ -149,9 +153,11 @@ abbrev pub linked_number : Option ResetEntry → ℕ → Option ℕ
 linked_number None d = None
 linked_number (Some e) d = with_link e.nodes (node_number e.nodes d)
 
+-- the device is on the bus
 abbrev pub is_on : State → ℕ → Bool
 is_on s d = is_some (number_in s.account.latest d)
 
+-- the device is on the bus, and its node has a link layer
 abbrev pub is_linked : State → ℕ → Bool
 is_linked s d = is_some (linked_number s.account.latest d)
 

@@ -1,6 +1,7 @@
 -- Streams: the cycle start of a cycle, and the packet that each output plug that talks sends in it (IEEE 1394-1995, cycle start; IEC 61883-1 and -2).
 use Rattle.std.specs.Prelude.{ℕ, ◌≡◌, zero, suc, ◌-◌, ◌==◌, ◌&&◌, List, [], ◌∷◌, ◌++◌, Option, Some, None, IfSome, is_some, if◌then◌else◌}
 use Rattle.std.specs.Option.{option_map}
+use Rattle.fw_csr.specs.declared.offset.TheConstants.{CYCLE_TIME}
 use Rattle.fw_base.specs.declared.plug.PlugAt.{PlugAt}
 use Rattle.fw_base.specs.Tables.{find_plug}
 use Rattle.fw_async.specs.declared.packet.Packet.{Packet}
@@ -41,7 +42,7 @@ talkers l = talkers_to 64 l
 
 -- a broadcast of the root, whatever device it is (own): transaction label and retry code 0, priority F, the root's CYCLE_TIME
 abbrev pub cycle_start : ℕ → ℕ → Packet
-cycle_start root cycle = CycleStart (record { destination = 0xFFFF; tl = 0; rt = 0; pri = 15; source = node_id root }) 0xFFFF_F000_0200 (cycle_time cycle)
+cycle_start root cycle = CycleStart (record { destination = 0xFFFF; tl = 0; rt = 0; pri = 15; source = node_id root }) CYCLE_TIME (cycle_time cycle)
 
 -- ---- blocks
 
@@ -50,6 +51,7 @@ pub record GivenBlock : Type 0 where
   pub place : BlockPlace
   pub bytes : List ℕ
 
+-- the bytes of a block, if there is one
 abbrev pub bytes_of : Option GivenBlock → Option (List ℕ)
 bytes_of block = option_map (λ (b : GivenBlock). b.bytes) block
 

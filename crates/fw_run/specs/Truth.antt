@@ -18,6 +18,7 @@ standing Nothing lost = Nothing
 standing (Hearing j stage) lost = Hearing j stage
 standing (Overtaken i o) lost = Overtaken i o
 
+-- the controller at the stage at which it truly stands
 abbrev pub in_truth : ControllerState → Option Stage → ControllerState
 in_truth c lost = record c { current = standing c.current lost }
 

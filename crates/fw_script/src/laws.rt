@@ -1,6 +1,7 @@
 //! Laws of scripts, as the contracts of empty functions.
 
-ghost use Rattle.fw_script.specs.Laws.{PiecesPartTheBytes, LineIsOneCommand, LinesGiveOneAnswer, ScriptSaysOneThing, LimitDecides, ReadingBegins, CommandIsNext, GivenComesFirst, EndIsLast, FaultIsTheScripts, WholeLinesWereGiven, TakenIsHeld, BeginningIsFirst, FirstIsBeginning};
+ghost use Rattle.fw_script.specs.Laws.{PiecesPartTheBytes, LineIsOneCommand, LinesGiveOneAnswer, ScriptSaysOneThing, LimitDecides, BeginningIsFirst, FirstIsBeginning};
+ghost use Rattle.fw_script.specs.Laws.{ReadingBegins, CommandIsNext, GivenComesFirst, EndIsLast, FaultIsTheScripts, WholeLinesWereGiven, TakenIsHeld};
 
 /// A script says one thing: its commands in order, and its first refused line, if any. Its length decides whether
 /// it can be too long.

@@ -247,6 +247,8 @@ impl ScriptReader {
     /// It asks that no fault was answered before. The source is asked, for 4,096 bytes at once, only where what is held gives
     /// no answer, and not again once its end was met. Behind a command, or a line that is refused, at most 4,096 bytes are held.
     /// With `ReadFault` no whole line is held: the commands of all lines whose line feed was taken have been given.
+    // Inlined at its one call, where the command is then put in its place: else it is copied there, twice.
+    #[inline(always)]
     pub fn next<S: Source>(&mut self, source: &mut S) -> Result<Option<Command>, ScriptFault>
         requires { self.old.stage ≢ Stage.Failed }
         ensures gives { Advances self.old self.new (S.left source.old) (S.left source.new) result }

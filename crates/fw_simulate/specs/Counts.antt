@@ -27,6 +27,7 @@ abbrev pub ReadsOn : ℕ → ℕ → Option RunEnding → Type 0
 ReadsOn old new None = new ≡ old
 ReadsOn old new (Some ending) = ReadCount old new ending
 
+-- how the count of write faults stands after a step, with which the run may go on
 abbrev pub WritesOn : ℕ → ℕ → Option RunEnding → Type 0
 WritesOn old new None = new ≡ old
 WritesOn old new (Some ending) = WriteCount old new ending

@@ -50,6 +50,7 @@ open_of AfterEnd = 1
 open_of Done = 0
 open_of Failed = 1
 
+-- how much of a script may still be read
 abbrev pub to_read : Reading → ℕ
 to_read reader = (1048576 - reader.before) + open_of reader.stage
 

@@ -30,6 +30,7 @@ pub record WasRefused (D : DeskRelations) (script : List ℕ) (refused : Refused
 
 -- ---- a script's entries, counted
 
+-- the tally counts the log that the run of a script wrote
 pub record HasCounted (D : DeskRelations) (script : List ℕ) (tally : Tally) : Type 0 where
   pub was : WasRun D script
   pub counts : Counts (log_of was) tally
@@ -54,10 +55,12 @@ Counted D script tally NoMemory = Unit {0}
 
 -- ---- the summary of a seed's run
 
+-- the summary of a seed's run was written
 pub record HasSummed (D : DeskRelations) (seed : ℕ) (held held' : Option (List ℕ)) : Type 0 where
   pub was : WasRun D (script_of seed)
   pub grew : Grows held held' (summary_of (log_of was))
 
+-- a front of the summary of a seed's run was written
 pub record PartSummed (D : DeskRelations) (seed : ℕ) (held held' : Option (List ℕ)) : Type 0 where
   pub was : WasRun D (script_of seed)
   pub grew : AppendsFront held held' (summary_of (log_of was))

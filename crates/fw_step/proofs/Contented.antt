@@ -24,7 +24,7 @@ use Rattle.fw_cmp.specs.Stages.{hear_reply}
 use Rattle.fw_cmp.specs.Starts.{IsMaking, started}
 use Rattle.fw_step.specs.Controllers.{ControllerInStep}
 use Rattle.fw_step.specs.Registers.{IsAnswer}
-use Rattle.fw_step.specs.Together.{AreInStep, Happens, asks, rests, hears, given, resets, second, dies, withholds, Becomes, IsGiven, connection, break}
+use Rattle.fw_step.specs.Together.{AreInStep, Happens, half_step, turns, hears, given, resets, second, dies, withholds, Becomes, IsGiven, connection, break}
 use Rattle.fw_step.specs.Wants.{is_own, IsContent}
 use Rattle.fw_step.proofs.Carried.{hearing}
 use Rattle.fw_step.proofs.Given.{slot_taken, break_is_task}
@@ -169,14 +169,13 @@ becomes_content before after d c b h x k = go (eqb k d) refl
     go false e = subst (λ z. IsContent z z.current) (sym (b.others k (λ f. absurd (grind (arith, nat_tests))))) (x k)
 
 pub stay_content : (dir new : Directory) (l m : Account) (before after : ℕ → ControllerState) → AreInStep dir l before → Happens dir new l before m after → AreContent before → AreContent after
-stay_content dir new l m before after x (asks d now request told heard out is b same) h = becomes_content before after d _ b (turn_content now dir (before d) (h d)) h
-stay_content dir new l m before after x (rests d now told heard out is b same) h = becomes_content before after d _ b (turn_content now dir (before d) (h d)) h
-stay_content dir new l m before after x (hears d j s t r lt e f a is b same) h =
-    let hearing_is : before d ≡ hearing (before d) j s = λ i. record (before d) { current = e i } in
-    let here : IsContent (before d) (Asking j (hear_reply j s r)) = hear_content l d (before d) j s t r x.sound (subst Fits hearing_is (x.fits d)) (subst (ControllerInStep l d) hearing_is (x.each d)) f a (subst (IsContent (before d)) e (h d)) in
-    becomes_content before after d _ (subst (λ y. Becomes before d (after_hear y r) after) hearing_is b) here h
-stay_content dir new l m before after x (given d c is e b same) h = becomes_content before after d c b (given_content (before d) c (x.fits d) is (h d)) h
-stay_content dir new l m before after x (resets r epoch lost network grows is each) h = λ d. subst (λ y. IsContent y y.current) (sym (each d)) (state_content l d epoch (lost d) (before d) (x.fits d).slots (x.each d) (h d))
-stay_content dir new l m before after x (second is each same) h = λ d. subst (λ y. IsContent y y.current) (sym (each d)) (second_content (before d) (h d))
-stay_content dir new l m before after x (dies d is b same) h = becomes_content before after d _ b tt h
-stay_content dir new l m before after x (withholds first is each same) h = λ d. subst (λ y. IsContent y y.current) (sym (each d)) (h d)
+stay_content dir new l m before after x (half_step d now (turns t)) h = becomes_content before after d _ t.becomes (turn_content now dir (before d) (h d)) h
+stay_content dir new l m before after x (half_step d now (hears r t)) h =
+    let hearing_is : before d ≡ hearing (before d) t.job t.stage = λ i. record (before d) { current = t.current i } in
+    let here : IsContent (before d) (Asking t.job (hear_reply t.job t.stage r)) = hear_content l d (before d) t.job t.stage t.target r x.sound (subst Fits hearing_is (x.fits d)) (subst (ControllerInStep l d) hearing_is (x.each d)) t.asked t.answer (subst (IsContent (before d)) t.current (h d)) in
+    becomes_content before after d _ (subst (λ y. Becomes before d (after_hear y r) after) hearing_is t.becomes) here h
+stay_content dir new l m before after x (given d c t) h = becomes_content before after d c t.becomes (given_content (before d) c (x.fits d) t.given (h d)) h
+stay_content dir new l m before after x (resets r epoch lost t) h = λ d. subst (λ y. IsContent y y.current) (sym (t.each d)) (state_content l d epoch (lost d) (before d) (x.fits d).slots (x.each d) (h d))
+stay_content dir new l m before after x (second t) h = λ d. subst (λ y. IsContent y y.current) (sym (t.each d)) (second_content (before d) (h d))
+stay_content dir new l m before after x (dies d t) h = becomes_content before after d _ t.becomes tt h
+stay_content dir new l m before after x (withholds t) h = λ d. subst (λ y. IsContent y y.current) (sym (t.each d)) (h d)

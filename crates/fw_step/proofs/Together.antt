@@ -17,7 +17,6 @@ use Rattle.fw_account.specs.Listing.{IsAllocatedForFlows}
 use Rattle.fw_account.proofs.Listing.{flows_alone}
 use Rattle.fw_account.proofs.Fold.{starts_sound}
 use Rattle.fw_account.specs.Moves.{HasNoPending}
-use Rattle.fw_entry.specs.Network.{IsNetwork}
 use Rattle.fw_account.specs.Packets.{asked, ended}
 use Rattle.fw_account.specs.Sound.{IsSound}
 use Rattle.fw_account.proofs.Events.{reset_keeps, second_ends, withholding_keeps as withholding_sound}
@@ -38,12 +37,12 @@ use Rattle.fw_cmp.proofs.Fitting.{first_fits}
 use Rattle.fw_cmp.proofs.Overtaken.{state_reset_fits, second_fits}
 use Rattle.fw_cmp.specs.Holdings.{is_current_slot, CanGoOn}
 use Rattle.fw_cmp.specs.Requests.{target_of}
-use Rattle.fw_cmp.specs.Resets.{after_hear, state_reset as controller_reset}
+use Rattle.fw_cmp.specs.Resets.{after_hear}
 use Rattle.fw_step.specs.Holding.{no_holding, connections_of, Holds, Keeps, Leaves}
 use Rattle.fw_step.specs.Registers.{register_at, stands, IsAnswer}
 use Rattle.fw_step.specs.Moves.{carried_out}
 use Rattle.fw_step.specs.Controllers.{holding_of, StandsAt, IsToRestore, CurrentInStep, SlotInStep, ControllerInStep}
-use Rattle.fw_step.specs.Together.{AreInStep, Becomes, KeepsPlugs, Happens, asks, rests, hears, given, resets, second, dies, withholds, AreSettled, IsWhole}
+use Rattle.fw_step.specs.Together.{AreInStep, Becomes, SendsRequest, SendsNothing, TakesTurn, HearsAnswer, TakesJob, BusResets, EndsSecond, Dies, Withholds, Happens, half_step, turns, hears, given, resets, second, dies, withholds, AreSettled, IsWhole}
 use Rattle.fw_step.proofs.Carried.{carried_is, carried_sound, carried_keeps, carried_leaves, carried_reclaims, hearing, hear_half, hear_in_step}
 use Rattle.fw_step.proofs.Events.{asked_keeps, asked_leaves, ended_keeps, ended_leaves, death_keeps, death_leaves, dead_holds, withholding_keeps, withholding_leaves}
 use Rattle.fw_step.proofs.Fits.{next_fits, heard_fits}
@@ -82,7 +81,7 @@ one_changed dir l m before after d c x sound b fits own reach out outs rest = re
 others_kept : (dir : Directory) (l m : Account) (controllers : ℕ → ControllerState) (d : ℕ) → AreInStep dir l controllers → Keeps l m → ((k : ℕ) → k ≢ d → Leaves k l m) → (l.reclaiming ≡ true → m.reclaiming ≡ true) → (k : ℕ) → k ≢ d → ControllerInStep m k (controllers k)
 others_kept dir l m controllers d x k left runs n ne = kept_in_step l m n (controllers n) x.sound (x.fits n).slots k (left n ne) runs (x.each n)
 
--- ---- each thing that happens
+-- ---- one controller changes
 
 -- the turn of controller d, with or without a request
 turn_of : (dir : Directory) (l m : Account) (before after : ℕ → ControllerState) (d : ℕ) (c : ControllerState) → AreInStep dir l before → IsSound m → Keeps l m → ((k : ℕ) → k ≢ d → Leaves k l m) → (l.reclaiming ≡ true → m.reclaiming ≡ true) → Becomes before d c after → Fits c → ControllerInStep m d c → CanGoOn dir c → m.outstanding d ≡ outstanding_of dir c.current → ((k : ℕ) → k ≢ d → m.outstanding k ≡ l.outstanding k) → AreInStep dir m after
@@ -119,62 +118,72 @@ heard_in_step dir l before after d c j s t r x lt e f a b =
 leaves_self : (k : ℕ) (l : Account) → Leaves k l l
 leaves_self k l = record { holding = λ h has. has; addressed = refl }
 
--- a reset, with which another directory may come
-reset_together : (dir new : Directory) (l m : Account) (before after : ℕ → ControllerState) → AreInStep dir l before → (r : ResetEntry) (epoch : ℕ) (lost : ℕ → Bool) → IsNetwork r → KeepsPlugs l r → m ≡ after_reset r l → ((d : ℕ) → after d ≡ controller_reset epoch (lost d) (before d)) → AreInStep new m after
-reset_together dir new l m before after x r epoch lost network grows is each =
-    subst (λ y. AreInStep new y after) (sym is) (record {
-      sound = reset_keeps r l network x.sound;
-      fits = λ d. subst Fits (sym (each d)) (state_reset_fits epoch (lost d) (before d) (x.fits d));
-      each = λ d. subst (ControllerInStep (after_reset r l) d) (sym (each d)) (reset_in_step r l d epoch (lost d) (before d) x.sound grows (x.fits d).slots (x.each d));
-      goes_on = λ d. subst (CanGoOn new) (sym (each d)) (state_reset_goes_on new epoch (lost d) (before d));
-      requests = λ d. sym (ap (λ (y : ControllerState). outstanding_of new y.current) (each d) ∙ reset_outstanding new epoch (lost d) (before d));
-    })
+-- ---- each thing that happens, over the directory before it
 
--- each thing that leaves the directory
-happens_by : (dir : Directory) (l m : Account) (before after : ℕ → ControllerState) (n : ℕ) → AreInStep dir l before → Happens dir dir l before m after → AreInStep dir m after
-happens_by dir l m before after n x (asks d now request told heard out is b same) =
-    let turn = (turn_in_step l d now (before d) dir (x.each d) told (x.fits d) (x.goes_on d) heard).asks request out in
-    subst (λ y. AreInStep dir y after) (sym is) (turn_of dir l (asked d request l) before after d _ x (asked_sound d request l turn.0 x.sound) (asked_keeps d request l) (λ k ne. asked_leaves d k request l ne) (λ y. y) b (next_fits now dir (before d) (x.fits d)) turn.1
-    (next_goes_on now dir (before d) (x.fits d) (x.goes_on d)) (update_here l.outstanding d (Some request) ∙ sym out) (λ k ne. update_there l.outstanding d k (Some request) ne))
-happens_by dir l m before after n x (rests d now told heard out is b same) =
-    subst (λ y. AreInStep dir y after) (sym is) (turn_of dir l l before after d _ x x.sound (keeps_self l) (λ k ne. leaves_self k l) (λ y. y) b (next_fits now dir (before d) (x.fits d)) ((turn_in_step l d now (before d) dir (x.each d) told (x.fits d) (x.goes_on d) heard).rests out)
-    (next_goes_on now dir (before d) (x.fits d) (x.goes_on d)) (x.requests d ∙ (heard_none dir (before d).current heard ∙ sym out)) (λ k ne. refl))
-happens_by dir l m before after n x (hears d j s t r lt e f a is b same) =
-    let hearing_is : before d ≡ hearing (before d) j s = λ i. record (before d) { current = e i } in
-    subst (λ y. AreInStep dir y after) (sym is) (heard_in_step dir l before after d (before d) j s t r x lt hearing_is f a (subst (λ y. Becomes before d (after_hear y r) after) hearing_is b))
-happens_by dir l m before after n x (given d c is e b same) =
-    subst (λ y. AreInStep dir y after) (sym e) (turn_of dir l l before after d c x x.sound (keeps_self l) (λ k ne. leaves_self k l) (λ y. y) b (given_fits (before d) c (x.fits d) is) (given_in_step l d (before d) c (x.fits d) (x.each d) is)
-    (given_goes_on dir (before d) c (x.fits d) is (x.goes_on d)) (x.requests d ∙ ap (outstanding_of dir) (sym (given_current (before d) c is))) (λ k ne. refl))
-happens_by dir l m before after n x (second is each same) =
-    subst (λ y. AreInStep dir y after) (sym is) (record {
+turn_together : (dir new : Directory) (l m : Account) (before after : ℕ → ControllerState) (d now : ℕ) → AreInStep dir l before → TakesTurn d now dir new l before m after → SendsRequest d now dir l before m ⊎ SendsNothing d now dir l before m → AreInStep dir m after
+turn_together dir new l m before after d now x t (inl says) =
+    let turn = (turn_in_step l d now (before d) dir (x.each d) t.told (x.fits d) (x.goes_on d) t.heard).asks says.request says.outstanding in
+    subst (λ y. AreInStep dir y after) (sym says.account) (turn_of dir l (asked d says.request l) before after d _ x (asked_sound d says.request l turn.0 x.sound) (asked_keeps d says.request l) (λ k ne. asked_leaves d k says.request l ne) (λ y. y) t.becomes (next_fits now dir (before d) (x.fits d)) turn.1
+    (next_goes_on now dir (before d) (x.fits d) (x.goes_on d)) (update_here l.outstanding d (Some says.request) ∙ sym says.outstanding) (λ k ne. update_there l.outstanding d k (Some says.request) ne))
+turn_together dir new l m before after d now x t (inr says) =
+    subst (λ y. AreInStep dir y after) (sym says.account) (turn_of dir l l before after d _ x x.sound (keeps_self l) (λ k ne. leaves_self k l) (λ y. y) t.becomes (next_fits now dir (before d) (x.fits d)) ((turn_in_step l d now (before d) dir (x.each d) t.told (x.fits d) (x.goes_on d) t.heard).rests says.outstanding)
+    (next_goes_on now dir (before d) (x.fits d) (x.goes_on d)) (x.requests d ∙ (heard_none dir (before d).current t.heard ∙ sym says.outstanding)) (λ k ne. refl))
+
+answer_together : (dir new : Directory) (l m : Account) (before after : ℕ → ControllerState) (d : ℕ) (r : Reply) → AreInStep dir l before → HearsAnswer d r dir new l before m after → AreInStep dir m after
+answer_together dir new l m before after d r x t =
+    let hearing_is : before d ≡ hearing (before d) t.job t.stage = λ i. record (before d) { current = t.current i } in
+    subst (λ y. AreInStep dir y after) (sym t.account) (heard_in_step dir l before after d (before d) t.job t.stage t.target r x t.device hearing_is t.asked t.answer (subst (λ y. Becomes before d (after_hear y r) after) hearing_is t.becomes))
+
+given_together : (dir new : Directory) (l m : Account) (before after : ℕ → ControllerState) (d : ℕ) (c : ControllerState) → AreInStep dir l before → TakesJob d c dir new l before m after → AreInStep dir m after
+given_together dir new l m before after d c x t =
+    subst (λ y. AreInStep dir y after) (sym t.account) (turn_of dir l l before after d c x x.sound (keeps_self l) (λ k ne. leaves_self k l) (λ y. y) t.becomes (given_fits (before d) c (x.fits d) t.given) (given_in_step l d (before d) c (x.fits d) (x.each d) t.given)
+    (given_goes_on dir (before d) c (x.fits d) t.given (x.goes_on d)) (x.requests d ∙ ap (outstanding_of dir) (sym (given_current (before d) c t.given))) (λ k ne. refl))
+
+second_together : (dir new : Directory) (l m : Account) (before after : ℕ → ControllerState) → AreInStep dir l before → EndsSecond dir new l before m after → AreInStep dir m after
+second_together dir new l m before after x t =
+    subst (λ y. AreInStep dir y after) (sym t.account) (record {
       sound = second_ends l x.sound;
-      fits = λ d. subst Fits (sym (each d)) (second_fits (before d) (x.fits d));
-      each = λ d. subst (ControllerInStep (after_second l) d) (sym (each d)) (second_in_step l d (before d) x.sound (x.each d));
-      goes_on = λ d. subst (CanGoOn dir) (sym (each d)) (second_goes_on dir (before d) (x.goes_on d));
-      requests = λ d. x.requests d ∙ ap (λ (y : ControllerState). outstanding_of dir y.current) (sym (each d));
+      fits = λ d. subst Fits (sym (t.each d)) (second_fits (before d) (x.fits d));
+      each = λ d. subst (ControllerInStep (after_second l) d) (sym (t.each d)) (second_in_step l d (before d) x.sound (x.each d));
+      goes_on = λ d. subst (CanGoOn dir) (sym (t.each d)) (second_goes_on dir (before d) (x.goes_on d));
+      requests = λ d. x.requests d ∙ ap (λ (y : ControllerState). outstanding_of dir y.current) (sym (t.each d));
     })
-happens_by dir l m before after n x (dies d is b same) =
-    subst (λ y. AreInStep dir y after) (sym is) (turn_of dir l (after_death d l) before after d first_state x (death_sound d l x.sound) (death_keeps d l) (λ k ne. death_leaves d k l ne) (λ y. y) b first_fits (first_in_step (after_death d l) d (dead_holds d l))
-    (first_goes_on dir) (update_here l.outstanding d None) (λ k ne. update_there l.outstanding d k None ne))
-happens_by dir l m before after n x (withholds first is each same) =
-    subst (λ y. AreInStep dir y after) (sym is) (record {
-      sound = withholding_sound l first x.sound;
-      fits = λ d. subst Fits (sym (each d)) (x.fits d);
-      each = λ d. subst (ControllerInStep (after_withholding l) d) (sym (each d)) (kept_in_step l (after_withholding l) d (before d) x.sound (x.fits d).slots (withholding_keeps l) (withholding_leaves d l) (λ y. y) (x.each d));
-      goes_on = λ d. subst (CanGoOn dir) (sym (each d)) (x.goes_on d);
-      requests = λ d. x.requests d ∙ ap (λ (y : ControllerState). outstanding_of dir y.current) (sym (each d));
-    })
-happens_by dir l m before after n x (resets r epoch lost network grows is each) = reset_together dir dir l m before after x r epoch lost network grows is each
 
+death_together : (dir new : Directory) (l m : Account) (before after : ℕ → ControllerState) (d : ℕ) → AreInStep dir l before → Dies d dir new l before m after → AreInStep dir m after
+death_together dir new l m before after d x t =
+    subst (λ y. AreInStep dir y after) (sym t.account) (turn_of dir l (after_death d l) before after d first_state x (death_sound d l x.sound) (death_keeps d l) (λ k ne. death_leaves d k l ne) (λ y. y) t.becomes first_fits (first_in_step (after_death d l) d (dead_holds d l))
+    (first_goes_on dir) (update_here l.outstanding d None) (λ k ne. update_there l.outstanding d k None ne))
+
+withholding_together : (dir new : Directory) (l m : Account) (before after : ℕ → ControllerState) → AreInStep dir l before → Withholds dir new l before m after → AreInStep dir m after
+withholding_together dir new l m before after x t =
+    subst (λ y. AreInStep dir y after) (sym t.account) (record {
+      sound = withholding_sound l t.first x.sound;
+      fits = λ d. subst Fits (sym (t.each d)) (x.fits d);
+      each = λ d. subst (ControllerInStep (after_withholding l) d) (sym (t.each d)) (kept_in_step l (after_withholding l) d (before d) x.sound (x.fits d).slots (withholding_keeps l) (withholding_leaves d l) (λ y. y) (x.each d));
+      goes_on = λ d. subst (CanGoOn dir) (sym (t.each d)) (x.goes_on d);
+      requests = λ d. x.requests d ∙ ap (λ (y : ControllerState). outstanding_of dir y.current) (sym (t.each d));
+    })
+
+-- a reset, with which another directory may come
+reset_together : (new dir : Directory) (l m : Account) (before after : ℕ → ControllerState) (r : ResetEntry) (epoch : ℕ) (lost : ℕ → Bool) → AreInStep dir l before → BusResets r epoch lost l before m after → AreInStep new m after
+reset_together new dir l m before after r epoch lost x t =
+    subst (λ y. AreInStep new y after) (sym t.account) (record {
+      sound = reset_keeps r l t.network x.sound;
+      fits = λ d. subst Fits (sym (t.each d)) (state_reset_fits epoch (lost d) (before d) (x.fits d));
+      each = λ d. subst (ControllerInStep (after_reset r l) d) (sym (t.each d)) (reset_in_step r l d epoch (lost d) (before d) x.sound t.grows (x.fits d).slots (x.each d));
+      goes_on = λ d. subst (CanGoOn new) (sym (t.each d)) (state_reset_goes_on new epoch (lost d) (before d));
+      requests = λ d. sym (ap (λ (y : ControllerState). outstanding_of new y.current) (t.each d) ∙ reset_outstanding new epoch (lost d) (before d));
+    })
+
+-- the directory stays, except at a bus reset
 pub stay_in_step : (dir new : Directory) (l m : Account) (before after : ℕ → ControllerState) → AreInStep dir l before → Happens dir new l before m after → AreInStep new m after
-stay_in_step dir new l m before after x (asks d now request told heard out is b same) = subst (λ y. AreInStep y m after) (sym same) (happens_by dir l m before after d x (asks d now request told heard out is b refl))
-stay_in_step dir new l m before after x (rests d now told heard out is b same) = subst (λ y. AreInStep y m after) (sym same) (happens_by dir l m before after d x (rests d now told heard out is b refl))
-stay_in_step dir new l m before after x (hears d j s t r lt e f a is b same) = subst (λ y. AreInStep y m after) (sym same) (happens_by dir l m before after d x (hears d j s t r lt e f a is b refl))
-stay_in_step dir new l m before after x (given d c is e b same) = subst (λ y. AreInStep y m after) (sym same) (happens_by dir l m before after d x (given d c is e b refl))
-stay_in_step dir new l m before after x (second is each same) = subst (λ y. AreInStep y m after) (sym same) (happens_by dir l m before after 0 x (second is each refl))
-stay_in_step dir new l m before after x (dies d is b same) = subst (λ y. AreInStep y m after) (sym same) (happens_by dir l m before after d x (dies d is b refl))
-stay_in_step dir new l m before after x (withholds first is each same) = subst (λ y. AreInStep y m after) (sym same) (happens_by dir l m before after 0 x (withholds first is each refl))
-stay_in_step dir new l m before after x (resets r epoch lost network grows is each) = reset_together dir new l m before after x r epoch lost network grows is each
+stay_in_step dir new l m before after x (half_step d now (turns t)) = subst (λ y. AreInStep y m after) (sym t.directory) (turn_together dir new l m before after d now x t t.says)
+stay_in_step dir new l m before after x (half_step d now (hears r t)) = subst (λ y. AreInStep y m after) (sym t.directory) (answer_together dir new l m before after d r x t)
+stay_in_step dir new l m before after x (given d c t) = subst (λ y. AreInStep y m after) (sym t.directory) (given_together dir new l m before after d c x t)
+stay_in_step dir new l m before after x (second t) = subst (λ y. AreInStep y m after) (sym t.directory) (second_together dir new l m before after x t)
+stay_in_step dir new l m before after x (dies d t) = subst (λ y. AreInStep y m after) (sym t.directory) (death_together dir new l m before after d x t)
+stay_in_step dir new l m before after x (withholds t) = subst (λ y. AreInStep y m after) (sym t.directory) (withholding_together dir new l m before after x t)
+stay_in_step dir new l m before after x (resets r epoch lost t) = reset_together new dir l m before after r epoch lost x t
 
 -- ---- what each controller has
 

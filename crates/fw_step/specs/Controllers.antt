@@ -33,6 +33,7 @@ holding_of c = record { reserved = reservation (addressed_by c.current) (pending
 abbrev pub others_of : ControllerState → Others
 others_of c = record { outputs = slot_outputs c; inputs = slot_inputs c }
 
+-- what a controller has that has no current job: the connections of its slots
 abbrev pub slots_alone : ControllerState → Holding
 slots_alone c = record { reserved = None; outputs = slot_outputs c; inputs = slot_inputs c }
 
@@ -68,6 +69,7 @@ pub record JobInStep (l : Account) (d : ℕ) (c : ControllerState) (j : Job) (s 
   pub within : j.slot < 32
   pub step : IsInStep l d j s waits (others_of c)
 
+-- what a controller has by what it is at: with no current job, the connections of its slots alone
 abbrev pub CurrentInStep : Account → ℕ → ControllerState → Current → Type 0
 CurrentInStep l d c Nothing = Holds l d (slots_alone c)
 CurrentInStep l d c (Asking j s) = JobInStep l d c j s false

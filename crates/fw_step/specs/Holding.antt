@@ -24,11 +24,13 @@ pub record Holding : Type 0 where
   pub outputs : Counts
   pub inputs : Counts
 
+-- a controller that has nothing
 abbrev pub no_holding : Holding
 no_holding = record { reserved = None; outputs = λ kind q. 0; inputs = λ kind q. 0 }
 
 -- ---- in the account
 
+-- the broadcast connection is one of this controller
 abbrev pub is_of : ℕ → Option Owner → Bool
 is_of c None = false
 is_of c (Some (Of d)) = c == d
@@ -52,6 +54,7 @@ pub record Holds (l : Account) (c : ℕ) (h : Holding) : Type 0 where
 
 -- ---- after a move
 
+-- two connections are of one kind
 abbrev pub same_kind : ConnectionKind → ConnectionKind → Bool
 same_kind PointToPoint PointToPoint = true
 same_kind PointToPoint Broadcast = false
@@ -62,9 +65,11 @@ same_kind Broadcast Broadcast = true
 abbrev pub one_at : ConnectionKind → PlugAt → Counts
 one_at own p kind q = if same_plug q p && same_kind kind own then 1 else 0
 
+-- the same with one connection more of this kind at plug p
 abbrev pub with_one : ConnectionKind → PlugAt → Counts → Counts
 with_one own p f kind q = f kind q + one_at own p kind q
 
+-- the same with one connection less of this kind at plug p
 abbrev pub without_one : ConnectionKind → PlugAt → Counts → Counts
 without_one own p f kind q = f kind q - one_at own p kind q
 

@@ -34,6 +34,7 @@ pub record Others : Type 0 where
   pub outputs : Counts
   pub inputs : Counts
 
+-- what is allocated for the output plug of a job and stands at no plug
 abbrev pub reservation : Option PlugAt → Option Held → Option Reservation
 reservation plug None = None
 reservation None (Some h) = None
@@ -98,6 +99,7 @@ abbrev pub again : Then → Bool
 again (EndsAs e) = false
 again Again = true
 
+-- the job is at a stage from which it may still allocate a channel or units
 abbrev pub allocates : Stage → Bool
 allocates ReadOutput = true
 allocates (ReadChannels base w) = true
@@ -134,6 +136,7 @@ looks ReadOutput = true
 looks (ReadOutputToLeave e ch u) = true
 looks _ = false
 
+-- the input plug's register was read since the job began
 abbrev pub sees_input : Stage → Bool
 sees_input (ConnectInput f arg) = true
 sees_input _ = false

@@ -7,3 +7,4 @@ pub mod Controllers
 pub mod Together
 pub mod Wants
 pub mod Lingering
+pub mod Laws

@@ -10,9 +10,11 @@ use Rattle.fw_account.specs.Account.{Account}
 use Rattle.fw_account.specs.Network.{is_output}
 use Rattle.fw_account.specs.Words.{OutputPlug, word_of}
 
+-- no output plug goes on talking without a connection
 abbrev pub NoneLingers : Account → Type 0
 NoneLingers l = (p : PlugAt) → IsFalse (l.continues p)
 
+-- the same output plugs go on talking without a connection
 abbrev pub SameLinger : Account → Account → Type 0
 SameLinger l m = (p : PlugAt) → m.continues p ≡ l.continues p
 

@@ -11,6 +11,7 @@ use Rattle.fw_cmp.specs.Connections.{kind_of, output_of, input_of}
 use Rattle.fw_cmp.specs.Requests.{swap_of}
 use Rattle.fw_step.specs.Registers.{succeeds}
 
+-- a move at a plug, where the connection has that plug
 abbrev pub at_plug : Option PlugAt → Move → Option (PlugAt × Move)
 at_plug None m = None
 at_plug (Some p) m = Some (p, m)
@@ -28,6 +29,7 @@ move_of j (stage.RaiseBandwidth next ch u arg) = at_plug (output_of j.connection
 move_of j (stage.RestoreChannel next ch arg) = at_plug (output_of j.connection) (ReleaseChannel ch)
 move_of j _ = None
 
+-- the account after a move, or the same where there is none
 abbrev pub after_move : ℕ → Option (PlugAt × Move) → Account → Account
 after_move c None l = l
 after_move c (Some m) l = after c m.0 m.1 l

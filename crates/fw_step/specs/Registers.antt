@@ -10,12 +10,14 @@ use Rattle.fw_account.specs.Words.{Register, BandwidthAvailable, ChannelsAvailab
 use Rattle.fw_cmp.specs.declared.request.Target.{Target}
 use Rattle.fw_cmp.specs.declared.request.Target.TheVariants as target
 
+-- the register of the account that a request is for
 abbrev pub register_at : Target → Register
 register_at (target.OutputPlug p) = OutputPlug p
 register_at (target.InputPlug p) = InputPlug p
 register_at (target.Channels base) = ChannelsAvailable base
 register_at target.BandwidthAvailable = BandwidthAvailable
 
+-- the latest bus reset has an isochronous resource manager
 abbrev pub has_manager : Option ResetEntry → Bool
 has_manager None = false
 has_manager (Some r) = is_some r.manager

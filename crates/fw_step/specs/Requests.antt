@@ -4,6 +4,8 @@ use Rattle.std.specs.Int.{to_be_bytes, w32}
 use Rattle.fw_async.specs.declared.packet.Head.{Head}
 use Rattle.fw_async.specs.declared.packet.Packet.{Packet}
 use Rattle.fw_async.specs.declared.packet.Packet.TheVariants.{ReadQuadlet, ReadQuadletReply, Lock, LockReply}
+use Rattle.fw_base.specs.declared.label.Label.TheVariants.{Procedure}
+use Rattle.fw_base.specs.Labels.{label_code}
 use Rattle.fw_csr.specs.declared.reply.Reply.{Reply}
 use Rattle.fw_csr.specs.declared.request.Swap.{Swap}
 use Rattle.fw_entry.specs.declared.entry.ResetEntry.{ResetEntry}
@@ -30,6 +32,7 @@ use Rattle.fw_cmp.specs.Requests.{offset_of, swap_bytes, access_of, addressee_of
 abbrev pub IsDevice : Option ResetEntry → ℕ → ℕ → Type 0
 IsDevice latest d n = (row : NodeRow) × (row_of_node latest n ≡ Some row) × (row.device ≡ d)
 
+-- node n of the latest reset entry is the isochronous resource manager
 abbrev pub IsManager : Option ResetEntry → ℕ → Type 0
 IsManager None n = ⊥
 IsManager (Some r) n = r.manager ≡ Some n
@@ -59,10 +62,11 @@ PlugNumberFits BandwidthAvailable = ⊤
 
 -- ---- packets
 
--- a packet of a procedure, from one node to another: transaction label 0, retry code 01, priority 0 (own)
+-- a packet of a procedure, from one node to another: retry code 01, priority 0 (own)
 abbrev pub procedure_head : ℕ → ℕ → Head
-procedure_head destination source = record { destination = first_id + destination; tl = 0; rt = 1; pri = 0; source = first_id + source }
+procedure_head destination source = record { destination = first_id + destination; tl = label_code Procedure; rt = 1; pri = 0; source = first_id + source }
 
+-- the packet of a quadlet read at an offset, or of a quadlet compare_swap there
 abbrev pub request_by : Head → ℕ → Option Swap → Packet
 request_by h offset None = ReadQuadlet h offset
 request_by h offset (Some s) = Lock h offset 2 (swap_bytes s)
@@ -78,6 +82,7 @@ IsResponse h (Some s) r p = (old : List ℕ) × (p ≡ LockReply h r.rcode 2 old
 
 -- ---- in the account
 
+-- the operation of a request: a quadlet read, or a compare_swap with its bytes
 abbrev pub operation_of : Option Swap → Operation
 operation_of None = Reads
 operation_of (Some s) = Locks 2 (swap_bytes s)
@@ -86,10 +91,12 @@ operation_of (Some s) = Locks 2 (swap_bytes s)
 abbrev pub request_to : ℕ → Access → Request
 request_to n a = record { target = first_id + n; address = offset_of a.target; operation = operation_of a.swap }
 
+-- the request to a node, where there is one that it goes to
 abbrev pub requested_of : Option ℕ → Access → Option Request
 requested_of None a = None
 requested_of (Some n) a = Some (request_to n a)
 
+-- the request of an access, to the node that the directory names
 abbrev pub requested : Directory → Option Access → Option Request
 requested dir None = None
 requested dir (Some a) = requested_of (addressee_of dir a.target) a
@@ -103,6 +110,7 @@ outstanding_of dir (Overtaken i o) = None
 
 -- ---- what a controller says
 
+-- a request goes out in the turn
 abbrev pub is_sent : Next → Bool
 is_sent (Send to q) = true
 is_sent _ = false

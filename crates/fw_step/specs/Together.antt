@@ -1,5 +1,5 @@
 -- All controllers of a bus in step with one account, and what may happen to them.
-use Rattle.std.specs.Prelude.{ℕ, ◌≡◌, ◌≢◌, ◌<◌, Bool, Some, None, Ok, [], IsTrue, IsFalse}
+use Rattle.std.specs.Prelude.{ℕ, ◌≡◌, ◌≢◌, ◌<◌, ◌⊎◌, Bool, Some, None, Ok, [], IsTrue, IsFalse}
 use Rattle.fw_base.specs.declared.plug.PlugAt.{PlugAt}
 use Rattle.fw_csr.specs.declared.reply.Reply.{Reply}
 use Rattle.fw_entry.specs.declared.entry.ResetEntry.{ResetEntry}
@@ -57,19 +57,89 @@ pub data IsGiven (before after : ControllerState) : Type 0 where
   connection : (i : ℕ) (s : Slot) → start before ≡ Ok i → IsMaking s → SlotFits s → after ≡ started (Ok i) s before → IsGiven before after
   break : (i : ℕ) → break_fault before i ≡ None → after ≡ break_started before i → IsGiven before after
 
--- What happens: half steps of one controller (its request goes out, it hears the answer, or it ends its job or does
--- nothing), a job that is given to one, a bus reset, the end of the reclaim second, a controller's death, and before the
--- first bus reset the withholding of channel 31. A new directory comes with a bus reset alone. A controller that lost a response
--- stands here as one that heard it, and the bus reset says of which that is so: their jobs count as ones whose answer was not heard.
+-- ---- a half step of one controller
+
+-- a turn whose request goes out
+pub record SendsRequest (d now : ℕ) (dir : Directory) (l : Account) (before : ℕ → ControllerState) (m : Account) : Type 0 where
+  pub request : Request
+  pub outstanding : outstanding_of dir (after_next now dir (before d)).current ≡ Some request
+  pub account : m ≡ asked d request l
+
+-- a turn in which a job ends, or nothing is done
+pub record SendsNothing (d now : ℕ) (dir : Directory) (l : Account) (before : ℕ → ControllerState) (m : Account) : Type 0 where
+  pub outstanding : outstanding_of dir (after_next now dir (before d)).current ≡ None
+  pub account : m ≡ l
+
+-- a controller with no request outstanding takes its turn at this cycle
+pub record TakesTurn (d now : ℕ) (dir new : Directory) (l : Account) (before : ℕ → ControllerState) (m : Account) (after : ℕ → ControllerState) : Type 0 where
+  pub told : IsDirectory l now dir
+  pub heard : IsHeard (before d).current
+  pub says : SendsRequest d now dir l before m ⊎ SendsNothing d now dir l before m
+  pub becomes : Becomes before d (after_next now dir (before d)) after
+  pub directory : new ≡ dir
+
+-- its request is carried out, and it hears the answer
+pub record HearsAnswer (d : ℕ) (r : Reply) (dir new : Directory) (l : Account) (before : ℕ → ControllerState) (m : Account) (after : ℕ → ControllerState) : Type 0 where
+  pub device : d < 63
+  pub job : Job
+  pub stage : Stage
+  pub current : (before d).current ≡ Hearing job stage
+  pub target : Target
+  pub asked : target_of job stage ≡ Some target
+  pub answer : IsAnswer l target r
+  pub account : m ≡ ended d (carried_out d job stage r l)
+  pub becomes : Becomes before d (after_hear (before d) r) after
+  pub directory : new ≡ dir
+
+-- a half step of a controller: its turn, or the answer to its request
+pub data TakesHalfStep (d now : ℕ) (dir new : Directory) (l : Account) (before : ℕ → ControllerState) (m : Account) (after : ℕ → ControllerState) : Type 0 where
+  turns : TakesTurn d now dir new l before m after → TakesHalfStep d now dir new l before m after
+  hears : (r : Reply) → HearsAnswer d r dir new l before m after → TakesHalfStep d now dir new l before m after
+
+-- ---- what happens
+
+-- a controller becomes another, by the job that it is given
+pub record TakesJob (d : ℕ) (c : ControllerState) (dir new : Directory) (l : Account) (before : ℕ → ControllerState) (m : Account) (after : ℕ → ControllerState) : Type 0 where
+  pub given : IsGiven (before d) c
+  pub account : m ≡ l
+  pub becomes : Becomes before d c after
+  pub directory : new ≡ dir
+
+-- A bus reset, with a new directory. A controller that lost a response stands here as one that heard it, and the bus reset says of
+-- which that is so: their jobs count as ones whose answer was not heard.
+pub record BusResets (r : ResetEntry) (epoch : ℕ) (lost : ℕ → Bool) (l : Account) (before : ℕ → ControllerState) (m : Account) (after : ℕ → ControllerState) : Type 0 where
+  pub network : IsNetwork r
+  pub grows : KeepsPlugs l r
+  pub account : m ≡ after_reset r l
+  pub each : (d : ℕ) → after d ≡ controller_reset epoch (lost d) (before d)
+
+-- the reclaim second is over
+pub record EndsSecond (dir new : Directory) (l : Account) (before : ℕ → ControllerState) (m : Account) (after : ℕ → ControllerState) : Type 0 where
+  pub account : m ≡ after_second l
+  pub each : (d : ℕ) → after d ≡ second_over (before d)
+  pub directory : new ≡ dir
+
+-- a controller dies, and its device has one that has just started
+pub record Dies (d : ℕ) (dir new : Directory) (l : Account) (before : ℕ → ControllerState) (m : Account) (after : ℕ → ControllerState) : Type 0 where
+  pub account : m ≡ after_death d l
+  pub becomes : Becomes before d first_state after
+  pub directory : new ≡ dir
+
+-- channel 31 is withheld, before the first bus reset
+pub record Withholds (dir new : Directory) (l : Account) (before : ℕ → ControllerState) (m : Account) (after : ℕ → ControllerState) : Type 0 where
+  pub first : l.latest ≡ None
+  pub account : m ≡ after_withholding l
+  pub each : (d : ℕ) → after d ≡ before d
+  pub directory : new ≡ dir
+
+-- what happens to the account and all controllers; a new directory comes with a bus reset alone
 pub data Happens (dir new : Directory) (l : Account) (before : ℕ → ControllerState) (m : Account) (after : ℕ → ControllerState) : Type 0 where
-  asks : (d now : ℕ) (request : Request) → IsDirectory l now dir → IsHeard (before d).current → outstanding_of dir (after_next now dir (before d)).current ≡ Some request → m ≡ asked d request l → Becomes before d (after_next now dir (before d)) after → new ≡ dir → Happens dir new l before m after
-  rests : (d now : ℕ) → IsDirectory l now dir → IsHeard (before d).current → outstanding_of dir (after_next now dir (before d)).current ≡ None → m ≡ l → Becomes before d (after_next now dir (before d)) after → new ≡ dir → Happens dir new l before m after
-  hears : (d : ℕ) (j : Job) (s : Stage) (t : Target) (r : Reply) → d < 63 → (before d).current ≡ Hearing j s → target_of j s ≡ Some t → IsAnswer l t r → m ≡ ended d (carried_out d j s r l) → Becomes before d (after_hear (before d) r) after → new ≡ dir → Happens dir new l before m after
-  given : (d : ℕ) (c : ControllerState) → IsGiven (before d) c → m ≡ l → Becomes before d c after → new ≡ dir → Happens dir new l before m after
-  resets : (r : ResetEntry) (epoch : ℕ) (lost : ℕ → Bool) → IsNetwork r → KeepsPlugs l r → m ≡ after_reset r l → ((d : ℕ) → after d ≡ controller_reset epoch (lost d) (before d)) → Happens dir new l before m after
-  second : m ≡ after_second l → ((d : ℕ) → after d ≡ second_over (before d)) → new ≡ dir → Happens dir new l before m after
-  dies : (d : ℕ) → m ≡ after_death d l → Becomes before d first_state after → new ≡ dir → Happens dir new l before m after
-  withholds : l.latest ≡ None → m ≡ after_withholding l → ((d : ℕ) → after d ≡ before d) → new ≡ dir → Happens dir new l before m after
+  half_step : (d now : ℕ) → TakesHalfStep d now dir new l before m after → Happens dir new l before m after
+  given : (d : ℕ) (c : ControllerState) → TakesJob d c dir new l before m after → Happens dir new l before m after
+  resets : (r : ResetEntry) (epoch : ℕ) (lost : ℕ → Bool) → BusResets r epoch lost l before m after → Happens dir new l before m after
+  second : EndsSecond dir new l before m after → Happens dir new l before m after
+  dies : (d : ℕ) → Dies d dir new l before m after → Happens dir new l before m after
+  withholds : Withholds dir new l before m after → Happens dir new l before m after
 
 -- ---- settled
 

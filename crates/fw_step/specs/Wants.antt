@@ -14,15 +14,18 @@ use Rattle.fw_cmp.specs.declared.job.Then.TheVariants.{EndsAs, Again}
 use Rattle.fw_cmp.specs.declared.stage.Stage.{Stage}
 use Rattle.fw_cmp.specs.declared.stage.Stage.TheVariants.{ReadOutputToLeave, LeaveOutput, ReadBandwidthToRelease, RaiseBandwidth, ReadChannelsToRelease, RestoreChannel, Ended}
 
+-- a job ends for want of units, or comes too late
 abbrev pub is_want : Ending → Bool
 is_want (NoUnits left) = true
 is_want Late = true
 is_want _ = false
 
+-- a job is to end so once it has given back what it holds
 abbrev pub leads_to_want : Then → Bool
 leads_to_want (EndsAs e) = is_want e
 leads_to_want Again = false
 
+-- an outcome for want of units, or of a restoring that came too late
 abbrev pub is_want_outcome : Outcome → Bool
 is_want_outcome (outcome.NoUnits left) = true
 is_want_outcome (outcome.Late now) = true

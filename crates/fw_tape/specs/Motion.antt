@@ -22,6 +22,7 @@ moved_on system start n = (start + n) % frames_per_day system
 abbrev pub moved_back : TapeSystem → ℕ → ℕ → ℕ
 moved_back system start n = (start + (frames_per_day system - n % frames_per_day system)) % frames_per_day system
 
+-- the frame after so many frames of a motion
 abbrev pub moved : Option Direction → TapeSystem → ℕ → ℕ → ℕ
 moved None system start n = start
 moved (Some Forward) system start n = moved_on system start n

@@ -13,6 +13,7 @@ only b = OneOf (b ∷ []) End
 abbrev pub row : ℕ → Pattern → TapeRow → Row TapeRow
 row opcode operands meaning = record { opcode = opcode; operands = operands; meaning = meaning }
 
+-- the CONTROL commands of the tape subunit
 abbrev pub control_rows : List (Row TapeRow)
 control_rows =
     row 0xC1 (only 0x60) Eject
@@ -27,9 +28,11 @@ control_rows =
     ∷ row 0xC4 (only 0x75) (Enter FastForward)
     ∷ []
 
+-- the STATUS commands of the tape subunit
 abbrev pub status_rows : List (Row TapeRow)
 status_rows = row 0xD0 (only 0x7F) TransportState ∷ row 0x51 (OneOf (0x71 ∷ []) (Any (Any (Any (Any End))))) TimeCode ∷ []
 
+-- the NOTIFY commands of the tape subunit
 abbrev pub notify_rows : List (Row TapeRow)
 notify_rows = row 0xD0 (only 0x7F) TransportState ∷ []
 

@@ -6,8 +6,6 @@ mod calls;
 #[cfg(test)]
 mod decodes;
 #[cfg(test)]
-mod nodes;
-#[cfg(test)]
 mod program;
 #[cfg(test)]
 mod runs;

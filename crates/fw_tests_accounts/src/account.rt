@@ -8,10 +8,7 @@ use std::test::Fail;
 #[test]
 fn a_new_ledger_tells_that_all_is_free(rt: HostRuntime) -> Result<(), Fail> {
     let ledger = Ledger::new(rt.alloc())?;
-    assert_eq!(rt;
-        (ledger.remainder(), ledger.free_channels()),
-        (4915, u64::MAX)
-    );
+    assert!(rt; (ledger.remainder(), ledger.free_channels()) == (4915, u64::MAX));
     let plug = PlugAt { device: 0, plug: 0 };
     assert!(rt; ledger.out_word(plug).is_none() && ledger.in_word(plug).is_none());
     Ok(())
@@ -23,7 +20,7 @@ fn before_a_reset_little_is_taken(rt: HostRuntime) -> Result<(), Fail> {
     let mut ledger = Ledger::new(rt.alloc())?;
     assert!(rt; !second_over(&rt, &mut ledger)?);
     assert!(rt; dies(&rt, &mut ledger, 0)?);
-    assert_eq!(rt; ledger.remainder(), 4915);
+    assert!(rt; ledger.remainder() == 4915);
     assert!(rt;
         !take(
             &rt,

@@ -191,7 +191,7 @@ const PROCEDURES: [&[Step]; 9] = [
 
 #[test]
 fn controllers_go_through_their_procedures(rt: HostRuntime) {
-    for steps in PROCEDURES {
+    for &steps in &PROCEDURES {
         takes(&rt, steps);
     }
 }

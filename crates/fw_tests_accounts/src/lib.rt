@@ -4,8 +4,6 @@
 #[cfg(test)]
 mod account;
 #[cfg(test)]
-mod audits;
-#[cfg(test)]
 mod controllers;
 #[cfg(test)]
 mod decks;

@@ -114,7 +114,7 @@ const MOVES: [(u32, u32, u32, u32, u32, Words); 12] = [
 #[test]
 fn connections_are_made_overlaid_and_broken(rt: HostRuntime) -> Result<(), Fail> {
     let mut ledger = joined(&rt)?;
-    for (from, to, offset, argument, new, after) in MOVES {
+    for &(from, to, offset, argument, new, after) in &MOVES {
         let s = Swap {
             from,
             to,
@@ -123,7 +123,10 @@ fn connections_are_made_overlaid_and_broken(rt: HostRuntime) -> Result<(), Fail>
             new,
         };
         assert!(rt; is_taken(&rt, &mut ledger, s, argument)?);
-        assert_eq!(rt; words(&ledger), Some(after), "{argument:08x} to {new:08x}");
+        assert!(rt;
+            words(&ledger) == Some(after),
+            "{argument:08x} to {new:08x}"
+        );
     }
     Ok(())
 }
@@ -144,7 +147,7 @@ const NO_MOVES: [(u32, u32, u32, u32); 6] = [
 #[test]
 fn swaps_that_are_no_moves_are_refused(rt: HostRuntime) -> Result<(), Fail> {
     let before = Some((0x1333, FREE, 0x803F_007A, 0x803F_0000));
-    for (to, offset, argument, new) in NO_MOVES {
+    for &(to, offset, argument, new) in &NO_MOVES {
         let s = Swap {
             from: FIRST,
             to,
@@ -155,9 +158,8 @@ fn swaps_that_are_no_moves_are_refused(rt: HostRuntime) -> Result<(), Fail> {
         for (old, taken) in [(argument, false), (!argument, true)] {
             let mut ledger = joined(&rt)?;
             let found = is_taken(&rt, &mut ledger, s, old)?;
-            assert_eq!(rt;
-                (found, words(&ledger)),
-                (taken, before),
+            assert!(rt;
+                (found, words(&ledger)) == (taken, before),
                 "{argument:08x} to {new:08x}"
             );
         }
@@ -179,18 +181,15 @@ fn deaths_and_resets(rt: HostRuntime) -> Result<(), Fail> {
     };
     assert!(rt; is_taken(&rt, &mut ledger, channel, FREE)?);
     assert!(rt; dies(&rt, &mut ledger, 0)?);
-    assert_eq!(rt;
-        words(&ledger),
-        Some((0x1333, HELD, 0x803F_007A, 0x803F_0000))
-    );
+    assert!(rt; words(&ledger) == Some((0x1333, HELD, 0x803F_007A, 0x803F_0000)));
     let free = Some((0x1333, FREE, 0x803F_007A, 0x803F_0000));
     reset(&rt, &mut ledger, 3)?;
-    assert_eq!(rt; words(&ledger), free);
+    assert!(rt; words(&ledger) == free);
     address(&rt, &mut ledger, 0x803F_007A)?;
     assert!(rt; !is_taken(&rt, &mut ledger, channel, FREE)?);
-    assert_eq!(rt; words(&ledger), free);
+    assert!(rt; words(&ledger) == free);
     assert!(rt; second_over(&rt, &mut ledger)?);
     assert!(rt; !second_over(&rt, &mut ledger)?);
-    assert_eq!(rt; words(&ledger), free);
+    assert!(rt; words(&ledger) == free);
     Ok(())
 }

@@ -4,7 +4,6 @@ use fw_outside::{BufferedSink, Failed, Sink, Source, StdSink, StdSource};
 use std::alloc::Global;
 use std::io;
 use std::io::ErrorKind;
-use std::test::Fail;
 
 /// A reader that counts its calls. The first fails, and each later one gives a byte 7.
 #[derive(Drop)]
@@ -47,6 +46,11 @@ impl Writer {
             flushes: 0,
         }
     }
+
+    // Whether it holds these bytes, by so many calls, and was flushed so often.
+    fn has(&self, held: &[u8], calls: u32, flushes: u32) -> bool {
+        self.held.as_slice() == held && self.calls == calls && self.flushes == flushes
+    }
 }
 
 impl io::Write for Writer {
@@ -73,97 +77,95 @@ fn read_once(reader: &mut FailsFirst, into: &mut [u8; 2]) -> Result<usize, Faile
     StdSource::new(reader).read(into)
 }
 
-fn write_through<K: Sink>(sink: &mut K, piece: &[u8]) -> Result<(), Failed> {
-    sink.write(piece)
-}
-
 const ERRORS: [ErrorKind; 3] = [
     ErrorKind::Interrupted,
     ErrorKind::WouldBlock,
     ErrorKind::Other,
 ];
 
+// Whether a reader that fails first is asked once, and once more for the byte behind.
+fn is_asked_once(error: ErrorKind) -> bool {
+    let mut reader = FailsFirst { error, calls: 0 };
+    let mut into = [0; 2];
+    let first = read_once(&mut reader, &mut into);
+    if first.is_ok() || into != [0, 0] || reader.calls != 1 {
+        return false;
+    }
+    let second = read_once(&mut reader, &mut into);
+    second == Ok(1) && into == [7, 0] && reader.calls == 2
+}
+
 // An error is one fault, also that of an interrupted call: the reader is not asked a second time.
 #[test]
 fn a_reader_that_fails_is_asked_once(rt: HostRuntime) {
-    for error in ERRORS {
-        let mut reader = FailsFirst { error, calls: 0 };
-        let mut into = [0; 2];
-        let first = read_once(&mut reader, &mut into);
-        assert!(rt; first.is_err() && into == [0, 0]);
-        assert_eq!(rt; reader.calls, 1);
-        let second = read_once(&mut reader, &mut into);
-        assert!(rt; second == Ok(1) && into == [7, 0]);
-        assert_eq!(rt; reader.calls, 2);
+    for &error in &ERRORS {
+        assert!(rt; is_asked_once(error));
     }
 }
 
+// Whether each of the pieces is written.
+fn are_written<K: Sink>(sink: &mut K, pieces: &[&[u8]]) -> bool {
+    for piece in pieces {
+        if sink.write(piece).is_err() {
+            return false;
+        }
+    }
+    true
+}
+
+// Whether each of the pieces is written through a buffer, and passed on at the end.
+fn are_passed_on(writer: &mut Writer, pieces: &[&[u8]]) -> bool {
+    let mut sink = BufferedSink::new(writer);
+    are_written(&mut sink, pieces) && sink.flush().is_ok()
+}
+
+const PIECES: [&[u8]; 3] = [&[1, 2, 3], &[], &[4, 5]];
+
 // A short write is no fault, and one that takes nothing is one.
 #[test]
-fn a_writer_may_take_less_than_it_is_given(rt: HostRuntime) -> Result<(), Fail> {
-    let alloc = rt.alloc();
-    let pieces: [&[u8]; 3] = [&[1, 2, 3], &[], &[4, 5]];
-    let mut writer = Writer::new(alloc, 1, 0);
-    let mut sink = StdSink::new(&mut writer);
-    for piece in pieces {
-        assert!(rt; write_through(&mut sink, piece).is_ok());
-    }
-    assert_eq!(rt; writer.held.as_slice(), [1, 2, 3, 4, 5].as_slice());
-    assert_eq!(rt; writer.calls, 5);
-    let mut sink = BufferedSink::new(&mut writer);
-    for piece in pieces {
-        assert!(rt; write_through(&mut sink, piece).is_ok());
-    }
-    assert!(rt; sink.flush().is_ok());
-    assert_eq!(rt;
-        writer.held.as_slice(),
-        [1, 2, 3, 4, 5, 1, 2, 3, 4, 5].as_slice()
-    );
-    assert_eq!(rt; writer.calls, 10);
-    let mut writer = Writer::new(alloc, 0, 0);
-    let mut sink = StdSink::new(&mut writer);
-    assert!(rt; write_through(&mut sink, &[1, 2]).is_err());
-    assert_eq!(rt; writer.calls, 1);
-    Ok(())
+fn a_writer_may_take_less_than_it_is_given(rt: HostRuntime) {
+    let mut writer = Writer::new(rt.alloc(), 1, 0);
+    assert!(rt; are_written(&mut StdSink::new(&mut writer), &PIECES));
+    assert!(rt; writer.has([1, 2, 3, 4, 5].as_slice(), 5, 0));
+    assert!(rt; are_passed_on(&mut writer, &PIECES));
+    assert!(rt; writer.has([1, 2, 3, 4, 5, 1, 2, 3, 4, 5].as_slice(), 10, 1));
+    let mut writer = Writer::new(rt.alloc(), 0, 0);
+    assert!(rt; !are_written(&mut StdSink::new(&mut writer), &PIECES));
+    assert!(rt; writer.has(&[], 1, 0));
 }
 
 // A writer is flushed where its sink is, once, and by no write.
 #[test]
-fn a_flush_reaches_the_writer_once(rt: HostRuntime) -> Result<(), Fail> {
+fn a_flush_reaches_the_writer_once(rt: HostRuntime) {
     let mut writer = Writer::new(rt.alloc(), 100_000, 0);
     let mut sink = StdSink::new(&mut writer);
-    assert!(rt; write_through(&mut sink, &[1]).is_ok());
-    assert!(rt; sink.flush().is_ok());
-    assert!(rt; writer.calls == 1 && writer.flushes == 1);
-    let mut sink = BufferedSink::new(&mut writer);
-    assert!(rt; write_through(&mut sink, &[2; 70_000]).is_ok());
-    assert!(rt; write_through(&mut sink, &[3]).is_ok());
-    assert!(rt; write_through(&mut sink, &[4]).is_ok());
-    assert!(rt; sink.flush().is_ok());
-    assert!(rt; writer.calls == 3 && writer.flushes == 2);
-    assert_eq!(rt; writer.held.len(), 70_003);
-    Ok(())
+    assert!(rt; are_written(&mut sink, &[&[1]]) && sink.flush().is_ok());
+    assert!(rt; writer.has(&[1], 1, 1));
+    assert!(rt; are_passed_on(&mut writer, &[&[2; 70_000], &[3], &[4]]));
+    assert!(rt; writer.calls == 3 && writer.flushes == 2 && writer.held.len() == 70_003);
+}
+
+// Two pieces, and by a flush, or by a piece that does not fit behind them, the first call and the second, which fails; then a piece and
+// a flush.
+fn fails_once(writer: &mut Writer, last: &[u8]) -> bool {
+    let mut sink = BufferedSink::new(writer);
+    if !are_written(&mut sink, &[&[1, 2], &[3, 4]]) {
+        return false;
+    }
+    let second = if last.is_empty() {
+        sink.flush()
+    } else {
+        sink.write(last)
+    };
+    second.is_err() && sink.write(&[6, 7, 8]).is_ok() && sink.flush().is_ok()
 }
 
 // What was kept back where the writer failed is lost, the part of it that was taken too: none of it is passed on again.
 #[test]
-fn what_was_kept_back_is_not_passed_on_twice(rt: HostRuntime) -> Result<(), Fail> {
-    let alloc = rt.alloc();
-    // By a flush, and by a piece that does not fit behind it.
+fn what_was_kept_back_is_not_passed_on_twice(rt: HostRuntime) {
     for last in [&[].as_slice(), [5; 70_000].as_slice()] {
-        let mut writer = Writer::new(alloc, 2, 2);
-        let mut sink = BufferedSink::new(&mut writer);
-        assert!(rt; write_through(&mut sink, &[1, 2]).is_ok());
-        assert!(rt; write_through(&mut sink, &[3, 4]).is_ok());
-        if last.is_empty() {
-            assert!(rt; sink.flush().is_err());
-        } else {
-            assert!(rt; write_through(&mut sink, last).is_err());
-        }
-        assert!(rt; write_through(&mut sink, &[6, 7, 8]).is_ok());
-        assert!(rt; sink.flush().is_ok());
-        assert_eq!(rt; writer.held.as_slice(), [1, 2, 6, 7, 8].as_slice());
-        assert!(rt; writer.calls == 4 && writer.flushes == 1);
+        let mut writer = Writer::new(rt.alloc(), 2, 2);
+        assert!(rt; fails_once(&mut writer, last));
+        assert!(rt; writer.has(&[1, 2, 6, 7, 8], 4, 1));
     }
-    Ok(())
 }

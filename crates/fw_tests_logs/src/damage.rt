@@ -1,13 +1,14 @@
 //! Logs that are cut, damaged or too long.
 
-use crate::reading::{fault_of, is_written_as};
+ghost use Rattle.std.specs.Prelude.{◌<◌, ◌^◌, length};
+
+use crate::logs::ONE_DECK;
+use crate::reading::{is_refused, is_written_again};
 use fw_async::PacketFault;
 use fw_cip::IsoFault;
 use fw_log::{BodyFault, LogFault, LogWhy, Version};
 use fw_phy::PhyFault;
-use fw_vectors::{ONE_DECK, ONE_DECK_IN_VERSION_1};
 use std::alloc::{AllocError, Global};
-use std::process::Abort;
 use std::test::Fail;
 
 // Lengths at which the log of the lone deck stands between two entries, in each version.
@@ -19,28 +20,34 @@ const BETWEEN_IN_VERSION_2: [usize; 15] = [
     16, 52, 80, 112, 140, 172, 212, 248, 276, 308, 348, 384, 424, 460, 484,
 ];
 
+// Whether each front of a log is refused at its end, which stands between two entries at these lengths.
+fn is_refused_cut(alloc: Global, log: &[u8], between: &[usize]) -> Result<bool, AllocError>
+    requires { length log.now < 2 ^ 32 }
+{
+    for length in 0..log.len() {
+        let why = if between.contains(&length) {
+            LogWhy::NoEnd
+        } else {
+            LogWhy::Cut
+        };
+        let place = length as u64;
+        if !is_refused(alloc, &log[..length], 7, LogFault { place, why })? {
+            return Ok(false);
+        }
+    }
+    Ok(true)
+}
+
 #[test]
 fn a_log_that_is_cut(rt: HostRuntime) -> Result<(), Fail> {
     let alloc = rt.alloc();
     for (text, between) in [
-        (ONE_DECK_IN_VERSION_1, &BETWEEN),
-        (ONE_DECK.log, &BETWEEN_IN_VERSION_2),
+        (ONE_DECK.one, &BETWEEN),
+        (ONE_DECK.two, &BETWEEN_IN_VERSION_2),
     ] {
         let log = hex::decode(alloc, text)?;
         assert!(rt; log.len() <= 500);
-        for length in 0..log.len() {
-            let why = if between.contains(&length) {
-                LogWhy::NoEnd
-            } else {
-                LogWhy::Cut
-            };
-            let place = length as u64;
-            let fault = fault_of(&rt, alloc, &log[..length], 7)?;
-            assert!(rt;
-                fault == Some(LogFault { place, why }),
-                "the first {length} bytes"
-            );
-        }
+        assert!(rt; is_refused_cut(alloc, &log, between)?);
     }
     Ok(())
 }
@@ -121,62 +128,70 @@ const DAMAGES_OF_A_BLOCK: &[Damage] = &[
     ),
 ];
 
-// Writes over the bytes of a log, of which one may follow the last.
+// Writes over the bytes of a log, of which one may follow the last. None where one stands further behind.
 fn damaged(
-    rt: &impl Abort,
     alloc: Global,
     log: &[u8],
     bytes: &[(usize, u8)],
-) -> Result<Vec<u8>, AllocError> {
+) -> Result<Option<Vec<u8>>, AllocError> {
     let mut damaged = log.to_vec(alloc)?;
     for (at, byte) in bytes {
         if *at == damaged.len() {
             damaged.push(*byte)?;
         }
-        assert!(rt; *at < damaged.len());
-        damaged[*at] = *byte;
+        let Some(here) = damaged.get_mut(*at) else {
+            return Ok(None);
+        };
+        *here = *byte;
     }
-    Ok(damaged)
+    Ok(Some(damaged))
 }
 
-// Each of the damages has its fault, in pieces of three sizes.
-fn are_refused(
-    rt: &impl Abort,
-    alloc: Global,
-    log: &[u8],
-    damages: &[Damage],
-) -> Result<(), AllocError> {
-    for (bytes, why, place) in damages {
-        let damaged = damaged(rt, alloc, log, bytes)?;
-        assert!(rt; damaged.len() <= 600);
-        let fault = LogFault {
-            place: *place,
-            why: *why,
-        };
-        for size in [1, 7, 600] {
-            let found = fault_of(rt, alloc, &damaged, size)?;
-            assert!(rt; found == Some(fault), "at {place} in pieces of {size}");
+// Whether a damage has its fault, in pieces of three sizes.
+fn is_found(alloc: Global, log: &[u8], damage: &Damage) -> Result<bool, AllocError> {
+    let (bytes, why, place) = *damage;
+    let Some(damaged) = damaged(alloc, log, bytes)? else {
+        return Ok(false);
+    };
+    if damaged.len() > 600 {
+        return Ok(false);
+    }
+    let fault = LogFault { place, why };
+    Ok(
+        is_refused(alloc, &damaged, 1, fault)?
+            && is_refused(alloc, &damaged, 7, fault)?
+            && is_refused(alloc, &damaged, 600, fault)?,
+    )
+}
+
+// Whether each of the damages has its fault.
+fn are_found(alloc: Global, log: &[u8], damages: &[Damage]) -> Result<bool, AllocError> {
+    for damage in damages {
+        if !is_found(alloc, log, damage)? {
+            return Ok(false);
         }
     }
-    Ok(())
+    Ok(true)
 }
 
 #[test]
 fn a_log_that_is_damaged(rt: HostRuntime) -> Result<(), Fail> {
     let alloc = rt.alloc();
-    let one = hex::decode(alloc, ONE_DECK_IN_VERSION_1)?;
-    are_refused(&rt, alloc, &one, DAMAGES)?;
-    let two = hex::decode(alloc, ONE_DECK.log)?;
-    are_refused(&rt, alloc, &two, DAMAGES_IN_VERSION_2)?;
+    let one = hex::decode(alloc, ONE_DECK.one)?;
+    assert!(rt; are_found(alloc, &one, DAMAGES)?);
+    let two = hex::decode(alloc, ONE_DECK.two)?;
+    assert!(rt; are_found(alloc, &two, DAMAGES_IN_VERSION_2)?);
     let block = log_of_a_block(alloc)?;
-    are_refused(&rt, alloc, &block, DAMAGES_OF_A_BLOCK)?;
+    assert!(rt; are_found(alloc, &block, DAMAGES_OF_A_BLOCK)?);
     Ok(())
 }
 
 #[test]
 fn a_block_is_read(rt: HostRuntime) -> Result<(), Fail> {
     let log = log_of_a_block(rt.alloc())?;
-    assert_eq!(rt; log.len(), 532);
-    is_written_as(&rt, rt.alloc(), &log, Version::One, &log)?;
+    assert!(rt; log.len() == 532);
+    for size in [1, 7, 532] {
+        assert!(rt; is_written_again(rt.alloc(), &log, size, Version::One)?);
+    }
     Ok(())
 }

@@ -8,11 +8,11 @@ mod changes;
 #[cfg(test)]
 mod damage;
 #[cfg(test)]
-mod decoding;
-#[cfg(test)]
 mod generation;
 #[cfg(test)]
 mod kinds;
+#[cfg(test)]
+mod logs;
 #[cfg(test)]
 mod outside;
 #[cfg(test)]

@@ -1,15 +1,12 @@
 //! Packets in both directions, bytes that are none, and packets in pieces of any size.
 
-ghost use Rattle.std.specs.Prelude.{◌≤◌, length};
+ghost use Rattle.std.specs.Prelude.{◌<◌, ◌≤◌, length};
 
 use arrayvec::ArrayVec;
-use fw_async::{Head, Packet, PacketReader, read_packet, write_packet};
+use fw_async::{Fed, Head, Packet, PacketReader, read_packet, write_packet};
 use fw_words::{Bytes, Data, Quadlet, put_quadlet};
-use std::process::Abort;
 
-pub(crate) fn bytes_of(words: &[u32]) -> ArrayVec<u8, 528>
-    requires { length words.now ≤ 100 }
-{
+pub(crate) fn bytes_of(words: &[u32]) -> ArrayVec<u8, 528> {
     let mut bytes = ArrayVec::new();
     for word in words {
         let _ = bytes.try_extend_from_slice(&put_quadlet(Quadlet(*word)));
@@ -42,18 +39,22 @@ const FROM_1: Head = Head {
     source: 0xffc1,
 };
 
-// The words are read as the packet, and what is read is written as the words.
-fn both_ways(rt: &impl Abort, words: &[u32], packet: &Packet)
-    requires { length words.now ≤ 100 }
-{
+// Whether the words are read as the packet, and what is read is written as the words.
+fn are_both_ways(words: &[u32], packet: &Packet) -> bool {
     let bytes = bytes_of(words);
-    let fed = read_packet(bytes.as_slice()).expect(rt, "no fault");
-    assert_eq!(rt; fed.used, bytes.len());
-    let read = fed.packet.expect(rt, "a packet");
-    assert!(rt; read == *packet);
-    let mut out = ArrayVec::new();
-    write_packet(&read, &mut out);
-    assert_eq!(rt; out.as_slice(), bytes.as_slice());
+    match read_packet(bytes.as_slice()) {
+        Ok(
+            Fed {
+                used,
+                packet: Some(read),
+            },
+        ) => {
+            let mut out = ArrayVec::new();
+            write_packet(&read, &mut out);
+            used == bytes.len() && read == *packet && out.as_slice() == bytes.as_slice()
+        }
+        _ => false,
+    }
 }
 
 // The packets without bytes: the answered FCP command and its answer, a read of oPCR 0, one of an offset that names no register, a
@@ -128,8 +129,7 @@ const NAME: [u32; 6] = [
 #[test]
 fn packets_both_ways(rt: HostRuntime) {
     for (words, packet) in &PACKETS {
-        assert!(rt; words.len() <= 100);
-        both_ways(&rt, words, packet);
+        assert!(rt; are_both_ways(words, packet));
     }
 }
 
@@ -145,8 +145,8 @@ fn blocks_both_ways(rt: HostRuntime) {
         rcode: 0,
         bytes: Data::new(&[0x31, 0x33, 0x39, 0x34, 0xe0, 0]),
     };
-    both_ways(&rt, &COMMAND, &command);
-    both_ways(&rt, &NAME, &name);
+    assert!(rt; are_both_ways(&COMMAND, &command));
+    assert!(rt; are_both_ways(&NAME, &name));
 }
 
 // A lock of BANDWIDTH_AVAILABLE (4915 units, 2512 are asked for), its response, and that of a fetch_add that is refused.
@@ -173,16 +173,16 @@ fn locks_both_ways(rt: HostRuntime) {
         function: 2,
         bytes: data(&[0, 0, 0x13, 0x33, 0, 0, 0x09, 0x63]),
     };
-    both_ways(&rt, &LOCK, &lock);
-    for (words, rcode, function, bytes) in LOCK_REPLIES {
-        assert!(rt; words.len() <= 100 && bytes.len() <= 4);
+    assert!(rt; are_both_ways(&LOCK, &lock));
+    for &(words, rcode, function, bytes) in &LOCK_REPLIES {
+        assert!(rt; bytes.len() <= 4);
         let reply = Packet::LockReply {
             head: FROM_1,
             rcode,
             function,
             bytes: data(bytes),
         };
-        both_ways(&rt, words, &reply);
+        assert!(rt; are_both_ways(words, &reply));
     }
 }
 
@@ -193,31 +193,43 @@ const STREAM: [u32; 17] = [
     0x07000000,
 ];
 
+// Whether the packets that end in a piece, at most three, are taken to its end, and gives what they are written as to what was written.
+fn takes(reader: &mut PacketReader, piece: &[u8], written: &mut ArrayVec<u8, 528>) -> bool {
+    let mut room = Bytes::new();
+    let mut rest = piece;
+    for _ in 0..4 {
+        let Ok(Fed { used, packet }) = reader.feed(rest, &mut room) else {
+            return false;
+        };
+        rest = rest.get(used..).unwrap_or(&[]);
+        let Some(packet) = packet else { break };
+        let mut out = ArrayVec::new();
+        write_packet(&packet, &mut out);
+        let _ = written.try_extend_from_slice(out.as_slice());
+    }
+    rest.is_empty()
+}
+
+// Whether a stream in pieces of a size gives packets that are written as it.
+fn is_read_in_pieces(stream: &[u8], size: usize) -> bool
+    requires { 0 < size }
+{
+    let mut reader = PacketReader::new();
+    let mut written = ArrayVec::new();
+    for piece in stream.chunks(size) {
+        if !takes(&mut reader, piece, &mut written) {
+            return false;
+        }
+    }
+    reader.is_between() && written.as_slice() == stream
+}
+
 // In pieces of every size up to two packets.
 #[test]
 fn any_pieces_give_the_same_packets(rt: HostRuntime) {
     let stream = bytes_of(&STREAM);
-    let mut room = Bytes::new();
-    for size in [1, 7, 24, 68] {
-        let mut reader = PacketReader::new();
-        let mut written = ArrayVec::<u8, 528>::new();
-        for piece in stream.as_slice().chunks(size) {
-            let mut rest = piece;
-            for _ in 0..4 {
-                let fed = reader.feed(rest, &mut room).expect(&rt, "no fault");
-                rest = rest.get(fed.used..).expect(&rt, "used bytes of the piece");
-                let Some(packet) = fed.packet else { break };
-                assert!(rt; reader.is_between());
-                let mut out = ArrayVec::new();
-                write_packet(&packet, &mut out);
-                let _ = written.try_extend_from_slice(out.as_slice());
-            }
-            assert_eq!(rt; rest.len(), 0);
-        }
-        assert_eq!(rt;
-            written.as_slice(),
-            stream.as_slice(),
-            "in pieces of {size}"
-        );
-    }
+    assert!(rt; is_read_in_pieces(stream.as_slice(), 1));
+    assert!(rt; is_read_in_pieces(stream.as_slice(), 7));
+    assert!(rt; is_read_in_pieces(stream.as_slice(), 24));
+    assert!(rt; is_read_in_pieces(stream.as_slice(), 68));
 }

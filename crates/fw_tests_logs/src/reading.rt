@@ -1,15 +1,16 @@
-//! Logs of whole sessions, read in pieces, and written again in either version.
+//! Logs of whole sessions, read in pieces and written again, and what of them is passed over.
 
 ghost use Rattle.std.specs.Prelude.{◌≡◌, ◌<◌, ◌+◌, ◌^◌, length, OnOk};
 ghost use Rattle.fw_log.specs.Reader.{total};
 
+use crate::logs::{
+    ABSENT_DEVICE, JOINED_IN_THE_MIDDLE, Log, ONE_DECK, SECOND_OVER_ENDS_THE_FLOW, TAPE_TIME_CODE,
+};
 use fw_log::{
     EntryRoom, LogFault, LogFed, LogReader, Room, Version, epoch_after, write_entry, write_header,
 };
 use fw_outside::MemSink;
-use fw_vectors::IN_VERSION_1;
 use std::alloc::{AllocError, Global};
-use std::process::Abort;
 use std::test::Fail;
 
 // Feeds the bytes in pieces of this size, writes the entries that they give in a version, and ends the input.
@@ -114,83 +115,57 @@ fn passed(alloc: Global, log: &[u8], size: usize) -> Result<Result<usize, LogFau
     Ok(passed_over(log, size, &mut reader, &mut room))
 }
 
-/// Where a log is refused, in pieces of this size, whether what can be passed over is passed over or read.
-pub(crate) fn fault_of(
-    rt: &impl Abort,
+/// Whether a log is refused so in pieces of this size, where what can be passed over is passed over, and where it is read.
+pub(crate) fn is_refused(
     alloc: Global,
     log: &[u8],
     size: usize,
-) -> Result<Option<LogFault>, AllocError>
+    fault: LogFault,
+) -> Result<bool, AllocError>
     requires { length log.now < 2 ^ 32 }
 {
-    let fault = copy_of(alloc, log, size, Version::One, 0)?.read.err();
-    let passed = passed(alloc, log, size)?.err();
-    assert!(rt; passed == fault, "in pieces of {size}");
-    Ok(fault)
+    let copy = copy_of(alloc, log, size, Version::One, 0)?;
+    Ok(copy.read == Err(fault) && passed(alloc, log, size)? == Err(fault))
 }
 
-/// Reads a log in pieces of this size, writes what was read in a version, and compares it.
-pub(crate) fn is_copied_as(
-    rt: &impl Abort,
+/// Whether what is read of a log of a version, in pieces of this size, is written again as it was, and it is none that is refused
+/// where what can be passed over is passed over.
+pub(crate) fn is_written_again(
     alloc: Global,
     log: &[u8],
     size: usize,
     version: Version,
-    other: &[u8],
-) -> Result<(), AllocError>
+) -> Result<bool, AllocError>
     requires { length log.now < 2 ^ 32 }
 {
-    let copy = copy_of(alloc, log, size, version, other.len())?;
-    assert!(rt; copy.read.is_ok(), "in pieces of {size}");
-    assert!(rt; copy.sink.as_slice() == other, "in pieces of {size}");
-    Ok(())
+    let copy = copy_of(alloc, log, size, version, log.len())?;
+    let is_same = copy.read.is_ok() && copy.sink.as_slice() == log;
+    Ok(is_same && passed(alloc, log, size)?.is_ok())
 }
 
-/// The same in pieces of three sizes.
-pub(crate) fn is_written_as(
-    rt: &impl Abort,
-    alloc: Global,
-    log: &[u8],
-    version: Version,
-    other: &[u8],
-) -> Result<(), AllocError>
-    requires { length log.now < 2 ^ 32 }
-{
-    for size in [log.len(), 1, 7] {
-        is_copied_as(rt, alloc, log, size, version, other)?;
+// Logs, and in how many calls some bytes are fed: the first entry stands behind the header, and the end and isochronous packets, of
+// which the last log has one, are not passed over.
+const FED: [(Log, usize); 5] = [
+    (ONE_DECK, 2),
+    (ABSENT_DEVICE, 2),
+    (JOINED_IN_THE_MIDDLE, 2),
+    (TAPE_TIME_CODE, 2),
+    (SECOND_OVER_ENDS_THE_FLOW, 3),
+];
+
+// Whether some bytes of a log, in hexadecimal, are fed in so many calls.
+fn is_fed_in(alloc: Global, text: &str, fed: usize) -> Result<bool, AllocError> {
+    match hex::decode(alloc, text) {
+        Ok(log) if log.len() < 100_000 => Ok(passed(alloc, &log, log.len())? == Ok(fed)),
+        _ => Ok(false),
     }
-    Ok(())
 }
-
-// A log has the same entries in both versions.
-#[test]
-fn a_log_that_is_read_is_written_again_in_either_version(rt: HostRuntime) -> Result<(), Fail> {
-    let alloc = rt.alloc();
-    for (vector, one) in IN_VERSION_1 {
-        let one = hex::decode(alloc, one)?;
-        let two = hex::decode(alloc, vector.log)?;
-        assert!(rt; one.len() < 100_000 && two.len() < 100_000);
-        for log in [&one, &two] {
-            is_written_as(&rt, alloc, log, Version::One, &one)?;
-            is_written_as(&rt, alloc, log, Version::Two, &two)?;
-        }
-    }
-    Ok(())
-}
-
-// In how many calls some bytes are fed: the first entry stands behind the header, and the end and isochronous packets, of which the
-// last log has one, are not passed over.
-const FED: [usize; 5] = [2, 2, 2, 2, 3];
 
 #[test]
 fn what_is_passed_over(rt: HostRuntime) -> Result<(), Fail> {
-    let alloc = rt.alloc();
-    for ((vector, one), fed) in IN_VERSION_1.iter().zip(&FED) {
-        for text in [*one, vector.log] {
-            let log = hex::decode(alloc, text)?;
-            assert!(rt; log.len() < 100_000);
-            assert_eq!(rt; passed(alloc, &log, log.len())?, Ok(*fed));
-        }
+    for &(log, fed) in &FED {
+        assert!(rt; is_fed_in(rt.alloc(), log.one, fed)?);
+        assert!(rt; is_fed_in(rt.alloc(), log.two, fed)?);
     }
     Ok(())
 }

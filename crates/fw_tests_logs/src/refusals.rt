@@ -1,28 +1,27 @@
 //! Quadlets that begin no packet, and the byte that shows it.
 
-ghost use Rattle.std.specs.Prelude.{◌≤◌, length};
-
 use crate::packets::bytes_of;
 use fw_async::{PacketFault, PacketReader, read_packet};
 use fw_words::Bytes;
-use std::process::Abort;
 
-// Fed one byte at a time, the words show the fault with the byte at this place and not before, and after it the reader
-// answers nothing else; at hand, they show the same.
-fn is_refused(rt: &impl Abort, words: &[u32], place: usize, fault: PacketFault)
-    requires { length words.now ≤ 100 }
-{
-    let bytes = bytes_of(words);
+// Whether the words, fed one byte at a time, show the fault with the byte at this place and not before, and the reader answers
+// nothing else after it.
+fn is_found(bytes: &[u8], place: usize, fault: PacketFault) -> bool {
     let mut reader = PacketReader::new();
     let mut room = Bytes::new();
-    for (at, byte) in bytes.as_slice().iter().enumerate() {
-        let fed = reader.feed(&[*byte], &mut room);
-        let due = (at >= place).then_some(fault);
-        assert!(rt; fed.err() == due, "at byte {at} of {fault:?}");
+    for (at, byte) in bytes.iter().enumerate() {
+        let found = reader.feed(&[*byte], &mut room).err();
+        if found != (at >= place).then_some(fault) {
+            return false;
+        }
     }
-    assert!(rt; !reader.is_between());
-    let found = read_packet(bytes.as_slice()).err();
-    assert!(rt; found == Some(fault), "at hand, of {fault:?}");
+    !reader.is_between()
+}
+
+// Whether that is so, and the words at hand show the same.
+fn are_refused(words: &[u32], place: usize, fault: PacketFault) -> bool {
+    let bytes = bytes_of(words);
+    is_found(bytes.as_slice(), place, fault) && read_packet(bytes.as_slice()).err() == Some(fault)
 }
 
 const UNKNOWN_CODES: [u32; 6] = [3, 10, 12, 13, 14, 15];
@@ -40,14 +39,17 @@ const RESERVED: [(u32, u32, usize, u32); 5] = [
 
 #[test]
 fn reserved_codes_and_bits_are_refused(rt: HostRuntime) {
-    for code in UNKNOWN_CODES {
+    for &code in &UNKNOWN_CODES {
         let words = [0xffc00100 | code << 4, 0, 0];
-        is_refused(&rt, &words, 3, PacketFault::UnknownTcode);
+        assert!(rt; are_refused(&words, 3, PacketFault::UnknownTcode), "{code}");
     }
-    for (second, third, place, bit) in RESERVED {
-        for code in REPLY_CODES {
+    for &(second, third, place, bit) in &RESERVED {
+        for &code in &REPLY_CODES {
             let words = [0xffc10500 | code << 4, second, third];
-            is_refused(&rt, &words, place, PacketFault::Reserved(bit));
+            assert!(rt;
+                are_refused(&words, place, PacketFault::Reserved(bit)),
+                "{bit}"
+            );
         }
     }
 }
@@ -77,9 +79,9 @@ const SIZES: [(u32, u32, u32, usize, PacketFault); 19] = [
 
 #[test]
 fn sizes_and_padding_are_refused(rt: HostRuntime) {
-    for (code, size, last, place, fault) in SIZES {
+    for &(code, size, last, place, fault) in &SIZES {
         let first = 0xffc00100 | code << 4;
         let words = [first, 0xffc1_0000, 0, size, 0x01ff_30ff, last];
-        is_refused(&rt, &words, place, fault);
+        assert!(rt; are_refused(&words, place, fault), "{size:08x}");
     }
 }

@@ -3,39 +3,33 @@
 //! The first packets are those that a camcorder writes as node 0 on channel 0, 525-60, in an implementation of the same
 //! rules that shares no code with this one. The others were laid out by hand.
 
-ghost use Rattle.std.specs.Prelude.{◌≤◌, length};
-
 use arrayvec::ArrayVec;
 use fw_cip::{Block, CipHeader, Heard, IsoFault, IsoPacket, Listener, Talker, read_iso, write_iso};
 use fw_words::{Quadlet, put_quadlet};
-use std::process::Abort;
 
 // The bytes of quadlets, and behind them so many bytes 7.
-fn bytes_of(words: &[u32], more: usize) -> ArrayVec<u8, 600>
-    requires few { length words.now ≤ 10 }
-    requires room { more ≤ 500 }
-{
+fn bytes_of(words: &[u32], more: usize) -> ArrayVec<u8, 600> {
     let mut bytes = ArrayVec::new();
     for word in words {
         let _ = bytes.try_extend_from_slice(&put_quadlet(Quadlet(*word)));
     }
-    let _ = bytes.try_extend_from_slice(&[7; 500][..more]);
+    let _ = bytes.try_extend_from_slice(&[7; 500][..more.min(500)]);
     bytes
 }
 
-// The CIP header of the bus's packets, with this count.
-const fn cip(sid: u8, dbc: u8, fdf: u32) -> CipHeader {
-    CipHeader {
-        sid,
-        dbs: 0x78,
-        fraction: 0,
-        qpc: 0,
-        sph: false,
-        dbc,
-        fmt: 0,
-        fdf,
-    }
-}
+const BLOCK: [u8; 480] = [7; 480];
+
+// The CIP header of the bus's first packet.
+const FIRST: CipHeader = CipHeader {
+    sid: 0,
+    dbs: 0x78,
+    fraction: 0,
+    qpc: 0,
+    sph: false,
+    dbc: 0,
+    fmt: 0,
+    fdf: 0xFFFF,
+};
 
 // Every field has bits that differ from its neighbours'.
 const ALL_FIELDS: CipHeader = CipHeader {
@@ -49,50 +43,48 @@ const ALL_FIELDS: CipHeader = CipHeader {
     fdf: 0x12_3456,
 };
 
-// The bytes are read as the packet, and what is read is written as the bytes.
+// The first quadlets of packets; the channel, sy and the CIP header; whether a block of bytes 7 stands behind them.
+const PACKETS: [([u32; 3], u8, u8, CipHeader, bool); 3] = [
+    ([0x0008_40A0, 0x0078_0000, 0x8000_FFFF], 0, 0, FIRST, false),
+    (
+        [0x01E8_40A0, 0x0078_000D, 0x8000_FFFF],
+        0,
+        0,
+        CipHeader { dbc: 13, ..FIRST },
+        true,
+    ),
+    (
+        [0x0008_6AA9, 0x1581_ACFE, 0xAA12_3456],
+        0x2A,
+        9,
+        ALL_FIELDS,
+        false,
+    ),
+];
+
+// Whether the bytes are read as the packet, and what is read is written as the bytes.
+fn are_both_ways(bytes: &[u8], packet: &IsoPacket) -> bool {
+    match read_iso(bytes) {
+        Ok(read) => {
+            let mut out = ArrayVec::new();
+            write_iso(&read, &mut out);
+            read == *packet && out.as_slice() == bytes
+        }
+        Err(_) => false,
+    }
+}
+
 #[test]
 fn packets_both_ways(rt: HostRuntime) {
-    let block = [7; 480];
-    let cases = [
-        (
-            [0x0008_40A0, 0x0078_0000, 0x8000_FFFF],
-            0,
-            IsoPacket {
-                channel: 0,
-                sy: 0,
-                cip: cip(0, 0, 0xFFFF),
-                block: None,
-            },
-        ),
-        (
-            [0x01E8_40A0, 0x0078_000D, 0x8000_FFFF],
-            480,
-            IsoPacket {
-                channel: 0,
-                sy: 0,
-                cip: cip(0, 13, 0xFFFF),
-                block: Some(Block::new(&block)),
-            },
-        ),
-        (
-            [0x0008_6AA9, 0x1581_ACFE, 0xAA12_3456],
-            0,
-            IsoPacket {
-                channel: 0x2A,
-                sy: 9,
-                cip: ALL_FIELDS,
-                block: None,
-            },
-        ),
-    ];
-    for (words, more, packet) in &cases {
-        assert!(rt; *more <= 500);
-        let bytes = bytes_of(words, *more);
-        let read = read_iso(bytes.as_slice()).expect(&rt, "no fault");
-        assert!(rt; read == *packet);
-        let mut out = ArrayVec::new();
-        write_iso(&read, &mut out);
-        assert_eq!(rt; out.as_slice(), bytes.as_slice());
+    for (words, channel, sy, cip, full) in &PACKETS {
+        let packet = IsoPacket {
+            channel: *channel,
+            sy: *sy,
+            cip: *cip,
+            block: full.then_some(Block::new(&BLOCK)),
+        };
+        let bytes = bytes_of(words, if *full { 480 } else { 0 });
+        assert!(rt; are_both_ways(bytes.as_slice(), &packet));
     }
 }
 
@@ -129,86 +121,99 @@ const NO_PACKETS: [([u32; 3], usize, IsoFault); 9] = [
     ),
 ];
 
+// Whether the bytes are refused for this fault.
+fn are_refused(bytes: &[u8], fault: IsoFault) -> bool {
+    read_iso(bytes).err() == Some(fault)
+}
+
 #[test]
 fn bytes_that_are_no_packet(rt: HostRuntime) {
-    for (words, more, fault) in NO_PACKETS {
-        assert!(rt; more <= 500);
+    for &(words, more, fault) in &NO_PACKETS {
         let bytes = bytes_of(&words, more);
-        assert_eq!(rt; read_iso(bytes.as_slice()).err(), Some(fault));
+        assert!(rt; are_refused(bytes.as_slice(), fault));
     }
     for count in [0, 11] {
-        let bytes = &[0; 11][..count];
-        assert_eq!(rt; read_iso(bytes).err(), Some(IsoFault::Short));
+        assert!(rt; are_refused(&[0; 11][..count], IsoFault::Short));
     }
 }
 
 // The DBC of the packet behind so many blocks: the first and the last block of a frame of 525-60, which has 250, and of
 // 625-50, which has 300, and the first of the next; a day's last block of each; and where the count of 8 bits turns.
+const TALKS: [(bool, u64, u8); 9] = [
+    (false, 0, 0),
+    (false, 249, 0xF9),
+    (false, 250, 0xFA),
+    (true, 299, 0x2B),
+    (true, 300, 0x2C),
+    (false, 647_999_999, 0xFF),
+    (true, 647_999_999, 0xFF),
+    (true, 0x1_0000_00FF, 0xFF),
+    (true, 0x1_0000_0100, 0),
+];
+
+// Whether the next packet of a talker of node 3 on channel 5 has this count, and a block where it is given one.
+fn is_next(talker: &mut Talker, fifty: bool, block: Option<&[u8; 480]>, dbc: u8) -> bool {
+    let packet = talker.cycle(3, fifty, block);
+    let cip = CipHeader {
+        sid: 3,
+        dbc,
+        fdf: if fifty { 0x80_FFFF } else { 0xFFFF },
+        ..FIRST
+    };
+    packet.channel == 5 && packet.cip == cip && packet.block.is_some() == block.is_some()
+}
+
 #[test]
 fn a_talker_counts_its_blocks(rt: HostRuntime) {
-    let block = [7; 480];
-    for (fifty, blocks, dbc) in [
-        (false, 0, 0),
-        (false, 249, 0xF9),
-        (false, 250, 0xFA),
-        (true, 299, 0x2B),
-        (true, 300, 0x2C),
-        (false, 647_999_999, 0xFF),
-        (true, 647_999_999, 0xFF),
-        (true, 0x1_0000_00FF, 0xFF),
-        (true, 0x1_0000_0100, 0),
-    ] {
-        let fdf = if fifty { 0x80_FFFF } else { 0xFFFF };
+    for &(fifty, blocks, dbc) in &TALKS {
         let mut talker = Talker::new(5);
         talker.skip(blocks);
-        let empty = talker.cycle(3, fifty, None);
-        assert_eq!(rt; empty.cip, cip(3, dbc, fdf));
-        assert!(rt; empty.block.is_none());
-        let full = talker.cycle(3, fifty, Some(&block));
-        assert_eq!(rt; full.channel, 5);
-        assert_eq!(rt; full.cip, cip(3, dbc, fdf));
-        assert!(rt; full.block.is_some());
-        assert_eq!(rt;
-            talker.cycle(3, fifty, None).cip,
-            cip(3, dbc.wrapping_add(1), fdf)
-        );
+        assert!(rt; is_next(&mut talker, fifty, None, dbc));
+        assert!(rt; is_next(&mut talker, fifty, Some(&BLOCK), dbc));
+        assert!(rt; is_next(&mut talker, fifty, None, dbc.wrapping_add(1)));
     }
 }
 
-// A stream with gaps, each found at the packet behind it.
+// A stream with gaps, each found at the packet behind it: the count of a packet, whether it has a block, and what is heard.
+const HEARD: [(u8, bool, Heard); 7] = [
+    (9, false, Heard::Empty),
+    (9, true, Heard::Block),
+    (10, true, Heard::Block),
+    (
+        10,
+        false,
+        Heard::Gap {
+            expected: 11,
+            found: 10,
+        },
+    ),
+    (11, false, Heard::Empty),
+    (
+        255,
+        true,
+        Heard::Gap {
+            expected: 11,
+            found: 255,
+        },
+    ),
+    (0, true, Heard::Block),
+];
+
+// Whether this is heard of a packet with this count, with or without a block.
+fn is_heard(listener: &mut Listener, dbc: u8, full: bool, heard: Heard) -> bool {
+    let packet = IsoPacket {
+        channel: 0,
+        sy: 0,
+        cip: CipHeader { dbc, ..FIRST },
+        block: full.then_some(Block::new(&BLOCK)),
+    };
+    listener.take(&packet) == heard
+}
+
 #[test]
 fn a_listener_finds_gaps(rt: HostRuntime) {
-    let block = [7; 480];
     let mut listener = Listener::new();
-    for (dbc, full, heard) in [
-        (9, false, Heard::Empty),
-        (9, true, Heard::Block),
-        (10, true, Heard::Block),
-        (
-            10,
-            false,
-            Heard::Gap {
-                expected: 11,
-                found: 10,
-            },
-        ),
-        (11, false, Heard::Empty),
-        (
-            255,
-            true,
-            Heard::Gap {
-                expected: 11,
-                found: 255,
-            },
-        ),
-        (0, true, Heard::Block),
-    ] {
-        let packet = IsoPacket {
-            channel: 0,
-            sy: 0,
-            cip: cip(0, dbc, 0xFFFF),
-            block: full.then_some(Block::new(&block)),
-        };
-        assert_eq!(rt; listener.take(&packet), heard);
+    for &(dbc, full, heard) in &HEARD {
+        assert!(rt; is_heard(&mut listener, dbc, full, heard));
     }
 }

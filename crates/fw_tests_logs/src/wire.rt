@@ -1,14 +1,11 @@
 //! Requests that are put, taken and cleared.
 
-ghost use Rattle.std.specs.Prelude.{◌≤◌, length};
-
 use crate::packets::bytes_of;
-use fw_async::{Wire, read_packet};
+use fw_async::{Fed, Wire, read_packet};
 use fw_words::Bytes;
-use std::process::Abort;
 
 /// What is done to a wire, with the packets in quadlets.
-#[derive(Drop)]
+#[derive(Clone, Copy)]
 enum Step {
     Put(u8, &'static [u32]),
     /// What must stand there is taken; None where nothing must stand.
@@ -33,87 +30,94 @@ const BLOCK: &[u32] = &[
     0xffc00510, 0xffc1ffff, 0xf0000b00, 0x00050000, 0x01ff30ff, 0x07000000,
 ];
 
-/// Puts the packet that these quadlets are; it then stands.
-fn put(rt: &impl Abort, wire: &mut Wire, from: u8, words: &[u32]) {
-    assert!(rt; from <= 62 && words.len() <= 100);
+/// Whether nothing stands before the packet that these quadlets are is put, and it stands then.
+fn puts(wire: &mut Wire, from: u8, words: &[u32]) -> bool {
     let bytes = bytes_of(words);
-    let fed = read_packet(bytes.as_slice()).expect(rt, "no fault");
-    let packet = fed.packet.expect(rt, "a packet");
-    assert!(rt; wire.get(from).is_none());
-    wire.put(from, &packet);
-    assert_eq!(rt; wire.get(from), Some(bytes.as_slice()));
-}
-
-/// Takes what these quadlets are, or nothing; nothing then stands.
-fn take(rt: &impl Abort, wire: &mut Wire, from: u8, words: Option<&[u32]>) {
-    let mut room = Bytes::new();
-    let taken = wire.take(from, &mut room);
-    match words {
-        Some(words) => {
-            assert!(rt; words.len() <= 100);
-            assert_eq!(rt; taken, Some(bytes_of(words).as_slice()));
+    match read_packet(bytes.as_slice()) {
+        Ok(
+            Fed {
+                packet: Some(packet),
+                ..
+            },
+        ) if from <= 62 && wire.get(from).is_none() => {
+            wire.put(from, &packet);
+            wire.get(from) == Some(bytes.as_slice())
         }
-        None => assert_eq!(rt; taken, None),
+        _ => false,
     }
-    assert_eq!(rt; wire.get(from), None);
 }
 
-fn carry_out(rt: &impl Abort, wire: &mut Wire, step: &Step) {
-    match *step {
-        Put(from, words) => put(rt, wire, from, words),
-        Take(from, words) => take(rt, wire, from, words),
-        Clear => wire.clear(),
+/// Whether what these quadlets are is taken, or nothing; and nothing stands then.
+fn takes(wire: &mut Wire, from: u8, words: Option<&[u32]>) -> bool {
+    let mut room = Bytes::new();
+    let is_due = match (words, wire.take(from, &mut room)) {
+        (Some(words), Some(taken)) => taken == bytes_of(words).as_slice(),
+        (None, None) => true,
+        _ => false,
+    };
+    is_due && wire.get(from).is_none()
+}
+
+fn is_carried_out(wire: &mut Wire, step: Step) -> bool {
+    match step {
+        Put(from, words) => puts(wire, from, words),
+        Take(from, words) => takes(wire, from, words),
+        Clear => {
+            wire.clear();
+            true
+        }
     }
 }
+
+const STEPS: [Step; 24] = [
+    // One request is taken once.
+    Take(0, None),
+    Put(0, UNITS),
+    Take(0, Some(UNITS)),
+    Take(0, None),
+    // The oldest goes first, then the youngest, then the one between them; what is put meanwhile stands.
+    Put(0, READ),
+    Put(62, CHANNEL),
+    Put(7, BLOCK),
+    Take(1, None),
+    Take(63, None),
+    Take(255, None),
+    Take(0, Some(READ)),
+    Put(0, BLOCK),
+    Take(7, Some(BLOCK)),
+    Put(7, READ),
+    Take(0, Some(BLOCK)),
+    Take(62, Some(CHANNEL)),
+    Take(7, Some(READ)),
+    Take(62, None),
+    // After all have been cleared each sender may put again, in a row that held a longer packet.
+    Put(5, BLOCK),
+    Put(6, UNITS),
+    Clear,
+    Take(5, None),
+    Take(6, None),
+    Put(5, READ),
+];
 
 #[test]
 fn pairs_stand_until_they_are_taken(rt: HostRuntime) {
     let mut wire = Wire::new();
-    for step in &[
-        // One request is taken once.
-        Take(0, None),
-        Put(0, UNITS),
-        Take(0, Some(UNITS)),
-        Take(0, None),
-        // The oldest goes first, then the youngest, then the one between them; what is put meanwhile stands.
-        Put(0, READ),
-        Put(62, CHANNEL),
-        Put(7, BLOCK),
-        Take(1, None),
-        Take(63, None),
-        Take(255, None),
-        Take(0, Some(READ)),
-        Put(0, BLOCK),
-        Take(7, Some(BLOCK)),
-        Put(7, READ),
-        Take(0, Some(BLOCK)),
-        Take(62, Some(CHANNEL)),
-        Take(7, Some(READ)),
-        Take(62, None),
-        // After all have been cleared each sender may put again, in a row that held a longer packet.
-        Put(5, BLOCK),
-        Put(6, UNITS),
-        Clear,
-        Take(5, None),
-        Take(6, None),
-        Put(5, READ),
-        Take(5, Some(READ)),
-    ] {
-        carry_out(&rt, &mut wire, step);
+    for &step in &STEPS {
+        assert!(rt; is_carried_out(&mut wire, step));
     }
+    assert!(rt; takes(&mut wire, 5, Some(READ)));
 }
 
 /// Each node puts a request and takes it when the next one has put its own: far more often than there are nodes.
 #[test]
 fn many_requests_come_and_go(rt: HostRuntime) {
     let mut wire = Wire::new();
-    put(&rt, &mut wire, 62, UNITS);
+    assert!(rt; puts(&mut wire, 62, UNITS));
     for _ in 0..8 {
         for from in 0..63 {
             let before = if from == 0 { 62 } else { from - 1 };
-            put(&rt, &mut wire, from, UNITS);
-            take(&rt, &mut wire, before, Some(UNITS));
+            assert!(rt; puts(&mut wire, from, UNITS) && takes(&mut wire, before, Some(UNITS)));
         }
     }
-    take(&rt, &mut wire, 62, Some(UNITS));
+    assert!(rt; takes(&mut wire, 62, Some(UNITS)));
 }

@@ -76,16 +76,13 @@ const ROWS: [(u16, Ask, u8, u32); 21] = [
 #[test]
 fn the_manager_answers(rt: HostRuntime) {
     let mut manager = Manager::new(false);
-    for (offset, ask, rcode, value) in ROWS {
+    for &(offset, ask, rcode, value) in &ROWS {
         let reply = manager.answer(&request(offset, ask));
-        assert_eq!(rt; reply, Reply { rcode, value }, "at {offset}");
+        assert!(rt; reply == Reply { rcode, value }, "at {offset}");
     }
-    assert_eq!(rt; manager.registers(), [0, 2403, 0xFFFF_FFFF, 0xFFFF_FFFE]);
+    assert!(rt; manager.registers() == [0, 2403, 0xFFFF_FFFF, 0xFFFF_FFFE]);
     manager.reset();
-    assert_eq!(rt;
-        manager.registers(),
-        [0x3F, 0x1333, 0xFFFF_FFFF, 0xFFFF_FFFF]
-    );
+    assert!(rt; manager.registers() == [0x3F, 0x1333, 0xFFFF_FFFF, 0xFFFF_FFFF]);
 }
 
 // A swap takes channel 0, and a bus reset frees it; that of channel 31 stays 0.
@@ -93,22 +90,10 @@ fn the_manager_answers(rt: HostRuntime) {
 fn a_withheld_channel_is_free_after_no_reset(rt: HostRuntime) {
     let mut manager = Manager::new(true);
     for _ in 0..2 {
-        assert_eq!(rt;
-            manager.registers(),
-            [0x3F, 0x1333, 0xFFFF_FFFE, 0xFFFF_FFFF]
-        );
+        assert!(rt; manager.registers() == [0x3F, 0x1333, 0xFFFF_FFFE, 0xFFFF_FFFF]);
         let taken = manager.answer(&request(0x224, Ask::Swap(0xFFFF_FFFE, 0x7FFF_FFFE)));
-        assert_eq!(rt;
-            taken,
-            Reply {
-                rcode: 0,
-                value: 0xFFFF_FFFE
-            }
-        );
-        assert_eq!(rt;
-            manager.registers(),
-            [0x3F, 0x1333, 0x7FFF_FFFE, 0xFFFF_FFFF]
-        );
+        assert!(rt; taken == Reply::complete(0xFFFF_FFFE));
+        assert!(rt; manager.registers() == [0x3F, 0x1333, 0x7FFF_FFFE, 0xFFFF_FFFF]);
         manager.reset();
     }
 }

@@ -19,17 +19,17 @@ const WORDS: [(u32, bool, u8, u8, u8, u8, u16, u32); 7] = [
 
 #[test]
 fn words_have_fields_and_units(rt: HostRuntime) {
-    for (word, broadcast, counter, channel, rate, overhead, payload, taken) in WORDS {
+    for &(word, broadcast, counter, channel, rate, overhead, payload, taken) in &WORDS {
         let out = OutWord(word);
         assert!(rt; out.online(), "{word}");
-        assert_eq!(rt; (out.broadcast(), out.counter()), (broadcast, counter));
-        assert_eq!(rt; (out.channel(), out.rate()), (channel, rate));
-        assert_eq!(rt; (out.overhead(), out.payload()), (overhead, payload));
-        assert_eq!(rt; units(out), taken, "{word}");
+        assert!(rt; (out.broadcast(), out.counter()) == (broadcast, counter));
+        assert!(rt; (out.channel(), out.rate()) == (channel, rate));
+        assert!(rt; (out.overhead(), out.payload()) == (overhead, payload));
+        assert!(rt; units(out) == taken, "{word}");
     }
     let into = InWord(0xC23F_0000);
     assert!(rt; into.online() && into.broadcast());
-    assert_eq!(rt; (into.counter(), into.channel()), (2, 63));
+    assert!(rt; (into.counter(), into.channel()) == (2, 63));
 }
 
 /// The reply to a read at an offset of register space.
@@ -80,16 +80,15 @@ const SWAPS: [(u16, u32, u32, u8, u32); 5] = [
 #[test]
 fn the_plugs_answer(rt: HostRuntime) {
     let mut plugs = Plugs::new(2, 4, 2);
-    for (offset, rcode, value) in READS {
-        assert_eq!(rt;
-            read(&mut plugs, offset),
-            Reply { rcode, value },
+    for &(offset, rcode, value) in &READS {
+        assert!(rt;
+            read(&mut plugs, offset) == Reply { rcode, value },
             "at {offset}"
         );
     }
-    for (offset, argument, new, rcode, value) in SWAPS {
+    for &(offset, argument, new, rcode, value) in &SWAPS {
         let reply = swap(&mut plugs, offset, argument, new);
-        assert_eq!(rt; reply, Reply { rcode, value }, "at {offset}");
+        assert!(rt; reply == Reply { rcode, value }, "at {offset}");
     }
 }
 
@@ -165,9 +164,9 @@ const EVENTS: [(Event, bool, bool, u32, u32); 9] = [
 #[test]
 fn plugs_linger_over_a_reset(rt: HostRuntime) {
     let mut plugs = Plugs::new(1, 1, 0);
-    for (event, talks, hears, output, input) in EVENTS {
+    for &(event, talks, hears, output, input) in &EVENTS {
         happen(&mut plugs, event);
-        assert_eq!(rt; (plugs.talks(0), plugs.hears(0)), (talks, hears));
-        assert_eq!(rt; (plugs.out_word(0).0, plugs.in_word(0).0), (output, input));
+        assert!(rt; (plugs.talks(0), plugs.hears(0)) == (talks, hears));
+        assert!(rt; (plugs.out_word(0).0, plugs.in_word(0).0) == (output, input));
     }
 }

@@ -76,15 +76,15 @@ pub fn identified(rt: &impl Abort, cabling: &Cabling, root: u8, manager: Option<
     requires { 0 < length cabling.now.devices }
 {
     let numbering = cabling.identify();
-    assert_eq!(rt; numbering.root, root, "root");
-    assert_eq!(rt; cabling.manager(&numbering), manager, "manager");
+    assert!(rt; numbering.root == root, "root");
+    assert!(rt; cabling.manager(&numbering) == manager, "manager");
     for d in 0..63 {
         let number = if d < numbers.len() && numbers[d] < 63 {
             Some(numbers[d])
         } else {
             None
         };
-        assert_eq!(rt; numbering.number[d], number, "number of {d}");
+        assert!(rt; numbering.number[d] == number, "number of {d}");
     }
 }
 
@@ -103,12 +103,11 @@ pub fn self_ids_are(rt: &impl Abort, cabling: &Cabling, initiator: u8, quadlets:
 {
     let ids = packets(rt, cabling, &cabling.identify(), initiator);
     let packets = ids.as_slice();
-    assert_eq!(rt; packets.len(), quadlets.len(), "packets");
+    assert!(rt; packets.len() == quadlets.len(), "packets");
     for (packet, quadlet) in packets.iter().zip(quadlets) {
         let [a, b, c, d] = quadlet.to_be_bytes();
-        assert_eq!(rt;
-            read_phy(&[a, b, c, d, !a, !b, !c, !d]),
-            Ok(*packet),
+        assert!(rt;
+            read_phy(&[a, b, c, d, !a, !b, !c, !d]) == Ok(*packet),
             "{quadlet:08X}"
         );
     }
@@ -121,7 +120,7 @@ pub fn refused(rt: &impl Abort, cabling: &mut Cabling, a: Port, b: Port, fault: 
     let before = cabling.identify();
     match cabling.join(end(a), end(b)) {
         Ok(()) => panic!(rt; "joined {a:?}, {b:?}"),
-        Err(found) => assert_eq!(rt; found, fault, "{a:?}, {b:?}"),
+        Err(found) => assert!(rt; found == fault, "{a:?}, {b:?}"),
     }
-    assert_eq!(rt; cabling.identify(), before, "after {a:?}, {b:?}");
+    assert!(rt; cabling.identify() == before, "after {a:?}, {b:?}");
 }

@@ -6,8 +6,6 @@ mod cablings;
 #[cfg(test)]
 mod forms;
 #[cfg(test)]
-mod maps;
-#[cfg(test)]
 mod scripts;
 #[cfg(test)]
 mod trees;

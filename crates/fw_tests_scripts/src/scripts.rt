@@ -79,18 +79,14 @@ const SCRIPTS: [(&[u8], u32, Option<ScriptFault>, u32); 13] = [
 #[test]
 fn scripts_end_or_are_refused(rt: HostRuntime) -> Result<(), Fail> {
     let alloc = rt.alloc();
-    for (script, count, fault, line) in SCRIPTS {
+    for &(script, count, fault, line) in &SCRIPTS {
         let mut whole = MemSource::new(script.to_vec(alloc)?, Vec::new(alloc));
-        assert_eq!(rt; run(alloc, &mut whole)?, (count, fault, line), "{script:?}");
+        assert!(rt; run(alloc, &mut whole)? == (count, fault, line));
         let mut drops = Drops {
             bytes: script.to_vec(alloc)?,
             at: 0,
         };
-        assert_eq!(rt;
-            run(alloc, &mut drops)?,
-            (count, fault, line),
-            "{script:?} in drops"
-        );
+        assert!(rt; run(alloc, &mut drops)? == (count, fault, line));
     }
     Ok(())
 }
@@ -118,7 +114,7 @@ const LIMITS: [(&str, u8, u32, &str, Option<ScriptFault>, u32); 9] = [
 #[test]
 fn lines_and_scripts_have_limits(rt: HostRuntime) -> Result<(), Fail> {
     let alloc = rt.alloc();
-    for (before, filler, size, last, fault, line) in LIMITS {
+    for &(before, filler, size, last, fault, line) in &LIMITS {
         let mut script = before.as_bytes().to_vec(alloc)?;
         for _ in 0..size {
             script.push(filler)?;
@@ -126,13 +122,10 @@ fn lines_and_scripts_have_limits(rt: HostRuntime) -> Result<(), Fail> {
         script.extend_from_slice(last.as_bytes())?;
         let mut source = MemSource::new(script, Vec::new(alloc));
         let (_, found, number) = run(alloc, &mut source)?;
-        assert_eq!(rt; found, fault, "{size} bytes behind {before:?}");
-        assert_eq!(rt; number, line, "{size} bytes behind {before:?}");
+        assert!(rt; found == fault, "{size}");
+        assert!(rt; number == line, "{size}");
     }
-    assert_eq!(rt;
-        run(alloc, &mut Comments)?,
-        (0, Some(ScriptFault::TooLong), 524_288)
-    );
+    assert!(rt; run(alloc, &mut Comments)? == (0, Some(ScriptFault::TooLong), 524_288));
     Ok(())
 }
 
@@ -175,19 +168,16 @@ const FAILURES: [(&str, u32, &str, u32, (u32, Option<ScriptFault>, u32)); 3] = [
 #[test]
 fn a_source_fails(rt: HostRuntime) -> Result<(), Fail> {
     let alloc = rt.alloc();
-    for (first, comments, last, call, answer) in FAILURES {
+    for &(first, comments, last, call, answer) in &FAILURES {
         let script = commented(alloc, first, comments, last)?;
         let mut source = MemSource::new(script, [call].to_vec(alloc)?);
-        assert_eq!(rt; run(alloc, &mut source)?, answer);
+        assert!(rt; run(alloc, &mut source)? == answer);
     }
     // Behind a refused line at most 4,096 bytes were taken: 1,906 of 6,002 are left.
     let mut source = MemSource::new(commented(alloc, "x\n", 3000, "")?, Vec::new(alloc));
-    assert_eq!(rt;
-        run(alloc, &mut source)?,
-        (0, Some(ScriptFault::BadLine), 1)
-    );
+    assert!(rt; run(alloc, &mut source)? == (0, Some(ScriptFault::BadLine), 1));
     let mut left = [0; 4096];
-    assert_eq!(rt; source.read(&mut left), Ok(1906));
+    assert!(rt; source.read(&mut left) == Ok(1906));
     Ok(())
 }
 
@@ -201,9 +191,9 @@ const MESSAGES: [(ScriptFault, &str); 5] = [
 
 #[test]
 fn messages(rt: HostRuntime) -> Result<(), Fail> {
-    for (fault, message) in MESSAGES {
+    for &(fault, message) in &MESSAGES {
         let shown = format!(in rt.alloc(); "{fault}")?;
-        assert_eq!(rt; shown.as_str(), message);
+        assert!(rt; shown.as_str() == message);
     }
     Ok(())
 }

@@ -137,7 +137,7 @@ const TOPOLOGIES: [Topology; 8] = [
 
 #[test]
 fn drawn_topologies_are_identified(rt: HostRuntime) {
-    for (devices, cables, (root, manager, numbers), (initiator, quadlets)) in TOPOLOGIES {
+    for &(devices, cables, (root, manager, numbers), (initiator, quadlets)) in &TOPOLOGIES {
         let cabling = bus(&rt, devices, cables);
         identified(&rt, &cabling, root, manager, numbers);
         if !quadlets.is_empty() {
@@ -205,12 +205,12 @@ const REFUSED: [(Port, Port, TreeFault); 9] = [
 #[test]
 fn refusals(rt: HostRuntime) {
     let devices = [DECK_2, DECK_2, DECK_1, DECK_2];
-    for (a, b, fault) in REFUSED {
+    for &(a, b, fault) in &REFUSED {
         let mut cabling = bus(&rt, &devices, &[((0, 0), (1, 0))]);
         refused(&rt, &mut cabling, a, b, fault);
     }
     let mut full = bus(&rt, &[DECK_1; 63], &[]);
-    assert_eq!(&rt; full.add(facts(&rt, DECK_1)), Err(TreeFault::TooMany));
+    assert!(rt; full.add(facts(&rt, DECK_1)) == Err(TreeFault::TooMany));
 }
 
 const MESSAGES: [(TreeFault, &str); 4] = [
@@ -222,9 +222,9 @@ const MESSAGES: [(TreeFault, &str); 4] = [
 
 #[test]
 fn messages(rt: HostRuntime) -> Result<(), Fail> {
-    for (fault, text) in MESSAGES {
+    for &(fault, text) in &MESSAGES {
         let shown = format!(in rt.alloc(); "{fault}")?;
-        assert_eq!(rt; shown.as_str(), text);
+        assert!(rt; shown.as_str() == text);
     }
     Ok(())
 }

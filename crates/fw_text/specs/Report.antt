@@ -18,10 +18,11 @@ packet_on channel _ = []
 abbrev pub packets_on : ℕ → List Timed → List IsoPacket
 packets_on channel entries = flat_map (λ t. packet_on channel t.what) entries
 
--- how many packets have a block, and how many have none
+-- how many packets have a block
 abbrev pub blocks_of : List IsoPacket → ℕ
 blocks_of packets = count_by (λ p. is_some p.block) packets
 
+-- how many packets have no block
 abbrev pub empties_of : List IsoPacket → ℕ
 empties_of packets = count_by (λ p. not (is_some p.block)) packets
 

@@ -6,6 +6,7 @@ use Rattle.fw_decode.specs.declared.refusal.LogRefusal.TheVariants as Refusals
 use Rattle.fw_tool.specs.declared.ending.Ending.{Ending}
 use Rattle.fw_tool.specs.declared.ending.Ending.TheVariants.{Done, NoLog, Stopped, Unsound, NoMap}
 
+-- the ending of a word that reads a log
 abbrev pub by_log : LogEnding LogRefusal → Ending
 by_log LogEndings.Done = Done
 by_log (LogEndings.NoLog fault) = NoLog fault

@@ -27,12 +27,14 @@ stop_status WriteFault = 6
 stop_status TooLong = 7
 stop_status NoMemory = 8
 
+-- the note of an input or output fault
 abbrev pub stop_note : Stop → List ℕ
 stop_note ReadFault = codes "read fault" ++ 10 ∷ []
 stop_note WriteFault = codes "write fault" ++ 10 ∷ []
 stop_note TooLong = codes "too long" ++ 10 ∷ []
 stop_note NoMemory = codes "no memory" ++ 10 ∷ []
 
+-- the exit status of an ending
 abbrev pub status_of : Ending → ℕ
 status_of Done = 0
 status_of Usage = 2
@@ -42,6 +44,7 @@ status_of (Stopped stop) = stop_status stop
 status_of (Unsound _) = 9
 status_of (NoMap _) = 10
 
+-- the note of the rule that a command breaks
 abbrev pub rule_of : RuleFault → List ℕ
 rule_of UnknownName = codes ": UnknownName" ++ 10 ∷ []
 rule_of NameTaken = codes ": NameTaken" ++ 10 ∷ []
@@ -64,12 +67,14 @@ rule_of TooLate = codes ": TooLate" ++ 10 ∷ []
 rule_of NotCapable = codes ": NotCapable" ++ 10 ∷ []
 rule_of NotCandidate = codes ": NotCandidate" ++ 10 ∷ []
 
+-- the note of a refused line
 abbrev pub name_of : Refusal → List ℕ
 name_of BadLine = codes ": BadLine" ++ 10 ∷ []
 name_of LineTooLong = codes ": LineTooLong" ++ 10 ∷ []
 name_of NoEnd = codes ": NoEnd" ++ 10 ∷ []
 name_of (Rule fault) = rule_of fault
 
+-- the note of bytes that are no log
 abbrev pub why_of : LogWhy → List ℕ
 why_of AfterEnd = codes ": AfterEnd" ++ 10 ∷ []
 why_of BadHeader = codes ": BadHeader" ++ 10 ∷ []
@@ -81,6 +86,7 @@ why_of Cut = codes ": Cut" ++ 10 ∷ []
 why_of NoLogEnd = codes ": NoEnd" ++ 10 ∷ []
 why_of (BadEpoch _) = codes ": BadEpoch" ++ 10 ∷ []
 
+-- the note of a fault that an audit found, without its values
 abbrev pub fault_of : AuditFault → List ℕ
 fault_of (NoNode _) = codes ": NoNode"
 fault_of (Overlap _) = codes ": Overlap"
@@ -100,16 +106,19 @@ values_of (WrongWord found expected) = quadlet_text found ++ quadlet_text expect
 values_of (NoMove old value) = quadlet_text old ++ quadlet_text value
 values_of (NoEvent code) = quadlet_text code
 
+-- the note of self-ID packets that are no tree's
 abbrev pub tree_why_of : MapWhy → List ℕ
 tree_why_of Parents = codes ": Parents" ++ 10 ∷ []
 tree_why_of Missing = codes ": Missing" ++ 10 ∷ []
 tree_why_of Left = codes ": Left" ++ 10 ∷ []
 tree_why_of Root = codes ": Root" ++ 10 ∷ []
 
+-- the note of a log that has no tree
 abbrev pub map_note : Unmapped → List ℕ
 map_note NoReset = codes "no reset" ++ 10 ∷ []
 map_note (NoTree fault) = codes "node " ++ decimal fault.node ++ tree_why_of fault.why
 
+-- the note of an ending, for the standard error
 abbrev pub note_of : Ending → List ℕ
 note_of Done = []
 note_of Usage = codes "usage" ++ 10 ∷ []

@@ -5,6 +5,7 @@ use Rattle.fw_simulate.specs.declared.ending.RunEnding.TheVariants as RunEndings
 use Rattle.fw_tool.specs.declared.ending.Ending.{Ending}
 use Rattle.fw_tool.specs.declared.ending.Ending.TheVariants.{Done, Refused, Stopped}
 
+-- the ending of a word that runs a script
 abbrev pub by_run : RunEnding → Ending
 by_run RunEndings.Done = Done
 by_run (RunEndings.Refused refused) = Refused refused

@@ -7,6 +7,7 @@ mod ending;
 mod forms;
 mod laws;
 mod logs;
+mod names;
 mod notes;
 mod scripts;
 mod session;

@@ -1,16 +1,15 @@
+//! The note and the status of an ending.
+
 ghost use Rattle.std.specs.Prelude.{◌≡◌, ◌+◌, ◌<◌, ◌≤◌, ◌++◌, length};
 ghost use Rattle.arrayvec.specs.ArrayVec.{array_vec_len};
 ghost use Rattle.fw_text.specs.Line.{quadlet_text};
-ghost use Rattle.fw_tool.specs.Notes.{status_of, stop_status, stop_note, fault_of, values_of, tree_why_of, map_note, rule_of, name_of, why_of, note_of, IsTold, IsPassedOn};
+ghost use Rattle.fw_tool.specs.Notes.{status_of, stop_status, values_of, map_note, note_of, IsTold, IsPassedOn};
 
-use crate::Refusal;
 use crate::ending::Ending;
+use crate::names::{fault_name, log_why, refusal, stop_note, tree_why};
 use arrayvec::ArrayVec;
 use fw_audit::AuditFault;
-use fw_bus::RuleFault;
 use fw_decode::NoMap;
-use fw_log::LogWhy;
-use fw_map::MapWhy;
 use fw_outside::{Failed, Sink, Stop};
 use fw_text::quadlet_word;
 use itoa::Buffer;
@@ -28,77 +27,6 @@ fn put(note: &mut Note, text: &[u8])
     ensures len { array_vec_len note.new ≡ array_vec_len note.old + length text.now }
 {
     let _ = note.try_extend_from_slice(text);
-}
-
-fn rule(fault: RuleFault) -> &'static [u8]
-    ensures name { result.now ≡ rule_of fault }
-    ensures short { length result.now ≤ 19 }
-{
-    match fault {
-        RuleFault::UnknownName => b": UnknownName\n",
-        RuleFault::NameTaken => b": NameTaken\n",
-        RuleFault::TooMany => b": TooMany\n",
-        RuleFault::NoPort => b": NoPort\n",
-        RuleFault::PortUsed => b": PortUsed\n",
-        RuleFault::Loop => b": Loop\n",
-        RuleFault::NotController => b": NotController\n",
-        RuleFault::Guarded => b": Guarded\n",
-        RuleFault::NoRegister => b": NoRegister\n",
-        RuleFault::Limit => b": Limit\n",
-        RuleFault::TableFull => b": TableFull\n",
-        RuleFault::Busy => b": Busy\n",
-        RuleFault::NoSuchConnection => b": NoSuchConnection\n",
-        RuleFault::NotOwnPlug => b": NotOwnPlug\n",
-        RuleFault::OffBus => b": OffBus\n",
-        RuleFault::NoDeck => b": NoDeck\n",
-        RuleFault::NothingStands => b": NothingStands\n",
-        RuleFault::TooLate => b": TooLate\n",
-        RuleFault::NotCapable => b": NotCapable\n",
-        RuleFault::NotCandidate => b": NotCandidate\n",
-    }
-}
-
-fn refusal(why: Refusal) -> &'static [u8]
-    ensures name { result.now ≡ name_of why }
-    ensures short { length result.now ≤ 19 }
-{
-    match why {
-        Refusal::BadLine => b": BadLine\n",
-        Refusal::LineTooLong => b": LineTooLong\n",
-        Refusal::NoEnd => b": NoEnd\n",
-        Refusal::Rule(fault) => rule(fault),
-    }
-}
-
-fn log_why(why: LogWhy) -> &'static [u8]
-    ensures { result.now ≡ why_of why }
-{
-    match why {
-        LogWhy::AfterEnd => b": AfterEnd\n",
-        LogWhy::BadHeader => b": BadHeader\n",
-        LogWhy::BadKind => b": BadKind\n",
-        LogWhy::BadLength => b": BadLength\n",
-        LogWhy::TimeBack => b": TimeBack\n",
-        LogWhy::BadBody(_) => b": BadBody\n",
-        LogWhy::Cut => b": Cut\n",
-        LogWhy::NoEnd => b": NoEnd\n",
-        LogWhy::BadEpoch(_) => b": BadEpoch\n",
-    }
-}
-
-fn fault_name(fault: AuditFault) -> &'static [u8]
-    ensures name { result.now ≡ fault_of fault }
-    ensures short { length result.now ≤ 12 }
-{
-    match fault {
-        AuditFault::NoNode(_) => b": NoNode",
-        AuditFault::Overlap(_) => b": Overlap",
-        AuditFault::Orphan(_) => b": Orphan",
-        AuditFault::NotAllowed(_, _) => b": NotAllowed",
-        AuditFault::WrongWord(_, _) => b": WrongWord",
-        AuditFault::NoMove(_, _) => b": NoMove",
-        AuditFault::NoEvent(_) => b": NoEvent",
-    }
 }
 
 /// Appends a value of a fault.
@@ -139,18 +67,6 @@ fn put_fault(note: &mut Note, fault: AuditFault)
     }
 }
 
-fn tree_why(why: MapWhy) -> &'static [u8]
-    ensures name { result.now ≡ tree_why_of why }
-    ensures short { length result.now ≤ 10 }
-{
-    match why {
-        MapWhy::Parents => b": Parents\n",
-        MapWhy::Missing => b": Missing\n",
-        MapWhy::Left => b": Left\n",
-        MapWhy::Root => b": Root\n",
-    }
-}
-
 /// Appends why a log has no map.
 fn put_no_map(note: &mut Note, no_map: NoMap)
     requires { array_vec_len note.old + 40 ≤ 64 }
@@ -163,18 +79,6 @@ fn put_no_map(note: &mut Note, no_map: NoMap)
             put(note, Buffer::new().format(fault.node).as_bytes());
             put(note, tree_why(fault.why));
         }
-    }
-}
-
-fn stop_note(stop: Stop) -> &'static [u8]
-    ensures name { result.now ≡ stop_note stop }
-    ensures short { length result.now ≤ 19 }
-{
-    match stop {
-        Stop::ReadFault => b"read fault\n",
-        Stop::WriteFault => b"write fault\n",
-        Stop::TooLong => b"too long\n",
-        Stop::NoMemory => b"no memory\n",
     }
 }
 

@@ -1,8 +1,9 @@
 -- What the rounds note of a device.
-use Rattle.std.proofs.Common.{add-one, replicate, length-set, get_or-set_same, get_or-set_other, ◌≡◌, ◌⊎◌, inl, inr, ℕ, zero, suc, ◌<◌, ◌≤◌, ◌+◌, ◌==◌, nat_lt, ◌&&◌, ◌||◌, not, List, [], ◌∷◌, length, Option, Some, None, Bool, true, false, slice_index_or, slice_set, count_by, arith, refl, sym, ap, subst, ◌∙◌}
+use Rattle.std.proofs.Common.{add-one, replicate, length-set, get_or-set_same, get_or-set_other, ◌≡◌, ◌⊎◌, inl, inr, ℕ, zero, suc, ◌<◌, ◌≤◌, ◌+◌, ◌==◌, nat_lt, ◌&&◌, ◌||◌, not, List, [], ◌∷◌, length, Option, Some, None, Bool, true, false, slice_set, arith, refl, sym, ap, subst, ◌∙◌}
 use Rattle.std.proofs.lemmas.Bool.{cases_eq}
 use Rattle.std.proofs.lemmas.List.{get_or-replicate}
 use Rattle.std.proofs.lemmas.Bool.Decides.{nat_tests}
+use Rattle.std.specs.Prelude.{IfNone}
 use Rattle.fw_tree.specs.declared.facts.End.{End}
 use Rattle.fw_tree.specs.declared.rounds.Parent.{Parent}
 use Rattle.fw_tree.specs.Cables.{Peers, peer, InRange, is_seen}
@@ -10,7 +11,7 @@ use Rattle.fw_tree.specs.Rounds.{is_open, open_count, stays, LeavesBy, WinsTie, 
 use Rattle.fw_tree.specs.Forest.{AreCables}
 use Rattle.fw_tree.specs.Parents.{Notes, Noted, IsParent, Settled, parent_at, staying}
 use Rattle.fw_tree.proofs.ForestLaws.{truth, first_of, open_to, opened}
-use Rattle.fw_tree.proofs.RoundLaws.{one_of, same_port, same_end, open_same, in_range, always}
+use Rattle.fw_tree.proofs.RoundLaws.{same_port, same_end, open_same, in_range, always}
 
 pub leaves_by : (g : Peers) (s : ℕ → Bool) (d p : ℕ) (e : End) → s d ≡ true → open_count g s d ≡ 1 → peer g d p ≡ Some e → s e.device ≡ true → LeavesBy g s d p
 leaves_by g s d p e still one is member = record { still = still; one = one; parent = opened s (peer g d p) e is member }
@@ -38,35 +39,48 @@ tie_with g s d p e l is w =
     let other : w.0 ≡ e.device = same_end (peer g d t.port) (record { device = w.0; port = t.other }) e t.first.1 there in
     (rw (← other) w.1, rw (← other) t.second.0.still, rw (← other) t.second.0.one)
 
-pub open_within : (s : ℕ → Bool) (ports : List (Option End)) (p : ℕ) → is_open s (slice_index_or ports p None) ≡ true → p < length ports
-open_within s [] p h = absurd (let e : ⊥ = cc in e)
-open_within s (o ∷ ports) zero h = omega arith
-open_within s (o ∷ ports) (suc p) h = omega (arith, open_within s ports p h)
+-- what it tells that the other has left in the round, and comes first
+less_of : (b u : Bool) (e d : ℕ) → (nat_lt e d && b && not u) ≡ true → e < d
+less_of b u e d h = grind (arith, nat_tests)
 
--- a device that leaves has an open port
-pub not_shut : (s : ℕ → Bool) (ports : List (Option End)) → length ports ≡ 27 → count_by (is_open s) ports ≡ 1 → ((p : ℕ) → p < 27 → is_open s (slice_index_or ports p None) ≡ false) → ⊥
-not_shut s ports size h shut =
-    let w = one_of s ports h in
-    let e = shut w.port (let l = open_within s ports w.port w.open_there in omega arith) in
-    let o = w.open_there in
-    cc
+seen_of : (c b u : Bool) → (c && b && not u) ≡ true → b ≡ true
+seen_of true true u h = refl
+seen_of true false u h = h
+seen_of false b u h = let no : ⊥ = cc in absurd no
 
--- the other leaves too and comes first
-pub won : (b : Bool) (n e d : ℕ) → (b && (n == 1) && nat_lt e d) ≡ true → (n ≡ 1) × (e < d)
-won b n e d h = (test_one b n (nat_lt e d) h, test_less (b && (n == 1)) e d h)
+one_of_left : (c b u : Bool) (n : ℕ) → (c && b && not u) ≡ true → u ≡ (b && not (n == 1)) → n ≡ 1
+one_of_left c b u n h e = grind (arith, nat_tests)
+
+is_left : (b u : Bool) (n e d : ℕ) → e < d → b ≡ true → n ≡ 1 → u ≡ (b && not (n == 1)) → (nat_lt e d && b && not u) ≡ true
+is_left b u n e d h k l m = grind (arith, nat_tests)
+
+-- those before a device that leave in the round have left
+abbrev pub GoneBefore : Peers → (ℕ → Bool) → (ℕ → Bool) → ℕ → Type 0
+GoneBefore g s t d = (k : ℕ) → k < d → t k ≡ (s k && not (open_count g s k == 1))
+
+-- a device leaves towards one that has left in the round: towards each other
+pub left_first : (g : Peers) (s t : ℕ → Bool) (d p : ℕ) (e : End) → AreCables g → LeavesBy g s d p → peer g d p ≡ Some e → GoneBefore g s t d
+    → (nat_lt e.device d && s e.device && not (t e.device)) ≡ true → WinsTie g s d
+left_first g s t d p e cables l is gone h =
+    let less = less_of (s e.device) (t e.device) e.device d h in
+    let member = seen_of (nat_lt e.device d) (s e.device) (t e.device) h in
+    let other = one_of_left (nat_lt e.device d) (s e.device) (t e.device) (open_count g s e.device) h (gone e.device less) in
+    wins_tie g s d p e cables l.still l.one is member other less
+
+-- where the other has not left, or comes later, there is no tie to win
+pub none_left : (g : Peers) (s t : ℕ → Bool) (d p : ℕ) (e : End) → LeavesBy g s d p → peer g d p ≡ Some e → GoneBefore g s t d
+    → (nat_lt e.device d && s e.device && not (t e.device)) ≡ false → WinsTie g s d → ⊥
+none_left g s t d p e l is gone none w =
+    let x = tie_with g s d p e l is w in
+    let y = is_left (s e.device) (t e.device) (open_count g s e.device) e.device d x.0 x.1 x.2 (gone e.device x.0) in cc
+
+-- where it does not have one open cable it stays
+pub stays_there : {X : Type 0} (o : Option X) (b : Bool) (n m : ℕ) → n ≡ m → IfNone o (n ≡ 1 → ⊥) → IfNone o ((b && (m == 1)) ≡ false)
+stays_there (Some x) b n m e h = tt
+stays_there None b n m e h = other b n m e h
   where
-    test_one : (b : Bool) (n : ℕ) (c : Bool) → (b && (n == 1) && c) ≡ true → n ≡ 1
-    test_one b n c h = grind (arith, nat_tests)
-
-    test_less : (c : Bool) (e d : ℕ) → (c && nat_lt e d) ≡ true → e < d
-    test_less c e d h = grind (arith, nat_tests)
-
-pub is_leaving : (b : Bool) (n e d : ℕ) → b ≡ true → n ≡ 1 → e < d → (b && (n == 1) && nat_lt e d) ≡ true
-is_leaving b n e d h k l = grind (arith, nat_tests)
-
--- where the other does not leave, or comes later, there is no tie to win
-pub no_win : (g : Peers) (s : ℕ → Bool) (d p : ℕ) (e : End) → LeavesBy g s d p → peer g d p ≡ Some e → (s e.device && (open_count g s e.device == 1) && nat_lt e.device d) ≡ false → WinsTie g s d → ⊥
-no_win g s d p e l is none w = let t = tie_with g s d p e l is w in let x = is_leaving (s e.device) (open_count g s e.device) e.device d t.1 t.2 t.0 in cc
+    other : (b : Bool) (n m : ℕ) → n ≡ m → (n ≡ 1 → ⊥) → (b && (m == 1)) ≡ false
+    other b n m e h = grind (arith, nat_tests)
 
 -- what the devices below i have done in a round
 pub record Leave (g : Peers) (round : ℕ) (old stays_now : List Bool) (was now : List (Option Parent)) (i : ℕ) : Type 0 where

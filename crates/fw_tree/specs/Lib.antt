@@ -8,3 +8,4 @@ pub mod Paths
 pub mod Rounds
 pub mod SelfIds
 pub mod Topology
+pub mod Laws

@@ -30,6 +30,8 @@ fn child_at(g: &AllCables, parents: &[Option<Parent>; 63], d: u8, p: usize) -> O
 }
 
 /// How many devices have a number.
+// Not inlined, nor is `parent_ports`: there the lists lie in memory, and not byte by byte in registers.
+#[inline(never)]
 #[tactic(auto, using(crate::proofs::CountLaws::counted_none, crate::proofs::CountLaws::counted_yes, crate::proofs::CountLaws::counted_else))]
 pub fn numbered(number: &[Option<u8>; 63]) -> u8
     ensures count { result ≡ counted (has_number number.now) 63 }
@@ -106,6 +108,7 @@ fn shown(on: bool, parent: &Option<Parent>) -> Option<u8>
 }
 
 /// The parents' ports of the devices of the bus, which are those that have a number.
+#[inline(never)]
 pub fn parent_ports(number: &[Option<u8>; 63], parents: &[Option<Parent>; 63]) -> [Option<u8>; 63]
     ensures ports { (d : ℕ) → d < 63 → number_at result d ≡ shown (has_number number.now d) (parent_at parents.now d) }
     ensures size { length result ≡ 63 }

@@ -1,7 +1,7 @@
 ghost use Rattle.std.specs.Prelude.{◌≡◌, ◌<◌, ◌≤◌, ◌==◌, ◌&&◌, not, ℕ, [], true, false, None, Some, IfSome, IfNone, IsTrue, count_by, length, nat_lt, slice_index_or, slice_set};
 ghost use Rattle.fw_tree.specs.Cables.{AreMarked, InRange, is_seen, peer};
 ghost use Rattle.fw_tree.specs.declared.facts.End.{End as Far};
-ghost use Rattle.fw_tree.specs.Rounds.{is_open, open_count, WinsTie, LeavesBy};
+ghost use Rattle.fw_tree.specs.Rounds.{is_open, open_count, LeavesBy};
 ghost use Rattle.fw_tree.specs.Forest.{AreCables};
 ghost use Rattle.fw_tree.specs.Parents.{Notes, IsDue, IsParent, Settled, parent_at, staying};
 ghost use Rattle.fw_tree.specs.Topology.{ArePlaced};
@@ -35,124 +35,56 @@ struct Round {
     due: [bool; 63],
 }
 
-// A cable at the port leads to a device that stays.
-fn is_open(port: &Option<End>, stays: &[bool; 63]) -> bool
-    requires { IfSome port.now (λ e. e.device < 63) }
-    ensures { result ≡ is_open (is_seen stays.now) port.now }
-{
-    match port {
-        Some(end) => stays[end.device as usize],
-        None => false,
-    }
-}
-
-// How many cables of a device lead to devices that stay.
-fn open_count(ports: &[Option<End>], stays: &[bool; 63]) -> usize
-    requires { (p : ℕ) → IfSome (slice_index_or ports.now p None) (λ e. e.device < 63) }
-    ensures { result ≡ count_by (is_open (is_seen stays.now)) ports.now }
-{
-    let mut count: usize = 0;
-    for port in ports {
-        if is_open(port, stays) {
-            count += 1;
-        }
-    }
-    count
-}
-
-// The first cable that leads to a device that stays.
-fn open_cable(ports: &[Option<End>], stays: &[bool; 63]) -> Option<Cable>
+// The one cable that leads to a device that stays: None where there is none, or more than one.
+fn only_open(ports: &[Option<End>], stays: &[bool; 63]) -> Option<Cable>
     requires most { length ports.now ≤ 27 }
     requires ends { (p : ℕ) → IfSome (slice_index_or ports.now p None) (λ e. e.device < 63) }
-    ensures none { IfNone result ((p : ℕ) → is_open (is_seen stays.now) (slice_index_or ports.now p None) ≡ false) }
+    ensures none { IfNone result (count_by (is_open (is_seen stays.now)) ports.now ≡ 1 → ⊥) }
+    ensures one { IfSome result (λ c. count_by (is_open (is_seen stays.now)) ports.now ≡ 1) }
     ensures port { IfSome result (λ c. c.port < 27) }
     ensures end { IfSome result (λ c. slice_index_or ports.now c.port None ≡ Some c.end) }
     ensures stays { IfSome result (λ c. is_seen stays.now c.end.device ≡ true) }
 {
+    let mut count: usize = 0;
+    let mut open = None;
     for p in 0..ports.len() {
         if let Some(end) = ports[p] {
             if stays[end.device as usize] {
-                return Some(Cable { port: p as u8, end });
+                count += 1;
+                open = Some(Cable { port: p as u8, end });
             }
         }
     }
-    None
+    if count == 1 { open } else { None }
 }
 
-// The device leaves in a round at whose start these stay.
-fn leaves(g: &AllCables, facts: &[PhyFacts; 63], d: usize, stays: &[bool; 63]) -> bool
+// The cable by which a device leaves in a round at whose start these stay, where it leaves.
+fn way_out(g: &AllCables, facts: &[PhyFacts; 63], d: usize, stays: &[bool; 63]) -> Option<Cable>
     requires range { InRange g.now }
     requires placed { ArePlaced facts.now g.now }
     requires device { d < 63 }
-    ensures { result ≡ (is_seen stays.now d && (open_count g.now (is_seen stays.now) d == 1)) }
+    ensures none { IfNone result ((is_seen stays.now d && (open_count g.now (is_seen stays.now) d == 1)) ≡ false) }
+    ensures leaves { IfSome result (λ c. LeavesBy g.now (is_seen stays.now) d c.port) }
+    ensures port { IfSome result (λ c. c.port < 27) }
+    ensures end { IfSome result (λ c. peer g.now d c.port ≡ Some c.end) }
 {
-    stays[d] && open_count(cables_of(g, facts, d), stays) == 1
-}
-
-// The other device leaves too, and it was declared before this one.
-fn wins_over(
-    g: &AllCables,
-    facts: &[PhyFacts; 63],
-    other: usize,
-    d: usize,
-    stays: &[bool; 63],
-) -> bool
-    requires range { InRange g.now }
-    requires placed { ArePlaced facts.now g.now }
-    requires device { other < 63 }
-    ensures { result ≡ (is_seen stays.now other && (open_count g.now (is_seen stays.now) other == 1) && nat_lt other d) }
-{
-    leaves(g, facts, other, stays) && other < d
-}
-
-// The port of the parent of a device that leaves: none for the later one of two that leave towards each other.
-fn parent_port(g: &AllCables, facts: &[PhyFacts; 63], d: usize, stays: &[bool; 63]) -> Option<u8>
-    requires range { InRange g.now }
-    requires placed { ArePlaced facts.now g.now }
-    requires cables { AreCables g.now }
-    requires device { d < 63 }
-    requires still { is_seen stays.now d ≡ true }
-    requires one { open_count g.now (is_seen stays.now) d ≡ 1 }
-    ensures root { IfNone result (WinsTie g.now (is_seen stays.now) d) }
-    ensures port { IfSome result (λ p. p < 27) }
-    ensures leaves { IfSome result (λ p. LeavesBy g.now (is_seen stays.now) d p) }
-    ensures below { IfSome result (λ p. WinsTie g.now (is_seen stays.now) d → ⊥) }
-{
-    match open_cable(cables_of(g, facts, d), stays) {
-        Some(cable) => {
-            let other = cable.end.device as usize;
-            if wins_over(g, facts, other, d, stays) {
-                None
-            } else {
-                Some(cable.port)
-            }
-        }
-        None => None,
+    if stays[d] {
+        only_open(cables_of(g, facts, d), stays)
+    } else {
+        None
     }
 }
 
-// What is noted of a device that leaves in a round.
-fn note(
-    g: &AllCables,
-    facts: &[PhyFacts; 63],
-    d: usize,
-    round: u8,
-    stays: &[bool; 63],
-) -> Option<Parent>
-    requires range { InRange g.now }
-    requires placed { ArePlaced facts.now g.now }
-    requires cables { AreCables g.now }
-    requires device { d < 63 }
-    requires still { is_seen stays.now d ≡ true }
-    requires one { open_count g.now (is_seen stays.now) d ≡ 1 }
-    ensures { Notes g.now (is_seen stays.now) round d result }
+// The other device has left in the round, and was declared before this one: towards it the device cannot leave.
+fn has_left(before: &[bool; 63], after: &[bool; 63], other: usize, d: usize) -> bool
+    requires { other < 63 }
+    ensures { result ≡ (nat_lt other d && is_seen before.now other && not (is_seen after.now other)) }
 {
-    let port = parent_port(g, facts, d, stays)?;
-    Some(Parent { port, round })
+    other < d && before[other] && !after[other]
 }
 
 // Lets a device leave where it has one open cable, and says whether it left. Then those at its cables may leave in the next
-// round.
+// round. Those before it have left already, so that they need not be asked again.
 fn leave_one(
     g: &AllCables,
     facts: &[PhyFacts; 63],
@@ -166,6 +98,7 @@ fn leave_one(
     requires cables { AreCables g.now }
     requires placed { ArePlaced facts.now g.now }
     requires device { d < 63 }
+    requires before { (k : ℕ) → k < d → is_seen after.old.stays k ≡ (is_seen before.now k && not (open_count g.now (is_seen before.now) k == 1)) }
     ensures left { result ≡ (is_seen before.now d && (open_count g.now (is_seen before.now) d == 1)) }
     ensures gone { result ≡ true → after.new.stays ≡ slice_set after.old.stays d false }
     ensures notes { result ≡ true → Notes g.now (is_seen before.now) round d (parent_at parents.new d) }
@@ -175,13 +108,20 @@ fn leave_one(
     ensures keeps { (k : ℕ) → IsTrue (is_seen after.old.due k) → IsTrue (is_seen after.new.due k) }
     ensures marked { result ≡ true → AreMarked (slice_index_or g.now d []) after.new.due }
 {
-    let left = leaves(g, facts, d, before);
-    if left {
-        parents[d] = note(g, facts, d, round, before);
-        after.stays[d] = false;
-        mark_peers(cables_of(g, facts, d), &mut after.due);
-    }
-    left
+    let Some(cable) = way_out(g, facts, d, before) else {
+        return false;
+    };
+    parents[d] = if has_left(before, &after.stays, cable.end.device as usize, d) {
+        None
+    } else {
+        Some(Parent {
+            port: cable.port,
+            round,
+        })
+    };
+    after.stays[d] = false;
+    mark_peers(cables_of(g, facts, d), &mut after.due);
+    true
 }
 
 // One round: all devices that leave in it leave at once. Says whether any left.

@@ -29,6 +29,8 @@ fn end_second(nodes: &mut [Node])
 impl Devices {
     /// Carries a request packet to the node of a device out at its registers in cycle `now`, and gives the response packet
     /// (`fw_node::Node::carry_out`). Nothing follows from a frame: those go by `answer_frame`.
+    // Inlined at its calls, where the response is then put in its place: else it is copied there.
+    #[inline(always)]
     pub fn answer(&mut self, device: u8, now: u64, packet: &Packet) -> Packet<'static>
         requires request { IsSome (request_in packet.now) }
         requires declared { device < length self.old.nodes }

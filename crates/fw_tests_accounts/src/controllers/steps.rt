@@ -179,7 +179,7 @@ fn sends(
     match does(rt, c, d) {
         Next::Send { to: node, request } => {
             let sent = (node, request.parts());
-            assert_eq!(rt; sent, (to, (REGISTER_SPACE + u64::from(offset), swap)));
+            assert!(rt; sent == (to, (REGISTER_SPACE + u64::from(offset), swap)));
         }
         other => panic!(rt; "{other:?} at {offset:X}"),
     }
@@ -256,7 +256,7 @@ fn ends(rt: &impl Abort, c: &mut Controller, d: &Directory, slot: u8, outcome: O
         Next::End {
             slot: of,
             outcome: found,
-        } => assert_eq!(rt; (of, found), (slot, outcome)),
+        } => assert!(rt; (of, found) == (slot, outcome)),
         other => panic!(rt; "{other:?} in place of {outcome:?}"),
     }
 }
@@ -278,8 +278,8 @@ fn take(rt: &impl Abort, c: &mut Controller, d: &mut Directory, step: Step)
     ensures reached { CanGoOn d.new c.new.state }
 {
     match step {
-        Step::Starts(order, answer) => assert_eq!(rt; starts(rt, c, d, order), answer),
-        Step::Breaks(slot, answer) => assert_eq!(rt; breaks(c, d, slot), answer),
+        Step::Starts(order, answer) => assert!(rt; starts(rt, c, d, order) == answer),
+        Step::Breaks(slot, answer) => assert!(rt; breaks(c, d, slot) == answer),
         Step::Exchanges(rows) => exchanges(rt, c, d, rows),
         Step::Reads(to, offset) => sends(rt, c, d, to, offset, None),
         Step::Hears(rcode, value) => hears(rt, c, d, rcode, value),

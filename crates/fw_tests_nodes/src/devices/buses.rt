@@ -85,13 +85,13 @@ pub fn connect_first(rt: &impl Abort, devices: &mut Devices, port: u8, b: Port)
 
 /// Each device's number, 63 where it is no node.
 pub fn numbers_are(rt: &impl Abort, devices: &Devices, numbers: &[u8]) {
-    assert_eq!(rt; usize::from(devices.count()), numbers.len());
+    assert!(rt; usize::from(devices.count()) == numbers.len());
     for d in 0..devices.count() {
         let number = match devices.node(d) {
             Some(node) => node.number().unwrap_or(63),
             None => 63,
         };
-        assert_eq!(rt; number, numbers[usize::from(d)], "number of {d}");
+        assert!(rt; number == numbers[usize::from(d)], "number of {d}");
     }
 }
 
@@ -99,15 +99,15 @@ pub fn numbers_are(rt: &impl Abort, devices: &Devices, numbers: &[u8]) {
 pub fn latest_is(rt: &impl Abort, devices: &Devices, nodes: &[u8], quadlets: &[u32]) {
     let latest = devices.latest();
     let rows = latest.get().nodes.as_slice();
-    assert_eq!(rt; rows.len(), nodes.len(), "nodes");
+    assert!(rt; rows.len() == nodes.len(), "nodes");
     for (row, device) in rows.iter().zip(nodes) {
-        assert_eq!(rt; row.device, *device);
+        assert!(rt; row.device == *device);
     }
     let packets = latest.get().ids.as_slice();
-    assert_eq!(rt; packets.len(), quadlets.len(), "packets");
+    assert!(rt; packets.len() == quadlets.len(), "packets");
     for (packet, quadlet) in packets.iter().zip(quadlets) {
         let [a, b, c, d] = quadlet.to_be_bytes();
         let bytes = [a, b, c, d, !a, !b, !c, !d];
-        assert_eq!(rt; read_phy(&bytes), Ok(*packet), "{quadlet:08X}");
+        assert!(rt; read_phy(&bytes) == Ok(*packet), "{quadlet:08X}");
     }
 }

@@ -27,7 +27,7 @@ fn bus_resets_show_the_bus(rt: HostRuntime) -> Result<(), Fail> {
     connect_first(&rt, &mut devices, 0, (1, 0));
     numbers_are(&rt, &devices, &[0, 1, 63, 63]);
     latest_is(&rt, &devices, &[0, 1], &[0x807F_8896, 0x817F_00C0]);
-    assert_eq!(rt; devices.manager(), Some(0));
+    assert!(rt; devices.manager() == Some(0));
 
     connect_first(&rt, &mut devices, 1, (2, 0));
     connect(&rt, &mut devices, (2, 1), (3, 0));
@@ -38,7 +38,7 @@ fn bus_resets_show_the_bus(rt: HostRuntime) -> Result<(), Fail> {
         &[1, 0, 3, 2],
         &[0x807F_0080, 0x817F_88E4, 0x827F_0880, 0x837F_08F2],
     );
-    assert_eq!(rt; devices.manager(), Some(2));
+    assert!(rt; devices.manager() == Some(2));
 
     // Of the same cables another device begins a bus reset: bit 30 moves from node 3 to node 1.
     reset(&rt, &mut devices, 0);
@@ -49,10 +49,10 @@ fn bus_resets_show_the_bus(rt: HostRuntime) -> Result<(), Fail> {
         &[0x807F_0080, 0x817F_88E6, 0x827F_0880, 0x837F_08F0],
     );
     let latest = devices.latest();
-    assert_eq!(rt; latest.get().epoch, 4);
-    assert_eq!(rt; latest.get().root, 3);
-    assert_eq!(rt; latest.get().manager, Some(3));
-    assert_eq!(rt; latest.get().initiator, 1);
+    assert!(rt; latest.get().epoch == 4);
+    assert!(rt; latest.get().root == 3);
+    assert!(rt; latest.get().manager == Some(3));
+    assert!(rt; latest.get().initiator == 1);
     Ok(())
 }
 
@@ -60,10 +60,10 @@ fn bus_resets_show_the_bus(rt: HostRuntime) -> Result<(), Fail> {
 fn the_first_of_a_name_is_found(rt: HostRuntime) -> Result<(), Fail> {
     let mut devices = devices(&rt, &FOUR)?;
     declare(&rt, &mut devices, (b"left", DeviceKind::Relay, 1, 0));
-    assert_eq!(rt; devices.count(), 5);
+    assert!(rt; devices.count() == 5);
     let found: [(&[u8], Option<u8>); 3] = [(b"pc", Some(0)), (b"left", Some(2)), (b"lef", None)];
     for (word, device) in found {
-        assert_eq!(rt; devices.find(&name_of(&rt, word)), device);
+        assert!(rt; devices.find(&name_of(&rt, word)) == device);
     }
     Ok(())
 }
@@ -111,17 +111,11 @@ fn nodes_answer(rt: HostRuntime) -> Result<(), Fail> {
         rcode: 0,
         value: 4915,
     };
-    assert_eq!(rt; answer(&rt, &mut devices, 2, &REQUEST), response);
-    assert_eq!(rt;
-        read(&rt, &devices, 2, BANDWIDTH_AVAILABLE),
-        Reply::complete(4915)
-    );
-    assert_eq!(rt;
-        read(&rt, &devices, 0, BANDWIDTH_AVAILABLE),
-        Reply::address_error()
-    );
-    assert_eq!(rt; read(&rt, &devices, 2, OPCR), Reply::complete(0x803F_007A));
+    assert!(rt; answer(&rt, &mut devices, 2, &REQUEST) == response);
+    assert!(rt; read(&rt, &devices, 2, BANDWIDTH_AVAILABLE) == Reply::complete(4915));
+    assert!(rt; read(&rt, &devices, 0, BANDWIDTH_AVAILABLE) == Reply::address_error());
+    assert!(rt; read(&rt, &devices, 2, OPCR) == Reply::complete(0x803F_007A));
     devices.second_over();
-    assert_eq!(rt; read(&rt, &devices, 3, OPCR), Reply::complete(0x803F_007A));
+    assert!(rt; read(&rt, &devices, 3, OPCR) == Reply::complete(0x803F_007A));
     Ok(())
 }

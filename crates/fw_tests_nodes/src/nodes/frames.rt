@@ -27,7 +27,7 @@ fn sends(rt: &impl Abort, node: &mut Node, packet: &[u32])
     if let Some(p) = node.outgoing(&mut room) {
         write_packet(&p, &mut bytes);
     }
-    assert_eq!(rt; bytes.as_slice(), bytes_of(packet).as_slice());
+    assert!(rt; bytes.as_slice() == bytes_of(packet).as_slice());
 }
 
 /// The node carries a command out, and sends these packets after it, of which the last is none.
@@ -155,7 +155,7 @@ const ROWS: [(&[u32], &[&[u32]]); 8] = [
 fn a_deck_is_commanded(rt: HostRuntime) {
     let desk = Desk::new(|_: u16, _: u32, _: u16| [0; 480], |_: u32, byte: u8| !byte);
     let mut node = node_of(DeviceKind::Deck);
-    for (request, sent) in ROWS {
+    for &(request, sent) in &ROWS {
         commands(&rt, &mut node, request, sent, &desk);
     }
 }

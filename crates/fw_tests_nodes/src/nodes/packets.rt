@@ -46,7 +46,7 @@ fn exchange(rt: &impl Abort, node: &mut Node, request: &[u32], response: &[u32])
     assert!(rt; matches!(p, Packet::ReadQuadlet { .. } | Packet::Lock { .. }));
     let mut room = PacketRoom::new();
     let _reply = node.serve(NOW, request.as_slice(), &mut room);
-    assert_eq!(rt; room.as_slice(), bytes_of(response).as_slice());
+    assert!(rt; room.as_slice() == bytes_of(response).as_slice());
 }
 
 /// A request of the bus, and its response.
@@ -115,9 +115,9 @@ const EXCHANGES: [(&[u32], &[u32]); 7] = [
 #[test]
 fn packets_in_quadlets(rt: HostRuntime) {
     let mut node = node_of(DeviceKind::Deck);
-    for (request, response) in EXCHANGES {
+    for &(request, response) in &EXCHANGES {
         exchange(&rt, &mut node, request, response);
     }
     let registers = node.manager().map(|m| m.registers());
-    assert_eq!(rt; registers, Some([0, 0x0963, 0xFFFF_FFFF, 0xFFFF_FFFF]));
+    assert!(rt; registers == Some([0, 0x0963, 0xFFFF_FFFF, 0xFFFF_FFFF]));
 }

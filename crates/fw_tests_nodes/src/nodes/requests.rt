@@ -41,7 +41,7 @@ const HEAD: Head = Head {
 };
 
 /// A request at an offset.
-#[derive(Clone, Copy, Debug)]
+#[derive(Clone, Copy)]
 pub enum Ask {
     Read,
     /// compare_swap of two quadlets.
@@ -135,12 +135,12 @@ pub fn answer(rt: &impl Abort, node: &mut Node, ask: Ask, offset: u16) -> (u8, O
 {
     let p = packet_of(ask, REGISTER_SPACE + u64::from(offset));
     let reply = node.carry_out(NOW, &p);
-    assert!(rt; is_of_kind(ask, &reply), "{ask:?} at {offset:X}");
+    assert!(rt; is_of_kind(ask, &reply), "{offset:X}");
     match &reply {
         Packet::ReadQuadletReply { rcode, value, .. } => (*rcode, Some(*value)),
         Packet::ReadBlockReply { rcode, bytes, .. } => (*rcode, quadlet_in(rt, bytes.as_slice())),
         Packet::WriteReply { rcode, .. } => (*rcode, None),
         Packet::LockReply { rcode, bytes, .. } => (*rcode, quadlet_in(rt, bytes.as_slice())),
-        _ => panic!(rt; "{ask:?} at {offset:X}"),
+        _ => panic!(rt; "{offset:X}"),
     }
 }

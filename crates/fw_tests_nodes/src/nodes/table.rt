@@ -8,7 +8,7 @@ use fw_base::DeviceKind;
 use std::process::Abort;
 
 /// What a register allows.
-#[derive(Clone, Copy, PartialEq, Eq)]
+#[derive(Clone, Copy)]
 enum Allowed {
     Read,
     ReadSwap,
@@ -89,10 +89,9 @@ fn answers(rt: &impl Abort, kind: DeviceKind, offset: u16, exchanges: &[Exchange
 {
     let mut node = node_of(kind);
     for &(ask, answered) in exchanges {
-        assert_eq!(rt;
-            answer(rt, &mut node, ask, offset),
-            answered,
-            "{ask:?} at {offset:X}"
+        assert!(rt;
+            answer(rt, &mut node, ask, offset) == answered,
+            "{offset:X}"
         );
     }
 }

@@ -80,8 +80,8 @@ fn tells(rt: &impl Abort, unit: &mut Unit, notice: Option<&[u8]>) {
         None => None,
     };
     match frame {
-        Some(frame) => assert_eq!(rt; (node, told), (Some(1), frame)),
-        None => assert_eq!(rt; node, None),
+        Some(frame) => assert!(rt; (node, told) == (Some(1), frame)),
+        None => assert!(rt; node == None),
     }
 }
 
@@ -96,7 +96,7 @@ fn take<F: Fn(u16, u32, u16) -> [u8; 480], H: Fn(u32, u8) -> u8>(
     match step {
         Answers(command, response) => {
             let given = respond(unit, command, desk);
-            assert_eq!(rt; given, frame_of(response), "{command:?}");
+            assert!(rt; given == frame_of(response));
         }
         Tells(notice) => tells(rt, unit, Some(notice)),
         TellsNothing => tells(rt, unit, None),

@@ -15,7 +15,7 @@ hear_bid-requires-clause-stands g c =
     let m = c.args.machine.now in
     let d = c.args.device in
     let k : Contender m d c.in-Some.manager = contender_of m d c.in-Some.manager c.requires.candidate (sym c.manager.ensures ∙ c.in-Some.is) c.requires.few in
-    record { contender = k; stands = sym (standing_is m d c.in-Some.manager c.epoch.result c.has_request.result c.requires.ready k c.epoch.ensures c.has_request.ensures) ∙ c.if-has_request.true }
+    (c.in-Some.manager, record { contender = k; stands = sym (standing_is m d c.in-Some.manager c.epoch.result c.has_request.result c.requires.ready k c.epoch.ensures c.has_request.ensures) ∙ c.if-has_request.true })
 
 pub make_bid-requires-clause-rests : goal.make_bid-requires-clause-rests
 make_bid-requires-clause-rests g c =

@@ -1,4 +1,4 @@
-use Rattle.std.proofs.Common.{◌≡◌, ℕ, List, ◌∷◌, ◌++◌, [], Some, None, ap, sym, subst, ◌∙◌}
+use Rattle.std.proofs.Common.{◌≡◌, Some, None, ap, sym, subst, ◌∙◌}
 use Rattle.std.specs.Prelude.{IsFalse}
 use Rattle.std.proofs.lemmas.Option.{same_Some}
 use Rattle.fw_entry.specs.declared.entry.Entry.TheVariants.{Async}
@@ -28,40 +28,27 @@ next-requires-clause-heard g c other is =
 
 -- ---- a request goes out
 
-pub put_request-requires-clause-to : goal.put_request-requires-clause-to
-put_request-requires-clause-to g c =
+pub send-requires-clause-to : goal.send-requires-clause-to
+send-requires-clause-to g c =
     let m = c.args.machine.now in
     let nexts = nexts_now m c.next.new.self c.args.device c.number-own.result c.number-to.result c.epoch.result c.next.result c.epoch.ensures c.next.ensures.answer in
     let x = sent_is m c.next.new.self c.args.device c.args.manager c.number-own.result c.number-to.result c.in-Send.to c.in-Send.request c.next.result c.requires.ready c.requires.rests.contender nexts c.in-Send.is in
     rw x.0 c.number-to.ensures.range
 
-pub put_request-requires-clause-fits : goal.put_request-requires-clause-fits
-put_request-requires-clause-fits g c =
+pub send-requires-clause-fits : goal.send-requires-clause-fits
+send-requires-clause-fits g c =
     let m = c.args.machine.now in
     let nexts = nexts_now m c.next.new.self c.args.device c.number-own.result c.number-to.result c.epoch.result c.next.result c.epoch.ensures c.next.ensures.answer in
     sent_fits m c.next.new.self c.args.device c.args.manager c.number-own.result c.number-to.result c.in-Send.to c.in-Send.request c.next.result c.requires.ready c.requires.rests.contender nexts c.in-Send.is
     c.number-own.ensures.value c.number-to.ensures.value
 
-pub put_bytes-requires-clause-free : goal.put_bytes-requires-clause-free
-put_bytes-requires-clause-free g c =
+pub send-requires-clause-free : goal.send-requires-clause-free
+send-requires-clause-free g c =
     let r = c.requires.ready in
     own_free c.args.machine.now r.state c.args.device c.args.manager c.number-own.result r.good r.stands c.requires.rests c.number-own.ensures.value
 
-pub put_bytes-requires-clause-packet : goal.put_bytes-requires-clause-packet
-put_bytes-requires-clause-packet g c =
-    let m = c.args.machine.now in
-    let nexts = nexts_now m c.next.new.self c.args.device c.number-own.result c.number-to.result c.epoch.result c.next.result c.epoch.ensures c.next.ensures.answer in
-    let fits = sent_fits m c.next.new.self c.args.device c.args.manager c.number-own.result c.number-to.result c.in-Send.to c.in-Send.request c.next.result c.requires.ready c.requires.rests.contender nexts c.in-Send.is
-    c.number-own.ensures.value c.number-to.ensures.value in
-    record { packet = packet_of (bid_head c.in-Send.to c.number-own.result) c.in-Send.request; spells = record { fits = fits; same = sym c.put_request.ensures } }
-
 pub give_packet-requires : goal.give_packet-requires
-give_packet-requires g c =
-    let m = c.args.machine.now in
-    let nexts = nexts_now m c.next.new.self c.args.device c.number-own.result c.number-to.result c.epoch.result c.next.result c.epoch.ensures c.next.ensures.answer in
-    let fits = sent_fits m c.next.new.self c.args.device c.args.manager c.number-own.result c.number-to.result c.in-Send.to c.in-Send.request c.next.result c.requires.ready c.requires.rests.contender nexts c.in-Send.is
-    c.number-own.ensures.value c.number-to.ensures.value in
-    record { packet = packet_of (bid_head c.in-Send.to c.number-own.result) c.in-Send.request; spells = record { fits = fits; same = sym c.put_request.ensures } }
+give_packet-requires g c = record { packet = packet_of (bid_head c.in-Send.to c.number-own.result) c.in-Send.request; spells = c.send.ensures.packet }
 
 pub returns-in-Send-clause-takes : goal.returns-in-Send-clause-takes
 returns-in-Send-clause-takes g c =
@@ -69,14 +56,11 @@ returns-in-Send-clause-takes g c =
     let own = c.number-own.result in
     let p = packet_of (bid_head c.in-Send.to own) c.in-Send.request in
     let nexts = nexts_now m c.next.new.self c.args.device own c.number-to.result c.epoch.result c.next.result c.epoch.ensures c.next.ensures.answer in
-    let fits = sent_fits m c.next.new.self c.args.device c.args.manager own c.number-to.result c.in-Send.to c.in-Send.request c.next.result c.requires.ready c.requires.rests.contender nexts c.in-Send.is
-    c.number-own.ensures.value c.number-to.ensures.value in
-    let wire = c.put_bytes.ensures ∙ ap (λ (b : List ℕ). m.bids ++ (own, b) ∷ []) c.put_request.ensures in
     record {
       entry = Some (Async p);
-      turns = asks_turns m c.next.new.self c.put_bytes.new.self c.args.device c.args.manager own c.number-to.result c.next.result (Some (Async p)) c.requires.rests c.number-own.ensures.value c.number-to.ensures.value nexts
-          (sym (ap (said_of c.args.device own) c.in-Send.is)) (wire ∙ sym (ap (put_by m.bids own) c.in-Send.is));
-      gives = c.give_packet.ensures.bytes p (record { fits = fits; same = sym c.put_request.ensures });
+      turns = asks_turns m c.next.new.self c.send.new.wire c.args.device c.args.manager own c.number-to.result c.next.result (Some (Async p)) c.requires.rests c.number-own.ensures.value c.number-to.ensures.value nexts
+          (sym (ap (said_of c.args.device own) c.in-Send.is)) (c.send.ensures.wire ∙ sym (ap (put_by m.bids own) c.in-Send.is));
+      gives = c.give_packet.ensures.bytes p c.send.ensures.packet;
       faults = c.give_packet.ensures.faults;
     }
 

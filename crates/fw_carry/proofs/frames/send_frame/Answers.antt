@@ -1,9 +1,8 @@
--- proofs/machine/Machine/send_frame/Answers.antt
 use Rattle.std.proofs.Common.{refl, sym, ◌∙◌}
 use Rattle.std.specs.Prelude.{Err, Ok}
 use Rattle.fw_node.specs.Fcp.{frame_packet, number_of}
 use Rattle.fw_devices.specs.Network.{node_at}
-use Rattle.fw_carry.proofs.Doings.{does_asked, does_unasked}
+use Rattle.fw_carry.proofs.ExchangeTurns.{does_talks}
 use Rattle.fw_carry.proofs.FrameCalls.{addressed_to, answered, answered_fewer, answered_talks, outgoing, outgoing_asks, reaches}
 use Rattle.fw_carry.proofs.Sending.{sends_none, sends_one, sends_cut}
 use Rattle.fw_carry.proofs.frames.send_frame.Goals as goal
@@ -49,32 +48,20 @@ returns-in_default-clause-does g c =
 
 -- ---- a frame
 
-pub returns-in_err-give_async-clause-does : goal.returns-in_err-give_async-clause-does
-returns-in_err-give_async-clause-does g c =
+pub returns-in_err-exchange-clause-does : goal.returns-in_err-exchange-clause-does
+returns-in_err-exchange-clause-does g c =
     let packet = sym c.in-Some.is ∙ c.outgoing.ensures.packet in
     let out = outgoing c.args.machine.now c.args.device c.outgoing.new.self c.in-Some.frame c.requires.declared packet c.outgoing.ensures.node in
     let talks = answered_talks (answered c.requires.ready out c.addressee-to.ensures c.answer-response.ensures.response c.answer-response.ensures.registers) in
-    let failed = c.from_residual.ensures.0 in
-    let did = does_unasked _ _ _ (Err _) c.from_residual.result talks (λ n. refl) (λ n. refl) refl failed c.in_err-give_async.ensures.bytes c.in_err-give_async.ensures.faults in
-    sends_cut c.args.device _ _ failed failed did
-
-pub returns-in_err-give_async-2-clause-does : goal.returns-in_err-give_async-2-clause-does
-returns-in_err-give_async-2-clause-does g c =
-    let packet = sym c.in-Some.is ∙ c.outgoing.ensures.packet in
-    let out = outgoing c.args.machine.now c.args.device c.outgoing.new.self c.in-Some.frame c.requires.declared packet c.outgoing.ensures.node in
-    let talks = answered_talks (answered c.requires.ready out c.addressee-to.ensures c.answer-response.ensures.response c.answer-response.ensures.registers) in
-    let given = c.in_ok-give_async.ensures in
-    let did = does_asked _ _ _ _ (Err _) talks (λ n. refl) (λ n. refl) given.bytes given.faults c.in_err-give_async-2.ensures.bytes c.in_err-give_async-2.ensures.faults in
-    sends_cut c.args.device _ _ refl c.from_residual-in_err-give_async-2.ensures.0 did
+    let did = does_talks (Err _) talks (λ n. refl) (λ n. refl) c.in_err-exchange.ensures in
+    sends_cut c.args.device _ _ refl c.from_residual.ensures.0 did
 
 pub returns-clause-does : goal.returns-clause-does
 returns-clause-does g c =
     let packet = sym c.in-Some.is ∙ c.outgoing.ensures.packet in
     let out = outgoing c.args.machine.now c.args.device c.outgoing.new.self c.in-Some.frame c.requires.declared packet c.outgoing.ensures.node in
     let talks = answered_talks (answered c.requires.ready out c.addressee-to.ensures c.answer-response.ensures.response c.answer-response.ensures.registers) in
-    let given = c.in_ok-give_async.ensures in
-    let did = does_asked _ _ _ _ (Ok _) talks (λ n. refl) (λ n. refl) given.bytes given.faults c.in_ok-give_async-2.ensures.bytes c.in_ok-give_async-2.ensures.faults in
-    sends_one c.args.device did
+    sends_one c.args.device (does_talks (Ok _) talks (λ n. refl) (λ n. refl) c.in_ok-exchange.ensures)
 
 pub returns-clause-fewer : goal.returns-clause-fewer
 returns-clause-fewer g c =

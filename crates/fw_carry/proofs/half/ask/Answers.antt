@@ -1,6 +1,6 @@
-use Rattle.std.proofs.Common.{◌≡◌, ℕ, ◌<◌, inl, inr, List, [], ◌∷◌, ◌++◌, false, Some, None, IfSome, refl, ap, sym, subst, ◌∙◌}
-use Rattle.fw_async.specs.Async.{spelling}
+use Rattle.std.proofs.Common.{◌≡◌, ◌<◌, inl, inr, false, Some, None, IfSome, refl, ap, sym, subst, ◌∙◌}
 use Rattle.fw_async.specs.Wire.{Pairs}
+use Rattle.fw_base.specs.declared.label.Label.TheVariants.{Procedure}
 use Rattle.fw_node.specs.Packets.{packet_of, request_head}
 use Rattle.fw_outside.proofs.Parts.{Grows-nothing}
 use Rattle.fw_entry.specs.declared.entry.Entry.TheVariants.{Async}
@@ -30,9 +30,9 @@ next-requires-clause-now g c = ready_cycle c.requires.ready
 
 -- ---- a request goes out
 
-pub put_request-requires-clause-fits : goal.put_request-requires-clause-fits
-put_request-requires-clause-fits g c =
-    let p = packet_of (request_head c.number-own.result c.in-Send.to 0) c.in-Send.request in
+pub send-requires-clause-fits : goal.send-requires-clause-fits
+send-requires-clause-fits g c =
+    let p = packet_of (request_head c.number-own.result c.in-Send.to Procedure) c.in-Send.request in
     let x : Sends c.args.machine.now c.args.device c.in-Send.to c.number-own.result c.next.new.self c.in-Send.request p = record {
       lives = c.requires.living;
       heard = c.requires.heard;
@@ -44,9 +44,9 @@ put_request-requires-clause-fits g c =
     } in
     sends_fits c.requires.ready x
 
-pub put_bytes-requires-clause-free : goal.put_bytes-requires-clause-free
-put_bytes-requires-clause-free g c =
-    let p = packet_of (request_head c.number-own.result c.in-Send.to 0) c.in-Send.request in
+pub send-requires-clause-free : goal.send-requires-clause-free
+send-requires-clause-free g c =
+    let p = packet_of (request_head c.number-own.result c.in-Send.to Procedure) c.in-Send.request in
     let x : Sends c.args.machine.now c.args.device c.in-Send.to c.number-own.result c.next.new.self c.in-Send.request p = record {
       lives = c.requires.living;
       heard = c.requires.heard;
@@ -58,37 +58,13 @@ put_bytes-requires-clause-free g c =
     } in
     sends_free c.requires.ready x
 
-pub put_bytes-requires-clause-packet : goal.put_bytes-requires-clause-packet
-put_bytes-requires-clause-packet g c =
-    let p = packet_of (request_head c.number-own.result c.in-Send.to 0) c.in-Send.request in
-    let x : Sends c.args.machine.now c.args.device c.in-Send.to c.number-own.result c.next.new.self c.in-Send.request p = record {
-      lives = c.requires.living;
-      heard = c.requires.heard;
-      table = c.next.ensures.state;
-      says = sym c.next.ensures.answer ∙ c.in-Send.is;
-      low = subst (λ (x : Next). IfSome (addressee_in x) (λ t. t < 63)) c.in-Send.is c.next.ensures.addressee;
-      number = c.number-own.ensures.value;
-      packet = refl;
-    } in
-    record { packet = p; spells = record { fits = sends_fits c.requires.ready x; same = sym c.put_request.ensures } }
-
 pub give_packet-requires : goal.give_packet-requires
 give_packet-requires g c =
-    let p = packet_of (request_head c.number-own.result c.in-Send.to 0) c.in-Send.request in
-    let x : Sends c.args.machine.now c.args.device c.in-Send.to c.number-own.result c.next.new.self c.in-Send.request p = record {
-      lives = c.requires.living;
-      heard = c.requires.heard;
-      table = c.next.ensures.state;
-      says = sym c.next.ensures.answer ∙ c.in-Send.is;
-      low = subst (λ (x : Next). IfSome (addressee_in x) (λ t. t < 63)) c.in-Send.is c.next.ensures.addressee;
-      number = c.number-own.ensures.value;
-      packet = refl;
-    } in
-    record { packet = p; spells = record { fits = sends_fits c.requires.ready x; same = sym c.put_request.ensures } }
+    record { packet = packet_of (request_head c.number-own.result c.in-Send.to Procedure) c.in-Send.request; spells = c.send.ensures.packet }
 
 pub returns-in-Send-clause-speaks : goal.returns-in-Send-clause-speaks
 returns-in-Send-clause-speaks g c =
-    let p = packet_of (request_head c.number-own.result c.in-Send.to 0) c.in-Send.request in
+    let p = packet_of (request_head c.number-own.result c.in-Send.to Procedure) c.in-Send.request in
     let x : Sends c.args.machine.now c.args.device c.in-Send.to c.number-own.result c.next.new.self c.in-Send.request p = record {
       lives = c.requires.living;
       heard = c.requires.heard;
@@ -99,11 +75,10 @@ returns-in-Send-clause-speaks g c =
       packet = refl;
     } in
     let m = c.args.machine.now in
-    let wire : c.put_bytes.new.self ≡ m.wire ++ (c.number-own.result, spelling p) ∷ [] = c.put_bytes.ensures ∙ ap (λ (b : List ℕ). m.wire ++ (c.number-own.result, b) ∷ []) c.put_request.ensures in
     record {
       entry = Some (Async p);
-      takes = subst (λ (w : Pairs). Takes half m (record m { controllers = c.next.new.self; wire = w }) c.args.device (Some (Async p))) (sym wire) (sends_takes x);
-      gives = c.give_packet.ensures.bytes p (record { fits = sends_fits c.requires.ready x; same = sym c.put_request.ensures });
+      takes = subst (λ (w : Pairs). Takes half m (record m { controllers = c.next.new.self; wire = w }) c.args.device (Some (Async p))) (sym c.send.ensures.wire) (sends_takes x);
+      gives = c.give_packet.ensures.bytes p c.send.ensures.packet;
       faults = c.give_packet.ensures.faults;
     }
 

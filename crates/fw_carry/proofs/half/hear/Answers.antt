@@ -6,18 +6,18 @@ use Rattle.fw_carry.proofs.Served.{served_within, served_awaits, served_hears}
 use Rattle.fw_carry.proofs.half.hear.Goals as goal
 
 pub hear-requires-clause-device : goal.hear-requires-clause-device
-hear-requires-clause-device g c = served_within _ _ _ _ _ c.requires.ready c.requires.living c.in-Some.ensures
+hear-requires-clause-device g c = served_within _ _ _ _ _ c.requires.ready c.requires.living c.serve_request-reply.ensures
 
 pub hear-requires-clause-stands : goal.hear-requires-clause-stands
-hear-requires-clause-stands g c = served_awaits _ _ _ _ _ c.requires.standing c.in-Some.ensures
+hear-requires-clause-stands g c = served_awaits _ _ _ _ _ c.requires.standing c.serve_request-reply.ensures
 
 pub give_packet-requires : goal.give_packet-requires
-give_packet-requires g c = record { packet = c.in-Some.ensures.response; spells = c.in-Some.ensures.spells }
+give_packet-requires g c = record { packet = c.serve_request-reply.ensures.response; spells = c.serve_request-reply.ensures.spells }
 
 pub returns : goal.returns
 returns g c =
     let m : Machine = c.args.machine.now in
-    let s = c.in-Some.ensures in
+    let s = c.serve_request-reply.ensures in
     let takes = served_hears m _ c.hear.new.self c.args.device _ _ c.requires.living c.requires.standing s c.hear.ensures in
     record {
       speaks = record {

@@ -6,8 +6,21 @@ use Rattle.fw_carry.proofs.Calm.{calm_after}
 use Rattle.fw_carry.proofs.Settles.{rounds_none, rounds_then, rounds_all, rounds_rest, rounds_cut, living_kept, rounds_within, round_within}
 use Rattle.fw_carry.proofs.steps.rounds.Goals as goal
 
-pub is_unsettled-requires : goal.is_unsettled-requires
-is_unsettled-requires g c = record { ready = ready_after c.requires.ready c.loop-i.invariant.does }
+pub is_unsettled-requires-clause-ready : goal.is_unsettled-requires-clause-ready
+is_unsettled-requires-clause-ready g c = ready_after c.requires.ready c.loop-i.invariant.does
+
+pub is_unsettled-requires-clause-marks : goal.is_unsettled-requires-clause-marks
+is_unsettled-requires-clause-marks g c = λ d lt.
+    let names = ap (λ (z : List (List ℕ)). length z) c.loop-i.invariant.names in
+    c.mark_living-each.ensures.marks d (omega (arith, lt, names)) ∙ sym (c.loop-i.invariant.living d)
+
+pub is_unsettled-requires-clause-most : goal.is_unsettled-requires-clause-most
+is_unsettled-requires-clause-most g c =
+    let names = ap (λ (z : List (List ℕ)). length z) c.loop-i.invariant.names in
+    omega (arith, names, c.round_end-end.ensures.within, c.loop-i.invariant.few)
+
+pub is_unsettled-requires-clause-within : goal.is_unsettled-requires-clause-within
+is_unsettled-requires-clause-within g c = c.round_end-end.ensures.within
 
 pub rest-requires-clause-ready : goal.rest-requires-clause-ready
 rest-requires-clause-ready g c = ready_after c.requires.ready c.loop-i.invariant.does

@@ -1,11 +1,10 @@
-use Rattle.std.proofs.Common.{◌∙◌, ap, ℕ, List, Some}
-use Rattle.fw_json.specs.Objects.{head_fields}
 use Rattle.std.proofs.lemmas.Result.{on_ok_weaker}
-use Rattle.fw_json.proofs.Joins.{then, coded, moved}
+use Rattle.fw_json.specs.Objects.{head_fields}
+use Rattle.fw_json.proofs.Joins.{then, moved}
 use Rattle.fw_json.proofs.packet.put_packet.Goals as goal
 
 pub returns : goal.returns
 returns c =
-    let t2 = then _ _ _ _ _ (coded _ _ _ _ _ _ _ _ (c.from.ensures ∙ c.tcode.ensures) (ap (λ (t : List ℕ). Some t) c.tcode_name.ensures) c.in_ok-put_code.ensures) (moved (head_fields) _ _ _ _ c.head_of.ensures c.in_ok-put_head.ensures) in
+    let t2 = then _ _ _ _ _ c.in_ok-put_tcode.ensures (moved (head_fields) _ _ _ _ c.head_of.ensures c.in_ok-put_head.ensures) in
     let t3 = then _ _ _ _ _ t2 c.in_ok-put_target.ensures in
     on_ok_weaker c.put_contents.result (λ piece. then _ _ _ _ _ t3 piece) c.put_contents.ensures

@@ -1,7 +1,14 @@
+use Rattle.std.proofs.Common.{◌≡◌, ◌++◌, OnOk, codes, ℕ, arith, sym, subst}
 use Rattle.std.proofs.lemmas.Result.{on_ok_weaker}
-use Rattle.fw_json.proofs.Joins.{coded}
+use Rattle.fw_names.specs.Names.{rcode_name}
+use Rattle.fw_json.specs.Values.{code}
+use Rattle.fw_json.proofs.Joins.{one_text, coded}
 use Rattle.fw_json.proofs.packet.put_rcode.Goals as goal
 
-pub returns : goal.returns
-returns c =
-    on_ok_weaker c.put_code.result (λ piece. coded _ _ _ _ _ _ _ _ c.from.ensures c.rcode_name.ensures piece) c.put_code.ensures
+pub returns-in-0 : goal.returns-in-0
+returns-in-0 c =
+    let P : ℕ → Type 0 = λ n. OnOk c.put_word.result (c.put_word.new.text.items ≡ c.args.text.now.items ++ code (codes ",\"rcode\":") n (codes ",\"rcode_name\":") (rcode_name n)) in
+    subst P (sym c.in-0.is) (on_ok_weaker c.put_word.result (λ e. one_text _ _ (codes ",\"rcode\":") 0 (codes ",\"rcode_name\":") (codes "complete") (omega arith) e) c.put_word.ensures)
+
+pub returns-in_default : goal.returns-in_default
+returns-in_default c = on_ok_weaker c.put_code.result (λ piece. coded _ _ _ _ _ _ _ _ c.from.ensures c.rcode_name.ensures piece) c.put_code.ensures

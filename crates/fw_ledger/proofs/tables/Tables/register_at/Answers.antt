@@ -16,4 +16,4 @@ returns-in-None-clause-there c =
     named_there t l id c.args.address c.plug_register.result h
     (second_found c.managed.result c.plug_register.result (if is_node (id - first_id) t.manager then manager_register offset else None)
     (plug_register (row_at t.nodes id) offset) c.in-None.is c.managed.ensures (c.plug_register.ensures ∙ ap (λ r. plug_register r offset) row)
-    ∙ register_is t.started t.manager t.nodes l.latest id c.args.address h.latest c.if-id-lt65472.false c.if-address-lt281474708275200.false)
+    ∙ register_is t.started t.manager t.nodes l.latest id c.args.address h.latest c.if-id-lt65472.false c.if-address-lt-REGISTER_SPACE.false)

@@ -1,8 +1,9 @@
-use Rattle.fw_ledger.proofs.Replies.{other_label, label_zero}
+use Rattle.std.proofs.Common.{sym, ◌∙◌}
+use Rattle.fw_ledger.proofs.Replies.{other_label, procedure_label}
 use Rattle.fw_ledger.proofs.tables.Tables.take_read_reply.Goals as goal
 
-pub returns-then-head-ne0 : goal.returns-then-head-ne0
-returns-then-head-ne0 c = λ l h. other_label _ l _ _ h c.if-head-ne0.true
+pub returns-then-not-marks : goal.returns-then-not-marks
+returns-then-not-marks c = λ l h. other_label _ l _ _ h (sym c.marks.ensures ∙ c.if-not-marks.true)
 
 pub returns : goal.returns
-returns c = λ l h. label_zero _ _ _ l _ _ c.if-head-ne0.false (c.end_read.ensures l h)
+returns c = λ l h. procedure_label _ _ _ l _ _ (sym c.marks.ensures ∙ c.if-not-marks.false) (c.end_read.ensures l h)

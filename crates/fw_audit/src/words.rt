@@ -1,0 +1,48 @@
+//! The tests of the words that answers show.
+
+ghost use Rattle.std.specs.Prelude.{◌≡◌, ℕ, Option, Some};
+ghost use Rattle.fw_account.specs.Account.{Account};
+ghost use Rattle.fw_ledger.specs.Stands.{StandsFor};
+ghost use Rattle.fw_faults.specs.Judged.{judged_quadlet, judged_word, watched_offset, not_allowed as no_quadlet};
+
+use crate::watch::watched_offset;
+use fw_faults::AuditFault;
+use fw_ledger::Ledger;
+
+// A complete answer that shows no quadlet, or is to no quadlet read or swap.
+pub(crate) fn not_allowed(id: u16, address: u64) -> Option<AuditFault>
+    ensures { result ≡ no_quadlet id (watched_offset address) }
+{
+    let offset = watched_offset(address)?;
+    Some(AuditFault::NotAllowed(id, offset))
+}
+
+// The word that was found at a watched offset, where this one is due.
+pub(crate) fn judge_word(id: u16, offset: u16, found: u32, due: Option<u32>) -> Option<AuditFault>
+    ensures { result ≡ judged_word id offset found due }
+{
+    match due {
+        None => Some(AuditFault::NotAllowed(id, offset)),
+        Some(expected) => {
+            if found == expected {
+                None
+            } else {
+                Some(AuditFault::WrongWord(found, expected))
+            }
+        }
+    }
+}
+
+// A complete answer of a node that shows this quadlet of an address.
+pub(crate) fn judge_quadlet(
+    ledger: &Ledger,
+    id: u16,
+    target: u16,
+    address: u64,
+    found: u32,
+) -> Option<AuditFault>
+    ensures { (l : Account) → StandsFor ledger.now l → result ≡ judged_quadlet l id target address (Some found) }
+{
+    let offset = watched_offset(address)?;
+    judge_word(id, offset, found, ledger.word(target, address))
+}

@@ -1,0 +1,42 @@
+-- Requests that stand on a wire, and what is written of an exchange.
+use Rattle.std.specs.Prelude.{ℕ, ◌≡◌, ◌<◌, ◌%◌, List, length, Option, Some, Ok, IsErr, IsSome, IsTrue}
+use Rattle.std.specs.declared.result.Result.{Result}
+use Rattle.fw_async.specs.Async.{Fits, spelling}
+use Rattle.fw_async.specs.Heads.{head_of}
+use Rattle.fw_async.specs.Wire.{Pairs, bytes_from, without}
+use Rattle.fw_async.specs.declared.packet.Packet.{Packet}
+use Rattle.fw_base.specs.Devices.{has_link}
+use Rattle.fw_csr.specs.declared.reply.Reply.{Reply}
+use Rattle.fw_entry.specs.declared.entry.Entry.{Entry}
+use Rattle.fw_node.specs.Packets.{IsServed, request_in}
+use Rattle.fw_node.specs.State.{space_of}
+use Rattle.fw_devices.specs.Entries.{node_device}
+use Rattle.fw_devices.specs.Network.{Network, node_at}
+use Rattle.fw_run.specs.Giving.{Gives}
+use Rattle.fw_machine.specs.Faults.{CountsFaults}
+use Rattle.fw_carry.specs.Serving.{nodes_after}
+
+-- A request of the node with this number stands on the wire, to the node of a device that may answer.
+pub record IsOutstanding (n : Network) (wire : Pairs) (from device : ℕ) (packet : Packet) : Type 0 where
+  pub stands : bytes_from from wire ≡ Some (spelling packet)
+  pub fits : Fits packet
+  pub asks : IsSome (request_in packet)
+  pub goes : node_device n.latest.nodes ((head_of packet).destination % 64) ≡ Some device
+  pub declared : device < length n.nodes
+  pub number : IsSome (node_at n.nodes device).number
+  pub link : IsTrue (has_link (node_at n.nodes device).kind)
+
+-- It is carried out and off the wire; these are the bytes of the response, the device that answered, and the reply in the response.
+pub record IsCarriedOut (n now : Network) (wire left : Pairs) (cycle from device : ℕ) (packet : Packet) (bytes : List ℕ) (result : ℕ × Reply) : Type 0 where
+  pub target : result.0 ≡ device
+  pub response : (number : ℕ) → (node_at n.nodes device).number ≡ Some number
+      → IsServed (space_of number cycle (node_at n.nodes device)) packet bytes result.1
+  pub registers : now ≡ record n { nodes = nodes_after n.nodes device packet }
+  pub rest : left ≡ without from wire
+
+-- Of two entries one after the other both were written, or a front of the first, or the first and a front of the second.
+pub data GivesBoth {T E : Type 0} (held after : Option (List ℕ)) (count counts : ℕ) (result : Result T E) (cycle epoch : ℕ) (e f : Entry) : Type 0 where
+  CutOff : (first : Result T E) → IsErr first → IsErr result → Gives held after first cycle epoch (Some e) → CountsFaults count counts first
+      → GivesBoth held after count counts result cycle epoch e f
+  Second : (between : Option (List ℕ)) (faults : ℕ) (done : T) → Gives {T = T} {E = E} held between (Ok done) cycle epoch (Some e) → CountsFaults {T = T} {E = E} count faults (Ok done)
+      → Gives between after result cycle epoch (Some f) → CountsFaults faults counts result → GivesBoth held after count counts result cycle epoch e f

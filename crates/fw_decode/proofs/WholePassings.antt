@@ -1,0 +1,35 @@
+-- Entries that are passed by their bodies: what is made of the entry that has the body.
+use Rattle.std.proofs.Common.{◌≡◌, ℕ, List, [], ◌∷◌, ◌++◌, ap, sym, ◌∙◌}
+use Rattle.fw_entry.specs.declared.entry.Entry.{Entry}
+use Rattle.fw_entry.specs.declared.entry.Timed.{Timed}
+use Rattle.fw_log.specs.Passing.{PassesBody}
+use Rattle.fw_log.specs.Reader.{State}
+use Rattle.fw_log.specs.declared.passing.PassedBody.{PassedBody}
+use Rattle.fw_reading.specs.Readings.{Passes}
+use Rattle.fw_json.specs.Objects.{object}
+use Rattle.fw_explain.specs.Explained.{explained, Room}
+use Rattle.fw_explain.specs.Requests.{standing}
+use Rattle.fw_decode.specs.Texts.{objects_form, explained_form}
+use Rattle.fw_decode.specs.TextLaws.{objects_one}
+
+-- the entry that was made is the one that was passed
+made_is : (cycle : ℕ) (what : Entry) (t : Timed) → cycle ≡ t.cycle → what ≡ t.what → record { cycle = cycle; what = what } ≡ t
+made_is cycle what t e f = ap (λ (n : ℕ). record t { cycle = n; what = what }) e ∙ ap (λ (w : Entry). record t { what = w }) f
+
+pub object_passes : (room new : List ℕ) (entries : List Timed) (bytes : List ℕ) (reader : State) (p : PassedBody) (x : PassesBody entries bytes reader p) (what : Entry)
+    → what ≡ x.entry.what → new ≡ room ++ object (record { cycle = p.cycle; what = what }) → Passes objects_form.text (λ es. Unit {0}) room new entries bytes reader
+object_passes room new entries bytes reader p x what same is =
+    let made = made_is p.cycle what x.entry (sym x.cycle) same in
+    record { entry = x.entry; read = x.read; took = tt; gathered = is ∙ ap (λ (t : Timed). room ++ object t) made ∙ ap (λ (l : List ℕ). room ++ l) (objects_one x.entry) }
+
+pub explained_passes : (old new : Room) (entries : List Timed) (bytes : List ℕ) (reader : State) (p : PassedBody) (x : PassesBody entries bytes reader p) (what : Entry)
+    → what ≡ x.entry.what → new.text ≡ old.text ++ explained entries (record { cycle = p.cycle; what = what } ∷ [])
+    → new.requests ≡ standing (entries ++ record { cycle = p.cycle; what = what } ∷ []) → Passes explained_form.text (λ es. new.requests ≡ standing es) old.text new.text entries bytes reader
+explained_passes old new entries bytes reader p x what same text requests =
+    let made = made_is p.cycle what x.entry (sym x.cycle) same in
+    record {
+      entry = x.entry;
+      read = x.read;
+      took = requests ∙ ap (λ (t : Timed). standing (entries ++ t ∷ [])) made;
+      gathered = text ∙ ap (λ (t : Timed). old.text ++ explained entries (t ∷ [])) made;
+    }

@@ -1,0 +1,53 @@
+//! What stands in the registers that a node keeps itself.
+
+ghost use Rattle.std.specs.Prelude.{◌≡◌, ◌≤◌};
+ghost use Rattle.fw_node.specs.Contents.{node_id, node_ids, cycle_time, capabilities};
+
+use fw_base::DeviceKind;
+use fw_words::with_field;
+
+/// 800 cycles, in the top 13 bits.
+pub const SPLIT_TIMEOUT: u32 = 800 << 19;
+/// The letters "1394".
+pub const NAME_1394: u32 = 0x3133_3934;
+/// An invented company (own); the low quadlet of the EUI-64 is the device's number.
+pub const COMPANY: u32 = 0xA0B0_C000;
+
+const CYCLES_PER_SECOND: u64 = 8000;
+
+/// The node ID of a node on the local bus: FFC0 and its number (IEEE 1394-1995, node_ID).
+pub fn node_id(number: u8) -> u16
+    requires { number ≤ 62 }
+    ensures { result ≡ node_id number }
+{
+    0xFFC0 + u16::from(number)
+}
+
+/// NODE_IDS: the node ID in the high 16 bits.
+pub fn node_ids(number: u8) -> u32
+    requires { number ≤ 62 }
+    ensures { result ≡ node_ids number }
+{
+    u32::from(node_id(number)) << 16
+}
+
+/// CYCLE_TIME at a cycle number: seconds modulo 128, the cycle of the second, and cycle_offset 0 (own).
+pub fn cycle_time(now: u64) -> u32
+    ensures { result ≡ cycle_time now }
+{
+    let second_count = (now / CYCLES_PER_SECOND % 128) as u32;
+    let cycle_count = (now % CYCLES_PER_SECOND) as u32;
+    with_field(with_field(second_count, 13, cycle_count), 12, 0)
+}
+
+/// The capabilities: irmc, cmc, isc and bmc, then 28 zeros (own).
+pub fn capabilities(kind: DeviceKind) -> u32
+    ensures { result ≡ capabilities kind }
+{
+    match kind {
+        DeviceKind::Relay => 0x0000_0000,
+        DeviceKind::Deck => 0xE000_0000,
+        DeviceKind::Camcorder => 0x6000_0000,
+        DeviceKind::Computer => 0xF000_0000,
+    }
+}

@@ -1,0 +1,19 @@
+use Rattle.std.proofs.Common.{None, refl, sym, ◌∙◌, get_or-set_same, arith}
+use Rattle.fw_tree.specs.Cables.{is_seen}
+use Rattle.fw_tree.specs.Parents.{Notes}
+use Rattle.fw_tree.proofs.ParentLaws.{left_first, none_left}
+use Rattle.fw_tree.proofs.rounds.leave_one.Goals as goal
+use Rattle.fw_tree.proofs.rounds.leave_one.Goals.{then-has_left, else-has_left}
+
+pub returns-clause-notes : goal.returns-clause-notes
+returns-clause-notes c = λ _.
+    let g = c.args.g.now in
+    let s = is_seen c.args.before.now in
+    let t = is_seen c.args.after.now.stays in
+    let cable = c.in-Some.cable in
+    let e = c.in-Some.ensures in
+    let noted : Notes g s c.args.round c.args.d c.if-has_left.parents = elim c.if-has_left.branch [
+      | then-has_left w ↦ rw (w.parents-is) (left_first g s t c.args.d cable.port cable.end c.requires.cables e.leaves e.end c.requires.before (sym c.has_left.ensures ∙ w.if-has_left.true))
+      | else-has_left w ↦ rw (w.parents-is) (refl, e.port, e.leaves, none_left g s t c.args.d cable.port cable.end e.leaves e.end c.requires.before (sym c.has_left.ensures ∙ w.if-has_left.false))
+    ] in
+    rw (get_or-set_same c.args.parents.now c.args.d c.if-has_left.parents None (omega arith)) noted

@@ -1,0 +1,10 @@
+use Rattle.std.proofs.Common.{◌≡◌, ◌≤◌, ◌<◌, None, Some, true, take, slice_index_or}
+use Rattle.std.specs.Prelude.{count_by, IfSome, IfNone}
+use Rattle.fw_tree.specs.Cables.{is_seen}
+use Rattle.fw_tree.specs.Rounds.{is_open}
+use Rattle.fw_tree.proofs.rounds.only_open.Given as goal
+
+abbrev pub invariant-loop-p : goal.invariant-loop-p
+invariant-loop-p l =
+    (l.count ≡ count_by (is_open (is_seen l.stays)) (take l.p l.ports)) × (l.count ≤ l.p) × IfNone l.open (l.count ≡ 0)
+    × IfSome l.open (λ c. (c.port < 27) × (slice_index_or l.ports c.port None ≡ Some c.end) × (is_seen l.stays c.end.device ≡ true))
