@@ -3,6 +3,7 @@ use Rattle.std.specs.Prelude.{ℕ}
 use Rattle.fw_base.specs.declared.label.Label.{Label}
 use Rattle.fw_base.specs.declared.label.Label.TheVariants.{Procedure, Script, BusManager}
 
+-- the transaction label, six bits, of the packets that are part of it
 abbrev pub label_code : Label → ℕ
 label_code Procedure = 0
 label_code Script = 1
