@@ -2,18 +2,16 @@
 #![tactic(auto)]
 
 ghost use Rattle.std.specs.Prelude.{◌≡◌, ◌⊎◌, IfErr};
-ghost use Rattle.fw_tool.specs.declared.ending.Ending.{Ending as AnEnding};
 
 use fw_outside::{BufferedSink, StdSink, StdSource, Stop};
-use fw_program::program;
-use fw_tool::{Ending, tell};
+use fw_program::{Ending, program, tell};
 use std::env;
 use std::io::ErrorKind;
 use std::process::ExitCode;
 
 /// The words of the command line, behind the program's name.
 fn words(rt: &HostRuntime) -> Result<Vec<String>, Ending>
-    ensures { IfErr result (λ e. (e ≡ AnEnding.Usage) ⊎ (e ≡ AnEnding.Stopped Stop.NoMemory)) }
+    ensures { IfErr result (λ e. (e ≡ Ending.Usage) ⊎ (e ≡ Ending.Stopped Stop.NoMemory)) }
 {
     match env::args(rt) {
         Ok(mut words) => {

@@ -4,9 +4,8 @@ use Rattle.fw_entry.specs.declared.nodes.NodeRow.{NodeRow}
 use Rattle.std.proofs.Common.{◌≡◌, ℕ, ◌+◌, ◌-◌, ◌*◌, ◌/◌, ◌%◌, ◌<◌, ◌≤◌, ◌==◌, ◌&&◌, nat_le, nat_lt, Bool, true, false, Option, Some, None, slice_get, refl, arith, cond}
 use Rattle.std.proofs.lemmas.Bool.Decides.{nat_tests}
 use Rattle.fw_base.specs.Tables.{at_plug}
-use Rattle.fw_account.specs.Account.{Account}
 use Rattle.fw_entry.specs.Network.{first_id, row_of_node, row_of_id, device_of_id}
-use Rattle.fw_account.specs.Words.{Register, BandwidthAvailable, ChannelsAvailable, OutputPlug, InputPlug, plug_number, first_output, first_input, is_node, manager_register, register_at, word_at, word_of, register_of, first_address, output_of, output_addressed}
+use Rattle.fw_account.specs.Words.{Register, BandwidthAvailable, ChannelsAvailable, OutputPlug, InputPlug, plug_number, first_output, first_input, is_node, manager_register, register_at, register_of, first_address, output_of, output_addressed}
 
 -- ---- node IDs and addresses
 
@@ -109,6 +108,3 @@ addresses_no_manager latest id offset lt =
     addresses_none latest id offset (rw t refl)
 
 -- ---- words
-
-pub word_at_is : (l : Account) (n offset : ℕ) (register : Register) → register_at l.latest n offset ≡ Some register → word_at l n offset ≡ Some (word_of l register)
-word_at_is l n offset register e = rw e refl

@@ -1,20 +1,15 @@
 -- The registers right after a reset, and the account of the first one.
 use Rattle.fw_base.specs.declared.plug.PlugAt.{PlugAt}
 use Rattle.fw_entry.specs.declared.entry.ResetEntry.{ResetEntry}
-use Rattle.fw_entry.specs.declared.entry.Entry.TheVariants.{Reset}
-use Rattle.std.proofs.Common.{◌≡◌, ℕ, false, Some, None, [], ◌∷◌, cond, refl, arith}
+use Rattle.std.proofs.Common.{◌≡◌, false, cond, refl, arith}
 use Rattle.std.proofs.lemmas.Bool.Decides.{nat_tests}
 use Rattle.fw_base.specs.Tables.{sum_to}
 use Rattle.fw_base.proofs.Tables.{sum_to_zero}
 use Rattle.fw_account.specs.Account.{Account, has_connection}
-use Rattle.fw_entry.specs.Network.{IsNetwork}
 use Rattle.fw_account.specs.Network.{declared}
 use Rattle.fw_account.specs.Events.{no_connections, after_reset}
 use Rattle.fw_account.specs.Words.{BandwidthAvailable, ChannelsAvailable, fields_at, input_fields_at, word_of}
-use Rattle.fw_account.specs.Fold.{no_account, account_of}
-use Rattle.fw_account.specs.Sound.{IsSound}
-use Rattle.fw_account.proofs.Events.{reset_keeps}
-use Rattle.fw_account.proofs.Fold.{starts_sound}
+use Rattle.fw_account.specs.Fold.{no_account}
 use Rattle.fw_account.proofs.Open.{high_starts, low_starts}
 
 pub no_connection_at_first : has_connection no_connections ≡ false
@@ -39,23 +34,5 @@ reset_input r l p = refl
 
 -- ---- the first reset: its plugs are as declared, nothing goes on talking, and no reclaim second runs
 
-pub first_account : (r : ResetEntry) → account_of (Reset r ∷ []) ≡ Some (after_reset r no_account)
-first_account r = refl
-
 pub first_settings : (r : ResetEntry) (p : PlugAt) → (after_reset r no_account).settings p ≡ declared r p
 first_settings r p = refl
-
-pub first_input_channel : (r : ResetEntry) (p : PlugAt) → (after_reset r no_account).input_channel p ≡ 63
-first_input_channel r p = refl
-
-pub first_reclaiming : (r : ResetEntry) → (after_reset r no_account).reclaiming ≡ false
-first_reclaiming r = refl
-
-pub first_continues : (r : ResetEntry) (p : PlugAt) → (after_reset r no_account).continues p ≡ false
-first_continues r p = grind (arith, no_connection_at_first)
-
-pub first_sound : (r : ResetEntry) → IsNetwork r → IsSound (after_reset r no_account)
-first_sound r w = reset_keeps r no_account w starts_sound
-
-pub first_reclaimable : (r : ResetEntry) (ch : ℕ) → IsNetwork r → (after_reset r no_account).reclaimable ch ≡ None
-first_reclaimable r ch w = (first_sound r w).reclaimable_ends refl ch

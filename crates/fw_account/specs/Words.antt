@@ -1,5 +1,6 @@
 -- The registers of an account, and where they stand.
 use Rattle.fw_csr.specs.declared.offset.TheConstants.{REGISTER_SPACE}
+use Rattle.fw_csr.specs.declared.low_offset.TheConstants.{BANDWIDTH_AVAILABLE, CHANNELS_AVAILABLE_HI, CHANNELS_AVAILABLE_LO, OPCR, IPCR}
 use Rattle.fw_base.specs.declared.plug.PlugAt.{PlugAt}
 use Rattle.fw_entry.specs.declared.entry.ResetEntry.{ResetEntry}
 use Rattle.fw_entry.specs.declared.nodes.NodeRow.{NodeRow}
@@ -52,18 +53,18 @@ plug_number first offset = if nat_le first offset && nat_lt offset (first + 124)
 
 -- the offset of oPCR[0]
 abbrev pub first_output : ℕ
-first_output = 0x904
+first_output = OPCR
 
 -- the offset of iPCR[0]
 abbrev pub first_input : ℕ
-first_input = 0x984
+first_input = IPCR
 
 -- the resource manager's register at an offset
 abbrev pub manager_register : ℕ → Option Register
 manager_register offset =
-    if offset == 0x220 then Some BandwidthAvailable
-    else if offset == 0x224 then Some (ChannelsAvailable 0)
-    else if offset == 0x228 then Some (ChannelsAvailable 32)
+    if offset == BANDWIDTH_AVAILABLE then Some BandwidthAvailable
+    else if offset == CHANNELS_AVAILABLE_HI then Some (ChannelsAvailable 0)
+    else if offset == CHANNELS_AVAILABLE_LO then Some (ChannelsAvailable 32)
     else None
 
 -- the register of output plug k, where the node has it

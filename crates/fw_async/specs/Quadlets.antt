@@ -1,16 +1,17 @@
 -- The packets of transactions of one quadlet: its read, and its compare_swap (IEEE 1394-1995, clause 6.2).
-use Rattle.std.specs.Prelude.{ℕ, List, [], ◌++◌, Option, Some, None}
+use Rattle.std.specs.Prelude.{ℕ, List, [], Option, Some, None}
 use Rattle.std.specs.Int.{to_be_bytes, w32}
 use Rattle.fw_async.specs.declared.packet.Head.{Head}
 use Rattle.fw_async.specs.declared.packet.Packet.{Packet}
 use Rattle.fw_async.specs.declared.packet.Packet.TheVariants.{ReadQuadlet, ReadQuadletReply, Lock, LockReply}
 use Rattle.fw_async.specs.declared.quadlets.QuadletRequest.{QuadletRequest}
-use Rattle.fw_async.specs.declared.quadlets.QuadletSwap.{QuadletSwap}
+use Rattle.fw_words.specs.declared.swap.Swap.{Swap}
+use Rattle.fw_words.specs.Swaps.{swap_bytes}
 
 -- the packet of a quadlet read at an offset, or of a quadlet compare_swap there
-abbrev pub request_with : Head → ℕ → Option QuadletSwap → Packet
+abbrev pub request_with : Head → ℕ → Option Swap → Packet
 request_with h offset None = ReadQuadlet h offset
-request_with h offset (Some s) = Lock h offset 2 (to_be_bytes w32 s.argument ++ to_be_bytes w32 s.new)
+request_with h offset (Some s) = Lock h offset 2 (swap_bytes s)
 
 -- the packet that asks it
 abbrev pub request_packet : QuadletRequest → Packet

@@ -1,6 +1,5 @@
 //! Cycle starts, read from whole packets.
 
-ghost use Rattle.std.specs.Prelude.{◌≡◌};
 ghost use Rattle.fw_async.specs.Reading.{IsComplete, ReadsAs};
 
 use crate::header::{head_at, offset_at};

@@ -26,7 +26,7 @@ mod writer;
 
 pub use packet::{Head, Packet};
 pub use pieces::PacketReader;
-pub use quadlets::{QuadletRequest, QuadletSwap, quadlet_request_at};
+pub use quadlets::{QuadletRequest, quadlet_request_at};
 pub use reader::{Fed, destination_at, read_packet, whole_packet};
 pub use room::PacketRoom;
 pub use wire::Wire;

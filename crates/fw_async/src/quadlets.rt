@@ -13,7 +13,7 @@ use crate::header::{head_at, offset_at};
 use crate::packet::Head;
 use crate::room::PacketRoom;
 use crate::tcode::Tcode;
-use fw_words::quadlet_at;
+use fw_words::{Swap, quadlet_at};
 
 /// Quadlet 3 of a compare_swap of quadlets: eight bytes of data, and its extended_tcode.
 const SWAP_SIZE: u32 = 0x0008_0002;
@@ -24,13 +24,6 @@ const OLD_SIZE: u32 = 0x0004_0002;
 /// Quadlet 3 of a response without an old value.
 const NO_OLD_SIZE: u32 = 0x0000_0002;
 
-/// The two quadlets of a compare_swap.
-#[derive(Clone, Copy)]
-pub struct QuadletSwap {
-    pub argument: u32,
-    pub new: u32,
-}
-
 /// A quadlet read, or a quadlet compare_swap, as its request packet asks it.
 #[derive(Clone, Copy)]
 pub struct QuadletRequest {
@@ -38,7 +31,7 @@ pub struct QuadletRequest {
     /// The destination_offset, 48 bits.
     pub offset: u64,
     /// None in a read.
-    pub swap: Option<QuadletSwap>,
+    pub swap: Option<Swap>,
 }
 
 // What the bytes of a quadlet read ask.
@@ -62,7 +55,7 @@ fn swap_asked_at(bytes: &[u8]) -> QuadletRequest
     QuadletRequest {
         head: head_at(bytes),
         offset: offset_at(bytes),
-        swap: Some(QuadletSwap {
+        swap: Some(Swap {
             argument: quadlet_at(bytes, 16).0,
             new: quadlet_at(bytes, 20).0,
         }),

@@ -1,6 +1,5 @@
 //! Read requests and their responses, read from whole packets.
 
-ghost use Rattle.std.specs.Prelude.{◌≡◌};
 ghost use Rattle.fw_async.specs.Reading.{IsComplete, ReadsAs};
 
 use crate::data::{block_at, length_at};

@@ -1,6 +1,5 @@
 //! Write requests and their response, read from whole packets.
 
-ghost use Rattle.std.specs.Prelude.{◌≡◌};
 ghost use Rattle.fw_async.specs.Reading.{IsComplete, ReadsAs};
 
 use crate::data::block_at;

@@ -1,6 +1,6 @@
 //! The tests of an entry, over the ledger of the entries before.
 
-ghost use Rattle.std.specs.Prelude.{◌≡◌, ◌==◌, ℕ, Option};
+ghost use Rattle.std.specs.Prelude.{◌≡◌, ◌==◌, Option};
 ghost use Rattle.fw_base.specs.declared.label.Label.TheVariants.{Procedure};
 ghost use Rattle.fw_base.specs.Labels.{label_code};
 ghost use Rattle.fw_entry.specs.Network.{device_of_id};
@@ -113,7 +113,7 @@ fn swap_asked(asked: Asked) -> Option<AuditFault>
     ensures { (o : Option Request) → AskedFor asked o → result ≡ no_move_of o }
 {
     match asked {
-        Asked::Swap { argument, new, .. } => Some(AuditFault::NoMove(argument, new)),
+        Asked::Swap { swap, .. } => Some(AuditFault::NoMove(swap.argument, swap.new)),
         _ => None,
     }
 }

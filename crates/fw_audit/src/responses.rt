@@ -1,6 +1,6 @@
 //! The tests of responses: to a request that stands, of the node that was asked, with the word that is due.
 
-ghost use Rattle.std.specs.Prelude.{◌≡◌, ℕ, Option, Some};
+ghost use Rattle.std.specs.Prelude.{◌≡◌, Option, Some};
 ghost use Rattle.fw_entry.specs.Network.{device_of_id};
 ghost use Rattle.fw_account.specs.Account.{Account, Request};
 ghost use Rattle.fw_account.specs.Packets.{Read, Locked};
@@ -12,7 +12,7 @@ use crate::words::{judge_quadlet, not_allowed};
 use fw_async::Head;
 use fw_faults::AuditFault;
 use fw_ledger::{Asked, Ledger};
-use fw_words::quadlet_at;
+use fw_words::{COMPARE_SWAP, quadlet_at};
 
 // The response to a read, where this was asked.
 fn judge_read_by(
@@ -67,7 +67,7 @@ fn judge_lock_by(
             address,
             ..
         } => {
-            if target != head.source || function != 2 {
+            if target != head.source || function != COMPARE_SWAP {
                 return Some(AuditFault::Orphan(head.destination));
             }
             if rcode != 0 {

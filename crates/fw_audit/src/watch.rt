@@ -1,10 +1,13 @@
 //! Which registers are watched.
 
-ghost use Rattle.std.specs.Prelude.{◌≡◌, ◌<◌, ◌≤◌, ℕ, IfSome};
+ghost use Rattle.std.specs.Prelude.{◌≡◌, ◌<◌};
 ghost use Rattle.fw_faults.specs.Looked.{is_plug_offset, is_watched};
 ghost use Rattle.fw_faults.specs.Judged.{watched_offset};
 
 use fw_csr::REGISTER_SPACE;
+use fw_csr::low_offset::{
+    BANDWIDTH_AVAILABLE, CHANNELS_AVAILABLE_HI, CHANNELS_AVAILABLE_LO, IPCR, OPCR,
+};
 
 // An offset of the 31 plug registers that begin at one.
 fn is_plug_offset(first: u64, offset: u64) -> bool
@@ -18,11 +21,11 @@ fn is_plug_offset(first: u64, offset: u64) -> bool
 pub fn is_watched(offset: u64) -> bool
     ensures { result ≡ is_watched offset }
 {
-    offset == 0x220
-        || offset == 0x224
-        || offset == 0x228
-        || is_plug_offset(0x904, offset)
-        || is_plug_offset(0x984, offset)
+    matches!(
+        offset,
+        BANDWIDTH_AVAILABLE | CHANNELS_AVAILABLE_HI | CHANNELS_AVAILABLE_LO
+    ) || is_plug_offset(OPCR, offset)
+        || is_plug_offset(IPCR, offset)
 }
 
 /// The watched offset that an address is, if any.

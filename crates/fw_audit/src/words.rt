@@ -1,6 +1,6 @@
 //! The tests of the words that answers show.
 
-ghost use Rattle.std.specs.Prelude.{◌≡◌, ℕ, Option, Some};
+ghost use Rattle.std.specs.Prelude.{◌≡◌, Option, Some};
 ghost use Rattle.fw_account.specs.Account.{Account};
 ghost use Rattle.fw_ledger.specs.Stands.{StandsFor};
 ghost use Rattle.fw_faults.specs.Judged.{judged_quadlet, judged_word, watched_offset, not_allowed as no_quadlet};

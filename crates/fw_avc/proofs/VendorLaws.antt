@@ -1,5 +1,5 @@
 -- What a vendor makes of bytes, one by one.
-use Rattle.std.proofs.Common.{◌≡◌, ℕ, List, [], ◌∷◌, ◌++◌, sym, ◌∙◌, ap, subst, append_assoc, append-nil}
+use Rattle.std.proofs.Common.{◌≡◌, ℕ, List, [], ◌∷◌, ◌++◌, sym, ◌∙◌, ap, subst, append_assoc}
 use Rattle.fw_tape.specs.Desks.{VendorRelation}
 use Rattle.fw_avc.specs.Replies.{Makes, company}
 use Rattle.fw_avc.specs.Vendor.{AddsMade}
@@ -9,9 +9,6 @@ makes_more V [] [] b c m one = (one, tt)
 makes_more V [] (y ∷ ys) b c m one = absurd m
 makes_more V (x ∷ xs) [] b c m one = absurd m
 makes_more V (x ∷ xs) (y ∷ ys) b c m one = (m.0, makes_more V xs ys b c m.1 one)
-
-pub adds_none : (V : VendorRelation) (before : List ℕ) → AddsMade V [] before before
-adds_none V before = record { made = []; makes = tt; added = sym (append-nil before) }
 
 pub adds_one : (V : VendorRelation) (asked more before now after : List ℕ) (b c : ℕ)
     → more ≡ asked ++ b ∷ [] → after ≡ now ++ c ∷ [] → AddsMade V asked before now → V company b c → AddsMade V more before after

@@ -7,7 +7,7 @@ ghost use Rattle.fw_avc.specs.State.{with_power};
 ghost use Rattle.fw_avc.specs.Replies.{OfUnit, IsResponse, ruling, row_ruling, state_after, unit_after, is_bare, asked, shows_state, subunits};
 
 use crate::vendor::vendor_dependent;
-use crate::{Kept, Unit, UnitRow, Watched};
+use crate::{Kept, Unit, UnitRow, Watched, company};
 use fw_fcp::{
     ACCEPTED, CONTROL, Frame, GENERAL_INQUIRY, INTERIM, NOT_IMPLEMENTED, NOTIFY, REJECTED,
     SPECIFIC_INQUIRY, STABLE, is_padding,
@@ -99,7 +99,12 @@ impl Unit {
         ensures unit { self.new ≡ state_after self.old from f.now (row_ruling self.old f.now (OfUnit row)) }
     {
         match row {
-            UnitRow::UnitInfo => out.show(f, STABLE, f.opcode, &[0x07, 0x20, 0xA0, 0xB0, 0xC0]),
+            UnitRow::UnitInfo => out.show(
+                f,
+                STABLE,
+                f.opcode,
+                &[0x07, 0x20, company::HIGH, company::MIDDLE, company::LOW],
+            ),
             UnitRow::SubunitInfo => {
                 out.show(f, STABLE, f.opcode, &subunits(f.operands.as_slice()[0]))
             }

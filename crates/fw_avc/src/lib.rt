@@ -3,12 +3,14 @@
 #![tactic(auto)]
 
 mod answer;
+mod company;
 mod laws;
 mod notify;
 mod row;
 mod unit;
 mod vendor;
 
+pub use company::COMPANY_ID;
 pub use laws::{frames_change_what_they_command, notices_tell_the_first_change};
 pub use notify::{Kept, Watched};
 pub use row::UnitRow;

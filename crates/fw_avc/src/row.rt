@@ -2,6 +2,7 @@ ghost use Rattle.std.specs.Prelude.{◌≡◌, ◌≤◌, IfSome, length};
 ghost use Rattle.fw_fcp.specs.Tables.{row_of, has_opcode};
 ghost use Rattle.fw_avc.specs.Rows.{control_rows, status_rows, notify_rows, rows_of, operands_of, IsOfType};
 
+use crate::company;
 use fw_fcp::{CONTROL, NOTIFY, STATUS, is_padding};
 
 /// The rows of the unit's own table of commands.
@@ -52,7 +53,9 @@ fn control_row(opcode: u8, operands: &[u8]) -> Option<UnitRow>
     match (opcode, operands) {
         (0xB2, [0x70, rest @ ..]) if is_padding(rest) => Some(UnitRow::SetPower(true)),
         (0xB2, [0x60, rest @ ..]) if is_padding(rest) => Some(UnitRow::SetPower(false)),
-        (0x00, [0xA0, 0xB0, 0xC0, ..]) => Some(UnitRow::VendorDependent),
+        (0x00, [company::HIGH, company::MIDDLE, company::LOW, ..]) => Some(
+            UnitRow::VendorDependent,
+        ),
         _ => None,
     }
 }

@@ -3,11 +3,9 @@ ghost use Rattle.fw_tape.specs.Desks.{AnyVendorByte};
 ghost use Rattle.fw_avc.specs.Replies.{IsVendorResponse};
 ghost use Rattle.fw_avc.specs.Vendor.{AddsMade};
 
+use crate::company;
 use fw_fcp::{ACCEPTED, Frame, Operands};
 use fw_tape::Desk;
-
-/// The unit's company ID, an invented one (own).
-const COMPANY: u32 = 0xA0B0C0;
 
 /// The response to VENDOR DEPENDENT of the unit's company: behind the company, what the vendor makes of each byte.
 pub(crate) fn vendor_dependent<F: Fn(u16, u32, u16) -> [u8; 480], H: Fn(u32, u8) -> u8>(
@@ -25,7 +23,8 @@ pub(crate) fn vendor_dependent<F: Fn(u16, u32, u16) -> [u8; 480], H: Fn(u32, u8)
     out.id = f.id;
     out.opcode = f.opcode;
     out.operands.clear();
-    out.operands.append(&[0xA0, 0xB0, 0xC0]);
+    out.operands
+        .append(&[company::HIGH, company::MIDDLE, company::LOW]);
     append_made(&mut out.operands, asked, desk);
 }
 
@@ -40,6 +39,6 @@ fn append_made<F: Fn(u16, u32, u16) -> [u8; 480], H: Fn(u32, u8) -> u8>(
     ensures { AddsMade (H.post desk.now.vendor) asked.now operands.old operands.new }
 {
     for byte in asked {
-        operands.push(desk.vendor_byte(COMPANY, *byte));
+        operands.push(desk.vendor_byte(company::COMPANY_ID, *byte));
     }
 }

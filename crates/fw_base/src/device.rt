@@ -1,4 +1,4 @@
-ghost use Rattle.std.specs.Prelude.{◌≡◌, ◌≤◌, ◌↔◌, IfSome, IsNone, IsTrue};
+ghost use Rattle.std.specs.Prelude.{◌≡◌, ◌≤◌, ◌↔◌, IfSome, IsNone};
 ghost use Rattle.fw_base.specs.Devices.{code_of, has_link, is_contender, has_unit, output_plugs_of, input_plugs_of};
 
 /// The kinds of devices (own). Each but a relay has a link (L) and a controller of its own.

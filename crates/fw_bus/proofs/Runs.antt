@@ -21,9 +21,9 @@ use Rattle.fw_run.proofs.Steps.{steps_good}
 use Rattle.fw_run.proofs.Times.{first_good}
 use Rattle.fw_machine.specs.declared.machine.Machine.{Machine}
 use Rattle.fw_machine.specs.Stands.{IsReady, StandsFor}
-use Rattle.fw_carry.specs.Framing.{DoesBy, IsQuiet}
+use Rattle.fw_carry.specs.Framing.{PerformedWithDesk, IsQuiet}
 use Rattle.fw_rules.specs.Decisions.{Decided}
-use Rattle.fw_bus.specs.Buses.{IsReached, Goes, Stops}
+use Rattle.fw_bus.specs.Buses.{IsReached, ContinuesRun, CutsRunOff}
 use Rattle.fw_carry.proofs.Doings.{steps_numbers}
 use Rattle.fw_bus.proofs.Quiet.{run_quiet, quiet_of}
 
@@ -45,7 +45,7 @@ quiet_reached {m} h = quiet_of m h.state h.stands (run_quiet h.run)
 
 -- a command more
 pub reached_more : {T E : Type 0} {D : DeskRelations} {m now : Machine} {a b : Option (List ℕ)} {k l : ℕ} {u : T} (c : Command) (o : Order) → IsReached m → Decided m c (Ok o)
-    → DoesBy {T = T} {E = E} D (λ s. Carries s o) m now a b k l (Ok u) → IsReached now
+    → PerformedWithDesk {T = T} {E = E} D (λ s. Carries s o) m now a b k l (Ok u) → IsReached now
 reached_more c o r decided d =
     let good = run_good r.run in
     let x = d.shown r.state good r.stands in
@@ -59,8 +59,8 @@ reached_more c o r decided d =
     }
 
 pub goes : {T E : Type 0} {D : DeskRelations} {m now : Machine} {a b : Option (List ℕ)} {k l : ℕ} {u : T} (c : Command) (o : Order) (spent : Bool) → IsFalse spent → Decided m c (Ok o)
-    → DoesBy {T = T} {E = E} D (λ s. Carries s o) m now a b k l (Ok u) → (commands : List Command) (actions : List Action) (log : List Timed) (s : State) → Run commands actions log s
-    → StandsFor m s → Goes D commands actions log s c (record { machine = now; spent = spent }) a b
+    → PerformedWithDesk {T = T} {E = E} D (λ s. Carries s o) m now a b k l (Ok u) → (commands : List Command) (actions : List Action) (log : List Timed) (s : State) → Run commands actions log s
+    → StandsFor m s → ContinuesRun D commands actions log s c (record { machine = now; spent = spent }) a b
 goes c o spent un decided d commands actions log s r st =
     let good = run_good r in
     let x = d.shown s good st in
@@ -87,8 +87,8 @@ goes c o spent un decided d commands actions log s r st =
     }
 
 pub stops : {T E : Type 0} {D : DeskRelations} {m now mid : Machine} {a b : Option (List ℕ)} {k l : ℕ} {e : E} (c : Command) (o : Order) (spent : Bool) → IsTrue spent → Decided m c (Ok o)
-    → DoesBy {T = T} {E = E} D (λ s. Carries s o) m mid a b k l (Err e) → (commands : List Command) (actions : List Action) (log : List Timed) (s : State) → Run commands actions log s
-    → StandsFor m s → Stops D commands actions log s c (record { machine = now; spent = spent }) a b
+    → PerformedWithDesk {T = T} {E = E} D (λ s. Carries s o) m mid a b k l (Err e) → (commands : List Command) (actions : List Action) (log : List Timed) (s : State) → Run commands actions log s
+    → StandsFor m s → CutsRunOff D commands actions log s c (record { machine = now; spent = spent }) a b
 stops c o spent is decided d commands actions log s r st =
     let good = run_good r in
     let cut = d.shown s good st in

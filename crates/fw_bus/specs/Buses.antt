@@ -25,7 +25,7 @@ use Rattle.fw_run.specs.Given.{AreGiven}
 use Rattle.fw_run.specs.Runs.{Run}
 use Rattle.fw_machine.specs.Lingering.{TalksAs}
 use Rattle.fw_machine.specs.Stands.{StandsFor}
-use Rattle.fw_carry.specs.Doings.{Cut}
+use Rattle.fw_carry.specs.Performing.{CutOff}
 use Rattle.fw_run.specs.Headline.{IsSoundThroughout}
 use Rattle.fw_run.specs.Elected.{ElectsOne}
 use Rattle.fw_run.specs.Reclaiming.{ComesBack}
@@ -47,7 +47,7 @@ pub record IsReached (m : Machine) : Type 0 where
   pub stands : StandsFor m state
 
 -- the run goes on with this command from its state, with what this desk gives, and the bus stands for the state that the command leads to
-pub record Goes (D : DeskRelations) (commands : List Command) (actions : List Action) (log : List Timed) (s : State) (c : Command) (now : Standing) (held after : Option (List ℕ)) : Type 0 where
+pub record ContinuesRun (D : DeskRelations) (commands : List Command) (actions : List Action) (log : List Timed) (s : State) (c : Command) (now : Standing) (held after : Option (List ℕ)) : Type 0 where
   pub order : Order
   pub decided : Decides s c (Ok order)
   pub more : List Action
@@ -71,10 +71,10 @@ pub record Goes (D : DeskRelations) (commands : List Command) (actions : List Ac
   pub fresh : IsFalse now.spent
 
 -- It was cut off by the sink: the entries given so far, and a front of the next. With what this desk gives the order was carried out so far.
-pub record Stops (D : DeskRelations) (commands : List Command) (actions : List Action) (log : List Timed) (s : State) (c : Command) (now : Standing) (held after : Option (List ℕ)) : Type 0 where
+pub record CutsRunOff (D : DeskRelations) (commands : List Command) (actions : List Action) (log : List Timed) (s : State) (c : Command) (now : Standing) (held after : Option (List ℕ)) : Type 0 where
   pub order : Order
   pub decided : Decides s c (Ok order)
-  pub cut : Cut (Carries s order) s held after
+  pub cut : CutOff (Carries s order) s held after
   pub given : AreGiven D cut.done
   pub sound : IsSoundThroughout (actions ++ cut.done) (log ++ (cut.given ++ cut.next ∷ []))
   pub restored : ComesBack (actions ++ cut.done) (log ++ (cut.given ++ cut.next ∷ []))
@@ -84,19 +84,19 @@ pub record Stops (D : DeskRelations) (commands : List Command) (actions : List A
 
 -- what a call with a command did: it was carried out, or refused by its first broken rule, or the sink failed
 abbrev pub Applies : {T : Type 0} → DeskRelations → List Command → List Action → List Timed → State → Command → Standing → Option (List ℕ) → Option (List ℕ) → Result T BusFault → Type 0
-Applies D commands actions log s c now held after (Ok _) = Goes D commands actions log s c now held after
+Applies D commands actions log s c now held after (Ok _) = ContinuesRun D commands actions log s c now held after
 Applies D commands actions log s c now held after (Err (Refused fault)) = Decides s c (Err fault)
-Applies D commands actions log s c now held after (Err WriteFault) = Stops D commands actions log s c now held after
+Applies D commands actions log s c now held after (Err WriteFault) = CutsRunOff D commands actions log s c now held after
 
 -- the node that is lent for a device: one on the bus, with the registers of the account, that talks exactly where the account says so
-abbrev pub LendsAt : Option ℕ → State → ℕ → Option NodeState → Type 0
-LendsAt None s d o = o ≡ None
-LendsAt (Some number) s d None = ⊥
-LendsAt (Some number) s d (Some n) = HasSpace n (space_at s d number) × TalksAs n d s.account
+abbrev pub LendsNodeAt : Option ℕ → State → ℕ → Option NodeState → Type 0
+LendsNodeAt None s d o = o ≡ None
+LendsNodeAt (Some number) s d None = ⊥
+LendsNodeAt (Some number) s d (Some n) = HasSpace n (space_at s d number) × TalksAs n d s.account
 
 -- the node of a device on the bus is lent as it stands in the state
-abbrev pub Lends : State → ℕ → Option NodeState → Type 0
-Lends s d o = LendsAt (number_in s.account.latest d) s d o
+abbrev pub LendsNode : State → ℕ → Option NodeState → Type 0
+LendsNode s d o = LendsNodeAt (number_in s.account.latest d) s d o
 
 -- what holds after a refusal
 abbrev pub WhereRefused : BusFault → Type 0 → Type 0

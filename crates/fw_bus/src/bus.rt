@@ -44,7 +44,7 @@ impl Bus {
     ghost use Rattle.fw_rules.specs.Decisions.{IsCommand};
     ghost use Rattle.fw_machine.specs.Stands.{StandsFor};
     ghost use Rattle.fw_machine.specs.Wires.{HasWire};
-    ghost use Rattle.fw_bus.specs.Buses.{Applies, Lends, WhereRefused, WhereFailed};
+    ghost use Rattle.fw_bus.specs.Buses.{Applies, LendsNode, WhereRefused, WhereFailed};
 
     /// A bus without a device, at cycle 0. It takes all the memory that its calls need.
     pub fn new(alloc: Global) -> Result<Bus, AllocError>
@@ -69,7 +69,7 @@ impl Bus {
     pub fn node(&self, device: u8) -> Option<&Node>
         requires spent { IsFalse self.now.spent }
         ensures lent { (commands : List Line) (actions : List Action) (log : List TimedEntry) (s : State) → Run commands actions log s → StandsFor self.now.machine s
-            → Lends s device (option_map (λ n. n.now) result) }
+            → LendsNode s device (option_map (λ n. n.now) result) }
     {
         self.machine.devices.node(device)
     }

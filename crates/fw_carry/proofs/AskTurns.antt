@@ -20,7 +20,7 @@ use Rattle.fw_run.proofs.Turns.{living_linked}
 use Rattle.fw_machine.specs.declared.machine.Machine.{Machine}
 use Rattle.fw_machine.specs.Orders.{is_guarded, is_guarded_by}
 use Rattle.fw_carry.specs.Transacting.{IsRequest}
-use Rattle.fw_carry.specs.Doings.{Talks}
+use Rattle.fw_carry.specs.Performing.{TakesTwoActions}
 use Rattle.fw_machine.specs.Stands.{HasNodes, StandsFor, is_linked_in, is_living_in}
 use Rattle.fw_carry.proofs.Asked.{transacted, answers_same, request_is}
 use Rattle.fw_machine.proofs.DeckNodes.{decks_same, decks_requested}
@@ -110,7 +110,7 @@ spared_of b e (Swap offset argument new) same free = λ on. other (is_guarded_at
 pub transact_talks : (m now : Machine) (x : Transaction) (request response : Packet) → IsTrue (is_living_in m x.from) → IsTrue (is_linked_in m.devices x.to)
     → IsFalse (is_guarded_by m.candidates.begun x.access) → AccessFits x.access → IsRequest m.devices.nodes x request
     → ((number : ℕ) → (node_at m.devices.nodes x.to).number ≡ Some number → response_of (space_of number m.cycle (node_at m.devices.nodes x.to)) request ≡ Some response)
-    → now ≡ record m { devices = answered_by m.devices x.to (request_in request) } → Talks (Ask x) Answer m now m.cycle (Async request) (Async response)
+    → now ≡ record m { devices = answered_by m.devices x.to (request_in request) } → TakesTwoActions (Ask x) Answer m now m.cycle (Async request) (Async response)
 transact_talks m now x request response from to free fits r answer is = record { shown = shown_ }
   where
     shown_ : (s : State) → IsGood s → StandsFor m s → (mid t : State) × Step s (Ask x) (at_most m.cycle (Some (Async request))) mid

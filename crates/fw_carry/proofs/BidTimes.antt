@@ -19,7 +19,7 @@ use Rattle.fw_run.proofs.Steps.{step_good}
 use Rattle.fw_run.proofs.Turns.{update_new}
 use Rattle.fw_machine.specs.declared.machine.Machine.{Machine}
 use Rattle.fw_machine.specs.Candidates.{candidate_in}
-use Rattle.fw_carry.specs.Doings.{Acts, Does, Turns}
+use Rattle.fw_carry.specs.Performing.{Performs, Performed, TakesAction}
 use Rattle.fw_machine.specs.Stands.{IsReady}
 use Rattle.fw_machine.proofs.Besides.{candidate_same}
 use Rattle.fw_carry.proofs.Doings.{GoesOn, does_cut, one_step}
@@ -49,7 +49,7 @@ one_bid s t d out g beside f =
     }
 
 -- it is one of the machine still
-pub bid_stays : (m now : Machine) (d cycle : ℕ) (e : Option Entry) → IsReady m → Turns (Contend d) m now cycle e → IsTrue (is_some (candidate_in now.candidates d))
+pub bid_stays : (m now : Machine) (d cycle : ℕ) (e : Option Entry) → IsReady m → TakesAction (Contend d) m now cycle e → IsTrue (is_some (candidate_in now.candidates d))
 bid_stays m now d cycle e r turns =
     let x = turns.shown r.state r.good r.stands in
     let after = one_bid r.state x.0 d (at_most cycle e) r.good r.stands.beside.run x.1 in
@@ -105,7 +105,7 @@ bids_given (suc n) d s g beside free one few =
 
 -- the rest of them can be given
 bids_go_on : (m : Machine) (d j count : ℕ) → j ≤ count → IsTrue (is_some (candidate_in m.candidates d)) → m.half_steps + count ≤ 4000000
-    → GoesOn m (Acts (times j (Contend d))) (Acts (times count (Contend d)))
+    → GoesOn m (Performs (times j (Contend d))) (Performs (times count (Contend d)))
 bids_go_on m d j count le one few s u xs a g st p f =
     let steps = st.clock.half_steps in
     let candidate : IsTrue (is_candidate s d) = sym (ap is_some (candidate_same m s d st)) ∙ one in
@@ -125,6 +125,6 @@ bids_go_on m d j count le one few s u xs a g st p f =
 -- a half step was cut off
 pub bids_cut : {T E U F V G : Type 0} (d i : ℕ) {m mid now : Machine} {a b c : Option (List ℕ)} {k l n : ℕ} {u : T} (count : ℕ) (q : Result U F) (r : Result V G)
     → i < count → IsTrue (is_some (candidate_in m.candidates d)) → m.half_steps + count ≤ 4000000 → IsErr q → IsErr r
-    → Does {T = T} {E = E} (Acts (times i (Contend d))) m mid a b k l (Ok u) → Does (Acts (Contend d ∷ [])) mid now b c l n q → Does (Acts (times count (Contend d))) m now a c k n r
+    → Performed {T = T} {E = E} (Performs (times i (Contend d))) m mid a b k l (Ok u) → Performed (Performs (Contend d ∷ [])) mid now b c l n q → Performed (Performs (times count (Contend d))) m now a c k n r
 bids_cut d i {m} count q r lt one few was is f e =
     does_cut q r (bids_go_on m d (i + 1) count (omega (arith, lt)) one few) was is (times_then (Contend d) i f e)

@@ -44,7 +44,7 @@ use Rattle.fw_machine.specs.Bids.{HasBids, packet_of_bid, bid_from}
 use Rattle.fw_machine.specs.Candidates.{CandidateTable, HasElection}
 use Rattle.fw_machine.specs.Candidates.{count_of as candidates_of}
 use Rattle.fw_carry.specs.Contending.{Contender, BidStands, BidRests}
-use Rattle.fw_carry.specs.Doings.{Turns}
+use Rattle.fw_carry.specs.Performing.{TakesAction}
 use Rattle.fw_machine.specs.Stands.{HasBeside, StandsFor, is_living_in, manager_device}
 use Rattle.fw_carry.proofs.AskTurns.{answered_by, answered_stands}
 use Rattle.fw_machine.proofs.Besides.{changed_bids}
@@ -260,7 +260,7 @@ Nexts m t d own to b = (e : Election) (c : CandidateState) → HasElection m.can
 
 pub asks_turns : (m : Machine) (t : CandidateTable) (w : Pairs) (d manager own to : ℕ) (b : Bid) (e : Option Entry) → BidRests m d manager
     → (node_at m.devices.nodes d).number ≡ Some own → (node_at m.devices.nodes manager).number ≡ Some to → Nexts m t d own to b → e ≡ said_of d own b → w ≡ put_by m.bids own b
-    → Turns (Contend d) m (record m { half_steps = m.half_steps + 1; candidates = t; bids = w }) m.cycle e
+    → TakesAction (Contend d) m (record m { half_steps = m.half_steps + 1; candidates = t; bids = w }) m.cycle e
 asks_turns m t w d manager own to b e x own_is to_is nexts said put = record { shown = shown_ }
   where
     k : Contender m d manager
@@ -358,7 +358,7 @@ pub hears_turns : (m : Machine) (n : Network) (t : CandidateTable) (d manager ow
     → (node_at m.devices.nodes d).number ≡ Some own → (node_at m.devices.nodes manager).number ≡ Some to
     → response_of (space_of to m.cycle (node_at m.devices.nodes manager)) (packet_of (bid_head to own) (bid_request own)) ≡ Some response → reply_in response ≡ Some r
     → n ≡ answered_by m.devices manager (request_in (packet_of (bid_head to own) (bid_request own))) → Hears m t d r.value
-    → Turns (Contend d) m (record m { half_steps = m.half_steps + 1; devices = n; candidates = t; bids = without own m.bids }) m.cycle (Some (Async response))
+    → TakesAction (Contend d) m (record m { half_steps = m.half_steps + 1; devices = n; candidates = t; bids = without own m.bids }) m.cycle (Some (Async response))
 hears_turns m n t d manager own to response r x own_is to_is answers carries registers hears = record { shown = shown_ }
   where
     k : Contender m d manager

@@ -12,14 +12,14 @@ use Rattle.fw_run.specs.Carrying.{Carries}
 use Rattle.fw_run.specs.Desks.{DeskRelations}
 use Rattle.fw_run.specs.Given.{AsksNoDesk}
 use Rattle.fw_run.proofs.Given.{carries_given, given_append}
-use Rattle.fw_carry.specs.Framing.{CarriesBy, DoesBy}
+use Rattle.fw_carry.specs.Framing.{CarriesWithDesk, PerformedWithDesk}
 use Rattle.fw_machine.specs.declared.machine.Machine.{Machine}
-use Rattle.fw_carry.specs.Doings.{Acts, Does, Turns}
+use Rattle.fw_carry.specs.Performing.{Performs, Performed, TakesAction}
 use Rattle.fw_carry.proofs.Doings.{does_as}
 
 -- where all that was to be done is what the desk gives, so is what was done
 pub given_front : {T E : Type 0} {D : DeskRelations} {m now : Machine} {a b : Option (List ℕ)} {k l : ℕ} {r : Result T E} (o : Order)
-    → Does (CarriesBy D o) m now a b k l r → DoesBy D (λ s. Carries s o) m now a b k l r
+    → Performed (CarriesWithDesk D o) m now a b k l r → PerformedWithDesk D (λ s. Carries s o) m now a b k l r
 given_front {r = Ok u} o d = record { faults = d.faults; shown = λ s g st. d.shown s g st }
 given_front {D = D} {r = Err u} o d = record {
   faults = d.faults;
@@ -46,14 +46,14 @@ given_front {D = D} {r = Err u} o d = record {
 
 -- an order in whose course no desk is asked
 pub by_desk : {T E : Type 0} {D : DeskRelations} {m now : Machine} {a b : Option (List ℕ)} {k l : ℕ} {r : Result T E} (o : Order)
-    → AsksNoDesk o → Does (λ s. Carries s o) m now a b k l r → DoesBy D (λ s. Carries s o) m now a b k l r
+    → AsksNoDesk o → Performed (λ s. Carries s o) m now a b k l r → PerformedWithDesk D (λ s. Carries s o) m now a b k l r
 by_desk {D = D} o free d = given_front o (does_as (λ s t ys out p. (p, carries_given D s o ys out t free p)) d)
 
 -- one that is carried out by these actions
 pub carried : {T E : Type 0} {D : DeskRelations} {m now : Machine} {a b : Option (List ℕ)} {k l : ℕ} {r : Result T E} (o : Order) (xs : List Action)
-    → AsksNoDesk o → ((s t : State) (out : List Timed) → Steps s xs out t → Carries s o xs out t) → Does (Acts xs) m now a b k l r → DoesBy D (λ s. Carries s o) m now a b k l r
+    → AsksNoDesk o → ((s t : State) (out : List Timed) → Steps s xs out t → Carries s o xs out t) → Performed (Performs xs) m now a b k l r → PerformedWithDesk D (λ s. Carries s o) m now a b k l r
 carried o xs free by d = by_desk o free (does_as (λ s t ys out p. subst (λ z. Carries s o z out t) (sym p.0) (by s t out p.1)) d)
 
 -- the end of the log
-pub finish_turns : (m : Machine) → Turns Finish m m m.cycle (Some EndEntry)
+pub finish_turns : (m : Machine) → TakesAction Finish m m m.cycle (Some EndEntry)
 finish_turns m = record { shown = λ s g st. (record s { account = entered s.account EndEntry }, (st.answered, (ap (λ c. at_most c (Some EndEntry)) st.clock.cycle, refl)), st) }

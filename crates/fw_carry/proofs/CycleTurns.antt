@@ -29,15 +29,15 @@ use Rattle.fw_run.specs.Actions.{Action, Pass, EndSecond, StartCycle, SendPacket
 use Rattle.fw_run.specs.Carrying.{next_cycle}
 use Rattle.fw_run.specs.Desks.{DeskRelations}
 use Rattle.fw_run.specs.Given.{IsGiven}
-use Rattle.fw_run.specs.Giving.{at_most, Gives as Written}
+use Rattle.fw_run.specs.Giving.{at_most, GivesEntry as Written}
 use Rattle.fw_run.specs.Good.{IsGood}
 use Rattle.fw_run.specs.State.{State}
 use Rattle.fw_run.specs.Streams.{GivenBlock, GivesBlock, bytes_of, tape_at, sent_before, cycle_start, stream_packet}
 use Rattle.fw_run.proofs.Times.{second_ends}
 use Rattle.fw_machine.specs.declared.machine.Machine.{Machine}
-use Rattle.fw_carry.specs.Cycling.{Comes, DoesWhere, HadSent, SendsHeard, hearing_of}
+use Rattle.fw_carry.specs.Cycling.{Comes, PerformedWhere, HadSent, SendsHeard, hearing_of}
 use Rattle.fw_carry.specs.declared.dubs.Recording.{Recording}
-use Rattle.fw_carry.specs.Doings.{Acts, Does, Turns}
+use Rattle.fw_carry.specs.Performing.{Performs, Performed, TakesAction}
 use Rattle.fw_machine.specs.Faults.{CountsFaults}
 use Rattle.fw_machine.specs.Stands.{IsReady, StandsFor}
 use Rattle.fw_machine.specs.Streaming.{count_at}
@@ -61,13 +61,13 @@ next_same m s st =
     sym (λ i. cond (runs i && (cycle i + 1 == over_at i)) EndSecond (Pass 1))
 
 comes_by : {T E : Type 0} {m now : Machine} {a b : Option (List ℕ)} {k l : ℕ} {r : Result T E} (x : Action)
-    → cond (m.reclaiming && (m.cycle + 1 == m.directory.over_at)) EndSecond (Pass 1) ≡ x → Does (Acts (x ∷ [])) m now a b k l r → Does Comes m now a b k l r
+    → cond (m.reclaiming && (m.cycle + 1 == m.directory.over_at)) EndSecond (Pass 1) ≡ x → Performed (Performs (x ∷ [])) m now a b k l r → Performed Comes m now a b k l r
 comes_by {m = m} x is d = does_when (λ s t xs out g st p f.
-    subst (λ y. Acts (y ∷ []) s xs out t) (sym (next_same m s st ∙ is)) p) d
+    subst (λ y. Performs (y ∷ []) s xs out t) (sym (next_same m s st ∙ is)) p) d
 
 -- the second is over at it
 pub comes_over : {T E : Type 0} {m now : Machine} {a b : Option (List ℕ)} {k l : ℕ} {r : Result T E} → m.reclaiming ≡ true → m.cycle + 1 ≡ m.directory.over_at
-    → Does (Acts (EndSecond ∷ [])) m now a b k l r → Does Comes m now a b k l r
+    → Performed (Performs (EndSecond ∷ [])) m now a b k l r → Performed Comes m now a b k l r
 comes_over {m = m} runs at d = comes_by EndSecond (over m.reclaiming (m.cycle + 1) m.directory.over_at runs at) d
   where
     over : (b : Bool) (x y : ℕ) → b ≡ true → x ≡ y → cond (b && (x == y)) EndSecond (Pass 1) ≡ EndSecond
@@ -75,7 +75,7 @@ comes_over {m = m} runs at d = comes_by EndSecond (over m.reclaiming (m.cycle + 
 
 -- it is not over yet, or none runs
 pub comes_alone : {T E : Type 0} (m now : Machine) (held : Option (List ℕ)) (k : ℕ) (u : T) → IsReady m → m.cycle + 1 ≤ 2 ^ 52
-    → (m.reclaiming ≡ true → m.cycle + 1 ≡ m.directory.over_at → ⊥) → now ≡ passed_by m 1 → Does {T = T} {E = E} Comes m now held held k k (Ok u)
+    → (m.reclaiming ≡ true → m.cycle + 1 ≡ m.directory.over_at → ⊥) → now ≡ passed_by m 1 → Performed {T = T} {E = E} Comes m now held held k k (Ok u)
 comes_alone m now held k u ready few apart is =
     comes_by (Pass 1) (passes m.reclaiming (m.cycle + 1) m.directory.over_at apart)
     (does_silent held k m.cycle u (pass_turns m now 1 few (λ runs. let before = ready_second ready runs in strictly runs before) is))
@@ -112,7 +112,7 @@ started m = record m { written = m.written + 1 }
 
 pub start_turns : (m now : Machine) (root : ℕ) (packet : Packet)
     → ((s : State) → IsGood s → StandsFor m s → option_map (λ (e : ResetEntry). e.root) s.account.latest ≡ Some root)
-    → m.written < 8000 → packet ≡ cycle_start root m.cycle → now ≡ started m → Turns StartCycle m now m.cycle (Some (Async packet))
+    → m.written < 8000 → packet ≡ cycle_start root m.cycle → now ≡ started m → TakesAction StartCycle m now m.cycle (Some (Async packet))
 start_turns m now root packet roots few same is = record { shown = shown_ }
   where
     entry : (o : Option ResetEntry) → option_map (λ (e : ResetEntry). e.root) o ≡ Some root → (e : ResetEntry) × (o ≡ Some e) × (e.root ≡ root)
@@ -269,7 +269,7 @@ packet_sends D m d channel own before block packet x s g st had = (
 pub packet_done : {T E : Type 0} {D : DeskRelations} {m : Machine} {d channel own : ℕ} {before : List ℕ} (old new : Option Recording) (block : Option (List ℕ)) {packet : IsoPacket}
     {a b : Option (List ℕ)} {k l : ℕ} {r : Result T E}
     → Packing D m d channel own before block packet → new ≡ hearing_of channel block old → Written a b r m.cycle m.devices.epoch (Some (IsoEntry packet)) → CountsFaults k l r
-    → DoesWhere (HadSent before) D (SendsHeard d channel old new) m m a b k l r
+    → PerformedWhere (HadSent before) D (SendsHeard d channel old new) m m a b k l r
 packet_done {D = D} {m} {d} {channel} {own} {before} old new block {packet} {a} {b} {k} {l} {r} x heard gives faults =
     where_sent m d channel m.cycle old new a b k l (IsoEntry packet) r (λ s g st had.
     let y = packet_sends D m d channel own before block packet x s g st had in (y.0, y.1, y.2, heard ∙ ap (λ (o : Option (List ℕ)). hearing_of channel o old) (sym y.3))) gives faults

@@ -1,6 +1,6 @@
 -- Cycles that are written, one after another.
 use Rattle.std.proofs.Common.{◌≡◌, ℕ, zero, suc, ◌+◌, ◌-◌, ◌<◌, ◌≤◌, ◌^◌, List, [], ◌∷◌, ◌++◌, length, true, Option, Some, None, is_some, refl, ap, sym, subst, ◌∙◌, arith, append_assoc, append-nil, IsTrue}
-use Rattle.std.specs.Prelude.{Ok, IsErr}
+use Rattle.std.specs.Prelude.{Ok, Err, IsErr}
 use Rattle.std.specs.declared.result.Result.{Result}
 use Rattle.fw_entry.specs.declared.entry.ResetEntry.{ResetEntry}
 use Rattle.fw_entry.specs.declared.entry.Timed.{Timed}
@@ -18,10 +18,14 @@ use Rattle.fw_run.proofs.Runs.{carries_steps}
 use Rattle.fw_run.proofs.Steps.{steps_good}
 use Rattle.fw_machine.specs.declared.machine.Machine.{Machine}
 use Rattle.fw_carry.specs.Cycling.{WritesCycle, WritesCycles}
-use Rattle.fw_carry.specs.Framing.{DoesBy}
+use Rattle.fw_carry.specs.Filling.{FillsBy, Gathers, Passes}
+use Rattle.fw_carry.specs.Framing.{PerformedWithDesk}
 use Rattle.fw_machine.specs.Stands.{IsReady, StandsFor}
 use Rattle.fw_carry.proofs.Desks.{by_where, where_by, where_cut, where_nothing, where_then, where_when}
-use Rattle.fw_carry.proofs.Doings.{GoesOn}
+use Rattle.fw_machine.specs.Faults.{CountsFaults}
+use Rattle.fw_carry.proofs.Doings.{GoesOn, faults_then}
+use Rattle.fw_carry.proofs.Gathering.{fills_behind, gathers_all, gathers_cut, gathers_out}
+use Rattle.fw_outside.proofs.Parts.{Grows-nothing}
 use Rattle.fw_carry.proofs.OneCycle.{begun, came, some_device}
 use Rattle.fw_run.specs.Recording.{heard_in, with_block}
 
@@ -51,20 +55,30 @@ unfolding HasCycles
 one_cycle s t xs out f = (t, xs, [], out, [], f, (refl, refl, refl), sym (append-nil xs), sym (append-nil out))
 
 pub cycles_none : {T E : Type 0} {D : DeskRelations} (m : Machine) (held : Option (List ℕ)) (k : ℕ) (u : T)
-    → DoesBy {T = T} {E = E} D (WritesCycles 0) m m held held k k (Ok u)
+    → PerformedWithDesk {T = T} {E = E} D (WritesCycles 0) m m held held k k (Ok u)
 unfolding HasCycles
 cycles_none m held k u = by_where {A = λ s. Unit {0}} (λ s good st. tt) (where_nothing m held k u (λ s g st. (refl, refl, refl)))
 
 pub cycles_then : {T E U F : Type 0} {D : DeskRelations} (i : ℕ) {m mid now : Machine} {a b c : Option (List ℕ)} {k l n : ℕ} {u : T} {r : Result U F}
-    → DoesBy {T = T} {E = E} D (WritesCycles i) m mid a b k l (Ok u) → DoesBy D WritesCycle mid now b c l n r → DoesBy D (WritesCycles (i + 1)) m now a c k n r
+    → PerformedWithDesk {T = T} {E = E} D (WritesCycles i) m mid a b k l (Ok u) → PerformedWithDesk D WritesCycle mid now b c l n r → PerformedWithDesk D (WritesCycles (i + 1)) m now a c k n r
 cycles_then i {r = r} f g =
     by_where {A = λ s. Unit {0}} (λ s good st. tt)
     (where_then {B = λ s. Unit {0}} r (λ s mid t xs ys a b good st p steps q more. cycles_append i 1 s mid t xs ys a b p (one_cycle mid t ys b q))
     (λ s t xs out g st known p steps. tt) (where_by f) (where_by g))
 
--- all of them
+-- ---- they are put into a room
+
+pub gathers_none : {D : DeskRelations} {m : Machine} {held : Option (List ℕ)} {room : List ℕ} → room ≡ [] → Gathers D (WritesCycles 0) m m held held room
+gathers_none {D = D} {m} {held} {room} none = record { before = []; fills = subst (λ l. FillsBy D (WritesCycles 0) m m [] l) (sym none) (cycles_none m (Some []) 0 (tt {0})); grew = Grows-nothing held }
+
+pub gathers_then : {D : DeskRelations} (i : ℕ) {m mid now : Machine} {held after : Option (List ℕ)} {room more : List ℕ} → Gathers D (WritesCycles i) m mid held after room
+    → FillsBy D WritesCycle mid now room more → Gathers D (WritesCycles (i + 1)) m now held after more
+gathers_then i f g = record { before = f.before; fills = cycles_then i f.fills (fills_behind f.before g); grew = f.grew }
+
+-- ---- all of them
+
 pub cycles_all : {T E : Type 0} {D : DeskRelations} (i n : ℕ) {m now : Machine} {a b : Option (List ℕ)} {k l : ℕ} {u : T} → i ≡ n
-    → DoesBy {T = T} {E = E} D (WritesCycles i) m now a b k l (Ok u) → DoesBy {T = T} {E = E} D (λ s. Carries s (Cycles n)) m now a b k l (Ok u)
+    → PerformedWithDesk {T = T} {E = E} D (WritesCycles i) m now a b k l (Ok u) → PerformedWithDesk {T = T} {E = E} D (λ s. Carries s (Cycles n)) m now a b k l (Ok u)
 cycles_all i n e d =
     by_where {A = λ s. Unit {0}} (λ s good st. tt)
     (where_when (λ s t xs out g st p f. subst (λ j. Carries s (Cycles j) xs out t) e (writes_cycles p)) (where_by d))
@@ -150,7 +164,7 @@ machine_may m n s g st may = (
 -- another cycle may be written
 pub cycles_may : {T E : Type 0} {D : DeskRelations} (i n : ℕ) {m now : Machine} {a b : Option (List ℕ)} {k l : ℕ} {u : T} → IsReady m → i < n
     → m.cycle + n ≤ 2 ^ 52
-    → (0 < length m.devices.nodes → m.written + n ≤ 8000) → DoesBy {T = T} {E = E} D (WritesCycles i) m now a b k l (Ok u)
+    → (0 < length m.devices.nodes → m.written + n ≤ 8000) → PerformedWithDesk {T = T} {E = E} D (WritesCycles i) m now a b k l (Ok u)
     → (now.cycle + 1 ≤ 2 ^ 52) × (0 < length now.devices.nodes → now.written < 8000)
 cycles_may i n {m} {now} ready lt cycle few d =
     let s = ready.state in
@@ -179,11 +193,16 @@ cycles_go_on m i n le cycle few s u xs a g st p f =
       carries_steps u (Cycles (n - i)) r.actions r.out r.after rest,
     )
 
-pub cycles_cut : {T E U F V G : Type 0} {D : DeskRelations} (i n : ℕ)
-    {m mid now last : Machine} {a b c : Option (List ℕ)} {k l o : ℕ} {u : T} (q : Result U F) (r : Result V G)
-    → i < n → m.cycle + n ≤ 2 ^ 52 → (0 < length m.devices.nodes → m.written + n ≤ 8000) → IsErr q → IsErr r
-    → DoesBy {T = T} {E = E} D (WritesCycles i) m mid a b k l (Ok u) → DoesBy D WritesCycle mid now b c l o q
-    → DoesBy D (λ s. Carries s (Cycles n)) m last a c k o r
-cycles_cut i n {m} q r lt cycle few was is f g =
-    by_where {A = λ s. Unit {0}} (λ s good st. tt)
-    (where_cut q r (cycles_go_on m (i + 1) n (omega (arith, lt)) cycle few) was is (where_by (cycles_then i f g)))
+pub cycles_cut : {U F V G : Type 0} {D : DeskRelations} (i n : ℕ)
+    {m now last : Machine} {a b : Option (List ℕ)} {k l : ℕ} (q : Result U F) (r : Result V G)
+    → i ≤ n → m.cycle + n ≤ 2 ^ 52 → (0 < length m.devices.nodes → m.written + n ≤ 8000) → IsErr q → IsErr r
+    → PerformedWithDesk D (WritesCycles i) m now a b k l q → PerformedWithDesk D (λ s. Carries s (Cycles n)) m last a b k l r
+cycles_cut i n {m} q r le cycle few was is f = by_where {A = λ s. Unit {0}} (λ s good st. tt) (where_cut q r (cycles_go_on m i n le cycle few) was is (where_by f))
+
+-- what is left in the room is written, or cut off
+pub cycles_out : {T E : Type 0} {D : DeskRelations} (i n : ℕ) (r : Result T E) {m now : Machine} {held after behind : Option (List ℕ)} {room : List ℕ} (rest : List ℕ) {j k l : ℕ} → i ≡ n
+    → m.cycle + n ≤ 2 ^ 52 → (0 < length m.devices.nodes → m.written + n ≤ 8000) → Gathers D (WritesCycles i) m now held after room
+    → Passes after behind r room rest → rest ≡ [] → j ≡ k → CountsFaults j l r → PerformedWithDesk D (λ s. Carries s (Cycles n)) m now held behind k l r
+cycles_out i n (Ok u) rest {j} {k} {l} all cycle few f passes empty same faults = cycles_all i n all (gathers_all u (gathers_out f passes) empty (faults_then k j l (Ok u) same faults))
+cycles_out i n (Err w) rest {j} {k} {l} all cycle few f passes empty same faults =
+    cycles_cut i n (Err w) (Err w) (omega (arith, all)) cycle few refl refl (gathers_cut w f passes (faults_then k j l (Err w) same faults))

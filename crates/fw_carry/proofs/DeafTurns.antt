@@ -17,7 +17,7 @@ use Rattle.fw_run.specs.Actions.{HalfStep, Resets, Step, Takes, counted}
 use Rattle.fw_run.specs.Good.{IsGood}
 use Rattle.fw_run.proofs.Others.{same_table}
 use Rattle.fw_machine.specs.declared.machine.Machine.{Machine}
-use Rattle.fw_carry.specs.Doings.{Turns}
+use Rattle.fw_carry.specs.Performing.{TakesAction}
 use Rattle.fw_carry.specs.Resetting.{BeginsReset}
 use Rattle.fw_machine.specs.Stands.{IsReady, StandsFor, is_living_in}
 use Rattle.fw_machine.specs.Tables.{ControllerTable, IsTable, count_of, states_of, dead_of}
@@ -100,7 +100,7 @@ is_early m s d st lost quiet = go (is_waiting s d) refl
 pub deaf_waits : (m : Machine) (k : ControllerTable) (d : ℕ) → IsTrue (is_living_in m d) → IsTrue (states_of m.controllers d).lost → m.half_steps < 4000000
     → turn_of m.cycle m.directory (states_of m.controllers d) ≢ Force
     → IsTable k (count_of m.controllers) (update (states_of m.controllers) d (after_turn m.cycle m.directory (states_of m.controllers d))) (dead_of m.controllers)
-    → Turns (HalfStep d) m (record m { controllers = k; half_steps = m.half_steps + 1 }) m.cycle None
+    → TakesAction (HalfStep d) m (record m { controllers = k; half_steps = m.half_steps + 1 }) m.cycle None
 deaf_waits m k d lives lost few quiet table = record {
   shown = λ s g st.
       let living : IsTrue (is_living s d) = sym (living_same m s d g st) ∙ lives in
@@ -133,7 +133,7 @@ pub deaf_forces : (m now : Machine) (k : ControllerTable) (d : ℕ) → IsTrue (
     → turn_of m.cycle m.directory (states_of m.controllers d) ≡ Force
     → IsTable k (count_of m.controllers) (update (states_of m.controllers) d (after_turn m.cycle m.directory (states_of m.controllers d))) (dead_of m.controllers)
     → BeginsReset (record m { controllers = k; half_steps = m.half_steps + 1 }) now d
-    → Turns (HalfStep d) m now m.cycle (Some (Reset now.devices.latest))
+    → TakesAction (HalfStep d) m now m.cycle (Some (Reset now.devices.latest))
 deaf_forces m now k d lives lost few force table b = record { shown = shown_ }
   where
     new : Machine
@@ -165,7 +165,7 @@ deaf_forces m now k d lives lost few force table b = record { shown = shown_ }
 -- ---- who lives
 
 -- after any half step the same controllers live
-pub living_half : (m now : Machine) (d : ℕ) (e : Option Entry) → IsReady m → Turns (HalfStep d) m now m.cycle e → (k : ℕ) → is_living_in now k ≡ is_living_in m k
+pub living_half : (m now : Machine) (d : ℕ) (e : Option Entry) → IsReady m → TakesAction (HalfStep d) m now m.cycle e → (k : ℕ) → is_living_in now k ≡ is_living_in m k
 living_half m now d e r turns k =
     let s = r.state in
     let x = turns.shown s r.good r.stands in

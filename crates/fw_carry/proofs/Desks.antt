@@ -11,7 +11,7 @@ use Rattle.fw_entry.specs.declared.version.Version.TheVariants.{Two}
 use Rattle.fw_run.specs.Actions.{Action, SendPacket, Step, Steps}
 use Rattle.fw_run.specs.Desks.{DeskRelations}
 use Rattle.fw_run.specs.Given.{IsGiven, AreGiven}
-use Rattle.fw_run.specs.Giving.{at_cycle, at_most, Gives}
+use Rattle.fw_run.specs.Giving.{at_cycle, at_most, GivesEntry}
 use Rattle.fw_run.specs.Good.{IsGood}
 use Rattle.fw_run.specs.State.{State}
 use Rattle.fw_run.specs.Streams.{GivenBlock, bytes_of}
@@ -19,31 +19,31 @@ use Rattle.fw_run.proofs.Given.{given_then, given_append}
 use Rattle.fw_run.proofs.Runs.{steps_then}
 use Rattle.fw_run.proofs.Steps.{steps_good}
 use Rattle.fw_machine.specs.declared.machine.Machine.{Machine}
-use Rattle.fw_carry.specs.Cycling.{DoesWhere, SendsHeard, hearing_of}
+use Rattle.fw_carry.specs.Cycling.{PerformedWhere, SendsHeard, hearing_of}
 use Rattle.fw_carry.specs.declared.dubs.Recording.{Recording}
-use Rattle.fw_carry.specs.Doings.{Deed, Does}
+use Rattle.fw_carry.specs.Performing.{Task, Performed}
 use Rattle.fw_machine.specs.Faults.{CountsFaults}
-use Rattle.fw_carry.specs.Framing.{DoesBy}
+use Rattle.fw_carry.specs.Framing.{PerformedWithDesk}
 use Rattle.fw_machine.specs.Stands.{StandsFor}
 use Rattle.fw_carry.proofs.Doings.{one_grew, grew_then, front_then_front, parts_then, Follows, GoesOn, does_as, faults_then, no_faults, one_step}
 
 -- ---- what is known of the state
 
 -- it holds of all states that the machine stands for
-pub by_where : {T E : Type 0} {A : State → Type 0} {D : DeskRelations} {P : Deed} {m now : Machine} {a b : Option (List ℕ)} {k l : ℕ} {r : Result T E}
-    → ((s : State) → IsGood s → StandsFor m s → A s) → DoesWhere A D P m now a b k l r → DoesBy D P m now a b k l r
+pub by_where : {T E : Type 0} {A : State → Type 0} {D : DeskRelations} {P : Task} {m now : Machine} {a b : Option (List ℕ)} {k l : ℕ} {r : Result T E}
+    → ((s : State) → IsGood s → StandsFor m s → A s) → PerformedWhere A D P m now a b k l r → PerformedWithDesk D P m now a b k l r
 by_where holds d = record { faults = d.faults; shown = λ s g st. d.shown s g st (holds s g st) }
 
 -- nothing is asked of them
-pub where_by : {T E : Type 0} {A : State → Type 0} {D : DeskRelations} {P : Deed} {m now : Machine} {a b : Option (List ℕ)} {k l : ℕ} {r : Result T E}
-    → DoesBy D P m now a b k l r → DoesWhere A D P m now a b k l r
+pub where_by : {T E : Type 0} {A : State → Type 0} {D : DeskRelations} {P : Task} {m now : Machine} {a b : Option (List ℕ)} {k l : ℕ} {r : Result T E}
+    → PerformedWithDesk D P m now a b k l r → PerformedWhere A D P m now a b k l r
 where_by d = record { faults = d.faults; shown = λ s g st known. d.shown s g st }
 
 -- ---- what is done
 
 -- where all that was to be done is what the desk gives, so is what was done
-pub given_front : {T E : Type 0} {D : DeskRelations} {P : Deed} {m now : Machine} {a b : Option (List ℕ)} {k l : ℕ} {r : Result T E}
-    → Does (λ s xs out t. P s xs out t × AreGiven D xs) m now a b k l r → DoesBy D P m now a b k l r
+pub given_front : {T E : Type 0} {D : DeskRelations} {P : Task} {m now : Machine} {a b : Option (List ℕ)} {k l : ℕ} {r : Result T E}
+    → Performed (λ s xs out t. P s xs out t × AreGiven D xs) m now a b k l r → PerformedWithDesk D P m now a b k l r
 given_front {r = Ok u} d = record { faults = d.faults; shown = λ s g st. d.shown s g st }
 given_front {D = D} {r = Err u} d = record {
   faults = d.faults;
@@ -69,14 +69,14 @@ given_front {D = D} {r = Err u} d = record {
 }
 
 -- a desk has nothing to give in it, or what it gives is known
-pub does_given : {T E : Type 0} {D : DeskRelations} {P : Deed} {m now : Machine} {a b : Option (List ℕ)} {k l : ℕ} {r : Result T E}
-    → ((s t : State) (xs : List Action) (out : List Timed) → P s xs out t → AreGiven D xs) → Does P m now a b k l r → DoesBy D P m now a b k l r
+pub does_given : {T E : Type 0} {D : DeskRelations} {P : Task} {m now : Machine} {a b : Option (List ℕ)} {k l : ℕ} {r : Result T E}
+    → ((s t : State) (xs : List Action) (out : List Timed) → P s xs out t → AreGiven D xs) → Performed P m now a b k l r → PerformedWithDesk D P m now a b k l r
 does_given {D = D} {P} given d = given_front (does_as {Q = λ s xs out t. P s xs out t × AreGiven D xs} (λ s t xs out p. (p, given s t xs out p)) d)
 
 -- what is done of the one is done of the other, in the states that the machine stood for
-pub where_when : {T E : Type 0} {A : State → Type 0} {D : DeskRelations} {P Q : Deed} {m now : Machine} {a b : Option (List ℕ)} {k l : ℕ} {r : Result T E}
+pub where_when : {T E : Type 0} {A : State → Type 0} {D : DeskRelations} {P Q : Task} {m now : Machine} {a b : Option (List ℕ)} {k l : ℕ} {r : Result T E}
     → ((s t : State) (xs : List Action) (out : List Timed) → IsGood s → StandsFor m s → P s xs out t → Steps s xs out t → Q s xs out t)
-    → DoesWhere A D P m now a b k l r → DoesWhere A D Q m now a b k l r
+    → PerformedWhere A D P m now a b k l r → PerformedWhere A D Q m now a b k l r
 where_when {r = Ok u} to d = record {
   faults = d.faults;
   shown = λ s g st known. let x = d.shown s g st known in record {
@@ -115,8 +115,8 @@ where_when {r = Err u} to d = record {
 }
 
 -- nothing was done
-pub where_nothing : {T E : Type 0} {A : State → Type 0} {D : DeskRelations} {P : Deed} (m : Machine) (held : Option (List ℕ)) (k : ℕ) (u : T)
-    → ((s : State) → IsGood s → StandsFor m s → P s [] [] s) → DoesWhere {T = T} {E = E} A D P m m held held k k (Ok u)
+pub where_nothing : {T E : Type 0} {A : State → Type 0} {D : DeskRelations} {P : Task} (m : Machine) (held : Option (List ℕ)) (k : ℕ) (u : T)
+    → ((s : State) → IsGood s → StandsFor m s → P s [] [] s) → PerformedWhere {T = T} {E = E} A D P m m held held k k (Ok u)
 where_nothing m held k u nothing = record {
   faults = no_faults k u;
   shown = λ s g st known. record {
@@ -135,7 +135,7 @@ pub where_sent : {T E : Type 0} {A : State → Type 0} {D : DeskRelations}
     (m : Machine) (d channel cycle : ℕ) (old new : Option Recording) (held after : Option (List ℕ)) (k l : ℕ) (e : Entry) (r : Result T E)
     → ((s : State) → IsGood s → StandsFor m s → A s → (block : Option GivenBlock) × IsGiven D (SendPacket (at_plug d 0) block)
     × Step s (SendPacket (at_plug d 0) block) (at_most cycle (Some e)) s × (new ≡ hearing_of channel (bytes_of block) old))
-    → Gives held after r cycle m.devices.epoch (Some e) → CountsFaults k l r → DoesWhere A D (SendsHeard d channel old new) m m held after k l r
+    → GivesEntry held after r cycle m.devices.epoch (Some e) → CountsFaults k l r → PerformedWhere A D (SendsHeard d channel old new) m m held after k l r
 where_sent m d channel cycle old new held after k l e (Ok u) turn gives faults = record {
   faults = faults;
   shown = λ s g st known.
@@ -178,13 +178,13 @@ where_sent m d channel cycle old new held after k l e (Err u) turn gives faults 
 -- ---- one after another
 
 -- what is known of the state that the one leads to
-abbrev pub LeadsTo : Machine → (State → Type 0) → Deed → (State → Type 0) → Type 0
+abbrev pub LeadsTo : Machine → (State → Type 0) → Task → (State → Type 0) → Type 0
 LeadsTo m A P B = (s t : State) (xs : List Action) (out : List Timed) → IsGood s → StandsFor m s → A s → P s xs out t → Steps s xs out t → B t
 
-pub where_then : {T E U F : Type 0} {A B : State → Type 0} {D : DeskRelations} {P Q R : Deed}
+pub where_then : {T E U F : Type 0} {A B : State → Type 0} {D : DeskRelations} {P Q R : Task}
     {m mid now : Machine} {a b c : Option (List ℕ)} {k l n : ℕ} {u : T} (r : Result U F)
-    → Follows m P Q R → LeadsTo m A P B → DoesWhere {T = T} {E = E} A D P m mid a b k l (Ok u) → DoesWhere B D Q mid now b c l n r
-    → DoesWhere A D R m now a c k n r
+    → Follows m P Q R → LeadsTo m A P B → PerformedWhere {T = T} {E = E} A D P m mid a b k l (Ok u) → PerformedWhere B D Q mid now b c l n r
+    → PerformedWhere A D R m now a c k n r
 where_then {D = D} {a = a} {b} {c} {k} {l} {n} (Ok w) follows leads f g = record {
   faults = faults_then k l n (Ok w) f.faults.same g.faults;
   shown = λ s good st known.
@@ -236,9 +236,9 @@ where_then {D = D} {R = R} {a = a} {b} {c} {k} {l} {n} (Err w) follows leads f g
 -- ---- what was cut off
 
 -- what was done could have been gone on with, whatever a desk gives
-pub where_cut : {U F V G : Type 0} {A : State → Type 0} {D : DeskRelations} {P R : Deed}
+pub where_cut : {U F V G : Type 0} {A : State → Type 0} {D : DeskRelations} {P R : Task}
     {m now last : Machine} {a b : Option (List ℕ)} {k l : ℕ} (q : Result U F) (r : Result V G)
-    → GoesOn m P R → IsErr q → IsErr r → DoesWhere A D P m now a b k l q → DoesWhere A D R m last a b k l r
+    → GoesOn m P R → IsErr q → IsErr r → PerformedWhere A D P m now a b k l q → PerformedWhere A D R m last a b k l r
 where_cut (Ok u) r on is was f = let no : ⊥ = grind (arith, is) in absurd no
 where_cut (Err u) (Ok v) on is was f = let no : ⊥ = grind (arith, was) in absurd no
 where_cut {R = R} (Err u) (Err v) on is was f = record {
@@ -271,7 +271,7 @@ where_cut {R = R} (Err u) (Err v) on is was f = record {
 -- ---- the machine is ready for what comes next
 
 -- what is known of a call, without the desk
-pub by_does : {T E : Type 0} {D : DeskRelations} {P : Deed} {m now : Machine} {a b : Option (List ℕ)} {k l : ℕ} {u : T}
-    → DoesBy {T = T} {E = E} D P m now a b k l (Ok u) → Does {T = T} {E = E} P m now a b k l (Ok u)
+pub by_does : {T E : Type 0} {D : DeskRelations} {P : Task} {m now : Machine} {a b : Option (List ℕ)} {k l : ℕ} {u : T}
+    → PerformedWithDesk {T = T} {E = E} D P m now a b k l (Ok u) → Performed {T = T} {E = E} P m now a b k l (Ok u)
 by_does {D = D} {P} d =
     does_as {P = λ s xs out t. P s xs out t × AreGiven D xs} {Q = P} (λ s t xs out p. p.0) (record { faults = d.faults; shown = λ s g st. d.shown s g st })

@@ -10,7 +10,7 @@ use Rattle.fw_entry.specs.Log.{epoch_after, latest_epoch, entry_bytes}
 use Rattle.fw_entry.specs.declared.version.Version.TheVariants.{Two}
 use Rattle.fw_entry.proofs.LogLaws.{latest_append}
 use Rattle.fw_run.proofs.Epochs.{step_epoch, steps_epoch, entry_epoch}
-use Rattle.fw_run.specs.Giving.{at_cycle, at_most, log_bytes, Gives}
+use Rattle.fw_run.specs.Giving.{at_cycle, at_most, log_bytes, GivesEntry}
 use Rattle.fw_run.specs.State.{State, epoch_of}
 use Rattle.fw_run.specs.Actions.{Action, Step, Steps}
 use Rattle.fw_run.specs.Good.{IsGood}
@@ -21,7 +21,7 @@ use Rattle.fw_run.proofs.Kept.{step_numbers}
 use Rattle.fw_machine.specs.declared.machine.Machine.{Machine}
 use Rattle.fw_machine.specs.Faults.{CountsFaults}
 use Rattle.fw_machine.specs.Stands.{IsReady, StandsFor}
-use Rattle.fw_carry.specs.Doings.{Deed, Acts, Turns, Does}
+use Rattle.fw_carry.specs.Performing.{Task, Performs, TakesAction, Performed}
 
 -- ---- counts of faults
 
@@ -40,8 +40,8 @@ pub one_step : (s t : State) (a : Action) (out : List Timed) → Step s a out t 
 one_step s t a out f = (out, [], t, f, sym (append-nil out), (refl, refl))
 
 -- what is done of the one is done of the other, in the states that the machine stood for
-pub does_when : {T E : Type 0} {P Q : Deed} {m now : Machine} {a b : Option (List ℕ)} {k l : ℕ} {r : Result T E}
-    → ((s t : State) (xs : List Action) (out : List Timed) → IsGood s → StandsFor m s → P s xs out t → Steps s xs out t → Q s xs out t) → Does P m now a b k l r → Does Q m now a b k l r
+pub does_when : {T E : Type 0} {P Q : Task} {m now : Machine} {a b : Option (List ℕ)} {k l : ℕ} {r : Result T E}
+    → ((s t : State) (xs : List Action) (out : List Timed) → IsGood s → StandsFor m s → P s xs out t → Steps s xs out t → Q s xs out t) → Performed P m now a b k l r → Performed Q m now a b k l r
 does_when {r = Ok u} to d = record {
   faults = d.faults;
   shown = λ s g st. let x = d.shown s g st in record {
@@ -74,13 +74,13 @@ does_when {r = Err u} to d = record {
   };
 }
 
-pub does_as : {T E : Type 0} {P Q : Deed} {m now : Machine} {a b : Option (List ℕ)} {k l : ℕ} {r : Result T E}
-    → ((s t : State) (xs : List Action) (out : List Timed) → P s xs out t → Q s xs out t) → Does P m now a b k l r → Does Q m now a b k l r
+pub does_as : {T E : Type 0} {P Q : Task} {m now : Machine} {a b : Option (List ℕ)} {k l : ℕ} {r : Result T E}
+    → ((s t : State) (xs : List Action) (out : List Timed) → P s xs out t → Q s xs out t) → Performed P m now a b k l r → Performed Q m now a b k l r
 does_as to d = does_when (λ s t xs out g st x f. to s t xs out x) d
 
 -- nothing was done
-pub does_nothing : {T E : Type 0} {P : Deed} (m : Machine) (held : Option (List ℕ)) (k : ℕ) (u : T)
-    → ((s : State) → IsGood s → StandsFor m s → P s [] [] s) → Does {T = T} {E = E} P m m held held k k (Ok u)
+pub does_nothing : {T E : Type 0} {P : Task} (m : Machine) (held : Option (List ℕ)) (k : ℕ) (u : T)
+    → ((s : State) → IsGood s → StandsFor m s → P s [] [] s) → Performed {T = T} {E = E} P m m held held k k (Ok u)
 does_nothing m held k u nothing = record {
   faults = no_faults k u;
   shown = λ s g st. record {
@@ -94,7 +94,7 @@ does_nothing m held k u nothing = record {
   };
 }
 
-pub does_none : {T E : Type 0} (m : Machine) (held : Option (List ℕ)) (k : ℕ) (u : T) → Does {T = T} {E = E} (Acts []) m m held held k k (Ok u)
+pub does_none : {T E : Type 0} (m : Machine) (held : Option (List ℕ)) (k : ℕ) (u : T) → Performed {T = T} {E = E} (Performs []) m m held held k k (Ok u)
 does_none m held k u = does_nothing m held k u (λ s g st. (refl, (refl, refl)))
 
 -- ---- epochs
@@ -136,7 +136,7 @@ parts_then s mid xs out given next whole g f is =
 
 -- an action whose entry was written, or cut off
 pub does_one : {T E : Type 0} {a : Action} {m now : Machine} {held after : Option (List ℕ)} {k l : ℕ} (cycle : ℕ) (e : Option Entry) (r : Result T E)
-    → Turns a m now cycle e → Gives held after r cycle now.devices.epoch e → CountsFaults k l r → Does (Acts (a ∷ [])) m now held after k l r
+    → TakesAction a m now cycle e → GivesEntry held after r cycle now.devices.epoch e → CountsFaults k l r → Performed (Performs (a ∷ [])) m now held after k l r
 does_one {a = a} cycle None (Ok u) turn gives faults = record {
   faults = faults;
   shown = λ s g st. let x = turn.shown s g st in let f = one_step s x.0 a [] x.1 in record {
@@ -183,19 +183,19 @@ does_one {a = a} {now = now} cycle (Some e) (Err u) turn gives faults = record {
 }
 
 -- an action that writes nothing
-pub does_silent : {T E : Type 0} {a : Action} {m now : Machine} (held : Option (List ℕ)) (k cycle : ℕ) (u : T) → Turns a m now cycle None
-    → Does {T = T} {E = E} (Acts (a ∷ [])) m now held held k k (Ok u)
+pub does_silent : {T E : Type 0} {a : Action} {m now : Machine} (held : Option (List ℕ)) (k cycle : ℕ) (u : T) → TakesAction a m now cycle None
+    → Performed {T = T} {E = E} (Performs (a ∷ [])) m now held held k k (Ok u)
 does_silent held k cycle u turn = does_one cycle None (Ok u) turn (Grows-nothing held) (no_faults k u)
 
 -- ---- one after another
 
 -- one thing done after another comes to a third
-abbrev pub Follows : Machine → Deed → Deed → Deed → Type 0
+abbrev pub Follows : Machine → Task → Task → Task → Type 0
 Follows m P Q R =
     (s mid t : State) (xs ys : List Action) (a b : List Timed) → IsGood s → StandsFor m s → P s xs a mid → Steps s xs a mid → Q mid ys b t → Steps mid ys b t → R s (xs ++ ys) (a ++ b) t
 
-pub does_then : {T E U F : Type 0} {P Q R : Deed} {m mid now : Machine} {a b c : Option (List ℕ)} {k l n : ℕ} {u : T} (r : Result U F)
-    → Follows m P Q R → Does {T = T} {E = E} P m mid a b k l (Ok u) → Does Q mid now b c l n r → Does R m now a c k n r
+pub does_then : {T E U F : Type 0} {P Q R : Task} {m mid now : Machine} {a b c : Option (List ℕ)} {k l n : ℕ} {u : T} (r : Result U F)
+    → Follows m P Q R → Performed {T = T} {E = E} P m mid a b k l (Ok u) → Performed Q mid now b c l n r → Performed R m now a c k n r
 does_then {a = a} {b} {c} {k} {l} {n} (Ok w) follows f g = record {
   faults = faults_then k l n (Ok w) f.faults.same g.faults;
   shown = λ s good st.
@@ -237,19 +237,19 @@ does_then {R = R} {a = a} {b} {c} {k} {l} {n} (Err w) follows f g = record {
 }
 
 -- these actions, and then those
-pub acts_follow : {m : Machine} (xs ys : List Action) → Follows m (Acts xs) (Acts ys) (Acts (xs ++ ys))
+pub acts_follow : {m : Machine} (xs ys : List Action) → Follows m (Performs xs) (Performs ys) (Performs (xs ++ ys))
 acts_follow xs ys s m t zs ws a b good st f p g q = (ap (λ z. z ++ ws) f.0 ∙ ap (λ z. xs ++ z) g.0, steps_then s m t xs ys a b f.1 g.1)
 
 -- ---- what was cut off
 
 -- what was done could have been gone on with
-abbrev pub GoesOn : Machine → Deed → Deed → Type 0
+abbrev pub GoesOn : Machine → Task → Task → Type 0
 GoesOn m P R =
     (s u : State) (xs : List Action) (a : List Timed) → IsGood s → StandsFor m s → P s xs a u → Steps s xs a u
     → (ys : List Action) × (b : List Timed) × (t : State) × R s (xs ++ ys) (a ++ b) t × Steps u ys b t
 
-pub does_cut : {U F V G : Type 0} {P R : Deed} {m now last : Machine} {a b : Option (List ℕ)} {k l : ℕ} (q : Result U F) (r : Result V G)
-    → GoesOn m P R → IsErr q → IsErr r → Does P m now a b k l q → Does R m last a b k l r
+pub does_cut : {U F V G : Type 0} {P R : Task} {m now last : Machine} {a b : Option (List ℕ)} {k l : ℕ} (q : Result U F) (r : Result V G)
+    → GoesOn m P R → IsErr q → IsErr r → Performed P m now a b k l q → Performed R m last a b k l r
 does_cut (Ok u) r on is was f = let no : ⊥ = grind (arith, is) in absurd no
 does_cut (Err u) (Ok v) on is was f = let no : ⊥ = grind (arith, was) in absurd no
 does_cut {R = R} (Err u) (Err v) on is was f = record {
@@ -282,8 +282,8 @@ pub steps_numbers : (s t : State) (xs : List Action) (out : List Timed) → IsGo
 steps_numbers s t [] out g b f = subst HasNumbers (sym f.1) b
 steps_numbers s t (x ∷ xs) out g b f = steps_numbers f.2 t xs f.1 (steps_good s f.2 (x ∷ []) f.0 g (one_step s f.2 x f.0 f.3)) (step_numbers s x f.0 f.2 g b f.3) f.5
 
-pub ready_after : {T E : Type 0} {P : Deed} {m now : Machine} {a b : Option (List ℕ)} {k l : ℕ} {u : T}
-    → IsReady m → Does {T = T} {E = E} P m now a b k l (Ok u) → IsReady now
+pub ready_after : {T E : Type 0} {P : Task} {m now : Machine} {a b : Option (List ℕ)} {k l : ℕ} {u : T}
+    → IsReady m → Performed {T = T} {E = E} P m now a b k l (Ok u) → IsReady now
 ready_after r f = let x = f.shown r.state r.good r.stands in record {
   state = x.state;
   good = steps_good r.state x.state x.actions x.out r.good x.steps;

@@ -7,13 +7,13 @@ use Rattle.fw_entry.specs.declared.version.Version.TheVariants.{Two}
 use Rattle.fw_entry.specs.declared.entry.Entry.{Entry}
 use Rattle.fw_entry.specs.declared.entry.Timed.{Timed}
 use Rattle.fw_run.specs.Actions.{Action, Step, Steps}
-use Rattle.fw_run.specs.Giving.{at_cycle, at_most, Gives}
+use Rattle.fw_run.specs.Giving.{at_cycle, at_most, GivesEntry}
 use Rattle.fw_run.specs.Good.{IsGood}
 use Rattle.fw_run.specs.State.{State, epoch_of}
 use Rattle.fw_machine.specs.declared.machine.Machine.{Machine}
 use Rattle.fw_machine.specs.Faults.{CountsFaults}
 use Rattle.fw_machine.specs.Stands.{StandsFor}
-use Rattle.fw_carry.specs.Doings.{Acts, Does, Talks}
+use Rattle.fw_carry.specs.Performing.{Performs, Performed, TakesTwoActions}
 use Rattle.fw_carry.specs.Exchanging.{GivesBoth, CutOff, Second}
 use Rattle.fw_carry.proofs.Doings.{IsNoReset, does_as, faults_then, one_step, talk_steps, two_epoch, two_front, two_grew}
 
@@ -27,8 +27,8 @@ abbrev pub Exchanged : (State → Action → Action → Type 0) → State → Li
 Exchanged P s ys out t = (x y : Action) × P s x y × (ys ≡ x ∷ y ∷ []) × Steps s (x ∷ y ∷ []) out t
 
 does_exchanged : {T E U F : Type 0} {P : State → Action → Action → Type 0} {m now : Machine} {held after : Option (List ℕ)} {k l n : ℕ} {u : T} (mid : Option (List ℕ)) (cycle : ℕ) (e f : Entry) (r : Result U F)
-    → Exchanges P m now cycle e f → IsNoReset e → IsNoReset f → Gives {T = T} {E = E} held mid (Ok u) cycle now.devices.epoch (Some e) → CountsFaults {T = T} {E = E} k l (Ok u) → Gives mid after r cycle now.devices.epoch (Some f) → CountsFaults l n r
-    → Does (Exchanged P) m now held after k n r
+    → Exchanges P m now cycle e f → IsNoReset e → IsNoReset f → GivesEntry {T = T} {E = E} held mid (Ok u) cycle now.devices.epoch (Some e) → CountsFaults {T = T} {E = E} k l (Ok u) → GivesEntry mid after r cycle now.devices.epoch (Some f) → CountsFaults l n r
+    → Performed (Exchanged P) m now held after k n r
 does_exchanged {now = now} {held = held} {after} {k} {l} {n} mid cycle e f (Ok w) talk plain other gives faults given also = record {
   faults = faults_then k l n (Ok w) faults.same also;
   shown = λ s g st. let z = talk.shown s g st in let both = talk_steps s z.3 z.4 z.0 z.1 cycle e f z.5 z.6 in record {
@@ -63,7 +63,7 @@ does_exchanged {now = now} {held = held} {after} {k} {l} {n} mid cycle e f (Err 
 
 -- the first was cut off
 does_unexchanged : {U F V G : Type 0} {P : State → Action → Action → Type 0} {m now : Machine} {held after : Option (List ℕ)} {k l : ℕ} (cycle : ℕ) (e f : Entry) (q : Result U F) (r : Result V G)
-    → Exchanges P m now cycle e f → IsNoReset e → IsNoReset f → IsErr q → IsErr r → Gives held after q cycle now.devices.epoch (Some e) → CountsFaults k l q → Does (Exchanged P) m now held after k l r
+    → Exchanges P m now cycle e f → IsNoReset e → IsNoReset f → IsErr q → IsErr r → GivesEntry held after q cycle now.devices.epoch (Some e) → CountsFaults k l q → Performed (Exchanged P) m now held after k l r
 does_unexchanged cycle e f (Ok u) r talk plain other is was gives faults = let no : ⊥ = grind (arith, is) in absurd no
 does_unexchanged cycle e f (Err w) (Ok v) talk plain other is was gives faults = let no : ⊥ = grind (arith, was) in absurd no
 does_unexchanged {now = now} cycle e f (Err w) (Err v) talk plain other is was gives faults = record {
@@ -88,7 +88,7 @@ does_unexchanged {now = now} cycle e f (Err w) (Err v) talk plain other is was g
 
 -- the one or the other, as the call says
 pub does_both : {T E : Type 0} {P : State → Action → Action → Type 0} {m now : Machine} {held after : Option (List ℕ)} {k n cycle : ℕ} {e f : Entry} (r : Result T E)
-    → Exchanges P m now cycle e f → IsNoReset e → IsNoReset f → GivesBoth held after k n r cycle now.devices.epoch e f → Does (Exchanged P) m now held after k n r
+    → Exchanges P m now cycle e f → IsNoReset e → IsNoReset f → GivesBoth held after k n r cycle now.devices.epoch e f → Performed (Exchanged P) m now held after k n r
 does_both {cycle = cycle} {e} {f} r talk plain other (CutOff first was is gives faults) = does_unexchanged cycle e f first r talk plain other was is gives faults
 does_both {cycle = cycle} {e} {f} r talk plain other (Second between count done gives faults given also) = does_exchanged between cycle e f r talk plain other gives faults given also
 
@@ -97,14 +97,14 @@ does_both {cycle = cycle} {e} {f} r talk plain other (Second between count done 
 abbrev Are : Action → Action → State → Action → Action → Type 0
 Are a b s x y = (x ≡ a) × (y ≡ b)
 
-talks_are : {a b : Action} {m now : Machine} {cycle : ℕ} {e f : Entry} → Talks a b m now cycle e f → Exchanges (Are a b) m now cycle e f
+talks_are : {a b : Action} {m now : Machine} {cycle : ℕ} {e f : Entry} → TakesTwoActions a b m now cycle e f → Exchanges (Are a b) m now cycle e f
 talks_are {a} {b} talk = record { shown = λ s g st. let x = talk.shown s g st in (a, b, (refl, refl), x.0, x.1, x.2, x.3, x.4) }
 
-are_acts : (a b : Action) (s : State) (ys : List Action) (out : List Timed) (t : State) → Exchanged (Are a b) s ys out t → Acts (a ∷ b ∷ []) s ys out t
+are_acts : (a b : Action) (s : State) (ys : List Action) (out : List Timed) (t : State) → Exchanged (Are a b) s ys out t → Performs (a ∷ b ∷ []) s ys out t
 are_acts a b s ys out t z =
     let same : z.0 ∷ z.1 ∷ [] ≡ a ∷ b ∷ [] = λ i. z.2.0 i ∷ z.2.1 i ∷ [] in
     (z.3 ∙ same, subst (λ xs. Steps s xs out t) same z.4)
 
 pub does_talks : {T E : Type 0} {a b : Action} {m now : Machine} {held after : Option (List ℕ)} {k n cycle : ℕ} {e f : Entry} (r : Result T E)
-    → Talks a b m now cycle e f → IsNoReset e → IsNoReset f → GivesBoth held after k n r cycle now.devices.epoch e f → Does (Acts (a ∷ b ∷ [])) m now held after k n r
+    → TakesTwoActions a b m now cycle e f → IsNoReset e → IsNoReset f → GivesBoth held after k n r cycle now.devices.epoch e f → Performed (Performs (a ∷ b ∷ [])) m now held after k n r
 does_talks {a = a} {b} r talk plain other given = does_as (λ s t ys out z. are_acts a b s ys out t z) (does_both r (talks_are talk) plain other given)

@@ -9,7 +9,7 @@ use Rattle.fw_csr.specs.declared.register.Register.{Register}
 use Rattle.fw_csr.specs.declared.register.Register.TheVariants.{ReadOnly, ReadSwap, WriteOnly}
 use Rattle.fw_csr.specs.declared.request.Request.{Request}
 use Rattle.fw_csr.specs.declared.request.Request.TheVariants as Asks
-use Rattle.fw_csr.specs.declared.request.Swap.{Swap}
+use Rattle.fw_words.specs.declared.swap.Swap.{Swap}
 use Rattle.fw_csr.specs.Replies.{reply}
 use Rattle.fw_entry.specs.declared.entry.ResetEntry.{ResetEntry}
 use Rattle.fw_cmp.specs.declared.current.Current.{Current}
@@ -21,7 +21,8 @@ use Rattle.fw_cmp.specs.declared.request.Target.{Target}
 use Rattle.fw_cmp.specs.declared.request.Target.TheVariants as target
 use Rattle.fw_cmp.specs.Controllers.{ControllerState, IsStanding, CurrentFits, RunsFitting}
 use Rattle.fw_cmp.specs.Nodes as Told
-use Rattle.fw_cmp.specs.Requests.{standing_in, addressee_of, request_at}
+use Rattle.fw_cmp.specs.Requests.{standing_in, addressee_of}
+use Rattle.fw_csr.specs.Requests.{request_at}
 use Rattle.fw_step.specs.Controllers.{IsDirectory}
 use Rattle.fw_step.specs.Registers.{stands}
 use Rattle.fw_step.specs.Requests.{IsDevice}
@@ -144,10 +145,6 @@ exchange_of m s d a to device g st x goes at =
     }
 
 -- ---- what cannot be: no addressee, and no device at its node
-
--- the directory has the addressee
-pub no_addressee : (m : Machine) (s : State) (d : ℕ) (a : Access) → StandsFor m s → Standing m s d a → None ≡ addressee_of m.directory a.target → ⊥
-no_addressee m s d a st x e = none-some _ (e ∙ addressee_is m s d a st x)
 
 -- the latest entry has its device
 pub no_device : (m : Machine) (s : State) (d : ℕ) (a : Access) (to : ℕ) → IsGood s → StandsFor m s → Standing m s d a

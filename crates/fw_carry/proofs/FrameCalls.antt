@@ -21,7 +21,7 @@ use Rattle.fw_run.specs.Frames.{next_told}
 use Rattle.fw_run.specs.State.{State}
 use Rattle.fw_run.proofs.Units.{addressed}
 use Rattle.fw_machine.specs.declared.machine.Machine.{Machine}
-use Rattle.fw_carry.specs.Doings.{Talks}
+use Rattle.fw_carry.specs.Performing.{TakesTwoActions}
 use Rattle.fw_carry.specs.Framing.{IsFrameTo, frames_of}
 use Rattle.fw_machine.specs.Stands.{IsReady, is_linked_in}
 use Rattle.fw_carry.proofs.FrameNodes.{with_decks}
@@ -164,7 +164,7 @@ told_after {to = to} {packet = packet} x =
     x.after_is ∙ ap (λ (n : Network). record n { nodes = slice_set n.nodes to (after_request (request_in packet) (node_at n.nodes to)) }) x.out.taken_is
 
 pub answered_talks : {m : Machine} {d to : ℕ} {taken after : Network} {packet response : Packet} → Answered m d to taken after packet response
-    → Talks (SendFrame d) (Receive None) m (record m { devices = after }) m.cycle (Async packet) (Async response)
+    → TakesTwoActions (SendFrame d) (Receive None) m (record m { devices = after }) m.cycle (Async packet) (Async response)
 answered_talks {m} {d} {to} {taken} {after} {packet} {response} x =
     let telling : Telling m d to x.out.told packet response = record {
       low = x.out.low;

@@ -26,7 +26,7 @@ use Rattle.fw_run.proofs.SendsAll.{response_no_command}
 use Rattle.fw_run.proofs.Turns.{update_new, update_others}
 use Rattle.fw_run.proofs.Units.{addressed, frame_kept, packet_same, sent_kept, quiet_kept}
 use Rattle.fw_machine.specs.declared.machine.Machine.{Machine}
-use Rattle.fw_carry.specs.Doings.{Talks}
+use Rattle.fw_carry.specs.Performing.{TakesTwoActions}
 use Rattle.fw_machine.specs.Stands.{HasDecks, StandsFor}
 use Rattle.fw_machine.proofs.DeckNodes.{decks_set}
 use Rattle.fw_carry.proofs.Exchanges.{asks_request, device_at_node}
@@ -132,7 +132,7 @@ frame_same m s d to told packet response g st x a =
     x.packet_is ∙ (ap (λ o. Fcp.frame_packet (number_of o) told) own.0 ∙ packet_same s d a.to told (omega (arith, few)) a.node low)
 
 pub frame_talks : (m now : Machine) (d to : ℕ) (told : ℕ × Frame) (packet response : Packet) → Telling m d to told packet response → now ≡ told_by m d to packet
-    → Talks (SendFrame d) (Receive None) m now m.cycle (Async packet) (Async response)
+    → TakesTwoActions (SendFrame d) (Receive None) m now m.cycle (Async packet) (Async response)
 frame_talks m now d to told packet response x is = record { shown = shown_ }
   where
     shown_ : (s : State) → IsGood s → StandsFor m s → (mid t : State) × Step s (SendFrame d) (at_most m.cycle (Some (Async packet))) mid

@@ -1,30 +1,27 @@
--- The packets of a cycle are put together in a room, and written with one write.
-use Rattle.std.proofs.Common.{◌≡◌, ◌⊎◌, inl, inr, ℕ, ◌<◌, ◌≤◌, List, [], ◌∷◌, ◌++◌, ◌==◌, length, Bool, true, false, Option, refl, ap, sym, subst, ◌∙◌, arith, append_assoc, length-append}
+-- Entries are put together in a room and written with one write: what it means that this is cut off.
+use Rattle.std.proofs.Common.{◌≡◌, ◌⊎◌, inl, inr, ℕ, ◌<◌, ◌≤◌, List, [], ◌∷◌, ◌++◌, ◌==◌, length, Bool, true, false, Option, refl, ap, sym, subst, ◌∙◌, arith, append_assoc, append-nil}
 use Rattle.std.proofs.lemmas.Bool.{cases_lt, false≢true}
 use Rattle.std.proofs.lemmas.Bool.Decides.{nat_tests}
 use Rattle.std.specs.Prelude.{Ok, Err}
 use Rattle.std.specs.declared.result.Result.{Result}
-use Rattle.fw_outside.specs.Outside.{Grows, Writes}
-use Rattle.fw_outside.proofs.Parts.{Grows-nothing}
-use Rattle.fw_base.specs.declared.plug.PlugAt.{PlugAt}
-use Rattle.fw_entry.specs.declared.entry.Entry.TheVariants.{Iso}
+use Rattle.fw_outside.specs.Outside.{AppendsFront, Grows, Writes}
+use Rattle.fw_outside.proofs.Parts.{Grows-Grows}
 use Rattle.fw_entry.specs.declared.entry.Timed.{Timed}
 use Rattle.fw_entry.specs.Log.{epoch_after, latest_epoch, entry_bytes}
 use Rattle.fw_entry.specs.declared.version.Version.TheVariants.{Two}
-use Rattle.fw_run.specs.Actions.{Action, SendPacket, Steps}
-use Rattle.fw_run.specs.Carrying.{SendsPackets}
+use Rattle.fw_run.specs.Actions.{Action, Steps}
 use Rattle.fw_run.specs.Desks.{DeskRelations}
 use Rattle.fw_run.specs.Given.{AreGiven}
-use Rattle.fw_run.specs.Giving.{at_cycle, log_bytes}
+use Rattle.fw_run.specs.Giving.{log_bytes}
+use Rattle.fw_run.specs.Good.{IsGood}
 use Rattle.fw_run.specs.State.{State, epoch_of}
-use Rattle.fw_run.specs.Streams.{bytes_of, stream_packet, talkers_to}
+use Rattle.fw_run.proofs.Along.{steps_front}
 use Rattle.fw_run.proofs.Given.{given_append}
-use Rattle.fw_run.proofs.Runs.{steps_then}
 use Rattle.fw_machine.specs.declared.machine.Machine.{Machine}
-use Rattle.fw_carry.specs.Cycling.{DoesWhere, Puts, HearsTo}
-use Rattle.fw_carry.specs.declared.dubs.Recording.{Recording}
 use Rattle.fw_machine.specs.Faults.{CountsFaults}
-use Rattle.fw_carry.proofs.Doings.{no_faults}
+use Rattle.fw_carry.specs.Performing.{CutOff, Task}
+use Rattle.fw_carry.specs.Filling.{FillsBy, Gathers, Passes}
+use Rattle.fw_carry.specs.Framing.{PerformedWithDesk}
 
 -- ---- two ways to part a list
 
@@ -50,88 +47,92 @@ front_past (y ∷ a) b (x ∷ f) r e few =
     let behind = z.1 in
     (z.0, (λ i. same i ∷ behind i), z.2)
 
--- ---- a front of the packets
+-- ---- a front of the bytes of entries
 
--- the first packets, and a front of the next one, are these bytes, where this is the epoch of the latest reset
-record Front (n : ℕ) (s : State) (xs : List Action) (f : List ℕ) : Type 0 where
-  done : List Action
-  later : List Action
-  all : xs ≡ done ++ later
+-- the first entries, and a front of the next one, are these bytes, where this is the epoch of the latest reset
+record Front (n : ℕ) (out : List Timed) (f : List ℕ) : Type 0 where
   given : List Timed
   next : Timed
-  state : State
-  steps : Steps s done (given ++ next ∷ []) state
+  more : List Timed
+  all : out ≡ (given ++ next ∷ []) ++ more
   front : List ℕ
   rest : List ℕ
   parts : entry_bytes Two (epoch_after (latest_epoch n given) next.what) next ≡ front ++ rest
   is : f ≡ log_bytes n given ++ front
 
--- where nobody sends nothing is written
-none_out : (ps : List PlugAt) (s t : State) (xs : List Action) (out : List Timed) → SendsPackets ps s xs out t → ps ≡ [] → out ≡ []
-none_out [] s t xs out f e = f.1
-none_out (p ∷ ps) s t xs out f e = let no : ⊥ = cc e in absurd no
-
--- a front of the bytes of a packet and of those behind it: of those it is known what their fronts are
-front_one : (n : ℕ) (p : PlugAt) (ps : List PlugAt) (s t : State) (xs : List Action) (out : List Timed) (x : SendsPackets (p ∷ ps) s xs out t) (f rest : List ℕ)
-    → log_bytes n out ≡ f ++ rest
-    → ((g : List ℕ) → log_bytes n x.4 ≡ g ++ rest → (ps ≡ [] → ⊥) → Front n x.1 x.2 g) → Front n s xs f
-front_one n p ps s t xs out x f rest e behind = go (cases_lt (length (entry_bytes Two n packet)) (length f))
+-- a front of the bytes of an entry and of those behind it: of those it is known what their fronts are
+front_one : (n : ℕ) (e x : Timed) (es : List Timed) (f rest : List ℕ) → log_bytes n (e ∷ x ∷ es) ≡ f ++ rest
+    → ((g : List ℕ) → log_bytes (epoch_after n e.what) (x ∷ es) ≡ g ++ rest → Front (epoch_after n e.what) (x ∷ es) g) → Front n (e ∷ x ∷ es) f
+front_one n e x es f rest is behind = go (cases_lt (length first) (length f))
   where
-    packet : Timed
-    packet = at_cycle s.clock.cycle (Iso (stream_packet s p (bytes_of x.0)))
+    after : ℕ
+    after = epoch_after n e.what
 
-    one : x.3 ≡ packet ∷ []
-    one = let y = x.5 in y.4 ∙ (ap (λ z. z ++ y.1) y.3.1.2 ∙ ap (λ z. packet ∷ z) y.5.0)
+    first : List ℕ
+    first = entry_bytes Two after e
 
-    first : Steps s (SendPacket p x.0 ∷ []) (packet ∷ []) x.1
-    first = subst (λ o. Steps s (SendPacket p x.0 ∷ []) o x.1) one x.5
-
-    bytes : entry_bytes Two n packet ++ log_bytes n x.4 ≡ f ++ rest
-    bytes = sym (ap (log_bytes n) (x.8 ∙ ap (λ o. o ++ x.4) one)) ∙ e
-
-    go : (length (entry_bytes Two n packet) < length f) ⊎ (length f ≤ length (entry_bytes Two n packet)) → Front n s xs f
+    go : (length first < length f) ⊎ (length f ≤ length first) → Front n (e ∷ x ∷ es) f
     go (inl more) =
-        let z = front_past (entry_bytes Two n packet) (log_bytes n x.4) f rest bytes (omega (arith, more)) in
-        let long = ap (λ (l : List ℕ). length l) z.1 in
-        let size = ap (λ (l : List ℕ). length l) z.2 in
-        let there : ps ≡ [] → ⊥ = λ none. (
-        let empty : length (log_bytes n x.4) ≡ 0 = ap (λ o. length (log_bytes n o)) (none_out ps x.1 t x.2 x.4 x.6 none) in
-        let no : ⊥ = omega (arith, more, empty, long, size, length-append (entry_bytes Two n packet) z.0, length-append z.0 rest) in no) in
-        let w = behind z.0 z.2 there in record {
-          done = SendPacket p x.0 ∷ w.done;
-          later = w.later;
-          all = x.7 ∙ ap (λ ys. SendPacket p x.0 ∷ ys) w.all;
-          given = packet ∷ w.given;
+        let z = front_past first (log_bytes after (x ∷ es)) f rest is (omega (arith, more)) in
+        let w = behind z.0 z.2 in record {
+          given = e ∷ w.given;
           next = w.next;
-          state = w.state;
-          steps = steps_then s x.1 w.state (SendPacket p x.0 ∷ []) w.done (packet ∷ []) (w.given ++ w.next ∷ []) first w.steps;
+          more = w.more;
+          all = ap (λ ts. e ∷ ts) w.all;
           front = w.front;
           rest = w.rest;
           parts = w.parts;
-          is = z.1 ∙ (ap (λ l. entry_bytes Two n packet ++ l) w.is ∙ sym (append_assoc (entry_bytes Two n packet) (log_bytes n w.given) w.front));
+          is = z.1 ∙ (ap (λ l. first ++ l) w.is ∙ sym (append_assoc first (log_bytes after w.given) w.front));
         }
     go (inr few) =
-        let z = front_within (entry_bytes Two n packet) (log_bytes n x.4) f rest bytes few in record {
-          done = SendPacket p x.0 ∷ [];
-          later = x.2;
-          all = x.7;
-          given = [];
-          next = packet;
-          state = x.1;
-          steps = first;
-          front = f;
-          rest = z.0;
-          parts = z.1;
-          is = refl;
-        }
+        let z = front_within first (log_bytes after (x ∷ es)) f rest is few in
+        record { given = []; next = e; more = x ∷ es; all = refl; front = f; rest = z.0; parts = z.1; is = refl }
 
--- each front of the bytes of packets is that of the first of them, with a front of the next
-front_of : (n : ℕ) (ps : List PlugAt) (s t : State) (xs : List Action) (out : List Timed) → SendsPackets ps s xs out t → (f rest : List ℕ) → log_bytes n out ≡ f ++ rest
-    → (ps ≡ [] → ⊥) → Front n s xs f
-front_of n [] s t xs out x f rest e some = absurd (some refl)
-front_of n (p ∷ ps) s t xs out x f rest e some = front_one n p ps s t xs out x f rest e (λ g is more. front_of n ps x.1 t x.2 x.4 x.6 g rest is more)
+-- each front of the bytes of entries is that of the first of them, with a front of the next
+front_of : (n : ℕ) (e : Timed) (es : List Timed) (f rest : List ℕ) → log_bytes n (e ∷ es) ≡ f ++ rest → Front n (e ∷ es) f
+front_of n e [] f rest is = record {
+  given = [];
+  next = e;
+  more = [];
+  all = refl;
+  front = f;
+  rest = rest;
+  parts = sym (append-nil (entry_bytes Two (epoch_after n e.what) e)) ∙ is;
+  is = refl;
+}
+front_of n e (x ∷ es) f rest is = front_one n e x es f rest is (λ g there. front_of (epoch_after n e.what) x es g rest there)
 
--- ---- the write
+front_some : (n : ℕ) (out : List Timed) (f rest : List ℕ) → (out ≡ [] → ⊥) → log_bytes n out ≡ f ++ rest → Front n out f
+front_some n [] f rest some is = absurd (some refl)
+front_some n (e ∷ es) f rest some is = front_of n e es f rest is
+
+-- what wrote them was cut off there
+cut_at : (D : DeskRelations) (P : Task) (s t : State) (xs : List Action) (out : List Timed) (f rest : List ℕ) (held after : Option (List ℕ)) → IsGood s → P s xs out t
+    → AreGiven D xs → Steps s xs out t → (out ≡ [] → ⊥) → log_bytes (epoch_of s.account.latest) out ≡ f ++ rest → Grows held after f
+    → (cut : CutOff (P s) s held after) × AreGiven D cut.done
+cut_at D P s t xs out f rest held after good whole gave steps some is grew =
+    let z = front_some (epoch_of s.account.latest) out f rest some is in
+    let y = steps_front s t xs out (z.given ++ z.next ∷ []) z.more good steps z.all in (
+      record {
+        done = y.0;
+        later = y.1;
+        all = out;
+        last = t;
+        whole = subst (λ ys. P s ys out t) y.3 whole;
+        goes = subst (λ ys. Steps s ys out t) y.3 steps;
+        given = z.given;
+        next = z.next;
+        state = y.2;
+        steps = y.4;
+        front = z.front;
+        rest = z.rest;
+        parts = z.parts;
+        appended = subst (Grows held after) z.is grew;
+      },
+      (given_append D y.0 y.1 (subst (AreGiven D) y.3 gave)).0,
+    )
+
+-- ---- the room
 
 -- what the test for an empty room tells
 pub is_empty : (x bytes : List ℕ) (b : Bool) → x ≡ bytes → b ≡ (length x == 0) → b ≡ true → bytes ≡ []
@@ -142,60 +143,70 @@ pub is_full : (x bytes : List ℕ) (b : Bool) → x ≡ bytes → b ≡ (length 
 is_full [] bytes b e test is none = false≢true (sym is ∙ test)
 is_full (y ∷ x) bytes b e test is none = let no : ⊥ = cc in no
 
--- there is none, where the room is empty
-pub packets_unwritten : {T E : Type 0} {A : State → Type 0} {D : DeskRelations} {m : Machine} {bytes : List ℕ} (old new : Option Recording) (held : Option (List ℕ)) (k : ℕ) (u : T)
-    → Puts A D (HearsTo 64 old new) m [] bytes → bytes ≡ [] → DoesWhere {T = T} {E = E} A D (HearsTo 64 old new) m m held held k k (Ok u)
-packets_unwritten old new held k u d none = record {
-  faults = no_faults k u;
-  shown = λ s g st known. let x = d.shown s g st known in record {
+-- what stands before it in a room or in a sink
+pub fills_behind : {D : DeskRelations} {P : Task} {m now : Machine} {old new : List ℕ} (front : List ℕ) → FillsBy D P m now old new → FillsBy D P m now (front ++ old) (front ++ new)
+fills_behind {old = old} front d = record {
+  faults = d.faults;
+  shown = λ s g st. let x = d.shown s g st in record {
     actions = x.actions;
     out = x.out;
     state = x.state;
     whole = x.whole;
     steps = x.steps;
     stands = x.stands;
-    grew = subst (Grows held held) (sym none ∙ x.grew) (Grows-nothing held);
+    grew = ap (λ l. front ++ l) x.grew ∙ sym (append_assoc front old (log_bytes (epoch_of s.account.latest) x.out));
   };
 }
 
--- all of them are written, or they are cut off
-pub packets_written : {T E : Type 0} {A : State → Type 0} {D : DeskRelations} {m : Machine} {bytes : List ℕ} (old new : Option Recording) {a b : Option (List ℕ)} {k l : ℕ} (r : Result T E)
-    → Puts A D (HearsTo 64 old new) m [] bytes → (bytes ≡ [] → ⊥) → Writes a b r bytes → CountsFaults k l r → DoesWhere A D (HearsTo 64 old new) m m a b k l r
-packets_written old new {a = a} {b} (Ok u) d some gives faults = record {
-  faults = faults;
-  shown = λ s g st known. let x = d.shown s g st known in record {
-    actions = x.actions;
-    out = x.out;
-    state = x.state;
-    whole = x.whole;
-    steps = x.steps;
-    stands = x.stands;
-    grew = subst (Grows a b) x.grew gives;
-  };
+-- a part of what is in the room is written
+pub gathers_out : {D : DeskRelations} {P : Task} {m now : Machine} {held after behind : Option (List ℕ)} {room rest : List ℕ} → Gathers D P m now held after room
+    → (part : List ℕ) × (room ≡ part ++ rest) × Grows after behind part → Gathers D P m now held behind rest
+gathers_out {D = D} {P} {m} {now} {held} {after} {behind} {room} {rest} f x = record {
+  before = f.before ++ x.0;
+  fills = subst (λ l. FillsBy D P m now [] l) (ap (λ l. f.before ++ l) x.1 ∙ sym (append_assoc f.before x.0 rest)) f.fills;
+  grew = Grows-Grows held after behind f.before x.0 f.grew x.2;
 }
-packets_written {D = D} old new {a = a} {b} (Err w) d some gives faults = record {
+
+-- all was written
+pub gathers_all : {T E : Type 0} {D : DeskRelations} {P : Task} {m now : Machine} {held after : Option (List ℕ)} {room : List ℕ} {k l : ℕ} (u : T) → Gathers D P m now held after room
+    → room ≡ [] → CountsFaults {T = T} {E = E} k l (Ok u) → PerformedWithDesk {T = T} {E = E} D P m now held after k l (Ok u)
+gathers_all {held = held} {after} u f none faults = record {
   faults = faults;
-  shown = λ s g st known.
-      let x = d.shown s g st known in
-      let ps = talkers_to 64 s.account in
-      let there : ps ≡ [] → ⊥ = λ e. some (x.grew ∙ ap (log_bytes (epoch_of s.account.latest)) (none_out ps s x.state x.actions x.out x.whole.0.0 e)) in
-      let z = front_of (epoch_of s.account.latest) ps s x.state x.actions x.out x.whole.0.0 gives.front gives.rest (sym x.grew ∙ gives.parts) there in (
-        record {
-          done = z.done;
-          later = z.later;
-          all = x.out;
-          last = x.state;
-          whole = subst (λ ys. HearsTo 64 old new s ys x.out x.state) z.all x.whole.0;
-          goes = subst (λ ys. Steps s ys x.out x.state) z.all x.steps;
-          given = z.given;
-          next = z.next;
-          state = z.state;
-          steps = z.steps;
-          front = z.front;
-          rest = z.rest;
-          parts = z.parts;
-          appended = subst (Grows a b) z.is gives.appended;
-        },
-        (given_append D z.done z.later (subst (AreGiven D) z.all x.whole.1)).0,
-      );
+  shown = λ s g st.
+      let x = f.fills.shown s g st in
+      let is = sym (append-nil f.before) ∙ (ap (λ l. f.before ++ l) (sym none) ∙ x.grew) in record {
+        actions = x.actions;
+        out = x.out;
+        state = x.state;
+        whole = x.whole;
+        steps = x.steps;
+        stands = x.stands;
+        grew = subst (Grows held after) is f.grew;
+      };
 }
+
+behind_none : (a b : List ℕ) → a ++ b ≡ [] → b ≡ []
+behind_none [] b e = e
+behind_none (x ∷ a) b e = let no : ⊥ = cc e in absurd no
+
+-- what is in the room is cut off
+pub gathers_cut : {T E : Type 0} {D : DeskRelations} {P : Task} {m now : Machine} {held after behind : Option (List ℕ)} {room : List ℕ} {k l : ℕ} (w : E) → Gathers D P m now held after room
+    → (room ≡ [] → ⊥) × AppendsFront after behind room → CountsFaults {T = T} {E = E} k l (Err w) → PerformedWithDesk {T = T} {E = E} D P m now held behind k l (Err w)
+gathers_cut {D = D} {P} {held = held} {after} {behind} {room} w f cut faults = record {
+  faults = faults;
+  shown = λ s g st.
+      let x = f.fills.shown s g st in
+      let gives = cut.1 in
+      let n = epoch_of s.account.latest in
+      let there : x.out ≡ [] → ⊥ = λ none. cut.0 (behind_none f.before room (x.grew ∙ ap (log_bytes n) none)) in
+      let is : log_bytes n x.out ≡ (f.before ++ gives.front) ++ gives.rest =
+      sym x.grew ∙ (ap (λ l. f.before ++ l) gives.parts ∙ sym (append_assoc f.before gives.front gives.rest)) in
+      cut_at D P s x.state x.actions x.out (f.before ++ gives.front) gives.rest held behind g x.whole.0 x.whole.1 x.steps there is
+      (Grows-Grows held after behind f.before gives.front f.grew gives.appended);
+}
+
+-- all of what is in the room is written, or it is cut off
+pub passes_all : {T E : Type 0} (held after : Option (List ℕ)) (r : Result T E) (room rest : List ℕ) → (room ≡ [] → ⊥) → rest ≡ [] → Writes held after r room
+    → Passes held after r room rest
+passes_all held after (Ok u) room rest some none w = (room, sym (append-nil room) ∙ ap (λ l. room ++ l) (sym none), w)
+passes_all held after (Err e) room rest some none w = (some, w)

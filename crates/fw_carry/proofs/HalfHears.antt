@@ -1,7 +1,7 @@
 -- The half step in which a request stands: the node that it went to carries it out, and the controller hears the reply.
 use Rattle.std.proofs.Common.{◌≡◌, ◌&&◌, ◌==◌, Bool, true, false, ℕ, zero, suc, List, [], ◌∷◌, slice_set, Option, Some, None, unwrap_or, refl, ap, sym, subst, ◌∙◌, IsTrue, IsFalse}
 use Rattle.std.proofs.lemmas.List.{get_or-set_other, length-set}
-use Rattle.std.proofs.lemmas.Option.{same_Some, none-some}
+use Rattle.std.proofs.lemmas.Option.{same_Some}
 use Rattle.fw_base.specs.declared.device.DeviceKind.TheVariants.{Relay}
 use Rattle.fw_base.specs.declared.label.Label.TheVariants.{Procedure}
 use Rattle.fw_base.specs.Tables.{update}
@@ -15,7 +15,8 @@ use Rattle.fw_account.specs.Account.{Account}
 use Rattle.fw_account.specs.Words.{InputPlug, node_of, word_of}
 use Rattle.fw_cmp.specs.declared.request.Access.{Access}
 use Rattle.fw_cmp.specs.Controllers.{ControllerState}
-use Rattle.fw_cmp.specs.Requests.{offset_of, swap_of, standing_in, request_at, request_of}
+use Rattle.fw_cmp.specs.Requests.{offset_of, swap_of, standing_in, request_of}
+use Rattle.fw_csr.specs.Requests.{request_at}
 use Rattle.fw_cmp.specs.Resets.{heard as heard_then, after_hear}
 use Rattle.fw_step.specs.Lingering.{LingerUnchanged}
 use Rattle.fw_step.specs.Requests.{procedure_head}
@@ -38,7 +39,7 @@ use Rattle.fw_run.specs.Truth.{controller_at}
 use Rattle.fw_run.proofs.Apart.{controllers_of, all_hear}
 use Rattle.fw_machine.proofs.Heard.{quiet_here}
 use Rattle.fw_machine.specs.declared.machine.Machine.{Machine}
-use Rattle.fw_carry.specs.Doings.{Takes}
+use Rattle.fw_carry.specs.Performing.{TakesHalf}
 use Rattle.fw_machine.specs.Lingering.{HasLingering}
 use Rattle.fw_machine.specs.Stands.{HasNodes, StandsFor, is_living_in}
 use Rattle.fw_async.specs.Wire.{without}
@@ -246,7 +247,7 @@ pub takes_hears : (m : Machine) (n : Network) (k : ControllerTable) (d : ℕ) (a
     → IsTrue (is_living_in m d) → Awaits (states_of m.controllers d) → Sent m d a to device own packet response
     → n ≡ record m.devices { nodes = nodes_after m.devices.nodes device packet } → Some r ≡ reply_in response
     → IsTable k (count_of m.controllers) (update (states_of m.controllers) d (after_answer (states_of m.controllers d) r)) (dead_of m.controllers)
-    → Takes half m (record m { devices = n; controllers = k; wire = without own m.wire; streams = looked_at device n.nodes m.streams })
+    → TakesHalf half m (record m { devices = n; controllers = k; wire = without own m.wire; streams = looked_at device n.nodes m.streams })
     d (Some (Async response))
 takes_hears m n k d a to device own packet response r lives standing sent registers heard table = λ s g st.
     let z = answered_of m s d a to device own packet response g st lives standing sent in
@@ -257,8 +258,3 @@ takes_hears m n k d a to device own packet response r lives standing sent regist
       subst P (sym registers) (hears_stands m s k d a to device own packet response r g after st (quiet_here m s d st standing.0)
           (own_number m s d own g st lives sent.own_is) sent z heard table),
     )
-
--- the response has a reply
-pub no_reply : (m : Machine) (s : State) (d : ℕ) (a : Access) (to device : ℕ) (response : Packet) → Answered m s d a to device response
-    → None ≡ reply_in response → ⊥
-no_reply m s d a to device response z e = none-some _ (e ∙ z.reply_is)

@@ -10,7 +10,7 @@ use Rattle.fw_run.specs.Good.{IsGood}
 use Rattle.fw_run.proofs.Hears.{heard_of, half_hears, reply_heard, carried_bus}
 use Rattle.fw_run.proofs.HalfSteps.{half_good}
 use Rattle.fw_machine.specs.declared.machine.Machine.{Machine}
-use Rattle.fw_carry.specs.Doings.{Takes}
+use Rattle.fw_carry.specs.Performing.{TakesHalf}
 use Rattle.fw_machine.specs.Stands.{IsReady, is_living_in}
 use Rattle.fw_carry.proofs.HalfTurns.{asks_is, asks_leaves}
 use Rattle.fw_machine.specs.Tables.{states_of}
@@ -35,7 +35,7 @@ half_latest s d g lives = go (s.controllers d).current refl
         ∙ (ap (λ o. (unwrap_or o s.account).latest) h.leads ∙ (carried_bus d j stage (reply_heard s d j stage x) s.account).0)
 
 -- so the same controllers live
-pub living_stays : (m now : Machine) (d : ℕ) (e : Option Entry) → IsReady m → IsTrue (is_living_in m d) → IsFalse (states_of m.controllers d).lost → Takes half m now d e → (k : ℕ)
+pub living_stays : (m now : Machine) (d : ℕ) (e : Option Entry) → IsReady m → IsTrue (is_living_in m d) → IsFalse (states_of m.controllers d).lost → TakesHalf half m now d e → (k : ℕ)
     → is_living_in now k ≡ is_living_in m k
 living_stays m now d e ready lives quiet takes k =
     let s = ready.state in

@@ -8,7 +8,7 @@ use Rattle.fw_base.specs.Tables.{at_plug}
 use Rattle.fw_base.specs.declared.device.DeviceKind.TheVariants.{Relay}
 use Rattle.fw_base.specs.declared.plug.PlugAt.{PlugAt}
 use Rattle.fw_csr.specs.declared.request.Request.{Request}
-use Rattle.fw_csr.specs.declared.request.Swap.{Swap}
+use Rattle.fw_words.specs.declared.swap.Swap.{Swap}
 use Rattle.fw_csr.specs.Manager.{words_after}
 use Rattle.fw_account.specs.Account.{Account}
 use Rattle.fw_account.specs.Network.{is_output, is_input}
@@ -16,7 +16,8 @@ use Rattle.fw_account.specs.Words.{BandwidthAvailable, ChannelsAvailable, Output
 use Rattle.fw_cmp.specs.declared.request.Target.{Target}
 use Rattle.fw_cmp.specs.declared.request.Target.TheVariants as target
 use Rattle.fw_cmp.specs.Controllers.{ControllerState}
-use Rattle.fw_cmp.specs.Requests.{offset_of, request_at}
+use Rattle.fw_cmp.specs.Requests.{offset_of}
+use Rattle.fw_csr.specs.Requests.{request_at}
 use Rattle.fw_step.specs.Registers.{register_at, stands}
 use Rattle.fw_node.specs.Space.{space_after}
 use Rattle.fw_node.specs.State.{NodeState, HasSpace, first_state, after_request}

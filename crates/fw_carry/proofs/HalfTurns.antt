@@ -39,7 +39,7 @@ use Rattle.fw_run.specs.Truth.{controller_at}
 use Rattle.fw_run.proofs.Apart.{controllers_of, all_turn}
 use Rattle.fw_machine.proofs.Heard.{heard_here, quiet_here, next_same}
 use Rattle.fw_machine.specs.declared.machine.Machine.{Machine}
-use Rattle.fw_carry.specs.Doings.{Takes}
+use Rattle.fw_carry.specs.Performing.{TakesHalf}
 use Rattle.fw_machine.specs.Lingering.{HasLingering}
 use Rattle.fw_machine.specs.Stands.{HasNodes, HasDecks, StandsFor, IsReady, is_living_in, manager_device}
 use Rattle.fw_async.specs.Wire.{Pairs}
@@ -199,7 +199,7 @@ pub takes_asks : (m : Machine) (k : ControllerTable) (w : Pairs) (d : ℕ) (e : 
     (update (states_of m.controllers) d (after_turn m.cycle m.directory (states_of m.controllers d))) (dead_of m.controllers)
     → ((s : State) → IsGood s → StandsFor m s → e ≡ said s d (turn_of m.cycle m.directory (states_of m.controllers d)))
     → ((s : State) → IsGood s → StandsFor m s → HasWire w (after_half s d))
-    → Takes half m (record m { controllers = k; wire = w }) d e
+    → TakesHalf half m (record m { controllers = k; wire = w }) d e
 takes_asks m k w d e lives heard table says wires = λ s g st.
     let own : IsHeard (s.controllers d).current = heard_here m s d st heard in
     let living = sym (living_same m s d g st) ∙ lives in
@@ -228,7 +228,7 @@ rests_says s d x (inr (inr (inr is))) = sym (ap (said s d) is)
 -- ---- what a half step leaves
 
 -- what is written fits the log
-pub entry_fits : (m now : Machine) (d : ℕ) (e : Option Entry) → IsReady m → IsTrue (is_living_in m d) → Takes half m now d e → EntryFits e
+pub entry_fits : (m now : Machine) (d : ℕ) (e : Option Entry) → IsReady m → IsTrue (is_living_in m d) → TakesHalf half m now d e → EntryFits e
 entry_fits m now d e ready lives takes =
     let s = ready.state in
     let living = sym (living_same m s d ready.good ready.stands) ∙ lives in

@@ -1,9 +1,8 @@
 -- The wire after a half step in which no request stands: a request that goes out is put there.
 use Rattle.std.proofs.Common.{◌≡◌, ℕ, ◌<◌, List, [], ◌∷◌, ◌++◌, true, false, option_map, Option, Some, None, refl, ap, sym, subst, ◌∙◌, arith, IsTrue}
-use Rattle.std.proofs.lemmas.Option.{same_Some, none-some}
+use Rattle.std.proofs.lemmas.Option.{same_Some}
 use Rattle.fw_async.specs.declared.packet.Packet.{Packet}
 use Rattle.fw_async.specs.Async.{spelling, Fits}
-use Rattle.fw_async.specs.Reader.{Spells}
 use Rattle.fw_base.specs.declared.label.Label.TheVariants.{Procedure}
 use Rattle.fw_base.specs.Tables.{update}
 use Rattle.fw_entry.specs.declared.entry.Entry.TheVariants.{Async}
@@ -32,7 +31,7 @@ use Rattle.fw_run.proofs.Turns.{living_linked}
 use Rattle.fw_cmp.specs.Losses.{turn_of, after_turn}
 use Rattle.fw_machine.proofs.Heard.{heard_here, next_same}
 use Rattle.fw_machine.specs.declared.machine.Machine.{Machine}
-use Rattle.fw_carry.specs.Doings.{Takes}
+use Rattle.fw_carry.specs.Performing.{TakesHalf}
 use Rattle.fw_machine.specs.Stands.{StandsFor, IsReady, is_living_in}
 use Rattle.fw_machine.specs.Tables.{ControllerTable, IsTable, count_of, states_of, dead_of, Listens}
 use Rattle.fw_machine.specs.Wires.{HasWire, packet_for}
@@ -41,7 +40,7 @@ use Rattle.fw_machine.proofs.Latest.{on_number}
 use Rattle.fw_machine.proofs.Living.{living_same}
 use Rattle.fw_machine.proofs.Nodes.{linked_on, number_of_node, on_within}
 use Rattle.fw_machine.proofs.Standing.{directory_same}
-use Rattle.fw_machine.proofs.Wires.{Becomes, stands_at, put_own, wire_put, wire_kept}
+use Rattle.fw_machine.proofs.Wires.{Becomes, stands_at, wire_put, wire_kept}
 
 -- ---- what a controller that answers is at then
 
@@ -170,7 +169,7 @@ pub record Sends (m : Machine) (d to own : ℕ) (k : ControllerTable) (q : Reque
   pub packet : p ≡ packet_of (request_head own to Procedure) q
 
 pub sends_takes : {m : Machine} {d to own : ℕ} {k : ControllerTable} {q : Request} {p : Packet} → Sends m d to own k q p
-    → Takes half m (record m { controllers = k; wire = m.wire ++ (own, spelling p) ∷ [] }) d (Some (Async p))
+    → TakesHalf half m (record m { controllers = k; wire = m.wire ++ (own, spelling p) ∷ [] }) d (Some (Async p))
 sends_takes {m} {d} {to} {own} {k} {q} {p} x =
     takes_asks m k (m.wire ++ (own, spelling p) ∷ []) d (Some (Async p)) x.lives x.heard x.table
     (λ s g st. request_says m s d to own q p (turn_of m.cycle m.directory (states_of m.controllers d)) g st x.lives x.says x.number x.packet)
@@ -182,13 +181,3 @@ sends_fits {m} {d} {to} {own} {k} {q} {p} ready x =
 
 pub sends_free : {m : Machine} {d to own : ℕ} {k : ControllerTable} {q : Request} {p : Packet} → IsReady m → Sends m d to own k q p → bytes_from own m.wire ≡ None
 sends_free {m} {d} {to} {own} r x = own_free m r.state d own r.good r.stands x.heard (own_number m r.state d own r.good r.stands x.lives x.number)
-
--- the bytes that are found there then
-pub sends_found : {m : Machine} {d to own : ℕ} {k : ControllerTable} {q : Request} {p : Packet} (bytes : List ℕ) → IsReady m → Sends m d to own k q p
-    → Some bytes ≡ bytes_from own (m.wire ++ (own, spelling p) ∷ []) → Spells p bytes
-sends_found {m} {own = own} {p = p} bytes ready x found =
-    record { fits = sends_fits ready x; same = same_Some (spelling p) bytes (sym (put_own m.wire own (spelling p) (sends_free ready x)) ∙ sym found) }
-
-pub sends_some : {m : Machine} {d to own : ℕ} {k : ControllerTable} {q : Request} {p : Packet} → IsReady m → Sends m d to own k q p
-    → None ≡ bytes_from own (m.wire ++ (own, spelling p) ∷ []) → ⊥
-sends_some {m} {own = own} {p = p} ready x e = none-some (spelling p) (e ∙ put_own m.wire own (spelling p) (sends_free ready x))

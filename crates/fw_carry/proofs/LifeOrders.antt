@@ -12,7 +12,7 @@ use Rattle.fw_run.specs.Carrying.{Carries, dies, dies_late, dies_idle, starts, g
 use Rattle.fw_run.specs.Good.{IsGood}
 use Rattle.fw_run.proofs.Settling.{half_turn}
 use Rattle.fw_machine.specs.declared.machine.Machine.{Machine}
-use Rattle.fw_carry.specs.Doings.{Acts}
+use Rattle.fw_carry.specs.Performing.{Performs}
 use Rattle.fw_machine.specs.Stands.{StandsFor, is_living_in}
 use Rattle.fw_machine.specs.Tables.{states_of, dead_of}
 use Rattle.fw_carry.proofs.Doings.{Follows, GoesOn, acts_follow, one_step}
@@ -24,20 +24,20 @@ use Rattle.fw_machine.proofs.Heard.{may_rest}
 
 -- the order, where no request is to be carried out
 pub dies_at : (m : Machine) (d : ℕ) (late : Bool) → (late ≡ true → MayTurn (states_of m.controllers d))
-    → (s t : State) (xs : List Action) (out : List Timed) → IsGood s → StandsFor m s → Acts (Die d ∷ []) s xs out t → Steps s xs out t
+    → (s t : State) (xs : List Action) (out : List Timed) → IsGood s → StandsFor m s → Performs (Die d ∷ []) s xs out t → Steps s xs out t
     → Carries s (Orders.Die d late) xs out t
 dies_at m d false quiet s t xs out g st f p = subst (λ z. Carries s (Orders.Die d false) z out t) (sym f.0) (dies f.1)
 dies_at m d true quiet s t xs out g st f p =
     subst (λ z. Carries s (Orders.Die d true) z out t) (sym f.0) (dies_idle (may_rest m s d g st (quiet refl)) f.1)
 
 -- the request is carried out, and then it dies
-pub late_follows : (m : Machine) (d : ℕ) → Follows m (Acts (CarryOut d ∷ [])) (Acts (Die d ∷ [])) (λ s. Carries s (Orders.Die d true))
+pub late_follows : (m : Machine) (d : ℕ) → Follows m (Performs (CarryOut d ∷ [])) (Performs (Die d ∷ [])) (λ s. Carries s (Orders.Die d true))
 late_follows m d s mid t xs ys a b good st f p g q =
     let both = acts_follow {m = m} (CarryOut d ∷ []) (Die d ∷ []) s mid t xs ys a b good st f p g q in
     subst (λ z. Carries s (Orders.Die d true) z (a ++ b) t) (sym both.0) (dies_late both.1)
 
 -- it can die once the request is carried out
-pub late_goes : (m : Machine) (d : ℕ) → IsTrue (is_living_in m d) → GoesOn m (Acts (CarryOut d ∷ [])) (λ s. Carries s (Orders.Die d true))
+pub late_goes : (m : Machine) (d : ℕ) → IsTrue (is_living_in m d) → GoesOn m (Performs (CarryOut d ∷ [])) (λ s. Carries s (Orders.Die d true))
 late_goes m d lives s u xs a g st f p =
     let living : IsTrue (is_living s d) = subst IsTrue (living_same m s d g st) lives in
     let still = (half_turn s d g living).1 in
@@ -55,7 +55,7 @@ late_goes m d lives s u xs a g st f p =
 
 -- ---- what a start is
 
-pub starts_at : (d : ℕ) (s t : State) (xs : List Action) (out : List Timed) → Acts (Start d ∷ []) s xs out t → Carries s (Orders.Start d) xs out t
+pub starts_at : (d : ℕ) (s t : State) (xs : List Action) (out : List Timed) → Performs (Start d ∷ []) s xs out t → Carries s (Orders.Start d) xs out t
 starts_at d s t xs out f = subst (λ z. Carries s (Orders.Start d) z out t) (sym f.0) (starts f.1)
 
 -- a living controller goes on

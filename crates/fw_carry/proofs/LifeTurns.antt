@@ -22,7 +22,7 @@ use Rattle.fw_run.specs.Good.{IsGood}
 use Rattle.fw_run.proofs.Counting.{deaths_keep}
 use Rattle.fw_run.proofs.Turns.{living_linked}
 use Rattle.fw_machine.specs.declared.machine.Machine.{Machine}
-use Rattle.fw_carry.specs.Doings.{Turns, Takes}
+use Rattle.fw_carry.specs.Performing.{TakesAction, TakesHalf}
 use Rattle.fw_machine.specs.Stands.{StandsFor, is_linked_in, is_living_in}
 use Rattle.fw_machine.specs.Tables.{ControllerTable, IsTable, count_of, states_of, dead_of}
 use Rattle.fw_async.specs.Wire.{Pairs, without}
@@ -113,7 +113,7 @@ connected d w c = update c d (with_state (c d) (given (start_of d w (c d).state)
 pub connect_turns : (m : Machine) (table : ControllerTable) (d : ℕ) (w : Wanted)
     → IsTrue (is_living_in m d) → SlotFits (slot_of w) → IsOk (start_of d w (states_of m.controllers d).state)
     → IsTable table (count_of m.controllers) (connected d w (states_of m.controllers)) (dead_of m.controllers)
-    → Turns (StartConnection d w) m (record m { controllers = table }) m.cycle None
+    → TakesAction (StartConnection d w) m (record m { controllers = table }) m.cycle None
 connect_turns m table d w lives slot ok is = record {
   shown = λ s g st.
       let same : start_of d w (states_of m.controllers d).state ≡ start_of d w (s.controllers d) = ap (λ (c : Listening). start_of d w c.state) (at_same m s d st) ∙ start_same d w (s.controllers d) (s.lost d) in
@@ -137,7 +137,7 @@ broken d i c = update c d (with_state (c d) (break_started (c d).state i))
 
 pub break_turns : (m : Machine) (table : ControllerTable) (d i : ℕ) → IsTrue (is_living_in m d) → break_fault (states_of m.controllers d).state i ≡ None
     → IsTable table (count_of m.controllers) (broken d i (states_of m.controllers)) (dead_of m.controllers)
-    → Turns (StartBreak d i) m (record m { controllers = table }) m.cycle None
+    → TakesAction (StartBreak d i) m (record m { controllers = table }) m.cycle None
 break_turns m table d i lives ok is = record {
   shown = λ s g st.
       let same : break_fault (states_of m.controllers d).state i ≡ break_fault (s.controllers d) i = ap (λ (c : Listening). break_fault c.state i) (at_same m s d st) ∙ breaks_as s d i in
@@ -171,7 +171,7 @@ pub death_turns : (m : Machine) (table : ControllerTable) (left : CandidateTable
     → e ≡ died d
     → IsTable table (count_of m.controllers) (renewed d (states_of m.controllers)) (marked d true (dead_of m.controllers))
     → ((x : Election) → HasElection m.candidates (candidates_of m.candidates) x → HasElection left (candidates_of m.candidates) (with_candidate x d None))
-    → Turns (Die d) m (record m { controllers = table; wire = without own m.wire; candidates = left; bids = without own m.bids }) m.cycle (Some e)
+    → TakesAction (Die d) m (record m { controllers = table; wire = without own m.wire; candidates = left; bids = without own m.bids }) m.cycle (Some e)
 death_turns m table left d own e lives number entry is leaves = record {
   shown = λ s g st.
       let living : IsTrue (is_living s d) = subst IsTrue (living_same m s d g st) lives in
@@ -206,7 +206,7 @@ unused s d g dead = g.unused d (off (is_linked s d) (s.dead d) dead)
 pub start_turns : (m : Machine) (table : ControllerTable) (d : ℕ) (e : Entry)
     → IsTrue (is_linked_in m.devices d) → IsTrue (dead_of m.controllers d) → e ≡ started d
     → IsTable table (count_of m.controllers) (renewed d (states_of m.controllers)) (marked d false (dead_of m.controllers))
-    → Turns (Start d) m (record m { controllers = table }) m.cycle (Some e)
+    → TakesAction (Start d) m (record m { controllers = table }) m.cycle (Some e)
 start_turns m table d e on was entry is = record {
   shown = λ s g st.
       let linked : IsTrue (is_linked s d) = subst IsTrue (linked_same m.devices s d g st.devices) on in
@@ -231,7 +231,7 @@ start_turns m table d e on was entry is = record {
 
 -- it is carried out
 pub carry_turns : (m now : Machine) (d : ℕ) (e : Option Entry)
-    → IsTrue (is_living_in m d) → Awaits (states_of m.controllers d) → Takes half m now d e → Turns (CarryOut d) m now m.cycle e
+    → IsTrue (is_living_in m d) → Awaits (states_of m.controllers d) → TakesHalf half m now d e → TakesAction (CarryOut d) m now m.cycle e
 carry_turns m now d e lives stands takes = record {
   shown = λ s g st.
       let living : IsTrue (is_living s d) = subst IsTrue (living_same m s d g st) lives in

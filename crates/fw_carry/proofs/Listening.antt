@@ -43,10 +43,6 @@ recording_codes RecordPause ne = refl
 
 -- ---- nothing is recorded
 
--- none is tied
-pub none_tied : (m : Machine) (s : State) → StandsFor m s → m.tied ≡ None → recording_in s ≡ None
-none_tied m s st none = ap (recording_by s) (sym st.beside.reel.tied_is ∙ none)
-
 -- one of these does not hold
 off_records : (s : State) (d : ℕ) → records s d ≡ false → recording_of s d ≡ None
 off_records s d off = ap (λ b. cond b (Some (record { channel = s.account.input_channel (at_plug d 0); limit = room_of (tape_in s d); block = None })) None) off

@@ -24,7 +24,7 @@ use Rattle.fw_run.specs.Truth.{controller_at}
 use Rattle.fw_run.proofs.Apart.{all_lose}
 use Rattle.fw_run.proofs.Turns.{living_linked, update_new}
 use Rattle.fw_machine.specs.declared.machine.Machine.{Machine}
-use Rattle.fw_carry.specs.Doings.{Acts, Turns}
+use Rattle.fw_carry.specs.Performing.{Performs, TakesAction}
 use Rattle.fw_machine.specs.Stands.{IsReady, StandsFor, is_living_in}
 use Rattle.fw_machine.specs.Streaming.{looked_at}
 use Rattle.fw_machine.specs.Tables.{ControllerTable, IsTable, count_of, states_of, dead_of}
@@ -75,7 +75,7 @@ pub loses_turns : (m : Machine) (n : Network) (k : ControllerTable) (d : ℕ) (a
     → IsTrue (is_living_in m d) → Awaits (states_of m.controllers d) → m.resets < 10000 → Sent m d a to device own packet response
     → n ≡ record m.devices { nodes = nodes_after m.devices.nodes device packet } → Some r ≡ reply_in response
     → IsTable k (count_of m.controllers) (update (states_of m.controllers) d (unheard (states_of m.controllers d))) (dead_of m.controllers)
-    → Turns (Lose d) m (record m { devices = n; controllers = k; wire = without own m.wire; streams = looked_at device n.nodes m.streams; resets = m.resets + 1 }) m.cycle (Some (Async response))
+    → TakesAction (Lose d) m (record m { devices = n; controllers = k; wire = without own m.wire; streams = looked_at device n.nodes m.streams; resets = m.resets + 1 }) m.cycle (Some (Async response))
 loses_turns m n k d a to device own packet response r lives standing few sent registers heard table = record {
   shown = λ s g st.
       let living : IsTrue (is_living s d) = sym (living_same m s d g st) ∙ lives in
@@ -102,11 +102,11 @@ unheard_there m k d within table = ap (λ (c : ℕ → Listening). (c d).lost) t
 -- what the machine did once the request was carried out
 pub served_loses : (m now : Machine) (k : ControllerTable) (d : ℕ) (bytes : List ℕ) (r : Reply) → IsTrue (is_living_in m d) → Awaits (states_of m.controllers d) → m.resets < 10000
     → (s : Serves m now d bytes r) → IsTable k (count_of now.controllers) (update (states_of now.controllers) d (unheard (states_of now.controllers d))) (dead_of now.controllers)
-    → Turns (Lose d) m (record now { controllers = k; resets = now.resets + 1 }) now.cycle (Some (Async s.response))
+    → TakesAction (Lose d) m (record now { controllers = k; resets = now.resets + 1 }) now.cycle (Some (Async s.response))
 served_loses m now k d bytes r lives stands few s table =
     let P : Machine → Type 0 = λ v.
     IsTable k (count_of v.controllers) (update (states_of v.controllers) d (unheard (states_of v.controllers d))) (dead_of v.controllers)
-    → Turns (Lose d) m (record v { controllers = k; resets = v.resets + 1 }) v.cycle (Some (Async s.response)) in
+    → TakesAction (Lose d) m (record v { controllers = k; resets = v.resets + 1 }) v.cycle (Some (Async s.response)) in
     subst P (sym s.after) (λ t. loses_turns m _ k d s.access s.to s.device s.own s.packet s.response r lives stands few s.sent refl (sym s.carries) t) table
 
 pub served_unheard : (m now : Machine) (k : ControllerTable) (d : ℕ) (bytes : List ℕ) (r : Reply) → IsReady m → IsTrue (is_living_in m d) → Serves m now d bytes r
@@ -115,13 +115,13 @@ served_unheard m now k d bytes r ready lives s table = unheard_there now k d (se
 
 -- ---- and the event
 
-pub tells_turns : (m : Machine) (d : ℕ) → IsTrue (states_of m.controllers d).lost → Turns (TellLoss d) m m m.cycle (Some (lost d))
+pub tells_turns : (m : Machine) (d : ℕ) → IsTrue (states_of m.controllers d).lost → TakesAction (TellLoss d) m m m.cycle (Some (lost d))
 tells_turns m d deaf = record {
   shown = λ s g st. (record s { account = entered s.account (lost d) }, (st.answered, (sym (lost_same m s d st) ∙ deaf, ap (λ c. at_most c (Some (lost d))) st.clock.cycle, refl)), st);
 }
 
 -- one after the other is the order
-pub loses_follows : (m : Machine) (d : ℕ) → Follows m (Acts (Lose d ∷ [])) (Acts (TellLoss d ∷ [])) (λ s. Carries s (Orders.Lose d))
+pub loses_follows : (m : Machine) (d : ℕ) → Follows m (Performs (Lose d ∷ [])) (Performs (TellLoss d ∷ [])) (λ s. Carries s (Orders.Lose d))
 loses_follows m d s mid t xs ys a b good st f p g q =
     let both = acts_follow {m = m} (Lose d ∷ []) (TellLoss d ∷ []) s mid t xs ys a b good st f p g q in
     subst (λ z. Carries s (Orders.Lose d) z (a ++ b) t) (sym both.0) (loses both.1)
@@ -133,7 +133,7 @@ request_stage (Asking j stage) on = absurd (grind (arith, on))
 request_stage (Hearing j stage) on = refl
 request_stage (Overtaken i o) on = absurd (grind (arith, on))
 
-pub loses_goes : (m : Machine) (d : ℕ) → GoesOn m (Acts (Lose d ∷ [])) (λ s. Carries s (Orders.Lose d))
+pub loses_goes : (m : Machine) (d : ℕ) → GoesOn m (Performs (Lose d ∷ [])) (λ s. Carries s (Orders.Lose d))
 loses_goes m d s u xs a g st f p =
     let is : u ≡ after_loss s d = f.1.5.1 ∙ f.1.3.1.4 in
     let kept : is_deaf (after_loss s d) d ≡ true = ap is_some (update_new s.lost d (stage_of (s.controllers d).current)) ∙ request_stage (s.controllers d).current f.1.3.1.1 in

@@ -21,7 +21,7 @@ use Rattle.fw_machine.specs.Orders.{joins_in}
 use Rattle.fw_carry.specs.Resetting.{BeginsReset, GivesReset}
 use Rattle.fw_machine.specs.Lingering.{HasLingering}
 use Rattle.fw_machine.specs.Stands.{StandsFor, HasNodes, HasDecks, IsReady}
-use Rattle.fw_carry.specs.Doings.{Turns, Does, Acts}
+use Rattle.fw_carry.specs.Performing.{TakesAction, Performed, Performs}
 use Rattle.fw_machine.proofs.DeckNodes.{decks_same}
 use Rattle.fw_machine.proofs.Lingers.{lingering_same}
 use Rattle.fw_machine.proofs.Nodes.{SameNodes, is_node_same, nodes_same}
@@ -104,7 +104,7 @@ joins_by m s devices a b x y out t g st j joins =
 -- where one end is on the bus and the other is off, the end on the bus begins a bus reset
 join_resets : (m now : Machine) (devices : Network) (a b : End) (x y : Bool) (i : ℕ) → IsCable m devices a b x y → m.resets < 10000
     → ((s : State) (out : List Timed) (t : State) → Begins s i out t → Joins x y a.device b.device s out t) → IsTrue (is_node m.devices.nodes i)
-    → BeginsReset (counting_in (with_devices m devices)) now i → Turns (AddCable a b) m now m.cycle (Some (Reset now.devices.latest))
+    → BeginsReset (counting_in (with_devices m devices)) now i → TakesAction (AddCable a b) m now m.cycle (Some (Reset now.devices.latest))
 join_resets m now devices a b x y i j few joins node begins = record { shown = shown_ }
   where
     shown_ : (s : State) → IsGood s → StandsFor m s
@@ -131,7 +131,7 @@ join_resets m now devices a b x y i j few joins node begins = record { shown = s
 
 -- where both are off nothing else happens; both on the bus they cannot be
 pub join_silent : (m : Machine) (devices : Network) (a b : End) (x y : Bool) → IsCable m devices a b x y → ((s : State) → Joins x y a.device b.device s [] s)
-    → Turns (AddCable a b) m (with_devices m devices) m.cycle None
+    → TakesAction (AddCable a b) m (with_devices m devices) m.cycle None
 join_silent m devices a b x y j joins = record { shown = shown_ }
   where
     shown_ : (s : State) → IsGood s → StandsFor m s → (t : State) × Step s (AddCable a b) [] t × StandsFor (with_devices m devices) t
@@ -144,7 +144,7 @@ join_silent m devices a b x y j joins = record { shown = shown_ }
 pub join_does : {T E : Type 0} {held after : Option (List ℕ)} {k l : ℕ}
     (m now : Machine) (devices : Network) (a b : End) (x y : Bool) (i : ℕ) (r : Result T E) → IsCable m devices a b x y → m.resets < 10000
     → ((s : State) (out : List Timed) (t : State) → Begins s i out t → Joins x y a.device b.device s out t) → IsTrue (is_node m.devices.nodes i)
-    → GivesReset (counting_in (with_devices m devices)) now i held after k l r → Does (Acts (AddCable a b ∷ [])) m now held after k l r
+    → GivesReset (counting_in (with_devices m devices)) now i held after k l r → Performed (Performs (AddCable a b ∷ [])) m now held after k l r
 join_does m now devices a b x y i r j few joins node h =
     does_one m.cycle (Some (Reset now.devices.latest)) r (join_resets m now devices a b x y i j few joins node h.begins) h.gives h.faults
 

@@ -20,7 +20,7 @@ use Rattle.fw_carry.specs.Resetting.{BeginsReset, GivesReset}
 use Rattle.fw_machine.specs.Lingering.{HasLingering}
 use Rattle.fw_machine.specs.Stands.{StandsFor, HasNodes, HasDecks, IsReady}
 use Rattle.fw_machine.specs.Tables.{ControllerTable, IsTable, count_of, states_of, dead_of}
-use Rattle.fw_carry.specs.Doings.{Turns, Does, Acts}
+use Rattle.fw_carry.specs.Performing.{TakesAction, Performed, Performs}
 use Rattle.fw_machine.proofs.DeckNodes.{decks_declared}
 use Rattle.fw_machine.proofs.Lingers.{lingering_declared}
 use Rattle.fw_machine.proofs.Nodes.{nodes_declared}
@@ -122,7 +122,7 @@ may_declare m s ports speed g st may = record {
 -- the first device begins the first bus reset
 first_turns : (m now : Machine) (table : ControllerTable) (more_table : CandidateTable) (name : List ℕ) (kind : DeviceKind) (ports speed : ℕ) → m.devices.names ≡ [] → MayAdd m ports speed
     → IsOneMore m table → IsCandidateMore m more_table → m.devices.epoch < 10000
-    → BeginsReset (record (with_device_in m table more_table name kind ports speed) { resets = 1 }) now 0 → Turns (AddDevice name kind ports speed) m now m.cycle (Some (Reset now.devices.latest))
+    → BeginsReset (record (with_device_in m table more_table name kind ports speed) { resets = 1 }) now 0 → TakesAction (AddDevice name kind ports speed) m now m.cycle (Some (Reset now.devices.latest))
 first_turns m now table more_table name kind ports speed none may more extra few b = record { shown = shown_ }
   where
     new : Machine
@@ -154,7 +154,7 @@ first_turns m now table more_table name kind ports speed none may more extra few
 -- any other is off
 pub later_turns : (m : Machine) (table : ControllerTable) (more_table : CandidateTable) (name : List ℕ) (kind : DeviceKind) (ports speed : ℕ) → 0 < length m.devices.names
     → MayAdd m ports speed → IsOneMore m table → IsCandidateMore m more_table
-    → Turns (AddDevice name kind ports speed) m (with_device_in m table more_table name kind ports speed) m.cycle None
+    → TakesAction (AddDevice name kind ports speed) m (with_device_in m table more_table name kind ports speed) m.cycle None
 later_turns m table more_table name kind ports speed there may more extra = record { shown = shown_ }
   where
     declares : (names : List (List ℕ)) (s : State) → 0 < length names → Declares names s [] s
@@ -176,7 +176,7 @@ pub first_does : {T E : Type 0} {held after : Option (List ℕ)} {k l : ℕ}
     (m now : Machine) (table : ControllerTable) (more_table : CandidateTable) (name : List ℕ) (kind : DeviceKind) (ports speed : ℕ) (r : Result T E)
     → m.devices.names ≡ [] → MayAdd m ports speed → IsOneMore m table → IsCandidateMore m more_table → m.devices.epoch < 10000
     → GivesReset (record (with_device_in m table more_table name kind ports speed) { resets = 1 }) now 0 held after k l r
-    → Does (Acts (AddDevice name kind ports speed ∷ [])) m now held after k l r
+    → Performed (Performs (AddDevice name kind ports speed ∷ [])) m now held after k l r
 first_does m now table more_table name kind ports speed r none may more extra few h =
     does_one m.cycle (Some (Reset now.devices.latest)) r (first_turns m now table more_table name kind ports speed none may more extra few h.begins) h.gives h.faults
 

@@ -1,6 +1,6 @@
--- A cycle that comes and is written, or is cut off.
-use Rattle.std.proofs.Common.{◌≡◌, ℕ, ◌+◌, ◌%◌, ◌<◌, ◌==◌, ◌&&◌, cond, List, [], ◌∷◌, ◌++◌, length, Bool, true, false, Option, Some, None, is_some, option_map, refl, ap, sym, subst, ◌∙◌, arith, append_assoc, append-nil, IsTrue}
-use Rattle.std.specs.Prelude.{Ok, Err, IsErr}
+-- A cycle that comes and is written: what it leaves, and what a deck records of it.
+use Rattle.std.proofs.Common.{◌≡◌, ℕ, ◌+◌, ◌%◌, ◌<◌, ◌==◌, ◌&&◌, cond, List, [], ◌∷◌, ◌++◌, length, Bool, true, false, Option, Some, None, is_some, option_map, refl, ap, sym, subst, ◌∙◌, arith, append-nil, IsTrue}
+use Rattle.std.specs.Prelude.{Ok}
 use Rattle.std.specs.declared.result.Result.{Result}
 use Rattle.std.proofs.lemmas.Option.{same_Some}
 use Rattle.fw_async.specs.declared.packet.Packet.{Packet}
@@ -14,28 +14,27 @@ use Rattle.fw_dub.specs.Reels.{kept}
 use Rattle.fw_run.specs.Carrying.{next_cycle, HasCycle, KeepsCycle}
 use Rattle.fw_run.specs.Desks.{DeskRelations}
 use Rattle.fw_run.specs.Given.{AreGiven}
-use Rattle.fw_run.specs.Giving.{at_most, Gives}
+use Rattle.fw_run.specs.Giving.{GivesEntry}
 use Rattle.fw_run.specs.Good.{IsGood, IsLatest}
 use Rattle.fw_run.specs.State.{State}
 use Rattle.fw_run.specs.Streams.{cycle_start, talkers}
 use Rattle.fw_run.proofs.Bounds.{few_rows}
-use Rattle.fw_run.proofs.CanWrite.{can_send, talkers_talk}
 use Rattle.fw_run.proofs.Counting.{counts_before, packets_are}
 use Rattle.fw_run.proofs.Around.{step_beside}
 use Rattle.fw_run.proofs.Recorded.{begins_quiet}
-use Rattle.fw_run.proofs.Runs.{steps_then, packets_steps}
 use Rattle.fw_run.proofs.Steps.{steps_good}
 use Rattle.fw_machine.specs.declared.machine.Machine.{Machine}
-use Rattle.fw_carry.specs.Cycling.{HadSent, Comes, Begins, HearsTo, Hears, WritesHeard, WritesCycle, DoesWhere, heard_among, unheard, block_in, reel_after, recording_of, recording_by, recording_in}
+use Rattle.fw_carry.specs.Cycling.{HadSent, Comes, Begins, HearsTo, HearsBlock, WritesHeard, WritesCycle, PerformedWhere, heard_among, unheard, block_in, reel_after, recording_of, recording_by, recording_in}
 use Rattle.fw_carry.specs.declared.dubs.Recording.{Recording}
-use Rattle.fw_carry.specs.Doings.{Acts, Does, Turns}
+use Rattle.fw_carry.specs.Performing.{Performs, Performed, TakesAction}
 use Rattle.fw_machine.specs.Faults.{CountsFaults}
-use Rattle.fw_carry.specs.Framing.{DoesBy}
+use Rattle.fw_carry.specs.Filling.{Fills}
+use Rattle.fw_carry.specs.Framing.{PerformedWithDesk}
 use Rattle.fw_machine.specs.Stands.{IsReady, StandsFor}
 use Rattle.fw_machine.specs.Streaming.{count_at}
 use Rattle.fw_carry.proofs.CycleTurns.{HasCome, has_come, start_turns, started}
-use Rattle.fw_carry.proofs.Desks.{LeadsTo, by_where, does_given, where_by, where_cut, where_then, where_when}
-use Rattle.fw_carry.proofs.Doings.{Follows, GoesOn, acts_follow, does_one, does_then, no_faults, one_step}
+use Rattle.fw_carry.proofs.Desks.{LeadsTo, by_where, does_given, where_by, where_then, where_when}
+use Rattle.fw_carry.proofs.Doings.{Follows, acts_follow, does_one, does_then, no_faults, one_step}
 use Rattle.fw_machine.proofs.Standing.{devices_same}
 use Rattle.fw_outside.proofs.Parts.{Grows-nothing}
 
@@ -53,7 +52,7 @@ given_next D s xs f = go (s.account.reclaiming && (s.clock.cycle + 1 == s.clock.
     go false = (tt, f)
 
 -- and then its cycle start is written
-pub begin_follows : {m : Machine} → Follows m Comes (Acts (StartCycle ∷ [])) Begins
+pub begin_follows : {m : Machine} → Follows m Comes (Performs (StartCycle ∷ [])) Begins
 begin_follows {m} s mid t xs ys a b g st p f q h = acts_follow {m = m} (next_cycle s ∷ []) (StartCycle ∷ []) s mid t xs ys a b g st p f q h
 
 -- what is left then
@@ -73,13 +72,9 @@ begun s t xs out p =
     let come = has_come s f.2 f.0 f.3 in
     record { mid = f.2; came = come; out = f.0; step = f.3; entry = x.1.0; latest = sym come.latest ∙ x.1.1; state_is = f.5.5.1 ∙ x.2 }
 
-begins_given : {T E : Type 0} {D : DeskRelations} {m now : Machine} {a b : Option (List ℕ)} {k l : ℕ} {r : Result T E} → Does Begins m now a b k l r
-    → DoesBy D Begins m now a b k l r
+begins_given : {T E : Type 0} {D : DeskRelations} {m now : Machine} {a b : Option (List ℕ)} {k l : ℕ} {r : Result T E} → Performed Begins m now a b k l r
+    → PerformedWithDesk D Begins m now a b k l r
 begins_given {D = D} f = does_given (λ s t xs out p. subst (AreGiven D) (sym p.0) (given_next D s (StartCycle ∷ []) (tt, tt))) f
-
-comes_given : {T E : Type 0} {D : DeskRelations} {m now : Machine} {a b : Option (List ℕ)} {k l : ℕ} {r : Result T E} → Does Comes m now a b k l r
-    → DoesBy D Comes m now a b k l r
-comes_given {D = D} f = does_given (λ s t xs out p. subst (AreGiven D) (sym p.0) (given_next D s [] tt)) f
 
 -- ---- one cycle
 
@@ -112,7 +107,7 @@ root_few {m} root r is =
 
 -- the limit of written cycles is not passed
 begin_few : {T E : Type 0} {m mid : Machine} {a b : Option (List ℕ)} {k l : ℕ} {u : T} (root : ℕ) → IsReady m → (0 < length m.devices.nodes → m.written < 8000)
-    → Does {T = T} {E = E} Comes m mid a b k l (Ok u) → ((s : State) → IsGood s → StandsFor mid s → root_of s.account.latest ≡ Some root) → mid.written < 8000
+    → Performed {T = T} {E = E} Comes m mid a b k l (Ok u) → ((s : State) → IsGood s → StandsFor mid s → root_of s.account.latest ≡ Some root) → mid.written < 8000
 begin_few {m = m} {mid} root r few d is =
     let s = r.state in
     let x = d.shown s r.good r.stands in
@@ -126,12 +121,19 @@ begin_few {m = m} {mid} root r few d is =
 
 -- a cycle has come, and its cycle start was written, or cut off
 pub begins : {T E U F : Type 0} {m mid : Machine} {a b c : Option (List ℕ)} {k l n : ℕ} {u : T} {r : Result U F} (root : ℕ) (packet : Packet) → IsReady m
-    → (0 < length m.devices.nodes → m.written < 8000) → Does {T = T} {E = E} Comes m mid a b k l (Ok u)
+    → (0 < length m.devices.nodes → m.written < 8000) → Performed {T = T} {E = E} Comes m mid a b k l (Ok u)
     → ((s : State) → IsGood s → StandsFor mid s → root_of s.account.latest ≡ Some root) → packet ≡ cycle_start root mid.cycle
-    → Gives b c r mid.cycle mid.devices.epoch (Some (Async packet)) → CountsFaults l n r → Does Begins m (started mid) a c k n r
+    → GivesEntry b c r mid.cycle mid.devices.epoch (Some (Async packet)) → CountsFaults l n r → Performed Begins m (started mid) a c k n r
 begins {m = m} {mid} {r = r} root packet ready few d is same gives faults =
     does_then r (begin_follows {m = m}) d
     (does_one mid.cycle (Some (Async packet)) r (start_turns mid (started mid) root packet is (begin_few root ready few d is) same refl) gives faults)
+
+-- both stand in a room
+pub begun_in : {m mid : Machine} {a : List ℕ} (b c : List ℕ) (root : ℕ) (packet : Packet) → IsReady m → (0 < length m.devices.nodes → m.written < 8000) → Fills Comes m mid a b
+    → ((s : State) → IsGood s → StandsFor mid s → root_of s.account.latest ≡ Some root) → packet ≡ cycle_start root mid.cycle
+    → GivesEntry {T = Unit {0}} {E = Unit {0}} (Some b) (Some c) (Ok (tt {0})) mid.cycle mid.devices.epoch (Some (Async packet)) → Fills Begins m (started mid) a c
+begun_in b c root packet ready few d is same gives =
+    begins {U = Unit {0}} {F = Unit {0}} {b = Some b} {c = Some c} {r = Ok (tt {0})} root packet ready few d is same gives (no_faults 0 (tt {0}))
 
 -- the counts before it are those that the machine kept
 begin_leads : (m : Machine) (counts : List ℕ) → m.streams ≡ counts → LeadsTo m (λ s. Unit {0}) Begins (HadSent counts)
@@ -158,7 +160,7 @@ recorded_among s (Some d) out = recorded_by s d out
 
 -- what the machine heard is what the run has heard
 pub hears_here : {T E : Type 0} {A : State → Type 0} {D : DeskRelations} {m now : Machine} (old new : Option Recording) {a b : Option (List ℕ)} {k l : ℕ} {r : Result T E}
-    → ((s : State) → IsGood s → StandsFor m s → old ≡ recording_in s) → DoesWhere A D (HearsTo 64 old new) m now a b k l r → DoesWhere A D (Hears (block_in new)) m now a b k l r
+    → ((s : State) → IsGood s → StandsFor m s → old ≡ recording_in s) → PerformedWhere A D (HearsTo 64 old new) m now a b k l r → PerformedWhere A D (HearsBlock (block_in new)) m now a b k l r
 hears_here old new is d = where_when (λ s t xs out g st p f.
     (p.0, ap block_in p.1 ∙ (ap (λ o. block_in (heard_among out o)) (is s g st) ∙ recorded_among s s.dub.tied out))) d
 
@@ -171,7 +173,7 @@ heard_last s mid a b f = go mid.dub.tied
     go (Some d) = ap (λ z. cond (records mid d) z None) (begins_quiet s a mid (mid.account.input_channel (at_plug d 0)) b f)
 
 -- a cycle that was begun, and all packets of it
-cycle_heard : (s mid t : State) (block : Option (List ℕ)) (xs ys : List Action) (a b : List Timed) → Begins s xs a mid → Hears block mid ys b t → WritesHeard block s (xs ++ ys) (a ++ b) t
+cycle_heard : (s mid t : State) (block : Option (List ℕ)) (xs ys : List Action) (a b : List Timed) → Begins s xs a mid → HearsBlock block mid ys b t → WritesHeard block s (xs ++ ys) (a ++ b) t
 cycle_heard s mid t block xs ys a b p q =
     let x = begun s mid xs a p in
     let stays : t ≡ mid = (packets_are (talkers mid.account) mid ys b t q.0).1 in (
@@ -211,14 +213,7 @@ kept_is s u block xs a p quiet = go s.account.latest p.0
     go None there = absurd (grind (arith, there))
     go (Some e) there = kept
 
--- no transaction waits then
-heard_answered : (s u : State) (block : Option (List ℕ)) (xs : List Action) (a : List Timed) → WritesHeard block s xs a u → u.transaction ≡ None
-heard_answered s u block xs a p =
-    let w = p.1 in
-    let x = begun s w.mid (next_cycle s ∷ StartCycle ∷ []) w.first (refl, w.comes) in
-    ap (λ (z : State). z.transaction) ((packets_are (talkers w.mid.account) w.mid w.packets w.last u w.sends).1 ∙ x.state_is) ∙ x.came.answered
-
-keep_follows : {m : Machine} (block : Option (List ℕ)) → Follows m (WritesHeard block) (Acts (KeepBlock block ∷ [])) WritesCycle
+keep_follows : {m : Machine} (block : Option (List ℕ)) → Follows m (WritesHeard block) (Performs (KeepBlock block ∷ [])) WritesCycle
 keep_follows block s mid t xs ys a b g st p f q h =
     let k = q.1 in
     let x = k.3 in
@@ -227,16 +222,6 @@ keep_follows block s mid t xs ys a b g st p f q h =
     let out : a ++ b ≡ a = ap (λ z. a ++ z) none ∙ append-nil a in
     subst (WritesCycle s (xs ++ ys) (a ++ b)) (sym is) (subst (λ z. WritesCycle s z (a ++ b) (with_block mid block)) (ap (λ z. xs ++ z) (sym q.0))
     (subst (λ z. WritesCycle s (xs ++ KeepBlock block ∷ []) z (with_block mid block)) (sym out) (kept_is s mid block xs a p x.0)))
-
-keep_goes_on : (m : Machine) (block : Option (List ℕ)) → GoesOn m (WritesHeard block) WritesCycle
-keep_goes_on m block s u xs a g st p f =
-    let quiet = heard_answered s u block xs a p in (
-      KeepBlock block ∷ [],
-      [],
-      with_block u block,
-      subst (λ z. WritesCycle s (xs ++ KeepBlock block ∷ []) z (with_block u block)) (sym (append-nil a)) (kept_is s u block xs a p quiet),
-      keep_step u block quiet,
-    )
 
 -- the reel then
 reel_with_block : (s : State) (d : ℕ) (r : Recording) (reel : List (List ℕ)) → r.limit ≡ room_of (tape_in s d) → reel ≡ s.dub.reel → reel_after (Some r) reel ≡ reel_with s d r.block
@@ -282,7 +267,7 @@ reel_stands m s reel block g st is = record {
 }
 
 keep_turns : (m : Machine) (new : Option Recording) → ((s : State) → IsGood s → StandsFor m s → unheard new ≡ recording_in s)
-    → Turns (KeepBlock (block_in new)) m (record m { reel = reel_after new m.reel }) m.cycle None
+    → TakesAction (KeepBlock (block_in new)) m (record m { reel = reel_after new m.reel }) m.cycle None
 keep_turns m new same = record {
   shown = λ s g st. (
     with_block s (block_in new),
@@ -308,8 +293,8 @@ recorded_still s old new same is = same ∙ (ap unheard is ∙ blank s.dub.tied)
 sent_heard : {T E U F : Type 0} {D : DeskRelations} (counts : List ℕ) (old new : Option Recording)
     {m mid : Machine} {a b c : Option (List ℕ)} {k l n : ℕ} {u : T} (r : Result U F) → m.streams ≡ counts
     → ((s : State) → IsGood s → StandsFor mid s → old ≡ recording_in s)
-    → Does {T = T} {E = E} Begins m mid a b k l (Ok u) → DoesWhere (HadSent counts) D (HearsTo 64 old new) mid mid b c l n r
-    → DoesWhere (λ s. Unit {0}) D (WritesHeard (block_in new)) m mid a c k n r
+    → Performed {T = T} {E = E} Begins m mid a b k l (Ok u) → PerformedWhere (HadSent counts) D (HearsTo 64 old new) mid mid b c l n r
+    → PerformedWhere (λ s. Unit {0}) D (WritesHeard (block_in new)) m mid a c k n r
 sent_heard counts old new {m} r is recorded f g =
     where_then r (λ s mid t xs ys a b good st p steps q more. cycle_heard s mid t (block_in new) xs ys a b p q) (begin_leads m counts is) (where_by (begins_given f)) (hears_here old new recorded g)
 
@@ -317,41 +302,31 @@ sent_heard counts old new {m} r is recorded f g =
 pub cycle_then : {T E U F : Type 0} {D : DeskRelations} (counts : List ℕ) (old new : Option Recording)
     {m mid : Machine} {a b c : Option (List ℕ)} {k l n : ℕ} {u : T} {w : U} → m.streams ≡ counts
     → ((s : State) → IsGood s → StandsFor mid s → old ≡ recording_in s) → unheard new ≡ unheard old
-    → Does {T = T} {E = E} Begins m mid a b k l (Ok u) → DoesWhere {T = U} {E = F} (HadSent counts) D (HearsTo 64 old new) mid mid b c l n (Ok w)
-    → DoesBy {T = U} {E = F} D WritesCycle m (record mid { reel = reel_after new mid.reel }) a c k n (Ok w)
+    → Performed {T = T} {E = E} Begins m mid a b k l (Ok u) → PerformedWhere {T = U} {E = F} (HadSent counts) D (HearsTo 64 old new) mid mid b c l n (Ok w)
+    → PerformedWithDesk {T = U} {E = F} D WritesCycle m (record mid { reel = reel_after new mid.reel }) a c k n (Ok w)
 cycle_then {F = F} {D = D} counts old new {m} {mid} {c = c} {n = n} {w = w} is recorded same f g =
-    let keep : Does {E = F} (Acts (KeepBlock (block_in new) ∷ [])) mid (record mid { reel = reel_after new mid.reel }) c c n n (Ok w) =
+    let keep : Performed {E = F} (Performs (KeepBlock (block_in new) ∷ [])) mid (record mid { reel = reel_after new mid.reel }) c c n n (Ok w) =
     does_one mid.cycle None (Ok w) (keep_turns mid new (λ s good st. recorded_still s old new same (recorded s good st))) (Grows-nothing c) (no_faults n w) in
     by_where {A = λ s. Unit {0}} (λ s good st. tt)
     (where_then (Ok w) (keep_follows {m = m} (block_in new)) (λ s t xs out good st known p steps. tt {0}) (sent_heard counts old new (Ok w) is recorded f g)
     (where_by (does_given (λ s t xs out p. subst (AreGiven D) (sym p.0) (tt, tt)) keep)))
 
--- its packets were cut off
-pub cycle_unsent : {T E U F V G : Type 0} {D : DeskRelations} (counts : List ℕ) (old new : Option Recording)
-    {m mid last : Machine} {a b c : Option (List ℕ)} {k l n : ℕ} {u : T} (q : Result U F) (r : Result V G) → IsErr q → IsErr r → m.streams ≡ counts
-    → ((s : State) → IsGood s → StandsFor mid s → old ≡ recording_in s)
-    → Does {T = T} {E = E} Begins m mid a b k l (Ok u) → DoesWhere (HadSent counts) D (HearsTo 64 old new) mid mid b c l n q
-    → DoesBy D WritesCycle m last a c k n r
-cycle_unsent counts old new {m} q r was err is recorded f g =
-    by_where {A = λ s. Unit {0}} (λ s good st. tt) (where_cut q r (keep_goes_on m (block_in new)) was err (sent_heard counts old new q is recorded f g))
-
--- no deck records: its packets were written, or cut off
+-- no deck records
 pub cycle_unheard : {T E U F : Type 0} {D : DeskRelations} (counts : List ℕ) (new : Option Recording)
-    {m mid : Machine} {a b c : Option (List ℕ)} {k l n : ℕ} {u : T} (r : Result U F) → m.streams ≡ counts
+    {m mid : Machine} {a b c : Option (List ℕ)} {k l n : ℕ} {u : T} {w : U} → m.streams ≡ counts
     → ((s : State) → IsGood s → StandsFor mid s → None ≡ recording_in s) → unheard new ≡ None
-    → Does {T = T} {E = E} Begins m mid a b k l (Ok u) → DoesWhere (HadSent counts) D (HearsTo 64 None new) mid mid b c l n r
-    → DoesBy D WritesCycle m mid a c k n r
-cycle_unheard counts (Some x) r is recorded none f g = absurd (let wrong : ⊥ = cc in wrong)
-cycle_unheard counts None (Ok w) is recorded none f g = cycle_then counts None None is recorded refl f g
-cycle_unheard counts None (Err w) is recorded none f g = cycle_unsent counts None None (Err w) (Err w) refl refl is recorded f g
+    → Performed {T = T} {E = E} Begins m mid a b k l (Ok u) → PerformedWhere {T = U} {E = F} (HadSent counts) D (HearsTo 64 None new) mid mid b c l n (Ok w)
+    → PerformedWithDesk {T = U} {E = F} D WritesCycle m mid a c k n (Ok w)
+cycle_unheard counts (Some x) is recorded none f g = absurd (let wrong : ⊥ = cc in wrong)
+cycle_unheard counts None is recorded none f g = cycle_then counts None None is recorded refl f g
 
 -- before the first device it only comes
 alone_is : (s t : State) (xs : List Action) (out : List Timed) → s.account.latest ≡ None → Comes s xs out t → WritesCycle s xs out t
 alone_is s t xs out none p = subst (λ o. HasCycle o s xs out t) (sym none) (p.1, p.0)
 
 pub cycle_alone : {T E F : Type 0} {D : DeskRelations} {m now : Machine} {a b : Option (List ℕ)} {k l : ℕ} {u : T}
-    → ((s : State) → IsGood s → StandsFor now s → root_of s.account.latest ≡ None) → Does {T = T} {E = E} Comes m now a b k l (Ok u)
-    → DoesBy {T = T} {E = F} D WritesCycle m now a b k l (Ok u)
+    → ((s : State) → IsGood s → StandsFor now s → root_of s.account.latest ≡ None) → Performed {T = T} {E = E} Comes m now a b k l (Ok u)
+    → PerformedWithDesk {T = T} {E = F} D WritesCycle m now a b k l (Ok u)
 cycle_alone {D = D} {m} none d = record {
   faults = record { cause = record { later = d.faults.cause.later; failed = tt }; same = d.faults.same };
   shown = λ s g st.
@@ -372,81 +347,3 @@ cycle_alone {D = D} {m} none d = record {
     nothing : (o : Option ResetEntry) → root_of o ≡ None → o ≡ None
     nothing None e = refl
     nothing (Some r) e = let no : ⊥ = cc e in absurd no
-
--- ---- one cycle that was cut off
-
--- packets of a cycle that was begun can be sent
-begun_goes_on : (m : Machine) → GoesOn m Begins WritesCycle
-begun_goes_on m s u xs a g st p f =
-    let x = begun s u xs a p in
-    let answered : u.transaction ≡ None = ap (λ (z : State). z.transaction) x.state_is ∙ x.came.answered in
-    let r = can_send (talkers u.account) u answered (talkers_talk u) in
-    let block = heard_in u r.out in
-    let heard = cycle_heard s u u block xs r.actions a r.out p (r.sends, refl) in (
-      r.actions ++ KeepBlock block ∷ [],
-      r.out ++ [],
-      with_block u block,
-      subst (λ z. WritesCycle s (xs ++ (r.actions ++ KeepBlock block ∷ [])) (a ++ z) (with_block u block)) (sym (append-nil r.out))
-          (subst (λ z. WritesCycle s z (a ++ r.out) (with_block u block)) (append_assoc xs r.actions (KeepBlock block ∷ [])) (kept_is s u block (xs ++ r.actions) (a ++ r.out) heard answered)),
-      steps_then u u (with_block u block) r.actions (KeepBlock block ∷ []) r.out [] (packets_steps (talkers u.account) u r.actions r.out u r.sends) (keep_step u block answered),
-    )
-
--- the entry of its cycle start was cut off
-pub cycle_cut : {U F V G : Type 0} {D : DeskRelations} {m now last : Machine} {a b : Option (List ℕ)} {k l : ℕ} (q : Result U F) (r : Result V G) → IsErr q
-    → IsErr r
-    → Does Begins m now a b k l q → DoesBy D WritesCycle m last a b k l r
-cycle_cut {m = m} q r was is f = by_where {A = λ s. Unit {0}} (λ s good st. tt) (where_cut q r (begun_goes_on m) was is (where_by (begins_given f)))
-
--- a cycle that has come can be begun, and its packets sent
-come_goes_on : (m : Machine) → (0 < length m.devices.nodes → m.written < 8000) → GoesOn m Comes WritesCycle
-come_goes_on m few s u xs a g st p f = go s.account.latest refl
-  where
-    come : HasCome s u
-    come = came s u xs a p
-
-    go : (o : Option ResetEntry) → s.account.latest ≡ o
-        → (ys : List Action) × (b : List Timed) × (t : State) × WritesCycle s (xs ++ ys) (a ++ b) t × Steps u ys b t
-    go None none = (
-      [],
-      [],
-      u,
-      subst (λ z. WritesCycle s z (a ++ []) u) (sym (append-nil xs)) (subst (λ z. WritesCycle s xs z u) (sym (append-nil a)) (alone_is s u xs a none p)),
-      (refl, refl),
-    )
-    go (Some e) is =
-        let mid : State = record u { written = u.written + 1 } in
-        let start = at_most u.clock.cycle (Some (Async (cycle_start e.root u.clock.cycle))) in
-        let low = few (some_device m s g st (ap is_some is)) in
-        let written = come.written in
-        let same = st.clock.written in
-        let step : Step u StartCycle start mid = (come.answered, (omega (arith, low, written, same), (e, come.latest ∙ is, refl), refl)) in
-        let r = can_send (talkers u.account) mid come.answered (talkers_talk mid) in
-        let begins : Begins s (xs ++ StartCycle ∷ []) (a ++ start) mid =
-        (ap (λ z. z ++ StartCycle ∷ []) p.0, steps_then s u mid (next_cycle s ∷ []) (StartCycle ∷ []) a start p.1 (one_step u mid StartCycle start step)) in
-        let block = heard_in mid r.out in
-        let heard = cycle_heard s mid mid block (xs ++ StartCycle ∷ []) r.actions (a ++ start) r.out begins (r.sends, refl) in
-        let rest = r.actions ++ KeepBlock block ∷ [] in
-        let whole : WritesCycle s (((xs ++ StartCycle ∷ []) ++ r.actions) ++ KeepBlock block ∷ []) ((a ++ start) ++ r.out) (with_block mid block) =
-        kept_is s mid block ((xs ++ StartCycle ∷ []) ++ r.actions) ((a ++ start) ++ r.out) heard come.answered in
-        let actions : ((xs ++ StartCycle ∷ []) ++ r.actions) ++ KeepBlock block ∷ [] ≡ xs ++ StartCycle ∷ rest =
-        append_assoc (xs ++ StartCycle ∷ []) r.actions (KeepBlock block ∷ []) ∙ append_assoc xs (StartCycle ∷ []) rest in
-        let out : (a ++ start) ++ r.out ≡ a ++ (start ++ (r.out ++ [])) = append_assoc a start r.out ∙ ap (λ z. a ++ (start ++ z)) (sym (append-nil r.out)) in (
-          StartCycle ∷ rest,
-          start ++ (r.out ++ []),
-          with_block mid block,
-          subst (λ z. WritesCycle s (xs ++ StartCycle ∷ rest) z (with_block mid block)) out (subst (λ z. WritesCycle s z ((a ++ start) ++ r.out) (with_block mid block)) actions whole),
-          (
-            start,
-            r.out ++ [],
-            mid,
-            step,
-            refl,
-            steps_then mid mid (with_block mid block) r.actions (KeepBlock block ∷ []) r.out [] (packets_steps (talkers u.account) mid r.actions r.out mid r.sends) (keep_step mid block come.answered),
-          ),
-        )
-
--- the end of the second was cut off
-pub cycle_uncome : {U F V G : Type 0} {D : DeskRelations} {m now last : Machine} {a b : Option (List ℕ)} {k l : ℕ} (q : Result U F) (r : Result V G)
-    → IsErr q → IsErr r
-    → (0 < length m.devices.nodes → m.written < 8000) → Does Comes m now a b k l q → DoesBy D WritesCycle m last a b k l r
-cycle_uncome {m = m} q r was is few f = by_where {A = λ s. Unit {0}} (λ s good st. tt) (where_cut q r (come_goes_on m few) was is (where_by (comes_given f)))

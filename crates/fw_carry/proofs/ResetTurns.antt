@@ -16,7 +16,7 @@ use Rattle.fw_machine.specs.Stands.{StandsFor, IsReady}
 use Rattle.fw_async.specs.Wire.{Pairs}
 use Rattle.fw_machine.specs.Wires.{HasWire}
 use Rattle.fw_machine.proofs.WireResets.{wire_empty, reset_stands_none}
-use Rattle.fw_carry.specs.Doings.{Turns, Does, Acts}
+use Rattle.fw_carry.specs.Performing.{TakesAction, Performed, Performs}
 use Rattle.fw_machine.proofs.Nodes.{is_node_same, on_within}
 use Rattle.fw_machine.proofs.Renumbered.{manager_reset, kinds_reset}
 use Rattle.fw_carry.proofs.Doings.{does_one}
@@ -113,7 +113,7 @@ few_epochs m s g st few = let came = g.losses.came in let epoch = st.devices.epo
 
 -- the bus reset of the machine is the action of the run
 pub reset_turns : (m now : Machine) (d : ℕ) → IsTrue (is_node m.devices.nodes d) → m.resets < 10000 → BeginsReset (counting_in m) now d
-    → Turns (ResetBus d) m now m.cycle (Some (Reset now.devices.latest))
+    → TakesAction (ResetBus d) m now m.cycle (Some (Reset now.devices.latest))
 reset_turns m now d node few b = record {
   shown = λ s g st.
       let low : s.resets < 10000 = let resets = st.clock.resets in omega (arith, resets, few) in
@@ -163,5 +163,5 @@ same_cycle b = ap (λ (z : Machine). z.cycle) b.after
 -- the entry of the bus reset was written, or cut off
 pub reset_does : {T E : Type 0} {held after : Option (List ℕ)} {k l : ℕ} (m now : Machine) (d : ℕ) (r : Result T E) → IsTrue (is_node m.devices.nodes d)
     → m.resets < 10000
-    → GivesReset (counting_in m) now d held after k l r → Does (Acts (ResetBus d ∷ [])) m now held after k l r
+    → GivesReset (counting_in m) now d held after k l r → Performed (Performs (ResetBus d ∷ [])) m now held after k l r
 reset_does m now d r node few h = does_one m.cycle (Some (Reset now.devices.latest)) r (reset_turns m now d node few h.begins) h.gives h.faults

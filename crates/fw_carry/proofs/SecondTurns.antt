@@ -9,7 +9,8 @@ use Rattle.fw_devices.specs.Decks.{passed}
 use Rattle.fw_devices.specs.Network.{Network, kinds_of, node_at}
 use Rattle.fw_account.specs.Account.{Account}
 use Rattle.fw_account.specs.Events.{after_second as account_second}
-use Rattle.fw_run.specs.Giving.{at_most}
+use Rattle.std.specs.declared.result.Result.{Result}
+use Rattle.fw_run.specs.Giving.{at_most, GivesEntry}
 use Rattle.fw_run.specs.Entries.{second_over}
 use Rattle.fw_run.specs.State.{State, number_in, while_talking}
 use Rattle.fw_run.specs.Actions.{Pass, EndSecond, Step, after_cycles, after_second}
@@ -21,7 +22,9 @@ use Rattle.fw_machine.specs.Lingering.{LingersAs, HasLingering}
 use Rattle.fw_carry.specs.Resetting.{RestsAfterSecond, passed_in}
 use Rattle.fw_machine.specs.Stands.{IsNodeAt, HasNodes, HasDevices, StandsFor}
 use Rattle.fw_machine.specs.Streaming.{HasStreams, counted_on}
-use Rattle.fw_carry.specs.Doings.{Turns}
+use Rattle.fw_machine.specs.Faults.{CountsFaults}
+use Rattle.fw_carry.specs.Performing.{Performs, Performed, TakesAction}
+use Rattle.fw_carry.proofs.Doings.{does_one}
 use Rattle.fw_async.specs.Wire.{Pairs}
 use Rattle.fw_machine.specs.Wires.{HasWire}
 use Rattle.fw_machine.proofs.Lingers.{lingering_same, lingering_rests}
@@ -95,7 +98,7 @@ passed_by m n = record m { devices = passed_in n m.devices; cycle = m.cycle + n;
 
 -- cycles in which the second is not over are the action of the run
 pub pass_turns : (m now : Machine) (n : ℕ) → m.cycle + n ≤ 2 ^ 52 → (m.reclaiming ≡ true → m.cycle + n < m.directory.over_at)
-    → now ≡ passed_by m n → Turns (Pass n) m now m.cycle None
+    → now ≡ passed_by m n → TakesAction (Pass n) m now m.cycle None
 pass_turns m now n few before is = record { shown = shown_ }
   where
     stands : (s : State) → IsGood s → StandsFor m s → StandsFor (passed_by m n) (after_cycles s n)
@@ -220,7 +223,7 @@ rests_stands m now s g good st r =
 
 -- the end of the second of the machine is the action of the run
 pub second_turns : (m now : Machine) → m.reclaiming ≡ true → m.cycle + 1 ≡ m.directory.over_at → m.cycle + 1 ≤ 2 ^ 52 → RestsAfterSecond m now
-    → Turns EndSecond m now (m.cycle + 1) (Some second_over)
+    → TakesAction EndSecond m now (m.cycle + 1) (Some second_over)
 unfolding heard over
 second_turns m now runs at few r = record { shown = shown_ }
   where
@@ -237,3 +240,11 @@ second_turns m now runs at few r = record { shown = shown_ }
           (st.answered, (small, running, over_at, ap (λ c. at_most (c + 1) (Some second_over)) cycle, refl)),
           subst P (sym (second_ends s.account running)) (rests_stands m now s g good st r),
         )
+
+-- it is written, or cut off
+pub second_given : {T E : Type 0} (m now : Machine) {a b : Option (List ℕ)} {k l : ℕ} (r : Result T E) → m.reclaiming ≡ true → m.cycle + 1 ≡ m.directory.over_at → m.cycle + 1 ≤ 2 ^ 52
+    → RestsAfterSecond m now → GivesEntry a b r now.cycle now.devices.epoch (Some second_over) → CountsFaults k l r → Performed (Performs (EndSecond ∷ [])) m now a b k l r
+second_given m now {a} {b} r runs at few rests gives faults =
+    let cycle : now.cycle ≡ m.cycle + 1 = ap (λ (z : Machine). z.cycle) rests.after in
+    does_one (m.cycle + 1) (Some second_over) r (second_turns m now runs at few rests)
+    (subst (λ c. GivesEntry a b r c now.devices.epoch (Some second_over)) cycle gives) faults

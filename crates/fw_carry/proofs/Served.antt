@@ -6,7 +6,7 @@ use Rattle.fw_entry.specs.declared.entry.Entry.TheVariants.{Async}
 use Rattle.fw_cmp.specs.Losses.{Awaits, after_answer}
 use Rattle.fw_run.specs.HalfSteps.{half}
 use Rattle.fw_machine.specs.declared.machine.Machine.{Machine}
-use Rattle.fw_carry.specs.Doings.{Takes}
+use Rattle.fw_carry.specs.Performing.{TakesHalf}
 use Rattle.fw_carry.specs.Serving.{Serves}
 use Rattle.fw_machine.specs.Stands.{IsReady, is_living_in}
 use Rattle.fw_machine.specs.Tables.{ControllerTable, IsTable, count_of, states_of, dead_of}
@@ -25,9 +25,9 @@ served_awaits m now d bytes r stands s = subst (λ (t : ControllerTable). Awaits
 
 pub served_hears : (m now : Machine) (k : ControllerTable) (d : ℕ) (bytes : List ℕ) (r : Reply) → IsTrue (is_living_in m d) → Awaits (states_of m.controllers d) → (s : Serves m now d bytes r)
     → IsTable k (count_of now.controllers) (update (states_of now.controllers) d (after_answer (states_of now.controllers d) r)) (dead_of now.controllers)
-    → Takes half m (record now { controllers = k }) d (Some (Async s.response))
+    → TakesHalf half m (record now { controllers = k }) d (Some (Async s.response))
 served_hears m now k d bytes r lives stands s table =
     let P : Machine → Type 0 = λ v.
     IsTable k (count_of v.controllers) (update (states_of v.controllers) d (after_answer (states_of v.controllers d) r)) (dead_of v.controllers)
-    → Takes half m (record v { controllers = k }) d (Some (Async s.response)) in
+    → TakesHalf half m (record v { controllers = k }) d (Some (Async s.response)) in
     subst P (sym s.after) (λ t. takes_hears m _ k d s.access s.to s.device s.own s.packet s.response r lives stands s.sent refl (sym s.carries) t) table

@@ -8,13 +8,13 @@ use Rattle.fw_run.specs.Entries.{shown_entry}
 use Rattle.fw_run.specs.Actions.{ShowWord}
 use Rattle.fw_machine.specs.declared.machine.Machine.{Machine}
 use Rattle.fw_machine.specs.Stands.{is_linked_in, read_in}
-use Rattle.fw_carry.specs.Doings.{Turns}
+use Rattle.fw_carry.specs.Performing.{TakesAction}
 use Rattle.fw_machine.proofs.Nodes.{read_same}
 use Rattle.fw_machine.proofs.Living.{linked_same}
 
 -- the word that a device's node would show is the account's
 pub show_turns : (m : Machine) (d offset : ℕ) → IsTrue (is_linked_in m.devices d) → offset < 2 ^ 12 → (read_in m d offset).rcode ≡ 0
-    → Turns (ShowWord d offset) m m m.cycle (Some (shown_entry d offset (read_in m d offset).value))
+    → TakesAction (ShowWord d offset) m m m.cycle (Some (shown_entry d offset (read_in m d offset).value))
 show_turns m d offset linked low complete = record {
   shown = λ s g st.
       let on : IsTrue (is_linked s d) = sym (linked_same m.devices s d g st.devices) ∙ linked in

@@ -6,7 +6,7 @@ use Rattle.fw_run.specs.State.{State, is_living, is_deaf}
 use Rattle.fw_run.specs.HalfSteps.{HalfStep as Half, half, after_half, is_waiting}
 use Rattle.fw_run.specs.Actions.{HalfStep, counted, Takes as Taken}
 use Rattle.fw_machine.specs.declared.machine.Machine.{Machine}
-use Rattle.fw_carry.specs.Doings.{Takes, Turns}
+use Rattle.fw_carry.specs.Performing.{TakesHalf, TakesAction}
 use Rattle.fw_machine.specs.Stands.{StandsFor, is_living_in}
 use Rattle.fw_machine.proofs.Living.{living_same}
 use Rattle.fw_machine.specs.Tables.{states_of}
@@ -22,8 +22,8 @@ listens_takes : (s : State) (d : ℕ) (e : Option Entry) (cycle : ℕ) → IsFal
 listens_takes s d e cycle quiet time says = subst (λ b. Taken b (is_waiting s d) s d (at_most cycle e) (counted (after_half s d) 1)) (sym quiet) ((λ i. at_most (time i) (says i)), refl)
 
 -- a half step is counted
-pub step_turns : (m now : Machine) (d : ℕ) (e : Option Entry) → IsTrue (is_living_in m d) → m.half_steps < 4000000 → now.cycle ≡ m.cycle → IsFalse (states_of m.controllers d).lost → Takes half m now d e
-    → Turns (HalfStep d) m (record now { half_steps = now.half_steps + 1 }) now.cycle e
+pub step_turns : (m now : Machine) (d : ℕ) (e : Option Entry) → IsTrue (is_living_in m d) → m.half_steps < 4000000 → now.cycle ≡ m.cycle → IsFalse (states_of m.controllers d).lost → TakesHalf half m now d e
+    → TakesAction (HalfStep d) m (record now { half_steps = now.half_steps + 1 }) now.cycle e
 step_turns m now d e lives few time quiet takes = record {
   shown = λ s g st.
       let x = takes s g st in
@@ -37,14 +37,14 @@ step_turns m now d e lives few time quiet takes = record {
 }
 
 -- the half step of one that has nothing to do changes nothing, and writes nothing
-pub takes_idle : (m : Machine) (d : ℕ) → IsAtRest (states_of m.controllers d).state → Takes half m m d None
+pub takes_idle : (m : Machine) (d : ℕ) → IsAtRest (states_of m.controllers d).state → TakesHalf half m m d None
 takes_idle m d rests = λ s g st.
     let idle = rest_busy m s d g st rests in
     (ap (λ (h : Half). h.says) (sym (half_idle s d g idle)), subst (λ (t : State). StandsFor m t) (sym (half_stays s d g idle)) st)
 
 -- the half step of one that has nothing to do
 pub idle_turns : (m : Machine) (d : ℕ) → IsTrue (is_living_in m d) → m.half_steps < 4000000 → IsAtRest (states_of m.controllers d).state
-    → Turns (HalfStep d) m (record m { half_steps = m.half_steps + 1 }) m.cycle None
+    → TakesAction (HalfStep d) m (record m { half_steps = m.half_steps + 1 }) m.cycle None
 idle_turns m d lives few rests = record {
   shown = λ s g st. (step_turns m m d None lives few refl (rest_quiet m s d g st rests) (takes_idle m d rests)).shown s g st;
 }

@@ -5,11 +5,11 @@ use Rattle.std.proofs.lemmas.Bool.Decides.{nat_tests}
 use Rattle.std.proofs.lemmas.Nat.{from_be_bytes-to_be_bytes_4}
 use Rattle.fw_words.specs.Quadlet.{quadlet_at}
 use Rattle.fw_base.specs.declared.plug.PlugAt.{PlugAt}
-use Rattle.fw_csr.specs.declared.request.Swap.{Swap}
+use Rattle.fw_words.specs.declared.swap.Swap.{Swap}
 use Rattle.fw_csr.specs.declared.reply.Reply.{Reply}
 use Rattle.fw_csr.specs.Manager.{after_at}
 use Rattle.fw_csr.specs.Replies.{word_after}
-use Rattle.fw_csr.specs.Requests.{quadlet_swap}
+use Rattle.fw_words.specs.Swaps.{swap_bytes}
 use Rattle.fw_csr.specs.Requests as Asked
 use Rattle.fw_account.specs.Account.{Account}
 use Rattle.fw_account.specs.Decode.{IsMove}
@@ -24,7 +24,8 @@ use Rattle.fw_cmp.specs.declared.request.Target.TheVariants as target
 use Rattle.fw_cmp.specs.declared.stage.Stage.{Stage}
 use Rattle.fw_cmp.specs.declared.stage.Stage.TheVariants.{SwapChannels, SwapBandwidth, ConnectOutput, OverlayOutput, ConnectInput, LeaveInput, LeaveOutput, RaiseBandwidth, RestoreChannel}
 use Rattle.fw_cmp.specs.Fits.{StageFits}
-use Rattle.fw_cmp.specs.Requests.{offset_of, swap_of, swap_bytes, request_at}
+use Rattle.fw_cmp.specs.Requests.{offset_of, swap_of}
+use Rattle.fw_csr.specs.Requests.{request_at}
 use Rattle.fw_step.specs.InStep.{Others, HalfStep, IsRegister}
 use Rattle.fw_step.specs.Moves.{move_of, after_move, carried_out}
 use Rattle.fw_step.specs.Registers.{register_at, stands, succeeds, IsAnswer}

@@ -26,7 +26,7 @@ use Rattle.fw_run.proofs.Steps.{steps_good}
 use Rattle.fw_run.proofs.Turns.{update_new, update_others}
 use Rattle.fw_run.proofs.Units.{tape_kept, tape_is}
 use Rattle.fw_machine.specs.declared.machine.Machine.{Machine}
-use Rattle.fw_carry.specs.Doings.{Acts, Does, Turns}
+use Rattle.fw_carry.specs.Performing.{Performs, Performed, TakesAction}
 use Rattle.fw_machine.specs.Orders.{has_deck_in}
 use Rattle.fw_machine.specs.Stands.{HasDecks, IsReady, StandsFor}
 use Rattle.fw_machine.proofs.Living.{few_devices as few_names}
@@ -70,7 +70,7 @@ named_low m s d st low = let size = st.devices.nodes.size in omega (arith, low, 
 
 pub insert_turns : (m : Machine) (after : Network) (d tape : ℕ) (system : TapeSystem) (e : Entry) → d < length m.devices.nodes
     → IsTrue (has_deck_in m.devices d) → tape < 2 ^ 16 → e ≡ Entries.inserted d tape system → after ≡ (taped m d (Some (inserted tape system))).devices
-    → Turns (InsertTape d tape system) m (record m { devices = after }) m.cycle (Some e)
+    → TakesAction (InsertTape d tape system) m (record m { devices = after }) m.cycle (Some e)
 insert_turns m after d tape system e low deck few entry is = record {
   shown = λ s g st.
       let t : State = with_cassette s d (Some (inserted tape system)) in
@@ -92,7 +92,7 @@ tape_in m s d st low deck =
 
 pub eject_turns : (m : Machine) (after : Network) (d : ℕ) (e : Entry) → d < length m.devices.nodes → IsTrue (has_deck_in m.devices d)
     → IsTrue (is_some (Devices.tape_of (node_at m.devices.nodes d))) → e ≡ Entries.ejected d → after ≡ (taped m d None).devices
-    → Turns (EjectTape d) m (record m { devices = after }) m.cycle (Some e)
+    → TakesAction (EjectTape d) m (record m { devices = after }) m.cycle (Some e)
 eject_turns m after d e low deck was entry is = record {
   shown = λ s g st.
       let t : State = with_cassette s d None in
@@ -129,22 +129,22 @@ eject_same m after d low none is =
 
 pub ejects_none : {T E : Type 0} (m : Machine) (after : Network) (d : ℕ) (held : Option (List ℕ)) (k : ℕ) (u : T) → d < length m.devices.nodes
     → IsTrue (has_deck_in m.devices d) → is_some (Devices.tape_of (node_at m.devices.nodes d)) ≡ false → after ≡ (taped m d None).devices
-    → Does {T = T} {E = E} (λ s. Carries s (Orders.Eject d)) m (record m { devices = after }) held held k k (Ok u)
+    → Performed {T = T} {E = E} (λ s. Carries s (Orders.Eject d)) m (record m { devices = after }) held held k k (Ok u)
 ejects_none {E = E} m after d held k u low deck none is =
-    subst (λ (n : Network). Does {E = E} (λ s. Carries s (Orders.Eject d)) m (record m { devices = n }) held held k k (Ok u))
+    subst (λ (n : Network). Performed {E = E} (λ s. Carries s (Orders.Eject d)) m (record m { devices = n }) held held k k (Ok u))
     (sym (eject_same m after d low none is)) (does_nothing m held k u (λ s g st. ejects_nothing (sym (tape_in m s d st low deck) ∙ none)))
 
 -- ---- and then all frames are sent
 
 pub insert_follows : {m : Machine} (d tape : ℕ) (system : TapeSystem)
-    → Follows m (Acts (InsertTape d tape system ∷ [])) (SendsAll d) (λ s. Carries s (Orders.Insert d tape system))
+    → Follows m (Performs (InsertTape d tape system ∷ [])) (SendsAll d) (λ s. Carries s (Orders.Insert d tape system))
 insert_follows d tape system s mid t xs ys a b g st p f q h =
     subst (λ z. Carries s (Orders.Insert d tape system) (z ++ ys) (a ++ b) t) (sym p.0) (inserts mid ys a b p.1 q)
 
-pub eject_follows : {m : Machine} (d : ℕ) → Follows m (Acts (EjectTape d ∷ [])) (SendsAll d) (λ s. Carries s (Orders.Eject d))
+pub eject_follows : {m : Machine} (d : ℕ) → Follows m (Performs (EjectTape d ∷ [])) (SendsAll d) (λ s. Carries s (Orders.Eject d))
 eject_follows d s mid t xs ys a b g st p f q h = subst (λ z. Carries s (Orders.Eject d) (z ++ ys) (a ++ b) t) (sym p.0) (ejects mid ys a b p.1 q)
 
-insert_goes : (m : Machine) (d tape : ℕ) (system : TapeSystem) → GoesOn m (Acts (InsertTape d tape system ∷ [])) (λ s. Carries s (Orders.Insert d tape system))
+insert_goes : (m : Machine) (d tape : ℕ) (system : TapeSystem) → GoesOn m (Performs (InsertTape d tape system ∷ [])) (λ s. Carries s (Orders.Insert d tape system))
 insert_goes m d tape system s u xs a g st p f =
     let good = steps_good s u xs a g f in
     let is : u ≡ with_cassette s d (Some (inserted tape system)) = p.1.5.1 ∙ p.1.3.1.4 in
@@ -152,7 +152,7 @@ insert_goes m d tape system s u xs a g st p f =
     let goes = all_steps d u r.actions r.out r.after r.sends in
     (r.actions, r.out, r.after, insert_follows {m = m} d tape system s u r.after xs r.actions a r.out g st p f r.sends goes, goes)
 
-eject_goes : (m : Machine) (d : ℕ) → GoesOn m (Acts (EjectTape d ∷ [])) (λ s. Carries s (Orders.Eject d))
+eject_goes : (m : Machine) (d : ℕ) → GoesOn m (Performs (EjectTape d ∷ [])) (λ s. Carries s (Orders.Eject d))
 eject_goes m d s u xs a g st p f =
     let good = steps_good s u xs a g f in
     let is : u ≡ with_cassette s d None = p.1.5.1 ∙ p.1.3.1.4 in
@@ -162,12 +162,12 @@ eject_goes m d s u xs a g st p f =
 
 -- the entry of the event was cut off
 pub insert_cut : {U F V G : Type 0} (d tape : ℕ) (system : TapeSystem) {m now last : Machine} {a b : Option (List ℕ)} {k l : ℕ}
-    (q : Result U F) (r : Result V G) → IsErr q → IsErr r → Does (Acts (InsertTape d tape system ∷ [])) m now a b k l q
-    → Does (λ s. Carries s (Orders.Insert d tape system)) m last a b k l r
+    (q : Result U F) (r : Result V G) → IsErr q → IsErr r → Performed (Performs (InsertTape d tape system ∷ [])) m now a b k l q
+    → Performed (λ s. Carries s (Orders.Insert d tape system)) m last a b k l r
 insert_cut d tape system {m} q r was is f = does_cut q r (insert_goes m d tape system) was is f
 
 pub eject_cut : {U F V G : Type 0} (d : ℕ) {m now last : Machine} {a b : Option (List ℕ)} {k l : ℕ} (q : Result U F) (r : Result V G) → IsErr q → IsErr r
-    → Does (Acts (EjectTape d ∷ [])) m now a b k l q → Does (λ s. Carries s (Orders.Eject d)) m last a b k l r
+    → Performed (Performs (EjectTape d ∷ [])) m now a b k l q → Performed (λ s. Carries s (Orders.Eject d)) m last a b k l r
 eject_cut d {m} q r was is f = does_cut q r (eject_goes m d) was is f
 
 -- ---- numbers

@@ -10,7 +10,7 @@ use Rattle.fw_run.specs.Carrying.{times, half_steps_of}
 use Rattle.fw_run.specs.Good.{IsGood}
 use Rattle.fw_machine.specs.declared.machine.Machine.{Machine}
 use Rattle.fw_machine.specs.Stands.{is_living_in}
-use Rattle.fw_carry.specs.Doings.{Acts, Does}
+use Rattle.fw_carry.specs.Performing.{Performs, Performed}
 use Rattle.fw_carry.proofs.Doings.{GoesOn, acts_follow, does_cut, does_none, does_then}
 use Rattle.fw_carry.proofs.Halves.{After, halves_after, times_given}
 use Rattle.fw_machine.proofs.Living.{living_same}
@@ -42,18 +42,18 @@ times_after k d s out t g quiet f =
 
 -- ---- calls of the machine
 
-pub times_none : {T E : Type 0} (x : Action) (m : Machine) (held : Option (List ℕ)) (k : ℕ) (u : T) → Does {T = T} {E = E} (Acts (times 0 x)) m m held held k k (Ok u)
+pub times_none : {T E : Type 0} (x : Action) (m : Machine) (held : Option (List ℕ)) (k : ℕ) (u : T) → Performed {T = T} {E = E} (Performs (times 0 x)) m m held held k k (Ok u)
 unfolding times
 times_none x m held k u = does_none m held k u
 
 pub times_then : {T E U F : Type 0} (x : Action) (i : ℕ) {m mid now : Machine} {a b c : Option (List ℕ)} {k l n : ℕ} {u : T} {r : Result U F}
-    → Does {T = T} {E = E} (Acts (times i x)) m mid a b k l (Ok u) → Does (Acts (x ∷ [])) mid now b c l n r → Does (Acts (times (i + 1) x)) m now a c k n r
+    → Performed {T = T} {E = E} (Performs (times i x)) m mid a b k l (Ok u) → Performed (Performs (x ∷ [])) mid now b c l n r → Performed (Performs (times (i + 1) x)) m now a c k n r
 unfolding times
 times_then x i {r = r} d e = rw add-one (does_then r (acts_follow (times i x) (x ∷ [])) d e)
 
 -- the rest of them can be given
 times_go_on : (m : Machine) (d j count : ℕ) → j ≤ count → IsTrue (is_living_in m d) → m.half_steps + count ≤ 4000000
-    → GoesOn m (Acts (times j (HalfStep d))) (Acts (times count (HalfStep d)))
+    → GoesOn m (Performs (times j (HalfStep d))) (Performs (times count (HalfStep d)))
 times_go_on m d j count le lives few s u xs a g st p f =
     let quiet = st.answered in
     let steps = st.clock.half_steps in
@@ -74,11 +74,11 @@ times_go_on m d j count le lives few s u xs a g st p f =
 -- a half step was cut off
 pub times_cut : {T E U F V G : Type 0} (d i : ℕ) {m mid now : Machine} {a b c : Option (List ℕ)} {k l n : ℕ} {u : T} (count : ℕ) (q : Result U F) (r : Result V G)
     → i < count → IsTrue (is_living_in m d) → m.half_steps + count ≤ 4000000 → IsErr q → IsErr r
-    → Does {T = T} {E = E} (Acts (times i (HalfStep d))) m mid a b k l (Ok u) → Does (Acts (HalfStep d ∷ [])) mid now b c l n q → Does (Acts (times count (HalfStep d))) m now a c k n r
+    → Performed {T = T} {E = E} (Performs (times i (HalfStep d))) m mid a b k l (Ok u) → Performed (Performs (HalfStep d ∷ [])) mid now b c l n q → Performed (Performs (times count (HalfStep d))) m now a c k n r
 times_cut d i {m} count q r lt lives few was is f e =
     does_cut q r (times_go_on m d (i + 1) count (omega (arith, lt)) lives few) was is (times_then (HalfStep d) i f e)
 
 -- all were given
 pub times_all : {T E : Type 0} (x : Action) (i n : ℕ) {m now : Machine} {a b : Option (List ℕ)} {k l : ℕ} {u : T} → i ≡ n
-    → Does {T = T} {E = E} (Acts (times i x)) m now a b k l (Ok u) → Does {T = T} {E = E} (Acts (times n x)) m now a b k l (Ok u)
-times_all {E = E} x i n {m = m} {now} {a} {b} {k} {l} {u} e d = subst (λ z. Does {E = E} (Acts (times z x)) m now a b k l (Ok u)) e d
+    → Performed {T = T} {E = E} (Performs (times i x)) m now a b k l (Ok u) → Performed {T = T} {E = E} (Performs (times n x)) m now a b k l (Ok u)
+times_all {E = E} x i n {m = m} {now} {a} {b} {k} {l} {u} e d = subst (λ z. Performed {E = E} (Performs (times z x)) m now a b k l (Ok u)) e d

@@ -27,7 +27,7 @@ use Rattle.fw_machine.specs.declared.machine.Machine.{Machine}
 use Rattle.fw_machine.specs.Bids.{packet_of_bid, bid_from}
 use Rattle.fw_machine.specs.Candidates.{CandidateTable, HasElection}
 use Rattle.fw_machine.specs.Candidates.{count_of as candidates_of}
-use Rattle.fw_carry.specs.Doings.{Turns}
+use Rattle.fw_carry.specs.Performing.{TakesAction}
 use Rattle.fw_machine.specs.Orders.{has_deck_in}
 use Rattle.fw_machine.specs.Stands.{StandsFor, is_living_in}
 use Rattle.fw_carry.proofs.LifeTurns.{table_stands, same_account}
@@ -39,7 +39,7 @@ use Rattle.fw_carry.proofs.TapeTurns.{deck_same}
 -- ---- a deck
 
 pub tie_turns : (m : Machine) (reel : List (List ℕ)) (d : ℕ) (e : Entry) → d < length m.devices.nodes → IsTrue (has_deck_in m.devices d)
-    → IsTrue (is_node m.devices.nodes d) → e ≡ Entries.dubbing d → reel ≡ [] → Turns (TieReel d) m (record m { tied = Some d; reel = reel }) m.cycle (Some e)
+    → IsTrue (is_node m.devices.nodes d) → e ≡ Entries.dubbing d → reel ≡ [] → TakesAction (TieReel d) m (record m { tied = Some d; reel = reel }) m.cycle (Some e)
 tie_turns m reel d e low deck on entry empty = record { shown = shown_ }
   where
     tied : (s : State) → IsGood s → StandsFor m s → Step s (TieReel d) (at_most s.clock.cycle (Some (Entries.dubbing d))) (tied_to s d)
@@ -105,7 +105,7 @@ no_candidate (Some c) e = absurd (grind (arith, e))
 pub enter_turns : (m : Machine) (t : CandidateTable) (d : ℕ) → IsTrue (is_living_in m d) → IsTrue (is_capable (kind_at (kinds_of m.devices.nodes) d))
     → ((e : Election) → HasElection m.candidates (candidates_of m.candidates) e → false ≡ is_some (e.candidates d))
     → ((e : Election) → HasElection m.candidates (candidates_of m.candidates) e → HasElection t (candidates_of m.candidates) (with_new_candidate e d))
-    → Turns (BecomeCandidate d) m (record m { candidates = t }) m.cycle None
+    → TakesAction (BecomeCandidate d) m (record m { candidates = t }) m.cycle None
 enter_turns m t d lives capable none enters = record { shown = shown_ }
   where
     shown_ : (s : State) → IsGood s → StandsFor m s → (u : State) × Step s (BecomeCandidate d) [] u × StandsFor (record m { candidates = t }) u

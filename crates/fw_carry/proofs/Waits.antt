@@ -14,7 +14,7 @@ use Rattle.fw_cmp.specs.declared.directory.Directory.{Directory}
 use Rattle.fw_machine.specs.declared.machine.Machine.{Machine}
 use Rattle.fw_carry.specs.Resetting.{RestsAfterSecond}
 use Rattle.fw_machine.specs.Stands.{IsReady}
-use Rattle.fw_carry.specs.Doings.{Acts, Does}
+use Rattle.fw_carry.specs.Performing.{Performs, Performed}
 use Rattle.fw_outside.specs.declared.failed.Failed.{Failed}
 use Rattle.fw_carry.proofs.Doings.{GoesOn, one_step, does_as, does_silent, does_then, does_cut, acts_follow, ready_after}
 use Rattle.fw_carry.proofs.SecondTurns.{pass_turns, passed_by}
@@ -34,18 +34,18 @@ ready_second {m} r runs =
 -- the end of the second lies behind the cycles that go by, or none runs
 pub waits_by : {T E : Type 0} (m now : Machine) (n : ℕ) (held : Option (List ℕ)) (k : ℕ) (u : T) → m.cycle + n ≤ 2 ^ 52
     → (m.reclaiming ≡ true → m.cycle + n < m.directory.over_at) → now ≡ passed_by m n
-    → Does {T = T} {E = E} (λ s. Carries s (Wait n)) m now held held k k (Ok u)
+    → Performed {T = T} {E = E} (λ s. Carries s (Wait n)) m now held held k k (Ok u)
 waits_by {T} {E} m now n held k u few before is =
-    does_as {P = Acts (Pass n ∷ [])} {Q = λ s. Carries s (Wait n)} carries (does_silent held k m.cycle u (pass_turns m now n few before is))
+    does_as {P = Performs (Pass n ∷ [])} {Q = λ s. Carries s (Wait n)} carries (does_silent held k m.cycle u (pass_turns m now n few before is))
   where
-    carries : (s t : State) (xs : List Action) (out : List Timed) → Acts (Pass n ∷ []) s xs out t → Carries s (Wait n) xs out t
+    carries : (s t : State) (xs : List Action) (out : List Timed) → Performs (Pass n ∷ []) s xs out t → Carries s (Wait n) xs out t
     carries s t xs out f = subst (λ ys. Carries s (Wait n) ys out t) (sym f.0) (waits f.1)
 
 -- ---- with the end of the second on the way
 
 -- these actions carry a wait out
 over_carries : (n before after : ℕ) → n ≡ before + 1 + after → (s t : State) (xs : List Action) (out : List Timed)
-    → Acts (Pass before ∷ EndSecond ∷ Pass after ∷ []) s xs out t → Carries s (Wait n) xs out t
+    → Performs (Pass before ∷ EndSecond ∷ Pass after ∷ []) s xs out t → Carries s (Wait n) xs out t
 over_carries n before after same s t xs out f = subst (λ ys. Carries s (Wait n) ys out t) (sym f.0) (waits_over same f.1)
 
 -- the state after the end of the second
@@ -57,7 +57,7 @@ ended_rests : (s : State) → IsTrue s.account.reclaiming → (after_cycles (aft
 ended_rests s runs = ap (λ (l : Account). l.reclaiming) (second_ends s.account runs)
 
 -- cycles may go by after it
-pass_goes : (m : Machine) (n : ℕ) → m.reclaiming ≡ true → m.cycle + 1 + n ≤ 2 ^ 52 → GoesOn m (Acts (EndSecond ∷ [])) (Acts (EndSecond ∷ Pass n ∷ []))
+pass_goes : (m : Machine) (n : ℕ) → m.reclaiming ≡ true → m.cycle + 1 + n ≤ 2 ^ 52 → GoesOn m (Performs (EndSecond ∷ [])) (Performs (EndSecond ∷ Pass n ∷ []))
 pass_goes m n runs few s u xs a g st p steps =
     let is = ended_is s u a p.1 in
     let t : State = after_cycles u n in
@@ -78,11 +78,11 @@ before_end m = passed_by m (m.directory.over_at - 1 - m.cycle)
 -- all cycles went by, and the second was over on the way
 pub waits_all : {T E : Type 0} (m mid now : Machine) (last : ℕ) (held after : Option (List ℕ)) (k l : ℕ) (u : T) → IsReady m → m.reclaiming ≡ true
     → m.directory.over_at ≤ last → last ≤ 2 ^ 52
-    → Does {T = T} {E = E} (Acts (EndSecond ∷ [])) (before_end m) mid held after k l (Ok u) → RestsAfterSecond (before_end m) mid
+    → Performed {T = T} {E = E} (Performs (EndSecond ∷ [])) (before_end m) mid held after k l (Ok u) → RestsAfterSecond (before_end m) mid
     → now ≡ passed_by mid (last - mid.cycle)
-    → Does {T = T} {E = E} (λ s. Carries s (Wait (last - m.cycle))) m now held after k l (Ok u)
+    → Performed {T = T} {E = E} (λ s. Carries s (Wait (last - m.cycle))) m now held after k l (Ok u)
 waits_all {T} {E} m mid now last held after k l u ready runs late few ended rests is =
-    does_as {P = Acts (Pass before ∷ EndSecond ∷ Pass behind ∷ [])} {Q = λ s. Carries s (Wait (last - m.cycle))}
+    does_as {P = Performs (Pass before ∷ EndSecond ∷ Pass behind ∷ [])} {Q = λ s. Carries s (Wait (last - m.cycle))}
     (over_carries (last - m.cycle) before behind same)
     (does_then (Ok u) (acts_follow (Pass before ∷ []) (EndSecond ∷ Pass behind ∷ [])) first
     (does_then (Ok u) (acts_follow (EndSecond ∷ []) (Pass behind ∷ [])) ended onward))
@@ -102,25 +102,25 @@ waits_all {T} {E} m mid now last held after k l u ready runs late few ended rest
     same : last - m.cycle ≡ m.directory.over_at - 1 - m.cycle + 1 + (last - mid.cycle)
     same = omega (arith, second, late, cycle)
 
-    first : Does {T = T} {E = E} (Acts (Pass before ∷ [])) m (before_end m) held held k k (Ok u)
+    first : Performed {T = T} {E = E} (Performs (Pass before ∷ [])) m (before_end m) held held k k (Ok u)
     first = does_silent held k m.cycle u (pass_turns m (before_end m) before (omega (arith, second, late, few)) (λ x. omega (arith, second)) refl)
 
     none : mid.reclaiming ≡ true → mid.cycle + behind < mid.directory.over_at
     none x = let no : false ≡ true = sym (ap (λ (z : Machine). z.reclaiming) rests.after) ∙ x in let bad : ⊥ = cc in absurd bad
 
-    onward : Does {T = T} {E = E} (Acts (Pass behind ∷ [])) mid now after after l l (Ok u)
+    onward : Performed {T = T} {E = E} (Performs (Pass behind ∷ [])) mid now after after l l (Ok u)
     onward = does_silent after l mid.cycle u (pass_turns mid now behind (omega (arith, second, late, few, cycle)) none is)
 
 -- the entry of the end of the second was cut off
 pub waits_cut : {T E U F : Type 0} (m mid now : Machine) (last : ℕ) (held after : Option (List ℕ)) (k l : ℕ) (u : T) (q : Result U F) (r : Result T E)
     → IsReady m → m.reclaiming ≡ true → m.directory.over_at ≤ last → last ≤ 2 ^ 52
-    → IsErr q → IsErr r → Does (Acts (EndSecond ∷ [])) (before_end m) mid held after k l q
-    → Does (λ s. Carries s (Wait (last - m.cycle))) m now held after k l r
+    → IsErr q → IsErr r → Performed (Performs (EndSecond ∷ [])) (before_end m) mid held after k l q
+    → Performed (λ s. Carries s (Wait (last - m.cycle))) m now held after k l r
 waits_cut {T} {E} m mid now last held after k l u q r ready runs late few was is ended =
-    does_as {P = Acts (Pass before ∷ EndSecond ∷ Pass behind ∷ [])} {Q = λ s. Carries s (Wait (last - m.cycle))}
+    does_as {P = Performs (Pass before ∷ EndSecond ∷ Pass behind ∷ [])} {Q = λ s. Carries s (Wait (last - m.cycle))}
     (over_carries (last - m.cycle) before behind same)
     (does_then r (acts_follow (Pass before ∷ []) (EndSecond ∷ Pass behind ∷ [])) first
-    (does_cut {P = Acts (EndSecond ∷ [])} {R = Acts (EndSecond ∷ Pass behind ∷ [])} q r
+    (does_cut {P = Performs (EndSecond ∷ [])} {R = Performs (EndSecond ∷ Pass behind ∷ [])} q r
     (pass_goes (before_end m) behind runs (omega (arith, second, late, few))) was is ended))
   where
     second : m.cycle < m.directory.over_at
@@ -135,7 +135,7 @@ waits_cut {T} {E} m mid now last held after k l u q r ready runs late few was is
     same : last - m.cycle ≡ m.directory.over_at - 1 - m.cycle + 1 + (last - m.directory.over_at)
     same = omega (arith, second, late)
 
-    first : Does {T = T} {E = E} (Acts (Pass before ∷ [])) m (before_end m) held held k k (Ok u)
+    first : Performed {T = T} {E = E} (Performs (Pass before ∷ [])) m (before_end m) held held k k (Ok u)
     first = does_silent held k m.cycle u (pass_turns m (before_end m) before (omega (arith, second, late, few)) (λ x. omega (arith, second)) refl)
 
 -- ---- the machine is ready between the parts
@@ -149,5 +149,5 @@ ready_before {m} r runs few =
 
 -- and when it is over
 pub ready_over : {T E : Type 0} {m mid : Machine} {a b : Option (List ℕ)} {k l : ℕ} {u : T} → IsReady m → m.reclaiming ≡ true → m.directory.over_at ≤ 2 ^ 52
-    → Does {T = T} {E = E} (Acts (EndSecond ∷ [])) (before_end m) mid a b k l (Ok u) → IsReady mid
+    → Performed {T = T} {E = E} (Performs (EndSecond ∷ [])) (before_end m) mid a b k l (Ok u) → IsReady mid
 ready_over r runs few ended = ready_after (ready_before r runs few) ended

@@ -13,7 +13,7 @@ use Rattle.fw_run.specs.Good.{IsGood}
 use Rattle.fw_run.specs.State.{State, entered}
 use Rattle.fw_run.proofs.Withholds.{none_before, withholding_is}
 use Rattle.fw_machine.specs.declared.machine.Machine.{Machine}
-use Rattle.fw_carry.specs.Doings.{Acts, Turns}
+use Rattle.fw_carry.specs.Performing.{Performs, TakesAction}
 use Rattle.fw_machine.specs.Stands.{StandsFor}
 use Rattle.fw_machine.proofs.Besides.{keeps_beside}
 use Rattle.fw_machine.proofs.Counts.{streams_same}
@@ -53,7 +53,7 @@ withheld_stands m s st none = record {
 
 -- the machine that withholds it is that of the run
 pub withhold_turns : (m : Machine) (n : Network) (e : Entry) → m.devices.names ≡ [] → m.devices.withheld ≡ false → e ≡ withheld
-    → n ≡ record m.devices { withheld = true } → Turns Withhold m (record m { devices = n }) m.cycle (Some e)
+    → n ≡ record m.devices { withheld = true } → TakesAction Withhold m (record m { devices = n }) m.cycle (Some e)
 withhold_turns m n e none free entry is = record {
   shown = λ s g st.
       let empty : s.declared.names ≡ [] = sym st.devices.names ∙ none in
@@ -66,7 +66,7 @@ withhold_turns m n e none free entry is = record {
       );
 }
 
-pub withholds_at : (s t : State) (xs : List Action) (out : List Timed) → Acts (Withhold ∷ []) s xs out t → Carries s Orders.Withhold xs out t
+pub withholds_at : (s t : State) (xs : List Action) (out : List Timed) → Performs (Withhold ∷ []) s xs out t → Carries s Orders.Withhold xs out t
 withholds_at s t xs out f = subst (λ z. Carries s Orders.Withhold z out t) (sym f.0) (withholds f.1)
 
 -- a bus that withholds it goes on

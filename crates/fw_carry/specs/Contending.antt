@@ -4,9 +4,9 @@ use Rattle.std.specs.declared.result.Result.{Result}
 use Rattle.fw_entry.specs.declared.entry.Entry.{Entry}
 use Rattle.fw_manager.specs.Bids.{CandidateState, is_standing_in}
 use Rattle.fw_run.specs.Actions.{Contend}
-use Rattle.fw_run.specs.Giving.{Gives}
+use Rattle.fw_run.specs.Giving.{GivesEntry}
 use Rattle.fw_machine.specs.Candidates.{candidate_in}
-use Rattle.fw_carry.specs.Doings.{Turns}
+use Rattle.fw_carry.specs.Performing.{TakesAction}
 use Rattle.fw_machine.specs.Faults.{CountsFaults}
 use Rattle.fw_machine.specs.declared.machine.Machine.{Machine}
 
@@ -30,6 +30,6 @@ pub record BidRests (m : Machine) (d manager : ℕ) : Type 0 where
 -- it took a half step, whose entry, if any, was written, or a front of it
 pub record TakesBid {T E : Type 0} (m now : Machine) (d : ℕ) (held after : Option (List ℕ)) (count counts : ℕ) (result : Result T E) : Type 0 where
   pub entry : Option Entry
-  pub turns : Turns (Contend d) m now now.cycle entry
-  pub gives : Gives held after result now.cycle now.devices.epoch entry
+  pub turns : TakesAction (Contend d) m now now.cycle entry
+  pub gives : GivesEntry held after result now.cycle now.devices.epoch entry
   pub faults : CountsFaults count counts result

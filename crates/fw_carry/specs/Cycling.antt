@@ -13,9 +13,9 @@ use Rattle.fw_run.specs.Desks.{DeskRelations}
 use Rattle.fw_run.specs.Good.{IsGood}
 use Rattle.fw_run.specs.State.{State}
 use Rattle.fw_run.specs.Streams.{GivenBlock, bytes_of, sent_before, talkers_to}
-use Rattle.fw_carry.specs.Doings.{Deed, Acts}
+use Rattle.fw_carry.specs.Performing.{Task, Performs}
 use Rattle.fw_machine.specs.Faults.{CountsFaults}
-use Rattle.fw_carry.specs.Framing.{EndsBy}
+use Rattle.fw_carry.specs.Framing.{CompletedWithDesk}
 use Rattle.fw_machine.specs.Stands.{StandsFor}
 use Rattle.fw_machine.specs.Streaming.{count_at}
 use Rattle.fw_machine.specs.declared.machine.Machine.{Machine}
@@ -31,15 +31,15 @@ pub record HadSent (counts : List ℕ) (s : State) : Type 0 where
 -- ---- deeds
 
 -- the next cycle comes
-abbrev pub Comes : Deed
-Comes s ys out t = Acts (next_cycle s ∷ []) s ys out t
+abbrev pub Comes : Task
+Comes s ys out t = Performs (next_cycle s ∷ []) s ys out t
 
 -- and its cycle start is written
-abbrev pub Begins : Deed
-Begins s ys out t = Acts (next_cycle s ∷ StartCycle ∷ []) s ys out t
+abbrev pub Begins : Task
+Begins s ys out t = Performs (next_cycle s ∷ StartCycle ∷ []) s ys out t
 
 -- those that talk on the first n channels send theirs, in order of channel
-abbrev pub SendsTo : ℕ → Deed
+abbrev pub SendsTo : ℕ → Task
 SendsTo n s ys out t = SendsPackets (talkers_to n s.account) s ys out t
 
 -- ---- what is heard of the packets
@@ -62,12 +62,12 @@ abbrev pub unheard : Option Recording → Option Recording
 unheard o = option_map (λ (r : Recording). record r { block = None }) o
 
 -- the output plug of a device sends its packet of the cycle, on this channel
-abbrev pub SendsHeard : ℕ → ℕ → Option Recording → Option Recording → Deed
+abbrev pub SendsHeard : ℕ → ℕ → Option Recording → Option Recording → Task
 SendsHeard d channel old new s ys out t =
-    (block : Option GivenBlock) × Acts (SendPacket (at_plug d 0) block ∷ []) s ys out t × (new ≡ hearing_of channel (bytes_of block) old)
+    (block : Option GivenBlock) × Performs (SendPacket (at_plug d 0) block ∷ []) s ys out t × (new ≡ hearing_of channel (bytes_of block) old)
 
 -- those that talk on the first n channels send theirs, and what is recorded of them is heard
-abbrev pub HearsTo : ℕ → Option Recording → Option Recording → Deed
+abbrev pub HearsTo : ℕ → Option Recording → Option Recording → Task
 HearsTo n old new s ys out t =
     SendsTo n s ys out t × (new ≡ heard_among out old) × ((channel : ℕ) → n ≤ channel → block_among channel out ≡ None)
 
@@ -92,11 +92,11 @@ abbrev pub block_in : Option Recording → Option (List ℕ)
 block_in o = option_and_then (λ (r : Recording). r.block) o
 
 -- all that talk send their packets, and this block is heard
-abbrev pub Hears : Option (List ℕ) → Deed
-Hears block s ys out t = SendsTo 64 s ys out t × (block ≡ heard_in s out)
+abbrev pub HearsBlock : Option (List ℕ) → Task
+HearsBlock block s ys out t = SendsTo 64 s ys out t × (block ≡ heard_in s out)
 
 -- a cycle comes and is written, and this block is heard
-abbrev pub WritesHeard : Option (List ℕ) → Deed
+abbrev pub WritesHeard : Option (List ℕ) → Task
 WritesHeard block s ys out t = IsTrue (is_some s.account.latest) × Carries.WritesCycle s ys out t × (block ≡ heard_in t out)
 
 -- the block goes onto the reel
@@ -105,19 +105,19 @@ reel_after None reel = reel
 reel_after (Some r) reel = elim r.block [ None ↦ reel | Some bytes ↦ kept r.limit bytes reel ]
 
 -- a cycle comes and is written
-abbrev pub WritesCycle : Deed
+abbrev pub WritesCycle : Task
 WritesCycle s ys out t = HasCycle s.account.latest s ys out t
 
 -- so many cycles come and are written
-abbrev pub WritesCycles : ℕ → Deed
+abbrev pub WritesCycles : ℕ → Task
 WritesCycles n s ys out t = HasCycles n s ys out t
 
 -- what a call did with what the desk gave, from any good state that the machine stood for and of which this holds
-pub record DoesWhere {T E : Type 0} (A : State → Type 0) (D : DeskRelations) (P : Deed)
+pub record PerformedWhere {T E : Type 0} (A : State → Type 0) (D : DeskRelations) (P : Task)
     (m now : Machine) (held after : Option (List ℕ)) (count counts : ℕ) (result : Result T E) : Type 0 where
   pub faults : CountsFaults count counts result
-  pub shown : (s : State) → IsGood s → StandsFor m s → A s → EndsBy D (P s) s now held after result
+  pub shown : (s : State) → IsGood s → StandsFor m s → A s → CompletedWithDesk D (P s) s now held after result
 
 -- in a room stands what this writes: it grew by the entries
-abbrev pub Puts : (State → Type 0) → DeskRelations → Deed → Machine → List ℕ → List ℕ → Type 0
-Puts A D P m old new = DoesWhere {T = Unit {0}} {E = Unit {0}} A D P m m (Some old) (Some new) 0 0 (Ok (tt {0}))
+abbrev pub PutsIntoRoom : (State → Type 0) → DeskRelations → Task → Machine → List ℕ → List ℕ → Type 0
+PutsIntoRoom A D P m old new = PerformedWhere {T = Unit {0}} {E = Unit {0}} A D P m m (Some old) (Some new) 0 0 (Ok (tt {0}))

@@ -19,41 +19,41 @@ use Rattle.fw_run.specs.Good.{IsGood}
 use Rattle.fw_run.specs.Spaces.{script_head}
 use Rattle.fw_run.specs.State.{State}
 use Rattle.fw_machine.specs.declared.machine.Machine.{Machine}
-use Rattle.fw_carry.specs.Doings.{Deed, Acts, Cut, Done}
+use Rattle.fw_carry.specs.Performing.{Task, Performs, CutOff, Completed}
 use Rattle.fw_machine.specs.Faults.{CountsFaults}
 use Rattle.fw_machine.specs.Stands.{StandsFor}
 
 -- ---- deeds
 
 -- an order is carried out, with what the desk gives
-abbrev pub CarriesBy : DeskRelations → Order → Deed
-CarriesBy D o s ys out t = Carries s o ys out t × AreGiven D ys
+abbrev pub CarriesWithDesk : DeskRelations → Order → Task
+CarriesWithDesk D o s ys out t = Carries s o ys out t × AreGiven D ys
 
 -- All was done with what the desk gives, or it was cut off. Then the desk gave what was done, and what was to follow is any that could
 -- have: of a closure that is not called nothing says that it has a result.
-abbrev pub EndsBy : {T E : Type 0} → DeskRelations → (List Action → List Timed → State → Type 0) → State → Machine
+abbrev pub CompletedWithDesk : {T E : Type 0} → DeskRelations → (List Action → List Timed → State → Type 0) → State → Machine
     → Option (List ℕ) → Option (List ℕ) → Result T E → Type 0
-EndsBy D P s now held after (Ok _) = Done (λ ys out t. P ys out t × AreGiven D ys) s now held after
-EndsBy D P s now held after (Err _) = (cut : Cut P s held after) × AreGiven D cut.done
+CompletedWithDesk D P s now held after (Ok _) = Completed (λ ys out t. P ys out t × AreGiven D ys) s now held after
+CompletedWithDesk D P s now held after (Err _) = (cut : CutOff P s held after) × AreGiven D cut.done
 
 -- what a call did with what the desk gave, from any good state that the machine stood for
-pub record DoesBy {T E : Type 0} (D : DeskRelations) (P : Deed)
+pub record PerformedWithDesk {T E : Type 0} (D : DeskRelations) (P : Task)
     (m now : Machine) (held after : Option (List ℕ)) (count counts : ℕ) (result : Result T E) : Type 0 where
   pub faults : CountsFaults count counts result
-  pub shown : (s : State) → IsGood s → StandsFor m s → EndsBy D (P s) s now held after result
+  pub shown : (s : State) → IsGood s → StandsFor m s → CompletedWithDesk D (P s) s now held after result
 
 -- bytes are written to FCP_COMMAND of a device, and the write is answered
-abbrev pub Commands : DeskRelations → ℕ → ℕ → List ℕ → Deed
-Commands D a b bytes s ys out t = (obeyed : Option Obeyed) × IsGiven D (Receive obeyed) × Acts (SendCommand a b bytes ∷ Receive obeyed ∷ []) s ys out t
+abbrev pub Commands : DeskRelations → ℕ → ℕ → List ℕ → Task
+Commands D a b bytes s ys out t = (obeyed : Option Obeyed) × IsGiven D (Receive obeyed) × Performs (SendCommand a b bytes ∷ Receive obeyed ∷ []) s ys out t
 
 -- a device sends its next frame, whose write is answered; or it has none, and nothing is done
-abbrev pub SendsNext : {E : Type 0} → ℕ → Result Bool E → Deed
-SendsNext d (Ok false) s ys out t = (next_told s d ≡ None) × Acts [] s ys out t
-SendsNext d (Ok true) s ys out t = Acts (SendFrame d ∷ Receive None ∷ []) s ys out t
-SendsNext d (Err _) s ys out t = Acts (SendFrame d ∷ Receive None ∷ []) s ys out t
+abbrev pub SendsNext : {E : Type 0} → ℕ → Result Bool E → Task
+SendsNext d (Ok false) s ys out t = (next_told s d ≡ None) × Performs [] s ys out t
+SendsNext d (Ok true) s ys out t = Performs (SendFrame d ∷ Receive None ∷ []) s ys out t
+SendsNext d (Err _) s ys out t = Performs (SendFrame d ∷ Receive None ∷ []) s ys out t
 
 -- first these frames, whatever frames follow
-abbrev pub SendsFirst : ℕ → Deed
+abbrev pub SendsFirst : ℕ → Task
 SendsFirst d s ys out m =
     (m.transaction ≡ None) × (m.frame ≡ None)
     × ((zs : List Action) (more : List Timed) (t : State) → SendsAll d m zs more t → SendsAll d s (ys ++ zs) (out ++ more) t)

@@ -1,5 +1,6 @@
-pub mod Doings
+pub mod Performing
 pub mod Contending
+pub mod Filling
 pub mod Framing
 pub mod Resetting
 pub mod Transacting

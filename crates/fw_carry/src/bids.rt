@@ -8,7 +8,7 @@ ghost use Rattle.fw_run.specs.Carrying.{times, Carries};
 ghost use Rattle.fw_run.specs.Elections.{is_capable};
 ghost use Rattle.fw_machine.specs.Candidates.{candidate_in};
 ghost use Rattle.fw_carry.specs.Contending.{BidRests, BidStands, TakesBid};
-ghost use Rattle.fw_carry.specs.Doings.{Acts, Does};
+ghost use Rattle.fw_carry.specs.Performing.{Performs, Performed};
 ghost use Rattle.fw_machine.specs.Stands.{IsReady, is_living_in};
 
 use crate::exchange::{send, serve};
@@ -23,7 +23,7 @@ pub(crate) fn stand<K: Sink>(machine: &mut Machine, device: u8, sink: &mut K) ->
     requires ready { IsReady machine.old }
     requires living { IsTrue (is_living_in machine.old device) }
     requires capable { IsTrue (is_capable (kind_at (kinds_of machine.old.devices.nodes) device)) }
-    ensures does { Does (λ s. Carries s (Candidate device)) machine.old machine.new (K.held sink.old) (K.held sink.new) (K.faults sink.old) (K.faults sink.new) result }
+    ensures does { Performed (λ s. Carries s (Candidate device)) machine.old machine.new (K.held sink.old) (K.held sink.new) (K.faults sink.old) (K.faults sink.new) result }
 {
     let _ = sink;
     if machine.candidates.is_candidate(device) {
@@ -117,7 +117,7 @@ fn bid_step<K: Sink>(
     requires ready { IsReady machine.old }
     requires candidate { IsTrue (is_some (candidate_in machine.old.candidates device)) }
     requires few { machine.old.half_steps < 4000000 }
-    ensures does { Does (Acts (Contend device ∷ [])) machine.old machine.new (K.held sink.old) (K.held sink.new) (K.faults sink.old) (K.faults sink.new) result }
+    ensures does { Performed (Performs (Contend device ∷ [])) machine.old machine.new (K.held sink.old) (K.held sink.new) (K.faults sink.old) (K.faults sink.new) result }
     ensures candidate { IsTrue (is_some (candidate_in machine.new.candidates device)) }
     ensures count { machine.new.half_steps ≡ machine.old.half_steps + 1 }
 {
@@ -145,7 +145,7 @@ pub(crate) fn contend<K: Sink>(
     requires ready { IsReady machine.old }
     requires candidate { IsTrue (is_some (candidate_in machine.old.candidates device)) }
     requires few { machine.old.half_steps + count ≤ 4000000 }
-    ensures does { Does (Acts (times count (Contend device))) machine.old machine.new (K.held sink.old) (K.held sink.new) (K.faults sink.old) (K.faults sink.new) result }
+    ensures does { Performed (Performs (times count (Contend device))) machine.old machine.new (K.held sink.old) (K.held sink.new) (K.faults sink.old) (K.faults sink.new) result }
 {
     for i in 0..count {
         bid_step(machine, device, room, sink)?;

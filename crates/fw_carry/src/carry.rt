@@ -1,7 +1,6 @@
-ghost use Rattle.std.specs.Prelude.{◌≡◌};
 ghost use Rattle.fw_tape.specs.Desks.{AnyBlock, AnyVendorByte};
 ghost use Rattle.fw_run.specs.Carrying.{Carries};
-ghost use Rattle.fw_carry.specs.Framing.{DoesBy, IsQuiet};
+ghost use Rattle.fw_carry.specs.Framing.{PerformedWithDesk, IsQuiet};
 ghost use Rattle.fw_machine.specs.Orders.{MayCarry};
 ghost use Rattle.fw_machine.specs.Stands.{IsReady};
 
@@ -34,7 +33,7 @@ pub fn carry_out<K: Sink, F: Fn(u16, u32, u16) -> [u8; 480], H: Fn(u32, u8) -> u
     requires quiet { IsQuiet machine.old.devices }
     requires blocks { AnyBlock (F.pre desk.now.blocks) }
     requires desk { AnyVendorByte (H.pre desk.now.vendor) }
-    ensures does { DoesBy (record { blocks = F.post desk.now.blocks; vendor = H.post desk.now.vendor }) (λ s. Carries s order.now)
+    ensures does { PerformedWithDesk (record { blocks = F.post desk.now.blocks; vendor = H.post desk.now.vendor }) (λ s. Carries s order.now)
         machine.old machine.new (K.held sink.old) (K.held sink.new) (K.faults sink.old) (K.faults sink.new) result }
 {
     match order {

@@ -1,33 +1,35 @@
-//! Cycles that are written: the cycle start of the root (IEEE 1394-1995, cycle start packet), and the packets of the output plugs that talk
-//! (IEC 61883-1, 6).
+//! Cycles that are written: the cycle start of the root (IEEE 1394-1995, cycle start packet), and the packets of the output plugs that talk.
+//! They are put together in a room, and several are written with one write.
 
-ghost use Rattle.std.specs.Prelude.{◌≡◌, ◌≤◌, ◌<◌, ◌+◌, ◌^◌, ℕ, Some, None, [], length, IfSome};
+ghost use Rattle.std.specs.Prelude.{◌≡◌, ◌≤◌, ◌<◌, ◌+◌, ◌^◌, Ok, Some, [], length, OnOk};
 ghost use Rattle.std.specs.Option.{option_map};
-ghost use Rattle.fw_async.specs.Async.{Fits};
+ghost use Rattle.fw_async.specs.Async.{Fits as PacketFits};
+ghost use Rattle.fw_entry.specs.Log.{Fits};
 ghost use Rattle.fw_entry.specs.declared.entry.ResetEntry.{ResetEntry};
-ghost use Rattle.fw_node.specs.Streams.{talking_on};
-ghost use Rattle.fw_devices.specs.Network.{node_at};
 ghost use Rattle.fw_devices.specs.Streams.{AreTalkers};
 ghost use Rattle.fw_run.specs.Carrying.{Carries};
-ghost use Rattle.fw_run.specs.Desks.{DeskRelations};
+ghost use Rattle.fw_run.specs.Giving.{GivesEntry};
 ghost use Rattle.fw_run.specs.Good.{IsGood};
 ghost use Rattle.fw_run.specs.State.{State};
 ghost use Rattle.fw_run.specs.Streams.{cycle_start};
 ghost use Rattle.fw_run.specs.declared.order.Order.TheVariants.{Cycles};
 ghost use Rattle.fw_tape.specs.Desks.{AnyBlock};
-ghost use Rattle.fw_carry.specs.Cycling.{Comes, DoesWhere, HadSent, HearsTo, Puts, SendsHeard, WritesCycle, unheard};
-ghost use Rattle.fw_carry.specs.Doings.{Does};
-ghost use Rattle.fw_carry.specs.Framing.{DoesBy};
+ghost use Rattle.fw_carry.specs.Cycling.{Comes, WritesCycle};
+ghost use Rattle.fw_carry.specs.Filling.{Fills, FillsBy, Passes};
+ghost use Rattle.fw_carry.specs.Framing.{PerformedWithDesk};
+ghost use Rattle.fw_machine.specs.Faults.{CountsFaults};
 ghost use Rattle.fw_machine.specs.Stands.{IsReady, StandsFor};
 ghost use Rattle.fw_machine.specs.Streaming.{AreStillFrom};
 
-use crate::dubs::{Recording, hear_block, keep, recording_on};
-use crate::second::{end_second, pass_one};
+use crate::dubs::{keep, recording_on};
+use crate::second::{pass_one, pass_second};
+use crate::streams::put_packets;
 use fw_async::{Head, Packet};
 use fw_csr::offset::CYCLE_TIME;
-use fw_devices::Talkers;
-use fw_entry::CycleRoom;
-use fw_machine::{Machine, Room, Streams, give_async};
+use fw_devices::{Devices, Talkers};
+use fw_entry::{CycleRoom, Entry, Timed, epoch_after};
+use fw_machine::entries::second_over;
+use fw_machine::{Machine, Room};
 use fw_node::{cycle_time, node_id};
 use fw_outside::{Failed, Sink};
 use fw_tape::Desk;
@@ -39,7 +41,7 @@ const BROADCAST: u16 = 0xFFFF;
 fn cycle_start(root: u8, cycle: u64) -> Packet<'static>
     requires { root < 63 }
     ensures value { result ≡ cycle_start root cycle }
-    ensures fits { Fits result }
+    ensures fits { PacketFits result }
 {
     Packet::CycleStart {
         head: Head {
@@ -54,34 +56,6 @@ fn cycle_start(root: u8, cycle: u64) -> Packet<'static>
     }
 }
 
-/// The next cycle comes: where the second of the latest bus reset is over at it, that is written first. `talkers` are those that
-/// talk before it, and then after it; so with `end`, from which on all devices are still.
-fn next_cycle<K: Sink>(
-    machine: &mut Machine,
-    talkers: &mut Talkers,
-    end: &mut u8,
-    room: &mut Room,
-    sink: &mut K,
-) -> Result<(), Failed>
-    requires ready { IsReady machine.old }
-    requires few { machine.old.cycle + 1 ≤ 2 ^ 52 }
-    requires talkers { AreTalkers (length machine.old.devices.nodes) machine.old.devices.nodes talkers.old }
-    requires still { AreStillFrom end.old machine.old.devices.nodes machine.old.streams }
-    ensures talkers { AreTalkers (length machine.new.devices.nodes) machine.new.devices.nodes talkers.new }
-    ensures still { AreStillFrom end.new machine.new.devices.nodes machine.new.streams }
-    ensures does { Does Comes machine.old machine.new (K.held sink.old) (K.held sink.new) (K.faults sink.old) (K.faults sink.new) result }
-{
-    if machine.reclaiming && machine.directory.over_at == machine.cycle + 1 {
-        let written = end_second(machine, room, sink);
-        *talkers = machine.devices.talkers();
-        *end = machine.streams.end(&machine.devices);
-        written
-    } else {
-        pass_one(machine, *end);
-        Ok(())
-    }
-}
-
 /// The node that is root. None before the first device.
 fn root(machine: &Machine) -> Option<u8>
     ensures { (s : State) → IsGood s → StandsFor machine.now s → result ≡ option_map (λ (e : ResetEntry). e.root) s.account.latest }
@@ -92,143 +66,107 @@ fn root(machine: &Machine) -> Option<u8>
     Some(machine.devices.latest().get().root)
 }
 
-/// Puts the packet of the cycle of a device's output plug, which talks on this channel, into the room: with a block where its tape
-/// gives one, else an empty one. `before` has the counts before the cycle.
-#[inline(always)]
-fn put_packet<F: Fn(u16, u32, u16) -> [u8; 480], H: Fn(u32, u8) -> u8>(
-    machine: &Machine,
-    device: u8,
-    channel: u8,
-    before: &Streams,
-    desk: &Desk<F, H>,
-    room: &mut CycleRoom,
-    heard: &mut Option<Recording>,
-)
-    requires ready { IsReady machine.now }
-    requires desk { AnyBlock (F.pre desk.now.blocks) }
-    requires declared { device < length machine.now.devices.nodes }
-    requires talks { talking_on (node_at machine.now.devices.nodes device) ≡ Some channel }
-    requires room { length room.old + 508 ≤ 32512 }
-    ensures puts { Puts (HadSent before.now) (record { blocks = F.post desk.now.blocks; vendor = H.post desk.now.vendor }) (SendsHeard device channel heard.old heard.new) machine.now room.old room.new }
-    ensures size { length room.new ≤ length room.old + 508 }
-    ensures same { unheard heard.new ≡ unheard heard.old }
+/// Puts an entry of this cycle into the room, behind those that it holds.
+fn put_entry(devices: &Devices, cycle: u64, what: Entry<'_>, room: &mut Room)
+    requires fits { Fits what }
+    requires room { length room.old.cycle + 2292 ≤ 102632 }
+    ensures gives { GivesEntry {T = Unit {0}} {E = Unit {0}} (Some room.old.cycle) (Some room.new.cycle) (Ok (tt {0})) cycle devices.now.epoch (Some what.entry) }
+    ensures size { length room.new.cycle ≤ length room.old.cycle + 2292 }
 {
-    let mut talker = before.talker(device, channel);
-    let own = machine.number(device);
-    let fifty = machine.devices.fifty(device);
-    // The packet is made in each arm, so that the block's bytes go into the room as they come.
-    match machine.devices.block_now(device) {
-        Some(place) => {
-            let bytes = desk.block(place.tape, place.frame, place.block);
-            let packet = talker.cycle(own, fifty, Some(&bytes));
-            room.put(machine.devices.epoch(), machine.cycle, &packet);
-            hear_block(heard, channel, &bytes);
-        }
-        None => {
-            let packet = talker.cycle(own, fifty, None);
-            room.put(machine.devices.epoch(), machine.cycle, &packet);
-        }
+    let epoch = epoch_after(devices.epoch(), &what);
+    let entry = Timed { cycle, what };
+    room.cycle.put_entry(epoch, &entry, &mut room.entry);
+}
+
+/// The next cycle comes: where the second of the latest bus reset is over at it, that is put into the room first. `talkers` are those
+/// that talk before it, and then after it; so with `end`, from which on all devices are still.
+fn next_cycle(machine: &mut Machine, talkers: &mut Talkers, end: &mut u8, room: &mut Room)
+    requires ready { IsReady machine.old }
+    requires few { machine.old.cycle + 1 ≤ 2 ^ 52 }
+    requires talkers { AreTalkers (length machine.old.devices.nodes) machine.old.devices.nodes talkers.old }
+    requires still { AreStillFrom end.old machine.old.devices.nodes machine.old.streams }
+    requires room { length room.old.cycle + 2292 ≤ 102632 }
+    ensures talkers { AreTalkers (length machine.new.devices.nodes) machine.new.devices.nodes talkers.new }
+    ensures still { AreStillFrom end.new machine.new.devices.nodes machine.new.streams }
+    ensures fills { Fills Comes machine.old machine.new room.old.cycle room.new.cycle }
+    ensures size { length room.new.cycle ≤ length room.old.cycle + 2292 }
+{
+    if machine.reclaiming && machine.directory.over_at == machine.cycle + 1 {
+        pass_second(machine);
+        put_entry(&machine.devices, machine.cycle, second_over(), room);
+        *talkers = machine.devices.talkers();
+        *end = machine.streams.end(&machine.devices);
+    } else {
+        pass_one(machine, *end);
     }
 }
 
-/// The packets of the output plugs that talk, in order of channel, in the room.
+/// The next cycle comes and is put into the room. Before the first device it only comes. `talkers` and `end` are as in `next_cycle`.
+// Inlined, where the room is at hand: else blocks go into it by copies.
 #[inline(always)]
-fn put_packets<F: Fn(u16, u32, u16) -> [u8; 480], H: Fn(u32, u8) -> u8>(
-    machine: &Machine,
-    talkers: &Talkers,
-    before: &Streams,
-    desk: &Desk<F, H>,
-    room: &mut CycleRoom,
-    heard: &mut Option<Recording>,
-)
-    requires ready { IsReady machine.now }
-    requires desk { AnyBlock (F.pre desk.now.blocks) }
-    requires talkers { AreTalkers (length machine.now.devices.nodes) machine.now.devices.nodes talkers.now }
-    requires nothing { IfSome heard.old (λ r. r.block ≡ None) }
-    ensures puts { Puts (HadSent before.now) (record { blocks = F.post desk.now.blocks; vendor = H.post desk.now.vendor }) (HearsTo 64 heard.old heard.new) machine.now [] room.new }
-    ensures same { unheard heard.new ≡ unheard heard.old }
-{
-    room.clear();
-    for channel in 0..talkers.end() {
-        if let Some(device) = talkers.get(channel) {
-            put_packet(machine, device, channel, before, desk, room, heard);
-        }
-    }
-}
-
-/// Each output plug that talks sends its packet of the cycle, in order of channel; they are written with one write.
-// Inlined at each call, where the room is at hand: else blocks go into it by copies.
-#[inline(always)]
-fn send_packets<K: Sink, F: Fn(u16, u32, u16) -> [u8; 480], H: Fn(u32, u8) -> u8>(
-    machine: &Machine,
-    talkers: &Talkers,
-    before: &Streams,
-    desk: &Desk<F, H>,
-    heard: &mut Option<Recording>,
-    room: &mut Room,
-    sink: &mut K,
-) -> Result<(), Failed>
-    requires ready { IsReady machine.now }
-    requires desk { AnyBlock (F.pre desk.now.blocks) }
-    requires talkers { AreTalkers (length machine.now.devices.nodes) machine.now.devices.nodes talkers.now }
-    requires nothing { IfSome heard.old (λ r. r.block ≡ None) }
-    ensures does { DoesWhere (HadSent before.now) (record { blocks = F.post desk.now.blocks; vendor = H.post desk.now.vendor }) (HearsTo 64 heard.old heard.new)
-        machine.now machine.now (K.held sink.old) (K.held sink.new) (K.faults sink.old) (K.faults sink.new) result }
-    ensures same { unheard heard.new ≡ unheard heard.old }
-{
-    put_packets(machine, talkers, before, desk, &mut room.cycle, heard);
-    let packets = room.cycle.as_slice();
-    if packets.is_empty() {
-        return Ok(());
-    }
-    sink.write(packets)
-}
-
-/// The next cycle comes and is written. Before the first device it only comes. `talkers` and `end` are as in `next_cycle`.
-fn write_cycle<K: Sink, F: Fn(u16, u32, u16) -> [u8; 480], H: Fn(u32, u8) -> u8>(
+fn put_cycle<F: Fn(u16, u32, u16) -> [u8; 480], H: Fn(u32, u8) -> u8>(
     machine: &mut Machine,
     talkers: &mut Talkers,
     end: &mut u8,
     desk: &Desk<F, H>,
     room: &mut Room,
-    sink: &mut K,
-) -> Result<(), Failed>
+)
     requires ready { IsReady machine.old }
     requires desk { AnyBlock (F.pre desk.now.blocks) }
     requires few { machine.old.cycle + 1 ≤ 2 ^ 52 }
     requires written { 0 < length machine.old.devices.nodes → machine.old.written < 8000 }
     requires talkers { AreTalkers (length machine.old.devices.nodes) machine.old.devices.nodes talkers.old }
     requires still { AreStillFrom end.old machine.old.devices.nodes machine.old.streams }
+    requires room { length room.old.cycle + 37096 ≤ 102632 }
     ensures talkers { AreTalkers (length machine.new.devices.nodes) machine.new.devices.nodes talkers.new }
     ensures still { AreStillFrom end.new machine.new.devices.nodes machine.new.streams }
-    ensures does { DoesBy (record { blocks = F.post desk.now.blocks; vendor = H.post desk.now.vendor }) WritesCycle
-        machine.old machine.new (K.held sink.old) (K.held sink.new) (K.faults sink.old) (K.faults sink.new) result }
+    ensures fills { FillsBy (record { blocks = F.post desk.now.blocks; vendor = H.post desk.now.vendor }) WritesCycle machine.old machine.new room.old.cycle room.new.cycle }
 {
     let before = machine.streams;
-    next_cycle(machine, talkers, end, room, sink)?;
+    next_cycle(machine, talkers, end, room);
     let Some(root) = root(machine) else {
-        return Ok(());
+        return;
     };
     machine.written += 1;
     let start = cycle_start(root, machine.cycle);
-    give_async(
-        &machine.devices,
-        machine.cycle,
-        &start,
-        &mut room.packet,
-        sink,
-    )?;
+    put_entry(&machine.devices, machine.cycle, Entry::Async(start), room);
     // A block is kept for the reel only where a deck records.
     let Some(recording) = recording_on(machine) else {
-        return send_packets(machine, talkers, &before, desk, &mut None, room, sink);
+        return put_packets(machine, talkers, &before, desk, &mut room.cycle, &mut None);
     };
     let mut heard = Some(recording);
-    send_packets(machine, talkers, &before, desk, &mut heard, room, sink)?;
+    put_packets(machine, talkers, &before, desk, &mut room.cycle, &mut heard);
     keep(machine, &heard);
-    Ok(())
 }
 
-/// Cycles go by and are written.
+/// Writes what the room holds, with one write, and empties the room.
+fn write_out<K: Sink>(room: &mut CycleRoom, sink: &mut K) -> Result<(), Failed>
+    ensures passes { Passes (K.held sink.old) (K.held sink.new) result room.old room.new }
+    ensures empty { room.new ≡ [] }
+    ensures faults { CountsFaults (K.faults sink.old) (K.faults sink.new) result }
+{
+    let entries = room.as_slice();
+    if entries.is_empty() {
+        return Ok(());
+    }
+    let result = sink.write(entries);
+    room.clear();
+    result
+}
+
+/// Writes what the room holds, where the entries of a cycle more do not fit.
+fn make_room<K: Sink>(room: &mut CycleRoom, sink: &mut K) -> Result<(), Failed>
+    ensures passes { Passes (K.held sink.old) (K.held sink.new) result room.old room.new }
+    ensures room { OnOk result (length room.new + 37096 ≤ 102632) }
+    ensures faults { CountsFaults (K.faults sink.old) (K.faults sink.new) result }
+{
+    if room.has_room() {
+        return Ok(());
+    }
+    write_out(room, sink)
+}
+
+/// Cycles go by and are written, several with one write.
 pub(crate) fn cycles<K: Sink, F: Fn(u16, u32, u16) -> [u8; 480], H: Fn(u32, u8) -> u8>(
     machine: &mut Machine,
     count: u32,
@@ -240,13 +178,15 @@ pub(crate) fn cycles<K: Sink, F: Fn(u16, u32, u16) -> [u8; 480], H: Fn(u32, u8) 
     requires desk { AnyBlock (F.pre desk.now.blocks) }
     requires few { machine.old.cycle + count ≤ 2 ^ 52 }
     requires written { 0 < length machine.old.devices.nodes → machine.old.written + count ≤ 8000 }
-    ensures does { DoesBy (record { blocks = F.post desk.now.blocks; vendor = H.post desk.now.vendor }) (λ s. Carries s (Cycles count))
+    ensures does { PerformedWithDesk (record { blocks = F.post desk.now.blocks; vendor = H.post desk.now.vendor }) (λ s. Carries s (Cycles count))
         machine.old machine.new (K.held sink.old) (K.held sink.new) (K.faults sink.old) (K.faults sink.new) result }
 {
     let mut talkers = machine.devices.talkers();
     let mut end = machine.streams.end(&machine.devices);
+    room.cycle.clear();
     for i in 0..count {
-        write_cycle(machine, &mut talkers, &mut end, desk, room, sink)?;
+        make_room(&mut room.cycle, sink)?;
+        put_cycle(machine, &mut talkers, &mut end, desk, room);
     }
-    Ok(())
+    write_out(&mut room.cycle, sink)
 }

@@ -1,6 +1,6 @@
 //! The reel: a deck records what its input plug hears (own).
 
-ghost use Rattle.std.specs.Prelude.{◌≡◌, ◌<◌, ◌≤◌, ℕ, List, None, [], ◌∷◌, length, IfSome, IsTrue};
+ghost use Rattle.std.specs.Prelude.{◌≡◌, ◌<◌, ◌≤◌, None, [], ◌∷◌, length, IfSome, IsTrue};
 ghost use Rattle.fw_devices.specs.Network.{is_node};
 ghost use Rattle.fw_run.specs.Actions.{TieReel};
 ghost use Rattle.fw_run.specs.Good.{IsGood};
@@ -9,7 +9,7 @@ ghost use Rattle.fw_tape.specs.Transports.{same_state};
 ghost use Rattle.fw_tape.specs.declared.cassette.Cassette.{Cassette};
 ghost use Rattle.fw_run.specs.Recording.{room_of};
 ghost use Rattle.fw_carry.specs.Cycling.{hearing, hearing_of, reel_after, recording_in};
-ghost use Rattle.fw_carry.specs.Doings.{Acts, Does};
+ghost use Rattle.fw_carry.specs.Performing.{Performs, Performed};
 ghost use Rattle.fw_machine.specs.Orders.{has_deck_in};
 ghost use Rattle.fw_machine.specs.Stands.{IsReady, StandsFor};
 
@@ -88,7 +88,7 @@ pub(crate) fn dub<K: Sink>(
     requires declared { device < length machine.old.devices.nodes }
     requires deck { IsTrue (has_deck_in machine.old.devices device) }
     requires on { IsTrue (is_node machine.old.devices.nodes device) }
-    ensures does { Does (Acts (TieReel device ∷ [])) machine.old machine.new (K.held sink.old) (K.held sink.new) (K.faults sink.old) (K.faults sink.new) result }
+    ensures does { Performed (Performs (TieReel device ∷ [])) machine.old machine.new (K.held sink.old) (K.held sink.new) (K.faults sink.old) (K.faults sink.new) result }
 {
     machine.reel.clear();
     machine.tied = Some(device);

@@ -1,18 +1,17 @@
 //! Frames between nodes (IEC 61883-1, 9): commands of the script, and all that decks send.
 
-ghost use Rattle.std.specs.Prelude.{◌≡◌, ◌≤◌, ◌<◌, ◌+◌, ℕ, Some, IsSome, IfOk, IsTrue, length};
-ghost use Rattle.fw_async.specs.Async.{Fits, AreBytes};
+ghost use Rattle.std.specs.Prelude.{◌≡◌, ◌≤◌, ◌<◌, ℕ, Some, IsSome, IfOk, IsTrue, length};
+ghost use Rattle.fw_async.specs.Async.{Fits};
 ghost use Rattle.fw_csr.specs.declared.offset.TheConstants.{FCP_COMMAND};
 ghost use Rattle.fw_devices.specs.Entries.{node_device};
 ghost use Rattle.fw_devices.specs.Network.{is_node, node_at};
 ghost use Rattle.fw_node.specs.Packets.{request_in, RequestFits};
 ghost use Rattle.fw_run.specs.Carrying.{SendsAll};
-ghost use Rattle.fw_run.specs.Desks.{DeskRelations};
 ghost use Rattle.fw_run.specs.Frames.{write_request};
 ghost use Rattle.fw_run.specs.declared.order.Order.TheVariants.{Command};
 ghost use Rattle.fw_tape.specs.Desks.{AnyVendorByte};
-ghost use Rattle.fw_carry.specs.Doings.{Does};
-ghost use Rattle.fw_carry.specs.Framing.{CarriesBy, Commands, SendsNext, IsQuiet, IsWrite, IsFrameTo, frames_of};
+ghost use Rattle.fw_carry.specs.Performing.{Performed};
+ghost use Rattle.fw_carry.specs.Framing.{CarriesWithDesk, Commands, SendsNext, IsQuiet, IsWrite, IsFrameTo, frames_of};
 ghost use Rattle.fw_machine.specs.Stands.{IsReady, is_linked_in, is_living_in};
 
 use crate::exchange::exchange;
@@ -24,7 +23,7 @@ use fw_machine::{Machine, Room};
 use fw_node::request_packet;
 use fw_outside::{Failed, Sink};
 use fw_tape::Desk;
-use fw_words::{Bytes512, Data, quadlet_at};
+use fw_words::{Bytes512, Data, are_bytes, quadlet_at};
 
 /// What writes bytes to FCP_COMMAND: four by a quadlet write, all else by a block write.
 fn command_request(bytes: &[u8]) -> Request<'_>
@@ -43,13 +42,6 @@ fn command_request(bytes: &[u8]) -> Request<'_>
         offset: FCP_COMMAND,
         bytes: Data::new(bytes),
     }
-}
-
-/// What the type of a slice says of its items.
-fn are_bytes(bytes: &[u8])
-    ensures { AreBytes bytes.now }
-{
-    let _ = bytes;
 }
 
 /// The number of the node that a frame goes to.
@@ -96,7 +88,7 @@ fn write_command<K: Sink, F: Fn(u16, u32, u16) -> [u8; 480], H: Fn(u32, u8) -> u
     requires to { IsTrue (is_linked_in machine.old.devices to) }
     requires quiet { IsQuiet machine.old.devices }
     requires few { length bytes.now ≤ 512 }
-    ensures does { Does (Commands (record { blocks = F.post desk.now.blocks; vendor = H.post desk.now.vendor }) from to bytes.now)
+    ensures does { Performed (Commands (record { blocks = F.post desk.now.blocks; vendor = H.post desk.now.vendor }) from to bytes.now)
         machine.old machine.new (K.held sink.old) (K.held sink.new) (K.faults sink.old) (K.faults sink.new) result }
     ensures size { length machine.new.devices.nodes ≡ length machine.old.devices.nodes }
 {
@@ -123,7 +115,7 @@ pub(crate) fn command<K: Sink, F: Fn(u16, u32, u16) -> [u8; 480], H: Fn(u32, u8)
     requires to { IsTrue (is_linked_in machine.old.devices to) }
     requires quiet { IsQuiet machine.old.devices }
     requires few { length bytes.now ≤ 512 }
-    ensures does { Does (CarriesBy (record { blocks = F.post desk.now.blocks; vendor = H.post desk.now.vendor }) (Command from to bytes.now))
+    ensures does { Performed (CarriesWithDesk (record { blocks = F.post desk.now.blocks; vendor = H.post desk.now.vendor }) (Command from to bytes.now))
         machine.old machine.new (K.held sink.old) (K.held sink.new) (K.faults sink.old) (K.faults sink.new) result }
 {
     write_command(machine, from, to, bytes, desk, room, sink)?;
@@ -152,7 +144,7 @@ fn send_frame<K: Sink>(
 ) -> Result<bool, Failed>
     requires ready { IsReady machine.old }
     requires declared { device < length machine.old.devices.nodes }
-    ensures does { Does (SendsNext device result) machine.old machine.new (K.held sink.old) (K.held sink.new) (K.faults sink.old) (K.faults sink.new) result }
+    ensures does { Performed (SendsNext device result) machine.old machine.new (K.held sink.old) (K.held sink.new) (K.faults sink.old) (K.faults sink.new) result }
     ensures size { length machine.new.devices.nodes ≡ length machine.old.devices.nodes }
     ensures fewer { IfOk result (λ sent. IsTrue sent
         → frames_of (node_at machine.new.devices.nodes device) < frames_of (node_at machine.old.devices.nodes device)) }
@@ -175,7 +167,7 @@ pub(crate) fn send_frames<K: Sink>(
 ) -> Result<(), Failed>
     requires ready { IsReady machine.old }
     requires declared { device < length machine.old.devices.nodes }
-    ensures does { Does (SendsAll device) machine.old machine.new (K.held sink.old) (K.held sink.new) (K.faults sink.old) (K.faults sink.new) result }
+    ensures does { Performed (SendsAll device) machine.old machine.new (K.held sink.old) (K.held sink.new) (K.faults sink.old) (K.faults sink.new) result }
 {
     let mut bytes = Bytes512::new();
     while send_frame(machine, device, &mut bytes, room, sink)? {}

@@ -5,7 +5,7 @@ ghost use Rattle.std.specs.Prelude.{◌≡◌, ◌<◌, ℕ, [], ◌∷◌, IsTr
 ghost use Rattle.fw_cmp.specs.Losses.{Awaits};
 ghost use Rattle.fw_run.specs.HalfSteps as HalfSteps;
 ghost use Rattle.fw_run.specs.Actions.{Lose};
-ghost use Rattle.fw_carry.specs.Doings.{Acts, Does, Speaks};
+ghost use Rattle.fw_carry.specs.Performing.{Performs, Performed, WritesHalf};
 ghost use Rattle.fw_carry.specs.Serving.{Serves};
 ghost use Rattle.fw_machine.specs.Stands.{IsReady, is_living_in};
 ghost use Rattle.fw_machine.specs.Tables.{Listens, dead_of, states_of};
@@ -30,7 +30,7 @@ pub(crate) fn turn<K: Sink>(
     requires ready { IsReady machine.old }
     requires living { IsTrue (is_living_in machine.old device) }
     requires hears { IsFalse (states_of machine.old.controllers device).lost }
-    ensures speaks { Speaks HalfSteps.half machine.old machine.new device (K.held sink.old) (K.held sink.new) (K.faults sink.old) (K.faults sink.new) result }
+    ensures speaks { WritesHalf HalfSteps.half machine.old machine.new device (K.held sink.old) (K.held sink.new) (K.faults sink.old) (K.faults sink.new) result }
     ensures living { (d : ℕ) → is_living_in machine.new d ≡ is_living_in machine.old d }
     ensures time { (machine.new.cycle ≡ machine.old.cycle) }
     ensures half_steps { machine.new.half_steps ≡ machine.old.half_steps }
@@ -54,7 +54,7 @@ fn ask<K: Sink>(
     requires ready { IsReady machine.old }
     requires living { IsTrue (is_living_in machine.old device) }
     requires heard { Listens (states_of machine.old.controllers device) }
-    ensures speaks { Speaks HalfSteps.half machine.old machine.new device (K.held sink.old) (K.held sink.new) (K.faults sink.old) (K.faults sink.new) result }
+    ensures speaks { WritesHalf HalfSteps.half machine.old machine.new device (K.held sink.old) (K.held sink.new) (K.faults sink.old) (K.faults sink.new) result }
     ensures same { machine.new ≡ record machine.old { controllers = machine.new.controllers; wire = machine.new.wire } }
     ensures dead { dead_of machine.new.controllers ≡ dead_of machine.old.controllers }
 {
@@ -96,7 +96,7 @@ pub(crate) fn hear<K: Sink>(
     requires ready { IsReady machine.old }
     requires living { IsTrue (is_living_in machine.old device) }
     requires standing { Awaits (states_of machine.old.controllers device) }
-    ensures speaks { Speaks HalfSteps.half machine.old machine.new device (K.held sink.old) (K.held sink.new) (K.faults sink.old) (K.faults sink.new) result }
+    ensures speaks { WritesHalf HalfSteps.half machine.old machine.new device (K.held sink.old) (K.held sink.new) (K.faults sink.old) (K.faults sink.new) result }
     ensures living { (d : ℕ) → is_living_in machine.new d ≡ is_living_in machine.old d }
     ensures time { (machine.new.cycle ≡ machine.old.cycle) }
     ensures half_steps { machine.new.half_steps ≡ machine.old.half_steps }
@@ -119,7 +119,7 @@ pub(crate) fn lose_response<K: Sink>(
     requires living { IsTrue (is_living_in machine.old device) }
     requires standing { Awaits (states_of machine.old.controllers device) }
     requires few { machine.old.resets < 10000 }
-    ensures does { Does (Acts (Lose device ∷ [])) machine.old machine.new (K.held sink.old) (K.held sink.new) (K.faults sink.old) (K.faults sink.new) result }
+    ensures does { Performed (Performs (Lose device ∷ [])) machine.old machine.new (K.held sink.old) (K.held sink.new) (K.faults sink.old) (K.faults sink.new) result }
     ensures deaf { IsTrue (states_of machine.new.controllers device).lost }
 {
     let _unheard = serve_request(machine, device, &mut room.packet);

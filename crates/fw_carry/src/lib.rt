@@ -12,8 +12,10 @@ mod frames;
 mod half;
 mod lives;
 mod reset;
+mod rounds;
 mod second;
 mod steps;
+mod streams;
 mod tapes;
 mod transact;
 

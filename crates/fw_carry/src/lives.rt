@@ -7,7 +7,7 @@ ghost use Rattle.fw_cmp.specs.Starts.{break_fault};
 ghost use Rattle.fw_run.specs.Actions.{CarryOut, Die as Dies, StartConnection, StartBreak, slot_of, start_of};
 ghost use Rattle.fw_run.specs.Carrying.{Carries};
 ghost use Rattle.fw_run.specs.declared.order.Order.TheVariants.{Die, Lose, Start};
-ghost use Rattle.fw_carry.specs.Doings.{Acts, Does};
+ghost use Rattle.fw_carry.specs.Performing.{Performs, Performed};
 ghost use Rattle.fw_machine.specs.Stands.{IsReady, is_linked_in, is_living_in};
 ghost use Rattle.fw_machine.specs.Tables.{states_of};
 
@@ -28,7 +28,7 @@ pub(crate) fn connect<K: Sink>(
     requires living { IsTrue (is_living_in machine.old device) }
     requires slot { SlotFits (slot_of wanted.now) }
     requires accepted { IsOk (start_of device wanted.now (states_of machine.old.controllers device).state) }
-    ensures does { Does (Acts (StartConnection device wanted.now ∷ [])) machine.old machine.new (K.held sink.old) (K.held sink.new) (K.faults sink.old) (K.faults sink.new) result }
+    ensures does { Performed (Performs (StartConnection device wanted.now ∷ [])) machine.old machine.new (K.held sink.old) (K.held sink.new) (K.faults sink.old) (K.faults sink.new) result }
 {
     machine.controllers.connect(device, wanted);
     Ok(())
@@ -44,7 +44,7 @@ pub(crate) fn break_connection<K: Sink>(
     requires ready { IsReady machine.old }
     requires living { IsTrue (is_living_in machine.old device) }
     requires accepted { break_fault (states_of machine.old.controllers device).state slot ≡ None }
-    ensures does { Does (Acts (StartBreak device slot ∷ [])) machine.old machine.new (K.held sink.old) (K.held sink.new) (K.faults sink.old) (K.faults sink.new) result }
+    ensures does { Performed (Performs (StartBreak device slot ∷ [])) machine.old machine.new (K.held sink.old) (K.held sink.new) (K.faults sink.old) (K.faults sink.new) result }
 {
     machine.controllers.break_connection(device, slot);
     Ok(())
@@ -60,7 +60,7 @@ fn carry_request<K: Sink>(
     requires ready { IsReady machine.old }
     requires living { IsTrue (is_living_in machine.old device) }
     requires standing { Awaits (states_of machine.old.controllers device) }
-    ensures does { Does (Acts (CarryOut device ∷ [])) machine.old machine.new (K.held sink.old) (K.held sink.new) (K.faults sink.old) (K.faults sink.new) result }
+    ensures does { Performed (Performs (CarryOut device ∷ [])) machine.old machine.new (K.held sink.old) (K.held sink.new) (K.faults sink.old) (K.faults sink.new) result }
     ensures living { IsTrue (is_living_in machine.new device) }
 {
     hear(machine, device, room, sink)
@@ -77,7 +77,7 @@ pub(crate) fn lose<K: Sink>(
     requires living { IsTrue (is_living_in machine.old device) }
     requires standing { Awaits (states_of machine.old.controllers device) }
     requires few { machine.old.resets < 10000 }
-    ensures does { Does (λ s. Carries s (Lose device)) machine.old machine.new (K.held sink.old) (K.held sink.new) (K.faults sink.old) (K.faults sink.new) result }
+    ensures does { Performed (λ s. Carries s (Lose device)) machine.old machine.new (K.held sink.old) (K.held sink.new) (K.faults sink.old) (K.faults sink.new) result }
 {
     lose_response(machine, device, room, sink)?;
     give(
@@ -98,7 +98,7 @@ fn stop<K: Sink>(
 ) -> Result<(), Failed>
     requires ready { IsReady machine.old }
     requires living { IsTrue (is_living_in machine.old device) }
-    ensures { Does (Acts (Dies device ∷ [])) machine.old machine.new (K.held sink.old) (K.held sink.new) (K.faults sink.old) (K.faults sink.new) result }
+    ensures { Performed (Performs (Dies device ∷ [])) machine.old machine.new (K.held sink.old) (K.held sink.new) (K.faults sink.old) (K.faults sink.new) result }
 {
     machine.controllers.die(device);
     let own = machine.number(device);
@@ -124,7 +124,7 @@ fn stop_late<K: Sink>(
     requires ready { IsReady machine.old }
     requires living { IsTrue (is_living_in machine.old device) }
     requires standing { Awaits (states_of machine.old.controllers device) }
-    ensures { Does (λ s. Carries s (Die device true)) machine.old machine.new (K.held sink.old) (K.held sink.new) (K.faults sink.old) (K.faults sink.new) result }
+    ensures { Performed (λ s. Carries s (Die device true)) machine.old machine.new (K.held sink.old) (K.held sink.new) (K.faults sink.old) (K.faults sink.new) result }
 {
     carry_request(machine, device, room, sink)?;
     stop(machine, device, room, sink)
@@ -140,7 +140,7 @@ pub(crate) fn die<K: Sink>(
 ) -> Result<(), Failed>
     requires ready { IsReady machine.old }
     requires living { IsTrue (is_living_in machine.old device) }
-    ensures does { Does (λ s. Carries s (Die device late)) machine.old machine.new (K.held sink.old) (K.held sink.new) (K.faults sink.old) (K.faults sink.new) result }
+    ensures does { Performed (λ s. Carries s (Die device late)) machine.old machine.new (K.held sink.old) (K.held sink.new) (K.faults sink.old) (K.faults sink.new) result }
 {
     if late && machine.controllers.get(device).has_request() {
         stop_late(machine, device, room, sink)
@@ -158,7 +158,7 @@ pub(crate) fn start<K: Sink>(
 ) -> Result<(), Failed>
     requires ready { IsReady machine.old }
     requires linked { IsTrue (is_linked_in machine.old.devices device) }
-    ensures does { Does (λ s. Carries s (Start device)) machine.old machine.new (K.held sink.old) (K.held sink.new) (K.faults sink.old) (K.faults sink.new) result }
+    ensures does { Performed (λ s. Carries s (Start device)) machine.old machine.new (K.held sink.old) (K.held sink.new) (K.faults sink.old) (K.faults sink.new) result }
 {
     if !machine.controllers.is_dead(device) {
         return Ok(());

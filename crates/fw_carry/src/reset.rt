@@ -4,7 +4,7 @@ ghost use Rattle.std.specs.Prelude.{◌≡◌, ◌≤◌, ◌<◌, ◌+◌, ◌&
 ghost use Rattle.fw_run.specs.Actions.{AddDevice, AddCable, ResetBus};
 ghost use Rattle.fw_run.specs.Carrying.{Carries};
 ghost use Rattle.fw_run.specs.declared.order.Order.TheVariants.{Withhold};
-ghost use Rattle.fw_carry.specs.Doings.{Acts, Does};
+ghost use Rattle.fw_carry.specs.Performing.{Performs, Performed};
 ghost use Rattle.fw_machine.specs.Orders.{CanJoin, joins_in};
 ghost use Rattle.fw_carry.specs.Resetting.{BeginsReset, GivesReset, directory_in};
 ghost use Rattle.fw_machine.specs.Stands.{IsReady};
@@ -95,7 +95,7 @@ pub(crate) fn reset<K: Sink>(
     requires ready { IsReady machine.old }
     requires on { IsTrue (is_node machine.old.devices.nodes device) }
     requires few { machine.old.resets < 10000 }
-    ensures does { Does (Acts (ResetBus device ∷ [])) machine.old machine.new (K.held sink.old) (K.held sink.new) (K.faults sink.old) (K.faults sink.new) result }
+    ensures does { Performed (Performs (ResetBus device ∷ [])) machine.old machine.new (K.held sink.old) (K.held sink.new) (K.faults sink.old) (K.faults sink.new) result }
 {
     machine.resets += 1;
     give_reset(machine, device, room, sink)
@@ -109,7 +109,7 @@ pub(crate) fn withhold<K: Sink>(
 ) -> Result<(), Failed>
     requires ready { IsReady machine.old }
     requires first { machine.old.devices.names ≡ [] }
-    ensures does { Does (λ s. Carries s Withhold) machine.old machine.new (K.held sink.old) (K.held sink.new) (K.faults sink.old) (K.faults sink.new) result }
+    ensures does { Performed (λ s. Carries s Withhold) machine.old machine.new (K.held sink.old) (K.held sink.new) (K.faults sink.old) (K.faults sink.new) result }
 {
     if machine.devices.withholds() {
         return Ok(());
@@ -139,7 +139,7 @@ pub(crate) fn declare<K: Sink>(
     requires some { 1 ≤ ports }
     requires most { ports ≤ 27 }
     requires speed { speed ≤ 2 }
-    ensures does { Does (Acts (AddDevice name.now kind ports speed ∷ [])) machine.old machine.new (K.held sink.old) (K.held sink.new) (K.faults sink.old) (K.faults sink.new) result }
+    ensures does { Performed (Performs (AddDevice name.now kind ports speed ∷ [])) machine.old machine.new (K.held sink.old) (K.held sink.new) (K.faults sink.old) (K.faults sink.new) result }
 {
     let is_first = machine.devices.count() == 0;
     machine.devices.add(name, kind, ports, speed);
@@ -164,7 +164,7 @@ pub(crate) fn join<K: Sink>(
     requires ready { IsReady machine.old }
     requires free { CanJoin machine.old.devices.topology a b }
     requires few { IsFalse (joins_in machine.old a b && nat_le 10000 machine.old.resets) }
-    ensures does { Does (Acts (AddCable a b ∷ [])) machine.old machine.new (K.held sink.old) (K.held sink.new) (K.faults sink.old) (K.faults sink.new) result }
+    ensures does { Performed (Performs (AddCable a b ∷ [])) machine.old machine.new (K.held sink.old) (K.held sink.new) (K.faults sink.old) (K.faults sink.new) result }
 {
     let first_is_on = machine.is_on(a.device);
     let second_is_on = machine.is_on(b.device);

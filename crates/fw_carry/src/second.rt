@@ -4,7 +4,7 @@ ghost use Rattle.std.specs.Prelude.{◌≡◌, ◌≤◌, ◌+◌, ◌-◌, ◌^
 ghost use Rattle.fw_run.specs.Actions.{EndSecond};
 ghost use Rattle.fw_run.specs.Carrying.{Carries};
 ghost use Rattle.fw_run.specs.declared.order.Order.TheVariants.{Wait};
-ghost use Rattle.fw_carry.specs.Doings.{Acts, Does};
+ghost use Rattle.fw_carry.specs.Performing.{Performs, Performed};
 ghost use Rattle.fw_carry.specs.Resetting.{RestsAfterSecond, passed_in};
 ghost use Rattle.fw_machine.specs.Stands.{IsReady};
 ghost use Rattle.fw_machine.specs.Streaming.{AreStillFrom, counted_on};
@@ -36,23 +36,28 @@ pub(crate) fn pass_one(machine: &mut Machine, end: u8)
 }
 
 /// One cycle goes by, and the second of the latest bus reset is over.
-pub(crate) fn end_second<K: Sink>(
-    machine: &mut Machine,
-    room: &mut Room,
-    sink: &mut K,
-) -> Result<(), Failed>
+pub(crate) fn pass_second(machine: &mut Machine)
     requires ready { IsReady machine.old }
-    requires runs { IsTrue machine.old.reclaiming }
-    requires now { machine.old.cycle + 1 ≡ machine.old.directory.over_at }
     requires few { machine.old.cycle + 1 ≤ 2 ^ 52 }
-    ensures does { Does (Acts (EndSecond ∷ [])) machine.old machine.new (K.held sink.old) (K.held sink.new) (K.faults sink.old) (K.faults sink.new) result }
-    ensures rests { RestsAfterSecond machine.old machine.new }
+    ensures { RestsAfterSecond machine.old machine.new }
 {
     machine.devices.second_over();
     machine.streams.pass(&mut machine.devices, 1);
     machine.cycle += 1;
     machine.reclaiming = false;
     machine.controllers.second_over();
+}
+
+/// The same, and it is written.
+fn end_second<K: Sink>(machine: &mut Machine, room: &mut Room, sink: &mut K) -> Result<(), Failed>
+    requires ready { IsReady machine.old }
+    requires runs { IsTrue machine.old.reclaiming }
+    requires now { machine.old.cycle + 1 ≡ machine.old.directory.over_at }
+    requires few { machine.old.cycle + 1 ≤ 2 ^ 52 }
+    ensures does { Performed (Performs (EndSecond ∷ [])) machine.old machine.new (K.held sink.old) (K.held sink.new) (K.faults sink.old) (K.faults sink.new) result }
+    ensures rests { RestsAfterSecond machine.old machine.new }
+{
+    pass_second(machine);
     give(
         &machine.devices,
         machine.cycle,
@@ -71,7 +76,7 @@ pub(crate) fn wait<K: Sink>(
 ) -> Result<(), Failed>
     requires ready { IsReady machine.old }
     requires few { machine.old.cycle + cycles ≤ 2 ^ 52 }
-    ensures does { Does (λ s. Carries s (Wait cycles)) machine.old machine.new (K.held sink.old) (K.held sink.new) (K.faults sink.old) (K.faults sink.new) result }
+    ensures does { Performed (λ s. Carries s (Wait cycles)) machine.old machine.new (K.held sink.old) (K.held sink.new) (K.faults sink.old) (K.faults sink.new) result }
 {
     let last = machine.cycle + u64::from(cycles);
     if machine.reclaiming && machine.directory.over_at <= last {
@@ -93,7 +98,7 @@ fn wait_over<K: Sink>(
     requires runs { IsTrue machine.old.reclaiming }
     requires over { machine.old.directory.over_at ≤ last }
     requires few { last ≤ 2 ^ 52 }
-    ensures does { Does (λ s. Carries s (Wait (last - machine.old.cycle))) machine.old machine.new (K.held sink.old) (K.held sink.new) (K.faults sink.old) (K.faults sink.new) result }
+    ensures does { Performed (λ s. Carries s (Wait (last - machine.old.cycle))) machine.old machine.new (K.held sink.old) (K.held sink.new) (K.faults sink.old) (K.faults sink.new) result }
 {
     pass(machine, machine.directory.over_at - 1 - machine.cycle);
     end_second(machine, room, sink)?;

@@ -1,9 +1,9 @@
 //! Tapes that go into decks and out of them.
 
-ghost use Rattle.std.specs.Prelude.{◌≡◌, ◌<◌, IsTrue, length};
+ghost use Rattle.std.specs.Prelude.{◌<◌, IsTrue, length};
 ghost use Rattle.fw_run.specs.Carrying.{Carries};
 ghost use Rattle.fw_run.specs.declared.order.Order.TheVariants.{Insert, Eject};
-ghost use Rattle.fw_carry.specs.Doings.{Does};
+ghost use Rattle.fw_carry.specs.Performing.{Performed};
 ghost use Rattle.fw_machine.specs.Orders.{has_deck_in};
 ghost use Rattle.fw_machine.specs.Stands.{IsReady};
 
@@ -25,7 +25,7 @@ pub(crate) fn insert<K: Sink>(
     requires ready { IsReady machine.old }
     requires declared { device < length machine.old.devices.nodes }
     requires deck { IsTrue (has_deck_in machine.old.devices device) }
-    ensures does { Does (λ s. Carries s (Insert device tape system)) machine.old machine.new (K.held sink.old) (K.held sink.new) (K.faults sink.old) (K.faults sink.new) result }
+    ensures does { Performed (λ s. Carries s (Insert device tape system)) machine.old machine.new (K.held sink.old) (K.held sink.new) (K.faults sink.old) (K.faults sink.new) result }
 {
     machine.devices.insert(device, tape, system);
     give(
@@ -48,7 +48,7 @@ pub(crate) fn eject<K: Sink>(
     requires ready { IsReady machine.old }
     requires declared { device < length machine.old.devices.nodes }
     requires deck { IsTrue (has_deck_in machine.old.devices device) }
-    ensures does { Does (λ s. Carries s (Eject device)) machine.old machine.new (K.held sink.old) (K.held sink.new) (K.faults sink.old) (K.faults sink.new) result }
+    ensures does { Performed (λ s. Carries s (Eject device)) machine.old machine.new (K.held sink.old) (K.held sink.new) (K.faults sink.old) (K.faults sink.new) result }
 {
     if !machine.devices.eject(device) {
         return Ok(());

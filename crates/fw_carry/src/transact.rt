@@ -1,12 +1,12 @@
 //! Transactions of the script, and registers that are shown.
 
-ghost use Rattle.std.specs.Prelude.{◌≡◌, ◌≤◌, ◌<◌, ◌^◌, ◌++◌, [], ◌∷◌, Some, IsSome, IsTrue, IsFalse};
+ghost use Rattle.std.specs.Prelude.{◌≡◌, ◌<◌, ◌^◌, [], ◌∷◌, Some, IsSome, IsTrue, IsFalse};
 ghost use Rattle.fw_run.specs.Actions.{Ask, Answer, AccessFits, ShowWord};
 ghost use Rattle.fw_run.specs.Spaces.{access_request};
 ghost use Rattle.fw_async.specs.Async.{Fits};
 ghost use Rattle.fw_node.specs.Packets.{request_in, RequestFits};
 ghost use Rattle.fw_devices.specs.Network.{is_node};
-ghost use Rattle.fw_carry.specs.Doings.{Acts, Does};
+ghost use Rattle.fw_carry.specs.Performing.{Performs, Performed};
 ghost use Rattle.fw_machine.specs.Orders.{is_guarded_by};
 ghost use Rattle.fw_carry.specs.Transacting.{IsRequest};
 ghost use Rattle.fw_machine.specs.Stands.{IsReady, is_linked_in, is_living_in, read_in};
@@ -20,10 +20,7 @@ use fw_machine::{Machine, Room, give};
 use fw_node::request_packet;
 use fw_outside::{Failed, Sink};
 use fw_run::{Access, Transaction};
-use fw_words::{Bytes16, Quadlet, put_quadlet};
-
-/// The lock function compare_swap.
-const COMPARE_SWAP: u8 = 2;
+use fw_words::{Bytes16, COMPARE_SWAP, Quadlet, put_quadlet};
 
 /// What an access asks of a node.
 fn request_of(access: Access) -> Request<'static>
@@ -74,7 +71,7 @@ pub(crate) fn transact<K: Sink>(
     requires to { IsTrue (is_linked_in machine.old.devices transaction.to) }
     requires free { IsFalse (is_guarded_by machine.old.candidates.begun transaction.access) }
     requires access { AccessFits transaction.access }
-    ensures does { Does (Acts (Ask transaction ∷ Answer ∷ [])) machine.old machine.new (K.held sink.old) (K.held sink.new) (K.faults sink.old) (K.faults sink.new) result }
+    ensures does { Performed (Performs (Ask transaction ∷ Answer ∷ [])) machine.old machine.new (K.held sink.old) (K.held sink.new) (K.faults sink.old) (K.faults sink.new) result }
 {
     let request = transaction_packet(machine, transaction);
     let response = machine
@@ -95,7 +92,7 @@ pub(crate) fn show<K: Sink>(
     requires linked { IsTrue (is_linked_in machine.old.devices device) }
     requires offset { offset < 2 ^ 12 }
     requires complete { (read_in machine.old device offset).rcode ≡ 0 }
-    ensures does { Does (Acts (ShowWord device offset ∷ [])) machine.old machine.new (K.held sink.old) (K.held sink.new) (K.faults sink.old) (K.faults sink.new) result }
+    ensures does { Performed (Performs (ShowWord device offset ∷ [])) machine.old machine.new (K.held sink.old) (K.held sink.new) (K.faults sink.old) (K.faults sink.new) result }
 {
     let reply = machine.read(device, offset);
     let entry = shown_entry(device, offset, reply.value);

@@ -1,5 +1,5 @@
 -- A stream: what one output plug sends on its channel, and what a listener makes of it (IEC 61883-1, DBC).
-use Rattle.std.specs.Prelude.{◌≡◌, ℕ, ◌+◌, ◌%◌, ◌==◌, Bool, true, false, List, [], ◌∷◌, ◌++◌, Option, Some, None, if◌then◌else◌}
+use Rattle.std.specs.Prelude.{◌≡◌, ℕ, ◌+◌, ◌%◌, ◌==◌, Bool, false, List, [], ◌∷◌, ◌++◌, Option, Some, None, if◌then◌else◌}
 use Rattle.std.specs.Option.{is_some}
 use Rattle.fw_words.specs.Layout.{packed}
 use Rattle.fw_cip.specs.declared.packet.IsoPacket.{IsoPacket}

@@ -1,4 +1,4 @@
-ghost use Rattle.std.specs.Prelude.{ℕ, ◌≡◌, ◌≤◌, ◌++◌, length, drop, IfOk, IfSome, None, IsTrue};
+ghost use Rattle.std.specs.Prelude.{◌≡◌, length, drop, IfOk, IfSome, None, IsTrue};
 ghost use Rattle.std.specs.Result.{result_err};
 ghost use Rattle.fw_words.specs.Quadlet.{field, quadlet_at};
 ghost use Rattle.fw_words.specs.Layout.{packed, FitWidths};

@@ -1,10 +1,9 @@
 //! Isochronous packets as bytes: the quadlets of the headers, and the block behind them.
 
 ghost use Rattle.std.specs.Prelude.{ℕ, ◌≡◌, ◌≤◌, ◌+◌, ◌++◌, List, [], length};
-ghost use Rattle.std.specs.Int.{to_be_bytes, w32};
 ghost use Rattle.fw_words.specs.Layout.{packed, FitWidths};
 ghost use Rattle.fw_cip.specs.declared.packet.IsoPacket.{IsoPacket};
-ghost use Rattle.fw_cip.specs.Iso.{Fits, spelling, head_bytes, header_layout, first_layout, second_layout, block_bytes, data_length};
+ghost use Rattle.fw_cip.specs.Iso.{Fits, spelling, head_bytes, header_layout, first_layout, second_layout, block_bytes};
 
 use crate::{CipHeader, IsoPacket};
 use arrayvec::ArrayVec;

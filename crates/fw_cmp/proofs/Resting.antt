@@ -39,9 +39,6 @@ unpicked now d ss ts e =
     let parts = either (is_some (to_restore (at_rest ss ts))) (is_some (waiting_break (at_rest ss ts))) (not (is_empty ts) && not (nat_lt now d.over_at)) e in
     record { restoring = nothing_of (to_restore (at_rest ss ts)) parts.0; breaks = nothing_of (waiting_break (at_rest ss ts)) parts.1; makings = parts.2 }
 
-pickable : (now : ℕ) (d : Directory) (ss : List Slot) (ts : List Task) → Unpicked now d ss ts → can_pick now d ss ts ≡ false
-pickable now d ss ts h = rw (h.restoring, h.breaks) h.makings
-
 making_stays : (c : ControllerState) (a b : Bool) → (not a && not b) ≡ false → (if a then c else (if b then c else takes_task c 0)) ≡ c
 making_stays c true b e = refl
 making_stays c false true e = refl

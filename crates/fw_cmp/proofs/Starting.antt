@@ -1,5 +1,5 @@
 -- A start is refused by the rules, and a new connection takes the lowest free slot.
-use Rattle.std.proofs.Common.{◌≡◌, ℕ, zero, suc, ◌<◌, ◌≤◌, Bool, true, false, length, refl, ap, sym, ◌∙◌, arith, Option, Some, None, Ok, Err}
+use Rattle.std.proofs.Common.{◌≡◌, ℕ, zero, suc, ◌<◌, ◌≤◌, Bool, true, false, length, refl, ap, ◌∙◌, arith, Option, Some, None, Ok, Err}
 use Rattle.std.specs.Prelude.{if◌then◌else◌, Result}
 use Rattle.std.proofs.lemmas.Bool.Decides.{nat_tests}
 use Rattle.fw_base.specs.Tables.{find_to}
@@ -20,9 +20,6 @@ before_first (suc n) test k e j lt = step (before_first n test k) (find_to n tes
     step below (Some i) f b t e = below (f ∙ e) j lt
     step below None f true t e = let none : IsFirst n test None = rw f at (find_to_is n test) in none j (let same : n ≡ k = cc in omega arith)
     step below None f false t e = cc
-
-started_as : (c : ControllerState) (i : ℕ) (b : Bool) → is_crowded c ≡ b → (if b then Err Busy else Ok i) ≡ start_at (Some i) c
-started_as c i b e = ap (λ (x : Bool). if x then Err Busy else Ok i) (sym e)
 
 -- ---- the table is full
 

@@ -1,11 +1,10 @@
 -- What a stage asks: of which register, and by a read or a quadlet compare_swap.
-use Rattle.std.specs.Prelude.{ℕ, ◌+◌, ◌-◌, ◌*◌, ◌==◌, ◌++◌, if◌then◌else◌, Option, Some, None, List}
-use Rattle.std.specs.Int.{to_be_bytes, w32}
+use Rattle.std.specs.Prelude.{ℕ, ◌+◌, ◌-◌, ◌*◌, ◌==◌, if◌then◌else◌, Option, Some, None}
 use Rattle.std.specs.Option.{option_map}
 use Rattle.fw_csr.specs.declared.offset.TheConstants.{BANDWIDTH_AVAILABLE, CHANNELS_AVAILABLE_HI, CHANNELS_AVAILABLE_LO, OPCR, IPCR}
 use Rattle.fw_csr.specs.declared.request.Request.{Request}
-use Rattle.fw_csr.specs.declared.request.Request.TheVariants.{Read, Lock}
-use Rattle.fw_csr.specs.declared.request.Swap.{Swap}
+use Rattle.fw_csr.specs.Requests.{request_at}
+use Rattle.fw_words.specs.declared.swap.Swap.{Swap}
 use Rattle.fw_plug.specs.Words.{is_connected}
 use Rattle.fw_cmp.specs.declared.job.Job.{Job}
 use Rattle.fw_cmp.specs.declared.request.Target.{Target}
@@ -103,15 +102,6 @@ offset_of (OutputPlug p) = OPCR + 4 * p.plug
 offset_of (InputPlug p) = IPCR + 4 * p.plug
 offset_of (Channels base) = if base == 0 then CHANNELS_AVAILABLE_HI else CHANNELS_AVAILABLE_LO
 offset_of BandwidthAvailable = BANDWIDTH_AVAILABLE
-
--- the bytes of a lock request: the argument, and then the new word
-abbrev pub swap_bytes : Swap → List ℕ
-swap_bytes s = to_be_bytes w32 s.argument ++ to_be_bytes w32 s.new
-
--- a quadlet read at an offset, or a lock request of function 2 there
-abbrev pub request_at : ℕ → Option Swap → Request
-request_at offset None = Read offset
-request_at offset (Some s) = Lock offset 2 (swap_bytes s)
 
 -- a quadlet read, or a lock request of function 2
 abbrev pub request_of : Access → Request

@@ -1,7 +1,7 @@
 //! How a job begins, when a restoring comes too late, and how a job ends.
 
-ghost use Rattle.std.specs.Prelude.{◌≡◌, ◌<◌, IsTrue, IsFalse};
-ghost use Rattle.fw_cmp.specs.Fits.{JobFits, StageFits, FlowFits, SlotFits, ConnectionFits};
+ghost use Rattle.std.specs.Prelude.{◌≡◌, IsFalse};
+ghost use Rattle.fw_cmp.specs.Fits.{JobFits, StageFits, FlowFits, SlotFits};
 ghost use Rattle.fw_cmp.specs.Turns.{own_flow, begin_making, begin_leaving, begin_breaking, begin, is_undecided, is_over, is_late, resumed, outcome_for, made_outcome, outcome_of};
 ghost use Rattle.fw_cmp.specs.Controllers.{job_for};
 ghost use Rattle.fw_cmp.specs.declared.directory.Directory.{Directory as BusDirectory};

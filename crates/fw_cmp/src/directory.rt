@@ -1,5 +1,5 @@
 ghost use Rattle.std.specs.Prelude.{◌≡◌, ◌<◌};
-ghost use Rattle.fw_cmp.specs.Fits.{PlugFits, ConnectionFits};
+ghost use Rattle.fw_cmp.specs.Fits.{ConnectionFits};
 ghost use Rattle.fw_cmp.specs.Nodes.{node_of};
 ghost use Rattle.fw_cmp.specs.Requests.{addressee_of};
 ghost use Rattle.fw_cmp.specs.Turns.{without_node, absent_of};

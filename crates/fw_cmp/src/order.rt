@@ -1,7 +1,7 @@
 //! The order of jobs: connections to be restored, lowest slot first; then the first waiting break; then the first other waiting
 //! job, where no reclaim second runs.
 
-ghost use Rattle.std.specs.Prelude.{◌≡◌, ◌<◌, IfSome, length, slice_index_or, position, All, []};
+ghost use Rattle.std.specs.Prelude.{◌≡◌, ◌<◌, IfSome, length, slice_index_or, position, All};
 ghost use Rattle.fw_cmp.specs.declared.connection.Slot.TheVariants.{Free};
 ghost use Rattle.fw_cmp.specs.declared.current.Current.TheVariants.{Nothing};
 ghost use Rattle.fw_cmp.specs.Controllers.{IsHeard};

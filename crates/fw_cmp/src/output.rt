@@ -5,7 +5,7 @@ ghost use Rattle.fw_plug.specs.Words.{is_connected};
 ghost use Rattle.fw_cmp.specs.Connections.{kind_of};
 ghost use Rattle.fw_cmp.specs.Plugs.{is_full};
 ghost use Rattle.fw_cmp.specs.Decisions.{restores, is_other, is_lost, decide_free, decide_connected, decide_out, first_flow, overlaid_flow, output_joined};
-ghost use Rattle.fw_cmp.specs.Fits.{JobFits, StageFits, HeldFits, HasOutput, ResourcesFit, FlowFits, IsUnconnected};
+ghost use Rattle.fw_cmp.specs.Fits.{JobFits, StageFits, HeldFits, HasOutput, FlowFits};
 
 use crate::release::give_back;
 use crate::words::{half_of, is_full, units_with};

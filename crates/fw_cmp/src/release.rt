@@ -1,11 +1,11 @@
 //! Leaving plugs, and giving back units and channels.
 
-ghost use Rattle.std.specs.Prelude.{◌≡◌, ◌<◌, ◌^◌, IsTrue};
+ghost use Rattle.std.specs.Prelude.{◌≡◌, ◌<◌, IsTrue};
 ghost use Rattle.fw_cmp.specs.declared.job.Job.{Job as JobRecord};
 ghost use Rattle.fw_cmp.specs.Connections.{kind_of};
 ghost use Rattle.fw_cmp.specs.Plugs.{shows_connection};
 ghost use Rattle.fw_cmp.specs.Decisions.{goes_on, give_back, leave_output, input_left, decide_leave_in, decide_leave_out, output_left, decide_raise};
-ghost use Rattle.fw_cmp.specs.Fits.{StageFits, HeldFits, HasOutput, HasInput, FlowFits, ResourcesFit};
+ghost use Rattle.fw_cmp.specs.Fits.{StageFits, HeldFits, HasOutput, HasInput, FlowFits};
 
 use crate::words::{one_less, remainder, shows_connection};
 use crate::{Connection, Ending, Flow, Held, Job, Stage, Then};

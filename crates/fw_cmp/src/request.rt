@@ -11,8 +11,9 @@ use crate::words::{
 };
 use crate::{Job, Stage};
 use fw_base::PlugAt;
-use fw_csr::{BANDWIDTH_AVAILABLE, CHANNELS_AVAILABLE_HI, CHANNELS_AVAILABLE_LO, Swap};
+use fw_csr::{BANDWIDTH_AVAILABLE, CHANNELS_AVAILABLE_HI, CHANNELS_AVAILABLE_LO};
 use fw_plug::{IPCR, OPCR, OutWord};
+use fw_words::Swap;
 
 /// A register that a job asks for: that of a plug, or one of the isochronous resource manager's.
 #[derive(Clone, Copy)]

@@ -1,8 +1,8 @@
 //! What the words of the isochronous resource manager's registers mean for a job that allocates a channel and units.
 
-ghost use Rattle.std.specs.Prelude.{◌≡◌, ◌<◌, ◌^◌, IsFalse};
+ghost use Rattle.std.specs.Prelude.{◌≡◌, ◌<◌, IsFalse};
 ghost use Rattle.fw_plug.specs.Words.{is_connected};
-ghost use Rattle.fw_cmp.specs.Decisions.{decide_any, decide_channel, decide_units, needs};
+ghost use Rattle.fw_cmp.specs.Decisions.{decide_channel, decide_units, needs};
 ghost use Rattle.fw_cmp.specs.Fits.{JobFits, StageFits, HasOutput, IsHalf, AskedWithin};
 
 use crate::words::{first_free, remainder, units_with};

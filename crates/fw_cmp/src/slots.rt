@@ -1,7 +1,7 @@
 //! The slots of a controller: which are free, which are to be restored, and what a bus reset and the end of the reclaim
 //! second make of them.
 
-ghost use Rattle.std.specs.Prelude.{◌≡◌, ◌<◌, length, slice_index_or, is_some, map, IfSome};
+ghost use Rattle.std.specs.Prelude.{◌≡◌, ◌<◌, slice_index_or, is_some, map, IfSome};
 ghost use Rattle.fw_base.specs.Tables.{find_to};
 ghost use Rattle.fw_cmp.specs.declared.connection.Slot.TheVariants.{Free};
 ghost use Rattle.fw_cmp.specs.Controllers.{is_free, is_restoring, is_breakable, job_for};

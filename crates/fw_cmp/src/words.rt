@@ -3,7 +3,7 @@
 
 ghost use Rattle.std.specs.Prelude.{◌≡◌, ◌<◌, ◌≤◌, ◌-◌, ◌^◌, IfSome, IsFalse, IsTrue};
 ghost use Rattle.fw_base.specs.Tables.{find_to};
-ghost use Rattle.fw_cmp.specs.Plugs.{is_full, shows_connection, connection_value, one_more, one_less, with_channel, with_overhead, channel_of, overhead_of, units_with, half_of, is_bit, with_bit, without_bit, remainder_of};
+ghost use Rattle.fw_cmp.specs.Plugs.{is_full, shows_connection, connection_value, one_more, one_less, with_channel, with_overhead, units_with, half_of, is_bit, with_bit, without_bit, remainder_of};
 
 use fw_base::ConnectionKind;
 use fw_plug::OutWord;

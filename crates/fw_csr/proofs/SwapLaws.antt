@@ -2,8 +2,8 @@
 use Rattle.std.proofs.Common.{◌≡◌, ℕ, ◌^◌, ◌<◌, Some, ap, ◌∙◌}
 use Rattle.std.proofs.lemmas.Nat.{from_be_bytes-to_be_bytes_4}
 use Rattle.fw_words.specs.Quadlet.{quadlet_at}
-use Rattle.fw_csr.specs.declared.request.Swap.{Swap}
-use Rattle.fw_csr.specs.Requests.{quadlet_swap, swap_bytes}
+use Rattle.fw_words.specs.declared.swap.Swap.{Swap}
+use Rattle.fw_words.specs.Swaps.{quadlet_swap, swap_bytes}
 
 pub same_swap : (argument new : ℕ) → argument < 2 ^ 32 → new < 2 ^ 32
     → quadlet_swap 2 (swap_bytes (record { argument = argument; new = new })) ≡ Some (record { argument = argument; new = new })

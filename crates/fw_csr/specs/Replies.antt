@@ -1,9 +1,10 @@
 -- What a register answers, by which requests it allows, and what a request leaves in it (IEEE 1394-1995, transactions).
 use Rattle.std.specs.Prelude.{ℕ, ◌==◌, Option, Some, None, if◌then◌else◌}
-use Rattle.fw_csr.specs.Requests.{swap_in, quadlet_swap}
+use Rattle.fw_csr.specs.Requests.{swap_in}
+use Rattle.fw_words.specs.Swaps.{quadlet_swap}
 use Rattle.fw_csr.specs.declared.request.Request.{Request}
 use Rattle.fw_csr.specs.declared.request.Request.TheVariants.{Read, Write, WriteBlock, Lock}
-use Rattle.fw_csr.specs.declared.request.Swap.{Swap}
+use Rattle.fw_words.specs.declared.swap.Swap.{Swap}
 use Rattle.fw_csr.specs.declared.reply.Reply.{Reply}
 use Rattle.fw_csr.specs.declared.register.Register.{Register}
 use Rattle.fw_csr.specs.declared.register.Register.TheVariants.{ReadOnly, ReadSwap, WriteOnly}

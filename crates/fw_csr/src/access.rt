@@ -1,7 +1,7 @@
 ghost use Rattle.std.specs.Prelude.{◌≡◌};
 ghost use Rattle.fw_csr.specs.Requests.{offset_of, request_at};
 
-use crate::Swap;
+use fw_words::Swap;
 use std::marker::Model;
 
 /// A read, or a compare_swap, of the quadlet at an offset. It stands for the request that it is, and is short where a

@@ -3,6 +3,7 @@
 #![tactic(auto)]
 
 mod access;
+pub mod low_offset;
 mod manager;
 pub mod offset;
 mod register;
@@ -18,5 +19,5 @@ pub use offset::{
 };
 pub use register::Register;
 pub use reply::{Reply, ResponseCode};
-pub use request::{Request, Swap};
+pub use request::Request;
 pub use word::Word;

@@ -1,8 +1,7 @@
 //! `map dot`: the tree of the last bus reset of a log, as a graph.
 
-ghost use Rattle.std.specs.Prelude.{◌≡◌, ◌≤◌, ◌++◌, ◌∷◌, ℕ, List, [], length};
+ghost use Rattle.std.specs.Prelude.{◌≡◌, ◌≤◌, ◌++◌, ◌∷◌, List, [], length};
 ghost use Rattle.fw_outside.specs.Stops.{ReadCount, WriteCount};
-ghost use Rattle.fw_entry.specs.Log.{Fits};
 ghost use Rattle.fw_entry.specs.declared.entry.Timed.{Timed as TimedEntry};
 ghost use Rattle.fw_reading.specs.Endings.{stop_of, Reads, IsComplete};
 ghost use Rattle.fw_decode.specs.Texts.{silent_form};

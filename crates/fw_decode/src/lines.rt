@@ -1,6 +1,6 @@
 //! `decode`: the line of each entry, as it ends.
 
-ghost use Rattle.std.specs.Prelude.{◌≡◌, ◌++◌, ℕ, List, OnOk, ⊤};
+ghost use Rattle.std.specs.Prelude.{◌≡◌, ◌++◌, OnOk, ⊤};
 ghost use Rattle.fw_outside.specs.Stops.{ReadCount, WriteCount};
 ghost use Rattle.fw_entry.specs.declared.entry.Entry.{Entry};
 ghost use Rattle.fw_log.specs.Passing.{HasBody};

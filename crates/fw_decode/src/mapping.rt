@@ -1,6 +1,6 @@
 //! `map`: the tree of the last bus reset of a log, as text.
 
-ghost use Rattle.std.specs.Prelude.{ℕ, List, []};
+ghost use Rattle.std.specs.Prelude.{[]};
 ghost use Rattle.fw_outside.specs.Stops.{ReadCount, WriteCount};
 ghost use Rattle.fw_reading.specs.Endings.{stop_of, Reads, IsComplete};
 ghost use Rattle.fw_decode.specs.Texts.{silent_form};

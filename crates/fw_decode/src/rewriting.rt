@@ -1,8 +1,8 @@
 //! `convert`: a log that is written again in a version, as its entries end.
 
-ghost use Rattle.std.specs.Prelude.{◌≡◌, ◌++◌, ◌∷◌, [], ℕ, List, IfOk, OnOk, ⊤};
+ghost use Rattle.std.specs.Prelude.{◌≡◌, ◌++◌, [], IfOk, OnOk, ⊤};
 ghost use Rattle.fw_outside.specs.Stops.{ReadCount, WriteCount};
-ghost use Rattle.fw_entry.specs.Log.{Fits, body, header_bytes, epoch_after, entry_bytes};
+ghost use Rattle.fw_entry.specs.Log.{Fits, body, epoch_after, entry_bytes};
 ghost use Rattle.fw_reading.specs.Endings.{stop_of, Reads, IsComplete};
 ghost use Rattle.fw_decode.specs.Texts.{log_form, nothing};
 ghost use Rattle.fw_decode.specs.Silences.{never_refused};

@@ -1,6 +1,6 @@
 //! `dv`: a report of the streams of a log, at its end.
 
-ghost use Rattle.std.specs.Prelude.{◌≡◌, ◌+◌, ◌<◌, ◌^◌, ◌++◌, [], ℕ, List, length, take, IfSome, IfNone, None, ⊤};
+ghost use Rattle.std.specs.Prelude.{◌<◌, [], take, None, ⊤};
 ghost use Rattle.fw_outside.specs.Stops.{ReadCount, WriteCount};
 ghost use Rattle.fw_text.specs.Report.{report_text};
 ghost use Rattle.fw_reading.specs.Endings.{stop_of, Reads, IsComplete};

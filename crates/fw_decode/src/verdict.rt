@@ -1,6 +1,6 @@
 //! `audit`: whether the registers of a log ran as a sound account.
 
-ghost use Rattle.std.specs.Prelude.{◌≡◌, ◌+◌, ◌<◌, ◌^◌, ◌++◌, ◌∷◌, [], ℕ, List, length, IfOk, OnOk, string_bytes};
+ghost use Rattle.std.specs.Prelude.{◌≡◌, ◌+◌, ◌<◌, ◌^◌, ◌++◌, ◌∷◌, [], List, length, IfOk, string_bytes};
 ghost use Rattle.fw_outside.specs.Stops.{ReadCount, WriteCount};
 ghost use Rattle.fw_entry.specs.Log.{Fits};
 ghost use Rattle.fw_entry.specs.declared.entry.Timed.{Timed as TimedEntry};

@@ -1,6 +1,6 @@
 //! The bus reset that a body is, where it is known to be one.
 
-ghost use Rattle.std.specs.Prelude.{ℕ, ◌≡◌, ◌≤◌, List, length, take};
+ghost use Rattle.std.specs.Prelude.{◌≡◌, ◌≤◌, List, length, take};
 ghost use Rattle.fw_phy.specs.Phy.{Fits as PhyFits, spelling};
 ghost use Rattle.fw_phy.specs.declared.packet.PhyPacket.{PhyPacket as APacket};
 ghost use Rattle.fw_entry.specs.Log.{ResetFits, body};

@@ -1,5 +1,5 @@
 -- What the steps of a bus reset make of a network.
-use Rattle.std.proofs.Common.{◌≡◌, ℕ, ◌+◌, ◌<◌, ◌≤◌, ◌&&◌, List, length, slice_get, Option, Some, None, IfSome, arith, refl, sym, ap, subst, ◌∙◌}
+use Rattle.std.proofs.Common.{◌≡◌, ℕ, ◌+◌, ◌<◌, ◌≤◌, ◌&&◌, List, length, slice_get, Option, Some, None, arith, refl, sym, ap, subst, ◌∙◌}
 use Rattle.std.specs.Option.{option_map}
 use Rattle.std.proofs.lemmas.List.{length-map, get_or_default, same_lists}
 use Rattle.fw_base.specs.declared.device.DeviceKind.{DeviceKind}
@@ -28,10 +28,6 @@ use Rattle.fw_devices.proofs.NetworkLaws.{IsSameDevice, AreSameDevices, kind_of_
 
 pub declared : (t : Topology) (n : Numbering) → Made t → IsNumbering t n → (d k : ℕ) → number_at n.number d ≡ Some k → d < length t.devices
 declared t n made h d k at = placed t n (sound_made t made) h d (there (number_at n.number d) k at)
-
-pub manager_low : (t : Topology) (n : Numbering) (manager : Option ℕ) → Made t → IsNumbering t n → IsManager t.devices n.number manager → IfSome manager (λ d. d < 63)
-manager_low t n None made h m = tt
-manager_low t n (Some d) made h m = let low = declared t n made h d m.0 m.1.numbered in let few = (sound_made t made).few in omega arith
 
 -- what the steps of a bus reset give
 pub record Steps (old : Network) (initiator : ℕ) (n : Numbering) (manager : Option ℕ) (nodes : List NodeState) (e : ResetEntry) : Type 0 where

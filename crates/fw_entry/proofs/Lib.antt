@@ -1,3 +1,4 @@
 pub mod SizeLaws
 pub mod WriteLaws
 pub mod LogLaws
+pub mod RowLaws

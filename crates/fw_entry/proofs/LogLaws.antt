@@ -1,8 +1,6 @@
 -- The bytes of entries, one list behind another.
 use Rattle.std.proofs.Common.{◌≡◌, ℕ, List, [], ◌∷◌, ◌++◌, refl, ap, sym, ◌∙◌, append_assoc, append-nil}
 use Rattle.fw_entry.specs.Log.{epoch_after, latest_epoch, entry_bytes, entries_bytes}
-use Rattle.fw_entry.specs.declared.entry.Entry.{Entry}
-use Rattle.fw_entry.specs.declared.entry.Entry.TheVariants.{Reset, Async, Iso, Event, Outcome, Shown, End}
 use Rattle.fw_entry.specs.declared.entry.Timed.{Timed}
 use Rattle.fw_entry.specs.declared.version.Version.{Version}
 
@@ -21,13 +19,3 @@ pub entries_push : (v : Version) (epoch : ℕ) (xs : List Timed) (t : Timed)
     → entries_bytes v epoch (xs ++ t ∷ []) ≡ entries_bytes v epoch xs ++ entry_bytes v (epoch_after (latest_epoch epoch xs) t.what) t
 entries_push v epoch xs t =
     entries_append v epoch xs (t ∷ []) ∙ ap (λ x. entries_bytes v epoch xs ++ x) (append-nil (entry_bytes v (epoch_after (latest_epoch epoch xs) t.what) t))
-
--- an entry leads to the epoch that it leads to
-pub after_twice : (epoch : ℕ) (e : Entry) → epoch_after epoch e ≡ epoch_after (epoch_after epoch e) e
-after_twice epoch (Reset r) = refl
-after_twice epoch (Async p) = refl
-after_twice epoch (Iso p) = refl
-after_twice epoch (Event x) = refl
-after_twice epoch (Outcome o) = refl
-after_twice epoch (Shown s) = refl
-after_twice epoch End = refl

@@ -1,5 +1,5 @@
 -- The log (own): a header, and entries, each with one spelling.
-use Rattle.std.specs.Prelude.{◌≡◌, ℕ, ◌+◌, ◌/◌, ◌^◌, ◌≤◌, ◌<◌, ◌==◌, ◌||◌, ◌&&◌, nat_le, List, [], ◌∷◌, ◌++◌, Bool, true, false, slice_index, IfSome, length, Option, Some, None, if◌then◌else◌, flat_map, map, IsTrue}
+use Rattle.std.specs.Prelude.{◌≡◌, ℕ, ◌+◌, ◌/◌, ◌^◌, ◌≤◌, ◌<◌, ◌==◌, ◌||◌, ◌&&◌, List, [], ◌∷◌, ◌++◌, Bool, false, slice_index, IfSome, length, Option, Some, None, if◌then◌else◌, flat_map, map, IsTrue}
 use Rattle.std.specs.Int.{to_be_bytes, w16, w32, w64}
 use Rattle.fw_words.specs.Layout.{packed}
 use Rattle.fw_phy.specs.Phy as Phy
@@ -8,10 +8,8 @@ use Rattle.fw_phy.specs.declared.packet.PhyPacket.TheVariants.{SelfId, SelfIdMor
 use Rattle.std.specs.List.{All}
 use Rattle.fw_async.specs.Async as Async
 use Rattle.fw_cip.specs.Iso as Iso
-use Rattle.fw_entry.specs.declared.codes.TheConstants.{LOG_MAGIC, NO_DEVICE, NO_NODE, LINES_525, LINES_625}
+use Rattle.fw_entry.specs.declared.codes.TheConstants.{LOG_MAGIC, NO_NODE, LINES_525, LINES_625}
 use Rattle.fw_entry.specs.declared.codes.kind.TheConstants as Kinds
-use Rattle.fw_entry.specs.declared.codes.event.TheConstants as Events
-use Rattle.fw_entry.specs.declared.codes.outcome.TheConstants as Outcomes
 use Rattle.fw_entry.specs.declared.nodes.NodeRow.{NodeRow}
 use Rattle.fw_entry.specs.declared.entry.ResetEntry.{ResetEntry}
 use Rattle.fw_entry.specs.declared.entry.EventEntry.{EventEntry}
@@ -22,6 +20,7 @@ use Rattle.fw_entry.specs.declared.entry.Entry.TheVariants.{Reset, Async as Asyn
 use Rattle.fw_entry.specs.declared.entry.Timed.{Timed}
 use Rattle.fw_entry.specs.declared.version.Version.{Version}
 use Rattle.fw_entry.specs.declared.version.Version.TheVariants.{One, Two}
+use Rattle.fw_entry.specs.Rows.{event_form, has_tape, may_have, outcome_form, may_bring}
 
 -- the bytes of quadlets
 abbrev pub quads : List ℕ → List ℕ
@@ -55,7 +54,7 @@ reset_quads r = r.epoch ∷ packed ((8, r.root) ∷ (8, manager_byte r.manager) 
 
 -- a tape that is inserted has a second quadlet
 abbrev pub event_quads : EventEntry → List ℕ
-event_quads e = packed ((8, e.code) ∷ (8, e.device) ∷ (16, 0) ∷ []) 0 ∷ (if e.code == Events.INSERTED then packed ((16, e.tape) ∷ (16, e.system) ∷ []) 0 ∷ [] else [])
+event_quads e = packed ((8, e.code) ∷ (8, e.device) ∷ (16, 0) ∷ []) 0 ∷ (if has_tape (event_form e.code) then packed ((16, e.tape) ∷ (16, e.system) ∷ []) 0 ∷ [] else [])
 
 -- code, device, slot and zero, then the value
 abbrev pub outcome_quads : OutcomeEntry → List ℕ
@@ -130,23 +129,20 @@ entries_bytes v epoch (t ∷ ts) = entry_bytes v (epoch_after epoch t.what) t ++
 -- code, device, tape and system of an event
 abbrev pub is_event : ℕ → ℕ → ℕ → ℕ → Bool
 is_event code device tape system =
-    nat_le Events.SECOND_OVER code && nat_le code Events.DUBBING
-    && (if (code == Events.SECOND_OVER) || (code == Events.UNSETTLED) || (code == Events.WITHHELD) then device == NO_DEVICE else true)
-    && (if code == Events.INSERTED then (system == LINES_525) || (system == LINES_625) else (tape == 0) && (system == 0))
+    may_have (event_form code) device
+    && (if has_tape (event_form code) then (system == LINES_525) || (system == LINES_625) else (tape == 0) && (system == 0))
 
--- The event may be written: the end of the reclaim second, an unsettled bus and the withholding of channel 31 have no device, and a tape
--- that is inserted is of one of two systems.
+-- The event may be written: its code is in the table, it has a device and a tape as the table says, and the tape is of one of two systems.
 pub record EventFits (e : EventEntry) : Type 0 where
   pub device : e.device < 2 ^ 8
   pub tape : e.tape < 2 ^ 16
   pub shape : IsTrue (is_event e.code e.device e.tape e.system)
 
--- Broken and NoManager have no value
+-- code and value of an outcome
 abbrev pub is_outcome : ℕ → ℕ → Bool
-is_outcome code value =
-    nat_le Outcomes.CONNECTED code && nat_le code Outcomes.LATE && (if (code == Outcomes.BROKEN) || (code == Outcomes.NO_MANAGER) then value == 0 else true)
+is_outcome code value = may_bring (outcome_form code) value
 
--- The outcome may be written.
+-- The outcome may be written: its code is in the table, and it brings a value as the table says.
 pub record OutcomeFits (o : OutcomeEntry) : Type 0 where
   pub device : o.device < 2 ^ 8
   pub slot : o.slot < 2 ^ 8

@@ -75,28 +75,26 @@ impl<'a> Eq for BorrowedReset<'a> {
 /// Something that happened on the bus without a packet (own).
 #[derive(Clone, Copy, PartialEq, Eq)]
 pub struct EventEntry {
-    /// 1 second over, 2 controller died, 3 controller started, 4 tape inserted, 5 tape ejected, 6 unsettled,
-    /// 7 response lost, 8 channel 31 withheld, 9 bus manager elected, 10 candidate defeated, 11 dubbing.
+    /// One of `codes::event`; the table `EVENTS` has what else the event has by it.
     pub code: u8,
-    /// The number of the device, 255 where the event has none, as for codes 1, 6 and 8.
+    /// The number of the device, 255 where the event has none.
     pub device: u8,
-    /// The number of the inserted tape; 0 for other codes.
+    /// The number of the inserted tape; 0 where the event has none.
     pub tape: u16,
-    /// The lines of the inserted tape's system, 525 or 625; 0 for other codes.
+    /// The lines of the inserted tape's system, 525 or 625; 0 where the event has no tape.
     pub system: u16,
 }
 
 /// How a procedure of a controller ended (own).
 #[derive(Clone, Copy, PartialEq, Eq)]
 pub struct OutcomeEntry {
-    /// 1 connected, 2 broken, 3 restored, 4 no channel, 5 no units, 6 plug full, 7 input busy, 8 no plug,
-    /// 9 no manager, 10 absent, 11 reset, 12 late.
+    /// One of `codes::outcome`.
     pub code: u8,
     /// The number of the controller's device.
     pub device: u8,
     /// The slot of the procedure's connection.
     pub slot: u8,
-    /// The outcome's value; 0 for broken and no manager.
+    /// The outcome's value; 0 where it brings none, by the table `OUTCOMES`.
     pub value: u32,
 }
 

@@ -46,7 +46,8 @@ impl EntryBytes {
 
     /// All bytes.
     pub(crate) fn as_slice(&self) -> &[u8]
-        ensures { result.now ≡ self.now }
+        ensures same { result.now ≡ self.now }
+        ensures few { length result.now ≤ 2292 }
     {
         &self.bytes[..self.length]
     }

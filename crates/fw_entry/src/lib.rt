@@ -11,6 +11,7 @@ mod entry;
 mod entry_room;
 mod nodes;
 mod room;
+mod rows;
 mod version;
 mod write;
 mod write_body;
@@ -21,5 +22,8 @@ pub use entry::{
 pub use entry_room::EntryRoom;
 pub use nodes::{NodeList, NodeRow};
 pub use room::CycleRoom;
+pub use rows::{
+    EVENTS, EventForm, OUTCOMES, OutcomeForm, event_form, has_tape, may_bring, may_have,
+};
 pub use version::Version;
 pub use write::{body_of, head_of, write_async, write_entry, write_header};

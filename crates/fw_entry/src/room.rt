@@ -1,19 +1,23 @@
-ghost use Rattle.std.specs.Prelude.{◌≡◌, ◌≤◌, ◌+◌, [], ◌++◌, length};
+ghost use Rattle.std.specs.Prelude.{◌≡◌, ◌≤◌, ◌+◌, [], ◌++◌, length, IsTrue};
 ghost use Rattle.fw_cip.specs.Iso.{Fits};
-ghost use Rattle.fw_entry.specs.Log.{entry_bytes};
+ghost use Rattle.fw_entry.specs.Log.{TimedFits, entry_bytes, epoch_after};
 ghost use Rattle.fw_entry.specs.declared.entry.Entry.TheVariants.{Iso};
 ghost use Rattle.fw_entry.specs.declared.version.Version.TheVariants.{Two};
 
 use crate::codes::kind;
-use crate::write::long_head;
+use crate::write::{long_head, put_entry};
+use crate::{EntryRoom, Timed, Version};
 use fw_cip::{IsoPacket, heads_of, iso_length};
 use std::marker::Model;
 
-/// How many bytes the entries of a packet with a block on each of the 64 channels have.
-const ALL: usize = 32512;
+/// What is longer than this is written. A sink that keeps no more bytes back passes it on without a copy.
+const FULL: usize = 65_536;
 
-/// Room for the entries of version 2 of the isochronous packets of one cycle, one behind the other: of each the 16 bytes of its head, the 12 of
-/// the packet's headers, and a block. It is made once and used again for each cycle.
+/// How many bytes fit: so many, and two entries of any kind and a packet with a block on each of the 64 channels.
+const ALL: usize = 102_632;
+
+/// Room for the entries of version 2 of cycles, one behind the other, until they are written together. Of an isochronous packet these
+/// are the 16 bytes of its head, the 12 of the packet's headers, and a block. It is made once and used again.
 #[derive(Drop)]
 pub struct CycleRoom {
     bytes: [u8; ALL],
@@ -28,7 +32,7 @@ impl Model for CycleRoom {
 
     ghost view = { λ r. take r.length r.bytes };
 
-    ghost invariant = { λ r. r.length ≤ 32512 };
+    ghost invariant = { λ r. r.length ≤ 102632 };
 }
 
 impl CycleRoom {
@@ -56,12 +60,32 @@ impl CycleRoom {
         self.length = 0;
     }
 
-    /// Puts the entry of a packet behind the others, where this is the epoch of the latest bus reset.
+    /// Whether the entries of one cycle more fit: two of any kind and 64 packets.
+    pub fn has_room(&self) -> bool
+        ensures { IsTrue result → length self.now + 37096 ≤ 102632 }
+    {
+        self.length <= FULL
+    }
+
+    /// Puts an entry behind the others, where this is the epoch of the latest bus reset up to and including it. The other room is used
+    /// for it, whatever an earlier entry left there.
+    pub fn put_entry(&mut self, epoch: u32, t: &Timed, room: &mut EntryRoom)
+        requires fits { TimedFits t.now }
+        requires latest { epoch ≡ epoch_after epoch t.now.what }
+        requires room { length self.old + 2292 ≤ 102632 }
+        ensures bytes { self.new ≡ self.old ++ entry_bytes Two epoch t.now }
+        ensures size { length self.new ≤ length self.old + 2292 }
+    {
+        put_entry(Version::Two, epoch, t, &mut room.bytes);
+        self.extend(room.bytes.as_slice());
+    }
+
+    /// Puts the entry of an isochronous packet behind the others, where this is the epoch of the latest bus reset.
     #[inline(always)]
     #[tactic(auto, using(crate::proofs::SizeLaws::iso_few))]
     pub fn put(&mut self, epoch: u32, cycle: u64, p: &IsoPacket)
         requires fits { Fits p.now }
-        requires room { length self.old + 508 ≤ 32512 }
+        requires room { length self.old + 508 ≤ 102632 }
         ensures bytes { self.new ≡ self.old ++ entry_bytes Two epoch (record { cycle = cycle; what = Iso p.now }) }
         ensures size { length self.new ≤ length self.old + 508 }
     {
@@ -74,7 +98,7 @@ impl CycleRoom {
 
     #[inline(always)]
     fn extend(&mut self, more: &[u8])
-        requires { length self.old + length more.now ≤ 32512 }
+        requires { length self.old + length more.now ≤ 102632 }
         ensures { self.new ≡ self.old ++ more.now }
     {
         let end = self.length + more.len();

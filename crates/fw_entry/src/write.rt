@@ -108,7 +108,7 @@ fn put_head(version: Version, epoch: u32, kind: u8, quadlets: u16, cycle: u64, o
 }
 
 // An entry, in place of what was there.
-fn put_entry(version: Version, epoch: u32, t: &Timed, out: &mut EntryBytes)
+pub(crate) fn put_entry(version: Version, epoch: u32, t: &Timed, out: &mut EntryBytes)
     requires { TimedFits t.now }
     ensures { out.new ≡ entry_bytes version epoch t.now }
 {

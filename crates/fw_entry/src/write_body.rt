@@ -7,8 +7,9 @@ ghost use Rattle.fw_cip.specs.Iso as Iso;
 ghost use Rattle.fw_phy.specs.Phy as Phy;
 ghost use Rattle.fw_entry.specs.Log.{RowFits, node_quad, manager_byte, ResetFits, reset_quads, quads, event_quads, outcome_quads, shown_quads, EventFits, OutcomeFits, ShownFits, Fits, body};
 
-use crate::codes::{NO_NODE, event};
+use crate::codes::NO_NODE;
 use crate::entry_room::EntryBytes;
+use crate::rows::has_tape;
 use crate::{Entry, EventEntry, NodeRow, OutcomeEntry, ResetEntry, ShownEntry};
 use fw_async::packet_length;
 use fw_cip::{IsoPacket, heads_of, iso_length};
@@ -25,7 +26,7 @@ fn put_quad(out: &mut EntryBytes, q: u32)
 fn event_quadlets(e: &EventEntry) -> u16
     ensures { result ≡ length (event_quads e.now) }
 {
-    if e.code == event::INSERTED { 2 } else { 1 }
+    if has_tape(e.code) { 2 } else { 1 }
 }
 
 fn put_event(e: &EventEntry, out: &mut EntryBytes)
@@ -35,7 +36,7 @@ fn put_event(e: &EventEntry, out: &mut EntryBytes)
 {
     let first = with_field(u32::from(e.code), 8, u32::from(e.device));
     put_quad(out, with_field(first, 16, 0));
-    if e.code == event::INSERTED {
+    if has_tape(e.code) {
         put_quad(out, with_field(u32::from(e.tape), 16, u32::from(e.system)));
     }
 }

@@ -1,5 +1,5 @@
 -- The line of an entry in words (own): its cycle, and what it records, by the requests that stand before it.
-use Rattle.std.specs.Prelude.{ℕ, zero, suc, ◌+◌, ◌*◌, ◌/◌, ◌%◌, ◌^◌, ◌==◌, ◌&&◌, ◌||◌, Bool, true, false, List, [], ◌∷◌, ◌++◌, length, flat_map, slice_get, slice_index, codes, decimal, Option, Some, None, if◌then◌else◌}
+use Rattle.std.specs.Prelude.{ℕ, zero, suc, ◌+◌, ◌*◌, ◌%◌, ◌^◌, ◌==◌, ◌&&◌, ◌||◌, Bool, true, false, List, [], ◌∷◌, ◌++◌, length, flat_map, slice_get, slice_index, codes, decimal, Option, Some, None, if◌then◌else◌}
 use Rattle.std.specs.Option.{is_some}
 use Rattle.std.specs.Int.{to_be_bytes, w32}
 use Rattle.fw_words.specs.Quadlet.{quadlet_at}
@@ -13,8 +13,8 @@ use Rattle.fw_async.specs.declared.packet.Packet.TheVariants.{WriteQuadlet, Writ
 use Rattle.fw_cip.specs.declared.packet.CipHeader.{CipHeader}
 use Rattle.fw_cip.specs.declared.packet.IsoPacket.{IsoPacket}
 use Rattle.fw_csr.specs.declared.offset.TheConstants.{REGISTER_SPACE}
-use Rattle.fw_csr.specs.declared.request.Swap.{Swap}
-use Rattle.fw_csr.specs.Requests.{quadlet_swap}
+use Rattle.fw_words.specs.declared.swap.Swap.{Swap}
+use Rattle.fw_words.specs.Swaps.{quadlet_swap}
 use Rattle.fw_entry.specs.declared.nodes.NodeRow.{NodeRow}
 use Rattle.fw_entry.specs.declared.entry.ResetEntry.{ResetEntry}
 use Rattle.fw_entry.specs.declared.entry.EventEntry.{EventEntry}
@@ -24,11 +24,13 @@ use Rattle.fw_entry.specs.declared.entry.Entry.{Entry}
 use Rattle.fw_entry.specs.declared.entry.Entry.TheVariants.{Reset, Async, Iso, Event, Outcome, Shown, End}
 use Rattle.fw_entry.specs.declared.entry.Timed.{Timed}
 use Rattle.fw_names.specs.Texts.{hex, blank_hex, quadlet_text, quadlets_text, named}
+use Rattle.fw_entry.specs.Rows.{event_form, has_tape}
+use Rattle.fw_entry.specs.declared.codes.TheConstants.{NO_DEVICE}
+use Rattle.fw_entry.specs.declared.codes.outcome.TheConstants as Outcomes
 use Rattle.fw_names.specs.Names.{tcode_name, rcode_name, function_name, speed_name, port_name, device_name, system_name, format_name, event_name, event_saying, outcome_name, node_text}
-use Rattle.fw_registers.specs.declared.register.Register.{Register}
 use Rattle.fw_registers.specs.declared.register.Register.TheVariants.{FcpCommand, FcpResponse}
 use Rattle.fw_registers.specs.declared.place.Place.{Place}
-use Rattle.fw_registers.specs.declared.place.Place.TheVariants.{Named, Unnamed}
+use Rattle.fw_registers.specs.declared.place.Place.TheVariants.{Named}
 use Rattle.fw_registers.specs.declared.told.Told.TheVariants.{Word as TheWord, Swap as TheSwap}
 use Rattle.fw_registers.specs.Places.{place_of}
 use Rattle.fw_registers.specs.Words.{place_text, told_text, word_text}
@@ -252,7 +254,7 @@ iso_text p = stream_text p ++ codes " " ++ format_text (format_name p.cip) p.cip
 
 -- the device of an event, where it has one
 unfoldable pub device_text : ℕ → List ℕ
-device_text device = if device == 255 then [] else codes " device " ++ decimal device
+device_text device = if device == NO_DEVICE then [] else codes " device " ++ decimal device
 
 -- what an event says
 unfoldable pub saying_text : Option (List ℕ) → List ℕ
@@ -261,7 +263,7 @@ saying_text (Some saying) = saying
 
 -- the tape and the system that are inserted
 unfoldable pub tape_text : EventEntry → List ℕ
-tape_text e = if e.code == 4 then codes " tape " ++ decimal e.tape ++ codes ", system " ++ named (system_name e.system) (codes "lines") e.system else []
+tape_text e = if has_tape (event_form e.code) then codes " tape " ++ decimal e.tape ++ codes ", system " ++ named (system_name e.system) (codes "lines") e.system else []
 
 -- an event: its name, its device, and what it says
 unfoldable pub event_text : EventEntry → List ℕ
@@ -270,14 +272,14 @@ event_text e = codes "event " ++ named (event_name e.code) (codes "code") e.code
 -- the value of an outcome, by its code
 unfoldable pub value_text : ℕ → ℕ → List ℕ
 value_text code value =
-    if (code == 1) || (code == 3) then codes ", channel " ++ decimal value
-    else if code == 4 then codes ", CHANNELS_AVAILABLE" ++ quadlet_text value
-    else if code == 5 then codes ", units left " ++ decimal value
-    else if (code == 6) || (code == 7) then codes ", plug word" ++ quadlet_text value
-    else if code == 8 then codes ", answer" ++ rcode_text value
-    else if code == 10 then codes ", missing device " ++ decimal value
-    else if code == 11 then codes ", epoch " ++ decimal value
-    else if code == 12 then codes ", at cycle " ++ decimal value
+    if (code == Outcomes.CONNECTED) || (code == Outcomes.RESTORED) then codes ", channel " ++ decimal value
+    else if code == Outcomes.NO_CHANNEL then codes ", CHANNELS_AVAILABLE" ++ quadlet_text value
+    else if code == Outcomes.NO_UNITS then codes ", units left " ++ decimal value
+    else if (code == Outcomes.PLUG_FULL) || (code == Outcomes.INPUT_BUSY) then codes ", plug word" ++ quadlet_text value
+    else if code == Outcomes.NO_PLUG then codes ", answer" ++ rcode_text value
+    else if code == Outcomes.ABSENT then codes ", missing device " ++ decimal value
+    else if code == Outcomes.RESET then codes ", epoch " ++ decimal value
+    else if code == Outcomes.LATE then codes ", at cycle " ++ decimal value
     else []
 
 -- the name of an outcome

@@ -4,8 +4,8 @@ use Rattle.std.specs.List.{filter, position}
 use Rattle.fw_async.specs.declared.packet.Head.{Head}
 use Rattle.fw_async.specs.declared.packet.Packet.{Packet}
 use Rattle.fw_async.specs.declared.packet.Packet.TheVariants.{WriteQuadlet, WriteBlock, WriteReply, ReadQuadlet, ReadBlock, ReadQuadletReply, ReadBlockReply, CycleStart, Lock, LockReply}
-use Rattle.fw_csr.specs.declared.request.Swap.{Swap}
-use Rattle.fw_csr.specs.Requests.{quadlet_swap}
+use Rattle.fw_words.specs.declared.swap.Swap.{Swap}
+use Rattle.fw_words.specs.Swaps.{quadlet_swap}
 use Rattle.fw_entry.specs.declared.entry.Entry.{Entry}
 use Rattle.fw_entry.specs.declared.entry.Entry.TheVariants.{Reset, Async, Iso, Event, Outcome, Shown, End}
 use Rattle.fw_entry.specs.declared.entry.Timed.{Timed}

@@ -2,14 +2,9 @@
 
 ghost use Rattle.std.specs.Prelude.{◌≡◌};
 ghost use Rattle.fw_async.specs.Heads.{head_of};
-ghost use Rattle.fw_csr.specs.Requests.{quadlet_swap};
 
 use fw_async::{Head, Packet};
-use fw_csr::Swap;
-use fw_words::quadlet_at;
-
-/// The function of a compare_swap (IEEE 1394-1995, lock functions).
-const COMPARE_SWAP: u8 = 2;
+use fw_words::Swap;
 
 /// The kind of response that answers a request (IEEE 1394-1995, transaction codes).
 #[derive(Clone, Copy)]
@@ -109,7 +104,7 @@ impl Asked {
                 function,
                 bytes,
             } => {
-                let swap = swap_of(*function, bytes.as_slice());
+                let swap = Swap::of_lock(*function, bytes.as_slice());
                 Some(Asked::new(head, Answer::Lock, *offset, swap))
             }
             _ => None,
@@ -135,20 +130,6 @@ impl Asked {
         self.source == other.source
             && self.destination == other.destination
             && self.label == other.label
-    }
-}
-
-// The two words of a quadlet compare_swap, where a lock is one.
-pub(crate) fn swap_of(function: u8, bytes: &[u8]) -> Option<Swap>
-    ensures { result ≡ quadlet_swap function bytes.now }
-{
-    if function == COMPARE_SWAP && bytes.len() == 8 {
-        Some(Swap {
-            argument: quadlet_at(bytes, 0).0,
-            new: quadlet_at(bytes, 4).0,
-        })
-    } else {
-        None
     }
 }
 

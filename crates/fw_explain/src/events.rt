@@ -5,12 +5,12 @@ ghost use Rattle.std.specs.Option.{option_copied};
 ghost use Rattle.fw_explain.specs.Lines.{format_text, block_word, stream_text, iso_text, device_text, saying_text, tape_text, event_text, rcode_text, value_text, ended_text, slot_text, outcome_text, shown_device, shown_place, shown_text};
 
 use crate::lock::put_at;
-use crate::packet::put_rcode;
 use crate::parts::{put_part, put_word_part};
+use crate::response::put_rcode;
 use fw_cip::{CipHeader, IsoPacket};
 use fw_csr::REGISTER_SPACE;
-use fw_entry::codes::{NO_DEVICE, event, outcome};
-use fw_entry::{EventEntry, OutcomeEntry, ShownEntry};
+use fw_entry::codes::{NO_DEVICE, outcome};
+use fw_entry::{EventEntry, OutcomeEntry, ShownEntry, has_tape};
 use fw_names::{
     Pairs, event_name, event_saying, format_name, outcome_name, put_hex4, put_hex6, put_named,
     put_word, system_name,
@@ -95,7 +95,7 @@ fn put_saying(text: &mut Vec<u8>, saying: Option<&str>) -> Result<(), AllocError
 fn put_tape(text: &mut Vec<u8>, e: &EventEntry) -> Result<(), AllocError>
     ensures { OnOk result (text.new.items ≡ text.old.items ++ tape_text e.now) }
 {
-    if e.code != event::INSERTED {
+    if !has_tape(e.code) {
         return Ok(());
     }
     put_part(text, " tape ", u64::from(e.tape))?;

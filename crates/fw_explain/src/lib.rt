@@ -12,6 +12,7 @@ mod packet;
 mod parts;
 mod requests;
 mod reset;
+mod response;
 
 pub use asked::{Answer, Asked};
 pub use explainer::Explainer;

@@ -4,18 +4,14 @@ ghost use Rattle.std.specs.Prelude.{◌≡◌, ◌++◌, OnOk};
 ghost use Rattle.std.specs.Option.{option_copied};
 ghost use Rattle.fw_registers.specs.Places.{place_of};
 ghost use Rattle.fw_registers.specs.Words.{told_text};
-ghost use Rattle.fw_csr.specs.Requests.{quadlet_swap};
+ghost use Rattle.fw_words.specs.Swaps.{quadlet_swap};
 ghost use Rattle.fw_explain.specs.Lines.{at_text, function_text, swap_text, lock_text, made_text, swapped_text, found_text, old_text};
 
-use crate::asked::{Asked, swap_of};
-use fw_csr::Swap;
+use crate::asked::Asked;
 use fw_names::{Pairs, function_name, put_named, put_quadlet, put_quadlets, put_word};
 use fw_registers::{Place, Told, put_place, put_told};
-use fw_words::quadlet_at;
+use fw_words::{COMPARE_SWAP, Swap, quadlet_at};
 use std::alloc::AllocError;
-
-/// The function of a compare_swap (IEEE 1394-1995, lock functions).
-const COMPARE_SWAP: u8 = 2;
 
 // Appends where a request is.
 #[tactic(auto, unfolding(crate::specs::Lines::at_text))]
@@ -74,7 +70,7 @@ pub(crate) fn put_lock(
 {
     put_function(text, function)?;
     put_at(text, pairs, place)?;
-    match swap_of(function, bytes) {
+    match Swap::of_lock(function, bytes) {
         Some(s) => put_swap(text, pairs, place, s),
         None => put_quadlets(text, pairs, bytes),
     }

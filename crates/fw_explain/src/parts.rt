@@ -2,9 +2,9 @@
 
 ghost use Rattle.std.specs.Prelude.{◌≡◌, ◌++◌, OnOk, decimal};
 ghost use Rattle.fw_names.specs.Texts.{quadlet_text};
-ghost use Rattle.fw_explain.specs.Lines.{flag_text};
+ghost use Rattle.fw_explain.specs.Lines.{flag_text, block_text};
 
-use fw_names::{Pairs, put_number, put_quadlet, put_word};
+use fw_names::{Pairs, put_blank_hex, put_number, put_quadlet, put_word};
 use std::alloc::AllocError;
 
 // Appends a word and a number.
@@ -42,4 +42,14 @@ pub(crate) fn put_flag(
     ensures { OnOk result (text.new.items ≡ text.old.items ++ flag_text flag yes.now no.now) }
 {
     put_word(text, if flag { yes } else { no })
+}
+
+// Appends how many bytes a block has, and their digits.
+#[tactic(auto, unfolding(crate::specs::Lines::block_text))]
+pub(crate) fn put_block(text: &mut Vec<u8>, pairs: &Pairs, bytes: &[u8]) -> Result<(), AllocError>
+    ensures { OnOk result (text.new.items ≡ text.old.items ++ block_text bytes.now) }
+{
+    put_word(text, " data_length ")?;
+    put_number(text, bytes.len() as u64)?;
+    put_blank_hex(text, pairs, bytes)
 }

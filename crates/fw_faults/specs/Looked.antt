@@ -2,6 +2,7 @@
 use Rattle.fw_async.specs.declared.packet.Head.{Head}
 use Rattle.fw_async.specs.declared.packet.Packet.{Packet}
 use Rattle.fw_async.specs.declared.packet.Packet.TheVariants.{WriteQuadlet, WriteBlock, WriteReply, ReadQuadlet, ReadBlock, ReadQuadletReply, ReadBlockReply, CycleStart, Lock, LockReply}
+use Rattle.fw_csr.specs.declared.low_offset.TheConstants.{BANDWIDTH_AVAILABLE, CHANNELS_AVAILABLE_HI, CHANNELS_AVAILABLE_LO}
 use Rattle.fw_entry.specs.declared.entry.Entry.{Entry}
 use Rattle.fw_entry.specs.declared.entry.Entry.TheVariants.{Reset, Async, Iso, Event, Outcome, Shown, End}
 use Rattle.fw_entry.specs.declared.entry.EventEntry.{EventEntry}
@@ -73,7 +74,9 @@ is_plug_offset first offset = nat_le first offset && nat_lt offset (first + 124)
 
 -- BANDWIDTH_AVAILABLE, both halves of CHANNELS_AVAILABLE, and the 31 output and 31 input plug control registers
 abbrev pub is_watched : ℕ → Bool
-is_watched offset = (offset == 0x220) || (offset == 0x224) || (offset == 0x228) || is_plug_offset first_output offset || is_plug_offset first_input offset
+is_watched offset =
+    (offset == BANDWIDTH_AVAILABLE) || (offset == CHANNELS_AVAILABLE_HI) || (offset == CHANNELS_AVAILABLE_LO)
+    || is_plug_offset first_output offset || is_plug_offset first_input offset
 
 -- the register of the account that stands at an offset of the node with this ID
 abbrev pub register_by : Option ResetEntry → ℕ → Option ℕ → Option Register

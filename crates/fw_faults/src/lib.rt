@@ -6,7 +6,7 @@
 //! CHANNELS_AVAILABLE, and the plug control registers. The functions of this file do nothing: their contracts are the laws.
 #![tactic(auto)]
 
-ghost use Rattle.std.specs.Prelude.{◌≡◌, ◌++◌, ◌↔◌, Some, List};
+ghost use Rattle.std.specs.Prelude.{◌≡◌, ◌↔◌, Some, List};
 ghost use Rattle.std.specs.List.{All};
 ghost use Rattle.fw_entry.specs.declared.entry.Entry.{Entry};
 ghost use Rattle.fw_entry.specs.Log.{Fits};

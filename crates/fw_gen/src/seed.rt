@@ -1,6 +1,6 @@
 //! The script that a seed makes.
 
-ghost use Rattle.std.specs.Prelude.{ℕ, ◌≡◌, ◌+◌, ◌*◌, ◌≤◌, ◌<◌, ◌++◌, IfOk, OnOk, string_bytes};
+ghost use Rattle.std.specs.Prelude.{ℕ, ◌≡◌, ◌+◌, ◌≤◌, ◌<◌, ◌++◌, IfOk, OnOk, string_bytes};
 ghost use Rattle.fw_gen.specs.Gen.{state_of, number_of, kind_text, device_line, cable_line, devices_text, connect_lines, connections_text, script_of};
 
 use std::alloc::{AllocError, Global};

@@ -1,6 +1,6 @@
 //! What is counted of a log.
 
-ghost use Rattle.std.specs.Prelude.{◌≡◌, ◌+◌, ◌*◌, ◌^◌, ◌<◌, ◌≤◌, ◌++◌, ◌∷◌, [], List, ℕ, length, Some, None, IfSome, IfOk, OnOk, OnErr, MatchResult, string_bytes};
+ghost use Rattle.std.specs.Prelude.{◌≡◌, ◌+◌, ◌*◌, ◌^◌, ◌<◌, ◌≤◌, ◌++◌, ◌∷◌, [], List, ℕ, length, Some, None, IfSome, IfOk, OnOk, MatchResult, string_bytes};
 ghost use Rattle.std.specs.List.{All};
 ghost use Rattle.fw_entry.specs.Log.{entry_bytes, entries_bytes, TimedFits};
 ghost use Rattle.fw_entry.specs.declared.version.Version.TheVariants.{Two};

@@ -7,7 +7,10 @@ use Rattle.fw_async.specs.declared.packet.Head.{Head}
 use Rattle.fw_cip.specs.Iso.{bit, block_bytes, data_length}
 use Rattle.fw_cip.specs.declared.packet.CipHeader.{CipHeader}
 use Rattle.fw_cip.specs.declared.packet.IsoPacket.{IsoPacket}
+use Rattle.fw_csr.specs.declared.offset.TheConstants.{REGISTER_SPACE}
 use Rattle.fw_entry.specs.Log.{kind_of}
+use Rattle.fw_entry.specs.Rows.{event_form, has_tape}
+use Rattle.fw_entry.specs.declared.codes.TheConstants.{NO_DEVICE}
 use Rattle.fw_entry.specs.declared.entry.ResetEntry.{ResetEntry}
 use Rattle.fw_entry.specs.declared.entry.EventEntry.{EventEntry}
 use Rattle.fw_entry.specs.declared.entry.OutcomeEntry.{OutcomeEntry}
@@ -109,7 +112,7 @@ iso_fields p =
 
 -- the device of an event, where it has one
 abbrev pub device_of : ℕ → Option ℕ
-device_of device = if device == 255 then None else Some device
+device_of device = if device == NO_DEVICE then None else Some device
 
 -- the tape and the system that are inserted
 abbrev pub inserted_fields : EventEntry → List ℕ
@@ -118,7 +121,7 @@ inserted_fields e =
 
 -- the fields of an event beside its device: those of a tape that is inserted
 abbrev pub tape_fields : EventEntry → List ℕ
-tape_fields e = if e.code == 4 then inserted_fields e else []
+tape_fields e = if has_tape (event_form e.code) then inserted_fields e else []
 
 -- an event
 abbrev pub event_fields : EventEntry → List ℕ
@@ -132,10 +135,10 @@ outcome_fields o =
     code (codes ",\"code\":") o.code (codes ",\"code_name\":") (outcome_name o.code)
     ++ field (codes ",\"device\":") (decimal o.device) ++ field (codes ",\"slot\":") (decimal o.slot) ++ field (codes ",\"value\":") (quoted (hex 8 o.value))
 
--- a shown word: its device, its offset in the address space of the node (FFFF F000 0000 + the register's), its value
+-- a shown word: its device, its offset in the address space of the node, its value
 abbrev pub shown_fields : ShownEntry → List ℕ
 shown_fields s =
-    field (codes ",\"device\":") (decimal s.device) ++ field (codes ",\"offset\":") (quoted (hex 12 (281474708275200 + s.offset)))
+    field (codes ",\"device\":") (decimal s.device) ++ field (codes ",\"offset\":") (quoted (hex 12 (REGISTER_SPACE + s.offset)))
     ++ field (codes ",\"word\":") (quoted (hex 8 s.word))
 
 -- what an entry records

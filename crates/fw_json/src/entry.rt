@@ -7,13 +7,11 @@ use crate::iso::put_iso;
 use crate::packet::put_packet;
 use crate::reset::put_reset;
 use crate::values::{put_code, put_count, put_eight, put_number_or_null, put_twelve};
-use fw_entry::codes::{NO_DEVICE, event};
-use fw_entry::{Entry, EventEntry, OutcomeEntry, ShownEntry};
+use fw_csr::REGISTER_SPACE;
+use fw_entry::codes::NO_DEVICE;
+use fw_entry::{Entry, EventEntry, OutcomeEntry, ShownEntry, has_tape};
 use fw_names::{Pairs, event_name, outcome_name, system_name};
 use std::alloc::AllocError;
-
-/// Where the registers of a node begin in its address space (IEEE 1212, initial register space).
-const REGISTERS: u64 = 0xffff_f000_0000;
 
 // The device of an event, where it has one.
 fn device_of(device: u8) -> Option<u8>
@@ -43,7 +41,7 @@ fn put_inserted(text: &mut Vec<u8>, e: &EventEntry) -> Result<(), AllocError>
 fn put_tape(text: &mut Vec<u8>, e: &EventEntry) -> Result<(), AllocError>
     ensures { OnOk result (text.new.items ≡ text.old.items ++ tape_fields e.now) }
 {
-    if e.code != event::INSERTED {
+    if !has_tape(e.code) {
         return Ok(());
     }
     put_inserted(text, e)
@@ -86,7 +84,7 @@ fn put_shown(text: &mut Vec<u8>, pairs: &Pairs, s: &ShownEntry) -> Result<(), Al
         text,
         pairs,
         r#","offset":"#,
-        REGISTERS + u64::from(s.offset),
+        REGISTER_SPACE + u64::from(s.offset),
     )?;
     put_eight(text, pairs, r#","word":"#, s.word)
 }

@@ -8,7 +8,9 @@ ghost use Rattle.fw_json.specs.Objects.{head_fields, place_fields, rcode_fields,
 
 use crate::values::{put_code, put_count, put_data, put_eight, put_four, put_twelve};
 use fw_async::{Head, Packet};
-use fw_names::{Pairs, function_name, put_word, rcode_name, retry_name};
+use fw_names::{
+    Pairs, function_name, put_word, rcode_name, rcode_row, retry_name, retry_row, tcode_row,
+};
 use std::alloc::AllocError;
 
 // What a packet begins with.
@@ -29,55 +31,56 @@ fn head_of<'p>(p: &'p Packet) -> &'p Head
     }
 }
 
-// Appends a transaction code and its name: both are one text for each kind of packet.
+// A code under its key and its name under another, one text.
+macro_rules! code_text {
+    ($key:literal, $name_key:literal, $code:literal, $name:literal) => {
+        concat!($key, $code, $name_key, "\"", $name, "\"")
+    };
+}
+
+macro_rules! put_tcode_text {
+    ($text:expr, $code:literal, $name:literal) => {
+        put_word($text, code_text!(r#","tcode":"#, r#","tcode_name":"#, $code, $name))
+    };
+}
+
+macro_rules! put_retry_text {
+    ($text:expr, $code:literal, $name:literal) => {
+        put_word($text, code_text!(r#","retry":"#, r#","retry_name":"#, $code, $name))
+    };
+}
+
+macro_rules! put_rcode_text {
+    ($text:expr, $code:literal, $name:literal) => {
+        put_word($text, code_text!(r#","rcode":"#, r#","rcode_name":"#, $code, $name))
+    };
+}
+
+// Appends a transaction code and its name.
 #[inline(always)]
 fn put_tcode(text: &mut Vec<u8>, p: &Packet) -> Result<(), AllocError>
     ensures { OnOk result (text.new.items ≡ text.old.items ++ code (codes ",\"tcode\":") (tcode p.now) (codes ",\"tcode_name\":") (Some (tcode_name p.now))) }
 {
-    match p {
-        Packet::WriteQuadlet { .. } => {
-            put_word(text, r#","tcode":0,"tcode_name":"write_quadlet_request""#)
-        }
-        Packet::WriteBlock { .. } => {
-            put_word(text, r#","tcode":1,"tcode_name":"write_block_request""#)
-        }
-        Packet::WriteReply { .. } => put_word(text, r#","tcode":2,"tcode_name":"write_response""#),
-        Packet::ReadQuadlet { .. } => {
-            put_word(text, r#","tcode":4,"tcode_name":"read_quadlet_request""#)
-        }
-        Packet::ReadBlock { .. } => {
-            put_word(text, r#","tcode":5,"tcode_name":"read_block_request""#)
-        }
-        Packet::ReadQuadletReply { .. } => {
-            put_word(text, r#","tcode":6,"tcode_name":"read_quadlet_response""#)
-        }
-        Packet::ReadBlockReply { .. } => {
-            put_word(text, r#","tcode":7,"tcode_name":"read_block_response""#)
-        }
-        Packet::CycleStart { .. } => put_word(text, r#","tcode":8,"tcode_name":"cycle_start""#),
-        Packet::Lock { .. } => put_word(text, r#","tcode":9,"tcode_name":"lock_request""#),
-        Packet::LockReply { .. } => put_word(text, r#","tcode":11,"tcode_name":"lock_response""#),
-    }
+    tcode_row!(p, put_tcode_text, text)
 }
 
-// Appends a retry code and its name: each of two bits has one, and is one text with it.
+// Appends a retry code and its name.
 #[inline(always)]
 fn put_retry(text: &mut Vec<u8>, rt: u8) -> Result<(), AllocError>
     ensures { OnOk result (text.new.items ≡ text.old.items ++ code (codes ",\"retry\":") rt (codes ",\"retry_name\":") (retry_name rt)) }
 {
-    match rt {
-        0 => put_word(text, r#","retry":0,"retry_name":"retry_1""#),
-        1 => put_word(text, r#","retry":1,"retry_name":"retry_x""#),
-        2 => put_word(text, r#","retry":2,"retry_name":"retry_a""#),
-        3 => put_word(text, r#","retry":3,"retry_name":"retry_b""#),
-        other => put_code(
+    retry_row!(
+        rt,
+        put_code(
             text,
             r#","retry":"#,
-            u64::from(other),
+            u64::from(rt),
             r#","retry_name":"#,
-            retry_name(other),
+            retry_name(rt),
         ),
-    }
+        put_retry_text,
+        text
+    )
 }
 
 fn put_head(text: &mut Vec<u8>, pairs: &Pairs, h: &Head) -> Result<(), AllocError>
@@ -99,17 +102,18 @@ fn put_place(text: &mut Vec<u8>, pairs: &Pairs, offset: u64) -> Result<(), Alloc
 fn put_rcode(text: &mut Vec<u8>, rcode: u8) -> Result<(), AllocError>
     ensures { OnOk result (text.new.items ≡ text.old.items ++ rcode_fields rcode) }
 {
-    match rcode {
-        // Nearly all responses are complete.
-        0 => put_word(text, r#","rcode":0,"rcode_name":"complete""#),
-        other => put_code(
+    rcode_row!(
+        rcode,
+        put_code(
             text,
             r#","rcode":"#,
-            u64::from(other),
+            u64::from(rcode),
             r#","rcode_name":"#,
-            rcode_name(other),
+            rcode_name(rcode),
         ),
-    }
+        put_rcode_text,
+        text
+    )
 }
 
 fn put_target(text: &mut Vec<u8>, pairs: &Pairs, p: &Packet) -> Result<(), AllocError>

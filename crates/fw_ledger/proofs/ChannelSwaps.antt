@@ -5,12 +5,11 @@ use Rattle.std.proofs.lemmas.Bool.Decides.{nat_tests}
 use Rattle.std.proofs.lemmas.Bool.{false≢true}
 use Rattle.fw_base.specs.Tables.{update}
 use Rattle.fw_base.proofs.Tables.{sum_to_same}
-use Rattle.fw_words.specs.Quadlet.{field}
 use Rattle.fw_plug.specs.Words.{flag}
 use Rattle.fw_account.specs.Account.{Holder, Pending, Connected, Orphaned, Account, Allocation, allocated, is_free, is_open, is_withheld, is_pending_of}
 use Rattle.fw_account.specs.Moves.{Move, AllocateChannel, ReleaseChannel, with_allocation}
 use Rattle.fw_account.specs.Words.{ChannelsAvailable, word_of, channel_word}
-use Rattle.fw_account.specs.Decode.{IsMove, can, decoded, changed_bit, at_addressed, held_for, allowed}
+use Rattle.fw_account.specs.Decode.{IsMove, can, at_addressed, held_for, allowed}
 use Rattle.fw_account.specs.Sound.{IsSound}
 use Rattle.fw_ledger.specs.Stands.{StandsFor, Follows, allocation_of}
 use Rattle.fw_ledger.specs.Swaps.{IsHalf, half_of, with_half, holds_no_units, moved_by}
@@ -212,11 +211,3 @@ release_denied t l c base i new h half low never =
         omega arith
 
 -- ---- the bit that changes
-
-pub cleared_decoded : (l : Account) (c base arg new i : ℕ) → changed_bit arg new ≡ Some i → field arg i i ≡ 1
-    → decoded l c (ChannelsAvailable base) arg new ≡ at_addressed (l.addressed c) (AllocateChannel (base + i))
-cleared_decoded l c base arg new i e one = let t : (field arg i i == 1) ≡ true = grind (arith, nat_tests) in rw e (rw t refl)
-
-pub set_decoded : (l : Account) (c base arg new i : ℕ) → changed_bit arg new ≡ Some i → field arg i i ≢ 1
-    → decoded l c (ChannelsAvailable base) arg new ≡ at_addressed (held_for (l.allocations (base + i))) (ReleaseChannel (base + i))
-set_decoded l c base arg new i e ne = let t : (field arg i i == 1) ≡ false = grind (arith, nat_tests) in rw e (rw t refl)

@@ -34,9 +34,6 @@ pub is_there_output : (t : Tables) (l : Account) (p : PlugAt) → StandsFor t l 
     → is_output l.latest p ≡ true
 is_there_output t l p h lt = h.plugs.outs p ∙ lt
 
-output_word_is : (t : Tables) (l : Account) (p : PlugAt) → StandsFor t l → is_output l.latest p ≡ true → word_at t.outputs.items p ≡ word_of l (OutputPlug p)
-output_word_is t l p h is = h.outputs.words p is
-
 pub output_word_shows : (t : Tables) (l : Account) (p : PlugAt) → StandsFor t l → is_output l.latest p ≡ true
     → Shows (word_at t.outputs.items p) (l.outputs p)
 output_word_shows t l p h is = output_shows (fields_at l p) (l.outputs p) (word_at t.outputs.items p) (h.outputs.words p is) refl refl (h.sound.counts p).0

@@ -2,9 +2,9 @@
 use Rattle.fw_base.specs.declared.plug.PlugAt.{PlugAt}
 use Rattle.fw_base.specs.declared.plug.ConnectionKind.{ConnectionKind}
 use Rattle.fw_base.specs.declared.plug.ConnectionKind.TheVariants.{PointToPoint, Broadcast}
-use Rattle.std.proofs.Common.{◌≡◌, ◌≢◌, ◌<◌, ◌≤◌, ◌+◌, ◌-◌, ◌*◌, ◌⊎◌, inl, inr, ◌==◌, ◌||◌, not, nat_lt, ℕ, Bool, false, slice_index, slice_set, cond, refl, ◌∙◌, ap, arith, length-set}
+use Rattle.std.proofs.Common.{◌≡◌, ◌≢◌, ◌<◌, ◌≤◌, ◌+◌, ◌-◌, ◌*◌, ◌⊎◌, inl, inr, ◌==◌, ◌||◌, not, nat_lt, ℕ, Bool, false, slice_index, cond, refl, ◌∙◌, ap, arith}
 use Rattle.std.proofs.lemmas.Bool.Decides.{nat_tests}
-use Rattle.fw_base.specs.Tables.{update, update_plug}
+use Rattle.fw_base.specs.Tables.{update_plug}
 use Rattle.fw_base.proofs.Tables.{update_plug_at, sum_to_at}
 use Rattle.fw_words.specs.Quadlet.{field}
 use Rattle.fw_plug.specs.Words.{OutFields, InFields, FitsRegister, flag, out_word, in_word, out_fields, in_fields, is_connected, units_of}
@@ -13,12 +13,10 @@ use Rattle.fw_plug.proofs.Words.{fields_of_word, in_fields_of_word}
 use Rattle.fw_account.specs.Account.{Connections, counter, has_connection, is_there}
 use Rattle.fw_account.specs.Moves.{HasRoom, HasConnection, add_connection, drop_connection}
 use Rattle.fw_account.specs.Decode.{has_room}
-use Rattle.fw_ledger.specs.Stands.{SeatsFor, owner_of}
+use Rattle.fw_ledger.specs.Stands.{SeatsFor}
 use Rattle.fw_ledger.specs.Swaps.{Shows, shows_room, connection_value, is_broadcast}
-use Rattle.fw_ledger.specs.declared.tables.Broadcaster.{Broadcaster}
 use Rattle.fw_ledger.specs.declared.tables.Seats.{Seats}
 use Rattle.fw_account.proofs.Connections.{counter_changed}
-use Rattle.fw_ledger.proofs.Related.{related_set}
 
 -- another plug keeps what it has
 pub plug_other : {A : Type 0} (f : PlugAt → A) (p : PlugAt) (v : A) (q : PlugAt) → q ≢ p → update_plug f p v q ≡ f q
@@ -93,17 +91,3 @@ once_counted c Broadcast s lt e = grind (arith, nat_tests)
 
 pub seat_room : (c : ℕ) (x : Seats) (s : Connections) → c < 63 → SeatsFor x s → counter s ≤ 63 → slice_index x.counts c < 255
 seat_room c x s lt h most = let e = h.counts c lt in let m = sum_to_at 63 c s.counts lt in omega arith
-
--- another number of connections of controller c
-pub seats_counted : (c n : ℕ) (x : Seats) (s : Connections) → SeatsFor x s
-    → SeatsFor (record x { counts = slice_set x.counts c n }) (record s { counts = update s.counts c n })
-seats_counted c n x s h = record {
-  size = length-set x.counts c n ∙ h.size;
-  counts = λ d lt. related_set (λ (a b : ℕ). a ≡ b) x.counts c n 0 63 s.counts n h.size refl h.counts d lt;
-  broadcast = h.broadcast;
-}
-
--- another broadcast connection
-pub seats_owned : (b : Broadcaster) (x : Seats) (s : Connections) → SeatsFor x s
-    → SeatsFor (record x { broadcaster = b }) (record s { broadcast = owner_of b })
-seats_owned b x s h = record { size = h.size; counts = h.counts; broadcast = refl }

@@ -15,11 +15,6 @@ use Rattle.fw_ledger.specs.declared.tables.Tables.{Tables}
 use Rattle.fw_account.proofs.Bounds.{register_there}
 use Rattle.fw_account.proofs.Network.{not_both}
 
--- no register has an address below those of the nodes, or before the register space
-pub no_register : (latest : Option ResetEntry) (id address : ℕ) → (nat_le first_id id && nat_le first_address address) ≡ false
-    → None ≡ register_of latest id address
-no_register latest id address e = rw e refl
-
 no_row : (id : ℕ) → row_at [] id ≡ None
 no_row id = go (nat_le first_id id)
   where

@@ -59,7 +59,7 @@ pub answered_other : (t : Tables) (l : Account) (o : Option ℕ) (c source : ℕ
     → is_read_of a source ≡ false → Follows false t t (answered o source ReadReply l)
 answered_other t l o c source NotAsked e is fails = rw (e, is) (refl, refl)
 answered_other t l o c source (Read target address) e is fails = rw (e, is, fails) (refl, refl)
-answered_other t l o c source (Swap target address argument new) e is fails = rw (e, is.1) (both (target == source))
+answered_other t l o c source (Swap target address swap) e is fails = rw (e, is.1) (both (target == source))
   where
     both : (b : Bool) → Follows false t t (cond (b && false) (Some (ended c l)) None)
     both true = (refl, refl)
@@ -75,5 +75,5 @@ pub answered_read : (t new : Tables) (l : Account) (o : Option ℕ) (c source : 
     → is_read_of a source ≡ true → StandsFor new (ended c l) → Follows true t new (answered o source ReadReply l)
 answered_read t new l o c source NotAsked e is holds h = absurd (grind arith)
 answered_read t new l o c source (Read target address) e is holds h = rw (e, is, holds) (refl, h)
-answered_read t new l o c source (Swap target address argument word) e is holds h = absurd (grind arith)
+answered_read t new l o c source (Swap target address swap) e is holds h = absurd (grind arith)
 answered_read t new l o c source (Lock target address function) e is holds h = absurd (grind arith)

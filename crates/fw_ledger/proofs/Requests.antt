@@ -80,7 +80,7 @@ holds_is t l c h = ap is_some (pending_is_found t l c h)
 pub outstanding_is : (a : Asked) (o : Option Request) → AskedFor a o → is_asked a ≡ is_some o
 outstanding_is NotAsked o h = rw h refl
 outstanding_is (Read target address) o h = rw h refl
-outstanding_is (Swap target address argument new) o h = rw h.1 refl
+outstanding_is (Swap target address swap) o h = rw h.1 refl
 outstanding_is (Lock target address function) o h = rw h.1 refl
 
 -- what c addressed: the plug, where c has no Pending allocation

@@ -1,5 +1,5 @@
 -- Swaps of BANDWIDTH_AVAILABLE.
-use Rattle.std.proofs.Common.{◌≡◌, ◌≢◌, ◌<◌, ◌≤◌, ◌-◌, ◌||◌, not, ℕ, Bool, true, false, nat_lt, Some, None, length, slice_set, Vec, Global, cond, refl, sym, ◌∙◌, ap, subst, arith, length-set, true≢false}
+use Rattle.std.proofs.Common.{◌≡◌, ◌≢◌, ◌<◌, ◌≤◌, ◌-◌, ◌||◌, not, ℕ, Bool, true, false, nat_lt, Some, length, slice_set, Vec, Global, cond, refl, sym, ◌∙◌, ap, subst, arith, length-set}
 use Rattle.std.proofs.lemmas.Bool.Decides.{nat_tests}
 use Rattle.fw_base.specs.Tables.{find_to}
 use Rattle.fw_base.proofs.Tables.{find_to_is, IsFirst}
@@ -17,8 +17,8 @@ use Rattle.fw_ledger.specs.declared.tables.Tables.{Tables}
 use Rattle.fw_account.proofs.Allocations.{total_changed}
 use Rattle.fw_account.proofs.Decode.{pending_is}
 use Rattle.fw_account.proofs.Moves.{moves_keep}
-use Rattle.fw_account.proofs.Tests.{is_flow-true, is_flow_self, either}
-use Rattle.fw_ledger.proofs.Swapping.{swap_taken, swap_refused, swap_decoded, charge_set}
+use Rattle.fw_account.proofs.Tests.{is_flow-true}
+use Rattle.fw_ledger.proofs.Swapping.{swap_taken, swap_decoded, charge_set}
 
 -- ---- what a controller holds
 
@@ -41,10 +41,6 @@ held_is t l c ch h lt found = go (charge_at t.charges.items ch) (h.resources.cha
 pub units_decoded : (l : Account) (c : ℕ) (x : Held) (arg new : ℕ) → IsSound l → IsHeld c (Some x) l
     → decoded l c BandwidthAvailable arg new ≡ Some (x.plug, units_move arg new x.channel)
 units_decoded l c x arg new s h = rw (pending_is l c x.plug x.channel x.units s h.1, s.for_addressed c x.channel x.plug x.units h.1) refl
-
--- and where it holds none
-pub no_units_decoded : (l : Account) (c arg new : ℕ) → IsHeld c None l → decoded l c BandwidthAvailable arg new ≡ None
-no_units_decoded l c arg new h = rw h refl
 
 -- ---- the tables after the move
 
@@ -111,21 +107,6 @@ allocated_follows t l c new x charges h lt held less none test e =
     swap_taken t _ l c x.plug (AllocateUnits x.channel (t.left - new)) BandwidthAvailable t.left new k
     (units_stand t l c new (t.left - new) x charges h held (moves_keep c x.plug (AllocateUnits x.channel (t.left - new)) l lt h.sound k.can) k.later e)
 
--- beside other units they are not
-pub beside_units : (t : Tables) (l : Account) (c new u : ℕ) (x : Held) → StandsFor t l → IsHeld c (Some x) l → x.units ≢ 0
-    → Follows false t t (moved_by c (allowed l c BandwidthAvailable t.left new (Some (x.plug, AllocateUnits x.channel u))) l)
-beside_units t l c new u x h held some = swap_refused t l c x.plug (AllocateUnits x.channel u) BandwidthAvailable t.left new h.sound
-    (λ k. some (ap allocated (sym held.1 ∙ k.can.channel)))
-
--- nor where another flow talked
-pub other_units : (t : Tables) (l : Account) (c new u : ℕ) (x : Held) → StandsFor t l
-    → (not l.reclaiming || is_flow x.plug u (l.reclaimable x.channel)) ≡ false
-    → Follows false t t (moved_by c (allowed l c BandwidthAvailable t.left new (Some (x.plug, AllocateUnits x.channel u))) l)
-other_units t l c new u x h fails =
-    swap_refused t l c x.plug (AllocateUnits x.channel u) BandwidthAvailable t.left new h.sound
-    (λ k. true≢false (sym (either l.reclaiming (is_flow x.plug u (l.reclaimable x.channel))
-    (λ runs. is_flow_self x.plug u (l.reclaimable x.channel) (k.can.reclaims runs))) ∙ fails))
-
 -- ---- units are given back
 
 releases : (t : Tables) (l : Account) (c new : ℕ) (x : Held) → StandsFor t l → IsHeld c (Some x) l → t.left ≤ new → x.units ≢ 0 → x.units ≡ new - t.left
@@ -156,12 +137,6 @@ released_follows t l c new x charges h lt held more some same e =
     let k = releases t l c new x h held more some same in
     swap_taken t _ l c x.plug (ReleaseUnits x.channel (new - t.left)) BandwidthAvailable t.left new k
     (units_stand t l c new 0 x charges h held (moves_keep c x.plug (ReleaseUnits x.channel (new - t.left)) l lt h.sound k.can) k.later e)
-
--- only those that are held
-pub other_release : (t : Tables) (l : Account) (c new u : ℕ) (x : Held) → StandsFor t l → IsHeld c (Some x) l → (x.units ≡ u → 0 < u → ⊥)
-    → Follows false t t (moved_by c (allowed l c BandwidthAvailable t.left new (Some (x.plug, ReleaseUnits x.channel u))) l)
-other_release t l c new u x h held never = swap_refused t l c x.plug (ReleaseUnits x.channel u) BandwidthAvailable t.left new h.sound
-    (λ k. never (ap allocated (sym held.1 ∙ k.can.held)) k.can.some)
 
 -- ---- what the words decide
 

@@ -54,8 +54,8 @@ owner_of Died = Some Dead
 abbrev pub AskedFor : Asked → Option Request → Type 0
 AskedFor NotAsked o = o ≡ None
 AskedFor (Read target address) o = (o ≡ Some (record { target = target; address = address; operation = Reads }))
-AskedFor (Swap target address argument new) o =
-    (bytes : List ℕ) × (o ≡ Some (record { target = target; address = address; operation = Locks 2 bytes })) × (length bytes ≡ 8) × (argument ≡ quadlet_at bytes 0) × (new ≡ quadlet_at bytes 4)
+AskedFor (Swap target address swap) o =
+    (bytes : List ℕ) × (o ≡ Some (record { target = target; address = address; operation = Locks 2 bytes })) × (length bytes ≡ 8) × (swap.argument ≡ quadlet_at bytes 0) × (swap.new ≡ quadlet_at bytes 4)
 AskedFor (Lock target address function) o =
     (bytes : List ℕ) × (o ≡ Some (record { target = target; address = address; operation = Locks function bytes })) × (is_quadlet_swap function bytes ≡ false)
 
@@ -63,14 +63,14 @@ AskedFor (Lock target address function) o =
 abbrev pub is_asked : Asked → Bool
 is_asked NotAsked = false
 is_asked (Read target address) = true
-is_asked (Swap target address argument new) = true
+is_asked (Swap target address swap) = true
 is_asked (Lock target address function) = true
 
 -- it is a request to read a quadlet of this node
 abbrev pub is_read_of : Asked → ℕ → Bool
 is_read_of NotAsked source = false
 is_read_of (Read target address) source = target == source
-is_read_of (Swap target address argument new) source = false
+is_read_of (Swap target address swap) source = false
 is_read_of (Lock target address function) source = false
 
 -- whose the connections of a plug are

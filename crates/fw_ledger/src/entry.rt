@@ -1,6 +1,5 @@
 //! Entries.
 
-ghost use Rattle.std.specs.Prelude.{◌≡◌};
 ghost use Rattle.fw_entry.specs.Log.{Fits};
 ghost use Rattle.fw_account.specs.Account.{Account};
 ghost use Rattle.fw_account.specs.Fold.{after_event, next_account};

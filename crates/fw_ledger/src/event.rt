@@ -1,7 +1,6 @@
 //! The end of a reclaim second, the death of a controller, and a channel that is withheld.
 
-ghost use Rattle.std.specs.Prelude.{◌≡◌, ◌<◌, Some, None, is_some, length, map, if◌then◌else◌};
-ghost use Rattle.fw_base.specs.Tables.{update};
+ghost use Rattle.std.specs.Prelude.{◌≡◌, ◌<◌, Some, None, is_some, map, if◌then◌else◌};
 ghost use Rattle.fw_account.specs.Account.{Account};
 ghost use Rattle.fw_account.specs.Events.{after_second, after_death, after_withholding};
 ghost use Rattle.fw_ledger.specs.Stands.{Stands, StandsFor, Follows};

@@ -9,24 +9,23 @@ ghost use Rattle.fw_ledger.specs.Stands.{Stands, StandsFor, AskedFor, Follows, i
 use crate::tables::{Asked, Tables};
 use fw_async::Head;
 use fw_base::Label;
-use fw_words::quadlet_at;
+use fw_words::Swap;
 
 // What a lock request asks for.
 fn lock_asked(target: u16, address: u64, function: u8, bytes: &[u8]) -> Asked
     ensures { AskedFor result (Some (record { target = target; address = address; operation = Locks function bytes.now })) }
 {
-    if function == 2 && bytes.len() == 8 {
-        return Asked::Swap {
+    match Swap::of_lock(function, bytes) {
+        Some(swap) => Asked::Swap {
             target,
             address,
-            argument: quadlet_at(bytes, 0).0,
-            new: quadlet_at(bytes, 4).0,
-        };
-    }
-    Asked::Lock {
-        target,
-        address,
-        function,
+            swap,
+        },
+        None => Asked::Lock {
+            target,
+            address,
+            function,
+        },
     }
 }
 

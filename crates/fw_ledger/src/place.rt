@@ -1,11 +1,9 @@
 //! Where the tables have a plug, a controller's channel, a node.
 
-ghost use Rattle.std.specs.Prelude.{◌≡◌, ◌<◌, ◌≤◌, ◌+◌, ◌-◌, ℕ, nat_le, nat_lt, length, slice_index, slice_get, IfSome, Some, None, if◌then◌else◌};
-ghost use Rattle.std.specs.Option.{option_map};
+ghost use Rattle.std.specs.Prelude.{◌≡◌, ◌<◌, ◌+◌, ◌-◌, nat_lt, length, slice_index, IfSome, Some, None};
 ghost use Rattle.fw_base.specs.Tables.{find_to};
-ghost use Rattle.fw_entry.specs.Network.{first_id};
 ghost use Rattle.fw_account.specs.Account.{is_pending};
-ghost use Rattle.fw_account.specs.Words.{plug_number, output_of, first_address};
+ghost use Rattle.fw_account.specs.Words.{plug_number};
 ghost use Rattle.fw_ledger.specs.Stands.{allocation_of, charge_at, place, word_at, row_at};
 
 use crate::tables::Charge;

@@ -1,7 +1,6 @@
 //! What the tables tell of controllers.
 
 ghost use Rattle.std.specs.Prelude.{◌≡◌, ◌<◌, IfSome, Some, None, is_some, length, if◌then◌else◌};
-ghost use Rattle.std.specs.Option.{option_map};
 ghost use Rattle.fw_entry.specs.Network.{device_of_id};
 ghost use Rattle.fw_account.specs.Account.{Account, has_pending};
 ghost use Rattle.fw_account.specs.Network.{is_output, is_input};

@@ -11,6 +11,9 @@ use crate::place::{plug_number, row_at, word_at};
 use crate::tables::Tables;
 use fw_base::PlugAt;
 use fw_csr::REGISTER_SPACE;
+use fw_csr::low_offset::{
+    BANDWIDTH_AVAILABLE, CHANNELS_AVAILABLE_HI, CHANNELS_AVAILABLE_LO, IPCR, OPCR,
+};
 use fw_entry::NodeRow;
 
 /// A register of the account.
@@ -32,14 +35,11 @@ pub enum Register {
 fn manager_register(offset: u64) -> Option<Register>
     ensures { option_map register_named result ≡ manager_register offset }
 {
-    if offset == 0x220 {
-        Some(Register::Bandwidth)
-    } else if offset == 0x224 {
-        Some(Register::HighChannels)
-    } else if offset == 0x228 {
-        Some(Register::LowChannels)
-    } else {
-        None
+    match offset {
+        BANDWIDTH_AVAILABLE => Some(Register::Bandwidth),
+        CHANNELS_AVAILABLE_HI => Some(Register::HighChannels),
+        CHANNELS_AVAILABLE_LO => Some(Register::LowChannels),
+        _ => None,
     }
 }
 
@@ -47,7 +47,7 @@ fn manager_register(offset: u64) -> Option<Register>
 fn output_register(row: NodeRow, offset: u64) -> Option<Register>
     ensures { option_map register_named result ≡ output_register row (plug_number first_output offset) }
 {
-    let plug = plug_number(0x904, offset)?;
+    let plug = plug_number(OPCR, offset)?;
     if plug < row.outs {
         Some(Register::Output(PlugAt {
             device: row.device,
@@ -62,7 +62,7 @@ fn output_register(row: NodeRow, offset: u64) -> Option<Register>
 fn input_register(row: NodeRow, offset: u64) -> Option<Register>
     ensures { option_map register_named result ≡ input_register row (plug_number first_input offset) }
 {
-    let plug = plug_number(0x984, offset)?;
+    let plug = plug_number(IPCR, offset)?;
     if plug < row.ins {
         Some(Register::Input(PlugAt {
             device: row.device,

@@ -3,7 +3,7 @@
 ghost use Rattle.std.specs.Prelude.{◌≡◌, ◌<◌, ◌≤◌, ◌/◌, ◌%◌, ℕ, length, slice_index, slice_index_or, false};
 ghost use Rattle.fw_entry.specs.Network.{speed_of, node_of_device};
 ghost use Rattle.fw_account.specs.Words.{id_below};
-ghost use Rattle.fw_ledger.specs.Resets.{without_connections, first_output, first_input, rate_of, renewed_output, renewed_input, goes_on};
+ghost use Rattle.fw_ledger.specs.Resets.{without_connections, first_output, renewed_output, renewed_input, goes_on};
 
 use crate::place::has_plug;
 use fw_base::PlugAt;

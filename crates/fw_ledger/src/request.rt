@@ -4,13 +4,14 @@ ghost use Rattle.std.specs.Prelude.{◌≡◌, ◌<◌, Some};
 ghost use Rattle.fw_entry.specs.Network.{device_of_id};
 ghost use Rattle.fw_account.specs.Account.{Account, Operation};
 ghost use Rattle.fw_account.specs.Packets.{asked_by, addressed_after};
-ghost use Rattle.fw_account.specs.Words.{output_of, output_addressed, first_address};
+ghost use Rattle.fw_account.specs.Words.{output_of, output_addressed};
 ghost use Rattle.fw_ledger.specs.Stands.{Stands, StandsFor, AskedFor, Follows, plug_of};
 
 use crate::place::{plug_number, row_at};
 use crate::tables::{Addressed, Asked, Tables};
 use fw_base::PlugAt;
 use fw_csr::REGISTER_SPACE;
+use fw_csr::low_offset::OPCR;
 use fw_entry::NodeRow;
 
 /// The output plug whose register stands at an address of this node, also where the node has no such plug.
@@ -18,7 +19,7 @@ fn output_of(row: Option<NodeRow>, offset: u64) -> Option<PlugAt>
     ensures { result ≡ output_of row offset }
 {
     let row = row?;
-    let plug = plug_number(0x904, offset)?;
+    let plug = plug_number(OPCR, offset)?;
     Some(PlugAt {
         device: row.device,
         plug,

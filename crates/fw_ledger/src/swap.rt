@@ -1,7 +1,6 @@
 //! Responses to lock requests, and the swaps of registers that they end.
 
 ghost use Rattle.std.specs.Prelude.{◌≡◌, ◌<◌};
-ghost use Rattle.fw_entry.specs.Network.{device_of_id};
 ghost use Rattle.fw_account.specs.Account.{Account};
 ghost use Rattle.fw_account.specs.Words.{register_of};
 ghost use Rattle.fw_account.specs.Decode.{move_at};
@@ -13,7 +12,7 @@ use crate::register::Register;
 use crate::tables::{Asked, Tables};
 use fw_async::Head;
 use fw_base::Label;
-use fw_words::quadlet_at;
+use fw_words::{COMPARE_SWAP, Swap, quadlet_at};
 
 // The response is complete and shows the argument as the old value.
 fn shows_argument(argument: u32, rcode: u8, old: &[u8]) -> bool
@@ -24,29 +23,29 @@ fn shows_argument(argument: u32, rcode: u8, old: &[u8]) -> bool
 
 impl Tables {
     // Controller `c` swaps the register. It is refused where that is no move.
-    fn swap(&mut self, c: u8, register: Register, argument: u32, new: u32) -> bool
+    fn swap(&mut self, c: u8, register: Register, s: Swap) -> bool
         requires stands { Stands self.old }
         requires controller { c < 63 }
         requires there { IsThere register self.old }
-        ensures { (l : Account) → StandsFor self.old l → Follows result self.old self.new (moved_by c (move_at l c (register_named register) argument new) l) }
+        ensures { (l : Account) → StandsFor self.old l → Follows result self.old self.new (moved_by c (move_at l c (register_named register) s.argument s.new) l) }
     {
         match register {
-            Register::Bandwidth => self.swap_units(c, argument, new),
-            Register::HighChannels => self.swap_channels(c, 0, argument, new),
-            Register::LowChannels => self.swap_channels(c, 32, argument, new),
-            Register::Output(p) => self.swap_output(c, p, argument, new),
-            Register::Input(p) => self.swap_input(c, p, argument, new),
+            Register::Bandwidth => self.swap_units(c, s.argument, s.new),
+            Register::HighChannels => self.swap_channels(c, 0, s.argument, s.new),
+            Register::LowChannels => self.swap_channels(c, 32, s.argument, s.new),
+            Register::Output(p) => self.swap_output(c, p, s.argument, s.new),
+            Register::Input(p) => self.swap_input(c, p, s.argument, s.new),
         }
     }
 
     // Controller `c` swaps what stands at an address. It is refused where that is a register of the account, and no move.
-    fn swap_at(&mut self, c: u8, target: u16, address: u64, argument: u32, new: u32) -> bool
+    fn swap_at(&mut self, c: u8, target: u16, address: u64, s: Swap) -> bool
         requires stands { Stands self.old }
         requires controller { c < 63 }
-        ensures { (l : Account) → StandsFor self.old l → Follows result self.old self.new (account_after c (register_of l.latest target address) (λ r. move_at l c r argument new) l) }
+        ensures { (l : Account) → StandsFor self.old l → Follows result self.old self.new (account_after c (register_of l.latest target address) (λ r. move_at l c r s.argument s.new) l) }
     {
         match self.register_at(target, address) {
-            Some(register) => self.swap(c, register, argument, new),
+            Some(register) => self.swap(c, register, s),
             None => true,
         }
     }
@@ -70,17 +69,16 @@ impl Tables {
             Asked::Swap {
                 target,
                 address,
-                argument,
-                new,
+                swap,
             } => {
-                if target != source || function != 2 {
+                if target != source || function != COMPARE_SWAP {
                     return false;
                 }
-                if !shows_argument(argument, rcode, old) {
+                if !shows_argument(swap.argument, rcode, old) {
                     self.end(c);
                     return true;
                 }
-                if !self.swap_at(c, target, address, argument, new) {
+                if !self.swap_at(c, target, address, swap) {
                     return false;
                 }
                 self.end(c);

@@ -7,6 +7,7 @@ ghost use Rattle.fw_ledger.specs.Stands.{StandsFor, no_seats};
 
 use fw_base::PlugAt;
 use fw_entry::NodeList;
+use fw_words::Swap;
 use std::alloc::{AllocError, Global};
 
 /// What is allocated of a channel, and to whom.
@@ -83,8 +84,7 @@ pub enum Asked {
     Swap {
         target: u16,
         address: u64,
-        argument: u32,
-        new: u32,
+        swap: Swap,
     },
     /// Another lock function, or one whose data is none of two quadlets.
     Lock {

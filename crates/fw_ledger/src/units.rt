@@ -1,6 +1,6 @@
 //! Swaps of BANDWIDTH_AVAILABLE.
 
-ghost use Rattle.std.specs.Prelude.{◌≡◌, ◌<◌, ◌≤◌, ◌-◌, Some};
+ghost use Rattle.std.specs.Prelude.{◌<◌, ◌≤◌, ◌-◌, Some};
 ghost use Rattle.fw_account.specs.Account.{Account};
 ghost use Rattle.fw_account.specs.Moves.{AllocateUnits, ReleaseUnits};
 ghost use Rattle.fw_account.specs.Words.{BandwidthAvailable};

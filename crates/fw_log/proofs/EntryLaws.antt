@@ -201,9 +201,6 @@ complete_head s bytes fit h complete =
     let w = complete_by s.version s.epoch s.start s.last bytes (s.start == 0) fit (opened s bytes going_on h) complete enough in
     record { here = refl; going_on = going_on; head = w.head; before = w.before_is; size = w.size }
 
-pub meet : (n m r : ℕ) → r ≡ m → r ≤ n → n ≤ m → n ≡ m
-meet n m r e below above = omega arith
-
 kind_alone : (k low : ℕ) → is_kind k low ≡ true → (is_kind k 0 ≡ true) × (low ≡ 0)
 kind_alone k low h = (grind (arith, nat_tests), grind (arith, nat_tests))
 

@@ -319,16 +319,6 @@ same_stand a b a' b' c c' v v' n n' e f g h k = cc
 pub nothing_pending : (s : Position) → IsPending s []
 nothing_pending s = record { no_fault = nothing_shown s; not_complete = let low = need_least s [] in omega (arith, low) }
 
-pub read_begins : HasRead [] [] (with_bytes (record { start = 0; last = 0; ended = false; version = One; epoch = 0 }) [])
-read_begins = record {
-  version = One;
-  order = tt;
-  same = refl;
-  stand = refl;
-  no_fault = refl;
-  pending = nothing_pending (record { start = 0; last = 0; ended = false; version = One; epoch = 0 });
-}
-
 -- the version behind the entries is that of the next
 record AsVersion (v w : Version) (entries : List Timed) : Type 0 where
   pub bytes : bytes_of v entries ≡ bytes_of w entries

@@ -5,7 +5,7 @@ use Rattle.std.proofs.Common.{if◌then◌else◌, append_assoc, length-append}
 use Rattle.std.proofs.lemmas.Bool.Decides.{nat_tests}
 use Rattle.std.proofs.lemmas.Grind.{common_steps, flat_map-append}
 use Rattle.std.proofs.lemmas.List.{append-nil, take-append-drop}
-use Rattle.std.proofs.lemmas.List.Elements.{All-nil, All-push}
+use Rattle.std.proofs.lemmas.List.Elements.{All-push}
 use Rattle.std.proofs.lemmas.Nat.{be_bytes_4}
 use Rattle.std.specs.List.{All}
 use Rattle.std.specs.Int.{to_be_bytes, w32}
@@ -31,15 +31,6 @@ pub record IdsMet (bytes rest : List ℕ) (turn : Turn) : Type 0 where
   pub parts : flat_map spelling ids ++ rest ≡ bytes
   pub few : length ids ≤ 4 * turn.node + turn.met
   pub order : (ps : List PhyPacket) (n : ℕ) → are_ids 0 None (ids ++ ps) n ≡ are_ids turn.node (next_by turn.met) ps n
-
-pub ids_first : (bytes : List ℕ) (turn : Turn) → turn.node ≡ 0 → turn.met ≡ 0 → IdsMet bytes bytes turn
-ids_first bytes turn e f = record {
-  ids = [];
-  fits = All-nil Fits;
-  parts = refl;
-  few = omega arith;
-  order = λ ps n. sym (ap (λ k. are_ids k (next_by turn.met) ps n) e ∙ ap (λ m. are_ids 0 (next_by m) ps n) f);
-}
 
 pub ids_step : (bytes rest rest' : List ℕ) (turn next : Turn) (q r : ℕ) → IdsMet bytes rest turn → GoesOnBy q turn next
     → to_be_bytes w32 q ≡ take 4 (drop 0 rest) → to_be_bytes w32 r ≡ take 4 (drop 4 rest) → r ≡ 2 ^ 32 - 1 - q → rest' ≡ drop 8 rest → IdsMet bytes rest' next

@@ -1,5 +1,5 @@
 -- One list of bytes is of one entry.
-use Rattle.std.proofs.Common.{◌≡◌, ℕ, ◌+◌, ◌*◌, ◌/◌, ◌^◌, ◌≤◌, ◌<◌, List, [], ◌∷◌, ◌++◌, ◌==◌, ◌||◌, ◌&&◌, get_or, length, drop, nat_lt, nat_le, Bool, true, false, IsTrue, Option, None, arith, refl, ap, sym, subst, ◌∙◌, if◌then◌else◌, length-append}
+use Rattle.std.proofs.Common.{◌≡◌, ℕ, ◌+◌, ◌*◌, ◌/◌, ◌^◌, ◌≤◌, ◌<◌, List, [], ◌∷◌, ◌++◌, ◌==◌, ◌||◌, ◌&&◌, get_or, length, drop, nat_lt, nat_le, Bool, true, false, Option, None, arith, refl, ap, sym, subst, ◌∙◌, if◌then◌else◌, length-append}
 use Rattle.std.proofs.lemmas.Bool.Decides.{nat_tests}
 use Rattle.std.proofs.lemmas.List.{append_cancel_left}
 use Rattle.std.proofs.lemmas.Nat.{from_be_bytes-to_be_bytes_8}
@@ -11,7 +11,9 @@ use Rattle.fw_cip.proofs.SameLaws.{same_packet as same_iso}
 use Rattle.std.specs.Option.{is_some}
 use Rattle.fw_entry.specs.declared.version.Version.{Version}
 use Rattle.fw_entry.specs.declared.version.Version.TheVariants.{One, Two}
-use Rattle.fw_entry.specs.Log.{number_of, version_of, head_size, epoch_after, header_bytes, entry_head, quads, event_quads, outcome_quads, shown_quads, is_event, EventFits, OutcomeFits, ShownFits, is_outcome, Fits, TimedFits, kind_of, body, entry_bytes}
+use Rattle.fw_entry.specs.Log.{number_of, version_of, head_size, epoch_after, header_bytes, entry_head, quads, event_quads, outcome_quads, shown_quads, EventFits, OutcomeFits, ShownFits, Fits, TimedFits, kind_of, body, entry_bytes}
+use Rattle.fw_entry.specs.Rows.{event_form, has_tape, may_have}
+use Rattle.fw_entry.proofs.RowLaws.{event_code, outcome_code, no_tape, small_system}
 use Rattle.fw_log.specs.Bodies.{IsBody}
 use Rattle.fw_log.specs.Reading.{tested, fault_at, length_of, cycle_at, cycle_of, is_kind, is_length, is_epoch, epoch_fault, cycle_fault, entry_fault, header_fault, head_fault, skip, version_in, version_at, header_at, entry_need, need, HasEpoch, EpochFits, Spells}
 use Rattle.fw_log.specs.Stands.{Position}
@@ -34,15 +36,6 @@ event a b c d = record { code = a; device = b; tape = c; system = d }
 event_is : (e : EventEntry) → e ≡ event e.code e.device e.tape e.system
 unfolding event
 event_is e = refl
-
-event_code : (code device tape system : ℕ) → IsTrue (is_event code device tape system) → code < 256
-event_code code device tape system h = grind (arith, nat_tests)
-
-no_tape : (code device tape system : ℕ) → IsTrue (is_event code device tape system) → (code == 4) ≡ false → (tape ≡ 0) × (system ≡ 0)
-no_tape code device tape system h e = (grind (arith, nat_tests), grind (arith, nat_tests))
-
-small_system : (code device tape system : ℕ) → IsTrue (is_event code device tape system) → system < 2 ^ 16
-small_system code device tape system h = grind (arith, nat_tests)
 
 halves : (a b c d : ℕ) → b < 2 ^ 16 → d < 2 ^ 16 → packed ((16, a) ∷ (16, b) ∷ []) 0 ≡ packed ((16, c) ∷ (16, d) ∷ []) 0 → (a ≡ c) × (b ≡ d)
 halves a b c d p q e = (omega arith, omega arith)
@@ -70,8 +63,11 @@ same_event e g f h same =
     let two = first_two e.code e.device g.code g.device a f.device b h.device first in
     let code : e.code ≡ g.code = two.0 in
     let device : e.device ≡ g.device = two.1 in
-    let others = tape_of (e.code == 4) (g.code == 4) e.tape e.system g.tape g.system (ap (λ n. n == 4) two.0) f.tape (small_system e.code e.device e.tape e.system f.shape) h.tape (small_system g.code g.device g.tape g.system h.shape)
-    (no_tape e.code e.device e.tape e.system f.shape) (no_tape g.code g.device g.tape g.system h.shape) (ap (drop 4) same) in
+    let others = tape_of (has_tape (event_form e.code)) (has_tape (event_form g.code)) e.tape e.system g.tape g.system (ap (λ n. has_tape (event_form n)) two.0)
+    f.tape (small_system (may_have (event_form e.code) e.device) (has_tape (event_form e.code)) e.tape e.system f.shape)
+    h.tape (small_system (may_have (event_form g.code) g.device) (has_tape (event_form g.code)) g.tape g.system h.shape)
+    (no_tape (may_have (event_form e.code) e.device) (has_tape (event_form e.code)) e.tape e.system f.shape)
+    (no_tape (may_have (event_form g.code) g.device) (has_tape (event_form g.code)) g.tape g.system h.shape) (ap (drop 4) same) in
     let tape : e.tape ≡ g.tape = others.0 in
     let system : e.system ≡ g.system = others.1 in
     cc (event_is e, event_is g)
@@ -82,9 +78,6 @@ outcome a b c d = record { code = a; device = b; slot = c; value = d }
 outcome_is : (o : OutcomeEntry) → o ≡ outcome o.code o.device o.slot o.value
 unfolding outcome
 outcome_is o = refl
-
-outcome_code : (code value : ℕ) → IsTrue (is_outcome code value) → code < 256
-outcome_code code value h = grind (arith, nat_tests)
 
 three_fields : (a b c d e f : ℕ) → a < 256 → b < 256 → c < 256 → d < 256 → e < 256 → f < 256
     → packed ((8, a) ∷ (8, b) ∷ (8, c) ∷ (8, 0) ∷ []) 0 ≡ packed ((8, d) ∷ (8, e) ∷ (8, f) ∷ (8, 0) ∷ []) 0 → (a ≡ d) × (b ≡ e) × (c ≡ f)

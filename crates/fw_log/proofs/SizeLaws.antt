@@ -1,5 +1,5 @@
 -- How long the bodies of entries are.
-use Rattle.std.proofs.Common.{◌≡◌, ℕ, ◌+◌, ◌*◌, ◌/◌, ◌≤◌, List, [], ◌∷◌, ◌==◌, flat_map, length, replicate, Bool, true, false, IsTrue, Option, Some, None, IfSome, ◌∙◌, arith, refl, if◌then◌else◌, length-append}
+use Rattle.std.proofs.Common.{◌≡◌, ℕ, ◌+◌, ◌*◌, ◌/◌, ◌≤◌, List, [], ◌∷◌, flat_map, length, replicate, Bool, true, false, IsTrue, Option, Some, None, IfSome, ◌∙◌, arith, refl, if◌then◌else◌, length-append}
 use Rattle.std.proofs.lemmas.Bool.Decides.{nat_tests}
 use Rattle.std.proofs.lemmas.List.{length-map, length-replicate}
 use Rattle.fw_words.specs.Layout.{packed}
@@ -15,6 +15,7 @@ use Rattle.fw_cip.specs.Iso as Iso
 use Rattle.fw_cip.specs.declared.packet.IsoPacket.{IsoPacket}
 use Rattle.fw_cip.proofs.SpelledLaws.{spelled_size}
 use Rattle.fw_entry.specs.Log.{quads, node_quad, reset_quads, are_ids, ResetFits, Fits, kind_of, body}
+use Rattle.fw_entry.specs.Rows.{event_form, has_tape}
 use Rattle.fw_log.specs.Reading.{is_length}
 use Rattle.fw_entry.specs.declared.entry.Entry.{Entry}
 use Rattle.fw_entry.specs.declared.entry.Entry.TheVariants.{Reset, Async as AsyncEntry, Iso as IsoEntry, Event, Outcome, Shown, End}
@@ -81,7 +82,7 @@ event_size false q r = (1, refl, refl)
 
 event_has : (e : EventEntry) → HasLength (Event e)
 event_has e =
-    let h = event_size (e.code == 4) (packed ((8, e.code) ∷ (8, e.device) ∷ (16, 0) ∷ []) 0) (packed ((16, e.tape) ∷ (16, e.system) ∷ []) 0) in
+    let h = event_size (has_tape (event_form e.code)) (packed ((8, e.code) ∷ (8, e.device) ∷ (16, 0) ∷ []) 0) (packed ((16, e.tape) ∷ (16, e.system) ∷ []) 0) in
     record { quadlets = h.0; size = h.1; right = h.2 }
 
 pub has_length : (e : Entry) → Fits e → HasLength e

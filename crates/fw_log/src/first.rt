@@ -1,6 +1,6 @@
 //! The entry that some bytes begin with.
 
-ghost use Rattle.std.specs.Prelude.{◌≡◌, ◌⊎◌, ◌≤◌, ◌<◌, ◌+◌, ◌^◌, length, slice_index, take, drop, IfSome};
+ghost use Rattle.std.specs.Prelude.{◌≡◌, ◌⊎◌, ◌≤◌, ◌<◌, ◌+◌, ◌^◌, length, slice_index, IfSome};
 ghost use Rattle.fw_log.specs.Stands.{position};
 ghost use Rattle.fw_log.specs.Reading.{fault_at, is_own_epoch, skip, need, IsComplete, IsPending};
 ghost use Rattle.fw_entry.specs.Log.{head_size};

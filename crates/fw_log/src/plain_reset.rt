@@ -1,6 +1,6 @@
 //! Bus resets that are right at the first look.
 
-ghost use Rattle.std.specs.Prelude.{◌≡◌, ◌≤◌, ◌<◌, ◌+◌, ◌*◌, IsTrue, IfSome, length, if◌then◌else◌};
+ghost use Rattle.std.specs.Prelude.{◌≡◌, ◌≤◌, ◌<◌, ◌+◌, ◌*◌, IsTrue, IfSome, length};
 ghost use Rattle.fw_log.specs.Plain.{is_next, GoesOnBy, AreIdsOf, IsReset, are_of_nodes};
 
 use crate::read_reset::{are_apart, count_of, has_nodes, nodes_of, rows_fit};

@@ -1,14 +1,14 @@
 //! A reader of logs.
 
-ghost use Rattle.std.specs.Prelude.{ℕ, ◌≡◌, ◌≤◌, ◌<◌, ◌+◌, ◌-◌, ◌*◌, ◌^◌, ◌++◌, ◌∷◌, [], List, length, take, drop};
-ghost use Rattle.std.specs.Prelude.{IfSome, IfNone, IfOk, IfErr, Some, None, Ok, Err, false};
+ghost use Rattle.std.specs.Prelude.{ℕ, ◌≡◌, ◌<◌, ◌+◌, ◌-◌, ◌^◌, ◌++◌, [], List, length};
+ghost use Rattle.std.specs.Prelude.{IfSome, IfNone, IfOk, IfErr, Some, None, Ok, Err};
 ghost use Rattle.std.specs.Result.{result_err};
 ghost use Rattle.fw_entry.specs.Log.{is_end, body, epoch_after, LogOpens};
 ghost use Rattle.fw_entry.specs.declared.version.Version.{Version as AVersion};
 ghost use Rattle.fw_entry.specs.declared.version.Version.TheVariants.{One};
 ghost use Rattle.fw_log.specs.Stands.{position};
 ghost use Rattle.fw_log.specs.Reading.{IsPending};
-ghost use Rattle.fw_log.specs.Reader.{State, total, with_bytes, version_read, known, Keeps, Remembers, FindsIn};
+ghost use Rattle.fw_log.specs.Reader.{State, total, with_bytes, version_read, known, Remembers, FindsIn};
 ghost use Rattle.fw_log.specs.Reader.{EndsEntry, EndsNothing, ShowsFault, Feeds, Counts, body_given, finish_of};
 ghost use Rattle.fw_log.specs.History.{stand_after, HasRead, ReadsOn, Names, GivesNext, Finishes};
 ghost use Rattle.fw_log.specs.declared.LogFault.{LogFault};

@@ -1,22 +1,22 @@
 //! The bodies of entries, from bytes.
 
-ghost use Rattle.std.specs.Prelude.{ℕ, ◌≡◌, ◌≤◌, ◌<◌, ◌+◌, ◌-◌, ◌*◌, ◌/◌, ◌%◌, ◌^◌, ◌++◌, ◌∷◌, [], length, take, drop};
-ghost use Rattle.std.specs.Prelude.{IsTrue, IfSome, IfNone, ◌==◌, ◌||◌, if◌then◌else◌, true};
+ghost use Rattle.std.specs.Prelude.{ℕ, ◌≡◌, ◌≤◌, ◌<◌, ◌-◌, ◌*◌, ◌%◌, length};
+ghost use Rattle.std.specs.Prelude.{IsTrue, IfSome, ◌==◌, ◌||◌, true};
 ghost use Rattle.fw_entry.specs.declared.entry.EventEntry.{EventEntry};
 ghost use Rattle.fw_entry.specs.declared.entry.OutcomeEntry.{OutcomeEntry};
 ghost use Rattle.fw_entry.specs.declared.entry.ShownEntry.{ShownEntry};
-ghost use Rattle.fw_entry.specs.Log.{quads, event_quads, outcome_quads, shown_quads, is_event, is_outcome, EventFits, OutcomeFits, ShownFits};
+ghost use Rattle.fw_entry.specs.Log.{quads, event_quads, outcome_quads, shown_quads, EventFits, OutcomeFits, ShownFits};
 ghost use Rattle.fw_entry.specs.declared.codes.TheConstants.{LINES_525, LINES_625};
-ghost use Rattle.fw_entry.specs.declared.codes.event.TheConstants.{SECOND_OVER, INSERTED, UNSETTLED, WITHHELD};
 ghost use Rattle.fw_log.specs.Reading.{is_kind, is_length};
 ghost use Rattle.fw_log.specs.Bodies.{PacketJudges, ResetJudges, BodyJudges};
 
-use crate::codes::{LINES_525, LINES_625, NO_DEVICE, event, kind, outcome};
+use crate::codes::{LINES_525, LINES_625, kind};
 use crate::plain::is_plain_packet;
 use crate::read_reset::read_reset;
 use crate::{BodyFault, BorrowedReset, Entry, EventEntry, OutcomeEntry, ResetEntry, ShownEntry};
 use fw_async::{Fed, Packet, read_packet, whole_packet};
 use fw_cip::read_iso;
+use fw_entry::{has_tape, may_bring, may_have};
 use fw_words::quadlet_at;
 
 pub(crate) fn outcome_of(body: &[u8]) -> Option<OutcomeEntry>
@@ -27,7 +27,7 @@ pub(crate) fn outcome_of(body: &[u8]) -> Option<OutcomeEntry>
     let first = quadlet_at(body, 0);
     let code = first.field(0, 7) as u8;
     let value = quadlet_at(body, 4).0;
-    if first.field(24, 31) != 0 || !is_outcome(code, value) {
+    if first.field(24, 31) != 0 || !may_bring(code, value) {
         return None;
     }
     Some(OutcomeEntry {
@@ -36,15 +36,6 @@ pub(crate) fn outcome_of(body: &[u8]) -> Option<OutcomeEntry>
         slot: first.field(16, 23) as u8,
         value,
     })
-}
-
-// An outcome of this code may have this value.
-fn is_outcome(code: u8, value: u32) -> bool
-    ensures { result ≡ is_outcome code value }
-{
-    outcome::CONNECTED <= code
-        && code <= outcome::LATE
-        && (value == 0 || (code != outcome::BROKEN && code != outcome::NO_MANAGER))
 }
 
 pub(crate) fn shown_of(body: &[u8]) -> Option<ShownEntry>
@@ -63,22 +54,6 @@ pub(crate) fn shown_of(body: &[u8]) -> Option<ShownEntry>
     })
 }
 
-// Events of this code have no device.
-fn has_no_device(code: u8) -> bool
-    ensures { result ≡ (code == SECOND_OVER) || (code == UNSETTLED) || (code == WITHHELD) }
-{
-    code == event::SECOND_OVER || code == event::UNSETTLED || code == event::WITHHELD
-}
-
-// The event may have this device.
-fn is_event_of(code: u8, device: u8) -> bool
-    ensures { result ≡ is_event code device 0 (if code == INSERTED then LINES_525 else 0) }
-{
-    event::SECOND_OVER <= code
-        && code <= event::DUBBING
-        && (device == NO_DEVICE || !has_no_device(code))
-}
-
 fn is_system(system: u16) -> bool
     ensures { result ≡ ((system == LINES_525) || (system == LINES_625)) }
 {
@@ -93,10 +68,10 @@ pub(crate) fn event_of(body: &[u8]) -> Option<EventEntry>
     let first = quadlet_at(body, 0);
     let code = first.field(0, 7) as u8;
     let device = first.field(8, 15) as u8;
-    if first.field(16, 31) != 0 || !is_event_of(code, device) {
+    if first.field(16, 31) != 0 || !may_have(code, device) {
         return None;
     }
-    if code != event::INSERTED {
+    if !has_tape(code) {
         if body.len() != 4 {
             return None;
         }

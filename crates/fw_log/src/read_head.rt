@@ -1,6 +1,6 @@
 //! What the bytes of an entry show before its body.
 
-ghost use Rattle.std.specs.Prelude.{ℕ, ◌≡◌, ◌≤◌, ◌<◌, ◌+◌, ◌-◌, ◌*◌, ◌/◌, ◌%◌, ◌^◌, ◌++◌, ◌∷◌, [], length, take, drop};
+ghost use Rattle.std.specs.Prelude.{◌≡◌, ◌≤◌, ◌<◌, ◌+◌, ◌-◌, ◌*◌, ◌^◌, length};
 ghost use Rattle.std.specs.Prelude.{None, Some, Ok, IfSome, ◌==◌, ◌&&◌, if◌then◌else◌};
 ghost use Rattle.fw_log.specs.Stands.{position};
 ghost use Rattle.fw_log.specs.Reading.{length_of, cycle_of, is_kind, is_length, is_epoch, has_epoch, epoch_fault, cycle_fault, entry_fault, header_fault, head_fault, fault_at};

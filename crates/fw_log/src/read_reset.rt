@@ -1,6 +1,6 @@
 //! The bodies of reset entries, from bytes.
 
-ghost use Rattle.std.specs.Prelude.{ℕ, ◌≡◌, ◌≤◌, ◌<◌, ◌+◌, ◌*◌, ◌++◌, ◌∷◌, [], List, length, take, drop, map, slice_index, IsTrue, ◌↔◌, IfSome, None, Ok, Err, OnOk, IfErr};
+ghost use Rattle.std.specs.Prelude.{ℕ, ◌≡◌, ◌≤◌, ◌<◌, ◌+◌, ◌*◌, ◌++◌, ◌∷◌, [], List, length, take, drop, map, IsTrue, ◌↔◌, IfSome, None, Ok, Err, OnOk, IfErr};
 ghost use Rattle.std.specs.List.{All};
 ghost use Rattle.fw_phy.specs.Phy.{Fits as PhyFits};
 ghost use Rattle.fw_phy.specs.declared.packet.PhyPacket.{PhyPacket};

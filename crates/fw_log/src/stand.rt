@@ -1,6 +1,6 @@
 //! Where the parts of a log stand, and where a reader does.
 
-ghost use Rattle.std.specs.Prelude.{◌≡◌, ◌≤◌, ◌+◌, ◌*◌, length, take, drop};
+ghost use Rattle.std.specs.Prelude.{◌≡◌, ◌≤◌, ◌+◌, ◌*◌, length, drop};
 ghost use Rattle.fw_log.specs.Stands.{position};
 ghost use Rattle.fw_log.specs.Reading.{length_of, cycle_of, skip, version_in, version_at, entry_need, need};
 ghost use Rattle.fw_entry.specs.Log.{head_size};

@@ -44,10 +44,6 @@ undeclared_off s d g past = go (number_in s.account.latest d) refl
     go None e = refl
     go (Some n) e = absurd (let low = on_declared s d n g e in omega arith)
 
--- before the first device none is
-pub nothing_on : (s : State) (d : ℕ) → IsGood s → s.declared.names ≡ [] → IsTrue (is_on s d) → ⊥
-nothing_on s d g none on = false≢true (sym (ap is_some (undeclared_off s d g (let size : length s.declared.names ≡ 0 = ap length none in omega arith))) ∙ on)
-
 -- ---- numbers
 
 pub number_is : (o : Option ResetEntry) (d n : ℕ) → number_in o d ≡ Some n → node_of o d ≡ n

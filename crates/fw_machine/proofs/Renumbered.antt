@@ -29,7 +29,7 @@ use Rattle.fw_devices.specs.Entries.{node_number, is_number}
 use Rattle.fw_devices.specs.Resets.{IsReset, Shows, numbered}
 use Rattle.fw_run.specs.State.{State, number_in, is_on, with_device}
 use Rattle.fw_run.specs.Spaces.{space_at}
-use Rattle.fw_run.specs.Actions.{after_reset_entry, with_topology}
+use Rattle.fw_run.specs.Actions.{after_reset_entry}
 use Rattle.fw_run.specs.Good.{IsGood, IsLatest}
 use Rattle.fw_machine.specs.Stands.{IsNodeAt, HasNodes, manager_device}
 use Rattle.fw_machine.proofs.Latest.{on_declared, on_number, number_is}
@@ -50,10 +50,6 @@ extends_declared s name kind ports speed g =
     let named = g.declared.named in
     let same = g.declared.kinds.size in
     record { account = refl; cycle = refl; decks = refl; streams = refl; kinds = λ d lt. get_or_append_left s.declared.kinds (kind ∷ []) Relay d (omega arith) }
-
--- a cable more, or none
-pub extends_cabled : (s : State) (t : Topology) → Extends s (with_topology s t)
-extends_cabled s t = record { account = refl; cycle = refl; decks = refl; streams = refl; kinds = λ d lt. refl }
 
 -- ---- the manager
 

@@ -38,9 +38,6 @@ map_at f xs e k fixed = go (cases_lt k (length xs))
         let far : length (map f xs) ≤ k = omega (arith, length-map xs f) in
         get_or_past (map f xs) k e far ∙ (sym fixed ∙ ap f (sym (get_or_past xs k e past)))
 
-pub map_is_each : {A : Type 0} (f : A → A) (xs : List A) (e : A) → f e ≡ e → ◌≡◌ {A = ℕ → A} (λ k. get_or (map f xs) k e) (λ k. f (get_or xs k e))
-map_is_each f xs e fixed = λ i. λ k. map_at f xs e k fixed i
-
 -- a list with one element more, which is what is past the end
 push_at : {A : Type 0} (xs : List A) (e : A) (k : ℕ) → get_or (xs ++ e ∷ []) k e ≡ get_or xs k e
 push_at xs e k = go (cases_lt k (length xs))
@@ -55,19 +52,12 @@ push_at xs e k = go (cases_lt k (length xs))
             let far : length (xs ++ e ∷ []) ≤ k = omega (arith, length-append xs (e ∷ [])) in
             get_or_past (xs ++ e ∷ []) k e far ∙ sym (get_or_past xs k e past)
 
-pub push_is_same : {A : Type 0} (xs : List A) (e : A) → ◌≡◌ {A = ℕ → A} (λ k. get_or (xs ++ e ∷ []) k e) (λ k. get_or xs k e)
-push_is_same xs e = λ i. λ k. push_at xs e k i
-
 -- ---- tables
 
 -- the controller of a device is another one
 pub states_set : (t : ControllerTable) (d : ℕ) (x : Listening) → d < count_of t
     → states_of (record t { list = slice_set t.list d x }) ≡ update (states_of t) d x
 states_set t d x lt = set_is_update t.list d x first_listening lt
-
--- so it is with what is said of its death
-pub dead_set : (t : ControllerTable) (d : ℕ) (x : Bool) → d < length t.flags → dead_of (record t { flags = slice_set t.flags d x }) ≡ update (dead_of t) d x
-dead_set t d x lt = set_is_update t.flags d x false lt
 
 -- the table after a change of one controller, which was found there
 pub table_set : (t : ControllerTable) (list : List Listening) (flags : List Bool) (d i : ℕ) (f : Listening → Listening) (x y : Listening)
@@ -91,23 +81,6 @@ table_set t list flags d i f x y is lt same found changed = subst Goes is (recor
 
     there : x ≡ states_of u d
     there = get_or_read list i x (omega (arith, within, same)) found first_listening ∙ ap (λ k. get_or list k first_listening) same
-
--- the table after a change of each controller that leaves one that has just started
-pub table_map : (t : ControllerTable) (list before : List Listening) (flags : List Bool) (f : Listening → Listening)
-    → record { list = before; flags = flags } ≡ t → list ≡ map f before → f first_listening ≡ first_listening
-    → IsTable (record { list = list; flags = flags }) (count_of t) (λ d. f (states_of t d)) (dead_of t)
-table_map t list before flags f same is fixed = subst Goes same (record {
-  count_is = ap length is ∙ length-map before f;
-  states_are = (λ i. states_of (record { list = is i; flags = flags })) ∙ map_is_each f before first_listening fixed;
-  dead_are = refl;
-})
-  where
-    Goes : ControllerTable → Type 0
-    Goes w = IsTable (record { list = list; flags = flags }) (count_of w) (λ d. f (states_of w d)) (dead_of w)
-
--- one device more, whose controller has just started
-pub table_push : (t : ControllerTable) → IsTable (record { list = t.list ++ first_listening ∷ []; flags = t.flags }) (count_of t + 1) (states_of t) (dead_of t)
-table_push t = record { count_is = length-append t.list (first_listening ∷ []); states_are = push_is_same t.list first_listening; dead_are = refl }
 
 -- a list of which nothing is true
 none_dead : (n k : ℕ) → get_or (replicate n false) k false ≡ false

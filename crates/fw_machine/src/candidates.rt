@@ -1,8 +1,7 @@
 //! Who is a candidate for the bus manager.
 
-ghost use Rattle.std.specs.Prelude.{◌≡◌, ◌<◌, ◌+◌, ℕ, Some, None, IfOk, IsTrue, IsFalse, is_some};
-ghost use Rattle.fw_base.specs.Tables.{update};
-ghost use Rattle.fw_manager.specs.Bids.{CandidateState, first_state as new_candidate, next, after_next, after_hear, is_asked, is_standing_in};
+ghost use Rattle.std.specs.Prelude.{◌≡◌, ◌<◌, ◌+◌, Some, None, IfOk, IsTrue, IsFalse, is_some};
+ghost use Rattle.fw_manager.specs.Bids.{CandidateState, next, after_next, after_hear, is_asked, is_standing_in};
 ghost use Rattle.fw_run.specs.Elections.{Election, no_election, with_candidate, with_new_candidate};
 ghost use Rattle.fw_machine.specs.Candidates.{HasElection, count_of, candidate_in};
 

@@ -1,6 +1,6 @@
 //! The entries of events, outcomes and shown words.
 
-ghost use Rattle.std.specs.Prelude.{◌≡◌, ◌<◌, ◌≤◌, ◌^◌};
+ghost use Rattle.std.specs.Prelude.{◌≡◌, ◌<◌, ◌^◌};
 ghost use Rattle.fw_entry.specs.Log.{Fits};
 ghost use Rattle.fw_run.specs.Entries as Entries;
 ghost use Rattle.fw_run.specs.Entries.{coded};

@@ -5,7 +5,7 @@ ghost use Rattle.fw_async.specs.declared.packet.Packet.{Packet};
 ghost use Rattle.fw_entry.specs.declared.entry.Entry.TheVariants.{Async};
 ghost use Rattle.fw_machine.specs.Faults.{CountsFaults};
 ghost use Rattle.fw_entry.specs.Log.{Fits};
-ghost use Rattle.fw_run.specs.Giving.{Gives};
+ghost use Rattle.fw_run.specs.Giving.{GivesEntry};
 
 use crate::room::Room;
 use fw_async::PacketRoom;
@@ -22,7 +22,7 @@ pub fn give<K: Sink>(
     sink: &mut K,
 ) -> Result<(), Failed>
     requires { IfSome what Fits }
-    ensures bytes { Gives (K.held sink.old) (K.held sink.new) result cycle devices.now.epoch what.entry }
+    ensures bytes { GivesEntry (K.held sink.old) (K.held sink.new) result cycle devices.now.epoch what.entry }
     ensures faults { CountsFaults (K.faults sink.old) (K.faults sink.new) result }
 {
     match what {
@@ -44,7 +44,7 @@ pub fn give_packet<K: Sink>(
     sink: &mut K,
 ) -> Result<(), Failed>
     requires { IsPacket packet.old }
-    ensures bytes { (p : Packet) → Spells p packet.old → Gives (K.held sink.old) (K.held sink.new) result cycle devices.now.epoch (Some (Async p)) }
+    ensures bytes { (p : Packet) → Spells p packet.old → GivesEntry (K.held sink.old) (K.held sink.new) result cycle devices.now.epoch (Some (Async p)) }
     ensures faults { CountsFaults (K.faults sink.old) (K.faults sink.new) result }
 {
     write_async(devices.epoch(), cycle, packet, sink)
@@ -59,7 +59,7 @@ pub fn give_async<K: Sink>(
     sink: &mut K,
 ) -> Result<(), Failed>
     requires { PacketFits packet.now }
-    ensures bytes { Gives (K.held sink.old) (K.held sink.new) result cycle devices.now.epoch (Some (Async packet.now)) }
+    ensures bytes { GivesEntry (K.held sink.old) (K.held sink.new) result cycle devices.now.epoch (Some (Async packet.now)) }
     ensures faults { CountsFaults (K.faults sink.old) (K.faults sink.new) result }
 {
     room.put(packet);

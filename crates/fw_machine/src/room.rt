@@ -8,7 +8,7 @@ pub struct Room {
     pub entry: EntryRoom,
     /// The packet that is sent.
     pub packet: PacketRoom,
-    /// The entries of the packets of a cycle.
+    /// The entries of cycles, until they are written.
     pub cycle: CycleRoom,
 }
 

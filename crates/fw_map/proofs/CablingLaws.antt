@@ -7,7 +7,7 @@ use Rattle.std.proofs.lemmas.List.{get_or_past, get_or_append_left}
 use Rattle.fw_tree.specs.declared.facts.End.{End}
 use Rattle.fw_tree.specs.declared.facts.PhyFacts.{PhyFacts}
 use Rattle.fw_tree.specs.declared.numbering.Numbering.{Numbering}
-use Rattle.fw_tree.specs.Cables.{Peers, peer, IsOnBus, Walk, here, along, AreJoined}
+use Rattle.fw_tree.specs.Cables.{Peers, peer, IsOnBus, here, along}
 use Rattle.fw_tree.specs.Rounds.{stays, HasParent, IsRoot}
 use Rattle.fw_tree.specs.Forest.{AreCables}
 use Rattle.fw_tree.specs.Numbers.{counted, number_at, is_there, has_number, IsParentPort, at_root as bus_root, down_to as bus_down, LeadsDown as BusLeads}
@@ -69,12 +69,6 @@ root_stays g d p b q m s cables at h (inr won) =
           let also : stays g (suc r) e ≡ true = ap (stays g (suc r)) (sym device) ∙ still in
           let z : ⊥ = cc in z)
     ]
-
-pub other_port : (o : Option End) (e f : End) → o ≡ Some e → o ≡ Some f → e.port ≡ f.port
-other_port o e f h k = let s : e ≡ f = cc in ap (λ x. port_of x) s
-  where
-    port_of : End → ℕ
-    port_of x = x.port
 
 module _ (p : Topology) (n : Numbering) (s : IsSound p) (h : IsNumbering p n) where
   low : (d v : ℕ) → number_at n.number d ≡ Some v → d < 63

@@ -18,10 +18,6 @@ on_front [] ys x h = absurd h
 on_front (y ∷ xs) ys x (inl e) = inl e
 on_front (y ∷ xs) ys x (inr h) = inr (on_front xs ys x h)
 
-on_back : (xs ys : List ℕ) (x : ℕ) → IsOn ys x → IsOn (xs ++ ys) x
-on_back [] ys x h = h
-on_back (y ∷ xs) ys x h = inr (on_back xs ys x h)
-
 -- the ends of a walk are on it
 pub first_on : (t : Tree) (a b : ℕ) (nodes : List ℕ) → Walk t a b nodes → IsOn nodes a
 first_on t a b nodes here = inl refl

@@ -1,5 +1,5 @@
 -- A tree as a graph, in Graphviz's language (own).
-use Rattle.std.specs.Prelude.{◌≡◌, ℕ, zero, suc, min, ◌==◌, if◌then◌else◌, List, [], ◌∷◌, ◌++◌, Option, Some, None, slice_get, codes, decimal}
+use Rattle.std.specs.Prelude.{ℕ, zero, suc, min, ◌==◌, if◌then◌else◌, List, [], ◌∷◌, ◌++◌, Option, Some, None, slice_get, codes, decimal}
 use Rattle.fw_entry.specs.declared.nodes.NodeRow.{NodeRow}
 use Rattle.fw_tree.specs.Numbers.{number_at}
 use Rattle.fw_map.specs.declared.tree.Tree.{Tree}

@@ -1,8 +1,10 @@
 -- The names of what a log holds: those of nosy-dump and of the Linux kernel for packets, own ones for the rest.
-use Rattle.std.specs.Prelude.{ℕ, ◌-◌, ◌/◌, ◌^◌, ◌==◌, nat_le, List, ◌++◌, codes, decimal, Option, Some, None, if◌then◌else◌}
+use Rattle.std.specs.Prelude.{ℕ, ◌-◌, ◌/◌, ◌^◌, ◌==◌, nat_le, List, [], ◌∷◌, ◌++◌, codes, decimal, Option, Some, None, if◌then◌else◌}
 use Rattle.fw_async.specs.declared.packet.Packet.{Packet}
 use Rattle.fw_async.specs.declared.packet.Packet.TheVariants.{WriteQuadlet, WriteBlock, WriteReply, ReadQuadlet, ReadBlock, ReadQuadletReply, ReadBlockReply, CycleStart, Lock, LockReply}
 use Rattle.fw_cip.specs.declared.packet.CipHeader.{CipHeader}
+use Rattle.fw_entry.specs.declared.codes.event.TheConstants as Events
+use Rattle.fw_entry.specs.declared.codes.outcome.TheConstants as Outcomes
 use Rattle.fw_names.specs.Texts.{hex}
 
 -- the name of an entry's kind
@@ -126,54 +128,70 @@ format_name cip =
     else None)
     else None
 
+-- what events of a code are called, and what they say
+pub record EventWords : Type 0 where
+  pub code : ℕ
+  pub name : List ℕ
+  pub saying : List ℕ
+
+-- a row of events
+abbrev pub event : ℕ → List ℕ → List ℕ → EventWords
+event code name saying = record { code = code; name = name; saying = saying }
+
+-- the events, a row each
+abbrev pub event_words : List EventWords
+event_words =
+    event Events.SECOND_OVER (codes "second-over") (codes "the reclaim second is over")
+    ∷ event Events.DIED (codes "died") (codes "its controller died")
+    ∷ event Events.STARTED (codes "started") (codes "its controller started")
+    ∷ event Events.INSERTED (codes "inserted") (codes "it was loaded with")
+    ∷ event Events.EJECTED (codes "ejected") (codes "its tape was taken out")
+    ∷ event Events.UNSETTLED (codes "unsettled") (codes "a controller has more to do")
+    ∷ event Events.LOST (codes "lost") (codes "a response to its controller was lost")
+    ∷ event Events.WITHHELD (codes "withheld") (codes "channel 31 is never free")
+    ∷ event Events.ELECTED (codes "elected") (codes "it is bus manager")
+    ∷ event Events.DEFEATED (codes "defeated") (codes "another node is bus manager")
+    ∷ event Events.DUBBING (codes "dubbing") (codes "what it records is kept")
+    ∷ []
+
+-- a column of the row with a code
+abbrev pub event_word : (EventWords → List ℕ) → List EventWords → ℕ → Option (List ℕ)
+event_word column [] code = None
+event_word column (r ∷ rows) code = if code == r.code then Some (column r) else event_word column rows code
+
 -- the name of an event
 abbrev pub event_name : ℕ → Option (List ℕ)
-event_name code =
-    if code == 1 then Some (codes "second-over")
-    else if code == 2 then Some (codes "died")
-    else if code == 3 then Some (codes "started")
-    else if code == 4 then Some (codes "inserted")
-    else if code == 5 then Some (codes "ejected")
-    else if code == 6 then Some (codes "unsettled")
-    else if code == 7 then Some (codes "lost")
-    else if code == 8 then Some (codes "withheld")
-    else if code == 9 then Some (codes "elected")
-    else if code == 10 then Some (codes "defeated")
-    else if code == 11 then Some (codes "dubbing")
-    else None
+event_name code = event_word (λ r. r.name) event_words code
 
 -- what an event says
 abbrev pub event_saying : ℕ → Option (List ℕ)
-event_saying code =
-    if code == 1 then Some (codes "the reclaim second is over")
-    else if code == 2 then Some (codes "its controller died")
-    else if code == 3 then Some (codes "its controller started")
-    else if code == 4 then Some (codes "it was loaded with")
-    else if code == 5 then Some (codes "its tape was taken out")
-    else if code == 6 then Some (codes "a controller has more to do")
-    else if code == 7 then Some (codes "a response to its controller was lost")
-    else if code == 8 then Some (codes "channel 31 is never free")
-    else if code == 9 then Some (codes "it is bus manager")
-    else if code == 10 then Some (codes "another node is bus manager")
-    else if code == 11 then Some (codes "what it records is kept")
-    else None
+event_saying code = event_word (λ r. r.saying) event_words code
+
+-- the outcomes, by their codes
+abbrev pub outcome_names : List (ℕ × List ℕ)
+outcome_names =
+    (Outcomes.CONNECTED, codes "connected")
+    ∷ (Outcomes.BROKEN, codes "broken")
+    ∷ (Outcomes.RESTORED, codes "restored")
+    ∷ (Outcomes.NO_CHANNEL, codes "no-channel")
+    ∷ (Outcomes.NO_UNITS, codes "no-units")
+    ∷ (Outcomes.PLUG_FULL, codes "plug-full")
+    ∷ (Outcomes.INPUT_BUSY, codes "input-busy")
+    ∷ (Outcomes.NO_PLUG, codes "no-plug")
+    ∷ (Outcomes.NO_MANAGER, codes "no-manager")
+    ∷ (Outcomes.ABSENT, codes "absent")
+    ∷ (Outcomes.RESET, codes "reset")
+    ∷ (Outcomes.LATE, codes "late")
+    ∷ []
+
+-- the name in the row with a code
+abbrev pub name_in : List (ℕ × List ℕ) → ℕ → Option (List ℕ)
+name_in [] code = None
+name_in (r ∷ rows) code = if code == r.0 then Some r.1 else name_in rows code
 
 -- the name of an outcome
 abbrev pub outcome_name : ℕ → Option (List ℕ)
-outcome_name code =
-    if code == 1 then Some (codes "connected")
-    else if code == 2 then Some (codes "broken")
-    else if code == 3 then Some (codes "restored")
-    else if code == 4 then Some (codes "no-channel")
-    else if code == 5 then Some (codes "no-units")
-    else if code == 6 then Some (codes "plug-full")
-    else if code == 7 then Some (codes "input-busy")
-    else if code == 8 then Some (codes "no-plug")
-    else if code == 9 then Some (codes "no-manager")
-    else if code == 10 then Some (codes "absent")
-    else if code == 11 then Some (codes "reset")
-    else if code == 12 then Some (codes "late")
-    else None
+outcome_name code = name_in outcome_names code
 
 -- a node_ID of 16 bits: to everybody, a node of the local bus, or another
 abbrev pub node_text : ℕ → List ℕ

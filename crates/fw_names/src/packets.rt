@@ -17,54 +17,92 @@ const BROADCAST: u16 = 0xffff;
 /// The node_ID of node 0 of the local bus; the others stand behind it.
 const FIRST_NODE: u16 = 0xffc0;
 
+/// The row of a packet's kind, by `$row!`: its transaction code and the name of that, behind what else is handed on. `Packet` is in scope
+/// where it is called.
+#[macro_export]
+macro_rules! tcode_row {
+    ($packet:expr, $row:ident $(, $with:expr)*) => {
+        match $packet {
+            Packet::WriteQuadlet { .. } => $row!($($with,)* 0, "write_quadlet_request"),
+            Packet::WriteBlock { .. } => $row!($($with,)* 1, "write_block_request"),
+            Packet::WriteReply { .. } => $row!($($with,)* 2, "write_response"),
+            Packet::ReadQuadlet { .. } => $row!($($with,)* 4, "read_quadlet_request"),
+            Packet::ReadBlock { .. } => $row!($($with,)* 5, "read_block_request"),
+            Packet::ReadQuadletReply { .. } => $row!($($with,)* 6, "read_quadlet_response"),
+            Packet::ReadBlockReply { .. } => $row!($($with,)* 7, "read_block_response"),
+            Packet::CycleStart { .. } => $row!($($with,)* 8, "cycle_start"),
+            Packet::Lock { .. } => $row!($($with,)* 9, "lock_request"),
+            Packet::LockReply { .. } => $row!($($with,)* 11, "lock_response"),
+        }
+    };
+}
+
+/// The row of a response code, by `$row!`: the code and its name, behind what else is handed on; or `$other` where it has no name.
+#[macro_export]
+macro_rules! rcode_row {
+    ($rcode:expr, $other:expr, $row:ident $(, $with:expr)*) => {
+        match $rcode {
+            0 => $row!($($with,)* 0, "complete"),
+            4 => $row!($($with,)* 4, "conflict_error"),
+            5 => $row!($($with,)* 5, "data_error"),
+            6 => $row!($($with,)* 6, "type_error"),
+            7 => $row!($($with,)* 7, "address_error"),
+            _ => $other,
+        }
+    };
+}
+
+/// The row of a retry code, likewise; each of two bits has one.
+#[macro_export]
+macro_rules! retry_row {
+    ($rt:expr, $other:expr, $row:ident $(, $with:expr)*) => {
+        match $rt {
+            0 => $row!($($with,)* 0, "retry_1"),
+            1 => $row!($($with,)* 1, "retry_x"),
+            2 => $row!($($with,)* 2, "retry_a"),
+            3 => $row!($($with,)* 3, "retry_b"),
+            _ => $other,
+        }
+    };
+}
+
+macro_rules! code_of {
+    ($code:literal, $name:literal) => {
+        $code
+    };
+}
+
+macro_rules! name_of {
+    ($code:literal, $name:literal) => {
+        $name
+    };
+}
+
+macro_rules! some_name {
+    ($code:literal, $name:literal) => {
+        Some($name)
+    };
+}
+
 /// The transaction code of a packet.
 pub fn tcode(p: &Packet) -> u8
     ensures { result ≡ tcode p.now }
 {
-    match p {
-        Packet::WriteQuadlet { .. } => 0,
-        Packet::WriteBlock { .. } => 1,
-        Packet::WriteReply { .. } => 2,
-        Packet::ReadQuadlet { .. } => 4,
-        Packet::ReadBlock { .. } => 5,
-        Packet::ReadQuadletReply { .. } => 6,
-        Packet::ReadBlockReply { .. } => 7,
-        Packet::CycleStart { .. } => 8,
-        Packet::Lock { .. } => 9,
-        Packet::LockReply { .. } => 11,
-    }
+    tcode_row!(p, code_of)
 }
 
 /// The name of a packet's transaction code.
 pub fn tcode_name(p: &Packet) -> &'static str
     ensures { result.now ≡ tcode_name p.now }
 {
-    match p {
-        Packet::WriteQuadlet { .. } => "write_quadlet_request",
-        Packet::WriteBlock { .. } => "write_block_request",
-        Packet::WriteReply { .. } => "write_response",
-        Packet::ReadQuadlet { .. } => "read_quadlet_request",
-        Packet::ReadBlock { .. } => "read_block_request",
-        Packet::ReadQuadletReply { .. } => "read_quadlet_response",
-        Packet::ReadBlockReply { .. } => "read_block_response",
-        Packet::CycleStart { .. } => "cycle_start",
-        Packet::Lock { .. } => "lock_request",
-        Packet::LockReply { .. } => "lock_response",
-    }
+    tcode_row!(p, name_of)
 }
 
 /// The name of a response code, where it has one.
 pub fn rcode_name(rcode: u8) -> Option<&'static str>
     ensures { option_copied result ≡ rcode_name rcode }
 {
-    match rcode {
-        0 => Some("complete"),
-        4 => Some("conflict_error"),
-        5 => Some("data_error"),
-        6 => Some("type_error"),
-        7 => Some("address_error"),
-        _ => None,
-    }
+    rcode_row!(rcode, None, some_name)
 }
 
 /// The name of a lock's function, its extended_tcode; 1 to 7 have one.
@@ -87,13 +125,7 @@ pub fn function_name(function: u8) -> Option<&'static str>
 pub fn retry_name(rt: u8) -> Option<&'static str>
     ensures { option_copied result ≡ retry_name rt }
 {
-    match rt {
-        0 => Some("retry_1"),
-        1 => Some("retry_x"),
-        2 => Some("retry_a"),
-        3 => Some("retry_b"),
-        _ => None,
-    }
+    retry_row!(rt, None, some_name)
 }
 
 /// The name of the format that a CIP header tells, where it has one: FMT is 0, and the first byte of FDF names the format.

@@ -1,6 +1,6 @@
 //! The hexadecimal digits of bytes, two a byte.
 
-ghost use Rattle.std.specs.Prelude.{◌≡◌, ◌++◌};
+ghost use Rattle.std.specs.Prelude.{◌≡◌};
 ghost use Rattle.fw_names.specs.Digits.{byte_digits, IsTable};
 ghost use Rattle.fw_names.specs.Texts.{hex};
 

@@ -6,13 +6,14 @@ use Rattle.fw_async.specs.Reader.{Spells}
 use Rattle.fw_async.specs.declared.packet.Packet.{Packet}
 use Rattle.fw_async.specs.declared.packet.Packet.TheVariants.{WriteQuadlet, WriteBlock, WriteReply, ReadQuadlet, ReadBlock, ReadQuadletReply, ReadBlockReply, CycleStart, Lock, LockReply}
 use Rattle.fw_csr.specs.Replies.{reply, swap_reply}
-use Rattle.fw_csr.specs.Requests.{offset_of, quadlet_swap}
+use Rattle.fw_csr.specs.Requests.{offset_of}
+use Rattle.fw_words.specs.Swaps.{quadlet_swap}
 use Rattle.fw_csr.specs.declared.register.Register.{Register}
 use Rattle.fw_csr.specs.declared.register.Register.TheVariants.{ReadOnly, ReadSwap, WriteOnly}
 use Rattle.fw_csr.specs.declared.reply.Reply.{Reply}
 use Rattle.fw_csr.specs.declared.request.Request.{Request}
 use Rattle.fw_csr.specs.declared.request.Request.TheVariants as Asks
-use Rattle.fw_csr.specs.declared.request.Swap.{Swap}
+use Rattle.fw_words.specs.declared.swap.Swap.{Swap}
 use Rattle.fw_node.specs.Packets.{request_in, response_to, response_with, reply_in, old_bytes, old_value, IsServed}
 use Rattle.fw_node.specs.Space.{Space, register_at}
 

@@ -12,7 +12,7 @@ use Rattle.fw_csr.specs.Requests.{offset_of}
 use Rattle.fw_csr.specs.Replies.{word_after}
 use Rattle.fw_csr.specs.Manager as Manager
 use Rattle.fw_plug.specs.Plugs as Plugs
-use Rattle.fw_plug.specs.Plugs.{PlugTable, plug_at, plug_register}
+use Rattle.fw_plug.specs.Plugs.{plug_at, plug_register}
 use Rattle.fw_node.specs.Space.{Space, register_at, core_register_at, manager_register_at, plug_table, lies_within, space_after}
 use Rattle.fw_node.specs.State.{NodeState, HasSpace, space_of, after_request}
 

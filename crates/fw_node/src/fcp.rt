@@ -1,16 +1,16 @@
 //! FCP (IEC 61883-1, 9): command frames that are written to a node, and the frames that it sends.
 
-ghost use Rattle.std.specs.Prelude.{◌≡◌, ◌≤◌, Some, IfSome, is_some, length};
+ghost use Rattle.std.specs.Prelude.{◌≡◌, Some, IfSome, is_some};
 ghost use Rattle.std.specs.Borrow.{sem};
 ghost use Rattle.std.specs.Option.{option_map};
-ghost use Rattle.fw_async.specs.Async.{Fits as HasSpelling, AreBytes};
+ghost use Rattle.fw_async.specs.Async.{Fits as HasSpelling};
 ghost use Rattle.fw_fcp.specs.Frames.{Fits};
 ghost use Rattle.fw_tape.specs.Desks.{AnyVendorByte};
 ghost use Rattle.fw_base.specs.Devices.{has_unit};
 ghost use Rattle.fw_csr.specs.declared.request.Request.{Request};
 ghost use Rattle.fw_avc.specs.State.{UnitState};
 ghost use Rattle.fw_node.specs.Lending.{LendsUnit};
-ghost use Rattle.fw_node.specs.Fcp.{command_bytes, IsSendable, HasFollowed, local_id, number_of, frame_head, frame_packet, next_frame, after_frame};
+ghost use Rattle.fw_node.specs.Fcp.{command_bytes, IsSendable, HasFollowed, local_id, number_of, frame_packet, next_frame, after_frame};
 
 use crate::Node;
 use crate::response::RETRY_X;
@@ -21,7 +21,7 @@ use fw_csr::Request;
 use fw_csr::offset::{FCP_COMMAND, FCP_RESPONSE};
 use fw_fcp::{Frame, GENERAL_INQUIRY, read_frame, write_frame};
 use fw_tape::{Desk, Tape};
-use fw_words::{Bytes512, Data, Quadlet, put_quadlet, quadlet_at};
+use fw_words::{Bytes512, Data, Quadlet, are_bytes, put_quadlet, quadlet_at};
 
 /// The bytes of the longest frame, which fills a block.
 const LONGEST_FRAME: usize = 512;
@@ -151,13 +151,6 @@ pub(crate) fn frame_packet<'a>(
         offset: FCP_RESPONSE,
         bytes: Data::new(bytes),
     }
-}
-
-/// What the type of a slice says of its items.
-fn are_bytes(bytes: &[u8])
-    ensures { AreBytes bytes.now }
-{
-    let _ = bytes;
 }
 
 /// What the type of a frame says of its operands.

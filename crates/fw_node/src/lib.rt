@@ -5,6 +5,7 @@ mod bytes;
 mod fcp;
 mod laws;
 mod node;
+mod registers;
 mod request;
 mod response;
 mod waiting;

@@ -1,18 +1,16 @@
 //! Requests, and the packets that ask them.
 
-ghost use Rattle.std.specs.Prelude.{◌≡◌, ◌≤◌, ◌++◌, Some, IsSome, IfSome};
-ghost use Rattle.std.specs.Int.{to_be_bytes, w32};
+ghost use Rattle.std.specs.Prelude.{◌≡◌, ◌≤◌, Some, IsSome};
 ghost use Rattle.fw_async.specs.Async.{Fits, spelling};
 ghost use Rattle.fw_async.specs.Quadlets.{request_packet as quadlet_packet};
-ghost use Rattle.fw_csr.specs.Requests.{offset_of};
 ghost use Rattle.fw_node.specs.Packets.{request_in, requester, packet_of, request_head, RequestFits};
 
 use crate::response::RETRY_X;
 use crate::words::node_id;
-use fw_async::{Head, Packet, PacketRoom, QuadletRequest, QuadletSwap};
+use fw_async::{Head, Packet, PacketRoom, QuadletRequest};
 use fw_base::Label;
-use fw_csr::{QuadletAccess, Request, Swap};
-use fw_words::{Bytes, Bytes16, Data};
+use fw_csr::{QuadletAccess, Request};
+use fw_words::{Bytes, Bytes16, Data, Swap};
 
 /// What a request packet asks.
 pub fn request_of<'a>(p: &Packet<'a>) -> Request<'a>
@@ -122,10 +120,7 @@ pub fn put_request(from: u8, to: u8, label: Label, r: &QuadletAccess, out: &mut 
     out.put_request(&QuadletRequest {
         head: request_head(from, to, label),
         offset,
-        swap: match swap {
-            None => None,
-            Some(Swap { argument, new }) => Some(QuadletSwap { argument, new }),
-        },
+        swap,
     });
 }
 
@@ -133,9 +128,10 @@ pub fn put_request(from: u8, to: u8, label: Label, r: &QuadletAccess, out: &mut 
 pub fn asked_of(q: &QuadletRequest) -> QuadletAccess
     ensures { request_in (quadlet_packet q.now) ≡ Some result }
 {
+    // Word by word: copied whole, the two are put into one register and taken out again at each request.
     let swap = match q.swap {
         None => None,
-        Some(QuadletSwap { argument, new }) => Some(Swap { argument, new }),
+        Some(Swap { argument, new }) => Some(Swap { argument, new }),
     };
     QuadletAccess::new(q.offset, swap)
 }

@@ -3,6 +3,7 @@
 ghost use Rattle.std.specs.Prelude.{◌≡◌, ◌≤◌};
 ghost use Rattle.fw_node.specs.Contents.{node_id, node_ids, cycle_time, capabilities};
 
+use fw_avc::COMPANY_ID;
 use fw_base::DeviceKind;
 use fw_words::with_field;
 
@@ -10,8 +11,8 @@ use fw_words::with_field;
 pub const SPLIT_TIMEOUT: u32 = 800 << 19;
 /// The letters "1394".
 pub const NAME_1394: u32 = 0x3133_3934;
-/// An invented company (own); the low quadlet of the EUI-64 is the device's number.
-pub const COMPANY: u32 = 0xA0B0_C000;
+/// The high quadlet of the EUI-64: the company, and a 0. Its low quadlet is the device's number (own).
+pub const COMPANY: u32 = COMPANY_ID << 8;
 
 const CYCLES_PER_SECOND: u64 = 8000;
 

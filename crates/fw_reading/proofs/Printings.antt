@@ -3,7 +3,7 @@ use Rattle.std.proofs.Common.{◌≡◌, ℕ, ◌+◌, ◌≤◌, ◌<◌, List,
 use Rattle.std.proofs.lemmas.Bool.Decides.{nat_tests}
 use Rattle.std.proofs.lemmas.List.{append-nil}
 use Rattle.fw_outside.specs.Outside.{Grows, AppendsFront}
-use Rattle.fw_outside.specs.Stops.{ReadCount, WriteCount}
+use Rattle.fw_outside.specs.Stops.{ReadCount}
 use Rattle.fw_outside.specs.declared.stop.Stop.TheVariants.{ReadFault, WriteFault, TooLong, NoMemory}
 use Rattle.fw_outside.proofs.Parts.{Grows-Grows, then_front, front_then}
 use Rattle.fw_entry.specs.Log.{header_bytes, epoch_after, entry_bytes, entries_bytes}
@@ -346,13 +346,6 @@ bytes_unopened form Took held mid held1 entries bytes front reader each whole so
     }
 
 -- ---- counts of faults
-
--- what stops no call changes no count
-pub stop_counts : {R : Type 0} (e : LogEnding R) (old new : ℕ) → stop_of e ≡ None → new ≡ old → WriteCount old new (stop_of e)
-stop_counts Done old new none is = is
-stop_counts (NoLog f) old new none is = is
-stop_counts (Refused u) old new none is = is
-stop_counts (Stopped s) old new none is = cc none
 
 -- the bytes of a read meet no fault of the source
 pub stops_at_read : {R : Type 0} (form : Form) (rules : Rules R) (held held' : Option (List ℕ)) (entries : List Timed) (bytes piece : List ℕ) (e : LogEnding R) (old new : ℕ) → StopsAt form rules held held' entries bytes piece e → new ≡ old → ReadCount old new (stop_of e)

@@ -85,10 +85,3 @@ pub none_before : (v : Version) (entries : List Timed) (part bytes : List ℕ) �
 none_before v [] part bytes e short = refl
 none_before v (t ∷ ts) part bytes e short =
     absurd (omega (arith, short, ap length e, length-append (bytes_of v (t ∷ ts)) part, length-append (header_bytes v) (entries_bytes v 0 (t ∷ ts))))
-
--- behind an entry it is whole
-pub some_behind : (v : Version) (entries : List Timed) (last : Timed) (bytes : List ℕ) → bytes_of v (entries ++ last ∷ []) ++ [] ≡ bytes → 16 ≤ length bytes
-some_behind v [] last bytes e =
-    omega (arith, ap length e, length-append (bytes_of v (last ∷ [])) [], length-append (header_bytes v) (entries_bytes v 0 (last ∷ [])))
-some_behind v (t ∷ ts) last bytes e =
-    omega (arith, ap length e, length-append (bytes_of v (t ∷ (ts ++ last ∷ []))) [], length-append (header_bytes v) (entries_bytes v 0 (t ∷ (ts ++ last ∷ []))))

@@ -1,6 +1,6 @@
 //! A piece of a log.
 
-ghost use Rattle.std.specs.Prelude.{◌≡◌, ◌+◌, ◌<◌, ◌≤◌, ◌^◌, ◌++◌, [], List, ℕ, length, take, drop, true, IfSome, IfOk, IfErr, OnOk, OnErr, None};
+ghost use Rattle.std.specs.Prelude.{◌≡◌, ◌+◌, ◌<◌, ◌^◌, [], List, ℕ, length, take, IfSome, IfOk, IfErr, OnOk, OnErr, None};
 ghost use Rattle.fw_outside.specs.Outside.{Rose, Writes};
 ghost use Rattle.fw_outside.specs.Stops.{WriteCount};
 ghost use Rattle.fw_entry.specs.declared.entry.Timed.{Timed as TimedEntry};

@@ -1,5 +1,5 @@
 -- No controller comes to a channel that the bus withholds, and no input plug is connected on it, whatever happens.
-use Rattle.std.proofs.Common.{◌≡◌, ◌≢◌, ◌⊎◌, inl, inr, ℕ, ◌-◌, ◌<◌, ◌==◌, ◌&&◌, ◌||◌, not, Bool, true, false, Option, Some, None, cond, refl, sym, ap, subst, ◌∙◌, true≢false, arith}
+use Rattle.std.proofs.Common.{◌≡◌, ◌≢◌, ◌⊎◌, inl, inr, ℕ, ◌-◌, ◌<◌, ◌&&◌, ◌||◌, not, Bool, true, false, Option, Some, None, cond, refl, sym, ap, subst, ◌∙◌, true≢false, arith}
 use Rattle.std.specs.Prelude.{Ok, option_map}
 use Rattle.std.proofs.lemmas.Bool.{cases_eq}
 use Rattle.std.proofs.lemmas.Bool.Decides.{nat_tests}
@@ -9,19 +9,18 @@ use Rattle.fw_base.specs.Tables.{same_plug}
 use Rattle.fw_base.proofs.Tables.{same_plug-true}
 use Rattle.fw_csr.specs.declared.reply.Reply.{Reply}
 use Rattle.fw_plug.specs.Words.{Settings, is_connected}
-use Rattle.fw_account.specs.Account.{Account, Connections, has_connection, is_withheld, is_free, talks}
-use Rattle.fw_account.specs.Events.{no_connections, after_death, after_reset as account_reset, after_second as account_second, after_withholding}
+use Rattle.fw_account.specs.Account.{Account, has_connection, is_withheld, is_free}
+use Rattle.fw_account.specs.Events.{after_death, after_reset as account_reset, after_withholding}
 use Rattle.fw_account.specs.Fold.{no_account}
 use Rattle.fw_account.specs.Moves.{Move, AllocateChannel, AllocateUnits, ConnectFirst, ConnectOverlaid, ConnectInput as JoinInput, DisconnectInput, DisconnectOutput, ReleaseUnits, ReleaseChannel, Can, after, drop_connection, add_connection}
 use Rattle.fw_account.specs.Network.{is_output, is_input}
-use Rattle.fw_account.specs.Packets.{asked, ended}
+use Rattle.fw_account.specs.Packets.{asked}
 use Rattle.fw_account.specs.Sound.{IsSound}
 use Rattle.fw_account.specs.Words.{word_of, OutputPlug, InputPlug, ChannelsAvailable}
 use Rattle.fw_account.proofs.Connections.{had_connection}
 use Rattle.fw_account.proofs.Deaths.{orphaned_has}
 use Rattle.fw_account.proofs.Open.{talks_apart}
 use Rattle.fw_account.proofs.Resets.{no_connection_at_first}
-use Rattle.fw_cmp.specs.declared.current.Current.TheVariants.{Hearing}
 use Rattle.fw_cmp.specs.declared.directory.Directory.{Directory}
 use Rattle.fw_cmp.specs.declared.job.Job.{Job}
 use Rattle.fw_cmp.specs.declared.request.Target.{Target}

@@ -1,5 +1,5 @@
 -- A controller that has no connection on a channel, and no job that makes one there, has none after what happens to it.
-use Rattle.std.proofs.Common.{◌≡◌, ◌≢◌, ◌⊎◌, inl, inr, ℕ, ◌<◌, ◌≤◌, Bool, true, false, Option, Some, None, List, [], ◌∷◌, length, get_or, slice_set, map, refl, sym, ap, subst, ◌∙◌, cond, eqb, ltb, ◌&&◌, arith}
+use Rattle.std.proofs.Common.{◌≡◌, ◌≢◌, ◌⊎◌, inl, inr, ℕ, ◌<◌, ◌≤◌, Bool, true, false, Option, Some, None, List, [], ◌∷◌, length, get_or, map, refl, sym, ap, subst, ◌∙◌, cond, eqb, ltb, ◌&&◌, arith}
 use Rattle.std.specs.Prelude.{Ok}
 use Rattle.std.proofs.lemmas.Bool.{cases_eq, cases_lt}
 use Rattle.std.proofs.lemmas.Bool.Decides.{nat_tests}
@@ -21,16 +21,16 @@ use Rattle.fw_cmp.specs.declared.job.Purpose.TheVariants.{Make, Restore, Break}
 use Rattle.fw_cmp.specs.declared.outcome.StartFault.{StartFault}
 use Rattle.fw_cmp.specs.declared.request.Access.{Access}
 use Rattle.fw_cmp.specs.declared.stage.Stage.{Stage}
-use Rattle.fw_cmp.specs.declared.stage.Stage.TheVariants.{Begin, ReadOutput, ReadChannels, SwapChannels, ReadBandwidth, SwapBandwidth, ConnectOutput, OverlayOutput, ReadInput, ConnectInput, ReadInputToLeave, LeaveInput, ReadOutputToLeave, LeaveOutput, ReadBandwidthToRelease, RaiseBandwidth, ReadChannelsToRelease, RestoreChannel, Made, Ended}
+use Rattle.fw_cmp.specs.declared.stage.Stage.TheVariants.{Begin, ReadInput, Made, Ended}
 use Rattle.fw_cmp.specs.Connections.{is_listen}
 use Rattle.fw_cmp.specs.Controllers.{ControllerState, first_state, slot_at, with_slot, break_waits}
 use Rattle.fw_cmp.specs.Decisions.{restores}
 use Rattle.fw_cmp.specs.Fits.{StageFits}
 use Rattle.fw_cmp.specs.Requests.{access_of}
-use Rattle.fw_cmp.specs.Resets.{heard, after_hear, decided, interrupted, overtaken, current_reset, lost_reset, slot_reset, slots_reset, after_reset, after_lost_reset, state_reset, slot_over, after_second}
-use Rattle.fw_cmp.specs.Stages.{hear, refuse, hear_reply}
+use Rattle.fw_cmp.specs.Resets.{heard, after_hear, overtaken, current_reset, lost_reset, slot_reset, after_reset, after_lost_reset, state_reset, slot_over, after_second}
+use Rattle.fw_cmp.specs.Stages.{hear, refuse}
 use Rattle.fw_cmp.specs.Starts.{started, break_started, break_fault, with_task}
-use Rattle.fw_cmp.specs.Turns.{current_for, takes_slot, takes_task, takes_waiting, takes_next, to_restore, waiting_break, is_empty, own_flow, absent_of, begin_managed, begin_present, begin_leaving, begin_breaking, begin, begun, is_late, resumed, slot_after, after_asking, after_answer, after_next}
+use Rattle.fw_cmp.specs.Turns.{current_for, takes_task, takes_waiting, takes_next, to_restore, waiting_break, is_empty, own_flow, absent_of, begin_managed, begin_present, begin_leaving, begin_breaking, begin, begun, is_late, resumed, slot_after, after_asking, after_answer, after_next}
 use Rattle.fw_reclaim.specs.Avoids.{SlotAvoids, StageAvoids, JobAvoids, CurrentAvoids, Avoids}
 use Rattle.fw_reclaim.proofs.AfterReset.{interrupted_for, decided_for}
 use Rattle.fw_reclaim.proofs.AvoidsHeard.{ShowsOther, hear_avoids, refuse_avoids}

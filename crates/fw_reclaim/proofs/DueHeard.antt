@@ -24,10 +24,6 @@ use Rattle.fw_reclaim.proofs.Due.{working}
 
 -- ---- small sums
 
-pub count_fits : (b : Bool) → count_of b ≤ 1
-count_fits true = omega arith
-count_fits false = omega arith
-
 pub less_both : (a b h : Bool) → (a ≡ true → b ≡ true) → count_of (a && h) ≤ count_of (b && h)
 less_both true true h le = omega arith
 less_both true false h le = absurd (grind (arith, le refl))

@@ -1,5 +1,5 @@
 -- A controller's turn: it keeps what its connections rest on, and stays on its course.
-use Rattle.std.proofs.Common.{◌≡◌, ◌≢◌, ◌⊎◌, inl, inr, ℕ, ◌<◌, Bool, true, false, Option, Some, None, length, refl, sym, ap, subst, ◌∙◌, arith, cond, eqb, ◌&&◌}
+use Rattle.std.proofs.Common.{◌≡◌, ◌≢◌, ◌⊎◌, inl, inr, ℕ, ◌<◌, Bool, true, false, Option, Some, None, length, sym, ap, subst, ◌∙◌, arith, cond, eqb, ◌&&◌}
 use Rattle.std.proofs.lemmas.Bool.{cases_eq}
 use Rattle.std.proofs.lemmas.Bool.Decides.{nat_tests}
 use Rattle.fw_account.specs.Account.{Account}
@@ -19,10 +19,6 @@ use Rattle.fw_reclaim.specs.Restores.{KeepsFlow, IsRestorable, Restores, Matches
 use Rattle.fw_reclaim.proofs.Slots.{slot_set_same, slot_set_other}
 
 -- ---- the slot of a job that has ended
-
-gone_or_free : (b : Bool) (conn : Connection) → (cond b (Gone conn) Free ≡ Gone conn) ⊎ (cond b (Gone conn) Free ≡ Free)
-gone_or_free true conn = inl refl
-gone_or_free false conn = inr refl
 
 left_standing : (b : Bool) (k conn : Connection) (f : Flow) → cond b (Gone k) Free ≡ Standing conn f → ⊥
 left_standing true k conn f e = grind arith

@@ -1,8 +1,7 @@
 -- A channel that no connection of a controller has, and that none of its jobs can come to have.
-use Rattle.std.specs.Prelude.{ℕ, ◌≡◌, ◌≢◌, ◌-◌, ◌==◌, Bool, true, false, Option, Some, None, IsTrue, IsFalse, ⊤, if◌then◌else◌}
+use Rattle.std.specs.Prelude.{ℕ, ◌≢◌, IsTrue, IsFalse, ⊤}
 use Rattle.fw_base.specs.declared.plug.PlugAt.{PlugAt}
-use Rattle.fw_plug.specs.Words.{is_connected}
-use Rattle.fw_account.specs.Account.{Account, has_connection, is_withheld}
+use Rattle.fw_account.specs.Account.{has_connection, is_withheld}
 use Rattle.fw_cmp.specs.declared.connection.Slot.{Slot}
 use Rattle.fw_cmp.specs.declared.connection.Slot.TheVariants.{Free, Making, Standing, Restoring, Gone}
 use Rattle.fw_cmp.specs.declared.current.Current.{Current}

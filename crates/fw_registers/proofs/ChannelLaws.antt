@@ -1,5 +1,5 @@
 -- The channels at the first bits of a set, one bit after another.
-use Rattle.std.proofs.Common.{◌≡◌, refl, ℕ, ◌+◌, List, [], ◌++◌, add-one}
+use Rattle.std.proofs.Common.{◌≡◌, refl, ℕ, ◌+◌, [], ◌++◌, add-one}
 use Rattle.fw_registers.specs.Words.{first_channels, channel_text}
 
 pub none : (first word : ℕ) → first_channels first word 0 ≡ []

@@ -1,5 +1,5 @@
 -- What the word of a register says, and what a swap of one word for another changes (own words over the fields of the standards).
-use Rattle.std.specs.Prelude.{ℕ, zero, suc, ◌+◌, ◌-◌, ◌^◌, ◌==◌, nat_lt, bit_and, List, [], ◌∷◌, ◌++◌, Option, Some, None, Bool, true, false, flat_map, codes, decimal, if◌then◌else◌}
+use Rattle.std.specs.Prelude.{ℕ, zero, suc, ◌+◌, ◌-◌, ◌^◌, ◌==◌, nat_lt, bit_and, List, [], ◌∷◌, ◌++◌, Bool, true, false, flat_map, codes, decimal, if◌then◌else◌}
 use Rattle.fw_words.specs.Quadlet.{field}
 use Rattle.fw_names.specs.Texts.{hex, named, quadlet_text}
 use Rattle.fw_names.specs.Names.{rate_name}

@@ -1,7 +1,7 @@
 //! What stands at an offset as text, and what its word says.
 
 ghost use Rattle.std.specs.Prelude.{◌≡◌, ◌++◌, OnOk, codes, decimal};
-ghost use Rattle.fw_registers.specs.Words.{register_name, is_row, place_text, told_text, word_text};
+ghost use Rattle.fw_registers.specs.Words.{is_row, place_text, told_text, word_text};
 
 use crate::fields::put_register;
 use crate::place::Place;

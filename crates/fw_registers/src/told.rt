@@ -1,7 +1,7 @@
 //! What is told of a field.
 
 ghost use Rattle.std.specs.Prelude.{◌≡◌, ◌++◌, ◌≤◌, OnOk, codes};
-ghost use Rattle.fw_registers.specs.Words.{field_at, field_text, amount_text, difference_text, change_text, told_field};
+ghost use Rattle.fw_registers.specs.Words.{field_at, amount_text, difference_text, change_text, told_field};
 
 use crate::shown::{Amount, Shown, put_value};
 use fw_names::{Pairs, put_number, put_word};

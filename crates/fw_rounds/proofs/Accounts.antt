@@ -1,5 +1,5 @@
 -- The account tells who holds the channel that a slot waits for.
-use Rattle.std.proofs.Common.{◌≡◌, ℕ, ◌+◌, ◌-◌, ◌<◌, true, false, Bool, Option, Some, None, eqb, refl, ap, sym, subst, ◌∙◌, arith, ◌&&◌, ◌||◌, not, true≢false}
+use Rattle.std.proofs.Common.{◌≡◌, ℕ, ◌<◌, true, false, Bool, Option, Some, None, eqb, refl, ap, sym, subst, ◌∙◌, arith, ◌&&◌, ◌||◌, not, true≢false}
 use Rattle.std.proofs.lemmas.Bool.Decides.{nat_tests}
 use Rattle.std.specs.Option.{option_map}
 use Rattle.fw_base.specs.declared.plug.PlugAt.{PlugAt}

@@ -1,7 +1,7 @@
 -- A half step over the account is one over registers that stand still, unless it makes progress.
 use Rattle.std.proofs.Common.{◌≡◌, ℕ, Bool, true, false, Option, Some, None, eqb, refl, ap, sym, ◌∙◌, arith, cond}
 use Rattle.fw_csr.specs.declared.reply.Reply.{Reply}
-use Rattle.fw_csr.specs.declared.request.Swap.{Swap}
+use Rattle.fw_words.specs.declared.swap.Swap.{Swap}
 use Rattle.fw_csr.specs.Replies.{complete}
 use Rattle.fw_account.specs.Account.{Account}
 use Rattle.fw_account.specs.Words.{word_of}

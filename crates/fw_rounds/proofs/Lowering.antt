@@ -18,7 +18,7 @@ use Rattle.fw_cmp.specs.Requests.{target_of}
 use Rattle.fw_cmp.specs.Stages.{hear}
 use Rattle.fw_cmp.specs.Turns.{resumed, ready, after_answer, waiting_break}
 use Rattle.fw_rounds.specs.Distance.{answer_of, succeeds}
-use Rattle.fw_rounds.specs.Remaining.{whole, remaining}
+use Rattle.fw_rounds.specs.Remaining.{most_remaining, remaining}
 use Rattle.fw_rounds.specs.HalfSteps.{after_half_step, progresses, ends_restoring, to_come, IsRestoringOf, CurrentRestores, CurrentKnows}
 use Rattle.fw_rounds.proofs.Lowers.{lowers}
 use Rattle.fw_rounds.proofs.Slots.{picks, Picks, Rests, idle}
@@ -36,7 +36,7 @@ restores_slot (Gone conn) j s i = absurd i
 begin_leaves : (c : ControllerState) (j : Job) → sum_to 32 (at_slot c j Begin) ≤ to_come (idle c)
 begin_leaves c j = sum_to_le 32 (at_slot c j Begin) _ (λ i lt. go (is_restoring (slot_at c i)) (restores j && eqb j.slot i))
   where
-    go : (b e : Bool) → cond b (cond e (remaining Begin) whole) 0 ≤ cond b whole 0
+    go : (b e : Bool) → cond b (cond e (remaining Begin) most_remaining) 0 ≤ cond b most_remaining 0
     go true true = omega arith
     go true false = omega arith
     go false e = omega arith

@@ -16,7 +16,7 @@ use Rattle.fw_cmp.specs.declared.stage.Stage.TheVariants.{Begin, Made, Ended}
 use Rattle.fw_cmp.specs.Controllers.{ControllerState, slot_at, with_slot, is_restoring, CurrentFits, Fits, first_state, job_for}
 use Rattle.fw_cmp.specs.Decisions.{restores}
 use Rattle.fw_cmp.specs.Requests.{target_of}
-use Rattle.fw_cmp.specs.Resets.{after_reset, after_lost_reset, state_reset, current_reset, lost_reset, overtaken, interrupted, decided, slots_reset, slot_reset}
+use Rattle.fw_cmp.specs.Resets.{state_reset, current_reset, lost_reset, overtaken, interrupted, decided, slots_reset, slot_reset}
 use Rattle.fw_cmp.specs.Turns.{waiting_break}
 use Rattle.fw_rounds.specs.Distance.{is_over}
 use Rattle.fw_rounds.specs.Remaining.{remaining}

@@ -15,7 +15,7 @@ use Rattle.fw_cmp.specs.declared.job.Purpose.{Purpose}
 use Rattle.fw_cmp.specs.declared.job.Purpose.TheVariants.{Make, Restore, Break}
 use Rattle.fw_cmp.specs.declared.outcome.Outcome.TheVariants.{Reset}
 use Rattle.fw_cmp.specs.declared.stage.Stage.TheVariants.{Begin, Made, Ended}
-use Rattle.fw_cmp.specs.Resets.{after_reset, after_lost_reset, state_reset, current_reset, lost_reset, overtaken, interrupted, decided}
+use Rattle.fw_cmp.specs.Resets.{state_reset, current_reset, lost_reset, overtaken, interrupted, decided}
 use Rattle.fw_rounds.specs.HalfSteps.{AsksWhatStands}
 use Rattle.fw_rounds.proofs.Within.{asking}
 

@@ -13,8 +13,6 @@ use Rattle.fw_cmp.specs.declared.connection.Flow.{Flow}
 use Rattle.fw_cmp.specs.declared.current.Current.TheVariants.{Nothing, Asking}
 use Rattle.fw_cmp.specs.declared.directory.Directory.{Directory}
 use Rattle.fw_cmp.specs.declared.job.Job.{Job}
-use Rattle.fw_cmp.specs.declared.job.Then.{Then}
-use Rattle.fw_cmp.specs.declared.job.Then.TheVariants.{EndsAs, Again}
 use Rattle.fw_cmp.specs.declared.job.Purpose.{Purpose}
 use Rattle.fw_cmp.specs.declared.job.Purpose.TheVariants.{Make, Restore, Break}
 use Rattle.fw_cmp.specs.declared.job.Ending.TheVariants.{Late, Absent}
@@ -26,15 +24,11 @@ use Rattle.fw_cmp.specs.Controllers.{ControllerState, slot_at, with_slot, is_res
 use Rattle.fw_cmp.specs.Decisions.{restores}
 use Rattle.fw_cmp.specs.Requests.{swap_of, access_at}
 use Rattle.fw_cmp.specs.Turns.{resumed, begun, begin, begin_making, begin_present, begin_managed, begin_breaking, begin_leaving, own_flow, absent_of, is_late, ended, slot_after, after_asking}
-use Rattle.fw_rounds.specs.Remaining.{whole, remaining, remaining_then}
+use Rattle.fw_rounds.specs.Remaining.{most_remaining, remaining}
 use Rattle.fw_rounds.specs.HalfSteps.{of_job, of_slot, to_come}
 use Rattle.fw_rounds.proofs.Slots.{other_item, none_restored}
 
 -- ---- a stage still has its outcome to come
-
-some_then : (next : Then) → 1 ≤ remaining_then next
-some_then (EndsAs e) = omega arith
-some_then Again = omega arith
 
 pub some_remains : (s : Stage) → 1 ≤ remaining s
 some_remains (ReadBandwidthToRelease next ch u) = omega arith
@@ -94,10 +88,10 @@ resumed_leaves d slot j s = go (is_late slot j s)
 abbrev pub at_slot : ControllerState → Job → Stage → ℕ → ℕ
 at_slot c j s i = of_slot (Asking j s) i (slot_at c i)
 
-other_slot : (j : Job) (s : Stage) (i : ℕ) → i ≢ j.slot → of_job j s i ≡ whole
+other_slot : (j : Job) (s : Stage) (i : ℕ) → i ≢ j.slot → of_job j s i ≡ most_remaining
 other_slot j s i ne = go (restores j) (eqb j.slot i) (grind (arith, nat_tests))
   where
-    go : (b c : Bool) → c ≡ false → cond (b && c) (remaining s) whole ≡ whole
+    go : (b c : Bool) → c ≡ false → cond (b && c) (remaining s) most_remaining ≡ most_remaining
     go true true e = grind arith
     go true false e = refl
     go false c e = refl
@@ -105,7 +99,7 @@ other_slot j s i ne = go (restores j) (eqb j.slot i) (grind (arith, nat_tests))
 own_slot : (j : Job) (s : Stage) → restores j ≡ true → of_job j s j.slot ≡ remaining s
 own_slot j s r = go (restores j) r (eqb j.slot j.slot) (grind (arith, nat_tests))
   where
-    go : (b : Bool) → b ≡ true → (c : Bool) → c ≡ true → cond (b && c) (remaining s) whole ≡ remaining s
+    go : (b : Bool) → b ≡ true → (c : Bool) → c ≡ true → cond (b && c) (remaining s) most_remaining ≡ remaining s
     go true e true f = refl
     go true e false f = grind arith
     go false e c f = grind arith
@@ -113,14 +107,14 @@ own_slot j s r = go (restores j) r (eqb j.slot j.slot) (grind (arith, nat_tests)
 of_job_le : (j : Job) (s t : Stage) (i : ℕ) → remaining t ≤ remaining s → of_job j t i ≤ of_job j s i
 of_job_le j s t i le = go (restores j && eqb j.slot i)
   where
-    go : (b : Bool) → cond b (remaining t) whole ≤ cond b (remaining s) whole
+    go : (b : Bool) → cond b (remaining t) most_remaining ≤ cond b (remaining s) most_remaining
     go true = le
     go false = omega arith
 
 pub of_job_some : (j : Job) (s : Stage) (i : ℕ) → 1 ≤ of_job j s i
 of_job_some j s i = go (restores j && eqb j.slot i)
   where
-    go : (b : Bool) → 1 ≤ cond b (remaining s) whole
+    go : (b : Bool) → 1 ≤ cond b (remaining s) most_remaining
     go true = some_remains s
     go false = omega arith
 

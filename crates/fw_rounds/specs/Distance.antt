@@ -1,6 +1,6 @@
 -- How far a restoring is from its next successful swap or its end, over registers that stand still.
 use Rattle.std.specs.Prelude.{ℕ, zero, suc, ◌-◌, ◌==◌, ◌≡◌, ◌⊎◌, not, Bool, true, false, ◌&&◌, ◌||◌, Option, Some, None, is_none, IsTrue, IsFalse, ⊤}
-use Rattle.fw_csr.specs.declared.request.Swap.{Swap}
+use Rattle.fw_words.specs.declared.swap.Swap.{Swap}
 use Rattle.fw_plug.specs.Words.{is_connected}
 use Rattle.fw_cmp.specs.declared.job.Job.{Job}
 use Rattle.fw_cmp.specs.declared.request.Target.{Target}

@@ -22,7 +22,7 @@ use Rattle.fw_cmp.specs.Resets.{after_hear}
 use Rattle.fw_cmp.specs.Turns.{after_next, ready, waiting_break}
 use Rattle.std.specs.Option.{option_map}
 use Rattle.fw_rounds.specs.Distance.{shown, answer_of, succeeds, has_begun, is_over, is_channel_free, HasPlug, Keeps}
-use Rattle.fw_rounds.specs.Remaining.{whole, remaining}
+use Rattle.fw_rounds.specs.Remaining.{most_remaining, remaining}
 
 -- ---- half steps
 
@@ -62,14 +62,14 @@ IsWithin (suc n) words now d c = IsTrue (progresses words now d c) ⊎ IsWithin 
 
 -- of a slot that is to be restored: what remains of its job, and else all
 abbrev pub of_job : Job → Stage → ℕ → ℕ
-of_job j s i = if restores j && (j.slot == i) then remaining s else whole
+of_job j s i = if restores j && (j.slot == i) then remaining s else most_remaining
 
 -- what remains of the restoring of a slot, by the current job
 abbrev pub of_current : Current → ℕ → ℕ
-of_current Nothing i = whole
+of_current Nothing i = most_remaining
 of_current (Asking j s) i = of_job j s i
 of_current (Hearing j s) i = of_job j s i
-of_current (Overtaken k o) i = whole
+of_current (Overtaken k o) i = most_remaining
 
 -- what remains of a slot: nothing where it is not to be restored
 abbrev pub of_slot : Current → ℕ → Slot → ℕ

@@ -7,21 +7,21 @@ use Rattle.fw_cmp.specs.declared.stage.Stage.TheVariants.{Begin, ReadOutput, Rea
 
 -- all that a connection may still need: the channel, the units and the output plug, their giving back or the input plug,
 -- and the outcome
-abbrev pub whole : ℕ
-whole = 7
+abbrev pub most_remaining : ℕ
+most_remaining = 7
 
 -- what remains once all was given back: the outcome alone, or everything again
 abbrev pub remaining_then : Then → ℕ
 remaining_then (EndsAs e) = 1
-remaining_then Again = whole
+remaining_then Again = most_remaining
 
 -- by stage: the swaps that may still succeed where all that was taken is given back, and the outcome
 abbrev pub remaining : Stage → ℕ
-remaining Begin = whole
-remaining ReadOutput = whole
-remaining (ReadChannels base w) = whole
-remaining (SwapChannels ch arg w) = whole
-remaining (OverlayOutput arg) = whole
+remaining Begin = most_remaining
+remaining ReadOutput = most_remaining
+remaining (ReadChannels base w) = most_remaining
+remaining (SwapChannels ch arg w) = most_remaining
+remaining (OverlayOutput arg) = most_remaining
 remaining (ReadBandwidth ch w) = 6
 remaining (SwapBandwidth ch u arg w) = 6
 remaining (ConnectOutput ch u arg) = 5

@@ -1,5 +1,5 @@
 -- The first rule that a line of a candidate breaks.
-use Rattle.std.proofs.Common.{◌≡◌, ℕ, ◌+◌, ◌<◌, ◌≤◌, List, [], ◌∷◌, is_some, Some, Ok, Err, IsTrue, IsFalse, refl, ap, sym, ◌∙◌, arith}
+use Rattle.std.proofs.Common.{◌≡◌, ℕ, ◌+◌, ◌≤◌, List, [], ◌∷◌, is_some, Some, Ok, Err, IsTrue, IsFalse, refl, ap, sym, ◌∙◌, arith}
 use Rattle.fw_base.specs.declared.device.DeviceKind.{DeviceKind}
 use Rattle.fw_devices.specs.Network.{device_named, kind_at, kinds_of}
 use Rattle.fw_script.specs.declared.command.Command.TheVariants as Commands
@@ -94,14 +94,4 @@ contend_none m s name count d g st named living none =
       (d, p, sym (ap is_some (candidate_same m s d st)) ∙ none),
       λ r lt. contend_breaks s name count d p r (λ z. sym (living_same m s d g st) ∙ living)
           (λ z. absurd (is_another NotCandidate r NotCandidate lt (omega arith) z)) (λ z. absurd (is_another NotCandidate r Limit lt (omega arith) z)),
-    )
-
-pub contend_limit : (m : Machine) (s : State) (name : List ℕ) (count d : ℕ) → IsGood s → StandsFor m s → device_named m.devices.names name ≡ Some d → IsTrue (is_living_in m d)
-    → IsTrue (is_some (candidate_in m.candidates d)) → 4000000 < m.half_steps + count → Decides s (Commands.Contend name count) (Err Limit)
-contend_limit m s name count d g st named living one most =
-    let p = is_named m s name d st named in
-    let same = st.clock.half_steps in (
-      omega (arith, most, same),
-      λ r lt. contend_breaks s name count d p r (λ z. sym (living_same m s d g st) ∙ living) (λ z. sym (ap is_some (candidate_same m s d st)) ∙ one)
-          (λ z. absurd (is_another Limit r Limit lt (omega arith) z)),
     )

@@ -9,6 +9,10 @@ ghost use Rattle.fw_machine.specs.Orders.{MayCarry, is_guarded_by};
 ghost use Rattle.fw_machine.specs.Stands.{IsReady};
 
 use crate::commands::known;
+use fw_csr::low_offset::{
+    BANDWIDTH_AVAILABLE, BUS_MANAGER_ID, CHANNELS_AVAILABLE_HI, CHANNELS_AVAILABLE_LO, IPCR,
+    LAST_IPCR, LAST_OPCR, OPCR,
+};
 use fw_machine::Machine;
 use fw_run::{Access, Order, RuleFault, Transaction};
 use fw_script::Name;
@@ -45,7 +49,7 @@ fn guards(machine: &Machine, access: Access) -> bool
     match access {
         Access::Read(_) => false,
         Access::Swap(offset, ..) => {
-            is_guarded(offset) || machine.candidates.begun() && offset == 0x21C
+            is_guarded(offset) || machine.candidates.begun() && u64::from(offset) == BUS_MANAGER_ID
         }
     }
 }
@@ -78,5 +82,12 @@ pub(crate) fn decide_show(
 fn is_guarded(offset: u16) -> bool
     ensures { result ≡ is_guarded_at offset }
 {
-    matches!(offset, 0x220 | 0x224 | 0x228 | 0x904..=0x97C | 0x984..=0x9FC)
+    matches!(
+        u64::from(offset),
+        BANDWIDTH_AVAILABLE
+            | CHANNELS_AVAILABLE_HI
+            | CHANNELS_AVAILABLE_LO
+            | OPCR..=LAST_OPCR
+            | IPCR..=LAST_IPCR
+    )
 }

@@ -5,12 +5,13 @@ use Rattle.fw_base.specs.declared.plug.PlugAt.{PlugAt}
 use Rattle.fw_base.specs.Devices.{output_plugs_of, input_plugs_of}
 use Rattle.fw_csr.specs.declared.register.Register.TheVariants.{ReadSwap}
 use Rattle.fw_csr.specs.declared.reply.Reply.{Reply}
-use Rattle.fw_csr.specs.declared.request.Swap.{Swap}
+use Rattle.fw_words.specs.declared.swap.Swap.{Swap}
 use Rattle.fw_entry.specs.declared.entry.ResetEntry.{ResetEntry}
 use Rattle.fw_entry.specs.declared.nodes.NodeRow.{NodeRow}
 use Rattle.fw_cmp.specs.declared.request.Target.{Target}
 use Rattle.fw_cmp.specs.declared.request.Target.TheVariants.{OutputPlug, InputPlug, Channels, BandwidthAvailable}
-use Rattle.fw_cmp.specs.Requests.{offset_of, request_at}
+use Rattle.fw_cmp.specs.Requests.{offset_of}
+use Rattle.fw_csr.specs.Requests.{request_at}
 use Rattle.fw_account.specs.Account.{Account}
 use Rattle.fw_account.specs.Network.{is_output, is_input, is_output_of, is_input_of}
 use Rattle.fw_account.specs.Words.{ChannelsAvailable, word_of}

@@ -2,9 +2,9 @@
 use Rattle.std.proofs.Common.{◌≡◌, ℕ, ◌≤◌, ◌<◌, ◌^◌, ◌==◌, ◌++◌, cond, Bool, true, false, Option, Some, None, refl, ap, ◌∙◌, arith, IsTrue}
 use Rattle.std.specs.Int.{to_be_bytes, w32}
 use Rattle.fw_async.specs.Async.{HeadFits}
-use Rattle.fw_cmp.specs.Requests.{swap_bytes}
+use Rattle.fw_words.specs.Swaps.{swap_bytes}
 use Rattle.fw_csr.specs.Manager.{after_at}
-use Rattle.fw_csr.specs.declared.request.Swap.{Swap}
+use Rattle.fw_words.specs.declared.swap.Swap.{Swap}
 use Rattle.fw_entry.specs.declared.entry.Entry.TheVariants.{Async}
 use Rattle.fw_entry.specs.declared.entry.ResetEntry.{ResetEntry}
 use Rattle.fw_async.specs.declared.packet.Packet.TheVariants.{LockReply}

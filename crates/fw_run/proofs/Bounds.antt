@@ -12,10 +12,10 @@ use Rattle.fw_base.specs.Tables.{at_plug}
 use Rattle.fw_csr.specs.declared.register.Register.{Register}
 use Rattle.fw_csr.specs.declared.register.Register.TheVariants.{ReadOnly, ReadSwap, WriteOnly}
 use Rattle.fw_csr.specs.declared.reply.Reply.{Reply}
-use Rattle.fw_csr.specs.declared.request.Swap.{Swap}
+use Rattle.fw_words.specs.declared.swap.Swap.{Swap}
 use Rattle.fw_csr.specs.Requests as Requests
-use Rattle.fw_csr.specs.Requests.{quadlet_swap}
-use Rattle.fw_cmp.specs.Requests.{request_at, swap_bytes}
+use Rattle.fw_words.specs.Swaps.{quadlet_swap, swap_bytes}
+use Rattle.fw_csr.specs.Requests.{request_at}
 use Rattle.fw_csr.specs.Manager.{ManagerWords}
 use Rattle.fw_csr.specs.Replies.{reply, swap_reply}
 use Rattle.fw_plug.specs.Plugs.{plug_at, plug_register, output_master, input_master}

@@ -10,7 +10,7 @@ use Rattle.fw_async.specs.declared.packet.Packet.{Packet}
 use Rattle.fw_async.specs.declared.packet.Packet.TheVariants.{LockReply}
 use Rattle.fw_csr.specs.Manager.{after_at}
 use Rattle.fw_csr.specs.declared.reply.Reply.{Reply}
-use Rattle.fw_csr.specs.declared.request.Swap.{Swap as Swapping}
+use Rattle.fw_words.specs.declared.swap.Swap.{Swap as Swapping}
 use Rattle.fw_entry.specs.Network.{device_of_id}
 use Rattle.fw_entry.specs.declared.codes.event.TheConstants.{ELECTED, DEFEATED}
 use Rattle.fw_entry.specs.declared.entry.Entry.{Entry}

@@ -9,7 +9,7 @@ use Rattle.fw_async.specs.declared.packet.Head.{Head}
 use Rattle.fw_async.specs.declared.packet.Packet.{Packet}
 use Rattle.fw_async.specs.declared.packet.Packet.TheVariants.{ReadQuadletReply, LockReply}
 use Rattle.fw_csr.specs.declared.reply.Reply.{Reply}
-use Rattle.fw_csr.specs.declared.request.Swap.{Swap}
+use Rattle.fw_words.specs.declared.swap.Swap.{Swap}
 use Rattle.fw_entry.specs.declared.entry.Entry.{Entry}
 use Rattle.fw_entry.specs.Log.{Fits}
 use Rattle.fw_account.specs.Words.{node_of}
@@ -34,7 +34,8 @@ use Rattle.fw_cmp.specs.Connections.{output_of, input_of}
 use Rattle.fw_cmp.specs.Controllers.{ControllerState}
 use Rattle.fw_cmp.specs.Decisions.{restores}
 use Rattle.fw_cmp.specs.Fits.{ConnectionFits}
-use Rattle.fw_cmp.specs.Requests.{offset_of, target_of, swap_of, access_at, access_of, request_at, addressee_of}
+use Rattle.fw_cmp.specs.Requests.{offset_of, target_of, swap_of, access_at, access_of, addressee_of}
+use Rattle.fw_csr.specs.Requests.{request_at}
 use Rattle.fw_cmp.specs.Turns.{is_empty, outcome_for, outcome_of, sending, asks_or_ends, rests, ready, next}
 use Rattle.fw_node.specs.Packets.{packet_of, response_head, response_to, old_bytes}
 use Rattle.fw_step.specs.Requests.{PlugNumberFits, procedure_head}

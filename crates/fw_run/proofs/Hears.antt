@@ -7,7 +7,7 @@ use Rattle.fw_base.specs.Tables.{update}
 use Rattle.fw_async.specs.declared.packet.Packet.{Packet}
 use Rattle.fw_async.specs.declared.packet.Packet.TheVariants.{ReadQuadletReply, LockReply}
 use Rattle.fw_csr.specs.declared.reply.Reply.{Reply}
-use Rattle.fw_csr.specs.declared.request.Swap.{Swap}
+use Rattle.fw_words.specs.declared.swap.Swap.{Swap}
 use Rattle.fw_entry.specs.declared.entry.Entry.TheVariants.{Async}
 use Rattle.fw_entry.specs.declared.entry.ResetEntry.{ResetEntry}
 use Rattle.fw_account.specs.Account.{Account}
@@ -23,9 +23,10 @@ use Rattle.fw_cmp.specs.declared.request.Target.{Target}
 use Rattle.fw_cmp.specs.declared.stage.Stage.{Stage}
 use Rattle.fw_cmp.specs.Controllers.{first_state as new_controller, CurrentFits, RunsFitting}
 use Rattle.fw_cmp.specs.Holdings.{StageReached, CurrentReached}
-use Rattle.fw_cmp.specs.Requests.{offset_of, target_of, swap_of, access_at, access_of, request_at, request_of, addressee_of}
+use Rattle.fw_cmp.specs.Requests.{offset_of, target_of, swap_of, access_at, access_of, request_of, addressee_of}
+use Rattle.fw_csr.specs.Requests.{request_at}
 use Rattle.fw_cmp.specs.Resets.{heard, after_hear}
-use Rattle.fw_node.specs.Packets.{response_to}
+use Rattle.fw_node.specs.Packets.{response_to, packet_of}
 use Rattle.fw_devices.specs.Network.{kind_at}
 use Rattle.fw_devices.specs.Entries.{row_of}
 use Rattle.fw_step.specs.Controllers.{IsDirectory}
@@ -37,7 +38,6 @@ use Rattle.fw_step.proofs.Leads.{target_register, answer_leads}
 use Rattle.fw_reclaim.specs.Worlds.{Answer}
 use Rattle.fw_reclaim.proofs.Together.{goes_on_reclaiming}
 use Rattle.fw_rounds.specs.HalfSteps.{AsksWhatStands}
-use Rattle.fw_node.specs.Packets.{packet_of}
 use Rattle.fw_run.specs.Spaces.{reply_from}
 use Rattle.fw_run.specs.State.{State, while_talking, list_to, linked_number, manager_in, directory_of, is_living, is_deaf, epoch_of}
 use Rattle.fw_run.specs.HalfSteps.{half_of, half, hears, hears_from, taken, after_half}

@@ -5,7 +5,7 @@ use Rattle.fw_async.specs.declared.packet.Head.{Head}
 use Rattle.fw_async.specs.declared.packet.Packet.{Packet}
 use Rattle.fw_async.specs.declared.packet.Packet.TheVariants.{WriteQuadlet, WriteBlock, WriteReply, ReadQuadlet, ReadBlock, ReadQuadletReply, ReadBlockReply, CycleStart, Lock, LockReply}
 use Rattle.fw_csr.specs.declared.request.Request.{Request as Asked}
-use Rattle.fw_csr.specs.declared.request.Swap.{Swap}
+use Rattle.fw_words.specs.declared.swap.Swap.{Swap}
 use Rattle.fw_csr.specs.declared.reply.Reply.{Reply}
 use Rattle.fw_entry.specs.declared.entry.Entry.{Entry}
 use Rattle.fw_entry.specs.declared.entry.Entry.TheVariants.{Reset, Async, Iso, Event, Outcome, Shown, End}
@@ -17,7 +17,9 @@ use Rattle.fw_cmp.specs.declared.outcome.Next.{Next}
 use Rattle.fw_cmp.specs.declared.outcome.Next.TheVariants.{Send, End as EndOf, Idle, Waiting, Deaf, Force}
 use Rattle.fw_cmp.specs.declared.request.Access.{Access}
 use Rattle.fw_cmp.specs.Controllers.{IsHeard}
-use Rattle.fw_cmp.specs.Requests.{offset_of, request_of, request_at, swap_bytes}
+use Rattle.fw_cmp.specs.Requests.{offset_of, request_of}
+use Rattle.fw_csr.specs.Requests.{request_at}
+use Rattle.fw_words.specs.Swaps.{swap_bytes}
 use Rattle.fw_cmp.specs.Turns.{next, after_next}
 use Rattle.fw_node.specs.Packets.{packet_of}
 use Rattle.fw_step.specs.Requests.{Tells, IsResponse, procedure_head}

@@ -4,13 +4,13 @@ use Rattle.std.specs.Prelude.{⊤}
 use Rattle.fw_async.specs.Async as Async
 use Rattle.fw_async.specs.declared.packet.Packet.{Packet}
 use Rattle.fw_csr.specs.declared.request.Request.{Request}
-use Rattle.fw_csr.specs.declared.request.Swap.{Swap as Swapping}
+use Rattle.fw_words.specs.declared.swap.Swap.{Swap as Swapping}
 use Rattle.fw_entry.specs.declared.entry.Entry.{Entry}
 use Rattle.fw_entry.specs.declared.entry.Entry.TheVariants.{Reset, Async as AsyncEntry}
 use Rattle.fw_entry.specs.declared.entry.Timed.{Timed}
 use Rattle.fw_entry.specs.Log.{Fits, TimedFits}
 use Rattle.fw_account.specs.Words.{node_of, first_address}
-use Rattle.fw_cmp.specs.Requests.{request_at}
+use Rattle.fw_csr.specs.Requests.{request_at}
 use Rattle.fw_devices.proofs.EntryLaws.{entry_fits}
 use Rattle.fw_node.specs.Packets.{packet_of}
 use Rattle.fw_run.specs.declared.order.Access.{Access}

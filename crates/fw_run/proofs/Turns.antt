@@ -6,7 +6,7 @@ use Rattle.fw_base.specs.declared.plug.PlugAt.{PlugAt}
 use Rattle.fw_base.specs.Tables.{update}
 use Rattle.fw_async.specs.declared.packet.Head.{Head}
 use Rattle.fw_csr.specs.declared.request.Request.{Request as Asked}
-use Rattle.fw_csr.specs.declared.request.Swap.{Swap}
+use Rattle.fw_words.specs.declared.swap.Swap.{Swap}
 use Rattle.fw_entry.specs.declared.entry.Entry.TheVariants.{Async}
 use Rattle.fw_entry.specs.declared.entry.ResetEntry.{ResetEntry}
 use Rattle.fw_account.specs.Account.{Account, Request}
@@ -17,7 +17,8 @@ use Rattle.fw_cmp.specs.declared.outcome.Next.{Next}
 use Rattle.fw_cmp.specs.declared.outcome.Next.TheVariants.{Send, End, Idle, Waiting, Deaf, Force}
 use Rattle.fw_cmp.specs.declared.request.Access.{Access}
 use Rattle.fw_cmp.specs.Controllers.{ControllerState, first_state as new_controller, IsHeard}
-use Rattle.fw_cmp.specs.Requests.{offset_of, request_at, request_of}
+use Rattle.fw_cmp.specs.Requests.{offset_of, request_of}
+use Rattle.fw_csr.specs.Requests.{request_at}
 use Rattle.fw_cmp.specs.Turns.{next, after_next}
 use Rattle.fw_devices.specs.Network.{kind_at}
 use Rattle.fw_devices.specs.Entries.{row_of}

@@ -8,7 +8,7 @@ use Rattle.std.proofs.lemmas.Option.{same_Some}
 use Rattle.fw_base.specs.Devices.{output_plugs_of, input_plugs_of}
 use Rattle.fw_base.specs.Tables.{at_plug}
 use Rattle.fw_csr.specs.declared.reply.Reply.{Reply}
-use Rattle.fw_csr.specs.declared.request.Swap.{Swap}
+use Rattle.fw_words.specs.declared.swap.Swap.{Swap}
 use Rattle.fw_entry.specs.declared.entry.Entry.TheVariants.{Async}
 use Rattle.fw_entry.specs.declared.entry.ResetEntry.{ResetEntry}
 use Rattle.fw_entry.specs.declared.nodes.NodeRow.{NodeRow}
@@ -18,7 +18,7 @@ use Rattle.fw_account.specs.Packets.{Read, Locked}
 use Rattle.fw_account.specs.Words.{Register, BandwidthAvailable, ChannelsAvailable, OutputPlug, InputPlug, word_of, register_at, register_of, manager_register, plug_register, output_register, input_register, plug_number, first_output, first_input, first_address, is_node, node_of, id_in}
 use Rattle.fw_account.proofs.Places.{register_at_address}
 use Rattle.fw_faults.specs.Looked.{Response, Replies, looked, quadlet_in, is_plug_offset, is_watched, register_by, IsQuadlet, ShowsWords}
-use Rattle.fw_cmp.specs.Requests.{request_at}
+use Rattle.fw_csr.specs.Requests.{request_at}
 use Rattle.fw_node.specs.Space as Spaces
 use Rattle.fw_devices.specs.Network.{kind_at}
 use Rattle.fw_devices.specs.Entries.{row_of}

@@ -2,14 +2,14 @@
 use Rattle.std.proofs.Common.{◌≡◌, ℕ, ◌+◌, ◌-◌, ◌^◌, ◌<◌, ◌≤◌, ◌&&◌, nat_le, nat_lt, length, cond, Bool, true, false, Option, Some, None, is_some, unwrap_or, option_map, refl, ap, sym, subst, ◌∙◌, arith, IsTrue}
 use Rattle.std.proofs.lemmas.Bool.Decides.{nat_tests}
 use Rattle.fw_csr.specs.declared.register.Register.TheVariants.{ReadSwap}
-use Rattle.fw_csr.specs.declared.request.Swap.{Swap}
+use Rattle.fw_words.specs.declared.swap.Swap.{Swap}
 use Rattle.fw_entry.specs.declared.entry.ResetEntry.{ResetEntry}
 use Rattle.fw_entry.specs.declared.nodes.NodeRow.{NodeRow}
 use Rattle.fw_entry.specs.Network.{first_id, node_of_device}
 use Rattle.fw_account.specs.Words.{Register, word_of, register_at, register_of, node_of, first_address}
 use Rattle.fw_account.proofs.Bounds.{register_there, word_below}
 use Rattle.fw_account.proofs.Places.{register_at_address}
-use Rattle.fw_cmp.specs.Requests.{request_at}
+use Rattle.fw_csr.specs.Requests.{request_at}
 use Rattle.fw_node.specs.Space as Spaces
 use Rattle.fw_node.specs.Space.{answer_of}
 use Rattle.fw_run.specs.State.{State, number_in, device_in}

@@ -5,6 +5,7 @@ use Rattle.fw_base.specs.declared.device.DeviceKind.{DeviceKind}
 use Rattle.fw_base.specs.Tables.{update}
 use Rattle.fw_base.specs.declared.plug.PlugAt.{PlugAt}
 use Rattle.fw_async.specs.declared.packet.Packet.{Packet}
+use Rattle.fw_csr.specs.declared.low_offset.TheConstants.{BUS_MANAGER_ID}
 use Rattle.fw_entry.specs.declared.entry.Timed.{Timed}
 use Rattle.fw_entry.specs.declared.entry.Entry.TheVariants.{Reset, Async, Iso, End as EndEntry}
 use Rattle.fw_entry.specs.declared.entry.ResetEntry.{ResetEntry}
@@ -224,7 +225,7 @@ AccessFits (Swap offset argument new) = (offset < 2 ^ 12) × (argument < 2 ^ 32)
 -- from the first candidate on the script does not swap BUS_MANAGER_ID
 abbrev pub IsSpared : Election → Access → Type 0
 IsSpared e (Read offset) = ⊤
-IsSpared e (Swap offset argument new) = IsTrue e.begun → IsFalse (offset == 0x21C)
+IsSpared e (Swap offset argument new) = IsTrue e.begun → IsFalse (offset == BUS_MANAGER_ID)
 
 -- One action while no transaction of the script waits for its answer: what it writes, and the state after it. While the second of
 -- the latest bus reset runs its end has not come yet, so in each state it is not over.

@@ -27,6 +27,6 @@ GivesNothing held after (Ok _) = Grows held after []
 GivesNothing held after (Err _) = ⊥
 
 -- at this cycle, where this is the epoch of the latest reset before the entry, or up to and including it
-abbrev pub Gives : {T E : Type 0} → Option (List ℕ) → Option (List ℕ) → Result T E → ℕ → ℕ → Option Entry → Type 0
-Gives held after r cycle epoch None = GivesNothing held after r
-Gives held after r cycle epoch (Some e) = Writes held after r (entry_bytes Two (epoch_after epoch e) (at_cycle cycle e))
+abbrev pub GivesEntry : {T E : Type 0} → Option (List ℕ) → Option (List ℕ) → Result T E → ℕ → ℕ → Option Entry → Type 0
+GivesEntry held after r cycle epoch None = GivesNothing held after r
+GivesEntry held after r cycle epoch (Some e) = Writes held after r (entry_bytes Two (epoch_after epoch e) (at_cycle cycle e))

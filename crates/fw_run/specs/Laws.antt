@@ -1,6 +1,6 @@
 -- What holds of every run: laws that the functions of this crate promise.
 use Rattle.std.specs.Prelude.{◌≡◌, ℕ, List, [], ◌∷◌, ◌++◌, Option, Some}
-use Rattle.fw_csr.specs.declared.request.Swap.{Swap}
+use Rattle.fw_words.specs.declared.swap.Swap.{Swap}
 use Rattle.fw_entry.specs.declared.entry.Timed.{Timed}
 use Rattle.fw_entry.specs.declared.entry.ResetEntry.{ResetEntry}
 use Rattle.fw_devices.specs.Resets.{Shows}
@@ -8,7 +8,8 @@ use Rattle.fw_step.specs.InStep.{IsRegister}
 use Rattle.fw_step.specs.Registers.{register_at, IsAnswer}
 use Rattle.fw_step.specs.Requests.{IsNodeOf, PlugNumberFits}
 use Rattle.fw_cmp.specs.declared.request.Target.{Target}
-use Rattle.fw_cmp.specs.Requests.{offset_of, request_at}
+use Rattle.fw_cmp.specs.Requests.{offset_of}
+use Rattle.fw_csr.specs.Requests.{request_at}
 use Rattle.fw_run.specs.State.{State, first_state}
 use Rattle.fw_run.specs.Spaces.{reply_from}
 use Rattle.fw_run.specs.Actions.{Action, Step, Steps}

@@ -7,6 +7,7 @@ use Rattle.fw_base.specs.declared.device.DeviceKind.{DeviceKind}
 use Rattle.fw_base.specs.declared.device.DeviceKind.TheVariants.{Relay, Deck, Camcorder, Computer}
 use Rattle.fw_base.specs.Tables.{at_plug}
 use Rattle.fw_base.specs.declared.plug.PlugAt.{PlugAt}
+use Rattle.fw_csr.specs.declared.low_offset.TheConstants.{BUS_MANAGER_ID, BANDWIDTH_AVAILABLE, CHANNELS_AVAILABLE_HI, CHANNELS_AVAILABLE_LO, OPCR, LAST_OPCR, IPCR, LAST_IPCR}
 use Rattle.fw_tape.specs.declared.system.TapeSystem.{TapeSystem}
 use Rattle.fw_tape.specs.declared.system.TapeSystem.TheVariants.{Lines525, Lines625}
 use Rattle.fw_tree.specs.declared.facts.End.{End}
@@ -153,11 +154,12 @@ IsRefused s c f = (d : ℕ) × (w : Wanted) × IsWanted s c d w × (start_of d w
 -- the registers of the manager that hold channels and units, and the plug control registers
 abbrev pub is_guarded_at : ℕ → Bool
 is_guarded_at offset =
-    (offset == 0x220) || (offset == 0x224) || (offset == 0x228) || (nat_le 0x904 offset && nat_le offset 0x97C) || (nat_le 0x984 offset && nat_le offset 0x9FC)
+    (offset == BANDWIDTH_AVAILABLE) || (offset == CHANNELS_AVAILABLE_HI) || (offset == CHANNELS_AVAILABLE_LO)
+    || (nat_le OPCR offset && nat_le offset LAST_OPCR) || (nat_le IPCR offset && nat_le offset LAST_IPCR)
 
 -- and BUS_MANAGER_ID from the first candidate on
 abbrev pub is_guarded_in : Bool → ℕ → Bool
-is_guarded_in begun offset = is_guarded_at offset || (begun && (offset == 0x21C))
+is_guarded_in begun offset = is_guarded_at offset || (begun && (offset == BUS_MANAGER_ID))
 
 -- the device whose register is shown
 abbrev pub IsShown : State → Option (List ℕ) → ℕ → Type 0

@@ -12,7 +12,6 @@ ghost use Rattle.fw_node.specs.Packets.{RequestFits};
 ghost use Rattle.fw_node.specs.State.{NodeState, first_state, after_second, after_request, after_reset as node_after_reset};
 ghost use Rattle.fw_devices.specs.Decks.{tape_of, with_tape as node_with_tape, passed as node_passed};
 ghost use Rattle.fw_run.specs.Decks.{DeckState, FrameWrite, first_deck, next_frame, after_frame, most_frames, after_reset, with_tape, passed, IsAtRest};
-ghost use Rattle.fw_run.specs.Desks.{DeskRelations};
 ghost use Rattle.fw_run.specs.Frames.{next_told, request_of, frame_packet, response_write};
 ghost use Rattle.fw_entry.specs.declared.entry.Timed.{Timed};
 ghost use Rattle.fw_run.specs.declared.order.Order.{Order};

@@ -1,12 +1,11 @@
 ghost use Rattle.std.specs.Prelude.{◌≡◌, List, ℕ, IsTrue, IsFalse};
-ghost use Rattle.fw_csr.specs.declared.reply.Reply.{Reply};
 ghost use Rattle.fw_entry.specs.declared.entry.ResetEntry.{ResetEntry};
 ghost use Rattle.fw_entry.specs.declared.entry.Timed.{Timed};
 ghost use Rattle.fw_cmp.specs.Controllers.{IsHeard};
-ghost use Rattle.fw_cmp.specs.Losses.{first_listening, turn_of, after_turn, after_answer, after_loss as lost, after_bus_reset, after_end, with_state};
+ghost use Rattle.fw_cmp.specs.Losses.{first_listening, turn_of, after_turn, after_loss as lost, after_bus_reset, after_end, with_state};
 ghost use Rattle.fw_cmp.specs.Starts.{break_fault, break_started, started};
 ghost use Rattle.fw_run.specs.declared.order.Wanted.{Wanted};
-ghost use Rattle.fw_run.specs.Actions.{Action, Steps, after_loss, after_reset_entry, after_second, after_death, after_start, with_connection, slot_of, start_of};
+ghost use Rattle.fw_run.specs.Actions.{Action, Steps, after_loss, after_reset_entry, after_second, after_death, with_connection, slot_of, start_of};
 ghost use Rattle.fw_run.specs.Good.{IsGood};
 ghost use Rattle.fw_run.specs.HalfSteps.{after_half, has_request, with_controller};
 ghost use Rattle.fw_run.specs.Recovery.{LosesNothing};

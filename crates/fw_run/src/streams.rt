@@ -1,4 +1,4 @@
-ghost use Rattle.std.specs.Prelude.{◌≡◌, ◌<◌, ℕ, List, Option, Some, None, IsTrue, slice_get};
+ghost use Rattle.std.specs.Prelude.{◌≡◌, ◌<◌, ℕ, List, Some, None, IsTrue, slice_get};
 ghost use Rattle.fw_base.specs.declared.plug.PlugAt.{PlugAt};
 ghost use Rattle.fw_cip.specs.declared.packet.IsoPacket.{IsoPacket};
 ghost use Rattle.fw_entry.specs.declared.entry.Entry.TheVariants.{Iso};

@@ -4,8 +4,8 @@ use Rattle.std.proofs.lemmas.List.{append-nil, drop-append-le, drop-drop}
 use Rattle.fw_outside.specs.Outside.{Takes, IsAtEnd}
 use Rattle.fw_outside.proofs.Parts.{Takes-Takes, Takes-nothing}
 use Rattle.fw_script.specs.Pieces.{IsFree}
-use Rattle.fw_script.specs.Reading.{Reading, Answer, Gives, GivesNext, Advances, IsLine, IsHeld, behind, with_taken, unread}
-use Rattle.fw_script.specs.Reading.Gives.{skipped, command, end_line, bad_line, long_line, too_long, end_of_input, no_end, read_fault}
+use Rattle.fw_script.specs.Reading.{Reading, Answer, GivesFirst, GivesNext, Advances, IsLine, IsHeld, behind, with_taken, unread}
+use Rattle.fw_script.specs.Reading.GivesFirst.{skipped, command, end_line, bad_line, long_line, too_long, end_of_input, no_end, read_fault}
 use Rattle.fw_script.specs.Script.{Refusal, Says, IsScript, Tells, begun}
 use Rattle.fw_script.specs.Leading.{Leads, HasRead, LinesSay, IsReadOf}
 use Rattle.fw_script.specs.Leading.Leads.{nothing, and_then}
@@ -21,7 +21,7 @@ use Rattle.fw_script.proofs.StepLaws.{with_with, at_end_still}
 use Rattle.fw_script.proofs.GivesLaws.{gives_with, gives_whole}
 use Rattle.fw_script.proofs.ScriptLaws.{some_something, err_something, says_from, says_behind}
 
-next_open : (s : Stage) (p q : Reading) (r : Answer) → (r ≢ Ok None) → GivesNext s p r q → Gives p r q
+next_open : (s : Stage) (p q : Reading) (r : Answer) → (r ≢ Ok None) → GivesNext s p r q → GivesFirst p r q
 next_open Commands p q r n g = g
 next_open AfterEnd p q r n g = g
 next_open Done p q r n g = absurd (n g.0)
@@ -29,7 +29,7 @@ next_open Failed p q r n g = g
 
 -- what a call gave, over all bytes that are left
 module _ (old new : Reading) (mid left' : Option (List ℕ)) (r : Answer) (some : r ≢ Ok None) (a : Advances old new mid left' r) where
-  gave : Gives a.known r new
+  gave : GivesFirst a.known r new
   gave = next_open old.stage a.known new r some a.gives
 
   pub known_whole : new.whole ≡ a.known.whole
@@ -39,13 +39,13 @@ module _ (old new : Reading) (mid left' : Option (List ℕ)) (r : Answer) (some 
   more_none : (more : List ℕ) → (new.whole ≡ true → more ≡ []) → a.known.whole ≡ true → more ≡ []
   more_none more none w = none (known_whole ∙ w)
 
-  pub gave_by : (more : List ℕ) (whole : Bool) → (new.whole ≡ true → (more ≡ []) × (whole ≡ true)) → Gives (with_taken old (a.takes.taken ++ more) whole) r (with_taken new more whole)
+  pub gave_by : (more : List ℕ) (whole : Bool) → (new.whole ≡ true → (more ≡ []) × (whole ≡ true)) → GivesFirst (with_taken old (a.takes.taken ++ more) whole) r (with_taken new more whole)
   gave_by more whole none =
-      subst (λ (p : Reading). Gives p r (with_taken new more whole))
+      subst (λ (p : Reading). GivesFirst p r (with_taken new more whole))
       (ap (λ (p : Reading). with_taken p more whole) a.takes.now ∙ with_with old a.takes.taken more a.known.whole whole)
       (gives_with more whole (λ w. none (known_whole ∙ w)) gave)
 
-  pub gave_all : (more : List ℕ) → (new.whole ≡ true → more ≡ []) → Gives (with_taken old (a.takes.taken ++ more) true) r (with_taken new more true)
+  pub gave_all : (more : List ℕ) → (new.whole ≡ true → more ≡ []) → GivesFirst (with_taken old (a.takes.taken ++ more) true) r (with_taken new more true)
   gave_all more none = gave_by more true (λ w. (none w, refl))
 
   -- where the end was met before, nothing more was left
@@ -75,7 +75,7 @@ read_from taken p t n a h = record {
   held = sym (drop-drop n p.before taken) ∙ ap (λ (l : List ℕ). drop n l) h.held;
 }
 
-gives_read : {p : Reading} {r : Answer} {q : Reading} → (taken : List ℕ) → IsReadOf taken p → Gives p r q → IsReadOf taken q
+gives_read : {p : Reading} {r : Answer} {q : Reading} → (taken : List ℕ) → IsReadOf taken p → GivesFirst p r q → IsReadOf taken q
 gives_read {p = p} taken h (skipped t n a k g) = gives_read taken (read_from taken p t n a h) g
 gives_read {p = p} taken h (command c t n a k i f o) = read_from taken p t n a h
 gives_read {p = p} taken h (end_line t n a k i f g) = let e = read_from taken p t n a h in gives_read taken (record { within = e.within; held = e.held }) g
@@ -166,7 +166,7 @@ pub read_rest : {left left' : Option (List ℕ)} {given : List Command} {now : R
 read_rest so more ds r none h = says_behind (so.leads more true (λ w. (none w, refl))) ds r h
 
 -- where the end was given, the input was read to its end
-gives_end_whole : {p : Reading} {r : Answer} {q : Reading} → Gives p r q → r ≡ Ok (Some End) → q.whole ≡ true
+gives_end_whole : {p : Reading} {r : Answer} {q : Reading} → GivesFirst p r q → r ≡ Ok (Some End) → q.whole ≡ true
 gives_end_whole (skipped t n a k g) e = gives_end_whole g e
 gives_end_whole (command c t n a k i f o) e = absurd (o (let h : c ≡ End = cc in h))
 gives_end_whole (end_line t n a k i f g) e = gives_end_whole g e

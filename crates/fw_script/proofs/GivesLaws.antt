@@ -1,16 +1,16 @@
 -- What lines give is one only, and stays so where more bytes are known.
-use Rattle.std.proofs.Common.{◌≡◌, ◌≢◌, ◌⊎◌, inl, inr, ℕ, [], List, Bool, true, false, Some, Ok, Err, refl, ap, sym, subst}
+use Rattle.std.proofs.Common.{◌≡◌, ◌≢◌, ◌⊎◌, inl, inr, ℕ, List, Bool, true, false, Some, Ok, Err, refl, ap, sym, subst}
 use Rattle.fw_script.specs.Line.{is_skipped}
 use Rattle.fw_script.specs.Form.{HasForm}
-use Rattle.fw_script.specs.Reading.{Reading, Answer, Gives, IsLine, IsAtEndOfInput, IsLongLine, PassesLimit, behind, at_stage, refused, with_taken}
-use Rattle.fw_script.specs.Reading.Gives.{skipped, command, end_line, bad_line, long_line, too_long, end_of_input, no_end, read_fault}
+use Rattle.fw_script.specs.Reading.{Reading, Answer, GivesFirst, IsLine, IsAtEndOfInput, IsLongLine, PassesLimit, behind, at_stage, refused, with_taken}
+use Rattle.fw_script.specs.Reading.GivesFirst.{skipped, command, end_line, bad_line, long_line, too_long, end_of_input, no_end, read_fault}
 use Rattle.fw_script.specs.declared.command.Command.{Command}
 use Rattle.fw_script.specs.declared.command.Command.TheVariants.{End}
 use Rattle.fw_script.specs.declared.ScriptFault.TheVariants.{BadLine, LineTooLong, NoEnd, ReadFault, TooLong}
 use Rattle.fw_script.specs.declared.stage.Stage.{Stage}
 use Rattle.fw_script.specs.declared.stage.Stage.TheVariants.{Commands, AfterEnd, Done, Failed}
-use Rattle.fw_script.specs.Reader.{IsCut, Goes}
-use Rattle.fw_script.specs.Reader.Goes.{nowhere, over_skipped, over_end}
+use Rattle.fw_script.specs.Reader.{IsCut, PassesOver}
+use Rattle.fw_script.specs.Reader.PassesOver.{nowhere, over_skipped, over_end}
 use Rattle.fw_script.proofs.FormLaws.{one_form}
 use Rattle.fw_script.proofs.LineLaws.{IsMore, line_once, line_not_long, line_not_limit, line_not_end, long_not_limit, long_not_end, limit_not_end, line_more, long_more, limit_more, end_more, behind_more, cut_not_line, cut_not_long, cut_not_limit, cut_not_end}
 use Rattle.fw_script.proofs.ReadingLaws.{gives_at}
@@ -21,9 +21,9 @@ Refuses stage t = (stage ≡ AfterEnd) ⊎ ((c : Command) → HasForm c t → �
 
 -- what a line leads to
 data Leads (p : Reading) (t : List ℕ) (n : ℕ) : Answer → Reading → Type 0 where
-  on : {r : Answer} {q : Reading} → is_skipped t ≡ true → Gives (behind p n) r q → Leads p t n r q
+  on : {r : Answer} {q : Reading} → is_skipped t ≡ true → GivesFirst (behind p n) r q → Leads p t n r q
   said : (c : Command) → is_skipped t ≡ false → p.stage ≡ Commands → HasForm c t → c ≢ End → Leads p t n (Ok (Some c)) (behind p n)
-  ended : {r : Answer} {q : Reading} → is_skipped t ≡ false → p.stage ≡ Commands → HasForm End t → Gives (at_stage (behind p n) AfterEnd) r q → Leads p t n r q
+  ended : {r : Answer} {q : Reading} → is_skipped t ≡ false → p.stage ≡ Commands → HasForm End t → GivesFirst (at_stage (behind p n) AfterEnd) r q → Leads p t n r q
   bad : is_skipped t ≡ false → Refuses p.stage t → Leads p t n (Err BadLine) (at_stage (behind p n) Failed)
 
 leads_along : (p : Reading) (t u : List ℕ) (m n : ℕ) (r : Answer) (q : Reading) → IsLine p t m → IsLine p u n → Leads p u n r q → Leads p t m r q
@@ -31,7 +31,7 @@ leads_along p t u m n r q a b h =
     let e = line_once p u t n m b a in
     subst (λ (k : ℕ). Leads p t k r q) e.1 (subst (λ (l : List ℕ). Leads p l n r q) e.0 h)
 
-at_line : (p : Reading) (t : List ℕ) (n : ℕ) → IsLine p t n → {r : Answer} {q : Reading} → r ≢ Err ReadFault → Gives p r q → Leads p t n r q
+at_line : (p : Reading) (t : List ℕ) (n : ℕ) → IsLine p t n → {r : Answer} {q : Reading} → r ≢ Err ReadFault → GivesFirst p r q → Leads p t n r q
 at_line p t n a {r = r} {q = q} told (skipped u m b s g) = leads_along p t u n m r q a b (on s g)
 at_line p t n a told (command c u m b s i f k) = leads_along p t u n m (Ok (Some c)) (behind p m) a b (said c s i f k)
 at_line p t n a {r = r} {q = q} told (end_line u m b s i f g) = leads_along p t u n m r q a b (ended s i f g)
@@ -42,7 +42,7 @@ at_line p t n a told (end_of_input b s) = absurd (line_not_end p t n a b)
 at_line p t n a told (no_end b s) = absurd (line_not_end p t n a b)
 at_line p t n a told read_fault = absurd (told refl)
 
-at_long : (p : Reading) → IsLongLine p → {r : Answer} {q : Reading} → r ≢ Err ReadFault → Gives p r q → (Err LineTooLong ≡ r) × (refused p ≡ q)
+at_long : (p : Reading) → IsLongLine p → {r : Answer} {q : Reading} → r ≢ Err ReadFault → GivesFirst p r q → (Err LineTooLong ≡ r) × (refused p ≡ q)
 at_long p a told (skipped u m b s g) = absurd (line_not_long p u m b a)
 at_long p a told (command c u m b s i f k) = absurd (line_not_long p u m b a)
 at_long p a told (end_line u m b s i f g) = absurd (line_not_long p u m b a)
@@ -53,7 +53,7 @@ at_long p a told (end_of_input b s) = absurd (long_not_end p a b)
 at_long p a told (no_end b s) = absurd (long_not_end p a b)
 at_long p a told read_fault = absurd (told refl)
 
-at_limit : (p : Reading) → PassesLimit p → {r : Answer} {q : Reading} → r ≢ Err ReadFault → Gives p r q → (Err TooLong ≡ r) × (at_stage p Failed ≡ q)
+at_limit : (p : Reading) → PassesLimit p → {r : Answer} {q : Reading} → r ≢ Err ReadFault → GivesFirst p r q → (Err TooLong ≡ r) × (at_stage p Failed ≡ q)
 at_limit p a told (skipped u m b s g) = absurd (line_not_limit p u m b a)
 at_limit p a told (command c u m b s i f k) = absurd (line_not_limit p u m b a)
 at_limit p a told (end_line u m b s i f g) = absurd (line_not_limit p u m b a)
@@ -69,7 +69,7 @@ data EndLeads (p : Reading) : Answer → Reading → Type 0 where
   gives_end : p.stage ≡ AfterEnd → EndLeads p (Ok (Some End)) (at_stage p Done)
   lacks_end : p.stage ≡ Commands → EndLeads p (Err NoEnd) (refused p)
 
-at_end : (p : Reading) → IsAtEndOfInput p → {r : Answer} {q : Reading} → r ≢ Err ReadFault → Gives p r q → EndLeads p r q
+at_end : (p : Reading) → IsAtEndOfInput p → {r : Answer} {q : Reading} → r ≢ Err ReadFault → GivesFirst p r q → EndLeads p r q
 at_end p a told (skipped u m b s g) = absurd (line_not_end p u m b a)
 at_end p a told (command c u m b s i f k) = absurd (line_not_end p u m b a)
 at_end p a told (end_line u m b s i f g) = absurd (line_not_end p u m b a)
@@ -84,7 +84,7 @@ at_end p a told read_fault = absurd (told refl)
 abbrev pub Same : Answer → Reading → Answer → Reading → Type 0
 Same r q s z = (r ≡ s) × (q ≡ z)
 
-after_skipped : {p : Reading} {t : List ℕ} {n : ℕ} {s : Answer} {z : Reading} (r : Answer) (q : Reading) → is_skipped t ≡ true → (Gives (behind p n) s z → Same r q s z) → Leads p t n s z → Same r q s z
+after_skipped : {p : Reading} {t : List ℕ} {n : ℕ} {s : Answer} {z : Reading} (r : Answer) (q : Reading) → is_skipped t ≡ true → (GivesFirst (behind p n) s z → Same r q s z) → Leads p t n s z → Same r q s z
 after_skipped r q k f (on h g) = f g
 after_skipped r q k f (said c h i j l) = absurd cc
 after_skipped r q k f (ended h i j g) = absurd cc
@@ -100,7 +100,7 @@ after_command {t = t} c k i f o (said d h j e l) = (ap (λ (a : Command). Ok (So
 after_command {t = t} c k i f o (ended h j e g) = absurd (o (one_form c End t f e))
 after_command {p = p} {t = t} c k i f o (bad h w) = not_refused p t c i f w
 
-after_end_line : {p : Reading} {t : List ℕ} {n : ℕ} {s : Answer} {z : Reading} (r : Answer) (q : Reading) → is_skipped t ≡ false → p.stage ≡ Commands → HasForm End t → (Gives (at_stage (behind p n) AfterEnd) s z → Same r q s z) → Leads p t n s z → Same r q s z
+after_end_line : {p : Reading} {t : List ℕ} {n : ℕ} {s : Answer} {z : Reading} (r : Answer) (q : Reading) → is_skipped t ≡ false → p.stage ≡ Commands → HasForm End t → (GivesFirst (at_stage (behind p n) AfterEnd) s z → Same r q s z) → Leads p t n s z → Same r q s z
 after_end_line r q k i f go (on h g) = absurd cc
 after_end_line {t = t} r q k i f go (said d h j e l) = absurd (l (one_form d End t e f))
 after_end_line r q k i f go (ended h j e g) = go g
@@ -120,7 +120,7 @@ after_no_end : {p : Reading} {s : Answer} {z : Reading} → p.stage ≡ Commands
 after_no_end i (gives_end j) = absurd cc
 after_no_end i (lacks_end j) = (refl, refl)
 
-pub gives_once : {p : Reading} {r s : Answer} {q z : Reading} → Gives p r q → Gives p s z → r ≢ Err ReadFault → s ≢ Err ReadFault → Same r q s z
+pub gives_once : {p : Reading} {r s : Answer} {q z : Reading} → GivesFirst p r q → GivesFirst p s z → r ≢ Err ReadFault → s ≢ Err ReadFault → Same r q s z
 gives_once {p = p} {r = r} {q = q} (skipped t n a k g) h m o = after_skipped r q k (λ g2. gives_once g g2 m o) (at_line p t n a o h)
 gives_once {p = p} (command c t n a k i f e) h m o = after_command c k i f e (at_line p t n a o h)
 gives_once {p = p} {r = r} {q = q} (end_line t n a k i f g) h m o = after_end_line r q k i f (λ g2. gives_once g g2 m o) (at_line p t n a o h)
@@ -132,13 +132,13 @@ gives_once {p = p} (no_end a i) h m o = after_no_end i (at_end p a o h)
 gives_once read_fault h m o = absurd (m refl)
 
 -- more bytes behind leave what lines give as it is
-pub gives_with : {p : Reading} {r : Answer} {q : Reading} → (more : List ℕ) (whole : Bool) → IsMore p more whole → Gives p r q → Gives (with_taken p more whole) r (with_taken q more whole)
+pub gives_with : {p : Reading} {r : Answer} {q : Reading} → (more : List ℕ) (whole : Bool) → IsMore p more whole → GivesFirst p r q → GivesFirst (with_taken p more whole) r (with_taken q more whole)
 gives_with {p = p} {r = r} {q = q} more whole none (skipped t n a k g) =
-    skipped t n (line_more p t more whole n none a) k (subst (λ (z : Reading). Gives z r (with_taken q more whole)) (sym (behind_more p t more whole n a)) (gives_with more whole none g))
+    skipped t n (line_more p t more whole n none a) k (subst (λ (z : Reading). GivesFirst z r (with_taken q more whole)) (sym (behind_more p t more whole n a)) (gives_with more whole none g))
 gives_with {p = p} more whole none (command c t n a k i f o) =
     gives_at (with_taken p more whole) (behind (with_taken p more whole) n) (with_taken (behind p n) more whole) (Ok (Some c)) (sym (behind_more p t more whole n a)) (command c t n (line_more p t more whole n none a) k i f o)
 gives_with {p = p} {r = r} {q = q} more whole none (end_line t n a k i f g) =
-    end_line t n (line_more p t more whole n none a) k i f (subst (λ (z : Reading). Gives (at_stage z AfterEnd) r (with_taken q more whole)) (sym (behind_more p t more whole n a)) (gives_with more whole none g))
+    end_line t n (line_more p t more whole n none a) k i f (subst (λ (z : Reading). GivesFirst (at_stage z AfterEnd) r (with_taken q more whole)) (sym (behind_more p t more whole n a)) (gives_with more whole none g))
 gives_with {p = p} more whole none (bad_line t n a k w) =
     gives_at (with_taken p more whole) (at_stage (behind (with_taken p more whole) n) Failed) (at_stage (with_taken (behind p n) more whole) Failed) (Err BadLine)
     (ap (λ (z : Reading). at_stage z Failed) (sym (behind_more p t more whole n a))) (bad_line t n (line_more p t more whole n none a) k w)
@@ -148,11 +148,8 @@ gives_with {p = p} more whole none (end_of_input a i) = end_of_input (end_more p
 gives_with {p = p} more whole none (no_end a i) = no_end (end_more p more whole none a) i
 gives_with more whole none read_fault = read_fault
 
-pub gives_more : {p : Reading} {r : Answer} {q : Reading} → (more : List ℕ) → (p.whole ≡ true → more ≡ []) → Gives p r q → Gives (with_taken p more true) r (with_taken q more true)
-gives_more more none g = gives_with more true (λ w. (none w, refl)) g
-
 -- whether the end was met stays
-pub gives_whole : {p : Reading} {r : Answer} {q : Reading} → Gives p r q → q.whole ≡ p.whole
+pub gives_whole : {p : Reading} {r : Answer} {q : Reading} → GivesFirst p r q → q.whole ≡ p.whole
 gives_whole (skipped t n a k g) = gives_whole g
 gives_whole (command c t n a k i f o) = refl
 gives_whole (end_line t n a k i f g) = gives_whole g
@@ -164,7 +161,7 @@ gives_whole (no_end a i) = refl
 gives_whole read_fault = refl
 
 -- where a front of a line is held, and not its end, lines give nothing
-pub cut_gives : {p : Reading} {r : Answer} {q : Reading} → IsCut p → Gives p r q → r ≢ Err ReadFault → ⊥
+pub cut_gives : {p : Reading} {r : Answer} {q : Reading} → IsCut p → GivesFirst p r q → r ≢ Err ReadFault → ⊥
 cut_gives {p = p} c (skipped t n a k g) told = cut_not_line p t n c a
 cut_gives {p = p} c (command d t n a k i f o) told = cut_not_line p t n c a
 cut_gives {p = p} c (end_line t n a k i f g) told = cut_not_line p t n c a
@@ -176,41 +173,41 @@ cut_gives {p = p} c (no_end a i) told = cut_not_end p c a
 cut_gives c read_fault told = told refl
 
 -- what is given from here on is given behind the lines that are passed over
-skipped_gives : {p : Reading} {t : List ℕ} {n : ℕ} {r : Answer} {z : Reading} → is_skipped t ≡ true → Leads p t n r z → Gives (behind p n) r z
+skipped_gives : {p : Reading} {t : List ℕ} {n : ℕ} {r : Answer} {z : Reading} → is_skipped t ≡ true → Leads p t n r z → GivesFirst (behind p n) r z
 skipped_gives k (on h g) = g
 skipped_gives k (said c h i j l) = absurd cc
 skipped_gives k (ended h i j g) = absurd cc
 skipped_gives k (bad h w) = absurd cc
 
-end_gives : {p : Reading} {t : List ℕ} {n : ℕ} {r : Answer} {z : Reading} → is_skipped t ≡ false → p.stage ≡ Commands → HasForm End t → Leads p t n r z → Gives (at_stage (behind p n) AfterEnd) r z
+end_gives : {p : Reading} {t : List ℕ} {n : ℕ} {r : Answer} {z : Reading} → is_skipped t ≡ false → p.stage ≡ Commands → HasForm End t → Leads p t n r z → GivesFirst (at_stage (behind p n) AfterEnd) r z
 end_gives k i f (on h g) = absurd cc
 end_gives {t = t} k i f (said d h j e l) = absurd (l (one_form d End t e f))
 end_gives k i f (ended h j e g) = g
 end_gives {p = p} {t = t} k i f (bad h w) = not_refused p t End i f w
 
-pub goes_answer : {p q z : Reading} {r : Answer} → Goes p q → Gives p r z → r ≢ Err ReadFault → Gives q r z
+pub goes_answer : {p q z : Reading} {r : Answer} → PassesOver p q → GivesFirst p r z → r ≢ Err ReadFault → GivesFirst q r z
 goes_answer nowhere g told = g
 goes_answer {p = p} (over_skipped t n a k h) g told = goes_answer h (skipped_gives k (at_line p t n a told g)) told
 goes_answer {p = p} (over_end t n a k i f h) g told = goes_answer h (end_gives k i f (at_line p t n a told g)) told
 
-pub goes_gives : {p q z : Reading} {r : Answer} → Goes p q → Gives q r z → Gives p r z
+pub goes_gives : {p q z : Reading} {r : Answer} → PassesOver p q → GivesFirst q r z → GivesFirst p r z
 goes_gives nowhere g = g
 goes_gives (over_skipped t n a k h) g = skipped t n a k (goes_gives h g)
 goes_gives (over_end t n a k i f h) g = end_line t n a k i f (goes_gives h g)
 
-pub goes_goes : {p q z : Reading} → Goes p q → Goes q z → Goes p z
+pub goes_goes : {p q z : Reading} → PassesOver p q → PassesOver q z → PassesOver p z
 goes_goes nowhere g = g
 goes_goes (over_skipped t n a k h) g = over_skipped t n a k (goes_goes h g)
 goes_goes (over_end t n a k i f h) g = over_end t n a k i f (goes_goes h g)
 
-pub goes_whole : {p q : Reading} → Goes p q → q.whole ≡ p.whole
+pub goes_whole : {p q : Reading} → PassesOver p q → q.whole ≡ p.whole
 goes_whole nowhere = refl
 goes_whole (over_skipped t n a k h) = goes_whole h
 goes_whole (over_end t n a k i f h) = goes_whole h
 
-pub goes_with : {p q : Reading} (more : List ℕ) (whole : Bool) → IsMore p more whole → Goes p q → Goes (with_taken p more whole) (with_taken q more whole)
+pub goes_with : {p q : Reading} (more : List ℕ) (whole : Bool) → IsMore p more whole → PassesOver p q → PassesOver (with_taken p more whole) (with_taken q more whole)
 goes_with more whole none nowhere = nowhere
 goes_with {p = p} {q = q} more whole none (over_skipped t n a k h) =
-    over_skipped t n (line_more p t more whole n none a) k (subst (λ (z : Reading). Goes z (with_taken q more whole)) (sym (behind_more p t more whole n a)) (goes_with more whole none h))
+    over_skipped t n (line_more p t more whole n none a) k (subst (λ (z : Reading). PassesOver z (with_taken q more whole)) (sym (behind_more p t more whole n a)) (goes_with more whole none h))
 goes_with {p = p} {q = q} more whole none (over_end t n a k i f h) =
-    over_end t n (line_more p t more whole n none a) k i f (subst (λ (z : Reading). Goes (at_stage z AfterEnd) (with_taken q more whole)) (sym (behind_more p t more whole n a)) (goes_with more whole none h))
+    over_end t n (line_more p t more whole n none a) k i f (subst (λ (z : Reading). PassesOver (at_stage z AfterEnd) (with_taken q more whole)) (sym (behind_more p t more whole n a)) (goes_with more whole none h))

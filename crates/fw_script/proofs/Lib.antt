@@ -8,4 +8,4 @@ pub mod PiecesLaws
 pub mod ReadingLaws
 pub mod ScriptLaws
 pub mod StepLaws
-pub mod KeywordLaws
+pub mod WordLaws

@@ -1,20 +1,14 @@
 -- Bytes cut at separators.
-use Rattle.std.proofs.Common.{◌≢◌, ◌≡◌, inl, inr, ◌==◌, ◌&&◌, not, ℕ, zero, suc, ◌+◌, ◌<◌, List, [], ◌∷◌, ◌++◌, length, slice_index, take, drop, Bool, true, false, cond, arith, refl, ap, sym, ◌∙◌, add-one, drop-cons, length-append, subst, take_at, drop_at}
-use Rattle.std.proofs.lemmas.Grind.{common_steps}
+use Rattle.std.proofs.Common.{◌≢◌, ◌≡◌, inl, inr, ◌==◌, ◌&&◌, not, ℕ, zero, suc, ◌+◌, List, [], ◌∷◌, ◌++◌, length, slice_index, take, drop, Bool, true, false, Option, Some, None, IfSome, IfNone, cond, arith, refl, ap, sym, ◌∙◌, add-one, drop-cons, length-append}
 use Rattle.std.proofs.lemmas.Bool.Decides.{nat_tests}
 use Rattle.std.proofs.lemmas.Bool.{cases_lt}
-use Rattle.std.proofs.lemmas.List.{take-append-drop, get_or_append_left, get_or-take, drop-drop}
+use Rattle.std.proofs.lemmas.List.{take-append-drop, get_or_append_left}
 use Rattle.std.proofs.Math.Seq.{get_or-append_seam}
+use Rattle.memchr.specs.Find.{IsFirstByte, is_byte}
 use Rattle.fw_script.specs.Pieces.{IsFree, IsFirstAt, pieces, onto, parted, AreFree}
 
 pub split : (s : ℕ) (bs : List ℕ) (i : ℕ) → IsFirstAt s bs i → bs ≡ take i bs ++ s ∷ drop (i + 1) bs
 split s bs i f = sym (take-append-drop i bs) ∙ ap (λ t. take i bs ++ t) (drop-cons bs i 0 f.within ∙ ap (λ x. x ∷ drop (suc i) bs) f.here ∙ ap (λ k. s ∷ drop k bs) (sym (add-one i)))
-
-pub free_front : (s : ℕ) (bs : List ℕ) (i : ℕ) → IsFirstAt s bs i → IsFree s (take i bs)
-free_front s bs i f k h = let low : k < i = front_lt i bs k h in λ e. f.before k low (sym (get_or-take i bs k 0 low) ∙ e)
-  where
-    front_lt : (i : ℕ) (bs : List ℕ) (k : ℕ) → k < length (take i bs) → k < i
-    front_lt i bs k h = grind (arith, common_steps)
 
 pub first_is : (s : ℕ) (u v : List ℕ) (i : ℕ) → IsFree s u → IsFirstAt s (u ++ s ∷ v) i → i ≡ length u
 first_is s u v i free f = elim (cases_lt i (length u)) [
@@ -24,15 +18,6 @@ first_is s u v i free f = elim (cases_lt i (length u)) [
     | inr le ↦ omega arith
   ]
 ]
-
-pub one_cut : (s : ℕ) (bs u v : List ℕ) (i : ℕ) → IsFree s u → bs ≡ u ++ s ∷ v → IsFirstAt s bs i → (take i bs ≡ u) × (drop (i + 1) bs ≡ v)
-one_cut s bs u v i free e f =
-    let P : List ℕ → Type 0 = λ t. IsFirstAt s t i in
-    let place = first_is s u v i free (subst P e f) in
-    (ap (take i) e ∙ ap (λ k. take k (u ++ s ∷ v)) place ∙ take_at u (s ∷ v) (length u) refl, ap (drop (i + 1)) e ∙ ap (λ k. drop (k + 1) (u ++ s ∷ v)) place ∙ drop_past u s v)
-  where
-    drop_past : (u : List ℕ) (s : ℕ) (v : List ℕ) → drop (length u + 1) (u ++ s ∷ v) ≡ v
-    drop_past u s v = sym (drop-drop 1 (length u) (u ++ s ∷ v)) ∙ ap (drop 1) (drop_at u (s ∷ v) (length u) refl)
 
 pub not_free : {A : Type 0} (s : ℕ) (bs u v : List ℕ) → bs ≡ u ++ s ∷ v → IsFree s bs → A
 not_free s bs u v e free =
@@ -49,18 +34,6 @@ equals s = grind (arith, nat_tests)
 abbrev is_free : ℕ → List ℕ → Bool
 is_free s [] = true
 is_free s (b ∷ w) = not (b == s) && is_free s w
-
-pub free_by : (s : ℕ) (w : List ℕ) → is_free s w ≡ true → IsFree s w
-free_by s [] h k m = absurd (omega arith)
-free_by s (b ∷ w) h zero m = grind (arith, nat_tests)
-free_by s (b ∷ w) h (suc k) m = free_by s w (grind (arith, nat_tests)) k (omega arith)
-
--- one byte more that is no separator
-pub free_more : (s : ℕ) (w : List ℕ) (b : ℕ) → IsFree s w → b ≢ s → IsFree s (w ++ b ∷ [])
-free_more s w b free differ k h = elim (cases_lt k (length w)) [
-  | inl low ↦ λ e. free k low (sym (get_or_append_left w (b ∷ []) 0 k low) ∙ e)
-  | inr high ↦ let last : k ≡ length w = omega (arith, length-append w (b ∷ [])) in λ e. differ (sym (ap (λ i. slice_index (w ++ b ∷ []) i) last ∙ get_or-append_seam w b [] 0) ∙ e)
-]
 
 -- the pieces of bytes without a separator, and behind the first separator
 pub pieces_free : (s : ℕ) (u : List ℕ) → IsFree s u → pieces s u ≡ u ∷ []
@@ -146,3 +119,23 @@ part_more s b bs rest = by_test (b == s) refl
 pub pieces_part : (s : ℕ) (bs : List ℕ) → (parted s (pieces s bs) ≡ bs) × AreFree s (pieces s bs)
 pieces_part s [] = (refl, (free_empty s, tt))
 pieces_part s (b ∷ bs) = part_more s b bs (pieces_part s bs)
+
+-- what a search for a byte finds
+byte_at : (b s : ℕ) → b ≡ s → is_byte s b ≡ true
+byte_at b s e = grind (arith, nat_tests)
+
+byte_of : (b s : ℕ) → is_byte s b ≡ true → b ≡ s
+byte_of b s e = grind (arith, nat_tests)
+
+pub first_found : (s : ℕ) (bs : List ℕ) (r : Option ℕ) → IsFirstByte (is_byte s) bs r → IfSome r (IsFirstAt s bs)
+first_found s bs None h = tt
+first_found s bs (Some i) h =
+    record {
+      within = h.0.high;
+      here = byte_of (slice_index bs i) s h.1;
+      before = λ k low e. h.0.before k (omega arith) low (byte_at (slice_index bs k) s e);
+    }
+
+pub none_found : (s : ℕ) (bs : List ℕ) (r : Option ℕ) → IsFirstByte (is_byte s) bs r → IfNone r (IsFree s bs)
+none_found s bs None h = λ k low e. h k (omega arith) low (byte_at (slice_index bs k) s e)
+none_found s bs (Some i) h = tt

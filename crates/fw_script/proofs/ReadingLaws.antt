@@ -6,9 +6,9 @@ use Rattle.fw_script.specs.Line.{is_skipped}
 use Rattle.fw_script.specs.Form.{HasForm}
 use Rattle.fw_script.specs.Reader.{ReadsLine, HoldsLine, IsNear, IsOpen, to_read}
 use Rattle.fw_script.proofs.LineLaws.{line_near}
-use Rattle.fw_script.specs.Reader.Goes.{nowhere, over_skipped, over_end}
-use Rattle.fw_script.specs.Reading.{Reading, Answer, Gives, IsLine, IsAtEndOfInput, IsLongLine, PassesLimit, behind, at_stage, refused, TakesMore, Advances, GivesNext, IsStageAfter}
-use Rattle.fw_script.specs.Reading.Gives.{skipped, command, end_line, bad_line, long_line, too_long, end_of_input, no_end, read_fault}
+use Rattle.fw_script.specs.Reader.PassesOver.{nowhere, over_skipped, over_end}
+use Rattle.fw_script.specs.Reading.{Reading, Answer, GivesFirst, IsLine, IsAtEndOfInput, IsLongLine, PassesLimit, behind, at_stage, refused, TakesMore, Advances, GivesNext, IsStageAfter}
+use Rattle.fw_script.specs.Reading.GivesFirst.{skipped, command, end_line, bad_line, long_line, too_long, end_of_input, no_end, read_fault}
 use Rattle.fw_script.specs.declared.command.Command.{Command}
 use Rattle.fw_script.specs.declared.command.Command.TheVariants.{End}
 use Rattle.fw_script.specs.declared.ScriptFault.TheVariants.{BadLine, LineTooLong, NoEnd, TooLong}
@@ -16,8 +16,8 @@ use Rattle.fw_script.specs.declared.stage.Stage.{Stage}
 use Rattle.fw_script.specs.declared.stage.Stage.TheVariants.{Commands, AfterEnd, Done, Failed}
 
 -- a reading that is the same
-pub gives_at : (p q new : Reading) (r : Answer) → new ≡ q → Gives p r q → Gives p r new
-gives_at p q new r e g = subst (λ (z : Reading). Gives p r z) (sym e) g
+pub gives_at : (p q new : Reading) (r : Answer) → new ≡ q → GivesFirst p r q → GivesFirst p r new
+gives_at p q new r e g = subst (λ (z : Reading). GivesFirst p r z) (sym e) g
 
 line_of : (p : Reading) (n size : ℕ) (text : List ℕ) → text ≡ take n p.rest → HoldsLine p n size → IsLine p text size
 line_of p n size text e h = subst (λ (t : List ℕ). IsLine p t size) (sym e) h.line
@@ -31,7 +31,7 @@ reads_skipped p new n size text e h is near stage skip =
     subst (λ (z : Reading). ReadsLine p (Ok None) z) (sym is)
     (over_skipped text size (line_of p n size text e h) skip nowhere, stage, less_behind p n size near h)
 
-pub reads_command : (p new : Reading) (n size : ℕ) (text : List ℕ) (c : Command) → text ≡ take n p.rest → HoldsLine p n size → new ≡ behind p size → is_skipped text ≡ false → p.stage ≡ Commands → HasForm c text → c ≢ End → Gives p (Ok (Some c)) new
+pub reads_command : (p new : Reading) (n size : ℕ) (text : List ℕ) (c : Command) → text ≡ take n p.rest → HoldsLine p n size → new ≡ behind p size → is_skipped text ≡ false → p.stage ≡ Commands → HasForm c text → c ≢ End → GivesFirst p (Ok (Some c)) new
 reads_command p new n size text c e h is skip stage form other =
     gives_at p (behind p size) new (Ok (Some c)) is (command c text size (line_of p n size text e h) skip stage form other)
 
@@ -40,20 +40,20 @@ reads_end_line p mid new n size text e h is then near skip stage form =
     subst (λ (z : Reading). ReadsLine p (Ok None) z) (sym (then ∙ ap (λ (m : Reading). at_stage m AfterEnd) is))
     (over_end text size (line_of p n size text e h) skip stage form nowhere, tt, less_behind p n size near h)
 
-pub reads_bad_line : (p mid new : Reading) (n size : ℕ) (text : List ℕ) → text ≡ take n p.rest → HoldsLine p n size → mid ≡ behind p size → new ≡ at_stage mid Failed → is_skipped text ≡ false → (p.stage ≡ AfterEnd) ⊎ ((c : Command) → HasForm c text → ⊥) → Gives p (Err BadLine) new
+pub reads_bad_line : (p mid new : Reading) (n size : ℕ) (text : List ℕ) → text ≡ take n p.rest → HoldsLine p n size → mid ≡ behind p size → new ≡ at_stage mid Failed → is_skipped text ≡ false → (p.stage ≡ AfterEnd) ⊎ ((c : Command) → HasForm c text → ⊥) → GivesFirst p (Err BadLine) new
 reads_bad_line p mid new n size text e h is then skip why =
     gives_at p (at_stage (behind p size) Failed) new (Err BadLine) (then ∙ ap (λ (m : Reading). at_stage m Failed) is) (bad_line text size (line_of p n size text e h) skip why)
 
-pub reads_long_line : (p new : Reading) → IsLongLine p → new ≡ refused p → Gives p (Err LineTooLong) new
+pub reads_long_line : (p new : Reading) → IsLongLine p → new ≡ refused p → GivesFirst p (Err LineTooLong) new
 reads_long_line p new h is = gives_at p (refused p) new (Err LineTooLong) is (long_line h)
 
-pub reads_limit : (p new : Reading) → PassesLimit p → new ≡ at_stage p Failed → Gives p (Err TooLong) new
+pub reads_limit : (p new : Reading) → PassesLimit p → new ≡ at_stage p Failed → GivesFirst p (Err TooLong) new
 reads_limit p new h is = gives_at p (at_stage p Failed) new (Err TooLong) is (too_long h)
 
-pub reads_end : (p new : Reading) → IsAtEndOfInput p → p.stage ≡ AfterEnd → new ≡ at_stage p Done → Gives p (Ok (Some End)) new
+pub reads_end : (p new : Reading) → IsAtEndOfInput p → p.stage ≡ AfterEnd → new ≡ at_stage p Done → GivesFirst p (Ok (Some End)) new
 reads_end p new h stage is = gives_at p (at_stage p Done) new (Ok (Some End)) is (end_of_input h stage)
 
-pub reads_no_end : (p new : Reading) → IsAtEndOfInput p → p.stage ≡ Commands → new ≡ refused p → Gives p (Err NoEnd) new
+pub reads_no_end : (p new : Reading) → IsAtEndOfInput p → p.stage ≡ Commands → new ≡ refused p → GivesFirst p (Err NoEnd) new
 reads_no_end p new h stage is = gives_at p (refused p) new (Err NoEnd) is (no_end h stage)
 
 -- why a line is refused
@@ -67,7 +67,7 @@ AfterAnswer (Ok None) s = ⊥
 AfterAnswer (Ok (Some c)) s = (s ≢ Failed) × ((c ≡ End) ↔ (s ≡ Done))
 AfterAnswer (Err f) s = s ≡ Failed
 
-gives_stage : {p : Reading} {r : Answer} {q : Reading} → Gives p r q → AfterAnswer r q.stage
+gives_stage : {p : Reading} {r : Answer} {q : Reading} → GivesFirst p r q → AfterAnswer r q.stage
 gives_stage (skipped t n a k g) = gives_stage g
 gives_stage (command c t n a k i f o) = ((λ e. let x = i in cc), ((λ e. absurd (o e)), (λ e. let x = i in absurd cc)))
 gives_stage (end_line t n a k i f g) = gives_stage g
@@ -89,7 +89,7 @@ stage_of s z (Ok None) o h = absurd h
 stage_of s z (Ok (Some c)) o h = (open_not_done s o, h.0, h.1)
 stage_of s z (Err f) o h = (open_not_done s o, h)
 
-pub stage_after : (s : Stage) (p q : Reading) (r : Answer) → IsOpen s → Gives p r q → IsStageAfter s r q.stage
+pub stage_after : (s : Stage) (p q : Reading) (r : Answer) → IsOpen s → GivesFirst p r q → IsStageAfter s r q.stage
 stage_after s p q r o g = stage_of s q.stage r o (gives_stage g)
 
 -- nothing was taken
@@ -113,7 +113,7 @@ gives_done Failed p e = absurd cc
 pub after_end : (p : Reading) (left : Option (List ℕ)) → p.stage ≡ Done → Advances p p left left (Ok None)
 after_end p left e = record { known = p; takes = nothing_taken p left; gives = gives_done p.stage p e }
 
-pub gives_open : (s : Stage) (p q : Reading) (r : Answer) → IsOpen s → Gives p r q → GivesNext s p r q
+pub gives_open : (s : Stage) (p q : Reading) (r : Answer) → IsOpen s → GivesFirst p r q → GivesNext s p r q
 gives_open Commands p q r o g = g
 gives_open AfterEnd p q r o g = g
 gives_open Done p q r o g = absurd o

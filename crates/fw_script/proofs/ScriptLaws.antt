@@ -1,7 +1,7 @@
 -- Whole scripts.
 use Rattle.std.proofs.Common.{◌≡◌, ◌≢◌, ℕ, [], ◌∷◌, ◌++◌, ◌+◌, ◌<◌, ◌≤◌, List, length, Option, Some, None, Ok, Err, arith, refl, ap, sym, ◌∙◌, subst, append_assoc, zero-add}
-use Rattle.fw_script.specs.Reading.{Reading, Answer, Gives, behind, at_stage}
-use Rattle.fw_script.specs.Reading.Gives.{skipped, command, end_line, bad_line, long_line, too_long, end_of_input, no_end, read_fault}
+use Rattle.fw_script.specs.Reading.{Reading, Answer, GivesFirst, behind, at_stage}
+use Rattle.fw_script.specs.Reading.GivesFirst.{skipped, command, end_line, bad_line, long_line, too_long, end_of_input, no_end, read_fault}
 use Rattle.fw_script.specs.Script.{Refusal, Says, IsScript, FitsLimit}
 use Rattle.fw_script.specs.Leading.{Leads, BeginsWith}
 use Rattle.fw_script.specs.Leading.Leads.{nothing, and_then}
@@ -59,7 +59,7 @@ says_once (goes_on {q = q} {c = c} {cs = cs} {r = r} g o m) (goes_on {q = z} {c 
     (ap (λ (x : Command). x ∷ cs) head ∙ ap (λ (xs : List Command). d ∷ xs) rest.0, rest.1)
 
 -- what follows a command in a script
-pub says_after : {p q : Reading} {ds : List Command} {s : Option Refusal} (c : Command) → Gives p (Ok (Some c)) q → c ≢ End → Says p ds s → (cs : List Command) × (ds ≡ c ∷ cs) × Says q cs s
+pub says_after : {p q : Reading} {ds : List Command} {s : Option Refusal} (c : Command) → GivesFirst p (Ok (Some c)) q → c ≢ End → Says p ds s → (cs : List Command) × (ds ≡ c ∷ cs) × Says q cs s
 says_after c g o (ends h) = let e = gives_once g h (ok_told (Some c)) (ok_told (Some End)) in absurd (o (let x = e.0 in cc))
 says_after c g o (refuses {f = f} h n) = let e = gives_once g h (ok_told (Some c)) (err_told f n) in absurd (let x = e.0 in cc)
 says_after {q = q} {s = s} c g o (goes_on {q = z} {c = d} {cs = ds} h m w) =
@@ -84,7 +84,7 @@ pub begins_first : (script : List ℕ) (commands ds : List Command) (r : Option 
 begins_first script commands ds r h s = let b = says_behind h.leads ds r s in (b.0, b.1)
 
 -- the first commands are the script's beginning
-leads_before : {p q z : Reading} {commands : List Command} → (c : Command) → Gives p (Ok (Some c)) q → c ≢ End → Leads q commands z → Leads p (c ∷ commands) z
+leads_before : {p q z : Reading} {commands : List Command} → (c : Command) → GivesFirst p (Ok (Some c)) q → c ≢ End → Leads q commands z → Leads p (c ∷ commands) z
 leads_before {q = q} c g o nothing = and_then nothing c o q g
 leads_before c g o (and_then l d m next h) = and_then (leads_before c g o l) d m next h
 
@@ -116,7 +116,7 @@ total_from p m (Ok None) q e h = tt
 total_from p m (Ok (Some c)) q e h = (h.0, h.1 ∙ e, λ o. omega (arith, h.2 o, e))
 total_from p m (Err f) q e h = ((λ o. omega (arith, h.0 o, e)), (λ o. omega (arith, h.1 o, e)))
 
-gives_total : {p : Reading} {r : Answer} {q : Reading} → p.before ≤ 1048576 → Gives p r q → Total p r q
+gives_total : {p : Reading} {r : Answer} {q : Reading} → p.before ≤ 1048576 → GivesFirst p r q → Total p r q
 gives_total {p = p} {r = r} {q = q} low (skipped t n a k g) = total_from p (behind p n) r q (behind_total p t n a) (gives_total a.within g)
 gives_total {p = p} low (command c t n a k i f o) = (a.within, behind_total p t n a, λ e. absurd (o e))
 gives_total {p = p} {r = r} {q = q} low (end_line t n a k i f g) = total_from p (at_stage (behind p n) AfterEnd) r q (behind_total p t n a) (gives_total a.within g)

@@ -2,10 +2,10 @@
 use Rattle.std.proofs.Common.{◌≡◌, ℕ, [], ◌++◌, List, Bool, true, false, Option, Some, None, Ok, Err, refl, ap, sym, ◌∙◌, subst, append_assoc}
 use Rattle.fw_outside.specs.Outside.{Takes, IsAtEnd}
 use Rattle.fw_outside.proofs.Parts.{Takes-Takes}
-use Rattle.fw_script.specs.Reader.{Goes, GoesOn, Steps, ReadsLine, Fills, IsCut, IsOpen, answer_of}
-use Rattle.fw_script.specs.Reader.Goes.{nowhere}
-use Rattle.fw_script.specs.Reading.{Reading, Answer, Gives, TakesMore, Advances, with_taken, at_stage, HoldsAnswer}
-use Rattle.fw_script.specs.Reading.Gives.{read_fault}
+use Rattle.fw_script.specs.Reader.{PassesOver, ReadsOn, Steps, ReadsLine, Fills, IsCut, IsOpen, answer_of}
+use Rattle.fw_script.specs.Reader.PassesOver.{nowhere}
+use Rattle.fw_script.specs.Reading.{Reading, Answer, GivesFirst, TakesMore, Advances, with_taken, at_stage, HoldsAnswer}
+use Rattle.fw_script.specs.Reading.GivesFirst.{read_fault}
 use Rattle.fw_script.specs.declared.stage.Stage.{Stage}
 use Rattle.fw_script.specs.declared.stage.Stage.TheVariants.{Failed}
 use Rattle.fw_script.specs.declared.command.Command.{Command}
@@ -40,16 +40,16 @@ takes_takes p q z left mid left' a b ys w took kept met = record {
     by_mid true is v e = at_end_still mid left' (subst (λ (l : List ℕ). Takes mid left' l) (kept is).0 took) (a.met v is)
     by_mid false is v e = met is e
 
-pub goes_nowhere : (p : Reading) (left : Option (List ℕ)) → GoesOn p p left left
+pub goes_nowhere : (p : Reading) (left : Option (List ℕ)) → ReadsOn p p left left
 goes_nowhere p left = record { known = p; takes = nothing_taken p left; goes = nowhere }
 
-pub goes_passed : (p q : Reading) (left : Option (List ℕ)) → Goes p q → GoesOn p q left left
+pub goes_passed : (p q : Reading) (left : Option (List ℕ)) → PassesOver p q → ReadsOn p q left left
 goes_passed p q left g = record { known = p; takes = nothing_taken p left; goes = g }
 
-pub goes_taken : (p q : Reading) (left left' : Option (List ℕ)) → TakesMore p q left left' → GoesOn p q left left'
+pub goes_taken : (p q : Reading) (left left' : Option (List ℕ)) → TakesMore p q left left' → ReadsOn p q left left'
 goes_taken p q left left' t = record { known = q; takes = t; goes = nowhere }
 
-pub goes_in_turn : (p q z : Reading) (left mid left' : Option (List ℕ)) → GoesOn p q left mid → GoesOn q z mid left' → GoesOn p z left left'
+pub goes_in_turn : (p q z : Reading) (left mid left' : Option (List ℕ)) → ReadsOn p q left mid → ReadsOn q z mid left' → ReadsOn p z left left'
 goes_in_turn p q z left mid left' a b =
     let more : IsMore a.known b.takes.taken b.known.whole = λ w. b.takes.kept (goes_whole a.goes ∙ w) in
     let far = goes_with b.takes.taken b.known.whole more a.goes in
@@ -57,15 +57,15 @@ goes_in_turn p q z left mid left' a b =
       known = with_taken a.known b.takes.taken b.known.whole;
       takes = takes_takes p a.known z left mid left' a.takes (nothing_taken z left') b.takes.taken b.known.whole b.takes.takes more
           (λ v e. b.takes.met (goes_whole a.goes ∙ v) e);
-      goes = goes_goes (subst (λ (x : Reading). Goes (with_taken a.known b.takes.taken b.known.whole) x) (sym b.takes.now) far) b.goes;
+      goes = goes_goes (subst (λ (x : Reading). PassesOver (with_taken a.known b.takes.taken b.known.whole) x) (sym b.takes.now) far) b.goes;
     }
 
 -- a step after others
-pub advances_by : (p q new : Reading) (left left' : Option (List ℕ)) (r : Answer) → IsOpen p.stage → GoesOn p q left left' → Gives q r new → Advances p new left left' r
+pub advances_by : (p q new : Reading) (left left' : Option (List ℕ)) (r : Answer) → IsOpen p.stage → ReadsOn p q left left' → GivesFirst q r new → Advances p new left left' r
 advances_by p q new left left' r o a g = record { known = a.known; takes = a.takes; gives = gives_open p.stage a.known new r o (goes_gives a.goes g) }
 
 -- an answer that is held is still held behind what is passed over
-pub holds_behind : (p q : Reading) → Goes p q → HoldsAnswer p → HoldsAnswer q
+pub holds_behind : (p q : Reading) → PassesOver p q → HoldsAnswer p → HoldsAnswer q
 holds_behind p q g h = (h.0, h.1, goes_answer g h.2 h.3, h.3)
 
 -- a line that was read is a step
@@ -85,7 +85,7 @@ reads_holds p new (Ok (Some c)) h held e = absurd cc
 reads_holds p new (Err f) h held e = absurd cc
 
 -- an answer without a line
-pub step_gives : (p new : Reading) (left : Option (List ℕ)) (f : ScriptFault) → Gives p (Err f) new → Steps p left left (Err f) new
+pub step_gives : (p new : Reading) (left : Option (List ℕ)) (f : ScriptFault) → GivesFirst p (Err f) new → Steps p left left (Err f) new
 step_gives p new left f g = (p, goes_nowhere p left, g)
 
 -- bytes were taken, or the source failed
@@ -94,7 +94,7 @@ step_filled p new left left' o h = (goes_taken p new left left' h.0, subst (λ (
 
 pub step_failed : (p new : Reading) (left left' : Option (List ℕ)) (f : ScriptFault) → Fills p left left' (Err f) new → Steps p left left' (Err f) new
 step_failed p new left left' f h =
-    (p, goes_taken p p left left' h.1, subst (λ (e : ScriptFault). Gives p (Err e) new) (sym h.0) (gives_at p (at_stage p Failed) new (Err ReadFault) h.2 read_fault))
+    (p, goes_taken p p left left' h.1, subst (λ (e : ScriptFault). GivesFirst p (Err e) new) (sym h.0) (gives_at p (at_stage p Failed) new (Err ReadFault) h.2 read_fault))
 
 -- an answer that is not held
 pub cut_holds : (p : Reading) → IsCut p → HoldsAnswer p → ⊥

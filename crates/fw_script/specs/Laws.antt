@@ -3,7 +3,7 @@ use Rattle.std.specs.Prelude.{◌≡◌, ◌≢◌, ℕ, List, [], ◌∷◌, �
 use Rattle.fw_outside.specs.Outside.{Takes, IsAtEnd}
 use Rattle.fw_script.specs.Pieces.{pieces, parted, AreFree}
 use Rattle.fw_script.specs.Form.{HasForm}
-use Rattle.fw_script.specs.Reading.{Reading, Answer, Gives, Advances, IsHeld, unread}
+use Rattle.fw_script.specs.Reading.{Reading, Answer, GivesFirst, Advances, IsHeld, unread}
 use Rattle.fw_script.specs.Script.{Refusal, IsScript, Tells, FitsLimit}
 use Rattle.fw_script.specs.Leading.{HasRead, BeginsWith, LinesSay, IsReadOf}
 use Rattle.fw_script.specs.declared.command.Command.{Command}
@@ -21,7 +21,7 @@ LineIsOneCommand = (c d : Command) (line : List ℕ) → HasForm c line → HasF
 
 -- lines give one thing, unless the source fails
 abbrev pub LinesGiveOneAnswer : Type 0
-LinesGiveOneAnswer = (p q z : Reading) (r s : Answer) → Gives p r q → Gives p s z → r ≢ Err ReadFault → s ≢ Err ReadFault → (r ≡ s) × (q ≡ z)
+LinesGiveOneAnswer = (p q z : Reading) (r s : Answer) → GivesFirst p r q → GivesFirst p s z → r ≢ Err ReadFault → s ≢ Err ReadFault → (r ≡ s) × (q ≡ z)
 
 -- a script has one list of commands, and one first refused line or none
 abbrev pub ScriptSaysOneThing : Type 0

@@ -2,7 +2,7 @@
 use Rattle.std.specs.Prelude.{◌≡◌, ◌≢◌, ℕ, ◌≤◌, List, [], ◌∷◌, ◌++◌, length, drop, Bool, true, false, Option, Some, Ok, Err}
 use Rattle.fw_outside.specs.Outside.{Takes, IsAtEnd}
 use Rattle.fw_script.specs.Pieces.{IsFree}
-use Rattle.fw_script.specs.Reading.{Reading, Gives, with_taken}
+use Rattle.fw_script.specs.Reading.{Reading, GivesFirst, with_taken}
 use Rattle.fw_script.specs.Script.{Tells, begun, start_of}
 use Rattle.fw_script.specs.declared.command.Command.{Command}
 use Rattle.fw_script.specs.declared.command.Command.TheVariants.{End}
@@ -11,7 +11,7 @@ use Rattle.fw_script.specs.declared.ScriptFault.TheVariants.{ReadFault}
 -- from one reading on the lines give these commands, one after another, and the other stands behind the last line
 pub data Leads (p : Reading) : List Command → Reading → Type 0 where
   nothing : Leads p [] p
-  and_then : {commands : List Command} {q : Reading} → Leads p commands q → (c : Command) → c ≢ End → (next : Reading) → Gives q (Ok (Some c)) next → Leads p (commands ++ c ∷ []) next
+  and_then : {commands : List Command} {q : Reading} → Leads p commands q → (c : Command) → c ≢ End → (next : Reading) → GivesFirst q (Ok (Some c)) next → Leads p (commands ++ c ∷ []) next
 
 -- the script gives these commands first
 pub record BeginsWith (script : List ℕ) (commands : List Command) : Type 0 where
@@ -23,7 +23,7 @@ pub record IsOnLine (script : List ℕ) (commands : List Command) (c : Command) 
   pub before : Reading
   pub after : Reading
   pub leads : Leads (start_of script) commands before
-  pub gives : Gives before (Ok (Some c)) after
+  pub gives : GivesFirst before (Ok (Some c)) after
   pub number : line ≡ after.line
 
 -- Bytes of the script were taken, and others may be behind them. A source that tells what it has told the whole script.
@@ -39,7 +39,7 @@ pub record LinesSay (bytes : List ℕ) (commands : List Command) : Type 0 where
   pub behind : Reading
   pub last : Reading
   pub leads : Leads (begun bytes false) commands behind
-  pub passed : Gives behind (Err ReadFault) last
+  pub passed : GivesFirst behind (Err ReadFault) last
   pub free : IsFree 10 last.rest
 
 -- so many of the bytes that were taken are read, and the others are held

@@ -3,7 +3,7 @@ use Rattle.std.specs.Prelude.{◌≡◌, ℕ, ◌+◌, ◌*◌, ◌-◌, ◌<◌
 use Rattle.fw_script.specs.Pieces.{IsFree}
 use Rattle.fw_script.specs.Line.{is_skipped}
 use Rattle.fw_script.specs.Form.{HasForm}
-use Rattle.fw_script.specs.Reading.{Reading, Answer, Gives, IsLine, IsLongLine, PassesLimit, IsAtEndOfInput, TakesMore, at_stage, behind}
+use Rattle.fw_script.specs.Reading.{Reading, Answer, GivesFirst, IsLine, IsLongLine, PassesLimit, IsAtEndOfInput, TakesMore, at_stage, behind}
 use Rattle.fw_script.specs.declared.command.Command.{Command}
 use Rattle.fw_script.specs.declared.command.Command.TheVariants.{End}
 use Rattle.fw_script.specs.declared.ScriptFault.{ScriptFault}
@@ -26,19 +26,19 @@ pub record IsNear (rest : List ℕ) : Type 0 where
   pub free : IsFree 10 (take (length rest - 4096) rest)
 
 -- from the one reading on, lines are passed over that say nothing, and `end`, up to the other
-pub data Goes : Reading → Reading → Type 0 where
-  nowhere : {p : Reading} → Goes p p
+pub data PassesOver : Reading → Reading → Type 0 where
+  nowhere : {p : Reading} → PassesOver p p
   over_skipped : {p q : Reading} (text : List ℕ) (size : ℕ)
-      → IsLine p text size → is_skipped text ≡ true → Goes (behind p size) q → Goes p q
+      → IsLine p text size → is_skipped text ≡ true → PassesOver (behind p size) q → PassesOver p q
   over_end : {p q : Reading} (text : List ℕ) (size : ℕ)
       → IsLine p text size → is_skipped text ≡ false → p.stage ≡ Commands → HasForm End text
-      → Goes (at_stage (behind p size) AfterEnd) q → Goes p q
+      → PassesOver (at_stage (behind p size) AfterEnd) q → PassesOver p q
 
 -- bytes were taken, and lines were passed over that say nothing
-pub record GoesOn (old new : Reading) (left left' : Option (List ℕ)) : Type 0 where
+pub record ReadsOn (old new : Reading) (left left' : Option (List ℕ)) : Type 0 where
   pub known : Reading
   pub takes : TakesMore old known left left'
-  pub goes : Goes known new
+  pub goes : PassesOver known new
 
 -- what is read and taken at most before an answer
 abbrev pub to_read : Reading → ℕ
@@ -46,9 +46,9 @@ to_read p = (2101506 - (2 * p.before + length p.rest)) + (if p.whole then 0 else
 
 -- a step: lines are passed over or bytes taken, and the reading goes on, or an answer is given
 abbrev pub Steps : Reading → Option (List ℕ) → Option (List ℕ) → Answer → Reading → Type 0
-Steps old left left' (Ok None) new = GoesOn old new left left' × IsOpen new.stage × (to_read new < to_read old)
-Steps old left left' (Ok (Some c)) new = (mid : Reading) × GoesOn old mid left left' × Gives mid (Ok (Some c)) new
-Steps old left left' (Err f) new = (mid : Reading) × GoesOn old mid left left' × Gives mid (Err f) new
+Steps old left left' (Ok None) new = ReadsOn old new left left' × IsOpen new.stage × (to_read new < to_read old)
+Steps old left left' (Ok (Some c)) new = (mid : Reading) × ReadsOn old mid left left' × GivesFirst mid (Ok (Some c)) new
+Steps old left left' (Err f) new = (mid : Reading) × ReadsOn old mid left left' × GivesFirst mid (Err f) new
 
 -- what a call answers that says whether it put a command into its room
 abbrev pub answer_of : Result Bool ScriptFault → Command → Answer
@@ -63,9 +63,9 @@ given_of (Err f) c = Err f
 
 -- a line was read: it says nothing, and the reading goes on, or it gives a command or a fault
 abbrev pub ReadsLine : Reading → Answer → Reading → Type 0
-ReadsLine p (Ok None) q = Goes p q × IsOpen q.stage × (to_read q < to_read p)
-ReadsLine p (Ok (Some c)) q = Gives p (Ok (Some c)) q
-ReadsLine p (Err f) q = Gives p (Err f) q
+ReadsLine p (Ok None) q = PassesOver p q × IsOpen q.stage × (to_read q < to_read p)
+ReadsLine p (Ok (Some c)) q = GivesFirst p (Ok (Some c)) q
+ReadsLine p (Err f) q = GivesFirst p (Err f) q
 
 -- the next line has n bytes, and takes so many with its line feed
 pub record HoldsLine (p : Reading) (n size : ℕ) : Type 0 where

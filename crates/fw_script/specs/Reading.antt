@@ -76,38 +76,38 @@ abbrev pub IsAtEndOfInput : Reading → Type 0
 IsAtEndOfInput p = (p.rest ≡ []) × (p.whole ≡ true)
 
 -- what the lines from here on give first: a command or a fault, and where the reading stands then
-pub data Gives : Reading → Answer → Reading → Type 0 where
+pub data GivesFirst : Reading → Answer → Reading → Type 0 where
   -- an empty line or a comment
   skipped : {p q : Reading} {r : Answer} (text : List ℕ) (size : ℕ)
-      → IsLine p text size → is_skipped text ≡ true → Gives (behind p size) r q → Gives p r q
+      → IsLine p text size → is_skipped text ≡ true → GivesFirst (behind p size) r q → GivesFirst p r q
   -- a command
   command : {p : Reading} (c : Command) (text : List ℕ) (size : ℕ)
       → IsLine p text size → is_skipped text ≡ false → p.stage ≡ Commands → HasForm c text → c ≢ End
-      → Gives p (Ok (Some c)) (behind p size)
+      → GivesFirst p (Ok (Some c)) (behind p size)
   -- the line `end`: only skipped lines may follow
   end_line : {p q : Reading} {r : Answer} (text : List ℕ) (size : ℕ)
       → IsLine p text size → is_skipped text ≡ false → p.stage ≡ Commands → HasForm End text
-      → Gives (at_stage (behind p size) AfterEnd) r q → Gives p r q
+      → GivesFirst (at_stage (behind p size) AfterEnd) r q → GivesFirst p r q
   -- a line without a form, or one that follows `end`
   bad_line : {p : Reading} (text : List ℕ) (size : ℕ)
       → IsLine p text size → is_skipped text ≡ false → (p.stage ≡ AfterEnd) ⊎ ((c : Command) → HasForm c text → ⊥)
-      → Gives p (Err BadLine) (at_stage (behind p size) Failed)
+      → GivesFirst p (Err BadLine) (at_stage (behind p size) Failed)
   -- a line of more than 256 bytes
-  long_line : {p : Reading} → IsLongLine p → Gives p (Err LineTooLong) (refused p)
+  long_line : {p : Reading} → IsLongLine p → GivesFirst p (Err LineTooLong) (refused p)
   -- a line that ends behind the script's limit
-  too_long : {p : Reading} → PassesLimit p → Gives p (Err TooLong) (at_stage p Failed)
+  too_long : {p : Reading} → PassesLimit p → GivesFirst p (Err TooLong) (at_stage p Failed)
   -- the input's end, behind `end` or without it
-  end_of_input : {p : Reading} → IsAtEndOfInput p → p.stage ≡ AfterEnd → Gives p (Ok (Some End)) (at_stage p Done)
-  no_end : {p : Reading} → IsAtEndOfInput p → p.stage ≡ Commands → Gives p (Err NoEnd) (refused p)
+  end_of_input : {p : Reading} → IsAtEndOfInput p → p.stage ≡ AfterEnd → GivesFirst p (Ok (Some End)) (at_stage p Done)
+  no_end : {p : Reading} → IsAtEndOfInput p → p.stage ≡ Commands → GivesFirst p (Err NoEnd) (refused p)
   -- the source failed
-  read_fault : {p : Reading} → Gives p (Err ReadFault) (at_stage p Failed)
+  read_fault : {p : Reading} → GivesFirst p (Err ReadFault) (at_stage p Failed)
 
 -- nothing is given behind the end
 abbrev pub GivesNext : Stage → Reading → Answer → Reading → Type 0
-GivesNext Commands p r q = Gives p r q
-GivesNext AfterEnd p r q = Gives p r q
+GivesNext Commands p r q = GivesFirst p r q
+GivesNext AfterEnd p r q = GivesFirst p r q
 GivesNext Done p r q = (r ≡ Ok None) × (q ≡ p)
-GivesNext Failed p r q = Gives p r q
+GivesNext Failed p r q = GivesFirst p r q
 
 -- Some bytes were taken from the source, none once its end was met.
 pub record TakesMore (old new : Reading) (left left' : Option (List ℕ)) : Type 0 where
@@ -131,7 +131,7 @@ IsStageAfter old (Err f) new = (old ≢ Done) × (new ≡ Failed)
 
 -- what is held gives a command, or a fault that is not the source's: nothing more need be known
 abbrev pub HoldsAnswer : Reading → Type 0
-HoldsAnswer p = (r : Answer) × (q : Reading) × Gives p r q × (r ≢ Err ReadFault)
+HoldsAnswer p = (r : Answer) × (q : Reading) × GivesFirst p r q × (r ≢ Err ReadFault)
 
 -- How many bytes are held behind an answer: at most 4,096 behind the line of a command or of a refused one, of a line that is too
 -- long at most 4,096 behind its first 257. Where the source failed no whole line is held.

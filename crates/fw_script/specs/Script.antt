@@ -1,6 +1,6 @@
 -- Whole scripts.
 use Rattle.std.specs.Prelude.{◌≡◌, ◌≢◌, ℕ, ◌≤◌, ◌<◌, List, [], ◌∷◌, Bool, true, Option, Some, None, Ok, Err}
-use Rattle.fw_script.specs.Reading.{Reading, Gives}
+use Rattle.fw_script.specs.Reading.{Reading, GivesFirst}
 use Rattle.fw_script.specs.declared.command.Command.{Command}
 use Rattle.fw_script.specs.declared.command.Command.TheVariants.{End}
 use Rattle.fw_script.specs.declared.ScriptFault.{ScriptFault}
@@ -14,10 +14,10 @@ pub record Refusal : Type 0 where
 
 -- the commands of the lines from here on, and the first refused line, if any
 pub data Says : Reading → List Command → Option Refusal → Type 0 where
-  ends : {p q : Reading} → Gives p (Ok (Some End)) q → Says p (End ∷ []) None
-  refuses : {p q : Reading} {f : ScriptFault} → Gives p (Err f) q → f ≢ ReadFault → Says p [] (Some (record { fault = f; line = q.line }))
+  ends : {p q : Reading} → GivesFirst p (Ok (Some End)) q → Says p (End ∷ []) None
+  refuses : {p q : Reading} {f : ScriptFault} → GivesFirst p (Err f) q → f ≢ ReadFault → Says p [] (Some (record { fault = f; line = q.line }))
   goes_on : {p q : Reading} {c : Command} {cs : List Command} {r : Option Refusal}
-      → Gives p (Ok (Some c)) q → c ≢ End → Says q cs r → Says p (c ∷ cs) r
+      → GivesFirst p (Ok (Some c)) q → c ≢ End → Says q cs r → Says p (c ∷ cs) r
 
 -- bytes of which nothing is read yet; others may follow them where they are not whole
 abbrev pub begun : List ℕ → Bool → Reading

@@ -41,26 +41,22 @@ is_decimal w = nat_le 1 (length w) && list_all is_ascii_digit w && (nat_le (leng
 abbrev pub number_in : ℕ → ℕ → List ℕ → Option ℕ
 number_in low high w = only_if (is_decimal w && nat_le low (digits_value 10 w) && nat_le (digits_value 10 w) high) (digits_value 10 w)
 
+-- the meaning of the word: that of the first row with this text
+abbrev pub meaning_in : {A : Type 0} → List (List ℕ × A) → List ℕ → Option A
+meaning_in [] w = None
+meaning_in (row ∷ rows) w = if is row.0 w then Some row.1 else meaning_in rows w
+
 -- KIND: its code
 abbrev pub kind_in : List ℕ → Option ℕ
-kind_in w =
-    if is (codes "relay") w then Some 0
-    else if is (codes "deck") w then Some 1
-    else if is (codes "camcorder") w then Some 2
-    else if is (codes "computer") w then Some 3
-    else None
+kind_in w = meaning_in ((codes "relay", 0) ∷ (codes "deck", 1) ∷ (codes "camcorder", 2) ∷ (codes "computer", 3) ∷ []) w
 
 -- SPEED in Mbit/s: its code
 abbrev pub speed_in : List ℕ → Option ℕ
-speed_in w =
-    if is (codes "100") w then Some 0
-    else if is (codes "200") w then Some 1
-    else if is (codes "400") w then Some 2
-    else None
+speed_in w = meaning_in ((codes "100", 0) ∷ (codes "200", 1) ∷ (codes "400", 2) ∷ []) w
 
 -- SYSTEM: the number of lines of a frame
 abbrev pub system_in : List ℕ → Option ℕ
-system_in w = if is (codes "525") w then Some 525 else if is (codes "625") w then Some 625 else None
+system_in w = meaning_in ((codes "525", 525) ∷ (codes "625", 625) ∷ []) w
 
 -- the word `late`
 abbrev pub late_in : List ℕ → Option Bool

@@ -4,22 +4,18 @@ ghost use Rattle.std.specs.Prelude.{◌≡◌};
 ghost use Rattle.fw_script.specs.Words.{kind_in, speed_in, system_in, channel_in, shown_in, late_in};
 
 use crate::Name;
-use crate::words::{is, name, small};
+use crate::words::{name, small};
 
 /// The kind's code.
 pub(crate) fn kind(word: &[u8]) -> Option<u8>
     ensures { result ≡ kind_in word.now }
 {
-    if is(word, b"relay") {
-        Some(0)
-    } else if is(word, b"deck") {
-        Some(1)
-    } else if is(word, b"camcorder") {
-        Some(2)
-    } else if is(word, b"computer") {
-        Some(3)
-    } else {
-        None
+    match word {
+        b"relay" => Some(0),
+        b"deck" => Some(1),
+        b"camcorder" => Some(2),
+        b"computer" => Some(3),
+        _ => None,
     }
 }
 
@@ -27,14 +23,11 @@ pub(crate) fn kind(word: &[u8]) -> Option<u8>
 pub(crate) fn speed(word: &[u8]) -> Option<u8>
     ensures { result ≡ speed_in word.now }
 {
-    if is(word, b"100") {
-        Some(0)
-    } else if is(word, b"200") {
-        Some(1)
-    } else if is(word, b"400") {
-        Some(2)
-    } else {
-        None
+    match word {
+        b"100" => Some(0),
+        b"200" => Some(1),
+        b"400" => Some(2),
+        _ => None,
     }
 }
 
@@ -42,12 +35,10 @@ pub(crate) fn speed(word: &[u8]) -> Option<u8>
 pub(crate) fn system(word: &[u8]) -> Option<u16>
     ensures { result ≡ system_in word.now }
 {
-    if is(word, b"525") {
-        Some(525)
-    } else if is(word, b"625") {
-        Some(625)
-    } else {
-        None
+    match word {
+        b"525" => Some(525),
+        b"625" => Some(625),
+        _ => None,
     }
 }
 
@@ -55,12 +46,9 @@ pub(crate) fn system(word: &[u8]) -> Option<u16>
 pub(crate) fn channel(word: &[u8]) -> Option<Option<u8>>
     ensures { result ≡ channel_in word.now }
 {
-    if is(word, b"any") {
-        return Some(None);
-    }
-    match small(word, 0, 63) {
-        Some(channel) => Some(Some(channel)),
-        None => None,
+    match word {
+        b"any" => Some(None),
+        _ => Some(Some(small(word, 0, 63)?)),
     }
 }
 
@@ -68,12 +56,9 @@ pub(crate) fn channel(word: &[u8]) -> Option<Option<u8>>
 pub(crate) fn shown(word: &[u8]) -> Option<Option<Name>>
     ensures { result ≡ shown_in word.now }
 {
-    if is(word, b"manager") {
-        return Some(None);
-    }
-    match name(word) {
-        Some(name) => Some(Some(name)),
-        None => None,
+    match word {
+        b"manager" => Some(None),
+        _ => Some(Some(name(word)?)),
     }
 }
 
@@ -81,5 +66,8 @@ pub(crate) fn shown(word: &[u8]) -> Option<Option<Name>>
 pub(crate) fn late(word: &[u8]) -> Option<bool>
     ensures { result ≡ late_in word.now }
 {
-    if is(word, b"late") { Some(true) } else { None }
+    match word {
+        b"late" => Some(true),
+        _ => None,
+    }
 }

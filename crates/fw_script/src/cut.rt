@@ -6,7 +6,7 @@ ghost use Rattle.fw_script.specs.Pieces.{IsFirstAt, IsFree, pieces};
 use std::marker::Model;
 
 /// The place of the first separator.
-pub(crate) fn find(bytes: &[u8], separator: u8) -> Option<usize>
+fn find(bytes: &[u8], separator: u8) -> Option<usize>
     ensures found { IfSome result (IsFirstAt separator bytes.now) }
     ensures none { IfNone result (IsFree separator bytes.now) }
 {
@@ -23,10 +23,8 @@ pub(crate) fn cut(bytes: &[u8], separator: u8) -> Option<(&[u8], &[u8])>
     ensures found { IfSome result (λ p. (bytes.now ≡ p.0.now ++ separator ∷ p.1.now) × IsFree separator p.0.now) }
     ensures none { IfNone result (IsFree separator bytes.now) }
 {
-    match find(bytes, separator) {
-        Some(i) => Some((&bytes[..i], &bytes[i + 1..])),
-        None => None,
-    }
+    let i = find(bytes, separator)?;
+    Some((&bytes[..i], &bytes[i + 1..]))
 }
 
 /// The pieces between separators that are not yet read.

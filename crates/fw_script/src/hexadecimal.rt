@@ -13,10 +13,8 @@ pub(crate) fn offset(word: &[u8]) -> Option<u16>
         return None;
     };
     let mut bytes = [0; 2];
-    match hex::decode_to_slice([b'0', *a, *b, *c].as_slice(), &mut bytes) {
-        Ok(()) => Some(u16::from_be_bytes(bytes)),
-        Err(_) => None,
-    }
+    hex::decode_to_slice([b'0', *a, *b, *c].as_slice(), &mut bytes).ok()?;
+    Some(u16::from_be_bytes(bytes))
 }
 
 /// Eight digits: the word of a register.
@@ -24,10 +22,8 @@ pub(crate) fn word(word: &[u8]) -> Option<u32>
     ensures { result ≡ word_in word.now }
 {
     let mut bytes = [0; 4];
-    match hex::decode_to_slice(word, &mut bytes) {
-        Ok(()) => Some(u32::from_be_bytes(bytes)),
-        Err(_) => None,
-    }
+    hex::decode_to_slice(word, &mut bytes).ok()?;
+    Some(u32::from_be_bytes(bytes))
 }
 
 /// Two digits a byte: a frame of 1 to 110 bytes.
@@ -39,12 +35,8 @@ pub(crate) fn frame(word: &[u8]) -> Option<Bytes<110>>
     }
     let mut buffer = [0; 110];
     let bytes = &mut buffer[..word.len() / 2];
-    match hex::decode_to_slice(word, bytes) {
-        Ok(()) => {
-            let mut frame = Bytes::new();
-            frame.append(bytes);
-            Some(frame)
-        }
-        Err(_) => None,
-    }
+    hex::decode_to_slice(word, bytes).ok()?;
+    let mut frame = Bytes::new();
+    frame.append(bytes);
+    Some(frame)
 }

@@ -1,7 +1,7 @@
 //! Scripts: lines of words, read as commands one after the other.
 //!
 //! A script is lines that end with a line feed; the last may lack it. Empty lines and lines that begin with `#`
-//! are skipped. All other lines have one of twenty forms, whose words are parted by one space. The language is own.
+//! are skipped. All other lines have the form of a `Command`, whose words are parted by one space. The language is own.
 #![tactic(auto)]
 
 mod candidate_forms;

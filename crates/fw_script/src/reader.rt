@@ -1,11 +1,11 @@
 //! The reader of scripts.
 
-ghost use Rattle.std.specs.Prelude.{◌≡◌, ◌≢◌, ◌≤◌, ◌<◌, ◌+◌, [], length, take, drop, true, false, Ok, Err, None, IfOk, OnOk, OnErr, vec_len, vec_capacity};
+ghost use Rattle.std.specs.Prelude.{◌≡◌, ◌≢◌, ◌≤◌, length, true, false, Ok, Err, None, IfOk};
 ghost use Rattle.fw_outside.specs.Outside.{Rose};
-ghost use Rattle.fw_script.specs.Reader.{IsOpen, IsNear, IsCut, HoldsLine, StandsNext, ReadsLine, Steps, answer_of, given_of};
-ghost use Rattle.fw_script.specs.Reading.{unread, at_stage, refused, behind, with_taken, Advances, IsStageAfter, IsAtEndOfInput, HoldsAnswer, IsHeld};
+ghost use Rattle.fw_script.specs.Reader.{IsOpen, IsNear, HoldsLine, ReadsLine, Steps, answer_of, given_of};
+ghost use Rattle.fw_script.specs.Reading.{unread, Advances, IsStageAfter, IsAtEndOfInput, HoldsAnswer, IsHeld};
 
-use crate::line::{Front, Meaning, SCRIPT_LIMIT, front_of, meaning_of};
+use crate::line::{Front, Meaning, meaning_of};
 use crate::stage::Stage;
 use crate::{Command, ScriptFault};
 use fw_outside::Source;
@@ -13,6 +13,7 @@ use std::alloc::{AllocError, Global};
 use std::marker::Model;
 
 mod input;
+mod standing;
 
 use input::HELD_LIMIT;
 
@@ -62,83 +63,6 @@ impl ScriptReader {
         ensures { result ≡ self.now.line }
     {
         self.line
-    }
-
-    // Whether commands may come, or only skipped lines.
-    fn takes_commands(&self) -> bool
-        requires { IsOpen self.now.stage }
-        ensures yes { result ≡ true → self.now.stage ≡ Stage.Commands }
-        ensures no { result ≡ false → self.now.stage ≡ Stage.AfterEnd }
-    {
-        match self.stage {
-            Stage::Commands => true,
-            Stage::AfterEnd => false,
-            Stage::Done | Stage::Failed => unreachable!(),
-        }
-    }
-
-    // Whether the end was given.
-    fn is_done(&self) -> bool
-        requires { self.now.stage ≢ Stage.Failed }
-        ensures yes { result ≡ true → self.now.stage ≡ Stage.Done }
-        ensures no { result ≡ false → IsOpen self.now.stage }
-    {
-        match self.stage {
-            Stage::Commands | Stage::AfterEnd => false,
-            Stage::Done => true,
-            Stage::Failed => unreachable!(),
-        }
-    }
-
-    // What stands next.
-    fn front(&self) -> Front
-        ensures stands { StandsNext self.now result }
-        ensures near { IsNear self.now.rest }
-    {
-        front_of(
-            &self.bytes[self.at..],
-            SCRIPT_LIMIT - self.before,
-            self.whole,
-        )
-    }
-
-    // The first bytes from here on.
-    fn text(&self, count: usize) -> &[u8]
-        requires { count ≤ length self.now.rest }
-        ensures { result.now ≡ take count self.now.rest }
-    {
-        &self.bytes[self.at..self.at + count]
-    }
-
-    // Goes behind a line.
-    fn advance(&mut self, size: usize)
-        requires open { IsOpen self.old.stage }
-        requires some { 0 < size }
-        requires there { size ≤ length self.old.rest }
-        requires near { IsNear (drop size self.old.rest) }
-        requires within { self.old.before + size ≤ 1048576 }
-        ensures { self.new ≡ behind self.old size }
-    {
-        self.at += size;
-        self.before += size;
-        self.line += 1;
-    }
-
-    // Reads on from another stage.
-    fn enter(&mut self, stage: Stage)
-        requires { IsOpen self.old.stage }
-        ensures { self.new ≡ at_stage self.old stage }
-    {
-        self.stage = stage;
-    }
-
-    // Refuses the line after the last.
-    fn refuse(&mut self)
-        requires { IsOpen self.old.stage }
-        ensures { self.new ≡ refused self.old }
-    {
-        self.line += 1;
-        self.stage = Stage::Failed;
     }
 
     // Reads a line of so many bytes. Answers whether it is a command, which is put into `out`.
@@ -264,9 +188,7 @@ impl ScriptReader {
             return Ok(None);
         }
         let mut command = Command::End;
-        match self.read_on(source, &mut command) {
-            Ok(()) => Ok(Some(command)),
-            Err(fault) => Err(fault),
-        }
+        self.read_on(source, &mut command)?;
+        Ok(Some(command))
     }
 }

@@ -4,27 +4,15 @@ ghost use Rattle.std.specs.Prelude.{◌≡◌, ◌≤◌, ◌^◌, IfSome, IfNon
 ghost use Rattle.std.specs.List.{list_all};
 ghost use Rattle.std.specs.Char.{is_ascii_digit};
 ghost use Rattle.std.specs.Str.Parse.{digits_value};
-ghost use Rattle.fw_script.specs.Words.{is, is_name, is_name_byte, is_taken, name_in, is_decimal, number_in, place_in};
+ghost use Rattle.fw_script.specs.Words.{is_name, is_name_byte, is_taken, name_in, is_decimal, number_in, place_in};
 
 use crate::Name;
 use crate::cut::Pieces;
 
-/// The word is this text. Most words are of another length, which is seen without a call.
-#[inline(always)]
-#[tactic(auto, using(crate::proofs::KeywordLaws::other))]
-pub(crate) fn is(word: &[u8], text: &[u8]) -> bool
-    ensures { result ≡ is text.now word.now }
-{
-    if word.len() != text.len() {
-        return false;
-    }
-    word == text
-}
-
 fn is_taken(word: &[u8]) -> bool
     ensures { result ≡ is_taken word.now }
 {
-    is(word, b"manager") || is(word, b"any") || is(word, b"late")
+    matches!(word, b"manager" | b"any" | b"late")
 }
 
 fn is_name_byte(b: u8) -> bool
@@ -101,10 +89,7 @@ pub(crate) fn number(word: &[u8], low: u32, high: u32) -> Option<u32>
 pub(crate) fn small(word: &[u8], low: u8, high: u8) -> Option<u8>
     ensures { result ≡ number_in low high word.now }
 {
-    match number(word, u32::from(low), u32::from(high)) {
-        Some(n) => Some(n as u8),
-        None => None,
-    }
+    Some(number(word, u32::from(low), u32::from(high))? as u8)
 }
 
 /// A name and a number up to `high`, parted by a full stop: a port or a plug of a device.

@@ -1,6 +1,6 @@
 -- What was logged, by the ending.
 use Rattle.std.proofs.Common.{◌≡◌, ◌≢◌, ℕ, ◌+◌, ◌≤◌, List, [], ◌∷◌, ◌++◌, length, true, Option, Some, None, Ok, Err, refl, ap, sym, ◌∙◌, subst, append_assoc, append-nil, arith}
-use Rattle.fw_outside.specs.Outside.{AppendsFront, Grows, Rose}
+use Rattle.fw_outside.specs.Outside.{AppendsFront, Grows}
 use Rattle.fw_outside.proofs.Parts.{Grows-Grows}
 use Rattle.fw_entry.specs.Log.{header_bytes, epoch_after, latest_epoch, entry_bytes, LogOpens}
 use Rattle.fw_entry.specs.declared.version.Version.TheVariants.{Two}
@@ -27,12 +27,11 @@ use Rattle.fw_run.proofs.Elected.{elects_one}
 use Rattle.fw_run.proofs.Sounds.{sound_throughout}
 use Rattle.fw_run.proofs.Suffice.{rounds_suffice}
 use Rattle.fw_run.proofs.Logs.{run_opens, run_spells}
-use Rattle.fw_carry.specs.Doings.{Cut}
+use Rattle.fw_carry.specs.Performing.{CutOff}
 use Rattle.fw_run.specs.Desks.{DeskRelations}
-use Rattle.fw_bus.specs.Buses.{Standing, Stops}
+use Rattle.fw_bus.specs.Buses.{Standing, CutsRunOff}
 use Rattle.fw_run.specs.Carrying.{Carries}
 use Rattle.fw_run.proofs.Given.{given_then}
-use Rattle.fw_simulate.specs.Counts.{ReadCount, WriteCount}
 use Rattle.fw_simulate.specs.Going.{Going, Ends}
 use Rattle.fw_entry.specs.declared.entry.Timed.{Timed}
 use Rattle.fw_simulate.specs.declared.ending.RunEnding.{RunEnding}
@@ -196,7 +195,7 @@ interrupted {D} {left} {mid} {held} {held1} {old} left' new g a cut =
 
 -- the sink failed within a command
 pub part_stopped : {D : DeskRelations} {left mid held held1 : Option (List ℕ)} {old : Reading} {bus : Standing} (left' held2 : Option (List ℕ)) (new : Reading) (bus' : Standing) (c : Command) (g : Going D left mid held held1 old bus)
-    → Advances old new mid left' (Ok (Some c)) → Stops D g.commands g.actions g.log g.state c bus' held1 held2 → PartLogged D left left' held held2
+    → Advances old new mid left' (Ok (Some c)) → CutsRunOff D g.commands g.actions g.log g.state c bus' held1 held2 → PartLogged D left left' held held2
 part_stopped {D} {left} {mid} {held} {held1} {old} left' held2 new bus' c g a d = record {
   script = o.script;
   takes = o.takes;
@@ -234,7 +233,7 @@ part_stopped {D} {left} {mid} {held} {held1} {old} left' held2 new bus' c g a d 
     o : Given left left' g.commands c new
     o = given_on left' new c g a
 
-    x : Cut (Carries g.state d.order) g.state held1 held2
+    x : CutOff (Carries g.state d.order) g.state held1 held2
     x = d.cut
 
     n : ℕ
@@ -276,19 +275,3 @@ ends_runs left' held' g after Endings.ReadFault d = d
 ends_runs left' held' g after Endings.WriteFault d = d
 ends_runs left' held' g after Endings.TooLong d = d
 ends_runs left' held' g after Endings.NoMemory d = d
-
--- by the fault, whose count rose
-pub read_fault_counts : (old new : ℕ) (f : ScriptFault) (line : ℕ)
-    → (f ≡ Fault.ReadFault → Rose old new) → (f ≢ Fault.ReadFault → new ≡ old) → ReadCount old new (ending_by f line)
-read_fault_counts old new Fault.BadLine line rose same = same (λ e. cc)
-read_fault_counts old new Fault.LineTooLong line rose same = same (λ e. cc)
-read_fault_counts old new Fault.NoEnd line rose same = same (λ e. cc)
-read_fault_counts old new Fault.ReadFault line rose same = rose refl
-read_fault_counts old new Fault.TooLong line rose same = same (λ e. cc)
-
-pub write_fault_counts : (old : ℕ) (f : ScriptFault) (line : ℕ) → WriteCount old old (ending_by f line)
-write_fault_counts old Fault.BadLine line = refl
-write_fault_counts old Fault.LineTooLong line = refl
-write_fault_counts old Fault.NoEnd line = refl
-write_fault_counts old Fault.ReadFault line = refl
-write_fault_counts old Fault.TooLong line = refl

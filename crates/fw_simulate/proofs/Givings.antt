@@ -1,10 +1,9 @@
 -- What the lines of a script give, one command after another.
-use Rattle.std.proofs.Common.{◌≡◌, ◌≢◌, ◌⊎◌, inl, inr, ℕ, List, [], ◌∷◌, ◌++◌, ◌+◌, ◌<◌, ◌≤◌, true, Option, Some, None, is_some, Ok, codes, arith, refl, sym, ◌∙◌, subst}
+use Rattle.std.proofs.Common.{◌≡◌, ◌≢◌, ◌⊎◌, inl, inr, ℕ, List, [], ◌∷◌, ◌++◌, ◌+◌, ◌<◌, ◌≤◌, true, Option, Some, None, is_some, Ok, codes, arith, refl, subst}
 use Rattle.std.proofs.lemmas.Bool.{false≢true}
 use Rattle.fw_script.specs.Form.{HasForm}
-use Rattle.fw_script.specs.Reading.{Reading, Answer, Gives, GivesNext, Advances, EndsLine, IsLine}
-use Rattle.fw_script.specs.declared.stage.Stage.{Stage}
-use Rattle.fw_script.specs.Reading.Gives.{skipped, command, end_line, bad_line, long_line, too_long, end_of_input, no_end, read_fault}
+use Rattle.fw_script.specs.Reading.{Reading, Answer, GivesFirst, EndsLine, IsLine}
+use Rattle.fw_script.specs.Reading.GivesFirst.{skipped, command, end_line, bad_line, long_line, too_long, end_of_input, no_end, read_fault}
 use Rattle.fw_script.specs.Keyword.{keyword_in}
 use Rattle.fw_script.specs.declared.command.Command.{Command}
 use Rattle.fw_script.specs.declared.command.Command.TheVariants as Commands
@@ -53,7 +52,7 @@ end_form : HasForm End (codes "end")
 end_form = record { first = codes "end"; others = []; keyword = value_in (keyword_in (codes "end")) refl; words = refl; named = refl; arguments = (refl, refl) }
 
 -- a command that is given is that of a line
-pub given_form : {p : Reading} {r : Answer} {q : Reading} → Gives p r q → (c : Command) → r ≡ Ok (Some c) → IsCommand c
+pub given_form : {p : Reading} {r : Answer} {q : Reading} → GivesFirst p r q → (c : Command) → r ≡ Ok (Some c) → IsCommand c
 given_form (skipped t n a k g) c e = given_form g c e
 given_form (command d t n a k i f o) c e = let h : d ≡ c = cc in (t, subst (λ (x : Command). HasForm x t) h f)
 given_form (end_line t n a k i f g) c e = given_form g c e
@@ -65,7 +64,7 @@ given_form (no_end a i) c e = absurd cc
 given_form read_fault c e = absurd cc
 
 -- lines give a command or a fault
-pub given_some : {p : Reading} {r : Answer} {q : Reading} → Gives p r q → r ≡ Ok None → ⊥
+pub given_some : {p : Reading} {r : Answer} {q : Reading} → GivesFirst p r q → r ≡ Ok None → ⊥
 given_some (skipped t n a k g) e = given_some g e
 given_some (command d t n a k i f o) e = cc
 given_some (end_line t n a k i f g) e = given_some g e
@@ -90,7 +89,7 @@ pub record IsBehind (p q : Reading) : Type 0 where
 further_on : (p : Reading) (t : List ℕ) (n : ℕ) (q : Reading) → IsLine p t n → p.before + n < q.before → p.before < q.before
 further_on p t n q a f = omega arith
 
-pub behind_command : {p : Reading} {r : Answer} {q : Reading} → Gives p r q → (c : Command) → r ≡ Ok (Some c) → c ≢ End → IsBehind p q
+pub behind_command : {p : Reading} {r : Answer} {q : Reading} → GivesFirst p r q → (c : Command) → r ≡ Ok (Some c) → c ≢ End → IsBehind p q
 behind_command {p = p} {q = q} (skipped t n a k g) c e o = let h = behind_command g c e o in record { stage = h.stage; further = further_on p t n q a h.further; within = h.within }
 behind_command {p = p} (command d t n a k i f x) c e o = let s = size_some p t n a.ends in record { stage = i; further = omega arith; within = a.within }
 behind_command {p = p} {q = q} (end_line t n a k i f g) c e o = let h = behind_command g c e o in record { stage = h.stage; further = further_on p t n q a h.further; within = h.within }
@@ -107,7 +106,7 @@ pub record IsOver (p q : Reading) : Type 0 where
   pub further : p.before ≤ q.before
   pub whole : q.whole ≡ true
 
-pub over_end : {p : Reading} {r : Answer} {q : Reading} → Gives p r q → r ≡ Ok (Some End) → IsOver p q
+pub over_end : {p : Reading} {r : Answer} {q : Reading} → GivesFirst p r q → r ≡ Ok (Some End) → IsOver p q
 over_end {p = p} {q = q} (skipped t n a k g) e = let h = over_end g e in record { stage = h.stage; further = let f : p.before + n ≤ q.before = h.further in omega arith; whole = h.whole }
 over_end (command d t n a k i f o) e = absurd (o (let h : d ≡ End = cc in h))
 over_end {p = p} {q = q} (end_line t n a k i f g) e = let h = over_end g e in record { stage = h.stage; further = let f : p.before + n ≤ q.before = h.further in omega arith; whole = h.whole }
@@ -126,13 +125,3 @@ has_more (x ∷ xs) c n o = (n.0, has_more xs c n.1 o)
 pub no_end_led : {p q : Reading} {cs : List Command} → Leads p cs q → HasNoEnd cs
 no_end_led nothing = tt
 no_end_led (and_then {commands = before} l c o next g) = has_more before c (no_end_led l) o
-
--- what a call of a script's reader gave is a command of some line
-pub advance_form : {old new : Reading} {left left' : Option (List ℕ)} {r : Answer} → Advances old new left left' r → (c : Command) → r ≡ Ok (Some c) → IsCommand c
-advance_form {old = old} {new = new} {r = r} h c is = go old.stage h.gives
-  where
-    go : (stage : Stage) → GivesNext stage h.known r new → IsCommand c
-    go Stages.Commands g = given_form g c is
-    go Stages.AfterEnd g = given_form g c is
-    go Stages.Failed g = given_form g c is
-    go Stages.Done g = let no : Ok None ≡ Ok (Some c) = sym g.0 ∙ is in let bad : ⊥ = cc in absurd bad

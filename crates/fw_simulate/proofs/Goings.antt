@@ -6,7 +6,7 @@ use Rattle.fw_outside.proofs.Parts.{Takes-Takes, Takes-nothing, Grows-Grows}
 use Rattle.fw_entry.specs.Log.{header_bytes, latest_epoch}
 use Rattle.fw_entry.specs.declared.version.Version.TheVariants.{Two}
 use Rattle.fw_run.proofs.Epochs.{run_epoch}
-use Rattle.fw_script.specs.Reading.{Reading, Answer, Gives, GivesNext, Advances, unread, with_taken}
+use Rattle.fw_script.specs.Reading.{Reading, Answer, GivesFirst, GivesNext, Advances, unread, with_taken}
 use Rattle.fw_script.specs.Script.{Tells, start_of}
 use Rattle.fw_script.specs.Leading.{Leads, BeginsWith, TakesFrom, HasRead}
 use Rattle.fw_script.specs.Leading.Leads.{nothing}
@@ -24,7 +24,7 @@ use Rattle.fw_run.specs.Runs.{begun}
 use Rattle.fw_run.proofs.Given.{given_then}
 use Rattle.fw_run.proofs.Runs.{log_append}
 use Rattle.fw_machine.specs.Stands.{StandsFor}
-use Rattle.fw_bus.specs.Buses.{Standing, Goes}
+use Rattle.fw_bus.specs.Buses.{Standing, ContinuesRun}
 use Rattle.fw_rules.specs.Decisions.{IsCommand}
 use Rattle.fw_simulate.specs.Going.{HasEnded, IsReading, open_of, to_read, Going}
 use Rattle.fw_simulate.proofs.Givings.{is_end, given_form, given_some, behind_command, over_end, no_end_led}
@@ -36,15 +36,9 @@ IsSomething r = r ≢ Ok None
 
 -- ---- the reader
 
-pub not_failed : (s : Stage) (left now : Option (List ℕ)) (given : List Command) (reader : Reading) → IsReading s left now given reader → s ≢ Failed
-not_failed Commands left now given reader h e = cc
-not_failed AfterEnd left now given reader h e = h
-not_failed Done left now given reader h e = cc
-not_failed Failed left now given reader h e = h
-
 -- a command or a fault is given only before the end
 pub given_before : {left now : Option (List ℕ)} {given : List Command} {reader : Reading} (s : Stage) (known new : Reading) (r : Answer) → IsSomething r → IsReading s left now given reader → GivesNext s known r new
-    → HasRead left now given reader × Gives known r new × (s ≡ Commands)
+    → HasRead left now given reader × GivesFirst known r new × (s ≡ Commands)
 given_before Commands known new r some h g = (h, g, refl)
 given_before AfterEnd known new r some h g = absurd h
 given_before Done known new r some h g = absurd (some g.0)
@@ -93,7 +87,7 @@ module _ (left mid left' : Option (List ℕ)) (given : List Command) (old new : 
   whole_takes = record { taken = all; behind = behind.0; parts = refl; takes = all_taken; told = behind.1 }
 
   -- what was given before, and what the call gave
-  lines : (more : List ℕ) → (new.whole ≡ true → more ≡ []) → (q : Reading) × Leads (start_of (all ++ more)) given q × Gives q r (with_taken new more true)
+  lines : (more : List ℕ) → (new.whole ≡ true → more ≡ []) → (q : Reading) × Leads (start_of (all ++ more)) given q × GivesFirst q r (with_taken new more true)
   lines more none = (
     with_taken old (a.takes.taken ++ more) true,
     subst (λ (bytes : List ℕ). Leads (start_of bytes) given (with_taken old (a.takes.taken ++ more) true)) (sym (append_assoc so.taken a.takes.taken more))
@@ -101,7 +95,7 @@ module _ (left mid left' : Option (List ℕ)) (given : List Command) (old new : 
     gave_all old new mid left' r some a more none,
   )
 
-  pub the_lines : (q : Reading) × Leads (start_of whole_script) given q × Gives q r (with_taken new behind.0 true)
+  pub the_lines : (q : Reading) × Leads (start_of whole_script) given q × GivesFirst q r (with_taken new behind.0 true)
   the_lines = lines behind.0 behind.2
 
   -- what was taken beyond the lines is held
@@ -123,7 +117,7 @@ given_no_end so = no_end_led (so.leads [] true (λ w. (refl, refl)))
 
 -- the call gave the end
 given_end : (left mid left' : Option (List ℕ)) (given : List Command) (old new : Reading) → HasRead left mid given old
-    → (a : Advances old new mid left' (Ok (Some End))) → Gives a.known (Ok (Some End)) new → HasEnded left left' (given ++ End ∷ []) new × (new.stage ≡ Done)
+    → (a : Advances old new mid left' (Ok (Some End))) → GivesFirst a.known (Ok (Some End)) new → HasEnded left left' (given ++ End ∷ []) new × (new.stage ≡ Done)
 given_end left mid left' given old new so a g =
     let e = read_end left mid left' given old new so a in
     let o = over_end g refl in
@@ -131,7 +125,7 @@ given_end left mid left' given old new so a g =
 
 -- what holds before the next call
 pub reads_on : (left mid left' : Option (List ℕ)) (given : List Command) (old new : Reading) (c : Command) → HasRead left mid given old
-    → (a : Advances old new mid left' (Ok (Some c))) → Gives a.known (Ok (Some c)) new → IsReading new.stage left left' (given ++ c ∷ []) new
+    → (a : Advances old new mid left' (Ok (Some c))) → GivesFirst a.known (Ok (Some c)) new → IsReading new.stage left left' (given ++ c ∷ []) new
 reads_on left mid left' given old new c so a g = by_end (is_end c)
   where
     at_stage : (s : Stage) → new.stage ≡ s → IsReading s left left' (given ++ c ∷ []) new → IsReading new.stage left left' (given ++ c ∷ []) new
@@ -139,7 +133,7 @@ reads_on left mid left' given old new c so a g = by_end (is_end c)
 
     by_end : (c ≡ End) ⊎ (c ≢ End) → IsReading new.stage left left' (given ++ c ∷ []) new
     by_end (inl e) =
-        let over = subst (λ (x : Command). (b : Advances old new mid left' (Ok (Some x))) × Gives b.known (Ok (Some x)) new) e (a, g) in
+        let over = subst (λ (x : Command). (b : Advances old new mid left' (Ok (Some x))) × GivesFirst b.known (Ok (Some x)) new) e (a, g) in
         let h = given_end left mid left' given old new so over.0 over.1 in
         at_stage Done h.1 (subst (λ (x : Command). HasEnded left left' (given ++ x ∷ []) new) (sym e) h.0)
     by_end (inr o) = at_stage Commands (behind_command g c refl o).stage (read_command left mid left' given old new c so a o)
@@ -177,7 +171,7 @@ going_first left held after reader bus new stands fresh header = record {
 
 -- a command was given and carried out
 unfoldable pub going_more : {D : DeskRelations} {left mid held held1 : Option (List ℕ)} {old : Reading} {bus : Standing} (left' held2 : Option (List ℕ)) (new : Reading) (bus' : Standing) (c : Command) (g : Going D left mid held held1 old bus)
-    → Advances old new mid left' (Ok (Some c)) → Goes D g.commands g.actions g.log g.state c bus' held1 held2 → Going D left left' held held2 new bus'
+    → Advances old new mid left' (Ok (Some c)) → ContinuesRun D g.commands g.actions g.log g.state c bus' held1 held2 → Going D left left' held held2 new bus'
 going_more {D} {left} {mid} {held} {held1} {old} {bus} left' held2 new bus' c g a d =
     let before = given_before old.stage a.known new (Ok (Some c)) (some_command c) g.read a.gives in
     record {
@@ -207,7 +201,7 @@ pub going_shorter : {D : DeskRelations} {left mid held held1 : Option (List ℕ)
     → to_read new < to_read old
 going_shorter {left = left} {mid = mid} {old = old} left' new c g a = by_end (is_end c)
   where
-    h : HasRead left mid g.commands old × Gives a.known (Ok (Some c)) new × (old.stage ≡ Commands)
+    h : HasRead left mid g.commands old × GivesFirst a.known (Ok (Some c)) new × (old.stage ≡ Commands)
     h = given_before old.stage a.known new (Ok (Some c)) (some_command c) g.read a.gives
 
     same : a.known.before ≡ old.before
@@ -218,7 +212,7 @@ going_shorter {left = left} {mid = mid} {old = old} left' new c g a = by_end (is
 
     by_end : (c ≡ End) ⊎ (c ≢ End) → to_read new < to_read old
     by_end (inl e) =
-        let o = over_end (subst (λ (x : Command). Gives a.known (Ok (Some x)) new) e h.1) refl in
+        let o = over_end (subst (λ (x : Command). GivesFirst a.known (Ok (Some x)) new) e h.1) refl in
         let none : open_of new.stage ≡ 0 = ap (λ (s : Stage). open_of s) o.stage in
         omega (arith, same, one, o.further)
     by_end (inr n) =

@@ -14,8 +14,8 @@ use Rattle.fw_run.specs.declared.rule.RuleFault.{RuleFault}
 use Rattle.fw_simulate.specs.declared.ending.RunEnding.{RunEnding}
 use Rattle.fw_run.specs.Actions.{Action}
 use Rattle.fw_run.specs.Desks.{DeskRelations}
-use Rattle.fw_bus.specs.Buses.{Standing, Goes, Stops}
-use Rattle.fw_carry.specs.Doings.{Cut}
+use Rattle.fw_bus.specs.Buses.{Standing, ContinuesRun, CutsRunOff}
+use Rattle.fw_carry.specs.Performing.{CutOff}
 use Rattle.fw_simulate.specs.Ending.{RefusesCommand}
 use Rattle.fw_simulate.specs.Going.{Going, Carried, Ends}
 use Rattle.fw_simulate.proofs.Goings.{going_more, going_shorter}
@@ -42,7 +42,7 @@ refused_there {D} left left' held rule line same h = subst (λ (x : Option (List
 
 -- the same of another place
 pub goes_there : {D : DeskRelations} {commands : List Command} {actions : List Action} {log : List Timed} {s : State} {c : Command} {now : Standing} {written written' : Option (List ℕ)} (after after' : Option (List ℕ))
-    → (d : Goes D commands actions log s c now written written') → Grows after after' (log_bytes (epoch_of s.account.latest) d.out) → Goes D commands actions log s c now after after'
+    → (d : ContinuesRun D commands actions log s c now written written') → Grows after after' (log_bytes (epoch_of s.account.latest) d.out) → ContinuesRun D commands actions log s c now after after'
 goes_there after after' d grew = record {
   order = d.order;
   decided = d.decided;
@@ -63,8 +63,8 @@ goes_there after after' d grew = record {
   fresh = d.fresh;
 }
 
-cut_there : {P : List Action → List Timed → State → Type 0} {s : State} {written written' : Option (List ℕ)} (after after' : Option (List ℕ)) → (x : Cut P s written written')
-    → Grows after after' (log_bytes (epoch_of s.account.latest) x.given ++ x.front) → Cut P s after after'
+cut_there : {P : List Action → List Timed → State → Type 0} {s : State} {written written' : Option (List ℕ)} (after after' : Option (List ℕ)) → (x : CutOff P s written written')
+    → Grows after after' (log_bytes (epoch_of s.account.latest) x.given ++ x.front) → CutOff P s after after'
 cut_there after after' x appended = record {
   done = x.done;
   later = x.later;
@@ -83,7 +83,7 @@ cut_there after after' x appended = record {
 }
 
 pub stops_there : {D : DeskRelations} {commands : List Command} {actions : List Action} {log : List Timed} {s : State} {c : Command} {now : Standing} {written written' : Option (List ℕ)} (after after' : Option (List ℕ))
-    → (d : Stops D commands actions log s c now written written') → Grows after after' (log_bytes (epoch_of s.account.latest) d.cut.given ++ d.cut.front) → Stops D commands actions log s c now after after'
+    → (d : CutsRunOff D commands actions log s c now written written') → Grows after after' (log_bytes (epoch_of s.account.latest) d.cut.given ++ d.cut.front) → CutsRunOff D commands actions log s c now after after'
 unfolding cut_there
 stops_there after after' d appended = record {
   order = d.order;
@@ -104,7 +104,7 @@ fit_behind log (t ∷ ts) h = All-cons TimedFits t ts (h log ts t refl) (fit_beh
 
 -- a command more was carried out
 pub carried : {D : DeskRelations} {left mid held after written written' : Option (List ℕ)} {old : Reading} {bus : Standing} (left' after' : Option (List ℕ)) (new : Reading) (bus' : Standing) (c : Command) (g : Going D left mid held after old bus)
-    → Advances old new mid left' (Ok (Some c)) → (d : Goes D g.commands g.actions g.log g.state c bus' written written')
+    → Advances old new mid left' (Ok (Some c)) → (d : ContinuesRun D g.commands g.actions g.log g.state c bus' written written')
     → Grows after after' (log_bytes (epoch_of g.state.account.latest) d.out) → Carried D left left' held after' written written' g.log old new bus'
 unfolding going_more goes_there
 carried {after = after} {written = written} {written' = written'} left' after' new bus' c g a d grew = record {

@@ -1,8 +1,8 @@
 -- How much of a script is taken beyond the lines that were read.
 use Rattle.std.proofs.Common.{◌≡◌, ℕ, ◌+◌, ◌-◌, ◌≤◌, List, length, drop, arith, refl, ap, ◌∙◌}
 use Rattle.std.proofs.lemmas.List.{drop-drop, length-drop}
-use Rattle.fw_script.specs.Reading.{Reading, Answer, Gives, behind}
-use Rattle.fw_script.specs.Reading.Gives.{skipped, command, end_line, bad_line, long_line, too_long, end_of_input, no_end, read_fault}
+use Rattle.fw_script.specs.Reading.{Reading, Answer, GivesFirst, behind}
+use Rattle.fw_script.specs.Reading.GivesFirst.{skipped, command, end_line, bad_line, long_line, too_long, end_of_input, no_end, read_fault}
 use Rattle.fw_script.specs.declared.command.Command.{Command}
 use Rattle.fw_script.specs.Leading.{Leads}
 use Rattle.fw_script.specs.Leading.Leads.{nothing, and_then}
@@ -29,7 +29,7 @@ further_then p q z one two =
 over : (p : Reading) (n : ℕ) (z : Reading) → IsFurther (behind p n) z → IsFurther p z
 over p n z h = further_then p (behind p n) z (by_size p (behind p n) n refl refl) h
 
-gives_further : {p : Reading} {r : Answer} {q : Reading} → Gives p r q → IsFurther p q
+gives_further : {p : Reading} {r : Answer} {q : Reading} → GivesFirst p r q → IsFurther p q
 gives_further {p = p} {q = q} (skipped t n a k g) = over p n q (gives_further g)
 gives_further {p = p} (command d t n a k i f o) = by_size p (behind p n) n refl refl
 gives_further {p = p} {q = q} (end_line t n a k i f g) = let h = gives_further g in over p n q (record { before = h.before; rest = h.rest })
@@ -45,7 +45,7 @@ leads_further {p = p} nothing = by_size p p 0 (omega arith) refl
 leads_further {p = p} (and_then {q = q} l c o next g) = further_then p q next (leads_further l) (gives_further g)
 
 -- behind what lines gave stands what is left of them
-pub left_behind : {p q z : Reading} {cs : List Command} {r : Answer} → p.before ≡ 0 → Leads p cs q → Gives q r z → z.rest ≡ drop z.before p.rest
+pub left_behind : {p q z : Reading} {cs : List Command} {r : Answer} → p.before ≡ 0 → Leads p cs q → GivesFirst q r z → z.rest ≡ drop z.before p.rest
 left_behind {p = p} {q = q} {z = z} start l g =
     let h = further_then p q z (leads_further l) (gives_further g) in
     let size : z.before - p.before ≡ z.before = omega (arith, start) in

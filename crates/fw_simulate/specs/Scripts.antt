@@ -4,7 +4,7 @@ use Rattle.fw_entry.specs.declared.entry.Timed.{Timed}
 use Rattle.fw_simulate.specs.declared.ending.RunEnding.{RunEnding}
 use Rattle.fw_simulate.specs.declared.ending.RunEnding.TheVariants as Endings
 use Rattle.fw_simulate.specs.declared.ending.RunEnding.TheVariants.{Done, Refused, WriteFault, NoMemory}
-use Rattle.fw_script.specs.Reading.{Reading, Gives}
+use Rattle.fw_script.specs.Reading.{Reading, GivesFirst}
 use Rattle.fw_script.specs.Script.{IsScript, start_of}
 use Rattle.fw_script.specs.Leading.{Leads}
 use Rattle.fw_script.specs.declared.command.Command.{Command}
@@ -21,7 +21,7 @@ pub record FaultsAt (script : List ℕ) (commands : List Command) (fault : Scrip
   pub before : Reading
   pub after : Reading
   pub leads : Leads (start_of script) commands before
-  pub gives : Gives before (Err fault) after
+  pub gives : GivesFirst before (Err fault) after
 
 -- How many bytes are taken at most behind those that stand before the place of a fault. That place is behind the refused line, but
 -- before one that is too long.

@@ -8,7 +8,6 @@ use Rattle.fw_cmp.specs.declared.current.Current.TheVariants.{Nothing, Asking, H
 use Rattle.fw_cmp.specs.declared.directory.Directory.{Directory}
 use Rattle.fw_cmp.specs.declared.job.Job.{Job}
 use Rattle.fw_cmp.specs.declared.outcome.Outcome.{Outcome}
-use Rattle.fw_cmp.specs.declared.outcome.Outcome.TheVariants.{Reset}
 use Rattle.fw_cmp.specs.declared.outcome.Outcome.TheVariants as outcome
 use Rattle.fw_cmp.specs.declared.job.Ending.{Ending}
 use Rattle.fw_cmp.specs.declared.job.Ending.TheVariants as ending

@@ -63,9 +63,6 @@ back_next l j h next may seen found f = go (eqb h.units 0) refl
     go true e = record { pending = grind (arith, nat_tests); output = λ kind q. refl; input = λ kind q. refl; knows = λ p x. tt; flow = λ p x. tt; channel = λ q x. tt; keeps = tt; fresh = tt; plugs = λ y. grind arith; allocates = f; sees = λ x. grind arith; sees_input = λ x. grind arith }
     go false e = record { pending = refl; output = λ kind q. refl; input = λ kind q. refl; knows = λ p x. grind (arith, nat_tests); flow = λ p x. tt; channel = λ q x. tt; keeps = tt; fresh = tt; plugs = λ y. grind arith; allocates = f; sees = λ x. grind arith; sees_input = λ x. grind arith }
 
-pub back_nothing : (l : Account) (j : Job) (e : Ending) (may seen found : Bool) → IsNext l j None false false may seen found (give_back None (EndsAs e))
-back_nothing l j e may seen found = ended_next l j e may seen found
-
 -- ---- the output plug
 
 -- the units that the job needs by a word are those at the plug's data rate

@@ -10,13 +10,13 @@ use Rattle.fw_cmp.specs.Plugs.{half_of}
 use Rattle.fw_step.proofs.Answers.{mapped}
 use Rattle.fw_cmp.specs.declared.stage.Stage.TheVariants.{Begin, ReadOutput, ReadChannels, SwapChannels, ReadBandwidth, SwapBandwidth, ConnectOutput, OverlayOutput, ReadInput, ConnectInput, ReadInputToLeave, LeaveInput, ReadOutputToLeave, LeaveOutput, ReadBandwidthToRelease, RaiseBandwidth, ReadChannelsToRelease, RestoreChannel, Made, Ended}
 use Rattle.fw_cmp.specs.Holdings.{StageReached, CurrentReached, CanGoOn}
-use Rattle.fw_cmp.specs.Requests.{target_of, swap_of, access_at, addressee_of}
+use Rattle.fw_cmp.specs.Requests.{target_of, swap_of, access_at, addressee_of, access_of, request_of}
 use Rattle.fw_cmp.proofs.Ready.{ready_reached}
-use Rattle.fw_step.specs.Requests.{request_to, requested_of, requested, outstanding_of}
-use Rattle.fw_step.proofs.Carried.{hearing}
+use Rattle.fw_step.specs.Requests.{request_to, requested_of, requested, outstanding_of, Tells, is_sent, procedure_head, request_packet, IsResponse}
+use Rattle.fw_step.proofs.Carried.{hearing, hear_half}
 use Rattle.fw_step.proofs.Fits.{ready_fits}
 use Rattle.fw_account.specs.Account.{Account, Request}
-use Rattle.fw_account.specs.Packets.{asked}
+use Rattle.fw_account.specs.Packets.{asked, ended as request_ended}
 use Rattle.fw_cmp.specs.declared.current.Current.{Current}
 use Rattle.fw_cmp.specs.declared.current.Current.TheVariants.{Nothing, Asking, Hearing, Overtaken}
 use Rattle.fw_cmp.specs.declared.current.Task.{Task}
@@ -24,31 +24,25 @@ use Rattle.fw_cmp.specs.declared.directory.Directory.{Directory}
 use Rattle.fw_cmp.specs.declared.job.Job.{Job}
 use Rattle.fw_cmp.specs.declared.stage.Stage.{Stage}
 use Rattle.fw_cmp.specs.Controllers.{ControllerState, Fits, IsHeard}
-use Rattle.fw_cmp.specs.Turns.{ready, after_asking, after_answer}
-use Rattle.fw_step.specs.Controllers.{ControllerInStep, IsDirectory}
+use Rattle.fw_cmp.specs.Turns.{ready, after_asking, after_answer, after_next, outcome_of, sending, asks_or_ends, rests as rests_on, answer_of, next}
+use Rattle.fw_step.specs.Controllers.{ControllerInStep, IsDirectory, others_of}
 use Rattle.fw_step.proofs.Turns.{asking}
 use Rattle.fw_step.proofs.Addressees.{target_is, addressee_there, number_at, node_is}
 use Rattle.fw_async.specs.declared.packet.Packet.{Packet}
-use Rattle.fw_csr.specs.declared.request.Swap.{Swap}
+use Rattle.fw_words.specs.declared.swap.Swap.{Swap}
 use Rattle.fw_account.specs.Sound.{IsSound}
-use Rattle.fw_step.specs.Controllers.{others_of}
 use Rattle.fw_step.proofs.StageFits.{half_is}
 use Rattle.fw_csr.specs.declared.reply.Reply.{Reply}
 use Rattle.fw_entry.specs.declared.entry.Entry.TheVariants.{Async}
 use Rattle.fw_entry.specs.declared.nodes.NodeRow.{NodeRow}
 use Rattle.fw_account.specs.Fold.{next_account}
 use Rattle.fw_entry.specs.Network.{row_of_node}
-use Rattle.fw_account.specs.Packets.{ended as request_ended}
 use Rattle.fw_cmp.specs.declared.outcome.Next.{Next}
 use Rattle.fw_cmp.specs.declared.outcome.Next.TheVariants.{End, Idle, Waiting as WaitsUntil}
-use Rattle.fw_cmp.specs.Requests.{access_of, request_of}
-use Rattle.fw_cmp.specs.Turns.{after_next, outcome_of, sending, asks_or_ends, rests as rests_on, answer_of, next}
 use Rattle.fw_step.specs.InStep.{IsRegister, HalfStep}
 use Rattle.fw_step.specs.Moves.{carried_out}
 use Rattle.fw_step.specs.Registers.{register_at, IsAnswer}
-use Rattle.fw_step.specs.Requests.{Tells, is_sent, procedure_head, request_packet, IsResponse}
 use Rattle.fw_step.specs.Together.{AreInStep}
-use Rattle.fw_step.proofs.Carried.{hear_half}
 use Rattle.fw_step.proofs.Nexts.{ready_heard}
 use Rattle.fw_step.proofs.Requests.{is_request_at, request_leads, response_leads}
 use Rattle.fw_step.proofs.Standing.{heard_none}

@@ -5,12 +5,11 @@ use Rattle.fw_base.specs.declared.plug.PlugAt.{PlugAt}
 use Rattle.fw_base.specs.Tables.{update_plug}
 use Rattle.fw_base.proofs.Tables.{update_plug_at, update_plug_same}
 use Rattle.fw_csr.specs.declared.reply.Reply.{Reply}
-use Rattle.fw_csr.specs.declared.request.Swap.{Swap}
+use Rattle.fw_words.specs.declared.swap.Swap.{Swap}
 use Rattle.fw_plug.specs.Plugs.{is_active}
 use Rattle.fw_plug.specs.Words.{is_connected}
 use Rattle.fw_account.specs.Account.{Account, has_connection, talks}
-use Rattle.fw_account.specs.Moves.{Move, AllocateChannel, AllocateUnits, ConnectFirst, ConnectOverlaid, ConnectInput, DisconnectInput, DisconnectOutput}
-use Rattle.fw_account.specs.Moves.{ReleaseUnits, ReleaseChannel, Can, after}
+use Rattle.fw_account.specs.Moves.{Move, AllocateChannel, AllocateUnits, ConnectFirst, ConnectOverlaid, ConnectInput, DisconnectInput, DisconnectOutput, ReleaseUnits, ReleaseChannel, Can, after}
 use Rattle.fw_account.specs.Network.{is_output}
 use Rattle.fw_account.specs.Sound.{IsSound}
 use Rattle.fw_account.specs.Words.{OutputPlug, word_of}

@@ -2,7 +2,7 @@
 use Rattle.fw_base.specs.declared.plug.PlugAt.{PlugAt}
 use Rattle.std.proofs.Common.{◌≡◌, ℕ, ◌+◌, ◌-◌, ◌<◌, Bool, true, false, Option, Some, None, refl, sym, ap, ◌∙◌, arith}
 use Rattle.std.proofs.lemmas.Bool.Decides.{nat_tests}
-use Rattle.fw_account.specs.Account.{Pending, Allocation, Account, allocated, remainder, is_free, is_open}
+use Rattle.fw_account.specs.Account.{Pending, Allocation, Account, allocated, remainder, is_open}
 use Rattle.fw_account.specs.Moves.{AllocateChannel, AllocateUnits, ReleaseUnits, ReleaseChannel, after}
 use Rattle.fw_account.specs.Sound.{IsSound}
 use Rattle.fw_account.specs.Words.{channel_word}

@@ -7,7 +7,7 @@ use Rattle.std.proofs.lemmas.Bool.Decides.{nat_tests}
 use Rattle.fw_async.specs.declared.packet.Packet.{Packet}
 use Rattle.fw_async.specs.declared.packet.Packet.TheVariants.{LockReply}
 use Rattle.fw_csr.specs.declared.reply.Reply.{Reply}
-use Rattle.fw_csr.specs.declared.request.Swap.{Swap}
+use Rattle.fw_words.specs.declared.swap.Swap.{Swap}
 use Rattle.fw_entry.specs.declared.entry.Entry.TheVariants.{Async}
 use Rattle.fw_entry.specs.declared.entry.ResetEntry.{ResetEntry}
 use Rattle.fw_entry.specs.declared.nodes.NodeRow.{NodeRow}
@@ -33,7 +33,8 @@ use Rattle.fw_cmp.specs.declared.job.Job.{Job}
 use Rattle.fw_cmp.specs.declared.stage.Stage.{Stage}
 use Rattle.fw_cmp.specs.declared.stage.Stage.TheVariants.{SwapChannels, SwapBandwidth, ConnectOutput, OverlayOutput, ConnectInput, LeaveInput, LeaveOutput, RaiseBandwidth, RestoreChannel}
 use Rattle.fw_cmp.specs.Fits.{StageFits}
-use Rattle.fw_cmp.specs.Requests.{offset_of, swap_bytes, swap_of}
+use Rattle.fw_cmp.specs.Requests.{offset_of, swap_of}
+use Rattle.fw_words.specs.Swaps.{swap_bytes}
 use Rattle.fw_step.specs.InStep.{Others, HalfStep, IsRegister}
 use Rattle.fw_step.specs.Moves.{move_of, after_move, carried_out}
 use Rattle.fw_step.proofs.Holdings.{move_keeps}

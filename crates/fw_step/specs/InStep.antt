@@ -1,7 +1,7 @@
 -- A job at a stage, in step with the account.
 use Rattle.std.specs.Prelude.{ℕ, ◌+◌, ◌≡◌, ◌<◌, ◌&&◌, ◌||◌, ◌⊎◌, Bool, true, false, Option, Some, None, is_some, IsTrue, IsFalse, ⊤}
 use Rattle.fw_base.specs.declared.plug.PlugAt.{PlugAt}
-use Rattle.fw_csr.specs.declared.request.Swap.{Swap}
+use Rattle.fw_words.specs.declared.swap.Swap.{Swap}
 use Rattle.fw_csr.specs.declared.reply.Reply.{Reply}
 use Rattle.fw_plug.specs.Words.{Settings, units_of, is_connected}
 use Rattle.fw_account.specs.Account.{Account}

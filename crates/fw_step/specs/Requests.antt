@@ -7,7 +7,7 @@ use Rattle.fw_async.specs.declared.packet.Packet.TheVariants.{ReadQuadlet, ReadQ
 use Rattle.fw_base.specs.declared.label.Label.TheVariants.{Procedure}
 use Rattle.fw_base.specs.Labels.{label_code}
 use Rattle.fw_csr.specs.declared.reply.Reply.{Reply}
-use Rattle.fw_csr.specs.declared.request.Swap.{Swap}
+use Rattle.fw_words.specs.declared.swap.Swap.{Swap}
 use Rattle.fw_entry.specs.declared.entry.ResetEntry.{ResetEntry}
 use Rattle.fw_entry.specs.declared.nodes.NodeRow.{NodeRow}
 use Rattle.fw_account.specs.Account.{Account, Operation, Reads, Locks, Request}
@@ -24,7 +24,8 @@ use Rattle.fw_cmp.specs.declared.request.Target.TheVariants.{OutputPlug, InputPl
 use Rattle.fw_cmp.specs.declared.outcome.Next.{Next}
 use Rattle.fw_cmp.specs.declared.outcome.Next.TheVariants.{Send}
 use Rattle.fw_csr.specs.declared.request.Request.{Request as CsrRequest}
-use Rattle.fw_cmp.specs.Requests.{offset_of, swap_bytes, access_of, addressee_of, request_of}
+use Rattle.fw_cmp.specs.Requests.{offset_of, access_of, addressee_of, request_of}
+use Rattle.fw_words.specs.Swaps.{swap_bytes}
 
 -- ---- nodes
 

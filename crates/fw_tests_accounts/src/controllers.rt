@@ -1,14 +1,16 @@
 //! A controller's procedures, answer by answer: what it sends, and how its jobs end.
 
+mod orders;
 mod steps;
 
 use fw_base::PlugAt;
 use fw_cmp::{Outcome, StartFault};
-use steps::Order::{Broadcast, Connect, Listen};
+use orders::Order::{Broadcast, Connect, Listen};
+use orders::{FIRST, SECOND};
 use steps::Step::{
     self, Breaks, Ends, Exchanges, Hears, Loses, Reads, Resets, Rests, SecondOver, Starts, Waits,
 };
-use steps::{FIRST, Row, SECOND, takes};
+use steps::{Row, takes};
 
 /// A first connection of device 0's output to device 1's input at overhead_ID 8, on channel 0.
 const MAKES: [Row; 8] = [

@@ -1,6 +1,6 @@
 //! Logs of whole sessions, read in pieces and written again, and what of them is passed over.
 
-ghost use Rattle.std.specs.Prelude.{◌≡◌, ◌<◌, ◌+◌, ◌^◌, length, OnOk};
+ghost use Rattle.std.specs.Prelude.{◌≡◌, ◌<◌, ◌+◌, ◌^◌, length};
 ghost use Rattle.fw_log.specs.Reader.{total};
 
 use crate::logs::{

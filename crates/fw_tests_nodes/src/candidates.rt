@@ -1,7 +1,8 @@
 //! Bids of a candidate: one an epoch, which ends by what was found.
 
-use fw_csr::{BUS_MANAGER_ID, Reply, Swap};
+use fw_csr::{BUS_MANAGER_ID, Reply};
 use fw_manager::{Bid, Candidate};
+use fw_words::Swap;
 use std::test::Fail;
 
 /// What a turn came to: the words of the swap, or how the bid ended.

@@ -1,5 +1,5 @@
 -- The line of an entry is ASCII, and so it is text.
-use Rattle.std.proofs.Common.{◌≡◌, ℕ, zero, suc, ◌*◌, ◌/◌, ◌%◌, ◌-◌, ◌^◌, ◌≤◌, ◌<◌, ◌==◌, ◌&&◌, nat_lt, Bool, true, false, List, [], ◌∷◌, ◌++◌, length, flat_map, codes, decimal, Option, Some, None, get_or, if◌then◌else◌, IfSome, IsTrue, refl, arith}
+use Rattle.std.proofs.Common.{◌≡◌, ℕ, zero, suc, ◌*◌, ◌/◌, ◌%◌, ◌^◌, ◌≤◌, ◌<◌, ◌==◌, ◌&&◌, nat_lt, Bool, true, false, List, [], ◌∷◌, ◌++◌, length, flat_map, map, codes, decimal, Option, Some, None, if◌then◌else◌, IfSome, refl, arith}
 use Rattle.std.proofs.lemmas.Bool.Decides.{nat_tests}
 use Rattle.std.proofs.lemmas.Fmt.{IsAscii-decimal}
 use Rattle.std.proofs.lemmas.Str.{IsAscii-append, IsUtf8-from_ascii}
@@ -13,7 +13,9 @@ use Rattle.fw_async.specs.declared.packet.Packet.{Packet}
 use Rattle.fw_async.specs.declared.packet.Packet.TheVariants.{WriteQuadlet, WriteBlock, WriteReply, ReadQuadlet, ReadBlock, ReadQuadletReply, ReadBlockReply, CycleStart, Lock, LockReply}
 use Rattle.fw_cip.specs.Iso.{Fits as IsoFits, data_length}
 use Rattle.fw_cip.specs.declared.packet.IsoPacket.{IsoPacket}
-use Rattle.fw_entry.specs.Log.{Fits, ResetFits, EventFits, OutcomeFits, ShownFits, is_event}
+use Rattle.fw_entry.specs.Log.{Fits, ResetFits, EventFits, OutcomeFits, ShownFits}
+use Rattle.fw_entry.specs.Rows.{event_form, has_tape, may_have}
+use Rattle.fw_entry.proofs.RowLaws.{small_system}
 use Rattle.fw_entry.specs.declared.entry.ResetEntry.{ResetEntry}
 use Rattle.fw_entry.specs.declared.entry.EventEntry.{EventEntry}
 use Rattle.fw_entry.specs.declared.entry.OutcomeEntry.{OutcomeEntry}
@@ -21,8 +23,9 @@ use Rattle.fw_entry.specs.declared.entry.ShownEntry.{ShownEntry}
 use Rattle.fw_entry.specs.declared.entry.Entry.{Entry}
 use Rattle.fw_entry.specs.declared.entry.Entry.TheVariants.{Reset, Async as AsyncEntry, Iso as IsoEntry, Event, Outcome, Shown, End}
 use Rattle.fw_entry.specs.declared.entry.Timed.{Timed}
-use Rattle.fw_text.specs.Names.{packet_name, event_names, event_name, outcome_names, outcome_name}
-use Rattle.fw_text.specs.Line.{hex, quadlet_text, first_quadlets, quadlets_text, id_text, manager_text, reset_text, packet_text, iso_text, device_text, tape_text, event_text, outcome_text, offset_text, shown_text, what_text, entry_line}
+use Rattle.fw_names.specs.Names.{EventWords, event_words, event_word, event_name, outcome_names, name_in, outcome_name}
+use Rattle.fw_text.specs.Names.{packet_name}
+use Rattle.fw_text.specs.Line.{hex, quadlet_text, first_quadlets, quadlets_text, id_text, manager_text, reset_text, packet_text, iso_text, name_text, device_text, tape_text, event_text, outcome_text, offset_text, shown_text, what_text, entry_line}
 
 abbrev plain : List ℕ → Bool
 plain [] = true
@@ -59,10 +62,25 @@ bytes_by (b ∷ bs) e (suc i) = bytes_by bs (both_right (nat_lt b 128) (plain bs
 word : (bs : List ℕ) → plain bs ≡ true → Plain bs
 word bs e = record { all = bytes_by bs e }
 
-name_at : (names : List (List ℕ)) → all_plain names ≡ true → (i : ℕ) → Plain (get_or names i [])
-name_at [] e i = nothing
-name_at (n ∷ ns) e zero = word n (both_left (plain n) (all_plain ns) e)
-name_at (n ∷ ns) e (suc i) = name_at ns (both_right (plain n) (all_plain ns) e) i
+-- the names in a table are ASCII
+event_at : (rows : List EventWords) → all_plain (map (λ (r : EventWords). r.name) rows) ≡ true → (code : ℕ)
+    → Plain (name_text (event_word (λ (r : EventWords). r.name) rows code))
+event_at [] e code = nothing
+event_at (r ∷ rows) e code =
+    let names : List (List ℕ) = map (λ (w : EventWords). w.name) rows in
+    elim (code == r.code) as (λ b. Plain (name_text (if b then Some r.name else event_word (λ (w : EventWords). w.name) rows code))) [
+      | true ↦ word r.name (both_left (plain r.name) (all_plain names) e)
+      | false ↦ event_at rows (both_right (plain r.name) (all_plain names) e) code
+    ]
+
+outcome_at : (rows : List (ℕ × List ℕ)) → all_plain (map (λ (r : ℕ × List ℕ). r.1) rows) ≡ true → (code : ℕ) → Plain (name_text (name_in rows code))
+outcome_at [] e code = nothing
+outcome_at (r ∷ rows) e code =
+    let names : List (List ℕ) = map (λ (w : ℕ × List ℕ). w.1) rows in
+    elim (code == r.0) as (λ b. Plain (name_text (if b then Some r.1 else name_in rows code))) [
+      | true ↦ word r.1 (both_left (plain r.1) (all_plain names) e)
+      | false ↦ outcome_at rows (both_right (plain r.1) (all_plain names) e) code
+    ]
 
 two : (xs ys : List ℕ) → Plain xs → Plain ys → Plain (xs ++ ys)
 two xs ys a b = record { all = IsAscii-append xs ys a.all b.all }
@@ -151,7 +169,7 @@ device d h = by (d == 255)
     by false = part d (omega (arith, h))
 
 tape : (e : EventEntry) → e.tape < 2 ^ 16 → e.system < 2 ^ 16 → Plain (tape_text e)
-tape e t s = by (e.code == 4)
+tape e t s = by (has_tape (event_form e.code))
   where
     by : (b : Bool) → Plain (if b then codes " " ++ decimal e.tape ++ codes " " ++ decimal e.system else [])
     by true = count _ e.system (omega (arith, s)) (say _ (codes " ") refl (part e.tape (omega (arith, t))))
@@ -159,12 +177,12 @@ tape e t s = by (e.code == 4)
 
 event : (e : EventEntry) → EventFits e → e.system < 2 ^ 16 → Plain (event_text e)
 event e f s =
-    let a = two (codes "event ") (event_name e.code) (word (codes "event ") refl) (name_at event_names refl (e.code - 1)) in
+    let a = two (codes "event ") (name_text (event_name e.code)) (word (codes "event ") refl) (event_at event_words refl e.code) in
     two _ (tape_text e) (two _ (device_text e.device) a (device e.device f.device)) (tape e f.tape s)
 
 outcome : (o : OutcomeEntry) → OutcomeFits o → Plain (outcome_text o)
 outcome o f =
-    let a = two (codes "outcome ") (outcome_name o.code) (word (codes "outcome ") refl) (name_at outcome_names refl (o.code - 1)) in
+    let a = two (codes "outcome ") (name_text (outcome_name o.code)) (word (codes "outcome ") refl) (outcome_at outcome_names refl o.code) in
     let b = count _ o.device (omega (arith, f.device)) (say _ (codes " ") refl a) in
     two _ (quadlet_text o.value) (count _ o.slot (omega (arith, f.slot)) (say _ (codes " ") refl b)) (quadlet o.value)
 
@@ -173,14 +191,11 @@ shown s f =
     let a = count (codes "shown ") s.device (omega (arith, f.device)) (word (codes "shown ") refl) in
     two _ (quadlet_text s.word) (two _ (offset_text s.offset) a (two (codes " ") (hex 3 s.offset) (word (codes " ") refl) (digits 3 s.offset))) (quadlet s.word)
 
-system_small : (code device tape system : ℕ) → IsTrue (is_event code device tape system) → system < 2 ^ 16
-system_small code device tape system h = grind (arith, nat_tests)
-
 what : (e : Entry) → Fits e → Plain (what_text e)
 what (Reset r) f = reset r f
 what (AsyncEntry p) f = packet p
 what (IsoEntry p) f = iso p f
-what (Event e) f = event e f (system_small e.code e.device e.tape e.system f.shape)
+what (Event e) f = event e f (small_system (may_have (event_form e.code) e.device) (has_tape (event_form e.code)) e.tape e.system f.shape)
 what (Outcome o) f = outcome o f
 what (Shown s) f = shown s f
 what End f = word (codes "end") refl

@@ -6,3 +6,4 @@ pub mod PacketLaws
 pub mod RowLaws
 pub mod ResetLaws
 pub mod LengthLaws
+pub mod NameLaws

@@ -15,7 +15,10 @@ use Rattle.fw_entry.specs.declared.entry.ShownEntry.{ShownEntry}
 use Rattle.fw_entry.specs.declared.entry.Entry.{Entry}
 use Rattle.fw_entry.specs.declared.entry.Entry.TheVariants.{Reset, Async as AsyncEntry, Iso as IsoEntry, Event, Outcome, Shown, End}
 use Rattle.fw_entry.specs.declared.entry.Timed.{Timed}
-use Rattle.fw_text.specs.Names.{packet_name, event_name, outcome_name}
+use Rattle.fw_entry.specs.declared.codes.TheConstants.{NO_DEVICE}
+use Rattle.fw_entry.specs.Rows.{event_form, has_tape}
+use Rattle.fw_names.specs.Names.{event_name, outcome_name}
+use Rattle.fw_text.specs.Names.{packet_name}
 
 -- a number in so many lower-case hexadecimal digits
 unfoldable pub hex : ℕ → ℕ → List ℕ
@@ -57,21 +60,26 @@ packet_text p = codes "async " ++ packet_name p ++ quadlets_text (Async.spelling
 abbrev pub iso_text : IsoPacket → List ℕ
 iso_text p = codes "iso " ++ decimal p.channel ++ codes " " ++ decimal (data_length p.block) ++ codes " " ++ decimal p.cip.dbc
 
+-- the name that a table has, or nothing where it has none
+abbrev pub name_text : Option (List ℕ) → List ℕ
+name_text None = []
+name_text (Some name) = name
+
 -- the device of an event, where it has one
 abbrev pub device_text : ℕ → List ℕ
-device_text device = if device == 255 then [] else codes " " ++ decimal device
+device_text device = if device == NO_DEVICE then [] else codes " " ++ decimal device
 
 -- the tape and the system that are inserted
 abbrev pub tape_text : EventEntry → List ℕ
-tape_text e = if e.code == 4 then codes " " ++ decimal e.tape ++ codes " " ++ decimal e.system else []
+tape_text e = if has_tape (event_form e.code) then codes " " ++ decimal e.tape ++ codes " " ++ decimal e.system else []
 
 -- an event: its name, device and tape
 abbrev pub event_text : EventEntry → List ℕ
-event_text e = codes "event " ++ event_name e.code ++ device_text e.device ++ tape_text e
+event_text e = codes "event " ++ name_text (event_name e.code) ++ device_text e.device ++ tape_text e
 
 -- an outcome: its name, device, slot and value
 abbrev pub outcome_text : OutcomeEntry → List ℕ
-outcome_text o = codes "outcome " ++ outcome_name o.code ++ codes " " ++ decimal o.device ++ codes " " ++ decimal o.slot ++ quadlet_text o.value
+outcome_text o = codes "outcome " ++ name_text (outcome_name o.code) ++ codes " " ++ decimal o.device ++ codes " " ++ decimal o.slot ++ quadlet_text o.value
 
 -- the offset of a shown word: a space, and its three digits
 abbrev pub offset_text : ℕ → List ℕ

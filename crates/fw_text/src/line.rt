@@ -1,20 +1,22 @@
 //! What the line of an entry says behind its cycle.
 
-ghost use Rattle.std.specs.Prelude.{◌≡◌, ◌++◌, OnOk, codes, decimal};
+ghost use Rattle.std.specs.Prelude.{◌≡◌, ◌++◌, OnOk, codes, decimal, IsTrue};
+ghost use Rattle.std.specs.Option.{is_some, option_copied};
 ghost use Rattle.fw_async.specs.Async as Packets;
 ghost use Rattle.fw_cip.specs.Iso.{data_length};
 ghost use Rattle.fw_entry.specs.Log.{Fits, EventFits, OutcomeFits, ShownFits, body};
-ghost use Rattle.fw_text.specs.Line.{packet_text, iso_text, device_text, tape_text, event_text, outcome_text, shown_text, what_text};
+ghost use Rattle.fw_text.specs.Line.{packet_text, iso_text, name_text, device_text, tape_text, event_text, outcome_text, shown_text, what_text};
 
-use crate::names::{event_name, outcome_name, packet_name};
+use crate::names::packet_name;
 use crate::quadlets::{put_number, put_offset, put_quadlet, put_quadlets, put_small, put_word};
 use crate::resets::put_reset;
 use crate::tables::Tables;
 use crate::text_room::TextRoom;
 use fw_async::Packet;
 use fw_cip::IsoPacket;
-use fw_entry::codes::{NO_DEVICE, event};
-use fw_entry::{Entry, EventEntry, OutcomeEntry, ShownEntry};
+use fw_entry::codes::NO_DEVICE;
+use fw_entry::{Entry, EventEntry, OutcomeEntry, ShownEntry, has_tape};
+use fw_names::{event_name, outcome_name};
 use std::alloc::AllocError;
 
 // The quadlets of a packet are those of its entry's body.
@@ -59,6 +61,17 @@ pub(crate) fn put_iso(text: &mut TextRoom, tables: &Tables, p: &IsoPacket) -> Re
     put_small(text, &tables.numbers, p.cip.dbc)
 }
 
+// Appends the name that a table has.
+fn put_name(text: &mut TextRoom, name: Option<&str>) -> Result<(), AllocError>
+    requires { IsTrue (is_some (option_copied name)) }
+    ensures { OnOk result (text.new ≡ text.old ++ name_text (option_copied name.entry)) }
+{
+    match name {
+        Some(name) => put_word(text, name),
+        None => unreachable!(),
+    }
+}
+
 fn put_device(text: &mut TextRoom, tables: &Tables, device: u8) -> Result<(), AllocError>
     ensures { OnOk result (text.new ≡ text.old ++ device_text device) }
 {
@@ -71,7 +84,7 @@ fn put_device(text: &mut TextRoom, tables: &Tables, device: u8) -> Result<(), Al
 fn put_tape(text: &mut TextRoom, tables: &Tables, e: &EventEntry) -> Result<(), AllocError>
     ensures { OnOk result (text.new ≡ text.old ++ tape_text e.now) }
 {
-    if e.code != event::INSERTED {
+    if !has_tape(e.code) {
         return Ok(());
     }
     put_part(text, tables, u64::from(e.tape))?;
@@ -83,7 +96,7 @@ fn put_event(text: &mut TextRoom, tables: &Tables, e: &EventEntry) -> Result<(),
     ensures { OnOk result (text.new ≡ text.old ++ event_text e.now) }
 {
     put_word(text, "event ")?;
-    put_word(text, event_name(e.code))?;
+    put_name(text, event_name(e.code))?;
     put_device(text, tables, e.device)?;
     put_tape(text, tables, e)
 }
@@ -93,7 +106,7 @@ fn put_outcome(text: &mut TextRoom, tables: &Tables, o: &OutcomeEntry) -> Result
     ensures { OnOk result (text.new ≡ text.old ++ outcome_text o.now) }
 {
     put_word(text, "outcome ")?;
-    put_word(text, outcome_name(o.code))?;
+    put_name(text, outcome_name(o.code))?;
     put_part(text, tables, u64::from(o.device))?;
     put_part(text, tables, u64::from(o.slot))?;
     put_quadlet(text, &tables.pairs, o.value)

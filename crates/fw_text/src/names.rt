@@ -1,13 +1,12 @@
-//! The names of packets, events and outcomes.
+//! The names of packets.
 
-ghost use Rattle.std.specs.Prelude.{◌≡◌, ◌≤◌, ◌++◌, codes};
+ghost use Rattle.std.specs.Prelude.{◌≡◌, ◌++◌, codes};
 ghost use Rattle.fw_async.specs.declared.packet.Packet.{Packet as APacket};
 ghost use Rattle.fw_names.specs.Names.{tcode};
-ghost use Rattle.fw_text.specs.Names.{packet_name, event_name, outcome_name};
+ghost use Rattle.fw_text.specs.Names.{packet_name};
 
 use crate::rows::Row;
 use fw_async::Packet;
-use fw_entry::codes::{event, outcome};
 
 // The name of a packet's transaction code.
 pub(crate) fn packet_name(p: &Packet) -> &'static str
@@ -42,48 +41,5 @@ pub(crate) fn word_by_code(code: u32) -> Row<'static>
         8 => Row::new(b"async cycle-start       ", 17),
         9 => Row::new(b"async lock              ", 10),
         _ => Row::new(b"async lock-reply        ", 16),
-    }
-}
-
-// The name of an event's code.
-pub(crate) fn event_name(code: u8) -> &'static str
-    requires low { 1 ≤ code }
-    requires high { code ≤ 11 }
-    ensures { result.now ≡ event_name code }
-{
-    match code {
-        event::SECOND_OVER => "second-over",
-        event::DIED => "died",
-        event::STARTED => "started",
-        event::INSERTED => "inserted",
-        event::EJECTED => "ejected",
-        event::UNSETTLED => "unsettled",
-        event::LOST => "lost",
-        event::WITHHELD => "withheld",
-        event::ELECTED => "elected",
-        event::DEFEATED => "defeated",
-        _ => "dubbing",
-    }
-}
-
-// The name of an outcome's code.
-pub(crate) fn outcome_name(code: u8) -> &'static str
-    requires low { 1 ≤ code }
-    requires high { code ≤ 12 }
-    ensures { result.now ≡ outcome_name code }
-{
-    match code {
-        outcome::CONNECTED => "connected",
-        outcome::BROKEN => "broken",
-        outcome::RESTORED => "restored",
-        outcome::NO_CHANNEL => "no-channel",
-        outcome::NO_UNITS => "no-units",
-        outcome::PLUG_FULL => "plug-full",
-        outcome::INPUT_BUSY => "input-busy",
-        outcome::NO_PLUG => "no-plug",
-        outcome::NO_MANAGER => "no-manager",
-        outcome::ABSENT => "absent",
-        outcome::RESET => "reset",
-        _ => "late",
     }
 }

@@ -1,6 +1,6 @@
 //! The decimal digits of small numbers.
 
-ghost use Rattle.std.specs.Prelude.{◌≡◌, ◌≤◌, ◌<◌, decimal, take};
+ghost use Rattle.std.specs.Prelude.{◌≡◌, ◌≤◌, decimal, take};
 ghost use Rattle.fw_text.specs.Digits.{IsNumbers};
 
 use itoa::Buffer;

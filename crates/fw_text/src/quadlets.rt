@@ -1,8 +1,7 @@
 //! Words, numbers and quadlets as text.
 
-ghost use Rattle.std.specs.Prelude.{◌≡◌, ◌++◌, ◌≤◌, ◌*◌, OnOk, flat_map, length, decimal};
-ghost use Rattle.std.specs.List.{All};
-ghost use Rattle.fw_phy.specs.Phy.{Fits as PhyFits, spelling};
+ghost use Rattle.std.specs.Prelude.{◌≡◌, ◌++◌, ◌*◌, OnOk, flat_map, decimal};
+ghost use Rattle.fw_phy.specs.Phy.{spelling};
 ghost use Rattle.fw_text.specs.Line.{quadlet_text, quadlets_text, offset_text, id_text};
 
 use crate::numbers::Numbers;

@@ -1,6 +1,6 @@
 //! The report of a log's streams.
 
-ghost use Rattle.std.specs.Prelude.{ℕ, ◌≡◌, ◌+◌, ◌-◌, ◌^◌, ◌<◌, ◌≤◌, ◌++◌, ◌∷◌, [], List, length, IfOk, OnOk, string_bytes};
+ghost use Rattle.std.specs.Prelude.{◌≡◌, ◌+◌, ◌-◌, ◌^◌, ◌<◌, ◌≤◌, ◌++◌, ◌∷◌, [], List, length, IfOk, OnOk, string_bytes};
 ghost use Rattle.fw_cip.specs.Iso.{Fits as IsoFits};
 ghost use Rattle.fw_cip.specs.declared.packet.IsoPacket.{IsoPacket};
 ghost use Rattle.fw_entry.specs.Log.{Fits};

@@ -1,6 +1,6 @@
 //! The line of a bus reset.
 
-ghost use Rattle.std.specs.Prelude.{◌≡◌, ◌<◌, ◌++◌, Option, ℕ, IfSome, OnOk, codes, decimal, flat_map};
+ghost use Rattle.std.specs.Prelude.{◌≡◌, ◌<◌, ◌++◌, Option, ℕ, IfSome, OnOk, flat_map};
 ghost use Rattle.fw_phy.specs.Phy as Phy;
 ghost use Rattle.fw_entry.specs.Log.{ResetFits, body, manager_byte};
 ghost use Rattle.fw_entry.specs.declared.entry.Entry.TheVariants as Entries;

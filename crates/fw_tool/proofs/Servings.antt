@@ -1,5 +1,5 @@
 -- What the last flush makes of an ending.
-use Rattle.std.proofs.Common.{◌≡◌, ◌≢◌, ◌≤◌, ◌⊎◌, ◌+◌, ◌-◌, ◌^◌, inl, inr, ℕ, List, [], Option, Some, None, Result, Ok, Err, OnOk, OnErr, ap, sym, subst, ◌∙◌, arith}
+use Rattle.std.proofs.Common.{◌≡◌, ◌≢◌, ◌⊎◌, inl, inr, ℕ, List, [], Option, Some, None, Result, Ok, Err, OnOk, OnErr, sym, subst, ◌∙◌, arith}
 use Rattle.fw_outside.specs.Outside.{Rose}
 use Rattle.fw_outside.specs.Stops.{WriteCount}
 use Rattle.fw_outside.specs.declared.stop.Stop.{Stop}

@@ -1,5 +1,5 @@
 -- Laws of what was seen.
-use Rattle.std.proofs.Common.{◌≡◌, ◌⊎◌, inl, inr, ℕ, zero, suc, ◌<◌, List, [], ◌∷◌, length, Bool, true, false, IsTrue, slice_index_or, replicate, slice_set, Option, Some, None, IfSome, arith, refl, ap, sym, subst, ◌∙◌, get_or-set_other}
+use Rattle.std.proofs.Common.{◌≡◌, ◌⊎◌, inl, inr, ℕ, zero, suc, ◌<◌, List, [], ◌∷◌, length, Bool, true, false, IsTrue, slice_index_or, replicate, slice_set, Option, Some, None, IfSome, arith, refl, sym, subst, ◌∙◌, get_or-set_other}
 use Rattle.std.proofs.lemmas.Grind.{common_steps}
 use Rattle.std.proofs.lemmas.Bool.{cases_eq}
 use Rattle.fw_tree.specs.declared.facts.End.{End}
@@ -14,12 +14,6 @@ seen_keeps xs e d h = grind (arith, common_steps)
 
 pub seen_from : (xs : List Bool) (e d : ℕ) → IsTrue (is_seen (slice_set xs e true) d) → IsTrue (is_seen xs d) ⊎ (d ≡ e)
 seen_from xs e d h = elim (cases_eq d e) [ inl same ↦ inr same | inr differ ↦ inl (sym (get_or-set_other xs e d true false differ) ∙ h) ]
-
--- a device that was seen already changes nothing, and a new one leaves fewer
-pub set_seen : (xs : List Bool) (e : ℕ) → IsTrue (is_seen xs e) → slice_set xs e true ≡ xs
-set_seen [] e h = refl
-set_seen (x ∷ xs) zero h = ap (λ b. b ∷ xs) (sym h)
-set_seen (x ∷ xs) (suc e) h = ap (λ t. x ∷ t) (set_seen xs e h)
 
 pub unseen_set : (xs : List Bool) (e : ℕ) → e < length xs → is_seen xs e ≡ false → unseen (slice_set xs e true) < unseen xs
 unseen_set [] e h f = absurd (omega arith)

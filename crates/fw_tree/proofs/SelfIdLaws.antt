@@ -38,9 +38,6 @@ shorter_than fs m d h = grind (arith, common_steps)
 
 -- ---- another initiator
 
-first_begun : (f : PhyFacts) (cables : List (Option End)) (parent : Option ℕ) (phy n : ℕ) (b : Bool) → begun_by n (first_packet f cables parent phy b) ≡ first_packet f cables parent phy (phy == n)
-first_begun f cables parent phy n b = refl
-
 further_begun : (f : PhyFacts) (cables : List (Option End)) (parent : Option ℕ) (phy number n : ℕ) → map (begun_by n) (further_packet f cables parent phy number) ≡ further_packet f cables parent phy number
 further_begun f cables parent phy number n = of_test (nat_lt (first_port number) f.ports)
   where

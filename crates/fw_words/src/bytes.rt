@@ -1,4 +1,4 @@
-ghost use Rattle.std.specs.Prelude.{◌≡◌, ◌<◌, ◌≤◌, ◌+◌, ◌-◌, [], ◌∷◌, ◌++◌, length, take};
+ghost use Rattle.std.specs.Prelude.{◌≡◌, ◌<◌, ◌≤◌, ◌+◌, ◌-◌, [], ◌∷◌, ◌++◌, ℕ, length, slice_index, take};
 
 use arrayvec::ArrayVec;
 use std::marker::Model;
@@ -7,6 +7,14 @@ use std::marker::Model;
 #[derive(Clone, Debug, PartialEq, Eq, Drop)]
 pub struct Bytes<const N: usize> {
     bytes: ArrayVec<u8, N>,
+}
+
+/// What the type of a slice says of its items: nothing is done.
+#[inline(always)]
+pub fn are_bytes(bytes: &[u8])
+    ensures { (i : ℕ) → slice_index bytes.now i < 256 }
+{
+    let _ = bytes;
 }
 
 /// The data of a block: at most 512 bytes.

@@ -6,7 +6,7 @@ ghost use Rattle.fw_async.specs.Reader.{Spells};
 ghost use Rattle.fw_async.specs.declared.packet.Packet.{Packet as RequestPacket};
 ghost use Rattle.fw_base.specs.Devices.{has_link};
 ghost use Rattle.fw_csr.specs.declared.request.Request.TheVariants.{Read};
-ghost use Rattle.fw_node.specs.Packets.{IsAnswer, IsRequest, IsServed, request_in, response_of};
+ghost use Rattle.fw_node.specs.Packets.{IsRequest, IsServed, request_in, response_of};
 ghost use Rattle.fw_node.specs.Space.{answer_of};
 ghost use Rattle.fw_node.specs.State.{after_request, after_second, space_of};
 ghost use Rattle.fw_devices.specs.Network.{node_at};

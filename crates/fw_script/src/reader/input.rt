@@ -1,9 +1,9 @@
 //! The bytes of a script, taken from their source.
 
-ghost use Rattle.std.specs.Prelude.{◌≡◌, ◌≢◌, ◌≤◌, ◌+◌, ◌++◌, ◌==◌, length, true, OnOk, OnErr, Err, vec_len, vec_capacity};
+ghost use Rattle.std.specs.Prelude.{◌≡◌, ◌≤◌, ◌+◌, ◌++◌, ◌==◌, length, OnOk, OnErr, Err, vec_len, vec_capacity};
 ghost use Rattle.fw_outside.specs.Outside.{Rose};
 ghost use Rattle.fw_script.specs.Reader.{IsOpen, IsCut, Fills};
-ghost use Rattle.fw_script.specs.Reading.{with_taken, at_stage};
+ghost use Rattle.fw_script.specs.Reading.{with_taken};
 
 use super::ScriptReader;
 use crate::ScriptFault;

@@ -1,6 +1,6 @@
 //! Buses that are built, and what is asserted of them.
 
-ghost use Rattle.std.specs.Prelude.{◌≡◌, ◌<◌, ◌≤◌, ◌+◌, ℕ, length};
+ghost use Rattle.std.specs.Prelude.{◌≡◌, ◌<◌, ◌+◌, ℕ};
 ghost use Rattle.fw_tree.specs.Cables.{IsOnBus};
 
 use fw_base::DeviceKind;

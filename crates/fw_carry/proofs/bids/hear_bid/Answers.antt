@@ -3,7 +3,7 @@ use Rattle.std.proofs.lemmas.Option.{same_Some}
 use Rattle.fw_entry.specs.declared.entry.Entry.TheVariants.{Async}
 use Rattle.fw_manager.specs.Bids.{CandidateState, is_asked}
 use Rattle.fw_run.specs.Actions.{Contend}
-use Rattle.fw_carry.specs.Doings.{Turns}
+use Rattle.fw_carry.specs.Performing.{TakesAction}
 use Rattle.fw_carry.proofs.Bidding.{hears_turns, manager_number, seat}
 use Rattle.fw_carry.proofs.BidNodes.{bid_outstanding, bid_packet, bidder_within, own_there, served_complete, standing_asked}
 use Rattle.fw_carry.proofs.bids.hear_bid.Goals as goal
@@ -75,7 +75,7 @@ returns-clause-takes g c =
     served.registers c.hear.ensures in
     record {
       entry = Some (Async found.packet);
-      turns = subst (λ w. Turns (Contend d) m (record m { half_steps = m.half_steps + 1; devices = c.serve-manager.new.devices; candidates = c.hear.new.self; bids = w }) m.cycle (Some (Async found.packet))) (sym served.rest) turns;
+      turns = subst (λ w. TakesAction (Contend d) m (record m { half_steps = m.half_steps + 1; devices = c.serve-manager.new.devices; candidates = c.hear.new.self; bids = w }) m.cycle (Some (Async found.packet))) (sym served.rest) turns;
       gives = c.give_packet.ensures.bytes found.packet found.spells;
       faults = c.give_packet.ensures.faults;
     }

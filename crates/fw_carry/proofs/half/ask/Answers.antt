@@ -8,7 +8,7 @@ use Rattle.fw_cmp.specs.declared.outcome.Next.{Next}
 use Rattle.fw_cmp.specs.Turns.{addressee_in}
 use Rattle.fw_step.specs.Requests.{is_sent}
 use Rattle.fw_run.specs.HalfSteps.{half, said}
-use Rattle.fw_carry.specs.Doings.{Takes}
+use Rattle.fw_carry.specs.Performing.{TakesHalf}
 use Rattle.fw_carry.proofs.Doings.{no_faults}
 use Rattle.fw_carry.proofs.HalfTurns.{IsSilent, takes_asks, rests_says, node_numbers}
 use Rattle.fw_carry.proofs.ResetTurns.{ready_cycle}
@@ -77,7 +77,7 @@ returns-in-Send-clause-speaks g c =
     let m = c.args.machine.now in
     record {
       entry = Some (Async p);
-      takes = subst (λ (w : Pairs). Takes half m (record m { controllers = c.next.new.self; wire = w }) c.args.device (Some (Async p))) (sym c.send.ensures.wire) (sends_takes x);
+      takes = subst (λ (w : Pairs). TakesHalf half m (record m { controllers = c.next.new.self; wire = w }) c.args.device (Some (Async p))) (sym c.send.ensures.wire) (sends_takes x);
       gives = c.give_packet.ensures.bytes p c.send.ensures.packet;
       faults = c.give_packet.ensures.faults;
     }

@@ -1,5 +1,5 @@
 use Rattle.std.proofs.Common.{subst}
-use Rattle.fw_run.specs.Giving.{Gives}
+use Rattle.fw_run.specs.Giving.{GivesEntry}
 use Rattle.fw_carry.proofs.Doings.{does_one}
 use Rattle.fw_carry.proofs.LifeTurns.{carry_turns}
 use Rattle.fw_carry.proofs.lives.carry_request.Goals as goal
@@ -9,5 +9,5 @@ returns-clause-does g c =
     let x = c.hear.ensures.speaks in
     does_one c.args.machine.now.cycle x.entry c.hear.result
     (carry_turns c.args.machine.now c.hear.new.machine c.args.device x.entry c.requires.living c.requires.standing x.takes)
-    (subst (λ k. Gives (g.K.Sink.held c.args.sink.now) (g.K.Sink.held c.hear.new.sink) c.hear.result k c.hear.new.machine.devices.epoch x.entry) c.hear.ensures.time x.gives)
+    (subst (λ k. GivesEntry (g.K.Sink.held c.args.sink.now) (g.K.Sink.held c.hear.new.sink) c.hear.result k c.hear.new.machine.devices.epoch x.entry) c.hear.ensures.time x.gives)
     x.faults

@@ -2,7 +2,7 @@
 use Rattle.std.proofs.Common.{subst}
 use Rattle.std.specs.Prelude.{Some}
 use Rattle.fw_entry.specs.declared.entry.Entry.TheVariants.{Reset}
-use Rattle.fw_run.specs.Giving.{Gives}
+use Rattle.fw_run.specs.Giving.{GivesEntry}
 use Rattle.fw_carry.proofs.ResetTurns.{same_cycle}
 use Rattle.fw_carry.proofs.reset.give_reset.Goals as goal
 
@@ -13,6 +13,6 @@ returns g c =
     let gives = rw c.latest.ensures at c.give.ensures.bytes in
     record {
       begins = c.begin_reset.ensures.begins;
-      gives = subst (λ n. Gives (g.K.Sink.held c.args.sink.now) (g.K.Sink.held c.give.new.sink) c.give.result n now.devices.epoch (Some (Reset now.devices.latest))) same gives;
+      gives = subst (λ n. GivesEntry (g.K.Sink.held c.args.sink.now) (g.K.Sink.held c.give.new.sink) c.give.result n now.devices.epoch (Some (Reset now.devices.latest))) same gives;
       faults = c.give.ensures.faults;
     }

@@ -1,31 +1,7 @@
-use Rattle.std.proofs.Common.{false, ap, ◌∙◌, ◌+◌, map}
-use Rattle.fw_devices.specs.Network.{Network}
-use Rattle.fw_devices.specs.Decks.{passed}
-use Rattle.fw_machine.specs.Streaming.{counted_on}
-use Rattle.fw_machine.proofs.DeckNodes.{rested_may_pass}
-use Rattle.fw_carry.proofs.SecondTurns.{second_turns}
-use Rattle.fw_carry.proofs.Doings.{does_one}
+use Rattle.fw_carry.proofs.SecondTurns.{second_given}
 use Rattle.fw_carry.proofs.second.end_second.Goals as goal
-
-pub pass-requires : goal.pass-requires
-pass-requires g c = rested_may_pass c.second_over.new.self c.requires.ready c.requires.few c.second_over.ensures
-
-pub returns-clause-rests : goal.returns-clause-rests
-returns-clause-rests g c =
-    let devices = c.pass.ensures.tapes ∙ ap (λ (n : Network). record n { nodes = map (passed 1) n.nodes }) c.second_over.ensures in
-    let streams = c.pass.ensures.counts ∙ ap (λ (n : Network). counted_on 1 n.nodes c.args.machine.now.streams) c.second_over.ensures in
-    record {
-      table = c.second_over-2.ensures;
-      after = λ i. record c.args.machine.now {
-        devices = devices i;
-        controllers = c.second_over-2.new.self;
-        cycle = c.args.machine.now.cycle + 1;
-        reclaiming = false;
-        streams = streams i;
-      };
-    }
 
 pub returns-clause-does : goal.returns-clause-does
 returns-clause-does g c =
-    let gives = rw c.second_over-3.ensures.value at c.give.ensures.bytes in
-    does_one _ _ _ (second_turns _ _ c.requires.runs c.requires.now c.requires.few (returns-clause-rests g c)) gives c.give.ensures.faults
+    let gives = rw c.second_over.ensures.value at c.give.ensures.bytes in
+    second_given _ _ _ c.requires.runs c.requires.now c.requires.few c.pass_second.ensures gives c.give.ensures.faults

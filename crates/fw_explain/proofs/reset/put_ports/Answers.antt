@@ -1,4 +1,4 @@
-use Rattle.std.proofs.Common.{◌≡◌, ◌++◌, ◌+◌, ◌∙◌, ap, sym, append_assoc, slice_index, List, ℕ}
+use Rattle.std.proofs.Common.{◌++◌, ◌+◌, ◌∙◌, ap, sym, append_assoc, slice_index, List, ℕ}
 use Rattle.std.proofs.lemmas.List.{append-nil}
 use Rattle.fw_explain.specs.Lines.{first_ports, port_text}
 use Rattle.fw_explain.proofs.LoopLaws.{no_ports, next_port}

@@ -1,4 +1,5 @@
 use Rattle.std.proofs.Common.{ap, ℕ, ◌+◌, codes}
+use Rattle.fw_csr.specs.declared.offset.TheConstants.{REGISTER_SPACE}
 use Rattle.fw_names.specs.Texts.{hex}
 use Rattle.fw_json.specs.Values.{field, quoted}
 use Rattle.std.proofs.lemmas.Result.{on_ok_weaker}
@@ -7,5 +8,5 @@ use Rattle.fw_json.proofs.entry.put_shown.Goals as goal
 
 pub returns : goal.returns
 returns c =
-    let t2 = then _ _ _ _ _ (counted _ _ _ _ _ c.from.ensures c.in_ok-put_count.ensures) (moved (λ (n : ℕ). field (codes ",\"offset\":") (quoted (hex 12 n))) _ _ _ _ (ap (λ (k : ℕ). 281474708275200 + k) c.from-2.ensures) c.in_ok-put_twelve.ensures) in
+    let t2 = then _ _ _ _ _ (counted _ _ _ _ _ c.from.ensures c.in_ok-put_count.ensures) (moved (λ (n : ℕ). field (codes ",\"offset\":") (quoted (hex 12 n))) _ _ _ _ (ap (λ (k : ℕ). REGISTER_SPACE + k) c.from-2.ensures) c.in_ok-put_twelve.ensures) in
     on_ok_weaker c.put_eight.result (λ piece. then _ _ _ _ _ t2 piece) c.put_eight.ensures

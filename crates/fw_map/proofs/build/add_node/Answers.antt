@@ -8,7 +8,6 @@ use Rattle.fw_map.specs.Growing.{Grown, is_open}
 use Rattle.fw_map.proofs.OrderLaws.{grown}
 use Rattle.fw_map.proofs.NodeLaws.{agrees_like, due_of, joining_next}
 use Rattle.fw_map.proofs.build.add_node.Goals as goal
-use Rattle.fw_map.proofs.build.add_node.Goals.{Then-count-due, Then-not-take_children, After-from-2}
 
 few : (s n : ℕ) → s ≡ n → n ≤ 63 → s ≤ 63
 few s n e l = omega arith

@@ -10,7 +10,7 @@ use Rattle.fw_map.proofs.OrderLaws.{grown, root_last}
 use Rattle.fw_map.proofs.NodeLaws.{joining_first, agrees_first}
 use Rattle.fw_map.proofs.RebuildLaws.{answered, joining_is, last_is, left_is, root_is, no_fault, left_over, none_over, not_left, same_tree}
 use Rattle.fw_map.proofs.build.rebuild.Goals as goal
-use Rattle.fw_map.proofs.build.rebuild.Goals.{In-Err, Then-is_some, Then-e-last, Else-e-last}
+use Rattle.fw_map.proofs.build.rebuild.Goals.{Else-e-last}
 
 few : (s n : ℕ) → s ≡ n → n ≤ 63 → s ≤ 63
 few s n e l = omega arith

@@ -5,7 +5,7 @@ use Rattle.fw_map.specs.Fields.{field_of, fields}
 use Rattle.fw_map.specs.Growing.{Agrees, Grown, Counts}
 use Rattle.fw_map.proofs.JoinLaws.{joined_of, rest_of, first_taken, none_grown, none_counts, none_agrees, missing, missing_none, some_closed, some_taken, some_counts, some_grown, some_agrees, all_grown, all_agrees, enough, all_counts, IsJoined}
 use Rattle.fw_map.proofs.build.take_children.Goals as goal
-use Rattle.fw_map.proofs.build.take_children.Goals.{After-join, In-None, Else-fields-from-eq-CHILD, After-loop-port}
+use Rattle.fw_map.proofs.build.take_children.Goals.{In-None, After-loop-port}
 
 -- the field of a port, in the row of the node
 row_at : (row : List ℕ) (ids : List PhyPacket) (i p k : ℕ) → 0 < p → p ≤ 27 → k ≡ p - 1 → ((q : ℕ) → q < 27 → slice_index row q ≡ field_of ids i q) → slice_index row k ≡ field_of ids i (p - 1)

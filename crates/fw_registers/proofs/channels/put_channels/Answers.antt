@@ -1,4 +1,4 @@
-use Rattle.std.proofs.Common.{◌≡◌, ◌++◌, ◌∙◌, ap, sym, append_assoc, List, ℕ}
+use Rattle.std.proofs.Common.{◌++◌, ◌∙◌, ap, sym, append_assoc, List, ℕ}
 use Rattle.std.proofs.lemmas.List.{append-nil}
 use Rattle.fw_registers.specs.Words.{first_channels, channel_text}
 use Rattle.fw_registers.proofs.ChannelLaws.{none, next}

@@ -1,21 +1,52 @@
-use Rattle.std.proofs.Common.{sym, ◌∙◌}
-use Rattle.fw_script.proofs.KeywordLaws.{by_three, by_four, by_five, by_six, by_seven, by_nine}
+use Rattle.std.proofs.Common.{codes, arith, rules}
+use Rattle.fw_script.specs.Keyword.{keyword_in}
+use Rattle.fw_script.proofs.WordLaws.{by_bytes}
 use Rattle.fw_script.proofs.keyword.keyword_of.Goals as goal
 
-pub returns-in-3 : goal.returns-in-3
-returns-in-3 c = c.of_three.ensures ∙ sym (by_three c.args.word.now c.in-3.is)
+pub returns-in-device : goal.returns-in-device
+returns-in-device c = by_bytes keyword_in c.args.word.now (codes "device") (omega arith) (search rules)
 
-pub returns-in-4 : goal.returns-in-4
-returns-in-4 c = c.of_four.ensures ∙ sym (by_four c.args.word.now c.in-4.is)
+pub returns-in-cable : goal.returns-in-cable
+returns-in-cable c = by_bytes keyword_in c.args.word.now (codes "cable") (omega arith) (search rules)
 
-pub returns-in-5 : goal.returns-in-5
-returns-in-5 c = c.of_five.ensures ∙ sym (by_five c.args.word.now c.in-5.is)
+pub returns-in-reset : goal.returns-in-reset
+returns-in-reset c = by_bytes keyword_in c.args.word.now (codes "reset") (omega arith) (search rules)
 
-pub returns-in-6 : goal.returns-in-6
-returns-in-6 c = c.of_six.ensures ∙ sym (by_six c.args.word.now c.in-6.is)
+pub returns-in-connect : goal.returns-in-connect
+returns-in-connect c = by_bytes keyword_in c.args.word.now (codes "connect") (omega arith) (search rules)
 
-pub returns-in-7 : goal.returns-in-7
-returns-in-7 c = c.of_seven.ensures ∙ sym (by_seven c.args.word.now c.in-7.is)
+pub returns-in-broadcast : goal.returns-in-broadcast
+returns-in-broadcast c = by_bytes keyword_in c.args.word.now (codes "broadcast") (omega arith) (search rules)
 
-pub returns-in-9 : goal.returns-in-9
-returns-in-9 c = c.of_nine.ensures ∙ sym (by_nine c.args.word.now c.in-9.is)
+pub returns-in-listen : goal.returns-in-listen
+returns-in-listen c = by_bytes keyword_in c.args.word.now (codes "listen") (omega arith) (search rules)
+
+pub returns-in-break : goal.returns-in-break
+returns-in-break c = by_bytes keyword_in c.args.word.now (codes "break") (omega arith) (search rules)
+
+pub returns-in-settle : goal.returns-in-settle
+returns-in-settle c = by_bytes keyword_in c.args.word.now (codes "settle") (omega arith) (search rules)
+
+pub returns-in-cycles : goal.returns-in-cycles
+returns-in-cycles c = by_bytes keyword_in c.args.word.now (codes "cycles") (omega arith) (search rules)
+
+pub returns-in-start : goal.returns-in-start
+returns-in-start c = by_bytes keyword_in c.args.word.now (codes "start") (omega arith) (search rules)
+
+pub returns-in-command : goal.returns-in-command
+returns-in-command c = by_bytes keyword_in c.args.word.now (codes "command") (omega arith) (search rules)
+
+pub returns-in-insert : goal.returns-in-insert
+returns-in-insert c = by_bytes keyword_in c.args.word.now (codes "insert") (omega arith) (search rules)
+
+pub returns-in-eject : goal.returns-in-eject
+returns-in-eject c = by_bytes keyword_in c.args.word.now (codes "eject") (omega arith) (search rules)
+
+pub returns-in-withhold : goal.returns-in-withhold
+returns-in-withhold c = by_bytes keyword_in c.args.word.now (codes "withhold") (omega arith) (search rules)
+
+pub returns-in-candidate : goal.returns-in-candidate
+returns-in-candidate c = by_bytes keyword_in c.args.word.now (codes "candidate") (omega arith) (search rules)
+
+pub returns-in-contend : goal.returns-in-contend
+returns-in-contend c = by_bytes keyword_in c.args.word.now (codes "contend") (omega arith) (search rules)

@@ -1,4 +1,4 @@
-use Rattle.std.proofs.Common.{List, ℕ, [], ◌++◌, Some, refl, subst, ◌∙◌, rules}
+use Rattle.std.proofs.Common.{ℕ, [], ◌++◌, Some, refl, subst, ◌∙◌, rules}
 use Rattle.fw_run.specs.Desks.{DeskRelations}
 use Rattle.fw_simulate.specs.Counts.{ReadCount}
 use Rattle.fw_simulate.proofs.Dubbings.{recording_first, recorded_ends, reads_in_memory}

@@ -6,7 +6,7 @@ use Rattle.fw_devices.specs.Network.{is_node, node_at}
 use Rattle.fw_run.specs.State.{State}
 use Rattle.fw_run.specs.Good.{IsGood}
 use Rattle.fw_machine.specs.declared.machine.Machine.{Machine}
-use Rattle.fw_bus.specs.Buses.{Standing, Lends}
+use Rattle.fw_bus.specs.Buses.{Standing, LendsNode}
 use Rattle.fw_machine.specs.Lingering.{HasLingering}
 use Rattle.fw_machine.specs.Stands.{HasNodes, StandsFor}
 use Rattle.fw_bus.proofs.Runs.{run_good}
@@ -14,9 +14,9 @@ use Rattle.fw_bus.proofs.Lends.{lends_none, lends_some}
 use Rattle.fw_bus.proofs.bus.Bus.node.Goals as goal
 
 lent_of : (s : State) (nodes : List NodeState) (d : ℕ) (o : Option (Bor NodeState)) → IsGood s → HasNodes nodes s → HasLingering nodes s
-    → IfNone o (is_node nodes d ≡ false) → IfSome o (λ n. (n.now ≡ node_at nodes d) × (is_node nodes d ≡ true)) → Lends s d (option_map (λ (n : Bor NodeState). n.now) o)
+    → IfNone o (is_node nodes d ≡ false) → IfSome o (λ n. (n.now ≡ node_at nodes d) × (is_node nodes d ≡ true)) → LendsNode s d (option_map (λ (n : Bor NodeState). n.now) o)
 lent_of s nodes d None g h lingers none some = lends_none s nodes d g h lingers none
-lent_of s nodes d (Some n) g h lingers none some = let P : NodeState → Type 0 = λ x. Lends s d (Some x) in subst P (sym some.0) (lends_some s nodes d g h lingers some.1)
+lent_of s nodes d (Some n) g h lingers none some = let P : NodeState → Type 0 = λ x. LendsNode s d (Some x) in subst P (sym some.0) (lends_some s nodes d g h lingers some.1)
 
 pub returns : goal.returns
 returns c = record {

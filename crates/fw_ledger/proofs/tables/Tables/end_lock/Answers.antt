@@ -12,7 +12,7 @@ end-requires-in-Swap-clause-stands c =
     let h = c.requires.stands.1 in
     let x = c.in-Swap in
     follows_stand true c.args.self.now c.swap_at.new.self l
-    (account_after c.args.c (register_of l.latest x.target x.address) (λ r. move_at l c.args.c r x.argument x.new) l) h (c.if-not-swap_at.ensures l h)
+    (account_after c.args.c (register_of l.latest x.target x.address) (λ r. move_at l c.args.c r x.swap.argument x.swap.new) l) h (c.if-not-swap_at.ensures l h)
 
 pub returns-else-not-swap_at : goal.returns-else-not-swap_at
 returns-else-not-swap_at c = λ l h.
@@ -20,6 +20,5 @@ returns-else-not-swap_at c = λ l h.
     let same : x.target ≡ c.args.source = search rules in
     let two : c.args.function ≡ 2 = search rules in
     let shown : c.shows_argument.result ≡ true = search rules in
-    swap_ended c.args.self.now c.swap_at.new.self c.end-in-Swap.new.self l c.args.c c.args.source c.args.function c.args.rcode x.target x.address x.argument
-    x.new c.args.old.now (x.ensures l h) same two
+    swap_ended c.args.self.now c.swap_at.new.self c.end-in-Swap.new.self l c.args.c c.args.source c.args.function c.args.rcode x.target x.address x.swap c.args.old.now (x.ensures l h) same two
     (sym c.shows_argument.ensures ∙ shown) (c.if-not-swap_at.ensures l h) c.end-in-Swap.ensures

@@ -1,4 +1,0 @@
-use Rattle.fw_tests_accounts.proofs.controllers.steps.listens.Goals as goal
-
-pub returns : goal.returns
-returns c = c.start_listen.ensures.goes_on c.args.d.now c.requires.reached
