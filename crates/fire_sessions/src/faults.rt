@@ -40,6 +40,25 @@ impl<'a> Row<'a> {
             None => Some(pieces.saturating_sub(1)),
         }
     }
+
+    /// Whether no write ends behind so many pieces of the output: the entries of a line `cycles` are one write. `given` has the ends
+    /// of the input's pieces.
+    fn is_within_a_write(&self, input: &[u8], given: &[usize], pieces: usize) -> bool {
+        for (line, start) in given.iter().enumerate() {
+            let before = self.written(line);
+            let behind = self.written(line.saturating_add(1));
+            let (Some(before), Some(behind)) = (before, behind) else {
+                return false;
+            };
+            let is_cycles = input
+                .get(*start..)
+                .is_some_and(|text| text.starts_with(b"cycles "));
+            if is_cycles && before < pieces && pieces < behind {
+                return true;
+            }
+        }
+        false
+    }
 }
 
 /// The ends of none of the pieces, of the first, and so on.
@@ -135,10 +154,14 @@ fn writes_fail(
     input: &[u8],
     output: &[u8],
 ) -> Result<bool, AllocError> {
+    let given = ends_of(alloc, row.input, input)?;
     let mut write: u32 = 0;
-    for end in ends_of(alloc, row.output, output)? {
-        if end == output.len() {
+    for (pieces, end) in ends_of(alloc, row.output, output)?.iter().enumerate() {
+        if *end == output.len() {
             break;
+        }
+        if row.is_within_a_write(input, &given, pieces) {
+            continue;
         }
         write = write.saturating_add(1);
         let mut source = Drops {
@@ -151,7 +174,7 @@ fn writes_fail(
         let failing = Failing { writes, ..NONE };
         let ended = call(alloc, row.word, &mut source, output.len(), failing)?;
         if !output
-            .get(..end)
+            .get(..*end)
             .is_some_and(|due| ended.is(6, "write fault", due))
         {
             return Ok(false);
