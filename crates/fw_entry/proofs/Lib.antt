@@ -2,3 +2,4 @@ pub mod SizeLaws
 pub mod WriteLaws
 pub mod LogLaws
 pub mod RowLaws
+mod TableLaws

@@ -9,25 +9,25 @@ use Rattle.fw_entry.specs.declared.rows.EventForm.{EventForm}
 use Rattle.fw_entry.specs.declared.rows.OutcomeForm.{OutcomeForm}
 use Rattle.fw_entry.specs.declared.rows.TheConstants.{EVENTS, OUTCOMES}
 
--- all codes have 8 bits
-abbrev all_small : {F : Type 0} → List (ℕ × F) → Bool
-all_small [] = true
-all_small (r ∷ rows) = nat_lt r.0 256 && all_small rows
+-- all codes are below a number
+abbrev pub all_below : {F : Type 0} → ℕ → List (ℕ × F) → Bool
+all_below m [] = true
+all_below m (r ∷ rows) = nat_lt r.0 m && all_below m rows
 
 small_one : (n code : ℕ) (b : Bool) → (n == code) ≡ true → (nat_lt n 256 && b) ≡ true → code < 256
 small_one n code b e h = grind (arith, nat_tests)
 
-small_rest : (a b : Bool) → (a && b) ≡ true → b ≡ true
-small_rest true b e = e
-small_rest false b e = cc e
+pub rest_below : (a b : Bool) → (a && b) ≡ true → b ≡ true
+rest_below true b e = e
+rest_below false b e = cc e
 
-small_in : {F : Type 0} (rows : List (ℕ × F)) (code : ℕ) → all_small rows ≡ true → is_some (find (λ (r : ℕ × F). r.0 == code) rows) ≡ true → code < 256
+small_in : {F : Type 0} (rows : List (ℕ × F)) (code : ℕ) → all_below 256 rows ≡ true → is_some (find (λ (r : ℕ × F). r.0 == code) rows) ≡ true → code < 256
 small_in [] code e h = cc h
 small_in {F} (r ∷ rows) code e h =
     let Found : Bool → Type 0 = λ b. (r.0 == code) ≡ b → is_some (if b then Some r else find (λ (x : ℕ × F). x.0 == code) rows) ≡ true → code < 256 in
     (elim (r.0 == code) as Found [
-      | true ↦ λ same some. small_one r.0 code (all_small rows) same e
-      | false ↦ λ other some. small_in rows code (small_rest (nat_lt r.0 256) (all_small rows) e) some
+      | true ↦ λ same some. small_one r.0 code (all_below 256 rows) same e
+      | false ↦ λ other some. small_in rows code (rest_below (nat_lt r.0 256) (all_below 256 rows) e) some
     ]) refl h
 
 some_event : (o : Option (ℕ × EventForm)) (device : ℕ) (b : Bool) → IsTrue (may_have (option_map (λ (r : ℕ × EventForm). r.1) o) device && b) → is_some o ≡ true

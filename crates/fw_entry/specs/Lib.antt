@@ -1,3 +1,4 @@
 pub mod Rows
 pub mod Log
 pub mod Network
+pub mod Laws

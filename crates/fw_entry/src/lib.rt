@@ -9,6 +9,7 @@
 pub mod codes;
 mod entry;
 mod entry_room;
+mod laws;
 mod nodes;
 mod room;
 mod rows;
@@ -20,6 +21,7 @@ pub use entry::{
     BorrowedReset, Entry, EventEntry, OutcomeEntry, ResetEntry, ShownEntry, Timed, epoch_after,
 };
 pub use entry_room::EntryRoom;
+pub use laws::codes_say_what_entries_have;
 pub use nodes::{NodeList, NodeRow};
 pub use room::CycleRoom;
 pub use rows::{
