@@ -1,4 +1,4 @@
-ghost use Rattle.std.specs.Prelude.{◌≡◌, ◌≤◌, ◌+◌, [], ◌++◌, length, IsTrue};
+ghost use Rattle.std.specs.Prelude.{◌≡◌, ◌≤◌, ◌+◌, [], ◌++◌, length, nat_le, IsTrue};
 ghost use Rattle.fw_cip.specs.Iso.{Fits};
 ghost use Rattle.fw_entry.specs.Log.{TimedFits, entry_bytes, epoch_after};
 ghost use Rattle.fw_entry.specs.declared.entry.Entry.TheVariants.{Iso};
@@ -60,9 +60,10 @@ impl CycleRoom {
         self.length = 0;
     }
 
-    /// Whether the entries of one cycle more fit: two of any kind and 64 packets.
+    /// Whether at most 65,536 bytes are held. The entries of one cycle more fit then: two of any kind and 64 packets.
     pub fn has_room(&self) -> bool
-        ensures { IsTrue result → length self.now + 37096 ≤ 102632 }
+        ensures few { result ≡ nat_le (length self.now) 65536 }
+        ensures room { IsTrue result → length self.now + 37096 ≤ 102632 }
     {
         self.length <= FULL
     }
