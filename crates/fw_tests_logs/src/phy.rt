@@ -153,7 +153,7 @@ const RESERVED: [(u32, u8); 12] = [
 ];
 
 fn is_refused(bytes: &[u8], fault: PhyFault) -> bool {
-    read_phy(bytes) == Err(fault)
+    read_phy(bytes).err() == Some(fault)
 }
 
 #[test]

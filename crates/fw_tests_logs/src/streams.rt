@@ -1,7 +1,8 @@
 //! Packets in both directions, bytes that are none, and the two ends of a stream.
 //!
 //! The first packets are those that a camcorder writes as node 0 on channel 0, 525-60, in an implementation of the same
-//! rules that shares no code with this one. The others were laid out by hand.
+//! rules that shares no code with this one. The others were laid out by hand. What the packets say is told by the session `each_kind`
+//! of `fire_sessions`.
 
 use arrayvec::ArrayVec;
 use fw_cip::{Block, CipHeader, Heard, IsoFault, IsoPacket, Listener, Talker, read_iso, write_iso};
@@ -31,44 +32,21 @@ const FIRST: CipHeader = CipHeader {
     fdf: 0xFFFF,
 };
 
-// Every field has bits that differ from its neighbours'.
-const ALL_FIELDS: CipHeader = CipHeader {
-    sid: 0x15,
-    dbs: 0x81,
-    fraction: 2,
-    qpc: 5,
-    sph: true,
-    dbc: 0xFE,
-    fmt: 0x2A,
-    fdf: 0x12_3456,
-};
-
-// The first quadlets of packets; the channel, sy and the CIP header; whether a block of bytes 7 stands behind them.
-const PACKETS: [([u32; 3], u8, u8, CipHeader, bool); 3] = [
-    ([0x0008_40A0, 0x0078_0000, 0x8000_FFFF], 0, 0, FIRST, false),
-    (
-        [0x01E8_40A0, 0x0078_000D, 0x8000_FFFF],
-        0,
-        0,
-        CipHeader { dbc: 13, ..FIRST },
-        true,
-    ),
-    (
-        [0x0008_6AA9, 0x1581_ACFE, 0xAA12_3456],
-        0x2A,
-        9,
-        ALL_FIELDS,
-        false,
-    ),
+// The first quadlets of packets, and how many bytes 7 stand behind them. Every field of the last has bits that differ from its
+// neighbours'.
+const PACKETS: [([u32; 3], usize); 3] = [
+    ([0x0008_40A0, 0x0078_0000, 0x8000_FFFF], 0),
+    ([0x01E8_40A0, 0x0078_000D, 0x8000_FFFF], 480),
+    ([0x0008_6AA9, 0x1581_ACFE, 0xAA12_3456], 0),
 ];
 
-// Whether the bytes are read as the packet, and what is read is written as the bytes.
-fn are_both_ways(bytes: &[u8], packet: &IsoPacket) -> bool {
+// Whether the bytes are read as a packet, which is written as the bytes.
+fn are_both_ways(bytes: &[u8]) -> bool {
     match read_iso(bytes) {
-        Ok(read) => {
+        Ok(packet) => {
             let mut out = ArrayVec::new();
-            write_iso(&read, &mut out);
-            read == *packet && out.as_slice() == bytes
+            write_iso(&packet, &mut out);
+            out.as_slice() == bytes
         }
         Err(_) => false,
     }
@@ -76,15 +54,9 @@ fn are_both_ways(bytes: &[u8], packet: &IsoPacket) -> bool {
 
 #[test]
 fn packets_both_ways(rt: HostRuntime) {
-    for (words, channel, sy, cip, full) in &PACKETS {
-        let packet = IsoPacket {
-            channel: *channel,
-            sy: *sy,
-            cip: *cip,
-            block: full.then_some(Block::new(&BLOCK)),
-        };
-        let bytes = bytes_of(words, if *full { 480 } else { 0 });
-        assert!(rt; are_both_ways(bytes.as_slice(), &packet));
+    for &(words, more) in &PACKETS {
+        let bytes = bytes_of(&words, more);
+        assert!(rt; are_both_ways(bytes.as_slice()));
     }
 }
 

@@ -103,7 +103,7 @@ fn sends(
             let sent = (node, request.parts());
             assert!(rt; sent == (to, (REGISTER_SPACE + u64::from(offset), swap)));
         }
-        other => panic!(rt; "{other:?} at {offset:X}"),
+        _ => panic!(rt; "no request at {offset:X}"),
     }
 }
 
@@ -179,7 +179,7 @@ fn ends(rt: &impl Abort, c: &mut Controller, d: &Directory, slot: u8, outcome: O
             slot: of,
             outcome: found,
         } => assert!(rt; (of, found) == (slot, outcome)),
-        other => panic!(rt; "{other:?} in place of {outcome:?}"),
+        _ => panic!(rt; "the job of slot {slot} goes on"),
     }
 }
 

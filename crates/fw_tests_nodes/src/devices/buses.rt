@@ -69,7 +69,7 @@ pub fn connect(rt: &impl Abort, devices: &mut Devices, a: Port, b: Port)
     assert!(rt; first.device < devices.count());
     match devices.check_cable(first, second) {
         Ok(()) => {}
-        Err(fault) => panic!(rt; "{fault} at {a:?}, {b:?}"),
+        Err(fault) => panic!(rt; "{fault} at port {} of device {}", a.1, a.0),
     }
     devices.join(first, second);
     reset(rt, devices, first.device);

@@ -88,6 +88,24 @@ fn answer(rt: &impl Abort, devices: &mut Devices, device: u8, packet: &Packet) -
     devices.answer(device, 0, packet)
 }
 
+/// Whether a packet is the response, which shows 4915 units.
+fn is_response(packet: &Packet) -> bool {
+    matches!(
+        packet,
+        Packet::ReadQuadletReply {
+            head: Head {
+                destination: 0xFFC1,
+                tl: 5,
+                rt: 1,
+                pri: 0,
+                source: 0xFFC3,
+            },
+            rcode: 0,
+            value: 4915,
+        }
+    )
+}
+
 fn read(rt: &impl Abort, devices: &Devices, device: u8, offset: u64) -> Reply {
     assert!(rt; device < devices.count());
     assert!(rt; devices.number(device).is_some());
@@ -100,18 +118,7 @@ fn nodes_answer(rt: HostRuntime) -> Result<(), Fail> {
     connect_first(&rt, &mut devices, 0, (1, 0));
     connect_first(&rt, &mut devices, 1, (2, 0));
     connect(&rt, &mut devices, (2, 1), (3, 0));
-    let response = Packet::ReadQuadletReply {
-        head: Head {
-            destination: 0xFFC1,
-            tl: 5,
-            rt: 1,
-            pri: 0,
-            source: 0xFFC3,
-        },
-        rcode: 0,
-        value: 4915,
-    };
-    assert!(rt; answer(&rt, &mut devices, 2, &REQUEST) == response);
+    assert!(rt; is_response(&answer(&rt, &mut devices, 2, &REQUEST)));
     assert!(rt; read(&rt, &devices, 2, BANDWIDTH_AVAILABLE) == Reply::complete(4915));
     assert!(rt; read(&rt, &devices, 0, BANDWIDTH_AVAILABLE) == Reply::address_error());
     assert!(rt; read(&rt, &devices, 2, OPCR) == Reply::complete(0x803F_007A));
