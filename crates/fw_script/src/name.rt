@@ -7,7 +7,6 @@ ghost use Rattle.std.specs.Cmp.{partial_equiv_from_equiv};
 ghost use Rattle.fw_script.specs.Words.{name_in};
 
 use crate::words::name;
-use std::fmt;
 use std::marker::Model;
 
 /// A device's name: 1 to 16 of a to z and 0 to 9, the first a letter, and none of `manager`, `any` and `late`.
@@ -95,10 +94,4 @@ impl PartialEq for Name {
 
 impl Eq for Name {
     ghost laws = { nat_list_eq_equiv };
-}
-
-impl fmt::Debug for Name {
-    fn fmt<W: fmt::Write>(&self, f: &mut fmt::Formatter<W>) -> fmt::Result {
-        f.debug_tuple("Name").field(&self.as_slice()).finish()
-    }
 }
