@@ -34,7 +34,7 @@ pub use writer::{packet_length, write_packet, write_packet_at};
 
 /// Why bytes are no packet. The variants that one quadlet can show are tested in this order, and each comes as
 /// soon as the quadlet that shows it has been read; `BadPadding` as soon as its byte has.
-#[derive(Clone, Copy, Debug, PartialEq, Eq)]
+#[derive(Clone, Copy, PartialEq, Eq)]
 pub enum PacketFault {
     /// The transaction code in quadlet 0 is none of `Packet`.
     UnknownTcode,

@@ -1,7 +1,7 @@
 use fw_words::{Bytes8, Bytes16, Data};
 
 /// What each packet begins with.
-#[derive(Clone, Copy, Debug, PartialEq, Eq)]
+#[derive(Clone, Copy)]
 pub struct Head {
     /// destination_ID: bus and node, 16 bits.
     pub destination: u16,
@@ -18,7 +18,7 @@ pub struct Head {
 /// A packet. An `offset` is a destination_offset of 48 bits, an `rcode` a response code of 4 bits. The `bytes` of
 /// a lock are its argument (where it has one) and then its data value; those of a lock response the old value. The
 /// data of a block lies elsewhere, so that a packet is a few words, whatever it carries.
-#[derive(Debug, PartialEq, Eq, Drop)]
+#[derive(Drop)]
 pub enum Packet<'a> {
     /// Write request for data quadlet, tcode 0.
     WriteQuadlet {

@@ -1,6 +1,4 @@
-ghost use Rattle.std.specs.Prelude.{◌≡◌, length, nat_eq};
-ghost use Rattle.std.specs.Cmp.Lexicographic.{pointwise, nat_list_eq_equiv};
-ghost use Rattle.std.specs.Cmp.{partial_equiv_from_equiv};
+ghost use Rattle.std.specs.Prelude.{◌≡◌, length};
 ghost use Rattle.fw_cip.specs.Iso.{IsBlock};
 
 use std::marker::Model;
@@ -39,18 +37,4 @@ impl<'a> Block<'a> {
     {
         self.bytes
     }
-}
-
-impl<'a> PartialEq for Block<'a> {
-    ghost eq = { λ x y. pointwise nat_eq x y };
-
-    ghost laws = { partial_equiv_from_equiv nat_list_eq_equiv };
-
-    fn eq(&self, other: &Self) -> bool {
-        self.bytes == other.bytes
-    }
-}
-
-impl<'a> Eq for Block<'a> {
-    ghost laws = { nat_list_eq_equiv };
 }

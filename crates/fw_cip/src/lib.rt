@@ -22,7 +22,7 @@ pub use talker::Talker;
 pub use write::{heads_of, iso_length, write_iso};
 
 /// Why bytes are no isochronous packet, in the order of the tests.
-#[derive(Clone, Copy, Debug, PartialEq, Eq)]
+#[derive(Clone, Copy, PartialEq, Eq)]
 pub enum IsoFault {
     /// Fewer than twelve bytes are there.
     Short,

@@ -6,7 +6,7 @@ use crate::IsoPacket;
 use std::marker::Model;
 
 /// What a packet is to a listener.
-#[derive(Clone, Copy, Debug, PartialEq, Eq)]
+#[derive(Clone, Copy, PartialEq, Eq)]
 pub enum Heard {
     /// The packet has a block, and its DBC is the expected one or the first.
     Block,

@@ -1,7 +1,7 @@
 use crate::Block;
 
 /// A CIP header (IEC 61883-1).
-#[derive(Clone, Copy, Debug, PartialEq, Eq)]
+#[derive(Clone, Copy, PartialEq, Eq)]
 pub struct CipHeader {
     /// SID, the node number of the sender, 6 bits.
     pub sid: u8,
@@ -23,7 +23,7 @@ pub struct CipHeader {
 
 /// An isochronous packet with a CIP header, with a block of data or without one. The block lies elsewhere, so that a
 /// packet is a few words, whatever it carries.
-#[derive(PartialEq, Eq, Drop)]
+#[derive(Drop)]
 pub struct IsoPacket<'a> {
     /// The isochronous channel, 6 bits.
     pub channel: u8,

@@ -1,7 +1,7 @@
 use fw_csr::QuadletAccess;
 
 /// How a job ends.
-#[derive(Clone, Copy, Debug, PartialEq, Eq)]
+#[derive(Clone, Copy, PartialEq, Eq)]
 pub enum Outcome {
     /// The connection stands on this channel.
     Connected(u8),
@@ -31,7 +31,7 @@ pub enum Outcome {
 }
 
 /// What a controller does next.
-#[derive(Debug, Drop)]
+#[derive(Drop)]
 pub enum Next {
     /// Its request goes to the node with this number.
     Send { to: u8, request: QuadletAccess },
@@ -48,7 +48,7 @@ pub enum Next {
 }
 
 /// Why a job is refused.
-#[derive(Clone, Copy, Debug, PartialEq, Eq)]
+#[derive(Clone, Copy, PartialEq, Eq)]
 pub enum StartFault {
     /// All 32 slots are in use.
     TableFull,

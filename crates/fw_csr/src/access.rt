@@ -6,7 +6,7 @@ use std::marker::Model;
 
 /// A read, or a compare_swap, of the quadlet at an offset. It stands for the request that it is, and is short where a
 /// `Request` is as long as its longest kind.
-#[derive(Debug, Drop)]
+#[derive(Drop)]
 pub struct QuadletAccess {
     offset: u64,
     /// None in a read.

@@ -13,7 +13,7 @@ pub enum ResponseCode {
 }
 
 /// What a register answers.
-#[derive(Clone, Copy, Debug, PartialEq, Eq)]
+#[derive(Clone, Copy, PartialEq, Eq)]
 pub struct Reply {
     /// The number of a `ResponseCode`.
     pub rcode: u8,

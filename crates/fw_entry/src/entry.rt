@@ -8,7 +8,7 @@ use fw_phy::SelfIds;
 use std::marker::Model;
 
 /// A bus reset, and the bus as it is then (own).
-#[derive(PartialEq, Eq, Drop)]
+#[derive(Drop)]
 pub struct ResetEntry {
     /// The number of the reset, from 1.
     pub epoch: u32,
@@ -54,26 +54,8 @@ impl<'a> BorrowedReset<'a> {
     }
 }
 
-impl<'a> PartialEq for BorrowedReset<'a> {
-    ghost use Rattle.fw_entry.specs.contracts.entry.ResetEntryPartialEq.TheImpl.Laws as reset_laws;
-
-    ghost eq = { ⟦<ResetEntry as PartialEq>⟧.eq };
-
-    ghost laws = { reset_laws.lawful.laws };
-
-    fn eq(&self, other: &Self) -> bool {
-        self.entry == other.entry
-    }
-}
-
-impl<'a> Eq for BorrowedReset<'a> {
-    ghost use Rattle.fw_entry.specs.contracts.entry.ResetEntryEq.TheImpl.Laws as reset_laws;
-
-    ghost laws = { reset_laws.lawful.laws };
-}
-
 /// Something that happened on the bus without a packet (own).
-#[derive(Clone, Copy, PartialEq, Eq)]
+#[derive(Clone, Copy)]
 pub struct EventEntry {
     /// One of `codes::event`; the table `EVENTS` has what else the event has by it.
     pub code: u8,
@@ -86,7 +68,7 @@ pub struct EventEntry {
 }
 
 /// How a procedure of a controller ended (own).
-#[derive(Clone, Copy, PartialEq, Eq)]
+#[derive(Clone, Copy)]
 pub struct OutcomeEntry {
     /// One of `codes::outcome`.
     pub code: u8,
@@ -99,7 +81,7 @@ pub struct OutcomeEntry {
 }
 
 /// A word of a register, shown on demand (own).
-#[derive(Clone, Copy, PartialEq, Eq)]
+#[derive(Clone, Copy)]
 pub struct ShownEntry {
     /// The number of the device.
     pub device: u8,
@@ -110,7 +92,7 @@ pub struct ShownEntry {
 }
 
 /// What a log records. What is long lies elsewhere, so that an entry is a few words.
-#[derive(PartialEq, Eq, Drop)]
+#[derive(Drop)]
 pub enum Entry<'a> {
     /// Kind 1.
     Reset(BorrowedReset<'a>),
@@ -129,7 +111,7 @@ pub enum Entry<'a> {
 }
 
 /// An entry, and its cycle.
-#[derive(PartialEq, Eq, Drop)]
+#[derive(Drop)]
 pub struct Timed<'a> {
     /// Isochronous cycles of 125 microseconds since the log began.
     pub cycle: u64,

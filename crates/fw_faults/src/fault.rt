@@ -1,6 +1,6 @@
 /// What is wrong with an entry, in the order of the tests. An ID is that of the node that asked; an offset is counted from
 /// FFFF F000 0000.
-#[derive(Clone, Copy, Debug, PartialEq, Eq)]
+#[derive(Clone, Copy)]
 pub enum AuditFault {
     /// The packet's requester is no node of the latest reset entry.
     NoNode(u16),

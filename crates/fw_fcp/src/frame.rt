@@ -6,7 +6,7 @@ use fw_words::Bytes;
 pub type Operands = Bytes<509>;
 
 /// An AV/C frame, a command or a response (AV/C General 3.0, frames). Its command transaction set is 0.
-#[derive(Clone, Debug, PartialEq, Eq, Drop)]
+#[derive(PartialEq, Eq, Drop)]
 pub struct Frame {
     /// The command type or the response code, 4 bits.
     pub code: u8,

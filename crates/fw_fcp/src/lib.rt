@@ -18,7 +18,7 @@ pub use read::read_frame;
 pub use write::write_frame;
 
 /// Why bytes are no frame, in the order of the tests.
-#[derive(Clone, Copy, Debug, PartialEq, Eq)]
+#[derive(Clone, Copy, PartialEq, Eq)]
 pub enum FrameFault {
     /// Fewer than three bytes are there.
     Short,

@@ -28,7 +28,7 @@ pub use read::{LogFed, LogReader};
 pub use room::Room;
 
 /// Why a body is of no entry of its kind.
-#[derive(Clone, Copy, Debug, PartialEq, Eq)]
+#[derive(Clone, Copy, PartialEq, Eq)]
 pub enum BodyFault {
     /// The first eight bytes behind the nodes of a reset entry that are no PHY packet, or four that are left over.
     Phy(PhyFault),
@@ -41,7 +41,7 @@ pub enum BodyFault {
 }
 
 /// Why bytes are no log, in the order of the tests of each part, but for the last, which comes behind `BadLength`.
-#[derive(Clone, Copy, Debug, PartialEq, Eq)]
+#[derive(Clone, Copy, PartialEq, Eq)]
 pub enum LogWhy {
     /// A byte follows the end entry; the place is that byte's.
     AfterEnd,
@@ -65,7 +65,7 @@ pub enum LogWhy {
 }
 
 /// Why bytes are no log, and the place of the first byte of what is refused, counted from 0.
-#[derive(Clone, Copy, Debug, PartialEq, Eq)]
+#[derive(Clone, Copy, PartialEq, Eq)]
 pub struct LogFault {
     /// The place of the byte.
     pub place: u64,

@@ -15,7 +15,7 @@ pub use text::tree_text;
 pub use tree::Tree;
 
 /// Why no tree has the packets of a reset, in the order of the tests.
-#[derive(Clone, Copy, Debug, PartialEq, Eq)]
+#[derive(Clone, Copy)]
 pub enum MapWhy {
     /// A node before the last has not exactly one parent port, or the last has one.
     Parents,
@@ -28,7 +28,7 @@ pub enum MapWhy {
 }
 
 /// The first node at which a test fails, and which test.
-#[derive(Clone, Copy, Debug, PartialEq, Eq)]
+#[derive(Clone, Copy)]
 pub struct MapFault {
     /// The number of the node.
     pub node: u8,

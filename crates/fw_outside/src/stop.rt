@@ -1,5 +1,5 @@
 /// Why a call stops before its work is done, whatever it reads.
-#[derive(Clone, Copy, Debug, PartialEq, Eq)]
+#[derive(Clone, Copy)]
 pub enum Stop {
     /// A read failed.
     ReadFault,

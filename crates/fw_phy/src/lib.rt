@@ -15,7 +15,7 @@ pub use self_ids::SelfIds;
 pub use write::write_phy;
 
 /// Why eight bytes are no PHY packet, in the order of the tests.
-#[derive(Clone, Copy, Debug, PartialEq, Eq)]
+#[derive(Clone, Copy, PartialEq, Eq)]
 pub enum PhyFault {
     /// Fewer than eight bytes are there.
     Short,

@@ -1,7 +1,7 @@
 ghost use Rattle.std.specs.Prelude.{◌≡◌};
 
 /// A self-ID packet zero, the first of a node.
-#[derive(Clone, Copy, Debug, PartialEq, Eq)]
+#[derive(Clone, Copy, PartialEq, Eq)]
 pub struct SelfId {
     /// The node's number, 6 bits.
     pub phy: u8,
@@ -26,7 +26,7 @@ pub struct SelfId {
 }
 
 /// An extended self-ID packet, a further one of a node.
-#[derive(Clone, Copy, Debug, PartialEq, Eq)]
+#[derive(Clone, Copy, PartialEq, Eq)]
 pub struct SelfIdMore {
     /// The node's number, 6 bits.
     pub phy: u8,
@@ -39,7 +39,7 @@ pub struct SelfIdMore {
 }
 
 /// A PHY packet (IEEE 1394-1995, PHY packets).
-#[derive(Clone, Copy, Debug, PartialEq, Eq)]
+#[derive(Clone, Copy, PartialEq, Eq)]
 pub enum PhyPacket {
     /// A self-ID packet zero.
     SelfId(SelfId),

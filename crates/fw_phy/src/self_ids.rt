@@ -6,7 +6,7 @@ use arrayvec::ArrayVec;
 use std::marker::Model;
 
 /// At most 252 PHY packets, in order: room for the self-ID packets of 63 nodes.
-#[derive(PartialEq, Eq, Drop)]
+#[derive(Drop)]
 pub struct SelfIds {
     packets: ArrayVec<PhyPacket, 252>,
 }

@@ -2,7 +2,7 @@ use fw_log::LogFault;
 use fw_outside::Stop;
 
 /// How a call that reads a log ends, where R is what a word refuses a log with.
-#[derive(Clone, Copy, Debug, PartialEq, Eq)]
+#[derive(Clone, Copy)]
 pub enum LogEnding<R> {
     /// The input was read to its end and is a log, and all that is due was written.
     Done,

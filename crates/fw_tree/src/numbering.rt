@@ -4,7 +4,7 @@ ghost use Rattle.fw_tree.specs.Numbers.{AreNodes, device_at, has_number, number_
 use crate::PhyFacts;
 
 /// Who is who on the bus. The lists are indexed by device.
-#[derive(Clone, Copy, Debug, PartialEq, Eq)]
+#[derive(Clone, Copy, PartialEq, Eq)]
 pub struct Numbering {
     /// The device that is root.
     pub root: u8,

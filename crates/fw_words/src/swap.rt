@@ -8,7 +8,7 @@ pub const COMPARE_SWAP: u8 = 2;
 
 /// The two quadlets of a quadlet compare_swap, a lock transaction: the register becomes `new` exactly where it equals
 /// `argument`.
-#[derive(Clone, Copy, Debug, PartialEq, Eq)]
+#[derive(Clone, Copy, PartialEq, Eq)]
 pub struct Swap {
     /// arg_value, with which the register is compared.
     pub argument: u32,
