@@ -9,8 +9,8 @@ use Rattle.std.proofs.lemmas.Bool.Decides.{nat_tests}
 use Rattle.std.proofs.lemmas.Option.{same_Some}
 use Rattle.hex.specs.Hex.{decode_pairs, decode_sized, digit_or_error, hex_digit_value, ◌>>=◌}
 use Rattle.hex.specs.declared.error.FromHexError.{FromHexError}
-use Rattle.fw_script.specs.Form.{HasArguments, HasForm}
-use Rattle.fw_script.specs.Words.{both, channel_in, is, is_decimal, name_in, only_if, or_none, number_in, offset_in, place_by, place_in, some_in}
+use Rattle.fw_script.specs.Form.{HasArguments, HasForm, first_by}
+use Rattle.fw_script.specs.Words.{both, channel_in, is, is_decimal, kind_in, speed_in, name_in, only_if, or_none, number_in, offset_in, place_by, place_in, some_in}
 use Rattle.fw_script.specs.Pieces.{pieces}
 use Rattle.fw_script.specs.declared.keyword.Keyword.{Keyword}
 use Rattle.fw_script.specs.declared.keyword.Keyword.TheVariants.{Device, Cable, Reset, Connect, Broadcast, Listen, Break, Step, Settle, Wait, Cycles, Die, Lose, Start, Command as CommandWord, Read, Swap, Insert, Eject, Show, Withhold, Candidate, Contend, Dub, End}
@@ -131,46 +131,71 @@ channel_range w asked e = go (is (codes "any") w) e
     go true e = let P : Option ℕ → Type 0 = λ o. IfSome o (λ ch. ch < 64) in subst P (same_Some None asked e) tt
     go false e = some_channel (number_in 0 63 w) asked (λ n is. (number_range 0 63 w n is).1) e
 
+-- ---- first words
+
+first_has : {A : Type 0} (f : List ℕ → Option A) (P : A → Type 0) → ((w : List ℕ) (a : A) → f w ≡ Some a → P a) → (ws : List (List ℕ)) (a : A) → first_by f ws ≡ Some a → P a
+first_has f P has [] a e = absurd (let z : ⊥ = cc in z)
+first_has f P has (w ∷ ws) a e = has w a e
+
+first_number : (low high : ℕ) (ws : List (List ℕ)) (n : ℕ) → first_by (number_in low high) ws ≡ Some n → (low ≤ n) × (n ≤ high)
+first_number low high = first_has (number_in low high) (λ n. (low ≤ n) × (n ≤ high)) (number_range low high)
+
+first_kind : (ws : List (List ℕ)) (n : ℕ) → first_by kind_in ws ≡ Some n → n ≤ 3
+first_kind = first_has kind_in (λ n. n ≤ 3) (λ w n e. kind_range _ _ _ _ n e)
+
+first_speed : (ws : List (List ℕ)) (n : ℕ) → first_by speed_in ws ≡ Some n → n ≤ 2
+first_speed = first_has speed_in (λ n. n ≤ 2) (λ w n e. speed_range _ _ _ n e)
+
+first_offset : (ws : List (List ℕ)) (n : ℕ) → first_by offset_in ws ≡ Some n → n < 2 ^ 12
+first_offset = first_has offset_in (λ n. n < 2 ^ 12) offset_range
+
+first_place : (high : ℕ) (ws : List (List ℕ)) (p : List ℕ × ℕ) → first_by (place_in high) ws ≡ Some p → p.1 ≤ high
+first_place high = first_has (place_in high) (λ p. p.1 ≤ high) (place_range high)
+
+first_channel : (ws : List (List ℕ)) (asked : Option ℕ) → first_by channel_in ws ≡ Some asked → IfSome asked (λ ch. ch < 64)
+first_channel = first_has channel_in (λ asked. IfSome asked (λ ch. ch < 64)) channel_range
+
 -- ---- commands
 
 fits_as : (c d : Command) → c ≡ d → CommandFits d → CommandFits c
 fits_as c d is = subst CommandFits (sym is)
 
+-- `h.4` is what holds of the second word and of those behind it, `h.4.4` of the third, and so on; the last is the command
 arguments_fit : (k : Keyword) (ws : List (List ℕ)) (c : Command) → HasArguments k ws c → CommandFits c
 arguments_fit Device ws c h =
-    let ports = number_range 1 27 h.2 h.6 h.11 in
-    fits_as c (Commands.Device h.4 h.5 h.6 h.7) h.13 (kind_range _ _ _ _ h.5 h.10, ports.0, ports.1, speed_range _ _ _ h.7 h.12)
+    let ports = first_number 1 27 h.4.1 h.4.4.0 h.4.4.2 in
+    fits_as c (Commands.Device h.0 h.4.0 h.4.4.0 h.4.4.4.0) h.4.4.4.4.1 (first_kind h.1 h.4.0 h.4.2, ports.0, ports.1, first_speed h.4.4.1 h.4.4.4.0 h.4.4.4.2)
 arguments_fit Connect ws c h =
-    let output = place_range 30 h.1 h.6 h.12 in
-    let input = place_range 30 h.2 h.7 h.13 in
-    let overhead = number_range 0 15 h.4 h.9 h.15 in
-    fits_as c (Commands.Connect h.5 h.6 h.7 h.8 h.9) h.16 (omega arith, omega arith, channel_range h.3 h.8 h.14, omega arith)
+    let output = first_place 30 h.1 h.4.0 h.4.2 in
+    let input = first_place 30 h.4.1 h.4.4.0 h.4.4.2 in
+    let overhead = first_number 0 15 h.4.4.4.1 h.4.4.4.4.0 h.4.4.4.4.2 in
+    fits_as c (Commands.Connect h.0 h.4.0 h.4.4.0 h.4.4.4.0 h.4.4.4.4.0) h.4.4.4.4.4.1 (omega arith, omega arith, first_channel h.4.4.1 h.4.4.4.0 h.4.4.4.2, omega arith)
 arguments_fit Broadcast ws c h =
-    let output = place_range 30 h.1 h.4 h.8 in
-    let overhead = number_range 0 15 h.2 h.5 h.9 in
-    fits_as c (Commands.Broadcast h.3 h.4 h.5) h.10 (omega arith, omega arith)
-arguments_fit Listen ws c h = let input = place_range 30 h.1 h.3 h.6 in fits_as c (Commands.Listen h.2 h.3) h.7 (omega arith)
-arguments_fit Settle ws c h = fits_as c (Commands.Settle h.1) h.4 (number_range 1 200000 h.0 h.1 h.3).1
-arguments_fit Step ws c h = fits_as c (Commands.Step h.2 h.3) h.7 (number_range 1 10000 h.1 h.3 h.6).1
-arguments_fit Read ws c h = fits_as c (Commands.Read h.3 h.4 h.5) h.10 (offset_range h.2 h.5 h.9)
-arguments_fit Swap ws c h = fits_as c (Commands.Swap h.5 h.6 h.7 h.8 h.9) h.16 (offset_range h.2 h.7 h.13)
-arguments_fit Show ws c h = fits_as c (Commands.Show h.2 h.3) h.7 (offset_range h.1 h.3 h.6)
-arguments_fit Cable ws c h = fits_as c (Commands.Cable h.2 h.3) h.7 tt
-arguments_fit Reset ws c h = fits_as c (Commands.Reset h.1) h.4 tt
-arguments_fit Break ws c h = fits_as c (Commands.Break h.2 h.3) h.7 tt
-arguments_fit Wait ws c h = fits_as c (Commands.Wait h.1) h.4 tt
-arguments_fit Cycles ws c h = fits_as c (Commands.Cycles h.1) h.4 tt
-arguments_fit Die ws c (inl h) = fits_as c (Commands.Die h.1 false) h.4 tt
-arguments_fit Die ws c (inr h) = fits_as c (Commands.Die h.2 true) h.7 tt
-arguments_fit Lose ws c h = fits_as c (Commands.Lose h.1) h.4 tt
-arguments_fit Start ws c h = fits_as c (Commands.Start h.1) h.4 tt
-arguments_fit CommandWord ws c h = fits_as c (Commands.Command h.3 h.4 h.5) h.10 tt
-arguments_fit Insert ws c h = fits_as c (Commands.Insert h.3 h.4 h.5) h.10 tt
-arguments_fit Eject ws c h = fits_as c (Commands.Eject h.1) h.4 tt
+    let output = first_place 30 h.1 h.4.0 h.4.2 in
+    let overhead = first_number 0 15 h.4.1 h.4.4.0 h.4.4.2 in
+    fits_as c (Commands.Broadcast h.0 h.4.0 h.4.4.0) h.4.4.4.1 (omega arith, omega arith)
+arguments_fit Listen ws c h = let input = first_place 30 h.1 h.4.0 h.4.2 in fits_as c (Commands.Listen h.0 h.4.0) h.4.4.1 (omega arith)
+arguments_fit Settle ws c h = fits_as c (Commands.Settle h.0) h.4.1 (first_number 1 200000 ws h.0 h.2).1
+arguments_fit Step ws c h = fits_as c (Commands.Step h.0 h.4.0) h.4.4.1 (first_number 1 10000 h.1 h.4.0 h.4.2).1
+arguments_fit Read ws c h = fits_as c (Commands.Read h.0 h.4.0 h.4.4.0) h.4.4.4.1 (first_offset h.4.1 h.4.4.0 h.4.4.2)
+arguments_fit Swap ws c h = fits_as c (Commands.Swap h.0 h.4.0 h.4.4.0 h.4.4.4.0 h.4.4.4.4.0) h.4.4.4.4.4.1 (first_offset h.4.1 h.4.4.0 h.4.4.2)
+arguments_fit Show ws c h = fits_as c (Commands.Show h.0 h.4.0) h.4.4.1 (first_offset h.1 h.4.0 h.4.2)
+arguments_fit Cable ws c h = fits_as c (Commands.Cable h.0 h.4.0) h.4.4.1 tt
+arguments_fit Reset ws c h = fits_as c (Commands.Reset h.0) h.4.1 tt
+arguments_fit Break ws c h = fits_as c (Commands.Break h.0 h.4.0) h.4.4.1 tt
+arguments_fit Wait ws c h = fits_as c (Commands.Wait h.0) h.4.1 tt
+arguments_fit Cycles ws c h = fits_as c (Commands.Cycles h.0) h.4.1 tt
+arguments_fit Die ws c (inl h) = fits_as c (Commands.Die h.0 false) h.4.1 tt
+arguments_fit Die ws c (inr h) = fits_as c (Commands.Die h.0 true) h.4.4.1 tt
+arguments_fit Lose ws c h = fits_as c (Commands.Lose h.0) h.4.1 tt
+arguments_fit Start ws c h = fits_as c (Commands.Start h.0) h.4.1 tt
+arguments_fit CommandWord ws c h = fits_as c (Commands.Command h.0 h.4.0 h.4.4.0) h.4.4.4.1 tt
+arguments_fit Insert ws c h = fits_as c (Commands.Insert h.0 h.4.0 h.4.4.0) h.4.4.4.1 tt
+arguments_fit Eject ws c h = fits_as c (Commands.Eject h.0) h.4.1 tt
 arguments_fit Withhold ws c h = fits_as c Commands.Withhold h.1 tt
-arguments_fit Candidate ws c h = fits_as c (Commands.Candidate h.1) h.4 tt
-arguments_fit Contend ws c h = fits_as c (Commands.Contend h.2 h.3) h.7 (number_range 1 10000 h.1 h.3 h.6).1
-arguments_fit Dub ws c h = fits_as c (Commands.Dub h.1) h.4 tt
+arguments_fit Candidate ws c h = fits_as c (Commands.Candidate h.0) h.4.1 tt
+arguments_fit Contend ws c h = fits_as c (Commands.Contend h.0 h.4.0) h.4.4.1 (first_number 1 10000 h.1 h.4.0 h.4.2).1
+arguments_fit Dub ws c h = fits_as c (Commands.Dub h.0) h.4.1 tt
 arguments_fit End ws c h = fits_as c Commands.End h.1 tt
 
 pub command_fits : (c : Command) (line : List ℕ) → HasForm c line → CommandFits c

@@ -1,18 +1,18 @@
 -- What is read of a keyword's words.
-use Rattle.std.proofs.Common.{◌≡◌, ℕ, List, Option, IsSome, true, false, inl, inr, sym, ◌∙◌, subst}
-use Rattle.fw_script.specs.Form.{HasArguments, HasForm, Words1, Words2, Words3, Words4, Words5}
+use Rattle.std.proofs.Common.{◌≡◌, ℕ, List, [], Option, Some, IfNone, true, false, inl, inr, sym, ◌∙◌, subst}
+use Rattle.fw_script.specs.Form.{HasArguments, HasForm, first_by, Words1, Words2, Words3, Words4, Words5}
 use Rattle.fw_script.specs.Words.{name_in, number_in, place_in, kind_in, speed_in, channel_in, system_in, shown_in, offset_in, word_in, frame_in, late_in}
 use Rattle.fw_script.specs.declared.keyword.Keyword.{Keyword}
 use Rattle.fw_script.specs.declared.keyword.Keyword.TheVariants.{Device, Cable, Reset, Connect, Broadcast, Listen, Break, Step, Settle, Wait, Cycles, Die, Lose, Start, Command as CommandWord, Read, Swap, Insert, Eject, Show, Withhold, Candidate, Contend, Dub, End}
 use Rattle.fw_script.specs.declared.command.Command.{Command}
 use Rattle.fw_script.specs.declared.command.Command.TheVariants as Commands
 
--- there is a result, which is what the words say
-abbrev pub IsOnly : Keyword → List (List ℕ) → Option Unit → Command → Type 0
-IsOnly k ws r out = (c : Command) → HasArguments k ws c → IsSome r × (out ≡ c)
+-- what one keyword's words are not, those of the same keyword are not
+abbrev pub HasNone : Keyword → List (List ℕ) → Option Unit → Type 0
+HasNone k ws r = IfNone r ((c : Command) → HasArguments k ws c → ⊥)
 
-pub of_keyword : (k j : Keyword) (ws : List (List ℕ)) (r : Option Unit) (out : Command) → k ≡ j → IsOnly j ws r out → IsOnly k ws r out
-of_keyword k j ws r out is only c h = only c (subst (λ (i : Keyword). HasArguments i ws c) is h)
+pub of_keyword : (k j : Keyword) (ws : List (List ℕ)) (r : Option Unit) → k ≡ j → HasNone j ws r → HasNone k ws r
+of_keyword k j ws r is none = subst (λ (i : Keyword). HasNone i ws r) (sym is) none
 
 same1 : {A : Type 0} (f : List ℕ → Option A) (K : A → Command) (ws : List (List ℕ)) (c d : Command) → Words1 ws f (λ u. c ≡ K u) → Words1 ws f (λ u. d ≡ K u) → c ≡ d
 same1 f K ws c d m n = cc
@@ -29,6 +29,9 @@ same4 f g h i K ws c d m n = cc
 same5 : {A B C D E : Type 0} (f : List ℕ → Option A) (g : List ℕ → Option B) (h : List ℕ → Option C) (i : List ℕ → Option D) (j : List ℕ → Option E) (K : A → B → C → D → E → Command) (ws : List (List ℕ)) (c d : Command) → Words5 ws f g h i j (λ u v w x y. c ≡ K u v w x y) → Words5 ws f g h i j (λ u v w x y. d ≡ K u v w x y) → c ≡ d
 same5 f g h i j K ws c d m n = cc
 
+nothing_read : {A : Type 0} (f : List ℕ → Option A) (ws : List (List ℕ)) (a : A) → ws ≡ [] → first_by f ws ≡ Some a → ⊥
+nothing_read f ws a none read = let h : first_by f [] ≡ Some a = subst (λ (l : List (List ℕ)). first_by f l ≡ Some a) none read in cc
+
 -- the words behind a keyword are those of one command
 pub same_arguments : (k : Keyword) (ws : List (List ℕ)) (c d : Command) → HasArguments k ws c → HasArguments k ws d → c ≡ d
 same_arguments Device ws c d h e = same4 name_in kind_in (number_in 1 27) speed_in (λ u v w x. Commands.Device u v w x) ws c d h e
@@ -43,8 +46,8 @@ same_arguments Settle ws c d h e = same1 (number_in 1 200000) (λ u. Commands.Se
 same_arguments Wait ws c d h e = same1 (number_in 0 1000000000) (λ u. Commands.Wait u) ws c d h e
 same_arguments Cycles ws c d h e = same1 (number_in 1 8000) (λ u. Commands.Cycles u) ws c d h e
 same_arguments Die ws c d (inl h) (inl e) = same1 name_in (λ n. Commands.Die n false) ws c d h e
-same_arguments Die ws c d (inl h) (inr e) = cc
-same_arguments Die ws c d (inr h) (inl e) = cc
+same_arguments Die ws c d (inl h) (inr e) = absurd (nothing_read late_in e.1 e.4.0 (e.3 ∙ sym h.3 ∙ h.4.0) e.4.2)
+same_arguments Die ws c d (inr h) (inl e) = absurd (nothing_read late_in h.1 h.4.0 (h.3 ∙ sym e.3 ∙ e.4.0) h.4.2)
 same_arguments Die ws c d (inr h) (inr e) = same2 name_in late_in (λ n late. Commands.Die n true) ws c d h e
 same_arguments Lose ws c d h e = same1 name_in (λ u. Commands.Lose u) ws c d h e
 same_arguments Start ws c d h e = same1 name_in (λ u. Commands.Start u) ws c d h e

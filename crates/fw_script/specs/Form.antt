@@ -1,5 +1,5 @@
 -- The forms of a script's lines.
-use Rattle.std.specs.Prelude.{◌≡◌, ◌⊎◌, ℕ, List, [], ◌∷◌, Option, Some, true, false}
+use Rattle.std.specs.Prelude.{◌≡◌, ◌⊎◌, ℕ, List, [], ◌∷◌, Option, Some, None, true, false}
 use Rattle.fw_script.specs.Pieces.{pieces}
 use Rattle.fw_script.specs.Words.{name_in, number_in, place_in, kind_in, speed_in, channel_in, system_in, shown_in, offset_in, word_in, frame_in, late_in}
 use Rattle.fw_script.specs.Keyword.{keyword_in}
@@ -8,25 +8,39 @@ use Rattle.fw_script.specs.declared.keyword.Keyword.TheVariants.{Device, Cable, 
 use Rattle.fw_script.specs.declared.command.Command.{Command}
 use Rattle.fw_script.specs.declared.command.Command.TheVariants as Commands
 
+-- what the function reads of the first word: none where there is no word
+abbrev pub first_by : {A : Type 0} → (List ℕ → Option A) → List (List ℕ) → Option A
+first_by f [] = None
+first_by f (w ∷ ws) = f w
+
+-- the words behind the first
+abbrev pub behind_first : List (List ℕ) → List (List ℕ)
+behind_first [] = []
+behind_first (w ∷ ws) = ws
+
+-- the function reads the first word, and what it reads and the words behind have the property
+abbrev pub Word : {A : Type 0} → List (List ℕ) → (List ℕ → Option A) → (A → List (List ℕ) → Type 0) → Type 0
+Word {A = A} ws f P = (a : A) × (others : List (List ℕ)) × (first_by f ws ≡ Some a) × (others ≡ behind_first ws) × P a others
+
 -- there is one word, the function reads it, and what it reads has the property
 abbrev pub Words1 : {A : Type 0} → List (List ℕ) → (List ℕ → Option A) → (A → Type 0) → Type 0
-Words1 {A = A} ws f P = (u : List ℕ) × (a : A) × (ws ≡ u ∷ []) × (f u ≡ Some a) × P a
+Words1 ws f P = Word ws f (λ a others. (others ≡ []) × P a)
 
 -- there are two words, each function reads its own, and what they read has the property
 abbrev pub Words2 : {A B : Type 0} → List (List ℕ) → (List ℕ → Option A) → (List ℕ → Option B) → (A → B → Type 0) → Type 0
-Words2 {A = A} {B = B} ws f g P = (u v : List ℕ) × (a : A) × (b : B) × (ws ≡ u ∷ v ∷ []) × (f u ≡ Some a) × (g v ≡ Some b) × P a b
+Words2 ws f g P = Word ws f (λ a others. Words1 others g (P a))
 
 -- there are three words, each function reads its own, and what they read has the property
 abbrev pub Words3 : {A B C : Type 0} → List (List ℕ) → (List ℕ → Option A) → (List ℕ → Option B) → (List ℕ → Option C) → (A → B → C → Type 0) → Type 0
-Words3 {A = A} {B = B} {C = C} ws f g h P = (u v w : List ℕ) × (a : A) × (b : B) × (c : C) × (ws ≡ u ∷ v ∷ w ∷ []) × (f u ≡ Some a) × (g v ≡ Some b) × (h w ≡ Some c) × P a b c
+Words3 ws f g h P = Word ws f (λ a others. Words2 others g h (P a))
 
 -- there are four words, each function reads its own, and what they read has the property
 abbrev pub Words4 : {A B C D : Type 0} → List (List ℕ) → (List ℕ → Option A) → (List ℕ → Option B) → (List ℕ → Option C) → (List ℕ → Option D) → (A → B → C → D → Type 0) → Type 0
-Words4 {A = A} {B = B} {C = C} {D = D} ws f g h i P = (u v w x : List ℕ) × (a : A) × (b : B) × (c : C) × (d : D) × (ws ≡ u ∷ v ∷ w ∷ x ∷ []) × (f u ≡ Some a) × (g v ≡ Some b) × (h w ≡ Some c) × (i x ≡ Some d) × P a b c d
+Words4 ws f g h i P = Word ws f (λ a others. Words3 others g h i (P a))
 
 -- there are five words, each function reads its own, and what they read has the property
 abbrev pub Words5 : {A B C D E : Type 0} → List (List ℕ) → (List ℕ → Option A) → (List ℕ → Option B) → (List ℕ → Option C) → (List ℕ → Option D) → (List ℕ → Option E) → (A → B → C → D → E → Type 0) → Type 0
-Words5 {A = A} {B = B} {C = C} {D = D} {E = E} ws f g h i j P = (u v w x y : List ℕ) × (a : A) × (b : B) × (c : C) × (d : D) × (e : E) × (ws ≡ u ∷ v ∷ w ∷ x ∷ y ∷ []) × (f u ≡ Some a) × (g v ≡ Some b) × (h w ≡ Some c) × (i x ≡ Some d) × (j y ≡ Some e) × P a b c d e
+Words5 ws f g h i j P = Word ws f (λ a others. Words4 others g h i j (P a))
 
 -- the words behind the keyword are those of the command: a line for each form of 'KEYWORD WORD ..' (own)
 abbrev pub HasArguments : Keyword → List (List ℕ) → Command → Type 0

@@ -4,18 +4,22 @@ ghost use Rattle.std.specs.Prelude.{◌≡◌};
 ghost use Rattle.fw_script.specs.Words.{kind_in, speed_in, system_in, channel_in, shown_in, late_in};
 
 use crate::Name;
-use crate::words::{name, small};
+use crate::words::{is, name, small};
 
 /// The kind's code.
 pub(crate) fn kind(word: &[u8]) -> Option<u8>
     ensures { result ≡ kind_in word.now }
 {
-    match word {
-        b"relay" => Some(0),
-        b"deck" => Some(1),
-        b"camcorder" => Some(2),
-        b"computer" => Some(3),
-        _ => None,
+    if is(word, b"relay") {
+        Some(0)
+    } else if is(word, b"deck") {
+        Some(1)
+    } else if is(word, b"camcorder") {
+        Some(2)
+    } else if is(word, b"computer") {
+        Some(3)
+    } else {
+        None
     }
 }
 
@@ -23,11 +27,14 @@ pub(crate) fn kind(word: &[u8]) -> Option<u8>
 pub(crate) fn speed(word: &[u8]) -> Option<u8>
     ensures { result ≡ speed_in word.now }
 {
-    match word {
-        b"100" => Some(0),
-        b"200" => Some(1),
-        b"400" => Some(2),
-        _ => None,
+    if is(word, b"100") {
+        Some(0)
+    } else if is(word, b"200") {
+        Some(1)
+    } else if is(word, b"400") {
+        Some(2)
+    } else {
+        None
     }
 }
 
@@ -35,10 +42,12 @@ pub(crate) fn speed(word: &[u8]) -> Option<u8>
 pub(crate) fn system(word: &[u8]) -> Option<u16>
     ensures { result ≡ system_in word.now }
 {
-    match word {
-        b"525" => Some(525),
-        b"625" => Some(625),
-        _ => None,
+    if is(word, b"525") {
+        Some(525)
+    } else if is(word, b"625") {
+        Some(625)
+    } else {
+        None
     }
 }
 
@@ -46,9 +55,10 @@ pub(crate) fn system(word: &[u8]) -> Option<u16>
 pub(crate) fn channel(word: &[u8]) -> Option<Option<u8>>
     ensures { result ≡ channel_in word.now }
 {
-    match word {
-        b"any" => Some(None),
-        _ => Some(Some(small(word, 0, 63)?)),
+    if is(word, b"any") {
+        Some(None)
+    } else {
+        Some(Some(small(word, 0, 63)?))
     }
 }
 
@@ -56,9 +66,10 @@ pub(crate) fn channel(word: &[u8]) -> Option<Option<u8>>
 pub(crate) fn shown(word: &[u8]) -> Option<Option<Name>>
     ensures { result ≡ shown_in word.now }
 {
-    match word {
-        b"manager" => Some(None),
-        _ => Some(Some(name(word)?)),
+    if is(word, b"manager") {
+        Some(None)
+    } else {
+        Some(Some(name(word)?))
     }
 }
 
@@ -66,8 +77,5 @@ pub(crate) fn shown(word: &[u8]) -> Option<Option<Name>>
 pub(crate) fn late(word: &[u8]) -> Option<bool>
     ensures { result ≡ late_in word.now }
 {
-    match word {
-        b"late" => Some(true),
-        _ => None,
-    }
+    if is(word, b"late") { Some(true) } else { None }
 }

@@ -4,7 +4,7 @@ use crate::Name;
 use fw_words::Bytes;
 
 /// A line of a script, with its words behind the first in their order.
-#[derive(PartialEq, Eq, Drop)]
+#[derive(Drop)]
 pub enum Command {
     /// `device NAME KIND PORTS SPEED`: the kind's code, the ports, and speed 0 to 2 for 100, 200 and 400 Mbit/s.
     Device(Name, u8, u8, u8),

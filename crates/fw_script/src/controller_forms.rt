@@ -1,25 +1,23 @@
 //! Lines on controllers and their connections.
 
-ghost use Rattle.std.specs.Prelude.{◌≡◌, IsSome, IfSome};
+ghost use Rattle.std.specs.Prelude.{IfSome, IfNone};
 ghost use Rattle.fw_script.specs.Form.{HasArguments};
 ghost use Rattle.fw_script.specs.declared.command.Command.{Command};
 
 use crate::Command;
-use crate::codes::{channel, late};
 use crate::cut::Pieces;
 use crate::keyword::Keyword;
-use crate::words::{name, number, place, small};
 
 /// `connect NAME PLUG PLUG CHANNEL OVERHEAD`
 pub(crate) fn connect(words: &mut Pieces, out: &mut Command) -> Option<()>
     ensures found { IfSome result (λ u. HasArguments Keyword.Connect words.old out.new) }
-    ensures only { (c : Command) → HasArguments Keyword.Connect words.old c → IsSome result × (out.new ≡ c) }
+    ensures none { IfNone result ((c : Command) → HasArguments Keyword.Connect words.old c → ⊥) }
 {
-    let name = name(words.next()?)?;
-    let output = place(words.next()?, 30)?;
-    let input = place(words.next()?, 30)?;
-    let channel = channel(words.next()?)?;
-    let overhead = small(words.next()?, 0, 15)?;
+    let name = words.name()?;
+    let output = words.place(30)?;
+    let input = words.place(30)?;
+    let channel = words.channel()?;
+    let overhead = words.small(0, 15)?;
     words.end()?;
     *out = Command::Connect(name, output, input, channel, overhead);
     Some(())
@@ -28,11 +26,11 @@ pub(crate) fn connect(words: &mut Pieces, out: &mut Command) -> Option<()>
 /// `broadcast NAME PLUG OVERHEAD`
 pub(crate) fn broadcast(words: &mut Pieces, out: &mut Command) -> Option<()>
     ensures found { IfSome result (λ u. HasArguments Keyword.Broadcast words.old out.new) }
-    ensures only { (c : Command) → HasArguments Keyword.Broadcast words.old c → IsSome result × (out.new ≡ c) }
+    ensures none { IfNone result ((c : Command) → HasArguments Keyword.Broadcast words.old c → ⊥) }
 {
-    let name = name(words.next()?)?;
-    let output = place(words.next()?, 30)?;
-    let overhead = small(words.next()?, 0, 15)?;
+    let name = words.name()?;
+    let output = words.place(30)?;
+    let overhead = words.small(0, 15)?;
     words.end()?;
     *out = Command::Broadcast(name, output, overhead);
     Some(())
@@ -41,10 +39,10 @@ pub(crate) fn broadcast(words: &mut Pieces, out: &mut Command) -> Option<()>
 /// `listen NAME PLUG`
 pub(crate) fn listen(words: &mut Pieces, out: &mut Command) -> Option<()>
     ensures found { IfSome result (λ u. HasArguments Keyword.Listen words.old out.new) }
-    ensures only { (c : Command) → HasArguments Keyword.Listen words.old c → IsSome result × (out.new ≡ c) }
+    ensures none { IfNone result ((c : Command) → HasArguments Keyword.Listen words.old c → ⊥) }
 {
-    let name = name(words.next()?)?;
-    let input = place(words.next()?, 30)?;
+    let name = words.name()?;
+    let input = words.place(30)?;
     words.end()?;
     *out = Command::Listen(name, input);
     Some(())
@@ -53,10 +51,10 @@ pub(crate) fn listen(words: &mut Pieces, out: &mut Command) -> Option<()>
 /// `break NAME SLOT`
 pub(crate) fn break_(words: &mut Pieces, out: &mut Command) -> Option<()>
     ensures found { IfSome result (λ u. HasArguments Keyword.Break words.old out.new) }
-    ensures only { (c : Command) → HasArguments Keyword.Break words.old c → IsSome result × (out.new ≡ c) }
+    ensures none { IfNone result ((c : Command) → HasArguments Keyword.Break words.old c → ⊥) }
 {
-    let name = name(words.next()?)?;
-    let slot = small(words.next()?, 0, 31)?;
+    let name = words.name()?;
+    let slot = words.small(0, 31)?;
     words.end()?;
     *out = Command::Break(name, slot);
     Some(())
@@ -65,10 +63,10 @@ pub(crate) fn break_(words: &mut Pieces, out: &mut Command) -> Option<()>
 /// `step NAME COUNT`
 pub(crate) fn step(words: &mut Pieces, out: &mut Command) -> Option<()>
     ensures found { IfSome result (λ u. HasArguments Keyword.Step words.old out.new) }
-    ensures only { (c : Command) → HasArguments Keyword.Step words.old c → IsSome result × (out.new ≡ c) }
+    ensures none { IfNone result ((c : Command) → HasArguments Keyword.Step words.old c → ⊥) }
 {
-    let name = name(words.next()?)?;
-    let count = number(words.next()?, 1, 10_000)?;
+    let name = words.name()?;
+    let count = words.number(1, 10_000)?;
     words.end()?;
     *out = Command::Step(name, count);
     Some(())
@@ -77,9 +75,9 @@ pub(crate) fn step(words: &mut Pieces, out: &mut Command) -> Option<()>
 /// `settle ROUNDS`
 pub(crate) fn settle(words: &mut Pieces, out: &mut Command) -> Option<()>
     ensures found { IfSome result (λ u. HasArguments Keyword.Settle words.old out.new) }
-    ensures only { (c : Command) → HasArguments Keyword.Settle words.old c → IsSome result × (out.new ≡ c) }
+    ensures none { IfNone result ((c : Command) → HasArguments Keyword.Settle words.old c → ⊥) }
 {
-    let rounds = number(words.next()?, 1, 200_000)?;
+    let rounds = words.number(1, 200_000)?;
     words.end()?;
     *out = Command::Settle(rounds);
     Some(())
@@ -88,13 +86,13 @@ pub(crate) fn settle(words: &mut Pieces, out: &mut Command) -> Option<()>
 /// `die NAME` or `die NAME late`
 pub(crate) fn die(words: &mut Pieces, out: &mut Command) -> Option<()>
     ensures found { IfSome result (λ u. HasArguments Keyword.Die words.old out.new) }
-    ensures only { (c : Command) → HasArguments Keyword.Die words.old c → IsSome result × (out.new ≡ c) }
+    ensures none { IfNone result ((c : Command) → HasArguments Keyword.Die words.old c → ⊥) }
 {
-    let name = name(words.next()?)?;
-    match words.next() {
-        None => *out = Command::Die(name, false),
-        Some(word) => {
-            late(word)?;
+    let name = words.name()?;
+    match words.end() {
+        Some(()) => *out = Command::Die(name, false),
+        None => {
+            words.late()?;
             words.end()?;
             *out = Command::Die(name, true);
         }
@@ -105,9 +103,9 @@ pub(crate) fn die(words: &mut Pieces, out: &mut Command) -> Option<()>
 /// `lose NAME`
 pub(crate) fn lose(words: &mut Pieces, out: &mut Command) -> Option<()>
     ensures found { IfSome result (λ u. HasArguments Keyword.Lose words.old out.new) }
-    ensures only { (c : Command) → HasArguments Keyword.Lose words.old c → IsSome result × (out.new ≡ c) }
+    ensures none { IfNone result ((c : Command) → HasArguments Keyword.Lose words.old c → ⊥) }
 {
-    let name = name(words.next()?)?;
+    let name = words.name()?;
     words.end()?;
     *out = Command::Lose(name);
     Some(())
@@ -116,9 +114,9 @@ pub(crate) fn lose(words: &mut Pieces, out: &mut Command) -> Option<()>
 /// `start NAME`
 pub(crate) fn start(words: &mut Pieces, out: &mut Command) -> Option<()>
     ensures found { IfSome result (λ u. HasArguments Keyword.Start words.old out.new) }
-    ensures only { (c : Command) → HasArguments Keyword.Start words.old c → IsSome result × (out.new ≡ c) }
+    ensures none { IfNone result ((c : Command) → HasArguments Keyword.Start words.old c → ⊥) }
 {
-    let name = name(words.next()?)?;
+    let name = words.name()?;
     words.end()?;
     *out = Command::Start(name);
     Some(())

@@ -5,6 +5,8 @@ ghost use Rattle.fw_script.specs.Pieces.{IsFirstAt, IsFree, pieces};
 
 use std::marker::Model;
 
+mod next_word;
+
 /// The place of the first separator.
 fn find(bytes: &[u8], separator: u8) -> Option<usize>
     ensures found { IfSome result (IsFirstAt separator bytes.now) }

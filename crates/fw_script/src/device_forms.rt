@@ -1,25 +1,22 @@
 //! Lines on devices, cables, tapes, registers and the bus.
 
-ghost use Rattle.std.specs.Prelude.{◌≡◌, IsSome, IfSome};
+ghost use Rattle.std.specs.Prelude.{IfSome, IfNone};
 ghost use Rattle.fw_script.specs.Form.{HasArguments};
 ghost use Rattle.fw_script.specs.declared.command.Command.{Command};
 
 use crate::Command;
-use crate::codes::{kind, shown, speed, system};
 use crate::cut::Pieces;
-use crate::hexadecimal::offset;
 use crate::keyword::Keyword;
-use crate::words::{name, number, place, small};
 
 /// `device NAME KIND PORTS SPEED`
 pub(crate) fn device(words: &mut Pieces, out: &mut Command) -> Option<()>
     ensures found { IfSome result (λ u. HasArguments Keyword.Device words.old out.new) }
-    ensures only { (c : Command) → HasArguments Keyword.Device words.old c → IsSome result × (out.new ≡ c) }
+    ensures none { IfNone result ((c : Command) → HasArguments Keyword.Device words.old c → ⊥) }
 {
-    let name = name(words.next()?)?;
-    let kind = kind(words.next()?)?;
-    let ports = small(words.next()?, 1, 27)?;
-    let speed = speed(words.next()?)?;
+    let name = words.name()?;
+    let kind = words.kind()?;
+    let ports = words.small(1, 27)?;
+    let speed = words.speed()?;
     words.end()?;
     *out = Command::Device(name, kind, ports, speed);
     Some(())
@@ -28,10 +25,10 @@ pub(crate) fn device(words: &mut Pieces, out: &mut Command) -> Option<()>
 /// `cable END END`
 pub(crate) fn cable(words: &mut Pieces, out: &mut Command) -> Option<()>
     ensures found { IfSome result (λ u. HasArguments Keyword.Cable words.old out.new) }
-    ensures only { (c : Command) → HasArguments Keyword.Cable words.old c → IsSome result × (out.new ≡ c) }
+    ensures none { IfNone result ((c : Command) → HasArguments Keyword.Cable words.old c → ⊥) }
 {
-    let one = place(words.next()?, 26)?;
-    let other = place(words.next()?, 26)?;
+    let one = words.place(26)?;
+    let other = words.place(26)?;
     words.end()?;
     *out = Command::Cable(one, other);
     Some(())
@@ -40,9 +37,9 @@ pub(crate) fn cable(words: &mut Pieces, out: &mut Command) -> Option<()>
 /// `reset NAME`
 pub(crate) fn reset(words: &mut Pieces, out: &mut Command) -> Option<()>
     ensures found { IfSome result (λ u. HasArguments Keyword.Reset words.old out.new) }
-    ensures only { (c : Command) → HasArguments Keyword.Reset words.old c → IsSome result × (out.new ≡ c) }
+    ensures none { IfNone result ((c : Command) → HasArguments Keyword.Reset words.old c → ⊥) }
 {
-    let name = name(words.next()?)?;
+    let name = words.name()?;
     words.end()?;
     *out = Command::Reset(name);
     Some(())
@@ -51,11 +48,11 @@ pub(crate) fn reset(words: &mut Pieces, out: &mut Command) -> Option<()>
 /// `insert NAME TAPE SYSTEM`
 pub(crate) fn insert(words: &mut Pieces, out: &mut Command) -> Option<()>
     ensures found { IfSome result (λ u. HasArguments Keyword.Insert words.old out.new) }
-    ensures only { (c : Command) → HasArguments Keyword.Insert words.old c → IsSome result × (out.new ≡ c) }
+    ensures none { IfNone result ((c : Command) → HasArguments Keyword.Insert words.old c → ⊥) }
 {
-    let name = name(words.next()?)?;
-    let tape = number(words.next()?, 0, 65_535)?;
-    let system = system(words.next()?)?;
+    let name = words.name()?;
+    let tape = words.number(0, 65_535)?;
+    let system = words.system()?;
     words.end()?;
     *out = Command::Insert(name, tape as u16, system);
     Some(())
@@ -64,9 +61,9 @@ pub(crate) fn insert(words: &mut Pieces, out: &mut Command) -> Option<()>
 /// `eject NAME`
 pub(crate) fn eject(words: &mut Pieces, out: &mut Command) -> Option<()>
     ensures found { IfSome result (λ u. HasArguments Keyword.Eject words.old out.new) }
-    ensures only { (c : Command) → HasArguments Keyword.Eject words.old c → IsSome result × (out.new ≡ c) }
+    ensures none { IfNone result ((c : Command) → HasArguments Keyword.Eject words.old c → ⊥) }
 {
-    let name = name(words.next()?)?;
+    let name = words.name()?;
     words.end()?;
     *out = Command::Eject(name);
     Some(())
@@ -75,9 +72,9 @@ pub(crate) fn eject(words: &mut Pieces, out: &mut Command) -> Option<()>
 /// `dub NAME`
 pub(crate) fn dub(words: &mut Pieces, out: &mut Command) -> Option<()>
     ensures found { IfSome result (λ u. HasArguments Keyword.Dub words.old out.new) }
-    ensures only { (c : Command) → HasArguments Keyword.Dub words.old c → IsSome result × (out.new ≡ c) }
+    ensures none { IfNone result ((c : Command) → HasArguments Keyword.Dub words.old c → ⊥) }
 {
-    let name = name(words.next()?)?;
+    let name = words.name()?;
     words.end()?;
     *out = Command::Dub(name);
     Some(())
@@ -86,10 +83,10 @@ pub(crate) fn dub(words: &mut Pieces, out: &mut Command) -> Option<()>
 /// `show NAME OFF`
 pub(crate) fn show(words: &mut Pieces, out: &mut Command) -> Option<()>
     ensures found { IfSome result (λ u. HasArguments Keyword.Show words.old out.new) }
-    ensures only { (c : Command) → HasArguments Keyword.Show words.old c → IsSome result × (out.new ≡ c) }
+    ensures none { IfNone result ((c : Command) → HasArguments Keyword.Show words.old c → ⊥) }
 {
-    let name = shown(words.next()?)?;
-    let offset = offset(words.next()?)?;
+    let name = words.shown()?;
+    let offset = words.offset()?;
     words.end()?;
     *out = Command::Show(name, offset);
     Some(())
@@ -98,7 +95,7 @@ pub(crate) fn show(words: &mut Pieces, out: &mut Command) -> Option<()>
 /// `withhold`
 pub(crate) fn withhold(words: &mut Pieces, out: &mut Command) -> Option<()>
     ensures found { IfSome result (λ u. HasArguments Keyword.Withhold words.old out.new) }
-    ensures only { (c : Command) → HasArguments Keyword.Withhold words.old c → IsSome result × (out.new ≡ c) }
+    ensures none { IfNone result ((c : Command) → HasArguments Keyword.Withhold words.old c → ⊥) }
 {
     words.end()?;
     *out = Command::Withhold;

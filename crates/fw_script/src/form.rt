@@ -1,6 +1,6 @@
 //! The command of a line.
 
-ghost use Rattle.std.specs.Prelude.{◌≡◌, IsSome, IfSome};
+ghost use Rattle.std.specs.Prelude.{IfSome, IfNone};
 ghost use Rattle.fw_script.specs.Form.{HasArguments, HasForm};
 ghost use Rattle.fw_script.specs.declared.command.Command.{Command};
 
@@ -15,7 +15,7 @@ use crate::transaction_forms::{command, cycles, end, read, swap, wait};
 /// The command of a keyword with the words behind it.
 fn arguments(keyword: Keyword, words: &mut Pieces, out: &mut Command) -> Option<()>
     ensures found { IfSome result (λ u. HasArguments keyword words.old out.new) }
-    ensures only { (c : Command) → HasArguments keyword words.old c → IsSome result × (out.new ≡ c) }
+    ensures none { IfNone result ((c : Command) → HasArguments keyword words.old c → ⊥) }
 {
     match keyword {
         Keyword::Device => device(words, out),
@@ -49,7 +49,7 @@ fn arguments(keyword: Keyword, words: &mut Pieces, out: &mut Command) -> Option<
 /// The command that the line is, or none where it has no form.
 pub(crate) fn command_of(line: &[u8], out: &mut Command) -> Option<()>
     ensures found { IfSome result (λ u. HasForm out.new line.now) }
-    ensures only { (c : Command) → HasForm c line.now → IsSome result × (out.new ≡ c) }
+    ensures none { IfNone result ((c : Command) → HasForm c line.now → ⊥) }
 {
     let mut words = Pieces::new(line, b' ');
     let keyword = keyword_of(words.next()?)?;

@@ -1,21 +1,19 @@
 //! Lines on time and transactions, and the last line.
 
-ghost use Rattle.std.specs.Prelude.{◌≡◌, IsSome, IfSome};
+ghost use Rattle.std.specs.Prelude.{IfSome, IfNone};
 ghost use Rattle.fw_script.specs.Form.{HasArguments};
 ghost use Rattle.fw_script.specs.declared.command.Command.{Command};
 
 use crate::Command;
 use crate::cut::Pieces;
-use crate::hexadecimal::{frame, offset, word};
 use crate::keyword::Keyword;
-use crate::words::{name, number};
 
 /// `wait CYCLES`
 pub(crate) fn wait(words: &mut Pieces, out: &mut Command) -> Option<()>
     ensures found { IfSome result (λ u. HasArguments Keyword.Wait words.old out.new) }
-    ensures only { (c : Command) → HasArguments Keyword.Wait words.old c → IsSome result × (out.new ≡ c) }
+    ensures none { IfNone result ((c : Command) → HasArguments Keyword.Wait words.old c → ⊥) }
 {
-    let cycles = number(words.next()?, 0, 1_000_000_000)?;
+    let cycles = words.number(0, 1_000_000_000)?;
     words.end()?;
     *out = Command::Wait(cycles);
     Some(())
@@ -24,9 +22,9 @@ pub(crate) fn wait(words: &mut Pieces, out: &mut Command) -> Option<()>
 /// `cycles COUNT`
 pub(crate) fn cycles(words: &mut Pieces, out: &mut Command) -> Option<()>
     ensures found { IfSome result (λ u. HasArguments Keyword.Cycles words.old out.new) }
-    ensures only { (c : Command) → HasArguments Keyword.Cycles words.old c → IsSome result × (out.new ≡ c) }
+    ensures none { IfNone result ((c : Command) → HasArguments Keyword.Cycles words.old c → ⊥) }
 {
-    let count = number(words.next()?, 1, 8_000)?;
+    let count = words.number(1, 8_000)?;
     words.end()?;
     *out = Command::Cycles(count);
     Some(())
@@ -35,11 +33,11 @@ pub(crate) fn cycles(words: &mut Pieces, out: &mut Command) -> Option<()>
 /// `command NAME NAME HEX`
 pub(crate) fn command(words: &mut Pieces, out: &mut Command) -> Option<()>
     ensures found { IfSome result (λ u. HasArguments Keyword.Command words.old out.new) }
-    ensures only { (c : Command) → HasArguments Keyword.Command words.old c → IsSome result × (out.new ≡ c) }
+    ensures none { IfNone result ((c : Command) → HasArguments Keyword.Command words.old c → ⊥) }
 {
-    let sender = name(words.next()?)?;
-    let target = name(words.next()?)?;
-    let frame = frame(words.next()?)?;
+    let sender = words.name()?;
+    let target = words.name()?;
+    let frame = words.frame()?;
     words.end()?;
     *out = Command::Command(sender, target, frame);
     Some(())
@@ -48,11 +46,11 @@ pub(crate) fn command(words: &mut Pieces, out: &mut Command) -> Option<()>
 /// `read NAME NAME OFF`
 pub(crate) fn read(words: &mut Pieces, out: &mut Command) -> Option<()>
     ensures found { IfSome result (λ u. HasArguments Keyword.Read words.old out.new) }
-    ensures only { (c : Command) → HasArguments Keyword.Read words.old c → IsSome result × (out.new ≡ c) }
+    ensures none { IfNone result ((c : Command) → HasArguments Keyword.Read words.old c → ⊥) }
 {
-    let sender = name(words.next()?)?;
-    let target = name(words.next()?)?;
-    let offset = offset(words.next()?)?;
+    let sender = words.name()?;
+    let target = words.name()?;
+    let offset = words.offset()?;
     words.end()?;
     *out = Command::Read(sender, target, offset);
     Some(())
@@ -61,13 +59,13 @@ pub(crate) fn read(words: &mut Pieces, out: &mut Command) -> Option<()>
 /// `swap NAME NAME OFF WORD WORD`
 pub(crate) fn swap(words: &mut Pieces, out: &mut Command) -> Option<()>
     ensures found { IfSome result (λ u. HasArguments Keyword.Swap words.old out.new) }
-    ensures only { (c : Command) → HasArguments Keyword.Swap words.old c → IsSome result × (out.new ≡ c) }
+    ensures none { IfNone result ((c : Command) → HasArguments Keyword.Swap words.old c → ⊥) }
 {
-    let sender = name(words.next()?)?;
-    let target = name(words.next()?)?;
-    let offset = offset(words.next()?)?;
-    let argument = word(words.next()?)?;
-    let value = word(words.next()?)?;
+    let sender = words.name()?;
+    let target = words.name()?;
+    let offset = words.offset()?;
+    let argument = words.word()?;
+    let value = words.word()?;
     words.end()?;
     *out = Command::Swap(sender, target, offset, argument, value);
     Some(())
@@ -76,7 +74,7 @@ pub(crate) fn swap(words: &mut Pieces, out: &mut Command) -> Option<()>
 /// `end`
 pub(crate) fn end(words: &mut Pieces, out: &mut Command) -> Option<()>
     ensures found { IfSome result (λ u. HasArguments Keyword.End words.old out.new) }
-    ensures only { (c : Command) → HasArguments Keyword.End words.old c → IsSome result × (out.new ≡ c) }
+    ensures none { IfNone result ((c : Command) → HasArguments Keyword.End words.old c → ⊥) }
 {
     words.end()?;
     *out = Command::End;

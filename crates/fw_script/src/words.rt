@@ -4,15 +4,23 @@ ghost use Rattle.std.specs.Prelude.{◌≡◌, ◌≤◌, ◌^◌, IfSome, IfNon
 ghost use Rattle.std.specs.List.{list_all};
 ghost use Rattle.std.specs.Char.{is_ascii_digit};
 ghost use Rattle.std.specs.Str.Parse.{digits_value};
-ghost use Rattle.fw_script.specs.Words.{is_name, is_name_byte, is_taken, name_in, is_decimal, number_in, place_in};
+ghost use Rattle.fw_script.specs.Words.{is, is_name, is_name_byte, is_taken, name_in, is_decimal, number_in, place_in};
 
 use crate::Name;
 use crate::cut::Pieces;
 
+/// The word is this text.
+#[inline(always)]
+pub(crate) fn is(word: &[u8], text: &[u8]) -> bool
+    ensures { result ≡ is text.now word.now }
+{
+    word == text
+}
+
 fn is_taken(word: &[u8]) -> bool
     ensures { result ≡ is_taken word.now }
 {
-    matches!(word, b"manager" | b"any" | b"late")
+    is(word, b"manager") || is(word, b"any") || is(word, b"late")
 }
 
 fn is_name_byte(b: u8) -> bool
