@@ -101,9 +101,18 @@ fn told(command: &Command) -> Told {
 }
 
 /// A script that begins with this line says this first.
-fn says(alloc: Global, line: &[u8], row: Told) -> Result<bool, Fail> {
+fn says(
+    alloc: Global,
+    line: &[u8],
+    word: &str,
+    names: &[Option<Name>; 3],
+    numbers: &[u32; 4],
+) -> Result<bool, Fail> {
     match said(alloc, line)? {
-        Ok(Some(command)) => Ok(told(&command) == row),
+        Ok(Some(command)) => {
+            let (first, all, each) = told(&command);
+            Ok(first == word && all == *names && each == *numbers)
+        }
         _ => Ok(false),
     }
 }
@@ -163,43 +172,39 @@ fn names(a: Name, count: usize) -> [Option<Name>; 3] {
 fn each_form_is_read(rt: HostRuntime) -> Result<(), Fail> {
     let a = name_of(&rt, b"a");
     for &(line, word, count, numbers) in &LINES {
-        assert!(rt; says(rt.alloc(), line, (word, names(a, count), numbers))?);
+        assert!(rt; says(rt.alloc(), line, word, &names(a, count), &numbers)?);
     }
     Ok(())
 }
 
-/// A script that begins with this line says this command of a frame first.
-fn says_frame(alloc: Global, line: &[u8], name: Name, frame: &[u8]) -> Result<bool, Fail> {
+/// The command has a frame of these bytes.
+fn has_frame(command: &Command, frame: &[u8]) -> bool {
+    match command {
+        Command::Command(_, _, bytes) => bytes.as_slice() == frame,
+        _ => false,
+    }
+}
+
+/// A script that begins with this line says a command with this frame first.
+fn says_frame(alloc: Global, line: &[u8], frame: &[u8]) -> Result<bool, Fail> {
     match said(alloc, line)? {
-        Ok(Some(Command::Command(sender, target, bytes))) => {
-            Ok(sender == name && target == name && bytes.as_slice() == frame)
-        }
+        Ok(Some(command)) => Ok(has_frame(&command, frame)),
         _ => Ok(false),
     }
 }
 
 #[test]
 fn names_and_frames_are_read(rt: HostRuntime) -> Result<(), Fail> {
-    let a = name_of(&rt, b"a");
-    assert!(rt;
-        says_frame(
-            rt.alloc(),
-            b"command a a 0020C375",
-            a,
-            &[0x00, 0x20, 0xc3, 0x75]
-        )?
-    );
+    let line = b"command a a 0020C375";
+    let both = names(name_of(&rt, b"a"), 2);
+    assert!(rt; says(rt.alloc(), line, "command", &both, &[0; 4])?);
+    assert!(rt; says_frame(rt.alloc(), line, &[0x00, 0x20, 0xc3, 0x75])?);
     for name in ["end", "device", "abcdefghijklmno9"] {
         let name = name.as_bytes();
         let mut line = b"reset ".to_vec(rt.alloc())?;
         line.extend_from_slice(name)?;
-        assert!(rt;
-            says(
-                rt.alloc(),
-                &line,
-                ("reset", names(name_of(&rt, name), 1), [0; 4])
-            )?
-        );
+        let names = names(name_of(&rt, name), 1);
+        assert!(rt; says(rt.alloc(), &line, "reset", &names, &[0; 4])?);
     }
     Ok(())
 }
