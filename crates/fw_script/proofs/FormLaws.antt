@@ -7,7 +7,7 @@ use Rattle.fw_script.specs.declared.keyword.Keyword.TheVariants.{Device, Cable, 
 use Rattle.fw_script.specs.declared.command.Command.{Command}
 use Rattle.fw_script.specs.declared.command.Command.TheVariants as Commands
 
--- what one keyword's words are not, those of the same keyword are not
+-- where nothing is read, the words behind the keyword are no command
 abbrev pub HasNone : Keyword → List (List ℕ) → Option Unit → Type 0
 HasNone k ws r = IfNone r ((c : Command) → HasArguments k ws c → ⊥)
 

@@ -17,10 +17,11 @@ pub(crate) fn is(word: &[u8], text: &[u8]) -> bool
     word == text
 }
 
+// By patterns: it is asked of each name of a script, where `is` costs a call a text.
 fn is_taken(word: &[u8]) -> bool
     ensures { result ≡ is_taken word.now }
 {
-    is(word, b"manager") || is(word, b"any") || is(word, b"late")
+    matches!(word, b"manager" | b"any" | b"late")
 }
 
 fn is_name_byte(b: u8) -> bool
