@@ -2,7 +2,8 @@
 
 ghost use Rattle.std.specs.Prelude.{◌≡◌, ◌↔◌, [], IsTrue};
 
-use fw_outside::{MemSink, Source};
+use crate::portions::Portions;
+use fw_outside::MemSink;
 use fw_program::program;
 use std::alloc::{AllocError, Global};
 
@@ -18,11 +19,27 @@ pub(crate) struct Ended {
 }
 
 impl Ended {
-    /// Whether it ended with this status, this note and this output. A note is one line, and none is told where it is empty.
+    /// A call that has written and told nothing.
+    fn new(alloc: Global, room: usize, failing: Failing<'_>) -> Result<Ended, AllocError> {
+        Ok(Ended {
+            status: 0,
+            output: sink_of(alloc, room, failing.writes)?,
+            notes: sink_of(alloc, NOTE_ROOM, failing.notes)?,
+        })
+    }
+
+    /// Whether it ended with this status, this note and this output.
     pub(crate) fn is(&self, status: u8, note: &str, output: &[u8]) -> bool
         ensures { IsTrue result → (self.now.status ≡ status) × (self.now.output.held ≡ output.now) }
     {
-        self.status == status && self.output.as_slice() == output && self.has_told(note)
+        self.output.as_slice() == output && self.tells(status, note)
+    }
+
+    /// Whether it ended with this status and this note. A note is one line, and none is told where it is empty.
+    pub(crate) fn tells(&self, status: u8, note: &str) -> bool
+        ensures { IsTrue result → self.now.status ≡ status }
+    {
+        self.status == status && is_told(self.notes.as_slice(), note)
     }
 
     /// Whether it did all that was asked, and told nothing.
@@ -38,13 +55,13 @@ impl Ended {
     {
         self.output.as_slice()
     }
+}
 
-    fn has_told(&self, note: &str) -> bool {
-        match self.notes.as_slice() {
-            [] => note.is_empty(),
-            [line @ .., b'\n'] => !note.is_empty() && line == note.as_bytes(),
-            _ => false,
-        }
+fn is_told(notes: &[u8], note: &str) -> bool {
+    match notes {
+        [] => note.is_empty(),
+        [line @ .., b'\n'] => !note.is_empty() && line == note.as_bytes(),
+        _ => false,
     }
 }
 
@@ -61,23 +78,39 @@ pub(crate) const NONE: Failing<'static> = Failing {
 };
 
 /// Does what the words say, over a source, into a room of so many bytes.
-pub(crate) fn call<S: Source>(
+pub(crate) fn call(
     alloc: Global,
     words: &str,
-    source: &mut S,
+    mut source: Portions<'_>,
     room: usize,
     failing: Failing<'_>,
 ) -> Result<Ended, AllocError> {
+    let words = words_of(alloc, words)?;
+    let mut ended = Ended::new(alloc, room, failing)?;
+    ended.status = program(
+        alloc,
+        &words,
+        &mut source,
+        &mut ended.output,
+        &mut ended.notes,
+    );
+    Ok(ended)
+}
+
+fn words_of(alloc: Global, words: &str) -> Result<Vec<String>, AllocError> {
     let mut list = Vec::new(alloc);
     for word in words.split_whitespace() {
-        list.push(word.to_string(alloc)?)?;
+        put_word(alloc, word, &mut list)?;
     }
-    let mut output = MemSink::new(alloc, room, failing.writes.to_vec(alloc)?)?;
-    let mut notes = MemSink::new(alloc, NOTE_ROOM, failing.notes.to_vec(alloc)?)?;
-    let status = program(alloc, &list, source, &mut output, &mut notes);
-    Ok(Ended {
-        status,
-        output,
-        notes,
-    })
+    Ok(list)
+}
+
+fn put_word(alloc: Global, word: &str, list: &mut Vec<String>) -> Result<(), AllocError> {
+    list.push(word.to_string(alloc)?)?;
+    Ok(())
+}
+
+/// A sink with room for so many bytes, of which these writes fail.
+fn sink_of(alloc: Global, room: usize, failing: &[u32]) -> Result<MemSink, AllocError> {
+    MemSink::new(alloc, room, failing.to_vec(alloc)?)
 }

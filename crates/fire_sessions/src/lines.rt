@@ -1,8 +1,10 @@
 //! Scripts that are put together of pieces, and what the text of their logs tells of outcomes, shown words and bids.
 
 use crate::call::{NONE, call};
-use crate::pieces::Pieces;
-use fw_outside::MemSource;
+use crate::numbers::numbers_of;
+use crate::pieces::text_of;
+use crate::portions::Portions;
+use crate::row::Row;
 use std::alloc::{AllocError, Global};
 use std::io;
 
@@ -11,37 +13,6 @@ const NUMBER: &str = "N";
 
 /// What a log, and its text, have room for, in bytes.
 const ROOM: usize = 100_000;
-
-/// A row of the table: `PIECES > PIECES`, those of the script and those of the lines that are told, in order; and ` : NUMBERS` behind it
-/// where the row is one for each number. These are parted by spaces; `FROM-TO` stands for all from one to another.
-#[derive(Clone, Copy)]
-struct Row<'a> {
-    script: &'a str,
-    told: &'a str,
-    numbers: Option<&'a str>,
-}
-
-impl<'a> Row<'a> {
-    fn of(line: &'a str) -> Option<Row<'a>> {
-        let (pieces, numbers) = match line.split_once(" : ") {
-            Some((pieces, numbers)) => (pieces, Some(numbers)),
-            None => (line, None),
-        };
-        let (script, told) = pieces.split_once(" > ")?;
-        Some(Row {
-            script,
-            told,
-            numbers,
-        })
-    }
-}
-
-/// The first and the last of a row's numbers that follow one another. None where there are none.
-fn range_of(numbers: &str) -> Option<(u32, u32)> {
-    let (from, to) = numbers.split_once("-").unwrap_or((numbers, numbers));
-    let (from, to) = (from.parse::<u32>().ok()?, to.parse::<u32>().ok()?);
-    if from <= to { Some((from, to)) } else { None }
-}
 
 /// Whether a line tells how a job or a bid ended, what a register showed, or that `settle` left something to do.
 fn tells(line: &str) -> bool {
@@ -52,59 +23,77 @@ fn tells(line: &str) -> bool {
         || line.contains(" defeated ")
 }
 
-/// Whether the log of a script tells these lines, and no others of their kind.
-fn is_told(alloc: Global, script: &str, told: &str) -> Result<bool, AllocError> {
-    let mut source = MemSource::new(script.as_bytes().to_vec(alloc)?, Vec::new(alloc));
-    let log = call(alloc, "run", &mut source, ROOM, NONE)?;
-    let mut source = MemSource::new(log.output().to_vec(alloc)?, Vec::new(alloc));
-    let text = call(alloc, "decode", &mut source, ROOM, NONE)?;
-    let Ok(lines) = str::from_utf8(text.output()) else {
-        return Ok(false);
+/// Whether a text tells these lines, and no others of their kind.
+fn has_lines(text: &[u8], told: &str) -> bool {
+    let Ok(text) = str::from_utf8(text) else {
+        return false;
     };
     let mut due = told.lines();
-    for line in lines.lines() {
+    for line in text.lines() {
         if tells(line) && due.next() != Some(line) {
-            return Ok(false);
+            return false;
         }
     }
-    Ok(log.is_done() && text.is_done() && due.next().is_none())
+    due.next().is_none()
 }
 
-/// Whether that is so with each number in its place.
-fn is_told_with(
+/// Whether the log of a script tells these lines.
+fn is_told(alloc: Global, script: &str, told: &str) -> Result<bool, AllocError> {
+    let script = Portions::whole(script.as_bytes());
+    let log = call(alloc, "run", script, ROOM, NONE)?;
+    let text = call(alloc, "decode", Portions::whole(log.output()), ROOM, NONE)?;
+    Ok(log.is_done() && text.is_done() && has_lines(text.output(), told))
+}
+
+/// Whether that is so with a number in its place.
+fn is_told_with(alloc: Global, number: u32, script: &str, told: &str) -> Result<bool, AllocError> {
+    let script = script.replace(alloc, NUMBER, &format!(in alloc; "{number}")?)?;
+    let told = told.replace(alloc, NUMBER, &format!(in alloc; "{number:08x}")?)?;
+    is_told(alloc, &script, &told)
+}
+
+/// Whether that is so with each of these numbers.
+fn are_told_with(
     alloc: Global,
-    numbers: &str,
+    numbers: &[u32],
     script: &str,
     told: &str,
 ) -> Result<bool, AllocError> {
-    for numbers in numbers.split_whitespace() {
-        let Some((from, to)) = range_of(numbers) else {
+    for number in numbers {
+        if !is_told_with(alloc, *number, script, told)? {
             return Ok(false);
-        };
-        for number in from..=to {
-            let script = script.replace(alloc, NUMBER, &format!(in alloc; "{number}")?)?;
-            let told = told.replace(alloc, NUMBER, &format!(in alloc; "{number:08x}")?)?;
-            if !is_told(alloc, &script, &told)? {
-                return Ok(false);
-            }
         }
     }
     Ok(true)
 }
 
-/// Runs the scripts of a row, and answers whether the log of each tells what the row says.
-pub(crate) fn holds(rt: &HostRuntime, line: &str) -> io::Result<bool> {
-    let alloc = rt.alloc();
-    let Some(row) = Row::of(line) else {
+/// Whether that is so with each number of a list, where there is one.
+fn are_told(
+    alloc: Global,
+    list: Option<&str>,
+    script: &str,
+    told: &str,
+) -> Result<bool, AllocError> {
+    let Some(list) = list else {
+        return is_told(alloc, script, told);
+    };
+    match numbers_of(alloc, list)? {
+        Some(numbers) => are_told_with(alloc, &numbers, script, told),
+        None => Ok(false),
+    }
+}
+
+/// A row is `PIECES > PIECES`, those of the script and those of the lines that are told, in order; and ` : NUMBERS` behind it where the row
+/// is one for each number.
+pub(crate) fn holds(rt: &HostRuntime, row: &Row<'_>) -> io::Result<bool> {
+    let Some(told) = row.output else {
         return Ok(false);
     };
-    let pieces = Pieces::read(rt)?;
-    let (Some(script), Some(told)) = (pieces.text(rt, row.script)?, pieces.text(rt, row.told)?)
-    else {
+    let Some(script) = text_of(rt, row.what)? else {
         return Ok(false);
     };
-    Ok(match row.numbers {
-        Some(numbers) => is_told_with(alloc, numbers, &script, &told)?,
-        None => is_told(alloc, &script, &told)?,
-    })
+    let Some(told) = text_of(rt, told)? else {
+        return Ok(false);
+    };
+    Ok(are_told(rt.alloc(), row.behind, &script, &told)?)
 }

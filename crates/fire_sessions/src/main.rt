@@ -3,13 +3,17 @@
 #![tactic(auto)]
 
 mod call;
-mod drops;
+mod calls;
+mod damages;
 mod dubs;
 mod faults;
 mod lines;
+mod numbers;
+mod parts;
 mod pieces;
+mod portions;
 mod refusals;
-mod sessions;
+mod row;
 mod table;
 mod tally;
 
@@ -18,7 +22,16 @@ use crate::tally::Tally;
 use std::process::ExitCode;
 use std::{fs, io};
 
-const WRONG: &str = "wrong.txt";
+/// The tables, and behind them the rows that are wrong.
+const FILES: [&str; 7] = [
+    "calls.txt",
+    "damages.txt",
+    "faults.txt",
+    "dubs.txt",
+    "lines.txt",
+    "refusals.txt",
+    "wrong.txt",
+];
 
 /// Whether a row `TABLE: ROW` names a table, and this row of it is told apart from those that hold.
 fn is_told_apart(rt: &HostRuntime, line: &str) -> io::Result<bool> {
@@ -31,23 +44,30 @@ fn is_told_apart(rt: &HostRuntime, line: &str) -> io::Result<bool> {
     }
 }
 
-fn main(rt: HostRuntime) -> io::Result<ExitCode> {
-    let mut is_well = true;
-    for table in Table::ALL {
-        let text = fs::read_to_string(&rt, table.file())?;
-        let mut tally = Tally::NEW;
-        for row in text.lines().filter(|line| is_row(line)) {
-            tally.count(&rt, row, table.holds(&rt, row)?)?;
-        }
-        is_well = tally.tell(&rt, table.file())? && is_well;
+/// Whether a row of a file is as it should be.
+fn is_due(rt: &HostRuntime, file: &str, line: &str) -> io::Result<bool> {
+    match Table::of(file) {
+        Some(table) => table.holds(rt, line),
+        None => is_told_apart(rt, line),
     }
-    let text = fs::read_to_string(&rt, WRONG)?;
+}
+
+/// Tells how many rows of a file there are, and answers whether all are as they should be.
+fn is_well(rt: &HostRuntime, file: &str) -> io::Result<bool> {
+    let text = fs::read_to_string(rt, file)?;
     let mut tally = Tally::NEW;
-    for row in text.lines().filter(|line| is_row(line)) {
-        tally.count(&rt, row, is_told_apart(&rt, row)?)?;
+    for line in text.lines().filter(|line| is_row(line)) {
+        tally.count(rt, line, is_due(rt, file, line)?)?;
     }
-    is_well = tally.tell(&rt, WRONG)? && is_well;
-    Ok(if is_well {
+    tally.tell(rt, file)
+}
+
+fn main(rt: HostRuntime) -> io::Result<ExitCode> {
+    let mut are_well = true;
+    for file in FILES {
+        are_well = is_well(&rt, file)? && are_well;
+    }
+    Ok(if are_well {
         ExitCode::SUCCESS
     } else {
         ExitCode::FAILURE

@@ -1,12 +1,14 @@
 //! The tables of rows.
 
-use crate::{dubs, faults, lines, refusals, sessions};
+use crate::row::Row;
+use crate::{calls, damages, dubs, faults, lines, refusals};
 use std::io;
 
 /// A table, by its file.
 #[derive(Clone, Copy)]
 pub(crate) enum Table {
     Calls,
+    Damages,
     Faults,
     Dubs,
     Lines,
@@ -14,28 +16,11 @@ pub(crate) enum Table {
 }
 
 impl Table {
-    pub(crate) const ALL: [Table; 5] = [
-        Table::Calls,
-        Table::Faults,
-        Table::Dubs,
-        Table::Lines,
-        Table::Refusals,
-    ];
-
-    pub(crate) fn file(self) -> &'static str {
-        match self {
-            Table::Calls => "calls.txt",
-            Table::Faults => "faults.txt",
-            Table::Dubs => "dubs.txt",
-            Table::Lines => "lines.txt",
-            Table::Refusals => "refusals.txt",
-        }
-    }
-
     /// The table of this file.
     pub(crate) fn of(file: &str) -> Option<Table> {
         match file {
             "calls.txt" => Some(Table::Calls),
+            "damages.txt" => Some(Table::Damages),
             "faults.txt" => Some(Table::Faults),
             "dubs.txt" => Some(Table::Dubs),
             "lines.txt" => Some(Table::Lines),
@@ -45,13 +30,15 @@ impl Table {
     }
 
     /// Makes the calls of a row, and answers whether they ended, told and wrote what the row says.
-    pub(crate) fn holds(self, rt: &HostRuntime, row: &str) -> io::Result<bool> {
+    pub(crate) fn holds(self, rt: &HostRuntime, line: &str) -> io::Result<bool> {
+        let row = Row::of(line);
         match self {
-            Table::Calls => sessions::holds(rt, row),
-            Table::Faults => faults::holds(rt, row),
-            Table::Dubs => dubs::holds(rt, row),
-            Table::Lines => lines::holds(rt, row),
-            Table::Refusals => refusals::holds(rt, row),
+            Table::Calls => calls::holds(rt, &row),
+            Table::Damages => damages::holds(rt, &row),
+            Table::Faults => faults::holds(rt, &row),
+            Table::Dubs => dubs::holds(rt, &row),
+            Table::Lines => lines::holds(rt, &row),
+            Table::Refusals => refusals::holds(rt, &row),
         }
     }
 }

@@ -1,173 +1,228 @@
-//! Logs that are cut, damaged or too long.
+//! Short logs of which a byte is changed: which fault of a body the reader answers, and which epoch, of which a note says nothing. What is
+//! told of whole logs stands in `fire_sessions/data/damages.txt`.
+//!
+//! What the bytes come to was worked out by hand from the layouts of the log and of the standard.
 
-ghost use Rattle.std.specs.Prelude.{◌<◌, ◌^◌, length};
-
-use crate::logs::ONE_DECK;
-use crate::reading::{is_refused, is_written_again};
+use crate::reading::passed;
+use BodyFault::{Fields, Iso, Packet, Phy};
+use PacketFault::{BadLength, Reserved, UnknownTcode};
 use fw_async::PacketFault;
 use fw_cip::IsoFault;
-use fw_log::{BodyFault, LogFault, LogWhy, Version};
+use fw_log::{BodyFault, LogFault, LogWhy};
 use fw_phy::PhyFault;
 use std::alloc::{AllocError, Global};
 use std::test::Fail;
 
-// Lengths at which the log of the lone deck stands between two entries, in each version.
-const BETWEEN: [usize; 15] = [
-    16, 48, 72, 100, 124, 152, 188, 220, 244, 272, 308, 340, 376, 408, 428,
-];
-
-const BETWEEN_IN_VERSION_2: [usize; 15] = [
-    16, 52, 80, 112, 140, 172, 212, 248, 276, 308, 348, 384, 424, 460, 484,
-];
-
-// Whether each front of a log is refused at its end, which stands between two entries at these lengths.
-fn is_refused_cut(alloc: Global, log: &[u8], between: &[usize]) -> Result<bool, AllocError>
-    requires { length log.now < 2 ^ 32 }
-{
-    for length in 0..log.len() {
-        let why = if between.contains(&length) {
-            LogWhy::NoEnd
-        } else {
-            LogWhy::Cut
-        };
-        let place = length as u64;
-        if !is_refused(alloc, &log[..length], 7, LogFault { place, why })? {
-            return Ok(false);
-        }
-    }
-    Ok(true)
-}
-
-#[test]
-fn a_log_that_is_cut(rt: HostRuntime) -> Result<(), Fail> {
-    let alloc = rt.alloc();
-    for (text, between) in [
-        (ONE_DECK.one, &BETWEEN),
-        (ONE_DECK.two, &BETWEEN_IN_VERSION_2),
-    ] {
-        let log = hex::decode(alloc, text)?;
-        assert!(rt; log.len() <= 500);
-        assert!(rt; is_refused_cut(alloc, &log, between)?);
-    }
-    Ok(())
-}
-
-// Bytes that have other values, why the log is refused, and where.
-type Damage = (&'static [(usize, u8)], LogWhy, u64);
-
-const NOT_INVERSE: LogWhy = LogWhy::BadBody(BodyFault::Phy(PhyFault::NotInverse));
-
-const UNKNOWN_TCODE: LogWhy = LogWhy::BadBody(BodyFault::Packet(PacketFault::UnknownTcode));
-
-const FIELDS: LogWhy = LogWhy::BadBody(BodyFault::Fields);
-
-const DAMAGES: &[Damage] = &[
-    (&[(0, 0x00)], LogWhy::BadHeader, 0),
-    (&[(7, 0x03)], LogWhy::BadHeader, 4),
-    (&[(16, 0x00)], LogWhy::BadKind, 16),
-    (&[(17, 0x01)], LogWhy::BadKind, 16),
-    (&[(16, 0x03)], LogWhy::BadLength, 18),
-    (&[(19, 0x04)], LogWhy::BadLength, 18),
-    (&[(27, 0x01)], LogWhy::TimeBack, 52),
-    (&[(39, 0x04)], FIELDS, 28),
-    (&[(47, 0xBC)], NOT_INVERSE, 28),
-    (&[(63, 0xC0)], UNKNOWN_TCODE, 60),
-    (&[(440, 0x00)], LogWhy::AfterEnd, 440),
-];
-
-// The epoch is tested before the cycle, that of a reset with its body, behind the packets in it.
-const DAMAGES_IN_VERSION_2: &[Damage] = &[
-    (&[(7, 0x03)], LogWhy::BadHeader, 4),
-    (&[(7, 0x01)], NOT_INVERSE, 28),
-    (&[(59, 0x02)], LogWhy::BadEpoch(2), 56),
-    (&[(59, 0x02), (67, 0x01)], LogWhy::BadEpoch(2), 56),
-    (&[(56, 0x80), (59, 0x01)], LogWhy::BadEpoch(0x8000_0001), 56),
-    (&[(23, 0x02)], FIELDS, 32),
-    (&[(35, 0x02)], FIELDS, 32),
-    (&[(23, 0x02), (51, 0xBC)], NOT_INVERSE, 32),
-    (&[(23, 0x02), (35, 0x02)], LogWhy::BadEpoch(1), 56),
-    (&[(31, 0x01)], LogWhy::TimeBack, 60),
-    (&[(55, 0x04), (59, 0x02)], LogWhy::BadEpoch(2), 56),
-    (&[(55, 0x02), (59, 0x02)], LogWhy::BadLength, 54),
-];
-
-// The header, an isochronous packet with a block in cycle 8002, and the end.
-const BEFORE_A_BLOCK: &str =
-    "313339340000000100000000000000000300007b0000000000001f4201e840a0007800008000ffff";
-
-const BEHIND_A_BLOCK: &str = "070000000000000000001f42";
-
-fn log_of_a_block(alloc: Global) -> Result<Vec<u8>, Fail> {
-    let mut log = hex::decode(alloc, BEFORE_A_BLOCK)?;
-    log.extend_from_slice(&[7; 480])?;
-    let end = hex::decode(alloc, BEHIND_A_BLOCK)?;
-    log.extend_from_slice(&end)?;
-    Ok(log)
-}
-
-const DAMAGES_OF_A_BLOCK: &[Damage] = &[
-    (
-        &[(30, 0x80)],
-        LogWhy::BadBody(BodyFault::Iso(IsoFault::NotCip)),
-        28,
-    ),
-    (
-        &[(34, 0x02)],
-        LogWhy::BadBody(BodyFault::Iso(IsoFault::Reserved(54))),
-        28,
-    ),
-    (
-        &[(28, 0x02)],
-        LogWhy::BadBody(BodyFault::Iso(IsoFault::BadSize(0x2E8))),
-        28,
-    ),
-    (
-        &[(29, 0x08)],
-        LogWhy::BadBody(BodyFault::Iso(IsoFault::BadSize(0x108))),
-        28,
-    ),
-];
-
-// Writes over the bytes of a log, of which one may follow the last. None where one stands further behind.
-fn damaged(
+// Whether a log, in hexadecimal, is refused so where the byte at a place is so much more, modulo 256.
+fn is_refused(
     alloc: Global,
-    log: &[u8],
-    bytes: &[(usize, u8)],
-) -> Result<Option<Vec<u8>>, AllocError> {
-    let mut damaged = log.to_vec(alloc)?;
-    for (at, byte) in bytes {
-        if *at == damaged.len() {
-            damaged.push(*byte)?;
-        }
-        let Some(here) = damaged.get_mut(*at) else {
-            return Ok(None);
-        };
-        *here = *byte;
-    }
-    Ok(Some(damaged))
-}
-
-// Whether a damage has its fault, in pieces of three sizes.
-fn is_found(alloc: Global, log: &[u8], damage: &Damage) -> Result<bool, AllocError> {
-    let (bytes, why, place) = *damage;
-    let Some(damaged) = damaged(alloc, log, bytes)? else {
+    text: &str,
+    (at, more): (usize, u8),
+    fault: LogFault,
+) -> Result<bool, AllocError> {
+    let Ok(mut log) = hex::decode(alloc, text) else {
         return Ok(false);
     };
-    if damaged.len() > 600 {
+    let Some(byte) = log.get_mut(at) else {
         return Ok(false);
-    }
-    let fault = LogFault { place, why };
-    Ok(
-        is_refused(alloc, &damaged, 1, fault)?
-            && is_refused(alloc, &damaged, 7, fault)?
-            && is_refused(alloc, &damaged, 600, fault)?,
-    )
+    };
+    *byte = byte.wrapping_add(more);
+    Ok(log.len() < 1000 && passed(alloc, &log)? == Err(fault))
 }
 
-// Whether each of the damages has its fault.
-fn are_found(alloc: Global, log: &[u8], damages: &[Damage]) -> Result<bool, AllocError> {
-    for damage in damages {
-        if !is_found(alloc, log, damage)? {
+// A place and a number of bytes from it on, how much more one of them is, and which fault its body has.
+type Row = (usize, usize, &'static [u8], BodyFault);
+
+const MORE: &[u8] = &[1];
+
+const LESS: &[u8] = &[255];
+
+const BOTH: &[u8] = &[1, 255];
+
+// Whether a log is refused so at a place for each change of a row.
+fn is_faulty(alloc: Global, text: &str, place: u64, row: &Row) -> Result<bool, AllocError> {
+    let (from, count, steps, fault) = *row;
+    let why = LogWhy::BadBody(fault);
+    for more in steps {
+        for at in from..from.saturating_add(count) {
+            if !is_refused(alloc, text, (at, *more), LogFault { place, why })? {
+                return Ok(false);
+            }
+        }
+    }
+    Ok(true)
+}
+
+// A lone entry, each behind its header, and the first bytes of another where a length may say that they are its own.
+const RESET: &str = "\
+31333934000000010000000000000000010000050000000000000000000000010000000100010101807f08427f80f7bd02000003";
+
+const RESET_IN_VERSION_2: &str = "\
+3133393400000002000000000000000001000005000000010000000000000000000000010000000100010101807f08427f80f7bd0200000300000001";
+
+const RESET_OF_EPOCH_2: &str = "\
+3133393400000002000000000000000001000005000000020000000000000000000000020000000100010101807f08427f80f7bd0200000300000001";
+
+const RESET_OF_NO_INVERSE: &str = "\
+3133393400000002000000000000000001000005000000010000000000000000000000010000000100010101807f08427f80f7bc";
+
+const READ: &str =
+    "31333934000000010000000000000000020000030000000000000000ffc00140ffc0fffff000090402000003";
+
+const READ_REPLY: &str = "\
+31333934000000010000000000000000020000040000000000000000ffc00160ffc0000000000000803f007a02000003";
+
+const READ_REPLY_OF_CHANNELS: &str =
+    "31333934000000010000000000000000020000040000000000000000ffc00160ffc0000000000000ffffffff";
+
+const READ_REPLY_OF_UNITS: &str =
+    "31333934000000010000000000000000020000040000000000000000ffc00160ffc000000000000000001333";
+
+const LOCK: &str = "\
+31333934000000010000000000000000020000060000000000000000ffc00190ffc0fffff000022800080002fffffffffffffffe02000003";
+
+const LOCK_REPLY: &str = "\
+31333934000000010000000000000000020000050000000000000000ffc001b0ffc000000000000000040002ffffffff02000003";
+
+const OUTCOME: &str = "31333934000000010000000000000000050000020000000000000000010000000000003f";
+
+const ISOCHRONOUS: &str =
+    "31333934000000010000000000000000030000030000000000000000000840a0007800008000ffff";
+
+// The bus reset. With a kind more it is a packet that is shorter than the body; with a quadlet more one is left over. The root, the
+// manager, of which 255 is none, the initiator and the number of nodes, of which there is one; the node, of which there is no kind 4; and
+// its packet.
+const OF_RESET: &[Row] = &[
+    (16, 1, MORE, Fields),
+    (19, 1, MORE, Phy(PhyFault::Short)),
+    (32, 1, BOTH, Fields),
+    (33, 1, MORE, Fields),
+    (34, 1, BOTH, Fields),
+    (35, 1, MORE, Phy(PhyFault::Short)),
+    (35, 1, LESS, Fields),
+    (36, 1, LESS, Fields),
+    (39, 1, &[3], Fields),
+    (40, 8, BOTH, Phy(PhyFault::NotInverse)),
+];
+
+// In version 2 its epoch stands in the head and in the body.
+const OF_RESET_IN_VERSION_2: &[Row] = &[
+    (19, 1, MORE, Phy(PhyFault::Short)),
+    (20, 4, BOTH, Fields),
+    (32, 4, BOTH, Fields),
+    (36, 1, BOTH, Fields),
+    (37, 1, MORE, Fields),
+    (38, 1, BOTH, Fields),
+    (39, 1, MORE, Phy(PhyFault::Short)),
+    (39, 1, LESS, Fields),
+    (40, 1, LESS, Fields),
+    (44, 8, BOTH, Phy(PhyFault::NotInverse)),
+];
+
+// In the other version the head has another length, and what is then read as a self-ID packet is none.
+const OF_ONE_AS_TWO: &[Row] = &[(7, 1, MORE, Phy(PhyFault::NotInverse))];
+
+const OF_TWO_AS_ONE: &[Row] = &[(7, 1, LESS, Phy(PhyFault::NotInverse))];
+
+// The epoch in the head of a reset is judged behind the packets in it.
+const OF_NO_INVERSE: &[Row] = &[(23, 1, MORE, Phy(PhyFault::NotInverse))];
+
+// A request to read a quadlet. With transaction codes 3 and 12 it is none.
+const OF_READ: &[Row] = &[
+    (16, 1, MORE, Iso(IsoFault::NotCip)),
+    (19, 1, MORE, Fields),
+    (31, 1, &[255, 0x80], Packet(UnknownTcode)),
+];
+
+// A reply: the response code, and the bits behind it, which are reserved.
+const OF_REPLY: &[Row] = &[
+    (19, 1, BOTH, Fields),
+    (34, 1, MORE, Packet(Reserved(55))),
+    (34, 1, LESS, Packet(Reserved(52))),
+    (35, 1, MORE, Packet(Reserved(63))),
+    (35, 1, LESS, Packet(Reserved(56))),
+    (36, 1, MORE, Packet(Reserved(71))),
+    (36, 1, LESS, Packet(Reserved(64))),
+    (37, 1, MORE, Packet(Reserved(79))),
+    (37, 1, LESS, Packet(Reserved(72))),
+    (38, 1, MORE, Packet(Reserved(87))),
+    (38, 1, LESS, Packet(Reserved(80))),
+    (39, 1, MORE, Packet(Reserved(95))),
+    (39, 1, LESS, Packet(Reserved(88))),
+];
+
+// With transaction code 5 the value of a reply is a length and sixteen reserved bits, of which the first that is set is found: 803F007A,
+// FFFFFFFF and 00001333.
+const OF_VALUE: &[Row] = &[(31, 1, LESS, Packet(Reserved(121)))];
+
+const OF_CHANNELS: &[Row] = &[(31, 1, LESS, Packet(Reserved(112)))];
+
+const OF_UNITS: &[Row] = &[(31, 1, LESS, Packet(Reserved(115)))];
+
+// A compare_swap. With transaction code 8 it is a cycle start, which is shorter.
+const OF_LOCK: &[Row] = &[
+    (16, 1, LESS, Fields),
+    (19, 1, BOTH, Fields),
+    (31, 1, LESS, Fields),
+    (40, 1, MORE, Packet(BadLength(264))),
+    (40, 1, LESS, Packet(BadLength(65288))),
+    (41, 1, MORE, Packet(BadLength(9))),
+    (41, 1, LESS, Packet(BadLength(7))),
+    (42, 1, BOTH, Packet(Reserved(112))),
+];
+
+// Its reply, beside what all replies have.
+const OF_LOCK_REPLY: &[Row] = &[
+    (16, 1, LESS, Fields),
+    (31, 1, LESS, Packet(UnknownTcode)),
+    (40, 1, MORE, Packet(BadLength(260))),
+    (40, 1, LESS, Packet(BadLength(65284))),
+    (41, 1, MORE, Packet(BadLength(5))),
+    (41, 1, LESS, Packet(BadLength(3))),
+    (42, 1, BOTH, Packet(Reserved(112))),
+];
+
+// An outcome of code 1: with a kind less an event of two quadlets. Outcomes of codes 0 and 2 have no units and channel.
+const OF_OUTCOME: &[Row] = &[
+    (16, 1, LESS, Fields),
+    (28, 1, BOTH, Fields),
+    (31, 1, BOTH, Fields),
+];
+
+// An isochronous packet without a block: its length, its tag, and a reserved bit of its CIP header.
+const OF_ISOCHRONOUS: &[Row] = &[
+    (28, 1, &[2], Iso(IsoFault::BadSize(0x208))),
+    (29, 1, &[0x10], Iso(IsoFault::BadSize(0x18))),
+    (30, 1, &[0x40], Iso(IsoFault::NotCip)),
+    (34, 1, &[2], Iso(IsoFault::Reserved(54))),
+];
+
+// A log, where its body stands, and its rows.
+type Sample = (&'static str, u64, &'static [Row]);
+
+const SAMPLES: &[Sample] = &[
+    (RESET, 28, OF_RESET),
+    (RESET, 32, OF_ONE_AS_TWO),
+    (RESET_IN_VERSION_2, 32, OF_RESET_IN_VERSION_2),
+    (RESET_IN_VERSION_2, 28, OF_TWO_AS_ONE),
+    (RESET_OF_NO_INVERSE, 32, OF_NO_INVERSE),
+    (READ, 28, OF_READ),
+    (READ_REPLY, 28, OF_REPLY),
+    (READ_REPLY, 28, OF_VALUE),
+    (READ_REPLY_OF_CHANNELS, 28, OF_CHANNELS),
+    (READ_REPLY_OF_UNITS, 28, OF_UNITS),
+    (LOCK, 28, OF_LOCK),
+    (LOCK_REPLY, 28, OF_LOCK_REPLY),
+    (LOCK_REPLY, 28, OF_REPLY),
+    (OUTCOME, 28, OF_OUTCOME),
+    (ISOCHRONOUS, 28, OF_ISOCHRONOUS),
+];
+
+// Whether a log is refused so for each of its rows.
+fn are_faulty(alloc: Global, sample: &Sample) -> Result<bool, AllocError> {
+    let (text, place, rows) = *sample;
+    for row in rows {
+        if !is_faulty(alloc, text, place, row)? {
             return Ok(false);
         }
     }
@@ -175,23 +230,45 @@ fn are_found(alloc: Global, log: &[u8], damages: &[Damage]) -> Result<bool, Allo
 }
 
 #[test]
-fn a_log_that_is_damaged(rt: HostRuntime) -> Result<(), Fail> {
-    let alloc = rt.alloc();
-    let one = hex::decode(alloc, ONE_DECK.one)?;
-    assert!(rt; are_found(alloc, &one, DAMAGES)?);
-    let two = hex::decode(alloc, ONE_DECK.two)?;
-    assert!(rt; are_found(alloc, &two, DAMAGES_IN_VERSION_2)?);
-    let block = log_of_a_block(alloc)?;
-    assert!(rt; are_found(alloc, &block, DAMAGES_OF_A_BLOCK)?);
+fn bodies_of_which_a_byte_is_changed(rt: HostRuntime) -> Result<(), Fail> {
+    for sample in SAMPLES {
+        assert!(rt; are_faulty(rt.alloc(), sample)?);
+    }
     Ok(())
 }
 
+// The places of bytes, how much more each is, where the epoch stands that is refused, and which it is. The first is the kind of the bus
+// reset, which is then a packet before the first reset; the others are the epoch of the entry behind it.
+const EPOCHS: [(usize, u8, u64, u32); 10] = [
+    (16, 1, 20, 1),
+    (56, 1, 56, 0x0100_0001),
+    (56, 255, 56, 0xFF00_0001),
+    (56, 0x80, 56, 0x8000_0001),
+    (57, 1, 56, 0x0001_0001),
+    (57, 255, 56, 0x00FF_0001),
+    (58, 1, 56, 0x0000_0101),
+    (58, 255, 56, 0x0000_FF01),
+    (59, 1, 56, 2),
+    (59, 255, 56, 0),
+];
+
+// Whether a log is refused so for its epoch.
+fn is_of_no_epoch(
+    alloc: Global,
+    text: &str,
+    change: (usize, u8),
+    (place, epoch): (u64, u32),
+) -> Result<bool, AllocError> {
+    let why = LogWhy::BadEpoch(epoch);
+    is_refused(alloc, text, change, LogFault { place, why })
+}
+
 #[test]
-fn a_block_is_read(rt: HostRuntime) -> Result<(), Fail> {
-    let log = log_of_a_block(rt.alloc())?;
-    assert!(rt; log.len() == 532);
-    for size in [1, 7, 532] {
-        assert!(rt; is_written_again(rt.alloc(), &log, size, Version::One)?);
+fn epochs_that_are_refused(rt: HostRuntime) -> Result<(), Fail> {
+    for &(at, more, place, epoch) in &EPOCHS {
+        let is_due = is_of_no_epoch(rt.alloc(), RESET_IN_VERSION_2, (at, more), (place, epoch))?;
+        assert!(rt; is_due, "{at}");
     }
+    assert!(rt; is_of_no_epoch(rt.alloc(), RESET_OF_EPOCH_2, (0, 0), (56, 1))?);
     Ok(())
 }

@@ -4,15 +4,11 @@
 #[cfg(test)]
 mod adapters;
 #[cfg(test)]
-mod changes;
-#[cfg(test)]
 mod damage;
 #[cfg(test)]
 mod generation;
 #[cfg(test)]
 mod kinds;
-#[cfg(test)]
-mod logs;
 #[cfg(test)]
 mod outside;
 #[cfg(test)]
