@@ -15,6 +15,7 @@ use Rattle.fw_devices.specs.Network.{kinds_of, is_node}
 use Rattle.fw_devices.specs.Entries.{IsResetEntry}
 use Rattle.fw_devices.specs.Resets.{Shows}
 use Rattle.fw_devices.proofs.EntryLaws.{entry_shows}
+use Rattle.fw_run.specs.declared.limits.TheConstants.{MOST_RESETS}
 use Rattle.fw_run.specs.Giving.{at_most}
 use Rattle.fw_run.specs.State.{State, is_on, list_to, number_in, epoch_of, directory_of}
 use Rattle.fw_run.specs.Actions.{Action, Resets, Step, after_reset_entry}
@@ -160,18 +161,18 @@ table_now m now s i st b =
     }
 
 -- where there may be one bus reset more, the run has that one
-pub resets_now : (m now : Machine) (good s : State) (i : ℕ) → MayBegin m good s i → BeginsReset m now i → m.devices.epoch < 10000
+pub resets_now : (m now : Machine) (good s : State) (i : ℕ) → MayBegin m good s i → BeginsReset m now i → m.devices.epoch < MOST_RESETS
     → Resets s i (at_most s.clock.cycle (Some (Reset now.devices.latest))) (after_reset_entry s now.devices.latest)
 resets_now m now good s i may b few = record {
   entry = now.devices.latest;
   is_entry = entry_is m now s i may.stands b;
-  few = subst (λ n. n < 10000) may.stands.devices.epoch few;
+  few = subst (λ n. n < MOST_RESETS) may.stands.devices.epoch few;
   out_is = refl;
   state_is = refl;
 }
 
 -- each plug goes on counting where it talks, and so all counts stay
-pub streams_now : (m now : Machine) (good s : State) (i : ℕ) → MayBegin m good s i → BeginsReset m now i → m.devices.epoch < 10000
+pub streams_now : (m now : Machine) (good s : State) (i : ℕ) → MayBegin m good s i → BeginsReset m now i → m.devices.epoch < MOST_RESETS
     → HasStreams now.streams (after_reset_entry s now.devices.latest)
 streams_now m now good s i may b few =
     let t : State = after_reset_entry s now.devices.latest in

@@ -21,6 +21,7 @@ use Rattle.fw_manager.specs.declared.candidate.Stage.TheVariants.{Fresh, Asked, 
 use Rattle.fw_node.specs.Contents.{node_id}
 use Rattle.fw_node.specs.Packets.{old_bytes, old_value, packet_of, reply_in, response_of}
 use Rattle.fw_node.specs.State.{space_of}
+use Rattle.fw_run.specs.declared.limits.TheConstants.{MOST_HALF_STEPS}
 use Rattle.fw_run.specs.Bidding.{bid_answer_packet, bid_head, epoch_at, is_candidate}
 use Rattle.fw_run.specs.Elections.{Election, with_candidate}
 use Rattle.fw_run.specs.Good.{IsGood, IsLatest}
@@ -112,7 +113,7 @@ manager_is_there m d r one = go s.account.latest refl r.good.latest there.is
           r.stands.devices.manager ∙ (ap manager_device at ∙ (ap (device_of e.nodes) is ∙ ap (option_map (λ (x : NodeRow). x.device)) (h.1.numbers w.0 there.number w.1))),
         )
 
-pub contender_of : (m : Machine) (d manager : ℕ) → IsTrue (is_some (candidate_in m.candidates d)) → m.devices.manager ≡ Some manager → m.half_steps < 4000000 → Contender m d manager
+pub contender_of : (m : Machine) (d manager : ℕ) → IsTrue (is_some (candidate_in m.candidates d)) → m.devices.manager ≡ Some manager → m.half_steps < MOST_HALF_STEPS → Contender m d manager
 contender_of m d manager one manages few = go (candidate_in m.candidates d) refl one
   where
     go : (o : Option CandidateState) → candidate_in m.candidates d ≡ o → is_some o ≡ true → Contender m d manager

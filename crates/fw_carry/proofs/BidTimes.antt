@@ -5,6 +5,7 @@ use Rattle.std.specs.declared.result.Result.{Result}
 use Rattle.fw_entry.specs.declared.entry.Entry.{Entry}
 use Rattle.fw_entry.specs.declared.entry.Timed.{Timed}
 use Rattle.fw_manager.specs.Bids.{CandidateState}
+use Rattle.fw_run.specs.declared.limits.TheConstants.{MOST_HALF_STEPS}
 use Rattle.fw_run.specs.Actions.{Contend, Step, Steps}
 use Rattle.fw_run.specs.Beside.{IsBeside}
 use Rattle.fw_run.specs.Bidding.{Bids, bid_step, bidden, is_candidate}
@@ -75,7 +76,7 @@ pub record BidsGiven (s : State) (d n : ℕ) : Type 0 where
   pub state : State
   pub steps : Steps s (times n (Contend d)) out state
 
-can_bid : (s : State) (d : ℕ) → IsGood s → IsBeside s → s.transaction ≡ None → IsTrue (is_candidate s d) → s.half_steps < 4000000 → (out : List Timed) × (t : State) × Step s (Contend d) out t
+can_bid : (s : State) (d : ℕ) → IsGood s → IsBeside s → s.transaction ≡ None → IsTrue (is_candidate s d) → s.half_steps < MOST_HALF_STEPS → (out : List Timed) × (t : State) × Step s (Contend d) out t
 can_bid s d g beside free one few = of_candidate (s.election.candidates d) refl one
   where
     manager : Number (manager_in s.account.latest)
@@ -89,7 +90,7 @@ can_bid s d g beside free one few = of_candidate (s.election.candidates d) refl 
       (free, record { lives = beside.candidates.lives d one; few = few; candidate = c; is = e; manager = manager.number; manages = manager.is; out_is = refl; state_is = refl }),
     )
 
-pub bids_given : (n d : ℕ) (s : State) → IsGood s → IsBeside s → s.transaction ≡ None → IsTrue (is_candidate s d) → s.half_steps + n ≤ 4000000 → BidsGiven s d n
+pub bids_given : (n d : ℕ) (s : State) → IsGood s → IsBeside s → s.transaction ≡ None → IsTrue (is_candidate s d) → s.half_steps + n ≤ MOST_HALF_STEPS → BidsGiven s d n
 unfolding times
 bids_given zero d s g beside free one few = record { out = []; state = s; steps = (refl, refl) }
 bids_given (suc n) d s g beside free one few =
@@ -104,7 +105,7 @@ bids_given (suc n) d s g beside free one few =
     }
 
 -- the rest of them can be given
-bids_go_on : (m : Machine) (d j count : ℕ) → j ≤ count → IsTrue (is_some (candidate_in m.candidates d)) → m.half_steps + count ≤ 4000000
+bids_go_on : (m : Machine) (d j count : ℕ) → j ≤ count → IsTrue (is_some (candidate_in m.candidates d)) → m.half_steps + count ≤ MOST_HALF_STEPS
     → GoesOn m (Performs (times j (Contend d))) (Performs (times count (Contend d)))
 bids_go_on m d j count le one few s u xs a g st p f =
     let steps = st.clock.half_steps in
@@ -124,7 +125,7 @@ bids_go_on m d j count le one few s u xs a g st p f =
 
 -- a half step was cut off
 pub bids_cut : {T E U F V G : Type 0} (d i : ℕ) {m mid now : Machine} {a b c : Option (List ℕ)} {k l n : ℕ} {u : T} (count : ℕ) (q : Result U F) (r : Result V G)
-    → i < count → IsTrue (is_some (candidate_in m.candidates d)) → m.half_steps + count ≤ 4000000 → IsErr q → IsErr r
+    → i < count → IsTrue (is_some (candidate_in m.candidates d)) → m.half_steps + count ≤ MOST_HALF_STEPS → IsErr q → IsErr r
     → Performed {T = T} {E = E} (Performs (times i (Contend d))) m mid a b k l (Ok u) → Performed (Performs (Contend d ∷ [])) mid now b c l n q → Performed (Performs (times count (Contend d))) m now a c k n r
 bids_cut d i {m} count q r lt one few was is f e =
     does_cut q r (bids_go_on m d (i + 1) count (omega (arith, lt)) one few) was is (times_then (Contend d) i f e)

@@ -26,6 +26,7 @@ use Rattle.fw_node.specs.Packets.{packet_of, request_in, reply_in, response_of}
 use Rattle.fw_node.specs.State.{space_of}
 use Rattle.fw_devices.specs.Network.{Network, kind_at, kinds_of, is_node, node_at}
 use Rattle.fw_devices.specs.Entries.{device_of, is_number}
+use Rattle.fw_run.specs.declared.limits.TheConstants.{MOST_HALF_STEPS}
 use Rattle.fw_run.specs.declared.order.Access.TheVariants as Accesses
 use Rattle.fw_run.specs.declared.order.Transaction.{Transaction}
 use Rattle.fw_run.specs.Actions.{Contend, Step}
@@ -102,7 +103,7 @@ pub record Known (m : Machine) (s : State) (d manager : ℕ) (k : Contender m d 
   pub lives : IsTrue (is_living s d)
   pub seat : Seat s manager
   pub epoch : m.devices.epoch ≡ epoch_at s
-  pub few : s.half_steps < 4000000
+  pub few : s.half_steps < MOST_HALF_STEPS
   pub here : HasElection m.candidates (candidates_of m.candidates) s.election
 
 pub known : (m : Machine) (s : State) (d manager : ℕ) → IsGood s → StandsFor m s → (k : Contender m d manager) → Known m s d manager k

@@ -6,6 +6,7 @@ use Rattle.std.proofs.lemmas.Bool.Decides.{nat_tests}
 use Rattle.fw_base.specs.Tables.{update}
 use Rattle.fw_entry.specs.declared.entry.Timed.{Timed}
 use Rattle.fw_cmp.specs.Causes.{IsAtRest}
+use Rattle.fw_run.specs.declared.limits.TheConstants.{MOST_HALF_STEPS}
 use Rattle.fw_run.specs.State.{State, is_deaf, is_living, living, numbers_to}
 use Rattle.fw_run.specs.HalfSteps.{half, after_half, is_busy_at}
 use Rattle.fw_run.specs.Actions.{Action, Steps}
@@ -101,7 +102,7 @@ Counted T E n m now a b c l u = Performed {T = T} {E = E} (RoundTo n) m (record 
 -- one device more: if it lives, it has nothing to do
 rests_more : {T E : Type 0} (j : ℕ) (m now : Machine) {a b : Option (List ℕ)} {c l : ℕ} {u : T}
     → ((d : ℕ) → is_living_in now d ≡ is_living_in m d) → (IsTrue (is_living_in m j) → IsAtRest (states_of now.controllers j).state)
-    → m.half_steps + length (numbers_to (j + 1) (is_living_in m)) ≤ 4000000 → Counted T E j m now a b c l u → Counted T E (j + 1) m now a b c l u
+    → m.half_steps + length (numbers_to (j + 1) (is_living_in m)) ≤ MOST_HALF_STEPS → Counted T E j m now a b c l u → Counted T E (j + 1) m now a b c l u
 rests_more {T} {E} j m now {a} {b} {c} {l} {u} lives rests few before = go (is_living_in m j) refl
   where
     size : ℕ → ℕ
@@ -126,21 +127,21 @@ rests_to : {T E : Type 0} (k i : ℕ) (m now : Machine) {a b : Option (List ℕ)
     → ((d : ℕ) → is_living_in now d ≡ is_living_in m d)
     → ((d : ℕ) → i ≤ d → d < i + k → IsTrue (is_living_in m d) → IsAtRest (states_of now.controllers d).state)
     → now.half_steps ≡ m.half_steps + length (numbers_to i (is_living_in m))
-    → m.half_steps + length (numbers_to (i + k) (is_living_in m)) ≤ 4000000
+    → m.half_steps + length (numbers_to (i + k) (is_living_in m)) ≤ MOST_HALF_STEPS
     → Performed {T = T} {E = E} (RoundTo i) m now a b c l (Ok u) → Counted T E (i + k) m now a b c l u
 rests_to {T} {E} zero i m now {a} {b} {c} {l} {u} lives rests count few f =
     let none : i ≡ i + 0 = omega arith in
     subst (λ n. Counted T E n m now a b c l u) none (subst (λ h. Performed {T = T} {E = E} (RoundTo i) m (record now { half_steps = h }) a b c l (Ok u)) count f)
 rests_to {T} {E} (suc k) i m now {a} {b} {c} {l} {u} lives rests count few f =
     let one : i + suc k ≡ i + k + 1 = omega arith in
-    let most : m.half_steps + length (numbers_to (i + k + 1) (is_living_in m)) ≤ 4000000 = subst (λ n. m.half_steps + length (numbers_to n (is_living_in m)) ≤ 4000000) one few in
+    let most : m.half_steps + length (numbers_to (i + k + 1) (is_living_in m)) ≤ MOST_HALF_STEPS = subst (λ n. m.half_steps + length (numbers_to n (is_living_in m)) ≤ MOST_HALF_STEPS) one few in
     let front = count_front (i + k) (i + k + 1) (is_living_in m) (omega arith) in
     let before = rests_to k i m now lives (λ d low lt. rests d low (omega (arith, lt))) count (omega (arith, most, front)) f in
     subst (λ n. Counted T E n m now a b c l u) (sym one) (rests_more {T = T} {E = E} (i + k) m now lives (rests (i + k) (omega arith) (omega arith)) most before)
 
 -- those from `end` on have nothing to do
 pub round_rests : {T E : Type 0} (end after : ℕ) {m now : Machine} {a b : Option (List ℕ)} {c l : ℕ} {u : T} → IsReady m
-    → end ≤ length m.devices.names → after ≡ m.half_steps + length (living_in m) → after ≤ 4000000
+    → end ≤ length m.devices.names → after ≡ m.half_steps + length (living_in m) → after ≤ MOST_HALF_STEPS
     → ((d : ℕ) → is_living_in now d ≡ is_living_in m d)
     → EndsAt m end
     → now.half_steps ≡ m.half_steps + length (numbers_to end (is_living_in m))

@@ -25,6 +25,7 @@ use Rattle.fw_tape.specs.Motion.{is_fifty}
 use Rattle.fw_node.specs.Streams.{talking_on}
 use Rattle.fw_devices.specs.Decks.{tape_of}
 use Rattle.fw_devices.specs.Network.{is_node, node_at}
+use Rattle.fw_run.specs.declared.limits.TheConstants.{MOST_WRITTEN_CYCLES}
 use Rattle.fw_run.specs.Actions.{Action, Pass, EndSecond, StartCycle, SendPacket, Step}
 use Rattle.fw_run.specs.Carrying.{next_cycle}
 use Rattle.fw_run.specs.Desks.{DeskRelations}
@@ -112,7 +113,7 @@ started m = record m { written = m.written + 1 }
 
 pub start_turns : (m now : Machine) (root : ℕ) (packet : Packet)
     → ((s : State) → IsGood s → StandsFor m s → option_map (λ (e : ResetEntry). e.root) s.account.latest ≡ Some root)
-    → m.written < 8000 → packet ≡ cycle_start root m.cycle → now ≡ started m → TakesAction StartCycle m now m.cycle (Some (Async packet))
+    → m.written < MOST_WRITTEN_CYCLES → packet ≡ cycle_start root m.cycle → now ≡ started m → TakesAction StartCycle m now m.cycle (Some (Async packet))
 start_turns m now root packet roots few same is = record { shown = shown_ }
   where
     entry : (o : Option ResetEntry) → option_map (λ (e : ResetEntry). e.root) o ≡ Some root → (e : ResetEntry) × (o ≡ Some e) × (e.root ≡ root)

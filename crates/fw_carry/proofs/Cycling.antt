@@ -4,6 +4,7 @@ use Rattle.std.specs.Prelude.{Ok, Err, IsErr}
 use Rattle.std.specs.declared.result.Result.{Result}
 use Rattle.fw_entry.specs.declared.entry.ResetEntry.{ResetEntry}
 use Rattle.fw_entry.specs.declared.entry.Timed.{Timed}
+use Rattle.fw_run.specs.declared.limits.TheConstants.{MOST_WRITTEN_CYCLES}
 use Rattle.fw_run.specs.declared.order.Order.TheVariants.{Cycles}
 use Rattle.fw_run.specs.Actions.{Action, StartCycle}
 use Rattle.fw_run.specs.Carrying.{next_cycle, HasCycle, HasCycles, Carries, writes_cycles}
@@ -141,7 +142,7 @@ may_after (suc i) k s u xs out f may =
           omega (arith, low, same, one);
     })
 
-may_write : (m : Machine) (n : ℕ) (s : State) → IsGood s → StandsFor m s → m.cycle + n ≤ 2 ^ 52 → (0 < length m.devices.nodes → m.written + n ≤ 8000)
+may_write : (m : Machine) (n : ℕ) (s : State) → IsGood s → StandsFor m s → m.cycle + n ≤ 2 ^ 52 → (0 < length m.devices.nodes → m.written + n ≤ MOST_WRITTEN_CYCLES)
     → MayWrite n s
 may_write m n s g st cycle few = record {
   none = st.answered;
@@ -151,7 +152,7 @@ may_write m n s g st cycle few = record {
 
 -- the machine sees them
 machine_may : (m : Machine) (n : ℕ) (s : State) → IsGood s → StandsFor m s → MayWrite n s
-    → (m.cycle + n ≤ 2 ^ 52) × (0 < length m.devices.nodes → m.written + n ≤ 8000)
+    → (m.cycle + n ≤ 2 ^ 52) × (0 < length m.devices.nodes → m.written + n ≤ MOST_WRITTEN_CYCLES)
 machine_may m n s g st may = (
   let same = st.clock.cycle in let low = may.cycle in omega (arith, same, low),
   λ some. let low = may.few (there s.account.latest g.latest some) in let same = st.clock.written in omega (arith, low, same),
@@ -164,8 +165,8 @@ machine_may m n s g st may = (
 -- another cycle may be written
 pub cycles_may : {T E : Type 0} {D : DeskRelations} (i n : ℕ) {m now : Machine} {a b : Option (List ℕ)} {k l : ℕ} {u : T} → IsReady m → i < n
     → m.cycle + n ≤ 2 ^ 52
-    → (0 < length m.devices.nodes → m.written + n ≤ 8000) → PerformedWithDesk {T = T} {E = E} D (WritesCycles i) m now a b k l (Ok u)
-    → (now.cycle + 1 ≤ 2 ^ 52) × (0 < length now.devices.nodes → now.written < 8000)
+    → (0 < length m.devices.nodes → m.written + n ≤ MOST_WRITTEN_CYCLES) → PerformedWithDesk {T = T} {E = E} D (WritesCycles i) m now a b k l (Ok u)
+    → (now.cycle + 1 ≤ 2 ^ 52) × (0 < length now.devices.nodes → now.written < MOST_WRITTEN_CYCLES)
 cycles_may i n {m} {now} ready lt cycle few d =
     let s = ready.state in
     let x = d.shown s ready.good ready.stands in
@@ -178,7 +179,7 @@ cycles_may i n {m} {now} ready lt cycle few d =
 -- ---- cycles that were cut off
 
 -- the others can be written
-cycles_go_on : (m : Machine) (i n : ℕ) → i ≤ n → m.cycle + n ≤ 2 ^ 52 → (0 < length m.devices.nodes → m.written + n ≤ 8000)
+cycles_go_on : (m : Machine) (i n : ℕ) → i ≤ n → m.cycle + n ≤ 2 ^ 52 → (0 < length m.devices.nodes → m.written + n ≤ MOST_WRITTEN_CYCLES)
     → GoesOn m (WritesCycles i) (λ s. Carries s (Cycles n))
 cycles_go_on m i n le cycle few s u xs a g st p f =
     let all : i + (n - i) ≡ n = omega (arith, le) in
@@ -195,13 +196,13 @@ cycles_go_on m i n le cycle few s u xs a g st p f =
 
 pub cycles_cut : {U F V G : Type 0} {D : DeskRelations} (i n : ℕ)
     {m now last : Machine} {a b : Option (List ℕ)} {k l : ℕ} (q : Result U F) (r : Result V G)
-    → i ≤ n → m.cycle + n ≤ 2 ^ 52 → (0 < length m.devices.nodes → m.written + n ≤ 8000) → IsErr q → IsErr r
+    → i ≤ n → m.cycle + n ≤ 2 ^ 52 → (0 < length m.devices.nodes → m.written + n ≤ MOST_WRITTEN_CYCLES) → IsErr q → IsErr r
     → PerformedWithDesk D (WritesCycles i) m now a b k l q → PerformedWithDesk D (λ s. Carries s (Cycles n)) m last a b k l r
 cycles_cut i n {m} q r le cycle few was is f = by_where {A = λ s. Unit {0}} (λ s good st. tt) (where_cut q r (cycles_go_on m i n le cycle few) was is (where_by f))
 
 -- what is left in the room is written, or cut off
 pub cycles_out : {T E : Type 0} {D : DeskRelations} (i n : ℕ) (r : Result T E) {m now : Machine} {held after behind : Option (List ℕ)} {room : List ℕ} (rest : List ℕ) {j k l : ℕ} → i ≡ n
-    → m.cycle + n ≤ 2 ^ 52 → (0 < length m.devices.nodes → m.written + n ≤ 8000) → Gathers D (WritesCycles i) m now held after room
+    → m.cycle + n ≤ 2 ^ 52 → (0 < length m.devices.nodes → m.written + n ≤ MOST_WRITTEN_CYCLES) → Gathers D (WritesCycles i) m now held after room
     → Passes after behind r room rest → rest ≡ [] → j ≡ k → CountsFaults j l r → PerformedWithDesk D (λ s. Carries s (Cycles n)) m now held behind k l r
 cycles_out i n (Ok u) rest {j} {k} {l} all cycle few f passes empty same faults = cycles_all i n all (gathers_all u (gathers_out f passes) empty (faults_then k j l (Ok u) same faults))
 cycles_out i n (Err w) rest {j} {k} {l} all cycle few f passes empty same faults =

@@ -10,6 +10,7 @@ use Rattle.fw_cmp.specs.Losses.{Listening, turn_of, deaf_turn, deaf_until, after
 use Rattle.fw_cmp.specs.Turns.{next, after_next}
 use Rattle.fw_devices.specs.Network.{is_node, kind_at, kinds_of}
 use Rattle.fw_base.specs.Devices.{has_link}
+use Rattle.fw_run.specs.declared.limits.TheConstants.{MOST_HALF_STEPS, MOST_RESETS}
 use Rattle.fw_run.specs.Giving.{at_most}
 use Rattle.fw_run.specs.State.{State, is_deaf, is_living}
 use Rattle.fw_run.specs.HalfSteps.{is_waiting}
@@ -97,7 +98,7 @@ is_early m s d st lost quiet = go (is_waiting s d) refl
 
 -- ---- it waits
 
-pub deaf_waits : (m : Machine) (k : ControllerTable) (d : ℕ) → IsTrue (is_living_in m d) → IsTrue (states_of m.controllers d).lost → m.half_steps < 4000000
+pub deaf_waits : (m : Machine) (k : ControllerTable) (d : ℕ) → IsTrue (is_living_in m d) → IsTrue (states_of m.controllers d).lost → m.half_steps < MOST_HALF_STEPS
     → turn_of m.cycle m.directory (states_of m.controllers d) ≢ Force
     → IsTable k (count_of m.controllers) (update (states_of m.controllers) d (after_turn m.cycle m.directory (states_of m.controllers d))) (dead_of m.controllers)
     → TakesAction (HalfStep d) m (record m { controllers = k; half_steps = m.half_steps + 1 }) m.cycle None
@@ -105,7 +106,7 @@ deaf_waits m k d lives lost few quiet table = record {
   shown = λ s g st.
       let living : IsTrue (is_living s d) = sym (living_same m s d g st) ∙ lives in
       let count = st.clock.half_steps in
-      let low : s.half_steps < 4000000 = omega (arith, few, count) in
+      let low : s.half_steps < MOST_HALF_STEPS = omega (arith, few, count) in
       let takes : Takes (is_deaf s d) (is_waiting s d) s d [] (counted s 1) =
       subst (λ b. Takes b (is_waiting s d) s d [] (counted s 1)) (sym (deaf_here m s d st lost)) (subst (λ w. Takes true w s d [] (counted s 1)) (sym (is_early m s d st lost quiet)) (refl, refl)) in
       (counted s 1, (st.answered, (living, low, takes)), counted_stands (record m { controllers = k }) s 1 (same_controllers m s k st (deaf_table m k d lost table)));
@@ -114,7 +115,7 @@ deaf_waits m k d lives lost few quiet table = record {
 -- ---- it forces a bus reset
 
 -- fewer bus resets came than may
-pub forced_few : (m : Machine) (s : State) (d : ℕ) → IsGood s → StandsFor m s → IsTrue (states_of m.controllers d).lost → m.devices.epoch < 10000
+pub forced_few : (m : Machine) (s : State) (d : ℕ) → IsGood s → StandsFor m s → IsTrue (states_of m.controllers d).lost → m.devices.epoch < MOST_RESETS
 forced_few m s d g st lost =
     let counted = g.losses.counted d (deaf_here m s d st lost) in
     let few = g.losses.few in
@@ -129,7 +130,7 @@ living_node m d lives = first (is_node m.devices.nodes d) (has_link (kind_at (ki
     first false b e = e
 
 -- what the bus reset of the machine is in the run
-pub deaf_forces : (m now : Machine) (k : ControllerTable) (d : ℕ) → IsTrue (is_living_in m d) → IsTrue (states_of m.controllers d).lost → m.half_steps < 4000000
+pub deaf_forces : (m now : Machine) (k : ControllerTable) (d : ℕ) → IsTrue (is_living_in m d) → IsTrue (states_of m.controllers d).lost → m.half_steps < MOST_HALF_STEPS
     → turn_of m.cycle m.directory (states_of m.controllers d) ≡ Force
     → IsTable k (count_of m.controllers) (update (states_of m.controllers) d (after_turn m.cycle m.directory (states_of m.controllers d))) (dead_of m.controllers)
     → BeginsReset (record m { controllers = k; half_steps = m.half_steps + 1 }) now d
@@ -143,7 +144,7 @@ deaf_forces m now k d lives lost few force table b = record { shown = shown_ }
     shown_ s g st =
         let living : IsTrue (is_living s d) = sym (living_same m s d g st) ∙ lives in
         let count = st.clock.half_steps in
-        let low : s.half_steps < 4000000 = omega (arith, few, count) in
+        let low : s.half_steps < MOST_HALF_STEPS = omega (arith, few, count) in
         let takes = λ (out : List Timed) (t : State) (r : Resets (counted s 1) d out t).
         subst (λ b. Takes b (is_waiting s d) s d out t) (sym (deaf_here m s d st lost)) (subst (λ w. Takes true w s d out t) (sym (is_over m s d st lost force)) r) in
         let may : MayBegin new s (counted s 1) d = record {

@@ -2,6 +2,7 @@
 use Rattle.std.proofs.Common.{◌≡◌, ℕ, zero, suc, ◌+◌, ◌*◌, ◌<◌, ◌≤◌, ◌&&◌, not, List, [], ◌∷◌, ◌++◌, length, Bool, true, false, cond, None, Some, is_some, refl, ap, sym, subst, ◌∙◌, arith, IsTrue}
 use Rattle.std.specs.Prelude.{⊤}
 use Rattle.fw_entry.specs.declared.entry.Timed.{Timed}
+use Rattle.fw_run.specs.declared.limits.TheConstants.{MOST_HALF_STEPS}
 use Rattle.fw_run.specs.Giving.{at_most}
 use Rattle.fw_run.specs.State.{State, is_deaf, is_living, linked_number, living, numbers_to}
 use Rattle.fw_run.specs.HalfSteps.{half, after_half, is_waiting}
@@ -41,7 +42,7 @@ after_more s t u j k f g = record {
 
 -- ---- one
 
-taken_leaves : (s : State) (d : ℕ) (out : List Timed) (t : State) → IsGood s → s.transaction ≡ None → IsTrue (is_living s d) → s.half_steps < 4000000
+taken_leaves : (s : State) (d : ℕ) (out : List Timed) (t : State) → IsGood s → s.transaction ≡ None → IsTrue (is_living s d) → s.half_steps < MOST_HALF_STEPS
     → IsGood t → Taken s d out t → After s t 1
 taken_leaves s d out t g quiet lives few good (listens hears said is) = subst (λ z. IsGood z → After s z 1) (sym is) (λ good.
     let h = half_turn s d g lives in record {
@@ -69,7 +70,7 @@ pub record OneGiven (s : State) (d : ℕ) : Type 0 where
   pub state : State
   pub step : Step s (HalfStep d) out state
 
-pub half_given : (s : State) (d : ℕ) → IsGood s → s.transaction ≡ None → IsTrue (is_living s d) → s.half_steps < 4000000 → OneGiven s d
+pub half_given : (s : State) (d : ℕ) → IsGood s → s.transaction ≡ None → IsTrue (is_living s d) → s.half_steps < MOST_HALF_STEPS → OneGiven s d
 half_given s d g quiet lives few = by_deaf (is_deaf s d) refl
   where
     given : (out : List Timed) (t : State) → Takes (is_deaf s d) (is_waiting s d) s d out t → OneGiven s d
@@ -120,7 +121,7 @@ pub record Given (s : State) (actions : List Action) (count : ℕ) : Type 0 wher
   pub steps : Steps s actions out state
   pub after : After s state count
 
-pub halves_given : (ds : List ℕ) (s : State) → IsGood s → s.transaction ≡ None → AllLive s ds → s.half_steps + length ds ≤ 4000000 → Given s (half_steps_of ds) (length ds)
+pub halves_given : (ds : List ℕ) (s : State) → IsGood s → s.transaction ≡ None → AllLive s ds → s.half_steps + length ds ≤ MOST_HALF_STEPS → Given s (half_steps_of ds) (length ds)
 halves_given [] s g quiet lives few = record { out = []; state = s; steps = (refl, refl); after = after_none s g quiet }
 halves_given (d ∷ ds) s g quiet lives few =
     let x = half_given s d g quiet lives.0 (omega (arith, few)) in
@@ -136,7 +137,7 @@ halves_given (d ∷ ds) s g quiet lives few =
     }
 
 -- so many of one controller
-pub times_given : (k : ℕ) (s : State) (d : ℕ) → IsGood s → s.transaction ≡ None → IsTrue (is_living s d) → s.half_steps + k ≤ 4000000 → Given s (times k (HalfStep d)) k
+pub times_given : (k : ℕ) (s : State) (d : ℕ) → IsGood s → s.transaction ≡ None → IsTrue (is_living s d) → s.half_steps + k ≤ MOST_HALF_STEPS → Given s (times k (HalfStep d)) k
 unfolding times
 times_given zero s d g quiet lives few = record { out = []; state = s; steps = (refl, refl); after = after_none s g quiet }
 times_given (suc k) s d g quiet lives few =
@@ -175,7 +176,7 @@ pub record RoundsGiven (n : ℕ) (s : State) : Type 0 where
   pub rounds : Rounds n s actions out state
   pub after : After s state (n * length (living s))
 
-pub rounds_given : (n : ℕ) (s : State) → IsGood s → s.transaction ≡ None → s.half_steps + n * length (living s) ≤ 4000000 → RoundsGiven n s
+pub rounds_given : (n : ℕ) (s : State) → IsGood s → s.transaction ≡ None → s.half_steps + n * length (living s) ≤ MOST_HALF_STEPS → RoundsGiven n s
 rounds_given zero s g quiet few = record { actions = []; out = []; state = s; rounds = Rounds.none; after = subst (λ k. After s s k) (omega arith) (after_none s g quiet) }
 rounds_given (suc n) s g quiet few =
     let one : suc n * length (living s) ≡ length (living s) + n * length (living s) = omega arith in

@@ -11,6 +11,7 @@ use Rattle.fw_cmp.specs.declared.stage.Stage.{Stage}
 use Rattle.fw_cmp.specs.Losses.{Listening, Awaits, after_answer, after_loss as unheard}
 use Rattle.fw_node.specs.Packets.{reply_in}
 use Rattle.fw_devices.specs.Network.{Network}
+use Rattle.fw_run.specs.declared.limits.TheConstants.{MOST_RESETS}
 use Rattle.fw_run.specs.declared.order.Order.TheVariants as Orders
 use Rattle.fw_run.specs.Giving.{at_most}
 use Rattle.fw_run.specs.Entries.{lost}
@@ -72,7 +73,7 @@ heard_table_is m d r within = record {
 }
 
 pub loses_turns : (m : Machine) (n : Network) (k : ControllerTable) (d : ℕ) (a : Access) (to device own : ℕ) (packet response : Packet) (r : Reply)
-    → IsTrue (is_living_in m d) → Awaits (states_of m.controllers d) → m.resets < 10000 → Sent m d a to device own packet response
+    → IsTrue (is_living_in m d) → Awaits (states_of m.controllers d) → m.resets < MOST_RESETS → Sent m d a to device own packet response
     → n ≡ record m.devices { nodes = nodes_after m.devices.nodes device packet } → Some r ≡ reply_in response
     → IsTable k (count_of m.controllers) (update (states_of m.controllers) d (unheard (states_of m.controllers d))) (dead_of m.controllers)
     → TakesAction (Lose d) m (record m { devices = n; controllers = k; wire = without own m.wire; streams = looked_at device n.nodes m.streams; resets = m.resets + 1 }) m.cycle (Some (Async response))
@@ -83,7 +84,7 @@ loses_turns m n k d a to device own packet response r lives standing few sent re
       let x = takes_hears m n (heard_table m d r) d a to device own packet response r lives standing sent registers heard (heard_table_is m d r within) s g st in
       let request : IsTrue (has_request (s.controllers d).current) = stands_request (s.controllers d).current (stands_here m s d st standing) in
       let resets = st.clock.resets in
-      let low : s.resets < 10000 = omega (arith, resets, few) in
+      let low : s.resets < MOST_RESETS = omega (arith, resets, few) in
       let said = x.0 in
       let out : at_most m.cycle (Some (Async response)) ≡ at_most s.clock.cycle (half s d).says = (λ i. at_most (st.clock.cycle i) (said i)) in
       let all = table_with m s (after_loss s d) k d (unheard (states_of m.controllers d)) (unheard (controller_at s d)) st (ap unheard (at_same m s d st)) (all_lose s d g living request) table in (
@@ -100,7 +101,7 @@ pub unheard_there : (m : Machine) (k : ControllerTable) (d : ℕ) → d < count_
 unheard_there m k d within table = ap (λ (c : ℕ → Listening). (c d).lost) table.states_are ∙ ap (λ (x : Listening). x.lost) (update_new (states_of m.controllers) d (unheard (states_of m.controllers d)))
 
 -- what the machine did once the request was carried out
-pub served_loses : (m now : Machine) (k : ControllerTable) (d : ℕ) (bytes : List ℕ) (r : Reply) → IsTrue (is_living_in m d) → Awaits (states_of m.controllers d) → m.resets < 10000
+pub served_loses : (m now : Machine) (k : ControllerTable) (d : ℕ) (bytes : List ℕ) (r : Reply) → IsTrue (is_living_in m d) → Awaits (states_of m.controllers d) → m.resets < MOST_RESETS
     → (s : Serves m now d bytes r) → IsTable k (count_of now.controllers) (update (states_of now.controllers) d (unheard (states_of now.controllers d))) (dead_of now.controllers)
     → TakesAction (Lose d) m (record now { controllers = k; resets = now.resets + 1 }) now.cycle (Some (Async s.response))
 served_loses m now k d bytes r lives stands few s table =

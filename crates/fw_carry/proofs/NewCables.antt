@@ -11,6 +11,7 @@ use Rattle.fw_tree.specs.Topology.{Topology, Made, IsJoined}
 use Rattle.fw_node.specs.State.{NodeState}
 use Rattle.fw_devices.specs.Network.{Network, kinds_of, is_node}
 use Rattle.fw_devices.proofs.JoinLaws.{bus_grows}
+use Rattle.fw_run.specs.declared.limits.TheConstants.{MOST_RESETS}
 use Rattle.fw_run.specs.Giving.{at_most}
 use Rattle.fw_run.specs.State.{State, is_on}
 use Rattle.fw_run.specs.Actions.{AddCable, Step, Joins, with_topology, Begins, counting}
@@ -102,7 +103,7 @@ joins_by m s devices a b x y out t g st j joins =
     (subst (λ q. Joins x q a.device b.device (with_topology s devices.topology) out t) second joins)
 
 -- where one end is on the bus and the other is off, the end on the bus begins a bus reset
-join_resets : (m now : Machine) (devices : Network) (a b : End) (x y : Bool) (i : ℕ) → IsCable m devices a b x y → m.resets < 10000
+join_resets : (m now : Machine) (devices : Network) (a b : End) (x y : Bool) (i : ℕ) → IsCable m devices a b x y → m.resets < MOST_RESETS
     → ((s : State) (out : List Timed) (t : State) → Begins s i out t → Joins x y a.device b.device s out t) → IsTrue (is_node m.devices.nodes i)
     → BeginsReset (counting_in (with_devices m devices)) now i → TakesAction (AddCable a b) m now m.cycle (Some (Reset now.devices.latest))
 join_resets m now devices a b x y i j few joins node begins = record { shown = shown_ }
@@ -112,7 +113,7 @@ join_resets m now devices a b x y i j few joins node begins = record { shown = s
     shown_ s g st =
         let js = joined_in m s devices.topology a b st j.joined in
         let s1 = with_topology s devices.topology in
-        let low : s.resets < 10000 = let resets = st.clock.resets in omega (arith, resets, few) in
+        let low : s.resets < MOST_RESETS = let resets = st.clock.resets in omega (arith, resets, few) in
         let may : MayBegin (counting_in (with_devices m devices)) s (counting s1) i = record {
           is_good = g;
           around = st.beside.run;
@@ -126,7 +127,7 @@ join_resets m now devices a b x y i j few joins node begins = record { shown = s
           more = let n = ap (λ (fs : List PhyFacts). length fs) js.same in omega (arith, n);
           walks = bus_grows s.declared.topology devices.topology a b js g.declared.made;
         } in
-        let r = reset_of (counting_in (with_devices m devices)) now s (counting s1) i may begins (subst (λ n. n < 10000) (sym (ap (λ (n : Network). n.epoch) j.same)) (few_epochs m s g st few)) in
+        let r = reset_of (counting_in (with_devices m devices)) now s (counting s1) i may begins (subst (λ n. n < MOST_RESETS) (sym (ap (λ (n : Network). n.epoch) j.same)) (few_epochs m s g st few)) in
         (r.state, may.begins (at_most m.cycle (Some (Reset now.devices.latest))) r.state r.resets, r.stands)
 
 -- where both are off nothing else happens; both on the bus they cannot be
@@ -142,7 +143,7 @@ join_silent m devices a b x y j joins = record { shown = shown_ }
 
 -- the entry of the bus reset was written, or cut off
 pub join_does : {T E : Type 0} {held after : Option (List ℕ)} {k l : ℕ}
-    (m now : Machine) (devices : Network) (a b : End) (x y : Bool) (i : ℕ) (r : Result T E) → IsCable m devices a b x y → m.resets < 10000
+    (m now : Machine) (devices : Network) (a b : End) (x y : Bool) (i : ℕ) (r : Result T E) → IsCable m devices a b x y → m.resets < MOST_RESETS
     → ((s : State) (out : List Timed) (t : State) → Begins s i out t → Joins x y a.device b.device s out t) → IsTrue (is_node m.devices.nodes i)
     → GivesReset (counting_in (with_devices m devices)) now i held after k l r → Performed (Performs (AddCable a b ∷ [])) m now held after k l r
 join_does m now devices a b x y i r j few joins node h =
@@ -158,9 +159,9 @@ ready_joined {m} devices a b d r j node =
 
 -- fewer bus resets than there may be, where the cable begins one
 pub few_of : (m : Machine) (a b : End) (x y : Bool) → is_node m.devices.nodes a.device ≡ x → is_node m.devices.nodes b.device ≡ y → cond x (not y) y ≡ true
-    → IsFalse (joins_in m a b && nat_le 10000 m.resets) → m.resets < 10000
+    → IsFalse (joins_in m a b && nat_le MOST_RESETS m.resets) → m.resets < MOST_RESETS
 few_of m a b x y ea eb joins h =
     let on : ℕ → Bool = is_node m.devices.nodes in
     let joining : joins_in m a b ≡ true = ap (λ z. cond z (not (on b.device)) (on b.device)) ea ∙ (ap (λ z. cond x (not z) z) eb ∙ joins) in
-    let small : nat_le 10000 m.resets ≡ false = sym (ap (λ z. z && nat_le 10000 m.resets) joining) ∙ h in
+    let small : nat_le MOST_RESETS m.resets ≡ false = sym (ap (λ z. z && nat_le MOST_RESETS m.resets) joining) ∙ h in
     grind (arith, nat_tests)

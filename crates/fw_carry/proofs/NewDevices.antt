@@ -9,6 +9,7 @@ use Rattle.fw_entry.specs.declared.entry.Timed.{Timed}
 use Rattle.fw_tree.specs.Topology.{Topology}
 use Rattle.fw_node.specs.State as Nodes
 use Rattle.fw_devices.specs.Network.{with_device, facts_of}
+use Rattle.fw_run.specs.declared.limits.TheConstants.{MOST_RESETS}
 use Rattle.fw_run.specs.Giving.{at_most}
 use Rattle.fw_run.specs.State.{State, epoch_of}
 use Rattle.fw_run.specs.State as States
@@ -121,7 +122,7 @@ may_declare m s ports speed g st may = record {
 
 -- the first device begins the first bus reset
 first_turns : (m now : Machine) (table : ControllerTable) (more_table : CandidateTable) (name : List ℕ) (kind : DeviceKind) (ports speed : ℕ) → m.devices.names ≡ [] → MayAdd m ports speed
-    → IsOneMore m table → IsCandidateMore m more_table → m.devices.epoch < 10000
+    → IsOneMore m table → IsCandidateMore m more_table → m.devices.epoch < MOST_RESETS
     → BeginsReset (record (with_device_in m table more_table name kind ports speed) { resets = 1 }) now 0 → TakesAction (AddDevice name kind ports speed) m now m.cycle (Some (Reset now.devices.latest))
 first_turns m now table more_table name kind ports speed none may more extra few b = record { shown = shown_ }
   where
@@ -174,7 +175,7 @@ later_turns m table more_table name kind ports speed there may more extra = reco
 -- the entry of the first bus reset was written, or cut off
 pub first_does : {T E : Type 0} {held after : Option (List ℕ)} {k l : ℕ}
     (m now : Machine) (table : ControllerTable) (more_table : CandidateTable) (name : List ℕ) (kind : DeviceKind) (ports speed : ℕ) (r : Result T E)
-    → m.devices.names ≡ [] → MayAdd m ports speed → IsOneMore m table → IsCandidateMore m more_table → m.devices.epoch < 10000
+    → m.devices.names ≡ [] → MayAdd m ports speed → IsOneMore m table → IsCandidateMore m more_table → m.devices.epoch < MOST_RESETS
     → GivesReset (record (with_device_in m table more_table name kind ports speed) { resets = 1 }) now 0 held after k l r
     → Performed (Performs (AddDevice name kind ports speed ∷ [])) m now held after k l r
 first_does m now table more_table name kind ports speed r none may more extra few h =

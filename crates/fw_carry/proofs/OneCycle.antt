@@ -8,6 +8,7 @@ use Rattle.fw_base.specs.Tables.{at_plug}
 use Rattle.fw_entry.specs.declared.entry.Entry.TheVariants.{Async}
 use Rattle.fw_entry.specs.declared.entry.ResetEntry.{ResetEntry}
 use Rattle.fw_entry.specs.declared.entry.Timed.{Timed}
+use Rattle.fw_run.specs.declared.limits.TheConstants.{MOST_WRITTEN_CYCLES}
 use Rattle.fw_run.specs.Actions.{Action, Pass, EndSecond, StartCycle, KeepBlock, Step, Steps}
 use Rattle.fw_run.specs.Recording.{block_among, block_heard, heard_by, heard_in, records, reel_keeping, reel_with, room_of, tape_in, with_block}
 use Rattle.fw_dub.specs.Reels.{kept}
@@ -106,8 +107,8 @@ root_few {m} root r is =
     omega (arith, few, low, same)
 
 -- the limit of written cycles is not passed
-begin_few : {T E : Type 0} {m mid : Machine} {a b : Option (List ℕ)} {k l : ℕ} {u : T} (root : ℕ) → IsReady m → (0 < length m.devices.nodes → m.written < 8000)
-    → Performed {T = T} {E = E} Comes m mid a b k l (Ok u) → ((s : State) → IsGood s → StandsFor mid s → root_of s.account.latest ≡ Some root) → mid.written < 8000
+begin_few : {T E : Type 0} {m mid : Machine} {a b : Option (List ℕ)} {k l : ℕ} {u : T} (root : ℕ) → IsReady m → (0 < length m.devices.nodes → m.written < MOST_WRITTEN_CYCLES)
+    → Performed {T = T} {E = E} Comes m mid a b k l (Ok u) → ((s : State) → IsGood s → StandsFor mid s → root_of s.account.latest ≡ Some root) → mid.written < MOST_WRITTEN_CYCLES
 begin_few {m = m} {mid} root r few d is =
     let s = r.state in
     let x = d.shown s r.good r.stands in
@@ -121,7 +122,7 @@ begin_few {m = m} {mid} root r few d is =
 
 -- a cycle has come, and its cycle start was written, or cut off
 pub begins : {T E U F : Type 0} {m mid : Machine} {a b c : Option (List ℕ)} {k l n : ℕ} {u : T} {r : Result U F} (root : ℕ) (packet : Packet) → IsReady m
-    → (0 < length m.devices.nodes → m.written < 8000) → Performed {T = T} {E = E} Comes m mid a b k l (Ok u)
+    → (0 < length m.devices.nodes → m.written < MOST_WRITTEN_CYCLES) → Performed {T = T} {E = E} Comes m mid a b k l (Ok u)
     → ((s : State) → IsGood s → StandsFor mid s → root_of s.account.latest ≡ Some root) → packet ≡ cycle_start root mid.cycle
     → GivesEntry b c r mid.cycle mid.devices.epoch (Some (Async packet)) → CountsFaults l n r → Performed Begins m (started mid) a c k n r
 begins {m = m} {mid} {r = r} root packet ready few d is same gives faults =
@@ -129,7 +130,7 @@ begins {m = m} {mid} {r = r} root packet ready few d is same gives faults =
     (does_one mid.cycle (Some (Async packet)) r (start_turns mid (started mid) root packet is (begin_few root ready few d is) same refl) gives faults)
 
 -- both stand in a room
-pub begun_in : {m mid : Machine} {a : List ℕ} (b c : List ℕ) (root : ℕ) (packet : Packet) → IsReady m → (0 < length m.devices.nodes → m.written < 8000) → Fills Comes m mid a b
+pub begun_in : {m mid : Machine} {a : List ℕ} (b c : List ℕ) (root : ℕ) (packet : Packet) → IsReady m → (0 < length m.devices.nodes → m.written < MOST_WRITTEN_CYCLES) → Fills Comes m mid a b
     → ((s : State) → IsGood s → StandsFor mid s → root_of s.account.latest ≡ Some root) → packet ≡ cycle_start root mid.cycle
     → GivesEntry {T = Unit {0}} {E = Unit {0}} (Some b) (Some c) (Ok (tt {0})) mid.cycle mid.devices.epoch (Some (Async packet)) → Fills Begins m (started mid) a c
 begun_in b c root packet ready few d is same gives =

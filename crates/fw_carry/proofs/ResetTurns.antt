@@ -5,6 +5,7 @@ use Rattle.fw_entry.specs.declared.entry.Entry.TheVariants.{Reset}
 use Rattle.fw_tree.specs.Cables.{IsOnBus}
 use Rattle.fw_tree.specs.Topology.{Topology}
 use Rattle.fw_devices.specs.Network.{is_node}
+use Rattle.fw_run.specs.declared.limits.TheConstants.{MOST_RESETS}
 use Rattle.fw_run.specs.Giving.{at_most}
 use Rattle.fw_run.specs.State.{State, is_on, is_deaf}
 use Rattle.fw_run.specs.Actions.{ResetBus, Resets, after_reset_entry, counting}
@@ -30,7 +31,7 @@ use Rattle.fw_machine.proofs.Besides.{no_bids}
 -- ---- the state after it
 
 -- the machine stands for the state after the bus reset
-reset_stands : (m now : Machine) (good s : State) (i : ℕ) → MayBegin m good s i → BeginsReset m now i → m.devices.epoch < 10000
+reset_stands : (m now : Machine) (good s : State) (i : ℕ) → MayBegin m good s i → BeginsReset m now i → m.devices.epoch < MOST_RESETS
     → StandsFor now (after_reset_entry s now.devices.latest)
 reset_stands m now good s i may b few =
     let st = may.stands in
@@ -81,7 +82,7 @@ pub record IsResetOf (now : Machine) (s : State) (i cycle : ℕ) : Type 0 where
   pub resets : Resets s i (at_most cycle (Some (Reset now.devices.latest))) state
   pub stands : StandsFor now state
 
-pub reset_of : (m now : Machine) (good s : State) (i : ℕ) → MayBegin m good s i → BeginsReset m now i → m.devices.epoch < 10000 → IsResetOf now s i m.cycle
+pub reset_of : (m now : Machine) (good s : State) (i : ℕ) → MayBegin m good s i → BeginsReset m now i → m.devices.epoch < MOST_RESETS → IsResetOf now s i m.cycle
 reset_of m now good s i may b few =
     let t : State = after_reset_entry s now.devices.latest in record {
       state = t;
@@ -108,15 +109,15 @@ abbrev pub counting_in : Machine → Machine
 counting_in m = record m { resets = m.resets + 1 }
 
 -- fewer came than count
-pub few_epochs : (m : Machine) (s : State) → IsGood s → StandsFor m s → m.resets < 10000 → m.devices.epoch < 10000
+pub few_epochs : (m : Machine) (s : State) → IsGood s → StandsFor m s → m.resets < MOST_RESETS → m.devices.epoch < MOST_RESETS
 few_epochs m s g st few = let came = g.losses.came in let epoch = st.devices.epoch in let resets = st.clock.resets in omega (arith, came, epoch, resets, few)
 
 -- the bus reset of the machine is the action of the run
-pub reset_turns : (m now : Machine) (d : ℕ) → IsTrue (is_node m.devices.nodes d) → m.resets < 10000 → BeginsReset (counting_in m) now d
+pub reset_turns : (m now : Machine) (d : ℕ) → IsTrue (is_node m.devices.nodes d) → m.resets < MOST_RESETS → BeginsReset (counting_in m) now d
     → TakesAction (ResetBus d) m now m.cycle (Some (Reset now.devices.latest))
 reset_turns m now d node few b = record {
   shown = λ s g st.
-      let low : s.resets < 10000 = let resets = st.clock.resets in omega (arith, resets, few) in
+      let low : s.resets < MOST_RESETS = let resets = st.clock.resets in omega (arith, resets, few) in
       let may : MayBegin (counting_in m) s (counting s) d = record {
         is_good = g;
         around = st.beside.run;
@@ -147,7 +148,7 @@ pub ready_declared : {m : Machine} (d : ℕ) → IsReady m → IsTrue (is_node m
 ready_declared {m} d r node = within m r.state d r.good r.stands node
 
 -- fewer bus resets came than count
-pub ready_few : {m : Machine} → IsReady m → m.resets < 10000 → m.devices.epoch < 10000
+pub ready_few : {m : Machine} → IsReady m → m.resets < MOST_RESETS → m.devices.epoch < MOST_RESETS
 ready_few {m} r few = few_epochs m r.state r.good r.stands few
 
 -- the cycles of a run are few
@@ -162,6 +163,6 @@ same_cycle b = ap (λ (z : Machine). z.cycle) b.after
 
 -- the entry of the bus reset was written, or cut off
 pub reset_does : {T E : Type 0} {held after : Option (List ℕ)} {k l : ℕ} (m now : Machine) (d : ℕ) (r : Result T E) → IsTrue (is_node m.devices.nodes d)
-    → m.resets < 10000
+    → m.resets < MOST_RESETS
     → GivesReset (counting_in m) now d held after k l r → Performed (Performs (ResetBus d ∷ [])) m now held after k l r
 reset_does m now d r node few h = does_one m.cycle (Some (Reset now.devices.latest)) r (reset_turns m now d node few h.begins) h.gives h.faults

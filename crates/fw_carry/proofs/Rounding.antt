@@ -3,6 +3,7 @@ use Rattle.std.proofs.Common.{◌≡◌, ℕ, ◌+◌, ◌-◌, ◌<◌, ◌≤�
 use Rattle.std.specs.Prelude.{Ok, IsErr}
 use Rattle.std.specs.declared.result.Result.{Result}
 use Rattle.std.proofs.lemmas.List.{map-append, length-append}
+use Rattle.fw_run.specs.declared.limits.TheConstants.{MOST_HALF_STEPS}
 use Rattle.fw_run.specs.State.{State, is_living, numbers_to}
 use Rattle.fw_run.specs.Actions.{HalfStep, Steps}
 use Rattle.fw_run.specs.Carrying.{half_steps_of}
@@ -54,7 +55,7 @@ pub round_then : {T E U F : Type 0} (i : ℕ) {m mid now : Machine} {a b c : Opt
 round_then i {r = r} lives d e = does_then r (round_follows i lives) d e
 
 -- the others can take theirs
-round_goes_on : (m : Machine) (j : ℕ) → j ≤ length m.devices.names → m.half_steps + length (living_in m) ≤ 4000000 → GoesOn m (RoundTo j) OneRound
+round_goes_on : (m : Machine) (j : ℕ) → j ≤ length m.devices.names → m.half_steps + length (living_in m) ≤ MOST_HALF_STEPS → GoesOn m (RoundTo j) OneRound
 round_goes_on m j le few s u xs a g st p f =
     let names = ap (λ (z : List (List ℕ)). length z) st.devices.names in
     let count = length s.declared.names in
@@ -79,7 +80,7 @@ round_goes_on m j le few s u xs a g st p f =
 
 -- a half step was cut off
 pub round_cut : {T E U F V G : Type 0} (i : ℕ) {m mid now : Machine} {a b c : Option (List ℕ)} {k l n : ℕ} {u : T} (q : Result U F) (r : Result V G)
-    → i < length m.devices.names → IsTrue (is_living_in m i) → m.half_steps + length (living_in m) ≤ 4000000 → IsErr q → IsErr r
+    → i < length m.devices.names → IsTrue (is_living_in m i) → m.half_steps + length (living_in m) ≤ MOST_HALF_STEPS → IsErr q → IsErr r
     → Performed {T = T} {E = E} (RoundTo i) m mid a b k l (Ok u) → Performed (Performs (HalfStep i ∷ [])) mid now b c l n q → Performed OneRound m now a c k n r
 round_cut i {m} q r lt lives few was is f e = does_cut q r (round_goes_on m (i + 1) (omega (arith, lt)) few) was is (round_then i lives f e)
 

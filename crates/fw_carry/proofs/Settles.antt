@@ -4,6 +4,7 @@ use Rattle.std.specs.Prelude.{Ok, IsErr}
 use Rattle.std.specs.declared.result.Result.{Result}
 use Rattle.fw_outside.proofs.Parts.{Grows-nothing}
 use Rattle.fw_entry.specs.declared.entry.Timed.{Timed}
+use Rattle.fw_run.specs.declared.limits.TheConstants.{MOST_HALF_STEPS}
 use Rattle.fw_run.specs.Giving.{at_most}
 use Rattle.fw_run.specs.declared.order.Order.TheVariants.{Settle}
 use Rattle.fw_run.specs.State.{State, entered, living, numbers_to}
@@ -69,7 +70,7 @@ rest_follows i n le s mid t xs ys a b g st p f q h =
     let all : i + (n - i) ≡ n = omega (arith, le) in subst (λ k. Rounds k s (xs ++ ys) (a ++ b) t) all (p.3 (n - i) ys b t q)
 
 does_rest : {T E : Type 0} (n : ℕ) (m : Machine) (held : Option (List ℕ)) (k : ℕ) (u : T)
-    → ((s : State) → IsGood s → StandsFor m s → IsFalse (is_unsettled s)) → m.half_steps + n * length (living_in m) ≤ 4000000
+    → ((s : State) → IsGood s → StandsFor m s → IsFalse (is_unsettled s)) → m.half_steps + n * length (living_in m) ≤ MOST_HALF_STEPS
     → Performed {T = T} {E = E} (SomeRounds n) m (record m { half_steps = m.half_steps + n * length (living_in m) }) held held k k (Ok u)
 does_rest n m held k u calm few = record {
   faults = no_faults k u;
@@ -91,14 +92,14 @@ does_rest n m held k u calm few = record {
 }
 
 pub rounds_rest : {T E : Type 0} (i n : ℕ) {m mid : Machine} {a b : Option (List ℕ)} {k l : ℕ} {u : T} → i ≤ n
-    → ((s : State) → IsGood s → StandsFor mid s → IsFalse (is_unsettled s)) → mid.half_steps + (n - i) * length (living_in mid) ≤ 4000000
+    → ((s : State) → IsGood s → StandsFor mid s → IsFalse (is_unsettled s)) → mid.half_steps + (n - i) * length (living_in mid) ≤ MOST_HALF_STEPS
     → Performed {T = T} {E = E} (RoundsFirst i) m mid a b k l (Ok u)
     → Performed {T = T} {E = E} (SomeRounds n) m (record mid { half_steps = mid.half_steps + (n - i) * length (living_in mid) }) a b k l (Ok u)
 rounds_rest {E = E} i n {mid = mid} {b = b} {l = l} {u = u} le calm few d = does_then (Ok u) (rest_follows i n le) d (does_rest {E = E} (n - i) mid b l u calm few)
 
 -- ---- a round was cut off
 
-rounds_go_on : (m : Machine) (j n : ℕ) → j ≤ n → m.half_steps + n * length (living_in m) ≤ 4000000 → GoesOn m (RoundsFirst j) (SomeRounds n)
+rounds_go_on : (m : Machine) (j n : ℕ) → j ≤ n → m.half_steps + n * length (living_in m) ≤ MOST_HALF_STEPS → GoesOn m (RoundsFirst j) (SomeRounds n)
 rounds_go_on m j n le few s u xs a g st p f =
     let good = steps_good s u xs a g f in
     let size : length (living_in m) ≡ length (living s) = ap (λ (z : List ℕ). length z) (living_list m s g st) in
@@ -121,7 +122,7 @@ rounds_go_on m j n le few s u xs a g st p f =
     times_sum x y z = omega arith
 
 pub rounds_cut : {T E U F V G : Type 0} (i n : ℕ) {m mid now : Machine} {a b c : Option (List ℕ)} {k l o : ℕ} {u : T} (q : Result U F) (r : Result V G)
-    → i < n → m.half_steps + n * length (living_in m) ≤ 4000000 → IsErr q → IsErr r
+    → i < n → m.half_steps + n * length (living_in m) ≤ MOST_HALF_STEPS → IsErr q → IsErr r
     → Performed {T = T} {E = E} (RoundsFirst i) m mid a b k l (Ok u) → Performed OneRound mid now b c l o q → Performed (SomeRounds n) m now a c k o r
 rounds_cut i n {m} q r lt few was is f e = does_cut q r (rounds_go_on m (i + 1) n (omega (arith, lt)) few) was is (rounds_then i f e)
 
@@ -163,7 +164,7 @@ rounds_answered n s xs out t quiet Rounds.none = quiet
 rounds_answered n s xs out t quiet (Rounds.round {n = k} mid more first last f r) = rounds_answered k mid more last t (halves_answered (living s) s first mid quiet f) r
 rounds_answered n s xs out t quiet (Rounds.rest f) = ap (λ (z : State). z.transaction) f.5.1 ∙ (ap (λ (z : State). z.transaction) f.3.1.3 ∙ quiet)
 
-settle_goes_on : (m : Machine) (n : ℕ) → (m.half_steps + n * length (living_in m) ≤ 4000000) → GoesOn m (SomeRounds n) (λ s. Carries s (Settle n))
+settle_goes_on : (m : Machine) (n : ℕ) → (m.half_steps + n * length (living_in m) ≤ MOST_HALF_STEPS) → GoesOn m (SomeRounds n) (λ s. Carries s (Settle n))
 settle_goes_on m n few s u xs a g st p f = go (is_unsettled u) refl
   where
     quiet : u.transaction ≡ None
@@ -181,7 +182,7 @@ settle_goes_on m n few s u xs a g st p f = go (is_unsettled u) refl
         )
 
 pub settle_cut : {U F V G : Type 0} (n : ℕ) {m now : Machine} {a b : Option (List ℕ)} {k l : ℕ} (q : Result U F) (r : Result V G)
-    → m.half_steps + n * length (living_in m) ≤ 4000000 → IsErr q → IsErr r → Performed (SomeRounds n) m now a b k l q → Performed (λ s. Carries s (Settle n)) m now a b k l r
+    → m.half_steps + n * length (living_in m) ≤ MOST_HALF_STEPS → IsErr q → IsErr r → Performed (SomeRounds n) m now a b k l q → Performed (λ s. Carries s (Settle n)) m now a b k l r
 settle_cut n {m} q r few was is d = does_cut q r (settle_goes_on m n few) was is d
 
 -- ---- who lives, while rounds are taken
@@ -191,7 +192,7 @@ living_kept m now names living = λ i. numbers_to (length (names i)) (λ d. livi
 
 -- what is left of the rounds is within the limit
 pub rounds_within : (m now : Machine) (i n : ℕ) → i ≤ n → living_in now ≡ living_in m → now.half_steps ≡ m.half_steps + i * length (living_in m)
-    → m.half_steps + n * length (living_in m) ≤ 4000000 → now.half_steps + (n - i) * length (living_in now) ≤ 4000000
+    → m.half_steps + n * length (living_in m) ≤ MOST_HALF_STEPS → now.half_steps + (n - i) * length (living_in now) ≤ MOST_HALF_STEPS
 rounds_within m now i n le same count few =
     let size : (n - i) * length (living_in now) ≡ (n - i) * length (living_in m) = ap (λ (z : List ℕ). (n - i) * length z) same in
     let parts : i * length (living_in m) + (n - i) * length (living_in m) ≡ n * length (living_in m) = sum i (n - i) n (length (living_in m)) (omega (arith, le)) in
@@ -212,7 +213,7 @@ unsettled_turns m busy = record {
 
 -- so is the next one
 pub round_within : (m now : Machine) (i n : ℕ) → i < n → living_in now ≡ living_in m → now.half_steps ≡ m.half_steps + i * length (living_in m)
-    → m.half_steps + n * length (living_in m) ≤ 4000000 → now.half_steps + length (living_in now) ≤ 4000000
+    → m.half_steps + n * length (living_in m) ≤ MOST_HALF_STEPS → now.half_steps + length (living_in now) ≤ MOST_HALF_STEPS
 round_within m now i n lt same count few =
     let all = rounds_within m now i n (omega (arith, lt)) same count few in
     let one : n - i ≡ suc (n - i - 1) = omega (arith, lt) in

@@ -4,6 +4,7 @@ use Rattle.std.specs.Prelude.{Ok, IsErr, replicate}
 use Rattle.std.specs.declared.result.Result.{Result}
 use Rattle.std.proofs.lemmas.List.{length-replicate}
 use Rattle.fw_entry.specs.declared.entry.Timed.{Timed}
+use Rattle.fw_run.specs.declared.limits.TheConstants.{MOST_HALF_STEPS}
 use Rattle.fw_run.specs.State.{State, is_living}
 use Rattle.fw_run.specs.Actions.{Action, HalfStep, Steps}
 use Rattle.fw_run.specs.Carrying.{times, half_steps_of}
@@ -52,7 +53,7 @@ unfolding times
 times_then x i {r = r} d e = rw add-one (does_then r (acts_follow (times i x) (x ∷ [])) d e)
 
 -- the rest of them can be given
-times_go_on : (m : Machine) (d j count : ℕ) → j ≤ count → IsTrue (is_living_in m d) → m.half_steps + count ≤ 4000000
+times_go_on : (m : Machine) (d j count : ℕ) → j ≤ count → IsTrue (is_living_in m d) → m.half_steps + count ≤ MOST_HALF_STEPS
     → GoesOn m (Performs (times j (HalfStep d))) (Performs (times count (HalfStep d)))
 times_go_on m d j count le lives few s u xs a g st p f =
     let quiet = st.answered in
@@ -73,7 +74,7 @@ times_go_on m d j count le lives few s u xs a g st p f =
 
 -- a half step was cut off
 pub times_cut : {T E U F V G : Type 0} (d i : ℕ) {m mid now : Machine} {a b c : Option (List ℕ)} {k l n : ℕ} {u : T} (count : ℕ) (q : Result U F) (r : Result V G)
-    → i < count → IsTrue (is_living_in m d) → m.half_steps + count ≤ 4000000 → IsErr q → IsErr r
+    → i < count → IsTrue (is_living_in m d) → m.half_steps + count ≤ MOST_HALF_STEPS → IsErr q → IsErr r
     → Performed {T = T} {E = E} (Performs (times i (HalfStep d))) m mid a b k l (Ok u) → Performed (Performs (HalfStep d ∷ [])) mid now b c l n q → Performed (Performs (times count (HalfStep d))) m now a c k n r
 times_cut d i {m} count q r lt lives few was is f e =
     does_cut q r (times_go_on m d (i + 1) count (omega (arith, lt)) lives few) was is (times_then (HalfStep d) i f e)

@@ -3,6 +3,7 @@ use Rattle.std.specs.Prelude.{ℕ, ◌≡◌, ◌<◌, List, Option, Some, IsTru
 use Rattle.std.specs.declared.result.Result.{Result}
 use Rattle.fw_entry.specs.declared.entry.Entry.{Entry}
 use Rattle.fw_manager.specs.Bids.{CandidateState, is_standing_in}
+use Rattle.fw_run.specs.declared.limits.TheConstants.{MOST_HALF_STEPS}
 use Rattle.fw_run.specs.Actions.{Contend}
 use Rattle.fw_run.specs.Giving.{GivesEntry}
 use Rattle.fw_machine.specs.Candidates.{candidate_in}
@@ -15,7 +16,7 @@ pub record Contender (m : Machine) (d manager : ℕ) : Type 0 where
   pub candidate : CandidateState
   pub is : candidate_in m.candidates d ≡ Some candidate
   pub manages : m.devices.manager ≡ Some manager
-  pub few : m.half_steps < 4000000
+  pub few : m.half_steps < MOST_HALF_STEPS
 
 -- its request stands
 pub record BidStands (m : Machine) (d manager : ℕ) : Type 0 where

@@ -2,6 +2,7 @@
 
 ghost use Rattle.std.specs.Prelude.{◌≡◌, ◌≤◌, ◌<◌, ◌+◌, ℕ, [], ◌∷◌, is_some, IsTrue};
 ghost use Rattle.fw_devices.specs.Network.{kind_at, kinds_of};
+ghost use Rattle.fw_run.specs.declared.limits.TheConstants.{MOST_HALF_STEPS};
 ghost use Rattle.fw_run.specs.declared.order.Order.TheVariants.{Candidate};
 ghost use Rattle.fw_run.specs.Actions.{Contend};
 ghost use Rattle.fw_run.specs.Carrying.{times, Carries};
@@ -116,7 +117,7 @@ fn bid_step<K: Sink>(
 ) -> Result<(), Failed>
     requires ready { IsReady machine.old }
     requires candidate { IsTrue (is_some (candidate_in machine.old.candidates device)) }
-    requires few { machine.old.half_steps < 4000000 }
+    requires few { machine.old.half_steps < MOST_HALF_STEPS }
     ensures does { Performed (Performs (Contend device ∷ [])) machine.old machine.new (K.held sink.old) (K.held sink.new) (K.faults sink.old) (K.faults sink.new) result }
     ensures candidate { IsTrue (is_some (candidate_in machine.new.candidates device)) }
     ensures count { machine.new.half_steps ≡ machine.old.half_steps + 1 }
@@ -144,7 +145,7 @@ pub(crate) fn contend<K: Sink>(
 ) -> Result<(), Failed>
     requires ready { IsReady machine.old }
     requires candidate { IsTrue (is_some (candidate_in machine.old.candidates device)) }
-    requires few { machine.old.half_steps + count ≤ 4000000 }
+    requires few { machine.old.half_steps + count ≤ MOST_HALF_STEPS }
     ensures does { Performed (Performs (times count (Contend device))) machine.old machine.new (K.held sink.old) (K.held sink.new) (K.faults sink.old) (K.faults sink.new) result }
 {
     for i in 0..count {

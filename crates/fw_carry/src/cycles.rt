@@ -7,6 +7,7 @@ ghost use Rattle.fw_async.specs.Async.{Fits as PacketFits};
 ghost use Rattle.fw_entry.specs.Log.{Fits};
 ghost use Rattle.fw_entry.specs.declared.entry.ResetEntry.{ResetEntry};
 ghost use Rattle.fw_devices.specs.Streams.{AreTalkers};
+ghost use Rattle.fw_run.specs.declared.limits.TheConstants.{MOST_WRITTEN_CYCLES};
 ghost use Rattle.fw_run.specs.Carrying.{Carries};
 ghost use Rattle.fw_run.specs.Giving.{GivesEntry};
 ghost use Rattle.fw_run.specs.Good.{IsGood};
@@ -114,7 +115,7 @@ fn put_cycle<F: Fn(u16, u32, u16) -> [u8; 480], H: Fn(u32, u8) -> u8>(
     requires ready { IsReady machine.old }
     requires desk { AnyBlock (F.pre desk.now.blocks) }
     requires few { machine.old.cycle + 1 ≤ 2 ^ 52 }
-    requires written { 0 < length machine.old.devices.nodes → machine.old.written < 8000 }
+    requires written { 0 < length machine.old.devices.nodes → machine.old.written < MOST_WRITTEN_CYCLES }
     requires talkers { AreTalkers (length machine.old.devices.nodes) machine.old.devices.nodes talkers.old }
     requires still { AreStillFrom end.old machine.old.devices.nodes machine.old.streams }
     requires room { length room.old.cycle + 37096 ≤ 102632 }
@@ -177,7 +178,7 @@ pub(crate) fn cycles<K: Sink, F: Fn(u16, u32, u16) -> [u8; 480], H: Fn(u32, u8) 
     requires ready { IsReady machine.old }
     requires desk { AnyBlock (F.pre desk.now.blocks) }
     requires few { machine.old.cycle + count ≤ 2 ^ 52 }
-    requires written { 0 < length machine.old.devices.nodes → machine.old.written + count ≤ 8000 }
+    requires written { 0 < length machine.old.devices.nodes → machine.old.written + count ≤ MOST_WRITTEN_CYCLES }
     ensures does { PerformedWithDesk (record { blocks = F.post desk.now.blocks; vendor = H.post desk.now.vendor }) (λ s. Carries s (Cycles count))
         machine.old machine.new (K.held sink.old) (K.held sink.new) (K.faults sink.old) (K.faults sink.new) result }
 {

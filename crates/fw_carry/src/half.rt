@@ -3,6 +3,7 @@
 
 ghost use Rattle.std.specs.Prelude.{◌≡◌, ◌<◌, ℕ, [], ◌∷◌, IsTrue, IsFalse};
 ghost use Rattle.fw_cmp.specs.Losses.{Awaits};
+ghost use Rattle.fw_run.specs.declared.limits.TheConstants.{MOST_RESETS};
 ghost use Rattle.fw_run.specs.HalfSteps as HalfSteps;
 ghost use Rattle.fw_run.specs.Actions.{Lose};
 ghost use Rattle.fw_carry.specs.Performing.{Performs, Performed, WritesHalf};
@@ -118,7 +119,7 @@ pub(crate) fn lose_response<K: Sink>(
     requires ready { IsReady machine.old }
     requires living { IsTrue (is_living_in machine.old device) }
     requires standing { Awaits (states_of machine.old.controllers device) }
-    requires few { machine.old.resets < 10000 }
+    requires few { machine.old.resets < MOST_RESETS }
     ensures does { Performed (Performs (Lose device ∷ [])) machine.old machine.new (K.held sink.old) (K.held sink.new) (K.faults sink.old) (K.faults sink.new) result }
     ensures deaf { IsTrue (states_of machine.new.controllers device).lost }
 {

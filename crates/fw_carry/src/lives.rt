@@ -4,6 +4,7 @@ ghost use Rattle.std.specs.Prelude.{◌≡◌, ◌<◌, [], ◌∷◌, None, IsO
 ghost use Rattle.fw_cmp.specs.Losses.{Awaits};
 ghost use Rattle.fw_cmp.specs.Fits.{SlotFits};
 ghost use Rattle.fw_cmp.specs.Starts.{break_fault};
+ghost use Rattle.fw_run.specs.declared.limits.TheConstants.{MOST_RESETS};
 ghost use Rattle.fw_run.specs.Actions.{CarryOut, Die as Dies, StartConnection, StartBreak, slot_of, start_of};
 ghost use Rattle.fw_run.specs.Carrying.{Carries};
 ghost use Rattle.fw_run.specs.declared.order.Order.TheVariants.{Die, Lose, Start};
@@ -76,7 +77,7 @@ pub(crate) fn lose<K: Sink>(
     requires ready { IsReady machine.old }
     requires living { IsTrue (is_living_in machine.old device) }
     requires standing { Awaits (states_of machine.old.controllers device) }
-    requires few { machine.old.resets < 10000 }
+    requires few { machine.old.resets < MOST_RESETS }
     ensures does { Performed (λ s. Carries s (Lose device)) machine.old machine.new (K.held sink.old) (K.held sink.new) (K.faults sink.old) (K.faults sink.new) result }
 {
     lose_response(machine, device, room, sink)?;

@@ -1,6 +1,7 @@
 //! Devices and cables that come, and the bus resets that they begin.
 
 ghost use Rattle.std.specs.Prelude.{◌≡◌, ◌≤◌, ◌<◌, ◌+◌, ◌&&◌, ◌^◌, [], ◌∷◌, nat_le, IsTrue, IsFalse, length};
+ghost use Rattle.fw_run.specs.declared.limits.TheConstants.{MOST_RESETS};
 ghost use Rattle.fw_run.specs.Actions.{AddDevice, AddCable, ResetBus};
 ghost use Rattle.fw_run.specs.Carrying.{Carries};
 ghost use Rattle.fw_run.specs.declared.order.Order.TheVariants.{Withhold};
@@ -49,7 +50,7 @@ fn directory_now(machine: &Machine) -> Directory
 fn begin_reset(machine: &mut Machine, initiator: u8)
     requires declared { initiator < length machine.old.devices.nodes }
     requires on { IsOnBus machine.old.devices.topology.cables initiator }
-    requires few { machine.old.devices.epoch < 10000 }
+    requires few { machine.old.devices.epoch < MOST_RESETS }
     requires cycle { machine.old.cycle ≤ 2 ^ 52 }
     ensures begins { BeginsReset machine.old machine.new initiator }
     ensures fits { ResetFits machine.new.devices.latest }
@@ -71,7 +72,7 @@ pub(crate) fn give_reset<K: Sink>(
 ) -> Result<(), Failed>
     requires declared { initiator < length machine.old.devices.nodes }
     requires on { IsOnBus machine.old.devices.topology.cables initiator }
-    requires few { machine.old.devices.epoch < 10000 }
+    requires few { machine.old.devices.epoch < MOST_RESETS }
     requires cycle { machine.old.cycle ≤ 2 ^ 52 }
     ensures { GivesReset machine.old machine.new initiator (K.held sink.old) (K.held sink.new) (K.faults sink.old) (K.faults sink.new) result }
 {
@@ -94,7 +95,7 @@ pub(crate) fn reset<K: Sink>(
 ) -> Result<(), Failed>
     requires ready { IsReady machine.old }
     requires on { IsTrue (is_node machine.old.devices.nodes device) }
-    requires few { machine.old.resets < 10000 }
+    requires few { machine.old.resets < MOST_RESETS }
     ensures does { Performed (Performs (ResetBus device ∷ [])) machine.old machine.new (K.held sink.old) (K.held sink.new) (K.faults sink.old) (K.faults sink.new) result }
 {
     machine.resets += 1;
@@ -163,7 +164,7 @@ pub(crate) fn join<K: Sink>(
 ) -> Result<(), Failed>
     requires ready { IsReady machine.old }
     requires free { CanJoin machine.old.devices.topology a b }
-    requires few { IsFalse (joins_in machine.old a b && nat_le 10000 machine.old.resets) }
+    requires few { IsFalse (joins_in machine.old a b && nat_le MOST_RESETS machine.old.resets) }
     ensures does { Performed (Performs (AddCable a b ∷ [])) machine.old machine.new (K.held sink.old) (K.held sink.new) (K.faults sink.old) (K.faults sink.new) result }
 {
     let first_is_on = machine.is_on(a.device);

@@ -2,6 +2,7 @@
 
 ghost use Rattle.std.specs.Prelude.{◌≡◌, ◌≤◌, ◌<◌, ◌+◌, ◌*◌, ◌-◌, ℕ, IfOk, IsTrue, IsFalse, false, length, slice_index_or};
 ghost use Rattle.fw_cmp.specs.Causes.{IsAtRest};
+ghost use Rattle.fw_run.specs.declared.limits.TheConstants.{MOST_HALF_STEPS};
 ghost use Rattle.fw_run.specs.Good.{IsGood};
 ghost use Rattle.fw_run.specs.HalfSteps.{is_unsettled};
 ghost use Rattle.fw_run.specs.State.{State};
@@ -66,7 +67,7 @@ fn round<K: Sink>(
     requires most { end ≤ 63 }
     requires within { end ≤ length machine.old.devices.names }
     requires ends { EndsAt machine.old end }
-    requires few { machine.old.half_steps + length (living_in machine.old) ≤ 4000000 }
+    requires few { machine.old.half_steps + length (living_in machine.old) ≤ MOST_HALF_STEPS }
     ensures does { Performed OneRound machine.old machine.new (K.held sink.old) (K.held sink.new) (K.faults sink.old) (K.faults sink.new) result }
     ensures living { (d : ℕ) → is_living_in machine.new d ≡ is_living_in machine.old d }
     ensures names { machine.new.devices.names ≡ machine.old.devices.names }
@@ -87,7 +88,7 @@ fn round<K: Sink>(
 fn rest(machine: &mut Machine, rounds: u32)
     requires ready { IsReady machine.old }
     requires calm { (s : State) → IsGood s → StandsFor machine.old s → IsFalse (is_unsettled s) }
-    requires few { machine.old.half_steps + rounds * length (living_in machine.old) ≤ 4000000 }
+    requires few { machine.old.half_steps + rounds * length (living_in machine.old) ≤ MOST_HALF_STEPS }
     ensures { machine.new ≡ record machine.old { half_steps = machine.old.half_steps + rounds * length (living_in machine.old) } }
 {
     machine.half_steps += rounds * machine.living();
@@ -119,7 +120,7 @@ pub(crate) fn rounds<K: Sink>(
     sink: &mut K,
 ) -> Result<(), Failed>
     requires ready { IsReady machine.old }
-    requires few { machine.old.half_steps + count * length (living_in machine.old) ≤ 4000000 }
+    requires few { machine.old.half_steps + count * length (living_in machine.old) ≤ MOST_HALF_STEPS }
     ensures does { Performed (SomeRounds count) machine.old machine.new (K.held sink.old) (K.held sink.new) (K.faults sink.old) (K.faults sink.new) result }
 {
     let mut living = [false; 63];

@@ -1,6 +1,7 @@
 //! Half steps, and what is written after a `settle`.
 
 ghost use Rattle.std.specs.Prelude.{◌≡◌, ◌≢◌, ◌≤◌, ◌<◌, ◌+◌, ◌*◌, ℕ, [], ◌∷◌, IsTrue, IsFalse, length};
+ghost use Rattle.fw_run.specs.declared.limits.TheConstants.{MOST_HALF_STEPS};
 ghost use Rattle.fw_run.specs.Actions.{HalfStep};
 ghost use Rattle.fw_run.specs.Carrying.{times, Carries};
 ghost use Rattle.fw_run.specs.declared.order.Order.TheVariants.{Settle};
@@ -26,7 +27,7 @@ pub(crate) fn half_step<K: Sink>(
 ) -> Result<(), Failed>
     requires ready { IsReady machine.old }
     requires living { IsTrue (is_living_in machine.old device) }
-    requires few { machine.old.half_steps < 4000000 }
+    requires few { machine.old.half_steps < MOST_HALF_STEPS }
     ensures does { Performed (Performs (HalfStep device ∷ [])) machine.old machine.new (K.held sink.old) (K.held sink.new) (K.faults sink.old) (K.faults sink.new) result }
     ensures living { (d : ℕ) → is_living_in machine.new d ≡ is_living_in machine.old d }
     ensures names { machine.new.devices.names ≡ machine.old.devices.names }
@@ -54,7 +55,7 @@ fn deaf_step<K: Sink>(
     requires ready { IsReady machine.old }
     requires living { IsTrue (is_living_in machine.old device) }
     requires deaf { IsTrue (states_of machine.old.controllers device).lost }
-    requires few { machine.old.half_steps < 4000000 }
+    requires few { machine.old.half_steps < MOST_HALF_STEPS }
     ensures does { Performed (Performs (HalfStep device ∷ [])) machine.old machine.new (K.held sink.old) (K.held sink.new) (K.faults sink.old) (K.faults sink.new) result }
     ensures living { (d : ℕ) → is_living_in machine.new d ≡ is_living_in machine.old d }
     ensures names { machine.new.devices.names ≡ machine.old.devices.names }
@@ -82,7 +83,7 @@ pub(crate) fn steps<K: Sink>(
 ) -> Result<(), Failed>
     requires ready { IsReady machine.old }
     requires living { IsTrue (is_living_in machine.old device) }
-    requires few { machine.old.half_steps + count ≤ 4000000 }
+    requires few { machine.old.half_steps + count ≤ MOST_HALF_STEPS }
     ensures does { Performed (Performs (times count (HalfStep device))) machine.old machine.new (K.held sink.old) (K.held sink.new) (K.faults sink.old) (K.faults sink.new) result }
 {
     for i in 0..count {
@@ -121,7 +122,7 @@ pub(crate) fn settle<K: Sink>(
     sink: &mut K,
 ) -> Result<(), Failed>
     requires ready { IsReady machine.old }
-    requires few { machine.old.half_steps + count * length (living_in machine.old) ≤ 4000000 }
+    requires few { machine.old.half_steps + count * length (living_in machine.old) ≤ MOST_HALF_STEPS }
     ensures does { Performed (λ s. Carries s (Settle count)) machine.old machine.new (K.held sink.old) (K.held sink.new) (K.faults sink.old) (K.faults sink.new) result }
 {
     rounds(machine, count, room, sink)?;

@@ -8,6 +8,7 @@ use Rattle.fw_cmp.specs.Losses.{Awaits}
 use Rattle.fw_cmp.specs.Starts.{break_fault}
 use Rattle.fw_base.specs.Devices.{has_unit}
 use Rattle.fw_devices.specs.Network.{Network, is_node, kind_at, kinds_of}
+use Rattle.fw_run.specs.declared.limits.TheConstants.{MOST_HALF_STEPS, MOST_RESETS, MOST_WRITTEN_CYCLES}
 use Rattle.fw_run.specs.declared.order.Access.{Access}
 use Rattle.fw_run.specs.declared.order.Access.TheVariants.{Read, Swap}
 use Rattle.fw_run.specs.declared.order.Order.{Order}
@@ -46,16 +47,16 @@ has_deck_in n d = has_unit (kind_at (kinds_of n.nodes) d)
 abbrev pub MayCarry : Machine → Order → Type 0
 MayCarry m Orders.Withhold = m.devices.names ≡ []
 MayCarry m (Orders.Declare name kind ports speed) = (length m.devices.names < 63) × (1 ≤ ports) × (ports ≤ 27) × (speed ≤ 2)
-MayCarry m (Orders.Cable a b) = CanJoin m.devices.topology a b × IsFalse (joins_in m a b && nat_le 10000 m.resets)
-MayCarry m (Orders.Reset d) = IsTrue (is_node m.devices.nodes d) × (m.resets < 10000)
+MayCarry m (Orders.Cable a b) = CanJoin m.devices.topology a b × IsFalse (joins_in m a b && nat_le MOST_RESETS m.resets)
+MayCarry m (Orders.Reset d) = IsTrue (is_node m.devices.nodes d) × (m.resets < MOST_RESETS)
 MayCarry m (Orders.Connect d w) = IsTrue (is_living_in m d) × SlotFits (slot_of w) × IsOk (start_of d w (states_of m.controllers d).state)
 MayCarry m (Orders.Break d slot) = IsTrue (is_living_in m d) × (break_fault (states_of m.controllers d).state slot ≡ None)
-MayCarry m (Orders.Step d count) = IsTrue (is_living_in m d) × (m.half_steps + count ≤ 4000000)
-MayCarry m (Orders.Settle rounds) = m.half_steps + rounds * length (living_in m) ≤ 4000000
+MayCarry m (Orders.Step d count) = IsTrue (is_living_in m d) × (m.half_steps + count ≤ MOST_HALF_STEPS)
+MayCarry m (Orders.Settle rounds) = m.half_steps + rounds * length (living_in m) ≤ MOST_HALF_STEPS
 MayCarry m (Orders.Wait cycles) = m.cycle + cycles ≤ 2 ^ 52
-MayCarry m (Orders.Cycles count) = (m.cycle + count ≤ 2 ^ 52) × (0 < length m.devices.nodes → m.written + count ≤ 8000)
+MayCarry m (Orders.Cycles count) = (m.cycle + count ≤ 2 ^ 52) × (0 < length m.devices.nodes → m.written + count ≤ MOST_WRITTEN_CYCLES)
 MayCarry m (Orders.Die d late) = IsTrue (is_living_in m d)
-MayCarry m (Orders.Lose d) = IsTrue (is_living_in m d) × Awaits (states_of m.controllers d) × (m.resets < 10000)
+MayCarry m (Orders.Lose d) = IsTrue (is_living_in m d) × Awaits (states_of m.controllers d) × (m.resets < MOST_RESETS)
 MayCarry m (Orders.Start d) = IsTrue (is_linked_in m.devices d)
 MayCarry m (Orders.Transact x) = IsTrue (is_living_in m x.from) × IsTrue (is_linked_in m.devices x.to) × IsFalse (is_guarded_by m.candidates.begun x.access) × AccessFits x.access
 MayCarry m (Orders.Command a b bytes) = IsTrue (is_living_in m a) × IsTrue (is_linked_in m.devices b) × (length bytes ≤ 512)
@@ -63,6 +64,6 @@ MayCarry m (Orders.Insert d tape system) = (d < length m.devices.nodes) × IsTru
 MayCarry m (Orders.Eject d) = (d < length m.devices.nodes) × IsTrue (has_deck_in m.devices d)
 MayCarry m (Orders.Show d offset) = IsTrue (is_linked_in m.devices d) × (offset < 2 ^ 12) × ((read_in m d offset).rcode ≡ 0)
 MayCarry m (Orders.Candidate d) = IsTrue (is_living_in m d) × IsTrue (is_capable (kind_at (kinds_of m.devices.nodes) d))
-MayCarry m (Orders.Contend d count) = IsTrue (is_living_in m d) × IsTrue (is_some (candidate_in m.candidates d)) × (m.half_steps + count ≤ 4000000)
+MayCarry m (Orders.Contend d count) = IsTrue (is_living_in m d) × IsTrue (is_some (candidate_in m.candidates d)) × (m.half_steps + count ≤ MOST_HALF_STEPS)
 MayCarry m (Orders.Dub d) = (d < length m.devices.nodes) × IsTrue (has_deck_in m.devices d) × IsTrue (is_node m.devices.nodes d)
 MayCarry m Orders.End = ⊤

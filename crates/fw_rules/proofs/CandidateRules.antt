@@ -3,6 +3,7 @@ use Rattle.std.proofs.Common.{◌≡◌, ℕ, ◌+◌, ◌≤◌, List, [], ◌�
 use Rattle.fw_base.specs.declared.device.DeviceKind.{DeviceKind}
 use Rattle.fw_devices.specs.Network.{device_named, kind_at, kinds_of}
 use Rattle.fw_script.specs.declared.command.Command.TheVariants as Commands
+use Rattle.fw_run.specs.declared.limits.TheConstants.{MOST_HALF_STEPS}
 use Rattle.fw_run.specs.declared.order.Order.TheVariants as Orders
 use Rattle.fw_run.specs.declared.rule.RuleFault.{RuleFault}
 use Rattle.fw_run.specs.declared.rule.RuleFault.TheVariants.{UnknownName, NotController, NotCapable, NotCandidate, Limit, TableFull, Busy, NoSuchConnection, NotOwnPlug}
@@ -31,7 +32,7 @@ candidate_breaks s name d p Busy living capable h = h.2
 candidate_breaks s name d p g living capable h = h
 
 pub contend_breaks : (s : State) (name : List ℕ) (count d : ℕ) → IsNamed s name d → (g : RuleFault) → (g ≡ NotController → IsTrue (is_living s d))
-    → (g ≡ NotCandidate → IsTrue (is_candidate s d)) → (g ≡ Limit → s.half_steps + count ≤ 4000000) → Breaks s (Commands.Contend name count) g → ⊥
+    → (g ≡ NotCandidate → IsTrue (is_candidate s d)) → (g ≡ Limit → s.half_steps + count ≤ MOST_HALF_STEPS) → Breaks s (Commands.Contend name count) g → ⊥
 contend_breaks s name count d p UnknownName living one few h = all_known s (name ∷ []) ((d, p), tt) h
 contend_breaks s name count d p NotController living one few h = is_so s (is_living s) name d p (living refl) h
 contend_breaks s name count d p NotCandidate living one few h = is_so s (is_candidate s) name d p (one refl) h
@@ -70,7 +71,7 @@ candidate_incapable m s name d g st named living not_ =
     )
 
 pub contend_ordered : (m : Machine) (s : State) (name : List ℕ) (count d : ℕ) → IsGood s → StandsFor m s → device_named m.devices.names name ≡ Some d → IsTrue (is_living_in m d)
-    → IsTrue (is_some (candidate_in m.candidates d)) → m.half_steps + count ≤ 4000000 → Decides s (Commands.Contend name count) (Ok (Orders.Contend d count))
+    → IsTrue (is_some (candidate_in m.candidates d)) → m.half_steps + count ≤ MOST_HALF_STEPS → Decides s (Commands.Contend name count) (Ok (Orders.Contend d count))
 contend_ordered m s name count d g st named living one few =
     let p = is_named m s name d st named in
     let same = st.clock.half_steps in (

@@ -9,6 +9,7 @@ use Rattle.fw_tree.specs.declared.TreeFault.{TreeFault}
 use Rattle.fw_tree.specs.declared.TreeFault.TheVariants as Tree
 use Rattle.fw_tree.specs.Topology.{Topology, IsFault}
 use Rattle.fw_script.specs.declared.command.Command.TheVariants as Commands
+use Rattle.fw_run.specs.declared.limits.TheConstants.{MOST_HALF_STEPS, MOST_RESETS}
 use Rattle.fw_run.specs.declared.order.Order.TheVariants as Orders
 use Rattle.fw_run.specs.declared.order.Access.{Access}
 use Rattle.fw_run.specs.declared.order.Access.TheVariants.{Read, Swap}
@@ -103,7 +104,7 @@ one_fault p x y Tree.Loop Tree.Loop h k = refl
 
 -- a cable breaks a rule of the cabling, or the limit of bus resets
 cable_breaks : (s : State) (a b : List ℕ × ℕ) (x y : End) → IsEnd s a x → IsEnd s b y → (g : RuleFault) → ((f : TreeFault) → g ≡ tree_rule f → IsFault s.declared.topology x y f → ⊥)
-    → (g ≡ Limit → 10000 ≤ s.resets → IsTrue (is_joining s x y) → ⊥) → Breaks s (Commands.Cable a b) g → ⊥
+    → (g ≡ Limit → MOST_RESETS ≤ s.resets → IsTrue (is_joining s x y) → ⊥) → Breaks s (Commands.Cable a b) g → ⊥
 cable_breaks s a b x y p q UnknownName fits few h = all_known s (a.0 ∷ b.0 ∷ []) ((x.device, p.0), ((y.device, q.0), tt)) h
 cable_breaks s a b x y p q NoPort fits few h = fits Tree.NoPort refl (of_ends s a b x y (λ x y. IsFault s.declared.topology x y Tree.NoPort) p q h)
 cable_breaks s a b x y p q PortUsed fits few h = fits Tree.PortUsed refl (of_ends s a b x y (λ x y. IsFault s.declared.topology x y Tree.PortUsed) p q h)
@@ -127,15 +128,15 @@ cable_refused s a b x y p q f h = (cable_fault s a b x y p q f h, λ g lt. cable
     other : (g : RuleFault) → rank g < rank (tree_rule f) → (k : TreeFault) → g ≡ tree_rule k → IsFault s.declared.topology x y k → ⊥
     other g lt k e is = let same : rank (tree_rule f) ≡ rank (tree_rule k) = ap (λ f. rank (tree_rule f)) (one_fault s.declared.topology x y f k h is) in is_another (tree_rule f) g (tree_rule k) lt (omega arith) e
 
-    limit : (g : RuleFault) → rank g < rank (tree_rule f) → g ≡ Limit → 10000 ≤ s.resets → IsTrue (is_joining s x y) → ⊥
+    limit : (g : RuleFault) → rank g < rank (tree_rule f) → g ≡ Limit → MOST_RESETS ≤ s.resets → IsTrue (is_joining s x y) → ⊥
     limit g lt e most joins = let low = tree_rule_low f in is_another (tree_rule f) g Limit lt (omega arith) e
 
 pub cable_at_limit : (s : State) (a b : List ℕ × ℕ) (x y : End) → IsEnd s a x → IsEnd s b y → ((f : TreeFault) → IsFault s.declared.topology x y f → ⊥)
-    → 10000 ≤ s.resets → IsTrue (is_joining s x y) → Decides s (Commands.Cable a b) (Err Limit)
+    → MOST_RESETS ≤ s.resets → IsTrue (is_joining s x y) → Decides s (Commands.Cable a b) (Err Limit)
 cable_at_limit s a b x y p q fits most joins = ((most, (x, y, p, q, joins)), λ g lt. cable_breaks s a b x y p q g (λ f e. fits f) (λ e most joins. is_another Limit g Limit lt (omega arith) e))
 
 pub cable_ordered : (s : State) (a b : List ℕ × ℕ) (x y : End) → IsEnd s a x → IsEnd s b y → ((f : TreeFault) → IsFault s.declared.topology x y f → ⊥)
-    → (10000 ≤ s.resets → IsTrue (is_joining s x y) → ⊥) → Decides s (Commands.Cable a b) (Ok (Orders.Cable x y))
+    → (MOST_RESETS ≤ s.resets → IsTrue (is_joining s x y) → ⊥) → Decides s (Commands.Cable a b) (Ok (Orders.Cable x y))
 cable_ordered s a b x y p q fits few = ((x, y, p, q, refl), λ g. cable_breaks s a b x y p q g (λ f e. fits f) (λ e. few))
 
 -- ---- transactions
@@ -202,7 +203,7 @@ transaction_dead s from to (Swap offset argument new) d e p q dead = (
 
 -- a lost response of a living controller breaks no rule but that nothing stands, and the limit
 loss_breaks : (s : State) (name : List ℕ) (d : ℕ) → IsNamed s name d → IsTrue (is_living s d) → (g : RuleFault) → (g ≡ NothingStands → IsTrue (has_request (s.controllers d).current))
-    → (g ≡ Limit → 10000 ≤ s.resets → ⊥) → Breaks s (Commands.Lose name) g → ⊥
+    → (g ≡ Limit → MOST_RESETS ≤ s.resets → ⊥) → Breaks s (Commands.Lose name) g → ⊥
 loss_breaks s name d p living UnknownName stands few h = all_known s (name ∷ []) ((d, p), tt) h
 loss_breaks s name d p living NotController stands few h = is_so s (is_living s) name d p living h
 loss_breaks s name d p living NothingStands stands few h = is_so s (λ e. has_request (s.controllers e).current) name d p (stands refl) h
@@ -221,11 +222,11 @@ loss_of_nothing s name d p living none = (
       (λ same. absurd (is_another NothingStands g NothingStands lt (omega arith) same)) (λ same most. is_another NothingStands g Limit lt (omega arith) same),
 )
 
-pub loss_at_limit : (s : State) (name : List ℕ) (d : ℕ) → IsNamed s name d → IsTrue (is_living s d) → IsTrue (has_request (s.controllers d).current) → 10000 ≤ s.resets
+pub loss_at_limit : (s : State) (name : List ℕ) (d : ℕ) → IsNamed s name d → IsTrue (is_living s d) → IsTrue (has_request (s.controllers d).current) → MOST_RESETS ≤ s.resets
     → Decides s (Commands.Lose name) (Err Limit)
 loss_at_limit s name d p living stands most = (most, λ g lt. loss_breaks s name d p living g (λ same. stands) (λ same past. is_another Limit g Limit lt (omega arith) same))
 
-pub loss_ordered : (s : State) (name : List ℕ) (d : ℕ) → IsNamed s name d → IsTrue (is_living s d) → IsTrue (has_request (s.controllers d).current) → s.resets < 10000
+pub loss_ordered : (s : State) (name : List ℕ) (d : ℕ) → IsNamed s name d → IsTrue (is_living s d) → IsTrue (has_request (s.controllers d).current) → s.resets < MOST_RESETS
     → Decides s (Commands.Lose name) (Ok (Orders.Lose d))
 loss_ordered s name d p living stands few = ((d, p, refl), λ g. loss_breaks s name d p living g (λ same. stands) (λ same most. omega (arith, few, most)))
 
@@ -299,7 +300,7 @@ show_off s name offset d is off = ((d, is, off), go)
 -- ---- rounds
 
 -- rounds break no rule but the limit of half steps
-pub settle_breaks : (s : State) (rounds : ℕ) (g : RuleFault) → (g ≡ Limit → 4000000 < s.half_steps + rounds * length (living s) → ⊥) → Breaks s (Commands.Settle rounds) g → ⊥
+pub settle_breaks : (s : State) (rounds : ℕ) (g : RuleFault) → (g ≡ Limit → MOST_HALF_STEPS < s.half_steps + rounds * length (living s) → ⊥) → Breaks s (Commands.Settle rounds) g → ⊥
 settle_breaks s rounds UnknownName few h = false≢true h
 settle_breaks s rounds NotOwnPlug few h = h.2
 settle_breaks s rounds NoSuchConnection few h = h.2
@@ -308,5 +309,5 @@ settle_breaks s rounds Busy few h = h.2
 settle_breaks s rounds Limit few h = few refl h
 settle_breaks s rounds g few h = h
 
-pub settle_at_limit : (s : State) (rounds : ℕ) → 4000000 < s.half_steps + rounds * length (living s) → Decides s (Commands.Settle rounds) (Err Limit)
+pub settle_at_limit : (s : State) (rounds : ℕ) → MOST_HALF_STEPS < s.half_steps + rounds * length (living s) → Decides s (Commands.Settle rounds) (Err Limit)
 settle_at_limit s rounds past = (past, λ g lt. settle_breaks s rounds g (λ e. absurd (is_another Limit g Limit lt (omega arith) e)))

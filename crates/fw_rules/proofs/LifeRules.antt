@@ -2,6 +2,7 @@
 use Rattle.std.proofs.Common.{◌≡◌, ℕ, ◌+◌, ◌<◌, ◌≤◌, List, [], ◌∷◌, Bool, Ok, Err, IsTrue, IsFalse, refl, sym, ◌∙◌, arith, Some}
 use Rattle.fw_devices.specs.Network.{device_named}
 use Rattle.fw_script.specs.declared.command.Command.TheVariants as Commands
+use Rattle.fw_run.specs.declared.limits.TheConstants.{MOST_HALF_STEPS}
 use Rattle.fw_run.specs.declared.order.Order.TheVariants as Orders
 use Rattle.fw_run.specs.declared.rule.RuleFault.{RuleFault}
 use Rattle.fw_run.specs.declared.rule.RuleFault.TheVariants.{UnknownName, NotController, Limit, TableFull, Busy, NoSuchConnection, NotOwnPlug}
@@ -16,7 +17,7 @@ use Rattle.fw_machine.proofs.Living.{linked_same, living_same}
 
 -- ---- by the run
 
-step_breaks : (s : State) (name : List ℕ) (count d : ℕ) → IsNamed s name d → IsTrue (is_living s d) → (g : RuleFault) → (g ≡ Limit → s.half_steps + count ≤ 4000000) → Breaks s (Commands.Step name count) g → ⊥
+step_breaks : (s : State) (name : List ℕ) (count d : ℕ) → IsNamed s name d → IsTrue (is_living s d) → (g : RuleFault) → (g ≡ Limit → s.half_steps + count ≤ MOST_HALF_STEPS) → Breaks s (Commands.Step name count) g → ⊥
 step_breaks s name count d p living UnknownName few h = all_known s (name ∷ []) ((d, p), tt) h
 step_breaks s name count d p living NotController few h = is_so s (is_living s) name d p living h
 step_breaks s name count d p living Limit few h = let most = few refl in omega (arith, most, h)
@@ -46,14 +47,14 @@ start_breaks s name d p g linked h = h
 
 -- ---- by the machine
 
-pub step_ordered : (m : Machine) (s : State) (name : List ℕ) (count d : ℕ) → IsGood s → StandsFor m s → device_named m.devices.names name ≡ Some d → IsTrue (is_living_in m d) → m.half_steps + count ≤ 4000000
+pub step_ordered : (m : Machine) (s : State) (name : List ℕ) (count d : ℕ) → IsGood s → StandsFor m s → device_named m.devices.names name ≡ Some d → IsTrue (is_living_in m d) → m.half_steps + count ≤ MOST_HALF_STEPS
     → Decides s (Commands.Step name count) (Ok (Orders.Step d count))
 step_ordered m s name count d g st named living few =
     let p = is_named m s name d st named in
     let same = st.clock.half_steps in
     ((d, p, refl), λ r. step_breaks s name count d p (sym (living_same m s d g st) ∙ living) r (λ z. omega (arith, few, same)))
 
-pub step_limit : (m : Machine) (s : State) (name : List ℕ) (count d : ℕ) → IsGood s → StandsFor m s → device_named m.devices.names name ≡ Some d → IsTrue (is_living_in m d) → 4000000 < m.half_steps + count
+pub step_limit : (m : Machine) (s : State) (name : List ℕ) (count d : ℕ) → IsGood s → StandsFor m s → device_named m.devices.names name ≡ Some d → IsTrue (is_living_in m d) → MOST_HALF_STEPS < m.half_steps + count
     → Decides s (Commands.Step name count) (Err Limit)
 step_limit m s name count d g st named living most =
     let p = is_named m s name d st named in

@@ -16,6 +16,7 @@ use Rattle.fw_tree.specs.Topology.{IsFault}
 use Rattle.fw_script.specs.declared.command.Command.TheVariants as Commands
 use Rattle.fw_devices.specs.Network.{device_named, kind_at}
 use Rattle.fw_devices.specs.Entries.{device_of, node_device}
+use Rattle.fw_run.specs.declared.limits.TheConstants.{MOST_RESETS}
 use Rattle.fw_run.specs.declared.rule.RuleFault.TheVariants.{OffBus}
 use Rattle.fw_run.specs.State.{State, device_in, is_linked, is_relay, linked_number, manager_in, with_link}
 use Rattle.fw_run.specs.Good.{IsGood, IsLatest}
@@ -120,12 +121,12 @@ joins_same m s x y g st =
     λ i. cond (p i) (not (q i)) (q i)
 
 -- it begins no bus reset, or there are few
-pub few_resets : (m : Machine) (s : State) (x y : End) → IsGood s → StandsFor m s → IsFalse (joins_in m x y && nat_le 10000 m.resets)
-    → 10000 ≤ s.resets → IsTrue (is_joining s x y) → ⊥
+pub few_resets : (m : Machine) (s : State) (x y : End) → IsGood s → StandsFor m s → IsFalse (joins_in m x y && nat_le MOST_RESETS m.resets)
+    → MOST_RESETS ≤ s.resets → IsTrue (is_joining s x y) → ⊥
 few_resets m s x y g st few most joins =
     let begins : joins_in m x y ≡ true = joins_same m s x y g st ∙ joins in
     let resets = st.clock.resets in
-    let many : nat_le 10000 m.resets ≡ true = grind (arith, nat_tests) in
+    let many : nat_le MOST_RESETS m.resets ≡ true = grind (arith, nat_tests) in
     true≢false (sym (λ i. begins i && many i) ∙ few)
 
 -- ---- what a command names

@@ -6,10 +6,10 @@ ghost use Rattle.fw_script.specs.declared.command.Command.TheVariants as Command
 ghost use Rattle.fw_rules.specs.Decisions.{Decided};
 ghost use Rattle.fw_machine.specs.Orders.{MayCarry};
 
-use crate::commands::{MOST_HALF_STEPS, known};
+use crate::commands::known;
 use fw_base::DeviceKind;
 use fw_machine::Machine;
-use fw_run::{Order, RuleFault};
+use fw_run::{MOST_HALF_STEPS, Order, RuleFault};
 use fw_script::Name;
 
 pub(crate) fn decide_candidate(machine: &Machine, name: &Name) -> Result<Order<'static>, RuleFault>

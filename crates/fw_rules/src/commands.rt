@@ -18,18 +18,12 @@ use crate::decks::{decide_command, decide_dub, decide_eject, decide_insert};
 use crate::transactions::{decide_show, decide_transaction};
 use fw_base::DeviceKind;
 use fw_machine::Machine;
-use fw_run::{Access, Order, RuleFault};
+use fw_run::{Access, MOST_HALF_STEPS, MOST_RESETS, MOST_WRITTEN_CYCLES, Order, RuleFault};
 use fw_script::{Command, Name};
 use fw_tree::{End, TreeFault};
 
 /// How many devices a bus may have.
 const MOST_DEVICES: u8 = 63;
-/// How many bus resets a script may have.
-const MOST_RESETS: u32 = 10_000;
-/// How many cycles a script may write.
-const MOST_WRITTEN: u32 = 8000;
-/// How many half steps a script may have.
-pub(crate) const MOST_HALF_STEPS: u64 = 4_000_000;
 /// The greatest cycle number.
 const LAST_CYCLE: u64 = 1 << 52;
 
@@ -111,7 +105,7 @@ fn decide_cable(
 
 /// No further bus reset may come, and no further response be lost.
 pub(crate) fn has_most_resets(machine: &Machine) -> bool
-    ensures { result ≡ nat_le 10000 machine.now.resets }
+    ensures { result ≡ nat_le MOST_RESETS machine.now.resets }
 {
     machine.resets >= MOST_RESETS
 }
@@ -177,7 +171,7 @@ fn decide_cycles(machine: &Machine, count: u32) -> Result<Order<'static>, RuleFa
     if machine.cycle + u64::from(count) > LAST_CYCLE {
         return Err(RuleFault::Limit);
     }
-    if machine.devices.count() > 0 && machine.written + count > MOST_WRITTEN {
+    if machine.devices.count() > 0 && machine.written + count > MOST_WRITTEN_CYCLES {
         return Err(RuleFault::Limit);
     }
     Ok(Order::Cycles(count))

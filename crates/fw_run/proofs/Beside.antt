@@ -5,13 +5,14 @@ use Rattle.std.proofs.Math.Path.{fun_ext}
 use Rattle.fw_entry.specs.declared.entry.ResetEntry.{ResetEntry}
 use Rattle.fw_account.specs.Account.{Account}
 use Rattle.fw_account.specs.Words.{InputPlug, word_of}
+use Rattle.fw_run.specs.declared.limits.TheConstants.{MOST_HALF_STEPS}
 use Rattle.fw_run.specs.Dubs.{Dub, dub_between}
 use Rattle.fw_run.specs.Elections.{Election}
 use Rattle.fw_run.specs.Good.{IsGood, IsLatest}
 use Rattle.fw_run.specs.State.{State}
 
 -- a good state stays good where nothing but these changes
-pub beside_good : (s : State) (id half_steps : ℕ) (e : Election) (k : Dub) → IsGood s → half_steps ≤ 4000000
+pub beside_good : (s : State) (id half_steps : ℕ) (e : Election) (k : Dub) → IsGood s → half_steps ≤ MOST_HALF_STEPS
     → IsGood (record s { bus_manager_id = id; half_steps = half_steps; election = e; dub = k })
 beside_good s id half_steps e k g few = record {
   declared = g.declared;

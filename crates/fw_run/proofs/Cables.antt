@@ -12,6 +12,7 @@ use Rattle.fw_devices.specs.Entries.{node_number, row_of}
 use Rattle.fw_devices.specs.Resets.{Shows}
 use Rattle.fw_devices.proofs.BusLaws.{bus_stays, on_bus_declared}
 use Rattle.fw_devices.proofs.JoinLaws.{bus_grows}
+use Rattle.fw_run.specs.declared.limits.TheConstants.{MOST_HALF_STEPS, MOST_RESETS}
 use Rattle.fw_run.specs.State.{State, Declared, is_on, number_in, is_living, is_linked, is_deaf, linked_number, with_link}
 use Rattle.fw_run.specs.Actions.{Joins, with_topology, counting, counted, Begins}
 use Rattle.fw_run.specs.Good.{IsGood, IsLatest, AreDeclared}
@@ -55,7 +56,7 @@ cabled_declared n u a b j h = record {
   named = h.named ∙ ap (λ (xs : List PhyFacts). length xs) (sym j.same);
 }
 
-pub cabled_may : (s : State) (u : Topology) (a b : End) → IsGood s → IsJoined s.declared.topology u a b → 0 < length s.declared.names → s.resets < 10000 → MayReset (counting s) (record s.declared { topology = u })
+pub cabled_may : (s : State) (u : Topology) (a b : End) → IsGood s → IsJoined s.declared.topology u a b → 0 < length s.declared.names → s.resets < MOST_RESETS → MayReset (counting s) (record s.declared { topology = u })
 cabled_may s u a b g j some few = record {
   good = counting_good s g few;
   counted = omega (arith, g.losses.came);
@@ -106,7 +107,7 @@ cable_good s u a b out t g j h = go (is_on s a.device) (is_on s b.device) refl r
 
 -- ---- a bus reset that a device begins
 
-pub begun_may : (s : State) (d : ℕ) → IsGood s → IsTrue (is_on s d) → s.resets < 10000 → MayReset (counting s) s.declared
+pub begun_may : (s : State) (d : ℕ) → IsGood s → IsTrue (is_on s d) → s.resets < MOST_RESETS → MayReset (counting s) s.declared
 begun_may s d g on few = record { good = counting_good s g few; counted = omega (arith, g.losses.came); declared = g.declared; some = on_some s d g on; kinds = λ e is. refl; stays = λ e is k walk. walk }
 
 pub begun_good : (s : State) (d : ℕ) (out : List Timed) (t : State) → IsGood s → IsTrue (is_on s d) → Begins s d out t → IsGood t
@@ -129,5 +130,5 @@ living_on s d lives = go s.account.latest (first (is_linked s d) (not (s.dead d)
     go None e = e
     go (Some r) e = of_node r.nodes (node_number r.nodes d) e
 
-pub forced_may : (s : State) (d : ℕ) → IsGood s → IsTrue (is_living s d) → IsTrue (is_deaf s d) → s.half_steps < 4000000 → MayReset (counted s 1) s.declared
+pub forced_may : (s : State) (d : ℕ) → IsGood s → IsTrue (is_living s d) → IsTrue (is_deaf s d) → s.half_steps < MOST_HALF_STEPS → MayReset (counted s 1) s.declared
 forced_may s d g lives deaf few = record { good = counted_good s 1 g (omega (arith, few)); counted = g.losses.counted d deaf; declared = g.declared; some = on_some s d g (living_on s d lives); kinds = λ e is. refl; stays = λ e is k walk. walk }

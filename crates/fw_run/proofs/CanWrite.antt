@@ -10,6 +10,7 @@ use Rattle.fw_entry.specs.declared.entry.Timed.{Timed}
 use Rattle.fw_tape.specs.declared.cassette.BlockPlace.{BlockPlace}
 use Rattle.fw_tape.specs.Blocks.{block_now}
 use Rattle.fw_account.specs.Account.{Account, talks}
+use Rattle.fw_run.specs.declared.limits.TheConstants.{MOST_WRITTEN_CYCLES}
 use Rattle.fw_run.specs.Giving.{at_most, at_cycle}
 use Rattle.fw_run.specs.Entries.{second_over}
 use Rattle.fw_run.specs.State.{State}
@@ -135,10 +136,10 @@ record CanCycle (s : State) : Type 0 where
   has : HasCycle s.account.latest s actions out after
   cycle : after.clock.cycle ≡ s.clock.cycle + 1
   latest : after.account.latest ≡ s.account.latest
-  few : (n : ℕ) → (IsTrue (is_some s.account.latest) → s.written + suc n ≤ 8000) → IsTrue (is_some after.account.latest) → after.written + n ≤ 8000
+  few : (n : ℕ) → (IsTrue (is_some s.account.latest) → s.written + suc n ≤ MOST_WRITTEN_CYCLES) → IsTrue (is_some after.account.latest) → after.written + n ≤ MOST_WRITTEN_CYCLES
   none : after.transaction ≡ None
 
-can_cycle : (s : State) → IsGood s → s.transaction ≡ None → s.clock.cycle + 1 ≤ 2 ^ 52 → (IsTrue (is_some s.account.latest) → s.written < 8000) → CanCycle s
+can_cycle : (s : State) → IsGood s → s.transaction ≡ None → s.clock.cycle + 1 ≤ 2 ^ 52 → (IsTrue (is_some s.account.latest) → s.written < MOST_WRITTEN_CYCLES) → CanCycle s
 can_cycle s g none low few = go s.account.latest refl
   where
     c : Comes s
@@ -161,7 +162,7 @@ can_cycle s g none low few = go s.account.latest refl
     go (Some e) is =
         let start = at_most c.after.clock.cycle (Some (Async (cycle_start e.root c.after.clock.cycle))) in
         let mid : State = record c.after { written = c.after.written + 1 } in
-        let less : c.after.written < 8000 = let w = few (subst (λ o. IsTrue (is_some o)) (sym is) refl) in let same = c.written in omega (arith, w, same) in
+        let less : c.after.written < MOST_WRITTEN_CYCLES = let w = few (subst (λ o. IsTrue (is_some o)) (sym is) refl) in let same = c.written in omega (arith, w, same) in
         let sent = can_send (talkers mid.account) mid c.none (talkers_talk mid) in
         let out = (c.out ++ start) ++ sent.out in
         let block = heard_in mid out in

@@ -10,6 +10,7 @@ use Rattle.fw_tape.specs.Motion.{inserted}
 use Rattle.fw_tree.specs.declared.facts.End.{End}
 use Rattle.fw_tree.specs.Topology.{IsJoined, Topology}
 use Rattle.fw_account.specs.Words.{node_of}
+use Rattle.fw_run.specs.declared.limits.TheConstants.{MOST_HALF_STEPS}
 use Rattle.fw_run.specs.Actions.{Action, AddCable, AddDevice, Answer, Ask, BecomeCandidate, CarryOut, Contend, Declares, Die, EjectTape, EndSecond, Finish, HalfStep, InsertTape, Joins, KeepBlock, Lose, Pass, Receive, ResetBus, Resets, Rest, SendCommand, SendFrame, SendPacket, ShowWord, Start, StartBreak, StartConnection, StartCycle, Step, TellLoss, TieReel, Unsettled, Withhold, after_loss, with_cassette, with_topology}
 use Rattle.fw_run.specs.Decks.{FrameWrite, after_frame}
 use Rattle.fw_run.specs.Elected.{bid_answer}
@@ -69,7 +70,7 @@ joins s g a b out t free joined = go (is_on s a.device) (is_on s b.device) refl 
     go true true on_a on_b r = altering (NewCable g) free r.0 r.1 (tt, tt)
     go false false off_a off_b r = altering (NewCable g) free r.0 r.1 (tt, tt)
 
-takes : (s : State) (d : ℕ) (out : List Timed) (t : State) → s.transaction ≡ None → IsTrue (is_living s d) → s.half_steps < 4000000 → Taken s d out t → Effect s (HalfStep d) out t
+takes : (s : State) (d : ℕ) (out : List Timed) (t : State) → s.transaction ≡ None → IsTrue (is_living s d) → s.half_steps < MOST_HALF_STEPS → Taken s d out t → Effect s (HalfStep d) out t
 takes s d out t free lives few (listens quiet said is) = altering (Halved d s.lost s.resets (s.half_steps + 1)) free said is (tt, tt, lives)
 takes s d out t free lives few (keeps_deaf deaf said is) = altering (Beside None (s.half_steps + 1) s.written s.frame) free said is (tt, tt, nothing refl, λ g. (refl, tt), λ g b. tt)
 takes s d out t free lives few (forces_reset deaf r) = resetting s.resets (s.half_steps + 1) s.declared d free tt (λ g. forced_may s d g lives deaf few) r

@@ -2,6 +2,7 @@
 use Rattle.std.proofs.Common.{◌≡◌, ℕ, ◌<◌, ◌&&◌, not, List, length, Bool, true, false, Option, Some, None, is_some, refl, ap, sym, ◌∙◌, arith, IsTrue}
 use Rattle.fw_entry.specs.declared.entry.ResetEntry.{ResetEntry}
 use Rattle.fw_entry.specs.declared.entry.Timed.{Timed}
+use Rattle.fw_run.specs.declared.limits.TheConstants.{MOST_HALF_STEPS}
 use Rattle.fw_run.specs.Actions.{Resets, counted}
 use Rattle.fw_run.specs.Good.{IsGood, IsLatest}
 use Rattle.fw_run.specs.State.{State, epoch_of, linked_number, is_on, is_living, is_deaf}
@@ -48,7 +49,7 @@ turned s t d out m r k there on = go s.account.latest refl m.good.latest there
         let back : Follows s.declared.topology s.declared.topology s.declared.kinds r.entry e = record { made = f.made; some = f.some; before = f.after; after = f.before; stays = λ j walk. walk } in
         ap is_some (stays_linked s.declared.topology s.declared.topology s.declared.kinds r.entry e back k a.number a.is).is
 
-pub forced_living : (s t : State) (d : ℕ) (out : List Timed) → IsGood s → IsTrue (is_living s d) → IsTrue (is_deaf s d) → s.half_steps < 4000000
+pub forced_living : (s t : State) (d : ℕ) (out : List Timed) → IsGood s → IsTrue (is_living s d) → IsTrue (is_deaf s d) → s.half_steps < MOST_HALF_STEPS
     → Resets (counted s 1) d out t → (k : ℕ) → is_living t k ≡ is_living s k
 forced_living s t d out g lives deaf few r k =
     let m = forced_may s d g lives deaf few in

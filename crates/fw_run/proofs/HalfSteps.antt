@@ -3,6 +3,7 @@ use Rattle.std.proofs.Common.{◌≡◌, ℕ, refl, sym, subst, IsTrue, ◌≢�
 use Rattle.fw_cmp.specs.declared.current.Current.{Current}
 use Rattle.fw_cmp.specs.declared.current.Current.TheVariants.{Nothing, Asking, Hearing, Overtaken}
 use Rattle.fw_cmp.specs.Controllers.{IsHeard, ControllerState, first_state as new_controller}
+use Rattle.fw_run.specs.declared.limits.TheConstants.{MOST_RESETS}
 use Rattle.fw_run.specs.State.{State, is_living, is_deaf}
 use Rattle.fw_run.specs.HalfSteps.{half_of, asks, taken, after_half, HalfStep, half, has_request}
 use Rattle.fw_run.specs.Good.{IsGood, IsLatest, Asks}
@@ -57,7 +58,7 @@ loss_asks s d g lives stands = go (s.controllers d).current refl stands
         let h = half_hears s d j stage g e x in
         subst (λ (y : HalfStep). Asks y.controller.current) (sym h.half_is) (subst (λ c. Asks (heard c (reply_heard s d j stage x))) (sym e) tt)
 
-pub loss_good : (s : State) (d : ℕ) → IsGood s → IsTrue (is_living s d) → IsTrue (has_request (s.controllers d).current) → s.resets < 10000 → IsGood (after_loss s d)
+pub loss_good : (s : State) (d : ℕ) → IsGood s → IsTrue (is_living s d) → IsTrue (has_request (s.controllers d).current) → s.resets < MOST_RESETS → IsGood (after_loss s d)
 loss_good s d g lives stands few = record {
   declared = h.declared;
   latest = latest_ u.account.latest h.latest;

@@ -12,6 +12,7 @@ use Rattle.fw_reclaim.specs.Worlds.{BusReset, Grows}
 use Rattle.fw_reclaim.specs.Worlds as Worlds
 use Rattle.fw_reclaim.proofs.Together.{goes_on_reclaiming}
 use Rattle.fw_rounds.proofs.Stands.{reset_stands}
+use Rattle.fw_run.specs.declared.limits.TheConstants.{MOST_RESETS}
 use Rattle.fw_run.specs.State.{State, Declared, epoch_of, linked_number, is_living, is_deaf}
 use Rattle.fw_run.specs.Actions.{Resets, after_reset_entry}
 use Rattle.fw_run.specs.Good.{IsGood, IsLatest, AreDeclared, ManagerContends, world_of}
@@ -124,7 +125,7 @@ reset_good s n initiator out t m r = subst IsGood (sym r.state_is) (record {
     root : e.root < length e.nodes
     root = let less = r.few in (entry_fits n.topology n.kinds (epoch_of s.account.latest + 1) initiator e m.declared.made m.declared.kinds (omega (arith, less)) r.is_entry).root
 
-    few : e.epoch ≤ 10000
+    few : e.epoch ≤ MOST_RESETS
     few = let is = r.is_entry.epoch_is in let few = r.few in omega (arith, is, few)
 
     own : IsResetEntry n.topology n.kinds e.epoch initiator e

@@ -1,6 +1,7 @@
 -- Each action leads from a good state to a good state.
 use Rattle.std.proofs.Common.{List, [], ◌∷◌, None, Some, sym, subst, arith, ℕ, ◌<◌, IsTrue, ◌+◌}
 use Rattle.fw_entry.specs.declared.entry.Timed.{Timed}
+use Rattle.fw_run.specs.declared.limits.TheConstants.{MOST_HALF_STEPS}
 use Rattle.fw_run.specs.State.{State, is_living}
 use Rattle.fw_run.specs.HalfSteps.{after_half}
 use Rattle.fw_run.specs.Actions.{Action, Withhold, AddDevice, AddCable, ResetBus, StartConnection, StartBreak, HalfStep, Rest, Unsettled, Pass, EndSecond, Die, CarryOut, Lose, TellLoss, Start, Ask, Answer, ShowWord, SendCommand, SendFrame, Receive, InsertTape, EjectTape, StartCycle, SendPacket, BecomeCandidate, Contend, TieReel, KeepBlock, Finish, Step, Steps, counted}
@@ -20,7 +21,7 @@ use Rattle.fw_run.proofs.Resets.{reset_good}
 use Rattle.fw_run.proofs.Taking.{Taken, listens, keeps_deaf, forces_reset, taken_as}
 use Rattle.fw_run.proofs.Withholds.{withhold_good}
 
-taken_good : (s : State) (d : ℕ) (out : List Timed) (t : State) → IsGood s → IsTrue (is_living s d) → s.half_steps < 4000000 → Taken s d out t → IsGood t
+taken_good : (s : State) (d : ℕ) (out : List Timed) (t : State) → IsGood s → IsTrue (is_living s d) → s.half_steps < MOST_HALF_STEPS → Taken s d out t → IsGood t
 taken_good s d out t g lives few (listens quiet said is) = subst IsGood (sym is) (counted_good (after_half s d) 1 (half_good s d g lives quiet) (omega (arith, few)))
 taken_good s d out t g lives few (keeps_deaf deaf said is) = subst IsGood (sym is) (counted_good s 1 g (omega (arith, few)))
 taken_good s d out t g lives few (forces_reset deaf r) = reset_good (counted s 1) s.declared d out t (forced_may s d g lives deaf few) r

@@ -7,6 +7,7 @@ use Rattle.fw_tree.specs.Topology as Topologies
 use Rattle.fw_cmp.specs.Resets.{after_second as controller_second}
 use Rattle.fw_reclaim.specs.Worlds.{SecondOver}
 use Rattle.fw_reclaim.proofs.Together.{first_reclaims, goes_on_reclaiming}
+use Rattle.fw_run.specs.declared.limits.TheConstants.{MOST_HALF_STEPS, MOST_RESETS, MOST_WRITTEN_CYCLES}
 use Rattle.fw_run.specs.Dubs.{dub_after_second}
 use Rattle.fw_run.specs.Entries.{second_over}
 use Rattle.fw_run.specs.State.{State, first_state, entered, while_talking, directory_of, epoch_of}
@@ -35,7 +36,7 @@ first_good = record {
 
 -- ---- half steps that do nothing
 
-pub counted_good : (s : State) (n : ℕ) → IsGood s → s.half_steps + n ≤ 4000000 → IsGood (counted s n)
+pub counted_good : (s : State) (n : ℕ) → IsGood s → s.half_steps + n ≤ MOST_HALF_STEPS → IsGood (counted s n)
 counted_good s n g few = record { declared = g.declared; latest = latest_ s.account.latest g.latest; reclaims = g.reclaims; stands = g.stands; unused = g.unused; time = record { second = g.time.second; over_at = g.time.over_at; cycle = g.time.cycle }; losses = g.losses; half_steps = few; written = g.written; decks = g.decks; streams = g.streams }
   where
     latest_ : (o : Option ResetEntry) → IsLatest o s → IsLatest o (counted s n)
@@ -51,7 +52,7 @@ beginning_good s g none = record { declared = g.declared; latest = latest_ s.acc
     latest_ None h = h
     latest_ (Some e) h = h
 
-pub counting_good : (s : State) → IsGood s → s.resets < 10000 → IsGood (counting s)
+pub counting_good : (s : State) → IsGood s → s.resets < MOST_RESETS → IsGood (counting s)
 counting_good s g few = record { declared = g.declared; latest = latest_ s.account.latest g.latest; reclaims = g.reclaims; stands = g.stands; unused = g.unused; time = record { second = g.time.second; over_at = g.time.over_at; cycle = g.time.cycle }; losses = record { asks = g.losses.asks; counted = λ d on. omega (arith, g.losses.counted d on); came = omega (arith, g.losses.came); few = omega (arith, few) }; half_steps = g.half_steps; written = g.written; decks = g.decks; streams = g.streams }
   where
     latest_ : (o : Option ResetEntry) → IsLatest o s → IsLatest o (counting s)
@@ -60,7 +61,7 @@ counting_good s g few = record { declared = g.declared; latest = latest_ s.accou
 
 -- ---- cycles
 
-pub written_good : (s : State) → IsGood s → s.written < 8000 → IsGood (record s { written = s.written + 1 })
+pub written_good : (s : State) → IsGood s → s.written < MOST_WRITTEN_CYCLES → IsGood (record s { written = s.written + 1 })
 written_good s g few = record { declared = g.declared; latest = latest_ s.account.latest g.latest; reclaims = g.reclaims; stands = g.stands; unused = g.unused; time = record { second = g.time.second; over_at = g.time.over_at; cycle = g.time.cycle }; losses = g.losses; half_steps = g.half_steps; written = omega (arith, few); decks = g.decks; streams = g.streams }
   where
     latest_ : (o : Option ResetEntry) → IsLatest o s → IsLatest o (record s { written = s.written + 1 })

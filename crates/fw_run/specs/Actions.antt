@@ -21,6 +21,7 @@ use Rattle.fw_cmp.specs.declared.current.Current.TheVariants.{Nothing, Asking, H
 use Rattle.fw_cmp.specs.declared.stage.Stage.{Stage}
 use Rattle.fw_cmp.specs.Resets.{state_reset as controller_reset, after_second as controller_second}
 use Rattle.fw_cmp.specs.Starts.{start, start_own, started as given, connect_slot, broadcast_slot, listen_slot, break_fault, break_started}
+use Rattle.fw_run.specs.declared.limits.TheConstants.{MOST_HALF_STEPS, MOST_RESETS, MOST_WRITTEN_CYCLES}
 use Rattle.fw_run.specs.declared.order.Access.{Access}
 use Rattle.fw_run.specs.declared.order.Access.TheVariants.{Read, Swap}
 use Rattle.fw_run.specs.declared.order.Transaction.{Transaction}
@@ -98,11 +99,11 @@ after_reset_entry s e = record s {
   dub = dub_after_reset s.account s.dub;
 }
 
--- A device on the bus begins a bus reset, of which there are at most 10,000.
+-- A device on the bus begins a bus reset, of which there are at most `MOST_RESETS`.
 pub record Resets (s : State) (initiator : ℕ) (out : List Timed) (t : State) : Type 0 where
   pub entry : ResetEntry
   pub is_entry : IsResetEntry s.declared.topology s.declared.kinds (epoch_of s.account.latest + 1) initiator entry
-  pub few : epoch_of s.account.latest < 10000
+  pub few : epoch_of s.account.latest < MOST_RESETS
   pub out_is : out ≡ at_most s.clock.cycle (Some (Reset entry))
   pub state_is : t ≡ after_reset_entry s entry
 
@@ -112,7 +113,7 @@ counting s = record s { resets = s.resets + 1 }
 
 -- A command begins a bus reset, which counts.
 abbrev pub Begins : State → ℕ → List Timed → State → Type 0
-Begins s initiator out t = (s.resets < 10000) × Resets (counting s) initiator out t
+Begins s initiator out t = (s.resets < MOST_RESETS) × Resets (counting s) initiator out t
 
 -- before the first bus reset none counted
 abbrev pub beginning : State → State
@@ -243,8 +244,8 @@ Happens s (StartConnection d w) out t =
 Happens s (StartBreak d i) out t =
     IsTrue (is_living s d) × (break_fault (s.controllers d) i ≡ None) × (out ≡ []) × (t ≡ with_controller s d (break_started (s.controllers d) i))
 Happens s (HalfStep d) out t =
-    IsTrue (is_living s d) × (s.half_steps < 4000000) × Takes (is_deaf s d) (is_waiting s d) s d out t
-Happens s (Rest n) out t = IsFalse (is_unsettled s) × (s.half_steps + n ≤ 4000000) × (out ≡ []) × (t ≡ counted s n)
+    IsTrue (is_living s d) × (s.half_steps < MOST_HALF_STEPS) × Takes (is_deaf s d) (is_waiting s d) s d out t
+Happens s (Rest n) out t = IsFalse (is_unsettled s) × (s.half_steps + n ≤ MOST_HALF_STEPS) × (out ≡ []) × (t ≡ counted s n)
 Happens s Unsettled out t = IsTrue (is_unsettled s) × (out ≡ at_most s.clock.cycle (Some unsettled)) × (t ≡ record s { account = entered s.account unsettled })
 Happens s (Pass n) out t =
     (s.clock.cycle + n ≤ 2 ^ 52) × (IsTrue s.account.reclaiming → s.clock.cycle + n < s.clock.over_at) × (out ≡ []) × (t ≡ after_cycles s n)
@@ -255,7 +256,7 @@ Happens s (Die d) out t = IsTrue (is_living s d) × (out ≡ at_most s.clock.cyc
 Happens s (CarryOut d) out t =
     IsTrue (is_living s d) × IsTrue (has_request (s.controllers d).current) × (out ≡ at_most s.clock.cycle (half s d).says) × (t ≡ after_half s d)
 Happens s (Lose d) out t =
-    IsTrue (is_living s d) × IsTrue (has_request (s.controllers d).current) × (s.resets < 10000)
+    IsTrue (is_living s d) × IsTrue (has_request (s.controllers d).current) × (s.resets < MOST_RESETS)
     × (out ≡ at_most s.clock.cycle (half s d).says) × (t ≡ after_loss s d)
 Happens s (TellLoss d) out t = IsTrue (is_deaf s d) × (out ≡ at_most s.clock.cycle (Some (lost d))) × (t ≡ record s { account = entered s.account (lost d) })
 Happens s (Start d) out t = IsTrue (is_linked s d) × IsTrue (s.dead d) × (out ≡ at_most s.clock.cycle (Some (started d))) × (t ≡ after_start s d)
@@ -279,7 +280,7 @@ Happens s (EjectTape d) out t =
     (d < length s.declared.names) × IsTrue (has_deck s d) × IsTrue (is_some (s.decks d).unit.tape)
     × (out ≡ at_most s.clock.cycle (Some (ejected d))) × (t ≡ with_cassette s d None)
 Happens s StartCycle out t =
-    (s.written < 8000) × ((e : ResetEntry) × (s.account.latest ≡ Some e) × (out ≡ at_most s.clock.cycle (Some (Async (cycle_start e.root s.clock.cycle)))))
+    (s.written < MOST_WRITTEN_CYCLES) × ((e : ResetEntry) × (s.account.latest ≡ Some e) × (out ≡ at_most s.clock.cycle (Some (Async (cycle_start e.root s.clock.cycle)))))
     × (t ≡ record s { written = s.written + 1 })
 Happens s (SendPacket p block) out t =
     IsTrue (talks s.account p) × GivesBlock s p block × (out ≡ at_most s.clock.cycle (Some (Iso (stream_packet s p (bytes_of block))))) × (t ≡ s)

@@ -19,6 +19,7 @@ use Rattle.fw_manager.specs.declared.candidate.Stage.{Stage}
 use Rattle.fw_manager.specs.declared.candidate.Stage.TheVariants.{Fresh, Asked, Heard, Answered}
 use Rattle.fw_node.specs.Contents.{node_id}
 use Rattle.fw_node.specs.Packets.{packet_of, reply_in}
+use Rattle.fw_run.specs.declared.limits.TheConstants.{MOST_HALF_STEPS}
 use Rattle.fw_run.specs.Elections.{with_candidate}
 use Rattle.fw_run.specs.Entries.{elected, defeated}
 use Rattle.fw_run.specs.Giving.{at_most}
@@ -108,7 +109,7 @@ bidden s d b = record s {
 -- a candidate takes a half step, on a bus that has a manager
 pub record Bids (s : State) (d : ℕ) (out : List Timed) (t : State) : Type 0 where
   pub lives : IsTrue (is_living s d)
-  pub few : s.half_steps < 4000000
+  pub few : s.half_steps < MOST_HALF_STEPS
   pub candidate : CandidateState
   pub is : s.election.candidates d ≡ Some candidate
   pub manager : ℕ

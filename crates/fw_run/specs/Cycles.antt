@@ -5,6 +5,7 @@ use Rattle.fw_entry.specs.declared.entry.Entry.TheVariants.{Iso}
 use Rattle.fw_entry.specs.declared.entry.Timed.{Timed}
 use Rattle.fw_account.specs.Account.{talks}
 use Rattle.fw_tape.specs.Blocks.{blocks_among}
+use Rattle.fw_run.specs.declared.limits.TheConstants.{MOST_WRITTEN_CYCLES}
 use Rattle.fw_run.specs.Giving.{at_cycle}
 use Rattle.fw_run.specs.State.{State}
 use Rattle.fw_run.specs.Streams.{tape_at, stream_packet}
@@ -47,7 +48,7 @@ pub record CanSendPackets (plugs : List PlugAt) (s : State) : Type 0 where
 pub record MayWrite (n : ℕ) (s : State) : Type 0 where
   pub none : s.transaction ≡ None
   pub cycle : s.clock.cycle + n ≤ 2 ^ 52
-  pub few : IsTrue (is_some s.account.latest) → s.written + n ≤ 8000
+  pub few : IsTrue (is_some s.account.latest) → s.written + n ≤ MOST_WRITTEN_CYCLES
 
 -- so many cycles can be written from this state on
 pub record CanWriteCycles (n : ℕ) (s : State) : Type 0 where

@@ -20,6 +20,7 @@ use Rattle.fw_fcp.specs.declared.frame.Frame.{Frame}
 use Rattle.fw_tape.specs.declared.cassette.Cassette.{Cassette}
 use Rattle.fw_avc.specs.declared.notify.Kept.{Kept}
 use Rattle.fw_node.specs.Fcp.{IsSendable}
+use Rattle.fw_run.specs.declared.limits.TheConstants.{MOST_HALF_STEPS, MOST_RESETS, MOST_WRITTEN_CYCLES}
 use Rattle.fw_run.specs.Decks.{DeckState, IsAtRest}
 use Rattle.fw_run.specs.State.{State, Declared, device_in, linked_number, directory_of, epoch_of, is_living}
 
@@ -45,7 +46,7 @@ IsEntryOf n e = (d : ℕ) × IsResetEntry n.topology n.kinds e.epoch d e
 abbrev pub IsLatest : Option ResetEntry → State → Type 0
 IsLatest None s = (s.declared.names ≡ []) × (s.account ≡ record no_account { withheld = s.account.withheld })
 IsLatest (Some e) s =
-    (0 < length s.declared.names) × Shows s.declared.topology s.declared.kinds e × (e.epoch ≤ 10000) × ManagerContends s.declared.kinds e × (e.root < length e.nodes)
+    (0 < length s.declared.names) × Shows s.declared.topology s.declared.kinds e × (e.epoch ≤ MOST_RESETS) × ManagerContends s.declared.kinds e × (e.root < length e.nodes)
     × IsEntryOf s.declared e
 
 -- the second of the latest bus reset is over exactly when its end is written
@@ -95,7 +96,7 @@ pub record AreLosses (lost : ℕ → Option Stage) (controllers : ℕ → Contro
   pub asks : (d : ℕ) → IsTrue (is_some (lost d)) → Asks (controllers d).current
   pub counted : (d : ℕ) → IsTrue (is_some (lost d)) → epoch < resets
   pub came : epoch ≤ resets
-  pub few : resets ≤ 10000
+  pub few : resets ≤ MOST_RESETS
 
 -- ---- the whole
 
@@ -111,7 +112,7 @@ pub record IsGood (s : State) : Type 0 where
   pub unused : (d : ℕ) → IsFalse (is_living s d) → s.controllers d ≡ new_controller
   pub time : IsTimed s
   pub losses : AreLosses s.lost s.controllers s.resets (epoch_of s.account.latest)
-  pub half_steps : s.half_steps ≤ 4000000
-  pub written : s.written ≤ 8000
+  pub half_steps : s.half_steps ≤ MOST_HALF_STEPS
+  pub written : s.written ≤ MOST_WRITTEN_CYCLES
   pub decks : (d : ℕ) → IsDeck s.account.latest s.clock.cycle d (s.decks d)
   pub streams : (p : PlugAt) → IsFalse (talks s.account p) → s.streams p ≡ 0

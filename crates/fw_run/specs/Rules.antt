@@ -17,6 +17,7 @@ use Rattle.fw_tree.specs.Topology.{IsFault}
 use Rattle.fw_script.specs.declared.command.Command.{Command}
 use Rattle.fw_script.specs.declared.command.Command.TheVariants as Commands
 use Rattle.fw_devices.specs.Network.{device_named, kind_at}
+use Rattle.fw_run.specs.declared.limits.TheConstants.{MOST_HALF_STEPS, MOST_RESETS, MOST_WRITTEN_CYCLES}
 use Rattle.fw_run.specs.Elections.{is_capable}
 use Rattle.fw_run.specs.Bidding.{is_candidate}
 use Rattle.fw_cmp.specs.declared.outcome.StartFault.{StartFault}
@@ -180,14 +181,14 @@ HasNoRegister s _ = ⊥
 
 -- the command would pass a limit of bus resets, half steps or cycles
 abbrev pub PassesLimit : State → Command → Type 0
-PassesLimit s (Commands.Cable a b) = (10000 ≤ s.resets) × Ends s (Commands.Cable a b) (λ x y. IsTrue (is_joining s x y))
-PassesLimit s (Commands.Reset name) = 10000 ≤ s.resets
-PassesLimit s (Commands.Lose name) = 10000 ≤ s.resets
-PassesLimit s (Commands.Step name count) = 4000000 < s.half_steps + count
-PassesLimit s (Commands.Contend name count) = 4000000 < s.half_steps + count
-PassesLimit s (Commands.Settle rounds) = 4000000 < s.half_steps + rounds * length (living s)
+PassesLimit s (Commands.Cable a b) = (MOST_RESETS ≤ s.resets) × Ends s (Commands.Cable a b) (λ x y. IsTrue (is_joining s x y))
+PassesLimit s (Commands.Reset name) = MOST_RESETS ≤ s.resets
+PassesLimit s (Commands.Lose name) = MOST_RESETS ≤ s.resets
+PassesLimit s (Commands.Step name count) = MOST_HALF_STEPS < s.half_steps + count
+PassesLimit s (Commands.Contend name count) = MOST_HALF_STEPS < s.half_steps + count
+PassesLimit s (Commands.Settle rounds) = MOST_HALF_STEPS < s.half_steps + rounds * length (living s)
 PassesLimit s (Commands.Wait cycles) = 2 ^ 52 < s.clock.cycle + cycles
-PassesLimit s (Commands.Cycles count) = (2 ^ 52 < s.clock.cycle + count) ⊎ (IsTrue (is_some s.account.latest) × (8000 < s.written + count))
+PassesLimit s (Commands.Cycles count) = (2 ^ 52 < s.clock.cycle + count) ⊎ (IsTrue (is_some s.account.latest) × (MOST_WRITTEN_CYCLES < s.written + count))
 PassesLimit s _ = ⊥
 
 -- ---- the rules

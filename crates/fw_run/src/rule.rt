@@ -40,9 +40,9 @@ pub enum RuleFault {
     /// `show`: there is no isochronous resource manager where it is asked for, or a quadlet read of the register would not
     /// be complete.
     NoRegister,
-    /// More than 8,000 written cycles, 10,000 bus resets or 4,000,000 half steps, or a cycle number above 2 to the power 52.
-    /// A lost response counts as a bus reset, and the one that its controller forces then does not count. The command that
-    /// would pass a limit is refused whole.
+    /// More written cycles, bus resets or half steps than a script may have (`limits.rt`), or a cycle number above 2 to the
+    /// power 52. A lost response counts as a bus reset, and the one that its controller forces then does not count. The
+    /// command that would pass a limit is refused whole.
     Limit,
     /// `withhold`: a device is declared.
     TooLate,

@@ -1,5 +1,6 @@
 use Rattle.std.proofs.Common.{subst, refl, ℕ, slice_index_or, arith, sym, ◌∙◌, ◌≡◌, ◌≤◌, ◌+◌, length, true, false, cond, ap}
 use Rattle.std.specs.Prelude.{Err}
+use Rattle.fw_run.specs.declared.limits.TheConstants.{MOST_HALF_STEPS}
 use Rattle.fw_run.specs.State.{numbers_to}
 use Rattle.fw_machine.specs.Stands.{EndsAt, is_living_in, living_in}
 use Rattle.fw_carry.proofs.Doings.{ready_after}
@@ -32,7 +33,7 @@ returns g c =
     let at_end : c.loop-device.device ≡ c.args.end = omega (arith, past, reached) in
     let size = length (living_in c.args.machine.now) in
     let after : c.args.machine.now.half_steps + c.args.each ≡ c.args.machine.now.half_steps + size = ap (λ n. c.args.machine.now.half_steps + n) c.requires.each in
-    let few : c.args.machine.now.half_steps + c.args.each ≤ 4000000 = omega (arith, after, c.requires.few) in
+    let few : c.args.machine.now.half_steps + c.args.each ≤ MOST_HALF_STEPS = omega (arith, after, c.requires.few) in
     let within : c.loop-device.device ≤ length c.args.machine.now.devices.names = omega (arith, at_end, c.requires.within) in
     record {
       does = round_rests c.loop-device.device _ c.requires.ready within after few c.loop-device.invariant.living (subst (EndsAt c.args.machine.now) (sym at_end) c.requires.ends) c.loop-device.invariant.count c.loop-device.invariant.does;

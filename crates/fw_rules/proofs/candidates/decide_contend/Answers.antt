@@ -3,6 +3,7 @@ use Rattle.fw_machine.specs.Candidates.{candidate_in}
 use Rattle.fw_machine.specs.Stands.{is_living_in}
 use Rattle.fw_rules.proofs.CandidateRules.{contend_dead, contend_none, contend_ordered}
 use Rattle.fw_rules.proofs.candidates.decide_contend.Goals as goal
+use Rattle.fw_run.specs.declared.limits.TheConstants.{MOST_HALF_STEPS}
 
 pub returns-then-not-is_living-clause-decided : goal.returns-then-not-is_living-clause-decided
 returns-then-not-is_living-clause-decided c = λ s g st.
@@ -25,5 +26,5 @@ returns-clause-decided c = λ s g st.
     let d = c.in_ok-device.device in
     let living : is_living_in m d ≡ true = cc in
     let one : is_some (candidate_in m.candidates d) ≡ true = cc in
-    let few : m.half_steps + c.args.count ≤ 4000000 = omega arith in
+    let few : m.half_steps + c.args.count ≤ MOST_HALF_STEPS = omega arith in
     contend_ordered m s c.args.name.now c.args.count d g st c.in_ok-device.ensures.device living one few

@@ -8,6 +8,7 @@ use Rattle.fw_rules.proofs.commands.decide_cable.Goals as goal
 use Rattle.fw_rules.proofs.ConnectionRules.{is_named}
 use Rattle.fw_rules.proofs.FirstBroken.{cable_at_limit, cable_ordered, cable_refused}
 use Rattle.fw_rules.proofs.Shown.{fault_back, fault_same, few_resets, joins_same}
+use Rattle.fw_run.specs.declared.limits.TheConstants.{MOST_RESETS}
 
 pub returns-in-Err-NoPort-clause-decided : goal.returns-in-Err-NoPort-clause-decided
 returns-in-Err-NoPort-clause-decided c = λ s g st.
@@ -47,7 +48,7 @@ returns-then-has_most_resets-clause-decided c = λ s g st.
     let x : End = record { device = c.in_ok-known.field-0; port = a.1 } in
     let y : End = record { device = c.in_ok-known-2.field-0; port = b.1 } in
     let joins : joins_in m x y ≡ true = search rules in
-    let most : nat_le 10000 m.resets ≡ true = search rules in
+    let most : nat_le MOST_RESETS m.resets ≡ true = search rules in
     cable_at_limit s a b x y (is_named m s a.0 x.device st c.in_ok-known.ensures.device, refl) (is_named m s b.0 y.device st c.in_ok-known-2.ensures.device, refl)
     (λ f h. c.in-Ok.ensures.free f (fault_back m s x y f st h)) (let resets = st.clock.resets in grind arith) (sym (joins_same m s x y g st) ∙ joins)
 
@@ -58,6 +59,6 @@ returns-else-begins_reset-clause-decided c = λ s g st.
     let b = c.args.b.now in
     let x : End = record { device = c.in_ok-known.field-0; port = a.1 } in
     let y : End = record { device = c.in_ok-known-2.field-0; port = b.1 } in
-    let few : IsFalse (joins_in m x y && nat_le 10000 m.resets) = search rules in
+    let few : IsFalse (joins_in m x y && nat_le MOST_RESETS m.resets) = search rules in
     cable_ordered s a b x y (is_named m s a.0 x.device st c.in_ok-known.ensures.device, refl) (is_named m s b.0 y.device st c.in_ok-known-2.ensures.device, refl)
     (λ f h. c.in-Ok.ensures.free f (fault_back m s x y f st h)) (few_resets m s x y g st few)

@@ -10,6 +10,7 @@ use Rattle.fw_machine.proofs.Heard.{stands_here}
 use Rattle.fw_machine.proofs.Heard.{may_rest, stands_request}
 use Rattle.fw_machine.proofs.Living.{living_same}
 use Rattle.fw_rules.proofs.connections.decide_loss.Goals as goal
+use Rattle.fw_run.specs.declared.limits.TheConstants.{MOST_RESETS}
 
 pub returns-then-not-has_request-clause-decided : goal.returns-then-not-has_request-clause-decided
 returns-then-not-has_request-clause-decided c = λ s g st.
@@ -25,9 +26,9 @@ returns-then-has_most_resets-clause-decided c = λ s g st.
     let d = c.in_ok-device.device in
     let living : is_living_in m d ≡ true = cc in
     let waits : Awaits (states_of m.controllers d) = subst Awaits c.get.ensures (c.has_request.ensures.standing.0 cc) in
-    let most : nat_le 10000 m.resets ≡ true = cc in
+    let most : nat_le MOST_RESETS m.resets ≡ true = cc in
     let resets = st.clock.resets in
-    let past : 10000 ≤ s.resets = grind (arith, nat_tests, most, resets) in
+    let past : MOST_RESETS ≤ s.resets = grind (arith, nat_tests, most, resets) in
     loss_at_limit s c.args.name.now d (is_named m s _ d st c.in_ok-device.ensures.device) (sym (living_same m s d g st) ∙ living)
     (stands_request (s.controllers d).current (stands_here m s d st waits)) past
 
@@ -37,8 +38,8 @@ returns-clause-decided c = λ s g st.
     let d = c.in_ok-device.device in
     let living : is_living_in m d ≡ true = cc in
     let waits : Awaits (states_of m.controllers d) = subst Awaits c.get.ensures (c.has_request.ensures.standing.0 cc) in
-    let low : nat_le 10000 m.resets ≡ false = cc in
+    let low : nat_le MOST_RESETS m.resets ≡ false = cc in
     let resets = st.clock.resets in
-    let few : s.resets < 10000 = grind (arith, nat_tests, low, resets) in
+    let few : s.resets < MOST_RESETS = grind (arith, nat_tests, low, resets) in
     loss_ordered s c.args.name.now d (is_named m s _ d st c.in_ok-device.ensures.device) (sym (living_same m s d g st) ∙ living)
     (stands_request (s.controllers d).current (stands_here m s d st waits)) few
