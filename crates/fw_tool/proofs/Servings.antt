@@ -8,9 +8,9 @@ use Rattle.fw_outside.specs.declared.stop.Stop.TheVariants.{ReadFault, WriteFaul
 use Rattle.fw_tool.specs.declared.ending.Ending.TheVariants.{Stopped}
 use Rattle.fw_tool.specs.About.{IsSaid}
 use Rattle.fw_tool.specs.Completing.{IsDoneOrUnmet}
-use Rattle.fw_tool.specs.Faults.{FirstFault, IsFirstFaults, IsToldByStatus, stop_of}
+use Rattle.fw_tool.specs.Faults.{FirstFault, IsToldByStatus, stop_of}
 use Rattle.fw_tool.specs.Notes.{IsTold}
-use Rattle.fw_tool.specs.Serving.{closed, IsClosed}
+use Rattle.fw_tool.specs.Closing.{closed, IsClosed}
 use Rattle.fw_tool.proofs.Tellings.{first_by_status, quiet_status, quiet_writes, said_status}
 
 pub closes : {T E : Type 0} (r : Result T E) (ending came told : Ending) (kept : List ℕ) (mid written : ℕ) → ending ≡ came → told ≡ closed ending r
@@ -35,18 +35,6 @@ module _ {N : Type 0} (held : N → Option (List ℕ)) (faults : N → ℕ) (old
   -- all that the last flush leaves of an ending, of which this is told
   abbrev Told : Ending → Type 0
   Told e = IsTold held faults old new e status
-
-  by_first : IsFirstFaults status read read' written written' (faults old) (faults new) → IsToldByStatus status read read' written written' (faults old) (faults new)
-  by_first f = record {
-    no_fault = f.no_fault;
-    read_fault = f.read_fault;
-    write_fault = λ s. noted (f.write_fault s);
-  }
-    where
-      noted : ((read' ≡ read) × Rose written written' × (faults new ≡ faults old)) ⊎ (Rose (faults old) (faults new) × ((read' ≡ read) ⊎ (written' ≡ written)))
-          → (Rose written written' × (faults new ≡ faults old)) ⊎ Rose (faults old) (faults new)
-      noted (inl a) = inl (a.1, a.2)
-      noted (inr a) = inr a.0
 
   of_flush : Rose written written' → Told (Stopped WriteFault) → IsToldByStatus status read read' written written' (faults old) (faults new)
   of_flush rose (inl a) = record {
@@ -77,7 +65,7 @@ module _ {N : Type 0} (held : N → Option (List ℕ)) (faults : N → ℕ) (old
         go : ((told ≡ ending) × (written' ≡ c.before) × (kept ≡ [])) ⊎ ((told ≡ Stopped WriteFault) × Rose c.before written') → IsToldByStatus status read read' written written' (faults old) (faults new)
         go (inl a) =
             let (f, e) = calm a.0 a.1 in
-            by_first (first_by_status held faults old new status read read' written written' ending f e)
+            first_by_status held faults old new status read read' written written' ending f e
         go (inr a) = of_flush (risen a.1) (subst Told a.0 t)
 
     pub closed_quiet : (ending ≢ Stopped ReadFault → ending ≢ Stopped WriteFault → IsDoneOrUnmet ending)

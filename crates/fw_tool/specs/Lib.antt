@@ -5,5 +5,7 @@ pub mod About
 pub mod Logs
 pub mod Runs
 pub mod Laws
+pub mod Closing
+pub mod Turns
 pub mod Serving
 pub mod Completing

@@ -11,7 +11,6 @@ mod names;
 mod notes;
 mod scripts;
 mod session;
-mod top;
 mod words;
 
 pub use about::About;
@@ -23,5 +22,4 @@ pub use fw_text::entry_text;
 pub use laws::whole_logs_are_read;
 pub use notes::{NOTE_ROOM, tell};
 pub use session::{Flush, serve};
-pub use top::fire;
 pub use words::Word;

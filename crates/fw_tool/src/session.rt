@@ -1,31 +1,10 @@
 //! The whole call: what the words say, the last flush, and the note of the ending.
 
-ghost use Rattle.std.specs.Prelude.{◌≡◌, ◌≤◌, ◌⊎◌, List, ℕ, [], length, take, OnOk, OnErr, Some};
-ghost use Rattle.fw_entry.specs.declared.entry.Timed.{Timed};
-ghost use Rattle.fw_log.specs.History.{IsLog};
+ghost use Rattle.std.specs.Prelude.{◌≡◌, List, ℕ, [], take, OnOk, OnErr};
 ghost use Rattle.fw_outside.specs.Outside.{Rose};
-ghost use Rattle.fw_reading.specs.Endings.{limit, Reads};
-ghost use Rattle.fw_reading.specs.declared.ending.LogEnding.{LogEnding};
-ghost use Rattle.fw_decode.specs.Words.{form_by, rules_by, Accepts};
-ghost use Rattle.fw_decode.specs.declared.refusal.LogRefusal.{LogRefusal};
-ghost use Rattle.fw_decode.specs.declared.word.LogWord.{LogWord};
-ghost use Rattle.fw_gen.specs.Gen.{script_of};
-ghost use Rattle.fw_simulate.specs.Scripts.{IsValid};
-ghost use Rattle.fw_simulate.specs.Sums.{Sums};
-ghost use Rattle.fw_simulate.specs.Words.{RunsAs};
-ghost use Rattle.fw_simulate.specs.declared.ending.RunEnding.{RunEnding};
-ghost use Rattle.fw_simulate.specs.declared.word.ScriptWord.{ScriptWord};
 ghost use Rattle.fw_tape.specs.Desks.{AnyBlock, AnyVendorByte};
-ghost use Rattle.fw_tool.specs.About.{about_text, IsSaid};
-ghost use Rattle.fw_tool.specs.Faults.{IsToldByStatus};
-ghost use Rattle.fw_tool.specs.Notes.{IsTold};
-ghost use Rattle.fw_tool.specs.Logs.{by_log};
-ghost use Rattle.fw_tool.specs.Runs.{by_run};
-ghost use Rattle.fw_tool.specs.Serving.{closed, IsClosed};
-ghost use Rattle.fw_tool.specs.Words.{IsWord, IsListed};
-ghost use Rattle.fw_tool.specs.declared.about.About.{About as AnAbout};
-ghost use Rattle.fw_tool.specs.declared.ending.Ending.{Ending as AnEnding};
-ghost use Rattle.fw_tool.specs.declared.words.Word.{Word as AWord};
+ghost use Rattle.fw_tool.specs.Closing.{closed};
+ghost use Rattle.fw_tool.specs.Serving.{Serves};
 
 use crate::dispatch::carry_out;
 use crate::ending::Ending;
@@ -74,7 +53,20 @@ fn closed(ending: Ending, flushed: Result<(), Failed>) -> Ending
     }
 }
 
-/// Does what the words say, passes on what the sink keeps back, and tells the ending.
+/// Does what the words of the command line say, passes on what the sink keeps back, tells the ending, and answers the program's status: that
+/// of the ending that is met first, or 6 where the last flush fails or the note is not written (`Ending` is the table).
+///
+/// The word `run` reads a script of at most 1,048,576 bytes, carries out its commands, and writes their log; `dub` carries them out
+/// alike, and writes in place of the log the blocks that were recorded, 480 bytes each. The blocks of tapes, and what a vendor makes of
+/// a byte of a command, come from the desk. The words `gen NUMBER` run the script that the number makes,
+/// from 0 to 4,294,967,295, and write six lines that count what its log holds.
+///
+/// `help` and `version`, with `--help`, `-h`, `--version` and `-V`, write what the program says of itself, and read nothing.
+///
+/// The other words read a log of at most 268,435,456 bytes. `decode`, `explain` and `json` write one line for each entry as the entry
+/// ends: its raw quadlets, words, or an object; and `dv` at the log's end one line for each channel that has isochronous packets.
+/// `convert 1` and `convert 2` write the entries as a log of that version; `audit` writes how many entries there are where the registers
+/// that they show ran as a sound account; `map` writes the tree of the last bus reset, and `map dot` the same tree as a graph.
 pub fn serve<S: Source, K: Flush, N: Sink, F: Fn(u16, u32, u16) -> [u8; 480], H: Fn(u32, u8) -> u8>(
     alloc: Global,
     words: &[String],
@@ -85,43 +77,10 @@ pub fn serve<S: Source, K: Flush, N: Sink, F: Fn(u16, u32, u16) -> [u8; 480], H:
 ) -> u8
     requires blocks { AnyBlock (F.pre desk.now.blocks) }
     requires desk { AnyVendorByte (H.pre desk.now.vendor) }
-    ensures scripts { (word : ScriptWord) → IsWord words.now (AWord.Script word) → (e : RunEnding) × (told : AnEnding)
-        × RunsAs (record { blocks = F.post desk.now.blocks; vendor = H.post desk.now.vendor }) word (S.left source.old) (S.left source.new) (K.held sink.old) (K.held sink.new) e
-        × IsClosed (S.faults source.old) (S.faults source.new) (K.faults sink.old) (K.faults sink.new) (K.kept sink.new) (by_run e) told
-        × IsTold N.held N.faults notes.old notes.new told result }
-    ensures sums { (seed : ℕ) → IsWord words.now (AWord.Gen seed) → (source.new ≡ source.old) × ((e : RunEnding) × (told : AnEnding)
-        × Sums (record { blocks = F.post desk.now.blocks; vendor = H.post desk.now.vendor }) seed (K.held sink.old) (K.held sink.new) e
-        × IsClosed (S.faults source.old) (S.faults source.new) (K.faults sink.old) (K.faults sink.new) (K.kept sink.new) (by_run e) told
-        × IsTold N.held N.faults notes.old notes.new told result) }
-    ensures logs { (word : LogWord) → IsWord words.now (AWord.Log word) → (e : LogEnding LogRefusal) × (told : AnEnding)
-        × Reads (form_by word) (rules_by word) (S.left source.old) (S.left source.new) (K.held sink.old) (K.held sink.new) e
-        × IsClosed (S.faults source.old) (S.faults source.new) (K.faults sink.old) (K.faults sink.new) (K.kept sink.new) (by_log e) told
-        × IsTold N.held N.faults notes.old notes.new told result }
-    ensures about { (about : AnAbout) → IsWord words.now (AWord.About about) → (source.new ≡ source.old) × ((e : AnEnding) × (told : AnEnding)
-        × IsSaid (K.held sink.old) (K.held sink.new) (about_text about) e
-        × IsClosed (S.faults source.old) (S.faults source.new) (K.faults sink.old) (K.faults sink.new) (K.kept sink.new) e told
-        × IsTold N.held N.faults notes.old notes.new told result) }
-    ensures usage { (IsListed words.now → ⊥) → (source.new ≡ source.old) × (K.held sink.new ≡ K.held sink.old) × ((told : AnEnding)
-        × IsClosed (S.faults source.old) (S.faults source.new) (K.faults sink.old) (K.faults sink.new) (K.kept sink.new) AnEnding.Usage told
-        × IsTold N.held N.faults notes.old notes.new told result) }
-
-    // By the status, which counts of faults rose in the call.
-    ensures first { IsToldByStatus result (S.faults source.old) (S.faults source.new) (K.faults sink.old) (K.faults sink.new)
-        (N.faults notes.old) (N.faults notes.new) }
-
-    // A script of which no line is refused, be it a seed's, and a log within the limit that the word does not refuse, end with 0, or
-    // 8 for want of memory, where no count rose. `help` and `version` end with 0 there.
-    ensures complete { (word : ScriptWord) → IsWord words.now (AWord.Script word) → (script : List ℕ) → S.left source.old ≡ Some script → IsValid script
-        → (Rose (S.faults source.old) (S.faults source.new) → ⊥) → (Rose (K.faults sink.old) (K.faults sink.new) → ⊥)
-        → (Rose (N.faults notes.old) (N.faults notes.new) → ⊥) → (result ≡ 0) ⊎ (result ≡ 8) }
-    ensures complete_sums { (seed : ℕ) → IsWord words.now (AWord.Gen seed) → IsValid (script_of seed)
-        → (Rose (K.faults sink.old) (K.faults sink.new) → ⊥) → (Rose (N.faults notes.old) (N.faults notes.new) → ⊥) → (result ≡ 0) ⊎ (result ≡ 8) }
-    ensures complete_log { (word : LogWord) → IsWord words.now (AWord.Log word)
-        → (entries : List Timed) → (bytes : List ℕ) → S.left source.old ≡ Some bytes → IsLog entries bytes → length bytes ≤ limit → Accepts word entries
-        → (Rose (S.faults source.old) (S.faults source.new) → ⊥) → (Rose (K.faults sink.old) (K.faults sink.new) → ⊥)
-        → (Rose (N.faults notes.old) (N.faults notes.new) → ⊥) → (result ≡ 0) ⊎ (result ≡ 8) }
-    ensures complete_about { (about : AnAbout) → IsWord words.now (AWord.About about)
-        → (Rose (K.faults sink.old) (K.faults sink.new) → ⊥) → result ≡ 0 }
+    ensures { Serves (record { blocks = F.post desk.now.blocks; vendor = H.post desk.now.vendor }) words.now
+        (record { left = S.left; faults = S.faults; old = source.old; new = source.new })
+        (record { held = K.held; kept = K.kept; faults = K.faults; old = sink.old; new = sink.new })
+        (record { held = N.held; faults = N.faults; old = notes.old; new = notes.new }) result }
 {
     let ending = carry_out(alloc, words, source, sink, desk);
     let flushed = sink.pass_all();

@@ -1,0 +1,37 @@
+-- What a call is seen by: its source, its sink and its notes, before and after it.
+use Rattle.std.specs.Prelude.{ℕ, List, Option}
+use Rattle.fw_outside.specs.Outside.{Rose}
+
+-- a source of any kind: the bytes that are left, where it tells them, how often it has failed, and what it was and is
+pub record SourceTurn (S : Type 0) : Type 0 where
+  pub left : S → Option (List ℕ)
+  pub faults : S → ℕ
+  pub old : S
+  pub new : S
+
+-- a sink of any kind: the bytes that were written, where it tells them, those that it keeps back, how often it has failed, and what it was and is
+pub record SinkTurn (K : Type 0) : Type 0 where
+  pub held : K → Option (List ℕ)
+  pub kept : K → List ℕ
+  pub faults : K → ℕ
+  pub old : K
+  pub new : K
+
+-- the sink of the notes: likewise
+pub record NotesTurn (N : Type 0) : Type 0 where
+  pub held : N → Option (List ℕ)
+  pub faults : N → ℕ
+  pub old : N
+  pub new : N
+
+-- no read failed in the call
+abbrev pub NoReadFailed : {S : Type 0} → SourceTurn S → Type 0
+NoReadFailed source = Rose (source.faults source.old) (source.faults source.new) → ⊥
+
+-- no write failed in the call
+abbrev pub NoWriteFailed : {K : Type 0} → SinkTurn K → Type 0
+NoWriteFailed sink = Rose (sink.faults sink.old) (sink.faults sink.new) → ⊥
+
+-- no write of a note failed in the call
+abbrev pub NoNoteFailed : {N : Type 0} → NotesTurn N → Type 0
+NoNoteFailed notes = Rose (notes.faults notes.old) (notes.faults notes.new) → ⊥
