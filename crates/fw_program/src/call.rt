@@ -7,7 +7,7 @@ ghost use Rattle.fw_program.specs.Blocks.{IsBlock, program_desk};
 use crate::desk::{block_of, inverted};
 use fw_outside::{Sink, Source};
 use fw_tape::Desk;
-use fw_tool::{Flush, serve};
+use fw_tool::{Flush, fire};
 use std::alloc::Global;
 
 /// Does what the words say, passes on what the sink keeps back, tells the ending, and answers the status. Blocks of tapes and bytes of
@@ -32,5 +32,5 @@ pub fn program<S: Source, K: Flush, N: Sink>(
             ensures { result ≡ 255 - byte }
         { inverted(byte) },
     );
-    serve(alloc, words, source, sink, notes, &desk)
+    fire(alloc, words, source, sink, notes, &desk)
 }

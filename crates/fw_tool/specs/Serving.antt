@@ -1,4 +1,4 @@
--- What the program's call says, whatever its words, its source, its sink, its notes and its desk are. The promises of `serve`, and of
+-- What the program's call says, whatever its words, its source, its sink, its notes and its desk are. The promises of `fire`, and of
 -- `program` with the program's own desk.
 use Rattle.std.specs.Prelude.{◌≡◌, ◌≤◌, ◌⊎◌, ℕ, List, length, Some, String}
 use Rattle.std.specs.declared.alloc.Global.{Global}

@@ -21,5 +21,5 @@ pub use fw_simulate::{Refusal, Refused, ScriptWord};
 pub use fw_text::entry_text;
 pub use laws::whole_logs_are_read;
 pub use notes::{NOTE_ROOM, tell};
-pub use session::{Flush, serve};
+pub use session::{Flush, fire};
 pub use words::Word;

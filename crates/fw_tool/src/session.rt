@@ -67,7 +67,7 @@ fn closed(ending: Ending, flushed: Result<(), Failed>) -> Ending
 /// ends: its raw quadlets, words, or an object; and `dv` at the log's end one line for each channel that has isochronous packets.
 /// `convert 1` and `convert 2` write the entries as a log of that version; `audit` writes how many entries there are where the registers
 /// that they show ran as a sound account; `map` writes the tree of the last bus reset, and `map dot` the same tree as a graph.
-pub fn serve<S: Source, K: Flush, N: Sink, F: Fn(u16, u32, u16) -> [u8; 480], H: Fn(u32, u8) -> u8>(
+pub fn fire<S: Source, K: Flush, N: Sink, F: Fn(u16, u32, u16) -> [u8; 480], H: Fn(u32, u8) -> u8>(
     alloc: Global,
     words: &[String],
     source: &mut S,

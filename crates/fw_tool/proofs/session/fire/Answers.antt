@@ -12,8 +12,8 @@ use Rattle.fw_tool.specs.Faults.{FirstFault}
 use Rattle.fw_tool.specs.Logs.{by_log}
 use Rattle.fw_tool.specs.Runs.{by_run}
 use Rattle.fw_tool.proofs.Servings.{closes, told_by_status, closed_quiet, closed_writes, closed_said}
-use Rattle.fw_tool.proofs.session.serve.Given as given
-use Rattle.fw_tool.proofs.session.serve.Goals as goal
+use Rattle.fw_tool.proofs.session.fire.Given as given
+use Rattle.fw_tool.proofs.session.fire.Goals as goal
 
 pub returns : goal.returns
 returns g c =
