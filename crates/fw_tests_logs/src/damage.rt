@@ -1,5 +1,5 @@
-//! Short logs of which a byte is changed: which fault of a body the reader answers, and which epoch, of which a note says nothing. What is
-//! told of whole logs stands in `fire_sessions/data/damages.txt`.
+//! Short logs of which a byte is changed: which fault of a body the reader answers, of which a note says nothing. What is told of whole
+//! logs stands in `fire_sessions/data/damages.txt`.
 //!
 //! What the bytes come to was worked out by hand from the layouts of the log and of the standard.
 
@@ -13,8 +13,8 @@ use fw_phy::PhyFault;
 use std::alloc::{AllocError, Global};
 use std::test::Fail;
 
-// Whether a log, in hexadecimal, is refused so where the byte at a place is so much more, modulo 256.
-fn is_refused(
+/// Whether a log, in hexadecimal, is refused so where the byte at a place is so much more, modulo 256.
+pub(crate) fn is_refused(
     alloc: Global,
     text: &str,
     (at, more): (usize, u8),
@@ -57,11 +57,8 @@ fn is_faulty(alloc: Global, text: &str, place: u64, row: &Row) -> Result<bool, A
 const RESET: &str = "\
 31333934000000010000000000000000010000050000000000000000000000010000000100010101807f08427f80f7bd02000003";
 
-const RESET_IN_VERSION_2: &str = "\
+pub(crate) const RESET_IN_VERSION_2: &str = "\
 3133393400000002000000000000000001000005000000010000000000000000000000010000000100010101807f08427f80f7bd0200000300000001";
-
-const RESET_OF_EPOCH_2: &str = "\
-3133393400000002000000000000000001000005000000020000000000000000000000020000000100010101807f08427f80f7bd0200000300000001";
 
 const RESET_OF_NO_INVERSE: &str = "\
 3133393400000002000000000000000001000005000000010000000000000000000000010000000100010101807f08427f80f7bc";
@@ -234,41 +231,5 @@ fn bodies_of_which_a_byte_is_changed(rt: HostRuntime) -> Result<(), Fail> {
     for sample in SAMPLES {
         assert!(rt; are_faulty(rt.alloc(), sample)?);
     }
-    Ok(())
-}
-
-// The places of bytes, how much more each is, where the epoch stands that is refused, and which it is. The first is the kind of the bus
-// reset, which is then a packet before the first reset; the others are the epoch of the entry behind it.
-const EPOCHS: [(usize, u8, u64, u32); 10] = [
-    (16, 1, 20, 1),
-    (56, 1, 56, 0x0100_0001),
-    (56, 255, 56, 0xFF00_0001),
-    (56, 0x80, 56, 0x8000_0001),
-    (57, 1, 56, 0x0001_0001),
-    (57, 255, 56, 0x00FF_0001),
-    (58, 1, 56, 0x0000_0101),
-    (58, 255, 56, 0x0000_FF01),
-    (59, 1, 56, 2),
-    (59, 255, 56, 0),
-];
-
-// Whether a log is refused so for its epoch.
-fn is_of_no_epoch(
-    alloc: Global,
-    text: &str,
-    change: (usize, u8),
-    (place, epoch): (u64, u32),
-) -> Result<bool, AllocError> {
-    let why = LogWhy::BadEpoch(epoch);
-    is_refused(alloc, text, change, LogFault { place, why })
-}
-
-#[test]
-fn epochs_that_are_refused(rt: HostRuntime) -> Result<(), Fail> {
-    for &(at, more, place, epoch) in &EPOCHS {
-        let is_due = is_of_no_epoch(rt.alloc(), RESET_IN_VERSION_2, (at, more), (place, epoch))?;
-        assert!(rt; is_due, "{at}");
-    }
-    assert!(rt; is_of_no_epoch(rt.alloc(), RESET_OF_EPOCH_2, (0, 0), (56, 1))?);
     Ok(())
 }

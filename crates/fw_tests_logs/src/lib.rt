@@ -6,6 +6,8 @@ mod adapters;
 #[cfg(test)]
 mod damage;
 #[cfg(test)]
+mod epochs;
+#[cfg(test)]
 mod generation;
 #[cfg(test)]
 mod kinds;

@@ -1,5 +1,6 @@
 //! Lines of each form, and lines that have none.
 
+use crate::commands::{ANY, told};
 use fw_outside::MemSource;
 use fw_script::{Command, Name, ScriptFault, ScriptReader};
 use std::alloc::Global;
@@ -21,83 +22,6 @@ fn said(alloc: Global, line: &[u8]) -> Result<Result<Option<Command>, ScriptFaul
     let mut source = MemSource::new(script, Vec::new(alloc));
     let mut reader = ScriptReader::new(alloc)?;
     Ok(reader.next(&mut source))
-}
-
-/// What a command says: the first word of its form, its names, and its numbers, in their order.
-type Told = (&'static str, [Option<Name>; 3], [u32; 4]);
-
-/// In place of a channel's number, for `any`.
-const ANY: u32 = 64;
-
-fn number_of(channel: Option<u8>) -> u32 {
-    match channel {
-        Some(channel) => channel as u32,
-        None => ANY,
-    }
-}
-
-/// What a command says, but for the bytes of a frame.
-fn told(command: &Command) -> Told {
-    match command {
-        Command::Device(a, kind, ports, speed) => (
-            "device",
-            [Some(*a), None, None],
-            [*kind as u32, *ports as u32, *speed as u32, 0],
-        ),
-        Command::Cable(a, b) => (
-            "cable",
-            [Some(a.0), Some(b.0), None],
-            [a.1 as u32, b.1 as u32, 0, 0],
-        ),
-        Command::Reset(a) => ("reset", [Some(*a), None, None], [0; 4]),
-        Command::Connect(a, b, c, channel, overhead) => (
-            "connect",
-            [Some(*a), Some(b.0), Some(c.0)],
-            [
-                b.1 as u32,
-                c.1 as u32,
-                number_of(*channel),
-                *overhead as u32,
-            ],
-        ),
-        Command::Broadcast(a, b, overhead) => (
-            "broadcast",
-            [Some(*a), Some(b.0), None],
-            [b.1 as u32, *overhead as u32, 0, 0],
-        ),
-        Command::Listen(a, b) => ("listen", [Some(*a), Some(b.0), None], [b.1 as u32, 0, 0, 0]),
-        Command::Break(a, slot) => ("break", [Some(*a), None, None], [*slot as u32, 0, 0, 0]),
-        Command::Step(a, count) => ("step", [Some(*a), None, None], [*count, 0, 0, 0]),
-        Command::Settle(rounds) => ("settle", [None; 3], [*rounds, 0, 0, 0]),
-        Command::Wait(cycles) => ("wait", [None; 3], [*cycles, 0, 0, 0]),
-        Command::Cycles(count) => ("cycles", [None; 3], [*count, 0, 0, 0]),
-        Command::Die(a, late) => ("die", [Some(*a), None, None], [*late as u32, 0, 0, 0]),
-        Command::Lose(a) => ("lose", [Some(*a), None, None], [0; 4]),
-        Command::Start(a) => ("start", [Some(*a), None, None], [0; 4]),
-        Command::Command(a, b, _) => ("command", [Some(*a), Some(*b), None], [0; 4]),
-        Command::Read(a, b, offset) => (
-            "read",
-            [Some(*a), Some(*b), None],
-            [*offset as u32, 0, 0, 0],
-        ),
-        Command::Swap(a, b, offset, argument, value) => (
-            "swap",
-            [Some(*a), Some(*b), None],
-            [*offset as u32, *argument, *value, 0],
-        ),
-        Command::Insert(a, tape, system) => (
-            "insert",
-            [Some(*a), None, None],
-            [*tape as u32, *system as u32, 0, 0],
-        ),
-        Command::Eject(a) => ("eject", [Some(*a), None, None], [0; 4]),
-        Command::Show(a, offset) => ("show", [*a, None, None], [*offset as u32, 0, 0, 0]),
-        Command::Withhold => ("withhold", [None; 3], [0; 4]),
-        Command::Candidate(a) => ("candidate", [Some(*a), None, None], [0; 4]),
-        Command::Contend(a, count) => ("contend", [Some(*a), None, None], [*count, 0, 0, 0]),
-        Command::Dub(a) => ("dub", [Some(*a), None, None], [0; 4]),
-        Command::End => ("end", [None; 3], [0; 4]),
-    }
 }
 
 /// A script that begins with this line says this first.

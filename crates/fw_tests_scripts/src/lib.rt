@@ -4,6 +4,8 @@
 #[cfg(test)]
 mod cablings;
 #[cfg(test)]
+mod commands;
+#[cfg(test)]
 mod forms;
 #[cfg(test)]
 mod scripts;
