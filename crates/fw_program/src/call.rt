@@ -21,7 +21,7 @@ pub fn program<S: Source, K: Flush, N: Sink>(
 ) -> u8
     ensures { Serves program_desk words.now
         (record { left = S.left; faults = S.faults; old = source.old; new = source.new })
-        (record { held = K.held; kept = K.kept; faults = K.faults; old = sink.old; new = sink.new })
+        (record { held = K.held; kept = K.kept; at_once = K.at_once; faults = K.faults; old = sink.old; new = sink.new })
         (record { held = N.held; faults = N.faults; old = notes.old; new = notes.new }) result }
 {
     let desk = Desk::new(

@@ -1,6 +1,6 @@
 //! How the program ends: its status, and what its standard error gets.
 
-ghost use Rattle.std.specs.Prelude.{None, []};
+ghost use Rattle.std.specs.Prelude.{None, [], false};
 
 use crate::calls::{Failing, NONE, call};
 use fw_outside::{Failed, MemSink, MemSource, Sink};
@@ -58,6 +58,8 @@ impl Sink for LastFlush {
 
 impl Flush for LastFlush {
     ghost kept = { λ _. [] };
+
+    ghost at_once = { λ _. false };
 
     fn pass_all(&mut self) -> Result<(), Failed> {
         if self.fails {

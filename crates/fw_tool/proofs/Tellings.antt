@@ -5,13 +5,13 @@ use Rattle.fw_tool.specs.declared.ending.Ending.{Ending}
 use Rattle.fw_outside.specs.declared.stop.Stop.TheVariants.{ReadFault, WriteFault, TooLong, NoMemory}
 use Rattle.fw_tool.specs.declared.ending.Ending.TheVariants.{Done, Usage, Refused, NoLog, Stopped, Unsound, NoMap}
 use Rattle.fw_tool.specs.About.{IsSaid}
-use Rattle.fw_tool.specs.Faults.{FirstFault, IsToldByStatus}
+use Rattle.fw_tool.specs.Faults.{FirstFault, IsFirstFaults}
 use Rattle.fw_tool.specs.Notes.{IsTold, IsPassedOn, note_of, status_of}
 use Rattle.fw_tool.specs.Completing.{IsDoneOrUnmet}
 
 module _ {N : Type 0} (held : N → Option (List ℕ)) (faults : N → ℕ) (old new : N) (status read read' written written' : ℕ) where
   abbrev First : Type 0
-  First = IsToldByStatus status read read' written written' (faults old) (faults new)
+  First = IsFirstFaults status read read' written written' (faults old) (faults new)
 
   abbrev Told : Ending → Type 0
   Told e = IsTold held faults old new e status
@@ -26,7 +26,7 @@ module _ {N : Type 0} (held : N → Option (List ℕ)) (faults : N → ℕ) (old
   no_fault note k five six f (inr a) = record {
     no_fault = λ p q. absurd (q a.0);
     read_fault = λ s. absurd (omega (arith, a.0, s));
-    write_fault = λ s. inr a.2;
+    write_fault = λ s. inr (a.2, inl f.0);
   }
 
   pub first_by_status : (e : Ending) → FirstFault read read' written written' e → Told e → First
@@ -50,17 +50,17 @@ module _ {N : Type 0} (held : N → Option (List ℕ)) (faults : N → ℕ) (old
   first_by_status (Stopped ReadFault) f (inr a) = record {
     no_fault = λ p q. absurd (q a.0);
     read_fault = λ s. absurd (omega (arith, a.0, s));
-    write_fault = λ s. inr a.2;
+    write_fault = λ s. inr (a.2, inr f.1);
   }
   first_by_status (Stopped WriteFault) f (inl a) = record {
     no_fault = λ p q. absurd (q a.0);
     read_fault = λ s. absurd (omega (arith, a.0, s));
-    write_fault = λ s. inl (f.1, a.2);
+    write_fault = λ s. inl (f.0, f.1, a.2);
   }
   first_by_status (Stopped WriteFault) f (inr a) = record {
     no_fault = λ p q. absurd (q a.0);
     read_fault = λ s. absurd (omega (arith, a.0, s));
-    write_fault = λ s. inr a.2;
+    write_fault = λ s. inr (a.2, inl f.0);
   }
 
   -- where the source's count did not rise no read failed

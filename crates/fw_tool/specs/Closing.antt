@@ -13,8 +13,8 @@ closed ending (Ok _) = ending
 closed ending (Err _) = Stopped WriteFault
 
 -- What the words came to, and what is told behind the last flush: the same, where nothing is kept back any more; or a write fault,
--- where the flush failed.
-pub record IsClosed (read read' written written' : ℕ) (kept : List ℕ) (ending told : Ending) : Type 0 where
+-- where the flush failed, which that of a sink that passes each piece on at once never does.
+pub record IsClosed (at_once : Type 0) (read read' written written' : ℕ) (kept : List ℕ) (ending told : Ending) : Type 0 where
   pub before : ℕ
   pub first : FirstFault read read' written before ending
-  pub flushed : ((told ≡ ending) × (written' ≡ before) × (kept ≡ [])) ⊎ ((told ≡ Stopped WriteFault) × Rose before written')
+  pub flushed : ((told ≡ ending) × (written' ≡ before) × (kept ≡ [])) ⊎ ((told ≡ Stopped WriteFault) × Rose before written' × (at_once → ⊥))

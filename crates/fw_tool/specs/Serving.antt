@@ -18,11 +18,11 @@ use Rattle.fw_simulate.specs.declared.ending.RunEnding.{RunEnding}
 use Rattle.fw_simulate.specs.declared.word.ScriptWord.{ScriptWord}
 use Rattle.fw_tool.specs.About.{about_text, IsSaid}
 use Rattle.fw_tool.specs.Closing.{IsClosed}
-use Rattle.fw_tool.specs.Faults.{IsToldByStatus}
+use Rattle.fw_tool.specs.Faults.{IsFirstFaults, IsToldByStatus}
 use Rattle.fw_tool.specs.Logs.{by_log}
 use Rattle.fw_tool.specs.Notes.{IsTold}
 use Rattle.fw_tool.specs.Runs.{by_run}
-use Rattle.fw_tool.specs.Turns.{SourceTurn, SinkTurn, NotesTurn, NoReadFailed, NoWriteFailed, NoNoteFailed}
+use Rattle.fw_tool.specs.Turns.{SourceTurn, SinkTurn, NotesTurn, PassesAtOnce, NoReadFailed, NoWriteFailed, NoNoteFailed}
 use Rattle.fw_tool.specs.Words.{IsWord, IsListed}
 use Rattle.fw_tool.specs.declared.about.About.{About as AnAbout}
 use Rattle.fw_tool.specs.declared.ending.Ending.{Ending}
@@ -33,7 +33,7 @@ use Rattle.fw_tool.specs.declared.words.Word.TheVariants.{Script, Gen, Log, Abou
 -- write fault that only this last flush showed.
 abbrev pub IsToldAs : {S K N : Type 0} → SourceTurn S → SinkTurn K → NotesTurn N → ℕ → Ending → Ending → Type 0
 IsToldAs source sink notes status ending told =
-    IsClosed (source.faults source.old) (source.faults source.new) (sink.faults sink.old) (sink.faults sink.new) (sink.kept sink.new) ending told
+    IsClosed (PassesAtOnce sink) (source.faults source.old) (source.faults source.new) (sink.faults sink.old) (sink.faults sink.new) (sink.kept sink.new) ending told
     × IsTold notes.held notes.faults notes.old notes.new told status
 
 -- What a call says of its words, over what a desk may give, and of the status that it answers.
@@ -61,6 +61,10 @@ pub record Serves {S K N : Type 0} (desk : DeskRelations) (words : List (String 
   -- Which counts of faults rose in the call, by the status alone.
   pub first : IsToldByStatus status (source.faults source.old) (source.faults source.new) (sink.faults sink.old) (sink.faults sink.new)
       (notes.faults notes.old) (notes.faults notes.new)
+  -- Where the sink passes each piece on at once, the first fault decides, and other words leave the sink as it was.
+  pub first_at_once : PassesAtOnce sink → IsFirstFaults status (source.faults source.old) (source.faults source.new)
+      (sink.faults sink.old) (sink.faults sink.new) (notes.faults notes.old) (notes.faults notes.new)
+  pub usage_at_once : PassesAtOnce sink → (IsListed words → ⊥) → sink.new ≡ sink.old
   -- A script of which no line is refused ends with 0, or with 8 for want of memory, where nothing failed.
   pub complete : (word : ScriptWord) → IsWord words (Script word) → (script : List ℕ) → source.left source.old ≡ Some script → IsValid script
       → NoReadFailed source → NoWriteFailed sink → NoNoteFailed notes → (status ≡ 0) ⊎ (status ≡ 8)

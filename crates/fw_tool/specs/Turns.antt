@@ -1,5 +1,5 @@
 -- What a call is seen by: its source, its sink and its notes, before and after it.
-use Rattle.std.specs.Prelude.{ℕ, List, Option}
+use Rattle.std.specs.Prelude.{ℕ, List, Option, Bool, IsTrue}
 use Rattle.fw_outside.specs.Outside.{Rose}
 
 -- a source of any kind: the bytes that are left, where it tells them, how often it has failed, and what it was and is
@@ -9,10 +9,12 @@ pub record SourceTurn (S : Type 0) : Type 0 where
   pub old : S
   pub new : S
 
--- a sink of any kind: the bytes that were written, where it tells them, those that it keeps back, how often it has failed, and what it was and is
+-- a sink of any kind: the bytes that were written, where it tells them, those that it keeps back, whether it passes each piece on at once,
+-- how often it has failed, and what it was and is
 pub record SinkTurn (K : Type 0) : Type 0 where
   pub held : K → Option (List ℕ)
   pub kept : K → List ℕ
+  pub at_once : K → Bool
   pub faults : K → ℕ
   pub old : K
   pub new : K
@@ -23,6 +25,10 @@ pub record NotesTurn (N : Type 0) : Type 0 where
   pub faults : N → ℕ
   pub old : N
   pub new : N
+
+-- a sink of a kind that passes each piece on at once, so that the last flush changes nothing and never fails
+abbrev pub PassesAtOnce : {K : Type 0} → SinkTurn K → Type 0
+PassesAtOnce {K} sink = (k : K) → IsTrue (sink.at_once k)
 
 -- no read failed in the call
 abbrev pub NoReadFailed : {S : Type 0} → SourceTurn S → Type 0

@@ -1,6 +1,6 @@
 //! The whole call: what the words say, the last flush, and the note of the ending.
 
-ghost use Rattle.std.specs.Prelude.{◌≡◌, List, ℕ, [], take, OnOk, OnErr};
+ghost use Rattle.std.specs.Prelude.{◌≡◌, List, ℕ, Bool, true, false, [], take, IsTrue, IsOk, OnOk, OnErr};
 ghost use Rattle.fw_outside.specs.Outside.{Rose};
 ghost use Rattle.fw_tape.specs.Desks.{AnyBlock, AnyVendorByte};
 ghost use Rattle.fw_tool.specs.Closing.{closed};
@@ -19,16 +19,22 @@ pub trait Flush: Sink {
     /// The bytes that it keeps back.
     ghost kept: { Self → List ℕ };
 
+    /// Whether it passes each piece on as it is written, so that a last flush has nothing to do.
+    ghost at_once: { Self → Bool };
+
     /// Passes on what is kept back.
     fn pass_all(&mut self) -> Result<(), Failed>
         ensures held { Self.held self.new ≡ Self.held self.old }
         ensures empty { OnOk result (kept self.new ≡ []) }
         ensures same { OnOk result (Self.faults self.new ≡ Self.faults self.old) }
-        ensures risen { OnErr result (Rose (Self.faults self.old) (Self.faults self.new)) };
+        ensures risen { OnErr result (Rose (Self.faults self.old) (Self.faults self.new)) }
+        ensures at_once { IsTrue (at_once self.old) → (self.new ≡ self.old) × IsOk result };
 }
 
 impl<W: Write> Flush for BufferedSink<W> {
     ghost kept = { λ s. take s.length s.bytes };
+
+    ghost at_once = { λ _. false };
 
     fn pass_all(&mut self) -> Result<(), Failed> {
         self.flush()
@@ -37,6 +43,8 @@ impl<W: Write> Flush for BufferedSink<W> {
 
 impl Flush for MemSink {
     ghost kept = { λ _. [] };
+
+    ghost at_once = { λ _. true };
 
     fn pass_all(&mut self) -> Result<(), Failed> {
         Ok(())
@@ -79,7 +87,7 @@ pub fn fire<S: Source, K: Flush, N: Sink, F: Fn(u16, u32, u16) -> [u8; 480], H: 
     requires desk { AnyVendorByte (H.pre desk.now.vendor) }
     ensures { Serves (record { blocks = F.post desk.now.blocks; vendor = H.post desk.now.vendor }) words.now
         (record { left = S.left; faults = S.faults; old = source.old; new = source.new })
-        (record { held = K.held; kept = K.kept; faults = K.faults; old = sink.old; new = sink.new })
+        (record { held = K.held; kept = K.kept; at_once = K.at_once; faults = K.faults; old = sink.old; new = sink.new })
         (record { held = N.held; faults = N.faults; old = notes.old; new = notes.new }) result }
 {
     let ending = carry_out(alloc, words, source, sink, desk);

@@ -10,8 +10,11 @@ use Rattle.fw_tool.specs.About.{about_text, IsSaid}
 use Rattle.fw_tool.specs.Closing.{IsClosed}
 use Rattle.fw_tool.specs.Faults.{FirstFault}
 use Rattle.fw_tool.specs.Logs.{by_log}
+use Rattle.fw_tool.specs.Notes.{IsTold}
 use Rattle.fw_tool.specs.Runs.{by_run}
-use Rattle.fw_tool.proofs.Servings.{closes, told_by_status, closed_quiet, closed_writes, closed_said}
+use Rattle.fw_tool.specs.Turns.{SinkTurn, PassesAtOnce}
+use Rattle.fw_tool.proofs.Tellings.{first_by_status}
+use Rattle.fw_tool.proofs.Servings.{closes, same_told, told_by_status, closed_quiet, closed_writes, closed_said}
 use Rattle.fw_tool.proofs.session.fire.Given as given
 use Rattle.fw_tool.proofs.session.fire.Goals as goal
 
@@ -29,12 +32,21 @@ returns g c =
     let before = g.K.Sink.faults c.carry_out-ending.new.sink in
     let written2 = g.K.Sink.faults c.pass_all-flushed.new.self in
     let same = sym passed.held in
-    let closing : (came : Ending) → c.carry_out-ending.result ≡ came → IsClosed read read2 written written2 (g.K.Flush.kept c.pass_all-flushed.new.self) came c.closed.result = λ came is.
+    let sink : SinkTurn _ = record {
+      held = g.K.Sink.held;
+      kept = g.K.Flush.kept;
+      at_once = g.K.Flush.at_once;
+      faults = g.K.Sink.faults;
+      old = c.args.sink.now;
+      new = c.pass_all-flushed.new.self;
+    } in
+    let closing : (came : Ending) → c.carry_out-ending.result ≡ came → IsClosed (PassesAtOnce sink) read read2 written written2 (g.K.Flush.kept c.pass_all-flushed.new.self) came c.closed.result = λ came is.
     let F : Ending → Type 0 = FirstFault read read2 written before in
     record {
       before = before;
       first = subst F is did.first;
-      flushed = closes c.pass_all-flushed.result c.carry_out-ending.result came c.closed.result _ _ _ is c.closed.ensures passed.empty passed.same passed.risen;
+      flushed = closes c.pass_all-flushed.result c.carry_out-ending.result came c.closed.result _ _ _ is c.closed.ensures passed.empty passed.same passed.risen
+          (λ at_once. (passed.at_once (at_once c.carry_out-ending.new.sink)).1);
     } in
     let closed = closing c.carry_out-ending.result refl in
     record {
@@ -58,6 +70,17 @@ returns g c =
           let (stays, untouched, is) = did.usage form in
           (stays, passed.held ∙ ap (λ s. g.K.Sink.held s) untouched, (c.closed.result, (closing Usage is, c.tell.ensures)));
       first = told_by_status g.N.Sink.held g.N.Sink.faults c.args.notes.now c.tell.new.notes c.tell.result read read2 written written2 closed c.tell.ensures;
+      first_at_once = λ at_once.
+          let (same, ok) = passed.at_once (at_once c.carry_out-ending.new.sink) in
+          let F : ℕ → Type 0 = λ w. FirstFault read read2 written w c.carry_out-ending.result in
+          let T : Ending → Type 0 = λ e. IsTold g.N.Sink.held g.N.Sink.faults c.args.notes.now c.tell.new.notes e c.tell.result in
+          first_by_status g.N.Sink.held g.N.Sink.faults c.args.notes.now c.tell.new.notes c.tell.result read read2 written written2
+          c.carry_out-ending.result (subst F (sym (ap (λ s. g.K.Sink.faults s) same)) did.first)
+          (subst T (same_told c.pass_all-flushed.result c.carry_out-ending.result c.closed.result c.closed.ensures ok) c.tell.ensures);
+      usage_at_once = λ at_once form.
+          let (same, ok) = passed.at_once (at_once c.carry_out-ending.new.sink) in
+          let (stays, untouched, is) = did.usage form in
+          same ∙ untouched;
       complete = λ word form script told valid unread unwritten unnoted.
           closed_quiet g.N.Sink.held g.N.Sink.faults c.args.notes.now c.tell.new.notes c.tell.result read read2 written written2 closed c.tell.ensures
           (did.complete word form script told valid) unread unwritten unnoted;
