@@ -24,8 +24,10 @@ use Rattle.fw_run.specs.Desks.{DeskRelations}
 use Rattle.fw_run.specs.Given.{AreGiven}
 use Rattle.fw_run.specs.Runs.{Run}
 use Rattle.fw_machine.specs.Lingering.{TalksAs}
-use Rattle.fw_machine.specs.Stands.{StandsFor}
-use Rattle.fw_carry.specs.Performing.{CutOff}
+-- (what a crate above a bus names of the crates below it has from here)
+pub use Rattle.fw_machine.specs.Stands.{StandsFor}
+pub use Rattle.fw_rules.specs.Decisions.{IsCommand}
+pub use Rattle.fw_carry.specs.Performing.{CutOff}
 use Rattle.fw_run.specs.Headline.{IsSoundThroughout}
 use Rattle.fw_run.specs.Elected.{ElectsOne}
 use Rattle.fw_run.specs.Reclaiming.{ComesBack}

@@ -1,6 +1,6 @@
 -- What the program's desk gives (own).
 use Rattle.std.specs.Prelude.{ℕ, ◌≡◌, ◌+◌, ◌-◌, ◌*◌, ◌%◌, ◌<◌, List, length, slice_index}
-use Rattle.fw_run.specs.Desks.{DeskRelations}
+use Rattle.fw_tool.specs.Serving.{DeskRelations}
 
 -- byte j of a block
 abbrev pub byte_of : ℕ → ℕ → ℕ → ℕ → ℕ

@@ -5,4 +5,4 @@ mod call;
 mod desk;
 
 pub use call::program;
-pub use fw_tool::{Ending, tell};
+pub use fw_tool::{Ending, Flush, NOTE_ROOM, tell};

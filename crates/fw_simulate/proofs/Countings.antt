@@ -9,8 +9,7 @@ use Rattle.fw_script.specs.Reading.{Reading, unread}
 use Rattle.fw_run.specs.Giving.{log_bytes}
 use Rattle.fw_run.specs.Desks.{DeskRelations}
 use Rattle.fw_run.specs.State.{first_state}
-use Rattle.fw_machine.specs.Stands.{StandsFor}
-use Rattle.fw_bus.specs.Buses.{Standing}
+use Rattle.fw_bus.specs.Buses.{StandsFor, Standing}
 use Rattle.fw_gen.specs.Gen.{script_of}
 use Rattle.fw_gen.specs.Summary.{Counts}
 use Rattle.fw_gen.specs.declared.tally.Tally.{Tally}

@@ -8,8 +8,7 @@ use Rattle.fw_script.specs.Reading.{Reading, unread}
 use Rattle.fw_run.specs.Desks.{DeskRelations}
 use Rattle.fw_run.specs.State.{first_state}
 use Rattle.fw_run.proofs.Reels.{run_recorded}
-use Rattle.fw_machine.specs.Stands.{StandsFor}
-use Rattle.fw_bus.specs.Buses.{Standing}
+use Rattle.fw_bus.specs.Buses.{StandsFor, Standing}
 use Rattle.fw_simulate.specs.Counts.{ReadCount, WriteCount}
 use Rattle.fw_simulate.specs.Dubs.{Dubs, HasRecorded, Recorded, WritesReel}
 use Rattle.fw_simulate.specs.Going.{Going, Ends}

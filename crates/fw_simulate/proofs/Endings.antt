@@ -27,9 +27,8 @@ use Rattle.fw_run.proofs.Elected.{elects_one}
 use Rattle.fw_run.proofs.Sounds.{sound_throughout}
 use Rattle.fw_run.proofs.Suffice.{rounds_suffice}
 use Rattle.fw_run.proofs.Logs.{run_opens, run_spells}
-use Rattle.fw_carry.specs.Performing.{CutOff}
+use Rattle.fw_bus.specs.Buses.{CutOff, Standing, CutsRunOff}
 use Rattle.fw_run.specs.Desks.{DeskRelations}
-use Rattle.fw_bus.specs.Buses.{Standing, CutsRunOff}
 use Rattle.fw_run.specs.Carrying.{Carries}
 use Rattle.fw_run.proofs.Given.{given_then}
 use Rattle.fw_simulate.specs.Going.{Going, Ends}

@@ -9,7 +9,7 @@ use Rattle.fw_script.specs.declared.command.Command.{Command}
 use Rattle.fw_script.specs.declared.command.Command.TheVariants as Commands
 use Rattle.fw_script.specs.declared.command.Command.TheVariants.{End}
 use Rattle.fw_script.specs.declared.stage.Stage.TheVariants as Stages
-use Rattle.fw_rules.specs.Decisions.{IsCommand}
+use Rattle.fw_bus.specs.Buses.{IsCommand}
 use Rattle.fw_script.specs.Leading.{Leads}
 use Rattle.fw_script.specs.Leading.Leads.{nothing, and_then}
 use Rattle.fw_run.specs.Logs.{HasNoEnd}

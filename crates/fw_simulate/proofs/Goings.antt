@@ -23,9 +23,7 @@ use Rattle.fw_run.specs.Desks.{DeskRelations}
 use Rattle.fw_run.specs.Runs.{begun}
 use Rattle.fw_run.proofs.Given.{given_then}
 use Rattle.fw_run.proofs.Runs.{log_append}
-use Rattle.fw_machine.specs.Stands.{StandsFor}
-use Rattle.fw_bus.specs.Buses.{Standing, ContinuesRun}
-use Rattle.fw_rules.specs.Decisions.{IsCommand}
+use Rattle.fw_bus.specs.Buses.{StandsFor, Standing, ContinuesRun, IsCommand}
 use Rattle.fw_simulate.specs.Going.{HasEnded, IsReading, open_of, to_read, Going}
 use Rattle.fw_simulate.proofs.Givings.{is_end, given_form, given_some, behind_command, over_end, no_end_led}
 use Rattle.fw_simulate.proofs.Takings.{left_behind, all_held}

@@ -14,8 +14,7 @@ use Rattle.fw_run.specs.declared.rule.RuleFault.{RuleFault}
 use Rattle.fw_simulate.specs.declared.ending.RunEnding.{RunEnding}
 use Rattle.fw_run.specs.Actions.{Action}
 use Rattle.fw_run.specs.Desks.{DeskRelations}
-use Rattle.fw_bus.specs.Buses.{Standing, ContinuesRun, CutsRunOff}
-use Rattle.fw_carry.specs.Performing.{CutOff}
+use Rattle.fw_bus.specs.Buses.{Standing, ContinuesRun, CutsRunOff, CutOff}
 use Rattle.fw_simulate.specs.Ending.{RefusesCommand}
 use Rattle.fw_simulate.specs.Going.{Going, Carried, Ends}
 use Rattle.fw_simulate.proofs.Goings.{going_more, going_shorter}

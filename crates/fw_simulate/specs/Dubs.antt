@@ -5,8 +5,7 @@ use Rattle.fw_dub.specs.Reels.{bytes_of}
 use Rattle.fw_run.specs.Desks.{DeskRelations}
 use Rattle.fw_run.specs.Recorded.{AreRecorded}
 use Rattle.fw_run.specs.State.{first_state}
-use Rattle.fw_bus.specs.Buses.{Standing}
-use Rattle.fw_machine.specs.Stands.{StandsFor}
+use Rattle.fw_bus.specs.Buses.{Standing, StandsFor}
 use Rattle.fw_simulate.specs.declared.ending.RunEnding.{RunEnding}
 use Rattle.fw_simulate.specs.declared.ending.RunEnding.TheVariants.{Done, Refused, ReadFault, WriteFault, TooLong, NoMemory}
 use Rattle.fw_simulate.specs.Ending.{Logged, Refuses, PassesScriptLimit, Interrupted}

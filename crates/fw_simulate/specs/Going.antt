@@ -19,8 +19,7 @@ use Rattle.fw_run.specs.Actions.{Action}
 use Rattle.fw_run.specs.Desks.{DeskRelations}
 use Rattle.fw_run.specs.Given.{AreGiven}
 use Rattle.fw_run.specs.Runs.{Run}
-use Rattle.fw_machine.specs.Stands.{StandsFor}
-use Rattle.fw_bus.specs.Buses.{Standing}
+use Rattle.fw_bus.specs.Buses.{StandsFor, Standing}
 use Rattle.fw_simulate.specs.Ending.{Logged, Runs}
 use Rattle.fw_simulate.specs.declared.ending.RunEnding.{RunEnding}
 use Rattle.fw_simulate.specs.declared.ending.RunEnding.TheVariants as Endings

@@ -1,7 +1,7 @@
 //! The word `dub`.
 
 ghost use Rattle.std.specs.Prelude.{◌≡◌, List, ℕ, Some, None, IsFalse};
-ghost use Rattle.fw_machine.specs.Stands.{StandsFor};
+ghost use Rattle.fw_bus.specs.Buses.{StandsFor};
 ghost use Rattle.fw_run.specs.State.{first_state};
 ghost use Rattle.fw_tape.specs.Desks.{AnyBlock, AnyVendorByte};
 ghost use Rattle.fw_simulate.specs.Counts.{ReadCount, WriteCount};

@@ -1,8 +1,7 @@
 //! Calls of the program over memory.
 
 use fw_outside::{MemSink, MemSource, Source};
-use fw_program::program;
-use fw_tool::NOTE_ROOM;
+use fw_program::{NOTE_ROOM, program};
 use std::alloc::{AllocError, Global};
 
 /// What the output of a call has room for, in bytes.

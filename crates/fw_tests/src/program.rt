@@ -4,8 +4,7 @@ ghost use Rattle.std.specs.Prelude.{None, [], false};
 
 use crate::calls::{Failing, NONE, call};
 use fw_outside::{Failed, MemSink, MemSource, Sink};
-use fw_program::program;
-use fw_tool::{Flush, NOTE_ROOM};
+use fw_program::{Flush, NOTE_ROOM, program};
 use std::alloc::{AllocError, Global};
 use std::test::Fail;
 

@@ -5,7 +5,7 @@ use Rattle.std.specs.declared.alloc.Global.{Global}
 use Rattle.fw_entry.specs.declared.entry.Timed.{Timed}
 use Rattle.fw_log.specs.History.{IsLog}
 use Rattle.fw_gen.specs.Gen.{script_of}
-use Rattle.fw_run.specs.Desks.{DeskRelations}
+pub use Rattle.fw_run.specs.Desks.{DeskRelations}
 use Rattle.fw_reading.specs.Endings.{limit, Reads}
 use Rattle.fw_reading.specs.declared.ending.LogEnding.{LogEnding}
 use Rattle.fw_decode.specs.Words.{form_by, rules_by, Accepts}
