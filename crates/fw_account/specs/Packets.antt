@@ -8,6 +8,7 @@ use Rattle.fw_async.specs.declared.packet.Packet.TheVariants.{WriteQuadlet, Writ
 use Rattle.std.specs.Prelude.{ℕ, ◌==◌, Bool, true, false, ◌&&◌, if◌then◌else◌, Option, Some, None, is_none, List, length}
 use Rattle.fw_base.specs.Tables.{update}
 use Rattle.fw_words.specs.Quadlet.{quadlet_at}
+use Rattle.fw_words.specs.declared.swap.TheConstants.{COMPARE_SWAP}
 use Rattle.fw_account.specs.Account.{Account, Operation, Reads, Locks, Request, has_pending}
 use Rattle.fw_entry.specs.Network.{device_of_id}
 use Rattle.fw_account.specs.Moves.{Move, after}
@@ -52,14 +53,14 @@ is_reply_to Reads (Locked function rcode old) = false
 is_reply_to (Locks asked bytes) Read = false
 is_reply_to (Locks asked bytes) (Locked function rcode old) = asked == function
 
--- a quadlet compare_swap: function 2, with argument and data value of four bytes each
+-- a quadlet compare_swap, with argument and data value of four bytes each
 abbrev pub is_quadlet_swap : ℕ → List ℕ → Bool
-is_quadlet_swap function bytes = (function == 2) && (length bytes == 8)
+is_quadlet_swap function bytes = (function == COMPARE_SWAP) && (length bytes == 8)
 
--- A quadlet compare_swap (function 2, with argument and data value of four bytes each) is complete and shows its argument
+-- A quadlet compare_swap (with argument and data value of four bytes each) is complete and shows its argument
 -- as the old value.
 abbrev pub is_swapped : ℕ → List ℕ → ℕ → List ℕ → Bool
-is_swapped function bytes rcode old = (function == 2) && (length bytes == 8) && (rcode == 0) && (length old == 4) && (quadlet_at old 0 == quadlet_at bytes 0)
+is_swapped function bytes rcode old = (function == COMPARE_SWAP) && (length bytes == 8) && (rcode == 0) && (length old == 4) && (quadlet_at old 0 == quadlet_at bytes 0)
 
 -- the move that it is, and the end of the request
 abbrev pub moved : ℕ → Option (PlugAt × Move) → Account → Option Account

@@ -11,6 +11,7 @@ use Rattle.fw_entry.specs.declared.entry.EventEntry.{EventEntry}
 use Rattle.fw_entry.specs.declared.entry.Entry.TheVariants.{Reset, Async, Iso, Event, Outcome, Shown, End}
 use Rattle.std.specs.Prelude.{◌≡◌, ◌≢◌, ℕ, Some, None, List, length, IsFalse}
 use Rattle.fw_words.specs.Quadlet.{quadlet_at}
+use Rattle.fw_words.specs.declared.swap.TheConstants.{COMPARE_SWAP}
 use Rattle.fw_account.specs.Account.{Account, Reads, Locks, Request}
 use Rattle.fw_entry.specs.Network.{device_of_id}
 use Rattle.fw_account.specs.Moves.{Move}
@@ -41,7 +42,7 @@ pub data IsReadRefused (h : Head) (l : Account) : Type 0 where
 
 -- A complete response shows the argument of a quadlet compare_swap at a register of the account as the old value.
 pub record IsSwap (h : Head) (rcode : ℕ) (old : List ℕ) (c address : ℕ) (bytes : List ℕ) (register : Register) (l : Account) : Type 0 where
-  pub ends : Ends h c (record { target = h.source; address = address; operation = Locks 2 bytes }) l
+  pub ends : Ends h c (record { target = h.source; address = address; operation = Locks COMPARE_SWAP bytes }) l
   pub quadlets : length bytes ≡ 8
   pub complete : rcode ≡ 0
   pub quadlet : length old ≡ 4
@@ -53,7 +54,7 @@ pub data IsLockRefused (h : Head) (rcode function : ℕ) (old : List ℕ) (l : A
   Unexpected : IsReplyRefused h l → IsLockRefused h rcode function old l
   WasRead : (c : ℕ) (request : Request) → Ends h c request l → request.operation ≡ Reads → IsLockRefused h rcode function old l
   OtherFunction : (c : ℕ) (request : Request) (asked : ℕ) (bytes : List ℕ) → Ends h c request l → request.operation ≡ Locks asked bytes → asked ≢ function → IsLockRefused h rcode function old l
-  NoMove : (c address : ℕ) (bytes : List ℕ) (register : Register) → function ≡ 2 → IsSwap h rcode old c address bytes register l → ((p : PlugAt) (m : Move) → IsMove c p m register (quadlet_at bytes 0) (quadlet_at bytes 4) l → ⊥) → IsLockRefused h rcode function old l
+  NoMove : (c address : ℕ) (bytes : List ℕ) (register : Register) → function ≡ COMPARE_SWAP → IsSwap h rcode old c address bytes register l → ((p : PlugAt) (m : Move) → IsMove c p m register (quadlet_at bytes 0) (quadlet_at bytes 4) l → ⊥) → IsLockRefused h rcode function old l
 
 -- the packet is such a request or response
 abbrev pub IsPacketRefused : Packet → Account → Type 0

@@ -30,7 +30,7 @@ use Rattle.fw_machine.proofs.Nodes.{node_number_is, linked_on, on_within}
 use Rattle.fw_machine.proofs.Besides.{keeps_beside}
 use Rattle.fw_machine.proofs.Hearing.{asked_hears, hear_same}
 use Rattle.fw_run.specs.Elections.{Election}
-use Rattle.fw_run.specs.Rules.{is_guarded_at}
+use Rattle.fw_run.specs.Named.{is_guarded_at}
 
 -- the packet of the run
 abbrev pub asking_packet : State → Transaction → Packet

@@ -24,7 +24,7 @@ use Rattle.fw_run.specs.declared.order.Access.TheVariants.{Read, Swap}
 use Rattle.fw_run.specs.declared.order.Transaction.{Transaction}
 use Rattle.fw_run.specs.State.{State, number_in, device_in, is_linked}
 use Rattle.fw_run.specs.Spaces.{space_at, is_manager, manager_words, access_request, answer_packet, transaction_head, target_node, bus_manager_id_after}
-use Rattle.fw_run.specs.Rules.{is_guarded_at}
+use Rattle.fw_run.specs.Named.{is_guarded_at}
 use Rattle.fw_machine.specs.Orders.{is_guarded}
 use Rattle.fw_run.specs.Good.{IsGood, IsLatest}
 use Rattle.fw_entry.specs.declared.nodes.NodeRow.{NodeRow}

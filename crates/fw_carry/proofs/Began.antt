@@ -18,7 +18,8 @@ use Rattle.fw_devices.proofs.EntryLaws.{entry_shows}
 use Rattle.fw_run.specs.declared.limits.TheConstants.{MOST_RESETS}
 use Rattle.fw_run.specs.Giving.{at_most}
 use Rattle.fw_run.specs.State.{State, is_on, list_to, number_in, epoch_of, directory_of}
-use Rattle.fw_run.specs.Actions.{Action, Resets, Step, after_reset_entry}
+use Rattle.fw_run.specs.Actions.{Action, Step}
+use Rattle.fw_run.specs.Afterwards.{Resets, after_reset_entry}
 use Rattle.fw_run.specs.Good.{IsGood, IsLatest, AreDeclared}
 use Rattle.fw_run.specs.Reclaiming.{IsBusReset}
 use Rattle.fw_run.proofs.Counting.{resets_keep}

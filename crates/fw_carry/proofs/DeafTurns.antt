@@ -14,7 +14,8 @@ use Rattle.fw_run.specs.declared.limits.TheConstants.{MOST_HALF_STEPS, MOST_RESE
 use Rattle.fw_run.specs.Giving.{at_most}
 use Rattle.fw_run.specs.State.{State, is_deaf, is_living}
 use Rattle.fw_run.specs.HalfSteps.{is_waiting}
-use Rattle.fw_run.specs.Actions.{HalfStep, Resets, Step, Takes, counted}
+use Rattle.fw_run.specs.Actions.{HalfStep, Step}
+use Rattle.fw_run.specs.Afterwards.{Resets, Takes, counted}
 use Rattle.fw_run.specs.Good.{IsGood}
 use Rattle.fw_run.proofs.Others.{same_table}
 use Rattle.fw_machine.specs.declared.machine.Machine.{Machine}

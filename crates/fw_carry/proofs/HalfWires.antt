@@ -19,7 +19,8 @@ use Rattle.fw_cmp.specs.declared.outcome.Next.TheVariants.{Send}
 use Rattle.fw_cmp.specs.declared.request.Access.{Access}
 use Rattle.fw_cmp.specs.Controllers.{ControllerState, IsHeard}
 use Rattle.fw_cmp.specs.Requests.{access_of, addressee_of, request_of, standing_in}
-use Rattle.fw_cmp.specs.Turns.{rests, sending, asks_or_ends, after_asking, answer_of, after_answer, ready, next, after_next}
+use Rattle.fw_cmp.specs.Turns.{rests, sending, asks_or_ends, after_asking, answer_of, after_answer, next, after_next}
+use Rattle.fw_cmp.specs.Jobs.{ready}
 use Rattle.fw_step.specs.Requests.{is_sent, procedure_head}
 use Rattle.fw_step.proofs.Nexts.{ready_heard}
 use Rattle.fw_node.specs.Packets.{packet_of, request_head}

@@ -6,7 +6,8 @@ use Rattle.fw_run.specs.declared.limits.TheConstants.{MOST_HALF_STEPS}
 use Rattle.fw_run.specs.Giving.{at_most}
 use Rattle.fw_run.specs.State.{State, is_deaf, is_living, linked_number, living, numbers_to}
 use Rattle.fw_run.specs.HalfSteps.{half, after_half, is_waiting}
-use Rattle.fw_run.specs.Actions.{Action, HalfStep, Resets, Step, Steps, Takes, after_reset_entry, counted}
+use Rattle.fw_run.specs.Actions.{Action, HalfStep, Step, Steps}
+use Rattle.fw_run.specs.Afterwards.{Resets, Takes, after_reset_entry, counted}
 use Rattle.fw_run.specs.Carrying.{times, half_steps_of, Rounds, round}
 use Rattle.fw_run.specs.Good.{IsGood}
 use Rattle.fw_run.proofs.Runs.{steps_then}

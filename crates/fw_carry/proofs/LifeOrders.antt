@@ -7,7 +7,8 @@ use Rattle.fw_run.specs.Giving.{at_most}
 use Rattle.fw_run.specs.Entries.{died}
 use Rattle.fw_run.specs.State.{State, is_living, linked_number}
 use Rattle.fw_run.specs.HalfSteps.{after_half}
-use Rattle.fw_run.specs.Actions.{Action, Die, CarryOut, Start, after_death, Steps}
+use Rattle.fw_run.specs.Actions.{Action, Die, CarryOut, Start, Steps}
+use Rattle.fw_run.specs.Afterwards.{after_death}
 use Rattle.fw_run.specs.Carrying.{Carries, dies, dies_late, dies_idle, starts, goes_on}
 use Rattle.fw_run.specs.Good.{IsGood}
 use Rattle.fw_run.proofs.Settling.{half_turn}

@@ -17,7 +17,8 @@ use Rattle.fw_run.specs.Giving.{at_most}
 use Rattle.fw_run.specs.Entries.{died, started}
 use Rattle.fw_run.specs.State.{State, is_living, is_linked}
 use Rattle.fw_run.specs.HalfSteps.{half, has_request, after_half, with_controller}
-use Rattle.fw_run.specs.Actions.{StartConnection, StartBreak, Die, CarryOut, Start, slot_of, start_of, with_connection, after_death, after_start, with_new_controller}
+use Rattle.fw_run.specs.Actions.{StartConnection, StartBreak, Die, CarryOut, Start}
+use Rattle.fw_run.specs.Afterwards.{slot_of, start_of, with_connection, after_death, after_start, with_new_controller}
 use Rattle.fw_run.specs.Good.{IsGood}
 use Rattle.fw_run.proofs.Counting.{deaths_keep}
 use Rattle.fw_run.proofs.Turns.{living_linked}

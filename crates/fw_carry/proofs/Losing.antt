@@ -19,7 +19,8 @@ use Rattle.fw_run.specs.State.{State, entered, is_deaf, is_living}
 use Rattle.fw_run.specs.HalfSteps.{half, after_half, has_request}
 use Rattle.fw_cmp.specs.declared.current.Current.{Current}
 use Rattle.fw_cmp.specs.declared.current.Current.TheVariants.{Nothing, Asking, Hearing, Overtaken}
-use Rattle.fw_run.specs.Actions.{Lose, TellLoss, after_loss, stage_of}
+use Rattle.fw_run.specs.Actions.{Lose, TellLoss}
+use Rattle.fw_run.specs.Afterwards.{after_loss, stage_of}
 use Rattle.fw_run.specs.Carrying.{Carries, loses}
 use Rattle.fw_run.specs.Truth.{controller_at}
 use Rattle.fw_run.proofs.Apart.{all_lose}

@@ -14,7 +14,8 @@ use Rattle.fw_devices.proofs.JoinLaws.{bus_grows}
 use Rattle.fw_run.specs.declared.limits.TheConstants.{MOST_RESETS}
 use Rattle.fw_run.specs.Giving.{at_most}
 use Rattle.fw_run.specs.State.{State, is_on}
-use Rattle.fw_run.specs.Actions.{AddCable, Step, Joins, with_topology, Begins, counting}
+use Rattle.fw_run.specs.Actions.{AddCable, Step}
+use Rattle.fw_run.specs.Afterwards.{Joins, with_topology, Begins, counting}
 use Rattle.fw_run.specs.Good.{IsGood}
 use Rattle.fw_run.proofs.Cables.{cabled_declared}
 use Rattle.fw_machine.specs.declared.machine.Machine.{Machine}

@@ -13,7 +13,8 @@ use Rattle.fw_run.specs.declared.limits.TheConstants.{MOST_RESETS}
 use Rattle.fw_run.specs.Giving.{at_most}
 use Rattle.fw_run.specs.State.{State, epoch_of}
 use Rattle.fw_run.specs.State as States
-use Rattle.fw_run.specs.Actions.{AddDevice, Step, Declares, Resets, beginning}
+use Rattle.fw_run.specs.Actions.{AddDevice, Step}
+use Rattle.fw_run.specs.Afterwards.{Declares, Resets, beginning}
 use Rattle.fw_run.specs.Good.{IsGood, IsLatest}
 use Rattle.fw_run.proofs.Declares.{MayDeclare, more_declared}
 use Rattle.fw_machine.specs.declared.machine.Machine.{Machine}

@@ -8,7 +8,8 @@ use Rattle.fw_devices.specs.Network.{is_node}
 use Rattle.fw_run.specs.declared.limits.TheConstants.{MOST_RESETS}
 use Rattle.fw_run.specs.Giving.{at_most}
 use Rattle.fw_run.specs.State.{State, is_on, is_deaf}
-use Rattle.fw_run.specs.Actions.{ResetBus, Resets, after_reset_entry, counting}
+use Rattle.fw_run.specs.Actions.{ResetBus}
+use Rattle.fw_run.specs.Afterwards.{Resets, after_reset_entry, counting}
 use Rattle.fw_run.specs.Good.{IsGood}
 use Rattle.fw_run.proofs.Cables.{on_is_bus, on_some}
 use Rattle.fw_machine.specs.declared.machine.Machine.{Machine}

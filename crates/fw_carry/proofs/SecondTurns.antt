@@ -13,7 +13,8 @@ use Rattle.std.specs.declared.result.Result.{Result}
 use Rattle.fw_run.specs.Giving.{at_most, GivesEntry}
 use Rattle.fw_run.specs.Entries.{second_over}
 use Rattle.fw_run.specs.State.{State, number_in, while_talking}
-use Rattle.fw_run.specs.Actions.{Pass, EndSecond, Step, after_cycles, after_second}
+use Rattle.fw_run.specs.Actions.{Pass, EndSecond, Step}
+use Rattle.fw_run.specs.Afterwards.{after_cycles, after_second}
 use Rattle.fw_run.specs.Good.{IsGood}
 use Rattle.fw_run.proofs.Times.{second_ends, second_good}
 use Rattle.fw_cmp.specs.declared.directory.Directory.{Directory}

@@ -10,7 +10,8 @@ use Rattle.fw_run.specs.declared.order.Order.TheVariants.{Settle}
 use Rattle.fw_run.specs.State.{State, entered, living, numbers_to}
 use Rattle.fw_run.specs.Entries.{unsettled as unsettled_entry}
 use Rattle.fw_run.specs.HalfSteps.{is_unsettled}
-use Rattle.fw_run.specs.Actions.{Action, Rest, Unsettled, Steps, counted}
+use Rattle.fw_run.specs.Actions.{Action, Rest, Unsettled, Steps}
+use Rattle.fw_run.specs.Afterwards.{counted}
 use Rattle.fw_run.specs.Carrying.{Carries, Rounds, half_steps_of}
 use Rattle.fw_run.specs.Good.{IsGood}
 use Rattle.fw_run.proofs.Runs.{rounds_steps}

@@ -5,7 +5,8 @@ use Rattle.fw_run.specs.declared.limits.TheConstants.{MOST_HALF_STEPS}
 use Rattle.fw_run.specs.Giving.{at_most}
 use Rattle.fw_run.specs.State.{State, is_living, is_deaf}
 use Rattle.fw_run.specs.HalfSteps.{HalfStep as Half, half, after_half, is_waiting}
-use Rattle.fw_run.specs.Actions.{HalfStep, counted, Takes as Taken}
+use Rattle.fw_run.specs.Actions.{HalfStep}
+use Rattle.fw_run.specs.Afterwards.{counted, Takes as Taken}
 use Rattle.fw_machine.specs.declared.machine.Machine.{Machine}
 use Rattle.fw_carry.specs.Performing.{TakesHalf, TakesAction}
 use Rattle.fw_machine.specs.Stands.{StandsFor, is_living_in}

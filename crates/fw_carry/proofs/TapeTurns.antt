@@ -14,7 +14,8 @@ use Rattle.fw_node.specs.State.{NodeState}
 use Rattle.fw_devices.specs.Decks as Devices
 use Rattle.fw_devices.specs.Network.{Network, node_at, kind_at}
 use Rattle.fw_run.specs.declared.order.Order.TheVariants as Orders
-use Rattle.fw_run.specs.Actions.{InsertTape, EjectTape, with_cassette}
+use Rattle.fw_run.specs.Actions.{InsertTape, EjectTape}
+use Rattle.fw_run.specs.Afterwards.{with_cassette}
 use Rattle.fw_run.specs.Carrying.{Carries, SendsAll, inserts, ejects, ejects_nothing}
 use Rattle.fw_run.specs.Decks.{DeckState, with_tape}
 use Rattle.fw_run.specs.Entries as Entries

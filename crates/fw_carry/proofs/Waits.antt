@@ -6,7 +6,8 @@ use Rattle.fw_account.specs.Account.{Account}
 use Rattle.fw_entry.specs.declared.entry.Timed.{Timed}
 use Rattle.fw_run.specs.declared.order.Order.TheVariants.{Wait}
 use Rattle.fw_run.specs.State.{State}
-use Rattle.fw_run.specs.Actions.{Action, Pass, EndSecond, Steps, after_cycles, after_second}
+use Rattle.fw_run.specs.Actions.{Action, Pass, EndSecond, Steps}
+use Rattle.fw_run.specs.Afterwards.{after_cycles, after_second}
 use Rattle.fw_run.specs.Carrying.{Carries, waits, waits_over}
 use Rattle.fw_run.proofs.Runs.{steps_then}
 use Rattle.fw_run.proofs.Times.{second_ends}

@@ -15,7 +15,8 @@ use Rattle.fw_cmp.specs.declared.request.Access.{Access}
 use Rattle.fw_cmp.specs.declared.stage.Stage.{Stage}
 use Rattle.fw_cmp.specs.Controllers.{ControllerState, is_restoring, IsHeard, Fits}
 use Rattle.fw_cmp.specs.Requests.{access_of, addressee_of}
-use Rattle.fw_cmp.specs.Turns.{current_for, takes_task, slot_of_task, to_restore, is_break, is_empty, takes_making, takes_waiting, takes_next, picked, can_pick, going, resumed, sending, asks_or_ends, rests, answer_of, next, is_busy}
+use Rattle.fw_cmp.specs.Turns.{sending, asks_or_ends, rests, answer_of, next, is_busy}
+use Rattle.fw_cmp.specs.Jobs.{current_for, takes_task, slot_of_task, to_restore, is_break, is_empty, takes_making, takes_waiting, takes_next, picked, can_pick, going, resumed}
 use Rattle.fw_cmp.proofs.Jobs.{makes_removed, breaks_removed}
 use Rattle.fw_cmp.proofs.Picking.{Suits, suits, task_of, at_rest, none_to_restore}
 

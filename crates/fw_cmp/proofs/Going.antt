@@ -20,7 +20,7 @@ use Rattle.fw_cmp.specs.Connections.{is_listen}
 use Rattle.fw_cmp.specs.Nodes.{node_of}
 use Rattle.fw_cmp.specs.Controllers.{ControllerState, slot_at, job_for, SlotHasJobs, CurrentFits, Fits}
 use Rattle.fw_cmp.specs.Holdings.{IsReached, StageReached, CurrentReached, CanGoOn}
-use Rattle.fw_cmp.specs.Turns.{own_flow, without_node, absent_of, begin_managed, begin_present, begin_making, begin_leaving, begin_breaking, is_late, begun, resumed, resumed_current, going}
+use Rattle.fw_cmp.specs.Jobs.{own_flow, without_node, absent_of, begin_managed, begin_present, begin_making, begin_leaving, begin_breaking, is_late, begun, resumed, resumed_current, going}
 
 -- ---- what is kept
 

@@ -29,7 +29,8 @@ use Rattle.fw_cmp.specs.Requests.{access_of}
 use Rattle.fw_cmp.specs.Starts.{IsMaking, OkWithin, free_slot, is_crowded, start_at, start, started, with_task, break_started, break_fault}
 use Rattle.fw_cmp.specs.Stages.{hear, refuse, hear_reply}
 use Rattle.fw_cmp.specs.Resets.{after_hear, heard, overtaken, current_reset, slot_reset, after_reset, slot_over, after_second, lost_reset, after_lost_reset, state_reset}
-use Rattle.fw_cmp.specs.Turns.{ended, after_asking, after_answer, after_next, picked, resumed_current}
+use Rattle.fw_cmp.specs.Turns.{ended, after_asking, after_answer, after_next}
+use Rattle.fw_cmp.specs.Jobs.{picked, resumed_current}
 use Rattle.fw_cmp.proofs.Ended.{after_stop}
 use Rattle.fw_cmp.proofs.Fitting.{slot_here, slot_elsewhere}
 use Rattle.fw_cmp.proofs.Overtaken.{slot_at_reset, slot_at_over}

@@ -17,7 +17,8 @@ use Rattle.fw_cmp.specs.Controllers.{ControllerState}
 use Rattle.fw_cmp.specs.Losses.{Listening, deaf_turn, deaf_until, turn_of, asked_by, after_turn, with_state}
 use Rattle.fw_cmp.specs.Starts.{break_fault, break_started, with_task}
 use Rattle.fw_cmp.specs.Requests.{access_of, addressee_of}
-use Rattle.fw_cmp.specs.Turns.{ready, sending, asks_or_ends, rests, answer_of, next, after_next}
+use Rattle.fw_cmp.specs.Turns.{sending, asks_or_ends, rests, answer_of, next, after_next}
+use Rattle.fw_cmp.specs.Jobs.{ready}
 
 -- what comes next of one that hears
 abbrev pub Hears : Next → Type 0

@@ -25,7 +25,8 @@ use Rattle.fw_cmp.specs.Controllers.{ControllerState, slot_at, with_slot}
 use Rattle.fw_cmp.specs.Requests.{access_of}
 use Rattle.fw_cmp.specs.Resets.{heard, after_hear, overtaken, current_reset, after_reset, lost_reset, state_reset}
 use Rattle.fw_cmp.specs.Stages.{hear_reply}
-use Rattle.fw_cmp.specs.Turns.{current_for, own_flow, absent_of, begin_managed, begin_present, begin_making, begin_leaving, begin_breaking, is_late, begun, resumed, resumed_current, picked, after_asking, after_answer, after_next}
+use Rattle.fw_cmp.specs.Turns.{after_asking, after_answer, after_next}
+use Rattle.fw_cmp.specs.Jobs.{current_for, own_flow, absent_of, begin_managed, begin_present, begin_making, begin_leaving, begin_breaking, is_late, begun, resumed, resumed_current, picked}
 use Rattle.fw_cmp.proofs.Deciding.{answer_decides}
 use Rattle.fw_cmp.proofs.Ended.{after_stop}
 use Rattle.fw_cmp.proofs.Picking.{picked_holds}

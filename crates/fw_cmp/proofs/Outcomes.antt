@@ -29,7 +29,8 @@ use Rattle.fw_cmp.specs.Fits.{StageFits, HasOutput, HasInput}
 use Rattle.fw_cmp.specs.Controllers.{ControllerState, slot_at, CurrentFits, Fits}
 use Rattle.fw_cmp.specs.Outcomes.{EndsBy, EndsWithCause}
 use Rattle.fw_cmp.specs.Requests.{access_at, access_of, addressee_of, swap_of}
-use Rattle.fw_cmp.specs.Turns.{own_flow, current_for, absent_of, begin_managed, begin_present, begin_making, begin_leaving, begin_breaking, is_late, begun, resumed, resumed_current, picked, ready, outcome_for, made_outcome, outcome_of, sending, asks_or_ends, rests, is_empty, answer_of, next}
+use Rattle.fw_cmp.specs.Turns.{outcome_for, made_outcome, outcome_of, sending, asks_or_ends, rests, answer_of, next}
+use Rattle.fw_cmp.specs.Jobs.{own_flow, current_for, absent_of, begin_managed, begin_present, begin_making, begin_leaving, begin_breaking, is_late, begun, resumed, resumed_current, picked, ready, is_empty}
 use Rattle.fw_cmp.proofs.Picking.{picked_slots, picked_holds}
 
 -- ---- the stages that make no request

@@ -18,7 +18,7 @@ use Rattle.fw_cmp.specs.declared.directory.Directory.{Directory}
 use Rattle.fw_cmp.specs.Controllers.{ControllerState, slot_at, is_restoring, count_of, makes_slot, breaks_slot, makes_waiting, breaks_waiting, job_for, SlotHasJobs, CurrentFits, Fits}
 use Rattle.fw_cmp.specs.Fits.{SlotFits}
 use Rattle.fw_cmp.specs.Holdings.{CurrentReached, CanGoOn}
-use Rattle.fw_cmp.specs.Turns.{current_for, takes_slot, takes_task, slot_of_task, to_restore, waiting_break, is_break, is_empty, takes_making, takes_waiting, takes_next, picked}
+use Rattle.fw_cmp.specs.Jobs.{current_for, takes_slot, takes_task, slot_of_task, to_restore, waiting_break, is_break, is_empty, takes_making, takes_waiting, takes_next, picked}
 use Rattle.fw_cmp.proofs.Jobs.{makes_removed, breaks_removed, same_count}
 
 -- a slot has what a task of it is for

@@ -7,7 +7,7 @@ use Rattle.fw_cmp.specs.declared.current.Task.{Task}
 use Rattle.fw_cmp.specs.declared.directory.Directory.{Directory}
 use Rattle.fw_cmp.specs.Controllers.{ControllerState, Fits}
 use Rattle.fw_cmp.specs.Holdings.{CurrentReached, CanGoOn}
-use Rattle.fw_cmp.specs.Turns.{resumed_current, picked, ready}
+use Rattle.fw_cmp.specs.Jobs.{resumed_current, picked, ready}
 use Rattle.fw_cmp.proofs.Picking.{picked_fits, picked_slots, picked_goes_on}
 use Rattle.fw_cmp.proofs.Going.{going_reached}
 

@@ -13,7 +13,8 @@ use Rattle.fw_cmp.specs.declared.directory.Directory.{Directory}
 use Rattle.fw_cmp.specs.declared.outcome.Next.TheVariants.{Idle, Waiting}
 use Rattle.fw_cmp.specs.Controllers.{ControllerState, is_restoring, IsHeard, Fits}
 use Rattle.fw_cmp.specs.Causes.{HasNoJob, IsAtRest, IsHeldBack}
-use Rattle.fw_cmp.specs.Turns.{to_restore, waiting_break, is_empty, takes_task, takes_making, takes_waiting, takes_next, can_pick, going, rests, answer_of, next, is_busy, after_answer, after_next}
+use Rattle.fw_cmp.specs.Turns.{rests, answer_of, next, is_busy, after_answer, after_next}
+use Rattle.fw_cmp.specs.Jobs.{to_restore, waiting_break, is_empty, takes_task, takes_making, takes_waiting, takes_next, can_pick, going}
 use Rattle.fw_cmp.proofs.Busy.{rest_busy, job_busy}
 use Rattle.fw_cmp.proofs.Picking.{at_rest, none_to_restore}
 

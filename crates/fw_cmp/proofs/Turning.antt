@@ -10,7 +10,7 @@ use Rattle.fw_cmp.specs.declared.job.Ending.TheVariants as ending
 use Rattle.fw_cmp.specs.declared.stage.Stage.{Stage}
 use Rattle.fw_cmp.specs.declared.stage.Stage.TheVariants.{Begin, ReadOutput, ReadChannels, SwapChannels, ReadBandwidth, SwapBandwidth, ConnectOutput, OverlayOutput, ReadInput, ConnectInput, ReadInputToLeave, LeaveInput, ReadOutputToLeave, LeaveOutput, ReadBandwidthToRelease, RaiseBandwidth, ReadChannelsToRelease, RestoreChannel, Made, Ended}
 use Rattle.fw_cmp.specs.Controllers.{ControllerState, slot_at}
-use Rattle.fw_cmp.specs.Turns.{is_late, begun, resumed, resumed_current, going}
+use Rattle.fw_cmp.specs.Jobs.{is_late, begun, resumed, resumed_current, going}
 
 begun_stays : (d : Directory) (s : Slot) (j : Job) (t : Stage) → (t ≡ Begin → ⊥) → begun d s j t ≡ t
 begun_stays d s j Begin ne = absurd (ne refl)

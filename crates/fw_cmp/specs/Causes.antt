@@ -3,7 +3,7 @@ use Rattle.std.specs.Prelude.{ℕ, ◌≡◌, ◌<◌, length, None, false, []}
 use Rattle.fw_cmp.specs.declared.current.Current.TheVariants.{Nothing}
 use Rattle.fw_cmp.specs.declared.directory.Directory.{Directory}
 use Rattle.fw_cmp.specs.Controllers.{ControllerState, slot_at, is_restoring}
-use Rattle.fw_cmp.specs.Turns.{waiting_break}
+use Rattle.fw_cmp.specs.Jobs.{waiting_break}
 
 -- no job is current, and no connection is to be restored
 pub record HasNoJob (c : ControllerState) : Type 0 where

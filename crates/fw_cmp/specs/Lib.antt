@@ -9,6 +9,7 @@ pub mod Holdings
 pub mod Controllers
 pub mod Starts
 pub mod Refusals
+pub mod Jobs
 pub mod Turns
 pub mod Resets
 pub mod Answers

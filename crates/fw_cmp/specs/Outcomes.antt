@@ -16,7 +16,7 @@ use Rattle.fw_cmp.specs.declared.stage.Stage.TheVariants.{Begin, Made, Ended}
 use Rattle.fw_cmp.specs.Connections.{is_listen}
 use Rattle.fw_cmp.specs.Decisions.{restores}
 use Rattle.fw_cmp.specs.Controllers.{ControllerState, slot_at}
-use Rattle.fw_cmp.specs.Turns.{picked, absent_of, is_late}
+use Rattle.fw_cmp.specs.Jobs.{picked, absent_of, is_late}
 
 -- the connection of the slot stands
 abbrev pub is_standing : Slot → Bool

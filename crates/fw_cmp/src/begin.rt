@@ -2,7 +2,8 @@
 
 ghost use Rattle.std.specs.Prelude.{◌≡◌, IsFalse};
 ghost use Rattle.fw_cmp.specs.Fits.{JobFits, StageFits, FlowFits, SlotFits};
-ghost use Rattle.fw_cmp.specs.Turns.{own_flow, begin_making, begin_leaving, begin_breaking, begin, is_undecided, is_over, is_late, resumed, outcome_for, made_outcome, outcome_of};
+ghost use Rattle.fw_cmp.specs.Turns.{outcome_for, made_outcome, outcome_of};
+ghost use Rattle.fw_cmp.specs.Jobs.{own_flow, begin_making, begin_leaving, begin_breaking, begin, is_undecided, is_over, is_late, resumed};
 ghost use Rattle.fw_cmp.specs.Controllers.{job_for};
 ghost use Rattle.fw_cmp.specs.declared.directory.Directory.{Directory as BusDirectory};
 ghost use Rattle.std.specs.Prelude.{Some};

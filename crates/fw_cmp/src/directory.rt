@@ -2,7 +2,7 @@ ghost use Rattle.std.specs.Prelude.{◌≡◌, ◌<◌};
 ghost use Rattle.fw_cmp.specs.Fits.{ConnectionFits};
 ghost use Rattle.fw_cmp.specs.Nodes.{node_of};
 ghost use Rattle.fw_cmp.specs.Requests.{addressee_of};
-ghost use Rattle.fw_cmp.specs.Turns.{without_node, absent_of};
+ghost use Rattle.fw_cmp.specs.Jobs.{without_node, absent_of};
 ghost use Rattle.fw_cmp.specs.Fits.{PlugFit, TargetFits};
 
 use crate::{Connection, Target};

@@ -6,7 +6,7 @@ ghost use Rattle.fw_cmp.specs.declared.connection.Slot.TheVariants.{Free};
 ghost use Rattle.fw_cmp.specs.declared.current.Current.TheVariants.{Nothing};
 ghost use Rattle.fw_cmp.specs.Controllers.{IsHeard};
 ghost use Rattle.fw_cmp.specs.Known.{NoneToRestore};
-ghost use Rattle.fw_cmp.specs.Turns.{picked, can_pick, current_for, is_break};
+ghost use Rattle.fw_cmp.specs.Jobs.{picked, can_pick, current_for, is_break};
 
 use crate::{Current, Directory, Slot, Stage, Task, slots};
 use arrayvec::ArrayVec;

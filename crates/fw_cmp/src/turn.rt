@@ -9,7 +9,8 @@ ghost use Rattle.fw_cmp.specs.Causes.{IsAtRest, IsHeldBack};
 ghost use Rattle.fw_cmp.specs.Outcomes.{EndsWithCause};
 ghost use Rattle.fw_cmp.specs.Nodes.{HasNodeNumbers};
 ghost use Rattle.fw_cmp.specs.Requests.{access_at, addressee_of, swap_of};
-ghost use Rattle.fw_cmp.specs.Turns.{addressee_in, picked, resumed_current, going, slot_after, ended, sending, rests, answer_of, after_answer, next, after_next, is_busy};
+ghost use Rattle.fw_cmp.specs.Turns.{addressee_in, slot_after, ended, sending, rests, answer_of, after_answer, next, after_next, is_busy};
+ghost use Rattle.fw_cmp.specs.Jobs.{picked, resumed_current, going};
 ghost use Rattle.fw_cmp.specs.declared.current.Current.TheVariants.{Asking, Nothing};
 
 use crate::agenda::Agenda;

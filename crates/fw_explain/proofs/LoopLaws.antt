@@ -2,7 +2,7 @@
 use Rattle.std.proofs.Common.{◌≡◌, refl, ap, sym, ◌∙◌, ℕ, zero, suc, ◌+◌, ◌<◌, List, [], ◌∷◌, ◌++◌, length, take, get_or, slice_index, flat_map, add-one, append_assoc, arith}
 use Rattle.std.proofs.lemmas.List.{append-nil}
 use Rattle.fw_phy.specs.declared.packet.PhyPacket.{PhyPacket}
-use Rattle.fw_explain.specs.Lines.{first_ports, port_text}
+use Rattle.fw_explain.specs.Resets.{first_ports, port_text}
 
 pub no_ports : (first : ℕ) (ports : List ℕ) → first_ports first ports 0 ≡ []
 unfolding first_ports

@@ -1,3 +1,4 @@
 pub mod Requests
+pub mod Resets
 pub mod Lines
 pub mod Explained

@@ -1,11 +1,8 @@
 -- The line of an entry in words (own): its cycle, and what it records, by the requests that stand before it.
-use Rattle.std.specs.Prelude.{ℕ, zero, suc, ◌+◌, ◌*◌, ◌%◌, ◌^◌, ◌==◌, ◌&&◌, ◌||◌, Bool, true, false, List, [], ◌∷◌, ◌++◌, length, flat_map, slice_get, slice_index, codes, decimal, Option, Some, None, if◌then◌else◌}
+use Rattle.std.specs.Prelude.{ℕ, ◌+◌, ◌%◌, ◌^◌, ◌==◌, ◌&&◌, ◌||◌, Bool, true, false, List, [], ◌∷◌, ◌++◌, length, codes, decimal, Option, Some, None, if◌then◌else◌}
 use Rattle.std.specs.Option.{is_some}
 use Rattle.std.specs.Int.{to_be_bytes, w32}
 use Rattle.fw_words.specs.Quadlet.{quadlet_at}
-use Rattle.fw_phy.specs.declared.packet.PhyPacket.{PhyPacket}
-use Rattle.fw_phy.specs.declared.packet.PhyPacket.TheVariants.{SelfId as FirstPacket, SelfIdMore as FurtherPacket, Config, LinkOn}
-use Rattle.fw_phy.specs.declared.packet.SelfId.{SelfId}
 use Rattle.fw_async.specs.Heads.{head_of}
 use Rattle.fw_async.specs.declared.packet.Head.{Head}
 use Rattle.fw_async.specs.declared.packet.Packet.{Packet}
@@ -15,8 +12,7 @@ use Rattle.fw_cip.specs.declared.packet.IsoPacket.{IsoPacket}
 use Rattle.fw_csr.specs.declared.offset.TheConstants.{REGISTER_SPACE}
 use Rattle.fw_words.specs.declared.swap.Swap.{Swap}
 use Rattle.fw_words.specs.Swaps.{quadlet_swap}
-use Rattle.fw_entry.specs.declared.nodes.NodeRow.{NodeRow}
-use Rattle.fw_entry.specs.declared.entry.ResetEntry.{ResetEntry}
+use Rattle.fw_words.specs.declared.swap.TheConstants.{COMPARE_SWAP}
 use Rattle.fw_entry.specs.declared.entry.EventEntry.{EventEntry}
 use Rattle.fw_entry.specs.declared.entry.OutcomeEntry.{OutcomeEntry}
 use Rattle.fw_entry.specs.declared.entry.ShownEntry.{ShownEntry}
@@ -27,7 +23,7 @@ use Rattle.fw_names.specs.Texts.{hex, blank_hex, quadlet_text, quadlets_text, na
 use Rattle.fw_entry.specs.Rows.{event_form, has_tape}
 use Rattle.fw_entry.specs.declared.codes.TheConstants.{NO_DEVICE}
 use Rattle.fw_entry.specs.declared.codes.outcome.TheConstants as Outcomes
-use Rattle.fw_names.specs.Names.{tcode_name, rcode_name, function_name, speed_name, port_name, device_name, system_name, format_name, event_name, event_saying, outcome_name, node_text}
+use Rattle.fw_names.specs.Names.{tcode_name, rcode_name, function_name, system_name, format_name, event_name, event_saying, outcome_name, node_text}
 use Rattle.fw_registers.specs.declared.register.Register.TheVariants.{FcpCommand, FcpResponse}
 use Rattle.fw_registers.specs.declared.place.Place.{Place}
 use Rattle.fw_registers.specs.declared.place.Place.TheVariants.{Named}
@@ -38,89 +34,7 @@ use Rattle.fw_frames.specs.Frames.{frame_text}
 use Rattle.fw_explain.specs.declared.asked.Answer.TheVariants.{Write as WriteResponse, ReadQuadlet as ReadQuadletResponse, ReadBlock as ReadBlockResponse, Lock as LockResponse}
 use Rattle.fw_explain.specs.declared.asked.Asked.{Asked}
 use Rattle.fw_explain.specs.Requests.{answered}
-
--- a port of a node, unless it is not there
-unfoldable pub port_text : ℕ → ℕ → List ℕ
-port_text number port = if port == 0 then [] else codes ", port " ++ decimal number ++ codes " " ++ named (port_name port) (codes "code") port
-
--- the first n ports of a packet, the first of which has this number
-unfoldable pub first_ports : ℕ → List ℕ → ℕ → List ℕ
-first_ports first ports zero = []
-first_ports first ports (suc n) = first_ports first ports n ++ port_text (first + n) (slice_index ports n)
-
--- all ports of a packet
-abbrev pub ports_text : ℕ → List ℕ → List ℕ
-ports_text first ports = first_ports first ports (length ports)
-
--- the device that a node is, its kind, and its plugs
-unfoldable pub row_text : Option NodeRow → List ℕ
-row_text None = []
-row_text (Some row) = codes "device " ++ decimal row.device ++ codes " " ++ named (device_name row.kind) (codes "kind") row.kind
-    ++ codes ", plugs " ++ decimal row.outs ++ codes " out " ++ decimal row.ins ++ codes " in, "
-
--- a flag as words, or none
-unfoldable pub flag_text : Bool → List ℕ → List ℕ → List ℕ
-flag_text flag shown hidden = if flag then shown else hidden
-
--- the speed of a node
-unfoldable pub speed_text : ℕ → List ℕ
-speed_text speed = named (speed_name speed) (codes "speed") speed
-
--- whether a node's link is active: the L bit of its self-ID packet
-unfoldable pub link_text : Bool → List ℕ
-link_text link = flag_text link (codes ", link") (codes ", no link")
-
--- whether the node may become the resource manager: the contender bit of its self-ID packet
-unfoldable pub contender_text : Bool → List ℕ
-contender_text contender = flag_text contender (codes ", contender") []
-
--- the gap count of a self-ID packet
-unfoldable pub gap_text : ℕ → List ℕ
-gap_text gap = codes ", gap " ++ decimal gap
-
--- what a node says of itself
-unfoldable pub self_text : SelfId → List ℕ
-self_text s = speed_text s.speed ++ link_text s.link ++ contender_text s.contender ++ gap_text s.gap ++ ports_text 0 s.ports
-
--- the number of a node
-unfoldable pub number_text : ℕ → List ℕ
-number_text number = codes "; node " ++ decimal number ++ codes ": "
-
--- the first self-ID packet of a node: its device and what it says of itself
-unfoldable pub first_id_text : List NodeRow → SelfId → List ℕ
-first_id_text rows s = number_text s.phy ++ row_text (slice_get rows s.phy) ++ self_text s
-
--- a self-ID packet: the node, its device and what it says, or further ports
-unfoldable pub id_text : List NodeRow → PhyPacket → List ℕ
-id_text rows (FirstPacket s) = first_id_text rows s
-id_text rows (FurtherPacket s) = ports_text (3 + 8 * s.number) s.ports
-id_text rows (Config root force_root set_gap gap) = []
-id_text rows (LinkOn phy) = []
-
--- the node that is the isochronous resource manager, or that there is none
-unfoldable pub manager_text : Option ℕ → List ℕ
-manager_text None = codes "none"
-manager_text (Some node) = codes "node " ++ decimal node
-
--- the number of a bus reset
-unfoldable pub epoch_text : ℕ → List ℕ
-epoch_text epoch = codes "bus reset epoch " ++ decimal epoch
-
--- the root of a bus reset
-unfoldable pub root_text : ℕ → List ℕ
-root_text root = codes ", root node " ++ decimal root
-
--- the isochronous resource manager that a bus reset has found
-unfoldable pub resource_manager_text : Option ℕ → List ℕ
-resource_manager_text manager = codes ", resource manager " ++ manager_text manager
-
--- the node that began the bus reset
-unfoldable pub initiator_text : ℕ → List ℕ
-initiator_text initiator = codes ", initiator node " ++ decimal initiator
-
--- a bus reset, with the self-ID packets
-unfoldable pub reset_text : ResetEntry → List ℕ
-reset_text r = epoch_text r.epoch ++ root_text r.root ++ resource_manager_text r.manager ++ initiator_text r.initiator ++ flat_map (id_text r.nodes) r.ids
+use Rattle.fw_explain.specs.Resets.{reset_text}
 
 -- frames are written there
 unfoldable pub takes_frames : Place → Bool
@@ -197,7 +111,7 @@ swapped_text place s old = quadlet_text old ++ made_text place s old
 unfoldable pub found_text : Place → Option Swap → ℕ → List ℕ → List ℕ
 found_text place None function bytes = quadlets_text bytes
 found_text place (Some s) function bytes =
-    if (function == 2) && (length bytes == 4) then swapped_text place s (quadlet_at bytes 0) else quadlets_text bytes
+    if (function == COMPARE_SWAP) && (length bytes == 4) then swapped_text place s (quadlet_at bytes 0) else quadlets_text bytes
 
 -- the old word that a lock response shows, by the request that it answers
 unfoldable pub old_text : Option Asked → ℕ → List ℕ → List ℕ

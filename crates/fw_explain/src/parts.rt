@@ -2,7 +2,8 @@
 
 ghost use Rattle.std.specs.Prelude.{◌≡◌, ◌++◌, OnOk, decimal};
 ghost use Rattle.fw_names.specs.Texts.{quadlet_text};
-ghost use Rattle.fw_explain.specs.Lines.{flag_text, block_text};
+ghost use Rattle.fw_explain.specs.Lines.{block_text};
+ghost use Rattle.fw_explain.specs.Resets.{flag_text};
 
 use fw_names::{Pairs, put_blank_hex, put_number, put_quadlet, put_word};
 use std::alloc::AllocError;
@@ -32,7 +33,7 @@ pub(crate) fn put_word_part(
 
 // Appends one word or another.
 #[inline(always)]
-#[tactic(auto, unfolding(crate::specs::Lines::flag_text))]
+#[tactic(auto, unfolding(crate::specs::Resets::flag_text))]
 pub(crate) fn put_flag(
     text: &mut Vec<u8>,
     flag: bool,

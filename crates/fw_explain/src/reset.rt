@@ -1,7 +1,7 @@
 //! A bus reset in words.
 
 ghost use Rattle.std.specs.Prelude.{◌≡◌, ◌++◌, ◌+◌, ◌*◌, ◌<◌, ◌≤◌, OnOk, Some, flat_map, length, slice_get};
-ghost use Rattle.fw_explain.specs.Lines.{port_text, ports_text, row_text, speed_text, link_text, contender_text, gap_text, self_text, number_text, first_id_text, id_text, manager_text, epoch_text, root_text, resource_manager_text, initiator_text, reset_text};
+ghost use Rattle.fw_explain.specs.Resets.{port_text, ports_text, row_text, speed_text, link_text, contender_text, gap_text, self_text, number_text, first_id_text, id_text, manager_text, epoch_text, root_text, resource_manager_text, initiator_text, reset_text};
 
 use crate::parts::{put_flag, put_part};
 use fw_entry::{NodeRow, ResetEntry};
@@ -15,7 +15,7 @@ const FURTHER_PORTS: u64 = 3;
 const PORTS_PER_PACKET: u64 = 8;
 
 // Appends a port, unless it is not there.
-#[tactic(auto, unfolding(crate::specs::Lines::port_text))]
+#[tactic(auto, unfolding(crate::specs::Resets::port_text))]
 fn put_port(text: &mut Vec<u8>, number: u64, port: u8) -> Result<(), AllocError>
     ensures { OnOk result (text.new.items ≡ text.old.items ++ port_text number port) }
 {
@@ -41,7 +41,7 @@ fn put_ports(text: &mut Vec<u8>, first: u64, ports: &[u8]) -> Result<(), AllocEr
 }
 
 // Appends the device that a node is, its kind, and its plugs.
-#[tactic(auto, unfolding(crate::specs::Lines::row_text))]
+#[tactic(auto, unfolding(crate::specs::Resets::row_text))]
 fn put_device(text: &mut Vec<u8>, row: &NodeRow) -> Result<(), AllocError>
     ensures { OnOk result (text.new.items ≡ text.old.items ++ row_text (Some row.now)) }
 {
@@ -54,7 +54,7 @@ fn put_device(text: &mut Vec<u8>, row: &NodeRow) -> Result<(), AllocError>
 }
 
 // Appends the device that the node with this number is, where there is one.
-#[tactic(auto, unfolding(crate::specs::Lines::row_text))]
+#[tactic(auto, unfolding(crate::specs::Resets::row_text))]
 fn put_row(text: &mut Vec<u8>, rows: &[NodeRow], number: u8) -> Result<(), AllocError>
     ensures { OnOk result (text.new.items ≡ text.old.items ++ row_text (slice_get rows.now number)) }
 {
@@ -65,7 +65,7 @@ fn put_row(text: &mut Vec<u8>, rows: &[NodeRow], number: u8) -> Result<(), Alloc
 }
 
 // Appends the speed of a node.
-#[tactic(auto, unfolding(crate::specs::Lines::speed_text))]
+#[tactic(auto, unfolding(crate::specs::Resets::speed_text))]
 fn put_speed(text: &mut Vec<u8>, speed: u8) -> Result<(), AllocError>
     ensures { OnOk result (text.new.items ≡ text.old.items ++ speed_text speed) }
 {
@@ -73,7 +73,7 @@ fn put_speed(text: &mut Vec<u8>, speed: u8) -> Result<(), AllocError>
 }
 
 // Appends whether a node's link is active.
-#[tactic(auto, unfolding(crate::specs::Lines::link_text))]
+#[tactic(auto, unfolding(crate::specs::Resets::link_text))]
 fn put_link(text: &mut Vec<u8>, link: bool) -> Result<(), AllocError>
     ensures { OnOk result (text.new.items ≡ text.old.items ++ link_text link) }
 {
@@ -81,7 +81,7 @@ fn put_link(text: &mut Vec<u8>, link: bool) -> Result<(), AllocError>
 }
 
 // Appends that a node may become resource manager, where it may.
-#[tactic(auto, unfolding(crate::specs::Lines::contender_text))]
+#[tactic(auto, unfolding(crate::specs::Resets::contender_text))]
 fn put_contender(text: &mut Vec<u8>, contender: bool) -> Result<(), AllocError>
     ensures { OnOk result (text.new.items ≡ text.old.items ++ contender_text contender) }
 {
@@ -89,7 +89,7 @@ fn put_contender(text: &mut Vec<u8>, contender: bool) -> Result<(), AllocError>
 }
 
 // Appends a gap count.
-#[tactic(auto, unfolding(crate::specs::Lines::gap_text))]
+#[tactic(auto, unfolding(crate::specs::Resets::gap_text))]
 fn put_gap(text: &mut Vec<u8>, gap: u8) -> Result<(), AllocError>
     ensures { OnOk result (text.new.items ≡ text.old.items ++ gap_text gap) }
 {
@@ -97,7 +97,7 @@ fn put_gap(text: &mut Vec<u8>, gap: u8) -> Result<(), AllocError>
 }
 
 // Appends what a node says of itself.
-#[tactic(auto, unfolding(crate::specs::Lines::self_text))]
+#[tactic(auto, unfolding(crate::specs::Resets::self_text))]
 fn put_self(text: &mut Vec<u8>, s: &SelfId) -> Result<(), AllocError>
     ensures { OnOk result (text.new.items ≡ text.old.items ++ self_text s.now) }
 {
@@ -109,7 +109,7 @@ fn put_self(text: &mut Vec<u8>, s: &SelfId) -> Result<(), AllocError>
 }
 
 // Appends the number of a node.
-#[tactic(auto, unfolding(crate::specs::Lines::number_text))]
+#[tactic(auto, unfolding(crate::specs::Resets::number_text))]
 fn put_node_number(text: &mut Vec<u8>, number: u8) -> Result<(), AllocError>
     ensures { OnOk result (text.new.items ≡ text.old.items ++ number_text number) }
 {
@@ -118,7 +118,7 @@ fn put_node_number(text: &mut Vec<u8>, number: u8) -> Result<(), AllocError>
 }
 
 // Appends the first self-ID packet of a node.
-#[tactic(auto, unfolding(crate::specs::Lines::first_id_text))]
+#[tactic(auto, unfolding(crate::specs::Resets::first_id_text))]
 fn put_node(text: &mut Vec<u8>, rows: &[NodeRow], s: &SelfId) -> Result<(), AllocError>
     ensures { OnOk result (text.new.items ≡ text.old.items ++ first_id_text rows.now s.now) }
 {
@@ -138,7 +138,7 @@ fn put_further(text: &mut Vec<u8>, s: &SelfIdMore) -> Result<(), AllocError>
     )
 }
 
-#[tactic(auto, unfolding(crate::specs::Lines::id_text))]
+#[tactic(auto, unfolding(crate::specs::Resets::id_text))]
 fn put_id(text: &mut Vec<u8>, rows: &[NodeRow], p: &PhyPacket) -> Result<(), AllocError>
     ensures { OnOk result (text.new.items ≡ text.old.items ++ id_text rows.now p.now) }
 {
@@ -159,7 +159,7 @@ fn put_ids(text: &mut Vec<u8>, rows: &[NodeRow], ids: &[PhyPacket]) -> Result<()
     Ok(())
 }
 
-#[tactic(auto, unfolding(crate::specs::Lines::manager_text))]
+#[tactic(auto, unfolding(crate::specs::Resets::manager_text))]
 fn put_manager(text: &mut Vec<u8>, manager: Option<u8>) -> Result<(), AllocError>
     ensures { OnOk result (text.new.items ≡ text.old.items ++ manager_text manager) }
 {
@@ -173,7 +173,7 @@ fn put_manager(text: &mut Vec<u8>, manager: Option<u8>) -> Result<(), AllocError
 }
 
 // Appends the number of a bus reset.
-#[tactic(auto, unfolding(crate::specs::Lines::epoch_text))]
+#[tactic(auto, unfolding(crate::specs::Resets::epoch_text))]
 fn put_epoch(text: &mut Vec<u8>, epoch: u32) -> Result<(), AllocError>
     ensures { OnOk result (text.new.items ≡ text.old.items ++ epoch_text epoch) }
 {
@@ -181,7 +181,7 @@ fn put_epoch(text: &mut Vec<u8>, epoch: u32) -> Result<(), AllocError>
 }
 
 // Appends the root.
-#[tactic(auto, unfolding(crate::specs::Lines::root_text))]
+#[tactic(auto, unfolding(crate::specs::Resets::root_text))]
 fn put_root(text: &mut Vec<u8>, root: u8) -> Result<(), AllocError>
     ensures { OnOk result (text.new.items ≡ text.old.items ++ root_text root) }
 {
@@ -189,7 +189,7 @@ fn put_root(text: &mut Vec<u8>, root: u8) -> Result<(), AllocError>
 }
 
 // Appends the isochronous resource manager.
-#[tactic(auto, unfolding(crate::specs::Lines::resource_manager_text))]
+#[tactic(auto, unfolding(crate::specs::Resets::resource_manager_text))]
 fn put_resource_manager(text: &mut Vec<u8>, manager: Option<u8>) -> Result<(), AllocError>
     ensures { OnOk result (text.new.items ≡ text.old.items ++ resource_manager_text manager) }
 {
@@ -198,7 +198,7 @@ fn put_resource_manager(text: &mut Vec<u8>, manager: Option<u8>) -> Result<(), A
 }
 
 // Appends the initiator.
-#[tactic(auto, unfolding(crate::specs::Lines::initiator_text))]
+#[tactic(auto, unfolding(crate::specs::Resets::initiator_text))]
 fn put_initiator(text: &mut Vec<u8>, initiator: u8) -> Result<(), AllocError>
     ensures { OnOk result (text.new.items ≡ text.old.items ++ initiator_text initiator) }
 {
@@ -206,7 +206,7 @@ fn put_initiator(text: &mut Vec<u8>, initiator: u8) -> Result<(), AllocError>
 }
 
 // Appends a bus reset.
-#[tactic(auto, unfolding(crate::specs::Lines::reset_text))]
+#[tactic(auto, unfolding(crate::specs::Resets::reset_text))]
 pub(crate) fn put_reset(text: &mut Vec<u8>, r: &ResetEntry) -> Result<(), AllocError>
     ensures { OnOk result (text.new.items ≡ text.old.items ++ reset_text r.now) }
 {

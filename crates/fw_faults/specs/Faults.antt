@@ -3,6 +3,7 @@ use Rattle.fw_base.specs.declared.plug.PlugAt.{PlugAt}
 use Rattle.fw_entry.specs.declared.entry.ResetEntry.{ResetEntry}
 use Rattle.std.specs.Prelude.{◌≡◌, ◌≢◌, ◌<◌, ℕ, Option, Some, None, List, length, unwrap_or, IsTrue, IsFalse}
 use Rattle.fw_words.specs.Quadlet.{quadlet_at}
+use Rattle.fw_words.specs.declared.swap.TheConstants.{COMPARE_SWAP}
 use Rattle.fw_entry.specs.Network.{device_of_id}
 use Rattle.fw_account.specs.Account.{Account, Locks, Request}
 use Rattle.fw_account.specs.Decode.{IsMove}
@@ -74,7 +75,7 @@ pub record IsBadSwap (l : Account) (r : Response) (old new : ℕ) : Type 0 where
   pub offset : ℕ
   pub watched : IsWatchedAnswer l r request offset
   pub bytes : List ℕ
-  pub swap : request.operation ≡ Locks 2 bytes
+  pub swap : request.operation ≡ Locks COMPARE_SWAP bytes
   pub quadlets : length bytes ≡ 8
   pub argument : quadlet_at bytes 0 ≡ old
   pub value : quadlet_at bytes 4 ≡ new

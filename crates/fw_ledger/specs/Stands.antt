@@ -6,6 +6,7 @@ use Rattle.std.specs.Prelude.{◌≡◌, ◌<◌, ℕ, ◌+◌, ◌-◌, ◌*◌
 use Rattle.fw_entry.specs.Network.{first_id}
 use Rattle.std.specs.Option.{option_map}
 use Rattle.fw_words.specs.Quadlet.{quadlet_at}
+use Rattle.fw_words.specs.declared.swap.TheConstants.{COMPARE_SWAP}
 use Rattle.fw_plug.specs.Words.{Settings, out_word, in_word}
 use Rattle.fw_account.specs.Account.{Pending, Connected, Orphaned, Allocation, Owner, Of, Dead, Connections, Flow, Reads, Locks, Request, Account, total, is_open, is_there, counter}
 use Rattle.fw_account.specs.Network.{is_output, is_input}
@@ -55,7 +56,7 @@ abbrev pub AskedFor : Asked → Option Request → Type 0
 AskedFor NotAsked o = o ≡ None
 AskedFor (Read target address) o = (o ≡ Some (record { target = target; address = address; operation = Reads }))
 AskedFor (Swap target address swap) o =
-    (bytes : List ℕ) × (o ≡ Some (record { target = target; address = address; operation = Locks 2 bytes })) × (length bytes ≡ 8) × (swap.argument ≡ quadlet_at bytes 0) × (swap.new ≡ quadlet_at bytes 4)
+    (bytes : List ℕ) × (o ≡ Some (record { target = target; address = address; operation = Locks COMPARE_SWAP bytes })) × (length bytes ≡ 8) × (swap.argument ≡ quadlet_at bytes 0) × (swap.new ≡ quadlet_at bytes 4)
 AskedFor (Lock target address function) o =
     (bytes : List ℕ) × (o ≡ Some (record { target = target; address = address; operation = Locks function bytes })) × (is_quadlet_swap function bytes ≡ false)
 

@@ -9,7 +9,7 @@ use Rattle.fw_node.specs.State.{NodeState}
 use Rattle.fw_node.specs.Streams as Plugs
 use Rattle.fw_devices.specs.Decks.{tape_of}
 use Rattle.fw_devices.specs.Network.{node_at}
-use Rattle.fw_run.specs.Actions.{after_cycles}
+use Rattle.fw_run.specs.Afterwards.{after_cycles}
 use Rattle.fw_run.specs.Good.{IsGood}
 use Rattle.fw_run.specs.State.{State, first_state, while_talking}
 use Rattle.fw_machine.specs.Lingering.{HasLingering}

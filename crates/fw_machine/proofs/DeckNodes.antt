@@ -15,7 +15,7 @@ use Rattle.fw_devices.specs.Decks.{passed, tape_of}
 use Rattle.fw_devices.specs.Entries.{node_number}
 use Rattle.fw_devices.specs.Network.{Network, kind_at, node_at}
 use Rattle.fw_devices.specs.Resets.{IsReset, numbered}
-use Rattle.fw_run.specs.Actions.{after_cycles, after_reset_entry}
+use Rattle.fw_run.specs.Afterwards.{after_cycles, after_reset_entry}
 use Rattle.fw_run.specs.Decks.{DeckState, first_deck, IsAtRest}
 use Rattle.fw_run.specs.Decks as Runs
 use Rattle.fw_run.specs.Good.{IsGood}

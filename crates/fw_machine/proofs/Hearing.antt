@@ -25,7 +25,7 @@ use Rattle.fw_run.specs.Dubs.{Dub, hears_in, dub_after_reset}
 use Rattle.fw_run.specs.Hearing.{HasHearing}
 use Rattle.fw_run.specs.State.{State, number_in, is_on, with_device}
 use Rattle.fw_run.specs.Spaces.{space_at}
-use Rattle.fw_run.specs.Actions.{after_reset_entry}
+use Rattle.fw_run.specs.Afterwards.{after_reset_entry}
 use Rattle.fw_run.specs.Good.{IsGood}
 use Rattle.fw_run.proofs.Hearing.{off_hears, hears_by_word}
 use Rattle.fw_machine.specs.Stands.{IsNodeAt, HasNodes}

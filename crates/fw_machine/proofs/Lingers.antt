@@ -28,7 +28,7 @@ use Rattle.fw_step.specs.Lingering.{NoneLingers, SameLinger, LingerUnchanged, Li
 use Rattle.fw_step.proofs.LingersAlong.{entry_lingers}
 use Rattle.fw_run.specs.State.{State, number_in, is_on, with_device}
 use Rattle.fw_run.specs.Spaces.{space_at}
-use Rattle.fw_run.specs.Actions.{after_reset_entry}
+use Rattle.fw_run.specs.Afterwards.{after_reset_entry}
 use Rattle.fw_run.specs.Good.{IsGood}
 use Rattle.fw_run.proofs.Lingers.{talks_by_word, off_talks}
 use Rattle.fw_machine.specs.Stands.{IsNodeAt, HasNodes}

@@ -29,7 +29,7 @@ use Rattle.fw_devices.specs.Entries.{node_number, is_number}
 use Rattle.fw_devices.specs.Resets.{IsReset, Shows, numbered}
 use Rattle.fw_run.specs.State.{State, number_in, is_on, with_device}
 use Rattle.fw_run.specs.Spaces.{space_at}
-use Rattle.fw_run.specs.Actions.{after_reset_entry}
+use Rattle.fw_run.specs.Afterwards.{after_reset_entry}
 use Rattle.fw_run.specs.Good.{IsGood, IsLatest}
 use Rattle.fw_machine.specs.Stands.{IsNodeAt, HasNodes, manager_device}
 use Rattle.fw_machine.proofs.Latest.{on_declared, on_number, number_is}

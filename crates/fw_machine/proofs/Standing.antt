@@ -3,7 +3,7 @@ use Rattle.std.proofs.Common.{◌≡◌, ℕ, ◌+◌, unwrap_or, refl, ap, sym,
 use Rattle.fw_devices.specs.Network.{Network, no_entry}
 use Rattle.fw_step.specs.Lingering.{SameLinger}
 use Rattle.fw_run.specs.State.{State, Declared, epoch_of, directory_of, linked_number, list_to, manager_in}
-use Rattle.fw_run.specs.Actions.{counted}
+use Rattle.fw_run.specs.Afterwards.{counted}
 use Rattle.fw_machine.specs.declared.machine.Machine.{Machine}
 use Rattle.fw_machine.specs.Stands.{HasDevices, StandsFor, manager_device}
 use Rattle.fw_machine.proofs.DeckNodes.{decks_same}

@@ -13,8 +13,9 @@ use Rattle.fw_run.specs.declared.order.Access.{Access}
 use Rattle.fw_run.specs.declared.order.Access.TheVariants.{Read, Swap}
 use Rattle.fw_run.specs.declared.order.Order.{Order}
 use Rattle.fw_run.specs.declared.order.Order.TheVariants as Orders
-use Rattle.fw_run.specs.Actions.{AccessFits, slot_of, start_of}
-use Rattle.fw_run.specs.Rules.{is_guarded_at, is_guarded_in}
+use Rattle.fw_run.specs.Actions.{AccessFits}
+use Rattle.fw_run.specs.Afterwards.{slot_of, start_of}
+use Rattle.fw_run.specs.Named.{is_guarded_at, is_guarded_in}
 use Rattle.fw_machine.specs.declared.machine.Machine.{Machine}
 use Rattle.fw_machine.specs.Tables.{states_of}
 use Rattle.fw_machine.specs.Stands.{is_linked_in, is_living_in, living_in, read_in}

@@ -9,7 +9,7 @@ ghost use Rattle.fw_cmp.specs.Losses.{first_listening, Awaits, MayTurn, turn_of,
 ghost use Rattle.fw_cmp.specs.Nodes.{HasNodeNumbers};
 ghost use Rattle.fw_cmp.specs.Starts.{break_fault, break_started, started};
 ghost use Rattle.fw_cmp.specs.Turns.{addressee_in};
-ghost use Rattle.fw_run.specs.Actions.{slot_of, start_of};
+ghost use Rattle.fw_run.specs.Afterwards.{slot_of, start_of};
 ghost use Rattle.fw_machine.specs.Tables.{IsTable, count_of, dead_of, states_of};
 
 use crate::MOST;

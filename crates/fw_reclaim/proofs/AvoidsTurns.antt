@@ -30,7 +30,8 @@ use Rattle.fw_cmp.specs.Requests.{access_of}
 use Rattle.fw_cmp.specs.Resets.{heard, after_hear, overtaken, current_reset, lost_reset, slot_reset, after_reset, after_lost_reset, state_reset, slot_over, after_second}
 use Rattle.fw_cmp.specs.Stages.{hear, refuse}
 use Rattle.fw_cmp.specs.Starts.{started, break_started, break_fault, with_task}
-use Rattle.fw_cmp.specs.Turns.{current_for, takes_task, takes_waiting, takes_next, to_restore, waiting_break, is_empty, own_flow, absent_of, begin_managed, begin_present, begin_leaving, begin_breaking, begin, begun, is_late, resumed, slot_after, after_asking, after_answer, after_next}
+use Rattle.fw_cmp.specs.Turns.{slot_after, after_asking, after_answer, after_next}
+use Rattle.fw_cmp.specs.Jobs.{current_for, takes_task, takes_waiting, takes_next, to_restore, waiting_break, is_empty, own_flow, absent_of, begin_managed, begin_present, begin_leaving, begin_breaking, begin, begun, is_late, resumed}
 use Rattle.fw_reclaim.specs.Avoids.{SlotAvoids, StageAvoids, JobAvoids, CurrentAvoids, Avoids}
 use Rattle.fw_reclaim.proofs.AfterReset.{interrupted_for, decided_for}
 use Rattle.fw_reclaim.proofs.AvoidsHeard.{ShowsOther, hear_avoids, refuse_avoids}

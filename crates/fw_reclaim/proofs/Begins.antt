@@ -18,7 +18,7 @@ use Rattle.fw_cmp.specs.Connections.{output_of, input_of, is_listen}
 use Rattle.fw_cmp.specs.Decisions.{restores}
 use Rattle.fw_cmp.specs.Holdings.{IsReached}
 use Rattle.fw_cmp.specs.Nodes.{node_of}
-use Rattle.fw_cmp.specs.Turns.{without_node, absent_of, begin_managed, begin_present, begin_making, begin_leaving, begin_breaking, begin, begun, resumed, is_over, is_late, own_flow}
+use Rattle.fw_cmp.specs.Jobs.{without_node, absent_of, begin_managed, begin_present, begin_making, begin_leaving, begin_breaking, begin, begun, resumed, is_over, is_late, own_flow}
 use Rattle.fw_reclaim.specs.Restores.{MatchesFor, CourseFor, IsOnCourse, is_ended, is_still, is_leaving}
 
 -- ---- a restoring

@@ -20,7 +20,8 @@ use Rattle.fw_cmp.specs.declared.stage.Stage.TheVariants.{Begin}
 use Rattle.fw_cmp.specs.Controllers.{ControllerState, slot_at, with_slot, IsHeard, count_of}
 use Rattle.fw_cmp.specs.Holdings.{is_current_slot}
 use Rattle.fw_cmp.specs.Requests.{access_of}
-use Rattle.fw_cmp.specs.Turns.{slot_after, after_asking, after_answer, after_next, resumed, takes_next, to_restore}
+use Rattle.fw_cmp.specs.Turns.{slot_after, after_asking, after_answer, after_next}
+use Rattle.fw_cmp.specs.Jobs.{resumed, takes_next, to_restore}
 use Rattle.fw_reclaim.specs.Seats.{Side}
 use Rattle.fw_reclaim.specs.Due.{IsAtSlot, due_to, slot_due, has_plug, is_at}
 use Rattle.fw_reclaim.specs.Restores.{MatchesFor, CourseFor, CurrentMatches, CurrentCourse, is_ended}

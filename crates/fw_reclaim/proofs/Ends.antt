@@ -18,7 +18,7 @@ use Rattle.fw_cmp.specs.Connections.{output_of, input_of}
 use Rattle.fw_cmp.specs.Fits.{StageFits, HasOutput, HasInput}
 use Rattle.fw_cmp.specs.Holdings.{IsReached}
 use Rattle.fw_cmp.specs.Requests.{target_of, swap_of, access_at, access_of}
-use Rattle.fw_cmp.specs.Turns.{begin_managed, begin_present, begin_making, begun, resumed}
+use Rattle.fw_cmp.specs.Jobs.{begin_managed, begin_present, begin_making, begun, resumed}
 use Rattle.fw_reclaim.specs.Restores.{IsOnCourse}
 use Rattle.fw_reclaim.proofs.Begins.{nobody_absent, not_late, never_late}
 use Rattle.fw_reclaim.proofs.Heard.{output_there, input_there}

@@ -21,7 +21,8 @@ use Rattle.fw_cmp.specs.Fits.{StageFits}
 use Rattle.fw_cmp.specs.Requests.{access_of}
 use Rattle.fw_cmp.specs.Resets.{heard, after_hear, overtaken, current_reset, lost_reset, after_reset, after_lost_reset, state_reset}
 use Rattle.fw_cmp.specs.Starts.{started, break_started, break_fault, with_task}
-use Rattle.fw_cmp.specs.Turns.{current_for, takes_task, takes_waiting, takes_next, to_restore, waiting_break, is_empty, resumed, after_asking, after_answer, after_next}
+use Rattle.fw_cmp.specs.Turns.{after_asking, after_answer, after_next}
+use Rattle.fw_cmp.specs.Jobs.{current_for, takes_task, takes_waiting, takes_next, to_restore, waiting_break, is_empty, resumed}
 use Rattle.fw_step.specs.Together.{Becomes}
 use Rattle.fw_reclaim.specs.Makings.{MakesFor, CurrentMakes}
 use Rattle.fw_reclaim.specs.Worlds.{World, CanReclaim, Change, Turn, Answer, BusReset, SecondOver, Death, NewConnection, BreakOf, Withholding, Elsewhere, Happens}

@@ -23,7 +23,7 @@ use Rattle.fw_cmp.specs.Decisions.{restores, goes_on, give_back, leave_output, d
 use Rattle.fw_cmp.specs.Fits.{StageFits, HasInput}
 use Rattle.fw_cmp.specs.Plugs.{is_full, has_broadcast, counter_of, channel_of, is_bit, remainder_of, half_of}
 use Rattle.fw_cmp.specs.Stages.{hear, hear_reply, refuse}
-use Rattle.fw_cmp.specs.Turns.{absent_of, begin_managed, begin_present, begin_making, begin_breaking, begin, begun, resumed, is_late, own_flow}
+use Rattle.fw_cmp.specs.Jobs.{absent_of, begin_managed, begin_present, begin_making, begin_breaking, begin, begun, resumed, is_late, own_flow}
 use Rattle.fw_reclaim.specs.Makings.{is_making_stage, MakesFor}
 
 -- on either way

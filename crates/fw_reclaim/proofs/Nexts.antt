@@ -17,7 +17,8 @@ use Rattle.fw_cmp.specs.declared.stage.Stage.TheVariants.{Begin, Made}
 use Rattle.fw_cmp.specs.Controllers.{ControllerState, slot_at, IsHeard}
 use Rattle.fw_cmp.specs.Holdings.{IsReached, is_current_slot}
 use Rattle.fw_cmp.specs.Requests.{access_of}
-use Rattle.fw_cmp.specs.Turns.{resumed_current, resumed, after_asking, after_answer, after_next, takes_next, to_restore}
+use Rattle.fw_cmp.specs.Turns.{after_asking, after_answer, after_next}
+use Rattle.fw_cmp.specs.Jobs.{resumed_current, resumed, takes_next, to_restore}
 use Rattle.fw_reclaim.specs.Due.{IsAtSlot}
 use Rattle.fw_reclaim.specs.Restores.{KeepsFlow, IsRestorable, Restores, MatchesFor, CurrentMatches, CurrentCourse, BreaksFit}
 use Rattle.fw_reclaim.proofs.AfterReset.{MadeKeeps}

@@ -19,7 +19,8 @@ use Rattle.fw_cmp.specs.declared.stage.Stage.TheVariants.{Begin, Made}
 use Rattle.fw_cmp.specs.Controllers.{ControllerState, slot_at, IsHeard, restoring_job}
 use Rattle.fw_cmp.specs.Fits.{StageFits}
 use Rattle.fw_cmp.specs.Requests.{access_of, addressee_of}
-use Rattle.fw_cmp.specs.Turns.{answer_of, resumed, outcome_of, asks_or_ends, sending, rests, takes_next, to_restore}
+use Rattle.fw_cmp.specs.Turns.{answer_of, outcome_of, asks_or_ends, sending, rests}
+use Rattle.fw_cmp.specs.Jobs.{resumed, takes_next, to_restore}
 use Rattle.fw_reclaim.specs.Restores.{MatchesFor, IsOnCourse, CurrentMatches, CurrentCourse}
 use Rattle.fw_reclaim.specs.Whole.{EndsRestored, is_overtaken}
 use Rattle.fw_reclaim.proofs.Nexts.{same_slots, going_at}

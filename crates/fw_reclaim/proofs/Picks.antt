@@ -18,7 +18,7 @@ use Rattle.fw_cmp.specs.declared.job.Job.{Job}
 use Rattle.fw_cmp.specs.declared.job.Purpose.TheVariants.{Restore, Break}
 use Rattle.fw_cmp.specs.declared.stage.Stage.TheVariants.{Begin}
 use Rattle.fw_cmp.specs.Controllers.{ControllerState, slot_at, is_restoring, break_waits, breaks_slot, is_making}
-use Rattle.fw_cmp.specs.Turns.{current_for, takes_task, slot_of_task, to_restore, is_break, waiting_break, takes_making, takes_waiting, takes_next, is_empty}
+use Rattle.fw_cmp.specs.Jobs.{current_for, takes_task, slot_of_task, to_restore, is_break, waiting_break, takes_making, takes_waiting, takes_next, is_empty}
 use Rattle.fw_reclaim.specs.Restores.{MatchesFor, CourseFor, BreaksFit}
 use Rattle.fw_reclaim.proofs.Begins.{OnCourseOrBegins}
 

@@ -22,7 +22,8 @@ use Rattle.fw_cmp.specs.Fits.{StageFits}
 use Rattle.fw_cmp.specs.Holdings.{IsReached}
 use Rattle.fw_cmp.specs.Requests.{access_of}
 use Rattle.fw_cmp.specs.Resets.{heard, after_hear}
-use Rattle.fw_cmp.specs.Turns.{slot_after, after_asking, after_answer, after_next, resumed, takes_next, to_restore}
+use Rattle.fw_cmp.specs.Turns.{slot_after, after_asking, after_answer, after_next}
+use Rattle.fw_cmp.specs.Jobs.{resumed, takes_next, to_restore}
 use Rattle.fw_reclaim.specs.Due.{IsAtSlot}
 use Rattle.fw_reclaim.specs.Restores.{MatchesFor, CourseFor, IsOnCourse, CurrentMatches, CurrentCourse}
 use Rattle.fw_reclaim.specs.Whole.{IsUnbroken}

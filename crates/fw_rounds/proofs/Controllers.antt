@@ -16,7 +16,7 @@ use Rattle.fw_cmp.specs.declared.stage.Stage.TheVariants.{Begin}
 use Rattle.fw_cmp.specs.Controllers.{ControllerState, slot_at, is_restoring, CurrentFits, restoring_job}
 use Rattle.fw_cmp.specs.Holdings.{pending_at}
 use Rattle.fw_cmp.specs.Requests.{target_of}
-use Rattle.fw_cmp.specs.Turns.{waiting_break}
+use Rattle.fw_cmp.specs.Jobs.{waiting_break}
 use Rattle.fw_rounds.specs.Distance.{IsNear, has_begun}
 use Rattle.fw_rounds.specs.HalfSteps.{IsWithin, IsRestoringOf, CurrentRestores, CurrentKnows, JobKnows, Waits}
 use Rattle.fw_rounds.proofs.Near.{near}

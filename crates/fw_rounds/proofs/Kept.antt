@@ -20,7 +20,8 @@ use Rattle.fw_cmp.specs.Controllers.{ControllerState, slot_at, restoring_job}
 use Rattle.fw_cmp.specs.Decisions.{restores}
 use Rattle.fw_cmp.specs.Requests.{target_of, swap_of, access_at}
 use Rattle.fw_cmp.specs.Stages.{hear}
-use Rattle.fw_cmp.specs.Turns.{begun, begin, begin_making, begin_present, begin_managed, begin_breaking, begin_leaving, own_flow, absent_of, is_late, ready, resumed, after_answer, after_asking, waiting_break, is_break}
+use Rattle.fw_cmp.specs.Turns.{after_answer, after_asking}
+use Rattle.fw_cmp.specs.Jobs.{begun, begin, begin_making, begin_present, begin_managed, begin_breaking, begin_leaving, own_flow, absent_of, is_late, ready, resumed, waiting_break, is_break}
 use Rattle.fw_cmp.specs.declared.connection.Connection.TheVariants.{PlugToPlug, BroadcastOut, BroadcastIn}
 use Rattle.fw_cmp.specs.declared.connection.Flow.{Flow}
 use Rattle.fw_rounds.specs.Distance.{answer_of, has_begun, is_over}

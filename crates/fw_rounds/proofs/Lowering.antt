@@ -16,7 +16,8 @@ use Rattle.fw_cmp.specs.Controllers.{ControllerState, slot_at, is_restoring, Cur
 use Rattle.fw_cmp.specs.Decisions.{restores}
 use Rattle.fw_cmp.specs.Requests.{target_of}
 use Rattle.fw_cmp.specs.Stages.{hear}
-use Rattle.fw_cmp.specs.Turns.{resumed, ready, after_answer, waiting_break}
+use Rattle.fw_cmp.specs.Turns.{after_answer}
+use Rattle.fw_cmp.specs.Jobs.{resumed, ready, waiting_break}
 use Rattle.fw_rounds.specs.Distance.{answer_of, succeeds}
 use Rattle.fw_rounds.specs.Remaining.{most_remaining, remaining}
 use Rattle.fw_rounds.specs.HalfSteps.{after_half_step, progresses, ends_restoring, to_come, IsRestoringOf, CurrentRestores, CurrentKnows}

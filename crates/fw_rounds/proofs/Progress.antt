@@ -19,7 +19,8 @@ use Rattle.std.specs.Prelude.{slice_index_or, slice_set}
 use Rattle.fw_cmp.specs.Controllers.{ControllerState, slot_at, is_restoring, restoring_job}
 use Rattle.fw_cmp.specs.Decisions.{restores}
 use Rattle.fw_cmp.specs.Requests.{target_of}
-use Rattle.fw_cmp.specs.Turns.{begun, begin, begin_making, begin_breaking, begin_present, begin_managed, absent_of, is_late, own_flow, waiting_break, resumed, slot_after, after_answer}
+use Rattle.fw_cmp.specs.Turns.{slot_after, after_answer}
+use Rattle.fw_cmp.specs.Jobs.{begun, begin, begin_making, begin_breaking, begin_present, begin_managed, absent_of, is_late, own_flow, waiting_break, resumed}
 use Rattle.fw_rounds.specs.Distance.{IsNear, IsRestoring, has_begun, is_over, is_looking, is_waiting, output_word, is_channel_free}
 use Rattle.fw_rounds.specs.HalfSteps.{IsWithin, ends_restoring, JobKnows, Waits}
 use Rattle.fw_rounds.proofs.Near.{near}

@@ -17,7 +17,7 @@ use Rattle.fw_cmp.specs.Controllers.{ControllerState, slot_at, with_slot, is_res
 use Rattle.fw_cmp.specs.Decisions.{restores}
 use Rattle.fw_cmp.specs.Requests.{target_of}
 use Rattle.fw_cmp.specs.Resets.{state_reset, current_reset, lost_reset, overtaken, interrupted, decided, slots_reset, slot_reset}
-use Rattle.fw_cmp.specs.Turns.{waiting_break}
+use Rattle.fw_cmp.specs.Jobs.{waiting_break}
 use Rattle.fw_rounds.specs.Distance.{is_over}
 use Rattle.fw_rounds.specs.Remaining.{remaining}
 use Rattle.fw_rounds.specs.HalfSteps.{to_come, of_current, of_job, of_slot, IsRestoringOf, CurrentRestores, OnlyRestores, AsksWhatStands}

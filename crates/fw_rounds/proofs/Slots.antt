@@ -13,7 +13,7 @@ use Rattle.fw_cmp.specs.declared.directory.Directory.{Directory}
 use Rattle.fw_cmp.specs.declared.job.Job.{Job}
 use Rattle.fw_cmp.specs.declared.stage.Stage.TheVariants.{Begin}
 use Rattle.fw_cmp.specs.Controllers.{ControllerState, slot_at, is_restoring, restoring_job}
-use Rattle.fw_cmp.specs.Turns.{current_for, ready, going, takes_next, takes_waiting, to_restore, waiting_break, is_empty, takes_task}
+use Rattle.fw_cmp.specs.Jobs.{current_for, ready, going, takes_next, takes_waiting, to_restore, waiting_break, is_empty, takes_task}
 
 -- ---- slots
 

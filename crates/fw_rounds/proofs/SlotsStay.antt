@@ -14,7 +14,8 @@ use Rattle.fw_cmp.specs.declared.stage.Stage.{Stage}
 use Rattle.fw_cmp.specs.declared.stage.Stage.TheVariants.{Begin}
 use Rattle.fw_cmp.specs.Controllers.{ControllerState, slot_at, is_restoring, restoring_job}
 use Rattle.fw_cmp.specs.Requests.{target_of, swap_of, access_at}
-use Rattle.fw_cmp.specs.Turns.{ready, resumed, after_answer, after_asking, slot_after, waiting_break}
+use Rattle.fw_cmp.specs.Turns.{after_answer, after_asking, slot_after}
+use Rattle.fw_cmp.specs.Jobs.{ready, resumed, waiting_break}
 use Rattle.fw_rounds.specs.HalfSteps.{after_half_step}
 use Rattle.fw_rounds.proofs.Slots.{picks, Picks, Rests, idle, other_item, none_restored}
 use Rattle.fw_rounds.proofs.ToCome.{after_restores}

@@ -14,7 +14,7 @@ use Rattle.fw_cmp.specs.Connections.{output_of, is_listen}
 use Rattle.fw_cmp.specs.Fits.{StageFits}
 use Rattle.fw_cmp.specs.Holdings.{pending_of}
 use Rattle.fw_cmp.specs.Requests.{target_of}
-use Rattle.fw_cmp.specs.Turns.{begun}
+use Rattle.fw_cmp.specs.Jobs.{begun}
 use Rattle.fw_rounds.specs.Distance.{has_begun, is_looking}
 
 pub begun_stays : (d : Directory) (slot : Slot) (j : Job) (s : Stage) → has_begun s ≡ true → begun d slot j s ≡ s

@@ -9,7 +9,8 @@ use Rattle.fw_cmp.specs.declared.request.Target.{Target}
 use Rattle.fw_cmp.specs.declared.stage.Stage.{Stage}
 use Rattle.fw_cmp.specs.Controllers.{ControllerState, slot_at, with_slot, job_for, IsHeard}
 use Rattle.fw_cmp.specs.Requests.{target_of, swap_of, access_at}
-use Rattle.fw_cmp.specs.Turns.{after_next, after_answer, after_asking, ready, picked, resumed_current, takes_next, takes_waiting, takes_making, takes_task, job_current, to_restore, waiting_break, is_empty}
+use Rattle.fw_cmp.specs.Turns.{after_next, after_answer, after_asking}
+use Rattle.fw_cmp.specs.Jobs.{ready, picked, resumed_current, takes_next, takes_waiting, takes_making, takes_task, job_current, to_restore, waiting_break, is_empty}
 use Rattle.fw_cmp.specs.declared.connection.Slot.TheVariants.{Free, Gone}
 use Rattle.fw_cmp.specs.declared.job.Purpose.{Purpose}
 use Rattle.fw_cmp.specs.declared.job.Purpose.TheVariants.{Make, Restore, Break}

@@ -23,7 +23,8 @@ use Rattle.fw_cmp.specs.Connections.{is_listen}
 use Rattle.fw_cmp.specs.Controllers.{ControllerState, slot_at, with_slot, is_restoring, break_waits}
 use Rattle.fw_cmp.specs.Decisions.{restores}
 use Rattle.fw_cmp.specs.Requests.{swap_of, access_at}
-use Rattle.fw_cmp.specs.Turns.{resumed, begun, begin, begin_making, begin_present, begin_managed, begin_breaking, begin_leaving, own_flow, absent_of, is_late, ended, slot_after, after_asking}
+use Rattle.fw_cmp.specs.Turns.{ended, slot_after, after_asking}
+use Rattle.fw_cmp.specs.Jobs.{resumed, begun, begin, begin_making, begin_present, begin_managed, begin_breaking, begin_leaving, own_flow, absent_of, is_late}
 use Rattle.fw_rounds.specs.Remaining.{most_remaining, remaining}
 use Rattle.fw_rounds.specs.HalfSteps.{of_job, of_slot, to_come}
 use Rattle.fw_rounds.proofs.Slots.{other_item, none_restored}

@@ -11,7 +11,8 @@ use Rattle.fw_cmp.specs.declared.stage.Stage.TheVariants.{Ended}
 use Rattle.fw_cmp.specs.Controllers.{ControllerState, slot_at, is_restoring}
 use Rattle.fw_cmp.specs.Requests.{target_of, swap_of, access_at}
 use Rattle.fw_cmp.specs.Stages.{hear}
-use Rattle.fw_cmp.specs.Turns.{resumed, begun, is_late, after_asking}
+use Rattle.fw_cmp.specs.Turns.{after_asking}
+use Rattle.fw_cmp.specs.Jobs.{resumed, begun, is_late}
 use Rattle.fw_rounds.specs.Distance.{IsNear, answer_of, succeeds, has_begun, is_over}
 use Rattle.fw_rounds.specs.HalfSteps.{IsWithin}
 use Rattle.fw_rounds.proofs.Stages.{begun_stays}

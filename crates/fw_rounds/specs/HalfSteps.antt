@@ -19,7 +19,8 @@ use Rattle.fw_cmp.specs.Controllers.{ControllerState, slot_at, is_restoring, res
 use Rattle.fw_cmp.specs.Decisions.{restores}
 use Rattle.fw_cmp.specs.Requests.{target_of}
 use Rattle.fw_cmp.specs.Resets.{after_hear}
-use Rattle.fw_cmp.specs.Turns.{after_next, ready, waiting_break}
+use Rattle.fw_cmp.specs.Turns.{after_next}
+use Rattle.fw_cmp.specs.Jobs.{ready, waiting_break}
 use Rattle.std.specs.Option.{option_map}
 use Rattle.fw_rounds.specs.Distance.{shown, answer_of, succeeds, has_begun, is_over, is_channel_free, HasPlug, Keeps}
 use Rattle.fw_rounds.specs.Remaining.{most_remaining, remaining}

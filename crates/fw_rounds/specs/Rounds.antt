@@ -9,7 +9,7 @@ use Rattle.fw_cmp.specs.Controllers.{ControllerState, slot_at, is_restoring, Fit
 use Rattle.fw_cmp.specs.Holdings.{pending_at}
 use Rattle.fw_rounds.specs.HalfSteps.{after_half_step, progresses, to_come, OnlyRestores, AsksWhatStands, CurrentKnows, Waits}
 use Rattle.fw_cmp.specs.Resets.{state_reset}
-use Rattle.fw_cmp.specs.Turns.{waiting_break}
+use Rattle.fw_cmp.specs.Jobs.{waiting_break}
 
 -- the words of the registers, and the controllers by device; a device without a living one has the first state
 pub record Situation : Type 0 where

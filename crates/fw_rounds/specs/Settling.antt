@@ -10,7 +10,7 @@ use Rattle.fw_cmp.specs.declared.directory.Directory.{Directory}
 use Rattle.fw_cmp.specs.Connections.{input_of}
 use Rattle.fw_cmp.specs.Controllers.{ControllerState, slot_at, Fits}
 use Rattle.fw_cmp.specs.Resets.{state_reset as controller_reset}
-use Rattle.fw_cmp.specs.Turns.{waiting_break}
+use Rattle.fw_cmp.specs.Jobs.{waiting_break}
 use Rattle.fw_step.specs.Together.{AreInStep, TakesHalfStep}
 use Rattle.fw_rounds.specs.Accounts.{OnlyLiving}
 use Rattle.fw_rounds.specs.HalfSteps.{AsksWhatStands}

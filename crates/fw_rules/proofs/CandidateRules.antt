@@ -10,7 +10,8 @@ use Rattle.fw_run.specs.declared.rule.RuleFault.TheVariants.{UnknownName, NotCon
 use Rattle.fw_run.specs.Bidding.{is_candidate}
 use Rattle.fw_run.specs.Elections.{is_capable}
 use Rattle.fw_run.specs.Good.{IsGood}
-use Rattle.fw_run.specs.Rules.{Breaks, Decides, IsNamed}
+use Rattle.fw_run.specs.Rules.{Breaks, Decides}
+use Rattle.fw_run.specs.Named.{IsNamed}
 use Rattle.fw_run.specs.State.{State, is_living}
 use Rattle.fw_machine.specs.declared.machine.Machine.{Machine}
 use Rattle.fw_machine.specs.Candidates.{candidate_in}

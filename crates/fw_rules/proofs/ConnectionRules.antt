@@ -14,9 +14,10 @@ use Rattle.fw_run.specs.declared.order.Wanted.{Wanted}
 use Rattle.fw_run.specs.declared.rule.RuleFault.{RuleFault}
 use Rattle.fw_run.specs.declared.rule.RuleFault.TheVariants.{UnknownName, NotController, TableFull, Busy, NoSuchConnection, NotOwnPlug}
 use Rattle.fw_run.specs.State.{State, is_living}
-use Rattle.fw_run.specs.Actions.{start_of}
+use Rattle.fw_run.specs.Afterwards.{start_of}
 use Rattle.fw_run.specs.Good.{IsGood}
-use Rattle.fw_run.specs.Rules.{Breaks, Decides, IsNamed, IsOrder, IsRefused, IsWanted, names_of, plug_of, rank}
+use Rattle.fw_run.specs.Rules.{Breaks, Decides, IsOrder, rank}
+use Rattle.fw_run.specs.Named.{IsNamed, IsRefused, IsWanted, names_of, plug_of}
 use Rattle.fw_run.proofs.OneLog.{one_order}
 use Rattle.fw_machine.specs.declared.machine.Machine.{Machine}
 use Rattle.fw_rules.specs.Decisions.{ConnectionDecided, rule_of}

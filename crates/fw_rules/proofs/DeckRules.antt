@@ -9,7 +9,8 @@ use Rattle.fw_script.specs.declared.command.Command.TheVariants as Commands
 use Rattle.fw_run.specs.declared.order.Order.TheVariants as Orders
 use Rattle.fw_run.specs.declared.rule.RuleFault.{RuleFault}
 use Rattle.fw_run.specs.declared.rule.RuleFault.TheVariants.{UnknownName, NoDeck, NotController, TableFull, Busy, NoSuchConnection, NotOwnPlug, OffBus}
-use Rattle.fw_run.specs.Rules.{Breaks, Decides, IsNamed, is_declared, names_of, rank, system_with}
+use Rattle.fw_run.specs.Rules.{Breaks, Decides, rank, system_with}
+use Rattle.fw_run.specs.Named.{IsNamed, is_declared, names_of}
 use Rattle.fw_run.specs.State.{State, has_deck, is_on, is_linked, is_living}
 use Rattle.fw_machine.specs.declared.machine.Machine.{Machine}
 use Rattle.fw_rules.specs.Decisions.{DeckDecided}

@@ -18,7 +18,8 @@ use Rattle.fw_run.specs.declared.rule.RuleFault.TheVariants.{UnknownName, TooMan
 use Rattle.fw_run.specs.State.{State, is_linked, is_living, living, manager_in}
 use Rattle.fw_run.specs.HalfSteps.{has_request}
 use Rattle.fw_run.specs.Spaces.{read_at}
-use Rattle.fw_run.specs.Rules.{Breaks, Decides, Ends, HasNoManager, IsEnd, IsNamed, IsNot, IsShown, is_declared, is_joining, rank}
+use Rattle.fw_run.specs.Rules.{Breaks, Decides, rank}
+use Rattle.fw_run.specs.Named.{Ends, HasNoManager, IsEnd, IsNamed, IsNot, IsShown, is_declared, is_joining}
 use Rattle.fw_run.proofs.OneLog.{one_order}
 use Rattle.fw_rules.specs.Decisions.{command_of}
 use Rattle.fw_machine.specs.Orders.{is_guarded_by}

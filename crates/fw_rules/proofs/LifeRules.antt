@@ -7,7 +7,8 @@ use Rattle.fw_run.specs.declared.order.Order.TheVariants as Orders
 use Rattle.fw_run.specs.declared.rule.RuleFault.{RuleFault}
 use Rattle.fw_run.specs.declared.rule.RuleFault.TheVariants.{UnknownName, NotController, Limit, TableFull, Busy, NoSuchConnection, NotOwnPlug}
 use Rattle.fw_run.specs.Good.{IsGood}
-use Rattle.fw_run.specs.Rules.{Breaks, Decides, IsNamed}
+use Rattle.fw_run.specs.Rules.{Breaks, Decides}
+use Rattle.fw_run.specs.Named.{IsNamed}
 use Rattle.fw_run.specs.State.{State, is_linked, is_living}
 use Rattle.fw_machine.specs.declared.machine.Machine.{Machine}
 use Rattle.fw_machine.specs.Stands.{StandsFor, is_linked_in, is_living_in}

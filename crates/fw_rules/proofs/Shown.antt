@@ -21,7 +21,8 @@ use Rattle.fw_run.specs.declared.rule.RuleFault.TheVariants.{OffBus}
 use Rattle.fw_run.specs.State.{State, device_in, is_linked, is_relay, linked_number, manager_in, with_link}
 use Rattle.fw_run.specs.Good.{IsGood, IsLatest}
 use Rattle.fw_run.specs.Spaces.{read_at}
-use Rattle.fw_run.specs.Rules.{Decides, IsShown, is_joining}
+use Rattle.fw_run.specs.Rules.{Decides}
+use Rattle.fw_run.specs.Named.{IsShown, is_joining}
 use Rattle.fw_machine.specs.declared.machine.Machine.{Machine}
 use Rattle.fw_machine.specs.Orders.{joins_in}
 use Rattle.fw_machine.specs.Stands.{StandsFor, manager_device, read_in}

@@ -8,7 +8,7 @@ use Rattle.fw_run.specs.declared.order.Access.{Access}
 use Rattle.fw_run.specs.declared.order.Access.TheVariants.{Read, Swap}
 use Rattle.fw_run.specs.declared.order.Order.{Order}
 use Rattle.fw_run.specs.declared.order.Order.TheVariants as Orders
-use Rattle.fw_run.specs.Actions.{start_of}
+use Rattle.fw_run.specs.Afterwards.{start_of}
 use Rattle.fw_run.specs.declared.order.Wanted.{Wanted}
 use Rattle.fw_run.specs.declared.rule.RuleFault.{RuleFault}
 use Rattle.fw_run.specs.declared.rule.RuleFault.TheVariants.{UnknownName, NoDeck, NotController, TableFull, Busy, NoSuchConnection, NotOwnPlug}

@@ -2,7 +2,7 @@
 
 ghost use Rattle.std.specs.Prelude.{◌≡◌, ◌<◌, None, Some, IfOk, IfErr, length};
 ghost use Rattle.fw_cmp.specs.Fits.{AskedFits, SlotFits};
-ghost use Rattle.fw_run.specs.Actions.{slot_of};
+ghost use Rattle.fw_run.specs.Afterwards.{slot_of};
 ghost use Rattle.fw_run.specs.declared.rule.RuleFault.TheVariants.{UnknownName};
 ghost use Rattle.fw_script.specs.declared.command.Command.TheVariants as Commands;
 ghost use Rattle.fw_devices.specs.Network.{device_named};

@@ -2,7 +2,7 @@
 
 ghost use Rattle.std.specs.Prelude.{◌≡◌, ◌<◌, ◌^◌, IfOk};
 ghost use Rattle.fw_run.specs.Actions.{AccessFits};
-ghost use Rattle.fw_run.specs.Rules.{is_guarded_at};
+ghost use Rattle.fw_run.specs.Named.{is_guarded_at};
 ghost use Rattle.fw_script.specs.declared.command.Command.TheVariants as Commands;
 ghost use Rattle.fw_rules.specs.Decisions.{Decided, command_of};
 ghost use Rattle.fw_machine.specs.Orders.{MayCarry, is_guarded_by};

@@ -15,7 +15,8 @@ use Rattle.fw_node.specs.Packets.{packet_of}
 use Rattle.fw_devices.specs.Network.{kind_at}
 use Rattle.fw_run.specs.declared.order.Transaction.{Transaction}
 use Rattle.fw_run.specs.declared.order.Wanted.{Wanted}
-use Rattle.fw_run.specs.Actions.{AccessFits, Action, AddCable, AddDevice, CarryOut, Die, EjectTape, EndSecond, HalfStep, InsertTape, IsSpared, KeepBlock, Lose, Pass, Receive, ResetBus, SendFrame, StartBreak, after_cycles, after_death, after_second, after_start, slot_of, start_of, with_connection, with_topology}
+use Rattle.fw_run.specs.Actions.{AccessFits, Action, AddCable, AddDevice, CarryOut, Die, EjectTape, EndSecond, HalfStep, InsertTape, IsSpared, KeepBlock, Lose, Pass, Receive, ResetBus, SendFrame, StartBreak}
+use Rattle.fw_run.specs.Afterwards.{after_cycles, after_death, after_second, after_start, slot_of, start_of, with_connection, with_topology}
 use Rattle.fw_run.specs.Bidding.{bid_step, bidden}
 use Rattle.fw_run.specs.Decks.{DeckState, FrameWrite}
 use Rattle.fw_run.specs.Elections.{is_capable, with_new_candidate}

@@ -10,7 +10,7 @@ use Rattle.fw_cmp.specs.Controllers.{IsHeard, first_state as new_controller}
 use Rattle.fw_cmp.specs.Losses.{Listening, first_listening, after_turn, after_answer, after_loss as lost, after_bus_reset, with_state}
 use Rattle.fw_cmp.specs.Starts.{started, break_started}
 use Rattle.fw_run.specs.declared.order.Wanted.{Wanted}
-use Rattle.fw_run.specs.Actions.{stage_of, after_loss, after_reset_entry, after_death, after_start, with_connection, slot_of, start_of}
+use Rattle.fw_run.specs.Afterwards.{stage_of, after_loss, after_reset_entry, after_death, after_start, with_connection, slot_of, start_of}
 use Rattle.fw_run.specs.Good.{IsGood}
 use Rattle.fw_run.specs.HalfSteps.{HalfStep, half, after_half, has_request, with_controller}
 use Rattle.fw_run.specs.State.{State, directory_of, is_deaf, is_living}

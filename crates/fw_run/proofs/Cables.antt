@@ -14,7 +14,7 @@ use Rattle.fw_devices.proofs.BusLaws.{bus_stays, on_bus_declared}
 use Rattle.fw_devices.proofs.JoinLaws.{bus_grows}
 use Rattle.fw_run.specs.declared.limits.TheConstants.{MOST_HALF_STEPS, MOST_RESETS}
 use Rattle.fw_run.specs.State.{State, Declared, is_on, number_in, is_living, is_linked, is_deaf, linked_number, with_link}
-use Rattle.fw_run.specs.Actions.{Joins, with_topology, counting, counted, Begins}
+use Rattle.fw_run.specs.Afterwards.{Joins, with_topology, counting, counted, Begins}
 use Rattle.fw_run.specs.Good.{IsGood, IsLatest, AreDeclared}
 use Rattle.fw_run.proofs.Networks.{shows_cabled, never_both}
 use Rattle.fw_run.proofs.OffCables.{entry_cabled}

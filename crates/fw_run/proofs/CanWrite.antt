@@ -15,7 +15,8 @@ use Rattle.fw_run.specs.Giving.{at_most, at_cycle}
 use Rattle.fw_run.specs.Entries.{second_over}
 use Rattle.fw_run.specs.State.{State}
 use Rattle.fw_run.specs.Streams.{GivenBlock, GivesBlock, bytes_of, tape_at, cycle_start, stream_packet, talkers}
-use Rattle.fw_run.specs.Actions.{Action, Pass, EndSecond, StartCycle, SendPacket, KeepBlock, Step, Steps, after_cycles, after_second}
+use Rattle.fw_run.specs.Actions.{Action, Pass, EndSecond, StartCycle, SendPacket, KeepBlock, Step, Steps}
+use Rattle.fw_run.specs.Afterwards.{after_cycles, after_second}
 use Rattle.fw_run.specs.Carrying.{next_cycle, HasCycle, HasCycles}
 use Rattle.fw_run.specs.Cycles.{AllTalk, CanSendPackets, MayWrite, CanWriteCycles}
 use Rattle.fw_run.specs.Good.{IsGood}

@@ -20,7 +20,8 @@ use Rattle.fw_run.specs.Candidates.{HasCandidates}
 use Rattle.fw_run.specs.Elections.{Election, is_capable}
 use Rattle.fw_run.specs.Good.{IsGood, IsLatest}
 use Rattle.fw_run.specs.State.{State, Declared, epoch_of, first_state, with_device, number_in, manager_in, linked_number, with_link, is_on, is_linked, is_living}
-use Rattle.fw_run.specs.Actions.{Action, Resets, after_death, after_start, Step}
+use Rattle.fw_run.specs.Actions.{Action, Step}
+use Rattle.fw_run.specs.Afterwards.{Resets, after_death, after_start}
 use Rattle.fw_run.proofs.Contending.{each_candidate, no_candidate}
 use Rattle.fw_run.proofs.Grows.{Number, number_there, manager_there}
 use Rattle.fw_run.proofs.Resets.{declaring, MayReset, reset_shows, still_living}

@@ -19,7 +19,8 @@ use Rattle.fw_run.specs.declared.order.Wanted.{Wanted}
 use Rattle.fw_run.specs.Entries.{withheld}
 use Rattle.fw_run.specs.State.{State, Declared, entered, list_to, linked_number, manager_in, is_linked, is_living, directory_of, is_deaf}
 use Rattle.fw_run.specs.HalfSteps.{asks, taken, half_of, after_half, with_controller}
-use Rattle.fw_run.specs.Actions.{Action, StartBreak, EndSecond, Die, Resets, slot_of, start_of, with_connection, after_cycles, after_second, after_death, after_start, Step, Steps}
+use Rattle.fw_run.specs.Actions.{Action, StartBreak, EndSecond, Die, Step, Steps}
+use Rattle.fw_run.specs.Afterwards.{Resets, slot_of, start_of, with_connection, after_cycles, after_second, after_death, after_start}
 use Rattle.fw_run.specs.Good.{IsGood, world_of}
 use Rattle.fw_run.specs.Reclaiming.{IsHarmless, AreHarmless}
 use Rattle.fw_run.proofs.Buses.{linked_small, shows_bus}

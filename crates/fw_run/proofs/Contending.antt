@@ -36,7 +36,8 @@ use Rattle.fw_run.specs.Good.{IsGood}
 use Rattle.fw_run.specs.Numbers.{HasNumbers}
 use Rattle.fw_run.specs.Spaces.{reply_from, space_of_node, is_manager, target_node, transaction_head, access_request, bus_manager_id_after}
 use Rattle.fw_run.specs.State.{State, first_state, epoch_of, number_in, manager_in, device_in, linked_number, is_linked, is_living}
-use Rattle.fw_run.specs.Actions.{Action, Resets, IsSpared, after_reset_entry, after_death, Step}
+use Rattle.fw_run.specs.Actions.{Action, IsSpared, Step}
+use Rattle.fw_run.specs.Afterwards.{Resets, after_reset_entry, after_death}
 use Rattle.fw_run.specs.HalfSteps.{half}
 use Rattle.fw_run.proofs.Answers.{managed, answered}
 use Rattle.fw_run.proofs.Bounds.{few_rows}

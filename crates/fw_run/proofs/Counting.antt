@@ -22,7 +22,8 @@ use Rattle.fw_run.specs.Giving.{at_cycle}
 use Rattle.fw_run.specs.Entries.{second_over}
 use Rattle.fw_run.specs.State.{State, entered, while_talking}
 use Rattle.fw_run.specs.Streams.{bytes_of, tape_at, sent_before, stream_packet}
-use Rattle.fw_run.specs.Actions.{Action, Pass, EndSecond, Die, Step, after_cycles, after_second, after_reset_entry}
+use Rattle.fw_run.specs.Actions.{Action, Pass, EndSecond, Die, Step}
+use Rattle.fw_run.specs.Afterwards.{after_cycles, after_second, after_reset_entry}
 use Rattle.fw_run.specs.Carrying.{next_cycle, SendsPackets}
 use Rattle.fw_run.specs.Cycles.{given_in, CountsThrough, ArePackets}
 use Rattle.fw_run.specs.Good.{IsGood}

@@ -8,7 +8,7 @@ use Rattle.fw_devices.specs.Entries.{row_of}
 use Rattle.fw_devices.specs.Resets.{Shows}
 use Rattle.fw_base.specs.Devices.{is_contender}
 use Rattle.fw_run.specs.State.{State, with_device, epoch_of}
-use Rattle.fw_run.specs.Actions.{Declares, beginning}
+use Rattle.fw_run.specs.Afterwards.{Declares, beginning}
 use Rattle.fw_run.specs.Good.{IsGood, IsLatest, AreDeclared, ManagerContends}
 use Rattle.fw_run.proofs.NextEntry.{entry_more}
 use Rattle.fw_run.proofs.Networks.{one_more, kind_before, kinds_more, made_more, shows_more}

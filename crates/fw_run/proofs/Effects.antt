@@ -11,7 +11,8 @@ use Rattle.fw_tree.specs.declared.facts.End.{End}
 use Rattle.fw_tree.specs.Topology.{IsJoined, Topology}
 use Rattle.fw_account.specs.Words.{node_of}
 use Rattle.fw_run.specs.declared.limits.TheConstants.{MOST_HALF_STEPS}
-use Rattle.fw_run.specs.Actions.{Action, AddCable, AddDevice, Answer, Ask, BecomeCandidate, CarryOut, Contend, Declares, Die, EjectTape, EndSecond, Finish, HalfStep, InsertTape, Joins, KeepBlock, Lose, Pass, Receive, ResetBus, Resets, Rest, SendCommand, SendFrame, SendPacket, ShowWord, Start, StartBreak, StartConnection, StartCycle, Step, TellLoss, TieReel, Unsettled, Withhold, after_loss, with_cassette, with_topology}
+use Rattle.fw_run.specs.Actions.{Action, AddCable, AddDevice, Answer, Ask, BecomeCandidate, CarryOut, Contend, Die, EjectTape, EndSecond, Finish, HalfStep, InsertTape, KeepBlock, Lose, Pass, Receive, ResetBus, Rest, SendCommand, SendFrame, SendPacket, ShowWord, Start, StartBreak, StartConnection, StartCycle, Step, TellLoss, TieReel, Unsettled, Withhold}
+use Rattle.fw_run.specs.Afterwards.{Declares, Joins, Resets, after_loss, with_cassette, with_topology}
 use Rattle.fw_run.specs.Decks.{FrameWrite, after_frame}
 use Rattle.fw_run.specs.Elected.{bid_answer}
 use Rattle.fw_run.specs.Entries.{ejected, inserted as inserted_entry, lost, shown_entry, unsettled}

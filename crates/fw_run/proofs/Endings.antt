@@ -32,7 +32,8 @@ use Rattle.fw_cmp.specs.Nodes.{node_of}
 use Rattle.fw_cmp.specs.Plugs.{is_full, has_broadcast, counter_of, channel_of, is_bit, shows_connection, one_less, remainder_of, half_of}
 use Rattle.fw_cmp.specs.Resets.{heard, after_hear, interrupted, decided, overtaken, current_reset, after_reset, lost_reset, after_lost_reset, state_reset}
 use Rattle.fw_cmp.specs.Stages.{hear, refuse, hear_reply}
-use Rattle.fw_cmp.specs.Turns.{without_node, absent_of, begin_managed, begin_present, begin_making, begin_leaving, begin_breaking, begin, begun, is_late, resumed_current, picked, ready, after_asking, after_next, current_for}
+use Rattle.fw_cmp.specs.Turns.{after_asking, after_next}
+use Rattle.fw_cmp.specs.Jobs.{without_node, absent_of, begin_managed, begin_present, begin_making, begin_leaving, begin_breaking, begin, begun, is_late, resumed_current, picked, ready, current_for}
 use Rattle.fw_cmp.specs.Requests.{access_of}
 use Rattle.fw_cmp.specs.declared.request.Access.{Access}
 use Rattle.fw_cmp.proofs.Picking.{picked_fits, picked_holds}

@@ -16,7 +16,7 @@ use Rattle.fw_run.specs.declared.order.Wanted.{Wanted}
 use Rattle.fw_run.specs.declared.order.Wanted.TheVariants.{PlugToPlug, BroadcastOut, BroadcastIn}
 use Rattle.fw_run.specs.State.{State, linked_number, is_linked, is_living}
 use Rattle.fw_run.specs.HalfSteps.{with_controller}
-use Rattle.fw_run.specs.Actions.{slot_of, start_of, with_connection, after_death}
+use Rattle.fw_run.specs.Afterwards.{slot_of, start_of, with_connection, after_death}
 use Rattle.fw_run.specs.Good.{IsGood, IsLatest, world_of}
 use Rattle.fw_run.proofs.Buses.{linked_small}
 use Rattle.fw_run.proofs.Counts.{silent}

@@ -36,7 +36,8 @@ use Rattle.fw_cmp.specs.Decisions.{restores}
 use Rattle.fw_cmp.specs.Fits.{ConnectionFits}
 use Rattle.fw_cmp.specs.Requests.{offset_of, target_of, swap_of, access_at, access_of, addressee_of}
 use Rattle.fw_csr.specs.Requests.{request_at}
-use Rattle.fw_cmp.specs.Turns.{is_empty, outcome_for, outcome_of, sending, asks_or_ends, rests, ready, next}
+use Rattle.fw_cmp.specs.Turns.{outcome_for, outcome_of, sending, asks_or_ends, rests, next}
+use Rattle.fw_cmp.specs.Jobs.{is_empty, ready}
 use Rattle.fw_node.specs.Packets.{packet_of, response_head, response_to, old_bytes}
 use Rattle.fw_step.specs.Requests.{PlugNumberFits, procedure_head}
 use Rattle.fw_step.proofs.Addressees.{node_is}

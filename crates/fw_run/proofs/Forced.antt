@@ -3,7 +3,7 @@ use Rattle.std.proofs.Common.{◌≡◌, ℕ, ◌<◌, ◌&&◌, not, List, leng
 use Rattle.fw_entry.specs.declared.entry.ResetEntry.{ResetEntry}
 use Rattle.fw_entry.specs.declared.entry.Timed.{Timed}
 use Rattle.fw_run.specs.declared.limits.TheConstants.{MOST_HALF_STEPS}
-use Rattle.fw_run.specs.Actions.{Resets, counted}
+use Rattle.fw_run.specs.Afterwards.{Resets, counted}
 use Rattle.fw_run.specs.Good.{IsGood, IsLatest}
 use Rattle.fw_run.specs.State.{State, epoch_of, linked_number, is_on, is_living, is_deaf}
 use Rattle.fw_run.proofs.Cables.{forced_may, living_on, on_is_bus, on_some}

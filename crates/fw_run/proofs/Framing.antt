@@ -8,7 +8,7 @@ use Rattle.fw_tape.specs.declared.system.TapeSystem.{TapeSystem}
 use Rattle.fw_tape.specs.Motion.{inserted}
 use Rattle.fw_account.specs.Words.{node_of}
 use Rattle.fw_devices.specs.Entries.{node_number}
-use Rattle.fw_run.specs.Actions.{with_cassette}
+use Rattle.fw_run.specs.Afterwards.{with_cassette}
 use Rattle.fw_fcp.specs.declared.frame.Frame.{Frame}
 use Rattle.fw_node.specs.Fcp.{IsSendable}
 use Rattle.fw_run.specs.Decks.{DeckState, Obeyed, FrameWrite, next_frame, after_frame, after_command, with_tape}

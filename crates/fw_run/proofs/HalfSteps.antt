@@ -13,7 +13,7 @@ use Rattle.std.proofs.lemmas.Bool.{cases_eq}
 use Rattle.fw_base.specs.Tables.{update}
 use Rattle.fw_entry.specs.declared.entry.ResetEntry.{ResetEntry}
 use Rattle.fw_cmp.specs.Resets.{heard}
-use Rattle.fw_run.specs.Actions.{stage_of, after_loss}
+use Rattle.fw_run.specs.Afterwards.{stage_of, after_loss}
 
 pub half_good : (s : State) (d : ℕ) → IsGood s → IsTrue (is_living s d) → IsFalse (is_deaf s d) → IsGood (after_half s d)
 half_good s d g lives quiet = go (s.controllers d).current refl

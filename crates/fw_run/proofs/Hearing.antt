@@ -20,7 +20,8 @@ use Rattle.fw_run.specs.Dubs.{hears_in}
 use Rattle.fw_run.specs.Hearing.{HasHearing}
 use Rattle.fw_run.specs.Good.{IsGood, IsLatest}
 use Rattle.fw_run.specs.State.{State, Declared, first_state, number_in, is_on}
-use Rattle.fw_run.specs.Actions.{Action, Resets, Step}
+use Rattle.fw_run.specs.Actions.{Action, Step}
+use Rattle.fw_run.specs.Afterwards.{Resets}
 use Rattle.fw_run.proofs.Buses.{row_place}
 use Rattle.fw_run.proofs.Grows.{stays_node}
 use Rattle.fw_run.proofs.Resets.{declaring, MayReset, reset_follows}

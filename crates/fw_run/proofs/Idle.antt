@@ -16,7 +16,8 @@ use Rattle.fw_run.proofs.Beside.{same_dub}
 use Rattle.fw_run.specs.Giving.{at_most}
 use Rattle.fw_run.specs.State.{State, while_talking, numbers_to, is_living, living, directory_of, is_deaf}
 use Rattle.fw_run.specs.HalfSteps.{HalfStep as Half, said, asks, half, half_of, taken, after_half, has_request, is_busy_at, is_unsettled}
-use Rattle.fw_run.specs.Actions.{Action, HalfStep, Rest, Step, Steps, counted}
+use Rattle.fw_run.specs.Actions.{Action, HalfStep, Rest, Step, Steps}
+use Rattle.fw_run.specs.Afterwards.{counted}
 use Rattle.fw_run.specs.Carrying.{half_steps_of, Rounds, none, round, rest}
 use Rattle.fw_run.specs.Good.{IsGood, Asks}
 use Rattle.fw_run.proofs.Counts.{same_counts}

@@ -20,7 +20,8 @@ use Rattle.fw_run.specs.declared.order.Transaction.{Transaction}
 use Rattle.fw_run.specs.State.{State, Declared, first_state, directory_of, is_linked, is_living, is_deaf}
 use Rattle.fw_run.specs.Spaces.{access_request, target_node, is_manager, bus_manager_id_after}
 use Rattle.fw_run.specs.HalfSteps.{HalfStep as Half, asks, half, half_of, after_half}
-use Rattle.fw_run.specs.Actions.{Action, Resets, after_reset_entry, slot_of, start_of, Step}
+use Rattle.fw_run.specs.Actions.{Action, Step}
+use Rattle.fw_run.specs.Afterwards.{Resets, after_reset_entry, slot_of, start_of}
 use Rattle.fw_run.specs.Good.{IsGood}
 use Rattle.fw_run.specs.Numbers.{CurrentShows, HasNumbers}
 use Rattle.fw_run.proofs.Endings.{next_shows, hears_shows, reset_shows}

@@ -29,7 +29,7 @@ use Rattle.fw_run.specs.Giving.{at_most}
 use Rattle.fw_run.specs.State.{State, Declared, is_linked, is_living, directory_of}
 use Rattle.fw_run.specs.Spaces.{transaction_head, access_request}
 use Rattle.fw_run.specs.HalfSteps.{HalfStep, said, asks, half, half_of}
-use Rattle.fw_run.specs.Actions.{Resets}
+use Rattle.fw_run.specs.Afterwards.{Resets}
 use Rattle.fw_run.specs.Headline.{IsAnswered, IsReadBy, IsReadIn}
 use Rattle.fw_run.specs.Good.{IsGood}
 use Rattle.fw_run.proofs.Hears.{heard_of, half_hears}

@@ -14,7 +14,8 @@ use Rattle.fw_run.specs.declared.order.Wanted.TheVariants.{PlugToPlug, Broadcast
 use Rattle.fw_run.specs.State.{State, first_state, device_in}
 use Rattle.fw_run.specs.Actions.{Action}
 use Rattle.fw_run.specs.Carrying.{Carries}
-use Rattle.fw_run.specs.Rules.{IsNamed, IsEnd, IsOrder, IsShown, plug_of, system_with, Transacts, Decides}
+use Rattle.fw_run.specs.Rules.{IsOrder, system_with, Transacts, Decides}
+use Rattle.fw_run.specs.Named.{IsNamed, IsEnd, IsShown, plug_of}
 use Rattle.fw_run.specs.Runs.{Run, begun, and_then}
 use Rattle.fw_run.specs.Desks.{DeskRelations, IsFunction}
 use Rattle.fw_run.specs.Given.{AreGiven}

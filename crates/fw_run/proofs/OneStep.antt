@@ -15,7 +15,8 @@ use Rattle.fw_run.specs.Giving.{at_most}
 use Rattle.fw_run.specs.State.{State, epoch_of, is_on, device_in, with_device, is_deaf}
 use Rattle.fw_run.specs.Spaces.{answer_packet, target_node, transaction_head, access_request, bus_manager_id_after}
 use Rattle.fw_run.specs.Streams.{cycle_start}
-use Rattle.fw_run.specs.Actions.{Action, Withhold, AddDevice, AddCable, ResetBus, StartConnection, StartBreak, HalfStep, Rest, Unsettled, Pass, EndSecond, Die, CarryOut, Lose, TellLoss, Start, Ask, Answer, ShowWord, SendCommand, SendFrame, Receive, InsertTape, EjectTape, StartCycle, SendPacket, BecomeCandidate, Contend, TieReel, KeepBlock, Finish, Resets, Declares, Joins, Answers, after_reset_entry, with_topology, Step, Steps, counting, beginning, counted, Takes}
+use Rattle.fw_run.specs.Actions.{Action, Withhold, AddDevice, AddCable, ResetBus, StartConnection, StartBreak, HalfStep, Rest, Unsettled, Pass, EndSecond, Die, CarryOut, Lose, TellLoss, Start, Ask, Answer, ShowWord, SendCommand, SendFrame, Receive, InsertTape, EjectTape, StartCycle, SendPacket, BecomeCandidate, Contend, TieReel, KeepBlock, Finish, Answers, Step, Steps}
+use Rattle.fw_run.specs.Afterwards.{Resets, Declares, Joins, after_reset_entry, with_topology, counting, beginning, counted, Takes}
 use Rattle.fw_base.specs.Tables.{update}
 use Rattle.fw_fcp.specs.declared.frame.Frame.{Frame}
 use Rattle.fw_account.specs.Words.{node_of}

@@ -11,7 +11,7 @@ use Rattle.fw_rounds.specs.HalfSteps.{AsksWhatStands}
 use Rattle.fw_run.specs.declared.order.Transaction.{Transaction}
 use Rattle.fw_run.specs.Entries.{unsettled, lost}
 use Rattle.fw_run.specs.State.{State, entered, is_linked, is_living, directory_of}
-use Rattle.fw_run.specs.Actions.{after_start}
+use Rattle.fw_run.specs.Afterwards.{after_start}
 use Rattle.fw_run.specs.Good.{IsGood, IsLatest}
 use Rattle.fw_run.proofs.Turns.{each_of, update_new, update_others, new_losses}
 

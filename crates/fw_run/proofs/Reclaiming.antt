@@ -22,7 +22,8 @@ use Rattle.fw_reclaim.proofs.Reclaim.{reclaims}
 use Rattle.fw_run.specs.Giving.{at_cycle}
 use Rattle.fw_run.specs.State.{State, Declared, first_state, is_living, directory_of, is_deaf}
 use Rattle.fw_run.specs.HalfSteps.{asks, taken}
-use Rattle.fw_run.specs.Actions.{Action, Resets, Step}
+use Rattle.fw_run.specs.Actions.{Action, Step}
+use Rattle.fw_run.specs.Afterwards.{Resets}
 use Rattle.fw_run.specs.Good.{IsGood, world_of}
 use Rattle.fw_run.specs.Reclaiming.{Reclaims, RestoresInSecond}
 use Rattle.fw_run.proofs.Changes.{turn_change, reset_is, steps_path}

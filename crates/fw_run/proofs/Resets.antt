@@ -14,7 +14,7 @@ use Rattle.fw_reclaim.proofs.Together.{goes_on_reclaiming}
 use Rattle.fw_rounds.proofs.Stands.{reset_stands}
 use Rattle.fw_run.specs.declared.limits.TheConstants.{MOST_RESETS}
 use Rattle.fw_run.specs.State.{State, Declared, epoch_of, linked_number, is_living, is_deaf}
-use Rattle.fw_run.specs.Actions.{Resets, after_reset_entry}
+use Rattle.fw_run.specs.Afterwards.{Resets, after_reset_entry}
 use Rattle.fw_run.specs.Good.{IsGood, IsLatest, AreDeclared, ManagerContends, world_of}
 use Rattle.fw_run.proofs.Decks.{reset_is}
 use Rattle.fw_run.proofs.Grows.{Follows, number_there, stays_linked, grows, grows_first, manager_contends}

@@ -21,7 +21,8 @@ use Rattle.fw_cmp.specs.declared.stage.Stage.TheVariants.{Begin, Made, Ended}
 use Rattle.fw_cmp.specs.declared.connection.Slot.TheVariants.{Gone}
 use Rattle.fw_cmp.specs.Controllers.{ControllerState, first_state as new_controller, slot_at, with_slot, is_restoring, IsHeard, Fits}
 use Rattle.fw_cmp.specs.Resets.{after_hear, state_reset as controller_reset, current_reset, lost_reset, overtaken, interrupted, decided}
-use Rattle.fw_cmp.specs.Turns.{next, after_next, is_busy, waiting_break, is_break}
+use Rattle.fw_cmp.specs.Turns.{next, after_next, is_busy}
+use Rattle.fw_cmp.specs.Jobs.{waiting_break, is_break}
 use Rattle.fw_cmp.proofs.Resting.{idle_means, waiting_means}
 use Rattle.fw_rounds.specs.Accounts.{situation_of}
 use Rattle.fw_rounds.specs.Rounds.{rounds, times, IsRound, NoneToRestore, AllReset}
@@ -36,7 +37,8 @@ use Rattle.fw_run.specs.declared.order.Order.TheVariants.{Settle}
 use Rattle.fw_run.specs.Giving.{at_cycle}
 use Rattle.fw_run.specs.State.{State, Clock, first_state, numbers_to, linked_number, is_living, living, list_to, manager_in, directory_of, is_deaf}
 use Rattle.fw_run.specs.HalfSteps.{asks, taken, half_of, after_half, has_request, is_unsettled}
-use Rattle.fw_run.specs.Actions.{Action, HalfStep, Unsettled, Steps, counted}
+use Rattle.fw_run.specs.Actions.{Action, HalfStep, Unsettled, Steps}
+use Rattle.fw_run.specs.Afterwards.{counted}
 use Rattle.fw_run.specs.Carrying.{half_steps_of, Rounds}
 use Rattle.fw_run.specs.Good.{IsGood}
 use Rattle.fw_run.specs.Settling.{HasEnoughRounds}

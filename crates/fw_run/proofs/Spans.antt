@@ -19,7 +19,8 @@ use Rattle.fw_run.specs.declared.order.Transaction.{Transaction}
 use Rattle.fw_run.specs.Giving.{at_most}
 use Rattle.fw_run.specs.State.{State, Declared, epoch_of, is_linked}
 use Rattle.fw_run.specs.Spaces.{script_head, access_request, target_node, transaction_head, answer_packet, reply_from}
-use Rattle.fw_run.specs.Actions.{Action, Resets, AccessFits, Step, Steps}
+use Rattle.fw_run.specs.Actions.{Action, AccessFits, Step, Steps}
+use Rattle.fw_run.specs.Afterwards.{Resets}
 use Rattle.fw_run.specs.Good.{IsGood, AreDeclared}
 use Rattle.fw_run.specs.Numbers.{HasNumbers}
 use Rattle.fw_run.proofs.Along.{step_led}

@@ -4,7 +4,8 @@ use Rattle.fw_entry.specs.declared.entry.Timed.{Timed}
 use Rattle.fw_run.specs.declared.limits.TheConstants.{MOST_HALF_STEPS}
 use Rattle.fw_run.specs.State.{State, is_living}
 use Rattle.fw_run.specs.HalfSteps.{after_half}
-use Rattle.fw_run.specs.Actions.{Action, Withhold, AddDevice, AddCable, ResetBus, StartConnection, StartBreak, HalfStep, Rest, Unsettled, Pass, EndSecond, Die, CarryOut, Lose, TellLoss, Start, Ask, Answer, ShowWord, SendCommand, SendFrame, Receive, InsertTape, EjectTape, StartCycle, SendPacket, BecomeCandidate, Contend, TieReel, KeepBlock, Finish, Step, Steps, counted}
+use Rattle.fw_run.specs.Actions.{Action, Withhold, AddDevice, AddCable, ResetBus, StartConnection, StartBreak, HalfStep, Rest, Unsettled, Pass, EndSecond, Die, CarryOut, Lose, TellLoss, Start, Ask, Answer, ShowWord, SendCommand, SendFrame, Receive, InsertTape, EjectTape, StartCycle, SendPacket, BecomeCandidate, Contend, TieReel, KeepBlock, Finish, Step, Steps}
+use Rattle.fw_run.specs.Afterwards.{counted}
 use Rattle.fw_run.specs.Frames.{command_write}
 use Rattle.fw_run.specs.Spaces.{bus_manager_id_after}
 use Rattle.fw_run.specs.Good.{IsGood}

@@ -1,7 +1,7 @@
 -- What a half step is: of a controller that hears, of one that has lost a response and waits, or of one that forces a bus reset.
 use Rattle.std.proofs.Common.{◌≡◌, ℕ, List, [], Bool, true, false, refl, IsTrue, IsFalse}
 use Rattle.fw_entry.specs.declared.entry.Timed.{Timed}
-use Rattle.fw_run.specs.Actions.{Takes, Resets, counted}
+use Rattle.fw_run.specs.Afterwards.{Takes, Resets, counted}
 use Rattle.fw_run.specs.Giving.{at_most}
 use Rattle.fw_run.specs.HalfSteps.{half, after_half, is_waiting}
 use Rattle.fw_run.specs.State.{State, is_deaf}

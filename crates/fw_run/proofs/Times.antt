@@ -11,7 +11,7 @@ use Rattle.fw_run.specs.declared.limits.TheConstants.{MOST_HALF_STEPS, MOST_RESE
 use Rattle.fw_run.specs.Dubs.{dub_after_second}
 use Rattle.fw_run.specs.Entries.{second_over}
 use Rattle.fw_run.specs.State.{State, first_state, entered, while_talking, directory_of, epoch_of}
-use Rattle.fw_run.specs.Actions.{after_cycles, after_second, counted, counting, beginning}
+use Rattle.fw_run.specs.Afterwards.{after_cycles, after_second, counted, counting, beginning}
 use Rattle.fw_run.specs.Good.{IsGood, IsLatest, world_of}
 use Rattle.fw_tape.specs.Blocks.{blocks_among}
 use Rattle.fw_run.proofs.Counts.{silent}

@@ -16,7 +16,7 @@ use Rattle.fw_cmp.specs.Starts.{start, started, break_fault, break_started, with
 use Rattle.fw_cmp.specs.Turns.{next}
 use Rattle.fw_run.specs.declared.order.Wanted.{Wanted}
 use Rattle.fw_run.specs.declared.order.Wanted.TheVariants.{PlugToPlug, BroadcastOut, BroadcastIn}
-use Rattle.fw_run.specs.Actions.{stage_of, after_loss, after_reset_entry, after_death, with_connection, slot_of, start_of}
+use Rattle.fw_run.specs.Afterwards.{stage_of, after_loss, after_reset_entry, after_death, with_connection, slot_of, start_of}
 use Rattle.fw_run.specs.Good.{IsGood}
 use Rattle.fw_run.specs.HalfSteps.{HalfStep, half, half_of, asks, after_half, has_request, with_controller}
 use Rattle.fw_run.specs.State.{State, directory_of, is_deaf, is_living}

@@ -11,7 +11,7 @@ use Rattle.fw_reclaim.specs.Worlds.{Withholds, Withholding}
 use Rattle.fw_reclaim.proofs.Together.{goes_on_reclaiming}
 use Rattle.fw_run.specs.declared.order.Wanted.{Wanted}
 use Rattle.fw_run.specs.declared.order.Wanted.TheVariants.{PlugToPlug, BroadcastOut, BroadcastIn}
-use Rattle.fw_run.specs.Actions.{slot_of}
+use Rattle.fw_run.specs.Afterwards.{slot_of}
 use Rattle.fw_run.specs.Entries.{withheld}
 use Rattle.fw_run.specs.State.{State, entered, linked_number}
 use Rattle.fw_run.specs.Good.{IsGood, IsLatest, world_of}

@@ -11,10 +11,12 @@ pub mod Frames
 pub mod Streams
 pub mod Bidding
 pub mod Recording
+pub mod Afterwards
 pub mod Actions
 pub mod Given
 pub mod Units
 pub mod Carrying
+pub mod Named
 pub mod Rules
 pub mod Runs
 pub mod Logs

@@ -4,7 +4,7 @@ use Rattle.fw_entry.specs.declared.entry.Timed.{Timed}
 use Rattle.fw_script.specs.declared.command.Command.{Command}
 use Rattle.fw_script.specs.declared.command.Command.TheVariants as Commands
 use Rattle.fw_cmp.specs.Controllers.{slot_at, is_restoring}
-use Rattle.fw_cmp.specs.Turns.{waiting_break}
+use Rattle.fw_cmp.specs.Jobs.{waiting_break}
 use Rattle.fw_rounds.specs.Accounts.{situation_of}
 use Rattle.fw_rounds.specs.Rounds.{connections_to_restore}
 use Rattle.fw_run.specs.declared.order.Order.TheVariants.{Settle}

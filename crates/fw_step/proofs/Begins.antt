@@ -15,7 +15,7 @@ use Rattle.fw_cmp.specs.declared.stage.Stage.TheVariants.{Begin, ReadOutput, Rea
 use Rattle.fw_cmp.specs.Connections.{output_of, input_of, is_listen}
 use Rattle.fw_cmp.specs.Decisions.{restores}
 use Rattle.fw_cmp.specs.Holdings.{pending_of, has_output, has_input, job_outputs, job_inputs}
-use Rattle.fw_cmp.specs.Turns.{absent_of, begin_managed, begin_making, begin_leaving, own_flow, is_undecided}
+use Rattle.fw_cmp.specs.Jobs.{absent_of, begin_managed, begin_making, begin_leaving, own_flow, is_undecided}
 use Rattle.fw_cmp.specs.Controllers.{count_of, breaking_job}
 use Rattle.fw_step.specs.Holding.{Holding, Holds}
 use Rattle.fw_step.specs.Registers.{has_manager}

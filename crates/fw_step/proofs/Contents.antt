@@ -18,7 +18,8 @@ use Rattle.fw_cmp.specs.declared.stage.Stage.{Stage}
 use Rattle.fw_cmp.specs.declared.stage.Stage.TheVariants.{Made, Ended}
 use Rattle.fw_cmp.specs.Controllers.{ControllerState, slot_at, job_for}
 use Rattle.fw_cmp.specs.Requests.{access_of, addressee_of}
-use Rattle.fw_cmp.specs.Turns.{job_current, slot_of_task, to_restore, waiting_break, is_empty, takes_task, takes_waiting, takes_next, picked, is_over, resumed_current, going, after_asking, after_answer, after_next, made_outcome, outcome_for, outcome_of, asks_or_ends, sending, answer_of, next}
+use Rattle.fw_cmp.specs.Turns.{after_asking, after_answer, after_next, made_outcome, outcome_for, outcome_of, asks_or_ends, sending, answer_of, next}
+use Rattle.fw_cmp.specs.Jobs.{job_current, slot_of_task, to_restore, waiting_break, is_empty, takes_task, takes_waiting, takes_next, picked, is_over, resumed_current, going}
 use Rattle.fw_step.specs.Wants.{is_want, is_want_outcome, wants, is_own, IsContent}
 use Rattle.fw_step.proofs.Turns.{at_rest}
 use Rattle.fw_step.proofs.Wants.{resumed_wants}

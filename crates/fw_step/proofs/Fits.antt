@@ -24,7 +24,8 @@ use Rattle.fw_cmp.specs.Fits.{SlotFits, FlowFits, AskedFits, UnitsFit, JobFits, 
 use Rattle.fw_cmp.specs.Requests.{access_of}
 use Rattle.fw_cmp.specs.Resets.{after_hear}
 use Rattle.fw_cmp.specs.Stages.{hear_reply}
-use Rattle.fw_cmp.specs.Turns.{absent_of, begin_managed, begin_making, begin_leaving, begin_breaking, begin, begun, own_flow, is_late, resumed, resumed_current, picked, going, ready, after_asking, after_answer, after_next}
+use Rattle.fw_cmp.specs.Turns.{after_asking, after_answer, after_next}
+use Rattle.fw_cmp.specs.Jobs.{absent_of, begin_managed, begin_making, begin_leaving, begin_breaking, begin, begun, own_flow, is_late, resumed, resumed_current, picked, going, ready}
 use Rattle.fw_cmp.proofs.Picking.{picked_fits}
 use Rattle.fw_cmp.proofs.Going.{going_fits}
 use Rattle.fw_cmp.proofs.Ended.{ended_fits}

@@ -24,7 +24,8 @@ use Rattle.fw_cmp.specs.declared.directory.Directory.{Directory}
 use Rattle.fw_cmp.specs.declared.job.Job.{Job}
 use Rattle.fw_cmp.specs.declared.stage.Stage.{Stage}
 use Rattle.fw_cmp.specs.Controllers.{ControllerState, Fits, IsHeard}
-use Rattle.fw_cmp.specs.Turns.{ready, after_asking, after_answer, after_next, outcome_of, sending, asks_or_ends, rests as rests_on, answer_of, next}
+use Rattle.fw_cmp.specs.Turns.{after_asking, after_answer, after_next, outcome_of, sending, asks_or_ends, rests as rests_on, answer_of, next}
+use Rattle.fw_cmp.specs.Jobs.{ready}
 use Rattle.fw_step.specs.Controllers.{ControllerInStep, IsDirectory, others_of}
 use Rattle.fw_step.proofs.Turns.{asking}
 use Rattle.fw_step.proofs.Addressees.{target_is, addressee_there, number_at, node_is}

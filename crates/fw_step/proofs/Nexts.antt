@@ -32,7 +32,8 @@ use Rattle.fw_cmp.specs.declared.job.Job.{Job}
 use Rattle.fw_cmp.specs.declared.job.Purpose.TheVariants.{Make, Restore, Break}
 use Rattle.fw_cmp.specs.declared.stage.Stage.{Stage}
 use Rattle.fw_cmp.specs.Controllers.{ControllerState, slot_at, is_restoring, job_for, making_job, restoring_job, breaking_job, Fits, IsHeard}
-use Rattle.fw_cmp.specs.Turns.{job_current, takes_slot, slot_of_task, takes_task, to_restore, is_break, waiting_break, is_empty, takes_making, takes_waiting, takes_next, picked, resumed_current, going, ready, after_asking, after_answer}
+use Rattle.fw_cmp.specs.Turns.{after_asking, after_answer}
+use Rattle.fw_cmp.specs.Jobs.{job_current, takes_slot, slot_of_task, takes_task, to_restore, is_break, waiting_break, is_empty, takes_making, takes_waiting, takes_next, picked, resumed_current, going, ready}
 use Rattle.fw_cmp.proofs.Jobs.{makes_removed, breaks_removed}
 use Rattle.fw_cmp.proofs.Picking.{Suits, task_of, suits}
 use Rattle.fw_step.specs.Controllers.{ControllerInStep, IsDirectory, TurnInStep}

@@ -18,7 +18,7 @@ use Rattle.fw_cmp.specs.Connections.{output_of}
 use Rattle.fw_cmp.specs.Controllers.{ControllerState, slot_at, count_of, making_job, restoring_job, breaking_job, job_for}
 use Rattle.fw_cmp.specs.Decisions.{restores}
 use Rattle.fw_cmp.specs.Holdings.{is_current_slot, stands_at_output, stands_at_input, slot_outputs, slot_inputs}
-use Rattle.fw_cmp.specs.Turns.{begin_making, begin_leaving, is_late, resumed}
+use Rattle.fw_cmp.specs.Jobs.{begin_making, begin_leaving, is_late, resumed}
 use Rattle.fw_step.specs.Holding.{Holds}
 use Rattle.fw_step.specs.Registers.{has_manager}
 use Rattle.fw_step.specs.InStep.{Others, MayReclaim, IsInStep}

@@ -22,7 +22,7 @@ use Rattle.fw_cmp.specs.declared.connection.Slot.TheVariants.{Free, Making, Stan
 use Rattle.fw_cmp.specs.declared.directory.Directory.{Directory}
 use Rattle.fw_cmp.specs.declared.job.Purpose.{Purpose}
 use Rattle.fw_cmp.specs.declared.job.Purpose.TheVariants.{Make, Restore, Break}
-use Rattle.fw_cmp.specs.Turns.{own_flow, absent_of, begin_managed, begin_present, begin_making, begin_leaving, begin_breaking, is_over, is_late, begun, resumed}
+use Rattle.fw_cmp.specs.Jobs.{own_flow, absent_of, begin_managed, begin_present, begin_making, begin_leaving, begin_breaking, is_over, is_late, begun, resumed}
 use Rattle.fw_cmp.specs.Stages.{hear, refuse}
 use Rattle.fw_step.specs.Wants.{is_want, leads_to_want, wants}
 

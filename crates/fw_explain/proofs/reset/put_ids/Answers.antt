@@ -1,5 +1,5 @@
 use Rattle.std.proofs.Common.{◌<◌, length, arith}
-use Rattle.fw_explain.specs.Lines.{id_text}
+use Rattle.fw_explain.specs.Resets.{id_text}
 use Rattle.fw_explain.proofs.LoopLaws.{next_id, stepped}
 use Rattle.fw_explain.proofs.reset.put_ids.Goals as goal
 

@@ -1,5 +1,5 @@
 use Rattle.std.proofs.Common.{◌≡◌, ◌++◌, flat_map, take}
-use Rattle.fw_explain.specs.Lines.{id_text}
+use Rattle.fw_explain.specs.Resets.{id_text}
 use Rattle.fw_explain.proofs.reset.put_ids.Given as goal
 
 abbrev pub invariant-loop-i : goal.invariant-loop-i

@@ -1,6 +1,6 @@
 use Rattle.std.proofs.Common.{◌++◌, ◌+◌, ◌∙◌, ap, sym, append_assoc, slice_index, List, ℕ}
 use Rattle.std.proofs.lemmas.List.{append-nil}
-use Rattle.fw_explain.specs.Lines.{first_ports, port_text}
+use Rattle.fw_explain.specs.Resets.{first_ports, port_text}
 use Rattle.fw_explain.proofs.LoopLaws.{no_ports, next_port}
 use Rattle.fw_explain.proofs.reset.put_ports.Goals as goal
 

@@ -1,5 +1,5 @@
 use Rattle.std.proofs.Common.{◌≡◌, ◌++◌}
-use Rattle.fw_explain.specs.Lines.{first_ports}
+use Rattle.fw_explain.specs.Resets.{first_ports}
 use Rattle.fw_explain.proofs.reset.put_ports.Given as goal
 
 abbrev pub invariant-loop-i : goal.invariant-loop-i

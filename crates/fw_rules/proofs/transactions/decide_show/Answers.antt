@@ -2,7 +2,8 @@
 use Rattle.std.proofs.Common.{◌≡◌, ℕ, true, false, Some, None, Err, sym, subst, ap, ◌∙◌, rules}
 use Rattle.std.proofs.lemmas.Bool.{true≢false}
 use Rattle.fw_csr.specs.declared.reply.Reply.{Reply}
-use Rattle.fw_run.specs.Rules.{Decides, IsShown}
+use Rattle.fw_run.specs.Rules.{Decides}
+use Rattle.fw_run.specs.Named.{IsShown}
 use Rattle.fw_run.specs.declared.rule.RuleFault.TheVariants.{NoRegister}
 use Rattle.fw_script.specs.declared.command.Command.TheVariants as Commands
 use Rattle.fw_machine.specs.Stands.{is_linked_in, read_in}

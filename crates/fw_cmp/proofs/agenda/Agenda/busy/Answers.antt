@@ -2,7 +2,8 @@ use Rattle.std.proofs.Common.{◌≡◌, List, true, sym, ◌∙◌, ap, subst}
 use Rattle.fw_cmp.specs.declared.current.Current.{Current}
 use Rattle.fw_cmp.specs.declared.current.Task.{Task}
 use Rattle.fw_cmp.specs.Controllers.{ControllerState, IsHeard, Fits}
-use Rattle.fw_cmp.specs.Turns.{can_pick, next, is_busy}
+use Rattle.fw_cmp.specs.Turns.{next, is_busy}
+use Rattle.fw_cmp.specs.Jobs.{can_pick}
 use Rattle.fw_cmp.proofs.Picking.{at_rest}
 use Rattle.fw_cmp.proofs.Busy.{rest_busy, job_busy}
 use Rattle.fw_cmp.proofs.agenda.Agenda.busy.Goals as goal

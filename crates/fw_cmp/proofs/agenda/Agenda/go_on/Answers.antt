@@ -1,7 +1,7 @@
 use Rattle.std.proofs.Common.{◌≡◌, refl, ap, sym, subst, ◌∙◌}
 use Rattle.fw_cmp.specs.declared.current.Current.{Current}
 use Rattle.fw_cmp.specs.Controllers.{ControllerState, CurrentFits, IsHeard}
-use Rattle.fw_cmp.specs.Turns.{going, resumed_current}
+use Rattle.fw_cmp.specs.Jobs.{going, resumed_current}
 use Rattle.fw_cmp.proofs.Fitting.{current_slots}
 use Rattle.fw_cmp.proofs.Going.{going_fits}
 use Rattle.fw_cmp.proofs.Ready.{with_slots, resumed_slots}

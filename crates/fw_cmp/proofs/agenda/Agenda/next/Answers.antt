@@ -1,6 +1,7 @@
 use Rattle.std.proofs.Common.{◌≡◌, ap, sym, subst, ◌∙◌}
 use Rattle.fw_cmp.specs.declared.outcome.Next.TheVariants.{Waiting}
-use Rattle.fw_cmp.specs.Turns.{going, ready, answer_of, after_answer, next, after_next}
+use Rattle.fw_cmp.specs.Turns.{answer_of, after_answer, next, after_next}
+use Rattle.fw_cmp.specs.Jobs.{going, ready}
 use Rattle.fw_cmp.specs.Holdings.{CurrentReached, CanGoOn}
 use Rattle.fw_cmp.proofs.GoingOn.{next_goes_on}
 use Rattle.fw_cmp.specs.declared.outcome.Next.{Next}

@@ -2,7 +2,7 @@ use Rattle.std.proofs.Common.{◌≡◌, ap, sym, subst, ◌∙◌}
 use Rattle.fw_cmp.specs.declared.current.Current.{Current}
 use Rattle.fw_cmp.specs.declared.current.Current.TheVariants.{Nothing}
 use Rattle.fw_cmp.specs.Controllers.{ControllerState, Fits, IsHeard}
-use Rattle.fw_cmp.specs.Turns.{picked}
+use Rattle.fw_cmp.specs.Jobs.{picked}
 use Rattle.fw_cmp.proofs.Picking.{at_rest, picked_fits}
 use Rattle.fw_cmp.proofs.Ready.{is_picked}
 use Rattle.fw_cmp.proofs.agenda.Agenda.take.Goals as goal
