@@ -12,6 +12,7 @@ use Rattle.fw_entry.specs.declared.entry.Entry.{Entry}
 use Rattle.fw_entry.specs.declared.entry.Entry.TheVariants.{Reset, Async, Event, Outcome}
 use Rattle.std.specs.Prelude.{ℕ, true, false, Option, Some, option_map, List, [], ◌∷◌, ◌++◌}
 use Rattle.std.specs.Int.{to_be_bytes, w32}
+use Rattle.fw_words.specs.declared.swap.TheConstants.{COMPARE_SWAP}
 use Rattle.fw_account.specs.Account.{Account}
 use Rattle.fw_account.specs.Words.{BandwidthAvailable, ChannelsAvailable, OutputPlug, InputPlug, word_of}
 use Rattle.fw_account.specs.Fold.{account_of}
@@ -22,7 +23,7 @@ head = record { destination = 0xffc0; tl = label_code Procedure; rt = 1; pri = 0
 
 -- a compare_swap that succeeds, and a read
 abbrev pub swap : ℕ → ℕ → ℕ → List Entry
-swap address arg new = Async (Lock head address 2 (to_be_bytes w32 arg ++ to_be_bytes w32 new)) ∷ Async (LockReply head 0 2 (to_be_bytes w32 arg)) ∷ []
+swap address arg new = Async (Lock head address COMPARE_SWAP (to_be_bytes w32 arg ++ to_be_bytes w32 new)) ∷ Async (LockReply head 0 COMPARE_SWAP (to_be_bytes w32 arg)) ∷ []
 
 -- a quadlet read of an address that shows this word
 abbrev pub read : ℕ → ℕ → List Entry

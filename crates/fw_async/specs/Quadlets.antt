@@ -7,11 +7,12 @@ use Rattle.fw_async.specs.declared.packet.Packet.TheVariants.{ReadQuadlet, ReadQ
 use Rattle.fw_async.specs.declared.quadlets.QuadletRequest.{QuadletRequest}
 use Rattle.fw_words.specs.declared.swap.Swap.{Swap}
 use Rattle.fw_words.specs.Swaps.{swap_bytes}
+use Rattle.fw_words.specs.declared.swap.TheConstants.{COMPARE_SWAP}
 
 -- the packet of a quadlet read at an offset, or of a quadlet compare_swap there
 abbrev pub request_with : Head → ℕ → Option Swap → Packet
 request_with h offset None = ReadQuadlet h offset
-request_with h offset (Some s) = Lock h offset 2 (swap_bytes s)
+request_with h offset (Some s) = Lock h offset COMPARE_SWAP (swap_bytes s)
 
 -- the packet that asks it
 abbrev pub request_packet : QuadletRequest → Packet
@@ -28,4 +29,4 @@ old_value (Some old) = to_be_bytes w32 old
 
 -- the response to a compare_swap, with the old value where there is one
 abbrev pub swap_reply : Head → ℕ → Option ℕ → Packet
-swap_reply h rcode old = LockReply h rcode 2 (old_value old)
+swap_reply h rcode old = LockReply h rcode COMPARE_SWAP (old_value old)

@@ -94,14 +94,14 @@ answered_stands m s x g st to free = record {
 -- an access that is not guarded is at no register of procedures, and spares BUS_MANAGER_ID
 free_of : (b : Bool) (a : Access) → IsFalse (is_guarded_by b a) → IsFalse (is_guarded a)
 free_of b (Read offset) free = refl
-free_of b (Swap offset argument new) free = neither (is_guarded_at offset) (b && (offset == 0x21C)) free
+free_of b (Swap offset swap) free = neither (is_guarded_at offset) (b && (offset == 0x21C)) free
   where
     neither : (p q : Bool) → (p || q) ≡ false → p ≡ false
     neither p q e = grind (arith, e)
 
 spared_of : (b : Bool) (e : Election) (a : Access) → b ≡ e.begun → IsFalse (is_guarded_by b a) → IsSpared e a
 spared_of b e (Read offset) same free = tt
-spared_of b e (Swap offset argument new) same free = λ on. other (is_guarded_at offset) b (offset == 0x21C) (same ∙ on) free
+spared_of b e (Swap offset swap) same free = λ on. other (is_guarded_at offset) b (offset == 0x21C) (same ∙ on) free
   where
     other : (p q r : Bool) → q ≡ true → (p || (q && r)) ≡ false → r ≡ false
     other p q r on e = grind (arith, on, e)

@@ -36,7 +36,7 @@ use Rattle.fw_machine.proofs.Nodes.{space_as, node_as, on_within, node_has, link
 
 pub request_is : (h : Head) (a : Access) → request_in (packet_of h (access_request a)) ≡ Some (access_request a)
 request_is h (Read offset) = refl
-request_is h (Swap offset argument new) = refl
+request_is h (Swap offset swap) = refl
 
 either_same : (b : Bool) (word : ℕ) → cond b word word ≡ word
 either_same true word = refl
@@ -49,7 +49,7 @@ elsewhere false changed word off = refl
 -- a read changes nothing, and an unguarded swap no guarded register
 pub kept : (a : Access) (offset at word : ℕ) → IsFalse (is_guarded a) → is_guarded_at offset ≡ true → at ≡ first_address + offset → after_at at (access_request a) word ≡ word
 kept (Read here) offset at word free guarded is = either_same (first_address + here == at) word
-kept (Swap here argument new) offset at word free guarded is =
+kept (Swap here swap) offset at word free guarded is =
     elsewhere (first_address + here == at) _ word (λ same. let e : here ≡ offset = grind (arith, nat_tests) in true≢false (sym guarded ∙ ap is_guarded_at (sym e) ∙ free))
 
 plugs_few : (kind : DeviceKind) → (output_plugs_of kind ≤ 1) × (input_plugs_of kind ≤ 4)

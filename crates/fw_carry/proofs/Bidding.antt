@@ -320,7 +320,7 @@ asked_now Answered on = absurd (let wrong : false ≡ true = on in cc wrong)
 
 -- the swap of a bid, as a transaction of the script would ask for it
 abbrev swap_of : State → ℕ → ℕ → Transaction
-swap_of s d manager = record { from = d; to = manager; access = Accesses.Swap 0x21C 0x3F (own_node s d) }
+swap_of s d manager = record { from = d; to = manager; access = Accesses.Swap 0x21C (record { argument = 0x3F; new = own_node s d }) }
 
 is_own : (o : Option ℕ) (n : ℕ) → o ≡ Some n → is_number o n ≡ true
 is_own o n is = ap (λ z. is_number z n) is ∙ same_epoch n

@@ -32,10 +32,10 @@ fn request_of(access: Access) -> Request<'static>
         Access::Read(offset) => Request::Read {
             offset: REGISTER_SPACE + u64::from(offset),
         },
-        Access::Swap(offset, argument, new) => {
+        Access::Swap(offset, swap) => {
             let mut bytes = Bytes16::new();
-            bytes.append(&put_quadlet(Quadlet(argument)));
-            bytes.append(&put_quadlet(Quadlet(new)));
+            bytes.append(&put_quadlet(Quadlet(swap.argument)));
+            bytes.append(&put_quadlet(Quadlet(swap.new)));
             Request::Lock {
                 offset: REGISTER_SPACE + u64::from(offset),
                 function: COMPARE_SWAP,

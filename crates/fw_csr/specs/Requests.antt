@@ -4,6 +4,7 @@ use Rattle.fw_csr.specs.declared.request.Request.{Request}
 use Rattle.fw_csr.specs.declared.request.Request.TheVariants.{Read, ReadBlock, Write, WriteBlock, Lock}
 use Rattle.fw_words.specs.declared.swap.Swap.{Swap}
 use Rattle.fw_words.specs.Swaps.{quadlet_swap, swap_bytes}
+use Rattle.fw_words.specs.declared.swap.TheConstants.{COMPARE_SWAP}
 
 -- the offset that a request is at
 abbrev pub offset_of : Request → ℕ
@@ -21,4 +22,4 @@ swap_in _ = None
 -- the read of the quadlet at an offset, or its compare_swap
 abbrev pub request_at : ℕ → Option Swap → Request
 request_at offset None = Read offset
-request_at offset (Some s) = Lock offset 2 (swap_bytes s)
+request_at offset (Some s) = Lock offset COMPARE_SWAP (swap_bytes s)

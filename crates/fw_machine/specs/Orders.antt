@@ -33,12 +33,12 @@ joins_in m a b = if is_node m.devices.nodes a.device then not (is_node m.devices
 -- a swap at a register that only controllers' procedures swap
 abbrev pub is_guarded : Access → Bool
 is_guarded (Read offset) = false
-is_guarded (Swap offset argument new) = is_guarded_at offset
+is_guarded (Swap offset swap) = is_guarded_at offset
 
 -- or, from the first candidate on, a swap of BUS_MANAGER_ID
 abbrev pub is_guarded_by : Bool → Access → Bool
 is_guarded_by begun (Read offset) = false
-is_guarded_by begun (Swap offset argument new) = is_guarded_in begun offset
+is_guarded_by begun (Swap offset swap) = is_guarded_in begun offset
 
 -- a deck or a camcorder, on the bus or off
 abbrev pub has_deck_in : Network → ℕ → Bool

@@ -153,21 +153,21 @@ transaction_breaks s from to (Read offset) d e p q NoSuchConnection living linke
 transaction_breaks s from to (Read offset) d e p q TableFull living linked free h = h.2
 transaction_breaks s from to (Read offset) d e p q Busy living linked free h = h.2
 transaction_breaks s from to (Read offset) d e p q g living linked free h = h
-transaction_breaks s from to (Swap offset argument new) d e p q UnknownName living linked free h = all_known s (from ∷ to ∷ []) ((d, p), ((e, q), tt)) h
-transaction_breaks s from to (Swap offset argument new) d e p q NotController living linked free h = is_so s (is_living s) from d p (living refl) h
-transaction_breaks s from to (Swap offset argument new) d e p q OffBus living linked free h = is_so s (is_linked s) to e q (linked refl) h
-transaction_breaks s from to (Swap offset argument new) d e p q NotOwnPlug living linked free h = h.2
-transaction_breaks s from to (Swap offset argument new) d e p q NoSuchConnection living linked free h = h.2
-transaction_breaks s from to (Swap offset argument new) d e p q TableFull living linked free h = h.2
-transaction_breaks s from to (Swap offset argument new) d e p q Busy living linked free h = h.2
-transaction_breaks s from to (Swap offset argument new) d e p q Guarded living linked free h = true≢false (sym h ∙ free refl)
-transaction_breaks s from to (Swap offset argument new) d e p q g living linked free h = h
+transaction_breaks s from to (Swap offset swap) d e p q UnknownName living linked free h = all_known s (from ∷ to ∷ []) ((d, p), ((e, q), tt)) h
+transaction_breaks s from to (Swap offset swap) d e p q NotController living linked free h = is_so s (is_living s) from d p (living refl) h
+transaction_breaks s from to (Swap offset swap) d e p q OffBus living linked free h = is_so s (is_linked s) to e q (linked refl) h
+transaction_breaks s from to (Swap offset swap) d e p q NotOwnPlug living linked free h = h.2
+transaction_breaks s from to (Swap offset swap) d e p q NoSuchConnection living linked free h = h.2
+transaction_breaks s from to (Swap offset swap) d e p q TableFull living linked free h = h.2
+transaction_breaks s from to (Swap offset swap) d e p q Busy living linked free h = h.2
+transaction_breaks s from to (Swap offset swap) d e p q Guarded living linked free h = true≢false (sym h ∙ free refl)
+transaction_breaks s from to (Swap offset swap) d e p q g living linked free h = h
 
 pub transaction_guarded : (s : State) (from to : List ℕ) (a : Access) (d e : ℕ) → IsNamed s from d → IsNamed s to e → IsTrue (is_living s d) → IsTrue (is_linked s e) → IsTrue (is_guarded_by s.election.begun a)
     → Decides s (command_of from to a) (Err Guarded)
 transaction_guarded s from to (Read offset) d e p q living linked guarded = absurd (false≢true guarded)
-transaction_guarded s from to (Swap offset argument new) d e p q living linked guarded =
-    (guarded, λ g lt. transaction_breaks s from to (Swap offset argument new) d e p q g (λ same. living) (λ same. linked) (λ same. absurd (is_another Guarded g Guarded lt (omega arith) same)))
+transaction_guarded s from to (Swap offset swap) d e p q living linked guarded =
+    (guarded, λ g lt. transaction_breaks s from to (Swap offset swap) d e p q g (λ same. living) (λ same. linked) (λ same. absurd (is_another Guarded g Guarded lt (omega arith) same)))
 
 pub transaction_off : (s : State) (from to : List ℕ) (a : Access) (d e : ℕ) → IsNamed s from d → IsNamed s to e → IsTrue (is_living s d) → IsFalse (is_linked s e)
     → Decides s (command_of from to a) (Err OffBus)
@@ -176,17 +176,17 @@ transaction_off s from to (Read offset) d e p q living off = (
   λ g lt. transaction_breaks s from to (Read offset) d e p q g (λ same. living)
       (λ same. absurd (is_another OffBus g OffBus lt (omega arith) same)) (λ same. absurd (is_another OffBus g Guarded lt (omega arith) same)),
 )
-transaction_off s from to (Swap offset argument new) d e p q living off = (
+transaction_off s from to (Swap offset swap) d e p q living off = (
   (e, q, off),
-  λ g lt. transaction_breaks s from to (Swap offset argument new) d e p q g (λ same. living)
+  λ g lt. transaction_breaks s from to (Swap offset swap) d e p q g (λ same. living)
       (λ same. absurd (is_another OffBus g OffBus lt (omega arith) same)) (λ same. absurd (is_another OffBus g Guarded lt (omega arith) same)),
 )
 
 pub transaction_ordered : (s : State) (from to : List ℕ) (a : Access) (d e : ℕ) → IsNamed s from d → IsNamed s to e → IsTrue (is_living s d) → IsTrue (is_linked s e) → IsFalse (is_guarded_by s.election.begun a)
     → Decides s (command_of from to a) (Ok (Orders.Transact (record { from = d; to = e; access = a })))
 transaction_ordered s from to (Read offset) d e p q living linked free = ((d, e, p, q, refl), λ g. transaction_breaks s from to (Read offset) d e p q g (λ same. living) (λ same. linked) (λ same. free))
-transaction_ordered s from to (Swap offset argument new) d e p q living linked free =
-    ((d, e, p, q, refl), λ g. transaction_breaks s from to (Swap offset argument new) d e p q g (λ same. living) (λ same. linked) (λ same. free))
+transaction_ordered s from to (Swap offset swap) d e p q living linked free =
+    ((d, e, p, q, refl), λ g. transaction_breaks s from to (Swap offset swap) d e p q g (λ same. living) (λ same. linked) (λ same. free))
 
 pub transaction_dead : (s : State) (from to : List ℕ) (a : Access) (d e : ℕ) → IsNamed s from d → IsNamed s to e → IsFalse (is_living s d) → Decides s (command_of from to a) (Err NotController)
 transaction_dead s from to (Read offset) d e p q dead = (
@@ -194,9 +194,9 @@ transaction_dead s from to (Read offset) d e p q dead = (
   λ g lt. transaction_breaks s from to (Read offset) d e p q g (λ same. absurd (is_another NotController g NotController lt (omega arith) same))
       (λ same. absurd (is_another NotController g OffBus lt (omega arith) same)) (λ same. absurd (is_another NotController g Guarded lt (omega arith) same)),
 )
-transaction_dead s from to (Swap offset argument new) d e p q dead = (
+transaction_dead s from to (Swap offset swap) d e p q dead = (
   (d, p, dead),
-  λ g lt. transaction_breaks s from to (Swap offset argument new) d e p q g (λ same. absurd (is_another NotController g NotController lt (omega arith) same))
+  λ g lt. transaction_breaks s from to (Swap offset swap) d e p q g (λ same. absurd (is_another NotController g NotController lt (omega arith) same))
       (λ same. absurd (is_another NotController g OffBus lt (omega arith) same)) (λ same. absurd (is_another NotController g Guarded lt (omega arith) same)),
 )
 

@@ -55,4 +55,4 @@ DeckDecided m name (Err rule) =
 -- the line of a transaction
 abbrev pub command_of : List ℕ → List ℕ → Access → Command
 command_of from to (Read offset) = Commands.Read from to offset
-command_of from to (Swap offset argument new) = Commands.Swap from to offset argument new
+command_of from to (Swap offset swap) = Commands.Swap from to offset swap.argument swap.new

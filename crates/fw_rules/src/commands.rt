@@ -21,6 +21,7 @@ use fw_machine::Machine;
 use fw_run::{Access, MOST_HALF_STEPS, MOST_RESETS, MOST_WRITTEN_CYCLES, Order, RuleFault};
 use fw_script::{Command, Name};
 use fw_tree::{End, TreeFault};
+use fw_words::Swap;
 
 /// How many devices a bus may have.
 const MOST_DEVICES: u8 = 63;
@@ -210,7 +211,11 @@ pub fn decide<'a>(machine: &Machine, c: &'a Command) -> Result<Order<'a>, RuleFa
             decide_transaction(machine, from, to, Access::Read(*offset))
         }
         Command::Swap(from, to, offset, argument, new) => {
-            decide_transaction(machine, from, to, Access::Swap(*offset, *argument, *new))
+            let swap = Swap {
+                argument: *argument,
+                new: *new,
+            };
+            decide_transaction(machine, from, to, Access::Swap(*offset, swap))
         }
         Command::Command(from, to, frame) => decide_command(machine, from, to, frame),
         Command::Insert(name, tape, lines) => decide_insert(machine, name, *tape, *lines),

@@ -488,7 +488,7 @@ spared_id s x on spared = go (is_manager s.account.latest (target_node s x))
 
     access : (y : Access) → IsSpared s.election y → after_at 0xFFFF_F000_021C (access_request y) s.bus_manager_id ≡ s.bus_manager_id
     access (Accesses.Read offset) f = same (first_address + offset == 0xFFFF_F000_021C) s.bus_manager_id
-    access (Accesses.Swap offset argument new) f = elsewhere offset _ s.bus_manager_id (f on)
+    access (Accesses.Swap offset swap) f = elsewhere offset _ s.bus_manager_id (f on)
 
     go : (b : Bool) → cond b (after_at 0xFFFF_F000_021C (access_request x.access) s.bus_manager_id) s.bus_manager_id ≡ s.bus_manager_id
     go true = access x.access spared

@@ -2,9 +2,9 @@
 use Rattle.std.proofs.Common.{◌≡◌, ℕ, ◌+◌, ◌^◌, ◌<◌, ◌==◌, ◌++◌, List, Bool, true, false, cond, Some, None, refl, sym, subst, ◌∙◌, arith, IsTrue}
 use Rattle.std.specs.Prelude.{Ok, Err}
 use Rattle.std.specs.declared.result.Result.{Result}
-use Rattle.std.specs.Int.{to_be_bytes, w32}
 use Rattle.fw_base.specs.Tables.{update}
 use Rattle.fw_words.specs.Quadlet.{quadlet_at}
+use Rattle.fw_words.specs.Swaps.{swap_bytes}
 use Rattle.fw_csr.specs.Manager.{after_at}
 use Rattle.fw_entry.specs.declared.entry.Timed.{Timed}
 use Rattle.fw_account.specs.Words.{first_address}
@@ -102,9 +102,9 @@ id_below s x b = either (is_manager s.account.latest (target_node s x)) _ s.bus_
 
     go : (a : Access) → after_at 0xFFFF_F000_021C (access_request a) s.bus_manager_id < 2 ^ 32
     go (Read offset) = either (first_address + offset == 0xFFFF_F000_021C) s.bus_manager_id s.bus_manager_id b.bus_manager_id b.bus_manager_id
-    go (Swap offset argument new) =
-        let stored : quadlet_at (to_be_bytes w32 argument ++ to_be_bytes w32 new) 4 < 2 ^ 32 = omega arith in
-        either (first_address + offset == 0xFFFF_F000_021C) _ s.bus_manager_id (either (s.bus_manager_id == quadlet_at (to_be_bytes w32 argument ++ to_be_bytes w32 new) 0) _ s.bus_manager_id stored b.bus_manager_id) b.bus_manager_id
+    go (Swap offset swap) =
+        let stored : quadlet_at (swap_bytes swap) 4 < 2 ^ 32 = omega arith in
+        either (first_address + offset == 0xFFFF_F000_021C) _ s.bus_manager_id (either (s.bus_manager_id == quadlet_at (swap_bytes swap) 0) _ s.bus_manager_id stored b.bus_manager_id) b.bus_manager_id
 
 -- ---- each action
 

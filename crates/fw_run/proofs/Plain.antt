@@ -120,7 +120,7 @@ response_plain n to (Some swap) r p is = ap bid_answer is.1
 -- one to the script
 pub script_plain : (n : ℕ) (h : Head) (a : Access) (r : Reply) → h.tl ≡ 1 → bid_answer (access_response n h a r) ≡ None
 script_plain n h (Accesses.Read offset) r label = refl
-script_plain n h (Accesses.Swap offset argument new) r label = ap (λ k. cond (k == 2) (Some ((response_head n h).destination, quadlet_at (old_bytes r) 0)) None) label
+script_plain n h (Accesses.Swap offset swap) r label = ap (λ k. cond (k == 2) (Some ((response_head n h).destination, quadlet_at (old_bytes r) 0)) None) label
 
 -- or one to a frame
 pub frame_plain : (s : State) (n : ℕ) (h : Head) (b : Bool) (offset value : ℕ) (bytes : List ℕ) (p : Packet) → answer_packet s n h (cond b (Write offset value) (WriteBlock offset bytes)) ≡ Some p → bid_answer p ≡ None

@@ -63,19 +63,19 @@ script_fits to from few some = (omega (arith, few), omega arith, omega arith, om
 -- an access is a read or a compare_swap of a quadlet
 abbrev swap_in : Access → Option Swapping
 swap_in (Read offset) = None
-swap_in (Swap offset argument new) = Some (record { argument = argument; new = new })
+swap_in (Swap offset swap) = Some swap
 
 abbrev place_of : Access → ℕ
 place_of (Read offset) = first_address + offset
-place_of (Swap offset argument new) = first_address + offset
+place_of (Swap offset swap) = first_address + offset
 
 request_is : (a : Access) → access_request a ≡ request_at (place_of a) (swap_in a)
 request_is (Read offset) = refl
-request_is (Swap offset argument new) = refl
+request_is (Swap offset swap) = refl
 
 place_low : (a : Access) → AccessFits a → place_of a < 2 ^ 48
 place_low (Read offset) f = omega (arith, f)
-place_low (Swap offset argument new) f = let low = f.0 in omega (arith, low)
+place_low (Swap offset swap) f = let low = f.0 in omega (arith, low)
 
 ask_fits : (s : State) (x : Transaction) → IsGood s → AccessFits x.access → Fits (AsyncEntry (packet_of (transaction_head s x) (access_request x.access)))
 ask_fits s x g f =

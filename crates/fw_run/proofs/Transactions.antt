@@ -40,11 +40,11 @@ linked_number_of s d g on =
 
 asked_next : (l : Account) (to from : ℕ) (a : Access) → next_account l (Async (packet_of (script_head to from) (access_request a))) ≡ Some l
 asked_next l to from (Read offset) = refl
-asked_next l to from (Swap offset argument new) = refl
+asked_next l to from (Swap offset swap) = refl
 
 asked_shows : (l : Account) (to from : ℕ) (a : Access) → IsAnswered l (Async (packet_of (script_head to from) (access_request a)))
 asked_shows l to from (Read offset) = (tt, tt)
-asked_shows l to from (Swap offset argument new) = (tt, tt)
+asked_shows l to from (Swap offset swap) = (tt, tt)
 
 pub ask_led : (s : State) (x : Transaction) (out : List Timed) (t : State) → IsTrue (is_linked s x.to) → out ≡ at_most s.clock.cycle (Some (Async (packet_of (transaction_head s x) (access_request x.access)))) → t ≡ record s { transaction = Some x } → Led s out t
 ask_led s x out t on is to = record {
@@ -66,15 +66,15 @@ ask_led s x out t on is to = record {
 
 abbrev pub access_response : ℕ → Head → Access → Reply → Packet
 access_response n h (Read offset) r = ReadQuadletReply (response_head n h) r.rcode r.value
-access_response n h (Swap offset argument new) r = LockReply (response_head n h) r.rcode 2 (old_bytes r)
+access_response n h (Swap offset swap) r = LockReply (response_head n h) r.rcode 2 (old_bytes r)
 
 pub responds_with : (s : State) (n : ℕ) (h : Head) (a : Access) → answer_packet s n h (access_request a) ≡ Some (access_response n h a (reply_from s n (access_request a)))
 responds_with s n h (Read offset) = refl
-responds_with s n h (Swap offset argument new) = refl
+responds_with s n h (Swap offset swap) = refl
 
 response_leaves : (l : Account) (n to from : ℕ) (a : Access) (r : Reply) → LeavesAccount l (Some (Async (access_response n (script_head to from) a r)))
 response_leaves l n to from (Read offset) r = (refl, ((tt, tt), unread l (access_response n (script_head to from) (Read offset) r) (λ q. tt)))
-response_leaves l n to from (Swap offset argument new) r = (refl, ((tt, tt), unread l (access_response n (script_head to from) (Swap offset argument new) r) (λ q. tt)))
+response_leaves l n to from (Swap offset swap) r = (refl, ((tt, tt), unread l (access_response n (script_head to from) (Swap offset swap) r) (λ q. tt)))
 
 -- the packet that answers a transaction
 pub response_is : (s : State) (x : Transaction) (p : Packet) → answer_packet s (target_node s x) (transaction_head s x) (access_request x.access) ≡ Some p
@@ -97,8 +97,8 @@ read_pair s x p g on is = subst (λ q. IsReadIn s.account (Async (packet_of (tra
 
     go : (a : Access) → IsReadBy s.account (packet_of (transaction_head s x) (access_request a)) (access_response n (transaction_head s x) a (reply_from s n (access_request a)))
     go (Read offset) = λ label complete register at. ap (λ (r : Reply). r.value) (answers_word s x.to n (first_address + offset) None register g (linked_number_of s x.to g on) at)
-    go (Swap offset argument new) = λ label complete register at.
-        let shown = answers_word s x.to n (first_address + offset) (Some (record { argument = argument; new = new })) register g (linked_number_of s x.to g on) at in
+    go (Swap offset swap) = λ label complete register at.
+        let shown = answers_word s x.to n (first_address + offset) (Some swap) register g (linked_number_of s x.to g on) at in
         ap old_bytes shown
 
 -- ---- a shown word

@@ -22,7 +22,8 @@ use Rattle.fw_csr.specs.Requests.{request_at}
 use Rattle.fw_cmp.specs.Turns.{next, after_next}
 use Rattle.fw_devices.specs.Network.{kind_at}
 use Rattle.fw_devices.specs.Entries.{row_of}
-use Rattle.fw_step.specs.Requests.{Tells, is_sent, request_by, request_to, outstanding_of}
+use Rattle.fw_async.specs.Quadlets.{request_with}
+use Rattle.fw_step.specs.Requests.{Tells, is_sent, request_to, outstanding_of}
 use Rattle.fw_step.specs.Together.{Becomes}
 use Rattle.fw_step.proofs.Leads.{turn_tells, turn_leads}
 use Rattle.fw_reclaim.specs.Worlds.{SendsRequest, SendsNothing, Turn}
@@ -40,7 +41,7 @@ use Rattle.fw_run.proofs.Directories.{told}
 
 -- ---- packets
 
-pub same_packet : (h : Head) (offset : ℕ) (w : Option Swap) → packet_of h (request_at offset w) ≡ request_by h offset w
+pub same_packet : (h : Head) (offset : ℕ) (w : Option Swap) → packet_of h (request_at offset w) ≡ request_with h offset w
 same_packet h offset None = refl
 same_packet h offset (Some swap) = refl
 

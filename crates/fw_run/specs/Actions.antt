@@ -73,12 +73,12 @@ pub data Action : Type 0 where
 -- an access that may be written
 abbrev pub AccessFits : Access → Type 0
 AccessFits (Read offset) = offset < 2 ^ 12
-AccessFits (Swap offset argument new) = (offset < 2 ^ 12) × (argument < 2 ^ 32) × (new < 2 ^ 32)
+AccessFits (Swap offset swap) = (offset < 2 ^ 12) × (swap.argument < 2 ^ 32) × (swap.new < 2 ^ 32)
 
 -- from the first candidate on the script does not swap BUS_MANAGER_ID
 abbrev pub IsSpared : Election → Access → Type 0
 IsSpared e (Read offset) = ⊤
-IsSpared e (Swap offset argument new) = IsTrue e.begun → IsFalse (offset == BUS_MANAGER_ID)
+IsSpared e (Swap offset swap) = IsTrue e.begun → IsFalse (offset == BUS_MANAGER_ID)
 
 -- One action while no transaction of the script waits for its answer: what it writes, and the state after it. While the second of
 -- the latest bus reset runs its end has not come yet, so in each state it is not over.

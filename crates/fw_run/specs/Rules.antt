@@ -154,7 +154,7 @@ IsOrder s (Commands.Die name late) o = (d : ℕ) × IsNamed s name d × (o ≡ o
 IsOrder s (Commands.Lose name) o = (d : ℕ) × IsNamed s name d × (o ≡ order.Lose d)
 IsOrder s (Commands.Start name) o = (d : ℕ) × IsNamed s name d × (o ≡ order.Start d)
 IsOrder s (Commands.Read name other offset) o = Transacts s name other (Read offset) o
-IsOrder s (Commands.Swap name other offset argument new) o = Transacts s name other (Swap offset argument new) o
+IsOrder s (Commands.Swap name other offset argument new) o = Transacts s name other (Swap offset (record { argument = argument; new = new })) o
 IsOrder s (Commands.Command name other frame) o = (d e : ℕ) × IsNamed s name d × IsNamed s other e × (o ≡ order.Command d e frame)
 IsOrder s (Commands.Insert name tape system) o = (d : ℕ) × IsNamed s name d × (o ≡ order.Insert d tape (system_with system))
 IsOrder s (Commands.Eject name) o = (d : ℕ) × IsNamed s name d × (o ≡ order.Eject d)

@@ -1,6 +1,7 @@
 -- The registers of the nodes, what a request is answered, and the transactions of the script.
 use Rattle.std.specs.Prelude.{ℕ, ◌+◌, ◌++◌, Bool, Option, Some, None, if◌then◌else◌, unwrap_or}
-use Rattle.std.specs.Int.{to_be_bytes, w32}
+use Rattle.fw_words.specs.declared.swap.TheConstants.{COMPARE_SWAP}
+use Rattle.fw_words.specs.Swaps.{swap_bytes}
 use Rattle.fw_base.specs.declared.label.Label.TheVariants.{Script}
 use Rattle.fw_base.specs.Labels.{label_code}
 use Rattle.fw_base.specs.Tables.{at_plug}
@@ -85,7 +86,7 @@ script_head destination source = record { destination = node_id destination; tl 
 -- a quadlet read, or a quadlet compare_swap, at an offset from FFFF F000 0000
 abbrev pub access_request : Access → Request
 access_request (Read offset) = Asks.Read (first_address + offset)
-access_request (Swap offset argument new) = Asks.Lock (first_address + offset) 2 (to_be_bytes w32 argument ++ to_be_bytes w32 new)
+access_request (Swap offset swap) = Asks.Lock (first_address + offset) COMPARE_SWAP (swap_bytes swap)
 
 -- the node that a transaction goes to
 abbrev pub target_node : State → Transaction → ℕ

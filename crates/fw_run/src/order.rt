@@ -2,15 +2,15 @@ use fw_base::{DeviceKind, PlugAt};
 use fw_script::Name;
 use fw_tape::TapeSystem;
 use fw_tree::End;
-use fw_words::Data;
+use fw_words::{Data, Swap};
 
 /// What a transaction of the script asks of a register, by its offset from FFFF F000 0000, 000 to FFF.
 #[derive(Clone, Copy)]
 pub enum Access {
     /// A quadlet read.
     Read(u16),
-    /// A quadlet compare_swap: the argument, and the new value.
-    Swap(u16, u32, u32),
+    /// A quadlet compare_swap.
+    Swap(u16, Swap),
 }
 
 /// A transaction of the script, from one device to another, both by number.

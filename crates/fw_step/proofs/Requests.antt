@@ -5,6 +5,7 @@ use Rattle.std.specs.Int.{to_be_bytes, w32}
 use Rattle.std.specs.List.{list_any}
 use Rattle.std.proofs.lemmas.Bool.Decides.{nat_tests}
 use Rattle.fw_async.specs.declared.packet.Packet.{Packet}
+use Rattle.fw_async.specs.Quadlets.{request_with}
 use Rattle.fw_async.specs.declared.packet.Packet.TheVariants.{LockReply}
 use Rattle.fw_csr.specs.declared.reply.Reply.{Reply}
 use Rattle.fw_words.specs.declared.swap.Swap.{Swap}
@@ -39,7 +40,7 @@ use Rattle.fw_step.specs.InStep.{Others, HalfStep, IsRegister}
 use Rattle.fw_step.specs.Moves.{move_of, after_move, carried_out}
 use Rattle.fw_step.proofs.Holdings.{move_keeps}
 use Rattle.fw_step.specs.Registers.{register_at, stands, succeeds, IsAnswer, plug_addressed, IsRequestAt}
-use Rattle.fw_step.specs.Requests.{IsNodeOf, EachOnce, PlugNumberFits, Awaits, procedure_head, request_by, request_packet, IsResponse, operation_of, request_to}
+use Rattle.fw_step.specs.Requests.{IsNodeOf, EachOnce, PlugNumberFits, Awaits, procedure_head, request_packet, IsResponse, operation_of, request_to}
 
 -- ---- rows
 
@@ -110,7 +111,7 @@ is_request_at l a n once at small is = record { plug = plug_is l.latest a.target
 pub request_leads : (l : Account) (n to : ℕ) (row : NodeRow) (a : Access) → row_of_node l.latest n ≡ Some row → l.outstanding row.device ≡ None → next_account l (Async (request_packet (procedure_head to n) a)) ≡ Some (asked row.device (request_to to a) l)
 request_leads l n to row a at free = go a.swap
   where
-    go : (o : Option Swap) → next_account l (Async (request_by (procedure_head to n) (offset_of a.target) o)) ≡ Some (asked row.device (record { target = first_id + to; address = offset_of a.target; operation = operation_of o }) l)
+    go : (o : Option Swap) → next_account l (Async (request_with (procedure_head to n) (offset_of a.target) o)) ≡ Some (asked row.device (record { target = first_id + to; address = offset_of a.target; operation = operation_of o }) l)
     go None = after_read_request l (procedure_head to n) (offset_of a.target) row.device refl (device_at_id l.latest n row at) free
     go (Some s) = after_lock_request l (procedure_head to n) (offset_of a.target) 2 (swap_bytes s) row.device refl (device_at_id l.latest n row at) free
 

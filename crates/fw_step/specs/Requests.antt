@@ -3,7 +3,8 @@ use Rattle.std.specs.Prelude.{ℕ, ◌+◌, ◌≡◌, ◌<◌, Bool, true, fals
 use Rattle.std.specs.Int.{to_be_bytes, w32}
 use Rattle.fw_async.specs.declared.packet.Head.{Head}
 use Rattle.fw_async.specs.declared.packet.Packet.{Packet}
-use Rattle.fw_async.specs.declared.packet.Packet.TheVariants.{ReadQuadlet, ReadQuadletReply, Lock, LockReply}
+use Rattle.fw_async.specs.declared.packet.Packet.TheVariants.{ReadQuadletReply, LockReply}
+use Rattle.fw_async.specs.Quadlets.{request_with}
 use Rattle.fw_base.specs.declared.label.Label.TheVariants.{Procedure}
 use Rattle.fw_base.specs.Labels.{label_code}
 use Rattle.fw_csr.specs.declared.reply.Reply.{Reply}
@@ -26,6 +27,7 @@ use Rattle.fw_cmp.specs.declared.outcome.Next.TheVariants.{Send}
 use Rattle.fw_csr.specs.declared.request.Request.{Request as CsrRequest}
 use Rattle.fw_cmp.specs.Requests.{offset_of, access_of, addressee_of, request_of}
 use Rattle.fw_words.specs.Swaps.{swap_bytes}
+use Rattle.fw_words.specs.declared.swap.TheConstants.{COMPARE_SWAP}
 
 -- ---- nodes
 
@@ -67,26 +69,21 @@ PlugNumberFits BandwidthAvailable = ⊤
 abbrev pub procedure_head : ℕ → ℕ → Head
 procedure_head destination source = record { destination = first_id + destination; tl = label_code Procedure; rt = 1; pri = 0; source = first_id + source }
 
--- the packet of a quadlet read at an offset, or of a quadlet compare_swap there
-abbrev pub request_by : Head → ℕ → Option Swap → Packet
-request_by h offset None = ReadQuadlet h offset
-request_by h offset (Some s) = Lock h offset 2 (swap_bytes s)
-
 -- a quadlet read, or a quadlet compare_swap
 abbrev pub request_packet : Head → Access → Packet
-request_packet h a = request_by h (offset_of a.target) a.swap
+request_packet h a = request_with h (offset_of a.target) a.swap
 
 -- a response carries the reply; a lock that is not complete may carry anything
 abbrev pub IsResponse : Head → Option Swap → Reply → Packet → Type 0
 IsResponse h None r p = p ≡ ReadQuadletReply h r.rcode r.value
-IsResponse h (Some s) r p = (old : List ℕ) × (p ≡ LockReply h r.rcode 2 old) × (r.rcode ≡ 0 → old ≡ to_be_bytes w32 r.value)
+IsResponse h (Some s) r p = (old : List ℕ) × (p ≡ LockReply h r.rcode COMPARE_SWAP old) × (r.rcode ≡ 0 → old ≡ to_be_bytes w32 r.value)
 
 -- ---- in the account
 
 -- the operation of a request: a quadlet read, or a compare_swap with its bytes
 abbrev pub operation_of : Option Swap → Operation
 operation_of None = Reads
-operation_of (Some s) = Locks 2 (swap_bytes s)
+operation_of (Some s) = Locks COMPARE_SWAP (swap_bytes s)
 
 -- the request to node n
 abbrev pub request_to : ℕ → Access → Request
