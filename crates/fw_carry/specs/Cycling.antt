@@ -1,5 +1,5 @@
 -- Cycles that are written: who talks in them, and what a desk gives.
-use Rattle.std.specs.Prelude.{ℕ, ◌≡◌, ◌==◌, ◌≤◌, ◌%◌, List, [], ◌∷◌, Option, Some, None, Ok, is_some, if◌then◌else◌, IsTrue}
+use Rattle.std.specs.Prelude.{ℕ, ◌≡◌, ◌==◌, ◌≤◌, ◌%◌, List, [], ◌∷◌, Option, Some, None, is_some, if◌then◌else◌, IsTrue}
 use Rattle.std.specs.declared.result.Result.{Result}
 use Rattle.fw_base.specs.Tables.{at_plug}
 use Rattle.fw_account.specs.Account.{talks}
@@ -15,6 +15,7 @@ use Rattle.fw_run.specs.State.{State}
 use Rattle.fw_run.specs.Streams.{GivenBlock, bytes_of, sent_before, talkers_to}
 use Rattle.fw_carry.specs.Performing.{Task, Performs}
 use Rattle.fw_machine.specs.Faults.{CountsFaults}
+use Rattle.fw_carry.specs.Filling.{never_fails, no_faults}
 use Rattle.fw_carry.specs.Framing.{CompletedWithDesk}
 use Rattle.fw_machine.specs.Stands.{StandsFor}
 use Rattle.fw_machine.specs.Streaming.{count_at}
@@ -120,4 +121,4 @@ pub record PerformedWhere {T E : Type 0} (A : State → Type 0) (D : DeskRelatio
 
 -- in a room stands what this writes: it grew by the entries
 abbrev pub PutsIntoRoom : (State → Type 0) → DeskRelations → Task → Machine → List ℕ → List ℕ → Type 0
-PutsIntoRoom A D P m old new = PerformedWhere {T = Unit {0}} {E = Unit {0}} A D P m m (Some old) (Some new) 0 0 (Ok (tt {0}))
+PutsIntoRoom A D P m old new = PerformedWhere A D P m m (Some old) (Some new) no_faults no_faults never_fails
