@@ -2,6 +2,7 @@ pub mod FrameNodes
 pub mod FrameTurns
 pub mod Sending
 pub mod FrameCalls
+pub mod Linked
 pub mod TapeTurns
 pub mod Tying
 pub mod CommandTurns

@@ -2,10 +2,26 @@ use Rattle.std.proofs.Common.{refl}
 use Rattle.std.specs.Prelude.{Err}
 use Rattle.fw_carry.proofs.CommandTurns.{command_follows, command_cut}
 use Rattle.fw_carry.proofs.Doings.{does_then, ready_after}
+use Rattle.fw_carry.proofs.Linked.{linked_reaches}
 use Rattle.fw_carry.proofs.frames.command.Goals as goal
 
-pub send_frames-requires-clause-ready : goal.send_frames-requires-clause-ready
-send_frames-requires-clause-ready g c = ready_after c.requires.ready c.in_ok-write_command.ensures.does
+pub write_command-requires : goal.write_command-requires
+write_command-requires g c = record {
+  ready = c.requires.ready;
+  desk = c.requires.desk;
+  from = c.requires.from;
+  to = c.requires.to;
+  quiet = c.requires.quiet;
+  few = c.requires.few;
+}
+
+pub send_frames-requires : goal.send_frames-requires
+send_frames-requires g c =
+    let there = linked_reaches c.args.machine.now.devices c.args.to c.requires.to in
+    record {
+      ready = ready_after c.requires.ready c.in_ok-write_command.ensures.does;
+      declared = rw c.in_ok-write_command.ensures.size there.declared;
+    }
 
 pub returns-in_err-write_command : goal.returns-in_err-write_command
 returns-in_err-write_command g c = record { does = command_cut _ c.args.from c.args.to _ (Err _) _ refl c.from_residual.ensures.0 c.in_err-write_command.ensures.does }

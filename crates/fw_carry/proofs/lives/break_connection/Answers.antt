@@ -1,6 +1,13 @@
 use Rattle.fw_carry.proofs.Doings.{does_silent}
 use Rattle.fw_carry.proofs.LifeTurns.{break_turns}
+use Rattle.fw_machine.proofs.Living.{living_there}
 use Rattle.fw_carry.proofs.lives.break_connection.Goals as goal
+
+pub break_connection-requires : goal.break_connection-requires
+break_connection-requires g c = record {
+  device = (living_there c.args.machine.now c.args.device c.requires.ready c.requires.living).controller;
+  accepted = c.requires.accepted;
+}
 
 pub returns : goal.returns
 returns g c = record {

@@ -1,6 +1,14 @@
 use Rattle.fw_carry.proofs.Doings.{does_silent}
 use Rattle.fw_carry.proofs.LifeTurns.{connect_turns}
+use Rattle.fw_machine.proofs.Living.{living_there}
 use Rattle.fw_carry.proofs.lives.connect.Goals as goal
+
+pub connect-requires : goal.connect-requires
+connect-requires g c = record {
+  device = (living_there c.args.machine.now c.args.device c.requires.ready c.requires.living).controller;
+  slot = c.requires.slot;
+  accepted = c.requires.accepted;
+}
 
 pub returns : goal.returns
 returns g c = record {

@@ -4,8 +4,12 @@ use Rattle.fw_cmp.specs.Losses.{MayTurn}
 use Rattle.fw_machine.specs.Tables.{states_of}
 use Rattle.fw_carry.proofs.Doings.{does_when}
 use Rattle.fw_carry.proofs.LifeOrders.{dies_at}
+use Rattle.fw_machine.proofs.Living.{living_there}
 use Rattle.fw_carry.proofs.lives.die.Goals as goal
 use Rattle.fw_carry.proofs.lives.die.Goals.{else-late-via-then-late+else-has_request, else-late-via-else-late}
+
+pub get-requires : goal.get-requires
+get-requires g c = (living_there c.args.machine.now c.args.device c.requires.ready c.requires.living).controller
 
 -- no request stands, or none is to be carried out
 pub returns-else-late : goal.returns-else-late

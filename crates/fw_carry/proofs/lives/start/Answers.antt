@@ -11,6 +11,9 @@ returns-then-not-is_dead g c = record {
       (goes_on_at c.args.machine.now c.args.device (sym c.is_dead.ensures ∙ c.if-not-is_dead.true));
 }
 
+pub start-requires : goal.start-requires
+start-requires g c = (linked_there c.args.machine.now c.args.device c.requires.ready c.requires.linked).controller
+
 pub started-requires : goal.started-requires
 started-requires g c = (linked_there c.args.machine.now c.args.device c.requires.ready c.requires.linked).low
 

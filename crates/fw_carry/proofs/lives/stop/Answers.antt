@@ -2,10 +2,23 @@ use Rattle.std.proofs.Common.{Some, sym, subst, arith}
 use Rattle.fw_async.specs.Wire.{Pairs, without}
 use Rattle.fw_run.specs.Actions.{Die}
 use Rattle.fw_carry.specs.Performing.{TakesAction}
+use Rattle.fw_carry.proofs.DeafTurns.{living_node}
 use Rattle.fw_carry.proofs.Doings.{does_one}
 use Rattle.fw_carry.proofs.LifeTurns.{death_turns}
 use Rattle.fw_machine.proofs.Living.{living_there}
 use Rattle.fw_carry.proofs.lives.stop.Goals as goal
+
+pub die-requires : goal.die-requires
+die-requires g c = (living_there c.args.machine.now c.args.device c.requires.ready c.requires.living).controller
+
+pub number-own-requires : goal.number-own-requires
+number-own-requires g c = living_node c.args.machine.now c.args.device c.requires.living
+
+pub remove-requires : goal.remove-requires
+remove-requires g c = c.number-own.ensures.range
+
+pub remove-requires-2 : goal.remove-requires-2
+remove-requires-2 g c = c.number-own.ensures.range
 
 pub died-requires : goal.died-requires
 died-requires g c = (living_there c.args.machine.now c.args.device c.requires.ready c.requires.living).low
