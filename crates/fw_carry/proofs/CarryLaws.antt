@@ -1,5 +1,5 @@
 -- Orders, by the actions that carry them out, with what a desk gives.
-use Rattle.std.proofs.Common.{ℕ, List, Option, Some, refl, ap, sym, subst}
+use Rattle.std.proofs.Common.{◌≡◌, ℕ, List, Option, Some, refl, ap, sym, subst}
 use Rattle.std.specs.Prelude.{Ok, Err}
 use Rattle.std.specs.declared.result.Result.{Result}
 use Rattle.fw_entry.specs.declared.entry.Entry.TheVariants.{End as EndEntry}
@@ -44,15 +44,17 @@ given_front {D = D} {r = Err u} o d = record {
   );
 }
 
--- an order in whose course no desk is asked
-pub by_desk : {T E : Type 0} {D : DeskRelations} {m now : Machine} {a b : Option (List ℕ)} {k l : ℕ} {r : Result T E} (o : Order)
-    → AsksNoDesk o → Performed (λ s. Carries s o) m now a b k l r → PerformedWithDesk D (λ s. Carries s o) m now a b k l r
-by_desk {D = D} o free d = given_front o (does_as (λ s t ys out p. (p, carries_given D s o ys out t free p)) d)
+-- an order in whose course no desk is asked, once it is known which one it is
+pub by_desk : {T E : Type 0} {D : DeskRelations} {m now : Machine} {a b : Option (List ℕ)} {k l : ℕ} {r : Result T E} {order o : Order}
+    → order ≡ o → AsksNoDesk o → Performed (λ s. Carries s o) m now a b k l r → PerformedWithDesk D (λ s. Carries s order) m now a b k l r
+by_desk {D = D} {m} {now} {a} {b} {k} {l} {r} {o = o} is free d =
+    subst (λ x. PerformedWithDesk D (λ s. Carries s x) m now a b k l r) (sym is) (given_front o (does_as (λ s t ys out p. (p, carries_given D s o ys out t free p)) d))
 
 -- one that is carried out by these actions
-pub carried : {T E : Type 0} {D : DeskRelations} {m now : Machine} {a b : Option (List ℕ)} {k l : ℕ} {r : Result T E} (o : Order) (xs : List Action)
-    → AsksNoDesk o → ((s t : State) (out : List Timed) → Steps s xs out t → Carries s o xs out t) → Performed (Performs xs) m now a b k l r → PerformedWithDesk D (λ s. Carries s o) m now a b k l r
-carried o xs free by d = by_desk o free (does_as (λ s t ys out p. subst (λ z. Carries s o z out t) (sym p.0) (by s t out p.1)) d)
+pub carried : {T E : Type 0} {D : DeskRelations} {m now : Machine} {a b : Option (List ℕ)} {k l : ℕ} {r : Result T E} {order o : Order} (xs : List Action)
+    → order ≡ o → AsksNoDesk o → ((s t : State) (out : List Timed) → Steps s xs out t → Carries s o xs out t) → Performed (Performs xs) m now a b k l r
+    → PerformedWithDesk D (λ s. Carries s order) m now a b k l r
+carried {o = o} xs is free by d = by_desk is free (does_as (λ s t ys out p. subst (λ z. Carries s o z out t) (sym p.0) (by s t out p.1)) d)
 
 -- the end of the log
 pub finish_turns : (m : Machine) → TakesAction Finish m m m.cycle (Some EndEntry)
