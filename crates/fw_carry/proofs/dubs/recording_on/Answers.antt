@@ -1,4 +1,4 @@
-use Rattle.std.proofs.Common.{slice_index, slice_index_or, true, false, Some, None, refl, ap, sym, ◌∙◌}
+use Rattle.std.proofs.Common.{◌<◌, length, slice_index, slice_index_or, true, false, Some, None, refl, ap, sym, subst, ◌∙◌}
 use Rattle.fw_node.specs.State.{NodeState}
 use Rattle.fw_plug.specs.Plugs.{is_active, PlugWords}
 use Rattle.fw_tape.specs.Transports.{same_state}
@@ -6,11 +6,36 @@ use Rattle.fw_tape.specs.declared.transport.Transport.TheVariants.{Record}
 use Rattle.fw_words.specs.Quadlet.{field}
 use Rattle.fw_run.specs.Dubs.{hears_in}
 use Rattle.fw_base.specs.Tables.{at_plug}
+use Rattle.fw_carry.specs.Cycling.{recording_by}
 use Rattle.fw_carry.proofs.Listening.{listens, listens_now, none_of, no_tape, no_unit, off_bus, recorded_at, tied_records, unit_none, unit_of}
 use Rattle.fw_carry.proofs.dubs.recording_on.Goals as goal
 use Rattle.fw_carry.proofs.dubs.recording_on.Goals.{else-is_recording-via-then-is_recording+else-hears, else-is_recording-via-else-is_recording}
 
+-- ---- its plug is there
+
+pub hears-requires : goal.hears-requires
+hears-requires c =
+    let r = c.requires.ready in
+    let node = c.in_ok-node.ensures.some in
+    let found = unit_of c.in_ok-node.node.now.unit c.in_ok-tape_subunit.field-0.now c.in_ok-tape_subunit.ensures.tape in
+    let some = sym (ap (λ (x : NodeState). x.unit) node.0) ∙ found.1 in
+    let plugs = c.plugs-plugs.ensures ∙ ap (λ (x : NodeState). x.plugs) node.0 in
+    subst (λ (p : PlugWords). 0 < length p.inputs) (sym plugs) (listens c.args.machine.now r.state c.in_ok-machine.field-0 found.0 r.good r.stands node.1 some).plugs
+
+pub in_word-requires : goal.in_word-requires
+in_word-requires c =
+    let r = c.requires.ready in
+    let node = c.in_ok-node.ensures.some in
+    let found = unit_of c.in_ok-node.node.now.unit c.in_ok-tape_subunit.field-0.now c.in_ok-tape_subunit.ensures.tape in
+    let some = sym (ap (λ (x : NodeState). x.unit) node.0) ∙ found.1 in
+    let plugs = c.plugs-plugs.ensures ∙ ap (λ (x : NodeState). x.plugs) node.0 in
+    subst (λ (p : PlugWords). 0 < length p.inputs) (sym plugs) (listens c.args.machine.now r.state c.in_ok-machine.field-0 found.0 r.good r.stands node.1 some).plugs
+
 -- ---- nothing is recorded
+
+pub returns-in_err-machine-clause-value : goal.returns-in_err-machine-clause-value
+returns-in_err-machine-clause-value c s g st =
+    c.from_residual.ensures ∙ sym (ap (recording_by s) (sym st.beside.reel.tied_is ∙ c.in_err-machine.was))
 
 pub returns-in_err-node-clause-value : goal.returns-in_err-node-clause-value
 returns-in_err-node-clause-value c s g st =
