@@ -5,6 +5,9 @@ use Rattle.fw_carry.proofs.HalfLives.{living_stays}
 use Rattle.fw_carry.proofs.Served.{served_within, served_awaits, served_hears}
 use Rattle.fw_carry.proofs.half.hear.Goals as goal
 
+pub serve_request-reply-requires : goal.serve_request-reply-requires
+serve_request-reply-requires g c = record { ready = c.requires.ready; living = c.requires.living; standing = c.requires.standing }
+
 pub hear-requires-clause-device : goal.hear-requires-clause-device
 hear-requires-clause-device g c = served_within _ _ _ _ _ c.requires.ready c.requires.living c.serve_request-reply.ensures
 

@@ -2,16 +2,20 @@ use Rattle.std.proofs.Common.{◌≡◌, ℕ, length, ap, subst, arith, ◌∙�
 use Rattle.std.proofs.lemmas.List.{length-set}
 use Rattle.fw_devices.specs.Network.{Network}
 use Rattle.fw_machine.specs.Streaming.{looked_at}
+use Rattle.fw_carry.proofs.DeafTurns.{living_node}
 use Rattle.fw_carry.proofs.HalfReads.{known_at, outstanding, went_packet, device_within, response_written, after_served}
 use Rattle.fw_machine.proofs.Streaming.{few_nodes}
 use Rattle.fw_carry.proofs.half.serve_request.Goals as goal
 
-pub serve-target-requires-clause-outstanding : goal.serve-target-requires-clause-outstanding
-serve-target-requires-clause-outstanding c =
+pub number-own-requires : goal.number-own-requires
+number-own-requires c = living_node c.args.machine.now c.args.device c.requires.living
+
+pub serve-target-requires : goal.serve-target-requires
+serve-target-requires c =
     let m = c.args.machine.now in
     let own = c.number-own.result in
     let k = known_at m c.args.device own c.requires.ready c.requires.living c.requires.standing c.number-own.ensures.value in
-    (k.0, went_packet own k.1.went, outstanding m c.args.device k.0 own k.1)
+    record { from = c.number-own.ensures.range; outstanding = (k.0, went_packet own k.1.went, outstanding m c.args.device k.0 own k.1) }
 
 pub look-requires : goal.look-requires
 look-requires c =
