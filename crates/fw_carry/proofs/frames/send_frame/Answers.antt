@@ -1,11 +1,22 @@
-use Rattle.std.proofs.Common.{refl, sym, ◌∙◌}
-use Rattle.std.specs.Prelude.{Err, Ok}
+use Rattle.std.proofs.Common.{ap, length, refl, subst, sym, ◌∙◌, Option}
+use Rattle.std.specs.Prelude.{Err, IfSome, Ok}
+use Rattle.std.proofs.lemmas.List.{length-set}
+use Rattle.fw_async.specs.Async.{Fits}
+use Rattle.fw_async.specs.declared.packet.Packet.{Packet}
 use Rattle.fw_node.specs.Fcp.{frame_packet, number_of}
-use Rattle.fw_devices.specs.Network.{node_at}
+use Rattle.fw_devices.specs.Network.{Network, node_at}
 use Rattle.fw_carry.proofs.ExchangeTurns.{does_talks}
 use Rattle.fw_carry.proofs.FrameCalls.{addressed_to, answered, answered_fewer, answered_talks, outgoing, outgoing_asks, reaches}
 use Rattle.fw_carry.proofs.Sending.{sends_none, sends_one, sends_cut}
 use Rattle.fw_carry.proofs.frames.send_frame.Goals as goal
+
+pub outgoing-requires : goal.outgoing-requires
+outgoing-requires g c = record { declared = c.requires.declared }
+
+pub exchange-requires : goal.exchange-requires
+exchange-requires g c =
+    let fits = subst (λ (o : Option Packet). IfSome o Fits) c.in-Some.is c.outgoing.ensures.fits in
+    record { request = fits; response = c.answer-response.ensures.fits fits }
 
 pub addressee-to-requires : goal.addressee-to-requires
 addressee-to-requires g c =
@@ -46,6 +57,9 @@ returns-in_default-clause-does g c =
     sends_none (frame_packet (number_of (node_at m.devices.nodes c.args.device).number)) m c.outgoing.new.self c.args.device _ _ c.requires.declared
     (sym c.in_default.is ∙ c.outgoing.ensures.packet) c.outgoing.ensures.node
 
+pub returns-in_default-clause-size : goal.returns-in_default-clause-size
+returns-in_default-clause-size g c = ap (λ (n : Network). length n.nodes) c.outgoing.ensures.node ∙ length-set c.args.machine.now.devices.nodes c.args.device _
+
 -- ---- a frame
 
 pub returns-in_err-exchange-clause-does : goal.returns-in_err-exchange-clause-does
@@ -55,6 +69,16 @@ returns-in_err-exchange-clause-does g c =
     let talks = answered_talks (answered c.requires.ready out c.addressee-to.ensures c.answer-response.ensures.response c.answer-response.ensures.registers) in
     let did = does_talks (Err _) talks (λ n. refl) (λ n. refl) c.in_err-exchange.ensures in
     sends_cut c.args.device _ _ refl c.from_residual.ensures.0 did
+
+pub returns-in_err-exchange-clause-size : goal.returns-in_err-exchange-clause-size
+returns-in_err-exchange-clause-size g c =
+    let taken = ap (λ (n : Network). length n.nodes) c.outgoing.ensures.node ∙ length-set c.args.machine.now.devices.nodes c.args.device _ in
+    ap (λ (n : Network). length n.nodes) c.answer-response.ensures.registers ∙ (length-set c.outgoing.new.self.nodes c.addressee-to.result _ ∙ taken)
+
+pub returns-clause-size : goal.returns-clause-size
+returns-clause-size g c =
+    let taken = ap (λ (n : Network). length n.nodes) c.outgoing.ensures.node ∙ length-set c.args.machine.now.devices.nodes c.args.device _ in
+    ap (λ (n : Network). length n.nodes) c.answer-response.ensures.registers ∙ (length-set c.outgoing.new.self.nodes c.addressee-to.result _ ∙ taken)
 
 pub returns-clause-does : goal.returns-clause-does
 returns-clause-does g c =

@@ -1,6 +1,6 @@
 use Rattle.std.proofs.Common.{◌≡◌, true, sym, subst, ◌∙◌}
 use Rattle.std.proofs.lemmas.Bool.{false≢true}
-use Rattle.fw_cmp.specs.Losses.{MayTurn}
+use Rattle.fw_cmp.specs.Losses.{Awaits, MayTurn}
 use Rattle.fw_machine.specs.Tables.{states_of}
 use Rattle.fw_carry.proofs.Doings.{does_when}
 use Rattle.fw_carry.proofs.LifeOrders.{dies_at}
@@ -10,6 +10,19 @@ use Rattle.fw_carry.proofs.lives.die.Goals.{else-late-via-then-late+else-has_req
 
 pub get-requires : goal.get-requires
 get-requires g c = (living_there c.args.machine.now c.args.device c.requires.ready c.requires.living).controller
+
+pub stop_late-requires : goal.stop_late-requires
+stop_late-requires g c = record {
+  ready = c.requires.ready;
+  living = c.requires.living;
+  standing = subst Awaits c.get.ensures (c.has_request.ensures.standing.0 c.if-has_request.true);
+}
+
+pub stop-requires : goal.stop-requires
+stop-requires g c = record { ready = c.requires.ready; living = c.requires.living }
+
+pub returns-then-has_request : goal.returns-then-has_request
+returns-then-has_request g c = record { does = rw c.if-late.true c.stop_late.ensures }
 
 -- no request stands, or none is to be carried out
 pub returns-else-late : goal.returns-else-late

@@ -1,7 +1,25 @@
-use Rattle.std.proofs.Common.{◌≡◌, ◌+◌, ◌<◌, true, false, sym, ◌∙◌, arith}
+use Rattle.std.proofs.Common.{◌≡◌, ◌+◌, ◌-◌, ◌<◌, ℕ, true, false, sym, ◌∙◌, arith}
 use Rattle.fw_carry.proofs.Waits.{waits_by}
 use Rattle.fw_carry.proofs.second.wait.Goals as goal
 use Rattle.fw_carry.proofs.second.wait.Goals.{else-machine-via-then-machine+else-machine-last, else-machine-via-else-machine}
+
+pub wait_over-requires : goal.wait_over-requires
+wait_over-requires g c = record {
+  ready = c.requires.ready;
+  runs = c.if-machine.true;
+  over = c.if-machine-last.true;
+  few = rw c.from.ensures c.requires.few;
+}
+
+pub pass-requires : goal.pass-requires
+pass-requires g c = record { ready = c.requires.ready; few = rw c.from-else-machine.ensures c.requires.few }
+
+-- as many cycles as were to go by
+waited : (cycle n from : ℕ) → from ≡ n → cycle + from - cycle ≡ n
+waited cycle n from same = omega (arith, same)
+
+pub returns-then-machine-last : goal.returns-then-machine-last
+returns-then-machine-last g c = record { does = rw (waited c.args.machine.now.cycle c.args.cycles c.from.result c.from.ensures) at c.wait_over.ensures.does }
 
 pub returns-else-machine : goal.returns-else-machine
 returns-else-machine g c =

@@ -1,35 +1,35 @@
-use Rattle.std.proofs.Common.{◌∙◌, inl, Some, refl, ap, sym, arith}
+use Rattle.std.proofs.Common.{◌∙◌, inl, Some, refl, ap, sym}
+use Rattle.std.proofs.lemmas.Bool.{false≢true}
 use Rattle.fw_entry.specs.declared.entry.Entry.TheVariants.{Reset}
 use Rattle.fw_machine.specs.declared.machine.Machine.{Machine}
 use Rattle.fw_carry.proofs.Doings.{does_one, does_silent}
 use Rattle.fw_carry.proofs.DeafTurns.{deaf_forces, deaf_waits, forced_few, living_half, living_node}
 use Rattle.fw_carry.proofs.HalfTurns.{node_numbers}
 use Rattle.fw_carry.proofs.ResetTurns.{ready_cycle, ready_declared, ready_on}
+use Rattle.fw_machine.proofs.Living.{living_there}
 use Rattle.fw_carry.proofs.steps.deaf_step.Goals as goal
 
-pub next-requires-clause-heard : goal.next-requires-clause-heard
-next-requires-clause-heard g c = inl c.requires.deaf
+pub next-requires : goal.next-requires
+next-requires g c =
+    let r = c.requires.ready in
+    record {
+      device = (living_there c.args.machine.now c.args.device r c.requires.living).controller;
+      heard = inl c.requires.deaf;
+      now = ready_cycle r;
+      nodes = node_numbers c.args.machine.now r.state c.args.device r.good r.stands c.requires.living;
+      reached = λ quiet. absurd (false≢true (sym quiet ∙ c.requires.deaf));
+    }
 
-pub next-requires-clause-now : goal.next-requires-clause-now
-next-requires-clause-now g c = ready_cycle c.requires.ready
-
-pub next-requires-clause-nodes : goal.next-requires-clause-nodes
-next-requires-clause-nodes g c = let r = c.requires.ready in node_numbers c.args.machine.now r.state c.args.device r.good r.stands c.requires.living
-
-pub next-requires-clause-reached : goal.next-requires-clause-reached
-next-requires-clause-reached g c = λ quiet. absurd (grind (arith, quiet, c.requires.deaf))
-
-pub give_reset-requires-clause-declared : goal.give_reset-requires-clause-declared
-give_reset-requires-clause-declared g c = ready_declared _ c.requires.ready (living_node c.args.machine.now c.args.device c.requires.living)
-
-pub give_reset-requires-clause-on : goal.give_reset-requires-clause-on
-give_reset-requires-clause-on g c = ready_on _ c.requires.ready (living_node c.args.machine.now c.args.device c.requires.living)
-
-pub give_reset-requires-clause-few : goal.give_reset-requires-clause-few
-give_reset-requires-clause-few g c = let r = c.requires.ready in forced_few c.args.machine.now r.state c.args.device r.good r.stands c.requires.deaf
-
-pub give_reset-requires-clause-cycle : goal.give_reset-requires-clause-cycle
-give_reset-requires-clause-cycle g c = ready_cycle c.requires.ready
+pub give_reset-requires : goal.give_reset-requires
+give_reset-requires g c =
+    let r = c.requires.ready in
+    let node = living_node c.args.machine.now c.args.device c.requires.living in
+    record {
+      declared = ready_declared _ r node;
+      on = ready_on _ r node;
+      few = forced_few c.args.machine.now r.state c.args.device r.good r.stands c.requires.deaf;
+      cycle = ready_cycle r;
+    }
 
 pub returns-then-is_force : goal.returns-then-is_force
 returns-then-is_force g c =

@@ -3,7 +3,26 @@ use Rattle.fw_carry.proofs.Doings.{does_one, does_silent}
 use Rattle.fw_carry.proofs.StepTurns.{idle_turns, step_turns}
 use Rattle.fw_cmp.specs.Losses.{Listening}
 use Rattle.fw_machine.specs.Tables.{states_of}
+use Rattle.fw_machine.proofs.Living.{living_there}
 use Rattle.fw_carry.proofs.steps.half_step.Goals as goal
+
+pub get-requires : goal.get-requires
+get-requires g c = (living_there c.args.machine.now c.args.device c.requires.ready c.requires.living).controller
+
+pub deaf_step-requires : goal.deaf_step-requires
+deaf_step-requires g c = record {
+  ready = c.requires.ready;
+  living = c.requires.living;
+  deaf = sym (ap (λ (x : Listening). x.lost) c.get.ensures) ∙ (sym c.is_deaf.ensures ∙ c.if-is_deaf.true);
+  few = c.requires.few;
+}
+
+pub turn-result-requires : goal.turn-result-requires
+turn-result-requires g c = record {
+  ready = c.requires.ready;
+  living = c.requires.living;
+  hears = sym (ap (λ (x : Listening). x.lost) c.get.ensures) ∙ (sym c.is_deaf.ensures ∙ c.if-is_deaf.false);
+}
 
 pub returns-then-is_calm-clause-does : goal.returns-then-is_calm-clause-does
 returns-then-is_calm-clause-does g c =
