@@ -2,6 +2,7 @@
 use Rattle.std.proofs.Common.{◌≡◌, ℕ, ◌<◌, ◌^◌, zero, suc, List, [], ◌∷◌, ◌++◌, length, slice_set, true, false, cond, Option, Some, None, is_some, refl, ap, sym, subst, ◌∙◌, arith, IsTrue}
 use Rattle.std.specs.Prelude.{Ok, IsErr}
 use Rattle.std.specs.declared.result.Result.{Result}
+use Rattle.std.proofs.lemmas.List.{length-set}
 use Rattle.fw_base.specs.Tables.{update}
 use Rattle.fw_base.specs.declared.device.DeviceKind.{DeviceKind}
 use Rattle.fw_base.specs.Devices.{has_unit}
@@ -172,6 +173,10 @@ pub eject_cut : {U F V G : Type 0} (d : ℕ) {m now last : Machine} {a b : Optio
 eject_cut d {m} q r was is f = does_cut q r (eject_goes m d) was is f
 
 -- ---- numbers
+
+-- a device stays declared where a node changes
+pub still_declared : (n now : Network) (d at : ℕ) (node : NodeState) → d < length n.nodes → now ≡ record n { nodes = slice_set n.nodes at node } → d < length now.nodes
+still_declared n now d at node low is = subst (λ (k : ℕ). d < k) (sym (ap (λ (x : Network). length x.nodes) is ∙ length-set n.nodes at node)) low
 
 -- declared devices are few
 pub few_devices : {m : Machine} {d : ℕ} → IsReady m → d < length m.devices.nodes → d < 63

@@ -9,14 +9,18 @@ use Rattle.fw_carry.proofs.cycles.cycles.Goals as goal
 pub loop-i-init : goal.loop-i-init
 loop-i-init g c = record { done = gathers_none c.clear.ensures; faults = refl; talkers = c.talkers-talkers.ensures; still = c.end-end.ensures }
 
-pub put_cycle-requires-clause-ready : goal.put_cycle-requires-clause-ready
-put_cycle-requires-clause-ready g c = ready_after c.requires.ready (by_does c.loop-i.invariant.done.fills)
-
-pub put_cycle-requires-clause-few : goal.put_cycle-requires-clause-few
-put_cycle-requires-clause-few g c = (cycles_may _ _ c.requires.ready c.loop-i-test.true c.requires.few c.requires.written c.loop-i.invariant.done.fills).0
-
-pub put_cycle-requires-clause-written : goal.put_cycle-requires-clause-written
-put_cycle-requires-clause-written g c = (cycles_may _ _ c.requires.ready c.loop-i-test.true c.requires.few c.requires.written c.loop-i.invariant.done.fills).1
+pub put_cycle-requires : goal.put_cycle-requires
+put_cycle-requires g c =
+    let may = cycles_may _ _ c.requires.ready c.loop-i-test.true c.requires.few c.requires.written c.loop-i.invariant.done.fills in
+    record {
+      ready = ready_after c.requires.ready (by_does c.loop-i.invariant.done.fills);
+      desk = c.requires.desk;
+      few = may.0;
+      written = may.1;
+      talkers = c.loop-i.invariant.talkers;
+      still = c.loop-i.invariant.still;
+      room = c.in_ok-make_room.ensures.room;
+    }
 
 pub loop-i-preserved : goal.loop-i-preserved
 loop-i-preserved g c = record {

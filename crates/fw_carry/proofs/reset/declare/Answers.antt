@@ -5,6 +5,17 @@ use Rattle.fw_machine.proofs.Living.{no_names, some_names}
 use Rattle.fw_carry.proofs.Doings.{does_silent}
 use Rattle.fw_carry.proofs.reset.declare.Goals as goal
 
+pub add-requires : goal.add-requires
+add-requires g c = record { room = c.requires.room; some = c.requires.some; most = c.requires.most; speed = c.requires.speed }
+
+pub add-requires-2 : goal.add-requires-2
+add-requires-2 g c =
+    let st = c.requires.ready.stands in
+    let count = st.controllers.table.count_is in
+    let names = ap (λ (xs : List (List ℕ)). length xs) st.devices.names in
+    let room = c.requires.room in
+    omega (arith, count, names, room)
+
 pub give_reset-requires-clause-on : goal.give_reset-requires-clause-on
 give_reset-requires-clause-on g c = here
 

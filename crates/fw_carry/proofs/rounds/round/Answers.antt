@@ -1,4 +1,4 @@
-use Rattle.std.proofs.Common.{subst, refl, ℕ, slice_index_or, arith, sym, ◌∙◌, ◌≡◌, ◌≤◌, ◌+◌, length, true, false, cond, ap}
+use Rattle.std.proofs.Common.{subst, refl, ℕ, slice_index_or, arith, sym, ◌∙◌, ◌≡◌, ◌≤◌, ◌<◌, ◌+◌, Fits, w32, length, true, false, cond, ap}
 use Rattle.std.specs.Prelude.{Err}
 use Rattle.fw_run.specs.declared.limits.TheConstants.{MOST_HALF_STEPS}
 use Rattle.fw_run.specs.State.{numbers_to}
@@ -9,11 +9,22 @@ use Rattle.fw_carry.proofs.Rounding.{round_none, round_skips, round_then, round_
 use Rattle.fw_machine.proofs.Numbers.{count_none, count_more, count_front}
 use Rattle.fw_carry.proofs.rounds.round.Goals as goal
 
-pub half_step-requires-clause-ready : goal.half_step-requires-clause-ready
-half_step-requires-clause-ready g c = ready_after c.requires.ready c.loop-device.invariant.does
+-- the count afterwards is a word
+few_fit : (n each size : ℕ) → each ≡ size → n + size ≤ MOST_HALF_STEPS → Fits w32 (n + each)
+few_fit n each size same few = omega (arith, same, few)
 
-pub half_step-requires-clause-few : goal.half_step-requires-clause-few
-half_step-requires-clause-few g c =
+-- each device has its mark
+within_marks : (from d end : ℕ) → from ≡ d → d < end → end ≤ 63 → from < 63
+within_marks from d end same low most = omega (arith, same, low, most)
+
+pub overflow_add-after : goal.overflow_add-after
+overflow_add-after g c = few_fit _ _ _ c.requires.each c.requires.few
+
+pub bounds-living-from : goal.bounds-living-from
+bounds-living-from g c = within_marks _ _ _ c.from.ensures c.loop-device-test.true c.requires.most
+
+pub half_step-requires : goal.half_step-requires
+half_step-requires g c =
     let count = c.loop-device.invariant.count in
     let few = c.requires.few in
     let within = c.loop-device-test.true in
@@ -21,7 +32,11 @@ half_step-requires-clause-few g c =
     let lives : is_living_in c.args.machine.now c.loop-device.device ≡ true = sym (c.requires.marks c.loop-device.device (omega (arith, c.loop-device-test.true, c.requires.within))) ∙ (ap (λ (i : ℕ). slice_index_or c.args.living.now i false) (sym c.from.ensures) ∙ c.if-not-living-from.false) in
     let more = count_more c.loop-device.device (is_living_in c.args.machine.now) ∙ ap (λ b. length (numbers_to c.loop-device.device (is_living_in c.args.machine.now)) + cond b 1 0) lives in
     let front = count_front (c.loop-device.device + 1) (length c.args.machine.now.devices.names) (is_living_in c.args.machine.now) (omega (arith, within, value)) in
-    omega (arith, count, few, more, front)
+    record {
+      ready = ready_after c.requires.ready c.loop-device.invariant.does;
+      living = c.loop-device.invariant.living _ ∙ lives;
+      few = omega (arith, count, few, more, front);
+    }
 
 pub loop-device-init : goal.loop-device-init
 loop-device-init g c = record { count = omega (arith, count_none (is_living_in c.args.machine.now)); living = λ d. refl; names = refl; does = round_none _ _ _ _ }
@@ -52,6 +67,12 @@ loop-device-preserved-then-not-living-from g c =
       names = c.loop-device.invariant.names;
       does = round_skips _ off c.loop-device.invariant.does;
     }
+
+pub returns-in_err-half_step-clause-living : goal.returns-in_err-half_step-clause-living
+returns-in_err-half_step-clause-living g c = λ d. c.in_err-half_step.ensures.living d ∙ c.loop-device.invariant.living d
+
+pub returns-in_err-half_step-clause-names : goal.returns-in_err-half_step-clause-names
+returns-in_err-half_step-clause-names g c = c.in_err-half_step.ensures.names ∙ c.loop-device.invariant.names
 
 pub returns-in_err-half_step-clause-does : goal.returns-in_err-half_step-clause-does
 returns-in_err-half_step-clause-does g c =

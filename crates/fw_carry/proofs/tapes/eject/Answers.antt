@@ -2,18 +2,21 @@
 use Rattle.std.proofs.Common.{refl, sym, ◌∙◌}
 use Rattle.std.specs.Prelude.{Err, Ok}
 use Rattle.fw_carry.proofs.Doings.{does_one, does_then, ready_after}
-use Rattle.fw_carry.proofs.TapeTurns.{eject_turns, eject_follows, eject_cut, ejects_none, few_devices}
+use Rattle.fw_carry.proofs.TapeTurns.{eject_turns, eject_follows, eject_cut, ejects_none, few_devices, still_declared}
 use Rattle.fw_carry.proofs.tapes.eject.Goals as goal
 
 pub ejected-requires : goal.ejected-requires
 ejected-requires g c = few_devices c.requires.ready c.requires.declared
 
-pub send_frames-requires-clause-ready : goal.send_frames-requires-clause-ready
-send_frames-requires-clause-ready g c =
+pub give-requires : goal.give-requires
+give-requires g c = c.ejected.ensures.fits
+
+pub send_frames-requires : goal.send_frames-requires
+send_frames-requires g c =
     let was = sym c.eject.ensures.was_in ∙ c.if-not-eject.false in
     let turn = eject_turns c.args.machine.now c.eject.new.self c.args.device _ c.requires.declared c.requires.deck was
     c.ejected.ensures.value c.eject.ensures.out in
-    ready_after c.requires.ready (does_one _ _ (Ok _) turn c.in_ok-give.ensures.bytes c.in_ok-give.ensures.faults)
+    record { ready = ready_after c.requires.ready (does_one _ _ (Ok _) turn c.in_ok-give.ensures.bytes c.in_ok-give.ensures.faults); declared = still_declared _ _ _ _ _ c.requires.declared c.eject.ensures.out }
 
 pub returns-then-not-eject : goal.returns-then-not-eject
 returns-then-not-eject g c =

@@ -2,17 +2,20 @@
 use Rattle.std.proofs.Common.{refl, arith}
 use Rattle.std.specs.Prelude.{Err, Ok}
 use Rattle.fw_carry.proofs.Doings.{does_one, does_then, ready_after}
-use Rattle.fw_carry.proofs.TapeTurns.{insert_turns, insert_follows, insert_cut, few_devices}
+use Rattle.fw_carry.proofs.TapeTurns.{insert_turns, insert_follows, insert_cut, few_devices, still_declared}
 use Rattle.fw_carry.proofs.tapes.insert.Goals as goal
 
 pub inserted-requires : goal.inserted-requires
 inserted-requires g c = few_devices c.requires.ready c.requires.declared
 
-pub send_frames-requires-clause-ready : goal.send_frames-requires-clause-ready
-send_frames-requires-clause-ready g c =
+pub give-requires : goal.give-requires
+give-requires g c = c.inserted.ensures.fits
+
+pub send_frames-requires : goal.send_frames-requires
+send_frames-requires g c =
     let turn = insert_turns c.args.machine.now c.insert.new.self c.args.device c.args.tape c.args.system _ c.requires.declared c.requires.deck (omega arith)
     c.inserted.ensures.value c.insert.ensures in
-    ready_after c.requires.ready (does_one _ _ (Ok _) turn c.in_ok-give.ensures.bytes c.in_ok-give.ensures.faults)
+    record { ready = ready_after c.requires.ready (does_one _ _ (Ok _) turn c.in_ok-give.ensures.bytes c.in_ok-give.ensures.faults); declared = still_declared _ _ _ _ _ c.requires.declared c.insert.ensures }
 
 pub returns-in_err-give : goal.returns-in_err-give
 returns-in_err-give g c =
