@@ -1,5 +1,5 @@
 -- A piece behind the bytes that were kept.
-use Rattle.std.proofs.Common.{◌≡◌, inl, inr, ℕ, ◌+◌, ◌-◌, ◌≤◌, ◌<◌, List, [], ◌++◌, length, take, drop, Option, Some, None, arith, ap, sym, subst, ◌∙◌, length-append}
+use Rattle.std.proofs.Common.{◌≡◌, inl, inr, ℕ, ◌+◌, ◌-◌, ◌≤◌, ◌<◌, List, [], ◌++◌, length, take, drop, Option, Some, None, arith, ap, sym, subst, ◌∙◌, length-append, length-take}
 use Rattle.std.proofs.lemmas.Bool.{cases_lt}
 use Rattle.std.proofs.lemmas.List.{take_all, take-take, take-append-le, take-append-drop, length-take-le}
 use Rattle.std.proofs.Math.Seq.{take-append-add, drop-append_seam}
@@ -10,6 +10,16 @@ use Rattle.fw_async.specs.declared.packet.Packet.{Packet}
 use Rattle.fw_async.proofs.NeedLaws.{need_most, fault_stays, no_whole_front}
 use Rattle.fw_async.proofs.FeedLaws.{stays}
 use Rattle.fw_async.proofs.ExactLaws.{whole_from_spells}
+
+-- No fewer bytes are put together than were kept.
+pub none_lost : (piece kept before bytes : List ℕ) → before ≡ kept → bytes ≡ kept ++ take (528 - length kept) piece → length before ≤ length bytes
+none_lost piece kept before bytes same all = omega (arith, ap length same, ap length all, length-append kept (take (528 - length kept) piece))
+
+-- What stands behind the kept bytes has room behind them.
+pub has_room : (old piece kept before bytes : List ℕ) → kept ≡ old → length old ≤ 528 → before ≡ kept → bytes ≡ kept ++ take (528 - length kept) piece
+    → length old + length (take (length bytes - length before) (drop (length before) bytes)) ≤ 528
+has_room old piece kept before bytes is few same all =
+    omega (arith, few, ap length is, ap length same, ap length all, length-append kept (take (528 - length kept) piece), length-take (528 - length kept) piece, length-take (length bytes - length before) (drop (length before) bytes))
 
 -- What was kept, and a front of the piece.
 joined : (old piece : List ℕ) (m k : ℕ) → length old ≤ k → k ≤ length old + m → take k (old ++ take m piece) ≡ old ++ take (k - length old) piece

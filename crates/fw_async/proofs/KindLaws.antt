@@ -1,8 +1,10 @@
 -- The quadlets of a packet whose fields were read from them.
-use Rattle.std.proofs.Common.{◌≡◌, ℕ, ◌/◌, ◌%◌, ◌^◌, ◌<◌, List, [], ◌∷◌, arith, ap, sym, ◌∙◌}
+use Rattle.std.proofs.Common.{◌≡◌, ℕ, ◌+◌, ◌/◌, ◌%◌, ◌^◌, ◌≤◌, ◌<◌, List, [], ◌∷◌, arith, ap, sym, ◌∙◌}
+use Rattle.std.specs.Prelude.{IsTrue, if◌then◌else◌, nat_lt}
+use Rattle.std.proofs.lemmas.Bool.Decides.{nat_tests}
 use Rattle.fw_words.specs.Quadlet.{field, quadlet_at}
 use Rattle.fw_words.specs.Layout.{packed}
-use Rattle.fw_async.specs.Async.{head_fields, size, AreBytes}
+use Rattle.fw_async.specs.Async.{head_fields, size, padding, is_lock_size, is_reply_size, AreBytes}
 use Rattle.fw_async.specs.Reading.{tcode_of}
 use Rattle.fw_async.specs.declared.packet.Head.{Head}
 use Rattle.fw_async.proofs.WholeLaws.{below}
@@ -38,3 +40,13 @@ size_at bytes len low fit e f = ap (λ q. q ∷ []) (of_fields len low (quadlet_
   where
     of_fields : (l o q : ℕ) → q < 2 ^ 32 → l ≡ field q 0 15 → o ≡ field q 16 31 → size l o ≡ q
     of_fields l o q small e f = omega arith
+
+-- of a complete packet with data quadlet 3 is there, and all data
+pub all_there : (n len : ℕ) → 12 ≤ n → n ≡ (if nat_lt n 4 then 12 else if nat_lt n 16 then 16 else 16 + len + padding len) → (16 ≤ n) × (16 + len ≤ n)
+all_there n len begun all = (grind (arith, nat_tests), grind (arith, nat_tests))
+
+pub lock_most : (function len : ℕ) → IsTrue (is_lock_size function len) → len ≤ 16
+lock_most function len h = grind (arith, nat_tests)
+
+pub reply_most : (len : ℕ) → IsTrue (is_reply_size len) → len ≤ 8
+reply_most len h = grind (arith, nat_tests)

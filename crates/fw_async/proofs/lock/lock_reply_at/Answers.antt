@@ -1,8 +1,19 @@
 use Rattle.std.proofs.Common.{rules, ℕ, ◌<◌, [], ◌∷◌, slice_index, length, arith, refl, ap, ◌∙◌}
-use Rattle.fw_words.specs.Quadlet.{quadlet_at}
+use Rattle.fw_words.specs.Quadlet.{field, quadlet_at}
 use Rattle.fw_async.specs.Async.{size}
-use Rattle.fw_async.proofs.KindLaws.{response_at, size_at}
+use Rattle.fw_async.proofs.KindLaws.{response_at, size_at, all_there, reply_most}
 use Rattle.fw_async.proofs.lock.lock_reply_at.Goals as goal
+
+pub function_at-requires : goal.function_at-requires
+function_at-requires c = (all_there (length c.args.bytes.now) (field (quadlet_at c.args.bytes.now 12) 0 15) c.requires.begun c.requires.all).0
+
+pub overflow_cast-result : goal.overflow_cast-result
+overflow_cast-result c = omega (arith, (c.requires.sound.lock refl).1, c.function_at.ensures)
+
+pub data_at-requires : goal.data_at-requires
+data_at-requires c =
+    let there = all_there (length c.args.bytes.now) (field (quadlet_at c.args.bytes.now 12) 0 15) c.requires.begun c.requires.all in
+    (omega arith, (there.0, (reply_most (field (quadlet_at c.args.bytes.now 12) 0 15) (c.requires.sound.lock_response refl), there.1)))
 
 pub returns : goal.returns
 returns c =

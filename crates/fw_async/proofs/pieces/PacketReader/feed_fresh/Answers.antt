@@ -2,7 +2,8 @@ use Rattle.std.proofs.Common.{◌≡◌, ◌-◌, ◌++◌, ℕ, List, [], lengt
 use Rattle.fw_async.specs.Reading.{fault_of, IsPending}
 use Rattle.fw_async.specs.Reader.{State, EndsPacket}
 use Rattle.fw_async.proofs.FeedLaws.{same_state}
-use Rattle.fw_async.proofs.JoinLaws.{is_joined, kept_all, kept_part, kept_packet, kept_fault, shown_whole, reads_part_at, reads_packet_at, holds_by}
+use Rattle.fw_async.proofs.FrontLaws.{front_first}
+use Rattle.fw_async.proofs.JoinLaws.{is_joined, kept_all, kept_part, kept_packet, kept_fault, shown_whole, reads_part_at, reads_packet_at, holds_by, none_lost, has_room}
 use Rattle.fw_async.proofs.pieces.PacketReader.feed_fresh.Goals as goal
 
 pub invariant_of-self : goal.invariant_of-self
@@ -72,3 +73,28 @@ returns-in-None c =
     let all = kept_part c.args.self.now.taken c.args.piece.now c.as_slice-bytes.result.now joint part.1 in
     let P : List ℕ → Type 0 = IsPending in
     (omega (arith, part.0, count, ap length all, length-append c.args.self.now.taken c.args.piece.now), same_state c.append-in-None.new.self (c.args.self.now.taken ++ c.args.piece.now) c.self.inside.fault None (bytes ∙ all) clear, subst P all part.1)
+
+pub slice_bounds-append-count : goal.slice_bounds-append-count
+slice_bounds-append-count c = none_lost c.args.piece.now c.as_slice.result.now c.as_slice-before.result.now c.as_slice-bytes.result.now (c.as_slice-before.ensures.value ∙ sym c.as_slice.ensures.value) (c.as_slice-bytes.ensures.value ∙ c.join.ensures)
+
+pub slice_bounds-append-count-in-None : goal.slice_bounds-append-count-in-None
+slice_bounds-append-count-in-None c = none_lost c.args.piece.now c.as_slice.result.now c.as_slice-before.result.now c.as_slice-bytes.result.now (c.as_slice-before.ensures.value ∙ sym c.as_slice.ensures.value) (c.as_slice-bytes.ensures.value ∙ c.join.ensures)
+
+pub append-requires : goal.append-requires
+append-requires c =
+    (omega arith, has_room c.self.inside.taken c.args.piece.now c.as_slice.result.now c.as_slice-before.result.now c.as_slice-bytes.result.now c.as_slice.ensures.value c.as_slice.ensures.fits (c.as_slice-before.ensures.value ∙ sym c.as_slice.ensures.value) (c.as_slice-bytes.ensures.value ∙ c.join.ensures))
+
+pub append-requires-in-None : goal.append-requires-in-None
+append-requires-in-None c =
+    (omega arith, has_room c.self.inside.taken c.args.piece.now c.as_slice.result.now c.as_slice-before.result.now c.as_slice-bytes.result.now c.as_slice.ensures.value c.as_slice.ensures.fits (c.as_slice-before.ensures.value ∙ sym c.as_slice.ensures.value) (c.as_slice-bytes.ensures.value ∙ c.join.ensures))
+
+pub overflow_sub-result-in-None : goal.overflow_sub-result-in-None
+overflow_sub-result-in-None c =
+    let part = reads_part_at c.as_slice-bytes.result.now c.in-Ok.fed.used c.in-Ok.fed.packet c.in-None.is c.in-Ok.ensures.reads in
+    omega (arith, part.0, none_lost c.args.piece.now c.as_slice.result.now c.as_slice-before.result.now c.as_slice-bytes.result.now (c.as_slice-before.ensures.value ∙ sym c.as_slice.ensures.value) (c.as_slice-bytes.ensures.value ∙ c.join.ensures))
+
+pub invariant_of-self-in-Some : goal.invariant_of-self-in-Some
+invariant_of-self-in-Some c =
+    let clear : c.self.inside.fault ≡ None = ap (λ (s : State). s.fault) c.self.view_is ∙ c.requires.fresh in
+    let P : List ℕ → Type 0 = IsPending in
+    holds_by c.clear.new.self c.self.inside.fault clear (subst P (sym c.clear.ensures) (front_first []))

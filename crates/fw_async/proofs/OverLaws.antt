@@ -1,0 +1,28 @@
+-- The parts of a packet, written one behind the other.
+use Rattle.std.proofs.Common.{◌≡◌, ℕ, ◌+◌, List, [], ◌∷◌, ◌++◌, length, take, replicate, arith, ap, refl, sym, ◌∙◌, append_assoc, append-nil, length-append}
+use Rattle.std.specs.Prelude.{flat_map}
+use Rattle.std.specs.Int.{to_be_bytes, w32}
+use Rattle.fw_async.specs.Async.{parts, padding, spelling}
+use Rattle.fw_async.specs.declared.packet.Packet.{Packet}
+
+-- The three parts are the packet's.
+pub record ArePartsOf (p : Packet) (front block zeros : List ℕ) : Type 0 where
+  pub quadlets : front ≡ flat_map (to_be_bytes w32) (parts p).quadlets
+  pub bytes : block ≡ (parts p).bytes
+  pub padding : zeros ≡ replicate (padding (length block)) 0
+
+pub together : (p : Packet) (front block zeros : List ℕ) → ArePartsOf p front block zeros → front ++ (block ++ zeros) ≡ spelling p
+together p front block zeros h = cc
+
+pub size_together : (p : Packet) (front block zeros : List ℕ) → ArePartsOf p front block zeros → length (spelling p) ≡ length front + length block + length zeros
+size_together p front block zeros h = omega (arith, ap length (together p front block zeros h), length-append front (block ++ zeros), length-append block zeros)
+
+-- Without data the front is all.
+pub front_alone : (p : Packet) (front block : List ℕ) → front ≡ flat_map (to_be_bytes w32) (parts p).quadlets → block ≡ (parts p).bytes → length block ≡ 0 → front ≡ spelling p
+front_alone p front [] e f none = sym (append-nil front) ∙ together p front [] [] (record { quadlets = e; bytes = f; padding = refl })
+front_alone p front (x ∷ xs) e f none = absurd (omega arith)
+
+pub one_after_another : (start one two three front block zeros all : List ℕ) (i j k : ℕ) → take i one ≡ start ++ front → take j two ≡ take i one ++ block → take k three ≡ take j two ++ zeros
+    → front ++ (block ++ zeros) ≡ all → take k three ≡ start ++ all
+one_after_another start one two three front block zeros all i j k first second third e =
+    third ∙ ap (λ t. t ++ zeros) (second ∙ ap (λ t. t ++ block) first) ∙ (append_assoc (start ++ front) block zeros ∙ append_assoc start front (block ++ zeros)) ∙ ap (λ t. start ++ t) e
