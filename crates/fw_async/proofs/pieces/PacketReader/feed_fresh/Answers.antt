@@ -77,8 +77,14 @@ returns-in-None c =
 pub slice_bounds-append-count : goal.slice_bounds-append-count
 slice_bounds-append-count c = none_lost c.args.piece.now c.as_slice.result.now c.as_slice-before.result.now c.as_slice-bytes.result.now (c.as_slice-before.ensures.value ∙ sym c.as_slice.ensures.value) (c.as_slice-bytes.ensures.value ∙ c.join.ensures)
 
+pub slice_bounds-append-start : goal.slice_bounds-append-start
+slice_bounds-append-start c = none_lost c.args.piece.now c.as_slice.result.now c.as_slice-before.result.now c.as_slice-bytes.result.now (c.as_slice-before.ensures.value ∙ sym c.as_slice.ensures.value) (c.as_slice-bytes.ensures.value ∙ c.join.ensures)
+
 pub slice_bounds-append-count-in-None : goal.slice_bounds-append-count-in-None
 slice_bounds-append-count-in-None c = none_lost c.args.piece.now c.as_slice.result.now c.as_slice-before.result.now c.as_slice-bytes.result.now (c.as_slice-before.ensures.value ∙ sym c.as_slice.ensures.value) (c.as_slice-bytes.ensures.value ∙ c.join.ensures)
+
+pub slice_bounds-append-start-in-None : goal.slice_bounds-append-start-in-None
+slice_bounds-append-start-in-None c = none_lost c.args.piece.now c.as_slice.result.now c.as_slice-before.result.now c.as_slice-bytes.result.now (c.as_slice-before.ensures.value ∙ sym c.as_slice.ensures.value) (c.as_slice-bytes.ensures.value ∙ c.join.ensures)
 
 pub append-requires : goal.append-requires
 append-requires c =
