@@ -170,17 +170,7 @@ impl Controllers {
         requires accepted { IsOk (start_of device wanted.now (states_of self.old device).state) }
         ensures { IsTable self.new (count_of self.old) (update (states_of self.old) device (with_state (states_of self.old device) (started (start_of device wanted.now (states_of self.old device).state) (slot_of wanted.now) (states_of self.old device).state))) (dead_of self.old) }
     {
-        let controller = &mut self.list[usize::from(device)];
-        let started = match *wanted {
-            Wanted::PlugToPlug(output, input, channel, overhead) => {
-                controller.start_connect(output, input, channel, overhead)
-            }
-            Wanted::BroadcastOut(output, overhead) => {
-                controller.start_broadcast(device, output, overhead)
-            }
-            Wanted::BroadcastIn(input) => controller.start_listen(device, input),
-        };
-        let _ = started;
+        ask(&mut self.list[usize::from(device)], device, wanted);
         self.calm[usize::from(device)] = false;
         self.fresh[usize::from(device)] = false;
     }
@@ -195,6 +185,23 @@ impl Controllers {
         self.calm[usize::from(device)] = false;
         self.fresh[usize::from(device)] = false;
     }
+}
+
+/// The controller of a device is asked for a connection, which it may refuse.
+fn ask(controller: &mut Controller, device: u8, wanted: &Wanted)
+    requires { SlotFits (slot_of wanted.now) }
+    ensures { controller.new ≡ with_state controller.old (started (start_of device wanted.now controller.old.state) (slot_of wanted.now) controller.old.state) }
+{
+    let started = match *wanted {
+        Wanted::PlugToPlug(output, input, channel, overhead) => {
+            controller.start_connect(output, input, channel, overhead)
+        }
+        Wanted::BroadcastOut(output, overhead) => {
+            controller.start_broadcast(device, output, overhead)
+        }
+        Wanted::BroadcastIn(input) => controller.start_listen(device, input),
+    };
+    let _ = started;
 }
 
 /// Each place is marked.

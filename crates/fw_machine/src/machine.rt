@@ -53,9 +53,14 @@ impl Machine {
     pub fn new(alloc: Global) -> Result<Machine, AllocError>
         ensures { IfOk result (λ m. StandsFor m first_state) }
     {
+        // What takes memory comes first: where there is none, little has to be given back.
+        let devices = Devices::new(alloc)?;
+        let controllers = Controllers::new(alloc)?;
+        let candidates = Candidates::new(alloc)?;
+        let reel = Reel::new(alloc)?;
         Ok(Machine {
-            devices: Devices::new(alloc)?,
-            controllers: Controllers::new(alloc)?,
+            devices,
+            controllers,
             wire: Wire::new(),
             directory: Directory {
                 node: [None; 63],
@@ -68,10 +73,10 @@ impl Machine {
             half_steps: 0,
             written: 0,
             streams: Streams::new(),
-            candidates: Candidates::new(alloc)?,
+            candidates,
             bids: Wire::new(),
             tied: None,
-            reel: Reel::new(alloc)?,
+            reel,
         })
     }
 

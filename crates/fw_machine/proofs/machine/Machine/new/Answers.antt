@@ -31,17 +31,17 @@ nothing_stands = record {
 pub returns : goal.returns
 unfolding list_to
 returns c = record {
-  devices = subst (λ (n : Network). HasDevices n first_state) (sym c.in_ok-new.ensures) nothing_stands;
+  devices = subst (λ (n : Network). HasDevices n first_state) (sym c.in_ok-devices.ensures) nothing_stands;
   clock = record { cycle = refl; reclaiming = refl; half_steps = refl; written = refl; resets = refl };
-  controllers = record { table = c.in_ok-new-2.ensures; directory = refl };
-  wire = subst (λ (w : Pairs). HasWire w first_state) (sym c.new-3.ensures) (wire_empty first_state (λ d. refl));
-  streams = subst (λ (counts : List ℕ). HasStreams counts first_state) (sym c.new-4.ensures) nothing_sent;
+  controllers = record { table = c.in_ok-controllers.ensures; directory = refl };
+  wire = subst (λ (w : Pairs). HasWire w first_state) (sym c.new-5.ensures) (wire_empty first_state (λ d. refl));
+  streams = subst (λ (counts : List ℕ). HasStreams counts first_state) (sym c.new-6.ensures) nothing_sent;
   answered = refl;
   unsent = refl;
   beside = record {
-    election = c.in_ok-new-3.ensures;
-    bids = subst (λ (w : Pairs). HasBids w first_state) (sym c.new-6.ensures) (record { each = λ node. refl });
-    reel = record { tied_is = refl; reel_is = c.in_ok-new-4.ensures };
+    election = c.in_ok-candidates.ensures;
+    bids = subst (λ (w : Pairs). HasBids w first_state) (sym c.new-7.ensures) (record { each = λ node. refl });
+    reel = record { tied_is = refl; reel_is = c.in_ok-reel.ensures };
     run = first_beside;
   };
 }
