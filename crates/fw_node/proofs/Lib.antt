@@ -1,3 +1,4 @@
 pub mod Spaces
 pub mod Served
 mod Followed
+pub mod Places

@@ -60,7 +60,7 @@ missing first plugs offset k e lt same = let n : (offset - first) / 4 ≡ k = om
 changed_here : (place word : ℕ) (r : Request) → offset_of r ≡ place → Manager.after_at place r word ≡ word_after word r
 changed_here place word r e = grind (arith, nat_tests)
 
-kept_elsewhere : (place word : ℕ) (r : Request) → offset_of r ≢ place → Manager.after_at place r word ≡ word
+pub kept_elsewhere : (place word : ℕ) (r : Request) → offset_of r ≢ place → Manager.after_at place r word ≡ word
 kept_elsewhere place word r e = grind (arith, nat_tests)
 
 length_after : (o : Option ℕ) (r : Request) (words : List ℕ) → length (Plugs.after_at o r words) ≡ length words

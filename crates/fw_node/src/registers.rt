@@ -2,13 +2,15 @@
 
 ghost use Rattle.std.specs.Prelude.{◌≡◌, ◌≤◌, ℕ, Some, None, IsSome, IsTrue};
 ghost use Rattle.fw_async.specs.Async.{Fits};
+ghost use Rattle.std.specs.Option.{option_map};
 ghost use Rattle.fw_base.specs.Devices.{has_link};
+ghost use Rattle.fw_csr.specs.Manager.{words_after};
 ghost use Rattle.fw_csr.specs.Requests.{offset_of};
 ghost use Rattle.fw_csr.specs.Replies.{reply};
 ghost use Rattle.fw_tape.specs.Desks.{AnyVendorByte};
 ghost use Rattle.fw_node.specs.Packets.{request_in, requester, response_of};
 ghost use Rattle.fw_node.specs.Fcp.{HasFollowed};
-ghost use Rattle.fw_node.specs.Space.{answer_of, register_at, core_register_at};
+ghost use Rattle.fw_node.specs.Space.{answer_of, register_at, core_register_at, manager_register_at};
 ghost use Rattle.fw_node.specs.State.{after_request, space_of};
 
 use crate::Node;
@@ -21,7 +23,7 @@ use fw_csr::offset::{
     FCP_COMMAND, FCP_RESPONSE, LAST_PLUG_REGISTER, NODE_IDS, OMPR, SPLIT_TIMEOUT_HI,
     SPLIT_TIMEOUT_LO,
 };
-use fw_csr::{Register, Reply, Request};
+use fw_csr::{Manager, Register, Reply, Request};
 use fw_tape::Desk;
 
 impl Node {
@@ -101,16 +103,24 @@ impl Node {
         ensures registers { self.new ≡ after_request (Some r.now) self.old }
         ensures code { result.rcode ≤ 7 }
     {
-        match r.offset() {
-            BUS_MANAGER_ID..=CHANNELS_AVAILABLE_LO => match &mut self.manager {
-                Some(manager) => manager.answer(r),
-                None => Reply::address_error(),
-            },
+        let offset = r.offset();
+        match offset {
+            BUS_MANAGER_ID..=CHANNELS_AVAILABLE_LO => manager_reply(&mut self.manager, r),
             OMPR..=LAST_PLUG_REGISTER => self.plugs.answer(r),
-            offset => match self.core_register(number, now, offset) {
-                Some(register) => register.reply(r),
-                None => Reply::address_error(),
-            },
+            _ => self.core_reply(number, now, offset, r),
+        }
+    }
+
+    /// The reply to a request at a register that each node has, which changes nothing.
+    #[inline(always)]
+    fn core_reply(&self, number: u8, now: u64, offset: u64, r: &Request) -> Reply
+        requires { number ≤ 62 }
+        ensures reply { result ≡ reply (core_register_at (space_of number now self.now) offset) r.now }
+        ensures code { result.rcode ≤ 7 }
+    {
+        match self.core_register(number, now, offset) {
+            Some(register) => register.reply(r),
+            None => Reply::address_error(),
         }
     }
 
@@ -132,5 +142,18 @@ impl Node {
             FCP_RESPONSE => Some(Register::WriteOnly),
             _ => None,
         }
+    }
+}
+
+/// Carries a request out at the manager's registers, where the node is the manager.
+#[inline(always)]
+fn manager_reply(manager: &mut Option<Manager>, r: &Request) -> Reply
+    ensures reply { result ≡ reply (manager_register_at manager.old (offset_of r.now)) r.now }
+    ensures words { manager.new ≡ option_map (λ m. words_after m r.now) manager.old }
+    ensures code { result.rcode ≤ 7 }
+{
+    match manager {
+        Some(manager) => manager.answer(r),
+        None => Reply::address_error(),
     }
 }

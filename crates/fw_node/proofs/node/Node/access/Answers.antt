@@ -1,5 +1,40 @@
+use Rattle.std.proofs.Common.{inl, inr, ap, ◌∙◌, arith}
+use Rattle.fw_csr.specs.Requests.{offset_of}
+use Rattle.fw_csr.specs.Replies.{reply}
+use Rattle.fw_node.specs.Space.{core_register_at}
+use Rattle.fw_node.specs.State.{space_of}
+use Rattle.fw_node.specs.contracts.node.Node.{the_view}
+use Rattle.fw_node.proofs.Places.{manager_register_of, manager_asked, plug_register_of, plugs_asked, core_register_of, core_asked, OfCore}
 use Rattle.fw_node.proofs.node.Node.access.Goals as goal
-use Rattle.fw_node.proofs.node.Node.access.Goals.{in-Some, in-None}
+use Rattle.fw_node.proofs.node.Node.access.Goals.{in_default-via-then-offset-lt281474708275740, in_default-via-else-offset-lt281474708275740+else-offset-lt281474708275753+then-offset-lt281474708277504, in_default-via-else-offset-lt281474708275740+else-offset-lt281474708275753+else-offset-lt281474708277504+else-offset-lt281474708277757}
 
-pub invariant_of-self : goal.invariant_of-self
-invariant_of-self c = elim c.match-self.branch [ in-Some w ↦ rw w.self-inside-is c.self.invariant | in-None w ↦ rw w.self-inside-is c.self.invariant ]
+pub returns-in-281474708275740-to-281474708275752-clause-reply : goal.returns-in-281474708275740-to-281474708275752-clause-reply
+returns-in-281474708275740-to-281474708275752-clause-reply c =
+    c.manager_access.ensures.reply ∙ ap (λ o. reply o c.args.a.now) (manager_register_of (the_view c.self.inside) c.args.self.now c.args.number c.args.now (offset_of c.args.a.now) c.self.view_is (omega arith) (omega arith))
+
+pub returns-in-281474708275740-to-281474708275752-clause-registers : goal.returns-in-281474708275740-to-281474708275752-clause-registers
+returns-in-281474708275740-to-281474708275752-clause-registers c =
+    manager_asked (the_view c.self.inside) c.args.self.now c.manager_access.new.manager c.args.a.now c.self.view_is (c.self.invariant.1, c.self.invariant.2) (omega arith) c.manager_access.ensures.words
+
+pub returns-in-281474708277504-to-281474708277756-clause-reply : goal.returns-in-281474708277504-to-281474708277756-clause-reply
+returns-in-281474708277504-to-281474708277756-clause-reply c =
+    c.access.ensures.reply ∙ ap (λ o. reply o c.args.a.now) (plug_register_of (the_view c.self.inside) c.args.self.now c.args.number c.args.now (offset_of c.args.a.now) c.self.view_is (c.self.invariant.1, c.self.invariant.2) (omega arith) (omega arith))
+
+pub returns-in-281474708277504-to-281474708277756-clause-registers : goal.returns-in-281474708277504-to-281474708277756-clause-registers
+returns-in-281474708277504-to-281474708277756-clause-registers c =
+    plugs_asked (the_view c.self.inside) c.args.self.now c.access.new.self c.args.a.now c.self.view_is (omega arith) c.access.ensures.words
+
+of_core : (c : goal.After-core_access) → OfCore (offset_of c.args.a.now)
+of_core c = elim c.in_default.branch [
+  | in_default-via-then-offset-lt281474708275740 w ↦ (inl (omega arith), inl (omega arith))
+  | in_default-via-else-offset-lt281474708275740+else-offset-lt281474708275753+then-offset-lt281474708277504 w ↦ (inr (omega arith), inl (omega arith))
+  | in_default-via-else-offset-lt281474708275740+else-offset-lt281474708275753+else-offset-lt281474708277504+else-offset-lt281474708277757 w ↦ (inr (omega arith), inr (omega arith))
+]
+
+pub returns-in_default-clause-reply : goal.returns-in_default-clause-reply
+returns-in_default-clause-reply c =
+    c.core_access.ensures.reply ∙ ap (λ n. reply (core_register_at (space_of c.args.number c.args.now c.args.self.now) n) c.args.a.now) c.offset-offset.ensures
+    ∙ ap (λ o. reply o c.args.a.now) (core_register_of c.args.self.now c.args.number c.args.now (offset_of c.args.a.now) (of_core c))
+
+pub returns-in_default-clause-registers : goal.returns-in_default-clause-registers
+returns-in_default-clause-registers c = core_asked (the_view c.self.inside) c.args.self.now c.args.a.now c.self.view_is (c.self.invariant.1, c.self.invariant.2) (of_core c)
