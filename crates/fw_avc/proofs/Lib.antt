@@ -4,3 +4,4 @@ pub mod TapeLaws
 pub mod FitLaws
 pub mod UnitLaws
 pub mod TellLaws
+pub mod TapeRulings

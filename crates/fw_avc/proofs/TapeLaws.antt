@@ -18,13 +18,13 @@ use Rattle.fw_avc.specs.State.{UnitState}
 use Rattle.fw_avc.specs.Replies.{OfUnit, OfTape, Ruling, Repeat, CarryOut, Makes, IsResponse, ruling, found_ruling, state_after, unit_after}
 
 -- the frame as a command of a type to the tape subunit
-abbrev to_tape : ℕ → Frame → Frame
+abbrev pub to_tape : ℕ → Frame → Frame
 to_tape code f = record f { code = code; kind = 4; id = 0 }
 
-abbrev with_tape : Bool → Option Cassette → UnitState → UnitState
+abbrev pub with_tape : Bool → Option Cassette → UnitState → UnitState
 with_tape power t u = record u { power = power; tape = t }
 
-is_to_tape : (f : Frame) (code : ℕ) → f.kind ≡ 4 → f.id ≡ 0 → f.code ≡ code → to_tape code f ≡ f
+pub is_to_tape : (f : Frame) (code : ℕ) → f.kind ≡ 4 → f.id ≡ 0 → f.code ≡ code → to_tape code f ≡ f
 is_to_tape f code kind id e = λ i. record f { code = sym e i; kind = sym kind i; id = sym id i }
 
 -- ---- control and status commands, by row
