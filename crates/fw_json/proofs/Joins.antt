@@ -1,10 +1,12 @@
 -- Pieces of text, one behind another.
-use Rattle.std.proofs.Common.{◌≡◌, refl, ap, sym, ◌∙◌, ℕ, suc, ◌+◌, ◌/◌, ◌%◌, ◌≤◌, ◌<◌, List, [], ◌∷◌, ◌++◌, decimal, Option, Some, append_assoc}
+use Rattle.std.proofs.Common.{◌≡◌, refl, ap, sym, ◌∙◌, ℕ, suc, ◌+◌, ◌/◌, ◌%◌, ◌≤◌, ◌<◌, List, [], ◌∷◌, ◌++◌, length, get_or, drop, map, decimal, Option, Some, append_assoc, add-one, drop-cons}
 use Rattle.std.proofs.lemmas.Fmt.{decimal_digit}
 use Rattle.fw_names.proofs.DecimalLaws.{two_digits}
 use Rattle.std.specs.List.{join_with_byte}
 use Rattle.std.proofs.lemmas.List.{append-nil}
+use Rattle.fw_entry.specs.declared.nodes.NodeRow.{NodeRow}
 use Rattle.fw_json.specs.Values.{field, quoted, code, comma, array}
+use Rattle.fw_json.specs.Ids.{node_object, node_objects}
 
 -- one piece behind another
 pub then : (before after last a b : List ℕ) → after ≡ before ++ a → last ≡ after ++ b → last ≡ before ++ (a ++ b)
@@ -65,6 +67,25 @@ pub row_more : (t after last v : List ℕ) (vs : List (List ℕ)) (n : ℕ) → 
     → last ++ row (suc n) vs ≡ t ++ row n (v ∷ vs)
 row_more t after last v vs n e f =
     ap (λ (x : List ℕ). x ++ row (suc n) vs) (then t after last (comma n) v e f) ∙ append_assoc t (comma n ++ v) (row (suc n) vs)
+
+from_next : {X : Type 0} (xs : List X) (n : ℕ) (d : X) → n < length xs → drop n xs ≡ get_or xs n d ∷ drop (n + 1) xs
+from_next xs n d h = drop-cons xs n d h ∙ ap (λ (k : ℕ). get_or xs n d ∷ drop k xs) (sym (add-one n))
+
+-- the value of the n-th of a list, and what stands before it
+pub row_next : {X : Type 0} (f : X → List ℕ) (xs : List X) (n : ℕ) (d : X) (t after last : List ℕ) → n < length xs → after ≡ t ++ comma n
+    → last ≡ after ++ f (get_or xs n d) → last ++ row (n + 1) (map f (drop (n + 1) xs)) ≡ t ++ row n (map f (drop n xs))
+row_next f xs n d t after last h e g =
+    let vs : List (List ℕ) = map f (drop (n + 1) xs) in
+    ap (λ (k : ℕ). last ++ row k vs) (add-one n) ∙ row_more t after last (f (get_or xs n d)) vs n e g
+    ∙ ap (λ ys. t ++ row n (map f ys)) (sym (from_next xs n d h))
+
+-- the object of the n-th of some nodes, and what stands before it
+pub node_next : (rows : List NodeRow) (n : ℕ) (d : NodeRow) (t after last : List ℕ) → n < length rows → after ≡ t ++ comma n
+    → last ≡ after ++ node_object n (get_or rows n d) → last ++ row (n + 1) (node_objects (n + 1) (drop (n + 1) rows)) ≡ t ++ row n (node_objects n (drop n rows))
+node_next rows n d t after last h e g =
+    let vs : List (List ℕ) = node_objects (n + 1) (drop (n + 1) rows) in
+    ap (λ (k : ℕ). last ++ row k vs) (add-one n) ∙ row_more t after last (node_object n (get_or rows n d)) vs n e g
+    ∙ ap (λ (ys : List NodeRow). t ++ row n (node_objects n ys)) (sym (from_next rows n d h))
 
 -- all values between brackets
 pub closed : (before opened t last : List ℕ) (values : List (List ℕ)) → opened ≡ before ++ (91 ∷ []) → t ++ [] ≡ opened ++ row 0 values

@@ -1,9 +1,9 @@
-use Rattle.std.proofs.Common.{◌≡◌, ◌++◌, ◌∙◌, List, [], ap, sym, arith, map, drop}
+use Rattle.std.proofs.Common.{◌≡◌, ◌<◌, ◌++◌, ◌∙◌, List, [], ap, sym, arith, length, map, drop}
 use Rattle.std.proofs.lemmas.Result.{on_ok_weaker}
 use Rattle.std.proofs.Math.ListN.{drop_of_length-le}
 use Rattle.fw_json.specs.Ids.{id_object}
 use Rattle.fw_phy.specs.declared.packet.PhyPacket.{PhyPacket}
-use Rattle.fw_json.proofs.Joins.{row, closed}
+use Rattle.fw_json.proofs.Joins.{row, row_next, closed}
 use Rattle.fw_json.proofs.ids.put_ids.Goals as goal
 
 pub returns : goal.returns
@@ -12,3 +12,8 @@ returns c =
     drop_of_length-le c.args.ids.now (omega (arith, c.loop-place-test.false, c.loop-place.auto.place-end)) in
     let rows = ap (λ (xs : List PhyPacket). c.loop-place.text.items ++ row c.loop-place.place (map id_object xs)) (sym ended) ∙ c.loop-place.invariant in
     on_ok_weaker c.put_word-2.result (λ piece. closed _ _ _ _ (map id_object c.args.ids.now) c.in_ok-put_word.ensures rows piece) c.put_word-2.ensures
+
+pub loop-place-preserved : goal.loop-place-preserved
+loop-place-preserved c =
+    let within : c.loop-place.place < length c.args.ids.now = omega (arith, c.loop-place-test.true, c.loop-place.auto.place-end) in
+    row_next id_object c.args.ids.now c.loop-place.place _ _ _ _ within c.in_ok-put_comma.ensures c.in_ok-put_id.ensures ∙ c.loop-place.invariant

@@ -1,9 +1,9 @@
-use Rattle.std.proofs.Common.{◌≡◌, ◌++◌, ◌∙◌, ℕ, List, [], ap, sym, arith, map, drop}
+use Rattle.std.proofs.Common.{◌≡◌, ◌<◌, ◌++◌, ◌∙◌, ℕ, List, [], ap, sym, arith, length, map, drop}
 use Rattle.std.proofs.lemmas.Result.{on_ok_weaker}
 use Rattle.std.proofs.Math.ListN.{drop_of_length-le}
 use Rattle.fw_names.specs.Names.{port_name}
 use Rattle.fw_json.specs.Values.{name_value}
-use Rattle.fw_json.proofs.Joins.{row, closed}
+use Rattle.fw_json.proofs.Joins.{moved, row, row_next, closed}
 use Rattle.fw_json.proofs.ids.put_port_names.Goals as goal
 
 pub returns : goal.returns
@@ -12,3 +12,8 @@ returns c =
     drop_of_length-le c.args.ports.now (omega (arith, c.loop-place-test.false, c.loop-place.auto.place-end)) in
     let rows = ap (λ (xs : List ℕ). c.loop-place.text.items ++ row c.loop-place.place (map (λ p. name_value (port_name p)) xs)) (sym ended) ∙ c.loop-place.invariant in
     on_ok_weaker c.put_word-2.result (λ piece. closed _ _ _ _ (map (λ p. name_value (port_name p)) c.args.ports.now) c.in_ok-put_word.ensures rows piece) c.put_word-2.ensures
+
+pub loop-place-preserved : goal.loop-place-preserved
+loop-place-preserved c =
+    let within : c.loop-place.place < length c.args.ports.now = omega (arith, c.loop-place-test.true, c.loop-place.auto.place-end) in
+    row_next (λ p. name_value (port_name p)) c.args.ports.now c.loop-place.place _ _ _ _ within c.in_ok-put_comma.ensures (moved name_value _ _ _ _ c.port_name.ensures c.in_ok-put_name_value.ensures) ∙ c.loop-place.invariant

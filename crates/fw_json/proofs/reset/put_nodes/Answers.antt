@@ -1,9 +1,9 @@
-use Rattle.std.proofs.Common.{◌≡◌, ◌++◌, ◌∙◌, List, [], ap, sym, arith, drop}
+use Rattle.std.proofs.Common.{◌≡◌, ◌<◌, ◌++◌, ◌∙◌, List, [], ap, sym, arith, length, drop}
 use Rattle.std.proofs.lemmas.Result.{on_ok_weaker}
 use Rattle.std.proofs.Math.ListN.{drop_of_length-le}
 use Rattle.fw_json.specs.Ids.{node_objects}
 use Rattle.fw_entry.specs.declared.nodes.NodeRow.{NodeRow}
-use Rattle.fw_json.proofs.Joins.{row, closed}
+use Rattle.fw_json.proofs.Joins.{row, node_next, closed}
 use Rattle.fw_json.proofs.reset.put_nodes.Goals as goal
 
 pub returns : goal.returns
@@ -12,3 +12,8 @@ returns c =
     drop_of_length-le c.args.rows.now (omega (arith, c.loop-node-test.false, c.loop-node.auto.node-end)) in
     let rows = ap (λ (xs : List NodeRow). c.loop-node.text.items ++ row c.loop-node.node (node_objects c.loop-node.node xs)) (sym ended) ∙ c.loop-node.invariant in
     on_ok_weaker c.put_word-2.result (λ piece. closed _ _ _ _ (node_objects 0 c.args.rows.now) c.in_ok-put_word.ensures rows piece) c.put_word-2.ensures
+
+pub loop-node-preserved : goal.loop-node-preserved
+loop-node-preserved c =
+    let within : c.loop-node.node < length c.args.rows.now = omega (arith, c.loop-node-test.true, c.loop-node.auto.node-end) in
+    node_next c.args.rows.now c.loop-node.node _ _ _ _ within c.in_ok-put_comma.ensures c.in_ok-put_node_object.ensures ∙ c.loop-node.invariant
