@@ -7,3 +7,4 @@ pub mod RowLaws
 pub mod ResetLaws
 pub mod LengthLaws
 pub mod NameLaws
+pub mod JoinLaws

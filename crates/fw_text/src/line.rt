@@ -8,7 +8,7 @@ ghost use Rattle.fw_entry.specs.Log.{Fits, EventFits, OutcomeFits, ShownFits, bo
 ghost use Rattle.fw_text.specs.Line.{packet_text, iso_text, name_text, device_text, tape_text, event_text, outcome_text, shown_text, what_text};
 
 use crate::names::packet_name;
-use crate::quadlets::{put_number, put_offset, put_quadlet, put_quadlets, put_small, put_word};
+use crate::quadlets::{put_count, put_offset, put_quadlet, put_quadlets, put_small, put_word};
 use crate::resets::put_reset;
 use crate::tables::Tables;
 use crate::text_room::TextRoom;
@@ -38,8 +38,7 @@ fn put_packet(
 fn put_part(text: &mut TextRoom, tables: &Tables, n: u64) -> Result<(), AllocError>
     ensures { OnOk result (text.new ≡ text.old ++ codes " " ++ decimal n) }
 {
-    put_word(text, " ")?;
-    put_number(text, &tables.numbers, n)
+    put_count(text, &tables.numbers, " ", n)
 }
 
 // Appends the length of a packet behind its isochronous header, between two spaces.
@@ -116,8 +115,7 @@ fn put_shown(text: &mut TextRoom, tables: &Tables, s: &ShownEntry) -> Result<(),
     requires { ShownFits s.now }
     ensures { OnOk result (text.new ≡ text.old ++ shown_text s.now) }
 {
-    put_word(text, "shown ")?;
-    put_number(text, &tables.numbers, u64::from(s.device))?;
+    put_count(text, &tables.numbers, "shown ", u64::from(s.device))?;
     put_offset(text, &tables.pairs, s.offset)?;
     put_quadlet(text, &tables.pairs, s.word)
 }

@@ -39,8 +39,21 @@ pub(crate) fn put_number(text: &mut TextRoom, numbers: &Numbers, n: u64) -> Resu
     text.put(buffer.format(n).as_bytes())
 }
 
+// Appends a word and a number.
+#[inline(always)]
+pub(crate) fn put_count(
+    text: &mut TextRoom,
+    numbers: &Numbers,
+    word: &str,
+    n: u64,
+) -> Result<(), AllocError>
+    ensures { OnOk result (text.new ≡ text.old ++ (word.now ++ decimal n)) }
+{
+    put_word(text, word)?;
+    put_number(text, numbers, n)
+}
+
 // A space, and the digits of a quadlet.
-#[tactic(auto, using(crate::proofs::HexLaws::eight_digits))]
 pub(crate) fn word_of(pairs: &Pairs, q: u32) -> [u8; 9]
     ensures { result ≡ quadlet_text q }
 {
@@ -66,7 +79,6 @@ pub(crate) fn put_quadlet(text: &mut TextRoom, pairs: &Pairs, q: u32) -> Result<
 }
 
 // A space, and the three digits of an offset.
-#[tactic(auto, using(crate::proofs::HexLaws::three_digits))]
 fn offset_of(pairs: &Pairs, offset: u32) -> [u8; 4]
     ensures { result ≡ offset_text offset }
 {

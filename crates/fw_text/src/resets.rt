@@ -8,7 +8,7 @@ ghost use Rattle.fw_entry.specs.declared.entry.ResetEntry.{ResetEntry as AReset}
 ghost use Rattle.fw_text.specs.Line.{manager_text, reset_text};
 ghost use Rattle.fw_text.specs.Resets.{HasHead, IsResetBody, head_text};
 
-use crate::quadlets::{put_ids, put_number, put_word};
+use crate::quadlets::{put_count, put_ids, put_number, put_word};
 use crate::tables::Tables;
 use crate::text_room::TextRoom;
 use fw_entry::ResetEntry;
@@ -37,14 +37,12 @@ fn put_manager(text: &mut TextRoom, tables: &Tables, manager: Option<u8>) -> Res
 fn put_head(text: &mut TextRoom, tables: &Tables, head: ResetHead) -> Result<(), AllocError>
     ensures { OnOk result (text.new ≡ text.old ++ head_text head) }
 {
-    put_word(text, "reset ")?;
-    put_number(text, &tables.numbers, u64::from(head.epoch))?;
-    put_word(text, " root ")?;
-    put_number(text, &tables.numbers, u64::from(head.root))?;
+    let numbers = &tables.numbers;
+    put_count(text, numbers, "reset ", u64::from(head.epoch))?;
+    put_count(text, numbers, " root ", u64::from(head.root))?;
     put_word(text, " manager ")?;
     put_manager(text, tables, head.manager)?;
-    put_word(text, " by ")?;
-    put_number(text, &tables.numbers, u64::from(head.initiator))?;
+    put_count(text, numbers, " by ", u64::from(head.initiator))?;
     put_word(text, ":")
 }
 

@@ -46,6 +46,20 @@ fn grow(bytes: &mut Vec<u8>, count: usize) -> Result<(), AllocError>
     Ok(())
 }
 
+// Makes room for so many bytes more behind those that are filled, which stay as they are.
+#[inline(always)]
+fn make_room(bytes: &mut Vec<u8>, filled: usize, room: usize) -> Result<(), AllocError>
+    requires { filled ≤ length bytes.old.items }
+    ensures room { OnOk result (filled + room ≤ length bytes.new.items) }
+    ensures filled { filled ≤ length bytes.new.items }
+    ensures same { take filled bytes.new.items ≡ take filled bytes.old.items }
+{
+    if room <= bytes.len() - filled {
+        return Ok(());
+    }
+    grow(bytes, room)
+}
+
 impl TextRoom {
     /// No text. An error says that memory ran out.
     pub(crate) fn new(alloc: Global) -> Result<TextRoom, AllocError>
@@ -76,9 +90,7 @@ impl TextRoom {
     pub(crate) fn put(&mut self, piece: &[u8]) -> Result<(), AllocError>
         ensures { OnOk result (self.new ≡ self.old ++ piece.now) }
     {
-        if self.bytes.len() - self.filled < piece.len() {
-            grow(&mut self.bytes, piece.len())?;
-        }
+        make_room(&mut self.bytes, self.filled, piece.len())?;
         let end = self.filled + piece.len();
         self.bytes[self.filled..end].copy_from_slice(piece);
         self.filled = end;
@@ -90,9 +102,7 @@ impl TextRoom {
     pub(crate) fn put_row(&mut self, row: Row) -> Result<(), AllocError>
         ensures { OnOk result (self.new ≡ self.old ++ row.entry) }
     {
-        if self.bytes.len() - self.filled < ROW {
-            grow(&mut self.bytes, ROW)?;
-        }
+        make_room(&mut self.bytes, self.filled, ROW)?;
         self.filled = write_row(&mut self.bytes, self.filled, row);
         Ok(())
     }
@@ -103,9 +113,7 @@ impl TextRoom {
         requires { size ≤ 4 }
         ensures { OnOk result (self.new ≡ self.old ++ take size few) }
     {
-        if self.bytes.len() - self.filled < FEW {
-            grow(&mut self.bytes, FEW)?;
-        }
+        make_room(&mut self.bytes, self.filled, FEW)?;
         self.filled = write_few(&mut self.bytes, self.filled, few, size);
         Ok(())
     }
@@ -116,9 +124,7 @@ impl TextRoom {
         ensures { (ids : List PhyPacket) → bytes.now ≡ flat_map spelling ids → OnOk result (self.new ≡ self.old ++ flat_map id_text ids) }
     {
         let room = WORD * (bytes.len() / 8);
-        if self.bytes.len() - self.filled < room {
-            grow(&mut self.bytes, room)?;
-        }
+        make_room(&mut self.bytes, self.filled, room)?;
         self.filled = write_ids(&mut self.bytes, self.filled, pairs, bytes);
         Ok(())
     }
@@ -136,9 +142,7 @@ impl TextRoom {
         ensures { OnOk result (self.new ≡ self.old ++ (front.entry ++ (word.entry ++ quadlets_text bytes.now) ++ 10 ∷ [])) }
     {
         let room = 2 * ROW + WORD * (bytes.len() / 4) + 1;
-        if self.bytes.len() - self.filled < room {
-            grow(&mut self.bytes, room)?;
-        }
+        make_room(&mut self.bytes, self.filled, room)?;
         let at = write_row(&mut self.bytes, self.filled, front);
         let at = write_row(&mut self.bytes, at, word);
         let at = write_quadlets(&mut self.bytes, at, pairs, bytes);
