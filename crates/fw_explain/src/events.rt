@@ -5,15 +5,15 @@ ghost use Rattle.std.specs.Option.{option_copied};
 ghost use Rattle.fw_explain.specs.Lines.{format_text, block_word, stream_text, iso_text, device_text, saying_text, tape_text, event_text, rcode_text, value_text, ended_text, slot_text, outcome_text, shown_device, shown_place, shown_text};
 
 use crate::lock::put_at;
-use crate::parts::{put_part, put_word_part};
+use crate::parts::{put_named_part, put_part, put_word_part};
 use crate::response::put_rcode;
 use fw_cip::{CipHeader, IsoPacket};
 use fw_csr::REGISTER_SPACE;
 use fw_entry::codes::{NO_DEVICE, outcome};
 use fw_entry::{EventEntry, OutcomeEntry, ShownEntry, has_tape};
 use fw_names::{
-    Pairs, event_name, event_saying, format_name, outcome_name, put_hex4, put_hex6, put_named,
-    put_word, system_name,
+    Pairs, event_name, event_saying, format_name, outcome_name, put_hex4, put_hex6, put_word,
+    system_name,
 };
 use fw_registers::{Place, put_register_word};
 use std::alloc::AllocError;
@@ -99,8 +99,13 @@ fn put_tape(text: &mut Vec<u8>, e: &EventEntry) -> Result<(), AllocError>
         return Ok(());
     }
     put_part(text, " tape ", u64::from(e.tape))?;
-    put_word(text, ", system ")?;
-    put_named(text, system_name(e.system), "lines", u64::from(e.system))
+    put_named_part(
+        text,
+        ", system ",
+        system_name(e.system),
+        "lines",
+        u64::from(e.system),
+    )
 }
 
 // Appends an event.
@@ -108,8 +113,13 @@ fn put_tape(text: &mut Vec<u8>, e: &EventEntry) -> Result<(), AllocError>
 pub(crate) fn put_event(text: &mut Vec<u8>, e: &EventEntry) -> Result<(), AllocError>
     ensures { OnOk result (text.new.items ≡ text.old.items ++ event_text e.now) }
 {
-    put_word(text, "event ")?;
-    put_named(text, event_name(e.code), "code", u64::from(e.code))?;
+    put_named_part(
+        text,
+        "event ",
+        event_name(e.code),
+        "code",
+        u64::from(e.code),
+    )?;
     put_device(text, e.device)?;
     put_word(text, ": ")?;
     put_saying(text, event_saying(e.code))?;
@@ -153,8 +163,13 @@ fn put_value(text: &mut Vec<u8>, pairs: &Pairs, code: u8, value: u32) -> Result<
 fn put_ended(text: &mut Vec<u8>, code: u8) -> Result<(), AllocError>
     ensures { OnOk result (text.new.items ≡ text.old.items ++ ended_text code) }
 {
-    put_word(text, "outcome ")?;
-    put_named(text, outcome_name(code), "code", u64::from(code))
+    put_named_part(
+        text,
+        "outcome ",
+        outcome_name(code),
+        "code",
+        u64::from(code),
+    )
 }
 
 // Appends a device and a slot.

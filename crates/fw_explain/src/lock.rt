@@ -8,7 +8,8 @@ ghost use Rattle.fw_words.specs.Swaps.{quadlet_swap};
 ghost use Rattle.fw_explain.specs.Lines.{at_text, function_text, swap_text, lock_text, made_text, swapped_text, found_text, old_text};
 
 use crate::asked::Asked;
-use fw_names::{Pairs, function_name, put_named, put_quadlet, put_quadlets, put_word};
+use crate::parts::put_named_part;
+use fw_names::{Pairs, function_name, put_quadlet, put_quadlets, put_word};
 use fw_registers::{Place, Told, put_place, put_told};
 use fw_words::{COMPARE_SWAP, Swap, quadlet_at};
 use std::alloc::AllocError;
@@ -27,9 +28,9 @@ pub(crate) fn put_at(text: &mut Vec<u8>, pairs: &Pairs, place: Place) -> Result<
 pub(crate) fn put_function(text: &mut Vec<u8>, function: u8) -> Result<(), AllocError>
     ensures { OnOk result (text.new.items ≡ text.old.items ++ function_text function) }
 {
-    put_word(text, " ")?;
-    put_named(
+    put_named_part(
         text,
+        " ",
         function_name(function),
         "extended_tcode",
         u64::from(function),

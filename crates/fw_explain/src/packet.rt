@@ -5,7 +5,7 @@ ghost use Rattle.fw_explain.specs.Lines.{takes_frames, written_quadlet, written_
 
 use crate::asked::head_of;
 use crate::lock::{put_at, put_lock};
-use crate::parts::put_block;
+use crate::parts::{put_block, put_part};
 use crate::requests::Requests;
 use crate::response::put_response;
 use fw_async::{Head, Packet};
@@ -106,8 +106,7 @@ fn put_head(text: &mut Vec<u8>, pairs: &Pairs, head: &Head) -> Result<(), AllocE
     put_node(text, pairs, head.source)?;
     put_word(text, " to ")?;
     put_node(text, pairs, head.destination)?;
-    put_word(text, " label ")?;
-    put_number(text, u64::from(head.tl))
+    put_part(text, " label ", u64::from(head.tl))
 }
 
 // Appends a packet, by the requests that stand before it.

@@ -1,11 +1,12 @@
 //! Words with what stands behind them.
 
 ghost use Rattle.std.specs.Prelude.{◌≡◌, ◌++◌, OnOk, decimal};
-ghost use Rattle.fw_names.specs.Texts.{quadlet_text};
+ghost use Rattle.std.specs.Option.{option_copied};
+ghost use Rattle.fw_names.specs.Texts.{named, quadlet_text};
 ghost use Rattle.fw_explain.specs.Lines.{block_text};
 ghost use Rattle.fw_explain.specs.Resets.{flag_text};
 
-use fw_names::{Pairs, put_blank_hex, put_number, put_quadlet, put_word};
+use fw_names::{Pairs, put_blank_hex, put_named, put_number, put_quadlet, put_word};
 use std::alloc::AllocError;
 
 // Appends a word and a number.
@@ -31,6 +32,21 @@ pub(crate) fn put_word_part(
     put_quadlet(text, pairs, quadlet)
 }
 
+// Appends a word, and the name that a table has for a number, or another word and the number.
+#[inline(always)]
+pub(crate) fn put_named_part(
+    text: &mut Vec<u8>,
+    word: &str,
+    name: Option<&str>,
+    other: &str,
+    number: u64,
+) -> Result<(), AllocError>
+    ensures { OnOk result (text.new.items ≡ text.old.items ++ (word.now ++ named (option_copied name.entry) other.now number)) }
+{
+    put_word(text, word)?;
+    put_named(text, name, other, number)
+}
+
 // Appends one word or another.
 #[inline(always)]
 #[tactic(auto, unfolding(crate::specs::Resets::flag_text))]
@@ -50,7 +66,6 @@ pub(crate) fn put_flag(
 pub(crate) fn put_block(text: &mut Vec<u8>, pairs: &Pairs, bytes: &[u8]) -> Result<(), AllocError>
     ensures { OnOk result (text.new.items ≡ text.old.items ++ block_text bytes.now) }
 {
-    put_word(text, " data_length ")?;
-    put_number(text, bytes.len() as u64)?;
+    put_part(text, " data_length ", bytes.len() as u64)?;
     put_blank_hex(text, pairs, bytes)
 }

@@ -3,9 +3,9 @@
 ghost use Rattle.std.specs.Prelude.{◌≡◌, ◌++◌, ◌+◌, ◌*◌, ◌<◌, ◌≤◌, OnOk, Some, flat_map, length, slice_get};
 ghost use Rattle.fw_explain.specs.Resets.{port_text, ports_text, row_text, speed_text, link_text, contender_text, gap_text, self_text, number_text, first_id_text, id_text, manager_text, epoch_text, root_text, resource_manager_text, initiator_text, reset_text};
 
-use crate::parts::{put_flag, put_part};
+use crate::parts::{put_flag, put_named_part, put_part};
 use fw_entry::{NodeRow, ResetEntry};
-use fw_names::{device_name, port_name, put_named, put_number, put_word, speed_name};
+use fw_names::{device_name, port_name, put_named, put_word, speed_name};
 use fw_phy::{PhyPacket, SelfId, SelfIdMore};
 use std::alloc::AllocError;
 
@@ -22,10 +22,8 @@ fn put_port(text: &mut Vec<u8>, number: u64, port: u8) -> Result<(), AllocError>
     if port == 0 {
         return Ok(());
     }
-    put_word(text, ", port ")?;
-    put_number(text, number)?;
-    put_word(text, " ")?;
-    put_named(text, port_name(port), "code", u64::from(port))
+    put_part(text, ", port ", number)?;
+    put_named_part(text, " ", port_name(port), "code", u64::from(port))
 }
 
 // Appends the ports of a packet, the first of which has this number.
@@ -46,8 +44,13 @@ fn put_device(text: &mut Vec<u8>, row: &NodeRow) -> Result<(), AllocError>
     ensures { OnOk result (text.new.items ≡ text.old.items ++ row_text (Some row.now)) }
 {
     put_part(text, "device ", u64::from(row.device))?;
-    put_word(text, " ")?;
-    put_named(text, device_name(row.kind), "kind", u64::from(row.kind))?;
+    put_named_part(
+        text,
+        " ",
+        device_name(row.kind),
+        "kind",
+        u64::from(row.kind),
+    )?;
     put_part(text, ", plugs ", u64::from(row.outs))?;
     put_part(text, " out ", u64::from(row.ins))?;
     put_word(text, " in, ")
@@ -164,10 +167,7 @@ fn put_manager(text: &mut Vec<u8>, manager: Option<u8>) -> Result<(), AllocError
     ensures { OnOk result (text.new.items ≡ text.old.items ++ manager_text manager) }
 {
     match manager {
-        Some(node) => {
-            put_word(text, "node ")?;
-            put_number(text, u64::from(node))
-        }
+        Some(node) => put_part(text, "node ", u64::from(node)),
         None => put_word(text, "none"),
     }
 }

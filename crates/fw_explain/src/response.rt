@@ -6,10 +6,10 @@ ghost use Rattle.fw_explain.specs.Lines.{block_text, rcode_text, asked_text, una
 
 use crate::asked::{Answer, Asked};
 use crate::lock::{put_at, put_function, put_old};
-use crate::parts::put_block;
+use crate::parts::{put_block, put_named_part};
 use crate::requests::Requests;
 use fw_async::Packet;
-use fw_names::{Pairs, put_named, put_quadlet, put_word, rcode_name};
+use fw_names::{Pairs, put_quadlet, put_word, rcode_name};
 use fw_registers::{Place, put_register_word};
 use std::alloc::AllocError;
 
@@ -21,8 +21,7 @@ const COMPLETE: u8 = 0;
 pub(crate) fn put_rcode(text: &mut Vec<u8>, rcode: u8) -> Result<(), AllocError>
     ensures { OnOk result (text.new.items ≡ text.old.items ++ rcode_text rcode) }
 {
-    put_word(text, " ")?;
-    put_named(text, rcode_name(rcode), "rcode", u64::from(rcode))
+    put_named_part(text, " ", rcode_name(rcode), "rcode", u64::from(rcode))
 }
 
 // Appends where the request was that a response answers.
