@@ -18,17 +18,19 @@ pub enum Place {
 
 impl Place {
     /// What stands at an offset.
-    #[tactic(auto, unfolding(crate::specs::Places::place_of))]
     pub fn of(offset: u64) -> Place
         ensures { result ≡ place_of offset }
     {
-        match core_register(offset)
-            .or_else(|| bus_register(offset))
-            .or_else(|| unit_register(offset))
-        {
-            Some(register) => Place::Named(register, 0),
-            None => place_in_row(offset),
+        if let Some(register) = core_register(offset) {
+            return Place::Named(register, 0);
         }
+        if let Some(register) = bus_register(offset) {
+            return Place::Named(register, 0);
+        }
+        if let Some(register) = unit_register(offset) {
+            return Place::Named(register, 0);
+        }
+        place_in_row(offset)
     }
 }
 
