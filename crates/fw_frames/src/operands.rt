@@ -105,7 +105,6 @@ fn put_first(
 }
 
 // Appends hours, minutes, seconds and frames.
-#[tactic(auto, unfolding(crate::specs::Frames::operands_as))]
 fn put_time_code(text: &mut Vec<u8>, pairs: &Pairs, operands: &[u8]) -> Result<(), AllocError>
     requires { 5 ≤ length operands.now }
     ensures { OnOk result (text.new.items ≡ text.old.items ++ operands_as (time_code operands.now) 5 operands.now) }
