@@ -1,9 +1,9 @@
-use Rattle.std.proofs.Common.{drop, ap, sym, ◌∙◌}
-use Rattle.fw_log.specs.Stands.{position}
+use Rattle.std.proofs.Common.{◌≡◌, ℕ, length, drop, false, arith, refl, ap, sym, ◌∙◌, length-drop}
+use Rattle.fw_log.specs.Stands.{Position, position}
 use Rattle.fw_log.specs.Reading.{entry_fault, head_fault, header_fault, version_at}
 use Rattle.fw_entry.specs.declared.version.Version.{Version}
 use Rattle.fw_log.specs.declared.stand.Stand.{Stand}
-use Rattle.fw_log.proofs.HeadLaws.{after_header}
+use Rattle.fw_log.proofs.HeadLaws.{after_header, header_refused, behind_header}
 use Rattle.fw_log.proofs.read_head.head_fault.Goals as goal
 
 pub returns-in-None : goal.returns-in-None
@@ -12,3 +12,21 @@ returns-in-None c =
     ∙ ap (λ (v : Version). header_fault c.args.bytes.now (entry_fault v 0 16 0 (drop 16 c.args.bytes.now)))
     (c.version_at.ensures ∙ ap (λ (s : Stand). version_at (position s) c.args.bytes.now) c.in-Header.is)
     ∙ ap (λ (s : Stand). head_fault (position s) c.args.bytes.now) (sym c.in-Header.is)
+
+pub returns-in-Some : goal.returns-in-Some
+returns-in-Some c =
+    header_refused c.args.bytes.now _ c.in-Some.fault c.in-Some.ensures ∙ ap (λ (s : Stand). head_fault (position s) c.args.bytes.now) (sym c.in-Header.is)
+
+pub returns-in-Entries : goal.returns-in-Entries
+returns-in-Entries c =
+    let start : ℕ = c.get.result in
+    let at : Position = record { start = start; last = c.in-Entries.last; ended = false; version = c.in-Entries.version; epoch = c.in-Entries.epoch } in
+    let same : at ≡ position c.args.stand =
+    ap (λ (n : ℕ). record at { start = n }) c.get.ensures.value ∙ ap position (sym c.in-Entries.is) in
+    c.entry_fault-in-Entries.ensures ∙ behind_header at c.args.bytes.now refl (omega (arith, c.get.ensures.nonzero)) ∙ ap (λ (s : Position). head_fault s c.args.bytes.now) same
+
+pub entry_fault-requires-in-Entries : goal.entry_fault-requires-in-Entries
+entry_fault-requires-in-Entries c = omega (arith, c.requires, ap (λ (s : Stand). (position s).start) c.in-Entries.is, c.get.ensures.value)
+
+pub entry_fault-requires : goal.entry_fault-requires
+entry_fault-requires c = omega (arith, c.requires, ap length c.rest.ensures, length-drop 16 c.args.bytes.now)

@@ -1,7 +1,7 @@
 use Rattle.std.proofs.Common.{◌≡◌, ◌-◌, ℕ, List, length, arith, refl, ap, sym, subst, ◌∙◌}
 use Rattle.fw_log.specs.Stands.{Position, position}
 use Rattle.fw_log.specs.Reading.{IsPending}
-use Rattle.fw_log.proofs.FeedLaws.{pending_of}
+use Rattle.fw_log.proofs.FeedLaws.{pending_of, if_none_by}
 use Rattle.fw_log.proofs.FindLaws.{holds_by, pending_at}
 use Rattle.fw_log.proofs.HistoryLaws.{nothing_pending}
 use Rattle.fw_log.specs.Reader.{State, Feeds}
@@ -70,3 +70,19 @@ invariant_of-self c =
     let P : List ℕ → Type 0 = IsPending s in
     holds_by s c.clear.new.self c.self.inside.fault (without_fault c.self.inside.fault c.is_some.result c.is_some.ensures c.if-is_some.false)
     (subst P (sym c.clear.ensures) (nothing_pending s))
+
+pub at_hand-bytes-requires-clause-few : goal.at_hand-bytes-requires-clause-few
+at_hand-bytes-requires-clause-few c = omega (arith, ap length c.as_slice.ensures.value, c.as_slice.ensures.fits)
+
+pub overflow_add-start : goal.overflow_add-start
+overflow_add-start c =
+    let e = before (goal.at.overflow_add-start c).After-as_slice-2 in
+    let clear = without_fault c.self.inside.fault c.is_some.result c.is_some.ensures c.if-is_some.false in
+    let few = c.requires (ap (λ (r : State). r.fault) (sym c.self.view_is) ∙ clear) in
+    omega (arith, few, c.start.ensures ∙ ap (λ (r : State). r.stand.start) c.self.view_is, e.past, e.ends.within)
+
+pub returns-clause-fresh : goal.returns-clause-fresh
+returns-clause-fresh c = without_fault c.self.inside.fault c.is_some.result c.is_some.ensures c.if-is_some.false
+
+pub returns-in_err-end-clause-kept : goal.returns-in_err-end-clause-kept
+returns-in_err-end-clause-kept c = if_none_by c.from_residual.result _ refl
