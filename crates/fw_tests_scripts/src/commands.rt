@@ -74,7 +74,12 @@ fn numbers_of(command: &Command) -> [u32; 4] {
         Command::Device(_, kind, ports, speed) => bytes([*kind, *ports, *speed]),
         Command::Cable((_, a), (_, b)) | Command::Broadcast(_, (_, a), b) => bytes([*a, *b, 0]),
         Command::Connect(_, (_, out), (_, into), channel, overhead) => {
-            [u32::from(*out), u32::from(*into), number_of(*channel), u32::from(*overhead)]
+            [
+                u32::from(*out),
+                u32::from(*into),
+                number_of(*channel),
+                u32::from(*overhead),
+            ]
         }
         Command::Listen(_, (_, n)) | Command::Break(_, n) => bytes([*n, 0, 0]),
         Command::Step(_, n)
