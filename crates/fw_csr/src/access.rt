@@ -1,6 +1,7 @@
 ghost use Rattle.std.specs.Prelude.{◌≡◌};
-ghost use Rattle.fw_csr.specs.Requests.{offset_of, request_at};
+ghost use Rattle.fw_csr.specs.Requests.{request_at};
 
+use crate::{Register, RegisterRequest, Reply};
 use fw_words::Swap;
 use std::marker::Model;
 
@@ -30,17 +31,34 @@ impl QuadletAccess {
         QuadletAccess { offset, swap }
     }
 
-    /// Its offset.
-    pub fn offset(&self) -> u64
-        ensures { result ≡ offset_of self.now }
-    {
-        self.offset
-    }
-
     /// Its offset, and the compare_swap; None in a read.
     pub fn parts(&self) -> (u64, Option<Swap>)
         ensures { self.now ≡ request_at result.0 result.1 }
     {
         (self.offset, self.swap)
+    }
+}
+
+/// No bytes are put together for it.
+impl RegisterRequest for QuadletAccess {
+    ghost request = { λ a. a };
+
+    fn offset(&self) -> u64 {
+        self.offset
+    }
+
+    #[tactic(auto, using(crate::proofs::SwapLaws::same_swap))]
+    fn swap(&self) -> Option<Swap> {
+        let swap = self.parts().1?;
+        Some(swap)
+    }
+
+    #[tactic(auto, using(crate::proofs::SwapLaws::same_swap))]
+    fn reply_at(&self, register: Register) -> Reply {
+        match (register, self.swap) {
+            (Register::ReadOnly(word) | Register::ReadSwap(word), None) => Reply::complete(word),
+            (Register::ReadSwap(word), Some(_)) => Reply::complete(word),
+            _ => Reply::type_error(),
+        }
     }
 }

@@ -19,5 +19,5 @@ pub use offset::{
 };
 pub use register::Register;
 pub use reply::{Reply, ResponseCode};
-pub use request::Request;
+pub use request::{RegisterRequest, Request};
 pub use word::Word;

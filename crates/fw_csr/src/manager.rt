@@ -6,7 +6,7 @@ ghost use Rattle.fw_csr.specs.Manager.{initial_words, register_at, words_after};
 use crate::offset::{
     BANDWIDTH_AVAILABLE, BUS_MANAGER_ID, CHANNELS_AVAILABLE_HI, CHANNELS_AVAILABLE_LO,
 };
-use crate::{QuadletAccess, Register, Reply, Request, Word};
+use crate::{Register, RegisterRequest, Reply, Word};
 use std::marker::Model;
 
 /// BUS_MANAGER_ID while there is no bus manager.
@@ -80,29 +80,15 @@ impl Manager {
 
     /// Carries a request out: address_error where it is at none of the four registers, type_error where it is no
     /// quadlet read and no quadlet compare_swap, else complete.
-    pub fn answer(&mut self, r: &Request) -> Reply
-        ensures reply { result ≡ reply (register_at self.old (offset_of r.now)) r.now }
-        ensures words { self.new ≡ words_after self.old r.now }
+    pub fn answer<R: RegisterRequest>(&mut self, r: &R) -> Reply
+        ensures reply { result ≡ reply (register_at self.old (offset_of (R.request r.now))) (R.request r.now) }
+        ensures words { self.new ≡ words_after self.old (R.request r.now) }
     {
         match r.offset() {
             BUS_MANAGER_ID => self.bus_manager_id.answer(r),
             BANDWIDTH_AVAILABLE => self.bandwidth_available.answer(r),
             CHANNELS_AVAILABLE_HI => self.channels_available_hi.answer(r),
             CHANNELS_AVAILABLE_LO => self.channels_available_lo.answer(r),
-            _ => Reply::address_error(),
-        }
-    }
-
-    /// As `answer`, of a request for a quadlet.
-    pub fn access(&mut self, a: &QuadletAccess) -> Reply
-        ensures reply { result ≡ reply (register_at self.old (offset_of a.now)) a.now }
-        ensures words { self.new ≡ words_after self.old a.now }
-    {
-        match a.offset() {
-            BUS_MANAGER_ID => self.bus_manager_id.access(a),
-            BANDWIDTH_AVAILABLE => self.bandwidth_available.access(a),
-            CHANNELS_AVAILABLE_HI => self.channels_available_hi.access(a),
-            CHANNELS_AVAILABLE_LO => self.channels_available_lo.access(a),
             _ => Reply::address_error(),
         }
     }

@@ -1,7 +1,29 @@
 ghost use Rattle.std.specs.Prelude.{◌≡◌};
+ghost use Rattle.fw_csr.specs.Replies.{reply_at};
 ghost use Rattle.fw_csr.specs.Requests.{offset_of, swap_in};
 
+use crate::{Register, Reply};
 use fw_words::{Bytes16, Data, Swap};
+
+/// What is asked of a register, in whatever form it stands.
+pub trait RegisterRequest {
+    ghost use Rattle.fw_csr.specs.declared.request.Request.{Request};
+
+    /// The request that it is.
+    ghost request: { Self → Request };
+
+    /// The offset that it is at.
+    fn offset(&self) -> u64
+        ensures { result ≡ offset_of (request self.now) };
+
+    /// The quadlet compare_swap that it is. None for each other request, and for each other lock.
+    fn swap(&self) -> Option<Swap>
+        ensures { result ≡ swap_in (request self.now) };
+
+    /// The reply to it at a register.
+    fn reply_at(&self, register: Register) -> Reply
+        ensures { result ≡ reply_at register (request self.now) };
+}
 
 /// What a request packet asks of a node, at a 48-bit destination_offset (IEEE 1394-1995, asynchronous packets). The data
 /// of a block lies elsewhere, as in the bytes of its packet.
@@ -34,11 +56,10 @@ pub enum Request<'a> {
     },
 }
 
-impl<'a> Request<'a> {
-    /// The offset that the request is at.
-    pub fn offset(&self) -> u64
-        ensures { result ≡ offset_of self.now }
-    {
+impl<'a> RegisterRequest for Request<'a> {
+    ghost request = { λ r. r };
+
+    fn offset(&self) -> u64 {
         match self {
             Request::Read { offset }
             | Request::ReadBlock { offset, .. }
@@ -48,10 +69,7 @@ impl<'a> Request<'a> {
         }
     }
 
-    /// The quadlet compare_swap that the request is. None for each other request, and for each other lock.
-    pub fn swap(&self) -> Option<Swap>
-        ensures { result ≡ swap_in self.now }
-    {
+    fn swap(&self) -> Option<Swap> {
         match self {
             Request::Lock {
                 function,
@@ -59,6 +77,21 @@ impl<'a> Request<'a> {
                 ..
             } => Swap::of_lock(*function, bytes.as_slice()),
             _ => None,
+        }
+    }
+
+    fn reply_at(&self, register: Register) -> Reply {
+        match (register, self) {
+            (Register::ReadOnly(word) | Register::ReadSwap(word), Request::Read { .. }) => {
+                Reply::complete(word)
+            }
+            (Register::ReadSwap(word), Request::Lock { .. }) if self.swap().is_some() => {
+                Reply::complete(word)
+            }
+            (Register::WriteOnly, Request::Write { .. } | Request::WriteBlock { .. }) => {
+                Reply::complete(0)
+            }
+            _ => Reply::type_error(),
         }
     }
 }

@@ -2,7 +2,7 @@ ghost use Rattle.std.specs.Prelude.{◌≡◌, ◌≢◌};
 ghost use Rattle.fw_csr.specs.declared.register.Register.TheVariants.{ReadSwap};
 ghost use Rattle.fw_csr.specs.Replies.{reply_at, word_after};
 
-use crate::{QuadletAccess, Register, Reply, Request};
+use crate::{Register, RegisterRequest, Reply};
 use std::marker::Model;
 
 /// A register that can be read, and changed by a quadlet compare_swap alone (IEEE 1394-1995, compare_swap).
@@ -58,25 +58,14 @@ impl Word {
     }
 
     /// Carries a request at this register out.
-    pub fn answer(&mut self, r: &Request) -> Reply
-        ensures reply { result ≡ reply_at (ReadSwap self.old) r.now }
-        ensures word { self.new ≡ word_after self.old r.now }
+    #[tactic(auto, using(crate::proofs::SwapLaws::swap_replied))]
+    pub fn answer<R: RegisterRequest>(&mut self, r: &R) -> Reply
+        ensures reply { result ≡ reply_at (ReadSwap self.old) (R.request r.now) }
+        ensures word { self.new ≡ word_after self.old (R.request r.now) }
     {
         match r.swap() {
             Some(swap) => Reply::complete(self.lock(swap.argument, swap.new)),
-            None => Register::ReadSwap(self.value).reply(r),
-        }
-    }
-
-    /// As `answer`, of a request for the quadlet: no bytes are put together for it.
-    #[tactic(auto, using(crate::proofs::SwapLaws::same_swap))]
-    pub fn access(&mut self, a: &QuadletAccess) -> Reply
-        ensures reply { result ≡ reply_at (ReadSwap self.old) a.now }
-        ensures word { self.new ≡ word_after self.old a.now }
-    {
-        match a.parts().1 {
-            Some(swap) => Reply::complete(self.lock(swap.argument, swap.new)),
-            None => Reply::complete(self.value),
+            None => r.reply_at(Register::ReadSwap(self.value)),
         }
     }
 }

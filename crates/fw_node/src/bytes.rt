@@ -1,19 +1,14 @@
 //! Request packets and their responses as bytes, as they stand on the bus.
 
 ghost use Rattle.std.specs.Prelude.{◌≡◌, ◌≤◌, ℕ, Some, None, IsSome, IsTrue};
-ghost use Rattle.std.specs.Option.{option_map};
 ghost use Rattle.fw_async.specs.Async.{Fits};
 ghost use Rattle.fw_async.specs.Quadlets.{request_packet};
 ghost use Rattle.fw_async.specs.Reader.{Spells};
 ghost use Rattle.fw_async.specs.declared.packet.Packet.{Packet as AsyncPacket};
 ghost use Rattle.fw_base.specs.Devices.{has_link};
-ghost use Rattle.fw_csr.specs.Manager.{words_after};
-ghost use Rattle.fw_csr.specs.Replies.{reply};
-ghost use Rattle.fw_csr.specs.Requests.{offset_of};
 ghost use Rattle.fw_tape.specs.Desks.{AnyVendorByte};
 ghost use Rattle.fw_node.specs.Fcp.{HasFollowed};
 ghost use Rattle.fw_node.specs.Packets.{IsAnswer, IsRequest, IsServed, request_in, requester};
-ghost use Rattle.fw_node.specs.Space.{core_register_at, manager_register_at, register_at};
 ghost use Rattle.fw_node.specs.State.{after_request, space_of};
 
 use crate::Node;
@@ -23,8 +18,7 @@ use arrayvec::ArrayVec;
 use fw_async::{
     Packet, PacketRoom, QuadletRequest, quadlet_request_at, whole_packet, write_packet,
 };
-use fw_csr::offset::{BUS_MANAGER_ID, CHANNELS_AVAILABLE_LO, LAST_PLUG_REGISTER, OMPR};
-use fw_csr::{Manager, QuadletAccess, Reply};
+use fw_csr::Reply;
 use fw_tape::Desk;
 
 impl Node {
@@ -81,7 +75,7 @@ impl Node {
         ensures response { IsServed (space_of number now self.old) (request_packet asked.now) out.new result }
         ensures registers { self.new ≡ after_request (request_in (request_packet asked.now)) self.old }
     {
-        let reply = self.access(number, now, &asked_of(asked));
+        let reply = self.reply(number, now, &asked_of(asked));
         put_reply(number, asked, reply, out);
         reply
     }
@@ -97,46 +91,5 @@ impl Node {
         let reply = self.reply(number, now, &request_of(p));
         out.put(&response(number, p, reply));
         reply
-    }
-
-    /// As `reply`, of a request for a quadlet: where it is a swap, its eight bytes are not put together to be read again.
-    fn access(&mut self, number: u8, now: u64, a: &QuadletAccess) -> Reply
-        requires { number ≤ 62 }
-        ensures reply { result ≡ reply (register_at (space_of number now self.old) (offset_of a.now)) a.now }
-        ensures registers { self.new ≡ after_request (Some a.now) self.old }
-        ensures code { result.rcode ≤ 7 }
-    {
-        let offset = a.offset();
-        match offset {
-            OMPR..=LAST_PLUG_REGISTER => self.plugs.access(a),
-            BUS_MANAGER_ID..=CHANNELS_AVAILABLE_LO => manager_access(&mut self.manager, a),
-            _ => self.core_access(number, now, offset, a),
-        }
-    }
-
-    /// The reply to a request at a register that each node has, which changes nothing.
-    #[inline(always)]
-    fn core_access(&self, number: u8, now: u64, offset: u64, a: &QuadletAccess) -> Reply
-        requires number { number ≤ 62 }
-        ensures reply { result ≡ reply (core_register_at (space_of number now self.now) offset) a.now }
-        ensures code { result.rcode ≤ 7 }
-    {
-        match self.core_register(number, now, offset) {
-            Some(register) => register.access(a),
-            None => Reply::address_error(),
-        }
-    }
-}
-
-/// Carries a request out at the manager's registers, where the node is the manager.
-#[inline(always)]
-fn manager_access(manager: &mut Option<Manager>, a: &QuadletAccess) -> Reply
-    ensures reply { result ≡ reply (manager_register_at manager.old (offset_of a.now)) a.now }
-    ensures words { manager.new ≡ option_map (λ m. words_after m a.now) manager.old }
-    ensures code { result.rcode ≤ 7 }
-{
-    match manager {
-        Some(manager) => manager.access(a),
-        None => Reply::address_error(),
     }
 }

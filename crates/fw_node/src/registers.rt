@@ -23,7 +23,7 @@ use fw_csr::offset::{
     FCP_COMMAND, FCP_RESPONSE, LAST_PLUG_REGISTER, NODE_IDS, OMPR, SPLIT_TIMEOUT_HI,
     SPLIT_TIMEOUT_LO,
 };
-use fw_csr::{Manager, Register, Reply, Request};
+use fw_csr::{Manager, Register, RegisterRequest, Reply, Request};
 use fw_tape::Desk;
 
 impl Node {
@@ -79,7 +79,7 @@ impl Node {
             None => unreachable!(),
         };
         match self.register(number, now, offset) {
-            Some(register) => register.reply(&Request::Read { offset }),
+            Some(register) => Request::Read { offset }.reply_at(register),
             None => Reply::address_error(),
         }
     }
@@ -97,10 +97,10 @@ impl Node {
     }
 
     /// Carries a request out at the register that it is at, if there is one.
-    pub(crate) fn reply(&mut self, number: u8, now: u64, r: &Request) -> Reply
+    pub(crate) fn reply<R: RegisterRequest>(&mut self, number: u8, now: u64, r: &R) -> Reply
         requires { number ≤ 62 }
-        ensures reply { result ≡ reply (register_at (space_of number now self.old) (offset_of r.now)) r.now }
-        ensures registers { self.new ≡ after_request (Some r.now) self.old }
+        ensures reply { result ≡ reply (register_at (space_of number now self.old) (offset_of (R.request r.now))) (R.request r.now) }
+        ensures registers { self.new ≡ after_request (Some (R.request r.now)) self.old }
         ensures code { result.rcode ≤ 7 }
     {
         let offset = r.offset();
@@ -113,13 +113,13 @@ impl Node {
 
     /// The reply to a request at a register that each node has, which changes nothing.
     #[inline(always)]
-    fn core_reply(&self, number: u8, now: u64, offset: u64, r: &Request) -> Reply
+    fn core_reply<R: RegisterRequest>(&self, number: u8, now: u64, offset: u64, r: &R) -> Reply
         requires { number ≤ 62 }
-        ensures reply { result ≡ reply (core_register_at (space_of number now self.now) offset) r.now }
+        ensures reply { result ≡ reply (core_register_at (space_of number now self.now) offset) (R.request r.now) }
         ensures code { result.rcode ≤ 7 }
     {
         match self.core_register(number, now, offset) {
-            Some(register) => register.reply(r),
+            Some(register) => r.reply_at(register),
             None => Reply::address_error(),
         }
     }
@@ -147,9 +147,9 @@ impl Node {
 
 /// Carries a request out at the manager's registers, where the node is the manager.
 #[inline(always)]
-fn manager_reply(manager: &mut Option<Manager>, r: &Request) -> Reply
-    ensures reply { result ≡ reply (manager_register_at manager.old (offset_of r.now)) r.now }
-    ensures words { manager.new ≡ option_map (λ m. words_after m r.now) manager.old }
+fn manager_reply<R: RegisterRequest>(manager: &mut Option<Manager>, r: &R) -> Reply
+    ensures reply { result ≡ reply (manager_register_at manager.old (offset_of (R.request r.now))) (R.request r.now) }
+    ensures words { manager.new ≡ option_map (λ m. words_after m (R.request r.now)) manager.old }
     ensures code { result.rcode ≤ 7 }
 {
     match manager {

@@ -4,7 +4,7 @@ ghost use Rattle.fw_csr.specs.declared.register.Register.TheVariants.{ReadSwap};
 ghost use Rattle.fw_plug.specs.Plugs.{disconnected, is_active, plug_after_reset, plug_after_second};
 
 use crate::word::is_connected;
-use fw_csr::{QuadletAccess, Reply, Request, Word};
+use fw_csr::{RegisterRequest, Reply, Word};
 use fw_words::{Quadlet, with_field};
 
 /// A plug with its control register (IEC 61883-1, 7).
@@ -43,28 +43,14 @@ impl Plug {
     }
 
     /// Carries a request at the register out. A plug whose word it changes lingers no more.
-    pub fn answer(&mut self, r: &Request) -> Reply
-        ensures reply { result ≡ reply_at (ReadSwap self.old.word) r.now }
-        ensures word { self.new.word ≡ word_after self.old.word r.now }
-        ensures lingers { self.new.lingers ≡ ((word_after self.old.word r.now == self.old.word) && self.old.lingers) }
+    pub fn answer<R: RegisterRequest>(&mut self, r: &R) -> Reply
+        ensures reply { result ≡ reply_at (ReadSwap self.old.word) (R.request r.now) }
+        ensures word { self.new.word ≡ word_after self.old.word (R.request r.now) }
+        ensures lingers { self.new.lingers ≡ ((word_after self.old.word (R.request r.now) == self.old.word) && self.old.lingers) }
     {
         let before = self.word.get();
         let reply = self.word.answer(r);
         if self.word.get() != before {
-            self.lingers = false;
-        }
-        reply
-    }
-
-    /// As `answer`, of a request for the quadlet.
-    pub fn access(&mut self, a: &QuadletAccess) -> Reply
-        ensures reply { result ≡ reply_at (ReadSwap self.old.word) a.now }
-        ensures word { self.new.word ≡ word_after self.old.word a.now }
-        ensures lingers { self.new.lingers ≡ ((word_after self.old.word a.now == self.old.word) && self.old.lingers) }
-    {
-        let was = self.word.get();
-        let reply = self.word.access(a);
-        if self.word.get() != was {
             self.lingers = false;
         }
         reply

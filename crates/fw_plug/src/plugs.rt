@@ -7,7 +7,7 @@ ghost use Rattle.fw_plug.specs.Plugs.{first_words, table_of, register_at, output
 use crate::row::Row;
 use crate::{InWord, OutWord};
 use fw_csr::offset::{IMPR, IPCR, OMPR, OPCR};
-use fw_csr::{QuadletAccess, Register, Reply, Request};
+use fw_csr::{Register, RegisterRequest, Reply};
 use fw_words::with_field;
 use std::marker::Model;
 
@@ -55,28 +55,15 @@ impl Plugs {
 
     /// Carries a request out: address_error where it is at none of the registers, type_error where it is no quadlet read
     /// and, at a plug control register, no quadlet compare_swap, else complete.
-    pub fn answer(&mut self, r: &Request) -> Reply
-        ensures reply { result ≡ reply (register_at (table_of self.old) (offset_of r.now)) r.now }
-        ensures words { self.new ≡ words_after self.old r.now }
+    pub fn answer<R: RegisterRequest>(&mut self, r: &R) -> Reply
+        ensures reply { result ≡ reply (register_at (table_of self.old) (offset_of (R.request r.now))) (R.request r.now) }
+        ensures words { self.new ≡ words_after self.old (R.request r.now) }
     {
         match r.offset() {
-            OMPR => self.output_master().reply(r),
-            IMPR => self.input_master().reply(r),
+            OMPR => r.reply_at(self.output_master()),
+            IMPR => r.reply_at(self.input_master()),
             offset if offset < IMPR => self.outputs.answer(OPCR, r),
             _ => self.inputs.answer(IPCR, r),
-        }
-    }
-
-    /// As `answer`, of a request for a quadlet.
-    pub fn access(&mut self, a: &QuadletAccess) -> Reply
-        ensures reply { result ≡ reply (register_at (table_of self.old) (offset_of a.now)) a.now }
-        ensures words { self.new ≡ words_after self.old a.now }
-    {
-        match a.offset() {
-            OMPR => self.output_master().access(a),
-            IMPR => self.input_master().access(a),
-            offset if offset < IMPR => self.outputs.access(OPCR, a),
-            _ => self.inputs.access(IPCR, a),
         }
     }
 

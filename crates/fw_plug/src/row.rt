@@ -7,7 +7,7 @@ ghost use Rattle.fw_plug.specs.Plugs.{active, after_at, disconnected, is_active,
 
 use crate::plug::Plug;
 use arrayvec::ArrayVec;
-use fw_csr::{QuadletAccess, Register, Reply, Request};
+use fw_csr::{Register, RegisterRequest, Reply};
 use std::marker::Model;
 
 /// At most 31 plugs.
@@ -52,21 +52,12 @@ impl Row {
     }
 
     /// Carries a request out where the registers begin at `first`.
-    pub fn answer(&mut self, first: u64, r: &Request) -> Reply
-        ensures reply { result ≡ reply (plug_register (slice_index self.old.words) (plug_at first (length self.old.words) (offset_of r.now))) r.now }
-        ensures words { self.new.words ≡ after_at (plug_at first (length self.old.words) (offset_of r.now)) r.now self.old.words }
-        ensures lingering { self.new.lingering ≡ lingering_after (plug_at first (length self.old.words) (offset_of r.now)) r.now self.old.words self.old.lingering }
+    pub fn answer<R: RegisterRequest>(&mut self, first: u64, r: &R) -> Reply
+        ensures reply { result ≡ reply (plug_register (slice_index self.old.words) (plug_at first (length self.old.words) (offset_of (R.request r.now)))) (R.request r.now) }
+        ensures words { self.new.words ≡ after_at (plug_at first (length self.old.words) (offset_of (R.request r.now))) (R.request r.now) self.old.words }
+        ensures lingering { self.new.lingering ≡ lingering_after (plug_at first (length self.old.words) (offset_of (R.request r.now))) (R.request r.now) self.old.words self.old.lingering }
     {
         answer_in(self.plugs.as_mut_slice(), first, r)
-    }
-
-    /// As `answer`, of a request for a quadlet.
-    pub fn access(&mut self, first: u64, a: &QuadletAccess) -> Reply
-        ensures reply { result ≡ reply (plug_register (slice_index self.old.words) (plug_at first (length self.old.words) (offset_of a.now))) a.now }
-        ensures words { self.new.words ≡ after_at (plug_at first (length self.old.words) (offset_of a.now)) a.now self.old.words }
-        ensures lingering { self.new.lingering ≡ lingering_after (plug_at first (length self.old.words) (offset_of a.now)) a.now self.old.words self.old.lingering }
-    {
-        access_in(self.plugs.as_mut_slice(), first, a)
     }
 
     /// A bus reset: no plug is connected any more, and those that were active linger.
@@ -114,28 +105,15 @@ fn copies(count: u8, word: u32) -> ArrayVec<Plug, 31>
     plugs
 }
 
-fn answer_in(plugs: &mut [Plug], first: u64, r: &Request) -> Reply
-    ensures reply { result ≡ reply (plug_register (slice_index (words_of plugs.old)) (plug_at first (length plugs.old) (offset_of r.now))) r.now }
-    ensures words { words_of plugs.new ≡ after_at (plug_at first (length plugs.old) (offset_of r.now)) r.now (words_of plugs.old) }
-    ensures lingering { lingering_of plugs.new ≡ lingering_after (plug_at first (length plugs.old) (offset_of r.now)) r.now (words_of plugs.old) (lingering_of plugs.old) }
+fn answer_in<R: RegisterRequest>(plugs: &mut [Plug], first: u64, r: &R) -> Reply
+    ensures reply { result ≡ reply (plug_register (slice_index (words_of plugs.old)) (plug_at first (length plugs.old) (offset_of (R.request r.now)))) (R.request r.now) }
+    ensures words { words_of plugs.new ≡ after_at (plug_at first (length plugs.old) (offset_of (R.request r.now))) (R.request r.now) (words_of plugs.old) }
+    ensures lingering { lingering_of plugs.new ≡ lingering_after (plug_at first (length plugs.old) (offset_of (R.request r.now))) (R.request r.now) (words_of plugs.old) (lingering_of plugs.old) }
     ensures count { length plugs.new ≡ length plugs.old }
 {
     match plug_at(r.offset(), first, plugs.len()) {
         Some(n) => plugs[n].answer(r),
         None => Reply::address_error(),
-    }
-}
-
-fn access_in(plugs: &mut [Plug], first: u64, a: &QuadletAccess) -> Reply
-    ensures reply { result ≡ reply (plug_register (slice_index (words_of plugs.old)) (plug_at first (length plugs.old) (offset_of a.now))) a.now }
-    ensures words { words_of plugs.new ≡ after_at (plug_at first (length plugs.old) (offset_of a.now)) a.now (words_of plugs.old) }
-    ensures lingering { lingering_of plugs.new ≡ lingering_after (plug_at first (length plugs.old) (offset_of a.now)) a.now (words_of plugs.old) (lingering_of plugs.old) }
-    ensures count { length plugs.new ≡ length plugs.old }
-{
-    if let Some(n) = plug_at(a.offset(), first, plugs.len()) {
-        plugs[n].access(a)
-    } else {
-        Reply::address_error()
     }
 }
 

@@ -9,32 +9,33 @@ use Rattle.fw_node.proofs.node.Node.reply.Goals as goal
 use Rattle.fw_node.proofs.node.Node.reply.Goals.{in_default-via-then-offset-lt281474708275740, in_default-via-else-offset-lt281474708275740+else-offset-lt281474708275753+then-offset-lt281474708277504, in_default-via-else-offset-lt281474708275740+else-offset-lt281474708275753+else-offset-lt281474708277504+else-offset-lt281474708277757}
 
 pub returns-in-281474708275740-to-281474708275752-clause-reply : goal.returns-in-281474708275740-to-281474708275752-clause-reply
-returns-in-281474708275740-to-281474708275752-clause-reply c =
-    c.manager_reply.ensures.reply ∙ ap (λ o. reply o c.args.r.now) (manager_register_of (the_view c.self.inside) c.args.self.now c.args.number c.args.now (offset_of c.args.r.now) c.self.view_is (omega arith) (omega arith))
+returns-in-281474708275740-to-281474708275752-clause-reply g c =
+    c.manager_reply.ensures.reply ∙ ap (λ o. reply o (g.R.RegisterRequest.request c.args.r.now)) (manager_register_of (the_view c.self.inside) c.args.self.now c.args.number c.args.now (offset_of (g.R.RegisterRequest.request c.args.r.now)) c.self.view_is (omega arith) (omega arith))
 
 pub returns-in-281474708275740-to-281474708275752-clause-registers : goal.returns-in-281474708275740-to-281474708275752-clause-registers
-returns-in-281474708275740-to-281474708275752-clause-registers c =
-    manager_asked (the_view c.self.inside) c.args.self.now c.manager_reply.new.manager c.args.r.now c.self.view_is (c.self.invariant.1, c.self.invariant.2) (omega arith) c.manager_reply.ensures.words
+returns-in-281474708275740-to-281474708275752-clause-registers g c =
+    manager_asked (the_view c.self.inside) c.args.self.now c.manager_reply.new.manager (g.R.RegisterRequest.request c.args.r.now) c.self.view_is (c.self.invariant.1, c.self.invariant.2) (omega arith) c.manager_reply.ensures.words
 
 pub returns-in-281474708277504-to-281474708277756-clause-reply : goal.returns-in-281474708277504-to-281474708277756-clause-reply
-returns-in-281474708277504-to-281474708277756-clause-reply c =
-    c.answer.ensures.reply ∙ ap (λ o. reply o c.args.r.now) (plug_register_of (the_view c.self.inside) c.args.self.now c.args.number c.args.now (offset_of c.args.r.now) c.self.view_is (c.self.invariant.1, c.self.invariant.2) (omega arith) (omega arith))
+returns-in-281474708277504-to-281474708277756-clause-reply g c =
+    c.answer.ensures.reply ∙ ap (λ o. reply o (g.R.RegisterRequest.request c.args.r.now)) (plug_register_of (the_view c.self.inside) c.args.self.now c.args.number c.args.now (offset_of (g.R.RegisterRequest.request c.args.r.now)) c.self.view_is (c.self.invariant.1, c.self.invariant.2) (omega arith) (omega arith))
 
 pub returns-in-281474708277504-to-281474708277756-clause-registers : goal.returns-in-281474708277504-to-281474708277756-clause-registers
-returns-in-281474708277504-to-281474708277756-clause-registers c =
-    plugs_asked (the_view c.self.inside) c.args.self.now c.answer.new.self c.args.r.now c.self.view_is (omega arith) c.answer.ensures.words
+returns-in-281474708277504-to-281474708277756-clause-registers g c =
+    plugs_asked (the_view c.self.inside) c.args.self.now c.answer.new.self (g.R.RegisterRequest.request c.args.r.now) c.self.view_is (omega arith) c.answer.ensures.words
 
-of_core : (c : goal.After-core_reply) → OfCore (offset_of c.args.r.now)
-of_core c = elim c.in_default.branch [
+of_core : (g : _) (c : goal.After-core_reply g) → OfCore (offset_of (g.R.RegisterRequest.request c.args.r.now))
+of_core g c = elim c.in_default.branch [
   | in_default-via-then-offset-lt281474708275740 w ↦ (inl (omega arith), inl (omega arith))
   | in_default-via-else-offset-lt281474708275740+else-offset-lt281474708275753+then-offset-lt281474708277504 w ↦ (inr (omega arith), inl (omega arith))
   | in_default-via-else-offset-lt281474708275740+else-offset-lt281474708275753+else-offset-lt281474708277504+else-offset-lt281474708277757 w ↦ (inr (omega arith), inr (omega arith))
 ]
 
 pub returns-in_default-clause-reply : goal.returns-in_default-clause-reply
-returns-in_default-clause-reply c =
-    c.core_reply.ensures.reply ∙ ap (λ n. reply (core_register_at (space_of c.args.number c.args.now c.args.self.now) n) c.args.r.now) c.offset-offset.ensures
-    ∙ ap (λ o. reply o c.args.r.now) (core_register_of c.args.self.now c.args.number c.args.now (offset_of c.args.r.now) (of_core c))
+returns-in_default-clause-reply g c =
+    c.core_reply.ensures.reply ∙ ap (λ n. reply (core_register_at (space_of c.args.number c.args.now c.args.self.now) n) (g.R.RegisterRequest.request c.args.r.now)) c.offset-offset.ensures
+    ∙ ap (λ o. reply o (g.R.RegisterRequest.request c.args.r.now)) (core_register_of c.args.self.now c.args.number c.args.now (offset_of (g.R.RegisterRequest.request c.args.r.now)) (of_core g c))
 
 pub returns-in_default-clause-registers : goal.returns-in_default-clause-registers
-returns-in_default-clause-registers c = core_asked (the_view c.self.inside) c.args.self.now c.args.r.now c.self.view_is (c.self.invariant.1, c.self.invariant.2) (of_core c)
+returns-in_default-clause-registers g c =
+    core_asked (the_view c.self.inside) c.args.self.now (g.R.RegisterRequest.request c.args.r.now) c.self.view_is (c.self.invariant.1, c.self.invariant.2) (of_core g c)

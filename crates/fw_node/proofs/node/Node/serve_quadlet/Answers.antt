@@ -8,5 +8,5 @@ pub returns-clause-response : goal.returns-clause-response
 returns-clause-response c =
     let s = space_of c.args.number c.args.now c.args.self.now in
     let p = request_packet c.args.asked.now in
-    let x = answered c.args.number p c.asked_of.result c.access-reply.result c.asked_of.ensures in
-    served s p x.0 c.asked_of.result c.access-reply.result c.put_reply.new.out c.asked_of.ensures c.access-reply.ensures.reply (omega (arith, c.access-reply.type_inv)) x.1 (c.put_reply.ensures x.0 x.1)
+    let x = answered c.args.number p c.asked_of.result c.reply-reply.result c.asked_of.ensures in
+    served s p x.0 c.asked_of.result c.reply-reply.result c.put_reply.new.out c.asked_of.ensures c.reply-reply.ensures.reply (omega (arith, c.reply-reply.type_inv)) x.1 (c.put_reply.ensures x.0 x.1)
