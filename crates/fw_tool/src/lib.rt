@@ -4,6 +4,7 @@
 mod about;
 mod dispatch;
 mod ending;
+mod flush;
 mod forms;
 mod laws;
 mod logs;
@@ -15,11 +16,12 @@ mod words;
 
 pub use about::About;
 pub use ending::Ending;
+pub use flush::Flush;
 pub use fw_decode::{LogWord, NoMap, Unsound};
 pub use fw_gen::{GrowSink, gen_script};
 pub use fw_simulate::{Refusal, Refused, ScriptWord};
 pub use fw_text::entry_text;
 pub use laws::whole_logs_are_read;
 pub use notes::{NOTE_ROOM, tell};
-pub use session::{Flush, fire};
+pub use session::fire;
 pub use words::Word;

@@ -1,55 +1,17 @@
 //! The whole call: what the words say, the last flush, and the note of the ending.
 
-ghost use Rattle.std.specs.Prelude.{◌≡◌, List, ℕ, Bool, true, false, [], take, IsTrue, IsOk, OnOk, OnErr};
-ghost use Rattle.fw_outside.specs.Outside.{Rose};
+ghost use Rattle.std.specs.Prelude.{◌≡◌};
 ghost use Rattle.fw_tape.specs.Desks.{AnyBlock, AnyVendorByte};
 ghost use Rattle.fw_tool.specs.Closing.{closed};
 ghost use Rattle.fw_tool.specs.Serving.{Serves};
 
 use crate::dispatch::carry_out;
 use crate::ending::Ending;
+use crate::flush::Flush;
 use crate::notes::tell;
-use fw_outside::{BufferedSink, Failed, MemSink, Sink, Source, Stop};
+use fw_outside::{Failed, Sink, Source, Stop};
 use fw_tape::Desk;
 use std::alloc::Global;
-use std::io::Write;
-
-/// A sink that may keep bytes back.
-pub trait Flush: Sink {
-    /// The bytes that it keeps back.
-    ghost kept: { Self → List ℕ };
-
-    /// Whether it passes each piece on as it is written, so that a last flush has nothing to do.
-    ghost at_once: { Self → Bool };
-
-    /// Passes on what is kept back.
-    fn pass_all(&mut self) -> Result<(), Failed>
-        ensures held { Self.held self.new ≡ Self.held self.old }
-        ensures empty { OnOk result (kept self.new ≡ []) }
-        ensures same { OnOk result (Self.faults self.new ≡ Self.faults self.old) }
-        ensures risen { OnErr result (Rose (Self.faults self.old) (Self.faults self.new)) }
-        ensures at_once { IsTrue (at_once self.old) → (self.new ≡ self.old) × IsOk result };
-}
-
-impl<W: Write> Flush for BufferedSink<W> {
-    ghost kept = { λ s. take s.length s.bytes };
-
-    ghost at_once = { λ _. false };
-
-    fn pass_all(&mut self) -> Result<(), Failed> {
-        self.flush()
-    }
-}
-
-impl Flush for MemSink {
-    ghost kept = { λ _. [] };
-
-    ghost at_once = { λ _. true };
-
-    fn pass_all(&mut self) -> Result<(), Failed> {
-        Ok(())
-    }
-}
 
 /// How a call ends whose last flush answered this: a write fault that only the flush shows is told in the place of the ending.
 fn closed(ending: Ending, flushed: Result<(), Failed>) -> Ending
