@@ -24,7 +24,7 @@ use Rattle.fw_run.specs.Desks.{DeskRelations}
 use Rattle.fw_run.specs.Given.{AreGiven}
 use Rattle.fw_run.specs.Runs.{Run}
 use Rattle.fw_machine.specs.Lingering.{TalksAs}
--- (what a crate above a bus names of the crates below it has from here)
+-- (what a crate above a bus names of fw_machine, fw_rules and fw_carry it has from here)
 pub use Rattle.fw_machine.specs.Stands.{StandsFor}
 pub use Rattle.fw_rules.specs.Decisions.{IsCommand}
 pub use Rattle.fw_carry.specs.Performing.{CutOff}

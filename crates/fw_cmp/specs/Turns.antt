@@ -1,4 +1,4 @@
--- A controller's turn: which job it is at, how that begins, and whether it sends the next request, ends or has nothing to do.
+-- How a job ends; and a controller's turn with its job at hand: it sends the next request, ends or has nothing to do.
 use Rattle.std.specs.Prelude.{ℕ, ◌&&◌, Bool, true, false, Option, Some, None, List, if◌then◌else◌}
 use Rattle.fw_cmp.specs.declared.connection.Flow.{Flow}
 use Rattle.fw_cmp.specs.declared.connection.Slot.{Slot}
