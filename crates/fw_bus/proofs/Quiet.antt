@@ -7,7 +7,7 @@ use Rattle.fw_base.specs.declared.plug.PlugAt.{PlugAt}
 use Rattle.fw_entry.specs.declared.entry.ResetEntry.{ResetEntry}
 use Rattle.fw_entry.specs.declared.entry.Timed.{Timed}
 use Rattle.fw_fcp.specs.declared.frame.Frame.{Frame}
-use Rattle.fw_script.specs.declared.command.Command.{Command}
+use Rattle.fw_command.specs.declared.command.Command.{Command}
 use Rattle.fw_run.specs.declared.order.Order.{Order}
 use Rattle.fw_run.specs.Recording.{heard_in}
 use Rattle.fw_run.specs.Actions.{Action, HalfStep, Rest, Unsettled, Pass, EndSecond, SendCommand, SendFrame, Receive, InsertTape, EjectTape, StartCycle, SendPacket, Step, Steps, Contend, KeepBlock}

@@ -2,7 +2,7 @@
 use Rattle.std.proofs.Common.{ℕ, Bool, List, [], ◌∷◌, ◌++◌, Option, sym, subst, append-nil, IsTrue, IsFalse}
 use Rattle.std.specs.Prelude.{Ok, Err}
 use Rattle.fw_entry.specs.declared.entry.Timed.{Timed}
-use Rattle.fw_script.specs.declared.command.Command.{Command}
+use Rattle.fw_command.specs.declared.command.Command.{Command}
 use Rattle.fw_run.specs.declared.order.Order.{Order}
 use Rattle.fw_run.specs.State.{State, first_state}
 use Rattle.fw_run.specs.Actions.{Action}

@@ -6,8 +6,8 @@ use Rattle.fw_entry.specs.declared.entry.Timed.{Timed}
 use Rattle.fw_node.specs.State.{NodeState, HasSpace}
 use Rattle.fw_entry.specs.Log.{header_bytes, LogOpens, LogSpells}
 use Rattle.fw_entry.specs.declared.version.Version.TheVariants.{Two}
-use Rattle.fw_script.specs.declared.command.Command.{Command}
-use Rattle.fw_script.specs.declared.command.Command.TheVariants.{End}
+use Rattle.fw_command.specs.declared.command.Command.{Command}
+use Rattle.fw_command.specs.declared.command.Command.TheVariants.{End}
 use Rattle.fw_machine.specs.declared.machine.Machine.{Machine}
 use Rattle.fw_cmp.specs.Controllers.{is_restoring, slot_at}
 use Rattle.fw_run.specs.declared.order.Order.{Order}

@@ -5,12 +5,12 @@ ghost use Rattle.fw_outside.specs.Outside.{Rose};
 use crate::BusFault;
 use fw_async::Wire;
 use fw_carry::carry_out;
+use fw_command::Command;
 use fw_dub::Reel;
 use fw_machine::{Machine, Room};
 use fw_node::Node;
 use fw_outside::{Failed, Sink};
 use fw_rules::decide;
-use fw_script::Command;
 use fw_tape::Desk;
 use std::alloc::{AllocError, Global};
 use std::marker::Model;
@@ -36,7 +36,7 @@ impl Model for Bus {
 
 impl Bus {
     ghost use Rattle.fw_entry.specs.declared.entry.Timed.{Timed as TimedEntry};
-    ghost use Rattle.fw_script.specs.declared.command.Command.{Command as Line};
+    ghost use Rattle.fw_command.specs.declared.command.Command.{Command as Line};
     ghost use Rattle.fw_run.specs.State.{State, first_state};
     ghost use Rattle.fw_run.specs.Actions.{Action};
     ghost use Rattle.fw_run.specs.Runs.{Run};

@@ -36,8 +36,9 @@ use Rattle.fw_run.specs.State.{State}
 use Rattle.fw_run.specs.Streams.{GivenBlock, GivesBlock, bytes_of, tape_at, sent_before, cycle_start, stream_packet}
 use Rattle.fw_run.proofs.Times.{second_ends}
 use Rattle.fw_machine.specs.declared.machine.Machine.{Machine}
-use Rattle.fw_carry.specs.Cycling.{Comes, PerformedWhere, HadSent, SendsHeard, hearing_of}
-use Rattle.fw_carry.specs.declared.dubs.Recording.{Recording}
+use Rattle.fw_carry.specs.Cycling.{Comes, PerformedWhere, HadSent, SendsHeard}
+use Rattle.fw_machine.specs.Recording.{hearing_of}
+use Rattle.fw_machine.specs.declared.recording.Recording.{Recording}
 use Rattle.fw_carry.specs.Performing.{Performs, Performed, TakesAction}
 use Rattle.fw_machine.specs.Faults.{CountsFaults}
 use Rattle.fw_machine.specs.Stands.{IsReady, StandsFor}

@@ -19,8 +19,9 @@ use Rattle.fw_run.proofs.Given.{given_then, given_append}
 use Rattle.fw_run.proofs.Runs.{steps_then}
 use Rattle.fw_run.proofs.Steps.{steps_good}
 use Rattle.fw_machine.specs.declared.machine.Machine.{Machine}
-use Rattle.fw_carry.specs.Cycling.{PerformedWhere, SendsHeard, hearing_of}
-use Rattle.fw_carry.specs.declared.dubs.Recording.{Recording}
+use Rattle.fw_carry.specs.Cycling.{PerformedWhere, SendsHeard}
+use Rattle.fw_machine.specs.Recording.{hearing_of}
+use Rattle.fw_machine.specs.declared.recording.Recording.{Recording}
 use Rattle.fw_carry.specs.Performing.{Task, Performed}
 use Rattle.fw_machine.specs.Faults.{CountsFaults}
 use Rattle.fw_carry.specs.Framing.{PerformedWithDesk}

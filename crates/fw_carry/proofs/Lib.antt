@@ -48,7 +48,6 @@ pub mod BidNodes
 pub mod BidTimes
 pub mod CarryLaws
 pub mod Gathering
-pub mod Listening
 pub mod Desks
 pub mod CycleTurns
 pub mod Packets

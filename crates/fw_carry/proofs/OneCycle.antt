@@ -25,8 +25,9 @@ use Rattle.fw_run.proofs.Around.{step_beside}
 use Rattle.fw_run.proofs.Recorded.{begins_quiet}
 use Rattle.fw_run.proofs.Steps.{steps_good}
 use Rattle.fw_machine.specs.declared.machine.Machine.{Machine}
-use Rattle.fw_carry.specs.Cycling.{HadSent, Comes, Begins, HearsTo, HearsBlock, WritesHeard, WritesCycle, PerformedWhere, heard_among, unheard, block_in, reel_after, recording_of, recording_by, recording_in}
-use Rattle.fw_carry.specs.declared.dubs.Recording.{Recording}
+use Rattle.fw_carry.specs.Cycling.{HadSent, Comes, Begins, HearsTo, HearsBlock, WritesHeard, WritesCycle, PerformedWhere, heard_among, unheard, block_in}
+use Rattle.fw_machine.specs.Recording.{reel_after, recording_of, recording_by, recording_in}
+use Rattle.fw_machine.specs.declared.recording.Recording.{Recording}
 use Rattle.fw_carry.specs.Performing.{Performs, Performed, TakesAction}
 use Rattle.fw_machine.specs.Faults.{CountsFaults}
 use Rattle.fw_carry.specs.Filling.{Fills}

@@ -20,8 +20,9 @@ use Rattle.fw_devices.specs.Decks.{passed}
 use Rattle.fw_devices.specs.Network.{Network, node_at}
 use Rattle.fw_devices.specs.Streams.{AreTalkers}
 use Rattle.fw_machine.specs.declared.machine.Machine.{Machine}
-use Rattle.fw_carry.specs.Cycling.{HadSent, SendsHeard, HearsTo, hearing_of, heard_among, unheard, PerformedWhere}
-use Rattle.fw_carry.specs.declared.dubs.Recording.{Recording}
+use Rattle.fw_carry.specs.Cycling.{HadSent, SendsHeard, HearsTo, heard_among, unheard, PerformedWhere}
+use Rattle.fw_machine.specs.Recording.{hearing_of}
+use Rattle.fw_machine.specs.declared.recording.Recording.{Recording}
 use Rattle.fw_carry.specs.Resetting.{passed_in}
 use Rattle.fw_machine.specs.Stands.{StandsFor}
 use Rattle.fw_machine.proofs.DeckNodes.{mapped_at}

@@ -1,13 +1,12 @@
 -- Cycles that are written: who talks in them, and what a desk gives.
-use Rattle.std.specs.Prelude.{ℕ, ◌≡◌, ◌==◌, ◌≤◌, ◌%◌, List, [], ◌∷◌, Option, Some, None, is_some, if◌then◌else◌, IsTrue}
+use Rattle.std.specs.Prelude.{ℕ, ◌≡◌, ◌≤◌, ◌%◌, List, [], ◌∷◌, Option, Some, None, is_some, IsTrue}
 use Rattle.std.specs.declared.result.Result.{Result}
 use Rattle.fw_base.specs.Tables.{at_plug}
 use Rattle.fw_account.specs.Account.{talks}
 use Rattle.fw_run.specs.Actions.{SendPacket, StartCycle}
 use Rattle.fw_run.specs.Carrying.{next_cycle, SendsPackets, HasCycle, HasCycles}
 use Rattle.fw_run.specs.Carrying as Carries
-use Rattle.fw_run.specs.Recording.{block_among, heard_in, records, room_of, tape_in}
-use Rattle.fw_dub.specs.Reels.{kept}
+use Rattle.fw_run.specs.Recording.{block_among, heard_in}
 use Rattle.std.specs.Option.{option_map, option_and_then}
 use Rattle.fw_run.specs.Desks.{DeskRelations}
 use Rattle.fw_run.specs.Good.{IsGood}
@@ -20,7 +19,8 @@ use Rattle.fw_carry.specs.Framing.{CompletedWithDesk}
 use Rattle.fw_machine.specs.Stands.{StandsFor}
 use Rattle.fw_machine.specs.Streaming.{count_at}
 use Rattle.fw_machine.specs.declared.machine.Machine.{Machine}
-use Rattle.fw_carry.specs.declared.dubs.Recording.{Recording}
+use Rattle.fw_machine.specs.Recording.{hearing_of}
+use Rattle.fw_machine.specs.declared.recording.Recording.{Recording}
 use Rattle.fw_entry.specs.declared.entry.Timed.{Timed}
 
 -- ---- who talks
@@ -45,15 +45,6 @@ SendsTo n s ys out t = SendsPackets (talkers_to n s.account) s ys out t
 
 -- ---- what is heard of the packets
 
--- a block that is written on a channel
-abbrev pub hearing : ℕ → List ℕ → Recording → Recording
-hearing channel bytes r = record r { block = if r.channel == channel then Some bytes else r.block }
-
--- the block of a packet, if it has one, where a deck records
-abbrev pub hearing_of : ℕ → Option (List ℕ) → Option Recording → Option Recording
-hearing_of channel None o = o
-hearing_of channel (Some bytes) o = option_map (hearing channel bytes) o
-
 -- the block on its channel among the entries of a cycle
 abbrev pub heard_among : List Timed → Option Recording → Option Recording
 heard_among out o = option_map (λ (r : Recording). record r { block = block_among r.channel out }) o
@@ -74,20 +65,6 @@ HearsTo n old new s ys out t =
 
 -- ---- what is recorded of a cycle
 
--- what a deck records, before anything is written
-abbrev pub recording_of : State → ℕ → Option Recording
-recording_of s d =
-    if records s d then Some (record { channel = s.account.input_channel (at_plug d 0); limit = room_of (tape_in s d); block = None }) else None
-
--- what the deck tied to the reel records, if there is one
-abbrev pub recording_by : State → Option ℕ → Option Recording
-recording_by s None = None
-recording_by s (Some d) = recording_of s d
-
--- what the tied deck records
-abbrev pub recording_in : State → Option Recording
-recording_in s = recording_by s s.dub.tied
-
 -- the block that was heard, if one was
 abbrev pub block_in : Option Recording → Option (List ℕ)
 block_in o = option_and_then (λ (r : Recording). r.block) o
@@ -99,11 +76,6 @@ HearsBlock block s ys out t = SendsTo 64 s ys out t × (block ≡ heard_in s out
 -- a cycle comes and is written, and this block is heard
 abbrev pub WritesHeard : Option (List ℕ) → Task
 WritesHeard block s ys out t = IsTrue (is_some s.account.latest) × Carries.WritesCycle s ys out t × (block ≡ heard_in t out)
-
--- the block goes onto the reel
-abbrev pub reel_after : Option Recording → List (List ℕ) → List (List ℕ)
-reel_after None reel = reel
-reel_after (Some r) reel = elim r.block [ None ↦ reel | Some bytes ↦ kept r.limit bytes reel ]
 
 -- a cycle comes and is written
 abbrev pub WritesCycle : Task

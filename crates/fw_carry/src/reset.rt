@@ -15,11 +15,11 @@ ghost use Rattle.fw_devices.specs.Network.{is_node};
 
 use fw_base::DeviceKind;
 use fw_cmp::Directory;
+use fw_command::Name;
 use fw_entry::Entry;
 use fw_machine::entries::withheld;
 use fw_machine::{Machine, Room, SECOND, give};
 use fw_outside::{Failed, Sink};
-use fw_script::Name;
 use fw_tree::End;
 
 /// What controllers are told at a bus reset of this cycle: the nodes that have a link, the manager, and when the second is over,

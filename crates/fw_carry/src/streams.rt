@@ -8,10 +8,9 @@ ghost use Rattle.fw_tape.specs.Desks.{AnyBlock};
 ghost use Rattle.fw_carry.specs.Cycling.{HadSent, HearsTo, PutsIntoRoom, SendsHeard, unheard};
 ghost use Rattle.fw_machine.specs.Stands.{IsReady};
 
-use crate::dubs::{Recording, hear_block};
 use fw_devices::Talkers;
 use fw_entry::CycleRoom;
-use fw_machine::{Machine, Streams};
+use fw_machine::{Machine, Recording, Streams, hear_block};
 use fw_tape::Desk;
 
 /// Puts the packet of the cycle of a device's output plug, which talks on this channel, into the room: with a block where its tape

@@ -47,6 +47,7 @@ impl RegisterRequest for QuadletAccess {
         self.offset
     }
 
+    // By way of its parts: of a value that is read of a field it is not known that it is a quadlet.
     #[tactic(auto, using(crate::proofs::SwapLaws::same_swap))]
     fn swap(&self) -> Option<Swap> {
         let swap = self.parts().1?;

@@ -4,8 +4,8 @@ ghost use Rattle.fw_devices.specs.Network.{IsNetwork, no_devices, device_named, 
 use crate::bus::Bus;
 use crate::names::{MOST, Names};
 use fw_base::DeviceKind;
+use fw_command::Name;
 use fw_node::Node;
-use fw_script::Name;
 use fw_tree::Cabling;
 use std::alloc::{AllocError, Global};
 use std::marker::Model;

@@ -3,7 +3,7 @@
 ghost use Rattle.std.specs.Prelude.{ℕ, ◌≡◌, ◌<◌, ◌++◌, ◌∷◌, [], length, position, get_or, set, IfOk, IfSome};
 ghost use Rattle.fw_devices.specs.Network.{same_bytes};
 
-use fw_script::Name;
+use fw_command::Name;
 use std::alloc::{AllocError, Global};
 use std::marker::Model;
 

@@ -23,3 +23,4 @@ pub mod Talking
 pub mod Counts
 pub mod Moving
 pub mod Still
+pub mod Listening

@@ -8,3 +8,4 @@ pub mod Reels
 pub mod Stands
 pub mod Orders
 pub mod Streaming
+pub mod Recording

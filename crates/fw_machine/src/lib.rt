@@ -9,6 +9,7 @@ mod controllers;
 pub mod entries;
 mod giving;
 mod machine;
+mod recording;
 mod restarts;
 mod room;
 mod streams;
@@ -17,6 +18,7 @@ pub use candidates::Candidates;
 pub use controllers::Controllers;
 pub use giving::{give, give_async, give_packet};
 pub use machine::{Machine, SECOND};
+pub use recording::{Recording, hear_block, keep, recording_on};
 pub use room::Room;
 pub use streams::Streams;
 

@@ -3,8 +3,8 @@ use Rattle.std.proofs.Common.{◌≡◌, ℕ, ◌<◌, ◌≤◌, List, [], ◌�
 use Rattle.std.specs.Prelude.{⊤, IsOk}
 use Rattle.std.specs.declared.result.Result.{Result}
 use Rattle.fw_base.specs.declared.plug.PlugAt.{PlugAt}
-use Rattle.fw_script.specs.declared.command.Command.{Command}
-use Rattle.fw_script.specs.declared.command.Command.TheVariants as Commands
+use Rattle.fw_command.specs.declared.command.Command.{Command}
+use Rattle.fw_command.specs.declared.command.Command.TheVariants as Commands
 use Rattle.fw_devices.specs.Network.{device_named}
 use Rattle.fw_cmp.specs.declared.outcome.StartFault.{StartFault}
 use Rattle.fw_cmp.specs.declared.outcome.StartFault.TheVariants as Refusals

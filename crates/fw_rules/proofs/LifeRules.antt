@@ -1,7 +1,7 @@
 -- The first rule that a line of a controller's life breaks: its half steps, its death, its start.
 use Rattle.std.proofs.Common.{◌≡◌, ℕ, ◌+◌, ◌<◌, ◌≤◌, List, [], ◌∷◌, Bool, Ok, Err, IsTrue, IsFalse, refl, sym, ◌∙◌, arith, Some}
 use Rattle.fw_devices.specs.Network.{device_named}
-use Rattle.fw_script.specs.declared.command.Command.TheVariants as Commands
+use Rattle.fw_command.specs.declared.command.Command.TheVariants as Commands
 use Rattle.fw_run.specs.declared.limits.TheConstants.{MOST_HALF_STEPS}
 use Rattle.fw_run.specs.declared.order.Order.TheVariants as Orders
 use Rattle.fw_run.specs.declared.rule.RuleFault.{RuleFault}

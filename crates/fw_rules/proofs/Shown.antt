@@ -13,7 +13,7 @@ use Rattle.fw_entry.specs.declared.nodes.NodeRow.{NodeRow}
 use Rattle.fw_tree.specs.declared.facts.End.{End}
 use Rattle.fw_tree.specs.declared.TreeFault.{TreeFault}
 use Rattle.fw_tree.specs.Topology.{IsFault}
-use Rattle.fw_script.specs.declared.command.Command.TheVariants as Commands
+use Rattle.fw_command.specs.declared.command.Command.TheVariants as Commands
 use Rattle.fw_devices.specs.Network.{device_named, kind_at}
 use Rattle.fw_devices.specs.Entries.{device_of, node_device}
 use Rattle.fw_run.specs.declared.limits.TheConstants.{MOST_RESETS}

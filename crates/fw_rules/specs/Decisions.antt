@@ -1,8 +1,8 @@
 -- What a command orders of the machine, or the first rule that it breaks.
 use Rattle.std.specs.Prelude.{ℕ, ◌≡◌, ◌<◌, List, length, Some, None, Ok, Err, ◌⊎◌, IsOk, IsTrue, IsFalse}
 use Rattle.std.specs.declared.result.Result.{Result}
-use Rattle.fw_script.specs.declared.command.Command.{Command}
-use Rattle.fw_script.specs.Form.{HasForm}
+use Rattle.fw_command.specs.declared.command.Command.{Command}
+use Rattle.fw_command.specs.Form.{HasForm}
 use Rattle.fw_devices.specs.Network.{device_named}
 use Rattle.fw_run.specs.declared.order.Access.{Access}
 use Rattle.fw_run.specs.declared.order.Access.TheVariants.{Read, Swap}
@@ -12,7 +12,7 @@ use Rattle.fw_run.specs.Afterwards.{start_of}
 use Rattle.fw_run.specs.declared.order.Wanted.{Wanted}
 use Rattle.fw_run.specs.declared.rule.RuleFault.{RuleFault}
 use Rattle.fw_run.specs.declared.rule.RuleFault.TheVariants.{UnknownName, NoDeck, NotController, TableFull, Busy, NoSuchConnection, NotOwnPlug}
-use Rattle.fw_script.specs.declared.command.Command.TheVariants as Commands
+use Rattle.fw_command.specs.declared.command.Command.TheVariants as Commands
 use Rattle.fw_cmp.specs.declared.outcome.StartFault.{StartFault}
 use Rattle.fw_cmp.specs.declared.outcome.StartFault.TheVariants as Refusals
 use Rattle.fw_run.specs.State.{State}

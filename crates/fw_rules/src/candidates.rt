@@ -2,15 +2,15 @@
 
 ghost use Rattle.std.specs.Prelude.{◌≡◌, ◌≤◌, IfOk};
 ghost use Rattle.fw_run.specs.Elections.{is_capable};
-ghost use Rattle.fw_script.specs.declared.command.Command.TheVariants as Commands;
+ghost use Rattle.fw_command.specs.declared.command.Command.TheVariants as Commands;
 ghost use Rattle.fw_rules.specs.Decisions.{Decided};
 ghost use Rattle.fw_machine.specs.Orders.{MayCarry};
 
 use crate::commands::known;
 use fw_base::DeviceKind;
+use fw_command::Name;
 use fw_machine::Machine;
 use fw_run::{MOST_HALF_STEPS, Order, RuleFault};
-use fw_script::Name;
 
 pub(crate) fn decide_candidate(machine: &Machine, name: &Name) -> Result<Order<'static>, RuleFault>
     ensures decided { Decided machine.now (Commands.Candidate name.now) result }

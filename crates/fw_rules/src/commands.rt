@@ -3,7 +3,7 @@
 ghost use Rattle.std.specs.Prelude.{◌≡◌, ◌≤◌, ◌<◌, ◌^◌, nat_le, None, Some, IfOk, IfErr, length};
 ghost use Rattle.fw_run.specs.Rules as Rules;
 ghost use Rattle.fw_run.specs.declared.rule.RuleFault.TheVariants.{UnknownName};
-ghost use Rattle.fw_script.specs.declared.command.Command.TheVariants as Commands;
+ghost use Rattle.fw_command.specs.declared.command.Command.TheVariants as Commands;
 ghost use Rattle.fw_devices.specs.Network.{device_named};
 ghost use Rattle.fw_rules.specs.Decisions.{Decided, IsCommand};
 ghost use Rattle.fw_machine.specs.Orders.{MayCarry};
@@ -17,9 +17,9 @@ use crate::connections::{
 use crate::decks::{decide_command, decide_dub, decide_eject, decide_insert};
 use crate::transactions::{decide_show, decide_transaction};
 use fw_base::DeviceKind;
+use fw_command::{Command, Name};
 use fw_machine::Machine;
 use fw_run::{Access, MOST_HALF_STEPS, MOST_RESETS, MOST_WRITTEN_CYCLES, Order, RuleFault};
-use fw_script::{Command, Name};
 use fw_tree::{End, TreeFault};
 use fw_words::Swap;
 

@@ -4,7 +4,7 @@ ghost use Rattle.std.specs.Prelude.{◌≡◌, ◌<◌, None, Some, IfOk, IfErr,
 ghost use Rattle.fw_cmp.specs.Fits.{AskedFits, SlotFits};
 ghost use Rattle.fw_run.specs.Afterwards.{slot_of};
 ghost use Rattle.fw_run.specs.declared.rule.RuleFault.TheVariants.{UnknownName};
-ghost use Rattle.fw_script.specs.declared.command.Command.TheVariants as Commands;
+ghost use Rattle.fw_command.specs.declared.command.Command.TheVariants as Commands;
 ghost use Rattle.fw_devices.specs.Network.{device_named};
 ghost use Rattle.fw_rules.specs.Decisions.{Decided, ConnectionDecided, rule_of};
 ghost use Rattle.fw_machine.specs.Orders.{MayCarry};
@@ -13,9 +13,9 @@ ghost use Rattle.fw_machine.specs.Stands.{IsReady};
 use crate::commands::{has_most_resets, known};
 use fw_base::PlugAt;
 use fw_cmp::StartFault;
+use fw_command::Name;
 use fw_machine::Machine;
 use fw_run::{Order, RuleFault, Wanted};
-use fw_script::Name;
 
 /// The rule by which a controller refuses a job.
 fn rule_of(fault: StartFault) -> RuleFault

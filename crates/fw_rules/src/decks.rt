@@ -2,15 +2,15 @@
 
 ghost use Rattle.std.specs.Prelude.{◌≡◌, IfOk};
 ghost use Rattle.fw_run.specs.Rules as Rules;
-ghost use Rattle.fw_script.specs.declared.command.Command.TheVariants as Commands;
+ghost use Rattle.fw_command.specs.declared.command.Command.TheVariants as Commands;
 ghost use Rattle.fw_rules.specs.Decisions.{Decided, DeckDecided};
 ghost use Rattle.fw_machine.specs.Orders.{MayCarry};
 ghost use Rattle.fw_machine.specs.Stands.{IsReady};
 
 use crate::commands::known;
+use fw_command::Name;
 use fw_machine::Machine;
 use fw_run::{Order, RuleFault};
-use fw_script::Name;
 use fw_tape::TapeSystem;
 use fw_words::{Bytes, Data};
 

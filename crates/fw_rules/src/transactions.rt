@@ -3,19 +3,19 @@
 ghost use Rattle.std.specs.Prelude.{◌≡◌, ◌<◌, ◌^◌, IfOk};
 ghost use Rattle.fw_run.specs.Actions.{AccessFits};
 ghost use Rattle.fw_run.specs.Named.{is_guarded_at};
-ghost use Rattle.fw_script.specs.declared.command.Command.TheVariants as Commands;
+ghost use Rattle.fw_command.specs.declared.command.Command.TheVariants as Commands;
 ghost use Rattle.fw_rules.specs.Decisions.{Decided, command_of};
 ghost use Rattle.fw_machine.specs.Orders.{MayCarry, is_guarded_by};
 ghost use Rattle.fw_machine.specs.Stands.{IsReady};
 
 use crate::commands::known;
+use fw_command::Name;
 use fw_csr::low_offset::{
     BANDWIDTH_AVAILABLE, BUS_MANAGER_ID, CHANNELS_AVAILABLE_HI, CHANNELS_AVAILABLE_LO, IPCR,
     LAST_IPCR, LAST_OPCR, OPCR,
 };
 use fw_machine::Machine;
 use fw_run::{Access, Order, RuleFault, Transaction};
-use fw_script::Name;
 
 pub(crate) fn decide_transaction(
     machine: &Machine,

@@ -5,7 +5,7 @@ use Rattle.fw_entry.specs.declared.entry.Entry.{Entry}
 use Rattle.fw_entry.specs.declared.entry.Entry.TheVariants.{Reset, End as EndEntry}
 use Rattle.fw_entry.specs.declared.entry.Timed.{Timed}
 use Rattle.fw_entry.specs.Log.{is_end}
-use Rattle.fw_script.specs.declared.command.Command.{Command}
+use Rattle.fw_command.specs.declared.command.Command.{Command}
 use Rattle.fw_run.specs.declared.order.Order.{Order}
 use Rattle.fw_run.specs.Giving.{at_most}
 use Rattle.fw_run.specs.State.{State, living}
@@ -22,7 +22,7 @@ use Rattle.fw_run.proofs.Runs.{carries_steps}
 use Rattle.fw_run.proofs.Marks.{Closes, Ends, Marks, Neither, closes, ends as ends_second, mark, nothing}
 use Rattle.fw_run.proofs.Alterations.{marked, told_by}
 use Rattle.fw_run.proofs.Effects.{Effect, altering, effect, resetting}
-use Rattle.fw_script.specs.declared.command.Command.TheVariants as Commands
+use Rattle.fw_command.specs.declared.command.Command.TheVariants as Commands
 use Rattle.fw_run.specs.declared.order.Order.TheVariants as order
 
 -- ---- entries

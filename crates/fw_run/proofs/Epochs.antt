@@ -24,7 +24,7 @@ use Rattle.fw_run.specs.Good.{IsGood}
 use Rattle.fw_run.specs.Giving.{at_most}
 use Rattle.fw_run.specs.State.{State, epoch_of, first_state}
 use Rattle.fw_run.specs.Runs.{Run}
-use Rattle.fw_script.specs.declared.command.Command.{Command}
+use Rattle.fw_command.specs.declared.command.Command.{Command}
 use Rattle.fw_run.proofs.Runs.{run_steps}
 use Rattle.fw_run.proofs.Times.{first_good}
 use Rattle.fw_run.proofs.Along.{step_led}

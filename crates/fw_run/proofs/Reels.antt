@@ -4,7 +4,7 @@ use Rattle.std.specs.Prelude.{⊤, nat_lt}
 use Rattle.fw_base.specs.declared.plug.PlugAt.{PlugAt}
 use Rattle.fw_entry.specs.declared.entry.ResetEntry.{ResetEntry}
 use Rattle.fw_entry.specs.declared.entry.Timed.{Timed}
-use Rattle.fw_script.specs.declared.command.Command.{Command}
+use Rattle.fw_command.specs.declared.command.Command.{Command}
 use Rattle.fw_run.specs.declared.order.Order.{Order}
 use Rattle.fw_run.specs.Actions.{Action, HalfStep, Unsettled, Pass, EndSecond, Contend, KeepBlock, Step, Steps}
 use Rattle.fw_run.specs.Carrying.{times, half_steps_of, Rounds, none, round, rest, SendsAll, quiet, sends, next_cycle, SendsPackets, KeepsCycle, HasCycle, HasCycles, Carries, withholds, withholds_already, declares, joins, resets, connects, breaks, steps, settled, unsettled, waits, waits_over, writes_cycles, dies, dies_late, dies_idle, loses, starts, goes_on, transacts, shows, commanded, inserts, ejects, ejects_nothing, becomes_candidate, stays_candidate, contends, dubs, ends}

@@ -22,11 +22,11 @@ use Rattle.fw_run.specs.Giving.{log_bytes}
 use Rattle.fw_run.specs.Rules.{Decides}
 use Rattle.fw_entry.specs.Log.{header_bytes, LogOpens, LogSpells}
 use Rattle.fw_entry.specs.declared.version.Version.TheVariants.{Two}
-use Rattle.fw_script.specs.declared.command.Command.TheVariants.{End}
+use Rattle.fw_command.specs.declared.command.Command.TheVariants.{End}
 use Rattle.fw_run.specs.declared.order.Order.{Order}
 use Rattle.fw_run.specs.declared.rule.RuleFault.{RuleFault}
 use Rattle.std.specs.declared.result.Result.{Result}
-use Rattle.fw_script.specs.declared.command.Command.{Command}
+use Rattle.fw_command.specs.declared.command.Command.{Command}
 use Rattle.fw_run.specs.Good.{IsGood}
 use Rattle.fw_run.specs.Headline.{IsSoundThroughout}
 use Rattle.fw_account.specs.Fold.{entries_of}

@@ -7,8 +7,8 @@ use Rattle.fw_csr.specs.declared.low_offset.TheConstants.{BUS_MANAGER_ID, BANDWI
 use Rattle.fw_tree.specs.declared.facts.End.{End}
 use Rattle.fw_tree.specs.declared.TreeFault.{TreeFault}
 use Rattle.fw_tree.specs.Topology.{IsFault}
-use Rattle.fw_script.specs.declared.command.Command.{Command}
-use Rattle.fw_script.specs.declared.command.Command.TheVariants as Commands
+use Rattle.fw_command.specs.declared.command.Command.{Command}
+use Rattle.fw_command.specs.declared.command.Command.TheVariants as Commands
 use Rattle.fw_devices.specs.Network.{device_named}
 use Rattle.fw_run.specs.declared.limits.TheConstants.{MOST_HALF_STEPS, MOST_RESETS, MOST_WRITTEN_CYCLES}
 use Rattle.fw_cmp.specs.declared.outcome.StartFault.{StartFault}

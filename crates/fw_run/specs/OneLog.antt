@@ -1,7 +1,7 @@
 -- What a script writes is one log, whose desk is a function.
 use Rattle.std.specs.Prelude.{◌≡◌, List}
 use Rattle.fw_entry.specs.declared.entry.Timed.{Timed}
-use Rattle.fw_script.specs.declared.command.Command.{Command}
+use Rattle.fw_command.specs.declared.command.Command.{Command}
 use Rattle.fw_run.specs.declared.order.Order.{Order}
 use Rattle.fw_run.specs.Actions.{Action}
 use Rattle.fw_run.specs.Carrying.{Carries}

@@ -1,8 +1,8 @@
 -- Enough rounds, over a run: after them no connection is to be restored.
 use Rattle.std.specs.Prelude.{ℕ, ◌≡◌, ◌+◌, ◌*◌, ◌≤◌, List, [], ◌∷◌, ◌++◌, None, IsTrue, IsFalse}
 use Rattle.fw_entry.specs.declared.entry.Timed.{Timed}
-use Rattle.fw_script.specs.declared.command.Command.{Command}
-use Rattle.fw_script.specs.declared.command.Command.TheVariants as Commands
+use Rattle.fw_command.specs.declared.command.Command.{Command}
+use Rattle.fw_command.specs.declared.command.Command.TheVariants as Commands
 use Rattle.fw_cmp.specs.Controllers.{slot_at, is_restoring}
 use Rattle.fw_cmp.specs.Jobs.{waiting_break}
 use Rattle.fw_rounds.specs.Accounts.{situation_of}

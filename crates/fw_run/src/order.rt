@@ -1,5 +1,5 @@
 use fw_base::{DeviceKind, PlugAt};
-use fw_script::Name;
+use fw_command::Name;
 use fw_tape::TapeSystem;
 use fw_tree::End;
 use fw_words::{Data, Swap};

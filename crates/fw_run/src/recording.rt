@@ -5,7 +5,7 @@ ghost use Rattle.fw_devices.specs.Network.{kind_at};
 ghost use Rattle.fw_entry.specs.declared.entry.Timed.{Timed};
 ghost use Rattle.fw_account.specs.Words.{InputPlug, word_of};
 ghost use Rattle.fw_plug.specs.Plugs.{is_active};
-ghost use Rattle.fw_script.specs.declared.command.Command.{Command};
+ghost use Rattle.fw_command.specs.declared.command.Command.{Command};
 ghost use Rattle.fw_run.specs.Actions.{Action, Step};
 ghost use Rattle.fw_run.specs.Carrying.{KeepsCycle};
 ghost use Rattle.fw_run.specs.Dubs.{hears_in};

@@ -3,15 +3,15 @@ use Rattle.std.proofs.Common.{◌≡◌, ◌≢◌, ℕ, [], ◌∷◌, ◌++◌
 use Rattle.std.proofs.lemmas.List.{append-nil, drop-append-le, drop-drop}
 use Rattle.fw_outside.specs.Outside.{Takes, IsAtEnd}
 use Rattle.fw_outside.proofs.Parts.{Takes-Takes, Takes-nothing}
-use Rattle.fw_script.specs.Pieces.{IsFree}
+use Rattle.fw_command.specs.Pieces.{IsFree}
 use Rattle.fw_script.specs.Reading.{Reading, Answer, GivesFirst, GivesNext, Advances, IsLine, IsHeld, behind, with_taken, unread}
 use Rattle.fw_script.specs.Reading.GivesFirst.{skipped, command, end_line, bad_line, long_line, too_long, end_of_input, no_end, read_fault}
 use Rattle.fw_script.specs.Script.{Refusal, Says, IsScript, Tells, begun}
 use Rattle.fw_script.specs.Leading.{Leads, HasRead, LinesSay, IsReadOf}
 use Rattle.fw_script.specs.Leading.Leads.{nothing, and_then}
 use Rattle.fw_script.specs.Script.Says.{ends, refuses}
-use Rattle.fw_script.specs.declared.command.Command.{Command}
-use Rattle.fw_script.specs.declared.command.Command.TheVariants.{End}
+use Rattle.fw_command.specs.declared.command.Command.{Command}
+use Rattle.fw_command.specs.declared.command.Command.TheVariants.{End}
 use Rattle.fw_script.specs.declared.ScriptFault.{ScriptFault}
 use Rattle.fw_script.specs.declared.ScriptFault.TheVariants.{ReadFault}
 use Rattle.fw_script.specs.declared.stage.Stage.{Stage}

@@ -1,17 +1,17 @@
 -- What lines give is one only, and stays so where more bytes are known.
 use Rattle.std.proofs.Common.{◌≡◌, ◌≢◌, ◌⊎◌, inl, inr, ℕ, List, Bool, true, false, Some, Ok, Err, refl, ap, sym, subst}
 use Rattle.fw_script.specs.Line.{is_skipped}
-use Rattle.fw_script.specs.Form.{HasForm}
+use Rattle.fw_command.specs.Form.{HasForm}
 use Rattle.fw_script.specs.Reading.{Reading, Answer, GivesFirst, IsLine, IsAtEndOfInput, IsLongLine, PassesLimit, behind, at_stage, refused, with_taken}
 use Rattle.fw_script.specs.Reading.GivesFirst.{skipped, command, end_line, bad_line, long_line, too_long, end_of_input, no_end, read_fault}
-use Rattle.fw_script.specs.declared.command.Command.{Command}
-use Rattle.fw_script.specs.declared.command.Command.TheVariants.{End}
+use Rattle.fw_command.specs.declared.command.Command.{Command}
+use Rattle.fw_command.specs.declared.command.Command.TheVariants.{End}
 use Rattle.fw_script.specs.declared.ScriptFault.TheVariants.{BadLine, LineTooLong, NoEnd, ReadFault, TooLong}
 use Rattle.fw_script.specs.declared.stage.Stage.{Stage}
 use Rattle.fw_script.specs.declared.stage.Stage.TheVariants.{Commands, AfterEnd, Done, Failed}
 use Rattle.fw_script.specs.Reader.{IsCut, PassesOver}
 use Rattle.fw_script.specs.Reader.PassesOver.{nowhere, over_skipped, over_end}
-use Rattle.fw_script.proofs.FormLaws.{one_form}
+use Rattle.fw_command.proofs.FormLaws.{one_form}
 use Rattle.fw_script.proofs.LineLaws.{IsMore, line_once, line_not_long, line_not_limit, line_not_end, long_not_limit, long_not_end, limit_not_end, line_more, long_more, limit_more, end_more, behind_more, cut_not_line, cut_not_long, cut_not_limit, cut_not_end}
 use Rattle.fw_script.proofs.ReadingLaws.{gives_at}
 

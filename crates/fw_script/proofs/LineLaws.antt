@@ -3,7 +3,7 @@ use Rattle.std.proofs.Common.{◌≡◌, ◌⊎◌, inl, inr, ℕ, zero, suc, []
 use Rattle.std.proofs.lemmas.List.{append-nil, take-append-le, drop-append-le, get_or-take}
 use Rattle.std.proofs.Math.Seq.{get_or-append_seam}
 use Rattle.std.proofs.lemmas.Bool.{cases_lt}
-use Rattle.fw_script.specs.Pieces.{IsFree}
+use Rattle.fw_command.specs.Pieces.{IsFree}
 use Rattle.fw_script.specs.Reader.{IsCut, IsNear, StandsNext}
 use Rattle.fw_script.specs.Line.{IsFront, IsEnded}
 use Rattle.fw_script.specs.declared.line.Front.{Front}

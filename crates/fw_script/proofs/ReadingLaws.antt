@@ -3,14 +3,14 @@ use Rattle.std.proofs.Common.{◌≤◌, ◌≡◌, ◌≢◌, ◌⊎◌, ◌↔
 use Rattle.std.proofs.lemmas.List.{append-nil}
 use Rattle.fw_outside.proofs.Parts.{Takes-nothing}
 use Rattle.fw_script.specs.Line.{is_skipped}
-use Rattle.fw_script.specs.Form.{HasForm}
+use Rattle.fw_command.specs.Form.{HasForm}
 use Rattle.fw_script.specs.Reader.{ReadsLine, HoldsLine, IsNear, IsOpen, to_read}
 use Rattle.fw_script.proofs.LineLaws.{line_near}
 use Rattle.fw_script.specs.Reader.PassesOver.{nowhere, over_skipped, over_end}
 use Rattle.fw_script.specs.Reading.{Reading, Answer, GivesFirst, IsLine, IsAtEndOfInput, IsLongLine, PassesLimit, behind, at_stage, refused, TakesMore, Advances, GivesNext, IsStageAfter}
 use Rattle.fw_script.specs.Reading.GivesFirst.{skipped, command, end_line, bad_line, long_line, too_long, end_of_input, no_end, read_fault}
-use Rattle.fw_script.specs.declared.command.Command.{Command}
-use Rattle.fw_script.specs.declared.command.Command.TheVariants.{End}
+use Rattle.fw_command.specs.declared.command.Command.{Command}
+use Rattle.fw_command.specs.declared.command.Command.TheVariants.{End}
 use Rattle.fw_script.specs.declared.ScriptFault.TheVariants.{BadLine, LineTooLong, NoEnd, TooLong}
 use Rattle.fw_script.specs.declared.stage.Stage.{Stage}
 use Rattle.fw_script.specs.declared.stage.Stage.TheVariants.{Commands, AfterEnd, Done, Failed}

@@ -8,7 +8,7 @@ use Rattle.fw_script.specs.Reading.{Reading, Answer, GivesFirst, TakesMore, Adva
 use Rattle.fw_script.specs.Reading.GivesFirst.{read_fault}
 use Rattle.fw_script.specs.declared.stage.Stage.{Stage}
 use Rattle.fw_script.specs.declared.stage.Stage.TheVariants.{Failed}
-use Rattle.fw_script.specs.declared.command.Command.{Command}
+use Rattle.fw_command.specs.declared.command.Command.{Command}
 use Rattle.fw_script.specs.declared.ScriptFault.{ScriptFault}
 use Rattle.fw_script.specs.declared.ScriptFault.TheVariants.{ReadFault}
 use Rattle.fw_script.proofs.LineLaws.{IsMore}

@@ -1,13 +1,13 @@
 -- What holds of every script.
 use Rattle.std.specs.Prelude.{◌≡◌, ◌≢◌, ℕ, List, [], ◌∷◌, ◌++◌, length, Option, Some, None, Ok, Err}
 use Rattle.fw_outside.specs.Outside.{Takes, IsAtEnd}
-use Rattle.fw_script.specs.Pieces.{pieces, parted, AreFree}
-use Rattle.fw_script.specs.Form.{HasForm}
+use Rattle.fw_command.specs.Pieces.{pieces, parted, AreFree}
+use Rattle.fw_command.specs.Form.{HasForm}
 use Rattle.fw_script.specs.Reading.{Reading, Answer, GivesFirst, Advances, IsHeld, unread}
 use Rattle.fw_script.specs.Script.{Refusal, IsScript, Tells, FitsLimit}
 use Rattle.fw_script.specs.Leading.{HasRead, BeginsWith, LinesSay, IsReadOf}
-use Rattle.fw_script.specs.declared.command.Command.{Command}
-use Rattle.fw_script.specs.declared.command.Command.TheVariants.{End}
+use Rattle.fw_command.specs.declared.command.Command.{Command}
+use Rattle.fw_command.specs.declared.command.Command.TheVariants.{End}
 use Rattle.fw_script.specs.declared.ScriptFault.{ScriptFault}
 use Rattle.fw_script.specs.declared.ScriptFault.TheVariants.{ReadFault}
 

@@ -1,11 +1,11 @@
 -- The commands of a script, one after another: what they lead through, and what of it was read.
 use Rattle.std.specs.Prelude.{◌≡◌, ◌≢◌, ℕ, ◌≤◌, List, [], ◌∷◌, ◌++◌, length, drop, Bool, true, false, Option, Some, Ok, Err}
 use Rattle.fw_outside.specs.Outside.{Takes, IsAtEnd}
-use Rattle.fw_script.specs.Pieces.{IsFree}
+use Rattle.fw_command.specs.Pieces.{IsFree}
 use Rattle.fw_script.specs.Reading.{Reading, GivesFirst, with_taken}
 use Rattle.fw_script.specs.Script.{Tells, begun, start_of}
-use Rattle.fw_script.specs.declared.command.Command.{Command}
-use Rattle.fw_script.specs.declared.command.Command.TheVariants.{End}
+use Rattle.fw_command.specs.declared.command.Command.{Command}
+use Rattle.fw_command.specs.declared.command.Command.TheVariants.{End}
 use Rattle.fw_script.specs.declared.ScriptFault.TheVariants.{ReadFault}
 
 -- from one reading on the lines give these commands, one after another, and the other stands behind the last line

@@ -1,11 +1,6 @@
-pub mod Form
-pub mod Keyword
 pub mod Laws
 pub mod Leading
 pub mod Line
-pub mod Names
-pub mod Pieces
 pub mod Reader
 pub mod Reading
 pub mod Script
-pub mod Words

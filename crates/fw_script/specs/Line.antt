@@ -1,9 +1,9 @@
 -- The next line of some bytes, and what it means.
 use Rattle.std.specs.Prelude.{◌≡◌, ◌≢◌, ◌⊎◌, ℕ, ◌+◌, ◌<◌, ◌≤◌, ◌==◌, nat_lt, List, [], ◌∷◌, ◌++◌, length, take, drop, Bool, true, false, not, if◌then◌else◌}
-use Rattle.fw_script.specs.Pieces.{IsFree}
-use Rattle.fw_script.specs.Form.{HasForm}
-use Rattle.fw_script.specs.declared.command.Command.{Command}
-use Rattle.fw_script.specs.declared.command.Command.TheVariants as Commands
+use Rattle.fw_command.specs.Pieces.{IsFree}
+use Rattle.fw_command.specs.Form.{HasForm}
+use Rattle.fw_command.specs.declared.command.Command.{Command}
+use Rattle.fw_command.specs.declared.command.Command.TheVariants as Commands
 use Rattle.fw_script.specs.declared.line.Front.{Front}
 use Rattle.fw_script.specs.declared.line.Front.TheVariants.{Line, LongLine, Limit, Cut, Nothing}
 use Rattle.fw_script.specs.declared.line.Meaning.{Meaning}

@@ -1,11 +1,11 @@
 -- What a reader keeps between its steps.
 use Rattle.std.specs.Prelude.{◌≡◌, ℕ, ◌+◌, ◌*◌, ◌-◌, ◌<◌, ◌≤◌, List, length, take, Bool, true, false, Option, Some, None, Result, Ok, Err, if◌then◌else◌}
-use Rattle.fw_script.specs.Pieces.{IsFree}
+use Rattle.fw_command.specs.Pieces.{IsFree}
 use Rattle.fw_script.specs.Line.{is_skipped}
-use Rattle.fw_script.specs.Form.{HasForm}
+use Rattle.fw_command.specs.Form.{HasForm}
 use Rattle.fw_script.specs.Reading.{Reading, Answer, GivesFirst, IsLine, IsLongLine, PassesLimit, IsAtEndOfInput, TakesMore, at_stage, behind}
-use Rattle.fw_script.specs.declared.command.Command.{Command}
-use Rattle.fw_script.specs.declared.command.Command.TheVariants.{End}
+use Rattle.fw_command.specs.declared.command.Command.{Command}
+use Rattle.fw_command.specs.declared.command.Command.TheVariants.{End}
 use Rattle.fw_script.specs.declared.ScriptFault.{ScriptFault}
 use Rattle.fw_script.specs.declared.ScriptFault.TheVariants.{ReadFault}
 use Rattle.fw_script.specs.declared.line.Front.{Front}

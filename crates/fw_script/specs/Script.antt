@@ -1,8 +1,8 @@
 -- Whole scripts.
 use Rattle.std.specs.Prelude.{◌≡◌, ◌≢◌, ℕ, ◌≤◌, ◌<◌, List, [], ◌∷◌, Bool, true, Option, Some, None, Ok, Err}
 use Rattle.fw_script.specs.Reading.{Reading, GivesFirst}
-use Rattle.fw_script.specs.declared.command.Command.{Command}
-use Rattle.fw_script.specs.declared.command.Command.TheVariants.{End}
+use Rattle.fw_command.specs.declared.command.Command.{Command}
+use Rattle.fw_command.specs.declared.command.Command.TheVariants.{End}
 use Rattle.fw_script.specs.declared.ScriptFault.{ScriptFault}
 use Rattle.fw_script.specs.declared.ScriptFault.TheVariants.{NoEnd, ReadFault, TooLong}
 use Rattle.fw_script.specs.declared.stage.Stage.TheVariants.{Commands}

@@ -1,29 +1,15 @@
-//! Scripts: lines of words, read as commands one after the other.
+//! Scripts: lines that are read as commands, one after the other.
 //!
 //! A script is lines that end with a line feed; the last may lack it. Empty lines and lines that begin with `#`
-//! are skipped. All other lines have the form of a `Command`, whose words are parted by one space. The language is own.
+//! are skipped. All other lines have the form of a `Command`.
 #![tactic(auto)]
 
-mod candidate_forms;
-mod codes;
-mod command;
-mod controller_forms;
-mod cut;
-mod device_forms;
-mod form;
-mod hexadecimal;
-mod keyword;
 mod laws;
 mod line;
-mod name;
 mod reader;
 mod stage;
-mod transaction_forms;
-mod words;
 
-pub use command::Command;
 pub use laws::{calls_give_the_script, scripts_say_one_thing};
-pub use name::Name;
 pub use reader::ScriptReader;
 use thiserror::Error;
 

@@ -2,10 +2,9 @@
 
 ghost use Rattle.std.specs.Prelude.{◌≡◌, ◌≤◌, IfSome, IfNone};
 ghost use Rattle.fw_script.specs.Line.{IsFront, IsMeaning, is_skipped, unfed_of};
-ghost use Rattle.fw_script.specs.Pieces.{IsFirstAt, IsFree};
+ghost use Rattle.fw_command.specs.Pieces.{IsFirstAt, IsFree};
 
-use crate::Command;
-use crate::form::command_of;
+use fw_command::{Command, command_of};
 use memchr::memchr;
 
 /// The most bytes of a line, without its line feed.

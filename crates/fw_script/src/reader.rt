@@ -5,9 +5,10 @@ ghost use Rattle.fw_outside.specs.Outside.{Rose};
 ghost use Rattle.fw_script.specs.Reader.{IsOpen, IsNear, HoldsLine, ReadsLine, Steps, answer_of, given_of};
 ghost use Rattle.fw_script.specs.Reading.{unread, Advances, IsStageAfter, IsAtEndOfInput, HoldsAnswer, IsHeld};
 
+use crate::ScriptFault;
 use crate::line::{Front, Meaning, meaning_of};
 use crate::stage::Stage;
-use crate::{Command, ScriptFault};
+use fw_command::Command;
 use fw_outside::Source;
 use std::alloc::{AllocError, Global};
 use std::marker::Model;

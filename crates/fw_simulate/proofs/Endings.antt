@@ -12,7 +12,7 @@ use Rattle.fw_script.specs.Script.Says.{refuses}
 use Rattle.fw_script.specs.Leading.{HasRead, IsOnLine, TakesFrom}
 use Rattle.fw_script.specs.declared.ScriptFault.{ScriptFault}
 use Rattle.fw_script.specs.declared.ScriptFault.TheVariants as Fault
-use Rattle.fw_script.specs.declared.command.Command.{Command}
+use Rattle.fw_command.specs.declared.command.Command.{Command}
 use Rattle.fw_script.proofs.ScriptLaws.{says_from, script_limit}
 use Rattle.fw_script.proofs.CallLaws.{read_failed}
 use Rattle.fw_run.specs.declared.rule.RuleFault.{RuleFault}

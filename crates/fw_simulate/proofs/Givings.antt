@@ -1,13 +1,13 @@
 -- What the lines of a script give, one command after another.
 use Rattle.std.proofs.Common.{◌≡◌, ◌≢◌, ◌⊎◌, inl, inr, ℕ, List, [], ◌∷◌, ◌++◌, ◌+◌, ◌<◌, ◌≤◌, true, Option, Some, None, is_some, Ok, codes, arith, refl, subst}
 use Rattle.std.proofs.lemmas.Bool.{false≢true}
-use Rattle.fw_script.specs.Form.{HasForm}
+use Rattle.fw_command.specs.Form.{HasForm}
 use Rattle.fw_script.specs.Reading.{Reading, Answer, GivesFirst, EndsLine, IsLine}
 use Rattle.fw_script.specs.Reading.GivesFirst.{skipped, command, end_line, bad_line, long_line, too_long, end_of_input, no_end, read_fault}
-use Rattle.fw_script.specs.Keyword.{keyword_in}
-use Rattle.fw_script.specs.declared.command.Command.{Command}
-use Rattle.fw_script.specs.declared.command.Command.TheVariants as Commands
-use Rattle.fw_script.specs.declared.command.Command.TheVariants.{End}
+use Rattle.fw_command.specs.Keyword.{keyword_in}
+use Rattle.fw_command.specs.declared.command.Command.{Command}
+use Rattle.fw_command.specs.declared.command.Command.TheVariants as Commands
+use Rattle.fw_command.specs.declared.command.Command.TheVariants.{End}
 use Rattle.fw_script.specs.declared.stage.Stage.TheVariants as Stages
 use Rattle.fw_bus.specs.Buses.{IsCommand}
 use Rattle.fw_script.specs.Leading.{Leads}

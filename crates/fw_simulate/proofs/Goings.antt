@@ -11,8 +11,8 @@ use Rattle.fw_script.specs.Script.{Tells, start_of}
 use Rattle.fw_script.specs.Leading.{Leads, BeginsWith, TakesFrom, HasRead}
 use Rattle.fw_script.specs.Leading.Leads.{nothing}
 use Rattle.fw_script.specs.declared.ScriptFault.{ScriptFault}
-use Rattle.fw_script.specs.declared.command.Command.{Command}
-use Rattle.fw_script.specs.declared.command.Command.TheVariants.{End}
+use Rattle.fw_command.specs.declared.command.Command.{Command}
+use Rattle.fw_command.specs.declared.command.Command.TheVariants.{End}
 use Rattle.fw_script.specs.declared.stage.Stage.{Stage}
 use Rattle.fw_script.specs.declared.stage.Stage.TheVariants.{Commands, AfterEnd, Done, Failed}
 use Rattle.fw_script.proofs.CallLaws.{gave_all, before_none, met_end, read_nothing, read_command, read_end}

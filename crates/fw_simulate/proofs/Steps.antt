@@ -8,7 +8,7 @@ use Rattle.fw_run.proofs.Epochs.{run_epoch}
 use Rattle.fw_entry.specs.Log.{TimedFits}
 use Rattle.fw_entry.specs.declared.entry.Timed.{Timed}
 use Rattle.fw_script.specs.Reading.{Reading, Advances}
-use Rattle.fw_script.specs.declared.command.Command.{Command}
+use Rattle.fw_command.specs.declared.command.Command.{Command}
 use Rattle.fw_run.specs.State.{State, epoch_of}
 use Rattle.fw_run.specs.declared.rule.RuleFault.{RuleFault}
 use Rattle.fw_simulate.specs.declared.ending.RunEnding.{RunEnding}

@@ -7,7 +7,7 @@ use Rattle.fw_simulate.specs.declared.ending.RunEnding.TheVariants.{Done, Refuse
 use Rattle.fw_script.specs.Reading.{Reading, GivesFirst}
 use Rattle.fw_script.specs.Script.{IsScript, start_of}
 use Rattle.fw_script.specs.Leading.{Leads}
-use Rattle.fw_script.specs.declared.command.Command.{Command}
+use Rattle.fw_command.specs.declared.command.Command.{Command}
 use Rattle.fw_script.specs.declared.ScriptFault.{ScriptFault}
 use Rattle.fw_script.specs.declared.ScriptFault.TheVariants.{BadLine, LineTooLong, NoEnd, ReadFault, TooLong}
 use Rattle.fw_run.specs.declared.rule.RuleFault.{RuleFault}

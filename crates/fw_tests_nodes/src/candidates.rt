@@ -3,7 +3,6 @@
 use fw_csr::{BUS_MANAGER_ID, Reply};
 use fw_manager::{Bid, Candidate};
 use fw_words::Swap;
-use std::test::Fail;
 
 /// What a turn came to: the words of the swap, or how the bid ended.
 #[derive(Clone, Copy, PartialEq)]
@@ -27,27 +26,34 @@ fn turn_of(bid: &Bid) -> Seen {
     }
 }
 
-#[test]
-fn a_bid_ends_by_the_word_that_it_found(rt: HostRuntime) -> Result<(), Fail> {
-    for (word, end) in [(0x3F, Seen::Elected), (1, Seen::Defeated(1))] {
-        let mut c = Candidate::new();
-        assert!(rt; turn_of(&c.next(2, 0, 1)) == Seen::Swap(1, BUS_MANAGER_ID, 0x3F, 0));
-        c.hear(&Reply::complete(word));
-        assert!(rt; turn_of(&c.next(2, 0, 1)) == end);
-        assert!(rt; turn_of(&c.next(2, 0, 1)) == Seen::Done);
-        assert!(rt; turn_of(&c.next(3, 4, 5)) == Seen::Swap(5, BUS_MANAGER_ID, 0x3F, 4));
-    }
-    Ok(())
+/// The swap of a bid: to this node, from 3F to this number.
+fn bid(to: u8, number: u32) -> Seen {
+    Seen::Swap(to, BUS_MANAGER_ID, 0x3F, number)
+}
+
+/// Whether a bid that finds this word ends so, and the next epoch has a bid of its own.
+fn ends(word: u32, end: Seen) -> bool {
+    let mut c = Candidate::new();
+    let begun = turn_of(&c.next(2, 0, 1)) == bid(1, 0);
+    c.hear(&Reply::complete(word));
+    begun
+        && turn_of(&c.next(2, 0, 1)) == end
+        && turn_of(&c.next(2, 0, 1)) == Seen::Done
+        && turn_of(&c.next(3, 4, 5)) == bid(5, 4)
 }
 
 #[test]
-fn a_new_epoch_drops_what_was_asked_and_heard(rt: HostRuntime) -> Result<(), Fail> {
+fn a_bid_ends_by_the_word_that_it_found(rt: HostRuntime) {
+    assert!(rt; ends(0x3F, Seen::Elected));
+    assert!(rt; ends(1, Seen::Defeated(1)));
+}
+
+#[test]
+fn a_new_epoch_drops_what_was_asked_and_heard(rt: HostRuntime) {
     let mut c = Candidate::new();
-    assert!(rt; turn_of(&c.next(2, 0, 1)) == Seen::Swap(1, BUS_MANAGER_ID, 0x3F, 0));
-    assert!(rt; c.has_request(2));
-    assert!(rt; !c.has_request(3));
-    assert!(rt; turn_of(&c.next(3, 0, 1)) == Seen::Swap(1, BUS_MANAGER_ID, 0x3F, 0));
+    assert!(rt; turn_of(&c.next(2, 0, 1)) == bid(1, 0));
+    assert!(rt; c.has_request(2) && !c.has_request(3));
+    assert!(rt; turn_of(&c.next(3, 0, 1)) == bid(1, 0));
     c.hear(&Reply::complete(0x3F));
-    assert!(rt; turn_of(&c.next(4, 1, 2)) == Seen::Swap(2, BUS_MANAGER_ID, 0x3F, 1));
-    Ok(())
+    assert!(rt; turn_of(&c.next(4, 1, 2)) == bid(2, 1));
 }

@@ -7,7 +7,9 @@ use fw_plug::{InWord, OutWord, Plugs, units};
 use fw_words::{Bytes, Quadlet, put_quadlet};
 
 /// A word of an output plug; its broadcast bit, counter, channel, rate, overhead_ID and payload; its units.
-const WORDS: [(u32, bool, u8, u8, u8, u8, u16, u32); 7] = [
+type Word = (u32, bool, u8, u8, u8, u8, u16, u32);
+
+const WORDS: [Word; 7] = [
     (0x803F_007A, false, 0, 63, 0, 0, 122, 2512),
     (0xC03F_007A, true, 0, 63, 0, 0, 122, 2512),
     (0x8200_207A, false, 2, 0, 0, 8, 122, 2256),
@@ -17,15 +19,24 @@ const WORDS: [(u32, bool, u8, u8, u8, u8, u16, u32); 7] = [
     (0x803F_0000, false, 0, 63, 0, 0, 0, 16_944),
 ];
 
+/// Whether an output plug's word, which is online, has these fields and units.
+fn is_so(row: Word) -> bool {
+    let (word, broadcast, counter, channel, rate, overhead, payload, taken) = row;
+    let out = OutWord(word);
+    out.online()
+        && out.broadcast() == broadcast
+        && out.counter() == counter
+        && out.channel() == channel
+        && out.rate() == rate
+        && out.overhead() == overhead
+        && out.payload() == payload
+        && units(out) == taken
+}
+
 #[test]
 fn words_have_fields_and_units(rt: HostRuntime) {
-    for &(word, broadcast, counter, channel, rate, overhead, payload, taken) in &WORDS {
-        let out = OutWord(word);
-        assert!(rt; out.online(), "{word}");
-        assert!(rt; (out.broadcast(), out.counter()) == (broadcast, counter));
-        assert!(rt; (out.channel(), out.rate()) == (channel, rate));
-        assert!(rt; (out.overhead(), out.payload()) == (overhead, payload));
-        assert!(rt; units(out) == taken, "{word}");
+    for &row in &WORDS {
+        assert!(rt; is_so(row), "{:08X}", row.0);
     }
     let into = InWord(0xC23F_0000);
     assert!(rt; into.online() && into.broadcast());

@@ -142,51 +142,68 @@ fn next<F: Fn(u16, u32, u16) -> [u8; 480], H: Fn(u32, u8) -> u8>(
     sum.wrapping_mul(31).wrapping_add(256)
 }
 
-// The places of the blocks in 6,006 cycles of a play: the sums were made by another implementation of the same rules.
+/// A tape that plays.
+fn playing(number: u16, fifty: bool) -> Tape {
+    let mut tape = Tape::new();
+    tape.insert(number, fifty);
+    let _ = control(&mut tape, 0xC3, 0x75);
+    tape
+}
+
+/// The sum of 6,006 cycles of a play, and the frame behind them.
+fn play<F: Fn(u16, u32, u16) -> [u8; 480], H: Fn(u32, u8) -> u8>(
+    fifty: bool,
+    desk: &Desk<F, H>,
+) -> (u32, u32)
+    requires { AnyBlock (F.pre desk.now.blocks) }
+{
+    let mut tape = playing(7, fifty);
+    let mut sum = 0;
+    for _ in 0..6006 {
+        sum = next(sum, &mut tape, desk);
+    }
+    (sum, frame(&tape))
+}
+
+// The places of the blocks: the sums were made by another implementation of the same rules.
 #[test]
 fn a_play_gives_its_blocks_in_order(rt: HostRuntime) {
     let desk = Desk::new(
         |tape: u16, frame: u32, block: u16| block_at(tape, frame, block),
         |_: u32, byte: u8| byte,
     );
-    for (fifty, places, at) in [(false, 0x6F5E_66EF, 22), (true, 0x1A1E_DE59, 18)] {
-        let mut tape = Tape::new();
-        tape.insert(7, fifty);
-        assert!(rt; control(&mut tape, 0xC3, 0x75));
-        let mut sum = 0;
-        for _ in 0..6006 {
-            sum = next(sum, &mut tape, &desk);
-        }
-        assert!(rt; (sum, frame(&tape)) == (places, at));
-    }
+    assert!(rt; play(false, &desk) == (0x6F5E_66EF, 22));
+    assert!(rt; play(true, &desk) == (0x1A1E_DE59, 18));
+}
+
+/// The response to the command for the time code of a tape that has played for 16,000 cycles.
+fn time_code(fifty: bool) -> Frame {
+    let mut tape = playing(0, fifty);
+    let _ = pass(&mut tape, 16_000);
+    let mut operands = Bytes::new();
+    operands.append(&[0x71, 0xFF, 0xFF, 0xFF, 0xFF, 0x00]);
+    let command = Frame {
+        code: 1,
+        kind: 4,
+        id: 0,
+        opcode: 0x51,
+        operands,
+    };
+    let mut response = Frame::new();
+    tape.command(&command, &mut response);
+    response
+}
+
+/// Whether a response is stable, and has this time code.
+fn has_code(response: &Frame, code: &[u8; 6]) -> bool {
+    response.code == 0xC
+        && response.opcode == 0x51
+        && response.operands.as_slice() == code.as_slice()
 }
 
 // Frame 50 of 625 lines and 59 of 525 lines, as the time code shows them.
 #[test]
 fn time_codes(rt: HostRuntime) {
-    for (fifty, code) in [
-        (true, [0x00, 0x02, 0x00, 0x00]),
-        (false, [0x29, 0x01, 0x00, 0x00]),
-    ] {
-        let mut tape = Tape::new();
-        tape.insert(0, fifty);
-        assert!(rt; control(&mut tape, 0xC3, 0x75));
-        let _ = pass(&mut tape, 16_000);
-        let mut operands = Bytes::new();
-        operands.append(&[0x71, 0xFF, 0xFF, 0xFF, 0xFF, 0x00]);
-        let command = Frame {
-            code: 1,
-            kind: 4,
-            id: 0,
-            opcode: 0x51,
-            operands,
-        };
-        let mut response = Frame::new();
-        tape.command(&command, &mut response);
-        let [frame, second, minute, hour] = code;
-        assert!(rt; (response.code, response.opcode) == (0xC, 0x51));
-        assert!(rt;
-            response.operands.as_slice() == [0x71, frame, second, minute, hour, 0x00].as_slice()
-        );
-    }
+    assert!(rt; has_code(&time_code(true), &[0x71, 0x00, 0x02, 0x00, 0x00, 0x00]));
+    assert!(rt; has_code(&time_code(false), &[0x71, 0x29, 0x01, 0x00, 0x00, 0x00]));
 }

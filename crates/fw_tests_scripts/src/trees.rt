@@ -2,6 +2,7 @@
 
 use crate::cablings::{Cable, Facts, Port, bus, facts, identified, refused, self_ids_are};
 use fw_tree::TreeFault;
+use std::alloc::Global;
 use std::test::Fail;
 
 /// Devices and cables; the root, the manager, and each device's number, 63 where it is off; where packets are named, the device that
@@ -220,11 +221,14 @@ const MESSAGES: [(TreeFault, &str); 4] = [
     (TreeFault::Loop, "Loop"),
 ];
 
+fn is_shown(alloc: Global, fault: TreeFault, text: &str) -> Result<bool, Fail> {
+    Ok(format!(in alloc; "{fault}")?.as_str() == text)
+}
+
 #[test]
 fn messages(rt: HostRuntime) -> Result<(), Fail> {
     for &(fault, text) in &MESSAGES {
-        let shown = format!(in rt.alloc(); "{fault}")?;
-        assert!(rt; shown.as_str() == text);
+        assert!(rt; is_shown(rt.alloc(), fault, text)?);
     }
     Ok(())
 }

@@ -8,8 +8,8 @@ ghost use Rattle.fw_devices.specs.Network.{facts_of, with_device};
 
 use super::Devices;
 use fw_base::DeviceKind;
+use fw_command::Name;
 use fw_node::Node;
-use fw_script::Name;
 use fw_tree::{End, PhyFacts, TreeFault};
 
 // What the PHY of a device says.

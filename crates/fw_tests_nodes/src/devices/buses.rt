@@ -4,9 +4,9 @@ ghost use Rattle.std.specs.Prelude.{◌≡◌, ◌<◌, ◌+◌, ℕ};
 ghost use Rattle.fw_tree.specs.Cables.{IsOnBus};
 
 use fw_base::DeviceKind;
+use fw_command::Name;
 use fw_devices::Devices;
 use fw_phy::read_phy;
-use fw_script::Name;
 use fw_tree::End;
 use std::process::Abort;
 use std::test::Fail;

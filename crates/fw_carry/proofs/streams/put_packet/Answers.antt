@@ -4,7 +4,7 @@ use Rattle.fw_entry.specs.declared.entry.Entry.TheVariants.{Iso}
 use Rattle.fw_entry.specs.declared.version.Version.TheVariants.{Two}
 use Rattle.fw_carry.specs.Cycling.{unheard}
 use Rattle.fw_machine.specs.Streaming.{count_at}
-use Rattle.fw_carry.specs.declared.dubs.Recording.{Recording}
+use Rattle.fw_machine.specs.declared.recording.Recording.{Recording}
 use Rattle.fw_carry.proofs.CycleTurns.{ready_talker, gives_none, gives_some, packet_done, packet_fits, packet_same}
 use Rattle.fw_carry.proofs.Doings.{no_faults}
 use Rattle.fw_carry.proofs.Packets.{unheard_same}

@@ -1,9 +1,9 @@
 -- A command of a script has its numbers in their ranges.
 use Rattle.std.proofs.Common.{◌≡◌, ◌<◌, ℕ, Option, Some, None, IfSome, subst, arith}
 use Rattle.fw_cmp.specs.Fits.{AskedFits}
-use Rattle.fw_script.specs.declared.command.Command.{Command}
-use Rattle.fw_script.specs.declared.command.Command.TheVariants.{Device, Connect, Broadcast, Listen, Read, Swap, Show}
-use Rattle.fw_script.proofs.CommandLaws.{CommandFits, command_fits}
+use Rattle.fw_command.specs.declared.command.Command.{Command}
+use Rattle.fw_command.specs.declared.command.Command.TheVariants.{Device, Connect, Broadcast, Listen, Read, Swap, Show}
+use Rattle.fw_command.proofs.CommandLaws.{CommandFits, command_fits}
 use Rattle.fw_rules.specs.Decisions.{IsCommand}
 use Rattle.fw_rules.proofs.commands.decide.Goals as goal
 

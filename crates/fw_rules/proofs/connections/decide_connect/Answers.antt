@@ -1,7 +1,7 @@
 -- The order, or the rule, is that of the connection that is asked for.
 use Rattle.std.proofs.Common.{arith}
 use Rattle.fw_run.specs.declared.order.Wanted.TheVariants.{PlugToPlug}
-use Rattle.fw_script.specs.declared.command.Command.TheVariants as Commands
+use Rattle.fw_command.specs.declared.command.Command.TheVariants as Commands
 use Rattle.fw_rules.proofs.connections.decide_connect.Goals as goal
 use Rattle.fw_rules.proofs.ConnectionRules.{connection_decided, is_named, plug_is}
 use Rattle.fw_machine.proofs.Living.{few_devices}

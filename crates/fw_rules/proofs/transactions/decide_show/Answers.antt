@@ -5,7 +5,7 @@ use Rattle.fw_csr.specs.declared.reply.Reply.{Reply}
 use Rattle.fw_run.specs.Rules.{Decides}
 use Rattle.fw_run.specs.Named.{IsShown}
 use Rattle.fw_run.specs.declared.rule.RuleFault.TheVariants.{NoRegister}
-use Rattle.fw_script.specs.declared.command.Command.TheVariants as Commands
+use Rattle.fw_command.specs.declared.command.Command.TheVariants as Commands
 use Rattle.fw_machine.specs.Stands.{is_linked_in, read_in}
 use Rattle.fw_rules.proofs.transactions.decide_show.Goals as goal
 use Rattle.fw_rules.proofs.transactions.decide_show.Goals.{in-None+in_ok-device-in-None, in-Some+in_ok-device-in-Some}

@@ -1,0 +1,5 @@
+pub mod CommandLaws
+pub mod FormLaws
+pub mod NumberLaws
+pub mod PiecesLaws
+pub mod WordLaws
