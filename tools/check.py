@@ -1,10 +1,11 @@
 #!/usr/bin/env python3
-"""Compares what people read with what the program does: its help, the examples, README's commands, and JSON by another parser.
+"""Compares what people read with what the program does: its help, the examples, README's commands, the manual pages, and JSON by another
+parser.
 
     tools/check.py [PROGRAM]
 
-PROGRAM is crates/fire/out/fire, which ./fire builds. This is run by hand, needs Python 3.8, and takes some seconds. The status is 0
-where all holds, 1 where something does not, and 2 where there is no program.
+PROGRAM is dist/fire, which ships. .ci/run makes this check after the gate; it needs Python 3.8, and takes some seconds. The status is 0 if
+all holds, 1 if something does not, and 2 if there is no program.
 """
 
 import pathlib
@@ -27,6 +28,13 @@ CUT_OFF = 4
 # What completes words and what the manual pages say of them; each word of the help stands in both.
 COMPLETION = ROOT / "tools/completion.bash"
 MANUAL = ROOT / "docs/man/fire.1"
+
+# The format of logs, as the repository and as the manual have it.
+FORMAT = ROOT / "docs/LOG.md"
+FORMAT_MANUAL = ROOT / "docs/man/fire-log.5"
+
+# What each crate took in the gate; the launcher reads it.
+SECONDS = ROOT / "tools/gate_seconds.txt"
 
 wrong = 0
 
@@ -54,7 +62,8 @@ def check_help(program):
     text = HELP.read_bytes()
     for word in ("help", "--help", "-h"):
         due(f"help of the program: {word}", run(program, [word]) == (0, text, b""))
-        due(f"help of the launcher: {word}", run(ROOT / "fire", [word]) == (0, text, b""))
+        # (the first call of the launcher in a checkout says on standard error what it runs)
+        due(f"help of the launcher: {word}", run(ROOT / "fire", [word])[:2] == (0, text))
     for word in ("version", "--version", "-V"):
         due(f"version: {word}", run(program, [word]) == run(ROOT / "fire", [word]))
     due("no words", run(program, []) == (2, b"", b"usage\n"))
@@ -110,12 +119,39 @@ def check_readme(program):
         due(f"README: {command}", ended.stdout == re.sub(r"(?m)^    ", "", output))
 
 
+def numbered(text):
+    """The numbers and names of a list such as `1 second-over, 2 died`, with blanks in names as hyphens."""
+    return {int(number): re.sub(r"\s+", "-", name.strip()) for number, name in re.findall(r"(\d+) ([a-z][a-z\s-]*[a-z])", text)}
+
+
+def check_manuals():
+    """The manual of logs has the events and outcomes of docs/LOG.md, and that of the program the statuses of README."""
+    manual, text = FORMAT_MANUAL.read_text(), FORMAT.read_text()
+    events = {int(code): name for code, name in re.findall(r"^\| (\d+) \| `([a-z-]+)` \|", text, re.M)}
+    due(f"{FORMAT_MANUAL.name}: other events", events and numbered(manual.split(".SS Events")[1].split("Events 1")[0]) == events)
+    outcomes = numbered(text.split("Outcomes are ")[1].split(";")[0])
+    told = numbered(manual.split(".SS Outcomes")[1].split(".SH")[0])
+    due(f"{FORMAT_MANUAL.name}: other outcomes", outcomes and told == outcomes)
+    statuses = re.findall(r"^\| (\d+) \| ", (ROOT / "README.md").read_text(), re.M)
+    exits = re.findall(r"^\.B (\d+)$", MANUAL.read_text().split(".SH EXIT STATUS")[1], re.M)
+    due(f"{MANUAL.name}: other statuses", statuses and exits == statuses)
+
+
+def check_seconds():
+    """The seconds of the gate name each crate, and no other."""
+    listed = [line.split()[0] for line in SECONDS.read_text().splitlines() if line and not line.startswith("#")]
+    crates = re.findall(r"^(\w+):", (ROOT / "crates.txt").read_text(), re.M)
+    due(f"{SECONDS.name} names other crates than crates.txt", sorted(listed) == sorted(crates))
+
+
 def main(words):
-    program = pathlib.Path(words[0] if words else ROOT / "crates/fire/out/fire").resolve()
+    program = pathlib.Path(words[0] if words else ROOT / "dist/fire").resolve()
     if not program.is_file():
-        print(f"there is no program {program}: ./fire builds it", file=sys.stderr)
+        print(f"there is no program {program}", file=sys.stderr)
         return 2
     check_help(program)
+    check_manuals()
+    check_seconds()
     scripts = sorted(EXAMPLES.glob("*.script"))
     for script in scripts:
         check_log(program, script.stem, check_example(program, script))
@@ -123,7 +159,7 @@ def main(words):
     for what, log in kept:
         check_log(program, what, log)
     check_readme(program)
-    print(f"{len(scripts)} examples and {len(kept)} logs of sessions: {wrong} wrong")
+    print(f"check: {len(scripts)} examples and {len(kept)} logs of sessions, {wrong} wrong")
     return 1 if wrong else 0
 
 

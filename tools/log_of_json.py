@@ -114,7 +114,10 @@ def log_of(lines, version):
 
 
 def main(words):
-    if words not in ([], ["1"], ["2"]):
+    if words in (["--help"], ["-h"]):
+        print(__doc__)
+        return 0
+    if words not in ([], ["1"], ["2"]) or sys.stdin.isatty():
         print(__doc__, file=sys.stderr)
         return 2
     sys.stdout.buffer.write(log_of(sys.stdin, int(words[0]) if words else 2))

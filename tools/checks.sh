@@ -1,0 +1,24 @@
+#!/bin/sh
+# The repository's own quick checks, which .ci/run makes after the gate: what ships, the launcher, and what documents show. Where a tool
+# that one of them needs is not there, it is skipped, and that is said. The status is 0 if each passed.
+cd "$(dirname "$0")/.." || exit 1
+passed=0 failed=0
+
+made() {
+    if "$@"; then
+        passed=$((passed + 1))
+    else
+        failed=$((failed + 1))
+        echo "checks: $1 failed"
+    fi
+}
+
+made tools/dist.sh --check
+made tools/launcher/check.sh
+if command -v python3 >/dev/null; then
+    made tools/check.py dist/fire
+else
+    echo 'checks: tools/check.py skipped, since there is no python3'
+fi
+echo "checks: $passed passed, $failed failed"
+[ "$failed" = 0 ]

@@ -1,0 +1,77 @@
+# shellcheck shell=sh disable=SC2154
+# What a call has beside the program's own words: a file's name as one word more is that file as input, and a terminal is told what is
+# amiss. $program is the program. This file is read by ./fire and by the launcher that is installed.
+
+note() {
+    echo "fire: $*" >&2
+}
+
+usage() {
+    note "usage: fire $*"
+    exit 2
+}
+
+# Sets $reads to what the words' form reads from standard input (nothing, if it reads none), and $length to how many words the form has.
+form_of() {
+    reads='' length=1
+    case $1 in
+    run | dub) reads=script ;;
+    explain | decode | json | dv | audit | map) reads=log ;;
+    convert) case ${2-} in 1 | 2) reads=log length=2 ;; esac ;;
+    esac
+    case "$1 ${2-}" in 'map dot') length=2 ;; esac
+}
+
+# Ends with the status of a failed input, and one line that says why, if this file cannot be read.
+must_be_readable() {
+    if [ -d "$1" ]; then
+        note "$1 is a folder"
+    elif [ ! -e "$1" ]; then
+        note "there is no file $1"
+    elif [ ! -r "$1" ]; then
+        note "$1 cannot be read"
+    else
+        return
+    fi
+    exit 5
+}
+
+# A log and blocks are binary: at a terminal they are of no use to anyone, and may upset it.
+must_not_be_a_terminal() {
+    [ -t 1 ] || return 0
+    case $1 in
+    run | convert) note "the output is binary: pipe it into fire explain, or into a file" ;;
+    dub) note "the output is binary: pipe it into a file" ;;
+    *) return ;;
+    esac
+    exit 2
+}
+
+# Calls the program with these words, with the last as the input if it is one word more than their form has.
+call() {
+    if [ $# = 0 ]; then
+        "$program" help >&2
+        exit 2
+    fi
+    form_of "$@"
+    [ -n "$reads" ] || exec "$program" "$@"
+    eval "last=\${$#}"
+    case $(($# - length)) in
+    0)
+        must_not_be_a_terminal "$1"
+        [ ! -t 0 ] || note "$1 reads a $reads from the terminal: Ctrl-D ends it"
+        exec "$program" "$@"
+        ;;
+    1)
+        # (a word such as --help is no file's name, and the program refuses it)
+        case $last in -*) exec "$program" "$@" ;; esac
+        must_be_readable "$last"
+        must_not_be_a_terminal "$1"
+        case $length in
+        1) exec "$program" "$1" <"$last" ;;
+        2) exec "$program" "$1" "$2" <"$last" ;;
+        esac
+        ;;
+    *) exec "$program" "$@" ;;
+    esac
+}
