@@ -3,6 +3,7 @@
 #![tactic(auto)]
 
 mod access;
+mod laws;
 pub mod low_offset;
 mod manager;
 pub mod offset;
@@ -12,6 +13,7 @@ mod request;
 mod word;
 
 pub use access::QuadletAccess;
+pub use laws::{registers_stand_at_their_low_offsets, registers_stand_at_their_offsets};
 pub use manager::Manager;
 pub use offset::{
     BANDWIDTH_AVAILABLE, BUS_MANAGER_ID, CHANNELS_AVAILABLE_HI, CHANNELS_AVAILABLE_LO,

@@ -1,10 +1,37 @@
--- What the tables of events and outcomes come to, in words of their own: the laws that a function of this crate promises.
+-- Which number each code has, and what the tables of events and outcomes come to, in words of their own: the laws that functions of this
+-- crate promise.
 use Rattle.std.specs.Prelude.{◌≡◌, ℕ, ◌==◌, ◌||◌, ◌&&◌, nat_le, true, if◌then◌else◌}
-use Rattle.fw_entry.specs.declared.codes.TheConstants.{NO_DEVICE, LINES_525, LINES_625}
+use Rattle.fw_entry.specs.declared.codes.TheConstants.{LOG_MAGIC, NO_DEVICE, NO_NODE, LINES_525, LINES_625}
+use Rattle.fw_entry.specs.declared.codes.kind.TheConstants as Kinds
 use Rattle.fw_entry.specs.declared.codes.event.TheConstants as Events
 use Rattle.fw_entry.specs.declared.codes.outcome.TheConstants as Outcomes
 use Rattle.fw_entry.specs.Log.{is_event, is_outcome}
 use Rattle.fw_entry.specs.Rows.{event_form, has_tape}
+
+-- the kinds of entries
+abbrev pub KindsAreNumbered : Type 0
+KindsAreNumbered =
+    (Kinds.RESET ≡ 1) × (Kinds.ASYNC ≡ 2) × (Kinds.ISO ≡ 3) × (Kinds.EVENT ≡ 4) × (Kinds.OUTCOME ≡ 5) × (Kinds.SHOWN ≡ 6)
+    × (Kinds.END ≡ 7)
+
+-- the codes of events
+abbrev pub EventsAreNumbered : Type 0
+EventsAreNumbered =
+    (Events.SECOND_OVER ≡ 1) × (Events.DIED ≡ 2) × (Events.STARTED ≡ 3) × (Events.INSERTED ≡ 4) × (Events.EJECTED ≡ 5)
+    × (Events.UNSETTLED ≡ 6) × (Events.LOST ≡ 7) × (Events.WITHHELD ≡ 8) × (Events.ELECTED ≡ 9) × (Events.DEFEATED ≡ 10)
+    × (Events.DUBBING ≡ 11)
+
+-- the codes of outcomes
+abbrev pub OutcomesAreNumbered : Type 0
+OutcomesAreNumbered =
+    (Outcomes.CONNECTED ≡ 1) × (Outcomes.BROKEN ≡ 2) × (Outcomes.RESTORED ≡ 3) × (Outcomes.NO_CHANNEL ≡ 4)
+    × (Outcomes.NO_UNITS ≡ 5) × (Outcomes.PLUG_FULL ≡ 6) × (Outcomes.INPUT_BUSY ≡ 7) × (Outcomes.NO_PLUG ≡ 8)
+    × (Outcomes.NO_MANAGER ≡ 9) × (Outcomes.ABSENT ≡ 10) × (Outcomes.RESET ≡ 11) × (Outcomes.LATE ≡ 12)
+
+-- what a log begins with; what stands in place of a device or a node if there is none; the systems of tapes, by their lines
+abbrev pub OthersAreNumbered : Type 0
+OthersAreNumbered =
+    (LOG_MAGIC ≡ 0x3133_3934) × (NO_DEVICE ≡ 255) × (NO_NODE ≡ 255) × (LINES_525 ≡ 525) × (LINES_625 ≡ 625)
 
 -- The codes of events are those from the second's end to dubbing. The end of the reclaim second, an unsettled bus and the withholding
 -- of channel 31 have no device; a tape that is inserted is of one of two systems, and no other event has one.

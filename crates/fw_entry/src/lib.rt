@@ -21,7 +21,7 @@ pub use entry::{
     BorrowedReset, Entry, EventEntry, OutcomeEntry, ResetEntry, ShownEntry, Timed, epoch_after,
 };
 pub use entry_room::EntryRoom;
-pub use laws::codes_say_what_entries_have;
+pub use laws::{codes_are_those_of_the_log, codes_say_what_entries_have};
 pub use nodes::{NodeList, NodeRow};
 pub use room::CycleRoom;
 pub use rows::{

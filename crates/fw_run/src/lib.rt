@@ -22,7 +22,7 @@ pub use laws::{
     actions_leave_states_good, connections_come_back, nodes_answer_by_the_account,
     rounds_are_enough, runs_are_audited, runs_are_logs, runs_are_sound, runs_have_one_log,
 };
-pub use limits::{MOST_HALF_STEPS, MOST_RESETS, MOST_WRITTEN_CYCLES};
+pub use limits::{MOST_HALF_STEPS, MOST_RESETS, MOST_WRITTEN_CYCLES, limits_are_those_of_scripts};
 pub use lingering::plugs_linger_through_runs;
 pub use losses::{lost_responses_are_not_heard, lost_swaps_come_right};
 pub use order::{Access, Order, Transaction, Wanted};

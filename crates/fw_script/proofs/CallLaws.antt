@@ -1,5 +1,5 @@
 -- Calls of a reader, one after the other.
-use Rattle.std.proofs.Common.{◌≡◌, ◌≢◌, ℕ, [], ◌∷◌, ◌++◌, List, length, drop, length-drop, length-append, true, false, Bool, Option, Some, None, Ok, Err, arith, refl, ap, sym, ◌∙◌, subst, append_assoc}
+use Rattle.std.proofs.Common.{◌≡◌, ◌≢◌, ℕ, ◌+◌, ◌≤◌, [], ◌∷◌, ◌++◌, List, length, drop, length-drop, length-append, true, false, Bool, Option, Some, None, Ok, Err, arith, refl, ap, sym, ◌∙◌, subst, append_assoc}
 use Rattle.std.proofs.lemmas.List.{append-nil, drop-append-le, drop-drop}
 use Rattle.fw_outside.specs.Outside.{Takes, IsAtEnd}
 use Rattle.fw_outside.proofs.Parts.{Takes-Takes, Takes-nothing}
@@ -153,6 +153,8 @@ read_failed left mid left' given old new so a held =
         leads = subst (λ (bytes : List ℕ). Leads (begun (so.taken ++ bytes) false) given (with_taken old (a.takes.taken ++ []) false)) (append-nil a.takes.taken) l;
         passed = g;
         free = subst (λ (l : List ℕ). IsFree 10 l) (sym (append-nil new.rest)) held.0;
+        few = subst (λ (l : List ℕ). length l ≤ 256) (sym (append-nil new.rest)) held.1;
+        within = subst (λ (l : List ℕ). new.before + length l ≤ 1048576) (sym (append-nil new.rest)) held.3;
       },
     )
 

@@ -1,5 +1,5 @@
 -- The commands of a script, one after another: what they lead through, and what of it was read.
-use Rattle.std.specs.Prelude.{◌≡◌, ◌≢◌, ℕ, ◌≤◌, List, [], ◌∷◌, ◌++◌, length, drop, Bool, true, false, Option, Some, Ok, Err}
+use Rattle.std.specs.Prelude.{◌≡◌, ◌≢◌, ℕ, ◌+◌, ◌≤◌, List, [], ◌∷◌, ◌++◌, length, drop, Bool, true, false, Option, Some, Ok, Err}
 use Rattle.fw_outside.specs.Outside.{Takes, IsAtEnd}
 use Rattle.fw_command.specs.Pieces.{IsFree}
 use Rattle.fw_script.specs.Reading.{Reading, GivesFirst, with_taken}
@@ -34,13 +34,16 @@ pub record TakesFrom (left left' : Option (List ℕ)) (script : List ℕ) : Type
   pub takes : Takes left left' taken
   pub told : Tells left script
 
--- the lines whose line feed is among the bytes give exactly these commands, one after another, and none of them is refused
+-- The lines whose line feed is among the bytes give exactly these commands, one after another, and none of them is refused. What is left
+-- after them is not too long for a line, and within the script's limit.
 pub record LinesSay (bytes : List ℕ) (commands : List Command) : Type 0 where
   pub behind : Reading
   pub last : Reading
   pub leads : Leads (begun bytes false) commands behind
   pub passed : GivesFirst behind (Err ReadFault) last
   pub free : IsFree 10 last.rest
+  pub few : length last.rest ≤ 256
+  pub within : last.before + length last.rest ≤ 1048576
 
 -- so many of the bytes that were taken are read, and the others are held
 pub record IsReadOf (taken : List ℕ) (now : Reading) : Type 0 where

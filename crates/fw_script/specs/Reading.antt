@@ -134,7 +134,8 @@ abbrev pub HoldsAnswer : Reading → Type 0
 HoldsAnswer p = (r : Answer) × (q : Reading) × GivesFirst p r q × (r ≢ Err ReadFault)
 
 -- How many bytes are held behind an answer: at most 4,096 behind the line of a command or of a refused one, of a line that is too
--- long at most 4,096 behind its first 257. Where the source failed no whole line is held.
+-- long at most 4,096 behind its first 257. If the source failed no whole line is held, nor more than a line may have, nor what passes the
+-- script's limit.
 abbrev pub IsHeld : Answer → Reading → Type 0
 IsHeld (Ok None) q = Unit {0}
 IsHeld (Ok (Some c)) q = length q.rest ≤ 4096
@@ -142,4 +143,4 @@ IsHeld (Err BadLine) q = length q.rest ≤ 4096
 IsHeld (Err LineTooLong) q = length q.rest ≤ 257 + 4096
 IsHeld (Err NoEnd) q = q.rest ≡ []
 IsHeld (Err TooLong) q = length q.rest ≤ 256 + 4096
-IsHeld (Err ReadFault) q = IsFree 10 q.rest × (length q.rest ≤ 256) × (q.whole ≡ false)
+IsHeld (Err ReadFault) q = IsFree 10 q.rest × (length q.rest ≤ 256) × (q.whole ≡ false) × (q.before + length q.rest ≤ 1048576)

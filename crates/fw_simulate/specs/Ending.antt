@@ -110,7 +110,8 @@ abbrev pub SaysBegun : List ℕ → List Command → Option Command → Type 0
 SaysBegun script commands None = BeginsWith script commands
 SaysBegun script commands (Some c) = (line : ℕ) × IsOnLine script commands c line
 
--- The source failed. The log is that of the commands of exactly the lines whose line feed was taken before.
+-- The source failed. The log is that of the commands of exactly the lines whose line feed was taken before; no line, nor the script, was too
+-- long as far as it was taken.
 pub record Interrupted (D : DeskRelations) (left left' held held' : Option (List ℕ)) : Type 0 where
   pub taken : List ℕ
   pub takes : Takes left left' taken
