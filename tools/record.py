@@ -1,0 +1,65 @@
+"""The file `tried` beside a crate's wrong bodies: on what they were last refused, for `wrong.py`.
+
+    # a line that is not read
+    crate SUM
+    below SUM
+    kit LINE
+    edit SUM NAME.edit
+
+It is written by a run alone, and never by hand. What it lacks, or has in another form, counts as changed.
+"""
+
+import hashlib
+import os
+
+NAME = "tried"
+HEAD = "# What the wrong bodies beside this file were last refused on. tools/wrong.py writes it.\n"
+PARTS = {"crate": "its own text changed", "below": "what stands below it changed", "kit": "the kit is another one"}
+
+
+def digest_of(file):
+    return hashlib.sha256(file.read_bytes()).hexdigest()[:32]
+
+
+def read(folder):
+    """What is recorded, by name, and the sums of edits, by file; None if there is no record."""
+    try:
+        text = (folder / NAME).read_text(encoding="utf-8", errors="replace")
+    except FileNotFoundError:
+        return None
+    parts, edits = {}, {}
+    for line in text.splitlines():
+        name, _, rest = line.partition(" ")
+        if name == "edit":
+            digest, _, file = rest.partition(" ")
+            edits[file] = digest
+        elif name in PARTS:
+            parts[name] = rest
+    return parts, edits
+
+
+def stale(folder, stands_on, files):
+    """Why a crate's edits are to be tried, and which: all if what they stand on changed, else those that are not recorded as they are."""
+    found = read(folder)
+    if found is None:
+        return f"no record {folder.name}/{NAME}", files
+    parts, edits = found
+    for name, why in PARTS.items():
+        if name not in parts:
+            return f"{folder.name}/{NAME} has no line '{name}'", files
+        if parts[name] != stands_on[name]:
+            return why, files
+    return "edits that are not recorded as refused", [it for it in files if edits.get(it.name) != digest_of(it)]
+
+
+def write(folder, stands_on, refused):
+    """Records that these edits were refused; those that were recorded on the same before stay, as far as they are there."""
+    found = read(folder)
+    edits = found[1] if found and found[0] == stands_on else {}
+    edits = {name: digest for name, digest in edits.items() if (folder / name).is_file()}
+    edits.update((it.name, digest_of(it)) for it in refused)
+    lines = [f"{name} {stands_on[name]}\n" for name in PARTS]
+    lines += [f"edit {edits[name]} {name}\n" for name in sorted(edits)]
+    new = folder / f".{NAME}.new"
+    new.write_text(HEAD + "".join(lines), encoding="utf-8")
+    os.replace(new, folder / NAME)
