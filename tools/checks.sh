@@ -13,7 +13,9 @@ made() {
     fi
 }
 
+# (the others try what ships: if that is stale, they have nothing to try)
 made tools/dist.sh --check
+[ "$failed" = 0 ] || { echo "checks: $passed passed, $failed failed"; exit 1; }
 made tools/launcher/check.sh
 if command -v python3 >/dev/null; then
     made tools/check.py dist/fire
