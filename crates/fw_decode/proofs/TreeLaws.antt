@@ -1,13 +1,16 @@
 -- The last bus reset of entries, one after another.
-use Rattle.std.proofs.Common.{◌≡◌, List, [], ◌∷◌, ◌++◌, Option, Some, None, refl, ap, sym, ◌∙◌}
+use Rattle.std.proofs.Common.{◌≡◌, ℕ, Bool, true, false, List, [], ◌∷◌, ◌++◌, Option, Some, None, Result, Ok, Err, refl, ap, sym, ◌∙◌}
+use Rattle.std.proofs.lemmas.Bool.{false≢true}
+use Rattle.std.specs.Result.{OnOk}
 use Rattle.fw_entry.specs.declared.entry.Entry.{Entry}
 use Rattle.fw_entry.specs.declared.entry.Entry.TheVariants.{Reset, Async, Iso, Event, Outcome, Shown, End}
 use Rattle.fw_entry.specs.declared.entry.ResetEntry.{ResetEntry}
 use Rattle.fw_entry.specs.declared.entry.Timed.{Timed}
-use Rattle.fw_entry.specs.declared.nodes.NodeRow.{NodeRow}
-use Rattle.fw_decode.specs.declared.last_tree.LastTree.{LastTree}
-use Rattle.fw_decode.specs.declared.last_tree.LastTree.TheVariants.{NoReset, Found, NoTree}
-use Rattle.fw_decode.specs.Trees.{reset_or, last_from, last_reset, IsLastTree, HasRows}
+use Rattle.fw_entry.specs.Log.{ResetFits, body}
+use Rattle.fw_log.specs.Passing.{HasBody}
+use Rattle.fw_log.specs.declared.plain.PlainBody.{PlainBody}
+use Rattle.fw_log.specs.declared.plain.PlainBody.TheVariants as Bodies
+use Rattle.fw_decode.specs.Trees.{reset_or, last_from, last_reset, KeepsLast}
 
 last_one : (before : Option ResetEntry) (entries : List Timed) (t : Timed) → last_from before (entries ++ t ∷ []) ≡ reset_or t.what (last_from before entries)
 last_one before [] t = refl
@@ -27,18 +30,26 @@ not_reset (Shown s) before no_reset = refl
 not_reset End before no_reset = refl
 
 -- another changes nothing
-pub last_stays : (entries : List Timed) (t : Timed) (l : LastTree) → ((e : ResetEntry) → t.what ≡ Reset e → ⊥) → IsLastTree entries l → IsLastTree (entries ++ t ∷ []) l
-last_stays entries t NoReset other h = last_one None entries t ∙ (not_reset t.what (last_reset entries) other ∙ h)
-last_stays entries t (Found tree) other h = (h.0, last_one None entries t ∙ (not_reset t.what (last_reset entries) other ∙ h.1), h.2, h.3)
-last_stays entries t (NoTree fault) other h = (h.0, last_one None entries t ∙ (not_reset t.what (last_reset entries) other ∙ h.1), h.2, h.3)
+pub last_stays : (entries : List Timed) (t : Timed) (there : Bool) (kept : List ℕ) → ((e : ResetEntry) → t.what ≡ Reset e → ⊥) → KeepsLast entries there kept
+    → KeepsLast (entries ++ t ∷ []) there kept
+last_stays entries t false kept other h = last_one None entries t ∙ (not_reset t.what (last_reset entries) other ∙ h)
+last_stays entries t true kept other h = (h.0, last_one None entries t ∙ (not_reset t.what (last_reset entries) other ∙ h.1), h.2, h.3)
 
--- ---- the rows of its nodes
+-- the body of an entry that is a reset is kept
+pub last_kept : (entries : List Timed) (t : Timed) (e : ResetEntry) (there : Bool) (kept : List ℕ) → t.what ≡ Reset e → ResetFits e → there ≡ true → body (Reset e) ≡ kept
+    → KeepsLast (entries ++ t ∷ []) there kept
+last_kept entries t e false kept is fits set same = absurd (false≢true set)
+last_kept entries t e true kept is fits set same = (e, last_is entries t e is, fits, same)
 
-pub rows_is : (entries : List Timed) (t : Timed) (e : ResetEntry) (rows : List NodeRow) → t.what ≡ Reset e → rows ≡ e.nodes → HasRows (entries ++ t ∷ []) rows
-rows_is entries t e rows is same f last =
-    let one : Some f ≡ Some e = sym last ∙ last_is entries t e is in
-    let fe : f ≡ e = cc one in
-    same ∙ ap (λ (x : ResetEntry). x.nodes) (sym fe)
+-- a body of another kind is that of no reset
+pub no_reset_body : (b : PlainBody) (w : Entry) → HasBody b w → ((bytes : List ℕ) → b ≡ Bodies.Reset bytes → ⊥) → (e : ResetEntry) → w ≡ Reset e → ⊥
+no_reset_body (Bodies.Packet bytes) w h other e is = cc (h.1, is)
+no_reset_body (Bodies.Iso bytes) w h other e is = cc (h.1, is)
+no_reset_body (Bodies.Reset bytes) w h other e is = other bytes refl
 
-pub rows_stay : (entries : List Timed) (t : Timed) (rows : List NodeRow) → ((e : ResetEntry) → t.what ≡ Reset e → ⊥) → HasRows entries rows → HasRows (entries ++ t ∷ []) rows
-rows_stay entries t rows other h f last = h f (sym (last_one None entries t ∙ not_reset t.what (last_reset entries) other) ∙ last)
+-- ---- the same of a call that may fail
+
+pub kept_on_ok : {T E : Type 0} (r : Result T E) (entries : List Timed) (t : Timed) (e : ResetEntry) (there : Bool) (kept bytes : List ℕ) → t.what ≡ Reset e → ResetFits e
+    → body (Reset e) ≡ bytes → OnOk r (there ≡ true) → OnOk r (kept ≡ bytes) → OnOk r (KeepsLast (entries ++ t ∷ []) there kept)
+kept_on_ok (Ok x) entries t e there kept bytes is fits same set copied = last_kept entries t e there kept is fits set (same ∙ sym copied)
+kept_on_ok (Err x) entries t e there kept bytes is fits same set copied = tt

@@ -1,16 +1,10 @@
--- The last bus reset of a log, and what is known of its tree.
-use Rattle.std.specs.Prelude.{◌≡◌, List, [], ◌∷◌, Option, Some, None}
+-- The last bus reset of a log, and what is kept of it.
+use Rattle.std.specs.Prelude.{◌≡◌, ℕ, Bool, true, false, List, [], ◌∷◌, Option, Some, None}
 use Rattle.fw_entry.specs.declared.entry.Entry.{Entry}
 use Rattle.fw_entry.specs.declared.entry.Entry.TheVariants.{Reset}
 use Rattle.fw_entry.specs.declared.entry.ResetEntry.{ResetEntry}
 use Rattle.fw_entry.specs.declared.entry.Timed.{Timed}
-use Rattle.fw_entry.specs.declared.nodes.NodeRow.{NodeRow}
-use Rattle.fw_entry.specs.Log.{ResetFits}
-use Rattle.fw_map.specs.declared.tree.Tree.{Tree}
-use Rattle.fw_map.specs.Trees.{HasPackets}
-use Rattle.fw_map.specs.Faults.{IsFault}
-use Rattle.fw_decode.specs.declared.last_tree.LastTree.{LastTree}
-use Rattle.fw_decode.specs.declared.last_tree.LastTree.TheVariants.{NoReset, Found, NoTree}
+use Rattle.fw_entry.specs.Log.{ResetFits, body}
 
 -- the reset that an entry is, or the one before
 abbrev pub reset_or : Entry → Option ResetEntry → Option ResetEntry
@@ -26,12 +20,7 @@ last_from before (t ∷ ts) = last_from (reset_or t.what before) ts
 abbrev pub last_reset : List Timed → Option ResetEntry
 last_reset entries = last_from None entries
 
--- the rows are those of the nodes of the last reset, if there is one
-abbrev pub HasRows : List Timed → List NodeRow → Type 0
-HasRows entries rows = (e : ResetEntry) → last_reset entries ≡ Some e → rows ≡ e.nodes
-
--- of the last reset the tree is known, or the first fault
-abbrev pub IsLastTree : List Timed → LastTree → Type 0
-IsLastTree entries NoReset = last_reset entries ≡ None
-IsLastTree entries (Found tree) = (e : ResetEntry) × (last_reset entries ≡ Some e) × ResetFits e × HasPackets e tree
-IsLastTree entries (NoTree fault) = (e : ResetEntry) × (last_reset entries ≡ Some e) × IsFault e fault × ((t : Tree) → HasPackets e t → ⊥)
+-- The body of the last reset is kept, if there is one.
+abbrev pub KeepsLast : List Timed → Bool → List ℕ → Type 0
+KeepsLast entries false kept = last_reset entries ≡ None
+KeepsLast entries true kept = (e : ResetEntry) × (last_reset entries ≡ Some e) × ResetFits e × (body (Reset e) ≡ kept)

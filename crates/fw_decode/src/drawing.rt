@@ -1,64 +1,36 @@
 //! `map dot`: the tree of the last bus reset of a log, as a graph.
 
-ghost use Rattle.std.specs.Prelude.{◌≡◌, ◌≤◌, ◌++◌, ◌∷◌, List, [], length};
+ghost use Rattle.std.specs.Prelude.{[]};
 ghost use Rattle.fw_outside.specs.Stops.{ReadCount, WriteCount};
-ghost use Rattle.fw_entry.specs.declared.entry.Timed.{Timed as TimedEntry};
 ghost use Rattle.fw_reading.specs.Endings.{stop_of, Reads, IsComplete};
 ghost use Rattle.fw_decode.specs.Texts.{silent_form};
 ghost use Rattle.fw_decode.specs.Maps.{HasTree, graph_rules};
 
 use crate::NoMap;
-use crate::last_tree::LastTree;
-use fw_log::{Entry, NodeList, NodeRow, Timed};
-use fw_map::tree_graph;
+use crate::last_reset::LastReset;
+use fw_log::{LogReader, Room, Timed};
+use fw_map::{rebuild, tree_graph};
 use fw_outside::{Failed, Sink, Source};
 use fw_reading::{Closing, LogEnding, Reading, read_log};
 use std::alloc::{AllocError, Global};
 
-// The tree that is to be written, and the rows of its nodes.
+// The reset whose tree is to be written.
 #[derive(Drop)]
 struct Drawing {
-    last: LastTree,
-    rows: NodeList,
-}
-
-// The same rows.
-fn rows_of(rows: &[NodeRow]) -> NodeList
-    requires { length rows.now ≤ 63 }
-    ensures { result ≡ rows.now }
-{
-    let mut list = NodeList::new();
-    for row in rows {
-        list.push(*row);
-    }
-    list
-}
-
-impl Drawing {
-    ghost use Rattle.fw_decode.specs.Trees.{HasRows};
-
-    // Takes the rows of an entry more.
-    fn take_rows(&mut self, entry: &Timed)
-        ensures rows { (entries : List TimedEntry) → HasRows entries self.old.rows → HasRows (entries ++ entry.now ∷ []) self.new.rows }
-        ensures last { self.new.last ≡ self.old.last }
-    {
-        if let Entry::Reset(reset) = &entry.what {
-            self.rows = rows_of(reset.get().nodes.as_slice());
-        }
-    }
+    last: LastReset,
 }
 
 impl Reading for Drawing {
     type Refusal = NoMap;
 
     ghost use Rattle.fw_decode.specs.TextLaws.{silent_each};
-    ghost use Rattle.fw_decode.specs.Trees.{IsLastTree, HasRows};
+    ghost use Rattle.fw_decode.specs.Trees.{KeepsLast};
 
     ghost form = { λ d. silent_form };
 
     ghost rules = { graph_rules };
 
-    ghost took = { λ d entries. IsLastTree entries d.last × HasRows entries d.rows };
+    ghost took = { λ d entries. KeepsLast entries d.last.there d.last.body.items };
 
     ghost gathered = { λ d. [] };
 
@@ -66,10 +38,18 @@ impl Reading for Drawing {
         Ok(())
     }
 
-    fn take(&mut self, entry: &Timed, _bytes: &[u8]) -> Result<Option<NoMap>, AllocError> {
-        self.take_rows(entry);
-        self.last.take(entry);
+    fn take(&mut self, entry: &Timed, bytes: &[u8]) -> Result<Option<NoMap>, AllocError> {
+        self.last.take(entry, bytes)?;
         Ok(None)
+    }
+
+    fn pass(
+        &mut self,
+        reader: &mut LogReader,
+        room: &mut Room,
+        piece: &[u8],
+    ) -> Result<Option<usize>, AllocError> {
+        self.last.pass(reader, room, piece)
     }
 
     fn gathered(&self) -> &[u8] {
@@ -79,14 +59,15 @@ impl Reading for Drawing {
     fn clear(&mut self) {}
 
     fn close(&self, alloc: Global) -> Result<Closing<NoMap>, AllocError> {
-        match &self.last {
-            LastTree::NoReset => Ok(Closing::Refused(NoMap::NoReset)),
-            LastTree::NoTree(fault) => Ok(Closing::Refused(NoMap::NoTree(*fault))),
-            LastTree::Found(tree) => Ok(Closing::Text(tree_graph(
-                alloc,
-                tree,
-                self.rows.as_slice(),
-            )?)),
+        let Some(reset) = self.last.reset() else {
+            return Ok(Closing::Refused(NoMap::NoReset));
+        };
+        match rebuild(&reset) {
+            Ok(tree) => {
+                let text = tree_graph(alloc, &tree, reset.nodes.as_slice())?;
+                Ok(Closing::Text(text))
+            }
+            Err(fault) => Ok(Closing::Refused(NoMap::NoTree(fault))),
         }
     }
 
@@ -106,9 +87,6 @@ pub fn map_graph<S: Source, K: Sink>(
     ensures write_count { WriteCount (K.faults sink.old) (K.faults sink.new) (stop_of result) }
     ensures complete { IsComplete HasTree (S.left source.old) result }
 {
-    let drawing = Drawing {
-        last: LastTree::NoReset,
-        rows: NodeList::new(),
-    };
-    read_log(alloc, drawing, source, sink)
+    let last = LastReset::new(alloc);
+    read_log(alloc, Drawing { last }, source, sink)
 }

@@ -8,7 +8,7 @@
 
 mod drawing;
 mod explanation;
-mod last_tree;
+mod last_reset;
 mod laws;
 mod lines;
 mod mapping;

@@ -7,30 +7,30 @@ ghost use Rattle.fw_decode.specs.Texts.{silent_form};
 ghost use Rattle.fw_decode.specs.Maps.{HasTree, map_rules};
 
 use crate::NoMap;
-use crate::last_tree::LastTree;
-use fw_log::Timed;
-use fw_map::tree_text;
+use crate::last_reset::LastReset;
+use fw_log::{LogReader, Room, Timed};
+use fw_map::{rebuild, tree_text};
 use fw_outside::{Failed, Sink, Source};
 use fw_reading::{Closing, LogEnding, Reading, read_log};
 use std::alloc::{AllocError, Global};
 
-// The tree that is to be written.
+// The reset whose tree is to be written.
 #[derive(Drop)]
 struct Mapping {
-    last: LastTree,
+    last: LastReset,
 }
 
 impl Reading for Mapping {
     type Refusal = NoMap;
 
     ghost use Rattle.fw_decode.specs.TextLaws.{silent_each};
-    ghost use Rattle.fw_decode.specs.Trees.{IsLastTree};
+    ghost use Rattle.fw_decode.specs.Trees.{KeepsLast};
 
     ghost form = { λ m. silent_form };
 
     ghost rules = { map_rules };
 
-    ghost took = { λ m entries. IsLastTree entries m.last };
+    ghost took = { λ m entries. KeepsLast entries m.last.there m.last.body.items };
 
     ghost gathered = { λ m. [] };
 
@@ -38,9 +38,18 @@ impl Reading for Mapping {
         Ok(())
     }
 
-    fn take(&mut self, entry: &Timed, _bytes: &[u8]) -> Result<Option<NoMap>, AllocError> {
-        self.last.take(entry);
+    fn take(&mut self, entry: &Timed, bytes: &[u8]) -> Result<Option<NoMap>, AllocError> {
+        self.last.take(entry, bytes)?;
         Ok(None)
+    }
+
+    fn pass(
+        &mut self,
+        reader: &mut LogReader,
+        room: &mut Room,
+        piece: &[u8],
+    ) -> Result<Option<usize>, AllocError> {
+        self.last.pass(reader, room, piece)
     }
 
     fn gathered(&self) -> &[u8] {
@@ -50,10 +59,15 @@ impl Reading for Mapping {
     fn clear(&mut self) {}
 
     fn close(&self, alloc: Global) -> Result<Closing<NoMap>, AllocError> {
-        match &self.last {
-            LastTree::NoReset => Ok(Closing::Refused(NoMap::NoReset)),
-            LastTree::NoTree(fault) => Ok(Closing::Refused(NoMap::NoTree(*fault))),
-            LastTree::Found(tree) => Ok(Closing::Text(tree_text(alloc, tree)?)),
+        let Some(reset) = self.last.reset() else {
+            return Ok(Closing::Refused(NoMap::NoReset));
+        };
+        match rebuild(&reset) {
+            Ok(tree) => {
+                let text = tree_text(alloc, &tree)?;
+                Ok(Closing::Text(text))
+            }
+            Err(fault) => Ok(Closing::Refused(NoMap::NoTree(fault))),
         }
     }
 
@@ -70,6 +84,6 @@ pub fn map<S: Source, K: Sink>(alloc: Global, source: &mut S, sink: &mut K) -> L
     ensures write_count { WriteCount (K.faults sink.old) (K.faults sink.new) (stop_of result) }
     ensures complete { IsComplete HasTree (S.left source.old) result }
 {
-    let last = LastTree::NoReset;
+    let last = LastReset::new(alloc);
     read_log(alloc, Mapping { last }, source, sink)
 }

@@ -82,7 +82,7 @@ asked_text (Some q) = at_text (place_of q.offset)
 
 -- no request that stands is answered
 unfoldable pub unasked_text : Option Asked → List ℕ
-unasked_text None = codes ", no request in this log"
+unasked_text None = codes ", no request stands"
 unasked_text (Some q) = []
 
 -- what a response brings, where it is complete

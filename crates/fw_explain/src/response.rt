@@ -42,7 +42,7 @@ fn put_unasked(text: &mut Vec<u8>, q: Option<&Asked>) -> Result<(), AllocError>
 {
     match q {
         Some(_) => Ok(()),
-        None => put_word(text, ", no request in this log"),
+        None => put_word(text, ", no request stands"),
     }
 }
 

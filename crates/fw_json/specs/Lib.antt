@@ -1,3 +1,4 @@
 pub mod Values
 pub mod Ids
 pub mod Objects
+pub mod Laws

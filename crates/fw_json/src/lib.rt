@@ -10,9 +10,11 @@ mod entry;
 mod front;
 mod ids;
 mod iso;
+mod laws;
 mod packet;
 mod reset;
 mod room;
 mod values;
 
+pub use laws::{objects_are_lines, objects_tell_entries};
 pub use room::{ObjectRoom, put_object};

@@ -18,9 +18,10 @@ unfoldable pub node_lines : Tree → ℕ → List ℕ
 node_lines t zero = []
 node_lines t (suc d) = node_lines t d ++ node_line t d
 
--- the speed between two nodes is the least sp of the nodes on the walk between them
-abbrev pub IsSpeed : Tree → ℕ → ℕ → ℕ → Type 0
-IsSpeed t a b speed = (nodes : List ℕ) → Walk t a b nodes → IsLeast t.sp nodes speed
+-- the speed between two nodes: there is a walk between them, and the speed is the least sp of the nodes on it
+pub record IsSpeed (t : Tree) (a b speed : ℕ) : Type 0 where
+  pub walk : (nodes : List ℕ) × Walk t a b nodes
+  pub least : (nodes : List ℕ) → Walk t a b nodes → IsLeast t.sp nodes speed
 
 -- the text is the speeds from a node to those below the number
 pub data IsRow (t : Tree) (a : ℕ) : ℕ → List ℕ → Type 0 where
