@@ -1,0 +1,126 @@
+"""The records of a capture of nosy-dump -o FILE, and the packets in them."""
+
+from __future__ import annotations
+
+import struct
+from enum import IntEnum
+from typing import Iterator, List, Optional
+
+from .packets import ALL_NODES, HEADER_QUADLETS, WITH_BLOCK, Tcode, Words, data_length, destination, physical_id, quadlets_of
+from .streams import Input
+from .tally import LeftOut, Tally
+
+LITTLE_ENDIAN, BIG_ENDIAN = "<", ">"
+BYTE_ORDERS = {"little": LITTLE_ENDIAN, "big": BIG_ENDIAN}
+LONGEST = 16384  # bytes; the records of the driver have at most 8195
+PHY_PACKET_QUADLETS = 4
+TOO_SHORT = "record that is shorter than its packet"
+
+
+class Ack(IntEnum):
+    """What the card says of a packet's acknowledgement: none, or the ack code (IEEE 1394-1995, 6.2.5.2.2)."""
+
+    NONE = 0
+    COMPLETE = 1
+    PENDING = 2
+    BUSY_X = 4
+    BUSY_A = 5
+    BUSY_B = 6
+    TARDY = 11
+    CONFLICT_ERROR = 12
+    DATA_ERROR = 13
+    TYPE_ERROR = 14
+    ADDRESS_ERROR = 15
+
+
+TAKEN = (Ack.COMPLETE, Ack.PENDING)
+BUSY = "busy: the retry counts"
+NOT_TAKEN = {
+    Ack.NONE: "no ack: nobody took it",
+    Ack.BUSY_X: BUSY,
+    Ack.BUSY_A: BUSY,
+    Ack.BUSY_B: BUSY,
+    Ack.TARDY: "ack_tardy",
+    Ack.CONFLICT_ERROR: "ack_conflict_error",
+    Ack.DATA_ERROR: "ack_data_error",
+    Ack.TYPE_ERROR: "ack_type_error",
+    Ack.ADDRESS_ERROR: "ack_address_error",
+}
+
+
+def records(capture: Input, order: Optional[str], tally: Tally) -> Iterator[List[int]]:
+    """The records as lists of quadlets. A capture that goes on to none is damaged there, and ends there. Without an order
+    the first length that is not 0 decides it."""
+    at = 0
+    while True:
+        head = capture.read(4)
+        if not head:
+            return
+        if len(head) < 4:
+            tally.damage = f"byte {at}: cut"
+            return
+        order = order or likely_order(head)
+        (length,) = struct.unpack((order or LITTLE_ENDIAN) + "I", head)
+        if length > LONGEST or length % 4:
+            tally.damage = f"byte {at}: a record of {length} bytes"
+            return
+        body = capture.read(length) if length else b""
+        if len(body) < length:
+            tally.damage = f"byte {at}: cut"
+            return
+        tally.read += 1
+        at += 4 + length
+        yield list(struct.unpack(f"{order or LITTLE_ENDIAN}{length // 4}I", body))
+
+
+def likely_order(head: bytes) -> Optional[str]:
+    """The byte order in which a record has this length; None for 0, which says nothing."""
+    little, big = (int.from_bytes(head, order) for order in BYTE_ORDERS)
+    if little == 0:
+        return None
+    return BIG_ENDIAN if little > LONGEST >= big else LITTLE_ENDIAN
+
+
+def is_bus_reset(record: List[int]) -> bool:
+    """The other views of nosy-dump write bus resets without a time."""
+    return len(record) <= 1
+
+
+def is_phy_packet(record: List[int]) -> bool:
+    return len(record) == PHY_PACKET_QUADLETS and record[2] == record[1] ^ 0xFFFFFFFF
+
+
+def link_words(record: List[int]) -> Words:
+    """The quadlets of a link packet with its CRCs, without the time before it and the ack after it."""
+    if len(record) < 3:
+        raise LeftOut("record without a packet")
+    return record[1:-1]
+
+
+def stream_without_crcs(words: Words) -> Words:
+    """The header and the data, after each of which stands a CRC; the last may be missing, and quadlets may follow."""
+    length = quadlets_of(words[0] >> 16)
+    if len(words) < 2 + length:
+        raise LeftOut(TOO_SHORT)
+    return words[:1] + words[2 : 2 + length]
+
+
+def packet_without_crcs(words: Words, code: Tcode) -> Words:
+    header = HEADER_QUADLETS[code]
+    if len(words) < header:
+        raise LeftOut(TOO_SHORT)
+    packet = words[:header]
+    if code in WITH_BLOCK:
+        length = quadlets_of(data_length(packet))
+        data = words[header + 1 : header + 1 + length]
+        if len(data) < length:
+            raise LeftOut(TOO_SHORT)
+        packet = packet + data
+    return packet
+
+
+def check_taken(packet: Words, ack: int) -> None:
+    """What goes to all nodes has no ack; of the rest only what was taken is a packet of the log."""
+    if ack in TAKEN or (ack == Ack.NONE and physical_id(destination(packet)) == ALL_NODES):
+        return
+    raise LeftOut(NOT_TAKEN.get(ack, f"ack {ack:x}, which is reserved"))
