@@ -10,4 +10,4 @@ interrupts.end_quietly()  # before the rest is loaded
 from captures import frame, from_trace  # noqa: E402
 
 if __name__ == "__main__":
-    sys.exit(frame.run(from_trace.TOOL))
+    sys.exit(frame.run(from_trace.TOOL, sys.argv[1:]))

@@ -10,4 +10,4 @@ interrupts.end_quietly()  # before the rest is loaded
 from captures import frame, to_nosy  # noqa: E402
 
 if __name__ == "__main__":
-    sys.exit(frame.run(to_nosy.TOOL))
+    sys.exit(frame.run(to_nosy.TOOL, sys.argv[1:]))

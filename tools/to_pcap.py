@@ -10,4 +10,4 @@ interrupts.end_quietly()  # before the rest is loaded
 from captures import frame, to_pcap  # noqa: E402
 
 if __name__ == "__main__":
-    sys.exit(frame.run(to_pcap.TOOL))
+    sys.exit(frame.run(to_pcap.TOOL, sys.argv[1:]))

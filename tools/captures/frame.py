@@ -6,7 +6,7 @@ import argparse
 import re
 from dataclasses import dataclass
 from enum import IntEnum
-from typing import Callable, NoReturn
+from typing import Callable, List, NoReturn
 
 from . import interrupts, streams
 from .tally import Tally
@@ -83,10 +83,10 @@ def number_below(limit: int) -> Callable[[str], int]:
     return number
 
 
-def run(tool: Tool) -> Status:
-    """Runs a tool with the words of the command line. With statuses 2, 5, 6 and 8 one line is all that is told."""
+def run(tool: Tool, words: List[str]) -> Status:
+    """Runs a tool with these words. With statuses 2, 5, 6 and 8 one line is all that is told."""
     try:
-        return report(tool, worked(tool))
+        return report(tool, worked(tool, words))
     except HelpAsked as asked:
         return show_help(tool, str(asked))
     except Usage as wrong:
@@ -103,8 +103,9 @@ def run(tool: Tool) -> Status:
         return interrupts.end_now()
 
 
-def worked(tool: Tool) -> Tally:
-    tally = tool.work(tool.parser.parse_args())
+def worked(tool: Tool, words: List[str]) -> Tally:
+    """What became of each record, once all of the output is written."""
+    tally = tool.work(tool.parser.parse_args(words))
     streams.standard_output().flush()
     if not tally.is_balanced():
         tally.damage = "the counts of this report do not add up: a fault of the tool"

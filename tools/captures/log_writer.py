@@ -7,11 +7,11 @@ from enum import IntEnum
 from typing import List, NamedTuple, Optional, Sequence
 
 from .streams import Output
+from .times import SECOND
 
 MAGIC = b"1394"
 VERSION = 2
 NOBODY = 255
-SECOND = 8000  # cycles
 # How long the second in which reservations are reclaimed is said to be, in cycles. A host that waits a second by its own
 # clock may be 10 ms early, and time stamps come late.
 RECLAIM = SECOND - 80

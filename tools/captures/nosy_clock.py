@@ -1,15 +1,13 @@
-"""The time of a capture of nosy-dump: its stamps have microseconds without seconds, and cycle starts give the seconds back."""
+"""The time of a capture of nosy-dump. Its stamps have microseconds without seconds; cycle starts give the seconds back."""
 
 from __future__ import annotations
 
 from typing import NamedTuple, Optional
 
 from .happenings import TIME_GOES_BACK
-from .log_writer import SECOND
 from .tally import Tally
+from .times import CYCLE_MICROSECONDS, MICROSECONDS, SECOND
 
-MICROSECONDS = 1_000_000  # of a second
-CYCLE_MICROSECONDS = 125
 # A stamp that is less than a millisecond before the one before it: the clock was set back.
 LEAST_STEP_BACK = MICROSECONDS - 1000
 CYCLE_TIME_PERIOD = 128 * SECOND  # cycles after which CYCLE_TIME begins anew

@@ -3,10 +3,9 @@
 from __future__ import annotations
 
 import struct
-from enum import IntEnum
 from typing import Iterator, List, Optional
 
-from .packets import ALL_NODES, HEADER_QUADLETS, WITH_BLOCK, Tcode, Words, data_length, destination, physical_id, quadlets_of
+from .packets import HEADER_QUADLETS, WITH_BLOCK, Tcode, Words, data_length, quadlets_of
 from .streams import Input
 from .tally import LeftOut, Tally
 
@@ -15,37 +14,6 @@ BYTE_ORDERS = {"little": LITTLE_ENDIAN, "big": BIG_ENDIAN}
 LONGEST = 16384  # bytes; the records of the driver have at most 8195
 PHY_PACKET_QUADLETS = 4
 TOO_SHORT = "record that is shorter than its packet"
-
-
-class Ack(IntEnum):
-    """What the card says of a packet's acknowledgement: none, or the ack code (IEEE 1394-1995, 6.2.5.2.2)."""
-
-    NONE = 0
-    COMPLETE = 1
-    PENDING = 2
-    BUSY_X = 4
-    BUSY_A = 5
-    BUSY_B = 6
-    TARDY = 11
-    CONFLICT_ERROR = 12
-    DATA_ERROR = 13
-    TYPE_ERROR = 14
-    ADDRESS_ERROR = 15
-
-
-TAKEN = (Ack.COMPLETE, Ack.PENDING)
-BUSY = "busy: the retry counts"
-NOT_TAKEN = {
-    Ack.NONE: "no ack: nobody took it",
-    Ack.BUSY_X: BUSY,
-    Ack.BUSY_A: BUSY,
-    Ack.BUSY_B: BUSY,
-    Ack.TARDY: "ack_tardy",
-    Ack.CONFLICT_ERROR: "ack_conflict_error",
-    Ack.DATA_ERROR: "ack_data_error",
-    Ack.TYPE_ERROR: "ack_type_error",
-    Ack.ADDRESS_ERROR: "ack_address_error",
-}
 
 
 def records(capture: Input, order: Optional[str], tally: Tally) -> Iterator[List[int]]:
@@ -117,10 +85,3 @@ def packet_without_crcs(words: Words, code: Tcode) -> Words:
             raise LeftOut(TOO_SHORT)
         packet = packet + data
     return packet
-
-
-def check_taken(packet: Words, ack: int) -> None:
-    """What goes to all nodes has no ack; of the rest only what was taken is a packet of the log."""
-    if ack in TAKEN or (ack == Ack.NONE and physical_id(destination(packet)) == ALL_NODES):
-        return
-    raise LeftOut(NOT_TAKEN.get(ack, f"ack {ack:x}, which is reserved"))

@@ -19,12 +19,13 @@ import struct
 from typing import Iterator, List
 
 from . import frame, from_log, streams
+from .acks import Ack
 from .log_reader import Entry, counted_entries
 from .log_writer import EntryKind
-from .nosy_clock import CYCLE_MICROSECONDS, MICROSECONDS
-from .nosy_records import BYTE_ORDERS, Ack
+from .nosy_records import BYTE_ORDERS
 from .packets import ALL_NODES, HEADER_QUADLETS, RESPONSES, Tcode, Words, destination, physical_id, tcode
 from .tally import Tally, Written
+from .times import CYCLE_MICROSECONDS, MICROSECONDS
 
 NO_CRC = 0
 

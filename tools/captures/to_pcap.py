@@ -17,9 +17,9 @@ import struct
 
 from . import frame, from_log, streams
 from .log_reader import Entry, counted_entries
-from .log_writer import SECOND, EntryKind
-from .nosy_clock import CYCLE_MICROSECONDS
+from .log_writer import EntryKind
 from .tally import Tally, Written
+from .times import CYCLE_MICROSECONDS, SECOND
 
 MAGIC = 0xA1B2C3D4  # times in microseconds
 VERSION = (2, 4)

@@ -5,10 +5,9 @@ from __future__ import annotations
 import re
 from typing import Dict, Iterator, List, NamedTuple, Optional, Set
 
-from .log_writer import SECOND
-from .nosy_clock import CYCLE_MICROSECONDS
 from .streams import Input
 from .tally import LeftOut, Tally
+from .times import CYCLE_MICROSECONDS, SECOND
 
 REQUEST_SENT = "async_request_outbound_initiate"
 REQUEST_DONE = "async_request_outbound_complete"
