@@ -24,7 +24,7 @@ class Status(IntEnum):
 
 
 STATUSES = """exit status:
-  0  all of the input was read (also if there was nothing in it)
+  0  all of the input was read, also if there was nothing in it
   2  wrong words, or standard input is a terminal
   4  the input is {damaged}
   5  standard input cannot be read

@@ -5,9 +5,11 @@ examples:
   from_isodump.py < dv.iso > dv.log
   fire dv < dv.log
 
-A capture has no times: a cycle is counted on when a channel comes again that the cycle has already. So with one channel
-each packet has a cycle of its own, and cycles without a packet do not show. Each packet becomes an entry of the log, or
-is left out; the report on standard error counts both, by what it was. docs/CAPTURES.md has the rest.
+A capture has no times: a cycle is counted on when a channel comes again that
+the cycle has already. So with one channel each packet has a cycle of its own,
+and cycles without a packet do not show. Each packet becomes an entry of the
+log, or is left out; a report on standard error counts both, by what it was.
+docs/CAPTURES.md has the rest.
 """
 
 from __future__ import annotations
@@ -69,7 +71,7 @@ def work(_options: argparse.Namespace) -> Tally:
 
 
 def parser() -> frame.Parser:
-    return frame.Parser("from_isodump", __doc__, "cut, or no capture: the log has what stands before, and its end")
+    return frame.Parser("from_isodump", __doc__, "damaged: the log has what stands before, and its end")
 
 
 TOOL = frame.Tool("from_isodump", "packets", parser(), work)

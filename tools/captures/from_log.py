@@ -6,7 +6,7 @@ from . import frame
 from .log_reader import Entry
 from .log_writer import EntryKind
 
-NO_LOG = "no log, or a cut one: what is written has the entries before"
+NO_LOG = "no whole log: what stands before is written"
 NAMES = {
     EntryKind.RESET: "bus reset",
     EntryKind.PACKET: "asynchronous packet",

@@ -1,4 +1,5 @@
-"""Makes a log of a capture of nosy-dump -o FILE: every packet of a bus, as a sniffer sees it that is no node.
+"""Makes a log of a capture of nosy-dump -o FILE: every packet of a bus, as a
+sniffer sees it that is no node.
 
 examples:
   nosy-dump --iso --cycle-start -o bus.cap
@@ -8,8 +9,9 @@ examples:
   nosy-dump --iso --cycle-start -o bus.fifo > /dev/null &
   from_nosy.py --live < bus.fifo | fire explain
 
-Without cycle starts in the capture a silence of a second or more does not show. Each record of the capture becomes an
-entry of the log, or is left out; the report on standard error counts both, by what it was. docs/CAPTURES.md has the rest.
+Without cycle starts in the capture a silence of a second or more does not show.
+Each record of the capture becomes an entry of the log, or is left out; a report
+on standard error counts both, by what it was. docs/CAPTURES.md has the rest.
 """
 
 from __future__ import annotations
@@ -41,12 +43,12 @@ def work(options: argparse.Namespace) -> Tally:
 
 
 def parser() -> frame.Parser:
-    words = frame.Parser("from_nosy", __doc__, "damaged, or no capture: the log has what stands before, and its end")
+    words = frame.Parser("from_nosy", __doc__, "damaged: the log has what stands before, and its end")
     words.add_argument(
         "--live",
         action="store_true",
-        help="one pass: each entry is written as its record comes. Devices are told by self-ID packets alone, nodes with a "
-        "link have 31 plugs of each kind, and there are no decks. Ctrl-C is the end of the capture",
+        help="one pass: each entry is written as its record comes. Devices are told by self-ID packets alone, nodes "
+        "with a link have 31 plugs of each kind, and there are no decks. Ctrl-C is the end of the capture",
     )
     words.add_argument("--cycle-starts", action="store_true", help="cycle starts become entries too, 8000 a second")
     words.add_argument("--byte-order", choices=BYTE_ORDERS, help="of the capture; else as its first length says")

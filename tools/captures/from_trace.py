@@ -1,5 +1,6 @@
-"""Makes a log of the kernel's firewire trace events (6.10 and later), from text of trace_pipe, `trace-cmd report` or
-`perf script`: what one host sends and is sent, and every bus reset.
+"""Makes a log of the kernel's firewire trace events (6.10 and later), from text of
+trace_pipe, `trace-cmd report` or `perf script`: what one host sends and is
+sent, and every bus reset.
 
 examples:
   echo 1 > /sys/kernel/tracing/events/firewire/enable
@@ -8,9 +9,11 @@ examples:
 
   cat /sys/kernel/tracing/trace_pipe | from_trace.py --live | fire explain
 
-What other nodes do among themselves is not in the events, nor what they do at this host's own BUS_MANAGER_ID,
-BANDWIDTH_AVAILABLE and CHANNELS_AVAILABLE, which its link answers without the driver. Each event becomes an entry of the
-log, or is left out; the report on standard error counts both, by what it was. docs/CAPTURES.md has the rest.
+What other nodes do among themselves is not in the events, nor what they do at
+this host's own BUS_MANAGER_ID, BANDWIDTH_AVAILABLE and CHANNELS_AVAILABLE,
+which its link answers without the driver. Each event becomes an entry of the
+log, or is left out; a report on standard error counts both, by what it was.
+docs/CAPTURES.md has the rest.
 """
 
 from __future__ import annotations
@@ -62,10 +65,13 @@ def parser() -> frame.Parser:
     words.add_argument(
         "--live",
         action="store_true",
-        help="one pass: each entry is written as its line comes. Devices are told by self-ID packets alone, nodes with a "
-        "link have 31 plugs of each kind, there are no decks, and packets are kept that nobody took. Ctrl-C is the end",
+        help="one pass: each entry is written as its line comes. Devices are told by self-ID packets alone, nodes "
+        "with a link have 31 plugs of each kind, there are no decks, and packets are kept that nobody took. "
+        "Ctrl-C is the end of the text",
     )
-    words.add_argument("--card", type=frame.number_below(1000), help="the events of this card; else the first bus reset's")
+    words.add_argument(
+        "--card", type=frame.number_below(1000), metavar="N", help="the events of this card; else of the first bus reset's"
+    )
     words.add_argument("--big-endian", action="store_true", help="the text comes from a big-endian host")
     add_kinds(words)
     return words

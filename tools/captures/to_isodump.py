@@ -1,11 +1,13 @@
-"""Makes a capture of dumpiso of the isochronous packets of a log, which sendiso (libraw1394) can send.
+"""Makes a capture of dumpiso of the isochronous packets of a log, which sendiso
+(libraw1394) can send.
 
 examples:
   to_isodump.py < bus.log > bus.iso
   sendiso bus.iso
 
-Times and cycles without a packet are not in such a capture. All other entries are left out, and the report on standard
-error counts them. docs/CAPTURES.md has the rest.
+Times and cycles without a packet are not in such a capture. All other entries
+are left out, and a report on standard error counts them. docs/CAPTURES.md has
+the rest.
 """
 
 from __future__ import annotations

@@ -1,4 +1,5 @@
-"""Makes a capture of nosy-dump of a log, for nosy-dump -i and for what else reads such captures.
+"""Makes a capture of nosy-dump of a log, for nosy-dump -i and for what else reads
+such captures.
 
 examples:
   to_nosy.py < bus.log > bus.cap
@@ -7,9 +8,10 @@ examples:
   to_nosy.py --transaction < bus.log > bus.cap
   nosy-dump -i bus.cap --view transaction
 
-What a log does not have is written so: each CRC is 0; the ack of a request is ack_pending, that of a response
-ack_complete, and there is none of what goes to all nodes. Events, outcomes and shown words have no packet: they are
-left out, and the report on standard error counts them. docs/CAPTURES.md has the rest.
+What a log does not have is written so: each CRC is 0; the ack of a request is
+ack_pending, that of a response ack_complete, and there is none of what goes to
+all nodes. Events, outcomes and shown words have no packet: they are left out,
+and a report on standard error counts them. docs/CAPTURES.md has the rest.
 """
 
 from __future__ import annotations

@@ -1,13 +1,16 @@
-"""Makes a pcap file of the isochronous packets of a log, as IEC 61883 over AVTP (IEEE 1722), for Wireshark and tshark.
+"""Makes a pcap file of the isochronous packets of a log, as IEC 61883 over AVTP
+(IEEE 1722), for Wireshark and tshark.
 
 examples:
   to_pcap.py < bus.log > bus.pcap
   tshark -r bus.pcap -O iec61883
 
-Each packet is an Ethernet frame to all, of type 22F0: an AVTP header of 24 bytes (subtype 0, 61883), whose last four are
-the isochronous header as on the bus, and then the packet from its CIP header on. The time is that of the cycle. Wireshark has no dissector
-for asynchronous packets of IEEE 1394: they are left out, as all other entries are, and the report on standard error
-counts them. docs/CAPTURES.md has the rest.
+Each packet is an Ethernet frame to all, of type 22F0: an AVTP header of 24
+bytes (subtype 0, 61883), whose last four are the isochronous header as on the
+bus, and then the packet from its CIP header on. The time is that of the cycle.
+Wireshark has no dissector for asynchronous packets of IEEE 1394: they are left
+out, as all other entries are, and a report on standard error counts them.
+docs/CAPTURES.md has the rest.
 """
 
 from __future__ import annotations
