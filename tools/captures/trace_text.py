@@ -78,6 +78,13 @@ class Event(NamedTuple):
         return [int(word, 16) for word in words]
 
 
+def fields_of(text: str) -> Dict[str, str]:
+    """The fields of an event. None if one stands there twice: then the line is of two events, each in part."""
+    pairs = FIELD.findall(text)
+    fields = dict(pairs)
+    return fields if len(fields) == len(pairs) else {}
+
+
 def lines_of(text: Input) -> Iterator[str]:
     """The lines of a text, each as soon as it is there."""
     while True:
@@ -108,7 +115,7 @@ class EventReader:
                 self._note_lost(line)
                 continue
             cycle = int(found[1]) * SECOND + int(found[2]) // CYCLE_MICROSECONDS
-            event = Event(self._tally.read, cycle, found[3], dict(FIELD.findall(found[4])))
+            event = Event(self._tally.read, cycle, found[3], fields_of(found[4]))
             self._tally.read += 1
             try:
                 self._check_card(event)

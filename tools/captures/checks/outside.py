@@ -132,7 +132,7 @@ def check_tshark(checks: Checks) -> None:
     with tempfile.NamedTemporaryFile(suffix=".pcap") as pcap:
         pcap.write(run_here("to_pcap", [], log).output)
         pcap.flush()
-        fields = ["-T", "fields", "-e", "iec61883.channel", "-e", "iec61883.cip_sid", "-e", "iec61883.cip_dbc"]
+        fields = ["-T", "fields", "-e", "iec61883.channel", "-e", "iec61883.sid", "-e", "iec61883.dbc"]
         ended = subprocess.run(["tshark", "-r", pcap.name, *fields], capture_output=True, text=True, check=False)
     told = [[int(number, 0) for number in line.split()] for line in ended.stdout.splitlines()]
     due = [[words[0] >> 8 & 63, words[1] >> 24 & 63, words[1] & 255] for words in streams]
