@@ -4,9 +4,8 @@ from __future__ import annotations
 
 import argparse
 import re
-from dataclasses import dataclass
 from enum import IntEnum
-from typing import Callable, List, NoReturn
+from typing import Callable, List, NamedTuple, NoReturn
 
 from . import interrupts, streams
 from .tally import Tally
@@ -62,8 +61,7 @@ class Parser(argparse.ArgumentParser):
         raise HelpAsked(self.format_help())
 
 
-@dataclass(frozen=True)
-class Tool:
+class Tool(NamedTuple):
     """A tool: its name, what its report counts, its words, and what it does with them."""
 
     name: str

@@ -3,9 +3,8 @@
 from __future__ import annotations
 
 from collections import defaultdict
-from dataclasses import dataclass
 from enum import IntEnum
-from typing import DefaultDict, Dict, Iterable, List, Tuple
+from typing import DefaultDict, Dict, Iterable, List, NamedTuple, Tuple
 
 from .happenings import BusReset, Happening, Packet
 from .identity import DeviceNumbers
@@ -46,18 +45,16 @@ class NodeKind(IntEnum):
     COMPUTER = 3
 
 
-@dataclass
-class Shown:
+class Shown(NamedTuple):
     """What a device shows: its plugs, and that somebody sends it commands."""
 
     output_plugs: int = 0
     input_plugs: int = 0
     commanded: bool = False
 
-    def add(self, other: Shown) -> None:
-        self.output_plugs = max(self.output_plugs, other.output_plugs)
-        self.input_plugs = max(self.input_plugs, other.input_plugs)
-        self.commanded = self.commanded or other.commanded
+    def joined(self, other: Shown) -> Shown:
+        """What both together show."""
+        return Shown(*map(max, zip(self, other)))
 
 
 class Epoch:
@@ -79,17 +76,20 @@ class Epoch:
             if at is not None and rcode(words) == 0:
                 self._see_answer(physical_id(source(words)), at, words)
 
+    def _show(self, node: int, shows: Shown) -> None:
+        self.shown[node] = self.shown[node].joined(shows)
+
     def _see_request(self, words: Words) -> None:
         at, node = register(words), physical_id(destination(words))
         self._asked[source(words), destination(words), label(words)] = at
         if at == FCP_COMMAND and tcode(words) in (Tcode.WRITE_QUADLET, Tcode.WRITE_BLOCK) and node != ALL_NODES:
-            self.shown[node].commanded = True
+            self._show(node, Shown(commanded=True))
 
     def _see_answer(self, node: int, at: int, words: Words) -> None:
         """A complete answer of a register."""
         code = tcode(words)
         if code in (Tcode.READ_QUADLET_RESPONSE, Tcode.LOCK_RESPONSE):
-            self.shown[node].add(Shown(plugs_up_to(at, FIRST_OPCR), plugs_up_to(at, FIRST_IPCR)))
+            self._show(node, Shown(plugs_up_to(at, FIRST_OPCR), plugs_up_to(at, FIRST_IPCR)))
         if code == Tcode.READ_QUADLET_RESPONSE:
             self._see_quadlet(node, at, words[3])
         elif code == Tcode.READ_BLOCK_RESPONSE and at == CONFIGURATION_ROM and data_length(words) >= ROM_WITH_EUI_64:
@@ -97,9 +97,9 @@ class Epoch:
 
     def _see_quadlet(self, node: int, at: int, value: int) -> None:
         if at == OMPR:
-            self.shown[node].add(Shown(output_plugs=value & 31))
+            self._show(node, Shown(output_plugs=value & MOST_PLUGS))
         elif at == IMPR:
-            self.shown[node].add(Shown(input_plugs=value & 31))
+            self._show(node, Shown(input_plugs=value & MOST_PLUGS))
         elif at in (EUI_64_HIGH, EUI_64_LOW):
             self._halves[node, at] = value
             if (node, EUI_64_HIGH) in self._halves and (node, EUI_64_LOW) in self._halves:
@@ -145,7 +145,7 @@ class Survey:
         for epoch, named in zip(epochs, devices):
             for node, shows in epoch.shown.items():
                 if node < len(named):
-                    shown[named[node]].add(shows)
+                    shown[named[node]] = shown[named[node]].joined(shows)
         self._rows = iter(
             [row(device, first, shown[device], kinds) for first, device in zip(first_self_ids(epoch.reset), named)]
             for epoch, named in zip(epochs, devices)

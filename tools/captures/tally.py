@@ -3,7 +3,6 @@
 from __future__ import annotations
 
 from collections import Counter
-from dataclasses import dataclass, field
 from enum import Enum
 from typing import Iterator, List, Optional
 
@@ -21,18 +20,18 @@ class LeftOut(Exception):
     """A record is not written; the text is the name under which it is counted."""
 
 
-@dataclass
 class Tally:
     """Each record that was read is written as one thing or left out under one name. What was changed in records that
     are written is counted beside that; `unsure` has what nobody can know of the whole capture, and `damage` where it ended
     before its end."""
 
-    read: int = 0
-    wrote: Counter = field(default_factory=Counter)
-    left: Counter = field(default_factory=Counter)
-    changed: Counter = field(default_factory=Counter)
-    unsure: List[str] = field(default_factory=list)
-    damage: Optional[str] = None
+    def __init__(self) -> None:
+        self.read = 0
+        self.wrote: Counter = Counter()
+        self.left: Counter = Counter()
+        self.changed: Counter = Counter()
+        self.unsure: List[str] = []
+        self.damage: Optional[str] = None
 
     def write(self, what: Written, records: int = 1) -> None:
         self.wrote[what] += records

@@ -6,6 +6,7 @@ import os
 import pty
 import subprocess
 
+from .. import frame
 from .counted import Checks
 from .tools import SCRIPTS, TOOLS, VECTORS, command, run
 
@@ -49,23 +50,29 @@ def check_help(checks: Checks) -> None:
         checks.check(f"{tool} --help", ended.status == 0 and ended.report == "" and b"exit status:" in ended.output)
         widest = max(map(len, ended.output.splitlines()))
         checks.check(f"{tool} --help has lines of {widest} columns", widest <= 80)
-        full = subprocess.run(["sh", "-c", '"$@" > /dev/full', "sh", *command(tool, "--help")], capture_output=True, check=False)
-        told_one_line(checks, f"{tool} --help > /dev/full", full, 6)
+    full = subprocess.run(["sh", "-c", '"$@" > /dev/full', "sh", *command(tool, "--help")], capture_output=True, check=False)
+    told_one_line(checks, f"{tool} --help > /dev/full", full, 6)
 
 
 def check_words(checks: Checks) -> None:
     for tool, wrong in WRONG_WORDS.items():
         for words in wrong:
-            ended = subprocess.run(command(tool, *words), input=given(tool), capture_output=True, check=False)
-            told_one_line(checks, f"{tool} {words!r:.60}", ended, 2)
-            checks.check(f"{tool} {words!r:.60} writes nothing", ended.stdout == b"")
+            try:
+                TOOLS[tool].parser.parse_args(words)
+                checks.check(f"{tool} {words!r:.60} is taken", False)
+            except frame.Usage as why:
+                checks.check(f"{tool} {words!r:.60}", str(why))
+        ended = subprocess.run(command(tool, *words), input=given(tool), capture_output=True, check=False)
+        told_one_line(checks, f"{tool} {words!r:.60}", ended, 2)
+        checks.check(f"{tool} {words!r:.60} writes nothing", ended.stdout == b"")
 
 
 def check_streams(checks: Checks) -> None:
     for tool in TOOLS:
+        told_one_line(checks, f"{tool} into /dev/full", in_shell(tool, "> /dev/full", given(tool)), 6)
+    for tool in ("from_trace", "to_isodump"):
         told_one_line(checks, f"{tool} without input", in_shell(tool, "<&-"), 5)
         told_one_line(checks, f"{tool} without output", in_shell(tool, ">&-", given(tool)), 6)
-        told_one_line(checks, f"{tool} into /dev/full", in_shell(tool, "> /dev/full", given(tool)), 6)
     told_one_line(checks, "input that cannot be read", in_shell("from_nosy", "0>/dev/null"), 5)
     told_one_line(checks, "output that cannot be written", in_shell("to_nosy", "1</dev/null", given("to_nosy")), 6)
     for where in ("/dev/full", "&-"):
@@ -78,7 +85,7 @@ def check_streams(checks: Checks) -> None:
 
 def check_terminal(checks: Checks) -> None:
     master, terminal = pty.openpty()
-    for tool in TOOLS:
+    for tool in ("from_isodump", "to_nosy"):
         ended = subprocess.run(command(tool), stdin=terminal, capture_output=True, check=False)
         told_one_line(checks, f"{tool} at a terminal", ended, 2)
     os.close(terminal)
