@@ -17,11 +17,12 @@ from typing import Dict, List
 
 sys.path[0] = str(pathlib.Path(__file__).resolve().parent.parent)
 
+from captures.checks.as_real import check_as_real, check_laid  # noqa: E402
 from captures.checks.check_laws import check_laws  # noqa: E402
 from captures.checks.counted import Checks  # noqa: E402
 from captures.checks.growing import check_growing  # noqa: E402
 from captures.checks.outside import check_outside  # noqa: E402
-from captures.checks.program import check_program  # noqa: E402
+from captures.checks.program import check_inputs, check_program  # noqa: E402
 from captures.checks.users import check_users  # noqa: E402
 from captures.checks.vectors import check_vectors, logs_of_vectors  # noqa: E402
 
@@ -34,11 +35,14 @@ def main(words: List[str]) -> int:
     logs: Dict[bytes, str] = logs_of_vectors()
     check_vectors(checks)
     check_laws(checks, logs)
+    check_as_real(checks)
+    check_laid(checks)
     check_users(checks)
     check_growing(checks)
     check_outside(checks)
     if words:
         check_program(checks, words[0], logs)
+        check_inputs(checks, words[0])
     else:
         checks.skipped("decode of each log, since no program was named")
     print(f"{checks.passed} passed, {checks.failed} failed")
