@@ -17,8 +17,9 @@ made tools/dist.sh --check
 made tools/launcher/check.sh
 if command -v python3 >/dev/null; then
     made tools/check.py dist/fire
+    made tools/captures/check.py dist/fire
 else
-    echo 'checks: tools/check.py skipped, since there is no python3'
+    echo 'checks: tools/check.py and tools/captures/check.py skipped, since there is no python3'
 fi
 echo "checks: $passed passed, $failed failed"
 [ "$failed" = 0 ]

@@ -3,8 +3,8 @@
 
     tools/captures/check.py [FIRE]
 
-FIRE is a program that reads logs (crates/fire/out/fire, which ./fire builds): the logs that come out go through its
-`decode` too. nosy-dump and tshark are asked where they are installed. This takes some seconds. The last line says how
+FIRE is the program (dist/fire, or crates/fire/out/fire, which ./fire builds): the logs that come out go through its
+`decode` too, and the inputs of the vectors are made of its logs anew. nosy-dump and tshark are asked where they are installed. This takes some seconds. The last line says how
 much passed and failed; the status is 0 if nothing failed, 1 if something did, and 2 if there is no such program.
 """
 

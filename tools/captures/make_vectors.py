@@ -3,7 +3,7 @@
 
     tools/captures/make_vectors.py FIRE
 
-FIRE is the program (crates/fire/out/fire, which ./fire builds). The names of the files that became others are told, for
+FIRE is the program (dist/fire, or crates/fire/out/fire, which ./fire builds). The names of the files that became others are told, for
 `git diff` to show. The texts NAME.watch, and watch_requests_of_the_dead.log, are not made by this.
 """
 
