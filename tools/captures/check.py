@@ -1,11 +1,13 @@
 #!/usr/bin/env python3
-"""Checks the tools for captures: the vectors byte for byte, the laws on hostile captures, and what a user may do to them.
+"""Checks the tools for captures: the vectors byte for byte, the laws on hostile captures, and what a user may do to
+them.
 
     tools/captures/check.py [FIRE]
 
 FIRE is the program (dist/fire, or crates/fire/out/fire, which ./fire builds): the logs that come out go through its
-`decode` too, and the inputs of the vectors are made of its logs anew. nosy-dump and tshark are asked where they are installed. This takes some seconds. The last line says how
-much passed and failed; the status is 0 if nothing failed, 1 if something did, and 2 if there is no such program.
+`decode` too, and the inputs of the vectors are made of its logs anew. nosy-dump and tshark are asked where they are
+installed. This takes some seconds. The last line says how much passed and failed; the status is 0 if nothing failed,
+1 if something did, and 2 if there is no such program.
 """
 
 from __future__ import annotations

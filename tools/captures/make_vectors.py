@@ -1,10 +1,12 @@
 #!/usr/bin/env python3
-"""Makes the vectors anew: the inputs of the tools, of logs that FIRE writes of scripts, and what the tools make of them.
+"""Makes the vectors anew: the inputs of the tools, of logs that FIRE writes of scripts, and what the tools make of
+them.
 
     tools/captures/make_vectors.py FIRE
 
-FIRE is the program (dist/fire, or crates/fire/out/fire, which ./fire builds). The names of the files that became others are told, for
-`git diff` to show. The texts NAME.watch, and watch_requests_of_the_dead.log, are not made by this.
+FIRE is the program (dist/fire, or crates/fire/out/fire, which ./fire builds). The names of the files that became
+others are told, for `git diff` to show. The texts NAME.watch, and watch_requests_of_the_dead.log, are not made by
+this.
 """
 
 from __future__ import annotations

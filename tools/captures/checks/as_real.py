@@ -17,6 +17,7 @@ REQUESTS = (0, 1, 4, 5, 9)
 CYCLE_START = 8
 BY_LINK = (0x21C, 0x220, 0x224, 0x228)  # registers that a host's link answers alone
 REGISTERS = 0xFFFFF0000000
+EACH = Habits(seed=0, busy=True, no_ack=True, reserved=True, phy=True, cycle_starts=800)
 Bus = List[Tuple[int, List[int]]]
 
 
@@ -37,7 +38,8 @@ def whole_bus(log: bytes) -> Bus:
 
 
 def of_host(log: bytes, device: int) -> Iterator[Tuple[int, List[int]]]:
-    """What the host with this device number sees: what it sends and is sent, but for what its link answers to others."""
+    """What the host with this device number sees: what it sends and is sent, but for what its link answers to
+    others."""
     node = None
     by_link: Dict[Tuple[int, int, int], bool] = {}
     for entry in read_log.read(log):
@@ -59,6 +61,11 @@ def of_host(log: bytes, device: int) -> Iterator[Tuple[int, List[int]]]:
                 yield seen(entry)
 
 
+def devices_of(log: bytes) -> List[int]:
+    resets = [entry for entry in read_log.read(log) if entry.kind == read_log.RESET]
+    return sorted({device for reset in resets for device in reset.body[8::4][: reset.body[7]]})
+
+
 def logs() -> Iterator[Tuple[str, bytes]]:
     for path in (*sorted(EXAMPLES.glob("*.log")), VECTORS / "out_play.log"):
         if path.name != "refusal.log":  # which has no end
@@ -67,14 +74,11 @@ def logs() -> Iterator[Tuple[str, bytes]]:
 
 def check_as_real(checks: Checks) -> None:
     for seed, (name, log) in enumerate(logs()):
-        habits = Habits(
-            seed, busy=True, no_ack=True, reserved=True, twice=seed % 2 == 0, phy=True, cycle_starts=800, big_endian=seed % 3 == 0
-        )
+        habits = EACH._replace(seed=seed, twice=seed % 2 == 0, big_endian=seed % 3 == 0)
         for words in ([], ["--live"]):
             back = whole_bus(run_here("from_nosy", words, as_captured(log, habits)).output)
             checks.check(f"{name} as a sniffer sees it {words}", back == whole_bus(log))
-        devices = {row for entry in read_log.read(log) if entry.kind == read_log.RESET for row in entry.body[8::4][: entry.body[7]]}
-        for device in sorted(devices):
+        for device in devices_of(log):
             words = ["--big-endian"] if habits.big_endian else []
             text = as_traced(log, device, habits._replace(style=("pipe", "report", "perf")[seed % 3]))
             back = whole_bus(run_here("from_trace", words, text).output)

@@ -1,4 +1,5 @@
-"""With the program: it reads each log that the tools make, and the inputs of the vectors are what is made of its logs."""
+"""With the program: it reads each log that the tools make, and the inputs of the vectors are what is made of its
+logs."""
 
 from __future__ import annotations
 

@@ -44,7 +44,8 @@ def shapes() -> bytes:
     return record(6) + self_ids(FIRST, SECOND, ROOT) + b"".join([
         record(10),  # a bus reset without self-ID packets
         record(11, 0xFFC21510, 0xFFC0FFFF, 0xF0000B00, 0x08000000, CRC, *[1] * 512, CRC, PENDING),  # 2048 bytes
-        record(12, 0xFFC21910, 0xFFC0FFFF, 0xF0000B00, 0x00070000, CRC, 0x01FF30FF, 0xFFFFFFAB, CRC, COMPLETE),  # padding
+        # padding that is set
+        record(12, 0xFFC21910, 0xFFC0FFFF, 0xF0000B00, 0x00070000, CRC, 0x01FF30FF, 0xFFFFFFAB, CRC, COMPLETE),
         record(13, 0xFFC21D90, 0xFFC0FFFF, 0xF0000220, 0x00080009, CRC, 1, 2, CRC, PENDING),  # an unknown function
         record(14, 0xFFC22190, 0xFFC0FFFF, 0xF0000220, 0x00040002, CRC, 1, CRC, PENDING),  # a length it does not have
         record(15, 0xFFC225B0, 0xFFC0FFFF, 0xFFFFFFFF, 0x00040002, CRC, 1),  # too short
@@ -105,7 +106,8 @@ def hostile_captures(play: bytes) -> Dict[str, bytes]:
 
 
 def hostile_trace(text: bytes) -> bytes:
-    """A trace with an event whose header is odd, lost events, events of another card and of none, and a cut last line."""
+    """A trace with an event whose header is odd, lost events, events of another card and of none, and a cut last
+    line."""
     lines = text.decode().splitlines(True)
     packets = [number for number, line in enumerate(lines) if "async_request_outbound_initiate" in line]
     odd = packets[len(packets) // 2]

@@ -35,16 +35,13 @@ class Logs:
 
 
 def nosy_inputs(logs: Logs) -> Inputs:
-    def real(log: bytes, seed: int) -> bytes:
-        habits = Habits(seed, cycle_starts=100, busy=True, no_ack=True, reserved=True, real_plugs=True, twice=True, phy=True)
-        return as_captured(log, habits)
-
+    real = Habits(1, busy=True, no_ack=True, reserved=True, real_plugs=True, twice=True, phy=True, cycle_starts=100)
     lossy = Habits(5, cycle_starts=100, busy=True, real_plugs=True, lose=7)
     muted = Habits(7, cycle_starts=400, busy=True, mute=logs.relay())
     self_id_lost = Habits(8, cycle_starts=400, busy=True, lose_self_id=True)
     return {
-        "nosy_play": real(logs.play_with_reads, 1),
-        "nosy_rivals": real(logs.rivals, 2),
+        "nosy_play": as_captured(logs.play_with_reads, real),
+        "nosy_rivals": as_captured(logs.rivals, real._replace(seed=2)),
         "nosy_leak": as_captured(logs.leak, Habits(3, cycle_starts=100)),
         "nosy_eui_64": as_captured(two_that_change_places(), Habits(11, cycle_starts=200)),
         "nosy_lost_packets": as_captured(logs.play, lossy),

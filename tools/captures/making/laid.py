@@ -32,8 +32,9 @@ class Laid:
         """A request and its response: each its transaction code, and what follows its third quadlet."""
         self._label = (self._label + 1) % 64
         rest = self._label << 10 | 0x100
-        asks = [(0xFFC0 + node) << 16 | rest | request[0] << 4, (0xFFC0 + asker) << 16 | REGISTERS >> 32, 0xF0000000 | at]
-        answers = [(0xFFC0 + asker) << 16 | rest | response[0] << 4, (0xFFC0 + node) << 16, 0]
+        to, of = (0xFFC0 + node) << 16, (0xFFC0 + asker) << 16
+        asks = [to | rest | request[0] << 4, of | REGISTERS >> 32, REGISTERS & 0xFFFFFFFF | at]
+        answers = [of | rest | response[0] << 4, to, 0]
         self._log.put_quadlets(EntryKind.PACKET, cycle, asks + request[1:])
         self._log.put_quadlets(EntryKind.PACKET, cycle, answers + response[1:])
 

@@ -1,5 +1,5 @@
-"""Logs that are laid by hand, of buses on which something is odd: what nobody took is sent on, changes unseen, is held by
-nobody who uses it. The word over logs that they are for does not exist yet."""
+"""Logs that are laid by hand, of buses on which something is odd: what nobody took is sent on, changes unseen, is
+held by nobody who uses it. The word over logs that they are for does not exist yet."""
 
 from __future__ import annotations
 

@@ -42,7 +42,8 @@ def array(words: Iterable[int]) -> str:
 
 
 class Host:
-    """What a host traces: its own requests and their responses, and requests to it but for those that its link answers."""
+    """What a host traces: its own requests and their responses, and requests to it but for those that its link
+    answers."""
 
     def __init__(self, device: int, rng: random.Random, habits: Habits):
         self._device = device
@@ -79,7 +80,8 @@ class Host:
             self._line(entry.cycle, "bus_reset_handle", f"{start} self_ids={array(entry.self_ids())}")
 
     def _packet(self, cycle: int, words: Words) -> None:
-        names = f"dst_id=0x{destination(words):04x} tlabel={label(words)} tcode={tcode(words)} src_id=0x{source(words):04x}"
+        to, of = destination(words), source(words)
+        names = f"dst_id=0x{to:04x} tlabel={label(words)} tcode={tcode(words)} src_id=0x{of:04x}"
         if tcode(words) in REQUESTS:
             self._request(cycle, words, names)
         else:
