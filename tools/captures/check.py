@@ -1,11 +1,13 @@
 #!/usr/bin/env python3
-"""Checks the tools for captures: the vectors byte for byte, the laws on hostile captures, and what a user may do to them.
+"""Checks the tools for captures: the vectors byte for byte, the laws on hostile captures, and what a user may do to
+them.
 
     tools/captures/check.py [FIRE]
 
-FIRE is a program that reads logs (crates/fire/out/fire, which ./fire builds): the logs that come out go through its
-`decode` too. nosy-dump and tshark are asked where they are installed. This takes some seconds. The last line says how
-much passed and failed; the status is 0 if nothing failed, 1 if something did, and 2 if there is no such program.
+FIRE is the program (dist/fire, or crates/fire/out/fire, which ./fire builds): the logs that come out go through its
+`decode` too, and the inputs of the vectors are made of its logs anew. nosy-dump and tshark are asked where they are
+installed. This takes some seconds. The last line says how much passed and failed; the status is 0 if nothing failed,
+1 if something did, and 2 if there is no such program.
 """
 
 from __future__ import annotations
@@ -17,11 +19,12 @@ from typing import Dict, List
 
 sys.path[0] = str(pathlib.Path(__file__).resolve().parent.parent)
 
+from captures.checks.as_real import check_as_real, check_laid  # noqa: E402
 from captures.checks.check_laws import check_laws  # noqa: E402
 from captures.checks.counted import Checks  # noqa: E402
 from captures.checks.growing import check_growing  # noqa: E402
 from captures.checks.outside import check_outside  # noqa: E402
-from captures.checks.program import check_program  # noqa: E402
+from captures.checks.program import check_inputs, check_program  # noqa: E402
 from captures.checks.users import check_users  # noqa: E402
 from captures.checks.vectors import check_vectors, logs_of_vectors  # noqa: E402
 
@@ -34,11 +37,14 @@ def main(words: List[str]) -> int:
     logs: Dict[bytes, str] = logs_of_vectors()
     check_vectors(checks)
     check_laws(checks, logs)
+    check_as_real(checks)
+    check_laid(checks)
     check_users(checks)
     check_growing(checks)
     check_outside(checks)
     if words:
         check_program(checks, words[0], logs)
+        check_inputs(checks, words[0])
     else:
         checks.skipped("decode of each log, since no program was named")
     print(f"{checks.passed} passed, {checks.failed} failed")

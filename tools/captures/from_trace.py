@@ -70,7 +70,10 @@ def parser() -> frame.Parser:
         "Ctrl-C is the end of the text",
     )
     words.add_argument(
-        "--card", type=frame.number_below(1000), metavar="N", help="the events of this card; else of the first bus reset's"
+        "--card",
+        type=frame.number_below(1000),
+        metavar="N",
+        help="the events of this card; else of the first bus reset's",
     )
     words.add_argument("--big-endian", action="store_true", help="the text comes from a big-endian host")
     add_kinds(words)

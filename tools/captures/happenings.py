@@ -6,8 +6,8 @@ from typing import List, NamedTuple, Optional, Union
 
 
 class BusReset(NamedTuple):
-    """A bus reset with all of its self-ID packets, each as its first quadlet. `local` is the node that captures, if it is
-    known; `timed` says whether cycles are right up to here, so that the second after it can be told."""
+    """A bus reset with all of its self-ID packets, each as its first quadlet. `local` is the node that captures, if
+    it is known; `timed` says whether cycles are right up to here, so that the second after it can be told."""
 
     cycle: int
     self_ids: List[int]

@@ -11,8 +11,8 @@ MOST_DEVICES = 63
 
 
 class DeviceNumbers:
-    """Device numbers of the nodes of each bus reset in turn: by EUI-64s that were read, else by the walk from the bus reset
-    before. New devices are counted up; after 62 one gets the lowest number that its bus reset does not have."""
+    """Device numbers of the nodes of each bus reset in turn: by EUI-64s that were read, else by the walk from the bus
+    reset before. New devices are counted up; after 62 one gets the lowest number that its bus reset does not have."""
 
     def __init__(self) -> None:
         self._tree: Optional[Tree] = None

@@ -1,4 +1,5 @@
-"""Reads logs of `fire`, of both versions (docs/LOG.md), as far as a tool rests on it: `fire decode` tells each fault."""
+"""Reads logs of `fire`, of both versions (docs/LOG.md), as far as a tool rests on it: `fire decode` tells each
+fault."""
 
 from __future__ import annotations
 

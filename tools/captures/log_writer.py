@@ -4,16 +4,15 @@ from __future__ import annotations
 
 import struct
 from enum import IntEnum
-from typing import List, NamedTuple, Optional, Sequence
+from typing import List, NamedTuple, Optional, Protocol, Sequence
 
-from .streams import Output
 from .times import SECOND
 
 MAGIC = b"1394"
 VERSION = 2
 NOBODY = 255
-# How long the second in which reservations are reclaimed is said to be, in cycles. A host that waits a second by its own
-# clock may be 10 ms early, and time stamps come late.
+# How long the second in which reservations are reclaimed is said to be, in cycles. A host that waits a second by its
+# own clock may be 10 ms early, and time stamps come late.
 RECLAIM = SECOND - 80
 LONGEST = 268_435_456  # bytes of a log that `fire` reads
 
@@ -52,10 +51,16 @@ class ResetEntry(NamedTuple):
     self_ids: Sequence[int]
 
 
+class Sink(Protocol):
+    """What takes bytes."""
+
+    def write(self, data: bytes) -> object: ...
+
+
 class LogWriter:
     """Each entry is written at once. No cycle falls, and each reclaim second is ended in its own cycle."""
 
-    def __init__(self, output: Output):
+    def __init__(self, output: Sink):
         self._output = output
         self._epoch = 0
         self._second_ends: Optional[int] = None

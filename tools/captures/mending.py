@@ -28,8 +28,8 @@ MOST_PORTS = 27  # a first packet has three, and each of three extended ones eig
 
 
 def mended(nodes: ByNode, before: ByNode) -> Optional[Tuple[ByNode, str]]:
-    """All nodes of a bus reset of which these are there, each to its last packet, and what was done for it. `before` has
-    those of the bus reset before, and is empty if there was none. None if nobody can say which node is which."""
+    """All nodes of a bus reset of which these are there, each to its last packet, and what was done for it. `before`
+    has those of the bus reset before, and is empty if there was none. None if nobody can say which node is which."""
     if nodes and all(is_alike(packets, before.get(node, [])) for node, packets in nodes.items()):
         return {**before, **nodes}, AS_BEFORE
     made = with_missing_node(nodes)
@@ -55,8 +55,8 @@ def missing_node(nodes: ByNode) -> Optional[int]:
 
 
 def with_missing_node(nodes: ByNode) -> Optional[ByNode]:
-    """The nodes and the one that is missing, made as a repeater: no link, no contender, S400, and the ports that the tree
-    wants. A sniffer whose PHY does not report its own self-ID packet is missing at each bus reset."""
+    """The nodes and the one that is missing, made as a repeater: no link, no contender, S400, and the ports that the
+    tree wants. A sniffer whose PHY does not report its own self-ID packet is missing at each bus reset."""
     node = missing_node(nodes) if nodes else None
     if node is None:
         return None

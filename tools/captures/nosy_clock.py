@@ -1,4 +1,5 @@
-"""The time of a capture of nosy-dump. Its stamps have microseconds without seconds; cycle starts give the seconds back."""
+"""The time of a capture of nosy-dump. Its stamps have microseconds without seconds; cycle starts give the seconds
+back."""
 
 from __future__ import annotations
 
@@ -51,8 +52,8 @@ class Clock:
         self._latest = None
 
     def cycle_start(self, cycle_time: int) -> None:
-        """A cycle start came, with CYCLE_TIME as its quadlet is: seconds 7, cycles 13, offset 12. Whole seconds that it shows
-        and the stamps do not were a silence."""
+        """A cycle start came, with CYCLE_TIME as its quadlet is: seconds 7, cycles 13, offset 12. Whole seconds that
+        it shows and the stamps do not were a silence."""
         seconds, cycles = cycle_time >> 25, cycle_time >> 12 & 0x1FFF
         if cycles >= SECOND:  # there is no such time
             return

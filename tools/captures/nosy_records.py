@@ -17,8 +17,8 @@ TOO_SHORT = "record that is shorter than its packet"
 
 
 def records(capture: Input, order: Optional[str], tally: Tally) -> Iterator[List[int]]:
-    """The records as lists of quadlets. A capture that goes on to none is damaged there, and ends there. Without an order
-    the first length that is not 0 decides it."""
+    """The records as lists of quadlets. A capture that goes on to none is damaged there, and ends there. Without an
+    order the first length that is not 0 decides it."""
     at = 0
     while True:
         head = capture.read(4)

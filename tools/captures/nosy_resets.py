@@ -1,4 +1,5 @@
-"""The bus resets of a capture of nosy-dump: each is a record of its own, and its self-ID packets are those that follow."""
+"""The bus resets of a capture of nosy-dump: each is a record of its own, and its self-ID packets are those that
+follow."""
 
 from __future__ import annotations
 
@@ -43,8 +44,8 @@ class BusResets:
         return True
 
     def close(self, cut_off: bool) -> Iterator[BusReset]:
-        """Gives the bus reset that is open, if its self-ID packets are whole or can be mended. Those that are cut off by the
-        next bus reset, or by the end of the capture, are not mended."""
+        """Gives the bus reset that is open, if its self-ID packets are whole or can be mended. Those that are cut off
+        by the next bus reset, or by the end of the capture, are not mended."""
         reset, self._opened = self._opened, None
         if reset is None:
             return

@@ -105,7 +105,8 @@ def quadlets_of(length: int) -> int:
 
 
 def packet_quadlets(words: Words) -> Optional[int]:
-    """How many quadlets the asynchronous packet has by its header; None if the header is not there or of no such packet."""
+    """How many quadlets the asynchronous packet has by its header; None if the header is not there or of no such
+    packet."""
     header = HEADER_QUADLETS.get(tcode(words))
     if header is None or len(words) < header:
         return None

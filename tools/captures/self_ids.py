@@ -1,4 +1,5 @@
-"""Self-ID packets (IEEE 1394-1995, 4.3.4.1; IEEE 1394a), each as its first quadlet, and those of a bus reset by node."""
+"""Self-ID packets (IEEE 1394-1995, 4.3.4.1; IEEE 1394a), each as its first quadlet, and those of a bus reset by
+node."""
 
 from __future__ import annotations
 

@@ -1,4 +1,5 @@
-"""What the nodes of a bus show of themselves: which devices they are, how many plugs they have, and of what kind they are."""
+"""What the nodes of a bus show of themselves: which devices they are, how many plugs they have, and of what kind they
+are."""
 
 from __future__ import annotations
 

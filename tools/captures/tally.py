@@ -22,8 +22,8 @@ class LeftOut(Exception):
 
 class Tally:
     """Each record that was read is written as one thing or left out under one name. What was changed in records that
-    are written is counted beside that; `unsure` has what nobody can know of the whole capture, and `damage` where it ended
-    before its end."""
+    are written is counted beside that; `unsure` has what nobody can know of the whole capture, and `damage` where it
+    ended before its end."""
 
     def __init__(self) -> None:
         self.read = 0

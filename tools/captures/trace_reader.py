@@ -37,15 +37,15 @@ from .trace_text import (
 HEADER_IN_EVENT = 4  # quadlets, whatever the packet has
 QUADLET_IN_HEADER = (Tcode.WRITE_QUADLET, Tcode.READ_QUADLET_RESPONSE)
 SENT_BY_DONE = {REQUEST_DONE: REQUEST_SENT, RESPONSE_DONE: RESPONSE_SENT}
-# What a host sends to itself is told as sent and as received. Requests that its link answers are told as sent alone, and
-# the responses to those as received alone: these two are kept.
+# What a host sends to itself is told as sent and as received. Requests that its link answers are told as sent alone,
+# and the responses to those as received alone: these two are kept.
 TOLD_TWICE = (REQUEST_RECEIVED, RESPONSE_SENT)
 NO_LAST_BYTES = "last bytes of a block that the event does not have: 0 is written"
 
 
 def not_taken(events: Iterable[Event]) -> Dict[int, int]:
-    """The status of each packet that was sent and not taken, by the event's index. It is told by an event that comes later;
-    numbers of transactions are used again."""
+    """The status of each packet that was sent and not taken, by the event's index. It is told by an event that comes
+    later; numbers of transactions are used again."""
     refused: Dict[int, int] = {}
     waiting: Dict[Tuple[str, str], List[int]] = {}
     for event in events:
@@ -61,8 +61,8 @@ def not_taken(events: Iterable[Event]) -> Dict[int, int]:
 
 
 class TraceReader:
-    """Gives what the events are, and tells the tally of those that it does not give. `refused` has what was not taken, if
-    that is known ahead."""
+    """Gives what the events are, and tells the tally of those that it does not give. `refused` has what was not
+    taken, if that is known ahead."""
 
     def __init__(self, events: EventReader, big_endian: bool, tally: Tally, refused: Dict[int, int]):
         self._events = events
@@ -103,8 +103,8 @@ class TraceReader:
         return BusReset(event.cycle, in_order(nodes), local, timed=True)
 
     def _packet(self, event: Event) -> Tuple[Words, bool]:
-        """The packet without CRCs, and whether the event lacks the last bytes of its block. Header quadlets stand in the
-        text by value, but for data among them; these and blocks stand as the host loads bytes of the bus."""
+        """The packet without CRCs, and whether the event lacks the last bytes of its block. Header quadlets stand in
+        the text by value, but for data among them; these and blocks stand as the host loads bytes of the bus."""
         header, data = event.array("header"), event.array("data")
         if len(header) != HEADER_IN_EVENT:
             raise LeftOut(UNREADABLE)

@@ -97,8 +97,8 @@ def lines_of(text: Input) -> Iterator[str]:
 
 
 class EventReader:
-    """Gives the events of one card that a text has, and tells the tally of those of others, and of what was lost. Without
-    a card it is that of the first bus reset; up to there the events of all cards are given."""
+    """Gives the events of one card that a text has, and tells the tally of those of others, and of what was lost.
+    Without a card it is that of the first bus reset; up to there the events of all cards are given."""
 
     def __init__(self, lines: Iterator[str], card: Optional[int], tally: Tally):
         self._lines = lines

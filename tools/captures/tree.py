@@ -56,8 +56,8 @@ class Tree:
 
 
 def walk(old: Tree, new: Tree, start_in_old: int, start_in_new: int) -> Dict[int, int]:
-    """Which node of the new tree each node of the old one is that a walk through both from these two meets. Nothing if two
-    that meet are not alike."""
+    """Which node of the new tree each node of the old one is that a walk through both from these two meets. Nothing
+    if two that meet are not alike."""
     if old.nodes[start_in_old] != new.nodes[start_in_new]:
         return {}
     met = {start_in_old: start_in_new}

@@ -47,8 +47,8 @@ def check_captures(checks: Checks, logs: Dict[bytes, str]) -> None:
 
 
 def check_prefixes(checks: Checks, logs: Dict[bytes, str]) -> None:
-    """Of a capture that is cut the log has a beginning of what the whole one gives: but for its last bus reset, which may
-    seem whole without the self-ID packets that were cut off, and for packets of a trace whose completion was."""
+    """Of a capture that is cut the log has a beginning of what the whole one gives: but for its last bus reset, which
+    may seem whole without the self-ID packets that were cut off, and for packets of a trace whose completion was."""
     wholes = [
         ("from_nosy", "hostile_self_ids.cap", 1),
         ("from_nosy", "hostile_self_ids_lost.cap", 1),
@@ -73,7 +73,8 @@ def check_prefixes(checks: Checks, logs: Dict[bytes, str]) -> None:
 def check_logs_out(checks: Checks) -> None:
     """Logs that are damaged; and those of version 1."""
     rng = random.Random(hostile.SEED)
-    inputs = [*hostile.noise(rng, 20), *hostile.damaged_inputs(rng, "to_nosy", 60), *hostile.prefixes("out_play.log", 97)]
+    inputs = [*hostile.noise(rng, 20), *hostile.damaged_inputs(rng, "to_nosy", 60)]
+    inputs += hostile.prefixes("out_play.log", 97)
     for vector in ("watch_held.log", "hostile_shapes.log"):
         log = (VECTORS / vector).read_bytes()
         inputs += [(f"{vector} damaged {number}", hostile.damaged(rng, log)) for number in range(40)]

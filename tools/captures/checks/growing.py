@@ -83,7 +83,8 @@ def check_live_interrupt(checks: Checks, tool: str, capture: str, vector: str) -
     running.interrupt()
     rest, report = running.end()
     status = running.process.returncode
-    checks.check(f"{tool} --live and Ctrl-C: {status}, {report!r:.200}", (status, begun + rest, report) == (0, due, report_due))
+    same = (status, begun + rest, report) == (0, due, report_due)
+    checks.check(f"{tool} --live and Ctrl-C: {status}, {report!r:.200}", same)
 
 
 def pieces_of(tool: str, capture: bytes) -> List[bytes]:
@@ -117,7 +118,8 @@ def check_live(checks: Checks) -> None:
             given = until
             begun += running.take(entries_so_far(tool, b"".join(pieces[:until])) - len(begun))
         rest, _ = running.end()
-        checks.check(f"{tool} --live: the log as the capture grows", begun + rest == due and len(read_log.read(due)) > 50)
+        same = begun + rest == due and len(read_log.read(due)) > 50
+        checks.check(f"{tool} --live: the log as the capture grows", same)
 
 
 def check_growing(checks: Checks) -> None:

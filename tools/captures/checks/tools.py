@@ -57,6 +57,12 @@ def run_here(tool: str, words: Sequence[str], data: bytes) -> Ended:
     return Ended(status, written, "".join(f"{line}\n" for line in lines))
 
 
+def counts(what: str, lines: Sequence[str]) -> Dict[str, int]:
+    """The counts of what was left out, or of what was changed, by its name."""
+    found = (re.search(rf": {what} (\d+): (.*)", line) for line in lines)
+    return {it[2]: int(it[1]) for it in found if it}
+
+
 class Report:
     """The numbers of a report, read from its lines."""
 
@@ -66,8 +72,8 @@ class Report:
         written = first.partition(", wrote ")[2].rpartition(", left out ")
         self.left = int(written[2])
         self.wrote = {what: int(number) for number, what in re.findall(r"(\d+) ([^,]+)", written[0])}
-        self.left_by_name = {name: int(number) for number, name in re.findall(r": left out (\d+): (.*)", "\n".join(rest))}
-        self.changed = {name: int(number) for number, name in re.findall(r": changed (\d+): (.*)", "\n".join(rest))}
+        self.left_by_name = counts("left out", rest)
+        self.changed = counts("changed", rest)
 
     def is_balanced(self) -> bool:
         left = sum(self.left_by_name.values())
