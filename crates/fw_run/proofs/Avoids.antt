@@ -8,7 +8,7 @@ use Rattle.fw_reclaim.proofs.Avoiding.{first_avoided, avoids_after, stays_withhe
 use Rattle.fw_run.specs.Actions.{Action, Step, Steps}
 use Rattle.fw_run.specs.Good.{IsGood, world_of}
 use Rattle.fw_run.specs.State.{State, first_state, directory_of}
-use Rattle.fw_run.specs.Withheld.{IsUnused}
+use Rattle.fw_run.specs.Withheld.{IsUnused, WithholdsThroughout}
 use Rattle.fw_run.proofs.Changes.{step_change}
 use Rattle.fw_run.proofs.Steps.{step_good, steps_good}
 use Rattle.fw_run.proofs.Times.{first_good}
@@ -43,3 +43,9 @@ steps_withhold s t (a ∷ xs) out g f on =
 
 pub run_withholds : (actions more : List Action) (log out : List Timed) (s t : State) → Steps first_state actions log s → Steps s more out t → IsTrue s.account.withheld → IsTrue t.account.withheld
 run_withholds actions more log out s t f g on = steps_withhold s t more out (steps_good first_state s actions log first_good f) g on
+
+pub withholds : (actions : List Action) (log : List Timed) (s : State) → Steps first_state actions log s → WithholdsThroughout actions
+withholds actions log s f = record {
+  unused = λ done later front t is steps. run_leaves done front t steps;
+  ever = λ done more later front out t u is steps further. run_withholds done more front out t u steps further;
+}

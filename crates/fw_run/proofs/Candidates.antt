@@ -15,12 +15,14 @@ use Rattle.fw_account.specs.Account.{Account}
 use Rattle.fw_manager.specs.Bids.{CandidateState, stage_in}
 use Rattle.fw_manager.specs.declared.candidate.Stage.{Stage}
 use Rattle.fw_manager.specs.declared.candidate.Stage.TheVariants.{Fresh, Asked, Heard, Answered}
-use Rattle.fw_run.specs.Bidding.{is_candidate, epoch_at, bid_at, bid_step}
+use Rattle.fw_run.specs.Bidding.{Bids, BidStep, is_candidate, epoch_at, bid_at, bid_step, bidden}
+use Rattle.fw_run.specs.declared.limits.TheConstants.{MOST_HALF_STEPS}
 use Rattle.fw_run.specs.Candidates.{HasCandidates}
+use Rattle.fw_run.specs.Giving.{at_most}
 use Rattle.fw_run.specs.Elections.{Election, is_capable}
 use Rattle.fw_run.specs.Good.{IsGood, IsLatest}
 use Rattle.fw_run.specs.State.{State, Declared, epoch_of, first_state, with_device, number_in, manager_in, linked_number, with_link, is_on, is_linked, is_living}
-use Rattle.fw_run.specs.Actions.{Action, Step}
+use Rattle.fw_run.specs.Actions.{Action, Contend, Step}
 use Rattle.fw_run.specs.Afterwards.{Resets, after_death, after_start}
 use Rattle.fw_run.proofs.Contending.{each_candidate, no_candidate}
 use Rattle.fw_run.proofs.Grows.{Number, number_there, manager_there}
@@ -188,3 +190,30 @@ capable_contends Computer e = refl
 pub candidate_manager : (s : State) (d : ℕ) → HasCandidates s → IsTrue (is_candidate s d) → Number (manager_in s.account.latest)
 candidate_manager s d h is =
     number_there (manager_in s.account.latest) (h.manages d (linked_on s d (living_linked s d (h.lives d is))) (capable_contends (kind_at s.declared.kinds d) (h.capable d is)))
+
+-- so its half step is an action
+pub candidate_bids : (s : State) (d : ℕ) → HasCandidates s → IsTrue (is_candidate s d) → s.half_steps < MOST_HALF_STEPS → s.transaction ≡ None
+    → (out : List Timed) × (t : State) × Step s (Contend d) out t
+candidate_bids s d h is few free = go (s.election.candidates d) refl
+  where
+    manager : Number (manager_in s.account.latest)
+    manager = candidate_manager s d h is
+
+    bid : CandidateState → BidStep
+    bid c = bid_step s d manager.number c
+
+    bids : (c : CandidateState) → s.election.candidates d ≡ Some c → Bids s d (at_most s.clock.cycle (bid c).says) (bidden s d (bid c))
+    bids c at = record {
+      lives = h.lives d is;
+      few = few;
+      candidate = c;
+      is = at;
+      manager = manager.number;
+      manages = manager.is;
+      out_is = refl;
+      state_is = refl;
+    }
+
+    go : (o : Option CandidateState) → s.election.candidates d ≡ o → (out : List Timed) × (t : State) × Step s (Contend d) out t
+    go None at = absurd (let no : IsTrue (is_some {T = CandidateState} None) = subst (λ o. IsTrue (is_some o)) at is in cc no)
+    go (Some c) at = (at_most s.clock.cycle (bid c).says, bidden s d (bid c), (free, bids c at))

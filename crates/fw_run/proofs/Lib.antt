@@ -73,6 +73,7 @@ pub mod Around
 pub mod ComesBack
 pub mod Suffice
 pub mod Lingers
+pub mod HearsOn
 pub mod Talkers
 pub mod Counting
 pub mod CanWrite

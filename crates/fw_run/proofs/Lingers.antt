@@ -67,7 +67,7 @@ by_entry s t out g w = subst (λ z. LingerBy z s.account t.account) (sym w.is) (
 -- ---- a half step
 
 -- it writes a packet, an outcome or nothing
-abbrev IsOfHalf : Option Entry → Type 0
+abbrev pub IsOfHalf : Option Entry → Type 0
 IsOfHalf None = ⊤
 IsOfHalf (Some (Async p)) = ⊤
 IsOfHalf (Some (Outcome o)) = ⊤
@@ -83,7 +83,7 @@ of_half l m (Some (Event v)) s is e = absurd is
 of_half l m (Some (Shown v)) s is e = absurd is
 of_half l m (Some End) s is e = absurd is
 
-says_half : (s : State) (d : ℕ) → IsOfHalf (half s d).says
+pub says_half : (s : State) (d : ℕ) → IsOfHalf (half s d).says
 says_half s d = go (s.controllers d).current
   where
     said_half : (y : Next) → IsOfHalf (said s d y)

@@ -22,7 +22,7 @@ use Rattle.fw_step.proofs.Together.{settled, whole}
 use Rattle.fw_run.specs.Actions.{Action, Steps}
 use Rattle.fw_run.specs.Good.{IsGood, Asks}
 use Rattle.fw_run.specs.Reclaiming.{IsBusReset}
-use Rattle.fw_run.specs.Recovery.{IsFreed, HasStanding, IsLeft, Belongs, LosesNothing}
+use Rattle.fw_run.specs.Recovery.{IsFreed, HasStanding, IsLeft, Belongs, LosesNothing, RecoversThroughout}
 use Rattle.fw_run.specs.State.{State, first_state, directory_of, is_deaf}
 use Rattle.fw_run.specs.Truth.{controller_at}
 use Rattle.fw_run.proofs.Reclaiming.{bus_resets}
@@ -130,3 +130,6 @@ loses_nothing actions log s f =
       heard = settled_heard s g;
       belongs = λ idle ch x at. settled_belongs s ch x g idle at;
     }
+
+pub recovers : (actions : List Action) (log : List Timed) (s : State) → Steps first_state actions log s → RecoversThroughout actions
+recovers actions log s f = record { states = λ done later front t is steps. loses_nothing done front t steps }

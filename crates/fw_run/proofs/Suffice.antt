@@ -68,18 +68,20 @@ rounds_suffice commands actions log s run front later rounds is =
     let w = x.3 in
     let carries : Carries w.state (Settle rounds) w.more w.out x.2 = subst (λ o. Carries w.state o w.more w.out x.2) w.decided.0 w.carries in
     record {
-      actions = w.early;
-      log = w.front;
       before = w.state;
-      run = w.run;
-      more = w.more;
-      out = w.out;
       after = x.2;
-      carries = carries;
+      here = record {
+        actions = w.early;
+        log = w.front;
+        run = w.run;
+        more = w.more;
+        out = w.out;
+        carries = carries;
+        later = x.4.0;
+        all_is = x.4.1 ∙ ap (λ z. z ++ x.4.0) w.actions_are;
+      };
       whole = and_then w.run (Commands.Settle rounds) w.order w.more w.out x.2 w.decided w.carries;
-      later = x.4.0;
-      all_is = x.4.1 ∙ ap (λ z. z ++ x.4.0) w.actions_are;
       behind = x.5.0;
       log_is = x.5.1 ∙ ap (λ z. z ++ x.5.0) w.log_is;
-      enough = λ begins many. enough w.state x.2 rounds w.more w.out begins many carries;
+      enough = λ before after here begins many. enough before after rounds here.more here.out begins many here.carries;
     }

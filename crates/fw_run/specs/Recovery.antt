@@ -1,18 +1,19 @@
 -- What comes of what a swap took whose response was lost.
-use Rattle.std.specs.Prelude.{ℕ, ◌≡◌, ◌<◌, ◌⊎◌, Some, None, IsFalse}
+use Rattle.std.specs.Prelude.{ℕ, ◌≡◌, ◌<◌, ◌⊎◌, List, ◌++◌, Some, None, IsFalse}
 use Rattle.fw_base.specs.declared.plug.PlugAt.{PlugAt}
 use Rattle.fw_plug.specs.Words.{units_of}
 use Rattle.fw_account.specs.Account.{Account, Allocation, Connected, Orphaned, Dead}
 use Rattle.fw_account.specs.Events.{no_connections}
+use Rattle.fw_entry.specs.declared.entry.Timed.{Timed}
 use Rattle.fw_cmp.specs.declared.connection.Connection.{Connection}
 use Rattle.fw_cmp.specs.declared.connection.Flow.{Flow}
 use Rattle.fw_cmp.specs.declared.connection.Slot.TheVariants.{Standing}
 use Rattle.fw_cmp.specs.Connections.{output_of}
 use Rattle.fw_cmp.specs.Controllers.{slot_at}
 use Rattle.fw_step.specs.Together.{AreInStep, AreSettled, IsWhole}
-use Rattle.fw_run.specs.Actions.{Action}
+use Rattle.fw_run.specs.Actions.{Action, Steps}
 use Rattle.fw_run.specs.Reclaiming.{IsBusReset}
-use Rattle.fw_run.specs.State.{State, directory_of, is_deaf}
+use Rattle.fw_run.specs.State.{State, first_state, directory_of, is_deaf}
 use Rattle.fw_run.specs.Truth.{controller_at}
 
 -- nothing is allocated, no plug has a connection, and no controller has lost a response
@@ -51,3 +52,7 @@ pub record LosesNothing (s : State) : Type 0 where
   pub known : ((d : ℕ) → IsFalse (is_deaf s d)) → AreInStep (directory_of s) s.account (λ d. (controller_at s d).state)
   pub heard : AreSettled s.account s.controllers → (d : ℕ) → IsFalse (is_deaf s d)
   pub belongs : AreSettled s.account s.controllers → (ch : ℕ) (x : Allocation) → s.account.allocations ch ≡ Some x → Belongs s ch x
+
+-- so it is in each state of a run
+pub record RecoversThroughout (actions : List Action) : Type 0 where
+  pub states : (done later : List Action) (front : List Timed) (s : State) → actions ≡ done ++ later → Steps first_state done front s → LosesNothing s

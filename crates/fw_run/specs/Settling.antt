@@ -37,24 +37,30 @@ HasEnoughRounds =
     → 64 * (to_restore s + 1) ≤ rounds → Carries s (Settle rounds) actions out t
     → (d i : ℕ) → IsFalse (is_restoring (slot_at (t.controllers d) i))
 
--- a `settle` of a script, from the state that the commands before it lead to; what they and it do and write is a front of the run's
--- actions and of its log
-pub record SettlesAt (front : List Command) (rounds : ℕ) (all : List Action) (whole_log : List Timed) : Type 0 where
+-- A `settle` of a script, given in the first of these states: what the commands before it do is a front of the run's actions, and what it
+-- does follows there and leads to the second.
+pub record IsSettle (front : List Command) (rounds : ℕ) (all : List Action) (before after : State) : Type 0 where
   pub actions : List Action
   pub log : List Timed
-  pub before : State
   pub run : Run front actions log before
   pub more : List Action
   pub out : List Timed
-  pub after : State
   pub carries : Carries before (Settle rounds) more out after
-  pub whole : Run (front ++ Commands.Settle rounds ∷ []) (actions ++ more) (log ++ out) after
   pub later : List Action
   pub all_is : all ≡ (actions ++ more) ++ later
+
+-- A `settle` of a script: the run has it at a state that the commands before it lead to, and there it leaves a front of the run's log.
+-- At each such state that is right after a bus reset which begins a second, and at which no break waits, enough rounds leave no
+-- connection to be restored.
+pub record SettlesAt (front : List Command) (rounds : ℕ) (all : List Action) (whole_log : List Timed) : Type 0 where
+  pub before : State
+  pub after : State
+  pub here : IsSettle front rounds all before after
+  pub whole : Run (front ++ Commands.Settle rounds ∷ []) (here.actions ++ here.more) (here.log ++ here.out) after
   pub behind : List Timed
-  pub log_is : whole_log ≡ (log ++ out) ++ behind
-  -- given right after a bus reset that begins a second, at which no break waits, enough rounds leave no connection to be restored
-  pub enough : BeginsSecond before → 64 * (to_restore before + 1) ≤ rounds → (d i : ℕ) → IsFalse (is_restoring (slot_at (after.controllers d) i))
+  pub log_is : whole_log ≡ (here.log ++ here.out) ++ behind
+  pub enough : (s t : State) → IsSettle front rounds all s t → BeginsSecond s → 64 * (to_restore s + 1) ≤ rounds
+      → (d i : ℕ) → IsFalse (is_restoring (slot_at (t.controllers d) i))
 
 -- each `settle` of a script is one
 abbrev pub RoundsSuffice : List Command → List Action → List Timed → Type 0

@@ -27,7 +27,8 @@ pub use lingering::plugs_linger_through_runs;
 pub use losses::{lost_responses_are_not_heard, lost_swaps_come_right};
 pub use order::{Access, Order, Transaction, Wanted};
 pub use recording::{
-    input_plugs_hear_by_their_words, recorded_blocks_are_heard, reels_are_recorded,
+    input_plugs_hear_by_their_words, input_plugs_linger_through_runs, recorded_blocks_are_heard,
+    reels_are_recorded,
 };
 pub use rule::RuleFault;
 pub use streams::{counts_follow_who_talks, cycles_can_be_written, cycles_have_a_packet_a_talker};

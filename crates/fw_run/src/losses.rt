@@ -9,7 +9,7 @@ ghost use Rattle.fw_run.specs.Actions.{Action, Steps};
 ghost use Rattle.fw_run.specs.Afterwards.{after_loss, after_reset_entry, after_second, after_death, with_connection, slot_of, start_of};
 ghost use Rattle.fw_run.specs.Good.{IsGood};
 ghost use Rattle.fw_run.specs.HalfSteps.{after_half, has_request, with_controller};
-ghost use Rattle.fw_run.specs.Recovery.{LosesNothing};
+ghost use Rattle.fw_run.specs.Recovery.{LosesNothing, RecoversThroughout};
 ghost use Rattle.fw_run.specs.State.{State, first_state, directory_of, is_deaf, is_living};
 ghost use Rattle.fw_run.specs.Truth.{controller_at, deaf_says};
 
@@ -32,7 +32,9 @@ pub fn lost_responses_are_not_heard()
 /// Nothing is lost by a lost response. The bus reset that follows, whichever it is, frees what the lost swap took: then nothing is
 /// allocated, no plug has a connection, and each controller has heard. From then on, until the next loss, what is allocated and
 /// connected is exactly what the controllers themselves know of, by their slots and their jobs. And in each settled state a
-/// channel is free, or it belongs to a standing connection, which is whole, or was left by a controller that died.
+/// channel is free, or it belongs to a standing connection, which is whole, or was left by a controller that died. Of one run all of
+/// this is said in one clause.
 pub fn lost_swaps_come_right()
-    ensures { (actions : List Action) (log : List Timed) (s : State) → Steps first_state actions log s → LosesNothing s }
+    ensures states { (actions : List Action) (log : List Timed) (s : State) → Steps first_state actions log s → LosesNothing s }
+    ensures throughout { (actions : List Action) (log : List Timed) (s : State) → Steps first_state actions log s → RecoversThroughout actions }
 {}

@@ -11,7 +11,7 @@ ghost use Rattle.fw_run.specs.Carrying.{KeepsCycle};
 ghost use Rattle.fw_run.specs.Dubs.{hears_in};
 ghost use Rattle.fw_run.specs.Given.{AreGiven};
 ghost use Rattle.fw_run.specs.Good.{IsGood};
-ghost use Rattle.fw_run.specs.Hearing.{HasHearing};
+ghost use Rattle.fw_run.specs.Hearing.{HasHearing, HearThrough};
 ghost use Rattle.fw_run.specs.Recorded.{IsRecorded, AreRecorded};
 ghost use Rattle.fw_run.specs.Recording.{heard_in};
 ghost use Rattle.fw_run.specs.Runs.{Run};
@@ -49,4 +49,10 @@ pub fn input_plugs_hear_by_their_words()
     ensures off { (s : State) (d k : ℕ) → IsGood s → HasHearing s → is_on s d ≡ false → hears_in s.account s.dub (at_plug d k) ≡ false }
     ensures on { (s : State) (d k : ℕ) → IsGood s → IsTrue (is_on s d) → k < input_plugs_of (kind_at s.declared.kinds d)
         → is_active (word_of s.account (InputPlug (at_plug d k))) (s.dub.lingers (at_plug d k)) ≡ hears_in s.account s.dub (at_plug d k) }
+{}
+
+/// What each action leaves of the input plugs that go on hearing with no connection: a half step ends the hearing of exactly those whose
+/// words it changes, a bus reset leaves those that heard, by their words, and the end of the second none.
+pub fn input_plugs_linger_through_runs()
+    ensures { (s : State) (a : Action) (out : List Timed) (t : State) → IsGood s → HasHearing s → Step s a out t → HearThrough a out s t }
 {}
