@@ -6,3 +6,4 @@ pub mod Trees
 pub mod Maps
 pub mod Words
 pub mod Converting
+pub mod Swapped

@@ -8,6 +8,7 @@ ghost use Rattle.fw_log.specs.History.{IsLog};
 ghost use Rattle.fw_account.specs.Fold.{entries_of};
 ghost use Rattle.fw_faults.specs.Audited.{IsVouched};
 ghost use Rattle.fw_decode.specs.Converting.{Converts};
+ghost use Rattle.fw_decode.specs.Swapped.{SwapsAreTold};
 ghost use Rattle.fw_decode.specs.Verdicts.{IsSoundLog};
 
 /// In a log that an audit accepts the account is defined and sound at every front, no channel has two talkers and they take at most
@@ -20,4 +21,10 @@ pub fn sound_logs_are_vouched()
 /// What is converted to a version and then back to its own is as it was.
 pub fn logs_convert_back()
     ensures { (v w : Version) (entries : List Timed) (bytes out back : List ℕ) → LogSpells entries w bytes → Converts v bytes out → Converts w out back → back ≡ bytes }
+{}
+
+/// Of the response to a lock whose request it keeps, `explain` says that the swap was made exactly where the account, to which the
+/// response is one to this request, replaces the word: where a quadlet compare_swap is complete and shows its argument.
+pub fn swaps_are_told()
+    ensures { SwapsAreTold }
 {}

@@ -24,7 +24,7 @@ mod word;
 pub use drawing::map_graph;
 pub use explanation::explain;
 pub use fw_reading::{LogEnding, Stop};
-pub use laws::{logs_convert_back, sound_logs_are_vouched};
+pub use laws::{logs_convert_back, sound_logs_are_vouched, swaps_are_told};
 pub use lines::decode;
 pub use mapping::map;
 pub use objects::json;
