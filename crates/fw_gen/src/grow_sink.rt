@@ -1,11 +1,11 @@
-ghost use Rattle.std.specs.Prelude.{◌≡◌, [], Some, OnOk, OnErr};
+ghost use Rattle.std.specs.Prelude.{◌≡◌, ◌≤◌, ◌+◌, [], length, take, Some, IsOk, OnOk, OnErr};
 ghost use Rattle.fw_outside.specs.Outside.{HasCause, Writes, counted};
 
 use fw_outside::{Failed, Sink};
 use std::alloc::Global;
 use std::marker::Model;
 
-/// A sink that tells its bytes, and takes memory as they grow. A write fails only where memory is refused.
+/// A sink that tells its bytes, and takes memory as they grow. A write fails only if it needs memory and that is refused.
 #[derive(Drop)]
 pub struct GrowSink {
     bytes: Vec<u8>,
@@ -13,11 +13,12 @@ pub struct GrowSink {
 }
 
 impl Model for GrowSink {
+    ghost use Rattle.std.specs.Prelude.{vec_capacity};
     ghost use Rattle.fw_gen.specs.Kept.{Kept};
 
     ghost Value = { Kept };
 
-    ghost view = { λ s. record { held = s.bytes.items; faults = s.faults } };
+    ghost view = { λ s. record { held = s.bytes.items; room = vec_capacity s.bytes; faults = s.faults } };
 }
 
 impl GrowSink {
@@ -44,6 +45,7 @@ impl GrowSink {
     /// Empties it. What memory it has it keeps, for the writes that follow.
     pub fn clear(&mut self)
         ensures held { self.new.held ≡ [] }
+        ensures room { self.new.room ≡ self.old.room }
         ensures faults { self.new.faults ≡ self.old.faults }
     {
         self.bytes.clear();
@@ -58,6 +60,8 @@ impl Sink for GrowSink {
     fn write(&mut self, piece: &[u8]) -> Result<(), Failed>
         ensures bytes { Writes (Some self.old.held) (Some self.new.held) result piece.now }
         ensures cause { HasCause self.old.faults self.new.faults result }
+        ensures fits { length self.old.held + length piece.now ≤ self.old.room → IsOk result }
+        ensures room { self.old.room ≤ self.new.room }
         ensures same { OnOk result (self.new.faults ≡ self.old.faults) }
         ensures unchanged { OnErr result (self.new.held ≡ self.old.held) }
         ensures risen { OnErr result (self.new.faults ≡ counted self.old.faults) }
@@ -67,5 +71,19 @@ impl Sink for GrowSink {
             return Err(Failed);
         }
         Ok(())
+    }
+
+    #[inline(always)]
+    fn write_front(&mut self, row: &[u8; 48], count: usize) -> Result<(), Failed>
+        requires { count ≤ 48 }
+        ensures bytes { Writes (Some self.old.held) (Some self.new.held) result (take count row.now) }
+        ensures cause { HasCause self.old.faults self.new.faults result }
+        ensures fits { length self.old.held + length (take count row.now) ≤ self.old.room → IsOk result }
+        ensures room { self.old.room ≤ self.new.room }
+        ensures same { OnOk result (self.new.faults ≡ self.old.faults) }
+        ensures unchanged { OnErr result (self.new.held ≡ self.old.held) }
+        ensures risen { OnErr result (self.new.faults ≡ counted self.old.faults) }
+    {
+        self.write(&row[..count])
     }
 }
