@@ -1,11 +1,14 @@
 #!/usr/bin/env python3
 """Makes a capture of nosy-dump of a log; `to_nosy.py --help` says more, and docs/CAPTURES.md the rest."""
 
+import os
 import sys
 
-from captures import interrupts
+sys.path.insert(0, os.path.dirname(os.path.realpath(__file__)))  # a user may have Python leave it out
 
-interrupts.end_quietly()  # before the rest is loaded
+from captures import interrupts  # noqa: E402
+
+interrupts.end_quietly()  # before the rest is loaded, which takes longer
 
 from captures import frame, to_nosy  # noqa: E402
 

@@ -78,8 +78,13 @@ class Output:
         self._at_once = at_once
 
     def write(self, data: bytes) -> None:
+        rest = memoryview(data)
         try:
-            self._stream.write(data)
+            while rest:  # without a buffer, as a user may have it, a part may be taken
+                taken = self._stream.write(rest)
+                if taken is None:  # a stream that does not wait takes nothing now
+                    raise WriteFault()
+                rest = rest[taken:]
             if self._at_once:
                 self._stream.flush()
         except OSError as fault:

@@ -6,6 +6,7 @@ from __future__ import annotations
 import os
 import pty
 import subprocess
+import sys
 
 from .. import frame
 from .counted import Checks
@@ -73,6 +74,9 @@ def check_streams(checks: Checks) -> None:
     for tool in ("from_trace", "to_isodump"):
         told_one_line(checks, f"{tool} without input", in_shell(tool, "<&-"), 5)
         told_one_line(checks, f"{tool} without output", in_shell(tool, ">&-", given(tool)), 6)
+        bare = [sys.executable, "-u", "-I", *command(tool)[3:]]
+        ended = subprocess.run(bare, input=given(tool), capture_output=True, check=False)
+        checks.check(f"{tool} without buffer and path", ended.returncode == 0 and ended.stdout == run(tool, [], given(tool)).output)
     told_one_line(checks, "input that cannot be read", in_shell("from_nosy", "0>/dev/null"), 5)
     told_one_line(checks, "output that cannot be written", in_shell("to_nosy", "1</dev/null", given("to_nosy")), 6)
     for where in ("/dev/full", "&-"):

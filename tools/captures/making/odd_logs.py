@@ -82,7 +82,7 @@ def dark_second() -> bytes:
     log.reset(0, 3)
     log.reset(9000, 3)
     log.swap(9001, 0, 2, HIGH, 0xFFFFFFFF, 0x7FFFFFFF)  # new
-    log.reset(9000 + 7950, 3)  # in that second, or behind it
+    log.reset(9000 + 7950, 3)  # in that second, or after it
     log.swap(16951, 0, 2, HIGH, 0xFFFFFFFF, 0x7FFFFFFF)
     log.reset(17000, 3)
     log.swap(17001, 0, 2, HIGH, 0xFFFFFFFF, 0x7EFFFFFF)  # two at once, and nothing of what was before
