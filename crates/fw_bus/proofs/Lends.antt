@@ -6,13 +6,15 @@ use Rattle.fw_run.specs.State.{State, is_on, number_in}
 use Rattle.fw_run.specs.Good.{IsGood}
 use Rattle.fw_bus.specs.Buses.{LendsNode, LendsNodeAt}
 use Rattle.fw_machine.specs.Lingering.{HasLingering}
+use Rattle.fw_machine.specs.Reels.{HasHearers}
 use Rattle.fw_machine.specs.Stands.{IsNodeAt, HasNodes}
+use Rattle.fw_machine.proofs.Hearing.{node_hears}
 use Rattle.fw_machine.proofs.Lingers.{node_talks}
 use Rattle.fw_machine.proofs.Nodes.{is_node_same, on_within}
 
 -- the node of the device, where there is one
-pub lends : (s : State) (nodes : List NodeState) (d : ℕ) (o : Option NodeState) → IsGood s → HasNodes nodes s → HasLingering nodes s → (is_node nodes d ≡ false → o ≡ None) → (is_node nodes d ≡ true → o ≡ Some (node_at nodes d)) → LendsNode s d o
-lends s nodes d o g h lingers off on = go (number_in s.account.latest d) refl
+pub lends : (s : State) (nodes : List NodeState) (d : ℕ) (o : Option NodeState) → IsGood s → HasNodes nodes s → HasLingering nodes s → HasHearers nodes s → (is_node nodes d ≡ false → o ≡ None) → (is_node nodes d ≡ true → o ≡ Some (node_at nodes d)) → LendsNode s d o
+lends s nodes d o g h lingers hears off on = go (number_in s.account.latest d) refl
   where
     is : is_node nodes d ≡ is_on s d
     is = is_node_same nodes s h g d
@@ -24,10 +26,10 @@ lends s nodes d o g h lingers off on = go (number_in s.account.latest d) refl
         let P : Option NodeState → Type 0 = LendsNodeAt (Some n) s d in
         let Q : Option ℕ → Type 0 = λ k. IsNodeAt k s d (node_at nodes d) in
         let low = on_within nodes s d h g there in
-        subst P (sym (on (is ∙ there))) (subst Q e (h.each d low), node_talks nodes s d n g h lingers low e)
+        subst P (sym (on (is ∙ there))) (subst Q e (h.each d low), node_talks nodes s d n g h lingers low e, node_hears nodes s d n g h hears low e)
 
-pub lends_none : (s : State) (nodes : List NodeState) (d : ℕ) → IsGood s → HasNodes nodes s → HasLingering nodes s → is_node nodes d ≡ false → LendsNode s d None
-lends_none s nodes d g h lingers e = lends s nodes d None g h lingers (λ t. refl) (λ t. let z : ⊥ = cc in absurd z)
+pub lends_none : (s : State) (nodes : List NodeState) (d : ℕ) → IsGood s → HasNodes nodes s → HasLingering nodes s → HasHearers nodes s → is_node nodes d ≡ false → LendsNode s d None
+lends_none s nodes d g h lingers hears e = lends s nodes d None g h lingers hears (λ t. refl) (λ t. let z : ⊥ = cc in absurd z)
 
-pub lends_some : (s : State) (nodes : List NodeState) (d : ℕ) → IsGood s → HasNodes nodes s → HasLingering nodes s → is_node nodes d ≡ true → LendsNode s d (Some (node_at nodes d))
-lends_some s nodes d g h lingers e = lends s nodes d (Some (node_at nodes d)) g h lingers (λ t. let z : ⊥ = cc in absurd z) (λ t. refl)
+pub lends_some : (s : State) (nodes : List NodeState) (d : ℕ) → IsGood s → HasNodes nodes s → HasLingering nodes s → HasHearers nodes s → is_node nodes d ≡ true → LendsNode s d (Some (node_at nodes d))
+lends_some s nodes d g h lingers hears e = lends s nodes d (Some (node_at nodes d)) g h lingers hears (λ t. let z : ⊥ = cc in absurd z) (λ t. refl)

@@ -10,9 +10,11 @@ use Rattle.fw_run.specs.Carrying.{Carries}
 use Rattle.fw_run.specs.Desks.{DeskRelations}
 use Rattle.fw_run.specs.Runs.{Run, and_then}
 use Rattle.fw_run.specs.Good.{IsGood}
+use Rattle.fw_run.proofs.Avoids.{withholds}
 use Rattle.fw_run.proofs.ComesBack.{comes_back}
 use Rattle.fw_run.proofs.Elected.{elects_one}
 use Rattle.fw_run.proofs.Kept.{first_numbers}
+use Rattle.fw_run.proofs.Recovery.{recovers}
 use Rattle.fw_run.proofs.Runs.{run_steps, steps_then}
 use Rattle.fw_run.proofs.Sounds.{sound_throughout}
 use Rattle.fw_run.proofs.Logs.{cut_opens, run_spells}
@@ -80,6 +82,8 @@ goes c o spent un decided d commands actions log s r st =
       sound = sound_throughout (actions ++ x.actions) (log ++ x.out) x.state (run_steps (commands ++ c ∷ []) (actions ++ x.actions) (log ++ x.out) x.state more);
       restored = comes_back (actions ++ x.actions) (log ++ x.out) x.state (run_steps (commands ++ c ∷ []) (actions ++ x.actions) (log ++ x.out) x.state more);
       elected = elects_one (actions ++ x.actions) (log ++ x.out) x.state (run_steps (commands ++ c ∷ []) (actions ++ x.actions) (log ++ x.out) x.state more);
+      recovers = recovers (actions ++ x.actions) (log ++ x.out) x.state (run_steps (commands ++ c ∷ []) (actions ++ x.actions) (log ++ x.out) x.state more);
+      withholds = withholds (actions ++ x.actions) (log ++ x.out) x.state (run_steps (commands ++ c ∷ []) (actions ++ x.actions) (log ++ x.out) x.state more);
       settles = λ begins rounds ordered many. enough s x.state rounds x.actions x.out begins many (subst (λ z. Carries s z x.actions x.out x.state) ordered x.whole.0);
       opens = λ none. cut_opens commands actions x.actions [] log x.out x.out s x.state x.state o r none (subst (λ z. Carries s o z x.out x.state) (sym (append-nil x.actions)) x.whole.0) x.steps;
       whole = λ none end. run_spells commands (actions ++ x.actions) (log ++ x.out) x.state (subst (λ z. Run (commands ++ z ∷ []) (actions ++ x.actions) (log ++ x.out) x.state) end more) none;
@@ -102,6 +106,8 @@ stops c o spent is decided d commands actions log s r st =
       sound = sound_throughout (actions ++ x.done) (log ++ given) x.state (steps_then first_state s x.state actions x.done log given (run_steps commands actions log s r) x.steps);
       restored = comes_back (actions ++ x.done) (log ++ given) x.state (steps_then first_state s x.state actions x.done log given (run_steps commands actions log s r) x.steps);
       elected = elects_one (actions ++ x.done) (log ++ given) x.state (steps_then first_state s x.state actions x.done log given (run_steps commands actions log s r) x.steps);
+      recovers = recovers (actions ++ x.done) (log ++ given) x.state (steps_then first_state s x.state actions x.done log given (run_steps commands actions log s r) x.steps);
+      withholds = withholds (actions ++ x.done) (log ++ given) x.state (steps_then first_state s x.state actions x.done log given (run_steps commands actions log s r) x.steps);
       opens = λ none. cut_opens commands actions x.done x.later log given x.all s x.state x.last o r none x.whole x.steps;
       spent = is;
     }

@@ -24,6 +24,7 @@ use Rattle.fw_run.specs.Desks.{DeskRelations}
 use Rattle.fw_run.specs.Given.{AreGiven}
 use Rattle.fw_run.specs.Runs.{Run}
 use Rattle.fw_machine.specs.Lingering.{TalksAs}
+use Rattle.fw_machine.specs.Reels.{PlugsHear}
 -- (what a crate above a bus names of fw_machine, fw_rules and fw_carry it has from here)
 pub use Rattle.fw_machine.specs.Stands.{StandsFor}
 pub use Rattle.fw_rules.specs.Decisions.{IsCommand}
@@ -31,6 +32,8 @@ pub use Rattle.fw_carry.specs.Performing.{CutOff}
 use Rattle.fw_run.specs.Headline.{IsSoundThroughout}
 use Rattle.fw_run.specs.Elected.{ElectsOne}
 use Rattle.fw_run.specs.Reclaiming.{ComesBack}
+use Rattle.fw_run.specs.Recovery.{RecoversThroughout}
+use Rattle.fw_run.specs.Withheld.{WithholdsThroughout}
 use Rattle.fw_run.specs.Settling.{BeginsSecond, to_restore}
 use Rattle.fw_run.specs.Logs.{HasNoEnd}
 
@@ -65,6 +68,9 @@ pub record ContinuesRun (D : DeskRelations) (commands : List Command) (actions :
   pub restored : ComesBack (actions ++ more) (log ++ out)
   -- between two bus resets one device at most is elected bus manager, and it is the winner
   pub elected : ElectsOne (actions ++ more) (log ++ out)
+  -- what a swap took whose response was lost comes right, and a channel that is withheld has no use
+  pub recovers : RecoversThroughout (actions ++ more)
+  pub withholds : WithholdsThroughout (actions ++ more)
   -- given right after a bus reset that begins a second, enough rounds leave no connection to be restored
   pub settles : BeginsSecond s → (rounds : ℕ) → order ≡ Settle rounds → 64 * (to_restore s + 1) ≤ rounds → (d i : ℕ) → IsFalse (is_restoring (slot_at (state.controllers d) i))
   -- what was written so far is a log, which lacks its end alone until the end of the script
@@ -81,6 +87,8 @@ pub record CutsRunOff (D : DeskRelations) (commands : List Command) (actions : L
   pub sound : IsSoundThroughout (actions ++ cut.done) (log ++ (cut.given ++ cut.next ∷ []))
   pub restored : ComesBack (actions ++ cut.done) (log ++ (cut.given ++ cut.next ∷ []))
   pub elected : ElectsOne (actions ++ cut.done) (log ++ (cut.given ++ cut.next ∷ []))
+  pub recovers : RecoversThroughout (actions ++ cut.done)
+  pub withholds : WithholdsThroughout (actions ++ cut.done)
   pub opens : HasNoEnd commands → LogOpens (log ++ (cut.given ++ cut.next ∷ [])) Two (header_bytes Two ++ log_bytes 0 (log ++ (cut.given ++ cut.next ∷ [])))
   pub spent : IsTrue now.spent
 
@@ -90,11 +98,12 @@ Applies D commands actions log s c now held after (Ok _) = ContinuesRun D comman
 Applies D commands actions log s c now held after (Err (Refused fault)) = Decides s c (Err fault)
 Applies D commands actions log s c now held after (Err WriteFault) = CutsRunOff D commands actions log s c now held after
 
--- the node that is lent for a device: one on the bus, with the registers of the account, that talks exactly where the account says so
+-- the node that is lent for a device: one on the bus, with the registers of the account, that talks exactly where the account says so, and
+-- hears exactly where the run does
 abbrev pub LendsNodeAt : Option ℕ → State → ℕ → Option NodeState → Type 0
 LendsNodeAt None s d o = o ≡ None
 LendsNodeAt (Some number) s d None = ⊥
-LendsNodeAt (Some number) s d (Some n) = HasSpace n (space_at s d number) × TalksAs n d s.account
+LendsNodeAt (Some number) s d (Some n) = HasSpace n (space_at s d number) × TalksAs n d s.account × PlugsHear n d s
 
 -- the node of a device on the bus is lent as it stands in the state
 abbrev pub LendsNode : State → ℕ → Option NodeState → Type 0

@@ -65,7 +65,8 @@ impl Bus {
         self.spent
     }
 
-    /// The node of a device, by number in order of declaration: None exactly where it is not on the bus.
+    /// The node of a device, by number in order of declaration: None exactly where it is not on the bus. Its registers have the words of
+    /// the run, and its output plugs talk, and its input plugs hear, exactly where those of the run do.
     pub fn node(&self, device: u8) -> Option<&Node>
         requires spent { IsFalse self.now.spent }
         ensures lent { (commands : List Line) (actions : List Action) (log : List TimedEntry) (s : State) → Run commands actions log s → StandsFor self.now.machine s

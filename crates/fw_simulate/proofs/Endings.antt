@@ -22,8 +22,10 @@ use Rattle.fw_run.specs.Rules.{Decides}
 use Rattle.fw_run.specs.Runs.{Run, begun}
 use Rattle.fw_run.proofs.Runs.{log_append, run_steps}
 use Rattle.fw_run.proofs.Audits.{run_audited, sound_audited}
+use Rattle.fw_run.proofs.Avoids.{withholds}
 use Rattle.fw_run.proofs.ComesBack.{comes_back}
 use Rattle.fw_run.proofs.Elected.{elects_one}
+use Rattle.fw_run.proofs.Recovery.{recovers}
 use Rattle.fw_run.proofs.Sounds.{sound_throughout}
 use Rattle.fw_run.proofs.Suffice.{rounds_suffice}
 use Rattle.fw_run.proofs.Logs.{run_opens, run_spells}
@@ -52,6 +54,8 @@ logs_run g opens = record {
   audited = run_audited g.actions g.log g.state (run_steps g.commands g.actions g.log g.state g.run);
   restored = comes_back g.actions g.log g.state (run_steps g.commands g.actions g.log g.state g.run);
   elected = elects_one g.actions g.log g.state (run_steps g.commands g.actions g.log g.state g.run);
+  recovers = recovers g.actions g.log g.state (run_steps g.commands g.actions g.log g.state g.run);
+  withholds = withholds g.actions g.log g.state (run_steps g.commands g.actions g.log g.state g.run);
   rounds = rounds_suffice g.commands g.actions g.log g.state g.run;
   opens = opens;
   grew = g.grew;
@@ -75,20 +79,7 @@ logged_all {D} {left} {mid} {held} {held1} {old} left' new g a =
       end = t.1;
       commands = g.commands;
       says = h.says;
-      logged = record {
-        actions = g.actions;
-        log = g.log;
-        state = g.state;
-        run = g.run;
-        given = g.given;
-        sound = sound_throughout g.actions g.log g.state (run_steps g.commands g.actions g.log g.state g.run);
-        audited = run_audited g.actions g.log g.state (run_steps g.commands g.actions g.log g.state g.run);
-        restored = comes_back g.actions g.log g.state (run_steps g.commands g.actions g.log g.state g.run);
-        elected = elects_one g.actions g.log g.state (run_steps g.commands g.actions g.log g.state g.run);
-        rounds = rounds_suffice g.commands g.actions g.log g.state g.run;
-        opens = whole.opens;
-        grew = g.grew;
-      };
+      logged = logs_run g whole.opens;
       whole = whole;
     }
 
@@ -179,6 +170,8 @@ part_header left held held' wrote =
       audited = run_audited [] [] first_state (run_steps [] [] [] first_state begun);
       restored = comes_back [] [] first_state (run_steps [] [] [] first_state begun);
       elected = elects_one [] [] first_state (run_steps [] [] [] first_state begun);
+      recovers = recovers [] [] first_state (run_steps [] [] [] first_state begun);
+      withholds = withholds [] [] first_state (run_steps [] [] [] first_state begun);
       rounds = rounds_suffice [] [] [] first_state begun;
       opens = run_opens [] [] [] first_state begun tt;
       grew = subst (λ (bytes : List ℕ). AppendsFront held held' bytes) (sym (append-nil (header_bytes Two))) wrote;
@@ -215,6 +208,8 @@ part_stopped {D} {left} {mid} {held} {held1} {old} left' held2 new bus' c g a d 
   audited = sound_audited (g.actions ++ x.done) (g.log ++ (x.given ++ x.next ∷ [])) d.sound;
   restored = d.restored;
   elected = d.elected;
+  recovers = d.recovers;
+  withholds = d.withholds;
   rounds = rounds_suffice g.commands g.actions g.log g.state g.run;
   opens = d.opens (given_no_end (given_before old.stage a.known new (Ok (Some c)) (some_command c) g.read a.gives).0);
   grew = record {

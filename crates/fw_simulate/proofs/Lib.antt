@@ -6,3 +6,4 @@ pub mod Steps
 pub mod Completions
 pub mod Countings
 pub mod Dubbings
+pub mod OneRun

@@ -56,6 +56,8 @@ goes_there after after' d grew = record {
   sound = d.sound;
   restored = d.restored;
   elected = d.elected;
+  recovers = d.recovers;
+  withholds = d.withholds;
   settles = d.settles;
   opens = d.opens;
   whole = d.whole;
@@ -92,6 +94,8 @@ stops_there after after' d appended = record {
   sound = d.sound;
   restored = d.restored;
   elected = d.elected;
+  recovers = d.recovers;
+  withholds = d.withholds;
   opens = d.opens;
   spent = d.spent;
 }

@@ -24,7 +24,9 @@ use Rattle.fw_account.specs.Fold.{entries_of}
 use Rattle.fw_faults.specs.Audited.{IsAudited}
 use Rattle.fw_run.specs.Elected.{ElectsOne}
 use Rattle.fw_run.specs.Reclaiming.{ComesBack}
+use Rattle.fw_run.specs.Recovery.{RecoversThroughout}
 use Rattle.fw_run.specs.Settling.{RoundsSuffice}
+use Rattle.fw_run.specs.Withheld.{WithholdsThroughout}
 use Rattle.fw_simulate.specs.declared.ending.RunEnding.{RunEnding}
 use Rattle.fw_simulate.specs.declared.ending.RunEnding.TheVariants.{Done, Refused, ReadFault, WriteFault, TooLong, NoMemory}
 use Rattle.fw_simulate.specs.declared.ending.Refused.{Refused as RefusedLine}
@@ -34,7 +36,8 @@ use Rattle.fw_simulate.specs.Scripts.{FaultsAt, beyond}
 
 -- The commands were carried out, with what the desk gives; the header and the log of their run were written. It is a log that
 -- lacks at most its end, it is sound throughout, and an audit finds no fault in it; what was whole before a bus reset is whole again
--- where its second is over, and enough rounds suffice for that. Between two bus resets one device at most is elected bus manager.
+-- where its second is over, and enough rounds suffice for that. Between two bus resets one device at most is elected bus manager. What a
+-- swap took whose response was lost comes right, and a channel that is withheld has no use.
 pub record LogsRun (D : DeskRelations) (held held' : Option (List ℕ)) (commands : List Command) : Type 0 where
   pub actions : List Action
   pub log : List Timed
@@ -45,6 +48,8 @@ pub record LogsRun (D : DeskRelations) (held held' : Option (List ℕ)) (command
   pub audited : IsAudited (entries_of log)
   pub restored : ComesBack actions log
   pub elected : ElectsOne actions log
+  pub recovers : RecoversThroughout actions
+  pub withholds : WithholdsThroughout actions
   pub rounds : RoundsSuffice commands actions log
   pub opens : LogOpens log Two (header_bytes Two ++ log_bytes 0 log)
   pub grew : Grows held held' (header_bytes Two ++ log_bytes 0 log)
@@ -142,6 +147,8 @@ pub record PartLogged (D : DeskRelations) (left left' held held' : Option (List 
   pub audited : IsAudited (entries_of (log ++ out))
   pub restored : ComesBack (actions ++ done) (log ++ out)
   pub elected : ElectsOne (actions ++ done) (log ++ out)
+  pub recovers : RecoversThroughout (actions ++ done)
+  pub withholds : WithholdsThroughout (actions ++ done)
   pub rounds : RoundsSuffice commands actions log
   pub opens : LogOpens (log ++ out) Two (header_bytes Two ++ log_bytes 0 (log ++ out))
   pub grew : AppendsFront held held' (header_bytes Two ++ log_bytes 0 (log ++ out))

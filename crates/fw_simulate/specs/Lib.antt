@@ -5,3 +5,4 @@ pub mod Going
 pub mod Sums
 pub mod Dubs
 pub mod Words
+pub mod OneRun

@@ -5,6 +5,7 @@
 #![tactic(auto)]
 
 mod ending;
+mod laws;
 mod recording;
 mod script;
 mod seed;
@@ -12,6 +13,7 @@ mod step;
 mod word;
 
 pub use ending::{Refusal, Refused, RunEnding};
+pub use laws::scripts_have_one_log;
 pub use recording::dub;
 pub use script::run;
 pub use seed::run_seed;

@@ -8,20 +8,21 @@ use Rattle.fw_run.specs.Good.{IsGood}
 use Rattle.fw_machine.specs.declared.machine.Machine.{Machine}
 use Rattle.fw_bus.specs.Buses.{Standing, LendsNode}
 use Rattle.fw_machine.specs.Lingering.{HasLingering}
+use Rattle.fw_machine.specs.Reels.{HasHearers}
 use Rattle.fw_machine.specs.Stands.{HasNodes, StandsFor}
 use Rattle.fw_bus.proofs.Runs.{run_good}
 use Rattle.fw_bus.proofs.Lends.{lends_none, lends_some}
 use Rattle.fw_bus.proofs.bus.Bus.node.Goals as goal
 
-lent_of : (s : State) (nodes : List NodeState) (d : ℕ) (o : Option (Bor NodeState)) → IsGood s → HasNodes nodes s → HasLingering nodes s
+lent_of : (s : State) (nodes : List NodeState) (d : ℕ) (o : Option (Bor NodeState)) → IsGood s → HasNodes nodes s → HasLingering nodes s → HasHearers nodes s
     → IfNone o (is_node nodes d ≡ false) → IfSome o (λ n. (n.now ≡ node_at nodes d) × (is_node nodes d ≡ true)) → LendsNode s d (option_map (λ (n : Bor NodeState). n.now) o)
-lent_of s nodes d None g h lingers none some = lends_none s nodes d g h lingers none
-lent_of s nodes d (Some n) g h lingers none some = let P : NodeState → Type 0 = λ x. LendsNode s d (Some x) in subst P (sym some.0) (lends_some s nodes d g h lingers some.1)
+lent_of s nodes d None g h lingers hears none some = lends_none s nodes d g h lingers hears none
+lent_of s nodes d (Some n) g h lingers hears none some = let P : NodeState → Type 0 = λ x. LendsNode s d (Some x) in subst P (sym some.0) (lends_some s nodes d g h lingers hears some.1)
 
 pub returns : goal.returns
 returns c = record {
   lent = λ commands actions log s run st.
       let P : Machine → Type 0 = λ m. StandsFor m s in
       let here : StandsFor c.self.inside.machine s = subst P (ap (λ (b : Standing). b.machine) (sym c.self.view_is)) st in
-      lent_of s c.self.inside.machine.devices.nodes c.args.device c.node.result (run_good run) here.devices.nodes here.devices.lingering c.node.ensures.none c.node.ensures.some;
+      lent_of s c.self.inside.machine.devices.nodes c.args.device c.node.result (run_good run) here.devices.nodes here.devices.lingering here.devices.hearers c.node.ensures.none c.node.ensures.some;
 }

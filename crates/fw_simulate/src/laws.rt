@@ -1,0 +1,17 @@
+//! A law of the words that run a script, as the contract of an empty function.
+
+ghost use Rattle.fw_run.specs.Desks.{IsFunction};
+ghost use Rattle.fw_simulate.specs.OneRun.{HasOneRun};
+
+use fw_tape::Desk;
+
+/// A script has one log, where the desk gives one block for each place and the vendor makes one thing of each byte: whoever runs it to
+/// its end over such a desk writes the same log. So it has one reel, and a seed one summary.
+pub fn scripts_have_one_log<F: Fn(u16, u32, u16) -> [u8; 480], H: Fn(u32, u8) -> u8>(
+    desk: &Desk<F, H>,
+)
+    ensures { IsFunction (record { blocks = F.post desk.now.blocks; vendor = H.post desk.now.vendor })
+        → HasOneRun (record { blocks = F.post desk.now.blocks; vendor = H.post desk.now.vendor }) }
+{
+    let _ = desk;
+}
