@@ -15,11 +15,12 @@ from __future__ import annotations
 import pathlib
 import shutil
 import sys
-from typing import Dict, List
+from typing import Callable, Dict, List, Optional
 
 sys.path[0] = str(pathlib.Path(__file__).resolve().parent.parent)
 
 from captures.checks.as_real import check_as_real, check_laid  # noqa: E402
+from captures.checks.cases import check_cases  # noqa: E402
 from captures.checks.check_laws import check_laws  # noqa: E402
 from captures.checks.counted import Checks  # noqa: E402
 from captures.checks.growing import check_growing  # noqa: E402
@@ -29,24 +30,32 @@ from captures.checks.users import check_users  # noqa: E402
 from captures.checks.vectors import check_vectors, logs_of_vectors  # noqa: E402
 
 
+def check_all(checks: Checks, program: Optional[str]) -> None:
+    logs: Dict[bytes, str] = logs_of_vectors()
+    for group in (check_vectors, check_cases, check_as_real, check_laid, check_users, check_growing, check_outside):
+        attempt(checks, group, checks)
+    attempt(checks, check_laws, checks, logs)
+    if program is None:
+        checks.skipped("decode of each log, since no program was named")
+    else:
+        attempt(checks, check_program, checks, program, logs)
+        attempt(checks, check_inputs, checks, program)
+
+
+def attempt(checks: Checks, group: Callable[..., None], *arguments: object) -> None:
+    """A group of checks that cannot go on has failed."""
+    try:
+        group(*arguments)
+    except Exception as fault:
+        checks.check(f"{group.__name__} cannot go on: {type(fault).__name__}: {fault}", False)
+
+
 def main(words: List[str]) -> int:
     if len(words) > 1 or (words and shutil.which(words[0]) is None):
         print(f"there is no program {' '.join(words)}", file=sys.stderr)
         return 2
     checks = Checks()
-    logs: Dict[bytes, str] = logs_of_vectors()
-    check_vectors(checks)
-    check_laws(checks, logs)
-    check_as_real(checks)
-    check_laid(checks)
-    check_users(checks)
-    check_growing(checks)
-    check_outside(checks)
-    if words:
-        check_program(checks, words[0], logs)
-        check_inputs(checks, words[0])
-    else:
-        checks.skipped("decode of each log, since no program was named")
+    check_all(checks, words[0] if words else None)
     print(f"{checks.passed} passed, {checks.failed} failed")
     return 1 if checks.failed else 0
 

@@ -76,7 +76,8 @@ def check_streams(checks: Checks) -> None:
         told_one_line(checks, f"{tool} without output", in_shell(tool, ">&-", given(tool)), 6)
         bare = [sys.executable, "-u", "-I", *command(tool)[3:]]
         ended = subprocess.run(bare, input=given(tool), capture_output=True, check=False)
-        checks.check(f"{tool} without buffer and path", ended.returncode == 0 and ended.stdout == run(tool, [], given(tool)).output)
+        same = ended.returncode == 0 and ended.stdout == run(tool, [], given(tool)).output
+        checks.check(f"{tool} without buffer and path", same)
     told_one_line(checks, "input that cannot be read", in_shell("from_nosy", "0>/dev/null"), 5)
     told_one_line(checks, "output that cannot be written", in_shell("to_nosy", "1</dev/null", given("to_nosy")), 6)
     for where in ("/dev/full", "&-"):
