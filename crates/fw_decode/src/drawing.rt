@@ -1,14 +1,13 @@
 //! `map dot`: the tree of the last bus reset of a log, as a graph.
 
 ghost use Rattle.std.specs.Prelude.{◌≡◌, ◌≤◌, ◌++◌, ◌∷◌, List, [], length};
-ghost use Rattle.fw_outside.specs.Stops.{ReadCount, WriteCount};
 ghost use Rattle.fw_entry.specs.declared.entry.Timed.{Timed as TimedEntry};
-ghost use Rattle.fw_reading.specs.Endings.{stop_of, Reads, IsComplete};
+ghost use Rattle.fw_reading.specs.Endings.{ReadsLog};
 ghost use Rattle.fw_decode.specs.Texts.{silent_form};
-ghost use Rattle.fw_decode.specs.Maps.{HasTree, graph_rules};
+ghost use Rattle.fw_decode.specs.Maps.{graph_rules};
 
-use crate::NoMap;
 use crate::last_tree::LastTree;
+use crate::{LogRefusal, NoMap};
 use fw_log::{Entry, NodeList, NodeRow, Timed};
 use fw_map::tree_graph;
 use fw_outside::{Failed, Sink, Source};
@@ -49,9 +48,10 @@ impl Drawing {
 }
 
 impl Reading for Drawing {
-    type Refusal = NoMap;
+    type Refusal = LogRefusal;
 
-    ghost use Rattle.fw_decode.specs.TextLaws.{silent_each};
+    ghost use Rattle.fw_decode.specs.Maps.{graph_unrefused};
+    ghost use Rattle.fw_decode.specs.Texts.{silent_each};
     ghost use Rattle.fw_decode.specs.Trees.{IsLastTree, HasRows};
 
     ghost form = { λ d. silent_form };
@@ -66,7 +66,7 @@ impl Reading for Drawing {
         Ok(())
     }
 
-    fn take(&mut self, entry: &Timed, _bytes: &[u8]) -> Result<Option<NoMap>, AllocError> {
+    fn take(&mut self, entry: &Timed, _bytes: &[u8]) -> Result<Option<LogRefusal>, AllocError> {
         self.take_rows(entry);
         self.last.take(entry);
         Ok(None)
@@ -78,10 +78,10 @@ impl Reading for Drawing {
 
     fn clear(&mut self) {}
 
-    fn close(&self, alloc: Global) -> Result<Closing<NoMap>, AllocError> {
+    fn close(&self, alloc: Global) -> Result<Closing<LogRefusal>, AllocError> {
         match &self.last {
-            LastTree::NoReset => Ok(Closing::Refused(NoMap::NoReset)),
-            LastTree::NoTree(fault) => Ok(Closing::Refused(NoMap::NoTree(*fault))),
+            LastTree::NoReset => Ok(Closing::Refused(LogRefusal::Map(NoMap::NoReset))),
+            LastTree::NoTree(fault) => Ok(Closing::Refused(LogRefusal::Map(NoMap::NoTree(*fault)))),
             LastTree::Found(tree) => Ok(Closing::Text(tree_graph(
                 alloc,
                 tree,
@@ -93,6 +93,8 @@ impl Reading for Drawing {
     ghost each = { λ d. silent_each };
 
     ghost accepted = { λ d entries t. tt };
+
+    ghost unrefused = { graph_unrefused };
 }
 
 /// Reads a log, and writes at its end the tree of its last bus reset as a graph (`fw_map::tree_graph`), where `map` writes its text.
@@ -100,11 +102,9 @@ pub fn map_graph<S: Source, K: Sink>(
     alloc: Global,
     source: &mut S,
     sink: &mut K,
-) -> LogEnding<NoMap>
-    ensures reads { Reads silent_form graph_rules (S.left source.old) (S.left source.new) (K.held sink.old) (K.held sink.new) result }
-    ensures read_count { ReadCount (S.faults source.old) (S.faults source.new) (stop_of result) }
-    ensures write_count { WriteCount (K.faults sink.old) (K.faults sink.new) (stop_of result) }
-    ensures complete { IsComplete HasTree (S.left source.old) result }
+) -> LogEnding<LogRefusal>
+    ensures { ReadsLog silent_form graph_rules (record { left = S.left; faults = S.faults; old = source.old; new = source.new })
+        (record { held = K.held; faults = K.faults; old = sink.old; new = sink.new }) result }
 {
     let drawing = Drawing {
         last: LastTree::NoReset,
