@@ -10,12 +10,8 @@ use Rattle.fw_faults.specs.Audited.{EndsFaulty}
 use Rattle.fw_audit.specs.Found.{Found}
 use Rattle.fw_audit.specs.declared.audit.Audit.{Audit}
 use Rattle.fw_faults.specs.declared.fault.AuditFault.{AuditFault}
-use Rattle.fw_decode.specs.Verdicts.{Audits, IsUnsound}
+use Rattle.fw_decode.specs.Verdicts.{Audits, IsUnsound, entries_more}
 use Rattle.fw_decode.specs.declared.verdict.Verdict.{Verdict}
-
-pub entries_more : (xs ys : List Timed) → entries_of (xs ++ ys) ≡ entries_of xs ++ entries_of ys
-entries_more [] ys = refl
-entries_more (x ∷ xs) ys = ap (λ es. x.what ∷ es) (entries_more xs ys)
 
 -- the entry has a fault
 pub flawed : (v : Verdict) (new : Audit) (entries : List Timed) (t : Timed) (o : Option AuditFault) (f : AuditFault) → Audits v entries → Found (entries_of entries ++ t.what ∷ []) new o → o ≡ Some f

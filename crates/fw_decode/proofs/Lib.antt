@@ -1,4 +1,3 @@
-pub mod WordLaws
 pub mod Passings
 pub mod Rewritings
 pub mod Audits

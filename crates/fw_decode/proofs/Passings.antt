@@ -18,8 +18,7 @@ use Rattle.fw_text.specs.declared.report.Channel.{Channel}
 use Rattle.fw_text.specs.Tallies.{Reports}
 use Rattle.fw_text.proofs.TallyLaws.{reports_other}
 use Rattle.fw_text.specs.Line.{entry_line}
-use Rattle.fw_decode.specs.Texts.{lines_form, silent_form}
-use Rattle.fw_decode.specs.TextLaws.{lines_one}
+use Rattle.fw_decode.specs.Texts.{each_form, silent_form, all_of_one}
 
 not_iso : (e : Entry) (p : IsoPacket) → IsPassed e → e ≡ Iso p → ⊥
 not_iso e p h is = subst IsPassed is h
@@ -60,7 +59,7 @@ other_passes report entries bytes reader p x other h =
     record { entry = x.entry; read = x.read; took = reports_other entries x.entry report (no_stream p.body x.entry.what x.made other) h; gathered = refl }
 
 pub line_passes : (room new : List ℕ) (entries : List Timed) (bytes : List ℕ) (reader : State) (p : PassedBody) (x : PassesBody entries bytes reader p)
-    → new ≡ room ++ entry_line (record { cycle = p.cycle; what = x.entry.what }) → Passes lines_form.text (λ es. Unit {0}) room new entries bytes reader
+    → new ≡ room ++ entry_line (record { cycle = p.cycle; what = x.entry.what }) → Passes (each_form entry_line).text (λ es. Unit {0}) room new entries bytes reader
 line_passes room new entries bytes reader p x is =
     let cycle = ap (λ (n : ℕ). entry_line (record { cycle = n; what = x.entry.what })) (sym x.cycle) in
-    record { entry = x.entry; read = x.read; took = tt; gathered = is ∙ ap (λ (l : List ℕ). room ++ l) (cycle ∙ lines_one x.entry) }
+    record { entry = x.entry; read = x.read; took = tt; gathered = is ∙ ap (λ (l : List ℕ). room ++ l) (cycle ∙ all_of_one entry_line x.entry) }

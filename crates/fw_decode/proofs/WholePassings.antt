@@ -9,18 +9,17 @@ use Rattle.fw_reading.specs.Readings.{Passes}
 use Rattle.fw_json.specs.Objects.{object}
 use Rattle.fw_explain.specs.Explained.{explained, Room}
 use Rattle.fw_explain.specs.Requests.{standing}
-use Rattle.fw_decode.specs.Texts.{objects_form, explained_form}
-use Rattle.fw_decode.specs.TextLaws.{objects_one}
+use Rattle.fw_decode.specs.Texts.{each_form, explained_form, all_of_one}
 
 -- the entry that was made is the one that was passed
 made_is : (cycle : ℕ) (what : Entry) (t : Timed) → cycle ≡ t.cycle → what ≡ t.what → record { cycle = cycle; what = what } ≡ t
 made_is cycle what t e f = ap (λ (n : ℕ). record t { cycle = n; what = what }) e ∙ ap (λ (w : Entry). record t { what = w }) f
 
 pub object_passes : (room new : List ℕ) (entries : List Timed) (bytes : List ℕ) (reader : State) (p : PassedBody) (x : PassesBody entries bytes reader p) (what : Entry)
-    → what ≡ x.entry.what → new ≡ room ++ object (record { cycle = p.cycle; what = what }) → Passes objects_form.text (λ es. Unit {0}) room new entries bytes reader
+    → what ≡ x.entry.what → new ≡ room ++ object (record { cycle = p.cycle; what = what }) → Passes (each_form object).text (λ es. Unit {0}) room new entries bytes reader
 object_passes room new entries bytes reader p x what same is =
     let made = made_is p.cycle what x.entry (sym x.cycle) same in
-    record { entry = x.entry; read = x.read; took = tt; gathered = is ∙ ap (λ (t : Timed). room ++ object t) made ∙ ap (λ (l : List ℕ). room ++ l) (objects_one x.entry) }
+    record { entry = x.entry; read = x.read; took = tt; gathered = is ∙ ap (λ (t : Timed). room ++ object t) made ∙ ap (λ (l : List ℕ). room ++ l) (all_of_one object x.entry) }
 
 pub explained_passes : (old new : Room) (entries : List Timed) (bytes : List ℕ) (reader : State) (p : PassedBody) (x : PassesBody entries bytes reader p) (what : Entry)
     → what ≡ x.entry.what → new.text ≡ old.text ++ explained entries (record { cycle = p.cycle; what = what } ∷ [])

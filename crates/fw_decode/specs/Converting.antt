@@ -4,9 +4,9 @@ use Rattle.std.specs.declared.option.Option.{Option}
 use Rattle.fw_entry.specs.declared.version.Version.{Version}
 use Rattle.fw_reading.specs.Endings.{Reads}
 use Rattle.fw_reading.specs.declared.ending.LogEnding.TheVariants.{Done}
-use Rattle.fw_decode.specs.Texts.{log_form, nothing}
-use Rattle.fw_decode.specs.Silences.{never_refused}
+use Rattle.fw_decode.specs.Words.{form_by, rules_by}
+use Rattle.fw_decode.specs.declared.LogWord.TheVariants.{Convert}
 
 -- a source told these bytes, a call read them to the end as a log, and wrote those to an empty sink
 abbrev pub Converts : Version → List ℕ → List ℕ → Type 0
-Converts v bytes out = (left : Option (List ℕ)) × Reads (log_form v) (never_refused nothing) (Some bytes) left (Some []) (Some out) Done
+Converts v bytes out = (left : Option (List ℕ)) × Reads (form_by (Convert v)) (rules_by (Convert v)) (Some bytes) left (Some []) (Some out) Done

@@ -1,5 +1,4 @@
 pub mod Texts
-pub mod TextLaws
 pub mod Silences
 pub mod Verdicts
 pub mod Trees

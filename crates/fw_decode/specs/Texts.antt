@@ -1,46 +1,23 @@
--- What the words write of entries.
-use Rattle.std.specs.Prelude.{ℕ, List, [], ◌∷◌, ◌++◌, codes, decimal}
+-- What the words write of entries as they end, and that it is the text of each of them, one after another.
+use Rattle.std.proofs.Common.{◌≡◌, ℕ, List, [], ◌∷◌, ◌++◌, refl, ap, sym, ◌∙◌, append_assoc}
+use Rattle.std.specs.Prelude.{codes, decimal}
+use Rattle.std.proofs.lemmas.List.{append-nil}
 use Rattle.fw_entry.specs.Log.{header_bytes, entries_bytes, latest_epoch}
 use Rattle.fw_entry.specs.declared.version.Version.{Version}
 use Rattle.fw_entry.specs.declared.entry.Timed.{Timed}
-use Rattle.fw_text.specs.Line.{entry_line}
-use Rattle.fw_json.specs.Objects.{object}
+use Rattle.fw_entry.proofs.LogLaws.{entries_append, latest_append}
 use Rattle.fw_explain.specs.Explained.{explained}
-use Rattle.fw_reading.specs.Readings.{Form}
-
--- the lines of entries
-unfoldable pub lines_of : List Timed → List ℕ
-lines_of [] = []
-lines_of (t ∷ ts) = entry_line t ++ lines_of ts
+use Rattle.fw_explain.specs.Lines.{line}
+use Rattle.fw_explain.specs.Requests.{standing}
+use Rattle.fw_reading.specs.Readings.{Form, IsEach}
 
 -- no text
 abbrev pub nothing : List Timed → List ℕ
 nothing entries = []
 
--- the lines of entries as they end, whatever stands before them
-abbrev pub lines_form : Form
-lines_form = record { head = []; text = λ before more. lines_of more }
-
--- the objects of entries
-unfoldable pub objects_of : List Timed → List ℕ
-objects_of [] = []
-objects_of (t ∷ ts) = object t ++ objects_of ts
-
--- the objects of entries as they end, whatever stands before them
-abbrev pub objects_form : Form
-objects_form = record { head = []; text = λ before more. objects_of more }
-
--- entries in words as they end, behind these
-abbrev pub explained_form : Form
-explained_form = record { head = []; text = explained }
-
--- nothing while the log is read
-abbrev pub silent_form : Form
-silent_form = record { head = []; text = λ before more. [] }
-
--- the log in a version: its header, and the entries as they end, behind these
-abbrev pub log_form : Version → Form
-log_form v = record { head = header_bytes v; text = λ before more. entries_bytes v (latest_epoch 0 before) more }
+-- `sound` and a number
+abbrev pub count_text : ℕ → List ℕ
+count_text count = codes "sound " ++ decimal count ++ 10 ∷ []
 
 -- entries that were gathered in a version, and the epoch of the latest reset up to there
 pub record Rewritten : Type 0 where
@@ -48,6 +25,70 @@ pub record Rewritten : Type 0 where
   pub version : Version
   pub epoch : ℕ
 
--- `sound` and a number
-abbrev pub count_text : ℕ → List ℕ
-count_text count = codes "sound " ++ decimal count ++ 10 ∷ []
+-- ---- a text of each entry, whatever stands before it
+
+-- the texts of entries, one after another
+abbrev pub all_of : (Timed → List ℕ) → List Timed → List ℕ
+all_of text [] = []
+all_of text (t ∷ ts) = text t ++ all_of text ts
+
+-- the texts of entries as they end
+abbrev pub each_form : (Timed → List ℕ) → Form
+each_form text = record { head = []; text = λ before more. all_of text more }
+
+-- that of one entry is the text of the entry alone
+pub all_of_one : (text : Timed → List ℕ) (t : Timed) → text t ≡ all_of text (t ∷ [])
+all_of_one text t = sym (append-nil (text t))
+
+all_of_none : (text : Timed → List ℕ) → all_of text [] ≡ []
+all_of_none text = refl
+
+all_of_more : (text : Timed → List ℕ) (xs ys : List Timed) → all_of text (xs ++ ys) ≡ all_of text xs ++ all_of text ys
+all_of_more text [] ys = refl
+all_of_more text (x ∷ xs) ys = ap (λ l. text x ++ l) (all_of_more text xs ys) ∙ sym (append_assoc (text x) (all_of text xs) (all_of text ys))
+
+-- so what is written is the text of each of them
+pub each_alone : (text : Timed → List ℕ) → IsEach ((each_form text).text)
+each_alone text = record { none = λ xs. all_of_none text; more = λ xs ys zs. all_of_more text ys zs }
+
+-- ---- entries in words
+
+-- entries in words as they end, after these
+abbrev pub explained_form : Form
+explained_form = record { head = []; text = explained }
+
+explained_more : (xs ys zs : List Timed) → explained xs (ys ++ zs) ≡ explained xs ys ++ explained (xs ++ ys) zs
+explained_more xs [] zs = ap (λ before. explained before zs) (sym (append-nil xs))
+explained_more xs (y ∷ ys) zs =
+    let rest = explained_more (xs ++ y ∷ []) ys zs in
+    let before : (xs ++ y ∷ []) ++ ys ≡ xs ++ y ∷ ys = append_assoc xs (y ∷ []) ys in
+    ap (λ l. line (standing xs) y ++ l) (rest ∙ ap (λ b. explained (xs ++ y ∷ []) ys ++ explained b zs) before)
+    ∙ sym (append_assoc (line (standing xs) y) (explained (xs ++ y ∷ []) ys) (explained (xs ++ y ∷ ys) zs))
+
+-- what `explain` writes is a line for each entry, over the entries before it
+pub explained_each : IsEach (explained_form.text)
+explained_each = record { none = λ xs. refl; more = explained_more }
+
+-- ---- nothing
+
+-- nothing while the log is read
+abbrev pub silent_form : Form
+silent_form = record { head = []; text = λ before more. [] }
+
+-- a word that writes nothing meanwhile has the empty text for each entry
+pub silent_each : IsEach (silent_form.text)
+silent_each = record { none = λ xs. refl; more = λ xs ys zs. refl }
+
+-- ---- the log in a version
+
+-- its header, and the entries as they end, after these
+abbrev pub log_form : Version → Form
+log_form v = record { head = header_bytes v; text = λ before more. entries_bytes v (latest_epoch 0 before) more }
+
+-- what `convert` writes is the entries in the other version, each in the epoch that it stands in
+pub log_each : (v : Version) → IsEach ((log_form v).text)
+log_each v = record {
+  none = λ xs. refl;
+  more = λ xs ys zs.
+      entries_append v (latest_epoch 0 xs) ys zs ∙ ap (λ (n : ℕ). entries_bytes v (latest_epoch 0 xs) ys ++ entries_bytes v n zs) (sym (latest_append 0 xs ys));
+}

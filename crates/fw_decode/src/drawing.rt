@@ -1,13 +1,12 @@
 //! `map dot`: the tree of the last bus reset of a log, as a graph.
 
 ghost use Rattle.std.specs.Prelude.{[]};
-ghost use Rattle.fw_outside.specs.Stops.{ReadCount, WriteCount};
-ghost use Rattle.fw_reading.specs.Endings.{stop_of, Reads, IsComplete};
+ghost use Rattle.fw_reading.specs.Endings.{ReadsLog};
 ghost use Rattle.fw_decode.specs.Texts.{silent_form};
-ghost use Rattle.fw_decode.specs.Maps.{HasTree, graph_rules};
+ghost use Rattle.fw_decode.specs.Maps.{graph_rules};
 
-use crate::NoMap;
 use crate::last_reset::LastReset;
+use crate::{LogRefusal, NoMap};
 use fw_log::{LogReader, Room, Timed};
 use fw_map::{rebuild, tree_graph};
 use fw_outside::{Failed, Sink, Source};
@@ -21,9 +20,10 @@ struct Drawing {
 }
 
 impl Reading for Drawing {
-    type Refusal = NoMap;
+    type Refusal = LogRefusal;
 
-    ghost use Rattle.fw_decode.specs.TextLaws.{silent_each};
+    ghost use Rattle.fw_decode.specs.Maps.{graph_unrefused};
+    ghost use Rattle.fw_decode.specs.Texts.{silent_each};
     ghost use Rattle.fw_decode.specs.Trees.{KeepsLast};
 
     ghost form = { λ d. silent_form };
@@ -38,7 +38,7 @@ impl Reading for Drawing {
         Ok(())
     }
 
-    fn take(&mut self, entry: &Timed, bytes: &[u8]) -> Result<Option<NoMap>, AllocError> {
+    fn take(&mut self, entry: &Timed, bytes: &[u8]) -> Result<Option<LogRefusal>, AllocError> {
         self.last.take(entry, bytes)?;
         Ok(None)
     }
@@ -58,22 +58,24 @@ impl Reading for Drawing {
 
     fn clear(&mut self) {}
 
-    fn close(&self, alloc: Global) -> Result<Closing<NoMap>, AllocError> {
+    fn close(&self, alloc: Global) -> Result<Closing<LogRefusal>, AllocError> {
         let Some(reset) = self.last.reset() else {
-            return Ok(Closing::Refused(NoMap::NoReset));
+            return Ok(Closing::Refused(LogRefusal::Map(NoMap::NoReset)));
         };
         match rebuild(&reset) {
             Ok(tree) => {
                 let text = tree_graph(alloc, &tree, reset.nodes.as_slice())?;
                 Ok(Closing::Text(text))
             }
-            Err(fault) => Ok(Closing::Refused(NoMap::NoTree(fault))),
+            Err(fault) => Ok(Closing::Refused(LogRefusal::Map(NoMap::NoTree(fault)))),
         }
     }
 
     ghost each = { λ d. silent_each };
 
     ghost accepted = { λ d entries t. tt };
+
+    ghost unrefused = { graph_unrefused };
 }
 
 /// Reads a log, and writes at its end the tree of its last bus reset as a graph (`fw_map::tree_graph`), where `map` writes its text.
@@ -81,11 +83,9 @@ pub fn map_graph<S: Source, K: Sink>(
     alloc: Global,
     source: &mut S,
     sink: &mut K,
-) -> LogEnding<NoMap>
-    ensures reads { Reads silent_form graph_rules (S.left source.old) (S.left source.new) (K.held sink.old) (K.held sink.new) result }
-    ensures read_count { ReadCount (S.faults source.old) (S.faults source.new) (stop_of result) }
-    ensures write_count { WriteCount (K.faults sink.old) (K.faults sink.new) (stop_of result) }
-    ensures complete { IsComplete HasTree (S.left source.old) result }
+) -> LogEnding<LogRefusal>
+    ensures { ReadsLog silent_form graph_rules (record { left = S.left; faults = S.faults; old = source.old; new = source.new })
+        (record { held = K.held; faults = K.faults; old = sink.old; new = sink.new }) result }
 {
     let last = LastReset::new(alloc);
     read_log(alloc, Drawing { last }, source, sink)

@@ -1,18 +1,17 @@
 //! `explain`: each entry in words, as it ends.
 
-ghost use Rattle.std.specs.Prelude.{◌≡◌, ◌<◌, [], IfOk, None, take, ⊤};
-ghost use Rattle.fw_outside.specs.Stops.{ReadCount, WriteCount};
-ghost use Rattle.fw_reading.specs.Endings.{stop_of, Reads, IsComplete};
+ghost use Rattle.std.specs.Prelude.{◌≡◌, ◌<◌, [], IfOk, None, take};
+ghost use Rattle.fw_reading.specs.Endings.{ReadsLog};
 ghost use Rattle.fw_decode.specs.Texts.{explained_form, nothing};
 ghost use Rattle.fw_decode.specs.Silences.{never_refused};
 
+use crate::LogRefusal;
 use crate::whole_entry::WholeRoom;
 use fw_explain::Explainer;
 use fw_log::{LogReader, Room, Timed};
 use fw_outside::{Failed, Sink, Source};
 use fw_reading::{Closing, LogEnding, Reading, Stop, read_log};
 use std::alloc::{AllocError, Global};
-use std::convert::Infallible;
 
 // The lines of entries in words, and the requests that stand behind them.
 #[derive(Drop)]
@@ -34,10 +33,11 @@ impl Explanation {
 }
 
 impl Reading for Explanation {
-    type Refusal = Infallible;
+    type Refusal = LogRefusal;
 
     ghost use Rattle.fw_explain.specs.Requests.{standing};
-    ghost use Rattle.fw_decode.specs.TextLaws.{explained_each};
+    ghost use Rattle.fw_decode.specs.Silences.{none_unrefused};
+    ghost use Rattle.fw_decode.specs.Texts.{explained_each};
 
     ghost form = { λ s. explained_form };
 
@@ -51,7 +51,7 @@ impl Reading for Explanation {
         Ok(())
     }
 
-    fn take(&mut self, entry: &Timed, _bytes: &[u8]) -> Result<Option<Infallible>, AllocError> {
+    fn take(&mut self, entry: &Timed, _bytes: &[u8]) -> Result<Option<LogRefusal>, AllocError> {
         self.explainer.put(entry)?;
         Ok(None)
     }
@@ -82,13 +82,15 @@ impl Reading for Explanation {
         self.explainer.clear();
     }
 
-    fn close(&self, alloc: Global) -> Result<Closing<Infallible>, AllocError> {
+    fn close(&self, alloc: Global) -> Result<Closing<LogRefusal>, AllocError> {
         Ok(Closing::Text(String::new(alloc)))
     }
 
     ghost each = { λ s. explained_each };
 
     ghost accepted = { λ s entries t. tt };
+
+    ghost unrefused = { λ entries h. none_unrefused nothing entries };
 }
 
 /// Reads a log, and writes each entry in words in a line of its own; a response is told by the request that it answers.
@@ -98,11 +100,9 @@ pub fn explain<S: Source, K: Sink>(
     alloc: Global,
     source: &mut S,
     sink: &mut K,
-) -> LogEnding<Infallible>
-    ensures reads { Reads explained_form (never_refused nothing) (S.left source.old) (S.left source.new) (K.held sink.old) (K.held sink.new) result }
-    ensures read_count { ReadCount (S.faults source.old) (S.faults source.new) (stop_of result) }
-    ensures write_count { WriteCount (K.faults sink.old) (K.faults sink.new) (stop_of result) }
-    ensures complete { IsComplete (λ entries. ⊤) (S.left source.old) result }
+) -> LogEnding<LogRefusal>
+    ensures { ReadsLog explained_form (never_refused nothing) (record { left = S.left; faults = S.faults; old = source.old; new = source.new })
+        (record { held = K.held; faults = K.faults; old = sink.old; new = sink.new }) result }
 {
     match Explanation::new(alloc) {
         Ok(explanation) => read_log(alloc, explanation, source, sink),

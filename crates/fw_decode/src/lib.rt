@@ -1,10 +1,15 @@
-//! The words that read a log: `decode` writes the line of each entry, `explain` tells it in words, `json` as an object with every
-//! field; `dv` writes a line for each channel that carries streams, `convert` the log in another version, `audit` whether its registers ran as a sound account, and `map` the tree of its last bus reset,
-//! as text or as a graph.
+//! The words that read a log: `LogWord` says what each writes.
 //!
-//! Each word is a `Reading` of a file of its own, and `fw_reading` has the loop. A further word is a further `Reading`, a case of
-//! `LogWord` and of the definitions by the word.
+//! Each word is a `Reading` of a file of its own with the call that reads a log by it, and `fw_reading` has the loop. A further word is
+//! such a file, a case of `LogWord` with its line in `read_as`, and its two lines in the definitions by the word (`specs/Words.antt`).
 #![tactic(auto)]
+
+ghost use Rattle.fw_reading.specs.Endings.{ReadsLog};
+ghost use Rattle.fw_decode.specs.Words.{form_by, rules_by};
+
+use fw_log::Version;
+use fw_outside::{Sink, Source};
+use std::alloc::Global;
 
 mod drawing;
 mod explanation;
@@ -19,7 +24,6 @@ mod streams;
 mod verdict;
 mod whole_entry;
 mod whole_reset;
-mod word;
 
 pub use drawing::map_graph;
 pub use explanation::explain;
@@ -32,4 +36,46 @@ pub use refusal::{LogRefusal, NoMap, Unsound};
 pub use rewriting::convert;
 pub use streams::dv;
 pub use verdict::audit;
-pub use word::{LogWord, read_as};
+
+/// A word that reads a log of at most 268,435,456 bytes.
+#[derive(Clone, Copy)]
+pub enum LogWord {
+    /// `decode`: a line of raw quadlets for each entry, as it ends.
+    Decode,
+    /// `explain`: a line in words for each entry, as it ends.
+    Explain,
+    /// `json`: a JSON object with every field for each entry, as it ends.
+    Json,
+    /// `dv`: at the log's end a line for each channel that has isochronous packets.
+    Dv,
+    /// `convert`: the entries as a log of this version, as they end.
+    Convert(Version),
+    /// `audit`: how many entries there are, where the registers that they show ran as a sound account.
+    Audit,
+    /// `map`: the tree of the last bus reset, as text.
+    Map,
+    /// `map dot`: the same tree as a graph.
+    Graph,
+}
+
+/// Reads a log as a word does.
+pub fn read_as<S: Source, K: Sink>(
+    alloc: Global,
+    word: LogWord,
+    source: &mut S,
+    sink: &mut K,
+) -> LogEnding<LogRefusal>
+    ensures { ReadsLog (form_by word) (rules_by word) (record { left = S.left; faults = S.faults; old = source.old; new = source.new })
+        (record { held = K.held; faults = K.faults; old = sink.old; new = sink.new }) result }
+{
+    match word {
+        LogWord::Decode => decode(alloc, source, sink),
+        LogWord::Explain => explain(alloc, source, sink),
+        LogWord::Json => json(alloc, source, sink),
+        LogWord::Dv => dv(alloc, source, sink),
+        LogWord::Convert(version) => convert(alloc, version, source, sink),
+        LogWord::Audit => audit(alloc, source, sink),
+        LogWord::Map => map(alloc, source, sink),
+        LogWord::Graph => map_graph(alloc, source, sink),
+    }
+}

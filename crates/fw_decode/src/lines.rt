@@ -1,21 +1,20 @@
 //! `decode`: the line of each entry, as it ends.
 
-ghost use Rattle.std.specs.Prelude.{◌≡◌, ◌++◌, OnOk, ⊤};
-ghost use Rattle.fw_outside.specs.Stops.{ReadCount, WriteCount};
+ghost use Rattle.std.specs.Prelude.{◌≡◌, ◌++◌, OnOk};
 ghost use Rattle.fw_entry.specs.declared.entry.Entry.{Entry};
 ghost use Rattle.fw_log.specs.Passing.{HasBody};
 ghost use Rattle.fw_text.specs.Line.{entry_line};
-ghost use Rattle.fw_reading.specs.Endings.{stop_of, Reads, IsComplete};
-ghost use Rattle.fw_decode.specs.Texts.{lines_form, nothing};
+ghost use Rattle.fw_reading.specs.Endings.{ReadsLog};
 ghost use Rattle.fw_decode.specs.Silences.{never_refused};
+ghost use Rattle.fw_decode.specs.Texts.{each_form, nothing};
 
+use crate::LogRefusal;
 use fw_cip::whole_iso;
 use fw_log::{LogReader, PlainBody, Room, Timed};
 use fw_outside::{Failed, Sink, Source};
 use fw_reading::{Closing, LogEnding, Reading, Stop, read_log};
 use fw_text::{LineRoom, put_entry_from, put_iso_from, put_packet_from, put_reset_from};
 use std::alloc::{AllocError, Global};
-use std::convert::Infallible;
 
 // The lines of entries.
 #[derive(Drop)]
@@ -36,11 +35,12 @@ fn put_body(room: &mut LineRoom, cycle: u64, body: &PlainBody) -> Result<(), All
 }
 
 impl Reading for Lines {
-    type Refusal = Infallible;
+    type Refusal = LogRefusal;
 
-    ghost use Rattle.fw_decode.specs.TextLaws.{lines_each};
+    ghost use Rattle.fw_decode.specs.Silences.{none_unrefused};
+    ghost use Rattle.fw_decode.specs.Texts.{each_alone};
 
-    ghost form = { λ s. lines_form };
+    ghost form = { λ s. each_form entry_line };
 
     ghost rules = { never_refused nothing };
 
@@ -52,7 +52,7 @@ impl Reading for Lines {
         Ok(())
     }
 
-    fn take(&mut self, entry: &Timed, bytes: &[u8]) -> Result<Option<Infallible>, AllocError> {
+    fn take(&mut self, entry: &Timed, bytes: &[u8]) -> Result<Option<LogRefusal>, AllocError> {
         put_entry_from(&mut self.room, entry, bytes)?;
         Ok(None)
     }
@@ -79,13 +79,15 @@ impl Reading for Lines {
         self.room.clear();
     }
 
-    fn close(&self, alloc: Global) -> Result<Closing<Infallible>, AllocError> {
+    fn close(&self, alloc: Global) -> Result<Closing<LogRefusal>, AllocError> {
         Ok(Closing::Text(String::new(alloc)))
     }
 
-    ghost each = { λ s. lines_each };
+    ghost each = { λ s. each_alone entry_line };
 
     ghost accepted = { λ s entries t. tt };
+
+    ghost unrefused = { λ entries h. none_unrefused nothing entries };
 }
 
 /// Reads a log, and writes the line of each entry.
@@ -96,11 +98,9 @@ pub fn decode<S: Source, K: Sink>(
     alloc: Global,
     source: &mut S,
     sink: &mut K,
-) -> LogEnding<Infallible>
-    ensures reads { Reads lines_form (never_refused nothing) (S.left source.old) (S.left source.new) (K.held sink.old) (K.held sink.new) result }
-    ensures read_count { ReadCount (S.faults source.old) (S.faults source.new) (stop_of result) }
-    ensures write_count { WriteCount (K.faults sink.old) (K.faults sink.new) (stop_of result) }
-    ensures complete { IsComplete (λ entries. ⊤) (S.left source.old) result }
+) -> LogEnding<LogRefusal>
+    ensures { ReadsLog (each_form entry_line) (never_refused nothing) (record { left = S.left; faults = S.faults; old = source.old; new = source.new })
+        (record { held = K.held; faults = K.faults; old = sink.old; new = sink.new }) result }
 {
     match LineRoom::new(alloc) {
         Ok(room) => read_log(alloc, Lines { room }, source, sink),

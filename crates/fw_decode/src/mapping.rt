@@ -1,13 +1,12 @@
 //! `map`: the tree of the last bus reset of a log, as text.
 
 ghost use Rattle.std.specs.Prelude.{[]};
-ghost use Rattle.fw_outside.specs.Stops.{ReadCount, WriteCount};
-ghost use Rattle.fw_reading.specs.Endings.{stop_of, Reads, IsComplete};
+ghost use Rattle.fw_reading.specs.Endings.{ReadsLog};
 ghost use Rattle.fw_decode.specs.Texts.{silent_form};
-ghost use Rattle.fw_decode.specs.Maps.{HasTree, map_rules};
+ghost use Rattle.fw_decode.specs.Maps.{map_rules};
 
-use crate::NoMap;
 use crate::last_reset::LastReset;
+use crate::{LogRefusal, NoMap};
 use fw_log::{LogReader, Room, Timed};
 use fw_map::{rebuild, tree_text};
 use fw_outside::{Failed, Sink, Source};
@@ -21,9 +20,10 @@ struct Mapping {
 }
 
 impl Reading for Mapping {
-    type Refusal = NoMap;
+    type Refusal = LogRefusal;
 
-    ghost use Rattle.fw_decode.specs.TextLaws.{silent_each};
+    ghost use Rattle.fw_decode.specs.Maps.{map_unrefused};
+    ghost use Rattle.fw_decode.specs.Texts.{silent_each};
     ghost use Rattle.fw_decode.specs.Trees.{KeepsLast};
 
     ghost form = { λ m. silent_form };
@@ -38,7 +38,7 @@ impl Reading for Mapping {
         Ok(())
     }
 
-    fn take(&mut self, entry: &Timed, bytes: &[u8]) -> Result<Option<NoMap>, AllocError> {
+    fn take(&mut self, entry: &Timed, bytes: &[u8]) -> Result<Option<LogRefusal>, AllocError> {
         self.last.take(entry, bytes)?;
         Ok(None)
     }
@@ -58,31 +58,31 @@ impl Reading for Mapping {
 
     fn clear(&mut self) {}
 
-    fn close(&self, alloc: Global) -> Result<Closing<NoMap>, AllocError> {
+    fn close(&self, alloc: Global) -> Result<Closing<LogRefusal>, AllocError> {
         let Some(reset) = self.last.reset() else {
-            return Ok(Closing::Refused(NoMap::NoReset));
+            return Ok(Closing::Refused(LogRefusal::Map(NoMap::NoReset)));
         };
         match rebuild(&reset) {
             Ok(tree) => {
                 let text = tree_text(alloc, &tree)?;
                 Ok(Closing::Text(text))
             }
-            Err(fault) => Ok(Closing::Refused(NoMap::NoTree(fault))),
+            Err(fault) => Ok(Closing::Refused(LogRefusal::Map(NoMap::NoTree(fault)))),
         }
     }
 
     ghost each = { λ m. silent_each };
 
     ghost accepted = { λ m entries t. tt };
+
+    ghost unrefused = { map_unrefused };
 }
 
 /// Reads a log, and writes at its end the tree of its last bus reset, and the speeds between its nodes (`fw_map::tree_text`). Nothing
 /// is written before, nor where the log has no bus reset or no tree has the packets of the last one.
-pub fn map<S: Source, K: Sink>(alloc: Global, source: &mut S, sink: &mut K) -> LogEnding<NoMap>
-    ensures reads { Reads silent_form map_rules (S.left source.old) (S.left source.new) (K.held sink.old) (K.held sink.new) result }
-    ensures read_count { ReadCount (S.faults source.old) (S.faults source.new) (stop_of result) }
-    ensures write_count { WriteCount (K.faults sink.old) (K.faults sink.new) (stop_of result) }
-    ensures complete { IsComplete HasTree (S.left source.old) result }
+pub fn map<S: Source, K: Sink>(alloc: Global, source: &mut S, sink: &mut K) -> LogEnding<LogRefusal>
+    ensures { ReadsLog silent_form map_rules (record { left = S.left; faults = S.faults; old = source.old; new = source.new })
+        (record { held = K.held; faults = K.faults; old = sink.old; new = sink.new }) result }
 {
     let last = LastReset::new(alloc);
     read_log(alloc, Mapping { last }, source, sink)

@@ -1,18 +1,18 @@
 //! `json`: each entry as a JSON object, as it ends.
 
-ghost use Rattle.std.specs.Prelude.{◌≡◌, ◌<◌, [], IfOk, None, take, ⊤};
-ghost use Rattle.fw_outside.specs.Stops.{ReadCount, WriteCount};
-ghost use Rattle.fw_reading.specs.Endings.{stop_of, Reads, IsComplete};
-ghost use Rattle.fw_decode.specs.Texts.{objects_form, nothing};
+ghost use Rattle.std.specs.Prelude.{◌≡◌, ◌<◌, [], IfOk, None, take};
+ghost use Rattle.fw_reading.specs.Endings.{ReadsLog};
+ghost use Rattle.fw_json.specs.Objects.{object};
 ghost use Rattle.fw_decode.specs.Silences.{never_refused};
+ghost use Rattle.fw_decode.specs.Texts.{each_form, nothing};
 
+use crate::LogRefusal;
 use crate::whole_entry::WholeRoom;
 use fw_json::{ObjectRoom, put_object};
 use fw_log::{LogReader, Room, Timed};
 use fw_outside::{Failed, Sink, Source};
 use fw_reading::{Closing, LogEnding, Reading, Stop, read_log};
 use std::alloc::{AllocError, Global};
-use std::convert::Infallible;
 
 // The objects of entries.
 #[derive(Drop)]
@@ -33,11 +33,12 @@ impl Objects {
 }
 
 impl Reading for Objects {
-    type Refusal = Infallible;
+    type Refusal = LogRefusal;
 
-    ghost use Rattle.fw_decode.specs.TextLaws.{objects_each};
+    ghost use Rattle.fw_decode.specs.Silences.{none_unrefused};
+    ghost use Rattle.fw_decode.specs.Texts.{each_alone};
 
-    ghost form = { λ s. objects_form };
+    ghost form = { λ s. each_form object };
 
     ghost rules = { never_refused nothing };
 
@@ -49,7 +50,7 @@ impl Reading for Objects {
         Ok(())
     }
 
-    fn take(&mut self, entry: &Timed, _bytes: &[u8]) -> Result<Option<Infallible>, AllocError> {
+    fn take(&mut self, entry: &Timed, _bytes: &[u8]) -> Result<Option<LogRefusal>, AllocError> {
         put_object(&mut self.room, entry)?;
         Ok(None)
     }
@@ -80,13 +81,15 @@ impl Reading for Objects {
         self.room.clear();
     }
 
-    fn close(&self, alloc: Global) -> Result<Closing<Infallible>, AllocError> {
+    fn close(&self, alloc: Global) -> Result<Closing<LogRefusal>, AllocError> {
         Ok(Closing::Text(String::new(alloc)))
     }
 
-    ghost each = { λ s. objects_each };
+    ghost each = { λ s. each_alone object };
 
     ghost accepted = { λ s entries t. tt };
+
+    ghost unrefused = { λ entries h. none_unrefused nothing entries };
 }
 
 /// Reads a log, and writes each entry as a JSON object in a line of its own, with every field.
@@ -96,11 +99,9 @@ pub fn json<S: Source, K: Sink>(
     alloc: Global,
     source: &mut S,
     sink: &mut K,
-) -> LogEnding<Infallible>
-    ensures reads { Reads objects_form (never_refused nothing) (S.left source.old) (S.left source.new) (K.held sink.old) (K.held sink.new) result }
-    ensures read_count { ReadCount (S.faults source.old) (S.faults source.new) (stop_of result) }
-    ensures write_count { WriteCount (K.faults sink.old) (K.faults sink.new) (stop_of result) }
-    ensures complete { IsComplete (λ entries. ⊤) (S.left source.old) result }
+) -> LogEnding<LogRefusal>
+    ensures { ReadsLog (each_form object) (never_refused nothing) (record { left = S.left; faults = S.faults; old = source.old; new = source.new })
+        (record { held = K.held; faults = K.faults; old = sink.old; new = sink.new }) result }
 {
     match Objects::new(alloc) {
         Ok(objects) => read_log(alloc, objects, source, sink),

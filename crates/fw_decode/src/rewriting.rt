@@ -1,20 +1,19 @@
 //! `convert`: a log that is written again in a version, as its entries end.
 
-ghost use Rattle.std.specs.Prelude.{◌≡◌, ◌++◌, [], IfOk, OnOk, ⊤};
-ghost use Rattle.fw_outside.specs.Stops.{ReadCount, WriteCount};
+ghost use Rattle.std.specs.Prelude.{◌≡◌, ◌++◌, [], IfOk, OnOk};
 ghost use Rattle.fw_entry.specs.Log.{Fits, body, epoch_after, entry_bytes};
-ghost use Rattle.fw_reading.specs.Endings.{stop_of, Reads, IsComplete};
+ghost use Rattle.fw_reading.specs.Endings.{ReadsLog};
 ghost use Rattle.fw_decode.specs.Texts.{log_form, nothing};
 ghost use Rattle.fw_decode.specs.Silences.{never_refused};
 
+use crate::LogRefusal;
 use fw_log::{Timed, Version, epoch_after, head_of, write_header};
 use fw_outside::{Failed, Sink, Source};
 use fw_reading::{Closing, LogEnding, Reading, Stop, read_log};
 use std::alloc::{AllocError, Global};
-use std::convert::Infallible;
 use std::marker::Model;
 
-/// How many bytes there is room for at first: more than the entries have of 4,096 bytes of a log and of the longest entry behind
+/// How many bytes there is room for at first: more than the entries have of 4,096 bytes of a log and of the longest entry after
 /// them, in the longer version.
 const ROOM: usize = 12_288;
 
@@ -62,10 +61,11 @@ impl Rewriting {
 }
 
 impl Reading for Rewriting {
-    type Refusal = Infallible;
+    type Refusal = LogRefusal;
 
     ghost use Rattle.fw_entry.specs.Log.{latest_epoch};
-    ghost use Rattle.fw_decode.specs.TextLaws.{log_each};
+    ghost use Rattle.fw_decode.specs.Silences.{none_unrefused};
+    ghost use Rattle.fw_decode.specs.Texts.{log_each};
 
     ghost form = { λ r. log_form r.version };
 
@@ -79,7 +79,7 @@ impl Reading for Rewriting {
         write_header(self.version, sink)
     }
 
-    fn take(&mut self, entry: &Timed, bytes: &[u8]) -> Result<Option<Infallible>, AllocError> {
+    fn take(&mut self, entry: &Timed, bytes: &[u8]) -> Result<Option<LogRefusal>, AllocError> {
         self.put(entry, bytes)?;
         Ok(None)
     }
@@ -92,13 +92,15 @@ impl Reading for Rewriting {
         self.bytes.clear();
     }
 
-    fn close(&self, alloc: Global) -> Result<Closing<Infallible>, AllocError> {
+    fn close(&self, alloc: Global) -> Result<Closing<LogRefusal>, AllocError> {
         Ok(Closing::Text(String::new(alloc)))
     }
 
     ghost each = { λ r. log_each r.version };
 
     ghost accepted = { λ r entries t. tt };
+
+    ghost unrefused = { λ entries h. none_unrefused nothing entries };
 }
 
 /// Reads a log of either version, and writes its entries as a log of this version.
@@ -109,11 +111,9 @@ pub fn convert<S: Source, K: Sink>(
     version: Version,
     source: &mut S,
     sink: &mut K,
-) -> LogEnding<Infallible>
-    ensures reads { Reads (log_form version) (never_refused nothing) (S.left source.old) (S.left source.new) (K.held sink.old) (K.held sink.new) result }
-    ensures read_count { ReadCount (S.faults source.old) (S.faults source.new) (stop_of result) }
-    ensures write_count { WriteCount (K.faults sink.old) (K.faults sink.new) (stop_of result) }
-    ensures complete { IsComplete (λ entries. ⊤) (S.left source.old) result }
+) -> LogEnding<LogRefusal>
+    ensures { ReadsLog (log_form version) (never_refused nothing) (record { left = S.left; faults = S.faults; old = source.old; new = source.new })
+        (record { held = K.held; faults = K.faults; old = sink.old; new = sink.new }) result }
 {
     match Rewriting::new(alloc, version) {
         Ok(rewriting) => read_log(alloc, rewriting, source, sink),

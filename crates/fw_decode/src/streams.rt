@@ -1,19 +1,18 @@
 //! `dv`: a report of the streams of a log, at its end.
 
-ghost use Rattle.std.specs.Prelude.{◌<◌, [], take, None, ⊤};
-ghost use Rattle.fw_outside.specs.Stops.{ReadCount, WriteCount};
+ghost use Rattle.std.specs.Prelude.{◌<◌, [], take, None};
 ghost use Rattle.fw_text.specs.Report.{report_text};
-ghost use Rattle.fw_reading.specs.Endings.{stop_of, Reads, IsComplete};
+ghost use Rattle.fw_reading.specs.Endings.{ReadsLog};
 ghost use Rattle.fw_decode.specs.Texts.{silent_form};
 ghost use Rattle.fw_decode.specs.Silences.{never_refused};
 
+use crate::LogRefusal;
 use fw_cip::whole_iso;
 use fw_log::{LogReader, PlainBody, Room, Timed};
 use fw_outside::{Failed, Sink, Source};
 use fw_reading::{Closing, LogEnding, Reading, read_log};
 use fw_text::StreamReport;
 use std::alloc::{AllocError, Global};
-use std::convert::Infallible;
 
 // What the channels of the entries carry.
 #[derive(Drop)]
@@ -22,10 +21,11 @@ struct Streams {
 }
 
 impl Reading for Streams {
-    type Refusal = Infallible;
+    type Refusal = LogRefusal;
 
     ghost use Rattle.fw_text.specs.Tallies.{Reports};
-    ghost use Rattle.fw_decode.specs.TextLaws.{silent_each};
+    ghost use Rattle.fw_decode.specs.Silences.{none_unrefused};
+    ghost use Rattle.fw_decode.specs.Texts.{silent_each};
 
     ghost form = { λ s. silent_form };
 
@@ -39,7 +39,7 @@ impl Reading for Streams {
         Ok(())
     }
 
-    fn take(&mut self, entry: &Timed, _bytes: &[u8]) -> Result<Option<Infallible>, AllocError> {
+    fn take(&mut self, entry: &Timed, _bytes: &[u8]) -> Result<Option<LogRefusal>, AllocError> {
         self.report.take(entry);
         Ok(None)
     }
@@ -66,22 +66,22 @@ impl Reading for Streams {
 
     fn clear(&mut self) {}
 
-    fn close(&self, alloc: Global) -> Result<Closing<Infallible>, AllocError> {
+    fn close(&self, alloc: Global) -> Result<Closing<LogRefusal>, AllocError> {
         Ok(Closing::Text(self.report.text(alloc)?))
     }
 
     ghost each = { λ s. silent_each };
 
     ghost accepted = { λ s entries t. tt };
+
+    ghost unrefused = { λ entries h. none_unrefused report_text entries };
 }
 
 /// Reads a log, and writes at its end a line for each channel that has isochronous packets: how many, how many with a block of
 /// data and without one, and how many at which data is missing. Nothing is written before.
-pub fn dv<S: Source, K: Sink>(alloc: Global, source: &mut S, sink: &mut K) -> LogEnding<Infallible>
-    ensures reads { Reads silent_form (never_refused report_text) (S.left source.old) (S.left source.new) (K.held sink.old) (K.held sink.new) result }
-    ensures read_count { ReadCount (S.faults source.old) (S.faults source.new) (stop_of result) }
-    ensures write_count { WriteCount (K.faults sink.old) (K.faults sink.new) (stop_of result) }
-    ensures complete { IsComplete (λ entries. ⊤) (S.left source.old) result }
+pub fn dv<S: Source, K: Sink>(alloc: Global, source: &mut S, sink: &mut K) -> LogEnding<LogRefusal>
+    ensures { ReadsLog silent_form (never_refused report_text) (record { left = S.left; faults = S.faults; old = source.old; new = source.new })
+        (record { held = K.held; faults = K.faults; old = sink.old; new = sink.new }) result }
 {
     let report = StreamReport::new();
     read_log(alloc, Streams { report }, source, sink)

@@ -1,14 +1,13 @@
 //! `audit`: whether the registers of a log ran as a sound account.
 
 ghost use Rattle.std.specs.Prelude.{◌≡◌, ◌+◌, ◌<◌, ◌^◌, ◌++◌, ◌∷◌, [], List, length, IfOk, string_bytes};
-ghost use Rattle.fw_outside.specs.Stops.{ReadCount, WriteCount};
 ghost use Rattle.fw_entry.specs.Log.{Fits};
 ghost use Rattle.fw_entry.specs.declared.entry.Timed.{Timed as TimedEntry};
-ghost use Rattle.fw_reading.specs.Endings.{stop_of, Reads, IsComplete};
+ghost use Rattle.fw_reading.specs.Endings.{ReadsLog};
 ghost use Rattle.fw_decode.specs.Texts.{silent_form, count_text};
-ghost use Rattle.fw_decode.specs.Verdicts.{audit_rules, IsSoundLog, Audits, Judges};
+ghost use Rattle.fw_decode.specs.Verdicts.{audit_rules, Audits, Judges};
 
-use crate::Unsound;
+use crate::{LogRefusal, Unsound};
 use fw_audit::Audit;
 use fw_log::Timed;
 use fw_outside::{Failed, Sink, Source};
@@ -42,17 +41,17 @@ impl Verdict {
         })
     }
 
-    // Takes an entry more, and answers its fault, if any.
-    fn judge(&mut self, entry: &Timed) -> Result<Option<Unsound>, AllocError>
+    // Takes an entry more, and answers its fault, if any, as what the log is refused with.
+    fn judge(&mut self, entry: &Timed) -> Result<Option<LogRefusal>, AllocError>
         requires { Fits entry.now.what }
         ensures { (entries : List TimedEntry) → length entries + 1 < 2 ^ 64 → Audits self.old entries
-            → IfOk result (λ fault. Judges self.new (entries ++ entry.now ∷ []) fault) }
+            → IfOk result (λ refusal. Judges self.new (entries ++ entry.now ∷ []) refusal) }
     {
         match self.audit.take(entry)? {
-            Some(fault) => Ok(Some(Unsound {
+            Some(fault) => Ok(Some(LogRefusal::Audit(Unsound {
                 entry: self.count,
                 fault,
-            })),
+            }))),
             None => {
                 self.count = self.count.saturating_add(1);
                 Ok(None)
@@ -62,10 +61,10 @@ impl Verdict {
 }
 
 impl Reading for Verdict {
-    type Refusal = Unsound;
+    type Refusal = LogRefusal;
 
-    ghost use Rattle.fw_decode.specs.TextLaws.{silent_each};
-    ghost use Rattle.fw_decode.specs.Verdicts.{audits_accepted};
+    ghost use Rattle.fw_decode.specs.Texts.{silent_each};
+    ghost use Rattle.fw_decode.specs.Verdicts.{audits_accepted, sound_unrefused};
 
     ghost form = { λ v. silent_form };
 
@@ -79,7 +78,7 @@ impl Reading for Verdict {
         Ok(())
     }
 
-    fn take(&mut self, entry: &Timed, _bytes: &[u8]) -> Result<Option<Unsound>, AllocError> {
+    fn take(&mut self, entry: &Timed, _bytes: &[u8]) -> Result<Option<LogRefusal>, AllocError> {
         self.judge(entry)
     }
 
@@ -89,22 +88,26 @@ impl Reading for Verdict {
 
     fn clear(&mut self) {}
 
-    fn close(&self, alloc: Global) -> Result<Closing<Unsound>, AllocError> {
+    fn close(&self, alloc: Global) -> Result<Closing<LogRefusal>, AllocError> {
         Ok(Closing::Text(sound_text(alloc, self.count)?))
     }
 
     ghost each = { λ v. silent_each };
 
     ghost accepted = { λ v entries a. audits_accepted v entries a };
+
+    ghost unrefused = { sound_unrefused };
 }
 
 /// Reads a log, and writes how many entries it has where none of them has a fault. The first that has one ends the call as soon as
 /// it was read; nothing is written then.
-pub fn audit<S: Source, K: Sink>(alloc: Global, source: &mut S, sink: &mut K) -> LogEnding<Unsound>
-    ensures reads { Reads silent_form audit_rules (S.left source.old) (S.left source.new) (K.held sink.old) (K.held sink.new) result }
-    ensures read_count { ReadCount (S.faults source.old) (S.faults source.new) (stop_of result) }
-    ensures write_count { WriteCount (K.faults sink.old) (K.faults sink.new) (stop_of result) }
-    ensures complete { IsComplete IsSoundLog (S.left source.old) result }
+pub fn audit<S: Source, K: Sink>(
+    alloc: Global,
+    source: &mut S,
+    sink: &mut K,
+) -> LogEnding<LogRefusal>
+    ensures { ReadsLog silent_form audit_rules (record { left = S.left; faults = S.faults; old = source.old; new = source.new })
+        (record { held = K.held; faults = K.faults; old = sink.old; new = sink.new }) result }
 {
     match Verdict::new(alloc) {
         Ok(verdict) => read_log(alloc, verdict, source, sink),

@@ -15,11 +15,12 @@ use Rattle.fw_log.specs.History.{bytes_of, stand_after, HasRead, IsLog, Finishes
 use Rattle.fw_log.specs.Stands.{Position}
 use Rattle.fw_log.specs.declared.LogFault.{LogFault}
 use Rattle.fw_reading.specs.Readings.{Form, Rules, IsEach, written}
-use Rattle.fw_reading.specs.Endings.{opened, limit, piece_size, stop_of, IsRead, Decoded, Faulted, Rejected, RefusedWhole, PassedLimit, Interrupted, PartRead, PartClosed, Reads}
+use Rattle.fw_reading.specs.Turns.{SourceTurn, SinkTurn}
+use Rattle.fw_reading.specs.Endings.{opened, limit, piece_size, stop_of, IsRead, Decoded, Faulted, Rejected, RefusedWhole, PassedLimit, Interrupted, PartRead, PartClosed, Reads, ReadsLog}
 use Rattle.fw_reading.specs.declared.ending.LogEnding.{LogEnding}
 use Rattle.fw_reading.specs.declared.ending.LogEnding.TheVariants.{Done, NoLog, Refused, Stopped}
 use Rattle.fw_reading.specs.Pieces.{PrintsMore, PrintsTo, PrintsLast, PrintsFront, StopsAt, DecodedTo, ClosesLog, ClosesPart, EndsLog}
-use Rattle.fw_reading.proofs.Texts.{nothing_grew, grows_due, front_due, opened_is, none_before, front_of_none, front_of_all}
+use Rattle.fw_reading.proofs.Texts.{nothing_grew, grows_due, front_due, front_later, opened_is, none_before, front_of_none, front_of_all}
 use Rattle.fw_reading.proofs.Printings.{begins_of}
 
 -- how many bytes a reader has taken
@@ -98,8 +99,8 @@ refused_end {R} {form} rules {Took} {left} {left1} {held} {held1} left2 refusal 
 
 -- or there was no memory for what is written at its end
 all_end : {form : Form} {Took : List Timed → Type 0} {left left1 held held1 : Option (List ℕ)} {r : State} {room : ℕ} (left2 : Option (List ℕ)) (d : DecodedTo form Took left left1 held held1 r room)
-    → Takes left1 left2 [] × IsAtEnd left2 → Finishes d.entries d.bytes (Ok tt) → PartRead form left left2 held held1
-all_end {form} {Took} {left} {left1} {held} {held1} left2 d e f =
+    → Takes left1 left2 [] × IsAtEnd left2 → PartRead form left left2 held held1
+all_end {form} {Took} {left} {left1} {held} {held1} left2 d e =
     let T : List ℕ → Type 0 = Takes left left2 in
     record {
       entries = d.entries;
@@ -107,7 +108,7 @@ all_end {form} {Took} {left} {left1} {held} {held1} left2 d e f =
       taken = subst T (append-nil d.bytes) (Takes-Takes left left1 left2 d.bytes [] d.taken e.0);
       part = _;
       begins = begins_of d.read;
-      grew = front_of_all held held1 (written form d.entries) (whole_head form held held1 d.entries d.bytes f.complete d.grew);
+      grew = front_of_all held held1 (opened form.head (length d.bytes) ++ form.text [] d.entries) d.grew;
     }
 
 no_spelling : (entries : List Timed) (bytes : List ℕ) (f : LogFault) → Finishes entries bytes (Err f) → (all : List Timed) → IsLog all bytes → ⊥
@@ -158,7 +159,7 @@ ended {R} {form} rules {Took} {left} {left1} {held} {held1} left2 held2 (Refused
 ended rules left2 held2 (Stopped WriteFault) d took e f = inr (part_end rules left2 held2 d took e f.0 f.1)
 ended {R} {form} rules {Took} {left} {left1} {held} {held1} left2 held2 (Stopped NoMemory) d took e f =
     let P : Option (List ℕ) → Type 0 = λ h. PartRead form left left2 held h in
-    subst P (sym f.1) (all_end left2 d e f.0)
+    subst P (sym f.1) (all_end left2 d e)
 ended rules left2 held2 (Stopped ReadFault) d took e f = absurd f
 ended rules left2 held2 (Stopped TooLong) d took e f = absurd f
 
@@ -171,7 +172,16 @@ interrupted took d = record { entries = d.entries; bytes = d.bytes; taken = d.ta
 
 -- nothing was read
 pub part_nothing : (form : Form) (left held : Option (List ℕ)) → PartRead form left left held held
-part_nothing form left held = record { entries = []; bytes = []; taken = Takes-nothing left; part = []; begins = record { version = One; order = tt; same = refl }; grew = front_of_none held (written form []) }
+part_nothing form left held = record { entries = []; bytes = []; taken = Takes-nothing left; part = []; begins = record { version = One; order = tt; same = refl }; grew = front_of_none held (opened form.head 0 ++ form.text [] []) }
+
+-- so a word that finds no memory before it reads promises no less
+pub nothing_read : {S K R : Type 0} (form : Form) (rules : Rules R) (source : SourceTurn S) (sink : SinkTurn K) → source.new ≡ source.old → sink.new ≡ sink.old → ReadsLog form rules source sink (Stopped NoMemory)
+nothing_read {S} {K} {R} form rules source sink same kept = record {
+  reads = let P : S → K → Type 0 = λ s k. PartRead form (source.left source.old) (source.left s) (sink.held sink.old) (sink.held k) in subst (λ s. P s sink.new) (sym same) (subst (P source.old) (sym kept) (part_nothing form (source.left source.old) (sink.held sink.old)));
+  read_count = ap source.faults same;
+  write_count = ap sink.faults kept;
+  complete = λ entries bytes is log short h. tt;
+}
 
 -- a piece of which not all was printed
 stopped_part : {form : Form} (each : IsEach form.text) {Took : List Timed → Type 0} {left left1 held held1 : Option (List ℕ)} {r : State} {room : ℕ} (left2 held2 : Option (List ℕ)) (piece behind : List ℕ) (d : DecodedTo form Took left left1 held held1 r room)
@@ -186,7 +196,10 @@ stopped_part {form} each {Took} {left} {left1} {held} {held1} {r} {room} left2 h
     order = p.begins.order;
     same = sym (append_assoc (bytes_of p.begins.version (d.entries ++ p.more)) p.part behind) ∙ ap (λ (x : List ℕ). x ++ behind) p.begins.same ∙ append_assoc d.bytes piece behind;
   };
-  grew = front_due each form.head d.entries p.more (length d.bytes) held held1 held2 (none_before d.read.version d.entries r.taken d.bytes d.read.same) d.grew p.grew;
+  grew = front_later each form.head (d.entries ++ p.more) (length (d.bytes ++ piece)) (length (d.bytes ++ (piece ++ behind))) held held2
+      (omega (arith, length-append d.bytes piece, length-append d.bytes (piece ++ behind), length-append piece behind))
+      (none_before p.begins.version (d.entries ++ p.more) p.part (d.bytes ++ piece) p.begins.same)
+      (front_due each form.head d.entries p.more (length d.bytes) (length (d.bytes ++ piece)) held held1 held2 (λ h. omega (arith, h, length-append d.bytes piece)) (none_before d.read.version d.entries r.taken d.bytes d.read.same) d.grew p.grew);
 }
 
 stopped_fault : {form : Form} (each : IsEach form.text) (accepts : List Timed → Type 0) {Took : List Timed → Type 0} {left left1 held held1 : Option (List ℕ)} {r : State} {room : ℕ} (left2 held2 : Option (List ℕ)) (piece behind : List ℕ) (f : LogFault) (d : DecodedTo form Took left left1 held held1 r room)

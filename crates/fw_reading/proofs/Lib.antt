@@ -4,4 +4,3 @@ pub mod Printings
 pub mod Decodings
 pub mod Completions
 pub mod Closings
-pub mod Widenings

@@ -179,10 +179,10 @@ stops_behind form rules held held' entries bytes piece (Refused u) whole s =
     }
 stops_behind form rules held held' entries bytes piece (Stopped WriteFault) whole s =
     let P : List ℕ → Type 0 = λ x. AppendsFront held held' (x ++ form.text entries s.more) in
-    record { more = s.more; part = s.part; begins = s.begins; grew = subst P (sym (opening_none form.head (length bytes) 16 whole)) s.grew }
+    record { more = s.more; part = s.part; begins = s.begins; grew = subst P (sym (opening_none form.head (length bytes) (length (bytes ++ piece)) whole)) s.grew }
 stops_behind form rules held held' entries bytes piece (Stopped NoMemory) whole s =
     let P : List ℕ → Type 0 = λ x. AppendsFront held held' (x ++ form.text entries s.more) in
-    record { more = s.more; part = s.part; begins = s.begins; grew = subst P (sym (opening_none form.head (length bytes) 16 whole)) s.grew }
+    record { more = s.more; part = s.part; begins = s.begins; grew = subst P (sym (opening_none form.head (length bytes) (length (bytes ++ piece)) whole)) s.grew }
 stops_behind form rules held held' entries bytes piece (Stopped ReadFault) whole s = absurd s
 stops_behind form rules held held' entries bytes piece (Stopped TooLong) whole s = absurd s
 stops_behind form rules held held' entries bytes piece Done whole s = absurd s
@@ -214,7 +214,7 @@ front_before form held held' entries bytes piece e short s =
     let more : s.more ≡ [] = behind_none entries s.more none in
     let P : List ℕ → Type 0 = AppendsFront held held' in
     let nothing : AppendsFront held held' [] = subst P (ap (form.text entries) more ∙ e.none entries) s.grew in
-    record { more = s.more; part = s.part; begins = s.begins; grew = front_then held held' [] (opening form.head (length bytes) 16 ++ form.text entries s.more) nothing }
+    record { more = s.more; part = s.part; begins = s.begins; grew = front_then held held' [] (opening form.head (length bytes) (length (bytes ++ piece)) ++ form.text entries s.more) nothing }
 
 stops_before : {R : Type 0} (form : Form) (rules : Rules R) (held held' : Option (List ℕ)) (entries : List Timed) (bytes piece : List ℕ) (e : LogEnding R) → IsEach form.text → length (bytes ++ piece) ≤ 16 → Stops form.text rules held held' entries bytes piece e
     → StopsAt form rules held held' entries bytes piece e
@@ -279,7 +279,7 @@ bytes_opened {R} form rules Took Took' held mid held1 held2 entries bytes front 
           more = s.more;
           part = s.part;
           begins = record { version = s.begins.version; order = s.begins.order; same = s.begins.same ∙ line };
-          grew = subst P (sym (due 16 (omega arith))) (then_front held held1 held2 form.head (form.text entries s.more) opened_at s.grew);
+          grew = subst P (sym (due (length (bytes ++ (front ++ behind))) (omega (arith, whole, ap length line, length-append (bytes ++ front) behind)))) (then_front held held1 held2 form.head (form.text entries s.more) opened_at s.grew);
         }
 
     stopped : (e : LogEnding R) → Stops form.text rules held1 held2 entries (bytes ++ front) behind e → StopsAt form rules held held2 entries bytes (front ++ behind) e
@@ -336,7 +336,7 @@ bytes_unopened form Took held mid held1 entries bytes front reader each whole so
     let none : entries ++ p.more ≡ [] = none_yet p.read.version (entries ++ p.more) reader.taken (bytes ++ front) p.read.same (omega (arith, whole)) in
     let more : p.more ≡ [] = behind_none entries p.more none in
     let P : List ℕ → Type 0 = Grows held mid in
-    let due : opening form.head (length bytes) 16 ≡ form.head = opening_is form.head (length bytes) 16 (omega (arith, whole, some, length-append bytes front)) (omega arith) in
+    let due : opening form.head (length bytes) (length (bytes ++ front)) ≡ form.head = opening_is form.head (length bytes) (length (bytes ++ front)) (omega (arith, whole, some, length-append bytes front)) (omega (arith, whole)) in
     let Q : List ℕ → Type 0 = λ x. AppendsFront held held1 (x ++ form.text entries p.more) in
     record {
       more = p.more;

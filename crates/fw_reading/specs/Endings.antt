@@ -1,6 +1,7 @@
 -- What each ending of a word that reads a log says of the input and of what was written.
 use Rattle.std.specs.Prelude.{◌≡◌, ℕ, ◌+◌, ◌≤◌, ◌<◌, ◌⊎◌, List, [], ◌∷◌, ◌++◌, length, take, nat_le, if◌then◌else◌, Option, Some, None}
 use Rattle.fw_outside.specs.Outside.{Takes, Grows, IsAtEnd, AppendsFront}
+use Rattle.fw_outside.specs.Stops.{ReadCount, WriteCount}
 use Rattle.fw_outside.specs.declared.stop.Stop.{Stop}
 use Rattle.fw_outside.specs.declared.stop.Stop.TheVariants.{ReadFault, WriteFault, TooLong, NoMemory}
 use Rattle.fw_entry.specs.Log.{InOrder}
@@ -11,6 +12,7 @@ use Rattle.fw_log.specs.Reader.{ShowsFault, finish_by}
 use Rattle.fw_log.specs.History.{bytes_of, stand_after, BeginsNoLog, IsLog}
 use Rattle.fw_log.specs.declared.LogFault.{LogFault}
 use Rattle.fw_reading.specs.Readings.{Form, Rules, written}
+use Rattle.fw_reading.specs.Turns.{SourceTurn, SinkTurn}
 use Rattle.fw_reading.specs.declared.ending.LogEnding.{LogEnding}
 use Rattle.fw_reading.specs.declared.ending.LogEnding.TheVariants.{Done, NoLog, Refused, Stopped}
 
@@ -145,14 +147,15 @@ pub record Interrupted (form : Form) (accepts : List Timed → Type 0) (left lef
   pub accepted : accepts entries
   pub grew : Grows held held' (opened form.head (length bytes) ++ form.text [] entries)
 
--- The bytes that were taken begin with those of entries, and a front of what is written of them was written.
+-- The bytes that were taken begin with those of entries, and a front was written of what is written of them, and before that of what
+-- is due of a header that was taken whole.
 pub record PartRead (form : Form) (left left' held held' : Option (List ℕ)) : Type 0 where
   pub entries : List Timed
   pub bytes : List ℕ
   pub taken : Takes left left' bytes
   pub part : List ℕ
   pub begins : Begins entries part bytes
-  pub grew : AppendsFront held held' (written form entries)
+  pub grew : AppendsFront held held' (opened form.head (length bytes) ++ form.text [] entries)
 
 -- The log was read, is not refused, and a front of what is written of its entries and at its end was written.
 pub record PartClosed {R : Type 0} (form : Form) (rules : Rules R) (left left' held held' : Option (List ℕ)) : Type 0 where
@@ -186,3 +189,11 @@ IsNoRefusal (Stopped NoMemory) = Unit {0}
 -- A log within the limit, of which this holds, is read whole, unless a call fails or memory runs out.
 abbrev pub IsComplete : {R : Type 0} → (List Timed → Type 0) → Option (List ℕ) → LogEnding R → Type 0
 IsComplete holds left ending = (entries : List Timed) → (bytes : List ℕ) → left ≡ Some bytes → IsLog entries bytes → length bytes ≤ limit → holds entries → IsNoRefusal ending
+
+-- What a word that reads a log promises of a call: what its ending says of the bytes that were taken, of their entries and of what was
+-- written; which counts of faults rose; and that a log which it does not refuse is read whole.
+pub record ReadsLog {S K R : Type 0} (form : Form) (rules : Rules R) (source : SourceTurn S) (sink : SinkTurn K) (ending : LogEnding R) : Type 0 where
+  pub reads : Reads form rules (source.left source.old) (source.left source.new) (sink.held sink.old) (sink.held sink.new) ending
+  pub read_count : ReadCount (source.faults source.old) (source.faults source.new) (stop_of ending)
+  pub write_count : WriteCount (sink.faults sink.old) (sink.faults sink.new) (stop_of ending)
+  pub complete : IsComplete rules.completes (source.left source.old) ending

@@ -1,4 +1,4 @@
 pub mod Readings
+pub mod Turns
 pub mod Endings
 pub mod Pieces
-pub mod Widening

@@ -147,12 +147,12 @@ pub record PrintsLast {R : Type 0} (form : Form) (rules : Rules R) (held held' :
   pub rejected : rules.rejects ((entries ++ more) ++ last ∷ []) refusal
   pub grew : Grows held held' (opening form.head (length bytes) 16 ++ form.text entries more)
 
--- there are more entries, and a front of what is due of the header and their text was written
-pub record PrintsFront (form : Form) (held held' : Option (List ℕ)) (entries : List Timed) (bytes : List ℕ) (count : ℕ) : Type 0 where
+-- there are more entries, and a front of what is due of the header and their text was written; so many of the bytes were taken before
+pub record PrintsFront (form : Form) (held held' : Option (List ℕ)) (entries : List Timed) (bytes : List ℕ) (before : ℕ) : Type 0 where
   pub more : List Timed
   pub part : List ℕ
   pub begins : Begins (entries ++ more) part bytes
-  pub grew : AppendsFront held held' (opening form.head count 16 ++ form.text entries more)
+  pub grew : AppendsFront held held' (opening form.head before (length bytes) ++ form.text entries more)
 
 -- how far the bytes were read, by the ending
 abbrev pub StopsAt : {R : Type 0} → Form → Rules R → Option (List ℕ) → Option (List ℕ) → List Timed → List ℕ → List ℕ → LogEnding R → Type 0

@@ -24,13 +24,14 @@ pub record Form : Type 0 where
 abbrev pub written : Form → List Timed → List ℕ
 written form entries = form.head ++ form.text [] entries
 
--- what a word makes of entries besides: it goes on behind these; it refuses the log with this at the last of these; at the end of a
--- log of these it writes this; and it refuses a log of these with this
+-- what a word makes of entries besides: it goes on after these; it refuses the log with this at the last of these; at the end of a
+-- log of these it writes this; it refuses a log of these with this; and it refuses no log of which this holds
 pub record Rules (R : Type 0) : Type 1 where
   pub accepts : List Timed → Type 0
   pub rejects : List Timed → R → Type 0
   pub closes : List Timed → List ℕ → Type 0
   pub refuses : List Timed → R → Type 0
+  pub completes : List Timed → Type 0
 
 -- a log that a word does not refuse, at none of its entries and not at its end
 pub record IsAccepted {R : Type 0} (rules : Rules R) (entries : List Timed) : Type 0 where

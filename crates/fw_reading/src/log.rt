@@ -5,8 +5,7 @@ ghost use Rattle.fw_outside.specs.Stops.{ReadCount, WriteCount};
 ghost use Rattle.fw_entry.specs.declared.entry.Timed.{Timed as TimedEntry};
 ghost use Rattle.fw_log.specs.History.{HasRead};
 ghost use Rattle.fw_log.specs.Reader.{total};
-ghost use Rattle.fw_reading.specs.Endings.{stop_of, Reads, IsComplete};
-ghost use Rattle.fw_reading.specs.Readings.{IsAccepted};
+ghost use Rattle.fw_reading.specs.Endings.{stop_of, Reads, ReadsLog};
 ghost use Rattle.fw_reading.specs.Pieces.{EndsLog};
 
 use crate::piece::{print, print_bytes};
@@ -95,8 +94,8 @@ fn read_pieces<O: Reading, S: Source, K: Sink>(
 
 /// Reads a log to its end, and writes what a word makes of it.
 ///
-/// What the entries give that ended is written before more is read. A call takes at most 4,095 bytes behind the byte that shows a
-/// fault of the log, and 4,096 behind an entry that is refused.
+/// What the entries give that ended is written before more is read. A call takes at most 4,095 bytes after the byte that shows a
+/// fault of the log, and 4,096 after an entry that is refused.
 pub fn read_log<O: Reading, S: Source, K: Sink>(
     alloc: Global,
     output: O,
@@ -105,10 +104,8 @@ pub fn read_log<O: Reading, S: Source, K: Sink>(
 ) -> LogEnding<O::Refusal>
     requires took { O.took output [] }
     requires empty { O.gathered output ≡ [] }
-    ensures reads { Reads (O.form output) O.rules (S.left source.old) (S.left source.new) (K.held sink.old) (K.held sink.new) result }
-    ensures read_count { ReadCount (S.faults source.old) (S.faults source.new) (stop_of result) }
-    ensures write_count { WriteCount (K.faults sink.old) (K.faults sink.new) (stop_of result) }
-    ensures complete { IsComplete (IsAccepted O.rules) (S.left source.old) result }
+    ensures { ReadsLog (O.form output) O.rules (record { left = S.left; faults = S.faults; old = source.old; new = source.new })
+        (record { held = K.held; faults = K.faults; old = sink.old; new = sink.new }) result }
 {
     let Ok(mut reader) = LogReader::new(alloc) else {
         return LogEnding::Stopped(Stop::NoMemory);

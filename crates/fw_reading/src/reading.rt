@@ -7,7 +7,7 @@ ghost use Rattle.fw_entry.specs.declared.entry.Timed.{Timed as TimedEntry};
 ghost use Rattle.fw_log.specs.History.{HasRead};
 ghost use Rattle.fw_log.specs.Passing.{CountsUp};
 ghost use Rattle.fw_log.specs.Reader.{total};
-ghost use Rattle.fw_reading.specs.Readings.{Form, Rules, IsEach, TakesEntry, Passes, Closes};
+ghost use Rattle.fw_reading.specs.Readings.{Form, Rules, IsEach, IsAccepted, TakesEntry, Passes, Closes};
 
 use crate::Closing;
 use fw_log::{LogReader, Room, Timed};
@@ -22,7 +22,7 @@ pub trait Reading: Drop {
     /// What it writes while a log is read.
     ghost form: { Self → Form };
 
-    /// Which entries it goes on behind, which entry and which log it refuses, and what it writes at a log's end.
+    /// Which entries it goes on after, which entry and which log it refuses, what it writes at a log's end, and which logs it reads whole.
     ghost rules: { Rules Self.Refusal };
 
     /// It took these entries.
@@ -84,6 +84,9 @@ pub trait Reading: Drop {
     /// The text of entries is that of each of them, one after another.
     ghost each: { (s : Self) → IsEach (form s).text };
 
-    /// It goes on behind the entries that it took.
+    /// It goes on after the entries that it took.
     ghost accepted: { (s : Self) (entries : List TimedEntry) → took s entries → rules.accepts entries };
+
+    /// It refuses no log that it is to read whole.
+    ghost unrefused: { (entries : List TimedEntry) → rules.completes entries → IsAccepted rules entries };
 }

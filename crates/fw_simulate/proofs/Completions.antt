@@ -1,5 +1,6 @@
 -- Where nothing is refused and nothing fails, all is done.
 use Rattle.std.proofs.Common.{◌≡◌, ◌≢◌, ℕ, List, ◌++◌, true, false, Option, Some, None, Err, ap, sym, subst, ◌∙◌}
+use Rattle.fw_outside.specs.declared.stop.Stop.TheVariants.{ReadFault, WriteFault, TooLong, NoMemory}
 use Rattle.fw_script.specs.Script.{IsScript}
 use Rattle.fw_script.specs.declared.ScriptFault.{ScriptFault}
 use Rattle.fw_script.specs.declared.ScriptFault.TheVariants as Fault
@@ -12,7 +13,7 @@ use Rattle.fw_run.specs.State.{State}
 use Rattle.fw_run.specs.Desks.{DeskRelations}
 use Rattle.fw_run.specs.Rules.{Decides}
 use Rattle.fw_simulate.specs.declared.ending.RunEnding.{RunEnding}
-use Rattle.fw_simulate.specs.declared.ending.RunEnding.TheVariants.{Done, Refused, ReadFault, WriteFault, TooLong, NoMemory}
+use Rattle.fw_simulate.specs.declared.ending.RunEnding.TheVariants.{Done, Refused, Stopped}
 use Rattle.fw_simulate.specs.declared.ending.Refusal.{Refusal}
 use Rattle.fw_simulate.specs.declared.ending.Refusal.TheVariants.{BadLine, LineTooLong, NoEnd, Rule}
 use Rattle.fw_simulate.specs.Scripts.{IsValid, IsNoRefusal}
@@ -73,9 +74,9 @@ run_completes D script left left' held held' Done d told v = tt
 run_completes D script left left' held held' (Refused x) d told v =
     let P : Option (List ℕ) → Type 0 = λ l. Runs D l left' held held' (Refused x) in
     never_refused D script left' held held' x.why x.line (subst P told d) v
-run_completes D script left left' held held' TooLong d told v =
+run_completes D script left left' held held' (Stopped TooLong) d told v =
     let P : Option (List ℕ) → Type 0 = λ l. RefusesLine D l left' held held' Fault.TooLong d.line in
     no_line script left' held held' Fault.TooLong d.line (subst P told d.refused) v
-run_completes D script left left' held held' ReadFault d told v = tt
-run_completes D script left left' held held' WriteFault d told v = tt
-run_completes D script left left' held held' NoMemory d told v = tt
+run_completes D script left left' held held' (Stopped ReadFault) d told v = tt
+run_completes D script left left' held held' (Stopped WriteFault) d told v = tt
+run_completes D script left left' held held' (Stopped NoMemory) d told v = tt

@@ -2,6 +2,7 @@
 use Rattle.std.proofs.Common.{◌≡◌, ◌≢◌, ℕ, ◌≤◌, List, [], ◌++◌, length, Option, Some, refl, ap, sym, subst, ◌∙◌, arith}
 use Rattle.std.specs.Prelude.{IsFalse}
 use Rattle.fw_outside.specs.Outside.{Rose}
+use Rattle.fw_outside.specs.declared.stop.Stop.TheVariants.{ReadFault, WriteFault, TooLong, NoMemory}
 use Rattle.fw_entry.specs.Log.{header_bytes, latest_epoch}
 use Rattle.fw_entry.specs.declared.version.Version.TheVariants.{Two}
 use Rattle.fw_entry.specs.declared.entry.Timed.{Timed}
@@ -19,7 +20,7 @@ use Rattle.fw_simulate.specs.Going.{Going, Carried, Ends}
 use Rattle.fw_simulate.specs.Scripts.{IsValid, IsNoRefusal}
 use Rattle.fw_simulate.specs.Sums.{in_memory, Counted, HasCounted, Sums, Summed, log_of}
 use Rattle.fw_simulate.specs.declared.ending.RunEnding.{RunEnding}
-use Rattle.fw_simulate.specs.declared.ending.RunEnding.TheVariants.{Done, Refused, ReadFault, WriteFault, TooLong, NoMemory}
+use Rattle.fw_simulate.specs.declared.ending.RunEnding.TheVariants.{Done, Refused, Stopped}
 use Rattle.fw_simulate.proofs.Steps.{Mirrors}
 use Rattle.fw_simulate.proofs.Goings.{going_first}
 use Rattle.fw_simulate.proofs.Completions.{never_refused}
@@ -74,13 +75,13 @@ counted_ends D script now written log bus tally Done short counts read d = recor
   counts = subst (λ (l : List Timed). Counts l tally) (sym d.same) counts;
 }
 counted_ends D script now written log bus tally (Refused r) short counts read d = record { left = Some now; written = written; refuses = d }
-counted_ends D script now written log bus tally ReadFault short counts read d = none read
+counted_ends D script now written log bus tally (Stopped ReadFault) short counts read d = none read
   where
     none : Rose 0 0 → ⊥
     none h = omega (arith, h)
-counted_ends D script now written log bus tally WriteFault short counts read d = tt
-counted_ends D script now written log bus tally TooLong short counts read d = within script (Some now) (Some []) (Some written) short d
-counted_ends D script now written log bus tally NoMemory short counts read d = tt
+counted_ends D script now written log bus tally (Stopped WriteFault) short counts read d = tt
+counted_ends D script now written log bus tally (Stopped TooLong) short counts read d = within script (Some now) (Some []) (Some written) short d
+counted_ends D script now written log bus tally (Stopped NoMemory) short counts read d = tt
 
 -- ---- the summary
 
@@ -95,10 +96,10 @@ summed_up {D} seed script tally held held' e same h text = by e (text (log_of wa
     by : (e : RunEnding) → Summed (log_of was.was) held held' e → Sums D seed held held' e
     by Done d = record { was = was.was; grew = d }
     by (Refused r) d = absurd d
-    by ReadFault d = absurd d
-    by WriteFault d = record { was = was.was; grew = d }
-    by TooLong d = absurd d
-    by NoMemory d = d
+    by (Stopped ReadFault) d = absurd d
+    by (Stopped WriteFault) d = record { was = was.was; grew = d }
+    by (Stopped TooLong) d = absurd d
+    by (Stopped NoMemory) d = d
 
 -- nothing was written where the run did not come to its end
 pub unwritten : (D : DeskRelations) (seed : ℕ) (script : List ℕ) (tally : Tally) (held : Option (List ℕ)) (e : RunEnding) → script ≡ script_of seed → e ≢ Done → Counted D script tally e → Sums D seed held held e
@@ -107,24 +108,24 @@ unwritten D seed script tally held e same other h = by e other (subst (λ (s : L
     by : (e : RunEnding) → e ≢ Done → Counted D (script_of seed) tally e → Sums D seed held held e
     by Done n d = absurd (n refl)
     by (Refused r) n d = (d, refl)
-    by ReadFault n d = absurd d
-    by WriteFault n d = absurd d
-    by TooLong n d = absurd d
-    by NoMemory n d = refl
+    by (Stopped ReadFault) n d = absurd d
+    by (Stopped WriteFault) n d = absurd d
+    by (Stopped TooLong) n d = absurd d
+    by (Stopped NoMemory) n d = refl
 
 pub no_write_fault : (D : DeskRelations) (count : ℕ) (script : List ℕ) (tally : Tally) (e : RunEnding) → Counted D script tally e → WriteCount count count e
 no_write_fault D count script tally Done d = refl
 no_write_fault D count script tally (Refused r) d = refl
-no_write_fault D count script tally ReadFault d = refl
-no_write_fault D count script tally WriteFault d = absurd d
-no_write_fault D count script tally TooLong d = refl
-no_write_fault D count script tally NoMemory d = refl
+no_write_fault D count script tally (Stopped ReadFault) d = refl
+no_write_fault D count script tally (Stopped WriteFault) d = absurd d
+no_write_fault D count script tally (Stopped TooLong) d = refl
+no_write_fault D count script tally (Stopped NoMemory) d = refl
 
 -- no line of a valid script is refused
 pub sums_no_refusal : (D : DeskRelations) (seed : ℕ) (held held' : Option (List ℕ)) (e : RunEnding) → Sums D seed held held' e → IsValid (script_of seed) → IsNoRefusal e
 sums_no_refusal D seed held held' Done d v = tt
 sums_no_refusal D seed held held' (Refused r) d v = never_refused D (script_of seed) d.0.left (Some []) (Some d.0.written) r.why r.line d.0.refuses v
-sums_no_refusal D seed held held' ReadFault d v = tt
-sums_no_refusal D seed held held' WriteFault d v = tt
-sums_no_refusal D seed held held' TooLong d v = absurd d
-sums_no_refusal D seed held held' NoMemory d v = tt
+sums_no_refusal D seed held held' (Stopped ReadFault) d v = tt
+sums_no_refusal D seed held held' (Stopped WriteFault) d v = tt
+sums_no_refusal D seed held held' (Stopped TooLong) d v = absurd d
+sums_no_refusal D seed held held' (Stopped NoMemory) d v = tt

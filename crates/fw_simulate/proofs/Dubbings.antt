@@ -1,6 +1,7 @@
 -- A run in memory whose log is kept nowhere, and its reel.
 use Rattle.std.proofs.Common.{◌≡◌, ◌≢◌, ℕ, List, [], Option, Some, refl, subst}
 use Rattle.std.specs.Prelude.{IsFalse}
+use Rattle.fw_outside.specs.declared.stop.Stop.TheVariants.{ReadFault, WriteFault, TooLong, NoMemory}
 use Rattle.fw_entry.specs.Log.{header_bytes}
 use Rattle.fw_entry.specs.declared.version.Version.TheVariants.{Two}
 use Rattle.fw_entry.specs.declared.entry.Timed.{Timed}
@@ -15,7 +16,7 @@ use Rattle.fw_simulate.specs.Going.{Going, Ends}
 use Rattle.fw_simulate.specs.Scripts.{IsValid, IsNoRefusal}
 use Rattle.fw_simulate.specs.Sums.{in_memory}
 use Rattle.fw_simulate.specs.declared.ending.RunEnding.{RunEnding}
-use Rattle.fw_simulate.specs.declared.ending.RunEnding.TheVariants.{Done, Refused, ReadFault, WriteFault, TooLong, NoMemory}
+use Rattle.fw_simulate.specs.declared.ending.RunEnding.TheVariants.{Done, Refused, Stopped}
 use Rattle.fw_simulate.proofs.Completions.{run_completes}
 use Rattle.fw_simulate.proofs.Goings.{going_first}
 
@@ -41,18 +42,18 @@ recorded_ends D left left' written log bus Done d = record {
   fresh = d.fresh;
 }
 recorded_ends D left left' written log bus (Refused r) d = (written, d)
-recorded_ends D left left' written log bus ReadFault d = (written, d)
-recorded_ends D left left' written log bus WriteFault d = tt
-recorded_ends D left left' written log bus TooLong d = (written, d)
-recorded_ends D left left' written log bus NoMemory d = tt
+recorded_ends D left left' written log bus (Stopped ReadFault) d = (written, d)
+recorded_ends D left left' written log bus (Stopped WriteFault) d = tt
+recorded_ends D left left' written log bus (Stopped TooLong) d = (written, d)
+recorded_ends D left left' written log bus (Stopped NoMemory) d = tt
 
 pub reads_in_memory : (old new : ℕ) (e : RunEnding) → ReadCount old new e → ReadCount old new (in_memory e)
 reads_in_memory old new Done r = r
 reads_in_memory old new (Refused x) r = r
-reads_in_memory old new ReadFault r = r
-reads_in_memory old new WriteFault r = r
-reads_in_memory old new TooLong r = r
-reads_in_memory old new NoMemory r = r
+reads_in_memory old new (Stopped ReadFault) r = r
+reads_in_memory old new (Stopped WriteFault) r = r
+reads_in_memory old new (Stopped TooLong) r = r
+reads_in_memory old new (Stopped NoMemory) r = r
 
 -- ---- the word
 
@@ -64,42 +65,42 @@ reel_written D left left' held held' bus reel e h same w = by e (subst (λ (r : 
     by : (e : RunEnding) → WritesReel h.was.ran.logged.state.dub.reel held held' e → Dubs D left left' held held' e
     by Done w = (h.was, w)
     by (Refused r) w = absurd w
-    by ReadFault w = absurd w
-    by WriteFault w = (h.was, w)
-    by TooLong w = absurd w
-    by NoMemory w = absurd w
+    by (Stopped ReadFault) w = absurd w
+    by (Stopped WriteFault) w = (h.was, w)
+    by (Stopped TooLong) w = absurd w
+    by (Stopped NoMemory) w = absurd w
 
 -- nothing was written where the run did not come to its end
 pub nothing_dubbed : (D : DeskRelations) (left left' held : Option (List ℕ)) (bus : Standing) (e : RunEnding) → e ≢ Done → Recorded D left left' bus e → Dubs D left left' held held e
 nothing_dubbed D left left' held bus Done other d = absurd (other refl)
 nothing_dubbed D left left' held bus (Refused r) other d = (d, refl)
-nothing_dubbed D left left' held bus ReadFault other d = (d, refl)
-nothing_dubbed D left left' held bus WriteFault other d = absurd d
-nothing_dubbed D left left' held bus TooLong other d = (d, refl)
-nothing_dubbed D left left' held bus NoMemory other d = refl
+nothing_dubbed D left left' held bus (Stopped ReadFault) other d = (d, refl)
+nothing_dubbed D left left' held bus (Stopped WriteFault) other d = absurd d
+nothing_dubbed D left left' held bus (Stopped TooLong) other d = (d, refl)
+nothing_dubbed D left left' held bus (Stopped NoMemory) other d = refl
 
 pub no_write_counted : (D : DeskRelations) (left left' : Option (List ℕ)) (bus : Standing) (count : ℕ) (e : RunEnding) → Recorded D left left' bus e → WriteCount count count e
 no_write_counted D left left' bus count Done d = refl
 no_write_counted D left left' bus count (Refused r) d = refl
-no_write_counted D left left' bus count ReadFault d = refl
-no_write_counted D left left' bus count WriteFault d = absurd d
-no_write_counted D left left' bus count TooLong d = refl
-no_write_counted D left left' bus count NoMemory d = refl
+no_write_counted D left left' bus count (Stopped ReadFault) d = refl
+no_write_counted D left left' bus count (Stopped WriteFault) d = absurd d
+no_write_counted D left left' bus count (Stopped TooLong) d = refl
+no_write_counted D left left' bus count (Stopped NoMemory) d = refl
 
 -- no line of a valid script is refused
 pub dub_completes : (D : DeskRelations) (script : List ℕ) (left left' held held' : Option (List ℕ)) (e : RunEnding) → Dubs D left left' held held' e → left ≡ Some script → IsValid script → IsNoRefusal e
 dub_completes D script left left' held held' Done d told v = tt
 dub_completes D script left left' held held' (Refused r) d told v = run_completes D script left left' (Some []) (Some d.0.0) (Refused r) d.0.1 told v
-dub_completes D script left left' held held' ReadFault d told v = tt
-dub_completes D script left left' held held' WriteFault d told v = tt
-dub_completes D script left left' held held' TooLong d told v = run_completes D script left left' (Some []) (Some d.0.0) TooLong d.0.1 told v
-dub_completes D script left left' held held' NoMemory d told v = tt
+dub_completes D script left left' held held' (Stopped ReadFault) d told v = tt
+dub_completes D script left left' held held' (Stopped WriteFault) d told v = tt
+dub_completes D script left left' held held' (Stopped TooLong) d told v = run_completes D script left left' (Some []) (Some d.0.0) (Stopped TooLong) d.0.1 told v
+dub_completes D script left left' held held' (Stopped NoMemory) d told v = tt
 
 -- reading counts as it did, where the reel is written or not
 pub reads_with : (old new : ℕ) (reel : List (List ℕ)) (held held' : Option (List ℕ)) (e : RunEnding) → new ≡ old → WritesReel reel held held' e → ReadCount old new e
 reads_with old new reel held held' Done same w = same
 reads_with old new reel held held' (Refused r) same w = absurd w
-reads_with old new reel held held' ReadFault same w = absurd w
-reads_with old new reel held held' WriteFault same w = same
-reads_with old new reel held held' TooLong same w = absurd w
-reads_with old new reel held held' NoMemory same w = absurd w
+reads_with old new reel held held' (Stopped ReadFault) same w = absurd w
+reads_with old new reel held held' (Stopped WriteFault) same w = same
+reads_with old new reel held held' (Stopped TooLong) same w = absurd w
+reads_with old new reel held held' (Stopped NoMemory) same w = absurd w

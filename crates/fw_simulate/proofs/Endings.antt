@@ -265,7 +265,4 @@ pub ends_runs : {D : DeskRelations} {left mid held held1 : Option (List ℕ)} {o
     → Ends D left left' held held' g.log after e → Runs D left left' held held' e
 ends_runs left' held' g after Endings.Done d = d.all
 ends_runs left' held' g after (Endings.Refused r) d = d
-ends_runs left' held' g after Endings.ReadFault d = d
-ends_runs left' held' g after Endings.WriteFault d = d
-ends_runs left' held' g after Endings.TooLong d = d
-ends_runs left' held' g after Endings.NoMemory d = d
+ends_runs left' held' g after (Endings.Stopped stop) d = d

@@ -1,26 +1,23 @@
 -- The first fault decides: which counts of faults rise in a call.
 use Rattle.std.specs.Prelude.{◌≡◌, ℕ, Option, Some, None}
-use Rattle.fw_outside.specs.Outside.{Rose}
+use Rattle.fw_outside.specs.Stops as Stops
+use Rattle.fw_outside.specs.declared.stop.Stop.{Stop}
 use Rattle.fw_simulate.specs.declared.ending.RunEnding.{RunEnding}
-use Rattle.fw_simulate.specs.declared.ending.RunEnding.TheVariants.{Done, Refused, ReadFault, WriteFault, TooLong, NoMemory}
+use Rattle.fw_simulate.specs.declared.ending.RunEnding.TheVariants.{Done, Refused, Stopped}
+
+-- why a call stopped, if it did
+abbrev pub stop_of : RunEnding → Option Stop
+stop_of Done = None
+stop_of (Refused refused) = None
+stop_of (Stopped stop) = Some stop
 
 -- The source's count of faults rises where a read failed, and stays with each other ending.
 abbrev pub ReadCount : ℕ → ℕ → RunEnding → Type 0
-ReadCount old new Done = new ≡ old
-ReadCount old new (Refused r) = new ≡ old
-ReadCount old new ReadFault = Rose old new
-ReadCount old new WriteFault = new ≡ old
-ReadCount old new TooLong = new ≡ old
-ReadCount old new NoMemory = new ≡ old
+ReadCount old new ending = Stops.ReadCount old new (stop_of ending)
 
 -- The sink's count of faults rises where a write failed, and stays with each other ending.
 abbrev pub WriteCount : ℕ → ℕ → RunEnding → Type 0
-WriteCount old new Done = new ≡ old
-WriteCount old new (Refused r) = new ≡ old
-WriteCount old new ReadFault = new ≡ old
-WriteCount old new WriteFault = Rose old new
-WriteCount old new TooLong = new ≡ old
-WriteCount old new NoMemory = new ≡ old
+WriteCount old new ending = Stops.WriteCount old new (stop_of ending)
 
 -- the same of a step, with which the run may go on
 abbrev pub ReadsOn : ℕ → ℕ → Option RunEnding → Type 0

@@ -1,13 +1,14 @@
 -- What each ending of `dub` says of the input and of what was written: the reel of the run in place of its log, which is kept nowhere.
 use Rattle.std.specs.Prelude.{◌≡◌, ℕ, List, [], Option, Some, IsFalse, ⊤}
 use Rattle.fw_outside.specs.Outside.{Grows, AppendsFront}
+use Rattle.fw_outside.specs.declared.stop.Stop.TheVariants.{ReadFault, WriteFault, TooLong, NoMemory}
 use Rattle.fw_dub.specs.Reels.{bytes_of}
 use Rattle.fw_run.specs.Desks.{DeskRelations}
 use Rattle.fw_run.specs.Recorded.{AreRecorded}
 use Rattle.fw_run.specs.State.{first_state}
 use Rattle.fw_bus.specs.Buses.{Standing, StandsFor}
 use Rattle.fw_simulate.specs.declared.ending.RunEnding.{RunEnding}
-use Rattle.fw_simulate.specs.declared.ending.RunEnding.TheVariants.{Done, Refused, ReadFault, WriteFault, TooLong, NoMemory}
+use Rattle.fw_simulate.specs.declared.ending.RunEnding.TheVariants.{Done, Refused, Stopped}
 use Rattle.fw_simulate.specs.Ending.{Logged, Refuses, PassesScriptLimit, Interrupted}
 
 -- A script was run to its end in memory: what `run` says of it, with a sink of its own that was empty. Each block of the reel was recorded
@@ -37,10 +38,10 @@ pub record HasRecorded (D : DeskRelations) (left left' : Option (List ℕ)) (bus
 abbrev pub Recorded : DeskRelations → Option (List ℕ) → Option (List ℕ) → Standing → RunEnding → Type 0
 Recorded D left left' bus Done = HasRecorded D left left' bus
 Recorded D left left' bus (Refused r) = InMemory (λ none all. Refuses D left left' none all r)
-Recorded D left left' bus ReadFault = InMemory (Interrupted D left left')
-Recorded D left left' bus WriteFault = ⊥
-Recorded D left left' bus TooLong = InMemory (PassesScriptLimit D left left')
-Recorded D left left' bus NoMemory = ⊤
+Recorded D left left' bus (Stopped ReadFault) = InMemory (Interrupted D left left')
+Recorded D left left' bus (Stopped WriteFault) = ⊥
+Recorded D left left' bus (Stopped TooLong) = InMemory (PassesScriptLimit D left left')
+Recorded D left left' bus (Stopped NoMemory) = ⊤
 
 -- ---- the reel
 
@@ -48,10 +49,10 @@ Recorded D left left' bus NoMemory = ⊤
 abbrev pub WritesReel : List (List ℕ) → Option (List ℕ) → Option (List ℕ) → RunEnding → Type 0
 WritesReel reel held held' Done = Grows held held' (bytes_of reel)
 WritesReel reel held held' (Refused r) = ⊥
-WritesReel reel held held' ReadFault = ⊥
-WritesReel reel held held' WriteFault = AppendsFront held held' (bytes_of reel)
-WritesReel reel held held' TooLong = ⊥
-WritesReel reel held held' NoMemory = ⊥
+WritesReel reel held held' (Stopped ReadFault) = ⊥
+WritesReel reel held held' (Stopped WriteFault) = AppendsFront held held' (bytes_of reel)
+WritesReel reel held held' (Stopped TooLong) = ⊥
+WritesReel reel held held' (Stopped NoMemory) = ⊥
 
 -- ---- the word
 
@@ -59,7 +60,7 @@ WritesReel reel held held' NoMemory = ⊥
 abbrev pub Dubs : DeskRelations → Option (List ℕ) → Option (List ℕ) → Option (List ℕ) → Option (List ℕ) → RunEnding → Type 0
 Dubs D left left' held held' Done = (was : WasRecorded D left left') × Grows held held' (reel_of was)
 Dubs D left left' held held' (Refused r) = InMemory (λ none all. Refuses D left left' none all r) × (held' ≡ held)
-Dubs D left left' held held' ReadFault = InMemory (Interrupted D left left') × (held' ≡ held)
-Dubs D left left' held held' WriteFault = (was : WasRecorded D left left') × AppendsFront held held' (reel_of was)
-Dubs D left left' held held' TooLong = InMemory (PassesScriptLimit D left left') × (held' ≡ held)
-Dubs D left left' held held' NoMemory = held' ≡ held
+Dubs D left left' held held' (Stopped ReadFault) = InMemory (Interrupted D left left') × (held' ≡ held)
+Dubs D left left' held held' (Stopped WriteFault) = (was : WasRecorded D left left') × AppendsFront held held' (reel_of was)
+Dubs D left left' held held' (Stopped TooLong) = InMemory (PassesScriptLimit D left left') × (held' ≡ held)
+Dubs D left left' held held' (Stopped NoMemory) = held' ≡ held

@@ -1,6 +1,7 @@
 -- What each ending of a run says of the input and of the log.
 use Rattle.std.specs.Prelude.{◌≡◌, ℕ, ◌+◌, ◌<◌, ◌≤◌, List, [], ◌++◌, length, Option, Some, None, Ok, Err}
 use Rattle.fw_outside.specs.Outside.{Takes, Grows, IsAtEnd, AppendsFront}
+use Rattle.fw_outside.specs.declared.stop.Stop.TheVariants.{ReadFault, WriteFault, TooLong, NoMemory}
 use Rattle.fw_entry.specs.Log.{header_bytes, LogOpens, LogSpells}
 use Rattle.fw_entry.specs.declared.version.Version.TheVariants.{Two}
 use Rattle.fw_entry.specs.declared.entry.Timed.{Timed}
@@ -28,7 +29,7 @@ use Rattle.fw_run.specs.Recovery.{RecoversThroughout}
 use Rattle.fw_run.specs.Settling.{RoundsSuffice}
 use Rattle.fw_run.specs.Withheld.{WithholdsThroughout}
 use Rattle.fw_simulate.specs.declared.ending.RunEnding.{RunEnding}
-use Rattle.fw_simulate.specs.declared.ending.RunEnding.TheVariants.{Done, Refused, ReadFault, WriteFault, TooLong, NoMemory}
+use Rattle.fw_simulate.specs.declared.ending.RunEnding.TheVariants.{Done, Refused, Stopped}
 use Rattle.fw_simulate.specs.declared.ending.Refused.{Refused as RefusedLine}
 use Rattle.fw_simulate.specs.declared.ending.Refusal.{Refusal}
 use Rattle.fw_simulate.specs.declared.ending.Refusal.TheVariants.{BadLine, LineTooLong, NoEnd, Rule}
@@ -157,15 +158,15 @@ pub record PartLogged (D : DeskRelations) (left left' held held' : Option (List 
 abbrev pub Runs : DeskRelations → Option (List ℕ) → Option (List ℕ) → Option (List ℕ) → Option (List ℕ) → RunEnding → Type 0
 Runs D left left' held held' Done = Logged D left left' held held'
 Runs D left left' held held' (Refused r) = Refuses D left left' held held' r
-Runs D left left' held held' TooLong = PassesScriptLimit D left left' held held'
-Runs D left left' held held' WriteFault = PartLogged D left left' held held'
-Runs D left left' held held' ReadFault = Interrupted D left left' held held'
-Runs D left left' held held' NoMemory = (left' ≡ left) × (held' ≡ held)
+Runs D left left' held held' (Stopped TooLong) = PassesScriptLimit D left left' held held'
+Runs D left left' held held' (Stopped WriteFault) = PartLogged D left left' held held'
+Runs D left left' held held' (Stopped ReadFault) = Interrupted D left left' held held'
+Runs D left left' held held' (Stopped NoMemory) = (left' ≡ left) × (held' ≡ held)
 
 -- the ending by a fault of the script at this line
 abbrev pub ending_by : ScriptFault → ℕ → RunEnding
 ending_by Fault.BadLine line = Refused (record { line = line; why = BadLine })
 ending_by Fault.LineTooLong line = Refused (record { line = line; why = LineTooLong })
 ending_by Fault.NoEnd line = Refused (record { line = line; why = NoEnd })
-ending_by Fault.ReadFault line = ReadFault
-ending_by Fault.TooLong line = TooLong
+ending_by Fault.ReadFault line = Stopped ReadFault
+ending_by Fault.TooLong line = Stopped TooLong

@@ -2,8 +2,8 @@
 use Rattle.std.specs.Prelude.{◌≡◌, ℕ, ◌+◌, List, ◌∷◌, ◌++◌, None, Err}
 use Rattle.fw_entry.specs.declared.entry.Timed.{Timed}
 use Rattle.fw_simulate.specs.declared.ending.RunEnding.{RunEnding}
-use Rattle.fw_simulate.specs.declared.ending.RunEnding.TheVariants as Endings
-use Rattle.fw_simulate.specs.declared.ending.RunEnding.TheVariants.{Done, Refused, WriteFault, NoMemory}
+use Rattle.fw_outside.specs.declared.stop.Stop.TheVariants as Stops
+use Rattle.fw_simulate.specs.declared.ending.RunEnding.TheVariants.{Done, Refused, Stopped}
 use Rattle.fw_script.specs.Reading.{Reading, GivesFirst}
 use Rattle.fw_script.specs.Script.{IsScript, start_of}
 use Rattle.fw_script.specs.Leading.{Leads}
@@ -43,7 +43,7 @@ pub record IsValid (script : List ℕ) : Type 0 where
 abbrev pub IsNoRefusal : RunEnding → Type 0
 IsNoRefusal Done = Unit {0}
 IsNoRefusal (Refused r) = ⊥
-IsNoRefusal Endings.ReadFault = Unit {0}
-IsNoRefusal WriteFault = Unit {0}
-IsNoRefusal Endings.TooLong = ⊥
-IsNoRefusal NoMemory = Unit {0}
+IsNoRefusal (Stopped Stops.ReadFault) = Unit {0}
+IsNoRefusal (Stopped Stops.WriteFault) = Unit {0}
+IsNoRefusal (Stopped Stops.TooLong) = ⊥
+IsNoRefusal (Stopped Stops.NoMemory) = Unit {0}

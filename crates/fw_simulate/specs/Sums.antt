@@ -1,6 +1,7 @@
 -- What running a seed's script gives.
 use Rattle.std.specs.Prelude.{◌≡◌, ℕ, List, [], Option, Some}
 use Rattle.fw_outside.specs.Outside.{Grows, AppendsFront}
+use Rattle.fw_outside.specs.declared.stop.Stop.TheVariants.{ReadFault, WriteFault, TooLong, NoMemory}
 use Rattle.fw_entry.specs.declared.entry.Timed.{Timed}
 use Rattle.fw_gen.specs.Gen.{script_of}
 use Rattle.fw_gen.specs.Summary.{summary_of, Counts}
@@ -9,7 +10,7 @@ use Rattle.fw_run.specs.Desks.{DeskRelations}
 use Rattle.fw_simulate.specs.Ending.{Logged, Refuses}
 use Rattle.fw_simulate.specs.declared.ending.Refused.{Refused as RefusedLine}
 use Rattle.fw_simulate.specs.declared.ending.RunEnding.{RunEnding}
-use Rattle.fw_simulate.specs.declared.ending.RunEnding.TheVariants.{Done, Refused, ReadFault, WriteFault, TooLong, NoMemory}
+use Rattle.fw_simulate.specs.declared.ending.RunEnding.TheVariants.{Done, Refused, Stopped}
 
 -- A script that was run to its end in memory: what `run` says of it over a source of these bytes, of
 -- which none are left, and an empty sink.
@@ -39,19 +40,19 @@ pub record HasCounted (D : DeskRelations) (script : List ℕ) (tally : Tally) : 
 abbrev pub in_memory : RunEnding → RunEnding
 in_memory Done = Done
 in_memory (Refused r) = Refused r
-in_memory ReadFault = ReadFault
-in_memory WriteFault = NoMemory
-in_memory TooLong = TooLong
-in_memory NoMemory = NoMemory
+in_memory (Stopped ReadFault) = Stopped ReadFault
+in_memory (Stopped WriteFault) = Stopped NoMemory
+in_memory (Stopped TooLong) = Stopped TooLong
+in_memory (Stopped NoMemory) = Stopped NoMemory
 
 -- Reads of memory and writes to it do not fail, and no script that is made passes the limit.
 abbrev pub Counted : DeskRelations → List ℕ → Tally → RunEnding → Type 0
 Counted D script tally Done = HasCounted D script tally
 Counted D script tally (Refused r) = WasRefused D script r
-Counted D script tally ReadFault = ⊥
-Counted D script tally WriteFault = ⊥
-Counted D script tally TooLong = ⊥
-Counted D script tally NoMemory = Unit {0}
+Counted D script tally (Stopped ReadFault) = ⊥
+Counted D script tally (Stopped WriteFault) = ⊥
+Counted D script tally (Stopped TooLong) = ⊥
+Counted D script tally (Stopped NoMemory) = Unit {0}
 
 -- ---- the summary of a seed's run
 
@@ -70,16 +71,16 @@ pub record PartSummed (D : DeskRelations) (seed : ℕ) (held held' : Option (Lis
 abbrev pub Sums : DeskRelations → ℕ → Option (List ℕ) → Option (List ℕ) → RunEnding → Type 0
 Sums D seed held held' Done = HasSummed D seed held held'
 Sums D seed held held' (Refused r) = WasRefused D (script_of seed) r × (held' ≡ held)
-Sums D seed held held' ReadFault = ⊥
-Sums D seed held held' WriteFault = PartSummed D seed held held'
-Sums D seed held held' TooLong = ⊥
-Sums D seed held held' NoMemory = held' ≡ held
+Sums D seed held held' (Stopped ReadFault) = ⊥
+Sums D seed held held' (Stopped WriteFault) = PartSummed D seed held held'
+Sums D seed held held' (Stopped TooLong) = ⊥
+Sums D seed held held' (Stopped NoMemory) = held' ≡ held
 
 -- what writing the summary of a log does
 abbrev pub Summed : List Timed → Option (List ℕ) → Option (List ℕ) → RunEnding → Type 0
 Summed log held held' Done = Grows held held' (summary_of log)
 Summed log held held' (Refused r) = ⊥
-Summed log held held' ReadFault = ⊥
-Summed log held held' WriteFault = AppendsFront held held' (summary_of log)
-Summed log held held' TooLong = ⊥
-Summed log held held' NoMemory = held' ≡ held
+Summed log held held' (Stopped ReadFault) = ⊥
+Summed log held held' (Stopped WriteFault) = AppendsFront held held' (summary_of log)
+Summed log held held' (Stopped TooLong) = ⊥
+Summed log held held' (Stopped NoMemory) = held' ≡ held

@@ -1,4 +1,5 @@
 use fw_bus::RuleFault;
+use fw_outside::Stop;
 
 /// How a call that runs a script ends.
 #[derive(Clone, Copy)]
@@ -7,14 +8,8 @@ pub enum RunEnding {
     Done,
     /// The first line that is refused, by its form or by a rule of the bus.
     Refused(Refused),
-    /// A read failed.
-    ReadFault,
-    /// A write failed.
-    WriteFault,
-    /// The script passes 1,048,576 bytes, and nothing within them is refused.
-    TooLong,
-    /// Memory ran out.
-    NoMemory,
+    /// A read or a write failed, the script passes 1,048,576 bytes and nothing within them is refused, or memory ran out.
+    Stopped(Stop),
 }
 
 /// A refused line, by its number from 1.

@@ -13,7 +13,7 @@ use crate::seed::in_memory;
 use crate::step::carry_next;
 use fw_bus::Bus;
 use fw_dub::Reel;
-use fw_outside::{Failed, Sink, Source};
+use fw_outside::{Failed, Sink, Source, Stop};
 use fw_script::ScriptReader;
 use fw_tape::Desk;
 use std::alloc::Global;
@@ -47,7 +47,7 @@ fn record_run<S: Source, F: Fn(u16, u32, u16) -> [u8; 480], H: Fn(u32, u8) -> u8
     ensures read_count { ReadCount (S.faults source.old) (S.faults source.new) result }
 {
     let Ok(mut reader) = ScriptReader::new(alloc) else {
-        return RunEnding::NoMemory;
+        return RunEnding::Stopped(Stop::NoMemory);
     };
     loop {
         if let Some(ending) = carry_next(&mut reader, bus, source, &mut Nowhere, desk) {
@@ -63,7 +63,7 @@ fn write_reel<K: Sink>(reel: &Reel, sink: &mut K) -> RunEnding
 {
     match reel.write(sink) {
         Ok(()) => RunEnding::Done,
-        Err(Failed) => RunEnding::WriteFault,
+        Err(Failed) => RunEnding::Stopped(Stop::WriteFault),
     }
 }
 
@@ -85,7 +85,7 @@ pub fn dub<S: Source, K: Sink, F: Fn(u16, u32, u16) -> [u8; 480], H: Fn(u32, u8)
     ensures write_count { WriteCount (K.faults sink.old) (K.faults sink.new) result }
 {
     let Ok(mut bus) = Bus::new(alloc) else {
-        return RunEnding::NoMemory;
+        return RunEnding::Stopped(Stop::NoMemory);
     };
     match record_run(alloc, source, &mut bus, desk) {
         RunEnding::Done => write_reel(bus.reel(), sink),

@@ -8,7 +8,7 @@ use crate::ending::RunEnding;
 use crate::step::carry_next;
 use fw_bus::Bus;
 use fw_entry::{Version, write_header};
-use fw_outside::{Sink, Source};
+use fw_outside::{Sink, Source, Stop};
 use fw_script::ScriptReader;
 use fw_tape::Desk;
 use std::alloc::Global;
@@ -30,13 +30,13 @@ pub fn run<S: Source, K: Sink, F: Fn(u16, u32, u16) -> [u8; 480], H: Fn(u32, u8)
     ensures write_count { WriteCount (K.faults sink.old) (K.faults sink.new) result }
 {
     let Ok(mut bus) = Bus::new(alloc) else {
-        return RunEnding::NoMemory;
+        return RunEnding::Stopped(Stop::NoMemory);
     };
     let Ok(mut reader) = ScriptReader::new(alloc) else {
-        return RunEnding::NoMemory;
+        return RunEnding::Stopped(Stop::NoMemory);
     };
     let Ok(()) = write_header(Version::Two, sink) else {
-        return RunEnding::WriteFault;
+        return RunEnding::Stopped(Stop::WriteFault);
     };
     loop {
         if let Some(ending) = carry_next(&mut reader, &mut bus, source, sink, desk) {

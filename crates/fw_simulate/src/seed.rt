@@ -13,7 +13,7 @@ use crate::ending::RunEnding;
 use crate::step::carry_next;
 use fw_bus::Bus;
 use fw_gen::{GrowSink, ScriptSource, Tally, gen_script};
-use fw_outside::{Failed, Sink};
+use fw_outside::{Failed, Sink, Stop};
 use fw_script::ScriptReader;
 use fw_tape::Desk;
 use std::alloc::Global;
@@ -23,7 +23,7 @@ pub(crate) fn in_memory(ending: RunEnding) -> RunEnding
     ensures { result ≡ in_memory ending }
 {
     match ending {
-        RunEnding::WriteFault => RunEnding::NoMemory,
+        RunEnding::Stopped(Stop::WriteFault) => RunEnding::Stopped(Stop::NoMemory),
         _ => ending,
     }
 }
@@ -43,10 +43,10 @@ fn count_run<F: Fn(u16, u32, u16) -> [u8; 480], H: Fn(u32, u8) -> u8>(
     ensures { Counted (record { blocks = F.post desk.now.blocks; vendor = H.post desk.now.vendor }) script.items tally.new result }
 {
     let Ok(mut bus) = Bus::new(alloc) else {
-        return RunEnding::NoMemory;
+        return RunEnding::Stopped(Stop::NoMemory);
     };
     let Ok(mut reader) = ScriptReader::new(alloc) else {
-        return RunEnding::NoMemory;
+        return RunEnding::Stopped(Stop::NoMemory);
     };
     let mut source = ScriptSource::new(script);
     let mut sink = GrowSink::new(alloc);
@@ -55,7 +55,7 @@ fn count_run<F: Fn(u16, u32, u16) -> [u8; 480], H: Fn(u32, u8) -> u8>(
             return in_memory(ending);
         }
         let Ok(()) = tally.take(sink.as_slice()) else {
-            return RunEnding::NoMemory;
+            return RunEnding::Stopped(Stop::NoMemory);
         };
         sink.clear();
     }
@@ -67,11 +67,11 @@ fn write_summary<K: Sink>(alloc: Global, tally: &Tally, sink: &mut K) -> RunEndi
     ensures counts { WriteCount (K.faults sink.old) (K.faults sink.new) result }
 {
     let Ok(summary) = tally.summary(alloc) else {
-        return RunEnding::NoMemory;
+        return RunEnding::Stopped(Stop::NoMemory);
     };
     match sink.write(summary.as_bytes()) {
         Ok(()) => RunEnding::Done,
-        Err(Failed) => RunEnding::WriteFault,
+        Err(Failed) => RunEnding::Stopped(Stop::WriteFault),
     }
 }
 
@@ -90,7 +90,7 @@ pub fn run_seed<K: Sink, F: Fn(u16, u32, u16) -> [u8; 480], H: Fn(u32, u8) -> u8
     ensures write_count { WriteCount (K.faults sink.old) (K.faults sink.new) result }
 {
     let Ok(script) = gen_script(alloc, seed) else {
-        return RunEnding::NoMemory;
+        return RunEnding::Stopped(Stop::NoMemory);
     };
     let mut tally = Tally::new();
     match count_run(alloc, script, &mut tally, desk) {

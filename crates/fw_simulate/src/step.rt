@@ -9,7 +9,7 @@ ghost use Rattle.fw_simulate.specs.Going.{Going, IsUnderWay, StepsOn};
 
 use crate::ending::{Refusal, Refused, RunEnding};
 use fw_bus::{Bus, BusFault};
-use fw_outside::{Sink, Source};
+use fw_outside::{Sink, Source, Stop};
 use fw_script::{ScriptFault, ScriptReader};
 use fw_tape::Desk;
 
@@ -27,8 +27,8 @@ fn ending_of(fault: ScriptFault, line: u32) -> RunEnding
         ScriptFault::BadLine => refused(line, Refusal::BadLine),
         ScriptFault::LineTooLong => refused(line, Refusal::LineTooLong),
         ScriptFault::NoEnd => refused(line, Refusal::NoEnd),
-        ScriptFault::ReadFault => RunEnding::ReadFault,
-        ScriptFault::TooLong => RunEnding::TooLong,
+        ScriptFault::ReadFault => RunEnding::Stopped(Stop::ReadFault),
+        ScriptFault::TooLong => RunEnding::Stopped(Stop::TooLong),
     }
 }
 
@@ -65,6 +65,6 @@ pub(crate) fn carry_next<
     match bus.apply(&command, sink, desk) {
         Ok(()) => None,
         Err(BusFault::Refused(rule)) => Some(refused(reader.line(), Refusal::Rule(rule))),
-        Err(BusFault::WriteFault) => Some(RunEnding::WriteFault),
+        Err(BusFault::WriteFault) => Some(RunEnding::Stopped(Stop::WriteFault)),
     }
 }

@@ -24,28 +24,25 @@ use Rattle.fw_tool.specs.Completing.{IsDoneOrUnmet}
 pub run_completes : (e : RunEnding) → IsNoRefusal e → by_run e ≢ Stopped ReadFault → by_run e ≢ Stopped WriteFault → IsDoneOrUnmet (by_run e)
 run_completes RunEndings.Done n r w = inl refl
 run_completes (RunEndings.Refused f) n r w = absurd n
-run_completes RunEndings.ReadFault n r w = absurd (r refl)
-run_completes RunEndings.WriteFault n r w = absurd (w refl)
-run_completes RunEndings.TooLong n r w = absurd n
-run_completes RunEndings.NoMemory n r w = inr refl
+run_completes (RunEndings.Stopped ReadFault) n r w = absurd (r refl)
+run_completes (RunEndings.Stopped WriteFault) n r w = absurd (w refl)
+run_completes (RunEndings.Stopped TooLong) n r w = absurd n
+run_completes (RunEndings.Stopped NoMemory) n r w = inr refl
 
 -- the counts of a word that runs a script
 pub first_of_run : (read read' written written' : ℕ) (e : RunEnding) → ReadCount read read' e → WriteCount written written' e → FirstFault read read' written written' (by_run e)
 first_of_run read read' written written' RunEndings.Done r w = (r, w)
 first_of_run read read' written written' (RunEndings.Refused f) r w = (r, w)
-first_of_run read read' written written' RunEndings.ReadFault r w = (r, w)
-first_of_run read read' written written' RunEndings.WriteFault r w = (r, w)
-first_of_run read read' written written' RunEndings.TooLong r w = (r, w)
-first_of_run read read' written written' RunEndings.NoMemory r w = (r, w)
+first_of_run read read' written written' (RunEndings.Stopped stop) r w = (r, w)
 
 -- one that runs a seed's script reads nothing
 pub first_of_seed : (D : DeskRelations) (seed : ℕ) (held held' : Option (List ℕ)) (read written written' : ℕ) (e : RunEnding) → Sums D seed held held' e → WriteCount written written' e → FirstFault read read written written' (by_run e)
 first_of_seed D seed held held' read written written' RunEndings.Done d w = (refl, w)
 first_of_seed D seed held held' read written written' (RunEndings.Refused f) d w = (refl, w)
-first_of_seed D seed held held' read written written' RunEndings.ReadFault d w = absurd d
-first_of_seed D seed held held' read written written' RunEndings.WriteFault d w = (refl, w)
-first_of_seed D seed held held' read written written' RunEndings.TooLong d w = absurd d
-first_of_seed D seed held held' read written written' RunEndings.NoMemory d w = (refl, w)
+first_of_seed D seed held held' read written written' (RunEndings.Stopped ReadFault) d w = absurd d
+first_of_seed D seed held held' read written written' (RunEndings.Stopped WriteFault) d w = (refl, w)
+first_of_seed D seed held held' read written written' (RunEndings.Stopped TooLong) d w = absurd d
+first_of_seed D seed held held' read written written' (RunEndings.Stopped NoMemory) d w = (refl, w)
 
 -- the same of a seed that is the same
 pub seed_same : (D : DeskRelations) (held held' : Option (List ℕ)) (e : RunEnding) (n m : ℕ) → n ≡ m → Sums D n held held' e → Sums D m held held' e
@@ -54,10 +51,10 @@ seed_same D held held' e n m same d = subst (λ (k : ℕ). Sums D k held held' e
 never_read : (D : DeskRelations) (seed : ℕ) (held held' : Option (List ℕ)) (e : RunEnding) → Sums D seed held held' e → by_run e ≢ Stopped ReadFault
 never_read D seed held held' RunEndings.Done d is = cc
 never_read D seed held held' (RunEndings.Refused f) d is = cc
-never_read D seed held held' RunEndings.ReadFault d is = d
-never_read D seed held held' RunEndings.WriteFault d is = cc
-never_read D seed held held' RunEndings.TooLong d is = cc
-never_read D seed held held' RunEndings.NoMemory d is = cc
+never_read D seed held held' (RunEndings.Stopped ReadFault) d is = d
+never_read D seed held held' (RunEndings.Stopped WriteFault) d is = cc
+never_read D seed held held' (RunEndings.Stopped TooLong) d is = cc
+never_read D seed held held' (RunEndings.Stopped NoMemory) d is = cc
 
 pub seed_completes : (D : DeskRelations) (seed : ℕ) (held held' : Option (List ℕ)) (e : RunEnding) → Sums D seed held held' e → IsNoRefusal e → by_run e ≢ Stopped WriteFault → IsDoneOrUnmet (by_run e)
 seed_completes D seed held held' e d n w = run_completes e n (never_read D seed held held' e d) w

@@ -5,11 +5,11 @@ use Rattle.std.proofs.lemmas.Fmt.{parse-decimal}
 use Rattle.std.specs.Str.Parse.{ParsesUnsigned}
 use Rattle.fw_entry.specs.declared.entry.ResetEntry.{ResetEntry}
 use Rattle.fw_entry.specs.declared.entry.Timed.{Timed}
-use Rattle.fw_entry.specs.declared.version.Version.TheVariants.{One, Two}
+use Rattle.fw_entry.specs.declared.version.Version.TheVariants.{One}
 use Rattle.fw_decode.specs.Words.{Accepts}
 use Rattle.fw_decode.specs.Verdicts.{IsSoundLog}
-use Rattle.fw_decode.specs.declared.word.LogWord.{LogWord}
-use Rattle.fw_decode.specs.declared.word.LogWord.TheVariants.{Decode, Explain, Json, Dv, Convert, Audit, Map, Graph}
+use Rattle.fw_decode.specs.declared.LogWord.{LogWord}
+use Rattle.fw_decode.specs.declared.LogWord.TheVariants.{Convert, Audit, Map, Graph}
 use Rattle.fw_simulate.specs.declared.word.ScriptWord.TheVariants.{Run, Dub}
 use Rattle.fw_decode.specs.Maps.{HasTree}
 use Rattle.fw_decode.specs.Trees.{last_reset}
@@ -36,15 +36,8 @@ many_words (a ∷ b ∷ []) many w e h = omega (arith, many)
 many_words (a ∷ b ∷ c ∷ more) many (Script Run) e h = cc e
 many_words (a ∷ b ∷ c ∷ more) many (Script Dub) e h = cc e
 many_words (a ∷ b ∷ c ∷ more) many (Gen seed) e h = cc e
-many_words (a ∷ b ∷ c ∷ more) many (Log Decode) e h = cc e
-many_words (a ∷ b ∷ c ∷ more) many (Log Explain) e h = cc e
-many_words (a ∷ b ∷ c ∷ more) many (Log Json) e h = cc e
-many_words (a ∷ b ∷ c ∷ more) many (Log Dv) e h = cc e
 many_words (a ∷ b ∷ c ∷ more) many (Log (Convert One)) e h = cc e
-many_words (a ∷ b ∷ c ∷ more) many (Log (Convert Two)) e h = cc e
-many_words (a ∷ b ∷ c ∷ more) many (Log Audit) e h = cc e
-many_words (a ∷ b ∷ c ∷ more) many (Log Map) e h = cc e
-many_words (a ∷ b ∷ c ∷ more) many (Log Graph) e h = cc e
+many_words (a ∷ b ∷ c ∷ more) many (Log _) e h = cc e
 many_words (a ∷ b ∷ c ∷ more) many (About Help) (inl e) h = cc e
 many_words (a ∷ b ∷ c ∷ more) many (About Help) (inr (inl e)) h = cc e
 many_words (a ∷ b ∷ c ∷ more) many (About Help) (inr (inr e)) h = cc e
@@ -60,11 +53,7 @@ some_reset (Some r) some = (r, refl)
 
 pub run_accepted : (word : LogWord) (entries : List Timed) → IsSoundLog entries → ((r : ResetEntry) → last_reset entries ≡ Some r → HasTree entries) → HasItsReset word entries
     → Accepts word entries
-run_accepted Decode entries sound trees has = tt
-run_accepted Explain entries sound trees has = tt
-run_accepted Json entries sound trees has = tt
-run_accepted Dv entries sound trees has = tt
-run_accepted (Convert v) entries sound trees has = tt
 run_accepted Audit entries sound trees has = sound
 run_accepted Map entries sound trees has = let r = some_reset (last_reset entries) has in trees r.0 r.1
 run_accepted Graph entries sound trees has = let r = some_reset (last_reset entries) has in trees r.0 r.1
+run_accepted _ entries sound trees has = tt

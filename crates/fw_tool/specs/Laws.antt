@@ -10,20 +10,15 @@ use Rattle.fw_reading.specs.declared.ending.LogEnding.{LogEnding}
 use Rattle.fw_decode.specs.Words.{form_by, rules_by}
 use Rattle.fw_decode.specs.declared.refusal.LogRefusal.{LogRefusal}
 use Rattle.fw_decode.specs.Trees.{last_reset}
-use Rattle.fw_decode.specs.declared.word.LogWord.{LogWord}
-use Rattle.fw_decode.specs.declared.word.LogWord.TheVariants.{Decode, Explain, Json, Dv, Convert, Audit, Map, Graph}
+use Rattle.fw_decode.specs.declared.LogWord.{LogWord}
+use Rattle.fw_decode.specs.declared.LogWord.TheVariants.{Map, Graph}
 use Rattle.fw_simulate.specs.Ending.{Logged}
 
--- a map is asked only of a log with a bus reset
+-- a map is asked only of a log with a bus reset, and any other word of any log
 abbrev pub HasItsReset : LogWord → List Timed → Type 0
-HasItsReset Decode log = ⊤
-HasItsReset Explain log = ⊤
-HasItsReset Json log = ⊤
-HasItsReset Dv log = ⊤
-HasItsReset (Convert version) log = ⊤
-HasItsReset Audit log = ⊤
 HasItsReset Map log = last_reset log ≢ None
 HasItsReset Graph log = last_reset log ≢ None
+HasItsReset _ log = ⊤
 
 -- where a source tells the log of a whole run over a desk, within the limit of logs, no word that reads it refuses it: an audit finds
 -- no fault in it, and it has its map where it has a bus reset: so it has one as soon as a device was declared

@@ -1,5 +1,4 @@
 -- How a word that runs a script ends, as an ending of a call.
-use Rattle.fw_outside.specs.declared.stop.Stop.TheVariants.{ReadFault, WriteFault, TooLong, NoMemory}
 use Rattle.fw_simulate.specs.declared.ending.RunEnding.{RunEnding}
 use Rattle.fw_simulate.specs.declared.ending.RunEnding.TheVariants as RunEndings
 use Rattle.fw_tool.specs.declared.ending.Ending.{Ending}
@@ -9,7 +8,4 @@ use Rattle.fw_tool.specs.declared.ending.Ending.TheVariants.{Done, Refused, Stop
 abbrev pub by_run : RunEnding → Ending
 by_run RunEndings.Done = Done
 by_run (RunEndings.Refused refused) = Refused refused
-by_run RunEndings.ReadFault = Stopped ReadFault
-by_run RunEndings.WriteFault = Stopped WriteFault
-by_run RunEndings.TooLong = Stopped TooLong
-by_run RunEndings.NoMemory = Stopped NoMemory
+by_run (RunEndings.Stopped stop) = Stopped stop

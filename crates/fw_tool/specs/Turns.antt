@@ -1,13 +1,7 @@
 -- What a call is seen by: its source, its sink and its notes, before and after it.
 use Rattle.std.specs.Prelude.{ℕ, List, Option, Bool, IsTrue}
 use Rattle.fw_outside.specs.Outside.{Rose}
-
--- a source of any kind: the bytes that are left, where it tells them, how often it has failed, and what it was and is
-pub record SourceTurn (S : Type 0) : Type 0 where
-  pub left : S → Option (List ℕ)
-  pub faults : S → ℕ
-  pub old : S
-  pub new : S
+pub use Rattle.fw_reading.specs.Turns.{SourceTurn}
 
 -- a sink of any kind: the bytes that were written, where it tells them, those that it keeps back, whether it passes each piece on at once,
 -- how often it has failed, and what it was and is

@@ -4,7 +4,6 @@ ghost use Rattle.std.specs.Prelude.{◌≡◌};
 ghost use Rattle.fw_tool.specs.Runs.{by_run};
 
 use crate::ending::Ending;
-use fw_outside::Stop;
 use fw_simulate::RunEnding;
 
 /// How a call ends whose word has run a script to this ending.
@@ -14,9 +13,6 @@ pub(crate) fn ending_of_run(ending: RunEnding) -> Ending
     match ending {
         RunEnding::Done => Ending::Done,
         RunEnding::Refused(refused) => Ending::Refused(refused),
-        RunEnding::ReadFault => Ending::Stopped(Stop::ReadFault),
-        RunEnding::WriteFault => Ending::Stopped(Stop::WriteFault),
-        RunEnding::TooLong => Ending::Stopped(Stop::TooLong),
-        RunEnding::NoMemory => Ending::Stopped(Stop::NoMemory),
+        RunEnding::Stopped(stop) => Ending::Stopped(stop),
     }
 }

@@ -33,10 +33,7 @@ fn closed(ending: Ending, flushed: Result<(), Failed>) -> Ending
 ///
 /// `help` and `version`, with `--help`, `-h`, `--version` and `-V`, write what the program says of itself, and read nothing.
 ///
-/// The other words read a log of at most 268,435,456 bytes. `decode`, `explain` and `json` write one line for each entry as the entry
-/// ends: its raw quadlets, words, or an object; and `dv` at the log's end one line for each channel that has isochronous packets.
-/// `convert 1` and `convert 2` write the entries as a log of that version; `audit` writes how many entries there are where the registers
-/// that they show ran as a sound account; `map` writes the tree of the last bus reset, and `map dot` the same tree as a graph.
+/// The other words read a log of at most 268,435,456 bytes, and write what `LogWord` says of each.
 pub fn fire<S: Source, K: Flush, N: Sink, F: Fn(u16, u32, u16) -> [u8; 480], H: Fn(u32, u8) -> u8>(
     alloc: Global,
     words: &[String],

@@ -11,7 +11,7 @@ pub enum Word {
     Script(ScriptWord),
     /// `gen NUMBER`: to run the script that the number makes.
     Gen(u32),
-    /// `decode`, `explain`, `json`, `dv`, `convert 1`, `convert 2`, `audit`, `map` or `map dot`: to read a log.
+    /// A word of `LogWord`: to read a log.
     Log(LogWord),
     /// `help` or `version`, in their spellings: to say so of the program itself.
     About(About),

@@ -1,12 +1,22 @@
-use Rattle.fw_reading.proofs.Completions.{is_complete}
-use Rattle.fw_reading.proofs.Decodings.{part_nothing}
+use Rattle.std.proofs.Common.{refl}
+use Rattle.fw_reading.proofs.Completions.{is_complete, complete_by}
+use Rattle.fw_reading.proofs.Decodings.{nothing_read}
 use Rattle.fw_reading.proofs.log.read_log.Goals as goal
 
-pub returns-in_default-clause-reads : goal.returns-in_default-clause-reads
-returns-in_default-clause-reads g c = part_nothing (g.O.Reading.form c.args.output) (g.S.Source.left c.args.source.now) (g.K.Sink.held c.args.sink.now)
+pub returns-in_default : goal.returns-in_default
+returns-in_default g c = nothing_read (g.O.Reading.form c.args.output) g.O.Reading.rules _ _ refl refl
 
-pub returns-in_default-new-clause-reads : goal.returns-in_default-new-clause-reads
-returns-in_default-new-clause-reads g c = part_nothing (g.O.Reading.form c.args.output) (g.S.Source.left c.args.source.now) (g.K.Sink.held c.args.sink.now)
+pub returns-in_default-new : goal.returns-in_default-new
+returns-in_default-new g c = nothing_read (g.O.Reading.form c.args.output) g.O.Reading.rules _ _ refl refl
 
-pub returns-clause-complete : goal.returns-clause-complete
-returns-clause-complete g c = is_complete (g.O.Reading.form c.args.output) g.O.Reading.rules _ _ _ _ c.read_pieces.result c.read_pieces.ensures.reads
+pub returns : goal.returns
+returns g c =
+    let read = c.read_pieces.ensures in
+    record {
+      reads = read.reads;
+      read_count = read.read_count;
+      write_count = read.write_count;
+      complete = complete_by g.O.Reading.rules g.O.Reading.rules.completes (g.S.Source.left c.args.source.now) c.read_pieces.result g.met.O.Reading.unrefused
+          (is_complete (g.O.Reading.form c.args.output) g.O.Reading.rules (g.S.Source.left c.args.source.now) (g.S.Source.left c.read_pieces.new.source) (g.K.Sink.held c.args.sink.now) (g.K.Sink.held c.read_pieces.new.sink)
+          c.read_pieces.result read.reads);
+    }

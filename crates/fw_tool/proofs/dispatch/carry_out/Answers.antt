@@ -3,7 +3,7 @@ use Rattle.fw_gen.specs.Gen.{script_of}
 use Rattle.fw_run.specs.Desks.{DeskRelations}
 use Rattle.fw_reading.specs.Endings.{Reads}
 use Rattle.fw_decode.specs.Words.{form_by, rules_by, Accepts}
-use Rattle.fw_decode.specs.declared.word.LogWord.{LogWord}
+use Rattle.fw_decode.specs.declared.LogWord.{LogWord}
 use Rattle.fw_simulate.specs.Scripts.{IsValid}
 use Rattle.fw_tool.specs.About.{about_text, IsSaid}
 use Rattle.fw_tool.specs.Faults.{FirstFault}

@@ -3,8 +3,7 @@ use Rattle.fw_entry.specs.Log.{header_bytes}
 use Rattle.fw_entry.specs.declared.version.Version.TheVariants.{Two}
 use Rattle.fw_run.specs.Giving.{log_bytes}
 use Rattle.fw_reading.proofs.Completions.{is_complete}
-use Rattle.fw_decode.specs.Words.{form_by, rules_by}
-use Rattle.fw_decode.proofs.WordLaws.{accepts_by}
+use Rattle.fw_decode.specs.Words.{form_by, rules_by, accepts_by}
 use Rattle.fw_tool.proofs.RunTrees.{run_tree}
 use Rattle.fw_tool.proofs.WordLaws.{run_accepted}
 use Rattle.fw_tool.proofs.laws.whole_logs_are_read.Goals as goal
