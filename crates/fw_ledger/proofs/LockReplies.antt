@@ -1,20 +1,36 @@
 -- The tables after the response to a lock request.
 use Rattle.fw_base.specs.declared.plug.PlugAt.{PlugAt}
-use Rattle.std.proofs.Common.{◌≡◌, ◌==◌, ◌&&◌, ℕ, Bool, true, false, Option, Some, None, List, length, cond, refl, sym, ◌∙◌, ap, subst, arith}
+use Rattle.std.proofs.Common.{◌≡◌, ◌<◌, ◌==◌, ◌&&◌, ℕ, Bool, true, false, Option, Some, None, List, length, cond, refl, sym, ◌∙◌, ap, subst, arith}
+use Rattle.std.specs.Option.{option_map}
 use Rattle.std.proofs.lemmas.Bool.Decides.{nat_tests}
 use Rattle.std.proofs.lemmas.Bool.{false≢true}
+use Rattle.std.proofs.lemmas.Option.{same_Some}
+use Rattle.fw_async.specs.declared.packet.Head.{Head}
 use Rattle.fw_words.specs.Quadlet.{quadlet_at}
 use Rattle.fw_words.specs.Swaps.{quadlet_swap}
 use Rattle.fw_words.specs.declared.swap.Swap.{Swap as TheSwap}
-use Rattle.fw_account.specs.Account.{Account, Request, Locks}
+use Rattle.fw_entry.specs.Network.{device_of_id}
+use Rattle.fw_account.specs.Account.{Account, Request, Reads, Locks}
 use Rattle.fw_account.specs.Moves.{Move}
-use Rattle.fw_account.specs.Words.{Register, register_of}
-use Rattle.fw_account.specs.Decode.{move_at}
-use Rattle.fw_account.specs.Packets.{Locked, ended, is_swapped, swapped, moved, replied_to, is_quadlet_swap}
-use Rattle.fw_ledger.specs.Stands.{StandsFor, AskedFor, Follows}
+use Rattle.fw_account.specs.Sound.{IsSound}
+use Rattle.fw_account.specs.Words.{Register, register_of, word_of}
+use Rattle.fw_account.specs.Decode.{IsMove, move_at}
+use Rattle.fw_account.specs.Packets.{Locked, ended, is_swapped, is_reply_to, swapped, moved, replied_to, is_quadlet_swap}
+use Rattle.fw_account.proofs.Decoded.{move_found}
+use Rattle.fw_faults.specs.Looked.{Response, Replies, IsAnswer, quadlet_in}
+use Rattle.fw_faults.specs.Faults.{IsBadSwap}
+use Rattle.fw_faults.proofs.Refusals.{IsRegisterAt, same_request}
+use Rattle.fw_faults.proofs.Verdicts.{register_placed}
+use Rattle.fw_ledger.specs.Stands.{StandsFor, AskedFor}
 use Rattle.fw_ledger.specs.Swaps.{account_after, moved_by, shows_argument}
+use Rattle.fw_ledger.specs.Swapped.{is_lock_of, swap_done, account_swapped}
+use Rattle.fw_ledger.specs.Refused.{GoesOn, IsRefusedFor, IsSwapRefused, response_in, word_asked}
+use Rattle.fw_ledger.specs.declared.refused.Refused.{Refused}
+use Rattle.fw_ledger.specs.declared.refused.Refused.TheVariants.{Orphan, NoMove}
+use Rattle.fw_ledger.specs.declared.tables.Asked.{Asked}
 use Rattle.fw_ledger.specs.declared.tables.Tables.{Tables}
-use Rattle.fw_ledger.specs.declared.tables.Asked.TheVariants.{Swap}
+use Rattle.fw_ledger.specs.declared.tables.Asked.TheVariants.{Nothing as NotAsked, Read, Swap, Lock}
+use Rattle.fw_ledger.proofs.Replies.{IsEnded, ended_answer, orphan_by}
 
 -- ---- what is asked
 
@@ -46,18 +62,6 @@ no_quadlet_swap function bytes h =
     go true false s same = refl
     go false b s same = refl
 
--- ---- the swap, and then the end of the request
-
-pub ended_after : (t mid new : Tables) (l : Account) (c : ℕ) (o : Option Register) (arg word : ℕ)
-    → Follows true t mid (account_after c o (λ r. move_at l c r arg word) l) → ((m : Account) → StandsFor mid m → StandsFor new (ended c m))
-    → Follows true t new (swapped c o arg word l)
-ended_after t mid new l c None arg word h end = (refl, end l h.1)
-ended_after t mid new l c (Some r) arg word h end = go (move_at l c r arg word) h
-  where
-    go : (o : Option (PlugAt × Move)) → Follows true t mid (moved_by c o l) → Follows true t new (moved c o l)
-    go None f = absurd (false≢true (sym f.0))
-    go (Some m) f = (refl, end _ f.1)
-
 -- ---- responses
 
 -- what a response to the request makes
@@ -76,19 +80,206 @@ pub swapped_is : (rcode argument : ℕ) (old bytes : List ℕ) → length bytes 
     → is_swapped 2 bytes rcode old ≡ shows_argument argument rcode old
 swapped_is rcode argument old bytes size e = rw (size, e) refl
 
--- the swap was made, and its request has ended
-pub swap_ended : (t mid new : Tables) (l : Account) (c source function rcode target address : ℕ) (s : TheSwap) (old : List ℕ)
-    → AskedFor (Swap target address s) (l.outstanding c) → target ≡ source → function ≡ 2 → shows_argument s.argument rcode old ≡ true
-    → Follows true t mid (account_after c (register_of l.latest target address) (λ r. move_at l c r s.argument s.new) l)
-    → ((m : Account) → StandsFor mid m → StandsFor new (ended c m))
-    → Follows true t new (replied_to c (l.outstanding c) source (Locked function rcode old) l)
-swap_ended t mid new l c source function rcode target address s old is same two shown follows end =
+-- the swap, and then the end of the request
+swap_then_end : (l : Account) (c : ℕ) (o : Option Register) (arg word : ℕ) → swapped c o arg word l ≡ option_map (ended c) (account_after c o (λ r. move_at l c r arg word) l)
+swap_then_end l c None arg word = refl
+swap_then_end l c (Some r) arg word = go (move_at l c r arg word)
+  where
+    go : (o : Option (PlugAt × Move)) → moved c o l ≡ option_map (ended c) (moved_by c o l)
+    go None = refl
+    go (Some m) = refl
+
+-- a lock of another kind or size is none
+never_swapped : (function rcode : ℕ) (bytes old : List ℕ) → is_quadlet_swap function bytes ≡ false → is_swapped function bytes rcode old ≡ false
+never_swapped function rcode bytes old e = go (function == 2) (length bytes == 8) e
+  where
+    go : (a b : Bool) → (a && b) ≡ false → (a && b && (rcode == 0) && (length old == 4) && (quadlet_at old 0 == quadlet_at bytes 0)) ≡ false
+    go true true f = absurd (false≢true (sym f))
+    go true false f = refl
+    go false b f = refl
+
+-- the request that the response ends
+pub lock_ended : (l : Account) (c : ℕ) (h : Head) (rcode function : ℕ) (old : List ℕ) (a : Asked) → AskedFor a (l.outstanding c) → is_lock_of a h.source function ≡ true
+    → IsEnded l c (response_in h rcode (Locked function rcode old) (quadlet_in old)) a
+lock_ended l c h rcode function old NotAsked is holds = absurd (false≢true holds)
+lock_ended l c h rcode function old (Read target address) is holds = absurd (false≢true holds)
+lock_ended l c h rcode function old (Swap target address s) is holds = record {
+  request = record { target = target; address = address; operation = Locks 2 is.0 };
+  outstanding = is.1;
+  asked = (is.0, refl, is.2, is.3, is.4);
+  target = grind (arith, nat_tests);
+  kind = grind (arith, nat_tests);
+}
+lock_ended l c h rcode function old (Lock target address asked) is holds = record {
+  request = record { target = target; address = address; operation = Locks asked is.0 };
+  outstanding = is.1;
+  asked = (is.0, refl, is.2);
+  target = grind (arith, nat_tests);
+  kind = grind (arith, nat_tests);
+}
+
+-- what it makes
+pub lock_next : (l : Account) (c : ℕ) (h : Head) (rcode function : ℕ) (old : List ℕ) (a : Asked) (q : Request) → l.outstanding c ≡ Some q → AskedFor a (l.outstanding c) → is_lock_of a h.source function ≡ true
+    → replied_to c (l.outstanding c) h.source (Locked function rcode old) l ≡ option_map (ended c) (account_swapped c (register_of l.latest q.target q.address) (swap_done a rcode old) l)
+lock_next l c h rcode function old NotAsked q out is holds = absurd (false≢true holds)
+lock_next l c h rcode function old (Read target address) q out is holds = absurd (false≢true holds)
+lock_next l c h rcode function old (Swap target address s) q out is holds =
     let bytes : List ℕ = is.0 in
-    let o : Option Register = register_of l.latest target address in
-    let first = subst (λ a. Follows true t mid (account_after c o (λ r. move_at l c r a s.new) l)) is.3 follows in
-    let both = subst (λ w. Follows true t mid (account_after c o (λ r. move_at l c r (quadlet_at bytes 0) w) l)) is.4 first in
-    let done = swapped_is rcode s.argument old bytes is.2 is.3 ∙ shown in
-    let result = lock_expected l c source 2 rcode old bytes (l.outstanding c) target address is.1 same ∙ ap
-    (λ b. cond b (swapped c o (quadlet_at bytes 0) (quadlet_at bytes 4) l) (Some (ended c l))) done in
-    subst (λ f. Follows true t new (replied_to c (l.outstanding c) source (Locked f rcode old) l)) (sym two)
-    (subst (λ a. Follows true t new a) (sym result) (ended_after t mid new l c o (quadlet_at bytes 0) (quadlet_at bytes 4) both end))
+    let same : target ≡ h.source = grind (arith, nat_tests) in
+    let two : function ≡ 2 = grind (arith, nat_tests) in
+    let one : record { target = target; address = address; operation = Locks 2 bytes } ≡ q = same_Some _ q (sym is.1 ∙ out) in
+    let place : register_of l.latest target address ≡ register_of l.latest q.target q.address = ap (λ (x : Request). register_of l.latest x.target x.address) one in
+    ap (λ f. replied_to c (l.outstanding c) h.source (Locked f rcode old) l) two
+    ∙ lock_expected l c h.source 2 rcode old bytes (l.outstanding c) target address is.1 same
+    ∙ ap (λ b. cond b (swapped c (register_of l.latest target address) (quadlet_at bytes 0) (quadlet_at bytes 4) l) (Some (ended c l))) (swapped_is rcode s.argument old bytes is.2 is.3)
+    ∙ ap (λ o. cond (shows_argument s.argument rcode old) (swapped c o (quadlet_at bytes 0) (quadlet_at bytes 4) l) (Some (ended c l))) place
+    ∙ ap (λ v. cond (shows_argument s.argument rcode old) (swapped c (register_of l.latest q.target q.address) v (quadlet_at bytes 4) l) (Some (ended c l))) (sym is.3)
+    ∙ ap (λ v. cond (shows_argument s.argument rcode old) (swapped c (register_of l.latest q.target q.address) s.argument v l) (Some (ended c l))) (sym is.4)
+    ∙ go (shows_argument s.argument rcode old)
+  where
+    go : (b : Bool) → cond b (swapped c (register_of l.latest q.target q.address) s.argument s.new l) (Some (ended c l))
+        ≡ option_map (ended c) (account_swapped c (register_of l.latest q.target q.address) (cond b (Some s) None) l)
+    go true = swap_then_end l c (register_of l.latest q.target q.address) s.argument s.new
+    go false = refl
+lock_next l c h rcode function old (Lock target address asked) q out is holds =
+    let same : target ≡ h.source = grind (arith, nat_tests) in
+    let kind : asked ≡ function = grind (arith, nat_tests) in
+    ap (λ f. replied_to c (l.outstanding c) h.source (Locked f rcode old) l) (sym kind)
+    ∙ lock_expected l c h.source asked rcode old is.0 (l.outstanding c) target address is.1 same
+    ∙ ap (λ b. cond b (swapped c (register_of l.latest target address) (quadlet_at is.0 0) (quadlet_at is.0 4) l) (Some (ended c l))) (never_swapped asked rcode is.0 old is.2)
+
+-- ---- refusals
+
+-- a response to a lock that is to no such request
+lock_other : (l : Account) (c source function rcode : ℕ) (old : List ℕ) (a : Asked) → AskedFor a (l.outstanding c) → is_lock_of a source function ≡ false
+    → (q : Request) → l.outstanding c ≡ Some q → q.target ≡ source → is_reply_to q.operation (Locked function rcode old) ≡ true → ⊥
+lock_other l c source function rcode old NotAsked is fails q out same kind = let clash : None ≡ Some q = sym is ∙ out in cc clash
+lock_other l c source function rcode old (Read target address) is fails q out same kind =
+    let one : record { target = target; address = address; operation = Reads } ≡ q = same_Some _ q (sym is ∙ out) in
+    false≢true (ap (λ (x : Request). is_reply_to x.operation (Locked function rcode old)) one ∙ kind)
+lock_other l c source function rcode old (Swap target address s) is fails q out same kind =
+    let one : record { target = target; address = address; operation = Locks 2 is.0 } ≡ q = same_Some _ q (sym is.1 ∙ out) in
+    let at : target ≡ source = ap (λ (x : Request). x.target) one ∙ same in
+    let of : (2 == function) ≡ true = ap (λ (x : Request). is_reply_to x.operation (Locked function rcode old)) one ∙ kind in
+    absurd (grind (arith, nat_tests))
+lock_other l c source function rcode old (Lock target address asked) is fails q out same kind =
+    let one : record { target = target; address = address; operation = Locks asked is.0 } ≡ q = same_Some _ q (sym is.1 ∙ out) in
+    let at : target ≡ source = ap (λ (x : Request). x.target) one ∙ same in
+    let of : (asked == function) ≡ true = ap (λ (x : Request). is_reply_to x.operation (Locked function rcode old)) one ∙ kind in
+    absurd (grind (arith, nat_tests))
+
+-- goes to none
+stops : (l : Account) (c source function rcode : ℕ) (old : List ℕ) (o : Option Request)
+    → ((q : Request) → o ≡ Some q → q.target ≡ source → is_reply_to q.operation (Locked function rcode old) ≡ true → ⊥) → replied_to c o source (Locked function rcode old) l ≡ None
+stops l c source function rcode old None none = refl
+stops l c source function rcode old (Some q) none = go (q.target == source) (is_reply_to q.operation (Locked function rcode old)) refl refl
+  where
+    go : (a b : Bool) → (q.target == source) ≡ a → is_reply_to q.operation (Locked function rcode old) ≡ b → replied_to c (Some q) source (Locked function rcode old) l ≡ None
+    go true true e f = absurd (none q refl (grind (arith, nat_tests)) f)
+    go true false e f = rw (e, f) refl
+    go false b e f = rw e refl
+
+pub lock_refused : (l : Account) (c : ℕ) (h : Head) (rcode function : ℕ) (old : List ℕ) (a : Asked) → device_of_id l.latest h.destination ≡ Some c → AskedFor a (l.outstanding c) → is_lock_of a h.source function ≡ false
+    → (replied_to c (l.outstanding c) h.source (Locked function rcode old) l ≡ None) × IsRefusedFor l (Replies (response_in h rcode (Locked function rcode old) (quadlet_in old))) (Orphan h.destination)
+lock_refused l c h rcode function old a d is fails =
+    let none = lock_other l c h.source function rcode old a is fails in
+    (stops l c h.source function rcode old (l.outstanding c) none, orphan_by l (response_in h rcode (Locked function rcode old) (quadlet_in old)) c d none)
+
+-- what a response shows whose swap was made
+pub record IsDone (a : Asked) (rcode : ℕ) (old : List ℕ) (s : TheSwap) : Type 0 where
+  pub target : ℕ
+  pub address : ℕ
+  pub asked : a ≡ Swap target address s
+  pub complete : rcode ≡ 0
+  pub quadlet : (length old == 4) ≡ true
+  pub shown : quadlet_at old 0 ≡ s.argument
+
+done_is : (a : Asked) (rcode : ℕ) (old : List ℕ) (s : TheSwap) → swap_done a rcode old ≡ Some s → IsDone a rcode old s
+done_is NotAsked rcode old s e = cc e
+done_is (Read target address) rcode old s e = cc e
+done_is (Lock target address function) rcode old s e = cc e
+done_is (Swap target address k) rcode old s e = go (rcode == 0) (length old == 4) (quadlet_at old 0 == k.argument) refl refl refl e
+  where
+    go : (x y z : Bool) → (rcode == 0) ≡ x → (length old == 4) ≡ y → (quadlet_at old 0 == k.argument) ≡ z → cond (x && y && z) (Some k) None ≡ Some s → IsDone (Swap target address k) rcode old s
+    go true true true ex ey ez f =
+        let one : k ≡ s = same_Some k s f in
+        let at : quadlet_at old 0 ≡ k.argument = grind (arith, nat_tests) in
+        record { target = target; address = address; asked = ap (λ v. Swap target address v) one; complete = grind (arith, nat_tests); quadlet = ey; shown = at ∙ ap (λ (v : TheSwap). v.argument) one }
+    go true true false ex ey ez f = cc f
+    go true false z ex ey ez f = cc f
+    go false y z ex ey ez f = cc f
+
+-- a swap that is no move is refused for that
+pub move_refused : (l : Account) (c : ℕ) (h : Head) (rcode function : ℕ) (old : List ℕ) (a : Asked) (f : Refused) → c < 63 → IsSound l → device_of_id l.latest h.destination ≡ Some c
+    → (x : IsEnded l c (response_in h rcode (Locked function rcode old) (quadlet_in old)) a) → IsSwapRefused l c (register_of l.latest x.request.target x.request.address) (swap_done a rcode old) f
+    → IsRefusedFor l (Replies (response_in h rcode (Locked function rcode old) (quadlet_in old))) f
+move_refused l c h rcode function old a f lt sound d x stop = subst (IsRefusedFor l (Replies r)) (sym stop.5) (bad, due)
+  where
+    r : Response
+    r = response_in h rcode (Locked function rcode old) (quadlet_in old)
+
+    register : Register
+    register = stop.0
+
+    s : TheSwap
+    s = stop.1
+
+    done : IsDone a rcode old s
+    done = done_is a rcode old s stop.3
+
+    placed : IsRegisterAt x.request.address
+    placed = register_placed l.latest x.request.target x.request.address register stop.2
+
+    swap : AskedFor (Swap done.target done.address s) (Some x.request)
+    swap = subst (λ v. AskedFor v (Some x.request)) done.asked x.asked
+
+    none : (p : PlugAt) (m : Move) → IsMove c p m register s.argument s.new l → ⊥
+    none p m is = let clash : None ≡ Some (p, m) = sym stop.4 ∙ move_found c p m register s.argument s.new l lt sound is in cc clash
+
+    bad : IsBadSwap l r s.argument s.new
+    bad = record {
+      request = x.request;
+      offset = placed.offset;
+      watched = record { answer = ended_answer l c r a d x; complete = done.complete; address = placed.place; watched = placed.watched };
+      bytes = swap.0;
+      swap = ap (λ (q : Request). q.operation) (same_Some _ _ swap.1);
+      quadlets = swap.2;
+      argument = sym swap.3;
+      value = sym swap.4;
+      shown = rw done.quadlet (ap (λ v. Some v) done.shown);
+      register = register;
+      place = stop.2;
+      none = none;
+    }
+
+    due : (k : Response) (q : Request) → Replies r ≡ Replies k → IsAnswer l k q → word_asked l q ≡ Some (word_of l register)
+    due k q same answer =
+        let one : r ≡ k = cc same in
+        let is : q ≡ x.request = same_request l r c x.request d x.outstanding q (subst (λ v. IsAnswer l v q) (sym one) answer) in
+        ap (word_asked l) is ∙ ap (option_map (word_of l)) stop.2
+
+-- ---- the whole response
+
+-- the account that the swap leaves, with its request ended
+goes : (new : Tables) (c : ℕ) (o : Option Account) (mid : Tables) → GoesOn mid o → ((m : Account) → StandsFor mid m → StandsFor new (ended c m)) → GoesOn new (option_map (ended c) o)
+goes new c None mid h end = h
+goes new c (Some m) mid h end = end m h
+
+pub lock_goes : (mid new : Tables) (l : Account) (c : ℕ) (h : Head) (rcode function : ℕ) (old : List ℕ) (a : Asked) (o : Option Register) (done : Option TheSwap)
+    → (x : IsEnded l c (response_in h rcode (Locked function rcode old) (quadlet_in old)) a) → AskedFor a (l.outstanding c) → is_lock_of a h.source function ≡ true
+    → o ≡ register_of l.latest x.request.target x.request.address → done ≡ swap_done a rcode old → GoesOn mid (account_swapped c o done l)
+    → ((m : Account) → StandsFor mid m → StandsFor new (ended c m)) → GoesOn new (replied_to c (l.outstanding c) h.source (Locked function rcode old) l)
+lock_goes mid new l c h rcode function old a o done x is holds place made on end =
+    let n = lock_next l c h rcode function old a x.request x.outstanding is holds in
+    let at = subst (λ v. GoesOn mid (account_swapped c v (swap_done a rcode old) l)) place (subst (λ v. GoesOn mid (account_swapped c o v l)) made on) in
+    subst (GoesOn new) (sym n) (goes new c (account_swapped c (register_of l.latest x.request.target x.request.address) (swap_done a rcode old) l) mid at end)
+
+pub lock_stopped : (t mid : Tables) (l : Account) (c : ℕ) (h : Head) (rcode function : ℕ) (old : List ℕ) (a : Asked) (o : Option Register) (done : Option TheSwap) (f : Refused) → c < 63 → IsSound l
+    → device_of_id l.latest h.destination ≡ Some c → (x : IsEnded l c (response_in h rcode (Locked function rcode old) (quadlet_in old)) a) → AskedFor a (l.outstanding c) → is_lock_of a h.source function ≡ true
+    → o ≡ register_of l.latest x.request.target x.request.address → done ≡ swap_done a rcode old → (account_swapped c o done l ≡ None) × (mid ≡ t) × IsSwapRefused l c o done f
+    → (replied_to c (l.outstanding c) h.source (Locked function rcode old) l ≡ None) × (mid ≡ t) × IsRefusedFor l (Replies (response_in h rcode (Locked function rcode old) (quadlet_in old))) f
+lock_stopped t mid l c h rcode function old a o done f lt sound d x is holds place made stop =
+    let n = lock_next l c h rcode function old a x.request x.outstanding is holds in
+    let none = subst (λ v. account_swapped c v (swap_done a rcode old) l ≡ None) place (subst (λ v. account_swapped c o v l ≡ None) made stop.0) in
+    let why = subst (λ v. IsSwapRefused l c v (swap_done a rcode old) f) place (subst (λ v. IsSwapRefused l c o v f) made stop.2) in
+    (n ∙ ap (option_map (ended c)) none, stop.1, move_refused l c h rcode function old a f lt sound d x why)

@@ -4,12 +4,17 @@ use Rattle.std.proofs.Common.{◌≡◌, ◌≢◌, ◌<◌, ℕ, Bool, true, fa
 use Rattle.fw_account.specs.Account.{Account, Request, has_pending, is_pending}
 use Rattle.fw_account.specs.Packets.{asked, asked_by, addressed_after}
 use Rattle.fw_account.specs.Words.{output_addressed}
-use Rattle.fw_ledger.specs.Stands.{StandsFor, AskedFor, Follows, plug_of, addressed_at, is_asked, device_at, allocation_of, charge_at}
+use Rattle.fw_account.specs.Decode.{is_plug}
+use Rattle.fw_base.proofs.Tables.{same_plug-true}
+use Rattle.fw_faults.specs.Looked.{Asks}
+use Rattle.fw_ledger.specs.Refused.{GoesOn, IsRefusedFor}
+use Rattle.fw_ledger.specs.declared.refused.Refused.TheVariants.{Overlap}
+use Rattle.fw_ledger.specs.Stands.{StandsFor, AskedFor, plug_of, addressed_at, is_asked, device_at, allocation_of, charge_at}
 use Rattle.fw_ledger.specs.declared.tables.Tables.{Tables}
 use Rattle.fw_ledger.specs.declared.tables.Addressed.{Addressed}
 use Rattle.fw_ledger.specs.declared.tables.Asked.{Asked}
 use Rattle.fw_base.specs.Tables.{update, find_to}
-use Rattle.std.proofs.lemmas.Bool.{cases_eq}
+use Rattle.std.proofs.lemmas.Bool.{cases_eq, false≢true}
 use Rattle.fw_ledger.specs.declared.tables.Addressed.TheVariants.{Nowhere}
 use Rattle.fw_ledger.specs.declared.tables.Asked.TheVariants.{Nothing as NotAsked, Read, Swap, Lock}
 use Rattle.std.specs.Option.{option_map}
@@ -97,15 +102,34 @@ none_is None = refl
 none_is (Some r) = refl
 
 -- a request by no device is refused
-pub refused_none : (t : Tables) (l : Account) (o : Option ℕ) (request : Request) → o ≡ None → Follows false t t (asked_by o request l)
-refused_none t l o request e = rw e (refl, refl)
+pub refused_none : (l : Account) (o : Option ℕ) (request : Request) → o ≡ None → asked_by o request l ≡ None
+refused_none l o request e = rw e refl
+
+-- there is one
+request_there : (o : Option Request) → is_some o ≡ true → (q : Request) × (o ≡ Some q)
+request_there None busy = absurd (false≢true busy)
+request_there (Some q) busy = (q, refl)
 
 -- a request by this device is refused beside another
-pub refused_beside : (t : Tables) (l : Account) (c : ℕ) (o : Option ℕ) (request : Request) → o ≡ Some c → is_some (l.outstanding c) ≡ true → Follows false t t (asked_by o request l)
-refused_beside t l c o request e busy = rw (e, none_is (l.outstanding c), busy) (refl, refl)
+pub refused_beside : (l : Account) (c id : ℕ) (request : Request) → device_of_id l.latest id ≡ Some c → is_some (l.outstanding c) ≡ true
+    → (asked_by (device_of_id l.latest id) request l ≡ None) × IsRefusedFor l (Asks id) (Overlap id)
+refused_beside l c id request e busy =
+    let q = request_there (l.outstanding c) busy in
+    (rw (e, none_is (l.outstanding c), busy) refl, (refl, (c, q.0, e, q.1)))
 
-pub asked_follows : (t new : Tables) (l : Account) (c : ℕ) (o : Option ℕ) (request : Request) → o ≡ Some c → is_some (l.outstanding c) ≡ false → StandsFor new (asked c request l) → Follows true t new (asked_by o request l)
-asked_follows t new l c o request e free h = rw (e, none_is (l.outstanding c), free) (refl, h)
+pub asked_follows : (new : Tables) (l : Account) (c : ℕ) (o : Option ℕ) (request : Request) → o ≡ Some c → is_some (l.outstanding c) ≡ false → StandsFor new (asked c request l) → GoesOn new (asked_by o request l)
+asked_follows new l c o request e free h = rw (e, none_is (l.outstanding c), free) h
+
+-- the same plug again
+pub addressed_again : (c : ℕ) (o : Option PlugAt) (p : PlugAt) (before : Option PlugAt) (l : Account) → o ≡ Some p → before ≡ l.addressed c → is_plug p before ≡ true → before ≡ addressed_after c o l c
+addressed_again c o p None l e is same = absurd (false≢true same)
+addressed_again c o p (Some q) l e is same =
+    let one : q ≡ p = same_plug-true q p same in
+    rw e (go (has_pending c l.allocations) one)
+  where
+    go : (b : Bool) → q ≡ p → Some q ≡ (cond b l.addressed (update l.addressed c (Some p))) c
+    go true one = is
+    go false one = ap (λ r. Some r) one ∙ sym (update_same l.addressed c c (Some p) refl)
 
 pub addressed_none : (c : ℕ) (o : Option PlugAt) (l : Account) → o ≡ None → l.addressed c ≡ addressed_after c o l c
 addressed_none c o l e = rw e refl

@@ -86,8 +86,8 @@ pub record IsReset (t : Tables) (r : ResetEntry) (new : Tables) : Type 0 where
   pub asked : (c : ℕ) → c < 63 → asked_at new.asked.items c ≡ NotAsked
 
 -- a plug without connections
-pub empty_seats : (seats : List Seats) (p : PlugAt) → AreEmpty seats → place p < 1953 → SeatsFor (seats_at seats p) no_connections
-empty_seats seats p e lt = rw (e.all (place p) lt) (record { size = refl; counts = λ c clt. let none : ℕ = 0 in copy_at {A = ℕ} 63 c none; broadcast = refl })
+pub empty_seats : (counts : List ℕ) (seats : List Seats) (p : PlugAt) → AreEmpty counts seats → place p < 1953 → p.plug < 31 → nat_lt p.plug (slice_index counts p.device) ≡ true → SeatsFor (seats_at seats p) no_connections
+empty_seats counts seats p e lt small is = rw (e.all (place p) lt (rw (place_device p small, place_plug p small) is)) (record { size = refl; counts = λ c clt. let none : ℕ = 0 in copy_at {A = ℕ} 63 c none; broadcast = refl })
 
 -- no connections are counted
 none_counted : counter no_connections ≡ 0
@@ -119,10 +119,9 @@ on_renewed t l p true runs h is run =
 -- the word of an output plug after the reset
 word_renewed : (t : Tables) (l : Account) (r : ResetEntry) (new : List ℕ) (p : PlugAt) (there : Bool) → StandsFor t l → is_output l.latest p ≡ there
     → nat_lt p.plug (slice_index new p.device) ≡ true
-    → cond there (without_connections (word_at t.outputs.items p))
-    (cond (nat_lt p.plug (slice_index new p.device)) (first_output (rate_of r.nodes r.ids p.device)) (word_at t.outputs.items p))
+    → cond (nat_lt p.plug (slice_index new p.device)) (cond there (without_connections (word_at t.outputs.items p)) (first_output (rate_of r.nodes r.ids p.device))) (word_at t.outputs.items p)
     ≡ out_word (record { broadcast = false; counter = 0; settings = cond there (l.settings p) (declared r p) })
-word_renewed t l r new p true h is now = rw (h.outputs.words p is) (output_disconnected (fields_at l p) (h.sound.settings_fit p is))
+word_renewed t l r new p true h is now = rw (now, h.outputs.words p is) (output_disconnected (fields_at l p) (h.sound.settings_fit p is))
 word_renewed t l r new p false h is now = rw now refl
 
 input_renewed : (t : Tables) (l : Account) (p : PlugAt) (there : Bool) → StandsFor t l → is_input l.latest p ≡ there
@@ -135,7 +134,9 @@ outputs_reset : (t : Tables) (l : Account) (r : ResetEntry) (new : Tables) → S
     → OutputsFor new.outputs.items new.output_seats.items (Some r) (λ p. no_connections) (after_reset r l).settings
 outputs_reset t l r new h net x = record {
   words = λ p is. word p is (output_in_range (Some r) p net.range is);
-  seats = λ p is. empty_seats new.output_seats.items p x.output_seats (place_low p (output_in_range (Some r) p net.range is));
+  seats = λ p is.
+      let low = output_in_range (Some r) p net.range is in
+      empty_seats new.outs new.output_seats.items p x.output_seats (place_low p low) low.1 (sym (x.outs p) ∙ is);
 }
   where
     word : (p : PlugAt) → is_output (Some r) p ≡ true → (p.device < 63) × (p.plug < 31)
@@ -147,15 +148,17 @@ outputs_reset t l r new h net x = record {
 inputs_reset : (t : Tables) (l : Account) (r : ResetEntry) (new : Tables) → StandsFor t l → IsNetwork r → HasNewPlugs t r new
     → InputsFor new.inputs.items new.input_seats.items (Some r) (λ p. no_connections) (after_reset r l).input_channel
 inputs_reset t l r new h net x = record {
-  words = λ p is. word p (input_in_range (Some r) p net.range is);
-  seats = λ p is. empty_seats new.input_seats.items p x.input_seats (place_low p (input_in_range (Some r) p net.range is));
+  words = λ p is. word p is (input_in_range (Some r) p net.range is);
+  seats = λ p is.
+      let low = input_in_range (Some r) p net.range is in
+      empty_seats new.ins new.input_seats.items p x.input_seats (place_low p low) low.1 (sym (x.ins p) ∙ is);
 }
   where
-    word : (p : PlugAt) → (p.device < 63) × (p.plug < 31)
+    word : (p : PlugAt) → is_input (Some r) p ≡ true → (p.device < 63) × (p.plug < 31)
         → word_at new.inputs.items p ≡ in_word (record
         { broadcast = false; counter = counter no_connections; channel = cond (is_input l.latest p) (l.input_channel p) 63 })
-    word p low = rw (none_counted, x.inputs (place p) (place_low p low), place_device p low.1, place_plug p low.1)
-        (rw (← h.plugs.ins p) (input_renewed t l p (is_input l.latest p) h refl))
+    word p is low = rw (none_counted, x.inputs (place p) (place_low p low), place_device p low.1, place_plug p low.1)
+        (rw (sym (x.ins p) ∙ is, ← h.plugs.ins p) (input_renewed t l p (is_input l.latest p) h refl))
 
 -- a test stays with one more that holds
 true_more : (b : Bool) → b ≡ (b && true)
@@ -175,7 +178,7 @@ second_reset t l r new h net x = record {
     on : (p : PlugAt) → is_output (Some r) p ≡ true → (p.device < 63) × (p.plug < 31)
         → continues_at new.continues.items p ≡ (talks l p && is_output (Some r) p)
     on p is low =
-        rw (x.plugs.continues (place p) (place_low p low), place_device p low.1, place_plug p low.1, ← h.plugs.outs p, is)
+        rw (x.plugs.continues (place p) (place_low p low), place_device p low.1, place_plug p low.1, sym (x.plugs.outs p) ∙ is, ← h.plugs.outs p, is)
         (on_renewed t l p (is_output l.latest p) t.reclaiming h refl refl ∙ true_more (talks l p))
 
 -- the tables after a bus reset

@@ -1,6 +1,7 @@
 -- The words of plugs after a bus reset.
 use Rattle.fw_base.specs.declared.plug.PlugAt.{PlugAt}
-use Rattle.std.proofs.Common.{◌≡◌, ◌<◌, ◌+◌, ◌*◌, ◌/◌, ◌%◌, ◌^◌, ◌==◌, ◌||◌, not, ℕ, false, ◌∙◌, ap, arith}
+use Rattle.std.proofs.Common.{◌≡◌, ◌<◌, ◌+◌, ◌*◌, ◌/◌, ◌%◌, ◌^◌, ◌==◌, ◌||◌, ◌≤◌, not, nat_lt, ℕ, List, slice_index, false, ◌∙◌, sym, ap, arith}
+use Rattle.std.proofs.lemmas.Bool.Decides.{nat_tests}
 use Rattle.std.proofs.lemmas.Nat.{mod_low, div-mul-add, mod-mul-add}
 use Rattle.fw_words.specs.Quadlet.{field}
 use Rattle.fw_plug.specs.Words.{OutFields, InFields, FitsRegister, flag, out_word, in_word, is_connected}
@@ -14,6 +15,16 @@ place_device p lt = div-mul-add p.device 31 p.plug lt
 
 pub place_plug : (p : PlugAt) → p.plug < 31 → place p % 31 ≡ p.plug
 place_plug p lt = mod-mul-add p.device 31 p.plug lt
+
+-- the places of a device behind its plugs have none
+pub no_plug_at : (counts : List ℕ) (d count j : ℕ) → ((n : ℕ) → n < 31 → nat_lt n count ≡ nat_lt n (slice_index counts d)) → d * 31 + count ≤ j → j < (d + 1) * 31
+    → nat_lt (j % 31) (slice_index counts (j / 31)) ≡ false
+no_plug_at counts d count j same low high =
+    let e : j / 31 ≡ d = omega arith in
+    let small : j % 31 < 31 = omega arith in
+    let far : count ≤ j % 31 = omega arith in
+    let none : nat_lt (j % 31) count ≡ false = grind (arith, nat_tests) in
+    ap (λ k. nat_lt (j % 31) (slice_index counts k)) e ∙ sym (same (j % 31) small) ∙ none
 
 -- the lower 24 bits of a word
 low_bits : (high low : ℕ) → low < 2 ^ 24 → field (high * 2 ^ 24 + low) 8 31 ≡ low

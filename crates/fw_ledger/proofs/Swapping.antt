@@ -1,7 +1,7 @@
 -- A swap that is the move that was decoded makes it, and one that is none is refused.
 use Rattle.fw_base.specs.declared.plug.PlugAt.{PlugAt}
-use Rattle.std.proofs.Common.{◌≡◌, ◌≢◌, ◌<◌, ◌+◌, ◌-◌, ◌/◌, ◌%◌, ◌⊎◌, inl, inr, ◌==◌, ◌&&◌, ℕ, Bool, true, false, Option, Some, None, List, length, get_or, set, cond, refl, sym, ◌∙◌, ap, subst, arith, get_or-set_same, get_or-set_other}
-use Rattle.std.proofs.lemmas.Bool.{cases_eq}
+use Rattle.std.proofs.Common.{◌≡◌, ◌≢◌, ◌<◌, ◌+◌, ◌-◌, ◌/◌, ◌%◌, ◌⊎◌, inl, inr, ◌==◌, ◌&&◌, ℕ, Bool, true, false, Option, Some, None, Result, Ok, Err, List, length, get_or, set, cond, refl, sym, ◌∙◌, ap, subst, arith, get_or-set_same, get_or-set_other}
+use Rattle.std.proofs.lemmas.Bool.{cases_eq, false≢true}
 use Rattle.std.proofs.lemmas.Bool.Decides.{nat_tests}
 use Rattle.fw_base.specs.Tables.{update, same_plug}
 use Rattle.fw_base.proofs.Tables.{same_plug-true, same_plug_self}
@@ -12,6 +12,8 @@ use Rattle.fw_account.specs.Decode.{IsMove, can, allowed, decoded, move_at, regi
 use Rattle.fw_account.specs.Sound.{IsSound}
 use Rattle.fw_ledger.specs.Stands.{StandsFor, Follows, ResourcesFor, allocation_of, place}
 use Rattle.fw_ledger.specs.Swaps.{moved_by}
+use Rattle.fw_ledger.specs.Refused.{GoesOn, Takes}
+use Rattle.fw_ledger.specs.declared.refused.Refused.{Refused}
 use Rattle.fw_ledger.specs.declared.tables.Charge.{Charge}
 use Rattle.fw_ledger.specs.declared.tables.Charge.TheVariants.{Free}
 use Rattle.fw_ledger.specs.declared.tables.Tables.{Tables}
@@ -69,6 +71,30 @@ pub follows_stand : (taken : Bool) (t new : Tables) (l : Account) (o : Option Ac
     → (m : Account) × StandsFor new m
 follows_stand taken t new l None h f = (l, subst (λ x. StandsFor x l) (sym f.1) h)
 follows_stand taken t new l (Some m) h f = (m, f.1)
+
+-- what was taken, or was not
+pub follows_goes : (t new : Tables) (o : Option Account) → Follows true t new o → GoesOn new o
+follows_goes t new None f = false≢true (sym f.0)
+follows_goes t new (Some m) f = f.1
+
+pub follows_stops : (t new : Tables) (o : Option Account) → Follows false t new o → (o ≡ None) × (new ≡ t)
+follows_stops t new None f = (refl, f.1)
+follows_stops t new (Some m) f = absurd (false≢true f.0)
+
+-- a swap that is no move
+pub moved_none : (t new : Tables) (l : Account) (c : ℕ) (o : Option (PlugAt × Move)) → Follows false t new (moved_by c o l) → (o ≡ None) × (moved_by c o l ≡ None) × (new ≡ t)
+moved_none t new l c None f = (refl, refl, f.1)
+moved_none t new l c (Some m) f = absurd (false≢true f.0)
+
+-- the tables stand for an account still, after an entry that was taken
+pub goes_stand : (new : Tables) (o : Option Account) → GoesOn new o → (m : Account) × StandsFor new m
+goes_stand new None h = absurd h
+goes_stand new (Some m) h = (m, h)
+
+-- or was refused
+pub takes_stand : {A : Type 0} (r : Result A Refused) (says : A → Type 0) (why : Refused → Type 0) (t new : Tables) (l : Account) (o : Option Account) → StandsFor t l → Takes r says t new o why → (m : Account) × StandsFor new m
+takes_stand (Ok a) says why t new l o h taken = goes_stand new o taken.1
+takes_stand (Err f) says why t new l o h taken = (l, subst (λ x. StandsFor x l) (sym taken.1) h)
 
 -- ---- tables that are written at one place
 

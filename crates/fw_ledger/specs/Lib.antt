@@ -3,3 +3,5 @@ pub mod Deaths
 pub mod Resets
 pub mod Renewed
 pub mod Swaps
+pub mod Swapped
+pub mod Refused

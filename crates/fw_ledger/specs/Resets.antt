@@ -32,18 +32,19 @@ first_input = in_word (record { broadcast = false; counter = 0; channel = 63 })
 abbrev pub rate_of : List NodeRow → List PhyPacket → ℕ → ℕ
 rate_of nodes ids d = speed_of (node_of_device nodes d) ids
 
--- the word of output plug n of device d, where the devices had these numbers of plugs, and have these now
+-- the word of output plug n of device d, where the devices had these numbers of plugs, and have these now; of a plug that is
+-- not there now it is not looked at
 abbrev pub renewed_output : List ℕ → List ℕ → List NodeRow → List PhyPacket → ℕ → ℕ → ℕ → ℕ
 renewed_output before now nodes ids d n word =
-    if nat_lt n (slice_index before d) then without_connections word else if nat_lt n (slice_index now d) then first_output (rate_of nodes ids d) else word
+    if nat_lt n (slice_index now d) then (if nat_lt n (slice_index before d) then without_connections word else first_output (rate_of nodes ids d)) else word
 
--- the word of input plug n of device d, where the devices had these numbers of plugs
-abbrev pub renewed_input : List ℕ → ℕ → ℕ → ℕ → ℕ
-renewed_input before d n word = if nat_lt n (slice_index before d) then without_connections word else first_input
+-- the word of input plug n of device d, likewise
+abbrev pub renewed_input : List ℕ → List ℕ → ℕ → ℕ → ℕ → ℕ
+renewed_input before now d n word = if nat_lt n (slice_index now d) then (if nat_lt n (slice_index before d) then without_connections word else first_input) else word
 
--- whether an output plug goes on talking
-abbrev pub goes_on : List ℕ → Bool → ℕ → ℕ → ℕ → Bool → Bool
-goes_on before runs d n word continues = nat_lt n (slice_index before d) && (is_connected word || (runs && continues))
+-- whether an output plug goes on talking, likewise
+abbrev pub goes_on : List ℕ → List ℕ → Bool → ℕ → ℕ → ℕ → Bool → Bool
+goes_on before now runs d n word continues = if nat_lt n (slice_index now d) then nat_lt n (slice_index before d) && (is_connected word || (runs && continues)) else continues
 
 -- the flow of a channel that may be allocated again
 abbrev pub talker : Charge → Reclaimable

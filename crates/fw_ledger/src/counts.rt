@@ -1,13 +1,15 @@
 //! How many plugs each device has, by a reset entry, and what else is set at a bus reset.
 
-ghost use Rattle.std.specs.Prelude.{◌≡◌, ◌<◌, ◌≤◌, ℕ, length, max, nat_lt, slice_index, slice_index_or, slice_set, if◌then◌else◌};
+ghost use Rattle.std.specs.Prelude.{◌≡◌, ◌<◌, ◌≤◌, ℕ, length, max, nat_lt, slice_index, slice_set, if◌then◌else◌};
 ghost use Rattle.std.specs.List.{list_any, All};
 ghost use Rattle.fw_base.specs.declared.plug.PlugAt.{PlugAt};
 ghost use Rattle.fw_entry.specs.Log.{RowFits};
 ghost use Rattle.fw_account.specs.Network.{is_output_of, is_input_of};
 ghost use Rattle.fw_ledger.specs.Resets.{talker};
-ghost use Rattle.fw_ledger.specs.Stands.{charge_at, reclaimable_at, asked_at, no_seats};
+ghost use Rattle.fw_ledger.specs.Renewed.{AreEmpty};
+ghost use Rattle.fw_ledger.specs.Stands.{charge_at, reclaimable_at, asked_at};
 
+use crate::place::plugs_of;
 use crate::tables::{Asked, Charge, Reclaimable, Seats, empty};
 use fw_entry::{NodeList, NodeRow};
 
@@ -78,13 +80,16 @@ fn talker(charge: Charge) -> Reclaimable
     }
 }
 
-/// No plug is connected.
-pub fn disconnect(plugs: &mut [Seats])
-    ensures size { length plugs.new ≡ length plugs.old }
-    ensures all { (k : ℕ) → k < length plugs.old → slice_index_or plugs.new k no_seats ≡ no_seats }
+/// No plug that the devices have is connected.
+pub fn disconnect(plugs: &mut [Seats], now: &[u8; 63])
+    requires { length plugs.old ≡ 1953 }
+    ensures { AreEmpty now.now plugs.new }
 {
-    for seats in plugs.iter_mut() {
-        *seats = empty();
+    for device in 0..63 {
+        let first = device * 31;
+        for k in first..first + plugs_of(now, device) {
+            plugs[k] = empty();
+        }
     }
 }
 

@@ -6,12 +6,16 @@ ghost use Rattle.fw_account.specs.Account.{Account, is_open};
 ghost use Rattle.fw_account.specs.Fold.{no_account, next_account};
 ghost use Rattle.fw_account.specs.Network.{is_output, is_input};
 ghost use Rattle.fw_account.specs.Words.{BandwidthAvailable, ChannelsAvailable, OutputPlug, InputPlug, word_of, register_of, id_in};
+ghost use Rattle.fw_faults.specs.Looked.{looked};
 ghost use Rattle.fw_ledger.specs.Stands.{StandsFor, AskedFor, Follows};
+ghost use Rattle.fw_ledger.specs.Refused.{GoesOn, IsRefusedFor, ShowsAnswer};
 
+use crate::answer::Answer;
+use crate::refused::Refused;
 use crate::renew::id_of_device;
 use crate::tables::{Asked, Tables};
 use fw_base::PlugAt;
-use fw_entry::Timed;
+use fw_entry::{Entry, Timed};
 use fw_plug::{InWord, OutWord};
 use std::alloc::{AllocError, Global};
 use std::marker::Model;
@@ -44,15 +48,23 @@ impl Ledger {
         })
     }
 
-    /// Takes an entry. It is refused, and the ledger unchanged, exactly where the account has no next one. No memory is
-    /// taken.
+    /// Takes an entry, and answers with the response that it is, if it is one of a procedure. It is refused, and the ledger
+    /// unchanged, exactly where the account has no next one, and for the reason that holds. No memory is taken.
+    pub fn take_entry(&mut self, e: &Entry) -> Result<Option<Answer>, Refused>
+        requires fits { Fits e.now }
+        ensures taken { (l : Account) → StandsFor self.old l → IfOk result (λ a. GoesOn self.new (next_account l e.now) × ShowsAnswer l (looked e.now) a) }
+        ensures refused { (l : Account) → StandsFor self.old l → IfErr result (λ f. (next_account l e.now ≡ None) × (self.new ≡ self.old) × IsRefusedFor l (looked e.now) f) }
+    {
+        self.tables.take_entry(e)
+    }
+
+    /// Takes an entry, as `take_entry`, and answers whether it was taken. No memory is taken.
     pub fn take(&mut self, t: &Timed) -> Result<bool, AllocError>
         requires fits { Fits t.now.what }
         ensures taken { (l : Account) → StandsFor self.old l → IsOkAnd result (λ taken. Follows taken self.old self.new (next_account l t.now.what)) }
         ensures memory { IfErr result (λ e. self.new ≡ self.old) }
     {
-        let taken = self.tables.take_entry(&t.what);
-        Ok(taken)
+        Ok(self.take_entry(&t.what).is_ok())
     }
 
     /// The units that are left: BANDWIDTH_AVAILABLE.

@@ -1,6 +1,7 @@
 //! A `Ledger` takes a log entry by entry, and tells what the registers hold: it keeps the account of the entries in tables.
 #![tactic(auto)]
 
+mod answer;
 mod channel;
 mod connection;
 mod counts;
@@ -13,6 +14,7 @@ mod output;
 mod packet;
 mod place;
 mod reads;
+mod refused;
 mod register;
 mod renew;
 mod request;
@@ -21,5 +23,7 @@ mod swap;
 mod tables;
 mod units;
 
+pub use answer::Answer;
 pub use ledger::Ledger;
+pub use refused::Refused;
 pub use tables::Asked;

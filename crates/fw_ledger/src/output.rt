@@ -133,8 +133,8 @@ impl Tables {
     }
 }
 
-// It is this plug.
-fn is_plug(addressed: Addressed, p: PlugAt) -> bool
+/// It is this plug.
+pub fn is_plug(addressed: Addressed, p: PlugAt) -> bool
     ensures { result ≡ is_plug p (plug_of addressed) }
 {
     match addressed {

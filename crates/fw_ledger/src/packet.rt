@@ -1,11 +1,15 @@
-//! Packets.
+//! Packets of procedures: requests, and the responses to reads.
 
-ghost use Rattle.std.specs.Prelude.{◌≡◌, Some};
-ghost use Rattle.fw_account.specs.Account.{Account, Reads, Locks};
-ghost use Rattle.fw_account.specs.Packets.{Read, after_request, after_reply, answered};
+ghost use Rattle.std.specs.Prelude.{◌≡◌, ◌<◌, Some};
 ghost use Rattle.fw_entry.specs.Network.{device_of_id};
-ghost use Rattle.fw_ledger.specs.Stands.{Stands, StandsFor, AskedFor, Follows, is_read_of};
+ghost use Rattle.fw_account.specs.Account.{Account, Reads, Locks};
+ghost use Rattle.fw_account.specs.Packets.{Read, after_request, after_reply, replied_to};
+ghost use Rattle.fw_faults.specs.Looked.{Asks, Replies, labelled};
+ghost use Rattle.fw_ledger.specs.Stands.{Stands, StandsFor, AskedFor, is_read_of};
+ghost use Rattle.fw_ledger.specs.Refused.{Takes, IsRefusedFor, IsAnswered, ShowsAnswer, response_in};
 
+use crate::answer::Answer;
+use crate::refused::Refused;
 use crate::tables::{Asked, Tables};
 use fw_async::Head;
 use fw_base::Label;
@@ -31,57 +35,84 @@ fn lock_asked(target: u16, address: u64, function: u8, bytes: &[u8]) -> Asked
 
 impl Tables {
     /// A read request.
-    pub fn take_read(&mut self, head: &Head, offset: u64) -> bool
+    pub fn take_read(&mut self, head: &Head, offset: u64) -> Result<Option<Answer>, Refused>
         requires stands { Stands self.old }
-        ensures { (l : Account) → StandsFor self.old l → Follows result self.old self.new (after_request head.now offset Reads l) }
+        ensures { (l : Account) → StandsFor self.old l
+            → Takes result (ShowsAnswer l (labelled head.now (Asks head.now.source))) self.old self.new (after_request head.now offset Reads l) (IsRefusedFor l (labelled head.now (Asks head.now.source))) }
     {
         if !Label::Procedure.marks(head.tl) {
-            return true;
+            return Ok(None);
         }
         let asked = Asked::Read {
             target: head.destination,
             address: offset,
         };
-        self.take_request(head.source, head.destination, offset, asked)
+        self.take_request(head.source, head.destination, offset, asked)?;
+        Ok(None)
     }
 
     /// A lock request.
-    pub fn take_lock(&mut self, head: &Head, offset: u64, function: u8, bytes: &[u8]) -> bool
+    pub fn take_lock(
+        &mut self,
+        head: &Head,
+        offset: u64,
+        function: u8,
+        bytes: &[u8],
+    ) -> Result<Option<Answer>, Refused>
         requires stands { Stands self.old }
-        ensures { (l : Account) → StandsFor self.old l → Follows result self.old self.new (after_request head.now offset (Locks function bytes.now) l) }
+        ensures { (l : Account) → StandsFor self.old l
+            → Takes result (ShowsAnswer l (labelled head.now (Asks head.now.source))) self.old self.new (after_request head.now offset (Locks function bytes.now) l) (IsRefusedFor l (labelled head.now (Asks head.now.source))) }
     {
         if !Label::Procedure.marks(head.tl) {
-            return true;
+            return Ok(None);
         }
         let asked = lock_asked(head.destination, offset, function, bytes);
-        self.take_request(head.source, head.destination, offset, asked)
+        self.take_request(head.source, head.destination, offset, asked)?;
+        Ok(None)
     }
 
-    /// The response to a read request of the node with the ID `destination`.
-    fn end_read(&mut self, destination: u16, source: u16) -> bool
+    // The response to a read request of controller `c`.
+    fn end_read(&mut self, c: u8, head: &Head, rcode: u8, value: u32) -> Result<Answer, Refused>
         requires stands { Stands self.old }
-        ensures { (l : Account) → StandsFor self.old l → Follows result self.old self.new (answered (device_of_id l.latest destination) source Read l) }
+        requires controller { c < 63 }
+        ensures { (l : Account) → StandsFor self.old l → device_of_id l.latest head.now.destination ≡ Some c
+            → Takes result (IsAnswered l (response_in head.now rcode Read (Some value))) self.old self.new (replied_to c (l.outstanding c) head.now.source Read l) (IsRefusedFor l (Replies (response_in head.now rcode Read (Some value)))) }
     {
-        let device = match self.device(destination) {
-            Some(device) => device,
-            None => return false,
-        };
-        if !is_read_of(self.outstanding(device), source) {
-            return false;
+        let asked = self.outstanding(c);
+        if !is_read_of(asked, head.source) {
+            return Err(Refused::Orphan(head.destination));
         }
-        self.asked[usize::from(device)] = Asked::Nothing;
-        true
+        let answer = Answer {
+            requester: head.destination,
+            asked,
+            rcode,
+            shown: Some(value),
+            due: self.word_in(self.register_asked(asked)),
+        };
+        self.end(c);
+        Ok(answer)
     }
 
     /// A read response.
-    pub fn take_read_reply(&mut self, head: &Head) -> bool
+    pub fn take_read_reply(
+        &mut self,
+        head: &Head,
+        rcode: u8,
+        value: u32,
+    ) -> Result<Option<Answer>, Refused>
         requires stands { Stands self.old }
-        ensures { (l : Account) → StandsFor self.old l → Follows result self.old self.new (after_reply head.now Read l) }
+        ensures { (l : Account) → StandsFor self.old l
+            → Takes result (ShowsAnswer l (labelled head.now (Replies (response_in head.now rcode Read (Some value))))) self.old self.new (after_reply head.now Read l) (IsRefusedFor l (labelled head.now (Replies (response_in head.now rcode Read (Some value))))) }
     {
         if !Label::Procedure.marks(head.tl) {
-            return true;
+            return Ok(None);
         }
-        self.end_read(head.destination, head.source)
+        let device = match self.device(head.destination) {
+            Some(device) => device,
+            None => return Err(Refused::NoNode(head.destination)),
+        };
+        let answer = self.end_read(device, head, rcode, value)?;
+        Ok(Some(answer))
     }
 }
 

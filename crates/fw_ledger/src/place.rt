@@ -1,6 +1,6 @@
 //! Where the tables have a plug, a controller's channel, a node.
 
-ghost use Rattle.std.specs.Prelude.{◌≡◌, ◌<◌, ◌+◌, ◌-◌, nat_lt, length, slice_index, IfSome, Some, None};
+ghost use Rattle.std.specs.Prelude.{◌≡◌, ◌<◌, ◌≤◌, ◌+◌, ◌-◌, ℕ, nat_lt, length, slice_index, IfSome, Some, None};
 ghost use Rattle.fw_base.specs.Tables.{find_to};
 ghost use Rattle.fw_account.specs.Account.{is_pending};
 ghost use Rattle.fw_account.specs.Words.{plug_number};
@@ -15,6 +15,16 @@ pub fn place(p: PlugAt) -> usize
     ensures { result ≡ place p }
 {
     usize::from(p.device) * 31 + usize::from(p.plug)
+}
+
+/// How many of the 31 places of a device have a plug, by how many plugs each device has.
+pub fn plugs_of(counts: &[u8; 63], device: usize) -> usize
+    requires { device < 63 }
+    ensures within { result ≤ 31 }
+    ensures plugs { (n : ℕ) → n < 31 → nat_lt n result ≡ nat_lt n (slice_index counts.now device) }
+{
+    let count = usize::from(counts[device]);
+    if count < 31 { count } else { 31 }
 }
 
 /// The plug is there, by how many plugs each device has.

@@ -5,7 +5,7 @@ ghost use Rattle.fw_entry.specs.Network.{speed_of, node_of_device};
 ghost use Rattle.fw_account.specs.Words.{id_below};
 ghost use Rattle.fw_ledger.specs.Resets.{without_connections, first_output, renewed_output, renewed_input, goes_on};
 
-use crate::place::has_plug;
+use crate::place::{has_plug, plugs_of};
 use fw_base::PlugAt;
 use fw_entry::NodeRow;
 use fw_phy::PhyPacket;
@@ -90,12 +90,13 @@ fn renewed_output(
     requires { (n : ℕ) → speed_of n ids.now < 4 }
     ensures { result ≡ renewed_output before.now now.now nodes.now ids.now p.device p.plug word }
 {
+    if !has_plug(now, p) {
+        return word;
+    }
     if has_plug(before, p) {
         without_connections(word)
-    } else if has_plug(now, p) {
-        first_output(speed_of(node_of_device(nodes, p.device), ids))
     } else {
-        word
+        first_output(speed_of(node_of_device(nodes, p.device), ids))
     }
 }
 
@@ -112,35 +113,70 @@ pub fn renew_outputs(
     ensures size { length words.new ≡ 1953 }
     ensures words { (k : ℕ) → k < 1953 → slice_index words.new k ≡ renewed_output before.now now.now nodes.now ids.now (k / 31) (k % 31) (slice_index words.old k) }
 {
-    for (k, word) in words.iter_mut().enumerate() {
-        *word = renewed_output(before, now, nodes, ids, plug_at(k), *word);
+    for device in 0..63 {
+        let first = device * 31;
+        for k in first..first + plugs_of(now, device) {
+            words[k] = renewed_output(before, now, nodes, ids, plug_at(k), words[k]);
+        }
+    }
+}
+
+// The word of an input plug after a bus reset.
+fn renewed_input(before: &[u8; 63], now: &[u8; 63], p: PlugAt, word: u32) -> u32
+    ensures { result ≡ renewed_input before.now now.now p.device p.plug word }
+{
+    if !has_plug(now, p) {
+        return word;
+    }
+    if has_plug(before, p) {
+        without_connections(word)
+    } else {
+        0x803F_0000
     }
 }
 
 /// The words of all input plugs after a bus reset.
-pub fn renew_inputs(words: &mut [u32], before: &[u8; 63])
+pub fn renew_inputs(words: &mut [u32], before: &[u8; 63], now: &[u8; 63])
     requires size { length words.old ≡ 1953 }
     ensures size { length words.new ≡ 1953 }
-    ensures words { (k : ℕ) → k < 1953 → slice_index words.new k ≡ renewed_input before.now (k / 31) (k % 31) (slice_index words.old k) }
+    ensures words { (k : ℕ) → k < 1953 → slice_index words.new k ≡ renewed_input before.now now.now (k / 31) (k % 31) (slice_index words.old k) }
 {
-    for (k, word) in words.iter_mut().enumerate() {
-        *word = if has_plug(before, plug_at(k)) {
-            without_connections(*word)
-        } else {
-            0x803F_0000
-        };
+    for device in 0..63 {
+        let first = device * 31;
+        for k in first..first + plugs_of(now, device) {
+            words[k] = renewed_input(before, now, plug_at(k), words[k]);
+        }
     }
 }
 
+// Whether an output plug goes on talking after a bus reset.
+fn goes_on(
+    before: &[u8; 63],
+    now: &[u8; 63],
+    runs: bool,
+    p: PlugAt,
+    word: u32,
+    continues: bool,
+) -> bool
+    ensures { result ≡ goes_on before.now now.now runs p.device p.plug word continues }
+{
+    if !has_plug(now, p) {
+        return continues;
+    }
+    has_plug(before, p) && (OutWord(word).is_connected() || (runs && continues))
+}
+
 /// Which output plugs go on talking after a bus reset.
-pub fn go_on(continues: &mut [bool], words: &[u32], before: &[u8; 63], runs: bool)
+pub fn go_on(continues: &mut [bool], words: &[u32], before: &[u8; 63], now: &[u8; 63], runs: bool)
     requires size { length continues.old ≡ 1953 }
     requires words { length words.now ≡ 1953 }
     ensures size { length continues.new ≡ 1953 }
-    ensures continues { (k : ℕ) → k < 1953 → slice_index_or continues.new k false ≡ goes_on before.now runs (k / 31) (k % 31) (slice_index words.now k) (slice_index_or continues.old k false) }
+    ensures continues { (k : ℕ) → k < 1953 → slice_index_or continues.new k false ≡ goes_on before.now now.now runs (k / 31) (k % 31) (slice_index words.now k) (slice_index_or continues.old k false) }
 {
-    for (k, continue_) in continues.iter_mut().enumerate() {
-        *continue_ = has_plug(before, plug_at(k))
-            && (OutWord(words[k]).is_connected() || (runs && *continue_));
+    for device in 0..63 {
+        let first = device * 31;
+        for k in first..first + plugs_of(now, device) {
+            continues[k] = goes_on(before, now, runs, plug_at(k), words[k], continues[k]);
+        }
     }
 }

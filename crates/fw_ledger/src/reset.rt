@@ -19,10 +19,12 @@ impl Tables {
     {
         let nodes = r.nodes.as_slice();
         let outs = outs_of(nodes);
+        let ins = ins_of(nodes);
         go_on(
             &mut self.continues,
             &self.outputs,
             &self.outs,
+            &outs,
             self.reclaiming,
         );
         renew_outputs(
@@ -32,14 +34,14 @@ impl Tables {
             nodes,
             r.ids.as_slice(),
         );
-        renew_inputs(&mut self.inputs, &self.ins);
-        disconnect(&mut self.output_seats);
-        disconnect(&mut self.input_seats);
+        renew_inputs(&mut self.inputs, &self.ins, &ins);
+        disconnect(&mut self.output_seats, &outs);
+        disconnect(&mut self.input_seats, &ins);
         renew_flows(&mut self.reclaimable, &self.charges, self.reclaiming);
         free(&mut self.charges);
         forget(&mut self.asked);
         self.outs = outs;
-        self.ins = ins_of(nodes);
+        self.ins = ins;
         self.reclaiming = self.started;
         self.started = true;
         self.manager = r.manager;

@@ -1,13 +1,19 @@
 //! Responses to lock requests, and the swaps of registers that they end.
 
-ghost use Rattle.std.specs.Prelude.{◌≡◌, ◌<◌};
+ghost use Rattle.std.specs.Prelude.{◌≡◌, ◌<◌, IfSome, Some, ⊤};
+ghost use Rattle.std.specs.Option.{option_map};
+ghost use Rattle.fw_entry.specs.Network.{device_of_id};
 ghost use Rattle.fw_account.specs.Account.{Account};
-ghost use Rattle.fw_account.specs.Words.{register_of};
 ghost use Rattle.fw_account.specs.Decode.{move_at};
-ghost use Rattle.fw_account.specs.Packets.{Locked, ended, replied_to, after_reply};
+ghost use Rattle.fw_account.specs.Packets.{Locked, replied_to, after_reply};
+ghost use Rattle.fw_faults.specs.Looked.{Replies, labelled, quadlet_in};
 ghost use Rattle.fw_ledger.specs.Stands.{Stands, StandsFor, Follows};
-ghost use Rattle.fw_ledger.specs.Swaps.{IsThere, register_named, moved_by, account_after, shows_argument};
+ghost use Rattle.fw_ledger.specs.Swaps.{IsThere, register_named, moved_by, shows_argument};
+ghost use Rattle.fw_ledger.specs.Swapped.{is_lock_of, swap_done, account_swapped};
+ghost use Rattle.fw_ledger.specs.Refused.{Takes, IsRefusedFor, IsSwapRefused, IsAnswered, ShowsAnswer, response_in};
 
+use crate::answer::Answer;
+use crate::refused::Refused;
 use crate::register::Register;
 use crate::tables::{Asked, Tables};
 use fw_async::Head;
@@ -19,6 +25,42 @@ fn shows_argument(argument: u32, rcode: u8, old: &[u8]) -> bool
     ensures { result ≡ shows_argument argument rcode old.now }
 {
     rcode == 0 && old.len() == 4 && quadlet_at(old, 0).0 == argument
+}
+
+// The quadlet that an old value is.
+fn quadlet_in(old: &[u8]) -> Option<u32>
+    ensures { result ≡ quadlet_in old.now }
+{
+    if old.len() == 4 {
+        Some(quadlet_at(old, 0).0)
+    } else {
+        None
+    }
+}
+
+// It is a request to this node for this lock function.
+fn is_lock_of(asked: Asked, source: u16, function: u8) -> bool
+    ensures { result ≡ is_lock_of asked source function }
+{
+    match asked {
+        Asked::Swap { target, .. } => target == source && function == COMPARE_SWAP,
+        Asked::Lock {
+            target,
+            function: other,
+            ..
+        } => target == source && other == function,
+        _ => false,
+    }
+}
+
+// The swap that a response to the request makes, where it makes one.
+fn swap_done(asked: Asked, rcode: u8, old: &[u8]) -> Option<Swap>
+    ensures { result ≡ swap_done asked rcode old.now }
+{
+    match asked {
+        Asked::Swap { swap, .. } if shows_argument(swap.argument, rcode, old) => Some(swap),
+        _ => None,
+    }
 }
 
 impl Tables {
@@ -38,78 +80,98 @@ impl Tables {
         }
     }
 
-    // Controller `c` swaps what stands at an address. It is refused where that is a register of the account, and no move.
-    fn swap_at(&mut self, c: u8, target: u16, address: u64, s: Swap) -> bool
+    // Controller `c` swaps the register, if it is one of the account. It is refused where that is no move.
+    fn swap_at(&mut self, c: u8, register: Option<Register>, swap: Swap) -> Result<(), Refused>
         requires stands { Stands self.old }
         requires controller { c < 63 }
-        ensures { (l : Account) → StandsFor self.old l → Follows result self.old self.new (account_after c (register_of l.latest target address) (λ r. move_at l c r s.argument s.new) l) }
+        requires there { IfSome register (λ r. IsThere r self.old) }
+        ensures { (l : Account) → StandsFor self.old l
+            → Takes result (λ none. ⊤) self.old self.new (account_swapped c (option_map register_named register) (Some swap) l) (IsSwapRefused l c (option_map register_named register) (Some swap)) }
     {
-        match self.register_at(target, address) {
-            Some(register) => self.swap(c, register, s),
-            None => true,
+        let register = match register {
+            Some(register) => register,
+            None => return Ok(()),
+        };
+        let due = self.word(register);
+        if !self.swap(c, register, swap) {
+            return Err(Refused::NoMove { swap, due });
         }
+        Ok(())
     }
 
-    // The request of controller `c` has ended.
-    fn end(&mut self, c: u8)
+    // Controller `c` makes the swap that a response completes, if it completes one.
+    fn make_swap(
+        &mut self,
+        c: u8,
+        register: Option<Register>,
+        done: Option<Swap>,
+    ) -> Result<(), Refused>
         requires stands { Stands self.old }
         requires controller { c < 63 }
-        ensures { (l : Account) → StandsFor self.old l → StandsFor self.new (ended c l) }
+        requires there { IfSome register (λ r. IsThere r self.old) }
+        ensures { (l : Account) → StandsFor self.old l
+            → Takes result (λ none. ⊤) self.old self.new (account_swapped c (option_map register_named register) done l) (IsSwapRefused l c (option_map register_named register) done) }
     {
-        self.asked[usize::from(c)] = Asked::Nothing;
+        match done {
+            Some(swap) => self.swap_at(c, register, swap),
+            None => Ok(()),
+        }
     }
 
     // The response to a lock request of controller `c`.
-    fn end_lock(&mut self, c: u8, source: u16, rcode: u8, function: u8, old: &[u8]) -> bool
+    fn end_lock(
+        &mut self,
+        c: u8,
+        head: &Head,
+        rcode: u8,
+        function: u8,
+        old: &[u8],
+    ) -> Result<Answer, Refused>
         requires stands { Stands self.old }
         requires controller { c < 63 }
-        ensures { (l : Account) → StandsFor self.old l → Follows result self.old self.new (replied_to c (l.outstanding c) source (Locked function rcode old.now) l) }
+        ensures { (l : Account) → StandsFor self.old l → device_of_id l.latest head.now.destination ≡ Some c
+            → Takes result (IsAnswered l (response_in head.now rcode (Locked function rcode old.now) (quadlet_in old.now))) self.old self.new (replied_to c (l.outstanding c) head.now.source (Locked function rcode old.now) l)
+            (IsRefusedFor l (Replies (response_in head.now rcode (Locked function rcode old.now) (quadlet_in old.now)))) }
     {
-        match self.outstanding(c) {
-            Asked::Swap {
-                target,
-                address,
-                swap,
-            } => {
-                if target != source || function != COMPARE_SWAP {
-                    return false;
-                }
-                if !shows_argument(swap.argument, rcode, old) {
-                    self.end(c);
-                    return true;
-                }
-                if !self.swap_at(c, target, address, swap) {
-                    return false;
-                }
-                self.end(c);
-                true
-            },
-            Asked::Lock {
-                target,
-                function: asked,
-                ..
-            } => {
-                if target != source || asked != function {
-                    return false;
-                }
-                self.end(c);
-                true
-            },
-            _ => false,
+        let asked = self.outstanding(c);
+        if !is_lock_of(asked, head.source, function) {
+            return Err(Refused::Orphan(head.destination));
         }
+        let register = self.register_asked(asked);
+        let answer = Answer {
+            requester: head.destination,
+            asked,
+            rcode,
+            shown: quadlet_in(old),
+            due: self.word_in(register),
+        };
+        let done = swap_done(asked, rcode, old);
+        self.make_swap(c, register, done)?;
+        self.end(c);
+        Ok(answer)
     }
 
     /// The response to a lock request.
-    pub fn take_lock_reply(&mut self, head: &Head, rcode: u8, function: u8, old: &[u8]) -> bool
+    pub fn take_lock_reply(
+        &mut self,
+        head: &Head,
+        rcode: u8,
+        function: u8,
+        old: &[u8],
+    ) -> Result<Option<Answer>, Refused>
         requires stands { Stands self.old }
-        ensures { (l : Account) → StandsFor self.old l → Follows result self.old self.new (after_reply head.now (Locked function rcode old.now) l) }
+        ensures { (l : Account) → StandsFor self.old l
+            → Takes result (ShowsAnswer l (labelled head.now (Replies (response_in head.now rcode (Locked function rcode old.now) (quadlet_in old.now))))) self.old self.new (after_reply head.now (Locked function rcode old.now) l)
+            (IsRefusedFor l (labelled head.now (Replies (response_in head.now rcode (Locked function rcode old.now) (quadlet_in old.now))))) }
     {
         if !Label::Procedure.marks(head.tl) {
-            return true;
+            return Ok(None);
         }
-        match self.device(head.destination) {
-            Some(c) => self.end_lock(c, head.source, rcode, function, old),
-            None => false,
-        }
+        let device = match self.device(head.destination) {
+            Some(device) => device,
+            None => return Err(Refused::NoNode(head.destination)),
+        };
+        let answer = self.end_lock(device, head, rcode, function, old)?;
+        Ok(Some(answer))
     }
 }

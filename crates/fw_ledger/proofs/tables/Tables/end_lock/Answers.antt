@@ -1,24 +1,47 @@
-use Rattle.std.proofs.Common.{◌≡◌, true, sym, ◌∙◌, rules}
-use Rattle.fw_account.specs.Words.{register_of}
-use Rattle.fw_account.specs.Decode.{move_at}
-use Rattle.fw_ledger.specs.Swaps.{account_after}
-use Rattle.fw_ledger.proofs.Swapping.{follows_stand}
-use Rattle.fw_ledger.proofs.LockReplies.{swap_ended}
+use Rattle.std.proofs.Common.{◌≡◌, true, false, refl, sym, ◌∙◌, ap, rules}
+use Rattle.std.specs.Option.{option_map}
+use Rattle.std.proofs.lemmas.Result.{err_from_is_err_and}
+use Rattle.fw_account.specs.Words.{word_of}
+use Rattle.fw_ledger.specs.Swapped.{is_lock_of}
+use Rattle.fw_ledger.proofs.Replies.{ended_answer}
+use Rattle.fw_ledger.proofs.Swapping.{goes_stand}
+use Rattle.fw_ledger.proofs.LockReplies.{lock_refused, lock_ended, lock_goes, lock_stopped}
 use Rattle.fw_ledger.proofs.tables.Tables.end_lock.Goals as goal
 
-pub end-requires-in-Swap-clause-stands : goal.end-requires-in-Swap-clause-stands
-end-requires-in-Swap-clause-stands c =
-    let l = c.requires.stands.0 in
-    let h = c.requires.stands.1 in
-    let x = c.in-Swap in
-    follows_stand true c.args.self.now c.swap_at.new.self l
-    (account_after c.args.c (register_of l.latest x.target x.address) (λ r. move_at l c.args.c r x.swap.argument x.swap.new) l) h (c.if-not-swap_at.ensures l h)
+pub returns-then-not-is_lock_of : goal.returns-then-not-is_lock_of
+returns-then-not-is_lock_of c = λ l h d.
+    let fails : is_lock_of c.outstanding-asked.result c.args.head.now.source c.args.function ≡ false = search rules in
+    let x = lock_refused l c.args.c c.args.head.now c.args.rcode c.args.function c.args.old.now c.outstanding-asked.result d (c.outstanding-asked.ensures l h) fails in
+    (x.0, refl, x.1)
 
-pub returns-else-not-swap_at : goal.returns-else-not-swap_at
-returns-else-not-swap_at c = λ l h.
-    let x = c.in-Swap in
-    let same : x.target ≡ c.args.source = search rules in
-    let two : c.args.function ≡ 2 = search rules in
-    let shown : c.shows_argument.result ≡ true = search rules in
-    swap_ended c.args.self.now c.swap_at.new.self c.end-in-Swap.new.self l c.args.c c.args.source c.args.function c.args.rcode x.target x.address x.swap c.args.old.now (x.ensures l h) same two
-    (sym c.shows_argument.ensures ∙ shown) (c.if-not-swap_at.ensures l h) c.end-in-Swap.ensures
+pub returns-in_err-make_swap : goal.returns-in_err-make_swap
+returns-in_err-make_swap c = λ l h d.
+    let p = err_from_is_err_and c.from_residual.result c.from_residual.ensures.1 in
+    let a = c.outstanding-asked.result in
+    let is = c.outstanding-asked.ensures l h in
+    let holds : is_lock_of a c.args.head.now.source c.args.function ≡ true = search rules in
+    let x = lock_ended l c.args.c c.args.head.now c.args.rcode c.args.function c.args.old.now a is holds in
+    rw (p.1, p.2) (lock_stopped c.args.self.now _ l c.args.c c.args.head.now c.args.rcode c.args.function c.args.old.now a _ _ _ c.requires.controller h.sound d x is holds
+    (c.register_asked-register.ensures.register l x.request h x.asked) c.swap_done-done.ensures (c.in_err-make_swap.ensures l h))
+
+pub end-requires-clause-stands : goal.end-requires-clause-stands
+end-requires-clause-stands c = goes_stand _ _ (c.in_ok-make_swap.ensures c.requires.stands.0 c.requires.stands.1).1
+
+pub returns : goal.returns
+returns c = λ l h d.
+    let a = c.outstanding-asked.result in
+    let is = c.outstanding-asked.ensures l h in
+    let holds : is_lock_of a c.args.head.now.source c.args.function ≡ true = search rules in
+    let x = lock_ended l c.args.c c.args.head.now c.args.rcode c.args.function c.args.old.now a is holds in
+    let place = c.register_asked-register.ensures.register l x.request h x.asked in (
+      record {
+        requester = refl;
+        rcode = refl;
+        shown = c.quadlet_in.ensures;
+        request = x.request;
+        answer = ended_answer l c.args.c _ a d x;
+        asked = x.asked;
+        due = c.word_in.ensures l h ∙ ap (option_map (word_of l)) place;
+      },
+      lock_goes c.make_swap.new.self _ l c.args.c c.args.head.now c.args.rcode c.args.function c.args.old.now a _ _ x is holds place c.swap_done-done.ensures (c.in_ok-make_swap.ensures l h).1 c.end.ensures,
+    )

@@ -1,21 +1,30 @@
-use Rattle.std.proofs.Common.{◌≡◌, true, false, sym, ◌∙◌, ap, slice_set, rules}
-use Rattle.std.specs.Vec.{with_item}
-use Rattle.fw_ledger.specs.declared.tables.Asked.TheVariants.{Nothing}
+use Rattle.std.proofs.Common.{◌≡◌, true, false, Some, refl, sym, ◌∙◌, ap, subst, rules}
+use Rattle.std.specs.Option.{option_map}
+use Rattle.fw_account.specs.Words.{word_of}
 use Rattle.fw_ledger.specs.Stands.{is_read_of}
-use Rattle.fw_ledger.proofs.Replies.{answered_none, answered_other, answered_read, ended_stands}
+use Rattle.fw_ledger.specs.Refused.{GoesOn}
+use Rattle.fw_ledger.proofs.Replies.{read_refused, read_ended, ended_answer}
 use Rattle.fw_ledger.proofs.tables.Tables.end_read.Goals as goal
 
-pub returns-in-None : goal.returns-in-None
-returns-in-None c = λ l h. answered_none _ l _ _ (sym (c.device.ensures.device l h) ∙ c.in-None.is)
-
 pub returns-then-not-is_read_of : goal.returns-then-not-is_read_of
-returns-then-not-is_read_of c = λ l h.
-    let fails : is_read_of c.outstanding.result c.args.source ≡ false = search rules in
-    answered_other c.args.self.now l _ _ _ _ (sym (c.device.ensures.device l h) ∙ c.in-Some.is) (c.outstanding.ensures l h) fails
+returns-then-not-is_read_of c = λ l h d.
+    let fails : is_read_of c.outstanding-asked.result c.args.head.now.source ≡ false = search rules in
+    let x = read_refused l c.args.c c.args.head.now c.args.rcode (Some c.args.value) c.outstanding-asked.result d (c.outstanding-asked.ensures l h) fails in
+    (x.0, refl, x.1)
 
 pub returns : goal.returns
-returns c = λ l h.
-    let t = c.args.self.now in
-    let holds : is_read_of c.outstanding.result c.args.source ≡ true = search rules in
-    answered_read t _ l _ _ _ _ (sym (c.device.ensures.device l h) ∙ c.in-Some.is) (c.outstanding.ensures l h) holds
-    (ended_stands t l c.in-Some.device (with_item t.asked c.from.result Nothing) h (ap (λ k. slice_set t.asked.items k Nothing) c.from.ensures))
+returns c = λ l h d.
+    let holds : is_read_of c.outstanding-asked.result c.args.head.now.source ≡ true = search rules in
+    let x = read_ended l c.args.c c.args.head.now c.args.rcode (Some c.args.value) c.outstanding-asked.result (c.outstanding-asked.ensures l h) holds in
+    let e = x.0 in (
+      record {
+        requester = refl;
+        rcode = refl;
+        shown = refl;
+        request = e.request;
+        answer = ended_answer l c.args.c _ c.outstanding-asked.result d e;
+        asked = e.asked;
+        due = c.word_in.ensures l h ∙ ap (option_map (word_of l)) (c.register_asked.ensures.register l e.request h e.asked);
+      },
+      subst (GoesOn c.end.new.self) (sym x.1) (c.end.ensures l h),
+    )

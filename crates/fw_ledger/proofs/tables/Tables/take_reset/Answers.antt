@@ -18,8 +18,8 @@ returns c = λ l h.
     let z = h.sizes in
     let charge_size : length c.free.new.charges ≡ 64 = c.free.ensures.size ∙ ap length c.deref_mut-7.ensures.value ∙ z.charges in
     let asked_size : length c.forget.new.requests ≡ 63 = c.forget.ensures.size ∙ ap length c.deref_mut-8.ensures.value ∙ z.asked in
-    let out_size : length c.disconnect.new.plugs ≡ 1953 = c.disconnect.ensures.size ∙ ap length c.deref_mut-4.ensures.value ∙ z.output_seats in
-    let in_size : length c.disconnect-2.new.plugs ≡ 1953 = c.disconnect-2.ensures.size ∙ ap length c.deref_mut-5.ensures.value ∙ z.input_seats in
+    let out_size : length c.disconnect.new.plugs ≡ 1953 = c.disconnect.ensures.size in
+    let in_size : length c.disconnect-2.new.plugs ≡ 1953 = c.disconnect-2.ensures.size in
     let charges = items_of t.charges c.free.new.charges 64 z.charges charge_size in
     let flows = items_of t.reclaimable c.renew_flows.new.flows 64 z.reclaimable c.renew_flows.ensures.size in
     let requests = items_of t.asked c.forget.new.requests 63 z.asked asked_size in
@@ -35,7 +35,7 @@ returns c = λ l h.
       words = (refl, c.first_high-self.ensures, refl);
       plugs = record {
         outs = λ p. ap (list_any (is_output_of p)) (sym c.as_slice-nodes.ensures.value) ∙ c.outs_of-outs.ensures p;
-        ins = λ p. ap (list_any (is_input_of p)) (sym c.as_slice-nodes.ensures.value) ∙ c.ins_of-self.ensures p;
+        ins = λ p. ap (list_any (is_input_of p)) (sym c.as_slice-nodes.ensures.value) ∙ c.ins_of-ins.ensures p;
         output_size = ap length outputs ∙ c.renew_outputs.ensures.size;
         outputs = λ k lt. ap (λ (ws : List ℕ). slice_index ws k) outputs ∙ c.renew_outputs.ensures.words k lt
             ∙ ap (λ ns. renewed_output t.outs c.outs_of-outs.result ns c.as_slice.result.now (k / 31) (k % 31) (slice_index c.deref_mut-2.result.now k)) c.as_slice-nodes.ensures.value
@@ -43,13 +43,13 @@ returns c = λ l h.
             ∙ ap (λ ws. renewed_output t.outs c.outs_of-outs.result r.nodes r.ids (k / 31) (k % 31) (slice_index ws k)) c.deref_mut-2.ensures.value;
         input_size = ap length inputs ∙ c.renew_inputs.ensures.size;
         inputs = λ k lt. ap (λ (ws : List ℕ). slice_index ws k) inputs ∙ c.renew_inputs.ensures.words k lt
-            ∙ ap (λ ws. renewed_input t.ins (k / 31) (k % 31) (slice_index ws k)) c.deref_mut-3.ensures.value;
-        output_seats = record { size = ap length out_seats ∙ out_size; all = λ k lt. rw out_seats (c.disconnect.ensures.all k (rw (c.deref_mut-4.ensures.value, z.output_seats) lt)) };
-        input_seats = record { size = ap length in_seats ∙ in_size; all = λ k lt. rw in_seats (c.disconnect-2.ensures.all k (rw (c.deref_mut-5.ensures.value, z.input_seats) lt)) };
+            ∙ ap (λ ws. renewed_input t.ins c.ins_of-ins.result (k / 31) (k % 31) (slice_index ws k)) c.deref_mut-3.ensures.value;
+        output_seats = record { size = ap length out_seats ∙ out_size; all = λ k lt is. rw out_seats (c.disconnect.ensures.all k lt is) };
+        input_seats = record { size = ap length in_seats ∙ in_size; all = λ k lt is. rw in_seats (c.disconnect-2.ensures.all k lt is) };
         continue_size = ap length continues ∙ c.go_on.ensures.size;
         continues = λ k lt. ap (λ bs. slice_index_or bs k false) continues ∙ c.go_on.ensures.continues k lt
-            ∙ ap (λ ws. goes_on t.outs t.reclaiming (k / 31) (k % 31) (slice_index ws k) (slice_index_or c.deref_mut.result.now k false)) c.deref.ensures.value
-            ∙ ap (λ bs. goes_on t.outs t.reclaiming (k / 31) (k % 31) (slice_index t.outputs.items k) (slice_index_or bs k false)) c.deref_mut.ensures.value;
+            ∙ ap (λ ws. goes_on t.outs c.outs_of-outs.result t.reclaiming (k / 31) (k % 31) (slice_index ws k) (slice_index_or c.deref_mut.result.now k false)) c.deref.ensures.value
+            ∙ ap (λ bs. goes_on t.outs c.outs_of-outs.result t.reclaiming (k / 31) (k % 31) (slice_index t.outputs.items k) (slice_index_or bs k false)) c.deref_mut.ensures.value;
       };
       charge_size = ap length charges ∙ charge_size;
       charges = λ ch lt. rw charges (c.free.ensures.all ch (rw (c.deref_mut-7.ensures.value, z.charges) lt));

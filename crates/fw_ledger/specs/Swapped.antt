@@ -1,0 +1,29 @@
+-- The swap that a response to a lock request makes.
+use Rattle.std.specs.Prelude.{ℕ, ◌==◌, Bool, false, ◌&&◌, if◌then◌else◌, Option, Some, None, List}
+use Rattle.fw_words.specs.declared.swap.Swap.{Swap as TheSwap}
+use Rattle.fw_words.specs.declared.swap.TheConstants.{COMPARE_SWAP}
+use Rattle.fw_account.specs.Account.{Account}
+use Rattle.fw_account.specs.Decode.{move_at}
+use Rattle.fw_account.specs.Words.{Register}
+use Rattle.fw_ledger.specs.Swaps.{account_after, shows_argument}
+use Rattle.fw_ledger.specs.declared.tables.Asked.{Asked}
+use Rattle.fw_ledger.specs.declared.tables.Asked.TheVariants.{Nothing, Read, Swap, Lock}
+
+-- it is a request to this node for this lock function
+abbrev pub is_lock_of : Asked → ℕ → ℕ → Bool
+is_lock_of Nothing source function = false
+is_lock_of (Read target address) source function = false
+is_lock_of (Swap target address swap) source function = (target == source) && (function == COMPARE_SWAP)
+is_lock_of (Lock target address asked) source function = (target == source) && (asked == function)
+
+-- the swap that a response to the request makes, where it makes one
+abbrev pub swap_done : Asked → ℕ → List ℕ → Option TheSwap
+swap_done Nothing rcode old = None
+swap_done (Read target address) rcode old = None
+swap_done (Swap target address swap) rcode old = if shows_argument swap.argument rcode old then Some swap else None
+swap_done (Lock target address function) rcode old = None
+
+-- the account after the swap of a register of the account, or of another, that a response makes
+abbrev pub account_swapped : ℕ → Option Register → Option TheSwap → Account → Option Account
+account_swapped c register None l = Some l
+account_swapped c register (Some s) l = account_after c register (λ r. move_at l c r s.argument s.new) l
