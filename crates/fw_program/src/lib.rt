@@ -3,6 +3,8 @@
 
 mod call;
 mod desk;
+mod laws;
 
 pub use call::program;
 pub use fw_tool::{Ending, Flush, NOTE_ROOM, tell};
+pub use laws::program_desk_is_a_function;
