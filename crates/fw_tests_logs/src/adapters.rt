@@ -145,6 +145,62 @@ fn a_flush_reaches_the_writer_once(rt: HostRuntime) {
     assert!(rt; writer.calls == 3 && writer.flushes == 2 && writer.held.len() == 70_003);
 }
 
+// Whether sources of each front of a row give it with one read, and then their end.
+fn are_fronts_read(row: &[u8; 600]) -> bool {
+    let mut into = [0; 600];
+    for count in 1..=600 {
+        let mut source = StdSource::new(&row[..count]);
+        if source.read(&mut into) != Ok(count) || source.read(&mut into) != Ok(0) {
+            return false;
+        }
+    }
+    true
+}
+
+// Whether each front of a row is written.
+fn are_fronts_written<K: Sink>(sink: &mut K, row: &[u8; 600]) -> bool {
+    for count in 0..=600 {
+        if sink.write(&row[..count]).is_err() {
+            return false;
+        }
+    }
+    true
+}
+
+// No number of bytes is a fault by itself, and the end of what is read is none.
+#[test]
+fn no_length_is_a_fault(rt: HostRuntime) {
+    let row = [5; 600];
+    assert!(rt; are_fronts_read(&row));
+    let mut writer = Writer::new(rt.alloc(), 600, 0);
+    assert!(rt; are_fronts_written(&mut StdSink::new(&mut writer), &row));
+    assert!(rt; writer.held.len() == 180_300);
+    assert!(rt; are_fronts_written(&mut BufferedSink::new(&mut writer), &row));
+}
+
+/// A writer that takes all that it is given, and cannot pass it on.
+#[derive(Drop)]
+struct NeverFlushed;
+
+impl io::Write for NeverFlushed {
+    fn write(&mut self, buf: &[u8]) -> io::Result<usize> {
+        Ok(buf.len())
+    }
+
+    fn flush(&mut self) -> io::Result<()> {
+        Err(io::Error::from(ErrorKind::BrokenPipe))
+    }
+}
+
+// A flush of the writer that fails is a fault of the sink's.
+#[test]
+fn a_flush_that_fails_is_a_fault(rt: HostRuntime) {
+    let mut sink = StdSink::new(NeverFlushed);
+    assert!(rt; sink.write(&[1]).is_ok() && sink.flush().is_err());
+    let mut sink = BufferedSink::new(NeverFlushed);
+    assert!(rt; sink.write(&[1]).is_ok() && sink.flush().is_err());
+}
+
 // Two pieces, and by a flush, or by a piece that does not fit behind them, the first call and the second, which fails; then a piece and
 // a flush.
 fn fails_once(writer: &mut Writer, last: &[u8]) -> bool {

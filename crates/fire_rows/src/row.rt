@@ -26,10 +26,15 @@ impl<'a> Row<'a> {
     }
 }
 
-/// What stands before a mark, and what behind it, where it is there.
+/// What stands before a mark, and what after it, if it is there.
 fn cut<'a>(text: &'a str, mark: &str) -> (&'a str, Option<&'a str>) {
     match text.split_once(mark) {
-        Some((before, behind)) => (before, Some(behind)),
+        Some((before, after)) => (before, Some(after)),
         None => (text, None),
     }
+}
+
+/// Whether a line of a table is a row: it is not empty, and does not begin with `#`.
+pub(crate) fn is_row(line: &str) -> bool {
+    !line.is_empty() && !line.starts_with("#")
 }

@@ -6,7 +6,7 @@ use fw_outside::{Failed, Source, copy_front};
 
 /// A source that gives at most so many bytes at a time. Where it is to fail, the read behind its last byte does.
 #[derive(Drop)]
-pub(crate) struct Portions<'a> {
+pub struct Portions<'a> {
     left: &'a [u8],
     most: usize,
     fails: bool,

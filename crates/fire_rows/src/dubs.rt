@@ -1,10 +1,12 @@
 //! What decks record: how many bytes `dub` writes of a script, the first of them, and their sum.
 
-use crate::call::{NONE, call};
-use crate::portions::Portions;
+use crate::Program;
+use crate::call::Call;
+use crate::due::Due;
+use crate::miss::Miss;
 use crate::row::Row;
-use std::alloc::{AllocError, Global};
-use std::{fs, io};
+use std::alloc::Global;
+use std::fs;
 
 /// What the longest reel of the table has room in, in bytes.
 const ROOM: usize = 2_304_000;
@@ -35,10 +37,29 @@ impl<'a> Reel<'a> {
             && begin_with(alloc, bytes, self.first)
     }
 
-    /// Whether `dub` writes it of a script.
-    fn is_written(&self, alloc: Global, script: &[u8]) -> Result<bool, AllocError> {
-        let ended = call(alloc, "dub", Portions::whole(script), ROOM, NONE)?;
-        Ok(ended.is_done() && self.is(alloc, ended.output()))
+    /// That `dub` writes it of a script.
+    fn is_written<P: Program>(
+        &self,
+        program: &P,
+        alloc: Global,
+        script: &[u8],
+    ) -> Result<(), Miss> {
+        let ended = Call::over("dub", script, ROOM).ends(program, alloc, &Due::DONE)?;
+        let bytes = ended.output();
+        if self.is(alloc, bytes) {
+            return Ok(());
+        }
+        let expected = format!(in alloc;
+            "{} bytes from {} on, whose sum is {}",
+            self.length, self.first, self.sum
+        )?;
+        let first = hex::encode(alloc, bytes.get(..32).unwrap_or(bytes))?;
+        let found = format!(in alloc;
+            "{} bytes from {first} on, whose sum is {}",
+            bytes.len(),
+            sum_of(bytes)
+        )?;
+        Err(Miss::otherwise(alloc, &expected, &found))
     }
 }
 
@@ -57,11 +78,11 @@ fn sum_of(bytes: &[u8]) -> u64 {
     sum
 }
 
-/// A row is `SCRIPT : BYTES FIRST SUM`, with the first bytes in hexadecimal, or `-` where there are none.
-pub(crate) fn holds(rt: &HostRuntime, row: &Row<'_>) -> io::Result<bool> {
+/// A row is `SCRIPT : BYTES FIRST SUM`, with the first bytes in hexadecimal, or `-` if there are none.
+pub(crate) fn check<P: Program>(program: &P, rt: &HostRuntime, row: &Row<'_>) -> Result<(), Miss> {
     let Some(reel) = row.behind.and_then(Reel::of) else {
-        return Ok(false);
+        return Err(Miss::NoRow("a reel"));
     };
     let script = fs::read(rt, row.what)?;
-    Ok(reel.is_written(rt.alloc(), &script)?)
+    reel.is_written(program, rt.alloc(), &script)
 }
