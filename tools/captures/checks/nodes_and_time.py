@@ -18,7 +18,8 @@ UP, DOWN, NONE = Port.PARENT, Port.CHILD, Port.OPEN
 
 def rows_of(capture: bytes, *words: str) -> List[List[bytes]]:
     """The rows of the nodes of each bus reset: device, output plugs, input plugs, kind."""
-    resets = [entry for entry in read_log.read(run_here("from_nosy", words, capture).output) if entry.kind == read_log.RESET]
+    entries = read_log.read(run_here("from_nosy", words, capture).output)
+    resets = [entry for entry in entries if entry.kind == read_log.RESET]
     return [[reset.body[at : at + 4] for at in range(8, 8 + 4 * reset.body[7], 4)] for reset in resets]
 
 
@@ -106,7 +107,7 @@ def check_time(checks: Checks) -> None:
     ids = phy(2500, node(0, UP)) + phy(2500, node(1, DOWN))
     capture = cycle_start(0, 5, 0) + write_at(125, 1) + cycle_start(1000, 8, 8) + write_at(1250, 1)
     capture += cycle_start(2000, 9, 4016) + write_at(2250, 1)
-    capture += record(2500) + ids + cycle_start(3000, 50, 24) + write_at(3250, 1)
+    capture += record(2500) + ids + cycle_start(3000, 50, 4024) + write_at(3250, 1)
     entries = read_log.read(run_here("from_nosy", [], capture).output)
     cycles = [entry.cycle for entry in entries if entry.kind == read_log.ASYNCHRONOUS]
     checks.check(f"cycles: {cycles}", cycles == [1, 24010, 24018, 24026])
