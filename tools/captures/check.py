@@ -24,6 +24,7 @@ from captures.checks.cases import check_cases  # noqa: E402
 from captures.checks.check_laws import check_laws  # noqa: E402
 from captures.checks.counted import Checks  # noqa: E402
 from captures.checks.growing import check_growing  # noqa: E402
+from captures.checks.nodes_and_time import check_nodes_and_time  # noqa: E402
 from captures.checks.outside import check_outside  # noqa: E402
 from captures.checks.program import check_inputs, check_program  # noqa: E402
 from captures.checks.users import check_users  # noqa: E402
@@ -32,7 +33,8 @@ from captures.checks.vectors import check_vectors, logs_of_vectors  # noqa: E402
 
 def check_all(checks: Checks, program: Optional[str]) -> None:
     logs: Dict[bytes, str] = logs_of_vectors()
-    for group in (check_vectors, check_cases, check_as_real, check_laid, check_users, check_growing, check_outside):
+    groups = (check_vectors, check_cases, check_nodes_and_time, check_as_real, check_laid)
+    for group in (*groups, check_users, check_growing, check_outside):
         attempt(checks, group, checks)
     attempt(checks, check_laws, checks, logs)
     if program is None:

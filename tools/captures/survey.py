@@ -11,7 +11,6 @@ from .happenings import BusReset, Happening, Packet
 from .identity import DeviceNumbers
 from .log_writer import NodeRow
 from .packets import (
-    ALL_NODES,
     REQUESTS,
     RESPONSES,
     Tcode,
@@ -83,7 +82,7 @@ class Epoch:
     def _see_request(self, words: Words) -> None:
         at, node = register(words), physical_id(destination(words))
         self._asked[source(words), destination(words), label(words)] = at
-        if at == FCP_COMMAND and tcode(words) in (Tcode.WRITE_QUADLET, Tcode.WRITE_BLOCK) and node != ALL_NODES:
+        if at == FCP_COMMAND and tcode(words) in (Tcode.WRITE_QUADLET, Tcode.WRITE_BLOCK):
             self._show(node, Shown(commanded=True))
 
     def _see_answer(self, node: int, at: int, words: Words) -> None:

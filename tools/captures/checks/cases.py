@@ -5,7 +5,6 @@ from __future__ import annotations
 from typing import Iterator, List, NamedTuple, Tuple
 
 from ..making.hostile import FIRST, ROOT, SECOND, phy, record, self_ids, told_twice, write_at
-from ..making.laid import EUI_64_HIGH, EUI_64_LOW, Laid
 from ..self_ids import EXTENDED, MORE, Port
 from . import read_log
 from .counted import Checks
@@ -46,6 +45,11 @@ def nosy_cases() -> Iterator[Case]:
         "another port of an extended packet",
         whole + record(3) + self_ids(HUB_FIRST, HUB_MORE >> 2 & 0x3FFFF | HUB_MORE & ~0x3FFFF) + write_at(4, 1),
         "changed 1: one node's self-ID packet missing: made of the others",
+    )
+    yield nosy(
+        "an extended packet without its child",
+        whole + record(3) + self_ids(HUB_FIRST, HUB_MORE & ~(3 << 16) | Port.OPEN << 16) + write_at(4, 1),
+        "left out 1: bus reset whose self-ID packets are not whole",
     )
     fifth = HUB_MORE | MORE
     many = [fifth & ~(7 << 20) | number << 20 for number in range(3)] + [HUB_MORE | 3 << 20]
@@ -116,38 +120,7 @@ def trace_cases() -> Iterator[Case]:
     yield trace("an event with a field twice", whole + twice, "left out 1: event that cannot be read")
 
 
-def node(number: int, *states: Port) -> int:
-    return LEAF | number << 24 | states[0] << 6 | states[1] << 4 | states[2] << 2
-
-
-def check_devices(checks: Checks) -> None:
-    """Three like nodes in a chain, of which one end has its cable in its second port: the root is the other end after
-    the second bus reset. Only a walk from the right pair meets all."""
-    up, down, none = Port.PARENT, Port.CHILD, Port.OPEN
-    before = (node(0, up, none, none), node(1, down, up, none), node(2, none, down, none))
-    after = (node(0, none, up, none), node(1, up, down, none), node(2, down, none, none))
-    capture = record(1) + self_ids(*before) + write_at(2, 1) + record(3) + self_ids(*after) + write_at(4, 1)
-    for words in ([], ["--live"]):
-        entries = read_log.read(run_here("from_nosy", words, capture).output)
-        rows = [list(entry.body[8:20:4]) for entry in entries if entry.kind == read_log.RESET]
-        checks.check(f"devices after the root has changed: {rows}", rows == [[0, 1, 2], [2, 1, 0]])
-
-
-def check_another_eui(checks: Checks) -> None:
-    """A node that the walk leads to is another device if it shows another EUI-64."""
-    log = Laid()
-    for cycle, eui in ((0, 0x00A0B00000000001), (9000, 0x00A0B00000000002)):
-        log.reset(cycle, 2)
-        log.read(cycle + 10, 1, 0, EUI_64_HIGH, eui >> 32)
-        log.read(cycle + 20, 1, 0, EUI_64_LOW, eui & 0xFFFFFFFF)
-    entries = read_log.read(run_here("from_nosy", [], run_here("to_nosy", [], log.end(9100)).output).output)
-    rows = [list(entry.body[8:16:4]) for entry in entries if entry.kind == read_log.RESET]
-    checks.check(f"devices after one was exchanged: {rows}", rows == [[0, 1], [2, 1]])
-
-
 def check_cases(checks: Checks) -> None:
-    check_devices(checks)
-    check_another_eui(checks)
     for case in (*nosy_cases(), *trace_cases()):
         ended = run_here(case.tool, case.words, case.capture)
         told = [line.partition(": ")[2] for line in ended.report.splitlines()]

@@ -43,6 +43,14 @@ class Running:
     def interrupt(self) -> None:
         self.process.send_signal(signal.SIGINT)
 
+    def ends_by_itself(self) -> bool:
+        """Whether it ends though its input has not."""
+        try:
+            self.process.wait(timeout=PATIENCE)
+            return True
+        except subprocess.TimeoutExpired:
+            return False
+
     def end(self) -> List[bytes]:
         """What is left of the output, and the report."""
         try:
@@ -81,9 +89,10 @@ def check_live_interrupt(checks: Checks, tool: str, capture: str, vector: str) -
     running.give((VECTORS / capture).read_bytes())
     begun = running.take(len(due) - END)
     running.interrupt()
+    has_ended = running.ends_by_itself()
     rest, report = running.end()
     status = running.process.returncode
-    same = (status, begun + rest, report) == (0, due, report_due)
+    same = has_ended and (status, begun + rest, report) == (0, due, report_due)
     checks.check(f"{tool} --live and Ctrl-C: {status}, {report!r:.200}", same)
 
 
