@@ -10,8 +10,8 @@ use crate::words::{judge_quadlet, not_allowed};
 use fw_faults::AuditFault;
 use fw_ledger::{Answer, Asked};
 
-/// The fault of an answer that ends a request: it is complete, at a watched register, and shows no quadlet of one that is
-/// there, or another word than is due.
+/// The fault of an answer that ends a request, where it is complete and at a watched offset: it shows no quadlet, or is to a
+/// lock that is no quadlet swap, or no register of the account stands there, or the quadlet is not the word that is due.
 pub(crate) fn judge_answer(answer: &Answer) -> Option<AuditFault>
     ensures { (l : Account) (r : Response) → IsAnswered l r answer.now → result ≡ judged l (Replies r) }
 {

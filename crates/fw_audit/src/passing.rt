@@ -1,18 +1,21 @@
 //! Entries that an audit need not take.
 
-ghost use Rattle.std.specs.Prelude.{◌++◌, ◌∷◌, [], List, None, IsTrue};
+ghost use Rattle.std.specs.Prelude.{◌≡◌, ◌++◌, ◌∷◌, [], List, None, IsTrue, IsFalse};
 ghost use Rattle.fw_entry.specs.declared.entry.Entry.{Entry as LogEntry};
 ghost use Rattle.fw_entry.specs.declared.entry.Entry.TheVariants.{Async};
+ghost use Rattle.fw_faults.specs.Looked.{Other, looked, looked_packet};
 ghost use Rattle.fw_audit.specs.declared.audit.Audit.{Audit};
-ghost use Rattle.fw_audit.specs.Found.{Found, IsPassedOver};
+ghost use Rattle.fw_audit.specs.Found.{Found, IsPassedOver, IsReset};
 
 use fw_async::Packet;
 use fw_base::Label;
 use fw_entry::Entry;
 
-/// Whether the packet is none that an account looks at: by its kind alone, or since its label is not that of procedures.
+/// Whether the packet is none that an account looks at: by its kind alone, or since its label is not that of procedures. An
+/// audit looks at each other one.
 pub fn is_passed_packet(p: &Packet) -> bool
-    ensures { IsTrue result → IsPassedOver (Async p.now) }
+    ensures passed { IsTrue result → IsPassedOver (Async p.now) }
+    ensures others { IsFalse result → looked_packet p.now ≡ Other → ⊥ }
 {
     match p {
         Packet::ReadQuadlet { head, .. } => !Label::Procedure.marks(head.tl),
@@ -25,9 +28,10 @@ pub fn is_passed_packet(p: &Packet) -> bool
 
 /// Whether an entry changes no account and has no fault over any, by its kind alone: isochronous packets, outcomes, the end, and
 /// packets that are none of a procedure's requests and responses for quadlet reads and locks. So an audit finds the same
-/// without it.
+/// without it. Each other entry is a reset, or one that an audit looks at.
 pub fn is_passed_over(e: &Entry) -> bool
     ensures passed { IsTrue result → IsPassedOver e.now }
+    ensures others { IsFalse result → looked e.now ≡ Other → IsReset e.now }
     ensures same { IsTrue result → (entries : List LogEntry) (a : Audit) → Found entries a None → Found (entries ++ e.now ∷ []) a None }
 {
     match e {

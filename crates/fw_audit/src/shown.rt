@@ -13,7 +13,8 @@ use fw_entry::ShownEntry;
 use fw_faults::AuditFault;
 use fw_ledger::Ledger;
 
-/// The node ID of a device whose word is shown, FFFF where it is no node; and the word that is due there.
+/// The fault of a shown word at a watched offset: it is not the word that is due there, or no register of the account stands
+/// there. A device that is no node has the node ID FFFF.
 pub(crate) fn judge_shown(ledger: &Ledger, shown: &ShownEntry) -> Option<AuditFault>
     ensures { (l : Account) → StandsFor ledger.now l → result ≡ judged l (Shows shown.now) }
 {

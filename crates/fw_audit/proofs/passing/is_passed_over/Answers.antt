@@ -7,10 +7,10 @@ pub returns-in-Iso-clause-same : goal.returns-in-Iso-clause-same
 returns-in-Iso-clause-same c = λ yes entries a x. passed_found entries c.args.e.now a (subst IsPassedOver (sym c.in-Iso.is) (λ l. (refl, other_clear l))) x
 
 pub returns-in-Async-clause-passed : goal.returns-in-Async-clause-passed
-returns-in-Async-clause-passed c = λ yes. subst IsPassedOver (sym c.in-Async.is) (c.is_passed_packet.ensures yes)
+returns-in-Async-clause-passed c = λ yes. subst IsPassedOver (sym c.in-Async.is) (c.is_passed_packet.ensures.passed yes)
 
 pub returns-in-Async-clause-same : goal.returns-in-Async-clause-same
-returns-in-Async-clause-same c = λ yes entries a x. passed_found entries c.args.e.now a (subst IsPassedOver (sym c.in-Async.is) (c.is_passed_packet.ensures yes)) x
+returns-in-Async-clause-same c = λ yes entries a x. passed_found entries c.args.e.now a (subst IsPassedOver (sym c.in-Async.is) (c.is_passed_packet.ensures.passed yes)) x
 
 pub returns-in-Outcome-clause-same : goal.returns-in-Outcome-clause-same
 returns-in-Outcome-clause-same c = λ yes entries a x. passed_found entries c.args.e.now a (subst IsPassedOver (sym c.in-Outcome.is) (λ l. (refl, other_clear l))) x
