@@ -1,20 +1,21 @@
 -- What an audit has found after one entry more.
 use Rattle.fw_entry.specs.declared.entry.Entry.{Entry}
-use Rattle.std.proofs.Common.{◌≡◌, ◌⊎◌, inl, inr, Bool, true, false, true≢false, Option, Some, None, List, [], ◌∷◌, ◌++◌, refl, ap, sym, subst, ◌∙◌, append_assoc}
+use Rattle.std.proofs.Common.{◌≡◌, ◌⊎◌, ◌==◌, inl, inr, false, cond, Option, Some, None, List, [], ◌∷◌, ◌++◌, refl, ap, sym, subst, ◌∙◌, append_assoc}
 use Rattle.std.proofs.lemmas.Option.{same_Some}
 use Rattle.fw_account.specs.Account.{Account}
 use Rattle.fw_account.specs.Fold.{no_account, next_account, account_from, account_of}
-use Rattle.fw_ledger.specs.Stands.{StandsFor, Follows as LedgerFollows}
 use Rattle.fw_ledger.specs.declared.tables.Tables.{Tables}
 use Rattle.fw_account.proofs.Fold.{account_from-append}
-use Rattle.fw_faults.specs.Looked.{looked}
+use Rattle.fw_faults.specs.Looked.{Looked, Other, labelled, looked}
 use Rattle.fw_faults.specs.Faults.{HasNoFault, IsVerdict}
-use Rattle.fw_faults.specs.Judged.{judged, unmoved, found_after, verdict}
 use Rattle.fw_faults.specs.Audited.{IsAudited, EndsFaulty}
 use Rattle.fw_faults.specs.declared.fault.AuditFault.{AuditFault}
-use Rattle.fw_audit.specs.Found.{StandsAfter, Follows, Found}
+use Rattle.fw_faults.specs.declared.fault.AuditFault.TheVariants.{NoNode, Overlap, Orphan, NotAllowed, WrongWord, NoMove, NoEvent}
+use Rattle.fw_async.specs.declared.packet.Head.{Head}
+use Rattle.fw_base.specs.declared.label.Label.TheVariants.{Procedure}
+use Rattle.fw_base.specs.Labels.{label_code}
+use Rattle.fw_audit.specs.Found.{StandsAfter, Follows, Found, IsPassedOver}
 use Rattle.fw_audit.specs.declared.audit.Audit.{Audit}
-use Rattle.fw_faults.proofs.Verdicts.{first_verdict, no_fault}
 
 -- ---- lists
 
@@ -60,7 +61,7 @@ never_audited es rest f x a =
 
 -- ---- one entry more
 
-pub found_more : (entries : List Entry) (e : Entry) (a : Audit) (t : Tables) (f : Option AuditFault) → (x : Follows entries a) → f ≡ verdict x.account e → (f ≡ None → StandsAfter t x.account e)
+pub found_more : (entries : List Entry) (e : Entry) (a : Audit) (t : Tables) (f : Option AuditFault) → (x : Follows entries a) → IsVerdict x.account (looked e) f → (f ≡ None → StandsAfter t x.account e)
     → Found (entries ++ e ∷ []) (record { ledger = t; fault = f }) f
 found_more entries e a t None x is after =
     let y = after refl in
@@ -68,7 +69,7 @@ found_more entries e a t None x is after =
       account = y.0;
       is = account_push entries e x.account x.is ∙ y.1;
       stands = y.2;
-      audited = audited_push entries e x.account x.audited x.is (subst (IsVerdict x.account (looked e)) (sym is) (first_verdict x.account e x.stands.sound));
+      audited = audited_push entries e x.account x.audited x.is is;
     }
 found_more entries e a t (Some f) x is after = record {
   front = entries;
@@ -77,36 +78,28 @@ found_more entries e a t (Some f) x is after = record {
   audited = x.audited;
   account = x.account;
   before = x.is;
-  verdict = subst (IsVerdict x.account (looked e)) (sym is) (first_verdict x.account e x.stands.sound);
+  verdict = is;
 }
 
--- ---- what the ledger took
+-- an entry that is passed over leaves what was found
+pub passed_found : (entries : List Entry) (e : Entry) (a : Audit) → IsPassedOver e → Found entries a None → Found (entries ++ e ∷ []) a None
+passed_found entries e a passed x = record {
+  account = x.account;
+  is = account_push entries e x.account x.is ∙ (passed x.account).0;
+  stands = x.stands;
+  audited = audited_push entries e x.account x.audited x.is (passed x.account).1;
+}
 
-false_not : (b : Bool) → b ≡ true → b ≡ false → ⊥
-false_not b t f = true≢false (sym t ∙ f)
+-- what is no request, response, shown word or event has no fault
+pub other_clear : (l : Account) → HasNoFault l Other
+other_clear l (NoNode k) h = h
+other_clear l (Overlap k) h = h
+other_clear l (Orphan k) h = h
+other_clear l (NotAllowed k o) h = h
+other_clear l (WrongWord v w) h = h
+other_clear l (NoMove v w) h = h
+other_clear l (NoEvent k) h = h
 
-pub follows_true : (t new : Tables) (o : Option Account) (b : Bool) → b ≡ true → LedgerFollows b t new o → (m : Account) × (o ≡ Some m) × StandsFor new m
-follows_true t new None b is f = absurd (false_not b is f.0)
-follows_true t new (Some m) b is f = (m, refl, f.1)
-
-pub follows_false : (t new : Tables) (o : Option Account) (b : Bool) → b ≡ false → LedgerFollows b t new o → (o ≡ None) × (new ≡ t)
-follows_false t new None b is f = (refl, f.1)
-follows_false t new (Some m) b is f = absurd (false_not b f.0 is)
-
--- an entry that it does not take
-pub refused_found : (l : Account) (e : Entry) (t new : Tables) (j r : Option AuditFault) (b : Bool) → StandsFor t l → j ≡ None → j ≡ judged l (looked e) → b ≡ false → LedgerFollows b t new (next_account l e)
-    → ((m : Account) → StandsFor new m → r ≡ unmoved m (looked e)) → r ≡ verdict l e
-refused_found l e t new j r b h none is not f says =
-    let y = follows_false t new (next_account l e) b not f in
-    says l (subst (λ x. StandsFor x l) (sym y.1) h) ∙ sym (ap (λ o. found_after o (next_account l e) (unmoved l (looked e))) (sym is ∙ none) ∙ ap (λ o. found_after None o (unmoved l (looked e))) y.0)
-
--- has a fault
-pub refused_some : (l : Account) (e : Entry) (t new : Tables) (r : Option AuditFault) (b : Bool) → StandsFor t l → b ≡ false → LedgerFollows b t new (next_account l e) → r ≡ verdict l e → r ≡ None → ⊥
-refused_some l e t new r b h not f is none =
-    let y = follows_false t new (next_account l e) b not f in
-    let v : HasNoFault l (looked e) = subst (IsVerdict l (looked e)) (sym is ∙ none) (first_verdict l e h.sound) in
-    let m = ((no_fault l e h.sound).0 v).0 in
-    clash m.0 (sym y.0 ∙ m.1)
-  where
-    clash : (k : Account) → None ≡ Some k → ⊥
-    clash k x = cc
+-- so has a packet that is not of a procedure
+pub other_passed : (l : Account) (h : Head) (x : Looked) (o : Option Account) → (h.tl == label_code Procedure) ≡ false → (cond (h.tl == label_code Procedure) o (Some l) ≡ Some l) × HasNoFault l (labelled h x)
+other_passed l h x o e = (rw e refl, rw e (other_clear l))

@@ -1,10 +1,14 @@
 -- What an audit has found of the entries that it took.
 use Rattle.fw_entry.specs.declared.entry.Entry.{Entry}
+use Rattle.fw_entry.specs.declared.entry.Entry.TheVariants.{Reset}
+use Rattle.fw_entry.specs.declared.entry.ResetEntry.{ResetEntry}
 use Rattle.std.specs.Prelude.{◌≡◌, Option, Some, None, List}
 use Rattle.fw_account.specs.Account.{Account}
 use Rattle.fw_account.specs.Fold.{next_account, account_of}
 use Rattle.fw_ledger.specs.Stands.{StandsFor}
 use Rattle.fw_ledger.specs.declared.tables.Tables.{Tables}
+use Rattle.fw_faults.specs.Looked.{looked}
+use Rattle.fw_faults.specs.Faults.{HasNoFault}
 use Rattle.fw_faults.specs.Audited.{IsAudited, EndsFaulty}
 use Rattle.fw_faults.specs.declared.fault.AuditFault.{AuditFault}
 use Rattle.fw_audit.specs.declared.audit.Audit.{Audit}
@@ -12,6 +16,14 @@ use Rattle.fw_audit.specs.declared.audit.Audit.{Audit}
 -- the tables stand for the account with one entry more
 abbrev pub StandsAfter : Tables → Account → Entry → Type 0
 StandsAfter t l e = (m : Account) × (next_account l e ≡ Some m) × StandsFor t m
+
+-- the entry changes no account, and has no fault over any
+abbrev pub IsPassedOver : Entry → Type 0
+IsPassedOver e = (l : Account) → (next_account l e ≡ Some l) × HasNoFault l (looked e)
+
+-- the entry is a reset
+abbrev pub IsReset : Entry → Type 0
+IsReset e = (r : ResetEntry) × (e ≡ Reset r)
 
 -- these entries were taken, and none had a fault
 pub record Follows (entries : List Entry) (a : Audit) : Type 0 where

@@ -1,15 +1,18 @@
 ghost use Rattle.std.specs.Prelude.{◌≡◌, ◌++◌, ◌∷◌, [], List, Option, Some, None, IfOk, IfErr, IsOkAnd};
 ghost use Rattle.fw_entry.specs.declared.entry.Entry.{Entry as LogEntry};
+ghost use Rattle.fw_entry.specs.declared.entry.Entry.TheVariants.{Shown};
+ghost use Rattle.fw_entry.specs.declared.entry.ShownEntry.{ShownEntry};
 ghost use Rattle.fw_entry.specs.Log.{Fits};
 ghost use Rattle.fw_account.specs.Account.{Account};
 ghost use Rattle.fw_ledger.specs.Stands.{StandsFor};
 ghost use Rattle.fw_faults.specs.Looked.{looked};
 ghost use Rattle.fw_faults.specs.Faults.{IsVerdict};
-ghost use Rattle.fw_faults.specs.Judged.{verdict};
 ghost use Rattle.fw_faults.specs.declared.fault.AuditFault.{AuditFault as Fault};
 ghost use Rattle.fw_audit.specs.Found.{Found, StandsAfter};
 
-use crate::judge::{judge, swap_refused};
+use crate::answers::judge_answer;
+use crate::refusals::fault_of;
+use crate::shown::judge_shown;
 use fw_entry::{Entry, Timed};
 use fw_faults::AuditFault;
 use fw_ledger::Ledger;
@@ -22,20 +25,33 @@ pub struct Audit {
     fault: Option<AuditFault>,
 }
 
-// The ledger takes an entry, unless it has a fault.
-fn take_entry(ledger: &mut Ledger, t: &Timed) -> Result<Option<AuditFault>, AllocError>
-    requires fits { Fits t.now.what }
-    ensures found { (l : Account) → StandsFor ledger.old l → IsOkAnd result (λ f. f ≡ verdict l t.now.what) }
-    ensures taken { (l : Account) → StandsFor ledger.old l → IfOk result (λ f. f ≡ None → StandsAfter ledger.new l t.now.what) }
-    ensures memory { IfErr result (λ e. ledger.new ≡ ledger.old) }
+// The ledger takes an entry that is no shown word, and that has this fault. After a fault nothing is said of the ledger.
+fn take_other(ledger: &mut Ledger, e: &Entry) -> Option<AuditFault>
+    requires fits { Fits e.now }
+    requires other { (s : ShownEntry) → e.now ≡ Shown s → ⊥ }
+    ensures found { (l : Account) → StandsFor ledger.old l → IsVerdict l (looked e.now) result }
+    ensures taken { (l : Account) → StandsFor ledger.old l → result ≡ None → StandsAfter ledger.new l e.now }
 {
-    if let Some(fault) = judge(ledger, &t.what) {
-        return Ok(Some(fault));
+    let answer = match ledger.take_entry(e) {
+        Ok(answer) => answer,
+        Err(refused) => return Some(fault_of(refused)),
+    };
+    match answer {
+        Some(answer) => judge_answer(&answer),
+        None => None,
     }
-    if ledger.take(t)? {
-        return Ok(None);
+}
+
+// The ledger takes an entry, which has this fault.
+fn take_entry(ledger: &mut Ledger, e: &Entry) -> Option<AuditFault>
+    requires fits { Fits e.now }
+    ensures found { (l : Account) → StandsFor ledger.old l → IsVerdict l (looked e.now) result }
+    ensures taken { (l : Account) → StandsFor ledger.old l → result ≡ None → StandsAfter ledger.new l e.now }
+{
+    match e {
+        Entry::Shown(shown) => judge_shown(ledger, shown),
+        _ => take_other(ledger, e),
     }
-    Ok(swap_refused(ledger, &t.what))
 }
 
 impl Audit {
@@ -60,7 +76,7 @@ impl Audit {
         ensures memory { IfErr result (λ e. self.new ≡ self.old) }
     {
         if self.fault.is_none() {
-            self.fault = take_entry(&mut self.ledger, t)?;
+            self.fault = take_entry(&mut self.ledger, &t.what);
         }
         Ok(self.fault)
     }

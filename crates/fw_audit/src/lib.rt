@@ -1,11 +1,14 @@
 //! A checker for logs, whoever made them: an `Audit` takes a log entry by entry and answers the first fault.
 #![tactic(auto)]
 
+mod answers;
 mod audit;
-mod judge;
-mod responses;
+mod passing;
+mod refusals;
+mod shown;
 mod watch;
 mod words;
 
 pub use audit::Audit;
 pub use fw_faults::AuditFault;
+pub use passing::{is_passed_over, is_passed_packet};

@@ -1,13 +1,13 @@
 //! The tests of the words that answers show.
 
-ghost use Rattle.std.specs.Prelude.{◌≡◌, Option, Some};
+ghost use Rattle.std.specs.Prelude.{◌≡◌, ℕ};
+ghost use Rattle.std.specs.Option.{option_map};
 ghost use Rattle.fw_account.specs.Account.{Account};
-ghost use Rattle.fw_ledger.specs.Stands.{StandsFor};
+ghost use Rattle.fw_account.specs.Words.{register_of, word_of};
 ghost use Rattle.fw_faults.specs.Judged.{judged_quadlet, judged_word, watched_offset, not_allowed as no_quadlet};
 
 use crate::watch::watched_offset;
 use fw_faults::AuditFault;
-use fw_ledger::Ledger;
 
 // A complete answer that shows no quadlet, or is to no quadlet read or swap.
 pub(crate) fn not_allowed(id: u16, address: u64) -> Option<AuditFault>
@@ -33,16 +33,19 @@ pub(crate) fn judge_word(id: u16, offset: u16, found: u32, due: Option<u32>) -> 
     }
 }
 
-// A complete answer of a node that shows this quadlet of an address.
+// A complete answer that shows this of an address, where this word is due.
 pub(crate) fn judge_quadlet(
-    ledger: &Ledger,
     id: u16,
-    target: u16,
     address: u64,
-    found: u32,
+    shown: Option<u32>,
+    due: Option<u32>,
 ) -> Option<AuditFault>
-    ensures { (l : Account) → StandsFor ledger.now l → result ≡ judged_quadlet l id target address (Some found) }
+    ensures { (l : Account) (target : ℕ) → due ≡ option_map (word_of l) (register_of l.latest target address) → result ≡ judged_quadlet l id target address shown }
 {
+    let found = match shown {
+        Some(found) => found,
+        None => return not_allowed(id, address),
+    };
     let offset = watched_offset(address)?;
-    judge_word(id, offset, found, ledger.word(target, address))
+    judge_word(id, offset, found, due)
 }
