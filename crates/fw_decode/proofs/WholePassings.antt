@@ -12,7 +12,7 @@ use Rattle.fw_explain.specs.Requests.{standing}
 use Rattle.fw_decode.specs.Texts.{each_form, explained_form, all_of_one}
 
 -- the entry that was made is the one that was passed
-made_is : (cycle : ℕ) (what : Entry) (t : Timed) → cycle ≡ t.cycle → what ≡ t.what → record { cycle = cycle; what = what } ≡ t
+pub made_is : (cycle : ℕ) (what : Entry) (t : Timed) → cycle ≡ t.cycle → what ≡ t.what → record { cycle = cycle; what = what } ≡ t
 made_is cycle what t e f = ap (λ (n : ℕ). record t { cycle = n; what = what }) e ∙ ap (λ (w : Entry). record t { what = w }) f
 
 pub object_passes : (room new : List ℕ) (entries : List Timed) (bytes : List ℕ) (reader : State) (p : PassedBody) (x : PassesBody entries bytes reader p) (what : Entry)

@@ -1,21 +1,47 @@
 //! `convert`: a log that is written again in a version, as its entries end.
 
-ghost use Rattle.std.specs.Prelude.{◌≡◌, ◌++◌, [], IfOk, OnOk};
-ghost use Rattle.fw_entry.specs.Log.{Fits, body, epoch_after, entry_bytes};
+ghost use Rattle.std.specs.Prelude.{◌≡◌, ◌≤◌, ◌<◌, ◌/◌, ◌++◌, [], length, take, None, IfOk, OnOk};
+ghost use Rattle.fw_entry.specs.Log.{Fits, body, epoch_after, entry_bytes, entry_head};
+ghost use Rattle.fw_entry.specs.declared.entry.Entry.{Entry};
+ghost use Rattle.fw_entry.specs.declared.version.Version.TheVariants.{One, Two};
+ghost use Rattle.fw_log.specs.Passing.{HasBody};
 ghost use Rattle.fw_reading.specs.Endings.{ReadsLog};
 ghost use Rattle.fw_decode.specs.Texts.{log_form, nothing};
 ghost use Rattle.fw_decode.specs.Silences.{never_refused};
 
 use crate::LogRefusal;
-use fw_log::{Timed, Version, epoch_after, head_of, write_header};
+use fw_entry::codes::kind;
+use fw_log::{LogReader, PlainBody, Room, Timed, Version, epoch_after, head_of, write_header};
 use fw_outside::{Failed, Sink, Source};
 use fw_reading::{Closing, LogEnding, Reading, Stop, read_log};
+use fw_words::quadlet_at;
 use std::alloc::{AllocError, Global};
 use std::marker::Model;
 
 /// How many bytes there is room for at first: more than the entries have of 4,096 bytes of a log and of the longest entry after
 /// them, in the longer version.
 const ROOM: usize = 12_288;
+
+// The head of an entry in version 1.
+fn short_head(kind: u8, quadlets: u16, cycle: u64) -> [u8; 12]
+    ensures { result ≡ entry_head One 0 kind quadlets cycle }
+{
+    let mut head = [kind, 0, 0, 0, 0, 0, 0, 0, 0, 0, 0, 0];
+    head[2..4].copy_from_slice(&quadlets.to_be_bytes());
+    head[4..].copy_from_slice(&cycle.to_be_bytes());
+    head
+}
+
+// The head of an entry in version 2.
+fn long_head(kind: u8, quadlets: u16, epoch: u32, cycle: u64) -> [u8; 16]
+    ensures { result ≡ entry_head Two epoch kind quadlets cycle }
+{
+    let mut head = [kind, 0, 0, 0, 0, 0, 0, 0, 0, 0, 0, 0, 0, 0, 0, 0];
+    head[2..4].copy_from_slice(&quadlets.to_be_bytes());
+    head[4..8].copy_from_slice(&epoch.to_be_bytes());
+    head[8..].copy_from_slice(&cycle.to_be_bytes());
+    head
+}
 
 // The entries that were gathered, in a version, and the epoch of the latest bus reset up to there.
 #[derive(Drop)]
@@ -58,6 +84,45 @@ impl Rewriting {
         self.bytes.extend_from_slice(head.as_slice())?;
         self.bytes.extend_from_slice(bytes)
     }
+
+    // Appends an entry of this kind and cycle, whose body these bytes are, in the epoch of the latest bus reset.
+    fn copy(&mut self, kind: u8, cycle: u64, bytes: &[u8]) -> Result<(), AllocError>
+        requires { length bytes.now ≤ 2276 }
+        ensures version { self.new.version ≡ self.old.version }
+        ensures epoch { self.new.epoch ≡ self.old.epoch }
+        ensures bytes { OnOk result (self.new.bytes ≡ self.old.bytes ++ (entry_head self.old.version self.old.epoch kind (length bytes.now / 4) cycle ++ bytes.now)) }
+    {
+        let quadlets = (bytes.len() / 4) as u16;
+        match self.version {
+            Version::One => {
+                let head = short_head(kind, quadlets, cycle);
+                self.bytes.extend_from_slice(&head)?;
+            }
+            Version::Two => {
+                let head = long_head(kind, quadlets, self.epoch, cycle);
+                self.bytes.extend_from_slice(&head)?;
+            }
+        }
+        self.bytes.extend_from_slice(bytes)
+    }
+
+    // Appends the entry of this cycle that has this body. An error says that memory ran out.
+    fn put_body(&mut self, cycle: u64, body: &PlainBody) -> Result<(), AllocError>
+        requires { (e : Entry) × HasBody body.now e }
+        ensures version { self.new.version ≡ self.old.version }
+        ensures bytes { (e : Entry) → HasBody body.now e
+            → OnOk result (self.new.bytes ≡ self.old.bytes ++ entry_bytes self.old.version (epoch_after self.old.epoch e) (record { cycle = cycle; what = e })) }
+        ensures epoch { (e : Entry) → HasBody body.now e → OnOk result (self.new.epoch ≡ epoch_after self.old.epoch e) }
+    {
+        match body {
+            PlainBody::Packet(bytes) => self.copy(kind::ASYNC, cycle, bytes.as_slice()),
+            PlainBody::Iso(bytes) => self.copy(kind::ISO, cycle, bytes.as_slice()),
+            PlainBody::Reset(bytes) => {
+                self.epoch = quadlet_at(bytes.as_slice(), 0).0;
+                self.copy(kind::RESET, cycle, bytes.as_slice())
+            }
+        }
+    }
 }
 
 impl Reading for Rewriting {
@@ -82,6 +147,20 @@ impl Reading for Rewriting {
     fn take(&mut self, entry: &Timed, bytes: &[u8]) -> Result<Option<LogRefusal>, AllocError> {
         self.put(entry, bytes)?;
         Ok(None)
+    }
+
+    // Between versions only the head of an entry changes: the body of a packet or a bus reset of a usual form is copied.
+    fn pass(
+        &mut self,
+        reader: &mut LogReader,
+        room: &mut Room,
+        piece: &[u8],
+    ) -> Result<Option<usize>, AllocError> {
+        let Some(passed) = reader.pass_body(piece, room) else {
+            return Ok(None);
+        };
+        self.put_body(passed.cycle, &passed.body)?;
+        Ok(Some(passed.used))
     }
 
     fn gathered(&self) -> &[u8] {
