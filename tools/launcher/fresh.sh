@@ -6,7 +6,7 @@ built=$root/crates/fire/out
 # Whether all that a list names is as it says. A new source file needs no look of its own: it is nothing before a file of the list names it.
 is_fresh() {
     [ -f "$1" ] || return 1
-    (cd "$root" && b2sum --status -c "$1") 2>/dev/null
+    (cd "$root" && exec b2sum --status -c "$1") 2>/dev/null
 }
 
 # Whether the shipped program runs on this machine. It is tried once in a checkout, and what it is is told then.
