@@ -1,4 +1,3 @@
 pub mod Gen
 pub mod Counted
 pub mod Summary
-pub mod Kept

@@ -1,6 +1,6 @@
 //! The word `dub`.
 
-ghost use Rattle.std.specs.Prelude.{◌≡◌, List, ℕ, Some, None, IsFalse};
+ghost use Rattle.std.specs.Prelude.{◌≡◌, List, ℕ, Some, IsFalse};
 ghost use Rattle.fw_bus.specs.Buses.{StandsFor};
 ghost use Rattle.fw_run.specs.State.{first_state};
 ghost use Rattle.fw_tape.specs.Desks.{AnyBlock, AnyVendorByte};
@@ -13,24 +13,10 @@ use crate::seed::in_memory;
 use crate::step::carry_next;
 use fw_bus::Bus;
 use fw_dub::Reel;
-use fw_outside::{Failed, Sink, Source, Stop};
+use fw_outside::{Failed, Nowhere, Sink, Source, Stop};
 use fw_script::ScriptReader;
 use fw_tape::Desk;
 use std::alloc::Global;
-
-/// Takes what it is given, and keeps nothing of it.
-#[derive(Drop)]
-struct Nowhere;
-
-impl Sink for Nowhere {
-    ghost held = { λ _. None };
-
-    ghost faults = { λ _. 0 };
-
-    fn write(&mut self, _piece: &[u8]) -> Result<(), Failed> {
-        Ok(())
-    }
-}
 
 // Reads a script and carries out its commands on a new bus. Its log is kept nowhere.
 fn record_run<S: Source, F: Fn(u16, u32, u16) -> [u8; 480], H: Fn(u32, u8) -> u8>(

@@ -4,7 +4,6 @@
 mod about;
 mod dispatch;
 mod ending;
-mod flush;
 mod forms;
 mod laws;
 mod logs;
@@ -16,9 +15,9 @@ mod words;
 
 pub use about::About;
 pub use ending::Ending;
-pub use flush::Flush;
 pub use fw_decode::{LogWord, NoMap, Unsound};
-pub use fw_gen::{GrowSink, gen_script};
+pub use fw_gen::gen_script;
+pub use fw_outside::{Flush, GrowSink};
 pub use fw_simulate::{Refusal, Refused, ScriptWord};
 pub use fw_text::entry_text;
 pub use laws::whole_logs_are_read;

@@ -7,9 +7,8 @@ ghost use Rattle.fw_tool.specs.Serving.{Serves};
 
 use crate::dispatch::carry_out;
 use crate::ending::Ending;
-use crate::flush::Flush;
 use crate::notes::tell;
-use fw_outside::{Failed, Sink, Source, Stop};
+use fw_outside::{Failed, Flush, Sink, Source, Stop};
 use fw_tape::Desk;
 use std::alloc::Global;
 

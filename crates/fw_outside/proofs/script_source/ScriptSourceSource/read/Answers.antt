@@ -2,7 +2,7 @@ use Rattle.std.proofs.Common.{rules, arith, drop, sym, ◌+◌, length}
 use Rattle.std.proofs.lemmas.Grind.{common_steps}
 use Rattle.std.proofs.lemmas.List.{drop-drop}
 use Rattle.fw_outside.proofs.Fronts.{reads_front}
-use Rattle.fw_gen.proofs.script_source.ScriptSourceSource.read.Goals as goal
+use Rattle.fw_outside.proofs.script_source.ScriptSourceSource.read.Goals as goal
 
 -- what was copied is the front of what was left
 pub returns-clause-bytes : goal.returns-clause-bytes

@@ -1,9 +1,7 @@
-//! Sinks, and what they keep back until a last flush.
-
 ghost use Rattle.std.specs.Prelude.{◌≡◌, List, ℕ, Bool, true, false, [], take, IsTrue, IsOk, OnOk, OnErr};
 ghost use Rattle.fw_outside.specs.Outside.{Rose};
 
-use fw_outside::{BufferedSink, Failed, MemSink, Sink};
+use crate::{BufferedSink, Failed, MemSink, Sink};
 use std::io::Write;
 
 /// A sink that may keep bytes back.

@@ -1,7 +1,7 @@
 ghost use Rattle.std.specs.Prelude.{◌≡◌, ◌≤◌, ◌+◌, [], length, take, Some, IsOk, OnOk, OnErr};
 ghost use Rattle.fw_outside.specs.Outside.{HasCause, Writes, counted};
 
-use fw_outside::{Failed, Sink};
+use crate::{Failed, Sink};
 use std::alloc::Global;
 use std::marker::Model;
 
@@ -14,7 +14,7 @@ pub struct GrowSink {
 
 impl Model for GrowSink {
     ghost use Rattle.std.specs.Prelude.{vec_capacity};
-    ghost use Rattle.fw_gen.specs.Kept.{Kept};
+    ghost use Rattle.fw_outside.specs.Memory.{Kept};
 
     ghost Value = { Kept };
 
@@ -22,7 +22,7 @@ impl Model for GrowSink {
 }
 
 impl GrowSink {
-    ghost use Rattle.fw_gen.specs.Kept.{Kept};
+    ghost use Rattle.fw_outside.specs.Memory.{Kept};
 
     /// An empty sink, which has taken no memory yet.
     pub fn new(alloc: Global) -> GrowSink

@@ -2,7 +2,7 @@ ghost use Rattle.std.specs.Prelude.{ℕ, ◌≡◌, ◌<◌, length, min, Some, 
 ghost use Rattle.std.specs.Io.{ReadsAtMost};
 ghost use Rattle.fw_outside.specs.Outside.{HasCause, Reads};
 
-use fw_outside::{Failed, Source, copy_front};
+use crate::{Failed, Source, copy_front};
 use std::marker::Model;
 
 /// A source over bytes in memory, of which no read fails.
