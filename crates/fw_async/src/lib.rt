@@ -26,7 +26,7 @@ mod wire;
 mod write;
 mod writer;
 
-pub use node_ids::{local_number, node_id, node_ids_are_numbers, number_of};
+pub use node_ids::{MOST_NODES, local_number, node_id, node_ids_are_numbers, number_of};
 pub use packet::{Head, Packet};
 pub use pieces::PacketReader;
 pub use plain::is_plain_packet;

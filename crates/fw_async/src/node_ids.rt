@@ -6,6 +6,9 @@ ghost use Rattle.fw_async.specs.NodeIds.{first_id, node_id, number_of, local_num
 /// The node ID of node 0 of the local bus: ten ones, and six zeros (IEEE 1394-1995, node_ID).
 const FIRST_ID: u16 = 0xFFC0;
 
+/// How many nodes a bus may have: the number 63 stands for all of them (IEEE 1394-1995, node_ID).
+pub const MOST_NODES: usize = 63;
+
 /// The node ID of a node of the local bus, by its number, at most 63.
 pub fn node_id(number: u8) -> u16
     requires { number ≤ 63 }
