@@ -12,8 +12,10 @@ mod data;
 mod faults;
 mod header;
 mod lock;
+mod node_ids;
 mod packet;
 mod pieces;
+mod plain;
 mod quadlets;
 mod read;
 mod reader;
@@ -24,11 +26,14 @@ mod wire;
 mod write;
 mod writer;
 
+pub use node_ids::{MOST_NODES, local_number, node_id, node_ids_are_numbers, number_of};
 pub use packet::{Head, Packet};
 pub use pieces::PacketReader;
+pub use plain::is_plain_packet;
 pub use quadlets::{QuadletRequest, quadlet_request_at};
 pub use reader::{Fed, destination_at, read_packet, whole_packet};
 pub use room::PacketRoom;
+pub use tcode::Tcode;
 pub use wire::Wire;
 pub use writer::{packet_length, write_packet, write_packet_at};
 

@@ -16,10 +16,10 @@ use crate::tcode::Tcode;
 use fw_words::{Swap, quadlet_at};
 
 /// Quadlet 3 of a compare_swap of quadlets: eight bytes of data, and its extended_tcode.
-const SWAP_SIZE: u32 = 0x0008_0002;
+pub(crate) const SWAP_SIZE: u32 = 0x0008_0002;
 
 /// Quadlet 3 of its response: the four bytes of the old value.
-const OLD_SIZE: u32 = 0x0004_0002;
+pub(crate) const OLD_SIZE: u32 = 0x0004_0002;
 
 /// Quadlet 3 of a response without an old value.
 const NO_OLD_SIZE: u32 = 0x0000_0002;

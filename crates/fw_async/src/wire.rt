@@ -6,15 +6,13 @@ ghost use Rattle.fw_async.specs.Async.{spelling, Fits};
 ghost use Rattle.fw_async.specs.Reader.{IsPacket};
 ghost use Rattle.fw_async.specs.Wire.{bytes_from, without};
 
+use crate::node_ids::MOST_NODES;
 use crate::packet::Packet;
 use crate::room::PacketRoom;
 use crate::senders::Senders;
 use crate::writer::spell_over;
 use fw_words::Bytes;
 use std::marker::Model;
-
-/// How many nodes a bus may have.
-const MOST: usize = 63;
 
 /// How many bytes the longest packet has.
 const LONGEST: usize = 528;
@@ -25,8 +23,8 @@ const LONGEST: usize = 528;
 pub struct Wire {
     senders: Senders,
     /// By sender: how many bytes of its packet stand, at the front of its row; none where it has no pair.
-    lengths: [usize; MOST],
-    rows: [[u8; LONGEST]; MOST],
+    lengths: [usize; MOST_NODES],
+    rows: [[u8; LONGEST]; MOST_NODES],
 }
 
 impl Model for Wire {
@@ -46,8 +44,8 @@ impl Wire {
     {
         Wire {
             senders: Senders::new(),
-            lengths: [0; MOST],
-            rows: [[0; LONGEST]; MOST],
+            lengths: [0; MOST_NODES],
+            rows: [[0; LONGEST]; MOST_NODES],
         }
     }
 
@@ -82,7 +80,7 @@ impl Wire {
         ensures { option_map (λ b. b.now) result ≡ bytes_from from self.now }
     {
         let at = usize::from(from);
-        if at >= MOST || self.lengths[at] == 0 {
+        if at >= MOST_NODES || self.lengths[at] == 0 {
             return None;
         }
         let row = &self.rows[at];
@@ -97,7 +95,7 @@ impl Wire {
         ensures absent { IfNone result (self.new ≡ self.old) }
     {
         let at = usize::from(from);
-        if at >= MOST || self.lengths[at] == 0 {
+        if at >= MOST_NODES || self.lengths[at] == 0 {
             return None;
         }
         let row = &self.rows[at];
@@ -120,7 +118,7 @@ impl Wire {
     pub fn clear(&mut self)
         ensures { self.new ≡ [] }
     {
-        self.lengths = [0; MOST];
+        self.lengths = [0; MOST_NODES];
         self.senders.clear();
     }
 }

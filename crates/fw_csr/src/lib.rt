@@ -10,11 +10,12 @@ pub mod offset;
 mod register;
 mod reply;
 mod request;
+mod time;
 mod word;
 
 pub use access::QuadletAccess;
 pub use laws::{registers_stand_at_their_low_offsets, registers_stand_at_their_offsets};
-pub use manager::Manager;
+pub use manager::{Manager, NO_BUS_MANAGER};
 pub use offset::{
     BANDWIDTH_AVAILABLE, BUS_MANAGER_ID, CHANNELS_AVAILABLE_HI, CHANNELS_AVAILABLE_LO,
     REGISTER_SPACE,
@@ -22,4 +23,5 @@ pub use offset::{
 pub use register::Register;
 pub use reply::{Reply, ResponseCode};
 pub use request::{RegisterRequest, Request};
+pub use time::{CYCLES_PER_SECOND, SPLIT_TIMEOUT};
 pub use word::Word;

@@ -9,8 +9,8 @@ use crate::offset::{
 use crate::{Register, RegisterRequest, Reply, Word};
 use std::marker::Model;
 
-/// BUS_MANAGER_ID while there is no bus manager.
-const NO_BUS_MANAGER: u32 = 0x3F;
+/// BUS_MANAGER_ID while there is no bus manager (IEEE 1394-1995, 8.3.2.3.6).
+pub const NO_BUS_MANAGER: u32 = 0x3F;
 /// The bandwidth allocation units that a bus reset makes available.
 const ALL_UNITS: u32 = 4915;
 /// Each bit is 1: each of 32 channels is free.

@@ -4,11 +4,13 @@
 //! with a reserved bit set is no packet.
 #![tactic(auto)]
 
+mod first_bits;
 mod packet;
 mod read;
 mod self_ids;
 mod write;
 
+pub use first_bits::begins_self_id;
 pub use packet::{PhyPacket, SelfId, SelfIdMore};
 pub use read::read_phy;
 pub use self_ids::SelfIds;

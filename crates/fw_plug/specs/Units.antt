@@ -10,6 +10,10 @@ overhead_units id = if id == 0 then 512 else 32 * id
 abbrev pub payload_quadlets : ℕ → ℕ
 payload_quadlets payload = if payload == 0 then 1024 else payload
 
+-- the bandwidth units of an output plug's flow with an overhead_ID, by the word of its oPCR
+abbrev pub units_with : ℕ → ℕ → ℕ
+units_with overhead w = overhead_units overhead + (payload_quadlets (field w 22 31) + 3) * 2 ^ (4 - field w 16 17)
+
 -- the bandwidth units of an output plug's flow, by the word of its oPCR
 abbrev pub units : ℕ → ℕ
-units w = overhead_units (field w 18 21) + (payload_quadlets (field w 22 31) + 3) * 2 ^ (4 - field w 16 17)
+units w = units_with (field w 18 21) w

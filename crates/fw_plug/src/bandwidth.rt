@@ -1,5 +1,5 @@
-ghost use Rattle.std.specs.Prelude.{◌≡◌};
-ghost use Rattle.fw_plug.specs.Units.{units};
+ghost use Rattle.std.specs.Prelude.{◌≡◌, ◌<◌};
+ghost use Rattle.fw_plug.specs.Units.{units, units_with};
 
 use crate::OutWord;
 
@@ -9,7 +9,15 @@ use crate::OutWord;
 pub fn units(w: OutWord) -> u32
     ensures { result ≡ units w.0 }
 {
-    let overhead = match w.overhead() {
+    units_with(w.overhead(), w)
+}
+
+/// The units that the flow of an output plug takes with another overhead_ID.
+pub fn units_with(overhead: u8, w: OutWord) -> u32
+    requires { overhead < 16 }
+    ensures value { result ≡ units_with overhead w.0 }
+{
+    let fixed = match overhead {
         0 => 512,
         id => 32 * u32::from(id),
     };
@@ -17,5 +25,5 @@ pub fn units(w: OutWord) -> u32
         0 => 1024,
         quadlets => u32::from(quadlets),
     };
-    overhead + ((payload + 3) << (4 - w.rate()))
+    fixed + ((payload + 3) << (4 - w.rate()))
 }

@@ -1,11 +1,11 @@
 ghost use Rattle.std.specs.Prelude.{◌≡◌, ◌==◌, ◌&&◌, false};
 ghost use Rattle.fw_csr.specs.Replies.{reply_at, word_after};
 ghost use Rattle.fw_csr.specs.declared.register.Register.TheVariants.{ReadSwap};
-ghost use Rattle.fw_plug.specs.Plugs.{disconnected, is_active, plug_after_reset, plug_after_second};
+ghost use Rattle.fw_plug.specs.Plugs.{is_active, plug_after_reset, plug_after_second};
 
+use crate::connection::disconnected;
 use crate::word::is_connected;
 use fw_csr::{RegisterRequest, Reply, Word};
-use fw_words::{Quadlet, with_field};
 
 /// A plug with its control register (IEC 61883-1, 7).
 #[derive(Clone, Copy)]
@@ -74,13 +74,4 @@ impl Plug {
         plug.lingers = false;
         plug
     }
-}
-
-/// The word with the broadcast connection bit and the point-to-point connection counter cleared.
-fn disconnected(word: u32) -> u32
-    ensures { result ≡ disconnected word }
-{
-    let word = Quadlet(word);
-    let unconnected = with_field(word.field(0, 0), 7, 0);
-    with_field(unconnected, 24, word.field(8, 31))
 }

@@ -5,6 +5,7 @@ ghost use Rattle.fw_csr.specs.Replies.{reply};
 ghost use Rattle.fw_plug.specs.Plugs.{first_words, table_of, register_at, output_master, input_master, words_after, reset_words, after_second, is_active};
 
 use crate::row::Row;
+use crate::settings::{FIRST_CHANNEL, unconnected_input, unconnected_output};
 use crate::{InWord, OutWord};
 use fw_csr::offset::{IMPR, IPCR, OMPR, OPCR};
 use fw_csr::{Register, RegisterRequest, Reply};
@@ -45,11 +46,10 @@ impl Plugs {
         requires rate { rate ≤ 2 }
         ensures { result ≡ first_words outs ins rate }
     {
-        let out_word = 0x803F_007A + (u32::from(rate) << 14);
         Plugs {
             rate,
-            outputs: Row::new(outs, out_word),
-            inputs: Row::new(ins, 0x803F_0000),
+            outputs: Row::new(outs, unconnected_output(FIRST_CHANNEL, rate, 0)),
+            inputs: Row::new(ins, unconnected_input(FIRST_CHANNEL)),
         }
     }
 
