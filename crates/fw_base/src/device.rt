@@ -1,5 +1,6 @@
 ghost use Rattle.std.specs.Prelude.{◌≡◌, ◌≤◌, ◌↔◌, IfSome, IsNone};
-ghost use Rattle.fw_base.specs.Devices.{code_of, has_link, is_contender, has_unit, output_plugs_of, input_plugs_of};
+ghost use Rattle.std.specs.Str.{bytes_eq};
+ghost use Rattle.fw_base.specs.Devices.{code_of, kind_with, kind_coded, name_of, kind_named, has_link, is_contender, is_capable, has_unit, output_plugs_of, input_plugs_of};
 
 /// The kinds of devices (own). Each but a relay has a link (L) and a controller of its own.
 #[derive(Clone, Copy)]
@@ -10,23 +11,60 @@ pub enum DeviceKind {
     Deck,
     /// A tape deck that is no contender.
     Camcorder,
-    /// A contender with four input plugs and no tape.
+    /// A contender with four input plugs and no tape, and the one kind with the capabilities of a bus manager.
     Computer,
 }
 
 impl DeviceKind {
     /// The kind with this code. None exactly where the code is above 3.
     pub fn from_code(code: u8) -> Option<DeviceKind>
+        ensures value { result ≡ kind_coded code }
         ensures kind { IfSome result (λ kind. code_of kind ≡ code) }
         ensures none { IsNone result ↔ (4 ≤ code) }
     {
-        match code {
-            0 => Some(DeviceKind::Relay),
-            1 => Some(DeviceKind::Deck),
-            2 => Some(DeviceKind::Camcorder),
-            3 => Some(DeviceKind::Computer),
-            _ => None,
+        if code <= 3 {
+            Some(DeviceKind::with_code(code))
+        } else {
+            None
         }
+    }
+
+    /// The kind with this code, 0 to 3.
+    pub fn with_code(code: u8) -> DeviceKind
+        requires { code ≤ 3 }
+        ensures kind { result ≡ kind_with code }
+        ensures code { code_of result ≡ code }
+    {
+        match code {
+            0 => DeviceKind::Relay,
+            1 => DeviceKind::Deck,
+            2 => DeviceKind::Camcorder,
+            _ => DeviceKind::Computer,
+        }
+    }
+
+    /// The kind with this name (`name`).
+    pub fn named(name: &[u8]) -> Option<DeviceKind>
+        ensures { result ≡ kind_named name.now }
+    {
+        if DeviceKind::Relay.is_named(name) {
+            Some(DeviceKind::Relay)
+        } else if DeviceKind::Deck.is_named(name) {
+            Some(DeviceKind::Deck)
+        } else if DeviceKind::Camcorder.is_named(name) {
+            Some(DeviceKind::Camcorder)
+        } else if DeviceKind::Computer.is_named(name) {
+            Some(DeviceKind::Computer)
+        } else {
+            None
+        }
+    }
+
+    /// This is the kind's name.
+    fn is_named(self, name: &[u8]) -> bool
+        ensures { result ≡ bytes_eq name.now (name_of self) }
+    {
+        name == self.name().as_bytes()
     }
 
     /// The kind's code, 0 to 3.
@@ -38,6 +76,18 @@ impl DeviceKind {
             DeviceKind::Deck => 1,
             DeviceKind::Camcorder => 2,
             DeviceKind::Computer => 3,
+        }
+    }
+
+    /// The kind's name, in scripts and in texts.
+    pub fn name(self) -> &'static str
+        ensures { result.now ≡ name_of self }
+    {
+        match self {
+            DeviceKind::Relay => "relay",
+            DeviceKind::Deck => "deck",
+            DeviceKind::Camcorder => "camcorder",
+            DeviceKind::Computer => "computer",
         }
     }
 
@@ -53,6 +103,13 @@ impl DeviceKind {
         ensures { result ≡ is_contender self }
     {
         matches!(self, DeviceKind::Deck | DeviceKind::Computer)
+    }
+
+    /// The device has the capabilities of a bus manager.
+    pub fn is_capable(self) -> bool
+        ensures { result ≡ is_capable self }
+    {
+        matches!(self, DeviceKind::Computer)
     }
 
     /// The device is an AV/C unit with a tape subunit.

@@ -1,12 +1,11 @@
 -- What nodes keep after a transaction of the script: no register of the account changes, and BUS_MANAGER_ID as the run says.
-use Rattle.std.proofs.Common.{true≢false, ◌≡◌, ◌≢◌, ℕ, ◌+◌, ◌*◌, ◌<◌, ◌≤◌, List, length, Bool, true, false, cond, ◌==◌, Option, Some, None, refl, ap, sym, subst, ◌∙◌, arith, IsTrue, IsFalse, ◌⊎◌, inl, inr, slice_set, unwrap_or}
+use Rattle.std.proofs.Common.{true≢false, ◌≡◌, ◌≢◌, ℕ, ◌+◌, ◌*◌, ◌<◌, List, length, Bool, true, false, cond, ◌==◌, Option, Some, None, refl, ap, sym, subst, ◌∙◌, arith, IsTrue, IsFalse, ◌⊎◌, inl, inr, slice_set, unwrap_or}
 use Rattle.std.specs.Option.{option_map}
 use Rattle.std.proofs.lemmas.Bool.{cases_eq}
 use Rattle.std.proofs.lemmas.Bool.Decides.{nat_tests}
 use Rattle.std.proofs.lemmas.List.{get_or-set_other, get_or-set_same, length-set}
-use Rattle.fw_base.specs.Devices.{output_plugs_of, input_plugs_of}
-use Rattle.fw_base.specs.declared.device.DeviceKind.{DeviceKind}
-use Rattle.fw_base.specs.declared.device.DeviceKind.TheVariants.{Relay, Deck, Camcorder, Computer}
+use Rattle.fw_base.specs.declared.device.DeviceKind.TheVariants.{Relay}
+use Rattle.fw_base.proofs.KindLaws.{plugs_few}
 use Rattle.fw_async.specs.declared.packet.Head.{Head}
 use Rattle.fw_async.specs.declared.packet.Packet.{Packet}
 use Rattle.fw_csr.specs.declared.request.Request.{Request}
@@ -51,12 +50,6 @@ pub kept : (a : Access) (offset at word : ℕ) → IsFalse (is_guarded a) → is
 kept (Read here) offset at word free guarded is = either_same (first_address + here == at) word
 kept (Swap here swap) offset at word free guarded is =
     elsewhere (first_address + here == at) _ word (λ same. let e : here ≡ offset = grind (arith, nat_tests) in true≢false (sym guarded ∙ ap is_guarded_at (sym e) ∙ free))
-
-plugs_few : (kind : DeviceKind) → (output_plugs_of kind ≤ 1) × (input_plugs_of kind ≤ 4)
-plugs_few Relay = (omega arith, omega arith)
-plugs_few Deck = (omega arith, omega arith)
-plugs_few Camcorder = (omega arith, omega arith)
-plugs_few Computer = (omega arith, omega arith)
 
 pub output_guarded : (k : ℕ) → k < 31 → is_guarded_at (0x904 + 4 * k) ≡ true
 output_guarded k lt = grind (arith, nat_tests)

@@ -38,7 +38,7 @@ use Rattle.fw_run.specs.Good.{IsGood, IsLatest}
 use Rattle.fw_run.specs.Spaces.{is_manager, bus_manager_id_after}
 use Rattle.fw_run.specs.State.{State, epoch_of, number_in, manager_in, is_linked, is_living}
 use Rattle.fw_run.proofs.Around.{step_beside}
-use Rattle.fw_run.proofs.Grows.{contender_links}
+use Rattle.fw_base.proofs.KindLaws.{contender_linked}
 use Rattle.fw_run.proofs.Words.{device_of_number}
 use Rattle.fw_machine.specs.declared.machine.Machine.{Machine}
 use Rattle.fw_machine.specs.Bids.{HasBids, packet_of_bid, bid_from}
@@ -84,7 +84,7 @@ seat m s manager g st is = go s.account.latest refl g.latest (sym st.devices.man
         let same : w.0 ≡ manager = same_Some w.0 manager (sym (ap (option_map (λ (r : NodeRow). r.device)) (h.1.numbers w.0 n w.1)) ∙ is) in
         let place : number_in s.account.latest manager ≡ Some n = subst (λ d. number_in s.account.latest d ≡ Some n) same (ap (λ o. number_in o w.0) at ∙ w.1) in
         let node : IsTrue (is_node m.devices.nodes manager) = is_node_same m.devices.nodes s st.devices.nodes g manager ∙ ap is_some place in
-        let link : has_link (kind_at s.declared.kinds manager) ≡ true = subst (λ d. has_link (kind_at s.declared.kinds d) ≡ true) same (contender_links _ w.2) in
+        let link : has_link (kind_at s.declared.kinds manager) ≡ true = subst (λ d. has_link (kind_at s.declared.kinds d) ≡ true) same (contender_linked _ w.2) in
         record {
           number = n;
           manages = ap manager_in at ∙ some;

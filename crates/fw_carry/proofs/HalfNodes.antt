@@ -6,6 +6,7 @@ use Rattle.std.proofs.lemmas.Option.{same_Some}
 use Rattle.fw_base.specs.Devices.{output_plugs_of, input_plugs_of}
 use Rattle.fw_base.specs.Tables.{at_plug}
 use Rattle.fw_base.specs.declared.device.DeviceKind.TheVariants.{Relay}
+use Rattle.fw_base.proofs.KindLaws.{plugs_few}
 use Rattle.fw_base.specs.declared.plug.PlugAt.{PlugAt}
 use Rattle.fw_csr.specs.declared.request.Request.{Request}
 use Rattle.fw_words.specs.declared.swap.Swap.{Swap}
@@ -29,7 +30,7 @@ use Rattle.fw_run.specs.Good.{IsGood}
 use Rattle.fw_machine.specs.Stands.{IsNodeAt, HasNodes}
 use Rattle.fw_machine.proofs.Latest.{numbers_apart}
 use Rattle.fw_machine.proofs.Nodes.{space_as, node_as}
-use Rattle.fw_carry.proofs.Places.{HasTarget, Addresses, output_stands, input_stands, plugs_few, same_output, same_input, same_bandwidth, same_half, no_manager_id, managed, manager_is}
+use Rattle.fw_carry.proofs.Places.{HasTarget, Addresses, output_stands, input_stands, same_output, same_input, same_bandwidth, same_half, no_manager_id, managed, manager_is}
 use Rattle.fw_carry.proofs.Swaps.{IsAnswered, follows, passes}
 use Rattle.fw_run.specs.Dubs.{dub_between}
 

@@ -1,10 +1,8 @@
 -- The node that has a register of the account: its plugs stand, and two registers at one place of it are one.
-use Rattle.std.proofs.Common.{◌≡◌, ◌≢◌, ◌⊎◌, inl, inr, ℕ, ◌+◌, ◌*◌, ◌<◌, ◌≤◌, ◌==◌, slice_get, Bool, true, false, cond, Option, Some, None, is_some, refl, ap, sym, subst, ◌∙◌, arith}
+use Rattle.std.proofs.Common.{◌≡◌, ◌≢◌, ◌⊎◌, inl, inr, ℕ, ◌+◌, ◌*◌, ◌<◌, ◌==◌, slice_get, Bool, true, false, cond, Option, Some, None, is_some, refl, ap, sym, subst, ◌∙◌, arith}
 use Rattle.std.proofs.lemmas.Bool.Decides.{nat_tests}
 use Rattle.fw_base.specs.Devices.{output_plugs_of, input_plugs_of}
 use Rattle.fw_base.specs.Tables.{at_plug}
-use Rattle.fw_base.specs.declared.device.DeviceKind.{DeviceKind}
-use Rattle.fw_base.specs.declared.device.DeviceKind.TheVariants.{Relay, Deck, Camcorder, Computer}
 use Rattle.fw_entry.specs.declared.entry.ResetEntry.{ResetEntry}
 use Rattle.fw_account.specs.Network.{is_output, is_input, is_output_of, is_input_of}
 use Rattle.fw_account.specs.Words.{BandwidthAvailable, ChannelsAvailable, OutputPlug, InputPlug}
@@ -73,13 +71,6 @@ input_stands s d n k g at lt = go s.account.latest refl at
     go (Some e) is num =
         ap (λ o. is_input o (at_plug d k)) is
         ∙ any_at (is_input_of (at_plug d k)) e.nodes n (row_of d (kind_at s.declared.kinds d)) (row_is s e d n g is at) (grind (arith, nat_tests, lt))
-
--- a device has few plugs
-pub plugs_few : (kind : DeviceKind) → (output_plugs_of kind ≤ 1) × (input_plugs_of kind ≤ 4)
-plugs_few Relay = (omega arith, omega arith)
-plugs_few Deck = (omega arith, omega arith)
-plugs_few Camcorder = (omega arith, omega arith)
-plugs_few Computer = (omega arith, omega arith)
 
 -- ---- two registers at one place of a node are one
 

@@ -5,7 +5,7 @@ use Rattle.std.proofs.lemmas.Bool.{cases_eq, cases_lt}
 use Rattle.std.proofs.lemmas.Bool.Decides.{nat_tests}
 use Rattle.std.proofs.lemmas.List.{ext_get_or, get_or-set_same, get_or-set_other, get_or-replicate, get_or_past}
 use Rattle.fw_base.specs.declared.device.DeviceKind.{DeviceKind}
-use Rattle.fw_base.specs.declared.device.DeviceKind.TheVariants.{Relay, Deck, Camcorder, Computer}
+use Rattle.fw_base.proofs.KindLaws.{linked_number as kind_number}
 use Rattle.fw_base.specs.Devices.{has_link}
 use Rattle.fw_entry.specs.declared.entry.ResetEntry.{ResetEntry}
 use Rattle.fw_entry.specs.declared.nodes.NodeRow.{NodeRow}
@@ -88,10 +88,7 @@ by_kind declared number kind = cond ((declared && is_some number) && has_link ki
 
 -- by its kind a device has a link exactly where its row is no relay's
 link_by_row : (d k : ℕ) (kind : DeviceKind) → by_kind true (Some k) kind ≡ cond (is_relay (Some (row_of d kind))) None (Some k)
-link_by_row d k Relay = refl
-link_by_row d k Deck = refl
-link_by_row d k Camcorder = refl
-link_by_row d k Computer = refl
+link_by_row d k kind = sym (kind_number kind k)
 
 -- a device has its number in the list exactly where it has one by the entry, and a link
 link_shown : (rows : List NodeRow) (d : ℕ) (kind : DeviceKind) (o : Option ℕ) → ((k : ℕ) → o ≡ Some k → slice_get rows k ≡ Some (row_of d kind))

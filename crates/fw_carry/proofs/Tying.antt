@@ -3,6 +3,7 @@ use Rattle.std.proofs.Common.{◌≡◌, ◌≢◌, ◌⊎◌, inl, inr, ℕ, �
 use Rattle.std.specs.Option.{option_map}
 use Rattle.std.proofs.lemmas.Bool.{cases_eq}
 use Rattle.fw_async.specs.Async.{spelling}
+use Rattle.fw_base.specs.Devices.{is_capable}
 use Rattle.fw_base.specs.Tables.{update}
 use Rattle.fw_base.specs.declared.device.DeviceKind.{DeviceKind}
 use Rattle.fw_entry.specs.declared.entry.Entry.{Entry}
@@ -14,7 +15,7 @@ use Rattle.fw_manager.specs.declared.candidate.Stage.TheVariants.{Fresh}
 use Rattle.fw_node.specs.Packets.{packet_of}
 use Rattle.fw_devices.specs.Network.{kind_at, kinds_of, is_node}
 use Rattle.fw_run.specs.Bidding.{bid_head, is_candidate}
-use Rattle.fw_run.specs.Elections.{Election, is_capable, with_new_candidate}
+use Rattle.fw_run.specs.Elections.{Election, with_new_candidate}
 use Rattle.fw_run.specs.Entries as Entries
 use Rattle.fw_run.specs.Giving.{at_most}
 use Rattle.fw_run.specs.Recording.{tied_to}

@@ -6,7 +6,7 @@ ghost use Rattle.fw_run.specs.declared.limits.TheConstants.{MOST_HALF_STEPS};
 ghost use Rattle.fw_run.specs.declared.order.Order.TheVariants.{Candidate};
 ghost use Rattle.fw_run.specs.Actions.{Contend};
 ghost use Rattle.fw_run.specs.Carrying.{times, Carries};
-ghost use Rattle.fw_run.specs.Elections.{is_capable};
+ghost use Rattle.fw_base.specs.Devices.{is_capable};
 ghost use Rattle.fw_machine.specs.Candidates.{candidate_in};
 ghost use Rattle.fw_carry.specs.Contending.{BidRests, BidStands, TakesBid};
 ghost use Rattle.fw_carry.specs.Performing.{Performs, Performed};

@@ -4,8 +4,8 @@ use Rattle.std.specs.Str.{bytes_eq}
 use Rattle.std.proofs.lemmas.Bool.{cases_eq, cases_lt}
 use Rattle.std.proofs.lemmas.List.{length-map, length_push, get_or_append_left, get_or_push, get_or_read}
 use Rattle.fw_base.specs.declared.device.DeviceKind.{DeviceKind}
-use Rattle.fw_base.specs.declared.device.DeviceKind.TheVariants.{Relay, Deck, Camcorder, Computer}
-use Rattle.fw_base.specs.Devices.{code_of, has_link, is_contender}
+use Rattle.fw_base.specs.declared.device.DeviceKind.TheVariants.{Relay}
+use Rattle.fw_base.specs.Devices.{has_link, is_contender}
 use Rattle.fw_tree.specs.declared.facts.PhyFacts.{PhyFacts}
 use Rattle.fw_tree.specs.Topology.{Made}
 use Rattle.fw_tree.specs.SelfIds.{facts_at}
@@ -19,14 +19,6 @@ same_bytes_is [] [] = refl
 same_bytes_is [] (y ∷ ys) = refl
 same_bytes_is (x ∷ xs) [] = refl
 same_bytes_is (x ∷ xs) (y ∷ ys) = rw (same_bytes_is xs ys) refl
-
--- a code is of one kind
-pub same_kind : (j k : DeviceKind) → code_of j ≡ code_of k → j ≡ k
-same_kind Relay Relay e = refl
-same_kind Deck Deck e = refl
-same_kind Camcorder Camcorder e = refl
-same_kind Computer Computer e = refl
-same_kind _ _ e = absurd (omega arith)
 
 -- the kind of a device, as its node has it
 pub kind_of_node : (nodes : List NodeState) (d : ℕ) → kind_at (kinds_of nodes) d ≡ (node_at nodes d).kind

@@ -1,13 +1,12 @@
 -- The rows of an entry: each is of the device that has its number, and a device is found under that number alone.
-use Rattle.std.proofs.Common.{◌≡◌, ℕ, ◌<◌, ◌≤◌, ◌==◌, nat_lt, List, length, get_or, slice_get, Option, Some, None, true, false, if◌then◌else◌, arith, refl, sym, ap, subst, ◌∙◌}
+use Rattle.std.proofs.Common.{◌≡◌, ℕ, ◌<◌, ◌==◌, nat_lt, List, length, get_or, slice_get, Option, Some, None, true, false, if◌then◌else◌, arith, refl, sym, ap, subst, ◌∙◌}
 use Rattle.std.specs.List.{All}
 use Rattle.std.specs.Option.{option_map}
 use Rattle.std.proofs.lemmas.Bool.{eq-eqb, ne_eqb, cond_below, cond_above}
 use Rattle.std.proofs.lemmas.List.Sums.{position_or_len_is}
 use Rattle.std.proofs.lemmas.Option.{slice_get_within, get_or_from_slice_get, slice_get-map, same_Some}
 use Rattle.fw_base.specs.declared.device.DeviceKind.{DeviceKind}
-use Rattle.fw_base.specs.declared.device.DeviceKind.TheVariants.{Relay, Deck, Camcorder, Computer}
-use Rattle.fw_base.specs.Devices.{code_of, output_plugs_of, input_plugs_of}
+use Rattle.fw_base.proofs.KindLaws.{code_low, plugs_few}
 use Rattle.fw_entry.specs.declared.nodes.NodeRow.{NodeRow}
 use Rattle.fw_entry.specs.Log.{RowFits, AreApart, devices}
 use Rattle.fw_entry.specs.Network.{node_of_device}
@@ -80,26 +79,8 @@ number_in number kinds rows h d = by (number_at number d) refl
     by (Some n) e = found (node_of_device rows d) (length rows) n (place_of number kinds rows h d n e) (h.nodes.below d n e)
 
 -- what kinds have is within the bounds of the log
-outs_low : (kind : DeviceKind) → output_plugs_of kind ≤ 30
-outs_low Relay = omega arith
-outs_low Deck = omega arith
-outs_low Camcorder = omega arith
-outs_low Computer = omega arith
-
-ins_low : (kind : DeviceKind) → input_plugs_of kind ≤ 30
-ins_low Relay = omega arith
-ins_low Deck = omega arith
-ins_low Camcorder = omega arith
-ins_low Computer = omega arith
-
-code_low : (kind : DeviceKind) → code_of kind ≤ 3
-code_low Relay = omega arith
-code_low Deck = omega arith
-code_low Camcorder = omega arith
-code_low Computer = omega arith
-
 pub row_fits : (d : ℕ) (kind : DeviceKind) → d < 63 → RowFits (row_of d kind)
-row_fits d kind low = record { device = low; outs = omega (arith, outs_low kind); ins = omega (arith, ins_low kind); kind = code_low kind }
+row_fits d kind low = let few = plugs_few kind in record { device = low; outs = omega (arith, few.0); ins = omega (arith, few.1); kind = code_low kind }
 
 pub rows_fit : (number : List (Option ℕ)) (kinds : List DeviceKind) (rows : List NodeRow) → AreRows number kinds rows → ((d n : ℕ) → number_at number d ≡ Some n → d < 63) → All RowFits rows
 rows_fit number kinds rows h few k z low =

@@ -2,10 +2,9 @@
 use Rattle.std.proofs.Common.{◌≡◌, ◌≢◌, ℕ, ◌<◌, ◌&&◌, cond, length, slice_index, slice_index_or, Bool, true, false, Option, Some, None, option_map, refl, ap, sym, ◌∙◌, arith, IsTrue}
 use Rattle.std.proofs.lemmas.Option.{same_Some, none-some}
 use Rattle.fw_avc.specs.State.{UnitState}
-use Rattle.fw_base.specs.Devices.{has_unit, input_plugs_of}
+use Rattle.fw_base.specs.Devices.{input_plugs_of}
 use Rattle.fw_base.specs.Tables.{at_plug}
-use Rattle.fw_base.specs.declared.device.DeviceKind.{DeviceKind}
-use Rattle.fw_base.specs.declared.device.DeviceKind.TheVariants.{Relay, Deck, Camcorder, Computer}
+use Rattle.fw_base.proofs.KindLaws.{unit_plugs}
 use Rattle.fw_devices.specs.Network.{kind_at, node_at, is_node}
 use Rattle.fw_plug.specs.Plugs.{is_active}
 use Rattle.fw_tape.specs.Motion.{transport_of}
@@ -92,13 +91,6 @@ no_tape m s d u g st on some none =
 
 -- ---- what is recorded
 
--- a device with a unit has an input plug
-pub unit_plugs : (kind : DeviceKind) → has_unit kind ≡ true → 0 < input_plugs_of kind
-unit_plugs Relay e = absurd (grind (arith, e))
-unit_plugs Deck e = omega arith
-unit_plugs Camcorder e = omega arith
-unit_plugs Computer e = absurd (grind (arith, e))
-
 -- its input plug, by the machine and by the run
 pub record Listens (m : Machine) (s : State) (d : ℕ) : Type 0 where
   pub plugs : 0 < length (node_at m.devices.nodes d).plugs.inputs
@@ -109,7 +101,8 @@ listens m s d u g st on some =
     let there : IsTrue (is_on s d) = sym (is_node_same m.devices.nodes s st.devices.nodes g d) ∙ on in
     let space = node_has m.devices.nodes s d st.devices.nodes g there in
     let size = space.inputs in
-    let few : 0 < input_plugs_of (kind_at s.declared.kinds d) = unit_plugs (kind_at s.declared.kinds d) (tape_there m s d u g st on some).0 in
+    let one = (unit_plugs (kind_at s.declared.kinds d) (tape_there m s d u g st on some).0).1 in
+    let few : 0 < input_plugs_of (kind_at s.declared.kinds d) = omega (arith, one) in
     record {
       plugs = omega (arith, few, size);
       channel = ap (λ w. field w 10 15) (space.input_words 0 few) ∙ hears_channel s d 0 g there few;

@@ -1,8 +1,9 @@
 -- Which nodes have a link, and which controllers live: by the machine and by the run.
 use Rattle.std.proofs.Common.{◌≡◌, inl, inr, nat_lt, ℕ, ◌<◌, ◌≤◌, ◌&&◌, ◌||◌, ◌==◌, not, List, [], ◌∷◌, length, Bool, true, false, cond, Option, Some, None, is_some, refl, ap, sym, subst, ◌∙◌, arith, IsTrue, IsFalse}
 use Rattle.fw_base.specs.declared.device.DeviceKind.{DeviceKind}
-use Rattle.fw_base.specs.declared.device.DeviceKind.TheVariants.{Relay, Deck, Camcorder, Computer}
+use Rattle.fw_base.specs.declared.device.DeviceKind.TheVariants.{Relay}
 use Rattle.fw_base.specs.Devices.{code_of, has_link}
+use Rattle.fw_base.proofs.KindLaws.{linked_number as kind_number}
 use Rattle.fw_base.specs.Tables.{find_to}
 use Rattle.fw_base.proofs.Tables.{IsFirst, find_to_is}
 use Rattle.fw_cmp.specs.declared.current.Current.{Current}
@@ -29,10 +30,11 @@ use Rattle.fw_machine.proofs.Nodes.{is_node_same, on_within, linked_on}
 
 -- a relay alone has no link
 link_number : (k : DeviceKind) (n : ℕ) → is_some (cond (code_of k == code_of Relay) None (Some n)) ≡ has_link k
-link_number Relay n = refl
-link_number Deck n = refl
-link_number Camcorder n = refl
-link_number Computer n = refl
+link_number k n = ap is_some (kind_number k n) ∙ by (has_link k)
+  where
+    by : (b : Bool) → is_some (cond b (Some n) None) ≡ b
+    by true = refl
+    by false = refl
 
 -- in a good state a device on the bus has a link exactly where its kind has one
 linked_by_kind : (s : State) (d : ℕ) → IsGood s → (is_on s d && has_link (kind_at s.declared.kinds d)) ≡ is_linked s d

@@ -3,15 +3,15 @@ use Rattle.std.proofs.Common.{◌≡◌, ◌⊎◌, inl, inr, ℕ, ◌<◌, ◌�
 use Rattle.std.proofs.lemmas.Bool.{cases_lt, false≢true}
 use Rattle.std.proofs.lemmas.Bool.Decides.{nat_tests}
 use Rattle.fw_base.specs.declared.device.DeviceKind.{DeviceKind}
-use Rattle.fw_base.specs.declared.device.DeviceKind.TheVariants.{Relay, Deck, Camcorder, Computer}
-use Rattle.fw_base.specs.Devices.{has_unit, output_plugs_of}
+use Rattle.fw_base.proofs.KindLaws.{unitless_silent}
+use Rattle.fw_base.specs.Devices.{output_plugs_of}
 use Rattle.fw_base.specs.Tables.{at_plug}
 use Rattle.fw_entry.specs.declared.entry.ResetEntry.{ResetEntry}
 use Rattle.fw_entry.specs.declared.nodes.NodeRow.{NodeRow}
 use Rattle.fw_account.specs.Account.{talks}
 use Rattle.fw_account.specs.Network.{is_output, is_output_of}
 use Rattle.fw_account.proofs.Network.{any_place}
-use Rattle.fw_plug.specs.Plugs.{is_active}
+use Rattle.fw_plug.specs.Plugs.{PlugWords, is_active}
 use Rattle.fw_tree.specs.SelfIds.{facts_at}
 use Rattle.fw_tree.proofs.FitLaws.{speed_low}
 use Rattle.fw_tree.proofs.ReachLaws.{sound_made}
@@ -60,10 +60,23 @@ undeclared_silent nodes s d g h past = off_talks s d 0 g (ap is_some (undeclared
 -- nor that of one that is as it was declared, whatever its unit keeps
 first_silent : (u : Option UnitState) (kind : DeviceKind) (device rate : ℕ) (withheld : Bool) → rate < 4
     → Plugs.talks (record (Nodes.first_state kind device rate withheld) { unit = u }) ≡ false
-first_silent u Relay device rate withheld low = refl
-first_silent u Deck device rate withheld low = first_rests Deck device rate 0 low (omega arith)
-first_silent u Camcorder device rate withheld low = first_rests Camcorder device rate 0 low (omega arith)
-first_silent u Computer device rate withheld low = refl
+first_silent u kind device rate withheld low = go (cases_lt 0 (length p.outputs))
+  where
+    p : PlugWords
+    p = (Nodes.first_state kind device rate withheld).plugs
+
+    active : Bool
+    active = is_active (slice_index p.outputs 0) (slice_index_or p.lingering_outputs 0 false)
+
+    quiet : (b : Bool) → (b && false) ≡ false
+    quiet true = refl
+    quiet false = refl
+
+    go : (0 < length p.outputs) ⊎ (length p.outputs ≤ 0) → (nat_lt 0 (length p.outputs) && active) ≡ false
+    go (inl some) = ap (λ b. nat_lt 0 (length p.outputs) && b) (first_rests kind device rate 0 low some) ∙ quiet (nat_lt 0 (length p.outputs))
+    go (inr none) =
+        let test : nat_lt 0 (length p.outputs) ≡ false = grind (arith, nat_tests, none) in
+        ap (λ b. b && active) test
 
 -- the speeds of devices are few
 low_speed : (s : State) (d : ℕ) → IsGood s → (facts_at s.declared.topology.devices d).speed < 4
@@ -95,14 +108,7 @@ talks_same nodes s d g h linger low = go (number_in s.account.latest d) refl (h.
         ∙ sym (off_talks s d 0 g (ap is_some off)))
     go (Some number) at is = there number at is.outputs (cases_lt 0 (length n.plugs.outputs))
 
--- a device that talks has a unit
-plugless : (kind : DeviceKind) → has_unit kind ≡ false → output_plugs_of kind ≡ 0
-plugless Relay none = refl
-plugless Deck none = absurd (false≢true (sym none))
-plugless Camcorder none = absurd (false≢true (sym none))
-plugless Computer none = refl
-
--- so the tape of its node is that of its deck
+-- a device that talks has a unit, so the tape of its node is that of its deck
 pub tape_same : (n : NodeState) (s : State) (d : ℕ) (k : DeckState) → IsGood s → HasDeck n (has_deck s d) k → IsTrue (talks s.account (at_plug d 0))
     → tape_of n ≡ k.unit.tape
 tape_same n s d k g h on = tape_is (has_deck s d) n k h ∙ go (has_deck s d) refl
@@ -110,7 +116,7 @@ tape_same n s d k g h on = tape_is (has_deck s d) n k h ∙ go (has_deck s d) re
     go : (b : Bool) → has_deck s d ≡ b → cond b k.unit.tape None ≡ k.unit.tape
     go true has = refl
     go false none =
-        let plugs = plugless (kind_at s.declared.kinds d) none in
+        let plugs = unitless_silent (kind_at s.declared.kinds d) none in
         absurd (false≢true (sym (silent_plug s d 0 g (omega (arith, plugs))) ∙ on))
 
 -- there are 63 devices at most

@@ -5,8 +5,7 @@ use Rattle.std.proofs.lemmas.Bool.Decides.{nat_tests}
 use Rattle.std.proofs.lemmas.Option.{same_Some}
 use Rattle.fw_base.specs.Devices.{output_plugs_of}
 use Rattle.fw_base.specs.Tables.{at_plug, find_plug}
-use Rattle.fw_base.specs.declared.device.DeviceKind.{DeviceKind}
-use Rattle.fw_base.specs.declared.device.DeviceKind.TheVariants.{Relay, Deck, Camcorder, Computer}
+use Rattle.fw_base.proofs.KindLaws.{plugs_few}
 use Rattle.fw_base.specs.declared.plug.PlugAt.{PlugAt}
 use Rattle.fw_base.proofs.Tables.{find_plug_is, IsFirstPlug}
 use Rattle.fw_account.specs.Account.{Account, talks}
@@ -80,12 +79,6 @@ talks_here nodes s d channel g h linger low is = (on, same_Some _ channel (sym (
 
 -- ---- all of them
 
-few_plugs : (kind : DeviceKind) → output_plugs_of kind ≤ 1
-few_plugs Relay = omega arith
-few_plugs Deck = omega arith
-few_plugs Camcorder = omega arith
-few_plugs Computer = omega arith
-
 -- what talks is the one output plug of a declared device
 plug_is : (nodes : List NodeState) (s : State) (p : PlugAt) → IsGood s → HasNodes nodes s → IsTrue (talks s.account p)
     → (p ≡ at_plug p.device 0) × (p.device < length nodes)
@@ -96,7 +89,7 @@ plug_is nodes s p g h on = (same, go (cases_lt p.device (length nodes)))
       where
         pick : (0 < p.plug) ⊎ (p.plug ≤ 0) → p.plug ≡ 0
         pick (inl some) =
-            let few = few_plugs (kind_at s.declared.kinds p.device) in
+            let few = (plugs_few (kind_at s.declared.kinds p.device)).0 in
             absurd (false≢true (sym (silent_plug s p.device p.plug g (omega (arith, some, few))) ∙ on))
         pick (inr none) = omega (arith, none)
 

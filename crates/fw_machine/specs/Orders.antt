@@ -19,7 +19,7 @@ use Rattle.fw_run.specs.Named.{is_guarded_at, is_guarded_in}
 use Rattle.fw_machine.specs.declared.machine.Machine.{Machine}
 use Rattle.fw_machine.specs.Tables.{states_of}
 use Rattle.fw_machine.specs.Stands.{is_linked_in, is_living_in, living_in, read_in}
-use Rattle.fw_run.specs.Elections.{is_capable}
+use Rattle.fw_base.specs.Devices.{is_capable}
 use Rattle.fw_machine.specs.Candidates.{candidate_in}
 
 -- no fault of the cabling holds

@@ -2,3 +2,4 @@ pub mod Spaces
 pub mod Served
 mod Followed
 pub mod Places
+pub mod ContentLaws

@@ -3,9 +3,8 @@ use Rattle.std.proofs.Common.{◌≡◌, ◌≢◌, ◌⊎◌, inl, inr, ℕ, �
 use Rattle.std.specs.Prelude.{nat_lt}
 use Rattle.std.specs.Option.{option_map}
 use Rattle.std.proofs.lemmas.Bool.Decides.{nat_tests}
-use Rattle.fw_base.specs.declared.device.DeviceKind.{DeviceKind}
-use Rattle.fw_base.specs.declared.device.DeviceKind.TheVariants.{Relay, Deck, Camcorder, Computer}
 use Rattle.fw_base.specs.Devices.{output_plugs_of, input_plugs_of}
+use Rattle.fw_base.proofs.KindLaws.{plugs_few}
 use Rattle.fw_csr.specs.declared.request.Request.{Request}
 use Rattle.fw_csr.specs.Requests.{offset_of}
 use Rattle.fw_csr.specs.Manager.{ManagerWords}
@@ -89,27 +88,14 @@ plugs_kept p r outputs inputs (inl low) =
 plugs_kept p r outputs inputs (inr high) =
     unasked p r (beyond 0xFFFF_F000_0904 (length p.outputs) (offset_of r) (omega arith)) (beyond 0xFFFF_F000_0984 (length p.inputs) (offset_of r) (omega arith))
 
-few_outputs : (kind : DeviceKind) → output_plugs_of kind ≤ 4
-few_outputs Relay = omega arith
-few_outputs Deck = omega arith
-few_outputs Camcorder = omega arith
-few_outputs Computer = omega arith
-
-few_inputs : (kind : DeviceKind) → input_plugs_of kind ≤ 4
-few_inputs Relay = omega arith
-few_inputs Deck = omega arith
-few_inputs Camcorder = omega arith
-few_inputs Computer = omega arith
-
 -- those of a node
 abbrev pub HasPlugs : NodeState → Type 0
 HasPlugs n = (length n.plugs.outputs ≡ output_plugs_of n.kind) × (length n.plugs.inputs ≡ input_plugs_of n.kind)
 
 node_plugs_kept : (n : NodeState) (r : Request) → HasPlugs n → Outside 0xFFFF_F000_0900 0xFFFF_F000_09FC (offset_of r) → words_after n.plugs r ≡ n.plugs
 node_plugs_kept n r sizes at =
-    let outputs = few_outputs n.kind in
-    let inputs = few_inputs n.kind in
-    plugs_kept n.plugs r (omega (arith, outputs, sizes.0)) (omega (arith, inputs, sizes.1)) at
+    let few = plugs_few n.kind in
+    plugs_kept n.plugs r (omega (arith, few.0, sizes.0)) (omega (arith, few.1, sizes.1)) at
 
 -- the manager, of a request outside of its registers
 pub manager_kept : (m : Option ManagerWords) (r : Request) → Outside 0xFFFF_F000_021C 0xFFFF_F000_0228 (offset_of r) → option_map (λ w. Manager.words_after w r) m ≡ m

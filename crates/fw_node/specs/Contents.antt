@@ -1,8 +1,8 @@
 -- What stands in the registers of a node that only its number, its kind and the time decide (IEEE 1394-1995, 8).
-use Rattle.std.specs.Prelude.{ℕ, ◌+◌, ◌/◌, ◌%◌, [], ◌∷◌}
+use Rattle.std.specs.Prelude.{ℕ, ◌+◌, ◌/◌, ◌%◌, [], ◌∷◌, Bool, if◌then◌else◌}
 use Rattle.fw_words.specs.Layout.{packed}
 use Rattle.fw_base.specs.declared.device.DeviceKind.{DeviceKind}
-use Rattle.fw_base.specs.declared.device.DeviceKind.TheVariants.{Relay, Deck, Camcorder, Computer}
+use Rattle.fw_base.specs.Devices.{has_link, is_contender, is_capable}
 
 -- node n of the local bus has the node ID FFC0 + n
 abbrev pub node_id : ℕ → ℕ
@@ -16,9 +16,11 @@ node_ids number = packed ((16, node_id number) ∷ (16, 0) ∷ []) 0
 abbrev pub cycle_time : ℕ → ℕ
 cycle_time cycle = packed ((7, cycle / 8000 % 128) ∷ (13, cycle % 8000) ∷ (12, 0) ∷ []) 0
 
--- irmc, cmc, isc, bmc, and 28 zeros (own)
+-- a field of one bit
+abbrev pub bit : Bool → ℕ
+bit b = if b then 1 else 0
+
+-- irmc of a contender, cmc and isc of a device with a link, bmc of one that may be the bus manager, and 28 zeros (own)
 abbrev pub capabilities : DeviceKind → ℕ
-capabilities Relay = 0
-capabilities Deck = packed ((1, 1) ∷ (1, 1) ∷ (1, 1) ∷ (1, 0) ∷ (28, 0) ∷ []) 0
-capabilities Camcorder = packed ((1, 0) ∷ (1, 1) ∷ (1, 1) ∷ (1, 0) ∷ (28, 0) ∷ []) 0
-capabilities Computer = packed ((1, 1) ∷ (1, 1) ∷ (1, 1) ∷ (1, 1) ∷ (28, 0) ∷ []) 0
+capabilities kind =
+    packed ((1, bit (is_contender kind)) ∷ (1, bit (has_link kind)) ∷ (1, bit (has_link kind)) ∷ (1, bit (is_capable kind)) ∷ (28, 0) ∷ []) 0

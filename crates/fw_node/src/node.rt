@@ -51,10 +51,15 @@ impl Node {
         ensures kind { code_of result.kind ≡ kind }
         ensures state { result ≡ first_state result.kind device rate withhold }
     {
-        let kind = match DeviceKind::from_code(kind) {
-            Some(kind) => kind,
-            None => unreachable!(),
-        };
+        Node::of_kind(DeviceKind::with_code(kind), device, rate, withhold)
+    }
+
+    /// What `new` makes, of a kind that is known.
+    pub fn of_kind(kind: DeviceKind, device: u8, rate: u8, withhold: bool) -> Node
+        requires device { device ≤ 62 }
+        requires rate { rate ≤ 2 }
+        ensures { result ≡ first_state kind device rate withhold }
+    {
         Node {
             kind,
             device,

@@ -41,14 +41,13 @@ pub fn cycle_time(now: u64) -> u32
     with_field(with_field(second_count, 13, cycle_count), 12, 0)
 }
 
-/// The capabilities: irmc, cmc, isc and bmc, then 28 zeros (own).
+/// The capabilities: irmc of a contender, cmc and isc of a device with a link, bmc of one that may be the bus manager, then 28 zeros
+/// (own).
 pub fn capabilities(kind: DeviceKind) -> u32
     ensures { result ≡ capabilities kind }
 {
-    match kind {
-        DeviceKind::Relay => 0x0000_0000,
-        DeviceKind::Deck => 0xE000_0000,
-        DeviceKind::Camcorder => 0x6000_0000,
-        DeviceKind::Computer => 0xF000_0000,
-    }
+    let irmc = u32::from(kind.is_contender());
+    let link = u32::from(kind.has_link());
+    let bmc = u32::from(kind.is_capable());
+    (irmc << 31) + (link << 30) + (link << 29) + (bmc << 28)
 }

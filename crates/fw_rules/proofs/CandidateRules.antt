@@ -8,7 +8,7 @@ use Rattle.fw_run.specs.declared.order.Order.TheVariants as Orders
 use Rattle.fw_run.specs.declared.rule.RuleFault.{RuleFault}
 use Rattle.fw_run.specs.declared.rule.RuleFault.TheVariants.{UnknownName, NotController, NotCapable, NotCandidate, Limit, TableFull, Busy, NoSuchConnection, NotOwnPlug}
 use Rattle.fw_run.specs.Bidding.{is_candidate}
-use Rattle.fw_run.specs.Elections.{is_capable}
+use Rattle.fw_base.specs.Devices.{is_capable}
 use Rattle.fw_run.specs.Good.{IsGood}
 use Rattle.fw_run.specs.Rules.{Breaks, Decides}
 use Rattle.fw_run.specs.Named.{IsNamed}

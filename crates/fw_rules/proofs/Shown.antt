@@ -5,8 +5,9 @@ use Rattle.std.proofs.lemmas.Bool.Decides.{nat_tests}
 use Rattle.std.proofs.lemmas.Option.{same_Some}
 use Rattle.std.specs.Option.{ok_or, option_map}
 use Rattle.fw_base.specs.declared.device.DeviceKind.{DeviceKind}
-use Rattle.fw_base.specs.declared.device.DeviceKind.TheVariants.{Relay, Deck, Camcorder, Computer}
+use Rattle.fw_base.specs.declared.device.DeviceKind.TheVariants.{Relay}
 use Rattle.fw_base.specs.Devices.{code_of, has_link}
+use Rattle.fw_base.proofs.KindLaws.{linked_number as kind_number}
 use Rattle.fw_csr.specs.declared.reply.Reply.{Reply}
 use Rattle.fw_entry.specs.declared.entry.ResetEntry.{ResetEntry}
 use Rattle.fw_entry.specs.declared.nodes.NodeRow.{NodeRow}
@@ -34,10 +35,7 @@ use Rattle.fw_machine.proofs.Nodes.{is_node_same, read_same}
 
 -- the row of a node with a link is of no relay
 is_no_relay : (kind : DeviceKind) (n : ℕ) → IsTrue (has_link kind) → is_some (cond (code_of kind == code_of Relay) None (Some n)) ≡ true
-is_no_relay Relay n link = absurd (true≢false (sym link))
-is_no_relay Deck n link = refl
-is_no_relay Camcorder n link = refl
-is_no_relay Computer n link = refl
+is_no_relay kind n link = ap is_some (kind_number kind n) ∙ ap (λ b. is_some (cond b (Some n) None)) link
 
 -- the device that manages the bus, by its entry: it has a link
 record Manages (latest : Option ResetEntry) (n d : ℕ) : Type 0 where

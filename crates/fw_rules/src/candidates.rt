@@ -1,13 +1,11 @@
 //! The rules of candidates for the bus manager.
 
 ghost use Rattle.std.specs.Prelude.{◌≡◌, ◌≤◌, IfOk};
-ghost use Rattle.fw_run.specs.Elections.{is_capable};
 ghost use Rattle.fw_command.specs.declared.command.Command.TheVariants as Commands;
 ghost use Rattle.fw_rules.specs.Decisions.{Decided};
 ghost use Rattle.fw_machine.specs.Orders.{MayCarry};
 
 use crate::commands::known;
-use fw_base::DeviceKind;
 use fw_command::Name;
 use fw_machine::Machine;
 use fw_run::{MOST_HALF_STEPS, Order, RuleFault};
@@ -20,7 +18,7 @@ pub(crate) fn decide_candidate(machine: &Machine, name: &Name) -> Result<Order<'
     if !machine.is_living(device) {
         return Err(RuleFault::NotController);
     }
-    if !is_capable(machine.devices.kind(device)) {
+    if !machine.devices.kind(device).is_capable() {
         return Err(RuleFault::NotCapable);
     }
     Ok(Order::Candidate(device))
@@ -46,11 +44,4 @@ pub(crate) fn decide_contend(
         return Err(RuleFault::Limit);
     }
     Ok(Order::Contend(device, count))
-}
-
-/// A computer alone has the capabilities of a bus manager.
-fn is_capable(kind: DeviceKind) -> bool
-    ensures { result ≡ is_capable kind }
-{
-    matches!(kind, DeviceKind::Computer)
 }

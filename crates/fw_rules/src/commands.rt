@@ -1,7 +1,6 @@
 //! The rules by which commands are refused.
 
 ghost use Rattle.std.specs.Prelude.{◌≡◌, ◌≤◌, ◌<◌, ◌^◌, nat_le, None, Some, IfOk, IfErr, length};
-ghost use Rattle.fw_run.specs.Rules as Rules;
 ghost use Rattle.fw_run.specs.declared.rule.RuleFault.TheVariants.{UnknownName};
 ghost use Rattle.fw_command.specs.declared.command.Command.TheVariants as Commands;
 ghost use Rattle.fw_devices.specs.Network.{device_named};
@@ -69,7 +68,7 @@ fn decide_device(
     if machine.devices.count() >= MOST_DEVICES {
         return Err(RuleFault::TooMany);
     }
-    Ok(Order::Declare(*name, kind_with(kind), ports, speed))
+    Ok(Order::Declare(*name, DeviceKind::with_code(kind), ports, speed))
 }
 
 fn decide_cable(
@@ -225,16 +224,5 @@ pub fn decide<'a>(machine: &Machine, c: &'a Command) -> Result<Order<'a>, RuleFa
         Command::Contend(name, count) => decide_contend(machine, name, *count),
         Command::Dub(name) => decide_dub(machine, name),
         Command::End => Ok(Order::End),
-    }
-}
-
-/// The kind with a code.
-fn kind_with(code: u8) -> DeviceKind
-    requires { code ≤ 3 }
-    ensures { result ≡ Rules.kind_with code }
-{
-    match DeviceKind::from_code(code) {
-        Some(kind) => kind,
-        None => unreachable!(),
     }
 }

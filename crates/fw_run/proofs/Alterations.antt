@@ -2,6 +2,7 @@
 -- these ways stands in none of their proofs.
 use Rattle.std.proofs.Common.{◌≡◌, ◌<◌, List, Option, Some, None, Ok, refl, IsTrue, length, [], ℕ}
 use Rattle.std.specs.Prelude.{⊤}
+use Rattle.fw_base.specs.Devices.{is_capable}
 use Rattle.fw_base.specs.declared.device.DeviceKind.{DeviceKind}
 use Rattle.fw_async.specs.declared.packet.Packet.{Packet}
 use Rattle.fw_entry.specs.declared.entry.Entry.TheVariants.{Async}
@@ -19,7 +20,7 @@ use Rattle.fw_run.specs.Actions.{AccessFits, Action, AddCable, AddDevice, CarryO
 use Rattle.fw_run.specs.Afterwards.{after_cycles, after_death, after_second, after_start, slot_of, start_of, with_connection, with_topology}
 use Rattle.fw_run.specs.Bidding.{bid_step, bidden}
 use Rattle.fw_run.specs.Decks.{DeckState, FrameWrite}
-use Rattle.fw_run.specs.Elections.{is_capable, with_new_candidate}
+use Rattle.fw_run.specs.Elections.{with_new_candidate}
 use Rattle.fw_run.specs.Entries.{died, dubbing, second_over, started, withheld}
 use Rattle.fw_run.specs.Good.{IsGood}
 use Rattle.fw_run.specs.HalfSteps.{after_half, half, with_controller}

@@ -5,9 +5,8 @@ use Rattle.std.specs.List.{IsDistinct, AllByRecursion, list_any}
 use Rattle.std.proofs.lemmas.Bool.Decides.{nat_tests}
 use Rattle.std.proofs.lemmas.Option.{same_Some}
 use Rattle.std.proofs.lemmas.Map.Steps.{length-le_from_distinct_below}
-use Rattle.fw_base.specs.declared.device.DeviceKind.{DeviceKind}
-use Rattle.fw_base.specs.declared.device.DeviceKind.TheVariants.{Relay, Deck, Camcorder, Computer}
 use Rattle.fw_base.specs.Devices.{output_plugs_of, input_plugs_of, has_unit}
+use Rattle.fw_base.proofs.KindLaws.{plugs_few}
 use Rattle.fw_base.specs.Tables.{at_plug}
 use Rattle.fw_csr.specs.declared.register.Register.{Register}
 use Rattle.fw_csr.specs.declared.register.Register.TheVariants.{ReadOnly, ReadSwap, WriteOnly}
@@ -28,7 +27,8 @@ use Rattle.fw_account.specs.Network.{is_output, is_input, is_output_of, is_input
 use Rattle.fw_account.specs.Words.{BandwidthAvailable, ChannelsAvailable, OutputPlug, InputPlug, node_of}
 use Rattle.fw_account.proofs.Network.{any_at}
 use Rattle.fw_account.proofs.Bounds.{word_below}
-use Rattle.fw_node.specs.Contents.{node_ids, cycle_time, capabilities}
+use Rattle.fw_node.specs.Contents.{node_ids, cycle_time}
+use Rattle.fw_node.proofs.ContentLaws.{capabilities_below}
 use Rattle.fw_node.specs.Space.{Space, answer_of, register_at, manager_register_at, core_register_at, plug_table, lies_within}
 use Rattle.fw_plug.specs.Plugs as Plugs
 use Rattle.fw_devices.specs.Network.{kind_at}
@@ -135,18 +135,6 @@ pub record WordsBelow (z : Space) : Type 0 where
 either : (b : Bool) (x y : Option Register) → RegisterBelow x → RegisterBelow y → RegisterBelow (cond b x y)
 either true x y f g = f
 either false x y f g = g
-
-plugs_few : (kind : DeviceKind) → (output_plugs_of kind < 32) × (input_plugs_of kind < 32)
-plugs_few Relay = (omega arith, omega arith)
-plugs_few Deck = (omega arith, omega arith)
-plugs_few Camcorder = (omega arith, omega arith)
-plugs_few Computer = (omega arith, omega arith)
-
-capabilities_below : (kind : DeviceKind) → capabilities kind < 2 ^ 32
-capabilities_below Relay = omega arith
-capabilities_below Deck = omega arith
-capabilities_below Camcorder = omega arith
-capabilities_below Computer = omega arith
 
 plug_below : (word : ℕ → ℕ) (first plugs offset : ℕ) → ((k : ℕ) → k < plugs → word k < 2 ^ 32) → RegisterBelow (plug_register word (plug_at first plugs offset))
 plug_below word first plugs offset f = go ((offset - first) / 4) ((offset == first + 4 * ((offset - first) / 4)) && nat_lt ((offset - first) / 4) plugs) refl

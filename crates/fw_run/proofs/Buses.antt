@@ -1,10 +1,11 @@
 -- A device on the bus that has a link: its row, its number, and that controllers are told of it.
-use Rattle.std.proofs.Common.{◌≡◌, ℕ, suc, ◌<◌, List, [], ◌∷◌, length, slice_get, cond, true, false, Bool, Some, None, IsSome, is_some, nat_lt, ◌==◌, refl, ap, sym, subst, ◌∙◌, arith}
+use Rattle.std.proofs.Common.{◌≡◌, ℕ, suc, ◌<◌, List, [], ◌∷◌, length, slice_get, cond, not, true, false, Bool, Some, None, IsSome, is_some, nat_lt, ◌==◌, refl, ap, sym, subst, ◌∙◌, arith}
 use Rattle.std.specs.List.{list_any}
 use Rattle.std.proofs.lemmas.Bool.Decides.{nat_tests}
 use Rattle.fw_base.specs.declared.device.DeviceKind.{DeviceKind}
-use Rattle.fw_base.specs.declared.device.DeviceKind.TheVariants.{Relay, Deck, Camcorder, Computer}
+use Rattle.fw_base.specs.declared.device.DeviceKind.TheVariants.{Relay}
 use Rattle.fw_base.specs.Devices.{code_of, output_plugs_of, input_plugs_of}
+use Rattle.fw_base.proofs.KindLaws.{relay_unlinked, output_linked, input_linked}
 use Rattle.fw_base.specs.declared.plug.PlugAt.{PlugAt}
 use Rattle.fw_entry.specs.declared.entry.ResetEntry.{ResetEntry}
 use Rattle.fw_entry.specs.declared.nodes.NodeRow.{NodeRow}
@@ -33,16 +34,10 @@ row_place test (x ∷ xs) e = go (test x) refl (row_place test xs)
 
 -- a device with a plug is no relay
 outputs_link : (kind : DeviceKind) (k : ℕ) → nat_lt k (output_plugs_of kind) ≡ true → (code_of kind == code_of Relay) ≡ false
-outputs_link Relay k e = absurd (grind (arith, nat_tests))
-outputs_link Deck k e = refl
-outputs_link Camcorder k e = refl
-outputs_link Computer k e = refl
+outputs_link kind k e = relay_unlinked kind ∙ ap not (output_linked kind (grind (arith, nat_tests, e)))
 
 inputs_link : (kind : DeviceKind) (k : ℕ) → nat_lt k (input_plugs_of kind) ≡ true → (code_of kind == code_of Relay) ≡ false
-inputs_link Relay k e = absurd (grind (arith, nat_tests))
-inputs_link Deck k e = refl
-inputs_link Camcorder k e = refl
-inputs_link Computer k e = refl
+inputs_link kind k e = relay_unlinked kind ∙ ap not (input_linked kind (grind (arith, nat_tests, e)))
 
 -- the number of a device whose row is no relay's
 linked_row : (s : State) (e : ResetEntry) (n : ℕ) (row : NodeRow) → Shows s.declared.topology s.declared.kinds e → slice_get e.nodes n ≡ Some row → is_relay (Some row) ≡ false → linked_number (Some e) row.device ≡ Some n

@@ -3,8 +3,8 @@ use Rattle.std.proofs.Common.{◌≡◌, ◌≢◌, ◌⊎◌, inl, inr, ℕ, �
 use Rattle.std.proofs.lemmas.Bool.{cases_eq}
 use Rattle.std.proofs.lemmas.Option.{same_Some}
 use Rattle.fw_base.specs.declared.device.DeviceKind.{DeviceKind}
-use Rattle.fw_base.specs.declared.device.DeviceKind.TheVariants.{Relay, Deck, Camcorder, Computer}
-use Rattle.fw_base.specs.Devices.{is_contender}
+use Rattle.fw_base.proofs.KindLaws.{capable_contends}
+use Rattle.fw_base.specs.Devices.{is_contender, is_capable}
 use Rattle.fw_base.specs.Tables.{update}
 use Rattle.fw_entry.specs.declared.entry.ResetEntry.{ResetEntry}
 use Rattle.fw_entry.specs.declared.entry.Timed.{Timed}
@@ -19,7 +19,7 @@ use Rattle.fw_run.specs.Bidding.{Bids, BidStep, is_candidate, epoch_at, bid_at, 
 use Rattle.fw_run.specs.declared.limits.TheConstants.{MOST_HALF_STEPS}
 use Rattle.fw_run.specs.Candidates.{HasCandidates}
 use Rattle.fw_run.specs.Giving.{at_most}
-use Rattle.fw_run.specs.Elections.{Election, is_capable}
+use Rattle.fw_run.specs.Elections.{Election}
 use Rattle.fw_run.specs.Good.{IsGood, IsLatest}
 use Rattle.fw_run.specs.State.{State, Declared, epoch_of, first_state, with_device, number_in, manager_in, linked_number, with_link, is_on, is_linked, is_living}
 use Rattle.fw_run.specs.Actions.{Action, Contend, Step}
@@ -179,12 +179,6 @@ step_candidates s a out t g h x = go (effect s a out t x)
     go (altering y waits out_is is ok) = subst HasCandidates (sym is) (by y ok)
 
 -- ---- a candidate's half step can be taken
-
-capable_contends : (kind : DeviceKind) → IsTrue (is_capable kind) → IsTrue (is_contender kind)
-capable_contends Relay e = absurd (cc e)
-capable_contends Deck e = absurd (cc e)
-capable_contends Camcorder e = absurd (cc e)
-capable_contends Computer e = refl
 
 -- there is a manager
 pub candidate_manager : (s : State) (d : ℕ) → HasCandidates s → IsTrue (is_candidate s d) → Number (manager_in s.account.latest)

@@ -1,9 +1,9 @@
 -- The bus only grows: what a reset entry shows of plugs, links and a manager is shown by the next one, where devices stay on the bus.
 use Rattle.std.proofs.Common.{◌≡◌, ℕ, ◌<◌, List, length, slice_get, cond, true, false, Bool, Option, Some, None, is_some, refl, ap, sym, ◌∙◌, arith, IsTrue}
 use Rattle.fw_base.specs.declared.device.DeviceKind.{DeviceKind}
-use Rattle.fw_base.specs.declared.device.DeviceKind.TheVariants.{Relay, Deck, Camcorder, Computer}
+use Rattle.fw_base.proofs.KindLaws.{contender_linked}
 use Rattle.fw_base.specs.declared.plug.PlugAt.{PlugAt}
-use Rattle.fw_base.specs.Devices.{has_link, is_contender}
+use Rattle.fw_base.specs.Devices.{is_contender}
 use Rattle.fw_entry.specs.declared.entry.ResetEntry.{ResetEntry}
 use Rattle.fw_entry.specs.declared.nodes.NodeRow.{NodeRow}
 use Rattle.fw_tree.specs.Cables.{IsOnBus}
@@ -91,17 +91,11 @@ grows_input t u kinds e f h p on =
 
 -- ---- the manager
 
-pub contender_links : (kind : DeviceKind) → is_contender kind ≡ true → has_link kind ≡ true
-contender_links Relay e = absurd (grind arith)
-contender_links Deck e = refl
-contender_links Camcorder e = absurd (grind arith)
-contender_links Computer e = refl
-
 -- a device of the bus that contends is there at the manager's choice
 contends : (u : Topology) (kinds : List DeviceKind) (epoch initiator : ℕ) (f : ResetEntry) (r : IsResetEntry u kinds epoch initiator f) → AreKinds u.devices kinds → (d n : ℕ) → d < length u.devices → node_number f.nodes d ≡ Some n → is_contender (kind_at kinds d) ≡ true → Contends u.devices r.numbering.number d n
 contends u kinds epoch initiator f r are d n low at is = record {
   numbered = sym (number_in r.numbering.number kinds f.nodes (rows_of u kinds epoch initiator f r) d) ∙ at;
-  link = are.link d low ∙ contender_links (kind_at kinds d) is;
+  link = are.link d low ∙ contender_linked (kind_at kinds d) is;
   contender = are.contender d low ∙ is;
 }
 

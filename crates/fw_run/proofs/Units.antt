@@ -2,8 +2,8 @@
 use Rattle.std.proofs.Common.{◌≡◌, ℕ, ◌+◌, ◌%◌, ◌<◌, ◌≤◌, ◌^◌, ◌==◌, cond, Bool, true, false, Option, Some, None, is_some, option_map, length, slice_get, refl, ap, sym, subst, ◌∙◌, arith, IsTrue}
 use Rattle.std.specs.Int.{from_be_bytes, w32}
 use Rattle.fw_base.specs.declared.device.DeviceKind.{DeviceKind}
-use Rattle.fw_base.specs.declared.device.DeviceKind.TheVariants.{Relay, Deck, Camcorder, Computer}
-use Rattle.fw_base.specs.Devices.{has_unit}
+use Rattle.fw_base.specs.Devices.{has_unit, output_plugs_of, input_plugs_of}
+use Rattle.fw_base.proofs.KindLaws.{unit_plugs}
 use Rattle.fw_csr.specs.declared.request.Request.{Request}
 use Rattle.fw_csr.specs.declared.request.Request.TheVariants as Asks
 use Rattle.fw_fcp.specs.declared.frame.Frame.{Frame}
@@ -11,6 +11,7 @@ use Rattle.fw_fcp.specs.Frames.{spelling}
 use Rattle.fw_async.specs.declared.packet.Packet.TheVariants.{WriteQuadlet, WriteBlock}
 use Rattle.fw_tape.specs.declared.cassette.Cassette.{Cassette}
 use Rattle.fw_tape.specs.Motion.{MayPass}
+use Rattle.fw_avc.specs.State.{first_state as new_unit}
 use Rattle.fw_avc.specs.Notices.{notice_of, after_notice}
 use Rattle.fw_avc.specs.Laws.{Tells}
 use Rattle.fw_avc.proofs.TellLaws.{tells}
@@ -37,10 +38,15 @@ use Rattle.fw_run.proofs.Words.{number_of_on}
 -- ---- what happens to a node and its deck
 
 pub first_kept : (kind : DeviceKind) (d rate : ℕ) (withheld : Bool) → HasDeck (Nodes.first_state kind d rate withheld) (has_unit kind) first_deck
-first_kept Relay d rate withheld = record { unit = refl; waiting = refl }
-first_kept Deck d rate withheld = record { unit = refl; waiting = refl }
-first_kept Camcorder d rate withheld = record { unit = refl; waiting = refl }
-first_kept Computer d rate withheld = record { unit = refl; waiting = refl }
+first_kept kind d rate withheld = record { unit = unit (has_unit kind) refl; waiting = neither (has_unit kind) None }
+  where
+    unit : (b : Bool) → has_unit kind ≡ b → cond b (Some (new_unit (output_plugs_of kind) (input_plugs_of kind))) None ≡ cond b (Some first_deck.unit) None
+    unit true is = let plugs = unit_plugs kind is in λ i. Some (new_unit (plugs.0 i) (plugs.1 i))
+    unit false is = refl
+
+    neither : (b : Bool) (o : Option (ℕ × Frame)) → o ≡ cond b o o
+    neither true o = refl
+    neither false o = refl
 
 pub reset_kept : (number : ℕ) (manager b : Bool) (n : NodeState) (k : DeckState) → HasDeck n b k → HasDeck (Nodes.after_reset number manager n) b (after_reset k)
 reset_kept number manager true n k h = record { unit = λ i. (Nodes.after_reset number manager (record n { unit = h.unit i })).unit; waiting = refl }

@@ -1,5 +1,6 @@
 -- Actions: what commands do, each of which writes one entry at most.
 use Rattle.std.specs.Prelude.{ℕ, ◌≡◌, ◌==◌, ◌+◌, ◌^◌, ◌<◌, ◌≤◌, ⊤, List, [], ◌∷◌, ◌++◌, length, Option, Some, None, Ok, is_some, IsTrue, IsFalse}
+use Rattle.fw_base.specs.Devices.{is_capable}
 use Rattle.fw_base.specs.declared.device.DeviceKind.{DeviceKind}
 use Rattle.fw_base.specs.declared.plug.PlugAt.{PlugAt}
 use Rattle.fw_async.specs.declared.packet.Packet.{Packet}
@@ -19,7 +20,7 @@ use Rattle.fw_run.specs.declared.order.Wanted.{Wanted}
 use Rattle.fw_run.specs.Giving.{at_most}
 use Rattle.fw_run.specs.Entries.{second_over, died, started, inserted as inserted_entry, ejected, dubbing, unsettled, lost, withheld, shown_entry}
 use Rattle.fw_devices.specs.Network.{kind_at}
-use Rattle.fw_run.specs.Elections.{Election, is_capable, with_new_candidate}
+use Rattle.fw_run.specs.Elections.{Election, with_new_candidate}
 use Rattle.fw_run.specs.Bidding.{Bids, is_candidate}
 use Rattle.fw_run.specs.Recording.{tied_to, with_block}
 use Rattle.fw_run.specs.State.{State, with_device, entered, is_on, is_linked, is_deaf, has_deck, is_living}

@@ -4,7 +4,7 @@ use Rattle.fw_base.specs.Devices.{is_contender}
 use Rattle.fw_devices.specs.Network.{kind_at}
 use Rattle.fw_manager.specs.Bids.{CandidateState}
 use Rattle.fw_run.specs.Bidding.{is_candidate}
-use Rattle.fw_run.specs.Elections.{is_capable}
+use Rattle.fw_base.specs.Devices.{is_capable}
 use Rattle.fw_run.specs.State.{State, epoch_of, manager_in, is_on, is_living}
 
 -- A candidate is a computer whose controller lives. Where a device on the bus contends, there is an isochronous resource manager: so there is

@@ -1,7 +1,5 @@
 -- Candidates for the bus manager in a run (IEEE 1394-1995, 8.4.2.5).
 use Rattle.std.specs.Prelude.{ℕ, Bool, true, false, Option, Some, None}
-use Rattle.fw_base.specs.declared.device.DeviceKind.{DeviceKind}
-use Rattle.fw_base.specs.declared.device.DeviceKind.TheVariants.{Relay, Deck, Camcorder, Computer}
 use Rattle.fw_base.specs.Tables.{update}
 use Rattle.fw_manager.specs.Bids.{CandidateState, first_state as new_candidate}
 
@@ -13,13 +11,6 @@ pub record Election : Type 0 where
 -- nobody is a candidate, and nobody was
 abbrev pub no_election : Election
 no_election = record { begun = false; candidates = λ d. None }
-
--- a computer alone has the capabilities of a bus manager
-abbrev pub is_capable : DeviceKind → Bool
-is_capable Relay = false
-is_capable Deck = false
-is_capable Camcorder = false
-is_capable Computer = true
 
 -- the candidate of device d is this one, or it is none
 abbrev pub with_candidate : Election → ℕ → Option CandidateState → Election

@@ -3,8 +3,7 @@ use Rattle.std.specs.Prelude.{ℕ, ◌≡◌, ◌<◌, ◌≤◌, ◌==◌, not,
 use Rattle.std.specs.Prelude.{List, length, Some, Ok, Err}
 use Rattle.std.specs.List.{list_any}
 use Rattle.std.specs.declared.result.Result.{Result}
-use Rattle.fw_base.specs.declared.device.DeviceKind.{DeviceKind}
-use Rattle.fw_base.specs.declared.device.DeviceKind.TheVariants.{Relay, Deck, Camcorder, Computer}
+use Rattle.fw_base.specs.Devices.{is_capable, kind_with}
 use Rattle.fw_tape.specs.declared.system.TapeSystem.{TapeSystem}
 use Rattle.fw_tape.specs.declared.system.TapeSystem.TheVariants.{Lines525, Lines625}
 use Rattle.fw_tree.specs.declared.facts.End.{End}
@@ -12,7 +11,6 @@ use Rattle.fw_tree.specs.declared.TreeFault.TheVariants as Tree
 use Rattle.fw_command.specs.declared.command.Command.{Command}
 use Rattle.fw_command.specs.declared.command.Command.TheVariants as Commands
 use Rattle.fw_devices.specs.Network.{kind_at}
-use Rattle.fw_run.specs.Elections.{is_capable}
 use Rattle.fw_run.specs.Bidding.{is_candidate}
 use Rattle.fw_cmp.specs.declared.outcome.StartFault.TheVariants as Refusals
 use Rattle.fw_run.specs.declared.order.Access.{Access}
@@ -126,10 +124,6 @@ rank Limit = 19
 rank TooLate = 20
 
 -- ---- orders
-
--- the kind with a code
-abbrev pub kind_with : ℕ → DeviceKind
-kind_with code = if code == 0 then Relay else if code == 1 then Deck else if code == 2 then Camcorder else Computer
 
 -- the system whose pictures have so many lines
 abbrev pub system_with : ℕ → TapeSystem

@@ -3,7 +3,6 @@
 ghost use Rattle.std.specs.Prelude.{◌≡◌, ◌<◌, ◌≤◌, true, [], length, IfErr, OnOk};
 ghost use Rattle.fw_tree.specs.declared.TreeFault.{TreeFault};
 ghost use Rattle.fw_tree.specs.Topology.{IsFault, IsJoined};
-ghost use Rattle.fw_node.specs.State.{first_state};
 ghost use Rattle.fw_devices.specs.Network.{facts_of, with_device};
 
 use super::Devices;
@@ -24,15 +23,6 @@ fn facts_of(kind: DeviceKind, ports: u8, speed: u8) -> PhyFacts
     }
 }
 
-// A device of this kind, which is no node yet.
-fn first_node(kind: DeviceKind, device: u8, speed: u8, withhold: bool) -> Node
-    requires device { device ≤ 62 }
-    requires speed { speed ≤ 2 }
-    ensures { result ≡ first_state kind device speed withhold }
-{
-    Node::new(kind.code(), device, speed, withhold)
-}
-
 impl Devices {
     /// Declares a device of 1 to 27 ports, with a PHY of speed 0, 1 or 2 for 100, 200 or 400 Mbit/s, which is the data
     /// rate of its plugs too (own). It has no cable, and is no node until a bus reset. A name may be given twice.
@@ -50,7 +40,7 @@ impl Devices {
         self.bus.current = false;
         self.names.push(name);
         self.nodes
-            .push(first_node(kind, device, speed, self.withhold))
+            .push(Node::of_kind(kind, device, speed, self.withhold))
             .unwrap();
     }
 

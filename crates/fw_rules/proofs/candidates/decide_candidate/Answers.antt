@@ -1,7 +1,7 @@
 use Rattle.std.proofs.Common.{◌≡◌, true, false}
 use Rattle.fw_devices.specs.Network.{kind_at, kinds_of}
 use Rattle.fw_devices.proofs.NetworkLaws.{kind_of_node}
-use Rattle.fw_run.specs.Elections.{is_capable}
+use Rattle.fw_base.specs.Devices.{is_capable}
 use Rattle.fw_machine.specs.Stands.{is_living_in}
 use Rattle.fw_rules.proofs.CandidateRules.{candidate_dead, candidate_incapable, candidate_ordered}
 use Rattle.fw_rules.proofs.candidates.decide_candidate.Goals as goal
