@@ -6,6 +6,7 @@
 
 mod append;
 mod bus;
+mod cycle_row;
 mod entries;
 mod hex;
 mod packets;
@@ -13,6 +14,7 @@ mod pairs;
 
 pub use append::{put_named, put_number, put_word};
 pub use bus::{device_name, port_name, rate_name, speed_name};
+pub use cycle_row::CycleRow;
 pub use entries::{event_name, event_saying, kind_name, kind_number, outcome_name, system_name};
 pub use hex::{
     put_blank_hex, put_bytes, put_hex2, put_hex4, put_hex6, put_hex8, put_hex12, put_quadlet,

@@ -23,8 +23,8 @@ impl Pairs {
         Pairs { digits }
     }
 
-    // The digits of the last eight bits.
-    pub(crate) fn of(&self, n: u64) -> [u8; 2]
+    /// The digits of the last eight bits.
+    pub fn of(&self, n: u64) -> [u8; 2]
         ensures { result ≡ byte_digits n }
     {
         self.digits[(n % 256) as usize]

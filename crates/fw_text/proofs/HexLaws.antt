@@ -4,9 +4,10 @@ use Rattle.std.proofs.lemmas.Bool.{cases_order}
 use Rattle.std.proofs.lemmas.List.{get_or-set_same, get_or-set_other}
 use Rattle.std.proofs.Math.ListN.{set}
 use Rattle.std.specs.Fmt.{digit_glyph}
+use Rattle.fw_names.proofs.HexLaws.{eight_digits}
 use Rattle.fw_names.specs.Digits.{byte_digits}
+use Rattle.fw_names.specs.Texts.{hex}
 use Rattle.fw_text.specs.Digits.{IsNumber, IsNumbers}
-use Rattle.fw_text.specs.Line.{hex}
 
 abbrev glyph : ℕ → ℕ
 glyph n = digit_glyph false (n % 16)
@@ -16,17 +17,6 @@ unfolding hex
 three_digits n =
     let a : n / 16 / 16 ≡ n / 2 ^ 8 = omega arith in
     ap (λ x. glyph x ∷ glyph (n / 16) ∷ glyph n ∷ []) a
-
-pub eight_digits : (n : ℕ) → hex 8 n ≡ glyph (n / 2 ^ 24 / 16) ∷ glyph (n / 2 ^ 24) ∷ glyph (n / 2 ^ 16 / 16) ∷ glyph (n / 2 ^ 16) ∷ glyph (n / 2 ^ 8 / 16) ∷ glyph (n / 2 ^ 8) ∷ glyph (n / 16) ∷ glyph n ∷ []
-unfolding hex
-eight_digits n =
-    let b : n / 16 / 16 ≡ n / 2 ^ 8 = omega arith in
-    let c : n / 16 / 16 / 16 ≡ n / 2 ^ 8 / 16 = omega arith in
-    let d : n / 16 / 16 / 16 / 16 ≡ n / 2 ^ 16 = omega arith in
-    let e : n / 16 / 16 / 16 / 16 / 16 ≡ n / 2 ^ 16 / 16 = omega arith in
-    let f : n / 16 / 16 / 16 / 16 / 16 / 16 ≡ n / 2 ^ 24 = omega arith in
-    let g : n / 16 / 16 / 16 / 16 / 16 / 16 / 16 ≡ n / 2 ^ 24 / 16 = omega arith in
-    rw (g, f, e, d, c, b) refl
 
 -- the digits of a quadlet's bytes
 pub four_bytes : (a b c d : ℕ) → a < 256 → b < 256 → c < 256 → d < 256

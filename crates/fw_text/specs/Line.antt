@@ -1,6 +1,5 @@
 -- The line of text that an entry is (own): its cycle and what it records, the parts parted by one space.
-use Rattle.std.specs.Prelude.{ℕ, zero, suc, ◌*◌, ◌/◌, ◌%◌, ◌==◌, false, List, [], ◌∷◌, ◌++◌, length, flat_map, codes, decimal, Option, Some, None, if◌then◌else◌}
-use Rattle.std.specs.Fmt.{digit_glyph}
+use Rattle.std.specs.Prelude.{ℕ, ◌==◌, List, [], ◌∷◌, ◌++◌, flat_map, codes, decimal, Option, Some, None, if◌then◌else◌}
 use Rattle.fw_words.specs.Quadlet.{quadlet_at}
 use Rattle.fw_phy.specs.Phy as Phy
 use Rattle.fw_phy.specs.declared.packet.PhyPacket.{PhyPacket}
@@ -18,25 +17,9 @@ use Rattle.fw_entry.specs.declared.entry.Timed.{Timed}
 use Rattle.fw_entry.specs.declared.codes.TheConstants.{NO_DEVICE}
 use Rattle.fw_entry.specs.Rows.{event_form, has_tape}
 use Rattle.fw_names.specs.Names.{event_name, outcome_name}
+unfoldable pub use Rattle.fw_names.specs.Texts.{hex}
+pub use Rattle.fw_names.specs.Texts.{quadlet_text, first_quadlets, quadlets_text}
 use Rattle.fw_text.specs.Names.{packet_name}
-
--- a number in so many lower-case hexadecimal digits
-unfoldable pub hex : ℕ → ℕ → List ℕ
-hex zero n = []
-hex (suc k) n = hex k (n / 16) ++ digit_glyph false (n % 16) ∷ []
-
--- a quadlet: a space, and its eight digits
-abbrev pub quadlet_text : ℕ → List ℕ
-quadlet_text q = codes " " ++ hex 8 q
-
--- the first n quadlets of some bytes
-abbrev pub first_quadlets : List ℕ → ℕ → List ℕ
-first_quadlets bytes zero = []
-first_quadlets bytes (suc n) = first_quadlets bytes n ++ quadlet_text (quadlet_at bytes (4 * n))
-
--- all quadlets of some bytes
-abbrev pub quadlets_text : List ℕ → List ℕ
-quadlets_text bytes = first_quadlets bytes (length bytes / 4)
 
 -- the first quadlet of a self-ID packet
 abbrev pub id_text : PhyPacket → List ℕ

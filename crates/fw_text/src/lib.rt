@@ -15,12 +15,10 @@
 //! The report of a log's streams has a line for each channel that has isochronous packets.
 #![tactic(auto)]
 
-mod cycle_row;
 mod line;
 mod lines;
 mod names;
 mod numbers;
-mod pairs;
 mod quadlets;
 mod report;
 mod resets;

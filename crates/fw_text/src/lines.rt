@@ -9,15 +9,16 @@ ghost use Rattle.fw_text.specs.Resets.{IsResetBody};
 ghost use Rattle.fw_entry.specs.Log.{Fits, ResetFits, body};
 ghost use Rattle.fw_text.specs.Line.{entry_line};
 
-use crate::cycle_row::CycleRow;
 use crate::line::{put_iso, put_what};
 use crate::names::word_by_code;
 use crate::quadlets::put_word;
 use crate::resets::put_reset_bytes;
+use crate::rows::Row;
 use crate::tables::Tables;
 use crate::text_room::TextRoom;
 use fw_cip::IsoPacket;
 use fw_entry::Timed;
+use fw_names::CycleRow;
 use fw_words::quadlet_at;
 use std::alloc::{AllocError, Global};
 use std::marker::Model;
@@ -66,7 +67,7 @@ impl Lines {
         ensures { OnOk result (self.new ≡ self.old ++ (decimal cycle ++ codes " ")) }
     {
         self.cycle.set(cycle);
-        self.text.put_row(self.cycle.as_row())
+        self.text.put_row(Row::of_cycle(&self.cycle))
     }
 
     fn put_line(&mut self, t: &Timed, bytes: &[u8]) -> Result<(), AllocError>
@@ -85,8 +86,7 @@ impl Lines {
     {
         self.cycle.set(cycle);
         let word = word_by_code(quadlet_at(bytes, 0).field(24, 27));
-        self.text
-            .put_line(self.cycle.as_row(), word, &self.tables.pairs, bytes)
+        self.text.put_line(Row::of_cycle(&self.cycle), word, &self.tables.pairs, bytes)
     }
 
     // The line of the entry of an isochronous packet.

@@ -5,8 +5,8 @@ ghost use Rattle.fw_phy.specs.Phy.{spelling};
 ghost use Rattle.fw_text.specs.Line.{quadlet_text, quadlets_text, offset_text, id_text};
 
 use crate::numbers::Numbers;
-use crate::pairs::Pairs;
 use crate::text_room::TextRoom;
+use fw_names::Pairs;
 use fw_phy::PhyPacket;
 use fw_words::{get_quadlet, quadlet_at};
 use itoa::Buffer;
@@ -57,10 +57,7 @@ pub(crate) fn put_count(
 pub(crate) fn word_of(pairs: &Pairs, q: u32) -> [u8; 9]
     ensures { result ≡ quadlet_text q }
 {
-    let [a, b] = pairs.of(q >> 24);
-    let [c, d] = pairs.of(q >> 16);
-    let [e, f] = pairs.of(q >> 8);
-    let [g, h] = pairs.of(q);
+    let [a, b, c, d, e, f, g, h] = pairs.eight(q);
     [b' ', a, b, c, d, e, f, g, h]
 }
 
@@ -78,20 +75,19 @@ pub(crate) fn put_quadlet(text: &mut TextRoom, pairs: &Pairs, q: u32) -> Result<
     text.put(&word_of(pairs, q))
 }
 
-// A space, and the three digits of an offset.
-fn offset_of(pairs: &Pairs, offset: u32) -> [u8; 4]
+// A space, and the last three digits of an offset.
+fn offset_of(pairs: &Pairs, offset: u16) -> [u8; 4]
     ensures { result ≡ offset_text offset }
 {
-    let high = pairs.of(offset >> 8);
-    let [b, c] = pairs.of(offset);
-    [b' ', high[1], b, c]
+    let [_, a, b, c] = pairs.four(offset);
+    [b' ', a, b, c]
 }
 
 // Appends a space and the offset.
 pub(crate) fn put_offset(text: &mut TextRoom, pairs: &Pairs, offset: u16) -> Result<(), AllocError>
     ensures { OnOk result (text.new ≡ text.old ++ offset_text offset) }
 {
-    text.put(&offset_of(pairs, u32::from(offset)))
+    text.put(&offset_of(pairs, offset))
 }
 
 // Appends all whole quadlets of some bytes.

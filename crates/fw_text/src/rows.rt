@@ -7,8 +7,8 @@ ghost use Rattle.fw_text.specs.Line.{id_text, quadlet_text, quadlets_text};
 ghost use Rattle.std.specs.Int.{from_be_bytes, w32};
 
 use crate::numbers::FEW;
-use crate::pairs::Pairs;
 use crate::quadlets::word_of;
+use fw_names::{CycleRow, Pairs};
 use fw_words::quadlet_at;
 use std::marker::Model;
 
@@ -44,6 +44,15 @@ impl<'a> Row<'a> {
         ensures { result ≡ take size bytes.now }
     {
         Row { bytes, size }
+    }
+
+    /// The text of a cycle.
+    #[inline(always)]
+    pub(crate) fn of_cycle(cycle: &'a CycleRow) -> Row<'a>
+        ensures { result ≡ cycle.now }
+    {
+        let (bytes, size) = cycle.row();
+        Row::new(bytes, size)
     }
 }
 
@@ -89,10 +98,10 @@ fn word_from(pairs: &Pairs, four: &[u8; 4]) -> [u8; WORD]
     ensures { result ≡ quadlet_text (from_be_bytes w32 four.now) }
 {
     let [first, second, third, last] = *four;
-    let [a, b] = pairs.of(u32::from(first));
-    let [c, d] = pairs.of(u32::from(second));
-    let [e, f] = pairs.of(u32::from(third));
-    let [g, h] = pairs.of(u32::from(last));
+    let [a, b] = pairs.of(u64::from(first));
+    let [c, d] = pairs.of(u64::from(second));
+    let [e, f] = pairs.of(u64::from(third));
+    let [g, h] = pairs.of(u64::from(last));
     [b' ', a, b, c, d, e, f, g, h]
 }
 

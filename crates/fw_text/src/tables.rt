@@ -1,7 +1,7 @@
 //! What lines are made with, beside what they tell.
 
 use crate::numbers::Numbers;
-use crate::pairs::Pairs;
+use fw_names::Pairs;
 
 /// Digits that were made once.
 #[derive(Drop)]

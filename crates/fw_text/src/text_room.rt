@@ -6,8 +6,8 @@ ghost use Rattle.fw_phy.specs.declared.packet.PhyPacket.{PhyPacket};
 ghost use Rattle.fw_text.specs.Line.{id_text, quadlets_text};
 
 use crate::numbers::FEW;
-use crate::pairs::Pairs;
 use crate::rows::{ROW, Row, WORD, write_few, write_ids, write_quadlets, write_row};
+use fw_names::Pairs;
 use std::alloc::{AllocError, Global};
 use std::marker::Model;
 

@@ -1,16 +1,19 @@
 //! The cycle that a line begins with.
 
-ghost use Rattle.std.specs.Prelude.{◌≡◌, ◌++◌, codes, decimal};
+ghost use Rattle.std.specs.Prelude.{◌≡◌, ◌≤◌, ◌++◌, codes, decimal, take};
 
-use crate::rows::{ROW, Row};
 use itoa::Buffer;
 use std::marker::Model;
 
-/// The digits of a cycle and a space behind them, at most 21 bytes. Many entries have the cycle of the one before.
+/// In how many bytes a `CycleRow` is kept. The greatest cycle has 20 digits.
+const ROOM: usize = 24;
+
+/// The digits of a cycle and a space after them, at most 21 bytes. Many entries have the cycle of the one before, for which
+/// nothing is made. Contracts see it as this text.
 #[derive(Drop)]
-pub(crate) struct CycleRow {
+pub struct CycleRow {
     cycle: u64,
-    bytes: [u8; ROW],
+    bytes: [u8; ROOM],
     // How many of the bytes are the digits and the space.
     size: usize,
 }
@@ -27,12 +30,12 @@ impl Model for CycleRow {
 
 impl CycleRow {
     /// Those of this cycle.
-    pub(crate) fn of(cycle: u64) -> CycleRow
+    pub fn of(cycle: u64) -> CycleRow
         ensures { result ≡ decimal cycle ++ codes " " }
     {
         let mut buffer = Buffer::new();
         let digits = buffer.format(cycle).as_bytes();
-        let mut bytes = [b' '; ROW];
+        let mut bytes = [b' '; ROOM];
         bytes[..digits.len()].copy_from_slice(digits);
         CycleRow {
             cycle,
@@ -43,7 +46,7 @@ impl CycleRow {
 
     /// Goes on to this cycle.
     #[inline(always)]
-    pub(crate) fn set(&mut self, cycle: u64)
+    pub fn set(&mut self, cycle: u64)
         ensures { self.new ≡ decimal cycle ++ codes " " }
     {
         if self.cycle != cycle {
@@ -51,11 +54,20 @@ impl CycleRow {
         }
     }
 
-    /// As a row.
+    /// The text.
     #[inline(always)]
-    pub(crate) fn as_row(&self) -> Row
-        ensures { result ≡ self.now }
+    pub fn as_slice(&self) -> &[u8]
+        ensures { result.now ≡ self.now }
     {
-        Row::new(&self.bytes, self.size)
+        &self.bytes[..self.size]
+    }
+
+    /// The bytes that begin with the text, and its length: to copy them all takes less than to copy so many.
+    #[inline(always)]
+    pub fn row(&self) -> (&[u8; 24], usize)
+        ensures size { result.1 ≤ 24 }
+        ensures text { take result.1 result.0.now ≡ self.now }
+    {
+        (&self.bytes, self.size)
     }
 }
