@@ -7,7 +7,6 @@ pub mod Ready
 pub mod Ended
 pub mod Overtaken
 pub mod Busy
-pub mod PlugWords
 pub mod GoingOn
 pub mod Resting
 pub mod Deciding

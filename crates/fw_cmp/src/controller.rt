@@ -12,11 +12,8 @@ ghost use Rattle.fw_cmp.specs.Turns.{addressee_in, is_busy};
 use crate::agenda::Agenda;
 use crate::{Directory, Next, StartFault};
 use fw_base::PlugAt;
-use fw_csr::Reply;
+use fw_csr::{Reply, SPLIT_TIMEOUT};
 use std::marker::Model;
-
-/// How many cycles a controller waits for a response (SPLIT_TIMEOUT; own use).
-const SPLIT_TIMEOUT: u64 = 800;
 
 /// A connection controller: its slots and jobs, and whether it has lost the response to its request.
 #[derive(Drop)]

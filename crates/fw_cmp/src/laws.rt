@@ -5,8 +5,6 @@ ghost use Rattle.fw_cmp.specs.declared.job.Job.{Job as JobRecord};
 ghost use Rattle.fw_cmp.specs.declared.stage.Stage.{Stage as StageRecord};
 ghost use Rattle.fw_cmp.specs.Answers.{decision_of, DecidedBy, IsDecidedByAnswers};
 ghost use Rattle.fw_cmp.specs.Stages.{hear_reply};
-ghost use Rattle.fw_base.specs.declared.plug.ConnectionKind.TheVariants.{PointToPoint, Broadcast};
-ghost use Rattle.fw_plug.specs.Words.{OutFields, InFields, FitsRegister, out_word, in_word, units_of};
 ghost use Rattle.fw_csr.specs.declared.reply.Reply.{Reply as ReplyRecord};
 ghost use Rattle.fw_cmp.specs.declared.connection.Slot.{Slot as SlotRecord};
 ghost use Rattle.fw_cmp.specs.declared.directory.Directory.{Directory as BusDirectory};
@@ -15,7 +13,7 @@ ghost use Rattle.fw_cmp.specs.Holdings.{CanGoOn};
 ghost use Rattle.fw_cmp.specs.Resets.{after_hear, state_reset, after_second};
 ghost use Rattle.fw_cmp.specs.Starts.{IsMaking, start, started, start_break, can_break, break_started};
 ghost use Rattle.fw_cmp.specs.Turns.{after_next};
-ghost use Rattle.fw_cmp.specs.Plugs.{has_broadcast, counter_of, channel_of, overhead_of, one_more, one_less, with_channel, with_overhead, units_with, remainder_of};
+ghost use Rattle.fw_cmp.specs.Plugs.{remainder_of};
 
 /// A new connection takes the lowest free slot. It is refused exactly where all 32 slots are in use, or else eight jobs
 /// wait. A break is refused exactly where the slot's connection does not stand and is not to be restored, or a break of
@@ -58,32 +56,7 @@ pub fn the_directory_decides_only_as_a_job_begins()
     ensures second { (c : ControllerState) → (after_second c).current ≡ c.current }
 {}
 
-/// What a controller reads in the words of plugs are their fields, and what it writes are words of plugs: with one
-/// connection more or less, with another channel, or with another overhead_ID. The remainder is the whole word of
-/// BANDWIDTH_AVAILABLE.
-pub fn words_are_those_of_plugs()
-    ensures broadcast { (f : OutFields) → f.counter < 64 → FitsRegister f.settings → has_broadcast (out_word f) ≡ f.broadcast }
-    ensures counter { (f : OutFields) → f.counter < 64 → FitsRegister f.settings → counter_of (out_word f) ≡ f.counter }
-    ensures channel { (f : OutFields) → f.counter < 64 → FitsRegister f.settings → channel_of (out_word f) ≡ f.settings.channel }
-    ensures overhead { (f : OutFields) → f.counter < 64 → FitsRegister f.settings → overhead_of (out_word f) ≡ f.settings.overhead }
-    ensures units { (f : OutFields) (o : ℕ) → f.counter < 64 → FitsRegister f.settings → units_with o (out_word f) ≡ units_of (record f.settings { overhead = o }) }
-    ensures counted { (f : OutFields) → one_more PointToPoint (out_word f) ≡ out_word (record f { counter = f.counter + 1 }) }
-    ensures uncounted { (f : OutFields) → 0 < f.counter → one_less PointToPoint (out_word f) ≡ out_word (record f { counter = f.counter - 1 }) }
-    ensures set { (f : OutFields) → f.broadcast ≡ false → one_more Broadcast (out_word f) ≡ out_word (record f { broadcast = true }) }
-    ensures cleared { (f : OutFields) → f.broadcast ≡ true → one_less Broadcast (out_word f) ≡ out_word (record f { broadcast = false }) }
-    ensures on_channel { (f : OutFields) (ch : ℕ) → f.counter < 64 → FitsRegister f.settings → with_channel (out_word f) ch ≡ out_word (record f { settings = record f.settings { channel = ch } }) }
-    ensures with_overhead { (f : OutFields) (o : ℕ) → f.counter < 64 → FitsRegister f.settings → with_overhead (out_word f) o ≡ out_word (record f { settings = record f.settings { overhead = o } }) }
-    ensures remainder { (w : ℕ) → w < 2 ^ 13 → remainder_of w ≡ w }
-{}
-
-/// The same of input plugs.
-pub fn words_are_those_of_input_plugs()
-    ensures broadcast { (f : InFields) → f.counter < 64 → f.channel < 64 → has_broadcast (in_word f) ≡ f.broadcast }
-    ensures counter { (f : InFields) → f.counter < 64 → f.channel < 64 → counter_of (in_word f) ≡ f.counter }
-    ensures channel { (f : InFields) → f.counter < 64 → f.channel < 64 → channel_of (in_word f) ≡ f.channel }
-    ensures counted { (f : InFields) → one_more PointToPoint (in_word f) ≡ in_word (record f { counter = f.counter + 1 }) }
-    ensures uncounted { (f : InFields) → 0 < f.counter → one_less PointToPoint (in_word f) ≡ in_word (record f { counter = f.counter - 1 }) }
-    ensures set { (f : InFields) → f.broadcast ≡ false → one_more Broadcast (in_word f) ≡ in_word (record f { broadcast = true }) }
-    ensures cleared { (f : InFields) → f.broadcast ≡ true → one_less Broadcast (in_word f) ≡ in_word (record f { broadcast = false }) }
-    ensures on_channel { (f : InFields) (ch : ℕ) → f.counter < 64 → f.channel < 64 → with_channel (in_word f) ch ≡ in_word (record f { channel = ch }) }
+/// The remainder that a controller reads is the whole word of BANDWIDTH_AVAILABLE.
+pub fn the_remainder_is_the_word()
+    ensures { (w : ℕ) → w < 2 ^ 13 → remainder_of w ≡ w }
 {}

@@ -32,8 +32,7 @@ pub use directory::Directory;
 pub use job::{Ending, Held, Job, Purpose, Then};
 pub use laws::{
     answers_decide_by_what_they_show, controllers_go_on, starts_are_refused_by_the_rules,
-    the_directory_decides_only_as_a_job_begins, words_are_those_of_input_plugs,
-    words_are_those_of_plugs,
+    the_directory_decides_only_as_a_job_begins, the_remainder_is_the_word,
 };
 pub use outcome::{Next, Outcome, StartFault};
 pub use request::{Access, Target};

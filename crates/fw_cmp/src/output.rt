@@ -8,9 +8,9 @@ ghost use Rattle.fw_cmp.specs.Decisions.{restores, is_other, is_lost, decide_fre
 ghost use Rattle.fw_cmp.specs.Fits.{JobFits, StageFits, HeldFits, HasOutput, FlowFits};
 
 use crate::release::give_back;
-use crate::words::{half_of, is_full, units_with};
+use crate::words::half_of;
 use crate::{Ending, Flow, Held, Job, Purpose, Stage, Then};
-use fw_plug::OutWord;
+use fw_plug::{OutWord, is_full, units};
 
 /// Whether a channel is another than the one that is asked for.
 fn is_other(asked: Option<u8>, channel: u8) -> bool
@@ -31,7 +31,7 @@ pub(crate) fn overlaid_flow(word: u32) -> Flow
     Flow {
         channel: plug.channel(),
         overhead: plug.overhead(),
-        units: units_with(plug.overhead(), word),
+        units: units(plug),
     }
 }
 

@@ -7,9 +7,9 @@ ghost use Rattle.fw_cmp.specs.Plugs.{shows_connection};
 ghost use Rattle.fw_cmp.specs.Decisions.{goes_on, give_back, leave_output, input_left, decide_leave_in, decide_leave_out, output_left, decide_raise};
 ghost use Rattle.fw_cmp.specs.Fits.{StageFits, HeldFits, HasOutput, HasInput, FlowFits};
 
-use crate::words::{one_less, remainder, shows_connection};
+use crate::words::remainder;
 use crate::{Connection, Ending, Flow, Held, Job, Stage, Then};
-use fw_plug::OutWord;
+use fw_plug::{OutWord, one_less, shows_connection};
 
 /// What follows where nothing is left to give back.
 pub(crate) fn goes_on(next: Then) -> Stage

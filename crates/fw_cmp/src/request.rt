@@ -6,13 +6,11 @@ ghost use Rattle.fw_cmp.specs.Fits.{JobFits, StageFits, IsUnconnected};
 ghost use Rattle.fw_plug.specs.Words.{is_connected};
 ghost use Rattle.std.specs.Prelude.{IsFalse};
 
-use crate::words::{
-    half_of, one_less, one_more, with_bit, with_channel, with_overhead, without_bit,
-};
+use crate::words::{half_of, with_bit, without_bit};
 use crate::{Job, Stage};
 use fw_base::PlugAt;
 use fw_csr::{BANDWIDTH_AVAILABLE, CHANNELS_AVAILABLE_HI, CHANNELS_AVAILABLE_LO};
-use fw_plug::{IPCR, OPCR, OutWord};
+use fw_plug::{IPCR, OPCR, OutWord, one_less, one_more, with_channel, with_overhead};
 use fw_words::Swap;
 
 /// A register that a job asks for: that of a plug, or one of the isochronous resource manager's.

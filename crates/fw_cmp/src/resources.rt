@@ -5,8 +5,9 @@ ghost use Rattle.fw_plug.specs.Words.{is_connected};
 ghost use Rattle.fw_cmp.specs.Decisions.{decide_channel, decide_units, needs};
 ghost use Rattle.fw_cmp.specs.Fits.{JobFits, StageFits, HasOutput, IsHalf, AskedWithin};
 
-use crate::words::{first_free, remainder, units_with};
+use crate::words::{first_free, remainder};
 use crate::{Ending, Job, Stage, Then};
+use fw_plug::{OutWord, units_with};
 use fw_words::Quadlet;
 
 impl Job {
@@ -50,7 +51,7 @@ impl Job {
         ensures { result ≡ needs self.now plug }
     {
         match self.units {
-            None => units_with(self.overhead, plug),
+            None => units_with(self.overhead, OutWord(plug)),
             Some(units) => units,
         }
     }
