@@ -2,13 +2,15 @@
 use Rattle.fw_entry.specs.declared.entry.Entry.{Entry}
 use Rattle.fw_entry.specs.declared.entry.Entry.TheVariants.{Reset}
 use Rattle.fw_entry.specs.declared.entry.ResetEntry.{ResetEntry}
-use Rattle.std.specs.Prelude.{◌≡◌, Option, Some, None, List}
+use Rattle.std.specs.Prelude.{◌≡◌, Option, Some, None, List, Result, Ok, Err}
 use Rattle.fw_account.specs.Account.{Account}
 use Rattle.fw_account.specs.Fold.{next_account, account_of}
+use Rattle.fw_ledger.specs.Refused.{ShowsAnswer}
 use Rattle.fw_ledger.specs.Stands.{StandsFor}
+use Rattle.fw_ledger.specs.declared.answer.Answer.{Answer}
 use Rattle.fw_ledger.specs.declared.tables.Tables.{Tables}
 use Rattle.fw_faults.specs.Looked.{looked}
-use Rattle.fw_faults.specs.Faults.{HasNoFault}
+use Rattle.fw_faults.specs.Faults.{HasNoFault, IsVerdict}
 use Rattle.fw_faults.specs.Audited.{IsAudited, EndsFaulty}
 use Rattle.fw_faults.specs.declared.fault.AuditFault.{AuditFault}
 use Rattle.fw_audit.specs.declared.audit.Audit.{Audit}
@@ -16,6 +18,11 @@ use Rattle.fw_audit.specs.declared.audit.Audit.{Audit}
 -- the tables stand for the account with one entry more
 abbrev pub StandsAfter : Tables → Account → Entry → Type 0
 StandsAfter t l e = (m : Account) × (next_account l e ≡ Some m) × StandsFor t m
+
+-- the entry has no fault, the tables go on with it, and this is the response that it is, if it is one; or this is its first fault
+abbrev pub Judges : Tables → Account → Entry → Result (Option Answer) AuditFault → Type 0
+Judges new l e (Ok a) = HasNoFault l (looked e) × StandsAfter new l e × ShowsAnswer l (looked e) a
+Judges new l e (Err f) = IsVerdict l (looked e) (Some f)
 
 -- the entry changes no account, and has no fault over any
 abbrev pub IsPassedOver : Entry → Type 0

@@ -8,14 +8,14 @@ ghost use Rattle.fw_ledger.specs.Stands.{StandsFor};
 ghost use Rattle.fw_faults.specs.Looked.{looked};
 ghost use Rattle.fw_faults.specs.Faults.{IsVerdict};
 ghost use Rattle.fw_faults.specs.declared.fault.AuditFault.{AuditFault as Fault};
-ghost use Rattle.fw_audit.specs.Found.{Found, StandsAfter};
+ghost use Rattle.fw_audit.specs.Found.{Found, StandsAfter, Judges};
 
 use crate::answers::judge_answer;
 use crate::refusals::fault_of;
 use crate::shown::judge_shown;
 use fw_entry::{Entry, Timed};
 use fw_faults::AuditFault;
-use fw_ledger::Ledger;
+use fw_ledger::{Answer, Ledger};
 use std::alloc::{AllocError, Global};
 
 /// What was found of the entries that were taken so far.
@@ -25,33 +25,48 @@ pub struct Audit {
     fault: Option<AuditFault>,
 }
 
-// The ledger takes an entry that is no shown word, and that has this fault. After a fault nothing is said of the ledger.
-fn take_other(ledger: &mut Ledger, e: &Entry) -> Option<AuditFault>
+// The ledger takes an entry that is no shown word.
+fn take_other(ledger: &mut Ledger, e: &Entry) -> Result<Option<Answer>, AuditFault>
     requires fits { Fits e.now }
     requires other { (s : ShownEntry) → e.now ≡ Shown s → ⊥ }
-    ensures found { (l : Account) → StandsFor ledger.old l → IsVerdict l (looked e.now) result }
-    ensures taken { (l : Account) → StandsFor ledger.old l → result ≡ None → StandsAfter ledger.new l e.now }
+    ensures { (l : Account) → StandsFor ledger.old l → Judges ledger.new l e.now result }
 {
     let answer = match ledger.take_entry(e) {
         Ok(answer) => answer,
-        Err(refused) => return Some(fault_of(refused)),
+        Err(refused) => return Err(fault_of(refused)),
     };
-    match answer {
-        Some(answer) => judge_answer(&answer),
+    let fault = match &answer {
+        Some(answer) => judge_answer(answer),
         None => None,
+    };
+    match fault {
+        Some(fault) => Err(fault),
+        None => Ok(answer),
+    }
+}
+
+/// A ledger takes an entry, and answers with the response that it is, if it is one of a procedure; or with the first fault that the
+/// entry has over the account of the entries before it. After a fault nothing is said of the ledger. No memory is taken.
+pub fn take_entry(ledger: &mut Ledger, e: &Entry) -> Result<Option<Answer>, AuditFault>
+    requires fits { Fits e.now }
+    ensures { (l : Account) → StandsFor ledger.old l → Judges ledger.new l e.now result }
+{
+    let Entry::Shown(shown) = e else {
+        return take_other(ledger, e);
+    };
+    match judge_shown(ledger, shown) {
+        Some(fault) => Err(fault),
+        None => Ok(None),
     }
 }
 
 // The ledger takes an entry, which has this fault.
-fn take_entry(ledger: &mut Ledger, e: &Entry) -> Option<AuditFault>
+fn fault_at(ledger: &mut Ledger, e: &Entry) -> Option<AuditFault>
     requires fits { Fits e.now }
     ensures found { (l : Account) → StandsFor ledger.old l → IsVerdict l (looked e.now) result }
     ensures taken { (l : Account) → StandsFor ledger.old l → result ≡ None → StandsAfter ledger.new l e.now }
 {
-    match e {
-        Entry::Shown(shown) => judge_shown(ledger, shown),
-        _ => take_other(ledger, e),
-    }
+    take_entry(ledger, e).err()
 }
 
 impl Audit {
@@ -76,7 +91,7 @@ impl Audit {
         ensures memory { IfErr result (λ e. self.new ≡ self.old) }
     {
         if self.fault.is_none() {
-            self.fault = take_entry(&mut self.ledger, &t.what);
+            self.fault = fault_at(&mut self.ledger, &t.what);
         }
         Ok(self.fault)
     }

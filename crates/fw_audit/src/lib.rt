@@ -9,6 +9,7 @@ mod shown;
 mod watch;
 mod words;
 
-pub use audit::Audit;
+pub use audit::{Audit, take_entry};
 pub use fw_faults::AuditFault;
 pub use passing::{is_passed_over, is_passed_packet};
+pub use watch::{is_watched, watched_offset};

@@ -67,6 +67,14 @@ impl Ledger {
         Ok(self.take_entry(&t.what).is_ok())
     }
 
+    /// The tables, to be looked at: what they have at a plug counts only where the latest reset entry has the plug, and what may be
+    /// allocated again only while a reclaim second runs.
+    pub fn tables(&self) -> &Tables
+        ensures { result.now ≡ self.now }
+    {
+        &self.tables
+    }
+
     /// The units that are left: BANDWIDTH_AVAILABLE.
     pub fn remainder(&self) -> u32
         ensures { (l : Account) → StandsFor self.now l → result ≡ word_of l BandwidthAvailable }

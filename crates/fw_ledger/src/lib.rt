@@ -26,4 +26,5 @@ mod units;
 pub use answer::Answer;
 pub use ledger::Ledger;
 pub use refused::Refused;
-pub use tables::Asked;
+pub use register::Register;
+pub use tables::{Asked, Broadcaster, Charge, Reclaimable, Seats, Tables};

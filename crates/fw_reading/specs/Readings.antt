@@ -1,10 +1,10 @@
 -- What a word makes of the entries of a log.
-use Rattle.std.specs.Prelude.{◌≡◌, ℕ, List, [], ◌∷◌, ◌++◌, Option, Some, None, string_bytes}
+use Rattle.std.specs.Prelude.{◌≡◌, ℕ, List, [], ◌∷◌, ◌++◌, Option, Some, None, Result, Ok, Err, string_bytes}
 use Rattle.fw_entry.specs.declared.entry.Timed.{Timed}
 use Rattle.fw_log.specs.History.{HasRead}
 use Rattle.fw_log.specs.Reader.{State}
 use Rattle.fw_reading.specs.declared.ending.Closing.{Closing}
-use Rattle.fw_reading.specs.declared.ending.Closing.TheVariants.{Text as ClosesBy, Refused}
+use Rattle.fw_reading.specs.declared.ending.Closing.TheVariants.{Text as ClosesBy, Bytes as ClosesByBytes, Refused}
 
 -- what is written of entries, behind others, as they end
 abbrev pub Text : Type 0
@@ -50,7 +50,14 @@ pub record Passes (text : Text) (Took : List Timed → Type 0) (old new : List �
   pub took : Took (entries ++ entry ∷ [])
   pub gathered : new ≡ old ++ text entries (entry ∷ [])
 
+-- what is written at the end of a log, or why it is refused
+abbrev pub closing_of : {R : Type 0} → Closing R → Result (List ℕ) R
+closing_of (ClosesBy text) = Ok (string_bytes text)
+closing_of (ClosesByBytes bytes) = Ok bytes.items
+closing_of (Refused refusal) = Err refusal
+
 -- what is made of the end of a log
 abbrev pub Closes : {R : Type 0} → Rules R → List Timed → Closing R → Type 0
 Closes rules entries (ClosesBy text) = rules.closes entries (string_bytes text)
+Closes rules entries (ClosesByBytes bytes) = rules.closes entries bytes.items
 Closes rules entries (Refused refusal) = rules.refuses entries refusal

@@ -1,3 +1,6 @@
+ghost use Rattle.std.specs.Prelude.{◌≡◌, IfOk, IfErr};
+ghost use Rattle.fw_reading.specs.Readings.{closing_of};
+
 use fw_log::LogFault;
 use fw_outside::Stop;
 
@@ -19,6 +22,22 @@ pub enum LogEnding<R> {
 pub enum Closing<R> {
     /// What is written there.
     Text(String),
+    /// The bytes that are written there.
+    Bytes(Vec<u8>),
     /// Why the log is refused.
     Refused(R),
+}
+
+impl<R> Closing<R> {
+    // What is written, or why the log is refused.
+    pub(crate) fn into_bytes(self) -> Result<Vec<u8>, R>
+        ensures written { IfOk result (λ bytes. closing_of self ≡ Ok bytes.items) }
+        ensures refused { IfErr result (λ refusal. closing_of self ≡ Err refusal) }
+    {
+        match self {
+            Closing::Text(text) => Ok(text.into_bytes()),
+            Closing::Bytes(bytes) => Ok(bytes),
+            Closing::Refused(refusal) => Err(refusal),
+        }
+    }
 }

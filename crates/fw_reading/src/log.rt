@@ -9,7 +9,7 @@ ghost use Rattle.fw_reading.specs.Endings.{stop_of, Reads, ReadsLog};
 ghost use Rattle.fw_reading.specs.Pieces.{EndsLog};
 
 use crate::piece::{print, print_bytes};
-use crate::{Closing, LogEnding, Reading};
+use crate::{LogEnding, Reading};
 use fw_log::{LogReader, Room};
 use fw_outside::{Sink, Source, Stop};
 use std::alloc::Global;
@@ -39,11 +39,11 @@ fn end_log<O: Reading, K: Sink>(
     let Ok(closing) = output.close(alloc) else {
         return LogEnding::Stopped(Stop::NoMemory);
     };
-    let text = match closing {
-        Closing::Text(text) => text,
-        Closing::Refused(refusal) => return LogEnding::Refused(refusal),
+    let text = match closing.into_bytes() {
+        Ok(text) => text,
+        Err(refusal) => return LogEnding::Refused(refusal),
     };
-    match print(text.as_bytes(), sink) {
+    match print(&text, sink) {
         Ok(()) => LogEnding::Done,
         Err(_) => LogEnding::Stopped(Stop::WriteFault),
     }

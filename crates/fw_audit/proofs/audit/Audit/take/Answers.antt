@@ -13,7 +13,7 @@ returns-clause-found c = λ entries none x.
       | then-is_none w ↦ (
         refl,
         subst (λ (a : Audit). Found (entries ++ c.args.t.now.what ∷ []) a a.fault) (sym w.self-is)
-            (found_more entries c.args.t.now.what c.args.self.now _ _ x (w.take_entry-self.ensures.found x.account x.stands) (w.take_entry-self.ensures.taken x.account x.stands)),
+            (found_more entries c.args.t.now.what c.args.self.now _ _ x (w.fault_at-self.ensures.found x.account x.stands) (w.fault_at-self.ensures.taken x.account x.stands)),
       )
       | else-is_none w ↦ absurd (grind (arith, none, w.if-is_none.false, c.is_none.ensures))
     ]
@@ -22,6 +22,6 @@ pub returns-clause-first : goal.returns-clause-first
 returns-clause-first c = λ l none h.
     elim c.if-is_none.branch [
       | then-is_none w ↦
-          subst (λ (a : Audit). IsVerdict l (looked c.args.t.now.what) a.fault) (sym w.self-is) (w.take_entry-self.ensures.found l h)
+          subst (λ (a : Audit). IsVerdict l (looked c.args.t.now.what) a.fault) (sym w.self-is) (w.fault_at-self.ensures.found l h)
       | else-is_none w ↦ absurd (grind (arith, none, w.if-is_none.false, c.is_none.ensures))
     ]
