@@ -7,6 +7,10 @@ use Rattle.std.specs.Str.Parse.{digits_value}
 use Rattle.std.proofs.lemmas.Bool.{and_parts, eqb-true}
 use Rattle.std.proofs.lemmas.Bool.Decides.{nat_tests}
 use Rattle.std.proofs.lemmas.Option.{same_Some}
+use Rattle.std.specs.Option.{option_map}
+use Rattle.fw_base.specs.declared.device.DeviceKind.{DeviceKind}
+use Rattle.fw_base.specs.Devices.{code_of}
+use Rattle.fw_base.proofs.KindLaws.{code_low}
 use Rattle.hex.specs.Hex.{decode_pairs, decode_sized, digit_or_error, hex_digit_value, ◌>>=◌}
 use Rattle.hex.specs.declared.error.FromHexError.{FromHexError}
 use Rattle.fw_command.specs.Form.{HasArguments, HasForm, first_by}
@@ -50,12 +54,9 @@ number_range low high w n e = go (digits_value 10 w) (only_some (is_decimal w &&
         let first = and_parts (is_decimal w) (nat_le low v) last.0 in
         (grind (arith, nat_tests), grind (arith, nat_tests))
 
-kind_range : (a b c d : Bool) (n : ℕ) → cond a (Some 0) (cond b (Some 1) (cond c (Some 2) (cond d (Some 3) None))) ≡ Some n → n ≤ 3
-kind_range true b c d n e = let is = same_Some 0 n e in omega arith
-kind_range false true c d n e = let is = same_Some 1 n e in omega arith
-kind_range false false true d n e = let is = same_Some 2 n e in omega arith
-kind_range false false false true n e = let is = same_Some 3 n e in omega arith
-kind_range false false false false n e = absurd (let z : ⊥ = cc in z)
+kind_range : (o : Option DeviceKind) (n : ℕ) → option_map code_of o ≡ Some n → n ≤ 3
+kind_range None n e = absurd (let z : ⊥ = cc in z)
+kind_range (Some kind) n e = let is = same_Some (code_of kind) n e in let low = code_low kind in omega (arith, is, low)
 
 speed_range : (a b c : Bool) (n : ℕ) → cond a (Some 0) (cond b (Some 1) (cond c (Some 2) None)) ≡ Some n → n ≤ 2
 speed_range true b c n e = let is = same_Some 0 n e in omega arith
@@ -141,7 +142,7 @@ first_number : (low high : ℕ) (ws : List (List ℕ)) (n : ℕ) → first_by (n
 first_number low high = first_has (number_in low high) (λ n. (low ≤ n) × (n ≤ high)) (number_range low high)
 
 first_kind : (ws : List (List ℕ)) (n : ℕ) → first_by kind_in ws ≡ Some n → n ≤ 3
-first_kind = first_has kind_in (λ n. n ≤ 3) (λ w n e. kind_range _ _ _ _ n e)
+first_kind = first_has kind_in (λ n. n ≤ 3) (λ w n e. kind_range _ n e)
 
 first_speed : (ws : List (List ℕ)) (n : ℕ) → first_by speed_in ws ≡ Some n → n ≤ 2
 first_speed = first_has speed_in (λ n. n ≤ 2) (λ w n e. speed_range _ _ _ n e)

@@ -1,10 +1,12 @@
 -- The words of a script's lines (own).
 use Rattle.std.specs.Prelude.{ℕ, ◌==◌, ◌&&◌, ◌||◌, not, nat_le, List, [], ◌∷◌, length, slice_index, Bool, true, codes, Option, Some, None, Result, Ok, Err, if◌then◌else◌}
 use Rattle.std.specs.List.{list_all}
+use Rattle.std.specs.Option.{option_map}
 use Rattle.std.specs.Str.{bytes_eq}
 use Rattle.std.specs.Char.{is_ascii_digit, is_ascii_lowercase}
 use Rattle.std.specs.Str.Parse.{digits_value}
 use Rattle.std.specs.Int.{from_be_bytes, w16, w32}
+use Rattle.fw_base.specs.Devices.{code_of, kind_named}
 use Rattle.hex.specs.Hex.{decode_of, decode_sized}
 use Rattle.hex.specs.declared.error.FromHexError.{FromHexError}
 use Rattle.fw_command.specs.Pieces.{pieces}
@@ -46,9 +48,9 @@ abbrev pub meaning_in : {A : Type 0} → List (List ℕ × A) → List ℕ → O
 meaning_in [] w = None
 meaning_in (row ∷ rows) w = if is row.0 w then Some row.1 else meaning_in rows w
 
--- KIND: its code
+-- KIND: the code of the kind with this name
 abbrev pub kind_in : List ℕ → Option ℕ
-kind_in w = meaning_in ((codes "relay", 0) ∷ (codes "deck", 1) ∷ (codes "camcorder", 2) ∷ (codes "computer", 3) ∷ []) w
+kind_in w = option_map code_of (kind_named w)
 
 -- SPEED in Mbit/s: its code
 abbrev pub speed_in : List ℕ → Option ℕ

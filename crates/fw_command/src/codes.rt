@@ -5,22 +5,13 @@ ghost use Rattle.fw_command.specs.Words.{kind_in, speed_in, system_in, channel_i
 
 use crate::Name;
 use crate::words::{is, name, small};
+use fw_base::DeviceKind;
 
 /// The kind's code.
 pub(crate) fn kind(word: &[u8]) -> Option<u8>
     ensures { result ≡ kind_in word.now }
 {
-    if is(word, b"relay") {
-        Some(0)
-    } else if is(word, b"deck") {
-        Some(1)
-    } else if is(word, b"camcorder") {
-        Some(2)
-    } else if is(word, b"computer") {
-        Some(3)
-    } else {
-        None
-    }
+    Some(DeviceKind::named(word)?.code())
 }
 
 /// The speed's code.

@@ -3,7 +3,8 @@ use Rattle.std.proofs.Common.{◌≡◌, ℕ, zero, suc, ◌+◌, ◌/◌, ◌%�
 use Rattle.std.proofs.lemmas.Bool.Decides.{nat_tests}
 use Rattle.std.proofs.lemmas.Fmt.{decimal_by_steps}
 use Rattle.std.specs.Fmt.{digit_glyph}
-use Rattle.std.specs.List.{join_with_byte}
+use Rattle.std.specs.List.{join_with_byte, list_all}
+use Rattle.std.specs.Char.{is_ascii_lowercase}
 use Rattle.fw_names.specs.Texts.{hex, hex_bytes}
 use Rattle.fw_json.specs.Laws.{IsPlain}
 use Rattle.fw_json.specs.Values.{field, quoted, name_value, number_value, flag_value, code, array, cycle_value}
@@ -41,6 +42,14 @@ joined (x ∷ xs) ys e f = both (plain_byte x) (plain (xs ++ ys)) (both_left (pl
 
 pub two : {xs ys : List ℕ} → Plain xs → Plain ys → Plain (xs ++ ys)
 two {xs} {ys} a b = record { is = joined xs ys a.is b.is }
+
+-- words of small letters alone are
+pub letters : (bs : List ℕ) → list_all is_ascii_lowercase bs ≡ true → plain bs ≡ true
+letters [] e = refl
+letters (b ∷ bs) e =
+    let first = both_left (is_ascii_lowercase b) (list_all is_ascii_lowercase bs) e in
+    let small : plain_byte b ≡ true = grind (arith, nat_tests, first) in
+    both (plain_byte b) (plain bs) small (letters bs (both_right (is_ascii_lowercase b) (list_all is_ascii_lowercase bs) e))
 
 -- ---- numbers
 

@@ -1,11 +1,15 @@
 -- The names of the tables are plain.
 use Rattle.std.proofs.Common.{◌≡◌, ℕ, ◌/◌, ◌^◌, ◌==◌, ◌&&◌, Bool, true, false, if◌then◌else◌, List, [], ◌∷◌, map, codes, Option, Some, None, refl}
+use Rattle.std.specs.Option.{option_map}
+use Rattle.fw_base.specs.declared.device.DeviceKind.{DeviceKind}
+use Rattle.fw_base.specs.Devices.{kind_coded, name_of}
+use Rattle.fw_base.proofs.KindLaws.{name_letters}
 use Rattle.fw_async.specs.declared.packet.Packet.{Packet}
 use Rattle.fw_async.specs.declared.packet.Packet.TheVariants.{WriteQuadlet, WriteBlock, WriteReply, ReadQuadlet, ReadBlock, ReadQuadletReply, ReadBlockReply, CycleStart, Lock, LockReply}
 use Rattle.fw_cip.specs.declared.packet.CipHeader.{CipHeader}
 use Rattle.fw_names.specs.Names.{EventWords, event_words, event_word, outcome_names, name_in, kind_name, tcode_name, rcode_name, function_name, retry_name, speed_name, port_name, device_name, system_name, format_name, event_name, outcome_name}
 use Rattle.fw_json.proofs.Told.{both_left, both_right}
-use Rattle.fw_json.proofs.PlainLaws.{plain, Named, word}
+use Rattle.fw_json.proofs.PlainLaws.{plain, letters, Named, word}
 
 name : (bs : List ℕ) → plain bs ≡ true → Named (Some bs)
 name bs e = record { is = word bs e }
@@ -67,11 +71,11 @@ ports n =
     (choice (n == 3) (name (codes "child") refl) none))))
 
 pub devices : (n : ℕ) → Named (device_name n)
-devices n =
-    (choice (n == 0) (name (codes "relay") refl)
-    (choice (n == 1) (name (codes "deck") refl)
-    (choice (n == 2) (name (codes "camcorder") refl)
-    (choice (n == 3) (name (codes "computer") refl) none))))
+devices n = by (kind_coded n)
+  where
+    by : (o : Option DeviceKind) → Named (option_map name_of o)
+    by None = none
+    by (Some kind) = name (name_of kind) (letters (name_of kind) (name_letters kind))
 
 pub systems : (n : ℕ) → Named (system_name n)
 systems n =

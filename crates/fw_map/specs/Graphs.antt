@@ -1,5 +1,6 @@
 -- A tree as a graph, in Graphviz's language (own).
 use Rattle.std.specs.Prelude.{ℕ, zero, suc, min, ◌==◌, if◌then◌else◌, List, [], ◌∷◌, ◌++◌, Option, Some, None, slice_get, codes, decimal}
+use Rattle.fw_base.specs.Devices.{kind_with, name_of}
 use Rattle.fw_entry.specs.declared.nodes.NodeRow.{NodeRow}
 use Rattle.fw_tree.specs.Numbers.{number_at}
 use Rattle.fw_map.specs.declared.tree.Tree.{Tree}
@@ -15,7 +16,7 @@ new_line = 92 ∷ 110 ∷ []
 
 -- the kind of a device, by its code
 abbrev pub kind_word : ℕ → List ℕ
-kind_word code = if code == 0 then codes "relay" else if code == 1 then codes "deck" else if code == 2 then codes "camcorder" else codes "computer"
+kind_word code = name_of (kind_with code)
 
 -- a speed, by sp
 abbrev pub speed_word : ℕ → List ℕ

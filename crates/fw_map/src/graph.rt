@@ -6,18 +6,17 @@ ghost use Rattle.fw_map.specs.Trees.{speed_at};
 ghost use Rattle.fw_map.specs.Walks.{IsRebuilt};
 
 use crate::Tree;
+use fw_base::DeviceKind;
 use fw_entry::NodeRow;
 use std::alloc::{AllocError, Global};
 
-// The kind with this code.
+// The name of the kind with this code; no log has a code above 3.
 fn kind_word(code: u8) -> &'static str
     ensures { result.now ≡ kind_word code }
 {
-    match code {
-        0 => "relay",
-        1 => "deck",
-        2 => "camcorder",
-        _ => "computer",
+    match DeviceKind::from_code(code) {
+        Some(kind) => kind.name(),
+        None => DeviceKind::Computer.name(),
     }
 }
 

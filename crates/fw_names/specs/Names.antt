@@ -1,5 +1,7 @@
 -- The names of what a log holds: those of nosy-dump and of the Linux kernel for packets, own ones for the rest.
 use Rattle.std.specs.Prelude.{ℕ, ◌-◌, ◌/◌, ◌^◌, ◌==◌, nat_le, List, [], ◌∷◌, ◌++◌, codes, decimal, Option, Some, None, if◌then◌else◌}
+use Rattle.std.specs.Option.{option_map}
+use Rattle.fw_base.specs.Devices.{kind_coded, name_of}
 use Rattle.fw_async.specs.declared.packet.Packet.{Packet}
 use Rattle.fw_async.specs.declared.packet.Packet.TheVariants.{WriteQuadlet, WriteBlock, WriteReply, ReadQuadlet, ReadBlock, ReadQuadletReply, ReadBlockReply, CycleStart, Lock, LockReply}
 use Rattle.fw_cip.specs.declared.packet.CipHeader.{CipHeader}
@@ -103,14 +105,9 @@ port_name port =
     else if port == 3 then Some (codes "child")
     else None
 
--- the name of a device's kind
+-- the name of a device's kind, by its code
 abbrev pub device_name : ℕ → Option (List ℕ)
-device_name kind =
-    if kind == 0 then Some (codes "relay")
-    else if kind == 1 then Some (codes "deck")
-    else if kind == 2 then Some (codes "camcorder")
-    else if kind == 3 then Some (codes "computer")
-    else None
+device_name kind = option_map name_of (kind_coded kind)
 
 -- the name of a tape's system, by the lines of its picture
 abbrev pub system_name : ℕ → Option (List ℕ)

@@ -4,6 +4,8 @@ ghost use Rattle.std.specs.Prelude.{◌≡◌};
 ghost use Rattle.std.specs.Option.{option_copied};
 ghost use Rattle.fw_names.specs.Names.{speed_name, rate_name, port_name, device_name};
 
+use fw_base::DeviceKind;
+
 /// The name of sp, the speed code of a self-ID packet; each of two bits has one.
 pub fn speed_name(sp: u8) -> Option<&'static str>
     ensures { option_copied result ≡ speed_name sp }
@@ -47,11 +49,5 @@ pub fn port_name(port: u8) -> Option<&'static str>
 pub fn device_name(kind: u8) -> Option<&'static str>
     ensures { option_copied result ≡ device_name kind }
 {
-    match kind {
-        0 => Some("relay"),
-        1 => Some("deck"),
-        2 => Some("camcorder"),
-        3 => Some("computer"),
-        _ => None,
-    }
+    Some(DeviceKind::from_code(kind)?.name())
 }
