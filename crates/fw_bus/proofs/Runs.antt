@@ -22,6 +22,7 @@ use Rattle.fw_run.proofs.Settling.{enough}
 use Rattle.fw_run.proofs.Steps.{steps_good}
 use Rattle.fw_run.proofs.Times.{first_good}
 use Rattle.fw_machine.specs.declared.machine.Machine.{Machine}
+use Rattle.fw_machine.specs.Giving.{between}
 use Rattle.fw_machine.specs.Stands.{IsReady, StandsFor}
 use Rattle.fw_carry.specs.Framing.{PerformedWithDesk, IsQuiet}
 use Rattle.fw_rules.specs.Decisions.{Decided}
@@ -47,7 +48,7 @@ quiet_reached {m} h = quiet_of m h.state h.stands (run_quiet h.run)
 
 -- a command more
 pub reached_more : {T E : Type 0} {D : DeskRelations} {m now : Machine} {a b : Option (List ℕ)} {k l : ℕ} {u : T} (c : Command) (o : Order) → IsReached m → Decided m c (Ok o)
-    → PerformedWithDesk {T = T} {E = E} D (λ s. Carries s o) m now a b k l (Ok u) → IsReached now
+    → PerformedWithDesk {T = T} {E = E} D (λ s. Carries s o) m now (between a b k l) (Ok u) → IsReached now
 reached_more c o r decided d =
     let good = run_good r.run in
     let x = d.shown r.state good r.stands in
@@ -61,7 +62,7 @@ reached_more c o r decided d =
     }
 
 pub goes : {T E : Type 0} {D : DeskRelations} {m now : Machine} {a b : Option (List ℕ)} {k l : ℕ} {u : T} (c : Command) (o : Order) (spent : Bool) → IsFalse spent → Decided m c (Ok o)
-    → PerformedWithDesk {T = T} {E = E} D (λ s. Carries s o) m now a b k l (Ok u) → (commands : List Command) (actions : List Action) (log : List Timed) (s : State) → Run commands actions log s
+    → PerformedWithDesk {T = T} {E = E} D (λ s. Carries s o) m now (between a b k l) (Ok u) → (commands : List Command) (actions : List Action) (log : List Timed) (s : State) → Run commands actions log s
     → StandsFor m s → ContinuesRun D commands actions log s c (record { machine = now; spent = spent }) a b
 goes c o spent un decided d commands actions log s r st =
     let good = run_good r in
@@ -91,7 +92,7 @@ goes c o spent un decided d commands actions log s r st =
     }
 
 pub stops : {T E : Type 0} {D : DeskRelations} {m now mid : Machine} {a b : Option (List ℕ)} {k l : ℕ} {e : E} (c : Command) (o : Order) (spent : Bool) → IsTrue spent → Decided m c (Ok o)
-    → PerformedWithDesk {T = T} {E = E} D (λ s. Carries s o) m mid a b k l (Err e) → (commands : List Command) (actions : List Action) (log : List Timed) (s : State) → Run commands actions log s
+    → PerformedWithDesk {T = T} {E = E} D (λ s. Carries s o) m mid (between a b k l) (Err e) → (commands : List Command) (actions : List Action) (log : List Timed) (s : State) → Run commands actions log s
     → StandsFor m s → CutsRunOff D commands actions log s c (record { machine = now; spent = spent }) a b
 stops c o spent is decided d commands actions log s r st =
     let good = run_good r in

@@ -37,6 +37,7 @@ use Rattle.fw_machine.specs.Candidates.{HasElection, candidate_in, CandidateTabl
 use Rattle.fw_machine.specs.Candidates.{count_of as candidates_of}
 use Rattle.fw_carry.specs.Contending.{Contender, BidStands}
 use Rattle.fw_carry.specs.Exchanging.{IsOutstanding}
+use Rattle.fw_machine.specs.Giving.{between}
 use Rattle.fw_machine.specs.Stands.{IsReady, manager_device}
 use Rattle.fw_carry.proofs.Bidding.{Nexts, answers_bid, bidder_lives, known, manager_number, one_stands, own_place, own_same, seat, to_same}
 use Rattle.fw_carry.proofs.Exchanges.{asks_request}

@@ -15,6 +15,7 @@ use Rattle.fw_run.specs.Good.{IsGood}
 use Rattle.fw_run.proofs.Idle.{half_stays}
 use Rattle.fw_machine.specs.declared.machine.Machine.{Machine}
 use Rattle.fw_carry.specs.Performing.{Task, Performed, RoundTo, OneRound}
+use Rattle.fw_machine.specs.Giving.{between}
 use Rattle.fw_machine.specs.Stands.{EndsAt, IsReady, is_living_in, living_in}
 use Rattle.fw_machine.specs.Tables.{states_of}
 use Rattle.fw_carry.proofs.Doings.{does_silent}
@@ -75,7 +76,7 @@ NoneDeafIn m = (d : ℕ) → IsFalse (states_of m.controllers d).lost
 -- what is done is half steps
 calm_kept : {T E : Type 0} {P : Task} {m now : Machine} {a b : Option (List ℕ)} {k l : ℕ} {u : T} (d : ℕ)
     → ((s t : State) (xs : List Action) (out : List Timed) → P s xs out t → (ds : List ℕ) × Steps s (half_steps_of ds) out t) → IsReady m → NoneDeafIn m
-    → Performed {T = T} {E = E} P m now a b k l (Ok u) → IsAtRest (states_of m.controllers d).state → IsAtRest (states_of now.controllers d).state
+    → Performed {T = T} {E = E} P m now (between a b k l) (Ok u) → IsAtRest (states_of m.controllers d).state → IsAtRest (states_of now.controllers d).state
 calm_kept {m = m} {now} d halves r none f rests =
     let s = r.state in
     let x = f.shown s r.good r.stands in
@@ -86,18 +87,18 @@ calm_kept {m = m} {now} d halves r none f rests =
     subst IsAtRest (sym (state_same now x.state d x.stands still)) after.0
 
 calm_to : {T E : Type 0} (i : ℕ) {m now : Machine} {a b : Option (List ℕ)} {k l : ℕ} {u : T} (d : ℕ) → IsReady m → NoneDeafIn m
-    → Performed {T = T} {E = E} (RoundTo i) m now a b k l (Ok u) → IsAtRest (states_of m.controllers d).state → IsAtRest (states_of now.controllers d).state
+    → Performed {T = T} {E = E} (RoundTo i) m now (between a b k l) (Ok u) → IsAtRest (states_of m.controllers d).state → IsAtRest (states_of now.controllers d).state
 calm_to i d r none f rests = calm_kept d (λ s t xs out p. (numbers_to i (is_living s), p.1)) r none f rests
 
 pub calm_after : {T E : Type 0} {m now : Machine} {a b : Option (List ℕ)} {k l : ℕ} {u : T} (d : ℕ) → IsReady m → NoneDeafIn m
-    → Performed {T = T} {E = E} OneRound m now a b k l (Ok u) → IsAtRest (states_of m.controllers d).state → IsAtRest (states_of now.controllers d).state
+    → Performed {T = T} {E = E} OneRound m now (between a b k l) (Ok u) → IsAtRest (states_of m.controllers d).state → IsAtRest (states_of now.controllers d).state
 calm_after d r none f rests = calm_kept d (λ s t xs out p. (living s, p.1)) r none f rests
 
 -- ---- the half steps of those at the end of a round
 
 -- what a machine has done of a round, where it has counted the half steps of the first n devices
 abbrev Counted : (T E : Type 0) → ℕ → Machine → Machine → Option (List ℕ) → Option (List ℕ) → ℕ → ℕ → T → Type 0
-Counted T E n m now a b c l u = Performed {T = T} {E = E} (RoundTo n) m (record now { half_steps = m.half_steps + length (numbers_to n (is_living_in m)) }) a b c l (Ok u)
+Counted T E n m now a b c l u = Performed {T = T} {E = E} (RoundTo n) m (record now { half_steps = m.half_steps + length (numbers_to n (is_living_in m)) }) (between a b c l) (Ok u)
 
 -- one device more: if it lives, it has nothing to do
 rests_more : {T E : Type 0} (j : ℕ) (m now : Machine) {a b : Option (List ℕ)} {c l : ℕ} {u : T}
@@ -108,9 +109,9 @@ rests_more {T} {E} j m now {a} {b} {c} {l} {u} lives rests few before = go (is_l
     size : ℕ → ℕ
     size n = length (numbers_to n (is_living_in m))
 
-    as_counted : (h : ℕ) → h ≡ m.half_steps + size (j + 1) → Performed {T = T} {E = E} (RoundTo (j + 1)) m (record now { half_steps = h }) a b c l (Ok u)
+    as_counted : (h : ℕ) → h ≡ m.half_steps + size (j + 1) → Performed {T = T} {E = E} (RoundTo (j + 1)) m (record now { half_steps = h }) (between a b c l) (Ok u)
         → Counted T E (j + 1) m now a b c l u
-    as_counted h is f = subst (λ k. Performed {T = T} {E = E} (RoundTo (j + 1)) m (record now { half_steps = k }) a b c l (Ok u)) is f
+    as_counted h is f = subst (λ k. Performed {T = T} {E = E} (RoundTo (j + 1)) m (record now { half_steps = k }) (between a b c l) (Ok u)) is f
 
     go : (x : Bool) → is_living_in m j ≡ x → Counted T E (j + 1) m now a b c l u
     go true on =
@@ -128,10 +129,10 @@ rests_to : {T E : Type 0} (k i : ℕ) (m now : Machine) {a b : Option (List ℕ)
     → ((d : ℕ) → i ≤ d → d < i + k → IsTrue (is_living_in m d) → IsAtRest (states_of now.controllers d).state)
     → now.half_steps ≡ m.half_steps + length (numbers_to i (is_living_in m))
     → m.half_steps + length (numbers_to (i + k) (is_living_in m)) ≤ MOST_HALF_STEPS
-    → Performed {T = T} {E = E} (RoundTo i) m now a b c l (Ok u) → Counted T E (i + k) m now a b c l u
+    → Performed {T = T} {E = E} (RoundTo i) m now (between a b c l) (Ok u) → Counted T E (i + k) m now a b c l u
 rests_to {T} {E} zero i m now {a} {b} {c} {l} {u} lives rests count few f =
     let none : i ≡ i + 0 = omega arith in
-    subst (λ n. Counted T E n m now a b c l u) none (subst (λ h. Performed {T = T} {E = E} (RoundTo i) m (record now { half_steps = h }) a b c l (Ok u)) count f)
+    subst (λ n. Counted T E n m now a b c l u) none (subst (λ h. Performed {T = T} {E = E} (RoundTo i) m (record now { half_steps = h }) (between a b c l) (Ok u)) count f)
 rests_to {T} {E} (suc k) i m now {a} {b} {c} {l} {u} lives rests count few f =
     let one : i + suc k ≡ i + k + 1 = omega arith in
     let most : m.half_steps + length (numbers_to (i + k + 1) (is_living_in m)) ≤ MOST_HALF_STEPS = subst (λ n. m.half_steps + length (numbers_to n (is_living_in m)) ≤ MOST_HALF_STEPS) one few in
@@ -145,8 +146,8 @@ pub round_rests : {T E : Type 0} (end after : ℕ) {m now : Machine} {a b : Opti
     → ((d : ℕ) → is_living_in now d ≡ is_living_in m d)
     → EndsAt m end
     → now.half_steps ≡ m.half_steps + length (numbers_to end (is_living_in m))
-    → Performed {T = T} {E = E} (RoundTo end) m now a b c l (Ok u)
-    → Performed {T = T} {E = E} OneRound m (record now { half_steps = after }) a b c l (Ok u)
+    → Performed {T = T} {E = E} (RoundTo end) m now (between a b c l) (Ok u)
+    → Performed {T = T} {E = E} OneRound m (record now { half_steps = after }) (between a b c l) (Ok u)
 round_rests {T} {E} end after {m} {now} {a} {b} {c} {l} {u} ready within is few alive ends count f =
     let size : ℕ → ℕ = λ n. length (numbers_to n (is_living_in m)) in
     let k = length m.devices.names - end in
@@ -159,4 +160,4 @@ round_rests {T} {E} end after {m} {now} {a} {b} {c} {l} {u} ready within is few 
     ] in
     let done = rests_to k end m now alive rests count (omega (arith, few, is, whole)) f in
     let counts : m.half_steps + size (end + k) ≡ after = omega (arith, is, whole) in
-    round_all (end + k) all (subst (λ h. Performed {T = T} {E = E} (RoundTo (end + k)) m (record now { half_steps = h }) a b c l (Ok u)) counts done)
+    round_all (end + k) all (subst (λ h. Performed {T = T} {E = E} (RoundTo (end + k)) m (record now { half_steps = h }) (between a b c l) (Ok u)) counts done)

@@ -14,12 +14,13 @@ use Rattle.fw_run.specs.Given.{AsksNoDesk}
 use Rattle.fw_run.proofs.Given.{carries_given, given_append}
 use Rattle.fw_carry.specs.Framing.{CarriesWithDesk, PerformedWithDesk}
 use Rattle.fw_machine.specs.declared.machine.Machine.{Machine}
+use Rattle.fw_machine.specs.Giving.{between}
 use Rattle.fw_carry.specs.Performing.{Performs, Performed, TakesAction}
 use Rattle.fw_carry.proofs.Doings.{does_as}
 
 -- where all that was to be done is what the desk gives, so is what was done
 pub given_front : {T E : Type 0} {D : DeskRelations} {m now : Machine} {a b : Option (List ℕ)} {k l : ℕ} {r : Result T E} (o : Order)
-    → Performed (CarriesWithDesk D o) m now a b k l r → PerformedWithDesk D (λ s. Carries s o) m now a b k l r
+    → Performed (CarriesWithDesk D o) m now (between a b k l) r → PerformedWithDesk D (λ s. Carries s o) m now (between a b k l) r
 given_front {r = Ok u} o d = record { faults = d.faults; shown = λ s g st. d.shown s g st }
 given_front {D = D} {r = Err u} o d = record {
   faults = d.faults;
@@ -46,14 +47,14 @@ given_front {D = D} {r = Err u} o d = record {
 
 -- an order in whose course no desk is asked, once it is known which one it is
 pub by_desk : {T E : Type 0} {D : DeskRelations} {m now : Machine} {a b : Option (List ℕ)} {k l : ℕ} {r : Result T E} {order o : Order}
-    → order ≡ o → AsksNoDesk o → Performed (λ s. Carries s o) m now a b k l r → PerformedWithDesk D (λ s. Carries s order) m now a b k l r
+    → order ≡ o → AsksNoDesk o → Performed (λ s. Carries s o) m now (between a b k l) r → PerformedWithDesk D (λ s. Carries s order) m now (between a b k l) r
 by_desk {D = D} {m} {now} {a} {b} {k} {l} {r} {o = o} is free d =
-    subst (λ x. PerformedWithDesk D (λ s. Carries s x) m now a b k l r) (sym is) (given_front o (does_as (λ s t ys out p. (p, carries_given D s o ys out t free p)) d))
+    subst (λ x. PerformedWithDesk D (λ s. Carries s x) m now (between a b k l) r) (sym is) (given_front o (does_as (λ s t ys out p. (p, carries_given D s o ys out t free p)) d))
 
 -- one that is carried out by these actions
 pub carried : {T E : Type 0} {D : DeskRelations} {m now : Machine} {a b : Option (List ℕ)} {k l : ℕ} {r : Result T E} {order o : Order} (xs : List Action)
-    → order ≡ o → AsksNoDesk o → ((s t : State) (out : List Timed) → Steps s xs out t → Carries s o xs out t) → Performed (Performs xs) m now a b k l r
-    → PerformedWithDesk D (λ s. Carries s order) m now a b k l r
+    → order ≡ o → AsksNoDesk o → ((s t : State) (out : List Timed) → Steps s xs out t → Carries s o xs out t) → Performed (Performs xs) m now (between a b k l) r
+    → PerformedWithDesk D (λ s. Carries s order) m now (between a b k l) r
 carried {o = o} xs is free by d = by_desk is free (does_as (λ s t ys out p. subst (λ z. Carries s o z out t) (sym p.0) (by s t out p.1)) d)
 
 -- the end of the log

@@ -35,6 +35,7 @@ use Rattle.fw_run.proofs.Units.{request_kept}
 use Rattle.fw_machine.specs.declared.machine.Machine.{Machine}
 use Rattle.fw_carry.specs.Performing.{Performed}
 use Rattle.fw_carry.specs.Framing.{CarriesWithDesk, Commands, IsWrite}
+use Rattle.fw_machine.specs.Giving.{between}
 use Rattle.fw_machine.specs.Stands.{HasDecks, StandsFor, is_linked_in, is_living_in}
 use Rattle.fw_machine.proofs.DeckNodes.{decks_set}
 use Rattle.fw_carry.proofs.Doings.{Follows, GoesOn, does_as, does_cut}
@@ -155,7 +156,7 @@ command_talks D m devices a b bytes packet response n from to x is = record { sh
         )
 
 pub does_commands : {T E : Type 0} (D : DeskRelations) (a b : ℕ) (bytes : List ℕ) {m now : Machine} {c d : Option (List ℕ)} {k l : ℕ} {r : Result T E}
-    → Performed (Exchanged (IsCommanded D a b bytes)) m now c d k l r → Performed (Commands D a b bytes) m now c d k l r
+    → Performed (Exchanged (IsCommanded D a b bytes)) m now (between c d k l) r → Performed (Commands D a b bytes) m now (between c d k l) r
 does_commands D a b bytes d = does_as (λ s t ys out p.
     let same : p.0 ∷ p.1 ∷ [] ≡ SendCommand a b bytes ∷ Receive p.2.1.0 ∷ [] = (λ i. p.2.0 i ∷ p.2.1.1 i ∷ []) in
     (p.2.1.0, p.2.1.2, (p.3 ∙ same, subst (λ z. Steps s z out t) same p.4))) d
@@ -179,5 +180,5 @@ command_goes m D a b bytes s u xs c g st p f =
 
 -- one of its first entries was cut off
 pub command_cut : {U F V G : Type 0} (D : DeskRelations) (a b : ℕ) (bytes : List ℕ) {m now last : Machine} {c d : Option (List ℕ)} {k l : ℕ} (q : Result U F) (r : Result V G) → IsErr q → IsErr r
-    → Performed (Commands D a b bytes) m now c d k l q → Performed (CarriesWithDesk D (Orders.Command a b bytes)) m last c d k l r
+    → Performed (Commands D a b bytes) m now (between c d k l) q → Performed (CarriesWithDesk D (Orders.Command a b bytes)) m last (between c d k l) r
 command_cut D a b bytes {m} q r was is f = does_cut q r (command_goes m D a b bytes) was is f

@@ -37,6 +37,7 @@ use Rattle.fw_run.specs.Streams.{GivenBlock, GivesBlock, bytes_of, tape_at, sent
 use Rattle.fw_run.proofs.Times.{second_ends}
 use Rattle.fw_machine.specs.declared.machine.Machine.{Machine}
 use Rattle.fw_carry.specs.Cycling.{Comes, PerformedWhere, HadSent, SendsHeard}
+use Rattle.fw_machine.specs.Giving.{between}
 use Rattle.fw_machine.specs.Recording.{hearing_of}
 use Rattle.fw_machine.specs.declared.recording.Recording.{Recording}
 use Rattle.fw_carry.specs.Performing.{Performs, Performed, TakesAction}
@@ -63,13 +64,13 @@ next_same m s st =
     sym (λ i. cond (runs i && (cycle i + 1 == over_at i)) EndSecond (Pass 1))
 
 comes_by : {T E : Type 0} {m now : Machine} {a b : Option (List ℕ)} {k l : ℕ} {r : Result T E} (x : Action)
-    → cond (m.reclaiming && (m.cycle + 1 == m.directory.over_at)) EndSecond (Pass 1) ≡ x → Performed (Performs (x ∷ [])) m now a b k l r → Performed Comes m now a b k l r
+    → cond (m.reclaiming && (m.cycle + 1 == m.directory.over_at)) EndSecond (Pass 1) ≡ x → Performed (Performs (x ∷ [])) m now (between a b k l) r → Performed Comes m now (between a b k l) r
 comes_by {m = m} x is d = does_when (λ s t xs out g st p f.
     subst (λ y. Performs (y ∷ []) s xs out t) (sym (next_same m s st ∙ is)) p) d
 
 -- the second is over at it
 pub comes_over : {T E : Type 0} {m now : Machine} {a b : Option (List ℕ)} {k l : ℕ} {r : Result T E} → m.reclaiming ≡ true → m.cycle + 1 ≡ m.directory.over_at
-    → Performed (Performs (EndSecond ∷ [])) m now a b k l r → Performed Comes m now a b k l r
+    → Performed (Performs (EndSecond ∷ [])) m now (between a b k l) r → Performed Comes m now (between a b k l) r
 comes_over {m = m} runs at d = comes_by EndSecond (over m.reclaiming (m.cycle + 1) m.directory.over_at runs at) d
   where
     over : (b : Bool) (x y : ℕ) → b ≡ true → x ≡ y → cond (b && (x == y)) EndSecond (Pass 1) ≡ EndSecond
@@ -77,7 +78,7 @@ comes_over {m = m} runs at d = comes_by EndSecond (over m.reclaiming (m.cycle + 
 
 -- it is not over yet, or none runs
 pub comes_alone : {T E : Type 0} (m now : Machine) (held : Option (List ℕ)) (k : ℕ) (u : T) → IsReady m → m.cycle + 1 ≤ 2 ^ 52
-    → (m.reclaiming ≡ true → m.cycle + 1 ≡ m.directory.over_at → ⊥) → now ≡ passed_by m 1 → Performed {T = T} {E = E} Comes m now held held k k (Ok u)
+    → (m.reclaiming ≡ true → m.cycle + 1 ≡ m.directory.over_at → ⊥) → now ≡ passed_by m 1 → Performed {T = T} {E = E} Comes m now (between held held k k) (Ok u)
 comes_alone m now held k u ready few apart is =
     comes_by (Pass 1) (passes m.reclaiming (m.cycle + 1) m.directory.over_at apart)
     (does_silent held k m.cycle u (pass_turns m now 1 few (λ runs. let before = ready_second ready runs in strictly runs before) is))
@@ -271,7 +272,7 @@ packet_sends D m d channel own before block packet x s g st had = (
 pub packet_done : {T E : Type 0} {D : DeskRelations} {m : Machine} {d channel own : ℕ} {before : List ℕ} (old new : Option Recording) (block : Option (List ℕ)) {packet : IsoPacket}
     {a b : Option (List ℕ)} {k l : ℕ} {r : Result T E}
     → Packing D m d channel own before block packet → new ≡ hearing_of channel block old → Written a b r m.cycle m.devices.epoch (Some (IsoEntry packet)) → CountsFaults k l r
-    → PerformedWhere (HadSent before) D (SendsHeard d channel old new) m m a b k l r
+    → PerformedWhere (HadSent before) D (SendsHeard d channel old new) m m (between a b k l) r
 packet_done {D = D} {m} {d} {channel} {own} {before} old new block {packet} {a} {b} {k} {l} {r} x heard gives faults =
     where_sent m d channel m.cycle old new a b k l (IsoEntry packet) r (λ s g st had.
     let y = packet_sends D m d channel own before block packet x s g st had in (y.0, y.1, y.2, heard ∙ ap (λ (o : Option (List ℕ)). hearing_of channel o old) (sym y.3))) gives faults

@@ -21,6 +21,7 @@ use Rattle.fw_machine.specs.declared.machine.Machine.{Machine}
 use Rattle.fw_carry.specs.Cycling.{WritesCycle, WritesCycles}
 use Rattle.fw_carry.specs.Filling.{FillsBy, Gathers, Passes}
 use Rattle.fw_carry.specs.Framing.{PerformedWithDesk}
+use Rattle.fw_machine.specs.Giving.{between}
 use Rattle.fw_machine.specs.Stands.{IsReady, StandsFor}
 use Rattle.fw_carry.proofs.Desks.{by_where, where_by, where_cut, where_nothing, where_then, where_when}
 use Rattle.fw_machine.specs.Faults.{CountsFaults}
@@ -56,12 +57,12 @@ unfolding HasCycles
 one_cycle s t xs out f = (t, xs, [], out, [], f, (refl, refl, refl), sym (append-nil xs), sym (append-nil out))
 
 pub cycles_none : {T E : Type 0} {D : DeskRelations} (m : Machine) (held : Option (List ℕ)) (k : ℕ) (u : T)
-    → PerformedWithDesk {T = T} {E = E} D (WritesCycles 0) m m held held k k (Ok u)
+    → PerformedWithDesk {T = T} {E = E} D (WritesCycles 0) m m (between held held k k) (Ok u)
 unfolding HasCycles
 cycles_none m held k u = by_where {A = λ s. Unit {0}} (λ s good st. tt) (where_nothing m held k u (λ s g st. (refl, refl, refl)))
 
 pub cycles_then : {T E U F : Type 0} {D : DeskRelations} (i : ℕ) {m mid now : Machine} {a b c : Option (List ℕ)} {k l n : ℕ} {u : T} {r : Result U F}
-    → PerformedWithDesk {T = T} {E = E} D (WritesCycles i) m mid a b k l (Ok u) → PerformedWithDesk D WritesCycle mid now b c l n r → PerformedWithDesk D (WritesCycles (i + 1)) m now a c k n r
+    → PerformedWithDesk {T = T} {E = E} D (WritesCycles i) m mid (between a b k l) (Ok u) → PerformedWithDesk D WritesCycle mid now (between b c l n) r → PerformedWithDesk D (WritesCycles (i + 1)) m now (between a c k n) r
 cycles_then i {r = r} f g =
     by_where {A = λ s. Unit {0}} (λ s good st. tt)
     (where_then {B = λ s. Unit {0}} r (λ s mid t xs ys a b good st p steps q more. cycles_append i 1 s mid t xs ys a b p (one_cycle mid t ys b q))
@@ -79,7 +80,7 @@ gathers_then i f g = record { before = f.before; fills = cycles_then i f.fills (
 -- ---- all of them
 
 pub cycles_all : {T E : Type 0} {D : DeskRelations} (i n : ℕ) {m now : Machine} {a b : Option (List ℕ)} {k l : ℕ} {u : T} → i ≡ n
-    → PerformedWithDesk {T = T} {E = E} D (WritesCycles i) m now a b k l (Ok u) → PerformedWithDesk {T = T} {E = E} D (λ s. Carries s (Cycles n)) m now a b k l (Ok u)
+    → PerformedWithDesk {T = T} {E = E} D (WritesCycles i) m now (between a b k l) (Ok u) → PerformedWithDesk {T = T} {E = E} D (λ s. Carries s (Cycles n)) m now (between a b k l) (Ok u)
 cycles_all i n e d =
     by_where {A = λ s. Unit {0}} (λ s good st. tt)
     (where_when (λ s t xs out g st p f. subst (λ j. Carries s (Cycles j) xs out t) e (writes_cycles p)) (where_by d))
@@ -165,7 +166,7 @@ machine_may m n s g st may = (
 -- another cycle may be written
 pub cycles_may : {T E : Type 0} {D : DeskRelations} (i n : ℕ) {m now : Machine} {a b : Option (List ℕ)} {k l : ℕ} {u : T} → IsReady m → i < n
     → m.cycle + n ≤ 2 ^ 52
-    → (0 < length m.devices.nodes → m.written + n ≤ MOST_WRITTEN_CYCLES) → PerformedWithDesk {T = T} {E = E} D (WritesCycles i) m now a b k l (Ok u)
+    → (0 < length m.devices.nodes → m.written + n ≤ MOST_WRITTEN_CYCLES) → PerformedWithDesk {T = T} {E = E} D (WritesCycles i) m now (between a b k l) (Ok u)
     → (now.cycle + 1 ≤ 2 ^ 52) × (0 < length now.devices.nodes → now.written < MOST_WRITTEN_CYCLES)
 cycles_may i n {m} {now} ready lt cycle few d =
     let s = ready.state in
@@ -197,13 +198,13 @@ cycles_go_on m i n le cycle few s u xs a g st p f =
 pub cycles_cut : {U F V G : Type 0} {D : DeskRelations} (i n : ℕ)
     {m now last : Machine} {a b : Option (List ℕ)} {k l : ℕ} (q : Result U F) (r : Result V G)
     → i ≤ n → m.cycle + n ≤ 2 ^ 52 → (0 < length m.devices.nodes → m.written + n ≤ MOST_WRITTEN_CYCLES) → IsErr q → IsErr r
-    → PerformedWithDesk D (WritesCycles i) m now a b k l q → PerformedWithDesk D (λ s. Carries s (Cycles n)) m last a b k l r
+    → PerformedWithDesk D (WritesCycles i) m now (between a b k l) q → PerformedWithDesk D (λ s. Carries s (Cycles n)) m last (between a b k l) r
 cycles_cut i n {m} q r le cycle few was is f = by_where {A = λ s. Unit {0}} (λ s good st. tt) (where_cut q r (cycles_go_on m i n le cycle few) was is (where_by f))
 
 -- what is left in the room is written, or cut off
 pub cycles_out : {T E : Type 0} {D : DeskRelations} (i n : ℕ) (r : Result T E) {m now : Machine} {held after behind : Option (List ℕ)} {room : List ℕ} (rest : List ℕ) {j k l : ℕ} → i ≡ n
     → m.cycle + n ≤ 2 ^ 52 → (0 < length m.devices.nodes → m.written + n ≤ MOST_WRITTEN_CYCLES) → Gathers D (WritesCycles i) m now held after room
-    → Passes after behind r room rest → rest ≡ [] → j ≡ k → CountsFaults j l r → PerformedWithDesk D (λ s. Carries s (Cycles n)) m now held behind k l r
+    → Passes after behind r room rest → rest ≡ [] → j ≡ k → CountsFaults j l r → PerformedWithDesk D (λ s. Carries s (Cycles n)) m now (between held behind k l) r
 cycles_out i n (Ok u) rest {j} {k} {l} all cycle few f passes empty same faults = cycles_all i n all (gathers_all u (gathers_out f passes) empty (faults_then k j l (Ok u) same faults))
 cycles_out i n (Err w) rest {j} {k} {l} all cycle few f passes empty same faults =
     cycles_cut i n (Err w) (Err w) (omega (arith, all)) cycle few refl refl (gathers_cut w f passes (faults_then k j l (Err w) same faults))

@@ -20,6 +20,7 @@ use Rattle.fw_run.proofs.Runs.{steps_then}
 use Rattle.fw_run.proofs.Steps.{steps_good}
 use Rattle.fw_machine.specs.declared.machine.Machine.{Machine}
 use Rattle.fw_carry.specs.Cycling.{PerformedWhere, SendsHeard}
+use Rattle.fw_machine.specs.Giving.{between}
 use Rattle.fw_machine.specs.Recording.{hearing_of}
 use Rattle.fw_machine.specs.declared.recording.Recording.{Recording}
 use Rattle.fw_carry.specs.Performing.{Task, Performed}
@@ -32,19 +33,19 @@ use Rattle.fw_carry.proofs.Doings.{one_grew, grew_then, front_then_front, parts_
 
 -- it holds of all states that the machine stands for
 pub by_where : {T E : Type 0} {A : State → Type 0} {D : DeskRelations} {P : Task} {m now : Machine} {a b : Option (List ℕ)} {k l : ℕ} {r : Result T E}
-    → ((s : State) → IsGood s → StandsFor m s → A s) → PerformedWhere A D P m now a b k l r → PerformedWithDesk D P m now a b k l r
+    → ((s : State) → IsGood s → StandsFor m s → A s) → PerformedWhere A D P m now (between a b k l) r → PerformedWithDesk D P m now (between a b k l) r
 by_where holds d = record { faults = d.faults; shown = λ s g st. d.shown s g st (holds s g st) }
 
 -- nothing is asked of them
 pub where_by : {T E : Type 0} {A : State → Type 0} {D : DeskRelations} {P : Task} {m now : Machine} {a b : Option (List ℕ)} {k l : ℕ} {r : Result T E}
-    → PerformedWithDesk D P m now a b k l r → PerformedWhere A D P m now a b k l r
+    → PerformedWithDesk D P m now (between a b k l) r → PerformedWhere A D P m now (between a b k l) r
 where_by d = record { faults = d.faults; shown = λ s g st known. d.shown s g st }
 
 -- ---- what is done
 
 -- where all that was to be done is what the desk gives, so is what was done
 pub given_front : {T E : Type 0} {D : DeskRelations} {P : Task} {m now : Machine} {a b : Option (List ℕ)} {k l : ℕ} {r : Result T E}
-    → Performed (λ s xs out t. P s xs out t × AreGiven D xs) m now a b k l r → PerformedWithDesk D P m now a b k l r
+    → Performed (λ s xs out t. P s xs out t × AreGiven D xs) m now (between a b k l) r → PerformedWithDesk D P m now (between a b k l) r
 given_front {r = Ok u} d = record { faults = d.faults; shown = λ s g st. d.shown s g st }
 given_front {D = D} {r = Err u} d = record {
   faults = d.faults;
@@ -71,13 +72,13 @@ given_front {D = D} {r = Err u} d = record {
 
 -- a desk has nothing to give in it, or what it gives is known
 pub does_given : {T E : Type 0} {D : DeskRelations} {P : Task} {m now : Machine} {a b : Option (List ℕ)} {k l : ℕ} {r : Result T E}
-    → ((s t : State) (xs : List Action) (out : List Timed) → P s xs out t → AreGiven D xs) → Performed P m now a b k l r → PerformedWithDesk D P m now a b k l r
+    → ((s t : State) (xs : List Action) (out : List Timed) → P s xs out t → AreGiven D xs) → Performed P m now (between a b k l) r → PerformedWithDesk D P m now (between a b k l) r
 does_given {D = D} {P} given d = given_front (does_as {Q = λ s xs out t. P s xs out t × AreGiven D xs} (λ s t xs out p. (p, given s t xs out p)) d)
 
 -- what is done of the one is done of the other, in the states that the machine stood for
 pub where_when : {T E : Type 0} {A : State → Type 0} {D : DeskRelations} {P Q : Task} {m now : Machine} {a b : Option (List ℕ)} {k l : ℕ} {r : Result T E}
     → ((s t : State) (xs : List Action) (out : List Timed) → IsGood s → StandsFor m s → P s xs out t → Steps s xs out t → Q s xs out t)
-    → PerformedWhere A D P m now a b k l r → PerformedWhere A D Q m now a b k l r
+    → PerformedWhere A D P m now (between a b k l) r → PerformedWhere A D Q m now (between a b k l) r
 where_when {r = Ok u} to d = record {
   faults = d.faults;
   shown = λ s g st known. let x = d.shown s g st known in record {
@@ -117,7 +118,7 @@ where_when {r = Err u} to d = record {
 
 -- nothing was done
 pub where_nothing : {T E : Type 0} {A : State → Type 0} {D : DeskRelations} {P : Task} (m : Machine) (held : Option (List ℕ)) (k : ℕ) (u : T)
-    → ((s : State) → IsGood s → StandsFor m s → P s [] [] s) → PerformedWhere {T = T} {E = E} A D P m m held held k k (Ok u)
+    → ((s : State) → IsGood s → StandsFor m s → P s [] [] s) → PerformedWhere {T = T} {E = E} A D P m m (between held held k k) (Ok u)
 where_nothing m held k u nothing = record {
   faults = no_faults k u;
   shown = λ s g st known. record {
@@ -136,7 +137,7 @@ pub where_sent : {T E : Type 0} {A : State → Type 0} {D : DeskRelations}
     (m : Machine) (d channel cycle : ℕ) (old new : Option Recording) (held after : Option (List ℕ)) (k l : ℕ) (e : Entry) (r : Result T E)
     → ((s : State) → IsGood s → StandsFor m s → A s → (block : Option GivenBlock) × IsGiven D (SendPacket (at_plug d 0) block)
     × Step s (SendPacket (at_plug d 0) block) (at_most cycle (Some e)) s × (new ≡ hearing_of channel (bytes_of block) old))
-    → GivesEntry held after r cycle m.devices.epoch (Some e) → CountsFaults k l r → PerformedWhere A D (SendsHeard d channel old new) m m held after k l r
+    → GivesEntry held after r cycle m.devices.epoch (Some e) → CountsFaults k l r → PerformedWhere A D (SendsHeard d channel old new) m m (between held after k l) r
 where_sent m d channel cycle old new held after k l e (Ok u) turn gives faults = record {
   faults = faults;
   shown = λ s g st known.
@@ -184,8 +185,8 @@ LeadsTo m A P B = (s t : State) (xs : List Action) (out : List Timed) → IsGood
 
 pub where_then : {T E U F : Type 0} {A B : State → Type 0} {D : DeskRelations} {P Q R : Task}
     {m mid now : Machine} {a b c : Option (List ℕ)} {k l n : ℕ} {u : T} (r : Result U F)
-    → Follows m P Q R → LeadsTo m A P B → PerformedWhere {T = T} {E = E} A D P m mid a b k l (Ok u) → PerformedWhere B D Q mid now b c l n r
-    → PerformedWhere A D R m now a c k n r
+    → Follows m P Q R → LeadsTo m A P B → PerformedWhere {T = T} {E = E} A D P m mid (between a b k l) (Ok u) → PerformedWhere B D Q mid now (between b c l n) r
+    → PerformedWhere A D R m now (between a c k n) r
 where_then {D = D} {a = a} {b} {c} {k} {l} {n} (Ok w) follows leads f g = record {
   faults = faults_then k l n (Ok w) f.faults.same g.faults;
   shown = λ s good st known.
@@ -239,7 +240,7 @@ where_then {D = D} {R = R} {a = a} {b} {c} {k} {l} {n} (Err w) follows leads f g
 -- what was done could have been gone on with, whatever a desk gives
 pub where_cut : {U F V G : Type 0} {A : State → Type 0} {D : DeskRelations} {P R : Task}
     {m now last : Machine} {a b : Option (List ℕ)} {k l : ℕ} (q : Result U F) (r : Result V G)
-    → GoesOn m P R → IsErr q → IsErr r → PerformedWhere A D P m now a b k l q → PerformedWhere A D R m last a b k l r
+    → GoesOn m P R → IsErr q → IsErr r → PerformedWhere A D P m now (between a b k l) q → PerformedWhere A D R m last (between a b k l) r
 where_cut (Ok u) r on is was f = let no : ⊥ = grind (arith, is) in absurd no
 where_cut (Err u) (Ok v) on is was f = let no : ⊥ = grind (arith, was) in absurd no
 where_cut {R = R} (Err u) (Err v) on is was f = record {
@@ -273,6 +274,6 @@ where_cut {R = R} (Err u) (Err v) on is was f = record {
 
 -- what is known of a call, without the desk
 pub by_does : {T E : Type 0} {D : DeskRelations} {P : Task} {m now : Machine} {a b : Option (List ℕ)} {k l : ℕ} {u : T}
-    → PerformedWithDesk {T = T} {E = E} D P m now a b k l (Ok u) → Performed {T = T} {E = E} P m now a b k l (Ok u)
+    → PerformedWithDesk {T = T} {E = E} D P m now (between a b k l) (Ok u) → Performed {T = T} {E = E} P m now (between a b k l) (Ok u)
 by_does {D = D} {P} d =
     does_as {P = λ s xs out t. P s xs out t × AreGiven D xs} {Q = P} (λ s t xs out p. p.0) (record { faults = d.faults; shown = λ s g st. d.shown s g st })

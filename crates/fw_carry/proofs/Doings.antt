@@ -20,6 +20,7 @@ use Rattle.fw_run.proofs.Steps.{step_good, steps_good}
 use Rattle.fw_run.proofs.Kept.{step_numbers}
 use Rattle.fw_machine.specs.declared.machine.Machine.{Machine}
 use Rattle.fw_machine.specs.Faults.{CountsFaults}
+use Rattle.fw_machine.specs.Giving.{Gives, between}
 use Rattle.fw_machine.specs.Stands.{IsReady, StandsFor}
 use Rattle.fw_carry.specs.Performing.{Task, Performs, TakesAction, Performed}
 
@@ -41,7 +42,7 @@ one_step s t a out f = (out, [], t, f, sym (append-nil out), (refl, refl))
 
 -- what is done of the one is done of the other, in the states that the machine stood for
 pub does_when : {T E : Type 0} {P Q : Task} {m now : Machine} {a b : Option (List ℕ)} {k l : ℕ} {r : Result T E}
-    → ((s t : State) (xs : List Action) (out : List Timed) → IsGood s → StandsFor m s → P s xs out t → Steps s xs out t → Q s xs out t) → Performed P m now a b k l r → Performed Q m now a b k l r
+    → ((s t : State) (xs : List Action) (out : List Timed) → IsGood s → StandsFor m s → P s xs out t → Steps s xs out t → Q s xs out t) → Performed P m now (between a b k l) r → Performed Q m now (between a b k l) r
 does_when {r = Ok u} to d = record {
   faults = d.faults;
   shown = λ s g st. let x = d.shown s g st in record {
@@ -75,12 +76,12 @@ does_when {r = Err u} to d = record {
 }
 
 pub does_as : {T E : Type 0} {P Q : Task} {m now : Machine} {a b : Option (List ℕ)} {k l : ℕ} {r : Result T E}
-    → ((s t : State) (xs : List Action) (out : List Timed) → P s xs out t → Q s xs out t) → Performed P m now a b k l r → Performed Q m now a b k l r
+    → ((s t : State) (xs : List Action) (out : List Timed) → P s xs out t → Q s xs out t) → Performed P m now (between a b k l) r → Performed Q m now (between a b k l) r
 does_as to d = does_when (λ s t xs out g st x f. to s t xs out x) d
 
 -- nothing was done
 pub does_nothing : {T E : Type 0} {P : Task} (m : Machine) (held : Option (List ℕ)) (k : ℕ) (u : T)
-    → ((s : State) → IsGood s → StandsFor m s → P s [] [] s) → Performed {T = T} {E = E} P m m held held k k (Ok u)
+    → ((s : State) → IsGood s → StandsFor m s → P s [] [] s) → Performed {T = T} {E = E} P m m (between held held k k) (Ok u)
 does_nothing m held k u nothing = record {
   faults = no_faults k u;
   shown = λ s g st. record {
@@ -94,7 +95,7 @@ does_nothing m held k u nothing = record {
   };
 }
 
-pub does_none : {T E : Type 0} (m : Machine) (held : Option (List ℕ)) (k : ℕ) (u : T) → Performed {T = T} {E = E} (Performs []) m m held held k k (Ok u)
+pub does_none : {T E : Type 0} (m : Machine) (held : Option (List ℕ)) (k : ℕ) (u : T) → Performed {T = T} {E = E} (Performs []) m m (between held held k k) (Ok u)
 does_none m held k u = does_nothing m held k u (λ s g st. (refl, (refl, refl)))
 
 -- ---- epochs
@@ -136,7 +137,7 @@ parts_then s mid xs out given next whole g f is =
 
 -- an action whose entry was written, or cut off
 pub does_one : {T E : Type 0} {a : Action} {m now : Machine} {held after : Option (List ℕ)} {k l : ℕ} (cycle : ℕ) (e : Option Entry) (r : Result T E)
-    → TakesAction a m now cycle e → GivesEntry held after r cycle now.devices.epoch e → CountsFaults k l r → Performed (Performs (a ∷ [])) m now held after k l r
+    → TakesAction a m now cycle e → GivesEntry held after r cycle now.devices.epoch e → CountsFaults k l r → Performed (Performs (a ∷ [])) m now (between held after k l) r
 does_one {a = a} cycle None (Ok u) turn gives faults = record {
   faults = faults;
   shown = λ s g st. let x = turn.shown s g st in let f = one_step s x.0 a [] x.1 in record {
@@ -182,9 +183,14 @@ does_one {a = a} {now = now} cycle (Some e) (Err u) turn gives faults = record {
   };
 }
 
+-- an action whose entry was given to a sink
+pub does_given : {T E : Type 0} {a : Action} {m now : Machine} {e : Entry} {held after : Option (List ℕ)} {k l : ℕ} {r : Result T E}
+    → TakesAction a m now now.cycle (Some e) → Gives now e (between held after k l) r → Performed (Performs (a ∷ [])) m now (between held after k l) r
+does_given {now = now} {e = e} {r = r} turn gives = does_one now.cycle (Some e) r turn gives.bytes gives.faults
+
 -- an action that writes nothing
 pub does_silent : {T E : Type 0} {a : Action} {m now : Machine} (held : Option (List ℕ)) (k cycle : ℕ) (u : T) → TakesAction a m now cycle None
-    → Performed {T = T} {E = E} (Performs (a ∷ [])) m now held held k k (Ok u)
+    → Performed {T = T} {E = E} (Performs (a ∷ [])) m now (between held held k k) (Ok u)
 does_silent held k cycle u turn = does_one cycle None (Ok u) turn (Grows-nothing held) (no_faults k u)
 
 -- ---- one after another
@@ -195,7 +201,7 @@ Follows m P Q R =
     (s mid t : State) (xs ys : List Action) (a b : List Timed) → IsGood s → StandsFor m s → P s xs a mid → Steps s xs a mid → Q mid ys b t → Steps mid ys b t → R s (xs ++ ys) (a ++ b) t
 
 pub does_then : {T E U F : Type 0} {P Q R : Task} {m mid now : Machine} {a b c : Option (List ℕ)} {k l n : ℕ} {u : T} (r : Result U F)
-    → Follows m P Q R → Performed {T = T} {E = E} P m mid a b k l (Ok u) → Performed Q mid now b c l n r → Performed R m now a c k n r
+    → Follows m P Q R → Performed {T = T} {E = E} P m mid (between a b k l) (Ok u) → Performed Q mid now (between b c l n) r → Performed R m now (between a c k n) r
 does_then {a = a} {b} {c} {k} {l} {n} (Ok w) follows f g = record {
   faults = faults_then k l n (Ok w) f.faults.same g.faults;
   shown = λ s good st.
@@ -249,7 +255,7 @@ GoesOn m P R =
     → (ys : List Action) × (b : List Timed) × (t : State) × R s (xs ++ ys) (a ++ b) t × Steps u ys b t
 
 pub does_cut : {U F V G : Type 0} {P R : Task} {m now last : Machine} {a b : Option (List ℕ)} {k l : ℕ} (q : Result U F) (r : Result V G)
-    → GoesOn m P R → IsErr q → IsErr r → Performed P m now a b k l q → Performed R m last a b k l r
+    → GoesOn m P R → IsErr q → IsErr r → Performed P m now (between a b k l) q → Performed R m last (between a b k l) r
 does_cut (Ok u) r on is was f = let no : ⊥ = grind (arith, is) in absurd no
 does_cut (Err u) (Ok v) on is was f = let no : ⊥ = grind (arith, was) in absurd no
 does_cut {R = R} (Err u) (Err v) on is was f = record {
@@ -283,7 +289,7 @@ steps_numbers s t [] out g b f = subst HasNumbers (sym f.1) b
 steps_numbers s t (x ∷ xs) out g b f = steps_numbers f.2 t xs f.1 (steps_good s f.2 (x ∷ []) f.0 g (one_step s f.2 x f.0 f.3)) (step_numbers s x f.0 f.2 g b f.3) f.5
 
 pub ready_after : {T E : Type 0} {P : Task} {m now : Machine} {a b : Option (List ℕ)} {k l : ℕ} {u : T}
-    → IsReady m → Performed {T = T} {E = E} P m now a b k l (Ok u) → IsReady now
+    → IsReady m → Performed {T = T} {E = E} P m now (between a b k l) (Ok u) → IsReady now
 ready_after r f = let x = f.shown r.state r.good r.stands in record {
   state = x.state;
   good = steps_good r.state x.state x.actions x.out r.good x.steps;

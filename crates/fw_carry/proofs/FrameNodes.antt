@@ -25,6 +25,7 @@ use Rattle.fw_run.specs.Spaces.{answer_packet, space_at, is_manager, manager_wor
 use Rattle.fw_run.specs.State.{State, number_in, device_in, is_on}
 use Rattle.fw_run.proofs.FrameWrites.{write_by}
 use Rattle.fw_machine.specs.declared.machine.Machine.{Machine}
+use Rattle.fw_machine.specs.Giving.{between}
 use Rattle.fw_machine.specs.Lingering.{LingersAs, HasLingering}
 use Rattle.fw_machine.specs.Stands.{IsNodeAt, HasNodes, HasDecks, StandsFor}
 use Rattle.fw_carry.proofs.Asked.{device_of_number, nodes_set}

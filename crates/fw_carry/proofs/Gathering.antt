@@ -19,6 +19,7 @@ use Rattle.fw_run.proofs.Along.{steps_front}
 use Rattle.fw_run.proofs.Given.{given_append}
 use Rattle.fw_machine.specs.declared.machine.Machine.{Machine}
 use Rattle.fw_machine.specs.Faults.{CountsFaults}
+use Rattle.fw_machine.specs.Giving.{between}
 use Rattle.fw_carry.specs.Performing.{CutOff, Task}
 use Rattle.fw_carry.specs.Filling.{FillsBy, Gathers, Passes}
 use Rattle.fw_carry.specs.Framing.{PerformedWithDesk}
@@ -169,7 +170,7 @@ gathers_out {D = D} {P} {m} {now} {held} {after} {behind} {room} {rest} f x = re
 
 -- all was written
 pub gathers_all : {T E : Type 0} {D : DeskRelations} {P : Task} {m now : Machine} {held after : Option (List ℕ)} {room : List ℕ} {k l : ℕ} (u : T) → Gathers D P m now held after room
-    → room ≡ [] → CountsFaults {T = T} {E = E} k l (Ok u) → PerformedWithDesk {T = T} {E = E} D P m now held after k l (Ok u)
+    → room ≡ [] → CountsFaults {T = T} {E = E} k l (Ok u) → PerformedWithDesk {T = T} {E = E} D P m now (between held after k l) (Ok u)
 gathers_all {held = held} {after} u f none faults = record {
   faults = faults;
   shown = λ s g st.
@@ -191,7 +192,7 @@ behind_none (x ∷ a) b e = let no : ⊥ = cc e in absurd no
 
 -- what is in the room is cut off
 pub gathers_cut : {T E : Type 0} {D : DeskRelations} {P : Task} {m now : Machine} {held after behind : Option (List ℕ)} {room : List ℕ} {k l : ℕ} (w : E) → Gathers D P m now held after room
-    → (room ≡ [] → ⊥) × AppendsFront after behind room → CountsFaults {T = T} {E = E} k l (Err w) → PerformedWithDesk {T = T} {E = E} D P m now held behind k l (Err w)
+    → (room ≡ [] → ⊥) × AppendsFront after behind room → CountsFaults {T = T} {E = E} k l (Err w) → PerformedWithDesk {T = T} {E = E} D P m now (between held behind k l) (Err w)
 gathers_cut {D = D} {P} {held = held} {after} {behind} {room} w f cut faults = record {
   faults = faults;
   shown = λ s g st.

@@ -27,6 +27,7 @@ use Rattle.fw_devices.specs.Network.{kind_at, node_at}
 use Rattle.fw_run.specs.State.{State, number_in, manager_in, while_talking}
 use Rattle.fw_run.specs.Spaces.{space_at, is_manager, manager_words}
 use Rattle.fw_run.specs.Good.{IsGood}
+use Rattle.fw_machine.specs.Giving.{between}
 use Rattle.fw_machine.specs.Stands.{IsNodeAt, HasNodes}
 use Rattle.fw_machine.proofs.Latest.{numbers_apart}
 use Rattle.fw_machine.proofs.Nodes.{space_as, node_as}

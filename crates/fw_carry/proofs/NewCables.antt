@@ -19,6 +19,7 @@ use Rattle.fw_run.specs.Afterwards.{Joins, with_topology, Begins, counting}
 use Rattle.fw_run.specs.Good.{IsGood}
 use Rattle.fw_run.proofs.Cables.{cabled_declared}
 use Rattle.fw_machine.specs.declared.machine.Machine.{Machine}
+use Rattle.fw_machine.specs.Giving.{between}
 use Rattle.fw_machine.specs.Orders.{joins_in}
 use Rattle.fw_carry.specs.Resetting.{BeginsReset, GivesReset}
 use Rattle.fw_machine.specs.Lingering.{HasLingering}
@@ -146,7 +147,7 @@ join_silent m devices a b x y j joins = record { shown = shown_ }
 pub join_does : {T E : Type 0} {held after : Option (List ℕ)} {k l : ℕ}
     (m now : Machine) (devices : Network) (a b : End) (x y : Bool) (i : ℕ) (r : Result T E) → IsCable m devices a b x y → m.resets < MOST_RESETS
     → ((s : State) (out : List Timed) (t : State) → Begins s i out t → Joins x y a.device b.device s out t) → IsTrue (is_node m.devices.nodes i)
-    → GivesReset (counting_in (with_devices m devices)) now i held after k l r → Performed (Performs (AddCable a b ∷ [])) m now held after k l r
+    → GivesReset (counting_in (with_devices m devices)) now i (between held after k l) r → Performed (Performs (AddCable a b ∷ [])) m now (between held after k l) r
 join_does m now devices a b x y i r j few joins node h =
     does_one m.cycle (Some (Reset now.devices.latest)) r (join_resets m now devices a b x y i j few joins node h.begins) h.gives h.faults
 

@@ -19,6 +19,7 @@ use Rattle.fw_run.specs.Good.{IsGood, IsLatest}
 use Rattle.fw_run.proofs.Declares.{MayDeclare, more_declared}
 use Rattle.fw_machine.specs.declared.machine.Machine.{Machine}
 use Rattle.fw_carry.specs.Resetting.{BeginsReset, GivesReset}
+use Rattle.fw_machine.specs.Giving.{between}
 use Rattle.fw_machine.specs.Lingering.{HasLingering}
 use Rattle.fw_machine.specs.Stands.{StandsFor, HasNodes, HasDecks, IsReady}
 use Rattle.fw_machine.specs.Tables.{ControllerTable, IsTable, count_of, states_of, dead_of}
@@ -177,8 +178,8 @@ later_turns m table more_table name kind ports speed there may more extra = reco
 pub first_does : {T E : Type 0} {held after : Option (List ℕ)} {k l : ℕ}
     (m now : Machine) (table : ControllerTable) (more_table : CandidateTable) (name : List ℕ) (kind : DeviceKind) (ports speed : ℕ) (r : Result T E)
     → m.devices.names ≡ [] → MayAdd m ports speed → IsOneMore m table → IsCandidateMore m more_table → m.devices.epoch < MOST_RESETS
-    → GivesReset (record (with_device_in m table more_table name kind ports speed) { resets = 1 }) now 0 held after k l r
-    → Performed (Performs (AddDevice name kind ports speed ∷ [])) m now held after k l r
+    → GivesReset (record (with_device_in m table more_table name kind ports speed) { resets = 1 }) now 0 (between held after k l) r
+    → Performed (Performs (AddDevice name kind ports speed ∷ [])) m now (between held after k l) r
 first_does m now table more_table name kind ports speed r none may more extra few h =
     does_one m.cycle (Some (Reset now.devices.latest)) r (first_turns m now table more_table name kind ports speed none may more extra few h.begins) h.gives h.faults
 

@@ -15,7 +15,6 @@ use Rattle.fw_dub.specs.Reels.{kept}
 use Rattle.fw_run.specs.Carrying.{next_cycle, HasCycle, KeepsCycle}
 use Rattle.fw_run.specs.Desks.{DeskRelations}
 use Rattle.fw_run.specs.Given.{AreGiven}
-use Rattle.fw_run.specs.Giving.{GivesEntry}
 use Rattle.fw_run.specs.Good.{IsGood, IsLatest}
 use Rattle.fw_run.specs.State.{State}
 use Rattle.fw_run.specs.Streams.{cycle_start, talkers}
@@ -26,10 +25,10 @@ use Rattle.fw_run.proofs.Recorded.{begins_quiet}
 use Rattle.fw_run.proofs.Steps.{steps_good}
 use Rattle.fw_machine.specs.declared.machine.Machine.{Machine}
 use Rattle.fw_carry.specs.Cycling.{HadSent, Comes, Begins, HearsTo, HearsBlock, WritesHeard, WritesCycle, PerformedWhere, heard_among, unheard, block_in}
+use Rattle.fw_machine.specs.Giving.{Gives, between, in_room, never_fails}
 use Rattle.fw_machine.specs.Recording.{reel_after, recording_of, recording_by, recording_in}
 use Rattle.fw_machine.specs.declared.recording.Recording.{Recording}
 use Rattle.fw_carry.specs.Performing.{Performs, Performed, TakesAction}
-use Rattle.fw_machine.specs.Faults.{CountsFaults}
 use Rattle.fw_carry.specs.Filling.{Fills}
 use Rattle.fw_carry.specs.Framing.{PerformedWithDesk}
 use Rattle.fw_machine.specs.Stands.{IsReady, StandsFor}
@@ -74,8 +73,8 @@ begun s t xs out p =
     let come = has_come s f.2 f.0 f.3 in
     record { mid = f.2; came = come; out = f.0; step = f.3; entry = x.1.0; latest = sym come.latest ∙ x.1.1; state_is = f.5.5.1 ∙ x.2 }
 
-begins_given : {T E : Type 0} {D : DeskRelations} {m now : Machine} {a b : Option (List ℕ)} {k l : ℕ} {r : Result T E} → Performed Begins m now a b k l r
-    → PerformedWithDesk D Begins m now a b k l r
+begins_given : {T E : Type 0} {D : DeskRelations} {m now : Machine} {a b : Option (List ℕ)} {k l : ℕ} {r : Result T E} → Performed Begins m now (between a b k l) r
+    → PerformedWithDesk D Begins m now (between a b k l) r
 begins_given {D = D} f = does_given (λ s t xs out p. subst (AreGiven D) (sym p.0) (given_next D s (StartCycle ∷ []) (tt, tt))) f
 
 -- ---- one cycle
@@ -109,7 +108,7 @@ root_few {m} root r is =
 
 -- the limit of written cycles is not passed
 begin_few : {T E : Type 0} {m mid : Machine} {a b : Option (List ℕ)} {k l : ℕ} {u : T} (root : ℕ) → IsReady m → (0 < length m.devices.nodes → m.written < MOST_WRITTEN_CYCLES)
-    → Performed {T = T} {E = E} Comes m mid a b k l (Ok u) → ((s : State) → IsGood s → StandsFor mid s → root_of s.account.latest ≡ Some root) → mid.written < MOST_WRITTEN_CYCLES
+    → Performed {T = T} {E = E} Comes m mid (between a b k l) (Ok u) → ((s : State) → IsGood s → StandsFor mid s → root_of s.account.latest ≡ Some root) → mid.written < MOST_WRITTEN_CYCLES
 begin_few {m = m} {mid} root r few d is =
     let s = r.state in
     let x = d.shown s r.good r.stands in
@@ -123,19 +122,19 @@ begin_few {m = m} {mid} root r few d is =
 
 -- a cycle has come, and its cycle start was written, or cut off
 pub begins : {T E U F : Type 0} {m mid : Machine} {a b c : Option (List ℕ)} {k l n : ℕ} {u : T} {r : Result U F} (root : ℕ) (packet : Packet) → IsReady m
-    → (0 < length m.devices.nodes → m.written < MOST_WRITTEN_CYCLES) → Performed {T = T} {E = E} Comes m mid a b k l (Ok u)
+    → (0 < length m.devices.nodes → m.written < MOST_WRITTEN_CYCLES) → Performed {T = T} {E = E} Comes m mid (between a b k l) (Ok u)
     → ((s : State) → IsGood s → StandsFor mid s → root_of s.account.latest ≡ Some root) → packet ≡ cycle_start root mid.cycle
-    → GivesEntry b c r mid.cycle mid.devices.epoch (Some (Async packet)) → CountsFaults l n r → Performed Begins m (started mid) a c k n r
-begins {m = m} {mid} {r = r} root packet ready few d is same gives faults =
+    → Gives (started mid) (Async packet) (between b c l n) r → Performed Begins m (started mid) (between a c k n) r
+begins {m = m} {mid} {r = r} root packet ready few d is same gives =
     does_then r (begin_follows {m = m}) d
-    (does_one mid.cycle (Some (Async packet)) r (start_turns mid (started mid) root packet is (begin_few root ready few d is) same refl) gives faults)
+    (does_one mid.cycle (Some (Async packet)) r (start_turns mid (started mid) root packet is (begin_few root ready few d is) same refl) gives.bytes gives.faults)
 
 -- both stand in a room
 pub begun_in : {m mid : Machine} {a : List ℕ} (b c : List ℕ) (root : ℕ) (packet : Packet) → IsReady m → (0 < length m.devices.nodes → m.written < MOST_WRITTEN_CYCLES) → Fills Comes m mid a b
     → ((s : State) → IsGood s → StandsFor mid s → root_of s.account.latest ≡ Some root) → packet ≡ cycle_start root mid.cycle
-    → GivesEntry {T = Unit {0}} {E = Unit {0}} (Some b) (Some c) (Ok (tt {0})) mid.cycle mid.devices.epoch (Some (Async packet)) → Fills Begins m (started mid) a c
+    → Gives (started mid) (Async packet) (in_room b c) never_fails → Fills Begins m (started mid) a c
 begun_in b c root packet ready few d is same gives =
-    begins {U = Unit {0}} {F = Unit {0}} {b = Some b} {c = Some c} {r = Ok (tt {0})} root packet ready few d is same gives (no_faults 0 (tt {0}))
+    begins {U = Unit {0}} {F = Unit {0}} {b = Some b} {c = Some c} {r = Ok (tt {0})} root packet ready few d is same gives
 
 -- the counts before it are those that the machine kept
 begin_leads : (m : Machine) (counts : List ℕ) → m.streams ≡ counts → LeadsTo m (λ s. Unit {0}) Begins (HadSent counts)
@@ -162,7 +161,7 @@ recorded_among s (Some d) out = recorded_by s d out
 
 -- what the machine heard is what the run has heard
 pub hears_here : {T E : Type 0} {A : State → Type 0} {D : DeskRelations} {m now : Machine} (old new : Option Recording) {a b : Option (List ℕ)} {k l : ℕ} {r : Result T E}
-    → ((s : State) → IsGood s → StandsFor m s → old ≡ recording_in s) → PerformedWhere A D (HearsTo 64 old new) m now a b k l r → PerformedWhere A D (HearsBlock (block_in new)) m now a b k l r
+    → ((s : State) → IsGood s → StandsFor m s → old ≡ recording_in s) → PerformedWhere A D (HearsTo 64 old new) m now (between a b k l) r → PerformedWhere A D (HearsBlock (block_in new)) m now (between a b k l) r
 hears_here old new is d = where_when (λ s t xs out g st p f.
     (p.0, ap block_in p.1 ∙ (ap (λ o. block_in (heard_among out o)) (is s g st) ∙ recorded_among s s.dub.tied out))) d
 
@@ -295,8 +294,8 @@ recorded_still s old new same is = same ∙ (ap unheard is ∙ blank s.dub.tied)
 sent_heard : {T E U F : Type 0} {D : DeskRelations} (counts : List ℕ) (old new : Option Recording)
     {m mid : Machine} {a b c : Option (List ℕ)} {k l n : ℕ} {u : T} (r : Result U F) → m.streams ≡ counts
     → ((s : State) → IsGood s → StandsFor mid s → old ≡ recording_in s)
-    → Performed {T = T} {E = E} Begins m mid a b k l (Ok u) → PerformedWhere (HadSent counts) D (HearsTo 64 old new) mid mid b c l n r
-    → PerformedWhere (λ s. Unit {0}) D (WritesHeard (block_in new)) m mid a c k n r
+    → Performed {T = T} {E = E} Begins m mid (between a b k l) (Ok u) → PerformedWhere (HadSent counts) D (HearsTo 64 old new) mid mid (between b c l n) r
+    → PerformedWhere (λ s. Unit {0}) D (WritesHeard (block_in new)) m mid (between a c k n) r
 sent_heard counts old new {m} r is recorded f g =
     where_then r (λ s mid t xs ys a b good st p steps q more. cycle_heard s mid t (block_in new) xs ys a b p q) (begin_leads m counts is) (where_by (begins_given f)) (hears_here old new recorded g)
 
@@ -304,10 +303,10 @@ sent_heard counts old new {m} r is recorded f g =
 pub cycle_then : {T E U F : Type 0} {D : DeskRelations} (counts : List ℕ) (old new : Option Recording)
     {m mid : Machine} {a b c : Option (List ℕ)} {k l n : ℕ} {u : T} {w : U} → m.streams ≡ counts
     → ((s : State) → IsGood s → StandsFor mid s → old ≡ recording_in s) → unheard new ≡ unheard old
-    → Performed {T = T} {E = E} Begins m mid a b k l (Ok u) → PerformedWhere {T = U} {E = F} (HadSent counts) D (HearsTo 64 old new) mid mid b c l n (Ok w)
-    → PerformedWithDesk {T = U} {E = F} D WritesCycle m (record mid { reel = reel_after new mid.reel }) a c k n (Ok w)
+    → Performed {T = T} {E = E} Begins m mid (between a b k l) (Ok u) → PerformedWhere {T = U} {E = F} (HadSent counts) D (HearsTo 64 old new) mid mid (between b c l n) (Ok w)
+    → PerformedWithDesk {T = U} {E = F} D WritesCycle m (record mid { reel = reel_after new mid.reel }) (between a c k n) (Ok w)
 cycle_then {F = F} {D = D} counts old new {m} {mid} {c = c} {n = n} {w = w} is recorded same f g =
-    let keep : Performed {E = F} (Performs (KeepBlock (block_in new) ∷ [])) mid (record mid { reel = reel_after new mid.reel }) c c n n (Ok w) =
+    let keep : Performed {E = F} (Performs (KeepBlock (block_in new) ∷ [])) mid (record mid { reel = reel_after new mid.reel }) (between c c n n) (Ok w) =
     does_one mid.cycle None (Ok w) (keep_turns mid new (λ s good st. recorded_still s old new same (recorded s good st))) (Grows-nothing c) (no_faults n w) in
     by_where {A = λ s. Unit {0}} (λ s good st. tt)
     (where_then (Ok w) (keep_follows {m = m} (block_in new)) (λ s t xs out good st known p steps. tt {0}) (sent_heard counts old new (Ok w) is recorded f g)
@@ -317,8 +316,8 @@ cycle_then {F = F} {D = D} counts old new {m} {mid} {c = c} {n = n} {w = w} is r
 pub cycle_unheard : {T E U F : Type 0} {D : DeskRelations} (counts : List ℕ) (new : Option Recording)
     {m mid : Machine} {a b c : Option (List ℕ)} {k l n : ℕ} {u : T} {w : U} → m.streams ≡ counts
     → ((s : State) → IsGood s → StandsFor mid s → None ≡ recording_in s) → unheard new ≡ None
-    → Performed {T = T} {E = E} Begins m mid a b k l (Ok u) → PerformedWhere {T = U} {E = F} (HadSent counts) D (HearsTo 64 None new) mid mid b c l n (Ok w)
-    → PerformedWithDesk {T = U} {E = F} D WritesCycle m mid a c k n (Ok w)
+    → Performed {T = T} {E = E} Begins m mid (between a b k l) (Ok u) → PerformedWhere {T = U} {E = F} (HadSent counts) D (HearsTo 64 None new) mid mid (between b c l n) (Ok w)
+    → PerformedWithDesk {T = U} {E = F} D WritesCycle m mid (between a c k n) (Ok w)
 cycle_unheard counts (Some x) is recorded none f g = absurd (let wrong : ⊥ = cc in wrong)
 cycle_unheard counts None is recorded none f g = cycle_then counts None None is recorded refl f g
 
@@ -327,8 +326,8 @@ alone_is : (s t : State) (xs : List Action) (out : List Timed) → s.account.lat
 alone_is s t xs out none p = subst (λ o. HasCycle o s xs out t) (sym none) (p.1, p.0)
 
 pub cycle_alone : {T E F : Type 0} {D : DeskRelations} {m now : Machine} {a b : Option (List ℕ)} {k l : ℕ} {u : T}
-    → ((s : State) → IsGood s → StandsFor now s → root_of s.account.latest ≡ None) → Performed {T = T} {E = E} Comes m now a b k l (Ok u)
-    → PerformedWithDesk {T = T} {E = F} D WritesCycle m now a b k l (Ok u)
+    → ((s : State) → IsGood s → StandsFor now s → root_of s.account.latest ≡ None) → Performed {T = T} {E = E} Comes m now (between a b k l) (Ok u)
+    → PerformedWithDesk {T = T} {E = F} D WritesCycle m now (between a b k l) (Ok u)
 cycle_alone {D = D} {m} none d = record {
   faults = record { cause = record { later = d.faults.cause.later; failed = tt }; same = d.faults.same };
   shown = λ s g st.

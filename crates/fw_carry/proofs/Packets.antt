@@ -21,6 +21,7 @@ use Rattle.fw_devices.specs.Network.{Network, node_at}
 use Rattle.fw_devices.specs.Streams.{AreTalkers}
 use Rattle.fw_machine.specs.declared.machine.Machine.{Machine}
 use Rattle.fw_carry.specs.Cycling.{HadSent, SendsHeard, HearsTo, heard_among, unheard, PerformedWhere}
+use Rattle.fw_machine.specs.Giving.{between}
 use Rattle.fw_machine.specs.Recording.{hearing_of}
 use Rattle.fw_machine.specs.declared.recording.Recording.{Recording}
 use Rattle.fw_carry.specs.Resetting.{passed_in}
@@ -96,7 +97,7 @@ unheard_same channel (Some bytes) (Some r) = refl
 -- ---- the packets of a cycle
 
 pub packets_none : {T E : Type 0} {A : State → Type 0} {D : DeskRelations} (old : Option Recording) (m : Machine) (held : Option (List ℕ)) (k : ℕ) (u : T) → IfSome old (λ (r : Recording). r.block ≡ None)
-    → PerformedWhere {T = T} {E = E} A D (HearsTo 0 old old) m m held held k k (Ok u)
+    → PerformedWhere {T = T} {E = E} A D (HearsTo 0 old old) m m (between held held k k) (Ok u)
 unfolding talkers_to
 packets_none old m held k u none = where_nothing m held k u (λ s g st. ((refl, refl, refl), nothing_heard old none, λ channel le. refl))
 
@@ -110,7 +111,7 @@ talker_at m talkers i o are is s g st =
 pub packets_skip : {T E : Type 0} {A : State → Type 0} {D : DeskRelations} (old new : Option Recording) (i : ℕ) (talkers : List (Option ℕ))
     {m now : Machine} {a b : Option (List ℕ)} {k l : ℕ} {u : T}
     → AreTalkers (length m.devices.nodes) m.devices.nodes talkers → slice_index_or talkers i None ≡ None
-    → PerformedWhere {T = T} {E = E} A D (HearsTo i old new) m now a b k l (Ok u) → PerformedWhere {T = T} {E = E} A D (HearsTo (i + 1) old new) m now a b k l (Ok u)
+    → PerformedWhere {T = T} {E = E} A D (HearsTo i old new) m now (between a b k l) (Ok u) → PerformedWhere {T = T} {E = E} A D (HearsTo (i + 1) old new) m now (between a b k l) (Ok u)
 packets_skip old new i talkers {m} are none d = where_when (λ s t xs out g st p f.
     let front = talkers_to i s.account in
     let same : talkers_to (i + 1) s.account ≡ front =
@@ -121,21 +122,21 @@ packets_skip old new i talkers {m} are none d = where_when (λ s t xs out g st p
 packets_rest : {T E : Type 0} {A : State → Type 0} {D : DeskRelations} (old new : Option Recording) (i k : ℕ) (talkers : List (Option ℕ))
     {m now : Machine} {a b : Option (List ℕ)} {c l : ℕ} {u : T}
     → AreTalkers (length m.devices.nodes) m.devices.nodes talkers → ((channel : ℕ) → i ≤ channel → slice_index_or talkers channel None ≡ None)
-    → PerformedWhere {T = T} {E = E} A D (HearsTo i old new) m now a b c l (Ok u) → PerformedWhere {T = T} {E = E} A D (HearsTo (i + k) old new) m now a b c l (Ok u)
+    → PerformedWhere {T = T} {E = E} A D (HearsTo i old new) m now (between a b c l) (Ok u) → PerformedWhere {T = T} {E = E} A D (HearsTo (i + k) old new) m now (between a b c l) (Ok u)
 packets_rest {T = T} {E} {A} {D} old new i zero talkers {m} {now} {a} {b} {c} {l} {u} are silent d =
-    let e : i ≡ i + 0 = omega arith in subst (λ j. PerformedWhere {T = T} {E = E} A D (HearsTo j old new) m now a b c l (Ok u)) e d
+    let e : i ≡ i + 0 = omega arith in subst (λ j. PerformedWhere {T = T} {E = E} A D (HearsTo j old new) m now (between a b c l) (Ok u)) e d
 packets_rest {T = T} {E} {A} {D} old new i (suc k) talkers {m} {now} {a} {b} {c} {l} {u} are silent d =
     let e : i + k + 1 ≡ i + suc k = omega arith in
-    subst (λ j. PerformedWhere {T = T} {E = E} A D (HearsTo j old new) m now a b c l (Ok u)) e
+    subst (λ j. PerformedWhere {T = T} {E = E} A D (HearsTo j old new) m now (between a b c l) (Ok u)) e
     (packets_skip old new (i + k) talkers are (silent (i + k) (omega arith)) (packets_rest old new i k talkers are silent d))
 
 pub packets_whole : {T E : Type 0} {A : State → Type 0} {D : DeskRelations} (old new : Option Recording) (i : ℕ) (talkers : List (Option ℕ))
     {m now : Machine} {a b : Option (List ℕ)} {c l : ℕ} {u : T}
     → i ≤ 64 → AreTalkers (length m.devices.nodes) m.devices.nodes talkers → ((channel : ℕ) → i ≤ channel → slice_index_or talkers channel None ≡ None)
-    → PerformedWhere {T = T} {E = E} A D (HearsTo i old new) m now a b c l (Ok u) → PerformedWhere {T = T} {E = E} A D (HearsTo 64 old new) m now a b c l (Ok u)
+    → PerformedWhere {T = T} {E = E} A D (HearsTo i old new) m now (between a b c l) (Ok u) → PerformedWhere {T = T} {E = E} A D (HearsTo 64 old new) m now (between a b c l) (Ok u)
 packets_whole {T = T} {E} {A} {D} old new i talkers {m} {now} {a} {b} {c} {l} {u} few are silent d =
     let e : i + (64 - i) ≡ 64 = omega (arith, few) in
-    subst (λ j. PerformedWhere {T = T} {E = E} A D (HearsTo j old new) m now a b c l (Ok u)) e (packets_rest old new i (64 - i) talkers are silent d)
+    subst (λ j. PerformedWhere {T = T} {E = E} A D (HearsTo j old new) m now (between a b c l) (Ok u)) e (packets_rest old new i (64 - i) talkers are silent d)
 
 -- a packet is that of a list of one plug
 one_packet : (s t : State) (d : ℕ) (block : Option GivenBlock) (xs : List Action) (out : List Timed) → Performs (SendPacket (at_plug d 0) block ∷ []) s xs out t
@@ -231,6 +232,6 @@ packets_lead m counts old new i s t xs out g st had p f = subst (HadSent counts)
 pub packets_then : {T E U F : Type 0} {D : DeskRelations} (counts : List ℕ) (old mid_heard new : Option Recording) (i d : ℕ) (talkers : List (Option ℕ))
     {m mid now : Machine} {a b c : Option (List ℕ)} {k l n : ℕ} {u : T} {r : Result U F}
     → AreTalkers (length m.devices.nodes) m.devices.nodes talkers → slice_index_or talkers i None ≡ Some d
-    → PerformedWhere {T = T} {E = E} (HadSent counts) D (HearsTo i old mid_heard) m mid a b k l (Ok u) → PerformedWhere (HadSent counts) D (SendsHeard d i mid_heard new) mid now b c l n r
-    → PerformedWhere (HadSent counts) D (HearsTo (i + 1) old new) m now a c k n r
+    → PerformedWhere {T = T} {E = E} (HadSent counts) D (HearsTo i old mid_heard) m mid (between a b k l) (Ok u) → PerformedWhere (HadSent counts) D (SendsHeard d i mid_heard new) mid now (between b c l n) r
+    → PerformedWhere (HadSent counts) D (HearsTo (i + 1) old new) m now (between a c k n) r
 packets_then counts old mid_heard new i d talkers {m} {r = r} are at f g = where_then r (packet_follows old mid_heard new i d talkers are at) (packets_lead m counts old mid_heard i) f g

@@ -14,6 +14,7 @@ use Rattle.fw_run.specs.Good.{IsGood}
 use Rattle.fw_run.proofs.Cables.{on_is_bus, on_some}
 use Rattle.fw_machine.specs.declared.machine.Machine.{Machine}
 use Rattle.fw_carry.specs.Resetting.{BeginsReset, GivesReset}
+use Rattle.fw_machine.specs.Giving.{between}
 use Rattle.fw_machine.specs.Stands.{StandsFor, IsReady}
 use Rattle.fw_async.specs.Wire.{Pairs}
 use Rattle.fw_machine.specs.Wires.{HasWire}
@@ -165,5 +166,5 @@ same_cycle b = ap (λ (z : Machine). z.cycle) b.after
 -- the entry of the bus reset was written, or cut off
 pub reset_does : {T E : Type 0} {held after : Option (List ℕ)} {k l : ℕ} (m now : Machine) (d : ℕ) (r : Result T E) → IsTrue (is_node m.devices.nodes d)
     → m.resets < MOST_RESETS
-    → GivesReset (counting_in m) now d held after k l r → Performed (Performs (ResetBus d ∷ [])) m now held after k l r
+    → GivesReset (counting_in m) now d (between held after k l) r → Performed (Performs (ResetBus d ∷ [])) m now (between held after k l) r
 reset_does m now d r node few h = does_one m.cycle (Some (Reset now.devices.latest)) r (reset_turns m now d node few h.begins) h.gives h.faults

@@ -9,6 +9,7 @@ use Rattle.fw_run.specs.Actions.{HalfStep, Steps}
 use Rattle.fw_run.specs.Carrying.{half_steps_of}
 use Rattle.fw_run.proofs.Runs.{steps_then}
 use Rattle.fw_machine.specs.declared.machine.Machine.{Machine}
+use Rattle.fw_machine.specs.Giving.{between}
 use Rattle.fw_machine.specs.Stands.{is_living_in, living_in}
 use Rattle.fw_carry.specs.Performing.{Performs, Performed, RoundTo, OneRound}
 use Rattle.fw_carry.proofs.Doings.{GoesOn, Follows, does_when, does_cut, does_nothing, does_then}
@@ -27,13 +28,13 @@ halves_append xs ys = map-append HalfStep xs ys
 
 -- ---- calls of the machine
 
-pub round_none : {T E : Type 0} (m : Machine) (held : Option (List ℕ)) (k : ℕ) (u : T) → Performed {T = T} {E = E} (RoundTo 0) m m held held k k (Ok u)
+pub round_none : {T E : Type 0} (m : Machine) (held : Option (List ℕ)) (k : ℕ) (u : T) → Performed {T = T} {E = E} (RoundTo 0) m m (between held held k k) (Ok u)
 unfolding numbers_to
 round_none m held k u = does_nothing m held k u (λ s g st. (refl, (refl, refl)))
 
 -- a device whose controller does not live takes none
 pub round_skips : {T E : Type 0} (i : ℕ) {m now : Machine} {a b : Option (List ℕ)} {k l : ℕ} {u : T} → IsFalse (is_living_in m i)
-    → Performed {T = T} {E = E} (RoundTo i) m now a b k l (Ok u) → Performed {T = T} {E = E} (RoundTo (i + 1)) m now a b k l (Ok u)
+    → Performed {T = T} {E = E} (RoundTo i) m now (between a b k l) (Ok u) → Performed {T = T} {E = E} (RoundTo (i + 1)) m now (between a b k l) (Ok u)
 round_skips i {m} off d = does_when (λ s t xs out g st p f.
     let none : is_living s i ≡ false = sym (living_same m s i g st) ∙ off in
     let same : numbers_to i (is_living s) ≡ numbers_to (i + 1) (is_living s) =
@@ -51,7 +52,7 @@ round_follows {m} i lives s mid t xs ys a b g st p f q h =
 
 -- one device more, whose controller lives
 pub round_then : {T E U F : Type 0} (i : ℕ) {m mid now : Machine} {a b c : Option (List ℕ)} {k l n : ℕ} {u : T} {r : Result U F} → IsTrue (is_living_in m i)
-    → Performed {T = T} {E = E} (RoundTo i) m mid a b k l (Ok u) → Performed (Performs (HalfStep i ∷ [])) mid now b c l n r → Performed (RoundTo (i + 1)) m now a c k n r
+    → Performed {T = T} {E = E} (RoundTo i) m mid (between a b k l) (Ok u) → Performed (Performs (HalfStep i ∷ [])) mid now (between b c l n) r → Performed (RoundTo (i + 1)) m now (between a c k n) r
 round_then i {r = r} lives d e = does_then r (round_follows i lives) d e
 
 -- the others can take theirs
@@ -81,11 +82,11 @@ round_goes_on m j le few s u xs a g st p f =
 -- a half step was cut off
 pub round_cut : {T E U F V G : Type 0} (i : ℕ) {m mid now : Machine} {a b c : Option (List ℕ)} {k l n : ℕ} {u : T} (q : Result U F) (r : Result V G)
     → i < length m.devices.names → IsTrue (is_living_in m i) → m.half_steps + length (living_in m) ≤ MOST_HALF_STEPS → IsErr q → IsErr r
-    → Performed {T = T} {E = E} (RoundTo i) m mid a b k l (Ok u) → Performed (Performs (HalfStep i ∷ [])) mid now b c l n q → Performed OneRound m now a c k n r
+    → Performed {T = T} {E = E} (RoundTo i) m mid (between a b k l) (Ok u) → Performed (Performs (HalfStep i ∷ [])) mid now (between b c l n) q → Performed OneRound m now (between a c k n) r
 round_cut i {m} q r lt lives few was is f e = does_cut q r (round_goes_on m (i + 1) (omega (arith, lt)) few) was is (round_then i lives f e)
 
 -- each has taken its half step
 pub round_all : {T E : Type 0} (i : ℕ) {m now : Machine} {a b : Option (List ℕ)} {k l : ℕ} {u : T} → i ≡ length m.devices.names
-    → Performed {T = T} {E = E} (RoundTo i) m now a b k l (Ok u) → Performed {T = T} {E = E} OneRound m now a b k l (Ok u)
+    → Performed {T = T} {E = E} (RoundTo i) m now (between a b k l) (Ok u) → Performed {T = T} {E = E} OneRound m now (between a b k l) (Ok u)
 round_all i e d = does_when (λ s t xs out g st p f.
     let names = ap (λ (z : List (List ℕ)). length z) st.devices.names in subst (λ n. RoundTo n s xs out t) (e ∙ names) p) d

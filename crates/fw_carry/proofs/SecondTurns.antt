@@ -19,11 +19,11 @@ use Rattle.fw_run.specs.Good.{IsGood}
 use Rattle.fw_run.proofs.Times.{second_ends, second_good}
 use Rattle.fw_cmp.specs.declared.directory.Directory.{Directory}
 use Rattle.fw_machine.specs.declared.machine.Machine.{Machine}
+use Rattle.fw_machine.specs.Giving.{Gives, between}
 use Rattle.fw_machine.specs.Lingering.{LingersAs, HasLingering}
 use Rattle.fw_carry.specs.Resetting.{RestsAfterSecond, passed_in}
 use Rattle.fw_machine.specs.Stands.{IsNodeAt, HasNodes, HasDevices, StandsFor}
 use Rattle.fw_machine.specs.Streaming.{HasStreams, counted_on}
-use Rattle.fw_machine.specs.Faults.{CountsFaults}
 use Rattle.fw_carry.specs.Performing.{Performs, Performed, TakesAction}
 use Rattle.fw_carry.proofs.Doings.{does_one}
 use Rattle.fw_async.specs.Wire.{Pairs}
@@ -244,8 +244,8 @@ second_turns m now runs at few r = record { shown = shown_ }
 
 -- it is written, or cut off
 pub second_given : {T E : Type 0} (m now : Machine) {a b : Option (List ℕ)} {k l : ℕ} (r : Result T E) → m.reclaiming ≡ true → m.cycle + 1 ≡ m.directory.over_at → m.cycle + 1 ≤ 2 ^ 52
-    → RestsAfterSecond m now → GivesEntry a b r now.cycle now.devices.epoch (Some second_over) → CountsFaults k l r → Performed (Performs (EndSecond ∷ [])) m now a b k l r
-second_given m now {a} {b} r runs at few rests gives faults =
+    → RestsAfterSecond m now → Gives now second_over (between a b k l) r → Performed (Performs (EndSecond ∷ [])) m now (between a b k l) r
+second_given m now {a} {b} r runs at few rests gives =
     let cycle : now.cycle ≡ m.cycle + 1 = ap (λ (z : Machine). z.cycle) rests.after in
     does_one (m.cycle + 1) (Some second_over) r (second_turns m now runs at few rests)
-    (subst (λ c. GivesEntry a b r c now.devices.epoch (Some second_over)) cycle gives) faults
+    (subst (λ c. GivesEntry a b r c now.devices.epoch (Some second_over)) cycle gives.bytes) gives.faults

@@ -23,6 +23,7 @@ use Rattle.fw_run.proofs.Steps.{steps_good}
 use Rattle.fw_machine.specs.declared.machine.Machine.{Machine}
 use Rattle.fw_carry.specs.Performing.{Task, Performs, Performed}
 use Rattle.fw_carry.specs.Framing.{SendsNext, SendsFirst, frames_of}
+use Rattle.fw_machine.specs.Giving.{between}
 use Rattle.fw_machine.specs.Stands.{StandsFor}
 use Rattle.fw_carry.proofs.Doings.{Follows, GoesOn, does_cut, does_nothing, does_then, no_faults}
 use Rattle.fw_carry.proofs.FrameTurns.{next_is, quiet_stands, taken_of}
@@ -30,8 +31,8 @@ use Rattle.fw_carry.proofs.FrameTurns.{next_is, quiet_stands, taken_of}
 -- ---- results
 
 -- what was done does not depend on the value that the call gives
-pub does_ok : {T E U F : Type 0} {P : Task} {m now : Machine} {a b : Option (List ℕ)} {k l : ℕ} {u : T} (v : U) → Performed {T = T} {E = E} P m now a b k l (Ok u)
-    → Performed {T = U} {E = F} P m now a b k l (Ok v)
+pub does_ok : {T E U F : Type 0} {P : Task} {m now : Machine} {a b : Option (List ℕ)} {k l : ℕ} {u : T} (v : U) → Performed {T = T} {E = E} P m now (between a b k l) (Ok u)
+    → Performed {T = U} {E = F} P m now (between a b k l) (Ok v)
 does_ok v d = record {
   faults = record { cause = record { later = d.faults.cause.later; failed = d.faults.cause.failed }; same = d.faults.same };
   shown = λ s g st. d.shown s g st;
@@ -46,7 +47,7 @@ no_frame f (Some x) e = let no : ⊥ = cc e in absurd no
 -- there is none
 pub sends_none : {A E : Type 0} (f : ℕ × Frame → A) (m : Machine) (taken : Network) (d : ℕ) (held : Option (List ℕ)) (k : ℕ) → d < length m.devices.nodes
     → None ≡ option_map f (Fcp.next_frame (node_at m.devices.nodes d)) → taken ≡ (taken_of m d).devices
-    → Performed {T = Bool} {E = E} (SendsNext {E = E} d (Ok false)) m (record m { devices = taken }) held held k k (Ok false)
+    → Performed {T = Bool} {E = E} (SendsNext {E = E} d (Ok false)) m (record m { devices = taken }) (between held held k k) (Ok false)
 sends_none f m taken d held k low none is = record {
   faults = no_faults k false;
   shown = λ s g st.
@@ -64,13 +65,13 @@ sends_none f m taken d held k low none is = record {
 
 -- it was sent and answered
 pub sends_one : {T E F : Type 0} (d : ℕ) {m now : Machine} {a b : Option (List ℕ)} {k l : ℕ} {u : T}
-    → Performed {T = T} {E = E} (Performs (SendFrame d ∷ Receive None ∷ [])) m now a b k l (Ok u)
-    → Performed {T = Bool} {E = F} (SendsNext {E = F} d (Ok true)) m now a b k l (Ok true)
+    → Performed {T = T} {E = E} (Performs (SendFrame d ∷ Receive None ∷ [])) m now (between a b k l) (Ok u)
+    → Performed {T = Bool} {E = F} (SendsNext {E = F} d (Ok true)) m now (between a b k l) (Ok true)
 sends_one {F = F} d f = does_ok {F = F} true f
 
 -- one of its entries was cut off
 pub sends_cut : {U F E : Type 0} (d : ℕ) {m now last : Machine} {a b : Option (List ℕ)} {k l : ℕ} (q : Result U F) (r : Result Bool E) → IsErr q → IsErr r
-    → Performed (Performs (SendFrame d ∷ Receive None ∷ [])) m now a b k l q → Performed (SendsNext {E = E} d r) m last a b k l r
+    → Performed (Performs (SendFrame d ∷ Receive None ∷ [])) m now (between a b k l) q → Performed (SendsNext {E = E} d r) m last (between a b k l) r
 sends_cut d (Ok u) r was is f = let no : ⊥ = grind (arith, was) in absurd no
 sends_cut d (Err u) (Ok v) was is f = let no : ⊥ = grind (arith, is) in absurd no
 sends_cut d (Err u) (Err v) was is f = record {
@@ -120,7 +121,7 @@ frames_fewer nodes d to told o low there next =
 
 -- ---- all of them
 
-pub first_none : {T E : Type 0} (d : ℕ) (m : Machine) (held : Option (List ℕ)) (k : ℕ) (u : T) → Performed {T = T} {E = E} (SendsFirst d) m m held held k k (Ok u)
+pub first_none : {T E : Type 0} (d : ℕ) (m : Machine) (held : Option (List ℕ)) (k : ℕ) (u : T) → Performed {T = T} {E = E} (SendsFirst d) m m (between held held k k) (Ok u)
 first_none d m held k u = does_nothing m held k u (λ s g st. (st.answered, st.unsent, λ zs more t r. r))
 
 -- after the answer no frame waits
@@ -142,8 +143,8 @@ first_follows d s mid t xs ys a b g st p f q h =
     )
 
 pub first_then : {T E F : Type 0} (d : ℕ) {m mid now : Machine} {a b c : Option (List ℕ)} {k l n : ℕ} {u : T}
-    → Performed {T = T} {E = E} (SendsFirst d) m mid a b k l (Ok u) → (sent : Bool) → sent ≡ true
-    → Performed {T = Bool} {E = F} (SendsNext {E = F} d (Ok sent)) mid now b c l n (Ok sent) → Performed {T = T} {E = E} (SendsFirst d) m now a c k n (Ok u)
+    → Performed {T = T} {E = E} (SendsFirst d) m mid (between a b k l) (Ok u) → (sent : Bool) → sent ≡ true
+    → Performed {T = Bool} {E = F} (SendsNext {E = F} d (Ok sent)) mid now (between b c l n) (Ok sent) → Performed {T = T} {E = E} (SendsFirst d) m now (between a c k n) (Ok u)
 first_then {E = E} d {u = u} f true is g = does_ok {F = E} u (does_then {Q = Performs (SendFrame d ∷ Receive None ∷ [])} (Ok true) (first_follows d) f g)
 first_then d f false is g = absurd (false≢true is)
 
@@ -154,8 +155,8 @@ ends_follow E d s mid t xs ys a b g st p f q h =
     (subst (λ z. SendsAll d s (xs ++ z) (a ++ []) mid) (sym q.1.0) (p.2 [] [] mid (quiet q.0))))
 
 pub sends_all : {T E F U G : Type 0} (d : ℕ) {m mid now : Machine} {a b c : Option (List ℕ)} {k l n : ℕ} {u : T} (v : U)
-    → Performed {T = T} {E = E} (SendsFirst d) m mid a b k l (Ok u) → (sent : Bool) → sent ≡ false
-    → Performed {T = Bool} {E = F} (SendsNext {E = F} d (Ok sent)) mid now b c l n (Ok sent) → Performed {T = U} {E = G} (SendsAll d) m now a c k n (Ok v)
+    → Performed {T = T} {E = E} (SendsFirst d) m mid (between a b k l) (Ok u) → (sent : Bool) → sent ≡ false
+    → Performed {T = Bool} {E = F} (SendsNext {E = F} d (Ok sent)) mid now (between b c l n) (Ok sent) → Performed {T = U} {E = G} (SendsAll d) m now (between a c k n) (Ok v)
 sends_all {F = F} {G = G} d v f false is g = does_ok {F = G} v (does_then {Q = SendsNext {E = F} d (Ok false)} (Ok false) (ends_follow F d) f g)
 sends_all d v f true is g = absurd (false≢true (sym is))
 
@@ -173,7 +174,7 @@ rest_goes m d s u xs a g st p f =
 
 pub all_cut : {T E F U G : Type 0} (d : ℕ) {m mid now last : Machine} {a b c : Option (List ℕ)} {k l n : ℕ} {u : T} (q : Result Bool F) (r : Result U G)
     → IsErr q → IsErr r
-    → Performed {T = T} {E = E} (SendsFirst d) m mid a b k l (Ok u) → Performed (SendsNext {E = F} d q) mid now b c l n q → Performed (SendsAll d) m last a c k n r
+    → Performed {T = T} {E = E} (SendsFirst d) m mid (between a b k l) (Ok u) → Performed (SendsNext {E = F} d q) mid now (between b c l n) q → Performed (SendsAll d) m last (between a c k n) r
 all_cut d (Ok x) r was is f g = let no : ⊥ = grind (arith, was) in absurd no
 all_cut d {m} (Err x) r was is f g =
     does_cut (Err x) r (rest_goes m d) refl is (does_then {Q = Performs (SendFrame d ∷ Receive None ∷ [])} (Err x) (first_follows d) f g)

@@ -17,6 +17,7 @@ use Rattle.fw_run.specs.Good.{IsGood}
 use Rattle.fw_run.proofs.Runs.{rounds_steps}
 use Rattle.fw_run.proofs.Steps.{steps_good}
 use Rattle.fw_machine.specs.declared.machine.Machine.{Machine}
+use Rattle.fw_machine.specs.Giving.{between}
 use Rattle.fw_machine.specs.Stands.{StandsFor, is_living_in, living_in}
 use Rattle.fw_carry.specs.Performing.{Performs, Performed, TellsUnsettled, OneRound, RoundsFirst, SomeRounds, TakesAction}
 use Rattle.fw_carry.proofs.Doings.{GoesOn, Follows, does_as, does_cut, does_nothing, does_then, no_faults, one_step}
@@ -27,7 +28,7 @@ use Rattle.fw_machine.proofs.Standing.{counted_stands}
 
 -- ---- rounds one after another
 
-pub rounds_none : {T E : Type 0} (m : Machine) (held : Option (List ℕ)) (k : ℕ) (u : T) → Performed {T = T} {E = E} (RoundsFirst 0) m m held held k k (Ok u)
+pub rounds_none : {T E : Type 0} (m : Machine) (held : Option (List ℕ)) (k : ℕ) (u : T) → Performed {T = T} {E = E} (RoundsFirst 0) m m (between held held k k) (Ok u)
 rounds_none m held k u = does_nothing m held k u (λ s g st. (refl, omega arith, st.answered, λ k zs more t r. subst (λ n. Rounds n s zs more t) (omega arith) r))
 
 rounds_follow : {m : Machine} (i : ℕ) → Follows m (RoundsFirst i) OneRound (RoundsFirst (i + 1))
@@ -52,12 +53,12 @@ rounds_follow i s mid t xs ys a b g st p f q h =
     )
 
 pub rounds_then : {T E U F : Type 0} (i : ℕ) {m mid now : Machine} {a b c : Option (List ℕ)} {k l n : ℕ} {u : T} {r : Result U F}
-    → Performed {T = T} {E = E} (RoundsFirst i) m mid a b k l (Ok u) → Performed OneRound mid now b c l n r → Performed (RoundsFirst (i + 1)) m now a c k n r
+    → Performed {T = T} {E = E} (RoundsFirst i) m mid (between a b k l) (Ok u) → Performed OneRound mid now (between b c l n) r → Performed (RoundsFirst (i + 1)) m now (between a c k n) r
 rounds_then i {r = r} d e = does_then r (rounds_follow i) d e
 
 -- all were taken
 pub rounds_all : {T E : Type 0} (i n : ℕ) {m now : Machine} {a b : Option (List ℕ)} {k l : ℕ} {u : T} → i ≡ n
-    → Performed {T = T} {E = E} (RoundsFirst i) m now a b k l (Ok u) → Performed {T = T} {E = E} (SomeRounds n) m now a b k l (Ok u)
+    → Performed {T = T} {E = E} (RoundsFirst i) m now (between a b k l) (Ok u) → Performed {T = T} {E = E} (SomeRounds n) m now (between a b k l) (Ok u)
 rounds_all i n e d = does_as (λ s t xs out p.
     let none = p.3 0 [] [] t Rounds.none in
     let same : i + 0 ≡ n = omega arith ∙ e in
@@ -72,7 +73,7 @@ rest_follows i n le s mid t xs ys a b g st p f q h =
 
 does_rest : {T E : Type 0} (n : ℕ) (m : Machine) (held : Option (List ℕ)) (k : ℕ) (u : T)
     → ((s : State) → IsGood s → StandsFor m s → IsFalse (is_unsettled s)) → m.half_steps + n * length (living_in m) ≤ MOST_HALF_STEPS
-    → Performed {T = T} {E = E} (SomeRounds n) m (record m { half_steps = m.half_steps + n * length (living_in m) }) held held k k (Ok u)
+    → Performed {T = T} {E = E} (SomeRounds n) m (record m { half_steps = m.half_steps + n * length (living_in m) }) (between held held k k) (Ok u)
 does_rest n m held k u calm few = record {
   faults = no_faults k u;
   shown = λ s g st.
@@ -94,8 +95,8 @@ does_rest n m held k u calm few = record {
 
 pub rounds_rest : {T E : Type 0} (i n : ℕ) {m mid : Machine} {a b : Option (List ℕ)} {k l : ℕ} {u : T} → i ≤ n
     → ((s : State) → IsGood s → StandsFor mid s → IsFalse (is_unsettled s)) → mid.half_steps + (n - i) * length (living_in mid) ≤ MOST_HALF_STEPS
-    → Performed {T = T} {E = E} (RoundsFirst i) m mid a b k l (Ok u)
-    → Performed {T = T} {E = E} (SomeRounds n) m (record mid { half_steps = mid.half_steps + (n - i) * length (living_in mid) }) a b k l (Ok u)
+    → Performed {T = T} {E = E} (RoundsFirst i) m mid (between a b k l) (Ok u)
+    → Performed {T = T} {E = E} (SomeRounds n) m (record mid { half_steps = mid.half_steps + (n - i) * length (living_in mid) }) (between a b k l) (Ok u)
 rounds_rest {E = E} i n {mid = mid} {b = b} {l = l} {u = u} le calm few d = does_then (Ok u) (rest_follows i n le) d (does_rest {E = E} (n - i) mid b l u calm few)
 
 -- ---- a round was cut off
@@ -124,7 +125,7 @@ rounds_go_on m j n le few s u xs a g st p f =
 
 pub rounds_cut : {T E U F V G : Type 0} (i n : ℕ) {m mid now : Machine} {a b c : Option (List ℕ)} {k l o : ℕ} {u : T} (q : Result U F) (r : Result V G)
     → i < n → m.half_steps + n * length (living_in m) ≤ MOST_HALF_STEPS → IsErr q → IsErr r
-    → Performed {T = T} {E = E} (RoundsFirst i) m mid a b k l (Ok u) → Performed OneRound mid now b c l o q → Performed (SomeRounds n) m now a c k o r
+    → Performed {T = T} {E = E} (RoundsFirst i) m mid (between a b k l) (Ok u) → Performed OneRound mid now (between b c l o) q → Performed (SomeRounds n) m now (between a c k o) r
 rounds_cut i n {m} q r lt few was is f e = does_cut q r (rounds_go_on m (i + 1) n (omega (arith, lt)) few) was is (rounds_then i f e)
 
 -- ---- what is written after them
@@ -132,7 +133,7 @@ rounds_cut i n {m} q r lt few was is f e = does_cut q r (rounds_go_on m (i + 1) 
 unsettled_step : (s : State) → s.transaction ≡ None → IsTrue (is_unsettled s) → Steps s (Unsettled ∷ []) (at_most s.clock.cycle (Some unsettled_entry)) (record s { account = entered s.account unsettled_entry })
 unsettled_step s quiet busy = one_step s _ Unsettled _ (quiet, (busy, refl, refl))
 
-pub busy_looks_back : {T E : Type 0} {m now : Machine} {a b : Option (List ℕ)} {k l : ℕ} {r : Result T E} → Performed (Performs (Unsettled ∷ [])) m now a b k l r → Performed TellsUnsettled m now a b k l r
+pub busy_looks_back : {T E : Type 0} {m now : Machine} {a b : Option (List ℕ)} {k l : ℕ} {r : Result T E} → Performed (Performs (Unsettled ∷ [])) m now (between a b k l) r → Performed TellsUnsettled m now (between a b k l) r
 busy_looks_back d = does_as (λ s t xs out p. inr (p.0, subst (λ z. Steps s z out t) (sym p.0) p.1)) d
 
 settles : {m : Machine} (n : ℕ) → Follows m (SomeRounds n) TellsUnsettled (λ s. Carries s (Settle n))
@@ -147,7 +148,7 @@ settles n s mid t xs ys a b g st p f q h = go q
     go (inr x) = subst (λ z. Carries s (Settle n) (xs ++ z) (a ++ b) t) (sym x.0) (Carries.unsettled mid xs a b p (subst (λ z. Steps mid z b t) x.0 x.1))
 
 pub settle_then : {T E U F : Type 0} (n : ℕ) {m mid now : Machine} {a b c : Option (List ℕ)} {k l o : ℕ} {u : T} (r : Result U F)
-    → Performed {T = T} {E = E} (SomeRounds n) m mid a b k l (Ok u) → Performed TellsUnsettled mid now b c l o r → Performed (λ s. Carries s (Settle n)) m now a c k o r
+    → Performed {T = T} {E = E} (SomeRounds n) m mid (between a b k l) (Ok u) → Performed TellsUnsettled mid now (between b c l o) r → Performed (λ s. Carries s (Settle n)) m now (between a c k o) r
 settle_then n r d e = does_then r (settles n) d e
 
 -- half steps leave no transaction open
@@ -183,7 +184,7 @@ settle_goes_on m n few s u xs a g st p f = go (is_unsettled u) refl
         )
 
 pub settle_cut : {U F V G : Type 0} (n : ℕ) {m now : Machine} {a b : Option (List ℕ)} {k l : ℕ} (q : Result U F) (r : Result V G)
-    → m.half_steps + n * length (living_in m) ≤ MOST_HALF_STEPS → IsErr q → IsErr r → Performed (SomeRounds n) m now a b k l q → Performed (λ s. Carries s (Settle n)) m now a b k l r
+    → m.half_steps + n * length (living_in m) ≤ MOST_HALF_STEPS → IsErr q → IsErr r → Performed (SomeRounds n) m now (between a b k l) q → Performed (λ s. Carries s (Settle n)) m now (between a b k l) r
 settle_cut n {m} q r few was is d = does_cut q r (settle_goes_on m n few) was is d
 
 -- ---- who lives, while rounds are taken

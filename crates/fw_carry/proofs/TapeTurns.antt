@@ -29,6 +29,7 @@ use Rattle.fw_run.proofs.Turns.{update_new, update_others}
 use Rattle.fw_run.proofs.Units.{tape_kept, tape_is}
 use Rattle.fw_machine.specs.declared.machine.Machine.{Machine}
 use Rattle.fw_carry.specs.Performing.{Performs, Performed, TakesAction}
+use Rattle.fw_machine.specs.Giving.{between}
 use Rattle.fw_machine.specs.Orders.{has_deck_in}
 use Rattle.fw_machine.specs.Stands.{HasDecks, IsReady, StandsFor}
 use Rattle.fw_machine.proofs.Living.{few_devices as few_names}
@@ -131,9 +132,9 @@ eject_same m after d low none is =
 
 pub ejects_none : {T E : Type 0} (m : Machine) (after : Network) (d : ℕ) (held : Option (List ℕ)) (k : ℕ) (u : T) → d < length m.devices.nodes
     → IsTrue (has_deck_in m.devices d) → is_some (Devices.tape_of (node_at m.devices.nodes d)) ≡ false → after ≡ (taped m d None).devices
-    → Performed {T = T} {E = E} (λ s. Carries s (Orders.Eject d)) m (record m { devices = after }) held held k k (Ok u)
+    → Performed {T = T} {E = E} (λ s. Carries s (Orders.Eject d)) m (record m { devices = after }) (between held held k k) (Ok u)
 ejects_none {E = E} m after d held k u low deck none is =
-    subst (λ (n : Network). Performed {E = E} (λ s. Carries s (Orders.Eject d)) m (record m { devices = n }) held held k k (Ok u))
+    subst (λ (n : Network). Performed {E = E} (λ s. Carries s (Orders.Eject d)) m (record m { devices = n }) (between held held k k) (Ok u))
     (sym (eject_same m after d low none is)) (does_nothing m held k u (λ s g st. ejects_nothing (sym (tape_in m s d st low deck) ∙ none)))
 
 -- ---- and then all frames are sent
@@ -164,12 +165,12 @@ eject_goes m d s u xs a g st p f =
 
 -- the entry of the event was cut off
 pub insert_cut : {U F V G : Type 0} (d tape : ℕ) (system : TapeSystem) {m now last : Machine} {a b : Option (List ℕ)} {k l : ℕ}
-    (q : Result U F) (r : Result V G) → IsErr q → IsErr r → Performed (Performs (InsertTape d tape system ∷ [])) m now a b k l q
-    → Performed (λ s. Carries s (Orders.Insert d tape system)) m last a b k l r
+    (q : Result U F) (r : Result V G) → IsErr q → IsErr r → Performed (Performs (InsertTape d tape system ∷ [])) m now (between a b k l) q
+    → Performed (λ s. Carries s (Orders.Insert d tape system)) m last (between a b k l) r
 insert_cut d tape system {m} q r was is f = does_cut q r (insert_goes m d tape system) was is f
 
 pub eject_cut : {U F V G : Type 0} (d : ℕ) {m now last : Machine} {a b : Option (List ℕ)} {k l : ℕ} (q : Result U F) (r : Result V G) → IsErr q → IsErr r
-    → Performed (Performs (EjectTape d ∷ [])) m now a b k l q → Performed (λ s. Carries s (Orders.Eject d)) m last a b k l r
+    → Performed (Performs (EjectTape d ∷ [])) m now (between a b k l) q → Performed (λ s. Carries s (Orders.Eject d)) m last (between a b k l) r
 eject_cut d {m} q r was is f = does_cut q r (eject_goes m d) was is f
 
 -- ---- numbers

@@ -10,6 +10,7 @@ use Rattle.fw_run.specs.Actions.{Action, HalfStep, Steps}
 use Rattle.fw_run.specs.Carrying.{times, half_steps_of}
 use Rattle.fw_run.specs.Good.{IsGood}
 use Rattle.fw_machine.specs.declared.machine.Machine.{Machine}
+use Rattle.fw_machine.specs.Giving.{between}
 use Rattle.fw_machine.specs.Stands.{is_living_in}
 use Rattle.fw_carry.specs.Performing.{Performs, Performed}
 use Rattle.fw_carry.proofs.Doings.{GoesOn, acts_follow, does_cut, does_none, does_then}
@@ -43,12 +44,12 @@ times_after k d s out t g quiet f =
 
 -- ---- calls of the machine
 
-pub times_none : {T E : Type 0} (x : Action) (m : Machine) (held : Option (List ℕ)) (k : ℕ) (u : T) → Performed {T = T} {E = E} (Performs (times 0 x)) m m held held k k (Ok u)
+pub times_none : {T E : Type 0} (x : Action) (m : Machine) (held : Option (List ℕ)) (k : ℕ) (u : T) → Performed {T = T} {E = E} (Performs (times 0 x)) m m (between held held k k) (Ok u)
 unfolding times
 times_none x m held k u = does_none m held k u
 
 pub times_then : {T E U F : Type 0} (x : Action) (i : ℕ) {m mid now : Machine} {a b c : Option (List ℕ)} {k l n : ℕ} {u : T} {r : Result U F}
-    → Performed {T = T} {E = E} (Performs (times i x)) m mid a b k l (Ok u) → Performed (Performs (x ∷ [])) mid now b c l n r → Performed (Performs (times (i + 1) x)) m now a c k n r
+    → Performed {T = T} {E = E} (Performs (times i x)) m mid (between a b k l) (Ok u) → Performed (Performs (x ∷ [])) mid now (between b c l n) r → Performed (Performs (times (i + 1) x)) m now (between a c k n) r
 unfolding times
 times_then x i {r = r} d e = rw add-one (does_then r (acts_follow (times i x) (x ∷ [])) d e)
 
@@ -75,11 +76,11 @@ times_go_on m d j count le lives few s u xs a g st p f =
 -- a half step was cut off
 pub times_cut : {T E U F V G : Type 0} (d i : ℕ) {m mid now : Machine} {a b c : Option (List ℕ)} {k l n : ℕ} {u : T} (count : ℕ) (q : Result U F) (r : Result V G)
     → i < count → IsTrue (is_living_in m d) → m.half_steps + count ≤ MOST_HALF_STEPS → IsErr q → IsErr r
-    → Performed {T = T} {E = E} (Performs (times i (HalfStep d))) m mid a b k l (Ok u) → Performed (Performs (HalfStep d ∷ [])) mid now b c l n q → Performed (Performs (times count (HalfStep d))) m now a c k n r
+    → Performed {T = T} {E = E} (Performs (times i (HalfStep d))) m mid (between a b k l) (Ok u) → Performed (Performs (HalfStep d ∷ [])) mid now (between b c l n) q → Performed (Performs (times count (HalfStep d))) m now (between a c k n) r
 times_cut d i {m} count q r lt lives few was is f e =
     does_cut q r (times_go_on m d (i + 1) count (omega (arith, lt)) lives few) was is (times_then (HalfStep d) i f e)
 
 -- all were given
 pub times_all : {T E : Type 0} (x : Action) (i n : ℕ) {m now : Machine} {a b : Option (List ℕ)} {k l : ℕ} {u : T} → i ≡ n
-    → Performed {T = T} {E = E} (Performs (times i x)) m now a b k l (Ok u) → Performed {T = T} {E = E} (Performs (times n x)) m now a b k l (Ok u)
-times_all {E = E} x i n {m = m} {now} {a} {b} {k} {l} {u} e d = subst (λ z. Performed {E = E} (Performs (times z x)) m now a b k l (Ok u)) e d
+    → Performed {T = T} {E = E} (Performs (times i x)) m now (between a b k l) (Ok u) → Performed {T = T} {E = E} (Performs (times n x)) m now (between a b k l) (Ok u)
+times_all {E = E} x i n {m = m} {now} {a} {b} {k} {l} {u} e d = subst (λ z. Performed {E = E} (Performs (times z x)) m now (between a b k l) (Ok u)) e d

@@ -14,6 +14,7 @@ use Rattle.fw_run.proofs.Times.{second_ends}
 use Rattle.fw_cmp.specs.declared.directory.Directory.{Directory}
 use Rattle.fw_machine.specs.declared.machine.Machine.{Machine}
 use Rattle.fw_carry.specs.Resetting.{RestsAfterSecond}
+use Rattle.fw_machine.specs.Giving.{between}
 use Rattle.fw_machine.specs.Stands.{IsReady}
 use Rattle.fw_carry.specs.Performing.{Performs, Performed}
 use Rattle.fw_outside.specs.declared.failed.Failed.{Failed}
@@ -35,7 +36,7 @@ ready_second {m} r runs =
 -- the end of the second lies behind the cycles that go by, or none runs
 pub waits_by : {T E : Type 0} (m now : Machine) (n : ℕ) (held : Option (List ℕ)) (k : ℕ) (u : T) → m.cycle + n ≤ 2 ^ 52
     → (m.reclaiming ≡ true → m.cycle + n < m.directory.over_at) → now ≡ passed_by m n
-    → Performed {T = T} {E = E} (λ s. Carries s (Wait n)) m now held held k k (Ok u)
+    → Performed {T = T} {E = E} (λ s. Carries s (Wait n)) m now (between held held k k) (Ok u)
 waits_by {T} {E} m now n held k u few before is =
     does_as {P = Performs (Pass n ∷ [])} {Q = λ s. Carries s (Wait n)} carries (does_silent held k m.cycle u (pass_turns m now n few before is))
   where
@@ -79,9 +80,9 @@ before_end m = passed_by m (m.directory.over_at - 1 - m.cycle)
 -- all cycles went by, and the second was over on the way
 pub waits_all : {T E : Type 0} (m mid now : Machine) (last : ℕ) (held after : Option (List ℕ)) (k l : ℕ) (u : T) → IsReady m → m.reclaiming ≡ true
     → m.directory.over_at ≤ last → last ≤ 2 ^ 52
-    → Performed {T = T} {E = E} (Performs (EndSecond ∷ [])) (before_end m) mid held after k l (Ok u) → RestsAfterSecond (before_end m) mid
+    → Performed {T = T} {E = E} (Performs (EndSecond ∷ [])) (before_end m) mid (between held after k l) (Ok u) → RestsAfterSecond (before_end m) mid
     → now ≡ passed_by mid (last - mid.cycle)
-    → Performed {T = T} {E = E} (λ s. Carries s (Wait (last - m.cycle))) m now held after k l (Ok u)
+    → Performed {T = T} {E = E} (λ s. Carries s (Wait (last - m.cycle))) m now (between held after k l) (Ok u)
 waits_all {T} {E} m mid now last held after k l u ready runs late few ended rests is =
     does_as {P = Performs (Pass before ∷ EndSecond ∷ Pass behind ∷ [])} {Q = λ s. Carries s (Wait (last - m.cycle))}
     (over_carries (last - m.cycle) before behind same)
@@ -103,20 +104,20 @@ waits_all {T} {E} m mid now last held after k l u ready runs late few ended rest
     same : last - m.cycle ≡ m.directory.over_at - 1 - m.cycle + 1 + (last - mid.cycle)
     same = omega (arith, second, late, cycle)
 
-    first : Performed {T = T} {E = E} (Performs (Pass before ∷ [])) m (before_end m) held held k k (Ok u)
+    first : Performed {T = T} {E = E} (Performs (Pass before ∷ [])) m (before_end m) (between held held k k) (Ok u)
     first = does_silent held k m.cycle u (pass_turns m (before_end m) before (omega (arith, second, late, few)) (λ x. omega (arith, second)) refl)
 
     none : mid.reclaiming ≡ true → mid.cycle + behind < mid.directory.over_at
     none x = let no : false ≡ true = sym (ap (λ (z : Machine). z.reclaiming) rests.after) ∙ x in let bad : ⊥ = cc in absurd bad
 
-    onward : Performed {T = T} {E = E} (Performs (Pass behind ∷ [])) mid now after after l l (Ok u)
+    onward : Performed {T = T} {E = E} (Performs (Pass behind ∷ [])) mid now (between after after l l) (Ok u)
     onward = does_silent after l mid.cycle u (pass_turns mid now behind (omega (arith, second, late, few, cycle)) none is)
 
 -- the entry of the end of the second was cut off
 pub waits_cut : {T E U F : Type 0} (m mid now : Machine) (last : ℕ) (held after : Option (List ℕ)) (k l : ℕ) (u : T) (q : Result U F) (r : Result T E)
     → IsReady m → m.reclaiming ≡ true → m.directory.over_at ≤ last → last ≤ 2 ^ 52
-    → IsErr q → IsErr r → Performed (Performs (EndSecond ∷ [])) (before_end m) mid held after k l q
-    → Performed (λ s. Carries s (Wait (last - m.cycle))) m now held after k l r
+    → IsErr q → IsErr r → Performed (Performs (EndSecond ∷ [])) (before_end m) mid (between held after k l) q
+    → Performed (λ s. Carries s (Wait (last - m.cycle))) m now (between held after k l) r
 waits_cut {T} {E} m mid now last held after k l u q r ready runs late few was is ended =
     does_as {P = Performs (Pass before ∷ EndSecond ∷ Pass behind ∷ [])} {Q = λ s. Carries s (Wait (last - m.cycle))}
     (over_carries (last - m.cycle) before behind same)
@@ -136,7 +137,7 @@ waits_cut {T} {E} m mid now last held after k l u q r ready runs late few was is
     same : last - m.cycle ≡ m.directory.over_at - 1 - m.cycle + 1 + (last - m.directory.over_at)
     same = omega (arith, second, late)
 
-    first : Performed {T = T} {E = E} (Performs (Pass before ∷ [])) m (before_end m) held held k k (Ok u)
+    first : Performed {T = T} {E = E} (Performs (Pass before ∷ [])) m (before_end m) (between held held k k) (Ok u)
     first = does_silent held k m.cycle u (pass_turns m (before_end m) before (omega (arith, second, late, few)) (λ x. omega (arith, second)) refl)
 
 -- ---- the machine is ready between the parts
@@ -150,5 +151,5 @@ ready_before {m} r runs few =
 
 -- and when it is over
 pub ready_over : {T E : Type 0} {m mid : Machine} {a b : Option (List ℕ)} {k l : ℕ} {u : T} → IsReady m → m.reclaiming ≡ true → m.directory.over_at ≤ 2 ^ 52
-    → Performed {T = T} {E = E} (Performs (EndSecond ∷ [])) (before_end m) mid a b k l (Ok u) → IsReady mid
+    → Performed {T = T} {E = E} (Performs (EndSecond ∷ [])) (before_end m) mid (between a b k l) (Ok u) → IsReady mid
 ready_over r runs few ended = ready_after (ready_before r runs few) ended

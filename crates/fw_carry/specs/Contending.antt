@@ -9,6 +9,7 @@ use Rattle.fw_run.specs.Giving.{GivesEntry}
 use Rattle.fw_machine.specs.Candidates.{candidate_in}
 use Rattle.fw_carry.specs.Performing.{TakesAction}
 use Rattle.fw_machine.specs.Faults.{CountsFaults}
+use Rattle.fw_machine.specs.Giving.{Sides}
 use Rattle.fw_machine.specs.declared.machine.Machine.{Machine}
 
 -- the device is a candidate that may take a half step, on a bus whose resource manager is this one
@@ -29,8 +30,8 @@ pub record BidRests (m : Machine) (d manager : ℕ) : Type 0 where
   pub rests : IsFalse (is_standing_in m.devices.epoch contender.candidate)
 
 -- it took a half step, whose entry, if any, was written, or a front of it
-pub record TakesBid {T E : Type 0} (m now : Machine) (d : ℕ) (held after : Option (List ℕ)) (count counts : ℕ) (result : Result T E) : Type 0 where
+pub record TakesBid {T E : Type 0} (m now : Machine) (d : ℕ) (sides : Sides) (result : Result T E) : Type 0 where
   pub entry : Option Entry
   pub turns : TakesAction (Contend d) m now now.cycle entry
-  pub gives : GivesEntry held after result now.cycle now.devices.epoch entry
-  pub faults : CountsFaults count counts result
+  pub gives : GivesEntry sides.held sides.after result now.cycle now.devices.epoch entry
+  pub faults : CountsFaults sides.count sides.counts result

@@ -14,7 +14,7 @@ use Rattle.fw_run.specs.State.{State}
 use Rattle.fw_run.specs.Streams.{GivenBlock, bytes_of, sent_before, talkers_to}
 use Rattle.fw_carry.specs.Performing.{Task, Performs}
 use Rattle.fw_machine.specs.Faults.{CountsFaults}
-use Rattle.fw_carry.specs.Filling.{never_fails, no_faults}
+use Rattle.fw_machine.specs.Giving.{Sides, in_room, never_fails}
 use Rattle.fw_carry.specs.Framing.{CompletedWithDesk}
 use Rattle.fw_machine.specs.Stands.{StandsFor}
 use Rattle.fw_machine.specs.Streaming.{count_at}
@@ -87,10 +87,10 @@ WritesCycles n s ys out t = HasCycles n s ys out t
 
 -- what a call did with what the desk gave, from any good state that the machine stood for and of which this holds
 pub record PerformedWhere {T E : Type 0} (A : State → Type 0) (D : DeskRelations) (P : Task)
-    (m now : Machine) (held after : Option (List ℕ)) (count counts : ℕ) (result : Result T E) : Type 0 where
-  pub faults : CountsFaults count counts result
-  pub shown : (s : State) → IsGood s → StandsFor m s → A s → CompletedWithDesk D (P s) s now held after result
+    (m now : Machine) (sides : Sides) (result : Result T E) : Type 0 where
+  pub faults : CountsFaults sides.count sides.counts result
+  pub shown : (s : State) → IsGood s → StandsFor m s → A s → CompletedWithDesk D (P s) s now sides.held sides.after result
 
 -- in a room stands what this writes: it grew by the entries
 abbrev pub PutsIntoRoom : (State → Type 0) → DeskRelations → Task → Machine → List ℕ → List ℕ → Type 0
-PutsIntoRoom A D P m old new = PerformedWhere A D P m m (Some old) (Some new) no_faults no_faults never_fails
+PutsIntoRoom A D P m old new = PerformedWhere A D P m m (in_room old new) never_fails

@@ -12,8 +12,8 @@ use Rattle.fw_node.specs.Packets.{IsServed, request_in}
 use Rattle.fw_node.specs.State.{space_of}
 use Rattle.fw_devices.specs.Entries.{node_device}
 use Rattle.fw_devices.specs.Network.{Network, node_at}
-use Rattle.fw_run.specs.Giving.{GivesEntry}
-use Rattle.fw_machine.specs.Faults.{CountsFaults}
+use Rattle.fw_machine.specs.Giving.{Gives, Sides, between}
+use Rattle.fw_machine.specs.declared.machine.Machine.{Machine}
 use Rattle.fw_carry.specs.Serving.{nodes_after}
 
 -- A request of the node with this number stands on the wire, to the node of a device that may answer.
@@ -35,8 +35,7 @@ pub record IsCarriedOut (n now : Network) (wire left : Pairs) (cycle from device
   pub rest : left ≡ without from wire
 
 -- Of two entries one after the other both were written, or a front of the first, or the first and a front of the second.
-pub data GivesBoth {T E : Type 0} (held after : Option (List ℕ)) (count counts : ℕ) (result : Result T E) (cycle epoch : ℕ) (e f : Entry) : Type 0 where
-  CutOff : (first : Result T E) → IsErr first → IsErr result → GivesEntry held after first cycle epoch (Some e) → CountsFaults count counts first
-      → GivesBoth held after count counts result cycle epoch e f
-  Second : (between : Option (List ℕ)) (faults : ℕ) (done : T) → GivesEntry {T = T} {E = E} held between (Ok done) cycle epoch (Some e) → CountsFaults {T = T} {E = E} count faults (Ok done)
-      → GivesEntry between after result cycle epoch (Some f) → CountsFaults faults counts result → GivesBoth held after count counts result cycle epoch e f
+pub data GivesBoth {T E : Type 0} (m : Machine) (e f : Entry) (sides : Sides) (result : Result T E) : Type 0 where
+  CutOff : (first : Result T E) → IsErr first → IsErr result → Gives m e sides first → GivesBoth m e f sides result
+  Second : (mid : Option (List ℕ)) (faults : ℕ) (done : T) → Gives {T = T} {E = E} m e (between sides.held mid sides.count faults) (Ok done)
+      → Gives m f (between mid sides.after faults sides.counts) result → GivesBoth m e f sides result

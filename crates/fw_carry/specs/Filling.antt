@@ -3,27 +3,18 @@ use Rattle.std.specs.Prelude.{◌≡◌, ℕ, List, [], ◌++◌, Option, Some, 
 use Rattle.std.specs.declared.result.Result.{Result}
 use Rattle.fw_outside.specs.Outside.{AppendsFront, Grows}
 use Rattle.fw_run.specs.Desks.{DeskRelations}
+use Rattle.fw_machine.specs.Giving.{in_room, never_fails}
 use Rattle.fw_machine.specs.declared.machine.Machine.{Machine}
 use Rattle.fw_carry.specs.Performing.{Task, Performed}
 use Rattle.fw_carry.specs.Framing.{PerformedWithDesk}
 
--- ---- a room, as a sink that tells what it holds and never fails
-
--- how many faults it counts
-abbrev pub no_faults : ℕ
-no_faults = 0
-
--- what a write to it answers
-abbrev pub never_fails : Result (Unit {0}) (Unit {0})
-never_fails = Ok (tt {0})
-
 -- this was done, and the room grew by what it writes
 abbrev pub Fills : Task → Machine → Machine → List ℕ → List ℕ → Type 0
-Fills P m now old new = Performed P m now (Some old) (Some new) no_faults no_faults never_fails
+Fills P m now old new = Performed P m now (in_room old new) never_fails
 
 -- the same, with what the desk gives
 abbrev pub FillsBy : DeskRelations → Task → Machine → Machine → List ℕ → List ℕ → Type 0
-FillsBy D P m now old new = PerformedWithDesk D P m now (Some old) (Some new) no_faults no_faults never_fails
+FillsBy D P m now old new = PerformedWithDesk D P m now (in_room old new) never_fails
 
 -- this was done: of what it writes the one part was written, and the other stands in a room
 pub record Gathers (D : DeskRelations) (P : Task) (m now : Machine) (held after : Option (List ℕ)) (room : List ℕ) : Type 0 where

@@ -21,6 +21,7 @@ use Rattle.fw_run.specs.State.{State}
 use Rattle.fw_machine.specs.declared.machine.Machine.{Machine}
 use Rattle.fw_carry.specs.Performing.{Task, Performs, CutOff, Completed}
 use Rattle.fw_machine.specs.Faults.{CountsFaults}
+use Rattle.fw_machine.specs.Giving.{Sides}
 use Rattle.fw_machine.specs.Stands.{StandsFor}
 
 -- ---- deeds
@@ -38,9 +39,9 @@ CompletedWithDesk D P s now held after (Err _) = (cut : CutOff P s held after) �
 
 -- what a call did with what the desk gave, from any good state that the machine stood for
 pub record PerformedWithDesk {T E : Type 0} (D : DeskRelations) (P : Task)
-    (m now : Machine) (held after : Option (List ℕ)) (count counts : ℕ) (result : Result T E) : Type 0 where
-  pub faults : CountsFaults count counts result
-  pub shown : (s : State) → IsGood s → StandsFor m s → CompletedWithDesk D (P s) s now held after result
+    (m now : Machine) (sides : Sides) (result : Result T E) : Type 0 where
+  pub faults : CountsFaults sides.count sides.counts result
+  pub shown : (s : State) → IsGood s → StandsFor m s → CompletedWithDesk D (P s) s now sides.held sides.after result
 
 -- bytes are written to FCP_COMMAND of a device, and the write is answered
 abbrev pub Commands : DeskRelations → ℕ → ℕ → List ℕ → Task

@@ -13,6 +13,7 @@ use Rattle.fw_run.specs.Actions.{Action, Unsettled, Step, Steps}
 use Rattle.fw_run.specs.Carrying.{half_steps_of, Rounds}
 use Rattle.fw_run.specs.Good.{IsGood}
 use Rattle.fw_machine.specs.Faults.{CountsFaults}
+use Rattle.fw_machine.specs.Giving.{Sides}
 use Rattle.fw_machine.specs.Stands.{StandsFor}
 use Rattle.fw_machine.specs.declared.machine.Machine.{Machine}
 
@@ -61,11 +62,11 @@ abbrev pub TakesHalf : (State → ℕ → Half) → Machine → Machine → ℕ 
 TakesHalf step m now d e = (s : State) → IsGood s → StandsFor m s → (e ≡ (step s d).says) × StandsFor now (after_half s d)
 
 -- it was written, where there is something to write, or a front of it
-pub record WritesHalf {T E : Type 0} (step : State → ℕ → Half) (m now : Machine) (d : ℕ) (held after : Option (List ℕ)) (count counts : ℕ) (result : Result T E) : Type 0 where
+pub record WritesHalf {T E : Type 0} (step : State → ℕ → Half) (m now : Machine) (d : ℕ) (sides : Sides) (result : Result T E) : Type 0 where
   pub entry : Option Entry
   pub takes : TakesHalf step m now d entry
-  pub gives : GivesEntry held after result now.cycle now.devices.epoch entry
-  pub faults : CountsFaults count counts result
+  pub gives : GivesEntry sides.held sides.after result now.cycle now.devices.epoch entry
+  pub faults : CountsFaults sides.count sides.counts result
 
 -- ---- what a call did
 
@@ -103,6 +104,6 @@ CompletedOrCutOff P s now held after (Ok _) = Completed P s now held after
 CompletedOrCutOff P s now held after (Err _) = CutOff P s held after
 
 -- what a call did, from any good state that the machine stood for
-pub record Performed {T E : Type 0} (P : Task) (m now : Machine) (held after : Option (List ℕ)) (count counts : ℕ) (result : Result T E) : Type 0 where
-  pub faults : CountsFaults count counts result
-  pub shown : (s : State) → IsGood s → StandsFor m s → CompletedOrCutOff (P s) s now held after result
+pub record Performed {T E : Type 0} (P : Task) (m now : Machine) (sides : Sides) (result : Result T E) : Type 0 where
+  pub faults : CountsFaults sides.count sides.counts result
+  pub shown : (s : State) → IsGood s → StandsFor m s → CompletedOrCutOff (P s) s now sides.held sides.after result

@@ -11,6 +11,7 @@ use Rattle.fw_devices.specs.Resets.{IsReset}
 use Rattle.fw_run.specs.State.{list_to}
 use Rattle.fw_run.specs.Giving.{GivesEntry}
 use Rattle.fw_machine.specs.Faults.{CountsFaults}
+use Rattle.fw_machine.specs.Giving.{Sides}
 use Rattle.fw_machine.specs.Tables.{IsTable, count_of, states_of, dead_of}
 use Rattle.fw_machine.specs.Stands.{is_linked_in}
 use Rattle.fw_machine.specs.Streaming.{counted_on}
@@ -39,10 +40,10 @@ pub record BeginsReset (m now : Machine) (initiator : ℕ) : Type 0 where
   }
 
 -- its entry was written, or cut off
-pub record GivesReset {T E : Type 0} (m now : Machine) (initiator : ℕ) (held after : Option (List ℕ)) (count counts : ℕ) (result : Result T E) : Type 0 where
+pub record GivesReset {T E : Type 0} (m now : Machine) (initiator : ℕ) (sides : Sides) (result : Result T E) : Type 0 where
   pub begins : BeginsReset m now initiator
-  pub gives : GivesEntry held after result m.cycle now.devices.epoch (Some (Reset now.devices.latest))
-  pub faults : CountsFaults count counts result
+  pub gives : GivesEntry sides.held sides.after result m.cycle now.devices.epoch (Some (Reset now.devices.latest))
+  pub faults : CountsFaults sides.count sides.counts result
 
 -- cycles go by for the tapes of all devices
 abbrev pub passed_in : ℕ → Network → Network

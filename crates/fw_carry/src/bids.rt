@@ -10,6 +10,7 @@ ghost use Rattle.fw_base.specs.Devices.{is_capable};
 ghost use Rattle.fw_machine.specs.Candidates.{candidate_in};
 ghost use Rattle.fw_carry.specs.Contending.{BidRests, BidStands, TakesBid};
 ghost use Rattle.fw_carry.specs.Performing.{Performs, Performed};
+ghost use Rattle.fw_machine.specs.Giving.{sides_of};
 ghost use Rattle.fw_machine.specs.Stands.{IsReady, is_living_in};
 
 use crate::exchange::{send, serve};
@@ -24,7 +25,7 @@ pub(crate) fn stand<K: Sink>(machine: &mut Machine, device: u8, sink: &mut K) ->
     requires ready { IsReady machine.old }
     requires living { IsTrue (is_living_in machine.old device) }
     requires capable { IsTrue (is_capable (kind_at (kinds_of machine.old.devices.nodes) device)) }
-    ensures does { Performed (λ s. Carries s (Candidate device)) machine.old machine.new (K.held sink.old) (K.held sink.new) (K.faults sink.old) (K.faults sink.new) result }
+    ensures does { Performed (λ s. Carries s (Candidate device)) machine.old machine.new (sides_of K.held K.faults sink.old sink.new) result }
 {
     let _ = sink;
     if machine.candidates.is_candidate(device) {
@@ -43,7 +44,7 @@ fn hear_bid<K: Sink>(
 ) -> Result<(), Failed>
     requires ready { IsReady machine.old }
     requires stands { (manager : ℕ) × BidStands machine.old device manager }
-    ensures takes { TakesBid machine.old machine.new device (K.held sink.old) (K.held sink.new) (K.faults sink.old) (K.faults sink.new) result }
+    ensures takes { TakesBid machine.old machine.new device (sides_of K.held K.faults sink.old sink.new) result }
     ensures count { machine.new.half_steps ≡ machine.old.half_steps + 1 }
 {
     let own = machine.number(device);
@@ -56,7 +57,7 @@ fn hear_bid<K: Sink>(
     );
     machine.candidates.hear(device, &reply);
     machine.half_steps += 1;
-    give_packet(&machine.devices, machine.cycle, &mut room.packet, sink)
+    give_packet(machine, &mut room.packet, sink)
 }
 
 /// No request of a device's candidate stands: it says what it does next. A request that goes out is put on the wire.
@@ -69,7 +70,7 @@ fn make_bid<K: Sink>(
 ) -> Result<(), Failed>
     requires ready { IsReady machine.old }
     requires rests { BidRests machine.old device manager }
-    ensures takes { TakesBid machine.old machine.new device (K.held sink.old) (K.held sink.new) (K.faults sink.old) (K.faults sink.new) result }
+    ensures takes { TakesBid machine.old machine.new device (sides_of K.held K.faults sink.old sink.new) result }
     ensures count { machine.new.half_steps ≡ machine.old.half_steps + 1 }
 {
     machine.half_steps += 1;
@@ -88,22 +89,10 @@ fn make_bid<K: Sink>(
                 &mut machine.bids,
                 &mut room.packet,
             );
-            give_packet(&machine.devices, machine.cycle, &mut room.packet, sink)
+            give_packet(machine, &mut room.packet, sink)
         }
-        Bid::Elected => give(
-            &machine.devices,
-            machine.cycle,
-            Some(elected(device)),
-            room,
-            sink,
-        ),
-        Bid::Defeated { .. } => give(
-            &machine.devices,
-            machine.cycle,
-            Some(defeated(device)),
-            room,
-            sink,
-        ),
+        Bid::Elected => give(machine, elected(device), room, sink),
+        Bid::Defeated { .. } => give(machine, defeated(device), room, sink),
         Bid::Done => Ok(()),
     }
 }
@@ -118,7 +107,7 @@ fn bid_step<K: Sink>(
     requires ready { IsReady machine.old }
     requires candidate { IsTrue (is_some (candidate_in machine.old.candidates device)) }
     requires few { machine.old.half_steps < MOST_HALF_STEPS }
-    ensures does { Performed (Performs (Contend device ∷ [])) machine.old machine.new (K.held sink.old) (K.held sink.new) (K.faults sink.old) (K.faults sink.new) result }
+    ensures does { Performed (Performs (Contend device ∷ [])) machine.old machine.new (sides_of K.held K.faults sink.old sink.new) result }
     ensures candidate { IsTrue (is_some (candidate_in machine.new.candidates device)) }
     ensures count { machine.new.half_steps ≡ machine.old.half_steps + 1 }
 {
@@ -146,7 +135,7 @@ pub(crate) fn contend<K: Sink>(
     requires ready { IsReady machine.old }
     requires candidate { IsTrue (is_some (candidate_in machine.old.candidates device)) }
     requires few { machine.old.half_steps + count ≤ MOST_HALF_STEPS }
-    ensures does { Performed (Performs (times count (Contend device))) machine.old machine.new (K.held sink.old) (K.held sink.new) (K.faults sink.old) (K.faults sink.new) result }
+    ensures does { Performed (Performs (times count (Contend device))) machine.old machine.new (sides_of K.held K.faults sink.old sink.new) result }
 {
     for i in 0..count {
         bid_step(machine, device, room, sink)?;

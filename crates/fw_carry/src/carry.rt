@@ -1,6 +1,7 @@
 ghost use Rattle.fw_tape.specs.Desks.{AnyBlock, AnyVendorByte};
 ghost use Rattle.fw_run.specs.Carrying.{Carries};
 ghost use Rattle.fw_carry.specs.Framing.{PerformedWithDesk, IsQuiet};
+ghost use Rattle.fw_machine.specs.Giving.{sides_of};
 ghost use Rattle.fw_machine.specs.Orders.{MayCarry};
 ghost use Rattle.fw_machine.specs.Stands.{IsReady};
 
@@ -34,7 +35,7 @@ pub fn carry_out<K: Sink, F: Fn(u16, u32, u16) -> [u8; 480], H: Fn(u32, u8) -> u
     requires blocks { AnyBlock (F.pre desk.now.blocks) }
     requires desk { AnyVendorByte (H.pre desk.now.vendor) }
     ensures does { PerformedWithDesk (record { blocks = F.post desk.now.blocks; vendor = H.post desk.now.vendor }) (λ s. Carries s order.now)
-        machine.old machine.new (K.held sink.old) (K.held sink.new) (K.faults sink.old) (K.faults sink.new) result }
+        machine.old machine.new (sides_of K.held K.faults sink.old sink.new) result }
 {
     match order {
         Order::Withhold => withhold(machine, room, sink),
@@ -62,12 +63,6 @@ pub fn carry_out<K: Sink, F: Fn(u16, u32, u16) -> [u8; 480], H: Fn(u32, u8) -> u
         Order::Candidate(device) => stand(machine, *device, sink),
         Order::Contend(device, count) => contend(machine, *device, *count, room, sink),
         Order::Dub(device) => dub(machine, *device, room, sink),
-        Order::End => give(
-            &machine.devices,
-            machine.cycle,
-            Some(Entry::End),
-            room,
-            sink,
-        ),
+        Order::End => give(machine, Entry::End, room, sink),
     }
 }

@@ -1,15 +1,13 @@
 //! Cycles that are written: the cycle start of the root (IEEE 1394-1995, cycle start packet), and the packets of the output plugs that talk.
 //! They are put together in a room, and several are written with one write.
 
-ghost use Rattle.std.specs.Prelude.{◌≡◌, ◌≤◌, ◌<◌, ◌+◌, ◌^◌, Ok, Some, [], length, OnOk};
+ghost use Rattle.std.specs.Prelude.{◌≡◌, ◌≤◌, ◌<◌, ◌+◌, ◌^◌, [], length, OnOk};
 ghost use Rattle.std.specs.Option.{option_map};
 ghost use Rattle.fw_async.specs.Async.{Fits as PacketFits};
-ghost use Rattle.fw_entry.specs.Log.{Fits};
 ghost use Rattle.fw_entry.specs.declared.entry.ResetEntry.{ResetEntry};
 ghost use Rattle.fw_devices.specs.Streams.{AreTalkers};
 ghost use Rattle.fw_run.specs.declared.limits.TheConstants.{MOST_WRITTEN_CYCLES};
 ghost use Rattle.fw_run.specs.Carrying.{Carries};
-ghost use Rattle.fw_run.specs.Giving.{GivesEntry};
 ghost use Rattle.fw_run.specs.Good.{IsGood};
 ghost use Rattle.fw_run.specs.State.{State};
 ghost use Rattle.fw_run.specs.Streams.{cycle_start};
@@ -19,6 +17,7 @@ ghost use Rattle.fw_carry.specs.Cycling.{Comes, WritesCycle};
 ghost use Rattle.fw_carry.specs.Filling.{Fills, FillsBy, Passes};
 ghost use Rattle.fw_carry.specs.Framing.{PerformedWithDesk};
 ghost use Rattle.fw_machine.specs.Faults.{CountsFaults};
+ghost use Rattle.fw_machine.specs.Giving.{sides_of};
 ghost use Rattle.fw_machine.specs.Stands.{IsReady, StandsFor};
 ghost use Rattle.fw_machine.specs.Streaming.{AreStillFrom};
 
@@ -26,10 +25,10 @@ use crate::second::{pass_one, pass_second};
 use crate::streams::put_packets;
 use fw_async::{Head, Packet};
 use fw_csr::offset::CYCLE_TIME;
-use fw_devices::{Devices, Talkers};
-use fw_entry::{CycleRoom, Entry, Timed, epoch_after};
+use fw_devices::Talkers;
+use fw_entry::{CycleRoom, Entry};
 use fw_machine::entries::second_over;
-use fw_machine::{Machine, Room, keep, recording_on};
+use fw_machine::{Machine, Room, keep, put_entry, recording_on};
 use fw_node::{cycle_time, node_id};
 use fw_outside::{Failed, Sink};
 use fw_tape::Desk;
@@ -66,18 +65,6 @@ fn root(machine: &Machine) -> Option<u8>
     Some(machine.devices.latest().get().root)
 }
 
-/// Puts an entry of this cycle into the room, behind those that it holds.
-fn put_entry(devices: &Devices, cycle: u64, what: Entry<'_>, room: &mut Room)
-    requires fits { Fits what }
-    requires room { length room.old.cycle + 2292 ≤ 102632 }
-    ensures gives { GivesEntry {T = Unit {0}} {E = Unit {0}} (Some room.old.cycle) (Some room.new.cycle) (Ok (tt {0})) cycle devices.now.epoch (Some what.entry) }
-    ensures size { length room.new.cycle ≤ length room.old.cycle + 2292 }
-{
-    let epoch = epoch_after(devices.epoch(), &what);
-    let entry = Timed { cycle, what };
-    room.cycle.put_entry(epoch, &entry, &mut room.entry);
-}
-
 /// The next cycle comes: where the second of the latest bus reset is over at it, that is put into the room first. `talkers` are those
 /// that talk before it, and then after it; so with `end`, from which on all devices are still.
 fn next_cycle(machine: &mut Machine, talkers: &mut Talkers, end: &mut u8, room: &mut Room)
@@ -93,7 +80,7 @@ fn next_cycle(machine: &mut Machine, talkers: &mut Talkers, end: &mut u8, room: 
 {
     if machine.reclaiming && machine.directory.over_at == machine.cycle + 1 {
         pass_second(machine);
-        put_entry(&machine.devices, machine.cycle, second_over(), room);
+        put_entry(machine, second_over(), room);
         *talkers = machine.devices.talkers();
         *end = machine.streams.end(&machine.devices);
     } else {
@@ -129,7 +116,7 @@ fn put_cycle<F: Fn(u16, u32, u16) -> [u8; 480], H: Fn(u32, u8) -> u8>(
     };
     machine.written += 1;
     let start = cycle_start(root, machine.cycle);
-    put_entry(&machine.devices, machine.cycle, Entry::Async(start), room);
+    put_entry(machine, Entry::Async(start), room);
     // A block is kept for the reel only where a deck records.
     let Some(recording) = recording_on(machine) else {
         return put_packets(machine, talkers, &before, desk, &mut room.cycle, &mut None);
@@ -179,7 +166,7 @@ pub(crate) fn cycles<K: Sink, F: Fn(u16, u32, u16) -> [u8; 480], H: Fn(u32, u8) 
     requires few { machine.old.cycle + count ≤ 2 ^ 52 }
     requires written { 0 < length machine.old.devices.nodes → machine.old.written + count ≤ MOST_WRITTEN_CYCLES }
     ensures does { PerformedWithDesk (record { blocks = F.post desk.now.blocks; vendor = H.post desk.now.vendor }) (λ s. Carries s (Cycles count))
-        machine.old machine.new (K.held sink.old) (K.held sink.new) (K.faults sink.old) (K.faults sink.new) result }
+        machine.old machine.new (sides_of K.held K.faults sink.old sink.new) result }
 {
     let mut talkers = machine.devices.talkers();
     let mut end = machine.streams.end(&machine.devices);

@@ -4,6 +4,7 @@ ghost use Rattle.std.specs.Prelude.{◌<◌, [], ◌∷◌, length, IsTrue};
 ghost use Rattle.fw_devices.specs.Network.{is_node};
 ghost use Rattle.fw_run.specs.Actions.{TieReel};
 ghost use Rattle.fw_carry.specs.Performing.{Performs, Performed};
+ghost use Rattle.fw_machine.specs.Giving.{sides_of};
 ghost use Rattle.fw_machine.specs.Orders.{has_deck_in};
 ghost use Rattle.fw_machine.specs.Stands.{IsReady};
 
@@ -22,15 +23,9 @@ pub(crate) fn dub<K: Sink>(
     requires declared { device < length machine.old.devices.nodes }
     requires deck { IsTrue (has_deck_in machine.old.devices device) }
     requires on { IsTrue (is_node machine.old.devices.nodes device) }
-    ensures does { Performed (Performs (TieReel device ∷ [])) machine.old machine.new (K.held sink.old) (K.held sink.new) (K.faults sink.old) (K.faults sink.new) result }
+    ensures does { Performed (Performs (TieReel device ∷ [])) machine.old machine.new (sides_of K.held K.faults sink.old sink.new) result }
 {
     machine.reel.clear();
     machine.tied = Some(device);
-    give(
-        &machine.devices,
-        machine.cycle,
-        Some(dubbing(device)),
-        room,
-        sink,
-    )
+    give(machine, dubbing(device), room, sink)
 }

@@ -9,6 +9,7 @@ ghost use Rattle.fw_async.specs.declared.packet.Packet.{Packet as AsyncPacket};
 ghost use Rattle.fw_entry.specs.declared.entry.Entry.TheVariants.{Async};
 ghost use Rattle.fw_node.specs.Packets.{packet_of, request_head};
 ghost use Rattle.fw_carry.specs.Exchanging.{GivesBoth, IsCarriedOut, IsOutstanding};
+ghost use Rattle.fw_machine.specs.Giving.{sides_of};
 
 use fw_async::{Packet, PacketRoom, Wire, destination_at};
 use fw_base::Label;
@@ -83,9 +84,8 @@ pub(crate) fn exchange<K: Sink>(
 ) -> Result<(), Failed>
     requires request { Fits request.now }
     requires response { Fits response.now }
-    ensures { GivesBoth (K.held sink.old) (K.held sink.new) (K.faults sink.old) (K.faults sink.new) result machine.now.cycle machine.now.devices.epoch
-        (Async request.now) (Async response.now) }
+    ensures { GivesBoth machine.now (Async request.now) (Async response.now) (sides_of K.held K.faults sink.old sink.new) result }
 {
-    give_async(&machine.devices, machine.cycle, request, packet, sink)?;
-    give_async(&machine.devices, machine.cycle, response, packet, sink)
+    give_async(machine, request, packet, sink)?;
+    give_async(machine, response, packet, sink)
 }

@@ -12,6 +12,7 @@ ghost use Rattle.fw_run.specs.declared.order.Order.TheVariants.{Command};
 ghost use Rattle.fw_tape.specs.Desks.{AnyVendorByte};
 ghost use Rattle.fw_carry.specs.Performing.{Performed};
 ghost use Rattle.fw_carry.specs.Framing.{CarriesWithDesk, Commands, SendsNext, IsQuiet, IsWrite, IsFrameTo, frames_of};
+ghost use Rattle.fw_machine.specs.Giving.{sides_of};
 ghost use Rattle.fw_machine.specs.Stands.{IsReady, is_linked_in, is_living_in};
 
 use crate::exchange::exchange;
@@ -89,7 +90,7 @@ fn write_command<K: Sink, F: Fn(u16, u32, u16) -> [u8; 480], H: Fn(u32, u8) -> u
     requires quiet { IsQuiet machine.old.devices }
     requires few { length bytes.now ≤ 512 }
     ensures does { Performed (Commands (record { blocks = F.post desk.now.blocks; vendor = H.post desk.now.vendor }) from to bytes.now)
-        machine.old machine.new (K.held sink.old) (K.held sink.new) (K.faults sink.old) (K.faults sink.new) result }
+        machine.old machine.new (sides_of K.held K.faults sink.old sink.new) result }
     ensures size { length machine.new.devices.nodes ≡ length machine.old.devices.nodes }
 {
     let request = command_packet(machine, from, to, bytes.as_slice());
@@ -116,7 +117,7 @@ pub(crate) fn command<K: Sink, F: Fn(u16, u32, u16) -> [u8; 480], H: Fn(u32, u8)
     requires quiet { IsQuiet machine.old.devices }
     requires few { length bytes.now ≤ 512 }
     ensures does { Performed (CarriesWithDesk (record { blocks = F.post desk.now.blocks; vendor = H.post desk.now.vendor }) (Command from to bytes.now))
-        machine.old machine.new (K.held sink.old) (K.held sink.new) (K.faults sink.old) (K.faults sink.new) result }
+        machine.old machine.new (sides_of K.held K.faults sink.old sink.new) result }
 {
     write_command(machine, from, to, bytes, desk, room, sink)?;
     send_frames(machine, to, room, sink)
@@ -144,7 +145,7 @@ fn send_frame<K: Sink>(
 ) -> Result<bool, Failed>
     requires ready { IsReady machine.old }
     requires declared { device < length machine.old.devices.nodes }
-    ensures does { Performed (SendsNext device result) machine.old machine.new (K.held sink.old) (K.held sink.new) (K.faults sink.old) (K.faults sink.new) result }
+    ensures does { Performed (SendsNext device result) machine.old machine.new (sides_of K.held K.faults sink.old sink.new) result }
     ensures size { length machine.new.devices.nodes ≡ length machine.old.devices.nodes }
     ensures fewer { IfOk result (λ sent. IsTrue sent
         → frames_of (node_at machine.new.devices.nodes device) < frames_of (node_at machine.old.devices.nodes device)) }
@@ -167,7 +168,7 @@ pub(crate) fn send_frames<K: Sink>(
 ) -> Result<(), Failed>
     requires ready { IsReady machine.old }
     requires declared { device < length machine.old.devices.nodes }
-    ensures does { Performed (SendsAll device) machine.old machine.new (K.held sink.old) (K.held sink.new) (K.faults sink.old) (K.faults sink.new) result }
+    ensures does { Performed (SendsAll device) machine.old machine.new (sides_of K.held K.faults sink.old sink.new) result }
 {
     let mut bytes = Bytes512::new();
     while send_frame(machine, device, &mut bytes, room, sink)? {}

@@ -8,6 +8,7 @@ ghost use Rattle.fw_run.specs.HalfSteps as HalfSteps;
 ghost use Rattle.fw_run.specs.Actions.{Lose};
 ghost use Rattle.fw_carry.specs.Performing.{Performs, Performed, WritesHalf};
 ghost use Rattle.fw_carry.specs.Serving.{Serves};
+ghost use Rattle.fw_machine.specs.Giving.{sides_of};
 ghost use Rattle.fw_machine.specs.Stands.{IsReady, is_living_in};
 ghost use Rattle.fw_machine.specs.Tables.{Listens, dead_of, states_of};
 
@@ -31,7 +32,7 @@ pub(crate) fn turn<K: Sink>(
     requires ready { IsReady machine.old }
     requires living { IsTrue (is_living_in machine.old device) }
     requires hears { IsFalse (states_of machine.old.controllers device).lost }
-    ensures speaks { WritesHalf HalfSteps.half machine.old machine.new device (K.held sink.old) (K.held sink.new) (K.faults sink.old) (K.faults sink.new) result }
+    ensures speaks { WritesHalf HalfSteps.half machine.old machine.new device (sides_of K.held K.faults sink.old sink.new) result }
     ensures living { (d : ℕ) → is_living_in machine.new d ≡ is_living_in machine.old d }
     ensures time { (machine.new.cycle ≡ machine.old.cycle) }
     ensures half_steps { machine.new.half_steps ≡ machine.old.half_steps }
@@ -55,7 +56,7 @@ fn ask<K: Sink>(
     requires ready { IsReady machine.old }
     requires living { IsTrue (is_living_in machine.old device) }
     requires heard { Listens (states_of machine.old.controllers device) }
-    ensures speaks { WritesHalf HalfSteps.half machine.old machine.new device (K.held sink.old) (K.held sink.new) (K.faults sink.old) (K.faults sink.new) result }
+    ensures speaks { WritesHalf HalfSteps.half machine.old machine.new device (sides_of K.held K.faults sink.old sink.new) result }
     ensures same { machine.new ≡ record machine.old { controllers = machine.new.controllers; wire = machine.new.wire } }
     ensures dead { dead_of machine.new.controllers ≡ dead_of machine.old.controllers }
 {
@@ -73,12 +74,11 @@ fn ask<K: Sink>(
                 &mut machine.wire,
                 &mut room.packet,
             );
-            give_packet(&machine.devices, machine.cycle, &mut room.packet, sink)
+            give_packet(machine, &mut room.packet, sink)
         }
         Next::End { slot, outcome } => give(
-            &machine.devices,
-            machine.cycle,
-            Some(outcome_entry(device, slot, outcome)),
+            machine,
+            outcome_entry(device, slot, outcome),
             room,
             sink,
         ),
@@ -97,7 +97,7 @@ pub(crate) fn hear<K: Sink>(
     requires ready { IsReady machine.old }
     requires living { IsTrue (is_living_in machine.old device) }
     requires standing { Awaits (states_of machine.old.controllers device) }
-    ensures speaks { WritesHalf HalfSteps.half machine.old machine.new device (K.held sink.old) (K.held sink.new) (K.faults sink.old) (K.faults sink.new) result }
+    ensures speaks { WritesHalf HalfSteps.half machine.old machine.new device (sides_of K.held K.faults sink.old sink.new) result }
     ensures living { (d : ℕ) → is_living_in machine.new d ≡ is_living_in machine.old d }
     ensures time { (machine.new.cycle ≡ machine.old.cycle) }
     ensures half_steps { machine.new.half_steps ≡ machine.old.half_steps }
@@ -105,7 +105,7 @@ pub(crate) fn hear<K: Sink>(
 {
     let reply = serve_request(machine, device, &mut room.packet);
     machine.controllers.hear(device, &reply);
-    give_packet(&machine.devices, machine.cycle, &mut room.packet, sink)
+    give_packet(machine, &mut room.packet, sink)
 }
 
 /// A request stands: it is carried out, and the response is written. The controller does not hear it, which counts as a bus
@@ -120,13 +120,13 @@ pub(crate) fn lose_response<K: Sink>(
     requires living { IsTrue (is_living_in machine.old device) }
     requires standing { Awaits (states_of machine.old.controllers device) }
     requires few { machine.old.resets < MOST_RESETS }
-    ensures does { Performed (Performs (Lose device ∷ [])) machine.old machine.new (K.held sink.old) (K.held sink.new) (K.faults sink.old) (K.faults sink.new) result }
+    ensures does { Performed (Performs (Lose device ∷ [])) machine.old machine.new (sides_of K.held K.faults sink.old sink.new) result }
     ensures deaf { IsTrue (states_of machine.new.controllers device).lost }
 {
     let _unheard = serve_request(machine, device, &mut room.packet);
     machine.controllers.lose(device);
     machine.resets += 1;
-    give_packet(&machine.devices, machine.cycle, &mut room.packet, sink)
+    give_packet(machine, &mut room.packet, sink)
 }
 
 /// A request stands: the node that it went to carries it out. The reply in the response, whose bytes are in the room then.

@@ -10,6 +10,7 @@ ghost use Rattle.fw_run.specs.Afterwards.{slot_of, start_of};
 ghost use Rattle.fw_run.specs.Carrying.{Carries};
 ghost use Rattle.fw_run.specs.declared.order.Order.TheVariants.{Die, Lose, Start};
 ghost use Rattle.fw_carry.specs.Performing.{Performs, Performed};
+ghost use Rattle.fw_machine.specs.Giving.{sides_of};
 ghost use Rattle.fw_machine.specs.Stands.{IsReady, is_linked_in, is_living_in};
 ghost use Rattle.fw_machine.specs.Tables.{states_of};
 
@@ -30,7 +31,7 @@ pub(crate) fn connect<K: Sink>(
     requires living { IsTrue (is_living_in machine.old device) }
     requires slot { SlotFits (slot_of wanted.now) }
     requires accepted { IsOk (start_of device wanted.now (states_of machine.old.controllers device).state) }
-    ensures does { Performed (Performs (StartConnection device wanted.now ∷ [])) machine.old machine.new (K.held sink.old) (K.held sink.new) (K.faults sink.old) (K.faults sink.new) result }
+    ensures does { Performed (Performs (StartConnection device wanted.now ∷ [])) machine.old machine.new (sides_of K.held K.faults sink.old sink.new) result }
 {
     machine.controllers.connect(device, wanted);
     Ok(())
@@ -46,7 +47,7 @@ pub(crate) fn break_connection<K: Sink>(
     requires ready { IsReady machine.old }
     requires living { IsTrue (is_living_in machine.old device) }
     requires accepted { break_fault (states_of machine.old.controllers device).state slot ≡ None }
-    ensures does { Performed (Performs (StartBreak device slot ∷ [])) machine.old machine.new (K.held sink.old) (K.held sink.new) (K.faults sink.old) (K.faults sink.new) result }
+    ensures does { Performed (Performs (StartBreak device slot ∷ [])) machine.old machine.new (sides_of K.held K.faults sink.old sink.new) result }
 {
     machine.controllers.break_connection(device, slot);
     Ok(())
@@ -62,7 +63,7 @@ fn carry_request<K: Sink>(
     requires ready { IsReady machine.old }
     requires living { IsTrue (is_living_in machine.old device) }
     requires standing { Awaits (states_of machine.old.controllers device) }
-    ensures does { Performed (Performs (CarryOut device ∷ [])) machine.old machine.new (K.held sink.old) (K.held sink.new) (K.faults sink.old) (K.faults sink.new) result }
+    ensures does { Performed (Performs (CarryOut device ∷ [])) machine.old machine.new (sides_of K.held K.faults sink.old sink.new) result }
     ensures living { IsTrue (is_living_in machine.new device) }
 {
     hear(machine, device, room, sink)
@@ -79,16 +80,10 @@ pub(crate) fn lose<K: Sink>(
     requires living { IsTrue (is_living_in machine.old device) }
     requires standing { Awaits (states_of machine.old.controllers device) }
     requires few { machine.old.resets < MOST_RESETS }
-    ensures does { Performed (λ s. Carries s (Lose device)) machine.old machine.new (K.held sink.old) (K.held sink.new) (K.faults sink.old) (K.faults sink.new) result }
+    ensures does { Performed (λ s. Carries s (Lose device)) machine.old machine.new (sides_of K.held K.faults sink.old sink.new) result }
 {
     lose_response(machine, device, room, sink)?;
-    give(
-        &machine.devices,
-        machine.cycle,
-        Some(lost(device)),
-        room,
-        sink,
-    )
+    give(machine, lost(device), room, sink)
 }
 
 /// A device's controller stops.
@@ -100,20 +95,14 @@ fn stop<K: Sink>(
 ) -> Result<(), Failed>
     requires ready { IsReady machine.old }
     requires living { IsTrue (is_living_in machine.old device) }
-    ensures { Performed (Performs (Dies device ∷ [])) machine.old machine.new (K.held sink.old) (K.held sink.new) (K.faults sink.old) (K.faults sink.new) result }
+    ensures { Performed (Performs (Dies device ∷ [])) machine.old machine.new (sides_of K.held K.faults sink.old sink.new) result }
 {
     machine.controllers.die(device);
     let own = machine.number(device);
     machine.wire.remove(own);
     machine.bids.remove(own);
     machine.candidates.leave(device);
-    give(
-        &machine.devices,
-        machine.cycle,
-        Some(died(device)),
-        room,
-        sink,
-    )
+    give(machine, died(device), room, sink)
 }
 
 /// The request that stands of a device's controller is carried out, and then the controller stops.
@@ -126,7 +115,7 @@ fn stop_late<K: Sink>(
     requires ready { IsReady machine.old }
     requires living { IsTrue (is_living_in machine.old device) }
     requires standing { Awaits (states_of machine.old.controllers device) }
-    ensures { Performed (λ s. Carries s (Die device true)) machine.old machine.new (K.held sink.old) (K.held sink.new) (K.faults sink.old) (K.faults sink.new) result }
+    ensures { Performed (λ s. Carries s (Die device true)) machine.old machine.new (sides_of K.held K.faults sink.old sink.new) result }
 {
     carry_request(machine, device, room, sink)?;
     stop(machine, device, room, sink)
@@ -142,7 +131,7 @@ pub(crate) fn die<K: Sink>(
 ) -> Result<(), Failed>
     requires ready { IsReady machine.old }
     requires living { IsTrue (is_living_in machine.old device) }
-    ensures does { Performed (λ s. Carries s (Die device late)) machine.old machine.new (K.held sink.old) (K.held sink.new) (K.faults sink.old) (K.faults sink.new) result }
+    ensures does { Performed (λ s. Carries s (Die device late)) machine.old machine.new (sides_of K.held K.faults sink.old sink.new) result }
 {
     if late && machine.controllers.get(device).has_request() {
         stop_late(machine, device, room, sink)
@@ -160,17 +149,11 @@ pub(crate) fn start<K: Sink>(
 ) -> Result<(), Failed>
     requires ready { IsReady machine.old }
     requires linked { IsTrue (is_linked_in machine.old.devices device) }
-    ensures does { Performed (λ s. Carries s (Start device)) machine.old machine.new (K.held sink.old) (K.held sink.new) (K.faults sink.old) (K.faults sink.new) result }
+    ensures does { Performed (λ s. Carries s (Start device)) machine.old machine.new (sides_of K.held K.faults sink.old sink.new) result }
 {
     if !machine.controllers.is_dead(device) {
         return Ok(());
     }
     machine.controllers.start(device);
-    give(
-        &machine.devices,
-        machine.cycle,
-        Some(started(device)),
-        room,
-        sink,
-    )
+    give(machine, started(device), room, sink)
 }

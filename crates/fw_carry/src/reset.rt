@@ -6,6 +6,7 @@ ghost use Rattle.fw_run.specs.Actions.{AddDevice, AddCable, ResetBus};
 ghost use Rattle.fw_run.specs.Carrying.{Carries};
 ghost use Rattle.fw_run.specs.declared.order.Order.TheVariants.{Withhold};
 ghost use Rattle.fw_carry.specs.Performing.{Performs, Performed};
+ghost use Rattle.fw_machine.specs.Giving.{sides_of};
 ghost use Rattle.fw_machine.specs.Orders.{CanJoin, joins_in};
 ghost use Rattle.fw_carry.specs.Resetting.{BeginsReset, GivesReset, directory_in};
 ghost use Rattle.fw_machine.specs.Stands.{IsReady};
@@ -74,16 +75,10 @@ pub(crate) fn give_reset<K: Sink>(
     requires on { IsOnBus machine.old.devices.topology.cables initiator }
     requires few { machine.old.devices.epoch < MOST_RESETS }
     requires cycle { machine.old.cycle ≤ 2 ^ 52 }
-    ensures { GivesReset machine.old machine.new initiator (K.held sink.old) (K.held sink.new) (K.faults sink.old) (K.faults sink.new) result }
+    ensures { GivesReset machine.old machine.new initiator (sides_of K.held K.faults sink.old sink.new) result }
 {
     begin_reset(machine, initiator);
-    give(
-        &machine.devices,
-        machine.cycle,
-        Some(Entry::Reset(machine.devices.latest())),
-        room,
-        sink,
-    )
+    give(machine, Entry::Reset(machine.devices.latest()), room, sink)
 }
 
 /// A bus reset that a device on the bus begins.
@@ -96,7 +91,7 @@ pub(crate) fn reset<K: Sink>(
     requires ready { IsReady machine.old }
     requires on { IsTrue (is_node machine.old.devices.nodes device) }
     requires few { machine.old.resets < MOST_RESETS }
-    ensures does { Performed (Performs (ResetBus device ∷ [])) machine.old machine.new (K.held sink.old) (K.held sink.new) (K.faults sink.old) (K.faults sink.new) result }
+    ensures does { Performed (Performs (ResetBus device ∷ [])) machine.old machine.new (sides_of K.held K.faults sink.old sink.new) result }
 {
     machine.resets += 1;
     give_reset(machine, device, room, sink)
@@ -110,19 +105,13 @@ pub(crate) fn withhold<K: Sink>(
 ) -> Result<(), Failed>
     requires ready { IsReady machine.old }
     requires first { machine.old.devices.names ≡ [] }
-    ensures does { Performed (λ s. Carries s Withhold) machine.old machine.new (K.held sink.old) (K.held sink.new) (K.faults sink.old) (K.faults sink.new) result }
+    ensures does { Performed (λ s. Carries s Withhold) machine.old machine.new (sides_of K.held K.faults sink.old sink.new) result }
 {
     if machine.devices.withholds() {
         return Ok(());
     }
     machine.devices.withhold();
-    give(
-        &machine.devices,
-        machine.cycle,
-        Some(withheld()),
-        room,
-        sink,
-    )
+    give(machine, withheld(), room, sink)
 }
 
 /// A device more. The first begins the first bus reset; each other is off.
@@ -140,7 +129,7 @@ pub(crate) fn declare<K: Sink>(
     requires some { 1 ≤ ports }
     requires most { ports ≤ 27 }
     requires speed { speed ≤ 2 }
-    ensures does { Performed (Performs (AddDevice name.now kind ports speed ∷ [])) machine.old machine.new (K.held sink.old) (K.held sink.new) (K.faults sink.old) (K.faults sink.new) result }
+    ensures does { Performed (Performs (AddDevice name.now kind ports speed ∷ [])) machine.old machine.new (sides_of K.held K.faults sink.old sink.new) result }
 {
     let is_first = machine.devices.count() == 0;
     machine.devices.add(name, kind, ports, speed);
@@ -165,7 +154,7 @@ pub(crate) fn join<K: Sink>(
     requires ready { IsReady machine.old }
     requires free { CanJoin machine.old.devices.topology a b }
     requires few { IsFalse (joins_in machine.old a b && nat_le MOST_RESETS machine.old.resets) }
-    ensures does { Performed (Performs (AddCable a b ∷ [])) machine.old machine.new (K.held sink.old) (K.held sink.new) (K.faults sink.old) (K.faults sink.new) result }
+    ensures does { Performed (Performs (AddCable a b ∷ [])) machine.old machine.new (sides_of K.held K.faults sink.old sink.new) result }
 {
     let first_is_on = machine.is_on(a.device);
     let second_is_on = machine.is_on(b.device);

@@ -7,6 +7,7 @@ ghost use Rattle.fw_run.specs.Good.{IsGood};
 ghost use Rattle.fw_run.specs.HalfSteps.{is_unsettled};
 ghost use Rattle.fw_run.specs.State.{State};
 ghost use Rattle.fw_carry.specs.Performing.{Performed, OneRound, SomeRounds};
+ghost use Rattle.fw_machine.specs.Giving.{sides_of};
 ghost use Rattle.fw_machine.specs.Stands.{EndsAt, IsReady, StandsFor, is_living_in, living_in};
 ghost use Rattle.fw_machine.specs.Tables.{states_of};
 
@@ -68,7 +69,7 @@ fn round<K: Sink>(
     requires within { end ≤ length machine.old.devices.names }
     requires ends { EndsAt machine.old end }
     requires few { machine.old.half_steps + length (living_in machine.old) ≤ MOST_HALF_STEPS }
-    ensures does { Performed OneRound machine.old machine.new (K.held sink.old) (K.held sink.new) (K.faults sink.old) (K.faults sink.new) result }
+    ensures does { Performed OneRound machine.old machine.new (sides_of K.held K.faults sink.old sink.new) result }
     ensures living { (d : ℕ) → is_living_in machine.new d ≡ is_living_in machine.old d }
     ensures names { machine.new.devices.names ≡ machine.old.devices.names }
     ensures count { IfOk result (λ _. machine.new.half_steps ≡ machine.old.half_steps + length (living_in machine.old)) }
@@ -121,7 +122,7 @@ pub(crate) fn rounds<K: Sink>(
 ) -> Result<(), Failed>
     requires ready { IsReady machine.old }
     requires few { machine.old.half_steps + count * length (living_in machine.old) ≤ MOST_HALF_STEPS }
-    ensures does { Performed (SomeRounds count) machine.old machine.new (K.held sink.old) (K.held sink.new) (K.faults sink.old) (K.faults sink.new) result }
+    ensures does { Performed (SomeRounds count) machine.old machine.new (sides_of K.held K.faults sink.old sink.new) result }
 {
     let mut living = [false; 63];
     let each = machine.mark_living(&mut living);

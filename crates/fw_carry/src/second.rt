@@ -6,6 +6,7 @@ ghost use Rattle.fw_run.specs.Carrying.{Carries};
 ghost use Rattle.fw_run.specs.declared.order.Order.TheVariants.{Wait};
 ghost use Rattle.fw_carry.specs.Performing.{Performs, Performed};
 ghost use Rattle.fw_carry.specs.Resetting.{RestsAfterSecond, passed_in};
+ghost use Rattle.fw_machine.specs.Giving.{sides_of};
 ghost use Rattle.fw_machine.specs.Stands.{IsReady};
 ghost use Rattle.fw_machine.specs.Streaming.{AreStillFrom, counted_on};
 
@@ -54,17 +55,11 @@ fn end_second<K: Sink>(machine: &mut Machine, room: &mut Room, sink: &mut K) -> 
     requires runs { IsTrue machine.old.reclaiming }
     requires now { machine.old.cycle + 1 ≡ machine.old.directory.over_at }
     requires few { machine.old.cycle + 1 ≤ 2 ^ 52 }
-    ensures does { Performed (Performs (EndSecond ∷ [])) machine.old machine.new (K.held sink.old) (K.held sink.new) (K.faults sink.old) (K.faults sink.new) result }
+    ensures does { Performed (Performs (EndSecond ∷ [])) machine.old machine.new (sides_of K.held K.faults sink.old sink.new) result }
     ensures rests { RestsAfterSecond machine.old machine.new }
 {
     pass_second(machine);
-    give(
-        &machine.devices,
-        machine.cycle,
-        Some(second_over()),
-        room,
-        sink,
-    )
+    give(machine, second_over(), room, sink)
 }
 
 /// Cycles go by unwritten. Where the second of the latest bus reset is over on the way, that is written at its own cycle.
@@ -76,7 +71,7 @@ pub(crate) fn wait<K: Sink>(
 ) -> Result<(), Failed>
     requires ready { IsReady machine.old }
     requires few { machine.old.cycle + cycles ≤ 2 ^ 52 }
-    ensures does { Performed (λ s. Carries s (Wait cycles)) machine.old machine.new (K.held sink.old) (K.held sink.new) (K.faults sink.old) (K.faults sink.new) result }
+    ensures does { Performed (λ s. Carries s (Wait cycles)) machine.old machine.new (sides_of K.held K.faults sink.old sink.new) result }
 {
     let last = machine.cycle + u64::from(cycles);
     if machine.reclaiming && machine.directory.over_at <= last {
@@ -98,7 +93,7 @@ fn wait_over<K: Sink>(
     requires runs { IsTrue machine.old.reclaiming }
     requires over { machine.old.directory.over_at ≤ last }
     requires few { last ≤ 2 ^ 52 }
-    ensures does { Performed (λ s. Carries s (Wait (last - machine.old.cycle))) machine.old machine.new (K.held sink.old) (K.held sink.new) (K.faults sink.old) (K.faults sink.new) result }
+    ensures does { Performed (λ s. Carries s (Wait (last - machine.old.cycle))) machine.old machine.new (sides_of K.held K.faults sink.old sink.new) result }
 {
     pass(machine, machine.directory.over_at - 1 - machine.cycle);
     end_second(machine, room, sink)?;

@@ -6,6 +6,7 @@ ghost use Rattle.fw_run.specs.Actions.{HalfStep};
 ghost use Rattle.fw_run.specs.Carrying.{times, Carries};
 ghost use Rattle.fw_run.specs.declared.order.Order.TheVariants.{Settle};
 ghost use Rattle.fw_carry.specs.Performing.{Performs, Performed, TellsUnsettled};
+ghost use Rattle.fw_machine.specs.Giving.{sides_of};
 ghost use Rattle.fw_machine.specs.Stands.{IsReady, is_living_in, living_in};
 ghost use Rattle.fw_machine.specs.Tables.{states_of};
 
@@ -28,7 +29,7 @@ pub(crate) fn half_step<K: Sink>(
     requires ready { IsReady machine.old }
     requires living { IsTrue (is_living_in machine.old device) }
     requires few { machine.old.half_steps < MOST_HALF_STEPS }
-    ensures does { Performed (Performs (HalfStep device ∷ [])) machine.old machine.new (K.held sink.old) (K.held sink.new) (K.faults sink.old) (K.faults sink.new) result }
+    ensures does { Performed (Performs (HalfStep device ∷ [])) machine.old machine.new (sides_of K.held K.faults sink.old sink.new) result }
     ensures living { (d : ℕ) → is_living_in machine.new d ≡ is_living_in machine.old d }
     ensures names { machine.new.devices.names ≡ machine.old.devices.names }
     ensures count { machine.new.half_steps ≡ machine.old.half_steps + 1 }
@@ -56,7 +57,7 @@ fn deaf_step<K: Sink>(
     requires living { IsTrue (is_living_in machine.old device) }
     requires deaf { IsTrue (states_of machine.old.controllers device).lost }
     requires few { machine.old.half_steps < MOST_HALF_STEPS }
-    ensures does { Performed (Performs (HalfStep device ∷ [])) machine.old machine.new (K.held sink.old) (K.held sink.new) (K.faults sink.old) (K.faults sink.new) result }
+    ensures does { Performed (Performs (HalfStep device ∷ [])) machine.old machine.new (sides_of K.held K.faults sink.old sink.new) result }
     ensures living { (d : ℕ) → is_living_in machine.new d ≡ is_living_in machine.old d }
     ensures names { machine.new.devices.names ≡ machine.old.devices.names }
     ensures count { machine.new.half_steps ≡ machine.old.half_steps + 1 }
@@ -84,7 +85,7 @@ pub(crate) fn steps<K: Sink>(
     requires ready { IsReady machine.old }
     requires living { IsTrue (is_living_in machine.old device) }
     requires few { machine.old.half_steps + count ≤ MOST_HALF_STEPS }
-    ensures does { Performed (Performs (times count (HalfStep device))) machine.old machine.new (K.held sink.old) (K.held sink.new) (K.faults sink.old) (K.faults sink.new) result }
+    ensures does { Performed (Performs (times count (HalfStep device))) machine.old machine.new (sides_of K.held K.faults sink.old sink.new) result }
 {
     for i in 0..count {
         half_step(machine, device, room, sink)?;
@@ -99,16 +100,10 @@ fn tell_unsettled<K: Sink>(
     sink: &mut K,
 ) -> Result<(), Failed>
     requires ready { IsReady machine.old }
-    ensures does { Performed TellsUnsettled machine.old machine.new (K.held sink.old) (K.held sink.new) (K.faults sink.old) (K.faults sink.new) result }
+    ensures does { Performed TellsUnsettled machine.old machine.new (sides_of K.held K.faults sink.old sink.new) result }
 {
     if machine.is_unsettled() {
-        give(
-            &machine.devices,
-            machine.cycle,
-            Some(unsettled()),
-            room,
-            sink,
-        )
+        give(machine, unsettled(), room, sink)
     } else {
         Ok(())
     }
@@ -123,7 +118,7 @@ pub(crate) fn settle<K: Sink>(
 ) -> Result<(), Failed>
     requires ready { IsReady machine.old }
     requires few { machine.old.half_steps + count * length (living_in machine.old) ≤ MOST_HALF_STEPS }
-    ensures does { Performed (λ s. Carries s (Settle count)) machine.old machine.new (K.held sink.old) (K.held sink.new) (K.faults sink.old) (K.faults sink.new) result }
+    ensures does { Performed (λ s. Carries s (Settle count)) machine.old machine.new (sides_of K.held K.faults sink.old sink.new) result }
 {
     rounds(machine, count, room, sink)?;
     tell_unsettled(machine, room, sink)

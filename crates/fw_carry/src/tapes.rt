@@ -4,6 +4,7 @@ ghost use Rattle.std.specs.Prelude.{◌<◌, IsTrue, length};
 ghost use Rattle.fw_run.specs.Carrying.{Carries};
 ghost use Rattle.fw_run.specs.declared.order.Order.TheVariants.{Insert, Eject};
 ghost use Rattle.fw_carry.specs.Performing.{Performed};
+ghost use Rattle.fw_machine.specs.Giving.{sides_of};
 ghost use Rattle.fw_machine.specs.Orders.{has_deck_in};
 ghost use Rattle.fw_machine.specs.Stands.{IsReady};
 
@@ -25,16 +26,10 @@ pub(crate) fn insert<K: Sink>(
     requires ready { IsReady machine.old }
     requires declared { device < length machine.old.devices.nodes }
     requires deck { IsTrue (has_deck_in machine.old.devices device) }
-    ensures does { Performed (λ s. Carries s (Insert device tape system)) machine.old machine.new (K.held sink.old) (K.held sink.new) (K.faults sink.old) (K.faults sink.new) result }
+    ensures does { Performed (λ s. Carries s (Insert device tape system)) machine.old machine.new (sides_of K.held K.faults sink.old sink.new) result }
 {
     machine.devices.insert(device, tape, system);
-    give(
-        &machine.devices,
-        machine.cycle,
-        Some(inserted(device, tape, system)),
-        room,
-        sink,
-    )?;
+    give(machine, inserted(device, tape, system), room, sink)?;
     send_frames(machine, device, room, sink)
 }
 
@@ -48,17 +43,11 @@ pub(crate) fn eject<K: Sink>(
     requires ready { IsReady machine.old }
     requires declared { device < length machine.old.devices.nodes }
     requires deck { IsTrue (has_deck_in machine.old.devices device) }
-    ensures does { Performed (λ s. Carries s (Eject device)) machine.old machine.new (K.held sink.old) (K.held sink.new) (K.faults sink.old) (K.faults sink.new) result }
+    ensures does { Performed (λ s. Carries s (Eject device)) machine.old machine.new (sides_of K.held K.faults sink.old sink.new) result }
 {
     if !machine.devices.eject(device) {
         return Ok(());
     }
-    give(
-        &machine.devices,
-        machine.cycle,
-        Some(ejected(device)),
-        room,
-        sink,
-    )?;
+    give(machine, ejected(device), room, sink)?;
     send_frames(machine, device, room, sink)
 }

@@ -7,6 +7,7 @@ ghost use Rattle.fw_async.specs.Async.{Fits};
 ghost use Rattle.fw_node.specs.Packets.{request_in, RequestFits};
 ghost use Rattle.fw_devices.specs.Network.{is_node};
 ghost use Rattle.fw_carry.specs.Performing.{Performs, Performed};
+ghost use Rattle.fw_machine.specs.Giving.{sides_of};
 ghost use Rattle.fw_machine.specs.Orders.{is_guarded_by};
 ghost use Rattle.fw_carry.specs.Transacting.{IsRequest};
 ghost use Rattle.fw_machine.specs.Stands.{IsReady, is_linked_in, is_living_in, read_in};
@@ -71,7 +72,7 @@ pub(crate) fn transact<K: Sink>(
     requires to { IsTrue (is_linked_in machine.old.devices transaction.to) }
     requires free { IsFalse (is_guarded_by machine.old.candidates.begun transaction.access) }
     requires access { AccessFits transaction.access }
-    ensures does { Performed (Performs (Ask transaction ∷ Answer ∷ [])) machine.old machine.new (K.held sink.old) (K.held sink.new) (K.faults sink.old) (K.faults sink.new) result }
+    ensures does { Performed (Performs (Ask transaction ∷ Answer ∷ [])) machine.old machine.new (sides_of K.held K.faults sink.old sink.new) result }
 {
     let request = transaction_packet(machine, transaction);
     let response = machine
@@ -92,9 +93,9 @@ pub(crate) fn show<K: Sink>(
     requires linked { IsTrue (is_linked_in machine.old.devices device) }
     requires offset { offset < 2 ^ 12 }
     requires complete { (read_in machine.old device offset).rcode ≡ 0 }
-    ensures does { Performed (Performs (ShowWord device offset ∷ [])) machine.old machine.new (K.held sink.old) (K.held sink.new) (K.faults sink.old) (K.faults sink.new) result }
+    ensures does { Performed (Performs (ShowWord device offset ∷ [])) machine.old machine.new (sides_of K.held K.faults sink.old sink.new) result }
 {
     let reply = machine.read(device, offset);
     let entry = shown_entry(device, offset, reply.value);
-    give(&machine.devices, machine.cycle, Some(entry), room, sink)
+    give(machine, entry, room, sink)
 }

@@ -1,4 +1,5 @@
 pub mod Faults
+pub mod Giving
 pub mod Tables
 pub mod Wires
 pub mod Lingering

@@ -1,67 +1,80 @@
-ghost use Rattle.std.specs.Prelude.{◌<◌, IfSome, Some};
+//! Entries of a machine's cycle, which go to a sink or into a room.
+
+ghost use Rattle.std.specs.Prelude.{◌≡◌, ◌≤◌, ◌+◌, length};
 ghost use Rattle.fw_async.specs.Async.{Fits as PacketFits};
 ghost use Rattle.fw_async.specs.Reader.{IsPacket, Spells};
 ghost use Rattle.fw_async.specs.declared.packet.Packet.{Packet};
 ghost use Rattle.fw_entry.specs.declared.entry.Entry.TheVariants.{Async};
-ghost use Rattle.fw_machine.specs.Faults.{CountsFaults};
-ghost use Rattle.fw_entry.specs.Log.{Fits};
-ghost use Rattle.fw_run.specs.Giving.{GivesEntry};
+ghost use Rattle.fw_entry.specs.Log.{Fits, epoch_after};
+ghost use Rattle.fw_machine.specs.Giving.{Gives, in_room, never_fails, sides_of};
+ghost use Rattle.fw_run.specs.Giving.{at_cycle};
 
+use crate::machine::Machine;
 use crate::room::Room;
 use fw_async::PacketRoom;
-use fw_devices::Devices;
 use fw_entry::{Entry, Timed, Version, epoch_after, write_async, write_entry};
 use fw_outside::{Failed, Sink};
 
-/// Writes an entry of this cycle, where there is one, with the epoch of the latest bus reset.
+/// An entry with the cycle of the machine, and the epoch of the latest bus reset up to and including it.
+#[inline(always)]
+fn timed<'a>(machine: &Machine, what: Entry<'a>) -> (u32, Timed<'a>)
+    ensures epoch { result.0 ≡ epoch_after machine.now.devices.epoch what.entry }
+    ensures latest { result.0 ≡ epoch_after result.0 what.entry }
+    ensures entry { result.1 ≡ at_cycle machine.now.cycle what.entry }
+{
+    let epoch = epoch_after(machine.devices.epoch(), &what);
+    let cycle = machine.cycle;
+    (epoch, Timed { cycle, what })
+}
+
+/// Writes an entry of this cycle, with the epoch of the latest bus reset.
 pub fn give<K: Sink>(
-    devices: &Devices,
-    cycle: u64,
-    what: Option<Entry<'_>>,
+    machine: &Machine,
+    what: Entry<'_>,
     room: &mut Room,
     sink: &mut K,
 ) -> Result<(), Failed>
-    requires { IfSome what Fits }
-    ensures bytes { GivesEntry (K.held sink.old) (K.held sink.new) result cycle devices.now.epoch what.entry }
-    ensures faults { CountsFaults (K.faults sink.old) (K.faults sink.new) result }
+    requires { Fits what }
+    ensures { Gives machine.now what.entry (sides_of K.held K.faults sink.old sink.new) result }
 {
-    match what {
-        Some(what) => {
-            let epoch = epoch_after(devices.epoch(), &what);
-            let entry = Timed { cycle, what };
-            write_entry(Version::Two, epoch, &entry, &mut room.entry, sink)
-        }
-        None => Ok(()),
-    }
+    let (epoch, entry) = timed(machine, what);
+    write_entry(Version::Two, epoch, &entry, &mut room.entry, sink)
+}
+
+/// Puts an entry of this cycle into the room of cycles, behind those that it holds.
+pub fn put_entry(machine: &Machine, what: Entry<'_>, room: &mut Room)
+    requires fits { Fits what }
+    requires room { length room.old.cycle + 2292 ≤ 102632 }
+    ensures gives { Gives machine.now what.entry (in_room room.old.cycle room.new.cycle) never_fails }
+    ensures size { length room.new.cycle ≤ length room.old.cycle + 2292 }
+{
+    let (epoch, entry) = timed(machine, what);
+    room.cycle.put_entry(epoch, &entry, &mut room.entry);
 }
 
 /// Writes the entry of a packet of this cycle, which is in the room.
 #[inline(always)]
 pub fn give_packet<K: Sink>(
-    devices: &Devices,
-    cycle: u64,
+    machine: &Machine,
     packet: &mut PacketRoom,
     sink: &mut K,
 ) -> Result<(), Failed>
     requires { IsPacket packet.old }
-    ensures bytes { (p : Packet) → Spells p packet.old → GivesEntry (K.held sink.old) (K.held sink.new) result cycle devices.now.epoch (Some (Async p)) }
-    ensures faults { CountsFaults (K.faults sink.old) (K.faults sink.new) result }
+    ensures { (p : Packet) → Spells p packet.old → Gives machine.now (Async p) (sides_of K.held K.faults sink.old sink.new) result }
 {
-    write_async(devices.epoch(), cycle, packet, sink)
+    write_async(machine.devices.epoch(), machine.cycle, packet, sink)
 }
 
 /// Writes the entry of a packet of this cycle, which is put together in the room.
 pub fn give_async<K: Sink>(
-    devices: &Devices,
-    cycle: u64,
+    machine: &Machine,
     packet: &fw_async::Packet,
     room: &mut PacketRoom,
     sink: &mut K,
 ) -> Result<(), Failed>
     requires { PacketFits packet.now }
-    ensures bytes { GivesEntry (K.held sink.old) (K.held sink.new) result cycle devices.now.epoch (Some (Async packet.now)) }
-    ensures faults { CountsFaults (K.faults sink.old) (K.faults sink.new) result }
+    ensures { Gives machine.now (Async packet.now) (sides_of K.held K.faults sink.old sink.new) result }
 {
     room.put(packet);
-    give_packet(devices, cycle, room, sink)
+    give_packet(machine, room, sink)
 }

@@ -16,7 +16,7 @@ mod streams;
 
 pub use candidates::Candidates;
 pub use controllers::Controllers;
-pub use giving::{give, give_async, give_packet};
+pub use giving::{give, give_async, give_packet, put_entry};
 pub use machine::{Machine, SECOND};
 pub use recording::{Recording, hear_block, keep, recording_on};
 pub use room::Room;

@@ -3,6 +3,7 @@ use Rattle.fw_outside.specs.declared.failed.Failed.{Failed}
 use Rattle.fw_run.specs.Actions.{Contend}
 use Rattle.fw_run.specs.Carrying.{times}
 use Rattle.fw_machine.specs.Candidates.{candidate_in}
+use Rattle.fw_machine.specs.Giving.{sides_of}
 use Rattle.fw_carry.specs.Performing.{Performs, Performed}
 use Rattle.fw_carry.proofs.bids.contend.Given as goal
 
@@ -10,5 +11,5 @@ abbrev pub invariant-loop-i : goal.invariant-loop-i
 invariant-loop-i g l = record {
   count : l.machine.half_steps ≡ l.fn.machine.half_steps + l.i;
   candidate : IsTrue (is_some (candidate_in l.machine.candidates l.fn.device));
-  does : Performed {E = Failed} (Performs (times l.i (Contend l.fn.device))) l.fn.machine l.machine (g.K.Sink.held l.fn.sink) (g.K.Sink.held l.sink) (g.K.Sink.faults l.fn.sink) (g.K.Sink.faults l.sink) (Ok (tt {0}));
+  does : Performed {E = Failed} (Performs (times l.i (Contend l.fn.device))) l.fn.machine l.machine (sides_of g.K.Sink.held g.K.Sink.faults l.fn.sink l.sink) (Ok (tt {0}));
 }

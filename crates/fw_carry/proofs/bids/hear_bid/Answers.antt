@@ -76,6 +76,6 @@ returns-clause-takes g c =
     record {
       entry = Some (Async found.packet);
       turns = subst (λ w. TakesAction (Contend d) m (record m { half_steps = m.half_steps + 1; devices = c.serve-manager.new.devices; candidates = c.hear.new.self; bids = w }) m.cycle (Some (Async found.packet))) (sym served.rest) turns;
-      gives = c.give_packet.ensures.bytes found.packet found.spells;
-      faults = c.give_packet.ensures.faults;
+      gives = (c.give_packet.ensures found.packet found.spells).bytes;
+      faults = (c.give_packet.ensures found.packet found.spells).faults;
     }

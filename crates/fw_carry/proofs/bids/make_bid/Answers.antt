@@ -60,8 +60,8 @@ returns-in-Send-clause-takes g c =
       entry = Some (Async p);
       turns = asks_turns m c.next.new.self c.send.new.wire c.args.device c.args.manager own c.number-to.result c.next.result (Some (Async p)) c.requires.rests c.number-own.ensures.value c.number-to.ensures.value nexts
           (sym (ap (said_of c.args.device own) c.in-Send.is)) (c.send.ensures.wire ∙ sym (ap (put_by m.bids own) c.in-Send.is));
-      gives = c.give_packet.ensures.bytes p c.send.ensures.packet;
-      faults = c.give_packet.ensures.faults;
+      gives = (c.give_packet.ensures p c.send.ensures.packet).bytes;
+      faults = (c.give_packet.ensures p c.send.ensures.packet).faults;
     }
 
 -- ---- the bid has ended

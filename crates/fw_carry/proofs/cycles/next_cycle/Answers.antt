@@ -1,7 +1,6 @@
 use Rattle.std.proofs.Common.{◌≡◌, ◌+◌, true, false, ap, sym, ◌∙◌, arith}
 use Rattle.fw_machine.specs.declared.machine.Machine.{Machine}
 use Rattle.fw_carry.proofs.CycleTurns.{comes_over, comes_alone}
-use Rattle.fw_carry.proofs.Doings.{no_faults}
 use Rattle.fw_carry.proofs.Packets.{talkers_pass}
 use Rattle.fw_carry.proofs.SecondTurns.{second_given}
 use Rattle.fw_carry.proofs.cycles.next_cycle.Goals as goal
@@ -12,7 +11,7 @@ returns-then-machine-2 c = record {
   talkers = c.talkers.ensures;
   still = c.end.ensures;
   fills = comes_over c.if-machine.true (sym c.if-machine-2.true)
-      (second_given _ _ _ c.if-machine.true (sym c.if-machine-2.true) c.requires.few c.pass_second.ensures (rw c.second_over.ensures.value at c.put_entry.ensures.gives) (no_faults 0 (tt {0})));
+      (second_given _ _ _ c.if-machine.true (sym c.if-machine-2.true) c.requires.few c.pass_second.ensures (rw c.second_over.ensures.value at c.put_entry.ensures.gives));
   size = c.put_entry.ensures.size;
 }
 

@@ -70,8 +70,8 @@ returns-in-Send g c =
       speaks = record {
         entry = Some (Async p);
         takes = subst (λ (w : Pairs). TakesHalf half m (record m { controllers = c.next.new.self; wire = w }) c.args.device (Some (Async p))) (sym c.send.ensures.wire) (sends_takes x);
-        gives = c.give_packet.ensures.bytes p c.send.ensures.packet;
-        faults = c.give_packet.ensures.faults;
+        gives = (c.give_packet.ensures p c.send.ensures.packet).bytes;
+        faults = (c.give_packet.ensures p c.send.ensures.packet).faults;
       };
       same = refl;
       dead = c.next.ensures.state.dead_are;

@@ -26,8 +26,8 @@ returns g c =
       speaks = record {
         entry = Some (Async s.response);
         takes = takes;
-        gives = c.give_packet.ensures.bytes s.response s.spells;
-        faults = c.give_packet.ensures.faults;
+        gives = (c.give_packet.ensures s.response s.spells).bytes;
+        faults = (c.give_packet.ensures s.response s.spells).faults;
       };
       living = living_stays m _ c.args.device (Some (Async s.response)) c.requires.ready c.requires.living c.requires.standing.0 takes;
       time = ap (λ (z : Machine). z.cycle) s.after;

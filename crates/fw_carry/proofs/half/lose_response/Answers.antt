@@ -1,7 +1,5 @@
-use Rattle.std.proofs.Common.{Some}
-use Rattle.fw_entry.specs.declared.entry.Entry.TheVariants.{Async}
 use Rattle.fw_machine.specs.declared.machine.Machine.{Machine}
-use Rattle.fw_carry.proofs.Doings.{does_one}
+use Rattle.fw_carry.proofs.Doings.{does_given}
 use Rattle.fw_carry.proofs.Losing.{served_loses, served_unheard}
 use Rattle.fw_carry.proofs.Served.{served_within, served_awaits}
 use Rattle.fw_carry.proofs.half.lose_response.Goals as goal
@@ -21,6 +19,6 @@ returns g c =
     let s = c.serve_request-unheard.ensures in
     let turns = served_loses m c.serve_request-unheard.new.machine c.lose.new.self c.args.device _ _ c.requires.living c.requires.standing c.requires.few s c.lose.ensures in
     record {
-      does = does_one c.serve_request-unheard.new.machine.cycle (Some (Async s.response)) c.give_packet.result turns (c.give_packet.ensures.bytes s.response s.spells) c.give_packet.ensures.faults;
+      does = does_given turns (c.give_packet.ensures s.response s.spells);
       deaf = served_unheard m c.serve_request-unheard.new.machine c.lose.new.self c.args.device _ _ c.requires.ready c.requires.living s c.lose.ensures;
     }

@@ -2,6 +2,7 @@ use Rattle.std.specs.Prelude.{Ok, ◌≡◌, ◌+◌, length, ℕ}
 use Rattle.fw_outside.specs.declared.failed.Failed.{Failed}
 use Rattle.fw_run.specs.State.{numbers_to}
 use Rattle.fw_carry.specs.Performing.{Performed, RoundTo}
+use Rattle.fw_machine.specs.Giving.{sides_of}
 use Rattle.fw_machine.specs.Stands.{is_living_in}
 use Rattle.fw_carry.proofs.rounds.round.Given as goal
 
@@ -10,5 +11,5 @@ invariant-loop-device g l = record {
   count : l.machine.half_steps ≡ l.fn.machine.half_steps + length (numbers_to l.device (is_living_in l.fn.machine));
   living : (d : ℕ) → is_living_in l.machine d ≡ is_living_in l.fn.machine d;
   names : l.machine.devices.names ≡ l.fn.machine.devices.names;
-  does : Performed {E = Failed} (RoundTo l.device) l.fn.machine l.machine (g.K.Sink.held l.fn.sink) (g.K.Sink.held l.sink) (g.K.Sink.faults l.fn.sink) (g.K.Sink.faults l.sink) (Ok (tt {0}));
+  does : Performed {E = Failed} (RoundTo l.device) l.fn.machine l.machine (sides_of g.K.Sink.held g.K.Sink.faults l.fn.sink l.sink) (Ok (tt {0}));
 }

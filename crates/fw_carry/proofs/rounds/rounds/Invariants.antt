@@ -1,6 +1,7 @@
 use Rattle.std.specs.Prelude.{Ok, ◌≡◌, ◌+◌, ◌*◌, ◌≤◌, length, ℕ}
 use Rattle.fw_outside.specs.declared.failed.Failed.{Failed}
 use Rattle.fw_carry.specs.Performing.{Performed, RoundsFirst}
+use Rattle.fw_machine.specs.Giving.{sides_of}
 use Rattle.fw_machine.specs.Stands.{is_living_in, living_in}
 use Rattle.fw_carry.proofs.Calm.{CalmFrom}
 use Rattle.fw_carry.proofs.rounds.rounds.Given as goal
@@ -14,5 +15,5 @@ invariant-loop-i g l = record {
   few : length l.fn.machine.devices.names ≤ 63;
   within : l.end ≤ length l.fn.machine.devices.names;
   calm : CalmFrom l.end (length l.machine.devices.names) l.machine;
-  does : Performed {E = Failed} (RoundsFirst l.i) l.fn.machine l.machine (g.K.Sink.held l.fn.sink) (g.K.Sink.held l.sink) (g.K.Sink.faults l.fn.sink) (g.K.Sink.faults l.sink) (Ok (tt {0}));
+  does : Performed {E = Failed} (RoundsFirst l.i) l.fn.machine l.machine (sides_of g.K.Sink.held g.K.Sink.faults l.fn.sink l.sink) (Ok (tt {0}));
 }

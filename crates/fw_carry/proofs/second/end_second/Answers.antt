@@ -3,5 +3,4 @@ use Rattle.fw_carry.proofs.second.end_second.Goals as goal
 
 pub returns-clause-does : goal.returns-clause-does
 returns-clause-does g c =
-    let gives = rw c.second_over.ensures.value at c.give.ensures.bytes in
-    second_given _ _ _ c.requires.runs c.requires.now c.requires.few c.pass_second.ensures gives c.give.ensures.faults
+    second_given _ _ _ c.requires.runs c.requires.now c.requires.few c.pass_second.ensures (rw c.second_over.ensures.value at c.give.ensures)

@@ -1,18 +1,17 @@
-use Rattle.std.proofs.Common.{ℕ, List, Option, ap, sym, subst, ◌∙◌}
-use Rattle.fw_entry.specs.declared.entry.Entry.{Entry}
+use Rattle.std.proofs.Common.{◌≡◌, List, ℕ}
 use Rattle.fw_entry.specs.declared.version.Version.TheVariants.{Two}
 use Rattle.fw_entry.specs.Log.{epoch_after, entry_bytes}
 use Rattle.fw_entry.proofs.WriteLaws.{writes_same}
-use Rattle.fw_run.specs.Giving.{at_cycle, GivesEntry}
+use Rattle.fw_run.specs.Giving.{at_cycle}
 use Rattle.fw_machine.proofs.giving.give.Goals as goal
 
-pub returns-in-Some-clause-bytes : goal.returns-in-Some-clause-bytes
-returns-in-Some-clause-bytes g c =
-    let held = g.K.Sink.held c.args.sink.now in
-    let after = g.K.Sink.held c.write_entry.new.sink in
-    let what = c.in-Some.what in
-    let latest = c.epoch_after-epoch.ensures.value ∙ ap (λ (n : ℕ). epoch_after n what) c.epoch.ensures in
-    let bytes : ℕ → List ℕ = λ n. entry_bytes Two n (at_cycle c.args.cycle what) in
-    let there = writes_same held after c.write_entry.result (bytes c.epoch_after-epoch.result) (bytes (epoch_after c.args.devices.now.epoch what)) (ap bytes latest) c.write_entry.ensures.bytes in
-    let P : Option Entry → Type 0 = λ o. GivesEntry held after c.write_entry.result c.args.cycle c.args.devices.now.epoch o in
-    subst P (sym c.in-Some.is) there
+pub returns : goal.returns
+returns g c =
+    let m = c.args.machine.now in
+    let timed = c.timed-epoch in
+    let whole : List ℕ = entry_bytes Two (epoch_after m.devices.epoch c.args.what) (at_cycle m.cycle c.args.what) in
+    let same : entry_bytes Two timed.result.0 timed.result.1 ≡ whole = λ i. entry_bytes Two (timed.ensures.epoch i) (timed.ensures.entry i) in
+    record {
+      bytes = writes_same (g.K.Sink.held c.args.sink.now) (g.K.Sink.held c.write_entry.new.sink) c.write_entry.result (entry_bytes Two timed.result.0 timed.result.1) whole same c.write_entry.ensures.bytes;
+      faults = record { cause = c.write_entry.ensures.cause; same = c.write_entry.ensures.same };
+    }

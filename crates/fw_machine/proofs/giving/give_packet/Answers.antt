@@ -6,9 +6,13 @@ use Rattle.fw_entry.proofs.WriteLaws.{writes_same}
 use Rattle.fw_run.specs.Giving.{at_cycle}
 use Rattle.fw_machine.proofs.giving.give_packet.Goals as goal
 
-pub returns-clause-bytes : goal.returns-clause-bytes
-returns-clause-bytes g c p spells =
+pub returns : goal.returns
+returns g c p spells =
     let held = g.K.Sink.held c.args.sink.now in
     let after = g.K.Sink.held c.write_async.new.sink in
-    let bytes : ℕ → List ℕ = λ n. entry_bytes Two n (at_cycle c.args.cycle (Async p)) in
-    writes_same held after c.write_async.result (bytes c.epoch.result) (bytes c.args.devices.now.epoch) (ap bytes c.epoch.ensures) (c.write_async.ensures.bytes p spells)
+    let m = c.args.machine.now in
+    let bytes : ℕ → List ℕ = λ n. entry_bytes Two n (at_cycle m.cycle (Async p)) in
+    record {
+      bytes = writes_same held after c.write_async.result (bytes c.epoch.result) (bytes m.devices.epoch) (ap bytes c.epoch.ensures) (c.write_async.ensures.bytes p spells);
+      faults = record { cause = c.write_async.ensures.cause; same = c.write_async.ensures.same };
+    }
