@@ -15,6 +15,7 @@ mod room;
 mod stand;
 mod version;
 
+pub use first::{Passed, PlainEntry};
 use fw_async::PacketFault;
 use fw_cip::IsoFault;
 pub use fw_entry::{

@@ -1,12 +1,14 @@
 //! Entries that are judged, and not given as values.
 
-ghost use Rattle.std.specs.Prelude.{ℕ, ◌≡◌, ◌<◌, ◌+◌, ◌^◌, ◌++◌, List, length, take, IfSome, IfNone, None, false};
+ghost use Rattle.std.specs.Prelude.{ℕ, ◌≡◌, ◌<◌, ◌+◌, ◌^◌, ◌++◌, List, length, slice_get, take, IfSome, IfNone, None, false};
 ghost use Rattle.fw_entry.specs.declared.entry.Entry.{Entry as AnEntry};
 ghost use Rattle.fw_entry.specs.declared.entry.Timed.{Timed};
 ghost use Rattle.fw_log.specs.Stands.{position};
 ghost use Rattle.fw_log.specs.Reader.{total};
 ghost use Rattle.fw_log.specs.History.{HasRead};
+ghost use Rattle.fw_log.specs.Next.{IsNext};
 ghost use Rattle.fw_log.specs.Passing.{CountsUp, HasBody, PassesBody, PassesOn};
+ghost use Rattle.fw_log.specs.declared.plain.PlainBody.{PlainBody};
 
 use crate::codes::kind;
 use crate::first::{Passed, PlainEntry, at_hand, plain_bodied, plain_entry};
@@ -44,9 +46,11 @@ fn going_on(place: u64, last: u64, version: Version, epoch: u32) -> Stand
 }
 
 impl LogReader {
-    // The first byte of what comes next: behind the header it is the kind of an entry. What is kept of an entry that is to be read is
-    // not put before the piece twice.
-    fn next_kind(&self, piece: &[u8]) -> Option<u8> {
+    /// The first byte of what was kept and the piece: behind the header it is the kind of the entry that comes next.
+    pub fn next_kind(&self, piece: &[u8]) -> Option<u8>
+        ensures { result ≡ slice_get (self.now.taken ++ piece.now) 0 }
+    {
+        // What is kept is not put before the piece: that would copy an entry which `feed` is to read.
         let taken = self.taken.as_slice();
         let bytes = if taken.is_empty() { piece } else { taken };
         bytes.first().copied()
@@ -79,6 +83,37 @@ impl LogReader {
         Some(used)
     }
 
+    /// The entry that comes next, if it is a packet or a bus reset of a usual form, whole in the piece, or in what was kept and the
+    /// piece. It is not taken: `go_past` takes it.
+    #[inline(always)]
+    pub fn next_body<'a>(&self, piece: &'a [u8], room: &'a mut Room) -> Option<PlainEntry<'a>>
+        ensures { IfSome result (IsNext self.now piece.now) }
+    {
+        if self.fault.is_some() {
+            return None;
+        }
+        let bytes = at_hand(self.stand, self.taken.as_slice(), piece, &mut room.bytes);
+        plain_bodied(self.stand, bytes)
+    }
+
+    /// Takes the bytes of a piece up to the end of the entry that comes next, and answers how many.
+    #[inline(always)]
+    pub fn go_past(&mut self, piece: &[u8], passed: &Passed) -> usize
+        requires room { total self.old + length piece.now < 2 ^ 64 }
+        requires next { (b : PlainBody) × IsNext self.old piece.now (record { passed = passed.now; body = b }) }
+        ensures fresh { self.new.fault ≡ None }
+        ensures counts { CountsUp self.old piece.now self.new result }
+        ensures history { (b : PlainBody) → IsNext self.old piece.now (record { passed = passed.now; body = b })
+            → (entries : List Timed) → (bytes : List ℕ) → HasRead entries bytes self.old
+            → PassesBody entries (bytes ++ take result piece.now) self.new (record { used = result; cycle = passed.now.cycle; body = b }) }
+    {
+        let used = passed.end - self.taken.as_slice().len();
+        let past = self.stand.start() + passed.end as u64;
+        self.stand = going_on(past, passed.cycle, passed.version, passed.epoch);
+        self.taken.clear();
+        used
+    }
+
     /// As `pass`, of packets and bus resets: the body is given, and no entry is made of it.
     #[inline(always)]
     pub fn pass_body<'a>(&mut self, piece: &'a [u8], room: &'a mut Room) -> Option<PassedBody<'a>>
@@ -90,21 +125,9 @@ impl LogReader {
         ensures history { (entries : List Timed) → (bytes : List ℕ) → HasRead entries bytes self.old
             → IfSome result (λ p. PassesBody entries (bytes ++ take p.used piece.now) self.new p) }
     {
-        if self.fault.is_some() {
-            return None;
-        }
-        let bytes = at_hand(self.stand, self.taken.as_slice(), piece, &mut room.bytes);
-        let PlainEntry { passed, body } = plain_bodied(self.stand, bytes)?;
-        let Passed {
-            end,
-            cycle,
-            version,
-            epoch,
-        } = passed;
-        let used = end - self.taken.as_slice().len();
-        let past = self.stand.start() + end as u64;
-        self.stand = going_on(past, cycle, version, epoch);
-        self.taken.clear();
+        let PlainEntry { passed, body } = self.next_body(piece, room)?;
+        let cycle = passed.cycle;
+        let used = self.go_past(piece, &passed);
         Some(PassedBody { used, cycle, body })
     }
 }
