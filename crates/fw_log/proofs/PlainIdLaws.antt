@@ -6,10 +6,11 @@ use Rattle.fw_words.specs.Quadlet.{field}
 use Rattle.fw_words.specs.Layout.{packed, cut, FitWidths}
 use Rattle.fw_words.proofs.LayoutLaws.{packed-cut, cut-fits}
 use Rattle.fw_phy.specs.Phy.{bit, layout, Fits, quadlet_of}
+use Rattle.fw_phy.specs.SelfIds.{begins_self_id}
 use Rattle.fw_phy.specs.declared.packet.PhyPacket.{PhyPacket}
 use Rattle.fw_phy.specs.declared.packet.PhyPacket.TheVariants.{SelfId, SelfIdMore}
 use Rattle.fw_entry.specs.Log.{are_ids}
-use Rattle.fw_log.specs.Plain.{is_next, next_by, GoesOnBy}
+use Rattle.fw_log.specs.Plain.{next_by, GoesOnBy}
 use Rattle.fw_log.specs.declared.plain_reset.Turn.{Turn}
 use Rattle.fw_log.proofs.TestLaws.{equal, equals, differs, positive, both, both_by, either, passed, chosen, other}
 
@@ -130,20 +131,20 @@ more_comes q node met small few some most bits last =
 abbrev turn : ℕ → ℕ → Turn
 turn node met = record { node = node; met = met }
 
-comes : (q node met : ℕ) → q < 2 ^ 32 → node < 64 → met ≤ 3 → is_next q (turn node met) ≡ true → Comes q node met
+comes : (q node met : ℕ) → q < 2 ^ 32 → node < 64 → met ≤ 3 → begins_self_id q node met ≡ true → Comes q node met
 comes q node met small few most h =
     either (met == 0) _ _ h (λ e s. zero_comes q node met small few (equal _ _ e) (equal _ _ s)) (λ o s.
     let t = both _ _ s in
     more_comes q node met small few (positive met o) most (equal _ _ t.first) (equal _ _ t.second))
 
 -- behind the packet that comes next, one more of its node, or one of the next node
-pub goes_more : (q node met : ℕ) → q < 2 ^ 32 → node < 64 → met ≤ 3 → is_next q (turn node met) ≡ true → field q 31 31 ≡ 1
+pub goes_more : (q node met : ℕ) → q < 2 ^ 32 → node < 64 → met ≤ 3 → begins_self_id q node met ≡ true → field q 31 31 ≡ 1
     → GoesOnBy q (turn node met) (turn node (met + 1))
 goes_more q node met small few most h flag =
     let c = comes q node met small few most h in
     record { packet = c.packet; fits = c.fits; same = c.same; goes = λ ps n. c.goes ps n ∙ chosen _ _ _ (equals _ _ flag); few = omega arith }
 
-pub goes_on : (q node met : ℕ) → q < 2 ^ 32 → node < 64 → met ≤ 3 → is_next q (turn node met) ≡ true → (field q 31 31 ≡ 1 → ⊥)
+pub goes_on : (q node met : ℕ) → q < 2 ^ 32 → node < 64 → met ≤ 3 → begins_self_id q node met ≡ true → (field q 31 31 ≡ 1 → ⊥)
     → GoesOnBy q (turn node met) (turn (node + 1) 0)
 goes_on q node met small few most h flag =
     let c = comes q node met small few most h in

@@ -3,75 +3,16 @@
 //! Of other bodies nothing is said here, and the readers of their kinds judge them: those that are wrong, and rare forms, as
 //! blocks with padding, reads of blocks, and locks but compare_swap of a quadlet.
 
-ghost use Rattle.std.specs.Prelude.{ℕ, ◌≡◌, ◌*◌, ◌≤◌, IsTrue, IfSome, length, true};
+ghost use Rattle.std.specs.Prelude.{ℕ, ◌≡◌, ◌*◌, IsTrue, IfSome, length, true};
 ghost use Rattle.fw_log.specs.Reading.{is_kind, is_length};
-ghost use Rattle.fw_log.specs.Plain.{has_zeros, is_whole_block, is_plain_packet};
 ghost use Rattle.fw_log.specs.Passing.{IsPlain, IsPlainBody};
 
 use crate::codes::kind;
 use crate::plain_reset::is_plain_reset;
 use crate::read_body::{event_of, outcome_of, shown_of};
+use fw_async::is_plain_packet;
 use fw_cip::read_iso;
-use fw_words::{Data, quadlet_at};
-
-// Transaction codes.
-const WRITE_QUADLET: u32 = 0;
-
-const WRITE_BLOCK: u32 = 1;
-
-const WRITE_REPLY: u32 = 2;
-
-const READ_QUADLET: u32 = 4;
-
-const READ_QUADLET_REPLY: u32 = 6;
-
-const CYCLE_START: u32 = 8;
-
-const LOCK: u32 = 9;
-
-const LOCK_REPLY: u32 = 11;
-
-/// Quadlet 3 of a compare_swap of a quadlet: data_length 8, extended_tcode 2.
-const COMPARE_SWAP: u32 = 0x0008_0002;
-
-/// Quadlet 3 of its response: data_length 4, extended_tcode 2.
-const SWAPPED: u32 = 0x0004_0002;
-
-// The zeros that a response has behind its rcode.
-fn has_zeros(bytes: &[u8]) -> bool
-    requires { 12 ≤ length bytes.now }
-    ensures { result ≡ has_zeros bytes.now }
-{
-    quadlet_at(bytes, 4).field(20, 31) == 0 && quadlet_at(bytes, 8).0 == 0
-}
-
-// The data of a block takes all bytes behind quadlet 3, and there is no padding.
-fn is_whole_block(bytes: &[u8]) -> bool
-    requires { 12 ≤ length bytes.now }
-    ensures { result ≡ is_whole_block bytes.now }
-{
-    let count = bytes.len();
-    16 <= count && count <= 528 && quadlet_at(bytes, 12).0 as usize == 65536 * (count - 16)
-}
-
-/// Whether the bytes are an asynchronous packet of one of the usual forms.
-#[inline(always)]
-pub(crate) fn is_plain_packet(bytes: &[u8]) -> bool
-    requires { 12 ≤ length bytes.now }
-    ensures { result ≡ is_plain_packet bytes.now }
-{
-    let count = bytes.len();
-    match quadlet_at(bytes, 0).field(24, 27) {
-        READ_QUADLET => count == 12,
-        READ_QUADLET_REPLY => count == 16 && has_zeros(bytes),
-        LOCK => count == 24 && quadlet_at(bytes, 12).0 == COMPARE_SWAP,
-        LOCK_REPLY => count == 20 && quadlet_at(bytes, 12).0 == SWAPPED && has_zeros(bytes),
-        WRITE_QUADLET | CYCLE_START => count == 16,
-        WRITE_BLOCK => is_whole_block(bytes),
-        WRITE_REPLY => count == 12 && has_zeros(bytes),
-        _ => false,
-    }
-}
+use fw_words::Data;
 
 /// The body of an entry that is given without a value made of it.
 #[derive(Drop)]

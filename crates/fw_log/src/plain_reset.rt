@@ -1,9 +1,10 @@
 //! Bus resets that are right at the first look.
 
-ghost use Rattle.std.specs.Prelude.{◌≡◌, ◌≤◌, ◌<◌, ◌+◌, ◌*◌, IsTrue, IfSome, length};
-ghost use Rattle.fw_log.specs.Plain.{is_next, GoesOnBy, AreIdsOf, IsReset, are_of_nodes};
+ghost use Rattle.std.specs.Prelude.{◌≡◌, ◌≤◌, IsTrue, IfSome, length};
+ghost use Rattle.fw_log.specs.Plain.{GoesOnBy, AreIdsOf, IsReset, are_of_nodes};
 
 use crate::read_reset::{are_apart, count_of, has_nodes, nodes_of, rows_fit};
+use fw_phy::begins_self_id;
 use fw_words::{Quadlet, quadlet_at};
 
 // Which self-ID packet comes next: the node whose it is, and how many packets of that node come before it.
@@ -13,26 +14,12 @@ struct Turn {
     met: u32,
 }
 
-// The first bits of the packet that comes next are these: packet zero has the kind 10, the node's number and a 0; a further
-// packet has a 1 there, its own number and two zeros, and a 0 as bit 30.
-fn is_next(q: Quadlet, turn: Turn) -> bool
-    requires node { turn.node < 64 }
-    requires met { turn.met ≤ 3 }
-    ensures { result ≡ is_next q.0 turn }
-{
-    if turn.met == 0 {
-        q.field(0, 8) == 256 + 2 * turn.node
-    } else {
-        q.field(0, 13) == 8224 + 64 * turn.node + 4 * (turn.met - 1) && q.field(30, 30) == 0
-    }
-}
-
 // What comes behind the packet that the quadlet is, if that comes next.
 fn turn_after(q: Quadlet, turn: Turn, count: u32) -> Option<Turn>
     requires { count ≤ 63 }
     ensures { IfSome result (GoesOnBy q.0 turn) }
 {
-    if turn.node >= count || turn.met > 3 || !is_next(q, turn) {
+    if turn.node >= count || turn.met > 3 || !begins_self_id(q, turn.node, turn.met) {
         return None;
     }
     if q.field(31, 31) == 1 {

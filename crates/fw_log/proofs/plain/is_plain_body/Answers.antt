@@ -1,5 +1,4 @@
 use Rattle.std.proofs.Common.{arith, sym, ◌∙◌}
-use Rattle.fw_log.proofs.PlainLaws.{plain_packet}
 use Rattle.fw_log.proofs.PassLaws.{plain_reset, plain_async, plain_event, plain_outcome, plain_shown}
 use Rattle.fw_log.proofs.plain.is_plain_body.Goals as goal
 
@@ -8,8 +7,7 @@ returns-in-1 c plain = plain_reset c.args.kind c.args.body.now c.in-1.is (c.is_p
 
 pub returns-in-2 : goal.returns-in-2
 returns-in-2 c plain =
-    plain_async c.args.kind c.args.body.now c.in-2.is
-    (plain_packet c.args.body.now c.requires.size.0 (λ i. omega (arith, c.type_inv.body i)) c.requires.size.1 (sym c.is_plain_packet.ensures ∙ plain))
+    plain_async c.args.kind c.args.body.now c.in-2.is (c.is_plain_packet.ensures.packet plain (omega (arith, c.requires.size.1)))
 
 pub returns-in-4 : goal.returns-in-4
 returns-in-4 c plain = plain_event c.args.kind c.args.body.now c.event_of.result c.in-4.is c.event_of.ensures.found (sym c.is_some.ensures ∙ plain)

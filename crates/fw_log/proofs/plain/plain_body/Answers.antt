@@ -1,5 +1,4 @@
 use Rattle.std.proofs.Common.{arith, sym, ◌∙◌}
-use Rattle.fw_log.proofs.PlainLaws.{plain_packet}
 use Rattle.fw_log.proofs.PassLaws.{body_reset, body_packet, body_iso}
 use Rattle.fw_log.proofs.plain.plain_body.Goals as goal
 
@@ -9,7 +8,7 @@ returns-else-not-is_plain_reset c = body_reset c.args.kind c.args.bytes.now c.ne
 pub returns-else-not-is_plain_packet : goal.returns-else-not-is_plain_packet
 returns-else-not-is_plain_packet c =
     body_packet c.args.kind c.args.bytes.now c.new-in-2.result c.in-2.is
-    (plain_packet c.args.bytes.now c.requires.size.0 (λ i. omega (arith, c.type_inv.bytes i)) c.requires.size.1 (sym c.is_plain_packet.ensures ∙ c.if-not-is_plain_packet.false))
+    (c.is_plain_packet.ensures.packet c.if-not-is_plain_packet.false (omega (arith, c.requires.size.1)))
     c.new-in-2.ensures
 
 pub returns-in-Ok : goal.returns-in-Ok
