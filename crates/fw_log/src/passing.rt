@@ -8,12 +8,12 @@ ghost use Rattle.fw_log.specs.Reader.{total};
 ghost use Rattle.fw_log.specs.History.{HasRead};
 ghost use Rattle.fw_log.specs.Passing.{CountsUp, HasBody, PassesBody, PassesOn};
 
-use crate::codes::kind;
 use crate::first::{Passed, PlainEntry, at_hand, plain_bodied, plain_entry};
 use crate::plain::PlainBody;
 use crate::read::LogReader;
 use crate::stand::Stand;
 use crate::{Room, Version};
+use fw_entry::codes::kind;
 use std::num::NonZero;
 
 /// An entry that was given as its body.

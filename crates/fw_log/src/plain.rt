@@ -8,10 +8,10 @@ ghost use Rattle.fw_log.specs.Reading.{is_kind, is_length};
 ghost use Rattle.fw_log.specs.Plain.{has_zeros, is_whole_block, is_plain_packet};
 ghost use Rattle.fw_log.specs.Passing.{IsPlain, IsPlainBody};
 
-use crate::codes::kind;
 use crate::plain_reset::is_plain_reset;
 use crate::read_body::{event_of, outcome_of, shown_of};
 use fw_cip::read_iso;
+use fw_entry::codes::kind;
 use fw_words::{Data, quadlet_at};
 
 // Transaction codes.
