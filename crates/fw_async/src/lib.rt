@@ -36,7 +36,7 @@ pub use writer::{packet_length, write_packet, write_packet_at};
 /// soon as the quadlet that shows it has been read; `BadPadding` as soon as its byte has.
 #[derive(Clone, Copy, PartialEq, Eq)]
 pub enum PacketFault {
-    /// No packet that `Packet` has is of the transaction code in quadlet 0.
+    /// The transaction code in quadlet 0 is none of `Packet`.
     UnknownTcode,
     /// A reserved bit is 1; the first such, counted from the packet's bit 0. A lock's extended_tcode outside 1 to
     /// 7 is bit 112.
