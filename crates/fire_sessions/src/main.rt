@@ -1,6 +1,6 @@
 //! Makes the program's calls over whole sessions as they are known from outside, and compares status, note and output with what the tables
-//! in `data` tell (`data/README.md`). The rows of `wrong.txt` are wrong on purpose: a comparison that passes everything over is found by
-//! them. With words it makes the calls of the rows alone in which one of them stands.
+//! in `data` tell (`data/README.md`). The rows of `wrong.txt` are wrong on purpose, and each must be found to differ, so that a comparison
+//! that never finds a difference shows. With words on its command line it makes only the calls of the rows that have one of them.
 #![tactic(auto)]
 
 use fire_rows::{Portions, Program, hold};

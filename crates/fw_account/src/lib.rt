@@ -43,7 +43,7 @@ pub fn moves_are_found()
     ensures { (c : ℕ) (p : PlugAt) (m : Move) (register : Register) (arg new : ℕ) (l : Account) → c < 63 → IsSound l → (move_at l c register arg new ≡ Some (p, m)) ↔ IsMove c p m register arg new l }
 {}
 
-/// A sound account has no next one exactly after the entries that are refused: a request of no node or beside an
+/// From a sound account, exactly the entries that are refused lead to no next account: a request of no node or beside an
 /// outstanding one, a response that is to no outstanding request, a compare_swap that changes a register of the account and
 /// is no move, the end of a reclaim second where none runs, and channel 31 withheld behind a reset entry.
 pub fn entries_are_refused()

@@ -111,7 +111,7 @@ impl Agenda {
     }
 
     /// The slot that a new connection would take, the lowest free one, or why it would be refused: `TableFull` before
-    /// `Busy`. A broadcast connection of another device's plug is refused before both.
+    /// `Busy`. Whose plug it is of is not asked here.
     pub fn check_start(&self) -> Result<u8, StartFault>
         ensures answer { result ≡ start self.now }
         ensures within { OkWithin result }
@@ -125,8 +125,8 @@ impl Agenda {
         Ok(free)
     }
 
-    /// A new connection takes the lowest free slot, and waits. A broadcast connection is one of the controller's own
-    /// plug.
+    /// A new connection takes the lowest free slot, and waits. One that must be of the controller's own plug and is not is
+    /// refused before the tests of `check_start`.
     fn start(&mut self, is_own: bool, slot: Slot) -> Result<u8, StartFault>
         requires slot { SlotFits slot }
         requires making { IsMaking slot }

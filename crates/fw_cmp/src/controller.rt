@@ -94,7 +94,7 @@ impl Controller {
     }
 
     /// The slot that a new connection would take, the lowest free one, or why it would be refused: `TableFull` before
-    /// `Busy`. A broadcast connection of another device's plug is refused before both.
+    /// `Busy`. Whose plug it is of is not asked here.
     pub fn check_start(&self) -> Result<u8, StartFault>
         ensures answer { result ≡ start self.now.state }
         ensures within { OkWithin result }

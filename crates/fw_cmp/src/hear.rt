@@ -79,7 +79,7 @@ impl Job {
         }
     }
 
-    /// The same for the stages that join plugs.
+    /// As `heard`, of a stage that joins plugs; any other stage stays as it is.
     fn heard_joining(&self, stage: &Stage, word: u32) -> Stage
         requires job { JobFits self.now }
         requires fits { StageFits self.now stage.now }
@@ -113,7 +113,7 @@ impl Job {
         }
     }
 
-    /// The same for the stages that leave plugs.
+    /// As `heard`, of a stage that leaves plugs; any other stage stays as it is.
     fn heard_leaving(&self, stage: &Stage, word: u32) -> Stage
         requires fits { StageFits self.now stage.now }
         ensures value { IsLeaving stage.now → result ≡ hear self.now stage.now word }
@@ -144,7 +144,7 @@ impl Job {
         }
     }
 
-    /// The same for the stages that give back units and the channel.
+    /// As `heard`, of a stage that gives back units and the channel; any other stage stays as it is.
     fn heard_releasing(&self, stage: &Stage, word: u32) -> Stage
         requires fits { StageFits self.now stage.now }
         ensures value { IsReleasing stage.now → result ≡ hear self.now stage.now word }

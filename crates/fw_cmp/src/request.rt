@@ -23,7 +23,7 @@ pub enum Target {
     BandwidthAvailable,
 }
 
-/// What a stage asks of a register: a read, or a quadlet compare_swap.
+/// What a stage asks of a register: a read, or a quadlet compare_swap. The contracts' word for a request; no code makes one.
 #[derive(Clone, Copy)]
 pub struct Access {
     pub target: Target,

@@ -78,7 +78,7 @@ impl<'a> Pieces<'a> {
         }
     }
 
-    /// Whether no piece is left, or none.
+    /// Some if no piece is left, so that a form which takes no more of them ends by `?`.
     pub(crate) fn end(&self) -> Option<()>
         ensures some { IfSome result (λ u. self.now ≡ []) }
         ensures none { IfNone result (self.now ≡ [] → ⊥) }

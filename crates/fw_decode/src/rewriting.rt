@@ -11,7 +11,8 @@ ghost use Rattle.fw_decode.specs.Silences.{never_refused};
 
 use crate::LogRefusal;
 use fw_entry::codes::kind;
-use fw_log::{LogReader, PlainBody, Room, Timed, Version, epoch_after, head_of, write_header};
+use fw_entry::{epoch_after, head_of};
+use fw_log::{LogReader, PlainBody, Room, Timed, Version, write_header};
 use fw_outside::{Failed, Sink, Source};
 use fw_reading::{Closing, LogEnding, Reading, Stop, read_log};
 use fw_words::quadlet_at;

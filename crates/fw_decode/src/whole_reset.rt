@@ -10,7 +10,7 @@ ghost use Rattle.fw_log.specs.Bodies.{AreIds};
 ghost use Rattle.fw_text.specs.Resets.{IsResetBody};
 
 use fw_entry::{NodeList, ResetEntry};
-use fw_log::read_reset::{count_of, read_fields};
+use fw_log::{count_of, read_fields};
 use fw_phy::{PhyPacket, SelfIds, read_phy};
 
 /// Room for a reset.

@@ -6,7 +6,7 @@ ghost use Rattle.fw_explain.specs.Lines.{line};
 use crate::line::put_what;
 use crate::requests::Requests;
 use fw_entry::Timed;
-use fw_names::{Pairs, put_number, put_word};
+use fw_names::{CycleRow, Pairs, put_word};
 use std::alloc::{AllocError, Global};
 use std::marker::Model;
 
@@ -14,27 +14,20 @@ use std::marker::Model;
 /// behind them.
 const TEXT_ROOM: usize = 81_920;
 
-/// How many digits the greatest cycle has, and the space behind them.
-const CYCLE_ROOM: usize = 21;
-
 /// The bytes of lines, and what the next one is made with.
 #[derive(Drop)]
 pub(crate) struct Lines {
     text: Vec<u8>,
-    // The last cycle, and its digits with the space behind them: many entries have the same.
-    cycle: Option<u64>,
-    digits: Vec<u8>,
+    cycle: CycleRow,
     pairs: Pairs,
 }
 
 impl Model for Lines {
-    ghost use Rattle.std.specs.Prelude.{List, ℕ, ◌≡◌, ◌++◌, IfSome, codes, decimal};
+    ghost use Rattle.std.specs.Prelude.{List, ℕ};
 
     ghost Value = { List ℕ };
 
     ghost view = { λ r. r.text.items };
-
-    ghost invariant = { λ r. IfSome r.cycle (λ n. r.digits.items ≡ decimal n ++ codes " ") };
 }
 
 impl Lines {
@@ -43,8 +36,7 @@ impl Lines {
     {
         Ok(Lines {
             text: Vec::with_capacity(alloc, TEXT_ROOM)?,
-            cycle: None,
-            digits: Vec::with_capacity(alloc, CYCLE_ROOM)?,
+            cycle: CycleRow::of(0),
             pairs: Pairs::new(),
         })
     }
@@ -65,14 +57,8 @@ impl Lines {
     fn put_cycle(&mut self, cycle: u64) -> Result<(), AllocError>
         ensures { OnOk result (self.new ≡ self.old ++ (decimal cycle ++ codes " ")) }
     {
-        if self.cycle != Some(cycle) {
-            self.cycle = None;
-            self.digits.clear();
-            put_number(&mut self.digits, cycle)?;
-            put_word(&mut self.digits, " ")?;
-            self.cycle = Some(cycle);
-        }
-        self.text.extend_from_slice(&self.digits)
+        self.cycle.set(cycle);
+        self.text.extend_from_slice(self.cycle.as_slice())
     }
 
     // Appends the line of an entry, by the requests that stand before it.

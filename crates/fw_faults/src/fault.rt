@@ -6,7 +6,8 @@ pub enum AuditFault {
     NoNode(u16),
     /// A request comes while one of its requester stands.
     Overlap(u16),
-    /// A response comes to which no request stands.
+    /// A response comes that answers no outstanding request: its requester has none, or one to another node, or of another kind or
+    /// lock function.
     Orphan(u16),
     /// A complete answer, or a shown word, of a register that is not there; or a complete answer there to a lock that is no
     /// quadlet compare_swap, or without a quadlet. A shown word's ID is that of its node, or FFFF where the device is none.

@@ -7,13 +7,13 @@ ghost use Rattle.fw_entry.specs.Log.{head_size};
 ghost use Rattle.fw_log.specs.Reader.{EntryJudges, Ends, Finds, Joins};
 ghost use Rattle.fw_log.specs.Passing.{BodyFirst, HeadFirst, IsPlainEpoch, PassesFirst};
 
-use crate::codes::kind;
 use crate::held::{Held, ROOM};
 use crate::plain::{PlainBody, is_plain_body, plain_body};
 use crate::read_body::entry_of;
 use crate::read_head::{head_fault, whole_end};
 use crate::stand::{EPOCH_AT, LENGTH_END, Stand, cycle_of, need, rest, skip, version_at};
 use crate::{BodyFault, Entry, LogFault, LogWhy, ResetEntry, Timed, Version};
+use fw_entry::codes::kind;
 use fw_words::{Data, quadlet_at};
 
 /// An entry that bytes begin with, where it ends, the bytes of its body, and the version of the log.

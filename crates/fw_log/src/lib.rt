@@ -1,4 +1,5 @@
-//! A reader of logs: entries from bytes that come in any pieces, exactly where there are some.
+//! A reader of logs: entries from bytes that come in any pieces, exactly where there are some. What it makes of them and how a log is
+//! written stands in fw_entry; those names of it that a user of logs needs are here too.
 #![tactic(auto)]
 
 mod first;
@@ -10,7 +11,7 @@ mod plain_reset;
 mod read;
 mod read_body;
 mod read_head;
-pub mod read_reset;
+mod read_reset;
 mod room;
 mod stand;
 mod version;
@@ -19,16 +20,17 @@ pub use first::{Passed, PlainEntry};
 use fw_async::PacketFault;
 use fw_cip::IsoFault;
 pub use fw_entry::{
-    BorrowedReset, Entry, EntryRoom, EventEntry, NodeList, NodeRow, OutcomeEntry, ResetEntry,
-    ShownEntry, Timed, Version, body_of, codes, epoch_after, head_of, write_entry, write_header,
+    Entry, EventEntry, NodeList, NodeRow, OutcomeEntry, ResetEntry, ShownEntry, Timed, Version,
+    write_entry, write_header,
 };
 use fw_phy::PhyFault;
 pub use passing::PassedBody;
 pub use plain::PlainBody;
 pub use read::{LogFed, LogReader};
+pub use read_reset::{count_of, read_fields};
 pub use room::Room;
 
-/// Why a body is of no entry of its kind.
+/// Why the bytes of a body are no body of an entry of the kind that is in its head.
 #[derive(Clone, Copy, PartialEq, Eq)]
 pub enum BodyFault {
     /// The first eight bytes behind the nodes of a reset entry that are no PHY packet, or four that are left over.
@@ -54,7 +56,7 @@ pub enum LogWhy {
     BadLength,
     /// The cycle is less than that of the entry before; the place is the cycle's.
     TimeBack,
-    /// The body is of no entry of its kind; the place is the body's.
+    /// The body is no body of an entry of its kind; the place is the body's.
     BadBody(BodyFault),
     /// The input ended inside the header or an entry; the place is the input's length.
     Cut,

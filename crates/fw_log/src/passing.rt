@@ -10,12 +10,12 @@ ghost use Rattle.fw_log.specs.Next.{IsNext};
 ghost use Rattle.fw_log.specs.Passing.{CountsUp, HasBody, PassesBody, PassesOn};
 ghost use Rattle.fw_log.specs.declared.plain.PlainBody.{PlainBody};
 
-use crate::codes::kind;
 use crate::first::{Passed, PlainEntry, at_hand, plain_bodied, plain_entry};
 use crate::plain::PlainBody;
 use crate::read::LogReader;
 use crate::stand::Stand;
 use crate::{Room, Version};
+use fw_entry::codes::kind;
 use std::num::NonZero;
 
 /// An entry that was given as its body.

@@ -7,11 +7,11 @@ ghost use Rattle.std.specs.Prelude.{ℕ, ◌≡◌, ◌*◌, IsTrue, IfSome, len
 ghost use Rattle.fw_log.specs.Reading.{is_kind, is_length};
 ghost use Rattle.fw_log.specs.Passing.{IsPlain, IsPlainBody};
 
-use crate::codes::kind;
 use crate::plain_reset::is_plain_reset;
 use crate::read_body::{event_of, outcome_of, shown_of};
 use fw_async::is_plain_packet;
 use fw_cip::read_iso;
+use fw_entry::codes::kind;
 use fw_words::Data;
 
 /// The body of an entry that is given without a value made of it.

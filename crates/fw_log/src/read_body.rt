@@ -10,12 +10,12 @@ ghost use Rattle.fw_entry.specs.declared.codes.TheConstants.{LINES_525, LINES_62
 ghost use Rattle.fw_log.specs.Reading.{is_kind, is_length};
 ghost use Rattle.fw_log.specs.Bodies.{PacketJudges, ResetJudges, BodyJudges};
 
-use crate::codes::{LINES_525, LINES_625, kind};
 use crate::read_reset::read_reset;
-use crate::{BodyFault, BorrowedReset, Entry, EventEntry, OutcomeEntry, ResetEntry, ShownEntry};
+use crate::{BodyFault, Entry, EventEntry, OutcomeEntry, ResetEntry, ShownEntry};
 use fw_async::{Fed, Packet, is_plain_packet, read_packet, whole_packet};
 use fw_cip::read_iso;
-use fw_entry::{has_tape, may_bring, may_have};
+use fw_entry::codes::{LINES_525, LINES_625, kind};
+use fw_entry::{BorrowedReset, has_tape, may_bring, may_have};
 use fw_words::quadlet_at;
 
 pub(crate) fn outcome_of(body: &[u8]) -> Option<OutcomeEntry>

@@ -12,7 +12,8 @@ use crate::stand::{
     CYCLE, EPOCH_AT, EPOCH_END, HEADER_SIZE, LENGTH_AT, LENGTH_END, Stand, cycle_of, length_of,
     rest, version_at,
 };
-use crate::{LogFault, LogWhy, Version, codes};
+use crate::{LogFault, LogWhy, Version};
+use fw_entry::codes;
 use fw_words::quadlet_at;
 
 fn is_kind(kind: u8, low: u8) -> bool

@@ -5,9 +5,9 @@ ghost use Rattle.fw_log.specs.Stands.{position};
 ghost use Rattle.fw_log.specs.Reader.{version_read, Keeps};
 
 use crate::Version;
-use crate::codes::LOG_MAGIC;
 use crate::held::Held;
 use crate::stand::Stand;
+use fw_entry::codes::LOG_MAGIC;
 use fw_words::quadlet_at;
 
 // How many bytes of the header name its version, behind a fixed quadlet.

@@ -22,7 +22,7 @@ use std::marker::Model;
 /// How many numbers a `u8` may be, so that a look at a place needs no test.
 pub(crate) const PLACES: usize = 256;
 
-/// The controller of each declared device, by number. That of a device without one is as one that has just started.
+/// The controller of each declared device, by number. Contracts see one for each other number too, which has just started.
 #[derive(Drop)]
 pub struct Controllers {
     pub(crate) list: Vec<Controller>,

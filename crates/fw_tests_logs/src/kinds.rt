@@ -4,9 +4,9 @@
 ghost use Rattle.std.specs.Prelude.{◌<◌, ◌^◌, length};
 ghost use Rattle.fw_entry.specs.Log.{TimedFits};
 
+use fw_entry::{EntryRoom, epoch_after};
 use fw_log::{
-    EntryRoom, LogFault, LogFed, LogReader, LogWhy, Room, Timed, Version, epoch_after, write_entry,
-    write_header,
+    LogFault, LogFed, LogReader, LogWhy, Room, Timed, Version, write_entry, write_header,
 };
 use fw_outside::MemSink;
 use std::alloc::{AllocError, Global};

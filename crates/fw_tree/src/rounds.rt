@@ -30,8 +30,8 @@ pub struct Parent {
 struct Round {
     // The device has not left.
     stays: [bool; 63],
-    // The device may leave in the round. That is each in the first, and then those that are joined to one that left in the
-    // round before: of the others the count of open cables is as it was.
+    // The device may leave in the round: in the first round each device, and later those with a cable to one that left in the
+    // round before, since no other has fewer open cables than before.
     due: [bool; 63],
 }
 
