@@ -11,4 +11,4 @@ mod words;
 
 pub use audit::Audit;
 pub use fw_faults::AuditFault;
-pub use passing::{is_passed_over, is_passed_packet};
+pub use passing::{has_other_label, is_passed_over, is_passed_packet};
