@@ -11,5 +11,5 @@ mod words;
 
 pub use audit::{Audit, take_entry};
 pub use fw_faults::AuditFault;
-pub use passing::{is_passed_over, is_passed_packet};
+pub use passing::{has_other_label, is_passed_over, is_passed_packet};
 pub use watch::{is_watched, watched_offset};

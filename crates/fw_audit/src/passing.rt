@@ -1,6 +1,8 @@
 //! Entries that an audit need not take.
 
 ghost use Rattle.std.specs.Prelude.{◌≡◌, ◌++◌, ◌∷◌, [], List, None, IsTrue, IsFalse};
+ghost use Rattle.fw_async.specs.Reader.{IsPacket, Spells};
+ghost use Rattle.fw_async.specs.declared.packet.Packet.{Packet as AsyncPacket};
 ghost use Rattle.fw_entry.specs.declared.entry.Entry.{Entry as LogEntry};
 ghost use Rattle.fw_entry.specs.declared.entry.Entry.TheVariants.{Async};
 ghost use Rattle.fw_faults.specs.Looked.{Other, looked, looked_packet};
@@ -10,6 +12,7 @@ ghost use Rattle.fw_audit.specs.Found.{Found, IsPassedOver, IsReset};
 use fw_async::Packet;
 use fw_base::Label;
 use fw_entry::Entry;
+use fw_words::quadlet_at;
 
 /// Whether the packet is none that an account looks at: by its kind alone, or since its label is not that of procedures. An
 /// audit looks at each other one.
@@ -24,6 +27,15 @@ pub fn is_passed_packet(p: &Packet) -> bool
         Packet::LockReply { head, .. } => !Label::Procedure.marks(head.tl),
         _ => true,
     }
+}
+
+/// Whether the label of the packet that these bytes are is not that of procedures: an account looks at no such packet.
+#[inline(always)]
+pub fn has_other_label(bytes: &[u8]) -> bool
+    requires { IsPacket bytes.now }
+    ensures { IsTrue result → (p : AsyncPacket) → Spells p bytes.now → IsPassedOver (Async p) }
+{
+    !Label::Procedure.marks(quadlet_at(bytes, 0).field(16, 21) as u8)
 }
 
 /// Whether an entry changes no account and has no fault over any, by its kind alone: isochronous packets, outcomes, the end, and
