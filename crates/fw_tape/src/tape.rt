@@ -37,17 +37,25 @@ impl Tape {
         Tape { cassette: None }
     }
 
-    /// A tape with this number goes in, of the 625-50 system where `fifty` is true, else of 525-60: stopped at frame 0. It
-    /// replaces one that is there.
+    /// A tape with this number, recorded in this system, goes in, stopped at frame 0. It replaces one that is there.
+    pub fn put(&mut self, tape: u16, system: TapeSystem)
+        ensures { self.new ≡ Some (inserted tape system) }
+    {
+        self.cassette = Some(Cassette::new(tape, system));
+    }
+
+    /// As `put`, with a tape of the 625-50 system where `fifty` is true, else of 525-60.
     pub fn insert(&mut self, tape: u16, fifty: bool)
         ensures { self.new ≡ Some (inserted tape (if fifty then Lines625 else Lines525)) }
     {
-        let system = if fifty {
-            TapeSystem::Lines625
-        } else {
-            TapeSystem::Lines525
-        };
-        self.cassette = Some(Cassette::new(tape, system));
+        self.put(
+            tape,
+            if fifty {
+                TapeSystem::Lines625
+            } else {
+                TapeSystem::Lines525
+            },
+        );
     }
 
     /// Takes the tape out. Answers whether one was in.

@@ -24,10 +24,7 @@ fn insert(node: &mut Node, tape: u16, system: TapeSystem)
     ensures { node.new ≡ with_tape (Some (inserted tape system)) node.old }
 {
     if let Some(unit) = node.unit() {
-        match system {
-            TapeSystem::Lines525 => unit.tape().insert(tape, false),
-            TapeSystem::Lines625 => unit.tape().insert(tape, true),
-        }
+        unit.tape().put(tape, system);
     }
 }
 
