@@ -184,9 +184,9 @@ does_one {a = a} {now = now} cycle (Some e) (Err u) turn gives faults = record {
 }
 
 -- an action whose entry was given to a sink
-pub does_given : {T E : Type 0} {a : Action} {m now : Machine} {e : Entry} {held after : Option (List ℕ)} {k l : ℕ} {r : Result T E}
+pub does_entry : {T E : Type 0} {a : Action} {m now : Machine} {e : Entry} {held after : Option (List ℕ)} {k l : ℕ} {r : Result T E}
     → TakesAction a m now now.cycle (Some e) → Gives now e (between held after k l) r → Performed (Performs (a ∷ [])) m now (between held after k l) r
-does_given {now = now} {e = e} {r = r} turn gives = does_one now.cycle (Some e) r turn gives.bytes gives.faults
+does_entry {now = now} {e = e} {r = r} turn gives = does_one now.cycle (Some e) r turn gives.bytes gives.faults
 
 -- an action that writes nothing
 pub does_silent : {T E : Type 0} {a : Action} {m now : Machine} (held : Option (List ℕ)) (k cycle : ℕ) (u : T) → TakesAction a m now cycle None
