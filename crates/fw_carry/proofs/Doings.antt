@@ -42,7 +42,8 @@ one_step s t a out f = (out, [], t, f, sym (append-nil out), (refl, refl))
 
 -- what is done of the one is done of the other, in the states that the machine stood for
 pub does_when : {T E : Type 0} {P Q : Task} {m now : Machine} {a b : Option (List ℕ)} {k l : ℕ} {r : Result T E}
-    → ((s t : State) (xs : List Action) (out : List Timed) → IsGood s → StandsFor m s → P s xs out t → Steps s xs out t → Q s xs out t) → Performed P m now (between a b k l) r → Performed Q m now (between a b k l) r
+    → ((s t : State) (xs : List Action) (out : List Timed) → IsGood s → StandsFor m s → P s xs out t → Steps s xs out t → Q s xs out t) → Performed P m now (between a b k l) r
+    → Performed Q m now (between a b k l) r
 does_when {r = Ok u} to d = record {
   faults = d.faults;
   shown = λ s g st. let x = d.shown s g st in record {
