@@ -62,7 +62,8 @@ reached_more c o r decided d =
     }
 
 pub goes : {T E : Type 0} {D : DeskRelations} {m now : Machine} {a b : Option (List ℕ)} {k l : ℕ} {u : T} (c : Command) (o : Order) (spent : Bool) → IsFalse spent → Decided m c (Ok o)
-    → PerformedWithDesk {T = T} {E = E} D (λ s. Carries s o) m now (between a b k l) (Ok u) → (commands : List Command) (actions : List Action) (log : List Timed) (s : State) → Run commands actions log s
+    → PerformedWithDesk {T = T} {E = E} D (λ s. Carries s o) m now (between a b k l) (Ok u) → (commands : List Command) (actions : List Action) (log : List Timed) (s : State)
+    → Run commands actions log s
     → StandsFor m s → ContinuesRun D commands actions log s c (record { machine = now; spent = spent }) a b
 goes c o spent un decided d commands actions log s r st =
     let good = run_good r in
@@ -92,7 +93,8 @@ goes c o spent un decided d commands actions log s r st =
     }
 
 pub stops : {T E : Type 0} {D : DeskRelations} {m now mid : Machine} {a b : Option (List ℕ)} {k l : ℕ} {e : E} (c : Command) (o : Order) (spent : Bool) → IsTrue spent → Decided m c (Ok o)
-    → PerformedWithDesk {T = T} {E = E} D (λ s. Carries s o) m mid (between a b k l) (Err e) → (commands : List Command) (actions : List Action) (log : List Timed) (s : State) → Run commands actions log s
+    → PerformedWithDesk {T = T} {E = E} D (λ s. Carries s o) m mid (between a b k l) (Err e) → (commands : List Command) (actions : List Action) (log : List Timed) (s : State)
+    → Run commands actions log s
     → StandsFor m s → CutsRunOff D commands actions log s c (record { machine = now; spent = spent }) a b
 stops c o spent is decided d commands actions log s r st =
     let good = run_good r in

@@ -127,6 +127,7 @@ bids_go_on m d j count le one few s u xs a g st p f =
 -- a half step was cut off
 pub bids_cut : {T E U F V G : Type 0} (d i : ℕ) {m mid now : Machine} {a b c : Option (List ℕ)} {k l n : ℕ} {u : T} (count : ℕ) (q : Result U F) (r : Result V G)
     → i < count → IsTrue (is_some (candidate_in m.candidates d)) → m.half_steps + count ≤ MOST_HALF_STEPS → IsErr q → IsErr r
-    → Performed {T = T} {E = E} (Performs (times i (Contend d))) m mid (between a b k l) (Ok u) → Performed (Performs (Contend d ∷ [])) mid now (between b c l n) q → Performed (Performs (times count (Contend d))) m now (between a c k n) r
+    → Performed {T = T} {E = E} (Performs (times i (Contend d))) m mid (between a b k l) (Ok u) → Performed (Performs (Contend d ∷ [])) mid now (between b c l n) q
+    → Performed (Performs (times count (Contend d))) m now (between a c k n) r
 bids_cut d i {m} count q r lt one few was is f e =
     does_cut q r (bids_go_on m d (i + 1) count (omega (arith, lt)) one few) was is (times_then (Contend d) i f e)

@@ -62,7 +62,8 @@ unfolding HasCycles
 cycles_none m held k u = by_where {A = λ s. Unit {0}} (λ s good st. tt) (where_nothing m held k u (λ s g st. (refl, refl, refl)))
 
 pub cycles_then : {T E U F : Type 0} {D : DeskRelations} (i : ℕ) {m mid now : Machine} {a b c : Option (List ℕ)} {k l n : ℕ} {u : T} {r : Result U F}
-    → PerformedWithDesk {T = T} {E = E} D (WritesCycles i) m mid (between a b k l) (Ok u) → PerformedWithDesk D WritesCycle mid now (between b c l n) r → PerformedWithDesk D (WritesCycles (i + 1)) m now (between a c k n) r
+    → PerformedWithDesk {T = T} {E = E} D (WritesCycles i) m mid (between a b k l) (Ok u) → PerformedWithDesk D WritesCycle mid now (between b c l n) r
+    → PerformedWithDesk D (WritesCycles (i + 1)) m now (between a c k n) r
 cycles_then i {r = r} f g =
     by_where {A = λ s. Unit {0}} (λ s good st. tt)
     (where_then {B = λ s. Unit {0}} r (λ s mid t xs ys a b good st p steps q more. cycles_append i 1 s mid t xs ys a b p (one_cycle mid t ys b q))

@@ -42,7 +42,8 @@ one_step s t a out f = (out, [], t, f, sym (append-nil out), (refl, refl))
 
 -- what is done of the one is done of the other, in the states that the machine stood for
 pub does_when : {T E : Type 0} {P Q : Task} {m now : Machine} {a b : Option (List ℕ)} {k l : ℕ} {r : Result T E}
-    → ((s t : State) (xs : List Action) (out : List Timed) → IsGood s → StandsFor m s → P s xs out t → Steps s xs out t → Q s xs out t) → Performed P m now (between a b k l) r → Performed Q m now (between a b k l) r
+    → ((s t : State) (xs : List Action) (out : List Timed) → IsGood s → StandsFor m s → P s xs out t → Steps s xs out t → Q s xs out t) → Performed P m now (between a b k l) r
+    → Performed Q m now (between a b k l) r
 does_when {r = Ok u} to d = record {
   faults = d.faults;
   shown = λ s g st. let x = d.shown s g st in record {
@@ -184,9 +185,9 @@ does_one {a = a} {now = now} cycle (Some e) (Err u) turn gives faults = record {
 }
 
 -- an action whose entry was given to a sink
-pub does_given : {T E : Type 0} {a : Action} {m now : Machine} {e : Entry} {held after : Option (List ℕ)} {k l : ℕ} {r : Result T E}
+pub does_entry : {T E : Type 0} {a : Action} {m now : Machine} {e : Entry} {held after : Option (List ℕ)} {k l : ℕ} {r : Result T E}
     → TakesAction a m now now.cycle (Some e) → Gives now e (between held after k l) r → Performed (Performs (a ∷ [])) m now (between held after k l) r
-does_given {now = now} {e = e} {r = r} turn gives = does_one now.cycle (Some e) r turn gives.bytes gives.faults
+does_entry {now = now} {e = e} {r = r} turn gives = does_one now.cycle (Some e) r turn gives.bytes gives.faults
 
 -- an action that writes nothing
 pub does_silent : {T E : Type 0} {a : Action} {m now : Machine} (held : Option (List ℕ)) (k cycle : ℕ) (u : T) → TakesAction a m now cycle None

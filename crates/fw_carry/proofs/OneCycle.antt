@@ -161,7 +161,8 @@ recorded_among s (Some d) out = recorded_by s d out
 
 -- what the machine heard is what the run has heard
 pub hears_here : {T E : Type 0} {A : State → Type 0} {D : DeskRelations} {m now : Machine} (old new : Option Recording) {a b : Option (List ℕ)} {k l : ℕ} {r : Result T E}
-    → ((s : State) → IsGood s → StandsFor m s → old ≡ recording_in s) → PerformedWhere A D (HearsTo 64 old new) m now (between a b k l) r → PerformedWhere A D (HearsBlock (block_in new)) m now (between a b k l) r
+    → ((s : State) → IsGood s → StandsFor m s → old ≡ recording_in s) → PerformedWhere A D (HearsTo 64 old new) m now (between a b k l) r
+    → PerformedWhere A D (HearsBlock (block_in new)) m now (between a b k l) r
 hears_here old new is d = where_when (λ s t xs out g st p f.
     (p.0, ap block_in p.1 ∙ (ap (λ o. block_in (heard_among out o)) (is s g st) ∙ recorded_among s s.dub.tied out))) d
 

@@ -232,6 +232,7 @@ packets_lead m counts old new i s t xs out g st had p f = subst (HadSent counts)
 pub packets_then : {T E U F : Type 0} {D : DeskRelations} (counts : List ℕ) (old mid_heard new : Option Recording) (i d : ℕ) (talkers : List (Option ℕ))
     {m mid now : Machine} {a b c : Option (List ℕ)} {k l n : ℕ} {u : T} {r : Result U F}
     → AreTalkers (length m.devices.nodes) m.devices.nodes talkers → slice_index_or talkers i None ≡ Some d
-    → PerformedWhere {T = T} {E = E} (HadSent counts) D (HearsTo i old mid_heard) m mid (between a b k l) (Ok u) → PerformedWhere (HadSent counts) D (SendsHeard d i mid_heard new) mid now (between b c l n) r
+    → PerformedWhere {T = T} {E = E} (HadSent counts) D (HearsTo i old mid_heard) m mid (between a b k l) (Ok u)
+    → PerformedWhere (HadSent counts) D (SendsHeard d i mid_heard new) mid now (between b c l n) r
     → PerformedWhere (HadSent counts) D (HearsTo (i + 1) old new) m now (between a c k n) r
 packets_then counts old mid_heard new i d talkers {m} {r = r} are at f g = where_then r (packet_follows old mid_heard new i d talkers are at) (packets_lead m counts old mid_heard i) f g

@@ -133,7 +133,8 @@ rounds_cut i n {m} q r lt few was is f e = does_cut q r (rounds_go_on m (i + 1) 
 unsettled_step : (s : State) → s.transaction ≡ None → IsTrue (is_unsettled s) → Steps s (Unsettled ∷ []) (at_most s.clock.cycle (Some unsettled_entry)) (record s { account = entered s.account unsettled_entry })
 unsettled_step s quiet busy = one_step s _ Unsettled _ (quiet, (busy, refl, refl))
 
-pub busy_looks_back : {T E : Type 0} {m now : Machine} {a b : Option (List ℕ)} {k l : ℕ} {r : Result T E} → Performed (Performs (Unsettled ∷ [])) m now (between a b k l) r → Performed TellsUnsettled m now (between a b k l) r
+pub busy_looks_back : {T E : Type 0} {m now : Machine} {a b : Option (List ℕ)} {k l : ℕ} {r : Result T E} → Performed (Performs (Unsettled ∷ [])) m now (between a b k l) r
+    → Performed TellsUnsettled m now (between a b k l) r
 busy_looks_back d = does_as (λ s t xs out p. inr (p.0, subst (λ z. Steps s z out t) (sym p.0) p.1)) d
 
 settles : {m : Machine} (n : ℕ) → Follows m (SomeRounds n) TellsUnsettled (λ s. Carries s (Settle n))
@@ -184,7 +185,8 @@ settle_goes_on m n few s u xs a g st p f = go (is_unsettled u) refl
         )
 
 pub settle_cut : {U F V G : Type 0} (n : ℕ) {m now : Machine} {a b : Option (List ℕ)} {k l : ℕ} (q : Result U F) (r : Result V G)
-    → m.half_steps + n * length (living_in m) ≤ MOST_HALF_STEPS → IsErr q → IsErr r → Performed (SomeRounds n) m now (between a b k l) q → Performed (λ s. Carries s (Settle n)) m now (between a b k l) r
+    → m.half_steps + n * length (living_in m) ≤ MOST_HALF_STEPS → IsErr q → IsErr r → Performed (SomeRounds n) m now (between a b k l) q
+    → Performed (λ s. Carries s (Settle n)) m now (between a b k l) r
 settle_cut n {m} q r few was is d = does_cut q r (settle_goes_on m n few) was is d
 
 -- ---- who lives, while rounds are taken

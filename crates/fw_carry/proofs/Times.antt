@@ -49,7 +49,8 @@ unfolding times
 times_none x m held k u = does_none m held k u
 
 pub times_then : {T E U F : Type 0} (x : Action) (i : ℕ) {m mid now : Machine} {a b c : Option (List ℕ)} {k l n : ℕ} {u : T} {r : Result U F}
-    → Performed {T = T} {E = E} (Performs (times i x)) m mid (between a b k l) (Ok u) → Performed (Performs (x ∷ [])) mid now (between b c l n) r → Performed (Performs (times (i + 1) x)) m now (between a c k n) r
+    → Performed {T = T} {E = E} (Performs (times i x)) m mid (between a b k l) (Ok u) → Performed (Performs (x ∷ [])) mid now (between b c l n) r
+    → Performed (Performs (times (i + 1) x)) m now (between a c k n) r
 unfolding times
 times_then x i {r = r} d e = rw add-one (does_then r (acts_follow (times i x) (x ∷ [])) d e)
 
@@ -76,7 +77,8 @@ times_go_on m d j count le lives few s u xs a g st p f =
 -- a half step was cut off
 pub times_cut : {T E U F V G : Type 0} (d i : ℕ) {m mid now : Machine} {a b c : Option (List ℕ)} {k l n : ℕ} {u : T} (count : ℕ) (q : Result U F) (r : Result V G)
     → i < count → IsTrue (is_living_in m d) → m.half_steps + count ≤ MOST_HALF_STEPS → IsErr q → IsErr r
-    → Performed {T = T} {E = E} (Performs (times i (HalfStep d))) m mid (between a b k l) (Ok u) → Performed (Performs (HalfStep d ∷ [])) mid now (between b c l n) q → Performed (Performs (times count (HalfStep d))) m now (between a c k n) r
+    → Performed {T = T} {E = E} (Performs (times i (HalfStep d))) m mid (between a b k l) (Ok u) → Performed (Performs (HalfStep d ∷ [])) mid now (between b c l n) q
+    → Performed (Performs (times count (HalfStep d))) m now (between a c k n) r
 times_cut d i {m} count q r lt lives few was is f e =
     does_cut q r (times_go_on m d (i + 1) count (omega (arith, lt)) lives few) was is (times_then (HalfStep d) i f e)
 

@@ -2,7 +2,7 @@ use Rattle.std.proofs.Common.{subst}
 use Rattle.fw_run.specs.Carrying.{Carries}
 use Rattle.fw_machine.specs.Orders.{MayCarry}
 use Rattle.fw_carry.proofs.CarryLaws.{by_desk, carried, finish_turns, given_front}
-use Rattle.fw_carry.proofs.Doings.{does_given}
+use Rattle.fw_carry.proofs.Doings.{does_entry}
 use Rattle.fw_carry.proofs.carry.carry_out.Goals as goal
 
 -- ---- what each call asks
@@ -106,7 +106,7 @@ pub returns-in-Dub : goal.returns-in-Dub
 returns-in-Dub g c = record { does = carried _ c.in-Dub.is tt (λ s t out f. Carries.dubs f) c.dub.ensures.does }
 
 pub returns-in-End : goal.returns-in-End
-returns-in-End g c = record { does = carried _ c.in-End.is tt (λ s t out f. Carries.ends f) (does_given (finish_turns _) c.give.ensures) }
+returns-in-End g c = record { does = carried _ c.in-End.is tt (λ s t out f. Carries.ends f) (does_entry (finish_turns _) c.give.ensures) }
 
 pub returns-in-Withhold : goal.returns-in-Withhold
 returns-in-Withhold g c = record { does = by_desk c.in-Withhold.is tt c.withhold.ensures.does }

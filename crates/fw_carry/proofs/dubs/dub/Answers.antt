@@ -1,4 +1,4 @@
-use Rattle.fw_carry.proofs.Doings.{does_given}
+use Rattle.fw_carry.proofs.Doings.{does_entry}
 use Rattle.fw_carry.proofs.TapeTurns.{few_devices}
 use Rattle.fw_carry.proofs.Tying.{tie_turns}
 use Rattle.fw_carry.proofs.dubs.dub.Goals as goal
@@ -8,7 +8,7 @@ dubbing-requires g c = few_devices c.requires.ready c.requires.declared
 
 pub returns : goal.returns
 returns g c = record {
-  does = does_given
+  does = does_entry
       (tie_turns c.args.machine.now c.clear.new.self c.args.device c.dubbing.result c.requires.declared c.requires.deck c.requires.on c.dubbing.ensures.value c.clear.ensures)
       c.give.ensures;
 }

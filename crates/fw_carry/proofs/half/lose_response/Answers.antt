@@ -1,5 +1,5 @@
 use Rattle.fw_machine.specs.declared.machine.Machine.{Machine}
-use Rattle.fw_carry.proofs.Doings.{does_given}
+use Rattle.fw_carry.proofs.Doings.{does_entry}
 use Rattle.fw_carry.proofs.Losing.{served_loses, served_unheard}
 use Rattle.fw_carry.proofs.Served.{served_within, served_awaits}
 use Rattle.fw_carry.proofs.half.lose_response.Goals as goal
@@ -19,6 +19,6 @@ returns g c =
     let s = c.serve_request-unheard.ensures in
     let turns = served_loses m c.serve_request-unheard.new.machine c.lose.new.self c.args.device _ _ c.requires.living c.requires.standing c.requires.few s c.lose.ensures in
     record {
-      does = does_given turns (c.give_packet.ensures s.response s.spells);
+      does = does_entry turns (c.give_packet.ensures s.response s.spells);
       deaf = served_unheard m c.serve_request-unheard.new.machine c.lose.new.self c.args.device _ _ c.requires.ready c.requires.living s c.lose.ensures;
     }

@@ -1,5 +1,5 @@
 use Rattle.std.proofs.Common.{refl, Err}
-use Rattle.fw_carry.proofs.Doings.{does_cut, does_given, does_then}
+use Rattle.fw_carry.proofs.Doings.{does_cut, does_entry, does_then}
 use Rattle.fw_machine.proofs.Living.{living_there}
 use Rattle.fw_carry.proofs.Losing.{loses_follows, loses_goes, tells_turns}
 use Rattle.fw_carry.proofs.lives.lose.Goals as goal
@@ -13,5 +13,5 @@ lost-requires g c = (living_there c.args.machine.now c.args.device c.requires.re
 
 pub returns : goal.returns
 returns g c =
-    let told = does_given (tells_turns _ c.args.device c.in_ok-lose_response.ensures.deaf) (rw c.lost.ensures.value at c.give.ensures) in
+    let told = does_entry (tells_turns _ c.args.device c.in_ok-lose_response.ensures.deaf) (rw c.lost.ensures.value at c.give.ensures) in
     record { does = does_then c.give.result (loses_follows c.args.machine.now c.args.device) c.in_ok-lose_response.ensures.does told }

@@ -1,5 +1,5 @@
 use Rattle.std.proofs.Common.{sym, ◌∙◌}
-use Rattle.fw_carry.proofs.Doings.{does_as, does_given, does_nothing}
+use Rattle.fw_carry.proofs.Doings.{does_as, does_entry, does_nothing}
 use Rattle.fw_carry.proofs.LifeOrders.{goes_on_at, starts_at}
 use Rattle.fw_carry.proofs.LifeTurns.{start_turns}
 use Rattle.fw_machine.proofs.Living.{linked_there}
@@ -19,7 +19,7 @@ started-requires g c = (linked_there c.args.machine.now c.args.device c.requires
 
 pub returns : goal.returns
 returns g c = record {
-  does = does_as (starts_at c.args.device) (does_given
+  does = does_as (starts_at c.args.device) (does_entry
       (start_turns c.args.machine.now c.start.new.self c.args.device c.started.result c.requires.linked (sym c.is_dead.ensures ∙ c.if-not-is_dead.false) c.started.ensures.value c.start.ensures)
       c.give.ensures);
 }

@@ -3,7 +3,7 @@ use Rattle.fw_async.specs.Wire.{Pairs, without}
 use Rattle.fw_run.specs.Actions.{Die}
 use Rattle.fw_carry.specs.Performing.{TakesAction}
 use Rattle.fw_carry.proofs.DeafTurns.{living_node}
-use Rattle.fw_carry.proofs.Doings.{does_given}
+use Rattle.fw_carry.proofs.Doings.{does_entry}
 use Rattle.fw_carry.proofs.LifeTurns.{death_turns}
 use Rattle.fw_machine.proofs.Living.{living_there}
 use Rattle.fw_carry.proofs.lives.stop.Goals as goal
@@ -33,7 +33,7 @@ leave-requires g c =
 
 pub returns : goal.returns
 returns g c =
-    does_given
+    does_entry
     (subst (λ (w : Pairs). TakesAction (Die c.args.device) c.args.machine.now (record c.args.machine.now { controllers = c.die.new.self; wire = w; candidates = c.leave.new.self; bids = c.remove-2.new.self }) c.args.machine.now.cycle (Some c.died.result)) (sym c.remove.ensures)
     (subst (λ (v : Pairs). TakesAction (Die c.args.device) c.args.machine.now (record c.args.machine.now { controllers = c.die.new.self; wire = without c.number-own.result c.args.machine.now.wire; candidates = c.leave.new.self; bids = v }) c.args.machine.now.cycle (Some c.died.result)) (sym c.remove-2.ensures)
     (death_turns c.args.machine.now c.die.new.self c.leave.new.self c.args.device c.number-own.result c.died.result c.requires.living c.number-own.ensures.value c.died.ensures.value c.die.ensures c.leave.ensures)))

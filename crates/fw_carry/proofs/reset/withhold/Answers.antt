@@ -1,5 +1,5 @@
 use Rattle.std.proofs.Common.{sym, ◌∙◌}
-use Rattle.fw_carry.proofs.Doings.{does_as, does_given, does_nothing}
+use Rattle.fw_carry.proofs.Doings.{does_as, does_entry, does_nothing}
 use Rattle.fw_carry.proofs.Withholds.{goes_on_withholding, withhold_turns, withholds_at}
 use Rattle.fw_carry.proofs.reset.withhold.Goals as goal
 
@@ -11,7 +11,7 @@ returns-then-withholds g c = record {
 
 pub returns : goal.returns
 returns g c = record {
-  does = does_as withholds_at (does_given
+  does = does_as withholds_at (does_entry
       (withhold_turns c.args.machine.now c.withhold.new.self c.withheld.result c.requires.first (sym c.withholds.ensures ∙ c.if-withholds.false) c.withheld.ensures.value c.withhold.ensures)
       c.give.ensures);
 }

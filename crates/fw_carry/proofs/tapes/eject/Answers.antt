@@ -1,7 +1,7 @@
 -- proofs/machine/Machine/eject/Answers.antt
 use Rattle.std.proofs.Common.{refl, sym, ◌∙◌}
 use Rattle.std.specs.Prelude.{Err, Ok}
-use Rattle.fw_carry.proofs.Doings.{does_given, does_then, ready_after}
+use Rattle.fw_carry.proofs.Doings.{does_entry, does_then, ready_after}
 use Rattle.fw_carry.proofs.TapeTurns.{eject_turns, eject_follows, eject_cut, ejects_none, few_devices, still_declared}
 use Rattle.fw_carry.proofs.tapes.eject.Goals as goal
 
@@ -16,7 +16,7 @@ send_frames-requires g c =
     let was = sym c.eject.ensures.was_in ∙ c.if-not-eject.false in
     let turn = eject_turns c.args.machine.now c.eject.new.self c.args.device _ c.requires.declared c.requires.deck was
     c.ejected.ensures.value c.eject.ensures.out in
-    record { ready = ready_after c.requires.ready (does_given {r = Ok _} turn c.in_ok-give.ensures); declared = still_declared _ _ _ _ _ c.requires.declared c.eject.ensures.out }
+    record { ready = ready_after c.requires.ready (does_entry {r = Ok _} turn c.in_ok-give.ensures); declared = still_declared _ _ _ _ _ c.requires.declared c.eject.ensures.out }
 
 pub returns-then-not-eject : goal.returns-then-not-eject
 returns-then-not-eject g c =
@@ -28,7 +28,7 @@ returns-in_err-give g c =
     let was = sym c.eject.ensures.was_in ∙ c.if-not-eject.false in
     let turn = eject_turns c.args.machine.now c.eject.new.self c.args.device _ c.requires.declared c.requires.deck was
     c.ejected.ensures.value c.eject.ensures.out in
-    let did = does_given {r = Err _} turn c.in_err-give.ensures in
+    let did = does_entry {r = Err _} turn c.in_err-give.ensures in
     record { does = eject_cut c.args.device _ _ refl c.from_residual.ensures.0 did }
 
 pub returns : goal.returns
@@ -36,5 +36,5 @@ returns g c =
     let was = sym c.eject.ensures.was_in ∙ c.if-not-eject.false in
     let turn = eject_turns c.args.machine.now c.eject.new.self c.args.device _ c.requires.declared c.requires.deck was
     c.ejected.ensures.value c.eject.ensures.out in
-    let did = does_given {r = Ok _} turn c.in_ok-give.ensures in
+    let did = does_entry {r = Ok _} turn c.in_ok-give.ensures in
     record { does = does_then _ (eject_follows c.args.device) did c.send_frames.ensures.does }
