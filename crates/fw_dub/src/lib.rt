@@ -3,4 +3,4 @@
 
 mod reel;
 
-pub use reel::{BLOCK, MOST_BLOCKS, Reel};
+pub use reel::{BLOCK, BLOCKS_525, BLOCKS_625, MOST_BLOCKS, Reel};

@@ -9,8 +9,14 @@ use std::marker::Model;
 /// How many bytes a block has.
 pub const BLOCK: usize = 480;
 
-/// The most blocks that a reel keeps: those of 16 frames of the 625 line system.
-pub const MOST_BLOCKS: usize = 4_800;
+/// The blocks of 16 frames of the 525 line system, with 250 each.
+pub const BLOCKS_525: u16 = 4_000;
+
+/// The blocks of 16 frames of the 625 line system, with 300 each.
+pub const BLOCKS_625: u16 = 4_800;
+
+/// The most blocks that a reel keeps.
+pub const MOST_BLOCKS: usize = BLOCKS_625 as usize;
 
 /// The blocks that were recorded, in order. No call but `new` takes memory.
 #[derive(Drop)]

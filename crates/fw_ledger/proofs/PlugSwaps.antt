@@ -41,7 +41,10 @@ input_shows f s w e b n most fits =
     record { broadcast = ap (λ (g : InFields). g.broadcast) is ∙ b; counter = ap (λ (g : InFields). g.counter) is ∙ n }
 
 pub room_is : (kind : ConnectionKind) (w : ℕ) (s : Connections) → Shows w s → shows_room kind w ≡ has_room kind s
-room_is PointToPoint w s h = ap (λ n. nat_lt n 63) h.counter
+room_is PointToPoint w s h = let most : field w 2 7 ≤ 63 = omega arith in room (field w 2 7) most ∙ ap (λ n. nat_lt n 63) h.counter
+  where
+    room : (n : ℕ) → n ≤ 63 → not (n == 63) ≡ nat_lt n 63
+    room n most = grind (arith, nat_tests)
 room_is Broadcast w s h = ap not h.broadcast
 
 counted : (b : Bool) (n : ℕ) → (b || not (n == 0)) ≡ (nat_lt 0 n || b)

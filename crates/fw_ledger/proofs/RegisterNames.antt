@@ -4,6 +4,7 @@ use Rattle.fw_entry.specs.declared.nodes.NodeRow.{NodeRow}
 use Rattle.std.proofs.Common.{◌≡◌, ◌≤◌, ◌-◌, ◌&&◌, ℕ, Bool, true, false, nat_le, Option, Some, None, List, [], option_map, slice_get, cond, refl, sym, ◌∙◌, arith, rules, IfSome}
 use Rattle.std.specs.Option.{option_or}
 use Rattle.std.proofs.lemmas.Bool.Decides.{nat_tests}
+use Rattle.fw_async.specs.NodeIds.{local_number}
 use Rattle.fw_entry.specs.Network.{first_id}
 use Rattle.fw_account.specs.Account.{Account}
 use Rattle.fw_account.specs.Words.{Register, is_node, manager_register, plug_register, register_at, register_of, first_address}
@@ -21,6 +22,14 @@ no_row id = go (nat_le first_id id)
     go : (b : Bool) → cond b (slice_get {X = NodeRow} [] (id - first_id)) None ≡ None
     go true = refl
     go false = refl
+
+-- a node ID of the local bus, and its number
+pub local_id : (id n : ℕ) → Some n ≡ local_number id → (first_id ≤ id) × (id - first_id ≡ n)
+local_id id n e = by (nat_le first_id id) refl e
+  where
+    by : (b : Bool) → nat_le first_id id ≡ b → Some n ≡ cond b (Some (id - first_id)) None → (first_id ≤ id) × (id - first_id ≡ n)
+    by true t f = (grind (arith, nat_tests), cc f)
+    by false t f = cc f
 
 -- what the nodes and the manager that are kept say
 pub register_is : (started : Bool) (manager : Option ℕ) (nodes : List NodeRow) (latest : Option ResetEntry) (id address : ℕ)

@@ -10,7 +10,8 @@ use Rattle.fw_account.specs.Account.{Account, Allocation, Flow, Connected as Con
 use Rattle.fw_account.specs.Network.{is_output, is_input, declared}
 use Rattle.fw_account.specs.Events.{after_reset, talker_at, no_connections}
 use Rattle.fw_account.specs.Words.{fields_at, input_fields_at}
-use Rattle.fw_ledger.specs.Resets.{first_high, without_connections, first_output, first_input, rate_of, talker}
+use Rattle.fw_ledger.specs.Resets.{first_high, first_output, first_input, rate_of, talker}
+use Rattle.fw_plug.specs.Plugs.{disconnected}
 use Rattle.fw_account.specs.Sound.{IsSound}
 use Rattle.fw_ledger.specs.Renewed.{HasNewPlugs, AreEmpty}
 use Rattle.fw_ledger.specs.Stands.{StandsFor, ShowsReset, asked_at, OutputsFor, InputsFor, SeatsFor, SecondFor, flow_of, allocation_of, charge_at, reclaimable_at, continues_at, word_at, seats_at, place}
@@ -119,15 +120,15 @@ on_renewed t l p true runs h is run =
 -- the word of an output plug after the reset
 word_renewed : (t : Tables) (l : Account) (r : ResetEntry) (new : List ℕ) (p : PlugAt) (there : Bool) → StandsFor t l → is_output l.latest p ≡ there
     → nat_lt p.plug (slice_index new p.device) ≡ true
-    → cond (nat_lt p.plug (slice_index new p.device)) (cond there (without_connections (word_at t.outputs.items p)) (first_output (rate_of r.nodes r.ids p.device))) (word_at t.outputs.items p)
+    → cond (nat_lt p.plug (slice_index new p.device)) (cond there (disconnected (word_at t.outputs.items p)) (first_output (rate_of r.nodes r.ids p.device))) (word_at t.outputs.items p)
     ≡ out_word (record { broadcast = false; counter = 0; settings = cond there (l.settings p) (declared r p) })
-word_renewed t l r new p true h is now = rw (now, h.outputs.words p is) (output_disconnected (fields_at l p) (h.sound.settings_fit p is))
+word_renewed t l r new p true h is now = rw (now, h.outputs.words p is) (output_disconnected (fields_at l p) (let m = h.sound.counts p in omega arith) (h.sound.settings_fit p is))
 word_renewed t l r new p false h is now = rw now refl
 
 input_renewed : (t : Tables) (l : Account) (p : PlugAt) (there : Bool) → StandsFor t l → is_input l.latest p ≡ there
-    → cond there (without_connections (word_at t.inputs.items p)) first_input ≡ in_word
+    → cond there (disconnected (word_at t.inputs.items p)) first_input ≡ in_word
     (record { broadcast = false; counter = 0; channel = cond there (l.input_channel p) 63 })
-input_renewed t l p true h is = rw (h.inputs.words p is) (input_disconnected (input_fields_at l p) (h.sound.channels_fit p is))
+input_renewed t l p true h is = rw (h.inputs.words p is) (input_disconnected (input_fields_at l p) (let m = h.sound.counts p in omega arith) (h.sound.channels_fit p is))
 input_renewed t l p false h is = refl
 
 outputs_reset : (t : Tables) (l : Account) (r : ResetEntry) (new : Tables) → StandsFor t l → IsNetwork r → HasNewPlugs t r new

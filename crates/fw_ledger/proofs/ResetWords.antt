@@ -6,7 +6,7 @@ use Rattle.std.proofs.lemmas.Nat.{mod_low, div-mul-add, mod-mul-add}
 use Rattle.fw_words.specs.Quadlet.{field}
 use Rattle.fw_plug.specs.Words.{OutFields, InFields, FitsRegister, flag, out_word, in_word, is_connected}
 use Rattle.fw_plug.proofs.Words.{fields_of_word}
-use Rattle.fw_ledger.specs.Resets.{without_connections}
+use Rattle.fw_plug.specs.Plugs.{disconnected}
 use Rattle.fw_ledger.specs.Stands.{place}
 
 -- the device and the number of a place
@@ -31,20 +31,24 @@ low_bits : (high low : ℕ) → low < 2 ^ 24 → field (high * 2 ^ 24 + low) 8 3
 low_bits high low lt = let e : (high * 2 ^ 24 + low) / 2 ^ 0 ≡ high * 2 ^ 24 + low = omega arith in rw e (mod_low high 24 low lt)
 
 -- an output plug keeps its settings
-pub output_disconnected : (f : OutFields) → FitsRegister f.settings → without_connections (out_word f) ≡ out_word (record { broadcast = false; counter = 0; settings = f.settings })
-output_disconnected f r =
+pub output_disconnected : (f : OutFields) → f.counter < 64 → FitsRegister f.settings → disconnected (out_word f) ≡ out_word (record { broadcast = false; counter = 0; settings = f.settings })
+output_disconnected f most r =
+    let below : flag f.broadcast ≤ 1 = grind arith in
+    let on : field (out_word f) 0 0 ≡ 1 = let a = r.channel in let b = r.rate in let d = r.overhead in omega arith in
     let low : ℕ = f.settings.channel * 2 ^ 16 + f.settings.rate * 2 ^ 14 + f.settings.overhead * 2 ^ 10 + 122 in
     let lt : low < 2 ^ 24 = omega arith in
     let e : out_word f ≡ (128 + flag f.broadcast * 64 + f.counter) * 2 ^ 24 + low = omega arith in
-    ap (λ w. 2 ^ 31 + field w 8 31) e ∙ ap (λ n. 2 ^ 31 + n) (low_bits (128 + flag f.broadcast * 64 + f.counter) low lt) ∙ omega arith
+    ap (λ n. n * 2 ^ 31 + field (out_word f) 8 31) on ∙ ap (λ w. 2 ^ 31 + field w 8 31) e ∙ ap (λ n. 2 ^ 31 + n) (low_bits (128 + flag f.broadcast * 64 + f.counter) low lt) ∙ omega arith
 
 -- an input plug keeps its channel
-pub input_disconnected : (f : InFields) → f.channel < 64 → without_connections (in_word f) ≡ in_word (record { broadcast = false; counter = 0; channel = f.channel })
-input_disconnected f small =
+pub input_disconnected : (f : InFields) → f.counter < 64 → f.channel < 64 → disconnected (in_word f) ≡ in_word (record { broadcast = false; counter = 0; channel = f.channel })
+input_disconnected f most small =
+    let below : flag f.broadcast ≤ 1 = grind arith in
+    let on : field (in_word f) 0 0 ≡ 1 = omega arith in
     let low : ℕ = f.channel * 2 ^ 16 in
     let lt : low < 2 ^ 24 = omega arith in
     let e : in_word f ≡ (128 + flag f.broadcast * 64 + f.counter) * 2 ^ 24 + low = omega arith in
-    ap (λ w. 2 ^ 31 + field w 8 31) e ∙ ap (λ n. 2 ^ 31 + n) (low_bits (128 + flag f.broadcast * 64 + f.counter) low lt) ∙ omega arith
+    ap (λ n. n * 2 ^ 31 + field (in_word f) 8 31) on ∙ ap (λ w. 2 ^ 31 + field w 8 31) e ∙ ap (λ n. 2 ^ 31 + n) (low_bits (128 + flag f.broadcast * 64 + f.counter) low lt) ∙ omega arith
 
 -- a connection stands where one is counted
 pub output_connected : (f : OutFields) → f.counter < 64 → FitsRegister f.settings → is_connected (out_word f) ≡ (f.broadcast || not (f.counter == 0))

@@ -1,9 +1,9 @@
 -- What a bus reset does to the places of the tables.
 use Rattle.fw_entry.specs.declared.nodes.NodeRow.{NodeRow}
 use Rattle.fw_phy.specs.declared.packet.PhyPacket.{PhyPacket}
-use Rattle.std.specs.Prelude.{ℕ, ◌+◌, ◌^◌, nat_lt, Bool, false, ◌&&◌, ◌||◌, None, List, slice_index, if◌then◌else◌}
-use Rattle.fw_words.specs.Quadlet.{field}
+use Rattle.std.specs.Prelude.{ℕ, ◌+◌, nat_lt, Bool, false, ◌&&◌, ◌||◌, None, List, slice_index, if◌then◌else◌}
 use Rattle.fw_plug.specs.Words.{is_connected, out_word, in_word}
+use Rattle.fw_plug.specs.Plugs.{disconnected}
 use Rattle.fw_entry.specs.Network.{speed_of, node_of_device}
 use Rattle.fw_account.specs.Account.{is_open}
 use Rattle.fw_account.specs.Words.{bits_word}
@@ -15,10 +15,6 @@ use Rattle.fw_ledger.specs.declared.tables.Reclaimable.TheVariants.{Nothing, Flo
 -- CHANNELS_AVAILABLE_HI where nothing is allocated
 abbrev pub first_high : Bool → ℕ
 first_high withheld = bits_word (λ i. is_open withheld (λ ch. None) (0 + i))
-
--- a plug's word without its connections
-abbrev pub without_connections : ℕ → ℕ
-without_connections word = 2 ^ 31 + field word 8 31
 
 -- the word of a new output plug of a device with this speed
 abbrev pub first_output : ℕ → ℕ
@@ -36,11 +32,11 @@ rate_of nodes ids d = speed_of (node_of_device nodes d) ids
 -- not there now it is not looked at
 abbrev pub renewed_output : List ℕ → List ℕ → List NodeRow → List PhyPacket → ℕ → ℕ → ℕ → ℕ
 renewed_output before now nodes ids d n word =
-    if nat_lt n (slice_index now d) then (if nat_lt n (slice_index before d) then without_connections word else first_output (rate_of nodes ids d)) else word
+    if nat_lt n (slice_index now d) then (if nat_lt n (slice_index before d) then disconnected word else first_output (rate_of nodes ids d)) else word
 
 -- the word of input plug n of device d, likewise
 abbrev pub renewed_input : List ℕ → List ℕ → ℕ → ℕ → ℕ → ℕ
-renewed_input before now d n word = if nat_lt n (slice_index now d) then (if nat_lt n (slice_index before d) then without_connections word else first_input) else word
+renewed_input before now d n word = if nat_lt n (slice_index now d) then (if nat_lt n (slice_index before d) then disconnected word else first_input) else word
 
 -- whether an output plug goes on talking, likewise
 abbrev pub goes_on : List ℕ → List ℕ → Bool → ℕ → ℕ → ℕ → Bool → Bool

@@ -4,7 +4,9 @@ use Rattle.fw_base.specs.declared.plug.ConnectionKind.TheVariants.{PointToPoint,
 use Rattle.fw_base.specs.declared.plug.PlugAt.{PlugAt}
 use Rattle.fw_words.specs.Quadlet.{field, quadlet_at}
 use Rattle.fw_plug.specs.Words.{OutFields, Settings, is_connected}
-use Rattle.std.specs.Prelude.{◌≡◌, ◌<◌, ◌⊎◌, ◌+◌, ◌-◌, ◌*◌, ℕ, ◌==◌, nat_lt, Bool, true, false, not, ◌&&◌, ◌||◌, IsTrue, List, length, slice_index, if◌then◌else◌, Option, Some, None}
+use Rattle.fw_plug.specs.Changes.{is_full}
+pub use Rattle.fw_plug.specs.Changes.{connection_value, with_channel}
+use Rattle.std.specs.Prelude.{◌≡◌, ◌<◌, ◌⊎◌, ℕ, ◌==◌, nat_lt, Bool, true, false, not, ◌&&◌, ◌||◌, IsTrue, List, length, slice_index, if◌then◌else◌, Option, Some, None}
 use Rattle.fw_account.specs.Account.{Pending, Allocation, Connections, Account, is_there, is_pending_of, counter, pending_channel}
 use Rattle.fw_account.specs.Moves.{Move, after}
 use Rattle.fw_account.specs.Words.{Register, BandwidthAvailable, ChannelsAvailable, OutputPlug, InputPlug}
@@ -66,15 +68,9 @@ with_half base word t = record t { high = (if base == 0 then word else t.high); 
 
 -- ---- connections
 
--- one count of the point-to-point connection counter, or the broadcast connection bit
-abbrev pub connection_value : ConnectionKind → ℕ
-connection_value PointToPoint = 16777216
-connection_value Broadcast = 1073741824
-
 -- whether one connection more of the kind fits a plug with this word
 abbrev pub shows_room : ConnectionKind → ℕ → Bool
-shows_room PointToPoint word = nat_lt (field word 2 7) 63
-shows_room Broadcast word = not (field word 1 1 == 1)
+shows_room kind word = not (is_full kind word)
 
 -- the word shows these connections
 pub record Shows (word : ℕ) (s : Connections) : Type 0 where
@@ -89,10 +85,6 @@ is_broadcast Broadcast = true
 -- the fields of an output plug with one connection of the kind and no other
 abbrev pub connected_once : ConnectionKind → Settings → OutFields
 connected_once kind k = record { broadcast = is_broadcast kind; counter = (if is_broadcast kind then 0 else 1); settings = k }
-
--- an input plug's word with another channel
-abbrev pub with_channel : ℕ → ℕ → ℕ
-with_channel word channel = word - field word 10 15 * 65536 + channel * 65536
 
 -- a plug with this word may be connected on the channel
 abbrev pub keeps_channel : ℕ → ℕ → Bool

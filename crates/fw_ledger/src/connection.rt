@@ -1,17 +1,17 @@
 //! What the words of plug registers say of connections, and whose the connections are.
 
-ghost use Rattle.std.specs.Prelude.{◌≡◌, ◌<◌, ◌≤◌, length, slice_index};
+ghost use Rattle.std.specs.Prelude.{◌≡◌, ◌<◌, length, slice_index};
 ghost use Rattle.fw_plug.specs.Words.{out_fields, out_word};
 ghost use Rattle.fw_account.specs.Account.{Connections};
 ghost use Rattle.fw_account.specs.Moves.{add_connection, drop_connection};
 ghost use Rattle.fw_account.specs.Decode.{is_more, kind_of, is_owner, has_connection_of};
 ghost use Rattle.fw_ledger.specs.Stands.{SeatsFor, owner_of, place, seats_at};
-ghost use Rattle.fw_ledger.specs.Swaps.{connection_value, connected_once, shows_room};
+ghost use Rattle.fw_ledger.specs.Swaps.{connected_once, shows_room};
 
 use crate::place::place;
 use crate::tables::{Broadcaster, Seats};
 use fw_base::{ConnectionKind, PlugAt};
-use fw_plug::OutWord;
+use fw_plug::{OutWord, is_full, one_more, unconnected_output};
 
 /// A connection is made, and none broken, where a plug's word becomes the other.
 pub fn is_more(word: u32, new: u32) -> bool
@@ -37,25 +37,11 @@ pub fn kind_of(word: u32, new: u32) -> ConnectionKind
     }
 }
 
-/// One count of the point-to-point connection counter, or the broadcast connection bit.
-pub fn connection_value(kind: ConnectionKind) -> u32
-    ensures value { result ≡ connection_value kind }
-    ensures within { result ≤ 0x4000_0000 }
-{
-    match kind {
-        ConnectionKind::PointToPoint => 0x0100_0000,
-        ConnectionKind::Broadcast => 0x4000_0000,
-    }
-}
-
 /// A plug with this word has room for one connection more of the kind.
 pub fn shows_room(kind: ConnectionKind, word: u32) -> bool
     ensures { result ≡ shows_room kind word }
 {
-    match kind {
-        ConnectionKind::PointToPoint => OutWord(word).counter() < 63,
-        ConnectionKind::Broadcast => !OutWord(word).broadcast(),
-    }
+    !is_full(kind, word)
 }
 
 /// The word of an output plug with its first connection.
@@ -65,11 +51,7 @@ pub fn first_word(kind: ConnectionKind, channel: u8, rate: u8, overhead: u8) -> 
     requires overhead { overhead < 16 }
     ensures { result ≡ out_word (connected_once kind (record { channel = channel; rate = rate; overhead = overhead })) }
 {
-    0x8000_007A
-        + connection_value(kind)
-        + u32::from(channel) * 0x1_0000
-        + u32::from(rate) * 0x4000
-        + u32::from(overhead) * 0x400
+    one_more(kind, unconnected_output(channel, rate, overhead))
 }
 
 /// Whose the connections of a plug are.

@@ -8,24 +8,16 @@ ghost use Rattle.fw_account.specs.Moves.{ConnectInput, DisconnectInput};
 ghost use Rattle.fw_account.specs.Words.{InputPlug};
 ghost use Rattle.fw_account.specs.Decode.{allowed, move_at};
 ghost use Rattle.fw_ledger.specs.Stands.{Stands, StandsFor, Follows, place, word_at};
-ghost use Rattle.fw_ledger.specs.Swaps.{moved_by, with_channel, keeps_channel};
+ghost use Rattle.fw_ledger.specs.Swaps.{moved_by, keeps_channel};
 
 use crate::channel::exceeds;
 use crate::connection::{
-    added, connection_value, dropped, has_connection_of, is_more, kind_of, seats_at, shows_room,
+    added, dropped, has_connection_of, is_more, kind_of, seats_at, shows_room,
 };
 use crate::place::{place, word_at};
 use crate::tables::{Seats, Tables};
 use fw_base::{ConnectionKind, PlugAt};
-use fw_plug::InWord;
-
-// An input plug's word with another channel.
-fn with_channel(word: u32, channel: u8) -> u32
-    requires { channel < 64 }
-    ensures { result ≡ with_channel word channel }
-{
-    word - (u32::from(InWord(word).channel()) << 16) + (u32::from(channel) << 16)
-}
+use fw_plug::{InWord, connection_value, with_channel};
 
 // A plug with this word may be connected on the channel: where it is connected, it stays.
 fn keeps_channel(word: u32, channel: u8) -> bool

@@ -12,14 +12,13 @@ ghost use Rattle.fw_ledger.specs.Swaps.{moved_by};
 
 use crate::channel::exceeds;
 use crate::connection::{
-    added, connection_value, dropped, first_word, has_connection_of, is_more, kind_of, seats_at,
-    shows_room,
+    added, dropped, first_word, has_connection_of, is_more, kind_of, seats_at, shows_room,
 };
 use crate::held::{charge_at, is_held, is_same};
 use crate::place::{place, word_at};
 use crate::tables::{Addressed, Charge, Seats, Tables};
 use fw_base::{ConnectionKind, PlugAt};
-use fw_plug::{OutWord, units};
+use fw_plug::{OutWord, connection_value, units};
 
 impl Tables {
     // Another word and other connections at an output plug.

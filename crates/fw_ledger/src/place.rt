@@ -7,6 +7,7 @@ ghost use Rattle.fw_account.specs.Words.{plug_number};
 ghost use Rattle.fw_ledger.specs.Stands.{allocation_of, charge_at, place, word_at, row_at};
 
 use crate::tables::Charge;
+use fw_async::local_number;
 use fw_base::PlugAt;
 use fw_entry::NodeRow;
 
@@ -49,10 +50,8 @@ pub fn word_at(words: &[u32], p: PlugAt) -> u32
 pub fn row_at(nodes: &[NodeRow], id: u16) -> Option<NodeRow>
     ensures { result ≡ row_at nodes.now id }
 {
-    if id < 0xffc0 {
-        return None;
-    }
-    nodes.get(usize::from(id - 0xffc0)).copied()
+    let number = local_number(id)?;
+    nodes.get(usize::from(number)).copied()
 }
 
 /// The number of the plug whose register stands at an offset, where the first of the 31 stands at another.

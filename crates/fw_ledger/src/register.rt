@@ -9,6 +9,7 @@ ghost use Rattle.fw_ledger.specs.Swaps.{IsThere, register_named};
 
 use crate::place::{plug_number, row_at, word_at};
 use crate::tables::Tables;
+use fw_async::local_number;
 use fw_base::PlugAt;
 use fw_csr::REGISTER_SPACE;
 use fw_csr::low_offset::{
@@ -85,17 +86,17 @@ fn plug_register(row: Option<NodeRow>, offset: u64) -> Option<Register>
 }
 
 // The node with this number is the resource manager.
-fn is_node(node: u16, manager: Option<u8>) -> bool
+fn is_node(node: u8, manager: Option<u8>) -> bool
     ensures { result ≡ is_node node manager }
 {
     match manager {
-        Some(n) => u16::from(n) == node,
+        Some(n) => n == node,
         None => false,
     }
 }
 
 // The register at an offset of a node, where it is the resource manager.
-fn managed(node: u16, manager: Option<u8>, offset: u64) -> Option<Register>
+fn managed(node: u8, manager: Option<u8>, offset: u64) -> Option<Register>
     ensures { option_map register_named result ≡ (if is_node node manager then manager_register offset else None) }
 {
     if is_node(node, manager) {
@@ -128,11 +129,12 @@ impl Tables {
         ensures register { (l : Account) → StandsFor self.now l → option_map register_named result ≡ register_of l.latest id address }
         ensures there { IfSome result (λ register. IsThere register self.now) }
     {
-        if id < 0xffc0 || address < REGISTER_SPACE {
+        let number = local_number(id)?;
+        if address < REGISTER_SPACE {
             return None;
         }
         let offset = address - REGISTER_SPACE;
-        match managed(id - 0xffc0, self.manager, offset) {
+        match managed(number, self.manager, offset) {
             Some(register) => Some(register),
             None => plug_register(row_at(self.nodes.as_slice(), id), offset),
         }

@@ -3,29 +3,14 @@
 ghost use Rattle.std.specs.Prelude.{◌≡◌, ◌<◌, ◌≤◌, ◌/◌, ◌%◌, ℕ, length, slice_index, slice_index_or, false};
 ghost use Rattle.fw_entry.specs.Network.{speed_of, node_of_device};
 ghost use Rattle.fw_account.specs.Words.{id_below};
-ghost use Rattle.fw_ledger.specs.Resets.{without_connections, first_output, renewed_output, renewed_input, goes_on};
+ghost use Rattle.fw_ledger.specs.Resets.{renewed_output, renewed_input, goes_on};
 
 use crate::place::{has_plug, plugs_of};
+use fw_async::node_id;
 use fw_base::PlugAt;
 use fw_entry::NodeRow;
 use fw_phy::PhyPacket;
-use fw_plug::OutWord;
-use fw_words::Quadlet;
-
-// A plug's word without its connections.
-fn without_connections(word: u32) -> u32
-    ensures { result ≡ without_connections word }
-{
-    0x8000_0000 + Quadlet(word).field(8, 31)
-}
-
-// The word of an output plug at first.
-fn first_output(rate: u8) -> u32
-    requires { rate < 4 }
-    ensures { result ≡ first_output rate }
-{
-    0x803F_007A + (u32::from(rate) << 14)
-}
+use fw_plug::{FIRST_CHANNEL, OutWord, disconnected, unconnected_input, unconnected_output};
 
 // The speed of a node, by its self-ID packet zero.
 fn speed_of(n: usize, ids: &[PhyPacket]) -> u8
@@ -60,7 +45,7 @@ pub fn id_of_device(nodes: &[NodeRow], device: u8) -> Option<u16>
 {
     let node = node_of_device(nodes, device);
     if node < nodes.len() {
-        Some(0xffc0 + node as u16)
+        Some(node_id(node as u8))
     } else {
         None
     }
@@ -94,9 +79,13 @@ fn renewed_output(
         return word;
     }
     if has_plug(before, p) {
-        without_connections(word)
+        disconnected(word)
     } else {
-        first_output(speed_of(node_of_device(nodes, p.device), ids))
+        unconnected_output(
+            FIRST_CHANNEL,
+            speed_of(node_of_device(nodes, p.device), ids),
+            0,
+        )
     }
 }
 
@@ -129,9 +118,9 @@ fn renewed_input(before: &[u8; 63], now: &[u8; 63], p: PlugAt, word: u32) -> u32
         return word;
     }
     if has_plug(before, p) {
-        without_connections(word)
+        disconnected(word)
     } else {
-        0x803F_0000
+        unconnected_input(FIRST_CHANNEL)
     }
 }
 

@@ -3,12 +3,9 @@ ghost use Rattle.fw_manager.specs.Bids.{first_state, stage_in, next, after_next,
 ghost use Rattle.fw_manager.specs.declared.candidate.Stage.TheVariants.{Heard, Answered};
 
 use crate::Bid;
-use fw_csr::{BUS_MANAGER_ID, QuadletAccess, Reply};
+use fw_csr::{BUS_MANAGER_ID, NO_BUS_MANAGER, QuadletAccess, Reply};
 use fw_words::Swap;
 use std::marker::Model;
-
-/// BUS_MANAGER_ID while there is no bus manager (IEEE 1394-1995, 8.3.2.3.6).
-const NO_BUS_MANAGER: u32 = 0x3F;
 
 /// How far a bid has come.
 #[derive(Clone, Copy)]
