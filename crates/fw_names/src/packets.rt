@@ -7,15 +7,12 @@ ghost use Rattle.fw_names.specs.Names.{tcode, tcode_name, rcode_name, function_n
 use crate::append::{put_number, put_word};
 use crate::hex::put_hex4;
 use crate::pairs::Pairs;
-use fw_async::Packet;
+use fw_async::{Packet, local_number};
 use fw_cip::CipHeader;
 use std::alloc::AllocError;
 
 /// The node_ID of all nodes.
 const BROADCAST: u16 = 0xffff;
-
-/// The node_ID of node 0 of the local bus; the others stand behind it.
-const FIRST_NODE: u16 = 0xffc0;
 
 /// The row of a packet's kind, by `$row!`: its transaction code and the name of that, behind what else is handed on. `Packet` is in scope
 /// where it is called.
@@ -150,10 +147,10 @@ pub fn put_node(text: &mut Vec<u8>, pairs: &Pairs, id: u16) -> Result<(), AllocE
     if id == BROADCAST {
         return put_word(text, "broadcast");
     }
-    if id < FIRST_NODE {
+    let Some(number) = local_number(id) else {
         put_word(text, "node_ID ")?;
         return put_hex4(text, pairs, id);
-    }
+    };
     put_word(text, "node ")?;
-    put_number(text, u64::from(id - FIRST_NODE))
+    put_number(text, u64::from(number))
 }
