@@ -23,13 +23,13 @@ ghost use Rattle.fw_machine.specs.Streaming.{AreStillFrom};
 
 use crate::second::{pass_one, pass_second};
 use crate::streams::put_packets;
-use fw_async::{Head, Packet};
+use fw_async::{Head, Packet, node_id};
 use fw_csr::offset::CYCLE_TIME;
 use fw_devices::Talkers;
 use fw_entry::{CycleRoom, Entry};
 use fw_machine::entries::second_over;
 use fw_machine::{Machine, Room, keep, put_entry, recording_on};
-use fw_node::{cycle_time, node_id};
+use fw_node::cycle_time;
 use fw_outside::{Failed, Sink};
 use fw_tape::Desk;
 

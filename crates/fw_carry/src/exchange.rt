@@ -11,7 +11,7 @@ ghost use Rattle.fw_node.specs.Packets.{packet_of, request_head};
 ghost use Rattle.fw_carry.specs.Exchanging.{GivesBoth, IsCarriedOut, IsOutstanding};
 ghost use Rattle.fw_machine.specs.Giving.{sides_of};
 
-use fw_async::{Packet, PacketRoom, Wire, destination_at};
+use fw_async::{Packet, PacketRoom, Wire, destination_at, number_of};
 use fw_base::Label;
 use fw_csr::{QuadletAccess, Reply};
 use fw_devices::Devices;
@@ -58,19 +58,12 @@ pub(crate) fn serve(
     let Some(bytes) = wire.get(from) else {
         unreachable!();
     };
-    let Some(target) = devices.device_at(number_in(destination_at(bytes))) else {
+    let Some(target) = devices.device_at(number_of(destination_at(bytes))) else {
         unreachable!();
     };
     let reply = devices.serve(target, cycle, bytes, packet);
     wire.remove(from);
     (target, reply)
-}
-
-/// The number of a node, by its node ID: the last six bits (IEEE 1394-1995, node_ID).
-fn number_in(id: u16) -> u8
-    ensures { result ≡ id % 64 }
-{
-    (id % 64) as u8
 }
 
 /// Writes a request that was answered at once, and behind it the response.

@@ -16,7 +16,7 @@ ghost use Rattle.fw_machine.specs.Giving.{sides_of};
 ghost use Rattle.fw_machine.specs.Stands.{IsReady, is_linked_in, is_living_in};
 
 use crate::exchange::exchange;
-use fw_async::Packet;
+use fw_async::{Packet, number_of};
 use fw_base::Label;
 use fw_csr::Request;
 use fw_csr::offset::FCP_COMMAND;
@@ -52,7 +52,7 @@ fn destination(frame: &Packet) -> u8
 {
     match frame {
         Packet::WriteQuadlet { head, .. } | Packet::WriteBlock { head, .. } => {
-            (head.destination % 64) as u8
+            number_of(head.destination)
         }
         _ => unreachable!(),
     }

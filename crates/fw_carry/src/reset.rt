@@ -17,9 +17,10 @@ ghost use Rattle.fw_devices.specs.Network.{is_node};
 use fw_base::DeviceKind;
 use fw_cmp::Directory;
 use fw_command::Name;
+use fw_csr::CYCLES_PER_SECOND;
 use fw_entry::Entry;
 use fw_machine::entries::withheld;
-use fw_machine::{Machine, Room, SECOND, give};
+use fw_machine::{Machine, Room, give};
 use fw_outside::{Failed, Sink};
 use fw_tree::End;
 
@@ -39,7 +40,7 @@ fn directory_now(machine: &Machine) -> Directory
         node,
         manager: machine.devices.latest().get().manager,
         over_at: if machine.reclaiming {
-            machine.cycle + SECOND
+            machine.cycle + CYCLES_PER_SECOND
         } else {
             machine.cycle
         },

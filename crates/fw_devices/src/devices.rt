@@ -1,8 +1,9 @@
 ghost use Rattle.std.specs.Prelude.{◌≡◌, ◌<◌, ◌≤◌, length, true, false, IfOk, IfSome, IfNone};
 ghost use Rattle.fw_devices.specs.Network.{IsNetwork, no_devices, device_named, node_at, is_node};
 
+use crate::MOST_DEVICES;
 use crate::bus::Bus;
-use crate::names::{MOST, Names};
+use crate::names::Names;
 use fw_base::DeviceKind;
 use fw_command::Name;
 use fw_node::Node;
@@ -50,7 +51,7 @@ impl Devices {
         Ok(Devices {
             cabling: Cabling::new(),
             names: Names::new(alloc)?,
-            nodes: Vec::with_capacity(alloc, MOST)?,
+            nodes: Vec::with_capacity(alloc, MOST_DEVICES)?,
             bus: Bus::new(),
             withhold: false,
         })

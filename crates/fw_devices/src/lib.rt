@@ -10,3 +10,6 @@ mod talkers;
 pub use devices::Devices;
 pub use laws::{cables_extend_the_bus, reset_entries_show_the_bus};
 pub use talkers::Talkers;
+
+/// How many devices a bus may have: all may be nodes at once.
+pub const MOST_DEVICES: usize = fw_async::MOST_NODES;

@@ -3,12 +3,10 @@
 ghost use Rattle.std.specs.Prelude.{ℕ, ◌≡◌, ◌<◌, ◌++◌, ◌∷◌, [], length, position, get_or, set, IfOk, IfSome};
 ghost use Rattle.fw_devices.specs.Network.{same_bytes};
 
+use crate::MOST_DEVICES;
 use fw_command::Name;
 use std::alloc::{AllocError, Global};
 use std::marker::Model;
-
-/// How many devices a bus may have.
-pub(crate) const MOST: usize = 63;
 
 /// How many keys there are.
 const KEYS: usize = 256;
@@ -87,7 +85,7 @@ impl Names {
         ensures { IfOk result (λ n. n ≡ []) }
     {
         Ok(Names {
-            list: Vec::with_capacity(alloc, MOST)?,
+            list: Vec::with_capacity(alloc, MOST_DEVICES)?,
             places: no_places(),
         })
     }

@@ -3,7 +3,7 @@
 ghost use Rattle.std.specs.Prelude.{◌≡◌};
 ghost use Rattle.fw_async.specs.Heads.{head_of};
 
-use fw_async::{Head, Packet};
+use fw_async::{Head, Packet, Tcode};
 use fw_words::Swap;
 
 /// The kind of response that answers a request (IEEE 1394-1995, transaction codes).
@@ -20,17 +20,18 @@ pub enum Answer {
 }
 
 impl Answer {
+    ghost use Rattle.fw_async.specs.Tcode.{code_of};
     ghost use Rattle.fw_explain.specs.Requests.{tcode_of};
 
     // Its transaction code.
-    fn tcode(self) -> u8
-        ensures { result ≡ tcode_of self }
+    fn tcode(self) -> Tcode
+        ensures { code_of result ≡ tcode_of self }
     {
         match self {
-            Answer::Write => 0x2,
-            Answer::ReadQuadlet => 0x6,
-            Answer::ReadBlock => 0x7,
-            Answer::Lock => 0xB,
+            Answer::Write => Tcode::WriteReply,
+            Answer::ReadQuadlet => Tcode::ReadQuadletReply,
+            Answer::ReadBlock => Tcode::ReadBlockReply,
+            Answer::Lock => Tcode::LockReply,
         }
     }
 }
@@ -119,7 +120,7 @@ impl Asked {
         self.source == head.destination
             && self.destination == head.source
             && self.label == head.tl
-            && self.answer.tcode() == answer.tcode()
+            && self.answer.tcode().code() == answer.tcode().code()
     }
 
     // Another request has its source, destination and label.

@@ -5,8 +5,8 @@ ghost use Rattle.fw_manager.specs.Bids.{CandidateState, next, after_next, after_
 ghost use Rattle.fw_run.specs.Elections.{Election, no_election, with_candidate, with_new_candidate};
 ghost use Rattle.fw_machine.specs.Candidates.{HasElection, count_of, candidate_in};
 
-use crate::MOST;
 use fw_csr::Reply;
+use fw_devices::MOST_DEVICES;
 use fw_manager::{Bid, Candidate};
 use std::alloc::{AllocError, Global};
 use std::marker::Model;
@@ -36,7 +36,7 @@ impl Candidates {
         ensures { IfOk result (λ c. HasElection c 0 no_election) }
     {
         Ok(Candidates {
-            list: Vec::with_capacity(alloc, MOST)?,
+            list: Vec::with_capacity(alloc, MOST_DEVICES)?,
             begun: false,
         })
     }

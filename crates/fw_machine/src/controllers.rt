@@ -12,9 +12,9 @@ ghost use Rattle.fw_cmp.specs.Turns.{addressee_in};
 ghost use Rattle.fw_run.specs.Afterwards.{slot_of, start_of};
 ghost use Rattle.fw_machine.specs.Tables.{IsTable, count_of, dead_of, states_of};
 
-use crate::MOST;
 use fw_cmp::{Controller, Directory, Next, StartFault};
 use fw_csr::Reply;
+use fw_devices::MOST_DEVICES;
 use fw_run::Wanted;
 use std::alloc::{AllocError, Global};
 use std::marker::Model;
@@ -27,7 +27,7 @@ pub(crate) const PLACES: usize = 256;
 pub struct Controllers {
     pub(crate) list: Vec<Controller>,
     /// The controller died, and was not started again.
-    pub(crate) dead: [bool; MOST],
+    pub(crate) dead: [bool; MOST_DEVICES],
     /// The controller has nothing to do: it was found to have nothing, or is new, and nothing has happened to it since.
     pub(crate) calm: [bool; PLACES],
     /// The controller is as a new one: nothing has happened to it at all, and nothing happens to it at a bus reset.
@@ -53,8 +53,8 @@ impl Controllers {
         ensures { IfOk result (λ c. IsTable c 0 (λ d. first_listening) (λ d. false)) }
     {
         Ok(Controllers {
-            list: Vec::with_capacity(alloc, MOST)?,
-            dead: [false; MOST],
+            list: Vec::with_capacity(alloc, MOST_DEVICES)?,
+            dead: [false; MOST_DEVICES],
             calm: all_marked(),
             fresh: all_marked(),
             deaf: false,

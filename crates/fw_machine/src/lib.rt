@@ -17,10 +17,7 @@ mod streams;
 pub use candidates::Candidates;
 pub use controllers::Controllers;
 pub use giving::{give, give_async, give_packet, put_entry};
-pub use machine::{Machine, SECOND};
+pub use machine::Machine;
 pub use recording::{Recording, hear_block, keep, recording_on};
 pub use room::Room;
 pub use streams::Streams;
-
-/// How many devices a bus may have.
-const MOST: usize = 63;

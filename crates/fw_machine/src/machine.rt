@@ -15,9 +15,6 @@ use fw_devices::Devices;
 use fw_dub::Reel;
 use std::alloc::{AllocError, Global};
 
-/// How many cycles a second has.
-pub const SECOND: u64 = 8000;
-
 /// What a bus keeps: no account and no entries.
 #[derive(Drop)]
 pub struct Machine {

@@ -10,12 +10,8 @@ ghost use Rattle.fw_machine.specs.Recording.{hearing, hearing_of, recording_in, 
 ghost use Rattle.fw_machine.specs.Stands.{IsReady, StandsFor};
 
 use crate::Machine;
+use fw_dub::{BLOCKS_525, BLOCKS_625};
 use fw_tape::{TapeSystem, Transport};
-
-/// The most blocks that are kept of a tape of 525 lines, and of 625: those of 16 frames.
-const BLOCKS_525: u16 = 4_000;
-
-const BLOCKS_625: u16 = 4_800;
 
 /// What the tied deck records of a cycle.
 #[derive(Drop)]

@@ -1,12 +1,9 @@
 -- What stands in the registers of a node that only its number, its kind and the time decide (IEEE 1394-1995, 8).
 use Rattle.std.specs.Prelude.{ℕ, ◌+◌, ◌/◌, ◌%◌, [], ◌∷◌, Bool, if◌then◌else◌}
 use Rattle.fw_words.specs.Layout.{packed}
+pub use Rattle.fw_async.specs.NodeIds.{node_id}
 use Rattle.fw_base.specs.declared.device.DeviceKind.{DeviceKind}
 use Rattle.fw_base.specs.Devices.{has_link, is_contender, is_capable}
-
--- node n of the local bus has the node ID FFC0 + n
-abbrev pub node_id : ℕ → ℕ
-node_id number = 0xFFC0 + number
 
 -- NODE_IDS: node_ID, and 16 zeros
 abbrev pub node_ids : ℕ → ℕ

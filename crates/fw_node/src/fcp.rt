@@ -14,7 +14,7 @@ ghost use Rattle.fw_node.specs.Fcp.{command_bytes, IsSendable, HasFollowed, loca
 
 use crate::Node;
 use crate::response::RETRY_X;
-use fw_async::{Head, Packet};
+use fw_async::{Head, Packet, node_id};
 use fw_avc::Unit;
 use fw_base::Label;
 use fw_csr::Request;
@@ -166,5 +166,5 @@ pub(crate) fn is_sendable(frame: &Frame)
 fn local_id(number: u8) -> u16
     ensures { result ≡ local_id number }
 {
-    0xFFC0 + u16::from(number % 64)
+    node_id(number % 64)
 }

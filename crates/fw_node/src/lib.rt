@@ -15,4 +15,4 @@ pub use laws::{nodes_answer_as_their_spaces, packets_carry_what_they_are_made_of
 pub use node::Node;
 pub use request::{put_request, request_packet};
 pub use response::reply_in;
-pub use words::{cycle_time, node_id};
+pub use words::cycle_time;

@@ -16,7 +16,7 @@ ghost use Rattle.fw_node.specs.State.{after_request, space_of};
 use crate::Node;
 use crate::request::{request_of, requester};
 use crate::response::response;
-use crate::words::{COMPANY, NAME_1394, SPLIT_TIMEOUT, capabilities, cycle_time, node_ids};
+use crate::words::{COMPANY, NAME_1394, SPLIT_TIMEOUT_LOW, capabilities, cycle_time, node_ids};
 use fw_async::Packet;
 use fw_csr::offset::{
     BUS_MANAGER_ID, BUS_NAME, BUS_OPTIONS, CHANNELS_AVAILABLE_LO, CYCLE_TIME, EUI_64_HI, EUI_64_LO,
@@ -132,7 +132,7 @@ impl Node {
         match offset {
             NODE_IDS => Some(Register::ReadOnly(node_ids(number))),
             SPLIT_TIMEOUT_HI => Some(Register::ReadOnly(0)),
-            SPLIT_TIMEOUT_LO => Some(Register::ReadOnly(SPLIT_TIMEOUT)),
+            SPLIT_TIMEOUT_LO => Some(Register::ReadOnly(SPLIT_TIMEOUT_LOW)),
             CYCLE_TIME => Some(Register::ReadOnly(cycle_time(now))),
             BUS_NAME => Some(Register::ReadOnly(NAME_1394)),
             BUS_OPTIONS => Some(Register::ReadOnly(capabilities(self.kind))),

@@ -6,8 +6,7 @@ ghost use Rattle.fw_async.specs.Quadlets.{request_packet as quadlet_packet};
 ghost use Rattle.fw_node.specs.Packets.{request_in, requester, packet_of, request_head, RequestFits};
 
 use crate::response::RETRY_X;
-use crate::words::node_id;
-use fw_async::{Head, Packet, PacketRoom, QuadletRequest};
+use fw_async::{Head, Packet, PacketRoom, QuadletRequest, node_id, number_of};
 use fw_base::Label;
 use fw_csr::{QuadletAccess, Request};
 use fw_words::{Bytes, Bytes16, Data, Swap};
@@ -63,7 +62,7 @@ pub fn requester(p: &Packet) -> u8
         | Packet::Lock { head, .. } => head.source,
         _ => unreachable!(),
     };
-    (source % 64) as u8
+    number_of(source)
 }
 
 fn copy_of(bytes: &Bytes16) -> Bytes16

@@ -7,8 +7,7 @@ ghost use Rattle.fw_async.specs.Reader.{Spells};
 ghost use Rattle.fw_async.specs.declared.packet.Packet.{Packet as PacketRecord};
 ghost use Rattle.fw_node.specs.Packets.{request_in, response_to, response_head, old_bytes, reply_in, old_value};
 
-use crate::words::node_id;
-use fw_async::{Head, Packet, PacketRoom, QuadletRequest};
+use fw_async::{Head, Packet, PacketRoom, QuadletRequest, node_id};
 use fw_csr::Reply;
 use fw_words::{Bytes, Bytes8, Data, Quadlet, put_quadlet, quadlet_at};
 

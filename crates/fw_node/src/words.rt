@@ -1,28 +1,20 @@
 //! What stands in the registers that a node keeps itself.
 
 ghost use Rattle.std.specs.Prelude.{◌≡◌, ◌≤◌};
-ghost use Rattle.fw_node.specs.Contents.{node_id, node_ids, cycle_time, capabilities};
+ghost use Rattle.fw_node.specs.Contents.{node_ids, cycle_time, capabilities};
 
+use fw_async::node_id;
 use fw_avc::COMPANY_ID;
 use fw_base::DeviceKind;
+use fw_csr::{CYCLES_PER_SECOND, SPLIT_TIMEOUT};
 use fw_words::with_field;
 
-/// 800 cycles, in the top 13 bits.
-pub const SPLIT_TIMEOUT: u32 = 800 << 19;
+/// SPLIT_TIMEOUT_LO: the cycles, in the top 13 bits.
+pub const SPLIT_TIMEOUT_LOW: u32 = (SPLIT_TIMEOUT as u32) << 19;
 /// The letters "1394".
 pub const NAME_1394: u32 = 0x3133_3934;
 /// The high quadlet of the EUI-64: the company, and a 0. Its low quadlet is the device's number (own).
 pub const COMPANY: u32 = COMPANY_ID << 8;
-
-const CYCLES_PER_SECOND: u64 = 8000;
-
-/// The node ID of a node on the local bus: FFC0 and its number (IEEE 1394-1995, node_ID).
-pub fn node_id(number: u8) -> u16
-    requires { number ≤ 62 }
-    ensures { result ≡ node_id number }
-{
-    0xFFC0 + u16::from(number)
-}
 
 /// NODE_IDS: the node ID in the high 16 bits.
 pub fn node_ids(number: u8) -> u32

@@ -17,13 +17,12 @@ use crate::decks::{decide_command, decide_dub, decide_eject, decide_insert};
 use crate::transactions::{decide_show, decide_transaction};
 use fw_base::DeviceKind;
 use fw_command::{Command, Name};
+use fw_devices::MOST_DEVICES;
 use fw_machine::Machine;
 use fw_run::{Access, MOST_HALF_STEPS, MOST_RESETS, MOST_WRITTEN_CYCLES, Order, RuleFault};
 use fw_tree::{End, TreeFault};
 use fw_words::Swap;
 
-/// How many devices a bus may have.
-const MOST_DEVICES: u8 = 63;
 /// The greatest cycle number.
 const LAST_CYCLE: u64 = 1 << 52;
 
@@ -65,7 +64,7 @@ fn decide_device(
     if machine.devices.find(name).is_some() {
         return Err(RuleFault::NameTaken);
     }
-    if machine.devices.count() >= MOST_DEVICES {
+    if usize::from(machine.devices.count()) >= MOST_DEVICES {
         return Err(RuleFault::TooMany);
     }
     Ok(Order::Declare(*name, DeviceKind::with_code(kind), ports, speed))

@@ -26,7 +26,7 @@ pub unreachable-requires-in_default-device_at : goal.unreachable-requires-in_def
 unreachable-requires-in_default-device_at c =
     let o = c.requires.outstanding in
     let got = ap (option_map (λ (b : Bor (List ℕ)). b.now)) (sym c.in-Some.is) ∙ c.get.ensures in
-    let at = c.device_at.ensures ∙ goes_to c.number_in.result c.destination_at.result o.2 c.number_in.ensures (c.destination_at.ensures o.1 (spells_it o.2 got)) in
+    let at = c.device_at.ensures ∙ goes_to c.number_of.result c.destination_at.result o.2 c.number_of.ensures.value (c.destination_at.ensures o.1 (spells_it o.2 got)) in
     c.in_default-device_at.not-Some o.0 at
 
 -- ---- which carries the request out
@@ -41,7 +41,7 @@ pub serve-reply-requires-clause-declared : goal.serve-reply-requires-clause-decl
 serve-reply-requires-clause-declared c =
     let o = c.requires.outstanding in
     let got = ap (option_map (λ (b : Bor (List ℕ)). b.now)) (sym c.in-Some.is) ∙ c.get.ensures in
-    let at = c.device_at.ensures ∙ goes_to c.number_in.result c.destination_at.result o.2 c.number_in.ensures (c.destination_at.ensures o.1 (spells_it o.2 got)) in
+    let at = c.device_at.ensures ∙ goes_to c.number_of.result c.destination_at.result o.2 c.number_of.ensures.value (c.destination_at.ensures o.1 (spells_it o.2 got)) in
     let same : o.0 ≡ c.in-Some-device_at.target = same_Some o.0 c.in-Some-device_at.target (sym at ∙ c.in-Some-device_at.is) in
     subst (λ (t : ℕ). t < length c.args.devices.now.nodes) same o.2.declared
 
@@ -49,7 +49,7 @@ pub serve-reply-requires-clause-number : goal.serve-reply-requires-clause-number
 serve-reply-requires-clause-number c =
     let o = c.requires.outstanding in
     let got = ap (option_map (λ (b : Bor (List ℕ)). b.now)) (sym c.in-Some.is) ∙ c.get.ensures in
-    let at = c.device_at.ensures ∙ goes_to c.number_in.result c.destination_at.result o.2 c.number_in.ensures (c.destination_at.ensures o.1 (spells_it o.2 got)) in
+    let at = c.device_at.ensures ∙ goes_to c.number_of.result c.destination_at.result o.2 c.number_of.ensures.value (c.destination_at.ensures o.1 (spells_it o.2 got)) in
     let same : o.0 ≡ c.in-Some-device_at.target = same_Some o.0 c.in-Some-device_at.target (sym at ∙ c.in-Some-device_at.is) in
     subst (λ (t : ℕ). IsTrue (is_some (node_at c.args.devices.now.nodes t).number)) same o.2.number
 
@@ -57,7 +57,7 @@ pub serve-reply-requires-clause-link : goal.serve-reply-requires-clause-link
 serve-reply-requires-clause-link c =
     let o = c.requires.outstanding in
     let got = ap (option_map (λ (b : Bor (List ℕ)). b.now)) (sym c.in-Some.is) ∙ c.get.ensures in
-    let at = c.device_at.ensures ∙ goes_to c.number_in.result c.destination_at.result o.2 c.number_in.ensures (c.destination_at.ensures o.1 (spells_it o.2 got)) in
+    let at = c.device_at.ensures ∙ goes_to c.number_of.result c.destination_at.result o.2 c.number_of.ensures.value (c.destination_at.ensures o.1 (spells_it o.2 got)) in
     let same : o.0 ≡ c.in-Some-device_at.target = same_Some o.0 c.in-Some-device_at.target (sym at ∙ c.in-Some-device_at.is) in
     subst (λ (t : ℕ). IsTrue (has_link (node_at c.args.devices.now.nodes t).kind)) same o.2.link
 
@@ -66,7 +66,7 @@ returns c = λ device p x.
     let n : Network = c.args.devices.now in
     let got = ap (option_map (λ (b : Bor (List ℕ)). b.now)) (sym c.in-Some.is) ∙ c.get.ensures in
     let read = spells_it x got in
-    let at = c.device_at.ensures ∙ goes_to c.number_in.result c.destination_at.result x c.number_in.ensures (c.destination_at.ensures p read) in
+    let at = c.device_at.ensures ∙ goes_to c.number_of.result c.destination_at.result x c.number_of.ensures.value (c.destination_at.ensures p read) in
     let same : device ≡ c.in-Some-device_at.target = same_Some device c.in-Some-device_at.target (sym at ∙ c.in-Some-device_at.is) in
     record {
       target = sym same;
