@@ -6,3 +6,4 @@ pub mod Conversions
 pub mod WholeLaws
 pub mod WholePassings
 pub mod SwapLaws
+pub mod PassedAudits

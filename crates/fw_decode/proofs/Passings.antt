@@ -31,7 +31,7 @@ report_passes report (Some n) entries bytes new reports h =
     record { entry = h.entry; read = h.read; took = more; gathered = refl }
 
 -- fewer entries were read than bytes
-few_read : (entries : List Timed) (entry : Timed) (bytes : List ℕ) (new : State) → HasRead (entries ++ entry ∷ []) bytes new → total new < 2 ^ 64 → length entries + 1 < 2 ^ 64
+pub few_read : (entries : List Timed) (entry : Timed) (bytes : List ℕ) (new : State) → HasRead (entries ++ entry ∷ []) bytes new → total new < 2 ^ 64 → length entries + 1 < 2 ^ 64
 few_read entries entry bytes new h small =
     let start : new.stand.start ≡ length (bytes_of h.version (entries ++ entry ∷ [])) = ap (λ (s : Position). s.start) h.stand in
     omega (arith, start, few_by h.version (entries ++ entry ∷ []), length-append entries (entry ∷ []), small)

@@ -70,6 +70,7 @@ impl LastReset {
     }
 
     /// Takes the entry that ends in a piece from its bytes, if it has a body of a usual form, as `Reading::pass` says.
+    #[inline(always)]
     pub(crate) fn pass(
         &mut self,
         reader: &mut LogReader,

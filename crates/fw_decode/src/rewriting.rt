@@ -87,6 +87,7 @@ impl Rewriting {
     }
 
     // Appends an entry of this kind and cycle, whose body these bytes are, in the epoch of the latest bus reset.
+    #[inline(always)]
     fn copy(&mut self, kind: u8, cycle: u64, bytes: &[u8]) -> Result<(), AllocError>
         requires { length bytes.now ≤ 2276 }
         ensures version { self.new.version ≡ self.old.version }
@@ -108,6 +109,7 @@ impl Rewriting {
     }
 
     // Appends the entry of this cycle that has this body. An error says that memory ran out.
+    #[inline(always)]
     fn put_body(&mut self, cycle: u64, body: &PlainBody) -> Result<(), AllocError>
         requires { (e : Entry) × HasBody body.now e }
         ensures version { self.new.version ≡ self.old.version }
