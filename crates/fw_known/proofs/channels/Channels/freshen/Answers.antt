@@ -1,0 +1,16 @@
+use Rattle.std.proofs.Common.{◌≡◌, ap, sym, ◌∙◌, ◌+◌, ℕ, Bool, List}
+use Rattle.fw_known.specs.declared.channel.Channel.{Channel}
+use Rattle.fw_known.specs.Channels.{freshened_one, freshened}
+use Rattle.fw_known.proofs.LoopLaws.{none_freshened, freshened_more}
+use Rattle.fw_known.proofs.channels.Channels.freshen.Goals as goal
+
+pub loop-at-init : goal.loop-at-init
+loop-at-init c = sym (none_freshened c.args.first c.args.old c.args.now c.args.self.now)
+
+pub loop-at-preserved : goal.loop-at-preserved
+loop-at-preserved c =
+    let k : ℕ = c.args.first + c.loop-at.at in
+    c.freshen_one.ensures
+    ∙ ap (λ (b : Bool). freshened_one b k c.loop-at.self) c.is_forgotten.ensures
+    ∙ ap (freshened_one _ k) c.loop-at.invariant
+    ∙ sym (freshened_more c.loop-at.at c.args.first c.args.old c.args.now c.args.self.now)

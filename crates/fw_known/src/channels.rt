@@ -1,0 +1,209 @@
+//! What is kept of the 64 channels.
+
+ghost use Rattle.std.specs.Prelude.{◌≡◌, ◌+◌, ◌≤◌, ◌<◌, IfOk, IfSome, length, replicate, slice_set};
+ghost use Rattle.fw_known.specs.Channels.{fresh, channel_at, freshened_one, freshened, same_channel, plug_moved, unused, quieted, next_late, late_to, is_taken, is_to_be_used, with_due, with_dues};
+
+use crate::channel::{Channel, Due};
+use crate::plugs::Plugs;
+use fw_remarks::{Known, bit};
+use std::alloc::{AllocError, Global};
+use std::marker::Model;
+
+/// A channel that nobody has used in the second since it was taken.
+#[derive(Clone, Copy)]
+pub struct Late {
+    /// Its number.
+    pub channel: u8,
+    /// Who took it, and when.
+    pub due: Due,
+}
+
+/// What is kept of the 64 channels.
+#[derive(Drop)]
+pub struct Channels {
+    rows: Vec<Channel>,
+}
+
+impl Model for Channels {
+    ghost use Rattle.std.specs.Prelude.{List};
+    ghost use Rattle.fw_known.specs.declared.channel.Channel.{Channel};
+
+    ghost Value = { List Channel };
+
+    ghost view = { λ c. c.rows.items };
+}
+
+// Of a channel that is late and this one, if it is, the one that was taken first, and of two of one cycle the first.
+#[tactic(auto, unfolding(crate::specs::Channels::next_late))]
+fn next_late(best: Option<Late>, channel: u8, due: Option<Due>, cycle: u64) -> Option<Late>
+    ensures value { result ≡ next_late best channel due cycle }
+    ensures past { IfSome best (λ late. late.due.since + 8000 ≤ cycle) → IfSome result (λ late. late.due.since + 8000 ≤ cycle) }
+{
+    let Some(due) = due else {
+        return best;
+    };
+    if !due.is_late(cycle) {
+        return best;
+    }
+    match best {
+        Some(late) if late.due.since <= due.since => best,
+        _ => Some(Late { channel, due }),
+    }
+}
+
+// The channel at a bit of a half was taken.
+fn is_taken(old: u32, new: u32, at: u8) -> bool
+    requires { at < 32 }
+    ensures { result ≡ is_taken at old new }
+{
+    bit(old, at) && !bit(new, at)
+}
+
+// A channel that was taken is to be used, but for 31, which a manager has for itself, and one that a plug is on.
+fn is_to_be_used(is_taken: bool, channel: u8, plugs: &Plugs) -> bool
+    ensures { result ≡ is_to_be_used is_taken channel plugs.now }
+{
+    is_taken && channel != 31 && !plugs.is_used(channel)
+}
+
+// Two plugs are on one channel, or both on none.
+fn is_same(old: Option<u8>, now: Option<u8>) -> bool
+    ensures { result ≡ same_channel old now }
+{
+    match (old, now) {
+        (Some(k), Some(j)) => k == j,
+        (None, None) => true,
+        _ => false,
+    }
+}
+
+impl Channels {
+    /// Nothing was seen of any.
+    pub fn new(alloc: Global) -> Result<Channels, AllocError>
+        ensures { IfOk result (λ c. c ≡ replicate 64 fresh) }
+    {
+        Ok(Channels {
+            rows: vec![in alloc; Channel::fresh(); 64]?,
+        })
+    }
+
+    /// What is kept of a channel.
+    pub fn at(&self, channel: u8) -> Channel
+        ensures { result ≡ channel_at self.now channel }
+    {
+        match self.rows.get(usize::from(channel)) {
+            Some(row) => *row,
+            None => Channel::fresh(),
+        }
+    }
+
+    /// What is kept of a channel from now on.
+    pub fn set(&mut self, channel: u8, row: Channel)
+        ensures { self.new ≡ slice_set self.old channel row }
+    {
+        let place = usize::from(channel);
+        if place < self.rows.len() {
+            self.rows[place] = row;
+        }
+    }
+
+    /// A bus reset: nothing was seen of any.
+    pub fn reset(&mut self)
+        ensures { self.new ≡ replicate (length self.old) fresh }
+    {
+        for i in 0..self.rows.len() {
+            self.rows[i] = Channel::fresh();
+        }
+    }
+
+    // What was seen of a channel counts no more, where its bit is forgotten.
+    fn freshen_one(&mut self, channel: u8, forgotten: bool)
+        ensures { self.new ≡ freshened_one forgotten channel self.old }
+    {
+        if forgotten {
+            self.set(channel, Channel::fresh());
+        }
+    }
+
+    /// Of half of the channels, the first of which is `first`, other bits are known than before: what changed is as if not seen.
+    pub fn freshen(&mut self, first: u8, old: Known, now: Known)
+        requires { first ≤ 32 }
+        ensures { self.new ≡ freshened 32 first old now self.old }
+    {
+        for at in 0..32 {
+            self.freshen_one(first + at, old.is_forgotten(now, at));
+        }
+    }
+
+    // Whose packets a channel carries is to be seen anew.
+    #[tactic(auto, unfolding(crate::specs::Channels::quieted))]
+    fn quieten(&mut self, channel: Option<u8>)
+        ensures { self.new ≡ quieted channel self.old }
+    {
+        if let Some(k) = channel {
+            let row = self.at(k).quiet();
+            self.set(k, row);
+        }
+    }
+
+    // A channel is used.
+    #[tactic(auto, unfolding(crate::specs::Channels::unused))]
+    fn note_use(&mut self, channel: Option<u8>)
+        ensures { self.new ≡ unused channel self.old }
+    {
+        if let Some(k) = channel {
+            let row = self.at(k).undue();
+            self.set(k, row);
+        }
+    }
+
+    /// A plug that was known to be on one channel is known to be on another.
+    #[tactic(auto, unfolding(crate::specs::Channels::plug_moved))]
+    pub fn move_plug(&mut self, old: Option<u8>, now: Option<u8>)
+        ensures { self.new ≡ plug_moved old now self.old }
+    {
+        if !is_same(old, now) {
+            self.quieten(old);
+            self.quieten(now);
+        }
+        self.note_use(now);
+    }
+
+    /// The channel that is late and was taken first, of several the first.
+    pub fn late(&self, cycle: u64) -> Option<Late>
+        ensures value { result ≡ late_to 64 self.now cycle }
+        ensures past { IfSome result (λ late. late.due.since + 8000 ≤ cycle) }
+    {
+        let mut best = None;
+        for channel in 0..64 {
+            best = next_late(best, channel, self.at(channel).due, cycle);
+        }
+        best
+    }
+
+    // A channel is to be used within a second, where it is to be used at all.
+    fn set_due(&mut self, channel: u8, to_be_used: bool, due: Due)
+        ensures { self.new ≡ with_due to_be_used channel due self.old }
+    {
+        if to_be_used {
+            let row = Channel {
+                due: Some(due),
+                ..self.at(channel)
+            };
+            self.set(channel, row);
+        }
+    }
+
+    /// The channels that a swap took are to be used within a second, but for channel 31, which a manager has for itself, and those
+    /// that a plug is on.
+    pub fn set_dues(&mut self, first: u8, old: u32, new: u32, due: Due, plugs: &Plugs)
+        requires { first ≤ 32 }
+        ensures { self.new ≡ with_dues 32 first old new due plugs.now self.old }
+    {
+        for at in 0..32 {
+            let channel = first + at;
+            let to_be_used = is_to_be_used(is_taken(old, new, at), channel, plugs);
+            self.set_due(channel, to_be_used, due);
+        }
+    }
+}

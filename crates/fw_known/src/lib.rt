@@ -1,0 +1,24 @@
+//! What is known of a bus of which one does not see everything, from answers, shown words and packets; and how each of them changes it.
+#![tactic(auto)]
+
+mod asked;
+mod channel;
+mod channels;
+mod counts;
+mod hear;
+mod plugs;
+mod second;
+mod standing;
+mod state;
+mod swap;
+
+pub use asked::{Answer, Asked, Asking};
+pub use channel::{Channel, Due, Noted};
+pub use channels::{Channels, Late};
+pub use counts::Counts;
+pub use hear::{Heard, Packet};
+pub use plugs::Plugs;
+pub use second::{Before, Second};
+pub use standing::Standing;
+pub use state::{Manager, State};
+pub use swap::Made;

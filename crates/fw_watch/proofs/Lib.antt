@@ -1,0 +1,4 @@
+pub mod WatchLaws
+pub mod HeldLaws
+pub mod SwapLaws
+pub mod PutLaws

@@ -1,0 +1,14 @@
+use Rattle.fw_watch.proofs.PutLaws.{on_ok, on_both, room_lines, room_watches}
+use Rattle.fw_watch.proofs.watch.Watch.put.Goals as goal
+
+pub returns-clause-lines : goal.returns-clause-lines
+returns-clause-lines c before w =
+    on_ok c.step.result
+    (λ n. room_lines c.args.self.now c.self.inside.journal c.self.inside.state.value c.deref_mut.result.now c.step.new.journal before c.args.t.now c.self.view_is c.deref_mut.ensures.value w n)
+    c.step.ensures.lines
+
+pub returns-clause-behind : goal.returns-clause-behind
+returns-clause-behind c before w =
+    on_both c.step.result
+    (λ n m. room_watches c.args.self.now _ c.self.inside.journal c.self.inside.state.value c.deref_mut.result.now before c.args.t.now c.self.view_is c.deref_mut.ensures.value w n m)
+    c.step.ensures.lines c.step.ensures.known

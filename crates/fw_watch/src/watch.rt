@@ -1,0 +1,115 @@
+//! What a log shows of a bus, entry by entry.
+
+ghost use Rattle.std.specs.Prelude.{◌≡◌, ◌++◌, ◌∷◌, [], List, IfOk, OnOk, string_bytes};
+ghost use Rattle.fw_entry.specs.declared.entry.Timed.{Timed};
+ghost use Rattle.fw_watch.specs.Watched.{Watches, watched, watched_end, resets_text, unseen_text, judged_text, last_text};
+
+use crate::step::step;
+use fw_entry::Timed;
+use fw_known::{Counts, State};
+use fw_remarks::Journal;
+use std::alloc::{AllocError, Global};
+use std::marker::Model;
+
+/// What a log has shown so far. Its memory is made once and kept: what is known of the bus has a fixed size, and the lines that are
+/// not yet written are those of the entries since they were dropped last. Contracts see it as what was told and what is known.
+#[derive(Drop)]
+pub struct Watch {
+    journal: Journal,
+    state: Box<State>,
+}
+
+impl Model for Watch {
+    ghost use Rattle.fw_watch.specs.Watched.{Room};
+
+    ghost Value = { Room };
+
+    ghost view = { λ w. record { told = w.journal; state = w.state.value } };
+}
+
+// Appends how many bus resets there were, and how many answers were judged.
+#[tactic(auto, unfolding(crate::specs::Watched::resets_text))]
+fn put_resets(text: &mut String, resets: u64, judged: u64) -> Result<(), AllocError>
+    ensures { OnOk result (string_bytes text.new ≡ string_bytes text.old ++ resets_text resets judged) }
+{
+    write!(text, "resets {resets}, answers judged {judged}")
+}
+
+// Appends of how many nothing was known, and how many words changed unseen.
+#[tactic(auto, unfolding(crate::specs::Watched::unseen_text))]
+fn put_unseen(text: &mut String, not_known: u64, unseen: u64) -> Result<(), AllocError>
+    ensures { OnOk result (string_bytes text.new ≡ string_bytes text.old ++ unseen_text not_known unseen) }
+{
+    write!(text, ", not known before {not_known}")?;
+    write!(text, ", changed unseen {unseen}")
+}
+
+// Appends how many bus resets there were, and how much was judged.
+#[tactic(auto, unfolding(crate::specs::Watched::judged_text))]
+fn put_judged(text: &mut String, counts: &Counts) -> Result<(), AllocError>
+    ensures { OnOk result (string_bytes text.new ≡ string_bytes text.old ++ judged_text counts.now) }
+{
+    put_resets(text, counts.resets, counts.judged)?;
+    put_unseen(text, counts.not_known, counts.unseen)
+}
+
+// Appends how many isochronous packets and findings there were.
+#[tactic(auto, unfolding(crate::specs::Watched::last_text))]
+fn put_last(text: &mut String, packets: u64, findings: u64) -> Result<(), AllocError>
+    ensures { OnOk result (string_bytes text.new ≡ string_bytes text.old ++ last_text packets findings) }
+{
+    write!(text, ", isochronous packets {packets}")?;
+    write!(text, ", findings {findings}\n")
+}
+
+impl Watch {
+    /// Nothing was shown. An error says that memory ran out.
+    pub fn new(alloc: Global) -> Result<Watch, AllocError>
+        ensures text { IfOk result (λ w. w.told.text ≡ []) }
+        ensures watches { IfOk result (λ w. Watches w []) }
+    {
+        let state = State::new(alloc)?;
+        Ok(Watch {
+            journal: Journal::new(alloc)?,
+            state: Box::new(alloc, state)?,
+        })
+    }
+
+    /// The lines that are not yet written, each with its line feed.
+    pub fn as_slice(&self) -> &[u8]
+        ensures { result.now ≡ self.now.told.text }
+    {
+        self.journal.as_slice()
+    }
+
+    /// Drops the lines, and keeps what is known.
+    pub fn clear(&mut self)
+        ensures text { self.new.told.text ≡ [] }
+        ensures watches { (entries : List Timed) → Watches self.old entries → Watches self.new entries }
+    {
+        self.journal.clear();
+    }
+
+    /// Takes the next entry of a log, and appends the lines that it gives. An error says that memory ran out, and comes for nothing
+    /// else.
+    pub fn put(&mut self, t: &Timed) -> Result<(), AllocError>
+        ensures lines { (before : List Timed) → Watches self.old before → OnOk result (self.new.told.text ≡ self.old.told.text ++ watched before (t.now ∷ [])) }
+        ensures behind { (before : List Timed) → Watches self.old before → OnOk result (Watches self.new (before ++ t.now ∷ [])) }
+    {
+        step(&mut self.state, &mut self.journal, t)
+    }
+
+    /// The last line: how much was judged of all entries.
+    pub fn end(&self, alloc: Global) -> Result<String, AllocError>
+        ensures { (entries : List Timed) → Watches self.now entries → IfOk result (λ s. string_bytes s ≡ watched_end entries) }
+    {
+        let mut text = String::new(alloc);
+        put_judged(&mut text, &self.state.counts)?;
+        put_last(
+            &mut text,
+            self.state.counts.packets,
+            self.journal.findings(),
+        )?;
+        Ok(text)
+    }
+}
