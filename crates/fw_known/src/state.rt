@@ -51,7 +51,6 @@ pub struct State {
     pub counts: Counts,
 }
 
-// The same nodes.
 fn same_nodes(nodes: &[NodeRow]) -> NodeList
     requires { length nodes.now ≤ 63 }
     ensures { result ≡ nodes.now }
@@ -235,7 +234,6 @@ fn place_of_device(nodes: &[NodeRow], device: u8) -> Option<u8>
     }
 }
 
-// The row of a device.
 fn row_of_device(nodes: &[NodeRow], device: u8) -> Option<usize>
     ensures value { result ≡ position (is_device device) nodes.now }
     ensures there { IfSome result (λ place. place < length nodes.now) }

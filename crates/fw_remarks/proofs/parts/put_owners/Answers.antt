@@ -13,5 +13,6 @@ loop-node-preserved c =
     record {
       text = stepped _ _ _ _ _ _ c.loop-node.invariant.text c.in_ok-put_owner.ensures
           (next_owner_text n c.args.owners ∙ ap (λ (x : List ℕ). owners_to n c.args.owners ++ x) (sym same));
-      others = c.is_either-others.ensures ∙ ap (λ (b : Bool). b || c.has_bit.result) c.loop-node.invariant.others ∙ ap (λ (b : Bool). any_to n c.args.owners || b) c.has_bit.ensures ∙ sym (any_more n c.args.owners);
+      others = c.is_either-others.ensures ∙ ap (λ (b : Bool). b || c.has_bit.result) c.loop-node.invariant.others
+          ∙ ap (λ (b : Bool). any_to n c.args.owners || b) c.has_bit.ensures ∙ sym (any_more n c.args.owners);
     }
