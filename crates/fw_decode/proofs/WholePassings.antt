@@ -1,5 +1,5 @@
 -- Entries that are passed by their bodies: what is made of the entry that has the body.
-use Rattle.std.proofs.Common.{◌≡◌, ℕ, List, [], ◌∷◌, ◌++◌, ap, sym, ◌∙◌}
+use Rattle.std.proofs.Common.{◌≡◌, ℕ, List, [], ◌∷◌, ◌++◌, ap, sym, subst, ◌∙◌}
 use Rattle.fw_entry.specs.declared.entry.Entry.{Entry}
 use Rattle.fw_entry.specs.declared.entry.Timed.{Timed}
 use Rattle.fw_log.specs.Passing.{PassesBody}
@@ -9,6 +9,8 @@ use Rattle.fw_reading.specs.Readings.{Passes}
 use Rattle.fw_json.specs.Objects.{object}
 use Rattle.fw_explain.specs.Explained.{explained, Room}
 use Rattle.fw_explain.specs.Requests.{standing}
+use Rattle.fw_watch.specs.Watched.{watched, Watches, Room as WatchRoom}
+use Rattle.fw_decode.specs.Watching.{watched_form}
 use Rattle.fw_decode.specs.Texts.{each_form, explained_form, all_of_one}
 
 -- the entry that was made is the one that was passed
@@ -31,4 +33,17 @@ explained_passes old new entries bytes reader p x what same text requests =
       read = x.read;
       took = requests ∙ ap (λ (t : Timed). standing (entries ++ t ∷ [])) made;
       gathered = text ∙ ap (λ (t : Timed). old.text ++ explained entries (t ∷ [])) made;
+    }
+
+pub watched_passes : (old new : WatchRoom) (entries : List Timed) (bytes : List ℕ) (reader : State) (p : PassedBody) (x : PassesBody entries bytes reader p) (what : Entry)
+    → what ≡ x.entry.what → new.told.text ≡ old.told.text ++ watched entries (record { cycle = p.cycle; what = what } ∷ [])
+    → Watches new (entries ++ record { cycle = p.cycle; what = what } ∷ []) → Passes watched_form.text (λ es. Watches new es) old.told.text new.told.text entries bytes reader
+watched_passes old new entries bytes reader p x what same text watches =
+    let made = made_is p.cycle what x.entry (sym x.cycle) same in
+    let P : Timed → Type 0 = λ t. Watches new (entries ++ t ∷ []) in
+    record {
+      entry = x.entry;
+      read = x.read;
+      took = subst P made watches;
+      gathered = text ∙ ap (λ (t : Timed). old.told.text ++ watched entries (t ∷ [])) made;
     }

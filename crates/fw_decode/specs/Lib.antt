@@ -1,4 +1,5 @@
 pub mod Texts
+pub mod Watching
 pub mod Silences
 pub mod Verdicts
 pub mod Trees

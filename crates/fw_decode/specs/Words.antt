@@ -4,14 +4,16 @@ use Rattle.fw_entry.specs.declared.entry.Timed.{Timed}
 use Rattle.fw_json.specs.Objects.{object}
 use Rattle.fw_text.specs.Line.{entry_line}
 use Rattle.fw_text.specs.Report.{report_text}
+use Rattle.fw_watch.specs.Watched.{watched_end}
 use Rattle.fw_reading.specs.Readings.{Form, Rules, IsAccepted}
 use Rattle.fw_decode.specs.Texts.{nothing, each_form, explained_form, silent_form, log_form}
+use Rattle.fw_decode.specs.Watching.{watched_form}
 use Rattle.fw_decode.specs.Silences.{never_refused}
 use Rattle.fw_decode.specs.Verdicts.{audit_rules, sound_unrefused}
 use Rattle.fw_decode.specs.Maps.{map_rules, graph_rules, map_unrefused, graph_unrefused}
 use Rattle.fw_decode.specs.declared.refusal.LogRefusal.{LogRefusal}
 use Rattle.fw_decode.specs.declared.LogWord.{LogWord}
-use Rattle.fw_decode.specs.declared.LogWord.TheVariants.{Decode, Explain, Json, Dv, Convert, Audit, Map, Graph}
+use Rattle.fw_decode.specs.declared.LogWord.TheVariants.{Decode, Explain, Json, Dv, Convert, Audit, Watch, Map, Graph}
 
 -- what a word writes while a log is read
 abbrev pub form_by : LogWord → Form
@@ -21,6 +23,7 @@ form_by Json = each_form object
 form_by Dv = silent_form
 form_by (Convert v) = log_form v
 form_by Audit = silent_form
+form_by Watch = watched_form
 form_by Map = silent_form
 form_by Graph = silent_form
 
@@ -32,6 +35,7 @@ rules_by Json = never_refused nothing
 rules_by Dv = never_refused report_text
 rules_by (Convert v) = never_refused nothing
 rules_by Audit = audit_rules
+rules_by Watch = never_refused watched_end
 rules_by Map = map_rules
 rules_by Graph = graph_rules
 

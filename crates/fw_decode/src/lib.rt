@@ -22,6 +22,7 @@ mod refusal;
 mod rewriting;
 mod streams;
 mod verdict;
+mod watching;
 mod whole_entry;
 mod whole_reset;
 
@@ -36,6 +37,7 @@ pub use refusal::{LogRefusal, NoMap, Unsound};
 pub use rewriting::convert;
 pub use streams::dv;
 pub use verdict::audit;
+pub use watching::watch;
 
 /// A word that reads a log of at most 268,435,456 bytes.
 #[derive(Clone, Copy)]
@@ -52,6 +54,8 @@ pub enum LogWord {
     Convert(Version),
     /// `audit`: how many entries there are, where the registers that they show ran as a sound account.
     Audit,
+    /// `watch`: a line for each thing that an entry shows of channels, bandwidth and plugs, as it ends; then how much was judged.
+    Watch,
     /// `map`: the tree of the last bus reset, as text.
     Map,
     /// `map dot`: the same tree as a graph.
@@ -75,6 +79,7 @@ pub fn read_as<S: Source, K: Sink>(
         LogWord::Dv => dv(alloc, source, sink),
         LogWord::Convert(version) => convert(alloc, version, source, sink),
         LogWord::Audit => audit(alloc, source, sink),
+        LogWord::Watch => watch(alloc, source, sink),
         LogWord::Map => map(alloc, source, sink),
         LogWord::Graph => map_graph(alloc, source, sink),
     }

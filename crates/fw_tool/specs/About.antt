@@ -24,6 +24,7 @@ about_text Help = codes "fire simulates a FireWire (IEEE 1394) audio and video b
     codes "  json           writes a JSON object an entry, each on its line, with every field" ++ 10 ∷
     codes "  dv             counts packets, blocks and gaps of each channel" ++ 10 ∷
     codes "  audit          says whether channels, units and connections went as they must" ++ 10 ∷
+    codes "  watch          says what channels and plugs did, what changed unseen, and what was odd" ++ 10 ∷
     codes "  map            writes the tree of the last bus reset, and the speeds" ++ 10 ∷
     codes "  map dot        writes that tree for Graphviz" ++ 10 ∷
     codes "  convert 1      writes the log in version 1" ++ 10 ∷

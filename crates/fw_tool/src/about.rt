@@ -34,6 +34,7 @@ A log of version 1 or 2 goes in, whoever made it:
   json           writes a JSON object an entry, each on its line, with every field
   dv             counts packets, blocks and gaps of each channel
   audit          says whether channels, units and connections went as they must
+  watch          says what channels and plugs did, what changed unseen, and what was odd
   map            writes the tree of the last bus reset, and the speeds
   map dot        writes that tree for Graphviz
   convert 1      writes the log in version 1
