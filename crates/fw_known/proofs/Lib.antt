@@ -1,2 +1,3 @@
 pub mod FillLaws
 pub mod LoopLaws
+pub mod DueLaws

@@ -1,11 +1,10 @@
 -- What loops make, one step more.
-use Rattle.std.proofs.Common.{◌≡◌, refl, sym, ◌∙◌, ap, ℕ, zero, suc, ◌+◌, ◌*◌, ◌^◌, ◌<◌, ◌≤◌, Bool, true, false, cond, List, Option, Some, None, if◌then◌else◌, slice_set, add-one, arith}
+use Rattle.std.proofs.Common.{◌≡◌, refl, ℕ, zero, suc, ◌+◌, ◌*◌, ◌^◌, ◌<◌, ◌≤◌, Bool, true, false, cond, List, None, add-one, arith}
 use Rattle.std.proofs.lemmas.Nat.{pow_pos}
 use Rattle.fw_remarks.specs.declared.known.Known.{Known}
 use Rattle.fw_remarks.specs.Knowing.{is_forgotten}
 use Rattle.fw_known.specs.declared.channel.Due.{Due}
 use Rattle.fw_known.specs.declared.channel.Channel.{Channel}
-use Rattle.fw_known.specs.declared.channels.Late.{Late}
 use Rattle.fw_known.specs.Channels.{has_output, node_bit, owners_to, freshened_one, freshened, channel_at, next_late, late_to, is_taken, is_to_be_used, with_due, with_dues}
 
 pub no_owners : (plugs : List Known) (k : ℕ) → owners_to 0 plugs k ≡ 0

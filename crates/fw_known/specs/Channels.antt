@@ -1,5 +1,5 @@
 -- What is kept of channels, and of plugs: of each node its 31 outputs and then its 31 inputs.
-use Rattle.std.specs.Prelude.{ℕ, zero, suc, ◌+◌, ◌-◌, ◌*◌, ◌^◌, ◌==◌, ◌&&◌, not, nat_le, nat_lt, Bool, true, false, List, [], length, replicate, slice_index_or, slice_set, slice_range, Option, Some, None, if◌then◌else◌}
+use Rattle.std.specs.Prelude.{ℕ, zero, suc, ◌+◌, ◌-◌, ◌*◌, ◌^◌, ◌==◌, ◌&&◌, not, nat_le, nat_lt, Bool, true, false, List, length, slice_index_or, slice_set, slice_range, Option, Some, None, IfSome, ◌≤◌, if◌then◌else◌}
 use Rattle.std.specs.List.{list_any}
 use Rattle.fw_remarks.specs.declared.register.At.{At}
 use Rattle.fw_remarks.specs.declared.known.Known.{Known}
@@ -98,6 +98,10 @@ plug_moved old now channels = unused now (if same_channel old now then channels 
 -- a second of 8000 cycles has passed since a channel was taken
 abbrev pub is_late : Due → ℕ → Bool
 is_late due cycle = nat_le due.since cycle && nat_le 8000 (cycle - due.since)
+
+-- none has been due since before this cycle
+abbrev pub AreDueFrom : ℕ → List Channel → Type 0
+AreDueFrom first channels = (k : ℕ) → IfSome (channel_at channels k).due (λ due. first ≤ due.since)
 
 -- it was taken before the one that is late
 abbrev pub is_before : Due → Option Late → Bool

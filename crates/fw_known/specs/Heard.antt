@@ -1,9 +1,7 @@
 -- Isochronous packets: whose they are, and what they show.
-use Rattle.std.specs.Prelude.{ℕ, ◌-◌, ◌==◌, ◌&&◌, ◌||◌, not, nat_lt, Bool, true, false, is_some, slice_set, Option, Some, None, if◌then◌else◌}
+use Rattle.std.specs.Prelude.{ℕ, ◌-◌, ◌==◌, ◌&&◌, ◌||◌, not, nat_lt, Bool, false, is_some, slice_set, Option, Some, None, if◌then◌else◌}
 use Rattle.fw_remarks.specs.declared.known.Managed.{Managed}
-use Rattle.fw_known.specs.declared.channel.Noted.{Noted}
 use Rattle.fw_known.specs.declared.channel.Channel.{Channel}
-use Rattle.fw_known.specs.declared.counts.Counts.{Counts}
 use Rattle.fw_known.specs.declared.state.State.{State}
 use Rattle.fw_known.specs.declared.hear.Heard.{Heard}
 use Rattle.fw_known.specs.declared.hear.Packet.{Packet}

@@ -1,6 +1,6 @@
 //! What is kept of a channel.
 
-ghost use Rattle.std.specs.Prelude.{◌≡◌};
+ghost use Rattle.std.specs.Prelude.{◌≡◌, ◌≤◌, IfSome};
 ghost use Rattle.fw_known.specs.Channels.{fresh, nothing_noted, undue, quiet, is_late};
 
 /// Who took a channel, and when: until a plug or a packet is on it, it is to be used within a second.
@@ -84,5 +84,16 @@ impl Due {
         ensures { result ≡ is_late self cycle }
     {
         cycle >= self.since && cycle - self.since >= 8000
+    }
+}
+
+/// The earlier of a cycle and that since which a channel is due, if it is.
+pub(crate) fn earlier(cycle: u64, due: Option<Due>) -> u64
+    ensures before { result ≤ cycle }
+    ensures due { IfSome due (λ d. result ≤ d.since) }
+{
+    match due {
+        Some(due) if due.since < cycle => due.since,
+        _ => cycle,
     }
 }

@@ -1,9 +1,9 @@
 //! What is kept of the 64 channels.
 
 ghost use Rattle.std.specs.Prelude.{◌≡◌, ◌+◌, ◌≤◌, ◌<◌, IfOk, IfSome, length, replicate, slice_set};
-ghost use Rattle.fw_known.specs.Channels.{fresh, channel_at, freshened_one, freshened, same_channel, plug_moved, unused, quieted, next_late, late_to, is_taken, is_to_be_used, with_due, with_dues};
+ghost use Rattle.fw_known.specs.Channels.{AreDueFrom, fresh, channel_at, freshened_one, freshened, same_channel, plug_moved, unused, quieted, next_late, late_to, is_taken, is_to_be_used, with_due, with_dues};
 
-use crate::channel::{Channel, Due};
+use crate::channel::{Channel, Due, earlier};
 use crate::plugs::Plugs;
 use fw_remarks::{Known, bit};
 use std::alloc::{AllocError, Global};
@@ -22,6 +22,8 @@ pub struct Late {
 #[derive(Drop)]
 pub struct Channels {
     rows: Vec<Channel>,
+    // None has been due since before this cycle: so few looks at all of them suffice to find those that are late.
+    due_from: u64,
 }
 
 impl Model for Channels {
@@ -30,7 +32,11 @@ impl Model for Channels {
 
     ghost Value = { List Channel };
 
+    ghost use Rattle.fw_known.specs.Channels.{AreDueFrom};
+
     ghost view = { λ c. c.rows.items };
+
+    ghost invariant = { λ c. AreDueFrom c.due_from c.rows.items };
 }
 
 // Of a channel that is late and this one, if it is, the one that was taken first, and of two of one cycle the first.
@@ -84,6 +90,7 @@ impl Channels {
     {
         Ok(Channels {
             rows: vec![in alloc; Channel::fresh(); 64]?,
+            due_from: u64::MAX,
         })
     }
 
@@ -103,6 +110,7 @@ impl Channels {
     {
         let place = usize::from(channel);
         if place < self.rows.len() {
+            self.due_from = earlier(self.due_from, row.due);
             self.rows[place] = row;
         }
     }
@@ -169,8 +177,19 @@ impl Channels {
         self.note_use(now);
     }
 
-    /// The channel that is late and was taken first, of several the first.
-    pub fn late(&self, cycle: u64) -> Option<Late>
+    // A cycle before which none has been due.
+    fn first_due(&self) -> u64
+        ensures { AreDueFrom result self.now }
+    {
+        let mut first = u64::MAX;
+        for i in 0..self.rows.len() {
+            first = earlier(first, self.rows[i].due);
+        }
+        first
+    }
+
+    // The channel that is late and was taken first, of several the first, found by a look at all of them.
+    fn find_late(&self, cycle: u64) -> Option<Late>
         ensures value { result ≡ late_to 64 self.now cycle }
         ensures past { IfSome result (λ late. late.due.since + 8000 ≤ cycle) }
     {
@@ -179,6 +198,19 @@ impl Channels {
             best = next_late(best, channel, self.at(channel).due, cycle);
         }
         best
+    }
+
+    /// The channel that is late and was taken first, of several the first.
+    pub fn late(&mut self, cycle: u64) -> Option<Late>
+        ensures kept { self.new ≡ self.old }
+        ensures value { result ≡ late_to 64 self.old cycle }
+        ensures past { IfSome result (λ late. late.due.since + 8000 ≤ cycle) }
+    {
+        if cycle < 8000 || cycle - 8000 < self.due_from {
+            return None;
+        }
+        self.due_from = self.first_due();
+        self.find_late(cycle)
     }
 
     // A channel is to be used within a second, where it is to be used at all.

@@ -1,6 +1,5 @@
-use Rattle.std.proofs.Common.{◌≡◌, ap, sym, ◌∙◌, ◌+◌, ℕ, Bool, List}
-use Rattle.fw_known.specs.declared.channel.Channel.{Channel}
-use Rattle.fw_known.specs.Channels.{freshened_one, freshened}
+use Rattle.std.proofs.Common.{ap, sym, ◌∙◌, ◌+◌, ℕ, Bool}
+use Rattle.fw_known.specs.Channels.{freshened_one}
 use Rattle.fw_known.proofs.LoopLaws.{none_freshened, freshened_more}
 use Rattle.fw_known.proofs.channels.Channels.freshen.Goals as goal
 

@@ -1,19 +1,18 @@
-use Rattle.std.proofs.Common.{◌≡◌, ap, sym, ◌∙◌, ℕ, Option}
+use Rattle.std.proofs.Common.{◌≡◌, ℕ, ◌+◌, ◌<◌, None, List, sym, subst, arith}
 use Rattle.fw_known.specs.declared.channel.Channel.{Channel}
-use Rattle.fw_known.specs.declared.channel.Due.{Due}
-use Rattle.fw_known.specs.declared.channels.Late.{Late}
-use Rattle.fw_known.specs.Channels.{channel_at, next_late, late_to}
-use Rattle.fw_known.proofs.LoopLaws.{none_late, late_more}
+use Rattle.fw_known.specs.Channels.{late_to}
+use Rattle.fw_known.proofs.DueLaws.{none_before}
 use Rattle.fw_known.proofs.channels.Channels.late.Goals as goal
+use Rattle.fw_known.proofs.channels.Channels.late.Goals.{then-cycle-lt8000-via-then-cycle-lt8000, then-cycle-lt8000-via-else-cycle-lt8000+then-cycle-self}
 
-pub loop-channel-init : goal.loop-channel-init
-loop-channel-init c = record { value = sym (none_late c.args.self.now c.args.cycle); past = tt }
-
-pub loop-channel-preserved : goal.loop-channel-preserved
-loop-channel-preserved c =
-    let k : ℕ = c.loop-channel.channel in
-    record {
-      value = c.next_late-best.ensures.value ∙ ap (λ (o : Option Late). next_late o k c.at.result.due c.args.cycle) c.loop-channel.invariant.value
-          ∙ ap (λ (row : Channel). next_late (late_to k c.args.self.now c.args.cycle) k row.due c.args.cycle) c.at.ensures ∙ sym (late_more k c.args.self.now c.args.cycle);
-      past = c.next_late-best.ensures.past c.loop-channel.invariant.past;
-    }
+pub returns-then-cycle-lt8000-clause-value : goal.returns-then-cycle-lt8000-clause-value
+returns-then-cycle-lt8000-clause-value c =
+    let first : ℕ = c.self.inside.due_from in
+    let early : c.args.cycle < first + 8000 =
+    elim c.then-cycle-lt8000.branch [
+      | then-cycle-lt8000-via-then-cycle-lt8000 w ↦ omega (arith, w.if-cycle-lt8000.true)
+      | then-cycle-lt8000-via-else-cycle-lt8000+then-cycle-self w ↦ omega (arith, w.if-cycle-lt8000.false, w.if-cycle-self.true)
+    ]
+    in
+    sym (subst (λ (channels : List Channel). late_to 64 channels c.args.cycle ≡ None) c.self.view_is
+    (none_before 64 c.self.inside.rows.items first c.args.cycle c.self.invariant early))

@@ -1,5 +1,5 @@
-use Rattle.std.proofs.Common.{◌≡◌, ap, sym, ◌∙◌, ◌+◌, ℕ, Bool, List}
-use Rattle.fw_known.specs.Channels.{is_taken, is_to_be_used, with_due, with_dues}
+use Rattle.std.proofs.Common.{ap, sym, ◌∙◌, ◌+◌, ℕ, Bool}
+use Rattle.fw_known.specs.Channels.{is_taken, is_to_be_used, with_due}
 use Rattle.fw_known.proofs.LoopLaws.{no_dues, dues_more}
 use Rattle.fw_known.proofs.channels.Channels.set_dues.Goals as goal
 

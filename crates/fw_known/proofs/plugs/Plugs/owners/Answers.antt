@@ -1,4 +1,4 @@
-use Rattle.std.proofs.Common.{◌≡◌, ap, sym, ◌∙◌, ◌+◌, ◌<◌, ◌≤◌, ◌^◌, ℕ, arith}
+use Rattle.std.proofs.Common.{◌≡◌, ap, sym, ◌∙◌, ◌+◌, ℕ, arith}
 use Rattle.fw_known.specs.Channels.{has_output, node_bit, owners_to}
 use Rattle.fw_known.proofs.LoopLaws.{no_owners, owners_more, owners_fit}
 use Rattle.fw_known.proofs.plugs.Plugs.owners.Goals as goal

@@ -1,6 +1,6 @@
 use Rattle.std.proofs.Common.{◌≡◌, ◌+◌, ◌≤◌, IfSome}
 use Rattle.fw_known.specs.Channels.{late_to}
-use Rattle.fw_known.proofs.channels.Channels.late.Given as goal
+use Rattle.fw_known.proofs.channels.Channels.find_late.Given as goal
 
 abbrev pub invariant-loop-channel : goal.invariant-loop-channel
 invariant-loop-channel l = record {
