@@ -22,6 +22,9 @@ use fw_run::Order;
 use fw_tape::Desk;
 
 /// Carries an order out, and writes what happens.
+// Not inlined: with it, the step that reads a command and carries it out is too large to be inlined in its loop, and there
+// copies the command once more.
+#[inline(never)]
 pub fn carry_out<K: Sink, F: Fn(u16, u32, u16) -> [u8; 480], H: Fn(u32, u8) -> u8>(
     machine: &mut Machine,
     order: &Order,
