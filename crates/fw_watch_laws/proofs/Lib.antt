@@ -1,0 +1,5 @@
+pub mod Places
+pub mod Frames
+pub mod Numbers
+pub mod Knows
+pub mod Keeps

@@ -1,0 +1,2 @@
+pub mod LastKnown
+pub mod ChangedUnseen
