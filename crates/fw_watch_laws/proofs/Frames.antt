@@ -1,7 +1,6 @@
 -- What answers, shown words and packets leave as it was.
-use Rattle.std.proofs.Common.{◌≡◌, refl, ap, sym, ◌∙◌, ℕ, zero, suc, Bool, true, false, List, length, if◌then◌else◌, cond, Option, Some, None}
+use Rattle.std.proofs.Common.{◌≡◌, refl, ap, ◌∙◌, ℕ, zero, suc, Bool, true, false, List, length, if◌then◌else◌, Option, Some, None}
 use Rattle.std.proofs.lemmas.List.{length-set}
-use Rattle.fw_entry.specs.declared.nodes.NodeRow.{NodeRow}
 use Rattle.fw_remarks.specs.declared.known.Known.{Known}
 use Rattle.fw_remarks.specs.declared.register.At.{At}
 use Rattle.fw_remarks.specs.declared.register.Register.{Register}

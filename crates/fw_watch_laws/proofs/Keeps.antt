@@ -1,5 +1,5 @@
 -- The state keeps what was last known of each register.
-use Rattle.std.proofs.Common.{◌≡◌, refl, ap, sym, ◌∙◌, subst, ℕ, zero, suc, ◌+◌, ◌*◌, ◌<◌, ◌≤◌, ◌==◌, Bool, true, false, List, [], ◌∷◌, ◌++◌, length, replicate, if◌then◌else◌, Option, Some, None, IfSome, unwrap_or, arith, get_or}
+use Rattle.std.proofs.Common.{◌≡◌, refl, ap, sym, ◌∙◌, subst, ℕ, ◌+◌, ◌*◌, ◌==◌, Bool, true, false, List, [], ◌∷◌, length, if◌then◌else◌, Option, Some, None, unwrap_or, arith}
 use Rattle.std.specs.List.{All}
 use Rattle.std.proofs.lemmas.List.{get_or-replicate, length-replicate}
 use Rattle.fw_entry.specs.declared.codes.event.TheConstants as Events
@@ -7,7 +7,6 @@ use Rattle.fw_entry.specs.declared.entry.EventEntry.{EventEntry}
 use Rattle.fw_entry.specs.declared.entry.Entry.{Entry}
 use Rattle.fw_entry.specs.declared.entry.Entry.TheVariants.{Reset, Async, Iso, Event, Outcome, Shown, End}
 use Rattle.fw_entry.specs.declared.entry.Timed.{Timed}
-use Rattle.fw_entry.specs.Log.{Fits, TimedFits, InOrder}
 use Rattle.fw_remarks.specs.declared.known.Known.{Known}
 use Rattle.fw_remarks.specs.declared.register.At.{At}
 use Rattle.fw_remarks.specs.declared.register.Register.{Register}
@@ -16,13 +15,11 @@ use Rattle.fw_remarks.specs.Knowing.{nothing_known, after_reset}
 use Rattle.fw_known.specs.declared.asked.Asked.{Asked}
 use Rattle.fw_known.specs.declared.channel.Channel.{Channel}
 use Rattle.fw_known.specs.declared.second.Second.{Second}
-use Rattle.fw_known.specs.declared.hear.Packet.{Packet}
 use Rattle.fw_known.specs.declared.state.State.{State}
-use Rattle.fw_known.specs.Heard.{after_heard}
-use Rattle.fw_known.specs.Standing.{answer_of, standing_behind}
+use Rattle.fw_known.specs.Standing.{answer_of}
 use Rattle.fw_known.specs.States.{known_of, no_state, reset_state, ended_second, node_of_device, buried, after_death}
-use Rattle.fw_watch.specs.Answering.{after_answered, with_packet, after_packet}
-use Rattle.fw_watch.specs.Steps.{shown_at, after_word, after_shown, after_event, after_what, packet_of, ticked, after}
+use Rattle.fw_watch.specs.Answering.{with_packet, after_packet}
+use Rattle.fw_watch.specs.Steps.{shown_at, after_shown, after_event, after_what, packet_of, after}
 use Rattle.fw_watch.specs.Watched.{known_from, known}
 use Rattle.fw_watch_laws.specs.LastKnown.{IsPlace, left, later, latest, last_known}
 use Rattle.fw_watch_laws.proofs.Frames.{Frame, answered_frame, word_frame, heard_frame, aside, ticked_only}

@@ -1,7 +1,7 @@
 -- What is known of a register behind an entry.
-use Rattle.std.proofs.Common.{◌≡◌, refl, ap, sym, ◌∙◌, subst, ℕ, zero, suc, ◌+◌, ◌*◌, ◌<◌, ◌==◌, ◌&&◌, not, Bool, true, false, List, [], ◌∷◌, length, replicate, if◌then◌else◌, Option, Some, None, IfSome, unwrap_or, arith, get_or}
+use Rattle.std.proofs.Common.{◌≡◌, refl, ap, ◌∙◌, ℕ, ◌+◌, ◌*◌, ◌==◌, ◌&&◌, not, Bool, true, false, List, length, if◌then◌else◌, Option, Some, None, IfSome, unwrap_or, arith}
 use Rattle.std.specs.List.{All}
-use Rattle.std.proofs.lemmas.List.{get_or-replicate, length-replicate}
+use Rattle.std.proofs.lemmas.List.{get_or-replicate}
 use Rattle.fw_words.specs.declared.swap.Swap.{Swap}
 use Rattle.fw_entry.specs.declared.codes.event.TheConstants as Events
 use Rattle.fw_entry.specs.declared.entry.ResetEntry.{ResetEntry}
@@ -20,7 +20,6 @@ use Rattle.fw_remarks.specs.Knowing.{nothing_known, all_known, after_reset}
 use Rattle.fw_known.specs.declared.asked.Answer.{Answer}
 use Rattle.fw_known.specs.declared.channel.Channel.{Channel}
 use Rattle.fw_known.specs.declared.second.Second.{Second}
-use Rattle.fw_known.specs.declared.hear.Packet.{Packet}
 use Rattle.fw_known.specs.declared.state.State.{State}
 use Rattle.fw_known.specs.Heard.{after_heard}
 use Rattle.fw_known.specs.Judging.{judged, judged_counts}
@@ -30,8 +29,8 @@ use Rattle.fw_known.specs.Swapped.{swapped}
 use Rattle.fw_watch.specs.declared.answer.Heed.{Heed}
 use Rattle.fw_watch.specs.declared.answer.Heed.TheVariants.{Ignore, Refuse, Follow}
 use Rattle.fw_watch.specs.Answering.{made, after_made, after_found, with_manager, after_shown_by, after_followed, heed, after_heeded, after_answer, after_answered, with_packet, after_packet}
-use Rattle.fw_watch.specs.Steps.{shown_at_node, shown_at, after_word, after_shown, after_event, after_what, packet_of, ticked, after}
-use Rattle.fw_watch_laws.specs.LastKnown.{IsNumber, IsPlace, is_same, word_left, known_left, glimpse_by, answer_glimpse, word_glimpse, glimpse, fixed, left_by, left}
+use Rattle.fw_watch.specs.Steps.{shown_at_node, shown_at, after_word, after_shown, after_event, after_what, after}
+use Rattle.fw_watch_laws.specs.LastKnown.{IsNumber, IsPlace, is_same, word_left, known_left, glimpse_by, answer_glimpse, word_glimpse, fixed, left_by, left}
 use Rattle.fw_watch_laws.proofs.Places.{known_put, put_twice, unwrap_if}
 use Rattle.fw_watch_laws.proofs.Frames.{manager_frame, judged_frame, by_known, manager_known, aside, ticked_only}
 use Rattle.fw_watch_laws.proofs.Numbers.{IsAt, IsOf, answer_within, register_number}

@@ -3,3 +3,6 @@ pub mod Frames
 pub mod Numbers
 pub mod Knows
 pub mod Keeps
+pub mod Nodes
+pub mod NoUnseen
+pub mod Unseen

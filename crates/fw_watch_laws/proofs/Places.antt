@@ -1,6 +1,6 @@
 -- What is known of a register behind one that was put.
-use Rattle.std.proofs.Common.{◌≡◌, ◌≢◌, refl, ap, sym, ◌∙◌, ℕ, zero, suc, ◌+◌, ◌*◌, ◌<◌, ◌==◌, ◌&&◌, Bool, true, false, List, length, if◌then◌else◌, Option, Some, None, unwrap_or, arith, get_or, set}
-use Rattle.std.proofs.lemmas.List.{get_or-set_other, length-set}
+use Rattle.std.proofs.Common.{◌≡◌, ◌≢◌, refl, ℕ, ◌+◌, ◌*◌, ◌<◌, ◌==◌, ◌&&◌, Bool, true, false, List, length, if◌then◌else◌, Some, None, unwrap_or, arith, get_or, set}
+use Rattle.std.proofs.lemmas.List.{get_or-set_other}
 use Rattle.std.proofs.lemmas.Grind.{get_or-set_at}
 use Rattle.fw_remarks.specs.declared.known.Known.{Known}
 use Rattle.fw_remarks.specs.declared.register.At.{At}
