@@ -39,7 +39,7 @@ framed s t f w =
 none_standing : All IsAt []
 none_standing k d h = absurd (omega (arith, h))
 
-whole_none : Whole no_state
+pub whole_none : Whole no_state
 whole_none = record { plugs = length-replicate 3906 nothing_known; standing = none_standing }
 
 whole_buried : (o : Option ℕ) (s : State) → Whole s → Whole (buried o s)
@@ -73,7 +73,7 @@ whole_what cycle End s w = w
 whole_aside : (s : State) (c : List Channel) (d : Second) → Whole s → Whole (aside s c d)
 whole_aside s c d w = record { plugs = w.plugs; standing = w.standing }
 
-whole_step : (s : State) (t : Timed) → Whole s → Whole (after s t)
+pub whole_step : (s : State) (t : Timed) → Whole s → Whole (after s t)
 unfolding after
 whole_step s t w =
     let o = ticked_only t.cycle s in

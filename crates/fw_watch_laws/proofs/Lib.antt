@@ -6,3 +6,8 @@ pub mod Keeps
 pub mod Nodes
 pub mod NoUnseen
 pub mod Unseen
+pub mod Turns
+pub mod Moves
+pub mod Rows
+pub mod Two
+pub mod Told

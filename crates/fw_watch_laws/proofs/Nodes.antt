@@ -66,7 +66,7 @@ few_what cycle End s h w = w
 few_aside : (s : State) (c : List Channel) (d : Second) → Few s → Few (aside s c d)
 few_aside s c d w = record { count = w.count; nodes = w.nodes }
 
-few_step : (s : State) (t : Timed) → Fits t.what → Few s → Few (after s t)
+pub few_step : (s : State) (t : Timed) → Fits t.what → Few s → Few (after s t)
 unfolding after
 few_step s t h w =
     let o = ticked_only t.cycle s in

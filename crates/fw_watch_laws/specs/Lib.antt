@@ -1,2 +1,3 @@
 pub mod LastKnown
 pub mod ChangedUnseen
+pub mod TwoSenders

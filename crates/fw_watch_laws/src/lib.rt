@@ -3,4 +3,4 @@
 
 mod laws;
 
-pub use laws::changed_words_are_told;
+pub use laws::{changed_words_are_told, two_senders_are_told};
