@@ -1,0 +1,13 @@
+pub mod Places
+pub mod Frames
+pub mod Numbers
+pub mod Knows
+pub mod Keeps
+pub mod Nodes
+pub mod NoUnseen
+pub mod Unseen
+pub mod Turns
+pub mod Moves
+pub mod Rows
+pub mod Two
+pub mod Told

@@ -1,0 +1,133 @@
+-- Which remarks tell that a word changed unseen.
+use Rattle.std.proofs.Common.{◌≡◌, refl, ap, ◌∙◌, subst, ℕ, ◌==◌, Bool, true, false, List, [], ◌∷◌, ◌++◌, if◌then◌else◌, Option, Some, None, IfSome}
+use Rattle.std.specs.List.{filter}
+use Rattle.std.proofs.lemmas.List.{append-nil}
+use Rattle.std.proofs.lemmas.List.Elements.{filter-append}
+use Rattle.fw_words.specs.declared.swap.Swap.{Swap}
+use Rattle.fw_entry.specs.declared.entry.Entry.{Entry}
+use Rattle.fw_entry.specs.declared.entry.Entry.TheVariants.{Reset, Async, Iso, Event, Outcome, Shown, End}
+use Rattle.fw_entry.specs.declared.entry.Timed.{Timed}
+use Rattle.fw_entry.specs.Log.{InOrder}
+use Rattle.fw_remarks.specs.declared.known.Known.{Known}
+use Rattle.fw_remarks.specs.declared.register.At.{At}
+use Rattle.fw_remarks.specs.declared.remark.Remark.TheVariants.{Unseen}
+use Rattle.fw_remarks.specs.Knowing.{differing}
+use Rattle.fw_remarks.specs.Remarks.{Said, said}
+use Rattle.fw_known.specs.declared.asked.Answer.{Answer}
+use Rattle.fw_known.specs.declared.channel.Channel.{Channel}
+use Rattle.fw_known.specs.declared.second.Second.{Second}
+use Rattle.fw_known.specs.declared.state.State.{State}
+use Rattle.fw_known.specs.Judging.{judged}
+use Rattle.fw_known.specs.Standing.{answer_of}
+use Rattle.fw_known.specs.States.{known_of}
+use Rattle.fw_watch.specs.declared.answer.Heed.{Heed}
+use Rattle.fw_watch.specs.declared.answer.Heed.TheVariants.{Ignore, Refuse, Follow}
+use Rattle.fw_watch.specs.Judging.{judge_remarks}
+use Rattle.fw_watch.specs.Holding.{held_remarks}
+use Rattle.fw_watch.specs.Answering.{made_remarks, found_remarks, with_manager, shown_by, followed_remarks, refused_swap, not_manager_remarks, heeded_remarks, heed, answer_remarks, answered_remarks, with_packet, packet_remarks}
+use Rattle.fw_watch.specs.Steps.{reset_remarks, shown_at, word_remarks, shown_remarks, packet_of, what_remarks, ticked, remarks}
+use Rattle.fw_watch.specs.Watched.{known}
+use Rattle.fw_watch_laws.specs.LastKnown.{IsPlace, Glimpse, glimpse_by, answer_glimpse, word_glimpse, glimpse}
+use Rattle.fw_watch_laws.specs.ChangedUnseen.{is_unseen, found_due, glimpse_due, unseen_due}
+use Rattle.fw_watch_laws.proofs.Frames.{manager_known, aside, ticked_only}
+use Rattle.fw_watch_laws.proofs.Keeps.{whole_known, kept}
+use Rattle.fw_watch_laws.proofs.Nodes.{few_known, IsSeen, glimpse_seen}
+use Rattle.fw_watch_laws.proofs.NoUnseen.{IsNone, made_none, heard_none, held_none}
+
+-- ---- words
+
+judge_if : (b : Bool) (x : Said) → is_unseen x ≡ true → filter is_unseen (if b then [] else x ∷ []) ≡ (if b then [] else x ∷ [])
+judge_if true x e = refl
+judge_if false x e = rw e refl
+
+judge_all : (s : State) (cycle : ℕ) (at : At) (found : ℕ) → filter is_unseen (judge_remarks s cycle at found) ≡ judge_remarks s cycle at found
+unfolding judge_remarks
+judge_all s cycle at found = judge_if (differing (known_of s at) found == 0) (said cycle (Unseen at (known_of s at) found)) refl
+
+-- what is told of what is found, by what is known in the state
+found_by : State → ℕ → At → Option ℕ → List Said
+found_by s cycle at None = []
+found_by s cycle at (Some found) = judge_remarks s cycle at found
+
+seen_by : State → ℕ → Option Glimpse → List Said
+seen_by s cycle None = []
+seen_by s cycle (Some g) = found_by s cycle g.at g.found
+
+judge_same : (s t : State) (cycle : ℕ) (at : At) (found : ℕ) → known_of s at ≡ known_of t at → judge_remarks s cycle at found ≡ judge_remarks t cycle at found
+unfolding judge_remarks
+judge_same s t cycle at found e = ap (λ (k : Known). if differing k found == 0 then [] else said cycle (Unseen at k found) ∷ []) e
+
+shown_unseen : (o : Option ℕ) (cycle : ℕ) (a : Answer) (s : State) → filter is_unseen (shown_by o cycle a s) ≡ found_by s cycle a.at o
+unfolding found_by found_remarks
+shown_unseen None cycle a s = refl
+shown_unseen (Some found) cycle a s =
+    filter-append is_unseen (judge_remarks s cycle a.at found) (made_remarks cycle a a.swap (judged s a.at found))
+    ∙ ap (λ (xs : List Said). filter is_unseen (judge_remarks s cycle a.at found) ++ xs) (made_none cycle a a.swap (judged s a.at found))
+    ∙ append-nil (filter is_unseen (judge_remarks s cycle a.at found)) ∙ judge_all s cycle a.at found
+
+found_same : (o : Option ℕ) (s t : State) (cycle : ℕ) (at : At) → known_of s at ≡ known_of t at → found_by s cycle at o ≡ found_by t cycle at o
+unfolding found_by
+found_same None s t cycle at e = refl
+found_same (Some found) s t cycle at e = judge_same s t cycle at found e
+
+refused_none : (o : Option Swap) (s : State) (cycle : ℕ) (a : Answer) → IsNone (refused_swap o s cycle a)
+refused_none None s cycle a = refl
+refused_none (Some swap) s cycle a = refl
+
+heeded_unseen : (h : Heed) (cycle : ℕ) (a : Answer) (s : State) → filter is_unseen (heeded_remarks h cycle a s) ≡ seen_by s cycle (glimpse_by h a)
+unfolding seen_by not_manager_remarks followed_remarks
+heeded_unseen Ignore cycle a s = refl
+heeded_unseen Refuse cycle a s = refused_none a.swap s cycle a
+heeded_unseen Follow cycle a s =
+    shown_unseen a.found cycle a (with_manager a.at s) ∙ found_same a.found (with_manager a.at s) s cycle a.at (manager_known a.at a.at s)
+
+answered_unseen : (o : Option Answer) (cycle : ℕ) (s : State) → filter is_unseen (answered_remarks o cycle s) ≡ seen_by s cycle (answer_glimpse s o)
+unfolding seen_by answer_remarks
+answered_unseen None cycle s = refl
+answered_unseen (Some a) cycle s = heeded_unseen (heed s a.at) cycle a s
+
+word_unseen : (o : Option At) (cycle word : ℕ) (s : State) → filter is_unseen (word_remarks o cycle word s) ≡ seen_by s cycle (word_glimpse o word)
+unfolding seen_by found_by
+word_unseen None cycle word s = refl
+word_unseen (Some at) cycle word s = judge_all s cycle at word
+
+-- ---- entries
+
+what_unseen : (cycle : ℕ) (e : Entry) (s : State) (c : List Channel) (d : Second)
+    → filter is_unseen (what_remarks cycle e (aside s c d)) ≡ seen_by s cycle (glimpse s e)
+unfolding what_remarks reset_remarks packet_remarks shown_remarks seen_by found_by shown_at judge_remarks known_of heed
+what_unseen cycle (Reset r) s c d = refl
+what_unseen cycle (Async q) s c d = answered_unseen (answer_of s.standing q) cycle (with_packet q (aside s c d))
+what_unseen cycle (Iso q) s c d = heard_none (aside s c d) (packet_of cycle q)
+what_unseen cycle (Event e) s c d = refl
+what_unseen cycle (Outcome o) s c d = refl
+what_unseen cycle (Shown w) s c d = word_unseen (shown_at s w) cycle w.word (aside s c d)
+what_unseen cycle End s c d = refl
+
+step_unseen : (s : State) (t : Timed) → filter is_unseen (remarks s t) ≡ seen_by s t.cycle (glimpse s t.what)
+unfolding remarks
+step_unseen s t =
+    let o = ticked_only t.cycle s in
+    filter-append is_unseen (held_remarks 64 t.cycle s) (what_remarks t.cycle t.what (ticked t.cycle s))
+    ∙ ap (λ (xs : List Said). xs ++ filter is_unseen (what_remarks t.cycle t.what (ticked t.cycle s))) (held_none 64 t.cycle s)
+    ∙ ap (λ (x : State). filter is_unseen (what_remarks t.cycle t.what x)) o.2 ∙ what_unseen t.cycle t.what s o.0 o.1
+
+-- what is known in the state is what was last known
+found_last : (front : List Timed) (cycle : ℕ) (at : At) (o : Option ℕ) → IsPlace at → found_by (known front) cycle at o ≡ found_due front cycle at o
+unfolding found_by judge_remarks
+found_last front cycle at None p = refl
+found_last front cycle at (Some found) p = ap (λ (k : Known). if differing k found == 0 then [] else said cycle (Unseen at k found) ∷ []) (kept front at p)
+
+seen_last : (front : List Timed) (cycle : ℕ) (o : Option Glimpse) → IfSome o IsSeen → seen_by (known front) cycle o ≡ glimpse_due front cycle o
+unfolding seen_by
+seen_last front cycle None p = refl
+seen_last front cycle (Some g) p = found_last front cycle g.at g.found p
+
+pub told_of : (front rest : List Timed) (t : Timed) → InOrder 0 (front ++ t ∷ rest) → filter is_unseen (remarks (known front) t) ≡ unseen_due front t
+unfolding unseen_due
+told_of front rest t h =
+    step_unseen (known front) t
+    ∙ seen_last front t.cycle (glimpse (known front) t.what) (glimpse_seen (known front) t.what (few_known front (t ∷ rest) h) (whole_known front).standing)
+
+pub told : (entries front rest : List Timed) (t : Timed) → InOrder 0 entries → entries ≡ front ++ t ∷ rest → filter is_unseen (remarks (known front) t) ≡ unseen_due front t
+told entries front rest t h e = told_of front rest t (subst (InOrder 0) e h)

@@ -1,0 +1,3 @@
+pub mod LastKnown
+pub mod ChangedUnseen
+pub mod TwoSenders
