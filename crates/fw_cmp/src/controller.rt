@@ -1,16 +1,17 @@
-ghost use Rattle.std.specs.Prelude.{◌≡◌, ◌<◌, ◌≤◌, ◌^◌, ◌↔◌, ℕ, IsTrue, IsFalse, IfSome};
+ghost use Rattle.std.specs.Prelude.{◌≡◌, ◌<◌, ◌≤◌, ◌^◌, ◌↔◌, ℕ, Err, IsTrue, IsFalse, IfSome, if◌then◌else◌};
 ghost use Rattle.fw_cmp.specs.declared.directory.Directory.{Directory as BusDirectory};
+ghost use Rattle.fw_cmp.specs.declared.outcome.StartFault.TheVariants.{NotOwnPlug};
 ghost use Rattle.fw_cmp.specs.Causes.{IsAtRest, IsHeldBack};
-ghost use Rattle.fw_cmp.specs.Fits.{PlugFits, AskedFits};
+ghost use Rattle.fw_cmp.specs.Fits.{PlugFits, AskedFits, SlotFits};
 ghost use Rattle.fw_cmp.specs.Holdings.{CanGoOn};
 ghost use Rattle.fw_cmp.specs.Losses.{ListeningFits, first_listening, MayTurn, Awaits, deaf_turn, deaf_until, turn_of, after_turn, with_state, after_answer, after_loss, after_bus_reset, after_end, IsDeafUntil, IsToForce};
 ghost use Rattle.fw_cmp.specs.Nodes.{HasNodeNumbers};
 ghost use Rattle.fw_cmp.specs.Outcomes.{EndsWithCause};
-ghost use Rattle.fw_cmp.specs.Starts.{OkWithin, start, start_own, started, connect_slot, broadcast_slot, listen_slot, start_break, break_started, break_fault};
+ghost use Rattle.fw_cmp.specs.Starts.{IsMaking, OkWithin, start, start_own, started, connect_slot, broadcast_slot, listen_slot, start_break, break_started, break_fault};
 ghost use Rattle.fw_cmp.specs.Turns.{addressee_in, is_busy};
 
 use crate::agenda::Agenda;
-use crate::{Directory, Next, StartFault};
+use crate::{Directory, Next, Slot, StartFault};
 use fw_base::PlugAt;
 use fw_csr::{Reply, SPLIT_TIMEOUT};
 use std::marker::Model;
@@ -67,7 +68,7 @@ impl Controller {
         ensures fits { ListeningFits self.new }
         ensures goes_on { (d : BusDirectory) → CanGoOn d self.old.state → CanGoOn d self.new.state }
     {
-        self.agenda.start_connect(out, into, channel, overhead)
+        self.start(true, Slot::connect(out, into, channel, overhead))
     }
 
     /// Starts a broadcast-out connection of an output plug of the controller's own device, and answers its slot.
@@ -79,7 +80,7 @@ impl Controller {
         ensures fits { ListeningFits self.new }
         ensures goes_on { (d : BusDirectory) → CanGoOn d self.old.state → CanGoOn d self.new.state }
     {
-        self.agenda.start_broadcast(own, out, overhead)
+        self.start(out.device == own, Slot::broadcast(out, overhead))
     }
 
     /// Starts a broadcast-in connection of an input plug of the controller's own device, and answers its slot.
@@ -90,7 +91,37 @@ impl Controller {
         ensures fits { ListeningFits self.new }
         ensures goes_on { (d : BusDirectory) → CanGoOn d self.old.state → CanGoOn d self.new.state }
     {
-        self.agenda.start_listen(own, into)
+        self.start(into.device == own, Slot::listen(into))
+    }
+
+    /// A new connection takes the lowest free slot, and waits. A broadcast connection is one of the controller's own plug.
+    fn start(&mut self, is_own: bool, held: Slot) -> Result<u8, StartFault>
+        requires held { SlotFits held }
+        requires making { IsMaking held }
+        ensures answer { result ≡ (if is_own then start self.old.state else Err NotOwnPlug) }
+        ensures state { self.new ≡ with_state self.old (started result held self.old.state) }
+        ensures fits { ListeningFits self.new }
+        ensures goes_on { (d : BusDirectory) → CanGoOn d self.old.state → CanGoOn d self.new.state }
+    {
+        let found = self.agenda.check_start();
+        if !is_own {
+            return Err(StartFault::NotOwnPlug);
+        }
+        let slot = found?;
+        self.agenda.place(slot, held);
+        Ok(slot)
+    }
+
+    /// A new connection takes this slot, which `check_start` found, and waits.
+    pub fn place(&mut self, slot: u8, held: Slot)
+        requires found { start self.old.state ≡ Ok slot }
+        requires held { SlotFits held }
+        requires making { IsMaking held }
+        ensures state { self.new ≡ with_state self.old (started (Ok slot) held self.old.state) }
+        ensures fits { ListeningFits self.new }
+        ensures goes_on { (d : BusDirectory) → CanGoOn d self.old.state → CanGoOn d self.new.state }
+    {
+        self.agenda.place(slot, held);
     }
 
     /// The slot that a new connection would take, the lowest free one, or why it would be refused: `TableFull` before
@@ -109,7 +140,21 @@ impl Controller {
         ensures fits { ListeningFits self.new }
         ensures goes_on { (d : BusDirectory) → CanGoOn d self.old.state → CanGoOn d self.new.state }
     {
-        self.agenda.start_break(slot)
+        if let Some(fault) = self.agenda.check_break(slot) {
+            return Err(fault);
+        }
+        self.agenda.place_break(slot);
+        Ok(())
+    }
+
+    /// A break of the connection in this slot, in which `check_break` found no fault, waits.
+    pub fn place_break(&mut self, slot: u8)
+        requires { break_fault self.old.state slot ≡ None }
+        ensures state { self.new ≡ with_state self.old (break_started self.old.state slot) }
+        ensures fits { ListeningFits self.new }
+        ensures goes_on { (d : BusDirectory) → CanGoOn d self.old.state → CanGoOn d self.new.state }
+    {
+        self.agenda.place_break(slot);
     }
 
     /// Why `start_break` would refuse a break of the connection in this slot. None where it would not.
