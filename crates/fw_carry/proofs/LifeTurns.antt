@@ -118,7 +118,8 @@ connect_turns m table d w i lives slot found put = record {
       let is = subst (λ (r : Result ℕ StartFault). IsTable table (count_of m.controllers) (connected d w r (states_of m.controllers)) (dead_of m.controllers)) (sym found) put in (
         with_connection s d w,
         (st.answered, (living, slot, (i, sym same ∙ found), refl, refl)),
-        table_stands m s table (with_connection s d w).controllers s.asked_at s.lost (λ c. connected d w (start_of d w (c d).state) c) (λ x. x) s.account m.wire s.streams m.candidates m.bids s.election st (same_account s.account) is (all_start s d w)
+        table_stands m s table (with_connection s d w).controllers s.asked_at s.lost (λ c. connected d w (start_of d w (c d).state) c)
+            (λ x. x) s.account m.wire s.streams m.candidates m.bids s.election st (same_account s.account) is (all_start s d w)
             (wire_same m.wire s (with_connection s d w) refl refl
             (same_currents s.controllers d (given (start_of d w (s.controllers d)) (slot_of w) (s.controllers d))
             (given_current (start_of d w (s.controllers d)) (slot_of w) (s.controllers d))) st.wire)

@@ -1,4 +1,4 @@
-use Rattle.std.proofs.Common.{◌≡◌, ◌<◌, Ok, arith, length, sym, subst}
+use Rattle.std.proofs.Common.{◌≡◌, Ok, arith, sym, subst}
 use Rattle.fw_cmp.specs.Controllers.{ControllerState}
 use Rattle.fw_cmp.specs.Holdings.{CanGoOn}
 use Rattle.fw_cmp.specs.Refusals.{TakesSlot}
@@ -20,11 +20,15 @@ bounds-self-inside-slot c = (taken_slot c.args.self.now c.args.slot c.requires.f
 
 pub invariant_of-self : goal.invariant_of-self
 invariant_of-self c =
-    let slot : TakesSlot (before c) c.args.slot = takes c in
-    (rw c.push.ensures.items (start_fits (before c) c.args.slot c.args.held c.self.invariant.0 slot.within slot.free slot.room c.requires.held c.requires.making), none_set c.self.inside.none_restores c.self.inside.slots c.args.slot c.args.held (omega (arith, c.self.invariant.0.slots, slot.within)) (making_rests c.args.held c.requires.making) c.self.invariant.1)
+    let slot : TakesSlot (before c) c.args.slot = takes c in (
+      rw c.push.ensures.items (start_fits (before c) c.args.slot c.args.held c.self.invariant.0 slot.within slot.free slot.room c.requires.held c.requires.making),
+      none_set c.self.inside.none_restores c.self.inside.slots c.args.slot c.args.held (omega (arith, c.self.invariant.0.slots, slot.within))
+          (making_rests c.args.held c.requires.making) c.self.invariant.1,
+    )
 
 pub returns-clause-fits : goal.returns-clause-fits
 returns-clause-fits c = (invariant_of-self c).0
 
 pub returns-clause-goes_on : goal.returns-clause-goes_on
-returns-clause-goes_on c d h = rw c.push.ensures.items (start_goes_on d (before c) (Ok c.args.slot) c.args.held c.requires.making (takes c).within c.self.invariant.0.slots (subst (λ (s : ControllerState). CanGoOn d s) (sym c.self.view_is) h))
+returns-clause-goes_on c d h = rw c.push.ensures.items (start_goes_on d (before c) (Ok c.args.slot) c.args.held c.requires.making (takes c).within c.self.invariant.0.slots
+    (subst (λ (s : ControllerState). CanGoOn d s) (sym c.self.view_is) h))

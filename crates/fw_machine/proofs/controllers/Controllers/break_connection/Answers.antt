@@ -7,7 +7,8 @@ use Rattle.fw_machine.proofs.controllers.Controllers.break_connection.Goals as g
 
 pub returns : goal.returns
 returns c =
-    table_set c.args.self.now c.self.inside.list.items c.self.inside.dead c.args.device c.from.result (λ x. with_state x (break_started x.state c.args.slot)) c.index_mut.result.now c.place_break.new.self
+    table_set c.args.self.now c.self.inside.list.items c.self.inside.dead c.args.device c.from.result (λ x. with_state x (break_started x.state c.args.slot))
+    c.index_mut.result.now c.place_break.new.self
     c.self.view_is c.requires.device c.from.ensures c.index_mut.ensures.value c.place_break.ensures.state
 
 pub invariant_of-self : goal.invariant_of-self

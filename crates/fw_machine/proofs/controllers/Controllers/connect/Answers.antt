@@ -8,7 +8,8 @@ use Rattle.fw_machine.proofs.controllers.Controllers.connect.Goals as goal
 
 pub returns : goal.returns
 returns c =
-    table_set c.args.self.now c.self.inside.list.items c.self.inside.dead c.args.device c.from.result (λ x. with_state x (started (Ok c.args.slot) (slot_of c.args.wanted.now) x.state)) c.index_mut.result.now c.place.new.self
+    table_set c.args.self.now c.self.inside.list.items c.self.inside.dead c.args.device c.from.result (λ x. with_state x (started (Ok c.args.slot) (slot_of c.args.wanted.now) x.state))
+    c.index_mut.result.now c.place.new.self
     c.self.view_is c.requires.device c.from.ensures c.index_mut.ensures.value (rw c.slot_of.ensures at c.place.ensures.state)
 
 pub invariant_of-self : goal.invariant_of-self
