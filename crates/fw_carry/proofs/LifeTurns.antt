@@ -1,6 +1,6 @@
 -- What commands ask of controllers: by the machine and by the run.
 use Rattle.std.proofs.Common.{◌≡◌, ℕ, ◌<◌, ◌&&◌, not, Bool, true, false, Option, Some, None, refl, ap, sym, subst, ◌∙◌, arith, IsTrue}
-use Rattle.std.specs.Prelude.{Ok, Err, IsOk}
+use Rattle.std.specs.Prelude.{Ok}
 use Rattle.std.specs.declared.result.Result.{Result}
 use Rattle.fw_base.specs.declared.plug.PlugAt.{PlugAt}
 use Rattle.fw_base.specs.Tables.{update, at_plug}
@@ -103,26 +103,23 @@ table_stands m s table f a o k h l w c cs b e st same is all wire counts beside 
 
 -- ---- a new connection, and a break
 
-accepted_at : {E : Type 0} (r : Result ℕ E) → IsOk r → (i : ℕ) × (r ≡ Ok i)
-accepted_at (Ok i) ok = (i, refl)
-accepted_at (Err e) ok = let no : ⊥ = grind (arith, ok) in absurd no
-
 -- the controllers after a connection was asked for
-abbrev pub connected : ℕ → Wanted → (ℕ → Listening) → ℕ → Listening
-connected d w c = update c d (with_state (c d) (given (start_of d w (c d).state) (slot_of w) (c d).state))
+abbrev pub connected : ℕ → Wanted → Result ℕ StartFault → (ℕ → Listening) → ℕ → Listening
+connected d w r c = update c d (with_state (c d) (given r (slot_of w) (c d).state))
 
-pub connect_turns : (m : Machine) (table : ControllerTable) (d : ℕ) (w : Wanted)
-    → IsTrue (is_living_in m d) → SlotFits (slot_of w) → IsOk (start_of d w (states_of m.controllers d).state)
-    → IsTable table (count_of m.controllers) (connected d w (states_of m.controllers)) (dead_of m.controllers)
+pub connect_turns : (m : Machine) (table : ControllerTable) (d : ℕ) (w : Wanted) (i : ℕ)
+    → IsTrue (is_living_in m d) → SlotFits (slot_of w) → start_of d w (states_of m.controllers d).state ≡ Ok i
+    → IsTable table (count_of m.controllers) (connected d w (Ok i) (states_of m.controllers)) (dead_of m.controllers)
     → TakesAction (StartConnection d w) m (record m { controllers = table }) m.cycle None
-connect_turns m table d w lives slot ok is = record {
+connect_turns m table d w i lives slot found put = record {
   shown = λ s g st.
       let same : start_of d w (states_of m.controllers d).state ≡ start_of d w (s.controllers d) = ap (λ (c : Listening). start_of d w c.state) (at_same m s d st) ∙ start_same d w (s.controllers d) (s.lost d) in
-      let accepted : IsOk (start_of d w (s.controllers d)) = subst (λ (o : Result ℕ StartFault). IsOk o) same ok in
-      let living : IsTrue (is_living s d) = subst IsTrue (living_same m s d g st) lives in (
+      let living : IsTrue (is_living s d) = subst IsTrue (living_same m s d g st) lives in
+      let is = subst (λ (r : Result ℕ StartFault). IsTable table (count_of m.controllers) (connected d w r (states_of m.controllers)) (dead_of m.controllers)) (sym found) put in (
         with_connection s d w,
-        (st.answered, (living, slot, accepted_at (start_of d w (s.controllers d)) accepted, refl, refl)),
-        table_stands m s table (with_connection s d w).controllers s.asked_at s.lost (connected d w) (λ x. x) s.account m.wire s.streams m.candidates m.bids s.election st (same_account s.account) is (all_start s d w)
+        (st.answered, (living, slot, (i, sym same ∙ found), refl, refl)),
+        table_stands m s table (with_connection s d w).controllers s.asked_at s.lost (λ c. connected d w (start_of d w (c d).state) c)
+            (λ x. x) s.account m.wire s.streams m.candidates m.bids s.election st (same_account s.account) is (all_start s d w)
             (wire_same m.wire s (with_connection s d w) refl refl
             (same_currents s.controllers d (given (start_of d w (s.controllers d)) (slot_of w) (s.controllers d))
             (given_current (start_of d w (s.controllers d)) (slot_of w) (s.controllers d))) st.wire)

@@ -47,7 +47,7 @@ pub fn carry_out<K: Sink, F: Fn(u16, u32, u16) -> [u8; 480], H: Fn(u32, u8) -> u
         }
         Order::Cable(a, b) => join(machine, *a, *b, room, sink),
         Order::Reset(device) => reset(machine, *device, room, sink),
-        Order::Connect(device, wanted) => connect(machine, *device, wanted, sink),
+        Order::Connect(device, wanted, slot) => connect(machine, *device, wanted, *slot, sink),
         Order::Break(device, slot) => break_connection(machine, *device, *slot, sink),
         Order::Step(device, count) => steps(machine, *device, *count, room, sink),
         Order::Settle(rounds) => settle(machine, *rounds, room, sink),

@@ -1,6 +1,6 @@
 //! What commands ask of controllers: connections, breaks, their deaths and starts.
 
-ghost use Rattle.std.specs.Prelude.{◌≡◌, ◌<◌, [], ◌∷◌, None, IsOk, IsTrue, true};
+ghost use Rattle.std.specs.Prelude.{◌≡◌, ◌<◌, [], ◌∷◌, None, Ok, IsTrue, true};
 ghost use Rattle.fw_cmp.specs.Losses.{Awaits};
 ghost use Rattle.fw_cmp.specs.Fits.{SlotFits};
 ghost use Rattle.fw_cmp.specs.Starts.{break_fault};
@@ -20,20 +20,21 @@ use fw_machine::{Machine, Room, give};
 use fw_outside::{Failed, Sink};
 use fw_run::Wanted;
 
-/// A new connection of a device's controller, which does not refuse it. Nothing is written.
+/// A new connection of a device's controller takes the slot that was found for it. Nothing is written.
 pub(crate) fn connect<K: Sink>(
     machine: &mut Machine,
     device: u8,
     wanted: &Wanted,
+    slot: u8,
     sink: &mut K,
 ) -> Result<(), Failed>
     requires ready { IsReady machine.old }
     requires living { IsTrue (is_living_in machine.old device) }
-    requires slot { SlotFits (slot_of wanted.now) }
-    requires accepted { IsOk (start_of device wanted.now (states_of machine.old.controllers device).state) }
+    requires held { SlotFits (slot_of wanted.now) }
+    requires found { start_of device wanted.now (states_of machine.old.controllers device).state ≡ Ok slot }
     ensures does { Performed (Performs (StartConnection device wanted.now ∷ [])) machine.old machine.new (sides_of K.held K.faults sink.old sink.new) result }
 {
-    machine.controllers.connect(device, wanted);
+    machine.controllers.connect(device, wanted, slot);
     Ok(())
 }
 

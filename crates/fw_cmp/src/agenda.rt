@@ -1,22 +1,17 @@
-ghost use Rattle.std.specs.Prelude.{◌≡◌, ◌<◌, Err, if◌then◌else◌};
-ghost use Rattle.fw_cmp.specs.declared.outcome.StartFault.TheVariants.{NotOwnPlug};
+ghost use Rattle.std.specs.Prelude.{◌≡◌};
 ghost use Rattle.fw_cmp.specs.Controllers.{Fits, first_state, IsStanding, break_waits};
-ghost use Rattle.fw_cmp.specs.Fits.{PlugFits, AskedFits, SlotFits};
-ghost use Rattle.fw_cmp.specs.Starts.{IsMaking, OkWithin, start, start_own, started, connect_slot, broadcast_slot, listen_slot, start_break, break_started, break_fault, can_break};
+ghost use Rattle.fw_cmp.specs.Fits.{SlotFits};
+ghost use Rattle.fw_cmp.specs.Starts.{IsMaking, OkWithin, start, started, break_started, break_fault, can_break};
 ghost use Rattle.fw_cmp.specs.declared.directory.Directory.{Directory as BusDirectory};
 ghost use Rattle.fw_cmp.specs.Holdings.{CanGoOn};
 ghost use Rattle.fw_cmp.specs.Resets.{after_hear, after_reset, after_lost_reset, after_second};
 
 use crate::overtaking::{overtake, overtake_unheard};
 use crate::work::Work;
-use crate::{Connection, Current, Slot, StartFault, Task, slots};
+use crate::{Current, Slot, StartFault, Task, slots};
 use arrayvec::ArrayVec;
-use fw_base::PlugAt;
 use fw_csr::Reply;
 use std::marker::Model;
-
-/// The channel of a first broadcast connection (IEC 61883-1, broadcast channel base).
-const BROADCAST_CHANNEL: u8 = 63;
 
 /// The slots of a controller, at most eight waiting jobs, and the current one.
 #[derive(Drop)]
@@ -54,62 +49,6 @@ impl Agenda {
         }
     }
 
-    /// Starts a point-to-point connection on this channel, or on the lowest free one, and answers its slot. A refused
-    /// call changes nothing, here and below.
-    pub fn start_connect(
-        &mut self,
-        out: PlugAt,
-        into: PlugAt,
-        channel: Option<u8>,
-        overhead: u8,
-    ) -> Result<u8, StartFault>
-        requires out { PlugFits out }
-        requires into { PlugFits into }
-        requires channel { AskedFits channel }
-        requires overhead { overhead < 16 }
-        ensures answer { result ≡ start self.old }
-        ensures state { self.new ≡ started result (connect_slot out into channel overhead) self.old }
-        ensures fits { Fits self.new }
-        ensures goes_on { (d : BusDirectory) → CanGoOn d self.old → CanGoOn d self.new }
-    {
-        let connection = Connection::PlugToPlug {
-            output: out,
-            input: into,
-        };
-        self.start(true, Slot::Making(connection, channel, overhead))
-    }
-
-    /// Starts a broadcast-out connection of an output plug of the controller's own device, and answers its slot.
-    pub fn start_broadcast(&mut self, own: u8, out: PlugAt, overhead: u8) -> Result<u8, StartFault>
-        requires out { PlugFits out }
-        requires overhead { overhead < 16 }
-        ensures answer { result ≡ start_own own out self.old }
-        ensures state { self.new ≡ started result (broadcast_slot out overhead) self.old }
-        ensures fits { Fits self.new }
-        ensures goes_on { (d : BusDirectory) → CanGoOn d self.old → CanGoOn d self.new }
-    {
-        let connection = Connection::BroadcastOut { output: out };
-        self.start(
-            out.device == own,
-            Slot::Making(connection, Some(BROADCAST_CHANNEL), overhead),
-        )
-    }
-
-    /// Starts a broadcast-in connection of an input plug of the controller's own device, and answers its slot.
-    pub fn start_listen(&mut self, own: u8, into: PlugAt) -> Result<u8, StartFault>
-        requires into { PlugFits into }
-        ensures answer { result ≡ start_own own into self.old }
-        ensures state { self.new ≡ started result (listen_slot into) self.old }
-        ensures fits { Fits self.new }
-        ensures goes_on { (d : BusDirectory) → CanGoOn d self.old → CanGoOn d self.new }
-    {
-        let connection = Connection::BroadcastIn { input: into };
-        self.start(
-            into.device == own,
-            Slot::Making(connection, Some(BROADCAST_CHANNEL), 0),
-        )
-    }
-
     /// The slot that a new connection would take, the lowest free one, or why it would be refused: `TableFull` before
     /// `Busy`. Whose plug it is of is not asked here.
     pub fn check_start(&self) -> Result<u8, StartFault>
@@ -125,44 +64,33 @@ impl Agenda {
         Ok(free)
     }
 
-    /// A new connection takes the lowest free slot, and waits. One that must be of the controller's own plug and is not is
-    /// refused before the tests of `check_start`.
-    fn start(&mut self, is_own: bool, slot: Slot) -> Result<u8, StartFault>
-        requires slot { SlotFits slot }
-        requires making { IsMaking slot }
-        ensures answer { result ≡ (if is_own then start self.old else Err NotOwnPlug) }
-        ensures state { self.new ≡ started result slot self.old }
+    /// A new connection takes this slot, which `check_start` found, and waits.
+    pub fn place(&mut self, slot: u8, held: Slot)
+        requires found { start self.old ≡ Ok slot }
+        requires held { SlotFits held }
+        requires making { IsMaking held }
+        ensures state { self.new ≡ started (Ok slot) held self.old }
         ensures fits { Fits self.new }
         ensures goes_on { (d : BusDirectory) → CanGoOn d self.old → CanGoOn d self.new }
     {
-        let free = self.check_start();
-        if !is_own {
-            return Err(StartFault::NotOwnPlug);
-        }
-        let free = free?;
-        self.slots[free as usize] = slot;
+        self.slots[slot as usize] = held;
         self.waiting.push(Task {
-            slot: free,
+            slot,
             breaks: false,
         });
-        Ok(free)
     }
 
-    /// Starts a break of the connection in this slot.
-    pub fn start_break(&mut self, slot: u8) -> Result<(), StartFault>
-        ensures answer { result ≡ start_break self.old slot }
+    /// A break of the connection in this slot, in which `check_break` found no fault, waits.
+    pub fn place_break(&mut self, slot: u8)
+        requires { break_fault self.old slot ≡ None }
         ensures state { self.new ≡ break_started self.old slot }
         ensures fits { Fits self.new }
         ensures goes_on { (d : BusDirectory) → CanGoOn d self.old → CanGoOn d self.new }
     {
-        if let Some(fault) = self.check_break(slot) {
-            return Err(fault);
-        }
         self.waiting.push(Task { slot, breaks: true });
-        Ok(())
     }
 
-    /// Why `start_break` would refuse a break of the connection in this slot. None where it would not.
+    /// Why a break of the connection in this slot would be refused. None where it would not.
     pub fn check_break(&self, slot: u8) -> Option<StartFault>
         ensures { result ≡ break_fault self.now slot }
     {

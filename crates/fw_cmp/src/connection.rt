@@ -1,7 +1,11 @@
 ghost use Rattle.std.specs.Prelude.{◌≡◌};
 ghost use Rattle.fw_cmp.specs.Connections.{kind_of, output_of, input_of, is_listen, is_point_to_point};
+ghost use Rattle.fw_cmp.specs.Starts.{broadcast_slot, connect_slot, listen_slot};
 
 use fw_base::{ConnectionKind, PlugAt};
+
+/// The channel of a first broadcast connection (IEC 61883-1, broadcast channel base).
+const BROADCAST_CHANNEL: u8 = 63;
 
 /// A connection that a controller makes, by the plugs that it joins (IEC 61883-1, connection management).
 #[derive(Clone, Copy)]
@@ -87,4 +91,29 @@ pub enum Slot {
     Restoring(Connection, Flow, bool),
     /// The connection is gone, and a break of it has still to end.
     Gone(Connection),
+}
+
+impl Slot {
+    /// What holds a new point-to-point connection, on this channel or on the lowest free one.
+    pub fn connect(output: PlugAt, input: PlugAt, channel: Option<u8>, overhead: u8) -> Slot
+        ensures { result ≡ connect_slot output input channel overhead }
+    {
+        Slot::Making(Connection::PlugToPlug { output, input }, channel, overhead)
+    }
+
+    /// What holds a new broadcast-out connection.
+    pub fn broadcast(output: PlugAt, overhead: u8) -> Slot
+        ensures { result ≡ broadcast_slot output overhead }
+    {
+        let connection = Connection::BroadcastOut { output };
+        Slot::Making(connection, Some(BROADCAST_CHANNEL), overhead)
+    }
+
+    /// What holds a new broadcast-in connection.
+    pub fn listen(input: PlugAt) -> Slot
+        ensures { result ≡ listen_slot input }
+    {
+        let connection = Connection::BroadcastIn { input };
+        Slot::Making(connection, Some(BROADCAST_CHANNEL), 0)
+    }
 }

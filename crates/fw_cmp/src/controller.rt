@@ -1,19 +1,18 @@
 ghost use Rattle.std.specs.Prelude.{◌≡◌, ◌<◌, ◌≤◌, ◌^◌, ◌↔◌, ℕ, IsTrue, IsFalse, IfSome};
 ghost use Rattle.fw_cmp.specs.declared.directory.Directory.{Directory as BusDirectory};
 ghost use Rattle.fw_cmp.specs.Causes.{IsAtRest, IsHeldBack};
-ghost use Rattle.fw_cmp.specs.Fits.{PlugFits, AskedFits};
 ghost use Rattle.fw_cmp.specs.Holdings.{CanGoOn};
-ghost use Rattle.fw_cmp.specs.Losses.{ListeningFits, first_listening, MayTurn, Awaits, deaf_turn, deaf_until, turn_of, after_turn, with_state, after_answer, after_loss, after_bus_reset, after_end, IsDeafUntil, IsToForce};
+ghost use Rattle.fw_cmp.specs.Losses.{ListeningFits, first_listening, MayTurn, Awaits, deaf_turn, deaf_until, turn_of, after_turn, after_answer, after_loss, after_bus_reset, after_end, IsDeafUntil, IsToForce};
 ghost use Rattle.fw_cmp.specs.Nodes.{HasNodeNumbers};
 ghost use Rattle.fw_cmp.specs.Outcomes.{EndsWithCause};
-ghost use Rattle.fw_cmp.specs.Starts.{OkWithin, start, start_own, started, connect_slot, broadcast_slot, listen_slot, start_break, break_started, break_fault};
 ghost use Rattle.fw_cmp.specs.Turns.{addressee_in, is_busy};
 
 use crate::agenda::Agenda;
-use crate::{Directory, Next, StartFault};
-use fw_base::PlugAt;
+use crate::{Directory, Next};
 use fw_csr::{Reply, SPLIT_TIMEOUT};
 use std::marker::Model;
+
+mod starts;
 
 /// A connection controller: its slots and jobs, and whether it has lost the response to its request.
 #[derive(Drop)]
@@ -47,76 +46,6 @@ impl Controller {
             asked_at: 0,
             lost: false,
         }
-    }
-
-    /// Starts a point-to-point connection on this channel, or on the lowest free one, and answers its slot. A refused
-    /// call changes nothing, here and below.
-    pub fn start_connect(
-        &mut self,
-        out: PlugAt,
-        into: PlugAt,
-        channel: Option<u8>,
-        overhead: u8,
-    ) -> Result<u8, StartFault>
-        requires out { PlugFits out }
-        requires into { PlugFits into }
-        requires channel { AskedFits channel }
-        requires overhead { overhead < 16 }
-        ensures answer { result ≡ start self.old.state }
-        ensures state { self.new ≡ with_state self.old (started result (connect_slot out into channel overhead) self.old.state) }
-        ensures fits { ListeningFits self.new }
-        ensures goes_on { (d : BusDirectory) → CanGoOn d self.old.state → CanGoOn d self.new.state }
-    {
-        self.agenda.start_connect(out, into, channel, overhead)
-    }
-
-    /// Starts a broadcast-out connection of an output plug of the controller's own device, and answers its slot.
-    pub fn start_broadcast(&mut self, own: u8, out: PlugAt, overhead: u8) -> Result<u8, StartFault>
-        requires out { PlugFits out }
-        requires overhead { overhead < 16 }
-        ensures answer { result ≡ start_own own out self.old.state }
-        ensures state { self.new ≡ with_state self.old (started result (broadcast_slot out overhead) self.old.state) }
-        ensures fits { ListeningFits self.new }
-        ensures goes_on { (d : BusDirectory) → CanGoOn d self.old.state → CanGoOn d self.new.state }
-    {
-        self.agenda.start_broadcast(own, out, overhead)
-    }
-
-    /// Starts a broadcast-in connection of an input plug of the controller's own device, and answers its slot.
-    pub fn start_listen(&mut self, own: u8, into: PlugAt) -> Result<u8, StartFault>
-        requires into { PlugFits into }
-        ensures answer { result ≡ start_own own into self.old.state }
-        ensures state { self.new ≡ with_state self.old (started result (listen_slot into) self.old.state) }
-        ensures fits { ListeningFits self.new }
-        ensures goes_on { (d : BusDirectory) → CanGoOn d self.old.state → CanGoOn d self.new.state }
-    {
-        self.agenda.start_listen(own, into)
-    }
-
-    /// The slot that a new connection would take, the lowest free one, or why it would be refused: `TableFull` before
-    /// `Busy`. Whose plug it is of is not asked here.
-    pub fn check_start(&self) -> Result<u8, StartFault>
-        ensures answer { result ≡ start self.now.state }
-        ensures within { OkWithin result }
-    {
-        self.agenda.check_start()
-    }
-
-    /// Starts a break of the connection in this slot.
-    pub fn start_break(&mut self, slot: u8) -> Result<(), StartFault>
-        ensures answer { result ≡ start_break self.old.state slot }
-        ensures state { self.new ≡ with_state self.old (break_started self.old.state slot) }
-        ensures fits { ListeningFits self.new }
-        ensures goes_on { (d : BusDirectory) → CanGoOn d self.old.state → CanGoOn d self.new.state }
-    {
-        self.agenda.start_break(slot)
-    }
-
-    /// Why `start_break` would refuse a break of the connection in this slot. None where it would not.
-    pub fn check_break(&self, slot: u8) -> Option<StartFault>
-        ensures { result ≡ break_fault self.now.state slot }
-    {
-        self.agenda.check_break(slot)
     }
 
     /// What the controller does next in this cycle. The directory is that of each call since the latest bus reset. One that

@@ -5,6 +5,7 @@ pub mod Wires
 pub mod DeckNodes
 pub mod Resets
 pub mod Tables
+pub mod Starting
 pub mod Touched
 pub mod Living
 pub mod Heard

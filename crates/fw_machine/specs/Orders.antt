@@ -1,5 +1,5 @@
 -- What carrying an order out asks of the machine.
-use Rattle.std.specs.Prelude.{ℕ, ◌≡◌, ◌+◌, ◌*◌, ◌<◌, ◌≤◌, ◌^◌, ◌&&◌, not, nat_le, if◌then◌else◌, Bool, false, is_some, [], length, None, IsOk, IsTrue, IsFalse, ⊤}
+use Rattle.std.specs.Prelude.{ℕ, ◌≡◌, ◌+◌, ◌*◌, ◌<◌, ◌≤◌, ◌^◌, ◌&&◌, not, nat_le, if◌then◌else◌, Bool, false, is_some, [], length, None, Ok, IsTrue, IsFalse, ⊤}
 use Rattle.fw_tree.specs.declared.facts.End.{End}
 use Rattle.fw_tree.specs.declared.TreeFault.{TreeFault}
 use Rattle.fw_tree.specs.Topology.{Topology, IsFault}
@@ -50,7 +50,7 @@ MayCarry m Orders.Withhold = m.devices.names ≡ []
 MayCarry m (Orders.Declare name kind ports speed) = (length m.devices.names < 63) × (1 ≤ ports) × (ports ≤ 27) × (speed ≤ 2)
 MayCarry m (Orders.Cable a b) = CanJoin m.devices.topology a b × IsFalse (joins_in m a b && nat_le MOST_RESETS m.resets)
 MayCarry m (Orders.Reset d) = IsTrue (is_node m.devices.nodes d) × (m.resets < MOST_RESETS)
-MayCarry m (Orders.Connect d w) = IsTrue (is_living_in m d) × SlotFits (slot_of w) × IsOk (start_of d w (states_of m.controllers d).state)
+MayCarry m (Orders.Connect d w i) = IsTrue (is_living_in m d) × SlotFits (slot_of w) × (start_of d w (states_of m.controllers d).state ≡ Ok i)
 MayCarry m (Orders.Break d slot) = IsTrue (is_living_in m d) × (break_fault (states_of m.controllers d).state slot ≡ None)
 MayCarry m (Orders.Step d count) = IsTrue (is_living_in m d) × (m.half_steps + count ≤ MOST_HALF_STEPS)
 MayCarry m (Orders.Settle rounds) = m.half_steps + rounds * length (living_in m) ≤ MOST_HALF_STEPS

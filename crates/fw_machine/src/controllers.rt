@@ -1,6 +1,6 @@
 //! The controllers of the declared devices.
 
-ghost use Rattle.std.specs.Prelude.{◌≡◌, ◌<◌, ◌≤◌, ◌+◌, ◌^◌, IfOk, IfErr, IfSome, IsOk, IsTrue, IsFalse, ℕ, Err, None, true, false, replicate};
+ghost use Rattle.std.specs.Prelude.{◌≡◌, ◌<◌, ◌≤◌, ◌+◌, ◌^◌, IfOk, IfSome, IsTrue, IsFalse, ℕ, None, true, false, replicate};
 ghost use Rattle.fw_base.specs.Tables.{update};
 ghost use Rattle.fw_cmp.specs.Causes.{IsAtRest};
 ghost use Rattle.fw_cmp.specs.Fits.{SlotFits};
@@ -12,7 +12,7 @@ ghost use Rattle.fw_cmp.specs.Turns.{addressee_in};
 ghost use Rattle.fw_run.specs.Afterwards.{slot_of, start_of};
 ghost use Rattle.fw_machine.specs.Tables.{IsTable, count_of, dead_of, states_of};
 
-use fw_cmp::{Controller, Directory, Next, StartFault};
+use fw_cmp::{Controller, Directory, Next, Slot, StartFault};
 use fw_csr::Reply;
 use fw_devices::MOST_DEVICES;
 use fw_run::Wanted;
@@ -146,11 +146,10 @@ impl Controllers {
         self.fresh[usize::from(device)] = false;
     }
 
-    /// Whether the controller of a device would refuse a connection, and why.
-    pub fn check(&self, device: u8, wanted: &Wanted) -> Result<(), StartFault>
+    /// The slot that a connection of a device's controller would take, or why it would be refused.
+    pub fn check(&self, device: u8, wanted: &Wanted) -> Result<u8, StartFault>
         requires { device < count_of self.now }
-        ensures accepted { IfOk result (λ _. IsOk (start_of device wanted.now (states_of self.now device).state)) }
-        ensures refused { IfErr result (λ f. start_of device wanted.now (states_of self.now device).state ≡ Err f) }
+        ensures { result ≡ start_of device wanted.now (states_of self.now device).state }
     {
         let is_own = match wanted {
             Wanted::PlugToPlug(..) => true,
@@ -159,18 +158,17 @@ impl Controllers {
         if !is_own {
             return Err(StartFault::NotOwnPlug);
         }
-        self.get(device).check_start()?;
-        Ok(())
+        self.get(device).check_start()
     }
 
-    /// The controller of a device is asked for a connection that it does not refuse.
-    pub fn connect(&mut self, device: u8, wanted: &Wanted)
+    /// A connection of a device's controller takes the slot that `check` found.
+    pub fn connect(&mut self, device: u8, wanted: &Wanted, slot: u8)
         requires device { device < count_of self.old }
-        requires slot { SlotFits (slot_of wanted.now) }
-        requires accepted { IsOk (start_of device wanted.now (states_of self.old device).state) }
-        ensures { IsTable self.new (count_of self.old) (update (states_of self.old) device (with_state (states_of self.old device) (started (start_of device wanted.now (states_of self.old device).state) (slot_of wanted.now) (states_of self.old device).state))) (dead_of self.old) }
+        requires held { SlotFits (slot_of wanted.now) }
+        requires found { start_of device wanted.now (states_of self.old device).state ≡ Ok slot }
+        ensures { IsTable self.new (count_of self.old) (update (states_of self.old) device (with_state (states_of self.old device) (started (Ok slot) (slot_of wanted.now) (states_of self.old device).state))) (dead_of self.old) }
     {
-        ask(&mut self.list[usize::from(device)], device, wanted);
+        self.list[usize::from(device)].place(slot, slot_of(wanted));
         self.calm[usize::from(device)] = false;
         self.fresh[usize::from(device)] = false;
     }
@@ -181,27 +179,23 @@ impl Controllers {
         requires accepted { break_fault (states_of self.old device).state slot ≡ None }
         ensures { IsTable self.new (count_of self.old) (update (states_of self.old) device (with_state (states_of self.old device) (break_started (states_of self.old device).state slot))) (dead_of self.old) }
     {
-        let _ = self.list[usize::from(device)].start_break(slot);
+        self.list[usize::from(device)].place_break(slot);
         self.calm[usize::from(device)] = false;
         self.fresh[usize::from(device)] = false;
     }
 }
 
-/// The controller of a device is asked for a connection, which it may refuse.
-fn ask(controller: &mut Controller, device: u8, wanted: &Wanted)
-    requires { SlotFits (slot_of wanted.now) }
-    ensures { controller.new ≡ with_state controller.old (started (start_of device wanted.now controller.old.state) (slot_of wanted.now) controller.old.state) }
+/// What a slot holds for a connection that is asked for.
+fn slot_of(wanted: &Wanted) -> Slot
+    ensures { result ≡ slot_of wanted.now }
 {
-    let started = match *wanted {
+    match *wanted {
         Wanted::PlugToPlug(output, input, channel, overhead) => {
-            controller.start_connect(output, input, channel, overhead)
+            Slot::connect(output, input, channel, overhead)
         }
-        Wanted::BroadcastOut(output, overhead) => {
-            controller.start_broadcast(device, output, overhead)
-        }
-        Wanted::BroadcastIn(input) => controller.start_listen(device, input),
-    };
-    let _ = started;
+        Wanted::BroadcastOut(output, overhead) => Slot::broadcast(output, overhead),
+        Wanted::BroadcastIn(input) => Slot::listen(input),
+    }
 }
 
 /// Each place is marked.

@@ -1,6 +1,6 @@
 -- A command that asks a controller for a connection is decided by whether the controller lives, and by what it answers.
 use Rattle.std.proofs.Common.{◌≡◌, ℕ, ◌<◌, ◌≤◌, List, [], ◌∷◌, Option, None, Some, Ok, Err, IsTrue, IsFalse, inl, inr, refl, ap, sym, subst, ◌∙◌, arith}
-use Rattle.std.specs.Prelude.{⊤, IsOk}
+use Rattle.std.specs.Prelude.{⊤}
 use Rattle.std.specs.declared.result.Result.{Result}
 use Rattle.fw_base.specs.declared.plug.PlugAt.{PlugAt}
 use Rattle.fw_command.specs.declared.command.Command.{Command}
@@ -18,7 +18,7 @@ use Rattle.fw_run.specs.Afterwards.{start_of}
 use Rattle.fw_run.specs.Good.{IsGood}
 use Rattle.fw_run.specs.Rules.{Breaks, Decides, IsOrder, rank}
 use Rattle.fw_run.specs.Named.{IsNamed, IsRefused, IsWanted, names_of, plug_of}
-use Rattle.fw_run.proofs.OneLog.{one_order}
+use Rattle.fw_run.proofs.OneLog.{one_wanted}
 use Rattle.fw_machine.specs.declared.machine.Machine.{Machine}
 use Rattle.fw_rules.specs.Decisions.{ConnectionDecided, rule_of}
 use Rattle.fw_machine.specs.Stands.{StandsFor, is_living_in}
@@ -39,23 +39,18 @@ IsAsking _ = ⊥
 
 -- ---- what is asked for
 
-wanted_order : (s : State) (c : Command) (d : ℕ) (w : Wanted) → IsAsking c → IsWanted s c d w → IsOrder s c (Orders.Connect d w)
-wanted_order s (Commands.Connect name out into channel overhead) d w asks is = (d, w, is, refl)
-wanted_order s (Commands.Broadcast name out overhead) d w asks is = (d, w, is, refl)
-wanted_order s (Commands.Listen name into) d w asks is = (d, w, is, refl)
-wanted_order s c d w asks is = absurd asks
-
-one_wanted : (s : State) (c : Command) (d e : ℕ) (w v : Wanted) → IsAsking c → IsWanted s c d w → IsWanted s c e v → (d ≡ e) × (w ≡ v)
-one_wanted s c d e w v asks f g =
-    let same : Orders.Connect d w ≡ Orders.Connect e v = one_order s c _ _ (wanted_order s c d w asks f) (wanted_order s c e v asks g) in
-    (cc, cc)
+wanted_order : (s : State) (c : Command) (d : ℕ) (w : Wanted) (i : ℕ) → IsAsking c → IsWanted s c d w → start_of d w (s.controllers d) ≡ Ok i → IsOrder s c (Orders.Connect d w i)
+wanted_order s (Commands.Connect name out into channel overhead) d w i asks is takes = (d, w, is, i, takes, refl)
+wanted_order s (Commands.Broadcast name out overhead) d w i asks is takes = (d, w, is, i, takes, refl)
+wanted_order s (Commands.Listen name into) d w i asks is takes = (d, w, is, i, takes, refl)
+wanted_order s c d w i asks is takes = absurd asks
 
 -- the controller's answer is the one by which the command is refused
 refused_start : (s : State) (c : Command) (d : ℕ) (w : Wanted) (f : StartFault) → IsAsking c → IsWanted s c d w → IsRefused s c f → start_of d w (s.controllers d) ≡ Err f
 refused_start s c d w f asks is h = go c asks is h
   where
     same : (c : Command) (e : ℕ) (v : Wanted) → IsAsking c → IsWanted s c d w → IsWanted s c e v → start_of e v (s.controllers e) ≡ Err f → start_of d w (s.controllers d) ≡ Err f
-    same c e v asks is other h = let one = one_wanted s c d e w v asks is other in (λ i. start_of (one.0 i) (one.1 i) (s.controllers (one.0 i))) ∙ h
+    same c e v asks is other h = let one = one_wanted s c d e w v is other in (λ i. start_of (one.0 i) (one.1 i) (s.controllers (one.0 i))) ∙ h
 
     go : (c : Command) → IsAsking c → IsWanted s c d w → IsRefused s c f → start_of d w (s.controllers d) ≡ Err f
     go (Commands.Connect name out into channel overhead) asks is h = same (Commands.Connect name out into channel overhead) h.0 h.1 asks is h.2 h.3
@@ -126,9 +121,8 @@ later_rule Refusals.Busy = omega arith
 later_rule Refusals.NoSuchConnection = omega arith
 later_rule Refusals.NotOwnPlug = omega arith
 
-ok_no_fault : (r : Result ℕ StartFault) (f : StartFault) → IsOk r → r ≡ Err f → ⊥
-ok_no_fault (Ok i) f ok e = cc
-ok_no_fault (Err k) f ok e = cc
+ok_no_fault : (r : Result ℕ StartFault) (i : ℕ) (f : StartFault) → r ≡ Ok i → r ≡ Err f → ⊥
+ok_no_fault r i f ok e = cc
 
 same_fault : (r : Result ℕ StartFault) (f k : StartFault) → r ≡ Err f → r ≡ Err k → f ≡ k
 same_fault r f k e g = cc
@@ -163,10 +157,10 @@ connection_decided m s c d w r g st a h = go r h
 
     go : (r : Result Order RuleFault) → ConnectionDecided m d w r → Decides s c r
     go (Ok o) h =
-        let living : IsTrue (is_living s d) = sym lives ∙ h.1 in
-        let accepted : IsOk (start_of d w (s.controllers d)) = subst (λ (o : Result ℕ StartFault). IsOk o) same h.2 in
-        let ordered : IsOrder s c o = subst (IsOrder s c) (sym h.0) (wanted_order s c d w a.asks a.wanted) in
-        (ordered, λ g. connection_breaks s c d w a g (λ e. living) (λ f e. ok_no_fault (start_of d w (s.controllers d)) f accepted))
+        let living : IsTrue (is_living s d) = sym lives ∙ h.2 in
+        let takes = answers (Ok h.0) h.3 in
+        let ordered : IsOrder s c o = subst (IsOrder s c) (sym h.1) (wanted_order s c d w h.0 a.asks a.wanted takes) in
+        (ordered, λ g. connection_breaks s c d w a g (λ e. living) (λ f e. ok_no_fault (start_of d w (s.controllers d)) h.0 f takes))
     go (Err rule) (inl h) = subst (λ rule. Decides s c (Err rule)) (sym h.0) (without_controller s c d w a (sym lives ∙ h.1))
     go (Err rule) (inr h) = subst (λ rule. Decides s c (Err rule)) (sym h.1) (with_refusal s c d w h.0 a (sym lives ∙ h.2) (answers (Err h.0) h.3))
 

@@ -1,5 +1,5 @@
 -- What a command orders of the machine, or the first rule that it breaks.
-use Rattle.std.specs.Prelude.{ℕ, ◌≡◌, ◌<◌, List, length, Some, None, Ok, Err, ◌⊎◌, IsOk, IsTrue, IsFalse}
+use Rattle.std.specs.Prelude.{ℕ, ◌≡◌, ◌<◌, List, length, Some, None, Ok, Err, ◌⊎◌, IsTrue, IsFalse}
 use Rattle.std.specs.declared.result.Result.{Result}
 use Rattle.fw_command.specs.declared.command.Command.{Command}
 use Rattle.fw_command.specs.Form.{HasForm}
@@ -40,7 +40,7 @@ rule_of Refusals.NotOwnPlug = NotOwnPlug
 
 -- a new connection of a device's controller is ordered, or that controller does not live, or refuses it
 abbrev pub ConnectionDecided : Machine → ℕ → Wanted → Result Order RuleFault → Type 0
-ConnectionDecided m d w (Ok o) = (o ≡ Orders.Connect d w) × IsTrue (is_living_in m d) × IsOk (start_of d w (states_of m.controllers d).state)
+ConnectionDecided m d w (Ok o) = (i : ℕ) × (o ≡ Orders.Connect d w i) × IsTrue (is_living_in m d) × (start_of d w (states_of m.controllers d).state ≡ Ok i)
 ConnectionDecided m d w (Err rule) =
     ((rule ≡ NotController) × IsFalse (is_living_in m d))
     ⊎ ((f : StartFault) × (rule ≡ rule_of f) × IsTrue (is_living_in m d) × (start_of d w (states_of m.controllers d).state ≡ Err f))

@@ -56,7 +56,7 @@ fn decide_connection(
         return Err(RuleFault::NotController);
     }
     match machine.controllers.check(device, &wanted) {
-        Ok(()) => Ok(Order::Connect(device, wanted)),
+        Ok(slot) => Ok(Order::Connect(device, wanted, slot)),
         Err(fault) => Err(rule_of(fault)),
     }
 }

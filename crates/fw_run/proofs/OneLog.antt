@@ -14,8 +14,9 @@ use Rattle.fw_run.specs.declared.order.Wanted.TheVariants.{PlugToPlug, Broadcast
 use Rattle.fw_run.specs.State.{State, first_state, device_in}
 use Rattle.fw_run.specs.Actions.{Action}
 use Rattle.fw_run.specs.Carrying.{Carries}
-use Rattle.fw_run.specs.Rules.{IsOrder, system_with, Transacts, Decides}
-use Rattle.fw_run.specs.Named.{IsNamed, IsEnd, IsShown, plug_of}
+use Rattle.fw_run.specs.Afterwards.{start_of}
+use Rattle.fw_run.specs.Rules.{Connects, IsOrder, system_with, Transacts, Decides}
+use Rattle.fw_run.specs.Named.{IsNamed, IsEnd, IsShown, IsWanted, plug_of}
 use Rattle.fw_run.specs.Runs.{Run, begun, and_then}
 use Rattle.fw_run.specs.Desks.{DeskRelations, IsFunction}
 use Rattle.fw_run.specs.Given.{AreGiven}
@@ -50,8 +51,26 @@ one_transaction s name other a o p f g =
     let to = one_name s other f.1 g.1 f.3 g.3 in
     f.4 ∙ ((λ i. order.Transact (record { from = from i; to = to i; access = a })) ∙ sym g.4)
 
-one_connect : (d e : ℕ) (v w : Wanted) → d ≡ e → v ≡ w → order.Connect d v ≡ order.Connect e w
-one_connect d e v w f g = λ i. order.Connect (f i) (g i)
+-- the controller that a command asks, and what it wants of it
+pub one_wanted : (s : State) (c : Command) (d e : ℕ) (w v : Wanted) → IsWanted s c d w → IsWanted s c e v → (d ≡ e) × (w ≡ v)
+one_wanted s (Commands.Connect name out into channel overhead) d e w v f g =
+    let x = one_name s out.0 f.1.0 g.1.0 f.1.2 g.1.2 in
+    let y = one_name s into.0 f.1.1 g.1.1 f.1.3 g.1.3 in
+    (one_name s name d e f.0 g.0, f.1.4 ∙ ((λ i. PlugToPlug (plug_of (x i) out) (plug_of (y i) into) channel overhead) ∙ sym g.1.4))
+one_wanted s (Commands.Broadcast name out overhead) d e w v f g =
+    let x = one_name s out.0 f.1.0 g.1.0 f.1.1 g.1.1 in
+    (one_name s name d e f.0 g.0, f.1.2 ∙ ((λ i. BroadcastOut (plug_of (x i) out) overhead) ∙ sym g.1.2))
+one_wanted s (Commands.Listen name into) d e w v f g =
+    let x = one_name s into.0 f.1.0 g.1.0 f.1.1 g.1.1 in
+    (one_name s name d e f.0 g.0, f.1.2 ∙ ((λ i. BroadcastIn (plug_of (x i) into)) ∙ sym g.1.2))
+one_wanted s c d e w v f g = absurd f
+
+one_connection : (s : State) (c : Command) (o p : Order) → Connects s c o → Connects s c p → o ≡ p
+one_connection s c o p f g =
+    let one = one_wanted s c f.0 g.0 f.1 g.1 f.2 g.2 in
+    let same : Ok f.3 ≡ Ok g.3 = sym f.4 ∙ ((λ i. start_of (one.0 i) (one.1 i) (s.controllers (one.0 i))) ∙ g.4) in
+    let slot : f.3 ≡ g.3 = cc in
+    f.5 ∙ ((λ i. order.Connect (one.0 i) (one.1 i) (slot i)) ∙ sym g.5)
 
 pub one_order : (s : State) (c : Command) (o p : Order) → IsOrder s c o → IsOrder s c p → o ≡ p
 one_order s Commands.Withhold o p f g = f ∙ sym g
@@ -61,22 +80,9 @@ one_order s (Commands.Cable a b) o p f g =
     let y = one_end s b f.1 g.1 f.3 g.3 in
     f.4 ∙ ((λ i. order.Cable (x i) (y i)) ∙ sym g.4)
 one_order s (Commands.Reset name) o p f g = f.2 ∙ (ap order.Reset (one_name s name f.0 g.0 f.1 g.1) ∙ sym g.2)
-one_order s (Commands.Connect name out into channel overhead) o p f g =
-    let d = one_name s name f.0 g.0 f.2.0 g.2.0 in
-    let e = one_name s out.0 f.2.1.0 g.2.1.0 f.2.1.2 g.2.1.2 in
-    let k = one_name s into.0 f.2.1.1 g.2.1.1 f.2.1.3 g.2.1.3 in
-    let w : f.1 ≡ g.1 = f.2.1.4 ∙ ((λ i. PlugToPlug (plug_of (e i) out) (plug_of (k i) into) channel overhead) ∙ sym g.2.1.4) in
-    f.3 ∙ (one_connect f.0 g.0 f.1 g.1 d w ∙ sym g.3)
-one_order s (Commands.Broadcast name out overhead) o p f g =
-    let d = one_name s name f.0 g.0 f.2.0 g.2.0 in
-    let e = one_name s out.0 f.2.1.0 g.2.1.0 f.2.1.1 g.2.1.1 in
-    let w : f.1 ≡ g.1 = f.2.1.2 ∙ ((λ i. BroadcastOut (plug_of (e i) out) overhead) ∙ sym g.2.1.2) in
-    f.3 ∙ (one_connect f.0 g.0 f.1 g.1 d w ∙ sym g.3)
-one_order s (Commands.Listen name into) o p f g =
-    let d = one_name s name f.0 g.0 f.2.0 g.2.0 in
-    let e = one_name s into.0 f.2.1.0 g.2.1.0 f.2.1.1 g.2.1.1 in
-    let w : f.1 ≡ g.1 = f.2.1.2 ∙ ((λ i. BroadcastIn (plug_of (e i) into)) ∙ sym g.2.1.2) in
-    f.3 ∙ (one_connect f.0 g.0 f.1 g.1 d w ∙ sym g.3)
+one_order s (Commands.Connect name out into channel overhead) o p f g = one_connection s (Commands.Connect name out into channel overhead) o p f g
+one_order s (Commands.Broadcast name out overhead) o p f g = one_connection s (Commands.Broadcast name out overhead) o p f g
+one_order s (Commands.Listen name into) o p f g = one_connection s (Commands.Listen name into) o p f g
 one_order s (Commands.Break name slot) o p f g = f.2 ∙ (ap (λ d. order.Break d slot) (one_name s name f.0 g.0 f.1 g.1) ∙ sym g.2)
 one_order s (Commands.Step name count) o p f g = f.2 ∙ (ap (λ d. order.Step d count) (one_name s name f.0 g.0 f.1 g.1) ∙ sym g.2)
 one_order s (Commands.Settle rounds) o p f g = f ∙ sym g

@@ -64,7 +64,7 @@ CarriedBy s order.Withhold ys out t = Steps s (Withhold ∷ []) out t ⊎ (IsTru
 CarriedBy s (order.Declare name kind ports speed) ys out t = Steps s (AddDevice name kind ports speed ∷ []) out t
 CarriedBy s (order.Cable a b) ys out t = Steps s (AddCable a b ∷ []) out t
 CarriedBy s (order.Reset d) ys out t = Steps s (ResetBus d ∷ []) out t
-CarriedBy s (order.Connect d w) ys out t = Steps s (StartConnection d w ∷ []) out t
+CarriedBy s (order.Connect d w i) ys out t = Steps s (StartConnection d w ∷ []) out t
 CarriedBy s (order.Break d i) ys out t = Steps s (StartBreak d i ∷ []) out t
 CarriedBy s (order.Step d count) ys out t = Steps s (times count (HalfStep d)) out t
 CarriedBy s (order.Settle n) ys out t =
@@ -182,7 +182,7 @@ one_carried D only s order.Withhold xs ys out other t u g give gave (inr f) (inr
 one_carried D only s (order.Declare name kind ports speed) xs ys out other t u g give gave f h = one_steps s t u (AddDevice name kind ports speed ∷ []) out other g f h
 one_carried D only s (order.Cable a b) xs ys out other t u g give gave f h = one_steps s t u (AddCable a b ∷ []) out other g f h
 one_carried D only s (order.Reset d) xs ys out other t u g give gave f h = one_steps s t u (ResetBus d ∷ []) out other g f h
-one_carried D only s (order.Connect d w) xs ys out other t u g give gave f h = one_steps s t u (StartConnection d w ∷ []) out other g f h
+one_carried D only s (order.Connect d w i) xs ys out other t u g give gave f h = one_steps s t u (StartConnection d w ∷ []) out other g f h
 one_carried D only s (order.Break d i) xs ys out other t u g give gave f h = one_steps s t u (StartBreak d i ∷ []) out other g f h
 one_carried D only s (order.Step d count) xs ys out other t u g give gave f h = one_steps s t u (times count (HalfStep d)) out other g f h
 one_carried D only s (order.Settle n) xs ys out other t u g give gave f h = go f.4 h.4

@@ -96,8 +96,8 @@ pub data Carries : State → Order → List Action → List Timed → State → 
       → Steps s (AddDevice name kind ports speed ∷ []) out t → Carries s (Orders.Declare name kind ports speed) (AddDevice name kind ports speed ∷ []) out t
   joins : {s t : State} {a b : End} {out : List Timed} → Steps s (AddCable a b ∷ []) out t → Carries s (Orders.Cable a b) (AddCable a b ∷ []) out t
   resets : {s t : State} {d : ℕ} {out : List Timed} → Steps s (ResetBus d ∷ []) out t → Carries s (Orders.Reset d) (ResetBus d ∷ []) out t
-  connects : {s t : State} {d : ℕ} {w : Wanted} {out : List Timed}
-      → Steps s (StartConnection d w ∷ []) out t → Carries s (Orders.Connect d w) (StartConnection d w ∷ []) out t
+  connects : {s t : State} {d i : ℕ} {w : Wanted} {out : List Timed}
+      → Steps s (StartConnection d w ∷ []) out t → Carries s (Orders.Connect d w i) (StartConnection d w ∷ []) out t
   breaks : {s t : State} {d i : ℕ} {out : List Timed} → Steps s (StartBreak d i ∷ []) out t → Carries s (Orders.Break d i) (StartBreak d i ∷ []) out t
   steps : {s t : State} {d count : ℕ} {out : List Timed}
       → Steps s (times count (HalfStep d)) out t → Carries s (Orders.Step d count) (times count (HalfStep d)) out t

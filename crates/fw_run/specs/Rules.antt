@@ -23,6 +23,7 @@ use Rattle.fw_run.specs.declared.rule.RuleFault.TheVariants.{UnknownName, NameTa
 use Rattle.fw_run.specs.declared.rule.RuleFault.TheVariants.{Guarded, NoRegister, Limit, TableFull, Busy, NoSuchConnection, NotOwnPlug, NoDeck, NothingStands, TooLate, NotCapable, NotCandidate}
 use Rattle.fw_run.specs.State.{State, is_on, is_linked, has_deck, is_living}
 use Rattle.fw_run.specs.HalfSteps.{has_request}
+use Rattle.fw_run.specs.Afterwards.{start_of}
 use Rattle.fw_run.specs.Named.{IsNamed, is_declared, names_of, controller_of, node_of, deck_of, IsNot, Ends, HasTreeFault, IsWanted, IsRefused, is_guarded_in, IsShown, HasNoRegister, PassesLimit}
 
 -- ---- the rules
@@ -133,6 +134,10 @@ system_with lines = if lines == 525 then Lines525 else Lines625
 abbrev pub Transacts : State → List ℕ → List ℕ → Access → Order → Type 0
 Transacts s name other access o = (d e : ℕ) × IsNamed s name d × IsNamed s other e × (o ≡ order.Transact (record { from = d; to = e; access = access }))
 
+-- a new connection of a named device's controller, which does not refuse it, and the slot that it takes
+abbrev pub Connects : State → Command → Order → Type 0
+Connects s c o = (d : ℕ) × (w : Wanted) × IsWanted s c d w × (i : ℕ) × (start_of d w (s.controllers d) ≡ Ok i) × (o ≡ order.Connect d w i)
+
 -- a command, with its devices by number
 abbrev pub IsOrder : State → Command → Order → Type 0
 IsOrder s Commands.Withhold o = o ≡ order.Withhold
@@ -157,7 +162,7 @@ IsOrder s (Commands.Candidate name) o = (d : ℕ) × IsNamed s name d × (o ≡ 
 IsOrder s (Commands.Contend name count) o = (d : ℕ) × IsNamed s name d × (o ≡ order.Contend d count)
 IsOrder s (Commands.Dub name) o = (d : ℕ) × IsNamed s name d × (o ≡ order.Dub d)
 IsOrder s Commands.End o = o ≡ order.End
-IsOrder s c o = (d : ℕ) × (w : Wanted) × IsWanted s c d w × (o ≡ order.Connect d w)
+IsOrder s c o = Connects s c o
 
 -- What a command orders that breaks no rule, or the first rule that it breaks.
 abbrev pub Decides : State → Command → Result Order RuleFault → Type 0

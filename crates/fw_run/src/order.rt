@@ -45,8 +45,8 @@ pub enum Order<'a> {
     Cable(End, End),
     /// A bus reset that the device begins.
     Reset(u8),
-    /// A new connection of the device's controller.
-    Connect(u8, Wanted),
+    /// A new connection of the device's controller, and the slot that it takes, 0 to 31.
+    Connect(u8, Wanted, u8),
     /// A break of the connection in a slot of the device's controller.
     Break(u8, u8),
     /// Half steps of the device's controller, 1 to 10,000.

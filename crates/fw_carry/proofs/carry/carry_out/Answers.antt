@@ -20,7 +20,7 @@ pub reset-requires : goal.reset-requires
 reset-requires g c = let may = subst (MayCarry c.args.machine.now) c.in-Reset.is c.requires.may in record { ready = c.requires.ready; on = may.0; few = may.1 }
 
 pub connect-requires : goal.connect-requires
-connect-requires g c = let may = subst (MayCarry c.args.machine.now) c.in-Connect.is c.requires.may in record { ready = c.requires.ready; living = may.0; slot = may.1; accepted = may.2 }
+connect-requires g c = let may = subst (MayCarry c.args.machine.now) c.in-Connect.is c.requires.may in record { ready = c.requires.ready; living = may.0; held = may.1; found = may.2 }
 
 pub break_connection-requires : goal.break_connection-requires
 break_connection-requires g c = let may = subst (MayCarry c.args.machine.now) c.in-Break.is c.requires.may in record { ready = c.requires.ready; living = may.0; accepted = may.1 }

@@ -6,12 +6,12 @@ use Rattle.fw_carry.proofs.lives.connect.Goals as goal
 pub connect-requires : goal.connect-requires
 connect-requires g c = record {
   device = (living_there c.args.machine.now c.args.device c.requires.ready c.requires.living).controller;
-  slot = c.requires.slot;
-  accepted = c.requires.accepted;
+  held = c.requires.held;
+  found = c.requires.found;
 }
 
 pub returns : goal.returns
 returns g c = record {
   does = does_silent (g.K.Sink.held c.args.sink.now) (g.K.Sink.faults c.args.sink.now) c.args.machine.now.cycle tt
-      (connect_turns c.args.machine.now c.connect.new.self c.args.device c.args.wanted.now c.requires.living c.requires.slot c.requires.accepted c.connect.ensures);
+      (connect_turns c.args.machine.now c.connect.new.self c.args.device c.args.wanted.now c.args.slot c.requires.living c.requires.held c.requires.found c.connect.ensures);
 }

@@ -1,0 +1,7 @@
+use Rattle.std.proofs.Common.{sym, subst}
+use Rattle.fw_cmp.specs.Holdings.{CanGoOn}
+use Rattle.fw_cmp.specs.Losses.{Listening}
+use Rattle.fw_cmp.proofs.controller.Controller.start.Goals as goal
+
+pub returns-clause-goes_on : goal.returns-clause-goes_on
+returns-clause-goes_on c d h = c.place.ensures.goes_on d (subst (λ (x : Listening). CanGoOn d x.state) (sym c.self.view_is) h)

@@ -1,7 +1,0 @@
-use Rattle.std.proofs.Common.{sym, subst}
-use Rattle.fw_cmp.specs.Holdings.{CanGoOn}
-use Rattle.fw_cmp.specs.Losses.{Listening}
-use Rattle.fw_cmp.proofs.controller.Controller.start_connect.Goals as goal
-
-pub returns-clause-goes_on : goal.returns-clause-goes_on
-returns-clause-goes_on c d h = c.start_connect.ensures.goes_on d (subst (λ (x : Listening). CanGoOn d x.state) (sym c.self.view_is) h)
