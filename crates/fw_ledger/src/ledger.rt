@@ -7,7 +7,7 @@ ghost use Rattle.fw_account.specs.Fold.{no_account, next_account};
 ghost use Rattle.fw_account.specs.Network.{is_output, is_input};
 ghost use Rattle.fw_account.specs.Words.{BandwidthAvailable, ChannelsAvailable, OutputPlug, InputPlug, word_of, register_of, id_in};
 ghost use Rattle.fw_faults.specs.Looked.{looked};
-ghost use Rattle.fw_ledger.specs.Stands.{StandsFor, AskedFor, Follows};
+ghost use Rattle.fw_ledger.specs.Stands.{Stands, StandsFor, AskedFor, Follows};
 ghost use Rattle.fw_ledger.specs.Refused.{GoesOn, IsRefusedFor, ShowsAnswer};
 
 use crate::answer::Answer;
@@ -70,7 +70,8 @@ impl Ledger {
     /// The tables, to be looked at: what they have at a plug counts only where the latest reset entry has the plug, and what may be
     /// allocated again only while a reclaim second runs.
     pub fn tables(&self) -> &Tables
-        ensures { result.now ≡ self.now }
+        ensures same { result.now ≡ self.now }
+        ensures stands { Stands result.now }
     {
         &self.tables
     }
