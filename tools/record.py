@@ -38,6 +38,16 @@ def read(folder):
     return parts, edits
 
 
+def kit_of(folder):
+    """The kit with which a crate's edits were last refused; None if that is not recorded."""
+    found = read(folder)
+    return found[0].get("kit") if found else None
+
+
+def is_of_another_kit(folder, line):
+    return kit_of(folder) not in (None, line)
+
+
 def stale(folder, stands_on, files):
     """Why a crate's edits are to be tried, and which: all if what they stand on changed, else those that are not recorded as they are."""
     found = read(folder)

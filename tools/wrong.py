@@ -8,7 +8,8 @@
 
 They stand in crates/CRATE/wrong, in the form of those in must-fail, which the gate tries. The file `tried` beside them has the
 checksums of what they were last refused on: of the crate, of what the crates below promise (their specs and contracts), of the kit, and
-of each edit. A crate is stale if one of these is another one now; each run without --from that finds edits refused writes it anew.
+of each edit. A crate is stale if one of these is another one now; each run without --from that finds edits refused writes it anew. Another
+kit alone makes --stale try them, and is told by --check, but is no fault of the repository.
 
 The crates and what stands below them are proved first, unless the toolchain has kept that they are; all take as long as the gate. This
 needs Python 3.8, and rt on the PATH. The status is 0 if each is refused, or with --check no crate is stale, 1 if not, and 2 if it cannot
@@ -125,15 +126,22 @@ def tried(edits, deps, is_kept):
     return are_all
 
 
-def stale(edits, deps):
-    """The edits that may no longer be refused, by crate, each crate named with the reason."""
-    line, kept, found = basis.kit(), {}, {}
+def stale(edits, deps, of_any_kit):
+    """The edits that may no longer be refused, by crate, each crate named with the reason. Those that were last refused with another kit
+    are among them, or, if any kit will do, are told and no more."""
+    line, kept, found, others = basis.kit(), {}, {}, 0
     for crate, files in edits.items():
         folder = ROOT / "crates" / crate / "wrong"
-        why, left = record.stale(folder, basis.basis_of(ROOT, crate, deps, kept, line), files)
+        stands_on = basis.basis_of(ROOT, crate, deps, kept, line)
+        if of_any_kit:
+            others += record.is_of_another_kit(folder, line)
+            stands_on["kit"] = record.kit_of(folder)
+        why, left = record.stale(folder, stands_on, files)
         if left:
             print(f"{crate}: {why}; to be tried: {len(left)} of {len(files)}", flush=True)
             found[crate] = left
+    if others:
+        print(f"the wrong bodies of {others} crates were last refused with another kit than {line}")
     return found
 
 
@@ -142,7 +150,7 @@ def run():
     deps = basis.deps_of(ROOT)
     edits = chosen(given, deps)
     if given.stale or given.check:
-        crates, edits = len(edits), stale(edits, deps)
+        crates, edits = len(edits), stale(edits, deps, of_any_kit=given.check)
         print(f"{len(edits)} of {crates} crates with wrong bodies are stale")
     if given.check or not edits:
         return 1 if edits else 0
