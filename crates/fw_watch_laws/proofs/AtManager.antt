@@ -37,7 +37,7 @@ use Rattle.fw_watch_laws.proofs.Swaps.{IsAccountSwap, swap_in}
 
 -- ---- a swap of the account is followed
 
-is_there : (o : Option ℕ) (n : ℕ) (m : Manager) → is_node n o ≡ true → m ≡ manager_of o → is_manager n (manager_by n m) ≡ true
+pub is_there : (o : Option ℕ) (n : ℕ) (m : Manager) → is_node n o ≡ true → m ≡ manager_of o → is_manager n (manager_by n m) ≡ true
 is_there None n m h e = cc
 is_there (Some k) n m h e = ap (λ (x : Manager). is_manager n (manager_by n x)) e ∙ h
 
@@ -46,7 +46,7 @@ not_refused true b e f = cc
 not_refused false true e f = cc
 not_refused false false e f = cc
 
-at_node : (b c : Bool) → (b ≡ true → c ≡ true) → (b && not c) ≡ false
+pub at_node : (b c : Bool) → (b ≡ true → c ≡ true) → (b && not c) ≡ false
 at_node false c f = refl
 at_node true c f = rw (f refl) refl
 

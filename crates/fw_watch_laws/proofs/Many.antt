@@ -28,7 +28,7 @@ use Rattle.fw_watch_laws.proofs.Swaps.{IsAccountSwap}
 use Rattle.fw_watch_laws.proofs.AtManager.{silent}
 
 -- the register of the account is the one that it is told as
-managed_in : (o : Option ResetEntry) (n : ℕ) (r : Register) (v : Place) → is_managed r ≡ true → place_at o n (offset_of r) ≡ Some v → v ≡ managed_of r
+pub managed_in : (o : Option ResetEntry) (n : ℕ) (r : Register) (v : Place) → is_managed r ≡ true → place_at o n (offset_of r) ≡ Some v → v ≡ managed_of r
 managed_in None n r v m e = cc
 managed_in (Some q) n r v m e = (managed_place r q n v m e).1
 

@@ -92,7 +92,7 @@ pub record IsSwapMove (l m : Account) (c : ℕ) (register : Place) (swap : Swap)
   pub is : IsMove c plug move register swap.argument swap.new l
   pub later : m ≡ ended c (after c plug move l)
 
-moved_by : (o : Option (PlugAt × Move)) (c : ℕ) (register : Place) (swap : Swap) (l m : Account) → IsSound l → move_at l c register swap.argument swap.new ≡ o → moved c o l ≡ Some m
+pub moved_by : (o : Option (PlugAt × Move)) (c : ℕ) (register : Place) (swap : Swap) (l m : Account) → IsSound l → move_at l c register swap.argument swap.new ≡ o → moved c o l ≡ Some m
     → IsSwapMove l m c register swap
 moved_by None c register swap l m s e n = cc
 moved_by (Some x) c register swap l m s e n =

@@ -70,16 +70,19 @@ flag_below : (b : Bool) → flag b ≤ 1
 flag_below true = omega arith
 flag_below false = omega arith
 
--- a word whose counters are 0 is not connected
-unconnected : (r : ℕ) → r < 2 ^ 24 → is_connected (2 ^ 31 + r) ≡ false
-unconnected r h =
+-- a word whose counters are 0 has none of their bits
+pub no_counters : (r : ℕ) → r < 2 ^ 24 → bit_and (2 ^ 31 + r) 0x7F000000 ≡ 0
+no_counters r h =
     let a : bit_and (2 ^ 31 + r) 0x7F000000 ≡ bit_and (bit_and (2 ^ 31 + r) 0x7FFFFFFF) 0x7F000000 = sym (and_assoc 0x7F000000 (2 ^ 31 + r) 0x7FFFFFFF) in
     let b : bit_and (2 ^ 31 + r) 0x7FFFFFFF ≡ (2 ^ 31 + r) % 2 ^ 31 = and_numeral (2 ^ 31 + r) 0x7FFFFFFE refl in
     let c : (2 ^ 31 + r) % 2 ^ 31 ≡ r = omega (arith, h) in
     let d : bit_and r 0x7F000000 + r % 2 ^ 24 ≡ r = and_high_numeral r 0x7EFFFFFF refl (omega (arith, h)) in
     let z : bit_and r 0x7F000000 ≡ 0 = omega (arith, d, h) in
-    let all : bit_and (2 ^ 31 + r) 0x7F000000 ≡ 0 = a ∙ ap (λ (x : ℕ). bit_and x 0x7F000000) (b ∙ c) ∙ z in
-    ap (λ (x : ℕ). not (x == 0)) all
+    a ∙ ap (λ (x : ℕ). bit_and x 0x7F000000) (b ∙ c) ∙ z
+
+-- and is not connected
+unconnected : (r : ℕ) → r < 2 ^ 24 → is_connected (2 ^ 31 + r) ≡ false
+unconnected r h = ap (λ (x : ℕ). not (x == 0)) (no_counters r h)
 
 -- ---- outputs
 

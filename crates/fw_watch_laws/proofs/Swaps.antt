@@ -18,7 +18,7 @@ use Rattle.fw_account.specs.Fold.{next_account}
 use Rattle.fw_account.specs.Sound.{IsSound}
 use Rattle.fw_account.specs.Words.{Register as Place, register_at as place_at, register_of, word_of, first_address}
 use Rattle.fw_account.proofs.Packets.{device_below}
-use Rattle.fw_faults.specs.Looked.{Looked, Replies, Other, looked, looked_packet, quadlet_in, ShowsWords}
+use Rattle.fw_faults.specs.Looked.{Looked, Replies, Other, looked, looked_packet, quadlet_in, IsQuadlet, ShowsWords}
 use Rattle.fw_remarks.specs.declared.register.Register.{Register}
 use Rattle.fw_remarks.specs.Registers.{register_at}
 use Rattle.fw_known.specs.declared.asked.Asked.{Asked}
@@ -46,8 +46,9 @@ pub record IsPlaced (l : Account) (r : Request) (q : Asked) (o : Option ℕ) : T
   pub number : IsNumber q.register
   pub address : r.address ≡ first_address + offset_of q.register
   pub word : o ≡ Some (word_of l register)
+  pub quadlet : IsQuadlet r.operation
 
-number_of : (address : ℕ) (r : Register) → register_at address ≡ Some r → IsNumber r
+pub number_of : (address : ℕ) (r : Register) → register_at address ≡ Some r → IsNumber r
 number_of address r e = let P : Option Register → Type 0 = λ o. IfSome o IsNumber in subst P e (register_number address)
 
 -- it is the request that stands
@@ -69,7 +70,7 @@ placed l m h reply word q r s w =
       address = address;
       watched = watched q.register number;
     }) in
-    record { register = x.0; named = x.1; number = number; address = address; word = x.2 }
+    record { register = x.0; named = x.1; number = number; address = address; word = x.2; quadlet = x.3 }
 
 -- ---- swaps
 
@@ -83,11 +84,11 @@ pub record IsAccountSwap (l m : Account) (a : Answer) (swap : Swap) : Type 0 whe
   pub move : IsSwapMove l m controller register swap
 
 -- what an audit looks at in a response with the label of procedures
-looked_if : (b : Bool) (l : Account) (x : Looked) → b ≡ true → ShowsWords l (if b then x else Other) → ShowsWords l x
+pub looked_if : (b : Bool) (l : Account) (x : Looked) → b ≡ true → ShowsWords l (if b then x else Other) → ShowsWords l x
 looked_if true l x e w = w
 looked_if false l x e w = cc
 
-lock_in : (l m : Account) (xs : List Asked) (a : Answer) (swap : Swap) (p : Packet) (x : IsSwapAnswer xs p a swap) → IsSound l → AllMatched l xs → All IsOwn xs
+pub lock_in : (l m : Account) (xs : List Asked) (a : Answer) (swap : Swap) (p : Packet) (x : IsSwapAnswer xs p a swap) → IsSound l → AllMatched l xs → All IsOwn xs
     → ShowsWords l (looked_packet (LockReply x.lock.head 0 x.lock.function x.lock.bytes)) → after_packet (LockReply x.lock.head 0 x.lock.function x.lock.bytes) l ≡ Some m
     → IsAccountSwap l m a swap
 lock_in l m xs a swap p x s matched own w n =

@@ -62,11 +62,11 @@ unfolding judge_remarks
 judge_all s cycle at found = judge_if (differing (known_of s at) found == 0) (said cycle (Unseen at (known_of s at) found)) refl
 
 -- what is told of what is found, by what is known in the state
-found_by : State → ℕ → At → Option ℕ → List Said
+unfoldable pub found_by : State → ℕ → At → Option ℕ → List Said
 found_by s cycle at None = []
 found_by s cycle at (Some found) = judge_remarks s cycle at found
 
-seen_by : State → ℕ → Option Glimpse → List Said
+unfoldable pub seen_by : State → ℕ → Option Glimpse → List Said
 seen_by s cycle None = []
 seen_by s cycle (Some g) = found_by s cycle g.at g.found
 
@@ -122,7 +122,7 @@ what_unseen cycle (Outcome o) s c d = refl
 what_unseen cycle (Shown w) s c d = word_unseen (shown_at s w) cycle w.word (aside s c d)
 what_unseen cycle End s c d = refl
 
-step_unseen : (s : State) (t : Timed) → filter is_unseen (remarks s t) ≡ seen_by s t.cycle (glimpse s t.what)
+pub step_unseen : (s : State) (t : Timed) → filter is_unseen (remarks s t) ≡ seen_by s t.cycle (glimpse s t.what)
 unfolding remarks
 step_unseen s t =
     let o = ticked_only t.cycle s in
