@@ -19,7 +19,7 @@ use Rattle.fw_known.specs.declared.swap.Made.{Made}
 use Rattle.fw_known.specs.Channels.{late_to}
 use Rattle.fw_known.specs.Heard.{after_heard}
 use Rattle.fw_known.specs.Judging.{judged, judged_counts}
-use Rattle.fw_known.specs.States.{known_of, with_known, with_known_plug, ticked_second, manager_by}
+use Rattle.fw_known.specs.States.{known_of, with_known, with_known_plug, ticked_second, manager_of, manager_by}
 use Rattle.fw_known.specs.Swapped.{holder_of, with_holder, swapped_by, swapped}
 use Rattle.fw_watch.specs.declared.answer.Heed.{Heed}
 use Rattle.fw_watch.specs.declared.answer.Heed.TheVariants.{Ignore, Refuse, Follow}
@@ -27,28 +27,29 @@ use Rattle.fw_watch.specs.Answering.{made, after_made, after_found, with_manager
 use Rattle.fw_watch.specs.Holding.{after_late, after_held}
 use Rattle.fw_watch.specs.Steps.{ticked, after_word}
 
--- the nodes and the requests that stand are the same, and the table of plugs is as long
+-- the nodes and the requests that stand are the same, the table of plugs is as long, and the manager of a bus reset stays
 pub record Frame (s t : State) : Type 0 where
   pub count : t.count ≡ s.count
   pub nodes : t.nodes ≡ s.nodes
   pub standing : t.standing ≡ s.standing
   pub plugs : length t.plugs ≡ length s.plugs
+  pub manager : (o : Option ℕ) → s.manager ≡ manager_of o → t.manager ≡ manager_of o
 
 pub same : (s : State) → Frame s s
-same s = record { count = refl; nodes = refl; standing = refl; plugs = refl }
+same s = record { count = refl; nodes = refl; standing = refl; plugs = refl; manager = λ o e. e }
 
 pub both : (s t u : State) → Frame s t → Frame t u → Frame s u
-both s t u f g = record { count = g.count ∙ f.count; nodes = g.nodes ∙ f.nodes; standing = g.standing ∙ f.standing; plugs = g.plugs ∙ f.plugs }
+both s t u f g = record { count = g.count ∙ f.count; nodes = g.nodes ∙ f.nodes; standing = g.standing ∙ f.standing; plugs = g.plugs ∙ f.plugs; manager = λ o e. g.manager o (f.manager o e) }
 
 put_plug : (s : State) (at : At) (k : Known) → Frame s (with_known_plug s at k)
 unfolding with_known_plug
-put_plug s at k = record { count = refl; nodes = refl; standing = refl; plugs = length-set s.plugs (plug_index at.node at.register) k }
+put_plug s at k = record { count = refl; nodes = refl; standing = refl; plugs = length-set s.plugs (plug_index at.node at.register) k; manager = λ o e. e }
 
 put_by : (r : Register) (s : State) (n : ℕ) (k : Known) → Frame s (with_known s (record { node = n; register = r }) k)
 unfolding with_known
-put_by Bandwidth s n k = record { count = refl; nodes = refl; standing = refl; plugs = refl }
-put_by ChannelsHigh s n k = record { count = refl; nodes = refl; standing = refl; plugs = refl }
-put_by ChannelsLow s n k = record { count = refl; nodes = refl; standing = refl; plugs = refl }
+put_by Bandwidth s n k = record { count = refl; nodes = refl; standing = refl; plugs = refl; manager = λ o e. e }
+put_by ChannelsHigh s n k = record { count = refl; nodes = refl; standing = refl; plugs = refl; manager = λ o e. e }
+put_by ChannelsLow s n k = record { count = refl; nodes = refl; standing = refl; plugs = refl; manager = λ o e. e }
 put_by (Output x) s n k = put_plug s (record { node = n; register = Output x }) k
 put_by (Input x) s n k = put_plug s (record { node = n; register = Input x }) k
 
@@ -59,19 +60,19 @@ pub judged_frame : (s : State) (at : At) (found : ℕ) → Frame s (judged s at 
 unfolding judged
 judged_frame s at found =
     let f = put_frame (record s { counts = judged_counts (known_of s at) found s.counts }) at (all_known found) in
-    record { count = f.count; nodes = f.nodes; standing = f.standing; plugs = f.plugs }
+    record { count = f.count; nodes = f.nodes; standing = f.standing; plugs = f.plugs; manager = f.manager }
 
 holder_frame : (o : Option ℕ) (m : Made) (first : ℕ) (s : State) → Frame s (with_holder o m first s)
 unfolding with_holder
 holder_frame None m first s = same s
-holder_frame (Some holder) m first s = record { count = refl; nodes = refl; standing = refl; plugs = refl }
+holder_frame (Some holder) m first s = record { count = refl; nodes = refl; standing = refl; plugs = refl; manager = λ o e. e }
 
 by_frame : (r : Register) (m : Made) (s : State) → Frame s (swapped_by r m s)
-by_frame Bandwidth m s = record { count = refl; nodes = refl; standing = refl; plugs = refl }
+by_frame Bandwidth m s = record { count = refl; nodes = refl; standing = refl; plugs = refl; manager = λ o e. e }
 by_frame ChannelsHigh m s = holder_frame (holder_of m.by) m 0 s
 by_frame ChannelsLow m s = holder_frame (holder_of m.by) m 32 s
-by_frame (Output x) m s = record { count = refl; nodes = refl; standing = refl; plugs = refl }
-by_frame (Input x) m s = record { count = refl; nodes = refl; standing = refl; plugs = refl }
+by_frame (Output x) m s = record { count = refl; nodes = refl; standing = refl; plugs = refl; manager = λ o e. e }
+by_frame (Input x) m s = record { count = refl; nodes = refl; standing = refl; plugs = refl; manager = λ o e. e }
 
 swapped_frame : (s : State) (m : Made) → Frame s (swapped s m)
 unfolding swapped
@@ -99,10 +100,29 @@ pub manager_only : (at : At) (s : State) → (x : Manager) × (with_manager at s
 unfolding with_manager
 manager_only at s = manager_if (is_managed at.register) (manager_by at.node s.manager) s
 
+-- one that is known, or known not to be, stays
+manager_stays : (n : ℕ) (o : Option ℕ) → manager_by n (manager_of o) ≡ manager_of o
+manager_stays n None = refl
+manager_stays n (Some m) = refl
+
+stays_if : (b : Bool) (n : ℕ) (o : Option ℕ) (s : State) → s.manager ≡ manager_of o → (if b then record s { manager = manager_by n s.manager } else s).manager ≡ manager_of o
+stays_if true n o s e = ap (manager_by n) e ∙ manager_stays n o
+stays_if false n o s e = e
+
+manager_kept : (at : At) (s : State) (o : Option ℕ) → s.manager ≡ manager_of o → (with_manager at s).manager ≡ manager_of o
+unfolding with_manager
+manager_kept at s o e = stays_if (is_managed at.register) at.node o s e
+
 pub manager_frame : (at : At) (s : State) → Frame s (with_manager at s)
 manager_frame at s =
     let e = (manager_only at s).1 in
-    record { count = ap (λ (t : State). t.count) e; nodes = ap (λ (t : State). t.nodes) e; standing = ap (λ (t : State). t.standing) e; plugs = ap (λ (t : State). length t.plugs) e }
+    record {
+      count = ap (λ (t : State). t.count) e;
+      nodes = ap (λ (t : State). t.nodes) e;
+      standing = ap (λ (t : State). t.standing) e;
+      plugs = ap (λ (t : State). length t.plugs) e;
+      manager = manager_kept at s;
+    }
 
 heeded_frame : (h : Heed) (cycle : ℕ) (a : Answer) (s : State) → Frame s (after_heeded h cycle a s)
 unfolding after_followed
@@ -117,7 +137,7 @@ answered_frame (Some a) cycle s = heeded_frame (heed s a.at) cycle a s
 
 pub heard_frame : (s : State) (p : Packet) → Frame s (after_heard s p)
 unfolding after_heard
-heard_frame s p = record { count = refl; nodes = refl; standing = refl; plugs = refl }
+heard_frame s p = record { count = refl; nodes = refl; standing = refl; plugs = refl; manager = λ o e. e }
 
 pub word_frame : (o : Option At) (word : ℕ) (s : State) → Frame s (after_word o word s)
 word_frame None word s = same s

@@ -10,6 +10,8 @@ use Rattle.fw_entry.specs.declared.entry.Timed.{Timed}
 use Rattle.fw_entry.specs.Log.{InOrder}
 use Rattle.fw_remarks.specs.declared.known.Known.{Known}
 use Rattle.fw_remarks.specs.declared.register.At.{At}
+use Rattle.fw_remarks.specs.declared.register.Register.{Register}
+use Rattle.fw_remarks.specs.declared.register.Register.TheVariants.{Bandwidth, ChannelsHigh, ChannelsLow, Output, Input}
 use Rattle.fw_remarks.specs.declared.remark.Remark.TheVariants.{Unseen}
 use Rattle.fw_remarks.specs.Knowing.{differing}
 use Rattle.fw_remarks.specs.Remarks.{Said, said}
@@ -17,6 +19,7 @@ use Rattle.fw_known.specs.declared.asked.Answer.{Answer}
 use Rattle.fw_known.specs.declared.channel.Channel.{Channel}
 use Rattle.fw_known.specs.declared.second.Second.{Second}
 use Rattle.fw_known.specs.declared.state.State.{State}
+use Rattle.fw_known.specs.declared.swap.Made.{Made}
 use Rattle.fw_known.specs.Judging.{judged}
 use Rattle.fw_known.specs.Standing.{answer_of}
 use Rattle.fw_known.specs.States.{known_of}
@@ -24,7 +27,7 @@ use Rattle.fw_watch.specs.declared.answer.Heed.{Heed}
 use Rattle.fw_watch.specs.declared.answer.Heed.TheVariants.{Ignore, Refuse, Follow}
 use Rattle.fw_watch.specs.Judging.{judge_remarks}
 use Rattle.fw_watch.specs.Holding.{held_remarks}
-use Rattle.fw_watch.specs.Answering.{made_remarks, found_remarks, with_manager, shown_by, followed_remarks, refused_swap, not_manager_remarks, heeded_remarks, heed, answer_remarks, answered_remarks, with_packet, packet_remarks}
+use Rattle.fw_watch.specs.Answering.{made, made_remarks, found_remarks, with_manager, shown_by, followed_remarks, refused_swap, not_manager_remarks, heeded_remarks, heed, answer_remarks, answered_remarks, with_packet, packet_remarks}
 use Rattle.fw_watch.specs.Steps.{reset_remarks, shown_at, word_remarks, shown_remarks, packet_of, what_remarks, ticked, remarks}
 use Rattle.fw_watch.specs.Watched.{known}
 use Rattle.fw_watch_laws.specs.LastKnown.{IsPlace, Glimpse, glimpse_by, answer_glimpse, word_glimpse, glimpse}
@@ -32,7 +35,21 @@ use Rattle.fw_watch_laws.specs.ChangedUnseen.{is_unseen, found_due, glimpse_due,
 use Rattle.fw_watch_laws.proofs.Frames.{manager_known, aside, ticked_only}
 use Rattle.fw_watch_laws.proofs.Keeps.{whole_known, kept}
 use Rattle.fw_watch_laws.proofs.Nodes.{few_known, IsSeen, glimpse_seen}
-use Rattle.fw_watch_laws.proofs.NoUnseen.{IsNone, made_none, heard_none, held_none}
+use Rattle.fw_watch_laws.proofs.Passing.{IsNone}
+use Rattle.fw_watch_laws.proofs.Tests.{is_of_word, tells_unseen_by}
+use Rattle.fw_watch_laws.proofs.Remarked.{Kind, OfSwap, OfMany, OfUnits, OfNew, OfSeveral, OfMore, OfChannel, IsFree}
+use Rattle.fw_watch_laws.proofs.Quiet.{NoneOdd, many_free, units_free, new_free, several_free, more_free, made_none, heard_none, held_none}
+
+-- it is told of words alone
+free : (k : Kind) → is_of_word k ≡ false → IsFree is_unseen k
+free k n x e = tells_unseen_by x.remark ∙ ap is_of_word e ∙ n
+
+odd_by : (r : Register) (s : State) (m : Made) → NoneOdd is_unseen r s m
+odd_by Bandwidth s m = (many_free is_unseen m (free OfMany refl), units_free is_unseen s m (free OfUnits refl))
+odd_by ChannelsHigh s m = (new_free is_unseen s m 0 (free OfNew refl), several_free is_unseen m (free OfSeveral refl))
+odd_by ChannelsLow s m = (new_free is_unseen s m 32 (free OfNew refl), several_free is_unseen m (free OfSeveral refl))
+odd_by (Output x) s m = more_free is_unseen m (free OfMore refl)
+odd_by (Input x) s m = more_free is_unseen m (free OfMore refl)
 
 -- ---- words
 
@@ -45,11 +62,11 @@ unfolding judge_remarks
 judge_all s cycle at found = judge_if (differing (known_of s at) found == 0) (said cycle (Unseen at (known_of s at) found)) refl
 
 -- what is told of what is found, by what is known in the state
-found_by : State → ℕ → At → Option ℕ → List Said
+unfoldable pub found_by : State → ℕ → At → Option ℕ → List Said
 found_by s cycle at None = []
 found_by s cycle at (Some found) = judge_remarks s cycle at found
 
-seen_by : State → ℕ → Option Glimpse → List Said
+unfoldable pub seen_by : State → ℕ → Option Glimpse → List Said
 seen_by s cycle None = []
 seen_by s cycle (Some g) = found_by s cycle g.at g.found
 
@@ -62,7 +79,8 @@ unfolding found_by found_remarks
 shown_unseen None cycle a s = refl
 shown_unseen (Some found) cycle a s =
     filter-append is_unseen (judge_remarks s cycle a.at found) (made_remarks cycle a a.swap (judged s a.at found))
-    ∙ ap (λ (xs : List Said). filter is_unseen (judge_remarks s cycle a.at found) ++ xs) (made_none cycle a a.swap (judged s a.at found))
+    ∙ ap (λ (xs : List Said). filter is_unseen (judge_remarks s cycle a.at found) ++ xs)
+    (made_none is_unseen cycle a a.swap (judged s a.at found) (free OfSwap refl) (λ swap e. odd_by a.at.register (judged s a.at found) (made cycle a swap)))
     ∙ append-nil (filter is_unseen (judge_remarks s cycle a.at found)) ∙ judge_all s cycle a.at found
 
 found_same : (o : Option ℕ) (s t : State) (cycle : ℕ) (at : At) → known_of s at ≡ known_of t at → found_by s cycle at o ≡ found_by t cycle at o
@@ -70,7 +88,7 @@ unfolding found_by
 found_same None s t cycle at e = refl
 found_same (Some found) s t cycle at e = judge_same s t cycle at found e
 
-refused_none : (o : Option Swap) (s : State) (cycle : ℕ) (a : Answer) → IsNone (refused_swap o s cycle a)
+refused_none : (o : Option Swap) (s : State) (cycle : ℕ) (a : Answer) → IsNone is_unseen (refused_swap o s cycle a)
 refused_none None s cycle a = refl
 refused_none (Some swap) s cycle a = refl
 
@@ -98,18 +116,18 @@ what_unseen : (cycle : ℕ) (e : Entry) (s : State) (c : List Channel) (d : Seco
 unfolding what_remarks reset_remarks packet_remarks shown_remarks seen_by found_by shown_at judge_remarks known_of heed
 what_unseen cycle (Reset r) s c d = refl
 what_unseen cycle (Async q) s c d = answered_unseen (answer_of s.standing q) cycle (with_packet q (aside s c d))
-what_unseen cycle (Iso q) s c d = heard_none (aside s c d) (packet_of cycle q)
+what_unseen cycle (Iso q) s c d = heard_none is_unseen (aside s c d) (packet_of cycle q) (free OfChannel refl)
 what_unseen cycle (Event e) s c d = refl
 what_unseen cycle (Outcome o) s c d = refl
 what_unseen cycle (Shown w) s c d = word_unseen (shown_at s w) cycle w.word (aside s c d)
 what_unseen cycle End s c d = refl
 
-step_unseen : (s : State) (t : Timed) → filter is_unseen (remarks s t) ≡ seen_by s t.cycle (glimpse s t.what)
+pub step_unseen : (s : State) (t : Timed) → filter is_unseen (remarks s t) ≡ seen_by s t.cycle (glimpse s t.what)
 unfolding remarks
 step_unseen s t =
     let o = ticked_only t.cycle s in
     filter-append is_unseen (held_remarks 64 t.cycle s) (what_remarks t.cycle t.what (ticked t.cycle s))
-    ∙ ap (λ (xs : List Said). xs ++ filter is_unseen (what_remarks t.cycle t.what (ticked t.cycle s))) (held_none 64 t.cycle s)
+    ∙ ap (λ (xs : List Said). xs ++ filter is_unseen (what_remarks t.cycle t.what (ticked t.cycle s))) (held_none is_unseen 64 t.cycle s (free OfChannel refl))
     ∙ ap (λ (x : State). filter is_unseen (what_remarks t.cycle t.what x)) o.2 ∙ what_unseen t.cycle t.what s o.0 o.1
 
 -- what is known in the state is what was last known

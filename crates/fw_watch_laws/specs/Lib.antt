@@ -1,3 +1,4 @@
 pub mod LastKnown
 pub mod ChangedUnseen
 pub mod TwoSenders
+pub mod Orderly

@@ -1,0 +1,106 @@
+-- In a log without an audit fault, whose other answers show the words of the account, no word changes unseen.
+use Rattle.std.proofs.Common.{◌≡◌, refl, ap, sym, ◌∙◌, subst, ℕ, ◌==◌, Bool, true, false, List, [], ◌∷◌, ◌++◌, if◌then◌else◌, Option, Some, None}
+use Rattle.std.proofs.lemmas.Bool.{eq-eqb}
+use Rattle.std.specs.List.{All}
+use Rattle.std.proofs.lemmas.List.Elements.{All-head, All-tail}
+use Rattle.fw_entry.specs.declared.entry.Entry.{Entry}
+use Rattle.fw_entry.specs.declared.entry.Entry.TheVariants.{Reset, Async, Iso, Event, Outcome, Shown, End}
+use Rattle.fw_entry.specs.declared.entry.Timed.{Timed}
+use Rattle.fw_account.specs.Account.{Account}
+use Rattle.fw_account.specs.Fold.{no_account}
+use Rattle.fw_account.specs.Words.{word_of}
+use Rattle.fw_account.proofs.Fold.{next_keeps}
+use Rattle.fw_async.specs.declared.packet.Packet.{Packet}
+use Rattle.fw_remarks.specs.Knowing.{differing}
+use Rattle.fw_remarks.specs.Remarks.{Said}
+use Rattle.fw_known.specs.declared.state.State.{State}
+use Rattle.fw_known.specs.States.{known_of, no_state}
+use Rattle.fw_known.specs.Standing.{answer_of}
+use Rattle.fw_watch.specs.Judging.{judge_remarks}
+use Rattle.fw_watch.specs.Steps.{remarks, after}
+use Rattle.fw_watch.specs.Watched.{known}
+use Rattle.fw_watch_laws.specs.LastKnown.{Glimpse, glimpse}
+use Rattle.fw_watch_laws.specs.ChangedUnseen.{tells_unseen, is_unseen}
+use Rattle.fw_watch_laws.specs.Orderly.{IsOrderly, ShowsAccount, IsApartIn, HasNone}
+use Rattle.fw_watch_laws.proofs.Keeps.{whole_known}
+use Rattle.fw_watch_laws.proofs.Latest.{latest_after, next_latest}
+use Rattle.fw_watch_laws.proofs.OnBus.{IsOnBus, step_on}
+use Rattle.fw_watch_laws.proofs.Passing.{IsNone, Passes, known_push, none_in}
+use Rattle.fw_watch_laws.proofs.Stands.{AllStand}
+use Rattle.fw_watch_laws.proofs.StandsEntries.{step_stands}
+use Rattle.fw_watch_laws.proofs.Glimpses.{Seen}
+use Rattle.fw_watch_laws.proofs.Followed.{KnowsWords, SeenIn, ReadsIn, entry_seen, knows_step}
+use Rattle.fw_watch_laws.proofs.Unseen.{seen_by, found_by, step_unseen}
+
+-- so far `watch` knows the account's words
+pub record IsFine (front : List Timed) (l : Account) : Type 0 where
+  pub nodes : IsOnBus l.latest (known front)
+  pub stand : AllStand l (known front).standing
+  pub knows : KnowsWords (known front) l
+
+apart_at : (front rest : List Timed) (t : Timed) → All (λ x. IsApartIn x.what) (front ++ t ∷ rest) → IsApartIn t.what
+apart_at [] rest t a = All-head (λ (x : Timed). IsApartIn x.what) t rest a
+apart_at (u ∷ front) rest t a = apart_at front rest t (All-tail (λ (x : Timed). IsApartIn x.what) u (front ++ t ∷ rest) a)
+
+reads_in : (entries front rest : List Timed) (t : Timed) (l m : Account) → ShowsAccount entries → Passes entries front rest t l m → ReadsIn (known front) l t.what
+reads_in entries front rest t l m s y p e h value a f n g =
+    s.reads front rest t h value a l y.parts y.account (e ∙ ap (λ (x : Packet). Async x) f) n (ap (answer_of (known front).standing) (sym f) ∙ g)
+
+seen : (entries front rest : List Timed) (t : Timed) (l m : Account) → ShowsAccount entries → Passes entries front rest t l m → IsFine front l → SeenIn t.what (known front) l m
+seen entries front rest t l m s y f =
+    entry_seen t.what (known front) l m (record { sound = y.sound; agrees = y.agrees; nodes = f.nodes }) f.stand (whole_known front) (reads_in entries front rest t l m s y) y.words y.next
+
+fine_step : (entries front rest : List Timed) (t : Timed) (l m : Account) → ShowsAccount entries → Passes entries front rest t l m → IsFine front l → IsFine (front ++ t ∷ []) m
+fine_step entries front rest t l m s y f =
+    let latest : m.latest ≡ latest_after t.what l.latest = next_latest t.what l m y.next in
+    let on : IsOnBus m.latest (after (known front) t) = step_on t (known front) l.latest m.latest y.fits latest f.nodes in
+    let P : List Timed → Type 0 = λ xs. All (λ (x : Timed). IsApartIn x.what) xs in
+    let Q : State → Type 0 = λ z. IsOnBus m.latest z in
+    let R : State → Type 0 = λ z. AllStand m z.standing in
+    let S : State → Type 0 = λ z. KnowsWords z m in
+    let push : after (known front) t ≡ known (front ++ t ∷ []) = sym (known_push front t) in
+    record {
+      nodes = subst Q push on;
+      stand = subst R push (step_stands t (known front) l m (s.few front (t ∷ rest) y.parts) y.agrees.apart (apart_at front rest t (subst P y.parts s.others)) f.nodes f.stand y.next);
+      knows = subst S push
+          (knows_step t (known front) l m (seen entries front rest t l m s y f) (whole_known front) (next_keeps l m t.what y.fits y.sound y.next) y.next latest y.agrees.apart on f.knows);
+    }
+
+-- ---- nothing is told
+
+judge_quiet : (b : Bool) (x : Said) → b ≡ true → (if b then [] else x ∷ []) ≡ []
+judge_quiet true x e = refl
+judge_quiet false x e = cc
+
+found_quiet : (s : State) (cycle : ℕ) (g : Glimpse) (w : ℕ) → g.found ≡ Some w → differing (known_of s g.at) w ≡ 0 → found_by s cycle g.at g.found ≡ []
+unfolding found_by judge_remarks
+found_quiet s cycle g w e d = ap (λ (o : Option ℕ). found_by s cycle g.at o) e ∙ judge_quiet (differing (known_of s g.at) w == 0) _ (eq-eqb (differing (known_of s g.at) w) 0 d)
+
+glimpse_quiet : (o : Option Glimpse) (s : State) (cycle : ℕ) (l m : Account) → Seen l m o → KnowsWords s l → seen_by s cycle o ≡ []
+unfolding seen_by
+glimpse_quiet None s cycle l m x k = refl
+glimpse_quiet (Some g) s cycle l m x k = found_quiet s cycle g (word_of l x.place) x.found (k g.at.node g.at.register x.place x.stands)
+
+entry_quiet : (e : Entry) (s : State) (cycle : ℕ) (l m : Account) → SeenIn e s l m → KnowsWords s l → seen_by s cycle (glimpse s e) ≡ []
+unfolding SeenIn seen_by
+entry_quiet (Reset r) s cycle l m x k = refl
+entry_quiet (Async p) s cycle l m x k = glimpse_quiet (glimpse s (Async p)) s cycle l m x k
+entry_quiet (Iso p) s cycle l m x k = refl
+entry_quiet (Event z) s cycle l m x k = refl
+entry_quiet (Outcome o) s cycle l m x k = refl
+entry_quiet (Shown z) s cycle l m x k = glimpse_quiet (glimpse s (Shown z)) s cycle l m x k
+entry_quiet End s cycle l m x k = refl
+
+quiet : (entries front rest : List Timed) (t : Timed) (l m : Account) → ShowsAccount entries → Passes entries front rest t l m → IsFine front l → IsNone is_unseen (remarks (known front) t)
+quiet entries front rest t l m s y f = step_unseen (known front) t ∙ entry_quiet t.what (known front) t.cycle l m (seen entries front rest t l m s y f) f.knows
+
+none_stand : AllStand no_account []
+none_stand c id r g e d at = cc
+
+none_known : KnowsWords no_state no_account
+none_known n g v x = (let e = x.place in cc)
+
+pub none_unseen : (entries : List Timed) → IsOrderly entries → ShowsAccount entries → HasNone tells_unseen entries
+none_unseen entries o s =
+    none_in is_unseen entries IsFine o (λ front rest t l m y f. fine_step entries front rest t l m s y f) (λ front rest t l m y f. quiet entries front rest t l m s y f)
+    (record { nodes = tt; stand = none_stand; knows = none_known })

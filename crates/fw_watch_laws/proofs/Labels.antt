@@ -1,0 +1,51 @@
+-- Locks that stand are those of procedures.
+use Rattle.std.proofs.Common.{◌≡◌, refl, not, Bool, true, false, List, Option, Some, None, IsTrue, is_some}
+use Rattle.std.specs.List.{All}
+use Rattle.std.proofs.lemmas.List.Elements.{All-filter}
+use Rattle.fw_base.specs.declared.label.Label.TheVariants.{Procedure}
+use Rattle.fw_base.specs.Labels.{label_code}
+use Rattle.fw_async.specs.declared.packet.Head.{Head}
+use Rattle.fw_async.specs.declared.packet.Packet.{Packet}
+use Rattle.fw_async.specs.declared.packet.Packet.TheVariants.{WriteQuadlet, WriteBlock, WriteReply, ReadQuadlet, ReadBlock, ReadQuadletReply, ReadBlockReply, CycleStart, Lock as LockRequest, LockReply}
+use Rattle.fw_remarks.specs.declared.register.Register.{Register}
+use Rattle.fw_remarks.specs.Registers.{register_at}
+use Rattle.fw_known.specs.declared.asked.Asking.{Asking}
+use Rattle.fw_known.specs.declared.asked.Asking.TheVariants.{Read}
+use Rattle.fw_known.specs.declared.asked.Asked.{Asked}
+use Rattle.fw_known.specs.Standing.{is_read, lock_of, is_of, answers, without_same, without_answered, asked_at_register, with_request, standing_behind}
+use Rattle.fw_watch_laws.specs.Orderly.{IsLabelled}
+use Rattle.fw_watch_laws.proofs.Matches.{one_more}
+
+-- a request is a read, or has the label of procedures
+abbrev pub IsOwn : Asked → Type 0
+IsOwn q = is_read q.asking ≡ false → q.label ≡ label_code Procedure
+
+same_own : (h : Head) (xs : List Asked) → All IsOwn xs → All IsOwn (without_same h xs)
+unfolding without_same
+same_own h xs a = All-filter (λ q. not (is_of h q)) IsOwn xs a
+
+left_own : (read : Bool) (h : Head) (xs : List Asked) → All IsOwn xs → All IsOwn (without_answered read h xs)
+unfolding without_answered
+left_own read h xs a = All-filter (λ q. not (answers read h q)) IsOwn xs a
+
+more_own : (xs : List Asked) (h : Head) (o : Option Register) (asking : Asking) → All IsOwn xs → (IsTrue (is_some o) → is_read asking ≡ false → h.tl ≡ label_code Procedure)
+    → All IsOwn (with_request (asked_at_register h o asking) xs)
+more_own xs h None asking a f = a
+more_own xs h (Some r) asking a f = one_more IsOwn xs (record { source = h.source; destination = h.destination; label = h.tl; register = r; asking = asking }) a (f refl)
+
+-- after a packet
+pub own_behind : (p : Packet) (xs : List Asked) → IsLabelled p → All IsOwn xs → All IsOwn (standing_behind p xs)
+unfolding standing_behind
+own_behind (WriteQuadlet h offset value) xs l a = same_own h xs a
+own_behind (WriteBlock h offset bytes) xs l a = same_own h xs a
+own_behind (WriteReply h rcode) xs l a = a
+own_behind (ReadQuadlet h offset) xs l a = more_own (without_same h xs) h (register_at offset) Read (same_own h xs a) (λ there e. absurd (reads e))
+  where
+    reads : true ≡ false → ⊥
+    reads e = cc
+own_behind (ReadBlock h offset len) xs l a = same_own h xs a
+own_behind (ReadQuadletReply h rcode value) xs l a = left_own true h xs a
+own_behind (ReadBlockReply h rcode bytes) xs l a = a
+own_behind (CycleStart h offset time) xs l a = a
+own_behind (LockRequest h offset function bytes) xs l a = more_own (without_same h xs) h (register_at offset) (lock_of function bytes) (same_own h xs a) (λ there e. l there)
+own_behind (LockReply h rcode function bytes) xs l a = left_own false h xs a

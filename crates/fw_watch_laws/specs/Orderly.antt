@@ -1,0 +1,121 @@
+-- Logs without an audit fault, in which `watch` finds nothing; and what it does not find there.
+use Rattle.std.specs.Prelude.{◌≡◌, ◌≢◌, ◌<◌, ℕ, ◌+◌, ◌*◌, ⊤, IsTrue, is_some, Bool, true, false, List, ◌∷◌, ◌++◌, length, Some}
+use Rattle.std.specs.List.{All, list_any}
+use Rattle.fw_base.specs.declared.label.Label.TheVariants.{Procedure}
+use Rattle.fw_base.specs.Labels.{label_code}
+use Rattle.fw_csr.specs.declared.low_offset.TheConstants.{BANDWIDTH_AVAILABLE, CHANNELS_AVAILABLE_HI, CHANNELS_AVAILABLE_LO, OPCR, IPCR}
+use Rattle.fw_async.specs.declared.packet.Head.{Head}
+use Rattle.fw_async.specs.declared.packet.Packet.{Packet}
+use Rattle.fw_async.specs.declared.packet.Packet.TheVariants.{WriteQuadlet, WriteBlock, WriteReply, ReadQuadlet, ReadBlock, ReadQuadletReply, ReadBlockReply, CycleStart, Lock, LockReply}
+use Rattle.fw_entry.specs.Log.{InOrder}
+use Rattle.fw_entry.specs.declared.entry.Entry.{Entry}
+use Rattle.fw_entry.specs.declared.entry.Entry.TheVariants.{Reset, Async, Iso, Event, Outcome, Shown, End}
+use Rattle.fw_entry.specs.declared.entry.Timed.{Timed}
+use Rattle.fw_account.specs.Account.{Account}
+use Rattle.fw_account.specs.Words.{word_at}
+use Rattle.fw_account.specs.Fold.{account_of, entries_of}
+use Rattle.fw_faults.specs.Audited.{IsAudited}
+use Rattle.fw_remarks.specs.declared.remark.Remark.{Remark}
+use Rattle.fw_remarks.specs.declared.remark.Remark.TheVariants.{NotManager, TooMany, Several, MoreThanMove}
+use Rattle.fw_remarks.specs.declared.register.Register.{Register}
+use Rattle.fw_remarks.specs.declared.register.Register.TheVariants.{Bandwidth, ChannelsHigh, ChannelsLow, Output, Input}
+use Rattle.fw_remarks.specs.Registers.{register_at}
+use Rattle.fw_remarks.specs.Remarks.{Said}
+use Rattle.fw_known.specs.declared.asked.Answer.{Answer}
+use Rattle.fw_known.specs.Standing.{answer_of}
+use Rattle.fw_watch.specs.Watched.{known, all_remarks}
+
+-- a lock at a watched register has the label of procedures
+abbrev pub IsLabelled : Packet → Type 0
+IsLabelled (WriteQuadlet h offset value) = ⊤
+IsLabelled (WriteBlock h offset bytes) = ⊤
+IsLabelled (WriteReply h rcode) = ⊤
+IsLabelled (ReadQuadlet h offset) = ⊤
+IsLabelled (ReadBlock h offset len) = ⊤
+IsLabelled (ReadQuadletReply h rcode value) = ⊤
+IsLabelled (ReadBlockReply h rcode bytes) = ⊤
+IsLabelled (CycleStart h offset time) = ⊤
+IsLabelled (Lock h offset function bytes) = IsTrue (is_some (register_at offset)) → h.tl ≡ label_code Procedure
+IsLabelled (LockReply h rcode function bytes) = ⊤
+
+-- of an entry
+abbrev pub IsLabelledIn : Entry → Type 0
+IsLabelledIn (Reset r) = ⊤
+IsLabelledIn (Async p) = IsLabelled p
+IsLabelledIn (Iso p) = ⊤
+IsLabelledIn (Event e) = ⊤
+IsLabelledIn (Outcome o) = ⊤
+IsLabelledIn (Shown w) = ⊤
+IsLabelledIn End = ⊤
+
+-- no write and no block read has that label
+abbrev pub IsApartOf : Packet → Type 0
+IsApartOf (WriteQuadlet h offset value) = h.tl ≢ label_code Procedure
+IsApartOf (WriteBlock h offset bytes) = h.tl ≢ label_code Procedure
+IsApartOf (WriteReply h rcode) = ⊤
+IsApartOf (ReadQuadlet h offset) = ⊤
+IsApartOf (ReadBlock h offset len) = h.tl ≢ label_code Procedure
+IsApartOf (ReadQuadletReply h rcode value) = ⊤
+IsApartOf (ReadBlockReply h rcode bytes) = ⊤
+IsApartOf (CycleStart h offset time) = ⊤
+IsApartOf (Lock h offset function bytes) = ⊤
+IsApartOf (LockReply h rcode function bytes) = ⊤
+
+-- of an entry
+abbrev pub IsApartIn : Entry → Type 0
+IsApartIn (Reset r) = ⊤
+IsApartIn (Async p) = IsApartOf p
+IsApartIn (Iso p) = ⊤
+IsApartIn (Event e) = ⊤
+IsApartIn (Outcome o) = ⊤
+IsApartIn (Shown w) = ⊤
+IsApartIn End = ⊤
+
+-- the entries of a log in which an audit finds no fault, whose locks at watched registers are those of procedures
+pub record IsOrderly (entries : List Timed) : Type 0 where
+  pub order : InOrder 0 entries
+  pub audited : IsAudited (entries_of entries)
+  pub labels : All (λ t. IsLabelledIn t.what) entries
+
+-- the offset at which a register stands
+abbrev pub offset_of : Register → ℕ
+offset_of Bandwidth = BANDWIDTH_AVAILABLE
+offset_of ChannelsHigh = CHANNELS_AVAILABLE_HI
+offset_of ChannelsLow = CHANNELS_AVAILABLE_LO
+offset_of (Output number) = OPCR + 4 * number
+offset_of (Input number) = IPCR + 4 * number
+
+-- What `watch` sees of such a log is the account's: answers to others than procedures, which an audit does not look at, show its words; no write and no
+-- block read takes the place of a request of a procedure; and fewer than 256 requests at watched registers stand at a time, so that none is forgotten.
+pub record ShowsAccount (entries : List Timed) : Type 0 where
+  pub reads : (front rest : List Timed) (t : Timed) (h : Head) (value : ℕ) (a : Answer) (l : Account) → entries ≡ front ++ t ∷ rest
+      → account_of (entries_of front) ≡ Some l → t.what ≡ Async (ReadQuadletReply h 0 value) → h.tl ≢ label_code Procedure
+      → answer_of (known front).standing (ReadQuadletReply h 0 value) ≡ Some a → word_at l a.at.node (offset_of a.at.register) ≡ Some value
+  pub others : All (λ t. IsApartIn t.what) entries
+  pub few : (front rest : List Timed) → entries ≡ front ++ rest → length (known front).standing < 256
+
+-- ---- what is not found there
+
+-- a swap at a node that is not the resource manager
+abbrev pub is_not_manager : Remark → Bool
+is_not_manager (NotManager by at manager) = true
+is_not_manager _ = false
+
+-- more units are left than there are
+abbrev pub is_too_many : Remark → Bool
+is_too_many (TooMany by left) = true
+is_too_many _ = false
+
+-- more than one channel is changed at once
+abbrev pub is_several : Remark → Bool
+is_several (Several by count) = true
+is_several _ = false
+
+-- more than a connection of a plug is changed
+abbrev pub is_more : Remark → Bool
+is_more (MoreThanMove by at old new) = true
+is_more _ = false
+
+-- a log has no such remark
+abbrev pub HasNone : (Remark → Bool) → List Timed → Type 0
+HasNone test entries = list_any (λ (s : Said). test s.remark) (all_remarks entries) ≡ false
