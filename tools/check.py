@@ -103,6 +103,12 @@ def check_log(program, what, log):
         due(f"{what}: converted back", run(program, ["convert", str(3 - other)], converted)[1] == log)
 
 
+def check_holders(program, what, log):
+    """`holders` ends as `audit` does."""
+    holders, audit = (run(program, [word], log) for word in ("holders", "audit"))
+    due(f"{what}: holders ends with {holders[0]}, {holders[2]!r}", holders[::2] == audit[::2])
+
+
 def check_silence(program, what, log):
     """Of a log of `run` that `audit` finds sound, `watch` tells no word that changed unseen, and no finding."""
     if run(program, ["audit"], log)[0] == 0:
@@ -163,10 +169,12 @@ def main(words):
     for script in scripts:
         log = check_example(program, script)
         check_log(program, script.stem, log)
+        check_holders(program, script.stem, log)
         check_silence(program, script.stem, log)
     kept = list(logs_of_sessions())
     for what, log in kept:
         check_log(program, what, log)
+        check_holders(program, what, log)
         # Those that are laid by hand for `watch` have other labels, which an audit passes over.
         if not what.startswith("watch_"):
             check_silence(program, what, log)

@@ -7,3 +7,4 @@ pub mod WholeLaws
 pub mod WholePassings
 pub mod SwapLaws
 pub mod PassedAudits
+pub mod PassedHoldings

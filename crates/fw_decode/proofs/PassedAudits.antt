@@ -5,10 +5,10 @@ use Rattle.fw_audit.specs.Found.{Found, IsPassedOver}
 use Rattle.fw_audit.proofs.Audits.{passed_found}
 use Rattle.fw_entry.specs.declared.entry.Entry.{Entry}
 use Rattle.fw_entry.specs.declared.entry.Timed.{Timed}
-use Rattle.fw_log.specs.Passing.{CountsUp, PassesBody}
+use Rattle.fw_log.specs.Passing.{CountsUp}
 use Rattle.fw_log.specs.Reader.{State, total}
-use Rattle.fw_log.specs.declared.passing.PassedBody.{PassedBody}
 use Rattle.fw_reading.specs.Readings.{Passes}
+use Rattle.fw_decode.specs.Passing.{PassesOver}
 use Rattle.fw_decode.specs.Texts.{silent_form}
 use Rattle.fw_decode.specs.Verdicts.{Audits, entries_more}
 use Rattle.fw_decode.specs.declared.verdict.Verdict.{Verdict}
@@ -23,9 +23,9 @@ passed_audits v count entries t h passed counts = record {
   found = subst (λ (es : List Entry). Found es v.audit None) (sym (entries_more entries (t ∷ []))) (passed_found (entries_of entries) t.what v.audit passed h.found);
 }
 
-pub verdict_passes : (v : Verdict) (count used : ℕ) (entries : List Timed) (bytes piece : List ℕ) (before reader : State) (p : PassedBody) (x : PassesBody entries bytes reader p)
-    → Audits v entries → IsPassedOver x.entry.what → total before + length piece < 2 ^ 64 → CountsUp before piece reader used → (length entries + 1 < 2 ^ 64 → count ≡ v.count + 1)
+pub verdict_passes : (v : Verdict) (count used : ℕ) (entries : List Timed) (bytes piece : List ℕ) (before reader : State) → PassesOver entries bytes reader
+    → Audits v entries → total before + length piece < 2 ^ 64 → CountsUp before piece reader used → (length entries + 1 < 2 ^ 64 → count ≡ v.count + 1)
     → Passes silent_form.text (Audits (record { audit = v.audit; count = count })) [] [] entries bytes reader
-verdict_passes v count used entries bytes piece before reader p x h passed room up counts =
+verdict_passes v count used entries bytes piece before reader x h room up counts =
     let few = few_read entries x.entry bytes reader x.read (omega (arith, room, up.total, up.within)) in
-    record { entry = x.entry; read = x.read; took = passed_audits v count entries x.entry h passed (counts few); gathered = refl }
+    record { entry = x.entry; read = x.read; took = passed_audits v count entries x.entry h x.passed (counts few); gathered = refl }

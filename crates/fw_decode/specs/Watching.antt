@@ -1,6 +1,5 @@
 -- What `watch` writes of entries as they end, and that it is the lines of each of them, one after another.
-use Rattle.std.proofs.Common.{◌≡◌, ℕ, List, [], ◌∷◌, ◌++◌, refl}
-use Rattle.fw_entry.specs.declared.entry.Timed.{Timed}
+use Rattle.std.proofs.Common.{[], refl}
 use Rattle.fw_watch.specs.Watched.{watched}
 use Rattle.fw_watch.proofs.WatchLaws.{watched_more}
 use Rattle.fw_reading.specs.Readings.{Form, IsEach}

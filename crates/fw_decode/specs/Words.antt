@@ -10,10 +10,11 @@ use Rattle.fw_decode.specs.Texts.{nothing, each_form, explained_form, silent_for
 use Rattle.fw_decode.specs.Watching.{watched_form}
 use Rattle.fw_decode.specs.Silences.{never_refused}
 use Rattle.fw_decode.specs.Verdicts.{audit_rules, sound_unrefused}
+use Rattle.fw_decode.specs.Holdings.{holders_form, holders_rules, held_unrefused}
 use Rattle.fw_decode.specs.Maps.{map_rules, graph_rules, map_unrefused, graph_unrefused}
 use Rattle.fw_decode.specs.declared.refusal.LogRefusal.{LogRefusal}
 use Rattle.fw_decode.specs.declared.LogWord.{LogWord}
-use Rattle.fw_decode.specs.declared.LogWord.TheVariants.{Decode, Explain, Json, Dv, Convert, Audit, Watch, Map, Graph}
+use Rattle.fw_decode.specs.declared.LogWord.TheVariants.{Decode, Explain, Json, Dv, Convert, Audit, Holders, Watch, Map, Graph}
 
 -- what a word writes while a log is read
 abbrev pub form_by : LogWord → Form
@@ -23,6 +24,7 @@ form_by Json = each_form object
 form_by Dv = silent_form
 form_by (Convert v) = log_form v
 form_by Audit = silent_form
+form_by Holders = holders_form
 form_by Watch = watched_form
 form_by Map = silent_form
 form_by Graph = silent_form
@@ -35,6 +37,7 @@ rules_by Json = never_refused nothing
 rules_by Dv = never_refused report_text
 rules_by (Convert v) = never_refused nothing
 rules_by Audit = audit_rules
+rules_by Holders = holders_rules
 rules_by Watch = never_refused watched_end
 rules_by Map = map_rules
 rules_by Graph = graph_rules
@@ -46,6 +49,7 @@ Accepts word entries = (rules_by word).completes entries
 -- so it refuses none of them
 pub accepts_by : (word : LogWord) (entries : List Timed) → Accepts word entries → IsAccepted (rules_by word) entries
 accepts_by Audit entries h = sound_unrefused entries h
+accepts_by Holders entries h = held_unrefused entries h
 accepts_by Map entries h = map_unrefused entries h
 accepts_by Graph entries h = graph_unrefused entries h
 accepts_by _ entries h = record { entry = λ front rest refusal is r. r; end = λ refusal r. r }

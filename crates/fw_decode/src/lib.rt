@@ -13,11 +13,13 @@ use std::alloc::Global;
 
 mod drawing;
 mod explanation;
+mod holding;
 mod last_reset;
 mod laws;
 mod lines;
 mod mapping;
 mod objects;
+mod passing;
 mod refusal;
 mod rewriting;
 mod streams;
@@ -29,6 +31,7 @@ mod whole_reset;
 pub use drawing::map_graph;
 pub use explanation::explain;
 pub use fw_reading::{LogEnding, Stop};
+pub use holding::holders;
 pub use laws::{logs_convert_back, sound_logs_are_vouched, swaps_are_told};
 pub use lines::decode;
 pub use mapping::map;
@@ -54,6 +57,8 @@ pub enum LogWord {
     Convert(Version),
     /// `audit`: how many entries there are, where the registers that they show ran as a sound account.
     Audit,
+    /// `holders`: a line each time that an allocation or a connection changes, as its entry ends, and at the end what is held.
+    Holders,
     /// `watch`: a line for each thing that an entry shows of channels, bandwidth and plugs, as it ends; then how much was judged.
     Watch,
     /// `map`: the tree of the last bus reset, as text.
@@ -79,6 +84,7 @@ pub fn read_as<S: Source, K: Sink>(
         LogWord::Dv => dv(alloc, source, sink),
         LogWord::Convert(version) => convert(alloc, version, source, sink),
         LogWord::Audit => audit(alloc, source, sink),
+        LogWord::Holders => holders(alloc, source, sink),
         LogWord::Watch => watch(alloc, source, sink),
         LogWord::Map => map(alloc, source, sink),
         LogWord::Graph => map_graph(alloc, source, sink),

@@ -1,25 +1,19 @@
 //! `audit`: whether the registers of a log ran as a sound account.
 
-ghost use Rattle.std.specs.Prelude.{◌≡◌, ◌+◌, ◌<◌, ◌^◌, ◌++◌, ◌∷◌, [], List, length, IfOk, string_bytes, IsTrue};
+ghost use Rattle.std.specs.Prelude.{◌≡◌, ◌+◌, ◌<◌, ◌^◌, ◌++◌, ◌∷◌, [], List, length, IfOk, string_bytes};
 ghost use Rattle.fw_entry.specs.Log.{Fits};
 ghost use Rattle.fw_entry.specs.declared.entry.Timed.{Timed as TimedEntry};
-ghost use Rattle.fw_entry.specs.declared.entry.Entry.{Entry};
-ghost use Rattle.fw_log.specs.Passing.{HasBody};
-ghost use Rattle.fw_audit.specs.Found.{IsPassedOver};
 ghost use Rattle.fw_reading.specs.Endings.{ReadsLog};
 ghost use Rattle.fw_decode.specs.Texts.{silent_form, count_text};
 ghost use Rattle.fw_decode.specs.Verdicts.{audit_rules, Audits, Judges};
 
+use crate::passing::pass_over;
 use crate::{LogRefusal, Unsound};
-use fw_audit::{Audit, has_other_label};
-use fw_entry::codes::kind;
-use fw_log::{LogReader, PlainBody, Room, Timed};
+use fw_audit::Audit;
+use fw_log::{LogReader, Room, Timed};
 use fw_outside::{Failed, Sink, Source};
 use fw_reading::{Closing, LogEnding, Reading, Stop, read_log};
 use std::alloc::{AllocError, Global};
-
-/// Where a packet's label stands in an entry of version 2: in the upper six bits of this byte.
-const LABEL_AT: usize = 18;
 
 // An audit, and how many entries it took.
 #[derive(Drop)]
@@ -35,28 +29,6 @@ fn sound_text(alloc: Global, count: u64) -> Result<String, AllocError>
     let mut text = String::new(alloc);
     write!(text, "sound {count}\n")?;
     Ok(text)
-}
-
-// Whether an entry that has this body changes no account and has no fault over any.
-fn is_passed_body(body: &PlainBody) -> bool
-    requires { (e : Entry) × HasBody body.now e }
-    ensures { IsTrue result → (e : Entry) → HasBody body.now e → IsPassedOver e }
-{
-    match body {
-        PlainBody::Packet(bytes) => has_other_label(bytes.as_slice()),
-        PlainBody::Iso(_) => true,
-        PlainBody::Reset(_) => false,
-    }
-}
-
-// Whether it is worth while to look whether the entry that comes next is passed over, by a guess that decides nothing: not at a bus
-// reset, nor at a packet whose label, where it lies whole in a piece of a log of version 2, is 0, that of procedures.
-fn may_pass(kind: Option<u8>, piece: &[u8]) -> bool {
-    match (kind, piece.get(LABEL_AT)) {
-        (Some(kind::RESET), _) => false,
-        (Some(kind::ASYNC), Some(label)) => *label >= 4,
-        _ => true,
-    }
 }
 
 impl Verdict {
@@ -118,16 +90,9 @@ impl Reading for Verdict {
         room: &mut Room,
         piece: &[u8],
     ) -> Result<Option<usize>, AllocError> {
-        if !may_pass(reader.next_kind(piece), piece) {
-            return Ok(None);
-        }
-        let Some(next) = reader.next_body(piece, room) else {
+        let Some(used) = pass_over(reader, room, piece) else {
             return Ok(None);
         };
-        if !is_passed_body(&next.body) {
-            return Ok(None);
-        }
-        let used = reader.go_past(piece, &next.passed);
         self.count = self.count.saturating_add(1);
         Ok(Some(used))
     }

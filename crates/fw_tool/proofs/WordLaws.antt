@@ -9,7 +9,7 @@ use Rattle.fw_entry.specs.declared.version.Version.TheVariants.{One}
 use Rattle.fw_decode.specs.Words.{Accepts}
 use Rattle.fw_decode.specs.Verdicts.{IsSoundLog}
 use Rattle.fw_decode.specs.declared.LogWord.{LogWord}
-use Rattle.fw_decode.specs.declared.LogWord.TheVariants.{Convert, Audit, Map, Graph}
+use Rattle.fw_decode.specs.declared.LogWord.TheVariants.{Convert, Audit, Holders, Map, Graph}
 use Rattle.fw_simulate.specs.declared.word.ScriptWord.TheVariants.{Run, Dub}
 use Rattle.fw_decode.specs.Maps.{HasTree}
 use Rattle.fw_decode.specs.Trees.{last_reset}
@@ -54,6 +54,7 @@ some_reset (Some r) some = (r, refl)
 pub run_accepted : (word : LogWord) (entries : List Timed) → IsSoundLog entries → ((r : ResetEntry) → last_reset entries ≡ Some r → HasTree entries) → HasItsReset word entries
     → Accepts word entries
 run_accepted Audit entries sound trees has = sound
+run_accepted Holders entries sound trees has = sound
 run_accepted Map entries sound trees has = let r = some_reset (last_reset entries) has in trees r.0 r.1
 run_accepted Graph entries sound trees has = let r = some_reset (last_reset entries) has in trees r.0 r.1
 run_accepted _ entries sound trees has = tt

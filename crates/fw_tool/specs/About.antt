@@ -24,6 +24,7 @@ about_text Help = codes "fire simulates a FireWire (IEEE 1394) audio and video b
     codes "  json           writes a JSON object an entry, each on its line, with every field" ++ 10 ∷
     codes "  dv             counts packets, blocks and gaps of each channel" ++ 10 ∷
     codes "  audit          says whether channels, units and connections went as they must" ++ 10 ∷
+    codes "  holders        says who holds what, each time that changes" ++ 10 ∷
     codes "  watch          says what channels and plugs did, what changed unseen, and what was odd" ++ 10 ∷
     codes "  map            writes the tree of the last bus reset, and the speeds" ++ 10 ∷
     codes "  map dot        writes that tree for Graphviz" ++ 10 ∷
@@ -38,7 +39,7 @@ about_text Help = codes "fire simulates a FireWire (IEEE 1394) audio and video b
     codes "The status is 0 where all is done. Else a note on standard error says why:" ++ 10 ∷
     codes "  2  usage: wrong words                 7  the input is too long" ++ 10 ∷
     codes "  3  a line of the script is refused    8  no memory is left" ++ 10 ∷
-    codes "  4  the input is no log                9  audit: an entry breaks the account" ++ 10 ∷
+    codes "  4  the input is no log                9  audit, holders: an entry breaks the account" ++ 10 ∷
     codes "  5  the input cannot be read          10  map: no tree" ++ 10 ∷
     codes "  6  the output cannot be written" ++ 10 ∷
     10 ∷

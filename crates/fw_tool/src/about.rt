@@ -34,6 +34,7 @@ A log of version 1 or 2 goes in, whoever made it:
   json           writes a JSON object an entry, each on its line, with every field
   dv             counts packets, blocks and gaps of each channel
   audit          says whether channels, units and connections went as they must
+  holders        says who holds what, each time that changes
   watch          says what channels and plugs did, what changed unseen, and what was odd
   map            writes the tree of the last bus reset, and the speeds
   map dot        writes that tree for Graphviz
@@ -48,7 +49,7 @@ Nothing goes in:
 The status is 0 where all is done. Else a note on standard error says why:
   2  usage: wrong words                 7  the input is too long
   3  a line of the script is refused    8  no memory is left
-  4  the input is no log                9  audit: an entry breaks the account
+  4  the input is no log                9  audit, holders: an entry breaks the account
   5  the input cannot be read          10  map: no tree
   6  the output cannot be written
 

@@ -57,6 +57,8 @@ fn one_word(word: &str) -> Option<Word>
         Some(Word::Log(LogWord::Dv))
     } else if word == "audit" {
         Some(Word::Log(LogWord::Audit))
+    } else if word == "holders" {
+        Some(Word::Log(LogWord::Holders))
     } else if word == "watch" {
         Some(Word::Log(LogWord::Watch))
     } else if word == "map" {

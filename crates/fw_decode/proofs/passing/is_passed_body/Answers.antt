@@ -3,7 +3,7 @@ use Rattle.fw_audit.proofs.Audits.{other_clear}
 use Rattle.fw_audit.specs.Found.{IsPassedOver}
 use Rattle.fw_log.specs.Passing.{HasBody}
 use Rattle.fw_log.specs.declared.plain.PlainBody.{PlainBody}
-use Rattle.fw_decode.proofs.verdict.is_passed_body.Goals as goal
+use Rattle.fw_decode.proofs.passing.is_passed_body.Goals as goal
 
 pub has_other_label-requires : goal.has_other_label-requires
 has_other_label-requires c =

@@ -1,0 +1,12 @@
+pub mod HoldingLaws
+pub mod HeldLaws
+pub mod EndsLaws
+pub mod TextLaws
+pub mod PlugLaws
+pub mod MoveLaws
+pub mod JudgedLaws
+pub mod ReplyLaws
+pub mod CountLaws
+pub mod HoldsLaws
+pub mod QuietLaws
+pub mod TakeLaws

@@ -1,0 +1,12 @@
+-- Texts that are appended one after another.
+use Rattle.std.proofs.Common.{◌≡◌, ◌++◌, ◌∙◌, ap, List, ℕ, Result, Ok, Err, append_assoc}
+use Rattle.std.specs.Result.{OnOk}
+
+-- one more
+pub both_put : (t0 t1 t2 a b : List ℕ) → t1 ≡ t0 ++ a → t2 ≡ t1 ++ b → t2 ≡ t0 ++ (a ++ b)
+both_put t0 t1 t2 a b e f = f ∙ ap (λ (x : List ℕ). x ++ b) e ∙ append_assoc t0 a b
+
+-- one more, if there is memory for it
+pub then_put : {X E : Type 0} (r : Result X E) (t0 t1 t2 a b : List ℕ) → t1 ≡ t0 ++ a → OnOk r (t2 ≡ t1 ++ b) → OnOk r (t2 ≡ t0 ++ (a ++ b))
+then_put (Ok x) t0 t1 t2 a b e f = both_put t0 t1 t2 a b e f
+then_put (Err x) t0 t1 t2 a b e f = f

@@ -1,0 +1,12 @@
+use Rattle.std.proofs.Common.{◌∙◌, ap}
+use Rattle.fw_base.specs.Tables.{find_to}
+use Rattle.fw_account.specs.Account.{is_pending}
+use Rattle.fw_ledger.specs.Stands.{allocation_of, charge_at}
+use Rattle.fw_ledger.proofs.Plugs.{pending_is_found}
+use Rattle.fw_holders.proofs.death.pending_channel.Goals as goal
+
+pub returns : goal.returns
+returns c = λ l h.
+    c.first_pending.ensures
+    ∙ ap (λ charges. find_to 64 (λ ch. is_pending c.args.controller (allocation_of (charge_at charges ch)))) c.deref.ensures.value
+    ∙ pending_is_found c.args.tables.now l c.args.controller h

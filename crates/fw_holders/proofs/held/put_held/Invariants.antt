@@ -1,0 +1,8 @@
+use Rattle.std.proofs.Common.{◌≡◌, ◌++◌}
+use Rattle.fw_account.specs.Account.{Account}
+use Rattle.fw_ledger.specs.Stands.{StandsFor}
+use Rattle.fw_holders.specs.Held.{held_below}
+use Rattle.fw_holders.proofs.held.put_held.Given as goal
+
+abbrev pub invariant-loop-channel : goal.invariant-loop-channel
+invariant-loop-channel l = (account : Account) → StandsFor l.tables account → l.text.items ≡ l.fn.text.items ++ held_below l.channel account

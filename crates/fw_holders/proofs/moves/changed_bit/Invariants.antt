@@ -1,0 +1,7 @@
+use Rattle.std.proofs.Common.{◌≡◌, ◌==◌, not, None}
+use Rattle.fw_base.specs.Tables.{find_to}
+use Rattle.fw_words.specs.Quadlet.{field}
+use Rattle.fw_holders.proofs.moves.changed_bit.Given as goal
+
+abbrev pub invariant-loop-i : goal.invariant-loop-i
+invariant-loop-i l = find_to l.i (λ j. not (field l.argument j j == field l.new j j)) ≡ None

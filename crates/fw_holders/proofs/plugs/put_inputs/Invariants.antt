@@ -1,0 +1,8 @@
+use Rattle.std.proofs.Common.{◌≡◌, ◌++◌}
+use Rattle.fw_account.specs.Account.{Account}
+use Rattle.fw_ledger.specs.Stands.{StandsFor}
+use Rattle.fw_holders.specs.Table.{input_line, lines_below}
+use Rattle.fw_holders.proofs.plugs.put_inputs.Given as goal
+
+abbrev pub invariant-loop-plug : goal.invariant-loop-plug
+invariant-loop-plug l = (account : Account) → StandsFor l.tables account → l.text.items ≡ l.fn.text.items ++ lines_below l.plug l.device (input_line account)

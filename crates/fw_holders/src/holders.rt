@@ -1,0 +1,140 @@
+//! Entries, taken one by one.
+
+ghost use Rattle.std.specs.Prelude.{◌≡◌, ◌+◌, ◌<◌, ◌^◌, ◌++◌, ◌∷◌, [], List, length, IfOk, Some, None, is_some, true};
+ghost use Rattle.fw_entry.specs.Log.{Fits};
+ghost use Rattle.fw_entry.specs.declared.entry.Entry.TheVariants.{Event};
+ghost use Rattle.fw_entry.specs.declared.entry.EventEntry.{EventEntry as LogEvent};
+ghost use Rattle.fw_entry.specs.declared.entry.Timed.{Timed as TimedEntry};
+ghost use Rattle.fw_account.specs.Account.{Account};
+ghost use Rattle.fw_account.specs.Fold.{entries_of};
+ghost use Rattle.fw_faults.specs.Audited.{EndsFaulty};
+ghost use Rattle.fw_faults.specs.declared.fault.AuditFault.{AuditFault as Fault};
+ghost use Rattle.fw_ledger.specs.Stands.{StandsFor};
+ghost use Rattle.fw_holders.specs.Deeds.{event_told};
+ghost use Rattle.fw_holders.specs.Told.{Holds, Takes, holders, table_of};
+
+use crate::judged::Judged;
+use crate::lines::{is_told, put_answer, put_cycle, put_event, put_reset, put_rest};
+use crate::table::put_table;
+use fw_audit::{AuditFault, take_entry};
+use fw_entry::{Entry, EventEntry, Timed};
+use fw_ledger::Ledger;
+use std::alloc::{AllocError, Global};
+use std::marker::Model;
+
+/// How many bytes of lines there is room for at first: more than 4,096 bytes of an ordinary log give.
+const TEXT_ROOM: usize = 16_384;
+
+/// The audit of the entries that were taken, how much of them was judged, and the lines that were appended.
+#[derive(Drop)]
+pub struct Holders {
+    ledger: Ledger,
+    judged: Judged,
+    text: Vec<u8>,
+}
+
+impl Model for Holders {
+    ghost use Rattle.fw_holders.specs.Told.{Room};
+
+    ghost Value = { Room };
+
+    ghost view = { λ h. record { text = h.text.items; tables = h.ledger; judged = h.judged } };
+}
+
+impl Holders {
+    /// Of no entries. An error says that memory ran out.
+    pub fn new(alloc: Global) -> Result<Holders, AllocError>
+        ensures { IfOk result (λ h. (h.text ≡ []) × Holds [] h) }
+    {
+        Ok(Holders {
+            ledger: Ledger::new(alloc)?,
+            judged: Judged::nothing(),
+            text: Vec::with_capacity(alloc, TEXT_ROOM)?,
+        })
+    }
+
+    /// All lines that were appended, each with its line feed.
+    pub fn as_slice(&self) -> &[u8]
+        ensures { result.now ≡ self.now.text }
+    {
+        &self.text
+    }
+
+    /// Drops all lines, and keeps the memory.
+    pub fn clear(&mut self)
+        ensures { self.new ≡ record self.old { text = [] } }
+    {
+        self.text.clear();
+    }
+
+    // The text of an event that changes what is held stands before it is taken, since a death takes from the account what is told of it.
+    fn take_event(
+        &mut self,
+        t: &Timed,
+        event: &EventEntry,
+    ) -> Result<Option<AuditFault>, AllocError>
+        requires fits { Fits t.now.what }
+        requires event { t.now.what ≡ Event event.now }
+        requires told { (l : Account) → is_some (event_told l event.now) ≡ true }
+        ensures { (l : Account) → StandsFor self.old.tables l → IfOk result (λ f. Takes l t.now self.old self.new f) }
+    {
+        let begins = self.text.len();
+        put_cycle(&mut self.text, t.cycle)?;
+        let from = self.text.len();
+        put_event(&mut self.text, self.ledger.tables(), event)?;
+        if let Err(fault) = take_entry(&mut self.ledger, &t.what) {
+            self.text.truncate(begins);
+            return Ok(Some(fault));
+        }
+        put_rest(&mut self.text, from, self.ledger.tables())?;
+        Ok(None)
+    }
+
+    // An entry whose text is that of what it made.
+    fn take_other(&mut self, t: &Timed) -> Result<Option<AuditFault>, AllocError>
+        requires fits { Fits t.now.what }
+        requires other { (l : Account) (e : LogEvent) → t.now.what ≡ Event e → event_told l e ≡ None }
+        ensures { (l : Account) → StandsFor self.old.tables l → IfOk result (λ f. Takes l t.now self.old self.new f) }
+    {
+        let answer = match take_entry(&mut self.ledger, &t.what) {
+            Ok(answer) => answer,
+            Err(fault) => return Ok(Some(fault)),
+        };
+        self.judged.take(&t.what, answer);
+        match (&t.what, answer) {
+            (Entry::Reset(r), _) => put_reset(
+                &mut self.text,
+                t.cycle,
+                self.ledger.tables(),
+                r.get(),
+            )?,
+            (_, Some(answer)) => put_answer(&mut self.text, t.cycle, &self.ledger, &answer)?,
+            _ => {},
+        }
+        Ok(None)
+    }
+
+    /// Takes an entry, and answers its fault, as an audit does; of an entry without one it appends the line, if it has one. An
+    /// error says that memory ran out.
+    pub fn take(&mut self, t: &Timed) -> Result<Option<AuditFault>, AllocError>
+        requires fits { Fits t.now.what }
+        ensures taken { (entries : List TimedEntry) → length entries + 1 < 2 ^ 64 → Holds entries self.old
+            → IfOk result (λ f. f ≡ None → Holds (entries ++ t.now ∷ []) self.new × (self.new.text ≡ self.old.text ++ holders entries (t.now ∷ []))) }
+        ensures found { (entries : List TimedEntry) (fault : Fault) → Holds entries self.old
+            → IfOk result (λ f. f ≡ Some fault → EndsFaulty (entries_of (entries ++ t.now ∷ [])) fault × (self.new.text ≡ self.old.text)) }
+    {
+        match &t.what {
+            Entry::Event(event) if is_told(event) => self.take_event(t, event),
+            _ => self.take_other(t),
+        }
+    }
+
+    /// The table of what is held after the entries. An error says that memory ran out.
+    pub fn table(&self, alloc: Global) -> Result<Vec<u8>, AllocError>
+        ensures { (entries : List TimedEntry) → Holds entries self.now → IfOk result (λ text. text.items ≡ table_of entries) }
+    {
+        let mut text = Vec::with_capacity(alloc, TEXT_ROOM)?;
+        put_table(&mut text, self.ledger.tables(), &self.judged)?;
+        Ok(text)
+    }
+}
