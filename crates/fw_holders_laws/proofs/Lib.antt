@@ -1,0 +1,5 @@
+pub mod Lines
+pub mod Channels
+pub mod Plugs
+pub mod Told
+pub mod Quiet
