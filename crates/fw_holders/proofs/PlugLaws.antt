@@ -58,7 +58,8 @@ pub counts_same : (n : ℕ) (nodes : List NodeRow) (f g : ℕ → ℕ) → ((k :
 unfolding counts_below
 counts_same zero nodes f g same = refl
 counts_same (suc n) nodes f g same =
-    ap (λ (x : List ℕ). with_count (f n) (who nodes n) x) (counts_same n nodes f g (λ k lt. same k (omega arith))) ∙ ap (λ m. with_count m (who nodes n) (counts_below n nodes g)) (same n (omega arith))
+    ap (λ (x : List ℕ). with_count (f n) (who nodes n) x) (counts_same n nodes f g (λ k lt. same k (omega arith)))
+    ∙ ap (λ m. with_count m (who nodes n) (counts_below n nodes g)) (same n (omega arith))
 
 -- whose the connections are that seats have
 pub owners_same : (nodes : List NodeRow) (x : Seats) (s : Connections) (dead : ℕ) → SeatsFor x s → dead ≡ s.orphaned

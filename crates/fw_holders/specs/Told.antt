@@ -36,7 +36,7 @@ abbrev pub entry_line : Option Account → Timed → List ℕ
 entry_line None t = []
 entry_line (Some l) t = line_of t.cycle (told l t.what) (next_of (Some l) t.what)
 
--- the lines of entries behind others
+-- the lines of entries after others
 abbrev pub holders : List Timed → List Timed → List ℕ
 holders before [] = []
 holders before (t ∷ rest) = entry_line (account_of (entries_of before)) t ++ holders (before ++ t ∷ []) rest

@@ -41,7 +41,8 @@ fn put_line(
     seats: &Seats,
     counter: u8,
 ) -> Result<(), AllocError>
-    ensures { (s : Connections) → SeatsFor seats.now s → counter ≡ connections s → IsTrue (has_connection s) → OnOk result (text.new.items ≡ text.old.items ++ plug_line nodes.now plug.0 plug.1 channel s) }
+    ensures { (s : Connections) → SeatsFor seats.now s → counter ≡ connections s → IsTrue (has_connection s)
+        → OnOk result (text.new.items ≡ text.old.items ++ plug_line nodes.now plug.0 plug.1 channel s) }
 {
     put_heading(text, nodes, plug, channel)?;
     put_owners(text, nodes, seats, counter)?;
