@@ -52,3 +52,5 @@ pub mod ShownGlimpses
 pub mod StandsEntries
 pub mod Followed
 pub mod Known
+pub mod Tallies
+pub mod Counted

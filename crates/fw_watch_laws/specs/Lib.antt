@@ -2,3 +2,4 @@ pub mod LastKnown
 pub mod ChangedUnseen
 pub mod TwoSenders
 pub mod Orderly
+pub mod Counting

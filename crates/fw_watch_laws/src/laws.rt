@@ -11,6 +11,7 @@ ghost use Rattle.fw_watch.specs.Steps.{remarks};
 ghost use Rattle.fw_watch_laws.specs.LastKnown.{IsPlace, last_known};
 ghost use Rattle.fw_watch_laws.specs.ChangedUnseen.{is_unseen, unseen_due, tells_unseen};
 ghost use Rattle.fw_watch_laws.specs.Orderly.{IsOrderly, is_not_manager, is_too_many, is_several, is_more, HasNone, ShowsAccount};
+ghost use Rattle.fw_watch_laws.specs.Counting.{AreCounted};
 ghost use Rattle.fw_watch_laws.specs.TwoSenders.{IsPacket, stays, TwoTold};
 
 /// A word is told as changed unseen exactly where it differs, in a bit that is known, from the last that was known of its register.
@@ -54,4 +55,10 @@ pub fn sound_logs_make_moves_alone()
 /// word changes unseen.
 pub fn sound_logs_show_what_is_known()
     ensures { (entries : List Timed) → IsOrderly entries → ShowsAccount entries → HasNone tells_unseen entries }
+{}
+
+/// The numbers of the last line are those of entries and lines, up to the greatest that 64 bits have: of bus resets; of answers and shown words at
+/// registers that are followed, of which something was known, or nothing; of words told as changed unseen; of isochronous packets; and of findings.
+pub fn counts_are_right()
+    ensures { (entries : List Timed) → AreCounted entries }
 {}
