@@ -16,7 +16,7 @@ use Rattle.fw_account.specs.Words.{Register, BandwidthAvailable, ChannelsAvailab
 use Rattle.fw_ledger.proofs.PlugSwaps.{output_shows, input_shows, connected_is}
 use Rattle.fw_holders.specs.declared.deed.Deed.{Deed}
 use Rattle.fw_holders.specs.declared.deed.Deed.TheVariants.{TakesChannel, TakesUnits, GivesUnits, GivesChannel}
-use Rattle.fw_holders.specs.declared.names.Side.TheVariants.{Output, Input}
+use Rattle.fw_who.specs.declared.names.Side.TheVariants.{Output, Input}
 use Rattle.fw_holders.specs.Moves.{deed_of}
 use Rattle.fw_holders.specs.Found.{units_deed, channel_deed, connection_deed, word_deed}
 

@@ -12,8 +12,8 @@ use Rattle.fw_account.proofs.Decoded.{output_of_word, input_of_word}
 use Rattle.fw_ledger.specs.Stands.{StandsFor, SeatsFor, owner_of, word_at}
 use Rattle.fw_ledger.specs.declared.tables.Seats.{Seats}
 use Rattle.fw_ledger.specs.declared.tables.Tables.{Tables}
-use Rattle.fw_holders.specs.declared.names.Side.{Side}
-use Rattle.fw_holders.specs.Names.{who, plug_text}
+use Rattle.fw_who.specs.declared.names.Side.{Side}
+use Rattle.fw_who.specs.Names.{who, plug_text}
 use Rattle.fw_holders.specs.Table.{with_count, counts_below, with_broadcast, owners_text, plug_line, lines_below, plug_lines, output_line, input_line}
 
 pub no_counts : (nodes : List NodeRow) (counts : ℕ → ℕ) → counts_below 0 nodes counts ≡ []

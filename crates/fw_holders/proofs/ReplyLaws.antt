@@ -19,7 +19,7 @@ use Rattle.fw_holders.specs.Counts.{shows}
 use Rattle.fw_holders.specs.Deeds.{move_told, swap_told, answer_told, reply_told, response_told, packet_told}
 use Rattle.fw_holders.specs.Found.{word_deed, swap_deed, operation_deed, answer_deed, HasReply}
 use Rattle.fw_holders.specs.Moves.{done_text}
-use Rattle.fw_holders.specs.Names.{nodes_of}
+use Rattle.fw_who.specs.Names.{nodes_of}
 use Rattle.fw_holders.proofs.MoveLaws.{IsIn, word_deed_is}
 
 -- what stays of an account, and what is told of a response

@@ -11,8 +11,8 @@ use Rattle.fw_account.specs.Packets.{Reply, Read, Locked, is_quadlet_swap}
 use Rattle.fw_account.specs.Words.{Register, BandwidthAvailable, ChannelsAvailable, OutputPlug, InputPlug, register_of}
 use Rattle.fw_holders.specs.declared.deed.Deed.{Deed}
 use Rattle.fw_holders.specs.declared.deed.Deed.TheVariants.{TakesChannel, TakesUnits, GivesUnits, GivesChannel, Connects, Adds, Leaves}
-use Rattle.fw_holders.specs.declared.names.Side.{Side}
-use Rattle.fw_holders.specs.declared.names.Side.TheVariants.{Output, Input}
+use Rattle.fw_who.specs.declared.names.Side.{Side}
+use Rattle.fw_who.specs.declared.names.Side.TheVariants.{Output, Input}
 use Rattle.fw_faults.specs.Looked.{quadlet_in}
 use Rattle.fw_holders.specs.Counts.{shows}
 

@@ -8,10 +8,10 @@ use Rattle.fw_holders.specs.declared.holding.How.{How}
 use Rattle.fw_holders.specs.declared.holding.How.TheVariants.{Pending, Connected, Orphaned, Continues, Reclaimable}
 use Rattle.fw_holders.specs.declared.holding.Holding.{Holding}
 use Rattle.fw_holders.specs.declared.judged.Judged.{Judged}
-use Rattle.fw_holders.specs.declared.names.Side.{Side}
-use Rattle.fw_holders.specs.declared.names.Side.TheVariants.{Output, Input}
+use Rattle.fw_who.specs.declared.names.Side.{Side}
+use Rattle.fw_who.specs.declared.names.Side.TheVariants.{Output, Input}
 use Rattle.fw_holders.specs.Held.{holding}
-use Rattle.fw_holders.specs.Names.{nodes_of, count_text, who, plug_text}
+use Rattle.fw_who.specs.Names.{nodes_of, count_text, who, plug_text}
 
 -- ---- channels
 

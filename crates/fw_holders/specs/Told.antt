@@ -14,7 +14,7 @@ use Rattle.fw_ledger.specs.declared.tables.Tables.{Tables}
 use Rattle.fw_holders.specs.declared.judged.Judged.{Judged}
 use Rattle.fw_holders.specs.Counts.{entry_judged, judged_of, IsWithin}
 use Rattle.fw_holders.specs.Table.{table_text}
-use Rattle.fw_holders.specs.Names.{left, right}
+use Rattle.fw_who.specs.Names.{left, right}
 use Rattle.fw_holders.specs.Held.{held_text}
 use Rattle.fw_holders.specs.Deeds.{told}
 
