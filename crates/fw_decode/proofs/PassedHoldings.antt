@@ -28,7 +28,8 @@ quiet_body (Bodies.Reset bytes) e h passed =
     let latest = ap (λ (l : Account). l.latest) same in
     absurd (cc latest)
 
-taken_over : (v : Holding) (count : ℕ) (entries : List Timed) (t : Timed) → length entries + 1 < 2 ^ 64 → Takes v entries → IsQuiet t.what → count ≡ v.count + 1 → Takes (record { holders = v.holders; count = count }) (entries ++ t ∷ [])
+taken_over : (v : Holding) (count : ℕ) (entries : List Timed) (t : Timed) → length entries + 1 < 2 ^ 64 → Takes v entries → IsQuiet t.what → count ≡ v.count + 1
+    → Takes (record { holders = v.holders; count = count }) (entries ++ t ∷ [])
 taken_over v count entries t few h quiet counts = record {
   count = omega (arith, h.count, counts, length-append entries (t ∷ []));
   holds = holds_quiet entries t v.holders few h.holds quiet;

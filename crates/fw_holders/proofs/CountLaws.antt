@@ -20,7 +20,13 @@ swap_within true n j h = record { reads = omega (arith, h.reads); made = omega (
 swap_within false n j h = record { reads = omega (arith, h.reads); made = omega (arith, h.made); unmade = omega (arith, h.unmade); shown = omega (arith, h.shown); resets = omega (arith, h.resets) }
 
 operation_within : (op : Operation) (word : Option ℕ) (n : ℕ) (j : Judged) → IsWithin n j → IsWithin (n + 1) (operation_judged op word j)
-operation_within Reads word n j h = record { reads = omega (arith, h.reads); made = omega (arith, h.made); unmade = omega (arith, h.unmade); shown = omega (arith, h.shown); resets = omega (arith, h.resets) }
+operation_within Reads word n j h = record {
+  reads = omega (arith, h.reads);
+  made = omega (arith, h.made);
+  unmade = omega (arith, h.unmade);
+  shown = omega (arith, h.shown);
+  resets = omega (arith, h.resets);
+}
 operation_within (Locks function bytes) word n j h = by (is_quadlet_swap function bytes)
   where
     by : (b : Bool) → IsWithin (n + 1) (cond b (swap_judged (shows word (quadlet_at bytes 0)) j) j)
@@ -48,7 +54,13 @@ packet_within l (Happens e) n j h = within_more n j h
 packet_within l Other n j h = within_more n j h
 
 pub entry_within : (l : Account) (e : Entry) (n : ℕ) (j : Judged) → IsWithin n j → IsWithin (n + 1) (entry_judged l e j)
-entry_within l (Reset r) n j h = record { reads = omega (arith, h.reads); made = omega (arith, h.made); unmade = omega (arith, h.unmade); shown = omega (arith, h.shown); resets = omega (arith, h.resets) }
+entry_within l (Reset r) n j h = record {
+  reads = omega (arith, h.reads);
+  made = omega (arith, h.made);
+  unmade = omega (arith, h.unmade);
+  shown = omega (arith, h.shown);
+  resets = omega (arith, h.resets);
+}
 entry_within l (Async p) n j h = packet_within l (looked_packet p) n j h
 entry_within l (Iso p) n j h = within_more n j h
 entry_within l (Event e) n j h = within_more n j h

@@ -4,7 +4,7 @@ use Rattle.fw_entry.specs.declared.entry.ResetEntry.{ResetEntry}
 use Rattle.fw_account.specs.Account.{Account}
 use Rattle.fw_ledger.specs.Stands.{StandsFor, ShowsReset}
 use Rattle.fw_ledger.specs.declared.tables.Tables.{Tables}
-use Rattle.fw_holders.specs.Names.{nodes_of}
+use Rattle.fw_who.specs.Names.{nodes_of}
 
 -- the nodes
 pub nodes_shown : (t : Tables) (l : Account) → StandsFor t l → t.nodes ≡ nodes_of l.latest

@@ -35,7 +35,8 @@ judged_push entries t l at =
     ∙ ap (λ o. next_judged o t.what (judged_of entries)) at
 
 -- the line of an entry after others
-pub line_push : (entries : List Timed) (t : Timed) (l m : Account) → account_of (entries_of entries) ≡ Some l → next_of (Some l) t.what ≡ Some m → line_of t.cycle (told l t.what) (Some m) ≡ holders entries (t ∷ [])
+pub line_push : (entries : List Timed) (t : Timed) (l m : Account) → account_of (entries_of entries) ≡ Some l → next_of (Some l) t.what ≡ Some m
+    → line_of t.cycle (told l t.what) (Some m) ≡ holders entries (t ∷ [])
 line_push entries t l m at next =
     ap (λ o. line_of t.cycle (told l t.what) o) (sym next)
     ∙ ap (λ o. entry_line o t) (sym at)
@@ -64,7 +65,8 @@ holds_push entries t old new few h m =
       is_account = ap account_of es ∙ account_push (entries_of entries) t.what h.account h.is_account ∙ m.follows;
       stands = m.stands;
       judged = counts ∙ ap (λ j. entry_judged h.account t.what j) h.judged ∙ sym (judged_push entries t h.account h.is_account);
-      within = subst (λ n. IsWithin n new.judged) (sym (length-append entries (t ∷ []))) (subst (λ j. IsWithin (length entries + 1) j) (sym counts) (entry_within h.account t.what (length entries) old.judged h.within));
+      within = subst (λ n. IsWithin n new.judged) (sym (length-append entries (t ∷ []))) (subst (λ j. IsWithin (length entries + 1) j) (sym counts) (entry_within h.account t.what
+          (length entries) old.judged h.within));
     }
   where
     taken : Audit
@@ -78,13 +80,15 @@ pub text_push : (entries : List Timed) (t : Timed) (old new : Room) → (h : Hol
 text_push entries t old new h m = m.text ∙ ap (λ x. old.text ++ x) (line_push entries t h.account m.account h.is_account m.follows)
 
 -- what a call says that takes it
-pub takes_holds : {E : Type 0} (entries : List Timed) (t : Timed) (old new : Room) (r : Result (Option AuditFault) E) → length entries + 1 < 2 ^ 64 → (h : Holds entries old) → IfOk r (Takes h.account t old new)
+pub takes_holds : {E : Type 0} (entries : List Timed) (t : Timed) (old new : Room) (r : Result (Option AuditFault) E) → length entries + 1 < 2 ^ 64 → (h : Holds entries old)
+    → IfOk r (Takes h.account t old new)
     → IfOk r (λ f. f ≡ None → Holds (entries ++ t ∷ []) new × (new.text ≡ old.text ++ holders entries (t ∷ [])))
 takes_holds entries t old new (Ok None) few h m = λ none. (holds_push entries t old new few h m, text_push entries t old new h m)
 takes_holds entries t old new (Ok (Some f)) few h m = λ none. let z : ⊥ = cc in absurd z
 takes_holds entries t old new (Err e) few h m = m
 
-pub takes_faulty : {E : Type 0} (entries : List Timed) (t : Timed) (old new : Room) (r : Result (Option AuditFault) E) (fault : AuditFault) → (h : Holds entries old) → IfOk r (Takes h.account t old new)
+pub takes_faulty : {E : Type 0} (entries : List Timed) (t : Timed) (old new : Room) (r : Result (Option AuditFault) E) (fault : AuditFault) → (h : Holds entries old)
+    → IfOk r (Takes h.account t old new)
     → IfOk r (λ f. f ≡ Some fault → EndsFaulty (entries_of (entries ++ t ∷ [])) fault × (new.text ≡ old.text))
 takes_faulty entries t old new (Ok None) fault h m = λ some. let z : ⊥ = cc in absurd z
 takes_faulty entries t old new (Ok (Some f)) fault h m = λ some.

@@ -16,7 +16,7 @@ use Rattle.fw_account.specs.Words.{Register, BandwidthAvailable, ChannelsAvailab
 use Rattle.fw_ledger.proofs.PlugSwaps.{output_shows, input_shows, connected_is}
 use Rattle.fw_holders.specs.declared.deed.Deed.{Deed}
 use Rattle.fw_holders.specs.declared.deed.Deed.TheVariants.{TakesChannel, TakesUnits, GivesUnits, GivesChannel}
-use Rattle.fw_holders.specs.declared.names.Side.TheVariants.{Output, Input}
+use Rattle.fw_who.specs.declared.names.Side.TheVariants.{Output, Input}
 use Rattle.fw_holders.specs.Moves.{deed_of}
 use Rattle.fw_holders.specs.Found.{units_deed, channel_deed, connection_deed, word_deed}
 
@@ -63,7 +63,8 @@ units_told l p a n ch = by (nat_lt n a)
     by true = refl
     by false = refl
 
-bandwidth_told : (l : Account) (a n : ℕ) (held : Option ℕ) (plug : Option PlugAt) (m : PlugAt × Move) → bandwidth_move held a n plug ≡ Some m → Some (units_deed a n) ≡ deed_in l (bandwidth_move held a n plug)
+bandwidth_told : (l : Account) (a n : ℕ) (held : Option ℕ) (plug : Option PlugAt) (m : PlugAt × Move) → bandwidth_move held a n plug ≡ Some m
+    → Some (units_deed a n) ≡ deed_in l (bandwidth_move held a n plug)
 bandwidth_told l a n None plug m e = let z : ⊥ = cc in absurd z
 bandwidth_told l a n (Some ch) None m e = let z : ⊥ = cc in absurd z
 bandwidth_told l a n (Some ch) (Some p) m e = ap Some (units_told l p a n ch)
@@ -77,7 +78,8 @@ channel_told l c base a None m e = let z : ⊥ = cc in absurd z
 channel_told l c base a (Some i) m e = by (field a i i == 1) e
   where
     by : (b : Bool) → cond b (at_addressed (l.addressed c) (AllocateChannel (base + i))) (at_addressed (held_for (l.allocations (base + i))) (ReleaseChannel (base + i))) ≡ Some m
-        → cond b (Some (TakesChannel (base + i))) (Some (GivesChannel (base + i))) ≡ deed_in l (cond b (at_addressed (l.addressed c) (AllocateChannel (base + i))) (at_addressed (held_for (l.allocations (base + i))) (ReleaseChannel (base + i))))
+        → cond b (Some (TakesChannel (base + i))) (Some (GivesChannel (base + i))) ≡ deed_in l (cond b (at_addressed (l.addressed c) (AllocateChannel (base + i))) (at_addressed
+        (held_for (l.allocations (base + i))) (ReleaseChannel (base + i))))
     by true f = at_told l (l.addressed c) (AllocateChannel (base + i)) _ m (λ p. refl) f
     by false f = at_told l (held_for (l.allocations (base + i))) (ReleaseChannel (base + i)) _ m (λ p. refl) f
 

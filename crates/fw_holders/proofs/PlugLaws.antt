@@ -12,8 +12,8 @@ use Rattle.fw_account.proofs.Decoded.{output_of_word, input_of_word}
 use Rattle.fw_ledger.specs.Stands.{StandsFor, SeatsFor, owner_of, word_at}
 use Rattle.fw_ledger.specs.declared.tables.Seats.{Seats}
 use Rattle.fw_ledger.specs.declared.tables.Tables.{Tables}
-use Rattle.fw_holders.specs.declared.names.Side.{Side}
-use Rattle.fw_holders.specs.Names.{who, plug_text}
+use Rattle.fw_who.specs.declared.names.Side.{Side}
+use Rattle.fw_who.specs.Names.{who, plug_text}
 use Rattle.fw_holders.specs.Table.{with_count, counts_below, with_broadcast, owners_text, plug_line, lines_below, plug_lines, output_line, input_line}
 
 pub no_counts : (nodes : List NodeRow) (counts : ℕ → ℕ) → counts_below 0 nodes counts ≡ []
@@ -58,7 +58,8 @@ pub counts_same : (n : ℕ) (nodes : List NodeRow) (f g : ℕ → ℕ) → ((k :
 unfolding counts_below
 counts_same zero nodes f g same = refl
 counts_same (suc n) nodes f g same =
-    ap (λ (x : List ℕ). with_count (f n) (who nodes n) x) (counts_same n nodes f g (λ k lt. same k (omega arith))) ∙ ap (λ m. with_count m (who nodes n) (counts_below n nodes g)) (same n (omega arith))
+    ap (λ (x : List ℕ). with_count (f n) (who nodes n) x) (counts_same n nodes f g (λ k lt. same k (omega arith)))
+    ∙ ap (λ m. with_count m (who nodes n) (counts_below n nodes g)) (same n (omega arith))
 
 -- whose the connections are that seats have
 pub owners_same : (nodes : List NodeRow) (x : Seats) (s : Connections) (dead : ℕ) → SeatsFor x s → dead ≡ s.orphaned

@@ -19,7 +19,7 @@ use Rattle.fw_holders.specs.Counts.{shows}
 use Rattle.fw_holders.specs.Deeds.{move_told, swap_told, answer_told, reply_told, response_told, packet_told}
 use Rattle.fw_holders.specs.Found.{word_deed, swap_deed, operation_deed, answer_deed, HasReply}
 use Rattle.fw_holders.specs.Moves.{done_text}
-use Rattle.fw_holders.specs.Names.{nodes_of}
+use Rattle.fw_who.specs.Names.{nodes_of}
 use Rattle.fw_holders.proofs.MoveLaws.{IsIn, word_deed_is}
 
 -- what stays of an account, and what is told of a response
@@ -84,7 +84,8 @@ moves l k c v a n s there e = by (move_at l c v a n) refl e
           reclaiming = ap (λ (x : Account). x.reclaiming) (sym same) ∙ after_reclaiming c m.0 m.1 l;
         }
 
-swaps : (l k : Account) (c : ℕ) (o : Option Register) (a n : ℕ) → IsSound l → ((v : Register) → o ≡ Some v → IsIn l v) → swapped c o a n l ≡ Some k → Tells l k c (swap_told l c o a n) (swap_deed o a n)
+swaps : (l k : Account) (c : ℕ) (o : Option Register) (a n : ℕ) → IsSound l → ((v : Register) → o ≡ Some v → IsIn l v) → swapped c o a n l ≡ Some k
+    → Tells l k c (swap_told l c o a n) (swap_deed o a n)
 swaps l k c None a n s there e = quiet l k c e
 swaps l k c (Some v) a n s there e = moves l k c v a n s (there v refl) e
 
@@ -98,7 +99,8 @@ and_more false d e = refl
 
 same_test : (f rc : ℕ) (bytes old : List ℕ) → (is_quadlet_swap f bytes && (rc == 0) && shows (quadlet_in old) (quadlet_at bytes 0)) ≡ is_swapped f bytes rc old
 same_test f rc bytes old =
-    ap (λ b. (is_quadlet_swap f bytes && (rc == 0)) && b) (shows_in (length old == 4) (quadlet_at old 0) (quadlet_at bytes 0)) ∙ and_more (is_quadlet_swap f bytes && (rc == 0)) (length old == 4) (quadlet_at old 0 == quadlet_at bytes 0)
+    ap (λ b. (is_quadlet_swap f bytes && (rc == 0)) && b) (shows_in (length old == 4) (quadlet_at old 0) (quadlet_at bytes 0))
+    ∙ and_more (is_quadlet_swap f bytes && (rc == 0)) (length old == 4) (quadlet_at old 0 == quadlet_at bytes 0)
 
 replies : (l k : Account) (c : ℕ) (q : Request) (op : Operation) (reply : Reply) (rcode : ℕ) (word : Option ℕ) → IsSound l → is_reply_to op reply ≡ true → HasReply reply rcode word
     → replied c q op reply l ≡ Some k → Tells l k c (answer_told l c q op reply) (operation_deed l.latest q op rcode word)
@@ -112,22 +114,26 @@ replies l k c q (Locks f bytes) (Locked g rc old) rcode word s kind is e =
     rw (sym is.0, is.1, same_test f rc bytes old) (by (is_swapped f bytes rc old) e)
   where
     by : (b : Bool) → cond b (swapped c (register_of l.latest q.target q.address) (quadlet_at bytes 0) (quadlet_at bytes 4) l) (Some (ended c l)) ≡ Some k
-        → Tells l k c (cond b (swap_told l c (register_of l.latest q.target q.address) (quadlet_at bytes 0) (quadlet_at bytes 4)) None) (cond b (swap_deed (register_of l.latest q.target q.address) (quadlet_at bytes 0) (quadlet_at bytes 4)) None)
+        → Tells l k c (cond b (swap_told l c (register_of l.latest q.target q.address) (quadlet_at bytes 0) (quadlet_at bytes 4)) None) (cond b (swap_deed
+        (register_of l.latest q.target q.address) (quadlet_at bytes 0) (quadlet_at bytes 4)) None)
     by true x = swaps l k c _ _ _ s (λ v at. is_in l q.target q.address v at) x
     by false x = quiet l k c x
 
 -- what a response tells
-pub response_tells : (l k : Account) (r : Response) (a : Answer) → IsSound l → HasReply r.reply r.rcode r.word → (h : IsAnswered l r a) → answered (device_of_id l.latest r.requester) r.responder r.reply l ≡ Some k
+pub response_tells : (l k : Account) (r : Response) (a : Answer) → IsSound l → HasReply r.reply r.rcode r.word → (h : IsAnswered l r a)
+    → answered (device_of_id l.latest r.requester) r.responder r.reply l ≡ Some k
     → Tells l k h.answer.controller (packet_told l (Replies r)) (answer_deed l.latest h.request a.rcode a.shown)
 response_tells l k r a s is h e =
     let c = h.answer.controller in
     let q = h.request in
     let f : answered (Some c) r.responder r.reply l ≡ Some k = ap (λ o. answered o r.responder r.reply l) (sym h.answer.device) ∙ e in
     let g : replied_to c (Some q) r.responder r.reply l ≡ Some k = ap (λ o. replied_to c o r.responder r.reply l) (sym h.answer.outstanding) ∙ f in
-    let x : Tells l k c (answer_told l c q q.operation r.reply) (operation_deed l.latest q q.operation r.rcode r.word) = replies l k c q q.operation r.reply r.rcode r.word s h.answer.kind is (taken _ _ k g) in
+    let x : Tells l k c (answer_told l c q q.operation r.reply) (operation_deed l.latest q q.operation r.rcode r.word) =
+    replies l k c q q.operation r.reply r.rcode r.word s h.answer.kind is (taken _ _ k g) in
     let told : packet_told l (Replies r) ≡ answer_told l c q q.operation r.reply = ap (λ o. response_told l o r.reply) h.answer.device ∙ ap (λ o. reply_told l c o r.reply) h.answer.outstanding in
     record {
-      text = told ∙ x.text ∙ ap (λ (o : Option ℕ). option_map (done_text (nodes_of l.latest) l.reclaiming c) (operation_deed l.latest q q.operation r.rcode o)) (sym h.shown) ∙ ap (λ n. option_map (done_text (nodes_of l.latest) l.reclaiming c) (operation_deed l.latest q q.operation n a.shown)) (sym h.rcode);
+      text = told ∙ x.text ∙ ap (λ (o : Option ℕ). option_map (done_text (nodes_of l.latest) l.reclaiming c) (operation_deed l.latest q q.operation r.rcode o)) (sym h.shown)
+          ∙ ap (λ n. option_map (done_text (nodes_of l.latest) l.reclaiming c) (operation_deed l.latest q q.operation n a.shown)) (sym h.rcode);
       latest = x.latest;
       reclaiming = x.reclaiming;
     }

@@ -78,7 +78,8 @@ packet_answers l k (LockReply h rcode function bytes) a is next = by (h.tl == la
     r : Response
     r = record { requester = h.destination; responder = h.source; rcode = rcode; reply = Locked function rcode bytes; word = quadlet_in bytes }
 
-    by : (b : Bool) → (h.tl == label_code Procedure) ≡ b → ShowsAnswer l (cond b (Replies r) Other) (Some a) → cond b (answered (device_of_id l.latest h.destination) h.source (Locked function rcode bytes) l) (Some l) ≡ Some k
+    by : (b : Bool) → (h.tl == label_code Procedure) ≡ b → ShowsAnswer l (cond b (Replies r) Other) (Some a)
+        → cond b (answered (device_of_id l.latest h.destination) h.source (Locked function rcode bytes) l) (Some l) ≡ Some k
         → IsResponse l k (Async (LockReply h rcode function bytes)) a
     by true t s n = record { response = r; told = ap (λ b. packet_told l (cond b (Replies r) Other)) t; reply = (refl, refl); answered = n; is = same_answer l r a s }
     by false t s n = not_answer a s

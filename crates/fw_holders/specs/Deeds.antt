@@ -16,7 +16,7 @@ use Rattle.fw_account.specs.Moves.{Move}
 use Rattle.fw_account.specs.Packets.{Reply, Read, Locked, is_swapped}
 use Rattle.fw_account.specs.Words.{Register, register_of}
 use Rattle.fw_faults.specs.Looked.{Looked, Replies, looked_packet}
-use Rattle.fw_holders.specs.Names.{nodes_of, count_text, who}
+use Rattle.fw_who.specs.Names.{nodes_of, count_text, who}
 use Rattle.fw_holders.specs.Moves.{deed_of, done_text}
 
 -- ---- bus resets

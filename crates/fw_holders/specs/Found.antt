@@ -11,8 +11,8 @@ use Rattle.fw_account.specs.Packets.{Reply, Read, Locked, is_quadlet_swap}
 use Rattle.fw_account.specs.Words.{Register, BandwidthAvailable, ChannelsAvailable, OutputPlug, InputPlug, register_of}
 use Rattle.fw_holders.specs.declared.deed.Deed.{Deed}
 use Rattle.fw_holders.specs.declared.deed.Deed.TheVariants.{TakesChannel, TakesUnits, GivesUnits, GivesChannel, Connects, Adds, Leaves}
-use Rattle.fw_holders.specs.declared.names.Side.{Side}
-use Rattle.fw_holders.specs.declared.names.Side.TheVariants.{Output, Input}
+use Rattle.fw_who.specs.declared.names.Side.{Side}
+use Rattle.fw_who.specs.declared.names.Side.TheVariants.{Output, Input}
 use Rattle.fw_faults.specs.Looked.{quadlet_in}
 use Rattle.fw_holders.specs.Counts.{shows}
 
@@ -34,9 +34,11 @@ abbrev pub word_deed : Register → ℕ → ℕ → Option Deed
 word_deed BandwidthAvailable arg new = Some (units_deed arg new)
 word_deed (ChannelsAvailable base) arg new = channel_deed base arg (changed_bit arg new)
 word_deed (OutputPlug p) arg new =
-    Some (connection_deed Output p (kind_of (out_fields arg).broadcast (out_fields new).broadcast) (is_more (out_fields arg).broadcast (out_fields arg).counter (out_fields new).broadcast (out_fields new).counter) (is_connected arg))
+    Some (connection_deed Output p (kind_of (out_fields arg).broadcast (out_fields new).broadcast) (is_more (out_fields arg).broadcast (out_fields arg).counter
+    (out_fields new).broadcast (out_fields new).counter) (is_connected arg))
 word_deed (InputPlug p) arg new =
-    Some (connection_deed Input p (kind_of (in_fields arg).broadcast (in_fields new).broadcast) (is_more (in_fields arg).broadcast (in_fields arg).counter (in_fields new).broadcast (in_fields new).counter) (is_connected arg))
+    Some (connection_deed Input p (kind_of (in_fields arg).broadcast (in_fields new).broadcast) (is_more (in_fields arg).broadcast (in_fields arg).counter (in_fields new).broadcast
+    (in_fields new).counter) (is_connected arg))
 
 -- at a register of the account, or elsewhere
 abbrev pub swap_deed : Option Register → ℕ → ℕ → Option Deed

@@ -6,7 +6,7 @@ use Rattle.fw_account.specs.Account.{Holder, Pending, Connected, Orphaned, Alloc
 use Rattle.fw_holders.specs.declared.holding.How.{How}
 use Rattle.fw_holders.specs.declared.holding.How.TheVariants.{Pending as IsPending, Connected as IsConnected, Orphaned as IsOrphaned, Continues, Reclaimable}
 use Rattle.fw_holders.specs.declared.holding.Holding.{Holding}
-use Rattle.fw_holders.specs.Names.{nodes_of, who}
+use Rattle.fw_who.specs.Names.{nodes_of, who}
 
 -- how an allocated channel is held
 abbrev pub how_allocated : Holder → How

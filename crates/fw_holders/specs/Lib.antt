@@ -1,4 +1,3 @@
-pub mod Names
 pub mod Held
 pub mod Moves
 pub mod Deeds

@@ -8,8 +8,8 @@ use Rattle.fw_account.specs.Account.{Account, has_connection}
 use Rattle.fw_account.specs.Moves.{Move, AllocateChannel, AllocateUnits, ConnectFirst, ConnectOverlaid, ConnectInput, DisconnectInput, DisconnectOutput, ReleaseUnits, ReleaseChannel}
 use Rattle.fw_holders.specs.declared.deed.Deed.{Deed}
 use Rattle.fw_holders.specs.declared.deed.Deed.TheVariants.{TakesChannel, TakesUnits, GivesUnits, GivesChannel, Connects, Adds, Leaves}
-use Rattle.fw_holders.specs.declared.names.Side.TheVariants.{Output, Input}
-use Rattle.fw_holders.specs.Names.{count_text, who, plug_text}
+use Rattle.fw_who.specs.declared.names.Side.TheVariants.{Output, Input}
+use Rattle.fw_who.specs.Names.{count_text, who, plug_text}
 
 -- what a move does at plug p, over the account before it
 abbrev pub deed_of : Account → PlugAt → Move → Deed

@@ -8,10 +8,10 @@ use Rattle.fw_holders.specs.declared.holding.How.{How}
 use Rattle.fw_holders.specs.declared.holding.How.TheVariants.{Pending, Connected, Orphaned, Continues, Reclaimable}
 use Rattle.fw_holders.specs.declared.holding.Holding.{Holding}
 use Rattle.fw_holders.specs.declared.judged.Judged.{Judged}
-use Rattle.fw_holders.specs.declared.names.Side.{Side}
-use Rattle.fw_holders.specs.declared.names.Side.TheVariants.{Output, Input}
+use Rattle.fw_who.specs.declared.names.Side.{Side}
+use Rattle.fw_who.specs.declared.names.Side.TheVariants.{Output, Input}
 use Rattle.fw_holders.specs.Held.{holding}
-use Rattle.fw_holders.specs.Names.{nodes_of, count_text, who, plug_text}
+use Rattle.fw_who.specs.Names.{nodes_of, count_text, who, plug_text}
 
 -- ---- channels
 
@@ -52,7 +52,7 @@ unfoldable pub comma : List ℕ → List ℕ
 comma [] = []
 comma (c ∷ cs) = codes ", "
 
--- so many point-to-point connections of one, behind others
+-- so many point-to-point connections of one, after others
 unfoldable pub with_count : ℕ → List ℕ → List ℕ → List ℕ
 with_count n owner before = if n == 0 then before else before ++ comma before ++ decimal n ++ codes " point-to-point of " ++ owner
 
@@ -61,7 +61,7 @@ unfoldable pub counts_below : ℕ → List NodeRow → (ℕ → ℕ) → List �
 counts_below zero nodes counts = []
 counts_below (suc n) nodes counts = with_count (counts n) (who nodes n) (counts_below n nodes counts)
 
--- the broadcast connection, behind others
+-- the broadcast connection, after others
 unfoldable pub with_broadcast : List NodeRow → Option Owner → List ℕ → List ℕ
 with_broadcast nodes None before = before
 with_broadcast nodes (Some (Of c)) before = before ++ comma before ++ codes "broadcast of " ++ who nodes c

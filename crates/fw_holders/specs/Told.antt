@@ -14,7 +14,7 @@ use Rattle.fw_ledger.specs.declared.tables.Tables.{Tables}
 use Rattle.fw_holders.specs.declared.judged.Judged.{Judged}
 use Rattle.fw_holders.specs.Counts.{entry_judged, judged_of, IsWithin}
 use Rattle.fw_holders.specs.Table.{table_text}
-use Rattle.fw_holders.specs.Names.{left, right}
+use Rattle.fw_who.specs.Names.{left, right}
 use Rattle.fw_holders.specs.Held.{held_text}
 use Rattle.fw_holders.specs.Deeds.{told}
 
@@ -36,7 +36,7 @@ abbrev pub entry_line : Option Account → Timed → List ℕ
 entry_line None t = []
 entry_line (Some l) t = line_of t.cycle (told l t.what) (next_of (Some l) t.what)
 
--- the lines of entries behind others
+-- the lines of entries after others
 abbrev pub holders : List Timed → List Timed → List ℕ
 holders before [] = []
 holders before (t ∷ rest) = entry_line (account_of (entries_of before)) t ++ holders (before ++ t ∷ []) rest

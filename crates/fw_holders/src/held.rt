@@ -6,10 +6,10 @@ ghost use Rattle.fw_ledger.specs.Stands.{Stands, StandsFor};
 ghost use Rattle.fw_holders.specs.Held.{how_text, units_text, holding_text, separator, with_holding, held_text};
 
 use crate::holding::{Holding, How, held_on};
-use crate::names::put_who;
 use fw_entry::NodeRow;
 use fw_ledger::Tables;
 use fw_names::{put_number, put_word};
+use fw_who::put_who;
 use std::alloc::AllocError;
 
 // Appends how a channel is held, if its plug is not connected.

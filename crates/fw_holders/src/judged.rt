@@ -70,7 +70,8 @@ impl Judged {
 
     // A complete answer more at a watched register.
     fn take_complete(&mut self, asked: Asked, shown: Option<u32>)
-        ensures { (q : Request) (n : ℕ) → AskedFor asked (Some q) → n + 1 < 2 ^ 64 → IsWithin n self.old → self.new ≡ (if is_some (watched_offset q.address) then operation_judged q.operation shown self.old else self.old) }
+        ensures { (q : Request) (n : ℕ) → AskedFor asked (Some q) → n + 1 < 2 ^ 64 → IsWithin n self.old
+            → self.new ≡ (if is_some (watched_offset q.address) then operation_judged q.operation shown self.old else self.old) }
     {
         match asked {
             Asked::Read { address, .. } if watched_offset(address).is_some() => self.take_read(),

@@ -10,7 +10,6 @@ mod holding;
 mod judged;
 mod lines;
 mod moves;
-mod names;
 mod owners;
 mod place;
 mod plugs;

@@ -10,10 +10,10 @@ ghost use Rattle.fw_holders.specs.Counts.{shows};
 ghost use Rattle.fw_holders.specs.Found.{units_deed, channel_deed, connection_deed, word_deed, answer_deed};
 
 use crate::deed::Deed;
-use crate::names::Side;
 use fw_base::{ConnectionKind, PlugAt};
 use fw_ledger::{Answer, Asked, Register, Tables};
 use fw_plug::{InWord, OutWord};
+use fw_who::Side;
 use fw_words::{Quadlet, Swap};
 
 // Units that are taken or given back.

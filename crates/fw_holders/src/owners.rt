@@ -3,13 +3,13 @@
 ghost use Rattle.std.specs.Prelude.{◌≡◌, ◌++◌, List, ℕ, OnOk, codes, length, slice_index};
 ghost use Rattle.fw_account.specs.Account.{Connections, counter as connections};
 ghost use Rattle.fw_ledger.specs.Stands.{SeatsFor, owner_of};
-ghost use Rattle.fw_holders.specs.Names.{who};
+ghost use Rattle.fw_who.specs.Names.{who};
 ghost use Rattle.fw_holders.specs.Table.{comma, with_count, counts_below, with_broadcast, owners_text};
 
-use crate::names::put_who;
 use fw_entry::NodeRow;
 use fw_ledger::{Broadcaster, Seats};
 use fw_names::{put_number, put_word};
+use fw_who::put_who;
 use std::alloc::AllocError;
 
 // Appends what stands between one who has a connection and the next, if the first stands at this byte.

@@ -3,10 +3,9 @@
 ghost use Rattle.std.specs.Prelude.{◌≡◌, ◌++◌, OnOk, codes, decimal, IsTrue};
 ghost use Rattle.fw_account.specs.Account.{Account, Connections, has_connection, counter as connections};
 ghost use Rattle.fw_ledger.specs.Stands.{Stands, StandsFor, SeatsFor};
-ghost use Rattle.fw_holders.specs.Names.{plug_text};
+ghost use Rattle.fw_who.specs.Names.{plug_text};
 ghost use Rattle.fw_holders.specs.Table.{plug_line, output_line, input_line, lines_below, plug_lines};
 
-use crate::names::{Side, put_plug};
 use crate::owners::put_owners;
 use crate::place::{has_plug, seats_at, word_at};
 use fw_base::PlugAt;
@@ -14,6 +13,7 @@ use fw_entry::NodeRow;
 use fw_ledger::{Seats, Tables};
 use fw_names::{put_number, put_word};
 use fw_plug::{InWord, OutWord};
+use fw_who::{Side, put_plug};
 use std::alloc::AllocError;
 
 // Appends the beginning of a plug's line.
@@ -41,7 +41,8 @@ fn put_line(
     seats: &Seats,
     counter: u8,
 ) -> Result<(), AllocError>
-    ensures { (s : Connections) → SeatsFor seats.now s → counter ≡ connections s → IsTrue (has_connection s) → OnOk result (text.new.items ≡ text.old.items ++ plug_line nodes.now plug.0 plug.1 channel s) }
+    ensures { (s : Connections) → SeatsFor seats.now s → counter ≡ connections s → IsTrue (has_connection s)
+        → OnOk result (text.new.items ≡ text.old.items ++ plug_line nodes.now plug.0 plug.1 channel s) }
 {
     put_heading(text, nodes, plug, channel)?;
     put_owners(text, nodes, seats, counter)?;

@@ -7,11 +7,11 @@ ghost use Rattle.fw_holders.specs.Table.{how_word, units_words, by_text, channel
 
 use crate::holding::{Holding, How, held_on};
 use crate::judged::Judged;
-use crate::names::{Side, put_count, put_plug, put_who};
 use crate::plugs::put_plugs;
 use fw_entry::NodeRow;
 use fw_ledger::Tables;
 use fw_names::{put_number, put_word};
+use fw_who::{Side, put_count, put_plug, put_who};
 use std::alloc::AllocError;
 
 // Appends how a channel is held.

@@ -10,7 +10,7 @@ use Rattle.fw_account.specs.Sound.{IsSound}
 use Rattle.fw_account.specs.Words.{BandwidthAvailable, word_of}
 use Rattle.fw_holders.specs.Counts.{judged_of}
 use Rattle.fw_holders.specs.Held.{holding, holding_of, unallocated, allocated}
-use Rattle.fw_holders.specs.Names.{nodes_of, plug_text, side_text}
+use Rattle.fw_who.specs.Names.{nodes_of, plug_text, side_text}
 use Rattle.fw_holders.specs.Table.{by_text, channel_line, channel_lines, how_word, judged_line, left_line, plug_lines, table_text, units_words}
 use Rattle.fw_holders.specs.Told.{table_by, table_of}
 use Rattle.fw_holders_laws.specs.Channels.{account_lines, allocated_line, flow_line, line_with, output_name}

@@ -10,7 +10,7 @@ use Rattle.fw_account.specs.Network.{is_input, is_input_of}
 use Rattle.fw_account.specs.Sound.{IsSound}
 use Rattle.fw_account.proofs.Network.{any_place, output_in_range}
 use Rattle.fw_holders.proofs.PlugLaws.{plug_line_is}
-use Rattle.fw_holders.specs.Names.{nodes_of}
+use Rattle.fw_who.specs.Names.{nodes_of}
 use Rattle.fw_holders.specs.Table.{input_line, output_line, plug_line}
 use Rattle.fw_holders_laws.proofs.Lines.{some_begin}
 

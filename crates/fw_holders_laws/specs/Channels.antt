@@ -3,7 +3,7 @@ use Rattle.std.specs.Prelude.{ℕ, zero, suc, Bool, List, [], ◌++◌, Option, 
 use Rattle.fw_base.specs.declared.plug.PlugAt.{PlugAt}
 use Rattle.fw_entry.specs.declared.nodes.NodeRow.{NodeRow}
 use Rattle.fw_account.specs.Account.{Account, Allocation, Flow, Holder, Pending, Connected, Orphaned, plug_of}
-use Rattle.fw_holders.specs.Names.{nodes_of, who}
+use Rattle.fw_who.specs.Names.{nodes_of, who}
 use Rattle.fw_holders.specs.Table.{units_words}
 
 -- how a holder has its channel

@@ -7,7 +7,7 @@ use Rattle.fw_account.specs.Moves.{Move, after}
 use Rattle.fw_account.specs.Packets.{ended}
 use Rattle.fw_account.specs.Words.{Register}
 use Rattle.fw_holders.specs.Moves.{deed_of, done_text}
-use Rattle.fw_holders.specs.Names.{nodes_of}
+use Rattle.fw_who.specs.Names.{nodes_of}
 
 -- a move was made, which makes the one account of the other, and this text is that of its controller and of it
 pub record IsMoveTold (l k : Account) (what : List ℕ) : Type 0 where

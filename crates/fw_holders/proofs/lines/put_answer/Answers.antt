@@ -9,7 +9,7 @@ use Rattle.fw_holders.specs.declared.deed.Deed.{Deed}
 use Rattle.fw_holders.specs.Deeds.{packet_told}
 use Rattle.fw_holders.specs.Found.{answer_deed}
 use Rattle.fw_holders.specs.Moves.{done_text}
-use Rattle.fw_holders.specs.Names.{nodes_of}
+use Rattle.fw_who.specs.Names.{nodes_of}
 use Rattle.fw_holders.specs.Told.{line_of}
 use Rattle.fw_holders.proofs.ReplyLaws.{response_tells}
 use Rattle.fw_holders.proofs.lines.put_answer.Goals as goal

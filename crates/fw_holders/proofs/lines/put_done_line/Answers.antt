@@ -1,6 +1,6 @@
 use Rattle.std.proofs.Common.{◌≡◌, ◌++◌, ◌∙◌, ap, List, ℕ, Bool, codes, decimal, length}
 use Rattle.fw_entry.specs.declared.nodes.NodeRow.{NodeRow}
-use Rattle.fw_holders.specs.Names.{nodes_of, right}
+use Rattle.fw_who.specs.Names.{nodes_of, right}
 use Rattle.fw_holders.specs.Moves.{done_text}
 use Rattle.fw_holders.specs.Told.{rest_of_line, line}
 use Rattle.fw_holders.proofs.HoldingLaws.{nodes_shown}

@@ -1,6 +1,6 @@
 use Rattle.std.proofs.Common.{◌≡◌, ◌++◌, ◌∙◌, ap, List, ℕ, codes, decimal}
 use Rattle.fw_account.specs.Account.{remainder}
-use Rattle.fw_holders.specs.Names.{left, right}
+use Rattle.fw_who.specs.Names.{left, right}
 use Rattle.fw_holders.specs.Held.{held_text}
 use Rattle.fw_holders.specs.Told.{rest_of_line}
 use Rattle.fw_holders.proofs.TextLaws.{both_put, then_put}
@@ -11,9 +11,13 @@ unfolding rest_of_line
 returns c = λ before what l e size h.
     let a : List ℕ = left 40 what ++ codes " " in
     let units : List ℕ = right 4 (decimal (remainder l)) in
-    let t1 : c.put_word.new.text.items ≡ before ++ a = both_put before c.fill.new.text.items c.put_word.new.text.items (left 40 what) (codes " ") (c.in_ok-fill.ensures before what e size) c.in_ok-put_word.ensures in
-    let number : c.put_right.new.text.items ≡ c.put_word.new.text.items ++ units = c.in_ok-put_right.ensures ∙ ap (λ n. c.put_word.new.text.items ++ right 4 (decimal n)) (c.from.ensures ∙ h.resources.left) in
+    let t1 : c.put_word.new.text.items ≡ before ++ a = both_put before c.fill.new.text.items c.put_word.new.text.items (left 40 what) (codes " ")
+    (c.in_ok-fill.ensures before what e size) c.in_ok-put_word.ensures in
+    let number : c.put_right.new.text.items ≡ c.put_word.new.text.items ++ units = c.in_ok-put_right.ensures ∙ ap (λ n. c.put_word.new.text.items ++ right 4 (decimal n)) (c.from.ensures
+    ∙ h.resources.left) in
     let t2 : c.put_right.new.text.items ≡ before ++ (a ++ units) = both_put before c.put_word.new.text.items c.put_right.new.text.items a units t1 number in
-    let t3 : c.put_word-2.new.text.items ≡ before ++ (a ++ units ++ codes " left") = both_put before c.put_right.new.text.items c.put_word-2.new.text.items (a ++ units) (codes " left") t2 c.in_ok-put_word-2.ensures in
-    let t4 : c.put_held.new.text.items ≡ before ++ (a ++ units ++ codes " left" ++ held_text l) = both_put before c.put_word-2.new.text.items c.put_held.new.text.items (a ++ units ++ codes " left") (held_text l) t3 (c.in_ok-put_held.ensures l h) in
+    let t3 : c.put_word-2.new.text.items ≡ before ++ (a ++ units ++ codes " left") =
+    both_put before c.put_right.new.text.items c.put_word-2.new.text.items (a ++ units) (codes " left") t2 c.in_ok-put_word-2.ensures in
+    let t4 : c.put_held.new.text.items ≡ before ++ (a ++ units ++ codes " left" ++ held_text l) =
+    both_put before c.put_word-2.new.text.items c.put_held.new.text.items (a ++ units ++ codes " left") (held_text l) t3 (c.in_ok-put_held.ensures l h) in
     then_put c.put_word-3.result before c.put_held.new.text.items c.put_word-3.new.text.items (a ++ units ++ codes " left" ++ held_text l) (codes "\n") t4 c.put_word-3.ensures

@@ -11,7 +11,8 @@ pub loop-i-preserved : goal.loop-i-preserved
 loop-i-preserved c = find_more c.loop-i.i (λ j. not (field c.args.argument j j == field c.args.new j j)) c.loop-i.invariant (grind (arith, nat_tests, c.field.ensures, c.field-in-loop-i.ensures))
 
 pub returns-then-field-clause-first : goal.returns-then-field-clause-first
-returns-then-field-clause-first c = sym (find_here 32 c.loop-i.i (λ j. not (field c.args.argument j j == field c.args.new j j)) c.loop-i.invariant (grind (arith, nat_tests, c.field.ensures, c.field-in-loop-i.ensures)) (omega arith))
+returns-then-field-clause-first c = sym (find_here 32 c.loop-i.i (λ j. not (field c.args.argument j j == field c.args.new j j)) c.loop-i.invariant (grind
+    (arith, nat_tests, c.field.ensures, c.field-in-loop-i.ensures)) (omega arith))
 
 pub returns-clause-first : goal.returns-clause-first
 returns-clause-first c = let e : c.loop-i.i ≡ 32 = omega arith in sym (rw e at c.loop-i.invariant)

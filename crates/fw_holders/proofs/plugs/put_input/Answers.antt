@@ -9,8 +9,8 @@ use Rattle.fw_ledger.specs.Stands.{SeatsFor, word_at, seats_at}
 use Rattle.fw_ledger.specs.declared.tables.Seats.{Seats}
 use Rattle.fw_ledger.proofs.PlugSwaps.{connected_is}
 use Rattle.fw_ledger.proofs.InputSwaps.{input_word_shows}
-use Rattle.fw_holders.specs.declared.names.Side.TheVariants.{Input}
-use Rattle.fw_holders.specs.Names.{nodes_of}
+use Rattle.fw_who.specs.declared.names.Side.TheVariants.{Input}
+use Rattle.fw_who.specs.Names.{nodes_of}
 use Rattle.fw_holders.specs.Table.{plug_line}
 use Rattle.fw_holders.proofs.HoldingLaws.{nodes_shown}
 use Rattle.fw_holders.proofs.PlugLaws.{no_plug_line, silent_input, input_keeps}

@@ -12,5 +12,6 @@ loop-plug-init c = λ l h. rw (no_plugs c.args.device (input_line l)) (sym (appe
 pub loop-plug-preserved : goal.loop-plug-preserved
 loop-plug-preserved c = λ l h.
     let before : List ℕ = c.args.text.now.items in
-    both_put before c.loop-plug.text.items _ (lines_below c.loop-plug.plug c.args.device (input_line l)) (input_line l (at_plug c.args.device c.loop-plug.plug)) (c.loop-plug.invariant l h) (c.in_ok-put_input.ensures l h)
+    both_put before c.loop-plug.text.items _ (lines_below c.loop-plug.plug c.args.device (input_line l)) (input_line l (at_plug c.args.device c.loop-plug.plug))
+    (c.loop-plug.invariant l h) (c.in_ok-put_input.ensures l h)
     ∙ ap (λ (x : List ℕ). before ++ x) (sym (next_plug c.loop-plug.plug c.args.device (input_line l)))

@@ -9,8 +9,8 @@ use Rattle.fw_ledger.specs.Stands.{SeatsFor, word_at, seats_at}
 use Rattle.fw_ledger.specs.declared.tables.Seats.{Seats}
 use Rattle.fw_ledger.proofs.PlugSwaps.{connected_is}
 use Rattle.fw_ledger.proofs.OutputSwaps.{output_word_shows}
-use Rattle.fw_holders.specs.declared.names.Side.TheVariants.{Output}
-use Rattle.fw_holders.specs.Names.{nodes_of}
+use Rattle.fw_who.specs.declared.names.Side.TheVariants.{Output}
+use Rattle.fw_who.specs.Names.{nodes_of}
 use Rattle.fw_holders.specs.Table.{plug_line}
 use Rattle.fw_holders.proofs.HoldingLaws.{nodes_shown}
 use Rattle.fw_holders.proofs.PlugLaws.{no_plug_line, silent_output, output_keeps}

@@ -1,6 +1,6 @@
 use Rattle.std.proofs.Common.{◌++◌, ◌∙◌, ap, sym, List, ℕ, append_assoc}
 use Rattle.std.proofs.lemmas.List.{append-nil}
-use Rattle.fw_holders.specs.Names.{nodes_of}
+use Rattle.fw_who.specs.Names.{nodes_of}
 use Rattle.fw_holders.specs.Table.{channel_line, channel_lines}
 use Rattle.fw_holders.specs.Held.{holding}
 use Rattle.fw_holders.proofs.HoldingLaws.{nodes_shown}

@@ -3,7 +3,7 @@ use Rattle.fw_account.specs.Account.{Account}
 use Rattle.fw_entry.specs.declared.entry.Entry.{Entry}
 use Rattle.fw_holders.specs.Counts.{entry_judged}
 use Rattle.fw_holders.specs.Deeds.{event_told, told}
-use Rattle.fw_holders.specs.Names.{right}
+use Rattle.fw_who.specs.Names.{right}
 use Rattle.fw_holders.specs.Told.{line, line_of, rest_of_line, Room}
 use Rattle.fw_holders.proofs.TakeLaws.{cut_back, some_of}
 use Rattle.fw_holders.proofs.TextLaws.{both_put}

@@ -25,7 +25,8 @@ returns-in_ok-put_reset-in-Reset-default c = λ l h.
       account = k;
       follows = taken.1.1;
       stands = taken.1.2;
-      judged = λ n more within. c.take.ensures l n more (subst (λ (r : Room). IsWithin n r.judged) (sym c.self.view_is) within) taken.2 ∙ ap (λ (r : Room). entry_judged l c.args.t.now.what r.judged) c.self.view_is;
+      judged = λ n more within. c.take.ensures l n more (subst (λ (r : Room). IsWithin n r.judged) (sym c.self.view_is) within) taken.2
+          ∙ ap (λ (r : Room). entry_judged l c.args.t.now.what r.judged) c.self.view_is;
       text = c.in_ok-put_reset-in-Reset-default.ensures k after
           ∙ ap (λ o. c.self.inside.text.items ++ line_of c.args.t.now.cycle o (Some k)) (sym told_is)
           ∙ ap (λ (r : Room). r.text ++ line_of c.args.t.now.cycle (told l c.args.t.now.what) (Some k)) c.self.view_is;
@@ -43,7 +44,8 @@ returns-in_ok-put_answer-in_default-Some c = λ l h.
       account = k;
       follows = taken.1.1;
       stands = taken.1.2;
-      judged = λ n more within. c.take.ensures l n more (subst (λ (r : Room). IsWithin n r.judged) (sym c.self.view_is) within) taken.2 ∙ ap (λ (r : Room). entry_judged l c.args.t.now.what r.judged) c.self.view_is;
+      judged = λ n more within. c.take.ensures l n more (subst (λ (r : Room). IsWithin n r.judged) (sym c.self.view_is) within) taken.2
+          ∙ ap (λ (r : Room). entry_judged l c.args.t.now.what r.judged) c.self.view_is;
       text = c.in_ok-put_answer-in_default-Some.ensures l k x.response stood.sound taken.1.2 x.reply x.answered x.is
           ∙ ap (λ o. c.self.inside.text.items ++ line_of c.args.t.now.cycle o (Some k)) (sym x.told)
           ∙ ap (λ (r : Room). r.text ++ line_of c.args.t.now.cycle (told l c.args.t.now.what) (Some k)) c.self.view_is;
@@ -61,7 +63,8 @@ returns-in_default c = λ l h.
       account = k;
       follows = taken.1.1;
       stands = taken.1.2;
-      judged = λ n more within. c.take.ensures l n more (subst (λ (r : Room). IsWithin n r.judged) (sym c.self.view_is) within) taken.2 ∙ ap (λ (r : Room). entry_judged l c.args.t.now.what r.judged) c.self.view_is;
+      judged = λ n more within. c.take.ensures l n more (subst (λ (r : Room). IsWithin n r.judged) (sym c.self.view_is) within) taken.2
+          ∙ ap (λ (r : Room). entry_judged l c.args.t.now.what r.judged) c.self.view_is;
       text = sym (append-nil c.self.inside.text.items)
           ∙ ap (λ o. c.self.inside.text.items ++ line_of c.args.t.now.cycle o (Some k)) (sym quiet)
           ∙ ap (λ (r : Room). r.text ++ line_of c.args.t.now.cycle (told l c.args.t.now.what) (Some k)) c.self.view_is;

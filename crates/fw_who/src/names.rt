@@ -2,7 +2,7 @@
 
 ghost use Rattle.std.specs.Prelude.{◌≡◌, ◌++◌, List, ℕ, OnOk, length, decimal, replicate};
 ghost use Rattle.fw_entry.specs.Network.{node_of_device};
-ghost use Rattle.fw_holders.specs.Names.{left, right, count_text, row_of_device, kind_text, who, side_text, plug_text};
+ghost use Rattle.fw_who.specs.Names.{left, right, count_text, row_of_device, kind_text, who, side_text, plug_text};
 
 use fw_base::PlugAt;
 use fw_entry::NodeRow;
@@ -12,7 +12,7 @@ use std::alloc::AllocError;
 
 /// Which register of a plug.
 #[derive(Clone, Copy)]
-pub(crate) enum Side {
+pub enum Side {
     /// oPCR, of an output plug.
     Output,
     /// iPCR, of an input plug.
@@ -29,7 +29,7 @@ fn put_blanks(text: &mut Vec<u8>, count: usize) -> Result<(), AllocError>
 
 /// Appends the spaces that the text from this byte on lacks of a width.
 #[tactic(auto, unfolding(crate::specs::Names::left))]
-pub(crate) fn fill(text: &mut Vec<u8>, from: usize, width: usize) -> Result<(), AllocError>
+pub fn fill(text: &mut Vec<u8>, from: usize, width: usize) -> Result<(), AllocError>
     ensures { (before what : List ℕ) → text.old.items ≡ before ++ what → length before ≡ from → OnOk result (text.new.items ≡ before ++ left width what) }
 {
     let written = text.len().saturating_sub(from);
@@ -38,7 +38,7 @@ pub(crate) fn fill(text: &mut Vec<u8>, from: usize, width: usize) -> Result<(), 
 
 /// Appends a number at the right end of a column.
 #[tactic(auto, unfolding(crate::specs::Names::right))]
-pub(crate) fn put_right(text: &mut Vec<u8>, number: u64, width: usize) -> Result<(), AllocError>
+pub fn put_right(text: &mut Vec<u8>, number: u64, width: usize) -> Result<(), AllocError>
     ensures { OnOk result (text.new.items ≡ text.old.items ++ right width (decimal number)) }
 {
     let mut buffer = Buffer::new();
@@ -49,7 +49,7 @@ pub(crate) fn put_right(text: &mut Vec<u8>, number: u64, width: usize) -> Result
 
 /// Appends how many there are of something.
 #[tactic(auto, unfolding(crate::specs::Names::count_text))]
-pub(crate) fn put_count(text: &mut Vec<u8>, n: u64, noun: &str) -> Result<(), AllocError>
+pub fn put_count(text: &mut Vec<u8>, n: u64, noun: &str) -> Result<(), AllocError>
     ensures { OnOk result (text.new.items ≡ text.old.items ++ count_text n noun.now) }
 {
     put_number(text, n)?;
@@ -90,7 +90,7 @@ fn put_kind(text: &mut Vec<u8>, row: Option<NodeRow>) -> Result<(), AllocError>
 
 /// Appends a device: what it is, and its number.
 #[tactic(auto, unfolding(crate::specs::Names::who))]
-pub(crate) fn put_who(text: &mut Vec<u8>, nodes: &[NodeRow], device: u8) -> Result<(), AllocError>
+pub fn put_who(text: &mut Vec<u8>, nodes: &[NodeRow], device: u8) -> Result<(), AllocError>
     ensures { OnOk result (text.new.items ≡ text.old.items ++ who nodes.now device) }
 {
     put_kind(text, row_of_device(nodes, device))?;
@@ -111,7 +111,7 @@ fn put_side(text: &mut Vec<u8>, side: Side) -> Result<(), AllocError>
 
 /// Appends a plug: its device, and its register.
 #[tactic(auto, unfolding(crate::specs::Names::plug_text))]
-pub(crate) fn put_plug(
+pub fn put_plug(
     text: &mut Vec<u8>,
     nodes: &[NodeRow],
     side: Side,

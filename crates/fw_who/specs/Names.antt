@@ -6,8 +6,8 @@ use Rattle.fw_entry.specs.declared.nodes.NodeRow.{NodeRow}
 use Rattle.fw_entry.specs.Network.{node_of_device}
 use Rattle.fw_names.specs.Names.{device_name}
 use Rattle.fw_names.specs.Texts.{named}
-use Rattle.fw_holders.specs.declared.names.Side.{Side}
-use Rattle.fw_holders.specs.declared.names.Side.TheVariants.{Output, Input}
+use Rattle.fw_who.specs.declared.names.Side.{Side}
+use Rattle.fw_who.specs.declared.names.Side.TheVariants.{Output, Input}
 
 -- ---- columns
 
