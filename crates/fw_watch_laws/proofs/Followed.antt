@@ -40,7 +40,8 @@ KnowsWords s l = (n : ℕ) (g : Register) (v : Place) → Stands l.latest n g v 
 
 -- ---- after a glimpse
 
-sees_if : (b : Bool) (gl : Glimpse) (s : State) (l m : Account) (n : ℕ) (g : Register) (v : Place) → is_same gl.at (record { node = n; register = g }) ≡ b → Sees l m gl → IsApart l.latest → KnowsWords s l
+sees_if : (b : Bool) (gl : Glimpse) (s : State) (l m : Account) (n : ℕ) (g : Register) (v : Place) → is_same gl.at (record { node = n; register = g }) ≡ b → Sees l m gl → IsApart l.latest
+    → KnowsWords s l
     → Stands l.latest n g v → differing (unwrap_or (if b then Some gl.left else None) (known_of s (record { node = n; register = g }))) (word_of m v) ≡ 0
 sees_if true gl s l m n g v e x a k y =
     let same : gl_place x ≡ v = one_place gl.at.register g l.latest gl.at.node n x.place v e x.stands y in

@@ -40,7 +40,14 @@ pub same : (s : State) → Frame s s
 same s = record { count = refl; nodes = refl; standing = refl; plugs = refl; manager = λ o e. e; epoch = refl }
 
 pub both : (s t u : State) → Frame s t → Frame t u → Frame s u
-both s t u f g = record { count = g.count ∙ f.count; nodes = g.nodes ∙ f.nodes; standing = g.standing ∙ f.standing; plugs = g.plugs ∙ f.plugs; manager = λ o e. g.manager o (f.manager o e); epoch = g.epoch ∙ f.epoch }
+both s t u f g = record {
+  count = g.count ∙ f.count;
+  nodes = g.nodes ∙ f.nodes;
+  standing = g.standing ∙ f.standing;
+  plugs = g.plugs ∙ f.plugs;
+  manager = λ o e. g.manager o (f.manager o e);
+  epoch = g.epoch ∙ f.epoch;
+}
 
 put_plug : (s : State) (at : At) (k : Known) → Frame s (with_known_plug s at k)
 unfolding with_known_plug

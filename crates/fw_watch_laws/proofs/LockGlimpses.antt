@@ -109,7 +109,8 @@ answer_there (Some y) x n function bytes e f g =
     some_answer (node_of y.destination) n y (old_word y.asking function bytes) (ap (λ (z : Asked). node_of z.destination) (sym same) ∙ f) g
 
 -- a move of the account is seen
-pub move_answered : (s : State) (l m : Account) (h : Head) (function rcode : ℕ) (bytes : List ℕ) (r : IsReplyTo l m h (Locked function rcode bytes)) → h.tl ≡ label_code Procedure → AllStand l s.standing
+pub move_answered : (s : State) (l m : Account) (h : Head) (function rcode : ℕ) (bytes : List ℕ) (r : IsReplyTo l m h (Locked function rcode bytes)) → h.tl ≡ label_code Procedure
+    → AllStand l s.standing
     → IsMoved l m r.controller r.request rcode bytes → lock_answer (answered false h s.standing) function bytes ≡ None → ⊥
 move_answered s l m h function rcode bytes r tl stand i none =
     let x : IsNamed r.request.target r.request.address = named_register l.latest r.request.target r.request.address i.register i.named in

@@ -78,13 +78,15 @@ none_taken e q cycle s d m f =
     subst P (sym f) (begun_units cycle (is_none s.epoch) s.managed d (word_of m BandwidthAvailable) (omega arith))
 
 -- a swap at BANDWIDTH_AVAILABLE is from the account's word
-from_units : (entries front rest : List Timed) (t : Timed) (l m : Account) → Passes entries front rest t l m → (p : Packet) (a : Answer) → t.what ≡ Async p → answer_of (known front).standing p ≡ Some a
+from_units : (entries front rest : List Timed) (t : Timed) (l m : Account) → Passes entries front rest t l m → (p : Packet) (a : Answer) → t.what ≡ Async p
+    → answer_of (known front).standing p ≡ Some a
     → FromUnits l a
 from_units entries front rest t l m y p a e f swap g at =
     let i : IsAccountSwap l m a swap = swap_in entries front rest t l m p a swap y e f g in
     ap (word_of l) (sym (managed_is l m a swap Bandwidth i at refl)) ∙ i.move.is.before
 
-units_in : (o : Option ResetEntry) (entries front rest : List Timed) (t : Timed) (l m : Account) (r : ResetEntry) → ShowsAccount entries → Passes entries front rest t l m → IsInTime front l → l.latest ≡ o
+units_in : (o : Option ResetEntry) (entries front rest : List Timed) (t : Timed) (l m : Account) (r : ResetEntry) → ShowsAccount entries → Passes entries front rest t l m → IsInTime front l
+    → l.latest ≡ o
     → m.latest ≡ Some r → InSecond (second_after t.what t.cycle (known front) (ticked_second t.cycle (known front).second)) (word_of m BandwidthAvailable)
 units_in None entries front rest t l m r s y h e f =
     let z = first_reset t.what r (ap (latest_after t.what) (sym e) ∙ sym (next_latest t.what l m y.next) ∙ f) in
@@ -92,7 +94,8 @@ units_in None entries front rest t l m r s y h e f =
 units_in (Some q) entries front rest t l m r s y h e f =
     units_step t.what t.cycle (known front) (known front).second l m q e (seen entries front rest t l m s y h.fine) y.next (from_units entries front rest t l m y) (h.units q e)
 
-managed_in : (o : Option ResetEntry) (entries front rest : List Timed) (t : Timed) (l m : Account) (r : ResetEntry) → ShowsAccount entries → Passes entries front rest t l m → IsInTime front l → l.latest ≡ o
+managed_in : (o : Option ResetEntry) (entries front rest : List Timed) (t : Timed) (l m : Account) (r : ResetEntry) → ShowsAccount entries → Passes entries front rest t l m → IsInTime front l
+    → l.latest ≡ o
     → m.latest ≡ Some r → KnowsManaged (after (known front) t).managed m
 managed_in None entries front rest t l m r s y h e f =
     let z = first_reset t.what r (ap (latest_after t.what) (sym e) ∙ sym (next_latest t.what l m y.next) ∙ f) in

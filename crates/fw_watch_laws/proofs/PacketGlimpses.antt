@@ -56,7 +56,8 @@ placed_shows : (l : Account) (r : Request) (q : Asked) (a : Answer) (value : ℕ
 placed_shows l r q a value y target node register =
     record { place = y.register; stands = placed_stands l r q a (Some value) y target node register; word = sym (same_Some value (word_of l y.register) y.word) }
 
-word_shows : (l : Account) (a : Answer) (value : ℕ) (o : Option Place) → IsNumber a.at.register → place_at l.latest a.at.node (offset_of a.at.register) ≡ o → option_map (word_of l) o ≡ Some value → Shows l a value
+word_shows : (l : Account) (a : Answer) (value : ℕ) (o : Option Place) → IsNumber a.at.register → place_at l.latest a.at.node (offset_of a.at.register) ≡ o
+    → option_map (word_of l) o ≡ Some value → Shows l a value
 word_shows l a value None n e f = cc
 word_shows l a value (Some v) n e f = record { place = v; stands = record { number = n; place = e }; word = same_Some (word_of l v) value f }
 

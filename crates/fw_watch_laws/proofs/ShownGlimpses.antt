@@ -51,7 +51,8 @@ shown_place : (o : Option ResetEntry) (s : State) (w : ShownEntry) (node : ℕ) 
 shown_place None s w node v b n e = cc
 shown_place (Some r) s w node v b n e =
     let x = node_is r.nodes w.device node (ap (node_of_device w.device) (sym b.nodes) ∙ n) in
-    let id : id_in (Some r) w.device ≡ Some (first_id + node) = ap (id_below (length r.nodes)) x.is ∙ below (nat_lt node (length r.nodes)) (first_id + node) (let low = x.within in grind (arith, low)) in
+    let id : id_in (Some r) w.device ≡ Some (first_id + node) = ap (id_below (length r.nodes)) x.is
+    ∙ below (nat_lt node (length r.nodes)) (first_id + node) (let low = x.within in grind (arith, low)) in
     sym (register_at_address (Some r) node w.offset) ∙ ap (register_by (Some r) w.offset) (sym id) ∙ e
   where
     below : (c : Bool) (k : ℕ) → c ≡ true → (if c then Some k else None) ≡ Some k

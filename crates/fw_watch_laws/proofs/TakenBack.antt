@@ -142,7 +142,8 @@ not_31 at b f = elim (cases_eq at 31) [
   | inr other ↦ and_false (not (at == 31)) b (f other)
 ]
 
-high_new : (b : Before) (l m : Account) (c : ℕ) (v : Place) (swap : Swap) (at : ℕ) → IsSwapMove l m c v swap → v ≡ ChannelsAvailable 0 → at < 32 → bit_of swap.argument at ≡ true → bit_of swap.new at ≡ false
+high_new : (b : Before) (l m : Account) (c : ℕ) (v : Place) (swap : Swap) (at : ℕ) → IsSwapMove l m c v swap → v ≡ ChannelsAvailable 0 → at < 32 → bit_of swap.argument at ≡ true
+    → bit_of swap.new at ≡ false
     → WordsHeld b l → is_new b ChannelsHigh at ≡ false
 high_new Nothing l m c v swap at i e h o n held = refl
 high_new Dark l m c v swap at i e h o n held = refl
@@ -151,7 +152,8 @@ high_new (Words w) l m c v swap at i e h o n held =
     let f = swap_flow l m c v swap 0 at i e x.0 h o n in
     not_31 at (is_known_set w.high at) (λ other. x.1.high at f.flow h (λ s. other (omega (arith, s))) f.at)
 
-low_new : (b : Before) (l m : Account) (c : ℕ) (v : Place) (swap : Swap) (at : ℕ) → IsSwapMove l m c v swap → v ≡ ChannelsAvailable 32 → at < 32 → bit_of swap.argument at ≡ true → bit_of swap.new at ≡ false
+low_new : (b : Before) (l m : Account) (c : ℕ) (v : Place) (swap : Swap) (at : ℕ) → IsSwapMove l m c v swap → v ≡ ChannelsAvailable 32 → at < 32 → bit_of swap.argument at ≡ true
+    → bit_of swap.new at ≡ false
     → WordsHeld b l → is_new b ChannelsLow at ≡ false
 low_new Nothing l m c v swap at i e h o n held = refl
 low_new Dark l m c v swap at i e h o n held = refl
@@ -160,13 +162,15 @@ low_new (Words w) l m c v swap at i e h o n held =
     let f = swap_flow l m c v swap 32 at i e x.0 h o n in
     x.1.low at f.flow h (λ s. omega (arith, s)) f.at
 
-pub high_quiet : (q : Said → Bool) (u : State) (a : Answer) (swap : Swap) (cycle : ℕ) (l m : Account) (c : ℕ) (v : Place) → a.at.register ≡ ChannelsHigh → IsSwapMove l m c v swap → v ≡ ChannelsAvailable 0
+pub high_quiet : (q : Said → Bool) (u : State) (a : Answer) (swap : Swap) (cycle : ℕ) (l m : Account) (c : ℕ) (v : Place) → a.at.register ≡ ChannelsHigh → IsSwapMove l m c v swap
+    → v ≡ ChannelsAvailable 0
     → WordsHeld u.second.before l → NoneNew q u (made cycle a swap) 0
 high_quiet q u a swap cycle l m c v r i e held at h o n =
     none_if q (is_new u.second.before a.at.register at) (said cycle (NewInSecond a.by (0 + at) (epoch_of u)))
     (ap (λ (g : Register). is_new u.second.before g at) r ∙ high_new u.second.before l m c v swap at i e h o n held)
 
-pub low_quiet : (q : Said → Bool) (u : State) (a : Answer) (swap : Swap) (cycle : ℕ) (l m : Account) (c : ℕ) (v : Place) → a.at.register ≡ ChannelsLow → IsSwapMove l m c v swap → v ≡ ChannelsAvailable 32
+pub low_quiet : (q : Said → Bool) (u : State) (a : Answer) (swap : Swap) (cycle : ℕ) (l m : Account) (c : ℕ) (v : Place) → a.at.register ≡ ChannelsLow → IsSwapMove l m c v swap
+    → v ≡ ChannelsAvailable 32
     → WordsHeld u.second.before l → NoneNew q u (made cycle a swap) 32
 low_quiet q u a swap cycle l m c v r i e held at h o n =
     none_if q (is_new u.second.before a.at.register at) (said cycle (NewInSecond a.by (32 + at) (epoch_of u)))

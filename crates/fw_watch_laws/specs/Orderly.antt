@@ -113,7 +113,8 @@ last_reset since (t ∷ ts) = last_reset (reset_cycle since t.cycle t.what) ts
 -- a bus reset that comes while the second of the account runs comes within 8000 cycles of the one before it
 abbrev pub HasTimelyResets : List Timed → Type 0
 HasTimelyResets entries =
-    (front rest : List Timed) (cycle : ℕ) (r : ResetEntry) (l : Account) → entries ≡ front ++ (record { cycle = cycle; what = Reset r }) ∷ rest → account_of (entries_of front) ≡ Some l → IsTrue l.reclaiming
+    (front rest : List Timed) (cycle : ℕ) (r : ResetEntry) (l : Account) → entries ≡ front ++ (record { cycle = cycle; what = Reset r }) ∷ rest → account_of (entries_of front) ≡ Some l
+    → IsTrue l.reclaiming
     → (since : ℕ) × (last_reset None front ≡ Some since) × (cycle < since + 8000)
 
 -- ---- what is not found there
