@@ -201,7 +201,8 @@ unfolding is_other
 unseen_right entries =
     count_in (λ (c : Counts). c.unseen) (λ s t. seen_so is_other s (glimpse s t.what))
     (step_of (λ (c : Counts). c.unseen) (λ s e. seen_so is_other s (glimpse s e))
-    (words_of (λ (c : Counts). c.unseen) is_other (λ k c. refl) (λ k w c. ap (λ (x : Counts). x.unseen) (judged_is k w c) ∙ unseen_if (differing k w == 0) (k.mask == 0) c) (λ c n. refl) (λ c n. refl)))
+    (words_of (λ (c : Counts). c.unseen) is_other (λ k c. refl)
+    (λ k w c. ap (λ (x : Counts). x.unseen) (judged_is k w c) ∙ unseen_if (differing k w == 0) (k.mask == 0) c) (λ c n. refl) (λ c n. refl)))
     entries refl
 
 pub counted_right : (entries : List Timed) → AreCounted entries
@@ -212,12 +213,14 @@ counted_right entries = record {
   judged =
       count_in (λ (c : Counts). c.judged) (λ s t. seen_so can_judge s (glimpse s t.what))
       (step_of (λ (c : Counts). c.judged) (λ s e. seen_so can_judge s (glimpse s e))
-      (words_of (λ (c : Counts). c.judged) can_judge (λ k c. refl) (λ k w c. ap (λ (x : Counts). x.judged) (judged_is k w c) ∙ judged_if (differing k w == 0) (k.mask == 0) c) (λ c n. refl) (λ c n. refl)))
+      (words_of (λ (c : Counts). c.judged) can_judge (λ k c. refl)
+      (λ k w c. ap (λ (x : Counts). x.judged) (judged_is k w c) ∙ judged_if (differing k w == 0) (k.mask == 0) c) (λ c n. refl) (λ c n. refl)))
       entries refl;
   not_known =
       count_in (λ (c : Counts). c.not_known) (λ s t. seen_so is_first s (glimpse s t.what))
       (step_of (λ (c : Counts). c.not_known) (λ s e. seen_so is_first s (glimpse s e))
-      (words_of (λ (c : Counts). c.not_known) is_first (λ k c. refl) (λ k w c. ap (λ (x : Counts). x.not_known) (judged_is k w c) ∙ first_if (differing k w == 0) (k.mask == 0) c) (λ c n. refl) (λ c n. refl)))
+      (words_of (λ (c : Counts). c.not_known) is_first (λ k c. refl)
+      (λ k w c. ap (λ (x : Counts). x.not_known) (judged_is k w c) ∙ first_if (differing k w == 0) (k.mask == 0) c) (λ c n. refl) (λ c n. refl)))
       entries refl;
   unseen = unseen_right entries ∙ ap capped (sym (unseen_count no_state entries));
   packets =

@@ -29,7 +29,7 @@ use Rattle.fw_watch_laws.proofs.OnBus.{IsOnBus}
 use Rattle.fw_watch_laws.proofs.Stands.{AllStand}
 use Rattle.fw_watch_laws.proofs.Follows.{node_there}
 use Rattle.fw_watch_laws.proofs.SamePlace.{Stands, same_place, one_place}
-use Rattle.fw_watch_laws.proofs.ResetWords.{reset_differs}
+use Rattle.fw_watch_laws.proofs.ResetWords.{none_differ, reset_differs}
 use Rattle.fw_watch_laws.proofs.Glimpses.{Sees, Seen, IsFollowed}
 use Rattle.fw_watch_laws.proofs.EntryGlimpses.{ReadsShow, packet_seen}
 use Rattle.fw_watch_laws.proofs.ShownGlimpses.{word_seen, event_seen}
@@ -40,11 +40,12 @@ KnowsWords s l = (n : ℕ) (g : Register) (v : Place) → Stands l.latest n g v 
 
 -- ---- after a glimpse
 
-sees_if : (b : Bool) (gl : Glimpse) (s : State) (l m : Account) (n : ℕ) (g : Register) (v : Place) → is_same gl.at (record { node = n; register = g }) ≡ b → Sees l m gl → IsApart l.latest → KnowsWords s l
+sees_if : (b : Bool) (gl : Glimpse) (s : State) (l m : Account) (n : ℕ) (g : Register) (v : Place) → is_same gl.at (record { node = n; register = g }) ≡ b → Sees l m gl → IsApart l.latest
+    → KnowsWords s l
     → Stands l.latest n g v → differing (unwrap_or (if b then Some gl.left else None) (known_of s (record { node = n; register = g }))) (word_of m v) ≡ 0
 sees_if true gl s l m n g v e x a k y =
     let same : gl_place x ≡ v = one_place gl.at.register g l.latest gl.at.node n x.place v e x.stands y in
-    ap (λ (z : Place). differing gl.left (word_of m z)) (sym same) ∙ x.left
+    ap (λ (z : Place). differing gl.left (word_of m z)) (sym same) ∙ ap (λ (z : Known). differing z (word_of m x.place)) x.word ∙ none_differ (word_of m x.place) 0xFFFFFFFF
   where
     gl_place : Sees l m gl → Place
     gl_place z = z.place
@@ -53,9 +54,16 @@ sees_if false gl s l m n g v e x a k y =
     let other : v ≢ x.place = λ f. true≢false (sym (same_place gl.at.register g l.latest gl.at.node n v a (subst P (sym f) x.stands) y) ∙ e) in
     ap (differing (known_of s (record { node = n; register = g }))) (x.others v (register_there l.latest n (offset_of g) v y.place) other) ∙ k n g v y
 
+-- a register of the account stands on a bus
+latest_of : (o : Option ResetEntry) (n : ℕ) (g : Register) (v : Place) → Stands o n g v → (r : ResetEntry) × (o ≡ Some r)
+latest_of None n g v x = (let e = x.place in cc)
+latest_of (Some r) n g v x = (r, refl)
+
 after_glimpse : (o : Option Glimpse) (s : State) (l m : Account) (n : ℕ) (g : Register) (v : Place) → Seen l m o → IsApart l.latest → KnowsWords s l → Stands l.latest n g v
     → differing (unwrap_or (left_by o (record { node = n; register = g })) (known_of s (record { node = n; register = g }))) (word_of m v) ≡ 0
-after_glimpse None s l m n g v x a k y = ap (differing (known_of s (record { node = n; register = g }))) (x n g v y) ∙ k n g v y
+after_glimpse None s l m n g v x a k y =
+    let z = latest_of l.latest n g v y in
+    ap (differing (known_of s (record { node = n; register = g }))) (x z.0 z.1 v) ∙ k n g v y
 after_glimpse (Some gl) s l m n g v x a k y = sees_if (is_same gl.at (record { node = n; register = g })) gl s l m n g v refl x a k y
 
 -- ---- entries
@@ -71,7 +79,7 @@ SeenIn (Shown w) s l m = Seen l m (glimpse s (Shown w))
 SeenIn End s l m = Seen l m None
 
 same_seen : (l m : Account) → Some l ≡ Some m → Seen l m None
-same_seen l m e n g v x = ap (λ (y : Account). word_of y v) (sym (same_Some l m e))
+same_seen l m e r x v = ap (λ (y : Account). word_of y v) (sym (same_Some l m e))
 
 -- answers to others than procedures, of an entry
 abbrev pub ReadsIn : State → Account → Entry → Type 0

@@ -34,22 +34,30 @@ pub record Frame (s t : State) : Type 0 where
   pub standing : t.standing ≡ s.standing
   pub plugs : length t.plugs ≡ length s.plugs
   pub manager : (o : Option ℕ) → s.manager ≡ manager_of o → t.manager ≡ manager_of o
+  pub epoch : t.epoch ≡ s.epoch
 
 pub same : (s : State) → Frame s s
-same s = record { count = refl; nodes = refl; standing = refl; plugs = refl; manager = λ o e. e }
+same s = record { count = refl; nodes = refl; standing = refl; plugs = refl; manager = λ o e. e; epoch = refl }
 
 pub both : (s t u : State) → Frame s t → Frame t u → Frame s u
-both s t u f g = record { count = g.count ∙ f.count; nodes = g.nodes ∙ f.nodes; standing = g.standing ∙ f.standing; plugs = g.plugs ∙ f.plugs; manager = λ o e. g.manager o (f.manager o e) }
+both s t u f g = record {
+  count = g.count ∙ f.count;
+  nodes = g.nodes ∙ f.nodes;
+  standing = g.standing ∙ f.standing;
+  plugs = g.plugs ∙ f.plugs;
+  manager = λ o e. g.manager o (f.manager o e);
+  epoch = g.epoch ∙ f.epoch;
+}
 
 put_plug : (s : State) (at : At) (k : Known) → Frame s (with_known_plug s at k)
 unfolding with_known_plug
-put_plug s at k = record { count = refl; nodes = refl; standing = refl; plugs = length-set s.plugs (plug_index at.node at.register) k; manager = λ o e. e }
+put_plug s at k = record { count = refl; nodes = refl; standing = refl; plugs = length-set s.plugs (plug_index at.node at.register) k; manager = λ o e. e; epoch = refl }
 
 put_by : (r : Register) (s : State) (n : ℕ) (k : Known) → Frame s (with_known s (record { node = n; register = r }) k)
 unfolding with_known
-put_by Bandwidth s n k = record { count = refl; nodes = refl; standing = refl; plugs = refl; manager = λ o e. e }
-put_by ChannelsHigh s n k = record { count = refl; nodes = refl; standing = refl; plugs = refl; manager = λ o e. e }
-put_by ChannelsLow s n k = record { count = refl; nodes = refl; standing = refl; plugs = refl; manager = λ o e. e }
+put_by Bandwidth s n k = record { count = refl; nodes = refl; standing = refl; plugs = refl; manager = λ o e. e; epoch = refl }
+put_by ChannelsHigh s n k = record { count = refl; nodes = refl; standing = refl; plugs = refl; manager = λ o e. e; epoch = refl }
+put_by ChannelsLow s n k = record { count = refl; nodes = refl; standing = refl; plugs = refl; manager = λ o e. e; epoch = refl }
 put_by (Output x) s n k = put_plug s (record { node = n; register = Output x }) k
 put_by (Input x) s n k = put_plug s (record { node = n; register = Input x }) k
 
@@ -60,19 +68,19 @@ pub judged_frame : (s : State) (at : At) (found : ℕ) → Frame s (judged s at 
 unfolding judged
 judged_frame s at found =
     let f = put_frame (record s { counts = judged_counts (known_of s at) found s.counts }) at (all_known found) in
-    record { count = f.count; nodes = f.nodes; standing = f.standing; plugs = f.plugs; manager = f.manager }
+    record { count = f.count; nodes = f.nodes; standing = f.standing; plugs = f.plugs; manager = f.manager; epoch = f.epoch }
 
 holder_frame : (o : Option ℕ) (m : Made) (first : ℕ) (s : State) → Frame s (with_holder o m first s)
 unfolding with_holder
 holder_frame None m first s = same s
-holder_frame (Some holder) m first s = record { count = refl; nodes = refl; standing = refl; plugs = refl; manager = λ o e. e }
+holder_frame (Some holder) m first s = record { count = refl; nodes = refl; standing = refl; plugs = refl; manager = λ o e. e; epoch = refl }
 
 by_frame : (r : Register) (m : Made) (s : State) → Frame s (swapped_by r m s)
-by_frame Bandwidth m s = record { count = refl; nodes = refl; standing = refl; plugs = refl; manager = λ o e. e }
+by_frame Bandwidth m s = record { count = refl; nodes = refl; standing = refl; plugs = refl; manager = λ o e. e; epoch = refl }
 by_frame ChannelsHigh m s = holder_frame (holder_of m.by) m 0 s
 by_frame ChannelsLow m s = holder_frame (holder_of m.by) m 32 s
-by_frame (Output x) m s = record { count = refl; nodes = refl; standing = refl; plugs = refl; manager = λ o e. e }
-by_frame (Input x) m s = record { count = refl; nodes = refl; standing = refl; plugs = refl; manager = λ o e. e }
+by_frame (Output x) m s = record { count = refl; nodes = refl; standing = refl; plugs = refl; manager = λ o e. e; epoch = refl }
+by_frame (Input x) m s = record { count = refl; nodes = refl; standing = refl; plugs = refl; manager = λ o e. e; epoch = refl }
 
 swapped_frame : (s : State) (m : Made) → Frame s (swapped s m)
 unfolding swapped
@@ -122,6 +130,7 @@ manager_frame at s =
       standing = ap (λ (t : State). t.standing) e;
       plugs = ap (λ (t : State). length t.plugs) e;
       manager = manager_kept at s;
+      epoch = ap (λ (t : State). t.epoch) e;
     }
 
 heeded_frame : (h : Heed) (cycle : ℕ) (a : Answer) (s : State) → Frame s (after_heeded h cycle a s)
@@ -137,7 +146,7 @@ answered_frame (Some a) cycle s = heeded_frame (heed s a.at) cycle a s
 
 pub heard_frame : (s : State) (p : Packet) → Frame s (after_heard s p)
 unfolding after_heard
-heard_frame s p = record { count = refl; nodes = refl; standing = refl; plugs = refl; manager = λ o e. e }
+heard_frame s p = record { count = refl; nodes = refl; standing = refl; plugs = refl; manager = λ o e. e; epoch = refl }
 
 pub word_frame : (o : Option At) (word : ℕ) (s : State) → Frame s (after_word o word s)
 word_frame None word s = same s
@@ -149,7 +158,7 @@ late_only : (o : Option Late) (s : State) → (c : List Channel) × (after_late 
 late_only None s = (s.channels, refl)
 late_only (Some late) s = ((after_late (Some late) s).channels, refl)
 
-held_only : (n cycle : ℕ) (s : State) → (c : List Channel) × (after_held n cycle s ≡ record s { channels = c })
+pub held_only : (n cycle : ℕ) (s : State) → (c : List Channel) × (after_held n cycle s ≡ record s { channels = c })
 unfolding after_held
 held_only zero cycle s = (s.channels, refl)
 held_only (suc n) cycle s =

@@ -6,14 +6,13 @@ use Rattle.fw_words.specs.declared.swap.Swap.{Swap}
 use Rattle.fw_words.specs.declared.swap.TheConstants.{COMPARE_SWAP}
 use Rattle.fw_async.specs.declared.packet.Packet.{Packet}
 use Rattle.fw_async.specs.declared.packet.Packet.TheVariants.{LockReply}
+use Rattle.fw_entry.specs.declared.entry.ResetEntry.{ResetEntry}
 use Rattle.fw_account.specs.Account.{Account, Operation, Reads, Locks}
 use Rattle.fw_account.specs.Packets.{Locked, is_reply_to, after_packet}
 use Rattle.fw_account.specs.Sound.{IsSound}
 use Rattle.fw_account.specs.Words.{Register as Place, word_of}
 use Rattle.fw_faults.specs.Looked.{looked_packet, quadlet_in, IsQuadlet, ShowsWords}
-use Rattle.fw_remarks.specs.declared.register.Register.{Register}
-use Rattle.fw_remarks.specs.declared.known.Known.{Known}
-use Rattle.fw_remarks.specs.Knowing.{all_known, differing}
+use Rattle.fw_remarks.specs.Knowing.{all_known}
 use Rattle.fw_known.specs.declared.asked.Asking.{Asking}
 use Rattle.fw_known.specs.declared.asked.Asking.TheVariants.{Swap as SwapOf}
 use Rattle.fw_known.specs.declared.asked.Answer.{Answer}
@@ -29,7 +28,6 @@ use Rattle.fw_watch_laws.proofs.Matches.{asking_of}
 use Rattle.fw_watch_laws.proofs.OnBus.{IsOnBus}
 use Rattle.fw_watch_laws.proofs.Outstanding.{IsSwapOf}
 use Rattle.fw_watch_laws.proofs.LockWords.{moved_words}
-use Rattle.fw_watch_laws.proofs.ResetWords.{none_differ}
 use Rattle.fw_watch_laws.proofs.SamePlace.{Stands}
 use Rattle.fw_watch_laws.proofs.Swaps.{IsAccountSwap, lock_in}
 use Rattle.fw_watch_laws.proofs.Follows.{follows}
@@ -40,12 +38,12 @@ pub record Sees (l m : Account) (g : Glimpse) : Type 0 where
   pub place : Place
   pub stands : Stands l.latest g.at.node g.at.register place
   pub found : g.found ≡ Some (word_of l place)
-  pub left : differing g.left (word_of m place) ≡ 0
+  pub word : g.left ≡ all_known (word_of m place)
   pub others : OthersSame l m place
 
--- where nothing is seen, no word of a register changes
+-- where nothing is seen, no word changes, once there was a bus reset
 abbrev pub Seen : Account → Account → Option Glimpse → Type 0
-Seen l m None = (n : ℕ) (g : Register) (v : Place) → Stands l.latest n g v → word_of m v ≡ word_of l v
+Seen l m None = (r : ResetEntry) → l.latest ≡ Some r → (v : Place) → word_of m v ≡ word_of l v
 Seen l m (Some g) = Sees l m g
 
 -- what is known of the bus is the account's
@@ -56,17 +54,14 @@ pub record IsFollowed (s : State) (l : Account) : Type 0 where
 
 -- an answer at a register of the account is followed
 pub answer_seen : (s : State) (l m : Account) (a : Answer) (v : Place) → IsFollowed s l → Stands l.latest a.at.node a.at.register v
-    → a.found ≡ Some (word_of l v) → differing (known_left a.found a.swap) (word_of m v) ≡ 0 → OthersSame l m v → Seen l m (glimpse_by (heed s a.at) a)
+    → a.found ≡ Some (word_of l v) → known_left a.found a.swap ≡ all_known (word_of m v) → OthersSame l m v → Seen l m (glimpse_by (heed s a.at) a)
 answer_seen s l m a v c x found left others =
     let P : Heed → Type 0 = λ h. Seen l m (glimpse_by h a) in
     subst P (sym (follows l.latest s a.at.node a.at.register v c.nodes c.agrees.manager x))
-    (record { place = v; stands = x; found = found; left = left; others = others })
+    (record { place = v; stands = x; found = found; word = left; others = others })
 
 pub left_of : (found : Option ℕ) (swap : Option Swap) (w : ℕ) (s : Option Swap) → found ≡ Some w → swap ≡ s → known_left found swap ≡ all_known (word_left w s)
 left_of found swap w s e f = ap (λ (o : Option ℕ). known_left o swap) e ∙ ap (λ (o : Option Swap). all_known (word_left w o)) f
-
-pub all_differ : (w x : ℕ) → x ≡ w → differing (all_known w) x ≡ 0
-all_differ w x e = ap (differing (all_known w)) e ∙ none_differ w 0xFFFFFFFF
 
 -- ---- locks
 
@@ -99,7 +94,7 @@ made_seen s l m p a swap k c w n e =
     let found : a.found ≡ Some swap.argument = k.of.found_is ∙ old_made k.request.asking k.function k.bytes swap made in
     let word : word_of l i.register ≡ swap.argument = i.move.is.before in
     answer_seen s l m a i.register c (record { number = i.number; place = i.place }) (found ∙ ap (λ (y : ℕ). Some y) (sym word))
-    (ap (λ (y : Known). differing y (word_of m i.register)) (left_of a.found a.swap swap.argument (Some swap) found e) ∙ all_differ swap.new (word_of m i.register) after.0) after.1
+    (left_of a.found a.swap swap.argument (Some swap) found e ∙ ap all_known (sym after.0)) after.1
 
 -- what a lock that is a quadlet compare_swap asks, and its function
 pub record IsSwapAsked (o : Operation) (function : ℕ) : Type 0 where

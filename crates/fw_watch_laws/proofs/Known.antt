@@ -46,11 +46,11 @@ reads_in : (entries front rest : List Timed) (t : Timed) (l m : Account) → Sho
 reads_in entries front rest t l m s y p e h value a f n g =
     s.reads front rest t h value a l y.parts y.account (e ∙ ap (λ (x : Packet). Async x) f) n (ap (answer_of (known front).standing) (sym f) ∙ g)
 
-seen : (entries front rest : List Timed) (t : Timed) (l m : Account) → ShowsAccount entries → Passes entries front rest t l m → IsFine front l → SeenIn t.what (known front) l m
+pub seen : (entries front rest : List Timed) (t : Timed) (l m : Account) → ShowsAccount entries → Passes entries front rest t l m → IsFine front l → SeenIn t.what (known front) l m
 seen entries front rest t l m s y f =
     entry_seen t.what (known front) l m (record { sound = y.sound; agrees = y.agrees; nodes = f.nodes }) f.stand (whole_known front) (reads_in entries front rest t l m s y) y.words y.next
 
-fine_step : (entries front rest : List Timed) (t : Timed) (l m : Account) → ShowsAccount entries → Passes entries front rest t l m → IsFine front l → IsFine (front ++ t ∷ []) m
+pub fine_step : (entries front rest : List Timed) (t : Timed) (l m : Account) → ShowsAccount entries → Passes entries front rest t l m → IsFine front l → IsFine (front ++ t ∷ []) m
 fine_step entries front rest t l m s y f =
     let latest : m.latest ≡ latest_after t.what l.latest = next_latest t.what l m y.next in
     let on : IsOnBus m.latest (after (known front) t) = step_on t (known front) l.latest m.latest y.fits latest f.nodes in
@@ -94,10 +94,10 @@ entry_quiet End s cycle l m x k = refl
 quiet : (entries front rest : List Timed) (t : Timed) (l m : Account) → ShowsAccount entries → Passes entries front rest t l m → IsFine front l → IsNone is_unseen (remarks (known front) t)
 quiet entries front rest t l m s y f = step_unseen (known front) t ∙ entry_quiet t.what (known front) t.cycle l m (seen entries front rest t l m s y f) f.knows
 
-none_stand : AllStand no_account []
+pub none_stand : AllStand no_account []
 none_stand c id r g e d at = cc
 
-none_known : KnowsWords no_state no_account
+pub none_known : KnowsWords no_state no_account
 none_known n g v x = (let e = x.place in cc)
 
 pub none_unseen : (entries : List Timed) → IsOrderly entries → ShowsAccount entries → HasNone tells_unseen entries

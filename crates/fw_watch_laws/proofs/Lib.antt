@@ -52,5 +52,14 @@ pub mod ShownGlimpses
 pub mod StandsEntries
 pub mod Followed
 pub mod Known
+pub mod AccountFrames
+pub mod Flows
+pub mod Seconds
+pub mod ManagedKnown
+pub mod Timely
+pub mod UnitsTaken
+pub mod SecondAgrees
+pub mod TakenBack
+pub mod NewInSecond
 pub mod Tallies
 pub mod Counted

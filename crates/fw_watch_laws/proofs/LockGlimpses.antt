@@ -14,8 +14,7 @@ use Rattle.fw_account.specs.Words.{Register as Place, word_of}
 use Rattle.fw_account.proofs.Packets.{device_below}
 use Rattle.fw_faults.specs.Looked.{Replies, looked_packet, quadlet_in, ShowsWords}
 use Rattle.fw_remarks.specs.declared.register.Register.{Register}
-use Rattle.fw_remarks.specs.declared.known.Known.{Known}
-use Rattle.fw_remarks.specs.Knowing.{differing}
+use Rattle.fw_remarks.specs.Knowing.{all_known}
 use Rattle.fw_known.specs.declared.asked.Asking.{Asking}
 use Rattle.fw_known.specs.declared.asked.Asking.TheVariants.{Swap as SwapOf}
 use Rattle.fw_known.specs.declared.asked.Asked.{Asked}
@@ -35,7 +34,7 @@ use Rattle.fw_watch_laws.proofs.LockWords.{IsMoved, lock_words, moved_words}
 use Rattle.fw_watch_laws.proofs.SamePlace.{Stands}
 use Rattle.fw_watch_laws.proofs.Swaps.{IsPlaced, same_request, placed, looked_if}
 use Rattle.fw_watch_laws.proofs.WordFrames.{OthersSame}
-use Rattle.fw_watch_laws.proofs.Glimpses.{Seen, IsFollowed, answer_seen, left_of, all_differ, made_seen, old_quadlet, IsSwapAsked, swap_asked, unmade, asking_is}
+use Rattle.fw_watch_laws.proofs.Glimpses.{Seen, IsFollowed, answer_seen, left_of, made_seen, old_quadlet, IsSwapAsked, swap_asked, unmade, asking_is}
 use Rattle.fw_watch_laws.proofs.PacketGlimpses.{placed_stands}
 
 -- ---- a lock that has changed nothing
@@ -72,7 +71,7 @@ unchanged_seen s l m p a k c w n none =
     let swap : a.swap ≡ made_by q.asking a.found = k.of.swap ∙ ap (made_by q.asking) (sym k.of.found_is) in
     let done : word_of m v ≡ word_of l v → OthersSame l m v → Seen l m (glimpse_by (heed s a.at) a) =
     λ left others. answer_seen s l m a v c stands found
-    (ap (λ (z : Known). differing z (word_of m v)) (left_of a.found a.swap (word_of l v) None found none) ∙ all_differ (word_of l v) (word_of m v) left) others in
+    (left_of a.found a.swap (word_of l v) None found none ∙ ap all_known (sym left)) others in
     elim (lock_words r.request.operation r.controller r.request k.function 0 k.bytes l m c.sound refl r.next) [
       | inl i ↦ (
           let e : i.register ≡ v = same_Some i.register v (sym i.named ∙ y.named) in
@@ -110,7 +109,8 @@ answer_there (Some y) x n function bytes e f g =
     some_answer (node_of y.destination) n y (old_word y.asking function bytes) (ap (λ (z : Asked). node_of z.destination) (sym same) ∙ f) g
 
 -- a move of the account is seen
-pub move_answered : (s : State) (l m : Account) (h : Head) (function rcode : ℕ) (bytes : List ℕ) (r : IsReplyTo l m h (Locked function rcode bytes)) → h.tl ≡ label_code Procedure → AllStand l s.standing
+pub move_answered : (s : State) (l m : Account) (h : Head) (function rcode : ℕ) (bytes : List ℕ) (r : IsReplyTo l m h (Locked function rcode bytes)) → h.tl ≡ label_code Procedure
+    → AllStand l s.standing
     → IsMoved l m r.controller r.request rcode bytes → lock_answer (answered false h s.standing) function bytes ≡ None → ⊥
 move_answered s l m h function rcode bytes r tl stand i none =
     let x : IsNamed r.request.target r.request.address = named_register l.latest r.request.target r.request.address i.register i.named in

@@ -13,8 +13,7 @@ use Rattle.fw_account.specs.Packets.{Read as ReadReply, answered as answered_to,
 use Rattle.fw_account.specs.Words.{Register as Place, word_of, word_at, register_at as place_at}
 use Rattle.fw_faults.specs.Looked.{Replies, looked_packet, ShowsWords}
 use Rattle.fw_remarks.specs.declared.register.Register.{Register}
-use Rattle.fw_remarks.specs.declared.known.Known.{Known}
-use Rattle.fw_remarks.specs.Knowing.{differing}
+use Rattle.fw_remarks.specs.Knowing.{all_known}
 use Rattle.fw_known.specs.declared.asked.Asking.{Asking}
 use Rattle.fw_known.specs.declared.asked.Asking.TheVariants.{Read, Swap as SwapOf, Lock}
 use Rattle.fw_known.specs.declared.asked.Asked.{Asked}
@@ -31,11 +30,11 @@ use Rattle.fw_watch_laws.proofs.Outstanding.{IsReplyTo, reply_to}
 use Rattle.fw_watch_laws.proofs.LockWords.{WordsSame, same_words, read_words}
 use Rattle.fw_watch_laws.proofs.SamePlace.{Stands}
 use Rattle.fw_watch_laws.proofs.Swaps.{IsPlaced, same_request, placed, looked_if}
-use Rattle.fw_watch_laws.proofs.Glimpses.{Seen, IsFollowed, answer_seen, left_of, all_differ}
+use Rattle.fw_watch_laws.proofs.Glimpses.{Seen, IsFollowed, answer_seen, left_of}
 
 -- where no word changes, a place that is not followed shows nothing
 pub all_same : (l m : Account) → WordsSame l m → Seen l m None
-all_same l m w n g v x = w v
+all_same l m w r e v = w v
 
 -- ---- reads
 
@@ -57,7 +56,8 @@ placed_shows : (l : Account) (r : Request) (q : Asked) (a : Answer) (value : ℕ
 placed_shows l r q a value y target node register =
     record { place = y.register; stands = placed_stands l r q a (Some value) y target node register; word = sym (same_Some value (word_of l y.register) y.word) }
 
-word_shows : (l : Account) (a : Answer) (value : ℕ) (o : Option Place) → IsNumber a.at.register → place_at l.latest a.at.node (offset_of a.at.register) ≡ o → option_map (word_of l) o ≡ Some value → Shows l a value
+word_shows : (l : Account) (a : Answer) (value : ℕ) (o : Option Place) → IsNumber a.at.register → place_at l.latest a.at.node (offset_of a.at.register) ≡ o
+    → option_map (word_of l) o ≡ Some value → Shows l a value
 word_shows l a value None n e f = cc
 word_shows l a value (Some v) n e f = record { place = v; stands = record { number = n; place = e }; word = same_Some (word_of l v) value f }
 
@@ -72,7 +72,7 @@ read_shown s l m p a k c x same =
     let found : a.found ≡ Some (word_of l x.place) = k.of.found_is ∙ ap (λ (w : ℕ). Some w) (sym x.word) in
     let none : a.swap ≡ None = k.of.swap ∙ made_none k.request.asking (Some k.value) k.standing.is.kind in
     answer_seen s l m a x.place c x.stands found
-    (ap (λ (y : Known). differing y (word_of m x.place)) (left_of a.found a.swap (word_of l x.place) None found none) ∙ all_differ (word_of l x.place) (word_of m x.place) (same x.place))
+    (left_of a.found a.swap (word_of l x.place) None found none ∙ ap all_known (sym (same x.place)))
     (λ v t n. same v)
 
 -- a complete response to a read shows the account's word

@@ -49,7 +49,7 @@ base_of BandwidthAvailable = 0
 base_of (OutputPlug p) = 0
 base_of (InputPlug p) = 0
 
-two_halves : ChannelsAvailable 0 ≡ ChannelsAvailable 32 → ⊥
+pub two_halves : ChannelsAvailable 0 ≡ ChannelsAvailable 32 → ⊥
 two_halves e = let g = ap base_of e in omega (arith, g)
 
 -- where they are one of the account

@@ -93,7 +93,7 @@ open_but l m ch base i x w e n =
     let a : m.allocations (base + i) ≡ l.allocations (base + i) = ap (λ (f : ℕ → Option Allocation). f (base + i)) e ∙ same in
     cc
 
-differ_but : (l m : Account) (ch base : ℕ) (x : Option Allocation) → m.withheld ≡ l.withheld → m.allocations ≡ update l.allocations ch x
+pub differ_but : (l m : Account) (ch base : ℕ) (x : Option Allocation) → m.withheld ≡ l.withheld → m.allocations ≡ update l.allocations ch x
     → DifferAt (ch - base) (word_of l (ChannelsAvailable base)) (word_of m (ChannelsAvailable base))
 differ_but l m ch base x w e i h n =
     channel_bit l base i h ∙ ap (λ (b : Bool). flag b == 1) (open_but l m ch base i x w e n) ∙ sym (channel_bit m base i h)

@@ -18,6 +18,7 @@ use Rattle.fw_account.proofs.Places.{register_at_address}
 use Rattle.fw_faults.specs.Looked.{Shows as ShowsEntry, is_watched, register_by, register_shown, ShowsWords}
 use Rattle.fw_remarks.specs.declared.register.Register.{Register}
 use Rattle.fw_remarks.specs.Registers.{register_at, is_managed}
+use Rattle.fw_remarks.specs.Knowing.{all_known}
 use Rattle.fw_known.specs.declared.state.State.{State}
 use Rattle.fw_known.specs.States.{is_device, node_of_device, is_manager}
 use Rattle.fw_watch.specs.Steps.{shown_at_node, shown_at}
@@ -26,9 +27,8 @@ use Rattle.fw_watch_laws.specs.Orderly.{offset_of}
 use Rattle.fw_watch_laws.proofs.Offsets.{offset_at, watched}
 use Rattle.fw_watch_laws.proofs.OnBus.{IsOnBus}
 use Rattle.fw_watch_laws.proofs.WordMoves.{death_keeps}
-use Rattle.fw_watch_laws.proofs.SamePlace.{Stands}
 use Rattle.fw_watch_laws.proofs.Swaps.{number_of}
-use Rattle.fw_watch_laws.proofs.Glimpses.{Seen, all_differ}
+use Rattle.fw_watch_laws.proofs.Glimpses.{Seen}
 
 -- ---- shown words
 
@@ -51,7 +51,8 @@ shown_place : (o : Option ResetEntry) (s : State) (w : ShownEntry) (node : ℕ) 
 shown_place None s w node v b n e = cc
 shown_place (Some r) s w node v b n e =
     let x = node_is r.nodes w.device node (ap (node_of_device w.device) (sym b.nodes) ∙ n) in
-    let id : id_in (Some r) w.device ≡ Some (first_id + node) = ap (id_below (length r.nodes)) x.is ∙ below (nat_lt node (length r.nodes)) (first_id + node) (let low = x.within in grind (arith, low)) in
+    let id : id_in (Some r) w.device ≡ Some (first_id + node) = ap (id_below (length r.nodes)) x.is
+    ∙ below (nat_lt node (length r.nodes)) (first_id + node) (let low = x.within in grind (arith, low)) in
     sym (register_at_address (Some r) node w.offset) ∙ ap (register_by (Some r) w.offset) (sym id) ∙ e
   where
     below : (c : Bool) (k : ℕ) → c ≡ true → (if c then Some k else None) ≡ Some k
@@ -60,7 +61,7 @@ shown_place (Some r) s w node v b n e =
 
 shown_by : (b : Bool) (s : State) (l : Account) (w : ShownEntry) (node : ℕ) (g : Register) → IsOnBus l.latest s → ShowsWords l (ShowsEntry w) → node_of_device w.device s.nodes ≡ Some node
     → register_at (REGISTER_SPACE + w.offset) ≡ Some g → Seen l l (word_glimpse (if b then None else Some (record { node = node; register = g })) w.word)
-shown_by true s l w node g b h n at = λ k q v x. refl
+shown_by true s l w node g b h n at = λ r e v. refl
 shown_by false s l w node g b h n at =
     let number : IsNumber g = number_of (REGISTER_SPACE + w.offset) g at in
     let address = offset_at (REGISTER_SPACE + w.offset) g at in
@@ -70,14 +71,14 @@ shown_by false s l w node g b h n at =
       place = y.0;
       stands = record { number = number; place = ap (place_at l.latest node) (sym offset) ∙ shown_place l.latest s w node y.0 b n y.1 };
       found = ap (λ (k : ℕ). Some k) y.2;
-      left = all_differ w.word (word_of l y.0) (sym y.2);
+      word = ap all_known y.2;
       others = λ v t u. refl;
     }
 
 shown_if : (o : Option ℕ) (g : Option Register) (s : State) (l : Account) (w : ShownEntry) → IsOnBus l.latest s → ShowsWords l (ShowsEntry w) → node_of_device w.device s.nodes ≡ o
     → register_at (REGISTER_SPACE + w.offset) ≡ g → Seen l l (word_glimpse (shown_at_node s o g) w.word)
-shown_if None g s l w b h n at = λ k q v x. refl
-shown_if (Some node) None s l w b h n at = λ k q v x. refl
+shown_if None g s l w b h n at = λ r e v. refl
+shown_if (Some node) None s l w b h n at = λ r e v. refl
 shown_if (Some node) (Some g) s l w b h n at = shown_by (is_managed g && not (is_manager node s.manager)) s l w node g b h n at
 
 pub word_seen : (s : State) (l : Account) (w : ShownEntry) → IsOnBus l.latest s → ShowsWords l (ShowsEntry w) → Seen l l (word_glimpse (shown_at s w) w.word)
@@ -93,11 +94,11 @@ second_words l (OutputPlug p) = refl
 second_words l (InputPlug p) = refl
 
 same_by : (l k m : Account) → Some k ≡ Some m → ((v : Place) → word_of k v ≡ word_of l v) → Seen l m None
-same_by l k m e f n g v x = ap (λ (y : Account). word_of y v) (sym (same_Some k m e)) ∙ f v
+same_by l k m e f r x v = ap (λ (y : Account). word_of y v) (sym (same_Some k m e)) ∙ f v
 
-none_stands : (o : Option ResetEntry) (n : ℕ) (g : Register) (v : Place) → is_some o ≡ false → Stands o n g v → ⊥
-none_stands None n g v e x = (let y = x.place in cc)
-none_stands (Some r) n g v e x = cc
+none_latest : (o : Option ResetEntry) (r : ResetEntry) → is_some o ≡ false → o ≡ Some r → ⊥
+none_latest None r e x = cc
+none_latest (Some q) r e x = cc
 
 event_if : (a b c d f : Bool) (device : ℕ) (l m : Account) → IsSound l → is_some l.latest ≡ f
     → (if a then (if d then Some (after_second l) else None) else (if b then Some (after_death device l) else (if c then (if f then None else Some (after_withholding l)) else Some l))) ≡ Some m
@@ -106,7 +107,7 @@ event_if true b c true f device l m s i e = same_by l (after_second l) m e (seco
 event_if true b c false f device l m s i e = cc
 event_if false true c d f device l m s i e = same_by l (after_death device l) m e (λ v. death_keeps device l v s)
 event_if false false true d true device l m s i e = cc
-event_if false false true d false device l m s i e = λ n g v x. absurd (none_stands l.latest n g v i x)
+event_if false false true d false device l m s i e = λ r x v. absurd (none_latest l.latest r i x)
 event_if false false false d f device l m s i e = same_by l l m e (λ v. refl)
 
 pub event_seen : (x : EventEntry) (l m : Account) → IsSound l → after_event x l ≡ Some m → Seen l m None

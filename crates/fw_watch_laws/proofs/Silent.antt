@@ -39,7 +39,7 @@ pub record IsOfSwaps (q : Said → Bool) : Type 0 where
 
 -- ---- the second stays as words are judged
 
-put_second : (r : Register) (s : State) (n : ℕ) (k : Known) → (with_known s (record { node = n; register = r }) k).second ≡ s.second
+pub put_second : (r : Register) (s : State) (n : ℕ) (k : Known) → (with_known s (record { node = n; register = r }) k).second ≡ s.second
 unfolding with_known with_known_plug
 put_second Bandwidth s n k = refl
 put_second ChannelsHigh s n k = refl
@@ -47,11 +47,11 @@ put_second ChannelsLow s n k = refl
 put_second (Output x) s n k = refl
 put_second (Input x) s n k = refl
 
-judged_second : (s : State) (at : At) (found : ℕ) → (judged s at found).second ≡ s.second
+pub judged_second : (s : State) (at : At) (found : ℕ) → (judged s at found).second ≡ s.second
 unfolding judged
 judged_second s at found = put_second at.register _ at.node (all_known found)
 
-manager_second : (at : At) (s : State) → (with_manager at s).second ≡ s.second
+pub manager_second : (at : At) (s : State) → (with_manager at s).second ≡ s.second
 manager_second at s = ap (λ (x : State). x.second) (manager_only at s).1
 
 -- ---- answers

@@ -112,7 +112,8 @@ own_if true l h address k operation asking xs c id r g same few apart tl device 
     let source : id ≡ h.source = apart id h.source c d (device ∙ ap (λ (n : ℕ). Some n) (sym (eqb-true c k same))) in
     let at_one : register_at address ≡ Some g = ap (λ (y : Request). register_at y.address) one ∙ at in
     let q : Asked = record { source = h.source; destination = h.destination; label = h.tl; register = g; asking = asking } in
-    let whole : q ≡ asked_of id r g = λ i. record { source = sym source i; destination = (one i).target; label = tl i; register = g; asking = (asks ∙ ap (λ (y : Request). asking_of y.operation) one) i } in
+    let whole : q ≡ asked_of id r g =
+    λ i. record { source = sym source i; destination = (one i).target; label = tl i; register = g; asking = (asks ∙ ap (λ (y : Request). asking_of y.operation) one) i } in
     let P : Asked → Type 0 = λ y. IsMember y (with_request (asked_at_register h (register_at address) asking) (without_same h xs)) in
     subst P whole (new_stands (register_at address) h asking g (without_same h xs) (few_left h xs few) at_one)
 own_if false l h address k operation asking xs c id r g same few apart tl device asks a out d at =

@@ -111,7 +111,8 @@ abbrev pub standing_after : Option ℕ → List Asked → List Asked
 standing_after None xs = xs
 standing_after (Some node) xs = without_source (0xFFC0 + node) xs
 
-pub buried_stands : (o : Option ℕ) (l m : Account) (device : ℕ) (xs : List Asked) → IsEnded l m device → ((node : ℕ) → o ≡ Some node → device_of_id l.latest (0xFFC0 + node) ≡ Some device) → AllStand l xs
+pub buried_stands : (o : Option ℕ) (l m : Account) (device : ℕ) (xs : List Asked) → IsEnded l m device → ((node : ℕ) → o ≡ Some node → device_of_id l.latest (0xFFC0 + node) ≡ Some device)
+    → AllStand l xs
     → AllStand m (standing_after o xs)
 buried_stands None l m device xs i at a = ended_stands l m device xs xs i (λ c id r g n d e. e) a
 buried_stands (Some node) l m device xs i at a =

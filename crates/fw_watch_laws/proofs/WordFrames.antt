@@ -114,7 +114,8 @@ pub record IsHeld (l : Account) (ch : ℕ) : Type 0 where
   pub at : l.allocations ch ≡ Some allocation
   pub within : ch < 64
 
-pub first_keeps : (l m : Account) (p : PlugAt) (ch : ℕ) (x : Allocation) → IsHeld l ch → m.allocations ≡ update l.allocations ch (Some x) → x.units ≡ allocated (l.allocations ch) → m.withheld ≡ l.withheld
+pub first_keeps : (l m : Account) (p : PlugAt) (ch : ℕ) (x : Allocation) → IsHeld l ch → m.allocations ≡ update l.allocations ch (Some x) → x.units ≡ allocated (l.allocations ch)
+    → m.withheld ≡ l.withheld
     → ((q : PlugAt) → q ≢ p → (m.outputs q ≡ l.outputs q) × (m.settings q ≡ l.settings q)) → ((q : PlugAt) → (m.inputs q ≡ l.inputs q) × (m.input_channel q ≡ l.input_channel q)) → IsOutput l m p
 first_keeps l m p ch x h a u w o i = record {
   total_is = ap (λ (f : ℕ → Option Allocation). total f) a ∙ total_same l.allocations ch (Some x) h.within u;

@@ -1,5 +1,5 @@
 -- Logs without an audit fault, in which `watch` finds nothing; and what it does not find there.
-use Rattle.std.specs.Prelude.{◌≡◌, ◌≢◌, ◌<◌, ℕ, ◌+◌, ◌*◌, ⊤, IsTrue, is_some, Bool, true, false, List, ◌∷◌, ◌++◌, length, Some}
+use Rattle.std.specs.Prelude.{◌≡◌, ◌≢◌, ◌<◌, ℕ, ◌+◌, ◌*◌, ⊤, IsTrue, is_some, Bool, true, false, List, [], ◌∷◌, ◌++◌, length, Option, Some, None}
 use Rattle.std.specs.List.{All, list_any}
 use Rattle.fw_base.specs.declared.label.Label.TheVariants.{Procedure}
 use Rattle.fw_base.specs.Labels.{label_code}
@@ -8,6 +8,7 @@ use Rattle.fw_async.specs.declared.packet.Head.{Head}
 use Rattle.fw_async.specs.declared.packet.Packet.{Packet}
 use Rattle.fw_async.specs.declared.packet.Packet.TheVariants.{WriteQuadlet, WriteBlock, WriteReply, ReadQuadlet, ReadBlock, ReadQuadletReply, ReadBlockReply, CycleStart, Lock, LockReply}
 use Rattle.fw_entry.specs.Log.{InOrder}
+use Rattle.fw_entry.specs.declared.entry.ResetEntry.{ResetEntry}
 use Rattle.fw_entry.specs.declared.entry.Entry.{Entry}
 use Rattle.fw_entry.specs.declared.entry.Entry.TheVariants.{Reset, Async, Iso, Event, Outcome, Shown, End}
 use Rattle.fw_entry.specs.declared.entry.Timed.{Timed}
@@ -16,7 +17,7 @@ use Rattle.fw_account.specs.Words.{word_at}
 use Rattle.fw_account.specs.Fold.{account_of, entries_of}
 use Rattle.fw_faults.specs.Audited.{IsAudited}
 use Rattle.fw_remarks.specs.declared.remark.Remark.{Remark}
-use Rattle.fw_remarks.specs.declared.remark.Remark.TheVariants.{NotManager, TooMany, Several, MoreThanMove}
+use Rattle.fw_remarks.specs.declared.remark.Remark.TheVariants.{NotManager, TooMany, UnitsInSecond, NewInSecond, Several, MoreThanMove}
 use Rattle.fw_remarks.specs.declared.register.Register.{Register}
 use Rattle.fw_remarks.specs.declared.register.Register.TheVariants.{Bandwidth, ChannelsHigh, ChannelsLow, Output, Input}
 use Rattle.fw_remarks.specs.Registers.{register_at}
@@ -94,6 +95,28 @@ pub record ShowsAccount (entries : List Timed) : Type 0 where
   pub others : All (λ t. IsApartIn t.what) entries
   pub few : (front rest : List Timed) → entries ≡ front ++ rest → length (known front).standing < 256
 
+-- the cycle of the latest bus reset
+abbrev pub reset_cycle : Option ℕ → ℕ → Entry → Option ℕ
+reset_cycle since cycle (Reset r) = Some cycle
+reset_cycle since cycle (Async p) = since
+reset_cycle since cycle (Iso p) = since
+reset_cycle since cycle (Event e) = since
+reset_cycle since cycle (Outcome o) = since
+reset_cycle since cycle (Shown w) = since
+reset_cycle since cycle End = since
+
+-- of entries
+abbrev pub last_reset : Option ℕ → List Timed → Option ℕ
+last_reset since [] = since
+last_reset since (t ∷ ts) = last_reset (reset_cycle since t.cycle t.what) ts
+
+-- a bus reset that comes while the second of the account runs comes within 8000 cycles of the one before it
+abbrev pub HasTimelyResets : List Timed → Type 0
+HasTimelyResets entries =
+    (front rest : List Timed) (cycle : ℕ) (r : ResetEntry) (l : Account) → entries ≡ front ++ (record { cycle = cycle; what = Reset r }) ∷ rest → account_of (entries_of front) ≡ Some l
+    → IsTrue l.reclaiming
+    → (since : ℕ) × (last_reset None front ≡ Some since) × (cycle < since + 8000)
+
 -- ---- what is not found there
 
 -- a swap at a node that is not the resource manager
@@ -115,6 +138,12 @@ is_several _ = false
 abbrev pub is_more : Remark → Bool
 is_more (MoreThanMove by at old new) = true
 is_more _ = false
+
+-- units or a channel are taken in the second after a bus reset that were not held before it
+abbrev pub is_new_in_second : Remark → Bool
+is_new_in_second (UnitsInSecond by epoch taken held) = true
+is_new_in_second (NewInSecond by channel epoch) = true
+is_new_in_second _ = false
 
 -- a log has no such remark
 abbrev pub HasNone : (Remark → Bool) → List Timed → Type 0

@@ -10,7 +10,7 @@ ghost use Rattle.fw_watch.specs.Watched.{known};
 ghost use Rattle.fw_watch.specs.Steps.{remarks};
 ghost use Rattle.fw_watch_laws.specs.LastKnown.{IsPlace, last_known};
 ghost use Rattle.fw_watch_laws.specs.ChangedUnseen.{is_unseen, unseen_due, tells_unseen};
-ghost use Rattle.fw_watch_laws.specs.Orderly.{IsOrderly, is_not_manager, is_too_many, is_several, is_more, HasNone, ShowsAccount};
+ghost use Rattle.fw_watch_laws.specs.Orderly.{IsOrderly, is_not_manager, is_too_many, is_several, is_more, HasNone, ShowsAccount, HasTimelyResets, is_new_in_second};
 ghost use Rattle.fw_watch_laws.specs.Counting.{AreCounted};
 ghost use Rattle.fw_watch_laws.specs.TwoSenders.{IsPacket, stays, TwoTold};
 
@@ -61,4 +61,9 @@ pub fn sound_logs_show_what_is_known()
 /// registers that are followed, of which something was known, or nothing; of words told as changed unseen; of isochronous packets; and of findings.
 pub fn counts_are_right()
     ensures { (entries : List Timed) → AreCounted entries }
+{}
+
+/// In such a log whose bus resets come in time, nothing is taken in the second after a bus reset that was not held before it.
+pub fn sound_logs_take_back_what_they_held()
+    ensures { (entries : List Timed) → IsOrderly entries → ShowsAccount entries → HasTimelyResets entries → HasNone is_new_in_second entries }
 {}

@@ -1,0 +1,197 @@
+-- In a log without an audit fault, whose other answers show the words of the account and whose bus resets come in time, nothing is taken in the second after a
+-- bus reset that was not held before it.
+use Rattle.std.proofs.Common.{◌≡◌, refl, ap, sym, ◌∙◌, subst, ℕ, ◌+◌, ◌<◌, ◌≤◌, true, false, List, [], ◌∷◌, ◌++◌, Option, Some, None, is_none, arith}
+use Rattle.fw_words.specs.declared.swap.Swap.{Swap}
+use Rattle.fw_async.specs.declared.packet.Packet.{Packet}
+use Rattle.fw_entry.specs.declared.entry.ResetEntry.{ResetEntry}
+use Rattle.fw_entry.specs.declared.entry.Entry.{Entry}
+use Rattle.fw_entry.specs.declared.entry.Entry.TheVariants.{Reset, Async, Iso, Event, Outcome, Shown, End}
+use Rattle.fw_entry.specs.declared.entry.Timed.{Timed}
+use Rattle.fw_entry.specs.Log.{InOrder}
+use Rattle.fw_account.specs.Account.{Account}
+use Rattle.fw_account.specs.Fold.{no_account}
+use Rattle.fw_account.specs.Words.{Register as Place, BandwidthAvailable, word_of, register_at as place_at}
+use Rattle.fw_account.proofs.Fold.{next_keeps}
+use Rattle.fw_remarks.specs.declared.register.Register.{Register}
+use Rattle.fw_remarks.specs.declared.register.Register.TheVariants.{Bandwidth, ChannelsHigh, ChannelsLow, Output, Input}
+use Rattle.fw_remarks.specs.Remarks.{Said}
+use Rattle.fw_known.specs.declared.asked.Answer.{Answer}
+use Rattle.fw_known.specs.declared.second.Second.{Second}
+use Rattle.fw_known.specs.declared.state.State.{State}
+use Rattle.fw_known.specs.Standing.{answer_of}
+use Rattle.fw_known.specs.States.{ticked_second}
+use Rattle.fw_watch.specs.Answering.{made}
+use Rattle.fw_watch.specs.Steps.{ticked, after}
+use Rattle.fw_watch.specs.Watched.{known}
+use Rattle.fw_watch_laws.specs.Orderly.{IsOrderly, ShowsAccount, HasTimelyResets, offset_of, reset_cycle, last_reset, is_new_in_second, HasNone}
+use Rattle.fw_watch_laws.proofs.Flows.{KnowsManaged}
+use Rattle.fw_watch_laws.proofs.Keeps.{whole_known}
+use Rattle.fw_watch_laws.proofs.Known.{IsFine, fine_step, seen, none_stand, none_known}
+use Rattle.fw_watch_laws.proofs.Latest.{latest_after, next_latest}
+use Rattle.fw_watch_laws.proofs.LockWords.{moved_words}
+use Rattle.fw_watch_laws.proofs.ManagedKnown.{managed_step, first_managed}
+use Rattle.fw_watch_laws.proofs.Many.{managed_is}
+use Rattle.fw_watch_laws.proofs.Passing.{Passes, known_push}
+use Rattle.fw_watch_laws.proofs.Remarked.{Kind, OfReset, OfWord, OfSwap, OfMany, OfSeveral, OfMore, OfChannel, IsFree}
+use Rattle.fw_watch_laws.proofs.Tests.{is_of_second, is_new_in_second_by}
+use Rattle.fw_watch_laws.proofs.Quiet.{NoneOdd, many_free, several_free, more_free}
+use Rattle.fw_watch_laws.proofs.Seconds.{second_after, step_second, epoch_after, step_epoch, ticked_is}
+use Rattle.fw_watch_laws.proofs.SecondAgrees.{SecondAgrees, WordsHeld, tick_words, second_step}
+use Rattle.fw_watch_laws.proofs.Silent.{IsOfSwaps}
+use Rattle.fw_watch_laws.proofs.Swaps.{IsAccountSwap, swap_in}
+use Rattle.fw_watch_laws.proofs.AtManager.{silent}
+use Rattle.fw_watch_laws.proofs.TakenBack.{second_kept, units_quiet, high_quiet, low_quiet}
+use Rattle.fw_watch_laws.proofs.Timely.{last_cycle, in_time, last_cycle_push, last_reset_push, InSecond, ticks}
+use Rattle.fw_watch_laws.proofs.UnitsTaken.{FromUnits, begun_units, units_step, same_units}
+
+-- ---- what holds after each entry
+
+pub record IsInTime (front : List Timed) (l : Account) : Type 0 where
+  pub fine : IsFine front l
+  pub epoch : is_none (known front).epoch ≡ is_none l.latest
+  pub units : (r : ResetEntry) → l.latest ≡ Some r → InSecond (known front).second (word_of l BandwidthAvailable)
+  pub second : SecondAgrees (last_reset None front) (last_cycle 0 front) (known front).second l
+  pub managed : (r : ResetEntry) → l.latest ≡ Some r → KnowsManaged (known front).managed l
+
+epoch_latest : (e : Entry) (o : Option ℕ) (p : Option ResetEntry) → is_none o ≡ is_none p → is_none (epoch_after e o) ≡ is_none (latest_after e p)
+epoch_latest (Reset r) o p e = refl
+epoch_latest (Async x) o p e = e
+epoch_latest (Iso x) o p e = e
+epoch_latest (Event x) o p e = e
+epoch_latest (Outcome x) o p e = e
+epoch_latest (Shown x) o p e = e
+epoch_latest End o p e = e
+
+-- the first bus reset
+first_reset : (e : Entry) (r : ResetEntry) → latest_after e None ≡ Some r → (q : ResetEntry) × (e ≡ Reset q)
+first_reset (Reset q) r e = (q, refl)
+first_reset (Async x) r e = cc
+first_reset (Iso x) r e = cc
+first_reset (Event x) r e = cc
+first_reset (Outcome x) r e = cc
+first_reset (Shown x) r e = cc
+first_reset End r e = cc
+
+none_taken : (e : Entry) (q : ResetEntry) (cycle : ℕ) (s : State) (d : Second) (m : Account) → e ≡ Reset q → InSecond (second_after e cycle s d) (word_of m BandwidthAvailable)
+none_taken e q cycle s d m f =
+    let P : Entry → Type 0 = λ y. InSecond (second_after y cycle s d) (word_of m BandwidthAvailable) in
+    subst P (sym f) (begun_units cycle (is_none s.epoch) s.managed d (word_of m BandwidthAvailable) (omega arith))
+
+-- a swap at BANDWIDTH_AVAILABLE is from the account's word
+from_units : (entries front rest : List Timed) (t : Timed) (l m : Account) → Passes entries front rest t l m → (p : Packet) (a : Answer) → t.what ≡ Async p
+    → answer_of (known front).standing p ≡ Some a
+    → FromUnits l a
+from_units entries front rest t l m y p a e f swap g at =
+    let i : IsAccountSwap l m a swap = swap_in entries front rest t l m p a swap y e f g in
+    ap (word_of l) (sym (managed_is l m a swap Bandwidth i at refl)) ∙ i.move.is.before
+
+units_in : (o : Option ResetEntry) (entries front rest : List Timed) (t : Timed) (l m : Account) (r : ResetEntry) → ShowsAccount entries → Passes entries front rest t l m → IsInTime front l
+    → l.latest ≡ o
+    → m.latest ≡ Some r → InSecond (second_after t.what t.cycle (known front) (ticked_second t.cycle (known front).second)) (word_of m BandwidthAvailable)
+units_in None entries front rest t l m r s y h e f =
+    let z = first_reset t.what r (ap (latest_after t.what) (sym e) ∙ sym (next_latest t.what l m y.next) ∙ f) in
+    none_taken t.what z.0 t.cycle (known front) (ticked_second t.cycle (known front).second) m z.1
+units_in (Some q) entries front rest t l m r s y h e f =
+    units_step t.what t.cycle (known front) (known front).second l m q e (seen entries front rest t l m s y h.fine) y.next (from_units entries front rest t l m y) (h.units q e)
+
+managed_in : (o : Option ResetEntry) (entries front rest : List Timed) (t : Timed) (l m : Account) (r : ResetEntry) → ShowsAccount entries → Passes entries front rest t l m → IsInTime front l
+    → l.latest ≡ o
+    → m.latest ≡ Some r → KnowsManaged (after (known front) t).managed m
+managed_in None entries front rest t l m r s y h e f =
+    let z = first_reset t.what r (ap (latest_after t.what) (sym e) ∙ sym (next_latest t.what l m y.next) ∙ f) in
+    first_managed (known front) t z.0 l m z.1 y.next
+managed_in (Some q) entries front rest t l m r s y h e f =
+    managed_step t (known front) l m q e (whole_known front) (seen entries front rest t l m s y h.fine) y.next (h.managed q e)
+
+timely_in : (entries front rest : List Timed) (t : Timed) (l m : Account) → HasTimelyResets entries → Passes entries front rest t l m → (r : ResetEntry) → t.what ≡ Reset r → l.reclaiming ≡ true
+    → (c : ℕ) × (last_reset None front ≡ Some c) × (t.cycle < c + 8000)
+timely_in entries front rest t l m w y r e runs =
+    let same : t ≡ record { cycle = t.cycle; what = Reset r } = ap (λ (x : Entry). record { cycle = t.cycle; what = x }) e in
+    w front rest t.cycle r l (y.parts ∙ ap (λ (x : Timed). front ++ x ∷ rest) same) y.account runs
+
+time_step : (entries front rest : List Timed) (t : Timed) (l m : Account) → IsOrderly entries → ShowsAccount entries → HasTimelyResets entries → Passes entries front rest t l m → IsInTime front l
+    → IsInTime (front ++ t ∷ []) m
+time_step entries front rest t l m o s w y h =
+    let push : after (known front) t ≡ known (front ++ t ∷ []) = sym (known_push front t) in
+    let second : second_after t.what t.cycle (known front) (ticked_second t.cycle (known front).second) ≡ (known (front ++ t ∷ [])).second =
+    sym (step_second (known front) t) ∙ ap (λ (z : State). z.second) push in
+    let order : last_cycle 0 front ≤ t.cycle = in_time 0 front rest t (subst (λ (xs : List Timed). InOrder 0 xs) y.parts o.order) in
+    let agrees = second_step t.what t.cycle (last_cycle 0 front) (last_reset None front) (known front) (known front).second l m y.next order y.sound h.epoch h.managed
+    (timely_in entries front rest t l m w y) h.second in
+    let P : State → Type 0 = λ z. KnowsManaged z.managed m in
+    let Q : Second → Type 0 = λ d. InSecond d (word_of m BandwidthAvailable) in
+    let R : Second → Type 0 = λ d. SecondAgrees (last_reset None (front ++ t ∷ [])) (last_cycle 0 (front ++ t ∷ [])) d m in
+    let S : Option ℕ → Type 0 = λ c. SecondAgrees c (last_cycle 0 (front ++ t ∷ [])) (second_after t.what t.cycle (known front) (ticked_second t.cycle (known front).second)) m in
+    let T : ℕ → Type 0 = λ c. SecondAgrees (reset_cycle (last_reset None front) t.cycle t.what) c (second_after t.what t.cycle (known front) (ticked_second t.cycle (known front).second)) m in
+    record {
+      fine = fine_step entries front rest t l m s y h.fine;
+      epoch =
+          ap (λ (z : State). is_none z.epoch) (sym push) ∙ ap (λ (c : Option ℕ). is_none c) (step_epoch (known front) t) ∙ epoch_latest t.what (known front).epoch l.latest h.epoch
+          ∙ ap (λ (c : Option ResetEntry). is_none c) (sym (next_latest t.what l m y.next));
+      units = λ r e. subst Q second (units_in l.latest entries front rest t l m r s y h refl e);
+      second = subst R second (subst S (sym (last_reset_push None front t)) (subst T (sym (last_cycle_push 0 front t)) agrees));
+      managed = λ r e. subst P push (managed_in l.latest entries front rest t l m r s y h refl e);
+    }
+
+in_time_first : IsInTime [] no_account
+in_time_first = record {
+  fine = record { nodes = tt; stand = none_stand; knows = none_known };
+  epoch = refl;
+  units = λ r e. cc;
+  second = record { words = λ w e. cc; runs = λ e. cc };
+  managed = λ r e. cc;
+}
+
+-- ---- the law
+
+free : (k : Kind) → is_of_second k ≡ false → IsFree (λ (s : Said). is_new_in_second s.remark) k
+free k n x e = is_new_in_second_by x.remark ∙ ap is_of_second e ∙ n
+
+of_swaps : IsOfSwaps (λ (s : Said). is_new_in_second s.remark)
+of_swaps = record { reset = free OfReset refl; word = free OfWord refl; swap = free OfSwap refl; channel = free OfChannel refl }
+
+-- the words that were known before the second, at the time of the entry
+held_now : (front : List Timed) (cycle : ℕ) (l : Account) (u : State) → IsInTime front l → u.second ≡ (ticked cycle (known front)).second → WordsHeld u.second.before l
+held_now front cycle l u h e =
+    let P : Second → Type 0 = λ d. WordsHeld d.before l in
+    subst P (sym (e ∙ ticked_is cycle (known front))) (tick_words cycle (known front).second l h.second.words)
+
+units_now : (front : List Timed) (cycle : ℕ) (l : Account) (u : State) (r : ResetEntry) → IsInTime front l → l.latest ≡ Some r → u.second ≡ (ticked cycle (known front)).second
+    → InSecond u.second (word_of l BandwidthAvailable)
+units_now front cycle l u r h e f =
+    let P : Second → Type 0 = λ d. InSecond d (word_of l BandwidthAvailable) in
+    let t = ticks cycle (known front).second in
+    subst P (sym (f ∙ ticked_is cycle (known front)))
+    (same_units (known front).second (ticked_second cycle (known front).second) (word_of l BandwidthAvailable) (word_of l BandwidthAvailable) t.taken t.given refl (h.units r e))
+
+latest_of : (o : Option ResetEntry) (n offset : ℕ) (v : Place) → place_at o n offset ≡ Some v → (r : ResetEntry) × (o ≡ Some r)
+latest_of None n offset v e = cc
+latest_of (Some r) n offset v e = (r, refl)
+
+none_odd : (g : Register) (entries front rest : List Timed) (t : Timed) (l m : Account) (a : Answer) (swap : Swap) (u : State) → Passes entries front rest t l m → IsInTime front l
+    → IsAccountSwap l m a swap → u.second ≡ (ticked t.cycle (known front)).second → a.at.register ≡ g → NoneOdd (λ (s : Said). is_new_in_second s.remark) g u (made t.cycle a swap)
+none_odd Bandwidth entries front rest t l m a swap u y h i e at =
+    let place = managed_is l m a swap Bandwidth i at refl in
+    let r = latest_of l.latest a.at.node (offset_of a.at.register) i.register i.place in
+    let old : word_of l BandwidthAvailable ≡ swap.argument = ap (word_of l) (sym place) ∙ i.move.is.before in
+    let new : word_of m BandwidthAvailable ≡ swap.new = ap (word_of m) (sym place) ∙ (moved_words l m i.controller i.register swap y.sound i.below i.move).0 in
+    let P : ℕ → Type 0 = λ w. InSecond u.second w in (
+      many_free _ (made t.cycle a swap) (free OfMany refl),
+      units_quiet _ u (made t.cycle a swap) l m (next_keeps l m t.what y.fits y.sound y.next) (second_kept l m i.controller i.register swap i.move) new
+          (subst P old (units_now front t.cycle l u r.0 h r.1 e)) (held_now front t.cycle l u h e),
+    )
+none_odd ChannelsHigh entries front rest t l m a swap u y h i e at = (
+  high_quiet _ u a swap t.cycle l m i.controller i.register at i.move (managed_is l m a swap ChannelsHigh i at refl) (held_now front t.cycle l u h e),
+  several_free _ (made t.cycle a swap) (free OfSeveral refl),
+)
+none_odd ChannelsLow entries front rest t l m a swap u y h i e at = (
+  low_quiet _ u a swap t.cycle l m i.controller i.register at i.move (managed_is l m a swap ChannelsLow i at refl) (held_now front t.cycle l u h e),
+  several_free _ (made t.cycle a swap) (free OfSeveral refl),
+)
+none_odd (Output k) entries front rest t l m a swap u y h i e at = more_free _ (made t.cycle a swap) (free OfMore refl)
+none_odd (Input k) entries front rest t l m a swap u y h i e at = more_free _ (made t.cycle a swap) (free OfMore refl)
+
+pub none_new : (entries : List Timed) → IsOrderly entries → ShowsAccount entries → HasTimelyResets entries → HasNone is_new_in_second entries
+none_new entries o s w =
+    silent (λ (x : Said). is_new_in_second x.remark) entries IsInTime o of_swaps (λ front rest t l m y h. time_step entries front rest t l m o s w y h) in_time_first
+    (λ front rest t l m a swap u y h i e. none_odd a.at.register entries front rest t l m a swap u y h i e refl)
