@@ -21,8 +21,9 @@ if command -v python3 >/dev/null; then
     made tools/check.py dist/fire
     made tools/captures/check.py dist/fire
     made tools/counts.py --check
+    made tools/wrong.py --check
 else
-    echo 'checks: tools/check.py, tools/captures/check.py and tools/counts.py skipped, since there is no python3'
+    echo 'checks: tools/check.py, tools/captures/check.py, tools/counts.py and tools/wrong.py skipped, since there is no python3'
 fi
 echo "checks: $passed passed, $failed failed"
 [ "$failed" = 0 ]
