@@ -1,4 +1,4 @@
--- What is known of a register behind an entry.
+-- What is known of a register after an entry.
 use Rattle.std.proofs.Common.{◌≡◌, refl, ap, ◌∙◌, ℕ, ◌+◌, ◌*◌, ◌==◌, ◌&&◌, not, Bool, true, false, List, length, if◌then◌else◌, Option, Some, None, IfSome, unwrap_or, arith}
 use Rattle.std.specs.List.{All}
 use Rattle.std.proofs.lemmas.List.{get_or-replicate}
@@ -124,7 +124,7 @@ known_event : (e : EventEntry) (s : State) (at : At) → known_of (after_event e
 unfolding after_event
 known_event e s at = second_if (e.code == Events.SECOND_OVER) (ended_second s.second) _ s at (death_if (e.code == Events.DIED) e.device s at)
 
--- what is known behind an entry: what it leaves known, or else what was known
+-- what is known after an entry: what it leaves known, or else what was known
 known_what : (cycle : ℕ) (e : Entry) (s : State) (c : List Channel) (d : Second) (at : At) → All IsAt s.standing → IsPlace at → length s.plugs ≡ 3906
     → known_of (after_what cycle e (aside s c d)) at ≡ unwrap_or (left s e at) (known_of s at)
 unfolding after_what after_packet after_shown shown_at known_of after_heard heed

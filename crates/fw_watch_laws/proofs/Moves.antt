@@ -20,7 +20,7 @@ use Rattle.fw_watch_laws.specs.TwoSenders.{half_changes, plug_changes, changes, 
 use Rattle.fw_watch_laws.proofs.Places.{known_put}
 use Rattle.fw_watch_laws.proofs.Turns.{Turns, stay, turn_as, turn_both, or_false, freshened_turns, dues_turn, plug_turns}
 
--- the rows of channels behind, and before
+-- the rows of channels after, and before
 abbrev pub Step : ℕ → Bool → State → State → Type 0
 Step k b s t = Turns k b s.channels t.channels
 
@@ -95,7 +95,7 @@ swapped_moves k s m =
     turn_as k _ _ s.channels _ (or_false b)
     (turn_both k b false s.channels t.channels (swapped s m).channels (put_moves k s m.at (all_known m.new)) (by_moves m.at.register m k t))
 
--- what is known behind a word that was judged is that word
+-- what is known after a word that was judged is that word
 same_place : (r : Register) (n : ℕ) → is_same_by r r (n == n) ≡ true
 same_place Bandwidth n = refl
 same_place ChannelsHigh n = refl

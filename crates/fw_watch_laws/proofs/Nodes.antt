@@ -77,7 +77,7 @@ few_from : (last : ℕ) (s : State) (ts rest : List Timed) → InOrder last (ts 
 few_from last s [] rest h w = w
 few_from last s (t ∷ ts) rest h w = few_from t.cycle (after s t) ts rest h.3 (few_step s t h.1.entry w)
 
--- behind the first entries of a log there are at most 63
+-- after the first entries of a log there are at most 63
 pub few_known : (front rest : List Timed) → InOrder 0 (front ++ rest) → Few (known front)
 few_known front rest h = few_from 0 no_state front rest h (record { count = omega arith; nodes = omega arith })
 

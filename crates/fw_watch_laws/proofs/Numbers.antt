@@ -84,7 +84,7 @@ pub source_within : (source : ℕ) (list : List Asked) → All IsAt list → All
 unfolding without_source
 source_within source list a = All-filter (λ q. not (is_from source q)) IsAt list a
 
--- the requests behind a packet are at registers that there are
+-- the requests after a packet are at registers that there are
 pub standing_within : (p : Packet) (list : List Asked) → All IsAt list → All IsAt (standing_behind p list)
 unfolding standing_behind
 standing_within (WriteQuadlet h offset value) list a = same_within h list a

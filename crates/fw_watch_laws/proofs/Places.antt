@@ -1,4 +1,4 @@
--- What is known of a register behind one that was put.
+-- What is known of a register after one that was put.
 use Rattle.std.proofs.Common.{◌≡◌, ◌≢◌, refl, ℕ, ◌+◌, ◌*◌, ◌<◌, ◌==◌, ◌&&◌, Bool, true, false, List, length, if◌then◌else◌, Some, None, unwrap_or, arith, get_or, set}
 use Rattle.std.proofs.lemmas.List.{get_or-set_other}
 use Rattle.std.proofs.lemmas.Grind.{get_or-set_at}
@@ -26,7 +26,7 @@ other_plug n m a b h g e = λ f. grind (arith, e, f, h, g)
 place : ℕ → Register → At
 place n r = record { node = n; register = r }
 
--- what is known behind one that was put: of the same register that, of another what was known
+-- what is known after one that was put: of the same register that, of another what was known
 put_by : (s : State) (n : ℕ) (r : Register) (m : ℕ) (q : Register) (k : Known) → IsNumber r → m < 63 → IsNumber q → length s.plugs ≡ 3906
     → known_of (with_known s (place n r) k) (place m q) ≡ (if is_same_by r q (n == m) then k else known_of s (place m q))
 unfolding known_of with_known with_known_plug place

@@ -1,4 +1,4 @@
--- The row of a channel behind an entry.
+-- The row of a channel after an entry.
 use Rattle.std.proofs.Common.{◌≡◌, ◌≢◌, refl, ap, sym, ◌∙◌, subst, ℕ, zero, suc, ◌==◌, Bool, true, false, List, length, replicate, if◌then◌else◌, Option, Some, None, IfSome}
 use Rattle.std.proofs.lemmas.List.{length-replicate}
 use Rattle.fw_entry.specs.declared.codes.event.TheConstants as Events

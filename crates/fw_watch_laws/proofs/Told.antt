@@ -55,7 +55,7 @@ iso_two s t p k f h e on n =
       | inr m ↦ inr (entry_any s t p k e m)
     ]
 
--- what was told behind an entry was told before, and the entry does not move the channel; or it is told of the entry
+-- what was told after an entry was told before, and the entry does not move the channel; or it is told of the entry
 two_step : (s : State) (t : Timed) (k : ℕ) → Fine s → k < 64 → IsNoted (after s t) k → ((IsNoted s k) × (moves s t.what k ≡ false)) ⊎ IsTold s t k
 two_step s t k f h n = elim (split k t.what) [
   | inl y ↦ iso_two s t y.0 k f h y.1 y.2 n
@@ -186,7 +186,7 @@ none_noted k h = ap (λ (c : Channel). c.noted.two) (get_or-replicate 64 k fresh
 
 -- ---- the theorem
 
--- behind the second packet it is noted
+-- after the second packet it is noted
 noted_last : (l : ℕ) (s : State) (p q : Timed) (mid : List Timed) (k a b : ℕ) → InOrder l (p ∷ (mid ++ q ∷ [])) → Fine s → k < 64 → IsPacket p k a → IsPacket q k b → a ≢ b
     → stays (after s p) mid k ≡ true → IsNoted (known_from s (p ∷ (mid ++ q ∷ []))) k
 noted_last l s p q mid k a b o f h x y n m =

@@ -29,6 +29,6 @@ abbrev pub glimpse_due : List Timed → ℕ → Option Glimpse → List Said
 glimpse_due front cycle None = []
 glimpse_due front cycle (Some g) = found_due front cycle g.at g.found
 
--- what is to be told of an entry behind others: the word that it shows of a register, where that changed unseen
+-- what is to be told of an entry after others: the word that it shows of a register, where that changed unseen
 unfoldable pub unseen_due : List Timed → Timed → List Said
 unseen_due front t = glimpse_due front t.cycle (glimpse (known front) t.what)

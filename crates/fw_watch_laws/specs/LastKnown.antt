@@ -54,12 +54,12 @@ pub record Glimpse : Type 0 where
   pub found : Option ℕ
   pub left : Known
 
--- a word is known behind an answer: the new one of a swap that was made and changed it, or else the one that was found
+-- a word is known after an answer: the new one of a swap that was made and changed it, or else the one that was found
 abbrev pub word_left : ℕ → Option Swap → ℕ
 word_left found None = found
 word_left found (Some swap) = swap.new
 
--- behind an answer that shows no word nothing is known
+-- after an answer that shows no word nothing is known
 abbrev pub known_left : Option ℕ → Option Swap → Known
 known_left None swap = nothing_known
 known_left (Some found) swap = all_known (word_left found swap)
@@ -121,6 +121,6 @@ abbrev pub latest : State → List Timed → At → Option Known
 latest s [] at = None
 latest s (t ∷ ts) at = later (latest (after s t) ts at) (left s t.what at)
 
--- what was last known of a register behind the entries of a log
+-- what was last known of a register after the entries of a log
 unfoldable pub last_known : List Timed → At → Known
 last_known entries at = unwrap_or (latest no_state entries at) nothing_known

@@ -1,0 +1,3 @@
+pub mod RunsElsewhere
+pub mod Labelled
+pub mod RunsLabelled
