@@ -7,4 +7,5 @@ pub mod WholeLaws
 pub mod WholePassings
 pub mod SwapLaws
 pub mod PassedAudits
+pub mod LatestLaws
 pub mod PassedHoldings

@@ -1,6 +1,12 @@
 //! `json`: each entry as a JSON object, as it ends.
 
-ghost use Rattle.std.specs.Prelude.{◌≡◌, ◌<◌, [], IfOk, None, take};
+ghost use Rattle.std.specs.Prelude.{◌≡◌, ◌<◌, ◌++◌, [], IfOk, None, OnOk, take};
+ghost use Rattle.fw_entry.specs.Log.{ResetFits, body};
+ghost use Rattle.fw_entry.specs.declared.entry.Entry.{Entry as AnEntry};
+ghost use Rattle.fw_entry.specs.declared.entry.Entry.TheVariants.{Reset};
+ghost use Rattle.fw_entry.specs.declared.entry.ResetEntry.{ResetEntry};
+ghost use Rattle.fw_log.specs.Passing.{HasBody};
+ghost use Rattle.fw_text.specs.Resets.{IsResetBody};
 ghost use Rattle.fw_reading.specs.Endings.{ReadsLog};
 ghost use Rattle.fw_json.specs.Objects.{object};
 ghost use Rattle.fw_decode.specs.Silences.{never_refused};
@@ -8,10 +14,11 @@ ghost use Rattle.fw_decode.specs.Texts.{each_form, nothing};
 
 use crate::LogRefusal;
 use crate::whole_entry::WholeRoom;
-use fw_json::{ObjectRoom, put_object};
-use fw_log::{LogReader, Room, Timed};
+use fw_json::{ObjectRoom, put_object, put_reset_again, put_reset_from};
+use fw_log::{LogReader, PlainBody, Room, Timed};
 use fw_outside::{Failed, Sink, Source};
 use fw_reading::{Closing, LogEnding, Reading, Stop, read_log};
+use fw_words::quadlet_at;
 use std::alloc::{AllocError, Global};
 
 // The objects of entries.
@@ -29,6 +36,47 @@ impl Objects {
             room: ObjectRoom::new(alloc)?,
             whole: WholeRoom::new(alloc)?,
         })
+    }
+}
+
+// Appends the object of a bus reset of this cycle, whose body these bytes are: mostly it tells what the one before told.
+fn put_reset(
+    room: &mut ObjectRoom,
+    whole: &mut WholeRoom,
+    cycle: u64,
+    bytes: &[u8],
+) -> Result<(), AllocError>
+    requires { IsResetBody bytes.now }
+    ensures { (r : ResetEntry) → ResetFits r → body (Reset r) ≡ bytes.now → OnOk result (room.new ≡ room.old ++ object (record { cycle = cycle; what = Reset r })) }
+{
+    let epoch = quadlet_at(bytes, 0).0;
+    let later = &bytes[4..];
+    let is_told = put_reset_again(room, cycle, epoch, later)?;
+    if is_told {
+        return Ok(());
+    }
+    put_reset_from(room, cycle, whole.make_reset(bytes), later)
+}
+
+// Appends the object of an entry of this cycle that has this body.
+fn put_body<'a>(
+    room: &mut ObjectRoom,
+    whole: &'a mut WholeRoom,
+    cycle: u64,
+    body: &PlainBody<'a>,
+) -> Result<(), AllocError>
+    requires { (e : AnEntry) × HasBody body.now e }
+    ensures { (e : AnEntry) → HasBody body.now e → OnOk result (room.new ≡ room.old ++ object (record { cycle = cycle; what = e })) }
+{
+    match body {
+        PlainBody::Reset(bytes) => put_reset(room, whole, cycle, bytes.as_slice()),
+        _ => {
+            let entry = Timed {
+                cycle,
+                what: whole.make(body),
+            };
+            put_object(room, &entry)
+        }
     }
 }
 
@@ -65,11 +113,7 @@ impl Reading for Objects {
         let Some(passed) = reader.pass_body(piece, room) else {
             return Ok(None);
         };
-        let entry = Timed {
-            cycle: passed.cycle,
-            what: self.whole.make(&passed.body),
-        };
-        put_object(&mut self.room, &entry)?;
+        put_body(&mut self.room, &mut self.whole, passed.cycle, &passed.body)?;
         Ok(Some(passed.used))
     }
 

@@ -2,7 +2,11 @@
 
 ghost use Rattle.std.specs.Prelude.{◌≡◌};
 ghost use Rattle.fw_entry.specs.declared.entry.Entry.{Entry as AnEntry};
+ghost use Rattle.fw_entry.specs.Log.{ResetFits, body};
+ghost use Rattle.fw_entry.specs.declared.entry.Entry.TheVariants.{Reset};
+ghost use Rattle.fw_entry.specs.declared.entry.ResetEntry.{ResetEntry as AReset};
 ghost use Rattle.fw_log.specs.Passing.{HasBody};
+ghost use Rattle.fw_text.specs.Resets.{IsResetBody};
 
 use crate::whole_reset::{no_reset, read_whole_reset};
 use fw_async::whole_packet;
@@ -23,6 +27,15 @@ impl WholeRoom {
         Ok(WholeRoom {
             reset: Box::new(alloc, no_reset())?,
         })
+    }
+
+    /// The reset whose body these bytes are. No fault is looked for.
+    pub(crate) fn make_reset(&mut self, bytes: &[u8]) -> &ResetEntry
+        requires { IsResetBody bytes.now }
+        ensures { (r : AReset) → ResetFits r → body (Reset r) ≡ bytes.now → result.now ≡ r }
+    {
+        read_whole_reset(&mut self.reset, bytes);
+        &self.reset
     }
 
     /// The entry that has this body. No fault is looked for, so it costs less than to read the entry.

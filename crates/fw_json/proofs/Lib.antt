@@ -11,3 +11,4 @@ pub mod PlainLaws
 pub mod PlainNames
 pub mod PlainIds
 pub mod PlainEntries
+pub mod LaterLaws

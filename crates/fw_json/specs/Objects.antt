@@ -34,6 +34,12 @@ reset_fields r =
     ++ field (codes ",\"manager\":") (number_value r.manager) ++ field (codes ",\"initiator\":") (decimal r.initiator)
     ++ list_fields r
 
+-- a reset behind its generation
+abbrev pub later_fields : ResetEntry → List ℕ
+later_fields r =
+    field (codes ",\"root\":") (decimal r.root) ++ field (codes ",\"manager\":") (number_value r.manager)
+    ++ field (codes ",\"initiator\":") (decimal r.initiator) ++ list_fields r
+
 -- what each packet begins with
 abbrev pub head_fields : Head → List ℕ
 head_fields h =

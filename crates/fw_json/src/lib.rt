@@ -6,15 +6,18 @@
 //! from 2^53 on is a text of its decimal digits, since readers of JSON hold greater numbers rounded.
 #![tactic(auto)]
 
+mod digits;
 mod entry;
 mod front;
 mod ids;
 mod iso;
+mod latest;
 mod laws;
+mod lines;
 mod packet;
 mod reset;
 mod room;
 mod values;
 
 pub use laws::{objects_are_lines, objects_tell_entries};
-pub use room::{ObjectRoom, put_object};
+pub use room::{ObjectRoom, put_object, put_reset_again, put_reset_from};

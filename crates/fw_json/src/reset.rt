@@ -3,7 +3,7 @@
 ghost use Rattle.std.specs.Prelude.{◌≡◌, ◌++◌, OnOk};
 ghost use Rattle.fw_json.specs.Values.{array};
 ghost use Rattle.fw_json.specs.Ids.{node_object, node_objects};
-ghost use Rattle.fw_json.specs.Objects.{list_fields, reset_fields};
+ghost use Rattle.fw_json.specs.Objects.{list_fields, later_fields, reset_fields};
 
 use crate::ids::put_ids;
 use crate::values::{put_code, put_comma, put_count, put_number_or_null};
@@ -51,13 +51,20 @@ fn put_lists(text: &mut Vec<u8>, r: &ResetEntry) -> Result<(), AllocError>
     put_ids(text, r.ids.as_slice())
 }
 
+// Appends the fields of a reset behind its generation.
+pub(crate) fn put_later(text: &mut Vec<u8>, r: &ResetEntry) -> Result<(), AllocError>
+    ensures { OnOk result (text.new.items ≡ text.old.items ++ later_fields r.now) }
+{
+    put_count(text, r#","root":"#, u64::from(r.root))?;
+    put_number_or_null(text, r#","manager":"#, r.manager)?;
+    put_count(text, r#","initiator":"#, u64::from(r.initiator))?;
+    put_lists(text, r)
+}
+
 // Appends the fields of a reset.
 pub(crate) fn put_reset(text: &mut Vec<u8>, r: &ResetEntry) -> Result<(), AllocError>
     ensures { OnOk result (text.new.items ≡ text.old.items ++ reset_fields r.now) }
 {
     put_count(text, r#","generation":"#, u64::from(r.epoch))?;
-    put_count(text, r#","root":"#, u64::from(r.root))?;
-    put_number_or_null(text, r#","manager":"#, r.manager)?;
-    put_count(text, r#","initiator":"#, u64::from(r.initiator))?;
-    put_lists(text, r)
+    put_later(text, r)
 }

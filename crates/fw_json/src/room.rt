@@ -1,43 +1,31 @@
 //! Objects, one behind another, and room for what they are made from.
 
-ghost use Rattle.std.specs.Prelude.{◌≡◌, ◌++◌, [], IfOk, OnOk, OnErr};
-ghost use Rattle.fw_json.specs.Objects.{front_fields, object};
+ghost use Rattle.std.specs.Prelude.{◌≡◌, ◌++◌, [], false, IfOk, IsTrue, OnOk, OnErr, drop};
+ghost use Rattle.fw_entry.specs.Log.{ResetFits, body};
+ghost use Rattle.fw_entry.specs.declared.entry.Entry.TheVariants.{Reset};
+ghost use Rattle.fw_entry.specs.declared.entry.ResetEntry.{ResetEntry as AReset};
+ghost use Rattle.fw_json.specs.Objects.{object};
 
-use crate::entry::put_what;
-use crate::front::put_front;
-use fw_entry::Timed;
-use fw_names::{Pairs, kind_number, put_word};
+use crate::latest::LatestReset;
+use crate::lines::Lines;
+use fw_entry::{ResetEntry, Timed};
 use std::alloc::{AllocError, Global};
 use std::marker::Model;
-
-/// How many bytes of text there is room for at first: more than the objects have of 4,096 bytes of a log and of the longest
-/// entry behind them.
-const TEXT_ROOM: usize = 131_072;
-
-/// How many bytes the front of an object has at most.
-const FRONT_ROOM: usize = 64;
 
 /// The objects that were appended, each in a line, and what the next one is made with. It is made once and kept, so that an
 /// object costs no memory of its own. Contracts see it as the bytes of its lines.
 #[derive(Drop)]
 pub struct ObjectRoom {
-    text: Vec<u8>,
-    // The last cycle and kind, and the front of an object with them: many entries have the same.
-    cycle: Option<u64>,
-    kind: u8,
-    front: Vec<u8>,
-    pairs: Pairs,
+    lines: Lines,
+    latest: LatestReset,
 }
 
 impl Model for ObjectRoom {
-    ghost use Rattle.std.specs.Prelude.{List, ℕ, ◌≡◌, IfSome};
-    ghost use Rattle.fw_json.specs.Objects.{front_fields};
+    ghost use Rattle.std.specs.Prelude.{List, ℕ};
 
     ghost Value = { List ℕ };
 
-    ghost view = { λ r. r.text.items };
-
-    ghost invariant = { λ r. IfSome r.cycle (λ n. r.front.items ≡ front_fields n r.kind) };
+    ghost view = { λ r. r.lines };
 }
 
 impl ObjectRoom {
@@ -46,11 +34,8 @@ impl ObjectRoom {
         ensures { IfOk result (λ r. r ≡ []) }
     {
         Ok(ObjectRoom {
-            text: Vec::with_capacity(alloc, TEXT_ROOM)?,
-            cycle: None,
-            kind: 0,
-            front: Vec::with_capacity(alloc, FRONT_ROOM)?,
-            pairs: Pairs::new(),
+            lines: Lines::new(alloc)?,
+            latest: LatestReset::new(alloc)?,
         })
     }
 
@@ -58,36 +43,14 @@ impl ObjectRoom {
     pub fn as_slice(&self) -> &[u8]
         ensures { result.now ≡ self.now }
     {
-        &self.text
+        self.lines.as_slice()
     }
 
     /// Drops all objects, and keeps the memory.
     pub fn clear(&mut self)
         ensures { self.new ≡ [] }
     {
-        self.text.clear();
-    }
-
-    // Appends the front of an object.
-    fn put_front(&mut self, cycle: u64, kind: u8) -> Result<(), AllocError>
-        ensures { OnOk result (self.new ≡ self.old ++ front_fields cycle kind) }
-    {
-        if self.cycle != Some(cycle) || self.kind != kind {
-            self.cycle = None;
-            self.front.clear();
-            put_front(&mut self.front, cycle, kind)?;
-            self.kind = kind;
-            self.cycle = Some(cycle);
-        }
-        self.text.extend_from_slice(&self.front)
-    }
-
-    fn put_line(&mut self, t: &Timed) -> Result<(), AllocError>
-        ensures { OnOk result (self.new ≡ self.old ++ object t.now) }
-    {
-        self.put_front(t.cycle, kind_number(&t.what))?;
-        put_what(&mut self.text, &self.pairs, &t.what)?;
-        put_word(&mut self.text, "}\n")
+        self.lines.clear();
     }
 }
 
@@ -97,8 +60,69 @@ pub fn put_object(room: &mut ObjectRoom, t: &Timed) -> Result<(), AllocError>
     ensures object { OnOk result (room.new ≡ room.old ++ object t.now) }
     ensures emptied { OnErr result (room.new ≡ []) }
 {
-    match room.put_line(t) {
+    match room.lines.put(t) {
         Ok(()) => Ok(()),
+        Err(error) => {
+            room.clear();
+            Err(error)
+        }
+    }
+}
+
+// Keeps a bus reset as the latest, and appends its object.
+fn put_kept(
+    room: &mut ObjectRoom,
+    cycle: u64,
+    r: &ResetEntry,
+    later: &[u8],
+) -> Result<(), AllocError>
+    requires fits { ResetFits r.now }
+    requires later { drop 4 (body (Reset r.now)) ≡ later.now }
+    ensures { OnOk result (room.new ≡ room.old ++ object (record { cycle = cycle; what = Reset r.now })) }
+{
+    room.latest.keep(r, later)?;
+    room.lines.put_latest(cycle, r.epoch, &room.latest)
+}
+
+/// Appends the object of the entry of a bus reset of this cycle, as `put_object` does, and keeps what it tells; the bytes are those
+/// of its body behind its epoch.
+pub fn put_reset_from(
+    room: &mut ObjectRoom,
+    cycle: u64,
+    r: &ResetEntry,
+    later: &[u8],
+) -> Result<(), AllocError>
+    requires fits { ResetFits r.now }
+    requires later { drop 4 (body (Reset r.now)) ≡ later.now }
+    ensures object { OnOk result (room.new ≡ room.old ++ object (record { cycle = cycle; what = Reset r.now })) }
+    ensures emptied { OnErr result (room.new ≡ []) }
+{
+    match put_kept(room, cycle, r, later) {
+        Ok(()) => Ok(()),
+        Err(error) => {
+            room.clear();
+            Err(error)
+        }
+    }
+}
+
+/// Appends the object of the entry of a bus reset of this cycle, as `put_object` does, if the bytes of its body behind its epoch are
+/// those of the bus reset that `put_reset_from` told last, and answers whether it did.
+pub fn put_reset_again(
+    room: &mut ObjectRoom,
+    cycle: u64,
+    epoch: u32,
+    later: &[u8],
+) -> Result<bool, AllocError>
+    ensures object { IfOk result (λ known. IsTrue known → (r : AReset) × ResetFits r × (drop 4 (body (Reset r)) ≡ later.now) × (room.new ≡ room.old ++ object (record { cycle = cycle; what = Reset (record r { epoch = epoch }) }))) }
+    ensures other { IfOk result (λ known. known ≡ false → room.new ≡ room.old) }
+    ensures emptied { OnErr result (room.new ≡ []) }
+{
+    if !room.latest.is(later) {
+        return Ok(false);
+    }
+    match room.lines.put_latest(cycle, epoch, &room.latest) {
+        Ok(()) => Ok(true),
         Err(error) => {
             room.clear();
             Err(error)

@@ -5,7 +5,8 @@ ghost use Rattle.std.specs.Option.{option_copied};
 ghost use Rattle.fw_names.specs.Texts.{hex, hex_bytes};
 ghost use Rattle.fw_json.specs.Values.{field, quoted, name_value, number_value, flag_value, code, comma};
 
-use fw_names::{Pairs, put_bytes, put_hex12, put_number, put_word};
+use crate::digits::put_digits;
+use fw_names::{Pairs, put_hex12, put_number, put_word};
 use std::alloc::AllocError;
 
 // Appends what stands before the value of a list at this place.
@@ -16,6 +17,14 @@ pub(crate) fn put_comma(text: &mut Vec<u8>, place: usize) -> Result<(), AllocErr
         return Ok(());
     }
     put_word(text, ",")
+}
+
+// Appends a text that is at hand.
+#[inline(always)]
+pub(crate) fn put_text(text: &mut Vec<u8>, more: &[u8]) -> Result<(), AllocError>
+    ensures { OnOk result (text.new.items ≡ text.old.items ++ more.now) }
+{
+    text.extend_from_slice(more)
 }
 
 // Appends a key and a value that is at hand.
@@ -207,6 +216,6 @@ pub(crate) fn put_data(
 {
     put_word(text, key)?;
     put_word(text, "\"")?;
-    put_bytes(text, pairs, bytes)?;
+    put_digits(text, pairs, bytes)?;
     put_word(text, "\"")
 }

@@ -1,10 +1,12 @@
+use Rattle.std.proofs.Common.{◌++◌, ◌∙◌, List, ℕ, ap}
 use Rattle.std.proofs.lemmas.Result.{on_ok_weaker}
 use Rattle.fw_json.proofs.Joins.{then, counted}
+use Rattle.fw_json.proofs.LaterLaws.{whole_fields}
 use Rattle.fw_json.proofs.reset.put_reset.Goals as goal
 
 pub returns : goal.returns
 returns c =
-    let t2 = then _ _ _ _ _ (counted _ _ _ _ _ c.from.ensures c.in_ok-put_count.ensures) (counted _ _ _ _ _ c.from-2.ensures c.in_ok-put_count-2.ensures) in
-    let t3 = then _ _ _ _ _ t2 c.in_ok-put_number_or_null.ensures in
-    let t4 = then _ _ _ _ _ t3 (counted _ _ _ _ _ c.from-3.ensures c.in_ok-put_count-3.ensures) in
-    on_ok_weaker c.put_lists.result (λ piece. then _ _ _ _ _ t4 piece) c.put_lists.ensures
+    let first = counted _ _ _ _ _ c.from.ensures c.in_ok-put_count.ensures in
+    on_ok_weaker c.put_later.result
+    (λ piece. then _ _ _ _ _ first piece ∙ ap (λ (t : List ℕ). c.args.text.now.items ++ t) (whole_fields c.args.r.now))
+    c.put_later.ensures

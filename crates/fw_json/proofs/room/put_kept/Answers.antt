@@ -1,0 +1,13 @@
+use Rattle.std.proofs.Common.{◌++◌, ◌∙◌, List, ℕ, ap}
+use Rattle.std.proofs.lemmas.Result.{on_ok_weaker}
+use Rattle.fw_entry.specs.declared.entry.Entry.TheVariants.{Reset}
+use Rattle.fw_json.specs.Objects.{object}
+use Rattle.fw_json.proofs.LaterLaws.{told}
+use Rattle.fw_json.proofs.room.put_kept.Goals as goal
+
+pub returns : goal.returns
+returns c =
+    on_ok_weaker c.put_latest.result
+    (λ e. told _ _ _ _ _ c.in_ok-keep.ensures e
+    ∙ ap (λ (t : List ℕ). t ++ object (record { cycle = c.args.cycle; what = Reset c.args.r.now })) c.room.view_is)
+    c.put_latest.ensures
