@@ -47,6 +47,7 @@ fn take_other(ledger: &mut Ledger, e: &Entry) -> Result<Option<Answer>, AuditFau
 
 /// A ledger takes an entry, and answers with the response that it is, if it is one of a procedure; or with the first fault that the
 /// entry has over the account of the entries before it. After a fault nothing is said of the ledger. No memory is taken.
+#[inline(always)]
 pub fn take_entry(ledger: &mut Ledger, e: &Entry) -> Result<Option<Answer>, AuditFault>
     requires fits { Fits e.now }
     ensures { (l : Account) → StandsFor ledger.old l → Judges ledger.new l e.now result }
