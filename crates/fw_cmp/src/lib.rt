@@ -5,6 +5,7 @@
 mod agenda;
 mod begin;
 mod connection;
+mod copies;
 mod controller;
 mod current;
 mod directory;
