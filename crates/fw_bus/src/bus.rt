@@ -94,6 +94,13 @@ impl Bus {
         &self.machine.reel
     }
 
+    /// What the bus keeps.
+    pub fn machine(&self) -> &Machine
+        ensures { result.now ≡ self.now.machine }
+    {
+        &self.machine
+    }
+
     /// Carries out a command, and writes what happens; the blocks of tapes, and what a vendor makes of a byte, come from the desk. `Refused` comes exactly
     /// where a rule holds of the command, with the first; then nothing is changed or written. Where the sink fails, it holds the
     /// entries given so far and a front of the next, its count of faults rose, and the bus is spent.

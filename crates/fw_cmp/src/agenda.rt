@@ -1,5 +1,5 @@
 ghost use Rattle.std.specs.Prelude.{◌≡◌};
-ghost use Rattle.fw_cmp.specs.Controllers.{Fits, first_state, IsStanding, break_waits};
+ghost use Rattle.fw_cmp.specs.Controllers.{Fits, first_state, IsStanding, break_waits, slot_at};
 ghost use Rattle.fw_cmp.specs.Fits.{SlotFits};
 ghost use Rattle.fw_cmp.specs.Starts.{IsMaking, OkWithin, start, started, break_started, break_fault, can_break};
 ghost use Rattle.fw_cmp.specs.declared.directory.Directory.{Directory as BusDirectory};
@@ -111,6 +111,16 @@ impl Agenda {
             return false;
         };
         held.is_breakable() && !(self.break_waits(slot) || self.current.breaks(slot))
+    }
+
+    /// What a slot holds; one beyond the 32 is free.
+    pub fn slot(&self, slot: u8) -> Slot
+        ensures { result ≡ slot_at self.now slot }
+    {
+        match self.slots.get(slot as usize) {
+            Some(held) => *held,
+            None => Slot::Free,
+        }
     }
 
     /// A break of the slot waits.

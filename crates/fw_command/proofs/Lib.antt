@@ -2,4 +2,5 @@ pub mod CommandLaws
 pub mod FormLaws
 pub mod NumberLaws
 pub mod PiecesLaws
+pub mod TableLaws
 pub mod WordLaws

@@ -1,6 +1,7 @@
 //! Bytes cut at a separator.
 
 ghost use Rattle.std.specs.Prelude.{ℕ, ◌≡◌, ◌++◌, ◌∷◌, [], List, IfSome, IfNone};
+ghost use Rattle.fw_command.specs.Form.{behind_first};
 ghost use Rattle.fw_command.specs.Pieces.{IsFirstAt, IsFree, pieces};
 
 use std::marker::Model;
@@ -31,7 +32,7 @@ pub(crate) fn cut(bytes: &[u8], separator: u8) -> Option<(&[u8], &[u8])>
 
 /// The pieces between separators that are not yet read.
 #[derive(Drop)]
-pub(crate) struct Pieces<'a> {
+pub struct Pieces<'a> {
     separator: u8,
     rest: &'a [u8],
     more: bool,
@@ -48,7 +49,7 @@ impl<'a> Model for Pieces<'a> {
 
 impl<'a> Pieces<'a> {
     /// All pieces of the bytes.
-    pub(crate) fn new(bytes: &'a [u8], separator: u8) -> Self
+    pub fn new(bytes: &'a [u8], separator: u8) -> Self
         ensures { result ≡ pieces separator bytes.now }
     {
         Pieces {
@@ -59,9 +60,10 @@ impl<'a> Pieces<'a> {
     }
 
     /// The next piece.
-    pub(crate) fn next(&mut self) -> Option<&'a [u8]>
+    pub fn next(&mut self) -> Option<&'a [u8]>
         ensures some { IfSome result (λ w. self.old ≡ w.now ∷ self.new) }
         ensures none { IfNone result (self.old ≡ []) }
+        ensures left { self.new ≡ behind_first self.old }
     {
         if !self.more {
             return None;
@@ -79,7 +81,7 @@ impl<'a> Pieces<'a> {
     }
 
     /// Some if no piece is left, so that a form which takes no more of them ends by `?`.
-    pub(crate) fn end(&self) -> Option<()>
+    pub fn end(&self) -> Option<()>
         ensures some { IfSome result (λ u. self.now ≡ []) }
         ensures none { IfNone result (self.now ≡ [] → ⊥) }
     {

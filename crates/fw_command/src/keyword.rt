@@ -5,7 +5,7 @@ ghost use Rattle.fw_command.specs.Keyword.{keyword_in};
 
 /// The first word of a line.
 #[derive(Clone, Copy)]
-pub(crate) enum Keyword {
+pub enum Keyword {
     Device,
     Cable,
     Reset,
@@ -34,7 +34,7 @@ pub(crate) enum Keyword {
 }
 
 /// The keyword that the word is.
-pub(crate) fn keyword_of(word: &[u8]) -> Option<Keyword>
+pub fn keyword_of(word: &[u8]) -> Option<Keyword>
     ensures { result ≡ keyword_in word.now }
 {
     let keyword = match word {

@@ -17,8 +17,9 @@ pub(crate) fn is(word: &[u8], text: &[u8]) -> bool
     word == text
 }
 
+/// The word is reserved: `manager`, `any` or `late`, which name no device.
 // By patterns: it is asked of each name of a script, where `is` costs a call a text.
-fn is_taken(word: &[u8]) -> bool
+pub fn is_taken(word: &[u8]) -> bool
     ensures { result ≡ is_taken word.now }
 {
     matches!(word, b"manager" | b"any" | b"late")

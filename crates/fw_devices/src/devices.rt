@@ -1,4 +1,6 @@
-ghost use Rattle.std.specs.Prelude.{◌≡◌, ◌<◌, ◌≤◌, length, true, false, IfOk, IfSome, IfNone};
+ghost use Rattle.std.specs.Prelude.{◌≡◌, ◌<◌, ◌≤◌, length, slice_index_or, [], true, false, IfOk, IfSome, IfNone};
+ghost use Rattle.fw_tree.specs.Cables.{peer};
+ghost use Rattle.fw_tree.specs.Topology.{ports_of};
 ghost use Rattle.fw_devices.specs.Network.{IsNetwork, no_devices, device_named, node_at, is_node};
 
 use crate::MOST_DEVICES;
@@ -7,7 +9,7 @@ use crate::names::Names;
 use fw_base::DeviceKind;
 use fw_command::Name;
 use fw_node::Node;
-use fw_tree::Cabling;
+use fw_tree::{Cabling, End};
 use std::alloc::{AllocError, Global};
 use std::marker::Model;
 
@@ -74,6 +76,28 @@ impl Devices {
     {
         let device = self.names.find(name)?;
         Some(device as u8)
+    }
+
+    /// The name of a device.
+    pub fn name(&self, device: u8) -> &Name
+        requires declared { device < length self.now.names }
+        ensures { result.now ≡ slice_index_or self.now.names device [] }
+    {
+        self.names.get(usize::from(device))
+    }
+
+    /// How many ports a device has: none where there is no such device.
+    pub fn ports(&self, device: u8) -> u8
+        ensures { result ≡ ports_of self.now.topology.devices device }
+    {
+        self.cabling.ports(device)
+    }
+
+    /// The other end of the cable at a port. None where no cable is, and where there is no such port.
+    pub fn peer(&self, end: End) -> Option<End>
+        ensures { result ≡ peer self.now.topology.cables end.device end.port }
+    {
+        self.cabling.peer(end)
     }
 
     /// The device that the latest bus reset made isochronous resource manager. None where no device of the bus contends

@@ -1,6 +1,6 @@
 //! Names of devices, and where each stands.
 
-ghost use Rattle.std.specs.Prelude.{ℕ, ◌≡◌, ◌<◌, ◌++◌, ◌∷◌, [], length, position, get_or, set, IfOk, IfSome};
+ghost use Rattle.std.specs.Prelude.{ℕ, ◌≡◌, ◌<◌, ◌++◌, ◌∷◌, [], length, position, get_or, set, slice_index_or, IfOk, IfSome};
 ghost use Rattle.fw_devices.specs.Network.{same_bytes};
 
 use crate::MOST_DEVICES;
@@ -107,6 +107,14 @@ impl Names {
             return Some(place);
         }
         place_of(name, &self.list)
+    }
+
+    /// The name at a place.
+    pub(crate) fn get(&self, place: usize) -> &Name
+        requires { place < length self.now }
+        ensures { result.now ≡ slice_index_or self.now place [] }
+    {
+        &self.list[place]
     }
 
     /// Appends a name.

@@ -69,7 +69,7 @@ module _ (old new : Reading) (mid left' : Option (List ℕ)) (r : Answer) (some 
       by_old false e = a.takes.met e (sym known_whole ∙ w)
 
 -- how far the taken bytes are read
-read_from : (taken : List ℕ) (p : Reading) (t : List ℕ) (n : ℕ) → IsLine p t n → IsReadOf taken p → IsReadOf taken (behind p n)
+read_from : (taken : List ℕ) (p : Reading) (t : List ℕ) (n : ℕ) → IsLine p t n → IsReadOf taken p → IsReadOf taken (behind p t n)
 read_from taken p t n a h = record {
   within = omega (arith, h.within, line_there p t n a, length-drop p.before taken, ap (λ (l : List ℕ). length l) h.held);
   held = sym (drop-drop n p.before taken) ∙ ap (λ (l : List ℕ). drop n l) h.held;

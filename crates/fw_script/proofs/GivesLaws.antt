@@ -1,5 +1,6 @@
 -- What lines give is one only, and stays so where more bytes are known.
-use Rattle.std.proofs.Common.{◌≡◌, ◌≢◌, ◌⊎◌, inl, inr, ℕ, List, Bool, true, false, Some, Ok, Err, refl, ap, sym, subst}
+use Rattle.std.proofs.Common.{◌≡◌, ◌≢◌, ◌⊎◌, inl, inr, ℕ, List, Bool, true, false, Some, Ok, Err, refl, ap, sym, subst, take, ◌++◌}
+use Rattle.std.proofs.lemmas.List.{take-append-le}
 use Rattle.fw_script.specs.Line.{is_skipped}
 use Rattle.fw_command.specs.Form.{HasForm}
 use Rattle.fw_script.specs.Reading.{Reading, Answer, GivesFirst, IsLine, IsAtEndOfInput, IsLongLine, PassesLimit, behind, at_stage, refused, with_taken}
@@ -21,10 +22,10 @@ Refuses stage t = (stage ≡ AfterEnd) ⊎ ((c : Command) → HasForm c t → �
 
 -- what a line leads to
 data Leads (p : Reading) (t : List ℕ) (n : ℕ) : Answer → Reading → Type 0 where
-  on : {r : Answer} {q : Reading} → is_skipped t ≡ true → GivesFirst (behind p n) r q → Leads p t n r q
-  said : (c : Command) → is_skipped t ≡ false → p.stage ≡ Commands → HasForm c t → c ≢ End → Leads p t n (Ok (Some c)) (behind p n)
-  ended : {r : Answer} {q : Reading} → is_skipped t ≡ false → p.stage ≡ Commands → HasForm End t → GivesFirst (at_stage (behind p n) AfterEnd) r q → Leads p t n r q
-  bad : is_skipped t ≡ false → Refuses p.stage t → Leads p t n (Err BadLine) (at_stage (behind p n) Failed)
+  on : {r : Answer} {q : Reading} → is_skipped t ≡ true → GivesFirst (behind p t n) r q → Leads p t n r q
+  said : (c : Command) → is_skipped t ≡ false → p.stage ≡ Commands → HasForm c t → c ≢ End → Leads p t n (Ok (Some c)) (behind p t n)
+  ended : {r : Answer} {q : Reading} → is_skipped t ≡ false → p.stage ≡ Commands → HasForm End t → GivesFirst (at_stage (behind p t n) AfterEnd) r q → Leads p t n r q
+  bad : is_skipped t ≡ false → Refuses p.stage t → Leads p t n (Err BadLine) (at_stage (behind p t n) Failed)
 
 leads_along : (p : Reading) (t u : List ℕ) (m n : ℕ) (r : Answer) (q : Reading) → IsLine p t m → IsLine p u n → Leads p u n r q → Leads p t m r q
 leads_along p t u m n r q a b h =
@@ -33,16 +34,16 @@ leads_along p t u m n r q a b h =
 
 at_line : (p : Reading) (t : List ℕ) (n : ℕ) → IsLine p t n → {r : Answer} {q : Reading} → r ≢ Err ReadFault → GivesFirst p r q → Leads p t n r q
 at_line p t n a {r = r} {q = q} told (skipped u m b s g) = leads_along p t u n m r q a b (on s g)
-at_line p t n a told (command c u m b s i f k) = leads_along p t u n m (Ok (Some c)) (behind p m) a b (said c s i f k)
+at_line p t n a told (command c u m b s i f k) = leads_along p t u n m (Ok (Some c)) (behind p u m) a b (said c s i f k)
 at_line p t n a {r = r} {q = q} told (end_line u m b s i f g) = leads_along p t u n m r q a b (ended s i f g)
-at_line p t n a told (bad_line u m b s w) = leads_along p t u n m (Err BadLine) (at_stage (behind p m) Failed) a b (bad s w)
+at_line p t n a told (bad_line u m b s w) = leads_along p t u n m (Err BadLine) (at_stage (behind p u m) Failed) a b (bad s w)
 at_line p t n a told (long_line b) = absurd (line_not_long p t n a b)
 at_line p t n a told (too_long b) = absurd (line_not_limit p t n a b)
 at_line p t n a told (end_of_input b s) = absurd (line_not_end p t n a b)
 at_line p t n a told (no_end b s) = absurd (line_not_end p t n a b)
 at_line p t n a told read_fault = absurd (told refl)
 
-at_long : (p : Reading) → IsLongLine p → {r : Answer} {q : Reading} → r ≢ Err ReadFault → GivesFirst p r q → (Err LineTooLong ≡ r) × (refused p ≡ q)
+at_long : (p : Reading) → IsLongLine p → {r : Answer} {q : Reading} → r ≢ Err ReadFault → GivesFirst p r q → (Err LineTooLong ≡ r) × (refused p (take 257 p.rest) ≡ q)
 at_long p a told (skipped u m b s g) = absurd (line_not_long p u m b a)
 at_long p a told (command c u m b s i f k) = absurd (line_not_long p u m b a)
 at_long p a told (end_line u m b s i f g) = absurd (line_not_long p u m b a)
@@ -67,7 +68,7 @@ at_limit p a told read_fault = absurd (told refl)
 -- what the input's end leads to
 data EndLeads (p : Reading) : Answer → Reading → Type 0 where
   gives_end : p.stage ≡ AfterEnd → EndLeads p (Ok (Some End)) (at_stage p Done)
-  lacks_end : p.stage ≡ Commands → EndLeads p (Err NoEnd) (refused p)
+  lacks_end : p.stage ≡ Commands → EndLeads p (Err NoEnd) (refused p [])
 
 at_end : (p : Reading) → IsAtEndOfInput p → {r : Answer} {q : Reading} → r ≢ Err ReadFault → GivesFirst p r q → EndLeads p r q
 at_end p a told (skipped u m b s g) = absurd (line_not_end p u m b a)
@@ -84,7 +85,7 @@ at_end p a told read_fault = absurd (told refl)
 abbrev pub Same : Answer → Reading → Answer → Reading → Type 0
 Same r q s z = (r ≡ s) × (q ≡ z)
 
-after_skipped : {p : Reading} {t : List ℕ} {n : ℕ} {s : Answer} {z : Reading} (r : Answer) (q : Reading) → is_skipped t ≡ true → (GivesFirst (behind p n) s z → Same r q s z) → Leads p t n s z → Same r q s z
+after_skipped : {p : Reading} {t : List ℕ} {n : ℕ} {s : Answer} {z : Reading} (r : Answer) (q : Reading) → is_skipped t ≡ true → (GivesFirst (behind p t n) s z → Same r q s z) → Leads p t n s z → Same r q s z
 after_skipped r q k f (on h g) = f g
 after_skipped r q k f (said c h i j l) = absurd cc
 after_skipped r q k f (ended h i j g) = absurd cc
@@ -94,19 +95,19 @@ not_refused : (p : Reading) (t : List ℕ) (c : Command) {A : Type 0} → p.stag
 not_refused p t c i f (inl e) = absurd cc
 not_refused p t c i f (inr h) = absurd (h c f)
 
-after_command : {p : Reading} {t : List ℕ} {n : ℕ} {s : Answer} {z : Reading} (c : Command) → is_skipped t ≡ false → p.stage ≡ Commands → HasForm c t → c ≢ End → Leads p t n s z → Same (Ok (Some c)) (behind p n) s z
+after_command : {p : Reading} {t : List ℕ} {n : ℕ} {s : Answer} {z : Reading} (c : Command) → is_skipped t ≡ false → p.stage ≡ Commands → HasForm c t → c ≢ End → Leads p t n s z → Same (Ok (Some c)) (behind p t n) s z
 after_command c k i f o (on h g) = absurd cc
 after_command {t = t} c k i f o (said d h j e l) = (ap (λ (a : Command). Ok (Some a)) (one_form c d t f e), refl)
 after_command {t = t} c k i f o (ended h j e g) = absurd (o (one_form c End t f e))
 after_command {p = p} {t = t} c k i f o (bad h w) = not_refused p t c i f w
 
-after_end_line : {p : Reading} {t : List ℕ} {n : ℕ} {s : Answer} {z : Reading} (r : Answer) (q : Reading) → is_skipped t ≡ false → p.stage ≡ Commands → HasForm End t → (GivesFirst (at_stage (behind p n) AfterEnd) s z → Same r q s z) → Leads p t n s z → Same r q s z
+after_end_line : {p : Reading} {t : List ℕ} {n : ℕ} {s : Answer} {z : Reading} (r : Answer) (q : Reading) → is_skipped t ≡ false → p.stage ≡ Commands → HasForm End t → (GivesFirst (at_stage (behind p t n) AfterEnd) s z → Same r q s z) → Leads p t n s z → Same r q s z
 after_end_line r q k i f go (on h g) = absurd cc
 after_end_line {t = t} r q k i f go (said d h j e l) = absurd (l (one_form d End t e f))
 after_end_line r q k i f go (ended h j e g) = go g
 after_end_line {p = p} {t = t} r q k i f go (bad h w) = not_refused p t End i f w
 
-after_bad_line : {p : Reading} {t : List ℕ} {n : ℕ} {s : Answer} {z : Reading} → is_skipped t ≡ false → Refuses p.stage t → Leads p t n s z → Same (Err BadLine) (at_stage (behind p n) Failed) s z
+after_bad_line : {p : Reading} {t : List ℕ} {n : ℕ} {s : Answer} {z : Reading} → is_skipped t ≡ false → Refuses p.stage t → Leads p t n s z → Same (Err BadLine) (at_stage (behind p t n) Failed) s z
 after_bad_line k w (on h g) = absurd cc
 after_bad_line {p = p} {t = t} k w (said d h j e l) = not_refused p t d j e w
 after_bad_line {p = p} {t = t} k w (ended h j e g) = not_refused p t End j e w
@@ -116,7 +117,7 @@ after_input : {p : Reading} {s : Answer} {z : Reading} → p.stage ≡ AfterEnd 
 after_input i (gives_end j) = (refl, refl)
 after_input i (lacks_end j) = absurd cc
 
-after_no_end : {p : Reading} {s : Answer} {z : Reading} → p.stage ≡ Commands → EndLeads p s z → Same (Err NoEnd) (refused p) s z
+after_no_end : {p : Reading} {s : Answer} {z : Reading} → p.stage ≡ Commands → EndLeads p s z → Same (Err NoEnd) (refused p []) s z
 after_no_end i (gives_end j) = absurd cc
 after_no_end i (lacks_end j) = (refl, refl)
 
@@ -136,13 +137,15 @@ pub gives_with : {p : Reading} {r : Answer} {q : Reading} → (more : List ℕ) 
 gives_with {p = p} {r = r} {q = q} more whole none (skipped t n a k g) =
     skipped t n (line_more p t more whole n none a) k (subst (λ (z : Reading). GivesFirst z r (with_taken q more whole)) (sym (behind_more p t more whole n a)) (gives_with more whole none g))
 gives_with {p = p} more whole none (command c t n a k i f o) =
-    gives_at (with_taken p more whole) (behind (with_taken p more whole) n) (with_taken (behind p n) more whole) (Ok (Some c)) (sym (behind_more p t more whole n a)) (command c t n (line_more p t more whole n none a) k i f o)
+    gives_at (with_taken p more whole) (behind (with_taken p more whole) t n) (with_taken (behind p t n) more whole) (Ok (Some c)) (sym (behind_more p t more whole n a)) (command c t n (line_more p t more whole n none a) k i f o)
 gives_with {p = p} {r = r} {q = q} more whole none (end_line t n a k i f g) =
     end_line t n (line_more p t more whole n none a) k i f (subst (λ (z : Reading). GivesFirst (at_stage z AfterEnd) r (with_taken q more whole)) (sym (behind_more p t more whole n a)) (gives_with more whole none g))
 gives_with {p = p} more whole none (bad_line t n a k w) =
-    gives_at (with_taken p more whole) (at_stage (behind (with_taken p more whole) n) Failed) (at_stage (with_taken (behind p n) more whole) Failed) (Err BadLine)
+    gives_at (with_taken p more whole) (at_stage (behind (with_taken p more whole) t n) Failed) (at_stage (with_taken (behind p t n) more whole) Failed) (Err BadLine)
     (ap (λ (z : Reading). at_stage z Failed) (sym (behind_more p t more whole n a))) (bad_line t n (line_more p t more whole n none a) k w)
-gives_with {p = p} more whole none (long_line a) = long_line (long_more p more whole a)
+gives_with {p = p} more whole none (long_line a) =
+    gives_at (with_taken p more whole) (refused (with_taken p more whole) (take 257 (p.rest ++ more))) (with_taken (refused p (take 257 p.rest)) more whole) (Err LineTooLong)
+    (ap (λ (t : List ℕ). refused (with_taken p more whole) t) (sym (take-append-le 257 p.rest more a.long))) (long_line (long_more p more whole a))
 gives_with {p = p} more whole none (too_long a) = too_long (limit_more p more whole a)
 gives_with {p = p} more whole none (end_of_input a i) = end_of_input (end_more p more whole none a) i
 gives_with {p = p} more whole none (no_end a i) = no_end (end_more p more whole none a) i
@@ -173,13 +176,13 @@ cut_gives {p = p} c (no_end a i) told = cut_not_end p c a
 cut_gives c read_fault told = told refl
 
 -- what is given from here on is given behind the lines that are passed over
-skipped_gives : {p : Reading} {t : List ℕ} {n : ℕ} {r : Answer} {z : Reading} → is_skipped t ≡ true → Leads p t n r z → GivesFirst (behind p n) r z
+skipped_gives : {p : Reading} {t : List ℕ} {n : ℕ} {r : Answer} {z : Reading} → is_skipped t ≡ true → Leads p t n r z → GivesFirst (behind p t n) r z
 skipped_gives k (on h g) = g
 skipped_gives k (said c h i j l) = absurd cc
 skipped_gives k (ended h i j g) = absurd cc
 skipped_gives k (bad h w) = absurd cc
 
-end_gives : {p : Reading} {t : List ℕ} {n : ℕ} {r : Answer} {z : Reading} → is_skipped t ≡ false → p.stage ≡ Commands → HasForm End t → Leads p t n r z → GivesFirst (at_stage (behind p n) AfterEnd) r z
+end_gives : {p : Reading} {t : List ℕ} {n : ℕ} {r : Answer} {z : Reading} → is_skipped t ≡ false → p.stage ≡ Commands → HasForm End t → Leads p t n r z → GivesFirst (at_stage (behind p t n) AfterEnd) r z
 end_gives k i f (on h g) = absurd cc
 end_gives {t = t} k i f (said d h j e l) = absurd (l (one_form d End t e f))
 end_gives k i f (ended h j e g) = g

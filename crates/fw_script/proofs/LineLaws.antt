@@ -129,9 +129,9 @@ limit_more p more whole a = record {
 pub end_more : (p : Reading) (more : List ℕ) (whole : Bool) → IsMore p more whole → IsAtEndOfInput p → IsAtEndOfInput (with_taken p more whole)
 end_more p more whole none a = (ap (λ (l : List ℕ). p.rest ++ l) (none a.1).0 ∙ append-nil p.rest ∙ a.0, (none a.1).1)
 
-pub behind_more : (p : Reading) (t more : List ℕ) (whole : Bool) (n : ℕ) → IsLine p t n → behind (with_taken p more whole) n ≡ with_taken (behind p n) more whole
+pub behind_more : (p : Reading) (t more : List ℕ) (whole : Bool) (n : ℕ) → IsLine p t n → behind (with_taken p more whole) t n ≡ with_taken (behind p t n) more whole
 behind_more p t more whole n a =
-    ap (λ (l : List ℕ). record { rest = l; whole = whole; before = p.before + n; line = p.line + 1; stage = p.stage }) (drop-append-le n p.rest more (line_there p t n a))
+    ap (λ (l : List ℕ). record { rest = l; whole = whole; before = p.before + n; line = p.line + 1; stage = p.stage; text = t; end = p.end }) (drop-append-le n p.rest more (line_there p t n a))
 
 -- the bytes of the script that are known
 pub behind_total : (p : Reading) (t : List ℕ) (n : ℕ) → IsLine p t n → (p.before + n) + length (drop n p.rest) ≡ p.before + length p.rest

@@ -22,30 +22,34 @@ gives_at p q new r e g = subst (λ (z : Reading). GivesFirst p r z) (sym e) g
 line_of : (p : Reading) (n size : ℕ) (text : List ℕ) → text ≡ take n p.rest → HoldsLine p n size → IsLine p text size
 line_of p n size text e h = subst (λ (t : List ℕ). IsLine p t size) (sym e) h.line
 
+-- behind a line, told by its text
+behind_text : (p new : Reading) (n size : ℕ) (text : List ℕ) → text ≡ take n p.rest → new ≡ behind p (take n p.rest) size → new ≡ behind p text size
+behind_text p new n size text e is = is ∙ ap (λ (t : List ℕ). behind p t size) (sym e)
+
 -- behind a line less is to be read
-less_behind : (p : Reading) (n size : ℕ) → IsNear p.rest → HoldsLine p n size → to_read (behind p size) < to_read p
-less_behind p n size near h = omega (arith, length-drop size p.rest, h.all, h.some, h.line.within, near.few)
+less_behind : (p : Reading) (n size : ℕ) (text : List ℕ) → IsNear p.rest → HoldsLine p n size → to_read (behind p text size) < to_read p
+less_behind p n size text near h = omega (arith, length-drop size p.rest, h.all, h.some, h.line.within, near.few)
 
-pub reads_skipped : (p new : Reading) (n size : ℕ) (text : List ℕ) → text ≡ take n p.rest → HoldsLine p n size → new ≡ behind p size → IsNear p.rest → IsOpen p.stage → is_skipped text ≡ true → ReadsLine p (Ok None) new
+pub reads_skipped : (p new : Reading) (n size : ℕ) (text : List ℕ) → text ≡ take n p.rest → HoldsLine p n size → new ≡ behind p (take n p.rest) size → IsNear p.rest → IsOpen p.stage → is_skipped text ≡ true → ReadsLine p (Ok None) new
 reads_skipped p new n size text e h is near stage skip =
-    subst (λ (z : Reading). ReadsLine p (Ok None) z) (sym is)
-    (over_skipped text size (line_of p n size text e h) skip nowhere, stage, less_behind p n size near h)
+    subst (λ (z : Reading). ReadsLine p (Ok None) z) (sym (behind_text p new n size text e is))
+    (over_skipped text size (line_of p n size text e h) skip nowhere, stage, less_behind p n size text near h)
 
-pub reads_command : (p new : Reading) (n size : ℕ) (text : List ℕ) (c : Command) → text ≡ take n p.rest → HoldsLine p n size → new ≡ behind p size → is_skipped text ≡ false → p.stage ≡ Commands → HasForm c text → c ≢ End → GivesFirst p (Ok (Some c)) new
+pub reads_command : (p new : Reading) (n size : ℕ) (text : List ℕ) (c : Command) → text ≡ take n p.rest → HoldsLine p n size → new ≡ behind p (take n p.rest) size → is_skipped text ≡ false → p.stage ≡ Commands → HasForm c text → c ≢ End → GivesFirst p (Ok (Some c)) new
 reads_command p new n size text c e h is skip stage form other =
-    gives_at p (behind p size) new (Ok (Some c)) is (command c text size (line_of p n size text e h) skip stage form other)
+    gives_at p (behind p text size) new (Ok (Some c)) (behind_text p new n size text e is) (command c text size (line_of p n size text e h) skip stage form other)
 
-pub reads_end_line : (p mid new : Reading) (n size : ℕ) (text : List ℕ) → text ≡ take n p.rest → HoldsLine p n size → mid ≡ behind p size → new ≡ at_stage mid AfterEnd → IsNear p.rest → is_skipped text ≡ false → p.stage ≡ Commands → HasForm End text → ReadsLine p (Ok None) new
+pub reads_end_line : (p mid new : Reading) (n size : ℕ) (text : List ℕ) → text ≡ take n p.rest → HoldsLine p n size → mid ≡ behind p (take n p.rest) size → new ≡ at_stage mid AfterEnd → IsNear p.rest → is_skipped text ≡ false → p.stage ≡ Commands → HasForm End text → ReadsLine p (Ok None) new
 reads_end_line p mid new n size text e h is then near skip stage form =
-    subst (λ (z : Reading). ReadsLine p (Ok None) z) (sym (then ∙ ap (λ (m : Reading). at_stage m AfterEnd) is))
-    (over_end text size (line_of p n size text e h) skip stage form nowhere, tt, less_behind p n size near h)
+    subst (λ (z : Reading). ReadsLine p (Ok None) z) (sym (then ∙ ap (λ (m : Reading). at_stage m AfterEnd) (behind_text p mid n size text e is)))
+    (over_end text size (line_of p n size text e h) skip stage form nowhere, tt, less_behind p n size text near h)
 
-pub reads_bad_line : (p mid new : Reading) (n size : ℕ) (text : List ℕ) → text ≡ take n p.rest → HoldsLine p n size → mid ≡ behind p size → new ≡ at_stage mid Failed → is_skipped text ≡ false → (p.stage ≡ AfterEnd) ⊎ ((c : Command) → HasForm c text → ⊥) → GivesFirst p (Err BadLine) new
+pub reads_bad_line : (p mid new : Reading) (n size : ℕ) (text : List ℕ) → text ≡ take n p.rest → HoldsLine p n size → mid ≡ behind p (take n p.rest) size → new ≡ at_stage mid Failed → is_skipped text ≡ false → (p.stage ≡ AfterEnd) ⊎ ((c : Command) → HasForm c text → ⊥) → GivesFirst p (Err BadLine) new
 reads_bad_line p mid new n size text e h is then skip why =
-    gives_at p (at_stage (behind p size) Failed) new (Err BadLine) (then ∙ ap (λ (m : Reading). at_stage m Failed) is) (bad_line text size (line_of p n size text e h) skip why)
+    gives_at p (at_stage (behind p text size) Failed) new (Err BadLine) (then ∙ ap (λ (m : Reading). at_stage m Failed) (behind_text p mid n size text e is)) (bad_line text size (line_of p n size text e h) skip why)
 
-pub reads_long_line : (p new : Reading) → IsLongLine p → new ≡ refused p → GivesFirst p (Err LineTooLong) new
-reads_long_line p new h is = gives_at p (refused p) new (Err LineTooLong) is (long_line h)
+pub reads_long_line : (p new : Reading) → IsLongLine p → new ≡ refused p (take 257 p.rest) → GivesFirst p (Err LineTooLong) new
+reads_long_line p new h is = gives_at p (refused p (take 257 p.rest)) new (Err LineTooLong) is (long_line h)
 
 pub reads_limit : (p new : Reading) → PassesLimit p → new ≡ at_stage p Failed → GivesFirst p (Err TooLong) new
 reads_limit p new h is = gives_at p (at_stage p Failed) new (Err TooLong) is (too_long h)
@@ -53,8 +57,8 @@ reads_limit p new h is = gives_at p (at_stage p Failed) new (Err TooLong) is (to
 pub reads_end : (p new : Reading) → IsAtEndOfInput p → p.stage ≡ AfterEnd → new ≡ at_stage p Done → GivesFirst p (Ok (Some End)) new
 reads_end p new h stage is = gives_at p (at_stage p Done) new (Ok (Some End)) is (end_of_input h stage)
 
-pub reads_no_end : (p new : Reading) → IsAtEndOfInput p → p.stage ≡ Commands → new ≡ refused p → GivesFirst p (Err NoEnd) new
-reads_no_end p new h stage is = gives_at p (refused p) new (Err NoEnd) is (no_end h stage)
+pub reads_no_end : (p new : Reading) → IsAtEndOfInput p → p.stage ≡ Commands → new ≡ refused p (take 0 p.rest) → GivesFirst p (Err NoEnd) new
+reads_no_end p new h stage is = gives_at p (refused p []) new (Err NoEnd) is (no_end h stage)
 
 -- why a line is refused
 pub refused_stage : (p : Reading) (commands : Bool) (text : List ℕ) → (commands ≡ false → p.stage ≡ AfterEnd) → (commands ≡ false) ⊎ ((c : Command) → HasForm c text → ⊥) → (p.stage ≡ AfterEnd) ⊎ ((c : Command) → HasForm c text → ⊥)
@@ -100,7 +104,7 @@ nothing_taken p left =
       takes = Takes-nothing left;
       kept = λ w. (refl, w);
       met = λ w v. absurd cc;
-      now = ap (λ (xs : List ℕ). record { rest = xs; whole = p.whole; before = p.before; line = p.line; stage = p.stage }) (sym (append-nil p.rest));
+      now = ap (λ (xs : List ℕ). record { rest = xs; whole = p.whole; before = p.before; line = p.line; stage = p.stage; text = p.text; end = p.end }) (sym (append-nil p.rest));
     }
 
 gives_done : (s : Stage) (p : Reading) → s ≡ Done → GivesNext s p (Ok None) p
@@ -120,9 +124,9 @@ gives_open Done p q r o g = absurd o
 gives_open Failed p q r o g = absurd o
 
 -- behind a line few bytes are held
-pub few_behind : (p new : Reading) (n size : ℕ) → IsNear p.rest → HoldsLine p n size → new ≡ behind p size → length new.rest ≤ 4096
+pub few_behind : (p new : Reading) (n size : ℕ) → IsNear p.rest → HoldsLine p n size → new ≡ behind p (take n p.rest) size → length new.rest ≤ 4096
 few_behind p new n size near h is = subst (λ (q : Reading). length q.rest ≤ 4096) (sym is) (line_near p (take n p.rest) size near h.line)
 
 -- a refused line
-pub few_refused : (p mid new : Reading) (n size : ℕ) → IsNear p.rest → HoldsLine p n size → mid ≡ behind p size → new ≡ at_stage mid Failed → length new.rest ≤ 4096
+pub few_refused : (p mid new : Reading) (n size : ℕ) → IsNear p.rest → HoldsLine p n size → mid ≡ behind p (take n p.rest) size → new ≡ at_stage mid Failed → length new.rest ≤ 4096
 few_refused p mid new n size near h is then = subst (λ (q : Reading). length q.rest ≤ 4096) (sym then) (few_behind p mid n size near h is)

@@ -117,9 +117,9 @@ total_from p m (Ok (Some c)) q e h = (h.0, h.1 ∙ e, λ o. omega (arith, h.2 o,
 total_from p m (Err f) q e h = ((λ o. omega (arith, h.0 o, e)), (λ o. omega (arith, h.1 o, e)))
 
 gives_total : {p : Reading} {r : Answer} {q : Reading} → p.before ≤ 1048576 → GivesFirst p r q → Total p r q
-gives_total {p = p} {r = r} {q = q} low (skipped t n a k g) = total_from p (behind p n) r q (behind_total p t n a) (gives_total a.within g)
+gives_total {p = p} {r = r} {q = q} low (skipped t n a k g) = total_from p (behind p t n) r q (behind_total p t n a) (gives_total a.within g)
 gives_total {p = p} low (command c t n a k i f o) = (a.within, behind_total p t n a, λ e. absurd (o e))
-gives_total {p = p} {r = r} {q = q} low (end_line t n a k i f g) = total_from p (at_stage (behind p n) AfterEnd) r q (behind_total p t n a) (gives_total a.within g)
+gives_total {p = p} {r = r} {q = q} low (end_line t n a k i f g) = total_from p (at_stage (behind p t n) AfterEnd) r q (behind_total p t n a) (gives_total a.within g)
 gives_total low (bad_line t n a k w) = ((λ e. absurd cc), (λ e. absurd cc))
 gives_total low (long_line a) = ((λ e. absurd cc), (λ e. absurd cc))
 gives_total low (too_long a) = ((λ e. a.more), (λ e. absurd cc))

@@ -17,7 +17,7 @@ use Rattle.fw_script.proofs.ReadingLaws.{gives_at, nothing_taken, gives_open}
 
 -- taking in turn
 pub with_with : (p : Reading) (xs ys : List ℕ) (w v : Bool) → with_taken (with_taken p xs w) ys v ≡ with_taken p (xs ++ ys) v
-with_with p xs ys w v = ap (λ (l : List ℕ). record { rest = l; whole = v; before = p.before; line = p.line; stage = p.stage }) (append_assoc p.rest xs ys)
+with_with p xs ys w v = ap (λ (l : List ℕ). record { rest = l; whole = v; before = p.before; line = p.line; stage = p.stage; text = p.text; end = p.end }) (append_assoc p.rest xs ys)
 
 pub at_end_still : (left mid : Option (List ℕ)) → Takes left mid [] → IsAtEnd left → IsAtEnd mid
 at_end_still None None h e = tt

@@ -29,10 +29,10 @@ pub record IsNear (rest : List ℕ) : Type 0 where
 pub data PassesOver : Reading → Reading → Type 0 where
   nowhere : {p : Reading} → PassesOver p p
   over_skipped : {p q : Reading} (text : List ℕ) (size : ℕ)
-      → IsLine p text size → is_skipped text ≡ true → PassesOver (behind p size) q → PassesOver p q
+      → IsLine p text size → is_skipped text ≡ true → PassesOver (behind p text size) q → PassesOver p q
   over_end : {p q : Reading} (text : List ℕ) (size : ℕ)
       → IsLine p text size → is_skipped text ≡ false → p.stage ≡ Commands → HasForm End text
-      → PassesOver (at_stage (behind p size) AfterEnd) q → PassesOver p q
+      → PassesOver (at_stage (behind p text size) AfterEnd) q → PassesOver p q
 
 -- bytes were taken, and lines were passed over that say nothing
 pub record ReadsOn (old new : Reading) (left left' : Option (List ℕ)) : Type 0 where

@@ -17,33 +17,43 @@ Answer = Result (Option Command) ScriptFault
 
 -- where a reading stands: the bytes from the next line on, as far as they were taken from the source, which is all that
 -- is held; whether its end was met behind them; how many bytes of the script stand before them; the number of the line last read or
--- refused; and what is read next
+-- refused; what is read next; the text of the line last read or refused, of one that is too long its first 257 bytes; and the number of
+-- the line `end`, 0 before it was read
 pub record Reading : Type 0 where
   pub rest : List ℕ
   pub whole : Bool
   pub before : ℕ
   pub line : ℕ
   pub stage : Stage
+  pub text : List ℕ
+  pub end : ℕ
 
 -- the reading of a new reader
 abbrev pub unread : Reading
-unread = record { rest = []; whole = false; before = 0; line = 0; stage = Commands }
+unread = record { rest = []; whole = false; before = 0; line = 0; stage = Commands; text = []; end = 0 }
 
 -- more bytes were taken, and perhaps the source's end was met
 abbrev pub with_taken : Reading → List ℕ → Bool → Reading
-with_taken p taken whole = record { rest = p.rest ++ taken; whole = whole; before = p.before; line = p.line; stage = p.stage }
+with_taken p taken whole = record { rest = p.rest ++ taken; whole = whole; before = p.before; line = p.line; stage = p.stage; text = p.text; end = p.end }
+
+-- the number of the line `end` where another stage begins: that of the line last read where only skipped lines may follow it
+abbrev pub end_at : Reading → Stage → ℕ
+end_at p Commands = p.end
+end_at p AfterEnd = p.line
+end_at p Done = p.end
+end_at p Failed = p.end
 
 -- the same with another stage
 abbrev pub at_stage : Reading → Stage → Reading
-at_stage p stage = record { rest = p.rest; whole = p.whole; before = p.before; line = p.line; stage = stage }
+at_stage p stage = record { rest = p.rest; whole = p.whole; before = p.before; line = p.line; stage = stage; text = p.text; end = end_at p stage }
 
--- the line after the last one is refused
-abbrev pub refused : Reading → Reading
-refused p = record { rest = p.rest; whole = p.whole; before = p.before; line = p.line + 1; stage = Failed }
+-- the line after the last one is refused, which begins with this text
+abbrev pub refused : Reading → List ℕ → Reading
+refused p text = record { rest = p.rest; whole = p.whole; before = p.before; line = p.line + 1; stage = Failed; text = text; end = p.end }
 
--- behind a line that takes so many bytes
-abbrev pub behind : Reading → ℕ → Reading
-behind p size = record { rest = drop size p.rest; whole = p.whole; before = p.before + size; line = p.line + 1; stage = p.stage }
+-- behind a line of this text that takes so many bytes
+abbrev pub behind : Reading → List ℕ → ℕ → Reading
+behind p text size = record { rest = drop size p.rest; whole = p.whole; before = p.before + size; line = p.line + 1; stage = p.stage; text = text; end = p.end }
 
 -- the next line is this text, and takes so many bytes with its line feed; only the last line may lack it
 abbrev pub EndsLine : Reading → List ℕ → ℕ → Type 0
@@ -79,26 +89,26 @@ IsAtEndOfInput p = (p.rest ≡ []) × (p.whole ≡ true)
 pub data GivesFirst : Reading → Answer → Reading → Type 0 where
   -- an empty line or a comment
   skipped : {p q : Reading} {r : Answer} (text : List ℕ) (size : ℕ)
-      → IsLine p text size → is_skipped text ≡ true → GivesFirst (behind p size) r q → GivesFirst p r q
+      → IsLine p text size → is_skipped text ≡ true → GivesFirst (behind p text size) r q → GivesFirst p r q
   -- a command
   command : {p : Reading} (c : Command) (text : List ℕ) (size : ℕ)
       → IsLine p text size → is_skipped text ≡ false → p.stage ≡ Commands → HasForm c text → c ≢ End
-      → GivesFirst p (Ok (Some c)) (behind p size)
+      → GivesFirst p (Ok (Some c)) (behind p text size)
   -- the line `end`: only skipped lines may follow
   end_line : {p q : Reading} {r : Answer} (text : List ℕ) (size : ℕ)
       → IsLine p text size → is_skipped text ≡ false → p.stage ≡ Commands → HasForm End text
-      → GivesFirst (at_stage (behind p size) AfterEnd) r q → GivesFirst p r q
+      → GivesFirst (at_stage (behind p text size) AfterEnd) r q → GivesFirst p r q
   -- a line without a form, or one that follows `end`
   bad_line : {p : Reading} (text : List ℕ) (size : ℕ)
       → IsLine p text size → is_skipped text ≡ false → (p.stage ≡ AfterEnd) ⊎ ((c : Command) → HasForm c text → ⊥)
-      → GivesFirst p (Err BadLine) (at_stage (behind p size) Failed)
+      → GivesFirst p (Err BadLine) (at_stage (behind p text size) Failed)
   -- a line of more than 256 bytes
-  long_line : {p : Reading} → IsLongLine p → GivesFirst p (Err LineTooLong) (refused p)
+  long_line : {p : Reading} → IsLongLine p → GivesFirst p (Err LineTooLong) (refused p (take 257 p.rest))
   -- a line that ends behind the script's limit
   too_long : {p : Reading} → PassesLimit p → GivesFirst p (Err TooLong) (at_stage p Failed)
   -- the input's end, behind `end` or without it
   end_of_input : {p : Reading} → IsAtEndOfInput p → p.stage ≡ AfterEnd → GivesFirst p (Ok (Some End)) (at_stage p Done)
-  no_end : {p : Reading} → IsAtEndOfInput p → p.stage ≡ Commands → GivesFirst p (Err NoEnd) (refused p)
+  no_end : {p : Reading} → IsAtEndOfInput p → p.stage ≡ Commands → GivesFirst p (Err NoEnd) (refused p [])
   -- the source failed
   read_fault : {p : Reading} → GivesFirst p (Err ReadFault) (at_stage p Failed)
 

@@ -21,7 +21,7 @@ pub data Says : Reading → List Command → Option Refusal → Type 0 where
 
 -- bytes of which nothing is read yet; others may follow them where they are not whole
 abbrev pub begun : List ℕ → Bool → Reading
-begun bytes whole = record { rest = bytes; whole = whole; before = 0; line = 0; stage = Commands }
+begun bytes whole = record { rest = bytes; whole = whole; before = 0; line = 0; stage = Commands; text = []; end = 0 }
 
 -- a script of which nothing is read yet
 abbrev pub start_of : List ℕ → Reading

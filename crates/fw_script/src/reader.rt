@@ -10,6 +10,7 @@ use crate::line::{Front, Meaning, meaning_of};
 use crate::stage::Stage;
 use fw_command::Command;
 use fw_outside::Source;
+use fw_words::Bytes;
 use std::alloc::{AllocError, Global};
 use std::marker::Model;
 
@@ -17,6 +18,7 @@ mod input;
 mod standing;
 
 use input::HELD_LIMIT;
+use standing::TEXT_LIMIT;
 
 /// Reads the commands of a script, line by line. It holds what it took from the source and did not yet read: the front of a
 /// line, of at most 256 bytes, and up to 4,096 bytes that were asked for since. It asks only where no whole line is held.
@@ -28,6 +30,10 @@ pub struct ScriptReader {
     whole: bool,
     line: u32,
     stage: Stage,
+    /// The text of the line last read or refused, as far as its first 257 bytes.
+    text: Bytes<TEXT_LIMIT>,
+    /// The number of the line `end`, 0 before it was read.
+    end: u32,
 }
 
 impl Model for ScriptReader {
@@ -37,7 +43,7 @@ impl Model for ScriptReader {
 
     ghost Value = { Reading };
 
-    ghost view = { λ r. record { rest = drop r.at r.bytes.items; whole = r.whole; before = r.before; line = r.line; stage = r.stage } };
+    ghost view = { λ r. record { rest = drop r.at r.bytes.items; whole = r.whole; before = r.before; line = r.line; stage = r.stage; text = r.text; end = r.end } };
 
     ghost invariant = { λ r. (r.at ≤ vec_len r.bytes) × (4352 ≤ vec_capacity r.bytes) × IsNear (drop r.at r.bytes.items)
         × (r.before ≤ 1048576) × (r.line ≤ r.before + 1) × (IsOpen r.stage → r.line ≤ r.before) };
@@ -55,6 +61,8 @@ impl ScriptReader {
             whole: false,
             line: 0,
             stage: Stage::Commands,
+            text: Bytes::new(),
+            end: 0,
         })
     }
 
@@ -64,6 +72,21 @@ impl ScriptReader {
         ensures { result ≡ self.now.line }
     {
         self.line
+    }
+
+    /// The text of the line last read or refused, without its line feed; of one that is too long its first 257 bytes, and none where the end is
+    /// missing.
+    pub fn text(&self) -> &[u8]
+        ensures { result.now ≡ self.now.text }
+    {
+        self.text.as_slice()
+    }
+
+    /// The number of the line `end`, and 0 before it was read.
+    pub fn end_line(&self) -> u32
+        ensures { result ≡ self.now.end }
+    {
+        self.end
     }
 
     // Reads a line of so many bytes. Answers whether it is a command, which is put into `out`.
@@ -80,8 +103,8 @@ impl ScriptReader {
         ensures held { IsHeld (answer_of result out.new) self.new }
         ensures told { result ≢ Err ScriptFault.ReadFault }
     {
-        let meaning = meaning_of(self.text(count), self.takes_commands(), out);
-        self.advance(size);
+        let meaning = meaning_of(self.front_text(count), self.takes_commands(), out);
+        self.advance(count, size);
         match meaning {
             Meaning::Skipped => Ok(false),
             Meaning::Command => Ok(true),
@@ -106,7 +129,7 @@ impl ScriptReader {
         ensures some { result ≢ Ok false }
     {
         if self.takes_commands() {
-            self.refuse();
+            self.refuse(0);
             Err(ScriptFault::NoEnd)
         } else {
             self.enter(Stage::Done);
@@ -131,7 +154,7 @@ impl ScriptReader {
         match self.front() {
             Front::Line { length, size } => self.read_text(length, size, out),
             Front::LongLine => {
-                self.refuse();
+                self.refuse(TEXT_LIMIT);
                 Err(ScriptFault::LineTooLong)
             }
             Front::Limit => {

@@ -3,15 +3,15 @@ ghost use Rattle.std.specs.List.{All};
 ghost use Rattle.fw_phy.specs.Phy.{Fits};
 ghost use Rattle.fw_tree.specs.declared.TreeFault.{TreeFault};
 ghost use Rattle.fw_tree.specs.declared.numbering.Numbering.{Numbering};
-ghost use Rattle.fw_tree.specs.Cables.{IsOnBus};
+ghost use Rattle.fw_tree.specs.Cables.{IsOnBus, peer};
 ghost use Rattle.fw_tree.specs.Numbering.{IsNumbering, IsSame, IsManager};
 ghost use Rattle.fw_tree.specs.SelfIds.{ArePackets};
-ghost use Rattle.fw_tree.specs.Topology.{IsExtended, IsFault, IsJoined, Made, no_cables};
+ghost use Rattle.fw_tree.specs.Topology.{IsExtended, IsFault, IsJoined, Made, no_cables, ports_of};
 
 use crate::facts::AllCables;
 use crate::numbering::{contends, devices_of};
 use crate::numbers::{numbered, numbers_from, parent_ports};
-use crate::ports::{are_used, have_ports, plug};
+use crate::ports::{are_used, have_ports, peer_at, plug, ports_at};
 use crate::root::find_root;
 use crate::rounds::parents;
 use crate::self_ids::push_node;
@@ -75,6 +75,20 @@ impl Cabling {
         self.facts[number as usize] = facts;
         self.count += 1;
         Ok(number)
+    }
+
+    /// How many ports a device has: none where there is no such device.
+    pub fn ports(&self, device: u8) -> u8
+        ensures { result ≡ ports_of self.now.devices device }
+    {
+        ports_at(&self.facts, self.count, device)
+    }
+
+    /// The other end of the cable at a port. None where no cable is, and where there is no such port.
+    pub fn peer(&self, end: End) -> Option<End>
+        ensures { result ≡ peer self.now.cables end.device end.port }
+    {
+        peer_at(&self.cables, end)
     }
 
     /// What `join` would answer of these two ports.

@@ -6,8 +6,8 @@ ghost use Rattle.fw_tree.specs.Topology.{AreDevices, ArePlaced, ports_of, are_us
 use crate::facts::AllCables;
 use crate::{End, PhyFacts};
 
-// How many ports a device has: none where there is no such device.
-fn ports_at(facts: &[PhyFacts; 63], count: u8, device: u8) -> u8
+/// How many ports a device has: none where there is no such device.
+pub fn ports_at(facts: &[PhyFacts; 63], count: u8, device: u8) -> u8
     requires count { count ≤ 63 }
     requires devices { AreDevices (take count facts.now) }
     ensures ports { result ≡ ports_of (take count facts.now) device }
@@ -49,6 +49,19 @@ pub fn cables_of<'a>(g: &'a AllCables, facts: &[PhyFacts; 63], d: usize) -> &'a 
         &row[..ports]
     } else {
         row
+    }
+}
+
+/// The far end of the cable at a port. None where no cable is, and where there is no such port.
+pub fn peer_at(g: &AllCables, e: End) -> Option<End>
+    ensures { result ≡ peer g.now e.device e.port }
+{
+    match g.get(usize::from(e.device)) {
+        Some(row) => match row.get(usize::from(e.port)) {
+            Some(cable) => *cable,
+            None => None,
+        },
+        None => None,
     }
 }
 

@@ -3,6 +3,7 @@
 ghost use Rattle.std.specs.Prelude.{◌≡◌, ◌<◌, Err, if◌then◌else◌};
 ghost use Rattle.fw_cmp.specs.declared.directory.Directory.{Directory as BusDirectory};
 ghost use Rattle.fw_cmp.specs.declared.outcome.StartFault.TheVariants.{NotOwnPlug};
+ghost use Rattle.fw_cmp.specs.Controllers.{break_waits, slot_at};
 ghost use Rattle.fw_cmp.specs.Fits.{PlugFits, AskedFits, SlotFits};
 ghost use Rattle.fw_cmp.specs.Holdings.{CanGoOn};
 ghost use Rattle.fw_cmp.specs.Losses.{ListeningFits, with_state};
@@ -125,5 +126,19 @@ impl Controller {
         ensures { result ≡ break_fault self.now.state slot }
     {
         self.agenda.check_break(slot)
+    }
+
+    /// What a slot holds; one beyond the 32 is free.
+    pub fn slot(&self, slot: u8) -> Slot
+        ensures { result ≡ slot_at self.now.state slot }
+    {
+        self.agenda.slot(slot)
+    }
+
+    /// A break of the connection in this slot waits.
+    pub fn break_waits(&self, slot: u8) -> bool
+        ensures { result ≡ break_waits self.now.state slot }
+    {
+        self.agenda.break_waits(slot)
     }
 }

@@ -2,11 +2,24 @@
 
 ghost use Rattle.std.specs.Prelude.{◌≡◌, ◌≢◌, ◌≤◌, ◌<◌, ◌+◌, length, take, drop, true, false};
 ghost use Rattle.fw_script.specs.Reader.{IsOpen, IsNear, StandsNext};
-ghost use Rattle.fw_script.specs.Reading.{at_stage, refused, behind};
+ghost use Rattle.fw_script.specs.Reading.{at_stage, behind, end_at, refused};
 
 use super::ScriptReader;
-use crate::line::{Front, SCRIPT_LIMIT, front_of};
+use crate::line::{Front, LINE_LIMIT, SCRIPT_LIMIT, front_of};
 use crate::stage::Stage;
+use fw_words::Bytes;
+
+/// How many bytes are kept of a line at most: those of one that is too long as far as that shows it.
+pub(super) const TEXT_LIMIT: usize = LINE_LIMIT + 1;
+
+/// Puts bytes in place of those that were kept.
+fn set(text: &mut Bytes<TEXT_LIMIT>, bytes: &[u8])
+    requires { length bytes.now ≤ 257 }
+    ensures { text.new ≡ bytes.now }
+{
+    text.clear();
+    text.append(bytes);
+}
 
 impl ScriptReader {
     // Whether commands may come, or only skipped lines.
@@ -48,25 +61,38 @@ impl ScriptReader {
     }
 
     // The first bytes from here on.
-    pub(super) fn text(&self, count: usize) -> &[u8]
+    pub(super) fn front_text(&self, count: usize) -> &[u8]
         requires { count ≤ length self.now.rest }
         ensures { result.now ≡ take count self.now.rest }
     {
         &self.bytes[self.at..self.at + count]
     }
 
-    // Goes behind a line.
-    pub(super) fn advance(&mut self, size: usize)
+    // Goes behind a line of so many bytes, with its line feed.
+    pub(super) fn advance(&mut self, count: usize, size: usize)
+        requires text { count ≤ length self.old.rest }
+        requires short { count ≤ 256 }
         requires open { IsOpen self.old.stage }
         requires some { 0 < size }
         requires there { size ≤ length self.old.rest }
         requires near { IsNear (drop size self.old.rest) }
         requires within { self.old.before + size ≤ 1048576 }
-        ensures { self.new ≡ behind self.old size }
+        ensures { self.new ≡ behind self.old (take count self.old.rest) size }
     {
+        set(&mut self.text, &self.bytes[self.at..self.at + count]);
         self.at += size;
         self.before += size;
         self.line += 1;
+    }
+
+    // The number of the line `end`, where another stage begins.
+    fn end_at(&self, stage: Stage) -> u32
+        ensures { result ≡ end_at self.now stage }
+    {
+        match stage {
+            Stage::AfterEnd => self.line,
+            Stage::Commands | Stage::Done | Stage::Failed => self.end,
+        }
     }
 
     // Reads on from another stage.
@@ -74,14 +100,18 @@ impl ScriptReader {
         requires { IsOpen self.old.stage }
         ensures { self.new ≡ at_stage self.old stage }
     {
+        self.end = self.end_at(stage);
         self.stage = stage;
     }
 
-    // Refuses the line after the last.
-    pub(super) fn refuse(&mut self)
-        requires { IsOpen self.old.stage }
-        ensures { self.new ≡ refused self.old }
+    // Refuses the line after the last, which begins with so many bytes.
+    pub(super) fn refuse(&mut self, count: usize)
+        requires open { IsOpen self.old.stage }
+        requires text { count ≤ length self.old.rest }
+        requires short { count ≤ 257 }
+        ensures { self.new ≡ refused self.old (take count self.old.rest) }
     {
+        set(&mut self.text, &self.bytes[self.at..self.at + count]);
         self.line += 1;
         self.stage = Stage::Failed;
     }
