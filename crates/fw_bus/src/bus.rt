@@ -11,6 +11,7 @@ use fw_machine::{Machine, Room};
 use fw_node::Node;
 use fw_outside::{Failed, Sink};
 use fw_rules::decide;
+use fw_run::{Order, RuleFault};
 use fw_tape::Desk;
 use std::alloc::{AllocError, Global};
 use std::marker::Model;
@@ -39,6 +40,7 @@ impl Bus {
     ghost use Rattle.fw_command.specs.declared.command.Command.{Command as Line};
     ghost use Rattle.fw_run.specs.State.{State, first_state};
     ghost use Rattle.fw_run.specs.Actions.{Action};
+    ghost use Rattle.fw_run.specs.Rules.{Decides};
     ghost use Rattle.fw_run.specs.Runs.{Run};
     ghost use Rattle.fw_tape.specs.Desks.{AnyBlock, AnyVendorByte};
     ghost use Rattle.fw_rules.specs.Decisions.{IsCommand};
@@ -99,6 +101,16 @@ impl Bus {
         ensures { result.now ≡ self.now.machine }
     {
         &self.machine
+    }
+
+    /// What a command would order, or the first rule that it breaks. Nothing is changed.
+    pub fn order_of<'a>(&self, c: &'a Command) -> Result<Order<'a>, RuleFault>
+        requires spent { IsFalse self.now.spent }
+        requires command { IsCommand c.now }
+        ensures run { (commands : List Line) (actions : List Action) (log : List TimedEntry) (s : State) → Run commands actions log s → StandsFor self.now.machine s
+            → Decides s c.now result }
+    {
+        decide(&self.machine, c)
     }
 
     /// Carries out a command, and writes what happens; the blocks of tapes, and what a vendor makes of a byte, come from the desk. `Refused` comes exactly

@@ -7,7 +7,7 @@
 mod bus;
 
 pub use bus::Bus;
-pub use fw_run::RuleFault;
+pub use fw_run::{Order, RuleFault};
 
 /// Why a command was not carried out to its end.
 #[derive(Clone, Copy)]

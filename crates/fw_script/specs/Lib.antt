@@ -4,3 +4,4 @@ pub mod Line
 pub mod Reader
 pub mod Reading
 pub mod Script
+pub mod Passing

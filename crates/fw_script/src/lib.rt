@@ -10,7 +10,7 @@ mod reader;
 mod stage;
 
 pub use laws::{calls_give_the_script, scripts_say_one_thing};
-pub use reader::ScriptReader;
+pub use reader::{Said, ScriptReader};
 use thiserror::Error;
 
 /// Why a script is refused, or not read.

@@ -15,9 +15,11 @@ use std::alloc::{AllocError, Global};
 use std::marker::Model;
 
 mod input;
+mod passing;
 mod standing;
 
 use input::HELD_LIMIT;
+pub use passing::Said;
 use standing::TEXT_LIMIT;
 
 /// Reads the commands of a script, line by line. It holds what it took from the source and did not yet read: the front of a

@@ -1,0 +1,85 @@
+//! Lines that say nothing, one by one.
+
+ghost use Rattle.std.specs.Prelude.{◌≡◌, ◌≢◌, ◌≤◌, length, take, true, IfOk, OnOk, OnErr, Err};
+ghost use Rattle.fw_outside.specs.Outside.{Rose};
+ghost use Rattle.fw_script.specs.Passing.{HoldsNext, Passes};
+ghost use Rattle.fw_script.specs.Reader.{IsOpen, HoldsLine};
+ghost use Rattle.fw_script.specs.Reading.{Advances, IsHeld, TakesMore};
+
+use super::ScriptReader;
+use crate::ScriptFault;
+use crate::line::{Front, Meaning, meaning_of};
+use crate::stage::Stage;
+use fw_command::Command;
+use fw_outside::Source;
+
+/// What a line says that is held.
+#[derive(Clone, Copy)]
+pub enum Said {
+    /// Nothing by itself: it is empty, a comment, or `end`. It was read.
+    Nothing,
+    /// A command. The line is not read.
+    Command,
+    /// Neither, and it is refused. The line is not read.
+    Refused,
+}
+
+impl ScriptReader {
+    /// Takes bytes until the next line is held whole, and answers its length, and how many bytes it takes with its line feed. None where no
+    /// line stands next: at the input's end, where the line or the script is too long, and behind the end. No line is read.
+    pub fn look<S: Source>(
+        &mut self,
+        source: &mut S,
+    ) -> Result<Option<(usize, usize)>, ScriptFault>
+        requires { self.old.stage ≢ Stage.Failed }
+        ensures takes { OnOk result (TakesMore self.old self.new (S.left source.old) (S.left source.new)) }
+        ensures stage { OnOk result (self.new.stage ≡ self.old.stage) }
+        ensures line { IfOk result (HoldsNext self.new) }
+        ensures gives { OnErr result (Advances self.old self.new (S.left source.old) (S.left source.new) (Err ScriptFault.ReadFault)) }
+        ensures held { OnErr result (IsHeld (Err ScriptFault.ReadFault) self.new) }
+        ensures unasked { self.old.whole ≡ true → source.new ≡ source.old }
+        ensures later { S.faults source.old ≤ S.faults source.new }
+        ensures cause { OnErr result (Rose (S.faults source.old) (S.faults source.new)) }
+        ensures unfailed { OnOk result (S.faults source.new ≡ S.faults source.old) }
+    {
+        if self.is_done() {
+            return Ok(None);
+        }
+        loop {
+            match self.front() {
+                Front::Line { length, size } => return Ok(Some((length, size))),
+                Front::LongLine | Front::Limit | Front::Nothing => return Ok(None),
+                Front::Cut => self.take(source)?,
+            }
+        }
+    }
+
+    /// The first bytes that are held.
+    pub fn held_text(&self, count: usize) -> &[u8]
+        requires { count ≤ length self.now.rest }
+        ensures { result.now ≡ take count self.now.rest }
+    {
+        self.front_text(count)
+    }
+
+    /// Reads the next line, which has this length and takes so many bytes, where it says nothing by itself. A command is put into `out`.
+    pub fn pass(&mut self, length: usize, size: usize, out: &mut Command) -> Said
+        requires open { IsOpen self.old.stage }
+        requires line { HoldsLine self.old length size }
+        ensures { Passes self.old length size result out.new self.new }
+    {
+        match meaning_of(self.front_text(length), self.takes_commands(), out) {
+            Meaning::Skipped => {
+                self.advance(length, size);
+                Said::Nothing
+            }
+            Meaning::End => {
+                self.advance(length, size);
+                self.enter(Stage::AfterEnd);
+                Said::Nothing
+            }
+            Meaning::Command => Said::Command,
+            Meaning::Refused => Said::Refused,
+        }
+    }
+}
