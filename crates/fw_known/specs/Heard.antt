@@ -52,7 +52,7 @@ abbrev pub sender_behind : ℕ → Option ℕ → ℕ
 sender_behind sid None = sid
 sender_behind sid (Some sender) = sender
 
--- what is kept of a channel behind a packet that showed this: its first sender stays
+-- what is kept of a channel after a packet that showed this: its first sender stays
 unfoldable pub channel_behind : ℕ → Heard → Channel → Channel
 channel_behind sid h row = record {
   due = None;

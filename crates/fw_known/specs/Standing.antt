@@ -80,7 +80,7 @@ abbrev pub with_request : Option Asked → List Asked → List Asked
 with_request None list = list
 with_request (Some q) list = latest (list ++ q ∷ [])
 
--- the requests that stand behind a packet
+-- the requests that stand after a packet
 unfoldable pub standing_behind : Packet → List Asked → List Asked
 standing_behind (WriteQuadlet h offset value) list = without_same h list
 standing_behind (WriteBlock h offset bytes) list = without_same h list

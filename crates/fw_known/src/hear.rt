@@ -50,7 +50,7 @@ impl Channel {
         }
     }
 
-    // What is kept of it behind a packet that showed this.
+    // What is kept of it after a packet that showed this.
     #[tactic(auto, unfolding(crate::specs::Heard::channel_behind))]
     fn behind(self, sid: u8, heard: &Heard) -> Channel
         ensures { result ≡ channel_behind sid heard.now self }

@@ -1,7 +1,7 @@
 -- What loops append, one part more.
 use Rattle.std.proofs.Common.{◌≡◌, refl, ap, sym, ◌∙◌, ℕ, zero, suc, ◌+◌, ◌/◌, ◌%◌, ◌^◌, ◌==◌, ◌||◌, Bool, true, false, List, [], ◌∷◌, ◌++◌, append_assoc, add-one}
 use Rattle.std.proofs.lemmas.List.{append-nil}
-use Rattle.fw_remarks.specs.Remarks.{channel_at, channels_to, any_to, has_bit, next_owner, owners_to}
+use Rattle.fw_remarks.specs.Parts.{channel_at, channels_to, any_to, has_bit, next_owner, owners_to}
 
 pub no_channels : (first set : ℕ) → channels_to 0 first set ≡ []
 unfolding channels_to
@@ -27,7 +27,7 @@ pub next_owner_text : (n owners : ℕ) → owners_to (n + 1) owners ≡ owners_t
 unfolding owners_to
 next_owner_text n owners = rw (add-one n) refl
 
--- a part more behind others
+-- a part more after others
 pub stepped : (s t u a b all : List ℕ) → t ≡ s ++ a → u ≡ t ++ b → all ≡ a ++ b → u ≡ s ++ all
 stepped s t u a b all e f g = f ∙ ap (λ x. x ++ b) e ∙ append_assoc s a b ∙ ap (λ x. s ++ x) (sym g)
 

@@ -3,7 +3,8 @@ use Rattle.std.proofs.Common.{◌≡◌, ℕ, List, ◌++◌, refl, ap, ◌∙�
 use Rattle.fw_words.specs.Quadlet.{field}
 use Rattle.fw_remarks.specs.declared.register.At.{At}
 use Rattle.fw_remarks.specs.Knowing.{is_connected}
-use Rattle.fw_remarks.specs.Remarks.{part, done_text, plug_text}
+use Rattle.fw_remarks.specs.Parts.{part}
+use Rattle.fw_remarks.specs.Remarks.{done_text, plug_text}
 
 pub two : {A E : Type 0} → (r : Result A E) (s t u a b : List ℕ) → OnOk r (u ≡ t ++ b) → t ≡ s ++ a → OnOk r (u ≡ s ++ (a ++ b))
 two (Ok v) s t u a b f e = f ∙ ap (λ x. x ++ b) e ∙ append_assoc s a b

@@ -1,3 +1,4 @@
 pub mod Registers
 pub mod Knowing
+pub mod Parts
 pub mod Remarks

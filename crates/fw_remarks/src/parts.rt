@@ -2,7 +2,7 @@
 
 ghost use Rattle.std.specs.Prelude.{◌≡◌, ◌++◌, ◌<◌, ◌≤◌, ◌||◌, OnOk, decimal};
 ghost use Rattle.fw_words.specs.Quadlet.{field};
-ghost use Rattle.fw_remarks.specs.Remarks.{part, either, who_text, units_text, channel_at, channels_to, set_text, moved_channels, apart, moved_units, moved_text, mask_text, has_bit, next_owner, owners_to, manager_text, manager_clause};
+ghost use Rattle.fw_remarks.specs.Parts.{part, either, who_text, units_text, channel_at, channels_to, set_text, moved_channels, apart, moved_units, moved_text, mask_text, has_bit, next_owner, owners_to, manager_text, manager_clause};
 
 use crate::known::{Known, bit};
 use crate::register::Register;
@@ -49,7 +49,7 @@ pub fn put_field(
 }
 
 // Appends one word or another.
-#[tactic(auto, unfolding(crate::specs::Remarks::either))]
+#[tactic(auto, unfolding(crate::specs::Parts::either))]
 pub fn put_either(text: &mut Vec<u8>, flag: bool, yes: &str, no: &str) -> Result<(), AllocError>
     ensures { OnOk result (text.new.items ≡ text.old.items ++ either flag yes.now no.now) }
 {
@@ -57,7 +57,7 @@ pub fn put_either(text: &mut Vec<u8>, flag: bool, yes: &str, no: &str) -> Result
 }
 
 // Appends who asked for something.
-#[tactic(auto, unfolding(crate::specs::Remarks::who_text))]
+#[tactic(auto, unfolding(crate::specs::Parts::who_text))]
 pub fn put_who(text: &mut Vec<u8>, pairs: &Pairs, by: u16) -> Result<(), AllocError>
     ensures { OnOk result (text.new.items ≡ text.old.items ++ who_text by) }
 {
@@ -69,7 +69,7 @@ pub fn put_who(text: &mut Vec<u8>, pairs: &Pairs, by: u16) -> Result<(), AllocEr
 }
 
 // Appends so many units.
-#[tactic(auto, unfolding(crate::specs::Remarks::units_text))]
+#[tactic(auto, unfolding(crate::specs::Parts::units_text))]
 pub fn put_units(text: &mut Vec<u8>, count: u32) -> Result<(), AllocError>
     ensures { OnOk result (text.new.items ≡ text.old.items ++ units_text count) }
 {
@@ -98,8 +98,8 @@ fn put_channels(text: &mut Vec<u8>, first: u8, set: u32) -> Result<(), AllocErro
     Ok(())
 }
 
-// Appends the channels of a set behind a word, where there are any.
-#[tactic(auto, unfolding(crate::specs::Remarks::set_text))]
+// Appends the channels of a set after a word, where there are any.
+#[tactic(auto, unfolding(crate::specs::Parts::set_text))]
 fn put_set(text: &mut Vec<u8>, word: &str, first: u8, set: u32) -> Result<(), AllocError>
     ensures { OnOk result (text.new.items ≡ text.old.items ++ set_text word.now first set) }
 {
@@ -111,7 +111,7 @@ fn put_set(text: &mut Vec<u8>, word: &str, first: u8, set: u32) -> Result<(), Al
 }
 
 // Appends the channels that were taken and given back unseen.
-#[tactic(auto, unfolding(crate::specs::Remarks::moved_channels))]
+#[tactic(auto, unfolding(crate::specs::Parts::moved_channels))]
 fn put_moved_channels(
     text: &mut Vec<u8>,
     known: Known,
@@ -142,7 +142,7 @@ pub fn apart(old: u32, new: u32) -> u32
 }
 
 // Appends by how much the units left differ.
-#[tactic(auto, unfolding(crate::specs::Remarks::moved_units))]
+#[tactic(auto, unfolding(crate::specs::Parts::moved_units))]
 fn put_moved_units(text: &mut Vec<u8>, old: u32, new: u32) -> Result<(), AllocError>
     ensures { OnOk result (text.new.items ≡ text.old.items ++ moved_units old new) }
 {
@@ -152,7 +152,7 @@ fn put_moved_units(text: &mut Vec<u8>, old: u32, new: u32) -> Result<(), AllocEr
 }
 
 // Appends what changed unseen in a register.
-#[tactic(auto, unfolding(crate::specs::Remarks::moved_text))]
+#[tactic(auto, unfolding(crate::specs::Parts::moved_text))]
 pub fn put_moved(
     text: &mut Vec<u8>,
     register: Register,
@@ -170,7 +170,7 @@ pub fn put_moved(
 }
 
 // Appends which bits were known, unless all were.
-#[tactic(auto, unfolding(crate::specs::Remarks::mask_text))]
+#[tactic(auto, unfolding(crate::specs::Parts::mask_text))]
 pub fn put_mask(text: &mut Vec<u8>, pairs: &Pairs, mask: u32) -> Result<(), AllocError>
     ensures { OnOk result (text.new.items ≡ text.old.items ++ mask_text mask) }
 {
@@ -189,7 +189,7 @@ fn has_bit(owners: u64, node: u8) -> bool
     (owners >> node) % 2 == 1
 }
 
-// Appends a node of a set, where it has a bit, behind others or as the first.
+// Appends a node of a set, where it has a bit, after others or as the first.
 fn put_owner(text: &mut Vec<u8>, owners: u64, node: u8, others: bool) -> Result<(), AllocError>
     requires { node < 64 }
     ensures { OnOk result (text.new.items ≡ text.old.items ++ next_owner owners node others) }
@@ -220,7 +220,7 @@ pub fn put_owners(text: &mut Vec<u8>, owners: u64) -> Result<(), AllocError>
 }
 
 // Appends the manager, or that there is none.
-#[tactic(auto, unfolding(crate::specs::Remarks::manager_text))]
+#[tactic(auto, unfolding(crate::specs::Parts::manager_text))]
 pub fn put_manager(text: &mut Vec<u8>, manager: Option<u8>) -> Result<(), AllocError>
     ensures { OnOk result (text.new.items ≡ text.old.items ++ manager_text manager) }
 {
@@ -231,7 +231,7 @@ pub fn put_manager(text: &mut Vec<u8>, manager: Option<u8>) -> Result<(), AllocE
 }
 
 // Appends who is the manager, or that there is none.
-#[tactic(auto, unfolding(crate::specs::Remarks::manager_clause))]
+#[tactic(auto, unfolding(crate::specs::Parts::manager_clause))]
 pub fn put_manager_clause(text: &mut Vec<u8>, manager: Option<u8>) -> Result<(), AllocError>
     ensures { OnOk result (text.new.items ≡ text.old.items ++ manager_clause manager) }
 {

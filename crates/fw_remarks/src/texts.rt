@@ -63,7 +63,7 @@ fn put_taken_units(
     put_word(text, " left")
 }
 
-// Appends a channel behind who does something with it.
+// Appends a channel after who does something with it.
 #[tactic(auto, unfolding(crate::specs::Remarks::channel_text))]
 fn put_channel(
     text: &mut Vec<u8>,

@@ -15,7 +15,7 @@ held_more n m cycle s t e =
     ap (λ (k : ℕ). told t (held_remarks k cycle s)) e
     ∙ told_more t (late_remarks (late_to 64 s.channels cycle)) (held_remarks m cycle (after_late (late_to 64 s.channels cycle) s))
 
--- what is known behind one more
+-- what is known after one more
 pub after_more : (n m cycle : ℕ) (s : State) → n ≡ suc m → after_held n cycle s ≡ after_held m cycle (after_late (late_to 64 s.channels cycle) s)
 unfolding after_held
 after_more n m cycle s e = ap (λ (k : ℕ). after_held k cycle s) e

@@ -1,4 +1,4 @@
--- What is told, and what is known, behind one entry more.
+-- What is told, and what is known, after one entry more.
 use Rattle.std.proofs.Common.{◌≡◌, refl, subst, Result, Ok, Err, OnOk, ap, sym, ◌∙◌, ℕ, List, [], ◌∷◌, ◌++◌, if◌then◌else◌}
 use Rattle.std.proofs.lemmas.List.{append-nil}
 use Rattle.fw_entry.specs.declared.entry.Timed.{Timed}

@@ -1,4 +1,4 @@
--- What is known, and what is told, behind one entry more.
+-- What is known, and what is told, after one entry more.
 use Rattle.std.proofs.Common.{◌≡◌, refl, ap, sym, ◌∙◌, ℕ, List, [], ◌∷◌, ◌++◌, append_assoc}
 use Rattle.std.proofs.lemmas.List.{append-nil}
 use Rattle.fw_entry.specs.declared.entry.Timed.{Timed}
@@ -8,7 +8,7 @@ use Rattle.fw_known.specs.States.{no_state}
 use Rattle.fw_watch.specs.Steps.{remarks, after}
 use Rattle.fw_watch.specs.Watched.{known_from, known, remarks_from, all_remarks, lines, watched, findings_from}
 
--- more lines behind others
+-- more lines after others
 pub told_more : (t : Told) (xs ys : List Said) → told t (xs ++ ys) ≡ told (told t xs) ys
 told_more t [] ys = refl
 told_more t (x ∷ xs) ys = told_more (with_line t x) xs ys
@@ -27,7 +27,7 @@ pub lines_more : (xs ys : List Said) → lines (xs ++ ys) ≡ lines xs ++ lines 
 lines_more [] ys = refl
 lines_more (x ∷ xs) ys = ap (λ (l : List ℕ). line x ++ l) (lines_more xs ys) ∙ sym (append_assoc (line x) (lines xs) (lines ys))
 
--- the lines of entries are those of the first ones, and of the others behind these
+-- the lines of entries are those of the first ones, and of the others after these
 pub watched_more : (before more rest : List Timed) → watched before (more ++ rest) ≡ watched before more ++ watched (before ++ more) rest
 watched_more before more rest =
     ap lines (remarks_from_more (known before) more rest)

@@ -1,4 +1,4 @@
--- Answers about watched registers: what they tell, and what is known behind them.
+-- Answers about watched registers: what they tell, and what is known after them.
 use Rattle.std.specs.Prelude.{ℕ, ◌&&◌, not, nat_le, List, [], ◌∷◌, ◌++◌, Option, Some, None, if◌then◌else◌}
 use Rattle.fw_words.specs.declared.swap.Swap.{Swap}
 use Rattle.fw_async.specs.declared.packet.Packet.{Packet}
@@ -108,7 +108,7 @@ abbrev pub after_answered : Option Answer → ℕ → State → State
 after_answered None cycle s = s
 after_answered (Some a) cycle s = after_answer cycle a s
 
--- the requests that stand behind a packet
+-- the requests that stand after a packet
 abbrev pub with_packet : Packet → State → State
 with_packet p s = record s { standing = standing_behind p s.standing }
 

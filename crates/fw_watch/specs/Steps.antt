@@ -1,4 +1,4 @@
--- One entry: what it tells, and what is known behind it.
+-- One entry: what it tells, and what is known after it.
 use Rattle.std.specs.Prelude.{ℕ, ◌+◌, ◌==◌, ◌&&◌, not, List, [], ◌∷◌, ◌++◌, length, Option, Some, None, if◌then◌else◌}
 use Rattle.fw_csr.specs.declared.offset.TheConstants.{REGISTER_SPACE}
 use Rattle.fw_cip.specs.declared.packet.IsoPacket.{IsoPacket}

@@ -33,7 +33,7 @@ are_next n m = if n + 1 == m then true else m + 1 == n
 unfoldable pub moves_one : ℕ → ℕ → Bool
 moves_one old new = if same_bits old new 1 1 then are_next (field old 2 7) (field new 2 7) else same_bits old new 2 7
 
--- the first bit behind the counters that a move keeps: bit 8, but where the plug was or is not connected, an iPCR may have another channel (to bit 15),
+-- the first bit after the counters that a move keeps: bit 8, but where the plug was or is not connected, an iPCR may have another channel (to bit 15),
 -- and an oPCR another channel, rate and overhead (to bit 21)
 unfoldable pub first_kept : Register → ℕ → ℕ → ℕ
 first_kept register old new = if is_connected old && is_connected new then 8 else if is_output register then 22 else 16

@@ -7,12 +7,12 @@ use Rattle.fw_known.specs.declared.state.State.{State}
 use Rattle.fw_known.specs.States.{no_state}
 use Rattle.fw_watch.specs.Steps.{remarks, after}
 
--- what is known behind entries that follow
+-- what is known after entries that follow
 abbrev pub known_from : State → List Timed → State
 known_from s [] = s
 known_from s (t ∷ ts) = known_from (after s t) ts
 
--- what is known of a bus behind the entries of a log
+-- what is known of a bus after the entries of a log
 abbrev pub known : List Timed → State
 known entries = known_from no_state entries
 
@@ -30,11 +30,11 @@ abbrev pub lines : List Said → List ℕ
 lines [] = []
 lines (s ∷ rest) = line s ++ lines rest
 
--- the lines of entries behind others
+-- the lines of entries after others
 abbrev pub watched : List Timed → List Timed → List ℕ
 watched before more = lines (remarks_from (known before) more)
 
--- how many of some remarks are findings, behind others of which so many are
+-- how many of some remarks are findings, after others of which so many are
 abbrev pub findings_from : ℕ → List Said → ℕ
 findings_from n rest = (told (record { text = []; findings = n }) rest).findings
 

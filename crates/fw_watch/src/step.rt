@@ -1,4 +1,4 @@
-//! One entry: what it tells, and what is known behind it.
+//! One entry: what it tells, and what is known after it.
 
 ghost use Rattle.std.specs.Prelude.{◌≡◌, OnOk};
 ghost use Rattle.fw_remarks.specs.Remarks.{told};

@@ -34,7 +34,7 @@ fn moves_one(old: u32, new: u32) -> bool
     }
 }
 
-// The first bit behind the counters that a move keeps: where the plug was or is not connected, it may have another channel, and an
+// The first bit after the counters that a move keeps: where the plug was or is not connected, it may have another channel, and an
 // output plug another rate and overhead.
 #[tactic(auto, unfolding(crate::specs::Swaps::first_kept))]
 fn first_kept(register: Register, old: u32, new: u32) -> u8

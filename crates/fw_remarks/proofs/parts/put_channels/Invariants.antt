@@ -1,5 +1,5 @@
 use Rattle.std.proofs.Common.{◌≡◌, ◌++◌}
-use Rattle.fw_remarks.specs.Remarks.{channels_to}
+use Rattle.fw_remarks.specs.Parts.{channels_to}
 use Rattle.fw_remarks.proofs.parts.put_channels.Given as goal
 
 abbrev pub invariant-loop-at : goal.invariant-loop-at

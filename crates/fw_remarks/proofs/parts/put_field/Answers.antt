@@ -1,5 +1,5 @@
 use Rattle.std.proofs.Common.{◌≡◌, ◌++◌, ℕ, OnOk, subst}
-use Rattle.fw_remarks.specs.Remarks.{part}
+use Rattle.fw_remarks.specs.Parts.{part}
 use Rattle.fw_remarks.proofs.parts.put_field.Goals as goal
 
 pub returns : goal.returns

@@ -1,5 +1,5 @@
 use Rattle.std.proofs.Common.{◌≡◌, ap, sym, ◌∙◌, ◌||◌, ◌++◌, List, ℕ, Bool}
-use Rattle.fw_remarks.specs.Remarks.{any_to, has_bit, next_owner, owners_to}
+use Rattle.fw_remarks.specs.Parts.{any_to, has_bit, next_owner, owners_to}
 use Rattle.fw_remarks.proofs.PartLaws.{none_of, any_more, no_owners, next_owner_text, stepped, begun}
 use Rattle.fw_remarks.proofs.parts.put_owners.Goals as goal
 

@@ -1,5 +1,5 @@
 use Rattle.std.proofs.Common.{◌≡◌, ◌++◌}
-use Rattle.fw_remarks.specs.Remarks.{any_to, owners_to}
+use Rattle.fw_remarks.specs.Parts.{any_to, owners_to}
 use Rattle.fw_remarks.proofs.parts.put_owners.Given as goal
 
 abbrev pub invariant-loop-node : goal.invariant-loop-node
