@@ -4,7 +4,6 @@
 
 mod answer;
 mod company;
-mod copies;
 mod laws;
 mod notify;
 mod row;

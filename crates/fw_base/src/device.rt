@@ -3,7 +3,7 @@ ghost use Rattle.std.specs.Str.{bytes_eq};
 ghost use Rattle.fw_base.specs.Devices.{code_of, kind_with, kind_coded, name_of, kind_named, has_link, is_contender, is_capable, has_unit, output_plugs_of, input_plugs_of};
 
 /// The kinds of devices (own). Each but a relay has a link (L) and a controller of its own.
-#[derive(Clone, Copy, PartialEq, Eq)]
+#[derive(Clone, Copy)]
 pub enum DeviceKind {
     /// Joins cables, and has no link.
     Relay,

@@ -1,6 +1,6 @@
 /// An output or input plug of a device: the device by its number in order of declaration, 0 to 62, and the plug
 /// by its number on that device, 0 to 30 (IEC 61883-1, plugs).
-#[derive(Clone, Copy, PartialEq, Eq)]
+#[derive(Clone, Copy)]
 pub struct PlugAt {
     pub device: u8,
     pub plug: u8,

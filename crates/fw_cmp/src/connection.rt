@@ -8,7 +8,7 @@ use fw_base::{ConnectionKind, PlugAt};
 const BROADCAST_CHANNEL: u8 = 63;
 
 /// A connection that a controller makes, by the plugs that it joins (IEC 61883-1, connection management).
-#[derive(Clone, Copy, PartialEq, Eq)]
+#[derive(Clone, Copy)]
 pub enum Connection {
     /// A point-to-point connection of an output plug to an input plug.
     PlugToPlug { output: PlugAt, input: PlugAt },
@@ -70,7 +70,7 @@ impl Connection {
 
 /// The channel that a connection has, with the overhead_ID and the units of its output plug. Those of a broadcast-in
 /// connection are 0.
-#[derive(Clone, Copy, PartialEq, Eq)]
+#[derive(Clone, Copy)]
 pub struct Flow {
     pub channel: u8,
     pub overhead: u8,
@@ -78,7 +78,7 @@ pub struct Flow {
 }
 
 /// One of the 32 places of a controller for a connection.
-#[derive(Clone, Copy, PartialEq, Eq)]
+#[derive(Clone, Copy)]
 pub enum Slot {
     Free,
     /// A new connection is being made, or waits for it: the channel that is asked for, 0 to 63, or None for the

@@ -17,11 +17,11 @@ mod starts;
 /// A connection controller: its slots and jobs, and whether it has lost the response to its request.
 #[derive(Drop)]
 pub struct Controller {
-    pub(crate) agenda: Agenda,
+    agenda: Agenda,
     /// The cycle of its latest request.
-    pub(crate) asked_at: u64,
+    asked_at: u64,
     /// The response to that was lost, and no bus reset has come since.
-    pub(crate) lost: bool,
+    lost: bool,
 }
 
 impl Model for Controller {

@@ -7,14 +7,14 @@ use crate::{Job, Outcome, Purpose, Stage};
 use fw_csr::Reply;
 
 /// A job that was asked for and waits: its slot, and whether it breaks the slot's connection or makes it.
-#[derive(Clone, Copy, Default, PartialEq, Eq)]
+#[derive(Clone, Copy, Default)]
 pub struct Task {
     pub slot: u8,
     pub breaks: bool,
 }
 
 /// What a controller is at.
-#[derive(Clone, Copy, PartialEq, Eq)]
+#[derive(Clone, Copy)]
 pub enum Current {
     /// No job is current.
     Nothing,

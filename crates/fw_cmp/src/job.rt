@@ -1,7 +1,7 @@
 use crate::Connection;
 
 /// What a job is to do with the connection of its slot.
-#[derive(Clone, Copy, PartialEq, Eq)]
+#[derive(Clone, Copy)]
 pub enum Purpose {
     /// Makes a new connection.
     Make,
@@ -12,7 +12,7 @@ pub enum Purpose {
 }
 
 /// The current job of a controller.
-#[derive(Clone, Copy, PartialEq, Eq)]
+#[derive(Clone, Copy)]
 pub struct Job {
     /// The slot of its connection, 0 to 31.
     pub slot: u8,
@@ -28,7 +28,7 @@ pub struct Job {
 }
 
 /// How the answers that a job heard, or the directory as it began, have decided that it ends without a connection.
-#[derive(Clone, Copy, PartialEq, Eq)]
+#[derive(Clone, Copy)]
 pub enum Ending {
     /// The last resource was given back.
     Broken,
@@ -52,7 +52,7 @@ pub enum Ending {
 }
 
 /// What follows when all that was taken has been given back.
-#[derive(Clone, Copy, PartialEq, Eq)]
+#[derive(Clone, Copy)]
 pub enum Then {
     EndsAs(Ending),
     Again,

@@ -5,7 +5,6 @@
 mod agenda;
 mod begin;
 mod connection;
-mod copies;
 mod controller;
 mod current;
 mod directory;

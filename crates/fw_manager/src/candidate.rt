@@ -8,7 +8,7 @@ use fw_words::Swap;
 use std::marker::Model;
 
 /// How far a bid has come.
-#[derive(Clone, Copy, PartialEq, Eq)]
+#[derive(Clone, Copy)]
 pub enum Stage {
     /// It is still to be made.
     Fresh,
@@ -21,7 +21,7 @@ pub enum Stage {
 }
 
 /// A candidate: the epoch of its latest bid, and how far that came.
-#[derive(Clone, Copy, PartialEq, Eq)]
+#[derive(Drop)]
 pub struct Candidate {
     epoch: u32,
     stage: Stage,

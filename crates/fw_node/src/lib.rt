@@ -2,7 +2,6 @@
 #![tactic(auto)]
 
 mod bytes;
-mod copies;
 mod fcp;
 mod laws;
 mod node;

@@ -4,7 +4,6 @@
 
 mod bandwidth;
 mod connection;
-mod copies;
 mod laws;
 mod plug;
 mod plugs;

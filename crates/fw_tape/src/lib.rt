@@ -4,7 +4,6 @@
 
 mod cassette;
 mod command;
-mod copies;
 mod desk;
 mod laws;
 mod row;

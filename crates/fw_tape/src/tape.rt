@@ -13,7 +13,7 @@ use std::marker::Model;
 /// stopped.
 #[derive(Drop)]
 pub struct Tape {
-    pub(crate) cassette: Option<Cassette>,
+    cassette: Option<Cassette>,
 }
 
 impl Model for Tape {
