@@ -1,5 +1,5 @@
 -- How a run ends that a fault ends.
-use Rattle.std.proofs.Common.{◌≡◌, ℕ, ◌+◌, List, [], ◌∷◌, ◌++◌, Option, Some, None, Ok, Err, refl, ap, sym, ◌∙◌, subst, append_assoc, append-nil}
+use Rattle.std.proofs.Common.{◌≡◌, ℕ, List, [], ◌∷◌, ◌++◌, Option, Some, None, Ok, Err, refl, ap, sym, ◌∙◌, subst, append_assoc, append-nil}
 use Rattle.fw_outside.specs.Outside.{AppendsFront, Grows}
 use Rattle.fw_outside.proofs.Parts.{Grows-Grows}
 use Rattle.fw_entry.specs.Log.{header_bytes, epoch_after, latest_epoch, entry_bytes}
@@ -34,7 +34,7 @@ use Rattle.fw_simulate.specs.declared.ending.RunEnding.{RunEnding}
 use Rattle.fw_simulate.specs.declared.ending.RunEnding.TheVariants as Endings
 use Rattle.fw_outside.specs.declared.stop.Stop.TheVariants.{WriteFault}
 use Rattle.fw_simulate.specs.Ending.{Interrupted, PartLogged, ending_by}
-use Rattle.fw_simulate.proofs.Calls.{given_before, given_no_end, some_command, some_fault, all, begins_nothing, takes_nothing}
+use Rattle.fw_simulate.proofs.Calls.{given_before, given_no_end, some_command, some_fault, begins_nothing, takes_nothing}
 use Rattle.fw_simulate.proofs.Endings.{Given, given_on, line_refused, logs_open}
 
 -- ---- the run was cut off

@@ -1,6 +1,6 @@
 -- A run goes on line by line.
-use Rattle.std.proofs.Common.{◌≡◌, ◌⊎◌, inl, inr, ℕ, ◌+◌, ◌<◌, List, [], ◌++◌, Bool, true, false, Option, refl, ap, sym, ◌∙◌, subst, append-nil, arith}
-use Rattle.fw_outside.specs.Outside.{Takes, IsAtEnd}
+use Rattle.std.proofs.Common.{◌≡◌, inl, inr, ℕ, ◌<◌, List, [], true, Option, refl, ap, sym, ◌∙◌, subst, append-nil, arith}
+use Rattle.fw_outside.specs.Outside.{Takes}
 use Rattle.fw_outside.proofs.Parts.{Takes-Takes}
 use Rattle.fw_script.specs.Passing.{Passes}
 use Rattle.fw_script.specs.Reader.{HoldsLine, PassesOver}

@@ -9,7 +9,7 @@ use Rattle.fw_run.specs.Actions.{Action}
 use Rattle.fw_run.specs.Desks.{DeskRelations}
 use Rattle.fw_run.specs.State.{State, first_state}
 use Rattle.fw_bus.specs.Buses.{Standing, StandsFor}
-use Rattle.fw_simulate.specs.Ending.{LogsRun, Refuses, RefusesBy, Runs}
+use Rattle.fw_simulate.specs.Ending.{LogsRun, RefusesBy, Runs}
 use Rattle.fw_simulate.specs.declared.ending.RunEnding.{RunEnding}
 use Rattle.fw_simulate.specs.declared.ending.RunEnding.TheVariants.{Done, Refused, Stopped}
 use Rattle.fw_simulate.specs.declared.ending.Refusal.{Refusal}
