@@ -1,6 +1,6 @@
 #!/usr/bin/env python3
-"""Compares what people read with what the program does: its help, the examples, README's commands, the manual pages, and JSON by another
-parser.
+"""Compares what people read with what the program does: its help, the examples, the commands that documents show with what they write, the
+manual pages, and JSON by another parser.
 
     tools/check.py [PROGRAM]
 
@@ -8,10 +8,12 @@ PROGRAM is dist/fire, which ships. .ci/run makes this check after the gate; it n
 all holds, 1 if something does not, and 2 if there is no program.
 """
 
+import os
 import pathlib
 import re
 import subprocess
 import sys
+import tempfile
 
 sys.dont_write_bytecode = True
 
@@ -32,6 +34,11 @@ MANUAL = ROOT / "docs/man/fire.1"
 # The format of logs, as the repository and as the manual have it.
 FORMAT = ROOT / "docs/LOG.md"
 FORMAT_MANUAL = ROOT / "docs/man/fire-log.5"
+
+# The documents whose commands are tried. One is shown as a line `    $ COMMAND`, with lines `    > ..` if it has more than one, and below
+# it what it writes to standard output; all of a document are run in one folder, in which `./fire` is the program as the launcher calls it.
+SHOWN = ["README.md", "docs/SCRIPT.md", "docs/RECIPES.md", "examples/README.md"]
+SHOWN_COMMAND = re.compile(r"^    \$ (.*\n(?:    > .*\n)*)((?:    (?!\$ ).*\n)*)", re.M)
 
 # What each crate took in the gate; the launcher reads it.
 SECONDS = ROOT / "tools/gate_seconds.txt"
@@ -122,14 +129,44 @@ def logs_of_sessions():
         yield f"{log.parent.name}/{log.name}", log.read_bytes()
 
 
-def check_readme(program):
-    """Each command in README that is shown with what it writes writes that."""
-    shown = re.findall(r"^    \$ (.*)\n((?:    (?!\$ ).*\n)*)", (ROOT / "README.md").read_text(), re.M)
-    due("README shows no command", shown)
-    for command, output in shown:
-        line = command.replace("./fire", str(program))
-        ended = subprocess.run(["sh", "-c", line], cwd=ROOT, capture_output=True, text=True, check=False)
-        due(f"README: {command}", ended.stdout == re.sub(r"(?m)^    ", "", output))
+def workshop(program, room):
+    """A folder with what documents name: the examples, the tools, and `fire`, which is the program as the launcher calls it."""
+    for name in ("docs", "examples", "tools"):
+        (room / name).symlink_to(ROOT / name)
+    call = ROOT / "tools/launcher/call.sh"
+    (room / "fire").write_text(f"#!/bin/sh\nprogram='{program}'\n. '{call}'\ncall \"$@\"\n")
+    (room / "fire").chmod(0o755)
+
+
+def run_shown(command, room):
+    """What a shown command writes to standard output, in this folder, in which `fire` is found too."""
+    words = {**os.environ, "PATH": f"{room}:{os.environ['PATH']}", "LC_ALL": "C", "PYTHONDONTWRITEBYTECODE": "1"}
+    ended = subprocess.run(["sh", "-c", command], cwd=room, env=words, stdin=subprocess.DEVNULL, capture_output=True, check=False)
+    return ended.stdout.decode(errors="replace")
+
+
+def check_document(program, name):
+    """Each command of a document that is shown with what it writes writes that; how many there are."""
+    shown = SHOWN_COMMAND.findall((ROOT / name).read_text())
+    with tempfile.TemporaryDirectory() as folder:
+        room = pathlib.Path(folder)
+        workshop(program, room)
+        for command, output in shown:
+            written = run_shown(command.replace("\n    > ", "\n"), room)
+            due(f"{name}: {command.strip()}", written == re.sub(r"(?m)^    ", "", output))
+    return len(shown)
+
+
+def check_manual_examples(program):
+    """Each example of the manual is a command that ends well."""
+    examples = MANUAL.read_text().split(".SH EXAMPLES\n.nf\n")[1].split(".fi")[0]
+    with tempfile.TemporaryDirectory() as folder:
+        room = pathlib.Path(folder)
+        workshop(program, room)
+        for command in examples.splitlines():
+            run_shown(f"{{ {command}; }} > written; echo $? >> statuses", room)
+        statuses = (room / "statuses").read_text().split()
+        due(f"{MANUAL.name}: statuses of its examples are {statuses}", statuses and set(statuses) == {"0"})
 
 
 def numbered(text):
@@ -178,8 +215,10 @@ def main(words):
         # Those that are laid by hand for `watch` have other labels, which an audit passes over.
         if not what.startswith("watch_"):
             check_silence(program, what, log)
-    check_readme(program)
-    print(f"check: {len(scripts)} examples and {len(kept)} logs of sessions, {wrong} wrong")
+    shown = sum(check_document(program, name) for name in SHOWN)
+    due("the documents show no command", shown)
+    check_manual_examples(program)
+    print(f"check: {len(scripts)} examples, {len(kept)} logs of sessions and {shown} shown commands, {wrong} wrong")
     return 1 if wrong else 0
 
 
