@@ -11,6 +11,7 @@ all holds, 1 if something does not, and 2 if there is no program.
 import os
 import pathlib
 import re
+import shutil
 import subprocess
 import sys
 import tempfile
@@ -38,6 +39,7 @@ FORMAT_MANUAL = ROOT / "docs/man/fire-log.5"
 # The documents whose commands are tried. One is shown as a line `    $ COMMAND`, with lines `    > ..` if it has more than one, and below
 # it what it writes to standard output; all of a document are run in one folder, in which `./fire` is the program as the launcher calls it.
 SHOWN = ["README.md", "docs/SCRIPT.md", "docs/RECIPES.md", "examples/README.md"]
+MAY_BE_MISSING = ["jq"]  # tools that a machine need not have: commands that use one of these are then skipped, and that is said
 SHOWN_COMMAND = re.compile(r"^    \$ (.*\n(?:    > .*\n)*)((?:    (?!\$ ).*\n)*)", re.M)
 
 # What each crate took in the gate; the launcher reads it.
@@ -152,6 +154,10 @@ def check_document(program, name):
         room = pathlib.Path(folder)
         workshop(program, room)
         for command, output in shown:
+            missing = [it for it in MAY_BE_MISSING if re.search(rf"\b{it} ", command) and not shutil.which(it)]
+            if missing:
+                print(f"check: skipped in {name}, since there is no {missing[0]}: {command.splitlines()[0]} ..")
+                continue
             written = run_shown(command.replace("\n    > ", "\n"), room)
             due(f"{name}: {command.strip()}", written == re.sub(r"(?m)^    ", "", output))
     return len(shown)
