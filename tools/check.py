@@ -177,7 +177,7 @@ def check_manual_examples(program):
 
 def numbered(text):
     """The numbers and names of a list such as `1 second-over, 2 died`, with blanks in names as hyphens."""
-    return {int(number): re.sub(r"\s+", "-", name.strip()) for number, name in re.findall(r"(\d+) ([a-z][a-z\s-]*[a-z])", text)}
+    return {int(number): re.sub(r"\s+", "-", name.strip()) for number, name in re.findall(r"(\d+)\s+([a-z][a-z\s-]*[a-z])", text)}
 
 
 def check_manuals():
@@ -185,7 +185,7 @@ def check_manuals():
     manual, text = FORMAT_MANUAL.read_text(), FORMAT.read_text()
     events = {int(code): name for code, name in re.findall(r"^\| (\d+) \| `([a-z-]+)` \|", text, re.M)}
     due(f"{FORMAT_MANUAL.name}: other events", events and numbered(manual.split(".SS Events")[1].split("Events 1")[0]) == events)
-    outcomes = numbered(text.split("Outcomes are ")[1].split(";")[0])
+    outcomes = numbered(re.split(r"Outcomes\s+are\s", text)[1].split(";")[0])
     told = numbered(manual.split(".SS Outcomes")[1].split(".SH")[0])
     due(f"{FORMAT_MANUAL.name}: other outcomes", outcomes and told == outcomes)
     statuses = re.findall(r"^\| (\d+) \| ", (ROOT / "README.md").read_text(), re.M)
