@@ -42,6 +42,10 @@ SHOWN = ["README.md", "docs/SCRIPT.md", "docs/RECIPES.md", "examples/README.md"]
 MAY_BE_MISSING = ["jq"]  # tools that a machine need not have: commands that use one of these are then skipped, and that is said
 SHOWN_COMMAND = re.compile(r"^    \$ (.*\n(?:    > .*\n)*)((?:    (?!\$ ).*\n)*)", re.M)
 
+# What a page that is read first may have.
+FIRST_PAGE = ROOT / "README.md"
+MOST_LINES, MOST_COLUMNS = 110, 100
+
 # What each crate took in the gate; the launcher reads it.
 SECONDS = ROOT / "tools/gate_seconds.txt"
 
@@ -163,6 +167,13 @@ def check_document(program, name):
     return len(shown)
 
 
+def check_first_page():
+    """The first page fits: neither too long nor too wide."""
+    lines = FIRST_PAGE.read_text().splitlines()
+    wide = [number for number, line in enumerate(lines, 1) if len(line) > MOST_COLUMNS]
+    due(f"{FIRST_PAGE.name} has {len(lines)} lines, and wider ones than {MOST_COLUMNS} at {wide}", len(lines) <= MOST_LINES and not wide)
+
+
 def check_manual_examples(program):
     """Each example of the manual is a command that ends well."""
     examples = MANUAL.read_text().split(".SH EXAMPLES\n.nf\n")[1].split(".fi")[0]
@@ -224,6 +235,7 @@ def main(words):
     shown = sum(check_document(program, name) for name in SHOWN)
     due("the documents show no command", shown)
     check_manual_examples(program)
+    check_first_page()
     print(f"check: {len(scripts)} examples, {len(kept)} logs of sessions and {shown} shown commands, {wrong} wrong")
     return 1 if wrong else 0
 
