@@ -8,6 +8,7 @@ PROGRAM is dist/fire, which ships. .ci/run makes this check after the gate; it n
 all holds, 1 if something does not, and 2 if there is no program.
 """
 
+import itertools
 import os
 import pathlib
 import re
@@ -151,6 +152,14 @@ def run_shown(command, room):
     return ended.stdout.decode(errors="replace")
 
 
+def first_difference(shown, written):
+    """The first line that is another one, as it is shown and as it was written."""
+    for line, other in itertools.zip_longest(shown.splitlines(), written.splitlines()):
+        if line != other:
+            return f"  shown {line!r}, written {other!r}"
+    return ""
+
+
 def check_document(program, name):
     """Each command of a document that is shown with what it writes writes that; how many there are."""
     shown = SHOWN_COMMAND.findall((ROOT / name).read_text())
@@ -163,7 +172,8 @@ def check_document(program, name):
                 print(f"check: skipped in {name}, since there is no {missing[0]}: {command.splitlines()[0]} ..")
                 continue
             written = run_shown(command.replace("\n    > ", "\n"), room)
-            due(f"{name}: {command.strip()}", written == re.sub(r"(?m)^    ", "", output))
+            shown_there = re.sub(r"(?m)^    ", "", output)
+            due(f"{name}: {command.strip()}\n{first_difference(shown_there, written)}", written == shown_there)
     return len(shown)
 
 
