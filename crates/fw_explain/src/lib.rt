@@ -5,6 +5,7 @@
 mod asked;
 mod events;
 mod explainer;
+mod latest;
 mod line;
 mod lines;
 mod lock;

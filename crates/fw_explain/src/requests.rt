@@ -36,6 +36,13 @@ impl Requests {
         }
     }
 
+    /// None any more.
+    pub(crate) fn clear(&mut self)
+        ensures { self.new ≡ [] }
+    {
+        self.rows.clear();
+    }
+
     /// The request that a response of this kind with this head answers, if one that stands is it.
     pub(crate) fn answered(&self, answer: Answer, head: &Head) -> Option<Asked>
         ensures { result ≡ answered answer head.now self.now }
