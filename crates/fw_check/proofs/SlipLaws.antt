@@ -1,5 +1,6 @@
 -- Where two spaces stand.
-use Rattle.std.proofs.Common.{◌≡◌, ℕ, zero, suc, ◌+◌, ◌-◌, ◌≤◌, ◌<◌, ◌&&◌, Bool, true, false, cond, List, [], ◌∷◌, length, drop, get_or, Option, Some, None, refl, ap, sym, ◌∙◌, subst, arith, add-one, drop-cons}
+use Rattle.std.proofs.Common.{◌≡◌, ℕ, zero, suc, ◌+◌, ◌-◌, ◌≤◌, ◌<◌, ◌&&◌, Bool, true, false, cond, List, [], ◌∷◌, length, drop, get_or, Option, Some, None, refl, ap, sym, ◌∙◌, subst, arith}
+use Rattle.std.proofs.Common.{add-one, drop-cons}
 use Rattle.std.proofs.lemmas.Bool.Decides.{nat_tests}
 use Rattle.std.specs.List.{list_all}
 use Rattle.std.specs.Option.{option_map}
@@ -28,9 +29,10 @@ begins_there line j lt = ap (λ (l : List ℕ). begins_with_byte 32 l) (rest_fro
 pub two_next : (line : List ℕ) (j : ℕ) → j + 1 < length line → (is_space (get_or line j 0) && is_space (get_or line (j + 1) 0)) ≡ false
     → two_spaces (drop j line) ≡ option_map (λ k. k + 1) (two_spaces (drop (j + 1) line))
 two_next line j lt other =
+    let here : Option ℕ = cond (list_all is_space (drop (j + 1) line)) None (Some 0) in
+    let later : Option ℕ = option_map (λ k. k + 1) (two_spaces (drop (j + 1) line)) in
     ap (λ (l : List ℕ). two_spaces l) (rest_from line j (omega arith))
-    ∙ ap (λ (b : Bool). cond (is_space (get_or line j 0) && b) (cond (list_all is_space (drop (j + 1) line)) None (Some 0)) (option_map (λ k. k + 1) (two_spaces (drop (j + 1) line)))) (begins_there line (j + 1) lt)
-    ∙ ap (λ (b : Bool). cond b (cond (list_all is_space (drop (j + 1) line)) None (Some 0)) (option_map (λ k. k + 1) (two_spaces (drop (j + 1) line)))) other
+    ∙ ap (λ (b : Bool). cond (is_space (get_or line j 0) && b) here later) (begins_there line (j + 1) lt) ∙ ap (λ (b : Bool). cond b here later) other
 
 -- the last byte is followed by none
 pub two_last : (line : List ℕ) (j : ℕ) → length line ≤ j + 1 → two_spaces (drop j line) ≡ None

@@ -13,7 +13,8 @@ returns-in_ok-put_word-in-OnePort c =
     let word : List ℕ = word_at c.args.line.now 2 in
     on_ok_weaker c.put.result
     (λ piece.
-    then old middle c.put.new.text.items (codes "both ends are ") word c.in_ok-put_word-in-OnePort.ensures (moved (λ (x : List ℕ). x) middle c.put.new.text.items c.word_at.result.now word c.word_at.ensures piece)
+    then old middle c.put.new.text.items (codes "both ends are ") word c.in_ok-put_word-in-OnePort.ensures
+    (moved (λ (x : List ℕ). x) middle c.put.new.text.items c.word_at.result.now word c.word_at.ensures piece)
     ∙ ap (λ (w : Why). old ++ device_says c.args.line.now w) (sym c.in-OnePort.is))
     c.put.ensures
 
@@ -24,7 +25,8 @@ returns-in_ok-put_between-in-PortUsed c =
     let end : List ℕ = (codes "a cable joins it to " ++ c.in-PortUsed.name) ++ codes "." in
     on_ok_weaker c.put_number.result
     (λ piece.
-    then old middle c.put_number.new.text.items end (decimal c.in-PortUsed.port) c.in_ok-put_between-in-PortUsed.ensures (moved decimal middle c.put_number.new.text.items c.from.result c.in-PortUsed.port c.from.ensures piece)
+    then old middle c.put_number.new.text.items end (decimal c.in-PortUsed.port) c.in_ok-put_between-in-PortUsed.ensures
+    (moved decimal middle c.put_number.new.text.items c.from.result c.in-PortUsed.port c.from.ensures piece)
     ∙ ap (λ (w : Why). old ++ device_says c.args.line.now w) (sym c.in-PortUsed.is))
     c.put_number.ensures
 
