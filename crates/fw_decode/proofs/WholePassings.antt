@@ -10,8 +10,8 @@ use Rattle.fw_reading.specs.Readings.{Passes}
 use Rattle.fw_json.specs.Objects.{object}
 use Rattle.fw_explain.specs.Explained.{explained, Room}
 use Rattle.fw_explain.specs.Lines.{line}
-use Rattle.fw_explain.specs.Requests.{standing, standing_after}
-use Rattle.fw_explain.specs.declared.asked.Asked.{Asked}
+use Rattle.fw_requests.specs.Requests.{standing, standing_after}
+use Rattle.fw_requests.specs.declared.asked.Asked.{Asked}
 use Rattle.fw_explain.proofs.StandingLaws.{standing_more}
 use Rattle.fw_watch.specs.Watched.{watched, Watches, Room as WatchRoom}
 use Rattle.fw_decode.specs.Watching.{watched_form}

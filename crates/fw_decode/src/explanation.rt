@@ -6,7 +6,7 @@ ghost use Rattle.fw_entry.specs.declared.entry.Entry.{Entry as AnEntry};
 ghost use Rattle.fw_entry.specs.declared.entry.Entry.TheVariants.{Reset};
 ghost use Rattle.fw_entry.specs.declared.entry.ResetEntry.{ResetEntry};
 ghost use Rattle.fw_explain.specs.Lines.{line};
-ghost use Rattle.fw_explain.specs.Requests.{standing_after};
+ghost use Rattle.fw_requests.specs.Requests.{standing_after};
 ghost use Rattle.fw_log.specs.Passing.{HasBody};
 ghost use Rattle.fw_text.specs.Resets.{IsResetBody};
 ghost use Rattle.fw_reading.specs.Endings.{ReadsLog};
@@ -88,7 +88,7 @@ fn put_body<'a>(
 impl Reading for Explanation {
     type Refusal = LogRefusal;
 
-    ghost use Rattle.fw_explain.specs.Requests.{standing};
+    ghost use Rattle.fw_requests.specs.Requests.{standing};
     ghost use Rattle.fw_decode.specs.Silences.{none_unrefused};
     ghost use Rattle.fw_decode.specs.Texts.{explained_each};
 

@@ -3,7 +3,7 @@ use Rattle.std.proofs.Common.{◌≡◌, refl, ap, sym, ◌∙◌, ℕ, List, �
 use Rattle.std.specs.Prelude.{codes, decimal}
 use Rattle.fw_entry.specs.declared.entry.Entry.TheVariants.{Reset}
 use Rattle.fw_entry.specs.declared.entry.ResetEntry.{ResetEntry}
-use Rattle.fw_explain.specs.declared.asked.Asked.{Asked}
+use Rattle.fw_requests.specs.declared.asked.Asked.{Asked}
 use Rattle.fw_explain.specs.Lines.{line, what_text}
 use Rattle.fw_explain.specs.Resets.{epoch_text, root_text, resource_manager_text, initiator_text, id_text, later_text, reset_text}
 

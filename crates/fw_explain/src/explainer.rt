@@ -5,14 +5,14 @@ ghost use Rattle.fw_entry.specs.Log.{ResetFits, body};
 ghost use Rattle.fw_entry.specs.declared.entry.Entry.TheVariants.{Reset};
 ghost use Rattle.fw_entry.specs.declared.entry.ResetEntry.{ResetEntry as AReset};
 ghost use Rattle.fw_entry.specs.declared.entry.Timed.{Timed};
-ghost use Rattle.fw_explain.specs.Requests.{standing, standing_after};
+ghost use Rattle.fw_requests.specs.Requests.{standing, standing_after};
 ghost use Rattle.fw_explain.specs.Lines.{line};
 ghost use Rattle.fw_explain.specs.Explained.{explained};
 
 use crate::latest::LatestReset;
 use crate::lines::Lines;
-use crate::requests::Requests;
 use fw_entry::{ResetEntry, Timed};
+use fw_requests::Requests;
 use std::alloc::{AllocError, Global};
 use std::marker::Model;
 

@@ -6,9 +6,9 @@ ghost use Rattle.fw_explain.specs.Resets.{epoch_text};
 
 use crate::latest::LatestReset;
 use crate::line::put_what;
-use crate::requests::Requests;
 use fw_entry::Timed;
 use fw_names::{CycleRow, Pairs, put_word};
+use fw_requests::Requests;
 use std::alloc::{AllocError, Global};
 use std::marker::Model;
 

@@ -8,8 +8,8 @@ use Rattle.fw_async.specs.declared.packet.Packet.TheVariants.{WriteQuadlet, Writ
 use Rattle.fw_entry.specs.declared.entry.Entry.{Entry}
 use Rattle.fw_entry.specs.declared.entry.Entry.TheVariants.{Reset, Async, Iso, Event, Outcome, Shown, End}
 use Rattle.fw_entry.specs.declared.entry.Timed.{Timed}
-use Rattle.fw_explain.specs.declared.asked.Answer.{Answer}
-use Rattle.fw_explain.specs.Requests.{asked_by}
+use Rattle.fw_requests.specs.declared.asked.Answer.{Answer}
+use Rattle.fw_requests.specs.Requests.{asked_by}
 use Rattle.fw_tracer.specs.declared.streams.Stream.{Stream}
 use Rattle.fw_tracer.specs.Names.{Naming}
 use Rattle.fw_tracer.specs.Streams.{stream_at}

@@ -10,10 +10,10 @@ use Rattle.fw_entry.specs.declared.entry.Entry.TheVariants.{Reset, Async, Iso, E
 use Rattle.fw_entry.specs.declared.entry.EventEntry.{EventEntry}
 use Rattle.fw_entry.specs.declared.entry.OutcomeEntry.{OutcomeEntry}
 use Rattle.fw_entry.specs.declared.entry.Timed.{Timed}
-use Rattle.fw_explain.specs.declared.asked.Answer.{Answer}
-use Rattle.fw_explain.specs.declared.asked.Answer.TheVariants.{Write as WriteResponse, ReadQuadlet as ReadQuadletResponse, ReadBlock as ReadBlockResponse, Lock as LockResponse}
-use Rattle.fw_explain.specs.declared.asked.Asked.{Asked}
-use Rattle.fw_explain.specs.Requests.{asked_by, answers}
+use Rattle.fw_requests.specs.declared.asked.Answer.{Answer}
+use Rattle.fw_requests.specs.declared.asked.Answer.TheVariants.{Write as WriteResponse, ReadQuadlet as ReadQuadletResponse, ReadBlock as ReadBlockResponse, Lock as LockResponse}
+use Rattle.fw_requests.specs.declared.asked.Asked.{Asked}
+use Rattle.fw_requests.specs.Requests.{asked_by, answers}
 use Rattle.fw_tracer.specs.Requests.{requests_after, latest_asked}
 use Rattle.fw_tracer.specs.declared.job.Job.{Job}
 use Rattle.fw_tracer.specs.declared.streams.Stream.{Stream}

@@ -4,8 +4,8 @@ use Rattle.std.specs.List.{filter, position}
 use Rattle.fw_async.specs.declared.packet.Head.{Head}
 use Rattle.fw_entry.specs.declared.entry.Entry.{Entry}
 use Rattle.fw_entry.specs.declared.entry.Entry.TheVariants.{Reset, Async, Iso, Event, Outcome, Shown, End}
-use Rattle.fw_explain.specs.declared.asked.Asked.{Asked}
-use Rattle.fw_explain.specs.Requests.{asked_by, asked_at}
+use Rattle.fw_requests.specs.declared.asked.Asked.{Asked}
+use Rattle.fw_requests.specs.Requests.{asked_by, asked_at}
 
 -- the request is this node's, under this label
 abbrev pub is_from : ℕ → ℕ → Asked → Bool

@@ -9,10 +9,10 @@ use crate::naming::Names;
 use crate::parts::put_named_part;
 use crate::registers::{put_named_told, put_named_word};
 use fw_async::Packet;
-use fw_explain::{Answer, Asked};
 use fw_frames::put_frame;
 use fw_names::{Pairs, put_quadlet, put_word, rcode_name};
 use fw_registers::{Place, Told, put_place};
+use fw_requests::{Answer, Asked};
 use fw_words::{Swap, quadlet_at};
 use std::alloc::AllocError;
 

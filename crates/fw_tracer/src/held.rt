@@ -10,8 +10,8 @@ use crate::naming::Names;
 use crate::packets::is_answered;
 use crate::parts::put_cycle;
 use fw_async::{Head, Packet};
-use fw_explain::{Answer, Asked};
 use fw_names::{CycleRow, Pairs, put_word};
+use fw_requests::{Answer, Asked};
 use std::alloc::{AllocError, Global};
 use std::marker::Model;
 

@@ -2,11 +2,11 @@
 
 ghost use Rattle.std.specs.Prelude.{◌≡◌};
 ghost use Rattle.fw_async.specs.Heads.{head_of};
-ghost use Rattle.fw_explain.specs.Requests.{answers, tcode_of};
+ghost use Rattle.fw_requests.specs.Requests.{answers, tcode_of};
 ghost use Rattle.fw_tracer.specs.Caused.{kind_of};
 
 use fw_async::{Head, Packet};
-use fw_explain::{Answer, Asked};
+use fw_requests::{Answer, Asked};
 
 // The head of a packet.
 pub(crate) fn head_of(p: &Packet) -> Head
@@ -52,7 +52,7 @@ fn tcode_of(kind: Answer) -> u8
 }
 
 // A response of this kind with this head answers a request.
-#[tactic(auto, unfolding(fw_explain::specs::Requests::answers))]
+#[tactic(auto, unfolding(fw_requests::specs::Requests::answers))]
 pub(crate) fn is_answered(q: &Asked, kind: Answer, head: &Head) -> bool
     ensures { result ≡ answers kind head.now q.now }
 {

@@ -2,12 +2,12 @@
 
 ghost use Rattle.std.specs.Prelude.{◌≡◌, ◌<◌, [], not, OnOk, IfSome, length};
 ghost use Rattle.std.specs.List.{filter, position};
-ghost use Rattle.fw_explain.specs.Requests.{asked, asked_by, asked_at};
+ghost use Rattle.fw_requests.specs.Requests.{asked, asked_by, asked_at};
 ghost use Rattle.fw_tracer.specs.Requests.{is_from, with_latest, requests_after, latest_asked};
 
 use fw_async::{Head, Packet};
 use fw_entry::Entry;
-use fw_explain::{Answer, Asked};
+use fw_requests::{Answer, Asked};
 use fw_words::Swap;
 use std::alloc::{AllocError, Global};
 use std::marker::Model;
@@ -20,7 +20,7 @@ pub(crate) struct Requests {
 
 impl Model for Requests {
     ghost use Rattle.std.specs.Prelude.{List};
-    ghost use Rattle.fw_explain.specs.declared.asked.Asked.{Asked};
+    ghost use Rattle.fw_requests.specs.declared.asked.Asked.{Asked};
 
     ghost Value = { List Asked };
 
@@ -113,7 +113,7 @@ fn asked(head: &Head, answer: Answer, offset: u64, swap: Option<Swap>) -> Asked
 }
 
 // What is kept of a packet, if it is a request.
-#[tactic(auto, unfolding(fw_explain::specs::Requests::asked_by))]
+#[tactic(auto, unfolding(fw_requests::specs::Requests::asked_by))]
 pub(crate) fn asked_by(p: &Packet) -> Option<Asked>
     ensures { result ≡ asked_by p.now }
 {

@@ -11,8 +11,8 @@ use crate::packets::{head_of, kind_of};
 use crate::parts::put_cycle;
 use fw_async::Packet;
 use fw_entry::Entry;
-use fw_explain::Answer;
 use fw_names::put_word;
+use fw_requests::Answer;
 use std::alloc::AllocError;
 
 impl Tracer {

@@ -5,7 +5,7 @@ use Rattle.fw_log.specs.Passing.{HasBody}
 use Rattle.fw_log.specs.declared.plain.PlainBody.{PlainBody}
 use Rattle.fw_explain.specs.Explained.{Room}
 use Rattle.fw_explain.specs.Lines.{line}
-use Rattle.fw_explain.specs.Requests.{standing_after}
+use Rattle.fw_requests.specs.Requests.{standing_after}
 use Rattle.fw_decode.proofs.explanation.put_body.Goals as goal
 
 pub put_reset-requires : goal.put_reset-requires

@@ -1,6 +1,6 @@
 use Rattle.std.proofs.Common.{◌∙◌, ap, sym}
 use Rattle.std.proofs.lemmas.Option.{slice_get-get_or}
-use Rattle.fw_explain.specs.Requests.{asked_at}
+use Rattle.fw_requests.specs.Requests.{asked_at}
 use Rattle.fw_tracer.proofs.requests.asked_in.Goals as goal
 
 pub returns-in-Some : goal.returns-in-Some

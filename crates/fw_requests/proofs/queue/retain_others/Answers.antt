@@ -1,7 +1,7 @@
 use Rattle.std.proofs.Common.{rules}
 use Rattle.arrayvec.proofs.ArrayVecLemmas.{filter-from_retain}
-use Rattle.fw_explain.specs.Requests.{without_answered}
-use Rattle.fw_explain.proofs.requests.retain_others.Goals as goal
+use Rattle.fw_requests.specs.Requests.{without_answered}
+use Rattle.fw_requests.proofs.queue.retain_others.Goals as goal
 
 pub returns : goal.returns
 unfolding without_answered

@@ -9,9 +9,9 @@ use Rattle.fw_words.specs.Swaps.{quadlet_swap}
 use Rattle.fw_entry.specs.declared.entry.Entry.{Entry}
 use Rattle.fw_entry.specs.declared.entry.Entry.TheVariants.{Reset, Async, Iso, Event, Outcome, Shown, End}
 use Rattle.fw_entry.specs.declared.entry.Timed.{Timed}
-use Rattle.fw_explain.specs.declared.asked.Answer.{Answer}
-use Rattle.fw_explain.specs.declared.asked.Answer.TheVariants.{Write as WriteResponse, ReadQuadlet as ReadQuadletResponse, ReadBlock as ReadBlockResponse, Lock as LockResponse}
-use Rattle.fw_explain.specs.declared.asked.Asked.{Asked}
+use Rattle.fw_requests.specs.declared.asked.Answer.{Answer}
+use Rattle.fw_requests.specs.declared.asked.Answer.TheVariants.{Write as WriteResponse, ReadQuadlet as ReadQuadletResponse, ReadBlock as ReadBlockResponse, Lock as LockResponse}
+use Rattle.fw_requests.specs.declared.asked.Asked.{Asked}
 
 -- the transaction code of a response (IEEE 1394-1995, transaction codes)
 abbrev pub tcode_of : Answer → ℕ

@@ -1,7 +1,6 @@
 //! What is kept of a request until it is answered.
 
 ghost use Rattle.std.specs.Prelude.{◌≡◌};
-ghost use Rattle.fw_async.specs.Heads.{head_of};
 
 use fw_async::{Head, Packet, Tcode};
 use fw_words::Swap;
@@ -21,7 +20,7 @@ pub enum Answer {
 
 impl Answer {
     ghost use Rattle.fw_async.specs.Tcode.{code_of};
-    ghost use Rattle.fw_explain.specs.Requests.{tcode_of};
+    ghost use Rattle.fw_requests.specs.Requests.{tcode_of};
 
     // Its transaction code.
     fn tcode(self) -> Tcode
@@ -68,7 +67,7 @@ impl Default for Asked {
 }
 
 impl Asked {
-    ghost use Rattle.fw_explain.specs.Requests.{asked, asked_by, answers, is_same};
+    ghost use Rattle.fw_requests.specs.Requests.{asked, asked_by, answers, is_same};
 
     // What is kept of a request that a response of this kind answers.
     fn new(head: &Head, answer: Answer, offset: u64, swap: Option<Swap>) -> Asked
@@ -131,23 +130,5 @@ impl Asked {
         self.source == other.source
             && self.destination == other.destination
             && self.label == other.label
-    }
-}
-
-// The head of a packet.
-pub(crate) fn head_of(p: &Packet) -> Head
-    ensures { result ≡ head_of p.now }
-{
-    match p {
-        Packet::WriteQuadlet { head, .. }
-        | Packet::WriteBlock { head, .. }
-        | Packet::WriteReply { head, .. }
-        | Packet::ReadQuadlet { head, .. }
-        | Packet::ReadBlock { head, .. }
-        | Packet::ReadQuadletReply { head, .. }
-        | Packet::ReadBlockReply { head, .. }
-        | Packet::CycleStart { head, .. }
-        | Packet::Lock { head, .. }
-        | Packet::LockReply { head, .. } => *head,
     }
 }
