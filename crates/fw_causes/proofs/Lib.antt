@@ -1,0 +1,5 @@
+pub mod CableLaws
+pub mod NodeLaws
+pub mod RegisterLaws
+pub mod Seen
+pub mod ToldLaws
