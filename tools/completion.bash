@@ -2,7 +2,7 @@
 _fire() {
     local words=
     case $COMP_CWORD:${COMP_WORDS[1]} in
-    1:*) words='run dub explain decode json dv audit holders watch map convert gen help version --help --version -h -V' ;;
+    1:*) words='run dub check explain decode json dv audit holders watch map convert gen help version --help --version -h -V' ;;
     2:map) words='dot' ;;
     2:convert) words='1 2' ;;
     esac

@@ -10,3 +10,5 @@ pub mod Completions
 pub mod Countings
 pub mod Dubbings
 pub mod OneRun
+pub mod Checkings
+pub mod Refusings

@@ -5,6 +5,8 @@ pub mod Course
 pub mod Going
 pub mod Sums
 pub mod Dubs
+pub mod Checks
+pub mod Telling
 pub mod Words
 pub mod OneRun
 pub mod Passing

@@ -3,11 +3,13 @@ use Rattle.std.specs.Prelude.{ℕ, List, Option}
 use Rattle.fw_run.specs.Desks.{DeskRelations}
 use Rattle.fw_simulate.specs.declared.ending.RunEnding.{RunEnding}
 use Rattle.fw_simulate.specs.declared.word.ScriptWord.{ScriptWord}
-use Rattle.fw_simulate.specs.declared.word.ScriptWord.TheVariants.{Run, Dub}
+use Rattle.fw_simulate.specs.declared.word.ScriptWord.TheVariants.{Run, Dub, Check}
 use Rattle.fw_simulate.specs.Ending.{Runs}
+use Rattle.fw_simulate.specs.Checks.{Checks}
 use Rattle.fw_simulate.specs.Dubs.{Dubs}
 
 -- by the word: of the source before and after, of the sink before and after, and of the ending
 abbrev pub RunsAs : DeskRelations → ScriptWord → Option (List ℕ) → Option (List ℕ) → Option (List ℕ) → Option (List ℕ) → RunEnding → Type 0
 RunsAs D Run left left' held held' ending = Runs D left left' held held' ending
 RunsAs D Dub left left' held held' ending = Dubs D left left' held held' ending
+RunsAs D Check left left' held held' ending = Checks D left left' held held' ending

@@ -6,6 +6,7 @@ ghost use Rattle.fw_simulate.specs.Counts.{ReadCount, WriteCount};
 ghost use Rattle.fw_simulate.specs.Scripts.{IsValid, IsNoRefusal};
 ghost use Rattle.fw_simulate.specs.Words.{RunsAs};
 
+use crate::checking::check;
 use crate::ending::RunEnding;
 use crate::recording::dub;
 use crate::script::run;
@@ -20,6 +21,8 @@ pub enum ScriptWord {
     Run,
     /// What the reel has behind its last command.
     Dub,
+    /// What the script has, or why its first refused line is refused.
+    Check,
 }
 
 /// Runs a script as a word does.
@@ -41,5 +44,6 @@ pub fn run_as<S: Source, K: Sink, F: Fn(u16, u32, u16) -> [u8; 480], H: Fn(u32, 
     match word {
         ScriptWord::Run => run(alloc, source, sink, desk),
         ScriptWord::Dub => dub(alloc, source, sink, desk),
+        ScriptWord::Check => check(alloc, source, sink, desk),
     }
 }

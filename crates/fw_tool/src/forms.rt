@@ -47,6 +47,8 @@ fn one_word(word: &str) -> Option<Word>
         Some(Word::Script(ScriptWord::Run))
     } else if word == "dub" {
         Some(Word::Script(ScriptWord::Dub))
+    } else if word == "check" {
+        Some(Word::Script(ScriptWord::Check))
     } else if word == "decode" {
         Some(Word::Log(LogWord::Decode))
     } else if word == "explain" {

@@ -16,3 +16,9 @@ returns-in-Dub-clause-runs g c =
     let D : DeskRelations = record { blocks = given.F-post g c.args.desk.now.blocks; vendor = given.H-post g c.args.desk.now.vendor } in
     let P : ScriptWord → Type 0 = λ w. RunsAs D w (g.S.Source.left c.args.source.now) (g.S.Source.left c.dub.new.source) (g.K.Sink.held c.args.sink.now) (g.K.Sink.held c.dub.new.sink) c.dub.result in
     subst P (sym c.in-Dub.is) c.dub.ensures.dubs
+
+pub returns-in-Check-clause-runs : goal.returns-in-Check-clause-runs
+returns-in-Check-clause-runs g c =
+    let D : DeskRelations = record { blocks = given.F-post g c.args.desk.now.blocks; vendor = given.H-post g c.args.desk.now.vendor } in
+    let P : ScriptWord → Type 0 = λ w. RunsAs D w (g.S.Source.left c.args.source.now) (g.S.Source.left c.check.new.source) (g.K.Sink.held c.args.sink.now) (g.K.Sink.held c.check.new.sink) c.check.result in
+    subst P (sym c.in-Check.is) c.check.ensures.checks
