@@ -74,7 +74,8 @@ given_before {left} {mid} {given} {reader} left' new r some h a = by_stage h.kno
     by_stage Failed e so = absurd so
 
 -- nothing is given only behind the end
-pub ended_before : {left now : Option (List ℕ)} {given : List Command} {reader : Reading} (known new : Reading) → IsReading left now given reader → GivesNext reader.stage known (Ok None) new → HasEnded left now given reader
+pub ended_before : {left now : Option (List ℕ)} {given : List Command} {reader : Reading} (known new : Reading) → IsReading left now given reader
+    → GivesNext reader.stage known (Ok None) new → HasEnded left now given reader
 ended_before {left} {now} {given} {reader} known new h g = by_stage h.known.stage refl h.read
   where
     open_gives : (s : Stage) → IsOpen s → GivesNext s known (Ok None) new → GivesFirst known (Ok None) new

@@ -73,15 +73,16 @@ nothing_checked D left left' held reader bus count TooLong x = (x, refl)
 nothing_checked D left left' held reader bus count NoMemory x = refl
 
 -- the text of another run was written, or a front of it
-pub told_checks : (D : DeskRelations) (left left' held held' : Option (List ℕ)) (reader : Reading) (bus : Standing) (count : ℕ) (text : List ℕ) (e result : RunEnding) → ((stop : Stop) → e ≢ Stopped stop)
-    → (x : IsChecked D left left' reader bus count e) → text ≡ checked_text D left left' reader bus count e x
+pub told_checks : (D : DeskRelations) (left left' held held' : Option (List ℕ)) (reader : Reading) (bus : Standing) (count : ℕ) (text : List ℕ) (e result : RunEnding)
+    → ((stop : Stop) → e ≢ Stopped stop) → (x : IsChecked D left left' reader bus count e) → text ≡ checked_text D left left' reader bus count e x
     → Told text held held' e result → Checks D left left' held held' result
 told_checks D left left' held held' reader bus count text e result other x same told = by e other x (subst (λ (bytes : List ℕ). Told bytes held held' e result) same told)
   where
     at : (r : RunEnding) → result ≡ r → Checks D left left' held held' r → Checks D left left' held held' result
     at r e h = subst (λ (z : RunEnding). Checks D left left' held held' z) (sym e) h
 
-    by : (e : RunEnding) → ((stop : Stop) → e ≢ Stopped stop) → (x : IsChecked D left left' reader bus count e) → Told (checked_text D left left' reader bus count e x) held held' e result → Checks D left left' held held' result
+    by : (e : RunEnding) → ((stop : Stop) → e ≢ Stopped stop) → (x : IsChecked D left left' reader bus count e)
+        → Told (checked_text D left left' reader bus count e x) held held' e result → Checks D left left' held held' result
     by Done other x (inl t) = at Done t.0 (x.0, t.1)
     by Done other x (inr t) = at (Stopped WriteFault) t.0 (inl (x.0, t.1))
     by (Refused r) other x (inl t) = at (Refused r) t.0 ((x.written, x.runs), t.1)
@@ -89,7 +90,8 @@ told_checks D left left' held held' reader bus count text e result other x same 
     by (Stopped stop) other x t = absurd (other stop refl)
 
 -- no line of a valid script is refused
-pub check_completes : (D : DeskRelations) (script : List ℕ) (left left' held held' : Option (List ℕ)) (e : RunEnding) → Checks D left left' held held' e → left ≡ Some script → IsValid script → IsNoRefusal e
+pub check_completes : (D : DeskRelations) (script : List ℕ) (left left' held held' : Option (List ℕ)) (e : RunEnding)
+    → Checks D left left' held held' e → left ≡ Some script → IsValid script → IsNoRefusal e
 check_completes D script left left' held held' Done d told v = tt
 check_completes D script left left' held held' (Refused r) d told v = run_completes D script left left' (Some []) (Some d.0.0) (Refused r) d.0.1 told v
 check_completes D script left left' held held' (Stopped ReadFault) d told v = tt
@@ -98,7 +100,8 @@ check_completes D script left left' held held' (Stopped TooLong) d told v = run_
 check_completes D script left left' held held' (Stopped NoMemory) d told v = tt
 
 -- reading counts as it did, where the text is written or not
-pub reads_told : (old new : ℕ) (text : List ℕ) (held held' : Option (List ℕ)) (e result : RunEnding) → ((stop : Stop) → e ≢ Stopped stop) → ReadCount old new e → Told text held held' e result → ReadCount old new result
+pub reads_told : (old new : ℕ) (text : List ℕ) (held held' : Option (List ℕ)) (e result : RunEnding)
+    → ((stop : Stop) → e ≢ Stopped stop) → ReadCount old new e → Told text held held' e result → ReadCount old new result
 reads_told old new text held held' e result other read told = by e other read told
   where
     at : (r : RunEnding) → result ≡ r → ReadCount old new r → ReadCount old new result
@@ -110,19 +113,6 @@ reads_told old new text held held' e result other read told = by e other read to
     by (Refused r) other read (inl t) = at (Refused r) t.0 read
     by (Refused r) other read (inr t) = at (Stopped WriteFault) t.0 read
     by (Stopped stop) other read t = absurd (other stop refl)
-
--- nothing was written before the text
-pub no_write_checked : (D : DeskRelations) (left left' : Option (List ℕ)) (reader : Reading) (bus : Standing) (count faults : ℕ) (stop : Stop) → IsChecked D left left' reader bus count (Stopped stop) → WriteCount faults faults (Stopped stop)
-no_write_checked D left left' reader bus count faults ReadFault x = refl
-no_write_checked D left left' reader bus count faults WriteFault x = absurd x
-no_write_checked D left left' reader bus count faults TooLong x = refl
-no_write_checked D left left' reader bus count faults NoMemory x = refl
-
--- no read failed of a run that came to an end, be there memory for the text or not
-pub reads_unmet : (old new : ℕ) (e : RunEnding) → ((stop : Stop) → e ≢ Stopped stop) → ReadCount old new e → ReadCount old new (Stopped NoMemory)
-reads_unmet old new Done other read = read
-reads_unmet old new (Refused r) other read = read
-reads_unmet old new (Stopped stop) other read = absurd (other stop refl)
 
 -- a text was written of a run that came to an end
 pub writes_same : (old new : ℕ) (e : RunEnding) → ((stop : Stop) → e ≢ Stopped stop) → new ≡ old → WriteCount old new e

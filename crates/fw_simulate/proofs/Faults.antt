@@ -79,7 +79,8 @@ interrupted {D} {left} {mid} {held} {held1} {old} left' new g a cut =
     record { taken = f.0; takes = f.1; commands = g.commands; lines = f.2; logged = logs_open g b.so }
 
 -- the sink failed within a command
-pub part_stopped : {D : DeskRelations} {left mid held held1 : Option (List ℕ)} {old : Reading} {bus : Standing} (left' held2 : Option (List ℕ)) (new : Reading) (bus' : Standing) (c : Command) (g : Going D left mid held held1 old bus)
+pub part_stopped : {D : DeskRelations} {left mid held held1 : Option (List ℕ)} {old : Reading} {bus : Standing}
+    (left' held2 : Option (List ℕ)) (new : Reading) (bus' : Standing) (c : Command) (g : Going D left mid held held1 old bus)
     → Advances old new mid left' (Ok (Some c)) → CutsRunOff D g.commands g.actions g.log g.state c bus' held1 held2 → PartLogged D left left' held held2
 part_stopped {D} {left} {mid} {held} {held1} {old} left' held2 new bus' c g a d = record {
   script = o.script;
@@ -132,7 +133,8 @@ part_stopped {D} {left} {mid} {held} {held1} {old} left' held2 new bus' c g a d 
 -- ---- any ending
 
 -- the reader answered a fault, and has the text of its line
-pub faulted : {D : DeskRelations} {left mid held held1 : Option (List ℕ)} {old : Reading} {bus : Standing} (left' : Option (List ℕ)) (new : Reading) (f : ScriptFault) (g : Going D left mid held held1 old bus)
+pub faulted : {D : DeskRelations} {left mid held held1 : Option (List ℕ)} {old : Reading} {bus : Standing}
+    (left' : Option (List ℕ)) (new : Reading) (f : ScriptFault) (g : Going D left mid held held1 old bus)
     → Advances old new mid left' (Err f) → IsHeld (Err f) new → Ended D left mid left' held held1 (course_of g) old new bus (ending_by f new.line)
 unfolding line_refused interrupted
 faulted left' new Fault.BadLine g a few = record { runs = line_refused left' new Fault.BadLine g a few (λ e. cc); same = refl; reads = a; stands = (g.stands, g.fresh); shown = (refl, refl) }
@@ -144,7 +146,8 @@ faulted left' new Fault.TooLong g a few =
     record { runs = record { line = new.line; refused = r; long = (script_limit r.script r.commands _ r.says).0 refl }; same = refl; reads = a; stands = (g.stands, g.fresh); shown = tt }
 
 -- the sink failed, and the bus is spent
-pub stopped : {D : DeskRelations} {left mid held held1 : Option (List ℕ)} {old : Reading} {bus : Standing} (left' held2 : Option (List ℕ)) (new : Reading) (bus' : Standing) (c : Command) (g : Going D left mid held held1 old bus)
+pub stopped : {D : DeskRelations} {left mid held held1 : Option (List ℕ)} {old : Reading} {bus : Standing}
+    (left' held2 : Option (List ℕ)) (new : Reading) (bus' : Standing) (c : Command) (g : Going D left mid held held1 old bus)
     → Advances old new mid left' (Ok (Some c)) → CutsRunOff D g.commands g.actions g.log g.state c bus' held1 held2
     → Ended D left mid left' held held2 (course_of g) old new bus' (Endings.Stopped WriteFault)
 unfolding part_stopped

@@ -1,7 +1,6 @@
 -- Why a line is refused, told by what the reader and the bus show of it.
 use Rattle.std.proofs.Common.{◌≡◌, ◌≢◌, ℕ, List, [], Option, Some, Ok, refl, ap, sym, ◌∙◌, subst}
 use Rattle.fw_outside.specs.declared.stop.Stop.{Stop}
-use Rattle.fw_command.proofs.FormLaws.{one_form}
 use Rattle.fw_command.specs.Form.{HasForm}
 use Rattle.fw_command.specs.declared.command.Command.{Command}
 use Rattle.fw_command.specs.declared.command.Command.TheVariants.{End}
@@ -77,7 +76,3 @@ pub checked_told : (D : DeskRelations) (left left' : Option (List ℕ)) (reader 
 checked_told D left left' reader bus count Done x = (x.0.1.logged.state, x.2, ap (λ (n : ℕ). good_text (counts_of n x.0.1.logged.state)) x.1)
 checked_told D left left' reader bus count (Refused r) x = why_told D left left' (Some []) (Some x.written) reader bus r.why r.line x.runs x.shown x.stands
 checked_told D left left' reader bus count (Stopped stop) x = refl
-
--- a command of a line is the one that its reader makes of it
-pub same_command : (c d : Command) (line : List ℕ) → HasForm c line → HasForm d line → c ≡ d
-same_command = one_form

@@ -14,7 +14,8 @@ returns-in-Stopped-clause-complete g c script told valid =
     let left = g.S.Source.left c.args.source.now in
     let left2 = g.S.Source.left c.check_run-checked.new.source in
     let held = g.K.Sink.held c.args.sink.now in
-    let x = subst (λ (e : RunEnding). IsChecked D left left2 c.check_run-checked.new.reader c.check_run-checked.new.bus c.check_run-checked.result.commands e) c.in-Stopped.is c.check_run-checked.ensures.checked in
+    let x = subst (λ (e : RunEnding). IsChecked D left left2 c.check_run-checked.new.reader c.check_run-checked.new.bus c.check_run-checked.result.commands e)
+    c.in-Stopped.is c.check_run-checked.ensures.checked in
     check_completes D script left left2 held held (Stopped c.in-Stopped.stop)
     (nothing_checked D left left2 held c.check_run-checked.new.reader c.check_run-checked.new.bus c.check_run-checked.result.commands c.in-Stopped.stop x) told valid
 

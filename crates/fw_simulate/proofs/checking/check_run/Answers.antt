@@ -38,5 +38,6 @@ returns-in-Some g c =
     rw c.in_memory.ensures (record {
       checked = checked_ends D (g.S.Source.left c.args.source.now) (g.S.Source.left c.loop-ending.source) (g.S.Source.left c.carry_next.new.source) (i.written ++ bytes) _
           c.loop-ending.reader c.carry_next.new.reader c.carry_next.new.bus c.loop-ending.commands c.in-Some.ending i.counted (there (Some (i.written ++ bytes)) refl);
-      read_count = reads_in_memory _ _ c.in-Some.ending (subst (λ (n : ℕ). ReadCount n (g.S.Source.faults c.carry_next.new.source) c.in-Some.ending) c.loop-ending.invariant.unread c.in-Some.ensures.reads);
+      read_count = reads_in_memory _ _ c.in-Some.ending
+          (subst (λ (n : ℕ). ReadCount n (g.S.Source.faults c.carry_next.new.source) c.in-Some.ending) c.loop-ending.invariant.unread c.in-Some.ensures.reads);
     })
