@@ -46,7 +46,8 @@ node_declared s n d g at = go s.account.latest g.latest at
     go None l at = let z : ⊥ = cc in absurd z
     go (Some e) l at = below e l (slice_get e.nodes n) refl at
 
-of_manager : (s : State) (offset : ℕ) (o : Option ℕ) → manager_in s.account.latest ≡ o → Has (no_register_of s offset (option_and_then (λ n. device_in s.account.latest n) o)) → Has (no_register s None offset)
+of_manager : (s : State) (offset : ℕ) (o : Option ℕ) → manager_in s.account.latest ≡ o
+    → Has (no_register_of s offset (option_and_then (λ n. device_in s.account.latest n) o)) → Has (no_register s None offset)
 of_manager s offset o e h = ap (λ (o : Option ℕ). is_some (no_register_of s offset (option_and_then (λ n. device_in s.account.latest n) o))) e ∙ h
 
 of_device : (s : State) (offset d : ℕ) (o : Option ℕ) → IsGood s → d < length s.declared.names → o ≡ Some d → Has (no_register_of s offset o)
