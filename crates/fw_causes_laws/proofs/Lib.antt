@@ -1,0 +1,8 @@
+pub mod Somes
+pub mod NameRules
+pub mod CableRules
+pub mod ControllerRules
+pub mod RegisterRules
+pub mod Broken
+pub mod NameLaws
+pub mod Names

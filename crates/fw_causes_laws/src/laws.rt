@@ -1,0 +1,17 @@
+//! Laws of what stands against commands, each as the contract of an empty function.
+
+ghost use Rattle.std.specs.Prelude.{Err, IsTrue, is_some};
+ghost use Rattle.fw_command.specs.declared.command.Command.{Command};
+ghost use Rattle.fw_run.specs.declared.rule.RuleFault.{RuleFault};
+ghost use Rattle.fw_run.specs.Good.{IsGood};
+ghost use Rattle.fw_run.specs.Rules.{Breaks, Decides};
+ghost use Rattle.fw_run.specs.State.{State};
+ghost use Rattle.fw_causes.specs.Causes.{cause};
+ghost use Rattle.fw_causes_laws.specs.Told.{HasCause};
+
+/// In each state of a run, something stands against each command that breaks a rule, whichever of the rules that it breaks is asked for. So
+/// of a refused command, whose rule is the first that it breaks, a cause is told, and the rule's name before it.
+pub fn broken_rules_have_a_cause()
+    ensures broken { (s : State) (c : Command) (rule : RuleFault) → IsGood s → Breaks s c rule → IsTrue (is_some (cause s c rule)) }
+    ensures decided { (s : State) (c : Command) (rule : RuleFault) → IsGood s → Decides s c (Err rule) → HasCause s c rule }
+{}

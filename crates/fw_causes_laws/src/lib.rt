@@ -1,0 +1,6 @@
+//! Theorems of what stands against commands, over its definitions: laws, and no code. No crate stands on this one.
+#![tactic(auto)]
+
+mod laws;
+
+pub use laws::broken_rules_have_a_cause;
