@@ -6,3 +6,4 @@ pub mod RegisterRules
 pub mod Broken
 pub mod NameLaws
 pub mod Names
+pub mod SoLaws

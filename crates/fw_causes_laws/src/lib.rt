@@ -3,4 +3,4 @@
 
 mod laws;
 
-pub use laws::broken_rules_have_a_cause;
+pub use laws::{broken_rules_have_a_cause, causes_are_so};
