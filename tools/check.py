@@ -1,6 +1,6 @@
 #!/usr/bin/env python3
-"""Compares what people read with what the program does: its help, the examples, README's commands, the manual pages, and JSON by another
-parser.
+"""Compares what people read with what the program does: its help, the examples, the commands that documents show with what they write, the
+manual pages, and JSON by another parser.
 
     tools/check.py [PROGRAM]
 
@@ -8,10 +8,14 @@ PROGRAM is dist/fire, which ships. .ci/run makes this check after the gate; it n
 all holds, 1 if something does not, and 2 if there is no program.
 """
 
+import itertools
+import os
 import pathlib
 import re
+import shutil
 import subprocess
 import sys
+import tempfile
 
 sys.dont_write_bytecode = True
 
@@ -32,6 +36,16 @@ MANUAL = ROOT / "docs/man/fire.1"
 # The format of logs, as the repository and as the manual have it.
 FORMAT = ROOT / "docs/LOG.md"
 FORMAT_MANUAL = ROOT / "docs/man/fire-log.5"
+
+# The documents whose commands are tried. One is shown as a line `    $ COMMAND`, with lines `    > ..` if it has more than one, and below
+# it what it writes to standard output; all of a document are run in one folder, in which `./fire` is the program as the launcher calls it.
+SHOWN = ["README.md", "docs/AUDIT.md", "docs/SCRIPT.md", "docs/RECIPES.md", "examples/README.md"]
+MAY_BE_MISSING = ["jq"]  # tools that a machine need not have: commands that use one of these are then skipped, and that is said
+SHOWN_COMMAND = re.compile(r"^    \$ (.*\n(?:    > .*\n)*)((?:    (?!\$ ).*\n)*)", re.M)
+
+# What a page that is read first may have.
+FIRST_PAGE = ROOT / "README.md"
+MOST_LINES, MOST_COLUMNS = 110, 100
 
 # What each crate took in the gate; the launcher reads it.
 SECONDS = ROOT / "tools/gate_seconds.txt"
@@ -122,19 +136,69 @@ def logs_of_sessions():
         yield f"{log.parent.name}/{log.name}", log.read_bytes()
 
 
-def check_readme(program):
-    """Each command in README that is shown with what it writes writes that."""
-    shown = re.findall(r"^    \$ (.*)\n((?:    (?!\$ ).*\n)*)", (ROOT / "README.md").read_text(), re.M)
-    due("README shows no command", shown)
-    for command, output in shown:
-        line = command.replace("./fire", str(program))
-        ended = subprocess.run(["sh", "-c", line], cwd=ROOT, capture_output=True, text=True, check=False)
-        due(f"README: {command}", ended.stdout == re.sub(r"(?m)^    ", "", output))
+def workshop(program, room):
+    """A folder with what documents name: the examples, the tools, and `fire`, which is the program as the launcher calls it."""
+    for name in ("docs", "examples", "tools"):
+        (room / name).symlink_to(ROOT / name)
+    call = ROOT / "tools/launcher/call.sh"
+    (room / "fire").write_text(f"#!/bin/sh\nprogram='{program}'\n. '{call}'\ncall \"$@\"\n")
+    (room / "fire").chmod(0o755)
+
+
+def run_shown(command, room):
+    """What a shown command writes to standard output, in this folder, in which `fire` is found too."""
+    words = {**os.environ, "PATH": f"{room}:{os.environ['PATH']}", "LC_ALL": "C", "PYTHONDONTWRITEBYTECODE": "1"}
+    ended = subprocess.run(["sh", "-c", command], cwd=room, env=words, stdin=subprocess.DEVNULL, capture_output=True, check=False)
+    return ended.stdout.decode(errors="replace")
+
+
+def first_difference(shown, written):
+    """The first line that is another one, as it is shown and as it was written."""
+    for line, other in itertools.zip_longest(shown.splitlines(), written.splitlines()):
+        if line != other:
+            return f"  shown {line!r}, written {other!r}"
+    return ""
+
+
+def check_document(program, name):
+    """Each command of a document that is shown with what it writes writes that; how many there are."""
+    shown = SHOWN_COMMAND.findall((ROOT / name).read_text())
+    with tempfile.TemporaryDirectory() as folder:
+        room = pathlib.Path(folder)
+        workshop(program, room)
+        for command, output in shown:
+            missing = [it for it in MAY_BE_MISSING if re.search(rf"\b{it} ", command) and not shutil.which(it)]
+            if missing:
+                print(f"check: skipped in {name}, since there is no {missing[0]}: {command.splitlines()[0]} ..")
+                continue
+            written = run_shown(command.replace("\n    > ", "\n"), room)
+            shown_there = re.sub(r"(?m)^    ", "", output)
+            due(f"{name}: {command.strip()}\n{first_difference(shown_there, written)}", written == shown_there)
+    return len(shown)
+
+
+def check_first_page():
+    """The first page fits: neither too long nor too wide."""
+    lines = FIRST_PAGE.read_text().splitlines()
+    wide = [number for number, line in enumerate(lines, 1) if len(line) > MOST_COLUMNS]
+    due(f"{FIRST_PAGE.name} has {len(lines)} lines, and wider ones than {MOST_COLUMNS} at {wide}", len(lines) <= MOST_LINES and not wide)
+
+
+def check_manual_examples(program):
+    """Each example of the manual is a command that ends well."""
+    examples = MANUAL.read_text().split(".SH EXAMPLES\n.nf\n")[1].split(".fi")[0]
+    with tempfile.TemporaryDirectory() as folder:
+        room = pathlib.Path(folder)
+        workshop(program, room)
+        for command in examples.splitlines():
+            run_shown(f"{{ {command}; }} > written; echo $? >> statuses", room)
+        statuses = (room / "statuses").read_text().split()
+        due(f"{MANUAL.name}: statuses of its examples are {statuses}", statuses and set(statuses) == {"0"})
 
 
 def numbered(text):
     """The numbers and names of a list such as `1 second-over, 2 died`, with blanks in names as hyphens."""
-    return {int(number): re.sub(r"\s+", "-", name.strip()) for number, name in re.findall(r"(\d+) ([a-z][a-z\s-]*[a-z])", text)}
+    return {int(number): re.sub(r"\s+", "-", name.strip()) for number, name in re.findall(r"(\d+)\s+([a-z][a-z\s-]*[a-z])", text)}
 
 
 def check_manuals():
@@ -142,7 +206,7 @@ def check_manuals():
     manual, text = FORMAT_MANUAL.read_text(), FORMAT.read_text()
     events = {int(code): name for code, name in re.findall(r"^\| (\d+) \| `([a-z-]+)` \|", text, re.M)}
     due(f"{FORMAT_MANUAL.name}: other events", events and numbered(manual.split(".SS Events")[1].split("Events 1")[0]) == events)
-    outcomes = numbered(text.split("Outcomes are ")[1].split(";")[0])
+    outcomes = numbered(re.split(r"Outcomes\s+are\s", text)[1].split(";")[0])
     told = numbered(manual.split(".SS Outcomes")[1].split(".SH")[0])
     due(f"{FORMAT_MANUAL.name}: other outcomes", outcomes and told == outcomes)
     statuses = re.findall(r"^\| (\d+) \| ", (ROOT / "README.md").read_text(), re.M)
@@ -178,8 +242,11 @@ def main(words):
         # Those that are laid by hand for `watch` have other labels, which an audit passes over.
         if not what.startswith("watch_"):
             check_silence(program, what, log)
-    check_readme(program)
-    print(f"check: {len(scripts)} examples and {len(kept)} logs of sessions, {wrong} wrong")
+    shown = sum(check_document(program, name) for name in SHOWN)
+    due("the documents show no command", shown)
+    check_manual_examples(program)
+    check_first_page()
+    print(f"check: {len(scripts)} examples, {len(kept)} logs of sessions and {shown} shown commands, {wrong} wrong")
     return 1 if wrong else 0
 
 

@@ -8,7 +8,7 @@
 
 A file counts if the example's name stands in it outside comments. Tests, sessions and bodies that are wrong on purpose do not count, nor
 do crates that are the example's own. Documents are those for users: docs/ without what tells how the program is made (ARCHITECTURE,
-DECISIONS, PROOFS, TOUR) and how captures are converted, README, help.txt, and the words that bash completes. This needs Python 3.8, and
+DECISIONS, GATE, PROOFS, TOUR) and how captures are converted, README, help.txt, and the words that bash completes. This needs Python 3.8, and
 takes seconds. The status is 0, or 1 if the document has another table or there is no such row.
 """
 
@@ -41,7 +41,7 @@ PARTS = ("src", "specs", "proofs")
 COMMENTS = {".rt": re.compile(r"//.*"), ".antt": re.compile(r"--.*")}
 TESTS = re.compile(r"fw_tests\w*|fire_rows|fire_sessions")
 
-HOW_IT_IS_MADE = {"ARCHITECTURE.md", "DECISIONS.md", "PROOFS.md", "TOUR.md", "CAPTURES.md"}
+HOW_IT_IS_MADE = {"ARCHITECTURE.md", "DECISIONS.md", "GATE.md", "PROOFS.md", "TOUR.md", "CAPTURES.md"}
 BESIDE_DOCS = ("README.md", "crates/fire_sessions/data/help.txt", "tools/completion.bash")
 
 
@@ -61,7 +61,8 @@ def code_files(part):
 
 
 def documents():
-    yield from (it for it in sorted((ROOT / "docs").rglob("*")) if it.is_file() and it.name not in HOW_IT_IS_MADE)
+    texts = (it for it in sorted((ROOT / "docs").rglob("*")) if it.is_file() and it.suffix != ".png")
+    yield from (it for it in texts if it.name not in HOW_IT_IS_MADE)
     yield from (ROOT / it for it in BESIDE_DOCS)
 
 

@@ -21,7 +21,7 @@ use Rattle.fw_script.proofs.StepLaws.{with_with, at_end_still}
 use Rattle.fw_script.proofs.GivesLaws.{gives_with, gives_whole}
 use Rattle.fw_script.proofs.ScriptLaws.{some_something, err_something, says_from, says_behind}
 
-next_open : (s : Stage) (p q : Reading) (r : Answer) → (r ≢ Ok None) → GivesNext s p r q → GivesFirst p r q
+pub next_open : (s : Stage) (p q : Reading) (r : Answer) → (r ≢ Ok None) → GivesNext s p r q → GivesFirst p r q
 next_open Commands p q r n g = g
 next_open AfterEnd p q r n g = g
 next_open Done p q r n g = absurd (n g.0)
@@ -86,7 +86,7 @@ gives_read taken h (end_of_input a i) = record { within = h.within; held = h.hel
 gives_read taken h (no_end a i) = record { within = h.within; held = h.held }
 gives_read taken h read_fault = record { within = h.within; held = h.held }
 
-taken_more : (taken more : List ℕ) (whole : Bool) (p : Reading) → IsReadOf taken p → IsReadOf (taken ++ more) (with_taken p more whole)
+pub taken_more : (taken more : List ℕ) (whole : Bool) (p : Reading) → IsReadOf taken p → IsReadOf (taken ++ more) (with_taken p more whole)
 taken_more taken more whole p h = record {
   within = omega (arith, h.within, length-append taken more);
   held = drop-append-le p.before taken more h.within ∙ ap (λ (l : List ℕ). l ++ more) h.held;

@@ -1,5 +1,5 @@
 -- What lines give is one only, and stays so where more bytes are known.
-use Rattle.std.proofs.Common.{◌≡◌, ◌≢◌, ◌⊎◌, inl, inr, ℕ, List, Bool, true, false, Some, Ok, Err, refl, ap, sym, subst, take, ◌++◌}
+use Rattle.std.proofs.Common.{◌≡◌, ◌≢◌, ◌⊎◌, inl, inr, ℕ, [], List, Bool, true, false, Some, Ok, Err, refl, ap, sym, subst, take, ◌++◌}
 use Rattle.std.proofs.lemmas.List.{take-append-le}
 use Rattle.fw_script.specs.Line.{is_skipped}
 use Rattle.fw_command.specs.Form.{HasForm}

@@ -1,5 +1,6 @@
 -- How bytes are taken and lines passed over, step by step.
-use Rattle.std.proofs.Common.{◌≡◌, ℕ, [], ◌++◌, List, Bool, true, false, Option, Some, None, Ok, Err, refl, ap, sym, ◌∙◌, subst, append_assoc}
+use Rattle.std.proofs.Common.{◌≡◌, ℕ, [], ◌++◌, List, Bool, true, false, Option, Some, None, Result, Ok, Err, refl, ap, sym, ◌∙◌, subst, append_assoc}
+use Rattle.std.specs.Prelude.{OnErr}
 use Rattle.fw_outside.specs.Outside.{Takes, IsAtEnd}
 use Rattle.fw_outside.proofs.Parts.{Takes-Takes}
 use Rattle.fw_script.specs.Reader.{PassesOver, ReadsOn, Steps, ReadsLine, Fills, IsCut, IsOpen, answer_of}
@@ -39,6 +40,12 @@ takes_takes p q z left mid left' a b ys w took kept met = record {
     by_mid : (m : Bool) → q.whole ≡ m → p.whole ≡ false → w ≡ true → IsAtEnd left'
     by_mid true is v e = at_end_still mid left' (subst (λ (l : List ℕ). Takes mid left' l) (kept is).0 took) (a.met v is)
     by_mid false is v e = met is e
+
+-- taking after taking
+pub takes_then : (p q z : Reading) (left mid left' : Option (List ℕ)) → TakesMore p q left mid → TakesMore q z mid left' → TakesMore p z left left'
+takes_then p q z left mid left' a b =
+    subst (λ (x : Reading). TakesMore p x left left') (sym b.now)
+    (takes_takes p q z left mid left' a (nothing_taken z left') b.taken z.whole b.takes (λ w. b.kept w) (λ v e. b.met v e))
 
 pub goes_nowhere : (p : Reading) (left : Option (List ℕ)) → ReadsOn p p left left
 goes_nowhere p left = record { known = p; takes = nothing_taken p left; goes = nowhere }
@@ -106,3 +113,14 @@ nothing_given p new left left' b c e h = subst (λ (x : Bool). Steps p left left
 
 pub command_given : (p new : Reading) (left left' : Option (List ℕ)) (b : Bool) (c : Command) → b ≡ true → Steps p left left' (answer_of (Ok b) c) new → Steps p left left' (Ok (Some c)) new
 command_given p new left left' b c e h = subst (λ (x : Bool). Steps p left left' (answer_of (Ok x) c) new) e h
+
+-- the source failed after bytes were taken
+pub take_failed : (p q new : Reading) (left mid left' : Option (List ℕ)) (f : ScriptFault) → IsOpen p.stage → TakesMore p q left mid → Fills q mid left' (Err f) new → Advances p new left left' (Err ReadFault)
+take_failed p q new left mid left' f o t h =
+    advances_by p q new left left' (Err ReadFault) o (goes_taken p q left left' (takes_then p q q left mid left' t h.1))
+    (gives_at q (at_stage q Failed) new (Err ReadFault) h.2 read_fault)
+
+-- what holds anyhow
+pub on_err : {A B : Type 0} (r : Result A B) (P : Type 0) → P → OnErr r P
+on_err (Ok x) P p = tt
+on_err (Err e) P p = p

@@ -1,15 +1,19 @@
 -- What holds of every script.
-use Rattle.std.specs.Prelude.{◌≡◌, ◌≢◌, ℕ, List, [], ◌∷◌, ◌++◌, length, Option, Some, None, Ok, Err}
+use Rattle.std.specs.Prelude.{◌≡◌, ◌≢◌, ℕ, List, [], ◌∷◌, ◌++◌, length, take, Option, Some, None, Ok, Err}
 use Rattle.fw_outside.specs.Outside.{Takes, IsAtEnd}
 use Rattle.fw_command.specs.Pieces.{pieces, parted, AreFree}
 use Rattle.fw_command.specs.Form.{HasForm}
-use Rattle.fw_script.specs.Reading.{Reading, Answer, GivesFirst, Advances, IsHeld, unread}
+use Rattle.fw_script.specs.Passing.{Passes}
+use Rattle.fw_script.specs.Reader.{HoldsLine, PassesOver}
+use Rattle.fw_script.specs.Reading.{Reading, Answer, GivesFirst, Advances, TakesMore, IsHeld, behind, at_stage, with_taken, unread}
 use Rattle.fw_script.specs.Script.{Refusal, IsScript, Tells, FitsLimit}
 use Rattle.fw_script.specs.Leading.{HasRead, BeginsWith, LinesSay, IsReadOf}
 use Rattle.fw_command.specs.declared.command.Command.{Command}
 use Rattle.fw_command.specs.declared.command.Command.TheVariants.{End}
 use Rattle.fw_script.specs.declared.ScriptFault.{ScriptFault}
-use Rattle.fw_script.specs.declared.ScriptFault.TheVariants.{ReadFault}
+use Rattle.fw_script.specs.declared.ScriptFault.TheVariants.{BadLine, ReadFault}
+use Rattle.fw_script.specs.declared.reader.passing.Said.TheVariants.{Nothing, Command as ACommand, Refused}
+use Rattle.fw_script.specs.declared.stage.Stage.TheVariants.{Failed}
 
 -- the pieces of bytes are what stands between their separators
 abbrev pub PiecesPartTheBytes : Type 0
@@ -77,3 +81,26 @@ BeginningIsFirst = (script : List ℕ) (commands ds : List Command) (r : Option 
 abbrev pub FirstIsBeginning : Type 0
 FirstIsBeginning = (script : List ℕ) (commands ds : List Command) (c : Command) (r : Option Refusal)
     → IsScript script (commands ++ c ∷ ds) r → BeginsWith script commands
+
+-- bytes that are taken behind what was read leave it read
+abbrev pub TakingGoesOn : Type 0
+TakingGoesOn = (left mid left' : Option (List ℕ)) (given : List Command) (old new : Reading)
+    → HasRead left mid given old → TakesMore old new mid left' → HasRead left left' given new
+
+-- a line that says nothing by itself is passed over
+abbrev pub NothingIsPassedOver : Type 0
+NothingIsPassedOver = (p q : Reading) (n size : ℕ) (c : Command) → HoldsLine p n size → Passes p n size Nothing c q → PassesOver p q
+
+-- a command that is seen is what the lines give first, and they give it on that line
+abbrev pub CommandIsGiven : Type 0
+CommandIsGiven = (p q : Reading) (n size : ℕ) (c : Command) → HoldsLine p n size → Passes p n size ACommand c q → GivesFirst p (Ok (Some c)) (behind p (take n p.rest) size)
+
+-- a line that is seen to be refused is the first that is
+abbrev pub RefusalIsGiven : Type 0
+RefusalIsGiven = (p q : Reading) (n size : ℕ) (c : Command) → HoldsLine p n size → Passes p n size Refused c q
+    → GivesFirst p (Err BadLine) (at_stage (behind p (take n p.rest) size) Failed)
+
+-- what is held is what a call gives, unless the source fails, and it reads no further; more may be taken
+abbrev pub HeldIsGiven : Type 0
+HeldIsGiven = (p q new : Reading) (left left' : Option (List ℕ)) (r s : Answer) → GivesFirst p r q → r ≢ Err ReadFault
+    → Advances p new left left' s → s ≢ Ok None → s ≢ Err ReadFault → (s ≡ r) × (taken : List ℕ) × (new ≡ with_taken q taken new.whole)

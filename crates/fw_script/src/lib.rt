@@ -9,7 +9,7 @@ mod line;
 mod reader;
 mod stage;
 
-pub use laws::{calls_give_the_script, scripts_say_one_thing};
+pub use laws::{calls_give_the_script, lines_are_read_one_by_one, scripts_say_one_thing};
 pub use reader::{Said, ScriptReader};
 use thiserror::Error;
 

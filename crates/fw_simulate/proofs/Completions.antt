@@ -50,7 +50,7 @@ end_allowed s Guarded d = d.0
 end_allowed s NoRegister d = d.0
 end_allowed s Limit d = d.0
 
-other_than_end : (s : State) (c : Command) (f : RuleFault) → Decides s c (Err f) → c ≢ End
+pub other_than_end : (s : State) (c : Command) (f : RuleFault) → Decides s c (Err f) → c ≢ End
 other_than_end s c f d e = end_allowed s f (subst (λ (x : Command). Decides s x (Err f)) e d)
 
 -- nor does a command break a rule

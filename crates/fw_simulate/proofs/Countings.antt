@@ -16,7 +16,8 @@ use Rattle.fw_gen.specs.Summary.{Counts}
 use Rattle.fw_gen.specs.declared.tally.Tally.{Tally}
 use Rattle.fw_simulate.specs.Counts.{ReadCount, WriteCount}
 use Rattle.fw_simulate.specs.Ending.{PassesScriptLimit}
-use Rattle.fw_simulate.specs.Going.{Going, Carried, Ends}
+use Rattle.fw_simulate.specs.Course.{Course}
+use Rattle.fw_simulate.specs.Going.{Going, Carried, Ended, course_of}
 use Rattle.fw_simulate.specs.Scripts.{IsValid, IsNoRefusal}
 use Rattle.fw_simulate.specs.Sums.{in_memory, Counted, HasCounted, Sums, Summed, log_of}
 use Rattle.fw_simulate.specs.declared.ending.RunEnding.{RunEnding}
@@ -49,12 +50,12 @@ kept_elsewhere written held held' empty bytes h = ap (λ (l : List ℕ). written
 
 -- what the sink holds are the entries of one command
 pub given_alone : {D : DeskRelations} {script now held : List ℕ} {reader : Reading} {bus : Standing} {tally : Tally} (i : IsCounting D script now held reader bus tally) (now' held' : List ℕ) (reader' : Reading) (bus' : Standing)
-    → (d : Carried D (Some script) (Some now') (Some []) (Some (i.written ++ held')) (Some held) (Some held') i.going.log reader reader' bus') → held' ≡ log_bytes (latest_epoch 0 i.going.log) d.out
+    → (d : Carried D (Some script) (Some now) (Some now') (Some []) (Some (i.written ++ held')) (Some held) (Some held') (course_of i.going) reader reader' bus') → held' ≡ log_bytes (latest_epoch 0 i.going.log) d.out
 given_alone i now' held' reader' bus' d = d.wrote ∙ ap (λ (l : List ℕ). l ++ log_bytes (latest_epoch 0 i.going.log) d.out) i.empty
 
 -- and were counted
 pub counting_more : {D : DeskRelations} {script now held : List ℕ} {reader : Reading} {bus : Standing} {tally : Tally} (i : IsCounting D script now held reader bus tally) (now' held' empty : List ℕ) (reader' : Reading) (bus' : Standing) (tally' : Tally)
-    → (d : Carried D (Some script) (Some now') (Some []) (Some (i.written ++ held')) (Some held) (Some held') i.going.log reader reader' bus')
+    → (d : Carried D (Some script) (Some now) (Some now') (Some []) (Some (i.written ++ held')) (Some held) (Some held') (course_of i.going) reader reader' bus')
     → Counts (i.going.log ++ d.out) tally' → empty ≡ [] → IsCounting D script now' empty reader' bus' tally'
 counting_more i now' held' empty reader' bus' tally' d counts none = record {
   written = i.written ++ held';
@@ -68,20 +69,20 @@ within : {D : DeskRelations} (script : List ℕ) (left' held held' : Option (Lis
 within script left' held held' short d = let same : length script ≡ length d.refused.script = ap (λ (l : List ℕ). length l) d.refused.takes.told in omega (arith, short, d.long, same)
 
 -- how the counted run ends
-pub counted_ends : (D : DeskRelations) (script now written : List ℕ) (log : List Timed) (bus : Standing) (tally : Tally) (e : RunEnding) → length script ≤ 1048576 → Counts log tally → ReadCount 0 0 e
-    → Ends D (Some script) (Some now) (Some []) (Some written) log bus e → Counted D script tally (in_memory e)
-counted_ends D script now written log bus tally Done short counts read d = record {
-  was = record { left = now; written = written; ran = d.all };
-  counts = subst (λ (l : List Timed). Counts l tally) (sym d.same) counts;
+pub counted_ends : (D : DeskRelations) (script now now' written : List ℕ) (course : Course) (reader reader' : Reading) (bus : Standing) (tally : Tally) (e : RunEnding) → length script ≤ 1048576 → Counts course.log tally → ReadCount 0 0 e
+    → Ended D (Some script) (Some now) (Some now') (Some []) (Some written) course reader reader' bus e → Counted D script tally (in_memory e)
+counted_ends D script now now' written course reader reader' bus tally Done short counts read d = record {
+  was = record { left = now'; written = written; ran = d.runs };
+  counts = subst (λ (k : Course). Counts k.log tally) (sym d.same) counts;
 }
-counted_ends D script now written log bus tally (Refused r) short counts read d = record { left = Some now; written = written; refuses = d }
-counted_ends D script now written log bus tally (Stopped ReadFault) short counts read d = none read
+counted_ends D script now now' written course reader reader' bus tally (Refused r) short counts read d = record { left = Some now'; written = written; refuses = d.runs }
+counted_ends D script now now' written course reader reader' bus tally (Stopped ReadFault) short counts read d = none read
   where
     none : Rose 0 0 → ⊥
     none h = omega (arith, h)
-counted_ends D script now written log bus tally (Stopped WriteFault) short counts read d = tt
-counted_ends D script now written log bus tally (Stopped TooLong) short counts read d = within script (Some now) (Some []) (Some written) short d
-counted_ends D script now written log bus tally (Stopped NoMemory) short counts read d = tt
+counted_ends D script now now' written course reader reader' bus tally (Stopped WriteFault) short counts read d = tt
+counted_ends D script now now' written course reader reader' bus tally (Stopped TooLong) short counts read d = within script (Some now') (Some []) (Some written) short d.runs
+counted_ends D script now now' written course reader reader' bus tally (Stopped NoMemory) short counts read d = tt
 
 -- ---- the summary
 

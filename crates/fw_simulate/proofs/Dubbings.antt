@@ -4,7 +4,6 @@ use Rattle.std.specs.Prelude.{IsFalse}
 use Rattle.fw_outside.specs.declared.stop.Stop.TheVariants.{ReadFault, WriteFault, TooLong, NoMemory}
 use Rattle.fw_entry.specs.Log.{header_bytes}
 use Rattle.fw_entry.specs.declared.version.Version.TheVariants.{Two}
-use Rattle.fw_entry.specs.declared.entry.Timed.{Timed}
 use Rattle.fw_script.specs.Reading.{Reading, unread}
 use Rattle.fw_run.specs.Desks.{DeskRelations}
 use Rattle.fw_run.specs.State.{first_state}
@@ -12,12 +11,14 @@ use Rattle.fw_run.proofs.Reels.{run_recorded}
 use Rattle.fw_bus.specs.Buses.{StandsFor, Standing}
 use Rattle.fw_simulate.specs.Counts.{ReadCount, WriteCount}
 use Rattle.fw_simulate.specs.Dubs.{Dubs, HasRecorded, Recorded, WritesReel}
-use Rattle.fw_simulate.specs.Going.{Going, Ends}
+use Rattle.fw_simulate.specs.Course.{Course}
+use Rattle.fw_simulate.specs.Going.{Going, Ended}
 use Rattle.fw_simulate.specs.Scripts.{IsValid, IsNoRefusal}
 use Rattle.fw_simulate.specs.Sums.{in_memory}
 use Rattle.fw_simulate.specs.declared.ending.RunEnding.{RunEnding}
 use Rattle.fw_simulate.specs.declared.ending.RunEnding.TheVariants.{Done, Refused, Stopped}
 use Rattle.fw_simulate.proofs.Completions.{run_completes}
+use Rattle.fw_simulate.proofs.Faults.{ended_stands}
 use Rattle.fw_simulate.proofs.Goings.{going_first}
 
 -- The commands so far were carried out, as over a sink that keeps all their log.
@@ -34,18 +35,16 @@ recording_first left reader bus new stands fresh = record {
 }
 
 -- how it ends
-pub recorded_ends : (D : DeskRelations) (left left' : Option (List ℕ)) (written : List ℕ) (log : List Timed) (bus : Standing) (e : RunEnding)
-    → Ends D left left' (Some []) (Some written) log bus e → Recorded D left left' bus (in_memory e)
-recorded_ends D left left' written log bus Done d = record {
-  was = record { written = written; ran = d.all; recorded = run_recorded D _ _ _ _ d.all.logged.run d.all.logged.given };
-  stands = d.stands;
-  fresh = d.fresh;
-}
-recorded_ends D left left' written log bus (Refused r) d = (written, d)
-recorded_ends D left left' written log bus (Stopped ReadFault) d = (written, d)
-recorded_ends D left left' written log bus (Stopped WriteFault) d = tt
-recorded_ends D left left' written log bus (Stopped TooLong) d = (written, d)
-recorded_ends D left left' written log bus (Stopped NoMemory) d = tt
+pub recorded_ends : (D : DeskRelations) (left now now' : Option (List ℕ)) (written : List ℕ) (course : Course) (reader reader' : Reading) (bus : Standing) (e : RunEnding)
+    → Ended D left now now' (Some []) (Some written) course reader reader' bus e → Recorded D left now' bus (in_memory e)
+recorded_ends D left now now' written course reader reader' bus Done d =
+    let s = ended_stands Done d in
+    record { was = record { written = written; ran = d.runs; recorded = run_recorded D _ _ _ _ d.runs.logged.run d.runs.logged.given }; stands = s.0; fresh = s.1 }
+recorded_ends D left now now' written course reader reader' bus (Refused r) d = (written, d.runs)
+recorded_ends D left now now' written course reader reader' bus (Stopped ReadFault) d = (written, d.runs)
+recorded_ends D left now now' written course reader reader' bus (Stopped WriteFault) d = tt
+recorded_ends D left now now' written course reader reader' bus (Stopped TooLong) d = (written, d.runs)
+recorded_ends D left now now' written course reader reader' bus (Stopped NoMemory) d = tt
 
 pub reads_in_memory : (old new : ℕ) (e : RunEnding) → ReadCount old new e → ReadCount old new (in_memory e)
 reads_in_memory old new Done r = r

@@ -1,7 +1,10 @@
 pub mod Givings
 pub mod Takings
+pub mod Calls
 pub mod Goings
 pub mod Endings
+pub mod Faults
+pub mod Passings
 pub mod Steps
 pub mod Completions
 pub mod Countings

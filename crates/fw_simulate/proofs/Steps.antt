@@ -10,14 +10,13 @@ use Rattle.fw_entry.specs.declared.entry.Timed.{Timed}
 use Rattle.fw_script.specs.Reading.{Reading, Advances}
 use Rattle.fw_command.specs.declared.command.Command.{Command}
 use Rattle.fw_run.specs.State.{State, epoch_of}
-use Rattle.fw_run.specs.declared.rule.RuleFault.{RuleFault}
 use Rattle.fw_simulate.specs.declared.ending.RunEnding.{RunEnding}
 use Rattle.fw_run.specs.Actions.{Action}
 use Rattle.fw_run.specs.Desks.{DeskRelations}
 use Rattle.fw_bus.specs.Buses.{Standing, ContinuesRun, CutsRunOff, CutOff}
-use Rattle.fw_simulate.specs.Ending.{RefusesCommand}
-use Rattle.fw_simulate.specs.Going.{Going, Carried, Ends}
-use Rattle.fw_simulate.proofs.Goings.{going_more, going_shorter}
+use Rattle.fw_simulate.specs.Course.{Course}
+use Rattle.fw_simulate.specs.Going.{Going, Carried, Ended, course_of}
+use Rattle.fw_simulate.proofs.Goings.{going_more, call_shorter}
 
 -- a place grows by all that a sink grows by
 abbrev pub Mirrors : Option (List ℕ) → Option (List ℕ) → Option (List ℕ) → Option (List ℕ) → Type 0
@@ -31,13 +30,10 @@ grown_by_none (Some xs) None h = absurd h
 grown_by_none (Some xs) (Some ys) h = ap (λ (l : List ℕ). Some l) (h ∙ append-nil xs)
 
 -- how the run ends with a log at a place, where nothing more was written
-pub ends_there : {D : DeskRelations} {left mid held after : Option (List ℕ)} {old : Reading} {bus : Standing} (left' : Option (List ℕ)) {after' : Option (List ℕ)} (g : Going D left mid held after old bus) (e : RunEnding)
-    → after' ≡ after → Ends D left left' held after g.log bus e → Ends D left left' held after' g.log bus e
-ends_there {D} {left} {mid} {held} {bus = bus} left' g e same h = subst (λ (x : Option (List ℕ)). Ends D left left' held x g.log bus e) (sym same) h
-
-pub refused_there : {D : DeskRelations} (left left' held : Option (List ℕ)) {after after' : Option (List ℕ)} (rule : RuleFault) (line : ℕ) → after' ≡ after
-    → RefusesCommand D left left' held after rule line → RefusesCommand D left left' held after' rule line
-refused_there {D} left left' held rule line same h = subst (λ (x : Option (List ℕ)). RefusesCommand D left left' held x rule line) (sym same) h
+pub ends_there : {D : DeskRelations} {left now now' held after after' : Option (List ℕ)} {course : Course} {reader reader' : Reading} {bus : Standing} (e : RunEnding)
+    → after' ≡ after → Ended D left now now' held after course reader reader' bus e → Ended D left now now' held after' course reader reader' bus e
+ends_there {D} {left} {now} {now'} {held} {course = course} {reader = reader} {reader' = reader'} {bus = bus} e same h =
+    subst (λ (x : Option (List ℕ)). Ended D left now now' held x course reader reader' bus e) (sym same) h
 
 -- the same of another place
 pub goes_there : {D : DeskRelations} {commands : List Command} {actions : List Action} {log : List Timed} {s : State} {c : Command} {now : Standing} {written written' : Option (List ℕ)} (after after' : Option (List ℕ))
@@ -108,13 +104,21 @@ fit_behind log (t ∷ ts) h = All-cons TimedFits t ts (h log ts t refl) (fit_beh
 -- a command more was carried out
 pub carried : {D : DeskRelations} {left mid held after written written' : Option (List ℕ)} {old : Reading} {bus : Standing} (left' after' : Option (List ℕ)) (new : Reading) (bus' : Standing) (c : Command) (g : Going D left mid held after old bus)
     → Advances old new mid left' (Ok (Some c)) → (d : ContinuesRun D g.commands g.actions g.log g.state c bus' written written')
-    → Grows after after' (log_bytes (epoch_of g.state.account.latest) d.out) → Carried D left left' held after' written written' g.log old new bus'
+    → Grows after after' (log_bytes (epoch_of g.state.account.latest) d.out) → Carried D left mid left' held after' written written' (course_of g) old new bus'
 unfolding going_more goes_there
-carried {after = after} {written = written} {written' = written'} left' after' new bus' c g a d grew = record {
+carried {mid = mid} {after = after} {written = written} {written' = written'} {old = old} left' after' new bus' c g a d grew = record {
   going = going_more left' after' new bus' c g a (goes_there after after' d grew);
+  command = c;
+  reads = a;
+  order = d.order;
+  decided = d.decided;
+  more = d.more;
   out = d.out;
+  carries = d.carries;
+  commands = refl;
+  actions = refl;
   longer = refl;
   fit = fit_behind g.log d.out d.sound.fits;
   wrote = subst (λ (n : ℕ). Grows written written' (log_bytes n d.out)) (run_epoch g.commands g.actions g.log g.state g.run) d.grew;
-  shorter = going_shorter left' new c g a;
+  shorter = call_shorter mid left' old new c a;
 }

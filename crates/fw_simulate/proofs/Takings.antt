@@ -26,13 +26,13 @@ further_then p q z one two =
       rest = two.rest ∙ ap (λ (l : List ℕ). drop (z.before - q.before) l) one.rest ∙ drop-drop (z.before - q.before) (q.before - p.before) p.rest ∙ ap (λ (k : ℕ). drop k p.rest) size;
     }
 
-over : (p : Reading) (n : ℕ) (z : Reading) → IsFurther (behind p n) z → IsFurther p z
-over p n z h = further_then p (behind p n) z (by_size p (behind p n) n refl refl) h
+over : (p : Reading) (t : List ℕ) (n : ℕ) (z : Reading) → IsFurther (behind p t n) z → IsFurther p z
+over p t n z h = further_then p (behind p t n) z (by_size p (behind p t n) n refl refl) h
 
 gives_further : {p : Reading} {r : Answer} {q : Reading} → GivesFirst p r q → IsFurther p q
-gives_further {p = p} {q = q} (skipped t n a k g) = over p n q (gives_further g)
-gives_further {p = p} (command d t n a k i f o) = by_size p (behind p n) n refl refl
-gives_further {p = p} {q = q} (end_line t n a k i f g) = let h = gives_further g in over p n q (record { before = h.before; rest = h.rest })
+gives_further {p = p} {q = q} (skipped t n a k g) = over p t n q (gives_further g)
+gives_further {p = p} (command d t n a k i f o) = by_size p (behind p t n) n refl refl
+gives_further {p = p} {q = q} (end_line t n a k i f g) = let h = gives_further g in over p t n q (record { before = h.before; rest = h.rest })
 gives_further {p = p} {q = q} (bad_line t n a k w) = by_size p q n refl refl
 gives_further {p = p} {q = q} (long_line a) = by_size p q 0 (omega arith) refl
 gives_further {p = p} {q = q} (too_long a) = by_size p q 0 (omega arith) refl

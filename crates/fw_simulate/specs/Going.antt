@@ -1,11 +1,12 @@
 -- A run that is under way: what was read and carried out so far, and what a step more does.
-use Rattle.std.specs.Prelude.{◌≡◌, ℕ, ◌+◌, ◌-◌, ◌<◌, List, [], ◌∷◌, ◌++◌, true, Option, Some, None, IsFalse}
+use Rattle.std.specs.Prelude.{◌≡◌, ℕ, ◌+◌, ◌-◌, ◌<◌, List, [], ◌∷◌, ◌++◌, true, Option, Some, None, Ok, IsFalse}
 use Rattle.std.specs.List.{All}
 use Rattle.fw_outside.specs.Outside.{Takes, Grows, IsAtEnd}
 use Rattle.fw_entry.specs.Log.{header_bytes, latest_epoch, TimedFits}
 use Rattle.fw_entry.specs.declared.version.Version.TheVariants.{Two}
 use Rattle.fw_entry.specs.declared.entry.Timed.{Timed}
-use Rattle.fw_script.specs.Reading.{Reading}
+use Rattle.fw_script.specs.Reader.{PassesOver}
+use Rattle.fw_script.specs.Reading.{Reading, Advances}
 use Rattle.fw_script.specs.Script.{IsScript}
 use Rattle.fw_script.specs.Leading.{HasRead}
 use Rattle.fw_command.specs.declared.command.Command.{Command}
@@ -16,13 +17,16 @@ use Rattle.fw_run.specs.Giving.{log_bytes}
 use Rattle.fw_run.specs.Logs.{HasNoEnd}
 use Rattle.fw_run.specs.State.{State}
 use Rattle.fw_run.specs.Actions.{Action}
+use Rattle.fw_run.specs.Carrying.{Carries}
+use Rattle.fw_run.specs.Rules.{Decides}
+use Rattle.fw_run.specs.declared.order.Order.{Order}
 use Rattle.fw_run.specs.Desks.{DeskRelations}
 use Rattle.fw_run.specs.Given.{AreGiven}
 use Rattle.fw_run.specs.Runs.{Run}
 use Rattle.fw_bus.specs.Buses.{StandsFor, Standing}
-use Rattle.fw_simulate.specs.Ending.{Logged, Runs}
+use Rattle.fw_simulate.specs.Course.{Course, course_at, answer_at, StandsAt, IsShownBy}
+use Rattle.fw_simulate.specs.Ending.{Runs}
 use Rattle.fw_simulate.specs.declared.ending.RunEnding.{RunEnding}
-use Rattle.fw_simulate.specs.declared.ending.RunEnding.TheVariants as Endings
 
 -- The end was given, and these commands are the script's.
 pub record HasEnded (left now : Option (List ℕ)) (given : List Command) (reader : Reading) : Type 0 where
@@ -35,12 +39,18 @@ pub record HasEnded (left now : Option (List ℕ)) (given : List Command) (reade
   pub no_end : HasNoEnd earlier
   pub last : given ≡ earlier ++ End ∷ []
 
--- before a call of the reader
-abbrev pub IsReading : Stage → Option (List ℕ) → Option (List ℕ) → List Command → Reading → Type 0
-IsReading Commands left now given reader = HasRead left now given reader
-IsReading AfterEnd left now given reader = ⊥
-IsReading Done left now given reader = HasEnded left now given reader
-IsReading Failed left now given reader = ⊥
+-- behind the line of the last command that was carried out
+abbrev pub HasReadTo : Stage → Option (List ℕ) → Option (List ℕ) → List Command → Reading → Type 0
+HasReadTo Commands left now given reader = HasRead left now given reader
+HasReadTo AfterEnd left now given reader = ⊥
+HasReadTo Done left now given reader = HasEnded left now given reader
+HasReadTo Failed left now given reader = ⊥
+
+-- Before a call of the reader: it stands behind the line of the last command, or further on behind lines that say nothing, which were passed over one by one.
+pub record IsReading (left now : Option (List ℕ)) (given : List Command) (reader : Reading) : Type 0 where
+  pub known : Reading
+  pub read : HasReadTo known.stage left now given known
+  pub passed : PassesOver known reader
 
 -- how much a reader may still read: each command takes a byte of the script, and the end comes once
 abbrev pub open_of : Stage → ℕ
@@ -65,7 +75,7 @@ pub record Going (D : DeskRelations) (left now held after : Option (List ℕ)) (
   pub stands : StandsFor bus.machine state
   pub fresh : IsFalse bus.spent
   pub grew : Grows held after (header_bytes Two ++ log_bytes 0 log)
-  pub read : IsReading reader.stage left now commands reader
+  pub read : IsReading left now commands reader
 
 -- some run is under way
 pub record IsUnderWay (D : DeskRelations) (now : Option (List ℕ)) (reader : Reading) (bus : Standing) : Type 0 where
@@ -74,32 +84,42 @@ pub record IsUnderWay (D : DeskRelations) (now : Option (List ℕ)) (reader : Re
   pub after : Option (List ℕ)
   pub going : Going D left now held after reader bus
 
--- One command more was carried out: the run goes on with the entries that were written.
-pub record Carried (D : DeskRelations) (left now' held after' written written' : Option (List ℕ)) (log : List Timed) (reader reader' : Reading) (bus' : Standing) : Type 0 where
+-- what it has come to
+abbrev pub course_of : {D : DeskRelations} {left now held after : Option (List ℕ)} {reader : Reading} {bus : Standing} → Going D left now held after reader bus → Course
+course_of g = record { commands = g.commands; actions = g.actions; log = g.log; state = g.state }
+
+-- One command more was read and carried out: the run goes on with the entries that were written.
+pub record Carried (D : DeskRelations) (left now now' held after' written written' : Option (List ℕ)) (course : Course) (reader reader' : Reading) (bus' : Standing) : Type 0 where
   pub going : Going D left now' held after' reader' bus'
+  pub command : Command
+  pub reads : Advances reader reader' now now' (Ok (Some command))
+  pub order : Order
+  pub decided : Decides course.state command (Ok order)
+  pub more : List Action
   pub out : List Timed
-  pub longer : going.log ≡ log ++ out
+  pub carries : Carries course.state order more out going.state
+  pub commands : going.commands ≡ course.commands ++ command ∷ []
+  pub actions : going.actions ≡ course.actions ++ more
+  pub longer : going.log ≡ course.log ++ out
   pub fit : All TimedFits out
-  pub wrote : Grows written written' (log_bytes (latest_epoch 0 log) out)
+  pub wrote : Grows written written' (log_bytes (latest_epoch 0 course.log) out)
   pub shorter : to_read reader' < to_read reader
 
--- The script was read to its end: what was logged is the log so far, and the bus stands for the state of that run.
-pub record LoggedAll (D : DeskRelations) (left left' held held' : Option (List ℕ)) (log : List Timed) (bus : Standing) : Type 0 where
-  pub all : Logged D left left' held held'
-  pub same : all.logged.log ≡ log
-  pub stands : StandsFor bus.machine all.logged.state
-  pub fresh : IsFalse bus.spent
-
--- The run ended with this log so far.
-abbrev pub Ends : DeskRelations → Option (List ℕ) → Option (List ℕ) → Option (List ℕ) → Option (List ℕ) → List Timed → Standing → RunEnding → Type 0
-Ends D left left' held held' log bus Endings.Done = LoggedAll D left left' held held' log bus
-Ends D left left' held held' log bus ending = Runs D left left' held held' ending
+-- The run has ended with what it had come to, and the reader and the bus show it.
+pub record Ended (D : DeskRelations) (left now now' held held' : Option (List ℕ)) (course : Course) (reader reader' : Reading) (bus' : Standing) (ending : RunEnding) : Type 0 where
+  pub runs : Runs D left now' held held' ending
+  pub same : course_at D left now' held held' ending runs ≡ course
+  pub reads : Advances reader reader' now now' (answer_at D left now' held held' ending runs)
+  pub stands : StandsAt ending bus' course.state
+  pub shown : IsShownBy D left now' held held' ending runs reader'
 
 -- what a step did: a command more, or the end of the run
 abbrev pub Continues : {D : DeskRelations} {left now held after : Option (List ℕ)} {reader : Reading} {bus : Standing} → Going D left now held after reader bus
     → Option (List ℕ) → Option (List ℕ) → Option (List ℕ) → Option (List ℕ) → Reading → Standing → Option RunEnding → Type 0
-Continues {D} {left} {now} {held} {after} {reader} g now' written written' after' reader' bus' None = Carried D left now' held after' written written' g.log reader reader' bus'
-Continues {D} {left} {now} {held} g now' written written' after' reader' bus' (Some ending) = Ends D left now' held after' g.log bus' ending
+Continues {D} {left} {now} {held} {after} {reader} g now' written written' after' reader' bus' None =
+    Carried D left now now' held after' written written' (course_of g) reader reader' bus'
+Continues {D} {left} {now} {held} {after} {reader} g now' written written' after' reader' bus' (Some ending) =
+    Ended D left now now' held after' (course_of g) reader reader' bus' ending
 
 -- A step, wherever the log is kept: it wrote these bytes, and with them behind what a place held the run goes on or has ended there.
 abbrev pub StepsOn : {D : DeskRelations} {left now held after : Option (List ℕ)} {reader : Reading} {bus : Standing} → Going D left now held after reader bus

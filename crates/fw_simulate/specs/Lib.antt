@@ -1,8 +1,10 @@
 pub mod Scripts
 pub mod Ending
 pub mod Counts
+pub mod Course
 pub mod Going
 pub mod Sums
 pub mod Dubs
 pub mod Words
 pub mod OneRun
+pub mod Passing

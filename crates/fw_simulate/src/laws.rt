@@ -1,7 +1,8 @@
-//! A law of the words that run a script, as the contract of an empty function.
+//! Laws of the words that run a script, as the contracts of empty functions.
 
 ghost use Rattle.fw_run.specs.Desks.{IsFunction};
 ghost use Rattle.fw_simulate.specs.OneRun.{HasOneRun};
+ghost use Rattle.fw_simulate.specs.Passing.{LookingGoesOn, LookingReadsNothing, PassingGoesOn, PassingLeavesLess};
 
 use fw_tape::Desk;
 
@@ -12,6 +13,19 @@ pub fn scripts_have_one_log<F: Fn(u16, u32, u16) -> [u8; 480], H: Fn(u32, u8) ->
 )
     ensures { IsFunction (record { blocks = F.post desk.now.blocks; vendor = H.post desk.now.vendor })
         → HasOneRun (record { blocks = F.post desk.now.blocks; vendor = H.post desk.now.vendor }) }
+{
+    let _ = desk;
+}
+
+/// A run that reads its script line by line goes on: neither a look at the next line, nor passing over one that says nothing, changes what it
+/// has come to; and it comes to an end, since a line that is passed over leaves less to read.
+pub fn runs_go_on_line_by_line<F: Fn(u16, u32, u16) -> [u8; 480], H: Fn(u32, u8) -> u8>(
+    desk: &Desk<F, H>,
+)
+    ensures looking { LookingGoesOn (record { blocks = F.post desk.now.blocks; vendor = H.post desk.now.vendor }) }
+    ensures passing { PassingGoesOn (record { blocks = F.post desk.now.blocks; vendor = H.post desk.now.vendor }) }
+    ensures nothing { LookingReadsNothing }
+    ensures less { PassingLeavesLess }
 {
     let _ = desk;
 }

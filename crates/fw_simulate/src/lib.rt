@@ -13,8 +13,9 @@ mod step;
 mod word;
 
 pub use ending::{Refusal, Refused, RunEnding};
-pub use laws::scripts_have_one_log;
+pub use laws::{runs_go_on_line_by_line, scripts_have_one_log};
 pub use recording::dub;
 pub use script::run;
-pub use seed::run_seed;
+pub use seed::{in_memory, run_seed};
+pub use step::carry_next;
 pub use word::{ScriptWord, run_as};

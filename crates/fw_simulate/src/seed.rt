@@ -18,8 +18,8 @@ use fw_script::ScriptReader;
 use fw_tape::Desk;
 use std::alloc::Global;
 
-// How a run ends whose log goes nowhere but to memory: a write there fails only where memory is refused.
-pub(crate) fn in_memory(ending: RunEnding) -> RunEnding
+/// How a run ends whose log goes nowhere but to memory: a write there fails only if memory is refused.
+pub fn in_memory(ending: RunEnding) -> RunEnding
     ensures { result ≡ in_memory ending }
 {
     match ending {

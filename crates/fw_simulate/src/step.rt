@@ -3,6 +3,7 @@
 ghost use Rattle.std.specs.Prelude.{◌≡◌, List, ℕ};
 ghost use Rattle.std.specs.declared.option.Option.{Option as Maybe};
 ghost use Rattle.fw_tape.specs.Desks.{AnyBlock, AnyVendorByte};
+ghost use Rattle.fw_script.specs.Reading.{HoldsAnswer};
 ghost use Rattle.fw_simulate.specs.Ending.{ending_by};
 ghost use Rattle.fw_simulate.specs.Counts.{ReadsOn, WritesOn};
 ghost use Rattle.fw_simulate.specs.Going.{Going, IsUnderWay, StepsOn};
@@ -19,7 +20,7 @@ fn refused(line: u32, why: Refusal) -> RunEnding
     RunEnding::Refused(Refused { line, why })
 }
 
-/// How a run ends whose script has this fault at this line.
+// How a run ends whose script has this fault at this line.
 fn ending_of(fault: ScriptFault, line: u32) -> RunEnding
     ensures { result ≡ ending_by fault line }
 {
@@ -33,15 +34,13 @@ fn ending_of(fault: ScriptFault, line: u32) -> RunEnding
 }
 
 /// Reads the next command of a script, and carries it out; the blocks of tapes, and what a vendor makes of a byte, come from the desk.
-/// It answers how the run ends, or None where it goes on.
+/// It answers how the run ends, or None where it goes on. If a line is refused the reader has its text, and unless a write failed the bus stands
+/// for what was carried out before.
+///
+/// The reader may stand further on than behind the last command: a caller may look at lines, and pass over those that say nothing.
 ///
 /// A caller may keep elsewhere what the sink was given, or nowhere: the clause speaks of any place that grows by the bytes that were written.
-pub(crate) fn carry_next<
-    S: Source,
-    K: Sink,
-    F: Fn(u16, u32, u16) -> [u8; 480],
-    H: Fn(u32, u8) -> u8,
->(
+pub fn carry_next<S: Source, K: Sink, F: Fn(u16, u32, u16) -> [u8; 480], H: Fn(u32, u8) -> u8>(
     reader: &mut ScriptReader,
     bus: &mut Bus,
     source: &mut S,
@@ -54,6 +53,7 @@ pub(crate) fn carry_next<
     ensures goes { (left held after : Maybe (List ℕ))
         → (g : Going (record { blocks = F.post desk.now.blocks; vendor = H.post desk.now.vendor }) left (S.left source.old) held after reader.old bus.old)
         → StepsOn g (S.left source.new) (K.held sink.old) (K.held sink.new) reader.new bus.new result }
+    ensures asks { HoldsAnswer reader.old → source.new ≡ source.old }
     ensures reads { ReadsOn (S.faults source.old) (S.faults source.new) result }
     ensures writes { WritesOn (K.faults sink.old) (K.faults sink.new) result }
 {

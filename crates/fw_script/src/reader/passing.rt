@@ -25,12 +25,9 @@ pub enum Said {
 }
 
 impl ScriptReader {
-    /// Takes bytes until the next line is held whole, and answers its length, and how many bytes it takes with its line feed. None where no
-    /// line stands next: at the input's end, where the line or the script is too long, and behind the end. No line is read.
-    pub fn look<S: Source>(
-        &mut self,
-        source: &mut S,
-    ) -> Result<Option<(usize, usize)>, ScriptFault>
+    /// Takes bytes until the next line is held whole, and answers its length, and how many bytes it takes with its line feed. It answers None
+    /// if no line stands next: at the input's end, if the line or the script is too long, and after the end was given. No line is read.
+    pub fn look<S: Source>(&mut self, source: &mut S) -> Result<Option<(usize, usize)>, ScriptFault>
         requires { self.old.stage ≢ Stage.Failed }
         ensures takes { OnOk result (TakesMore self.old self.new (S.left source.old) (S.left source.new)) }
         ensures stage { OnOk result (self.new.stage ≡ self.old.stage) }
@@ -62,12 +59,14 @@ impl ScriptReader {
         self.front_text(count)
     }
 
-    /// Reads the next line, which has this length and takes so many bytes, where it says nothing by itself. A command is put into `out`.
+    /// Reads the next line, which has this length and takes so many bytes, if it says nothing by itself. A command is put into `out`.
     pub fn pass(&mut self, length: usize, size: usize, out: &mut Command) -> Said
         requires open { IsOpen self.old.stage }
         requires line { HoldsLine self.old length size }
         ensures { Passes self.old length size result out.new self.new }
     {
+        // What the invariant says of the bytes is known from here on.
+        let _ = &self.bytes;
         match meaning_of(self.front_text(length), self.takes_commands(), out) {
             Meaning::Skipped => {
                 self.advance(length, size);

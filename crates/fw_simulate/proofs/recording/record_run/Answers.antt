@@ -1,6 +1,7 @@
 use Rattle.std.proofs.Common.{ℕ, [], ◌++◌, Some, refl, subst, ◌∙◌, rules}
 use Rattle.fw_run.specs.Desks.{DeskRelations}
 use Rattle.fw_simulate.specs.Counts.{ReadCount}
+use Rattle.fw_simulate.specs.Going.{course_of}
 use Rattle.fw_simulate.proofs.Dubbings.{recording_first, recorded_ends, reads_in_memory}
 use Rattle.fw_simulate.proofs.recording.record_run.Given as given
 use Rattle.fw_simulate.proofs.recording.record_run.Goals as goal
@@ -32,7 +33,7 @@ returns-in-Some g c =
     let i = c.loop-ending.invariant.recording in
     let (bytes, wrote, there) = c.in-Some.ensures.goes (g.S.Source.left c.args.source.now) (Some []) (Some i.written) i.going in
     rw c.in_memory.ensures (record {
-      recorded = recorded_ends D (g.S.Source.left c.args.source.now) (g.S.Source.left c.carry_next.new.source) (i.written ++ bytes) i.going.log c.carry_next.new.bus c.in-Some.ending
+      recorded = recorded_ends D (g.S.Source.left c.args.source.now) (g.S.Source.left c.loop-ending.source) (g.S.Source.left c.carry_next.new.source) (i.written ++ bytes) (course_of i.going) c.loop-ending.reader c.carry_next.new.reader c.carry_next.new.bus c.in-Some.ending
           (there (Some (i.written ++ bytes)) refl);
       read_count = reads_in_memory _ _ c.in-Some.ending (subst (λ (n : ℕ). ReadCount n (g.S.Source.faults c.carry_next.new.source) c.in-Some.ending) c.loop-ending.invariant.unread c.in-Some.ensures.reads);
     })

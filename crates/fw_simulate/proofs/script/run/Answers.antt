@@ -1,6 +1,6 @@
 use Rattle.std.proofs.Common.{◌∙◌, refl, rules}
 use Rattle.fw_simulate.proofs.Goings.{going_first}
-use Rattle.fw_simulate.proofs.Endings.{part_header, ends_runs}
+use Rattle.fw_simulate.proofs.Faults.{part_header}
 use Rattle.fw_simulate.proofs.Completions.{run_completes}
 use Rattle.fw_simulate.proofs.script.run.Goals as goal
 
@@ -29,13 +29,11 @@ loop-ending-smaller g c =
 pub returns-in-Some-clause-runs : goal.returns-in-Some-clause-runs
 returns-in-Some-clause-runs g c =
     let (bytes, wrote, there) = c.in-Some.ensures.goes (g.S.Source.left c.args.source.now) (g.K.Sink.held c.args.sink.now) (g.K.Sink.held c.loop-ending.sink) c.loop-ending.invariant.going in
-    ends_runs (g.S.Source.left c.carry_next.new.source) (g.K.Sink.held c.carry_next.new.sink) c.loop-ending.invariant.going c.carry_next.new.bus c.in-Some.ending
-    (there (g.K.Sink.held c.carry_next.new.sink) wrote)
+    (there (g.K.Sink.held c.carry_next.new.sink) wrote).runs
 
 pub returns-in-Some-clause-complete : goal.returns-in-Some-clause-complete
 returns-in-Some-clause-complete g c script told valid =
     let (bytes, wrote, there) = c.in-Some.ensures.goes (g.S.Source.left c.args.source.now) (g.K.Sink.held c.args.sink.now) (g.K.Sink.held c.loop-ending.sink) c.loop-ending.invariant.going in
     run_completes _ script (g.S.Source.left c.args.source.now) (g.S.Source.left c.carry_next.new.source) (g.K.Sink.held c.args.sink.now) (g.K.Sink.held c.carry_next.new.sink) c.in-Some.ending
-    (ends_runs (g.S.Source.left c.carry_next.new.source) (g.K.Sink.held c.carry_next.new.sink) c.loop-ending.invariant.going c.carry_next.new.bus c.in-Some.ending
-    (there (g.K.Sink.held c.carry_next.new.sink) wrote))
+    (there (g.K.Sink.held c.carry_next.new.sink) wrote).runs
     told valid

@@ -1,6 +1,7 @@
 use Rattle.std.proofs.Common.{List, ℕ, [], ◌++◌, Some, ◌∙◌, rules}
 use Rattle.fw_entry.specs.Log.{latest_epoch}
 use Rattle.fw_run.specs.Desks.{DeskRelations}
+use Rattle.fw_simulate.specs.Going.{course_of}
 use Rattle.fw_simulate.proofs.Countings.{counting_first, kept_elsewhere, given_alone, counting_more, counted_ends}
 use Rattle.fw_simulate.proofs.seed.count_run.Given as given
 use Rattle.fw_simulate.proofs.seed.count_run.Goals as goal
@@ -35,5 +36,5 @@ returns-in-Some g c =
     let i = c.loop-ending.invariant in
     let held : List ℕ = c.carry_next.new.sink.held in
     let (bytes, wrote, there) = c.in-Some.ensures.goes (Some c.args.script.items) (Some []) (Some i.written) i.going in
-    rw c.in_memory.ensures (counted_ends D c.args.script.items c.carry_next.new.source (i.written ++ held) i.going.log c.carry_next.new.bus c.loop-ending.tally c.in-Some.ending c.requires.short i.counts c.in-Some.ensures.reads
+    rw c.in_memory.ensures (counted_ends D c.args.script.items c.loop-ending.source c.carry_next.new.source (i.written ++ held) (course_of i.going) c.loop-ending.reader c.carry_next.new.reader c.carry_next.new.bus c.loop-ending.tally c.in-Some.ending c.requires.short i.counts c.in-Some.ensures.reads
     (there (Some (i.written ++ held)) (kept_elsewhere i.written c.loop-ending.sink.held held i.empty bytes wrote)))
