@@ -10,7 +10,7 @@ use Rattle.fw_registers.specs.declared.place.Place.{Place}
 use Rattle.fw_registers.specs.declared.told.Told.TheVariants.{Word, Swap}
 use Rattle.fw_registers.specs.Places.{place_of}
 use Rattle.fw_registers.specs.Words.{told_text}
-use Rattle.fw_explain.specs.Requests.{asked_by}
+use Rattle.fw_requests.specs.Requests.{asked_by}
 use Rattle.fw_explain.specs.Lines.{rcode_text, function_text, at_text, asked_text, unasked_text, complete_text, made_text, swapped_text, found_text, old_text, locked_text}
 use Rattle.fw_account.specs.Packets.{is_swapped}
 use Rattle.fw_decode.specs.Swapped.{kept_text, brought, SwapsAreTold}

@@ -1,5 +1,6 @@
 -- Entries that are passed by their bodies: what is made of the entry that has the body.
-use Rattle.std.proofs.Common.{◌≡◌, ℕ, List, [], ◌∷◌, ◌++◌, ap, sym, subst, ◌∙◌}
+use Rattle.std.proofs.Common.{◌≡◌, ℕ, List, [], ◌∷◌, ◌++◌, refl, ap, sym, subst, ◌∙◌}
+use Rattle.std.proofs.lemmas.List.{append-nil}
 use Rattle.fw_entry.specs.declared.entry.Entry.{Entry}
 use Rattle.fw_entry.specs.declared.entry.Timed.{Timed}
 use Rattle.fw_log.specs.Passing.{PassesBody}
@@ -8,7 +9,10 @@ use Rattle.fw_log.specs.declared.passing.PassedBody.{PassedBody}
 use Rattle.fw_reading.specs.Readings.{Passes}
 use Rattle.fw_json.specs.Objects.{object}
 use Rattle.fw_explain.specs.Explained.{explained, Room}
-use Rattle.fw_explain.specs.Requests.{standing}
+use Rattle.fw_explain.specs.Lines.{line}
+use Rattle.fw_requests.specs.Requests.{standing, standing_after}
+use Rattle.fw_requests.specs.declared.asked.Asked.{Asked}
+use Rattle.fw_explain.proofs.StandingLaws.{standing_more}
 use Rattle.fw_watch.specs.Watched.{watched, Watches, Room as WatchRoom}
 use Rattle.fw_decode.specs.Watching.{watched_form}
 use Rattle.fw_decode.specs.Texts.{each_form, explained_form, all_of_one}
@@ -34,6 +38,15 @@ explained_passes old new entries bytes reader p x what same text requests =
       took = requests ∙ ap (λ (t : Timed). standing (entries ++ t ∷ [])) made;
       gathered = text ∙ ap (λ (t : Timed). old.text ++ explained entries (t ∷ [])) made;
     }
+
+-- by the line of the entry, and the requests that stand behind it
+pub told_passes : (old new : Room) (entries : List Timed) (bytes : List ℕ) (reader : State) (p : PassedBody) (x : PassesBody entries bytes reader p) → old.requests ≡ standing entries
+    → new.text ≡ old.text ++ line old.requests (record { cycle = p.cycle; what = x.entry.what }) → new.requests ≡ standing_after x.entry.what old.requests
+    → Passes explained_form.text (λ es. new.requests ≡ standing es) old.text new.text entries bytes reader
+told_passes old new entries bytes reader p x took text requests =
+    let t : Timed = record { cycle = p.cycle; what = x.entry.what } in
+    let told = text ∙ ap (λ (l : List Asked). old.text ++ line l t) took ∙ ap (λ (l : List ℕ). old.text ++ l) (sym (append-nil (line (standing entries) t))) in
+    explained_passes old new entries bytes reader p x x.entry.what refl told (requests ∙ ap (standing_after x.entry.what) took ∙ sym (standing_more entries t))
 
 pub watched_passes : (old new : WatchRoom) (entries : List Timed) (bytes : List ℕ) (reader : State) (p : PassedBody) (x : PassesBody entries bytes reader p) (what : Entry)
     → what ≡ x.entry.what → new.told.text ≡ old.told.text ++ watched entries (record { cycle = p.cycle; what = what } ∷ [])

@@ -8,7 +8,7 @@ use Rattle.fw_entry.specs.declared.entry.Timed.{Timed}
 use Rattle.fw_entry.proofs.LogLaws.{entries_append, latest_append}
 use Rattle.fw_explain.specs.Explained.{explained}
 use Rattle.fw_explain.specs.Lines.{line}
-use Rattle.fw_explain.specs.Requests.{standing}
+use Rattle.fw_requests.specs.Requests.{standing}
 use Rattle.fw_reading.specs.Readings.{Form, IsEach}
 
 -- no text

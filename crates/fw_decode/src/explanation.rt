@@ -1,6 +1,14 @@
 //! `explain`: each entry in words, as it ends.
 
-ghost use Rattle.std.specs.Prelude.{◌≡◌, ◌<◌, [], IfOk, None, take};
+ghost use Rattle.std.specs.Prelude.{◌≡◌, ◌<◌, ◌++◌, [], IfOk, None, OnOk, take};
+ghost use Rattle.fw_entry.specs.Log.{ResetFits, body};
+ghost use Rattle.fw_entry.specs.declared.entry.Entry.{Entry as AnEntry};
+ghost use Rattle.fw_entry.specs.declared.entry.Entry.TheVariants.{Reset};
+ghost use Rattle.fw_entry.specs.declared.entry.ResetEntry.{ResetEntry};
+ghost use Rattle.fw_explain.specs.Lines.{line};
+ghost use Rattle.fw_requests.specs.Requests.{standing_after};
+ghost use Rattle.fw_log.specs.Passing.{HasBody};
+ghost use Rattle.fw_text.specs.Resets.{IsResetBody};
 ghost use Rattle.fw_reading.specs.Endings.{ReadsLog};
 ghost use Rattle.fw_decode.specs.Texts.{explained_form, nothing};
 ghost use Rattle.fw_decode.specs.Silences.{never_refused};
@@ -8,9 +16,10 @@ ghost use Rattle.fw_decode.specs.Silences.{never_refused};
 use crate::LogRefusal;
 use crate::whole_entry::WholeRoom;
 use fw_explain::Explainer;
-use fw_log::{LogReader, Room, Timed};
+use fw_log::{LogReader, PlainBody, Room, Timed};
 use fw_outside::{Failed, Sink, Source};
 use fw_reading::{Closing, LogEnding, Reading, Stop, read_log};
+use fw_words::quadlet_at;
 use std::alloc::{AllocError, Global};
 
 // The lines of entries in words, and the requests that stand behind them.
@@ -32,10 +41,54 @@ impl Explanation {
     }
 }
 
+// Appends the line of a bus reset of this cycle, whose body these bytes are: mostly it tells what the one before told.
+fn put_reset(
+    explainer: &mut Explainer,
+    whole: &mut WholeRoom,
+    cycle: u64,
+    bytes: &[u8],
+) -> Result<(), AllocError>
+    requires { IsResetBody bytes.now }
+    ensures line { (r : ResetEntry) → ResetFits r → body (Reset r) ≡ bytes.now
+        → OnOk result (explainer.new.text ≡ explainer.old.text ++ line explainer.old.requests (record { cycle = cycle; what = Reset r })) }
+    ensures requests { OnOk result (explainer.new.requests ≡ []) }
+{
+    let epoch = quadlet_at(bytes, 0).0;
+    let later = &bytes[4..];
+    let is_told = explainer.put_reset_again(cycle, epoch, later)?;
+    if is_told {
+        return Ok(());
+    }
+    explainer.put_reset_from(cycle, whole.make_reset(bytes), later)
+}
+
+// Appends the line of an entry of this cycle that has this body.
+fn put_body<'a>(
+    explainer: &mut Explainer,
+    whole: &'a mut WholeRoom,
+    cycle: u64,
+    body: &PlainBody<'a>,
+) -> Result<(), AllocError>
+    requires { (e : AnEntry) × HasBody body.now e }
+    ensures line { (e : AnEntry) → HasBody body.now e → OnOk result (explainer.new.text ≡ explainer.old.text ++ line explainer.old.requests (record { cycle = cycle; what = e })) }
+    ensures requests { (e : AnEntry) → HasBody body.now e → OnOk result (explainer.new.requests ≡ standing_after e explainer.old.requests) }
+{
+    match body {
+        PlainBody::Reset(bytes) => put_reset(explainer, whole, cycle, bytes.as_slice()),
+        _ => {
+            let entry = Timed {
+                cycle,
+                what: whole.make(body),
+            };
+            explainer.put(&entry)
+        }
+    }
+}
+
 impl Reading for Explanation {
     type Refusal = LogRefusal;
 
-    ghost use Rattle.fw_explain.specs.Requests.{standing};
+    ghost use Rattle.fw_requests.specs.Requests.{standing};
     ghost use Rattle.fw_decode.specs.Silences.{none_unrefused};
     ghost use Rattle.fw_decode.specs.Texts.{explained_each};
 
@@ -66,11 +119,12 @@ impl Reading for Explanation {
         let Some(passed) = reader.pass_body(piece, room) else {
             return Ok(None);
         };
-        let entry = Timed {
-            cycle: passed.cycle,
-            what: self.whole.make(&passed.body),
-        };
-        self.explainer.put(&entry)?;
+        put_body(
+            &mut self.explainer,
+            &mut self.whole,
+            passed.cycle,
+            &passed.body,
+        )?;
         Ok(Some(passed.used))
     }
 

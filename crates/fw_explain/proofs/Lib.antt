@@ -1,3 +1,3 @@
 pub mod LoopLaws
 pub mod StandingLaws
-pub mod KeptLaws
+pub mod LatestLaws

@@ -1,8 +1,8 @@
 -- The requests that stand, and the lines, behind one entry more.
 use Rattle.std.proofs.Common.{◌≡◌, refl, ap, sym, ◌∙◌, ℕ, List, [], ◌∷◌, ◌++◌, append_assoc}
 use Rattle.fw_entry.specs.declared.entry.Timed.{Timed}
-use Rattle.fw_explain.specs.declared.asked.Asked.{Asked}
-use Rattle.fw_explain.specs.Requests.{standing_after, standing_from, standing}
+use Rattle.fw_requests.specs.declared.asked.Asked.{Asked}
+use Rattle.fw_requests.specs.Requests.{standing_after, standing_from, standing}
 use Rattle.fw_explain.specs.Lines.{line}
 use Rattle.fw_explain.specs.Explained.{explained}
 

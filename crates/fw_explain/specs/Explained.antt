@@ -1,8 +1,8 @@
 -- The lines of a log's entries in words: each line is a function of its entry and of the requests that stand before it.
 use Rattle.std.specs.Prelude.{ℕ, List, [], ◌∷◌, ◌++◌}
 use Rattle.fw_entry.specs.declared.entry.Timed.{Timed}
-use Rattle.fw_explain.specs.declared.asked.Asked.{Asked}
-use Rattle.fw_explain.specs.Requests.{standing}
+use Rattle.fw_requests.specs.declared.asked.Asked.{Asked}
+use Rattle.fw_requests.specs.Requests.{standing}
 use Rattle.fw_explain.specs.Lines.{line}
 
 -- the lines of entries behind others

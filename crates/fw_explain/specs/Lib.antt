@@ -1,4 +1,3 @@
-pub mod Requests
 pub mod Resets
 pub mod Lines
 pub mod Explained

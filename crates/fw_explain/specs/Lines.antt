@@ -31,9 +31,9 @@ use Rattle.fw_registers.specs.declared.told.Told.TheVariants.{Word as TheWord, S
 use Rattle.fw_registers.specs.Places.{place_of}
 use Rattle.fw_registers.specs.Words.{place_text, told_text, word_text}
 use Rattle.fw_frames.specs.Frames.{frame_text}
-use Rattle.fw_explain.specs.declared.asked.Answer.TheVariants.{Write as WriteResponse, ReadQuadlet as ReadQuadletResponse, ReadBlock as ReadBlockResponse, Lock as LockResponse}
-use Rattle.fw_explain.specs.declared.asked.Asked.{Asked}
-use Rattle.fw_explain.specs.Requests.{answered}
+use Rattle.fw_requests.specs.declared.asked.Answer.TheVariants.{Write as WriteResponse, ReadQuadlet as ReadQuadletResponse, ReadBlock as ReadBlockResponse, Lock as LockResponse}
+use Rattle.fw_requests.specs.declared.asked.Asked.{Asked}
+use Rattle.fw_requests.specs.Requests.{answered}
 use Rattle.fw_explain.specs.Resets.{reset_text}
 
 -- frames are written there

@@ -90,3 +90,7 @@ initiator_text initiator = codes ", initiator node " ++ decimal initiator
 -- a bus reset, with the self-ID packets
 unfoldable pub reset_text : ResetEntry → List ℕ
 reset_text r = epoch_text r.epoch ++ root_text r.root ++ resource_manager_text r.manager ++ initiator_text r.initiator ++ flat_map (id_text r.nodes) r.ids
+
+-- a bus reset after its number
+unfoldable pub later_text : ResetEntry → List ℕ
+later_text r = root_text r.root ++ resource_manager_text r.manager ++ initiator_text r.initiator ++ flat_map (id_text r.nodes) r.ids

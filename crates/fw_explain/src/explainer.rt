@@ -1,14 +1,18 @@
 //! The lines of a log, entry by entry.
 
-ghost use Rattle.std.specs.Prelude.{◌≡◌, ◌++◌, ◌∷◌, [], List, IfOk, OnOk, OnErr};
+ghost use Rattle.std.specs.Prelude.{◌≡◌, ◌++◌, ◌∷◌, [], List, false, IfOk, IsTrue, OnOk, OnErr, drop};
+ghost use Rattle.fw_entry.specs.Log.{ResetFits, body};
+ghost use Rattle.fw_entry.specs.declared.entry.Entry.TheVariants.{Reset};
+ghost use Rattle.fw_entry.specs.declared.entry.ResetEntry.{ResetEntry as AReset};
 ghost use Rattle.fw_entry.specs.declared.entry.Timed.{Timed};
-ghost use Rattle.fw_explain.specs.Requests.{standing, standing_after};
+ghost use Rattle.fw_requests.specs.Requests.{standing, standing_after};
 ghost use Rattle.fw_explain.specs.Lines.{line};
 ghost use Rattle.fw_explain.specs.Explained.{explained};
 
+use crate::latest::LatestReset;
 use crate::lines::Lines;
-use crate::requests::Requests;
-use fw_entry::Timed;
+use fw_entry::{ResetEntry, Timed};
+use fw_requests::Requests;
 use std::alloc::{AllocError, Global};
 use std::marker::Model;
 
@@ -18,6 +22,7 @@ use std::marker::Model;
 pub struct Explainer {
     lines: Lines,
     requests: Box<Requests>,
+    latest: LatestReset,
 }
 
 impl Model for Explainer {
@@ -36,6 +41,7 @@ impl Explainer {
         Ok(Explainer {
             lines: Lines::new(alloc)?,
             requests: Box::new(alloc, Requests::new())?,
+            latest: LatestReset::new(alloc)?,
         })
     }
 
@@ -68,6 +74,72 @@ impl Explainer {
             Ok(()) => {
                 self.requests.take(&t.what);
                 Ok(())
+            }
+            Err(error) => {
+                self.lines.clear();
+                Err(error)
+            }
+        }
+    }
+
+    // Keeps a bus reset as the latest, and appends its line.
+    fn put_kept(&mut self, cycle: u64, r: &ResetEntry, later: &[u8]) -> Result<(), AllocError>
+        requires fits { ResetFits r.now }
+        requires later { drop 4 (body (Reset r.now)) ≡ later.now }
+        ensures line { OnOk result (self.new.text ≡ self.old.text ++ line self.old.requests (record { cycle = cycle; what = Reset r.now })) }
+        ensures requests { self.new.requests ≡ self.old.requests }
+    {
+        self.latest.keep(r, later)?;
+        self.lines.put_latest(cycle, r.epoch, &self.latest)
+    }
+
+    /// Appends the line of a bus reset of this cycle, as `put` does, and keeps what it tells; the bytes are those of its body after
+    /// its epoch.
+    pub fn put_reset_from(
+        &mut self,
+        cycle: u64,
+        r: &ResetEntry,
+        later: &[u8],
+    ) -> Result<(), AllocError>
+        requires fits { ResetFits r.now }
+        requires later { drop 4 (body (Reset r.now)) ≡ later.now }
+        ensures line { OnOk result (self.new.text ≡ self.old.text ++ line self.old.requests (record { cycle = cycle; what = Reset r.now })) }
+        ensures requests { OnOk result (self.new.requests ≡ []) }
+        ensures emptied { OnErr result (self.new ≡ record self.old { text = [] }) }
+    {
+        match self.put_kept(cycle, r, later) {
+            Ok(()) => {
+                self.requests.clear();
+                Ok(())
+            }
+            Err(error) => {
+                self.lines.clear();
+                Err(error)
+            }
+        }
+    }
+
+    /// Appends the line of a bus reset of this cycle, as `put` does, if the bytes of its body after its epoch are those of the bus
+    /// reset that `put_reset_from` told last, and answers whether it did. No request stands then.
+    pub fn put_reset_again(
+        &mut self,
+        cycle: u64,
+        epoch: u32,
+        later: &[u8],
+    ) -> Result<bool, AllocError>
+        ensures line { IfOk result (λ known. IsTrue known → (r : AReset) × ResetFits r × (drop 4 (body (Reset r)) ≡ later.now)
+            × (self.new.text ≡ self.old.text ++ line self.old.requests (record { cycle = cycle; what = Reset (record r { epoch = epoch }) }))) }
+        ensures requests { IfOk result (λ known. IsTrue known → self.new.requests ≡ []) }
+        ensures other { IfOk result (λ known. known ≡ false → self.new ≡ self.old) }
+        ensures emptied { OnErr result (self.new ≡ record self.old { text = [] }) }
+    {
+        if !self.latest.is(later) {
+            return Ok(false);
+        }
+        match self.lines.put_latest(cycle, epoch, &self.latest) {
+            Ok(()) => {
+                self.requests.clear();
+                Ok(true)
             }
             Err(error) => {
                 self.lines.clear();

@@ -2,17 +2,15 @@
 //! answers, so the requests that stand are kept from entry to entry.
 #![tactic(auto)]
 
-mod asked;
 mod events;
 mod explainer;
+mod latest;
 mod line;
 mod lines;
 mod lock;
 mod packet;
 mod parts;
-mod requests;
 mod reset;
 mod response;
 
-pub use asked::{Answer, Asked};
 pub use explainer::Explainer;

@@ -5,10 +5,10 @@ ghost use Rattle.fw_explain.specs.Lines.{what_text};
 
 use crate::events::{put_event, put_iso, put_outcome, put_shown};
 use crate::packet::put_packet;
-use crate::requests::Requests;
 use crate::reset::put_reset;
 use fw_entry::Entry;
 use fw_names::{Pairs, put_word};
+use fw_requests::Requests;
 use std::alloc::AllocError;
 
 // Appends what an entry records, by the requests that stand before it.

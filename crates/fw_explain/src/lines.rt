@@ -2,11 +2,13 @@
 
 ghost use Rattle.std.specs.Prelude.{◌≡◌, ◌++◌, [], IfOk, OnOk, codes, decimal};
 ghost use Rattle.fw_explain.specs.Lines.{line};
+ghost use Rattle.fw_explain.specs.Resets.{epoch_text};
 
+use crate::latest::LatestReset;
 use crate::line::put_what;
-use crate::requests::Requests;
 use fw_entry::Timed;
 use fw_names::{CycleRow, Pairs, put_word};
+use fw_requests::Requests;
 use std::alloc::{AllocError, Global};
 use std::marker::Model;
 
@@ -67,6 +69,20 @@ impl Lines {
     {
         self.put_cycle(t.cycle)?;
         put_what(&mut self.text, &self.pairs, requests, &t.what)?;
+        put_word(&mut self.text, "\n")
+    }
+
+    // Appends the line of a bus reset that is as the latest, but for its epoch.
+    pub(crate) fn put_latest(
+        &mut self,
+        cycle: u64,
+        epoch: u32,
+        latest: &LatestReset,
+    ) -> Result<(), AllocError>
+        ensures { OnOk result (self.new ≡ self.old ++ (decimal cycle ++ codes " " ++ (epoch_text epoch ++ latest.now) ++ codes "\n")) }
+    {
+        self.put_cycle(cycle)?;
+        latest.put(&mut self.text, epoch)?;
         put_word(&mut self.text, "\n")
     }
 }

@@ -7,10 +7,10 @@ ghost use Rattle.fw_registers.specs.Words.{told_text};
 ghost use Rattle.fw_words.specs.Swaps.{quadlet_swap};
 ghost use Rattle.fw_explain.specs.Lines.{at_text, function_text, swap_text, lock_text, made_text, swapped_text, found_text, old_text};
 
-use crate::asked::Asked;
 use crate::parts::put_named_part;
 use fw_names::{Pairs, function_name, put_quadlet, put_quadlets, put_word};
 use fw_registers::{Place, Told, put_place, put_told};
+use fw_requests::Asked;
 use fw_words::{COMPARE_SWAP, Swap, quadlet_at};
 use std::alloc::AllocError;
 

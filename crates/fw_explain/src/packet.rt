@@ -1,17 +1,17 @@
 //! Asynchronous packets in words. Responses have a file of their own.
 
 ghost use Rattle.std.specs.Prelude.{◌≡◌, ◌++◌, OnOk};
+ghost use Rattle.fw_async.specs.Heads.{head_of};
 ghost use Rattle.fw_explain.specs.Lines.{takes_frames, written_quadlet, written_block, at_text, details, head_text, packet_text};
 
-use crate::asked::head_of;
 use crate::lock::{put_at, put_lock};
 use crate::parts::{put_block, put_part};
-use crate::requests::Requests;
 use crate::response::put_response;
 use fw_async::{Head, Packet};
 use fw_frames::put_frame;
 use fw_names::{Pairs, put_node, put_number, put_word, tcode_name};
 use fw_registers::{Place, Register, put_register_word};
+use fw_requests::Requests;
 use std::alloc::AllocError;
 
 // Frames are written there.
@@ -95,6 +95,24 @@ fn put_details(
             ..
         } => put_lock(text, pairs, Place::of(*offset), *function, bytes.as_slice()),
         response => put_response(text, pairs, requests, response),
+    }
+}
+
+// The head of a packet.
+fn head_of(p: &Packet) -> Head
+    ensures { result ≡ head_of p.now }
+{
+    match p {
+        Packet::WriteQuadlet { head, .. }
+        | Packet::WriteBlock { head, .. }
+        | Packet::WriteReply { head, .. }
+        | Packet::ReadQuadlet { head, .. }
+        | Packet::ReadBlock { head, .. }
+        | Packet::ReadQuadletReply { head, .. }
+        | Packet::ReadBlockReply { head, .. }
+        | Packet::CycleStart { head, .. }
+        | Packet::Lock { head, .. }
+        | Packet::LockReply { head, .. } => *head,
     }
 }
 

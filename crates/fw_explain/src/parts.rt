@@ -9,6 +9,14 @@ ghost use Rattle.fw_explain.specs.Resets.{flag_text};
 use fw_names::{Pairs, put_blank_hex, put_named, put_number, put_quadlet, put_word};
 use std::alloc::AllocError;
 
+// Appends a text that is at hand.
+#[inline(always)]
+pub(crate) fn put_text(text: &mut Vec<u8>, more: &[u8]) -> Result<(), AllocError>
+    ensures { OnOk result (text.new.items ≡ text.old.items ++ more.now) }
+{
+    text.extend_from_slice(more)
+}
+
 // Appends a word and a number.
 #[inline(always)]
 pub(crate) fn put_part(text: &mut Vec<u8>, word: &str, n: u64) -> Result<(), AllocError>

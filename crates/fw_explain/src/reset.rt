@@ -1,7 +1,7 @@
 //! A bus reset in words.
 
 ghost use Rattle.std.specs.Prelude.{◌≡◌, ◌++◌, ◌+◌, ◌*◌, ◌<◌, ◌≤◌, OnOk, Some, flat_map, length, slice_get};
-ghost use Rattle.fw_explain.specs.Resets.{port_text, ports_text, row_text, speed_text, link_text, contender_text, gap_text, self_text, number_text, first_id_text, id_text, manager_text, epoch_text, root_text, resource_manager_text, initiator_text, reset_text};
+ghost use Rattle.fw_explain.specs.Resets.{port_text, ports_text, row_text, speed_text, link_text, contender_text, gap_text, self_text, number_text, first_id_text, id_text, manager_text, epoch_text, root_text, resource_manager_text, initiator_text, later_text, reset_text};
 
 use crate::parts::{put_flag, put_named_part, put_part};
 use fw_entry::{NodeRow, ResetEntry};
@@ -174,7 +174,7 @@ fn put_manager(text: &mut Vec<u8>, manager: Option<u8>) -> Result<(), AllocError
 
 // Appends the number of a bus reset.
 #[tactic(auto, unfolding(crate::specs::Resets::epoch_text))]
-fn put_epoch(text: &mut Vec<u8>, epoch: u32) -> Result<(), AllocError>
+pub(crate) fn put_epoch(text: &mut Vec<u8>, epoch: u32) -> Result<(), AllocError>
     ensures { OnOk result (text.new.items ≡ text.old.items ++ epoch_text epoch) }
 {
     put_part(text, "bus reset epoch ", u64::from(epoch))
@@ -205,14 +205,21 @@ fn put_initiator(text: &mut Vec<u8>, initiator: u8) -> Result<(), AllocError>
     put_part(text, ", initiator node ", u64::from(initiator))
 }
 
-// Appends a bus reset.
-#[tactic(auto, unfolding(crate::specs::Resets::reset_text))]
-pub(crate) fn put_reset(text: &mut Vec<u8>, r: &ResetEntry) -> Result<(), AllocError>
-    ensures { OnOk result (text.new.items ≡ text.old.items ++ reset_text r.now) }
+// Appends a bus reset after its number.
+#[tactic(auto, unfolding(crate::specs::Resets::later_text))]
+pub(crate) fn put_later(text: &mut Vec<u8>, r: &ResetEntry) -> Result<(), AllocError>
+    ensures { OnOk result (text.new.items ≡ text.old.items ++ later_text r.now) }
 {
-    put_epoch(text, r.epoch)?;
     put_root(text, r.root)?;
     put_resource_manager(text, r.manager)?;
     put_initiator(text, r.initiator)?;
     put_ids(text, r.nodes.as_slice(), r.ids.as_slice())
+}
+
+// Appends a bus reset.
+pub(crate) fn put_reset(text: &mut Vec<u8>, r: &ResetEntry) -> Result<(), AllocError>
+    ensures { OnOk result (text.new.items ≡ text.old.items ++ reset_text r.now) }
+{
+    put_epoch(text, r.epoch)?;
+    put_later(text, r)
 }

@@ -4,13 +4,12 @@ ghost use Rattle.std.specs.Prelude.{◌≡◌, ◌++◌, [], OnOk};
 ghost use Rattle.std.specs.Option.{option_copied};
 ghost use Rattle.fw_explain.specs.Lines.{block_text, rcode_text, asked_text, unasked_text, response_text, read_text, locked_text, response_details};
 
-use crate::asked::{Answer, Asked};
 use crate::lock::{put_at, put_function, put_old};
 use crate::parts::{put_block, put_named_part};
-use crate::requests::Requests;
 use fw_async::Packet;
 use fw_names::{Pairs, put_quadlet, put_word, rcode_name};
 use fw_registers::{Place, put_register_word};
+use fw_requests::{Answer, Asked, Requests};
 use std::alloc::AllocError;
 
 /// The response code of a response that is complete (IEEE 1394-1995, response codes).

@@ -1,3 +1,4 @@
 pub mod FillLaws
 pub mod LoopLaws
 pub mod DueLaws
+pub mod UsedLaws

@@ -4,3 +4,4 @@ pub mod States
 pub mod Judging
 pub mod Swapped
 pub mod Heard
+pub mod Used

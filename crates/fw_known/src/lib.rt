@@ -11,6 +11,7 @@ mod second;
 mod standing;
 mod state;
 mod swap;
+mod used;
 
 pub use asked::{Answer, Asked, Asking};
 pub use channel::{Channel, Due, Noted};

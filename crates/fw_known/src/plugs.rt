@@ -6,6 +6,7 @@ ghost use Rattle.fw_remarks.specs.Registers.{plug_index};
 ghost use Rattle.fw_remarks.specs.Knowing.{nothing_known, after_reset, is_on};
 ghost use Rattle.fw_known.specs.Channels.{plug_at, with_plug, is_used, has_output, node_bit, owners_to, others_on};
 
+use crate::used::{none_used, one_fewer, one_more};
 use fw_remarks::{At, Known, Register};
 use std::alloc::{AllocError, Global};
 use std::marker::Model;
@@ -17,6 +18,8 @@ const PLUGS: usize = 3906;
 #[derive(Drop)]
 pub struct Plugs {
     rows: Vec<Known>,
+    // How many of them are known to be connected on each channel.
+    used: [u16; 64],
 }
 
 impl Model for Plugs {
@@ -25,7 +28,11 @@ impl Model for Plugs {
 
     ghost Value = { List Known };
 
+    ghost use Rattle.fw_known.specs.Used.{CountsUsed};
+
     ghost view = { λ p. p.rows.items };
+
+    ghost invariant = { λ p. CountsUsed p.used p.rows.items };
 }
 
 // Where the plugs of all nodes have this one.
@@ -46,6 +53,7 @@ impl Plugs {
     {
         Ok(Plugs {
             rows: vec![in alloc; Known::nothing(); PLUGS]?,
+            used: none_used(),
         })
     }
 
@@ -65,6 +73,8 @@ impl Plugs {
     {
         let place = index(at);
         if place < self.rows.len() {
+            one_fewer(&mut self.used, self.rows[place].channel());
+            one_more(&mut self.used, known.channel());
             self.rows[place] = known;
         }
     }
@@ -76,13 +86,18 @@ impl Plugs {
         for i in 0..self.rows.len() {
             self.rows[i] = Known::of_reset_plug();
         }
+        self.used = none_used();
     }
 
     /// A plug is known to be connected on this channel.
     pub fn is_used(&self, channel: u8) -> bool
         ensures { result ≡ is_used self.now channel }
     {
-        is_any_on(&self.rows, channel)
+        if channel < 64 {
+            self.used[usize::from(channel)] > 0
+        } else {
+            is_any_on(&self.rows, channel)
+        }
     }
 
     // A node has an output plug that is known to be connected on this channel.

@@ -1,10 +1,11 @@
-use Rattle.fw_decode.proofs.WholePassings.{explained_passes}
+use Rattle.fw_decode.proofs.WholePassings.{told_passes}
 use Rattle.fw_decode.proofs.explanation.ExplanationReading.pass.Goals as goal
 
-pub make-requires : goal.make-requires
-make-requires c = c.in-Some.ensures.body
+pub put_body-requires : goal.put_body-requires
+put_body-requires c = c.in-Some.ensures.body
 
 pub returns-clause-history : goal.returns-clause-history
 returns-clause-history c entries bytes h t =
     let x = c.in-Some.ensures.history entries bytes h in
-    explained_passes c.args.self.now.explainer c.put.new.self entries _ c.pass_body.new.self c.in-Some.passed x c.make.result (c.make.ensures x.entry.what x.made) (c.in_ok-put.ensures.explained entries t) (c.in_ok-put.ensures.behind entries t)
+    told_passes c.args.self.now.explainer c.put_body.new.explainer entries _ c.pass_body.new.self c.in-Some.passed x t
+    (c.in_ok-put_body.ensures.line x.entry.what x.made) (c.in_ok-put_body.ensures.requests x.entry.what x.made)

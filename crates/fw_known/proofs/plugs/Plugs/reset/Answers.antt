@@ -3,6 +3,7 @@ use Rattle.std.proofs.Math.ListN.{set}
 use Rattle.fw_remarks.specs.declared.known.Known.{Known}
 use Rattle.fw_remarks.specs.Knowing.{after_reset}
 use Rattle.fw_known.proofs.FillLaws.{Filled, filled_more, filled_all}
+use Rattle.fw_known.proofs.UsedLaws.{none_used, reset_counted}
 use Rattle.fw_known.proofs.plugs.Plugs.reset.Goals as goal
 
 pub loop-i-init : goal.loop-i-init
@@ -20,3 +21,10 @@ pub returns : goal.returns
 returns c =
     let whole : c.loop-i.i ≡ length c.args.self.now = omega (arith, c.loop-i-test.false, c.loop-i.auto.i-end, c.len-i-end.ensures, ap length c.self.view_is) in
     filled_all c.loop-i.self-inside.rows.items c.loop-i.i (length c.args.self.now) after_reset whole c.loop-i.invariant
+
+pub invariant_of-self : goal.invariant_of-self
+invariant_of-self c =
+    let total : ℕ = length c.args.self.now in
+    let whole : c.loop-i.i ≡ total = omega (arith, c.loop-i-test.false, c.loop-i.auto.i-end, c.len-i-end.ensures, ap length c.self.view_is) in
+    let rows = filled_all c.loop-i.self-inside.rows.items c.loop-i.i total after_reset whole c.loop-i.invariant in
+    none_used c.none_used-self-inside.result c.loop-i.self-inside.rows.items total after_reset c.none_used-self-inside.ensures rows (omega (arith, c.self.invariant.0, ap length c.self.view_is)) (reset_counted total)

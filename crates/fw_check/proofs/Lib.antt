@@ -1,0 +1,5 @@
+pub mod Joins
+pub mod ListLaws
+pub mod MisfitLaws
+pub mod ShownLaws
+pub mod SlipLaws

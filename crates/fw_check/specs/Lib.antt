@@ -1,0 +1,10 @@
+pub mod BadLines
+pub mod Forms
+pub mod Goods
+pub mod Laws
+pub mod Misfits
+pub mod Refusals
+pub mod Shown
+pub mod Slips
+pub mod Whys
+pub mod WordSlips

@@ -1,0 +1,9 @@
+//! The requests that stand after the entries of a log: those that no response has answered since the latest bus reset.
+#![tactic(auto)]
+
+mod asked;
+mod queue;
+mod requests;
+
+pub use asked::{Answer, Asked};
+pub use requests::Requests;
