@@ -1,6 +1,6 @@
 //! The entry that some bytes begin with.
 
-ghost use Rattle.std.specs.Prelude.{◌≡◌, ◌⊎◌, ◌≤◌, ◌<◌, ◌+◌, ◌^◌, length, slice_index, IfSome};
+ghost use Rattle.std.specs.Prelude.{◌≡◌, ◌⊎◌, ◌≤◌, ◌<◌, ◌+◌, ◌^◌, length, slice_index, IfSome, Ok, Some};
 ghost use Rattle.fw_log.specs.Stands.{position};
 ghost use Rattle.fw_log.specs.Reading.{fault_at, is_own_epoch, skip, need, IsComplete, IsPending};
 ghost use Rattle.fw_entry.specs.Log.{head_size};
@@ -13,6 +13,7 @@ use crate::read_body::entry_of;
 use crate::read_head::{head_fault, whole_end};
 use crate::stand::{EPOCH_AT, LENGTH_END, Stand, cycle_of, need, rest, skip, version_at};
 use crate::{BodyFault, Entry, LogFault, LogWhy, ResetEntry, Timed, Version};
+use fw_async::{is_plain_packet, whole_packet};
 use fw_entry::codes::kind;
 use fw_words::{Data, quadlet_at};
 
@@ -174,6 +175,35 @@ fn plain_head<'a>(stand: Stand, bytes: &'a [u8]) -> Option<PlainHead<'a>>
         },
         kind: entry[0],
         content: Data::new(content),
+    })
+}
+
+/// The packet that the bytes begin with, if it is whole and right at the first look, as nearly all are.
+#[inline(always)]
+pub(crate) fn plain_found<'a>(stand: Stand, bytes: &'a [u8]) -> Option<Found<'a>>
+    ensures { IfSome result (λ found. Finds (position stand) bytes.now (Ok (Some found))) }
+{
+    let PlainHead {
+        passed,
+        kind,
+        content,
+    } = plain_head(stand, bytes)?;
+    if kind != kind::ASYNC {
+        return None;
+    }
+    let packet = content.as_slice();
+    if !is_plain_packet(packet) {
+        return None;
+    }
+    let entry = Timed {
+        cycle: passed.cycle,
+        what: Entry::Async(whole_packet(packet)),
+    };
+    Some(Found {
+        end: passed.end,
+        version: passed.version,
+        body: content,
+        entry,
     })
 }
 

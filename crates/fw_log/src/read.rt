@@ -8,17 +8,17 @@ ghost use Rattle.fw_entry.specs.declared.version.Version.{Version as AVersion};
 ghost use Rattle.fw_entry.specs.declared.version.Version.TheVariants.{One};
 ghost use Rattle.fw_log.specs.Stands.{position};
 ghost use Rattle.fw_log.specs.Reading.{IsPending};
-ghost use Rattle.fw_log.specs.Reader.{State, total, with_bytes, version_read, known, Remembers, FindsIn};
+ghost use Rattle.fw_log.specs.Reader.{State, total, with_bytes, version_read, known, Remembers, FindsIn, Joins};
 ghost use Rattle.fw_log.specs.Reader.{EndsEntry, EndsNothing, ShowsFault, Feeds, Counts, body_given, finish_of};
 ghost use Rattle.fw_log.specs.History.{stand_after, HasRead, ReadsOn, Names, GivesNext, Finishes};
 ghost use Rattle.fw_log.specs.declared.LogFault.{LogFault};
 ghost use Rattle.fw_entry.specs.declared.entry.Timed.{Timed};
 
-use crate::first::{Found, at_hand, first_entry};
+use crate::first::{Found, at_hand, first_entry, plain_found};
 use crate::held::Held;
 use crate::stand::{Stand, skip};
 use crate::version::{remember, version_read};
-use crate::{Entry, LogFault, LogWhy, Room, Timed, Version};
+use crate::{Entry, LogFault, LogWhy, ResetEntry, Room, Timed, Version};
 use fw_entry::epoch_after;
 use fw_words::Data;
 use std::alloc::{AllocError, Global};
@@ -94,6 +94,7 @@ impl LogReader {
     }
 
     // Takes what was found in the bytes that were kept and, behind them, in the piece.
+    #[inline(always)]
     fn keep<'a>(
         &mut self,
         found: Result<Option<Found<'a>>, LogFault>,
@@ -140,8 +141,28 @@ impl LogReader {
         }
     }
 
+    // Takes an entry of another form than that of most packets, or a part of one, from the bytes at hand.
+    #[inline(never)]
+    fn feed_other<'a>(
+        &mut self,
+        bytes: &'a [u8],
+        piece: &[u8],
+        reset: &'a mut ResetEntry,
+    ) -> Result<LogFed<'a>, LogFault>
+        requires fresh { self.old.fault ≡ None }
+        requires pending { IsPending self.old.stand self.old.taken }
+        requires room { self.old.stand.start + length self.old.taken + length piece.now < 2 ^ 64 }
+        requires joins { Joins self.old.stand self.old.taken piece.now bytes.now }
+        ensures fed { Feeds self.old.stand self.old.taken piece.now result self.new }
+        ensures remembers { IfErr result (λ f. Remembers self.old.stand self.old.taken piece.now self.new) }
+    {
+        let found = first_entry(self.stand, bytes, reset);
+        self.keep(found, piece)
+    }
+
     // Takes bytes up to the end of one entry, where no fault was answered. An entry that lies whole in the piece is read
     // where it lies.
+    #[inline(always)]
     fn feed_fresh<'a>(
         &mut self,
         piece: &'a [u8],
@@ -154,8 +175,10 @@ impl LogReader {
         ensures remembers { IfErr result (λ f. Remembers self.old.stand self.old.taken piece.now self.new) }
     {
         let bytes = at_hand(self.stand, self.taken.as_slice(), piece, &mut room.bytes);
-        let found = first_entry(self.stand, bytes, &mut room.reset);
-        self.keep(found, piece)
+        match plain_found(self.stand, bytes) {
+            Some(found) => self.keep(Ok(Some(found)), piece),
+            None => self.feed_other(bytes, piece, &mut room.reset),
+        }
     }
 
     /// Takes bytes up to the end of one entry, or all of the piece where no entry ends in it. The parts of a log are
@@ -163,6 +186,7 @@ impl LogReader {
     /// cycle and its body, and a byte behind the end. A fault comes in the call in which the last byte of a refused part is taken;
     /// no log begins with the bytes up to there. After a fault each call answers that fault. The entry refers to the
     /// piece and to the room.
+    #[inline(always)]
     pub fn feed<'a>(&mut self, piece: &'a [u8], room: &'a mut Room) -> Result<LogFed<'a>, LogFault>
         requires { self.old.fault ≡ None → total self.old + length piece.now < 2 ^ 64 }
         ensures kept { IfSome self.old.fault (λ f. (result ≡ Err f) × (self.new ≡ self.old)) }
