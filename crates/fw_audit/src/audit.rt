@@ -26,7 +26,6 @@ pub struct Audit {
 }
 
 // The ledger takes an entry that is no shown word.
-#[inline(always)]
 fn take_other(ledger: &mut Ledger, e: &Entry) -> Result<Option<Answer>, AuditFault>
     requires fits { Fits e.now }
     requires other { (s : ShownEntry) → e.now ≡ Shown s → ⊥ }

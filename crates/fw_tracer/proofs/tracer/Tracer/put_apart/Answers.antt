@@ -1,0 +1,13 @@
+use Rattle.std.proofs.Common.{◌≡◌, ◌++◌, subst}
+use Rattle.fw_tracer.specs.Caused.{caused_text, lone_lines, response_lines, own_lines}
+use Rattle.fw_tracer.specs.Commands.{Traced, first_streams, last_lines}
+use Rattle.fw_tracer.proofs.LoopLaws.{stepped, caused_append}
+use Rattle.fw_tracer.proofs.tracer.Tracer.put_apart.Goals as goal
+
+pub returns-clause-text : goal.returns-clause-text
+returns-clause-text c =
+    let first = subst (λ (v : Traced). c.put_lone.new.text.items ≡ v.text ++ caused_text (lone_lines v.telling.held)) c.self.view_is c.in_ok-put_lone.ensures in
+    let second = subst
+    (λ (v : Traced). c.put_response_line.new.self.text ≡ c.put_lone.new.text.items ++ caused_text (response_lines v.telling c.args.cycle c.args.p.now c.args.kind))
+    c.self.view_is c.in_ok-put_response_line.ensures.text in
+    stepped _ _ _ _ _ _ first second (caused_append _ _)

@@ -1,0 +1,9 @@
+pub mod Names
+pub mod Jobs
+pub mod Requests
+pub mod Streams
+pub mod Told
+pub mod Caused
+pub mod Lines
+pub mod Commands
+pub mod Laws

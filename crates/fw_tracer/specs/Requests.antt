@@ -1,0 +1,31 @@
+-- The latest request of each node under each label, since the latest bus reset.
+use Rattle.std.specs.Prelude.{ℕ, ◌==◌, ◌&&◌, not, Bool, List, [], ◌∷◌, ◌++◌, Option, Some, None}
+use Rattle.std.specs.List.{filter, position}
+use Rattle.fw_async.specs.declared.packet.Head.{Head}
+use Rattle.fw_entry.specs.declared.entry.Entry.{Entry}
+use Rattle.fw_entry.specs.declared.entry.Entry.TheVariants.{Reset, Async, Iso, Event, Outcome, Shown, End}
+use Rattle.fw_requests.specs.declared.asked.Asked.{Asked}
+use Rattle.fw_requests.specs.Requests.{asked_by, asked_at}
+
+-- the request is this node's, under this label
+abbrev pub is_from : ℕ → ℕ → Asked → Bool
+is_from source label q = (q.source == source) && (q.label == label)
+
+-- the requests after one more, which takes the place of the one before it of its node and label
+unfoldable pub with_latest : Asked → List Asked → List Asked
+with_latest q list = filter (λ r. not (is_from q.source q.label r)) list ++ q ∷ []
+
+-- the requests after a packet, if it is one
+abbrev pub with_asked : Option Asked → List Asked → List Asked
+with_asked None list = list
+with_asked (Some q) list = with_latest q list
+
+-- the requests after an entry: a bus reset ends all
+abbrev pub requests_after : Entry → List Asked → List Asked
+requests_after (Reset r) list = []
+requests_after (Async p) list = with_asked (asked_by p) list
+requests_after e list = list
+
+-- the latest request of whom a response goes to, under its label
+unfoldable pub latest_asked : Head → List Asked → Option Asked
+latest_asked h list = asked_at list (position (is_from h.destination h.tl) list)
