@@ -56,7 +56,7 @@ def reset(it):
         packed(*[(node[key], 8) for key in ("device", "output_plugs", "input_plugs", "device_kind")])
         for node in nodes
     ]
-    return packed((it["generation"], 32), *ends) + b"".join(rows) + b"".join(map(self_id, it["self_ids"]))
+    return packed((it["epoch"], 32), *ends) + b"".join(rows) + b"".join(map(self_id, it["self_ids"]))
 
 
 def packet(it):
@@ -107,7 +107,7 @@ def log_of(lines, version):
     for line in lines:
         it = json.loads(line)
         body = BODIES[it["kind"]](it)
-        epoch = it["generation"] if it["kind"] == RESET else epoch
+        epoch = it["epoch"] if it["kind"] == RESET else epoch
         stamp = [(epoch, 32)] if version == 2 else []
         log.append(packed((it["kind"], 8), (0, 8), (len(body) // 4, 16), *stamp, (int(it["cycle"]), 64)) + body)
     return b"".join(log)

@@ -33,7 +33,7 @@ use Rattle.fw_json.proofs.PlainIds.{ids_plain, nodes_plain}
 
 reset : (r : ResetEntry) → ResetFits r → Plain (reset_fields r)
 reset r a =
-    (two (two (two (two (keyed (codes ",\"generation\":") refl (number r.epoch (omega (arith, a.epoch))))
+    (two (two (two (two (keyed (codes ",\"epoch\":") refl (number r.epoch (omega (arith, a.epoch))))
     (keyed (codes ",\"root\":") refl (number r.root (omega (arith, a.root, a.few)))))
     (keyed (codes ",\"manager\":") refl (perhaps r.manager (few_manager r.manager (length r.nodes) a.few a.manager))))
     (keyed (codes ",\"initiator\":") refl (number r.initiator (omega (arith, a.initiator, a.few)))))

@@ -22,7 +22,7 @@ few_manager (Some k) n few h = omega (arith, few, h)
 resets : (r q : ResetEntry) → ResetFits r → ResetFits q → Told (reset_fields r) (reset_fields q) (r ≡ q)
 resets r q a b =
     means
-    (next (next (next (next (comma (codes "\"generation\":") (number r.epoch q.epoch (omega (arith, a.epoch)) (omega (arith, b.epoch))))
+    (next (next (next (next (comma (codes "\"epoch\":") (number r.epoch q.epoch (omega (arith, a.epoch)) (omega (arith, b.epoch))))
     (comma (codes "\"root\":") (number r.root q.root (omega (arith, a.root, a.few)) (omega (arith, b.root, b.few)))))
     (comma (codes "\"manager\":") (perhaps r.manager q.manager (few_manager r.manager (length r.nodes) a.few a.manager) (few_manager q.manager (length q.nodes) b.few b.manager))))
     (comma (codes "\"initiator\":") (number r.initiator q.initiator (omega (arith, a.initiator, a.few)) (omega (arith, b.initiator, b.few)))))

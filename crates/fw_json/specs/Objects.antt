@@ -30,11 +30,11 @@ list_fields r = field (codes ",\"nodes\":") (array (node_objects 0 r.nodes)) ++ 
 -- a reset
 abbrev pub reset_fields : ResetEntry → List ℕ
 reset_fields r =
-    field (codes ",\"generation\":") (decimal r.epoch) ++ field (codes ",\"root\":") (decimal r.root)
+    field (codes ",\"epoch\":") (decimal r.epoch) ++ field (codes ",\"root\":") (decimal r.root)
     ++ field (codes ",\"manager\":") (number_value r.manager) ++ field (codes ",\"initiator\":") (decimal r.initiator)
     ++ list_fields r
 
--- a reset behind its generation
+-- a reset after its epoch
 abbrev pub later_fields : ResetEntry → List ℕ
 later_fields r =
     field (codes ",\"root\":") (decimal r.root) ++ field (codes ",\"manager\":") (number_value r.manager)

@@ -20,7 +20,7 @@ pub(crate) struct LatestReset {
     is_kept: bool,
     // The bytes of its body behind its epoch.
     bytes: Vec<u8>,
-    // What its object tells behind its generation.
+    // What its object tells after its epoch.
     text: Vec<u8>,
 }
 
@@ -72,9 +72,9 @@ impl LatestReset {
 
     /// Appends the fields of a bus reset that has this epoch and is else as the latest.
     pub(crate) fn put(&self, text: &mut Vec<u8>, epoch: u32) -> Result<(), AllocError>
-        ensures { OnOk result (text.new.items ≡ text.old.items ++ (field (codes ",\"generation\":") (decimal epoch) ++ self.now)) }
+        ensures { OnOk result (text.new.items ≡ text.old.items ++ (field (codes ",\"epoch\":") (decimal epoch) ++ self.now)) }
     {
-        put_count(text, r#","generation":"#, u64::from(epoch))?;
+        put_count(text, r#","epoch":"#, u64::from(epoch))?;
         put_text(text, &self.text)
     }
 }

@@ -98,7 +98,7 @@ impl Lines {
         epoch: u32,
         latest: &LatestReset,
     ) -> Result<(), AllocError>
-        ensures { OnOk result (self.new ≡ self.old ++ (front_fields cycle RESET ++ (field (codes ",\"generation\":") (decimal epoch) ++ latest.now) ++ codes "}\n")) }
+        ensures { OnOk result (self.new ≡ self.old ++ (front_fields cycle RESET ++ (field (codes ",\"epoch\":") (decimal epoch) ++ latest.now) ++ codes "}\n")) }
     {
         self.put_front(cycle, kind::RESET)?;
         latest.put(&mut self.text, epoch)?;

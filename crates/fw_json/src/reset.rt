@@ -51,7 +51,7 @@ fn put_lists(text: &mut Vec<u8>, r: &ResetEntry) -> Result<(), AllocError>
     put_ids(text, r.ids.as_slice())
 }
 
-// Appends the fields of a reset behind its generation.
+// Appends the fields of a reset after its epoch.
 pub(crate) fn put_later(text: &mut Vec<u8>, r: &ResetEntry) -> Result<(), AllocError>
     ensures { OnOk result (text.new.items ≡ text.old.items ++ later_fields r.now) }
 {
@@ -65,6 +65,6 @@ pub(crate) fn put_later(text: &mut Vec<u8>, r: &ResetEntry) -> Result<(), AllocE
 pub(crate) fn put_reset(text: &mut Vec<u8>, r: &ResetEntry) -> Result<(), AllocError>
     ensures { OnOk result (text.new.items ≡ text.old.items ++ reset_fields r.now) }
 {
-    put_count(text, r#","generation":"#, u64::from(r.epoch))?;
+    put_count(text, r#","epoch":"#, u64::from(r.epoch))?;
     put_later(text, r)
 }
