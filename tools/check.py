@@ -29,8 +29,9 @@ VERSION_AT = 7  # the byte of a log that has its version
 # What a log without its end is told with: `explain` tells its entries first.
 CUT_OFF = 4
 
-# What completes words and what the manual pages say of them; each word of the help stands in both.
+# What completes words, what the manual pages say of them, and what the launcher's help of a word says; each word of the help is in all three.
 COMPLETION = ROOT / "tools/completion.bash"
+WORDS = ROOT / "tools/launcher/words.txt"
 MANUAL = ROOT / "docs/man/fire.1"
 
 # The format of logs, as the repository and as the manual have it.
@@ -87,6 +88,18 @@ def check_help(program):
         word = form.split()[0]
         due(f"{MANUAL.name} has no {form}", re.search(rf'^\.B[RI]? "?{word}\b', manual, re.M))
         due(f"{COMPLETION.name} has no {form}", re.search(rf"\b{word}\b", completion))
+    check_words()
+
+
+def check_words():
+    """The launcher's help of a word is of each word, in its forms, and fits a terminal."""
+    text = WORDS.read_text()
+    told = dict(re.findall(r"^== (\w+)\n(.*?)(?=^== |\Z)", text, re.M | re.S))
+    for form in forms():
+        own = told.get(form.split()[0], "")
+        due(f"{WORDS.name} has no {form}", re.search(rf"^fire {form}\b", own, re.M))
+        due(f"{WORDS.name} says of {form} nothing of its statuses", re.search(r"^  0  ", own, re.M))
+    due(f"{WORDS.name} has lines of more than 80 columns", all(len(line) <= 80 for line in text.splitlines()))
 
 
 def check_example(program, script):
@@ -141,7 +154,7 @@ def workshop(program, room):
     for name in ("docs", "examples", "tools"):
         (room / name).symlink_to(ROOT / name)
     call = ROOT / "tools/launcher/call.sh"
-    (room / "fire").write_text(f"#!/bin/sh\nprogram='{program}'\n. '{call}'\ncall \"$@\"\n")
+    (room / "fire").write_text(f"#!/bin/sh\nprogram='{program}' words='{WORDS}'\n. '{call}'\nhelp_of \"$@\"\ncall \"$@\"\n")
     (room / "fire").chmod(0o755)
 
 

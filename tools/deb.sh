@@ -24,6 +24,7 @@ files() {
     cat <<'LIST'
 dist/fire usr/lib/fire/fire 755
 tools/launcher/call.sh usr/lib/fire/call.sh 644
+tools/launcher/words.txt usr/lib/fire/words.txt 644
 tools/launcher/installed.sh usr/bin/fire 755
 docs/man/fire.1 usr/share/man/man1/fire.1 644
 docs/man/fire-log.5 usr/share/man/man5/fire-log.5 644

@@ -1,6 +1,7 @@
 # shellcheck shell=sh disable=SC2154
 # What a call has beside the program's own words: a file's name as one word more is that file as input, and a terminal is told what is
-# amiss. $program is the program. This file is read by ./fire and by the launcher that is installed.
+# amiss; and each word has its own help. $program is the program, $words the file that says what each word does. This file is read by ./fire
+# and by the launcher that is installed.
 
 note() {
     echo "fire: $*" >&2
@@ -11,11 +12,32 @@ usage() {
     exit 2
 }
 
+# Whether it is a word that has help of its own.
+is_word() {
+    grep -qxF -e "== $1" "$words"
+}
+
+# `help WORD`, and `WORD --help` or `-h`: what that word reads and writes, and how it ends. It needs no program.
+help_of() {
+    case $#:${1-}:${2-} in
+    2:help:*) asked=$2 ;;
+    2:*:--help | 2:*:-h) asked=$1 ;;
+    *) return ;;
+    esac
+    if ! is_word "$asked"; then
+        note "there is no word $asked; fire help lists them"
+        exit 2
+    fi
+    sed -n "/^== $asked\$/,/^== /{/^== /d;p;}" "$words" 2>/dev/null && exit 0
+    echo 'write fault' >&2
+    exit 6
+}
+
 # Sets $reads to what the words' form reads from standard input (nothing, if it reads none), and $length to how many words the form has.
 form_of() {
     reads='' length=1
     case $1 in
-    run | dub) reads=script ;;
+    run | dub | check) reads=script ;;
     explain | decode | json | dv | audit | holders | watch | map) reads=log ;;
     convert) case ${2-} in 1 | 2) reads=log length=2 ;; esac ;;
     esac
@@ -47,6 +69,16 @@ must_not_be_a_terminal() {
     exit 2
 }
 
+# Calls the program with words that read no input, or may be none of its own: after `usage` a line says where to look.
+ask() {
+    "$program" "$@"
+    ended=$?
+    if [ $ended = 2 ]; then
+        if is_word "$1"; then note "fire help $1 has the forms of $1"; else note "there is no word $1; fire help lists them"; fi
+    fi
+    exit $ended
+}
+
 # Calls the program with these words, with the last as the input if it is one word more than their form has.
 call() {
     if [ $# = 0 ]; then
@@ -54,7 +86,7 @@ call() {
         exit 2
     fi
     form_of "$@"
-    [ -n "$reads" ] || exec "$program" "$@"
+    [ -n "$reads" ] || ask "$@"
     eval "last=\${$#}"
     case $(($# - length)) in
     0)
@@ -64,7 +96,7 @@ call() {
         ;;
     1)
         # (a word such as --help is no file's name, and the program refuses it)
-        case $last in -*) exec "$program" "$@" ;; esac
+        case $last in -*) ask "$@" ;; esac
         must_be_readable "$last"
         must_not_be_a_terminal "$1"
         case $length in
@@ -72,6 +104,6 @@ call() {
         2) exec "$program" "$1" "$2" <"$last" ;;
         esac
         ;;
-    *) exec "$program" "$@" ;;
+    *) ask "$@" ;;
     esac
 }

@@ -47,7 +47,7 @@ log=$here/examples/one_deck.log
 
 # Without the toolchain: only what this needs of the path.
 mkdir "$room/bin"
-for tool in sh cat b2sum readlink mkdir rm cp chmod rmdir awk find sort sed date wc nproc mktemp grep xargs cmp head tail dirname ls tar mv flock tee ln touch; do
+for tool in sh cat b2sum readlink mkdir rm cp chmod rmdir awk find sort sed date wc nproc mktemp grep xargs cmp head tail dirname ls tar mv flock tee ln touch paste; do
     at=$(command -v "$tool") && ln -s "$at" "$room/bin/$tool"
 done
 PATH=$room/bin
@@ -93,6 +93,7 @@ with_files() {
     is 'a file' 0 "$(status "$here/fire" run "$script")"
     cmp -s "$room/out" "$log"
     is 'a file: its log' 0 $?
+    is 'check of a file' 0 "$(status "$here/fire" check "$script")"
     cp "$log" "$room/x y.log"
     is 'a file with a blank' 0 "$(status "$here/fire" convert 2 "$room/x y.log")"
     cmp -s "$room/out" "$log"
@@ -106,9 +107,32 @@ with_files() {
     is 'two files' 2 "$(status "$here/fire" run "$script" "$script")"
     is 'an option' 2 "$(status "$here/fire" run --fast)"
     is 'another word' 2 "$(status "$here/fire" walk)"
+    is 'another word: notes' 'usage fire: there is no word walk; fire help lists them' "$(errors | paste -s -d ' ')"
+    is 'a wrong number' 2 "$(status "$here/fire" gen 01)"
+    is 'a wrong number: notes' 'usage fire: fire help gen has the forms of gen' "$(errors | paste -s -d ' ')"
     is 'no words: status' 2 "$(status "$here/fire")"
     cmp -s "$room/err" "$here/crates/fire_sessions/data/help.txt"
     is 'no words: help' 0 $?
+}
+
+own_help() {
+    is 'help of a word' 0 "$(status "$here/fire" help holders)"
+    is 'help of a word: it is of that word' 'fire holders x.log                  or: fire holders < x.log' "$(head -n 1 "$room/out")"
+    cp "$room/out" "$room/holders"
+    for words in 'holders --help' 'holders -h'; do
+        # shellcheck disable=SC2086
+        is "$words" 0 "$(status "$here/fire" $words)"
+        cmp -s "$room/out" "$room/holders"
+        is "$words: the same" 0 $?
+    done
+    is 'install --help installs nothing' 0 "$(status "$here/fire" install --help)"
+    is 'install --help: no folder' no "$([ -e "$here/--help" ] && echo yes || echo no)"
+    is 'help of no word' 2 "$(status "$here/fire" help walk)"
+    is 'help of no word: note' 'fire: there is no word walk; fire help lists them' "$(errors)"
+    is 'help of an expression' 2 "$(status "$here/fire" help 'r.n')"
+    is 'help of two words' 2 "$(status "$here/fire" help run dub)"
+    "$here/fire" help run >&- 2>"$room/err"
+    is 'help of a word to a closed output' 6 $?
 }
 
 with_outputs_that_fail() {
@@ -155,6 +179,7 @@ installs() {
     runs 'the installed program by a link' "$room/installed"
     is 'the installed program with a file' 0 "$(status "$to/bin/fire" explain "$to/share/doc/fire/examples/one_deck.log")"
     is 'its pages' 'fire.1 fire-log.5' "$(cd "$to/share/man" && echo "$(ls man1)" "$(ls man5)")"
+    is 'the help of a word, installed' 0 "$(status "$to/bin/fire" help map)"
     is 'install over it' 0 "$(status "$here/fire" install "$to")"
     is 'uninstall' 0 "$(status "$to/bin/fire" uninstall)"
     is 'nothing is left' '' "$(find "$to" -type f)"
@@ -179,6 +204,7 @@ whole_path=$(PATH=/usr/bin:/bin getconf PATH 2>/dev/null || echo /usr/bin:/bin)
 first_calls
 from_anywhere
 with_files
+own_help
 with_outputs_that_fail
 with_another_source
 installs

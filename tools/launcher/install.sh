@@ -6,6 +6,7 @@ installed() {
     cat <<'LIST'
 dist/fire lib/fire/fire 755
 tools/launcher/call.sh lib/fire/call.sh 644
+tools/launcher/words.txt lib/fire/words.txt 644
 tools/launcher/uninstall.sh lib/fire/uninstall.sh 644
 tools/launcher/installed.sh bin/fire 755
 docs/man/fire.1 share/man/man1/fire.1 644

@@ -7,8 +7,9 @@ case $self in
 *) folder=. ;;
 esac
 lib=$folder/../lib/fire
-program=$lib/fire
+program=$lib/fire words=$lib/words.txt
 . "$lib/call.sh"
+help_of "$@"
 if [ "${1-}" = uninstall ] && [ -f "$lib/uninstall.sh" ]; then
     [ $# -le 2 ] || usage "uninstall [PREFIX]"
     . "$lib/uninstall.sh"
