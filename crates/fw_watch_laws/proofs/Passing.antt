@@ -45,7 +45,7 @@ push_entries : (front rest : List Timed) (t : Timed) → entries_of (front ++ t 
 push_entries front rest t = map-append (λ (x : Timed). x.what) front (t ∷ rest)
 
 -- an entry passes
-passes : (entries front ts : List Timed) (t : Timed) (l : Account) → IsAudited (entries_of entries) → entries ≡ front ++ t ∷ ts → Fits t.what → IsLabelledIn t.what → HasPassed front l
+pub passes : (entries front ts : List Timed) (t : Timed) (l : Account) → IsAudited (entries_of entries) → entries ≡ front ++ t ∷ ts → Fits t.what → IsLabelledIn t.what → HasPassed front l
     → (m : Account) × Passes entries front ts t l m
 passes entries front ts t l a e f b p =
     let x = a (entries_of front) (entries_of ts) t.what (ap entries_of e ∙ push_entries front ts t) in
@@ -57,7 +57,7 @@ passes entries front ts t l a e f b p =
 pub known_push : (front : List Timed) (t : Timed) → known (front ++ t ∷ []) ≡ after (known front) t
 known_push front t = known_from_more no_state front (t ∷ [])
 
-passed : (entries front ts : List Timed) (t : Timed) (l m : Account) → Passes entries front ts t l m → HasPassed (front ++ t ∷ []) m
+pub passed : (entries front ts : List Timed) (t : Timed) (l m : Account) → Passes entries front ts t l m → HasPassed (front ++ t ∷ []) m
 passed entries front ts t l m p =
     let P : State → Type 0 = λ s. Agrees s m in
     record {
@@ -98,7 +98,7 @@ pub none_any : (q : Said → Bool) (xs : List Said) → IsNone q xs → list_any
 none_any q [] e = refl
 none_any q (x ∷ xs) e = none_first (q x) x (filter q xs) (list_any q xs) e (none_any q xs)
 
-none_passed : HasPassed [] no_account
+pub none_passed : HasPassed [] no_account
 none_passed = record { account = refl; sound = starts_sound; agrees = agrees_none }
 
 -- of a log
