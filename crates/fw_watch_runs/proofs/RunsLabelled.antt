@@ -104,7 +104,7 @@ bid_labelled s d manager c = bid_at_labelled (stage_in (epoch_at s) c) s d manag
 
 -- ---- actions
 
-step_labelled : (s t : State) (a : Action) (out : List Timed) → IsElsewhere a → Step s a out t → AreLabelled out
+pub step_labelled : (s t : State) (a : Action) (out : List Timed) → IsElsewhere a → Step s a out t → AreLabelled out
 step_labelled s t Withhold out e x = most s.clock.cycle (Some withheld) out tt x.1.2
 step_labelled s t (AddDevice name kind ports speed) out e x = declares_labelled s.declared.names _ t out x.1.4
 step_labelled s t (AddCable a b) out e x = joins_labelled (is_on s a.device) (is_on s b.device) a.device b.device _ t out x.1.2
@@ -172,7 +172,7 @@ run_orderly commands actions log s r n = orderly commands actions log s r (run_o
 pub whole_orderly : (commands : List Command) (actions : List Action) (log : List Timed) (s : State) → Run (commands ++ Commands.End ∷ []) actions log s → HasNoEnd commands → IsOrderly log
 whole_orderly commands actions log s r n = orderly (commands ++ Commands.End ∷ []) actions log s r (run_spells commands actions log s r n).opens.order
 
-no_bad_swap : (log : List Timed) → IsOrderly log → HasNoBadSwap log
+pub no_bad_swap : (log : List Timed) → IsOrderly log → HasNoBadSwap log
 no_bad_swap log o = record { manager = swap_at_manager log o; units = none_too_many log o; channels = none_several log o; plugs = none_more log o }
 
 pub run_swaps : (commands : List Command) (actions : List Action) (log : List Timed) (s : State) → Run commands actions log s → HasNoEnd commands → HasNoBadSwap log

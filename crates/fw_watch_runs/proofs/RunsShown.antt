@@ -1,0 +1,108 @@
+-- The log of a run shows the account's words: its entries, and all of it.
+use Rattle.std.proofs.Common.{◌≡◌, ◌≢◌, refl, ap, sym, ◌∙◌, subst, ℕ, ◌≤◌, List, [], ◌∷◌, ◌++◌, Option, Some, None, append_assoc, arith}
+use Rattle.std.specs.List.{All, count_by}
+use Rattle.std.proofs.lemmas.List.Elements.{All-cons, All-nil}
+use Rattle.std.proofs.lemmas.Option.{same_Some}
+use Rattle.fw_base.specs.declared.label.Label.TheVariants.{Procedure}
+use Rattle.fw_base.specs.Labels.{label_code}
+use Rattle.fw_async.specs.declared.packet.Head.{Head}
+use Rattle.fw_async.specs.declared.packet.Packet.TheVariants.{ReadQuadletReply}
+use Rattle.fw_csr.specs.declared.reply.Reply.{Reply}
+use Rattle.fw_entry.specs.declared.entry.Entry.TheVariants.{Async}
+use Rattle.fw_entry.specs.declared.entry.Timed.{Timed}
+use Rattle.fw_account.specs.Account.{Account}
+use Rattle.fw_account.specs.Words.{word_at}
+use Rattle.fw_known.specs.declared.asked.Asked.{Asked}
+use Rattle.fw_known.specs.declared.asked.Answer.{Answer as Given}
+use Rattle.fw_known.specs.Standing.{answer_of}
+use Rattle.fw_watch.specs.Watched.{known}
+use Rattle.fw_node.specs.Packets.{packet_of}
+use Rattle.fw_run.specs.declared.order.Access.{Access}
+use Rattle.fw_run.specs.declared.order.Access.TheVariants.{Read, Swap}
+use Rattle.fw_run.specs.declared.order.Transaction.{Transaction}
+use Rattle.fw_run.specs.Actions.{Action, Ask, Answer, Answers, Step, Steps}
+use Rattle.fw_run.specs.Giving.{at_cycle}
+use Rattle.fw_run.specs.Good.{IsGood}
+use Rattle.fw_run.specs.Spaces.{reply_from, access_request, target_node, transaction_head}
+use Rattle.fw_run.specs.State.{State, first_state}
+use Rattle.fw_run.proofs.Transactions.{response_is, access_response}
+use Rattle.fw_watch_laws.specs.Orderly.{IsApartOf, IsApartIn, IsOrderly, ShowsAccount, offset_of}
+use Rattle.fw_watch_runs.specs.Elsewhere.{AreElsewhere}
+use Rattle.fw_watch_runs.proofs.Awaited.{is_other, none_other}
+use Rattle.fw_watch_runs.proofs.Beside.{IsBesideIn}
+use Rattle.fw_watch_runs.proofs.BesideActions.{step_beside}
+use Rattle.fw_watch_runs.proofs.Few.{few_stand}
+use Rattle.fw_watch_runs.proofs.ScriptReads.{answer_shown}
+use Rattle.fw_watch_runs.proofs.RunsShow.{StandsIn, IsAwaiting, awaiting_keeps, awaiting_first, beside_apart, one_of, asked_apart, asked_none, packet_is}
+use Rattle.fw_watch_runs.proofs.Written.{IsWritten, at_front, at_entry}
+
+-- ---- an entry
+
+response_apart : (n : ℕ) (h : Head) (a : Access) (r : Reply) → IsApartOf (access_response n h a r)
+response_apart n h (Read offset) r = tt
+response_apart n h (Swap offset swap) r = tt
+
+-- it takes the place of no request of a procedure
+entry_apart : (s t : State) (a : Action) (e : Timed) → IsGood s → Step s a (e ∷ []) t → IsApartIn e.what
+entry_apart s t (Ask x) e g y =
+    let same : e ≡ at_cycle s.clock.cycle (Async (packet_of (transaction_head s x) (access_request x.access))) = one_of e _ y.1.3 in
+    subst (λ (z : Timed). IsApartIn z.what) (sym same) (asked_apart (transaction_head s x) x.access)
+entry_apart s t Answer e g y =
+    let x : Transaction = y.transaction in
+    let same : e ≡ at_cycle s.clock.cycle (Async y.response) = one_of e _ y.out_is in
+    subst (λ (z : Timed). IsApartIn z.what) (sym same)
+    (subst IsApartOf (response_is s x y.response y.answered) (response_apart (target_node s x) (transaction_head s x) x.access (reply_from s (target_node s x) (access_request x.access))))
+entry_apart s t a e g y = beside_apart s.account e.what (step_beside s t a (e ∷ []) g tt y).0
+
+-- an answer to a read with another label than that of procedures shows the account's word
+abbrev ShowsWord : List Timed → Account → Timed → Type 0
+ShowsWord front l e =
+    (h : Head) (value : ℕ) (a : Given) → e.what ≡ Async (ReadQuadletReply h 0 value) → h.tl ≢ label_code Procedure → answer_of (known front).standing (ReadQuadletReply h 0 value) ≡ Some a
+    → word_at l a.at.node (offset_of a.at.register) ≡ Some value
+
+beside_shows : (front : List Timed) (l : Account) (e : Timed) → IsBesideIn l e.what → ShowsWord front l e
+beside_shows front l e b h value a is n f = absurd (n (subst (IsBesideIn l) is b))
+
+asked_shows : (front : List Timed) (s t : State) (x : Transaction) (e : Timed) → Step s (Ask x) (e ∷ []) t → ShowsWord front s.account e
+asked_shows front s t x e y h value a is n f =
+    let same : e ≡ at_cycle s.clock.cycle (Async (packet_of (transaction_head s x) (access_request x.access))) = one_of e _ y.1.3 in
+    absurd (asked_none (transaction_head s x) h x.access 0 value (packet_is _ _ (sym (ap (λ (z : Timed). z.what) same) ∙ is)))
+
+answered_shows : (front : List Timed) (s t : State) (e : Timed) → IsGood s → Answers s (e ∷ []) t → IsAwaiting front s → ShowsWord front s.account e
+answered_shows front s t e g y w h value a is n f =
+    let x : Transaction = y.transaction in
+    let same : e ≡ at_cycle s.clock.cycle (Async y.response) = one_of e _ y.out_is in
+    let stand : StandsIn s (Some x) (known front).standing = subst (λ o. StandsIn s o (known front).standing) y.waits w in
+    let response = response_is s x y.response y.answered ∙ packet_is _ _ (sym (ap (λ (z : Timed). z.what) same) ∙ is) in
+    answer_shown s x x.access value h a (known front).standing g stand.1 refl stand.0.each n f response
+
+entry_shows : (front : List Timed) (s t : State) (a : Action) (e : Timed) → IsGood s → Step s a (e ∷ []) t → IsAwaiting front s → ShowsWord front s.account e
+entry_shows front s t (Ask x) e g y w = asked_shows front s t x e y
+entry_shows front s t Answer e g y w = answered_shows front s t e g y w
+entry_shows front s t a e g y w = beside_shows front s.account e (step_beside s t a (e ∷ []) g tt y).0
+
+-- ---- the log
+
+all_from : (P : Timed → Type 0) (front ts : List Timed) → ((before rest : List Timed) (t : Timed) → front ++ ts ≡ before ++ t ∷ rest → P t) → All P ts
+all_from P front [] f = All-nil P
+all_from P front (t ∷ ts) f = All-cons P t ts (f front ts t refl) (all_from P (front ++ t ∷ []) ts (λ b r u e. f b r u (sym (append_assoc front (t ∷ []) ts) ∙ e)))
+
+few_others : (o : Option Transaction) (s : State) (xs : List Asked) → StandsIn s o xs → count_by is_other xs ≤ 1
+few_others None s xs h = let z = none_other xs h in omega (arith, z)
+few_others (Some x) s xs h = h.0.few
+
+pub run_shows : (xs : List Action) (log : List Timed) (s : State) → AreElsewhere xs → Steps first_state xs log s → IsOrderly log → ShowsAccount log
+run_shows xs log s h f o = record {
+  reads = λ front rest t k value a l is account what label answer.
+      (let w : IsWritten IsAwaiting front t = at_entry IsAwaiting awaiting_keeps awaiting_first xs log front rest t s h f is in
+      let same : w.before.account ≡ l = same_Some w.before.account l (sym w.is.account ∙ account) in
+      let P : Account → Type 0 = λ z. word_at z a.at.node (offset_of a.at.register) ≡ Some value in
+      subst P same (entry_shows front w.before w.after w.action t w.is.good w.step w.is.holds k value a what label answer));
+  others = all_from (λ t. IsApartIn t.what) [] log
+      (λ front rest t is.
+      (let w : IsWritten IsAwaiting front t = at_entry IsAwaiting awaiting_keeps awaiting_first xs log front rest t s h f is in
+      entry_apart w.before w.after w.action t w.is.good w.step));
+  few = λ front rest is.
+      (let x = at_front IsAwaiting awaiting_keeps awaiting_first xs log front rest s h f is in
+      few_stand log front rest o is (few_others x.0.transaction x.0 (known front).standing x.1.holds));
+}
