@@ -40,7 +40,7 @@ FORMAT_MANUAL = ROOT / "docs/man/fire-log.5"
 
 # The documents whose commands are tried. One is shown as a line `    $ COMMAND`, with lines `    > ..` if it has more than one, and below
 # it what it writes to standard output; all of a document are run in one folder, in which `./fire` is the program as the launcher calls it.
-SHOWN = ["README.md", "docs/AUDIT.md", "docs/SCRIPT.md", "docs/RECIPES.md", "examples/README.md"]
+SHOWN = ["README.md", "docs/AUDIT.md", "docs/SCRIPT.md", "docs/RECIPES.md", "docs/CAPTURES.md", "examples/README.md"]
 MAY_BE_MISSING = ["jq"]  # tools that a machine need not have: commands that use one of these are then skipped, and that is said
 SHOWN_COMMAND = re.compile(r"^    \$ (.*\n(?:    > .*\n)*)((?:    (?!\$ ).*\n)*)", re.M)
 
