@@ -1,7 +1,7 @@
 -- The next line is one only, and stays so where more bytes are known.
 use Rattle.std.proofs.Common.{◌≡◌, ◌⊎◌, inl, inr, ℕ, zero, suc, [], ◌∷◌, ◌++◌, ◌+◌, ◌-◌, ◌<◌, ◌≤◌, List, length, slice_index, take, drop, Bool, true, arith, refl, ap, sym, ◌∙◌, subst, length-drop, length-append, append_assoc}
 use Rattle.std.proofs.lemmas.List.{append-nil, take-append-le, drop-append-le, get_or-take}
-use Rattle.std.proofs.Math.Seq.{get_or-append_seam}
+use Rattle.std.proofs.Math.Seq.{get_or-append_seam, take-append_seam, drop-append_seam}
 use Rattle.std.proofs.lemmas.Bool.{cases_lt}
 use Rattle.fw_command.specs.Pieces.{IsFree}
 use Rattle.fw_script.specs.Reader.{IsCut, IsNear, StandsNext}
@@ -173,6 +173,29 @@ line_near p t n near a = by_end a.ends
     by_end : EndsLine p t n → length (drop n p.rest) ≤ 4096
     by_end (inl e) = by_count e.0 e.1 (cases_lt 4096 (length (drop n p.rest)))
     by_end (inr e) = omega (arith, length-drop n p.rest, e.2, ap (λ (l : List ℕ). length l) e.0)
+
+-- behind a front of a line a piece more is held
+pub near_taken : (p : Reading) (piece : List ℕ) → IsCut p → length piece ≤ 4096 → IsNear (p.rest ++ piece)
+near_taken p piece c few =
+    let long = length-append p.rest piece in
+    record {
+      few = omega (arith, long, c.short, few);
+      free = subst (λ (l : List ℕ). IsFree 10 l) (sym (take-append-le (length (p.rest ++ piece) - 4096) p.rest piece (omega (arith, long, few))))
+          (free_front (length (p.rest ++ piece) - 4096) p.rest c.free);
+    }
+  where
+    free_front : (n : ℕ) (xs : List ℕ) → IsFree 10 xs → IsFree 10 (take n xs)
+    free_front zero xs free k h = absurd (omega arith)
+    free_front (suc n) [] free k h = absurd (omega arith)
+    free_front (suc n) (x ∷ xs) free zero h = free zero (omega arith)
+    free_front (suc n) (x ∷ xs) free (suc k) h = free_front n xs (λ j i. free (suc j) (omega arith)) k (omega arith)
+
+-- a text stands before a front and a piece
+pub kept_text : (text front piece : List ℕ) → take (length text) (text ++ front ++ piece) ≡ text
+kept_text text front piece = ap (λ (l : List ℕ). take (length text) l) (append_assoc text front piece) ∙ take-append_seam text (front ++ piece)
+
+pub kept_rest : (text front piece : List ℕ) → drop (length text) (text ++ front ++ piece) ≡ front ++ piece
+kept_rest text front piece = ap (λ (l : List ℕ). drop (length text) l) (append_assoc text front piece) ∙ drop-append_seam text (front ++ piece)
 
 -- what stands in front of the bytes that are held stands next
 pub stands_next : (p : Reading) (f : Front) → p.before ≤ 1048576 → IsFront p.rest (1048576 - p.before) p.whole f → StandsNext p f

@@ -3,6 +3,7 @@ use Rattle.std.proofs.Common.{◌≡◌, ℕ, [], ◌++◌, List, Bool, true, fa
 use Rattle.std.specs.Prelude.{OnErr}
 use Rattle.fw_outside.specs.Outside.{Takes, IsAtEnd}
 use Rattle.fw_outside.proofs.Parts.{Takes-Takes}
+use Rattle.fw_script.specs.Passing.{FailsThere}
 use Rattle.fw_script.specs.Reader.{PassesOver, ReadsOn, Steps, ReadsLine, Fills, IsCut, IsOpen, answer_of}
 use Rattle.fw_script.specs.Reader.PassesOver.{nowhere}
 use Rattle.fw_script.specs.Reading.{Reading, Answer, GivesFirst, TakesMore, Advances, with_taken, at_stage, HoldsAnswer}
@@ -119,6 +120,9 @@ pub take_failed : (p q new : Reading) (left mid left' : Option (List ℕ)) (f : 
 take_failed p q new left mid left' f o t h =
     advances_by p q new left left' (Err ReadFault) o (goes_taken p q left left' (takes_then p q q left mid left' t h.1))
     (gives_at q (at_stage q Failed) new (Err ReadFault) h.2 read_fault)
+
+pub fails_there : (p q new : Reading) (left mid left' : Option (List ℕ)) (f : ScriptFault) → TakesMore p q left mid → Fills q mid left' (Err f) new → FailsThere p new left left'
+fails_there p q new left mid left' f t h = record { known = q; takes = takes_then p q q left mid left' t h.1; now = h.2 }
 
 -- what holds anyhow
 pub on_err : {A B : Type 0} (r : Result A B) (P : Type 0) → P → OnErr r P

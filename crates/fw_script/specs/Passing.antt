@@ -5,10 +5,10 @@ use Rattle.fw_command.specs.declared.command.Command.{Command}
 use Rattle.fw_command.specs.declared.command.Command.TheVariants.{End}
 use Rattle.fw_script.specs.Line.{is_skipped}
 use Rattle.fw_script.specs.Reader.{HoldsLine}
-use Rattle.fw_script.specs.Reading.{Reading, IsLongLine, PassesLimit, IsAtEndOfInput, behind, at_stage}
+use Rattle.fw_script.specs.Reading.{Reading, IsLongLine, PassesLimit, IsAtEndOfInput, TakesMore, behind, at_stage}
 use Rattle.fw_script.specs.declared.reader.passing.Said.{Said}
 use Rattle.fw_script.specs.declared.reader.passing.Said.TheVariants.{Nothing, Command as ACommand, Refused}
-use Rattle.fw_script.specs.declared.stage.Stage.TheVariants.{Commands, AfterEnd, Done}
+use Rattle.fw_script.specs.declared.stage.Stage.TheVariants.{Commands, AfterEnd, Done, Failed}
 
 -- no line stands next: the end was given, the next line is too long or passes the script's limit, or no bytes are left
 abbrev pub HasNoLine : Reading → Type 0
@@ -18,6 +18,12 @@ HasNoLine p = (p.stage ≡ Done) ⊎ IsLongLine p ⊎ PassesLimit p ⊎ IsAtEndO
 abbrev pub HoldsNext : Reading → Option (ℕ × ℕ) → Type 0
 HoldsNext p None = HasNoLine p
 HoldsNext p (Some line) = HoldsLine p line.0 line.1
+
+-- the source failed, perhaps after bytes were taken, and no line was read
+pub record FailsThere (old new : Reading) (left left' : Option (List ℕ)) : Type 0 where
+  pub known : Reading
+  pub takes : TakesMore old known left left'
+  pub now : new ≡ at_stage known Failed
 
 -- an empty line or a comment was read
 pub record PassesSkipped (p q : Reading) (text : List ℕ) (size : ℕ) : Type 0 where

@@ -10,7 +10,6 @@ use crate::line::{Front, Meaning, meaning_of};
 use crate::stage::Stage;
 use fw_command::Command;
 use fw_outside::Source;
-use fw_words::Bytes;
 use std::alloc::{AllocError, Global};
 use std::marker::Model;
 
@@ -20,10 +19,11 @@ mod standing;
 
 use input::HELD_LIMIT;
 pub use passing::Said;
-use standing::TEXT_LIMIT;
+use standing::{Place, TEXT_LIMIT};
 
 /// Reads the commands of a script, line by line. It holds what it took from the source and did not yet read: the front of a
 /// line, of at most 256 bytes, and up to 4,096 bytes that were asked for since. It asks only where no whole line is held.
+/// The line last read or refused stays where it stands among the bytes, until others are asked for: then it comes before them.
 #[derive(Drop)]
 pub struct ScriptReader {
     bytes: Vec<u8>,
@@ -33,26 +33,27 @@ pub struct ScriptReader {
     line: u32,
     stage: Stage,
     /// The text of the line last read or refused, as far as its first 257 bytes.
-    text: Bytes<TEXT_LIMIT>,
+    text: Place,
     /// The number of the line `end`, 0 before it was read.
     end: u32,
 }
 
 impl Model for ScriptReader {
-    ghost use Rattle.std.specs.Prelude.{◌≤◌, ◌+◌, drop, vec_len, vec_capacity};
+    ghost use Rattle.std.specs.Prelude.{◌≤◌, ◌+◌, take, drop, vec_len, vec_capacity};
     ghost use Rattle.fw_script.specs.Reader.{IsOpen, IsNear};
     ghost use Rattle.fw_script.specs.Reading.{Reading};
 
     ghost Value = { Reading };
 
-    ghost view = { λ r. record { rest = drop r.at r.bytes.items; whole = r.whole; before = r.before; line = r.line; stage = r.stage; text = r.text; end = r.end } };
+    ghost view = { λ r. record { rest = drop r.at r.bytes.items; whole = r.whole; before = r.before; line = r.line; stage = r.stage; text = take r.text.length (drop r.text.at r.bytes.items); end = r.end } };
 
-    ghost invariant = { λ r. (r.at ≤ vec_len r.bytes) × (4352 ≤ vec_capacity r.bytes) × IsNear (drop r.at r.bytes.items)
-        × (r.before ≤ 1048576) × (r.line ≤ r.before + 1) × (IsOpen r.stage → r.line ≤ r.before) };
+    ghost invariant = { λ r. (r.at ≤ vec_len r.bytes) × (4609 ≤ vec_capacity r.bytes) × IsNear (drop r.at r.bytes.items)
+        × (r.before ≤ 1048576) × (r.line ≤ r.before + 1) × (IsOpen r.stage → r.line ≤ r.before)
+        × (r.text.at + r.text.length ≤ vec_len r.bytes) × (r.text.length ≤ 257) };
 }
 
 impl ScriptReader {
-    /// A reader that has read nothing. It makes the room for all that it will ever hold, 4,352 bytes.
+    /// A reader that has read nothing. It makes the room for all that it will ever hold, 4,609 bytes.
     pub fn new(alloc: Global) -> Result<ScriptReader, AllocError>
         ensures { IfOk result (λ r. r ≡ unread) }
     {
@@ -63,7 +64,7 @@ impl ScriptReader {
             whole: false,
             line: 0,
             stage: Stage::Commands,
-            text: Bytes::new(),
+            text: Place { at: 0, length: 0 },
             end: 0,
         })
     }
@@ -81,7 +82,7 @@ impl ScriptReader {
     pub fn text(&self) -> &[u8]
         ensures { result.now ≡ self.now.text }
     {
-        self.text.as_slice()
+        &self.bytes[self.text.at..self.text.at + self.text.length]
     }
 
     /// The number of the line `end`, and 0 before it was read.

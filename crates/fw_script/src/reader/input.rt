@@ -1,11 +1,12 @@
 //! The bytes of a script, taken from their source.
 
-ghost use Rattle.std.specs.Prelude.{◌≡◌, ◌≤◌, ◌+◌, ◌++◌, ◌==◌, length, OnOk, OnErr, Err, vec_len, vec_capacity};
+ghost use Rattle.std.specs.Prelude.{◌≡◌, ◌≤◌, ◌+◌, ◌++◌, ◌==◌, length, take, drop, OnOk, OnErr, Err, vec_len, vec_capacity};
 ghost use Rattle.fw_outside.specs.Outside.{Rose};
 ghost use Rattle.fw_script.specs.Reader.{IsOpen, IsCut, Fills};
 ghost use Rattle.fw_script.specs.Reading.{with_taken};
 
 use super::ScriptReader;
+use super::standing::{Place, TEXT_LIMIT};
 use crate::ScriptFault;
 use crate::line::LINE_LIMIT;
 use crate::stage::Stage;
@@ -15,8 +16,8 @@ use fw_words::Bytes;
 /// How many bytes are asked for at once.
 const PIECE: usize = 4096;
 
-/// How many bytes are held at most: the front of a line, and those that were asked for behind it.
-pub(super) const HELD_LIMIT: usize = LINE_LIMIT + PIECE;
+/// How many bytes are held at most: the text of the line last read, the front of the next, and those that were asked for behind it.
+pub(super) const HELD_LIMIT: usize = TEXT_LIMIT + LINE_LIMIT + PIECE;
 
 /// Appends bytes for which there is room.
 fn put(bytes: &mut Vec<u8>, more: &[u8])
@@ -30,19 +31,37 @@ fn put(bytes: &mut Vec<u8>, more: &[u8])
     }
 }
 
+/// Puts the text of the line last read, the front of the next and a piece in place of what was held.
+fn refill(bytes: &mut Vec<u8>, text: &[u8], front: &[u8], piece: &[u8])
+    requires room { length text.now + length front.now + length piece.now ≤ vec_capacity bytes.old }
+    ensures text { take (length text.now) bytes.new.items ≡ text.now }
+    ensures rest { drop (length text.now) bytes.new.items ≡ front.now ++ piece.now }
+    ensures len { vec_len bytes.new ≡ length text.now + length front.now + length piece.now }
+    ensures kept { vec_capacity bytes.old ≤ vec_capacity bytes.new }
+{
+    bytes.clear();
+    put(bytes, text);
+    put(bytes, front);
+    put(bytes, piece);
+}
+
 impl ScriptReader {
-    // Puts bytes behind the front of a line that is held. No bytes are the source's end.
+    // Puts bytes behind the text of the line last read and the front of the next. No bytes are the source's end.
     fn hold(&mut self, piece: &[u8])
         requires cut { IsCut self.old }
         requires few { length piece.now ≤ 4096 }
         ensures { self.new ≡ with_taken self.old piece.now (length piece.now == 0) }
     {
-        let mut front = Bytes::<256>::new();
+        let mut text = Bytes::<TEXT_LIMIT>::new();
+        text.append(self.text());
+        let mut front = Bytes::<LINE_LIMIT>::new();
         front.append(&self.bytes[self.at..]);
-        self.bytes.clear();
-        put(&mut self.bytes, front.as_slice());
-        put(&mut self.bytes, piece);
-        self.at = 0;
+        refill(&mut self.bytes, text.as_slice(), front.as_slice(), piece);
+        self.at = text.as_slice().len();
+        self.text = Place {
+            at: 0,
+            length: self.at,
+        };
         self.whole = piece.is_empty();
     }
 

@@ -2,7 +2,7 @@
 
 ghost use Rattle.std.specs.Prelude.{◌≡◌, ◌≢◌, ◌≤◌, length, take, true, IfOk, OnOk, OnErr, Err};
 ghost use Rattle.fw_outside.specs.Outside.{Rose};
-ghost use Rattle.fw_script.specs.Passing.{HoldsNext, Passes};
+ghost use Rattle.fw_script.specs.Passing.{FailsThere, HoldsNext, Passes};
 ghost use Rattle.fw_script.specs.Reader.{IsOpen, HoldsLine};
 ghost use Rattle.fw_script.specs.Reading.{Advances, IsHeld, TakesMore};
 
@@ -34,6 +34,7 @@ impl ScriptReader {
         ensures line { IfOk result (HoldsNext self.new) }
         ensures gives { OnErr result (Advances self.old self.new (S.left source.old) (S.left source.new) (Err ScriptFault.ReadFault)) }
         ensures held { OnErr result (IsHeld (Err ScriptFault.ReadFault) self.new) }
+        ensures failed { OnErr result (FailsThere self.old self.new (S.left source.old) (S.left source.new)) }
         ensures unasked { self.old.whole ≡ true → source.new ≡ source.old }
         ensures later { S.faults source.old ≤ S.faults source.new }
         ensures cause { OnErr result (Rose (S.faults source.old) (S.faults source.new)) }

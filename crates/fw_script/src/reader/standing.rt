@@ -7,18 +7,15 @@ ghost use Rattle.fw_script.specs.Reading.{at_stage, behind, end_at, refused};
 use super::ScriptReader;
 use crate::line::{Front, LINE_LIMIT, SCRIPT_LIMIT, front_of};
 use crate::stage::Stage;
-use fw_words::Bytes;
 
 /// How many bytes are kept of a line at most: those of one that is too long as far as that shows it.
 pub(super) const TEXT_LIMIT: usize = LINE_LIMIT + 1;
 
-/// Puts bytes in place of those that were kept.
-fn set(text: &mut Bytes<TEXT_LIMIT>, bytes: &[u8])
-    requires { length bytes.now ≤ 257 }
-    ensures { text.new ≡ bytes.now }
-{
-    text.clear();
-    text.append(bytes);
+/// Where a text stands among the bytes that are held.
+#[derive(Clone, Copy)]
+pub(super) struct Place {
+    pub(super) at: usize,
+    pub(super) length: usize,
 }
 
 impl ScriptReader {
@@ -79,7 +76,10 @@ impl ScriptReader {
         requires within { self.old.before + size ≤ 1048576 }
         ensures { self.new ≡ behind self.old (take count self.old.rest) size }
     {
-        set(&mut self.text, &self.bytes[self.at..self.at + count]);
+        self.text = Place {
+            at: self.at,
+            length: count,
+        };
         self.at += size;
         self.before += size;
         self.line += 1;
@@ -111,7 +111,10 @@ impl ScriptReader {
         requires short { count ≤ 257 }
         ensures { self.new ≡ refused self.old (take count self.old.rest) }
     {
-        set(&mut self.text, &self.bytes[self.at..self.at + count]);
+        self.text = Place {
+            at: self.at,
+            length: count,
+        };
         self.line += 1;
         self.stage = Stage::Failed;
     }
