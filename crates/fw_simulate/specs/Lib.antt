@@ -7,6 +7,5 @@ pub mod Sums
 pub mod Dubs
 pub mod Checks
 pub mod Telling
-pub mod Words
 pub mod OneRun
 pub mod Passing

@@ -11,7 +11,6 @@ mod recording;
 mod script;
 mod seed;
 mod step;
-mod word;
 
 pub use checking::check;
 pub use ending::{Refusal, Refused, RunEnding};
@@ -20,4 +19,3 @@ pub use recording::dub;
 pub use script::run;
 pub use seed::{in_memory, run_seed};
 pub use step::carry_next;
-pub use word::{ScriptWord, run_as};

@@ -3,7 +3,7 @@ use Rattle.std.proofs.Common.{◌≡◌, ℕ, Option, Some}
 use Rattle.fw_tool.specs.declared.words.Word.{Word}
 use Rattle.fw_tool.specs.declared.words.Word.TheVariants.{Script, Gen, Log, About as Say}
 use Rattle.fw_decode.specs.declared.LogWord.{LogWord}
-use Rattle.fw_simulate.specs.declared.word.ScriptWord.{ScriptWord}
+use Rattle.fw_tool.specs.declared.scripts.ScriptWord.{ScriptWord}
 use Rattle.fw_tool.specs.declared.about.About.{About}
 
 -- a word that is found is no other

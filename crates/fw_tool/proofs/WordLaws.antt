@@ -10,7 +10,7 @@ use Rattle.fw_decode.specs.Words.{Accepts}
 use Rattle.fw_decode.specs.Verdicts.{IsSoundLog}
 use Rattle.fw_decode.specs.declared.LogWord.{LogWord}
 use Rattle.fw_decode.specs.declared.LogWord.TheVariants.{Convert, Audit, Holders, Map, Graph}
-use Rattle.fw_simulate.specs.declared.word.ScriptWord.TheVariants.{Run, Dub, Check}
+use Rattle.fw_tool.specs.declared.scripts.ScriptWord.TheVariants.{Run, Dub, Check}
 use Rattle.fw_decode.specs.Maps.{HasTree}
 use Rattle.fw_decode.specs.Trees.{last_reset}
 use Rattle.fw_tool.specs.Laws.{HasItsReset}

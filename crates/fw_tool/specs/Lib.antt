@@ -1,5 +1,6 @@
 pub mod Faults
 pub mod Notes
+pub mod Scripts
 pub mod Words
 pub mod About
 pub mod Logs

@@ -13,9 +13,9 @@ use Rattle.fw_decode.specs.declared.refusal.LogRefusal.{LogRefusal}
 use Rattle.fw_decode.specs.declared.LogWord.{LogWord}
 use Rattle.fw_simulate.specs.Scripts.{IsValid}
 use Rattle.fw_simulate.specs.Sums.{Sums}
-use Rattle.fw_simulate.specs.Words.{RunsAs}
+use Rattle.fw_tool.specs.Scripts.{RunsAs}
 use Rattle.fw_simulate.specs.declared.ending.RunEnding.{RunEnding}
-use Rattle.fw_simulate.specs.declared.word.ScriptWord.{ScriptWord}
+use Rattle.fw_tool.specs.declared.scripts.ScriptWord.{ScriptWord}
 use Rattle.fw_tool.specs.About.{about_text, IsSaid}
 use Rattle.fw_tool.specs.Closing.{IsClosed}
 use Rattle.fw_tool.specs.Faults.{IsFirstFaults, IsToldByStatus}

@@ -6,10 +6,10 @@ ghost use Rattle.fw_tool.specs.declared.about.About.{About as AnAbout};
 ghost use Rattle.fw_tool.specs.declared.words.Word.{Word as AWord};
 
 use crate::about::About;
+use crate::scripts::ScriptWord;
 use crate::words::Word;
 use fw_decode::LogWord;
 use fw_log::Version;
-use fw_simulate::ScriptWord;
 use itoa::Buffer;
 
 /// The number of 32 bits that a word is, in decimal digits without a leading zero.

@@ -1,8 +1,8 @@
 //! The words of the command line.
 
 use crate::about::About;
+use crate::scripts::ScriptWord;
 use fw_decode::LogWord;
-use fw_simulate::ScriptWord;
 
 /// What the words of the command line say.
 #[derive(Clone, Copy)]

@@ -9,8 +9,8 @@ use Rattle.fw_tool.specs.About.{about_text, IsSaid}
 use Rattle.fw_tool.specs.Faults.{FirstFault}
 use Rattle.fw_tool.specs.declared.about.About.{About}
 use Rattle.fw_tool.specs.declared.ending.Ending.{Ending}
-use Rattle.fw_simulate.specs.Words.{RunsAs}
-use Rattle.fw_simulate.specs.declared.word.ScriptWord.{ScriptWord}
+use Rattle.fw_tool.specs.Scripts.{RunsAs}
+use Rattle.fw_tool.specs.declared.scripts.ScriptWord.{ScriptWord}
 use Rattle.fw_tool.specs.declared.words.Word.TheVariants.{Script, Gen, Log, About as Say}
 use Rattle.fw_tool.proofs.Completions.{run_completes, seed_completes, log_completes, first_of_run, first_of_seed, first_of_log, seed_same, done_or_unmet, done_unwritten}
 use Rattle.fw_tool.proofs.Doings.{script_not_gen, script_not_log, script_not_about, gen_not_script, gen_not_log, gen_not_about, log_not_script, log_not_gen, log_not_about, about_not_script, about_not_gen, about_not_log, one_script, one_seed, one_log, one_about}

@@ -2,7 +2,7 @@ use Rattle.std.proofs.Common.{◌≡◌, ℕ, List, Option, ap, refl, sym, subst
 use Rattle.fw_run.specs.Desks.{DeskRelations}
 use Rattle.fw_reading.specs.Endings.{Reads}
 use Rattle.fw_decode.specs.Words.{form_by, rules_by}
-use Rattle.fw_simulate.specs.Words.{RunsAs}
+use Rattle.fw_tool.specs.Scripts.{RunsAs}
 use Rattle.fw_simulate.specs.Sums.{Sums}
 use Rattle.fw_tool.specs.declared.ending.Ending.{Ending}
 use Rattle.fw_tool.specs.declared.ending.Ending.TheVariants.{Usage}

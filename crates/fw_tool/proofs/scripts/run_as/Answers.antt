@@ -1,9 +1,9 @@
 use Rattle.std.proofs.Common.{sym, subst}
 use Rattle.fw_run.specs.Desks.{DeskRelations}
-use Rattle.fw_simulate.specs.declared.word.ScriptWord.{ScriptWord}
-use Rattle.fw_simulate.specs.Words.{RunsAs}
-use Rattle.fw_simulate.proofs.word.run_as.Given as given
-use Rattle.fw_simulate.proofs.word.run_as.Goals as goal
+use Rattle.fw_tool.specs.declared.scripts.ScriptWord.{ScriptWord}
+use Rattle.fw_tool.specs.Scripts.{RunsAs}
+use Rattle.fw_tool.proofs.scripts.run_as.Given as given
+use Rattle.fw_tool.proofs.scripts.run_as.Goals as goal
 
 pub returns-in-Run-clause-runs : goal.returns-in-Run-clause-runs
 returns-in-Run-clause-runs g c =

@@ -1,12 +1,12 @@
 -- What the words say that run a script.
 use Rattle.std.specs.Prelude.{ℕ, List, Option}
 use Rattle.fw_run.specs.Desks.{DeskRelations}
-use Rattle.fw_simulate.specs.declared.ending.RunEnding.{RunEnding}
-use Rattle.fw_simulate.specs.declared.word.ScriptWord.{ScriptWord}
-use Rattle.fw_simulate.specs.declared.word.ScriptWord.TheVariants.{Run, Dub, Check}
-use Rattle.fw_simulate.specs.Ending.{Runs}
 use Rattle.fw_simulate.specs.Checks.{Checks}
 use Rattle.fw_simulate.specs.Dubs.{Dubs}
+use Rattle.fw_simulate.specs.Ending.{Runs}
+use Rattle.fw_simulate.specs.declared.ending.RunEnding.{RunEnding}
+use Rattle.fw_tool.specs.declared.scripts.ScriptWord.{ScriptWord}
+use Rattle.fw_tool.specs.declared.scripts.ScriptWord.TheVariants.{Run, Dub, Check}
 
 -- by the word: of the source before and after, of the sink before and after, and of the ending
 abbrev pub RunsAs : DeskRelations → ScriptWord → Option (List ℕ) → Option (List ℕ) → Option (List ℕ) → Option (List ℕ) → RunEnding → Type 0
