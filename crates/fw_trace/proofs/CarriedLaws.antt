@@ -1,5 +1,5 @@
 -- What a command caused, as a sink has told it that stands on what it stood on before.
-use Rattle.std.proofs.Common.{◌≡◌, refl, sym, ap, subst, ◌∙◌, ℕ, List, [], ◌∷◌, ◌++◌, Option, Some, None, append_assoc}
+use Rattle.std.proofs.Common.{◌≡◌, refl, sym, ap, subst, ◌∙◌, ℕ, List, [], ◌++◌, Option, Some, None}
 use Rattle.std.proofs.lemmas.List.{append_cancel_left}
 use Rattle.std.proofs.Math.Logic.{∥∥₁_elim}
 use Rattle.std.specs.Coded.{Coded-set, coded_ℕ, coded_list}
@@ -11,7 +11,6 @@ use Rattle.fw_script.specs.Reading.{Reading}
 use Rattle.fw_run.specs.Desks.{DeskRelations}
 use Rattle.fw_run.specs.Giving.{log_bytes}
 use Rattle.fw_bus.specs.Buses.{Standing}
-use Rattle.fw_simulate.specs.Course.{Course}
 use Rattle.fw_simulate.specs.Going.{Going, Carried, Continues, StepsOn, course_of}
 use Rattle.fw_simulate.specs.declared.ending.RunEnding.{RunEnding}
 use Rattle.fw_tracer.specs.Caused.{Telling, caused_text}

@@ -1,11 +1,10 @@
 -- A trace whose run was cut off by a write that failed.
-use Rattle.std.proofs.Common.{◌≡◌, refl, sym, ap, subst, ◌∙◌, ℕ, Bool, List, [], ◌∷◌, ◌++◌, Option, Some, None, Ok, Err, append_assoc}
+use Rattle.std.proofs.Common.{◌≡◌, refl, sym, ap, subst, ◌∙◌, ℕ, Bool, List, [], ◌∷◌, ◌++◌, Option, Some, None, Ok, append_assoc}
 use Rattle.std.proofs.lemmas.List.{append-nil}
 use Rattle.fw_outside.specs.Outside.{Grows, AppendsFront}
 use Rattle.fw_outside.proofs.Parts.{then_front}
 use Rattle.fw_entry.specs.declared.entry.Timed.{Timed}
 use Rattle.fw_command.specs.declared.command.Command.{Command}
-use Rattle.fw_command.specs.declared.command.Command.TheVariants.{End}
 use Rattle.fw_script.specs.Reading.{Reading, Advances}
 use Rattle.fw_script.specs.declared.stage.Stage.TheVariants.{Commands, Done}
 use Rattle.fw_run.specs.Actions.{Action, Steps}

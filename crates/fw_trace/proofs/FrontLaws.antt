@@ -1,12 +1,10 @@
 -- What was told of a command that was cut off.
-use Rattle.std.proofs.Common.{◌≡◌, refl, sym, ap, subst, ◌∙◌, ℕ, Bool, List, [], ◌∷◌, ◌++◌, Option, Some, None, append_assoc}
+use Rattle.std.proofs.Common.{◌≡◌, sym, ap, subst, ◌∙◌, ℕ, Bool, List, [], ◌++◌, Option, Some, append_assoc}
 use Rattle.std.proofs.lemmas.List.{append_cancel_left}
 use Rattle.std.proofs.Math.Logic.{∥∥₁_elim}
-use Rattle.fw_outside.specs.Outside.{AppendsFront}
 use Rattle.fw_entry.specs.Log.{header_bytes, LogOpens}
 use Rattle.fw_entry.specs.declared.version.Version.TheVariants.{Two}
 use Rattle.fw_entry.specs.declared.entry.Timed.{Timed}
-use Rattle.fw_log.specs.Reader.{State as LogState}
 use Rattle.fw_log.proofs.HistoryLaws.{log_begins}
 use Rattle.fw_script.specs.Reading.{Reading}
 use Rattle.fw_run.specs.Desks.{DeskRelations}
@@ -14,7 +12,7 @@ use Rattle.fw_run.specs.Giving.{log_bytes}
 use Rattle.fw_bus.specs.Buses.{Standing}
 use Rattle.fw_simulate.specs.Ending.{PartLogged}
 use Rattle.fw_simulate.specs.Going.{Going}
-use Rattle.fw_tracer.specs.Caused.{Telling, caused_text}
+use Rattle.fw_tracer.specs.Caused.{caused_text}
 use Rattle.fw_tracer.specs.Commands.{Traced, lines_from, telling_behind}
 use Rattle.fw_trace.specs.Passed.{GrowsFront, WasPassed, grows_front-prop}
 use Rattle.fw_trace.specs.Telling.{ToldPart}

@@ -1,5 +1,5 @@
 -- A trace at its beginning: the log's header was read, and nothing is told for it.
-use Rattle.std.proofs.Common.{◌≡◌, refl, sym, ap, subst, ◌∙◌, ℕ, ◌≤◌, Bool, List, [], ◌∷◌, ◌++◌, Option, Some, None, ◌⊎◌, inl, inr, append_assoc, arith}
+use Rattle.std.proofs.Common.{◌≡◌, refl, sym, ap, subst, ◌∙◌, ℕ, Bool, List, [], ◌∷◌, ◌++◌, Option, Some, None, inl, append_assoc, arith}
 use Rattle.std.specs.Prelude.{IsFalse}
 use Rattle.std.proofs.lemmas.List.{append-nil}
 use Rattle.std.proofs.Math.Logic.{∥∥₁_elim}
@@ -29,9 +29,9 @@ use Rattle.fw_tracer.specs.Caused.{caused_text, untold}
 use Rattle.fw_tracer.specs.Commands.{Traced, lines_from, telling_behind}
 use Rattle.fw_tracer.specs.contracts.tracer.Tracer.{the_row}
 use Rattle.fw_trace.specs.declared.lack.Lack.{Lack}
-use Rattle.fw_trace.specs.declared.lack.Lack.TheVariants.{Memory, Sink}
-use Rattle.fw_trace.specs.Parts.{Part, PartsRun, AreLines, first_course}
-use Rattle.fw_trace.specs.Passed.{GrowsFront, WasPassed, grows_front-prop}
+use Rattle.fw_trace.specs.declared.lack.Lack.TheVariants.{Memory}
+use Rattle.fw_trace.specs.Parts.{PartsRun, first_course}
+use Rattle.fw_trace.specs.Passed.{GrowsFront, WasPassed}
 use Rattle.fw_trace.specs.Telling.{Tells, TellsBy, ToldPart, fails_by}
 use Rattle.fw_trace.specs.Traces.{Traces, TellsFront, stopped_by, fault_by}
 use Rattle.fw_trace.specs.Tracing.{HasLines, IsBeginning, Tracing}

@@ -35,11 +35,11 @@ use Rattle.fw_simulate.proofs.Passings.{going_looked, going_passed}
 use Rattle.fw_tracer.specs.Caused.{untold}
 use Rattle.fw_tracer.specs.Commands.{Traced, begun}
 use Rattle.fw_tracer.specs.Lines.{line_text}
-use Rattle.fw_trace.specs.Parts.{Part, PartsRun, AreLines, lines_of, place_of, trace_text}
+use Rattle.fw_trace.specs.Parts.{Part, PartsRun, AreLines, place_of, trace_text}
 use Rattle.fw_trace.specs.declared.lack.Lack.{Lack}
 use Rattle.fw_trace.specs.Passed.{PassesBy}
 use Rattle.fw_trace.specs.Traces.{Traces}
-use Rattle.fw_trace.specs.Tracing.{Begun, TracesOn, HasLines, HoldsNoCommand, IsOver, Tracing, kept_from}
+use Rattle.fw_trace.specs.Tracing.{Begun, TracesOn, HasLines, HoldsNoCommand, IsOver, Tracing}
 use Rattle.fw_trace.proofs.EndedLaws.{are_lines}
 use Rattle.fw_trace.proofs.HeldLaws.{whole_known}
 use Rattle.fw_trace.proofs.PartLaws.{kept_more, lines_behind, lines_looked}

@@ -1,5 +1,5 @@
 -- A trace goes on where a step has carried out a command.
-use Rattle.std.proofs.Common.{◌≡◌, refl, sym, ap, subst, ◌∙◌, ℕ, ◌<◌, Bool, false, List, [], ◌++◌, Option, Some, None, Err, arith}
+use Rattle.std.proofs.Common.{◌≡◌, refl, sym, ap, subst, ◌∙◌, ℕ, ◌<◌, Bool, List, [], ◌++◌, Option, Some, None, Err, arith}
 use Rattle.fw_outside.specs.Outside.{Grows, Rose}
 use Rattle.fw_outside.specs.declared.stop.Stop.TheVariants.{ReadFault, WriteFault, TooLong, NoMemory}
 use Rattle.fw_simulate.specs.Counts.{WriteCount}
@@ -11,7 +11,7 @@ use Rattle.fw_script.specs.Reading.{Reading}
 use Rattle.fw_run.specs.Desks.{DeskRelations}
 use Rattle.fw_bus.specs.Buses.{Standing}
 use Rattle.fw_simulate.specs.Going.{Carried, course_of, to_read}
-use Rattle.fw_tracer.specs.Caused.{Telling, caused_text}
+use Rattle.fw_tracer.specs.Caused.{caused_text}
 use Rattle.fw_tracer.specs.Commands.{Traced, ended, last_lines, lines_from, telling_behind}
 use Rattle.fw_trace.specs.declared.lack.Lack.{Lack}
 use Rattle.fw_trace.specs.declared.lack.Lack.TheVariants.{Memory, Sink}

@@ -1,10 +1,7 @@
 -- The parts of a trace, one more at a time.
-use Rattle.std.proofs.Common.{◌≡◌, refl, sym, ap, subst, ◌∙◌, ℕ, ◌+◌, ◌<◌, ◌≤◌, List, [], ◌∷◌, ◌++◌, length, take, drop, Bool, true, ◌⊎◌, inl, inr, Option, append_assoc, arith}
+use Rattle.std.proofs.Common.{◌≡◌, refl, sym, ap, subst, ◌∙◌, ℕ, ◌+◌, ◌<◌, List, [], ◌∷◌, ◌++◌, length, drop, Bool, true, inl, inr, Option, append_assoc, arith}
 use Rattle.std.proofs.lemmas.List.{append-nil, drop_all, length-append}
-use Rattle.fw_outside.specs.Outside.{Takes}
 use Rattle.fw_outside.proofs.Parts.{Takes-Takes}
-use Rattle.fw_entry.specs.declared.entry.Timed.{Timed}
-use Rattle.fw_command.specs.declared.command.Command.{Command}
 use Rattle.fw_script.specs.Reading.{Reading, EndsLine, IsLine, TakesMore, with_taken, behind}
 use Rattle.fw_tracer.specs.Caused.{Telling}
 use Rattle.fw_command.specs.Pieces.{IsFree}

@@ -1,5 +1,5 @@
 -- What a sink was given since a command began, piece by piece.
-use Rattle.std.proofs.Common.{◌≡◌, refl, sym, ap, subst, ◌∙◌, ℕ, ◌+◌, ◌-◌, List, [], ◌∷◌, ◌++◌, length, take, drop, Bool, true, false, Option, Some, None, arith}
+use Rattle.std.proofs.Common.{◌≡◌, refl, sym, ap, subst, ◌∙◌, ℕ, ◌-◌, List, [], ◌∷◌, ◌++◌, length, take, drop, Bool, true, false, Option, Some, None, arith}
 use Rattle.std.proofs.lemmas.List.{length-append, take-append-drop, append-nil}
 use Rattle.fw_outside.proofs.Parts.{Grows-Grows, Grows-nothing, then_front, front_then}
 use Rattle.fw_outside.specs.Outside.{Grows, AppendsFront, Rose}

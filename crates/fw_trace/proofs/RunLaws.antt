@@ -1,7 +1,5 @@
 -- What a sink that tells has read is the log of the run.
-use Rattle.std.proofs.Common.{◌≡◌, refl, sym, ap, subst, ◌∙◌, ℕ, List, [], ◌∷◌, ◌++◌, Option, Some, None, Ok, Err, append_assoc}
-use Rattle.std.proofs.lemmas.List.{append_cancel_left}
-use Rattle.fw_outside.specs.Outside.{Grows}
+use Rattle.std.proofs.Common.{◌≡◌, refl, sym, subst, ℕ, List, [], ◌++◌, Option, Some, None, Ok, Err}
 use Rattle.fw_entry.specs.Log.{header_bytes, LogOpens}
 use Rattle.fw_entry.specs.declared.version.Version.{Version}
 use Rattle.fw_entry.specs.declared.version.Version.TheVariants.{Two}

@@ -1,10 +1,10 @@
 -- The text of a part, from what was passed on of it.
-use Rattle.std.proofs.Common.{◌≡◌, refl, sym, ap, ◌∙◌, ℕ, List, [], ◌∷◌, ◌++◌, Option, append_assoc}
+use Rattle.std.proofs.Common.{◌≡◌, sym, ap, ◌∙◌, ℕ, List, [], ◌∷◌, ◌++◌, Option, append_assoc}
 use Rattle.fw_outside.specs.Outside.{Grows}
 use Rattle.fw_outside.proofs.Parts.{Grows-Grows}
 use Rattle.fw_entry.specs.declared.entry.Timed.{Timed}
 use Rattle.fw_tracer.proofs.LoopLaws.{caused_append}
-use Rattle.fw_tracer.specs.Caused.{Telling, caused_text, untold}
+use Rattle.fw_tracer.specs.Caused.{caused_text, untold}
 use Rattle.fw_tracer.specs.Commands.{Traced, lines_from, last_lines, telling_behind, command_lines}
 use Rattle.fw_trace.specs.Parts.{Part, part_text, lines_of, trace_text}
 use Rattle.fw_trace.specs.Tracing.{kept_from}

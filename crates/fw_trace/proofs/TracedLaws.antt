@@ -1,5 +1,5 @@
 -- A trace goes on behind a command that was carried out.
-use Rattle.std.proofs.Common.{◌≡◌, ◌≢◌, refl, sym, ap, subst, ◌∙◌, ℕ, ◌+◌, List, [], ◌∷◌, ◌++◌, true, false, ◌⊎◌, inl, inr, Option, Some, None, Ok, Err}
+use Rattle.std.proofs.Common.{◌≡◌, ◌≢◌, refl, sym, ap, subst, ◌∙◌, ℕ, List, [], ◌∷◌, ◌++◌, false, inl, inr, Option, Some, None, Ok, Err}
 use Rattle.std.proofs.lemmas.List.{append-nil}
 use Rattle.fw_outside.specs.Outside.{Grows, Takes}
 use Rattle.fw_outside.proofs.Parts.{Grows-Grows, Takes-Takes}
@@ -8,16 +8,14 @@ use Rattle.fw_command.specs.Form.{HasForm}
 use Rattle.fw_command.specs.declared.command.Command.{Command}
 use Rattle.fw_command.specs.declared.command.Command.TheVariants.{End}
 use Rattle.fw_script.specs.Line.{is_skipped}
-use Rattle.fw_script.specs.Reading.{Reading, Answer, IsLine, GivesFirst, command as on_line, GivesNext, TakesMore, Advances, behind, with_taken, at_stage}
-use Rattle.fw_script.specs.declared.ScriptFault.TheVariants.{ReadFault}
+use Rattle.fw_script.specs.Reading.{Reading, Answer, IsLine, GivesFirst, command as on_line, GivesNext, TakesMore, Advances, behind, at_stage}
 use Rattle.fw_script.specs.declared.stage.Stage.{Stage}
 use Rattle.fw_script.specs.declared.stage.Stage.TheVariants.{Commands, Done}
-use Rattle.fw_script.proofs.GivesLaws.{Same, gives_once}
+use Rattle.fw_script.proofs.GivesLaws.{gives_once}
 use Rattle.fw_script.proofs.LineLaws.{line_more}
 use Rattle.fw_run.specs.Desks.{DeskRelations}
 use Rattle.fw_bus.specs.Buses.{Standing}
 use Rattle.fw_run.specs.Rules.{Decides}
-use Rattle.fw_simulate.specs.Course.{Course}
 use Rattle.fw_simulate.specs.Going.{Carried, course_of}
 use Rattle.fw_tracer.specs.Caused.{Telling, caused_text, untold}
 use Rattle.fw_tracer.specs.Commands.{Traced, begun, ended, lines_from, last_lines, telling_behind, command_lines, jobs_given}

@@ -1,5 +1,5 @@
 -- A trace that ends where its run has ended.
-use Rattle.std.proofs.Common.{◌≡◌, ◌≢◌, refl, sym, ap, subst, ◌∙◌, ℕ, ◌+◌, ◌<◌, Bool, List, [], ◌∷◌, ◌++◌, length, ◌⊎◌, Option, Some, None, Ok, Err, arith}
+use Rattle.std.proofs.Common.{◌≡◌, refl, sym, ap, subst, ◌∙◌, ℕ, ◌+◌, ◌<◌, Bool, List, [], ◌++◌, length, ◌⊎◌, Option, Some, None, Ok, Err, arith}
 use Rattle.std.proofs.lemmas.List.{append-nil, length-append}
 use Rattle.std.proofs.Math.Logic.{∥∥₁_elim}
 use Rattle.std.specs.Coded.{Coded-set, coded_ℕ, coded_list}
@@ -11,7 +11,7 @@ use Rattle.fw_entry.specs.declared.version.Version.TheVariants.{Two}
 use Rattle.fw_log.specs.Reader.{State as LogState}
 use Rattle.fw_command.specs.declared.command.Command.{Command}
 use Rattle.fw_command.specs.declared.command.Command.TheVariants.{End}
-use Rattle.fw_script.specs.Reading.{Reading, Answer, Advances, IsAtEndOfInput}
+use Rattle.fw_script.specs.Reading.{Reading, Answer, Advances}
 use Rattle.fw_script.specs.declared.ScriptFault.TheVariants as Fault
 use Rattle.fw_script.specs.declared.stage.Stage.TheVariants.{Done as AtEnd}
 use Rattle.fw_run.specs.Desks.{DeskRelations}
@@ -29,7 +29,7 @@ use Rattle.fw_simulate.proofs.Completions.{other_than_end}
 use Rattle.fw_tracer.specs.Commands.{Traced}
 use Rattle.fw_trace.specs.declared.lack.Lack.{Lack}
 use Rattle.fw_trace.specs.declared.lack.Lack.TheVariants.{Memory, Sink}
-use Rattle.fw_trace.specs.Parts.{Part, PartsRun, AreLines, trace_text, lines_of}
+use Rattle.fw_trace.specs.Parts.{PartsRun, AreLines, trace_text}
 use Rattle.fw_trace.specs.Framing.{Base}
 use Rattle.fw_trace.specs.Passed.{WasPassed}
 use Rattle.fw_trace.specs.Telling.{Tells, TellsBy, fails_by, faults_by}

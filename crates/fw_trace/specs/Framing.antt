@@ -1,6 +1,6 @@
 -- What a sink that tells was given, as one list that only grows: what it stands on since a command began, spelled before the bytes. Who
 -- writes to it knows that list alone, and learns from it that what it stands on is as it was.
-use Rattle.std.specs.Prelude.{◌≡◌, ℕ, List, [], ◌∷◌, Option}
+use Rattle.std.specs.Prelude.{ℕ, List, ◌∷◌, Option}
 use Rattle.std.specs.Coded.{Coded, coded_ℕ, coded_list, coded_option, coded×}
 use base.Stored.{Gv, gnil, gnum, gcons}
 use Rattle.fw_tracer.specs.Commands.{Traced}

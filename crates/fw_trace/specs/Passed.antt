@@ -1,5 +1,5 @@
 -- What a sink was given since a command began.
-use Rattle.std.specs.Prelude.{◌≡◌, ℕ, ◌-◌, ◌≤◌, List, ◌++◌, length, take, Bool, true, false, Option, Some, None, Result, Ok, Err, ⊤}
+use Rattle.std.specs.Prelude.{◌≡◌, ℕ, ◌-◌, List, ◌++◌, length, take, Bool, true, false, Option, Some, None, Result, Ok, Err, ⊤}
 use Rattle.std.specs.Coded.{Coded-set, coded_ℕ, coded_list, ×_prop, Unit-prop, le_prop}
 use Rattle.fw_outside.specs.Outside.{Grows, Rose}
 use Rattle.fw_trace.specs.declared.lack.Lack.{Lack}

@@ -6,7 +6,6 @@ use Rattle.fw_outside.specs.declared.stop.Stop.TheVariants.{ReadFault, WriteFaul
 use Rattle.fw_command.specs.Form.{HasForm}
 use Rattle.fw_command.specs.Pieces.{IsFree}
 use Rattle.fw_command.specs.declared.command.Command.TheVariants.{End}
-use Rattle.fw_entry.specs.declared.entry.Timed.{Timed}
 use Rattle.fw_run.specs.Actions.{Action, Steps}
 use Rattle.fw_run.specs.State.{State}
 use Rattle.fw_run.specs.Desks.{DeskRelations}

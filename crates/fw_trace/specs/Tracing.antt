@@ -21,7 +21,6 @@ use Rattle.fw_bus.specs.Buses.{Standing}
 use Rattle.fw_tracer.specs.Caused.{Telling, untold}
 use Rattle.fw_tracer.specs.Commands.{Traced, begun}
 use Rattle.fw_tracer.specs.Lines.{line_text}
-use Rattle.fw_simulate.specs.Counts.{ReadCount, WriteCount}
 use Rattle.fw_simulate.specs.Going.{Going, course_of, to_read}
 use Rattle.fw_simulate.specs.declared.ending.RunEnding.{RunEnding}
 use Rattle.fw_trace.specs.Parts.{Part, PartsRun, HaveNoFeed, place_of, bytes_of, lines_of, kept_after, trace_text}
