@@ -128,7 +128,7 @@ first_tracing left held held' lack reader bus tracer history new stands fresh b 
   going = going_first left (Some []) (Some (header_bytes Two)) reader bus new stands fresh refl;
   parts = [];
   run = PartsRun.first;
-  lines = subst (λ (p : Reading). HasLines left left [] p) (sym new) (record { taken = []; takes = Takes-nothing left; split = inl refl; free = tt; number = refl; few = omega arith });
+  lines = subst (λ (p : Reading). HasLines left left [] p) (sym new) (record { taken = []; takes = Takes-nothing left; split = inl refl; free = tt; number = refl; few = omega arith; count = refl });
   over = λ d. let wrong : Commands ≡ AtEnd = sym (ap (λ (p : Reading). p.stage) new) ∙ d in absurd cc;
   read = b.3 ∙ sym (append-nil (header_bytes Two));
   keeps = b.2;

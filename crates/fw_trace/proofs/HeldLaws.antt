@@ -5,7 +5,7 @@ use Rattle.fw_command.specs.declared.command.Command.{Command}
 use Rattle.fw_command.specs.declared.command.Command.TheVariants.{End}
 use Rattle.fw_script.specs.Reader.{PassesOver}
 use Rattle.fw_script.specs.Reader.PassesOver.{nowhere, over_skipped, over_end}
-use Rattle.fw_script.specs.Reading.{Reading, Answer, GivesFirst, GivesNext, Advances, TakesMore, IsHeld, IsAtEndOfInput, behind, at_stage, with_taken}
+use Rattle.fw_script.specs.Reading.{Reading, Answer, GivesFirst, GivesNext, Advances, TakesMore, IsHeld, IsAtEndOfInput, PassesLimit, behind, at_stage, with_taken}
 use Rattle.fw_script.specs.Reading.GivesFirst.{skipped, command, end_line, read_fault}
 use Rattle.fw_script.specs.declared.ScriptFault.{ScriptFault}
 use Rattle.fw_script.specs.declared.ScriptFault.TheVariants.{BadLine, LineTooLong, NoEnd, ReadFault, TooLong}
@@ -13,6 +13,7 @@ use Rattle.fw_script.specs.declared.stage.Stage.{Stage}
 use Rattle.fw_script.specs.declared.stage.Stage.TheVariants.{Commands, AfterEnd, Done, Failed}
 use Rattle.fw_script.proofs.CallLaws.{next_open}
 use Rattle.fw_script.proofs.GivesLaws.{gives_once, gives_with, goes_answer, cut_gives}
+use Rattle.fw_script.proofs.LineLaws.{limit_more}
 use Rattle.fw_script.proofs.PassLaws.{held_answer}
 use Rattle.fw_simulate.proofs.Givings.{given_some}
 use Rattle.fw_trace.specs.Tracing.{IsNoCommand, HoldsNoCommand, GivesThis}
@@ -29,16 +30,17 @@ pub record Held (p : Reading) : Type 0 where
   pub next : Reading
   pub gives : GivesFirst p answer next
   pub told : IsTold answer
+  pub limit : answer ≡ Err TooLong → PassesLimit p
   pub line : (answer ≡ Err TooLong) ⊎ ((answer ≡ Ok (Some End)) ⊎ (next.line ≡ p.line + 1))
 
 held_none : (p : Reading) (r : Answer) (q : Reading) → GivesFirst p r q → IsNoCommand r p q → Held p
 held_none p (Ok None) q g n = absurd n
-held_none p (Ok (Some c)) q g n = record { answer = Ok (Some c); next = q; gives = g; told = λ e. cc; line = inr (inl (ap (λ (d : Command). Ok (Some d)) n.0)) }
-held_none p (Err BadLine) q g n = record { answer = Err BadLine; next = q; gives = g; told = λ e. cc; line = inr (inr n) }
-held_none p (Err LineTooLong) q g n = record { answer = Err LineTooLong; next = q; gives = g; told = λ e. cc; line = inr (inr n) }
-held_none p (Err NoEnd) q g n = record { answer = Err NoEnd; next = q; gives = g; told = λ e. cc; line = inr (inr n) }
+held_none p (Ok (Some c)) q g n = record { answer = Ok (Some c); next = q; gives = g; told = λ e. cc; limit = λ e. absurd cc; line = inr (inl (ap (λ (d : Command). Ok (Some d)) n.0)) }
+held_none p (Err BadLine) q g n = record { answer = Err BadLine; next = q; gives = g; told = λ e. cc; limit = λ e. absurd cc; line = inr (inr n) }
+held_none p (Err LineTooLong) q g n = record { answer = Err LineTooLong; next = q; gives = g; told = λ e. cc; limit = λ e. absurd cc; line = inr (inr n) }
+held_none p (Err NoEnd) q g n = record { answer = Err NoEnd; next = q; gives = g; told = λ e. cc; limit = λ e. absurd cc; line = inr (inr n) }
 held_none p (Err ReadFault) q g n = absurd n
-held_none p (Err TooLong) q g n = record { answer = Err TooLong; next = q; gives = g; told = λ e. cc; line = inl refl }
+held_none p (Err TooLong) q g n = record { answer = Err TooLong; next = q; gives = g; told = λ e. cc; limit = λ e. n; line = inl refl }
 
 pub held_of : (p : Reading) (line : Option (List ℕ)) (c : Command) → GivesThis p line c → (p.stage ≡ Done) ⊎ Held p
 held_of p None c g = by g.1
@@ -48,7 +50,7 @@ held_of p None c g = by g.1
     by (inr h) = inr (held_none p h.answer h.next h.gives h.none)
 held_of p (Some text) c g =
     let (size, l, said, stage, form, other) = g in
-    inr (record { answer = Ok (Some c); next = behind p text size; gives = command c text size l said stage form other; told = λ e. cc; line = inr (inr refl) })
+    inr (record { answer = Ok (Some c); next = behind p text size; gives = command c text size l said stage form other; told = λ e. cc; limit = λ e. absurd cc; line = inr (inr refl) })
 
 -- ---- the end was given
 
@@ -120,6 +122,13 @@ given_line p q left left' r (inr h) a some told long last =
     by e (inl n) = absurd (long (e ∙ n))
     by e (inr (inl n)) = absurd (last (e ∙ n))
     by e (inr (inr n)) = n
+
+-- the script's limit is passed
+pub limit_given : (p q : Reading) (left left' : Option (List ℕ)) → (p.stage ≡ Done) ⊎ Held p → (a : Advances p q left left' (Err TooLong)) → PassesLimit a.known
+limit_given p q left left' (inl d) a = let none = done_none p q left left' (Err TooLong) d a in absurd cc
+limit_given p q left left' (inr h) a =
+    let same = (held_answer p h.next q left left' h.answer (Err TooLong) h.gives h.told a (λ e. cc) (λ e. cc)).0 in
+    subst (λ (k : Reading). PassesLimit k) (sym a.takes.now) (limit_more p a.takes.taken a.known.whole (h.limit (sym same)))
 
 -- ---- the source is not asked
 

@@ -54,7 +54,7 @@ under_way {left = left} t = record { left = left; held = Some []; after = Some t
 pub none_next : (p : Reading) → p.stage ≢ Failed → HasNoLine p → (p.stage ≡ Done) ⊎ HoldsNoCommand p
 none_next p unfailed (inl d) = inl d
 none_next p unfailed (inr (inl l)) = inr (record { answer = Err Fault.LineTooLong; next = refused p (take 257 p.rest); gives = long_line l; none = refl })
-none_next p unfailed (inr (inr (inl l))) = inr (record { answer = Err Fault.TooLong; next = at_stage p Failed; gives = too_long l; none = tt })
+none_next p unfailed (inr (inr (inl l))) = inr (record { answer = Err Fault.TooLong; next = at_stage p Failed; gives = too_long l; none = l })
 none_next p unfailed (inr (inr (inr e))) = by p.stage refl
   where
     by : (s : Stage) → p.stage ≡ s → (p.stage ≡ Done) ⊎ HoldsNoCommand p
@@ -145,7 +145,7 @@ line_behind left left' parts p q n size c x over h (inr e) =
     let text = take n p.rest in
     let b = lines_behind left left' parts p (Part.line text) text size refl refl (λ f. (f, tt)) x h.line in
     subst (λ (z : Reading). Behind left left' parts p z text) (sym e.now) (record {
-      lines = record { taken = b.taken; takes = b.takes; split = b.split; free = b.free; number = b.number; few = b.few };
+      lines = record { taken = b.taken; takes = b.takes; split = b.split; free = b.free; number = b.number; few = b.few; count = b.count };
       over = λ d. let wrong : AfterEnd ≡ Done = d in absurd cc;
       number = refl;
       shown = refl;

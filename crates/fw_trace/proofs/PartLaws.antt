@@ -1,8 +1,9 @@
 -- The parts of a trace, one more at a time.
-use Rattle.std.proofs.Common.{◌≡◌, refl, sym, ap, subst, ◌∙◌, ℕ, ◌+◌, ◌<◌, List, [], ◌∷◌, ◌++◌, length, drop, Bool, true, inl, inr, Option, append_assoc, arith}
+use Rattle.std.proofs.Common.{◌≡◌, refl, sym, ap, subst, ◌∙◌, ℕ, ◌+◌, ◌-◌, ◌<◌, List, [], ◌∷◌, ◌++◌, length, take, drop, Bool, true, inl, inr, Option, append_assoc, arith}
 use Rattle.std.proofs.lemmas.List.{append-nil, drop_all, length-append}
 use Rattle.fw_outside.proofs.Parts.{Takes-Takes}
-use Rattle.fw_script.specs.Reading.{Reading, EndsLine, IsLine, TakesMore, with_taken, behind}
+use Rattle.fw_script.proofs.LineLaws.{behind_total}
+use Rattle.fw_script.specs.Reading.{Reading, EndsLine, IsLine, PassesLimit, TakesMore, with_taken, behind}
 use Rattle.fw_tracer.specs.Caused.{Telling}
 use Rattle.fw_command.specs.Pieces.{IsFree}
 use Rattle.fw_trace.specs.Parts.{Part, HaveNoFeed, part_text, kept_after, lines_after, text_from, bytes_of, lines_of}
@@ -81,6 +82,7 @@ lines_looked left mid left' parts p q x m = subst (HasLines left left' parts) (s
   free = x.free;
   number = x.number;
   few = x.few;
+  count = omega (arith, x.count, length-append p.rest m.taken, length-append x.taken m.taken);
 })
 
 -- a line takes a byte at least
@@ -103,4 +105,16 @@ lines_behind left left' parts p part text size t n free x l = record {
   free = free_more parts part x.free (free l.free);
   number = ap (λ (k : ℕ). k + 1) x.number ∙ sym n ∙ sym (lines_more 0 parts part);
   few = omega (arith, x.few, line_some p text size l);
+  count = behind_total p text size l ∙ x.count;
 }
+
+-- where the next line passes the script's limit, all lines within it were read
+pub limit_left : (left left' : Option (List ℕ)) (parts : List Part) (p : Reading) → HasLines left left' parts p → PassesLimit p
+    → (1048576 < length (bytes_of parts) + length p.rest) × IsFree 10 (take (1048576 - length (bytes_of parts)) p.rest)
+limit_left left left' parts p x l = by x.split
+  where
+    by : IsSplit x.taken parts p → (1048576 < length (bytes_of parts) + length p.rest) × IsFree 10 (take (1048576 - length (bytes_of parts)) p.rest)
+    by (inl e) =
+        let same : p.before ≡ length (bytes_of parts) = omega (arith, x.count, ap length e, length-append (bytes_of parts) p.rest) in
+        (omega (arith, l.more, same), subst (λ (n : ℕ). IsFree 10 (take (1048576 - n) p.rest)) same l.free)
+    by (inr (e, none, whole)) = absurd (omega (arith, l.more, l.start, ap length none))

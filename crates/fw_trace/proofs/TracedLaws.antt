@@ -120,6 +120,7 @@ lines_end left mid left' parts out p new taken x t none now =
       free = free_more parts (Part.end out) x.free tt;
       number = x.number ∙ sym (lines_more 0 parts (Part.end out));
       few = x.few;
+      count = x.count;
     })
 
 ended_end : (place : Option (ℕ × ℕ)) (t : Telling) → ended End place t ≡ ended End None t

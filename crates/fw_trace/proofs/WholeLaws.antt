@@ -38,9 +38,9 @@ use Rattle.fw_trace.specs.Tracing.{Begun}
 use Rattle.fw_trace.proofs.CarriedLaws.{FramedStep}
 use Rattle.fw_trace.proofs.CutLaws.{cut_traced}
 use Rattle.fw_trace.proofs.EndedLaws.{IsWhole, are_lines, ended_bytes}
-use Rattle.fw_trace.proofs.HeldLaws.{Held, given_line, held_of, no_read_fault, none_done, whole_known}
+use Rattle.fw_trace.proofs.HeldLaws.{Held, given_line, limit_given, held_of, no_read_fault, none_done, whole_known}
 use Rattle.fw_trace.proofs.OnLaws.{lack_none, passed_whole}
-use Rattle.fw_trace.proofs.PartLaws.{lines_looked}
+use Rattle.fw_trace.proofs.PartLaws.{limit_left, lines_looked}
 
 -- nothing is passed on before a byte is given
 nothing_passed : (origin now : Traced) (r : LogState) (count : ℕ) (earlier history given : List ℕ) → history ≡ earlier → ∥ TellsBy None origin now r count earlier history given ∥₁ → given ≡ []
@@ -104,7 +104,10 @@ module _ {D : DeskRelations} {left mid left' held start : Option (List ℕ)} {re
   ended_by (Stopped WriteFault) old None e some n w f t = absurd (omega (arith, n, w))
   ended_by (Stopped WriteFault) old (Some Memory) e some n w f t = cut_off Memory e t
   ended_by (Stopped WriteFault) old (Some Sink) e some n w f t = cut_off Sink e t
-  ended_by (Stopped TooLong) old lack e some n w f t = tells_run (Stopped TooLong) e (looked line b e.reads) tt (same_told (Stopped TooLong) tt e lack (lack_none old lack n w) f t)
+  ended_by (Stopped TooLong) old lack e some n w f t =
+      let passes = limit_given reader reader' mid left' (held_of reader line c b.gives) e.reads in
+      let known = lines_looked left mid left' b.parts reader e.reads.known b.lines e.reads.takes in
+      tells_run (Stopped TooLong) e (looked line b e.reads) (limit_left left left' b.parts e.reads.known known passes) (same_told (Stopped TooLong) tt e lack (lack_none old lack n w) f t)
   ended_by (Stopped NoMemory) old lack e some n w f t =
       let none : history ≡ [] = let h = e.runs.1 in cc in
       absurd (omega (arith, some, ap length none))

@@ -1,6 +1,6 @@
 -- What each ending of `trace` says of the input and of what was written: it ends as `run` does with a sink of its own, and in place of the
 -- log the text of its parts was written.
-use Rattle.std.specs.Prelude.{◌≡◌, ℕ, ◌+◌, List, [], ◌∷◌, ◌++◌, Option, Some, None, ⊤}
+use Rattle.std.specs.Prelude.{◌≡◌, ℕ, ◌+◌, ◌-◌, ◌<◌, List, [], ◌∷◌, ◌++◌, length, take, Option, Some, None, ⊤}
 use Rattle.fw_outside.specs.Outside.{Grows, AppendsFront}
 use Rattle.fw_outside.specs.declared.stop.Stop.TheVariants.{ReadFault, WriteFault, TooLong, NoMemory}
 use Rattle.fw_command.specs.Form.{HasForm}
@@ -16,15 +16,16 @@ use Rattle.fw_simulate.specs.declared.ending.RunEnding.{RunEnding}
 use Rattle.fw_simulate.specs.declared.ending.RunEnding.TheVariants.{Done, Refused, Stopped}
 use Rattle.fw_trace.specs.declared.lack.Lack.{Lack}
 use Rattle.fw_trace.specs.declared.lack.Lack.TheVariants.{Memory, Sink}
-use Rattle.fw_trace.specs.Parts.{Part, PartsRun, AreLines, trace_text, lines_of}
+use Rattle.fw_trace.specs.Parts.{Part, PartsRun, AreLines, bytes_of, trace_text, lines_of}
 
--- what of the script is not told: nothing, the refused line and what follows it, or what the source failed in, which has no whole line
+-- what of the script is not told: nothing, the refused line and what follows it, what the source failed in, which has no whole line, or what
+-- passes the script's limit of 1,048,576 bytes, with no line that ends within it
 abbrev pub LeavesOut : RunEnding → List Part → List ℕ → Type 0
 LeavesOut Done parts rest = rest ≡ []
 LeavesOut (Refused r) parts rest = r.line ≡ lines_of 0 parts + 1
 LeavesOut (Stopped ReadFault) parts rest = IsFree 10 rest
 LeavesOut (Stopped WriteFault) parts rest = ⊤
-LeavesOut (Stopped TooLong) parts rest = ⊤
+LeavesOut (Stopped TooLong) parts rest = (1048576 < length (bytes_of parts) + length rest) × IsFree 10 (take (1048576 - length (bytes_of parts)) rest)
 LeavesOut (Stopped NoMemory) parts rest = ⊤
 
 -- The run ended so in memory, and its parts were told.

@@ -1,12 +1,12 @@
 -- A trace that is under way: what was read, carried out and told so far, and what a line more does.
-use Rattle.std.specs.Prelude.{◌≡◌, ◌≢◌, ◌⊎◌, ℕ, ◌+◌, ◌<◌, ◌≤◌, List, [], ◌∷◌, ◌++◌, take, true, false, Option, Some, None, Ok, Err, ⊤}
+use Rattle.std.specs.Prelude.{◌≡◌, ◌≢◌, ◌⊎◌, ℕ, ◌+◌, ◌<◌, ◌≤◌, List, [], ◌∷◌, ◌++◌, length, take, true, false, Option, Some, None, Ok, Err}
 use Rattle.fw_outside.specs.Outside.{Takes, Grows}
 use Rattle.fw_entry.specs.Log.{header_bytes}
 use Rattle.fw_entry.specs.declared.version.Version.TheVariants.{Two}
 use Rattle.fw_script.specs.Line.{is_skipped}
 use Rattle.fw_script.specs.Passing.{IsCommandNext}
 use Rattle.fw_script.specs.Reader.{HoldsLine}
-use Rattle.fw_script.specs.Reading.{Reading, Answer, GivesFirst, IsAtEndOfInput, IsLine, at_stage}
+use Rattle.fw_script.specs.Reading.{Reading, Answer, GivesFirst, IsAtEndOfInput, IsLine, PassesLimit, at_stage}
 use Rattle.fw_script.specs.declared.ScriptFault.TheVariants.{BadLine, LineTooLong, NoEnd, ReadFault, TooLong}
 use Rattle.fw_script.specs.declared.stage.Stage.TheVariants.{Commands, Done}
 use Rattle.fw_command.specs.Form.{HasForm}
@@ -45,6 +45,7 @@ pub record HasLines (left left' : Option (List ℕ)) (parts : List Part) (p : Re
   pub free : HaveNoFeed parts
   pub number : p.line ≡ lines_of 0 parts
   pub few : p.line ≤ p.before
+  pub count : p.before + length p.rest ≡ length taken
 
 -- once the end was given nothing is left
 abbrev pub IsOver : Reading → Type 0
@@ -80,7 +81,7 @@ IsNoCommand (Err BadLine) p q = q.line ≡ p.line + 1
 IsNoCommand (Err LineTooLong) p q = q.line ≡ p.line + 1
 IsNoCommand (Err NoEnd) p q = q.line ≡ p.line + 1
 IsNoCommand (Err ReadFault) p q = ⊥
-IsNoCommand (Err TooLong) p q = ⊤
+IsNoCommand (Err TooLong) p q = PassesLimit p
 
 pub record HoldsNoCommand (p : Reading) : Type 0 where
   pub answer : Answer
