@@ -79,7 +79,7 @@ logged_all {D} {left} {mid} {held} {held1} {old} left' new g a =
 pub logged_with : {D : DeskRelations} {left mid held held1 : Option (List ℕ)} {old : Reading} {bus : Standing} (left' : Option (List ℕ)) (new : Reading) (g : Going D left mid held held1 old bus)
     → Advances old new mid left' (Ok None) → Ended D left mid left' held held1 (course_of g) old new bus Endings.Done
 unfolding logged_all
-logged_with left' new g a = record { runs = logged_all left' new g a; same = refl; reads = a; stands = (g.stands, g.fresh); shown = tt }
+logged_with left' new g a = record { runs = logged_all left' new g a; same = refl; reads = a; stands = (g.stands, g.fresh); shown = tt; stops = tt }
 
 -- ---- a line is refused
 
@@ -141,4 +141,4 @@ pub rule_ends : {D : DeskRelations} {left mid held held1 : Option (List ℕ)} {o
     → Advances old new mid left' (Ok (Some c)) → IsHeld (Ok (Some c)) new → Decides g.state c (Err f)
     → Ended D left mid left' held held1 (course_of g) old new bus (Endings.Refused (record { line = new.line; why = Rule f }))
 unfolding command_refused given_on
-rule_ends left' new c f g a few d = record { runs = command_refused left' new c f g a few d; same = refl; reads = a; stands = (g.stands, g.fresh); shown = refl }
+rule_ends left' new c f g a few d = record { runs = command_refused left' new c f g a few d; same = refl; reads = a; stands = (g.stands, g.fresh); shown = refl; stops = refl }

@@ -137,13 +137,15 @@ pub faulted : {D : DeskRelations} {left mid held held1 : Option (List ℕ)} {old
     (left' : Option (List ℕ)) (new : Reading) (f : ScriptFault) (g : Going D left mid held held1 old bus)
     → Advances old new mid left' (Err f) → IsHeld (Err f) new → Ended D left mid left' held held1 (course_of g) old new bus (ending_by f new.line)
 unfolding line_refused interrupted
-faulted left' new Fault.BadLine g a few = record { runs = line_refused left' new Fault.BadLine g a few (λ e. cc); same = refl; reads = a; stands = (g.stands, g.fresh); shown = (refl, refl) }
-faulted left' new Fault.LineTooLong g a few = record { runs = line_refused left' new Fault.LineTooLong g a few (λ e. cc); same = refl; reads = a; stands = (g.stands, g.fresh); shown = refl }
-faulted left' new Fault.NoEnd g a few = record { runs = line_refused left' new Fault.NoEnd g a few (λ e. cc); same = refl; reads = a; stands = (g.stands, g.fresh); shown = tt }
-faulted left' new Fault.ReadFault g a few = record { runs = interrupted left' new g a few; same = refl; reads = a; stands = (g.stands, g.fresh); shown = tt }
+faulted left' new Fault.BadLine g a few =
+    record { runs = line_refused left' new Fault.BadLine g a few (λ e. cc); same = refl; reads = a; stands = (g.stands, g.fresh); shown = (refl, refl); stops = refl }
+faulted left' new Fault.LineTooLong g a few =
+    record { runs = line_refused left' new Fault.LineTooLong g a few (λ e. cc); same = refl; reads = a; stands = (g.stands, g.fresh); shown = refl; stops = refl }
+faulted left' new Fault.NoEnd g a few = record { runs = line_refused left' new Fault.NoEnd g a few (λ e. cc); same = refl; reads = a; stands = (g.stands, g.fresh); shown = tt; stops = refl }
+faulted left' new Fault.ReadFault g a few = record { runs = interrupted left' new g a few; same = refl; reads = a; stands = (g.stands, g.fresh); shown = tt; stops = few }
 faulted left' new Fault.TooLong g a few =
     let r = line_refused left' new Fault.TooLong g a few (λ e. cc) in
-    record { runs = record { line = new.line; refused = r; long = (script_limit r.script r.commands _ r.says).0 refl }; same = refl; reads = a; stands = (g.stands, g.fresh); shown = tt }
+    record { runs = record { line = new.line; refused = r; long = (script_limit r.script r.commands _ r.says).0 refl }; same = refl; reads = a; stands = (g.stands, g.fresh); shown = tt; stops = tt }
 
 -- the sink failed, and the bus is spent
 pub stopped : {D : DeskRelations} {left mid held held1 : Option (List ℕ)} {old : Reading} {bus : Standing}
@@ -151,7 +153,7 @@ pub stopped : {D : DeskRelations} {left mid held held1 : Option (List ℕ)} {old
     → Advances old new mid left' (Ok (Some c)) → CutsRunOff D g.commands g.actions g.log g.state c bus' held1 held2
     → Ended D left mid left' held held2 (course_of g) old new bus' (Endings.Stopped WriteFault)
 unfolding part_stopped
-stopped left' held2 new bus' c g a d = record { runs = part_stopped left' held2 new bus' c g a d; same = refl; reads = a; stands = tt; shown = tt }
+stopped left' held2 new bus' c g a d = record { runs = part_stopped left' held2 new bus' c g a d; same = refl; reads = a; stands = tt; shown = tt; stops = tt }
 
 -- the bus stands for the state of the run
 pub ended_stands : {D : DeskRelations} {left now now' held held' : Option (List ℕ)} {course : Course} {reader reader' : Reading} {bus : Standing} (e : RunEnding)

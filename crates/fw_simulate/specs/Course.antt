@@ -2,7 +2,7 @@
 use Rattle.std.specs.Prelude.{◌≡◌, ℕ, List, [], Option, Some, None, Ok, Err, IsFalse, ⊤}
 use Rattle.fw_outside.specs.declared.stop.Stop.TheVariants.{ReadFault, WriteFault, TooLong, NoMemory}
 use Rattle.fw_entry.specs.declared.entry.Timed.{Timed}
-use Rattle.fw_script.specs.Reading.{Reading, Answer}
+use Rattle.fw_script.specs.Reading.{Reading, Answer, IsHeld}
 use Rattle.fw_script.specs.declared.ScriptFault.TheVariants as Fault
 use Rattle.fw_command.specs.declared.command.Command.{Command}
 use Rattle.fw_run.specs.Actions.{Action}
@@ -84,3 +84,12 @@ abbrev pub IsShownBy : (D : DeskRelations) (left left' held held' : Option (List
 IsShownBy D left left' held held' Done x reader = ⊤
 IsShownBy D left left' held held' (Refused r) x reader = ShowsLine D left left' held held' r.why r.line x reader
 IsShownBy D left left' held held' (Stopped stop) x reader = ⊤
+
+-- the reader stands at the line that is refused; if the source failed no whole line is held
+abbrev pub StopsAt : RunEnding → Reading → Type 0
+StopsAt Done reader = ⊤
+StopsAt (Refused r) reader = r.line ≡ reader.line
+StopsAt (Stopped ReadFault) reader = IsHeld (Err Fault.ReadFault) reader
+StopsAt (Stopped WriteFault) reader = ⊤
+StopsAt (Stopped TooLong) reader = ⊤
+StopsAt (Stopped NoMemory) reader = ⊤

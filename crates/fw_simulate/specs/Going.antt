@@ -24,7 +24,7 @@ use Rattle.fw_run.specs.Desks.{DeskRelations}
 use Rattle.fw_run.specs.Given.{AreGiven}
 use Rattle.fw_run.specs.Runs.{Run}
 use Rattle.fw_bus.specs.Buses.{StandsFor, Standing}
-use Rattle.fw_simulate.specs.Course.{Course, course_at, answer_at, StandsAt, IsShownBy}
+use Rattle.fw_simulate.specs.Course.{Course, course_at, answer_at, StandsAt, IsShownBy, StopsAt}
 use Rattle.fw_simulate.specs.Ending.{Runs}
 use Rattle.fw_simulate.specs.declared.ending.RunEnding.{RunEnding}
 
@@ -112,6 +112,7 @@ pub record Ended (D : DeskRelations) (left now now' held held' : Option (List �
   pub reads : Advances reader reader' now now' (answer_at D left now' held held' ending runs)
   pub stands : StandsAt ending bus' course.state
   pub shown : IsShownBy D left now' held held' ending runs reader'
+  pub stops : StopsAt ending reader'
 
 -- what a step did: a command more, or the end of the run
 abbrev pub Continues : {D : DeskRelations} {left now held after : Option (List ℕ)} {reader : Reading} {bus : Standing} → Going D left now held after reader bus

@@ -34,8 +34,8 @@ fn ending_of(fault: ScriptFault, line: u32) -> RunEnding
 }
 
 /// Reads the next command of a script, and carries it out; the blocks of tapes, and what a vendor makes of a byte, come from the desk.
-/// It answers how the run ends, or None where it goes on. If a line is refused the reader has its text, and unless a write failed the bus stands
-/// for what was carried out before.
+/// It answers how the run ends, or None where it goes on. If a line is refused the reader has its text and its number, and unless a write failed
+/// the bus stands for what was carried out before.
 ///
 /// The reader may stand further on than behind the last command: a caller may look at lines, and pass over those that say nothing.
 ///

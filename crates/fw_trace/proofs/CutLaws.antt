@@ -1,0 +1,115 @@
+-- A trace whose run was cut off by a write that failed.
+use Rattle.std.proofs.Common.{◌≡◌, refl, sym, ap, subst, ◌∙◌, ℕ, Bool, List, [], ◌∷◌, ◌++◌, Option, Some, None, Ok, append_assoc}
+use Rattle.std.proofs.lemmas.List.{append-nil}
+use Rattle.fw_outside.specs.Outside.{Grows, AppendsFront}
+use Rattle.fw_outside.proofs.Parts.{then_front}
+use Rattle.fw_entry.specs.declared.entry.Timed.{Timed}
+use Rattle.fw_command.specs.declared.command.Command.{Command}
+use Rattle.fw_script.specs.Reading.{Reading, Advances}
+use Rattle.fw_script.specs.declared.stage.Stage.TheVariants.{Commands, Done}
+use Rattle.fw_run.specs.Actions.{Action, Steps}
+use Rattle.fw_run.specs.Desks.{DeskRelations}
+use Rattle.fw_run.specs.Given.{AreGiven}
+use Rattle.fw_bus.specs.Buses.{Standing}
+use Rattle.fw_simulate.specs.Course.{Course}
+use Rattle.fw_simulate.specs.Ending.{PartLogged, Began}
+use Rattle.fw_simulate.specs.Going.{course_of}
+use Rattle.fw_tracer.proofs.LoopLaws.{caused_append}
+use Rattle.fw_tracer.specs.Caused.{caused_text, untold}
+use Rattle.fw_tracer.specs.Commands.{Traced, begun, lines_from, last_lines, telling_behind, command_lines}
+use Rattle.fw_trace.specs.Parts.{Part, PartsRun, AreLines, part_text, lines_of, trace_text}
+use Rattle.fw_trace.specs.Passed.{GrowsFront, WasPassed}
+use Rattle.fw_trace.specs.Telling.{ToldPart}
+use Rattle.fw_trace.specs.Traces.{TellsFront, IsBegun}
+use Rattle.fw_trace.specs.Tracing.{Begun, HasLines, kept_from}
+use Rattle.fw_trace.proofs.EndedLaws.{are_lines}
+use Rattle.fw_trace.proofs.FrontLaws.{part_told}
+use Rattle.fw_trace.proofs.HeldLaws.{end_given, none_done}
+use Rattle.fw_trace.proofs.PartLaws.{lines_looked, text_more}
+use Rattle.fw_trace.proofs.PassedLaws.{front_of, grows_front_more}
+use Rattle.fw_trace.proofs.TracedLaws.{line_carried, lines_end}
+
+-- the text of a whole command begins with that of its entries
+whole_front : (held held' : Option (List ℕ)) (origin : Traced) (out : List Timed) (whole : List ℕ) → GrowsFront held held' (origin.text ++ caused_text (lines_from origin.telling out))
+    → whole ≡ origin.text ++ caused_text (command_lines origin.telling out) → GrowsFront held held' whole
+whole_front held held' origin out whole x e =
+    let first = lines_from origin.telling out in
+    let last = last_lines (telling_behind origin.telling out) in
+    grows_front_more held held' (origin.text ++ caused_text first) (caused_text last) whole x
+    (append_assoc origin.text (caused_text first) (caused_text last) ∙ ap (λ (l : List ℕ). origin.text ++ l) (sym (caused_append first last)) ∙ sym e)
+
+-- a front of one part more was told
+front_more : (held start held' : Option (List ℕ)) (parts : List Part) (part : Part) → Grows held start (trace_text parts)
+    → GrowsFront start held' (part_text (lines_of 0 parts) (kept_from untold parts) part) → AppendsFront held held' (trace_text (parts ++ part ∷ []))
+front_more held start held' parts part x y =
+    let text = part_text (lines_of 0 parts) (kept_from untold parts) part in
+    subst (λ (l : List ℕ). AppendsFront held held' l) (sym (text_more 0 untold parts part)) (then_front held start held' (trace_text parts) text x (front_of start held' text y))
+
+-- what a run has come to that was cut off
+abbrev pub cut_course : {D : DeskRelations} {left left' held held' : Option (List ℕ)} → PartLogged D left left' held held' → Course
+cut_course p = record { commands = p.commands; actions = p.actions; log = p.log; state = p.state }
+
+module _ {D : DeskRelations} {left mid left' held start held' : Option (List ℕ)} {reader : Reading} {bus : Standing} {origin : Traced} {earlier history : List ℕ} {c : Command} {place : Option (ℕ × ℕ)}
+    (line : Option (List ℕ)) (b : Begun D left mid held start reader bus origin earlier line c place) (p : PartLogged D left left' (Some []) (Some history))
+    (same : cut_course p ≡ course_of b.going) where
+  with_parts : (parts : List Part) → IsBegun D (cut_course p) parts → AreLines left left' (b.parts ++ parts) → AppendsFront held held' (trace_text (b.parts ++ parts))
+      → TellsFront D left left' held held'
+  with_parts parts begins lines grew = record {
+    parts = b.parts;
+    course = cut_course p;
+    run = subst (PartsRun b.parts) (sym same) b.run;
+    given = subst (λ (k : Course). AreGiven D k.actions) (sym same) b.going.given;
+    begun = parts;
+    begins = begins;
+    lines = lines;
+    grew = grew;
+  }
+
+  -- a command was begun
+  with_part : (reader' : Reading) (part : Part) → IsBegun D (cut_course p) (part ∷ []) → HasLines left left' (b.parts ++ part ∷ []) reader'
+      → GrowsFront start held' (origin.text ++ caused_text (lines_from origin.telling p.out))
+      → part_text (lines_of 0 b.parts) (kept_from untold b.parts) part ≡ origin.text ++ caused_text (command_lines origin.telling p.out) → TellsFront D left left' held held'
+  with_part reader' part begins lines told e =
+      with_parts (part ∷ []) begins (are_lines left left' (b.parts ++ part ∷ []) reader' lines)
+      (front_more held start held' b.parts part b.told (whole_front start held' origin p.out (part_text (lines_of 0 b.parts) (kept_from untold b.parts) part) told e))
+
+-- by what stands next
+cut_by : {D : DeskRelations} {left mid left' held start held' : Option (List ℕ)} {reader reader' : Reading} {bus : Standing} {origin : Traced} {earlier history : List ℕ} {c : Command}
+    {place : Option (ℕ × ℕ)}
+    (line : Option (List ℕ)) (b : Begun D left mid held start reader bus origin earlier line c place) (p : PartLogged D left left' (Some []) (Some history)) → cut_course p ≡ course_of b.going
+    → GrowsFront start held' (origin.text ++ caused_text (lines_from origin.telling p.out))
+    → (o : Option Command) → p.begun ≡ o → Advances reader reader' mid left' (Ok o) → Began o p.state p.done → TellsFront D left left' held held'
+cut_by {D} {left} {mid} {left'} {held} {start} {held'} {reader} {reader'} {origin = origin} {c = c} None b p same told None e a began =
+    let none : p.out ≡ [] = (subst (λ (d : List Action). Steps p.state d p.out p.after) began p.steps).0 in
+    let nothing : origin.text ++ caused_text (lines_from origin.telling p.out) ≡ [] = λ i. b.text i ++ caused_text (lines_from origin.telling (none i)) in
+    let all = then_front held start held' (trace_text b.parts) [] b.told (front_of start held' [] (subst (λ (l : List ℕ). GrowsFront start held' l) nothing told)) in
+    with_parts None b p same [] tt
+    (subst (λ (ps : List Part). AreLines left left' ps) (sym (append-nil b.parts)) (are_lines left left' b.parts a.known (lines_looked left mid left' b.parts reader a.known b.lines a.takes)))
+    (subst (λ (ps : List Part). AppendsFront held held' (trace_text ps)) (sym (append-nil b.parts)) (subst (λ (l : List ℕ). AppendsFront held held' l) (append-nil (trace_text b.parts)) all))
+cut_by {D} {left} {mid} {left'} {reader = reader} {reader' = reader'} {origin = origin} {c = c} None b p same told (Some other) e a began =
+    let gave = end_given reader reader' mid left' other a c b.gives in
+    let before = kept_from untold b.parts in
+    let from : origin.telling ≡ before = b.kept ∙ ap (λ (d : Command). begun d before) b.gives.0 in
+    with_part None b p same reader' (Part.end p.out)
+    (refl, (p.done, p.after, subst (λ (d : Command). Began (Some d) p.state p.done) gave.is began, p.given, p.steps))
+    (lines_end left mid left' b.parts p.out reader reader' a.takes.taken b.lines a.takes.takes gave.none gave.now) told
+    (λ i. sym b.text i ++ caused_text (command_lines (sym from i) p.out))
+cut_by {mid = mid} {left' = left'} {reader = reader} {reader' = reader'} (Some text) b p same told None e a began =
+    let (size, l, said, stage, form, not_end) = b.gives in
+    let wrong : Commands ≡ Done = sym stage ∙ none_done reader reader' mid left' a in
+    absurd cc
+cut_by {D} {left} {mid} {left'} {reader = reader} {reader' = reader'} {origin = origin} {c = c} {place = place} (Some text) b p same told (Some other) e a began =
+    let (size, l, said, stage, form, not_end) = b.gives in
+    let carried = line_carried reader reader' left mid left' b.parts text size c other p.out place b.lines l said stage form not_end a in
+    with_part (Some text) b p same reader' (Part.command text c p.out place)
+    (refl, form, (p.done, p.after, subst (λ (d : Command). Began (Some d) p.state p.done) carried.0 began, p.given, p.steps))
+    carried.1 told (λ i. sym b.text i ++ caused_text (command_lines (sym b.kept i) p.out))
+
+pub cut_traced : {D : DeskRelations} {left mid left' held start held' : Option (List ℕ)} {reader reader' : Reading} {bus : Standing} {origin : Traced} {earlier history : List ℕ} {c : Command}
+    {place : Option (ℕ × ℕ)}
+    (line : Option (List ℕ)) (b : Begun D left mid held start reader bus origin earlier line c place) (p : PartLogged D left left' (Some []) (Some history)) → cut_course p ≡ course_of b.going
+    → Advances reader reader' mid left' (Ok p.begun) → (failed : Bool) (faults faults' : ℕ) (given : List ℕ) → WasPassed failed start held' faults faults' given
+    → ∥ ToldPart origin earlier history given ∥₁
+    → TellsFront D left left' held held'
+cut_traced {start = start} {held' = held'} {origin = origin} line b p same a failed faults faults' given passed told =
+    cut_by line b p same (part_told b.going p (ap (λ (k : Course). k.log) same) origin given b.read failed start held' faults faults' passed told) p.begun refl a p.began

@@ -1,0 +1,49 @@
+-- A trace that has ended as its run.
+use Rattle.std.proofs.Common.{◌≡◌, ℕ, List, [], ◌∷◌, ◌++◌, Option, Some, ◌⊎◌, inl, inr}
+use Rattle.fw_outside.specs.declared.stop.Stop.TheVariants.{ReadFault, WriteFault, TooLong, NoMemory}
+use Rattle.fw_entry.specs.Log.{header_bytes}
+use Rattle.fw_entry.specs.declared.version.Version.TheVariants.{Two}
+use Rattle.fw_script.specs.Reading.{Reading}
+use Rattle.fw_run.specs.Desks.{DeskRelations}
+use Rattle.fw_run.specs.Giving.{log_bytes}
+use Rattle.fw_simulate.specs.Course.{course_at, refused_course}
+use Rattle.fw_simulate.specs.Ending.{Runs, RefusesBy}
+use Rattle.fw_simulate.specs.declared.ending.RunEnding.{RunEnding}
+use Rattle.fw_simulate.specs.declared.ending.RunEnding.TheVariants.{Done, Refused, Stopped}
+use Rattle.fw_simulate.specs.declared.ending.Refusal.{Refusal}
+use Rattle.fw_simulate.specs.declared.ending.Refusal.TheVariants.{BadLine, LineTooLong, NoEnd, Rule}
+use Rattle.fw_trace.specs.Parts.{Part, AreLines, bytes_of}
+use Rattle.fw_trace.specs.Tracing.{HasLines, IsSplit}
+
+-- the endings in which no write failed
+abbrev pub IsWhole : RunEnding → Type 0
+IsWhole Done = Unit {0}
+IsWhole (Refused r) = Unit {0}
+IsWhole (Stopped ReadFault) = Unit {0}
+IsWhole (Stopped WriteFault) = ⊥
+IsWhole (Stopped TooLong) = Unit {0}
+IsWhole (Stopped NoMemory) = ⊥
+
+refused_bytes : (D : DeskRelations) (left left' : Option (List ℕ)) (written : List ℕ) (why : Refusal) (line : ℕ) (x : RefusesBy D left left' (Some []) (Some written) why line)
+    → written ≡ header_bytes Two ++ log_bytes 0 (refused_course D left left' (Some []) (Some written) why line x).log
+refused_bytes D left left' written BadLine line x = x.logged.grew
+refused_bytes D left left' written LineTooLong line x = x.logged.grew
+refused_bytes D left left' written NoEnd line x = x.logged.grew
+refused_bytes D left left' written (Rule rule) line x = x.logged.grew
+
+-- what was written in memory is the log of what the run had come to
+pub ended_bytes : (D : DeskRelations) (left left' : Option (List ℕ)) (written : List ℕ) (e : RunEnding) → IsWhole e → (x : Runs D left left' (Some []) (Some written) e)
+    → written ≡ header_bytes Two ++ log_bytes 0 (course_at D left left' (Some []) (Some written) e x).log
+ended_bytes D left left' written Done w x = x.logged.grew
+ended_bytes D left left' written (Refused r) w x = refused_bytes D left left' written r.why r.line x
+ended_bytes D left left' written (Stopped ReadFault) w x = x.logged.grew
+ended_bytes D left left' written (Stopped WriteFault) w x = absurd w
+ended_bytes D left left' written (Stopped TooLong) w x = x.refused.logged.grew
+ended_bytes D left left' written (Stopped NoMemory) w x = absurd w
+
+pub split_of : (taken : List ℕ) (parts : List Part) (p : Reading) → IsSplit taken parts p → (taken ≡ bytes_of parts ++ p.rest) ⊎ ((taken ++ 10 ∷ [] ≡ bytes_of parts) × (p.rest ≡ []))
+split_of taken parts p (inl e) = inl e
+split_of taken parts p (inr (e, none, whole)) = inr (e, none)
+
+abbrev pub are_lines : (left left' : Option (List ℕ)) (parts : List Part) (p : Reading) → HasLines left left' parts p → AreLines left left' parts
+are_lines left left' parts p x = record { taken = x.taken; takes = x.takes; rest = p.rest; split = split_of x.taken parts p x.split; free = x.free }

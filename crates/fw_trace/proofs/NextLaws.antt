@@ -1,0 +1,248 @@
+-- A trace before its next line: what the line says, or that none stands next.
+use Rattle.std.proofs.Common.{◌≡◌, ◌≢◌, refl, sym, ap, subst, ◌∙◌, ℕ, ◌+◌, ◌<◌, List, [], ◌∷◌, ◌++◌, take, true, ◌⊎◌, inl, inr, Option, Some, None, Ok, Err}
+use Rattle.std.proofs.lemmas.List.{append-nil}
+use Rattle.fw_outside.specs.Outside.{Grows, AppendsFront}
+use Rattle.fw_outside.specs.declared.stop.Stop.TheVariants.{ReadFault, NoMemory}
+use Rattle.fw_entry.specs.Log.{header_bytes}
+use Rattle.fw_entry.specs.declared.version.Version.TheVariants.{Two}
+use Rattle.fw_command.specs.Form.{HasForm}
+use Rattle.fw_command.specs.Pieces.{IsFree}
+use Rattle.fw_command.specs.declared.command.Command.{Command}
+use Rattle.fw_command.specs.declared.command.Command.TheVariants.{End}
+use Rattle.fw_script.specs.Line.{is_skipped}
+use Rattle.fw_script.specs.Passing.{FailsThere, HasNoLine, IsCommandNext, Passes}
+use Rattle.fw_script.specs.Reader.{HoldsLine, IsOpen}
+use Rattle.fw_script.specs.Reading.{Reading, Advances, IsAtEndOfInput, IsHeld, IsLine, TakesMore, at_stage, behind, refused}
+use Rattle.fw_script.specs.Reading.GivesFirst.{end_of_input, long_line, no_end, too_long}
+use Rattle.fw_script.specs.declared.ScriptFault.TheVariants as Fault
+use Rattle.fw_script.specs.declared.reader.passing.Said.TheVariants.{Nothing, Refused}
+use Rattle.fw_script.specs.declared.stage.Stage.{Stage}
+use Rattle.fw_script.specs.declared.stage.Stage.TheVariants.{Commands, AfterEnd, Done, Failed}
+use Rattle.fw_script.proofs.LineLaws.{line_not_end}
+use Rattle.fw_script.proofs.PassLaws.{pass_over, refused_gives}
+use Rattle.fw_run.specs.Desks.{DeskRelations}
+use Rattle.fw_run.specs.Giving.{log_bytes}
+use Rattle.fw_run.specs.Rules.{Decides}
+use Rattle.fw_run.specs.declared.order.Order.{Order}
+use Rattle.fw_run.specs.declared.order.Order.TheVariants as order
+use Rattle.fw_bus.specs.Buses.{Standing}
+use Rattle.fw_simulate.specs.Course.{Course}
+use Rattle.fw_simulate.specs.Going.{IsUnderWay, course_of, to_read}
+use Rattle.fw_simulate.specs.declared.ending.RunEnding.{RunEnding}
+use Rattle.fw_simulate.specs.declared.ending.RunEnding.TheVariants.{Stopped}
+use Rattle.fw_simulate.proofs.Faults.{faulted}
+use Rattle.fw_simulate.proofs.Passings.{going_looked, going_passed}
+use Rattle.fw_tracer.specs.Caused.{untold}
+use Rattle.fw_tracer.specs.Commands.{Traced, begun}
+use Rattle.fw_tracer.specs.Lines.{line_text}
+use Rattle.fw_trace.specs.Parts.{Part, PartsRun, AreLines, place_of, trace_text}
+use Rattle.fw_trace.specs.declared.lack.Lack.{Lack}
+use Rattle.fw_trace.specs.Passed.{PassesBy}
+use Rattle.fw_trace.specs.Traces.{Traces}
+use Rattle.fw_trace.specs.Tracing.{Begun, TracesOn, HasLines, HoldsNoCommand, IsOver, Tracing}
+use Rattle.fw_trace.proofs.EndedLaws.{are_lines}
+use Rattle.fw_trace.proofs.HeldLaws.{whole_known}
+use Rattle.fw_trace.proofs.PartLaws.{kept_more, lines_behind, lines_looked}
+use Rattle.fw_trace.proofs.TextLaws.{told_more}
+
+pub under_way : {D : DeskRelations} {left left' held held' : Option (List ℕ)} {reader : Reading} {bus : Standing} {tracer : Traced} {history : List ℕ}
+    → Tracing D left left' held held' reader bus tracer history → IsUnderWay D left' reader bus
+under_way {left = left} t = record { left = left; held = Some []; after = Some t.after; going = t.going }
+
+-- ---- what stands next
+
+pub none_next : (p : Reading) → p.stage ≢ Failed → HasNoLine p → (p.stage ≡ Done) ⊎ HoldsNoCommand p
+none_next p unfailed (inl d) = inl d
+none_next p unfailed (inr (inl l)) = inr (record { answer = Err Fault.LineTooLong; next = refused p (take 257 p.rest); gives = long_line l; none = refl })
+none_next p unfailed (inr (inr (inl l))) = inr (record { answer = Err Fault.TooLong; next = at_stage p Failed; gives = too_long l; none = l })
+none_next p unfailed (inr (inr (inr e))) = by p.stage refl
+  where
+    by : (s : Stage) → p.stage ≡ s → (p.stage ≡ Done) ⊎ HoldsNoCommand p
+    by Commands s = inr (record { answer = Err Fault.NoEnd; next = refused p []; gives = no_end e s; none = refl })
+    by AfterEnd s = inr (record { answer = Ok (Some End); next = at_stage p Done; gives = end_of_input e s; none = (refl, e, refl) })
+    by Done s = inl s
+    by Failed s = absurd (unfailed s)
+
+pub refused_next : (p q : Reading) (n size : ℕ) (c : Command) → HoldsLine p n size → Passes p n size Refused c q → (p.stage ≡ Done) ⊎ HoldsNoCommand p
+refused_next p q n size c h s = inr (record { answer = Err Fault.BadLine; next = at_stage (behind p (take n p.rest) size) Failed; gives = refused_gives p q n size c h s; none = refl })
+
+-- where a line stands next lines are read
+pub line_open : (p : Reading) (text : List ℕ) (size : ℕ) → p.stage ≢ Failed → IsOver p → IsLine p text size → IsOpen p.stage
+line_open p text size unfailed over l = by p.stage refl
+  where
+    by : (s : Stage) → p.stage ≡ s → IsOpen p.stage
+    by Commands e = subst (λ (s : Stage). IsOpen s) (sym e) tt
+    by AfterEnd e = subst (λ (s : Stage). IsOpen s) (sym e) tt
+    by Done e = absurd (line_not_end p text size l (over e))
+    by Failed e = absurd (unfailed e)
+
+-- ---- before it is carried out
+
+-- no command stands next
+pub begun_alone : {D : DeskRelations} {left left' held held' : Option (List ℕ)} {reader : Reading} {bus : Standing} {tracer : Traced} {history : List ℕ}
+    (t : Tracing D left left' held held' reader bus tracer history)
+    → (reader.stage ≡ Done) ⊎ HoldsNoCommand reader → (start : Option (List ℕ)) (origin : Traced) (earlier : List ℕ) → start ≡ held' → origin ≡ tracer → earlier ≡ history
+    → Begun D left left' held start reader bus origin earlier None End None
+begun_alone {held = held} t none start origin earlier s o e = record {
+  after = t.after;
+  going = t.going;
+  parts = t.parts;
+  run = t.run;
+  lines = t.lines;
+  over = t.over;
+  read = e ∙ t.read;
+  text = ap (λ (x : Traced). x.text) (o ∙ t.keeps);
+  kept = ap (λ (x : Traced). x.telling) (o ∙ t.keeps);
+  told = subst (λ (x : Option (List ℕ)). Grows held x (trace_text t.parts)) (sym s) t.told;
+  gives = (refl, none);
+  placed = λ a d. let is : a ≡ order.End = d.0 in ap place_of (sym is);
+}
+
+-- a command stands next
+pub begun_line : {D : DeskRelations} {left left' held held' : Option (List ℕ)} {reader : Reading} {bus : Standing} {tracer : Traced} {history : List ℕ}
+    (t : Tracing D left left' held held' reader bus tracer history)
+    (n size : ℕ) (c : Command) → HoldsLine reader n size → IsCommandNext reader reader (take n reader.rest) c
+    → (start : Option (List ℕ)) (origin : Traced) (earlier : List ℕ) (number : ℕ) (place : Option (ℕ × ℕ))
+    → start ≡ held' → number ≡ reader.line + 1 → origin.text ≡ tracer.text ++ line_text number (take n reader.rest) → origin.telling ≡ begun c tracer.telling → earlier ≡ history
+    → ((o : Order) → Decides t.going.state c (Ok o) → place ≡ place_of o) → Begun D left left' held start reader bus origin earlier (Some (take n reader.rest)) c place
+begun_line {held = held} {reader = reader} t n size c h s start origin earlier number place st num text kept e placed = record {
+  after = t.after;
+  going = t.going;
+  parts = t.parts;
+  run = t.run;
+  lines = t.lines;
+  over = t.over;
+  read = e ∙ t.read;
+  text = text ∙ (λ i. (t.keeps i).text ++ line_text ((num ∙ ap (λ (k : ℕ). k + 1) t.lines.number) i) (take n reader.rest));
+  kept = kept ∙ ap (λ (x : Traced). begun c x.telling) t.keeps;
+  told = subst (λ (x : Option (List ℕ)). Grows held x (trace_text t.parts)) (sym st) t.told;
+  gives = (size, h.line, s.said, s.stage, s.form, s.other);
+  placed = placed;
+}
+
+-- ---- a line that says nothing by itself
+
+-- it was read
+record Behind (left left' : Option (List ℕ)) (parts : List Part) (p q : Reading) (text : List ℕ) : Type 0 where
+  lines : HasLines left left' (parts ++ Part.line text ∷ []) q
+  over : IsOver q
+  number : q.line ≡ p.line + 1
+  shown : q.text ≡ text
+  says : (is_skipped text ≡ true) ⊎ HasForm End text
+
+line_behind : (left left' : Option (List ℕ)) (parts : List Part) (p q : Reading) (n size : ℕ) (c : Command) → HasLines left left' parts p → IsOver p → HoldsLine p n size → Passes p n size Nothing c q
+    → Behind left left' parts p q (take n p.rest)
+line_behind left left' parts p q n size c x over h (inl s) =
+    let text = take n p.rest in
+    subst (λ (z : Reading). Behind left left' parts p z text) (sym s.now) (record {
+      lines = lines_behind left left' parts p (Part.line text) text size refl refl (λ f. (f, tt)) x h.line;
+      over = λ d. absurd (line_not_end p text size h.line (over d));
+      number = refl;
+      shown = refl;
+      says = inl s.skipped;
+    })
+line_behind left left' parts p q n size c x over h (inr e) =
+    let text = take n p.rest in
+    let b = lines_behind left left' parts p (Part.line text) text size refl refl (λ f. (f, tt)) x h.line in
+    subst (λ (z : Reading). Behind left left' parts p z text) (sym e.now) (record {
+      lines = record { taken = b.taken; takes = b.takes; split = b.split; free = b.free; number = b.number; few = b.few; count = b.count };
+      over = λ d. let wrong : AfterEnd ≡ Done = d in absurd cc;
+      number = refl;
+      shown = refl;
+      says = inr e.form;
+    })
+
+-- it was told
+pub line_told : {D : DeskRelations} {left left' held held' : Option (List ℕ)} {p : Reading} {bus : Standing} {tracer : Traced} {history : List ℕ}
+    (t : Tracing D left left' held held' p bus tracer history)
+    (q : Reading) (n size : ℕ) (c : Command) → HoldsLine p n size → Passes p n size Nothing c q → (held2 : Option (List ℕ)) → Grows held' held2 (tracer.text ++ line_text q.line q.text)
+    → Tracing D left left' held held2 q bus (record { text = []; telling = tracer.telling }) history
+line_told {D} {left} {left'} {held} {held'} {p} {bus} {tracer} t q n size c h s held2 grew =
+    let text = take n p.rest in
+    let b = line_behind left left' t.parts p q n size c t.lines t.over h s in
+    let g = going_passed D left left' (Some []) (Some t.after) p q bus t.going (pass_over p q n size c h s) in
+    let course : course_of t.going ≡ course_of g.0 = sym g.1 in
+    record {
+      after = t.after;
+      going = g.0;
+      parts = t.parts ++ Part.line text ∷ [];
+      run = PartsRun.and_line (subst (PartsRun t.parts) course t.run) text b.says;
+      lines = b.lines;
+      over = b.over;
+      read = t.read ∙ ap (λ (k : Course). header_bytes Two ++ log_bytes 0 k.log) course;
+      keeps = λ i. record { text = []; telling = (ap (λ (x : Traced). x.telling) t.keeps ∙ sym (kept_more untold t.parts (Part.line text))) i };
+      told = told_more held held' held2 t.parts (Part.line text) (tracer.text ++ line_text q.line q.text) t.told grew
+          (λ i. (t.keeps i).text ++ line_text ((b.number ∙ ap (λ (k : ℕ). k + 1) t.lines.number) i) (b.shown i));
+    }
+
+-- ---- a look
+
+-- bytes were taken
+pub tracing_looked : {D : DeskRelations} {left mid held held' : Option (List ℕ)} {p : Reading} {bus : Standing} {tracer : Traced} {history : List ℕ}
+    (t : Tracing D left mid held held' p bus tracer history)
+    (left' : Option (List ℕ)) (q : Reading) → TakesMore p q mid left' → q.stage ≡ p.stage → Tracing D left left' held held' q bus tracer history
+tracing_looked {D} {left} {mid} {p = p} {bus = bus} t left' q m stage =
+    let g = going_looked D left mid left' (Some []) (Some t.after) p q bus t.going m in
+    let course : course_of t.going ≡ course_of g.0 = sym g.1 in
+    record {
+      after = t.after;
+      going = g.0;
+      parts = t.parts;
+      run = subst (PartsRun t.parts) course t.run;
+      lines = lines_looked left mid left' t.parts p q t.lines m;
+      over = λ d. let e = t.over (sym stage ∙ d) in subst (λ (z : Reading). IsAtEndOfInput z) (sym (whole_known p q mid left' e.1 m)) e;
+      read = t.read ∙ ap (λ (k : Course). header_bytes Two ++ log_bytes 0 k.log) course;
+      keeps = t.keeps;
+      told = t.told;
+    }
+
+-- the source failed
+pub fault_traced : {D : DeskRelations} {left mid held held' : Option (List ℕ)} {p : Reading} {bus : Standing} {tracer : Traced} {history : List ℕ}
+    (t : Tracing D left mid held held' p bus tracer history)
+    (left' : Option (List ℕ)) (q : Reading) → Advances p q mid left' (Err Fault.ReadFault) → IsHeld (Err Fault.ReadFault) q → FailsThere p q mid left'
+    → Traces D left left' held held' (Stopped ReadFault)
+fault_traced {D} {left} {mid} {p = p} t left' q a cut f =
+    let e = faulted left' q Fault.ReadFault t.going a cut in
+    record {
+      written = t.after;
+      runs = e.runs;
+      parts = t.parts;
+      run = subst (PartsRun t.parts) (sym e.same) t.run;
+      lines = are_lines left left' t.parts f.known (lines_looked left mid left' t.parts p f.known t.lines f.takes);
+      left_out = subst (λ (z : Reading). IsFree 10 z.rest) f.now cut.0;
+      grew = t.told;
+    }
+
+-- memory ran out before the line was carried out
+pub lack_traced : {D : DeskRelations} {left left' held held' : Option (List ℕ)} {p : Reading} {bus : Standing} {tracer : Traced} {history : List ℕ}
+    (t : Tracing D left left' held held' p bus tracer history)
+    (now : Option (List ℕ)) → now ≡ held' → Traces D left left' held now (Stopped NoMemory)
+lack_traced {D} {left} {left'} {held} {p = p} t now e =
+    let whole : AppendsFront held now (trace_text t.parts) = record {
+      front = trace_text t.parts;
+      rest = [];
+      parts = sym (append-nil (trace_text t.parts));
+      appended = subst (λ (o : Option (List ℕ)). Grows held o (trace_text t.parts)) (sym e) t.told;
+    } in
+    record {
+      parts = t.parts;
+      course = course_of t.going;
+      run = t.run;
+      given = t.going.given;
+      begun = [];
+      begins = tt;
+      lines = subst (AreLines left left') (sym (append-nil t.parts)) (are_lines left left' t.parts p t.lines);
+      grew = subst (λ (ps : List Part). AppendsFront held now (trace_text ps)) (sym (append-nil t.parts)) whole;
+    }
+
+-- the measure goes on from before a look
+pub measured : (D : DeskRelations) (left left' held held' : Option (List ℕ)) (p q reader : Reading) (bus : Standing) (tracer : Traced) (history : List ℕ) (r : Option RunEnding) → to_read q ≡ to_read p
+    → TracesOn D left left' held held' q reader bus tracer history r → TracesOn D left left' held held' p reader bus tracer history r
+measured D left left' held held' p q reader bus tracer history None e x = (x.0, subst (λ (n : ℕ). to_read reader < n) e x.1)
+measured D left left' held held' p q reader bus tracer history (Some ending) e x = x
+
+-- a line that says nothing was not told whole
+pub line_stops : (lack : Lack) (mid now : Option (List ℕ)) (faults faults' : ℕ) (before : List ℕ) (n number : ℕ) (l text : List ℕ) → n ≡ number → l ≡ text
+    → PassesBy (Err lack) mid now faults faults' (before ++ line_text n l) → PassesBy (Err lack) mid now faults faults' (before ++ line_text number text)
+line_stops lack mid now faults faults' before n number l text e f p =
+    subst (λ (t : List ℕ). PassesBy (Err lack) mid now faults faults' (before ++ t)) (λ i. line_text (e i) (f i)) p

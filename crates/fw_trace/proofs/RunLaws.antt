@@ -1,0 +1,45 @@
+-- What a sink that tells has read is the log of the run.
+use Rattle.std.proofs.Common.{◌≡◌, refl, sym, subst, ℕ, List, [], ◌++◌, Option, Some, None, Ok, Err}
+use Rattle.fw_entry.specs.Log.{header_bytes, LogOpens}
+use Rattle.fw_entry.specs.declared.version.Version.{Version}
+use Rattle.fw_entry.specs.declared.version.Version.TheVariants.{Two}
+use Rattle.fw_entry.specs.declared.entry.Timed.{Timed}
+use Rattle.fw_log.specs.History.{HasRead}
+use Rattle.fw_log.specs.Reader.{State as LogState, finish_of}
+use Rattle.fw_log.specs.declared.LogFault.{LogFault}
+use Rattle.fw_log.proofs.HistoryLaws.{finishes}
+use Rattle.fw_command.specs.declared.command.Command.{Command}
+use Rattle.fw_script.specs.Reading.{Reading}
+use Rattle.fw_script.specs.declared.stage.Stage.{Stage}
+use Rattle.fw_script.specs.declared.stage.Stage.TheVariants.{Commands, AfterEnd, Done, Failed}
+use Rattle.fw_run.specs.Desks.{DeskRelations}
+use Rattle.fw_run.specs.Giving.{log_bytes}
+use Rattle.fw_run.specs.Runs.{Run}
+use Rattle.fw_run.proofs.Logs.{run_opens, run_spells}
+use Rattle.fw_bus.specs.Buses.{Standing}
+use Rattle.fw_simulate.specs.Going.{Going, HasReadTo}
+use Rattle.fw_simulate.proofs.Calls.{given_no_end}
+
+-- of bytes that are a log, its entries were read
+pub only_read : (entries all : List Timed) (v : Version) (bytes : List ℕ) (r : LogState) → HasRead entries bytes r → LogOpens all v bytes → all ≡ entries
+only_read entries all v bytes r h o = by (finish_of r) refl
+  where
+    by : (f : Option LogFault) → finish_of r ≡ f → all ≡ entries
+    by None e = (finishes entries bytes r (Ok tt) h (sym e)).only all v o
+    by (Some f) e = (finishes entries bytes r (Err f) h (sym e)).only all v o
+
+-- the log of a run that is under way
+pub going_opens : {D : DeskRelations} {left now held after : Option (List ℕ)} {reader : Reading} {bus : Standing} (g : Going D left now held after reader bus)
+    → LogOpens g.log Two (header_bytes Two ++ log_bytes 0 g.log)
+going_opens {left = left} {now = now} g = by g.read.known.stage g.read.read
+  where
+    by : (s : Stage) → HasReadTo s left now g.commands g.read.known → LogOpens g.log Two (header_bytes Two ++ log_bytes 0 g.log)
+    by Commands h = run_opens g.commands g.actions g.log g.state g.run (given_no_end h)
+    by AfterEnd h = absurd h
+    by Done h = (run_spells h.earlier g.actions g.log g.state (subst (λ (cs : List Command). Run cs g.actions g.log g.state) h.last g.run) h.no_end).opens
+    by Failed h = absurd h
+
+-- in memory it is what was given
+pub going_bytes : {D : DeskRelations} {left now : Option (List ℕ)} {after : List ℕ} {reader : Reading} {bus : Standing} (g : Going D left now (Some []) (Some after) reader bus)
+    → after ≡ header_bytes Two ++ log_bytes 0 g.log
+going_bytes g = g.grew

@@ -1,0 +1,76 @@
+-- What a sink that tells has read and told since a command began.
+use Rattle.std.specs.Prelude.{◌≡◌, ℕ, ◌^◌, ◌-◌, ◌≤◌, Bool, true, false, List, [], ◌++◌, length, take, Option, Some, None, Result, Ok, Err, ⊤}
+use Rattle.fw_entry.specs.declared.entry.Timed.{Timed}
+use Rattle.fw_log.specs.History.{HasRead}
+use Rattle.fw_log.specs.Reader.{State}
+use Rattle.fw_tracer.specs.Caused.{caused_text}
+use Rattle.fw_tracer.specs.Commands.{Traced, lines_from, telling_behind}
+use Rattle.fw_trace.specs.declared.lack.Lack.{Lack}
+use Rattle.fw_trace.specs.declared.lack.Lack.TheVariants.{Memory, Sink}
+
+-- Entries were read of a piece, as far as its first bytes, and their lines were added.
+pub record TakesPart (entries : List Timed) (bytes part : List ℕ) (t t' : Traced) (reader' : State) : Type 0 where
+  pub out : List Timed
+  pub read : HasRead (entries ++ out) (bytes ++ part) reader'
+  pub text : t'.text ≡ t.text ++ caused_text (lines_from t.telling out)
+  pub kept : t'.telling ≡ telling_behind t.telling out
+
+-- the first so many bytes of a piece were read
+abbrev pub TakesOne : {E : Type 0} → List Timed → List ℕ → List ℕ → Traced → Traced → State → Result ℕ E → Type 0
+TakesOne entries bytes piece t t' reader' (Ok used) = TakesPart entries bytes (take used piece) t t' reader'
+TakesOne entries bytes piece t t' reader' (Err _) = ⊤
+
+-- a piece was read
+abbrev pub TakesPiece : {E : Type 0} → List Timed → List ℕ → List ℕ → Traced → Traced → State → Result (Unit {0}) E → Type 0
+TakesPiece entries bytes piece t t' reader' (Ok _) = TakesPart entries bytes piece t t' reader'
+TakesPiece entries bytes piece t t' reader' (Err _) = ⊤
+
+-- part way through a piece
+pub record TakesSome (entries : List Timed) (bytes piece rest : List ℕ) (t t' : Traced) (reader' : State) : Type 0 where
+  pub done : List ℕ
+  pub parts : piece ≡ done ++ rest
+  pub taken : TakesPart entries bytes done t t' reader'
+
+-- All bytes were read, some of them before the command began; what was passed on and what is still to be is the text of the command's
+-- entries, behind what was to be passed on when it began. Before a byte of them is read nothing is passed on.
+pub record Tells (origin now : Traced) (reader : State) (count : ℕ) (earlier bytes passed : List ℕ) : Type 0 where
+  pub before : List Timed
+  pub out : List Timed
+  pub begun : State
+  pub began : HasRead before earlier begun
+  pub read : HasRead (before ++ out) bytes reader
+  pub counted : count ≡ length bytes
+  pub text : passed ++ now.text ≡ origin.text ++ caused_text (lines_from origin.telling out)
+  pub kept : now.telling ≡ telling_behind origin.telling out
+  pub later : length earlier ≤ length bytes
+  pub waits : bytes ≡ earlier → passed ≡ []
+
+-- No more is told: some of the bytes were read, and what was passed on is a front of their text.
+pub record ToldPart (origin : Traced) (earlier bytes passed : List ℕ) : Type 0 where
+  pub before : List Timed
+  pub out : List Timed
+  pub begun : State
+  pub began : HasRead before earlier begun
+  pub front : List ℕ
+  pub more : List ℕ
+  pub last : State
+  pub parts : bytes ≡ front ++ more
+  pub read : HasRead (before ++ out) front last
+  pub rest : List ℕ
+  pub text : passed ++ rest ≡ origin.text ++ caused_text (lines_from origin.telling out)
+
+-- by whether something lacks
+abbrev pub TellsBy : Option Lack → Traced → Traced → State → ℕ → List ℕ → List ℕ → List ℕ → Type 0
+TellsBy None origin now reader count earlier bytes passed = Tells origin now reader count earlier bytes passed
+TellsBy (Some lack) origin now reader count earlier bytes passed = ToldPart origin earlier bytes passed
+
+-- whether the sink that is written to failed
+abbrev pub fails_by : Option Lack → Bool
+fails_by None = false
+fails_by (Some Memory) = false
+fails_by (Some Sink) = true
+
+-- how often a sink that tells has failed: it fails for good
+abbrev pub faults_by : Option Lack → ℕ
+faults_by None = 0
+faults_by (Some lack) = 2 ^ 64 - 1
