@@ -1,4 +1,4 @@
-//! Theorems of what stands against commands, over its definitions: laws, and no code. No crate stands on this one.
+//! Theorems of what stands against commands, over its definitions: laws, and no code. No crate of the program stands on this one.
 #![tactic(auto)]
 
 mod laws;
