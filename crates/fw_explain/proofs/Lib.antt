@@ -1,3 +1,4 @@
 pub mod LoopLaws
 pub mod StandingLaws
 pub mod LatestLaws
+pub mod TailLaws

@@ -1,3 +1,4 @@
 pub mod Resets
 pub mod Lines
 pub mod Explained
+pub mod Tails

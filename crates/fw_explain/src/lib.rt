@@ -8,9 +8,11 @@ mod latest;
 mod line;
 mod lines;
 mod lock;
+mod memo;
 mod packet;
 mod parts;
 mod reset;
 mod response;
+mod tail;
 
 pub use explainer::Explainer;

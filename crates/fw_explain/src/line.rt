@@ -4,6 +4,7 @@ ghost use Rattle.std.specs.Prelude.{◌≡◌, ◌++◌, OnOk};
 ghost use Rattle.fw_explain.specs.Lines.{what_text};
 
 use crate::events::{put_event, put_iso, put_outcome, put_shown};
+use crate::memo::Memo;
 use crate::packet::put_packet;
 use crate::reset::put_reset;
 use fw_entry::Entry;
@@ -16,6 +17,7 @@ use std::alloc::AllocError;
 pub(crate) fn put_what(
     text: &mut Vec<u8>,
     pairs: &Pairs,
+    memo: &mut Memo,
     requests: &Requests,
     what: &Entry,
 ) -> Result<(), AllocError>
@@ -23,7 +25,7 @@ pub(crate) fn put_what(
 {
     match what {
         Entry::Reset(reset) => put_reset(text, reset.get()),
-        Entry::Async(packet) => put_packet(text, pairs, requests, packet),
+        Entry::Async(packet) => put_packet(text, pairs, memo, requests, packet),
         Entry::Iso(packet) => put_iso(text, pairs, packet),
         Entry::Event(event) => put_event(text, event),
         Entry::Outcome(outcome) => put_outcome(text, pairs, outcome),

@@ -6,6 +6,7 @@ ghost use Rattle.fw_explain.specs.Resets.{epoch_text};
 
 use crate::latest::LatestReset;
 use crate::line::put_what;
+use crate::memo::Memo;
 use fw_entry::Timed;
 use fw_names::{CycleRow, Pairs, put_word};
 use fw_requests::Requests;
@@ -22,6 +23,7 @@ pub(crate) struct Lines {
     text: Vec<u8>,
     cycle: CycleRow,
     pairs: Pairs,
+    memo: Memo,
 }
 
 impl Model for Lines {
@@ -40,6 +42,7 @@ impl Lines {
             text: Vec::with_capacity(alloc, TEXT_ROOM)?,
             cycle: CycleRow::of(0),
             pairs: Pairs::new(),
+            memo: Memo::new(alloc)?,
         })
     }
 
@@ -68,7 +71,13 @@ impl Lines {
         ensures { OnOk result (self.new ≡ self.old ++ line requests.now t.now) }
     {
         self.put_cycle(t.cycle)?;
-        put_what(&mut self.text, &self.pairs, requests, &t.what)?;
+        put_what(
+            &mut self.text,
+            &self.pairs,
+            &mut self.memo,
+            requests,
+            &t.what,
+        )?;
         put_word(&mut self.text, "\n")
     }
 

@@ -49,7 +49,12 @@ fn told(s: Swap) -> Told
 
 // Appends the two words of a swap, and what it changes.
 #[tactic(auto, unfolding(crate::specs::Lines::swap_text))]
-fn put_swap(text: &mut Vec<u8>, pairs: &Pairs, place: Place, s: Swap) -> Result<(), AllocError>
+pub(crate) fn put_swap(
+    text: &mut Vec<u8>,
+    pairs: &Pairs,
+    place: Place,
+    s: Swap,
+) -> Result<(), AllocError>
     ensures { OnOk result (text.new.items ≡ text.old.items ++ swap_text place s) }
 {
     put_quadlet(text, pairs, s.argument)?;
@@ -111,7 +116,7 @@ fn put_made(
 
 // Appends the word that a swap found, and what it did.
 #[tactic(auto, unfolding(crate::specs::Lines::swapped_text))]
-fn put_swapped(
+pub(crate) fn put_swapped(
     text: &mut Vec<u8>,
     pairs: &Pairs,
     place: Place,

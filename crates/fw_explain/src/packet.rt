@@ -5,8 +5,10 @@ ghost use Rattle.fw_async.specs.Heads.{head_of};
 ghost use Rattle.fw_explain.specs.Lines.{takes_frames, written_quadlet, written_block, at_text, details, head_text, packet_text};
 
 use crate::lock::{put_at, put_lock};
+use crate::memo::Memo;
 use crate::parts::{put_block, put_part};
 use crate::response::put_response;
+use crate::tail::tail_of;
 use fw_async::{Head, Packet};
 use fw_frames::put_frame;
 use fw_names::{Pairs, put_node, put_number, put_word, tcode_name};
@@ -132,12 +134,16 @@ fn put_head(text: &mut Vec<u8>, pairs: &Pairs, head: &Head) -> Result<(), AllocE
 pub(crate) fn put_packet(
     text: &mut Vec<u8>,
     pairs: &Pairs,
+    memo: &mut Memo,
     requests: &Requests,
     p: &Packet,
 ) -> Result<(), AllocError>
     ensures { OnOk result (text.new.items ≡ text.old.items ++ packet_text requests.now p.now) }
 {
     put_head(text, pairs, &head_of(p))?;
+    if let Some(tail) = tail_of(requests, p) {
+        return memo.put(text, pairs, &tail);
+    }
     put_word(text, " ")?;
     put_word(text, tcode_name(p))?;
     put_details(text, pairs, requests, p)

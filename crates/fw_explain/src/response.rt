@@ -13,7 +13,7 @@ use fw_requests::{Answer, Asked, Requests};
 use std::alloc::AllocError;
 
 /// The response code of a response that is complete (IEEE 1394-1995, response codes).
-const COMPLETE: u8 = 0;
+pub(crate) const COMPLETE: u8 = 0;
 
 // Appends a response code.
 #[tactic(auto, unfolding(crate::specs::Lines::rcode_text))]
