@@ -40,7 +40,15 @@ FORMAT_MANUAL = ROOT / "docs/man/fire-log.5"
 
 # The documents whose commands are tried. One is shown as a line `    $ COMMAND`, with lines `    > ..` if it has more than one, and below
 # it what it writes to standard output; all of a document are run in one folder, in which `./fire` is the program as the launcher calls it.
-SHOWN = ["README.md", "docs/AUDIT.md", "docs/SCRIPT.md", "docs/RECIPES.md", "docs/CAPTURES.md", "examples/README.md"]
+SHOWN = [
+    "README.md",
+    "docs/AUDIT.md",
+    "docs/SCRIPT.md",
+    "docs/RECIPES.md",
+    "docs/CAPTURES.md",
+    "docs/TEXTS.md",
+    "examples/README.md",
+]
 MAY_BE_MISSING = ["jq"]  # tools that a machine need not have: commands that use one of these are then skipped, and that is said
 SHOWN_COMMAND = re.compile(r"^    \$ (.*\n(?:    > .*\n)*)((?:    (?!\$ ).*\n)*)", re.M)
 
@@ -104,7 +112,7 @@ def check_words():
 
 def check_example(program, script):
     """A script ends as it says, and its log and the words of that stand beside it, where they do."""
-    log, words, note = (script.with_suffix(end) for end in (".log", ".txt", ".note"))
+    log, words, note, trace = (script.with_suffix(end) for end in (".log", ".txt", ".note", ".trace"))
     told = note.read_bytes() if note.exists() else b""
     status, written, errors = run(program, ["run"], script.read_bytes())
     due(f"{script.name}: status {status}, {errors!r}", (status, errors) == (3 if told else 0, told))
@@ -112,6 +120,10 @@ def check_example(program, script):
         due(f"{log.name} is no log of {script.name}", written == log.read_bytes())
         ended = run(program, ["explain"], written)
         due(f"{words.name} is not what explains {log.name}", ended[:2] == (CUT_OFF if told else 0, words.read_bytes()))
+    traced = run(program, ["trace"], script.read_bytes())
+    due(f"{script.name}: trace ends with {traced[0]}, {traced[2]!r}", traced[::2] == (status, errors))
+    if trace.exists():
+        due(f"{trace.name} is not what traces {script.name}", traced[1] == trace.read_bytes())
     if not told:
         status, verdict, _ = run(program, ["audit"], written)
         due(f"{script.name}: {verdict!r}", status == 0 and verdict.startswith(b"sound "))

@@ -37,7 +37,7 @@ help_of() {
 form_of() {
     reads='' length=1
     case $1 in
-    run | dub | check) reads=script ;;
+    run | trace | dub | check) reads=script ;;
     explain | decode | json | dv | audit | holders | watch | map) reads=log ;;
     convert) case ${2-} in 1 | 2) reads=log length=2 ;; esac ;;
     esac

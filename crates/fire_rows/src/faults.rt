@@ -5,6 +5,7 @@ use crate::call::{Call, NONE};
 use crate::due::Due;
 use crate::ended::Failing;
 use crate::miss::{Miss, at};
+use crate::numbers::numbers_of;
 use crate::parts::Parts;
 use crate::row::Row;
 use crate::{Portions, Program};
@@ -12,7 +13,8 @@ use std::alloc::Global;
 use std::fs;
 
 /// A call, what it reads and what it writes if nothing fails, and the parts of both. `behind` says how many parts of the output are
-/// written after none of the input's parts, after the first, and so on; without it, one for each entry of a log.
+/// written after none of the input's parts, after the first, and so on; without it, one for each entry of a log. `before` says how many are
+/// written before the first write, before the second, and so on; without it each part is a write.
 #[derive(Clone, Copy)]
 struct Case<'a> {
     words: &'a str,
@@ -20,6 +22,7 @@ struct Case<'a> {
     output: &'a [u8],
     read: Parts,
     written: Parts,
+    before: Option<&'a str>,
     behind: Option<&'a str>,
 }
 
@@ -104,8 +107,36 @@ impl Case<'_> {
         Ok(())
     }
 
+    /// That it is so of each write, if so many parts are written before each.
+    fn listed_writes_fail<P: Program>(
+        &self,
+        program: &P,
+        alloc: Global,
+        before: &str,
+    ) -> Result<(), Miss> {
+        let mut write: u32 = 0;
+        for parts in &numbers_of(alloc, before)? {
+            write = write.saturating_add(1);
+            let Some(end) = self.written.end_behind(self.output, *parts as usize) else {
+                return Err(Miss::NoRow("parts that are written before each write"));
+            };
+            let front = self.output.get(..end).unwrap_or(&[]);
+            let result = self.write_fails(program, alloc, write, front);
+            at(
+                alloc,
+                "with a write that fails, of number",
+                write as usize,
+                result,
+            )?;
+        }
+        Ok(())
+    }
+
     /// That it is so of each write.
     fn writes_fail<P: Program>(&self, program: &P, alloc: Global) -> Result<(), Miss> {
+        if let Some(before) = self.before {
+            return self.listed_writes_fail(program, alloc, before);
+        }
         let mut write: u32 = 0;
         for parts in 0..self.written.count_in(self.output) {
             if self.is_within_a_write(parts) {
@@ -126,7 +157,8 @@ impl Case<'_> {
     }
 }
 
-/// A row is `WORD < INPUT > OUTPUT`, and after ` : ` the numbers of parts, if they are not one for each entry of a log.
+/// A row is `WORD < INPUT > OUTPUT`, and after ` : ` the numbers of parts, if they are not one for each entry of a log; after the word and ` ; `
+/// those before each write, if not each part is a write.
 pub(crate) fn check<P: Program>(program: &P, rt: &HostRuntime, row: &Row<'_>) -> Result<(), Miss> {
     let (Some(input), Some(output)) = (row.input, row.output) else {
         return Err(Miss::NoRow("an input and an output"));
@@ -139,6 +171,7 @@ pub(crate) fn check<P: Program>(program: &P, rt: &HostRuntime, row: &Row<'_>) ->
         output: &due,
         read: Parts::of(input),
         written: Parts::of(output),
+        before: row.lines,
         behind: row.behind,
     };
     case.reads_fail(program, rt.alloc())?;

@@ -10,7 +10,7 @@ use Rattle.fw_decode.specs.Words.{Accepts}
 use Rattle.fw_decode.specs.Verdicts.{IsSoundLog}
 use Rattle.fw_decode.specs.declared.LogWord.{LogWord}
 use Rattle.fw_decode.specs.declared.LogWord.TheVariants.{Convert, Audit, Holders, Map, Graph}
-use Rattle.fw_tool.specs.declared.scripts.ScriptWord.TheVariants.{Run, Dub, Check}
+use Rattle.fw_tool.specs.declared.scripts.ScriptWord.TheVariants.{Run, Trace, Dub, Check}
 use Rattle.fw_decode.specs.Maps.{HasTree}
 use Rattle.fw_decode.specs.Trees.{last_reset}
 use Rattle.fw_tool.specs.Laws.{HasItsReset}
@@ -34,6 +34,7 @@ many_words [] many w e h = omega (arith, many)
 many_words (a ∷ []) many w e h = omega (arith, many)
 many_words (a ∷ b ∷ []) many w e h = omega (arith, many)
 many_words (a ∷ b ∷ c ∷ more) many (Script Run) e h = cc e
+many_words (a ∷ b ∷ c ∷ more) many (Script Trace) e h = cc e
 many_words (a ∷ b ∷ c ∷ more) many (Script Dub) e h = cc e
 many_words (a ∷ b ∷ c ∷ more) many (Script Check) e h = cc e
 many_words (a ∷ b ∷ c ∷ more) many (Gen seed) e h = cc e

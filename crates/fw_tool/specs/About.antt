@@ -17,6 +17,7 @@ about_text Help = codes "fire simulates a FireWire (IEEE 1394) audio and video b
     codes "A script goes in:" ++ 10 ∷
     codes "  run            writes the log of what happens on the bus" ++ 10 ∷
     codes "  dub            writes the blocks that the deck of its line `dub` recorded" ++ 10 ∷
+    codes "  trace          writes the script with what each line caused, by name" ++ 10 ∷
     codes "  check          says why a line is refused, or counts what the script has" ++ 10 ∷
     10 ∷
     codes "A log of version 1 or 2 goes in, whoever made it:" ++ 10 ∷

@@ -27,6 +27,7 @@ fire simulates a FireWire (IEEE 1394) audio and video bus, and reads the logs of
 A script goes in:
   run            writes the log of what happens on the bus
   dub            writes the blocks that the deck of its line `dub` recorded
+  trace          writes the script with what each line caused, by name
   check          says why a line is refused, or counts what the script has
 
 A log of version 1 or 2 goes in, whoever made it:

@@ -45,6 +45,8 @@ fn one_word(word: &str) -> Option<Word>
 {
     if word == "run" {
         Some(Word::Script(ScriptWord::Run))
+    } else if word == "trace" {
+        Some(Word::Script(ScriptWord::Trace))
     } else if word == "dub" {
         Some(Word::Script(ScriptWord::Dub))
     } else if word == "check" {

@@ -11,6 +11,7 @@ use crate::ending::Ending;
 use fw_outside::{Sink, Source};
 use fw_simulate::{RunEnding, check, dub, run};
 use fw_tape::Desk;
+use fw_trace::trace;
 use std::alloc::Global;
 
 /// A word that runs a script.
@@ -18,6 +19,8 @@ use std::alloc::Global;
 pub enum ScriptWord {
     /// The log of its commands.
     Run,
+    /// Its lines, each followed by what it caused.
+    Trace,
     /// What the reel has after its last command.
     Dub,
     /// What the script has, or why its first refused line is refused.
@@ -42,6 +45,7 @@ pub(crate) fn run_as<S: Source, K: Sink, F: Fn(u16, u32, u16) -> [u8; 480], H: F
 {
     match word {
         ScriptWord::Run => run(alloc, source, sink, desk),
+        ScriptWord::Trace => trace(alloc, source, sink, desk),
         ScriptWord::Dub => dub(alloc, source, sink, desk),
         ScriptWord::Check => check(alloc, source, sink, desk),
     }

@@ -25,11 +25,11 @@ fn closed(ending: Ending, flushed: Result<(), Failed>) -> Ending
 /// Does what the words of the command line say, passes on what the sink keeps back, tells the ending, and answers the program's status: that
 /// of the ending that is met first, or 6 where the last flush fails or the note is not written (`Ending` is the table).
 ///
-/// The word `run` reads a script of at most 1,048,576 bytes, carries out its commands, and writes their log; `dub` carries them out
-/// alike, and writes in place of the log the blocks that were recorded, 480 bytes each, and `check` what the script has, or why its first refused line
-/// is refused. The blocks of tapes, and what a vendor makes of
-/// a byte of a command, come from the desk. The words `gen NUMBER` run the script that the number makes,
-/// from 0 to 4,294,967,295, and write six lines that count what its log holds.
+/// The word `run` reads a script of at most 1,048,576 bytes, carries out its commands, and writes their log. Others carry them out alike, and
+/// write in place of the log: `trace` the lines of the script, each followed by what it caused, `dub` the blocks that were recorded, 480 bytes
+/// each, and `check` what the script has, or why its first refused line is refused. The blocks of tapes, and what a vendor makes of a byte of
+/// a command, come from the desk. The words `gen NUMBER` run the script that the number makes, from 0 to 4,294,967,295, and write six lines
+/// that count what its log holds.
 ///
 /// `help` and `version`, with `--help`, `-h`, `--version` and `-V`, write what the program says of itself, and read nothing.
 ///

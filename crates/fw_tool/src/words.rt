@@ -7,7 +7,7 @@ use fw_decode::LogWord;
 /// What the words of the command line say.
 #[derive(Clone, Copy)]
 pub enum Word {
-    /// `run`, `dub` or `check`: to run the script that is read.
+    /// `run`, `trace`, `dub` or `check`: to run the script that is read.
     Script(ScriptWord),
     /// `gen NUMBER`: to run the script that the number makes.
     Gen(u32),
