@@ -2,3 +2,4 @@ pub mod FillLaws
 pub mod LoopLaws
 pub mod DueLaws
 pub mod UsedLaws
+pub mod Keeping

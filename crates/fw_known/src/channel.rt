@@ -1,7 +1,10 @@
 //! What is kept of a channel.
 
-ghost use Rattle.std.specs.Prelude.{◌≡◌, ◌≤◌, IfSome};
+ghost use Rattle.std.specs.Prelude.{◌≡◌, ◌≤◌, ◌<◌, ℕ, false, IsTrue, IfSome};
+ghost use Rattle.fw_remarks.specs.Knowing.{is_forgotten};
 ghost use Rattle.fw_known.specs.Channels.{fresh, nothing_noted, undue, quiet, is_late};
+
+use fw_remarks::Known;
 
 /// Who took a channel, and when: until a plug or a packet is on it, it is to be used within a second.
 #[derive(Clone, Copy)]
@@ -96,4 +99,11 @@ pub(crate) fn earlier(cycle: u64, due: Option<Due>) -> u64
         Some(due) if due.since < cycle => due.since,
         _ => cycle,
     }
+}
+
+/// Each bit that was known of half of the channels is known, and is what it was.
+pub(crate) fn is_kept(old: Known, now: Known) -> bool
+    ensures { IsTrue result → (at : ℕ) → at < 32 → is_forgotten old now at ≡ false }
+{
+    old.mask & now.mask == old.mask && old.differing(now.word) == 0
 }

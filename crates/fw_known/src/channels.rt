@@ -3,7 +3,7 @@
 ghost use Rattle.std.specs.Prelude.{◌≡◌, ◌+◌, ◌≤◌, ◌<◌, IfOk, IfSome, length, replicate, slice_set};
 ghost use Rattle.fw_known.specs.Channels.{AreDueFrom, fresh, channel_at, freshened_one, freshened, same_channel, plug_moved, unused, quieted, next_late, late_to, is_taken, is_to_be_used, with_due, with_dues};
 
-use crate::channel::{Channel, Due, earlier};
+use crate::channel::{Channel, Due, earlier, is_kept};
 use crate::plugs::Plugs;
 use fw_remarks::{Known, bit};
 use std::alloc::{AllocError, Global};
@@ -138,6 +138,9 @@ impl Channels {
         requires { first ≤ 32 }
         ensures { self.new ≡ freshened 32 first old now self.old }
     {
+        if is_kept(old, now) {
+            return;
+        }
         for at in 0..32 {
             self.freshen_one(first + at, old.is_forgotten(now, at));
         }
