@@ -44,6 +44,11 @@ pub one_text : (before after key : List ℕ) (n : ℕ) (name_key name : List ℕ
     → after ≡ before ++ (key ++ (48 + n) ∷ (name_key ++ (34 ∷ (name ++ 34 ∷ [])))) → after ≡ before ++ code key n name_key (Some name)
 one_text before after key n name_key name small e = named_text before after key ((48 + n) ∷ []) n name_key name (decimal_digit n small) e
 
+-- a number of one digit
+pub digit_field : (key : List ℕ) (n : ℕ) → n < 10 → key ++ (48 + n) ∷ [] ≡ field key (decimal n)
+unfolding field
+digit_field key n small = ap (λ (d : List ℕ). key ++ d) (sym (decimal_digit n small))
+
 -- with a code of two
 pub longer_text : (before after key : List ℕ) (n : ℕ) (name_key name : List ℕ) → 10 ≤ n → n < 100
     → after ≡ before ++ (key ++ (48 + n / 10) ∷ (48 + n % 10) ∷ (name_key ++ (34 ∷ (name ++ 34 ∷ [])))) → after ≡ before ++ code key n name_key (Some name)

@@ -9,6 +9,7 @@
 mod digits;
 mod entry;
 mod front;
+mod head;
 mod ids;
 mod iso;
 mod latest;

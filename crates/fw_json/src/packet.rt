@@ -2,15 +2,17 @@
 
 ghost use Rattle.std.specs.Prelude.{◌≡◌, ◌++◌, OnOk, Some, codes, decimal};
 ghost use Rattle.fw_async.specs.Heads.{head_of};
-ghost use Rattle.fw_names.specs.Names.{tcode, tcode_name, retry_name};
+ghost use Rattle.fw_names.specs.Names.{function_name, tcode, tcode_name, retry_name};
 ghost use Rattle.fw_json.specs.Values.{field, code};
-ghost use Rattle.fw_json.specs.Objects.{head_fields, place_fields, rcode_fields, target_fields, quadlet_field, block_fields, lock_fields, data_fields, packet_fields};
+ghost use Rattle.fw_json.specs.Objects.{place_fields, rcode_fields, target_fields, quadlet_field, block_fields, lock_fields, data_fields, packet_fields};
 
-use crate::values::{put_code, put_count, put_data, put_eight, put_four, put_twelve};
+use crate::head::put_head;
+use crate::values::{put_code, put_count, put_data, put_eight, put_twelve};
 use fw_async::{Head, Packet};
 use fw_names::{
     Pairs, function_name, put_word, rcode_name, rcode_row, retry_name, retry_row, tcode_row,
 };
+use fw_words::COMPARE_SWAP;
 use std::alloc::AllocError;
 
 // What a packet begins with.
@@ -66,7 +68,7 @@ fn put_tcode(text: &mut Vec<u8>, p: &Packet) -> Result<(), AllocError>
 
 // Appends a retry code and its name.
 #[inline(always)]
-fn put_retry(text: &mut Vec<u8>, rt: u8) -> Result<(), AllocError>
+pub(crate) fn put_retry(text: &mut Vec<u8>, rt: u8) -> Result<(), AllocError>
     ensures { OnOk result (text.new.items ≡ text.old.items ++ code (codes ",\"retry\":") rt (codes ",\"retry_name\":") (retry_name rt)) }
 {
     retry_row!(
@@ -81,16 +83,6 @@ fn put_retry(text: &mut Vec<u8>, rt: u8) -> Result<(), AllocError>
         put_retry_text,
         text
     )
-}
-
-fn put_head(text: &mut Vec<u8>, pairs: &Pairs, h: &Head) -> Result<(), AllocError>
-    ensures { OnOk result (text.new.items ≡ text.old.items ++ head_fields h.now) }
-{
-    put_four(text, pairs, r#","dst_id":"#, h.destination)?;
-    put_count(text, r#","tlabel":"#, u64::from(h.tl))?;
-    put_retry(text, h.rt)?;
-    put_count(text, r#","priority":"#, u64::from(h.pri))?;
-    put_four(text, pairs, r#","src_id":"#, h.source)
 }
 
 fn put_place(text: &mut Vec<u8>, pairs: &Pairs, offset: u64) -> Result<(), AllocError>
@@ -146,17 +138,37 @@ fn put_block(text: &mut Vec<u8>, pairs: &Pairs, bytes: &[u8]) -> Result<(), Allo
     put_data(text, pairs, r#","data":"#, bytes)
 }
 
-fn put_lock(text: &mut Vec<u8>, pairs: &Pairs, function: u8, bytes: &[u8]) -> Result<(), AllocError>
-    ensures { OnOk result (text.new.items ≡ text.old.items ++ lock_fields function bytes.now) }
+// Appends the function of a lock and its name.
+#[inline(always)]
+fn put_function(text: &mut Vec<u8>, function: u8) -> Result<(), AllocError>
+    ensures { OnOk result (text.new.items ≡ text.old.items ++ code (codes ",\"extended_tcode\":") function (codes ",\"extended_tcode_name\":") (function_name function)) }
 {
-    put_count(text, r#","data_length":"#, bytes.len() as u64)?;
+    // Most locks are of this function.
+    if function == COMPARE_SWAP {
+        return put_word(
+            text,
+            code_text!(
+                r#","extended_tcode":"#,
+                r#","extended_tcode_name":"#,
+                "2",
+                "compare_swap"
+            ),
+        );
+    }
     put_code(
         text,
         r#","extended_tcode":"#,
         u64::from(function),
         r#","extended_tcode_name":"#,
         function_name(function),
-    )?;
+    )
+}
+
+fn put_lock(text: &mut Vec<u8>, pairs: &Pairs, function: u8, bytes: &[u8]) -> Result<(), AllocError>
+    ensures { OnOk result (text.new.items ≡ text.old.items ++ lock_fields function bytes.now) }
+{
+    put_count(text, r#","data_length":"#, bytes.len() as u64)?;
+    put_function(text, function)?;
     put_data(text, pairs, r#","data":"#, bytes)
 }
 

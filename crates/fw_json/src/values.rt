@@ -6,7 +6,7 @@ ghost use Rattle.fw_names.specs.Texts.{hex, hex_bytes};
 ghost use Rattle.fw_json.specs.Values.{field, quoted, name_value, number_value, flag_value, code, comma};
 
 use crate::digits::put_digits;
-use fw_names::{Pairs, put_hex12, put_number, put_word};
+use fw_names::{Pairs, put_number, put_word};
 use std::alloc::AllocError;
 
 // Appends what stands before the value of a list at this place.
@@ -123,28 +123,6 @@ pub(crate) fn put_code(
 
 #[inline(always)]
 #[tactic(auto, unfolding(crate::specs::Values::quoted))]
-fn quoted_four(pairs: &Pairs, n: u16) -> [u8; 6]
-    ensures { result ≡ quoted (hex 4 n) }
-{
-    let [a, b, c, d] = pairs.four(n);
-    [b'"', a, b, c, d, b'"']
-}
-
-// Appends a key and 16 bits in four digits.
-#[inline(always)]
-pub(crate) fn put_four(
-    text: &mut Vec<u8>,
-    pairs: &Pairs,
-    key: &str,
-    n: u16,
-) -> Result<(), AllocError>
-    ensures { OnOk result (text.new.items ≡ text.old.items ++ field key.now (quoted (hex 4 n))) }
-{
-    put_value(text, key, &quoted_four(pairs, n))
-}
-
-#[inline(always)]
-#[tactic(auto, unfolding(crate::specs::Values::quoted))]
 fn quoted_six(pairs: &Pairs, n: u32) -> [u8; 8]
     ensures { result ≡ quoted (hex 6 n) }
 {
@@ -187,9 +165,18 @@ pub(crate) fn put_eight(
     put_value(text, key, &quoted_eight(pairs, n))
 }
 
+#[inline(always)]
+#[tactic(auto, unfolding(crate::specs::Values::quoted))]
+fn quoted_twelve(pairs: &Pairs, n: u64) -> [u8; 14]
+    ensures { result ≡ quoted (hex 12 n) }
+{
+    let mut row = *b"\"............\"";
+    row[1..13].copy_from_slice(&pairs.twelve(n));
+    row
+}
+
 // Appends a key and 48 bits in twelve digits.
 #[inline(always)]
-#[tactic(auto, unfolding(crate::specs::Values::field, crate::specs::Values::quoted))]
 pub(crate) fn put_twelve(
     text: &mut Vec<u8>,
     pairs: &Pairs,
@@ -198,10 +185,7 @@ pub(crate) fn put_twelve(
 ) -> Result<(), AllocError>
     ensures { OnOk result (text.new.items ≡ text.old.items ++ field key.now (quoted (hex 12 n))) }
 {
-    put_word(text, key)?;
-    put_word(text, "\"")?;
-    put_hex12(text, pairs, n)?;
-    put_word(text, "\"")
+    put_value(text, key, &quoted_twelve(pairs, n))
 }
 
 // Appends a key and bytes, two digits each.

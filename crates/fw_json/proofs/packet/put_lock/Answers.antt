@@ -1,8 +1,8 @@
 use Rattle.std.proofs.lemmas.Result.{on_ok_weaker}
-use Rattle.fw_json.proofs.Joins.{then, coded}
+use Rattle.fw_json.proofs.Joins.{then}
 use Rattle.fw_json.proofs.packet.put_lock.Goals as goal
 
 pub returns : goal.returns
 returns c =
-    let t2 = then _ _ _ _ _ c.in_ok-put_count.ensures (coded _ _ _ _ _ _ _ _ c.from.ensures c.function_name.ensures c.in_ok-put_code.ensures) in
+    let t2 = then _ _ _ _ _ c.in_ok-put_count.ensures c.in_ok-put_function.ensures in
     on_ok_weaker c.put_data.result (λ piece. then _ _ _ _ _ t2 piece) c.put_data.ensures
