@@ -110,8 +110,10 @@ fn allocated(charge: Charge) -> Option<Holding>
     Some(Holding { how, plug, units })
 }
 
-/// What is held with a channel, if it is held.
-pub(crate) fn held_on(tables: &Tables, channel: usize) -> Option<Holding>
+// What is held with a channel that may be held.
+// Not in line: else the test of a free channel becomes a branch of the match on what is charged.
+#[inline(never)]
+fn taken_on(tables: &Tables, channel: usize) -> Option<Holding>
     requires stands { Stands tables.now }
     requires within { channel < 64 }
     ensures { (l : Account) → StandsFor tables.now l → result ≡ holding l channel }
@@ -120,4 +122,28 @@ pub(crate) fn held_on(tables: &Tables, channel: usize) -> Option<Holding>
         Some(held) => Some(held),
         None => unallocated(tables, channel),
     }
+}
+
+// Whether nothing is held with a channel, as far as its charge alone shows it.
+#[inline(always)]
+fn is_free(tables: &Tables, channel: usize) -> bool
+    requires stands { Stands tables.now }
+    requires within { channel < 64 }
+    ensures { (l : Account) → StandsFor tables.now l → IsTrue result → holding l channel ≡ None }
+{
+    !tables.reclaiming && matches!(tables.charges[channel], Charge::Free)
+}
+
+/// What is held with a channel, if it is held.
+#[inline(always)]
+pub(crate) fn held_on(tables: &Tables, channel: usize) -> Option<Holding>
+    requires stands { Stands tables.now }
+    requires within { channel < 64 }
+    ensures { (l : Account) → StandsFor tables.now l → result ≡ holding l channel }
+{
+    // Most channels are free.
+    if is_free(tables, channel) {
+        return None;
+    }
+    taken_on(tables, channel)
 }
