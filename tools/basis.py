@@ -1,22 +1,17 @@
 """What it stands on that a crate's contracts refuse a wrong body: checksums of it, for `wrong.py`.
 
-A crate's own part is all that its proof reads of it: src, specs and proofs, byte for byte. Of each crate below it only what it
-promises counts: specs, and src without comments and without the bodies of functions. The kit is its line, as `rt version` says it.
+A crate's own part is all that its proof reads of it: src, specs and proofs, byte for byte. Of the crates below it counts what it can
+reach by names, as `reach.py` says, beginning with the words of its own part; an edit that reaches more than its crate has that in its own
+sum. The kit is its line, as `rt version` says it.
 """
 
+import functools
 import hashlib
-import re
 import subprocess
 
-PARTS = ("src", "specs", "proofs")
+import reach
 
-# What tells where a function begins and ends: comments, literals, heads, clauses and brackets.
-MARKS = re.compile(
-    r"""(?P<comment>//[^\n]*|/\*.*?\*/)
-    |b?r(?P<hash>\#*)".*?"(?P=hash)|b?"(?:\\.|[^"\\])*"|b?'(?:\\(?:x\w\w|u\{\w+\}|.)|[^'\\\n])'
-    |(?P<const>\bconst\s+fn\b)|(?P<fn>\bfn\s+\w)|(?P<clause>\b(?:requires|ensures)\b)|[][(){};]""",
-    re.S | re.X,
-)
+PARTS = ("src", "specs", "proofs")
 
 
 class Unreadable(Exception):
@@ -50,60 +45,6 @@ def below(crate, deps):
     return sorted(found)
 
 
-class Promises:
-    """Reads a text of src as those above see it: without comments, and without what functions do."""
-
-    def __init__(self, text):
-        self.text, self.kept, self.begin = text, [], 0
-        self.read, self.depth, self.is_clause = self.outside, 0, False
-        for mark in MARKS.finditer(text):
-            if mark["comment"]:
-                self.leave(mark)
-                self.begin = mark.end()
-            else:
-                self.read(mark, mark[0])
-        self.kept.append(text[self.begin :])
-
-    def leave(self, mark):
-        """Keeps what stands before a mark, unless it is in a body."""
-        if self.read != self.body:
-            self.kept.append(self.text[self.begin : mark.start()])
-
-    def outside(self, mark, _it):
-        if mark["fn"]:
-            self.read, self.depth, self.is_clause = self.head, 0, False
-
-    def head(self, mark, it):
-        """A function's head: its body is the first block, in no bracket, that is no clause's. Without one it ends at a semicolon."""
-        if it == "{" and not self.depth and not self.is_clause:
-            self.leave(mark)
-            self.read, self.depth = self.body, 1
-        elif it == ";" and not self.depth:
-            self.read = self.outside
-        elif mark["clause"] and not self.depth:
-            self.is_clause = True
-        elif self.nests(it) and it == "}" and not self.depth:
-            self.is_clause = False
-
-    def body(self, mark, it):
-        if self.nests(it) and not self.depth:
-            self.read, self.begin = self.outside, mark.end()
-
-    def nests(self, it):
-        """Counts a bracket, and answers whether it is one."""
-        self.depth += (it in "{([") - (it in "})]")
-        return it in "{([})]"
-
-    def __str__(self):
-        lines = (it.strip() for it in "".join(self.kept).splitlines())
-        return "\n".join(it for it in lines if it)
-
-
-def definitions(text):
-    """A text of specs without comments and layout of lines."""
-    return " ".join(re.sub(r"(^|\s)--[^\n]*", " ", text).split())
-
-
 def files_of(folder, *parts):
     found = [it for part in parts for it in (folder / part).rglob("*") if it.suffix in (".rt", ".antt") and it.is_file()]
     return sorted(found)
@@ -114,24 +55,6 @@ def sum_of(parts):
     for it in parts:
         made.update(f"{len(it)}\n{it}".encode())
     return made.hexdigest()[:32]
-
-
-def own_sum(root, crate):
-    folder = root / "crates" / crate
-    files = files_of(folder, *PARTS)
-    if not files:
-        raise Unreadable(f"crates/{crate} has no src, specs or proofs")
-    return sum_of(part for it in files for part in (str(it.relative_to(folder)), text_of(it)))
-
-
-def promised_sum(root, crate, kept):
-    """A sum of what a crate promises; each is read once."""
-    if crate not in kept:
-        folder = root / "crates" / crate
-        src = [str(Promises(text_of(it))) for it in files_of(folder, "src")]
-        specs = [part for it in files_of(folder, "specs") for part in (it.name, definitions(text_of(it)))]
-        kept[crate] = sum_of(src + specs)
-    return kept[crate]
 
 
 def kit():
@@ -145,7 +68,44 @@ def kit():
     return ran.stdout.strip().splitlines()[0]
 
 
-def basis_of(root, crate, deps, kept, line):
-    """What the refusals of a crate's wrong bodies stand on, by name. `kept` has what was computed of crates below before."""
-    under = [part for it in below(crate, deps) for part in (it, promised_sum(root, it, kept))]
-    return {"crate": own_sum(root, crate), "below": sum_of(under + deps[crate]), "kit": line}
+class Ground:
+    """A tree of the repository, as what refusals stand on."""
+
+    def __init__(self, root, line):
+        self.root, self.line, self.deps = root, line, deps_of(root)
+        self.reach, self.kept = reach.Reach(self.deps, self.declaring), {}
+        self.names = functools.lru_cache(maxsize=None)(self.reach.names)
+
+    def own(self, crate, *parts):
+        """The files of a crate, each by its place in it, with its text."""
+        folder = self.root / "crates" / crate
+        return [(str(it.relative_to(folder)), text_of(it)) for it in files_of(folder, *parts)]
+
+    def declaring(self, crate):
+        """The files that declare what those above can reach, by part, each by its place in the repository, with its text."""
+        files = {part: [(f"{crate}/{name}", text) for name, text in self.own(crate, part)] for part in PARTS}
+        lemmas = [it for it in files["proofs"] if it[0].count("/") == 2]
+        return {"src": files["src"], "specs": files["specs"], "lemmas": lemmas}
+
+    def of(self, crate):
+        """What the refusals of a crate's wrong bodies stand on, by name."""
+        if crate not in self.kept:
+            files = self.own(crate, *PARTS)
+            if not files:
+                raise Unreadable(f"crates/{crate} has no src, specs or proofs")
+            words = frozenset().union(*(reach.own_words(*it) for it in files))
+            reached = self.reach.reached(below(crate, self.deps), words)
+            sums = {"crate": sum_of(part for it in files for part in it), "below": sum_of(reached + self.deps[crate]), "kit": self.line}
+            self.kept[crate] = sums, words, reached
+        return self.kept[crate][0]
+
+    def of_edit(self, crate, file):
+        """A sum of an edit: of its bytes, and of what it reaches that its crate does not."""
+        self.of(crate)
+        crates, (_, words, reached) = below(crate, self.deps), self.kept[crate]
+        text = file.read_bytes()
+        digest = hashlib.sha256(text).hexdigest()[:32]
+        new = reach.own_words(file.name, text.decode(errors="replace")) - words
+        can_lead_on = any(new & self.names(it) for it in crates)
+        more = set(self.reach.reached(crates, words | new)).difference(reached) if can_lead_on else ()
+        return sum_of([digest, *sorted(more)]) if more else digest

@@ -20,6 +20,7 @@ import tempfile
 sys.dont_write_bytecode = True
 
 from log_of_json import log_of  # noqa: E402
+from pages import check_page  # noqa: E402
 
 ROOT = pathlib.Path(__file__).resolve().parent.parent
 EXAMPLES = ROOT / "examples"
@@ -112,7 +113,7 @@ def check_words():
 
 def check_example(program, script):
     """A script ends as it says, and its log and the words of that stand beside it, where they do."""
-    log, words, note, trace = (script.with_suffix(end) for end in (".log", ".txt", ".note", ".trace"))
+    log, words, note, trace, page = (script.with_suffix(end) for end in (".log", ".txt", ".note", ".trace", ".html"))
     told = note.read_bytes() if note.exists() else b""
     status, written, errors = run(program, ["run"], script.read_bytes())
     due(f"{script.name}: status {status}, {errors!r}", (status, errors) == (3 if told else 0, told))
@@ -124,6 +125,8 @@ def check_example(program, script):
     due(f"{script.name}: trace ends with {traced[0]}, {traced[2]!r}", traced[::2] == (status, errors))
     if trace.exists():
         due(f"{trace.name} is not what traces {script.name}", traced[1] == trace.read_bytes())
+    if page.exists():
+        due(f"{page.name} is not the page of {log.name}", run(program, ["page"], written) == (0, page.read_bytes(), b""))
     if not told:
         status, verdict, _ = run(program, ["audit"], written)
         due(f"{script.name}: {verdict!r}", status == 0 and verdict.startswith(b"sound "))
@@ -153,6 +156,15 @@ def check_silence(program, what, log):
     if run(program, ["audit"], log)[0] == 0:
         told = [it.split(b" ", 2)[1] for it in run(program, ["watch"], log)[1].splitlines()]
         due(f"{what}: watch finds something in a sound log", not {b"?", b"!"} & set(told))
+
+
+def check_pages(program, what, log):
+    """Its page is one that stands alone: by its tags and links, by tidy if that is here, and by a browser if it is a page that ships. Says
+    which of these are not here."""
+    _, page, _ = run(program, ["page"], log)
+    wrongs, skipped = check_page(page, in_browser=(EXAMPLES / f"{what}.html").exists())
+    due(f"{what}: its page: {wrongs[:3]}", not wrongs)
+    return skipped
 
 
 def logs_of_sessions():
@@ -255,11 +267,13 @@ def main(words):
     check_manuals()
     check_seconds()
     scripts = sorted(EXAMPLES.glob("*.script"))
+    skipped = set()
     for script in scripts:
         log = check_example(program, script)
         check_log(program, script.stem, log)
         check_holders(program, script.stem, log)
         check_silence(program, script.stem, log)
+        skipped.update(check_pages(program, script.stem, log))
     kept = list(logs_of_sessions())
     for what, log in kept:
         check_log(program, what, log)
@@ -272,6 +286,8 @@ def main(words):
     check_manual_examples(program)
     check_first_page()
     print(f"check: {len(scripts)} examples, {len(kept)} logs of sessions and {shown} shown commands, {wrong} wrong")
+    if skipped:
+        print(f"check: pages were not looked at by {' and '.join(sorted(skipped))}, which are not here")
     return 1 if wrong else 0
 
 

@@ -9,16 +9,11 @@
 It is written by a run alone, and never by hand. What it lacks, or has in another form, counts as changed.
 """
 
-import hashlib
 import os
 
 NAME = "tried"
 HEAD = "# What the wrong bodies beside this file were last refused on. tools/wrong.py writes it.\n"
-PARTS = {"crate": "its own text changed", "below": "what stands below it changed", "kit": "the kit is another one"}
-
-
-def digest_of(file):
-    return hashlib.sha256(file.read_bytes()).hexdigest()[:32]
+PARTS = {"crate": "its own text changed", "below": "what it reaches below it changed", "kit": "the kit is another one"}
 
 
 def read(folder):
@@ -48,26 +43,28 @@ def is_of_another_kit(folder, line):
     return kit_of(folder) not in (None, line)
 
 
-def stale(folder, stands_on, files):
-    """Why a crate's edits are to be tried, and which: all if what they stand on changed, else those that are not recorded as they are."""
+def stale(folder, stands_on, sums):
+    """Why a crate's edits are to be tried, and which: all if what they stand on changed, else those that are not recorded as they are.
+    `sums` has those of the edits, by file."""
     found = read(folder)
     if found is None:
-        return f"no record {folder.name}/{NAME}", files
+        return f"no record {folder.name}/{NAME}", list(sums)
     parts, edits = found
     for name, why in PARTS.items():
         if name not in parts:
-            return f"{folder.name}/{NAME} has no line '{name}'", files
+            return f"{folder.name}/{NAME} has no line '{name}'", list(sums)
         if parts[name] != stands_on[name]:
-            return why, files
-    return "edits that are not recorded as refused", [it for it in files if edits.get(it.name) != digest_of(it)]
+            return why, list(sums)
+    return "edits that are not recorded as refused", [it for it, digest in sums.items() if edits.get(it.name) != digest]
 
 
 def write(folder, stands_on, refused):
-    """Records that these edits were refused; those that were recorded on the same before stay, as far as they are there."""
+    """Records that edits were refused, by their names with their sums; those that were recorded on the same before stay, as far as they
+    are there."""
     found = read(folder)
     edits = found[1] if found and found[0] == stands_on else {}
     edits = {name: digest for name, digest in edits.items() if (folder / name).is_file()}
-    edits.update((it.name, digest_of(it)) for it in refused)
+    edits.update(refused)
     lines = [f"{name} {stands_on[name]}\n" for name in PARTS]
     lines += [f"edit {edits[name]} {name}\n" for name in sorted(edits)]
     new = folder / f".{NAME}.new"

@@ -7,9 +7,10 @@
     tools/wrong.py --from FOLDER [CRATE ..]    tries the edits FOLDER/CRATE/*.edit, and names those that are let through
 
 They stand in crates/CRATE/wrong, in the form of those in must-fail, which the gate tries. The file `tried` beside them has the
-checksums of what they were last refused on: of the crate, of what the crates below promise (their specs and contracts), of the kit, and
-of each edit. A crate is stale if one of these is another one now; each run without --from that finds edits refused writes it anew. Another
-kit alone makes --stale try them, and is told by --check, but is no fault of the repository.
+checksums of what they were last refused on: of the crate, of what it can reach by names of the crates below (contracts, types, constants,
+definitions, lemmas: reach.py), of the kit, and of each edit. A crate is stale if one of these is another one now; each run without --from
+that finds edits refused writes it anew. Another kit alone makes --stale try them, and is told by --check, but is no fault of the
+repository.
 
 The crates and what stands below them are proved first, unless the toolchain has kept that they are; all take as long as the gate. This
 needs Python 3.8, and rt on the PATH. The status is 0 if each is refused, or with --check no crate is stale, 1 if not, and 2 if it cannot
@@ -112,36 +113,36 @@ def told(edits, said):
     return refused, count == of
 
 
-def tried(edits, deps, is_kept):
-    """Tries edits, by crate; where they are the repository's, writes what they were refused on. Answers whether each is refused."""
+def tried(edits, is_kept):
+    """Tries edits, by crate; if they are the repository's, writes what they were refused on. Answers whether each is refused."""
     with tempfile.TemporaryDirectory() as folder:
         copy = pathlib.Path(folder)
         copied(edits, copy)
-        line, kept = basis.kit(), {}
-        stood = {it: basis.basis_of(copy, it, deps, kept, line) for it in edits}
-        copies = {it: {at.name: at for at in edits_in(copy / "crates" / it / "must-fail")} for it in edits}
+        ground = basis.Ground(copy, basis.kit())
+        sums = {it: {at.name: ground.of_edit(it, at) for at in edits_in(copy / "crates" / it / "must-fail")} for it in edits}
+        stood = {it: ground.of(it) for it in edits}
         refused, are_all = told(edits, said_of(copy, list(edits)))
         for crate, files in refused.items() if is_kept else ():
-            record.write(ROOT / "crates" / crate / "wrong", stood[crate], [copies[crate][it.name] for it in files])
+            record.write(ROOT / "crates" / crate / "wrong", stood[crate], {it.name: sums[crate][it.name] for it in files})
     return are_all
 
 
-def stale(edits, deps, of_any_kit):
+def stale(edits, of_any_kit):
     """The edits that may no longer be refused, by crate, each crate named with the reason. Those that were last refused with another kit
     are among them, or, if any kit will do, are told and no more."""
-    line, kept, found, others = basis.kit(), {}, {}, 0
+    ground, found, others = basis.Ground(ROOT, basis.kit()), {}, 0
     for crate, files in edits.items():
         folder = ROOT / "crates" / crate / "wrong"
-        stands_on = basis.basis_of(ROOT, crate, deps, kept, line)
+        stands_on = dict(ground.of(crate))
         if of_any_kit:
-            others += record.is_of_another_kit(folder, line)
+            others += record.is_of_another_kit(folder, ground.line)
             stands_on["kit"] = record.kit_of(folder)
-        why, left = record.stale(folder, stands_on, files)
+        why, left = record.stale(folder, stands_on, {it: ground.of_edit(crate, it) for it in files})
         if left:
             print(f"{crate}: {why}; to be tried: {len(left)} of {len(files)}", flush=True)
             found[crate] = left
     if others:
-        print(f"the wrong bodies of {others} crates were last refused with another kit than {line}")
+        print(f"the wrong bodies of {others} crates were last refused with another kit than {ground.line}")
     return found
 
 
@@ -150,11 +151,11 @@ def run():
     deps = basis.deps_of(ROOT)
     edits = chosen(given, deps)
     if given.stale or given.check:
-        crates, edits = len(edits), stale(edits, deps, of_any_kit=given.check)
+        crates, edits = len(edits), stale(edits, of_any_kit=given.check)
         print(f"{len(edits)} of {crates} crates with wrong bodies are stale")
     if given.check or not edits:
         return 1 if edits else 0
-    return 0 if tried(edits, deps, not given.folder) else 1
+    return 0 if tried(edits, not given.folder) else 1
 
 
 def main():

@@ -38,7 +38,7 @@ form_of() {
     reads='' length=1
     case $1 in
     run | trace | dub | check) reads=script ;;
-    explain | decode | json | dv | audit | holders | watch | map) reads=log ;;
+    explain | decode | json | page | dv | audit | holders | watch | map) reads=log ;;
     convert) case ${2-} in 1 | 2) reads=log length=2 ;; esac ;;
     esac
     case "$1 ${2-}" in 'map dot') length=2 ;; esac

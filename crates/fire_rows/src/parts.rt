@@ -1,10 +1,11 @@
-//! Where the parts of a file end: a log's header and entries, a reel's blocks, and the lines of other files.
+//! Where the parts of a file end: a log's header and entries, a reel's blocks, the bytes of a page, and the lines of other files.
 
 /// What the parts of a file are.
 #[derive(Clone, Copy)]
 pub(crate) enum Parts {
     Entries,
     Blocks,
+    Bytes,
     Lines,
 }
 
@@ -15,6 +16,8 @@ impl Parts {
             Parts::Entries
         } else if name.ends_with("/dub") {
             Parts::Blocks
+        } else if name.ends_with(".html") {
+            Parts::Bytes
         } else {
             Parts::Lines
         }
@@ -27,6 +30,7 @@ impl Parts {
             Parts::Entries if start == 0 => HEADER,
             Parts::Entries => length_of_entry(rest)?,
             Parts::Blocks => BLOCK,
+            Parts::Bytes => 1,
             Parts::Lines => length_of_line(rest)?,
         };
         if length <= rest.len() {

@@ -1,11 +1,6 @@
-pub mod Passings
 pub mod Rewritings
-pub mod Audits
-pub mod TreeLaws
 pub mod Conversions
-pub mod WholeLaws
 pub mod WholePassings
+pub mod PagePassings
 pub mod SwapLaws
-pub mod PassedAudits
 pub mod LatestLaws
-pub mod PassedHoldings

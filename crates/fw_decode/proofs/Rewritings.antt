@@ -12,7 +12,7 @@ use Rattle.fw_log.specs.declared.passing.PassedBody.{PassedBody}
 use Rattle.fw_log.specs.declared.plain.PlainBody.TheVariants as Bodies
 use Rattle.fw_reading.specs.Readings.{Passes}
 use Rattle.fw_decode.specs.Texts.{Rewritten, log_form}
-use Rattle.fw_decode.proofs.WholePassings.{made_is}
+use Rattle.fw_reports.proofs.WholePassings.{made_is}
 
 pub rewritten : (old new : Rewritten) (entries : List Timed) (t : Timed) → old.epoch ≡ latest_epoch 0 entries → new.epoch ≡ epoch_after old.epoch t.what → new.bytes ≡ old.bytes ++ entry_bytes old.version (epoch_after old.epoch t.what) t
     → (new.epoch ≡ latest_epoch 0 (entries ++ t ∷ [])) × (new.bytes ≡ old.bytes ++ (log_form old.version).text entries (t ∷ []))

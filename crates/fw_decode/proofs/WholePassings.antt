@@ -1,5 +1,5 @@
 -- Entries that are passed by their bodies: what is made of the entry that has the body.
-use Rattle.std.proofs.Common.{◌≡◌, ℕ, List, [], ◌∷◌, ◌++◌, refl, ap, sym, subst, ◌∙◌}
+use Rattle.std.proofs.Common.{◌≡◌, ℕ, List, [], ◌∷◌, ◌++◌, refl, ap, sym, ◌∙◌}
 use Rattle.std.proofs.lemmas.List.{append-nil}
 use Rattle.fw_entry.specs.declared.entry.Entry.{Entry}
 use Rattle.fw_entry.specs.declared.entry.Timed.{Timed}
@@ -7,19 +7,15 @@ use Rattle.fw_log.specs.Passing.{PassesBody}
 use Rattle.fw_log.specs.Reader.{State}
 use Rattle.fw_log.specs.declared.passing.PassedBody.{PassedBody}
 use Rattle.fw_reading.specs.Readings.{Passes}
+use Rattle.fw_text.specs.Line.{entry_line}
 use Rattle.fw_json.specs.Objects.{object}
 use Rattle.fw_explain.specs.Explained.{explained, Room}
 use Rattle.fw_explain.specs.Lines.{line}
 use Rattle.fw_requests.specs.Requests.{standing, standing_after}
 use Rattle.fw_requests.specs.declared.asked.Asked.{Asked}
 use Rattle.fw_explain.proofs.StandingLaws.{standing_more}
-use Rattle.fw_watch.specs.Watched.{watched, Watches, Room as WatchRoom}
-use Rattle.fw_decode.specs.Watching.{watched_form}
+use Rattle.fw_reports.proofs.WholePassings.{made_is}
 use Rattle.fw_decode.specs.Texts.{each_form, explained_form, all_of_one}
-
--- the entry that was made is the one that was passed
-pub made_is : (cycle : ℕ) (what : Entry) (t : Timed) → cycle ≡ t.cycle → what ≡ t.what → record { cycle = cycle; what = what } ≡ t
-made_is cycle what t e f = ap (λ (n : ℕ). record t { cycle = n; what = what }) e ∙ ap (λ (w : Entry). record t { what = w }) f
 
 pub object_passes : (room new : List ℕ) (entries : List Timed) (bytes : List ℕ) (reader : State) (p : PassedBody) (x : PassesBody entries bytes reader p) (what : Entry)
     → what ≡ x.entry.what → new ≡ room ++ object (record { cycle = p.cycle; what = what }) → Passes (each_form object).text (λ es. Unit {0}) room new entries bytes reader
@@ -48,15 +44,8 @@ told_passes old new entries bytes reader p x took text requests =
     let told = text ∙ ap (λ (l : List Asked). old.text ++ line l t) took ∙ ap (λ (l : List ℕ). old.text ++ l) (sym (append-nil (line (standing entries) t))) in
     explained_passes old new entries bytes reader p x x.entry.what refl told (requests ∙ ap (standing_after x.entry.what) took ∙ sym (standing_more entries t))
 
-pub watched_passes : (old new : WatchRoom) (entries : List Timed) (bytes : List ℕ) (reader : State) (p : PassedBody) (x : PassesBody entries bytes reader p) (what : Entry)
-    → what ≡ x.entry.what → new.told.text ≡ old.told.text ++ watched entries (record { cycle = p.cycle; what = what } ∷ [])
-    → Watches new (entries ++ record { cycle = p.cycle; what = what } ∷ []) → Passes watched_form.text (λ es. Watches new es) old.told.text new.told.text entries bytes reader
-watched_passes old new entries bytes reader p x what same text watches =
-    let made = made_is p.cycle what x.entry (sym x.cycle) same in
-    let P : Timed → Type 0 = λ t. Watches new (entries ++ t ∷ []) in
-    record {
-      entry = x.entry;
-      read = x.read;
-      took = subst P made watches;
-      gathered = text ∙ ap (λ (t : Timed). old.told.text ++ watched entries (t ∷ [])) made;
-    }
+pub line_passes : (room new : List ℕ) (entries : List Timed) (bytes : List ℕ) (reader : State) (p : PassedBody) (x : PassesBody entries bytes reader p)
+    → new ≡ room ++ entry_line (record { cycle = p.cycle; what = x.entry.what }) → Passes (each_form entry_line).text (λ es. Unit {0}) room new entries bytes reader
+line_passes room new entries bytes reader p x is =
+    let cycle = ap (λ (n : ℕ). entry_line (record { cycle = n; what = x.entry.what })) (sym x.cycle) in
+    record { entry = x.entry; read = x.read; took = tt; gathered = is ∙ ap (λ (l : List ℕ). room ++ l) (cycle ∙ all_of_one entry_line x.entry) }

@@ -1,11 +1,4 @@
 pub mod Texts
-pub mod Watching
-pub mod Silences
-pub mod Verdicts
-pub mod Passing
-pub mod Trees
-pub mod Maps
 pub mod Words
 pub mod Converting
 pub mod Swapped
-pub mod Holdings

@@ -6,21 +6,23 @@ use Rattle.fw_text.specs.Line.{entry_line}
 use Rattle.fw_text.specs.Report.{report_text}
 use Rattle.fw_watch.specs.Watched.{watched_end}
 use Rattle.fw_reading.specs.Readings.{Form, Rules, IsAccepted}
-use Rattle.fw_decode.specs.Texts.{nothing, each_form, explained_form, silent_form, log_form}
-use Rattle.fw_decode.specs.Watching.{watched_form}
-use Rattle.fw_decode.specs.Silences.{never_refused}
-use Rattle.fw_decode.specs.Verdicts.{audit_rules, sound_unrefused}
-use Rattle.fw_decode.specs.Holdings.{holders_form, holders_rules, held_unrefused}
-use Rattle.fw_decode.specs.Maps.{map_rules, graph_rules, map_unrefused, graph_unrefused}
-use Rattle.fw_decode.specs.declared.refusal.LogRefusal.{LogRefusal}
+use Rattle.fw_reports.specs.Texts.{nothing, silent_form}
+use Rattle.fw_decode.specs.Texts.{each_form, explained_form, log_form, page_form}
+use Rattle.fw_reports.specs.Watching.{watched_form}
+use Rattle.fw_reports.specs.Silences.{never_refused}
+use Rattle.fw_reports.specs.Verdicts.{audit_rules, sound_unrefused}
+use Rattle.fw_reports.specs.Holdings.{holders_form, holders_rules, held_unrefused}
+use Rattle.fw_reports.specs.Maps.{map_rules, graph_rules, map_unrefused, graph_unrefused}
+use Rattle.fw_reports.specs.declared.refusal.LogRefusal.{LogRefusal}
 use Rattle.fw_decode.specs.declared.LogWord.{LogWord}
-use Rattle.fw_decode.specs.declared.LogWord.TheVariants.{Decode, Explain, Json, Dv, Convert, Audit, Holders, Watch, Map, Graph}
+use Rattle.fw_decode.specs.declared.LogWord.TheVariants.{Decode, Explain, Json, Page, Dv, Convert, Audit, Holders, Watch, Map, Graph}
 
 -- what a word writes while a log is read
 abbrev pub form_by : LogWord → Form
 form_by Decode = each_form entry_line
 form_by Explain = explained_form
 form_by Json = each_form object
+form_by Page = page_form
 form_by Dv = silent_form
 form_by (Convert v) = log_form v
 form_by Audit = silent_form
@@ -34,6 +36,7 @@ abbrev pub rules_by : LogWord → Rules LogRefusal
 rules_by Decode = never_refused nothing
 rules_by Explain = never_refused nothing
 rules_by Json = never_refused nothing
+rules_by Page = never_refused nothing
 rules_by Dv = never_refused report_text
 rules_by (Convert v) = never_refused nothing
 rules_by Audit = audit_rules

@@ -10,15 +10,16 @@ ghost use Rattle.fw_requests.specs.Requests.{standing_after};
 ghost use Rattle.fw_log.specs.Passing.{HasBody};
 ghost use Rattle.fw_text.specs.Resets.{IsResetBody};
 ghost use Rattle.fw_reading.specs.Endings.{ReadsLog};
-ghost use Rattle.fw_decode.specs.Texts.{explained_form, nothing};
-ghost use Rattle.fw_decode.specs.Silences.{never_refused};
+ghost use Rattle.fw_reports.specs.Texts.{nothing};
+ghost use Rattle.fw_decode.specs.Texts.{explained_form};
+ghost use Rattle.fw_reports.specs.Silences.{never_refused};
 
 use crate::LogRefusal;
-use crate::whole_entry::WholeRoom;
 use fw_explain::Explainer;
 use fw_log::{LogReader, PlainBody, Room, Timed};
 use fw_outside::{Failed, Sink, Source};
 use fw_reading::{Closing, LogEnding, Reading, Stop, read_log};
+use fw_reports::WholeRoom;
 use fw_words::quadlet_at;
 use std::alloc::{AllocError, Global};
 
@@ -89,7 +90,7 @@ impl Reading for Explanation {
     type Refusal = LogRefusal;
 
     ghost use Rattle.fw_requests.specs.Requests.{standing};
-    ghost use Rattle.fw_decode.specs.Silences.{none_unrefused};
+    ghost use Rattle.fw_reports.specs.Silences.{none_unrefused};
     ghost use Rattle.fw_decode.specs.Texts.{explained_each};
 
     ghost form = { λ s. explained_form };

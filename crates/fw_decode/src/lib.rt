@@ -11,36 +11,23 @@ use fw_log::Version;
 use fw_outside::{Sink, Source};
 use std::alloc::Global;
 
-mod drawing;
 mod explanation;
-mod holding;
-mod last_reset;
 mod laws;
 mod lines;
-mod mapping;
 mod objects;
-mod passing;
-mod refusal;
+mod paging;
 mod rewriting;
-mod streams;
-mod verdict;
-mod watching;
-mod whole_entry;
-mod whole_reset;
 
-pub use drawing::map_graph;
 pub use explanation::explain;
 pub use fw_reading::{LogEnding, Stop};
-pub use holding::holders;
-pub use laws::{logs_convert_back, sound_logs_are_vouched, swaps_are_told};
+pub use fw_reports::{
+    LogRefusal, NoMap, Unsound, audit, dv, holders, map, map_graph, sound_logs_are_vouched, watch,
+};
+pub use laws::{logs_convert_back, swaps_are_told};
 pub use lines::decode;
-pub use mapping::map;
 pub use objects::json;
-pub use refusal::{LogRefusal, NoMap, Unsound};
+pub use paging::page;
 pub use rewriting::convert;
-pub use streams::dv;
-pub use verdict::audit;
-pub use watching::watch;
 
 /// A word that reads a log of at most 268,435,456 bytes.
 #[derive(Clone, Copy)]
@@ -51,6 +38,8 @@ pub enum LogWord {
     Explain,
     /// `json`: a JSON object with every field for each entry, as it ends.
     Json,
+    /// `page`: the log as a page of HTML, a row an entry, as they end.
+    Page,
     /// `dv`: at the log's end a line for each channel that has isochronous packets.
     Dv,
     /// `convert`: the entries as a log of this version, as they end.
@@ -81,6 +70,7 @@ pub fn read_as<S: Source, K: Sink>(
         LogWord::Decode => decode(alloc, source, sink),
         LogWord::Explain => explain(alloc, source, sink),
         LogWord::Json => json(alloc, source, sink),
+        LogWord::Page => page(alloc, source, sink),
         LogWord::Dv => dv(alloc, source, sink),
         LogWord::Convert(version) => convert(alloc, version, source, sink),
         LogWord::Audit => audit(alloc, source, sink),

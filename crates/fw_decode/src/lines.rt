@@ -5,8 +5,9 @@ ghost use Rattle.fw_entry.specs.declared.entry.Entry.{Entry};
 ghost use Rattle.fw_log.specs.Passing.{HasBody};
 ghost use Rattle.fw_text.specs.Line.{entry_line};
 ghost use Rattle.fw_reading.specs.Endings.{ReadsLog};
-ghost use Rattle.fw_decode.specs.Silences.{never_refused};
-ghost use Rattle.fw_decode.specs.Texts.{each_form, nothing};
+ghost use Rattle.fw_reports.specs.Silences.{never_refused};
+ghost use Rattle.fw_reports.specs.Texts.{nothing};
+ghost use Rattle.fw_decode.specs.Texts.{each_form};
 
 use crate::LogRefusal;
 use fw_cip::whole_iso;
@@ -37,7 +38,7 @@ fn put_body(room: &mut LineRoom, cycle: u64, body: &PlainBody) -> Result<(), All
 impl Reading for Lines {
     type Refusal = LogRefusal;
 
-    ghost use Rattle.fw_decode.specs.Silences.{none_unrefused};
+    ghost use Rattle.fw_reports.specs.Silences.{none_unrefused};
     ghost use Rattle.fw_decode.specs.Texts.{each_alone};
 
     ghost form = { λ s. each_form entry_line };

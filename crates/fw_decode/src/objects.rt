@@ -9,15 +9,16 @@ ghost use Rattle.fw_log.specs.Passing.{HasBody};
 ghost use Rattle.fw_text.specs.Resets.{IsResetBody};
 ghost use Rattle.fw_reading.specs.Endings.{ReadsLog};
 ghost use Rattle.fw_json.specs.Objects.{object};
-ghost use Rattle.fw_decode.specs.Silences.{never_refused};
-ghost use Rattle.fw_decode.specs.Texts.{each_form, nothing};
+ghost use Rattle.fw_reports.specs.Silences.{never_refused};
+ghost use Rattle.fw_reports.specs.Texts.{nothing};
+ghost use Rattle.fw_decode.specs.Texts.{each_form};
 
 use crate::LogRefusal;
-use crate::whole_entry::WholeRoom;
 use fw_json::{ObjectRoom, put_object, put_reset_again, put_reset_from};
 use fw_log::{LogReader, PlainBody, Room, Timed};
 use fw_outside::{Failed, Sink, Source};
 use fw_reading::{Closing, LogEnding, Reading, Stop, read_log};
+use fw_reports::WholeRoom;
 use fw_words::quadlet_at;
 use std::alloc::{AllocError, Global};
 
@@ -83,7 +84,7 @@ fn put_body<'a>(
 impl Reading for Objects {
     type Refusal = LogRefusal;
 
-    ghost use Rattle.fw_decode.specs.Silences.{none_unrefused};
+    ghost use Rattle.fw_reports.specs.Silences.{none_unrefused};
     ghost use Rattle.fw_decode.specs.Texts.{each_alone};
 
     ghost form = { λ s. each_form object };

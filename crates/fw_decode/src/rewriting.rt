@@ -6,8 +6,9 @@ ghost use Rattle.fw_entry.specs.declared.entry.Entry.{Entry};
 ghost use Rattle.fw_entry.specs.declared.version.Version.TheVariants.{One, Two};
 ghost use Rattle.fw_log.specs.Passing.{HasBody};
 ghost use Rattle.fw_reading.specs.Endings.{ReadsLog};
-ghost use Rattle.fw_decode.specs.Texts.{log_form, nothing};
-ghost use Rattle.fw_decode.specs.Silences.{never_refused};
+ghost use Rattle.fw_reports.specs.Texts.{nothing};
+ghost use Rattle.fw_decode.specs.Texts.{log_form};
+ghost use Rattle.fw_reports.specs.Silences.{never_refused};
 
 use crate::LogRefusal;
 use fw_entry::codes::kind;
@@ -132,7 +133,7 @@ impl Reading for Rewriting {
     type Refusal = LogRefusal;
 
     ghost use Rattle.fw_entry.specs.Log.{latest_epoch};
-    ghost use Rattle.fw_decode.specs.Silences.{none_unrefused};
+    ghost use Rattle.fw_reports.specs.Silences.{none_unrefused};
     ghost use Rattle.fw_decode.specs.Texts.{log_each};
 
     ghost form = { λ r. log_form r.version };

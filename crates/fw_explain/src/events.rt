@@ -81,8 +81,9 @@ fn put_device(text: &mut Vec<u8>, device: u8) -> Result<(), AllocError>
     put_part(text, " device ", u64::from(device))
 }
 
+/// Appends what an event says, if it says anything. An error says that memory ran out, and comes for nothing else.
 #[tactic(auto, unfolding(crate::specs::Lines::saying_text))]
-fn put_saying(text: &mut Vec<u8>, saying: Option<&str>) -> Result<(), AllocError>
+pub fn put_saying(text: &mut Vec<u8>, saying: Option<&str>) -> Result<(), AllocError>
     ensures { OnOk result (text.new.items ≡ text.old.items ++ saying_text (option_copied saying.entry)) }
 {
     match saying {
@@ -91,8 +92,9 @@ fn put_saying(text: &mut Vec<u8>, saying: Option<&str>) -> Result<(), AllocError
     }
 }
 
+/// Appends the tape and the system that an event inserts, if it does. An error says that memory ran out, and comes for nothing else.
 #[tactic(auto, unfolding(crate::specs::Lines::tape_text))]
-fn put_tape(text: &mut Vec<u8>, e: &EventEntry) -> Result<(), AllocError>
+pub fn put_tape(text: &mut Vec<u8>, e: &EventEntry) -> Result<(), AllocError>
     ensures { OnOk result (text.new.items ≡ text.old.items ++ tape_text e.now) }
 {
     if !has_tape(e.code) {
@@ -138,8 +140,9 @@ fn put_answer(text: &mut Vec<u8>, value: u32) -> Result<(), AllocError>
     }
 }
 
+/// Appends the value of an outcome, by its code; nothing where that brings none. An error says that memory ran out, and comes for nothing else.
 #[tactic(auto, unfolding(crate::specs::Lines::value_text))]
-fn put_value(text: &mut Vec<u8>, pairs: &Pairs, code: u8, value: u32) -> Result<(), AllocError>
+pub fn put_value(text: &mut Vec<u8>, pairs: &Pairs, code: u8, value: u32) -> Result<(), AllocError>
     ensures { OnOk result (text.new.items ≡ text.old.items ++ value_text code value) }
 {
     let number = u64::from(value);

@@ -100,8 +100,8 @@ fn put_details(
     }
 }
 
-// The head of a packet.
-fn head_of(p: &Packet) -> Head
+/// The head of a packet.
+pub fn head_of(p: &Packet) -> Head
     ensures { result ≡ head_of p.now }
 {
     match p {

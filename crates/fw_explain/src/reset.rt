@@ -56,9 +56,9 @@ fn put_device(text: &mut Vec<u8>, row: &NodeRow) -> Result<(), AllocError>
     put_word(text, " in, ")
 }
 
-// Appends the device that the node with this number is, where there is one.
+/// Appends the device that the node with this number is, where there is one. An error says that memory ran out, as below.
 #[tactic(auto, unfolding(crate::specs::Resets::row_text))]
-fn put_row(text: &mut Vec<u8>, rows: &[NodeRow], number: u8) -> Result<(), AllocError>
+pub fn put_row(text: &mut Vec<u8>, rows: &[NodeRow], number: u8) -> Result<(), AllocError>
     ensures { OnOk result (text.new.items ≡ text.old.items ++ row_text (slice_get rows.now number)) }
 {
     match rows.get(usize::from(number)) {
@@ -99,9 +99,9 @@ fn put_gap(text: &mut Vec<u8>, gap: u8) -> Result<(), AllocError>
     put_part(text, ", gap ", u64::from(gap))
 }
 
-// Appends what a node says of itself.
+/// Appends what a node says of itself.
 #[tactic(auto, unfolding(crate::specs::Resets::self_text))]
-fn put_self(text: &mut Vec<u8>, s: &SelfId) -> Result<(), AllocError>
+pub fn put_self(text: &mut Vec<u8>, s: &SelfId) -> Result<(), AllocError>
     ensures { OnOk result (text.new.items ≡ text.old.items ++ self_text s.now) }
 {
     put_speed(text, s.speed)?;
@@ -130,8 +130,8 @@ fn put_node(text: &mut Vec<u8>, rows: &[NodeRow], s: &SelfId) -> Result<(), Allo
     put_self(text, s)
 }
 
-// Appends a further self-ID packet of a node.
-fn put_further(text: &mut Vec<u8>, s: &SelfIdMore) -> Result<(), AllocError>
+/// Appends a further self-ID packet of a node.
+pub fn put_further(text: &mut Vec<u8>, s: &SelfIdMore) -> Result<(), AllocError>
     ensures { OnOk result (text.new.items ≡ text.old.items ++ ports_text (3 + 8 * s.now.number) s.now.ports) }
 {
     put_ports(
@@ -162,8 +162,9 @@ fn put_ids(text: &mut Vec<u8>, rows: &[NodeRow], ids: &[PhyPacket]) -> Result<()
     Ok(())
 }
 
+/// Appends the node that is the isochronous resource manager, or that there is none.
 #[tactic(auto, unfolding(crate::specs::Resets::manager_text))]
-fn put_manager(text: &mut Vec<u8>, manager: Option<u8>) -> Result<(), AllocError>
+pub fn put_manager(text: &mut Vec<u8>, manager: Option<u8>) -> Result<(), AllocError>
     ensures { OnOk result (text.new.items ≡ text.old.items ++ manager_text manager) }
 {
     match manager {

@@ -7,3 +7,4 @@ mod names;
 mod operands;
 
 pub use frame::put_frame;
+pub use operands::OperandRow;

@@ -12,7 +12,7 @@ use std::alloc::AllocError;
 
 /// How the first operands of a frame are told.
 #[derive(Clone, Copy)]
-pub(crate) enum OperandRow {
+pub enum OperandRow {
     /// An absolute time code of a tape: frames, seconds, minutes and hours stand behind the first operand.
     TimeCode,
     /// A company.

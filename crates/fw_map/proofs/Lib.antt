@@ -11,4 +11,7 @@ pub mod RowLaws
 pub mod ShapeLaws
 pub mod TextLaws
 pub mod WalkLaws
+pub mod MatchLaws
+pub mod PlaceLaws
+pub mod ValueLaws
 pub mod GraphLaws

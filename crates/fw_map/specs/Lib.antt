@@ -7,3 +7,4 @@ pub mod Growing
 pub mod Identified
 pub mod Graphs
 pub mod Laws
+pub mod Rebuilt

@@ -10,6 +10,7 @@ ghost use Rattle.fw_map.specs.declared.tree.Tree.{Tree as Shape};
 ghost use Rattle.fw_map.specs.Fields.{fields};
 ghost use Rattle.fw_map.specs.Trees.{HasSizes, HasPackets};
 ghost use Rattle.fw_map.specs.Faults.{IsFault, branches, due, joining_fault};
+ghost use Rattle.fw_map.specs.Rebuilt.{rebuilt};
 ghost use Rattle.fw_map.specs.Growing.{Agrees, Grown, Joining, KeepsRest, is_open};
 
 use crate::fields::{CHILD, PORTS, fields_of, parent_ports, speed_of};
@@ -87,6 +88,7 @@ pub fn rebuild(e: &ResetEntry) -> Result<Tree, MapFault>
     ensures tree { IfOk result (λ t. HasPackets e.now t) }
     ensures only { (t : Shape) → HasPackets e.now t → result ≡ Ok t }
     ensures fault { (f : MapFault) → (result ≡ Err f) ↔ IsFault e.now f }
+    ensures value { result ≡ rebuilt e.now }
 {
     let count = e.nodes.as_slice().len() as u8;
     let mut tree = Tree::bare(count);

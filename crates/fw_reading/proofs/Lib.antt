@@ -4,3 +4,5 @@ pub mod Printings
 pub mod Decodings
 pub mod Completions
 pub mod Closings
+pub mod Readies
+pub mod Enclosings

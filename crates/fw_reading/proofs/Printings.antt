@@ -13,7 +13,8 @@ use Rattle.fw_log.specs.Reader.{State}
 use Rattle.fw_log.specs.History.{bytes_of, HasRead}
 use Rattle.fw_log.specs.declared.LogFault.{LogFault}
 use Rattle.fw_reading.specs.Readings.{Text, Form, Rules, IsEach}
-use Rattle.fw_reading.specs.Endings.{Begins, Refuses, opened, stop_of}
+use Rattle.fw_reading.specs.Endings.{Begins, Refuses, opened, stop_of, end_of}
+use Rattle.fw_reading.specs.declared.ending.LogEnd.{LogEnd}
 use Rattle.fw_reading.specs.declared.ending.LogEnding.{LogEnding}
 use Rattle.fw_reading.specs.declared.ending.LogEnding.TheVariants.{Done, NoLog, Refused, Stopped}
 use Rattle.fw_reading.specs.Pieces.{TakesPiece, Gathers, GathersUpTo, GathersToLast, Prints, PrintsUpTo, PrintsToLast, PrintsPart, Stops, PrintsPiece, opening, PrintsTo, PrintsFront, StopsAt, PrintsBytes}
@@ -35,11 +36,11 @@ printed {text} {Took} {Took'} {held} {held'} {old} {new} {entries} none took g w
     let P : List ℕ → Type 0 = Grows held held' in
     record { more = g.more; read = g.read; took = took (entries ++ g.more) g.took; grew = subst P (whole (text entries g.more) none g.gathered) w }
 
-printed_up_to : {text : Text} {accepts : List Timed → Type 0} {held held' : Option (List ℕ)} {old new : List ℕ} {entries : List Timed} {bytes piece : List ℕ} {f : LogFault}
-    → old ≡ [] → GathersUpTo text accepts old new entries bytes piece f → Grows held held' new → PrintsUpTo text accepts held held' entries bytes piece f
-printed_up_to {text} {accepts} {held} {held'} {entries = entries} none g w =
+printed_up_to : {text : Text} {Took Took' : List Timed → Type 0} {held held' : Option (List ℕ)} {old new : List ℕ} {entries : List Timed} {bytes piece : List ℕ} {f : LogFault}
+    → old ≡ [] → ((es : List Timed) → Took es → Took' es) → GathersUpTo text Took old new entries bytes piece f → Grows held held' new → PrintsUpTo text Took' held held' entries bytes piece f
+printed_up_to {text} {Took} {Took'} {held} {held'} {entries = entries} none took g w =
     let P : List ℕ → Type 0 = Grows held held' in
-    record { more = g.more; refuses = g.refuses; soon = g.soon; accepted = g.accepted; grew = subst P (whole (text entries g.more) none g.gathered) w }
+    record { more = g.more; refuses = g.refuses; soon = g.soon; accepted = took (entries ++ g.more) g.accepted; grew = subst P (whole (text entries g.more) none g.gathered) w }
 
 printed_to_last : {R : Type 0} {text : Text} {rules : Rules R} {held held' : Option (List ℕ)} {old new : List ℕ} {entries : List Timed} {bytes piece : List ℕ} {refusal : R}
     → old ≡ [] → GathersToLast text rules old new entries bytes piece refusal → Grows held held' new → PrintsToLast text rules held held' entries bytes piece refusal
@@ -81,12 +82,12 @@ written_part text e rules Took new entries bytes piece r (Some (Refused u)) none
 written_part text e rules Took new entries bytes piece r (Some Done) none g w = absurd g
 written_part text e rules Took new entries bytes piece r (Some (Stopped s)) none g w = absurd g
 
-pub written_stop : {R : Type 0} (text : Text) (rules : Rules R) (Took : List Timed → Type 0) (held held' : Option (List ℕ)) (old new : List ℕ) (entries : List Timed) (bytes piece : List ℕ) (r : State) (o : Option (LogEnding R)) (ending : LogEnding R) → o ≡ Some ending
-    → old ≡ [] → TakesPiece text rules Took old new entries bytes piece r (Ok o) → Grows held held' new → Stops text rules held held' entries bytes piece ending
-written_stop {R} text rules Took held held' old new entries bytes piece r o ending e none g w = go ending (subst (λ x. TakesPiece text rules Took old new entries bytes piece r (Ok x)) e g)
+pub written_stop : {R : Type 0} (text : Text) (rules : Rules R) (Took Took' : List Timed → Type 0) (held held' : Option (List ℕ)) (old new : List ℕ) (entries : List Timed) (bytes piece : List ℕ) (r : State) (o : Option (LogEnding R)) (ending : LogEnding R) → o ≡ Some ending
+    → old ≡ [] → ((es : List Timed) → Took es → Took' es) → TakesPiece text rules Took old new entries bytes piece r (Ok o) → Grows held held' new → Stops text rules Took' held held' entries bytes piece ending
+written_stop {R} text rules Took Took' held held' old new entries bytes piece r o ending e none took g w = go ending (subst (λ x. TakesPiece text rules Took old new entries bytes piece r (Ok x)) e g)
   where
-    go : (ending : LogEnding R) → TakesPiece text rules Took old new entries bytes piece r (Ok (Some ending)) → Stops text rules held held' entries bytes piece ending
-    go (NoLog f) g = printed_up_to none g w
+    go : (ending : LogEnding R) → TakesPiece text rules Took old new entries bytes piece r (Ok (Some ending)) → Stops text rules Took' held held' entries bytes piece ending
+    go (NoLog f) g = printed_up_to none took g w
     go (Refused u) g = printed_to_last none g w
     go Done g = absurd g
     go (Stopped s) g = absurd g
@@ -160,11 +161,11 @@ no_last : (xs : List Timed) (t : Timed) → xs ++ t ∷ [] ≡ [] → ⊥
 no_last [] t e = cc e
 no_last (x ∷ xs) t e = cc e
 
-stops_behind : {R : Type 0} (form : Form) (rules : Rules R) (held held' : Option (List ℕ)) (entries : List Timed) (bytes piece : List ℕ) (e : LogEnding R) → 16 ≤ length bytes → Stops form.text rules held held' entries bytes piece e → StopsAt form rules held held' entries bytes piece e
-stops_behind form rules held held' entries bytes piece (NoLog f) whole s =
+stops_behind : {R : Type 0} (form : Form) (rules : Rules R) (Took : List Timed → Type 0) (held held' : Option (List ℕ)) (entries : List Timed) (bytes piece : List ℕ) (e : LogEnding R) → 16 ≤ length bytes → Stops form.text rules Took held held' entries bytes piece e → StopsAt form rules Took held held' entries bytes piece e
+stops_behind form rules Took held held' entries bytes piece (NoLog f) whole s =
     let P : List ℕ → Type 0 = λ x. Grows held held' (x ++ form.text entries s.more) in
     record { more = s.more; refuses = s.refuses; soon = s.soon; accepted = s.accepted; grew = subst P (sym (opening_none form.head (length bytes) _ whole)) s.grew }
-stops_behind form rules held held' entries bytes piece (Refused u) whole s =
+stops_behind form rules Took held held' entries bytes piece (Refused u) whole s =
     let P : List ℕ → Type 0 = λ x. Grows held held' (x ++ form.text entries s.more) in
     record {
       more = s.more;
@@ -177,15 +178,15 @@ stops_behind form rules held held' entries bytes piece (Refused u) whole s =
       rejected = s.rejected;
       grew = subst P (sym (opening_none form.head (length bytes) 16 whole)) s.grew;
     }
-stops_behind form rules held held' entries bytes piece (Stopped WriteFault) whole s =
+stops_behind form rules Took held held' entries bytes piece (Stopped WriteFault) whole s =
     let P : List ℕ → Type 0 = λ x. AppendsFront held held' (x ++ form.text entries s.more) in
     record { more = s.more; part = s.part; begins = s.begins; grew = subst P (sym (opening_none form.head (length bytes) (length (bytes ++ piece)) whole)) s.grew }
-stops_behind form rules held held' entries bytes piece (Stopped NoMemory) whole s =
+stops_behind form rules Took held held' entries bytes piece (Stopped NoMemory) whole s =
     let P : List ℕ → Type 0 = λ x. AppendsFront held held' (x ++ form.text entries s.more) in
     record { more = s.more; part = s.part; begins = s.begins; grew = subst P (sym (opening_none form.head (length bytes) (length (bytes ++ piece)) whole)) s.grew }
-stops_behind form rules held held' entries bytes piece (Stopped ReadFault) whole s = absurd s
-stops_behind form rules held held' entries bytes piece (Stopped TooLong) whole s = absurd s
-stops_behind form rules held held' entries bytes piece Done whole s = absurd s
+stops_behind form rules Took held held' entries bytes piece (Stopped ReadFault) whole s = absurd s
+stops_behind form rules Took held held' entries bytes piece (Stopped TooLong) whole s = absurd s
+stops_behind form rules Took held held' entries bytes piece Done whole s = absurd s
 
 -- a part that is refused before the header is whole
 to_before : (form : Form) (accepts : List Timed → Type 0) (held held' : Option (List ℕ)) (entries : List Timed) (bytes piece : List ℕ) (f : LogFault) → length (bytes ++ piece) ≤ 16 → PrintsUpTo form.text accepts held held' entries bytes piece f
@@ -216,15 +217,15 @@ front_before form held held' entries bytes piece e short s =
     let nothing : AppendsFront held held' [] = subst P (ap (form.text entries) more ∙ e.none entries) s.grew in
     record { more = s.more; part = s.part; begins = s.begins; grew = front_then held held' [] (opening form.head (length bytes) (length (bytes ++ piece)) ++ form.text entries s.more) nothing }
 
-stops_before : {R : Type 0} (form : Form) (rules : Rules R) (held held' : Option (List ℕ)) (entries : List Timed) (bytes piece : List ℕ) (e : LogEnding R) → IsEach form.text → length (bytes ++ piece) ≤ 16 → Stops form.text rules held held' entries bytes piece e
-    → StopsAt form rules held held' entries bytes piece e
-stops_before form rules held held' entries bytes piece (NoLog f) each short s = to_before form rules.accepts held held' entries bytes piece f short s
-stops_before form rules held held' entries bytes piece (Refused u) each short s = last_before form.text rules held held' entries bytes piece u short s
-stops_before form rules held held' entries bytes piece (Stopped WriteFault) each short s = front_before form held held' entries bytes piece each short s
-stops_before form rules held held' entries bytes piece (Stopped NoMemory) each short s = front_before form held held' entries bytes piece each short s
-stops_before form rules held held' entries bytes piece (Stopped ReadFault) each short s = absurd s
-stops_before form rules held held' entries bytes piece (Stopped TooLong) each short s = absurd s
-stops_before form rules held held' entries bytes piece Done each short s = absurd s
+stops_before : {R : Type 0} (form : Form) (rules : Rules R) (Took : List Timed → Type 0) (held held' : Option (List ℕ)) (entries : List Timed) (bytes piece : List ℕ) (e : LogEnding R) → IsEach form.text → length (bytes ++ piece) ≤ 16 → Stops form.text rules Took held held' entries bytes piece e
+    → StopsAt form rules Took held held' entries bytes piece e
+stops_before form rules Took held held' entries bytes piece (NoLog f) each short s = to_before form Took held held' entries bytes piece f short s
+stops_before form rules Took held held' entries bytes piece (Refused u) each short s = last_before form.text rules held held' entries bytes piece u short s
+stops_before form rules Took held held' entries bytes piece (Stopped WriteFault) each short s = front_before form held held' entries bytes piece each short s
+stops_before form rules Took held held' entries bytes piece (Stopped NoMemory) each short s = front_before form held held' entries bytes piece each short s
+stops_before form rules Took held held' entries bytes piece (Stopped ReadFault) each short s = absurd s
+stops_before form rules Took held held' entries bytes piece (Stopped TooLong) each short s = absurd s
+stops_before form rules Took held held' entries bytes piece Done each short s = absurd s
 
 -- those of a read behind the header
 pub bytes_behind : {R : Type 0} (form : Form) (rules : Rules R) (Took : List Timed → Type 0) (held held' : Option (List ℕ)) (entries : List Timed) (bytes piece : List ℕ) (reader : State) (r : Result (Unit {0}) (LogEnding R))
@@ -232,7 +233,7 @@ pub bytes_behind : {R : Type 0} (form : Form) (rules : Rules R) (Took : List Tim
 bytes_behind form rules Took held held' entries bytes piece reader (Ok u) whole p =
     let P : List ℕ → Type 0 = λ x. Grows held held' (x ++ form.text entries p.more) in
     record { more = p.more; read = p.read; took = p.took; grew = subst P (sym (opening_none form.head (length bytes) _ whole)) p.grew }
-bytes_behind form rules Took held held' entries bytes piece reader (Err e) whole s = (piece, [], append-nil piece, stops_behind form rules held held' entries bytes piece e whole s)
+bytes_behind form rules Took held held' entries bytes piece reader (Err e) whole s = (piece, [], append-nil piece, stops_behind form rules Took held held' entries bytes piece e whole s)
 
 -- none of it was due yet
 pub bytes_before : {R : Type 0} (form : Form) (rules : Rules R) (Took : List Timed → Type 0) (held held' : Option (List ℕ)) (entries : List Timed) (bytes piece : List ℕ) (reader : State) (r : Result (Unit {0}) (LogEnding R))
@@ -240,12 +241,12 @@ pub bytes_before : {R : Type 0} (form : Form) (rules : Rules R) (Took : List Tim
 bytes_before form rules Took held held' entries bytes piece reader (Ok u) each short p =
     let P : List ℕ → Type 0 = λ x. Grows held held' (x ++ form.text entries p.more) in
     record { more = p.more; read = p.read; took = p.took; grew = subst P (sym (opening_not_yet form.head (length bytes) (length (bytes ++ piece)) short)) p.grew }
-bytes_before form rules Took held held' entries bytes piece reader (Err e) each short s = (piece, [], append-nil piece, stops_before form rules held held' entries bytes piece e each (omega (arith, short)) s)
+bytes_before form rules Took held held' entries bytes piece reader (Err e) each short s = (piece, [], append-nil piece, stops_before form rules Took held held' entries bytes piece e each (omega (arith, short)) s)
 
 -- the bytes up to the header's end were not all read
-pub bytes_stopped : {R : Type 0} (form : Form) (rules : Rules R) (held held' : Option (List ℕ)) (entries : List Timed) (bytes front behind piece : List ℕ) (e : LogEnding R) → IsEach form.text → length (bytes ++ front) ≤ 16 → front ++ behind ≡ piece
-    → Stops form.text rules held held' entries bytes front e → (x y : List ℕ) × (x ++ y ≡ piece) × StopsAt form rules held held' entries bytes x e
-bytes_stopped form rules held held' entries bytes front behind piece e each short line s = (front, behind, line, stops_before form rules held held' entries bytes front e each short s)
+pub bytes_stopped : {R : Type 0} (form : Form) (rules : Rules R) (Took : List Timed → Type 0) (held held' : Option (List ℕ)) (entries : List Timed) (bytes front behind piece : List ℕ) (e : LogEnding R) → IsEach form.text → length (bytes ++ front) ≤ 16 → front ++ behind ≡ piece
+    → Stops form.text rules Took held held' entries bytes front e → (x y : List ℕ) × (x ++ y ≡ piece) × StopsAt form rules Took held held' entries bytes x e
+bytes_stopped form rules Took held held' entries bytes front behind piece e each short line s = (front, behind, line, stops_before form rules Took held held' entries bytes front e each short s)
 
 -- the header becomes whole in it: the bytes up to its end, then what is due, then those behind it
 pub bytes_opened : {R : Type 0} (form : Form) (rules : Rules R) (Took Took' : List Timed → Type 0) (held mid held1 held2 : Option (List ℕ)) (entries : List Timed) (bytes front : List ℕ) (reader : State) (behind : List ℕ) (new : State) (r : Result (Unit {0}) (LogEnding R))
@@ -282,7 +283,7 @@ bytes_opened {R} form rules Took Took' held mid held1 held2 entries bytes front 
           grew = subst P (sym (due (length (bytes ++ (front ++ behind))) (omega (arith, whole, ap length line, length-append (bytes ++ front) behind)))) (then_front held held1 held2 form.head (form.text entries s.more) opened_at s.grew);
         }
 
-    stopped : (e : LogEnding R) → Stops form.text rules held1 held2 entries (bytes ++ front) behind e → StopsAt form rules held held2 entries bytes (front ++ behind) e
+    stopped : (e : LogEnding R) → Stops form.text rules Took' held1 held2 entries (bytes ++ front) behind e → StopsAt form rules Took' held held2 entries bytes (front ++ behind) e
     stopped (NoLog f) s =
         let at : 16 ≤ length (bytes_of s.refuses.begins.version (entries ++ s.more)) + s.refuses.index = omega (arith, whole, refused_at s.refuses, s.soon, length-append (bytes ++ front) behind) in
         let P : List ℕ → Type 0 = λ x. Grows held held2 (x ++ form.text entries s.more) in
@@ -325,7 +326,7 @@ bytes_opened {R} form rules Took Took' held mid held1 held2 entries bytes front 
           grew = subst P (sym (due (length (bytes ++ (front ++ behind))) (omega (arith, whole, ap length line, length-append (bytes ++ front) behind)))) (Grows-Grows held held1 held2 form.head (form.text entries z.0) opened_at z.3);
         }
     go (Err e) q =
-        let Q : List Timed → Type 0 = λ es. Stops form.text rules held1 held2 es (bytes ++ front) behind e in
+        let Q : List Timed → Type 0 = λ es. Stops form.text rules Took' held1 held2 es (bytes ++ front) behind e in
         (front ++ behind, [], append-nil (front ++ behind), stopped e (subst Q same q))
 
 -- what is due of the header was not all written
@@ -348,11 +349,22 @@ bytes_unopened form Took held mid held1 entries bytes front reader each whole so
 -- ---- counts of faults
 
 -- the bytes of a read meet no fault of the source
-pub stops_at_read : {R : Type 0} (form : Form) (rules : Rules R) (held held' : Option (List ℕ)) (entries : List Timed) (bytes piece : List ℕ) (e : LogEnding R) (old new : ℕ) → StopsAt form rules held held' entries bytes piece e → new ≡ old → ReadCount old new (stop_of e)
-stops_at_read form rules held held' entries bytes piece Done old new s is = is
-stops_at_read form rules held held' entries bytes piece (NoLog f) old new s is = is
-stops_at_read form rules held held' entries bytes piece (Refused u) old new s is = is
-stops_at_read form rules held held' entries bytes piece (Stopped ReadFault) old new s is = absurd s
-stops_at_read form rules held held' entries bytes piece (Stopped WriteFault) old new s is = is
-stops_at_read form rules held held' entries bytes piece (Stopped TooLong) old new s is = absurd s
-stops_at_read form rules held held' entries bytes piece (Stopped NoMemory) old new s is = is
+pub stops_at_read : {R : Type 0} (form : Form) (rules : Rules R) (Took : List Timed → Type 0) (held held' : Option (List ℕ)) (entries : List Timed) (bytes piece : List ℕ) (e : LogEnding R) (old new : ℕ) → StopsAt form rules Took held held' entries bytes piece e → new ≡ old → ReadCount old new (stop_of e)
+stops_at_read form rules Took held held' entries bytes piece Done old new s is = is
+stops_at_read form rules Took held held' entries bytes piece (NoLog f) old new s is = is
+stops_at_read form rules Took held held' entries bytes piece (Refused u) old new s is = is
+stops_at_read form rules Took held held' entries bytes piece (Stopped ReadFault) old new s is = absurd s
+stops_at_read form rules Took held held' entries bytes piece (Stopped WriteFault) old new s is = is
+stops_at_read form rules Took held held' entries bytes piece (Stopped TooLong) old new s is = absurd s
+stops_at_read form rules Took held held' entries bytes piece (Stopped NoMemory) old new s is = is
+
+-- what stops in the bytes of a read and gets an end has written all that was gathered
+pub gets_end : {R : Type 0} (form : Form) (rules : Rules R) (Took : List Timed → Type 0) (held held' : Option (List ℕ)) (entries : List Timed) (bytes piece : List ℕ) (e : LogEnding R) (end : LogEnd) → StopsAt form rules Took held held' entries bytes piece e
+    → end_of e ≡ Some end → stop_of e ≡ None
+gets_end form rules Took held held' entries bytes piece Done end s is = absurd s
+gets_end form rules Took held held' entries bytes piece (NoLog f) end s is = refl
+gets_end form rules Took held held' entries bytes piece (Refused u) end s is = refl
+gets_end form rules Took held held' entries bytes piece (Stopped ReadFault) end s is = absurd s
+gets_end form rules Took held held' entries bytes piece (Stopped WriteFault) end s is = cc is
+gets_end form rules Took held held' entries bytes piece (Stopped TooLong) end s is = absurd s
+gets_end form rules Took held held' entries bytes piece (Stopped NoMemory) end s is = cc is

@@ -90,7 +90,7 @@ front_of_none held xs = record { front = []; rest = xs; parts = refl; appended =
 
 -- ---- how many entries a log has
 
-length-bytes_of : (v : Version) (epoch : ℕ) (entries : List Timed) → length entries ≤ length (entries_bytes v epoch entries)
+pub length-bytes_of : (v : Version) (epoch : ℕ) (entries : List Timed) → length entries ≤ length (entries_bytes v epoch entries)
 length-bytes_of v epoch [] = omega arith
 length-bytes_of v epoch (t ∷ ts) =
     let n : ℕ = epoch_after epoch t.what in

@@ -13,6 +13,8 @@ use Rattle.fw_log.specs.History.{bytes_of, stand_after, BeginsNoLog, IsLog}
 use Rattle.fw_log.specs.declared.LogFault.{LogFault}
 use Rattle.fw_reading.specs.Readings.{Form, Rules, written}
 use Rattle.fw_reading.specs.Turns.{SourceTurn, SinkTurn}
+use Rattle.fw_reading.specs.declared.ending.LogEnd.{LogEnd}
+use Rattle.fw_reading.specs.declared.ending.LogEnd.TheVariants.{Whole, NoLog as EndsNoLog, TooLong as EndsTooLong}
 use Rattle.fw_reading.specs.declared.ending.LogEnding.{LogEnding}
 use Rattle.fw_reading.specs.declared.ending.LogEnding.TheVariants.{Done, NoLog, Refused, Stopped}
 
@@ -30,6 +32,16 @@ stop_of Done = None
 stop_of (NoLog fault) = None
 stop_of (Refused refusal) = None
 stop_of (Stopped stop) = Some stop
+
+-- how a log ended, where what is written of it gets an end
+abbrev pub end_of : {R : Type 0} → LogEnding R → Option LogEnd
+end_of Done = Some Whole
+end_of (NoLog fault) = Some (EndsNoLog fault)
+end_of (Refused refusal) = None
+end_of (Stopped ReadFault) = None
+end_of (Stopped WriteFault) = None
+end_of (Stopped TooLong) = Some EndsTooLong
+end_of (Stopped NoMemory) = None
 
 -- what is written once the header was taken whole, by how many bytes were taken
 abbrev pub opened : List ℕ → ℕ → List ℕ
@@ -74,7 +86,7 @@ pub record Decoded {R : Type 0} (form : Form) (rules : Rules R) (left left' held
   pub accepted : rules.accepts entries
   pub last : List ℕ
   pub closed : rules.closes entries last
-  pub grew : Grows held held' (written form entries ++ last)
+  pub grew : Grows held held' (form.closed entries Whole (written form entries ++ last))
 
 -- A part is refused, behind so many bytes before its last one, and at most 4,096 bytes were taken from that one on.
 pub record RefusesSoon (entries : List Timed) (bytes behind : List ℕ) (fault : LogFault) (before : ℕ) : Type 0 where
@@ -93,7 +105,7 @@ pub record Faulted (form : Form) (accepts : List Timed → Type 0) (left left' h
   pub before : ℕ
   pub refused : RefusesSoon entries bytes behind fault before ⊎ ((behind ≡ []) × IsAtEnd left' × EndsEarly entries bytes fault × (length bytes ≡ before))
   pub accepted : accepts entries
-  pub grew : Grows held held' (opened form.head before ++ form.text [] entries)
+  pub grew : Grows held held' (form.closed entries (EndsNoLog fault) (form.front ++ (opened form.head before ++ form.text [] entries)))
 
 -- The bytes up to the end of an entry are those of entries of a log, and the log is refused at that entry and at none before. At most
 -- 4,096 bytes behind it were taken. What is written of the entries before was written.
@@ -132,7 +144,7 @@ pub record PassedLimit (form : Form) (accepts : List Timed → Type 0) (left lef
   pub begins : Begins entries part bytes
   pub pending : IsPending (stand_after begins.version entries) part
   pub accepted : accepts entries
-  pub grew : Grows held held' (written form entries)
+  pub grew : Grows held held' (form.closed entries EndsTooLong (written form entries))
 
 -- A read failed, and of the bytes before it nothing is refused: they are those of entries, and of a part of one more.
 -- Exactly the text of these entries was written, and what is due of a header that was taken whole.
@@ -145,17 +157,18 @@ pub record Interrupted (form : Form) (accepts : List Timed → Type 0) (left lef
   pub begins : Begins entries part bytes
   pub pending : IsPending (stand_after begins.version entries) part
   pub accepted : accepts entries
-  pub grew : Grows held held' (opened form.head (length bytes) ++ form.text [] entries)
+  pub grew : Grows held held' (form.front ++ (opened form.head (length bytes) ++ form.text [] entries))
 
--- The bytes that were taken begin with those of entries, and a front was written of what is written of them, and before that of what
--- is due of a header that was taken whole.
+-- The bytes that were taken begin with those of entries, and a front was written of what is written of them, behind what is due of a
+-- header that was taken whole, and with what closes it at one end or another.
 pub record PartRead (form : Form) (left left' held held' : Option (List ℕ)) : Type 0 where
   pub entries : List Timed
   pub bytes : List ℕ
   pub taken : Takes left left' bytes
   pub part : List ℕ
   pub begins : Begins entries part bytes
-  pub grew : AppendsFront held held' (opened form.head (length bytes) ++ form.text [] entries)
+  pub end : LogEnd
+  pub grew : AppendsFront held held' (form.closed entries end (form.front ++ (opened form.head (length bytes) ++ form.text [] entries)))
 
 -- The log was read, is not refused, and a front of what is written of its entries and at its end was written.
 pub record PartClosed {R : Type 0} (form : Form) (rules : Rules R) (left left' held held' : Option (List ℕ)) : Type 0 where
@@ -164,7 +177,7 @@ pub record PartClosed {R : Type 0} (form : Form) (rules : Rules R) (left left' h
   pub accepted : rules.accepts entries
   pub last : List ℕ
   pub closed : rules.closes entries last
-  pub grew : AppendsFront held held' (written form entries ++ last)
+  pub grew : AppendsFront held held' (form.closed entries Whole (written form entries ++ last))
 
 -- A word read a log.
 abbrev pub Reads : {R : Type 0} → Form → Rules R → Option (List ℕ) → Option (List ℕ) → Option (List ℕ) → Option (List ℕ) → LogEnding R → Type 0

@@ -2,3 +2,4 @@ pub mod Readings
 pub mod Turns
 pub mod Endings
 pub mod Pieces
+pub mod Framings

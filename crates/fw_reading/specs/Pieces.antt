@@ -1,14 +1,15 @@
 -- What a piece of a log does to a reader, to what takes the entries, and to a sink.
-use Rattle.std.specs.Prelude.{◌≡◌, ℕ, ◌+◌, ◌≤◌, List, [], ◌∷◌, ◌++◌, length, nat_le, if◌then◌else◌, Option, Some, None, Result, Ok, Err}
+use Rattle.std.specs.Prelude.{◌≡◌, ℕ, ◌+◌, ◌≤◌, ◌⊎◌, List, [], ◌∷◌, ◌++◌, length, nat_le, if◌then◌else◌, Option, Some, None, Result, Ok, Err, IfOk}
 use Rattle.std.specs.declared.alloc.AllocError.{AllocError}
 use Rattle.fw_outside.specs.Outside.{Takes, Grows, AppendsFront}
 use Rattle.fw_outside.specs.declared.stop.Stop.TheVariants.{ReadFault, WriteFault, TooLong, NoMemory}
 use Rattle.fw_entry.specs.declared.entry.Timed.{Timed}
-use Rattle.fw_log.specs.History.{bytes_of, HasRead, Finishes}
-use Rattle.fw_log.specs.Reader.{State, finish_of}
+use Rattle.fw_log.specs.History.{bytes_of, HasRead, ReadsOn, Finishes}
+use Rattle.fw_log.specs.Reader.{State, Feeds, Counts, body_given, finish_of}
+use Rattle.fw_log.specs.declared.read.LogFed.{LogFed}
 use Rattle.fw_log.specs.declared.LogFault.{LogFault}
 use Rattle.fw_reading.specs.Readings.{Text, Form, Rules}
-use Rattle.fw_reading.specs.Endings.{limit, Begins, Refuses, opened}
+use Rattle.fw_reading.specs.Endings.{limit, Begins, Refuses, opened, Decoded, Faulted, Rejected, RefusedWhole, Interrupted, PartRead, PartClosed, PassedLimit}
 use Rattle.fw_reading.specs.declared.ending.LogEnding.{LogEnding}
 use Rattle.fw_reading.specs.declared.ending.LogEnding.TheVariants.{Done, NoLog, Refused, Stopped}
 
@@ -18,6 +19,13 @@ pub record IsUnderWay (Took : List Timed → Type 0) (reader : State) : Type 0 w
   pub bytes : List ℕ
   pub read : HasRead entries bytes reader
   pub took : Took entries
+
+-- what a reader answers of a piece, as its `feed` says
+pub record FeedsOn (old : State) (piece : List ℕ) (result : Result LogFed LogFault) (new : State) : Type 0 where
+  pub fed : Feeds old.stand old.taken piece result new
+  pub counts : Counts old piece result new
+  pub body : IfOk result (λ f. f.body ≡ body_given f.entry)
+  pub history : (entries : List Timed) → (bytes : List ℕ) → HasRead entries bytes old → ReadsOn entries bytes piece result new
 
 -- ---- what is gathered
 
@@ -51,7 +59,7 @@ pub record GathersToLast {R : Type 0} (text : Text) (rules : Rules R) (old new :
 -- All of the piece was taken, or a part or the log is refused; where memory ran out nothing is said.
 abbrev pub TakesPiece : {R : Type 0} → Text → Rules R → (List Timed → Type 0) → List ℕ → List ℕ → List Timed → List ℕ → List ℕ → State → Result (Option (LogEnding R)) AllocError → Type 0
 TakesPiece text rules Took old new entries bytes piece reader (Ok None) = Gathers text Took old new entries (bytes ++ piece) reader
-TakesPiece text rules Took old new entries bytes piece reader (Ok (Some (NoLog fault))) = GathersUpTo text rules.accepts old new entries bytes piece fault
+TakesPiece text rules Took old new entries bytes piece reader (Ok (Some (NoLog fault))) = GathersUpTo text Took old new entries bytes piece fault
 TakesPiece text rules Took old new entries bytes piece reader (Ok (Some (Refused refusal))) = GathersToLast text rules old new entries bytes piece refusal
 TakesPiece text rules Took old new entries bytes piece reader (Ok (Some Done)) = ⊥
 TakesPiece text rules Took old new entries bytes piece reader (Ok (Some (Stopped stop))) = ⊥
@@ -100,19 +108,19 @@ pub record PrintsPart (text : Text) (held held' : Option (List ℕ)) (entries : 
   pub grew : AppendsFront held held' (text entries more)
 
 -- how far a piece was read, by the ending
-abbrev pub Stops : {R : Type 0} → Text → Rules R → Option (List ℕ) → Option (List ℕ) → List Timed → List ℕ → List ℕ → LogEnding R → Type 0
-Stops text rules held held' entries bytes piece (NoLog fault) = PrintsUpTo text rules.accepts held held' entries bytes piece fault
-Stops text rules held held' entries bytes piece (Refused refusal) = PrintsToLast text rules held held' entries bytes piece refusal
-Stops text rules held held' entries bytes piece (Stopped WriteFault) = PrintsPart text held held' entries (bytes ++ piece)
-Stops text rules held held' entries bytes piece (Stopped NoMemory) = PrintsPart text held held' entries (bytes ++ piece)
-Stops text rules held held' entries bytes piece (Stopped ReadFault) = ⊥
-Stops text rules held held' entries bytes piece (Stopped TooLong) = ⊥
-Stops text rules held held' entries bytes piece Done = ⊥
+abbrev pub Stops : {R : Type 0} → Text → Rules R → (List Timed → Type 0) → Option (List ℕ) → Option (List ℕ) → List Timed → List ℕ → List ℕ → LogEnding R → Type 0
+Stops text rules Took held held' entries bytes piece (NoLog fault) = PrintsUpTo text Took held held' entries bytes piece fault
+Stops text rules Took held held' entries bytes piece (Refused refusal) = PrintsToLast text rules held held' entries bytes piece refusal
+Stops text rules Took held held' entries bytes piece (Stopped WriteFault) = PrintsPart text held held' entries (bytes ++ piece)
+Stops text rules Took held held' entries bytes piece (Stopped NoMemory) = PrintsPart text held held' entries (bytes ++ piece)
+Stops text rules Took held held' entries bytes piece (Stopped ReadFault) = ⊥
+Stops text rules Took held held' entries bytes piece (Stopped TooLong) = ⊥
+Stops text rules Took held held' entries bytes piece Done = ⊥
 
 -- All of the piece was read, or the ending says how far it was.
 abbrev pub PrintsPiece : {R : Type 0} → Text → Rules R → (List Timed → Type 0) → Option (List ℕ) → Option (List ℕ) → List Timed → List ℕ → List ℕ → State → Result (Unit {0}) (LogEnding R) → Type 0
 PrintsPiece text rules Took held held' entries bytes piece reader (Ok _) = Prints text Took held held' entries (bytes ++ piece) reader
-PrintsPiece text rules Took held held' entries bytes piece reader (Err ending) = Stops text rules held held' entries bytes piece ending
+PrintsPiece text rules Took held held' entries bytes piece reader (Err ending) = Stops text rules Took held held' entries bytes piece ending
 
 -- ---- the bytes of a read, in which the header may become whole
 
@@ -155,20 +163,20 @@ pub record PrintsFront (form : Form) (held held' : Option (List ℕ)) (entries :
   pub grew : AppendsFront held held' (opening form.head before (length bytes) ++ form.text entries more)
 
 -- how far the bytes were read, by the ending
-abbrev pub StopsAt : {R : Type 0} → Form → Rules R → Option (List ℕ) → Option (List ℕ) → List Timed → List ℕ → List ℕ → LogEnding R → Type 0
-StopsAt form rules held held' entries bytes piece (NoLog fault) = PrintsTo form rules.accepts held held' entries bytes piece fault
-StopsAt form rules held held' entries bytes piece (Refused refusal) = PrintsLast form rules held held' entries bytes piece refusal
-StopsAt form rules held held' entries bytes piece (Stopped WriteFault) = PrintsFront form held held' entries (bytes ++ piece) (length bytes)
-StopsAt form rules held held' entries bytes piece (Stopped NoMemory) = PrintsFront form held held' entries (bytes ++ piece) (length bytes)
-StopsAt form rules held held' entries bytes piece (Stopped ReadFault) = ⊥
-StopsAt form rules held held' entries bytes piece (Stopped TooLong) = ⊥
-StopsAt form rules held held' entries bytes piece Done = ⊥
+abbrev pub StopsAt : {R : Type 0} → Form → Rules R → (List Timed → Type 0) → Option (List ℕ) → Option (List ℕ) → List Timed → List ℕ → List ℕ → LogEnding R → Type 0
+StopsAt form rules Took held held' entries bytes piece (NoLog fault) = PrintsTo form Took held held' entries bytes piece fault
+StopsAt form rules Took held held' entries bytes piece (Refused refusal) = PrintsLast form rules held held' entries bytes piece refusal
+StopsAt form rules Took held held' entries bytes piece (Stopped WriteFault) = PrintsFront form held held' entries (bytes ++ piece) (length bytes)
+StopsAt form rules Took held held' entries bytes piece (Stopped NoMemory) = PrintsFront form held held' entries (bytes ++ piece) (length bytes)
+StopsAt form rules Took held held' entries bytes piece (Stopped ReadFault) = ⊥
+StopsAt form rules Took held held' entries bytes piece (Stopped TooLong) = ⊥
+StopsAt form rules Took held held' entries bytes piece Done = ⊥
 
 -- All of the bytes were read, or the ending says how far they were: some of them were looked at, and the others were not.
 abbrev pub PrintsBytes : {R : Type 0} → Form → Rules R → (List Timed → Type 0) → Option (List ℕ) → Option (List ℕ) → List Timed → List ℕ → List ℕ → State → Result (Unit {0}) (LogEnding R) → Type 0
 PrintsBytes form rules Took held held' entries bytes piece reader (Ok _) = PrintsMore form Took held held' entries bytes piece reader
 PrintsBytes form rules Took held held' entries bytes piece reader (Err ending) =
-    (front behind : List ℕ) × (front ++ behind ≡ piece) × StopsAt form rules held held' entries bytes front ending
+    (front behind : List ℕ) × (front ++ behind ≡ piece) × StopsAt form rules Took held held' entries bytes front ending
 
 -- ---- the whole log
 
@@ -204,3 +212,19 @@ EndsLog rules entries bytes reader held held' (Stopped WriteFault) = Finishes en
 EndsLog rules entries bytes reader held held' (Stopped NoMemory) = Finishes entries bytes (Ok tt) × (held' ≡ held)
 EndsLog rules entries bytes reader held held' (Stopped ReadFault) = ⊥
 EndsLog rules entries bytes reader held held' (Stopped TooLong) = ⊥
+
+-- ---- what was read, by the ending, of entries that were taken
+
+-- a word that goes on after entries of which this holds
+abbrev pub taking : {R : Type 0} → Rules R → (List Timed → Type 0) → Rules R
+taking rules Took = record rules { accepts = Took }
+
+-- A word read a log, and took its entries where what is written of it may get an end.
+abbrev pub ReadsTo : {R : Type 0} → Form → Rules R → (List Timed → Type 0) → Option (List ℕ) → Option (List ℕ) → Option (List ℕ) → Option (List ℕ) → LogEnding R → Type 0
+ReadsTo form rules Took left left' held held' Done = Decoded form (taking rules Took) left left' held held'
+ReadsTo form rules Took left left' held held' (NoLog fault) = Faulted form Took left left' held held' fault
+ReadsTo form rules Took left left' held held' (Refused refusal) = Rejected form rules left left' held held' refusal ⊎ RefusedWhole form rules left left' held held' refusal
+ReadsTo form rules Took left left' held held' (Stopped ReadFault) = Interrupted form Took left left' held held'
+ReadsTo form rules Took left left' held held' (Stopped WriteFault) = PartRead form left left' held held' ⊎ PartClosed form rules left left' held held'
+ReadsTo form rules Took left left' held held' (Stopped TooLong) = PassedLimit form Took left left' held held'
+ReadsTo form rules Took left left' held held' (Stopped NoMemory) = PartRead form left left' held held'

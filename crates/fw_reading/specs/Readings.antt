@@ -3,6 +3,7 @@ use Rattle.std.specs.Prelude.{◌≡◌, ℕ, List, [], ◌∷◌, ◌++◌, Opt
 use Rattle.fw_entry.specs.declared.entry.Timed.{Timed}
 use Rattle.fw_log.specs.History.{HasRead}
 use Rattle.fw_log.specs.Reader.{State}
+use Rattle.fw_reading.specs.declared.ending.LogEnd.{LogEnd}
 use Rattle.fw_reading.specs.declared.ending.Closing.{Closing}
 use Rattle.fw_reading.specs.declared.ending.Closing.TheVariants.{Text as ClosesBy, Bytes as ClosesByBytes, Refused}
 
@@ -15,14 +16,33 @@ pub record IsEach (text : Text) : Type 0 where
   pub none : (xs : List Timed) → text xs [] ≡ []
   pub more : (xs ys zs : List Timed) → text xs (ys ++ zs) ≡ text xs ys ++ text (xs ++ ys) zs
 
--- what a word writes while a log is read: this once the header was taken whole, and this of entries as they end
+-- what a word writes while a log is read: this before anything is read, this once the header was taken whole, and this of entries as
+-- they end; and what it makes of all that was written of entries at the end of what was read
 pub record Form : Type 0 where
+  pub front : List ℕ
   pub head : List ℕ
   pub text : Text
+  pub closed : List Timed → LogEnd → List ℕ → List ℕ
 
 -- what is written of entries up to the last of them
 abbrev pub written : Form → List Timed → List ℕ
-written form entries = form.head ++ form.text [] entries
+written form entries = form.front ++ (form.head ++ form.text [] entries)
+
+-- this for the header and for entries, with nothing before anything is read, and nothing at the end of what was read
+abbrev pub bare_form : List ℕ → Text → Form
+bare_form head text = record { front = []; head = head; text = text; closed = λ entries end text. text }
+
+-- a form without what is written before anything is read and at the end of what was read
+abbrev pub bare : Form → Form
+bare form = bare_form form.head form.text
+
+-- a word writes nothing before anything is read, and nothing at the end of what was read
+abbrev pub IsBare : Form → Type 0
+IsBare form = form ≡ bare form
+
+-- what is closed behind a text: it goes on from there
+abbrev pub IsClosing : Form → Type 0
+IsClosing form = (entries : List Timed) (end : LogEnd) → (more : List ℕ) × ((text : List ℕ) → form.closed entries end text ≡ text ++ more)
 
 -- what a word makes of entries besides: it goes on after these; it refuses the log with this at the last of these; at the end of a
 -- log of these it writes this; it refuses a log of these with this; and it refuses no log of which this holds
@@ -32,6 +52,12 @@ pub record Rules (R : Type 0) : Type 1 where
   pub closes : List Timed → List ℕ → Type 0
   pub refuses : List Timed → R → Type 0
   pub completes : List Timed → Type 0
+
+-- a word has no text for the header, and none for a log's end but what closes it; and that goes on from what was written
+pub record IsFramed {R : Type 0} (form : Form) (rules : Rules R) : Type 0 where
+  pub no_head : form.head ≡ []
+  pub no_last : (entries : List Timed) (last : List ℕ) → rules.closes entries last → last ≡ []
+  pub closing : IsClosing form
 
 -- a log that a word does not refuse, at none of its entries and not at its end
 pub record IsAccepted {R : Type 0} (rules : Rules R) (entries : List Timed) : Type 0 where

@@ -41,3 +41,32 @@ impl<R> Closing<R> {
         }
     }
 }
+
+/// How the reading of a log ends where what is written of it gets an end. Where a read or a write fails, or memory runs out, nothing more
+/// is written.
+#[derive(Clone, Copy)]
+pub enum LogEnd {
+    /// As it should.
+    Whole,
+    /// The bytes are no log: the first fault.
+    NoLog(LogFault),
+    /// More bytes came than are read of a log.
+    TooLong,
+}
+
+impl LogEnd {
+    ghost use Rattle.std.specs.Prelude.{◌≡◌};
+    ghost use Rattle.fw_reading.specs.Endings.{end_of};
+
+    // How a log ended, where what is written of it gets an end.
+    pub(crate) fn of<R>(ending: &LogEnding<R>) -> Option<LogEnd>
+        ensures { result ≡ end_of ending.now }
+    {
+        match ending {
+            LogEnding::Done => Some(LogEnd::Whole),
+            LogEnding::NoLog(fault) => Some(LogEnd::NoLog(*fault)),
+            LogEnding::Stopped(Stop::TooLong) => Some(LogEnd::TooLong),
+            LogEnding::Refused(_) | LogEnding::Stopped(_) => None,
+        }
+    }
+}

@@ -6,11 +6,14 @@
 #![tactic(auto)]
 
 mod ending;
+mod feeding;
+mod framing;
 mod log;
 mod piece;
 mod reading;
 
-pub use ending::{Closing, LogEnding};
+pub use ending::{Closing, LogEnd, LogEnding};
+pub use framing::{Framed, read_framed};
 pub use fw_outside::Stop;
 pub use log::read_log;
 pub use reading::Reading;

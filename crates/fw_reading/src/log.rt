@@ -5,8 +5,11 @@ ghost use Rattle.fw_outside.specs.Stops.{ReadCount, WriteCount};
 ghost use Rattle.fw_entry.specs.declared.entry.Timed.{Timed as TimedEntry};
 ghost use Rattle.fw_log.specs.History.{HasRead};
 ghost use Rattle.fw_log.specs.Reader.{total};
-ghost use Rattle.fw_reading.specs.Endings.{stop_of, Reads, ReadsLog};
-ghost use Rattle.fw_reading.specs.Pieces.{EndsLog};
+ghost use Rattle.std.specs.Prelude.{Some};
+ghost use Rattle.fw_reading.specs.Readings.{bare, IsBare};
+ghost use Rattle.fw_reading.specs.Endings.{stop_of, end_of, ReadsLog};
+ghost use Rattle.fw_reading.specs.Pieces.{EndsLog, ReadsTo};
+ghost use Rattle.fw_reading.specs.declared.ending.LogEnd.{LogEnd as AnEnd};
 
 use crate::piece::{print, print_bytes};
 use crate::{LogEnding, Reading};
@@ -49,19 +52,21 @@ fn end_log<O: Reading, K: Sink>(
     }
 }
 
-// Reads a log from its first byte on.
-fn read_pieces<O: Reading, S: Source, K: Sink>(
+// Reads a log from its first byte on. The ending says of the entries, where they were all taken, that the output took them.
+pub(crate) fn read_pieces<O: Reading, S: Source, K: Sink>(
     alloc: Global,
     reader: &mut LogReader,
     room: &mut Room,
-    mut output: O,
+    output: &mut O,
     source: &mut S,
     sink: &mut K,
 ) -> LogEnding<O::Refusal>
     requires begins { HasRead [] [] reader.old }
-    requires took { O.took output [] }
-    requires empty { O.gathered output ≡ [] }
-    ensures reads { Reads (O.form output) O.rules (S.left source.old) (S.left source.new) (K.held sink.old) (K.held sink.new) result }
+    requires took { O.took output.old [] }
+    requires empty { O.gathered output.old ≡ [] }
+    ensures reads { ReadsTo (bare (O.form output.old)) O.rules (O.took output.new) (S.left source.old) (S.left source.new) (K.held sink.old) (K.held sink.new) result }
+    ensures same { O.form output.new ≡ O.form output.old }
+    ensures empty { (end : AnEnd) → end_of result ≡ Some end → O.gathered output.new ≡ [] }
     ensures read_count { ReadCount (S.faults source.old) (S.faults source.new) (stop_of result) }
     ensures write_count { WriteCount (K.faults sink.old) (K.faults sink.new) (stop_of result) }
 {
@@ -72,13 +77,13 @@ fn read_pieces<O: Reading, S: Source, K: Sink>(
             return LogEnding::Stopped(Stop::ReadFault);
         };
         if count == 0 {
-            return end_log(alloc, reader, &output, sink);
+            return end_log(alloc, reader, output, sink);
         }
         let within = count.min(left);
         if let Err(ending) = print_bytes(
             reader,
             room,
-            &mut output,
+            output,
             LIMIT - left,
             &piece[..within],
             sink,
@@ -92,16 +97,17 @@ fn read_pieces<O: Reading, S: Source, K: Sink>(
     }
 }
 
-/// Reads a log to its end, and writes what a word makes of it.
+/// Reads a log to its end, and writes what a word makes of it that writes nothing before it reads and nothing behind.
 ///
 /// What the entries give that ended is written before more is read. A call takes at most 4,095 bytes after the byte that shows a
 /// fault of the log, and 4,096 after an entry that is refused.
 pub fn read_log<O: Reading, S: Source, K: Sink>(
     alloc: Global,
-    output: O,
+    mut output: O,
     source: &mut S,
     sink: &mut K,
 ) -> LogEnding<O::Refusal>
+    requires bare { IsBare (O.form output) }
     requires took { O.took output [] }
     requires empty { O.gathered output ≡ [] }
     ensures { ReadsLog (O.form output) O.rules (record { left = S.left; faults = S.faults; old = source.old; new = source.new })
@@ -113,5 +119,5 @@ pub fn read_log<O: Reading, S: Source, K: Sink>(
     let Ok(mut room) = Room::new(alloc) else {
         return LogEnding::Stopped(Stop::NoMemory);
     };
-    read_pieces(alloc, &mut reader, &mut room, output, source, sink)
+    read_pieces(alloc, &mut reader, &mut room, &mut output, source, sink)
 }

@@ -9,6 +9,7 @@ ghost use Rattle.fw_log.specs.Reader.{total};
 ghost use Rattle.fw_reading.specs.Endings.{stop_of};
 ghost use Rattle.fw_reading.specs.Pieces.{IsUnderWay, TakesPiece, PrintsPiece, PrintsBytes};
 
+use crate::feeding::feed;
 use crate::{LogEnding, Reading};
 use fw_log::{LogFed, LogReader, Room};
 use fw_outside::{Failed, Sink, Stop};
@@ -34,7 +35,7 @@ fn take_entries<O: Reading>(
             rest = &rest[used..];
             continue;
         }
-        let LogFed { used, entry, body } = match reader.feed(rest, room) {
+        let LogFed { used, entry, body } = match feed::<O>(reader, rest, room) {
             Ok(fed) => fed,
             Err(fault) => return Ok(Some(LogEnding::NoLog(fault))),
         };
@@ -90,6 +91,7 @@ fn print_piece<O: Reading, K: Sink>(
         → PrintsPiece (O.form output.old).text O.rules (O.took output.new) (K.held sink.old) (K.held sink.new) entries bytes piece.now reader.new result }
     ensures empty { OnOk result (O.gathered output.new ≡ []) }
     ensures same { O.form output.new ≡ O.form output.old }
+    ensures drained { IfErr result (λ e. stop_of e ≡ None → O.gathered output.new ≡ []) }
     ensures stays { OnOk result (K.faults sink.new ≡ K.faults sink.old) }
     ensures counts { IfErr result (λ e. WriteCount (K.faults sink.old) (K.faults sink.new) (stop_of e)) }
 {
@@ -126,6 +128,7 @@ pub(crate) fn print_bytes<O: Reading, K: Sink>(
         → PrintsBytes (O.form output.old) O.rules (O.took output.new) (K.held sink.old) (K.held sink.new) entries before bytes.now reader.new result }
     ensures empty { OnOk result (O.gathered output.new ≡ []) }
     ensures same { O.form output.new ≡ O.form output.old }
+    ensures drained { IfErr result (λ e. stop_of e ≡ None → O.gathered output.new ≡ []) }
     ensures stays { OnOk result (K.faults sink.new ≡ K.faults sink.old) }
     ensures counts { IfErr result (λ e. WriteCount (K.faults sink.old) (K.faults sink.new) (stop_of e)) }
 {

@@ -11,5 +11,6 @@ mod told;
 
 pub use place::Place;
 pub use register::Register;
+pub use shown::{Amount, Shown};
 pub use text::{put_place, put_register_word, put_told};
 pub use told::Told;

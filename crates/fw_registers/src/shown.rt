@@ -11,7 +11,7 @@ const NO_NODE: u32 = 63;
 
 /// What a field counts, so that a swap takes or adds so many.
 #[derive(Clone, Copy)]
-pub(crate) enum Amount {
+pub enum Amount {
     /// Bandwidth allocation units.
     Units,
     /// Broadcast connections of a plug.
@@ -55,7 +55,7 @@ impl Amount {
 
 /// How the value of a field is shown.
 #[derive(Clone, Copy)]
-pub(crate) enum Shown {
+pub enum Shown {
     /// In decimal digits.
     Decimal,
     /// A company, of 24 bits, in six hexadecimal digits.

@@ -83,9 +83,9 @@ impl Asked {
         }
     }
 
-    // What is kept of a packet, where it is a request.
+    /// What is kept of a packet, where it is a request.
     #[tactic(auto, unfolding(crate::specs::Requests::asked_by))]
-    pub(crate) fn by(p: &Packet) -> Option<Asked>
+    pub fn by(p: &Packet) -> Option<Asked>
         ensures { result ≡ asked_by p.now }
     {
         match p {
@@ -111,9 +111,9 @@ impl Asked {
         }
     }
 
-    // A response of this kind with this head answers it.
+    /// A response of this kind with this head answers it.
     #[tactic(auto, unfolding(crate::specs::Requests::answers))]
-    pub(crate) fn is_answered(&self, answer: Answer, head: &Head) -> bool
+    pub fn is_answered(&self, answer: Answer, head: &Head) -> bool
         ensures { result ≡ answers answer head.now self.now }
     {
         self.source == head.destination
@@ -122,9 +122,9 @@ impl Asked {
             && self.answer.tcode().code() == answer.tcode().code()
     }
 
-    // Another request has its source, destination and label.
+    /// Another request has its source, destination and label.
     #[tactic(auto, unfolding(crate::specs::Requests::is_same))]
-    pub(crate) fn is_same(&self, other: &Asked) -> bool
+    pub fn is_same(&self, other: &Asked) -> bool
         ensures { result ≡ is_same self.now other.now }
     {
         self.source == other.source

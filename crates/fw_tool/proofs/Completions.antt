@@ -5,8 +5,8 @@ use Rattle.fw_outside.specs.declared.stop.Stop.TheVariants.{ReadFault, WriteFaul
 use Rattle.fw_reading.specs.Endings.{stop_of, IsNoRefusal as IsNoLogRefusal}
 use Rattle.fw_reading.specs.declared.ending.LogEnding.{LogEnding}
 use Rattle.fw_reading.specs.declared.ending.LogEnding.TheVariants as LogEndings
-use Rattle.fw_decode.specs.declared.refusal.LogRefusal.{LogRefusal}
-use Rattle.fw_decode.specs.declared.refusal.LogRefusal.TheVariants as Refusals
+use Rattle.fw_reports.specs.declared.refusal.LogRefusal.{LogRefusal}
+use Rattle.fw_reports.specs.declared.refusal.LogRefusal.TheVariants as Refusals
 use Rattle.fw_run.specs.Desks.{DeskRelations}
 use Rattle.fw_simulate.specs.Counts.{ReadCount, WriteCount}
 use Rattle.fw_simulate.specs.Scripts.{IsNoRefusal}

@@ -19,8 +19,8 @@ use Rattle.fw_run.specs.Actions.{Action, Step, Steps}
 use Rattle.fw_run.specs.Good.{IsGood, IsLatest}
 use Rattle.fw_run.specs.Headline.{IsSoundThroughout}
 use Rattle.fw_run.specs.State.{State, first_state}
-use Rattle.fw_decode.specs.Maps.{HasTree}
-use Rattle.fw_decode.specs.Trees.{last_from, last_reset, reset_or}
+use Rattle.fw_reports.specs.Maps.{HasTree}
+use Rattle.fw_reports.specs.Trees.{last_from, last_reset, reset_or}
 
 -- ---- where the last reset stands
 

@@ -7,12 +7,12 @@ use Rattle.fw_entry.specs.declared.entry.ResetEntry.{ResetEntry}
 use Rattle.fw_entry.specs.declared.entry.Timed.{Timed}
 use Rattle.fw_entry.specs.declared.version.Version.TheVariants.{One}
 use Rattle.fw_decode.specs.Words.{Accepts}
-use Rattle.fw_decode.specs.Verdicts.{IsSoundLog}
+use Rattle.fw_reports.specs.Verdicts.{IsSoundLog}
 use Rattle.fw_decode.specs.declared.LogWord.{LogWord}
 use Rattle.fw_decode.specs.declared.LogWord.TheVariants.{Convert, Audit, Holders, Map, Graph}
 use Rattle.fw_tool.specs.declared.scripts.ScriptWord.TheVariants.{Run, Trace, Dub, Check}
-use Rattle.fw_decode.specs.Maps.{HasTree}
-use Rattle.fw_decode.specs.Trees.{last_reset}
+use Rattle.fw_reports.specs.Maps.{HasTree}
+use Rattle.fw_reports.specs.Trees.{last_reset}
 use Rattle.fw_tool.specs.Laws.{HasItsReset}
 use Rattle.fw_tool.specs.Words.{Spells, HasSeed, Names, texts}
 use Rattle.fw_tool.specs.declared.about.About.TheVariants.{Help, Version}

@@ -24,6 +24,7 @@ about_text Help = codes "fire simulates a FireWire (IEEE 1394) audio and video b
     codes "  explain        writes a line an entry, in words" ++ 10 ∷
     codes "  decode         writes a line an entry, with the raw quadlets" ++ 10 ∷
     codes "  json           writes a JSON object an entry, each on its line, with every field" ++ 10 ∷
+    codes "  page           writes the log as a page of HTML, to look at" ++ 10 ∷
     codes "  dv             counts packets, blocks and gaps of each channel" ++ 10 ∷
     codes "  audit          says whether channels, units and connections went as they must" ++ 10 ∷
     codes "  holders        says who holds what, each time that changes" ++ 10 ∷

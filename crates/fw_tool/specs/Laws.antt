@@ -8,8 +8,8 @@ use Rattle.fw_run.specs.Giving.{log_bytes}
 use Rattle.fw_reading.specs.Endings.{limit, Reads, IsNoRefusal}
 use Rattle.fw_reading.specs.declared.ending.LogEnding.{LogEnding}
 use Rattle.fw_decode.specs.Words.{form_by, rules_by}
-use Rattle.fw_decode.specs.declared.refusal.LogRefusal.{LogRefusal}
-use Rattle.fw_decode.specs.Trees.{last_reset}
+use Rattle.fw_reports.specs.declared.refusal.LogRefusal.{LogRefusal}
+use Rattle.fw_reports.specs.Trees.{last_reset}
 use Rattle.fw_decode.specs.declared.LogWord.{LogWord}
 use Rattle.fw_decode.specs.declared.LogWord.TheVariants.{Map, Graph}
 use Rattle.fw_simulate.specs.Ending.{Logged}

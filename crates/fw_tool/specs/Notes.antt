@@ -13,8 +13,8 @@ use Rattle.fw_faults.specs.declared.fault.AuditFault.TheVariants.{NoNode, Overla
 use Rattle.fw_map.specs.declared.MapWhy.{MapWhy}
 use Rattle.fw_map.specs.declared.MapWhy.TheVariants.{Parents, Missing, Left, Root}
 use Rattle.fw_text.specs.Line.{quadlet_text}
-use Rattle.fw_decode.specs.declared.refusal.NoMap.{NoMap as Unmapped}
-use Rattle.fw_decode.specs.declared.refusal.NoMap.TheVariants.{NoReset, NoTree}
+use Rattle.fw_reports.specs.declared.refusal.NoMap.{NoMap as Unmapped}
+use Rattle.fw_reports.specs.declared.refusal.NoMap.TheVariants.{NoReset, NoTree}
 use Rattle.fw_run.specs.declared.rule.RuleFault.{RuleFault}
 use Rattle.fw_run.specs.declared.rule.RuleFault.TheVariants.{UnknownName, NameTaken, TooMany, NoPort, PortUsed, Loop, NotController, Guarded, NoRegister, Limit, TableFull, Busy, NoSuchConnection, NotOwnPlug, OffBus, NoDeck, NothingStands, TooLate, NotCapable, NotCandidate}
 use Rattle.fw_simulate.specs.declared.ending.Refusal.{Refusal}

@@ -9,7 +9,7 @@ pub use Rattle.fw_run.specs.Desks.{DeskRelations}
 use Rattle.fw_reading.specs.Endings.{limit, Reads}
 use Rattle.fw_reading.specs.declared.ending.LogEnding.{LogEnding}
 use Rattle.fw_decode.specs.Words.{form_by, rules_by, Accepts}
-use Rattle.fw_decode.specs.declared.refusal.LogRefusal.{LogRefusal}
+use Rattle.fw_reports.specs.declared.refusal.LogRefusal.{LogRefusal}
 use Rattle.fw_decode.specs.declared.LogWord.{LogWord}
 use Rattle.fw_simulate.specs.Scripts.{IsValid}
 use Rattle.fw_simulate.specs.Sums.{Sums}

@@ -34,6 +34,7 @@ A log of version 1 or 2 goes in, whoever made it:
   explain        writes a line an entry, in words
   decode         writes a line an entry, with the raw quadlets
   json           writes a JSON object an entry, each on its line, with every field
+  page           writes the log as a page of HTML, to look at
   dv             counts packets, blocks and gaps of each channel
   audit          says whether channels, units and connections went as they must
   holders        says who holds what, each time that changes

@@ -6,7 +6,7 @@ ghost use Rattle.fw_log.specs.History.{IsLog};
 ghost use Rattle.fw_reading.specs.Endings.{limit, Reads};
 ghost use Rattle.fw_reading.specs.declared.ending.LogEnding.{LogEnding};
 ghost use Rattle.fw_decode.specs.Words.{form_by, rules_by, Accepts};
-ghost use Rattle.fw_decode.specs.declared.refusal.LogRefusal.{LogRefusal};
+ghost use Rattle.fw_reports.specs.declared.refusal.LogRefusal.{LogRefusal};
 ghost use Rattle.fw_decode.specs.declared.LogWord.{LogWord};
 ghost use Rattle.fw_gen.specs.Gen.{script_of};
 ghost use Rattle.fw_simulate.specs.Scripts.{IsValid};

@@ -57,6 +57,8 @@ fn one_word(word: &str) -> Option<Word>
         Some(Word::Log(LogWord::Explain))
     } else if word == "json" {
         Some(Word::Log(LogWord::Json))
+    } else if word == "page" {
+        Some(Word::Log(LogWord::Page))
     } else if word == "dv" {
         Some(Word::Log(LogWord::Dv))
     } else if word == "audit" {

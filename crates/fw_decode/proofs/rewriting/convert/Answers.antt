@@ -1,8 +1,9 @@
 use Rattle.std.proofs.Common.{refl, subst}
 use Rattle.fw_reading.specs.Endings.{ReadsLog}
 use Rattle.fw_reading.proofs.Decodings.{nothing_read}
-use Rattle.fw_decode.specs.Silences.{never_refused}
-use Rattle.fw_decode.specs.Texts.{Rewritten, log_form, nothing}
+use Rattle.fw_reports.specs.Silences.{never_refused}
+use Rattle.fw_reports.specs.Texts.{nothing}
+use Rattle.fw_decode.specs.Texts.{Rewritten, log_form}
 use Rattle.fw_decode.proofs.rewriting.convert.Goals as goal
 
 pub returns-in-Ok : goal.returns-in-Ok

@@ -1,7 +1,8 @@
-use Rattle.std.proofs.Common.{◌≡◌, ◌<◌, ◌≤◌, ◌+◌, ◌-◌, ℕ, length, Option, Some, None, Ok, true, false, refl, sym, ap, subst, ◌∙◌, arith}
+use Rattle.std.proofs.Common.{◌≡◌, ◌<◌, ◌≤◌, ◌+◌, ◌-◌, ℕ, length, Option, Some, None, Result, Ok, Err, true, false, refl, sym, ap, subst, ◌∙◌, arith}
 use Rattle.std.specs.Option.{is_some, IfSome, IfNone}
 use Rattle.fw_tree.specs.Numbers.{number_at, is_there}
 use Rattle.fw_map.specs.declared.tree.Tree.{Tree}
+use Rattle.fw_map.specs.declared.MapFault.{MapFault}
 use Rattle.fw_map.specs.declared.MapWhy.TheVariants.{Left, Root}
 use Rattle.fw_map.specs.Trees.{HasPackets}
 use Rattle.fw_map.specs.Growing.{Agrees, Joining}
@@ -9,6 +10,7 @@ use Rattle.fw_map.proofs.BuiltLaws.{tree_of}
 use Rattle.fw_map.proofs.OrderLaws.{grown, root_last}
 use Rattle.fw_map.proofs.NodeLaws.{joining_first, agrees_first}
 use Rattle.fw_map.proofs.RebuildLaws.{answered, joining_is, last_is, left_is, root_is, no_fault, left_over, none_over, not_left, same_tree}
+use Rattle.fw_map.proofs.ValueLaws.{tree_is, fault_is}
 use Rattle.fw_map.proofs.build.rebuild.Goals as goal
 use Rattle.fw_map.proofs.build.rebuild.Goals.{Else-e-last}
 
@@ -142,3 +144,26 @@ returns-clause-fault c = λ f.
     let j = subst P all c.loop-node.invariant.joining in
     let one = none_over e t (n - 1) j (if_none c.open_below.result ((x : ℕ) → x < n - 1 → is_there (number_at t.parent x) ≡ true) (sym c.is_some.ensures ∙ c.if-is_some.false) c.open_below.ensures.none) in
     (λ h. absurd (let z : ⊥ = cc in z), λ h. absurd (no_fault e (n - 1) f (whole n (length e.nodes) size c.requires.some) j.joined one c.if-e-last.false h))
+
+-- ---- the value
+
+pub returns-in-Err-clause-value : goal.returns-in-Err-clause-value
+returns-in-Err-clause-value c =
+    let f : MapFault = record { node = c.loop-node.node; why = c.in-Err.why } in
+    fault_is c.args.e.now f ((returns-in-Err-clause-fault c f).0 refl)
+
+pub returns-then-is_some-clause-value : goal.returns-then-is_some-clause-value
+returns-then-is_some-clause-value c =
+    let f : MapFault = record { node = length c.as_slice.result.now - 1; why = Left } in
+    fault_is c.args.e.now f ((returns-then-is_some-clause-fault c f).0 refl)
+
+pub returns-then-e-last-clause-value : goal.returns-then-e-last-clause-value
+returns-then-e-last-clause-value c =
+    let f : MapFault = record { node = length c.as_slice.result.now - 1; why = Root } in
+    fault_is c.args.e.now f ((returns-then-e-last-clause-fault c f).0 refl)
+
+pub returns-clause-value : goal.returns-clause-value
+returns-clause-value c = tree_is c.args.e.now c.loop-node.tree (built c) c.requires.few c.requires.packets (λ f w. no_fault_of f ((returns-clause-fault c f).1 w))
+  where
+    no_fault_of : (f : MapFault) → ◌≡◌ {A = Result Tree MapFault} (Ok c.loop-node.tree) (Err f) → ⊥
+    no_fault_of f h = cc

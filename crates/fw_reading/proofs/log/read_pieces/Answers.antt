@@ -4,13 +4,13 @@ use Rattle.fw_outside.specs.Outside.{Takes}
 use Rattle.fw_outside.proofs.Parts.{end_from_zero}
 use Rattle.fw_reading.specs.Readings.{Form}
 use Rattle.fw_reading.specs.Pieces.{DecodedTo, StopsAt, PrintsMore}
-use Rattle.fw_reading.proofs.Printings.{stops_at_read}
+use Rattle.fw_reading.proofs.Printings.{stops_at_read, gets_end}
 use Rattle.fw_reading.proofs.Decodings.{decoded_first, decoded_more, ended, interrupted, stopped_in, passed, cut_at, few_taken, few_behind, total_of, end_read}
 use Rattle.fw_reading.proofs.log.read_pieces.Goals as goal
 
 pub loop-count-init : goal.loop-count-init
 loop-count-init g c = record {
-  decoded = decoded_first (g.met.O.Reading.each c.args.output) (g.O.Reading.took c.args.output) (g.S.Source.left c.args.source.now) (g.K.Sink.held c.args.sink.now) c.args.reader.now c.requires.begins c.requires.took;
+  decoded = decoded_first (g.met.O.Reading.each c.args.output.now) (g.O.Reading.took c.args.output.now) (g.S.Source.left c.args.source.now) (g.K.Sink.held c.args.sink.now) c.args.reader.now c.requires.begins c.requires.took;
   same = refl;
   empty = c.requires.empty;
   read = refl;
@@ -18,7 +18,7 @@ loop-count-init g c = record {
 }
 
 pub returns-in_default-clause-reads : goal.returns-in_default-clause-reads
-returns-in_default-clause-reads g c = rw c.in_default.ensures.bytes (interrupted (g.met.O.Reading.accepted c.loop-count.output) c.loop-count.invariant.decoded)
+returns-in_default-clause-reads g c = rw c.in_default.ensures.bytes (interrupted (λ es t. t) c.loop-count.invariant.decoded)
 
 pub end_log-requires-clause-room : goal.end_log-requires-clause-room
 end_log-requires-clause-room g c = let d = c.loop-count.invariant.decoded in omega (arith, total_of d.read, d.count)
@@ -65,8 +65,8 @@ returns-in-Err-clause-reads g c =
     let took = subst T (sym (cut_at n c.in-Ok.count xs less)) c.in-Ok.ensures.bytes.0 in
     let within : length (take n xs) ≤ c.loop-count.left = omega (arith, c.min-within.ensures, length-take-le n xs fits) in
     let few = few_taken n c.in-Ok.count xs less c.in-Ok.ensures.fits.0 size in
-    let S : Form → Type 0 = λ form. (front rest : List ℕ) × (front ++ rest ≡ take n xs) × StopsAt form g.O.Reading.rules (g.K.Sink.held c.loop-count.sink) (g.K.Sink.held c.print_bytes.new.sink) d.entries d.bytes front c.in-Err.ending in
-    stopped_in (g.met.O.Reading.each c.args.output) g.O.Reading.rules (g.S.Source.left c.read.new.self) (g.K.Sink.held c.print_bytes.new.sink) (take n xs) (drop n (take c.in-Ok.count xs)) c.in-Err.ending d took within few
+    let S : Form → Type 0 = λ form. (front rest : List ℕ) × (front ++ rest ≡ take n xs) × StopsAt form g.O.Reading.rules (g.O.Reading.took c.print_bytes.new.output) (g.K.Sink.held c.loop-count.sink) (g.K.Sink.held c.print_bytes.new.sink) d.entries d.bytes front c.in-Err.ending in
+    stopped_in (g.met.O.Reading.each c.args.output.now) g.O.Reading.rules (g.O.Reading.took c.print_bytes.new.output) (g.S.Source.left c.read.new.self) (g.K.Sink.held c.print_bytes.new.sink) (take n xs) (drop n (take c.in-Ok.count xs)) c.in-Err.ending d took within few
     (subst S i.same (c.in-Err.ensures.text d.entries d.bytes d.read d.took))
 
 pub returns-in-Err-clause-read_count : goal.returns-in-Err-clause-read_count
@@ -74,7 +74,13 @@ returns-in-Err-clause-read_count g c =
     let i = c.loop-count.invariant in
     let d = i.decoded in
     let z = c.in-Err.ensures.text d.entries d.bytes d.read d.took in
-    stops_at_read (g.O.Reading.form c.loop-count.output) g.O.Reading.rules _ _ d.entries d.bytes z.0 c.in-Err.ending _ _ z.3 (c.in-Ok.ensures.same ∙ i.read)
+    stops_at_read (g.O.Reading.form c.loop-count.output) g.O.Reading.rules (g.O.Reading.took c.print_bytes.new.output) _ _ d.entries d.bytes z.0 c.in-Err.ending _ _ z.3 (c.in-Ok.ensures.same ∙ i.read)
+
+pub returns-in-Err-clause-empty : goal.returns-in-Err-clause-empty
+returns-in-Err-clause-empty g c end is =
+    let d = c.loop-count.invariant.decoded in
+    let z = c.in-Err.ensures.text d.entries d.bytes d.read d.took in
+    c.in-Err.ensures.drained (gets_end (g.O.Reading.form c.loop-count.output) g.O.Reading.rules (g.O.Reading.took c.print_bytes.new.output) _ _ d.entries d.bytes z.0 c.in-Err.ending end z.3 is)
 
 pub returns-then-within-count-clause-reads : goal.returns-then-within-count-clause-reads
 returns-then-within-count-clause-reads g c =
@@ -91,7 +97,7 @@ returns-then-within-count-clause-reads g c =
     let all : length (take c.in-Ok.count xs) ≡ c.in-Ok.count = length-take-le c.in-Ok.count xs (omega (arith, c.in-Ok.ensures.fits)) in
     let some : 0 < length (drop n (take c.in-Ok.count xs)) = omega (arith, all, length-drop n (take c.in-Ok.count xs), c.if-within-count.true) in
     let P : Form → Type 0 = λ form. PrintsMore form (g.O.Reading.took c.print_bytes.new.output) (g.K.Sink.held c.loop-count.sink) (g.K.Sink.held c.print_bytes.new.sink) d.entries d.bytes (take n xs) c.print_bytes.new.reader in
-    passed (g.met.O.Reading.each c.args.output) (g.met.O.Reading.accepted c.print_bytes.new.output) (g.S.Source.left c.read.new.self) (g.K.Sink.held c.print_bytes.new.sink) c.print_bytes.new.reader (take n xs) (drop n (take c.in-Ok.count xs)) d took full some
+    passed (g.met.O.Reading.each c.args.output.now) (λ es t. t) (g.S.Source.left c.read.new.self) (g.K.Sink.held c.print_bytes.new.sink) c.print_bytes.new.reader (take n xs) (drop n (take c.in-Ok.count xs)) d took full some
     (few_behind (length (take n xs)) (few_taken n c.in-Ok.count xs less c.in-Ok.ensures.fits.0 size))
     (subst P i.same (c.in_default-print_bytes.ensures.text d.entries d.bytes d.read d.took))
 
@@ -108,8 +114,8 @@ loop-count-preserved g c =
     let size : length (take n xs) ≡ c.in-Ok.count = length-take-le n xs fits ∙ same in
     let within : length (take n xs) ≤ c.loop-count.left = omega (arith, c.min-within.ensures, length-take-le n xs fits) in
     let P : Form → Type 0 = λ form. PrintsMore form (g.O.Reading.took c.print_bytes.new.output) (g.K.Sink.held c.loop-count.sink) (g.K.Sink.held c.print_bytes.new.sink) d.entries d.bytes (take n xs) c.print_bytes.new.reader in
-    let more = decoded_more (g.met.O.Reading.each c.args.output) (g.S.Source.left c.read.new.self) (g.K.Sink.held c.print_bytes.new.sink) c.print_bytes.new.reader (take n xs) d took (subst P i.same (c.in_default-print_bytes.ensures.text d.entries d.bytes d.read d.took)) within in
-    let D : ℕ → Type 0 = λ m. DecodedTo (g.O.Reading.form c.args.output) (g.O.Reading.took c.print_bytes.new.output) (g.S.Source.left c.args.source.now) (g.S.Source.left c.read.new.self) (g.K.Sink.held c.args.sink.now) (g.K.Sink.held c.print_bytes.new.sink) c.print_bytes.new.reader (c.loop-count.left - m) in
+    let more = decoded_more (g.met.O.Reading.each c.args.output.now) (g.S.Source.left c.read.new.self) (g.K.Sink.held c.print_bytes.new.sink) c.print_bytes.new.reader (take n xs) d took (subst P i.same (c.in_default-print_bytes.ensures.text d.entries d.bytes d.read d.took)) within in
+    let D : ℕ → Type 0 = λ m. DecodedTo (g.O.Reading.form c.args.output.now) (g.O.Reading.took c.print_bytes.new.output) (g.S.Source.left c.args.source.now) (g.S.Source.left c.read.new.self) (g.K.Sink.held c.args.sink.now) (g.K.Sink.held c.print_bytes.new.sink) c.print_bytes.new.reader (c.loop-count.left - m) in
     record {
       decoded = subst D size more;
       same = c.in_default-print_bytes.ensures.same ∙ i.same;

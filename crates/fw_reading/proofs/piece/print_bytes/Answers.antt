@@ -25,7 +25,7 @@ returns-in-Err-clause-text g c entries before h t =
     let behind = c.split_at.result.1.now in
     let line : front ++ behind ≡ c.args.bytes.now = search rules in
     let size : length (before ++ front) ≡ 16 = omega (arith, c.if-taken-ge-HEADER.false, c.if-bytes-rest.false, c.requires.taken, total_of h, length-append before front, c.split_at.ensures.front_len) in
-    bytes_stopped (g.O.Reading.form c.args.output.now) g.O.Reading.rules (g.K.Sink.held c.args.sink.now) (g.K.Sink.held c.print_piece-2.new.sink) entries before front behind c.args.bytes.now c.in-Err.ending (g.met.O.Reading.each c.args.output.now) (omega (arith, size)) line
+    bytes_stopped (g.O.Reading.form c.args.output.now) g.O.Reading.rules (g.O.Reading.took c.print_piece-2.new.output) (g.K.Sink.held c.args.sink.now) (g.K.Sink.held c.print_piece-2.new.sink) entries before front behind c.args.bytes.now c.in-Err.ending (g.met.O.Reading.each c.args.output.now) (omega (arith, size)) line
     (c.in-Err.ensures.text entries before h t)
 
 pub returns-in_default-open-clause-text : goal.returns-in_default-open-clause-text

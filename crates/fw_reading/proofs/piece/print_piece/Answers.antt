@@ -11,8 +11,8 @@ returns-in_default-flush-clause-text g c entries bytes h t =
 
 pub returns-in-Some-clause-text : goal.returns-in-Some-clause-text
 returns-in-Some-clause-text g c entries bytes h t =
-    written_stop (g.O.Reading.form c.args.output.now).text g.O.Reading.rules (g.O.Reading.took c.take_entries.new.output) _ _ (g.O.Reading.gathered c.args.output.now) (g.O.Reading.gathered c.take_entries.new.output) entries bytes c.args.piece.now
-    c.take_entries.new.reader c.in-Ok.ending c.in-Some.ending c.in-Some.is c.requires.empty (c.in-Ok.ensures.text entries bytes h t) c.in-Ok-flush.ensures.text
+    written_stop (g.O.Reading.form c.args.output.now).text g.O.Reading.rules (g.O.Reading.took c.take_entries.new.output) (g.O.Reading.took c.flush.new.output) _ _ (g.O.Reading.gathered c.args.output.now) (g.O.Reading.gathered c.take_entries.new.output) entries bytes c.args.piece.now
+    c.take_entries.new.reader c.in-Ok.ending c.in-Some.ending c.in-Some.is c.requires.empty c.in-Ok-flush.ensures.took (c.in-Ok.ensures.text entries bytes h t) c.in-Ok-flush.ensures.text
 
 pub returns-in-None-clause-text : goal.returns-in-None-clause-text
 returns-in-None-clause-text g c entries bytes h t =

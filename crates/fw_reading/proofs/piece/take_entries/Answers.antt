@@ -6,7 +6,7 @@ use Rattle.fw_log.specs.Reader.{State, Feeds, total}
 use Rattle.fw_reading.specs.Readings.{Form, Passes}
 use Rattle.fw_reading.specs.Pieces.{GatheredTo}
 use Rattle.fw_reading.proofs.Gatherings.{gathered_first, gathered_passed, gathered_some, gathered_fault, gathered_last, gathered_rest, gathered_all, few_read, rest_from, none_else, takes_none, takes_some, when_none, when_some, by_both}
-use Rattle.fw_reading.proofs.Gatherings.{when_fresh, stays_fresh, given_body, none_given}
+use Rattle.fw_reading.proofs.Gatherings.{stays_fresh, given_body, none_given}
 use Rattle.fw_reading.proofs.piece.take_entries.Goals as goal
 
 pub loop-rest-init : goal.loop-rest-init
@@ -49,11 +49,9 @@ returns-in-Err-clause-text g c entries bytes h t =
     let r = c.pass.new.reader in
     let rest : List ℕ = c.loop-rest.rest.now in
     let kept = when_none c.in_ok-used.field-0 (none_else c.in_ok-used.field-0 c.in_default.not-Some) c.in_ok-used.ensures.kept in
-    let fresh : r.fault ≡ None = ap (λ (x : State). x.fault) kept.0 ∙ i.fresh in
-    let f : Feeds r.stand r.taken rest (Err c.in-Err.fault) c.feed.new.self =
-    when_fresh (Feeds r.stand r.taken rest (Err c.in-Err.fault) c.feed.new.self) r.fault fresh c.in-Err.ensures.fresh in
+    let f : Feeds r.stand r.taken rest (Err c.in-Err.fault) c.feed.new.reader = c.in-Err.ensures.fed in
     let p = by_both (λ x o. GatheredTo (g.O.Reading.form c.args.output.now).text (g.O.Reading.took o) (g.O.Reading.gathered c.args.output.now) (g.O.Reading.gathered o) entries bytes c.args.piece.now rest x) kept.0 kept.1 (i.text entries bytes h t) in
-    gathered_fault g.O.Reading.rules.accepts c.feed.new.self c.in-Err.fault p f (g.met.O.Reading.accepted c.pass.new.self)
+    gathered_fault (g.O.Reading.took c.pass.new.self) c.feed.new.reader c.in-Err.fault p f (λ es t. t)
 
 pub take-requires-clause-body : goal.take-requires-clause-body
 take-requires-clause-body g c = c.as_slice.ensures ∙ given_body c.in-Ok.fed c.in-Some-entry.entry c.in-Some-entry.is c.in-Ok.ensures.body
@@ -65,11 +63,10 @@ loop-rest-preserved g c =
     let rest : List ℕ = c.loop-rest.rest.now in
     let fed = c.in-Ok.fed in
     let t = c.in-Some-entry.entry in
-    let new = c.feed.new.self in
+    let new = c.feed.new.reader in
     let kept = when_none c.in_ok-used.field-0 (none_else c.in_ok-used.field-0 c.in_default.not-Some) c.in_ok-used.ensures.kept in
-    let fresh : r.fault ≡ None = ap (λ (x : State). x.fault) kept.0 ∙ i.fresh in
     let at : total r ≡ total c.loop-rest.reader = ap total kept.0 in
-    let f : Feeds r.stand r.taken rest (Ok fed) new = when_fresh (Feeds r.stand r.taken rest (Ok fed) new) r.fault fresh c.in-Ok.ensures.fresh in
+    let f : Feeds r.stand r.taken rest (Ok fed) new = c.in-Ok.ensures.fed in
     let from = sym (rest_from rest fed.used) in
     let small : total new < 2 ^ 64 = omega (arith, i.count, at, c.in-Ok.ensures.counts.0, c.in-Ok.ensures.counts.1, c.requires.room) in
     record {
@@ -95,10 +92,9 @@ returns-in_default-entry-clause-text g c entries bytes h t0 =
     let r = c.pass.new.reader in
     let rest : List ℕ = c.loop-rest.rest.now in
     let fed = c.in-Ok.fed in
-    let new = c.feed.new.self in
+    let new = c.feed.new.reader in
     let kept = when_none c.in_ok-used.field-0 (none_else c.in_ok-used.field-0 c.in_default.not-Some) c.in_ok-used.ensures.kept in
-    let fresh : r.fault ≡ None = ap (λ (x : State). x.fault) kept.0 ∙ i.fresh in
-    let f : Feeds r.stand r.taken rest (Ok fed) new = when_fresh (Feeds r.stand r.taken rest (Ok fed) new) r.fault fresh c.in-Ok.ensures.fresh in
+    let f : Feeds r.stand r.taken rest (Ok fed) new = c.in-Ok.ensures.fed in
     let p = by_both (λ x o. GatheredTo (g.O.Reading.form c.args.output.now).text (g.O.Reading.took o) (g.O.Reading.gathered c.args.output.now) (g.O.Reading.gathered o) entries bytes c.args.piece.now rest x) kept.0 kept.1 (i.text entries bytes h t0) in
     gathered_rest (g.met.O.Reading.each c.args.output.now) new fed p f (c.in-Ok.ensures.history (entries ++ p.gathers.more) (bytes ++ p.done) p.gathers.read) (none_given fed.entry c.in_default-entry.not-Some)
 
@@ -109,11 +105,10 @@ returns-in-Some-2-clause-text g c entries bytes h t0 =
     let rest : List ℕ = c.loop-rest.rest.now in
     let fed = c.in-Ok.fed in
     let t = c.in-Some-entry.entry in
-    let new = c.feed.new.self in
+    let new = c.feed.new.reader in
     let kept = when_none c.in_ok-used.field-0 (none_else c.in_ok-used.field-0 c.in_default.not-Some) c.in_ok-used.ensures.kept in
-    let fresh : r.fault ≡ None = ap (λ (x : State). x.fault) kept.0 ∙ i.fresh in
     let at : total r ≡ total c.loop-rest.reader = ap total kept.0 in
-    let f : Feeds r.stand r.taken rest (Ok fed) new = when_fresh (Feeds r.stand r.taken rest (Ok fed) new) r.fault fresh c.in-Ok.ensures.fresh in
+    let f : Feeds r.stand r.taken rest (Ok fed) new = c.in-Ok.ensures.fed in
     let small : total new < 2 ^ 64 = omega (arith, i.count, at, c.in-Ok.ensures.counts.0, c.in-Ok.ensures.counts.1, c.requires.room) in
     let p = by_both (λ x o. GatheredTo (g.O.Reading.form c.args.output.now).text (g.O.Reading.took o) (g.O.Reading.gathered c.args.output.now) (g.O.Reading.gathered o) entries bytes c.args.piece.now rest x) kept.0 kept.1 (i.text entries bytes h t0) in
     let es : List Timed = entries ++ p.gathers.more in

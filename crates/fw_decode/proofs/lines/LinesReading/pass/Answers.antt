@@ -1,4 +1,4 @@
-use Rattle.fw_decode.proofs.Passings.{line_passes}
+use Rattle.fw_decode.proofs.WholePassings.{line_passes}
 use Rattle.fw_decode.proofs.lines.LinesReading.pass.Goals as goal
 
 pub put_body-requires : goal.put_body-requires

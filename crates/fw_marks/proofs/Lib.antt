@@ -1,0 +1,2 @@
+pub mod LaterLaws
+pub mod TextLaws

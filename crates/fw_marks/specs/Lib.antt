@@ -1,0 +1,4 @@
+pub mod Small
+pub mod Shapes
+pub mod Places
+pub mod Arrows

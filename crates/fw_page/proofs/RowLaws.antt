@@ -1,0 +1,106 @@
+-- A row: its text, and what it leaves.
+use Rattle.std.proofs.Common.{◌≡◌, ℕ, not, Bool, true, false, List, [], ◌++◌, codes, Option, Some, None, refl, ap, subst, sym, ◌∙◌}
+use Rattle.std.specs.Option.{is_some}
+use Rattle.fw_account.specs.Account.{Account}
+use Rattle.fw_entry.specs.declared.nodes.NodeRow.{NodeRow}
+use Rattle.fw_marks.specs.Shapes.{halves}
+use Rattle.fw_scene.specs.Lines.{nodes_text}
+use Rattle.fw_scene.specs.declared.lives.Lives.{Lives}
+use Rattle.fw_section.proofs.ChainLaws.{six}
+use Rattle.fw_strip.specs.Drawing.{Painted, StaysAs, painted}
+use Rattle.fw_page.specs.declared.progress.Progress.{Progress}
+use Rattle.fw_page.specs.State.{State, Step}
+use Rattle.fw_page.specs.Rows.{Front, head_text, lines_now, strip_text, row_text, row, drawn_now}
+use Rattle.fw_page.specs.Sheets.{Shows, IsDrawn, StayNodes, Draws, IsDrawnNow, painted_of}
+
+-- ---- if nothing has moved
+
+pub nodes_stay : (moved : Bool) (lives : Lives) (l : Option Account) (rows : List NodeRow) (left : Painted) (nodes now : List ℕ) → now ≡ nodes_text lives l rows → IsDrawn moved lives l rows left nodes
+    → StayNodes moved nodes now
+nodes_stay true lives l rows left nodes now e d = tt
+nodes_stay false lives l rows left nodes now e d = d.0 ∙ sym e
+
+pub stayed : (moved : Bool) (before now : List ℕ) → moved ≡ false → StayNodes moved before now → before ≡ now
+stayed true before now e s = absurd (let z : ⊥ = cc in z)
+stayed false before now e s = s
+
+pub strip_stays : (moved : Bool) (lives : Lives) (l : Option Account) (rows : List NodeRow) (left now : Painted) (nodes : List ℕ) → now ≡ left → IsDrawn moved lives l rows left nodes
+    → StaysAs moved now l
+strip_stays true lives l rows left now nodes e d = tt
+strip_stays false lives l rows left now nodes e d = e ∙ d.1
+
+-- what is drawn of the nodes now
+drawn_anew : (moved : Bool) (lives : Lives) (l : Option Account) (rows : List NodeRow) (left : Painted) (nodes now : List ℕ) → now ≡ nodes_text lives l rows → IsDrawn moved lives l rows left nodes
+    → IsDrawn moved lives l rows left now
+drawn_anew true lives l rows left nodes now e d = tt
+drawn_anew false lives l rows left nodes now e d = (e, d.1)
+
+-- the nodes are drawn
+pub nodes_shown : (st : State) (old new : Progress) → new ≡ record old { nodes = new.nodes } → new.nodes.items ≡ nodes_text st.lives st.followed.account st.nodes → Shows st old → Shows st new
+nodes_shown st old new is e h = subst (λ (p : Progress). Shows st p) (sym is) (record {
+  number = h.number;
+  last = h.last;
+  begun = h.begun;
+  nodes = h.nodes;
+  second = h.second;
+  lives = h.lives;
+  standing = h.standing;
+  beside = h.beside;
+  is_due = h.is_due;
+  keeps = h.keeps;
+  lines = h.lines;
+  painted = h.painted;
+  edge = h.edge;
+  blank = h.blank;
+  counts = h.counts;
+  drawn = drawn_anew old.is_moved st.lives st.followed.account st.nodes (painted_of st) old.nodes.items new.nodes.items e h.drawn;
+})
+
+-- ---- a row is drawn
+
+-- what it leaves
+pub row_left : (st : State) (old drawn painting new : Progress) (lines : List ℕ) → Draws st old drawn lines → IsDrawnNow st drawn painting
+    → new ≡ record painting { lines = new.lines; edge = painting.second; blank = not (is_some st.followed.account); is_moved = false } → new.lines.items ≡ lines → Shows (drawn_now st) new
+row_left st old drawn painting new lines d p is l = subst (λ (x : Progress). Shows (drawn_now st) x) (sym whole) (record {
+  number = h.number;
+  last = h.last;
+  begun = h.begun;
+  nodes = h.nodes;
+  second = h.second;
+  lives = h.lives;
+  standing = h.standing;
+  beside = h.beside;
+  is_due = h.is_due;
+  keeps = h.keeps;
+  lines = l ∙ d.lines_are;
+  painted = p.strip_is;
+  edge = h.second;
+  blank = refl;
+  counts = h.counts;
+  drawn = (d.nodes_are, refl);
+})
+  where
+    h : Shows st drawn
+    h = d.shows
+
+    whole : new ≡ record drawn { strip = painting.strip; lines = new.lines; edge = drawn.second; blank = not (is_some st.followed.account); is_moved = false }
+    whole = is ∙ ap (λ (x : Progress). record x { lines = new.lines; edge = x.second; blank = not (is_some st.followed.account); is_moved = false }) p.rest
+
+-- its text
+pub row_said : (st : State) (old drawn : Progress) (front : Front) (marks words lines : List ℕ) (dot : Option ℕ) (t t1 t2 t3 t4 t5 t6 : List ℕ) → Shows st old → Draws st old drawn lines
+    → t1 ≡ t ++ head_text front old.second
+    → t2 ≡ t1 ++ halves drawn.lines.items lines → t3 ≡ t2 ++ marks → t4 ≡ t3 ++ codes "</svg><p>" → t5 ≡ t4 ++ words → t6 ≡ t5 ++ strip_text dot st → t6 ≡ t ++ row_text front marks words dot st
+row_said st old drawn front marks words lines dot t t1 t2 t3 t4 t5 t6 h d e1 e2 e3 e4 e5 e6 =
+    six t t1 t2 t3 t4 t5 t6 (head_text front st.second) (halves st.drawn.lines (lines_now st)) marks (codes "</svg><p>") words (strip_text dot st)
+    (e1 ∙ ap (λ b. t ++ head_text front b) h.second) (e2 ∙ same d.shows.lines d.lines_are) e3 e4 e5 e6
+  where
+    same : drawn.lines.items ≡ st.drawn.lines → lines ≡ lines_now st → (t1 ++ halves drawn.lines.items lines) ≡ (t1 ++ halves st.drawn.lines (lines_now st))
+    same a b = ap (λ x. t1 ++ halves x lines) a ∙ ap (λ x. t1 ++ halves st.drawn.lines x) b
+
+-- a row of what it is made of
+pub row_same : (st : State) (f g : Front) (m n w v : List ℕ) (dot : Option ℕ) → f ≡ g → m ≡ n → w ≡ v → row f m w dot st ≡ row g n v dot st
+row_same st f g m n w v dot a b c = ap (λ (x : Front). row x m w dot st) a ∙ (ap (λ (x : List ℕ). row g x w dot st) b ∙ ap (λ (x : List ℕ). row g n x dot st) c)
+
+-- what was gathered in an empty list
+pub gathered : (cleared text x : List ℕ) → text ≡ cleared ++ x → cleared ≡ [] → text ≡ x
+gathered cleared text x e none = e ∙ ap (λ (y : List ℕ). y ++ x) none

@@ -1,0 +1,12 @@
+-- The rows of a run of cycles.
+use Rattle.std.proofs.Common.{◌≡◌, ℕ, List, Option, Some, None, ap, subst, ◌∙◌}
+use Rattle.fw_entry.specs.declared.nodes.NodeRow.{NodeRow}
+use Rattle.fw_phrases.specs.declared.run.Run.{Run}
+use Rattle.fw_page.specs.declared.progress.Progress.{Progress}
+use Rattle.fw_page.specs.State.{State}
+use Rattle.fw_page.specs.Sheets.{Shows}
+use Rattle.fw_page.proofs.FrameLaws.{last_shown}
+
+-- the cycle of the last row, by another name
+pub last_as : (st : State) (old new : Progress) (cycle n : ℕ) → new ≡ record old { last = cycle } → cycle ≡ n → Shows st old → Shows (record st { last = n }) new
+last_as st old new cycle n is same h = subst (λ (m : ℕ). Shows (record st { last = m }) new) same (last_shown st old new cycle is h)

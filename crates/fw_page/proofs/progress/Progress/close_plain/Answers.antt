@@ -1,0 +1,14 @@
+use Rattle.std.proofs.Common.{◌-◌, ◌∙◌, codes, ap}
+use Rattle.std.proofs.lemmas.Result.{on_ok_weaker}
+use Rattle.fw_page.specs.Rows.{strip_front}
+use Rattle.fw_strip.specs.Drawing.{painted}
+use Rattle.fw_strip.specs.Lanes.{lanes}
+use Rattle.fw_section.proofs.ChainLaws.{three}
+use Rattle.fw_strip.specs.Drawing.{Painted}
+use Rattle.fw_page.proofs.PlainLaws.{put_as}
+use Rattle.fw_page.proofs.progress.Progress.close_plain.Goals as goal
+
+pub returns : goal.returns
+returns c = λ st h.
+    on_ok_weaker c.put_word.result (λ e. three _ _ _ _ (strip_front st.drawn.blank) (st.drawn.lanes) (codes "</svg></li>\n") (rw h.blank at c.in_ok-put_strip_front.ensures) (put_as _ _ _ _
+    c.in_ok-extend_from_slice.ensures.items (c.lanes.ensures ∙ ap (λ (p : Painted). p.lanes) h.painted)) e) c.put_word.ensures

@@ -1,0 +1,14 @@
+use Rattle.std.proofs.Common.{not, false, Bool, ap, sym, subst, ◌∙◌}
+use Rattle.std.specs.Option.{is_some}
+use Rattle.fw_scene.specs.Beside.{IsBeside}
+use Rattle.fw_page.specs.declared.progress.Progress.{Progress}
+use Rattle.fw_page.proofs.LedgerLaws.{is_there}
+use Rattle.fw_page.proofs.progress.Progress.leave_row.Goals as goal
+
+pub returns-clause-left : goal.returns-clause-left
+returns-clause-left c = λ f i.
+    let left = c.leave_lines.ensures in
+    let beside = subst (λ (p : Progress). IsBeside p.account f) (sym left) i in
+    ap (λ (b : Bool). record c.leave_lines.new.self { edge = c.leave_lines.new.self.second; blank = b; is_moved = false }) (is_there _ f.account c.is_none-self.result
+    (c.ledger.ensures f beside) c.is_none-self.ensures)
+    ∙ ap (λ (p : Progress). record p { edge = p.second; blank = not (is_some f.account); is_moved = false }) left

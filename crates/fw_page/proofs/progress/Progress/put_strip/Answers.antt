@@ -1,0 +1,27 @@
+use Rattle.std.proofs.Common.{◌≡◌, ◌++◌, not, codes, ap, refl, ◌∙◌}
+use Rattle.std.specs.Option.{is_some}
+use Rattle.std.proofs.lemmas.Result.{on_ok_weaker}
+use Rattle.fw_marks.specs.Shapes.{halves}
+use Rattle.fw_section.proofs.ChainLaws.{three}
+use Rattle.fw_strip.specs.Drawing.{Painted}
+use Rattle.fw_strip.specs.Labels.{labels, dot_text}
+use Rattle.fw_strip.specs.Lanes.{lanes}
+use Rattle.fw_page.specs.Rows.{strip_front}
+use Rattle.fw_page.specs.Sheets.{painted_of}
+use Rattle.fw_page.proofs.LedgerLaws.{is_there}
+use Rattle.fw_page.proofs.PlainLaws.{put_as}
+use Rattle.fw_page.proofs.RowLaws.{strip_stays}
+use Rattle.fw_page.proofs.progress.Progress.put_strip.Goals as goal
+
+pub returns-clause-draws : goal.returns-clause-draws
+returns-clause-draws c = λ st h.
+    let s = c.args.self.now in
+    let l = st.followed.account in
+    let ledger = c.ledger-2.ensures st.followed h.beside in
+    let stays = strip_stays s.is_moved st.lives l st.nodes (painted_of st) s.strip s.nodes.items h.painted h.drawn in
+    let front = put_as _ _ _ _ c.in_ok-put_strip_front.ensures (ap strip_front (is_there _ l c.is_none.result (c.ledger.ensures st.followed h.beside) c.is_none.ensures)) in
+    let middle = put_as _ _ _ _ (c.in_ok-put.ensures.text l ledger stays) (ap (λ (p : Painted). halves p.lanes (lanes l) ++ dot_text c.args.dot ++ labels p.owners p.units l) h.painted) in
+    on_ok_weaker c.put_word.result (λ e. (
+      three _ _ _ _ (strip_front (not (is_some l))) (halves st.drawn.lanes (lanes l) ++ dot_text c.args.dot ++ labels st.drawn.owners st.drawn.units l) (codes "</svg></li>\n") front middle e,
+      record { strip_is = c.in_ok-put.ensures.painted l ledger stays; rest = refl },
+    )) c.put_word.ensures

@@ -1,0 +1,30 @@
+use Rattle.std.proofs.Common.{◌∙◌, [], codes, ap, None}
+use Rattle.fw_entry.specs.declared.entry.Entry.TheVariants.{Event}
+use Rattle.fw_marks.specs.Places.{place_of_device}
+use Rattle.fw_section.proofs.ChainLaws.{three}
+use Rattle.fw_page.specs.Events.{event_counted, event_device, event_front, event_row, event_symbol, happened, more_text, symbol_marks}
+use Rattle.fw_page.specs.Rows.{front_of, own_front}
+use Rattle.fw_page.specs.Sheets.{Shows}
+use Rattle.fw_page.specs.State.{State, with_entry}
+use Rattle.fw_page.proofs.DoneLaws.{row_after, follow_as, happened_number}
+use Rattle.fw_page.proofs.RowLaws.{row_same, gathered}
+use Rattle.fw_page.proofs.sheet.Sheet.put_event.Goals as goal
+
+pub returns : goal.returns
+returns c =
+    let e = c.args.e.now in
+    let p = c.args.self.now.progress in
+    let cycle = c.args.t.now.cycle in
+    let change = λ (st : State). with_entry (Event e) (happened e (event_counted e st)) in
+    let shown = λ (st : State) (h : Shows st p). follow_as c.args.t.now.what (Event e) c.happen.new.self c.follow.new.self c.requires.is c.follow.ensures.shows (happened e (event_counted e st))
+    (c.happen.ensures st h) in
+    row_after c.put_row.result change (event_row cycle e) (front_of c.own_head-head.result) c.put_symbol.new.marks.items c.put_word.new.text.items None p c.follow.new.self _ c.args.self.now.text.items
+    _ shown
+    (λ st h. row_same (change st) _ _ _ _ _ _ None
+    (c.own_head-head.ensures ∙ (ap (λ n. own_front n (codes "ev") (c.event_device.result, None) cycle) ((c.follow.ensures.shows _ (c.happen.ensures st h)).number
+    ∙ happened_number e (event_counted e st))
+    ∙ ap (λ d. own_front st.number (codes "ev") (d, None) cycle) c.event_device.ensures))
+    (gathered _ _ _ c.in_ok-put_symbol.ensures c.clear.ensures.items ∙ (ap (λ x. symbol_marks x (place_of_device p.columns e.device)) c.event_symbol.ensures
+    ∙ ap (λ rows. symbol_marks (event_symbol e.code) (place_of_device rows e.device)) h.nodes))
+    (three [] _ _ _ (event_front e) (more_text e st) (codes "</small>") (gathered _ _ _ c.in_ok-put_event_front.ensures c.clear-2.ensures.items)
+    (c.in_ok-put_more.ensures st h) c.in_ok-put_word.ensures)) c.put_row.ensures.does

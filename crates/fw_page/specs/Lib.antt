@@ -1,0 +1,10 @@
+pub mod State
+pub mod Rows
+pub mod Requests
+pub mod Streams
+pub mod Events
+pub mod Resets
+pub mod Pieces
+pub mod Ends
+pub mod Page
+pub mod Sheets

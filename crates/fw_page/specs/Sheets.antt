@@ -1,0 +1,90 @@
+-- For which state the progress of a sheet stands, and what methods do (own).
+use Rattle.std.specs.Prelude.{◌≡◌, ℕ, ◌++◌, Bool, true, false, List, Option}
+use Rattle.fw_async.specs.Reader.{Spells}
+use Rattle.fw_entry.specs.declared.nodes.NodeRow.{NodeRow}
+use Rattle.fw_account.specs.Account.{Account}
+use Rattle.fw_scene.specs.Beside.{IsBeside}
+use Rattle.fw_scene.specs.Lines.{nodes_text}
+use Rattle.fw_scene.specs.declared.lives.Lives.{Lives}
+use Rattle.fw_phrases.specs.declared.run.Run.{Run}
+use Rattle.fw_page.specs.declared.progress.Held.{Held as Kept}
+use Rattle.fw_page.specs.declared.progress.Held.TheVariants.{Nothing as KeepsNothing, Request as KeepsRequest, Run as KeepsRun}
+use Rattle.fw_page.specs.declared.progress.Progress.{Progress}
+use Rattle.fw_page.specs.declared.sheet.Sheet.{Sheet}
+use Rattle.fw_page.specs.State.{State, Step, Held, Nothing, Asks, Runs}
+use Rattle.fw_strip.specs.Drawing.{Painted, painted}
+use Rattle.fw_page.specs.Rows.{lines_now}
+
+-- what is held back: of a request its bytes, of a run the run
+abbrev pub KeepsFor : Kept → List ℕ → Run → Held → Type 0
+KeepsFor KeepsNothing body run held = held ≡ Nothing
+KeepsFor (KeepsRequest cycle number request) body run (Asks since asked q p) = (since ≡ cycle) × (asked ≡ number) × (q ≡ request) × Spells p body
+KeepsFor (KeepsRequest cycle number request) body run _ = ⊥
+KeepsFor KeepsRun body run held = held ≡ Runs run
+
+-- if nothing has moved since the last row, that left drawn what is drawn now
+abbrev pub DrawsNow : Lives → Option Account → List NodeRow → Painted → List ℕ → Type 0
+DrawsNow lives l rows left nodes = (nodes ≡ nodes_text lives l rows) × (left ≡ painted l)
+
+abbrev pub IsDrawn : Bool → Lives → Option Account → List NodeRow → Painted → List ℕ → Type 0
+IsDrawn true lives l rows left nodes = Unit {0}
+IsDrawn false lives l rows left nodes = DrawsNow lives l rows left nodes
+
+-- what a state has drawn of the account
+abbrev pub painted_of : State → Painted
+painted_of st = record { lanes = st.drawn.lanes; owners = st.drawn.owners; units = st.drawn.units }
+
+-- the progress stands for the state that the entries left
+pub record Shows (st : State) (s : Progress) : Type 0 where
+  pub number : s.number ≡ st.number
+  pub last : s.last ≡ st.last
+  pub begun : s.begun ≡ st.begun
+  pub nodes : s.columns ≡ st.nodes
+  pub second : s.second ≡ st.second
+  pub lives : s.lives ≡ st.lives
+  pub standing : s.standing.value ≡ st.standing
+  pub beside : IsBeside s.account st.followed
+  pub is_due : s.is_due ≡ st.is_due
+  pub keeps : KeepsFor s.held s.body.items s.run.value st.held
+  pub lines : s.lines.items ≡ st.drawn.lines
+  pub painted : s.strip ≡ painted_of st
+  pub edge : s.edge ≡ st.drawn.edge
+  pub blank : s.blank ≡ st.drawn.blank
+  pub counts : s.counts ≡ st.counts
+  pub drawn : IsDrawn s.is_moved st.lives st.followed.account st.nodes (painted_of st) s.nodes.items
+
+-- ---- what methods do
+
+-- the step is done: its text was added, and its state is stood for
+abbrev pub Moves : (State → Step) → Progress → Progress → List ℕ → List ℕ → Type 0
+Moves step old new before after = (st : State) → Shows st old → (after ≡ before ++ (step st).text) × Shows (step st).state new
+
+abbrev pub Does : (State → Step) → Sheet → Sheet → Type 0
+Does step old new = Moves step old.progress new.progress old.text.items new.text.items
+
+-- if nothing has moved, this is what is drawn of the nodes
+abbrev pub StayNodes : Bool → List ℕ → List ℕ → Type 0
+StayNodes true before now = Unit {0}
+StayNodes false before now = before ≡ now
+
+-- the lines of the state are drawn, and nothing else has changed
+pub record Draws (st : State) (old new : Progress) (drawn : List ℕ) : Type 0 where
+  pub shows : Shows st new
+  pub lines_are : drawn ≡ lines_now st
+  pub nodes_are : new.nodes.items ≡ nodes_text st.lives st.followed.account st.nodes
+  pub rest : new ≡ record old { nodes = new.nodes }
+
+-- the strip is drawn of the account, and nothing else has changed
+pub record IsDrawnNow (st : State) (old new : Progress) : Type 0 where
+  pub strip_is : new.strip ≡ painted st.followed.account
+  pub rest : new ≡ record old { strip = new.strip }
+
+-- ---- a sheet, as others see it
+
+-- the text that was added and not dropped
+abbrev pub text_of : Sheet → List ℕ
+text_of s = s.text.items
+
+-- a sheet took the entries that left this state
+pub record IsSheetOf (st : State) (s : Sheet) : Type 0 where
+  pub shows : Shows st s.progress

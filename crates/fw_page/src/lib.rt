@@ -1,0 +1,27 @@
+//! A log as a page of HTML, piece by piece: a `Sheet` takes the entries of a log one after another, and has what each of them adds.
+#![tactic(auto)]
+
+mod answers;
+mod counts;
+mod cycles;
+mod ears;
+mod end;
+mod events;
+mod exchanges;
+mod head;
+mod kept;
+mod leaving;
+mod packets;
+mod plain;
+mod progress;
+mod reset;
+mod rows;
+mod sayings;
+mod sheet;
+mod sums;
+mod tail;
+
+pub use fw_phrases::Break;
+pub use head::HEAD;
+pub use sheet::Sheet;
+pub use tail::TAIL;

@@ -1,0 +1,207 @@
+//! What the entries that were taken leave for the next ones.
+
+use crate::counts::Counts;
+use crate::rows::RowHead;
+use fw_async::{Packet, read_packet};
+use fw_entry::Entry;
+use fw_explain::head_of;
+use fw_marks::Columns;
+use fw_phrases::{Request, Requests, Run, Standing, answer_of, made};
+use fw_scene::{Account, Lives, is_moving};
+use fw_strip::Strip;
+use std::alloc::{AllocError, Global};
+
+/// What is held back: it comes with a later piece.
+#[derive(Clone, Copy)]
+pub(crate) enum Held {
+    /// Nothing.
+    Nothing,
+    /// A request, whose answer may be the next entry: its cycle and its number. Its bytes are the `body` beside it.
+    Request {
+        cycle: u64,
+        number: u64,
+        request: Request,
+    },
+    /// A run of cycles: the `run` beside it.
+    Run,
+}
+
+/// What the entries so far leave for the pieces of the next ones.
+#[derive(Drop)]
+pub(crate) struct Progress {
+    // The number of the next entry, and the cycle of the last row.
+    pub(crate) number: u64,
+    pub(crate) last: u64,
+    // A section is open.
+    pub(crate) begun: bool,
+    pub(crate) columns: Columns,
+    // A bus reset that is not the first came, and its second is not over.
+    pub(crate) second: bool,
+    pub(crate) lives: Lives,
+    pub(crate) standing: Box<Requests>,
+    pub(crate) account: Account,
+    // The account has stopped, and no row has told it yet.
+    pub(crate) is_due: bool,
+    pub(crate) held: Held,
+    pub(crate) body: Vec<u8>,
+    pub(crate) run: Box<Run>,
+    // What is drawn of the nodes or of the account may have changed since the last row.
+    pub(crate) is_moved: bool,
+    // What is drawn of the nodes, without the requests that wait.
+    pub(crate) nodes: Vec<u8>,
+    // What the last row left drawn.
+    pub(crate) lines: Vec<u8>,
+    pub(crate) strip: Strip,
+    pub(crate) edge: bool,
+    pub(crate) blank: bool,
+    pub(crate) counts: Counts,
+}
+
+impl Progress {
+    ghost use Rattle.std.specs.Prelude.{◌≡◌, IfOk, Some, true};
+    ghost use Rattle.fw_async.specs.Heads.{head_of};
+    ghost use Rattle.fw_async.specs.Reader.{Spells};
+    ghost use Rattle.fw_async.specs.declared.packet.Packet.{Packet as APacket};
+    ghost use Rattle.fw_entry.specs.Log.{Fits};
+    ghost use Rattle.fw_entry.specs.declared.entry.Entry.{Entry as AnEntry};
+    ghost use Rattle.fw_phrases.specs.Made.{answer_of};
+    ghost use Rattle.fw_phrases.specs.Standing.{standing_for};
+    ghost use Rattle.fw_scene.specs.Followed.{is_moving};
+    ghost use Rattle.fw_page.specs.State.{State, first_state, with_entry};
+    ghost use Rattle.fw_page.specs.Rows.{devices_of, front_of, own_front};
+    ghost use Rattle.std.specs.Option.{option_copied, option_map};
+    ghost use Rattle.fw_page.specs.Requests.{request_front, ended, counted, request_of};
+    ghost use Rattle.fw_page.specs.Sheets.{Shows};
+
+    /// That of no entries.
+    pub(crate) fn new(alloc: Global) -> Result<Progress, AllocError>
+        ensures { IfOk result (Shows first_state) }
+    {
+        Ok(Progress {
+            number: 0,
+            last: 0,
+            begun: false,
+            columns: Columns::new(),
+            second: false,
+            lives: Lives::new(),
+            standing: Box::new(alloc, Requests::new())?,
+            account: Account::new(alloc)?,
+            is_due: false,
+            held: Held::Nothing,
+            body: Vec::new(alloc),
+            run: Box::new(alloc, Run::new(0, 0))?,
+            is_moved: true,
+            nodes: Vec::new(alloc),
+            lines: Vec::new(alloc),
+            strip: Strip::new(alloc),
+            edge: false,
+            blank: false,
+            counts: Counts::new(),
+        })
+    }
+
+    /// The account takes the present entry.
+    pub(crate) fn follow(&mut self, e: &Entry)
+        requires { Fits e.now }
+        ensures shows { (st : State) → Shows st self.old → Shows (with_entry e.now st) self.new }
+        ensures moves { is_moving e.now ≡ true → self.new.is_moved ≡ true }
+        ensures rest { self.new ≡ record self.old { account = self.new.account; is_due = self.new.is_due; is_moved = self.new.is_moved } }
+    {
+        let stops = self.account.follow(self.number, e);
+        self.is_due |= stops;
+        self.is_moved |= stops | is_moving(e);
+    }
+
+    /// The packet whose bytes were kept: those of the request that is held back, if one is.
+    pub(crate) fn kept_packet<'a>(&'a self) -> Option<Packet<'a>>
+        ensures { (p : APacket) → Spells p self.now.body.items → result ≡ Some p }
+    {
+        match read_packet(&self.body) {
+            Ok(fed) => fed.packet,
+            Err(_) => None,
+        }
+    }
+
+    /// The devices of two nodes, the second only if it is another one.
+    pub(crate) fn devices(&self, one: u16, other: u16) -> (Option<u8>, Option<u8>)
+        ensures { result ≡ devices_of self.now.columns one other }
+    {
+        let second = if one == other {
+            None
+        } else {
+            self.columns.device(other)
+        };
+        (self.columns.device(one), second)
+    }
+
+    /// What the row of a request begins with: this entry's number and cycle, and a class more.
+    pub(crate) fn request_head(
+        &self,
+        is_anchor: bool,
+        request: &Request,
+        more: &'static str,
+        number: u64,
+        cycle: u64,
+    ) -> RowHead
+        ensures { front_of result ≡ request_front self.now.columns is_anchor request.now more.now number cycle }
+    {
+        RowHead {
+            is_anchor,
+            class: request.kind().class(),
+            more,
+            devices: self.devices(request.asked.source, request.asked.destination),
+            number,
+            cycle,
+        }
+    }
+
+    /// What the row of an entry of its own begins with.
+    pub(crate) fn own_head(
+        &self,
+        class: &'static str,
+        devices: (Option<u8>, Option<u8>),
+        cycle: u64,
+    ) -> RowHead
+        ensures { front_of result ≡ own_front self.now.number class.now devices cycle }
+    {
+        RowHead {
+            is_anchor: true,
+            class,
+            more: "",
+            devices,
+            number: self.number,
+            cycle,
+        }
+    }
+
+    /// Takes a response: ends the request that it answers, and answers it, if one that stands is it. Nothing is held back then.
+    pub(crate) fn end_request(&mut self, e: &Entry, p: &Packet) -> Option<Standing>
+        requires fits { Fits e.now }
+        requires is { e.now ≡ AnEntry.Async p.now }
+        ensures found { (st : State) → Shows st self.old → result ≡ standing_for (answer_of p.now) (head_of p.now) st.standing }
+        ensures shows { (st : State) → Shows st self.old → Shows (ended p.now st) self.new }
+    {
+        self.held = Held::Nothing;
+        let standing = self.standing.take(p, &head_of(p));
+        self.follow(e);
+        standing
+    }
+
+    /// Counts an answer to a request that stood.
+    pub(crate) fn count_answer(&mut self, p: &Packet, request: &Request, between: bool)
+        ensures { (st : State) → Shows st self.old → Shows (counted p.now between (Some request.now) st) self.new }
+    {
+        self.counts
+            .count_answer(answer_of(p), made(p, Some(request)), between);
+    }
+
+    /// Counts an answer that came later, if the request stood that it answers.
+    pub(crate) fn count_later(&mut self, p: &Packet, standing: Option<&Standing>)
+        ensures { (st : State) → Shows st self.old → Shows (counted p.now true (option_map request_of (option_copied standing.entry)) st) self.new }
+    {
+        match standing {
+            Some(standing) => self.count_answer(p, &standing.request, true),
+            None => {}
+        }
+    }
+}

@@ -1,0 +1,213 @@
+//! A bus reset: what it ends, its section, and the row after it.
+
+ghost use Rattle.std.specs.Prelude.{◌≡◌, ◌++◌, OnOk};
+ghost use Rattle.fw_page.specs.Resets.{dropped_words, dropped_marks};
+
+use crate::kept::{put_account, put_orphans};
+use crate::progress::Progress;
+use crate::rows::RowHead;
+use crate::sheet::Sheet;
+use fw_entry::{ResetEntry, Timed};
+use fw_marks::{Columns, put_mark, put_part};
+use fw_names::{Pairs, put_word};
+use fw_phrases::{Standing, put_who};
+use fw_requests::Asked;
+use fw_section::{Section, put_section};
+use std::alloc::AllocError;
+use std::mem;
+
+// Appends the mark of a request that a bus reset drops.
+fn put_dropped_marks(
+    marks: &mut Vec<u8>,
+    columns: &Columns,
+    asked: &Asked,
+) -> Result<(), AllocError>
+    ensures { OnOk result (marks.new.items ≡ marks.old.items ++ dropped_marks columns.now asked.now) }
+{
+    let at = columns.x_of(asked.source) - 4;
+    put_mark(marks, "l n", at, " 8l8 8m0-8l-8 8")
+}
+
+// Appends its words.
+#[tactic(auto, unfolding(crate::specs::Resets::dropped_words))]
+fn put_dropped_words(words: &mut Vec<u8>, pairs: &Pairs, s: &Standing) -> Result<(), AllocError>
+    ensures { OnOk result (words.new.items ≡ words.old.items ++ dropped_words s.now) }
+{
+    let asked = &s.request.asked;
+    put_who(
+        words,
+        pairs,
+        asked.source,
+        "&rarr;",
+        asked.destination,
+        asked.label,
+    )?;
+    put_part(words, r##"<a href="#e"##, s.number)?;
+    put_part(words, r#"">request "#, s.number)?;
+    put_word(words, "</a> ")?;
+    s.request.put_subject(words, pairs)?;
+    put_word(words, r#" <b class="n">dropped by the bus reset</b>"#)
+}
+
+impl Progress {
+    ghost use Rattle.std.specs.Prelude.{◌≡◌};
+    ghost use Rattle.fw_entry.specs.Log.{Fits};
+    ghost use Rattle.fw_entry.specs.declared.entry.Entry.{Entry as AnEntry};
+    ghost use Rattle.fw_page.specs.State.{State};
+    ghost use Rattle.fw_page.specs.Resets.{reset_state};
+    ghost use Rattle.fw_page.specs.Sheets.{Shows};
+
+    // What a bus reset leaves, and the columns before it.
+    fn begin(&mut self, t: &Timed, e: &ResetEntry) -> Columns
+        requires fits { Fits t.now.what }
+        requires is { t.now.what ≡ AnEntry.Reset e.now }
+        ensures before { result ≡ self.old.columns }
+        ensures shows { (st : State) → Shows st self.old → Shows (reset_state e.now st) self.new }
+    {
+        self.second = self.counts.resets != 0;
+        self.counts.count_reset();
+        self.follow(&t.what);
+        self.begun = true;
+        self.standing.clear();
+        self.lives.hear();
+        mem::replace(&mut self.columns, Columns::of(e.nodes.as_slice()))
+    }
+}
+
+impl Sheet {
+    ghost use Rattle.std.specs.Prelude.{◌≡◌, OnOk};
+    ghost use Rattle.fw_entry.specs.Log.{Fits};
+    ghost use Rattle.fw_entry.specs.declared.entry.Entry.{Entry as AnEntry};
+    ghost use Rattle.fw_page.specs.Sheets.{Does};
+    ghost use Rattle.fw_page.specs.Pieces.{piece_of};
+    ghost use Rattle.fw_page.specs.Resets.{drop_row, drop_by, drops, closed, section_step, reset_row, reset_by};
+
+    // Adds the row of a request that a bus reset drops.
+    fn put_drop(&mut self, cycle: u64, s: &Standing) -> Result<(), AllocError>
+        ensures does { OnOk result (Does (drop_row cycle s.now) self.old self.new) }
+        ensures standing { OnOk result (self.new.progress.standing ≡ self.old.progress.standing) }
+    {
+        self.marks.clear();
+        self.words.clear();
+        put_dropped_marks(&mut self.marks, &self.progress.columns, &s.request.asked)?;
+        put_dropped_words(&mut self.words, &self.room.pairs, s)?;
+        let number = self.progress.number;
+        let head = self
+            .progress
+            .request_head(false, &s.request, " dp", number, cycle);
+        self.put_row(head, None)
+    }
+
+    // The same, if it waits.
+    fn put_drop_by(&mut self, cycle: u64, s: &Standing) -> Result<(), AllocError>
+        ensures does { OnOk result (Does (drop_by cycle s.now) self.old self.new) }
+        ensures standing { OnOk result (self.new.progress.standing ≡ self.old.progress.standing) }
+    {
+        if !s.waits {
+            return Ok(());
+        }
+        self.put_drop(cycle, s)
+    }
+
+    // Drops all requests that stand, each that waits in a row, the oldest first.
+    fn put_drops(&mut self, cycle: u64) -> Result<(), AllocError>
+        ensures { OnOk result (Does (λ st. drops cycle st.standing st) self.old self.new) }
+    {
+        while let Some(standing) = self.progress.standing.take_first() {
+            self.put_drop_by(cycle, &standing)?;
+        }
+        Ok(())
+    }
+
+    // Ends the section that is open.
+    fn close_section(&mut self, cycle: u64) -> Result<(), AllocError>
+        ensures { OnOk result (Does (closed cycle) self.old self.new) }
+    {
+        if !self.progress.begun {
+            return Ok(());
+        }
+        self.progress.put_gap(&mut self.text, cycle)?;
+        self.put_drops(cycle)?;
+        put_word(&mut self.text, "</ol>\n</section>\n")
+    }
+
+    // Adds the section of a bus reset. What the row after it draws has no halves of columns that are gone.
+    fn open_section(&mut self, t: &Timed, e: &ResetEntry) -> Result<(), AllocError>
+        requires fits { Fits t.now.what }
+        requires is { t.now.what ≡ AnEntry.Reset e.now }
+        ensures { OnOk result (Does (section_step t.now.cycle e.now) self.old self.new) }
+    {
+        let is_first = self.progress.counts.resets == 0;
+        let before = self.progress.begin(t, e);
+        let section = Section {
+            entry: e,
+            before: &before,
+            columns: &self.progress.columns,
+            is_first,
+            number: self.progress.number,
+            cycle: t.cycle,
+        };
+        put_section(&mut self.text, &section, self.progress.strip.lanes())?;
+        self.progress.draw_lines(&mut self.room)?;
+        self.progress.leave_lines(&mut self.room);
+        Ok(())
+    }
+
+    // Adds the row of a bus reset, if these channels were orphaned before.
+    fn put_reset_row(
+        &mut self,
+        cycle: u64,
+        is_first: bool,
+        orphaned: &[u8],
+    ) -> Result<(), AllocError>
+        ensures { OnOk result (Does (reset_row cycle is_first orphaned.now) self.old self.new) }
+    {
+        self.marks.clear();
+        self.words.clear();
+        put_word(
+            &mut self.words,
+            "<b>The registers take their first values.</b>",
+        )?;
+        put_account(
+            &mut self.words,
+            &mut self.room.shapes,
+            self.progress.account.ledger(),
+            cycle,
+            is_first,
+            orphaned,
+        )?;
+        let head = RowHead {
+            is_anchor: false,
+            class: "rs",
+            more: "",
+            devices: (None, None),
+            number: self.progress.number,
+            cycle,
+        };
+        self.put_row(head, None)
+    }
+
+    // Adds a bus reset, if these channels were orphaned before.
+    fn put_reset(&mut self, t: &Timed, e: &ResetEntry, orphaned: &[u8]) -> Result<(), AllocError>
+        requires fits { Fits t.now.what }
+        requires is { t.now.what ≡ AnEntry.Reset e.now }
+        ensures { OnOk result (Does (reset_by t.now.cycle e.now orphaned.now) self.old self.new) }
+    {
+        let is_first = self.progress.counts.resets == 0;
+        self.close_section(t.cycle)?;
+        self.open_section(t, e)?;
+        self.put_reset_row(t.cycle, is_first, orphaned)
+    }
+
+    /// Takes a bus reset.
+    pub(crate) fn take_reset(&mut self, t: &Timed, e: &ResetEntry) -> Result<(), AllocError>
+        requires fits { Fits t.now.what }
+        requires is { t.now.what ≡ AnEntry.Reset e.now }
+        ensures { OnOk result (Does (piece_of t.now.cycle t.now.what) self.old self.new) }
+    {
+        self.release()?;
+        let mut orphaned = Vec::new(self.alloc);
+        put_orphans(&mut orphaned, self.progress.account.ledger())?;
+        self.put_reset(t, e, &orphaned)
+    }
+}

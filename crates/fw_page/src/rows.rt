@@ -1,0 +1,222 @@
+//! Rows: each is whole by itself, and draws the whole state.
+
+ghost use Rattle.std.specs.Prelude.{◌≡◌, ◌++◌, OnOk, Option};
+ghost use Rattle.std.specs.Option.{option_copied};
+ghost use Rattle.fw_account.specs.Account.{Account};
+ghost use Rattle.fw_strip.specs.Drawing.{LedgerFor};
+ghost use Rattle.fw_scene.specs.Lines.{nodes_text};
+ghost use Rattle.fw_page.specs.Sheets.{StayNodes};
+ghost use Rattle.fw_page.specs.Rows.{device_class, classes_of, anchor_text, head_text, front_of};
+
+use crate::plain::{put_edge, put_strip_front};
+use crate::progress::Progress;
+use fw_marks::{put_halves, put_part};
+use fw_names::{Pairs, put_word};
+use fw_scene::Scene;
+use std::alloc::{AllocError, Global};
+use std::mem;
+
+/// What a row begins with: whether links lead to it, its class and one more, the devices that it is of, the number of its entry and its cycle.
+#[derive(Clone, Copy)]
+pub(crate) struct RowHead {
+    pub(crate) is_anchor: bool,
+    pub(crate) class: &'static str,
+    pub(crate) more: &'static str,
+    pub(crate) devices: (Option<u8>, Option<u8>),
+    pub(crate) number: u64,
+    pub(crate) cycle: u64,
+}
+
+/// Room for what a row is made of, and what its parts are written with.
+#[derive(Drop)]
+pub(crate) struct Room {
+    pub(crate) pairs: Pairs,
+    pub(crate) shapes: Vec<u8>,
+    // What the next row draws over the columns.
+    pub(crate) lines: Vec<u8>,
+}
+
+impl Room {
+    pub(crate) fn new(alloc: Global) -> Room {
+        Room {
+            pairs: Pairs::new(),
+            shapes: Vec::new(alloc),
+            lines: Vec::new(alloc),
+        }
+    }
+}
+
+// Appends the class of a device, if there is one.
+fn put_device_class(text: &mut Vec<u8>, device: Option<u8>) -> Result<(), AllocError>
+    ensures { OnOk result (text.new.items ≡ text.old.items ++ device_class device) }
+{
+    match device {
+        Some(device) => put_part(text, " d", u64::from(device)),
+        None => Ok(()),
+    }
+}
+
+// Appends the classes of the devices of a row.
+fn put_devices(text: &mut Vec<u8>, devices: (Option<u8>, Option<u8>)) -> Result<(), AllocError>
+    ensures { OnOk result (text.new.items ≡ text.old.items ++ (device_class devices.0 ++ device_class devices.1)) }
+{
+    put_device_class(text, devices.0)?;
+    put_device_class(text, devices.1)
+}
+
+// Appends the classes of a row.
+fn put_classes(text: &mut Vec<u8>, head: RowHead) -> Result<(), AllocError>
+    ensures { OnOk result (text.new.items ≡ text.old.items ++ classes_of head.class.now head.more.now head.devices) }
+{
+    put_word(text, head.class)?;
+    put_word(text, head.more)?;
+    put_devices(text, head.devices)
+}
+
+// Appends the name to which links lead, if they do.
+fn put_anchor(text: &mut Vec<u8>, is_anchor: bool, number: u64) -> Result<(), AllocError>
+    ensures { OnOk result (text.new.items ≡ text.old.items ++ anchor_text is_anchor number) }
+{
+    if !is_anchor {
+        return Ok(());
+    }
+    put_part(text, r#" id="e"#, number)?;
+    put_word(text, r#"""#)
+}
+
+// Appends the beginning of a row, up to what it draws.
+#[tactic(auto, unfolding(crate::specs::Rows::head_text))]
+fn put_head(text: &mut Vec<u8>, head: RowHead, edge: bool) -> Result<(), AllocError>
+    ensures { OnOk result (text.new.items ≡ text.old.items ++ head_text (front_of head) edge) }
+{
+    put_word(text, "<li")?;
+    put_anchor(text, head.is_anchor, head.number)?;
+    put_word(text, r#" class=""#)?;
+    put_classes(text, head)?;
+    put_edge(text, edge)?;
+    put_part(text, "<i>", head.number)?;
+    put_part(text, "</i><b>", head.cycle)?;
+    put_word(text, r#"</b><svg class="f" aria-hidden="true">"#)
+}
+
+// Draws what is drawn of the nodes anew, if anything has moved since the last row.
+fn draw_nodes(
+    nodes: &mut Vec<u8>,
+    shapes: &mut Vec<u8>,
+    scene: &Scene,
+    is_moved: bool,
+) -> Result<(), AllocError>
+    ensures { (l : Option Account) → LedgerFor (option_copied scene.now.ledger) l → StayNodes is_moved nodes.old.items (nodes_text scene.now.lives.now l scene.now.columns.now)
+        → OnOk result (nodes.new.items ≡ nodes_text scene.now.lives.now l scene.now.columns.now) }
+{
+    if !is_moved {
+        return Ok(());
+    }
+    nodes.clear();
+    scene.put_nodes(nodes, shapes)
+}
+
+impl Progress {
+    ghost use Rattle.std.specs.Prelude.{◌≡◌, ◌++◌, OnOk, not, false};
+    ghost use Rattle.std.specs.Option.{is_some};
+    ghost use Rattle.fw_scene.specs.Beside.{IsBeside};
+    ghost use Rattle.fw_scene.specs.Followed.{Followed};
+    ghost use Rattle.fw_page.specs.State.{State};
+    ghost use Rattle.fw_page.specs.Rows.{front_of, strip_text, bare_row, drawn_now, row, lines_now};
+    ghost use Rattle.fw_page.specs.Sheets.{Shows, Moves, Draws, IsDrawnNow};
+
+    /// Draws the lines of the state as it is, for the next row.
+    pub(crate) fn draw_lines(&mut self, room: &mut Room) -> Result<(), AllocError>
+        ensures draws { (st : State) → Shows st self.old → OnOk result (Draws st self.old self.new room.new.lines.items) }
+        ensures run { OnOk result (self.new.run ≡ self.old.run) }
+        ensures standing { OnOk result (self.new.standing ≡ self.old.standing) }
+    {
+        let scene = Scene {
+            columns: &self.columns,
+            lives: &self.lives,
+            ledger: self.account.ledger(),
+            standing: self.standing.as_slice(),
+        };
+        draw_nodes(&mut self.nodes, &mut room.shapes, &scene, self.is_moved)?;
+        room.lines.clear();
+        room.lines.extend_from_slice(&self.nodes)?;
+        scene.put_bars(&mut room.lines)
+    }
+
+    // Appends the strip of a row, with a dot on a channel if one is given, and its end. What it draws is drawn then.
+    fn put_strip(&mut self, text: &mut Vec<u8>, dot: Option<u8>) -> Result<(), AllocError>
+        ensures draws { (st : State) → Shows st self.old → OnOk result ((text.new.items ≡ text.old.items ++ strip_text dot st) × IsDrawnNow st self.old self.new) }
+        ensures run { OnOk result (self.new.run ≡ self.old.run) }
+        ensures standing { OnOk result (self.new.standing ≡ self.old.standing) }
+    {
+        put_strip_front(text, self.account.ledger().is_none())?;
+        self.strip
+            .put(text, self.account.ledger(), self.is_moved, dot)?;
+        put_word(text, "</svg></li>\n")
+    }
+
+    /// What was drawn for a row is what the last row left.
+    pub(crate) fn leave_lines(&mut self, room: &mut Room)
+        ensures { self.new ≡ record self.old { lines = room.old.lines } }
+    {
+        mem::swap(&mut self.lines, &mut room.lines);
+    }
+
+    // A row was drawn: it is what the next one comes after.
+    fn leave_row(&mut self, room: &mut Room)
+        ensures left { (f : Followed) → IsBeside self.old.account f
+            → self.new ≡ record self.old { lines = room.old.lines; edge = self.old.second; blank = not (is_some f.account); is_moved = false } }
+        ensures run { self.new.run ≡ self.old.run }
+        ensures standing { self.new.standing ≡ self.old.standing }
+    {
+        self.leave_lines(room);
+        self.edge = self.second;
+        self.blank = self.account.ledger().is_none();
+        self.is_moved = false;
+    }
+
+    // Appends a row with these marks and words.
+    fn put_bare_row(
+        &mut self,
+        text: &mut Vec<u8>,
+        room: &mut Room,
+        marks: &[u8],
+        words: &[u8],
+        head: RowHead,
+        dot: Option<u8>,
+    ) -> Result<(), AllocError>
+        ensures moves { OnOk result (Moves (bare_row (front_of head) marks.now words.now dot) self.old self.new text.old.items text.new.items) }
+        ensures run { OnOk result (self.new.run ≡ self.old.run) }
+        ensures standing { OnOk result (self.new.standing ≡ self.old.standing) }
+    {
+        put_head(text, head, self.second)?;
+        self.draw_lines(room)?;
+        put_halves(text, &self.lines, &room.lines)?;
+        text.extend_from_slice(marks)?;
+        put_word(text, "</svg><p>")?;
+        text.extend_from_slice(words)?;
+        self.put_strip(text, dot)?;
+        self.leave_row(room);
+        Ok(())
+    }
+
+    /// Appends a row with these marks and words and, if one is given, a dot on a channel: after the cycles that pass before it, and
+    /// before a row that says that the account stops, if that is due.
+    pub(crate) fn put_row(
+        &mut self,
+        text: &mut Vec<u8>,
+        room: &mut Room,
+        marks: &[u8],
+        words: &[u8],
+        head: RowHead,
+        dot: Option<u8>,
+    ) -> Result<(), AllocError>
+        ensures moves { OnOk result (Moves (row (front_of head) marks.now words.now dot) self.old self.new text.old.items text.new.items) }
+        ensures run { OnOk result (self.new.run ≡ self.old.run) }
+        ensures standing { OnOk result (self.new.standing ≡ self.old.standing) }
+    {
+        self.put_gap(text, head.cycle)?;
+        self.put_bare_row(text, room, marks, words, head, dot)?;
+        self.put_due(text, &room.pairs)
+    }
+}

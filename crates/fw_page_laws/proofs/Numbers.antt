@@ -1,0 +1,35 @@
+-- By which number the page tells an entry, by what is held back.
+use Rattle.std.proofs.Common.{ℕ, ◌==◌, ◌&&◌, Bool, List, [], ◌∷◌, if◌then◌else◌}
+use Rattle.fw_async.specs.Heads.{head_of}
+use Rattle.fw_async.specs.declared.packet.Packet.{Packet}
+use Rattle.fw_async.specs.declared.packet.Packet.TheVariants.{CycleStart}
+use Rattle.fw_entry.specs.declared.entry.Entry.{Entry}
+use Rattle.fw_entry.specs.declared.entry.Entry.TheVariants.{Async, Iso}
+use Rattle.fw_entry.specs.declared.entry.Timed.{Timed}
+use Rattle.fw_phrases.specs.Made.{is_answer}
+use Rattle.fw_page.specs.State.{State, Held, Nothing, Asks, Runs}
+use Rattle.fw_page.specs.Streams.{start_joins, packet_joins}
+use Rattle.fw_page.specs.Pieces.{piece}
+
+-- the number of the run that an entry joins, or its own
+abbrev pub run_number : Bool → Held → ℕ → ℕ
+run_number joins Nothing number = number
+run_number joins (Asks since asked q p) number = number
+run_number joins (Runs run) number = if joins then run.number else number
+
+-- the number of the request that a packet answers at once, or of the run that it joins, or its own
+abbrev pub packet_home : ℕ → Packet → Held → ℕ → ℕ
+packet_home cycle p (Asks since asked q asking) number = if (since == cycle) && is_answer p (head_of p) q then asked else number
+packet_home cycle (CycleStart h offset time) held number = run_number (start_joins cycle h.source held) held number
+packet_home cycle p held number = number
+
+-- the number by which the page tells an entry: that of the row of its own, of its request, or of its run
+abbrev pub home : ℕ → Entry → State → ℕ
+home cycle (Async p) st = packet_home cycle p st.held st.number
+home cycle (Iso p) st = run_number (packet_joins cycle p st.held) st.held st.number
+home cycle e st = st.number
+
+-- the numbers by which it tells entries
+abbrev pub homes_from : State → List Timed → List ℕ
+homes_from st [] = []
+homes_from st (t ∷ ts) = home t.cycle t.what st ∷ homes_from (piece t st).state ts

@@ -1,0 +1,3 @@
+pub mod Markup
+pub mod Homes
+pub mod Laws

@@ -1,0 +1,135 @@
+//! `audit`: whether the registers of a log ran as a sound account.
+
+ghost use Rattle.std.specs.Prelude.{◌≡◌, ◌+◌, ◌<◌, ◌^◌, ◌++◌, ◌∷◌, [], List, length, IfOk, string_bytes};
+ghost use Rattle.fw_entry.specs.Log.{Fits};
+ghost use Rattle.fw_entry.specs.declared.entry.Timed.{Timed as TimedEntry};
+ghost use Rattle.fw_reading.specs.Endings.{ReadsLog};
+ghost use Rattle.fw_reports.specs.Texts.{silent_form, count_text};
+ghost use Rattle.fw_reports.specs.Verdicts.{audit_rules, Audits, Judges};
+
+use crate::passing::pass_over;
+use crate::{LogRefusal, Unsound};
+use fw_audit::Audit;
+use fw_log::{LogReader, Room, Timed};
+use fw_outside::{Failed, Sink, Source};
+use fw_reading::{Closing, LogEnding, Reading, Stop, read_log};
+use std::alloc::{AllocError, Global};
+
+// An audit, and how many entries it took.
+#[derive(Drop)]
+struct Verdict {
+    audit: Audit,
+    count: u64,
+}
+
+// The text of a log in which no entry has a fault.
+fn sound_text(alloc: Global, count: u64) -> Result<String, AllocError>
+    ensures { IfOk result (λ s. string_bytes s ≡ count_text count) }
+{
+    let mut text = String::new(alloc);
+    write!(text, "sound {count}\n")?;
+    Ok(text)
+}
+
+impl Verdict {
+    // The verdict on no entries. All memory is taken here.
+    fn new(alloc: Global) -> Result<Verdict, AllocError>
+        ensures { IfOk result (λ v. Audits v []) }
+    {
+        Ok(Verdict {
+            audit: Audit::new(alloc)?,
+            count: 0,
+        })
+    }
+
+    // Takes an entry more, and answers its fault, if any, as what the log is refused with.
+    fn judge(&mut self, entry: &Timed) -> Result<Option<LogRefusal>, AllocError>
+        requires { Fits entry.now.what }
+        ensures { (entries : List TimedEntry) → length entries + 1 < 2 ^ 64 → Audits self.old entries
+            → IfOk result (λ refusal. Judges self.new (entries ++ entry.now ∷ []) refusal) }
+    {
+        match self.audit.take(entry)? {
+            Some(fault) => Ok(Some(LogRefusal::Audit(Unsound {
+                entry: self.count,
+                fault,
+            }))),
+            None => {
+                self.count = self.count.saturating_add(1);
+                Ok(None)
+            }
+        }
+    }
+}
+
+impl Reading for Verdict {
+    type Refusal = LogRefusal;
+
+    ghost use Rattle.fw_reports.specs.Texts.{silent_each};
+    ghost use Rattle.fw_reports.specs.Verdicts.{audits_accepted, sound_unrefused};
+
+    ghost form = { λ v. silent_form };
+
+    ghost rules = { audit_rules };
+
+    ghost took = { λ v entries. Audits v entries };
+
+    ghost gathered = { λ v. [] };
+
+    fn open<K: Sink>(&self, _sink: &mut K) -> Result<(), Failed> {
+        Ok(())
+    }
+
+    fn take(&mut self, entry: &Timed, _bytes: &[u8]) -> Result<Option<LogRefusal>, AllocError> {
+        self.judge(entry)
+    }
+
+    // An entry that no audit looks at is not made.
+    fn pass(
+        &mut self,
+        reader: &mut LogReader,
+        room: &mut Room,
+        piece: &[u8],
+    ) -> Result<Option<usize>, AllocError> {
+        let Some(used) = pass_over(reader, room, piece) else {
+            return Ok(None);
+        };
+        self.count = self.count.saturating_add(1);
+        Ok(Some(used))
+    }
+
+    fn reads_most() -> bool {
+        true
+    }
+
+    fn gathered(&self) -> &[u8] {
+        &[]
+    }
+
+    fn clear(&mut self) {}
+
+    fn close(&self, alloc: Global) -> Result<Closing<LogRefusal>, AllocError> {
+        Ok(Closing::Text(sound_text(alloc, self.count)?))
+    }
+
+    ghost each = { λ v. silent_each };
+
+    ghost accepted = { λ v entries a. audits_accepted v entries a };
+
+    ghost unrefused = { sound_unrefused };
+}
+
+/// Reads a log, and writes how many entries it has where none of them has a fault. The first that has one ends the call as soon as
+/// it was read; nothing is written then.
+pub fn audit<S: Source, K: Sink>(
+    alloc: Global,
+    source: &mut S,
+    sink: &mut K,
+) -> LogEnding<LogRefusal>
+    ensures { ReadsLog silent_form audit_rules (record { left = S.left; faults = S.faults; old = source.old; new = source.new })
+        (record { held = K.held; faults = K.faults; old = sink.old; new = sink.new }) result }
+{
+    match Verdict::new(alloc) {
+        Ok(verdict) => read_log(alloc, verdict, source, sink),
+        Err(_) => LogEnding::Stopped(Stop::NoMemory),
+    }
+}

@@ -1,0 +1,48 @@
+-- The account beside the rows, as far as it follows the entries (own).
+use Rattle.std.specs.Prelude.{ℕ, ◌==◌, Bool, true, false, Option, Some, None}
+use Rattle.fw_async.specs.declared.packet.Packet.{Packet}
+use Rattle.fw_async.specs.declared.packet.Packet.TheVariants.{LockReply}
+use Rattle.fw_entry.specs.declared.entry.Entry.{Entry}
+use Rattle.fw_entry.specs.declared.entry.Entry.TheVariants.{Reset, Async, Iso, Event, Outcome, Shown, End}
+use Rattle.fw_account.specs.Account.{Account}
+use Rattle.fw_account.specs.Fold.{next_account, no_account}
+use Rattle.fw_faults.specs.declared.fault.AuditFault.{AuditFault}
+use Rattle.fw_faults.specs.Judged.{verdict}
+use Rattle.fw_phrases.specs.declared.note.AccountStop.{AccountStop}
+
+-- the account after the entries so far, or where it stopped
+pub record Followed : Type 0 where
+  pub account : Option Account
+  pub stop : Option AccountStop
+
+-- that of no entries
+abbrev pub none_followed : Followed
+none_followed = record { account = Some no_account; stop = None }
+
+-- the account after an entry that has this fault, or none
+abbrev pub followed_by : ℕ → Option AuditFault → Option Account → Followed
+followed_by number None next = record { account = next; stop = None }
+followed_by number (Some fault) next = record { account = None; stop = Some (record { number = number; fault = fault }) }
+
+abbrev pub follow_from : ℕ → Entry → Option Account → Option AccountStop → Followed
+follow_from number e None stop = record { account = None; stop = stop }
+follow_from number e (Some l) stop = followed_by number (verdict l e) (next_account l e)
+
+-- the account takes the entry with this number, as an audit does: at the first fault there is none any more
+abbrev pub follow : ℕ → Entry → Followed → Followed
+follow number e f = follow_from number e f.account f.stop
+
+-- the packet may change what is drawn: a lock response that is complete
+abbrev pub is_moving_packet : Packet → Bool
+is_moving_packet (LockReply h rcode function bytes) = rcode == 0
+is_moving_packet _ = false
+
+-- the entry may
+abbrev pub is_moving : Entry → Bool
+is_moving (Reset r) = true
+is_moving (Async p) = is_moving_packet p
+is_moving (Iso p) = false
+is_moving (Event e) = true
+is_moving (Outcome o) = false
+is_moving (Shown s) = false
+is_moving End = false

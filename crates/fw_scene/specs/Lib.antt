@@ -1,0 +1,5 @@
+pub mod Lives
+pub mod Lines
+pub mod Followed
+pub mod Beside
+pub mod Laws

@@ -1,0 +1,14 @@
+//! What each row of a page draws over the columns of nodes, of the state after its entry; and the account beside the rows.
+#![tactic(auto)]
+
+mod account;
+mod laws;
+mod lines;
+mod lives;
+mod plugs;
+
+pub use account::{Account, is_moving};
+pub use laws::others_move_nothing;
+pub use lines::{Scene, Spot};
+pub use lives::{Devices, Lives};
+pub use plugs::hears;

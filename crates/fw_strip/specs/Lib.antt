@@ -1,0 +1,5 @@
+pub mod Owners
+pub mod Lanes
+pub mod Labels
+pub mod Drawing
+pub mod Laws
