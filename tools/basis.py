@@ -1,15 +1,17 @@
 """What it stands on that a crate's contracts refuse a wrong body: checksums of it, for `wrong.py`.
 
-A crate's own part is all that its proof reads of it: src, specs and proofs, byte for byte. Of the crates below it counts what it can
-reach by names, as `reach.py` says, beginning with the words of its own part; an edit that reaches more than its crate has that in its own
+A crate's own part is all that its proof reads of it: src, specs and proofs, without comments. Of the crates below it counts what it can
+reach by names, as `reach.py` says, beginning with the words of its own part, each declaration by a mark of its own; an edit that reaches more than its crate has that in its own
 sum. The kit is its line, as `rt version` says it.
 """
 
+import base64
 import functools
 import hashlib
 import subprocess
 
 import reach
+import record
 
 PARTS = ("src", "specs", "proofs")
 
@@ -57,6 +59,11 @@ def sum_of(parts):
     return made.hexdigest()[:32]
 
 
+def marks_of(texts):
+    """A mark of four characters for each text, in order, without a space between them."""
+    return b"".join(sorted(base64.b64encode(hashlib.sha256(it.encode()).digest()[: record.MARK * 3 // 4]) for it in set(texts))).decode()
+
+
 def kit():
     """The line of the kit."""
     try:
@@ -94,9 +101,10 @@ class Ground:
             if not files:
                 raise Unreadable(f"crates/{crate} has no src, specs or proofs")
             words = frozenset().union(*(reach.own_words(*it) for it in files))
-            reached = self.reach.reached(below(crate, self.deps), words)
-            sums = {"crate": sum_of(part for it in files for part in it), "below": sum_of(reached + self.deps[crate]), "kit": self.line}
-            self.kept[crate] = sums, words, reached
+            reached, covering = self.reach.reached(below(crate, self.deps), words)
+            own, more = reach.own_parts(files)
+            sums = {"crate": marks_of(own), "below": marks_of(reached), "kit": self.line}
+            self.kept[crate] = {**sums, "new": {"crate": marks_of(more), "below": marks_of(covering)}}, words, reached
         return self.kept[crate][0]
 
     def of_edit(self, crate, file):
@@ -107,5 +115,5 @@ class Ground:
         digest = hashlib.sha256(text).hexdigest()[:32]
         new = reach.own_words(file.name, text.decode(errors="replace")) - words
         can_lead_on = any(new & self.names(it) for it in crates)
-        more = set(self.reach.reached(crates, words | new)).difference(reached) if can_lead_on else ()
+        more = set(self.reach.reached(crates, words | new)[0]).difference(reached) if can_lead_on else ()
         return sum_of([digest, *sorted(more)]) if more else digest

@@ -12,6 +12,7 @@ import itertools
 import os
 import pathlib
 import re
+import shlex
 import shutil
 import subprocess
 import sys
@@ -40,7 +41,7 @@ FORMAT = ROOT / "docs/LOG.md"
 FORMAT_MANUAL = ROOT / "docs/man/fire-log.5"
 
 # The documents whose commands are tried. One is shown as a line `    $ COMMAND`, with lines `    > ..` if it has more than one, and below
-# it what it writes to standard output; all of a document are run in one folder, in which `./fire` is the program as the launcher calls it.
+# it what it writes to standard output, which may have empty lines within; all of a document are run in one folder, in which `./fire` is the program as the launcher calls it.
 SHOWN = [
     "README.md",
     "docs/AUDIT.md",
@@ -48,10 +49,14 @@ SHOWN = [
     "docs/RECIPES.md",
     "docs/CAPTURES.md",
     "docs/TEXTS.md",
+    "docs/EXPLORE.md",
     "examples/README.md",
 ]
 MAY_BE_MISSING = ["jq"]  # tools that a machine need not have: commands that use one of these are then skipped, and that is said
-SHOWN_COMMAND = re.compile(r"^    \$ (.*\n(?:    > .*\n)*)((?:    (?!\$ ).*\n)*)", re.M)
+SHOWN_COMMAND = re.compile(r"^    \$ (.*\n(?:    > .*\n)*)((?:\n*    (?!\$ ).*\n)*)", re.M)
+
+# How a script says what explores it, in a comment.
+COMMAND_OF_EXPLORE = re.compile(r"^# \./fire (explore .*) < examples/", re.M)
 
 # What a page that is read first may have.
 FIRST_PAGE = ROOT / "README.md"
@@ -111,9 +116,19 @@ def check_words():
     due(f"{WORDS.name} has lines of more than 80 columns", all(len(line) <= 80 for line in text.splitlines()))
 
 
+def check_paragraphs(program, script, explored):
+    """Each paragraph of an exploration, put after the script, is a script that is carried out, and ends as it is told."""
+    begin = script.read_text().replace("\nend\n", "\n")
+    for paragraph in explored.read_text().split("\n\n")[1:]:
+        status, log, _ = run(program, ["run"], (begin + paragraph).encode())
+        lines = {it.split(" ", 1)[1] for it in run(program, ["explain"], log)[1].decode().splitlines()}
+        told = [it[2:] for it in paragraph.splitlines() if it.startswith(("# outcome", "# event", "# shown"))]
+        due(f"{explored.name}: a paragraph that does not end so: {paragraph}", status == 0 and told and lines.issuperset(told))
+
+
 def check_example(program, script):
-    """A script ends as it says, and its log and the words of that stand beside it, where they do."""
-    log, words, note, trace, page = (script.with_suffix(end) for end in (".log", ".txt", ".note", ".trace", ".html"))
+    """A script ends as it says, and its log and the words of that are beside it, if they are there."""
+    log, words, note, trace, page, explored = (script.with_suffix(end) for end in (".log", ".txt", ".note", ".trace", ".html", ".explore"))
     told = note.read_bytes() if note.exists() else b""
     status, written, errors = run(program, ["run"], script.read_bytes())
     due(f"{script.name}: status {status}, {errors!r}", (status, errors) == (3 if told else 0, told))
@@ -125,6 +140,12 @@ def check_example(program, script):
     due(f"{script.name}: trace ends with {traced[0]}, {traced[2]!r}", traced[::2] == (status, errors))
     if trace.exists():
         due(f"{trace.name} is not what traces {script.name}", traced[1] == trace.read_bytes())
+    told_in = COMMAND_OF_EXPLORE.search(script.read_text())
+    due(f"{script.name}: its comment has no command of explore", explored.exists() == bool(told_in))
+    if explored.exists() and told_in:
+        ended = run(program, shlex.split(told_in[1]), script.read_bytes())
+        due(f"{explored.name} is not what {told_in[1]} writes", ended == (0, explored.read_bytes(), b""))
+        check_paragraphs(program, script, explored)
     if page.exists():
         due(f"{page.name} is not the page of {log.name}", run(program, ["page"], written) == (0, page.read_bytes(), b""))
     if not told:

@@ -1,5 +1,5 @@
 #!/bin/sh
-# The repository's own quick checks, which .ci/run makes after the gate: what ships, the launcher, and what documents show. Where a tool
+# The repository's own quick checks, which .ci/run makes after the gate: what ships, the launcher, and what documents show. If a tool
 # that one of them needs is not there, it is skipped, and that is said. The status is 0 if each passed.
 cd "$(dirname "$0")/.." || exit 1
 passed=0 failed=0

@@ -2,10 +2,10 @@
 _fire() {
     local words=
     case $COMP_CWORD:${COMP_WORDS[1]} in
-    1:*) words='run trace dub check explain decode json page dv audit holders watch map convert gen help version --help --version -h -V' ;;
+    1:*) words='run trace dub check explore explain decode json page dv audit holders watch map convert gen help version --help --version -h -V' ;;
     2:map) words='dot' ;;
     2:convert) words='1 2' ;;
-    2:help) words='run trace dub check explain decode json page dv audit holders watch map convert gen help version' ;;
+    2:help) words='run trace dub check explore explain decode json page dv audit holders watch map convert gen help version' ;;
     esac
     # The launcher's own, at the top of the repository, and of what is installed.
     case $COMP_CWORD:$1 in

@@ -1,10 +1,11 @@
 """The declarations of a file of src, specs or proofs, for `reach.py`, which says what counts of each and how it is found."""
 
+import functools
 import re
 
 import scan
 
-# ---- src: how an item begins, behind its attributes
+# ---- src: how an item begins, after its attributes
 ATTRIBUTES = re.compile(r"(?:\s*#\[(?:[^][]|\[[^][]*\])*\])*\s*")
 ITEM = re.compile(
     r"(?P<visible>pub(?:\([^)]*\))?\s+)?(?:unsafe\s+)?"
@@ -15,12 +16,20 @@ DECLARED = re.compile(r"\b(fn|struct|enum|union|const|static|type|trait|mod|ghos
 TYPES = ("struct", "enum", "union", "type", "trait")
 FOR = re.compile(r"\bfor\b(?!\s*<)")
 
+# What of a type no text uses that was checked without it: what it derives, and what its own crate alone may see.
+DERIVED = re.compile(r"#\[derive\([^)]*\)\]\s*")
+WITHIN = re.compile(r"\bpub\((?:crate|super)\)\s+")
+
 # ---- specs and proofs: how a line at the left margin begins
 LINE = re.compile(
     r"(?P<how>(?:(?:pub|abbrev|unfoldable) )*)(?:(?P<kind>use|mod|module|record|data|ruleset|mutual|open|unfolding) )?(?P<first>\S*)"
 )
 SIGNATURE = re.compile(r"\S+(?: \{[^}]*\}| \([^)]*\))* :(?:\s|$)")
 INNER = re.compile(r"^\s+((?:(?:pub|abbrev|unfoldable) )*)(\S+)(?: \S+)* :(?:\s|$)", re.M)
+
+# Where a function says its own name, which is no use of another that has it; and characters that words have.
+OWN_NAME = re.compile(r"\bfn\s+\w+")
+WORDS = re.compile(r"\w")
 
 # A path that leads to a declaration of the repository.
 INSIDE = re.compile(r"(?:crate|self|super|fw_\w+)::|Rattle\.fw_")
@@ -37,9 +46,20 @@ def code_words(words):
     return frozenset(how + it for it in words for how in ("", METHOD, FUNCTION))
 
 
+def seen_of(item):
+    """What others see of a type, without what it derives."""
+    return WITHIN.sub("", DERIVED.sub("", item))
+
+
 def key_of(name):
     """By which word a name is found: its longest; '' if it has none."""
     return max(scan.WORD.findall(name), key=len, default="")
+
+
+@functools.lru_cache(maxsize=None)
+def standing(part):
+    """A part of a name as it stands in a text: one of other characters than words has is no part of a longer one."""
+    return re.compile(re.escape(part) if WORDS.search(part) else rf"(?<![^\s()\[\]{{}},]){re.escape(part)}(?![^\s()\[\]{{}},;])")
 
 
 class Brought:
@@ -53,25 +73,30 @@ class Brought:
 
     def to(self, text, words):
         """The paths of what can stand in a text, and their words."""
-        found = [it for key in self.at.keys() & {"", *words} for it in self.at[key] if all(part in text for part in it[0])]
+        found = [it for key in self.at.keys() & {"", *words} for it in self.at[key] if all(standing(part).search(text) for part in it[0] if part)]
         return sorted(path for _, path, _ in found), words.union(*(more for _, _, more in found))
 
 
 class Declaration:
     """A text that counts if it is reached: by one of its names, if it has any, and by a word of its gate, if that has any. A name has a
-    scope, the crate or file whose words alone find it, or ''."""
+    scope, the crate or file whose words alone find it, or ''. `offers` are the calls by which a trait's functions are found."""
+
+    offers = frozenset()
 
     def __init__(self, file, text, names, gate=frozenset(), has_code=False, passes_on=False):
-        paths, words = file.brought.to(text, words_of(text))
+        used = OWN_NAME.sub("", text)
+        paths, words = file.brought.to(used, words_of(used))
         self.words = code_words(words) if has_code or "contracts" in words else words
         self.names, self.gate, self.passes_on = [(scope, key) for scope, key in names if key], gate, passes_on
         self.file, self.text = file.name, "\n".join([file.name, text, *paths])
 
 
 class Source:
-    """The declarations of a file of src, and the names of its types."""
+    """The declarations of a file of src, and the names of its types; with the bodies of its functions, and what `proved` has of each by its
+    name, if that is given."""
 
-    def __init__(self, name, text):
+    def __init__(self, name, text, proved=None):
+        self.proved = proved
         items = [(it, self.start(it)) for it in scan.items(scan.without_comments(text))]
         self.name, self.found, self.types, self.brought = name, [], set(), Brought()
         self.modules = {found["name"] for _, found in items if found and found["kind"] == "mod"}
@@ -107,9 +132,11 @@ class Source:
             call = METHOD if kind == "trait" else FUNCTION
             keys = [call + it if how == "fn" else it for how, it in DECLARED.findall(text)]
             self.put(self.bodiless(bare) if kind == "trait" else bare, scope, keys, has_code=True)
+            self.found[-1].offers = frozenset(keys if kind == "trait" else ())
         elif kind == "fn":
-            self.put(head + scan.block_of(bare)[0], scope, [(METHOD if head else FUNCTION) + name], gate=gate)
+            self.put(head + self.function(bare, name), scope, [(METHOD if head else FUNCTION) + name], gate=gate)
         elif kind != "mod":
+            bare = seen_of(bare) if kind in TYPES else bare
             self.put(head + bare, scope, code_words({name}), gate=gate, has_code=True)
 
     def passed(self, use, scope):
@@ -128,8 +155,13 @@ class Source:
             for it, found in inside:
                 self.item(it, found, head, gate)
 
+    def function(self, text, name):
+        return scan.block_of(text)[0] if self.proved is None else "\n".join([text, *self.proved.get(name, ())])
+
     def bodiless(self, text):
-        """A trait, or the `impl` of one, without the bodies of its functions."""
+        """A trait, or the `impl` of one, without the bodies of its functions, unless they count."""
+        if self.proved is not None:
+            return text
         head, inner = scan.block_of(text)
         inside = [(it, self.start(it)) for it in scan.items(inner or "")]
         return "\n".join([head, *(scan.block_of(it)[0] if found and found["kind"] == "fn" else it for it, found in inside)])

@@ -3,8 +3,8 @@
 #
 #     rt ci && tools/dist.sh
 #
-# With --check it says whether what ships is of these sources, and is that program. Where the toolchain is another one, or is not there,
-# the shipped program is held against the sessions instead. The status is 0 where all holds, and 1 where something does not.
+# With --check it says whether what ships is of these sources, and is that program. If the toolchain is another one, or is not there,
+# the shipped program is held against the sessions instead. The status is 0 if all holds, and 1 if something does not.
 self=$0
 root=$(CDPATH='' cd -- "$(dirname -- "$self")/.." && pwd) || exit 1
 dist=$root/dist
@@ -27,12 +27,14 @@ write_readme() {
     cat >"$dist/README.md" <<TXT
 # The program as the gate built it
 
-\`fire\` is the program for x86-64 Linux: it needs the C library (glibc) and nothing else. \`SOURCES\` has a BLAKE2b checksum of it, and
-of every source file that it was built of; \`KIT\` names the toolchain that proved these sources and built it.
+\`fire\` is the program for x86-64 Linux: it needs the C library (glibc) and nothing else. \`SOURCES\`
+has a BLAKE2b checksum of it, and of every source file that it was built of; \`KIT\` names the
+toolchain that proved these sources and built it.
 
-\`b2sum -c dist/SOURCES\`, at the top of the repository, checks that it is of the sources that stand there. \`./fire\` does so at each call,
-and runs it only then. \`./fire prove\` proves and builds it here, in half an hour, and compares what comes out with it, byte for byte; so
-does \`./.ci/run\`, which refuses a change whose \`dist/\` is stale.
+\`b2sum -c dist/SOURCES\`, at the top of the repository, checks that it is of the sources that stand
+there. \`./fire\` does so at each call, and runs it only then. \`./fire prove\` proves and builds it
+here, in half an hour, and compares what comes out with it, byte for byte; so does \`./.ci/run\`,
+which refuses a change whose \`dist/\` is stale.
 
 \`rt ci && tools/dist.sh\` makes all of this anew, as the last step of each change of the code.
 TXT

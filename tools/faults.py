@@ -4,7 +4,7 @@
     tools/faults.py [PROGRAM]
 
 PROGRAM is crates/fire/out/fire, which ./fire builds. It needs Linux on x86-64 and Python 3.8, and takes some seconds. The status is
-0 where all holds, 1 where something does not, and 2 where there is no program. It is no part of the gate: it shows of the program,
+0 if all holds, 1 if something does not, and 2 if there is no program. It is no part of the gate: it shows of the program,
 as it was built, what is proved of its calls.
 """
 
@@ -43,7 +43,7 @@ class Report:
 
 
 def is_front(ended, due, told):
-    """The run ended so, and a front of what was due was written."""
+    """The run ended so, and a prefix of what was due was written."""
     return (ended.status, ended.errors) == told and due.output.startswith(ended.output)
 
 
@@ -52,7 +52,7 @@ def is_same(ended, due):
 
 
 def growths(program, words, data):
-    """Each growth is refused: the run ends for want of memory with a front, of `run` with nothing, or as without the refusal."""
+    """Each growth is refused: the run ends for want of memory with a prefix, of `run` with nothing, or as without the refusal."""
     due = run(program, words, data, Change(growths=True))
     for number in range(1, due.calls + 1):
         ended = run(program, words, data, Change(growths=True, number=number))
@@ -61,7 +61,7 @@ def growths(program, words, data):
 
 
 def transfers(program, words, data, descriptor, told):
-    """Each read or write fails, and the run ends so with a front; or it moves one byte, and the run ends as it would."""
+    """Each read or write fails, and the run ends so with a prefix; or it moves one byte, and the run ends as it would."""
     due = run(program, words, data, Change(descriptor=descriptor))
     for number in range(1, due.calls + 1):
         ended = run(program, words, data, Change(descriptor=descriptor, number=number))

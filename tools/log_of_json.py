@@ -3,7 +3,7 @@
 
     fire json < some.log | tools/log_of_json.py [VERSION] > same.log
 
-VERSION is the log's, 1 or 2; 2 where it is left out. Each line is read by Python's parser of JSON, and its object by the layouts of
+VERSION is the log's, 1 or 2; 2 if it is left out. Each line is read by Python's parser of JSON, and its object by the layouts of
 docs/LOG.md and of the standards: nothing here comes from the program.
 """
 

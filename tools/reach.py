@@ -19,7 +19,13 @@ That is more than can matter, never less:
 - what a file brings in by `use` counts, with its path, in each declaration that has the name. What a file passes on to others counts as a
   declaration, but if it can lead to one alone: if it gives no other name, its path is in the repository, and one below has that name;
 - what has none of these forms is reached by all.
-Left out are the lines `mod`: a file counts as the crate's, named or not. And whether an item is `pub` is no part of its text.
+Left out are the lines `mod`: a file counts as the crate's, named or not. And whether an item is `pub` is no part of its text, nor what
+fields of a type its own crate alone sees, nor what a type derives: what was checked before it did compares and copies no value of it, and
+if it does so no longer, what compares or copies one is refused by the gate.
+
+A declaration that is reached since it was added is none that the refused text spoke of: that has a meaning without it, by the same paths,
+and is refused as before. It counts only if it can take a call from another: if it is a method that has the name of a trait's function. So
+it is with the parts of the crate's own text: each counts, a function with its body and its answers, and one more counts only so.
 """
 
 import collections
@@ -43,6 +49,21 @@ def own_words(name, text):
     words = declared.words_of(text)
     paths = words if GLOB.search(text) else declared.words_of(" ".join(PATHS.findall(text)))
     return words.union((declared.METHOD + it for it in words), (declared.FUNCTION + it for it in paths))
+
+
+def own_parts(files):
+    """The parts of a crate's own files, each as a text that counts: the items of src, each function with its body and with what is proved
+    of it, the definitions of specs, and lemmas with their proofs; and those of which one more matters too."""
+    proved = {}
+    for name, text in files:
+        folders = name.split("/")[1:-1] if name.startswith("proofs/") else ()
+        for folder in folders:
+            proved.setdefault(folder, []).append(f"{name}\n{scan.joined(scan.without_notes(text))}")
+    found = [it for name, text in files if name.startswith("src/") for it in declared.Source(name, text, proved).found]
+    found += [it for name, text in files if name.endswith(".antt") and name.count("/") == 1 for it in declared.Definitions(name, text).found]
+    offered = frozenset().union(*(it.offers for it in found))
+    covering = [it.text for it in found if it.gate and not it.offers and any(key in offered for _, key in it.names)]
+    return sorted(it.text for it in found), sorted(covering)
 
 
 class Reach:
@@ -88,7 +109,8 @@ class Reach:
         return it.leads
 
     def reached(self, crates, words):
-        """The texts of what is reached of these crates, in order."""
+        """The texts of what is reached of these crates, in order; and those of them of which one more matters too: of methods that have the
+        name of a trait's function, since such a method takes the calls of that."""
         here, types = [it for crate in crates for it in self.of(crate)[0]], set().union(*(self.of(crate)[2] for crate in crates))
         counts = collections.Counter(name for it in here if not it.passes_on for name in it.plain)
         waiting, known, taken, left = {}, set(), {}, set(self.found_by(words))
@@ -105,4 +127,7 @@ class Reach:
                 if not wanted and id(it) not in taken:
                     taken[id(it)] = it
                     left |= self.leads(it) - known
-        return sorted(it.text for it in taken.values() if not (it.passes_on and counts[min(it.plain)] == 1))
+        offered = frozenset().union(*(it.offers for it in here))
+        found = [it for it in taken.values() if not (it.passes_on and counts[min(it.plain)] == 1)]
+        covering = [it for it in found if it.gate and not it.offers and any(key in offered for _, key in it.names)]
+        return sorted(it.text for it in found), sorted(it.text for it in covering)

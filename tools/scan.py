@@ -42,7 +42,7 @@ def joined(text):
 
 
 def tops(text, begin=0):
-    """Each mark that stands in no bracket, with the place behind it, from a place on; not the brackets of a clause."""
+    """Each mark that stands in no bracket, with the place after it, from a place on; not the brackets of a clause."""
     depth, is_clause = 0, False
     for it in MARKS.finditer(text, begin):
         mark = it["mark"]

@@ -23,7 +23,7 @@ def rows(table):
 
 
 def split(text, mark):
-    """What stands before a mark, and what after it, or None where there is no mark."""
+    """What stands before a mark, and what after it, or None if there is no mark."""
     before, found, after = text.partition(mark)
     return before, after if found else None
 
@@ -37,8 +37,9 @@ class Program:
         self.path = path
 
     def call(self, words, given):
-        """The status, the note and the output of a call."""
-        ended = subprocess.run([self.path, *words.split()], input=given, capture_output=True, check=False)
+        """The status, the note and the output of a call. A word that has spaces has `_` in place of each."""
+        words = [word.replace("_", " ") for word in words.split()]
+        ended = subprocess.run([self.path, *words], input=given, capture_output=True, check=False)
         return ended.returncode, ended.stderr.decode("ascii", "replace"), ended.stdout
 
 

@@ -128,7 +128,7 @@ class Tracer:
             self.put(base + value, bytes([INT3]))
 
     def at_break(self, change):
-        """A growth: it is refused where its number has come, and else goes on."""
+        """A growth: it is refused if its number has come, and else goes on."""
         registers = self.registers()
         address = registers.rip - 1
         if address not in self.breaks:

@@ -72,7 +72,7 @@ def chosen(given, deps):
 
 
 def copied(edits, to):
-    """Copies what the gate reads, with these edits where the gate looks for some, and no others."""
+    """Copies what the gate reads, with these edits in the place where the gate looks for them, and no others."""
     for name in ("crates.txt", "HANDLES"):
         shutil.copy2(ROOT / name, to)
     shutil.copytree(ROOT / "crates", to / "crates", ignore=ASIDE)

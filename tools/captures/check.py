@@ -5,7 +5,7 @@ them.
     tools/captures/check.py [FIRE]
 
 FIRE is the program (dist/fire, or crates/fire/out/fire, which ./fire builds): the logs that come out go through its
-`decode` too, and the inputs of the vectors are made of its logs anew. nosy-dump and tshark are asked where they are
+`decode` too, and the inputs of the vectors are made of its logs anew. nosy-dump and tshark are asked if they are
 installed. This takes some seconds. The last line says how much passed and failed; the status is 0 if nothing failed,
 1 if something did, and 2 if there is no such program.
 """

@@ -85,6 +85,13 @@ call() {
         "$program" help >&2
         exit 2
     fi
+    # (its words have no number of their own, so none of them is a file's name)
+    case $1 in
+    explore)
+        [ $# = 1 ] || [ ! -t 0 ] || note "explore reads a script from the terminal: Ctrl-D ends it"
+        ask "$@"
+        ;;
+    esac
     form_of "$@"
     [ -n "$reads" ] || ask "$@"
     eval "last=\${$#}"

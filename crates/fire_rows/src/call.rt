@@ -11,7 +11,7 @@ pub(crate) const NONE: Failing<'static> = Failing {
     notes: &[],
 };
 
-/// A call: its words, parted by spaces, what it reads, how many bytes it has room to write, and which of its writes fail.
+/// A call: its words, separated by spaces, with `_` for a space within a word, what it reads, how many bytes it has room to write, and which of its writes fail.
 #[derive(Drop)]
 pub(crate) struct Call<'a> {
     pub(crate) words: &'a str,
@@ -82,6 +82,6 @@ fn words_of(alloc: Global, words: &str) -> Result<Vec<String>, AllocError> {
 }
 
 fn put_word(alloc: Global, word: &str, list: &mut Vec<String>) -> Result<(), AllocError> {
-    list.push(word.to_string(alloc)?)?;
+    list.push(word.replace(alloc, "_", " ")?)?;
     Ok(())
 }

@@ -11,6 +11,7 @@ mod cycle_start;
 mod data;
 mod faults;
 mod header;
+mod letters;
 mod lock;
 mod node_ids;
 mod packet;
@@ -26,6 +27,7 @@ mod wire;
 mod write;
 mod writer;
 
+pub use letters::Letters;
 pub use node_ids::{MOST_NODES, local_number, node_id, node_ids_are_numbers, number_of};
 pub use packet::{Head, Packet};
 pub use pieces::PacketReader;

@@ -1,11 +1,12 @@
 //! The requests that stand on the bus between two half steps.
 
-ghost use Rattle.std.specs.Prelude.{◌≡◌, ◌≤◌, [], ◌∷◌, ◌++◌, length, None, IfNone};
+ghost use Rattle.std.specs.Prelude.{◌≡◌, ◌<◌, ◌≤◌, [], ◌∷◌, ◌++◌, length, take, None, IfNone, IfSome};
 ghost use Rattle.std.specs.Option.{option_map};
 ghost use Rattle.fw_async.specs.Async.{spelling, Fits};
 ghost use Rattle.fw_async.specs.Reader.{IsPacket};
 ghost use Rattle.fw_async.specs.Wire.{bytes_from, without};
 
+use crate::letters::Letter;
 use crate::node_ids::MOST_NODES;
 use crate::packet::Packet;
 use crate::room::PacketRoom;
@@ -21,7 +22,7 @@ const LONGEST: usize = 528;
 /// sender, and so at most 63. No call takes memory or moves the bytes of another pair, and the oldest pair is found at once.
 #[derive(Drop)]
 pub struct Wire {
-    senders: Senders,
+    pub(crate) senders: Senders,
     /// By sender: how many bytes of its packet stand, at the front of its row; none where it has no pair.
     lengths: [usize; MOST_NODES],
     rows: [[u8; LONGEST]; MOST_NODES],
@@ -35,6 +36,18 @@ impl Model for Wire {
     ghost view = { λ w. pairs_at w.lengths w.rows w.senders };
 
     ghost invariant = { λ w. IsKept w.lengths w.senders };
+}
+
+// Copies the letter over the front of a row, and answers how many bytes it has.
+fn copy_letter(letter: &Letter, row: &mut [u8; LONGEST]) -> usize
+    ensures bytes { take result row.new ≡ letter.now }
+    ensures size { result ≡ length letter.now }
+    ensures some { 0 < result }
+    ensures room { result ≤ 528 }
+{
+    let bytes = letter.bytes.as_slice();
+    row[..bytes.len()].copy_from_slice(bytes);
+    bytes.len()
 }
 
 impl Wire {
@@ -75,9 +88,29 @@ impl Wire {
         self.senders.push(from);
     }
 
+    // Puts bytes that were kept behind all that stands.
+    pub(crate) fn put_letter(&mut self, from: u8, letter: &Letter)
+        requires from { from ≤ 62 }
+        requires free { bytes_from from self.old ≡ None }
+        ensures { self.new ≡ self.old ++ (from, letter.now) ∷ [] }
+    {
+        let at = usize::from(from);
+        self.lengths[at] = copy_letter(letter, &mut self.rows[at]);
+        self.senders.push(from);
+    }
+
     /// The bytes of a sender's packet. None exactly where no pair of that sender stands.
     pub fn get(&self, from: u8) -> Option<&[u8]>
         ensures { option_map (λ b. b.now) result ≡ bytes_from from self.now }
+    {
+        self.standing(from)
+    }
+
+    // The same, which are so many.
+    #[inline(always)]
+    pub(crate) fn standing(&self, from: u8) -> Option<&[u8]>
+        ensures bytes { option_map (λ b. b.now) result ≡ bytes_from from self.now }
+        ensures size { IfSome result (λ b. (0 < length b.now) × (length b.now ≤ 528)) }
     {
         let at = usize::from(from);
         if at >= MOST_NODES || self.lengths[at] == 0 {

@@ -4,6 +4,7 @@
 
 mod answer;
 mod company;
+mod copies;
 mod laws;
 mod notify;
 mod row;

@@ -8,7 +8,7 @@ use fw_fcp::{CHANGED, Frame};
 use fw_tape::Transport;
 
 /// A state that a controller may ask to be told of, with its value.
-#[derive(Clone, Copy)]
+#[derive(Clone, Copy, PartialEq, Eq)]
 pub enum Watched {
     /// The unit's power, on where true.
     Power(bool),
@@ -17,7 +17,7 @@ pub enum Watched {
 }
 
 /// A NOTIFY request that the unit keeps until the state has changed.
-#[derive(Clone, Copy)]
+#[derive(Clone, Copy, PartialEq, Eq)]
 pub struct Kept {
     /// The number of the node that asked.
     pub node: u8,

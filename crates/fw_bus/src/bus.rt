@@ -10,6 +10,7 @@ use fw_dub::Reel;
 use fw_machine::{Machine, Room};
 use fw_node::Node;
 use fw_outside::{Failed, Sink};
+use fw_places::Places;
 use fw_rules::decide;
 use fw_run::{Order, RuleFault};
 use fw_tape::Desk;
@@ -46,7 +47,9 @@ impl Bus {
     ghost use Rattle.fw_rules.specs.Decisions.{IsCommand};
     ghost use Rattle.fw_machine.specs.Stands.{StandsFor};
     ghost use Rattle.fw_machine.specs.Wires.{HasWire};
-    ghost use Rattle.fw_bus.specs.Buses.{Applies, LendsNode, WhereRefused, WhereFailed};
+    ghost use Rattle.fw_machine.specs.declared.machine.Machine.{Machine as MachineRecord};
+    ghost use Rattle.fw_places.specs.Places.{IsPlace};
+    ghost use Rattle.fw_bus.specs.Buses.{Applies, IsReached, LendsNode, WhereRefused, WhereFailed};
 
     /// A bus without a device, at cycle 0. It takes all the memory that its calls need.
     pub fn new(alloc: Global) -> Result<Bus, AllocError>
@@ -103,6 +106,24 @@ impl Bus {
         &self.machine
     }
 
+    /// There is a run for whose state the bus stands: nothing is done.
+    pub fn stands(&self)
+        requires spent { IsFalse self.now.spent }
+        ensures { IsReached self.now.machine }
+    {
+        let _ = &self.machine;
+    }
+
+    /// The bus comes back to where a machine was kept: it stands then for each state for which that one stood.
+    pub fn give_back(&mut self, places: &Places, words: &[u32])
+        requires { (n : MachineRecord) × IsPlace places.now words.now n × IsReached n }
+        ensures stands { (n : MachineRecord) (s : State) → IsPlace places.now words.now n → StandsFor n s → StandsFor self.new.machine s }
+        ensures fresh { IsFalse self.new.spent }
+    {
+        places.give_back(words, &mut self.machine);
+        self.spent = false;
+    }
+
     /// What a command would order, or the first rule that it breaks. Nothing is changed.
     pub fn order_of<'a>(&self, c: &'a Command) -> Result<Order<'a>, RuleFault>
         requires spent { IsFalse self.now.spent }
@@ -130,6 +151,7 @@ impl Bus {
             → Applies (record { blocks = F.post desk.now.blocks; vendor = H.post desk.now.vendor }) commands actions log s c.now self.new (K.held sink.old) (K.held sink.new) result }
         ensures refused { IfErr result (λ e. WhereRefused e ((self.new ≡ self.old) × (sink.new ≡ sink.old))) }
         ensures same { OnOk result (K.faults sink.new ≡ K.faults sink.old) }
+        ensures fresh { OnOk result (IsFalse self.new.spent) }
         ensures failed { IfErr result (λ e. WhereFailed e (IsTrue self.new.spent × Rose (K.faults sink.old) (K.faults sink.new))) }
         ensures later { K.faults sink.old ≤ K.faults sink.new }
     {

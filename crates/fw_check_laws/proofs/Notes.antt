@@ -19,7 +19,7 @@ use Rattle.fw_tool.specs.Serving.{Serves}
 use Rattle.fw_tool.specs.Turns.{SourceTurn, SinkTurn, NotesTurn}
 use Rattle.fw_tool.specs.Words.{IsWord}
 use Rattle.fw_tool.specs.declared.ending.Ending.{Ending}
-use Rattle.fw_tool.specs.declared.ending.Ending.TheVariants.{Done, Usage, Refused, NoLog, Stopped, Unsound, NoMap}
+use Rattle.fw_tool.specs.declared.ending.Ending.TheVariants.{Done, Usage, Refused, NoLog, Stopped, Unsound, NoMap, Unexplored}
 use Rattle.fw_tool.specs.declared.words.Word.TheVariants.{Script}
 use Rattle.fw_check_laws.specs.Calls.{CallsTellTheirNote, TellsItsNote}
 use Rattle.fw_check_laws.specs.Named.{NotesAreNames, RefusalsAreNamed, refusal_word}
@@ -58,6 +58,8 @@ module _ {N : Type 0} (held : N → Option (List ℕ)) (faults : N → ℕ) (old
   noted (Unsound x) (inr a) = let z : ⊥ = omega (arith, a.0) in absurd z
   noted (NoMap x) (inl a) = let z : ⊥ = omega (arith, a.0) in absurd z
   noted (NoMap x) (inr a) = let z : ⊥ = omega (arith, a.0) in absurd z
+  noted (Unexplored x) (inl a) = let z : ⊥ = omega (arith, a.0) in absurd z
+  noted (Unexplored x) (inr a) = let z : ⊥ = omega (arith, a.0) in absurd z
   noted (Stopped ReadFault) (inl a) = let z : ⊥ = omega (arith, a.0) in absurd z
   noted (Stopped ReadFault) (inr a) = let z : ⊥ = omega (arith, a.0) in absurd z
   noted (Stopped WriteFault) (inl a) = let z : ⊥ = omega (arith, a.0) in absurd z

@@ -70,7 +70,7 @@ impl Connection {
 
 /// The channel that a connection has, with the overhead_ID and the units of its output plug. Those of a broadcast-in
 /// connection are 0.
-#[derive(Clone, Copy)]
+#[derive(Clone, Copy, PartialEq, Eq)]
 pub struct Flow {
     pub channel: u8,
     pub overhead: u8,

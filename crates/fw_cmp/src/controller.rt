@@ -17,11 +17,11 @@ mod starts;
 /// A connection controller: its slots and jobs, and whether it has lost the response to its request.
 #[derive(Drop)]
 pub struct Controller {
-    agenda: Agenda,
+    pub(crate) agenda: Agenda,
     /// The cycle of its latest request.
-    asked_at: u64,
+    pub(crate) asked_at: u64,
     /// The response to that was lost, and no bus reset has come since.
-    lost: bool,
+    pub(crate) lost: bool,
 }
 
 impl Model for Controller {

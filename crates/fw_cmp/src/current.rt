@@ -7,7 +7,7 @@ use crate::{Job, Outcome, Purpose, Stage};
 use fw_csr::Reply;
 
 /// A job that was asked for and waits: its slot, and whether it breaks the slot's connection or makes it.
-#[derive(Clone, Copy, Default)]
+#[derive(Clone, Copy, Default, PartialEq, Eq)]
 pub struct Task {
     pub slot: u8,
     pub breaks: bool,

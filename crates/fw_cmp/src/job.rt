@@ -1,7 +1,7 @@
 use crate::Connection;
 
 /// What a job is to do with the connection of its slot.
-#[derive(Clone, Copy)]
+#[derive(Clone, Copy, PartialEq, Eq)]
 pub enum Purpose {
     /// Makes a new connection.
     Make,
@@ -28,7 +28,7 @@ pub struct Job {
 }
 
 /// How the answers that a job heard, or the directory as it began, have decided that it ends without a connection.
-#[derive(Clone, Copy)]
+#[derive(Clone, Copy, PartialEq, Eq)]
 pub enum Ending {
     /// The last resource was given back.
     Broken,
@@ -52,7 +52,7 @@ pub enum Ending {
 }
 
 /// What follows when all that was taken has been given back.
-#[derive(Clone, Copy)]
+#[derive(Clone, Copy, PartialEq, Eq)]
 pub enum Then {
     EndsAs(Ending),
     Again,

@@ -6,6 +6,7 @@ mod agenda;
 mod begin;
 mod connection;
 mod controller;
+mod copies;
 mod current;
 mod directory;
 mod hear;

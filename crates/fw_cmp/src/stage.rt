@@ -1,7 +1,7 @@
 use crate::{Ending, Flow, Then};
 
 /// Where a job stands: the request that it makes next, with the words that it has read and still needs.
-#[derive(Clone, Copy)]
+#[derive(Clone, Copy, PartialEq, Eq)]
 pub enum Stage {
     /// Has made no request yet, or none since a bus reset.
     Begin,

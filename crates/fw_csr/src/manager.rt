@@ -20,7 +20,7 @@ const ALL_BUT_CHANNEL_31: u32 = 0xFFFF_FFFE;
 
 /// The registers of the isochronous resource manager (IEEE 1394-1995, 8.3.2.3). On a bus that withholds channel 31, which
 /// IEEE 1394a keeps for broadcast by default, the channel is not free at any bus reset.
-#[derive(Drop)]
+#[derive(Clone, Copy, PartialEq, Eq)]
 pub struct Manager {
     bus_manager_id: Word,
     bandwidth_available: Word,

@@ -6,7 +6,7 @@ use crate::{Register, RegisterRequest, Reply};
 use std::marker::Model;
 
 /// A register that can be read, and changed by a quadlet compare_swap alone (IEEE 1394-1995, compare_swap).
-#[derive(Clone, Copy)]
+#[derive(Clone, Copy, PartialEq, Eq)]
 pub struct Word {
     value: u32,
 }

@@ -8,3 +8,4 @@ pub mod ResetLaws
 pub mod JoinLaws
 pub mod DeckLaws
 pub mod TalkLaws
+pub mod FrameLaws

@@ -6,3 +6,4 @@ pub mod Names
 pub mod Decks
 pub mod Streams
 pub mod Laws
+pub mod Frames

@@ -92,6 +92,20 @@ pub fn find(cabling: &Cabling, nodes: &[Node], bus: &mut Bus)
     }
 }
 
+/// No bus reset came yet.
+pub fn no_reset() -> ResetEntry
+    ensures { result ≡ no_entry }
+{
+    ResetEntry {
+        epoch: 0,
+        root: 0,
+        manager: None,
+        initiator: 0,
+        nodes: NodeList::new(),
+        ids: SelfIds::new(),
+    }
+}
+
 impl Bus {
     /// Nothing was found yet, and no bus reset came.
     pub fn new() -> Bus
@@ -108,14 +122,7 @@ impl Bus {
                 parent_port: [None; 63],
             },
             manager: None,
-            entry: ResetEntry {
-                epoch: 0,
-                root: 0,
-                manager: None,
-                initiator: 0,
-                nodes: NodeList::new(),
-                ids: SelfIds::new(),
-            },
+            entry: no_reset(),
         }
     }
 

@@ -15,6 +15,7 @@ use std::marker::Model;
 
 mod decks;
 mod declare;
+mod frames;
 mod requests;
 mod resets;
 mod streams;

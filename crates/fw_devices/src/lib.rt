@@ -3,11 +3,13 @@
 
 mod bus;
 mod devices;
+mod frame;
 mod laws;
 mod names;
 mod talkers;
 
 pub use devices::Devices;
+pub use frame::Frame;
 pub use laws::{cables_extend_the_bus, reset_entries_show_the_bus};
 pub use talkers::Talkers;
 

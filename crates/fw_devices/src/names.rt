@@ -1,6 +1,6 @@
 //! Names of devices, and where each stands.
 
-ghost use Rattle.std.specs.Prelude.{ℕ, ◌≡◌, ◌<◌, ◌++◌, ◌∷◌, [], length, position, get_or, set, slice_index_or, IfOk, IfSome};
+ghost use Rattle.std.specs.Prelude.{ℕ, ◌≡◌, ◌<◌, ◌++◌, ◌∷◌, [], length, position, get_or, set, slice_index_or, IfOk, IfSome, IsTrue};
 ghost use Rattle.fw_devices.specs.Network.{same_bytes};
 
 use crate::MOST_DEVICES;
@@ -38,6 +38,14 @@ fn same_name(a: &Name, b: &Name) -> bool
     ensures { result ≡ same_bytes a.now b.now }
 {
     a == b
+}
+
+// Two names that are found the same are the same.
+#[tactic(auto, using(crate::proofs::NameLaws::same_is))]
+fn is_name(name: &Name, other: &Name) -> bool
+    ensures { IsTrue result → name.now ≡ other.now }
+{
+    same_name(name, other)
 }
 
 // The place of the first name that is the same.
@@ -88,6 +96,38 @@ impl Names {
             list: Vec::with_capacity(alloc, MOST_DEVICES)?,
             places: no_places(),
         })
+    }
+
+    /// Becomes a copy of others.
+    pub(crate) fn copy_from(&mut self, other: &Names)
+        ensures { self.new ≡ other.now }
+    {
+        self.clear();
+        for name in &other.list {
+            self.push(name);
+        }
+    }
+
+    fn clear(&mut self)
+        ensures { self.new ≡ [] }
+    {
+        self.list.clear();
+        self.places = no_places();
+    }
+
+    /// Those that are found the same are the same.
+    pub(crate) fn is_same(&self, other: &Names) -> bool
+        ensures { IsTrue result → self.now ≡ other.now }
+    {
+        if self.count() != other.count() {
+            return false;
+        }
+        for n in 0..self.count() {
+            if !is_name(self.get(n), other.get(n)) {
+                return false;
+            }
+        }
+        true
     }
 
     /// How many there are.

@@ -1,8 +1,9 @@
-ghost use Rattle.std.specs.Prelude.{◌≡◌, ◌≤◌, nat_lt, length, [], IfOk, OnOk};
+ghost use Rattle.std.specs.Prelude.{◌≡◌, ◌≤◌, nat_lt, length, [], IfOk, OnOk, IsTrue};
 ghost use Rattle.fw_outside.specs.Outside.{HasCause, Writes};
 ghost use Rattle.fw_dub.specs.Reels.{kept, bytes_of};
 
 use fw_outside::{Failed, Sink};
+use fw_parts::Part;
 use std::alloc::{AllocError, Global};
 use std::marker::Model;
 
@@ -34,6 +35,13 @@ impl Model for Reel {
     ghost invariant = { λ r. (vec_len r.blocks ≤ 4800) × (4800 ≤ vec_capacity r.blocks) };
 }
 
+// Two that are found the same are the same.
+fn same_block(block: &[u8], other: &[u8]) -> bool
+    ensures { IsTrue result → block.now ≡ other.now }
+{
+    block == other
+}
+
 impl Reel {
     /// An empty reel, with room for all that it may keep.
     pub fn new(alloc: Global) -> Result<Reel, AllocError>
@@ -54,6 +62,31 @@ impl Reel {
             return false;
         }
         let _ = self.blocks.push(*block);
+        true
+    }
+
+    /// Becomes a copy of another.
+    pub fn copy_from(&mut self, other: &Reel)
+        ensures { self.new ≡ other.now }
+    {
+        self.clear();
+        for block in &other.blocks {
+            self.keep(block, BLOCKS_625);
+        }
+    }
+
+    /// Two that are found the same are the same.
+    pub fn is_same(&self, other: &Reel) -> bool
+        ensures { IsTrue result → self.now ≡ other.now }
+    {
+        if self.blocks.len() != other.blocks.len() {
+            return false;
+        }
+        for n in 0..self.blocks.len() {
+            if !same_block(&self.blocks[n], &other.blocks[n]) {
+                return false;
+            }
+        }
         true
     }
 
@@ -82,5 +115,25 @@ impl Reel {
             sink.write(block)?;
         }
         Ok(())
+    }
+}
+
+impl Part for Reel {
+    type Whole = Reel;
+
+    ghost IsOf = { λ kept reel. kept ≡ reel };
+
+    fn of(alloc: Global, reel: &Reel) -> Result<Reel, AllocError> {
+        let mut copy = Reel::new(alloc)?;
+        copy.copy_from(reel);
+        Ok(copy)
+    }
+
+    fn is_of(&self, reel: &Reel) -> bool {
+        self.is_same(reel)
+    }
+
+    fn mark(reel: &Reel) -> u64 {
+        reel.blocks.len() as u64
     }
 }

@@ -7,6 +7,7 @@
 #![tactic(auto)]
 
 pub mod codes;
+mod copies;
 mod entry;
 mod entry_room;
 mod laws;

@@ -4,7 +4,7 @@ use arrayvec::ArrayVec;
 use std::marker::Model;
 
 /// A node of the bus, in a reset entry (own).
-#[derive(Clone, Copy)]
+#[derive(Clone, Copy, PartialEq, Eq)]
 pub struct NodeRow {
     /// The number of the device that the node is, below 63.
     pub device: u8,
@@ -30,7 +30,7 @@ impl Default for NodeRow {
 /// At most 63 nodes, in order of their numbers.
 #[derive(Drop)]
 pub struct NodeList {
-    rows: ArrayVec<NodeRow, 63>,
+    pub(crate) rows: ArrayVec<NodeRow, 63>,
 }
 
 impl Model for NodeList {

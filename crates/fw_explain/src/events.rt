@@ -110,9 +110,9 @@ pub fn put_tape(text: &mut Vec<u8>, e: &EventEntry) -> Result<(), AllocError>
     )
 }
 
-// Appends an event.
+/// Appends an event as a line tells it after its cycle.
 #[tactic(auto, unfolding(crate::specs::Lines::event_text))]
-pub(crate) fn put_event(text: &mut Vec<u8>, e: &EventEntry) -> Result<(), AllocError>
+pub fn put_event(text: &mut Vec<u8>, e: &EventEntry) -> Result<(), AllocError>
     ensures { OnOk result (text.new.items ≡ text.old.items ++ event_text e.now) }
 {
     put_named_part(
@@ -184,13 +184,9 @@ fn put_slot(text: &mut Vec<u8>, device: u8, slot: u8) -> Result<(), AllocError>
     put_part(text, " slot ", u64::from(slot))
 }
 
-// Appends an outcome.
+/// Appends an outcome as a line tells it after its cycle.
 #[tactic(auto, unfolding(crate::specs::Lines::outcome_text))]
-pub(crate) fn put_outcome(
-    text: &mut Vec<u8>,
-    pairs: &Pairs,
-    o: &OutcomeEntry,
-) -> Result<(), AllocError>
+pub fn put_outcome(text: &mut Vec<u8>, pairs: &Pairs, o: &OutcomeEntry) -> Result<(), AllocError>
     ensures { OnOk result (text.new.items ≡ text.old.items ++ outcome_text o.now) }
 {
     put_ended(text, o.code)?;
@@ -213,9 +209,9 @@ fn shown_place(s: &ShownEntry) -> Place
     Place::of(REGISTER_SPACE + u64::from(s.offset))
 }
 
-// Appends a shown word.
+/// Appends a shown word as a line tells it after its cycle.
 #[tactic(auto, unfolding(crate::specs::Lines::shown_text))]
-pub(crate) fn put_shown(text: &mut Vec<u8>, pairs: &Pairs, s: &ShownEntry) -> Result<(), AllocError>
+pub fn put_shown(text: &mut Vec<u8>, pairs: &Pairs, s: &ShownEntry) -> Result<(), AllocError>
     ensures { OnOk result (text.new.items ≡ text.old.items ++ shown_text s.now) }
 {
     let place = shown_place(s);

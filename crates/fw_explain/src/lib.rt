@@ -15,7 +15,7 @@ mod reset;
 mod response;
 mod tail;
 
-pub use events::{put_saying, put_tape, put_value};
+pub use events::{put_event, put_outcome, put_saying, put_shown, put_tape, put_value};
 pub use explainer::Explainer;
 pub use packet::head_of;
 pub use reset::{put_further, put_manager, put_row, put_self};

@@ -34,6 +34,13 @@ impl Frame {
         }
     }
 
+    /// Becomes a copy of another.
+    pub fn copy_from(&mut self, other: &Frame)
+        ensures { self.new ≡ other.now }
+    {
+        self.show(other, other.code, other.opcode, &[]);
+    }
+
     /// Becomes the response with this code that repeats the command.
     pub fn repeat(&mut self, command: &Frame, code: u8)
         ensures { self.new ≡ record command.now { code = code } }

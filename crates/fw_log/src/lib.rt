@@ -2,6 +2,7 @@
 //! written stands in fw_entry; those names of it that a user of logs needs are here too.
 #![tactic(auto)]
 
+mod apart;
 mod first;
 mod held;
 pub mod laws;

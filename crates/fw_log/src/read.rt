@@ -95,7 +95,7 @@ impl LogReader {
 
     // Takes what was found in the bytes that were kept and, behind them, in the piece.
     #[inline(always)]
-    fn keep<'a>(
+    pub(crate) fn keep<'a>(
         &mut self,
         found: Result<Option<Found<'a>>, LogFault>,
         piece: &[u8],

@@ -25,3 +25,4 @@ pub mod Counts
 pub mod Moving
 pub mod Still
 pub mod Listening
+pub mod CopyLaws

@@ -10,3 +10,4 @@ pub mod Stands
 pub mod Orders
 pub mod Streaming
 pub mod Recording
+pub mod Copies

@@ -14,9 +14,9 @@ use std::marker::Model;
 /// The candidate that each declared device is, by number, if it is one.
 #[derive(Drop)]
 pub struct Candidates {
-    list: Vec<Option<Candidate>>,
+    pub(crate) list: Vec<Option<Candidate>>,
     /// A computer was made a candidate: from then on the script swaps BUS_MANAGER_ID no more.
-    begun: bool,
+    pub(crate) begun: bool,
 }
 
 impl Model for Candidates {

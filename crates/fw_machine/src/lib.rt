@@ -6,6 +6,7 @@
 
 mod candidates;
 mod controllers;
+mod copies;
 pub mod entries;
 mod giving;
 mod machine;

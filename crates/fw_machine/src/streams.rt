@@ -15,7 +15,7 @@ use std::marker::Model;
 /// counter): 0 for a plug that does not talk. A device has one output plug at most.
 #[derive(Clone, Copy)]
 pub struct Streams {
-    counts: [u8; 63],
+    pub(crate) counts: [u8; 63],
 }
 
 impl Model for Streams {

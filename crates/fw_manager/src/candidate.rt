@@ -8,7 +8,7 @@ use fw_words::Swap;
 use std::marker::Model;
 
 /// How far a bid has come.
-#[derive(Clone, Copy)]
+#[derive(Clone, Copy, PartialEq, Eq)]
 pub enum Stage {
     /// It is still to be made.
     Fresh,
@@ -21,7 +21,7 @@ pub enum Stage {
 }
 
 /// A candidate: the epoch of its latest bid, and how far that came.
-#[derive(Drop)]
+#[derive(Clone, Copy, PartialEq, Eq)]
 pub struct Candidate {
     epoch: u32,
     stage: Stage,

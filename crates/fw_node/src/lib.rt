@@ -2,6 +2,7 @@
 #![tactic(auto)]
 
 mod bytes;
+mod copies;
 mod fcp;
 mod laws;
 mod node;

@@ -17,7 +17,7 @@ pub struct Node {
     pub(crate) kind: DeviceKind,
     pub(crate) device: u8,
     /// Whether the bus withholds channel 31.
-    withhold: bool,
+    pub(crate) withhold: bool,
     pub(crate) number: Option<u8>,
     pub(crate) plugs: Plugs,
     pub(crate) manager: Option<Manager>,

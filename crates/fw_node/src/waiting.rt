@@ -20,8 +20,8 @@ use std::marker::Model;
 /// A frame that waits to be sent, and the number of the node that it goes to. Where none waits, the frame is room for the next.
 #[derive(Drop)]
 pub(crate) struct Waiting {
-    to: Option<u8>,
-    frame: Frame,
+    pub(crate) to: Option<u8>,
+    pub(crate) frame: Frame,
 }
 
 impl Model for Waiting {

@@ -10,8 +10,10 @@ use Rattle.fw_phrases.specs.declared.request.Request.{Request}
 use Rattle.fw_phrases.specs.declared.standing.Standing.{Standing}
 use Rattle.fw_page.specs.declared.progress.Progress.{Progress}
 use Rattle.fw_page.specs.State.{State, Step}
-use Rattle.fw_page.specs.Requests.{answer, answer_kind, answer_marks, answer_to, answer_words, answered, request_of}
-use Rattle.fw_page.specs.Rows.{Front, devices_of, own_front, row}
+use Rattle.fw_page.specs.Requests.{answer, answer_to, answered}
+use Rattle.fw_content.specs.Exchanges.{answer_kind, answer_marks, answer_words, request_of}
+use Rattle.fw_page.specs.Rows.{row}
+use Rattle.fw_content.specs.Heads.{Front, devices_of, own_front}
 use Rattle.fw_page.specs.Sheets.{Shows, Moves}
 use Rattle.fw_page.proofs.RowLaws.{row_same}
 

@@ -1,4 +1,4 @@
--- What a method does where the call at its end is done.
+-- What a method does if the call at its end is done.
 use Rattle.std.proofs.Common.{◌≡◌, ℕ, ◌<◌, ◌==◌, Bool, true, false, List, ◌++◌, Option, Some, None, Result, Ok, Err, if◌then◌else◌, refl, ap, subst, sym, arith}
 use Rattle.std.specs.Prelude.{OnOk}
 use Rattle.fw_async.specs.Reader.{Spells}
@@ -20,9 +20,11 @@ use Rattle.fw_phrases.specs.declared.request.Request.{Request}
 use Rattle.fw_page.specs.declared.progress.Held.TheVariants.{Nothing as KeepsNothing, Request as KeepsRequest, Run as KeepsRun}
 use Rattle.fw_page.specs.declared.progress.Progress.{Progress}
 use Rattle.fw_page.specs.State.{State, Step, says, then_do, with_entry}
-use Rattle.fw_page.specs.Rows.{Front, row}
+use Rattle.fw_page.specs.Rows.{row}
+use Rattle.fw_content.specs.Heads.{Front}
 use Rattle.fw_page.specs.Requests.{asked, answer, alone, exchange}
-use Rattle.fw_page.specs.Resets.{orphans, reset, reset_by}
+use Rattle.fw_page.specs.Resets.{reset, reset_by}
+use Rattle.fw_content.specs.Kept.{orphans}
 use Rattle.fw_page.specs.Streams.{cycles, start_joins, packet_joins}
 use Rattle.fw_page.specs.Ends.{why, section_end_text, closed, sum_text, end_text}
 use Rattle.fw_page.specs.declared.tail.TheConstants.{TAIL}
@@ -31,7 +33,7 @@ use Rattle.fw_page.specs.Pieces.{release, released_in_section, begun_run, joined
 use Rattle.fw_page.specs.Sheets.{Shows, Moves}
 use Rattle.fw_section.proofs.ChainLaws.{three}
 use Rattle.fw_page.proofs.StepLaws.{moves_more, moves_as}
-use Rattle.fw_page.proofs.PlainLaws.{put_as}
+use Rattle.fw_content.proofs.TextLaws.{put_as}
 use Rattle.fw_page.proofs.ReleaseLaws.{joined_no, release_asks, release_runs, packet_alone, packet_answers}
 
 -- a row that is the step

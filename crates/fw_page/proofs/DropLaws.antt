@@ -4,9 +4,10 @@ use Rattle.std.proofs.lemmas.List.{append-nil}
 use Rattle.fw_phrases.specs.declared.standing.Standing.{Standing}
 use Rattle.fw_page.specs.declared.progress.Progress.{Progress}
 use Rattle.fw_page.specs.State.{State, Step, becomes, then_do}
-use Rattle.fw_page.specs.Rows.{Front, row, due, gap, bare_row, plain, due_words}
-use Rattle.fw_page.specs.Requests.{request_front}
-use Rattle.fw_page.specs.Resets.{dropped_marks, dropped_words, drop_row, drop_by, drops}
+use Rattle.fw_page.specs.Rows.{row, due, gap, bare_row, plain, due_words}
+use Rattle.fw_content.specs.Heads.{Front, request_front}
+use Rattle.fw_page.specs.Resets.{drop_row, drop_by, drops}
+use Rattle.fw_content.specs.Exchanges.{dropped_marks, dropped_words}
 use Rattle.fw_page.specs.Sheets.{Shows, Moves}
 use Rattle.fw_page.proofs.FrameLaws.{standing_shown}
 

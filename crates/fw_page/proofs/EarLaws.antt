@@ -9,7 +9,7 @@ use Rattle.fw_entry.specs.declared.nodes.NodeRow.{NodeRow}
 use Rattle.fw_account.specs.Account.{Account}
 use Rattle.fw_ledger.specs.declared.tables.Tables.{Tables}
 use Rattle.fw_ledger.specs.Stands.{StandsFor}
-use Rattle.fw_marks.specs.Places.{device_at, device_of, number_of, row_device}
+use Rattle.fw_marks.specs.Places.{device_at, device_of, row_device}
 use Rattle.fw_scene.specs.Lines.{hears_by}
 use Rattle.fw_strip.specs.Drawing.{LedgerFor}
 use Rattle.fw_page.specs.Streams.{heard, hears_at}

@@ -5,7 +5,7 @@ use Rattle.fw_async.specs.declared.packet.Packet.{Packet}
 use Rattle.fw_phrases.specs.declared.request.Request.{Request}
 use Rattle.fw_phrases.specs.declared.run.Run.{Run}
 use Rattle.fw_phrases.specs.declared.standing.Standing.{Standing}
-use Rattle.fw_page.specs.declared.counts.Counts.{Counts}
+use Rattle.fw_content.specs.declared.counts.Counts.{Counts}
 use Rattle.fw_page.specs.declared.progress.Held.TheVariants.{Nothing as KeepsNothing, Request as KeepsRequest, Run as KeepsRun}
 use Rattle.fw_page.specs.declared.progress.Progress.{Progress}
 use Rattle.fw_page.specs.State.{State, Nothing, Asks, Runs}

@@ -1,5 +1,5 @@
 -- What is held back: how an entry joins it, and that an answer is to it.
-use Rattle.std.proofs.Common.{◌≡◌, ◌⊎◌, inl, inr, ℕ, ◌==◌, ◌&&◌, Bool, true, false, List, [], ◌++◌, Option, Some, None, if◌then◌else◌, refl, ap, subst, sym, ◌∙◌}
+use Rattle.std.proofs.Common.{◌≡◌, ℕ, ◌==◌, ◌&&◌, Bool, true, false, List, Option, Some, None, if◌then◌else◌, refl, ap, subst, sym, ◌∙◌}
 use Rattle.fw_async.specs.Heads.{head_of}
 use Rattle.fw_async.specs.Reader.{Spells}
 use Rattle.fw_async.specs.declared.packet.Packet.{Packet}
@@ -14,7 +14,7 @@ use Rattle.fw_phrases.specs.declared.run.Run.{Run}
 use Rattle.fw_page.specs.declared.progress.Held.{Held as Kept}
 use Rattle.fw_page.specs.declared.progress.Held.TheVariants.{Nothing as KeepsNothing, Request as KeepsRequest, Run as KeepsRun}
 use Rattle.fw_page.specs.declared.progress.Progress.{Progress}
-use Rattle.fw_page.specs.State.{State, Step, Held, Nothing, Asks, Runs, then_do}
+use Rattle.fw_page.specs.State.{State, Held, Nothing, Asks, Runs, then_do}
 use Rattle.fw_page.specs.Requests.{exchange}
 use Rattle.fw_page.specs.Streams.{start_joins, packet_joins, taken, held_run}
 use Rattle.fw_page.specs.Pieces.{streamed, released_in_section, asked_or_answer, lone_packet, held_for, packet_by}

@@ -10,12 +10,9 @@ pub mod ResetLaws
 pub mod LoopLaws
 pub mod EventLaws
 pub mod AnswerLaws
-pub mod LeftLaws
 pub mod ReleaseLaws
-pub mod LedgerLaws
 pub mod SheetLaws
-pub mod ListLaws
-pub mod SumLaws
 pub mod EarLaws
 pub mod RunLaws
+pub mod AccountLaws
 pub mod DoneLaws

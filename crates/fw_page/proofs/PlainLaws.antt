@@ -1,25 +1,16 @@
 -- Rows that draw what the last one left, and steps that are done or not.
-use Rattle.std.proofs.Common.{◌≡◌, ℕ, ◌<◌, ◌≤◌, nat_lt, Bool, true, false, List, [], ◌++◌, codes, decimal, Option, Some, None, if◌then◌else◌, refl, ap, sym, ◌∙◌, arith}
+use Rattle.std.proofs.Common.{◌≡◌, ℕ, ◌<◌, ◌≤◌, nat_lt, true, false, List, [], ◌++◌, codes, decimal, ap, sym, ◌∙◌, arith}
 use Rattle.std.proofs.lemmas.List.{append-nil}
 use Rattle.std.proofs.lemmas.Bool.Decides.{nat_tests}
 use Rattle.fw_marks.specs.Small.{millis}
 use Rattle.fw_section.proofs.ChainLaws.{three}
 use Rattle.fw_page.specs.declared.progress.Progress.{Progress}
-use Rattle.fw_page.specs.State.{State, Step, becomes}
+use Rattle.fw_page.specs.State.{State, becomes}
 use Rattle.fw_page.specs.Rows.{plain, plain_front, plain_back, gap_class, gap_text, before, before_text, due, due_words}
 use Rattle.fw_page.specs.Sheets.{Shows, Moves}
 use Rattle.fw_page.proofs.StepLaws.{moves_as, moves_none}
 use Rattle.fw_page.proofs.FrameLaws.{begun_shown, due_shown}
-
--- ---- a choice
-
-pub yes : {A : Type 0} (b : Bool) (x y : A) → b ≡ true → x ≡ (if b then x else y)
-yes true x y e = refl
-yes false x y e = absurd (let z : ⊥ = cc in z)
-
-pub no : {A : Type 0} (b : Bool) (x y : A) → b ≡ false → y ≡ (if b then x else y)
-no true x y e = absurd (let z : ⊥ = cc in z)
-no false x y e = refl
+use Rattle.fw_content.proofs.TextLaws.{yes, no}
 
 low : (m n : ℕ) → m < n → nat_lt m n ≡ true
 low m n l = grind (arith, nat_tests)
@@ -65,7 +56,3 @@ due_done old new s t e is said =
     moves_as (λ st. record { text = plain (codes " id=\"stop\"") (codes "nt") (due_words st.followed.stop) st; state = record st { is_due = false } }) due old new s t
     (λ st h. yes st.is_due (record { text = plain (codes " id=\"stop\"") (codes "nt") (due_words st.followed.stop) st; state = record st { is_due = false } }) (becomes st) (sym h.is_due ∙ e))
     (λ st h. (said st h, due_shown st old new false is h))
-
--- what was appended, by another name
-pub put_as : (s t x y : List ℕ) → t ≡ s ++ x → x ≡ y → t ≡ s ++ y
-put_as s t x y e f = e ∙ ap (λ (z : List ℕ). s ++ z) f

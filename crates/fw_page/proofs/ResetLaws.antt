@@ -1,11 +1,8 @@
 -- What a bus reset and events do to what the entries left.
-use Rattle.std.proofs.Common.{◌≡◌, ℕ, ◌+◌, ◌==◌, not, map, Bool, true, false, List, [], Option, Some, None, if◌then◌else◌, refl, ap, subst, sym, ◌∙◌}
+use Rattle.std.proofs.Common.{◌≡◌, ℕ, ◌+◌, ◌==◌, map, Bool, true, false, List, [], Option, Some, None, refl, ap, subst, sym, ◌∙◌}
 use Rattle.fw_account.specs.Account.{Account}
 use Rattle.fw_entry.specs.declared.entry.ResetEntry.{ResetEntry}
-use Rattle.fw_entry.specs.declared.entry.EventEntry.{EventEntry}
-use Rattle.fw_entry.specs.declared.entry.Entry.TheVariants.{Reset}
 use Rattle.fw_entry.specs.declared.nodes.NodeRow.{NodeRow}
-use Rattle.fw_phrases.specs.declared.standing.Standing.{Standing}
 use Rattle.fw_entry.specs.Network.{first_id}
 use Rattle.fw_marks.specs.Places.{node_of}
 use Rattle.fw_phrases.specs.Standing.{given_up}
@@ -14,18 +11,18 @@ use Rattle.fw_scene.specs.declared.lives.Lives.{Lives}
 use Rattle.fw_section.specs.Sections.{section}
 use Rattle.fw_section.specs.Subject.{Subject}
 use Rattle.fw_strip.specs.Drawing.{Painted}
-use Rattle.fw_page.specs.declared.counts.Counts.{Counts}
+use Rattle.fw_content.specs.declared.counts.Counts.{Counts}
 use Rattle.fw_page.specs.declared.progress.Progress.{Progress}
 use Rattle.fw_page.specs.declared.rows.Room.{Room}
 use Rattle.fw_page.specs.declared.sheet.Sheet.{Sheet}
-use Rattle.fw_page.specs.State.{State, then_do, with_entry, next}
+use Rattle.fw_page.specs.State.{State, then_do}
 use Rattle.fw_page.specs.Events.{died, given_up_by}
-use Rattle.fw_page.specs.Resets.{closed, section_step, reset_row, reset_by, reset_state}
+use Rattle.fw_page.specs.Resets.{closed, section_step, reset_row, reset_by}
 use Rattle.fw_page.specs.Sheets.{Shows, IsDrawn, Does}
 use Rattle.fw_page.proofs.MovedLaws.{lines_shown}
 use Rattle.fw_page.proofs.StepLaws.{moves_as, moves_more}
 
--- where anything may have moved, nothing is said of what was drawn
+-- if anything may have moved, nothing is said of what was drawn
 free : (moved : Bool) (lives : Lives) (l : Option Account) (rows : List NodeRow) (left : Painted) (nodes : List ℕ) → moved ≡ true → IsDrawn moved lives l rows left nodes
 free true lives l rows left nodes e = tt
 free false lives l rows left nodes e = absurd (let z : ⊥ = cc in z)

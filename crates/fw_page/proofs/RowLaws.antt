@@ -1,5 +1,5 @@
 -- A row: its text, and what it leaves.
-use Rattle.std.proofs.Common.{◌≡◌, ℕ, not, Bool, true, false, List, [], ◌++◌, codes, Option, Some, None, refl, ap, subst, sym, ◌∙◌}
+use Rattle.std.proofs.Common.{◌≡◌, ℕ, not, Bool, true, false, List, [], ◌++◌, codes, Option, refl, ap, subst, sym, ◌∙◌}
 use Rattle.std.specs.Option.{is_some}
 use Rattle.fw_account.specs.Account.{Account}
 use Rattle.fw_entry.specs.declared.nodes.NodeRow.{NodeRow}
@@ -9,8 +9,9 @@ use Rattle.fw_scene.specs.declared.lives.Lives.{Lives}
 use Rattle.fw_section.proofs.ChainLaws.{six}
 use Rattle.fw_strip.specs.Drawing.{Painted, StaysAs, painted}
 use Rattle.fw_page.specs.declared.progress.Progress.{Progress}
-use Rattle.fw_page.specs.State.{State, Step}
-use Rattle.fw_page.specs.Rows.{Front, head_text, lines_now, strip_text, row_text, row, drawn_now}
+use Rattle.fw_page.specs.State.{State}
+use Rattle.fw_page.specs.Rows.{lines_now, strip_text, row_text, row, drawn_now}
+use Rattle.fw_content.specs.Heads.{Front, head_text}
 use Rattle.fw_page.specs.Sheets.{Shows, IsDrawn, StayNodes, Draws, IsDrawnNow, painted_of}
 
 -- ---- if nothing has moved

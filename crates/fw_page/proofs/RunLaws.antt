@@ -1,7 +1,5 @@
 -- The rows of a run of cycles.
-use Rattle.std.proofs.Common.{◌≡◌, ℕ, List, Option, Some, None, ap, subst, ◌∙◌}
-use Rattle.fw_entry.specs.declared.nodes.NodeRow.{NodeRow}
-use Rattle.fw_phrases.specs.declared.run.Run.{Run}
+use Rattle.std.proofs.Common.{◌≡◌, ℕ, subst}
 use Rattle.fw_page.specs.declared.progress.Progress.{Progress}
 use Rattle.fw_page.specs.State.{State}
 use Rattle.fw_page.specs.Sheets.{Shows}

@@ -1,5 +1,5 @@
 -- What methods of a sheet do, as others see it.
-use Rattle.std.proofs.Common.{◌≡◌, ℕ, List, ◌++◌}
+use Rattle.std.proofs.Common.{◌≡◌, ◌++◌}
 use Rattle.fw_page.specs.declared.sheet.Sheet.{Sheet}
 use Rattle.fw_page.specs.State.{State, Step}
 use Rattle.fw_page.specs.Sheets.{Does, IsSheetOf, text_of}

@@ -1,9 +1,8 @@
 -- The piece of an entry (own).
-use Rattle.std.specs.Prelude.{ℕ, ◌==◌, ◌&&◌, Bool, List, [], ◌++◌, Option, Some, None, if◌then◌else◌}
+use Rattle.std.specs.Prelude.{ℕ, ◌==◌, ◌&&◌, Bool, Option, Some, None, if◌then◌else◌}
 use Rattle.fw_async.specs.Heads.{head_of}
 use Rattle.fw_async.specs.declared.packet.Packet.{Packet}
 use Rattle.fw_async.specs.declared.packet.Packet.TheVariants.{CycleStart}
-use Rattle.fw_cip.specs.declared.packet.IsoPacket.{IsoPacket}
 use Rattle.fw_entry.specs.declared.entry.Entry.{Entry}
 use Rattle.fw_entry.specs.declared.entry.Entry.TheVariants.{Reset, Async, Iso, Event, Outcome, Shown, End}
 use Rattle.fw_entry.specs.declared.entry.Timed.{Timed}
@@ -12,7 +11,8 @@ use Rattle.fw_phrases.specs.Made.{is_answer}
 use Rattle.fw_phrases.specs.Runs.{run_from, with_start, with_packet}
 use Rattle.fw_phrases.specs.declared.request.Request.{Request}
 use Rattle.fw_phrases.specs.declared.run.Run.{Run}
-use Rattle.fw_page.specs.State.{State, Step, Held, Nothing, Asks, Runs, becomes, then_do, next}
+use Rattle.fw_page.specs.State.{State, Step, Held, Nothing, Asks, Runs, becomes, then_do}
+use Rattle.fw_content.specs.Counts.{next}
 use Rattle.fw_page.specs.Rows.{before}
 use Rattle.fw_page.specs.Requests.{asked, alone, exchange, answer}
 use Rattle.fw_page.specs.Streams.{cycles, start_joins, packet_joins, held_run}

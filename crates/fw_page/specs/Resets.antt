@@ -1,36 +1,18 @@
 -- A bus reset: what it ends, its section, and its row (own).
-use Rattle.std.specs.Prelude.{ℕ, zero, suc, ◌+◌, ◌-◌, ◌==◌, not, Bool, true, false, List, [], ◌∷◌, ◌++◌, codes, decimal, Option, Some, None, if◌then◌else◌}
+use Rattle.std.specs.Prelude.{ℕ, ◌+◌, ◌==◌, not, Bool, true, false, List, [], ◌∷◌, ◌++◌, codes, None, if◌then◌else◌}
 use Rattle.fw_entry.specs.declared.entry.ResetEntry.{ResetEntry}
 use Rattle.fw_entry.specs.declared.entry.Entry.TheVariants.{Reset}
-use Rattle.fw_entry.specs.declared.nodes.NodeRow.{NodeRow}
-use Rattle.fw_account.specs.Account.{Account, Flow}
-use Rattle.fw_requests.specs.declared.asked.Asked.{Asked}
-use Rattle.fw_marks.specs.Places.{place_of_id}
-use Rattle.fw_marks.specs.Shapes.{mark}
-use Rattle.fw_marks.specs.Small.{plural}
-use Rattle.fw_phrases.specs.Asking.{subject}
-use Rattle.fw_phrases.specs.Asks.{who}
 use Rattle.fw_phrases.specs.declared.standing.Standing.{Standing}
 use Rattle.fw_scene.specs.Lives.{after_reset}
-use Rattle.fw_strip.specs.Owners.{owner, flow_on}
-use Rattle.fw_strip.specs.declared.owner.Class.TheVariants.{Orphaned}
-use Rattle.fw_strip.specs.declared.owner.Owner.{Owner}
-use Rattle.fw_strip.specs.declared.owner.Owner.TheVariants.{Plug}
 use Rattle.fw_section.specs.Sections.{section}
-use Rattle.fw_page.specs.State.{State, Step, says, becomes, then_do, with_entry, next}
-use Rattle.fw_page.specs.Rows.{row, classes_of, gap, lines_now}
-use Rattle.fw_page.specs.Requests.{request_front}
+use Rattle.fw_page.specs.State.{State, Step, says, becomes, then_do, with_entry}
+use Rattle.fw_content.specs.Counts.{next}
+use Rattle.fw_page.specs.Rows.{row, gap, lines_now}
+use Rattle.fw_content.specs.Heads.{classes_of, request_front}
+use Rattle.fw_content.specs.Exchanges.{dropped_marks, dropped_words}
+use Rattle.fw_content.specs.Kept.{orphans, account_text}
 
 -- ---- what is dropped
-
--- the mark of a request that a bus reset drops, and its words
-abbrev pub dropped_marks : List NodeRow → Asked → List ℕ
-dropped_marks rows q = mark (codes "l n") (place_of_id rows q.source - 4) (codes " 8l8 8m0-8l-8 8")
-
-unfoldable pub dropped_words : Standing → List ℕ
-dropped_words s =
-    who s.request.asked.source (codes "&rarr;") s.request.asked.destination s.request.asked.label ++ (codes "<a href=\"#e" ++ decimal s.number) ++ (codes "\">request " ++ decimal s.number)
-    ++ codes "</a> " ++ subject s.request ++ codes " <b class=\"n\">dropped by the bus reset</b>"
 
 -- its row
 abbrev pub drop_row : ℕ → Standing → State → Step
@@ -49,58 +31,6 @@ drops cycle (s ∷ list) st = then_do (drop_by cycle s (record st { standing = l
 abbrev pub closed : ℕ → State → Step
 closed cycle st =
     if st.begun then then_do (then_do (gap cycle st) (λ s. drops cycle s.standing s)) (says (codes "</ol>\n</section>\n")) else becomes st
-
--- ---- what the row says
-
--- a channel that is orphaned
-abbrev pub orphan : ℕ → Owner → List ℕ
-orphan channel (Plug Orphaned p) = codes " " ++ decimal channel
-orphan channel _ = []
-
-unfoldable pub orphans_below : Account → ℕ → List ℕ
-orphans_below l zero = []
-orphans_below l (suc n) = orphans_below l n ++ orphan n (owner l n)
-
-abbrev pub orphans_in : Account → List ℕ
-orphans_in l = orphans_below l 64
-
-abbrev pub orphans : Option Account → List ℕ
-orphans None = []
-orphans (Some l) = orphans_in l
-
--- a flow that is kept, and the flows on the channels below n, with a comma between
-unfoldable pub flow_words : ℕ → Flow → List ℕ
-flow_words channel f =
-    (codes "channel " ++ decimal channel) ++ (codes " (device " ++ decimal f.plug.device) ++ (codes " plug " ++ decimal f.plug.plug) ++ codes ", " ++ plural f.units (codes "unit") ++ codes ")"
-
--- a flow after others, with a comma unless it is the first
-abbrev pub flow_after : List ℕ → ℕ → Option Flow → List ℕ
-flow_after list channel None = list
-flow_after [] channel (Some f) = flow_words channel f
-flow_after (c ∷ cs) channel (Some f) = (c ∷ cs) ++ codes ", " ++ flow_words channel f
-
--- the flows on the channels below n
-unfoldable pub flows_below : Account → ℕ → List ℕ
-flows_below l zero = []
-flows_below l (suc n) = flow_after (flows_below l n) n (flow_on l n)
-
-abbrev pub flows : Account → List ℕ
-flows l = flows_below l 64
-
--- what is kept, or that nothing is
-abbrev pub kept_text : ℕ → Bool → List ℕ → List ℕ
-kept_text cycle is_first [] =
-    if is_first then [] else codes " <small>Nothing talked, so nothing is kept until the second is over, at cycle " ++ decimal (cycle + 8000) ++ codes ".</small>"
-kept_text cycle is_first (c ∷ cs) = codes " Kept for its holder until the second is over, at cycle " ++ decimal (cycle + 8000) ++ codes ": " ++ (c ∷ cs) ++ codes "."
-
--- what is no longer orphaned
-abbrev pub orphans_text : List ℕ → List ℕ
-orphans_text [] = []
-orphans_text (c ∷ cs) = codes " No longer orphaned: channel" ++ (c ∷ cs) ++ codes "."
-
-abbrev pub account_text : ℕ → Bool → List ℕ → Option Account → List ℕ
-account_text cycle is_first orphaned None = []
-account_text cycle is_first orphaned (Some l) = kept_text cycle is_first (flows l) ++ orphans_text orphaned
 
 -- ---- the bus reset
 

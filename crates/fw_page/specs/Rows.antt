@@ -1,8 +1,6 @@
 -- Rows: each is whole by itself, and draws the whole state (own).
-use Rattle.std.specs.Prelude.{ℕ, ◌+◌, ◌-◌, ◌*◌, ◌==◌, nat_lt, not, Bool, true, false, List, [], ◌∷◌, ◌++◌, codes, decimal, Option, Some, None, if◌then◌else◌}
+use Rattle.std.specs.Prelude.{ℕ, ◌+◌, ◌-◌, nat_lt, not, Bool, true, false, List, [], ◌++◌, codes, decimal, Option, Some, None, if◌then◌else◌}
 use Rattle.std.specs.Option.{is_some}
-use Rattle.fw_entry.specs.declared.nodes.NodeRow.{NodeRow}
-use Rattle.fw_marks.specs.Places.{device_of}
 use Rattle.fw_marks.specs.Shapes.{halves}
 use Rattle.fw_marks.specs.Small.{millis}
 use Rattle.fw_phrases.specs.Notes.{stop_text}
@@ -11,8 +9,8 @@ use Rattle.fw_strip.specs.Lanes.{lanes}
 use Rattle.fw_strip.specs.Labels.{labels, taken, dot_text}
 use Rattle.fw_scene.specs.Lines.{lines}
 use Rattle.fw_strip.specs.Owners.{owners}
-use Rattle.fw_page.specs.declared.rows.RowHead.{RowHead}
-use Rattle.fw_page.specs.State.{State, Step, says, becomes, then_do}
+use Rattle.fw_page.specs.State.{State, Step, becomes, then_do}
+use Rattle.fw_content.specs.Heads.{edge_text, Front, head_text}
 
 -- ---- the state as a row draws it
 
@@ -22,11 +20,7 @@ lines_now st = lines st.lives st.followed.account st.nodes st.standing
 abbrev pub lanes_now : State → List ℕ
 lanes_now st = lanes st.followed.account
 
--- the class of the reclaim second, and the end of a list of classes
-abbrev pub edge_text : Bool → List ℕ
-edge_text edge = if edge then codes " w\">" else codes "\">"
-
--- the end of a row's words, and the begin of its strip
+-- the end of a row's words, and the beginning of its strip
 abbrev pub strip_front : Bool → List ℕ
 strip_front blank = if blank then codes "</p><svg class=\"s na\" aria-hidden=\"true\">" else codes "</p><svg class=\"s\" aria-hidden=\"true\">"
 
@@ -71,44 +65,6 @@ abbrev pub due : State → Step
 due st = if st.is_due then record { text = plain (codes " id=\"stop\"") (codes "nt") (due_words st.followed.stop) st; state = record st { is_due = false } } else becomes st
 
 -- ---- rows
-
--- what a row begins with: whether links lead to it, its classes, its entry's number and its cycle
-pub record Front : Type 0 where
-  pub is_anchor : Bool
-  pub classes : List ℕ
-  pub number : ℕ
-  pub cycle : ℕ
-
--- the class of a device, if there is one
-abbrev pub device_class : Option ℕ → List ℕ
-device_class None = []
-device_class (Some device) = codes " d" ++ decimal device
-
--- the classes of a row: its own, one more, and those of its devices
-abbrev pub classes_of : List ℕ → List ℕ → Option ℕ × Option ℕ → List ℕ
-classes_of class more devices = class ++ more ++ (device_class devices.0 ++ device_class devices.1)
-
--- what the code has of it
-abbrev pub front_of : RowHead → Front
-front_of h = record { is_anchor = h.is_anchor; classes = classes_of h.class.now h.more.now h.devices; number = h.number; cycle = h.cycle }
-
--- that of an entry of its own
-abbrev pub own_front : ℕ → List ℕ → Option ℕ × Option ℕ → ℕ → Front
-own_front number class devices cycle = record { is_anchor = true; classes = classes_of class [] devices; number = number; cycle = cycle }
-
--- the devices of two nodes, the second only if it is another one
-abbrev pub devices_of : List NodeRow → ℕ → ℕ → Option ℕ × Option ℕ
-devices_of rows one other = (device_of rows one, if one == other then None else device_of rows other)
-
--- the name to which links lead, if they do
-abbrev pub anchor_text : Bool → ℕ → List ℕ
-anchor_text is_anchor number = if is_anchor then (codes " id=\"e" ++ decimal number) ++ codes "\"" else []
-
--- the beginning of a row, up to what it draws
-unfoldable pub head_text : Front → Bool → List ℕ
-head_text front edge =
-    codes "<li" ++ anchor_text front.is_anchor front.number ++ codes " class=\"" ++ front.classes ++ edge_text edge ++ (codes "<i>" ++ decimal front.number)
-    ++ (codes "</i><b>" ++ decimal front.cycle) ++ codes "</b><svg class=\"f\" aria-hidden=\"true\">"
 
 -- the strip of a row, and its end
 abbrev pub strip_text : Option ℕ → State → List ℕ

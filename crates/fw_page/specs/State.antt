@@ -1,5 +1,5 @@
 -- What the entries of a log leave for the pieces of those after them, and how a piece is put together (own).
-use Rattle.std.specs.Prelude.{ℕ, ◌+◌, ◌-◌, ◌^◌, min, Bool, true, false, List, [], ◌++◌, replicate, Option, Some, None, if◌then◌else◌}
+use Rattle.std.specs.Prelude.{ℕ, ◌+◌, Bool, true, false, List, [], ◌++◌, Option, Some, None, if◌then◌else◌}
 use Rattle.std.specs.Option.{is_some}
 use Rattle.fw_async.specs.declared.packet.Packet.{Packet}
 use Rattle.fw_entry.specs.declared.entry.Entry.{Entry}
@@ -13,7 +13,8 @@ use Rattle.fw_strip.specs.declared.owner.Owner.{Owner}
 use Rattle.fw_scene.specs.Followed.{Followed, none_followed, follow}
 use Rattle.fw_scene.specs.Lives.{all_live}
 use Rattle.fw_strip.specs.Owners.{nobodies}
-use Rattle.fw_page.specs.declared.counts.Counts.{Counts}
+use Rattle.fw_content.specs.declared.counts.Counts.{Counts}
+use Rattle.fw_content.specs.Counts.{next, no_counts}
 
 -- what is held back: a request, whose answer may be the next entry, with its cycle, its number and its packet; or a run of cycles
 pub data Held : Type 0 where
@@ -43,17 +44,6 @@ pub record State : Type 0 where
   pub held : Held
   pub drawn : Drawn
   pub counts : Counts
-
--- one more; a count stays at the greatest number of 64 bits
-abbrev pub next : ℕ → ℕ
-next n = min (n + 1) (2 ^ 64 - 1)
-
-abbrev pub next_if : ℕ → Bool → ℕ
-next_if n counts = if counts then next n else n
-
--- nothing is counted, as nothing is drawn
-abbrev pub no_counts : Counts
-no_counts = record { resets = 0; answered = 0; between = 0; reads = 0; made = 0; not_made = 0; refused = 0; events = replicate 12 0; outcomes = replicate 13 0 }
 
 abbrev pub first_state : State
 first_state = record {

@@ -10,8 +10,8 @@ ghost use Rattle.fw_strip.specs.Drawing.{LedgerFor};
 ghost use Rattle.fw_page.specs.Streams.{starter, starts_marks, flow_marks};
 
 use crate::ears::put_ears;
-use crate::rows::RowHead;
 use crate::sheet::Sheet;
+use fw_content::RowHead;
 use fw_ledger::Ledger;
 use fw_marks::{Columns, put_line, put_mark, put_path};
 use fw_phrases::{Flow, Run, put_cycles, put_flow};
@@ -92,14 +92,8 @@ impl Sheet {
         let run: &Run = &self.progress.run;
         put_starts_marks(&mut self.marks, &self.progress.columns, run)?;
         put_cycles(&mut self.words, &self.room.pairs, run)?;
-        let head = RowHead {
-            is_anchor: true,
-            class: "st",
-            more: "",
-            devices: (starter(&self.progress.columns, run), None),
-            number: run.number,
-            cycle: run.first,
-        };
+        let devices = (starter(&self.progress.columns, run), None);
+        let head = RowHead::own("st", devices, run.number, run.first);
         self.put_row(head, None)
     }
 
@@ -120,14 +114,8 @@ impl Sheet {
         )?;
         put_flow(&mut self.words, &self.room.pairs, channel, flow)?;
         let run: &Run = &self.progress.run;
-        let head = RowHead {
-            is_anchor: false,
-            class: "st",
-            more: "",
-            devices: (sender(&self.progress.columns, flow), None),
-            number: run.number,
-            cycle: run.last,
-        };
+        let devices = (sender(&self.progress.columns, flow), None);
+        let head = RowHead::further("st", devices, run.number, run.last);
         self.put_row(head, Some(channel))
     }
 

@@ -1,16 +1,18 @@
 //! The end of a page: what is still held back, why the log ends, and what it amounts to.
 
-ghost use Rattle.std.specs.Prelude.{◌≡◌, ◌++◌, OnOk, Option};
-ghost use Rattle.fw_page.specs.Ends.{section_end_text, entries_word, entries_text, answers_text};
+ghost use Rattle.std.specs.Prelude.{◌≡◌, ◌++◌, OnOk};
+ghost use Rattle.fw_scene.specs.Beside.{IsBeside};
+ghost use Rattle.fw_scene.specs.Followed.{Followed};
+ghost use Rattle.fw_content.specs.Sums.{account_text};
+ghost use Rattle.fw_page.specs.Ends.{section_end_text};
 
-use crate::counts::Counts;
 use crate::progress::Progress;
 use crate::sheet::Sheet;
-use crate::sums::{put_account, put_kinds};
 use crate::tail::TAIL;
-use fw_marks::{put_part, put_plural, put_seconds};
+use fw_content::{put_answers, put_entries, put_followed, put_kinds, put_stopped};
 use fw_names::put_word;
 use fw_phrases::{Break, put_break};
+use fw_scene::Account;
 use std::alloc::AllocError;
 
 // Appends the end of the section that is open, if one is.
@@ -20,46 +22,17 @@ fn put_section_end(text: &mut Vec<u8>, begun: bool) -> Result<(), AllocError>
     put_word(text, if begun { "</ol>\n</section>\n" } else { "" })
 }
 
-// What so many entries are called, to the end of their number.
-fn entries_word(number: u64) -> &'static str
-    ensures { result.now ≡ entries_word number }
+// Appends what the account is at the end, or where it has stopped, with room for a list.
+fn put_account(text: &mut Vec<u8>, list: &mut Vec<u8>, account: &Account) -> Result<(), AllocError>
+    ensures { (f : Followed) → IsBeside account.now f → OnOk result (text.new.items ≡ text.old.items ++ account_text f.account f.stop) }
 {
-    if number == 1 {
-        " entry</b>, "
-    } else {
-        " entries</b>, "
+    if let Some(stop) = account.stop() {
+        return put_stopped(text, stop);
     }
-}
-
-// Appends how many entries and bus resets there were, and when the last row was.
-#[tactic(auto, unfolding(crate::specs::Ends::entries_text))]
-fn put_entries(text: &mut Vec<u8>, number: u64, resets: u64, last: u64) -> Result<(), AllocError>
-    ensures { OnOk result (text.new.items ≡ text.old.items ++ entries_text number resets last) }
-{
-    put_part(text, "<p><b>", number)?;
-    put_word(text, entries_word(number))?;
-    put_plural(text, resets, "bus reset")?;
-    put_part(text, ", the last at cycle ", last)?;
-    put_word(text, ", ")?;
-    put_seconds(text, last)?;
-    put_word(text, ".</p>\n")
-}
-
-// Appends how many requests were answered, and how.
-#[tactic(auto, unfolding(crate::specs::Ends::answers_text))]
-fn put_answers(text: &mut Vec<u8>, counts: &Counts) -> Result<(), AllocError>
-    ensures { OnOk result (text.new.items ≡ text.old.items ++ answers_text counts.now) }
-{
-    put_word(text, "<p>")?;
-    put_plural(text, counts.answered, "request")?;
-    put_part(text, " answered, ", counts.between)?;
-    put_word(text, " of them with others between: ")?;
-    put_plural(text, counts.reads, "read")?;
-    put_word(text, ", ")?;
-    put_plural(text, counts.made, "swap")?;
-    put_part(text, " made and ", counts.not_made)?;
-    put_part(text, " not, ", counts.refused)?;
-    put_word(text, " refused.</p>\n")
+    match account.ledger() {
+        Some(ledger) => put_followed(text, list, ledger),
+        None => Ok(()),
+    }
 }
 
 impl Progress {

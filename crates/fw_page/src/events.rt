@@ -1,38 +1,15 @@
 //! Events, outcomes and shown words as rows.
 
-ghost use Rattle.std.specs.Prelude.{◌≡◌, ◌++◌, OnOk};
-ghost use Rattle.fw_marks.specs.Places.{place_of_device};
-ghost use Rattle.fw_page.specs.Events.{symbol_marks};
-
-use crate::leaving::{put_dropped, put_left, put_not_taken};
 use crate::progress::Progress;
-use crate::sayings::{
-    event_device, event_symbol, outcome_symbol, put_event_front, put_outcome_words, put_shown_words,
-};
 use crate::sheet::Sheet;
+use fw_content::{
+    FIRST_NODE, event_device, event_symbol, outcome_symbol, put_dropped, put_event_front, put_left,
+    put_not_taken, put_outcome_words, put_shown_words, put_symbol,
+};
 use fw_entry::codes::event;
 use fw_entry::{EventEntry, OutcomeEntry, ShownEntry, Timed};
-use fw_marks::{Columns, put_use};
 use fw_names::put_word;
 use std::alloc::AllocError;
-
-/// The node_ID of node 0 of the local bus; the others stand after it.
-const FIRST_NODE: u16 = 0xffc0;
-
-// Appends a symbol at a device, if it is one.
-fn put_symbol(
-    marks: &mut Vec<u8>,
-    columns: &Columns,
-    symbol: &str,
-    device: u8,
-) -> Result<(), AllocError>
-    ensures { OnOk result (marks.new.items ≡ marks.old.items ++ symbol_marks symbol.now (place_of_device columns.now device)) }
-{
-    if symbol.is_empty() {
-        return Ok(());
-    }
-    put_use(marks, symbol, columns.x_device(device), 12)
-}
 
 impl Progress {
     ghost use Rattle.std.specs.Prelude.{◌≡◌, ◌++◌, OnOk};

@@ -2,23 +2,18 @@
 #![tactic(auto)]
 
 mod answers;
-mod counts;
 mod cycles;
 mod ears;
 mod end;
 mod events;
 mod exchanges;
 mod head;
-mod kept;
-mod leaving;
 mod packets;
 mod plain;
 mod progress;
 mod reset;
 mod rows;
-mod sayings;
 mod sheet;
-mod sums;
 mod tail;
 
 pub use fw_phrases::Break;

@@ -1,9 +1,10 @@
 //! Rows that draw what the last one left: the cycles that pass, and notes; and the section before the first bus reset.
 
 ghost use Rattle.std.specs.Prelude.{◌≡◌, ◌++◌, OnOk};
-ghost use Rattle.fw_page.specs.Rows.{edge_text, strip_front, gap_class};
+ghost use Rattle.fw_page.specs.Rows.{strip_front, gap_class};
 
 use crate::progress::Progress;
+use fw_content::put_edge;
 use fw_marks::put_millis;
 use fw_names::{Pairs, put_number, put_word};
 use fw_phrases::put_stop;
@@ -23,14 +24,7 @@ fn gap_class(cycles: u64) -> &'static str
     }
 }
 
-/// Appends the class of the reclaim second, if a row stands in one, and the end of a list of classes.
-pub(crate) fn put_edge(text: &mut Vec<u8>, edge: bool) -> Result<(), AllocError>
-    ensures { OnOk result (text.new.items ≡ text.old.items ++ edge_text edge) }
-{
-    put_word(text, if edge { r#" w">"# } else { r#"">"# })
-}
-
-/// Appends the begin of a strip.
+/// Appends the beginning of a strip, after the end of the words of its row.
 pub(crate) fn put_strip_front(text: &mut Vec<u8>, blank: bool) -> Result<(), AllocError>
     ensures { OnOk result (text.new.items ≡ text.old.items ++ strip_front blank) }
 {

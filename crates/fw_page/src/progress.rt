@@ -1,8 +1,7 @@
 //! What the entries that were taken leave for the next ones.
 
-use crate::counts::Counts;
-use crate::rows::RowHead;
 use fw_async::{Packet, read_packet};
+use fw_content::{Counts, RowHead};
 use fw_entry::Entry;
 use fw_explain::head_of;
 use fw_marks::Columns;
@@ -68,9 +67,10 @@ impl Progress {
     ghost use Rattle.fw_phrases.specs.Standing.{standing_for};
     ghost use Rattle.fw_scene.specs.Followed.{is_moving};
     ghost use Rattle.fw_page.specs.State.{State, first_state, with_entry};
-    ghost use Rattle.fw_page.specs.Rows.{devices_of, front_of, own_front};
+    ghost use Rattle.fw_content.specs.Heads.{devices_of, front_of, own_front, request_front};
     ghost use Rattle.std.specs.Option.{option_copied, option_map};
-    ghost use Rattle.fw_page.specs.Requests.{request_front, ended, counted, request_of};
+    ghost use Rattle.fw_page.specs.Requests.{ended, counted};
+    ghost use Rattle.fw_content.specs.Exchanges.{request_of};
     ghost use Rattle.fw_page.specs.Sheets.{Shows};
 
     /// That of no entries.
@@ -164,14 +164,7 @@ impl Progress {
     ) -> RowHead
         ensures { front_of result ≡ own_front self.now.number class.now devices cycle }
     {
-        RowHead {
-            is_anchor: true,
-            class,
-            more: "",
-            devices,
-            number: self.number,
-            cycle,
-        }
+        RowHead::own(class, devices, self.number, cycle)
     }
 
     /// Takes a response: ends the request that it answers, and answers it, if one that stands is it. Nothing is held back then.

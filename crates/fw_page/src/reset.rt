@@ -1,53 +1,15 @@
 //! A bus reset: what it ends, its section, and the row after it.
 
-ghost use Rattle.std.specs.Prelude.{◌≡◌, ◌++◌, OnOk};
-ghost use Rattle.fw_page.specs.Resets.{dropped_words, dropped_marks};
-
-use crate::kept::{put_account, put_orphans};
 use crate::progress::Progress;
-use crate::rows::RowHead;
 use crate::sheet::Sheet;
+use fw_content::{RowHead, put_account, put_dropped_marks, put_dropped_words, put_orphans};
 use fw_entry::{ResetEntry, Timed};
-use fw_marks::{Columns, put_mark, put_part};
-use fw_names::{Pairs, put_word};
-use fw_phrases::{Standing, put_who};
-use fw_requests::Asked;
+use fw_marks::Columns;
+use fw_names::put_word;
+use fw_phrases::Standing;
 use fw_section::{Section, put_section};
 use std::alloc::AllocError;
 use std::mem;
-
-// Appends the mark of a request that a bus reset drops.
-fn put_dropped_marks(
-    marks: &mut Vec<u8>,
-    columns: &Columns,
-    asked: &Asked,
-) -> Result<(), AllocError>
-    ensures { OnOk result (marks.new.items ≡ marks.old.items ++ dropped_marks columns.now asked.now) }
-{
-    let at = columns.x_of(asked.source) - 4;
-    put_mark(marks, "l n", at, " 8l8 8m0-8l-8 8")
-}
-
-// Appends its words.
-#[tactic(auto, unfolding(crate::specs::Resets::dropped_words))]
-fn put_dropped_words(words: &mut Vec<u8>, pairs: &Pairs, s: &Standing) -> Result<(), AllocError>
-    ensures { OnOk result (words.new.items ≡ words.old.items ++ dropped_words s.now) }
-{
-    let asked = &s.request.asked;
-    put_who(
-        words,
-        pairs,
-        asked.source,
-        "&rarr;",
-        asked.destination,
-        asked.label,
-    )?;
-    put_part(words, r##"<a href="#e"##, s.number)?;
-    put_part(words, r#"">request "#, s.number)?;
-    put_word(words, "</a> ")?;
-    s.request.put_subject(words, pairs)?;
-    put_word(words, r#" <b class="n">dropped by the bus reset</b>"#)
-}
 
 impl Progress {
     ghost use Rattle.std.specs.Prelude.{◌≡◌};
@@ -176,14 +138,7 @@ impl Sheet {
             is_first,
             orphaned,
         )?;
-        let head = RowHead {
-            is_anchor: false,
-            class: "rs",
-            more: "",
-            devices: (None, None),
-            number: self.progress.number,
-            cycle,
-        };
+        let head = RowHead::further("rs", (None, None), self.progress.number, cycle);
         self.put_row(head, None)
     }
 

@@ -1,31 +1,20 @@
 //! Rows: each is whole by itself, and draws the whole state.
 
-ghost use Rattle.std.specs.Prelude.{◌≡◌, ◌++◌, OnOk, Option};
+ghost use Rattle.std.specs.Prelude.{◌≡◌, OnOk, Option};
 ghost use Rattle.std.specs.Option.{option_copied};
 ghost use Rattle.fw_account.specs.Account.{Account};
 ghost use Rattle.fw_strip.specs.Drawing.{LedgerFor};
 ghost use Rattle.fw_scene.specs.Lines.{nodes_text};
 ghost use Rattle.fw_page.specs.Sheets.{StayNodes};
-ghost use Rattle.fw_page.specs.Rows.{device_class, classes_of, anchor_text, head_text, front_of};
 
-use crate::plain::{put_edge, put_strip_front};
+use crate::plain::put_strip_front;
 use crate::progress::Progress;
-use fw_marks::{put_halves, put_part};
+use fw_content::{RowHead, put_head};
+use fw_marks::put_halves;
 use fw_names::{Pairs, put_word};
 use fw_scene::Scene;
 use std::alloc::{AllocError, Global};
 use std::mem;
-
-/// What a row begins with: whether links lead to it, its class and one more, the devices that it is of, the number of its entry and its cycle.
-#[derive(Clone, Copy)]
-pub(crate) struct RowHead {
-    pub(crate) is_anchor: bool,
-    pub(crate) class: &'static str,
-    pub(crate) more: &'static str,
-    pub(crate) devices: (Option<u8>, Option<u8>),
-    pub(crate) number: u64,
-    pub(crate) cycle: u64,
-}
 
 /// Room for what a row is made of, and what its parts are written with.
 #[derive(Drop)]
@@ -44,59 +33,6 @@ impl Room {
             lines: Vec::new(alloc),
         }
     }
-}
-
-// Appends the class of a device, if there is one.
-fn put_device_class(text: &mut Vec<u8>, device: Option<u8>) -> Result<(), AllocError>
-    ensures { OnOk result (text.new.items ≡ text.old.items ++ device_class device) }
-{
-    match device {
-        Some(device) => put_part(text, " d", u64::from(device)),
-        None => Ok(()),
-    }
-}
-
-// Appends the classes of the devices of a row.
-fn put_devices(text: &mut Vec<u8>, devices: (Option<u8>, Option<u8>)) -> Result<(), AllocError>
-    ensures { OnOk result (text.new.items ≡ text.old.items ++ (device_class devices.0 ++ device_class devices.1)) }
-{
-    put_device_class(text, devices.0)?;
-    put_device_class(text, devices.1)
-}
-
-// Appends the classes of a row.
-fn put_classes(text: &mut Vec<u8>, head: RowHead) -> Result<(), AllocError>
-    ensures { OnOk result (text.new.items ≡ text.old.items ++ classes_of head.class.now head.more.now head.devices) }
-{
-    put_word(text, head.class)?;
-    put_word(text, head.more)?;
-    put_devices(text, head.devices)
-}
-
-// Appends the name to which links lead, if they do.
-fn put_anchor(text: &mut Vec<u8>, is_anchor: bool, number: u64) -> Result<(), AllocError>
-    ensures { OnOk result (text.new.items ≡ text.old.items ++ anchor_text is_anchor number) }
-{
-    if !is_anchor {
-        return Ok(());
-    }
-    put_part(text, r#" id="e"#, number)?;
-    put_word(text, r#"""#)
-}
-
-// Appends the beginning of a row, up to what it draws.
-#[tactic(auto, unfolding(crate::specs::Rows::head_text))]
-fn put_head(text: &mut Vec<u8>, head: RowHead, edge: bool) -> Result<(), AllocError>
-    ensures { OnOk result (text.new.items ≡ text.old.items ++ head_text (front_of head) edge) }
-{
-    put_word(text, "<li")?;
-    put_anchor(text, head.is_anchor, head.number)?;
-    put_word(text, r#" class=""#)?;
-    put_classes(text, head)?;
-    put_edge(text, edge)?;
-    put_part(text, "<i>", head.number)?;
-    put_part(text, "</i><b>", head.cycle)?;
-    put_word(text, r#"</b><svg class="f" aria-hidden="true">"#)
 }
 
 // Draws what is drawn of the nodes anew, if anything has moved since the last row.
@@ -122,7 +58,8 @@ impl Progress {
     ghost use Rattle.fw_scene.specs.Beside.{IsBeside};
     ghost use Rattle.fw_scene.specs.Followed.{Followed};
     ghost use Rattle.fw_page.specs.State.{State};
-    ghost use Rattle.fw_page.specs.Rows.{front_of, strip_text, bare_row, drawn_now, row, lines_now};
+    ghost use Rattle.fw_page.specs.Rows.{strip_text, bare_row, drawn_now, row, lines_now};
+    ghost use Rattle.fw_content.specs.Heads.{front_of};
     ghost use Rattle.fw_page.specs.Sheets.{Shows, Moves, Draws, IsDrawnNow};
 
     /// Draws the lines of the state as it is, for the next row.

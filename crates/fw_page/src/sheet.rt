@@ -1,9 +1,9 @@
 //! A page, entry by entry.
 
-use crate::counts::next;
 use crate::progress::{Held, Progress};
-use crate::rows::{Room, RowHead};
+use crate::rows::Room;
 use fw_cip::IsoPacket;
+use fw_content::{RowHead, next};
 use fw_entry::{Entry, Timed};
 use fw_phrases::Run;
 use std::alloc::{AllocError, Global};
@@ -28,7 +28,8 @@ impl Sheet {
     ghost use Rattle.fw_entry.specs.Log.{Fits, body};
     ghost use Rattle.fw_phrases.specs.Runs.{with_start, with_packet};
     ghost use Rattle.fw_page.specs.State.{State, first_state};
-    ghost use Rattle.fw_page.specs.Rows.{row, front_of};
+    ghost use Rattle.fw_page.specs.Rows.{row};
+    ghost use Rattle.fw_content.specs.Heads.{front_of};
     ghost use Rattle.fw_page.specs.Pieces.{piece, release, released_in_section, begun_run, joined, streamed, piece_of};
     ghost use Rattle.fw_page.specs.Streams.{start_joins, packet_joins};
     ghost use Rattle.fw_page.specs.Sheets.{Shows, Does};

@@ -42,7 +42,8 @@ use Rattle.fw_entry.specs.declared.entry.Timed.{Timed}
 use Rattle.fw_phrases.specs.Asking.{request_by}
 use Rattle.fw_phrases.specs.Made.{is_answer}
 use Rattle.fw_phrases.specs.declared.request.Request.{Request}
-use Rattle.fw_page.specs.State.{State, Held, Nothing, Asks, Runs, first_state, next}
+use Rattle.fw_page.specs.State.{State, Held, Nothing, Asks, Runs, first_state}
+use Rattle.fw_content.specs.Counts.{next}
 use Rattle.fw_page.specs.Streams.{start_joins, packet_joins}
 use Rattle.fw_page.specs.Pieces.{piece, piece_of}
 use Rattle.fw_page_laws.proofs.Numbers.{run_number, packet_home, home, homes_from}

@@ -33,7 +33,7 @@ fits_of_node r fits = go r.ids (length r.nodes) fits.some fits.ids
     go (Config a b c d ∷ ids) n some e = clash e
     go (LinkOn a ∷ ids) n some e = clash e
 
--- what a packet says after the begin of its item
+-- what a packet says after the beginning of its item
 front_next : (k : ℕ) → item_front (suc k) ≡ codes "</li><li>"
 front_next k = rw (ne_eqb (suc k) 0 (λ e. omega arith)) refl
 

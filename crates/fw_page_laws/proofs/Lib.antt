@@ -1,4 +1,10 @@
 pub mod BaseDevices
+pub mod ContentExchanges
+pub mod ContentHeads
+pub mod ContentKept
+pub mod ContentLeaving
+pub mod ContentSayings
+pub mod ContentSums
 pub mod CountLaws
 pub mod EventLaws
 pub mod ExplainLines
@@ -17,10 +23,7 @@ pub mod NamesNames
 pub mod NamesTexts
 pub mod Numbers
 pub mod PacketLaws
-pub mod PageEnds
 pub mod PageEvents
-pub mod PageRequests
-pub mod PageResets
 pub mod PageRows
 pub mod PageStreams
 pub mod PhrasesAnswers

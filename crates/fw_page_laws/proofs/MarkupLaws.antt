@@ -38,7 +38,7 @@ use Rattle.fw_page_laws.proofs.StepLaws.{
 use Rattle.fw_page_laws.proofs.PacketLaws.{held_numbers, release_numbers, nothing_held, release-acts}
 use Rattle.fw_page_laws.proofs.PieceLaws.{piece_of-told}
 use Rattle.fw_page_laws.proofs.PageRows.{plain-outside}
-use Rattle.fw_page_laws.proofs.PageEnds.{entries_text-outside, answers_text-outside, kinds_text-outside, account_text-outside}
+use Rattle.fw_page_laws.proofs.ContentSums.{entries_text-outside, answers_text-outside, kinds_text-outside, account_text-outside}
 use Rattle.fw_page_laws.proofs.PhrasesNotes.{break_text-outside}
 
 -- ---- lists of entries

@@ -15,24 +15,10 @@ use Rattle.fw_phrases.specs.declared.run.Flow.{Flow}
 use Rattle.fw_phrases.specs.declared.run.Run.{Run}
 use Rattle.fw_phrases.specs.declared.standing.Standing.{Standing}
 use Rattle.fw_page.specs.State.{State, Step, Held, Nothing, Asks, Runs, becomes, then_do}
-use Rattle.fw_page.specs.Rows.{classes_of, devices_of, own_front, before, row}
-use Rattle.fw_page.specs.Requests.{
-  asked,
-  request_front,
-  alone,
-  alone_marks,
-  alone_words,
-  exchange,
-  exchange_marks,
-  exchange_words,
-  answer_kind,
-  request_of,
-  answered,
-  answer_marks,
-  answer_words,
-  answer_to,
-  answer,
-}
+use Rattle.fw_page.specs.Rows.{before, row}
+use Rattle.fw_content.specs.Heads.{classes_of, devices_of, own_front, request_front}
+use Rattle.fw_page.specs.Requests.{asked, alone, exchange, answered, answer_to, answer}
+use Rattle.fw_content.specs.Exchanges.{alone_marks, alone_words, exchange_marks, exchange_words, answer_kind, request_of, answer_marks, answer_words}
 use Rattle.fw_page.specs.Streams.{starter, starts_marks, starts, flow_marks, channel_row, channel_rows, cycles, held_run, taken}
 use Rattle.fw_page.specs.Pieces.{released, release, released_in_section, run_begun, begun_run, streamed, asked_or_answer}
 use Rattle.fw_page_laws.specs.Markup.{InValue}
@@ -59,8 +45,8 @@ use Rattle.fw_page_laws.proofs.StepLaws.{
   before-clean,
   row-acts,
 }
-use Rattle.fw_page_laws.proofs.PageRows.{classes_of-value}
-use Rattle.fw_page_laws.proofs.PageRequests.{alone_marks-outside, alone_words-outside, exchange_marks-outside, exchange_words-outside, answer_marks-outside, answer_words-outside}
+use Rattle.fw_page_laws.proofs.ContentHeads.{classes_of-value}
+use Rattle.fw_page_laws.proofs.ContentExchanges.{alone_marks-outside, alone_words-outside, exchange_marks-outside, exchange_words-outside, answer_marks-outside, answer_words-outside}
 use Rattle.fw_page_laws.proofs.PageStreams.{starts_marks-outside, flow_marks-outside}
 use Rattle.fw_page_laws.proofs.PhrasesAsking.{class_of-value}
 use Rattle.fw_page_laws.proofs.PhrasesCycles.{cycles_text-outside, flow_text-outside}

@@ -1,7 +1,8 @@
 -- The texts of fw_page, Rows: each keeps a page whole.
 use Rattle.fw_marks.specs.Small.{millis}
-use Rattle.fw_page.specs.Rows.{before_text, classes_of, device_class, due_words, edge_text, gap_class, gap_text, lanes_now, lines_now, plain, plain_back, strip_front, strip_text}
+use Rattle.fw_page.specs.Rows.{before_text, due_words, gap_class, gap_text, lanes_now, lines_now, plain, plain_back, strip_front, strip_text}
 use Rattle.fw_page.specs.State.{State}
+use Rattle.fw_page_laws.proofs.ContentHeads.{edge_text-value}
 use Rattle.fw_page_laws.proofs.MarksShapes.{halves-outside}
 use Rattle.fw_page_laws.proofs.MarksSmall.{millis-outside}
 use Rattle.fw_page_laws.proofs.PhrasesNotes.{stop_text-outside}
@@ -29,13 +30,6 @@ before_text-outside outer = more-goes (more-goes (lit-goes (Outside outer) (code
     (codes "section" ∷ outer)) (codes "<div class=\"h\"><h2>Before the first bus reset</h2></div>\n") (Outside (codes "section" ∷ outer)) refl refl)) (lit-goes (Outside (codes "section" ∷ outer))
     (codes "<ol class=\"r\">\n") (Outside (codes "ol" ∷ codes "section" ∷ outer)) refl refl)
 
-pub device_class-value : (a0 : Option ℕ) → (outer : List (List ℕ)) → Goes (InValue outer) (device_class a0) (InValue outer)
-device_class-value None outer = none-goes (InValue outer)
-device_class-value (Some device) outer = more-goes (lit-goes (InValue outer) (codes " d") (InValue outer) refl refl) (number-goes (InValue outer) tt device)
-
-pub classes_of-value : (a0 : List ℕ) (a1 : List ℕ) (a2 : Option ℕ × Option ℕ) → IsValued a0 → IsValued a1 → (outer : List (List ℕ)) → Goes (InValue outer) (classes_of a0 a1 a2) (InValue outer)
-classes_of-value class more devices h0v h1v outer = more-goes (more-goes (h0v outer) (h1v outer)) (more-goes (device_class-value devices.0 outer) (device_class-value devices.1 outer))
-
 pub strip_front-in-p : (a0 : Bool) → (outer : List (List ℕ)) → Goes (Outside (codes "p" ∷ outer)) (strip_front a0) (Outside (codes "svg" ∷ outer))
 strip_front-in-p blank outer = if-goes blank (lit-goes (Outside (codes "p" ∷ outer)) (codes "</p><svg class=\"s na\" aria-hidden=\"true\">") (Outside (codes "svg" ∷ outer)) refl refl) (lit-goes
     (Outside (codes "p" ∷ outer)) (codes "</p><svg class=\"s\" aria-hidden=\"true\">") (Outside (codes "svg" ∷ outer)) refl refl)
@@ -43,9 +37,6 @@ strip_front-in-p blank outer = if-goes blank (lit-goes (Outside (codes "p" ∷ o
 pub plain_back-in-p-li : (a0 : State) → IsWhole a0.drawn.lanes → (outer : List (List ℕ)) → Goes (Outside (codes "p" ∷ codes "li" ∷ outer)) (plain_back a0) (Outside outer)
 plain_back-in-p-li st h0lanes outer = more-goes (more-goes (strip_front-in-p st.drawn.blank (codes "li" ∷ outer)) (h0lanes (codes "svg" ∷ codes "li" ∷ outer))) (lit-goes (Outside (codes "svg" ∷
     codes "li" ∷ outer)) (codes "</svg></li>\n") (Outside outer) refl refl)
-
-pub edge_text-value : (a0 : Bool) → (outer : List (List ℕ)) → Goes (InValue outer) (edge_text a0) (Outside outer)
-edge_text-value edge outer = if-goes edge (lit-goes (InValue outer) (codes " w\">") (Outside outer) refl refl) (lit-goes (InValue outer) (codes "\">") (Outside outer) refl refl)
 
 pub plain-outside : (class words : List ℕ) (st : State) → IsValued class → IsWhole words → IsWhole st.drawn.lanes → IsWhole st.drawn.lines → (outer : List (List ℕ)) → Goes (Outside outer) (plain
     [] class words st) (Outside outer)

@@ -10,9 +10,11 @@ use Rattle.fw_section.specs.Subject.{Subject}
 use Rattle.fw_phrases.specs.Asking.{kind_of, class_of}
 use Rattle.fw_phrases.specs.declared.standing.Standing.{Standing}
 use Rattle.fw_page.specs.State.{State, Step, says, becomes, then_do}
-use Rattle.fw_page.specs.Rows.{classes_of, devices_of, gap}
-use Rattle.fw_page.specs.Requests.{request_front}
-use Rattle.fw_page.specs.Resets.{dropped_marks, dropped_words, drop_row, drop_by, drops, closed, account_text, orphans, reset_state, section_step, reset_row, reset}
+use Rattle.fw_page.specs.Rows.{gap}
+use Rattle.fw_content.specs.Heads.{classes_of, devices_of, request_front}
+use Rattle.fw_page.specs.Resets.{drop_row, drop_by, drops, closed, reset_state, section_step, reset_row, reset}
+use Rattle.fw_content.specs.Exchanges.{dropped_marks, dropped_words}
+use Rattle.fw_content.specs.Kept.{account_text, orphans}
 use Rattle.fw_page_laws.specs.Markup.{Outside, InValue, told_as}
 use Rattle.fw_page_laws.proofs.Modes.{Goes, IsWhole, lit-goes, more-goes, none-goes}
 use Rattle.fw_page_laws.proofs.StepLaws.{
@@ -40,8 +42,10 @@ use Rattle.fw_page_laws.proofs.StepLaws.{
 use Rattle.fw_page_laws.proofs.Items.{IsOfNode, fits_of_node}
 use Rattle.fw_page_laws.proofs.Tells.{section-tells}
 use Rattle.fw_page_laws.proofs.EventLaws.{own_number}
-use Rattle.fw_page_laws.proofs.PageRows.{classes_of-value, lines_now-outside}
-use Rattle.fw_page_laws.proofs.PageResets.{dropped_marks-outside, dropped_words-outside, account_text-outside, orphans-outside}
+use Rattle.fw_page_laws.proofs.ContentHeads.{classes_of-value}
+use Rattle.fw_page_laws.proofs.PageRows.{lines_now-outside}
+use Rattle.fw_page_laws.proofs.ContentExchanges.{dropped_marks-outside, dropped_words-outside}
+use Rattle.fw_page_laws.proofs.ContentKept.{account_text-outside, orphans-outside}
 use Rattle.fw_page_laws.proofs.PhrasesAsking.{class_of-value}
 
 -- ---- what is dropped
@@ -128,7 +132,7 @@ open-keeps cycle e st fits h = record {
   held_is = refl;
 }
 
--- from the end of one section to the begin of the next
+-- from the end of one section to the beginning of the next
 abbrev turned : ℕ → ResetEntry → State → Step
 turned cycle e st = then_do (closed cycle st) (section_step cycle e)
 

@@ -4,13 +4,14 @@ use Rattle.std.specs.List.{filter}
 use Rattle.std.proofs.lemmas.List.{map-append}
 use Rattle.std.proofs.lemmas.List.Elements.{filter-append}
 use Rattle.fw_page.specs.State.{State, Step, Held, becomes, then_do}
-use Rattle.fw_page.specs.Rows.{Front, plain, gap, bare_row, row, before, before_text, due, due_words}
+use Rattle.fw_page.specs.Rows.{plain, gap, bare_row, row, before, before_text, due, due_words}
+use Rattle.fw_content.specs.Heads.{Front}
 use Rattle.fw_page_laws.specs.Markup.{Mode, Outside, mode_of, names_of, told_as, told_names}
 use Rattle.fw_page_laws.proofs.Modes.{Goes, IsWhole, IsValued, mode_more, names_more, none-goes}
 use Rattle.fw_page_laws.proofs.Tells.{Tells, anchor_names, row-tells, stop-tells}
 use Rattle.fw_page_laws.proofs.PageRows.{gap_text-outside, before_text-outside, due_words-outside, lines_now-outside, lanes_now-outside}
 
--- the elements of a page that are open between rows: those of a section, where one is begun
+-- the elements of a page that are open between rows: those of a section, if one is begun
 abbrev pub open_elements : Bool → List (List ℕ)
 open_elements begun = if begun then codes "ol" ∷ codes "section" ∷ codes "main" ∷ [] else codes "main" ∷ []
 
@@ -120,7 +121,7 @@ gap-clean cycle = λ st h.
     text-keeps (between st.begun) (gap cycle st) (between st.begun) st.number st.held (gap_text-outside (cycle - st.last) st h.lanes h.lines (open_elements st.begun))
     (record { lines = h.lines; lanes = h.lanes }) refl refl
 
--- the begin of a section, where none is open
+-- the beginning of a section, if none is open
 abbrev begun_by : Bool → State → Step
 begun_by begun st = if begun then becomes st else record { text = before_text; state = record st { begun = true } }
 

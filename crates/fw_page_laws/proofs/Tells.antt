@@ -7,13 +7,15 @@ use Rattle.fw_map.specs.declared.tree.Tree.{Tree}
 use Rattle.fw_section.specs.Sections.{heading, section_over}
 use Rattle.fw_section.specs.Subject.{Subject}
 use Rattle.fw_page.specs.State.{State}
-use Rattle.fw_page.specs.Rows.{Front, anchor_text, head_text, lines_now, row_text, plain}
+use Rattle.fw_page.specs.Rows.{lines_now, row_text, plain}
+use Rattle.fw_content.specs.Heads.{Front, anchor_text, head_text}
 use Rattle.fw_page_laws.specs.Markup.{Mode, Outside, InElement, InTag, InValue, InName, mode_behind, mode_of, name_at, names_of, told_as}
 use Rattle.fw_page_laws.proofs.Modes.{Goes, IsWhole, IsValued, IsPlain, mode_more, names_more, lit-goes, more-goes, number-goes, glyph_plain}
 use Rattle.fw_page_laws.proofs.Items.{IsOfNode, items_text-in-div}
 use Rattle.fw_page_laws.proofs.MarksShapes.{halves-outside}
 use Rattle.fw_page_laws.proofs.MarksSmall.{seconds-outside}
-use Rattle.fw_page_laws.proofs.PageRows.{edge_text-value, lines_now-outside, strip_text-in-p-li, plain_back-in-p-li}
+use Rattle.fw_page_laws.proofs.ContentHeads.{edge_text-value}
+use Rattle.fw_page_laws.proofs.PageRows.{lines_now-outside, strip_text-in-p-li, plain_back-in-p-li}
 use Rattle.fw_page_laws.proofs.SectionPictures.{picture-outside}
 use Rattle.fw_page_laws.proofs.SectionSays.{says-outside}
 use Rattle.fw_page_laws.proofs.SectionSections.{section_front-outside}

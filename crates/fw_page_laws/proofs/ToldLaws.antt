@@ -2,7 +2,8 @@
 use Rattle.std.proofs.Common.{◌≡◌, ℕ, ◌+◌, ◌^◌, ◌<◌, List, [], ◌∷◌, ◌++◌, length, ap, subst, sym, ◌∙◌, append_assoc, arith}
 use Rattle.std.proofs.lemmas.List.{append-nil}
 use Rattle.fw_entry.specs.declared.entry.Timed.{Timed}
-use Rattle.fw_page.specs.State.{State, Held, first_state, next}
+use Rattle.fw_page.specs.State.{State, Held, first_state}
+use Rattle.fw_content.specs.Counts.{next}
 use Rattle.fw_page.specs.Pieces.{piece_of, piece}
 use Rattle.fw_page.specs.Page.{state_from, state_of, pieces_from}
 use Rattle.fw_page.specs.Ends.{closed, sum_text}

@@ -4,6 +4,7 @@
 //! with a reserved bit set is no packet.
 #![tactic(auto)]
 
+mod copies;
 mod first_bits;
 mod packet;
 mod read;

@@ -8,7 +8,7 @@ use std::marker::Model;
 /// At most 252 PHY packets, in order: room for the self-ID packets of 63 nodes.
 #[derive(Drop)]
 pub struct SelfIds {
-    packets: ArrayVec<PhyPacket, 252>,
+    pub(crate) packets: ArrayVec<PhyPacket, 252>,
 }
 
 impl Model for SelfIds {

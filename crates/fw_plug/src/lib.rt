@@ -4,6 +4,7 @@
 
 mod bandwidth;
 mod connection;
+mod copies;
 mod laws;
 mod plug;
 mod plugs;

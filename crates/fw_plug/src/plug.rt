@@ -8,7 +8,7 @@ use crate::word::is_connected;
 use fw_csr::{RegisterRequest, Reply, Word};
 
 /// A plug with its control register (IEC 61883-1, 7).
-#[derive(Clone, Copy)]
+#[derive(Clone, Copy, PartialEq, Eq)]
 pub struct Plug {
     pub word: Word,
     /// It goes on talking, or hearing, since a bus reset.

@@ -15,9 +15,9 @@ use std::marker::Model;
 /// The plugs of a device: at most 31 output plugs and at most 31 input plugs, with their registers (IEC 61883-1, 7).
 #[derive(Drop)]
 pub struct Plugs {
-    rate: u8,
-    outputs: Row,
-    inputs: Row,
+    pub(crate) rate: u8,
+    pub(crate) outputs: Row,
+    pub(crate) inputs: Row,
 }
 
 impl Model for Plugs {

@@ -13,7 +13,7 @@ use std::marker::Model;
 /// At most 31 plugs.
 #[derive(Drop)]
 pub struct Row {
-    plugs: ArrayVec<Plug, 31>,
+    pub(crate) plugs: ArrayVec<Plug, 31>,
 }
 
 impl Model for Row {

@@ -7,20 +7,6 @@ ghost use Rattle.fw_reading.specs.Pieces.{FeedsOn};
 use crate::Reading;
 use fw_log::{LogFault, LogFed, LogReader, Room};
 
-// As `feed` of a reader, out of the loop over the entries.
-#[inline(never)]
-fn feed_apart<'a>(
-    reader: &mut LogReader,
-    piece: &'a [u8],
-    room: &'a mut Room,
-) -> Result<LogFed<'a>, LogFault>
-    requires fresh { reader.old.fault ≡ None }
-    requires room { total reader.old + length piece.now < 2 ^ 64 }
-    ensures { FeedsOn reader.old piece.now result reader.new }
-{
-    reader.feed(piece, room)
-}
-
 /// As `feed` of a reader, where it serves a word best.
 #[inline(always)]
 pub(crate) fn feed<'a, O: Reading>(
@@ -35,6 +21,6 @@ pub(crate) fn feed<'a, O: Reading>(
     if O::reads_most() {
         reader.feed(piece, room)
     } else {
-        feed_apart(reader, piece, room)
+        reader.feed_apart(piece, room)
     }
 }

@@ -15,7 +15,7 @@ mod step;
 pub use checking::check;
 pub use ending::{Refusal, Refused, RunEnding};
 pub use laws::{runs_go_on_line_by_line, scripts_have_one_log};
-pub use recording::dub;
+pub use recording::{dub, record_run};
 pub use script::run;
 pub use seed::{in_memory, run_seed};
 pub use step::carry_next;

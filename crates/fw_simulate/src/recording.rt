@@ -18,8 +18,8 @@ use fw_script::ScriptReader;
 use fw_tape::Desk;
 use std::alloc::Global;
 
-// Reads a script and carries out its commands on a new bus. Its log is kept nowhere.
-fn record_run<S: Source, F: Fn(u16, u32, u16) -> [u8; 480], H: Fn(u32, u8) -> u8>(
+/// Reads a script and carries out its commands on a new bus, which then stands where the script leaves it. Its log is kept nowhere.
+pub fn record_run<S: Source, F: Fn(u16, u32, u16) -> [u8; 480], H: Fn(u32, u8) -> u8>(
     alloc: Global,
     source: &mut S,
     bus: &mut Bus,

@@ -8,7 +8,7 @@ use crate::{TapeSystem, Transport};
 
 /// A tape that is in, and its motion: where it stood when the transport entered its state, and how many cycles it has
 /// moved since then.
-#[derive(Clone, Copy)]
+#[derive(Clone, Copy, PartialEq, Eq)]
 pub struct Cassette {
     /// The tape's number.
     pub tape: u16,

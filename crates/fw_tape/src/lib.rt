@@ -4,6 +4,7 @@
 
 mod cassette;
 mod command;
+mod copies;
 mod desk;
 mod laws;
 mod row;

@@ -2,7 +2,7 @@ ghost use Rattle.std.specs.Prelude.{◌≡◌, ◌≤◌, ◌*◌, ◌/◌, ◌^
 ghost use Rattle.fw_tape.specs.Systems.{blocks_due, blocks_per_frame, frames_per_second, frames_per_day};
 
 /// The television system of a tape (IEC 61883-2).
-#[derive(Clone, Copy)]
+#[derive(Clone, Copy, PartialEq, Eq)]
 pub enum TapeSystem {
     /// 525 lines, 30 frames a second.
     Lines525,

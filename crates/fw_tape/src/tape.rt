@@ -13,7 +13,7 @@ use std::marker::Model;
 /// stopped.
 #[derive(Drop)]
 pub struct Tape {
-    cassette: Option<Cassette>,
+    pub(crate) cassette: Option<Cassette>,
 }
 
 impl Model for Tape {

@@ -2,7 +2,7 @@ ghost use Rattle.std.specs.Prelude.{◌≡◌};
 ghost use Rattle.fw_tape.specs.Transports.{codes_of, direction_of};
 
 /// What the transport of a tape subunit does: each state has the opcode and operand of the command that enters it.
-#[derive(Clone, Copy)]
+#[derive(Clone, Copy, PartialEq, Eq)]
 pub enum Transport {
     /// C4 60, with or without a tape.
     Stop,
@@ -25,7 +25,7 @@ pub enum Transport {
 }
 
 /// Where a moving tape goes.
-#[derive(Clone, Copy)]
+#[derive(Clone, Copy, PartialEq, Eq)]
 pub enum Direction {
     Forward,
     Backward,

@@ -3,7 +3,7 @@ use Rattle.std.proofs.Common.{◌≡◌, ◌≢◌, ◌⊎◌, inl, inr, ℕ, Li
 use Rattle.fw_outside.specs.Outside.{Rose}
 use Rattle.fw_tool.specs.declared.ending.Ending.{Ending}
 use Rattle.fw_outside.specs.declared.stop.Stop.TheVariants.{ReadFault, WriteFault, TooLong, NoMemory}
-use Rattle.fw_tool.specs.declared.ending.Ending.TheVariants.{Done, Usage, Refused, NoLog, Stopped, Unsound, NoMap}
+use Rattle.fw_tool.specs.declared.ending.Ending.TheVariants.{Done, Usage, Refused, NoLog, Stopped, Unsound, NoMap, Unexplored}
 use Rattle.fw_tool.specs.About.{IsSaid}
 use Rattle.fw_tool.specs.Faults.{FirstFault, IsFirstFaults}
 use Rattle.fw_tool.specs.Notes.{IsTold, IsPassedOn, note_of, status_of}
@@ -40,6 +40,7 @@ module _ {N : Type 0} (held : N → Option (List ℕ)) (faults : N → ℕ) (old
   first_by_status (NoLog l) f t = no_fault (note_of (NoLog l)) 4 (λ x. cc x) (λ x. cc x) f t
   first_by_status (Unsound u) f t = no_fault (note_of (Unsound u)) 9 (λ x. cc x) (λ x. cc x) f t
   first_by_status (NoMap m) f t = no_fault (note_of (NoMap m)) 10 (λ x. cc x) (λ x. cc x) f t
+  first_by_status (Unexplored u) f t = no_fault (note_of (Unexplored u)) 11 (λ x. cc x) (λ x. cc x) f t
   first_by_status (Stopped TooLong) f t = no_fault (note_of (Stopped TooLong)) 7 (λ x. cc x) (λ x. cc x) f t
   first_by_status (Stopped NoMemory) f t = no_fault (note_of (Stopped NoMemory)) 8 (λ x. cc x) (λ x. cc x) f t
   first_by_status (Stopped ReadFault) f (inl a) = record {
@@ -83,6 +84,8 @@ module _ {N : Type 0} (held : N → Option (List ℕ)) (faults : N → ℕ) (old
   its_own (Unsound u) (inr a) none = absurd (none a.2)
   its_own (NoMap m) (inl a) none = a.0
   its_own (NoMap m) (inr a) none = absurd (none a.2)
+  its_own (Unexplored u) (inl a) none = a.0
+  its_own (Unexplored u) (inr a) none = absurd (none a.2)
   its_own (Stopped ReadFault) (inl a) none = a.0
   its_own (Stopped ReadFault) (inr a) none = absurd (none a.2)
   its_own (Stopped WriteFault) (inl a) none = a.0

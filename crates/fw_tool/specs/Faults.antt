@@ -4,7 +4,7 @@ use Rattle.fw_outside.specs.Outside.{Rose}
 use Rattle.fw_outside.specs.Stops.{ReadCount, WriteCount}
 use Rattle.fw_outside.specs.declared.stop.Stop.{Stop}
 use Rattle.fw_tool.specs.declared.ending.Ending.{Ending}
-use Rattle.fw_tool.specs.declared.ending.Ending.TheVariants.{Done, Usage, Refused, NoLog, Stopped, Unsound, NoMap}
+use Rattle.fw_tool.specs.declared.ending.Ending.TheVariants.{Done, Usage, Refused, NoLog, Stopped, Unsound, NoMap, Unexplored}
 
 -- why a call stopped, if it did
 abbrev pub stop_of : Ending → Option Stop
@@ -15,6 +15,7 @@ stop_of (NoLog fault) = None
 stop_of (Stopped stop) = Some stop
 stop_of (Unsound unsound) = None
 stop_of (NoMap no_map) = None
+stop_of (Unexplored why) = None
 
 -- By the ending, the counts of source and sink before and after: with a read fault the source's rose alone, with a write
 -- fault the sink's alone, and with any other neither.

@@ -1,3 +1,4 @@
+pub mod Explorations
 pub mod Faults
 pub mod Notes
 pub mod Scripts

@@ -7,7 +7,11 @@ use Rattle.fw_outside.specs.declared.stop.Stop.TheVariants.{ReadFault, WriteFaul
 use Rattle.fw_log.specs.declared.LogWhy.{LogWhy}
 use Rattle.fw_log.specs.declared.LogWhy.TheVariants.{AfterEnd, BadHeader, BadKind, BadLength, TimeBack, BadBody, Cut, NoEnd as NoLogEnd, BadEpoch}
 use Rattle.fw_tool.specs.declared.ending.Ending.{Ending}
-use Rattle.fw_tool.specs.declared.ending.Ending.TheVariants.{Done, Usage, Refused, NoLog, Stopped, Unsound, NoMap}
+use Rattle.fw_tool.specs.declared.ending.Ending.TheVariants.{Done, Usage, Refused, NoLog, Stopped, Unsound, NoMap, Unexplored}
+use Rattle.fw_tool.specs.declared.ending.Unexplored.{Unexplored as Reason}
+use Rattle.fw_tool.specs.declared.ending.Unexplored.TheVariants.{Word, TooLarge}
+use Rattle.fw_movers.specs.declared.fault.WordWhy.{WordWhy}
+use Rattle.fw_movers.specs.declared.fault.WordWhy.TheVariants as Words
 use Rattle.fw_faults.specs.declared.fault.AuditFault.{AuditFault}
 use Rattle.fw_faults.specs.declared.fault.AuditFault.TheVariants.{NoNode, Overlap, Orphan, NotAllowed, WrongWord, NoMove, NoEvent}
 use Rattle.fw_map.specs.declared.MapWhy.{MapWhy}
@@ -43,6 +47,7 @@ status_of (NoLog _) = 4
 status_of (Stopped stop) = stop_status stop
 status_of (Unsound _) = 9
 status_of (NoMap _) = 10
+status_of (Unexplored _) = 11
 
 -- the note of the rule that a command breaks
 abbrev pub rule_of : RuleFault → List ℕ
@@ -118,6 +123,21 @@ abbrev pub map_note : Unmapped → List ℕ
 map_note NoReset = codes "no reset" ++ 10 ∷ []
 map_note (NoTree fault) = codes "node " ++ decimal fault.node ++ tree_why_of fault.why
 
+-- the note of why a word after `explore` is refused
+abbrev pub word_why_of : WordWhy → List ℕ
+word_why_of Words.BadNumber = codes ": BadNumber" ++ 10 ∷ []
+word_why_of Words.LineTooLong = codes ": LineTooLong" ++ 10 ∷ []
+word_why_of Words.BadLine = codes ": BadLine" ++ 10 ∷ []
+word_why_of Words.NotHere = codes ": NotHere" ++ 10 ∷ []
+word_why_of Words.TooMany = codes ": TooMany" ++ 10 ∷ []
+word_why_of Words.Twice = codes ": Twice" ++ 10 ∷ []
+word_why_of Words.UnknownName = codes ": UnknownName" ++ 10 ∷ []
+
+-- the note of why nothing was explored
+abbrev pub unexplored_note : Reason → List ℕ
+unexplored_note (Word fault) = codes "word " ++ decimal fault.word ++ word_why_of fault.why
+unexplored_note TooLarge = codes "too large" ++ 10 ∷ []
+
 -- the note of an ending, for the standard error
 abbrev pub note_of : Ending → List ℕ
 note_of Done = []
@@ -127,6 +147,7 @@ note_of (NoLog fault) = codes "byte " ++ decimal fault.place ++ why_of fault.why
 note_of (Stopped stop) = stop_note stop
 note_of (Unsound u) = codes "entry " ++ decimal u.entry ++ fault_of u.fault ++ values_of u.fault ++ 10 ∷ []
 note_of (NoMap no_map) = map_note no_map
+note_of (Unexplored why) = unexplored_note why
 
 -- A note was written and the status is the one that was given, or the note could not be written and the status is 6.
 abbrev pub IsPassedOn : {N : Type 0} → (N → Option (List ℕ)) → (N → ℕ) → N → N → List ℕ → ℕ → ℕ → Type 0

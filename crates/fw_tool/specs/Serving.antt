@@ -18,12 +18,13 @@ use Rattle.fw_simulate.specs.declared.ending.RunEnding.{RunEnding}
 use Rattle.fw_tool.specs.declared.scripts.ScriptWord.{ScriptWord}
 use Rattle.fw_tool.specs.About.{about_text, IsSaid}
 use Rattle.fw_tool.specs.Closing.{IsClosed}
+use Rattle.fw_tool.specs.Explorations.{ExploresAs}
 use Rattle.fw_tool.specs.Faults.{IsFirstFaults, IsToldByStatus}
 use Rattle.fw_tool.specs.Logs.{by_log}
 use Rattle.fw_tool.specs.Notes.{IsTold}
 use Rattle.fw_tool.specs.Runs.{by_run}
 use Rattle.fw_tool.specs.Turns.{SourceTurn, SinkTurn, NotesTurn, PassesAtOnce, NoReadFailed, NoWriteFailed, NoNoteFailed}
-use Rattle.fw_tool.specs.Words.{IsWord, IsListed}
+use Rattle.fw_tool.specs.Words.{IsWord, IsListed, IsExploration}
 use Rattle.fw_tool.specs.declared.about.About.{About as AnAbout}
 use Rattle.fw_tool.specs.declared.ending.Ending.{Ending}
 use Rattle.fw_tool.specs.declared.ending.Ending.TheVariants.{Usage}
@@ -51,6 +52,10 @@ pub record Serves {S K N : Type 0} (desk : DeskRelations) (words : List (String 
   pub logs : (word : LogWord) → IsWord words (Log word) → (e : LogEnding LogRefusal) × (told : Ending)
       × Reads (form_by word) (rules_by word) (source.left source.old) (source.left source.new) (sink.held sink.old) (sink.held sink.new) e
       × IsToldAs source sink notes status (by_log e) told
+  -- `explore`: what its ending says of the words after it, of the script's run, of its interleavings and of what was written.
+  pub explorations : (more : List (List ℕ)) → IsExploration words more → (e : Ending) × (told : Ending)
+      × ExploresAs desk more (source.left source.old) (source.left source.new) (sink.held sink.old) (sink.held sink.new) e
+      × IsToldAs source sink notes status e told
   -- `help` and `version`: their text was written whole, or a front of it where the sink failed. The source stays as it was.
   pub about : (about : AnAbout) → IsWord words (About about) → (source.new ≡ source.old) × ((e : Ending) × (told : Ending)
       × IsSaid (sink.held sink.old) (sink.held sink.new) (about_text about) e

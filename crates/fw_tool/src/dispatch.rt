@@ -1,6 +1,6 @@
 //! What the words say, done.
 
-ghost use Rattle.std.specs.Prelude.{◌≡◌, ◌≢◌, ◌≤◌, List, ℕ, length, Some};
+ghost use Rattle.std.specs.Prelude.{◌≡◌, ◌≢◌, ◌≤◌, ◌∷◌, List, ℕ, length, Some};
 ghost use Rattle.fw_entry.specs.declared.entry.Timed.{Timed};
 ghost use Rattle.fw_log.specs.History.{IsLog};
 ghost use Rattle.fw_reading.specs.Endings.{limit, Reads};
@@ -15,11 +15,12 @@ ghost use Rattle.fw_simulate.specs.declared.ending.RunEnding.{RunEnding};
 ghost use Rattle.fw_tape.specs.Desks.{AnyBlock, AnyVendorByte};
 ghost use Rattle.fw_tool.specs.About.{about_text, IsSaid};
 ghost use Rattle.fw_tool.specs.Completing.{IsDoneOrUnmet};
+ghost use Rattle.fw_tool.specs.Explorations.{ExploresAs};
 ghost use Rattle.fw_tool.specs.Faults.{FirstFault};
 ghost use Rattle.fw_tool.specs.Logs.{by_log};
 ghost use Rattle.fw_tool.specs.Runs.{by_run};
 ghost use Rattle.fw_tool.specs.Scripts.{RunsAs};
-ghost use Rattle.fw_tool.specs.Words.{IsWord, IsListed};
+ghost use Rattle.fw_tool.specs.Words.{IsWord, IsListed, IsExploration};
 ghost use Rattle.fw_tool.specs.declared.about.About.{About as AnAbout};
 ghost use Rattle.fw_tool.specs.declared.ending.Ending.{Ending as AnEnding};
 ghost use Rattle.fw_tool.specs.declared.scripts.ScriptWord.{ScriptWord};
@@ -27,6 +28,7 @@ ghost use Rattle.fw_tool.specs.declared.words.Word.{Word as AWord};
 
 use crate::about::say;
 use crate::ending::Ending;
+use crate::explorations::explore_as;
 use crate::forms::word_of;
 use crate::logs::ending_of_log;
 use crate::scripts::{ending_of_run, run_as};
@@ -52,6 +54,8 @@ pub(crate) fn carry_out<
         × Sums (record { blocks = F.post desk.now.blocks; vendor = H.post desk.now.vendor }) seed (K.held sink.old) (K.held sink.new) e) }
     ensures logs { (word : LogWord) → IsWord words.now (AWord.Log word) → (e : LogEnding LogRefusal) × (result ≡ by_log e)
         × Reads (form_by word) (rules_by word) (S.left source.old) (S.left source.new) (K.held sink.old) (K.held sink.new) e }
+    ensures explorations { (more : List (List ℕ)) → IsExploration words.now more
+        → ExploresAs (record { blocks = F.post desk.now.blocks; vendor = H.post desk.now.vendor }) more (S.left source.old) (S.left source.new) (K.held sink.old) (K.held sink.new) result }
     ensures about { (about : AnAbout) → IsWord words.now (AWord.About about) → (source.new ≡ source.old)
         × IsSaid (K.held sink.old) (K.held sink.new) (about_text about) result }
     ensures usage { (IsListed words.now → ⊥) → (source.new ≡ source.old) × (sink.new ≡ sink.old) × (result ≡ AnEnding.Usage) }
@@ -70,6 +74,7 @@ pub(crate) fn carry_out<
         Word::Script(word) => ending_of_run(run_as(alloc, word, source, sink, desk)),
         Word::Gen(seed) => ending_of_run(run_seed(alloc, seed, sink, desk)),
         Word::Log(word) => ending_of_log(read_as(alloc, word, source, sink)),
+        Word::Explore => explore_as(alloc, words, source, sink, desk),
         Word::About(about) => say(about, sink),
     }
 }

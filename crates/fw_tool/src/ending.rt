@@ -1,6 +1,7 @@
 use crate::Refused;
 use fw_decode::{NoMap, Unsound};
 use fw_log::LogFault;
+use fw_movers::WordFault;
 use fw_outside::Stop;
 
 /// How a call ends. It is the table of statuses: each ending has its status and its note, which is one line on the notes.
@@ -25,4 +26,16 @@ pub enum Ending {
     /// 10, `no reset`, or `node N: NAME`: the log has no bus reset, or no tree has the self-ID packets of its last one, and node N is
     /// the first that shows it. Nothing was written.
     NoMap(NoMap),
+    /// 11, `word N: NAME`, or `too large`: a word after `explore` is refused, or there is too much to explore. Nothing was written.
+    Unexplored(Unexplored),
+}
+
+/// Why nothing was explored.
+#[derive(Clone, Copy)]
+pub enum Unexplored {
+    /// Word N after `explore`, counted from 1, is the first that is refused: by its form, or since it names a device that the script does
+    /// not declare.
+    Word(WordFault),
+    /// There are more places than fit.
+    TooLarge,
 }

@@ -1,7 +1,7 @@
 //! The forms of the words of the command line.
 
-ghost use Rattle.std.specs.Prelude.{◌≡◌, ◌↔◌, ◌<◌, ◌^◌, ◌∷◌, [], ℕ, Some, codes, decimal};
-ghost use Rattle.fw_tool.specs.Words.{Names, IsWord, Spells};
+ghost use Rattle.std.specs.Prelude.{◌≡◌, ◌↔◌, ◌<◌, ◌^◌, ◌∷◌, [], ℕ, List, Some, IsTrue, IsFalse, codes, decimal};
+ghost use Rattle.fw_tool.specs.Words.{Names, IsWord, IsExploration, Spells};
 ghost use Rattle.fw_tool.specs.declared.about.About.{About as AnAbout};
 ghost use Rattle.fw_tool.specs.declared.words.Word.{Word as AWord};
 
@@ -39,8 +39,9 @@ fn about_of(word: &str) -> Option<About>
     }
 }
 
-// What one word says.
+// What one word says, that does not explore.
 fn one_word(word: &str) -> Option<Word>
+    requires { word.now ≡ codes "explore" → ⊥ }
     ensures { Names (word.now ∷ []) result }
 {
     if word == "run" {
@@ -108,8 +109,9 @@ fn drawing_of(word: &str) -> Option<Word>
     }
 }
 
-// What two words say.
+// What two words say, of which the first does not explore.
 fn two_words(word: &str, more: &str) -> Option<Word>
+    requires { word.now ≡ codes "explore" → ⊥ }
     ensures { Names (word.now ∷ more.now ∷ []) result }
 {
     if word == "gen" {
@@ -123,10 +125,24 @@ fn two_words(word: &str, more: &str) -> Option<Word>
     }
 }
 
+// Whether the first word is `explore`.
+fn explores(words: &[String]) -> bool
+    ensures yes { IsTrue result → (more : List (List ℕ)) × IsExploration words.now more }
+    ensures no { IsFalse result → (more : List (List ℕ)) → IsExploration words.now more → ⊥ }
+{
+    match words {
+        [word, ..] => word.as_str() == "explore",
+        [] => false,
+    }
+}
+
 /// What the words say, where they are of one of the forms.
 pub(crate) fn word_of(words: &[String]) -> Option<Word>
     ensures { (w : AWord) → (result ≡ Some w) ↔ IsWord words.now w }
 {
+    if explores(words) {
+        return Some(Word::Explore);
+    }
     match words {
         [word] => one_word(word.as_str()),
         [word, more] => two_words(word.as_str(), more.as_str()),

@@ -4,6 +4,7 @@
 mod about;
 mod dispatch;
 mod ending;
+mod explorations;
 mod forms;
 mod laws;
 mod logs;
@@ -14,7 +15,7 @@ mod session;
 mod words;
 
 pub use about::About;
-pub use ending::Ending;
+pub use ending::{Ending, Unexplored};
 pub use fw_decode::{LogWord, NoMap, Unsound};
 pub use fw_gen::gen_script;
 pub use fw_outside::{Flush, GrowSink};

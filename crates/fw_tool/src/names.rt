@@ -1,12 +1,13 @@
 //! The names that notes have for refusals and faults.
 
 ghost use Rattle.std.specs.Prelude.{◌≡◌, ◌≤◌, length};
-ghost use Rattle.fw_tool.specs.Notes.{stop_note, fault_of, tree_why_of, rule_of, name_of, why_of};
+ghost use Rattle.fw_tool.specs.Notes.{stop_note, fault_of, tree_why_of, rule_of, name_of, why_of, word_why_of};
 
 use crate::Refusal;
 use fw_audit::AuditFault;
 use fw_log::LogWhy;
 use fw_map::MapWhy;
+use fw_movers::WordWhy;
 use fw_outside::Stop;
 use fw_run::RuleFault;
 
@@ -95,6 +96,22 @@ pub(crate) fn tree_why(why: MapWhy) -> &'static [u8]
         MapWhy::Missing => b": Missing\n",
         MapWhy::Left => b": Left\n",
         MapWhy::Root => b": Root\n",
+    }
+}
+
+/// What the note of a word after `explore` says of why it is refused.
+pub(crate) fn word_why(why: WordWhy) -> &'static [u8]
+    ensures name { result.now ≡ word_why_of why }
+    ensures short { length result.now ≤ 14 }
+{
+    match why {
+        WordWhy::BadNumber => b": BadNumber\n",
+        WordWhy::LineTooLong => b": LineTooLong\n",
+        WordWhy::BadLine => b": BadLine\n",
+        WordWhy::NotHere => b": NotHere\n",
+        WordWhy::TooMany => b": TooMany\n",
+        WordWhy::Twice => b": Twice\n",
+        WordWhy::UnknownName => b": UnknownName\n",
     }
 }
 

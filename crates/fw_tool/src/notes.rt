@@ -3,10 +3,10 @@
 ghost use Rattle.std.specs.Prelude.{◌≡◌, ◌+◌, ◌<◌, ◌≤◌, ◌++◌, length};
 ghost use Rattle.arrayvec.specs.ArrayVec.{array_vec_len};
 ghost use Rattle.fw_text.specs.Line.{quadlet_text};
-ghost use Rattle.fw_tool.specs.Notes.{status_of, stop_status, values_of, map_note, note_of, IsTold, IsPassedOn};
+ghost use Rattle.fw_tool.specs.Notes.{status_of, stop_status, values_of, map_note, unexplored_note, note_of, IsTold, IsPassedOn};
 
-use crate::ending::Ending;
-use crate::names::{fault_name, log_why, refusal, stop_note, tree_why};
+use crate::ending::{Ending, Unexplored};
+use crate::names::{fault_name, log_why, refusal, stop_note, tree_why, word_why};
 use arrayvec::ArrayVec;
 use fw_audit::AuditFault;
 use fw_decode::NoMap;
@@ -82,6 +82,21 @@ fn put_no_map(note: &mut Note, no_map: NoMap)
     }
 }
 
+/// Appends why nothing was explored.
+fn put_unexplored(note: &mut Note, why: Unexplored)
+    requires { array_vec_len note.old + 40 ≤ 64 }
+    ensures { note.new.items ≡ note.old.items ++ unexplored_note why }
+{
+    match why {
+        Unexplored::TooLarge => put(note, b"too large\n"),
+        Unexplored::Word(fault) => {
+            put(note, b"word ");
+            put(note, Buffer::new().format(fault.word).as_bytes());
+            put(note, word_why(fault.why));
+        }
+    }
+}
+
 /// The note of an ending.
 fn note(ending: Ending) -> Note
     ensures { result.items ≡ note_of ending }
@@ -109,6 +124,7 @@ fn note(ending: Ending) -> Note
             put(&mut note, b"\n");
         }
         Ending::NoMap(no_map) => put_no_map(&mut note, no_map),
+        Ending::Unexplored(why) => put_unexplored(&mut note, why),
     }
     note
 }
@@ -124,6 +140,7 @@ fn status(ending: Ending) -> u8
         Ending::Stopped(stop) => stop_status(stop),
         Ending::Unsound(_) => 9,
         Ending::NoMap(_) => 10,
+        Ending::Unexplored(_) => 11,
     }
 }
 

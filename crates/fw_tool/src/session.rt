@@ -33,6 +33,9 @@ fn closed(ending: Ending, flushed: Result<(), Failed>) -> Ending
 ///
 /// `help` and `version`, with `--help`, `-h`, `--version` and `-V`, write what the program says of itself, and read nothing.
 ///
+/// The word `explore`, with words after it, reads a script as `run` does, carries out its commands, and then all interleavings of what the words
+/// name; it writes how these end, or nothing.
+///
 /// The other words read a log of at most 268,435,456 bytes, and write what `LogWord` says of each.
 pub fn fire<S: Source, K: Flush, N: Sink, F: Fn(u16, u32, u16) -> [u8; 480], H: Fn(u32, u8) -> u8>(
     alloc: Global,

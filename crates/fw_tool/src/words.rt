@@ -13,6 +13,8 @@ pub enum Word {
     Gen(u32),
     /// A word of `LogWord`: to read a log.
     Log(LogWord),
+    /// `explore`, with any words after it: to explore how the script that is read can go on.
+    Explore,
     /// `help` or `version`, in their spellings: to say so of the program itself.
     About(About),
 }

@@ -23,9 +23,9 @@ use std::marker::Model;
 /// Devices, and the cables between their ports.
 #[derive(Drop)]
 pub struct Cabling {
-    facts: [PhyFacts; 63],
-    count: u8,
-    cables: AllCables,
+    pub(crate) facts: [PhyFacts; 63],
+    pub(crate) count: u8,
+    pub(crate) cables: AllCables,
 }
 
 impl Model for Cabling {

@@ -1,5 +1,5 @@
 /// What a device's PHY says of itself in its self-ID packets.
-#[derive(Clone, Copy)]
+#[derive(Clone, Copy, PartialEq, Eq)]
 pub struct PhyFacts {
     /// How many ports, 1 to 27.
     pub ports: u8,
@@ -12,7 +12,7 @@ pub struct PhyFacts {
 }
 
 /// A port of a device.
-#[derive(Clone, Copy)]
+#[derive(Clone, Copy, PartialEq, Eq)]
 pub struct End {
     /// The device, in order of declaration from 0.
     pub device: u8,

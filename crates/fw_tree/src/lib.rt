@@ -9,6 +9,7 @@
 use thiserror::Error;
 
 mod cabling;
+mod copies;
 mod facts;
 mod laws;
 mod numbering;

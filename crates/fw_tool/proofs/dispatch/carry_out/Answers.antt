@@ -11,9 +11,9 @@ use Rattle.fw_tool.specs.declared.about.About.{About}
 use Rattle.fw_tool.specs.declared.ending.Ending.{Ending}
 use Rattle.fw_tool.specs.Scripts.{RunsAs}
 use Rattle.fw_tool.specs.declared.scripts.ScriptWord.{ScriptWord}
-use Rattle.fw_tool.specs.declared.words.Word.TheVariants.{Script, Gen, Log, About as Say}
+use Rattle.fw_tool.specs.declared.words.Word.TheVariants.{Script, Gen, Log, Explore, About as Say}
 use Rattle.fw_tool.proofs.Completions.{run_completes, seed_completes, log_completes, first_of_run, first_of_seed, first_of_log, seed_same, done_or_unmet, done_unwritten}
-use Rattle.fw_tool.proofs.Doings.{script_not_gen, script_not_log, script_not_about, gen_not_script, gen_not_log, gen_not_about, log_not_script, log_not_gen, log_not_about, about_not_script, about_not_gen, about_not_log, one_script, one_seed, one_log, one_about}
+use Rattle.fw_tool.proofs.Doings.{script_not_gen, script_not_log, script_not_about, gen_not_script, gen_not_log, gen_not_about, log_not_script, log_not_gen, log_not_about, about_not_script, about_not_gen, about_not_log, one_script, one_seed, one_log, one_about, script_not_explore, gen_not_explore, log_not_explore, about_not_explore, explore_not_script, explore_not_gen, explore_not_log, explore_not_about}
 use Rattle.fw_tool.proofs.dispatch.carry_out.Given as given
 use Rattle.fw_tool.proofs.dispatch.carry_out.Goals as goal
 
@@ -36,6 +36,9 @@ returns-in_default-clause-complete_sums g c seed form = absurd (c.in_default.not
 
 pub returns-in_default-clause-complete_log : goal.returns-in_default-clause-complete_log
 returns-in_default-clause-complete_log g c word form = absurd (c.in_default.not-Some (Log word) ((c.word_of.ensures (Log word)).1 form))
+
+pub returns-in_default-clause-explorations : goal.returns-in_default-clause-explorations
+returns-in_default-clause-explorations g c more form = absurd (c.in_default.not-Some Explore ((c.word_of.ensures Explore).1 ((more, form), tt)))
 
 pub returns-in_default-clause-about : goal.returns-in_default-clause-about
 returns-in_default-clause-about g c about form = absurd (c.in_default.not-Some (Say about) ((c.word_of.ensures (Say about)).1 form))
@@ -68,6 +71,9 @@ returns-in-Script-clause-complete_sums g c seed form = absurd (script_not_gen c.
 
 pub returns-in-Script-clause-complete_log : goal.returns-in-Script-clause-complete_log
 returns-in-Script-clause-complete_log g c word form = absurd (script_not_log c.word_of.result c.in-Some.word c.in-Script.word word c.in-Some.is c.in-Script.is ((c.word_of.ensures (Log word)).1 form))
+
+pub returns-in-Script-clause-explorations : goal.returns-in-Script-clause-explorations
+returns-in-Script-clause-explorations g c more form = absurd (script_not_explore c.word_of.result c.in-Some.word c.in-Script.word c.in-Some.is c.in-Script.is ((c.word_of.ensures Explore).1 ((more, form), tt)))
 
 pub returns-in-Script-clause-about : goal.returns-in-Script-clause-about
 returns-in-Script-clause-about g c about form = absurd (script_not_about c.word_of.result c.in-Some.word c.in-Script.word about c.in-Some.is c.in-Script.is ((c.word_of.ensures (Say about)).1 form))
@@ -107,6 +113,9 @@ returns-in-Gen-clause-complete_sums g c seed form valid =
 pub returns-in-Gen-clause-complete_log : goal.returns-in-Gen-clause-complete_log
 returns-in-Gen-clause-complete_log g c word form = absurd (gen_not_log c.word_of.result c.in-Some.word c.in-Gen.seed word c.in-Some.is c.in-Gen.is ((c.word_of.ensures (Log word)).1 form))
 
+pub returns-in-Gen-clause-explorations : goal.returns-in-Gen-clause-explorations
+returns-in-Gen-clause-explorations g c more form = absurd (gen_not_explore c.word_of.result c.in-Some.word c.in-Gen.seed c.in-Some.is c.in-Gen.is ((c.word_of.ensures Explore).1 ((more, form), tt)))
+
 pub returns-in-Gen-clause-about : goal.returns-in-Gen-clause-about
 returns-in-Gen-clause-about g c about form = absurd (gen_not_about c.word_of.result c.in-Some.word c.in-Gen.seed about c.in-Some.is c.in-Gen.is ((c.word_of.ensures (Say about)).1 form))
 
@@ -141,6 +150,9 @@ returns-in-Log-clause-complete_log g c word form entries bytes told log short ac
     let A : LogWord → Type 0 = λ w. Accepts w entries in
     done_or_unmet c.ending_of_log.ensures (log_completes c.read_as.result (c.read_as.ensures.complete entries bytes told log short (subst A (sym same) accepted)))
 
+pub returns-in-Log-clause-explorations : goal.returns-in-Log-clause-explorations
+returns-in-Log-clause-explorations g c more form = absurd (log_not_explore c.word_of.result c.in-Some.word c.in-Log.word c.in-Some.is c.in-Log.is ((c.word_of.ensures Explore).1 ((more, form), tt)))
+
 pub returns-in-Log-clause-about : goal.returns-in-Log-clause-about
 returns-in-Log-clause-about g c about form = absurd (log_not_about c.word_of.result c.in-Some.word c.in-Log.word about c.in-Some.is c.in-Log.is ((c.word_of.ensures (Say about)).1 form))
 
@@ -154,6 +166,9 @@ returns-in-About-clause-sums g c seed form = absurd (about_not_gen c.word_of.res
 
 pub returns-in-About-clause-logs : goal.returns-in-About-clause-logs
 returns-in-About-clause-logs g c word form = absurd (about_not_log c.word_of.result c.in-Some.word c.in-About.about word c.in-Some.is c.in-About.is ((c.word_of.ensures (Log word)).1 form))
+
+pub returns-in-About-clause-explorations : goal.returns-in-About-clause-explorations
+returns-in-About-clause-explorations g c more form = absurd (about_not_explore c.word_of.result c.in-Some.word c.in-About.about c.in-Some.is c.in-About.is ((c.word_of.ensures Explore).1 ((more, form), tt)))
 
 pub returns-in-About-clause-about : goal.returns-in-About-clause-about
 returns-in-About-clause-about g c about form =
@@ -172,3 +187,26 @@ returns-in-About-clause-complete_sums g c seed form = absurd (about_not_gen c.wo
 
 pub returns-in-About-clause-complete_log : goal.returns-in-About-clause-complete_log
 returns-in-About-clause-complete_log g c word form = absurd (about_not_log c.word_of.result c.in-Some.word c.in-About.about word c.in-Some.is c.in-About.is ((c.word_of.ensures (Log word)).1 form))
+
+-- ---- explore
+
+pub returns-in-Explore-clause-scripts : goal.returns-in-Explore-clause-scripts
+returns-in-Explore-clause-scripts g c word form = absurd (explore_not_script c.word_of.result c.in-Some.word word c.in-Some.is c.in-Explore.is ((c.word_of.ensures (Script word)).1 form))
+
+pub returns-in-Explore-clause-sums : goal.returns-in-Explore-clause-sums
+returns-in-Explore-clause-sums g c seed form = absurd (explore_not_gen c.word_of.result c.in-Some.word seed c.in-Some.is c.in-Explore.is ((c.word_of.ensures (Gen seed)).1 form))
+
+pub returns-in-Explore-clause-logs : goal.returns-in-Explore-clause-logs
+returns-in-Explore-clause-logs g c word form = absurd (explore_not_log c.word_of.result c.in-Some.word word c.in-Some.is c.in-Explore.is ((c.word_of.ensures (Log word)).1 form))
+
+pub returns-in-Explore-clause-about : goal.returns-in-Explore-clause-about
+returns-in-Explore-clause-about g c about form = absurd (explore_not_about c.word_of.result c.in-Some.word about c.in-Some.is c.in-Explore.is ((c.word_of.ensures (Say about)).1 form))
+
+pub returns-in-Explore-clause-complete : goal.returns-in-Explore-clause-complete
+returns-in-Explore-clause-complete g c word form = absurd (explore_not_script c.word_of.result c.in-Some.word word c.in-Some.is c.in-Explore.is ((c.word_of.ensures (Script word)).1 form))
+
+pub returns-in-Explore-clause-complete_sums : goal.returns-in-Explore-clause-complete_sums
+returns-in-Explore-clause-complete_sums g c seed form = absurd (explore_not_gen c.word_of.result c.in-Some.word seed c.in-Some.is c.in-Explore.is ((c.word_of.ensures (Gen seed)).1 form))
+
+pub returns-in-Explore-clause-complete_log : goal.returns-in-Explore-clause-complete_log
+returns-in-Explore-clause-complete_log g c word form = absurd (explore_not_log c.word_of.result c.in-Some.word word c.in-Some.is c.in-Explore.is ((c.word_of.ensures (Log word)).1 form))

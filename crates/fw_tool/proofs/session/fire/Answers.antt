@@ -8,6 +8,7 @@ use Rattle.fw_tool.specs.declared.ending.Ending.{Ending}
 use Rattle.fw_tool.specs.declared.ending.Ending.TheVariants.{Usage}
 use Rattle.fw_tool.specs.About.{about_text, IsSaid}
 use Rattle.fw_tool.specs.Closing.{IsClosed}
+use Rattle.fw_tool.specs.Explorations.{ExploresAs}
 use Rattle.fw_tool.specs.Faults.{FirstFault}
 use Rattle.fw_tool.specs.Logs.{by_log}
 use Rattle.fw_tool.specs.Notes.{IsTold}
@@ -62,6 +63,10 @@ returns g c =
           let (e, is, reads) = did.logs word form in
           let P : Option (List ℕ) → Type 0 = λ h. Reads (form_by word) (rules_by word) left left2 held h e in
           (e, c.closed.result, subst P same reads, (closing (by_log e) is, c.tell.ensures));
+      explorations = λ more form.
+          let did_explore = did.explorations more form in
+          let P : Option (List ℕ) → Type 0 = λ h. ExploresAs D more left left2 held h c.carry_out-ending.result in
+          (c.carry_out-ending.result, c.closed.result, subst P same did_explore, (closed, c.tell.ensures));
       about = λ about form.
           let (stays, said) = did.about about form in
           let P : Option (List ℕ) → Type 0 = λ h. IsSaid held h (about_text about) c.carry_out-ending.result in

@@ -1,11 +1,9 @@
 use Rattle.std.proofs.Common.{◌-◌, ◌∙◌, codes, ap}
 use Rattle.std.proofs.lemmas.Result.{on_ok_weaker}
 use Rattle.fw_page.specs.Rows.{strip_front}
-use Rattle.fw_strip.specs.Drawing.{painted}
-use Rattle.fw_strip.specs.Lanes.{lanes}
-use Rattle.fw_section.proofs.ChainLaws.{three}
 use Rattle.fw_strip.specs.Drawing.{Painted}
-use Rattle.fw_page.proofs.PlainLaws.{put_as}
+use Rattle.fw_section.proofs.ChainLaws.{three}
+use Rattle.fw_content.proofs.TextLaws.{put_as}
 use Rattle.fw_page.proofs.progress.Progress.close_plain.Goals as goal
 
 pub returns : goal.returns

@@ -1,4 +1,3 @@
-use Rattle.std.proofs.Common.{ap, sym, subst}
 use Rattle.fw_page.proofs.progress.Progress.count_later.Goals as goal
 
 pub returns-in-Some : goal.returns-in-Some

@@ -1,6 +1,4 @@
-use Rattle.std.proofs.Common.{◌≡◌, subst, ap, sym, ◌∙◌, refl}
-use Rattle.fw_scene.specs.Beside.{IsBeside}
-use Rattle.fw_scene.specs.Followed.{follow}
+use Rattle.std.proofs.Common.{refl}
 use Rattle.fw_page.proofs.FollowedLaws.{follow_shown}
 use Rattle.fw_page.proofs.progress.Progress.follow.Goals as goal
 

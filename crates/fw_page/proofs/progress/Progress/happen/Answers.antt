@@ -1,8 +1,9 @@
-use Rattle.std.proofs.Common.{◌≡◌, true, false, refl, ap, subst, ◌∙◌, arith}
+use Rattle.std.proofs.Common.{◌≡◌, false, refl, ap, subst, ◌∙◌, arith}
 use Rattle.fw_entry.specs.declared.entry.EventEntry.{EventEntry}
-use Rattle.fw_page.specs.declared.counts.Counts.{Counts}
+use Rattle.fw_content.specs.declared.counts.Counts.{Counts}
 use Rattle.fw_page.specs.declared.progress.Progress.{Progress}
-use Rattle.fw_page.specs.Events.{counted_at, died, event_counted}
+use Rattle.fw_page.specs.Events.{died, event_counted}
+use Rattle.fw_content.specs.Counts.{counted_at}
 use Rattle.fw_page.specs.Sheets.{Shows}
 use Rattle.fw_page.specs.State.{State}
 use Rattle.fw_scene.specs.Lives.{after_start, after_loss}

@@ -1,4 +1,4 @@
-use Rattle.std.proofs.Common.{◌≡◌, ◌++◌, not, codes, ap, refl, ◌∙◌}
+use Rattle.std.proofs.Common.{◌++◌, not, codes, ap, refl}
 use Rattle.std.specs.Option.{is_some}
 use Rattle.std.proofs.lemmas.Result.{on_ok_weaker}
 use Rattle.fw_marks.specs.Shapes.{halves}
@@ -8,8 +8,8 @@ use Rattle.fw_strip.specs.Labels.{labels, dot_text}
 use Rattle.fw_strip.specs.Lanes.{lanes}
 use Rattle.fw_page.specs.Rows.{strip_front}
 use Rattle.fw_page.specs.Sheets.{painted_of}
-use Rattle.fw_page.proofs.LedgerLaws.{is_there}
-use Rattle.fw_page.proofs.PlainLaws.{put_as}
+use Rattle.fw_content.proofs.LedgerLaws.{is_there}
+use Rattle.fw_content.proofs.TextLaws.{put_as}
 use Rattle.fw_page.proofs.RowLaws.{strip_stays}
 use Rattle.fw_page.proofs.progress.Progress.put_strip.Goals as goal
 

@@ -1,5 +1,4 @@
-use Rattle.std.proofs.Common.{◌≡◌, ◌==◌, ◌&&◌, true, false, Some, None, ap, sym, ◌∙◌}
-use Rattle.fw_async.specs.Heads.{head_of}
+use Rattle.std.proofs.Common.{◌==◌, ◌&&◌, ap, sym, ◌∙◌}
 use Rattle.fw_phrases.specs.Made.{is_answer}
 use Rattle.fw_page.proofs.HeldLaws.{none_held_for, asks_answered, asks_not_answered}
 use Rattle.fw_page.proofs.sheet.Sheet.held_for.Goals as goal

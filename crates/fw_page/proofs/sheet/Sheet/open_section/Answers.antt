@@ -1,9 +1,7 @@
-use Rattle.std.proofs.Common.{◌≡◌, ◌==◌, ◌++◌, ap, refl, ◌∙◌}
+use Rattle.std.proofs.Common.{◌==◌, ◌++◌, ap, ◌∙◌}
 use Rattle.std.specs.Prelude.{List, ℕ}
-use Rattle.fw_section.specs.Sections.{section}
-use Rattle.fw_section.specs.Subject.{Subject}
 use Rattle.fw_strip.specs.Drawing.{Painted}
-use Rattle.fw_page.specs.declared.counts.Counts.{Counts}
+use Rattle.fw_content.specs.declared.counts.Counts.{Counts}
 use Rattle.fw_page.specs.Rows.{lines_now}
 use Rattle.fw_page.specs.Resets.{reset_state}
 use Rattle.fw_page.proofs.ResetLaws.{same_section, lines_left}

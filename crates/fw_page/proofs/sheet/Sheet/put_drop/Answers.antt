@@ -1,9 +1,10 @@
 use Rattle.std.proofs.Common.{◌-◌, ◌∙◌, codes, ap, false, None}
 use Rattle.std.proofs.lemmas.Result.{on_ok_weaker}
-use Rattle.fw_page.specs.Requests.{asked, request_front}
-use Rattle.fw_page.specs.Resets.{drop_row, dropped_marks}
-use Rattle.fw_page.specs.Rows.{front_of, row}
-use Rattle.fw_page.proofs.StepLaws.{moves_as, moves_after}
+use Rattle.fw_content.specs.Heads.{request_front, front_of}
+use Rattle.fw_page.specs.Resets.{drop_row}
+use Rattle.fw_content.specs.Exchanges.{dropped_marks}
+use Rattle.fw_page.specs.Rows.{row}
+use Rattle.fw_page.proofs.StepLaws.{moves_as}
 use Rattle.fw_page.proofs.RowLaws.{row_same, gathered}
 use Rattle.fw_page.proofs.sheet.Sheet.put_drop.Goals as goal
 

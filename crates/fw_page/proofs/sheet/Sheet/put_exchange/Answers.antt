@@ -1,7 +1,8 @@
 use Rattle.std.proofs.Common.{◌≡◌, ◌∙◌, true, false, [], ap, Some, None}
 use Rattle.fw_phrases.specs.Made.{told_of}
-use Rattle.fw_page.specs.Requests.{answered, ended, exchange, exchange_marks, exchange_words, request_front}
-use Rattle.fw_page.specs.Rows.{front_of}
+use Rattle.fw_page.specs.Requests.{answered, ended, exchange}
+use Rattle.fw_content.specs.Exchanges.{exchange_marks, exchange_words}
+use Rattle.fw_content.specs.Heads.{request_front, front_of}
 use Rattle.fw_page.specs.Sheets.{Shows}
 use Rattle.fw_page.specs.State.{State}
 use Rattle.fw_page.proofs.DoneLaws.{row_after}

@@ -1,8 +1,10 @@
 use Rattle.std.proofs.Common.{◌∙◌, codes, ap, refl, Some, None}
 use Rattle.fw_marks.specs.Places.{place_of_device}
-use Rattle.fw_page.specs.declared.counts.Counts.{Counts}
-use Rattle.fw_page.specs.Events.{counted_at, outcome_row, outcome_symbol, symbol_marks}
-use Rattle.fw_page.specs.Rows.{front_of, own_front}
+use Rattle.fw_content.specs.declared.counts.Counts.{Counts}
+use Rattle.fw_page.specs.Events.{outcome_row}
+use Rattle.fw_content.specs.Counts.{counted_at}
+use Rattle.fw_content.specs.Sayings.{outcome_symbol, symbol_marks}
+use Rattle.fw_content.specs.Heads.{front_of, own_front}
 use Rattle.fw_page.specs.Sheets.{Shows}
 use Rattle.fw_page.specs.State.{State}
 use Rattle.fw_page.proofs.DoneLaws.{row_after}

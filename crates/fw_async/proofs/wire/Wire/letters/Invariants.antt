@@ -1,0 +1,6 @@
+use Rattle.std.proofs.Common.{◌≡◌, length}
+use Rattle.fw_async.proofs.LetterLaws.{AreTold}
+use Rattle.fw_async.proofs.wire.Wire.letters.Given as goal
+
+abbrev pub invariant-loop-node : goal.invariant-loop-node
+invariant-loop-node l = (length l.list.items ≡ l.node) × AreTold l.self l.list.items l.node

@@ -1,0 +1,6 @@
+pub mod TextLaws
+pub mod LoopLaws
+pub mod LeftLaws
+pub mod LedgerLaws
+pub mod ListLaws
+pub mod SumLaws

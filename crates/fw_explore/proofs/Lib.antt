@@ -1,0 +1,5 @@
+pub mod ScriptLaws
+pub mod WordLaws
+pub mod UnknownLaws
+pub mod Numbers
+pub mod BehindForms

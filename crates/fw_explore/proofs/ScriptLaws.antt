@@ -1,0 +1,62 @@
+-- A script that was carried out to its end: the commands before its `end` lead to the same state.
+use Rattle.std.proofs.Common.{ℕ, ◌≡◌, List, [], ◌∷◌, ◌++◌, Option, Some, None, Ok, IsFalse, refl, sym, ap, subst, ◌∙◌}
+use Rattle.fw_entry.specs.declared.entry.Timed.{Timed}
+use Rattle.fw_command.specs.declared.command.Command.{Command}
+use Rattle.fw_command.specs.declared.command.Command.TheVariants.{End}
+use Rattle.fw_run.specs.declared.order.Order.{Order}
+use Rattle.fw_run.specs.declared.order.Order.TheVariants as Orders
+use Rattle.fw_run.specs.Actions.{Action, Finish, Steps}
+use Rattle.fw_run.specs.Desks.{DeskRelations}
+use Rattle.fw_run.specs.Given.{AreGiven}
+use Rattle.fw_run.specs.Logs.{HasNoEnd}
+use Rattle.fw_run.specs.State.{State}
+use Rattle.fw_run.proofs.Given.{given_append}
+use Rattle.fw_run.proofs.OneLog.{last_of}
+use Rattle.fw_run.proofs.OneResult.{CarriedBy, carried}
+use Rattle.fw_bus.specs.Buses.{Standing, StandsFor}
+use Rattle.fw_script.specs.Reading.{Reading}
+use Rattle.fw_script.specs.Script.{Refusal, Says, ends, refuses, goes_on, start_of}
+use Rattle.fw_script.specs.declared.ScriptFault.{ScriptFault}
+use Rattle.fw_simulate.specs.Dubs.{HasRecorded}
+use Rattle.fw_explore.specs.Outcome.{HasCarried}
+
+-- the last command ends the script, and none before it does
+record EndsSo (cs : List Command) : Type 0 where
+  pub earlier : List Command
+  pub last : cs ≡ earlier ++ End ∷ []
+  pub no_end : HasNoEnd earlier
+
+says_end : {p : Reading} {cs : List Command} {r : Option Refusal} → Says p cs r → r ≡ None → EndsSo cs
+says_end (ends g) e = record { earlier = []; last = refl; no_end = tt }
+says_end (refuses g n) e = absurd (cc e)
+says_end (goes_on {c = c} g n s) e = let o = says_end s e in record { earlier = c ∷ o.earlier; last = ap (λ z. c ∷ z) o.last; no_end = (n, o.no_end) }
+
+-- `end` changes nothing
+same_state : (s t : State) (o : Order) (xs : List Action) (out : List Timed) → o ≡ Orders.End → CarriedBy s o xs out t → t ≡ s
+same_state s t o xs out is f =
+    let g : Steps s (Finish ∷ []) out t = subst (λ z. CarriedBy s z xs out t) is f in
+    g.5.1 ∙ g.3.1.1
+
+-- what the bus stands for then
+pub record StandsCarried (D : DeskRelations) (left left' : Option (List ℕ)) (bus : Standing) : Type 0 where
+  pub carried : HasCarried D left left'
+  pub stands : StandsFor bus.machine carried.state
+  pub fresh : IsFalse bus.spent
+
+pub stands_carried : (D : DeskRelations) (left left' : Option (List ℕ)) (bus : Standing) → HasRecorded D left left' bus → StandsCarried D left left' bus
+stands_carried D left left' bus h =
+    let r = h.was.ran in
+    let o = says_end r.says refl in
+    let l = last_of r.commands o.earlier End r.logged.actions r.logged.log r.logged.state r.logged.run o.last in
+    let same = same_state l.state r.logged.state l.order l.more l.out l.decided.0 (carried l.state l.order l.more l.out r.logged.state l.carries) in
+    record {
+      carried = record {
+        commands = o.earlier;
+        read = record { script = r.script; taken = r.taken; end = r.end; says = subst (λ cs. Says (start_of r.script) cs None) o.last r.says; no_end = o.no_end };
+        log = l.front;
+        state = l.state;
+        runs = record { actions = l.early; run = l.run; given = (given_append D l.early l.more (subst (AreGiven D) l.actions_are r.logged.given)).0 };
+      };
+      stands = subst (StandsFor bus.machine) same h.stands;
+      fresh = h.fresh;
+    }

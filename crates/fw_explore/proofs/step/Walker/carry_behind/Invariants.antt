@@ -1,0 +1,23 @@
+-- draft
+use Rattle.std.proofs.Common.{◌≡◌, List, IsFalse}
+use Rattle.fw_entry.specs.declared.entry.Timed.{Timed}
+use Rattle.fw_command.specs.declared.command.Command.{Command}
+use Rattle.fw_run.specs.State.{State}
+use Rattle.fw_bus.specs.Buses.{StandsFor}
+use Rattle.fw_explored.specs.Moves.{Behind}
+use Rattle.fw_explored.proofs.BehindLines.{Midway}
+use Rattle.fw_explore.proofs.step.Walker.carry_behind.Given as goal
+
+abbrev pub invariant-loop-line : goal.invariant-loop-line
+invariant-loop-line g l = record {
+  pasts : l.self.pasts ≡ l.fn.self.pasts;
+  places : l.self.places ≡ l.fn.self.places;
+  here : l.self.here ≡ l.fn.self.here;
+  fresh : IsFalse l.self.bus.spent;
+  midway : (script commands : List Command) (out : List Timed) (s : State) → Behind (record { blocks = goal.F-post g l.desk.blocks; vendor = goal.H-post g l.desk.vendor }) script
+      commands out s
+      → StandsFor l.fn.self.bus.machine s
+      → Midway (record { blocks = goal.F-post g l.desk.blocks; vendor = goal.H-post g l.desk.vendor }) script commands out l.behind l.line-index l.fn.past l.past
+      l.fn.refused.items l.refused.items l.fn.lines.items l.lines.items
+      l.self.bus.machine;
+}

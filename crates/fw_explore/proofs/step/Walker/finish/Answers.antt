@@ -1,0 +1,43 @@
+use Rattle.std.proofs.Common.{ℕ, List, ◌++◌, length, arith, sym, ap, subst, ◌∙◌}
+use Rattle.std.specs.List.{All}
+use Rattle.fw_run.specs.Desks.{DeskRelations}
+use Rattle.fw_bus.specs.Buses.{IsCommand}
+use Rattle.fw_movers.specs.declared.mover.Line.{Line}
+use Rattle.fw_explored.specs.Moves.{commands_of}
+use Rattle.fw_told.specs.Sayings.{said_all, unmarked_from}
+use Rattle.fw_explored.proofs.EndingLaws.{finished}
+use Rattle.fw_explore.proofs.BehindForms.{carried_from}
+use Rattle.fw_explore.proofs.Numbers.{had_led, kept_at, kept_led, machine_kept, two_numbers}
+use Rattle.fw_explore.proofs.step.Walker.finish.Given as given
+use Rattle.fw_explore.proofs.step.Walker.finish.Goals as goal
+
+pub slice_bounds-give_back-start : goal.slice_bounds-give_back-start
+slice_bounds-give_back-start g c =
+    let two = two_numbers c.args.self.now.pasts (g.P.Keeper.Kept c.args.self.now.places) c.args.self.now.here.items c.requires.here in
+    let size = ap length c.deref.ensures.value in
+    omega (arith, two, size)
+
+pub give_back-requires : goal.give_back-requires
+give_back-requires g c =
+    let kept = machine_kept c.args.self.now.pasts (g.P.Keeper.Kept c.args.self.now.places) c.args.self.now.here.items c.requires.here in
+    (kept.0, kept_at (g.P.Keeper.Kept c.args.self.now.places) c.args.self.now.here.items c.deref.result.now c.deref.ensures.value kept.0 kept.1)
+
+pub returns-clause-finished : goal.returns-clause-finished
+returns-clause-finished g c script w l =
+    let D : DeskRelations = record { blocks = given.F-post g c.args.desk.now.blocks; vendor = given.H-post g c.args.desk.now.vendor } in
+    let x = c.args.explored.now in
+    let pasts = c.args.self.now.pasts in
+    let Kept = g.P.Keeper.Kept c.args.self.now.places in
+    let here = c.args.self.now.here.items in
+    let stands = c.give_back.ensures.stands l.machine l.leads.state (kept_at Kept here c.deref.result.now c.deref.ensures.value l.machine
+    (kept_led D script x pasts Kept w here l)) l.leads.stands in
+    let behind = c.in_ok-carry_behind.ensures.carried script (commands_of x w) l.leads.out l.leads.state l.leads.behind stands in
+    let same = c.in_ok-past.ensures ∙ c.past.ensures l.past (had_led D script x pasts Kept w here l) in
+    let from = carried_from D script (commands_of x w) c.as_slice-behind.result.now x.behind.items l.past c.in_ok-past.past c.carry_behind.new.past c.new-refused.result.items
+    c.carry_behind.new.refused.items
+    c.new-lines.result.items c.carry_behind.new.lines.items c.as_slice-behind.ensures.value same c.new-refused.ensures.items c.new-lines.ensures.items behind in
+    finished D script x l.half l.past c.carry_behind.new.past l.machine w l.leads c.carry_behind.new.refused.items c.carry_behind.new.lines.items from c.in_ok-ending.ending.items
+    (c.in_ok-ending.ensures ∙ ap (λ (z : List ℕ). said_all c.carry_behind.new.past.said ++ unmarked_from c.carry_behind.new.past.done 0 x.movers.items ++ z) c.as_slice.ensures.value)
+
+pub carry_behind-requires-clause-behind : goal.carry_behind-requires-clause-behind
+carry_behind-requires-clause-behind g c = subst (All (λ (l : Line). IsCommand l.command)) (sym c.as_slice-behind.ensures.value) c.requires.explored.behind

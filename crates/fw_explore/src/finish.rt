@@ -1,0 +1,132 @@
+//! After an interleaving: its lines, and its ending.
+
+ghost use Rattle.std.specs.Prelude.{◌≡◌, ◌≤◌, ◌++◌, ◌∷◌, [], ℕ, List, IfOk, OnOk, IsFalse, length};
+ghost use Rattle.std.specs.List.{All};
+ghost use Rattle.fw_entry.specs.declared.entry.Timed.{Timed as TimedEntry};
+ghost use Rattle.fw_command.specs.declared.command.Command.{Command as ACommand};
+ghost use Rattle.fw_run.specs.State.{State};
+ghost use Rattle.fw_bus.specs.Buses.{StandsFor, IsCommand};
+ghost use Rattle.fw_tape.specs.Desks.{AnyBlock, AnyVendorByte};
+ghost use Rattle.fw_movers.specs.declared.mover.Line.{Line as ALine};
+ghost use Rattle.fw_told.specs.Sayings.{said_all, unmarked_from};
+ghost use Rattle.fw_explored.specs.Endings.{refusal_of};
+ghost use Rattle.fw_explored.specs.Finishing.{CarriedBehind, IsFinished};
+ghost use Rattle.fw_explored.specs.Moves.{Behind};
+ghost use Rattle.fw_explored.specs.Pasts.{LeadsAt};
+ghost use Rattle.fw_explored.specs.Steps.{Had, IsExplored, IsPlaced};
+
+use crate::carry::carry;
+use crate::keeper::Keeper;
+use crate::names::rule_name;
+use crate::step::Walker;
+use fw_bus::RuleFault;
+use fw_movers::{Explored, Line};
+use fw_parts::Full;
+use fw_tape::Desk;
+use fw_told::{Past, put_left, put_said};
+use std::alloc::AllocError;
+
+/// What is told of an interleaving, and the lines that were carried out after it.
+#[derive(Drop)]
+pub(crate) struct Finish {
+    pub(crate) ending: Vec<u8>,
+    pub(crate) lines: Vec<u8>,
+}
+
+// Appends a line that a rule refused.
+fn put_refused(out: &mut Vec<u8>, rule: RuleFault, line: &Line) -> Result<(), AllocError>
+    ensures { OnOk result (out.new.items ≡ out.old.items ++ refusal_of rule line.now) }
+{
+    out.extend_from_slice(b"# refused ")?;
+    out.extend_from_slice(rule_name(rule))?;
+    out.extend_from_slice(b": ")?;
+    out.extend_from_slice(line.text.as_slice())?;
+    out.extend_from_slice(b"\n")
+}
+
+// Appends a line as it stands in a script.
+fn put_line(out: &mut Vec<u8>, line: &Line) -> Result<(), AllocError>
+    ensures { OnOk result (out.new.items ≡ out.old.items ++ (line.now.text.items ++ 10 ∷ [])) }
+{
+    out.extend_from_slice(line.text.as_slice())?;
+    out.extend_from_slice(b"\n")
+}
+
+impl<P: Keeper> Walker<P> {
+    // Carries out the lines after an interleaving, where the bus is.
+    fn carry_behind<F: Fn(u16, u32, u16) -> [u8; 480], H: Fn(u32, u8) -> u8>(
+        &mut self,
+        behind: &[Line],
+        past: &mut Past,
+        refused: &mut Vec<u8>,
+        lines: &mut Vec<u8>,
+        desk: &Desk<F, H>,
+    ) -> Result<(), Full>
+        requires blocks { AnyBlock (F.pre desk.now.blocks) }
+        requires desk { AnyVendorByte (H.pre desk.now.vendor) }
+        requires behind { All (λ l. IsCommand l.command) behind.now }
+        requires fresh { IsFalse self.old.bus.spent }
+        ensures carried { (script commands : List ACommand) (out : List TimedEntry) (s : State)
+            → Behind (record { blocks = F.post desk.now.blocks; vendor = H.post desk.now.vendor }) script commands out s → StandsFor self.old.bus.machine s
+            → IfOk result (λ u. CarriedBehind (record { blocks = F.post desk.now.blocks; vendor = H.post desk.now.vendor }) script commands behind.now past.old past.new
+            refused.old.items refused.new.items lines.old.items lines.new.items) }
+        ensures pasts { self.new.pasts ≡ self.old.pasts }
+        ensures places { self.new.places ≡ self.old.places }
+        ensures here { self.new.here ≡ self.old.here }
+    {
+        for line in behind {
+            match carry(&mut self.bus, &mut self.sink, &line.command, desk)? {
+                None => {
+                    past.tell(self.sink.as_slice())?;
+                    put_line(lines, line)?;
+                }
+                Some(rule) => put_refused(refused, rule, line)?,
+            }
+        }
+        Ok(())
+    }
+
+    /// The ending of an interleaving that ends here.
+    pub(crate) fn finish<F: Fn(u16, u32, u16) -> [u8; 480], H: Fn(u32, u8) -> u8>(
+        &mut self,
+        explored: &Explored,
+        desk: &Desk<F, H>,
+    ) -> Result<Finish, Full>
+        requires blocks { AnyBlock (F.pre desk.now.blocks) }
+        requires desk { AnyVendorByte (H.pre desk.now.vendor) }
+        requires explored { IsExplored explored.now }
+        requires here { IsPlaced (Had self.old.pasts) (P.Kept self.old.places) self.old.here.items }
+        ensures finished { (script : List ACommand) (w : List ℕ)
+            → LeadsAt (record { blocks = F.post desk.now.blocks; vendor = H.post desk.now.vendor }) script explored.now (Had self.old.pasts) (P.Kept self.old.places) w self.old.here.items
+            → IfOk result (λ f. IsFinished (record { blocks = F.post desk.now.blocks; vendor = H.post desk.now.vendor }) script explored.now w f.ending.items f.lines.items) }
+        ensures pasts { self.new.pasts ≡ self.old.pasts }
+        ensures places { self.new.places ≡ self.old.places }
+        ensures here { self.new.here ≡ self.old.here }
+    {
+        let mut past = self.past().copied(self.alloc)?;
+        self.places.give_back(&self.here[2..], &mut self.bus);
+        let mut refused = Vec::new(self.alloc);
+        let mut lines = Vec::new(self.alloc);
+        let behind = explored.behind.as_slice();
+        self.carry_behind(behind, &mut past, &mut refused, &mut lines, desk)?;
+        let ending = self.ending_of(explored, &past, refused.as_slice())?;
+        Ok(Finish { ending, lines })
+    }
+
+    // The text of an ending.
+    fn ending_of(
+        &self,
+        explored: &Explored,
+        past: &Past,
+        refused: &[u8],
+    ) -> Result<Vec<u8>, AllocError>
+        requires { length explored.now.movers.items ≤ 32 }
+        ensures { IfOk result (λ t. t.items ≡ said_all past.now.said ++ unmarked_from past.now.done 0 explored.now.movers.items ++ refused.now) }
+    {
+        let mut ending = Vec::new(self.alloc);
+        put_said(&mut ending, past.said())?;
+        put_left(&mut ending, explored.movers.as_slice(), past.done())?;
+        ending.extend_from_slice(refused)?;
+        Ok(ending)
+    }
+}

@@ -1,0 +1,26 @@
+//! What keeps buses so that they can be given back.
+
+ghost use Rattle.std.specs.Prelude.{◌≡◌, ℕ, List, OnOk, IsFalse};
+ghost use Rattle.fw_machine.specs.declared.machine.Machine.{Machine};
+ghost use Rattle.fw_run.specs.State.{State};
+ghost use Rattle.fw_bus.specs.Buses.{StandsFor};
+
+use fw_bus::Bus;
+use fw_parts::Full;
+
+/// Keeps buses: `Kept` says which machines are kept under some numbers. What was kept is kept for good.
+pub trait Keeper: Drop {
+    ghost Kept: { Self → List ℕ → Machine → Type 0 };
+
+    /// Keeps what a bus has, under numbers that come in place of what `out` has. `near` are those of a bus that is mostly the same, or none.
+    fn keep(&mut self, bus: &Bus, near: &[u32], out: &mut Vec<u32>) -> Result<(), Full>
+        requires { IsFalse bus.now.spent }
+        ensures place { OnOk result (Kept self.new out.new.items bus.now.machine) }
+        ensures wider { OnOk result ((words : List ℕ) (m : Machine) → Kept self.old words m → Kept self.new words m) };
+
+    /// A bus comes back to what was kept under these numbers: it stands then for each state for which that one stood.
+    fn give_back(&self, words: &[u32], bus: &mut Bus)
+        requires { (m : Machine) × Kept self.now words.now m }
+        ensures stands { (m : Machine) (s : State) → Kept self.now words.now m → StandsFor m s → StandsFor bus.new.machine s }
+        ensures fresh { IsFalse bus.new.spent };
+}

@@ -1,0 +1,21 @@
+//! Buses kept by the numbers of the parts of their machines.
+
+ghost use Rattle.fw_explore.specs.Keeping.{IsKeptIn};
+
+use crate::keeper::Keeper;
+use fw_bus::Bus;
+use fw_parts::Full;
+use fw_places::Places;
+
+impl Keeper for Places {
+    ghost Kept = { IsKeptIn };
+
+    fn keep(&mut self, bus: &Bus, near: &[u32], out: &mut Vec<u32>) -> Result<(), Full> {
+        bus.stands();
+        Places::keep(self, bus.machine(), near, out)
+    }
+
+    fn give_back(&self, words: &[u32], bus: &mut Bus) {
+        bus.give_back(self, words);
+    }
+}

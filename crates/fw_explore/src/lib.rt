@@ -1,0 +1,24 @@
+//! The word `explore`: every interleaving of half steps and lines behind a script, and how each ends.
+//!
+//! The interleavings of one length are many, the places that they lead to few: a place is the lines that were carried out, what was told so
+//! far, and the machine. The contract of `Bus::apply` speaks of every run for whose state a machine stands, so one call carries all
+//! schedules of a place on.
+#![tactic(auto)]
+
+mod begin;
+mod carry;
+mod cut;
+mod explorer;
+mod fault;
+mod finish;
+mod keeper;
+mod keeping;
+mod names;
+mod step;
+mod there;
+mod unknown;
+mod word;
+
+pub use fault::ExploreEnding;
+pub use keeper::Keeper;
+pub use word::{MOST_PLACES, explore};

@@ -1,0 +1,180 @@
+//! One step from a place: a mover moves, if it may.
+
+ghost use Rattle.std.specs.Prelude.{◌≡◌, ◌<◌, ◌≤◌, ◌-◌, ◌^◌, ◌∷◌, ◌++◌, [], ℕ, List, IfOk, IsFalse, IsTrue, length, slice_index};
+ghost use Rattle.std.specs.List.{All};
+ghost use Rattle.fw_command.specs.declared.command.Command.{Command as Line};
+ghost use Rattle.fw_entry.specs.Log.{entries_bytes, TimedFits};
+ghost use Rattle.fw_entry.specs.declared.version.Version.TheVariants.{Two};
+ghost use Rattle.fw_entry.specs.declared.entry.Timed.{Timed};
+ghost use Rattle.fw_parts.specs.Words.{bytes_of};
+ghost use Rattle.fw_run.specs.Desks.{IsFunction};
+ghost use Rattle.fw_tape.specs.Desks.{AnyBlock, AnyVendorByte};
+ghost use Rattle.fw_movers.specs.declared.mover.MoverKind.TheVariants.{HalfSteps};
+ghost use Rattle.fw_told.specs.Histories.{History, told_entries};
+ghost use Rattle.fw_explored.specs.Pasts.{LeadsAt};
+ghost use Rattle.fw_explored.specs.Steps.{Had, Steps, IsExplored, IsPlaced, IsArrived, IsPlacedKey, IsWiderBy, half_after, half_in, marked, past_in};
+
+use crate::carry::carry;
+use crate::keeper::Keeper;
+use crate::there::is_there;
+use fw_bus::Bus;
+use fw_movers::{Explored, MoverKind};
+use fw_outside::GrowSink;
+use fw_parts::{Full, Table, are_numbers, put_words};
+use fw_tape::Desk;
+use fw_told::Past;
+use std::alloc::Global;
+
+/// What goes from place to place.
+#[derive(Drop)]
+pub(crate) struct Walker<P> {
+    pub(crate) alloc: Global,
+    pub(crate) bus: Bus,
+    pub(crate) sink: GrowSink,
+    pub(crate) places: P,
+    pub(crate) pasts: Table<Past>,
+    /// The numbers of the place that it goes on from: of its past, its half steps, and those of its machine.
+    pub(crate) here: Vec<u32>,
+    /// Those of the machine that a move leads to.
+    pub(crate) there: Vec<u32>,
+    pub(crate) key: Vec<u8>,
+}
+
+// The half steps with a move, and the past with its line.
+fn count_move(past: &mut Past, half: u32, mover: usize, kind: MoverKind) -> u32
+    requires mover { mover < 32 }
+    requires room { kind ≡ HalfSteps → half < 2 ^ 32 - 1 }
+    ensures half { result ≡ half_after kind half }
+    ensures past { past.new ≡ marked kind mover past.old }
+{
+    match kind {
+        MoverKind::HalfSteps => half + 1,
+        MoverKind::Once => {
+            past.mark(mover);
+            half
+        }
+    }
+}
+
+impl<P: Keeper> Walker<P> {
+    // The past of the place.
+    pub(crate) fn past(&self) -> &Past
+        requires { IsPlaced (Had self.now.pasts) (P.Kept self.now.places) self.now.here.items }
+        ensures { (past : History) → Had self.now.pasts (past_in self.now.here.items) past → result.now ≡ past }
+    {
+        let number = self.here[0] as usize;
+        &self.pasts.as_slice()[number]
+    }
+
+    // The past of the place, with what the sink has.
+    fn past_here(&self) -> Result<Past, Full>
+        requires { IsPlaced (Had self.now.pasts) (P.Kept self.now.places) self.now.here.items }
+        ensures { (epoch : ℕ) (out : List Timed) (past : History) → All TimedFits out → self.now.sink.held ≡ entries_bytes Two epoch out → Had self.now.pasts (past_in self.now.here.items) past
+            → IfOk result (λ p. p ≡ record { done = past.done; said = past.said ++ told_entries out }) }
+    {
+        let mut past = self.past().copied(self.alloc)?;
+        past.tell(self.sink.as_slice())?;
+        Ok(past)
+    }
+
+    // The key of where a mover has led.
+    fn arrive(&mut self, mover: usize, kind: MoverKind) -> Result<(), Full>
+        requires mover { mover < 32 }
+        requires here { IsPlaced (Had self.old.pasts) (P.Kept self.old.places) self.old.here.items }
+        requires fresh { IsFalse self.old.bus.spent }
+        requires room { kind ≡ HalfSteps → half_in self.old.here.items < 2 ^ 32 - 1 }
+        ensures arrives { (epoch : ℕ) (out : List Timed) (past : History) → All TimedFits out → self.old.sink.held ≡ entries_bytes Two epoch out
+            → Had self.old.pasts (past_in self.old.here.items) past
+            → IfOk result (λ u. IsArrived (Had self.new.pasts) (P.Kept self.new.places) self.old.bus.machine past (half_in self.old.here.items) out mover kind self.new.key.items) }
+        ensures placed { IfOk result (λ u. IsPlacedKey (Had self.new.pasts) (P.Kept self.new.places) self.new.key.items) }
+        ensures wider { IfOk result (λ u. IsWiderBy (Had self.old.pasts) (Had self.new.pasts) (P.Kept self.old.places) (P.Kept self.new.places)) }
+        ensures here { self.new.here ≡ self.old.here }
+    {
+        let mut past = self.past_here()?;
+        let half = count_move(&mut past, self.here[1], mover, kind);
+        let number = self.pasts.keep(self.here[0], &past)?;
+        self.places
+            .keep(&self.bus, &self.here[2..], &mut self.there)?;
+        self.put_key(number, half)?;
+        Ok(())
+    }
+
+    // The key has these numbers, and those of the machine.
+    pub(crate) fn put_key(&mut self, number: u32, half: u32) -> Result<(), Full>
+        ensures key { IfOk result (λ u. self.new.key.items ≡ bytes_of (number ∷ half ∷ self.old.there.items)) }
+        ensures small { (k : ℕ) → slice_index (number ∷ half ∷ self.old.there.items) k < 2 ^ 32 }
+        ensures here { self.new.here ≡ self.old.here }
+        ensures places { self.new.places ≡ self.old.places }
+        ensures pasts { self.new.pasts ≡ self.old.pasts }
+    {
+        are_numbers(self.there.as_slice());
+        self.key.clear();
+        put_words(&mut self.key, &[number, half])?;
+        put_words(&mut self.key, self.there.as_slice())?;
+        Ok(())
+    }
+
+    /// Whether a mover moves from the place; if it does the key has where it leads.
+    pub(crate) fn step_to<F: Fn(u16, u32, u16) -> [u8; 480], H: Fn(u32, u8) -> u8>(
+        &mut self,
+        explored: &Explored,
+        mover: usize,
+        desk: &Desk<F, H>,
+    ) -> Result<bool, Full>
+        requires blocks { AnyBlock (F.pre desk.now.blocks) }
+        requires desk { AnyVendorByte (H.pre desk.now.vendor) }
+        requires explored { IsExplored explored.now }
+        requires mover { mover < length explored.now.movers.items }
+        requires here { IsPlaced (Had self.old.pasts) (P.Kept self.old.places) self.old.here.items }
+        ensures steps { (script : List Line) (w : List ℕ) → IsFunction (record { blocks = F.post desk.now.blocks; vendor = H.post desk.now.vendor })
+            → LeadsAt (record { blocks = F.post desk.now.blocks; vendor = H.post desk.now.vendor }) script explored.now (Had self.old.pasts) (P.Kept self.old.places) w self.old.here.items
+            → IfOk result (Steps (record { blocks = F.post desk.now.blocks; vendor = H.post desk.now.vendor }) script explored.now
+            (Had self.new.pasts) (P.Kept self.new.places) w mover self.new.key.items) }
+        ensures placed { IfOk result (λ moved. IsTrue moved → IsPlacedKey (Had self.new.pasts) (P.Kept self.new.places) self.new.key.items) }
+        ensures still { IfOk result (λ moved. IsFalse moved → (self.new.pasts ≡ self.old.pasts) × (self.new.places ≡ self.old.places)) }
+        ensures wider { IfOk result (λ moved. IsWiderBy (Had self.old.pasts) (Had self.new.pasts) (P.Kept self.old.places) (P.Kept self.new.places)) }
+        ensures here { self.new.here ≡ self.old.here }
+    {
+        let this = &explored.movers[mover];
+        if !is_there(explored, self.past().done(), mover) {
+            return Ok(false);
+        }
+        let kind = this.kind;
+        if self.is_full(explored, kind) {
+            return Ok(false);
+        }
+        self.places.give_back(&self.here[2..], &mut self.bus);
+        if carry(&mut self.bus, &mut self.sink, &this.command, desk)?.is_some() {
+            return Ok(false);
+        }
+        if is_silent(kind, self.sink.as_slice()) {
+            return Ok(false);
+        }
+        self.arrive(mover, kind)?;
+        Ok(true)
+    }
+
+    // Whether a half step more would be one too many.
+    fn is_full(&self, explored: &Explored, kind: MoverKind) -> bool
+        requires { IsPlaced (Had self.now.pasts) (P.Kept self.now.places) self.now.here.items }
+        ensures full { IsTrue result → (kind ≡ HalfSteps) × (explored.now.most ≤ half_in self.now.here.items) }
+        ensures room { IsFalse result → kind ≡ HalfSteps → half_in self.now.here.items < explored.now.most }
+        ensures few { IsFalse result → kind ≡ HalfSteps → half_in self.now.here.items < 2 ^ 32 - 1 }
+    {
+        match kind {
+            MoverKind::HalfSteps => self.here[1] >= explored.most,
+            MoverKind::Once => false,
+        }
+    }
+}
+
+/// Whether a half step wrote nothing, so that it is no move.
+pub(crate) fn is_silent(kind: MoverKind, written: &[u8]) -> bool
+    ensures silent { IsTrue result → (kind ≡ HalfSteps) × (written.now ≡ []) }
+    ensures wrote { IsFalse result → kind ≡ HalfSteps → written.now ≡ [] → ⊥ }
+{
+    match kind {
+        MoverKind::HalfSteps => written.is_empty(),
+        MoverKind::Once => false,
+    }
+}

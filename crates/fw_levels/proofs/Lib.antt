@@ -1,0 +1,14 @@
+pub mod OrderLaws
+pub mod CountLaws
+pub mod TableLaws
+pub mod ScheduleLaws
+pub mod WalkLaws
+pub mod RowLaws
+pub mod StepLaws
+pub mod LinkLaws
+pub mod AddLaws
+pub mod KeyLaws
+pub mod AgreeLaws
+pub mod WholeLaws
+pub mod EntryLaws
+pub mod ResultLaws

@@ -1,0 +1,9 @@
+pub mod Counting
+pub mod Order
+pub mod Schedules
+pub mod Tables
+pub mod Walks
+pub mod Spots
+pub mod Steps
+pub mod Walked
+pub mod Whole

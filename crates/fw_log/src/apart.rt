@@ -1,0 +1,47 @@
+//! Entries that are read out of a loop over packets.
+
+ghost use Rattle.std.specs.Prelude.{ℕ, ◌≡◌, ◌<◌, ◌+◌, ◌^◌, List, length, IfSome, IfNone, IfOk, IfErr, None, Err};
+ghost use Rattle.fw_entry.specs.declared.entry.Timed.{Timed};
+ghost use Rattle.fw_log.specs.Reading.{IsPending};
+ghost use Rattle.fw_log.specs.Reader.{total, Remembers, Feeds, Counts, body_given};
+ghost use Rattle.fw_log.specs.History.{HasRead, ReadsOn, Names};
+
+use crate::first::{at_hand, first_entry};
+use crate::{LogFault, LogFed, LogReader, Room};
+
+impl LogReader {
+    // As `feed_fresh`, where no packet of a usual form is looked for.
+    fn feed_any<'a>(&mut self, piece: &'a [u8], room: &'a mut Room) -> Result<LogFed<'a>, LogFault>
+        requires fresh { self.old.fault ≡ None }
+        requires pending { IsPending self.old.stand self.old.taken }
+        requires room { self.old.stand.start + length self.old.taken + length piece.now < 2 ^ 64 }
+        ensures fed { Feeds self.old.stand self.old.taken piece.now result self.new }
+        ensures remembers { IfErr result (λ f. Remembers self.old.stand self.old.taken piece.now self.new) }
+    {
+        let bytes = at_hand(self.stand, self.taken.as_slice(), piece, &mut room.bytes);
+        let found = first_entry(self.stand, bytes, &mut room.reset);
+        self.keep(found, piece)
+    }
+
+    /// Takes bytes as `feed` does, in more instructions where a packet comes, and in fewer where another entry does or where the
+    /// piece has only a part of one: for those that take packets by `pass_body`. It is no part of the caller's loop.
+    #[inline(never)]
+    pub fn feed_apart<'a>(
+        &mut self,
+        piece: &'a [u8],
+        room: &'a mut Room,
+    ) -> Result<LogFed<'a>, LogFault>
+        requires { self.old.fault ≡ None → total self.old + length piece.now < 2 ^ 64 }
+        ensures kept { IfSome self.old.fault (λ f. (result ≡ Err f) × (self.new ≡ self.old)) }
+        ensures fresh { IfNone self.old.fault (Feeds self.old.stand self.old.taken piece.now result self.new) }
+        ensures counts { Counts self.old piece.now result self.new }
+        ensures body { IfOk result (λ fed. fed.body ≡ body_given fed.entry) }
+        ensures history { (entries : List Timed) → (bytes : List ℕ) → HasRead entries bytes self.old → ReadsOn entries bytes piece.now result self.new }
+        ensures version { (entries : List Timed) → (bytes : List ℕ) → HasRead entries bytes self.old → Names bytes piece.now result self.new }
+    {
+        match self.fault {
+            Some(fault) => Err(fault),
+            None => self.feed_any(piece, room),
+        }
+    }
+}

@@ -1,0 +1,3 @@
+pub mod HalfStepLaws
+pub mod ReadsLaws
+pub mod TakeLaws

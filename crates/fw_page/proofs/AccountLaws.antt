@@ -1,0 +1,22 @@
+-- What a page says of the account at its end.
+use Rattle.std.proofs.Common.{◌≡◌, ℕ, ◌+◌, List, ◌++◌, Option, Some, None, Result, ap, subst, sym, ◌∙◌}
+use Rattle.std.specs.Prelude.{OnOk}
+use Rattle.std.proofs.lemmas.List.{append-nil}
+use Rattle.fw_account.specs.Account.{Account}
+use Rattle.fw_ledger.specs.declared.tables.Tables.{Tables}
+use Rattle.fw_ledger.specs.Stands.{StandsFor}
+use Rattle.fw_phrases.specs.declared.note.AccountStop.{AccountStop}
+use Rattle.fw_strip.specs.Drawing.{LedgerFor}
+use Rattle.fw_content.specs.Sums.{stopped_text, followed_text, account_text}
+use Rattle.fw_content.proofs.LedgerLaws.{by_ledger}
+
+pub stopped_said : (l : Option Account) (stop : AccountStop) (o : Option AccountStop) → o ≡ Some stop → stopped_text stop ≡ account_text l o
+stopped_said l stop o e = sym (ap (account_text l) e)
+
+pub followed_said : {T E : Type 0} (r : Result T E) (s t : List ℕ) (tables : Tables) (l : Option Account) (stop : Option AccountStop) → stop ≡ None → LedgerFor (Some tables) l
+    → ((a : Account) → StandsFor tables a → OnOk r (t ≡ s ++ followed_text a)) → OnOk r (t ≡ s ++ account_text l stop)
+followed_said r s t tables l stop none for each = subst (λ (o : Option AccountStop). OnOk r (t ≡ s ++ account_text l o)) (sym none) (by_ledger r s t tables (λ o. account_text o None) each l for)
+
+pub none_said : (s : List ℕ) (l : Option Account) (stop : Option AccountStop) → stop ≡ None → LedgerFor None l → s ≡ s ++ account_text l stop
+none_said s None stop none for = sym (append-nil s) ∙ ap (λ (o : Option AccountStop). s ++ account_text None o) (sym none)
+none_said s (Some a) stop none for = absurd for

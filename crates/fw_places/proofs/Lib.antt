@@ -1,0 +1,4 @@
+pub mod GoodLaws
+pub mod PlaceLaws
+pub mod GiveLaws
+pub mod KeepingLaws

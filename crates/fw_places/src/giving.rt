@@ -1,0 +1,58 @@
+//! A machine becomes one that was kept.
+
+ghost use Rattle.std.specs.Prelude.{◌≡◌, ◌<◌, ℕ, List, Option, length, slice_index_or};
+ghost use Rattle.fw_async.specs.Letters.{HasLetters};
+ghost use Rattle.fw_machine.specs.declared.machine.Machine.{Machine as MachineRecord};
+ghost use Rattle.fw_places.specs.Places.{IsPlace, IsAsGood};
+ghost use Rattle.fw_places.specs.declared.rest.Rest.{Rest as RestRecord};
+
+use crate::numbers::told_apart;
+use crate::places::Places;
+use crate::rest::Rest;
+use fw_async::Wire;
+use fw_dub::Reel;
+use fw_machine::Machine;
+
+impl Places {
+    // What is kept under a number of what only lines change.
+    fn rest_at(&self, number: u32) -> &Rest
+        requires { number < length self.now.rests }
+        ensures { (d : RestRecord) → slice_index_or self.now.rests number d ≡ result.now }
+    {
+        &self.rests.as_slice()[number as usize]
+    }
+
+    // The blocks that are kept under a number are on a reel.
+    fn wind(&self, number: u32, reel: &mut Reel)
+        requires { number < length self.now.reels }
+        ensures { (d : List (List ℕ)) → reel.new ≡ slice_index_or self.now.reels number d }
+    {
+        reel.copy_from(&self.reels.as_slice()[number as usize]);
+    }
+
+    // The requests that are kept under a number stand on a wire.
+    fn lay(&self, number: u32, wire: &mut Wire)
+        requires { number < length self.now.letters }
+        ensures { (d : List (Option (List ℕ))) → HasLetters wire.new (slice_index_or self.now.letters number d) }
+    {
+        wire.set_letters(&self.letters.as_slice()[number as usize]);
+    }
+
+    /// A machine becomes one that was kept under these numbers, but for the order of the requests that stand: it stands for every state
+    /// for which that one stood.
+    pub fn give_back(&self, words: &[u32], m: &mut Machine)
+        requires { (n : MachineRecord) × IsPlace self.now words.now n }
+        ensures { (n : MachineRecord) → IsPlace self.now words.now n → IsAsGood m.new n }
+    {
+        let numbers = told_apart(words);
+        let rest = self.rest_at(numbers.rest);
+        m.devices
+            .give_back(&rest.frame, self.nodes.as_slice(), numbers.nodes);
+        m.controllers.give_back(self.controllers.as_slice(), numbers.controllers, rest.dead);
+        rest.lend(m);
+        self.wind(numbers.reel, &mut m.reel);
+        self.lay(numbers.wire, &mut m.wire);
+        self.lay(numbers.bids, &mut m.bids);
+        m.half_steps = numbers.half_steps;
+    }
+}
