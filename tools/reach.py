@@ -53,17 +53,18 @@ def own_words(name, text):
 
 def own_parts(files):
     """The parts of a crate's own files, each as a text that counts: the items of src, each function with its body and with what is proved
-    of it, the definitions of specs, and lemmas with their proofs; and those of which one more matters too."""
+    of it, each file of answers by itself, the definitions of specs, and lemmas with their proofs; and those of which one more matters too."""
     proved = {}
     for name, text in files:
         folders = name.split("/")[1:-1] if name.startswith("proofs/") else ()
         for folder in folders:
             proved.setdefault(folder, []).append(f"{name}\n{scan.joined(scan.without_notes(text))}")
+    answers = sorted(set().union(*proved.values()))
     found = [it for name, text in files if name.startswith("src/") for it in declared.Source(name, text, proved).found]
     found += [it for name, text in files if name.endswith(".antt") and name.count("/") == 1 for it in declared.Definitions(name, text).found]
     offered = frozenset().union(*(it.offers for it in found))
     covering = [it.text for it in found if it.gate and not it.offers and any(key in offered for _, key in it.names)]
-    return sorted(it.text for it in found), sorted(covering)
+    return sorted([*(it.text for it in found), *answers]), sorted(covering)
 
 
 class Reach:
