@@ -7,8 +7,8 @@
     tools/counts.py --files WHAT  names the files of a row, as 'kind' or 'json'
 
 A file counts if the example's name stands in it outside comments. Tests, sessions and bodies that are wrong on purpose do not count, nor
-do crates that are the example's own. Documents are those for users: docs/ without what tells how the program is made (ARCHITECTURE,
-DECISIONS, GATE, PROOFS, TOUR) and how captures are converted, README, help.txt, and the words that bash completes. This needs Python 3.8, and
+do crates that are the example's own. Documents are those for users: docs/ without what tells how the program is made (ARCHITECTURE, ARGUMENTS, CALLS,
+DECISIONS, DEFINITIONS, GATE, PROOFS, TOUR) and how captures are converted, README, help.txt, and the words that bash completes. This needs Python 3.8, and
 takes seconds. The status is 0, or 1 if the document has another table or there is no such row.
 """
 
@@ -41,7 +41,17 @@ PARTS = ("src", "specs", "proofs")
 COMMENTS = {".rt": re.compile(r"//.*"), ".antt": re.compile(r"--.*")}
 TESTS = re.compile(r"fw_tests\w*|fire_rows|fire_sessions")
 
-HOW_IT_IS_MADE = {"ARCHITECTURE.md", "DECISIONS.md", "GATE.md", "PROOFS.md", "TOUR.md", "CAPTURES.md"}
+HOW_IT_IS_MADE = {
+    "ARCHITECTURE.md",
+    "ARGUMENTS.md",
+    "CALLS.md",
+    "CAPTURES.md",
+    "DECISIONS.md",
+    "DEFINITIONS.md",
+    "GATE.md",
+    "PROOFS.md",
+    "TOUR.md",
+}
 BESIDE_DOCS = ("README.md", "crates/fire_sessions/data/help.txt", "tools/completion.bash")
 
 

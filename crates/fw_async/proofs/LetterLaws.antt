@@ -5,8 +5,7 @@ use Rattle.std.proofs.lemmas.Grind.{common_steps}
 use Rattle.std.proofs.Math.ListN.{get_or-eq_default}
 use Rattle.std.proofs.lemmas.Option.{none-some}
 use Rattle.fw_async.specs.Letters.{HasLetters}
-use Rattle.fw_async.specs.Wire.{Pairs, IsKept, bytes_from, pairs_at}
-use Rattle.fw_async.proofs.WireLaws.{missing, beyond}
+use Rattle.fw_async.specs.Wire.{Pairs, bytes_from}
 
 apart : (a b : ℕ) → a ≢ b → eqb a b ≡ false
 apart a b ne = elim (cases_Bool (eqb a b)) [ inl y ↦ absurd (ne (eqb-true a b y)) | inr n ↦ n ]
@@ -45,11 +44,11 @@ told_next w letters node is told m less = elim (cases_lt m node) [
   | inr last ↦ let same : m ≡ node = omega arith in subst (λ k. bytes_from k w ≡ slice_index_or letters k None) (sym same) is
 ]
 
-pub told_all : (lengths : List ℕ) (rows : List (List ℕ)) (senders : List ℕ) (letters : Letters) → IsKept lengths senders → length letters ≡ 63 → AreTold (pairs_at lengths rows senders) letters 63
-    → HasLetters (pairs_at lengths rows senders) letters
-told_all lengths rows senders letters kept size told node = elim (cases_lt node 63) [
-  | inl less ↦ told node less
-  | inr more ↦ missing lengths rows senders node kept (beyond lengths senders node kept more) ∙ sym (get_or-eq_default letters None (omega (arith, size)))
+-- where nothing stands further on
+pub told_all : (w : Pairs) (letters : Letters) (node : ℕ) → length letters ≡ node → ((m : ℕ) → node ≤ m → bytes_from m w ≡ None) → AreTold w letters node → HasLetters w letters
+told_all w letters node size none told m = elim (cases_lt m node) [
+  | inl less ↦ told m less
+  | inr more ↦ none m more ∙ sym (get_or-eq_default letters None (omega (arith, size)))
 ]
 
 -- and nothing else stands
@@ -77,8 +76,5 @@ laid_none w letters node is laid = record {
   others = λ m more. laid.others m (omega (arith, more));
 }
 
-pub laid_all : (w : Pairs) (letters : Letters) → length letters ≡ 63 → AreLaid w letters 63 → HasLetters w letters
-laid_all w letters size laid node = elim (cases_lt node 63) [
-  | inl less ↦ laid.those node less
-  | inr more ↦ laid.others node more ∙ sym (get_or-eq_default letters None (omega (arith, size)))
-]
+pub laid_all : (w : Pairs) (letters : Letters) (node : ℕ) → length letters ≡ node → AreLaid w letters node → HasLetters w letters
+laid_all w letters node size laid = told_all w letters node size laid.others laid.those

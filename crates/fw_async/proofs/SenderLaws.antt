@@ -44,7 +44,7 @@ one_gone q (x ∷ xs) (suc i) d less e =
     let here : eqb x q ≡ false = ap (eqb x) (sym e) ∙ at_apart x xs i d.0 (omega arith) in
     rw (swap_false x q here) (ap (λ t. x ∷ t) (one_gone q xs i d.1 (omega arith) e))
 
-no_member : (q : ℕ) (xs : List ℕ) → ((i : ℕ) → i < length xs → get_or xs i 0 ≢ q) → list_any (eqb q) xs ≡ false
+pub no_member : (q : ℕ) (xs : List ℕ) → ((i : ℕ) → i < length xs → get_or xs i 0 ≢ q) → list_any (eqb q) xs ≡ false
 no_member q [] h = refl
 no_member q (x ∷ xs) h =
     rw (apart q x (λ e. h 0 (omega arith) (sym e))) (no_member q xs (λ i less. h (suc i) (omega arith)))

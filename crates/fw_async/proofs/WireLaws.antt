@@ -216,3 +216,7 @@ none_taken lengths rows senders q k none = left q (bytes_at lengths rows) sender
     by : (b : Bool) → b ≡ list_any (eqb q) senders → list_any (eqb q) senders ≡ false
     by true e = absurd ((k.standing q (sym e)).1 none)
     by false e = sym e
+
+-- nothing stands of one who is no sender
+pub none_from : (lengths : List ℕ) (rows : List (List ℕ)) (senders : List ℕ) (q : ℕ) → list_any (eqb q) senders ≡ false → bytes_from q (pairs_at lengths rows senders) ≡ None
+none_from lengths rows senders q absent = look q (bytes_at lengths rows) senders ∙ ap (λ (b : Bool). cond b (Some (bytes_at lengths rows q)) None) absent

@@ -1,9 +1,11 @@
 //! What stands on a wire, kept apart from it.
 
-ghost use Rattle.std.specs.Prelude.{◌≡◌, ◌<◌, ◌≤◌, Some, IfOk, IfSome, IsTrue, length, slice_index_or};
+ghost use Rattle.std.specs.Prelude.{◌≡◌, ◌<◌, ◌≤◌, ℕ, Some, None, IfOk, IfSome, IsTrue, length, slice_index_or};
 ghost use Rattle.std.specs.Option.{option_map};
 ghost use Rattle.fw_async.specs.Letters.{HasLetters};
+ghost use Rattle.fw_async.specs.Wire.{bytes_from};
 
+use crate::node_ids::MOST_NODES;
 use crate::wire::Wire;
 use fw_parts::{Part, mixed};
 use std::alloc::{AllocError, Global};
@@ -28,17 +30,18 @@ impl Model for Letter {
 /// The bytes that stand on a wire, by the number of the node that sent them; the order in which they were put is not kept.
 #[derive(Drop)]
 pub struct Letters {
+    // Up to the last that stands.
     list: Vec<Option<Letter>>,
 }
 
 impl Model for Letters {
-    ghost use Rattle.std.specs.Prelude.{ℕ, ◌≡◌, List, Option, length};
+    ghost use Rattle.std.specs.Prelude.{ℕ, ◌≤◌, List, Option, length};
 
     ghost Value = { List (Option (List ℕ)) };
 
     ghost view = { λ l. l.list.items };
 
-    ghost invariant = { λ l. length l.list.items ≡ 63 };
+    ghost invariant = { λ l. length l.list.items ≤ 63 };
 }
 
 impl Letter {
@@ -81,14 +84,21 @@ fn is_letter(bytes: Option<&[u8]>, letter: &Option<Letter>) -> bool
 }
 
 impl Wire {
+    // One more than the greatest node of which something stands, or 0.
+    fn end(&self) -> u8
+        ensures none { (node : ℕ) → result ≤ node → bytes_from node self.now ≡ None }
+        ensures most { result ≤ 63 }
+    {
+        self.senders.end().min(MOST_NODES) as u8
+    }
+
     /// What stands, kept apart.
     #[tactic(auto, using(crate::proofs::LetterLaws::told_more))]
     pub fn letters(&self, alloc: Global) -> Result<Letters, AllocError>
         ensures { IfOk result (λ l. HasLetters self.now l) }
     {
-        let _ = &self.senders;
         let mut list = Vec::new(alloc);
-        for node in 0..63 {
+        for node in 0..self.end() {
             list.push(Letter::of(alloc, self.standing(node))?)?;
         }
         Ok(Letters { list })
@@ -98,8 +108,11 @@ impl Wire {
     pub fn has_letters(&self, letters: &Letters) -> bool
         ensures { IsTrue result → HasLetters self.now letters.now }
     {
-        let _ = &self.senders;
-        for node in 0..63 {
+        let count = letters.list.len() as u8;
+        if self.end() > count {
+            return false;
+        }
+        for node in 0..count {
             if !is_letter(self.standing(node), &letters.list[usize::from(node)]) {
                 return false;
             }
@@ -112,7 +125,7 @@ impl Wire {
         ensures { HasLetters self.new letters.now }
     {
         self.clear();
-        for node in 0..63 {
+        for node in 0..letters.list.len() as u8 {
             if let Some(letter) = &letters.list[usize::from(node)] {
                 self.put_letter(node, letter);
             }
@@ -135,7 +148,7 @@ impl Part for Letters {
 
     fn mark(wire: &Wire) -> u64 {
         let mut mark: u64 = 0;
-        for node in 0..63 {
+        for node in 0..wire.end() {
             if let Some(bytes) = wire.standing(node) {
                 mark = bytes_mark(mixed(mark, u32::from(node)), bytes);
             }

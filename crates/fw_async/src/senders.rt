@@ -1,7 +1,7 @@
 //! Who has a request on the bus, in the order in which the requests were put there.
 
-ghost use Rattle.std.specs.Prelude.{◌≡◌, ◌≢◌, ◌<◌, ◌≤◌, ℕ, [], ◌∷◌, ◌++◌, IsTrue, not, eqb, length, get_or};
-ghost use Rattle.std.specs.List.{filter, IsDistinct};
+ghost use Rattle.std.specs.Prelude.{◌≡◌, ◌≢◌, ◌<◌, ◌≤◌, ℕ, [], ◌∷◌, ◌++◌, IsTrue, false, not, eqb, length, get_or};
+ghost use Rattle.std.specs.List.{filter, list_any, IsDistinct};
 
 use arrayvec::ArrayVec;
 use std::marker::Model;
@@ -66,6 +66,13 @@ impl Senders {
         }
     }
 
+    /// One more than the greatest, or 0: from there on none stands.
+    pub(crate) fn end(&self) -> usize
+        ensures { (sender : ℕ) → result ≤ sender → list_any (eqb sender) self.now ≡ false }
+    {
+        end_of(&self.numbers.as_slice()[self.gone..])
+    }
+
     /// Takes all away.
     pub fn clear(&mut self)
         ensures { self.new ≡ [] }
@@ -97,4 +104,17 @@ fn place_of(numbers: &[u8], from: usize, sender: u8) -> usize
         }
     }
     numbers.len()
+}
+
+/// One more than the greatest sender, or 0.
+fn end_of(senders: &[u8]) -> usize
+    ensures { (sender : ℕ) → result ≤ sender → list_any (eqb sender) senders.now ≡ false }
+{
+    let mut end = 0;
+    for n in 0..senders.len() {
+        if usize::from(senders[n]) >= end {
+            end = usize::from(senders[n]) + 1;
+        }
+    }
+    end
 }

@@ -81,6 +81,15 @@ found_more entries e a t (Some f) x is after = record {
   verdict = is;
 }
 
+-- an entry that was taken and has no fault
+pub taken_found : (entries : List Entry) (e : Entry) (a b : Audit) → (x : Follows entries a) → HasNoFault x.account (looked e) → StandsAfter b.ledger x.account e → Found (entries ++ e ∷ []) b None
+taken_found entries e a b x none after = record {
+  account = after.0;
+  is = account_push entries e x.account x.is ∙ after.1;
+  stands = after.2;
+  audited = audited_push entries e x.account x.audited x.is none;
+}
+
 -- an entry that is passed over leaves what was found
 pub passed_found : (entries : List Entry) (e : Entry) (a : Audit) → IsPassedOver e → Found entries a None → Found (entries ++ e ∷ []) a None
 passed_found entries e a passed x = record {

@@ -1,3 +1,4 @@
 pub mod Audits
-pub mod Verdicts
 pub mod LabelLaws
+pub mod SoundLaws
+pub mod Verdicts

@@ -31,7 +31,7 @@ use Rattle.fw_faults.proofs.Responses.{IsJudged, all_judged, offset_found}
 use Rattle.fw_faults.proofs.Verdicts.{first_verdict, no_fault}
 use Rattle.fw_audit.specs.Found.{StandsAfter}
 
-clash : {A : Type 0} (v : A) → None ≡ Some v → ⊥
+pub clash : {A : Type 0} (v : A) → None ≡ Some v → ⊥
 clash v e = cc
 
 -- ---- answers
@@ -124,7 +124,7 @@ goes_after new l e goes = go (next_account l e) refl goes
     go (Some m) is h = (m, is, h)
 
 -- the verdict is the one on what is looked at
-goes_verdict : (l : Account) (e : Entry) (o : Option AuditFault) (m : Account) → IsSound l → next_account l e ≡ Some m → o ≡ judged l (looked e) → IsVerdict l (looked e) o
+pub goes_verdict : (l : Account) (e : Entry) (o : Option AuditFault) (m : Account) → IsSound l → next_account l e ≡ Some m → o ≡ judged l (looked e) → IsVerdict l (looked e) o
 goes_verdict l e o m s next is =
     subst (IsVerdict l (looked e)) (sym (is ∙ sym (ap (λ n. found_after (judged l (looked e)) n (unmoved l (looked e))) next ∙ found_on (judged l (looked e)) m (unmoved l (looked e))))) (first_verdict l e s)
 

@@ -1,6 +1,8 @@
-ghost use Rattle.std.specs.Prelude.{◌≡◌, ◌++◌, ◌∷◌, [], List, Option, Some, None, IfOk, IfErr, IsOkAnd};
+ghost use Rattle.std.specs.Prelude.{◌≡◌, ◌++◌, ◌∷◌, [], List, Option, Some, None, IfOk, IfErr, IsOkAnd, IsTrue, IsFalse};
+ghost use Rattle.fw_async.specs.Reader.{IsPacket, Spells};
+ghost use Rattle.fw_async.specs.declared.packet.Packet.{Packet as AsyncPacket};
 ghost use Rattle.fw_entry.specs.declared.entry.Entry.{Entry as LogEntry};
-ghost use Rattle.fw_entry.specs.declared.entry.Entry.TheVariants.{Shown};
+ghost use Rattle.fw_entry.specs.declared.entry.Entry.TheVariants.{Async, Shown};
 ghost use Rattle.fw_entry.specs.declared.entry.ShownEntry.{ShownEntry};
 ghost use Rattle.fw_entry.specs.Log.{Fits};
 ghost use Rattle.fw_account.specs.Account.{Account};
@@ -13,6 +15,7 @@ ghost use Rattle.fw_audit.specs.Found.{Found, StandsAfter, Judges};
 use crate::answers::judge_answer;
 use crate::refusals::fault_of;
 use crate::shown::judge_shown;
+use crate::sound::take_packet;
 use fw_entry::{Entry, Timed};
 use fw_faults::AuditFault;
 use fw_ledger::{Answer, Ledger};
@@ -79,6 +82,24 @@ impl Audit {
             ledger: Ledger::new(alloc)?,
             fault: None,
         })
+    }
+
+    /// Takes the packet that these bytes are where a short look finds that it has no fault, as of nearly all, and answers whether it
+    /// did. Where it did not the audit is unchanged, and `take` says what the packet is. No memory is taken.
+    #[inline(always)]
+    pub fn pass_packet(&mut self, bytes: &[u8]) -> bool
+        requires packet { IsPacket bytes.now }
+        ensures fresh { self.new.fault ≡ self.old.fault }
+        ensures found { IsTrue result → (entries : List LogEntry) (p : AsyncPacket) → Spells p bytes.now → Found entries self.old None → Found (entries ++ Async p ∷ []) self.new None }
+        ensures kept { IsFalse result → self.new ≡ self.old }
+    {
+        if self.fault.is_some() {
+            return false;
+        }
+        match take_packet(&mut self.ledger, bytes) {
+            Some(_) => true,
+            None => false,
+        }
     }
 
     /// Takes an entry, and answers the first fault that it has, over the account of the entries before: None exactly where it

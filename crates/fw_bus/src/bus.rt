@@ -118,9 +118,22 @@ impl Bus {
     pub fn give_back(&mut self, places: &Places, words: &[u32])
         requires { (n : MachineRecord) × IsPlace places.now words.now n × IsReached n }
         ensures stands { (n : MachineRecord) (s : State) → IsPlace places.now words.now n → StandsFor n s → StandsFor self.new.machine s }
+        ensures place { IsPlace places.now words.now self.new.machine }
         ensures fresh { IsFalse self.new.spent }
     {
         places.give_back(words, &mut self.machine);
+        self.spent = false;
+    }
+
+    /// The same of a bus whose machine is the one that was kept under `now`: only parts whose numbers differ are copied.
+    pub fn give_back_from(&mut self, places: &Places, now: &[u32], words: &[u32])
+        requires now { IsPlace places.now now.now self.old.machine }
+        requires kept { (n : MachineRecord) × IsPlace places.now words.now n × IsReached n }
+        ensures stands { (n : MachineRecord) (s : State) → IsPlace places.now words.now n → StandsFor n s → StandsFor self.new.machine s }
+        ensures place { IsPlace places.now words.now self.new.machine }
+        ensures fresh { IsFalse self.new.spent }
+    {
+        places.give_back_from(now, words, &mut self.machine);
         self.spent = false;
     }
 

@@ -1,6 +1,6 @@
 //! A controller as a value: a copy of it, and whether two are the same.
 
-ghost use Rattle.std.specs.Prelude.{◌≡◌, IfOk, IsTrue};
+ghost use Rattle.std.specs.Prelude.{◌≡◌, ◌≤◌, ◌+◌, IfOk, IsTrue, take};
 
 use crate::agenda::Agenda;
 use crate::controller::Controller;
@@ -61,11 +61,44 @@ fn same_slot(slot: Slot, other: Slot) -> bool
     }
 }
 
+// Both are free, and so the same.
+fn are_free(slot: Slot, other: Slot) -> bool
+    ensures { IsTrue result → slot ≡ other }
+{
+    slot.is_free() & other.is_free()
+}
+
+// Whether four slots of each are free.
+fn none_used(slots: &[Slot; 32], others: &[Slot; 32], from: usize) -> bool
+    requires { from + 4 ≤ 32 }
+    ensures { IsTrue result → take from slots.now ≡ take from others.now → take (from + 4) slots.now ≡ take (from + 4) others.now }
+{
+    let mut free = true;
+    for n in from..from + 4 {
+        free &= are_free(slots[n], others[n]);
+    }
+    free
+}
+
+fn are_same(slots: &[Slot; 32], others: &[Slot; 32], from: usize) -> bool
+    requires { from + 4 ≤ 32 }
+    ensures { IsTrue result → take from slots.now ≡ take from others.now → take (from + 4) slots.now ≡ take (from + 4) others.now }
+{
+    for n in from..from + 4 {
+        if !same_slot(slots[n], others[n]) {
+            return false;
+        }
+    }
+    true
+}
+
+// Most slots are free: those are looked at four at a time.
 fn same_slots(slots: &[Slot; 32], others: &[Slot; 32]) -> bool
     ensures { IsTrue result → slots.now ≡ others.now }
 {
-    for n in 0..32 {
-        if !same_slot(slots[n], others[n]) {
+    for group in 0..8 {
+        let from = 4 * group;
+        if !none_used(slots, others, from) && !are_same(slots, others, from) {
             return false;
         }
     }
@@ -78,8 +111,8 @@ fn same_tasks(tasks: &[Task], others: &[Task]) -> bool
     tasks == others
 }
 
-fn same_job(job: Job, other: Job) -> bool
-    ensures { IsTrue result → job ≡ other }
+fn same_job(job: &Job, other: &Job) -> bool
+    ensures { IsTrue result → job.now ≡ other.now }
 {
     if job.slot != other.slot || job.overhead != other.overhead {
         return false;
@@ -90,8 +123,8 @@ fn same_job(job: Job, other: Job) -> bool
     job.asked == other.asked && job.units == other.units
 }
 
-fn same_stage(stage: Stage, other: Stage) -> bool
-    ensures { IsTrue result → stage ≡ other }
+fn same_stage(stage: &Stage, other: &Stage) -> bool
+    ensures { IsTrue result → stage.now ≡ other.now }
 {
     stage == other
 }
@@ -102,8 +135,8 @@ fn same_outcome(outcome: Outcome, other: Outcome) -> bool
     outcome == other
 }
 
-fn same_work(current: Current, other: Current) -> bool
-    ensures { IsTrue result → current ≡ other }
+pub(crate) fn same_work(current: &Current, other: &Current) -> bool
+    ensures { IsTrue result → current.now ≡ other.now }
 {
     match (current, other) {
         (Current::Nothing, Current::Nothing) => true,
@@ -114,7 +147,7 @@ fn same_work(current: Current, other: Current) -> bool
             same_stage(stage, stage2) && same_job(job, job2)
         }
         (Current::Overtaken(slot, outcome), Current::Overtaken(slot2, outcome2)) => {
-            slot == slot2 && same_outcome(outcome, outcome2)
+            slot == slot2 && same_outcome(*outcome, *outcome2)
         }
         _ => false,
     }
@@ -170,7 +203,7 @@ impl Agenda {
     fn is_same(&self, other: &Agenda) -> bool
         ensures { IsTrue result → self.now ≡ other.now }
     {
-        if !same_work(self.current.get(), other.current.get()) {
+        if !self.current.is_same(&other.current) {
             return false;
         }
         if !same_tasks(self.waiting.as_slice(), other.waiting.as_slice()) {

@@ -4,6 +4,7 @@ ghost use Rattle.fw_cmp.specs.Resets.{heard};
 ghost use Rattle.fw_cmp.specs.Works.{CurrentRuns, IsAsking, asked};
 
 use crate::Current;
+use crate::copies::same_work;
 use fw_csr::Reply;
 use std::marker::Model;
 
@@ -57,6 +58,13 @@ impl Work {
             Current::Asking(job, stage) => Current::Hearing(job, stage),
             other => other,
         }
+    }
+
+    /// Two that are found the same are the same.
+    pub fn is_same(&self, other: &Work) -> bool
+        ensures { IsTrue result → self.now ≡ other.now }
+    {
+        self.stands == other.stands && same_work(&self.current, &other.current)
     }
 
     /// Whether a request stands.

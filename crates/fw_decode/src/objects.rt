@@ -14,7 +14,10 @@ ghost use Rattle.fw_reports.specs.Texts.{nothing};
 ghost use Rattle.fw_decode.specs.Texts.{each_form};
 
 use crate::LogRefusal;
-use fw_json::{ObjectRoom, put_object, put_reset_again, put_reset_from};
+use fw_cip::whole_iso;
+use fw_json::{
+    ObjectRoom, put_iso_from, put_object, put_packet_from, put_reset_again, put_reset_from,
+};
 use fw_log::{LogReader, PlainBody, Room, Timed};
 use fw_outside::{Failed, Sink, Source};
 use fw_reading::{Closing, LogEnding, Reading, Stop, read_log};
@@ -60,24 +63,19 @@ fn put_reset(
 }
 
 // Appends the object of an entry of this cycle that has this body.
-fn put_body<'a>(
+fn put_body(
     room: &mut ObjectRoom,
-    whole: &'a mut WholeRoom,
+    whole: &mut WholeRoom,
     cycle: u64,
-    body: &PlainBody<'a>,
+    body: &PlainBody,
 ) -> Result<(), AllocError>
     requires { (e : AnEntry) × HasBody body.now e }
     ensures { (e : AnEntry) → HasBody body.now e → OnOk result (room.new ≡ room.old ++ object (record { cycle = cycle; what = e })) }
 {
     match body {
+        PlainBody::Packet(bytes) => put_packet_from(room, cycle, bytes.as_slice()),
+        PlainBody::Iso(bytes) => put_iso_from(room, cycle, &whole_iso(bytes.as_slice())),
         PlainBody::Reset(bytes) => put_reset(room, whole, cycle, bytes.as_slice()),
-        _ => {
-            let entry = Timed {
-                cycle,
-                what: whole.make(body),
-            };
-            put_object(room, &entry)
-        }
     }
 }
 

@@ -9,3 +9,4 @@ pub mod JoinLaws
 pub mod DeckLaws
 pub mod TalkLaws
 pub mod FrameLaws
+pub mod ChangeLaws

@@ -1,6 +1,6 @@
 //! A bus reset in words.
 
-ghost use Rattle.std.specs.Prelude.{◌≡◌, ◌++◌, ◌+◌, ◌*◌, ◌<◌, ◌≤◌, OnOk, Some, flat_map, length, slice_get};
+ghost use Rattle.std.specs.Prelude.{◌≡◌, ◌++◌, ◌+◌, ◌*◌, ◌<◌, ◌≤◌, OnOk, Some, codes, decimal, flat_map, length, slice_get};
 ghost use Rattle.fw_explain.specs.Resets.{port_text, ports_text, row_text, speed_text, link_text, contender_text, gap_text, self_text, number_text, first_id_text, id_text, manager_text, epoch_text, root_text, resource_manager_text, initiator_text, later_text, reset_text};
 
 use crate::parts::{put_flag, put_named_part, put_part};
@@ -14,16 +14,38 @@ const FURTHER_PORTS: u64 = 3;
 
 const PORTS_PER_PACKET: u64 = 8;
 
-// Appends a port, unless it is not there.
+// Appends a port with this state.
+#[inline(always)]
+fn put_port_with(text: &mut Vec<u8>, number: u64, state: &str) -> Result<(), AllocError>
+    ensures { OnOk result (text.new.items ≡ text.old.items ++ (codes ", port " ++ decimal number ++ state.now)) }
+{
+    put_part(text, ", port ", number)?;
+    put_word(text, state)
+}
+
+// Appends a port whose state has no name.
+#[tactic(auto, unfolding(crate::specs::Resets::port_text))]
+fn put_other_port(text: &mut Vec<u8>, number: u64, port: u8) -> Result<(), AllocError>
+    requires { 0 < port }
+    ensures { OnOk result (text.new.items ≡ text.old.items ++ port_text number port) }
+{
+    put_part(text, ", port ", number)?;
+    put_named_part(text, " ", port_name(port), "code", u64::from(port))
+}
+
+// Appends a port, unless it is not there. Those of most nodes have a state that has a name.
+#[inline(always)]
 #[tactic(auto, unfolding(crate::specs::Resets::port_text))]
 fn put_port(text: &mut Vec<u8>, number: u64, port: u8) -> Result<(), AllocError>
     ensures { OnOk result (text.new.items ≡ text.old.items ++ port_text number port) }
 {
-    if port == 0 {
-        return Ok(());
+    match port {
+        0 => Ok(()),
+        1 => put_port_with(text, number, " not connected"),
+        2 => put_port_with(text, number, " parent"),
+        3 => put_port_with(text, number, " child"),
+        _ => put_other_port(text, number, port),
     }
-    put_part(text, ", port ", number)?;
-    put_named_part(text, " ", port_name(port), "code", u64::from(port))
 }
 
 // Appends the ports of a packet, the first of which has this number.

@@ -1,3 +1,4 @@
 pub mod Outcome
-pub mod Running
 pub mod Keeping
+pub mod KeptBuses
+pub mod Arriving

@@ -5,6 +5,7 @@ ghost use Rattle.fw_explored.specs.Steps.{Had, IsFirstKey};
 
 use crate::explorer::Explorer;
 use crate::keeper::Keeper;
+use crate::kept_bus::KeptBus;
 use crate::step::Walker;
 use fw_bus::Bus;
 use fw_endings::Rows;
@@ -17,12 +18,12 @@ use std::alloc::Global;
 impl<P: Keeper> Walker<P> {
     // The key of the place from which nothing has moved yet.
     fn first_key(&mut self) -> Result<(), Full>
-        requires { IsFalse self.old.bus.spent }
-        ensures { IfOk result (λ u. IsFirstKey (Had self.new.pasts) (P.Kept self.new.places) self.old.bus.machine self.new.key.items) }
+        requires { IsFalse self.old.kept.bus.spent }
+        ensures { IfOk result (λ u. IsFirstKey (Had self.new.pasts) (P.Kept self.new.kept.places) self.old.kept.bus.machine self.new.key.items) }
     {
         let past = Past::new(self.alloc);
         let number = self.pasts.keep(0, &past)?;
-        self.places.keep(&self.bus, &[], &mut self.there)?;
+        self.kept.keep(&[])?;
         self.put_key(number, 0)?;
         Ok(())
     }
@@ -36,7 +37,7 @@ pub(crate) fn begin<P: Keeper>(
     bus: Bus,
 ) -> Result<Explorer<P>, Full>
     requires { IsFalse bus.spent }
-    ensures level { IfOk result (λ e. (key : List ℕ) × IsFirstKey (Had e.walker.pasts) (P.Kept e.walker.places) bus.machine key × (e.levels.level ≡ record { key = key; ways = 1; first = [] } ∷ [])) }
+    ensures level { IfOk result (λ e. (key : List ℕ) × IsFirstKey (Had e.walker.pasts) (P.Kept e.walker.kept.places) bus.machine key × (e.levels.level ≡ record { key = key; ways = 1; first = [] } ∷ [])) }
     ensures next { IfOk result (λ e. e.levels.next ≡ []) }
     ensures rows { IfOk result (λ e. e.rows.list.items ≡ []) }
     ensures ended { IfOk result (λ e. e.rows.ended ≡ 0) }
@@ -44,12 +45,10 @@ pub(crate) fn begin<P: Keeper>(
 {
     let mut walker = Walker {
         alloc,
-        bus,
+        kept: KeptBus::new(alloc, places, bus),
         sink: GrowSink::new(alloc),
-        places,
         pasts: Table::new(alloc)?,
         here: Vec::new(alloc),
-        there: Vec::new(alloc),
         key: Vec::new(alloc),
     };
     walker.first_key()?;

@@ -10,31 +10,37 @@ ghost use Rattle.fw_tape.specs.Desks.{AnyBlock, AnyVendorByte};
 ghost use Rattle.fw_bus.specs.Buses.{StandsFor, IsCommand};
 ghost use Rattle.fw_explored.specs.Steps.{CarriesOn};
 
-use fw_bus::{Bus, BusFault, RuleFault};
+use crate::keeper::Keeper;
+use crate::kept_bus::KeptBus;
+use fw_bus::{BusFault, RuleFault};
 use fw_command::Command;
 use fw_outside::GrowSink;
 use fw_parts::Full;
 use fw_tape::Desk;
 
-/// Carries out a command; the sink has what it wrote, and nothing else. If a rule refuses it the rule is answered, and nothing has changed.
-pub(crate) fn carry<F: Fn(u16, u32, u16) -> [u8; 480], H: Fn(u32, u8) -> u8>(
-    bus: &mut Bus,
-    sink: &mut GrowSink,
-    command: &Command,
-    desk: &Desk<F, H>,
-) -> Result<Option<RuleFault>, Full>
-    requires fresh { IsFalse bus.old.spent }
-    requires command { IsCommand command.now }
-    requires blocks { AnyBlock (F.pre desk.now.blocks) }
-    requires desk { AnyVendorByte (H.pre desk.now.vendor) }
-    ensures carries { (commands : List Line) (actions : List Action) (log : List Timed) (s : State) → Run commands actions log s → StandsFor bus.old.machine s
-        → IfOk result (CarriesOn (record { blocks = F.post desk.now.blocks; vendor = H.post desk.now.vendor }) commands actions log s command.now bus.new sink.new.held) }
-    ensures fresh { IfOk result (λ refused. IsFalse bus.new.spent) }
-{
-    sink.clear();
-    match bus.apply(command, sink, desk) {
-        Ok(()) => Ok(None),
-        Err(BusFault::Refused(rule)) => Ok(Some(rule)),
-        Err(BusFault::WriteFault) => Err(Full::NoMemory),
+impl<P: Keeper> KeptBus<P> {
+    /// Carries out a command; the sink has what it wrote, and nothing else. If a rule refuses it the rule is answered, and nothing has changed.
+    pub(crate) fn carry<F: Fn(u16, u32, u16) -> [u8; 480], H: Fn(u32, u8) -> u8>(
+        &mut self,
+        sink: &mut GrowSink,
+        command: &Command,
+        desk: &Desk<F, H>,
+    ) -> Result<Option<RuleFault>, Full>
+        requires fresh { IsFalse self.old.bus.spent }
+        requires command { IsCommand command.now }
+        requires blocks { AnyBlock (F.pre desk.now.blocks) }
+        requires desk { AnyVendorByte (H.pre desk.now.vendor) }
+        ensures carries { (commands : List Line) (actions : List Action) (log : List Timed) (s : State) → Run commands actions log s → StandsFor self.old.bus.machine s
+            → IfOk result (CarriesOn (record { blocks = F.post desk.now.blocks; vendor = H.post desk.now.vendor }) commands actions log s command.now self.new.bus sink.new.held) }
+        ensures fresh { IfOk result (λ refused. IsFalse self.new.bus.spent) }
+        ensures places { self.new.places ≡ self.old.places }
+    {
+        sink.clear();
+        self.stands = false;
+        match self.bus.apply(command, sink, desk) {
+            Ok(()) => Ok(None),
+            Err(BusFault::Refused(rule)) => Ok(Some(rule)),
+            Err(BusFault::WriteFault) => Err(Full::NoMemory),
+        }
     }
 }

@@ -8,7 +8,6 @@ ghost use Rattle.fw_explored.specs.Finishing.{IsCut, Writes};
 ghost use Rattle.fw_explored.specs.Pasts.{LeadsAt};
 ghost use Rattle.fw_explored.specs.Steps.{Had, IsExplored, IsPlaced};
 
-use crate::carry::carry;
 use crate::keeper::Keeper;
 use crate::step::{Walker, is_silent};
 use fw_movers::{Explored, MoverKind};
@@ -27,12 +26,12 @@ impl<P: Keeper> Walker<P> {
         requires desk { AnyVendorByte (H.pre desk.now.vendor) }
         requires explored { IsExplored explored.now }
         requires mover { mover < length explored.now.movers.items }
-        requires here { IsPlaced (Had self.old.pasts) (P.Kept self.old.places) self.old.here.items }
+        requires here { IsPlaced (Had self.old.pasts) (P.Kept self.old.kept.places) self.old.here.items }
         ensures writes { (script : List Line) (w : List ℕ) → IsFunction (record { blocks = F.post desk.now.blocks; vendor = H.post desk.now.vendor })
-            → LeadsAt (record { blocks = F.post desk.now.blocks; vendor = H.post desk.now.vendor }) script explored.now (Had self.old.pasts) (P.Kept self.old.places) w self.old.here.items
+            → LeadsAt (record { blocks = F.post desk.now.blocks; vendor = H.post desk.now.vendor }) script explored.now (Had self.old.pasts) (P.Kept self.old.kept.places) w self.old.here.items
             → IfOk result (Writes (record { blocks = F.post desk.now.blocks; vendor = H.post desk.now.vendor }) script explored.now w mover) }
         ensures pasts { self.new.pasts ≡ self.old.pasts }
-        ensures places { self.new.places ≡ self.old.places }
+        ensures places { self.new.kept.places ≡ self.old.kept.places }
         ensures here { self.new.here ≡ self.old.here }
     {
         let this = &explored.movers[mover];
@@ -40,8 +39,12 @@ impl<P: Keeper> Walker<P> {
             MoverKind::Once => return Ok(false),
             MoverKind::HalfSteps => {}
         }
-        self.places.give_back(&self.here[2..], &mut self.bus);
-        if carry(&mut self.bus, &mut self.sink, &this.command, desk)?.is_some() {
+        self.kept.give_back(&self.here[2..]);
+        if self
+            .kept
+            .carry(&mut self.sink, &this.command, desk)?
+            .is_some()
+        {
             return Ok(false);
         }
         Ok(!is_silent(this.kind, self.sink.as_slice()))
@@ -56,12 +59,12 @@ impl<P: Keeper> Walker<P> {
         requires blocks { AnyBlock (F.pre desk.now.blocks) }
         requires desk { AnyVendorByte (H.pre desk.now.vendor) }
         requires explored { IsExplored explored.now }
-        requires here { IsPlaced (Had self.old.pasts) (P.Kept self.old.places) self.old.here.items }
+        requires here { IsPlaced (Had self.old.pasts) (P.Kept self.old.kept.places) self.old.here.items }
         ensures cut { (script : List Line) (w : List ℕ) → IsFunction (record { blocks = F.post desk.now.blocks; vendor = H.post desk.now.vendor })
-            → LeadsAt (record { blocks = F.post desk.now.blocks; vendor = H.post desk.now.vendor }) script explored.now (Had self.old.pasts) (P.Kept self.old.places) w self.old.here.items
+            → LeadsAt (record { blocks = F.post desk.now.blocks; vendor = H.post desk.now.vendor }) script explored.now (Had self.old.pasts) (P.Kept self.old.kept.places) w self.old.here.items
             → IfOk result (IsCut (record { blocks = F.post desk.now.blocks; vendor = H.post desk.now.vendor }) script explored.now w) }
         ensures pasts { self.new.pasts ≡ self.old.pasts }
-        ensures places { self.new.places ≡ self.old.places }
+        ensures places { self.new.kept.places ≡ self.old.kept.places }
         ensures here { self.new.here ≡ self.old.here }
     {
         if self.here[1] != explored.most {

@@ -10,16 +10,17 @@ ghost use Rattle.fw_explored.specs.Steps.{Had, IsExplored, IsPlaced, IsWiderBy};
 ghost use Rattle.fw_explored.specs.Walking.{ArePlaced, IsGoing, IsMoving, IsWholeSo};
 
 use crate::keeper::Keeper;
+use crate::key::read_key_words;
 use crate::step::Walker;
 use fw_endings::{Row, Rows};
 use fw_levels::Levels;
 use fw_movers::Explored;
-use fw_parts::{Full, read_words};
+use fw_parts::Full;
 use fw_tape::Desk;
 
 /// Goes through all schedules, level by level, and keeps how they end.
 #[derive(Drop)]
-pub(crate) struct Explorer<P> {
+pub(crate) struct Explorer<P: Keeper> {
     pub(crate) walker: Walker<P>,
     pub(crate) levels: Levels,
     pub(crate) rows: Rows,
@@ -45,15 +46,15 @@ impl<P: Keeper> Explorer<P> {
         requires explored { IsExplored explored.now }
         requires place { place < length self.old.levels.level }
         requires here { (d : Entry) → words_of (slice_index_or self.old.levels.level place d).key ≡ self.old.walker.here.items }
-        requires placed { IsPlaced (Had self.old.walker.pasts) (P.Kept self.old.walker.places) self.old.walker.here.items }
-        requires next { ArePlaced (Had self.old.walker.pasts) (P.Kept self.old.walker.places) self.old.levels.next }
+        requires placed { IsPlaced (Had self.old.walker.pasts) (P.Kept self.old.walker.kept.places) self.old.walker.here.items }
+        requires next { ArePlaced (Had self.old.walker.pasts) (P.Kept self.old.walker.kept.places) self.old.levels.next }
         ensures walks { (script : List Line) (n : ℕ) (d : Entry) → IsFunction (record { blocks = F.post desk.now.blocks; vendor = H.post desk.now.vendor })
-            → IsGoing (record { blocks = F.post desk.now.blocks; vendor = H.post desk.now.vendor }) script explored.now self.old.walker.pasts (P.Kept self.old.walker.places) n place self.old.levels self.old.rows
-            → IfOk result (λ moved. IsMoving (record { blocks = F.post desk.now.blocks; vendor = H.post desk.now.vendor }) script explored.now self.old.walker.pasts self.new.walker.pasts (P.Kept self.old.walker.places) (P.Kept self.new.walker.places) n place
+            → IsGoing (record { blocks = F.post desk.now.blocks; vendor = H.post desk.now.vendor }) script explored.now self.old.walker.pasts (P.Kept self.old.walker.kept.places) n place self.old.levels self.old.rows
+            → IfOk result (λ moved. IsMoving (record { blocks = F.post desk.now.blocks; vendor = H.post desk.now.vendor }) script explored.now self.old.walker.pasts self.new.walker.pasts (P.Kept self.old.walker.kept.places) (P.Kept self.new.walker.kept.places) n place
             (length explored.now.movers.items) (slice_index_or self.old.levels.level place d).key moved self.new.levels self.new.rows) }
-        ensures still { IfOk result (λ moved. IsFalse moved → (self.new.walker.pasts ≡ self.old.walker.pasts) × (self.new.walker.places ≡ self.old.walker.places)) }
-        ensures next { IfOk result (λ moved. ArePlaced (Had self.new.walker.pasts) (P.Kept self.new.walker.places) self.new.levels.next) }
-        ensures wider { IfOk result (λ moved. IsWiderBy (Had self.old.walker.pasts) (Had self.new.walker.pasts) (P.Kept self.old.walker.places) (P.Kept self.new.walker.places)) }
+        ensures still { IfOk result (λ moved. IsFalse moved → (self.new.walker.pasts ≡ self.old.walker.pasts) × (self.new.walker.kept.places ≡ self.old.walker.kept.places)) }
+        ensures next { IfOk result (λ moved. ArePlaced (Had self.new.walker.pasts) (P.Kept self.new.walker.kept.places) self.new.levels.next) }
+        ensures wider { IfOk result (λ moved. IsWiderBy (Had self.old.walker.pasts) (Had self.new.walker.pasts) (P.Kept self.old.walker.kept.places) (P.Kept self.new.walker.kept.places)) }
         ensures level { self.new.levels.level ≡ self.old.levels.level }
         ensures here { self.new.walker.here ≡ self.old.walker.here }
         ensures rows { self.new.rows ≡ self.old.rows }
@@ -81,13 +82,13 @@ impl<P: Keeper> Explorer<P> {
         requires explored { IsExplored explored.now }
         requires place { place < length self.old.levels.level }
         requires here { (d : Entry) → words_of (slice_index_or self.old.levels.level place d).key ≡ self.old.walker.here.items }
-        requires placed { IsPlaced (Had self.old.walker.pasts) (P.Kept self.old.walker.places) self.old.walker.here.items }
+        requires placed { IsPlaced (Had self.old.walker.pasts) (P.Kept self.old.walker.kept.places) self.old.walker.here.items }
         ensures walks { (script : List Line) (n : ℕ) (d : Entry) → IsFunction (record { blocks = F.post desk.now.blocks; vendor = H.post desk.now.vendor })
-            → IsMoving (record { blocks = F.post desk.now.blocks; vendor = H.post desk.now.vendor }) script explored.now self.old.walker.pasts self.old.walker.pasts (P.Kept self.old.walker.places) (P.Kept self.old.walker.places) n place
+            → IsMoving (record { blocks = F.post desk.now.blocks; vendor = H.post desk.now.vendor }) script explored.now self.old.walker.pasts self.old.walker.pasts (P.Kept self.old.walker.kept.places) (P.Kept self.old.walker.kept.places) n place
             (length explored.now.movers.items) (slice_index_or self.old.levels.level place d).key false self.old.levels self.old.rows
-            → IfOk result (λ u. IsGoing (record { blocks = F.post desk.now.blocks; vendor = H.post desk.now.vendor }) script explored.now self.new.walker.pasts (P.Kept self.new.walker.places) n (place + 1) self.new.levels self.new.rows) }
+            → IfOk result (λ u. IsGoing (record { blocks = F.post desk.now.blocks; vendor = H.post desk.now.vendor }) script explored.now self.new.walker.pasts (P.Kept self.new.walker.kept.places) n (place + 1) self.new.levels self.new.rows) }
         ensures pasts { self.new.walker.pasts ≡ self.old.walker.pasts }
-        ensures places { self.new.walker.places ≡ self.old.walker.places }
+        ensures places { self.new.walker.kept.places ≡ self.old.walker.kept.places }
         ensures levels { self.new.levels ≡ self.old.levels }
         ensures longest { self.new.rows.longest ≡ self.old.rows.longest }
     {
@@ -117,17 +118,17 @@ impl<P: Keeper> Explorer<P> {
         requires desk { AnyVendorByte (H.pre desk.now.vendor) }
         requires explored { IsExplored explored.now }
         requires place { place < length self.old.levels.level }
-        requires placed { ArePlaced (Had self.old.walker.pasts) (P.Kept self.old.walker.places) self.old.levels.level }
-        requires next { ArePlaced (Had self.old.walker.pasts) (P.Kept self.old.walker.places) self.old.levels.next }
+        requires placed { ArePlaced (Had self.old.walker.pasts) (P.Kept self.old.walker.kept.places) self.old.levels.level }
+        requires next { ArePlaced (Had self.old.walker.pasts) (P.Kept self.old.walker.kept.places) self.old.levels.next }
         ensures walks { (script : List Line) (n : ℕ) → IsFunction (record { blocks = F.post desk.now.blocks; vendor = H.post desk.now.vendor })
-            → IsGoing (record { blocks = F.post desk.now.blocks; vendor = H.post desk.now.vendor }) script explored.now self.old.walker.pasts (P.Kept self.old.walker.places) n place self.old.levels self.old.rows
-            → IfOk result (λ u. IsGoing (record { blocks = F.post desk.now.blocks; vendor = H.post desk.now.vendor }) script explored.now self.new.walker.pasts (P.Kept self.new.walker.places) n (place + 1) self.new.levels self.new.rows) }
-        ensures placed { IfOk result (λ u. ArePlaced (Had self.new.walker.pasts) (P.Kept self.new.walker.places) self.new.levels.level) }
-        ensures next { IfOk result (λ u. ArePlaced (Had self.new.walker.pasts) (P.Kept self.new.walker.places) self.new.levels.next) }
+            → IsGoing (record { blocks = F.post desk.now.blocks; vendor = H.post desk.now.vendor }) script explored.now self.old.walker.pasts (P.Kept self.old.walker.kept.places) n place self.old.levels self.old.rows
+            → IfOk result (λ u. IsGoing (record { blocks = F.post desk.now.blocks; vendor = H.post desk.now.vendor }) script explored.now self.new.walker.pasts (P.Kept self.new.walker.kept.places) n (place + 1) self.new.levels self.new.rows) }
+        ensures placed { IfOk result (λ u. ArePlaced (Had self.new.walker.pasts) (P.Kept self.new.walker.kept.places) self.new.levels.level) }
+        ensures next { IfOk result (λ u. ArePlaced (Had self.new.walker.pasts) (P.Kept self.new.walker.kept.places) self.new.levels.next) }
         ensures level { self.new.levels.level ≡ self.old.levels.level }
         ensures longest { self.new.rows.longest ≡ self.old.rows.longest }
     {
-        read_words(&mut self.walker.here, self.levels.key(place))?;
+        read_key_words(&mut self.walker.here, self.levels.key(place))?;
         if self.move_all(explored, place, desk)? {
             return Ok(());
         }
@@ -143,12 +144,12 @@ impl<P: Keeper> Explorer<P> {
         requires blocks { AnyBlock (F.pre desk.now.blocks) }
         requires desk { AnyVendorByte (H.pre desk.now.vendor) }
         requires explored { IsExplored explored.now }
-        requires placed { ArePlaced (Had self.old.walker.pasts) (P.Kept self.old.walker.places) self.old.levels.level }
+        requires placed { ArePlaced (Had self.old.walker.pasts) (P.Kept self.old.walker.kept.places) self.old.levels.level }
         requires next { self.old.levels.next ≡ [] }
         ensures walks { (script : List Line) (n : ℕ) → IsFunction (record { blocks = F.post desk.now.blocks; vendor = H.post desk.now.vendor })
-            → IsGoing (record { blocks = F.post desk.now.blocks; vendor = H.post desk.now.vendor }) script explored.now self.old.walker.pasts (P.Kept self.old.walker.places) n 0 self.old.levels self.old.rows
-            → IfOk result (λ u. IsGoing (record { blocks = F.post desk.now.blocks; vendor = H.post desk.now.vendor }) script explored.now self.new.walker.pasts (P.Kept self.new.walker.places) n (length self.new.levels.level) self.new.levels self.new.rows) }
-        ensures next { IfOk result (λ u. ArePlaced (Had self.new.walker.pasts) (P.Kept self.new.walker.places) self.new.levels.next) }
+            → IsGoing (record { blocks = F.post desk.now.blocks; vendor = H.post desk.now.vendor }) script explored.now self.old.walker.pasts (P.Kept self.old.walker.kept.places) n 0 self.old.levels self.old.rows
+            → IfOk result (λ u. IsGoing (record { blocks = F.post desk.now.blocks; vendor = H.post desk.now.vendor }) script explored.now self.new.walker.pasts (P.Kept self.new.walker.kept.places) n (length self.new.levels.level) self.new.levels self.new.rows) }
+        ensures next { IfOk result (λ u. ArePlaced (Had self.new.walker.pasts) (P.Kept self.new.walker.kept.places) self.new.levels.next) }
         ensures longest { self.new.rows.longest ≡ self.old.rows.longest }
     {
         for place in 0..self.levels.len() {
@@ -166,11 +167,11 @@ impl<P: Keeper> Explorer<P> {
         requires blocks { AnyBlock (F.pre desk.now.blocks) }
         requires desk { AnyVendorByte (H.pre desk.now.vendor) }
         requires explored { IsExplored explored.now }
-        requires placed { ArePlaced (Had self.old.walker.pasts) (P.Kept self.old.walker.places) self.old.levels.level }
+        requires placed { ArePlaced (Had self.old.walker.pasts) (P.Kept self.old.walker.kept.places) self.old.levels.level }
         requires some { 0 < length self.old.levels.level }
         requires next { self.old.levels.next ≡ [] }
         ensures whole { (script : List Line) → IsFunction (record { blocks = F.post desk.now.blocks; vendor = H.post desk.now.vendor })
-            → IsGoing (record { blocks = F.post desk.now.blocks; vendor = H.post desk.now.vendor }) script explored.now self.old.walker.pasts (P.Kept self.old.walker.places) 0 0 self.old.levels self.old.rows
+            → IsGoing (record { blocks = F.post desk.now.blocks; vendor = H.post desk.now.vendor }) script explored.now self.old.walker.pasts (P.Kept self.old.walker.kept.places) 0 0 self.old.levels self.old.rows
             → IfOk result (λ u. IsWholeSo (record { blocks = F.post desk.now.blocks; vendor = H.post desk.now.vendor }) script explored.now self.new.rows) }
     {
         for moves in 0..explored.most.saturating_add(33) {

@@ -15,7 +15,6 @@ ghost use Rattle.fw_explored.specs.Moves.{Behind};
 ghost use Rattle.fw_explored.specs.Pasts.{LeadsAt};
 ghost use Rattle.fw_explored.specs.Steps.{Had, IsExplored, IsPlaced};
 
-use crate::carry::carry;
 use crate::keeper::Keeper;
 use crate::names::rule_name;
 use crate::step::Walker;
@@ -65,17 +64,17 @@ impl<P: Keeper> Walker<P> {
         requires blocks { AnyBlock (F.pre desk.now.blocks) }
         requires desk { AnyVendorByte (H.pre desk.now.vendor) }
         requires behind { All (λ l. IsCommand l.command) behind.now }
-        requires fresh { IsFalse self.old.bus.spent }
+        requires fresh { IsFalse self.old.kept.bus.spent }
         ensures carried { (script commands : List ACommand) (out : List TimedEntry) (s : State)
-            → Behind (record { blocks = F.post desk.now.blocks; vendor = H.post desk.now.vendor }) script commands out s → StandsFor self.old.bus.machine s
+            → Behind (record { blocks = F.post desk.now.blocks; vendor = H.post desk.now.vendor }) script commands out s → StandsFor self.old.kept.bus.machine s
             → IfOk result (λ u. CarriedBehind (record { blocks = F.post desk.now.blocks; vendor = H.post desk.now.vendor }) script commands behind.now past.old past.new
             refused.old.items refused.new.items lines.old.items lines.new.items) }
         ensures pasts { self.new.pasts ≡ self.old.pasts }
-        ensures places { self.new.places ≡ self.old.places }
+        ensures places { self.new.kept.places ≡ self.old.kept.places }
         ensures here { self.new.here ≡ self.old.here }
     {
         for line in behind {
-            match carry(&mut self.bus, &mut self.sink, &line.command, desk)? {
+            match self.kept.carry(&mut self.sink, &line.command, desk)? {
                 None => {
                     past.tell(self.sink.as_slice())?;
                     put_line(lines, line)?;
@@ -95,16 +94,16 @@ impl<P: Keeper> Walker<P> {
         requires blocks { AnyBlock (F.pre desk.now.blocks) }
         requires desk { AnyVendorByte (H.pre desk.now.vendor) }
         requires explored { IsExplored explored.now }
-        requires here { IsPlaced (Had self.old.pasts) (P.Kept self.old.places) self.old.here.items }
+        requires here { IsPlaced (Had self.old.pasts) (P.Kept self.old.kept.places) self.old.here.items }
         ensures finished { (script : List ACommand) (w : List ℕ)
-            → LeadsAt (record { blocks = F.post desk.now.blocks; vendor = H.post desk.now.vendor }) script explored.now (Had self.old.pasts) (P.Kept self.old.places) w self.old.here.items
+            → LeadsAt (record { blocks = F.post desk.now.blocks; vendor = H.post desk.now.vendor }) script explored.now (Had self.old.pasts) (P.Kept self.old.kept.places) w self.old.here.items
             → IfOk result (λ f. IsFinished (record { blocks = F.post desk.now.blocks; vendor = H.post desk.now.vendor }) script explored.now w f.ending.items f.lines.items) }
         ensures pasts { self.new.pasts ≡ self.old.pasts }
-        ensures places { self.new.places ≡ self.old.places }
+        ensures places { self.new.kept.places ≡ self.old.kept.places }
         ensures here { self.new.here ≡ self.old.here }
     {
         let mut past = self.past().copied(self.alloc)?;
-        self.places.give_back(&self.here[2..], &mut self.bus);
+        self.kept.give_back(&self.here[2..]);
         let mut refused = Vec::new(self.alloc);
         let mut lines = Vec::new(self.alloc);
         let behind = explored.behind.as_slice();

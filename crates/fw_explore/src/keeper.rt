@@ -23,4 +23,11 @@ pub trait Keeper: Drop {
         requires { (m : Machine) × Kept self.now words.now m }
         ensures stands { (m : Machine) (s : State) → Kept self.now words.now m → StandsFor m s → StandsFor bus.new.machine s }
         ensures fresh { IsFalse bus.new.spent };
+
+    /// A bus that stands where it was kept comes back, as by `give_back`, to what was kept under other numbers.
+    fn give_back_from(&self, now: &[u32], words: &[u32], bus: &mut Bus)
+        requires now { Kept self.now now.now bus.old.machine }
+        requires kept { (m : Machine) × Kept self.now words.now m }
+        ensures stands { (m : Machine) (s : State) → Kept self.now words.now m → StandsFor m s → StandsFor bus.new.machine s }
+        ensures fresh { IsFalse bus.new.spent };
 }

@@ -18,4 +18,8 @@ impl Keeper for Places {
     fn give_back(&self, words: &[u32], bus: &mut Bus) {
         bus.give_back(self, words);
     }
+
+    fn give_back_from(&self, now: &[u32], words: &[u32], bus: &mut Bus) {
+        bus.give_back_from(self, now, words);
+    }
 }

@@ -14,10 +14,10 @@ ghost use Rattle.fw_told.specs.Histories.{History, told_entries};
 ghost use Rattle.fw_explored.specs.Pasts.{LeadsAt};
 ghost use Rattle.fw_explored.specs.Steps.{Had, Steps, IsExplored, IsPlaced, IsArrived, IsPlacedKey, IsWiderBy, half_after, half_in, marked, past_in};
 
-use crate::carry::carry;
 use crate::keeper::Keeper;
+use crate::kept_bus::KeptBus;
+use crate::key::put_key_words;
 use crate::there::is_there;
-use fw_bus::Bus;
 use fw_movers::{Explored, MoverKind};
 use fw_outside::GrowSink;
 use fw_parts::{Full, Table, are_numbers, put_words};
@@ -27,90 +27,60 @@ use std::alloc::Global;
 
 /// What goes from place to place.
 #[derive(Drop)]
-pub(crate) struct Walker<P> {
+pub(crate) struct Walker<P: Keeper> {
     pub(crate) alloc: Global,
-    pub(crate) bus: Bus,
+    pub(crate) kept: KeptBus<P>,
     pub(crate) sink: GrowSink,
-    pub(crate) places: P,
     pub(crate) pasts: Table<Past>,
     /// The numbers of the place that it goes on from: of its past, its half steps, and those of its machine.
     pub(crate) here: Vec<u32>,
-    /// Those of the machine that a move leads to.
-    pub(crate) there: Vec<u32>,
     pub(crate) key: Vec<u8>,
 }
 
-// The half steps with a move, and the past with its line.
-fn count_move(past: &mut Past, half: u32, mover: usize, kind: MoverKind) -> u32
-    requires mover { mover < 32 }
-    requires room { kind ≡ HalfSteps → half < 2 ^ 32 - 1 }
-    ensures half { result ≡ half_after kind half }
-    ensures past { past.new ≡ marked kind mover past.old }
+// The half steps with a move.
+fn half_after(kind: MoverKind, half: u32) -> u32
+    requires { kind ≡ HalfSteps → half < 2 ^ 32 - 1 }
+    ensures { result ≡ half_after kind half }
 {
     match kind {
         MoverKind::HalfSteps => half + 1,
-        MoverKind::Once => {
-            past.mark(mover);
-            half
-        }
+        MoverKind::Once => half,
     }
 }
 
 impl<P: Keeper> Walker<P> {
-    // The past of the place.
-    pub(crate) fn past(&self) -> &Past
-        requires { IsPlaced (Had self.now.pasts) (P.Kept self.now.places) self.now.here.items }
-        ensures { (past : History) → Had self.now.pasts (past_in self.now.here.items) past → result.now ≡ past }
-    {
-        let number = self.here[0] as usize;
-        &self.pasts.as_slice()[number]
-    }
-
-    // The past of the place, with what the sink has.
-    fn past_here(&self) -> Result<Past, Full>
-        requires { IsPlaced (Had self.now.pasts) (P.Kept self.now.places) self.now.here.items }
-        ensures { (epoch : ℕ) (out : List Timed) (past : History) → All TimedFits out → self.now.sink.held ≡ entries_bytes Two epoch out → Had self.now.pasts (past_in self.now.here.items) past
-            → IfOk result (λ p. p ≡ record { done = past.done; said = past.said ++ told_entries out }) }
-    {
-        let mut past = self.past().copied(self.alloc)?;
-        past.tell(self.sink.as_slice())?;
-        Ok(past)
-    }
-
     // The key of where a mover has led.
     fn arrive(&mut self, mover: usize, kind: MoverKind) -> Result<(), Full>
         requires mover { mover < 32 }
-        requires here { IsPlaced (Had self.old.pasts) (P.Kept self.old.places) self.old.here.items }
-        requires fresh { IsFalse self.old.bus.spent }
+        requires here { IsPlaced (Had self.old.pasts) (P.Kept self.old.kept.places) self.old.here.items }
+        requires fresh { IsFalse self.old.kept.bus.spent }
         requires room { kind ≡ HalfSteps → half_in self.old.here.items < 2 ^ 32 - 1 }
         ensures arrives { (epoch : ℕ) (out : List Timed) (past : History) → All TimedFits out → self.old.sink.held ≡ entries_bytes Two epoch out
             → Had self.old.pasts (past_in self.old.here.items) past
-            → IfOk result (λ u. IsArrived (Had self.new.pasts) (P.Kept self.new.places) self.old.bus.machine past (half_in self.old.here.items) out mover kind self.new.key.items) }
-        ensures placed { IfOk result (λ u. IsPlacedKey (Had self.new.pasts) (P.Kept self.new.places) self.new.key.items) }
-        ensures wider { IfOk result (λ u. IsWiderBy (Had self.old.pasts) (Had self.new.pasts) (P.Kept self.old.places) (P.Kept self.new.places)) }
+            → IfOk result (λ u. IsArrived (Had self.new.pasts) (P.Kept self.new.kept.places) self.old.kept.bus.machine past (half_in self.old.here.items) out mover kind self.new.key.items) }
+        ensures placed { IfOk result (λ u. IsPlacedKey (Had self.new.pasts) (P.Kept self.new.kept.places) self.new.key.items) }
+        ensures wider { IfOk result (λ u. IsWiderBy (Had self.old.pasts) (Had self.new.pasts) (P.Kept self.old.kept.places) (P.Kept self.new.kept.places)) }
         ensures here { self.new.here ≡ self.old.here }
     {
-        let mut past = self.past_here()?;
-        let half = count_move(&mut past, self.here[1], mover, kind);
-        let number = self.pasts.keep(self.here[0], &past)?;
-        self.places
-            .keep(&self.bus, &self.here[2..], &mut self.there)?;
+        let half = half_after(kind, self.here[1]);
+        let number = self.past_after(mover, kind)?;
+        self.kept.keep(&self.here[2..])?;
         self.put_key(number, half)?;
         Ok(())
     }
 
     // The key has these numbers, and those of the machine.
     pub(crate) fn put_key(&mut self, number: u32, half: u32) -> Result<(), Full>
-        ensures key { IfOk result (λ u. self.new.key.items ≡ bytes_of (number ∷ half ∷ self.old.there.items)) }
-        ensures small { (k : ℕ) → slice_index (number ∷ half ∷ self.old.there.items) k < 2 ^ 32 }
+        ensures key { IfOk result (λ u. self.new.key.items ≡ bytes_of (number ∷ half ∷ self.old.kept.at)) }
+        ensures small { (k : ℕ) → slice_index (number ∷ half ∷ self.old.kept.at) k < 2 ^ 32 }
         ensures here { self.new.here ≡ self.old.here }
-        ensures places { self.new.places ≡ self.old.places }
+        ensures places { self.new.kept.places ≡ self.old.kept.places }
         ensures pasts { self.new.pasts ≡ self.old.pasts }
     {
-        are_numbers(self.there.as_slice());
+        are_numbers(self.kept.at());
         self.key.clear();
         put_words(&mut self.key, &[number, half])?;
-        put_words(&mut self.key, self.there.as_slice())?;
+        put_key_words(&mut self.key, self.kept.at())?;
         Ok(())
     }
 
@@ -125,14 +95,14 @@ impl<P: Keeper> Walker<P> {
         requires desk { AnyVendorByte (H.pre desk.now.vendor) }
         requires explored { IsExplored explored.now }
         requires mover { mover < length explored.now.movers.items }
-        requires here { IsPlaced (Had self.old.pasts) (P.Kept self.old.places) self.old.here.items }
+        requires here { IsPlaced (Had self.old.pasts) (P.Kept self.old.kept.places) self.old.here.items }
         ensures steps { (script : List Line) (w : List ℕ) → IsFunction (record { blocks = F.post desk.now.blocks; vendor = H.post desk.now.vendor })
-            → LeadsAt (record { blocks = F.post desk.now.blocks; vendor = H.post desk.now.vendor }) script explored.now (Had self.old.pasts) (P.Kept self.old.places) w self.old.here.items
+            → LeadsAt (record { blocks = F.post desk.now.blocks; vendor = H.post desk.now.vendor }) script explored.now (Had self.old.pasts) (P.Kept self.old.kept.places) w self.old.here.items
             → IfOk result (Steps (record { blocks = F.post desk.now.blocks; vendor = H.post desk.now.vendor }) script explored.now
-            (Had self.new.pasts) (P.Kept self.new.places) w mover self.new.key.items) }
-        ensures placed { IfOk result (λ moved. IsTrue moved → IsPlacedKey (Had self.new.pasts) (P.Kept self.new.places) self.new.key.items) }
-        ensures still { IfOk result (λ moved. IsFalse moved → (self.new.pasts ≡ self.old.pasts) × (self.new.places ≡ self.old.places)) }
-        ensures wider { IfOk result (λ moved. IsWiderBy (Had self.old.pasts) (Had self.new.pasts) (P.Kept self.old.places) (P.Kept self.new.places)) }
+            (Had self.new.pasts) (P.Kept self.new.kept.places) w mover self.new.key.items) }
+        ensures placed { IfOk result (λ moved. IsTrue moved → IsPlacedKey (Had self.new.pasts) (P.Kept self.new.kept.places) self.new.key.items) }
+        ensures still { IfOk result (λ moved. IsFalse moved → (self.new.pasts ≡ self.old.pasts) × (self.new.kept.places ≡ self.old.kept.places)) }
+        ensures wider { IfOk result (λ moved. IsWiderBy (Had self.old.pasts) (Had self.new.pasts) (P.Kept self.old.kept.places) (P.Kept self.new.kept.places)) }
         ensures here { self.new.here ≡ self.old.here }
     {
         let this = &explored.movers[mover];
@@ -143,8 +113,12 @@ impl<P: Keeper> Walker<P> {
         if self.is_full(explored, kind) {
             return Ok(false);
         }
-        self.places.give_back(&self.here[2..], &mut self.bus);
-        if carry(&mut self.bus, &mut self.sink, &this.command, desk)?.is_some() {
+        self.kept.give_back(&self.here[2..]);
+        if self
+            .kept
+            .carry(&mut self.sink, &this.command, desk)?
+            .is_some()
+        {
             return Ok(false);
         }
         if is_silent(kind, self.sink.as_slice()) {
@@ -156,7 +130,7 @@ impl<P: Keeper> Walker<P> {
 
     // Whether a half step more would be one too many.
     fn is_full(&self, explored: &Explored, kind: MoverKind) -> bool
-        requires { IsPlaced (Had self.now.pasts) (P.Kept self.now.places) self.now.here.items }
+        requires { IsPlaced (Had self.now.pasts) (P.Kept self.now.kept.places) self.now.here.items }
         ensures full { IsTrue result → (kind ≡ HalfSteps) × (explored.now.most ≤ half_in self.now.here.items) }
         ensures room { IsFalse result → kind ≡ HalfSteps → half_in self.now.here.items < explored.now.most }
         ensures few { IsFalse result → kind ≡ HalfSteps → half_in self.now.here.items < 2 ^ 32 - 1 }

@@ -3,6 +3,7 @@ pub mod HeldLaws
 pub mod EndsLaws
 pub mod TextLaws
 pub mod PlugLaws
+pub mod PassLaws
 pub mod MoveLaws
 pub mod JudgedLaws
 pub mod ReplyLaws

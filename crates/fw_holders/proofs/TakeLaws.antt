@@ -36,7 +36,7 @@ pub record IsResponse (l k : Account) (e : Entry) (a : Answer) : Type 0 where
   pub answered : answered (device_of_id l.latest response.requester) response.responder response.reply l ≡ Some k
   pub is : IsAnswered l response a
 
-not_shown : {X : Type 0} (a : Answer) → None ≡ Some a → X
+pub not_shown : {X : Type 0} (a : Answer) → None ≡ Some a → X
 not_shown a e = let z : ⊥ = cc in absurd z
 
 not_answer : {X : Type 0} (a : Answer) → Some a ≡ None → X
@@ -93,7 +93,7 @@ entry_answers l k (Outcome o) a is next = not_answer a is
 entry_answers l k (Shown s) a is next = not_answer a is
 entry_answers l k End a is next = not_answer a is
 
-packet_quiet : (l : Account) (x : Looked) → ShowsAnswer l x None → packet_told l x ≡ None
+pub packet_quiet : (l : Account) (x : Looked) → ShowsAnswer l x None → packet_told l x ≡ None
 packet_quiet l (Asks id) h = refl
 packet_quiet l (Replies r) h = not_shown h.0 h.1
 packet_quiet l (Shows s) h = refl

@@ -1,8 +1,10 @@
 //! Entries, taken one by one.
 
-ghost use Rattle.std.specs.Prelude.{◌≡◌, ◌+◌, ◌<◌, ◌^◌, ◌++◌, ◌∷◌, [], List, length, IfOk, Some, None, is_some, true};
+ghost use Rattle.std.specs.Prelude.{◌≡◌, ◌+◌, ◌<◌, ◌^◌, ◌++◌, ◌∷◌, [], List, length, IfOk, Some, None, is_some, true, IsTrue, IsFalse};
+ghost use Rattle.fw_async.specs.Reader.{IsPacket, Spells};
+ghost use Rattle.fw_async.specs.declared.packet.Packet.{Packet as APacket};
 ghost use Rattle.fw_entry.specs.Log.{Fits};
-ghost use Rattle.fw_entry.specs.declared.entry.Entry.TheVariants.{Event};
+ghost use Rattle.fw_entry.specs.declared.entry.Entry.TheVariants.{Async, Event};
 ghost use Rattle.fw_entry.specs.declared.entry.EventEntry.{EventEntry as LogEvent};
 ghost use Rattle.fw_entry.specs.declared.entry.Timed.{Timed as TimedEntry};
 ghost use Rattle.fw_account.specs.Account.{Account};
@@ -16,7 +18,7 @@ ghost use Rattle.fw_holders.specs.Told.{Holds, Takes, holders, table_of};
 use crate::judged::Judged;
 use crate::lines::{is_told, put_answer, put_cycle, put_event, put_reset, put_rest};
 use crate::table::put_table;
-use fw_audit::{AuditFault, take_entry};
+use fw_audit::{AuditFault, take_entry, take_packet};
 use fw_entry::{Entry, EventEntry, Timed};
 use fw_ledger::Ledger;
 use std::alloc::{AllocError, Global};
@@ -126,6 +128,28 @@ impl Holders {
         match &t.what {
             Entry::Event(event) if is_told(event) => self.take_event(t, event),
             _ => self.take_other(t),
+        }
+    }
+
+    /// Takes the packet of this cycle that these bytes are where a short look finds that it has no fault, as of nearly all, and answers
+    /// whether it did; it appends the line, if it has one. Where it did not nothing is changed, and `take` says what the packet is. An
+    /// error says that memory ran out.
+    #[inline(always)]
+    pub fn pass_packet(&mut self, cycle: u64, bytes: &[u8]) -> Result<bool, AllocError>
+        requires packet { IsPacket bytes.now }
+        ensures passed { (entries : List TimedEntry) (t : TimedEntry) (p : APacket) → t.cycle ≡ cycle → t.what ≡ Async p → Spells p bytes.now → length entries + 1 < 2 ^ 64
+            → Holds entries self.old
+            → IfOk result (λ passed. IsTrue passed → Holds (entries ++ t ∷ []) self.new × (self.new.text ≡ self.old.text ++ holders entries (t ∷ []))) }
+        ensures kept { IfOk result (λ passed. IsFalse passed → self.new ≡ self.old) }
+    {
+        match take_packet(&mut self.ledger, bytes) {
+            Some(Some(answer)) => {
+                self.judged.take_answer(&answer);
+                put_answer(&mut self.text, cycle, &self.ledger, &answer)?;
+                Ok(true)
+            }
+            Some(None) => Ok(true),
+            None => Ok(false),
         }
     }
 

@@ -82,8 +82,8 @@ impl Judged {
         }
     }
 
-    // An answer more.
-    fn take_answer(&mut self, answer: &Answer)
+    /// An answer more.
+    pub(crate) fn take_answer(&mut self, answer: &Answer)
         ensures { (q : Request) (r : Response) (n : ℕ) → AskedFor answer.now.asked (Some q) → answer.now.rcode ≡ r.rcode → answer.now.shown ≡ r.word
             → n + 1 < 2 ^ 64 → IsWithin n self.old → self.new ≡ answer_judged (Some q) r self.old }
     {

@@ -17,6 +17,12 @@ pub keyed : (before after last key value : List ℕ) → after ≡ before ++ key
 unfolding field
 keyed before after last key value e f = then before after last key value e f
 
+-- a value behind a piece that ends in its key
+pub value_behind : (before after last piece key value : List ℕ) → after ≡ before ++ (piece ++ key) → last ≡ after ++ value → last ≡ before ++ (piece ++ field key value)
+unfolding field
+value_behind before after last piece key value e f =
+    then before after last (piece ++ key) value e f ∙ ap (λ (t : List ℕ). before ++ t) (append_assoc piece key value)
+
 -- a piece of what is the same
 pub moved : {X : Type 0} (f : X → List ℕ) (before last : List ℕ) (x y : X) → x ≡ y → last ≡ before ++ f x → last ≡ before ++ f y
 moved f before last x y e t = t ∙ ap (λ z. before ++ f z) e

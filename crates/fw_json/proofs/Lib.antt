@@ -1,4 +1,5 @@
 pub mod Joins
+pub mod IsoTexts
 pub mod Told
 pub mod ToldValues
 pub mod ToldLists
@@ -12,3 +13,6 @@ pub mod PlainNames
 pub mod PlainIds
 pub mod PlainEntries
 pub mod LaterLaws
+pub mod SwapTexts
+pub mod HeadTexts
+pub mod CipTexts

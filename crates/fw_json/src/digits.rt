@@ -1,6 +1,8 @@
 //! The digits of bytes: of the data of a lock, of long blocks.
 
-ghost use Rattle.std.specs.Prelude.{◌≡◌, ◌≤◌, ◌+◌, ◌*◌, ◌%◌, ◌++◌, OnOk, length, take};
+ghost use Rattle.std.specs.Prelude.{◌≡◌, ◌≤◌, ◌<◌, ◌+◌, ◌*◌, ◌++◌, OnOk, false, length, take};
+ghost use Rattle.std.specs.Fmt.{digit_glyph};
+ghost use Rattle.fw_names.specs.Digits.{byte_digits};
 ghost use Rattle.fw_names.specs.Texts.{hex_bytes};
 
 use crate::values::put_text;
@@ -11,11 +13,14 @@ use std::alloc::AllocError;
 const LONG: usize = 64;
 
 /// How many bytes such a block has at most.
-const LONGEST: usize = 512;
+pub(crate) const LONGEST: usize = 512;
+
+/// How far in ASCII the letter of the digit ten stands beyond where the digits would go on.
+const LETTERS: u8 = b'a' - b'0' - 10;
 
 // The digits of four bytes.
 #[inline(always)]
-fn digits_of(pairs: &Pairs, four: [u8; 4]) -> [u8; 8]
+pub(crate) fn digits_of(pairs: &Pairs, four: [u8; 4]) -> [u8; 8]
     ensures { result ≡ hex_bytes four }
 {
     let [a, b] = pairs.of(u64::from(four[0]));
@@ -25,42 +30,54 @@ fn digits_of(pairs: &Pairs, four: [u8; 4]) -> [u8; 8]
     [a, b, c, d, e, f, g, h]
 }
 
-// Writes eight digits over the bytes from `at` on.
+// The digit of four bits. It is reckoned, not looked up: so a loop over bytes takes many of them at once.
 #[inline(always)]
-fn write_eight(out: &mut [u8], at: usize, digits: [u8; 8])
-    requires { at + 8 ≤ length out.old }
-    ensures size { length out.new ≡ length out.old }
-    ensures text { take (at + 8) out.new ≡ take at out.old ++ digits }
+fn digit(n: u8) -> u8
+    requires { n < 16 }
+    ensures { result ≡ digit_glyph false n }
 {
-    out[at..at + 8].copy_from_slice(&digits);
+    b'0' + n + if n > 9 { LETTERS } else { 0 }
 }
 
-// Writes the digits of whole quadlets over the first bytes, and answers where they end.
-fn write_digits(out: &mut [u8], pairs: &Pairs, bytes: &[u8]) -> usize
-    requires whole { length bytes.now % 4 ≡ 0 }
-    requires room { 2 * length bytes.now ≤ length out.old }
-    ensures size { length out.new ≡ length out.old }
-    ensures end { result ≡ 2 * length bytes.now }
-    ensures text { take result out.new ≡ hex_bytes bytes.now }
+// The two digits of a byte.
+#[inline(always)]
+fn digits_of_byte(byte: u8) -> [u8; 2]
+    ensures { result ≡ byte_digits byte }
 {
-    let mut end = 0;
-    let mut rest = bytes;
-    while let Some((four, more)) = rest.split_first_chunk::<4>() {
-        write_eight(out, end, digits_of(pairs, *four));
-        end += 8;
-        rest = more;
+    [digit(byte / 16), digit(byte % 16)]
+}
+
+// Writes two digits over the bytes from `at` on.
+#[inline(always)]
+fn write_two(out: &mut [u8], at: usize, digits: [u8; 2])
+    requires { at + 2 ≤ length out.old }
+    ensures size { length out.new ≡ length out.old }
+    ensures text { take (at + 2) out.new ≡ take at out.old ++ digits }
+{
+    out[at..at + 2].copy_from_slice(&digits);
+}
+
+// Writes the digits of bytes over the bytes from `at` on, and answers where they end.
+pub(crate) fn write_digits(out: &mut [u8], at: usize, bytes: &[u8]) -> usize
+    requires most { length bytes.now ≤ 512 }
+    requires room { at + 2 * length bytes.now ≤ length out.old }
+    ensures size { length out.new ≡ length out.old }
+    ensures end { result ≡ at + 2 * length bytes.now }
+    ensures text { take result out.new ≡ take at out.old ++ hex_bytes bytes.now }
+{
+    for place in 0..bytes.len() {
+        write_two(out, at + 2 * place, digits_of_byte(bytes[place]));
     }
-    end
+    at + 2 * bytes.len()
 }
 
-// Appends the digits of a long block of whole quadlets.
-fn put_long(text: &mut Vec<u8>, pairs: &Pairs, bytes: &[u8]) -> Result<(), AllocError>
-    requires whole { length bytes.now % 4 ≡ 0 }
+// Appends the digits of a long block.
+fn put_long(text: &mut Vec<u8>, bytes: &[u8]) -> Result<(), AllocError>
     requires most { length bytes.now ≤ 512 }
     ensures { OnOk result (text.new.items ≡ text.old.items ++ hex_bytes bytes.now) }
 {
     let mut row = [0; 2 * LONGEST];
-    let end = write_digits(&mut row, pairs, bytes);
+    let end = write_digits(&mut row, 0, bytes);
     text.extend_from_slice(&row[..end])
 }
 
@@ -103,8 +120,8 @@ pub(crate) fn put_digits(text: &mut Vec<u8>, pairs: &Pairs, bytes: &[u8]) -> Res
 fn put_other(text: &mut Vec<u8>, pairs: &Pairs, bytes: &[u8]) -> Result<(), AllocError>
     ensures { OnOk result (text.new.items ≡ text.old.items ++ hex_bytes bytes.now) }
 {
-    if LONG <= bytes.len() && bytes.len() <= LONGEST && bytes.len() % 4 == 0 {
-        return put_long(text, pairs, bytes);
+    if LONG <= bytes.len() && bytes.len() <= LONGEST {
+        return put_long(text, bytes);
     }
     put_bytes(text, pairs, bytes)
 }

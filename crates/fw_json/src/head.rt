@@ -9,19 +9,19 @@ ghost use Rattle.fw_json.specs.Objects.{head_fields};
 use crate::packet::put_retry;
 use crate::values::{put_count, put_text};
 use fw_async::Head;
-use fw_names::{Pairs, put_word};
+use fw_names::{Pairs, put_number};
 use std::alloc::AllocError;
 
 /// The retry code retry_X (IEEE 1394-1995, retry codes).
 const RETRY_X: u8 = 1;
 
-// The addressee under its key.
+// The addressee under its key, and the key of the transaction label.
 #[inline(always)]
 #[tactic(auto, unfolding(crate::specs::Values::field, crate::specs::Values::quoted))]
-fn addressee(pairs: &Pairs, id: u16) -> [u8; 16]
-    ensures { result ≡ field (codes ",\"dst_id\":") (quoted (hex 4 id)) }
+pub(crate) fn addressee(pairs: &Pairs, id: u16) -> [u8; 26]
+    ensures { result ≡ field (codes ",\"dst_id\":") (quoted (hex 4 id)) ++ codes ",\"tlabel\":" }
 {
-    let mut row = *b",\"dst_id\":\"....\"";
+    let mut row = *b",\"dst_id\":\"....\",\"tlabel\":";
     row[11..15].copy_from_slice(&pairs.four(id));
     row
 }
@@ -45,16 +45,28 @@ fn is_usual(rt: u8, pri: u8) -> bool
     rt == RETRY_X && pri == 0
 }
 
-// Appends the retry code and the priority.
+// The usual retry code and priority, and the sender under its key.
 #[inline(always)]
-fn put_order(text: &mut Vec<u8>, rt: u8, pri: u8) -> Result<(), AllocError>
-    ensures { OnOk result (text.new.items ≡ text.old.items ++ code (codes ",\"retry\":") rt (codes ",\"retry_name\":") (retry_name rt) ++ field (codes ",\"priority\":") (decimal pri)) }
+#[tactic(auto, unfolding(crate::specs::Values::field, crate::specs::Values::quoted))]
+pub(crate) fn usual_sender(pairs: &Pairs, id: u16) -> [u8; 62]
+    ensures { result ≡ codes ",\"retry\":1,\"retry_name\":\"retry_x\",\"priority\":0" ++ field (codes ",\"src_id\":") (quoted (hex 4 id)) }
 {
-    if is_usual(rt, pri) {
-        return put_word(text, r#","retry":1,"retry_name":"retry_x","priority":0"#);
+    let mut row = *b",\"retry\":1,\"retry_name\":\"retry_x\",\"priority\":0,\"src_id\":\"....\"";
+    row[57..61].copy_from_slice(&pairs.four(id));
+    row
+}
+
+// Appends the retry code, the priority and the sender.
+#[inline(always)]
+fn put_sender(text: &mut Vec<u8>, pairs: &Pairs, h: &Head) -> Result<(), AllocError>
+    ensures { OnOk result (text.new.items ≡ text.old.items ++ code (codes ",\"retry\":") h.now.rt (codes ",\"retry_name\":") (retry_name h.now.rt) ++ field (codes ",\"priority\":") (decimal h.now.pri) ++ field (codes ",\"src_id\":") (quoted (hex 4 h.now.source))) }
+{
+    if is_usual(h.rt, h.pri) {
+        return put_text(text, &usual_sender(pairs, h.source));
     }
-    put_retry(text, rt)?;
-    put_count(text, r#","priority":"#, u64::from(pri))
+    put_retry(text, h.rt)?;
+    put_count(text, r#","priority":"#, u64::from(h.pri))?;
+    put_text(text, &sender(pairs, h.source))
 }
 
 // Appends the fields of a head.
@@ -62,7 +74,6 @@ pub(crate) fn put_head(text: &mut Vec<u8>, pairs: &Pairs, h: &Head) -> Result<()
     ensures { OnOk result (text.new.items ≡ text.old.items ++ head_fields h.now) }
 {
     put_text(text, &addressee(pairs, h.destination))?;
-    put_count(text, r#","tlabel":"#, u64::from(h.tl))?;
-    put_order(text, h.rt, h.pri)?;
-    put_text(text, &sender(pairs, h.source))
+    put_number(text, u64::from(h.tl))?;
+    put_sender(text, pairs, h)
 }

@@ -1,22 +1,43 @@
 //! The fields of an isochronous packet.
 
-ghost use Rattle.std.specs.Prelude.{◌≡◌, ◌++◌, OnOk};
+ghost use Rattle.std.specs.Prelude.{◌≡◌, ◌++◌, IsTrue, OnOk, Some, false, codes, decimal};
 ghost use Rattle.fw_cip.specs.Iso.{bit, data_length, block_bytes};
+ghost use Rattle.fw_names.specs.Names.{format_name};
+ghost use Rattle.fw_names.specs.Texts.{hex};
+ghost use Rattle.fw_json.specs.Values.{field, quoted, code, name_value};
 ghost use Rattle.fw_json.specs.Objects.{cip_fields, iso_fields};
 
-use crate::values::{put_code, put_count, put_data, put_name, put_six};
+use crate::values::{put_count, put_data, put_name, put_six};
 use fw_cip::{CipHeader, IsoPacket};
-use fw_names::{Pairs, format_name};
+use fw_names::{Pairs, format_name, put_word};
 use std::alloc::AllocError;
 
-// The length of a packet behind its isochronous header.
-fn data_length(p: &IsoPacket) -> u16
-    ensures { result ≡ data_length p.now.block }
+/// DBS of SD-DVCR (IEC 61883-2).
+const DVCR_BLOCK: u8 = 120;
+
+/// FDF of SD-DVCR with 525 lines and no time stamp (IEC 61883-2).
+pub(crate) const LINES_525_UNTIMED: u32 = 0x00_ffff;
+
+/// FDF of SD-DVCR with 625 lines and no time stamp.
+const LINES_625_UNTIMED: u32 = 0x80_ffff;
+
+// The length of a packet behind its isochronous header, and its tag.
+#[tactic(auto, using(crate::proofs::IsoTexts::long_opening, crate::proofs::IsoTexts::short_opening))]
+fn opening(p: &IsoPacket) -> &'static str
+    ensures { result.now ≡ field (codes ",\"data_length\":") (decimal (data_length p.now.block)) ++ field (codes ",\"tag\":") (decimal 1) }
 {
     match &p.block {
-        Some(_) => 488,
-        None => 8,
+        Some(_) => r#","data_length":488,"tag":1"#,
+        None => r#","data_length":8,"tag":1"#,
     }
+}
+
+// Appends the transaction code of isochronous packets and its name.
+#[inline(always)]
+fn put_iso_code(text: &mut Vec<u8>) -> Result<(), AllocError>
+    ensures { OnOk result (text.new.items ≡ text.old.items ++ code (codes ",\"tcode\":") 10 (codes ",\"tcode_name\":") (Some (codes "iso_data"))) }
+{
+    put_word(text, r#","tcode":10,"tcode_name":"iso_data""#)
 }
 
 // A flag as a number.
@@ -26,22 +47,76 @@ fn bit(flag: bool) -> u64
     if flag { 1 } else { 0 }
 }
 
-fn put_cip(text: &mut Vec<u8>, pairs: &Pairs, c: &CipHeader) -> Result<(), AllocError>
-    ensures { OnOk result (text.new.items ≡ text.old.items ++ cip_fields c.now) }
+// Whether the blocks are those of SD-DVCR.
+#[inline(always)]
+pub(crate) fn is_usual(c: &CipHeader) -> bool
+    ensures size { IsTrue result → (c.now.dbs ≡ 120) × (c.now.fraction ≡ 0) }
+    ensures none { IsTrue result → (c.now.qpc ≡ 0) × (c.now.sph ≡ false) }
 {
-    put_count(text, r#","sid":"#, u64::from(c.sid))?;
+    c.dbs == DVCR_BLOCK && c.fraction == 0 && c.qpc == 0 && !c.sph
+}
+
+// Appends how the blocks are cut.
+fn put_sizes(text: &mut Vec<u8>, c: &CipHeader) -> Result<(), AllocError>
+    ensures { OnOk result (text.new.items ≡ text.old.items ++ field (codes ",\"dbs\":") (decimal c.now.dbs) ++ field (codes ",\"fn\":") (decimal c.now.fraction) ++ field (codes ",\"qpc\":") (decimal c.now.qpc) ++ field (codes ",\"sph\":") (decimal (bit c.now.sph))) }
+{
+    if is_usual(c) {
+        return put_word(text, r#","dbs":120,"fn":0,"qpc":0,"sph":0"#);
+    }
     put_count(text, r#","dbs":"#, u64::from(c.dbs))?;
     put_count(text, r#","fn":"#, u64::from(c.fraction))?;
     put_count(text, r#","qpc":"#, u64::from(c.qpc))?;
-    put_count(text, r#","sph":"#, bit(c.sph))?;
-    put_count(text, r#","dbc":"#, u64::from(c.dbc))?;
+    put_count(text, r#","sph":"#, bit(c.sph))
+}
+
+// Whether the format is SD-DVCR with 525 lines, and has no time stamp.
+#[inline(always)]
+pub(crate) fn is_untimed_525(c: &CipHeader) -> bool
+    ensures { IsTrue result → (c.now.fmt ≡ 0) × (c.now.fdf ≡ 65535) }
+{
+    c.fmt == 0 && c.fdf == LINES_525_UNTIMED
+}
+
+// Whether it is SD-DVCR with 625 lines, and has none.
+#[inline(always)]
+pub(crate) fn is_untimed_625(c: &CipHeader) -> bool
+    ensures { IsTrue result → (c.now.fmt ≡ 0) × (c.now.fdf ≡ 8454143) }
+{
+    c.fmt == 0 && c.fdf == LINES_625_UNTIMED
+}
+
+// Appends the format and its name.
+fn put_format(text: &mut Vec<u8>, pairs: &Pairs, c: &CipHeader) -> Result<(), AllocError>
+    ensures { OnOk result (text.new.items ≡ text.old.items ++ field (codes ",\"fmt\":") (decimal c.now.fmt) ++ field (codes ",\"fdf\":") (quoted (hex 6 c.now.fdf)) ++ field (codes ",\"format_name\":") (name_value (format_name c.now))) }
+{
+    if is_untimed_525(c) {
+        return put_word(
+            text,
+            r#","fmt":0,"fdf":"00ffff","format_name":"SD-DVCR 525-60""#,
+        );
+    }
+    if is_untimed_625(c) {
+        return put_word(
+            text,
+            r#","fmt":0,"fdf":"80ffff","format_name":"SD-DVCR 625-50""#,
+        );
+    }
     put_count(text, r#","fmt":"#, u64::from(c.fmt))?;
     put_six(text, pairs, r#","fdf":"#, c.fdf)?;
     put_name(text, r#","format_name":"#, format_name(c))
 }
 
+fn put_cip(text: &mut Vec<u8>, pairs: &Pairs, c: &CipHeader) -> Result<(), AllocError>
+    ensures { OnOk result (text.new.items ≡ text.old.items ++ cip_fields c.now) }
+{
+    put_count(text, r#","sid":"#, u64::from(c.sid))?;
+    put_sizes(text, c)?;
+    put_count(text, r#","dbc":"#, u64::from(c.dbc))?;
+    put_format(text, pairs, c)
+}
+
 // The bytes of the block, or none.
-fn block_bytes<'p>(p: &'p IsoPacket) -> &'p [u8]
+pub(crate) fn block_bytes<'p>(p: &'p IsoPacket) -> &'p [u8]
     ensures { result.now ≡ block_bytes p.now.block }
 {
     match &p.block {
@@ -54,16 +129,9 @@ fn block_bytes<'p>(p: &'p IsoPacket) -> &'p [u8]
 pub(crate) fn put_iso(text: &mut Vec<u8>, pairs: &Pairs, p: &IsoPacket) -> Result<(), AllocError>
     ensures { OnOk result (text.new.items ≡ text.old.items ++ iso_fields p.now) }
 {
-    put_count(text, r#","data_length":"#, u64::from(data_length(p)))?;
-    put_count(text, r#","tag":"#, 1)?;
+    put_word(text, opening(p))?;
     put_count(text, r#","channel":"#, u64::from(p.channel))?;
-    put_code(
-        text,
-        r#","tcode":"#,
-        10,
-        r#","tcode_name":"#,
-        Some("iso_data"),
-    )?;
+    put_iso_code(text)?;
     put_count(text, r#","sy":"#, u64::from(p.sy))?;
     put_cip(text, pairs, &p.cip)?;
     put_data(text, pairs, r#","data":"#, block_bytes(p))

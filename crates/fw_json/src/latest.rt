@@ -1,14 +1,12 @@
 //! What the latest bus reset told: mostly the next one tells the same.
 
-ghost use Rattle.std.specs.Prelude.{◌≡◌, ◌++◌, IsTrue, OnOk, drop, codes, decimal};
+ghost use Rattle.std.specs.Prelude.{◌≡◌, IsTrue, OnOk, drop};
 ghost use Rattle.fw_entry.specs.Log.{ResetFits, body};
 ghost use Rattle.fw_entry.specs.declared.entry.Entry.TheVariants.{Reset};
 ghost use Rattle.fw_entry.specs.declared.entry.ResetEntry.{ResetEntry as AReset};
-ghost use Rattle.fw_json.specs.Values.{field};
 ghost use Rattle.fw_json.specs.Objects.{later_fields};
 
 use crate::reset::put_later;
-use crate::values::{put_count, put_text};
 use fw_entry::ResetEntry;
 use std::alloc::{AllocError, Global};
 use std::marker::Model;
@@ -70,11 +68,10 @@ impl LatestReset {
         Ok(())
     }
 
-    /// Appends the fields of a bus reset that has this epoch and is else as the latest.
-    pub(crate) fn put(&self, text: &mut Vec<u8>, epoch: u32) -> Result<(), AllocError>
-        ensures { OnOk result (text.new.items ≡ text.old.items ++ (field (codes ",\"epoch\":") (decimal epoch) ++ self.now)) }
+    /// What its object tells after its epoch.
+    pub(crate) fn as_slice(&self) -> &[u8]
+        ensures { result.now ≡ self.now }
     {
-        put_count(text, r#","epoch":"#, u64::from(epoch))?;
-        put_text(text, &self.text)
+        &self.text
     }
 }

@@ -6,9 +6,12 @@
 //! from 2^53 on is a text of its decimal digits, since readers of JSON hold greater numbers rounded.
 #![tactic(auto)]
 
+mod blocks;
 mod digits;
 mod entry;
+mod fields;
 mod front;
+mod front_row;
 mod head;
 mod ids;
 mod iso;
@@ -18,7 +21,14 @@ mod lines;
 mod packet;
 mod reset;
 mod room;
+mod rows;
+mod swaps;
+mod text_room;
+mod usual;
+mod usual_iso;
 mod values;
 
 pub use laws::{objects_are_lines, objects_tell_entries};
-pub use room::{ObjectRoom, put_object, put_reset_again, put_reset_from};
+pub use room::{
+    ObjectRoom, put_iso_from, put_object, put_packet_from, put_reset_again, put_reset_from,
+};

@@ -1,46 +1,46 @@
 //! Objects, one behind another.
 
-ghost use Rattle.std.specs.Prelude.{◌≡◌, ◌++◌, [], IfOk, OnOk, codes, decimal};
+ghost use Rattle.std.specs.Prelude.{◌≡◌, ◌++◌, [], false, IfOk, IsTrue, OnOk, codes, decimal};
+ghost use Rattle.fw_async.specs.Reader.{IsPacket, Spells};
+ghost use Rattle.fw_async.specs.declared.packet.Packet.{Packet as APacket};
 ghost use Rattle.fw_entry.specs.declared.codes.kind.TheConstants.{RESET};
+ghost use Rattle.fw_entry.specs.declared.entry.Entry.TheVariants.{Async, Iso};
 ghost use Rattle.fw_json.specs.Values.{field};
-ghost use Rattle.fw_json.specs.Objects.{front_fields, object};
+ghost use Rattle.fw_json.specs.Objects.{front_fields, iso_fields, what_fields, object};
 
 use crate::entry::put_what;
-use crate::front::put_front;
+use crate::front_row::FrontRow;
+use crate::iso::put_iso;
 use crate::latest::LatestReset;
-use fw_entry::Timed;
+use crate::packet::put_packet;
+use crate::text_room::TextRoom;
+use crate::usual::is_usual;
+use crate::usual_iso::is_usual_iso;
+use crate::values::{put_count, put_text};
+use fw_async::{Packet, whole_packet};
+use fw_cip::IsoPacket;
 use fw_entry::codes::kind;
+use fw_entry::{Entry, Timed};
 use fw_names::{Pairs, kind_number, put_word};
 use std::alloc::{AllocError, Global};
 use std::marker::Model;
 
-/// How many bytes of text there is room for at first: more than the objects have of 4,096 bytes of a log and of the longest
-/// entry behind them.
-const TEXT_ROOM: usize = 131_072;
-
-/// How many bytes the front of an object has at most.
-const FRONT_ROOM: usize = 64;
-
 /// The objects that were appended, and what the next one is made with.
 #[derive(Drop)]
 pub(crate) struct Lines {
-    text: Vec<u8>,
-    // The last cycle and kind, and the front of an object with them: many entries have the same.
-    cycle: Option<u64>,
-    kind: u8,
-    front: Vec<u8>,
+    text: TextRoom,
+    // The object that is being made, where it is not written in place.
+    object: Vec<u8>,
+    front: FrontRow,
     pairs: Pairs,
 }
 
 impl Model for Lines {
-    ghost use Rattle.std.specs.Prelude.{List, ℕ, ◌≡◌, IfSome};
-    ghost use Rattle.fw_json.specs.Objects.{front_fields};
+    ghost use Rattle.std.specs.Prelude.{List, ℕ};
 
     ghost Value = { List ℕ };
 
-    ghost view = { λ r. r.text.items };
-
-    ghost invariant = { λ r. IfSome r.cycle (λ n. r.front.items ≡ front_fields n r.kind) };
+    ghost view = { λ r. r.text };
 }
 
 impl Lines {
@@ -48,10 +48,9 @@ impl Lines {
         ensures { IfOk result (λ r. r ≡ []) }
     {
         Ok(Lines {
-            text: Vec::with_capacity(alloc, TEXT_ROOM)?,
-            cycle: None,
-            kind: 0,
-            front: Vec::with_capacity(alloc, FRONT_ROOM)?,
+            text: TextRoom::new(alloc)?,
+            object: Vec::new(alloc),
+            front: FrontRow::new(alloc)?,
             pairs: Pairs::new(),
         })
     }
@@ -59,7 +58,7 @@ impl Lines {
     pub(crate) fn as_slice(&self) -> &[u8]
         ensures { result.now ≡ self.now }
     {
-        &self.text
+        self.text.as_slice()
     }
 
     pub(crate) fn clear(&mut self)
@@ -68,27 +67,61 @@ impl Lines {
         self.text.clear();
     }
 
-    // Appends the front of an object.
-    fn put_front(&mut self, cycle: u64, kind: u8) -> Result<(), AllocError>
-        ensures { OnOk result (self.new ≡ self.old ++ front_fields cycle kind) }
-    {
-        if self.cycle != Some(cycle) || self.kind != kind {
-            self.cycle = None;
-            self.front.clear();
-            put_front(&mut self.front, cycle, kind)?;
-            self.kind = kind;
-            self.cycle = Some(cycle);
-        }
-        self.text.extend_from_slice(&self.front)
-    }
-
     // Appends the object of an entry.
     pub(crate) fn put(&mut self, t: &Timed) -> Result<(), AllocError>
         ensures { OnOk result (self.new ≡ self.old ++ object t.now) }
     {
-        self.put_front(t.cycle, kind_number(&t.what))?;
-        put_what(&mut self.text, &self.pairs, &t.what)?;
-        put_word(&mut self.text, "}\n")
+        self.front.set(t.cycle, kind_number(&t.what))?;
+        make_object(&mut self.object, &self.front, &self.pairs, &t.what)?;
+        self.text.put(&self.object)
+    }
+
+    // Appends the object of a usual packet, where its front is short, and answers whether it did.
+    fn put_usual(&mut self, cycle: u64, p: &Packet) -> Result<bool, AllocError>
+        ensures object { IfOk result (λ put. IsTrue put → self.new ≡ self.old ++ object (record { cycle = cycle; what = Async p.now })) }
+        ensures other { IfOk result (λ put. put ≡ false → self.new ≡ self.old) }
+    {
+        if !is_usual(p) {
+            return Ok(false);
+        }
+        self.front.set(cycle, kind::ASYNC)?;
+        match self.front.row() {
+            Some((row, size)) => {
+                self.text.put_packet(row, size, &self.pairs, p)?;
+                Ok(true)
+            }
+            None => Ok(false),
+        }
+    }
+
+    // Appends the object of the entry of an asynchronous packet, from the packet's bytes.
+    pub(crate) fn put_packet(&mut self, cycle: u64, bytes: &[u8]) -> Result<(), AllocError>
+        requires { IsPacket bytes.now }
+        ensures { (p : APacket) → Spells p bytes.now → OnOk result (self.new ≡ self.old ++ object (record { cycle = cycle; what = Async p })) }
+    {
+        let packet = whole_packet(bytes);
+        let is_put = self.put_usual(cycle, &packet)?;
+        if is_put {
+            return Ok(());
+        }
+        self.put(&Timed {
+            cycle,
+            what: Entry::Async(packet),
+        })
+    }
+
+    // Appends the object of the entry of an isochronous packet.
+    pub(crate) fn put_iso(&mut self, cycle: u64, p: &IsoPacket) -> Result<(), AllocError>
+        ensures { OnOk result (self.new ≡ self.old ++ object (record { cycle = cycle; what = Iso p.now })) }
+    {
+        self.front.set(cycle, kind::ISO)?;
+        match self.front.row() {
+            Some((row, size)) if is_usual_iso(p) => self.text.put_iso(row, size, p),
+            _ => {
+                make_iso(&mut self.object, &self.front, &self.pairs, p)?;
+                self.text.put(&self.object)
+            }
+        }
     }
 
     // Appends the object of a bus reset that is as the latest, but for its epoch.
@@ -100,8 +133,49 @@ impl Lines {
     ) -> Result<(), AllocError>
         ensures { OnOk result (self.new ≡ self.old ++ (front_fields cycle RESET ++ (field (codes ",\"epoch\":") (decimal epoch) ++ latest.now) ++ codes "}\n")) }
     {
-        self.put_front(cycle, kind::RESET)?;
-        latest.put(&mut self.text, epoch)?;
-        put_word(&mut self.text, "}\n")
+        self.front.set(cycle, kind::RESET)?;
+        make_epoch(&mut self.object, &self.front, epoch)?;
+        self.text.put(&self.object)?;
+        self.text.put(latest.as_slice())?;
+        self.text.put(b"}\n")
     }
+}
+
+// Makes an object, from its front on.
+fn make_object(
+    object: &mut Vec<u8>,
+    front: &FrontRow,
+    pairs: &Pairs,
+    what: &Entry,
+) -> Result<(), AllocError>
+    ensures { OnOk result (object.new.items ≡ front.now ++ what_fields what.now ++ codes "}\n") }
+{
+    object.clear();
+    put_text(object, front.as_slice())?;
+    put_what(object, pairs, what)?;
+    put_word(object, "}\n")
+}
+
+// Makes that of an isochronous packet.
+fn make_iso(
+    object: &mut Vec<u8>,
+    front: &FrontRow,
+    pairs: &Pairs,
+    p: &IsoPacket,
+) -> Result<(), AllocError>
+    ensures { OnOk result (object.new.items ≡ front.now ++ iso_fields p.now ++ codes "}\n") }
+{
+    object.clear();
+    put_text(object, front.as_slice())?;
+    put_iso(object, pairs, p)?;
+    put_word(object, "}\n")
+}
+
+// Makes what the object of a bus reset begins with, up to its epoch.
+fn make_epoch(object: &mut Vec<u8>, front: &FrontRow, epoch: u32) -> Result<(), AllocError>
+    ensures { OnOk result (object.new.items ≡ front.now ++ field (codes ",\"epoch\":") (decimal epoch)) }
+{
+    object.clear();
+    put_text(object, front.as_slice())?;
+    put_count(object, r#","epoch":"#, u64::from(epoch))
 }

@@ -7,7 +7,7 @@ ghost use Rattle.fw_json.specs.Values.{field, code};
 ghost use Rattle.fw_json.specs.Objects.{place_fields, rcode_fields, target_fields, quadlet_field, block_fields, lock_fields, data_fields, packet_fields};
 
 use crate::head::put_head;
-use crate::values::{put_code, put_count, put_data, put_eight, put_twelve};
+use crate::values::{put_code, put_count, put_data, put_text};
 use fw_async::{Head, Packet};
 use fw_names::{
     Pairs, function_name, put_word, rcode_name, rcode_row, retry_name, retry_row, tcode_row,
@@ -16,7 +16,7 @@ use fw_words::COMPARE_SWAP;
 use std::alloc::AllocError;
 
 // What a packet begins with.
-fn head_of<'p>(p: &'p Packet) -> &'p Head
+pub(crate) fn head_of<'p>(p: &'p Packet) -> &'p Head
     ensures { result.now ≡ head_of p.now }
 {
     match p {
@@ -85,12 +85,25 @@ pub(crate) fn put_retry(text: &mut Vec<u8>, rt: u8) -> Result<(), AllocError>
     )
 }
 
+// An offset under its key.
+#[inline(always)]
+#[tactic(auto, unfolding(crate::specs::Values::field, crate::specs::Values::quoted))]
+pub(crate) fn place(pairs: &Pairs, offset: u64) -> [u8; 24]
+    ensures { result ≡ place_fields offset }
+{
+    let mut row = *b",\"offset\":\"............\"";
+    row[11..23].copy_from_slice(&pairs.twelve(offset));
+    row
+}
+
+#[inline(always)]
 fn put_place(text: &mut Vec<u8>, pairs: &Pairs, offset: u64) -> Result<(), AllocError>
     ensures { OnOk result (text.new.items ≡ text.old.items ++ place_fields offset) }
 {
-    put_twelve(text, pairs, r#","offset":"#, offset)
+    put_text(text, &place(pairs, offset))
 }
 
+#[inline(always)]
 fn put_rcode(text: &mut Vec<u8>, rcode: u8) -> Result<(), AllocError>
     ensures { OnOk result (text.new.items ≡ text.old.items ++ rcode_fields rcode) }
 {
@@ -125,10 +138,22 @@ fn put_target(text: &mut Vec<u8>, pairs: &Pairs, p: &Packet) -> Result<(), Alloc
     }
 }
 
+// A quadlet under its key.
+#[inline(always)]
+#[tactic(auto, unfolding(crate::specs::Values::field, crate::specs::Values::quoted))]
+pub(crate) fn quadlet(pairs: &Pairs, value: u32) -> [u8; 18]
+    ensures { result ≡ quadlet_field value }
+{
+    let mut row = *b",\"data\":\"........\"";
+    row[9..17].copy_from_slice(&pairs.eight(value));
+    row
+}
+
+#[inline(always)]
 fn put_quadlet(text: &mut Vec<u8>, pairs: &Pairs, value: u32) -> Result<(), AllocError>
     ensures { OnOk result (text.new.items ≡ text.old.items ++ quadlet_field value) }
 {
-    put_eight(text, pairs, r#","data":"#, value)
+    put_text(text, &quadlet(pairs, value))
 }
 
 fn put_block(text: &mut Vec<u8>, pairs: &Pairs, bytes: &[u8]) -> Result<(), AllocError>

@@ -1,13 +1,16 @@
 //! Objects, one behind another, and room for what they are made from.
 
 ghost use Rattle.std.specs.Prelude.{◌≡◌, ◌++◌, [], false, IfOk, IsTrue, OnOk, OnErr, drop};
+ghost use Rattle.fw_async.specs.Reader.{IsPacket, Spells};
+ghost use Rattle.fw_async.specs.declared.packet.Packet.{Packet};
 ghost use Rattle.fw_entry.specs.Log.{ResetFits, body};
-ghost use Rattle.fw_entry.specs.declared.entry.Entry.TheVariants.{Reset};
+ghost use Rattle.fw_entry.specs.declared.entry.Entry.TheVariants.{Async, Iso, Reset};
 ghost use Rattle.fw_entry.specs.declared.entry.ResetEntry.{ResetEntry as AReset};
 ghost use Rattle.fw_json.specs.Objects.{object};
 
 use crate::latest::LatestReset;
 use crate::lines::Lines;
+use fw_cip::IsoPacket;
 use fw_entry::{ResetEntry, Timed};
 use std::alloc::{AllocError, Global};
 use std::marker::Model;
@@ -61,6 +64,35 @@ pub fn put_object(room: &mut ObjectRoom, t: &Timed) -> Result<(), AllocError>
     ensures emptied { OnErr result (room.new ≡ []) }
 {
     match room.lines.put(t) {
+        Ok(()) => Ok(()),
+        Err(error) => {
+            room.clear();
+            Err(error)
+        }
+    }
+}
+
+/// Appends the object of the entry of an asynchronous packet of this cycle, from the packet's bytes, as `put_object` does.
+pub fn put_packet_from(room: &mut ObjectRoom, cycle: u64, bytes: &[u8]) -> Result<(), AllocError>
+    requires { IsPacket bytes.now }
+    ensures object { (p : Packet) → Spells p bytes.now → OnOk result (room.new ≡ room.old ++ object (record { cycle = cycle; what = Async p })) }
+    ensures emptied { OnErr result (room.new ≡ []) }
+{
+    match room.lines.put_packet(cycle, bytes) {
+        Ok(()) => Ok(()),
+        Err(error) => {
+            room.clear();
+            Err(error)
+        }
+    }
+}
+
+/// Appends the object of the entry of an isochronous packet of this cycle, as `put_object` does.
+pub fn put_iso_from(room: &mut ObjectRoom, cycle: u64, packet: &IsoPacket) -> Result<(), AllocError>
+    ensures object { OnOk result (room.new ≡ room.old ++ object (record { cycle = cycle; what = Iso packet.now })) }
+    ensures emptied { OnErr result (room.new ≡ []) }
+{
+    match room.lines.put_iso(cycle, packet) {
         Ok(()) => Ok(()),
         Err(error) => {
             room.clear();

@@ -3,3 +3,8 @@ pub mod LoopLaws
 pub mod DueLaws
 pub mod UsedLaws
 pub mod Keeping
+pub mod ApartLaws
+pub mod UsualLaws
+pub mod SameWordLaws
+pub mod GlanceLaws
+pub mod QueueLaws

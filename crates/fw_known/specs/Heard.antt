@@ -1,5 +1,5 @@
 -- Isochronous packets: whose they are, and what they show.
-use Rattle.std.specs.Prelude.{ℕ, ◌-◌, ◌==◌, ◌&&◌, ◌||◌, not, nat_lt, Bool, false, is_some, slice_set, Option, Some, None, if◌then◌else◌}
+use Rattle.std.specs.Prelude.{ℕ, ◌-◌, ◌==◌, ◌&&◌, ◌||◌, not, nat_lt, Bool, false, is_some, is_none, slice_set, Option, Some, None, if◌then◌else◌}
 use Rattle.fw_remarks.specs.declared.known.Managed.{Managed}
 use Rattle.fw_known.specs.declared.channel.Channel.{Channel}
 use Rattle.fw_known.specs.declared.state.State.{State}
@@ -46,6 +46,16 @@ heard_on row s p = record {
 -- what a packet shows
 unfoldable pub heard : State → Packet → Heard
 heard s p = heard_on (channel_at s.channels p.channel) s p
+
+-- it shows nothing
+abbrev pub nothing_heard : Heard
+nothing_heard = record { first = None; free = false; owners = 0 }
+
+-- a packet is of the known sender of its channel, which is not due, and nothing is to be told of that it is free
+unfoldable pub is_usual : State → Packet → Bool
+is_usual s p =
+    is_sender p.sid (channel_at s.channels p.channel).sender && is_none (channel_at s.channels p.channel).due
+    && ((channel_at s.channels p.channel).noted.free || not (is_free s p.channel))
 
 -- the sender that a channel has, or the node of its first packet
 abbrev pub sender_behind : ℕ → Option ℕ → ℕ

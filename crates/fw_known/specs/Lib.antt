@@ -5,3 +5,5 @@ pub mod Judging
 pub mod Swapped
 pub mod Heard
 pub mod Used
+pub mod Kept
+pub mod Glances

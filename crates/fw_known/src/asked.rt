@@ -60,6 +60,7 @@ impl Default for Asked {
 }
 
 /// The number of the node with this node_ID, which is of the local bus.
+#[inline(always)]
 pub fn node_of(id: u16) -> Option<u8>
     ensures { result ≡ node_of id }
 {
@@ -82,6 +83,7 @@ impl Asking {
     }
 
     // It asks for the register's word.
+    #[inline(always)]
     fn is_read(self) -> bool
         ensures { result ≡ is_read self }
     {
@@ -92,6 +94,7 @@ impl Asking {
     }
 
     // The word that a lock response shows.
+    #[inline(always)]
     #[tactic(auto, unfolding(crate::specs::Standing::old_word))]
     pub fn old_word(self, function: u8, bytes: &[u8]) -> Option<u32>
         ensures { result ≡ old_word self function bytes.now }
@@ -105,6 +108,7 @@ impl Asking {
     }
 
     // The swap, where it was made and changed something.
+    #[inline(always)]
     #[tactic(auto, unfolding(crate::specs::Standing::made_by))]
     fn made(self, found: Option<u32>) -> Option<Swap>
         ensures { result ≡ made_by self found }
@@ -119,6 +123,7 @@ impl Asking {
 
 impl Asked {
     // What is kept of a request at an offset, where a watched register stands there.
+    #[inline(always)]
     pub fn new(head: &Head, offset: u64, asking: Asking) -> Option<Asked>
         ensures { result ≡ asked head.now offset asking }
     {
@@ -135,6 +140,7 @@ impl Asked {
     }
 
     // A response to a read, or else to a lock, answers it.
+    #[inline(always)]
     #[tactic(auto, unfolding(crate::specs::Standing::answers))]
     pub fn is_answered(&self, read: bool, head: &Head) -> bool
         ensures { result ≡ answers read head.now self.now }
@@ -154,6 +160,7 @@ impl Asked {
     }
 
     // The answer that a response is, which shows this word.
+    #[inline(always)]
     pub fn answer(&self, found: Option<u32>) -> Option<Answer>
         ensures { result ≡ answer_by self.now found }
     {

@@ -2,7 +2,7 @@
 
 ghost use Rattle.std.specs.Prelude.{◌≡◌, ◌≤◌, ◌<◌, ℕ, false, IsTrue, IfSome};
 ghost use Rattle.fw_remarks.specs.Knowing.{is_forgotten};
-ghost use Rattle.fw_known.specs.Channels.{fresh, nothing_noted, undue, quiet, is_late};
+ghost use Rattle.fw_known.specs.Channels.{fresh, nothing_noted, undue, quiet, same_channel, is_late};
 
 use fw_remarks::Known;
 
@@ -106,4 +106,15 @@ pub(crate) fn is_kept(old: Known, now: Known) -> bool
     ensures { IsTrue result → (at : ℕ) → at < 32 → is_forgotten old now at ≡ false }
 {
     old.mask & now.mask == old.mask && old.differing(now.word) == 0
+}
+
+/// Two plugs are on one channel, or both on none.
+pub(crate) fn is_same(old: Option<u8>, now: Option<u8>) -> bool
+    ensures { result ≡ same_channel old now }
+{
+    match (old, now) {
+        (Some(k), Some(j)) => k == j,
+        (None, None) => true,
+        _ => false,
+    }
 }

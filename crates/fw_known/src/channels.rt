@@ -1,9 +1,9 @@
 //! What is kept of the 64 channels.
 
-ghost use Rattle.std.specs.Prelude.{◌≡◌, ◌+◌, ◌≤◌, ◌<◌, IfOk, IfSome, length, replicate, slice_set};
-ghost use Rattle.fw_known.specs.Channels.{AreDueFrom, fresh, channel_at, freshened_one, freshened, same_channel, plug_moved, unused, quieted, next_late, late_to, is_taken, is_to_be_used, with_due, with_dues};
+ghost use Rattle.std.specs.Prelude.{◌≡◌, ◌+◌, ◌≤◌, ◌<◌, IfOk, IfSome, IsFalse, None, length, replicate, slice_set};
+ghost use Rattle.fw_known.specs.Channels.{AreDueFrom, fresh, channel_at, freshened_one, freshened, plug_moved, unused, quieted, next_late, late_to, is_taken, is_to_be_used, with_due, with_dues};
 
-use crate::channel::{Channel, Due, earlier, is_kept};
+use crate::channel::{Channel, Due, earlier, is_kept, is_same};
 use crate::plugs::Plugs;
 use fw_remarks::{Known, bit};
 use std::alloc::{AllocError, Global};
@@ -70,17 +70,6 @@ fn is_to_be_used(is_taken: bool, channel: u8, plugs: &Plugs) -> bool
     ensures { result ≡ is_to_be_used is_taken channel plugs.now }
 {
     is_taken && channel != 31 && !plugs.is_used(channel)
-}
-
-// Two plugs are on one channel, or both on none.
-fn is_same(old: Option<u8>, now: Option<u8>) -> bool
-    ensures { result ≡ same_channel old now }
-{
-    match (old, now) {
-        (Some(k), Some(j)) => k == j,
-        (None, None) => true,
-        _ => false,
-    }
 }
 
 impl Channels {
@@ -159,7 +148,7 @@ impl Channels {
 
     // A channel is used.
     #[tactic(auto, unfolding(crate::specs::Channels::unused))]
-    fn note_use(&mut self, channel: Option<u8>)
+    pub(crate) fn note_use(&mut self, channel: Option<u8>)
         ensures { self.new ≡ unused channel self.old }
     {
         if let Some(k) = channel {
@@ -203,13 +192,25 @@ impl Channels {
         best
     }
 
+    /// A channel may be late, by a test that looks at none of them.
+    #[inline(always)]
+    pub fn may_be_late(&self, cycle: u64) -> bool
+        ensures { IsFalse result → late_to 64 self.now cycle ≡ None }
+    {
+        let first = self.due_from;
+        if cycle < 8000 {
+            return false;
+        }
+        cycle - 8000 >= first
+    }
+
     /// The channel that is late and was taken first, of several the first.
     pub fn late(&mut self, cycle: u64) -> Option<Late>
         ensures kept { self.new ≡ self.old }
         ensures value { result ≡ late_to 64 self.old cycle }
         ensures past { IfSome result (λ late. late.due.since + 8000 ≤ cycle) }
     {
-        if cycle < 8000 || cycle - 8000 < self.due_from {
+        if !self.may_be_late(cycle) {
             return None;
         }
         self.due_from = self.first_due();

@@ -1,7 +1,7 @@
 //! Isochronous packets: whose they are, and what they show.
 
-ghost use Rattle.std.specs.Prelude.{◌≡◌};
-ghost use Rattle.fw_known.specs.Heard.{is_free, other_sender, is_sender, channel_behind, owners_of, heard, after_heard};
+ghost use Rattle.std.specs.Prelude.{◌≡◌, true};
+ghost use Rattle.fw_known.specs.Heard.{is_free, other_sender, is_sender, channel_behind, owners_of, is_usual, heard, after_heard};
 
 use crate::channel::{Channel, Noted};
 use crate::state::State;
@@ -116,6 +116,25 @@ impl State {
             free: !row.noted.free && self.is_free(p.channel),
             owners: self.owners(&row, p.channel, p.sid),
         }
+    }
+
+    /// A packet is of the known sender of its channel, and shows nothing that was not told.
+    #[inline(always)]
+    #[tactic(auto, unfolding(crate::specs::Heard::is_usual))]
+    pub fn is_usual(&self, p: &Packet) -> bool
+        ensures { result ≡ is_usual self.now p.now }
+    {
+        let row = self.channels.at(p.channel);
+        row.is_of(p.sid) && row.due.is_none() && (row.noted.free || !self.is_free(p.channel))
+    }
+
+    /// Takes such a packet.
+    #[inline(always)]
+    pub fn hear_usual(&mut self, p: &Packet)
+        requires { is_usual self.old p.now ≡ true }
+        ensures { self.new ≡ after_heard self.old p.now }
+    {
+        self.counts.packets = counted(self.counts.packets);
     }
 
     /// Takes an isochronous packet that showed this.

@@ -5,12 +5,16 @@ mod asked;
 mod channel;
 mod channels;
 mod counts;
+mod glance;
 mod hear;
+mod judge;
 mod plugs;
+mod queue;
 mod second;
 mod standing;
 mod state;
 mod swap;
+mod taking;
 mod used;
 
 pub use asked::{Answer, Asked, Asking};

@@ -20,6 +20,8 @@ pub struct Plugs {
     rows: Vec<Known>,
     // How many of them are known to be connected on each channel.
     used: [u16; 64],
+    // Something was found of one since the latest bus reset, so they are not all as it left them.
+    is_touched: bool,
 }
 
 impl Model for Plugs {
@@ -28,11 +30,11 @@ impl Model for Plugs {
 
     ghost Value = { List Known };
 
-    ghost use Rattle.fw_known.specs.Used.{CountsUsed};
+    ghost use Rattle.fw_known.specs.Used.{AreKeptPlugs};
 
     ghost view = { λ p. p.rows.items };
 
-    ghost invariant = { λ p. CountsUsed p.used p.rows.items };
+    ghost invariant = { λ p. AreKeptPlugs p.used p.is_touched p.rows.items };
 }
 
 // Where the plugs of all nodes have this one.
@@ -54,6 +56,7 @@ impl Plugs {
         Ok(Plugs {
             rows: vec![in alloc; Known::nothing(); PLUGS]?,
             used: none_used(),
+            is_touched: true,
         })
     }
 
@@ -76,6 +79,7 @@ impl Plugs {
             one_fewer(&mut self.used, self.rows[place].channel());
             one_more(&mut self.used, known.channel());
             self.rows[place] = known;
+            self.is_touched = true;
         }
     }
 
@@ -83,10 +87,14 @@ impl Plugs {
     pub fn reset(&mut self)
         ensures { self.new ≡ replicate (length self.old) after_reset }
     {
+        if !self.is_touched {
+            return;
+        }
         for i in 0..self.rows.len() {
             self.rows[i] = Known::of_reset_plug();
         }
         self.used = none_used();
+        self.is_touched = false;
     }
 
     /// A plug is known to be connected on this channel.

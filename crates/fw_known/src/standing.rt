@@ -1,28 +1,49 @@
 //! The requests at watched registers that stand.
 
-ghost use Rattle.std.specs.Prelude.{◌≡◌, ◌<◌, true, false, [], IfSome, length};
-ghost use Rattle.std.specs.List.{position};
-ghost use Rattle.fw_known.specs.Standing.{answers, standing_behind, without_answered, without_same, without_source, with_request, answered, read_answer, lock_answer, answer_of};
+ghost use Rattle.std.specs.Prelude.{◌≡◌, ◌%◌, ◌==◌, ◌++◌, ◌∷◌, true, false, [], None, if◌then◌else◌};
+ghost use Rattle.fw_async.specs.Reader.{IsPacket, Spells};
+ghost use Rattle.fw_async.specs.declared.packet.Packet.{Packet as AsyncPacket};
+ghost use Rattle.fw_known.specs.Standing.{asked, is_of, latest, standing_behind, without_answered, without_same, without_source, with_request, answered, read_answer, lock_answer, answer_of};
 
 use crate::asked::{Answer, Asked, Asking};
-use arrayvec::ArrayVec;
-use fw_async::{Head, Packet};
+use crate::glance::{Kind, head_at, kind_at, offset_at, rcode_at, swap_at};
+use crate::queue::Queue;
+use crate::taking::{make_room, take_answered, take_same};
+use fw_async::{Head, Packet, whole_packet};
+use fw_words::{COMPARE_SWAP, quadlet_at};
 use std::marker::Model;
 
+/// How many last numbers of nodes are told apart when a request of a new one's is looked for.
+const ASKERS: usize = 64;
+
 /// The requests at watched registers that no response has answered since the latest bus reset, the oldest first: at most 256, of
-/// which the oldest makes room for a new one.
+/// which the oldest makes room for a new one. Mostly the oldest is answered first, and none has the source of a new one: nothing is
+/// looked for then.
 #[derive(Drop)]
 pub struct Standing {
-    rows: ArrayVec<Asked, 256>,
+    queue: Queue,
+    // Whether a request that stands may be of a node_ID that ends in these six bits.
+    askers: [bool; ASKERS],
 }
 
 impl Model for Standing {
     ghost use Rattle.std.specs.Prelude.{List};
     ghost use Rattle.fw_known.specs.declared.asked.Asked.{Asked};
+    ghost use Rattle.fw_known.specs.Kept.{AreKept};
 
     ghost Value = { List Asked };
 
-    ghost view = { λ s. s.rows.items };
+    ghost view = { λ s. s.queue };
+
+    ghost invariant = { λ s. AreKept s.askers s.queue };
+}
+
+// The last six bits of the node_ID of who asks.
+#[inline(always)]
+fn asker_of(head: &Head) -> usize
+    ensures { result ≡ head.now.source % 64 }
+{
+    usize::from(head.source) % ASKERS
 }
 
 impl Standing {
@@ -31,7 +52,8 @@ impl Standing {
         ensures { result ≡ [] }
     {
         Standing {
-            rows: ArrayVec::new(),
+            queue: Queue::new(),
+            askers: [false; ASKERS],
         }
     }
 
@@ -39,19 +61,40 @@ impl Standing {
     pub fn reset(&mut self)
         ensures { self.new ≡ [] }
     {
-        self.rows.clear();
+        self.queue.clear();
+        self.askers = [false; ASKERS];
+    }
+
+    // A request that asks for no word of a watched register: it ends one of the same requester, node and label.
+    #[inline(always)]
+    fn end_same(&mut self, head: &Head)
+        ensures { self.new ≡ without_same head.now self.old }
+    {
+        take_same(&mut self.queue, head, self.askers[asker_of(head)]);
     }
 
     // A request takes the place of one of the same requester, node and label.
-    fn ask(&mut self, head: &Head, new: Option<Asked>)
-        ensures { self.new ≡ with_request new (without_same head.now self.old) }
+    #[inline(always)]
+    fn stand(&mut self, head: &Head, new: Asked)
+        requires { is_of head.now new ≡ true }
+        ensures { self.new ≡ latest (without_same head.now self.old ++ new ∷ []) }
     {
-        retain_others(&mut self.rows, head);
-        if let Some(new) = new {
-            if self.rows.is_full() {
-                self.rows.remove(0);
-            }
-            self.rows.push(new);
+        let asker = asker_of(head);
+        take_same(&mut self.queue, head, self.askers[asker]);
+        make_room(&mut self.queue);
+        self.queue.push(new);
+        self.askers[asker] = true;
+    }
+
+    // A request at an offset takes the place of one of the same requester, node and label.
+    #[inline(always)]
+    #[tactic(auto, unfolding(crate::specs::Standing::is_of))]
+    fn ask(&mut self, head: &Head, offset: u64, asking: Asking)
+        ensures { self.new ≡ with_request (asked head.now offset asking) (without_same head.now self.old) }
+    {
+        match Asked::new(head, offset, asking) {
+            Some(new) => self.stand(head, new),
+            None => self.end_same(head),
         }
     }
 
@@ -59,20 +102,63 @@ impl Standing {
     pub fn end_of(&mut self, source: u16)
         ensures { self.new ≡ without_source source self.old }
     {
-        retain_living(&mut self.rows, source);
+        self.queue.take_source(source);
     }
 
-    /// Takes a packet: a request stands from then on, and a response ends the one that it answers.
-    #[tactic(auto, unfolding(crate::specs::Standing::standing_behind))]
-    pub fn take(&mut self, p: &Packet)
-        ensures { self.new ≡ standing_behind p.now self.old }
+    // The request that a response answers, which stands no longer.
+    #[inline(always)]
+    fn take_answered(&mut self, read: bool, head: &Head) -> Option<Asked>
+        ensures value { result ≡ answered read head.now self.old }
+        ensures known { self.new ≡ without_answered read head.now self.old }
+    {
+        let asked = take_answered(&mut self.queue, read, head);
+        if self.queue.as_slice().is_empty() {
+            self.askers = [false; ASKERS];
+        }
+        asked
+    }
+
+    // The answer that a response to a read is.
+    #[inline(always)]
+    fn take_read(&mut self, head: &Head, rcode: u8, value: u32) -> Option<Answer>
+        ensures value { result ≡ if rcode == 0 then read_answer (answered true head.now self.old) value else None }
+        ensures known { self.new ≡ without_answered true head.now self.old }
+    {
+        match self.take_answered(true, head) {
+            Some(q) if rcode == 0 => q.answer(Some(value)),
+            _ => None,
+        }
+    }
+
+    // The answer that a response to a lock is.
+    #[inline(always)]
+    fn take_lock(&mut self, head: &Head, rcode: u8, function: u8, bytes: &[u8]) -> Option<Answer>
+        ensures value { result ≡ if rcode == 0 then lock_answer (answered false head.now self.old) function bytes.now else None }
+        ensures known { self.new ≡ without_answered false head.now self.old }
+    {
+        match self.take_answered(false, head) {
+            Some(q) if rcode == 0 => q.answer(q.asking.old_word(function, bytes)),
+            _ => None,
+        }
+    }
+
+    /// Takes a packet: a request stands from then on, and a response ends the one that it answers. The answer that the packet is, where
+    /// it is a complete response to a request that stood.
+    #[tactic(auto, unfolding(crate::specs::Standing::standing_behind, crate::specs::Standing::answer_of))]
+    pub fn take(&mut self, p: &Packet) -> Option<Answer>
+        ensures value { result ≡ answer_of self.old p.now }
+        ensures known { self.new ≡ standing_behind p.now self.old }
     {
         match p {
             Packet::WriteQuadlet { head, .. }
             | Packet::WriteBlock { head, .. }
-            | Packet::ReadBlock { head, .. } => self.ask(head, None),
+            | Packet::ReadBlock { head, .. } => {
+                self.end_same(head);
+                None
+            }
             Packet::ReadQuadlet { head, offset } => {
-                self.ask(head, Asked::new(head, *offset, Asking::Read))
+                self.ask(head, *offset, Asking::Read);
+                None
             }
             Packet::Lock {
                 head,
@@ -80,99 +166,60 @@ impl Standing {
                 function,
                 bytes,
             } => {
-                let asking = Asking::of_lock(*function, bytes.as_slice());
-                self.ask(head, Asked::new(head, *offset, asking))
+                self.ask(head, *offset, Asking::of_lock(*function, bytes.as_slice()));
+                None
             }
-            Packet::ReadQuadletReply { head, .. } => retain_unanswered(&mut self.rows, true, head),
-            Packet::LockReply { head, .. } => retain_unanswered(&mut self.rows, false, head),
-            Packet::WriteReply { .. } | Packet::ReadBlockReply { .. } | Packet::CycleStart { .. } =>
-                {}
-        }
-    }
-
-    // The request that a response answers.
-    fn answered(&self, read: bool, head: &Head) -> Option<Asked>
-        ensures { result ≡ answered read head.now self.now }
-    {
-        asked_at(self.rows.as_slice(), read, head)
-    }
-
-    // The answer that a response to a read is.
-    fn read_answer(&self, head: &Head, value: u32) -> Option<Answer>
-        ensures { result ≡ read_answer (answered true head.now self.now) value }
-    {
-        match self.answered(true, head) {
-            Some(q) => q.answer(Some(value)),
-            None => None,
-        }
-    }
-
-    // The answer that a response to a lock is.
-    fn lock_answer(&self, head: &Head, function: u8, bytes: &[u8]) -> Option<Answer>
-        ensures { result ≡ lock_answer (answered false head.now self.now) function bytes.now }
-    {
-        match self.answered(false, head) {
-            Some(q) => q.answer(q.asking.old_word(function, bytes)),
-            None => None,
-        }
-    }
-
-    /// The answer that a packet is, where it is a complete response to a request that stands.
-    #[tactic(auto, unfolding(crate::specs::Standing::answer_of))]
-    pub fn answer(&self, p: &Packet) -> Option<Answer>
-        ensures { result ≡ answer_of self.now p.now }
-    {
-        match p {
-            Packet::ReadQuadletReply { head, rcode, value } if *rcode == 0 => {
-                self.read_answer(head, *value)
+            Packet::ReadQuadletReply { head, rcode, value } => {
+                self.take_read(head, *rcode, *value)
             }
             Packet::LockReply {
                 head,
                 rcode,
                 function,
                 bytes,
-            } if *rcode == 0 => self.lock_answer(head, *function, bytes.as_slice()),
-            _ => None,
+            } => self.take_lock(head, *rcode, *function, bytes.as_slice()),
+            Packet::WriteReply { .. } | Packet::ReadBlockReply { .. } | Packet::CycleStart { .. } =>
+                None,
         }
     }
-}
 
-// The place of the request that a response answers.
-fn place_of(rows: &[Asked], read: bool, head: &Head) -> Option<usize>
-    ensures value { result ≡ position (answers read head.now) rows.now }
-    ensures there { IfSome result (λ at. at < length rows.now) }
-{
-    rows.iter().position(|q| q.is_answered(read, head))
-}
-
-// The request that a response answers.
-#[tactic(auto, unfolding(crate::specs::Standing::answered))]
-fn asked_at(rows: &[Asked], read: bool, head: &Head) -> Option<Asked>
-    ensures { result ≡ answered read head.now rows.now }
-{
-    match place_of(rows, read, head) {
-        Some(at) => Some(rows[at]),
-        None => None,
+    /// As `take`, from the bytes of the packet: of the usual forms no packet is made of them.
+    #[inline(always)]
+    pub fn take_bytes(&mut self, bytes: &[u8]) -> Option<Answer>
+        requires { IsPacket bytes.now }
+        ensures value { (p : AsyncPacket) → Spells p bytes.now → result ≡ answer_of self.old p }
+        ensures known { (p : AsyncPacket) → Spells p bytes.now → self.new ≡ standing_behind p self.old }
+    {
+        match kind_at(bytes) {
+            Kind::Write => {
+                self.end_same(&head_at(bytes));
+                None
+            }
+            Kind::Read => {
+                self.ask(&head_at(bytes), offset_at(bytes), Asking::Read);
+                None
+            }
+            Kind::Swap => {
+                self.ask(
+                    &head_at(bytes),
+                    offset_at(bytes),
+                    Asking::Swap(swap_at(bytes)),
+                );
+                None
+            }
+            Kind::ReadReply => {
+                self.take_read(&head_at(bytes), rcode_at(bytes), quadlet_at(bytes, 12).0)
+            }
+            Kind::SwapReply => {
+                self.take_lock(
+                    &head_at(bytes),
+                    rcode_at(bytes),
+                    COMPARE_SWAP,
+                    &bytes[16..20],
+                )
+            }
+            Kind::WriteReply => None,
+            Kind::Other => self.take(&whole_packet(bytes)),
+        }
     }
-}
-
-// Keeps the requests that a response does not answer.
-fn retain_unanswered(rows: &mut ArrayVec<Asked, 256>, read: bool, head: &Head)
-    ensures { rows.new.items ≡ without_answered read head.now rows.old.items }
-{
-    rows.retain(|q| !q.is_answered(read, head));
-}
-
-// Keeps the requests of another requester, node or label.
-fn retain_others(rows: &mut ArrayVec<Asked, 256>, head: &Head)
-    ensures { rows.new.items ≡ without_same head.now rows.old.items }
-{
-    rows.retain(|q| !q.is_of(head));
-}
-
-// Keeps the requests of other nodes.
-fn retain_living(rows: &mut ArrayVec<Asked, 256>, source: u16)
-    ensures { rows.new.items ≡ without_source source rows.old.items }
-{
-    rows.retain(|q| q.source != source);
 }

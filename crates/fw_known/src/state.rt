@@ -2,7 +2,6 @@
 
 ghost use Rattle.std.specs.Prelude.{◌≡◌, ◌≤◌, ◌<◌, [], IfOk, IfSome, length};
 ghost use Rattle.std.specs.List.{position};
-ghost use Rattle.fw_known.specs.Judging.{judged};
 ghost use Rattle.fw_known.specs.States.{no_state, known_of, with_known, with_known_plug, is_device, is_manager, is_absent, manager_node, manager_by, reset_state, manager_of, node_of_device, after_death};
 
 use crate::asked::node_id;
@@ -173,16 +172,6 @@ impl State {
             }
             Register::Output(_) | Register::Input(_) => self.put_plug(at, known),
         }
-    }
-
-    /// A word was found.
-    #[tactic(auto, unfolding(crate::specs::Judging::judged))]
-    pub fn judge(&mut self, at: At, found: u32)
-        ensures { self.new ≡ judged self.old at found }
-    {
-        let known = self.known(at);
-        self.counts.judge(known, found);
-        self.put(at, Known::all(found));
     }
 
     /// A bus reset.

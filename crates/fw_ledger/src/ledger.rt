@@ -1,22 +1,27 @@
-ghost use Rattle.std.specs.Prelude.{◌≡◌, ◌+◌, ◌-◌, ◌*◌, ◌/◌, ◌%◌, ◌^◌, ◌<◌, ℕ, IfOk, IfErr, IfSome, IsOkAnd, Some, None, is_some, if◌then◌else◌};
+ghost use Rattle.std.specs.Prelude.{◌≡◌, ◌+◌, ◌-◌, ◌*◌, ◌/◌, ◌%◌, ◌^◌, ◌<◌, ℕ, IfOk, IfErr, IfSome, IsOkAnd, Some, None, is_some, if◌then◌else◌, ⊤};
 ghost use Rattle.std.specs.Option.{option_map};
 ghost use Rattle.fw_entry.specs.Log.{Fits};
 ghost use Rattle.fw_entry.specs.Network.{device_of_id};
-ghost use Rattle.fw_account.specs.Account.{Account, is_open};
+ghost use Rattle.fw_account.specs.Account.{Account, Operation, is_open};
+ghost use Rattle.fw_account.specs.Decode.{move_at};
 ghost use Rattle.fw_account.specs.Fold.{no_account, next_account};
 ghost use Rattle.fw_account.specs.Network.{is_output, is_input};
+ghost use Rattle.fw_account.specs.Packets.{asked_by, ended};
 ghost use Rattle.fw_account.specs.Words.{BandwidthAvailable, ChannelsAvailable, OutputPlug, InputPlug, word_of, register_of, id_in};
-ghost use Rattle.fw_faults.specs.Looked.{looked};
+ghost use Rattle.fw_faults.specs.Looked.{Asks, looked};
 ghost use Rattle.fw_ledger.specs.Stands.{Stands, StandsFor, AskedFor, Follows};
-ghost use Rattle.fw_ledger.specs.Refused.{GoesOn, IsRefusedFor, ShowsAnswer};
+ghost use Rattle.fw_ledger.specs.Swaps.{IsThere, register_named, moved_by};
+ghost use Rattle.fw_ledger.specs.Refused.{GoesOn, IsRefusedFor, ShowsAnswer, Takes};
 
 use crate::answer::Answer;
 use crate::refused::Refused;
+use crate::register::Register;
 use crate::renew::id_of_device;
 use crate::tables::{Asked, Tables};
 use fw_base::PlugAt;
 use fw_entry::{Entry, Timed};
 use fw_plug::{InWord, OutWord};
+use fw_words::Swap;
 use std::alloc::{AllocError, Global};
 use std::marker::Model;
 
@@ -65,6 +70,39 @@ impl Ledger {
         ensures memory { IfErr result (λ e. self.new ≡ self.old) }
     {
         Ok(self.take_entry(&t.what).is_ok())
+    }
+
+    /// A request of the node with the ID `source`, for what `asked` says at an address of another: as `take_entry` takes the packet that
+    /// asks it, with the label of procedures. Where it is refused the ledger is unchanged. No memory is taken.
+    pub fn take_request(
+        &mut self,
+        source: u16,
+        target: u16,
+        address: u64,
+        asked: Asked,
+    ) -> Result<(), Refused>
+        requires asked { (operation : Operation) × AskedFor asked (Some (record { target = target; address = address; operation = operation })) }
+        ensures { (l : Account) (operation : Operation) → StandsFor self.old l → AskedFor asked (Some (record { target = target; address = address; operation = operation }))
+            → Takes result (λ done. ⊤) self.old self.new (asked_by (device_of_id l.latest source) (record { target = target; address = address; operation = operation }) l) (IsRefusedFor l (Asks source)) }
+    {
+        self.tables.take_request(source, target, address, asked)
+    }
+
+    /// The outstanding request of the controller of this device has ended, and changed no register.
+    pub fn end(&mut self, device: u8)
+        requires { device < 63 }
+        ensures { (l : Account) → StandsFor self.old l → StandsFor self.new (ended device l) }
+    {
+        self.tables.end(device);
+    }
+
+    /// The controller of this device swaps a register of the account. It is refused, and the ledger unchanged, where that is no move.
+    pub fn swap(&mut self, device: u8, register: Register, s: Swap) -> bool
+        requires device { device < 63 }
+        requires there { IsThere register self.old }
+        ensures { (l : Account) → StandsFor self.old l → Follows result self.old self.new (moved_by device (move_at l device (register_named register) s.argument s.new) l) }
+    {
+        self.tables.swap(device, register, s)
     }
 
     /// The tables, to be looked at: what they have at a plug counts only where the latest reset entry has the plug, and what may be

@@ -64,8 +64,8 @@ fn swap_done(asked: Asked, rcode: u8, old: &[u8]) -> Option<Swap>
 }
 
 impl Tables {
-    // Controller `c` swaps the register. It is refused where that is no move.
-    fn swap(&mut self, c: u8, register: Register, s: Swap) -> bool
+    /// Controller `c` swaps the register. It is refused where that is no move.
+    pub fn swap(&mut self, c: u8, register: Register, s: Swap) -> bool
         requires stands { Stands self.old }
         requires controller { c < 63 }
         requires there { IsThere register self.old }

@@ -1,8 +1,9 @@
 //! Parts of a machine as values: copies of them, and whether two are the same.
 
-ghost use Rattle.std.specs.Prelude.{◌≡◌, ◌≤◌, IsTrue, length, replicate, vec_capacity, false};
+ghost use Rattle.std.specs.Prelude.{◌≡◌, ◌<◌, ◌≤◌, IsTrue, length, replicate, slice_set, vec_capacity, false};
 ghost use Rattle.fw_devices.specs.Frames.{AreWithin};
 ghost use Rattle.fw_machine.specs.Copies.{controllers_at};
+ghost use Rattle.fw_machine.specs.Tables.{count_of};
 
 use crate::candidates::Candidates;
 use crate::controllers::{Controllers, PLACES};
@@ -112,5 +113,35 @@ impl Controllers {
         self.calm = marks;
         self.fresh = marks;
         self.deaf = true;
+    }
+
+    // The controller of a device becomes a copy of another. What was marked of it is forgotten.
+    fn put(&mut self, device: usize, controller: &Controller)
+        requires { device < count_of self.old }
+        ensures { self.new ≡ record self.old { list = slice_set self.old.list device controller.now } }
+    {
+        self.list[device].copy_from(controller);
+        self.calm[device] = false;
+        self.fresh[device] = false;
+        self.deaf = true;
+    }
+
+    /// They are those that are kept under `now`, and become those under `numbers`: if there are as many, only those whose numbers differ
+    /// are copied. The same stay dead.
+    pub fn change(&mut self, kept: &[Controller], now: &[u32], numbers: &[u32])
+        requires now { self.old.list ≡ controllers_at kept.now now.now }
+        requires few { length numbers.now ≤ 63 }
+        requires within { AreWithin numbers.now (length kept.now) }
+        ensures { self.new ≡ record self.old { list = controllers_at kept.now numbers.now } }
+    {
+        if now.len() != numbers.len() {
+            self.give_back(kept, numbers, self.dead);
+            return;
+        }
+        for n in 0..numbers.len() {
+            if now[n] != numbers[n] {
+                self.put(n, &kept[numbers[n] as usize]);
+            }
+        }
     }
 }

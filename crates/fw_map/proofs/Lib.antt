@@ -8,6 +8,7 @@ pub mod RebuildLaws
 pub mod PacketLaws
 pub mod PathLaws
 pub mod RowLaws
+pub mod TableLaws
 pub mod ShapeLaws
 pub mod TextLaws
 pub mod WalkLaws

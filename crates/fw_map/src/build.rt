@@ -13,14 +13,13 @@ ghost use Rattle.fw_map.specs.Faults.{IsFault, branches, due, joining_fault};
 ghost use Rattle.fw_map.specs.Rebuilt.{rebuilt};
 ghost use Rattle.fw_map.specs.Growing.{Agrees, Grown, Joining, KeepsRest, is_open};
 
-use crate::fields::{CHILD, PORTS, fields_of, parent_ports, speed_of};
+use crate::fields::{CHILD, Ids, PORTS, parent_ports};
 use crate::{MapFault, MapWhy, Tree};
 use fw_entry::ResetEntry;
-use fw_phy::PhyPacket;
 
 // Hangs branches on a node, at its child ports from the highest down: each time the one whose node is highest of those without
 // a parent. Says whether there was one for each port.
-fn take_children(ids: &[PhyPacket], node: u8, tree: &mut Tree) -> bool
+fn take_children(ids: &Ids, node: u8, tree: &mut Tree) -> bool
     requires node { node < 63 }
     requires fits { All Fits ids.now }
     requires sizes { HasSizes tree.old }
@@ -33,7 +32,7 @@ fn take_children(ids: &[PhyPacket], node: u8, tree: &mut Tree) -> bool
     ensures agrees { (s : Shape) → (n : ℕ) → node < n → Grown ids.now n 27 s → Agrees s tree.old node 27 → (result ≡ true) × Agrees s tree.new (node + 1) 27 }
     ensures rest { KeepsRest tree.old tree.new }
 {
-    let fields = fields_of(ids, node);
+    let fields = ids.fields_of(node);
     let mut below = node;
     for port in (0..PORTS).rev() {
         if fields[usize::from(port)] == CHILD {
@@ -61,15 +60,15 @@ fn due(e: &ResetEntry, node: u8) -> u8
 }
 
 // Joins the next node: its children hang on it, and its own port and speed are noted.
-fn add_node(e: &ResetEntry, node: u8, tree: &mut Tree) -> Result<(), MapWhy>
+fn add_node(e: &ResetEntry, ids: &Ids, node: u8, tree: &mut Tree) -> Result<(), MapWhy>
     requires fits { ResetFits e.now }
+    requires ids { ids.now ≡ e.now.ids }
     requires node { node < length e.now.nodes }
     requires joining { Joining e.now node tree.old }
     ensures fault { result_err result ≡ joining_fault e.now node }
     ensures joining { OnOk result (Joining e.now (node + 1) tree.new) }
     ensures agrees { (s : Shape) → HasPackets e.now s → Agrees s tree.old node 27 → (result_err result ≡ None) × Agrees s tree.new (node + 1) 27 }
 {
-    let ids = e.ids.as_slice();
     let (count, own_port) = parent_ports(ids, node);
     if count != due(e, node) {
         return Err(MapWhy::Parents);
@@ -78,7 +77,7 @@ fn add_node(e: &ResetEntry, node: u8, tree: &mut Tree) -> Result<(), MapWhy>
         return Err(MapWhy::Missing);
     }
     tree.own_port[usize::from(node)] = own_port;
-    tree.sp[usize::from(node)] = speed_of(ids, node);
+    tree.sp[usize::from(node)] = ids.speed_of(node);
     Ok(())
 }
 
@@ -91,9 +90,10 @@ pub fn rebuild(e: &ResetEntry) -> Result<Tree, MapFault>
     ensures value { result ≡ rebuilt e.now }
 {
     let count = e.nodes.as_slice().len() as u8;
+    let ids = Ids::of(e.ids.as_slice());
     let mut tree = Tree::bare(count);
     for node in 0..count {
-        if let Err(why) = add_node(e, node, &mut tree) {
+        if let Err(why) = add_node(e, &ids, node, &mut tree) {
             return Err(MapFault { node, why });
         }
     }

@@ -6,10 +6,12 @@
 
 mod arrows;
 mod columns;
+mod figures;
 mod shapes;
 mod small;
 
 pub use arrows::{Line, Told, put_arrow, put_cross, put_turn};
 pub use columns::Columns;
+pub use figures::put_figures;
 pub use shapes::{put_halves, put_line, put_mark, put_path, put_rect, put_use};
 pub use small::{put_later, put_millis, put_part, put_plural, put_seconds};

@@ -3,6 +3,7 @@
 ghost use Rattle.std.specs.Prelude.{◌≡◌, ◌+◌, ◌++◌, OnOk, decimal};
 ghost use Rattle.fw_marks.specs.Small.{plural, three, seconds, millis};
 
+use crate::figures::put_figures;
 use fw_names::{put_number, put_word};
 use std::alloc::AllocError;
 
@@ -18,7 +19,7 @@ pub fn put_part(text: &mut Vec<u8>, word: &str, n: u64) -> Result<(), AllocError
     ensures { OnOk result (text.new.items ≡ text.old.items ++ (word.now ++ decimal n)) }
 {
     put_word(text, word)?;
-    put_number(text, n)
+    put_figures(text, n)
 }
 
 /// Appends how many of something there are.

@@ -22,11 +22,6 @@ use Rattle.fw_page.specs.Sheets.{Shows, IsDrawn, Does}
 use Rattle.fw_page.proofs.MovedLaws.{lines_shown}
 use Rattle.fw_page.proofs.StepLaws.{moves_as, moves_more}
 
--- if anything may have moved, nothing is said of what was drawn
-free : (moved : Bool) (lives : Lives) (l : Option Account) (rows : List NodeRow) (left : Painted) (nodes : List ℕ) → moved ≡ true → IsDrawn moved lives l rows left nodes
-free true lives l rows left nodes e = tt
-free false lives l rows left nodes e = absurd (let z : ⊥ = cc in z)
-
 -- the second of a bus reset, which is counted
 pub counted_shown : (st : State) (old new : Progress) (b c : Bool) (n m : Counts) → new ≡ record old { second = b; counts = n } → b ≡ c → n ≡ m → Shows st old
     → Shows (record st { second = c; counts = m }) new
@@ -50,10 +45,11 @@ counted_shown st old new b c n m is second counts h = subst (λ (p : Progress). 
 })
 
 -- a new bus
-pub reset_shown : (st : State) (old new : Progress) (columns rows : List NodeRow) (lives : Lives) → new ≡ record old { begun = true; standing = new.standing; lives = lives; columns = columns }
+pub reset_shown : (st : State) (old new : Progress) (columns rows : List NodeRow) (lives : Lives)
+    → new ≡ record old { begun = true; is_moved = true; standing = new.standing; lives = lives; columns = columns }
     → columns ≡ rows → new.standing.value ≡ [] → lives ≡ after_reset old.lives
-    → old.is_moved ≡ true → Shows st old → Shows (record st { begun = true; nodes = rows; standing = []; lives = after_reset st.lives }) new
-reset_shown st old new columns rows lives is same none hear moved h = subst (λ (p : Progress). Shows (record st {
+    → Shows st old → Shows (record st { begun = true; nodes = rows; standing = []; lives = after_reset st.lives }) new
+reset_shown st old new columns rows lives is same none hear h = subst (λ (p : Progress). Shows (record st {
   begun = true;
   nodes = rows;
   standing = [];
@@ -74,7 +70,7 @@ reset_shown st old new columns rows lives is same none hear moved h = subst (λ 
   edge = h.edge;
   blank = h.blank;
   counts = h.counts;
-  drawn = free old.is_moved (after_reset st.lives) st.followed.account rows (record { lanes = st.drawn.lanes; owners = st.drawn.owners; units = st.drawn.units }) old.nodes.items moved;
+  drawn = tt;
 })
 
 -- a section of what it is made of

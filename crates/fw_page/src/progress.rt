@@ -6,7 +6,7 @@ use fw_entry::Entry;
 use fw_explain::head_of;
 use fw_marks::Columns;
 use fw_phrases::{Request, Requests, Run, Standing, answer_of, made};
-use fw_scene::{Account, Lives, is_moving};
+use fw_scene::{Account, Lives};
 use fw_strip::Strip;
 use std::alloc::{AllocError, Global};
 
@@ -65,7 +65,6 @@ impl Progress {
     ghost use Rattle.fw_entry.specs.declared.entry.Entry.{Entry as AnEntry};
     ghost use Rattle.fw_phrases.specs.Made.{answer_of};
     ghost use Rattle.fw_phrases.specs.Standing.{standing_for};
-    ghost use Rattle.fw_scene.specs.Followed.{is_moving};
     ghost use Rattle.fw_page.specs.State.{State, first_state, with_entry};
     ghost use Rattle.fw_content.specs.Heads.{devices_of, front_of, own_front, request_front};
     ghost use Rattle.std.specs.Option.{option_copied, option_map};
@@ -104,12 +103,11 @@ impl Progress {
     pub(crate) fn follow(&mut self, e: &Entry)
         requires { Fits e.now }
         ensures shows { (st : State) → Shows st self.old → Shows (with_entry e.now st) self.new }
-        ensures moves { is_moving e.now ≡ true → self.new.is_moved ≡ true }
         ensures rest { self.new ≡ record self.old { account = self.new.account; is_due = self.new.is_due; is_moved = self.new.is_moved } }
     {
-        let stops = self.account.follow(self.number, e);
-        self.is_due |= stops;
-        self.is_moved |= stops | is_moving(e);
+        let effect = self.account.follow(self.number, e);
+        self.is_due |= effect.stops;
+        self.is_moved |= effect.moves;
     }
 
     /// The packet whose bytes were kept: those of the request that is held back, if one is.

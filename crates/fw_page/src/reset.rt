@@ -30,6 +30,7 @@ impl Progress {
         self.counts.count_reset();
         self.follow(&t.what);
         self.begun = true;
+        self.is_moved = true;
         self.standing.clear();
         self.lives.hear();
         mem::replace(&mut self.columns, Columns::of(e.nodes.as_slice()))

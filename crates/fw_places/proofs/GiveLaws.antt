@@ -1,9 +1,9 @@
 -- The numbers of a machine that was kept, and the machine that is given back.
-use Rattle.std.proofs.Common.{ℕ, ◌≡◌, ◌<◌, ◌≤◌, ◌+◌, ◌++◌, List, [], ◌∷◌, Bool, Option, None, length, take, drop, map, get_or, slice_index_or, refl, sym, ap, subst, ◌∙◌, arith}
+use Rattle.std.proofs.Common.{ℕ, ◌≡◌, ◌<◌, ◌≤◌, ◌+◌, ◌++◌, List, [], Option, None, length, take, drop, get_or, slice_index_or, refl, sym, ap, subst, ◌∙◌, arith}
 use Rattle.std.proofs.lemmas.List.{length-append, take_at, drop_at}
 use Rattle.fw_async.specs.Wire.{Pairs}
 use Rattle.fw_async.specs.Letters.{HasLetters}
-use Rattle.fw_cmp.specs.Losses.{Listening, first_listening}
+use Rattle.fw_cmp.specs.Losses.{Listening}
 use Rattle.fw_node.specs.State.{NodeState}
 use Rattle.fw_devices.specs.Frames.{AreWithin, IsOf}
 use Rattle.fw_devices.specs.Network.{Network}
@@ -17,7 +17,7 @@ use Rattle.fw_places.specs.Places.{IsRestOf, IsPlace, IsAsGood, HasSameLetters, 
 module _ (p : Places) (words : List ℕ) (n : Machine) (place : IsPlace p words n) where
   -- ---- the numbers
 
-  rest_number : get_or words 0 0 ≡ place.rest_at
+  pub rest_number : get_or words 0 0 ≡ place.rest_at
   rest_number = ap (λ l. get_or l 0 0) place.words_are
 
   reel_number : get_or words 1 0 ≡ place.reel_at
@@ -69,9 +69,9 @@ module _ (p : Places) (words : List ℕ) (n : Machine) (place : IsPlace p words 
   pub rest_of : (number : ℕ) (r : Rest) → number ≡ get_or words 0 0 → ((d : Rest) → get_or p.rests number d ≡ r) → IsRestOf r n
   rest_of number r at is = subst (λ x. IsRestOf x n) (ap (λ k. get_or p.rests k r) (sym (at ∙ rest_number)) ∙ is r) (place.rest r)
 
-  pub devices_of : (r : Rest) (kept : List NodeState) (numbers : List ℕ) → IsRestOf r n → kept ≡ p.nodes → numbers ≡ take (get_or words 5 0) (drop 6 words) → IsOf r.frame kept numbers n.devices
+  pub devices_of : (r : Rest) (kept : List NodeState) (numbers : List ℕ) → IsRestOf r n → kept ≡ p.nodes → numbers ≡ take (get_or words 5 0) (drop 6 words) → IsOf r.frame.value kept numbers n.devices
   devices_of r kept numbers of same at =
-      subst (λ (k : List NodeState). IsOf r.frame k numbers n.devices) (sym same) (subst (λ (x : List ℕ). IsOf r.frame p.nodes x n.devices) (sym (at ∙ nodes_are)) (record {
+      subst (λ (k : List NodeState). IsOf r.frame.value k numbers n.devices) (sym same) (subst (λ (x : List ℕ). IsOf r.frame.value p.nodes x n.devices) (sym (at ∙ nodes_are)) (record {
         network = place.devices.network;
         few = place.devices.few;
         same = place.devices.same;

@@ -2,3 +2,4 @@ pub mod GoodLaws
 pub mod PlaceLaws
 pub mod GiveLaws
 pub mod KeepingLaws
+pub mod ChangeLaws

@@ -12,7 +12,7 @@ use Rattle.fw_places.specs.declared.rest.Rest.{Rest}
 
 -- it is so of a machine
 pub record IsRestOf (r : Rest) (m : Machine) : Type 0 where
-  pub frame : frame_of m.devices ≡ r.frame
+  pub frame : frame_of m.devices ≡ r.frame.value
   pub directory : m.directory ≡ r.directory
   pub cycle : m.cycle ≡ r.cycle
   pub reclaiming : m.reclaiming ≡ r.reclaiming

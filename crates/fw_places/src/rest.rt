@@ -1,6 +1,6 @@
 //! What only lines and bus resets change of a machine, beside its nodes and controllers.
 
-ghost use Rattle.std.specs.Prelude.{◌≡◌, IfOk, IsTrue};
+ghost use Rattle.std.specs.Prelude.{◌≡◌, ◌≤◌, IfOk, IsFalse, IsTrue, take};
 ghost use Rattle.fw_places.specs.Places.{IsRestOf, with_rest};
 
 use fw_cmp::Directory;
@@ -12,7 +12,8 @@ use std::alloc::{AllocError, Global};
 /// All of a machine but its nodes, controllers, requests that stand, half steps and reel.
 #[derive(Drop)]
 pub struct Rest {
-    pub(crate) frame: Frame,
+    // What is large lies apart, so that a table of these moves little.
+    pub(crate) frame: Box<Frame>,
     pub(crate) directory: Directory,
     pub(crate) cycle: u64,
     pub(crate) reclaiming: bool,
@@ -24,11 +25,39 @@ pub struct Rest {
     pub(crate) tied: Option<u8>,
 }
 
-// Numbers that are found the same are the same.
-fn same_nodes(nodes: &[Option<u8>; MOST_DEVICES], others: &[Option<u8>; MOST_DEVICES]) -> bool
-    ensures { IsTrue result → nodes.now ≡ others.now }
+// Whether there is a number of one of the two; if not, they are the same.
+fn are_used(node: Option<u8>, other: Option<u8>) -> bool
+    ensures { IsFalse result → node ≡ other }
 {
-    for device in 0..MOST_DEVICES {
+    node.is_some() | other.is_some()
+}
+
+// Whether there is no number from a device on. All are looked at, many at a time, without a test of each.
+#[inline(never)]
+fn none_used(
+    nodes: &[Option<u8>; MOST_DEVICES],
+    others: &[Option<u8>; MOST_DEVICES],
+    from: usize,
+) -> bool
+    ensures { IsTrue result → take from nodes.now ≡ take from others.now → nodes.now ≡ others.now }
+{
+    let mut used = false;
+    for device in from..MOST_DEVICES {
+        used |= are_used(nodes[device], others[device]);
+    }
+    !used
+}
+
+// Numbers that are found the same are the same.
+fn same_first(
+    nodes: &[Option<u8>; MOST_DEVICES],
+    others: &[Option<u8>; MOST_DEVICES],
+    count: usize,
+) -> bool
+    requires { count ≤ 63 }
+    ensures { IsTrue result → take count nodes.now ≡ take count others.now }
+{
+    for device in 0..count {
         if nodes[device] != others[device] {
             return false;
         }
@@ -36,24 +65,48 @@ fn same_nodes(nodes: &[Option<u8>; MOST_DEVICES], others: &[Option<u8>; MOST_DEV
     true
 }
 
-fn same_directory(directory: &Directory, other: &Directory) -> bool
+// The same of all, of which only the first are mostly there.
+fn same_nodes(
+    nodes: &[Option<u8>; MOST_DEVICES],
+    others: &[Option<u8>; MOST_DEVICES],
+    count: usize,
+) -> bool
+    requires { count ≤ 63 }
+    ensures { IsTrue result → nodes.now ≡ others.now }
+{
+    if none_used(nodes, others, count) {
+        same_first(nodes, others, count)
+    } else {
+        same_first(nodes, others, MOST_DEVICES)
+    }
+}
+
+fn same_directory(directory: &Directory, other: &Directory, count: usize) -> bool
+    requires { count ≤ 63 }
     ensures { IsTrue result → directory.now ≡ other.now }
 {
     if directory.over_at != other.over_at || directory.manager != other.manager {
         return false;
     }
-    same_nodes(&directory.node, &other.node)
+    same_nodes(&directory.node, &other.node, count)
 }
 
+// Whether the two differ.
+fn flag_differs(flag: bool, other: bool) -> bool
+    ensures { IsFalse result → flag ≡ other }
+{
+    flag != other
+}
+
+#[inline(never)]
 fn same_flags(flags: &[bool; MOST_DEVICES], others: &[bool; MOST_DEVICES]) -> bool
     ensures { IsTrue result → flags.now ≡ others.now }
 {
+    let mut differ = false;
     for device in 0..MOST_DEVICES {
-        if flags[device] != others[device] {
-            return false;
-        }
+        differ |= flag_differs(flags[device], others[device]);
     }
-    true
+    !differ
 }
 
 impl Rest {
@@ -98,7 +151,7 @@ impl Part for Rest {
         let mut candidates = Candidates::new(alloc)?;
         candidates.copy_from(&m.candidates);
         Ok(Rest {
-            frame: m.devices.frame(alloc)?,
+            frame: Box::new(alloc, m.devices.frame(alloc)?)?,
             directory: m.directory,
             cycle: m.cycle,
             reclaiming: m.reclaiming,
@@ -115,7 +168,8 @@ impl Part for Rest {
         if !self.has_counts(m) {
             return false;
         }
-        if !same_directory(&m.directory, &self.directory) {
+        let count = usize::from(m.devices.count());
+        if !same_directory(&m.directory, &self.directory, count) {
             return false;
         }
         if !m.candidates.is_same(&self.candidates) {
@@ -127,7 +181,7 @@ impl Part for Rest {
         if !same_flags(&m.controllers.flags(), &self.dead) {
             return false;
         }
-        m.devices.has_frame(&self.frame)
+        m.devices.has_frame(&*self.frame)
     }
 
     fn mark(m: &Machine) -> u64 {

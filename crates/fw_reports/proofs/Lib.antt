@@ -5,3 +5,4 @@ pub mod WholeLaws
 pub mod WholePassings
 pub mod PassedAudits
 pub mod PassedHoldings
+pub mod BusLaws

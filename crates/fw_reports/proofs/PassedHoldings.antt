@@ -7,17 +7,13 @@ use Rattle.fw_account.specs.Fold.{no_account}
 use Rattle.fw_audit.specs.Found.{IsPassedOver}
 use Rattle.fw_entry.specs.declared.entry.Entry.{Entry}
 use Rattle.fw_entry.specs.declared.entry.Timed.{Timed}
-use Rattle.fw_holders.specs.Told.{IsQuiet}
+use Rattle.fw_holders.specs.Told.{Holds, IsQuiet, Room, holders as lines}
 use Rattle.fw_holders.proofs.QuietLaws.{quiet_packet, quiet_iso, holds_quiet, text_quiet}
-use Rattle.fw_log.specs.Passing.{CountsUp, HasBody}
-use Rattle.fw_log.specs.Reader.{State, total}
+use Rattle.fw_log.specs.Passing.{HasBody}
 use Rattle.fw_log.specs.declared.plain.PlainBody.{PlainBody}
 use Rattle.fw_log.specs.declared.plain.PlainBody.TheVariants as Bodies
-use Rattle.fw_reading.specs.Readings.{Passes}
-use Rattle.fw_reports.specs.Holdings.{Takes, holders_form}
-use Rattle.fw_reports.specs.Passing.{PassesOver}
+use Rattle.fw_reports.specs.Holdings.{Takes, TakesText}
 use Rattle.fw_reports.specs.declared.holding.Holding.{Holding}
-use Rattle.fw_reports.proofs.Passings.{few_read}
 
 -- a bus reset changes the account of no entries
 quiet_body : (b : PlainBody) (e : Entry) → HasBody b e → IsPassedOver e → IsQuiet e
@@ -35,15 +31,20 @@ taken_over v count entries t few h quiet counts = record {
   holds = holds_quiet entries t v.holders few h.holds quiet;
 }
 
-pub holding_passes : (v : Holding) (count used : ℕ) (entries : List Timed) (bytes piece : List ℕ) (before reader : State) → PassesOver entries bytes reader
-    → Takes v entries → total before + length piece < 2 ^ 64 → CountsUp before piece reader used → (length entries + 1 < 2 ^ 64 → count ≡ v.count + 1)
-    → Passes holders_form.text (Takes (record { holders = v.holders; count = count })) v.holders.text v.holders.text entries bytes reader
-holding_passes v count used entries bytes piece before reader x h room up counts =
-    let few = few_read entries x.entry bytes reader x.read (omega (arith, room, up.total, up.within)) in
-    let quiet = quiet_body x.body x.entry.what x.made x.passed in
+-- an entry that no audit looks at has no line
+pub passed_over : (v : Holding) (count : ℕ) (entries : List Timed) (t : Timed) (b : PlainBody) → length entries + 1 < 2 ^ 64 → Takes v entries → HasBody b t.what → IsPassedOver t.what
+    → count ≡ v.count + 1 → TakesText entries t v (record { holders = v.holders; count = count })
+passed_over v count entries t b few h made passed counts =
+    let quiet = quiet_body b t.what made passed in
     record {
-      entry = x.entry;
-      read = x.read;
-      took = taken_over v count entries x.entry few h quiet (counts few);
-      gathered = sym (ap (λ text. v.holders.text ++ text) (text_quiet entries x.entry v.holders h.holds quiet) ∙ append-nil v.holders.text);
+      takes = taken_over v count entries t few h quiet counts;
+      text = sym (ap (λ text. v.holders.text ++ text) (text_quiet entries t v.holders h.holds quiet) ∙ append-nil v.holders.text);
     }
+
+-- one that was taken has the line that was appended
+pub taken_text : (v : Holding) (holders : Room) (count : ℕ) (entries : List Timed) (t : Timed) → Takes v entries → Holds (entries ++ t ∷ []) holders
+    → holders.text ≡ v.holders.text ++ lines entries (t ∷ []) → count ≡ v.count + 1 → TakesText entries t v (record { holders = holders; count = count })
+taken_text v holders count entries t h holds text counts = record {
+  takes = record { count = omega (arith, h.count, counts, length-append entries (t ∷ [])); holds = holds };
+  text = text;
+}

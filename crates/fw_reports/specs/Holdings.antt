@@ -22,6 +22,11 @@ pub record Takes (v : Holding) (entries : List Timed) : Type 0 where
   pub count : v.count ≡ length entries
   pub holds : Holds entries v.holders
 
+-- one entry more was taken, and its line was appended, if it has one
+pub record TakesText (entries : List Timed) (t : Timed) (old new : Holding) : Type 0 where
+  pub takes : Takes new (entries ++ t ∷ [])
+  pub text : new.holders.text ≡ old.holders.text ++ holders entries (t ∷ [])
+
 pub takes_accepted : (v : Holding) (entries : List Timed) → Takes v entries → IsSoundLog entries
 takes_accepted v entries t = t.holds.audited
 

@@ -1,13 +1,19 @@
 //! `holders`: who holds what, each time that it changes, and at the log's end.
 
-ghost use Rattle.std.specs.Prelude.{◌≡◌, [], IfOk};
+ghost use Rattle.std.specs.Prelude.{◌≡◌, ◌+◌, ◌<◌, ◌^◌, [], List, length, IfOk, IsTrue, IsFalse};
+ghost use Rattle.fw_async.specs.Reader.{IsPacket, Spells};
+ghost use Rattle.fw_async.specs.declared.packet.Packet.{Packet as APacket};
+ghost use Rattle.fw_entry.specs.declared.entry.Entry.{Entry as AnEntry};
+ghost use Rattle.fw_entry.specs.declared.entry.Entry.TheVariants.{Async};
+ghost use Rattle.fw_entry.specs.declared.entry.Timed.{Timed as TimedEntry};
+ghost use Rattle.fw_log.specs.Passing.{HasBody};
 ghost use Rattle.fw_reading.specs.Endings.{ReadsLog};
-ghost use Rattle.fw_reports.specs.Holdings.{holders_form, holders_rules, Takes};
+ghost use Rattle.fw_reports.specs.Holdings.{holders_form, holders_rules, Takes, TakesText};
 
-use crate::passing::pass_over;
+use crate::passing::{is_passed_body, may_pass};
 use crate::{LogRefusal, Unsound};
 use fw_holders::Holders;
-use fw_log::{LogReader, Room, Timed};
+use fw_log::{LogReader, PlainBody, Room, Timed};
 use fw_outside::{Failed, Sink, Source};
 use fw_reading::{Closing, LogEnding, Reading, Stop, read_log};
 use std::alloc::{AllocError, Global};
@@ -28,6 +34,40 @@ impl Holding {
             holders: Holders::new(alloc)?,
             count: 0,
         })
+    }
+
+    // Takes the packet of this cycle that these bytes are, where a short look finds that it has no fault. Where it does not, nothing
+    // is changed.
+    #[inline(always)]
+    fn pass_packet(&mut self, cycle: u64, bytes: &[u8]) -> Result<bool, AllocError>
+        requires { IsPacket bytes.now }
+        ensures passed { (entries : List TimedEntry) (t : TimedEntry) (p : APacket) → t.cycle ≡ cycle → t.what ≡ Async p → Spells p bytes.now
+            → length entries + 1 < 2 ^ 64 → Takes self.old entries → IfOk result (λ passed. IsTrue passed → TakesText entries t self.old self.new) }
+        ensures kept { IfOk result (λ passed. IsFalse passed → self.new ≡ self.old) }
+    {
+        if !self.holders.pass_packet(cycle, bytes)? {
+            return Ok(false);
+        }
+        self.count = self.count.saturating_add(1);
+        Ok(true)
+    }
+
+    // The same of the entry that has this body. One that no audit looks at has no line.
+    #[inline(always)]
+    fn pass_body(&mut self, cycle: u64, body: &PlainBody) -> Result<bool, AllocError>
+        requires { (e : AnEntry) × HasBody body.now e }
+        ensures passed { (entries : List TimedEntry) (t : TimedEntry) → t.cycle ≡ cycle → HasBody body.now t.what
+            → length entries + 1 < 2 ^ 64 → Takes self.old entries → IfOk result (λ passed. IsTrue passed → TakesText entries t self.old self.new) }
+        ensures kept { IfOk result (λ passed. IsFalse passed → self.new ≡ self.old) }
+    {
+        if is_passed_body(body) {
+            self.count = self.count.saturating_add(1);
+            return Ok(true);
+        }
+        match body {
+            PlainBody::Packet(bytes) => self.pass_packet(cycle, bytes.as_slice()),
+            _ => Ok(false),
+        }
     }
 }
 
@@ -61,18 +101,23 @@ impl Reading for Holding {
         }
     }
 
-    // An entry that no audit looks at is not made: it has no line either.
+    // No fault of a packet of a usual form is looked for twice.
     fn pass(
         &mut self,
         reader: &mut LogReader,
         room: &mut Room,
         piece: &[u8],
     ) -> Result<Option<usize>, AllocError> {
-        let Some(used) = pass_over(reader, room, piece) else {
+        if !may_pass(reader.next_kind(piece)) {
+            return Ok(None);
+        }
+        let Some(next) = reader.next_body(piece, room) else {
             return Ok(None);
         };
-        self.count = self.count.saturating_add(1);
-        Ok(Some(used))
+        if !self.pass_body(next.passed.cycle, &next.body)? {
+            return Ok(None);
+        }
+        Ok(Some(reader.go_past(piece, &next.passed)))
     }
 
     fn reads_most() -> bool {

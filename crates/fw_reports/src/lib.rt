@@ -13,6 +13,7 @@ mod refusal;
 mod streams;
 mod verdict;
 mod watching;
+mod whole_bus;
 mod whole_entry;
 mod whole_reset;
 

@@ -1,16 +1,21 @@
 //! `audit`: whether the registers of a log ran as a sound account.
 
-ghost use Rattle.std.specs.Prelude.{◌≡◌, ◌+◌, ◌<◌, ◌^◌, ◌++◌, ◌∷◌, [], List, length, IfOk, string_bytes};
+ghost use Rattle.std.specs.Prelude.{◌≡◌, ◌+◌, ◌<◌, ◌^◌, ◌++◌, ◌∷◌, [], List, length, IfOk, IsTrue, IsFalse, string_bytes};
+ghost use Rattle.fw_async.specs.Reader.{IsPacket, Spells};
+ghost use Rattle.fw_async.specs.declared.packet.Packet.{Packet as APacket};
 ghost use Rattle.fw_entry.specs.Log.{Fits};
+ghost use Rattle.fw_entry.specs.declared.entry.Entry.{Entry as AnEntry};
+ghost use Rattle.fw_entry.specs.declared.entry.Entry.TheVariants.{Async};
 ghost use Rattle.fw_entry.specs.declared.entry.Timed.{Timed as TimedEntry};
+ghost use Rattle.fw_log.specs.Passing.{HasBody};
 ghost use Rattle.fw_reading.specs.Endings.{ReadsLog};
 ghost use Rattle.fw_reports.specs.Texts.{silent_form, count_text};
 ghost use Rattle.fw_reports.specs.Verdicts.{audit_rules, Audits, Judges};
 
-use crate::passing::pass_over;
+use crate::passing::{is_passed_body, may_pass};
 use crate::{LogRefusal, Unsound};
 use fw_audit::Audit;
-use fw_log::{LogReader, Room, Timed};
+use fw_log::{LogReader, PlainBody, Room, Timed};
 use fw_outside::{Failed, Sink, Source};
 use fw_reading::{Closing, LogEnding, Reading, Stop, read_log};
 use std::alloc::{AllocError, Global};
@@ -59,6 +64,39 @@ impl Verdict {
             }
         }
     }
+
+    // Takes the packet that these bytes are, where a short look finds that it has no fault. Where it does not, nothing is changed.
+    #[inline(always)]
+    fn pass_packet(&mut self, bytes: &[u8]) -> bool
+        requires { IsPacket bytes.now }
+        ensures passed { IsTrue result → (entries : List TimedEntry) (t : TimedEntry) (p : APacket) → t.what ≡ Async p → Spells p bytes.now
+            → length entries + 1 < 2 ^ 64 → Audits self.old entries → Audits self.new (entries ++ t ∷ []) }
+        ensures kept { IsFalse result → self.new ≡ self.old }
+    {
+        if !self.audit.pass_packet(bytes) {
+            return false;
+        }
+        self.count = self.count.saturating_add(1);
+        true
+    }
+
+    // The same of the entry that has this body.
+    #[inline(always)]
+    fn pass_body(&mut self, body: &PlainBody) -> bool
+        requires { (e : AnEntry) × HasBody body.now e }
+        ensures passed { IsTrue result → (entries : List TimedEntry) (t : TimedEntry) → HasBody body.now t.what
+            → length entries + 1 < 2 ^ 64 → Audits self.old entries → Audits self.new (entries ++ t ∷ []) }
+        ensures kept { IsFalse result → self.new ≡ self.old }
+    {
+        if is_passed_body(body) {
+            self.count = self.count.saturating_add(1);
+            return true;
+        }
+        match body {
+            PlainBody::Packet(bytes) => self.pass_packet(bytes.as_slice()),
+            _ => false,
+        }
+    }
 }
 
 impl Reading for Verdict {
@@ -83,18 +121,23 @@ impl Reading for Verdict {
         self.judge(entry)
     }
 
-    // An entry that no audit looks at is not made.
+    // No fault of a packet of a usual form is looked for twice.
     fn pass(
         &mut self,
         reader: &mut LogReader,
         room: &mut Room,
         piece: &[u8],
     ) -> Result<Option<usize>, AllocError> {
-        let Some(used) = pass_over(reader, room, piece) else {
+        if !may_pass(reader.next_kind(piece)) {
+            return Ok(None);
+        }
+        let Some(next) = reader.next_body(piece, room) else {
             return Ok(None);
         };
-        self.count = self.count.saturating_add(1);
-        Ok(Some(used))
+        if !self.pass_body(&next.body) {
+            return Ok(None);
+        }
+        Ok(Some(reader.go_past(piece, &next.passed)))
     }
 
     fn reads_most() -> bool {

@@ -1,14 +1,21 @@
 //! `watch`: what a log shows of channels, bandwidth and plugs, as its entries end.
 
-ghost use Rattle.std.specs.Prelude.{◌≡◌, [], IfOk};
+ghost use Rattle.std.specs.Prelude.{◌≡◌, ◌++◌, ◌∷◌, [], List, IfOk, OnOk};
+ghost use Rattle.fw_entry.specs.declared.entry.Entry.{Entry as AnEntry};
+ghost use Rattle.fw_entry.specs.declared.entry.Timed.{Timed as TimedEntry};
+ghost use Rattle.fw_log.specs.Passing.{HasBody};
 ghost use Rattle.fw_reading.specs.Endings.{ReadsLog};
-ghost use Rattle.fw_watch.specs.Watched.{Watches, watched_end};
+ghost use Rattle.fw_watch.specs.Steps.{at_cycle};
+ghost use Rattle.fw_watch.specs.Watched.{Watches, watched, watched_end};
 ghost use Rattle.fw_reports.specs.Watching.{watched_form};
 ghost use Rattle.fw_reports.specs.Silences.{never_refused};
 
 use crate::LogRefusal;
-use crate::whole_entry::WholeRoom;
-use fw_log::{LogReader, Room, Timed};
+use crate::whole_bus::read_whole_bus;
+use crate::whole_reset::no_reset;
+use fw_cip::whole_iso;
+use fw_entry::ResetEntry;
+use fw_log::{LogReader, PlainBody, Room, Timed};
 use fw_outside::{Failed, Sink, Source};
 use fw_reading::{Closing, LogEnding, Reading, Stop, read_log};
 use fw_watch::Watch;
@@ -18,7 +25,8 @@ use std::alloc::{AllocError, Global};
 #[derive(Drop)]
 struct Watching {
     watch: Watch,
-    whole: WholeRoom,
+    // Room for what is looked at of a bus reset.
+    reset: Box<ResetEntry>,
 }
 
 impl Watching {
@@ -28,8 +36,29 @@ impl Watching {
     {
         Ok(Watching {
             watch: Watch::new(alloc)?,
-            whole: WholeRoom::new(alloc)?,
+            reset: Box::new(alloc, no_reset())?,
         })
+    }
+}
+
+impl Watching {
+    // Takes an entry that has a body of a usual form.
+    #[inline(always)]
+    fn put(&mut self, cycle: u64, body: &PlainBody) -> Result<(), AllocError>
+        requires { (e : AnEntry) × HasBody body.now e }
+        ensures lines { (e : AnEntry) → HasBody body.now e → (before : List TimedEntry) → Watches self.old.watch before
+            → OnOk result (self.new.watch.told.text ≡ self.old.watch.told.text ++ watched before (at_cycle cycle e ∷ [])) }
+        ensures behind { (e : AnEntry) → HasBody body.now e → (before : List TimedEntry) → Watches self.old.watch before
+            → OnOk result (Watches self.new.watch (before ++ at_cycle cycle e ∷ [])) }
+    {
+        match body {
+            PlainBody::Packet(bytes) => self.watch.put_packet(cycle, bytes.as_slice()),
+            PlainBody::Iso(bytes) => self.watch.put_iso(cycle, &whole_iso(bytes.as_slice())),
+            PlainBody::Reset(bytes) => {
+                read_whole_bus(&mut self.reset, bytes.as_slice());
+                self.watch.put_reset(cycle, &self.reset)
+            }
+        }
     }
 }
 
@@ -66,11 +95,7 @@ impl Reading for Watching {
         let Some(passed) = reader.pass_body(piece, room) else {
             return Ok(None);
         };
-        let entry = Timed {
-            cycle: passed.cycle,
-            what: self.whole.make(&passed.body),
-        };
-        self.watch.put(&entry)?;
+        self.put(passed.cycle, &passed.body)?;
         Ok(Some(passed.used))
     }
 

@@ -14,7 +14,9 @@ use Rattle.fw_phrases.specs.declared.note.AccountStop.{AccountStop}
 use Rattle.fw_strip.specs.Drawing.{LedgerFor}
 use Rattle.fw_scene.specs.Beside.{IsBeside, FollowsFor, has_stopped}
 use Rattle.fw_scene.specs.declared.account.Account.{Account as Beside}
-use Rattle.fw_scene.specs.Followed.{Followed, followed_by, follow_from, follow}
+use Rattle.fw_scene.specs.Followed.{Followed, followed_by, follow_from, follow, may_move}
+use Rattle.fw_scene.specs.Laws.{StaysDrawn}
+use Rattle.fw_scene.proofs.MadeLaws.{stays_drawn}
 use Rattle.fw_scene.proofs.VerdictLaws.{verdict_some, verdict_none}
 
 -- once it has stopped it stays so
@@ -35,6 +37,14 @@ stays_so number e b f h i = go f.stop (ap is_some (sym i.stop) ∙ h) (follow nu
     go : (o : Option AccountStop) → is_some o ≡ true → (after : Option AccountStop) → false ≡ has_stopped o after
     go None h after = absurd (let z : ⊥ = cc in z)
     go (Some s) h after = refl
+
+-- and there is no account, so that none is drawn
+pub stays_blank : (number : ℕ) (e : Entry) (b : Beside) (f : Followed) → is_some b.stop ≡ true → IsBeside b f → StaysDrawn f.account (follow number e f).account
+stays_blank number e b f h i = go f.account f.stop (ap is_some (sym i.stop) ∙ h) i.account
+  where
+    go : (a : Option Account) (o : Option AccountStop) → is_some o ≡ true → FollowsFor b.ledger a o → StaysDrawn a (follow_from number e a o).account
+    go None o h k = (refl, λ lives rows. refl)
+    go (Some l) o h k = absurd (let a = k.1 in let z : is_some o ≡ false = ap is_some a in let y : ⊥ = cc in y)
 
 -- ---- while it follows
 
@@ -62,6 +72,18 @@ goes_on number e b new f a none i judges still =
       subst (λ (x : Followed). IsBeside new x) (sym is) (record { stop = still; account = g.1 }),
       subst (λ (x : Followed). false ≡ has_stopped f.stop x.stop) (sym is) (subst (λ (o : Option AccountStop). false ≡ has_stopped o None) (sym before) refl),
     )
+
+-- what is drawn stays, unless the entry may move it
+pub goes_on_still : (number : ℕ) (e : Entry) (b new : Beside) (f : Followed) (a : Option Answer) → b.stop ≡ None → IsBeside b f → ((l : Account) → StandsFor b.ledger l
+    → Judges new.ledger l e (Ok a)) → may_move e a ≡ false
+    → StaysDrawn f.account (follow number e f).account
+goes_on_still number e b new f a none i judges off =
+    let w = account_of b.ledger f.account f.stop (sym i.stop ∙ none) i.account in
+    let j = judges w.0 w.2 in
+    let v = verdict_none w.0 e w.2.sound j.0 in
+    let is : (follow number e f).account ≡ next_account w.0 e = ap (λ o. (follow_from number e o f.stop).account) w.1 ∙ ap (λ o. (followed_by number o (next_account w.0 e)).account) v in
+    subst (λ (x : Option Account). StaysDrawn x (follow number e f).account) (sym w.1)
+    (subst (λ (x : Option Account). StaysDrawn (Some w.0) x) (sym (is ∙ j.1.1)) (stays_drawn w.0 j.1.0 e a j.2 off j.1.1))
 
 pub stops : (number : ℕ) (e : Entry) (b new : Beside) (f : Followed) (fault : AuditFault) → b.stop ≡ None → IsBeside b f → ((l : Account) → StandsFor b.ledger l → Judges new.ledger l e (Err fault)) → new.stop ≡ Some (record { number = number; fault = fault })
     → IsBeside new (follow number e f) × (true ≡ has_stopped f.stop (follow number e f).stop)

@@ -1,5 +1,7 @@
 pub mod StillLaws
+pub mod MadeLaws
 pub mod LineLaws
+pub mod MarkLaws
 pub mod BarLaws
 pub mod VerdictLaws
 pub mod FollowLaws

@@ -28,11 +28,11 @@ use Rattle.fw_strip.specs.Drawing.{Painted, painted}
 use Rattle.fw_strip.specs.Owners.{owner, owners_below}
 use Rattle.fw_strip.specs.declared.owner.Owner.{Owner}
 use Rattle.fw_strip.proofs.RequestLaws.{requests_are_not_drawn}
-use Rattle.fw_scene.specs.Laws.{OthersMoveNothing}
+use Rattle.fw_scene.specs.Laws.{OthersMoveNothing, StaysDrawn}
 use Rattle.fw_scene.specs.Lines.{holds, spot_shape, spot_of, spots_below, spots, nodes_text}
 
 -- an account with other requests
-abbrev with_requests : (ℕ → Option PlugAt) → (ℕ → Option Request) → Account → Account
+abbrev pub with_requests : (ℕ → Option PlugAt) → (ℕ → Option Request) → Account → Account
 with_requests a o l = record l { addressed = a; outstanding = o }
 
 -- ---- lines
@@ -82,19 +82,19 @@ painted_stays a o l = join (requests_are_not_drawn l a o) (owners_stay a o l 64)
 -- ---- entries
 
 -- an account has changed in its requests alone
-record OnlyRequests (l m : Account) : Type 0 where
-  addressed : ℕ → Option PlugAt
-  outstanding : ℕ → Option Request
-  is : m ≡ with_requests addressed outstanding l
+pub record OnlyRequests (l m : Account) : Type 0 where
+  pub addressed : ℕ → Option PlugAt
+  pub outstanding : ℕ → Option Request
+  pub is : m ≡ with_requests addressed outstanding l
 
-abbrev Only : Account → Option Account → Type 0
+abbrev pub Only : Account → Option Account → Type 0
 Only l None = Unit {0}
 Only l (Some m) = OnlyRequests l m
 
-same : (l : Account) → Only l (Some l)
+pub same : (l : Account) → Only l (Some l)
 same l = record { addressed = l.addressed; outstanding = l.outstanding; is = refl }
 
-ends : (c : ℕ) (l : Account) → Only l (Some (ended c l))
+pub ends : (c : ℕ) (l : Account) → Only l (Some (ended c l))
 ends c l = record { addressed = l.addressed; outstanding = update l.outstanding c None; is = refl }
 
 asks : (o : Option ℕ) (q : Request) (l : Account) → Only l (asked_by o q l)
@@ -148,7 +148,7 @@ after_replies head reply l h = go (head.tl == label_code Procedure)
     go true = answers (device_of_id l.latest head.destination) head.source reply l h
     go false = same l
 
-packets : (p : Packet) (l : Account) → IsFalse (is_moving (Async p)) → Only l (after_packet p l)
+pub packets : (p : Packet) (l : Account) → IsFalse (is_moving (Async p)) → Only l (after_packet p l)
 packets (WriteQuadlet h offset value) l still = same l
 packets (WriteBlock h offset bytes) l still = same l
 packets (WriteReply h rcode) l still = same l
@@ -169,9 +169,12 @@ entries (Outcome o) l still = same l
 entries (Shown s) l still = same l
 entries End l still = same l
 
+-- what is drawn stays as it is
+pub only_drawn : (l m : Account) → OnlyRequests l m → StaysDrawn (Some l) (Some m)
+only_drawn l m w = (
+  subst (λ (k : Account). painted (Some k) ≡ painted (Some l)) (sym w.is) (painted_stays w.addressed w.outstanding l),
+  λ lives rows. subst (λ (k : Account). nodes_text lives (Some k) rows ≡ nodes_text lives (Some l) rows) (sym w.is) (nodes_stay w.addressed w.outstanding l lives rows),
+)
+
 pub others_move_nothing : OthersMoveNothing
-others_move_nothing l m e still next =
-    let w : OnlyRequests l m = subst (λ (o : Option Account). Only l o) next (entries e l still) in (
-      subst (λ (k : Account). painted (Some k) ≡ painted (Some l)) (sym w.is) (painted_stays w.addressed w.outstanding l),
-      λ lives rows. subst (λ (k : Account). nodes_text lives (Some k) rows ≡ nodes_text lives (Some l) rows) (sym w.is) (nodes_stay w.addressed w.outstanding l lives rows),
-    )
+others_move_nothing l m e still next = only_drawn l m (subst (λ (o : Option Account). Only l o) next (entries e l still))

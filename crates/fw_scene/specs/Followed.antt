@@ -1,5 +1,5 @@
 -- The account beside the rows, as far as it follows the entries (own).
-use Rattle.std.specs.Prelude.{ℕ, ◌==◌, Bool, true, false, Option, Some, None}
+use Rattle.std.specs.Prelude.{ℕ, ◌==◌, ◌&&◌, Bool, true, false, Option, Some, None}
 use Rattle.fw_async.specs.declared.packet.Packet.{Packet}
 use Rattle.fw_async.specs.declared.packet.Packet.TheVariants.{LockReply}
 use Rattle.fw_entry.specs.declared.entry.Entry.{Entry}
@@ -8,6 +8,9 @@ use Rattle.fw_account.specs.Account.{Account}
 use Rattle.fw_account.specs.Fold.{next_account, no_account}
 use Rattle.fw_faults.specs.declared.fault.AuditFault.{AuditFault}
 use Rattle.fw_faults.specs.Judged.{verdict}
+use Rattle.fw_ledger.specs.declared.answer.Answer.{Answer}
+use Rattle.fw_ledger.specs.declared.tables.Asked.{Asked}
+use Rattle.fw_ledger.specs.declared.tables.Asked.TheVariants.{Swap}
 use Rattle.fw_phrases.specs.declared.note.AccountStop.{AccountStop}
 
 -- the account after the entries so far, or where it stopped
@@ -46,3 +49,16 @@ is_moving (Event e) = true
 is_moving (Outcome o) = false
 is_moving (Shown s) = false
 is_moving End = false
+
+-- a response makes the swap that was asked for: it is complete, and the old value that it shows is the argument
+abbrev pub made_by : ℕ → Option ℕ → Asked → Bool
+made_by rcode (Some old) (Swap target address swap) = (rcode == 0) && (old == swap.argument)
+made_by rcode _ _ = false
+
+abbrev pub is_made : Answer → Bool
+is_made a = made_by a.rcode a.shown a.asked
+
+-- an entry that is this answer, or none, may change what is drawn
+abbrev pub may_move : Entry → Option Answer → Bool
+may_move e None = is_moving e
+may_move e (Some a) = is_made a

@@ -1,5 +1,5 @@
 -- Which entries move nothing of what a row draws: the law that a function of this crate promises.
-use Rattle.std.specs.Prelude.{◌≡◌, List, IsFalse, Some}
+use Rattle.std.specs.Prelude.{◌≡◌, List, IsFalse, Option, Some}
 use Rattle.fw_account.specs.Account.{Account}
 use Rattle.fw_account.specs.Fold.{next_account}
 use Rattle.fw_entry.specs.declared.entry.Entry.{Entry}
@@ -8,6 +8,10 @@ use Rattle.fw_scene.specs.declared.lives.Lives.{Lives}
 use Rattle.fw_scene.specs.Followed.{is_moving}
 use Rattle.fw_scene.specs.Lines.{nodes_text}
 use Rattle.fw_strip.specs.Drawing.{painted}
+
+-- what is drawn of one account, or of none, is drawn of the other
+abbrev pub StaysDrawn : Option Account → Option Account → Type 0
+StaysDrawn before now = (painted now ≡ painted before) × ((lives : Lives) (rows : List NodeRow) → nodes_text lives now rows ≡ nodes_text lives before rows)
 
 -- What is drawn of the account and of the nodes changes at moving entries alone: so a row after another entry draws what the last one left.
 abbrev pub OthersMoveNothing : Type 0

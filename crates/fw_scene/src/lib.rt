@@ -7,7 +7,7 @@ mod lines;
 mod lives;
 mod plugs;
 
-pub use account::{Account, is_moving};
+pub use account::{Account, Effect, is_moving};
 pub use laws::others_move_nothing;
 pub use lines::{Scene, Spot};
 pub use lives::{Devices, Lives};

@@ -1,10 +1,12 @@
 //! What each row draws over the columns: who talks, hears, lingers, is dead or deaf, and which requests wait.
 
-ghost use Rattle.std.specs.Prelude.{◌≡◌, ◌<◌, ◌≤◌, ◌++◌, OnOk, Option, Some, None};
+ghost use Rattle.std.specs.Prelude.{◌≡◌, ◌<◌, ◌≤◌, ◌++◌, ◌∷◌, [], OnOk, Option, Some, None, codes};
 ghost use Rattle.std.specs.Option.{option_copied};
 ghost use Rattle.fw_account.specs.Account.{Account};
 ghost use Rattle.fw_ledger.specs.Stands.{StandsFor};
 ghost use Rattle.fw_strip.specs.Drawing.{LedgerFor};
+ghost use Rattle.fw_marks.specs.Shapes.{mark};
+ghost use Rattle.fw_phrases.specs.Asking.{bar_class};
 ghost use Rattle.fw_scene.specs.Lines.{talks, lingers, hears_by, by_account, holds, spot_shape, bar_at};
 
 use crate::lives::Lives;
@@ -12,7 +14,7 @@ use crate::plugs::{hears, lingers, talks};
 use fw_entry::NodeRow;
 use fw_ledger::Ledger;
 use fw_marks::{Columns, put_mark, put_path, put_rect};
-use fw_phrases::Standing;
+use fw_phrases::{Kind, Standing};
 use std::alloc::AllocError;
 
 /// What is drawn of the nodes that something holds for.
@@ -92,16 +94,56 @@ fn put_shape(shapes: &mut Vec<u8>, spot: Spot, x: u64) -> Result<(), AllocError>
     }
 }
 
+// The last two letters of the class of a bar.
+#[inline(always)]
+fn bar_letters(kind: Kind) -> (u8, u8)
+    ensures { codes "v " ++ result.0 ∷ result.1 ∷ [] ≡ bar_class kind }
+{
+    match kind {
+        Kind::Read => (b'r', b'd'),
+        Kind::Lock => (b'l', b'k'),
+        Kind::Bid => (b'c', b'd'),
+        Kind::Write => (b'w', b'r'),
+    }
+}
+
+// Appends a bar at a place of three digits, in one piece: a row may have a hundred bars.
+fn put_bar_row(text: &mut Vec<u8>, kind: Kind, x: u64) -> Result<(), AllocError>
+    requires low { 100 ≤ x }
+    requires high { x < 1000 }
+    ensures { OnOk result (text.new.items ≡ text.old.items ++ mark (bar_class kind) x (codes " 0v999")) }
+{
+    let (first, second) = bar_letters(kind);
+    let mut bar = *br#"<path class="v rd" d="M000 0v999"/>"#;
+    bar[15] = first;
+    bar[16] = second;
+    bar[23] = b'0' + (x / 100) as u8;
+    bar[24] = b'0' + (x / 10 % 10) as u8;
+    bar[25] = b'0' + (x % 10) as u8;
+    text.extend_from_slice(&bar)
+}
+
+// Appends a bar at a place.
+fn put_bar_at(text: &mut Vec<u8>, kind: Kind, x: u64) -> Result<(), AllocError>
+    ensures { OnOk result (text.new.items ≡ text.old.items ++ mark (bar_class kind) x (codes " 0v999")) }
+{
+    if 100 <= x && x < 1000 {
+        put_bar_row(text, kind, x)
+    } else {
+        put_mark(text, kind.bar(), x, " 0v999")
+    }
+}
+
 // Appends the bar of a request after so many of the same node: there is none for the fourth and further ones.
-fn put_bar(text: &mut Vec<u8>, class: &str, x: u64, before: u8) -> Result<(), AllocError>
+fn put_bar(text: &mut Vec<u8>, kind: Kind, x: u64, before: u8) -> Result<(), AllocError>
     requires low { 8 ≤ x }
     requires high { x ≤ 1100 }
-    ensures { OnOk result (text.new.items ≡ text.old.items ++ bar_at class.now x before) }
+    ensures { OnOk result (text.new.items ≡ text.old.items ++ bar_at (bar_class kind) x before) }
 {
     match before {
-        0 => put_mark(text, class, x, " 0v999"),
-        1 => put_mark(text, class, x + 8, " 0v999"),
-        2 => put_mark(text, class, x - 8, " 0v999"),
+        0 => put_bar_at(text, kind, x),
+        1 => put_bar_at(text, kind, x + 8),
+        2 => put_bar_at(text, kind, x - 8),
         _ => Ok(()),
     }
 }
@@ -182,12 +224,7 @@ impl<'a> Scene<'a> {
         if !s.waits {
             return Ok(());
         }
-        put_bar(
-            text,
-            s.request.kind().bar(),
-            self.columns.x(node),
-            counts[node],
-        )?;
+        put_bar(text, s.request.kind(), self.columns.x(node), counts[node])?;
         counts[node] = counts[node].saturating_add(1);
         Ok(())
     }

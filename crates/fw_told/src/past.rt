@@ -1,6 +1,6 @@
 //! What the schedules of a place have in common, beside the machine.
 
-ghost use Rattle.std.specs.Prelude.{◌≡◌, ◌<◌, ◌++◌, ℕ, [], List, IfOk, IsTrue, OnOk, length, slice_set, true};
+ghost use Rattle.std.specs.Prelude.{◌≡◌, ◌<◌, ◌++◌, ℕ, [], List, IfOk, IsFalse, IsTrue, OnOk, length, slice_set, true};
 ghost use Rattle.std.specs.List.{All};
 ghost use Rattle.fw_entry.specs.Log.{entries_bytes, TimedFits};
 ghost use Rattle.fw_entry.specs.declared.version.Version.TheVariants.{Two};
@@ -10,7 +10,7 @@ ghost use Rattle.fw_told.specs.Histories.{first_history, told_entries, with_one}
 use crate::entries::{entry_size, told_in};
 use fw_entry::{EventEntry, OutcomeEntry, ShownEntry};
 use fw_movers::MOST_MOVERS;
-use fw_parts::Part;
+use fw_parts::{Part, mixed};
 use std::alloc::{AllocError, Global};
 use std::marker::Model;
 
@@ -114,11 +114,26 @@ fn tell_in(said: &mut Vec<Told>, bytes: &[u8]) -> Result<(), AllocError>
 {
     let mut rest = bytes;
     while let Some(size) = entry_size(rest) {
-        let (entry, behind) = rest.split_at(size);
+        let (entry, later) = rest.split_at(size);
         add(said, told_in(entry))?;
-        rest = behind;
+        rest = later;
     }
     Ok(())
+}
+
+/// Whether anything is told of entries of version 2, whatever the epoch before them.
+pub fn tells(bytes: &[u8]) -> bool
+    ensures { (epoch : ℕ) (out : List TimedEntry) → All TimedFits out → bytes.now ≡ entries_bytes Two epoch out → IsFalse result → told_entries out ≡ [] }
+{
+    let mut rest = bytes;
+    while let Some(size) = entry_size(rest) {
+        let (entry, later) = rest.split_at(size);
+        if told_in(entry).is_some() {
+            return true;
+        }
+        rest = later;
+    }
+    false
 }
 
 // Those that are found the same are the same.
@@ -194,6 +209,22 @@ impl Part for Past {
     }
 
     fn mark(past: &Past) -> u64 {
-        past.said.len() as u64
+        let mut mark: u64 = 0;
+        for done in &past.done {
+            mark = mixed(mark, u32::from(*done));
+        }
+        for told in &past.said {
+            mark = mixed(mark, told_mark(*told));
+        }
+        mark
+    }
+}
+
+// A number by which most of what is told of differs.
+fn told_mark(told: Told) -> u32 {
+    match told {
+        Told::Event(e) => u32::from_le_bytes([1, e.code, e.device, 0]),
+        Told::Outcome(o) => u32::from_le_bytes([2, o.code, o.device, o.slot]) ^ o.value,
+        Told::Shown(s) => u32::from_le_bytes([3, s.device, 0, 0]) ^ s.word,
     }
 }

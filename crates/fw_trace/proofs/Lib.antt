@@ -1,5 +1,6 @@
 pub mod Framings
 pub mod TellingLaws
+pub mod PlaceLaws
 pub mod PassedLaws
 pub mod PartLaws
 pub mod RunLaws

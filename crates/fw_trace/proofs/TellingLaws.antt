@@ -1,8 +1,8 @@
 -- What a sink that tells has read and told, piece by piece.
-use Rattle.std.proofs.Common.{◌≡◌, refl, sym, ap, subst, ◌∙◌, ℕ, zero, suc, ◌+◌, ◌<◌, false, List, [], ◌∷◌, ◌++◌, length, take, Option, Some, None, Ok, append_assoc, arith}
+use Rattle.std.proofs.Common.{◌≡◌, refl, sym, ap, subst, ◌∙◌, ℕ, zero, suc, ◌+◌, ◌<◌, false, List, [], ◌∷◌, ◌++◌, length, take, Option, Some, None, Result, Ok, Err, append_assoc, arith}
 use Rattle.std.proofs.Math.Logic.{∥∥₁_map}
 use Rattle.std.proofs.lemmas.Bool.{eqb-false}
-use Rattle.std.specs.Prelude.{◌==◌, IfNone}
+use Rattle.std.specs.Prelude.{◌==◌, IfNone, OnOk}
 use Rattle.std.specs.Option.{is_some}
 use Rattle.std.proofs.lemmas.List.{append-nil, take_all, length-append}
 use Rattle.fw_entry.specs.declared.entry.Timed.{Timed}
@@ -14,8 +14,9 @@ use Rattle.fw_log.specs.declared.read.LogFed.{LogFed}
 use Rattle.fw_tracer.proofs.LoopLaws.{stepped, caused_append}
 use Rattle.fw_tracer.specs.Caused.{Telling, Caused, caused_text, entry_lines, telling_after}
 use Rattle.fw_tracer.specs.Commands.{Traced, lines_from, telling_behind}
-use Rattle.fw_trace.specs.Telling.{TakesPart, TakesSome, Tells, ToldPart, TellsBy}
+use Rattle.fw_trace.specs.Telling.{TakesEntry, PutsEntry, TakesKnown, TakesPart, TakesSome, Tells, ToldPart, TellsBy}
 use Rattle.fw_trace.specs.declared.lack.Lack.{Lack}
+use Rattle.fw_trace.specs.declared.lack.Untold.{Untold}
 
 -- ---- the text of entries
 
@@ -65,6 +66,30 @@ part_then entries bytes part more t t' t'' r r' first second = record {
       (second.text ∙ ap (λ (k : Telling). t'.text ++ caused_text (lines_from k second.out)) first.kept) (text_append t.telling first.out second.out);
   kept = second.kept ∙ ap (λ (k : Telling). telling_behind k second.out) first.kept ∙ sym (behind_append t.telling first.out second.out);
 }
+
+-- the lines of an entry were added, unless memory ran out
+pub puts_entry : {E : Type 0} → (r : Result (Unit {0}) E) (e : Timed) (t t' : Traced) → OnOk r (t'.text ≡ t.text ++ caused_text (entry_lines t.telling e))
+    → OnOk r (t'.telling ≡ telling_after t.telling e) → PutsEntry e t t' r
+puts_entry (Ok u) e t t' text kept = record { text = text; kept = kept }
+puts_entry (Err f) e t t' text kept = tt
+
+-- they were those of the entry that was read
+pub known_taken : {E : Type 0} → (entries : List Timed) (bytes part : List ℕ) (e : Timed) (cycle : ℕ) (t t' : Traced) (r : State) (o : Result (Unit {0}) E) (u : Unit {0})
+    → HasRead (entries ++ e ∷ []) (bytes ++ part) r → e.cycle ≡ cycle → PutsEntry (record { cycle = cycle; what = e.what }) t t' o → o ≡ Ok u → TakesPart entries bytes part t t' r
+known_taken entries bytes part e cycle t t' r (Ok v) u h same x is =
+    let C : ℕ → Type 0 = λ n. TakesEntry (record { cycle = n; what = e.what }) t t' in
+    let y = subst C (sym same) x in
+    one_taken entries bytes part e t t' r h y.text y.kept
+known_taken entries bytes part e cycle t t' r (Err f) u h same x is = absurd cc
+
+-- one was read
+pub known_one : (entries : List Timed) (bytes piece : List ℕ) (t t' : Traced) (r : State) (o : Option ℕ) (used : ℕ) → o ≡ Some used
+    → TakesKnown {E = Untold} entries bytes piece t t' r (Ok o) → TakesPart entries bytes (take used piece) t t' r
+known_one entries bytes piece t t' r o used is x = subst (λ (p : Option ℕ). TakesKnown {E = Untold} entries bytes piece t t' r (Ok p)) is x
+
+-- none was read, so all is as it was
+pub unknown_same : (P : Type 0) (o : Option ℕ) → o ≡ None → IfNone o P → P
+unknown_same P o is x = subst (λ (p : Option ℕ). IfNone p P) is x
 
 -- ---- what was told
 

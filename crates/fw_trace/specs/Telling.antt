@@ -3,7 +3,7 @@ use Rattle.std.specs.Prelude.{◌≡◌, ℕ, ◌^◌, ◌-◌, ◌≤◌, Bool,
 use Rattle.fw_entry.specs.declared.entry.Timed.{Timed}
 use Rattle.fw_log.specs.History.{HasRead}
 use Rattle.fw_log.specs.Reader.{State}
-use Rattle.fw_tracer.specs.Caused.{caused_text}
+use Rattle.fw_tracer.specs.Caused.{caused_text, entry_lines, telling_after}
 use Rattle.fw_tracer.specs.Commands.{Traced, lines_from, telling_behind}
 use Rattle.fw_trace.specs.declared.lack.Lack.{Lack}
 use Rattle.fw_trace.specs.declared.lack.Lack.TheVariants.{Memory, Sink}
@@ -15,10 +15,26 @@ pub record TakesPart (entries : List Timed) (bytes part : List ℕ) (t t' : Trac
   pub text : t'.text ≡ t.text ++ caused_text (lines_from t.telling out)
   pub kept : t'.telling ≡ telling_behind t.telling out
 
+-- The lines of an entry were added.
+pub record TakesEntry (e : Timed) (t t' : Traced) : Type 0 where
+  pub text : t'.text ≡ t.text ++ caused_text (entry_lines t.telling e)
+  pub kept : t'.telling ≡ telling_after t.telling e
+
+-- they were, unless memory ran out
+abbrev pub PutsEntry : {E : Type 0} → Timed → Traced → Traced → Result (Unit {0}) E → Type 0
+PutsEntry e t t' (Ok _) = TakesEntry e t t'
+PutsEntry e t t' (Err _) = ⊤
+
 -- the first so many bytes of a piece were read
 abbrev pub TakesOne : {E : Type 0} → List Timed → List ℕ → List ℕ → Traced → Traced → State → Result ℕ E → Type 0
 TakesOne entries bytes piece t t' reader' (Ok used) = TakesPart entries bytes (take used piece) t t' reader'
 TakesOne entries bytes piece t t' reader' (Err _) = ⊤
+
+-- so many of them were read, or none
+abbrev pub TakesKnown : {E : Type 0} → List Timed → List ℕ → List ℕ → Traced → Traced → State → Result (Option ℕ) E → Type 0
+TakesKnown entries bytes piece t t' reader' (Ok (Some used)) = TakesPart entries bytes (take used piece) t t' reader'
+TakesKnown entries bytes piece t t' reader' (Ok None) = ⊤
+TakesKnown entries bytes piece t t' reader' (Err _) = ⊤
 
 -- a piece was read
 abbrev pub TakesPiece : {E : Type 0} → List Timed → List ℕ → List ℕ → Traced → Traced → State → Result (Unit {0}) E → Type 0

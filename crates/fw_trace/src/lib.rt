@@ -2,6 +2,7 @@
 //! runs it, by the same step; in place of the log it writes the text of a `Tracer`.
 #![tactic(auto)]
 
+mod bodies;
 mod entries;
 mod lack;
 mod laws;

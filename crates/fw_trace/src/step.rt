@@ -2,6 +2,7 @@
 
 ghost use Rattle.std.specs.Prelude.{◌≡◌, None, Some, Ok, IsFalse, IfNone, List, ℕ};
 ghost use Rattle.std.specs.declared.option.Option.{Option as Maybe};
+ghost use Rattle.std.specs.Option.{is_some};
 ghost use Rattle.fw_bus.specs.Buses.{StandsFor, IsCommand};
 ghost use Rattle.fw_command.specs.declared.command.Command.{Command as Line};
 ghost use Rattle.fw_entry.specs.declared.entry.Timed.{Timed as TimedEntry};
@@ -13,6 +14,7 @@ ghost use Rattle.fw_run.specs.declared.order.Order.{Order as AnOrder};
 ghost use Rattle.fw_tape.specs.Desks.{AnyBlock, AnyVendorByte};
 ghost use Rattle.fw_simulate.specs.Counts.{ReadsOn, WritesOn};
 ghost use Rattle.fw_simulate.specs.Going.{IsUnderWay};
+ghost use Rattle.fw_tracer.specs.Jobs.{connection_of};
 ghost use Rattle.fw_trace.specs.Parts.{place_of};
 ghost use Rattle.fw_trace.specs.Traces.{stopped_by, ending_by};
 ghost use Rattle.fw_trace.specs.Tracing.{Begun, TracesOn};
@@ -47,6 +49,16 @@ pub(crate) fn ending_of<K: Sink>(telling: &TellingSink<K>, ending: RunEnding) ->
     }
 }
 
+// The command asks for a connection.
+fn connects(command: &Command) -> bool
+    ensures { result ≡ is_some (connection_of command.now) }
+{
+    matches!(
+        command,
+        Command::Connect(..) | Command::Broadcast(..) | Command::Listen(..)
+    )
+}
+
 // The controller whose connection a command asks for, and the slot that it takes.
 pub(crate) fn place_of(bus: &Bus, command: &Command) -> Option<(u8, u8)>
     requires spent { IsFalse bus.now.spent }
@@ -54,6 +66,10 @@ pub(crate) fn place_of(bus: &Bus, command: &Command) -> Option<(u8, u8)>
     ensures { (commands : List Line) (actions : List Action) (log : List TimedEntry) (s : State) (o : AnOrder) → Run commands actions log s → StandsFor bus.now.machine s
         → Decides s command.now (Ok o) → result ≡ place_of o }
 {
+    // Of most commands no rule is looked at twice.
+    if !connects(command) {
+        return None;
+    }
     match bus.order_of(command) {
         Ok(Order::Connect(device, _, slot)) => Some((device, slot)),
         _ => None,

@@ -1,5 +1,5 @@
 -- How many entries the lines of a command tell.
-use Rattle.std.proofs.Common.{◌≡◌, refl, ap, sym, ◌∙◌, subst, ℕ, zero, suc, ◌+◌, Bool, true, false, List, [], ◌∷◌, ◌++◌, Option, Some, None, if◌then◌else◌, arith}
+use Rattle.std.proofs.Common.{◌≡◌, refl, ap, sym, subst, ℕ, zero, suc, ◌+◌, Bool, true, false, List, [], ◌∷◌, ◌++◌, Option, Some, None, if◌then◌else◌, arith}
 use Rattle.std.specs.Option.{is_some}
 use Rattle.fw_async.specs.Heads.{head_of}
 use Rattle.fw_async.specs.declared.packet.Head.{Head}

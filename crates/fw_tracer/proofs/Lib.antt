@@ -1,3 +1,4 @@
 pub mod LoopLaws
 pub mod JobLaws
+pub mod RequestLaws
 pub mod CountLaws

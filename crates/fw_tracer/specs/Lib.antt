@@ -3,6 +3,7 @@ pub mod Jobs
 pub mod Requests
 pub mod Streams
 pub mod Told
+pub mod Phrases
 pub mod Caused
 pub mod Lines
 pub mod Commands

@@ -1,15 +1,24 @@
 -- The latest request of each node under each label, since the latest bus reset.
-use Rattle.std.specs.Prelude.{ℕ, ◌==◌, ◌&&◌, not, Bool, List, [], ◌∷◌, ◌++◌, Option, Some, None}
-use Rattle.std.specs.List.{filter, position}
+use Rattle.std.specs.Prelude.{ℕ, ◌≡◌, ◌==◌, ◌&&◌, not, Bool, false, List, [], ◌∷◌, ◌++◌, Option, Some, None}
+use Rattle.std.specs.List.{All, filter, position}
 use Rattle.fw_async.specs.declared.packet.Head.{Head}
 use Rattle.fw_entry.specs.declared.entry.Entry.{Entry}
-use Rattle.fw_entry.specs.declared.entry.Entry.TheVariants.{Reset, Async, Iso, Event, Outcome, Shown, End}
+use Rattle.fw_entry.specs.declared.entry.Entry.TheVariants.{Reset, Async}
 use Rattle.fw_requests.specs.declared.asked.Asked.{Asked}
 use Rattle.fw_requests.specs.Requests.{asked_by, asked_at}
 
 -- the request is this node's, under this label
 abbrev pub is_from : ℕ → ℕ → Asked → Bool
 is_from source label q = (q.source == source) && (q.label == label)
+
+-- none of them is of this node under this label
+abbrev pub AreOthers : ℕ → ℕ → List Asked → Type 0
+AreOthers source label list = All (λ q. is_from source label q ≡ false) list
+
+-- no two are of one node under one label
+abbrev pub AreApart : List Asked → Type 0
+AreApart [] = Unit {0}
+AreApart (q ∷ qs) = AreOthers q.source q.label qs × AreApart qs
 
 -- the requests after one more, which takes the place of the one before it of its node and label
 unfoldable pub with_latest : Asked → List Asked → List Asked

@@ -1,5 +1,5 @@
 -- The packets of a command's streams, counted by channel.
-use Rattle.std.specs.Prelude.{ℕ, zero, suc, ◌==◌, Bool, true, false, List, [], ◌∷◌, ◌++◌, length, replicate, slice_index_or, slice_set, codes, decimal, if◌then◌else◌}
+use Rattle.std.specs.Prelude.{ℕ, ◌==◌, Bool, List, [], ◌++◌, replicate, slice_index_or, slice_set, codes, decimal, if◌then◌else◌}
 use Rattle.std.specs.Option.{is_some}
 use Rattle.fw_cip.specs.declared.packet.IsoPacket.{IsoPacket}
 use Rattle.fw_outside.specs.Outside.{counted}

@@ -1,10 +1,10 @@
 -- What entries say, with names in place of numbers.
-use Rattle.std.specs.Prelude.{ℕ, ◌+◌, ◌==◌, Bool, List, [], ◌∷◌, ◌++◌, length, flat_map, codes, decimal, Option, Some, None, if◌then◌else◌}
+use Rattle.std.specs.Prelude.{ℕ, ◌==◌, List, [], ◌++◌, length, flat_map, codes, decimal, Option, Some, None, if◌then◌else◌}
 use Rattle.std.specs.Int.{to_be_bytes, w32}
 use Rattle.fw_words.specs.Quadlet.{field, quadlet_at}
 use Rattle.fw_words.specs.declared.swap.Swap.{Swap}
 use Rattle.fw_async.specs.declared.packet.Packet.{Packet}
-use Rattle.fw_async.specs.declared.packet.Packet.TheVariants.{WriteQuadlet, WriteBlock, WriteReply, ReadQuadlet, ReadBlock, ReadQuadletReply, ReadBlockReply, CycleStart, Lock, LockReply}
+use Rattle.fw_async.specs.declared.packet.Packet.TheVariants.{WriteQuadlet, WriteBlock, WriteReply, ReadQuadletReply, ReadBlockReply, LockReply}
 use Rattle.fw_entry.specs.declared.codes.TheConstants.{NO_DEVICE}
 use Rattle.fw_entry.specs.declared.codes.outcome.TheConstants as Outcomes
 use Rattle.fw_entry.specs.declared.entry.EventEntry.{EventEntry}

@@ -2,61 +2,33 @@
 
 ghost use Rattle.std.specs.Prelude.{◌≡◌, ◌++◌, [], OnOk};
 ghost use Rattle.fw_registers.specs.Places.{place_of};
-ghost use Rattle.fw_registers.specs.Words.{place_text};
-ghost use Rattle.fw_tracer.specs.Told.{swap_asked, asked_text, carried_text, changes_of, changes_by, changes_asked, rcode_or, not_made_text, made_text, swapped_text, answer_text, response_text};
+ghost use Rattle.fw_tracer.specs.Told.{named_word, asked_text, carried_text, changes_of, changes_by, changes_asked, rcode_or, not_made_text, made_text, swapped_text, answer_text, response_text};
 
+use crate::memo::Memo;
 use crate::naming::Names;
 use crate::parts::put_named_part;
-use crate::registers::{put_named_told, put_named_word};
+use crate::phrase::{Phrase, Words};
 use fw_async::Packet;
 use fw_frames::put_frame;
-use fw_names::{Pairs, put_quadlet, put_word, rcode_name};
-use fw_registers::{Place, Told, put_place};
-use fw_requests::{Answer, Asked};
+use fw_names::{Pairs, put_word, rcode_name};
+use fw_requests::Asked;
 use fw_words::{Swap, quadlet_at};
 use std::alloc::AllocError;
 
 /// The response code of a response that is complete (IEEE 1394-1995, response codes).
 const COMPLETE: u8 = 0;
 
-// Appends a word, and what stands at a place.
-fn put_at(text: &mut Vec<u8>, pairs: &Pairs, word: &str, place: Place) -> Result<(), AllocError>
-    ensures { OnOk result (text.new.items ≡ text.old.items ++ (word.now ++ place_text place)) }
-{
-    put_word(text, word)?;
-    put_place(text, pairs, place)
-}
-
-// Appends a swap that is asked.
-#[tactic(auto, unfolding(crate::specs::Told::swap_asked))]
-fn put_swap_asked(
+// Appends what a request asks.
+pub(crate) fn put_asked(
     text: &mut Vec<u8>,
     pairs: &Pairs,
-    place: Place,
-    swap: Option<Swap>,
+    memo: &mut Memo,
+    names: &Names,
+    q: &Asked,
 ) -> Result<(), AllocError>
-    ensures { OnOk result (text.new.items ≡ text.old.items ++ swap_asked place swap) }
-{
-    let Some(swap) = swap else {
-        return put_at(text, pairs, "lock ", place);
-    };
-    put_at(text, pairs, "swap ", place)?;
-    put_quadlet(text, pairs, swap.argument)?;
-    put_word(text, " to")?;
-    put_quadlet(text, pairs, swap.new)
-}
-
-// Appends what a request asks.
-#[tactic(auto, unfolding(crate::specs::Told::asked_text))]
-pub(crate) fn put_asked(text: &mut Vec<u8>, pairs: &Pairs, q: &Asked) -> Result<(), AllocError>
     ensures { OnOk result (text.new.items ≡ text.old.items ++ asked_text q.now) }
 {
-    let place = Place::of(q.offset);
-    match q.answer {
-        Answer::Write => put_at(text, pairs, "write ", place),
-        Answer::ReadQuadlet | Answer::ReadBlock => put_at(text, pairs, "read ", place),
-        Answer::Lock => put_swap_asked(text, pairs, place, q.swap),
-    }
+    memo.put(text, pairs, names, &Phrase::asked(q))
 }
 
 // Appends the frame that a request carries.
@@ -71,21 +43,36 @@ pub(crate) fn put_carried(text: &mut Vec<u8>, pairs: &Pairs, p: &Packet) -> Resu
     }
 }
 
-// Appends what a swap at a place changes.
-fn put_changes_of(
+// Appends what a swap at an offset changes.
+#[tactic(auto, unfolding(crate::specs::Phrases::words_text))]
+fn put_change(
     text: &mut Vec<u8>,
     pairs: &Pairs,
+    memo: &mut Memo,
     names: &Names,
-    place: Place,
+    offset: u64,
     swap: Swap,
 ) -> Result<(), AllocError>
-    ensures { OnOk result (text.new.items ≡ text.old.items ++ changes_of names.now place swap) }
+    ensures { OnOk result (text.new.items ≡ text.old.items ++ changes_of names.now (place_of offset) swap) }
 {
-    let told = Told::Swap {
-        old: swap.argument,
-        new: swap.new,
-    };
-    put_named_told(text, pairs, names, place, told)
+    let words = Words::Change(swap);
+    memo.put(text, pairs, names, &Phrase { offset, words })
+}
+
+// Appends a word that stands at an offset, and what it says.
+#[tactic(auto, unfolding(crate::specs::Phrases::words_text))]
+fn put_word_at(
+    text: &mut Vec<u8>,
+    pairs: &Pairs,
+    memo: &mut Memo,
+    names: &Names,
+    offset: u64,
+    word: u32,
+) -> Result<(), AllocError>
+    ensures { OnOk result (text.new.items ≡ text.old.items ++ named_word names.now (place_of offset) word) }
+{
+    let words = Words::Word(word);
+    memo.put(text, pairs, names, &Phrase { offset, words })
 }
 
 // Appends what a request would change.
@@ -93,13 +80,14 @@ fn put_changes_of(
 pub(crate) fn put_changes(
     text: &mut Vec<u8>,
     pairs: &Pairs,
+    memo: &mut Memo,
     names: &Names,
     q: &Asked,
 ) -> Result<(), AllocError>
     ensures { OnOk result (text.new.items ≡ text.old.items ++ changes_asked names.now q.now) }
 {
     match q.swap {
-        Some(swap) => put_changes_of(text, pairs, names, Place::of(q.offset), swap),
+        Some(swap) => put_change(text, pairs, memo, names, q.offset, swap),
         None => Ok(()),
     }
 }
@@ -120,14 +108,15 @@ fn put_rcode(text: &mut Vec<u8>, rcode: u8) -> Result<(), AllocError>
 fn put_not_made(
     text: &mut Vec<u8>,
     pairs: &Pairs,
+    memo: &mut Memo,
     names: &Names,
-    place: Place,
+    offset: u64,
     word: u32,
 ) -> Result<(), AllocError>
-    ensures { OnOk result (text.new.items ≡ text.old.items ++ not_made_text names.now place word) }
+    ensures { OnOk result (text.new.items ≡ text.old.items ++ not_made_text names.now (place_of offset) word) }
 {
     put_word(text, ": not made,")?;
-    put_named_word(text, pairs, names, place, word)
+    put_word_at(text, pairs, memo, names, offset, word)
 }
 
 // Appends whether a swap was made that found this word.
@@ -135,18 +124,19 @@ fn put_not_made(
 fn put_made(
     text: &mut Vec<u8>,
     pairs: &Pairs,
+    memo: &mut Memo,
     names: &Names,
-    place: Place,
+    offset: u64,
     swap: Swap,
     word: u32,
 ) -> Result<(), AllocError>
-    ensures { OnOk result (text.new.items ≡ text.old.items ++ made_text names.now place swap word) }
+    ensures { OnOk result (text.new.items ≡ text.old.items ++ made_text names.now (place_of offset) swap word) }
 {
     if word == swap.argument {
         put_word(text, ": made")?;
-        put_changes_of(text, pairs, names, place, swap)
+        put_change(text, pairs, memo, names, offset, swap)
     } else {
-        put_not_made(text, pairs, names, place, word)
+        put_not_made(text, pairs, memo, names, offset, word)
     }
 }
 
@@ -155,6 +145,7 @@ fn put_made(
 fn put_swapped(
     text: &mut Vec<u8>,
     pairs: &Pairs,
+    memo: &mut Memo,
     names: &Names,
     q: &Asked,
     bytes: &[u8],
@@ -165,8 +156,9 @@ fn put_swapped(
         Some(swap) if bytes.len() == 4 => put_made(
             text,
             pairs,
+            memo,
             names,
-            Place::of(q.offset),
+            q.offset,
             swap,
             quadlet_at(bytes, 0).0,
         ),
@@ -179,6 +171,7 @@ fn put_swapped(
 pub(crate) fn put_answer(
     text: &mut Vec<u8>,
     pairs: &Pairs,
+    memo: &mut Memo,
     names: &Names,
     q: &Asked,
     p: &Packet,
@@ -187,10 +180,10 @@ pub(crate) fn put_answer(
 {
     match p {
         Packet::ReadQuadletReply { rcode, value, .. } if *rcode == COMPLETE => {
-            put_named_word(text, pairs, names, Place::of(q.offset), *value)
+            put_word_at(text, pairs, memo, names, q.offset, *value)
         }
         Packet::LockReply { rcode, bytes, .. } if *rcode == COMPLETE => {
-            put_swapped(text, pairs, names, q, bytes.as_slice())
+            put_swapped(text, pairs, memo, names, q, bytes.as_slice())
         }
         Packet::WriteReply { rcode, .. }
         | Packet::ReadQuadletReply { rcode, .. }
@@ -205,6 +198,7 @@ pub(crate) fn put_answer(
 pub(crate) fn put_response(
     text: &mut Vec<u8>,
     pairs: &Pairs,
+    memo: &mut Memo,
     names: &Names,
     q: Option<Asked>,
     p: &Packet,
@@ -214,6 +208,6 @@ pub(crate) fn put_response(
     let Some(q) = q else {
         return put_word(text, "no request");
     };
-    put_asked(text, pairs, &q)?;
-    put_answer(text, pairs, names, &q, p)
+    put_asked(text, pairs, memo, names, &q)?;
+    put_answer(text, pairs, memo, names, &q, p)
 }

@@ -6,6 +6,7 @@ ghost use Rattle.fw_tracer.specs.Names.{id_text};
 ghost use Rattle.fw_tracer.specs.Told.{asked_text, carried_text, changes_asked};
 
 use crate::answers::{put_answer, put_asked, put_carried, put_changes};
+use crate::memo::Memo;
 use crate::naming::Names;
 use crate::packets::is_answered;
 use crate::parts::put_cycle;
@@ -53,6 +54,7 @@ fn set_front(
 fn set_told(
     told: &mut Vec<u8>,
     pairs: &Pairs,
+    memo: &mut Memo,
     names: &Names,
     p: &Packet,
     q: &Asked,
@@ -62,7 +64,7 @@ fn set_told(
     told.clear();
     names.put_id(told, q.destination)?;
     put_word(told, " ")?;
-    put_asked(told, pairs, q)?;
+    put_asked(told, pairs, memo, names, q)?;
     put_carried(told, pairs, p)
 }
 
@@ -70,13 +72,14 @@ fn set_told(
 fn set_changes(
     changes: &mut Vec<u8>,
     pairs: &Pairs,
+    memo: &mut Memo,
     names: &Names,
     q: &Asked,
 ) -> Result<(), AllocError>
     ensures { OnOk result (changes.new.items ≡ changes_asked names.now q.now) }
 {
     changes.clear();
-    put_changes(changes, pairs, names, q)
+    put_changes(changes, pairs, memo, names, q)
 }
 
 // Appends what a swap would change that no answer has decided.
@@ -110,6 +113,7 @@ impl HeldBack {
         digits: &mut CycleRow,
         cycle: u64,
         pairs: &Pairs,
+        memo: &mut Memo,
         names: &Names,
         p: &Packet,
         q: Asked,
@@ -118,8 +122,8 @@ impl HeldBack {
     {
         self.asked = Some(q);
         set_front(&mut self.front, digits, cycle, names, q.source)?;
-        set_told(&mut self.told, pairs, names, p, &q)?;
-        set_changes(&mut self.changes, pairs, names, &q)
+        set_told(&mut self.told, pairs, memo, names, p, &q)?;
+        set_changes(&mut self.changes, pairs, memo, names, &q)
     }
 
     // Holds none back.
@@ -161,6 +165,7 @@ impl HeldBack {
         &self,
         text: &mut Vec<u8>,
         pairs: &Pairs,
+        memo: &mut Memo,
         names: &Names,
         p: &Packet,
     ) -> Result<(), AllocError>
@@ -172,7 +177,7 @@ impl HeldBack {
         text.extend_from_slice(&self.front)?;
         put_word(text, " <-> ")?;
         text.extend_from_slice(&self.told)?;
-        put_answer(text, pairs, names, q, p)?;
+        put_answer(text, pairs, memo, names, q, p)?;
         put_word(text, "\n")
     }
 }

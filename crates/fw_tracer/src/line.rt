@@ -1,6 +1,6 @@
 //! The lines of a script, as they are told.
 
-ghost use Rattle.std.specs.Prelude.{◌≡◌, ◌++◌, ◌-◌, OnOk, map, replicate, decimal};
+ghost use Rattle.std.specs.Prelude.{◌≡◌, ◌++◌, ◌-◌, IsTrue, OnOk, map, replicate, decimal};
 ghost use Rattle.fw_tracer.specs.Lines.{right, shown_byte, line_text};
 
 use fw_names::put_word;
@@ -38,10 +38,25 @@ fn shown_byte(b: u8) -> u8
     if b < 0x20 || b == 0x7F { b'?' } else { b }
 }
 
+// Each byte of a line is shown as it is.
+fn is_plain(line: &[u8]) -> bool
+    ensures { IsTrue result → map shown_byte line.now ≡ line.now }
+{
+    // All bytes are looked at: so many can be at once.
+    let mut plain = true;
+    for b in line {
+        plain &= shown_byte(*b) == *b;
+    }
+    plain
+}
+
 // Appends the bytes of a line as they are shown.
 fn put_bytes(text: &mut Vec<u8>, line: &[u8]) -> Result<(), AllocError>
     ensures { OnOk result (text.new.items ≡ text.old.items ++ map shown_byte line.now) }
 {
+    if is_plain(line) {
+        return text.extend_from_slice(line);
+    }
     for i in 0..line.len() {
         text.push(shown_byte(line[i]))?;
     }

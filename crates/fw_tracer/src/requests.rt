@@ -3,7 +3,7 @@
 ghost use Rattle.std.specs.Prelude.{◌≡◌, ◌<◌, [], not, OnOk, IfSome, length};
 ghost use Rattle.std.specs.List.{filter, position};
 ghost use Rattle.fw_requests.specs.Requests.{asked, asked_by, asked_at};
-ghost use Rattle.fw_tracer.specs.Requests.{is_from, with_latest, requests_after, latest_asked};
+ghost use Rattle.fw_tracer.specs.Requests.{is_from, AreApart, with_latest, requests_after, latest_asked};
 
 use fw_async::{Head, Packet};
 use fw_entry::Entry;
@@ -21,10 +21,13 @@ pub(crate) struct Requests {
 impl Model for Requests {
     ghost use Rattle.std.specs.Prelude.{List};
     ghost use Rattle.fw_requests.specs.declared.asked.Asked.{Asked};
+    ghost use Rattle.fw_tracer.specs.Requests.{AreApart};
 
     ghost Value = { List Asked };
 
     ghost view = { λ r. r.rows.items };
+
+    ghost invariant = { λ r. AreApart r.rows.items };
 }
 
 impl Requests {
@@ -91,11 +94,14 @@ fn asked_in(rows: &[Asked], source: u16, label: u8) -> Option<Asked>
     }
 }
 
-// Drops the request of a node under a label.
+// Drops the request of a node under a label, of which there is one at most.
 fn drop_from(rows: &mut Vec<Asked>, source: u16, label: u8)
+    requires { AreApart rows.old.items }
     ensures { rows.new.items ≡ filter (λ q. not (is_from source label q)) rows.old.items }
 {
-    rows.retain(|q| !(q.source == source && q.label == label));
+    if let Some(at) = place_from(rows, source, label) {
+        rows.remove(at);
+    }
 }
 
 // What is kept of a request that a response of this kind answers.

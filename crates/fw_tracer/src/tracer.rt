@@ -1,6 +1,7 @@
 //! The text of lines and entries, one after another.
 
 ghost use Rattle.std.specs.Prelude.{◌≡◌, ◌++◌, [], ℕ, OnOk};
+ghost use Rattle.fw_entry.specs.declared.entry.Entry.TheVariants.{Iso};
 ghost use Rattle.fw_tracer.specs.Caused.{untold, caused_text, entry_lines, telling_after};
 ghost use Rattle.fw_tracer.specs.Commands.{begun, ended, last_lines};
 ghost use Rattle.fw_tracer.specs.Lines.{line_text};
@@ -9,9 +10,11 @@ use crate::held::HeldBack;
 use crate::job::Connection;
 use crate::jobs::Jobs;
 use crate::line::put_line;
+use crate::memo::Memo;
 use crate::naming::Names;
 use crate::requests::Requests;
 use crate::streams::Streams;
+use fw_cip::IsoPacket;
 use fw_command::Command;
 use fw_entry::Timed;
 use fw_names::{CycleRow, Pairs};
@@ -27,6 +30,7 @@ pub struct Tracer {
     text: Vec<u8>,
     digits: CycleRow,
     pairs: Pairs,
+    memo: Memo,
     names: Names,
     requests: Requests,
     jobs: Jobs,
@@ -52,6 +56,7 @@ impl Tracer {
             text: Vec::new(alloc),
             digits: CycleRow::of(0),
             pairs: Pairs::new(),
+            memo: Memo::new(alloc),
             names: Names::new(alloc),
             requests: Requests::new(alloc),
             jobs: Jobs::new(alloc),
@@ -100,6 +105,19 @@ impl Tracer {
         self.renumber(&t.what);
         self.put_lines(t.cycle, &t.what)?;
         self.take(t)
+    }
+
+    /// As `put`, of an isochronous packet in this cycle: most entries of a stream's cycles are such.
+    #[tactic(auto, unfolding(crate::specs::Caused::lines_by, crate::specs::Caused::own_lines))]
+    pub fn put_iso(&mut self, cycle: u64, p: &IsoPacket) -> Result<(), AllocError>
+        ensures text { OnOk result (self.new.text ≡ self.old.text ++ caused_text (entry_lines self.old.telling (record { cycle = cycle; what = Iso p.now }))) }
+        ensures kept { OnOk result (self.new.telling ≡ telling_after self.old.telling (record { cycle = cycle; what = Iso p.now })) }
+    {
+        self.held.put_lone(&mut self.text)?;
+        self.held.release();
+        self.streams.take(p);
+        self.cycle = cycle;
+        Ok(())
     }
 
     /// Appends the last lines of a command that was carried out, after those of its entries: those of the request that is held back and

@@ -15,5 +15,6 @@ pub mod NumberingLaws
 pub mod ParentLaws
 pub mod TopologyLaws
 pub mod PlacedLaws
+pub mod CopyLaws
 pub mod TreeLaws
 pub mod StepLaws

@@ -1,6 +1,6 @@
 -- Channels that are late, one after another.
-use Rattle.std.proofs.Common.{◌≡◌, refl, ap, sym, ◌∙◌, ℕ, zero, suc, ◌+◌, ◌-◌, ◌<◌, List, [], ◌∷◌, ◌++◌, Option, Some, None, is_some, Bool, true, false, add-one, arith}
-use Rattle.fw_remarks.specs.Remarks.{Said, Told, told}
+use Rattle.std.proofs.Common.{◌≡◌, refl, ap, sym, ◌∙◌, ℕ, zero, suc, [], ◌++◌, Option, Some, None, is_some, false}
+use Rattle.fw_remarks.specs.Remarks.{Told, told}
 use Rattle.fw_known.specs.declared.channels.Late.{Late}
 use Rattle.fw_known.specs.declared.state.State.{State}
 use Rattle.fw_known.specs.Channels.{late_to}

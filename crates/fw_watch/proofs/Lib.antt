@@ -2,3 +2,4 @@ pub mod WatchLaws
 pub mod HeldLaws
 pub mod SwapLaws
 pub mod PutLaws
+pub mod StepLaws

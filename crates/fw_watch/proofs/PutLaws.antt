@@ -1,12 +1,12 @@
 -- What is told, and what is known, after one entry more.
-use Rattle.std.proofs.Common.{◌≡◌, refl, subst, Result, Ok, Err, OnOk, ap, sym, ◌∙◌, ℕ, List, [], ◌∷◌, ◌++◌, if◌then◌else◌}
+use Rattle.std.proofs.Common.{◌≡◌, subst, Result, Ok, Err, OnOk, ap, sym, ◌∙◌, ℕ, List, [], ◌∷◌, ◌++◌, if◌then◌else◌}
 use Rattle.std.proofs.lemmas.List.{append-nil}
 use Rattle.fw_entry.specs.declared.entry.Timed.{Timed}
 use Rattle.fw_remarks.specs.Remarks.{Said, Told, told, with_line, is_finding, counted}
 use Rattle.fw_known.specs.declared.state.State.{State}
 use Rattle.fw_known.specs.States.{no_state}
 use Rattle.fw_watch.specs.Steps.{remarks, after}
-use Rattle.fw_watch.specs.Watched.{known_from, known, remarks_from, all_remarks, lines, watched, findings_from, Room, Watches, judged_text, last_text, summary, watched_end}
+use Rattle.fw_watch.specs.Watched.{known, all_remarks, lines, watched, findings_from, Room, Watches, judged_text, last_text, watched_end}
 use Rattle.fw_watch.proofs.WatchLaws.{told_more, known_from_more, remarks_from_more, told_text}
 
 -- an entry's text is that of its lines

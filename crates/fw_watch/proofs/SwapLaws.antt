@@ -1,11 +1,9 @@
 -- What loops over the channels of a half make, one more.
-use Rattle.std.proofs.Common.{◌≡◌, refl, ap, sym, ◌∙◌, ℕ, zero, suc, ◌+◌, ◌≤◌, Bool, true, false, List, [], ◌∷◌, ◌++◌, if◌then◌else◌, add-one, arith}
+use Rattle.std.proofs.Common.{◌≡◌, refl, ℕ, zero, suc, ◌+◌, ◌≤◌, Bool, true, false, [], ◌++◌, add-one, arith}
 use Rattle.fw_remarks.specs.Knowing.{bit_of}
-use Rattle.fw_remarks.specs.Remarks.{Said, Told, told}
 use Rattle.fw_known.specs.declared.state.State.{State}
 use Rattle.fw_known.specs.declared.swap.Made.{Made}
 use Rattle.fw_watch.specs.Swaps.{change_remarks, changes_remarks, next_count, changes_to}
-use Rattle.fw_watch.proofs.WatchLaws.{told_more}
 
 pub no_changes : (s : State) (m : Made) (first : ℕ) → changes_remarks 0 s m first ≡ []
 unfolding changes_remarks

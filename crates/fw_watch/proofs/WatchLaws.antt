@@ -6,7 +6,7 @@ use Rattle.fw_remarks.specs.Remarks.{Said, Told, told, line, with_line}
 use Rattle.fw_known.specs.declared.state.State.{State}
 use Rattle.fw_known.specs.States.{no_state}
 use Rattle.fw_watch.specs.Steps.{remarks, after}
-use Rattle.fw_watch.specs.Watched.{known_from, known, remarks_from, all_remarks, lines, watched, findings_from}
+use Rattle.fw_watch.specs.Watched.{known_from, known, remarks_from, lines, watched}
 
 -- more lines after others
 pub told_more : (t : Told) (xs ys : List Said) → told t (xs ++ ys) ≡ told (told t xs) ys

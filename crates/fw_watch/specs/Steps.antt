@@ -1,5 +1,5 @@
 -- One entry: what it tells, and what is known after it.
-use Rattle.std.specs.Prelude.{ℕ, ◌+◌, ◌==◌, ◌&&◌, not, List, [], ◌∷◌, ◌++◌, length, Option, Some, None, if◌then◌else◌}
+use Rattle.std.specs.Prelude.{◌≡◌, ℕ, ◌+◌, ◌==◌, ◌&&◌, not, List, [], ◌∷◌, ◌++◌, length, Option, Some, None, if◌then◌else◌}
 use Rattle.fw_csr.specs.declared.offset.TheConstants.{REGISTER_SPACE}
 use Rattle.fw_cip.specs.declared.packet.IsoPacket.{IsoPacket}
 use Rattle.fw_entry.specs.declared.codes.event.TheConstants as Events
@@ -27,6 +27,12 @@ use Rattle.fw_watch.specs.Answering.{packet_remarks, after_packet}
 -- a bus reset
 unfoldable pub reset_remarks : ℕ → ResetEntry → List Said
 reset_remarks cycle r = said cycle (Reset r.epoch (length r.nodes) r.manager) ∷ []
+
+-- a reset has the epoch, the nodes and the resource manager of another: no more of it is looked at
+pub record IsBusOf (whole r : ResetEntry) : Type 0 where
+  pub epoch : whole.epoch ≡ r.epoch
+  pub nodes : whole.nodes ≡ r.nodes
+  pub manager : whole.manager ≡ r.manager
 
 -- an event: the log says that the second is over, or a controller died
 unfoldable pub after_event : EventEntry → State → State
@@ -90,6 +96,10 @@ after_what cycle End s = s
 -- what has become of a second and of the channels when the time is this cycle
 unfoldable pub ticked : ℕ → State → State
 ticked cycle s = record (after_held 64 cycle s) { second = ticked_second cycle (after_held 64 cycle s).second }
+
+-- an entry of a cycle
+abbrev pub at_cycle : ℕ → Entry → Timed
+at_cycle cycle what = record { cycle = cycle; what = what }
 
 -- an entry: first the channels that nobody has used for a second, and then what it records
 unfoldable pub remarks : State → Timed → List Said

@@ -1,11 +1,8 @@
 -- Swaps that were made and changed something: what they change, and what they tell.
-use Rattle.std.specs.Prelude.{ℕ, zero, suc, ◌+◌, ◌-◌, ◌==◌, ◌&&◌, not, nat_lt, nat_le, Bool, true, false, List, [], ◌∷◌, ◌++◌, Option, Some, None, unwrap_or, if◌then◌else◌}
+use Rattle.std.specs.Prelude.{ℕ, zero, suc, ◌+◌, ◌-◌, ◌==◌, ◌&&◌, not, nat_lt, Bool, true, false, List, [], ◌∷◌, ◌++◌, Option, Some, None, unwrap_or, if◌then◌else◌}
 use Rattle.fw_words.specs.Quadlet.{field}
 use Rattle.fw_remarks.specs.declared.register.Register.{Register}
 use Rattle.fw_remarks.specs.declared.register.Register.TheVariants.{Bandwidth, ChannelsHigh, ChannelsLow, Output, Input}
-use Rattle.fw_remarks.specs.declared.known.Known.{Known}
-use Rattle.fw_remarks.specs.declared.known.Managed.{Managed}
-use Rattle.fw_known.specs.declared.channel.Due.{Due}
 use Rattle.fw_known.specs.declared.second.Before.{Before}
 use Rattle.fw_known.specs.declared.second.Before.TheVariants.{Nothing, Dark, Words}
 use Rattle.fw_known.specs.declared.second.Second.{Second}
@@ -13,11 +10,9 @@ use Rattle.fw_known.specs.declared.state.State.{State}
 use Rattle.fw_known.specs.declared.swap.Made.{Made}
 use Rattle.fw_remarks.specs.declared.remark.Remark.TheVariants.{Units, Takes, Returns, Plug, TooMany, UnitsInSecond, NewInSecond, Several, MoreThanMove}
 use Rattle.fw_remarks.specs.Registers.{is_output}
-use Rattle.fw_remarks.specs.Knowing.{all_known, bit_of, is_connected, is_known_set}
+use Rattle.fw_remarks.specs.Knowing.{bit_of, is_connected, is_known_set}
 use Rattle.fw_remarks.specs.Remarks.{Said, said}
-use Rattle.fw_known.specs.Channels.{with_dues}
-use Rattle.fw_known.specs.Standing.{node_of}
-use Rattle.fw_known.specs.States.{counted_second, with_known}
+use Rattle.fw_known.specs.States.{counted_second}
 
 -- ---- the swap of a plug
 

@@ -2,13 +2,20 @@
 
 ghost use Rattle.std.specs.Prelude.{◌≡◌, OnOk};
 ghost use Rattle.fw_remarks.specs.Remarks.{told};
-ghost use Rattle.fw_watch.specs.Answering.{heed, not_manager_remarks, made_remarks, after_made, found_remarks, after_found, with_manager, followed_remarks, after_followed, answer_remarks, after_answer, packet_remarks, after_packet};
+ghost use Rattle.fw_async.specs.Reader.{IsPacket, Spells};
+ghost use Rattle.fw_async.specs.declared.packet.Packet.{Packet as AsyncPacket};
+ghost use Rattle.fw_known.specs.Judging.{judged};
+ghost use Rattle.fw_known.specs.Swapped.{swapped};
+ghost use Rattle.fw_watch.specs.Judging.{judge_remarks};
+ghost use Rattle.fw_watch.specs.Swaps.{swap_remarks};
+ghost use Rattle.fw_watch.specs.Answering.{heed, made, not_manager_remarks, made_remarks, after_made, found_remarks, after_found, with_manager, followed_remarks, after_followed, answer_remarks, after_answer, packet_remarks, after_packet};
 
 use crate::judge::tell_judged;
 use crate::tell_swap::tell_swap;
 use fw_async::Packet;
 use fw_known::{Answer, Made, State};
 use fw_remarks::{At, Journal, Known, Remark};
+use fw_words::Swap;
 use std::alloc::AllocError;
 
 /// What is to be done with an answer.
@@ -23,6 +30,7 @@ pub enum Heed {
 }
 
 // What is to be done with an answer.
+#[inline(always)]
 #[tactic(auto, unfolding(crate::specs::Answering::heed))]
 fn how_to_heed(state: &State, at: At) -> Heed
     ensures { result ≡ heed state.now at }
@@ -37,6 +45,7 @@ fn how_to_heed(state: &State, at: At) -> Heed
 }
 
 // Tells a swap at a node that is not the resource manager.
+#[inline(never)]
 #[tactic(auto, unfolding(crate::specs::Answering::not_manager_remarks))]
 fn tell_not_manager(
     state: &State,
@@ -57,20 +66,18 @@ fn tell_not_manager(
     journal.say(cycle, remark)
 }
 
-// Takes a swap that an answer has made, if it has made one.
-#[tactic(auto, unfolding(crate::specs::Answering::made_remarks, crate::specs::Answering::after_made))]
-fn take_swap(
+// Takes a swap that an answer has made.
+#[inline(never)]
+fn take_made(
     state: &mut State,
     journal: &mut Journal,
     cycle: u64,
     a: &Answer,
+    swap: Swap,
 ) -> Result<(), AllocError>
-    ensures lines { OnOk result (journal.new ≡ told journal.old (made_remarks cycle a.now a.now.swap state.old)) }
-    ensures known { OnOk result (state.new ≡ after_made cycle a.now a.now.swap state.old) }
+    ensures lines { OnOk result (journal.new ≡ told journal.old (swap_remarks state.old (made cycle a.now swap))) }
+    ensures known { OnOk result (state.new ≡ swapped state.old (made cycle a.now swap)) }
 {
-    let Some(swap) = a.swap else {
-        return Ok(());
-    };
     let made = Made {
         cycle,
         by: a.by,
@@ -83,7 +90,62 @@ fn take_swap(
     Ok(())
 }
 
+// Takes a swap that an answer has made, if it has made one.
+#[inline(always)]
+#[tactic(auto, unfolding(crate::specs::Answering::made_remarks, crate::specs::Answering::after_made))]
+fn take_swap(
+    state: &mut State,
+    journal: &mut Journal,
+    cycle: u64,
+    a: &Answer,
+) -> Result<(), AllocError>
+    ensures lines { OnOk result (journal.new ≡ told journal.old (made_remarks cycle a.now a.now.swap state.old)) }
+    ensures known { OnOk result (state.new ≡ after_made cycle a.now a.now.swap state.old) }
+{
+    match a.swap {
+        Some(swap) => take_made(state, journal, cycle, a, swap),
+        None => Ok(()),
+    }
+}
+
+// Takes a word that is found, which is not the one that is known to be there.
+#[inline(never)]
+fn take_other(
+    state: &mut State,
+    journal: &mut Journal,
+    cycle: u64,
+    at: At,
+    found: u32,
+) -> Result<(), AllocError>
+    ensures lines { OnOk result (journal.new ≡ told journal.old (judge_remarks state.old cycle at found)) }
+    ensures known { OnOk result (state.new ≡ judged state.old at found) }
+{
+    tell_judged(state, journal, cycle, at, found)?;
+    state.judge(at, found);
+    Ok(())
+}
+
+// Takes a word that is found.
+#[inline(always)]
+#[tactic(auto, unfolding(crate::specs::Judging::judge_remarks))]
+fn take_word(
+    state: &mut State,
+    journal: &mut Journal,
+    cycle: u64,
+    at: At,
+    found: u32,
+) -> Result<(), AllocError>
+    ensures lines { OnOk result (journal.new ≡ told journal.old (judge_remarks state.old cycle at found)) }
+    ensures known { OnOk result (state.new ≡ judged state.old at found) }
+{
+    if state.judge_same(at, found) {
+        return Ok(());
+    }
+    take_other(state, journal, cycle, at, found)
+}
+
 // Takes an answer that shows a word.
+#[inline(always)]
 #[tactic(auto, using(crate::proofs::WatchLaws::told_more), unfolding(crate::specs::Answering::found_remarks, crate::specs::Answering::after_found))]
 fn take_found(
     state: &mut State,
@@ -95,12 +157,12 @@ fn take_found(
     ensures lines { OnOk result (journal.new ≡ told journal.old (found_remarks cycle a.now found state.old)) }
     ensures known { OnOk result (state.new ≡ after_found cycle a.now found state.old) }
 {
-    tell_judged(state, journal, cycle, a.at, found)?;
-    state.judge(a.at, found);
+    take_word(state, journal, cycle, a.at, found)?;
     take_swap(state, journal, cycle, a)
 }
 
 // The node of a register has answered as the resource manager, where the register is one of its.
+#[inline(always)]
 #[tactic(auto, unfolding(crate::specs::Answering::with_manager))]
 fn note_manager(state: &mut State, at: At)
     ensures { state.new ≡ with_manager at state.old }
@@ -111,6 +173,7 @@ fn note_manager(state: &mut State, at: At)
 }
 
 // Takes an answer that is followed.
+#[inline(always)]
 #[tactic(auto, unfolding(crate::specs::Answering::followed_remarks, crate::specs::Answering::after_followed))]
 fn follow(
     state: &mut State,
@@ -132,6 +195,7 @@ fn follow(
 }
 
 // Takes an answer.
+#[inline(always)]
 #[tactic(auto, unfolding(crate::specs::Answering::answer_remarks, crate::specs::Answering::after_answer))]
 fn take_answer(
     state: &mut State,
@@ -160,9 +224,25 @@ pub(crate) fn take_packet(
     ensures lines { OnOk result (journal.new ≡ told journal.old (packet_remarks cycle p.now state.old)) }
     ensures known { OnOk result (state.new ≡ after_packet cycle p.now state.old) }
 {
-    let answer = state.standing.answer(p);
-    state.standing.take(p);
-    match answer {
+    match state.standing.take(p) {
+        Some(a) => take_answer(state, journal, cycle, &a),
+        None => Ok(()),
+    }
+}
+
+/// The same from the bytes of a packet.
+#[inline(always)]
+pub(crate) fn take_packet_bytes(
+    state: &mut State,
+    journal: &mut Journal,
+    cycle: u64,
+    bytes: &[u8],
+) -> Result<(), AllocError>
+    requires { IsPacket bytes.now }
+    ensures lines { (p : AsyncPacket) → Spells p bytes.now → OnOk result (journal.new ≡ told journal.old (packet_remarks cycle p state.old)) }
+    ensures known { (p : AsyncPacket) → Spells p bytes.now → OnOk result (state.new ≡ after_packet cycle p state.old) }
+{
+    match state.standing.take_bytes(bytes) {
         Some(a) => take_answer(state, journal, cycle, &a),
         None => Ok(()),
     }

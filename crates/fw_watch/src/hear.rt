@@ -2,6 +2,7 @@
 
 ghost use Rattle.std.specs.Prelude.{◌≡◌, OnOk};
 ghost use Rattle.fw_remarks.specs.Remarks.{told};
+ghost use Rattle.fw_known.specs.Heard.{after_heard};
 ghost use Rattle.fw_watch.specs.Hearing.{start_remarks, two_remarks, free_remarks, owners_remarks, wrong_remarks, heard_remarks};
 
 use fw_known::{Channel, Heard, Packet, State};
@@ -92,4 +93,23 @@ pub(crate) fn tell_packet(
     let row = state.channels.at(p.channel);
     tell_start(journal, &row, p)?;
     tell_heard(journal, p, &state.heard(p))
+}
+
+/// Takes an isochronous packet, and tells what it shows.
+#[inline(always)]
+pub(crate) fn take_iso(
+    state: &mut State,
+    journal: &mut Journal,
+    p: &Packet,
+) -> Result<(), AllocError>
+    ensures lines { OnOk result (journal.new ≡ told journal.old (heard_remarks state.old p.now)) }
+    ensures known { OnOk result (state.new ≡ after_heard state.old p.now) }
+{
+    if state.is_usual(p) {
+        state.hear_usual(p);
+        return Ok(());
+    }
+    tell_packet(state, journal, p)?;
+    state.hear(p);
+    Ok(())
 }

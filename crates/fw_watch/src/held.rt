@@ -28,12 +28,9 @@ fn tell_late(state: &mut State, journal: &mut Journal, cycle: u64) -> Result<boo
     Ok(true)
 }
 
-/// Tells the channels that are late, in the order in which they were taken.
-pub(crate) fn tell_held(
-    state: &mut State,
-    journal: &mut Journal,
-    cycle: u64,
-) -> Result<(), AllocError>
+// Tells the channels that are late, in the order in which they were taken.
+#[inline(never)]
+fn tell_held(state: &mut State, journal: &mut Journal, cycle: u64) -> Result<(), AllocError>
     ensures lines { OnOk result (journal.new ≡ told journal.old (held_remarks 64 cycle state.old)) }
     ensures known { OnOk result (state.new ≡ after_held 64 cycle state.old) }
 {
@@ -44,4 +41,20 @@ pub(crate) fn tell_held(
         }
     }
     Ok(())
+}
+
+/// Tells the channels that are late, if one may be.
+#[inline(always)]
+pub(crate) fn tell_if_held(
+    state: &mut State,
+    journal: &mut Journal,
+    cycle: u64,
+) -> Result<(), AllocError>
+    ensures lines { OnOk result (journal.new ≡ told journal.old (held_remarks 64 cycle state.old)) }
+    ensures known { OnOk result (state.new ≡ after_held 64 cycle state.old) }
+{
+    if !state.channels.may_be_late(cycle) {
+        return Ok(());
+    }
+    tell_held(state, journal, cycle)
 }

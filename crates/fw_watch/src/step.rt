@@ -3,12 +3,18 @@
 ghost use Rattle.std.specs.Prelude.{◌≡◌, OnOk};
 ghost use Rattle.fw_remarks.specs.Remarks.{told};
 ghost use Rattle.fw_known.specs.States.{reset_state};
-ghost use Rattle.fw_watch.specs.Steps.{reset_remarks, shown_at, shown_remarks, after_shown, after_event, what_remarks, after_what, remarks, after};
+ghost use Rattle.fw_async.specs.Reader.{IsPacket, Spells};
+ghost use Rattle.fw_async.specs.declared.packet.Packet.{Packet as AsyncPacket};
+ghost use Rattle.fw_entry.specs.declared.entry.Entry.TheVariants.{Async, Iso, Reset as ResetOf};
+ghost use Rattle.fw_entry.specs.declared.entry.ResetEntry.{ResetEntry as AReset};
+ghost use Rattle.fw_watch.specs.Holding.{held_remarks};
+ghost use Rattle.fw_watch.specs.Steps.{at_cycle, ticked, IsBusOf, reset_remarks, shown_at, shown_remarks, after_shown, after_event, what_remarks, after_what, remarks, after};
 
-use crate::answer::take_packet;
-use crate::hear::tell_packet;
-use crate::held::tell_held;
+use crate::answer::{take_packet, take_packet_bytes};
+use crate::hear::take_iso;
+use crate::held::tell_if_held;
 use crate::judge::tell_judged;
+use fw_cip::IsoPacket;
 use fw_csr::offset::REGISTER_SPACE;
 use fw_entry::codes::event;
 use fw_entry::{Entry, EventEntry, ResetEntry, ShownEntry, Timed};
@@ -102,11 +108,7 @@ fn take_what(
                 channel: packet.channel,
                 sid: packet.cip.sid,
             };
-            {
-                tell_packet(state, journal, &heard)?;
-                state.hear(&heard);
-                Ok(())
-            }
+            take_iso(state, journal, &heard)
         }
         Entry::Event(event) => {
             take_event(state, event);
@@ -117,13 +119,74 @@ fn take_what(
     }
 }
 
+// The time is this cycle: tells the channels that are late.
+#[inline(always)]
+#[tactic(auto, unfolding(crate::specs::Steps::ticked))]
+fn tick(state: &mut State, journal: &mut Journal, cycle: u64) -> Result<(), AllocError>
+    ensures lines { OnOk result (journal.new ≡ told journal.old (held_remarks 64 cycle state.old)) }
+    ensures known { OnOk result (state.new ≡ ticked cycle state.old) }
+{
+    tell_if_held(state, journal, cycle)?;
+    state.second.tick(cycle);
+    Ok(())
+}
+
 /// Takes an entry, and tells what it shows.
 #[tactic(auto, using(crate::proofs::WatchLaws::told_more), unfolding(crate::specs::Steps::remarks, crate::specs::Steps::after, crate::specs::Steps::ticked))]
 pub(crate) fn step(state: &mut State, journal: &mut Journal, t: &Timed) -> Result<(), AllocError>
     ensures lines { OnOk result (journal.new ≡ told journal.old (remarks state.old t.now)) }
     ensures known { OnOk result (state.new ≡ after state.old t.now) }
 {
-    tell_held(state, journal, t.cycle)?;
-    state.second.tick(t.cycle);
+    tick(state, journal, t.cycle)?;
     take_what(state, journal, t.cycle, &t.what)
+}
+
+/// Takes an asynchronous packet by its bytes, and tells what it shows.
+#[inline(never)]
+pub(crate) fn step_packet(
+    state: &mut State,
+    journal: &mut Journal,
+    cycle: u64,
+    bytes: &[u8],
+) -> Result<(), AllocError>
+    requires { IsPacket bytes.now }
+    ensures lines { (p : AsyncPacket) → Spells p bytes.now → OnOk result (journal.new ≡ told journal.old (remarks state.old (at_cycle cycle (Async p)))) }
+    ensures known { (p : AsyncPacket) → Spells p bytes.now → OnOk result (state.new ≡ after state.old (at_cycle cycle (Async p))) }
+{
+    tick(state, journal, cycle)?;
+    take_packet_bytes(state, journal, cycle, bytes)
+}
+
+/// Takes an isochronous packet, and tells what it shows.
+#[inline(always)]
+pub(crate) fn step_iso(
+    state: &mut State,
+    journal: &mut Journal,
+    cycle: u64,
+    p: &IsoPacket,
+) -> Result<(), AllocError>
+    ensures lines { OnOk result (journal.new ≡ told journal.old (remarks state.old (at_cycle cycle (Iso p.now)))) }
+    ensures known { OnOk result (state.new ≡ after state.old (at_cycle cycle (Iso p.now))) }
+{
+    let heard = Packet {
+        cycle,
+        channel: p.channel,
+        sid: p.cip.sid,
+    };
+    tick(state, journal, cycle)?;
+    take_iso(state, journal, &heard)
+}
+
+/// Takes a bus reset, of which the epoch, the nodes and the resource manager are these, and tells what it shows.
+pub(crate) fn step_reset(
+    state: &mut State,
+    journal: &mut Journal,
+    cycle: u64,
+    r: &ResetEntry,
+) -> Result<(), AllocError>
+    ensures lines { (whole : AReset) → IsBusOf whole r.now → OnOk result (journal.new ≡ told journal.old (remarks state.old (at_cycle cycle (ResetOf whole)))) }
+    ensures known { (whole : AReset) → IsBusOf whole r.now → OnOk result (state.new ≡ after state.old (at_cycle cycle (ResetOf whole))) }
+{
+    tick(state, journal, cycle)?;
+    take_reset(state, journal, cycle, r)
 }

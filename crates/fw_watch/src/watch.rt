@@ -2,10 +2,16 @@
 
 ghost use Rattle.std.specs.Prelude.{◌≡◌, ◌++◌, ◌∷◌, [], List, IfOk, OnOk, string_bytes};
 ghost use Rattle.fw_entry.specs.declared.entry.Timed.{Timed};
+ghost use Rattle.fw_async.specs.Reader.{IsPacket, Spells};
+ghost use Rattle.fw_async.specs.declared.packet.Packet.{Packet as AsyncPacket};
+ghost use Rattle.fw_entry.specs.declared.entry.Entry.TheVariants.{Async, Iso, Reset as ResetOf};
+ghost use Rattle.fw_entry.specs.declared.entry.ResetEntry.{ResetEntry as AReset};
+ghost use Rattle.fw_watch.specs.Steps.{at_cycle, IsBusOf};
 ghost use Rattle.fw_watch.specs.Watched.{Watches, watched, watched_end, resets_text, unseen_text, judged_text, last_text};
 
-use crate::step::step;
-use fw_entry::Timed;
+use crate::step::{step, step_iso, step_packet, step_reset};
+use fw_cip::IsoPacket;
+use fw_entry::{ResetEntry, Timed};
 use fw_known::{Counts, State};
 use fw_remarks::Journal;
 use std::alloc::{AllocError, Global};
@@ -97,6 +103,38 @@ impl Watch {
         ensures behind { (before : List Timed) → Watches self.old before → OnOk result (Watches self.new (before ++ t.now ∷ [])) }
     {
         step(&mut self.state, &mut self.journal, t)
+    }
+
+    /// As `put`, of an asynchronous packet, from its bytes.
+    #[inline(always)]
+    pub fn put_packet(&mut self, cycle: u64, bytes: &[u8]) -> Result<(), AllocError>
+        requires { IsPacket bytes.now }
+        ensures lines { (p : AsyncPacket) → Spells p bytes.now → (before : List Timed) → Watches self.old before
+            → OnOk result (self.new.told.text ≡ self.old.told.text ++ watched before (at_cycle cycle (Async p) ∷ [])) }
+        ensures behind { (p : AsyncPacket) → Spells p bytes.now → (before : List Timed) → Watches self.old before
+            → OnOk result (Watches self.new (before ++ at_cycle cycle (Async p) ∷ [])) }
+    {
+        step_packet(&mut self.state, &mut self.journal, cycle, bytes)
+    }
+
+    /// As `put`, of an isochronous packet.
+    #[inline(always)]
+    pub fn put_iso(&mut self, cycle: u64, p: &IsoPacket) -> Result<(), AllocError>
+        ensures lines { (before : List Timed) → Watches self.old before
+            → OnOk result (self.new.told.text ≡ self.old.told.text ++ watched before (at_cycle cycle (Iso p.now) ∷ [])) }
+        ensures behind { (before : List Timed) → Watches self.old before → OnOk result (Watches self.new (before ++ at_cycle cycle (Iso p.now) ∷ [])) }
+    {
+        step_iso(&mut self.state, &mut self.journal, cycle, p)
+    }
+
+    /// As `put`, of a bus reset, of which the epoch, the nodes and the resource manager alone are looked at.
+    pub fn put_reset(&mut self, cycle: u64, r: &ResetEntry) -> Result<(), AllocError>
+        ensures lines { (whole : AReset) → IsBusOf whole r.now → (before : List Timed) → Watches self.old before
+            → OnOk result (self.new.told.text ≡ self.old.told.text ++ watched before (at_cycle cycle (ResetOf whole) ∷ [])) }
+        ensures behind { (whole : AReset) → IsBusOf whole r.now → (before : List Timed) → Watches self.old before
+            → OnOk result (Watches self.new (before ++ at_cycle cycle (ResetOf whole) ∷ [])) }
+    {
+        step_reset(&mut self.state, &mut self.journal, cycle, r)
     }
 
     /// The last line: how much was judged of all entries.

@@ -28,6 +28,20 @@ fn copy_nodes(nodes: &mut Vec<Node>, kept: &[Node], numbers: &[u32])
     }
 }
 
+// The nodes are those that are kept under `now`, and become those under `numbers`: only where the two differ is one copied.
+fn change_nodes(nodes: &mut [Node], kept: &[Node], now: &[u32], numbers: &[u32])
+    requires now { nodes.old ≡ nodes_at kept.now now.now }
+    requires size { length now.now ≡ length numbers.now }
+    requires within { AreWithin numbers.now (length kept.now) }
+    ensures { nodes.new ≡ nodes_at kept.now numbers.now }
+{
+    for n in 0..numbers.len() {
+        if now[n] != numbers[n] {
+            nodes[n].copy_from(&kept[numbers[n] as usize]);
+        }
+    }
+}
+
 impl Devices {
     /// All but the nodes, kept apart.
     pub fn frame(&self, alloc: Global) -> Result<Frame, AllocError>
@@ -81,5 +95,16 @@ impl Devices {
         self.bus.current = false;
         self.withhold = frame.withhold;
         copy_nodes(&mut self.nodes, kept, numbers);
+    }
+
+    /// They are those with their own frame whose nodes are kept under `now`, and become those with the same frame whose nodes are kept
+    /// under `numbers`: only nodes whose numbers differ are copied.
+    pub fn change(&mut self, kept: &[Node], now: &[u32], numbers: &[u32])
+        requires now { IsOf (frame_of self.old) kept.now now.now self.old }
+        requires kept { (n : Network) × IsOf (frame_of self.old) kept.now numbers.now n }
+        ensures { (n : Network) → IsOf (frame_of self.old) kept.now numbers.now n → self.new ≡ n }
+    {
+        self.bus.current = false;
+        change_nodes(&mut self.nodes, kept, now, numbers);
     }
 }

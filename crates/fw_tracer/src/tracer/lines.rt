@@ -29,7 +29,14 @@ impl Tracer {
         put_word(&mut self.text, " <- ")?;
         self.names.put_id(&mut self.text, head.source)?;
         put_word(&mut self.text, " ")?;
-        put_response(&mut self.text, &self.pairs, &self.names, q, p)?;
+        put_response(
+            &mut self.text,
+            &self.pairs,
+            &mut self.memo,
+            &self.names,
+            q,
+            p,
+        )?;
         put_word(&mut self.text, "\n")
     }
 
@@ -68,8 +75,7 @@ impl Tracer {
     {
         let kind = kind_of(p);
         if self.held.is_joined(kind, &head_of(p)) {
-            self.held
-                .put_joined(&mut self.text, &self.pairs, &self.names, p)
+            self.held.put_joined(&mut self.text, &self.pairs, &mut self.memo, &self.names, p)
         } else {
             self.put_apart(kind, cycle, p)
         }

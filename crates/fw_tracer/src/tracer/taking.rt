@@ -47,8 +47,15 @@ impl Tracer {
         let Some(q) = asked_by(p) else {
             return Ok(());
         };
-        self.held
-            .hold(&mut self.digits, cycle, &self.pairs, &self.names, p, q)
+        self.held.hold(
+            &mut self.digits,
+            cycle,
+            &self.pairs,
+            &mut self.memo,
+            &self.names,
+            p,
+            q,
+        )
     }
 
     // Takes an entry, whose lines were told.

@@ -1,5 +1,5 @@
-use Rattle.std.proofs.Common.{◌≡◌, take}
+use Rattle.std.proofs.Common.{◌≡◌, ◌*◌, take}
 use Rattle.fw_cmp.proofs.copies.same_slots.Given as goal
 
-abbrev pub invariant-loop-n : goal.invariant-loop-n
-invariant-loop-n l = take l.n l.slots ≡ take l.n l.others
+abbrev pub invariant-loop-group : goal.invariant-loop-group
+invariant-loop-group l = take (4 * l.group) l.slots ≡ take (4 * l.group) l.others

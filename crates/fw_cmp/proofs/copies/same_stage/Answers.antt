@@ -47,4 +47,4 @@ same_stages (Ended a) (Ended a') same = search (rules, same_endings)
 same_stages (Ended a) _ same = search rules
 
 pub returns : goal.returns
-returns c = λ same. same_stages c.args.stage c.args.other (rw c.eq.ensures at same)
+returns c = λ same. same_stages c.args.stage.now c.args.other.now (rw c.eq.ensures at same)

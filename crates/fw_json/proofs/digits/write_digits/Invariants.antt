@@ -1,14 +1,9 @@
-use Rattle.std.proofs.Common.{◌≡◌, ◌+◌, ◌*◌, ◌%◌, ◌++◌, length, take}
+use Rattle.std.proofs.Common.{◌≡◌, ◌+◌, ◌*◌, ◌++◌, length, take}
 use Rattle.fw_names.specs.Texts.{hex_bytes}
 use Rattle.fw_json.proofs.digits.write_digits.Given as goal
 
-abbrev pub invariant-loop-four : goal.invariant-loop-four
-invariant-loop-four l = record {
+abbrev pub invariant-loop-place : goal.invariant-loop-place
+invariant-loop-place l = record {
   size : length l.out ≡ length l.initial.out;
-  end : l.end + 2 * length l.rest ≡ 2 * length l.bytes;
-  whole : length l.rest % 4 ≡ 0;
-  text : take l.end l.out ++ hex_bytes l.rest ≡ hex_bytes l.bytes;
+  text : take (l.at + 2 * l.place) l.out ≡ take l.at l.initial.out ++ hex_bytes (take l.place l.bytes);
 }
-
-abbrev pub decreases-loop-four : goal.decreases-loop-four
-decreases-loop-four l = length l.rest

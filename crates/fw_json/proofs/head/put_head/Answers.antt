@@ -1,15 +1,19 @@
-use Rattle.std.proofs.Common.{◌++◌, codes, ℕ, List, ap, refl, ◌∙◌}
+use Rattle.std.proofs.Common.{◌≡◌, ◌++◌, codes, decimal, ℕ, List, ap, refl, ◌∙◌}
 use Rattle.std.proofs.lemmas.Result.{on_ok_weaker}
 use Rattle.fw_names.specs.Names.{retry_name}
-use Rattle.fw_json.specs.Values.{code}
-use Rattle.fw_json.proofs.Joins.{then, counted}
+use Rattle.fw_names.specs.Texts.{hex}
+use Rattle.fw_json.specs.Values.{code, field, quoted}
+use Rattle.fw_json.proofs.Joins.{then, value_behind}
 use Rattle.fw_json.proofs.head.put_head.Goals as goal
 
 pub returns : goal.returns
 returns c =
-    let retry : List ℕ = code (codes ",\"retry\":") c.args.h.now.rt (codes ",\"retry_name\":") (retry_name c.args.h.now.rt) in
+    let h = c.args.h.now in
+    let retry : List ℕ = code (codes ",\"retry\":") h.rt (codes ",\"retry_name\":") (retry_name h.rt) in
+    let priority : List ℕ = field (codes ",\"priority\":") (decimal h.pri) in
+    let start : List ℕ = c.put_number.new.text.items in
     let t1 = c.in_ok-put_text.ensures ∙ ap (λ (t : List ℕ). c.args.text.now.items ++ t) c.addressee.ensures in
-    let t2 = then _ _ _ _ _ t1 (counted _ _ _ _ _ c.from.ensures c.in_ok-put_count.ensures) in
-    let t3 = then _ _ (c.put_count.new.text.items ++ retry) _ retry t2 refl in
-    let t4 = then _ _ _ _ _ t3 c.in_ok-put_order.ensures in
-    on_ok_weaker c.put_text-2.result (λ piece. then _ _ _ _ _ t4 (piece ∙ ap (λ (t : List ℕ). c.put_order.new.text.items ++ t) c.sender.ensures)) c.put_text-2.ensures
+    let t2 = value_behind _ _ _ _ _ _ t1 (c.in_ok-put_number.ensures ∙ ap (λ (n : ℕ). c.put_text.new.text.items ++ decimal n) c.from.ensures) in
+    let t3 = then _ _ (start ++ retry) _ retry t2 refl in
+    let t4 = then _ _ (start ++ retry ++ priority) _ priority t3 refl in
+    on_ok_weaker c.put_sender.result (λ piece. then _ _ _ _ _ t4 piece) c.put_sender.ensures

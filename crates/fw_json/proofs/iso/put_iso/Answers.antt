@@ -1,4 +1,4 @@
-use Rattle.std.proofs.Common.{◌∙◌, ℕ, List, codes}
+use Rattle.std.proofs.Common.{◌++◌, ◌∙◌, ℕ, List, codes, ap}
 use Rattle.fw_names.specs.Texts.{hex_bytes}
 use Rattle.fw_json.specs.Values.{field, quoted}
 use Rattle.std.proofs.lemmas.Result.{on_ok_weaker}
@@ -7,9 +7,9 @@ use Rattle.fw_json.proofs.iso.put_iso.Goals as goal
 
 pub returns : goal.returns
 returns c =
-    let t2 = then _ _ _ _ _ (counted _ _ _ _ _ (c.from.ensures ∙ c.data_length.ensures) c.in_ok-put_count.ensures) c.in_ok-put_count-2.ensures in
-    let t3 = then _ _ _ _ _ t2 (counted _ _ _ _ _ c.from-2.ensures c.in_ok-put_count-3.ensures) in
-    let t4 = then _ _ _ _ _ t3 c.in_ok-put_code.ensures in
-    let t5 = then _ _ _ _ _ t4 (counted _ _ _ _ _ c.from-3.ensures c.in_ok-put_count-4.ensures) in
+    let t2 = c.in_ok-put_word.ensures ∙ ap (λ (t : List ℕ). c.args.text.now.items ++ t) c.opening.ensures in
+    let t3 = then _ _ _ _ _ t2 (counted _ _ _ _ _ c.from.ensures c.in_ok-put_count.ensures) in
+    let t4 = then _ _ _ _ _ t3 c.in_ok-put_iso_code.ensures in
+    let t5 = then _ _ _ _ _ t4 (counted _ _ _ _ _ c.from-2.ensures c.in_ok-put_count-2.ensures) in
     let t6 = then _ _ _ _ _ t5 c.in_ok-put_cip.ensures in
     on_ok_weaker c.put_data.result (λ piece. then _ _ _ _ _ t6 (moved (λ (b : List ℕ). field (codes ",\"data\":") (quoted (hex_bytes b))) _ _ _ _ c.block_bytes.ensures piece)) c.put_data.ensures

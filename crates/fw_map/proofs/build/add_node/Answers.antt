@@ -18,14 +18,14 @@ returns-then-count-due-clause-agrees c = λ s h a. absurd (
     let f = c.requires.fits in
     let w = due_of c.args.e.now s c.args.node h (few s.count _ size f.few) f.packets (omega (arith, c.requires.node)) in
     let P : List PhyPacket → Type 0 = λ ids. c.parent_ports-count.result.0 ≡ fields ids c.args.node 2 in
-    c.if-count-due.true (subst P c.as_slice-ids.ensures.value c.parent_ports-count.ensures.count ∙ (w ∙ sym c.due.ensures)))
+    c.if-count-due.true (subst P c.requires.ids c.parent_ports-count.ensures.count ∙ (w ∙ sym c.due.ensures)))
 
 pub returns-then-not-take_children-clause-agrees : goal.returns-then-not-take_children-clause-agrees
 returns-then-not-take_children-clause-agrees c = λ s h a. absurd (
     let size = h.count in
     let f = c.requires.fits in
     let P : List PhyPacket → Type 0 = λ ids. Grown ids s.count 27 s in
-    let w = c.if-not-take_children.ensures.agrees s s.count (omega (arith, c.requires.node)) (subst P (sym c.as_slice-ids.ensures.value) (grown c.args.e.now s h (few s.count _ size f.few) f.packets)) a in
+    let w = c.if-not-take_children.ensures.agrees s s.count (omega (arith, c.requires.node)) (subst P (sym c.requires.ids) (grown c.args.e.now s h (few s.count _ size f.few) f.packets)) a in
     let z = w.0 in
     let y : ⊥ = cc in y)
 
@@ -33,7 +33,7 @@ pub returns-clause-joining : goal.returns-clause-joining
 returns-clause-joining c =
     let e = c.args.e.now in
     let d = c.args.node in
-    let is = c.as_slice-ids.ensures.value in
+    let is = c.requires.ids in
     let f = c.requires.fits in
     let v = c.take_children.new.tree in
     let P : List PhyPacket → Type 0 = λ ids. Grown ids (d + 1) 27 v in
@@ -57,5 +57,5 @@ returns-clause-agrees c = λ s h a.
     let f = c.requires.fits in
     let v = c.take_children.new.tree in
     let P : List PhyPacket → Type 0 = λ ids. Grown ids s.count 27 s in
-    let w = c.if-not-take_children.ensures.agrees s s.count (omega (arith, c.requires.node)) (subst P (sym c.as_slice-ids.ensures.value) (grown c.args.e.now s h (few s.count _ size f.few) f.packets)) a in
+    let w = c.if-not-take_children.ensures.agrees s s.count (omega (arith, c.requires.node)) (subst P (sym c.requires.ids) (grown c.args.e.now s h (few s.count _ size f.few) f.packets)) a in
     (refl, agrees_like s v _ (c.args.node + 1) 27 refl refl w.1)

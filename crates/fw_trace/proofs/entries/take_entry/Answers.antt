@@ -1,14 +1,18 @@
-use Rattle.std.proofs.Common.{take}
-use Rattle.fw_trace.proofs.TellingLaws.{none_taken, one_taken, read_none, read_one, all_used}
+use Rattle.std.proofs.Common.{◌≡◌, subst, sym}
+use Rattle.fw_log.specs.History.{HasRead}
+use Rattle.fw_log.specs.Reader.{State}
+use Rattle.fw_tracer.specs.Commands.{Traced}
+use Rattle.fw_trace.specs.Telling.{TakesOne}
+use Rattle.fw_trace.proofs.TellingLaws.{known_one, unknown_same}
 use Rattle.fw_trace.proofs.entries.take_entry.Goals as goal
 
-pub returns-in-Ok-put-clause-takes : goal.returns-in-Ok-put-clause-takes
-returns-in-Ok-put-clause-takes c = λ entries bytes h.
-    let next = read_one entries bytes c.args.piece.now c.in-Ok.fed.used c.in-Ok.fed.entry c.in-Some.entry c.feed.new.self c.in-Some.is (c.in-Ok.ensures.history entries bytes h) in
-    one_taken entries bytes (take c.in-Ok.fed.used c.args.piece.now) c.in-Some.entry c.args.tracer.now c.put.new.self c.feed.new.self next c.in-Ok-put.ensures.text c.in-Ok-put.ensures.kept
+pub returns-in-Some-clause-takes : goal.returns-in-Some-clause-takes
+returns-in-Some-clause-takes c = λ entries bytes h.
+    known_one entries bytes c.args.piece.now c.args.tracer.now c.take_known.new.tracer c.take_known.new.reader _ c.in-Some.used c.in-Some.is (c.in_ok-known.ensures.takes entries bytes h)
 
 pub returns-in-None-clause-takes : goal.returns-in-None-clause-takes
 returns-in-None-clause-takes c = λ entries bytes h.
-    let whole = all_used c.args.reader.now.fault c.args.reader.now.stand c.args.reader.now.taken c.args.piece.now c.in-Ok.fed c.feed.new.self h.no_fault c.in-Ok.ensures.fresh c.in-None.is in
-    let read = read_none entries bytes c.args.piece.now c.in-Ok.fed.used c.in-Ok.fed.entry c.feed.new.self c.in-None.is (c.in-Ok.ensures.history entries bytes h) in
-    none_taken entries bytes c.args.piece.now c.in-Ok.fed.used c.args.tracer.now c.feed.new.self whole read
+    let P : Type 0 = (c.take_known.new.tracer ≡ c.args.tracer.now) × (c.take_known.new.reader ≡ c.args.reader.now) in
+    let s : P = unknown_same P c.in_ok-known.known c.in-None.is c.in_ok-known.ensures.same in
+    let before : HasRead entries bytes c.take_known.new.reader = subst (λ (r : State). HasRead entries bytes r) (sym s.1) h in
+    subst (λ (t : Traced). TakesOne entries bytes c.args.piece.now t c.take_other.new.tracer c.take_other.new.reader c.take_other.result) s.0 (c.take_other.ensures.takes entries bytes before)

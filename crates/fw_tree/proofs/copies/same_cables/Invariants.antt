@@ -1,5 +1,6 @@
-use Rattle.std.proofs.Common.{◌≡◌, take}
+use Rattle.std.proofs.Common.{◌≡◌, ◌<◌, ℕ}
+use Rattle.fw_tree.specs.Cables.{peer}
 use Rattle.fw_tree.proofs.copies.same_cables.Given as goal
 
 abbrev pub invariant-loop-device : goal.invariant-loop-device
-invariant-loop-device l = take l.device l.cables ≡ take l.device l.others
+invariant-loop-device l = (d p : ℕ) → d < l.device → peer l.cables d p ≡ peer l.others d p

@@ -1,4 +1,4 @@
-use Rattle.std.proofs.Common.{◌≡◌, ap, sym, ◌∙◌, ◌++◌, ℕ, List}
+use Rattle.std.proofs.Common.{ap, sym, ◌∙◌, List}
 use Rattle.fw_remarks.specs.Remarks.{Said, told}
 use Rattle.fw_watch.specs.Swaps.{change_remarks, changes_remarks}
 use Rattle.fw_watch.proofs.WatchLaws.{told_more}

@@ -1,8 +1,6 @@
-use Rattle.std.proofs.Common.{◌≡◌, ℕ, length, ap, sym, subst, ◌∙◌, arith}
+use Rattle.std.proofs.Common.{◌≡◌, ap, length, sym, ◌∙◌, arith}
 use Rattle.std.proofs.lemmas.Grind.{common_steps}
-use Rattle.fw_async.specs.Letters.{HasLetters}
-use Rattle.fw_async.specs.Wire.{Pairs}
-use Rattle.fw_async.proofs.LetterLaws.{AreTold, told_next, told_all}
+use Rattle.fw_async.proofs.LetterLaws.{told_next, told_all}
 use Rattle.fw_async.proofs.wire.Wire.has_letters.Goals as goal
 
 pub loop-node-preserved : goal.loop-node-preserved
@@ -11,9 +9,6 @@ loop-node-preserved c = told_next c.args.self.now c.args.letters.now c.loop-node
 pub returns : goal.returns
 returns c = λ found.
     let letters = c.args.letters.now in
-    let size : length letters ≡ 63 = ap length (sym c.letters.view_is) ∙ c.letters.invariant in
-    let end : c.loop-node.node ≡ 63 = omega (arith, c.loop-node-test.false, c.loop-node.auto.node-end) in
-    let told : AreTold c.args.self.now letters 63 = subst (λ (k : ℕ). AreTold c.args.self.now letters k) end c.loop-node.invariant in
-    let P : Pairs → Type 0 = λ w. AreTold w letters 63 in
-    let Q : Pairs → Type 0 = λ w. HasLetters w letters in
-    subst Q c.self.view_is (told_all c.self.inside.lengths c.self.inside.rows c.self.inside.senders letters c.self.invariant size (subst P (sym c.self.view_is) told))
+    let node = c.loop-node.node in
+    let all : length c.letters.inside.list.items ≡ node = omega (arith, c.letters.inside.list.ok.0, c.len-count.ensures, c.loop-node-test.false, c.loop-node.auto.node-end) in
+    told_all c.args.self.now letters node (ap length (sym c.letters.view_is) ∙ all) (λ m more. c.end.ensures.none m (omega (arith, more, c.if-end-count.false, c.loop-node-test.false))) c.loop-node.invariant

@@ -14,8 +14,8 @@ invariant_of-self c = λ fresh.
       log = reached.log;
       state = reached.state;
       run = reached.run;
-      stands = as_good c.give_back.new.m n reached.state (c.give_back.ensures n c.requires.1) reached.stands;
+      stands = as_good c.give_back.new.m n reached.state (c.give_back.ensures.same n c.requires.1) reached.stands;
     }
 
 pub returns-clause-stands : goal.returns-clause-stands
-returns-clause-stands c = λ n s place stands. as_good c.give_back.new.m n s (c.give_back.ensures n place) stands
+returns-clause-stands c = λ n s place stands. as_good c.give_back.new.m n s (c.give_back.ensures.same n place) stands

@@ -20,7 +20,7 @@ loop-moves-init g c =
       some = λ e. c.requires.some;
       next = c.requires.next;
       placed = c.requires.placed;
-      walks = λ script only w. first_level D script c.args.explored.now self.walker.pasts (g.P.Keeper.Kept self.walker.places) self.levels self.rows w;
+      walks = λ script only w. first_level D script c.args.explored.now self.walker.pasts (g.P.Keeper.Kept self.walker.kept.places) self.levels self.rows w;
     }
 
 pub loop-moves-preserved : goal.loop-moves-preserved
@@ -29,9 +29,9 @@ loop-moves-preserved g c =
     let x = c.args.explored.now in
     let i = c.loop-moves.invariant in
     let self = c.loop-moves.self in
-    let K = g.P.Keeper.Kept self.walker.places in
+    let K = g.P.Keeper.Kept self.walker.kept.places in
     let next = c.go_through.new.self in
-    let K2 = g.P.Keeper.Kept next.walker.places in
+    let K2 = g.P.Keeper.Kept next.walker.kept.places in
     let turned = c.turn.new.self in
     let t = c.in_ok-turn.ensures.ok in
     record {
@@ -53,6 +53,6 @@ returns-then-len-eq0 g c =
     let self = c.loop-moves.self in
     let size : length self.levels.level ≡ 0 = sym c.len.ensures ∙ c.if-len-eq0.true in
     record {
-      whole = λ script only w. whole_level D script c.args.explored.now self.walker.pasts (g.P.Keeper.Kept self.walker.places) c.loop-moves.moves self.levels self.rows (i.walks script only w)
+      whole = λ script only w. whole_level D script c.args.explored.now self.walker.pasts (g.P.Keeper.Kept self.walker.kept.places) c.loop-moves.moves self.levels self.rows (i.walks script only w)
           (none_left self.levels.level size) (λ first. let some = i.some first in absurd (omega (arith, some, size)));
     }

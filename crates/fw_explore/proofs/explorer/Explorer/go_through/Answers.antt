@@ -14,8 +14,8 @@ loop-place-init g c =
       level = refl;
       longest = refl;
       placed = c.requires.placed;
-      next = subst (ArePlaced (Had self.walker.pasts) (g.P.Keeper.Kept self.walker.places)) (sym c.requires.next) (All-nil (λ (e : Entry). IsPlacedKey (Had self.walker.pasts) (g.P.Keeper.Kept
-          self.walker.places) e.key));
+      next = subst (ArePlaced (Had self.walker.pasts) (g.P.Keeper.Kept self.walker.kept.places)) (sym c.requires.next) (All-nil (λ (e : Entry). IsPlacedKey (Had self.walker.pasts) (g.P.Keeper.Kept
+          self.walker.kept.places) e.key));
       walks = λ script n only w. w;
     }
 
@@ -36,4 +36,4 @@ returns-clause-walks g c = λ script n only w.
     let self = c.loop-place.self in
     let i = c.loop-place.invariant in
     let all : c.loop-place.place ≡ length self.levels.level = omega (arith, ap length i.level) in
-    subst (λ k. IsGoing D script c.args.explored.now self.walker.pasts (g.P.Keeper.Kept self.walker.places) n k self.levels self.rows) all (i.walks script n only w)
+    subst (λ k. IsGoing D script c.args.explored.now self.walker.pasts (g.P.Keeper.Kept self.walker.kept.places) n k self.levels self.rows) all (i.walks script n only w)

@@ -17,7 +17,7 @@ loop-mover-init g c =
     record {
       here = refl;
       rows = refl;
-      trying = trying_first g.P.Keeper.Kept D c.args.explored.now c.args.place self.walker.pasts self.walker.places self.levels self.rows self.walker.here.items c.requires.place c.requires.here
+      trying = trying_first g.P.Keeper.Kept D c.args.explored.now c.args.place self.walker.pasts self.walker.kept.places self.levels self.rows self.walker.here.items c.requires.place c.requires.here
           c.requires.next;
     }
 
@@ -26,7 +26,7 @@ step_to-requires-clause-here g c =
     let w = c.args.self.now.walker in
     let v = c.loop-mover.self.walker in
     let same : v.here.items ≡ w.here.items = cc (c.loop-mover.invariant.here) in
-    place_wider (Had w.pasts) (Had v.pasts) (g.P.Keeper.Kept w.places) (g.P.Keeper.Kept v.places) w.here.items v.here.items c.loop-mover.invariant.trying.wider same c.requires.placed
+    place_wider (Had w.pasts) (Had v.pasts) (g.P.Keeper.Kept w.kept.places) (g.P.Keeper.Kept v.kept.places) w.here.items v.here.items c.loop-mover.invariant.trying.wider same c.requires.placed
 
 pub loop-mover-preserved : goal.loop-mover-preserved
 loop-mover-preserved g c =
@@ -40,18 +40,18 @@ loop-mover-preserved g c =
     let to = next.key.items in
     let same : now.walker.here.items ≡ self.walker.here.items = cc (i.here) in
     let steps : (b : Bool) → c.in_ok-step_to.field-0 ≡ b → (script : List Line) (w : List ℕ) → IsFunction D
-    → LeadsAt D script x (Had now.walker.pasts) (g.P.Keeper.Kept now.walker.places) w self.walker.here.items
-    → Steps D script x (Had next.pasts) (g.P.Keeper.Kept next.places) w c.loop-mover.mover to b =
-    λ b e script w only l. subst (λ b. Steps D script x (Had next.pasts) (g.P.Keeper.Kept next.places) w c.loop-mover.mover to b) e
-    (said.steps script w only (at_still g.P.Keeper.Kept D script x now.walker.pasts now.walker.pasts now.walker.places now.walker.places self.walker.here.items now.walker.here.items w refl refl same
+    → LeadsAt D script x (Had now.walker.pasts) (g.P.Keeper.Kept now.walker.kept.places) w self.walker.here.items
+    → Steps D script x (Had next.pasts) (g.P.Keeper.Kept next.kept.places) w c.loop-mover.mover to b =
+    λ b e script w only l. subst (λ b. Steps D script x (Had next.pasts) (g.P.Keeper.Kept next.kept.places) w c.loop-mover.mover to b) e
+    (said.steps script w only (at_still g.P.Keeper.Kept D script x now.walker.pasts now.walker.pasts now.walker.kept.places now.walker.kept.places self.walker.here.items now.walker.here.items w refl refl same
     l)) in
     elim c.if-branch.branch [
       | then-branch+in_ok-reach w ↦ rw (w.self-is, w.moved-is) (record {
         here = said.here ∙ i.here;
         rows = i.rows;
-        trying = trying_on g.P.Keeper.Kept D x c.args.place self.walker.pasts self.walker.places self.levels self.rows self.walker.here.items c.requires.place c.requires.here c.loop-mover.mover
+        trying = trying_on g.P.Keeper.Kept D x c.args.place self.walker.pasts self.walker.kept.places self.levels self.rows self.walker.here.items c.requires.place c.requires.here c.loop-mover.mover
             now.walker.pasts next.pasts
-            now.walker.places next.places now.levels now.rows c.loop-mover.moved i.trying to said.wider (steps true w.if-branch.true) (said.placed w.if-branch.true) w.reach.new.self
+            now.walker.kept.places next.kept.places now.levels now.rows c.loop-mover.moved i.trying to said.wider (steps true w.if-branch.true) (said.placed w.if-branch.true) w.reach.new.self
             w.reach.ensures.level
             (λ d. subst (λ k. IsReached now.levels.next w.reach.new.self.next k (get_or now.levels.level c.args.place d).ways ((get_or now.levels.level c.args.place d).first ++ c.loop-mover.mover ∷
             []))
@@ -60,9 +60,9 @@ loop-mover-preserved g c =
       | else-branch w ↦ rw (w.self-is, w.moved-is) (record {
         here = said.here ∙ i.here;
         rows = i.rows;
-        trying = trying_by g.P.Keeper.Kept D x c.args.place self.walker.pasts self.walker.places self.levels self.rows self.walker.here.items c.requires.place c.requires.here c.loop-mover.mover
+        trying = trying_by g.P.Keeper.Kept D x c.args.place self.walker.pasts self.walker.kept.places self.levels self.rows self.walker.here.items c.requires.place c.requires.here c.loop-mover.mover
             now.walker.pasts next.pasts
-            now.walker.places next.places now.levels now.rows c.loop-mover.moved i.trying to said.wider (steps false w.if-branch.false) (said.still w.if-branch.false);
+            now.walker.kept.places next.kept.places now.levels now.rows c.loop-mover.moved i.trying to said.wider (steps false w.if-branch.false) (said.still w.if-branch.false);
       })
     ]
 
@@ -73,6 +73,6 @@ returns-clause-walks g c = λ script n d only going.
     let self = c.args.self.now in
     let now = c.loop-mover.self in
     let all : c.loop-mover.mover ≡ length x.movers.items = omega arith in
-    subst (λ p. IsMoving D script x self.walker.pasts now.walker.pasts (g.P.Keeper.Kept self.walker.places) (g.P.Keeper.Kept now.walker.places) n c.args.place p (get_or self.levels.level c.args.place
+    subst (λ p. IsMoving D script x self.walker.pasts now.walker.pasts (g.P.Keeper.Kept self.walker.kept.places) (g.P.Keeper.Kept now.walker.kept.places) n c.args.place p (get_or self.levels.level c.args.place
     d).key
     c.loop-mover.moved now.levels now.rows) all (c.loop-mover.invariant.trying.walks script n d only going)

@@ -19,7 +19,7 @@ loop-line-init g c =
       here = refl;
       fresh = c.requires.fresh;
       midway = λ script commands out s behind stands. midway_first D script commands out c.args.behind.now c.args.past.now c.args.refused.now.items c.args.lines.now.items s
-          c.args.self.now.bus.machine behind stands;
+          c.args.self.now.kept.bus.machine behind stands;
     }
 
 pub carry-requires-clause-command : goal.carry-requires-clause-command
@@ -33,13 +33,13 @@ loop-line-preserved g c =
     elim c.match-branch-2.branch [
       | in-None+in_ok-tell-in-None+in_ok-put_line-in-None w ↦ record {
         pasts = i.pasts;
-        places = i.places;
+        places = c.carry.ensures.places ∙ i.places;
         here = i.here;
         fresh = c.in_ok-carry.ensures.fresh;
         midway = λ script commands out s behind stands.
             line_carried D script commands out c.args.behind.now c.args.past.now c.args.refused.now.items c.args.lines.now.items c.loop-line.line-index c.loop-line.past
             c.loop-line.refused.items c.loop-line.lines.items
-            c.loop-line.self.bus.machine (i.midway script commands out s behind stands) c.line-item.result c.loop-line-test.true c.line-item.is c.carry.new.bus
+            c.loop-line.self.kept.bus.machine (i.midway script commands out s behind stands) c.line-item.result c.loop-line-test.true c.line-item.is c.carry.new.self.bus
             c.carry.new.sink.held c.in_ok-carry.field-0
             c.in_ok-carry.ensures.carries w.in-None.is now.past now.refused.items now.lines.items (ap (λ (h : History). h.done) w.past-is ∙ w.tell.ensures.done)
             (λ epoch entries fits is. ap (λ (h : History). h.said) w.past-is ∙ w.in_ok-tell-in-None.ensures.said epoch entries fits (w.as_slice.ensures ∙ is))
@@ -47,13 +47,13 @@ loop-line-preserved g c =
       }
       | in-Some+in_ok-put_refused-in-Some w ↦ record {
         pasts = i.pasts;
-        places = i.places;
+        places = c.carry.ensures.places ∙ i.places;
         here = i.here;
         fresh = c.in_ok-carry.ensures.fresh;
         midway = λ script commands out s behind stands.
             line_refused D script commands out c.args.behind.now c.args.past.now c.args.refused.now.items c.args.lines.now.items c.loop-line.line-index c.loop-line.past
             c.loop-line.refused.items c.loop-line.lines.items
-            c.loop-line.self.bus.machine (i.midway script commands out s behind stands) c.line-item.result c.loop-line-test.true c.line-item.is c.carry.new.bus
+            c.loop-line.self.kept.bus.machine (i.midway script commands out s behind stands) c.line-item.result c.loop-line-test.true c.line-item.is c.carry.new.self.bus
             c.carry.new.sink.held c.in_ok-carry.field-0
             c.in_ok-carry.ensures.carries w.in-Some.rule w.in-Some.is now.past now.refused.items now.lines.items w.past-is
             (ap (λ v. v.items) w.refused-is ∙ w.in_ok-put_refused-in-Some.ensures) (ap (λ v. v.items) w.lines-is);
@@ -65,4 +65,4 @@ returns-clause-carried g c script commands out s behind stands =
     let D : DeskRelations = record { blocks = given.F-post g c.args.desk.now.blocks; vendor = given.H-post g c.args.desk.now.vendor } in
     midway_last D script commands out c.args.behind.now c.args.past.now c.args.refused.now.items c.args.lines.now.items c.loop-line.line-index c.loop-line.past
     c.loop-line.refused.items c.loop-line.lines.items
-    c.loop-line.self.bus.machine (drop_all c.loop-line.line-index c.args.behind.now c.loop-line-test.false) (c.loop-line.invariant.midway script commands out s behind stands)
+    c.loop-line.self.kept.bus.machine (drop_all c.loop-line.line-index c.args.behind.now c.loop-line-test.false) (c.loop-line.invariant.midway script commands out s behind stands)

@@ -13,21 +13,21 @@ use Rattle.fw_explore.proofs.step.Walker.finish.Goals as goal
 
 pub slice_bounds-give_back-start : goal.slice_bounds-give_back-start
 slice_bounds-give_back-start g c =
-    let two = two_numbers c.args.self.now.pasts (g.P.Keeper.Kept c.args.self.now.places) c.args.self.now.here.items c.requires.here in
+    let two = two_numbers c.args.self.now.pasts (g.P.Keeper.Kept c.args.self.now.kept.places) c.args.self.now.here.items c.requires.here in
     let size = ap length c.deref.ensures.value in
     omega (arith, two, size)
 
 pub give_back-requires : goal.give_back-requires
 give_back-requires g c =
-    let kept = machine_kept c.args.self.now.pasts (g.P.Keeper.Kept c.args.self.now.places) c.args.self.now.here.items c.requires.here in
-    (kept.0, kept_at (g.P.Keeper.Kept c.args.self.now.places) c.args.self.now.here.items c.deref.result.now c.deref.ensures.value kept.0 kept.1)
+    let kept = machine_kept c.args.self.now.pasts (g.P.Keeper.Kept c.args.self.now.kept.places) c.args.self.now.here.items c.requires.here in
+    (kept.0, kept_at (g.P.Keeper.Kept c.args.self.now.kept.places) c.args.self.now.here.items c.deref.result.now c.deref.ensures.value kept.0 kept.1)
 
 pub returns-clause-finished : goal.returns-clause-finished
 returns-clause-finished g c script w l =
     let D : DeskRelations = record { blocks = given.F-post g c.args.desk.now.blocks; vendor = given.H-post g c.args.desk.now.vendor } in
     let x = c.args.explored.now in
     let pasts = c.args.self.now.pasts in
-    let Kept = g.P.Keeper.Kept c.args.self.now.places in
+    let Kept = g.P.Keeper.Kept c.args.self.now.kept.places in
     let here = c.args.self.now.here.items in
     let stands = c.give_back.ensures.stands l.machine l.leads.state (kept_at Kept here c.deref.result.now c.deref.ensures.value l.machine
     (kept_led D script x pasts Kept w here l)) l.leads.stands in

@@ -5,4 +5,4 @@ use Rattle.fw_known.proofs.plugs.Plugs.is_used.Goals as goal
 pub returns-then-channel-lt64 : goal.returns-then-channel-lt64
 returns-then-channel-lt64 c =
     ap (λ (k : ℕ). nat_lt 0 (slice_index c.self.inside.used k)) c.from.ensures
-    ∙ used_counted c.self.inside.used c.self.inside.rows.items c.args.self.now c.args.channel c.if-channel-lt64.true c.self.invariant c.self.view_is
+    ∙ used_counted c.self.inside.used c.self.inside.rows.items c.args.self.now c.args.channel c.if-channel-lt64.true c.self.invariant.counts c.self.view_is

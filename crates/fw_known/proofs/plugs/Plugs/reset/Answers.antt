@@ -1,4 +1,4 @@
-use Rattle.std.proofs.Common.{◌≡◌, ◌+◌, ◌<◌, ℕ, refl, ap, sym, subst, length, arith}
+use Rattle.std.proofs.Common.{◌≡◌, ◌∙◌, ◌+◌, ◌<◌, ℕ, List, refl, ap, sym, subst, length, replicate, arith}
 use Rattle.std.proofs.Math.ListN.{set}
 use Rattle.fw_remarks.specs.declared.known.Known.{Known}
 use Rattle.fw_remarks.specs.Knowing.{after_reset}
@@ -27,4 +27,10 @@ invariant_of-self c =
     let total : ℕ = length c.args.self.now in
     let whole : c.loop-i.i ≡ total = omega (arith, c.loop-i-test.false, c.loop-i.auto.i-end, c.len-i-end.ensures, ap length c.self.view_is) in
     let rows = filled_all c.loop-i.self-inside.rows.items c.loop-i.i total after_reset whole c.loop-i.invariant in
-    none_used c.none_used-self-inside.result c.loop-i.self-inside.rows.items total after_reset c.none_used-self-inside.ensures rows (omega (arith, c.self.invariant.0, ap length c.self.view_is)) (reset_counted total)
+    record {
+      counts = none_used c.none_used-self-inside.result c.loop-i.self-inside.rows.items total after_reset c.none_used-self-inside.ensures rows (omega (arith, c.self.invariant.counts.0, ap length c.self.view_is)) (reset_counted total);
+      untouched = λ e. rows ∙ ap (λ (n : ℕ). replicate n after_reset) (sym c.loop-i.invariant.size);
+    }
+
+pub returns-then-not-self : goal.returns-then-not-self
+returns-then-not-self c = subst (λ (rows : List Known). rows ≡ replicate (length rows) after_reset) c.self.view_is (c.self.invariant.untouched c.if-not-self.true)

@@ -1,9 +1,9 @@
-use Rattle.std.proofs.Common.{refl, sym}
+use Rattle.std.proofs.Common.{refl, sym, ◌∙◌}
 use Rattle.fw_places.proofs.rest.RestPart.of.Goals as goal
 
 pub returns : goal.returns
 returns c = record {
-  frame = sym c.in_ok-frame.ensures;
+  frame = sym (c.in_ok-new.ensures.ok ∙ c.in_ok-frame.ensures);
   directory = refl;
   cycle = refl;
   reclaiming = refl;

@@ -1,9 +1,17 @@
-use Rattle.std.proofs.Common.{◌++◌, take, arith}
-use Rattle.fw_reports.proofs.PassedHoldings.{holding_passes}
+use Rattle.std.proofs.Common.{arith}
+use Rattle.fw_reports.proofs.Passings.{few_read}
 use Rattle.fw_reports.proofs.holding.HoldingReading.pass.Goals as goal
 
+pub pass_body-requires : goal.pass_body-requires
+pass_body-requires c = (c.in-Some.ensures.next.entry.what, c.in-Some.ensures.next.made)
+
+pub go_past-requires-clause-next : goal.go_past-requires-clause-next
+go_past-requires-clause-next c = (c.in-Some.next.body, c.in-Some.ensures)
+
 pub returns-clause-history : goal.returns-clause-history
-returns-clause-history c entries bytes h a =
-    holding_passes c.args.self.now c.saturating_add-self.result c.in-Some.used entries (bytes ++ take c.in-Some.used c.args.piece.now) c.args.piece.now c.args.reader.now c.pass_over.new.reader
-    (c.in-Some.ensures.history entries bytes h) a c.requires c.in-Some.ensures.counts
-    (λ few. let k = a.count in grind (arith, k, few, c.saturating_add-self.ensures))
+returns-clause-history c entries bytes h k =
+    let x = c.go_past.ensures.history c.in-Some.next.body c.in-Some.ensures entries bytes h in
+    let up = c.go_past.ensures.counts in
+    let few = few_read entries x.entry _ c.go_past.new.self x.read (omega (arith, c.requires, up.total, up.within)) in
+    let y = c.in_ok-pass_body.ensures.passed entries x.entry x.cycle x.made few k c.if-not-branch.false in
+    record { entry = x.entry; read = x.read; took = y.takes; gathered = y.text }

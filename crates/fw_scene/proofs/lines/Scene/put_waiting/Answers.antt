@@ -12,5 +12,5 @@ returns-then-not-s c = λ before k. waits_not c.args.self.now.columns.now before
 
 pub returns : goal.returns
 returns c = λ before k.
-    one_waits c.args.self.now.columns.now before c.args.s.now c.args.counts.now c.in-Some.node c.x.result _ c.bar.result.now c.args.text.now.items _ (omega (arith, c.in-Some.ensures.few)) c.if-not-s.false
-    (sym c.in-Some.ensures.number) (c.bar.ensures ∙ ap bar_class c.kind.ensures) c.x.ensures.place c.in_ok-put_bar.ensures (c.saturating_add.ensures ∙ omega arith) k
+    one_waits c.args.self.now.columns.now before c.args.s.now c.args.counts.now c.in-Some.node c.x.result _ (bar_class c.kind.result) c.args.text.now.items _ (omega (arith, c.in-Some.ensures.few)) c.if-not-s.false
+    (sym c.in-Some.ensures.number) (ap bar_class c.kind.ensures) c.x.ensures.place c.in_ok-put_bar.ensures (c.saturating_add.ensures ∙ omega arith) k

@@ -1,6 +1,6 @@
 use Rattle.std.proofs.Common.{◌≡◌, ◌++◌, subst}
-use Rattle.fw_tracer.specs.Caused.{caused_text, lone_lines, response_lines, own_lines}
-use Rattle.fw_tracer.specs.Commands.{Traced, first_streams, last_lines}
+use Rattle.fw_tracer.specs.Caused.{caused_text, lone_lines, response_lines}
+use Rattle.fw_tracer.specs.Commands.{Traced}
 use Rattle.fw_tracer.proofs.LoopLaws.{stepped, caused_append}
 use Rattle.fw_tracer.proofs.tracer.Tracer.put_apart.Goals as goal
 

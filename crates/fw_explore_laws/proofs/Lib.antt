@@ -1,0 +1,17 @@
+pub mod Carried
+pub mod Counts
+pub mod Decimals
+pub mod Forms
+pub mod Front
+pub mod Gathered
+pub mod Kept
+pub mod Lines
+pub mod Reading
+pub mod Registers
+pub mod Remarks
+pub mod Rows
+pub mod Runs
+pub mod Texts
+pub mod Together
+pub mod Told
+pub mod Words

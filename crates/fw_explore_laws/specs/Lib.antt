@@ -1,0 +1,4 @@
+pub mod Rest
+pub mod Rests
+pub mod Runs
+pub mod Told
